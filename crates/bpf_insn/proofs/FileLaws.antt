@@ -1,0 +1,229 @@
+-- Laws of spellings and of files.
+use Rattle.std.proofs.Common.{◌≡◌, ◌≢◌, ℕ, ◌+◌, ◌<◌, ◌≤◌, ◌^◌, ℤ, List, [], ◌∷◌, ◌++◌, length, drop, slice_range, refl, ap, sym, ◌∙◌, arith, inl, inr, ◌⊎◌, subst, Option, Some, None, append_assoc, length-append, All, FitsSigned, Result, Ok, Err, IfOk, IfErr}
+use Rattle.std.proofs.Math.Seq.{drop-append_seam}
+use Rattle.std.proofs.lemmas.List.{append-nil}
+use Rattle.std.proofs.lemmas.List.Elements.{All-head, All-tail}
+use Rattle.std.specs.Int.{w32, cast_unsigned}
+use Rattle.bpf_words.specs.declared.Order.{Order}
+use Rattle.bpf_words.specs.Words.{word32}
+use Rattle.bpf_words.specs.Slots.{Fields, spelled}
+use Rattle.bpf_words.proofs.OneSpelling.{same_fields, word-injective_32, signed_32, pattern_fits_32}
+use Rattle.bpf_insn.specs.Table.{fields_of, next_imm_of, IsInsn, wide_next_imm}
+use Rattle.bpf_insn.specs.Spelling.{spelling, second_slot, file_of, InsnFile}
+use Rattle.bpf_insn.specs.Faults.{held, BeginsWith, IsSlotFault, IsInsnFault}
+use Rattle.bpf_insn.proofs.FormLemmas.{insn_form, same_form, opcode_of_form}
+use Rattle.bpf_insn.proofs.FieldLemmas as field
+use Rattle.bpf_insn.proofs.FaultLemmas.{slot_length}
+use Rattle.bpf_insn.proofs.WideLemmas.{IsWideLoad, wide_of_form, second_next, second_length}
+use Rattle.bpf_insn.proofs.InsnLaws.{same_insn}
+use Rattle.bpf_insn.specs.declared.fault.SlotCause.{SlotCause}
+use Rattle.bpf_insn.specs.declared.fault.SlotCause.TheVariants.{Truncated, Opcode, Dst, Src, Offset, Imm, Reserved, NextImm}
+use Rattle.bpf_insn.specs.declared.fault.SlotFault.{SlotFault}
+use Rattle.bpf_insn.specs.declared.insn.Insn.{Insn}
+use Rattle.bpf_insn.specs.declared.insn.Insn.TheVariants.{Alu, Movsx, Neg, Swap, Jump, JumpLong, Branch, CallHelper, CallLocal, CallBtf, Exit, Load, LoadSigned, StoreImm, StoreReg, Atomic, Wide, PacketAbs, PacketInd}
+use Rattle.bpf_insn.specs.declared.form.Form.TheVariants as form
+
+-- ---- one instruction
+
+-- a wide load, or an instruction of one slot
+wide_or_not : (i : Insn) → (insn_form i ≡ form.Wide) ⊎ (next_imm_of i ≡ None)
+wide_or_not (Alu width op d a) = inr refl
+wide_or_not (Movsx f d s) = inr refl
+wide_or_not (Neg width d) = inr refl
+wide_or_not (Swap kind bits d) = inr refl
+wide_or_not (Jump o) = inr refl
+wide_or_not (JumpLong k) = inr refl
+wide_or_not (Branch width op d a o) = inr refl
+wide_or_not (CallHelper k) = inr refl
+wide_or_not (CallLocal k) = inr refl
+wide_or_not (CallBtf k o) = inr refl
+wide_or_not Exit = inr refl
+wide_or_not (Load z d s o) = inr refl
+wide_or_not (LoadSigned z d s o) = inr refl
+wide_or_not (StoreImm z d o k) = inr refl
+wide_or_not (StoreReg z d s o) = inr refl
+wide_or_not (Atomic width op d s o) = inr refl
+wide_or_not (Wide d what) = inl refl
+wide_or_not (PacketAbs z k) = inr refl
+wide_or_not (PacketInd z s k) = inr refl
+
+next_fits : (i : Insn) (w : IsWideLoad i) → IsInsn i → (next_imm_of i ≡ Some (wide_next_imm w.what)) × (cast_unsigned w32 (wide_next_imm w.what) < 2 ^ 32) × FitsSigned w32 (wide_next_imm w.what)
+next_fits i w h =
+    let is : IsInsn (Wide w.dst w.what) = subst IsInsn w.is h in
+    let fits = field.wide_next_fits w.what is in
+    (ap next_imm_of w.is, pattern_fits_32 _ fits, fits)
+
+-- instructions of one form whose bytes after the first slot begin alike have the same next_imm
+same_next : (order : Order) (i j : Insn) (r q : List ℕ) → IsInsn i → IsInsn j → insn_form i ≡ insn_form j
+    → second_slot order (next_imm_of i) ++ r ≡ second_slot order (next_imm_of j) ++ q → next_imm_of i ≡ next_imm_of j
+same_next order i j r q hi hj f e = elim (wide_or_not i) [
+  | inl wi ↦
+      let a = wide_of_form i wi in
+      let b = wide_of_form j (sym f ∙ wi) in
+      let x = next_fits i a hi in
+      let y = next_fits j b hj in
+      let left : slice_range (second_slot order (next_imm_of i) ++ r) 4 8 ≡ word32 order (cast_unsigned w32 (wide_next_imm a.what)) =
+      ap (λ (o : Option ℤ). slice_range (second_slot order o ++ r) 4 8) x.0 ∙ second_next order (wide_next_imm a.what) r in
+      let right : slice_range (second_slot order (next_imm_of j) ++ q) 4 8 ≡ word32 order (cast_unsigned w32 (wide_next_imm b.what)) =
+      ap (λ (o : Option ℤ). slice_range (second_slot order o ++ q) 4 8) y.0 ∙ second_next order (wide_next_imm b.what) q in
+      let words = sym left ∙ ap (λ (l : List ℕ). slice_range l 4 8) e ∙ right in
+      let same = signed_32 (wide_next_imm a.what) (wide_next_imm b.what) x.2 y.2 (word-injective_32 order _ _ x.1 y.1 words) in
+      x.0 ∙ ap (λ (z : ℤ). Some z) same ∙ sym y.0
+  | inr ni ↦ elim (wide_or_not j) [
+    | inl wj ↦
+        let a = wide_of_form i (f ∙ wj) in
+        let x = next_fits i a hi in
+        let apart : None ≡ Some (wide_next_imm a.what) = sym ni ∙ x.0 in
+        absurd (cc)
+    | inr nj ↦ ni ∙ sym nj
+  ]
+]
+
+-- bytes begin with one spelling at most
+pub begins_once : (order : Order) (i j : Insn) (s : List ℕ) → BeginsWith order i s → BeginsWith order j s → i ≡ j
+unfolding spelling
+begins_once order i j s b c =
+    let f = fields_of i in
+    let g = fields_of j in
+    let r = second_slot order (next_imm_of i) ++ b.1.0 in
+    let q = second_slot order (next_imm_of j) ++ c.1.0 in
+    let x = field.fields_in_range i b.0 in
+    let y = field.fields_in_range j c.0 in
+    let e : spelled order f ++ r ≡ spelled order g ++ q =
+    sym (append_assoc (spelled order f) (second_slot order (next_imm_of i)) b.1.0) ∙ sym b.1.1 ∙ c.1.1 ∙ append_assoc (spelled order g) (second_slot order (next_imm_of j)) c.1.0 in
+    let same : f ≡ g = same_fields f g
+    (field.same_opcode order f g r q x y (ap (held order Opcode) e))
+    (field.same_dst order f g r q x y (ap (held order Dst) e))
+    (field.same_src order f g r q x y (ap (held order Src) e))
+    (field.same_off order f g r q x y (ap (held order Offset) e))
+    (field.same_imm order f g r q x y (ap (held order Imm) e)) in
+    let form_same : insn_form i ≡ insn_form j = same_form i (insn_form j) (ap (λ (h : Fields). h.opcode) same ∙ opcode_of_form j) in
+    let length_same : length (spelled order f) ≡ length (spelled order g) = slot_length order f ∙ sym (slot_length order g) in
+    let tails : r ≡ q =
+    sym (drop-append_seam (spelled order f) r) ∙ ap (λ (n : ℕ). drop n (spelled order f ++ r)) length_same ∙ ap (drop (length (spelled order g))) e ∙ drop-append_seam (spelled order g) q in
+    same_insn i j b.0 c.0 same (same_next order i j b.1.0 c.1.0 b.0 c.0 form_same tails)
+
+pub at_least_a_slot : (order : Order) (i : Insn) → 8 ≤ length (spelling order i)
+unfolding spelling
+at_least_a_slot order i = omega (arith, length-append (spelled order (fields_of i)) (second_slot order (next_imm_of i)), slot_length order (fields_of i))
+
+pub at_most_two : (order : Order) (i : Insn) → length (spelling order i) ≤ 16
+unfolding spelling
+at_most_two order i = elim (wide_or_not i) [
+  | inl w ↦
+      let a = wide_of_form i w in
+      let two : length (second_slot order (next_imm_of i)) ≡ 8 = ap (λ (x : Insn). length (second_slot order (next_imm_of x))) a.is ∙ second_length order (wide_next_imm a.what) in
+      omega (arith, two, length-append (spelled order (fields_of i)) (second_slot order (next_imm_of i)), slot_length order (fields_of i))
+  | inr n ↦
+      let two : length (second_slot order (next_imm_of i)) ≡ 0 = ap (λ (x : Option ℤ). length (second_slot order x)) n in
+      omega (arith, two, length-append (spelled order (fields_of i)) (second_slot order (next_imm_of i)), slot_length order (fields_of i))
+]
+
+-- no two instructions share a spelling, and none begins another's
+pub no_proper_prefix : (order : Order) (i j : Insn) (more : List ℕ) → IsInsn i → IsInsn j → spelling order j ≡ spelling order i ++ more → (i ≡ j) × (more ≡ [])
+no_proper_prefix order i j more hi hj e =
+    let same = begins_once order i j (spelling order j) (hi, (more, e)) (hj, ([], sym (append-nil (spelling order j)))) in
+    (same, rest_empty more (omega (arith, ap length e, length-append (spelling order i) more, ap (λ (x : Insn). length (spelling order x)) same)))
+  where
+    rest_empty : (xs : List ℕ) → length xs ≡ 0 → xs ≡ []
+    rest_empty [] h = refl
+    rest_empty (x ∷ xs) h = absurd (omega arith)
+
+-- ---- files
+
+-- what follows a spelling that two lists share
+pub rests_same : (order : Order) (i j : Insn) (r q : List ℕ) → i ≡ j → spelling order i ++ r ≡ spelling order j ++ q → r ≡ q
+rests_same order i j r q same e =
+    let long : length (spelling order i) ≡ length (spelling order j) = ap (λ (x : Insn). length (spelling order x)) same in
+    sym (drop-append_seam (spelling order i) r) ∙ ap (λ (n : ℕ). drop n (spelling order i ++ r)) long ∙ ap (drop (length (spelling order j))) e ∙ drop-append_seam (spelling order j) q
+
+pub cons_same : {i j : Insn} {xs ys : List Insn} → i ≡ j → xs ≡ ys → i ∷ xs ≡ j ∷ ys
+cons_same e f = cc
+
+nothing_begins : (order : Order) (i : Insn) (r : List ℕ) → [] ≡ spelling order i ++ r → ⊥
+nothing_begins order i r e = omega (arith, ap length e, length-append (spelling order i) r, at_least_a_slot order i)
+
+-- two sequences of spellings with which bytes begin: the one is a front of the other
+-- (if what follows the first begins with no spelling, it is the longer)
+pub longest_front : (order : Order) (xs ys : List Insn) (r q : List ℕ) → All IsInsn xs → All IsInsn ys → file_of order xs ++ r ≡ file_of order ys ++ q
+    → ((i : Insn) → ¬ BeginsWith order i r) → length ys ≤ length xs
+longest_front order xs [] r q hx hy e none = omega arith
+longest_front order [] (j ∷ ys) r q hx hy e none =
+    absurd (none j (All-head IsInsn j ys hy, (file_of order ys ++ q, e ∙ append_assoc (spelling order j) (file_of order ys) q)))
+longest_front order (i ∷ xs) (j ∷ ys) r q hx hy e none =
+    let left = append_assoc (spelling order i) (file_of order xs) r in
+    let right = append_assoc (spelling order j) (file_of order ys) q in
+    let whole : spelling order i ++ (file_of order xs ++ r) ≡ spelling order j ++ (file_of order ys ++ q) = sym left ∙ e ∙ right in
+    let same = begins_once order i j (spelling order i ++ (file_of order xs ++ r)) (All-head IsInsn i xs hx, (file_of order xs ++ r, refl)) (All-head IsInsn j ys hy, (file_of order ys ++ q, whole)) in
+    let rests = rests_same order i j (file_of order xs ++ r) (file_of order ys ++ q) same whole in
+    let more = longest_front order xs ys r q (All-tail IsInsn i xs hx) (All-tail IsInsn j ys hy) rests none in
+    omega (arith, more)
+
+-- a file is one list of instructions at most
+pub one_list : (order : Order) (bytes : List ℕ) (xs ys : List Insn) → InsnFile order bytes xs → InsnFile order bytes ys → xs ≡ ys
+one_list order bytes xs ys a b = lists_same order xs ys a.0 b.0 (sym a.1 ∙ b.1)
+  where
+    lists_same : (order : Order) (xs ys : List Insn) → All IsInsn xs → All IsInsn ys → file_of order xs ≡ file_of order ys → xs ≡ ys
+    lists_same order [] [] hx hy e = refl
+    lists_same order [] (j ∷ ys) hx hy e = absurd (nothing_begins order j (file_of order ys) e)
+    lists_same order (i ∷ xs) [] hx hy e = absurd (nothing_begins order i (file_of order xs) (sym e))
+    lists_same order (i ∷ xs) (j ∷ ys) hx hy e =
+        let same = begins_once order i j (file_of order (i ∷ xs)) (All-head IsInsn i xs hx, (file_of order xs, refl)) (All-head IsInsn j ys hy, (file_of order ys, e)) in
+        let rests = rests_same order i j (file_of order xs) (file_of order ys) same e in
+        cons_same same (lists_same order xs ys (All-tail IsInsn i xs hx) (All-tail IsInsn j ys hy) rests)
+
+-- what follows a sequence of spellings in a file and begins with none is empty
+rest_of_file : (order : Order) (xs ys : List Insn) (r : List ℕ) → All IsInsn xs → All IsInsn ys → file_of order xs ++ r ≡ file_of order ys
+    → ((i : Insn) → ¬ BeginsWith order i r) → r ≡ []
+rest_of_file order [] [] r hx hy e none = e
+rest_of_file order [] (j ∷ ys) r hx hy e none = absurd (none j (All-head IsInsn j ys hy, (file_of order ys, e)))
+rest_of_file order (i ∷ xs) [] r hx hy e none =
+    absurd (nothing_begins order i (file_of order xs ++ r) (sym e ∙ append_assoc (spelling order i) (file_of order xs) r))
+rest_of_file order (i ∷ xs) (j ∷ ys) r hx hy e none =
+    let whole : spelling order i ++ (file_of order xs ++ r) ≡ spelling order j ++ file_of order ys = sym (append_assoc (spelling order i) (file_of order xs) r) ∙ e in
+    let same = begins_once order i j (spelling order i ++ (file_of order xs ++ r)) (All-head IsInsn i xs hx, (file_of order xs ++ r, refl)) (All-head IsInsn j ys hy, (file_of order ys, whole)) in
+    rest_of_file order xs ys r (All-tail IsInsn i xs hx) (All-tail IsInsn j ys hy) (rests_same order i j (file_of order xs ++ r) (file_of order ys) same whole) none
+
+-- what follows a sequence of spellings and begins with none, and isn't empty, is at fault
+pub file_fault : (order : Order) (bytes : List ℕ) (xs : List Insn) (rest : List ℕ) (fault told : SlotFault) → All IsInsn xs → bytes ≡ file_of order xs ++ rest → rest ≢ []
+    → IsSlotFault order rest fault → told.pos ≡ length (file_of order xs) + fault.pos → told.cause ≡ fault.cause → IsInsnFault order bytes told
+file_fault order bytes xs rest fault told h e ne f p c =
+    let longest : (others : List Insn) (more : List ℕ) → All IsInsn others → bytes ≡ file_of order others ++ more → length others ≤ length xs =
+    λ others more ho eo. longest_front order xs others rest more h ho (sym e ∙ eo) f.unspelled in
+    record {
+      no_file = λ insns file. ne (rest_of_file order xs insns rest h file.0 (sym e ∙ file.1) f.unspelled);
+      insns = xs;
+      rest = rest;
+      front = record { each = h; front = e; longest = longest };
+      slot = fault;
+      slot_fault = f;
+      pos = p;
+      cause = c;
+    }
+
+-- a fault is told within the bytes
+pub fault_within : (order : Order) (s : List ℕ) (at : ℕ) (cause : SlotCause) → IsSlotFault order s (record { pos = at; cause = cause }) → at ≤ length s
+fault_within order s at Truncated f = elim f.first [ inl h ↦ omega (arith, h.1) | inr h ↦ omega (arith, h.0, h.3) ]
+fault_within order s at Opcode f = omega (arith, f.first.2)
+fault_within order s at Dst f = omega (arith, f.first.0, f.first.2)
+fault_within order s at Src f = omega (arith, f.first.0, f.first.2)
+fault_within order s at Offset f = omega (arith, f.first.0, f.first.2)
+fault_within order s at Imm f = omega (arith, f.first.0, f.first.2)
+fault_within order s at Reserved f = omega (arith, f.first.0, f.first.2)
+fault_within order s at NextImm f = omega (arith, f.first.0, f.first.2)
+
+abbrev okay : Insn → ℕ → Result (Insn × ℕ) SlotFault
+okay i n = Ok (i, n)
+
+-- reading answers each spelling with which the bytes begin
+pub answered : (order : Order) (s : List ℕ) (r : Result (Insn × ℕ) SlotFault) → IfOk r (λ x. BeginsWith order x.0 s × (x.1 ≡ length (spelling order x.0))) → IfErr r (IsSlotFault order s)
+    → (i : Insn) → BeginsWith order i s → r ≡ Ok (i, length (spelling order i))
+answered order s (Ok x) found fault i b =
+    let same = begins_once order x.0 i s found.0 b in
+    let len : x.1 ≡ length (spelling order i) = found.1 ∙ ap (λ (y : Insn). length (spelling order y)) same in
+    ap (λ (y : Insn). okay y x.1) same ∙ ap (λ (n : ℕ). okay i n) len
+answered order s (Err f) found fault i b = absurd (fault.unspelled i b)
+
+-- and decoding the list of each file
+pub decoded : (order : Order) (s : List ℕ) (xs ys : List Insn) → InsnFile order s xs → InsnFile order s ys → xs ≡ ys
+decoded order s xs ys a b = one_list order s xs ys a b

@@ -1,0 +1,30 @@
+-- The bytes of instructions and of files (RFC 9669 section 3).
+use Rattle.std.specs.Prelude.{◌≡◌, ℕ, ℤ, List, [], ◌++◌, Option, Some, None, All}
+use Rattle.std.specs.List.{flat_map}
+use Rattle.std.specs.Int.{w32, cast_unsigned}
+use Rattle.bpf_words.specs.declared.Order.{Order}
+use Rattle.bpf_words.specs.Words.{word32}
+use Rattle.bpf_words.specs.Slots.{spelled}
+use Rattle.bpf_insn.specs.declared.insn.Insn.{Insn}
+use Rattle.bpf_insn.specs.Table.{fields_of, next_imm_of, IsInsn}
+
+-- the second slot of a wide instruction: a word of 0 and next_imm
+abbrev pub second_slot : Order → Option ℤ → List ℕ
+second_slot order None = []
+second_slot order (Some k) = word32 order 0 ++ word32 order (cast_unsigned w32 k)
+
+-- the 8 or 16 bytes of an instruction
+unfoldable pub spelling : Order → Insn → List ℕ
+spelling order i = spelled order (fields_of i) ++ second_slot order (next_imm_of i)
+
+-- the bytes are those of the instruction
+abbrev pub Spells : Order → Insn → List ℕ → Type 0
+Spells order i bytes = IsInsn i × (bytes ≡ spelling order i)
+
+-- the spellings of instructions, one after another
+abbrev pub file_of : Order → List Insn → List ℕ
+file_of order insns = flat_map (spelling order) insns
+
+-- the bytes are an instruction file, and these are its instructions
+abbrev pub InsnFile : Order → List ℕ → List Insn → Type 0
+InsnFile order bytes insns = All IsInsn insns × (bytes ≡ file_of order insns)

@@ -1,0 +1,35 @@
+-- The 8 bytes of a basic instruction (RFC 9669 section 3).
+use Rattle.std.specs.Prelude.{ℕ, ◌+◌, ◌*◌, ◌<◌, ℤ, List, ◌∷◌, ◌++◌, FitsSigned}
+use Rattle.std.specs.Int.{w16, w32, cast_unsigned}
+use Rattle.bpf_words.specs.declared.Order.{Order}
+use Rattle.bpf_words.specs.declared.Order.TheVariants.{Little, Big}
+use Rattle.bpf_words.specs.Words.{word16, word32}
+
+-- the five fields of a slot
+pub record Fields : Type 0 where
+  pub opcode : ℕ
+  pub dst : ℕ
+  pub src : ℕ
+  pub off : ℤ
+  pub imm : ℤ
+
+abbrev pub fields : ℕ → ℕ → ℕ → ℤ → ℤ → Fields
+fields opcode dst src off imm = record { opcode = opcode; dst = dst; src = src; off = off; imm = imm }
+
+-- each field in its range
+pub record AreFields (f : Fields) : Type 0 where
+  pub opcode : f.opcode < 256
+  pub dst : f.dst < 16
+  pub src : f.src < 16
+  pub off : FitsSigned w16 f.off
+  pub imm : FitsSigned w32 f.imm
+
+-- the byte of the two registers: which half is the destination depends on the order
+abbrev pub register_byte : Order → ℕ → ℕ → ℕ
+register_byte Little dst src = 16 * src + dst
+register_byte Big dst src = 16 * dst + src
+
+-- a signed word is that of its two's complement pattern
+abbrev pub spelled : Order → Fields → List ℕ
+spelled order f =
+    (f.opcode ∷ register_byte order f.dst f.src ∷ word16 order (cast_unsigned w16 f.off)) ++ word32 order (cast_unsigned w32 f.imm)

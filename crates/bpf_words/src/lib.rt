@@ -1,0 +1,24 @@
+//! Words of 16 and 32 bits in both byte orders, and the slots of 8 bytes of which eBPF
+//! instructions are made (RFC 9669 section 3; btf.rst section 2).
+#![tactic(auto)]
+
+pub mod laws;
+mod slot;
+mod spelling;
+mod words;
+
+pub use slot::Slot;
+pub use spelling::{slot_bytes, slot_of};
+pub use words::{get16, get32, push16, push32};
+
+/// The byte order of a file: where in a word its least significant byte stands.
+///
+/// An instruction file doesn't tell its order, so it is handed in (RFC 9669 section 3). A BTF
+/// file tells it by its magic (btf.rst section 2).
+#[derive(Clone, Copy, Debug, PartialEq, Eq)]
+pub enum Order {
+    /// The least significant byte comes first.
+    Little,
+    /// The most significant byte comes first.
+    Big,
+}

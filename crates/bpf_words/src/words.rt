@@ -1,0 +1,72 @@
+//! Words of 16 and 32 bits, read from a slice and appended to a vector.
+
+ghost use Rattle.std.specs.Prelude.{◌≡◌, ◌+◌, ◌≤◌, ◌++◌, length, slice_range, OnOk, OnErr};
+ghost use Rattle.bpf_words.specs.Words.{word16, word16_at, word32, word32_at};
+
+use crate::Order;
+use byteorder::{BigEndian, ByteOrder, LittleEndian};
+use std::alloc::AllocError;
+
+/// The word of 16 bits whose first byte stands at `pos` of `bytes`.
+///
+/// The word has to lie in the slice.
+pub fn get16(order: Order, bytes: &[u8], pos: usize) -> u16
+    requires { pos + 2 ≤ length bytes.now }
+    ensures spelled { slice_range bytes.now pos (pos + 2) ≡ word16 order result }
+    ensures value { result ≡ word16_at order bytes.now pos }
+{
+    let word = &bytes[pos..pos + 2];
+    match order {
+        Order::Little => LittleEndian::read_u16(word),
+        Order::Big => BigEndian::read_u16(word),
+    }
+}
+
+/// The word of 32 bits whose first byte stands at `pos` of `bytes`.
+///
+/// The word has to lie in the slice.
+pub fn get32(order: Order, bytes: &[u8], pos: usize) -> u32
+    requires { pos + 4 ≤ length bytes.now }
+    ensures spelled { slice_range bytes.now pos (pos + 4) ≡ word32 order result }
+    ensures value { result ≡ word32_at order bytes.now pos }
+{
+    let word = &bytes[pos..pos + 4];
+    match order {
+        Order::Little => LittleEndian::read_u32(word),
+        Order::Big => BigEndian::read_u32(word),
+    }
+}
+
+/// Appends the two bytes of a word of 16 bits.
+///
+/// # Errors
+///
+/// `AllocError` where the vector couldn't grow; it is unchanged then.
+pub fn push16(out: &mut Vec<u8>, order: Order, value: u16) -> Result<(), AllocError>
+    ensures ok { OnOk result (out.new.items ≡ out.old.items ++ word16 order value) }
+    ensures err { OnErr result (out.new.items ≡ out.old.items) }
+{
+    let mut word = [0; 2];
+    match order {
+        Order::Little => LittleEndian::write_u16(&mut word, value),
+        Order::Big => BigEndian::write_u16(&mut word, value),
+    }
+    out.extend_from_slice(&word)
+}
+
+/// Appends the four bytes of a word of 32 bits.
+///
+/// # Errors
+///
+/// `AllocError` where the vector couldn't grow; it is unchanged then.
+pub fn push32(out: &mut Vec<u8>, order: Order, value: u32) -> Result<(), AllocError>
+    ensures ok { OnOk result (out.new.items ≡ out.old.items ++ word32 order value) }
+    ensures err { OnErr result (out.new.items ≡ out.old.items) }
+{
+    let mut word = [0; 4];
+    match order {
+        Order::Little => LittleEndian::write_u32(&mut word, value),
+        Order::Big => BigEndian::write_u32(&mut word, value),
+    }
+    out.extend_from_slice(&word)
+}
