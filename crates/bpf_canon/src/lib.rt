@@ -2,14 +2,19 @@
 #![tactic(auto)]
 
 mod device;
+mod feed;
 mod memory;
 mod sink;
 mod source;
 mod standard;
+mod front;
+mod write;
 
 pub use bpf_insn::{InsnError, Order};
 pub use device::DeviceFailed;
+pub use feed::InsnFeed;
 pub use memory::{MemSink, MemSource};
 pub use sink::{ByteSink, put_all};
 pub use source::{ByteSource, ReadError, read_all};
 pub use standard::{ReaderSource, WriterSink};
+pub use write::write_insns;
