@@ -11,7 +11,7 @@ use Rattle.bpf_insn.specs.declared.insn.Insn.{Insn}
 use Rattle.bpf_insn.specs.declared.fault.SlotCause.{SlotCause}
 use Rattle.bpf_insn.specs.declared.fault.SlotFault.{SlotFault}
 use Rattle.bpf_insn.specs.Table.{IsInsn}
-use Rattle.bpf_insn.specs.Spelling.{file_of, spelling}
+use Rattle.bpf_insn.specs.Spelling.{file_of, spelling, InsnFile}
 use Rattle.bpf_insn.specs.Faults.{BeginsWith, IsSlotFault}
 use Rattle.bpf_insn.proofs.DecodeLemmas.{step}
 use Rattle.bpf_insn.proofs.StayLemmas.{slot_fault_stays}
@@ -58,6 +58,21 @@ reading_more o to bytes at n old new i len w h =
       within = s.0;
       grows = ap (λ x. x ++ spelling to i) w.grows ∙ append_assoc old (file_of to w.insns) (spelling to i)
           ∙ ap (λ x. old ++ x) (sym (file-push to w.insns i));
+    }
+
+-- the same, of the instructions in the order in which they stand
+pub reading_same : (o to : Order) (bytes : List ℕ) (at n : ℕ) (old new : List ℕ) → ReadTo o to bytes at n old new
+    → ReadTo o o bytes at n [] (take at bytes)
+reading_same o to bytes at n old new w =
+    record {
+      insns = w.insns;
+      each = w.each;
+      whole = w.whole;
+      size = w.size;
+      counted = w.counted;
+      within = w.within;
+      grows = ap (take at) w.whole ∙ ap (λ (m : ℕ). take m (file_of o w.insns ++ drop at bytes)) w.size
+          ∙ take-append_seam (file_of o w.insns) (drop at bytes);
     }
 
 pub reading_stops : (o to : Order) (bytes : List ℕ) (at n : ℕ) (old new : List ℕ) (f : SlotFault) → ReadTo o to bytes at n old new
@@ -187,4 +202,17 @@ across_stops o to bytes old f h = record {
   counted = refl;
   within = omega arith;
   grows = sym (append-nil old);
+}
+
+-- a front that was read in its own order, and its instructions appended in another
+pub reading_recoded : (o to : Order) (bytes : List ℕ) (read : FrontRead) (old new : List ℕ) → ReadsFront o o bytes read [] (take read.len bytes)
+    → ((insns : List Insn) → InsnFile o (take read.len bytes) insns → new ≡ old ++ file_of to insns)
+    → ReadsFront o to bytes read old new
+reading_recoded o to bytes read old new r written = record {
+  insns = r.insns;
+  front = r.front;
+  stops = r.stops;
+  counted = r.counted;
+  within = r.within;
+  grows = written r.insns (r.front.each, r.grows);
 }

@@ -1,8 +1,9 @@
 //! Whole instructions at the front of some bytes, read in one order and written in another.
-ghost use Rattle.std.specs.Prelude.{◌≡◌, ◌<◌, ◌≤◌, ◌+◌, ◌-◌, ◌++◌, length, take, vec_len, vec_capacity, IfOk, IfErr};
+ghost use Rattle.std.specs.Prelude.{◌≡◌, ◌<◌, ◌≤◌, ◌+◌, ◌-◌, ◌++◌, [], length, take, vec_len, vec_capacity, IfOk, IfErr};
 ghost use Rattle.bpf_insn.specs.Faults.{IsSlotFault};
 ghost use Rattle.bpf_canon.specs.FrontReads.{BeginsAcross, BeginsNone, ReadsFront};
 
+use crate::recode::append_recoded;
 use crate::write::append_insn;
 use bpf_insn::{Insn, Order, SlotFault, read_insn};
 use std::alloc::Allocator;
@@ -18,24 +19,16 @@ pub(crate) struct FrontRead {
     pub(crate) stop: Option<SlotFault>,
 }
 
-// Reads the whole instructions at the front of some bytes, and appends each in the order `to`.
-pub(crate) fn read_front<A: Allocator>(
-    order: Order,
-    to: Order,
-    bytes: &[u8],
-    out: &mut Vec<u8, A>,
-) -> FrontRead
-    requires { vec_len out.old + length bytes.now ≤ vec_capacity out.old }
-    ensures { ReadsFront order to bytes.now result out.old.items out.new.items }
+// Judges the whole instructions at the front of some bytes.
+fn judge_front(order: Order, bytes: &[u8]) -> FrontRead
+    ensures { ReadsFront order order bytes.now result [] (take result.len bytes.now) }
 {
     let mut len = 0;
     let mut count = 0;
     while len < bytes.len() {
         match read_insn(order, &bytes[len..]) {
             Ok(found) => {
-                let (insn, size) = found;
-                append_insn(out, to, insn);
-                len += size;
+                len += found.1;
                 count += 1;
             }
             Err(fault) => {
@@ -52,6 +45,22 @@ pub(crate) fn read_front<A: Allocator>(
         count,
         stop: None,
     }
+}
+
+// Reads the whole instructions at the front of some bytes, and appends each in the order `to`.
+pub(crate) fn read_front<A: Allocator>(
+    order: Order,
+    to: Order,
+    bytes: &[u8],
+    out: &mut Vec<u8, A>,
+) -> FrontRead
+    requires { vec_len out.old + length bytes.now ≤ vec_capacity out.old }
+    ensures { ReadsFront order to bytes.now result out.old.items out.new.items }
+{
+    let read = judge_front(order, bytes);
+    let (front, _) = bytes.split_at(read.len);
+    append_recoded(order, to, front, out);
+    read
 }
 
 // Does the same for some bytes that were held and the piece that follows them.

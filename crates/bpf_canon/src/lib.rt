@@ -4,6 +4,7 @@
 mod device;
 mod feed;
 mod memory;
+mod recode;
 mod sink;
 mod source;
 mod standard;
