@@ -1,3 +1,4 @@
 pub mod FrontLaws
 pub mod ReadingLemmas
 pub mod FeedLemmas
+pub mod RunLemmas
