@@ -22,3 +22,6 @@ pub enum Order {
     /// The most significant byte comes first.
     Big,
 }
+
+#[cfg(test)]
+mod tests;

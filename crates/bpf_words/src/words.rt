@@ -5,7 +5,7 @@ ghost use Rattle.bpf_words.specs.Words.{word16, word16_at, word32, word32_at};
 
 use crate::Order;
 use byteorder::{BigEndian, ByteOrder, LittleEndian};
-use std::alloc::AllocError;
+use std::alloc::{AllocError, Allocator};
 
 /// The word of 16 bits whose first byte stands at `pos` of `bytes`.
 ///
@@ -42,7 +42,11 @@ pub fn get32(order: Order, bytes: &[u8], pos: usize) -> u32
 /// # Errors
 ///
 /// `AllocError` where the vector couldn't grow; it is unchanged then.
-pub fn push16(out: &mut Vec<u8>, order: Order, value: u16) -> Result<(), AllocError>
+pub fn push16<A: Allocator>(
+    out: &mut Vec<u8, A>,
+    order: Order,
+    value: u16,
+) -> Result<(), AllocError>
     ensures ok { OnOk result (out.new.items ≡ out.old.items ++ word16 order value) }
     ensures err { OnErr result (out.new.items ≡ out.old.items) }
 {
@@ -59,7 +63,11 @@ pub fn push16(out: &mut Vec<u8>, order: Order, value: u16) -> Result<(), AllocEr
 /// # Errors
 ///
 /// `AllocError` where the vector couldn't grow; it is unchanged then.
-pub fn push32(out: &mut Vec<u8>, order: Order, value: u32) -> Result<(), AllocError>
+pub fn push32<A: Allocator>(
+    out: &mut Vec<u8, A>,
+    order: Order,
+    value: u32,
+) -> Result<(), AllocError>
     ensures ok { OnOk result (out.new.items ≡ out.old.items ++ word32 order value) }
     ensures err { OnErr result (out.new.items ≡ out.old.items) }
 {
