@@ -2,3 +2,4 @@ pub mod FrontLaws
 pub mod ReadingLemmas
 pub mod FeedLemmas
 pub mod RunLemmas
+pub mod CanonLemmas
