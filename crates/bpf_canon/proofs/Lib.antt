@@ -3,3 +3,4 @@ pub mod ReadingLemmas
 pub mod FeedLemmas
 pub mod Recoding
 pub mod RunLemmas
+pub mod CanonLemmas
