@@ -1,0 +1,6 @@
+pub mod FrontLaws
+pub mod ReadingLemmas
+pub mod FeedLemmas
+pub mod Recoding
+pub mod RunLemmas
+pub mod CanonLemmas

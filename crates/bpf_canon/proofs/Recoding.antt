@@ -1,0 +1,133 @@
+-- The slots of a file, written anew in the other order, are the file in that order.
+use Rattle.std.proofs.Common.{◌≡◌, ℕ, ◌+◌, ◌<◌, ◌≤◌, ℤ, pos, List, [], ◌∷◌, ◌++◌, Option, Some, None, length, take, drop, All, refl, sym, ap, ◌∙◌, append_assoc, append-nil, arith, length-append, lit<}
+use Rattle.std.specs.List.{flat_map}
+use Rattle.std.specs.Int.{w32}
+use Rattle.std.specs.Prelude.{FitsSigned}
+use Rattle.std.proofs.lemmas.List.Elements.{All-head, All-tail, All-cons, All-append}
+use Rattle.std.proofs.lemmas.Int.{ints}
+use Rattle.std.proofs.lemmas.Grind.{flat_map-append}
+use Rattle.std.proofs.Math.Seq.{drop-append_seam, take-append_seam}
+use Rattle.bpf_words.specs.declared.Order.{Order}
+use Rattle.bpf_words.specs.declared.Order.TheVariants.{Little, Big}
+use Rattle.bpf_words.specs.Slots.{Fields, AreFields, fields, spelled}
+use Rattle.bpf_words.proofs.OneSpelling.{spelled-injective}
+use Rattle.bpf_insn.specs.declared.insn.Insn.{Insn}
+use Rattle.bpf_insn.specs.declared.insn.Insn.TheVariants.{Alu, Movsx, Neg, Swap, Jump, JumpLong, Branch, CallHelper, CallLocal, CallBtf, Exit, Load, LoadSigned, StoreImm, StoreReg, Atomic, Wide, PacketAbs, PacketInd}
+use Rattle.bpf_insn.specs.Table.{IsInsn, fields_of, next_imm_of, wide_next_imm}
+use Rattle.bpf_insn.specs.Spelling.{spelling, second_slot, file_of, InsnFile}
+use Rattle.bpf_insn.proofs.FieldLemmas.{fields_in_range, wide_next_fits}
+
+-- a second slot is one whose fields are 0, but for the immediate
+abbrev pub second_fields : Option ℤ → List Fields
+second_fields None = []
+second_fields (Some k) = fields 0 0 0 (pos 0) k ∷ []
+
+abbrev pub slots_of_insn : Insn → List Fields
+slots_of_insn i = fields_of i ∷ second_fields (next_imm_of i)
+
+second_spelled : (order : Order) (k : Option ℤ) → second_slot order k ≡ flat_map (spelled order) (second_fields k)
+second_spelled order None = refl
+second_spelled Little (Some k) = refl
+second_spelled Big (Some k) = refl
+
+insn_spelled : (order : Order) (i : Insn) → spelling order i ≡ flat_map (spelled order) (slots_of_insn i)
+unfolding spelling
+insn_spelled order i = ap (λ xs. spelled order (fields_of i) ++ xs) (second_spelled order (next_imm_of i))
+
+abbrev pub slots_of_file : List Insn → List Fields
+slots_of_file insns = flat_map slots_of_insn insns
+
+file_spelled : (order : Order) (insns : List Insn) → file_of order insns ≡ flat_map (spelled order) (slots_of_file insns)
+file_spelled order [] = refl
+file_spelled order (i ∷ insns) =
+    ap (λ xs. xs ++ file_of order insns) (insn_spelled order i)
+    ∙ ap (λ xs. flat_map (spelled order) (slots_of_insn i) ++ xs) (file_spelled order insns)
+    ∙ sym (flat_map-append (spelled order) (slots_of_insn i) (slots_of_file insns))
+
+no_slots_in_range : All AreFields []
+no_slots_in_range k d below = absurd (omega (arith, below))
+
+-- every field of a slot of an instruction is in its range
+second_in_range : (i : Insn) → IsInsn i → All AreFields (second_fields (next_imm_of i))
+second_in_range (Wide d what) h =
+    All-cons AreFields (fields 0 0 0 (pos 0) (wide_next_imm what)) []
+      (record { opcode = lit< tt; dst = lit< tt; src = lit< tt; off = omega (arith, ints); imm = wide_next_fits what h }) no_slots_in_range
+second_in_range _ h = no_slots_in_range
+
+insn_in_range : (i : Insn) → IsInsn i → All AreFields (slots_of_insn i)
+insn_in_range i h = All-cons AreFields (fields_of i) (second_fields (next_imm_of i)) (fields_in_range i h) (second_in_range i h)
+
+file_in_range : (insns : List Insn) → All IsInsn insns → All AreFields (slots_of_file insns)
+file_in_range [] h = no_slots_in_range
+file_in_range (i ∷ insns) h =
+    All-append AreFields (slots_of_insn i) (slots_of_file insns) (insn_in_range i (All-head IsInsn i insns h)) (file_in_range insns (All-tail IsInsn i insns h))
+
+length-spelled : (order : Order) (f : Fields) → length (spelled order f) ≡ 8
+length-spelled Little f = refl
+length-spelled Big f = refl
+
+-- the slots that bytes spell, but for fewer than 8 at their end, are told by the bytes
+one_list_of_slots : (order : Order) (fs gs : List Fields) (rest : List ℕ) → All AreFields fs → All AreFields gs
+    → length rest < 8 → flat_map (spelled order) fs ++ rest ≡ flat_map (spelled order) gs → fs ≡ gs
+one_list_of_slots order [] [] rest hf hg short e = refl
+one_list_of_slots order [] (g ∷ gs) rest hf hg short e =
+    absurd (omega (arith, ap length e, length-append (spelled order g) (flat_map (spelled order) gs), length-spelled order g))
+one_list_of_slots order (f ∷ fs) [] rest hf hg short e =
+    absurd (omega (arith, ap length e, length-append (spelled order f ++ flat_map (spelled order) fs) rest, length-append (spelled order f) (flat_map (spelled order) fs), length-spelled order f))
+one_list_of_slots order (f ∷ fs) (g ∷ gs) rest hf hg short e =
+    let whole : spelled order f ++ (flat_map (spelled order) fs ++ rest) ≡ spelled order g ++ flat_map (spelled order) gs =
+        sym (append_assoc (spelled order f) (flat_map (spelled order) fs) rest) ∙ e in
+    let long : length (spelled order f) ≡ length (spelled order g) = length-spelled order f ∙ sym (length-spelled order g) in
+    let left : spelled order f ≡ spelled order g =
+        sym (take-append_seam (spelled order f) (flat_map (spelled order) fs ++ rest))
+        ∙ ap (λ (n : ℕ). take n (spelled order f ++ (flat_map (spelled order) fs ++ rest))) long
+        ∙ ap (take (length (spelled order g))) whole
+        ∙ take-append_seam (spelled order g) (flat_map (spelled order) gs) in
+    let right : flat_map (spelled order) fs ++ rest ≡ flat_map (spelled order) gs =
+        sym (drop-append_seam (spelled order f) (flat_map (spelled order) fs ++ rest))
+        ∙ ap (λ (n : ℕ). drop n (spelled order f ++ (flat_map (spelled order) fs ++ rest))) long
+        ∙ ap (drop (length (spelled order g))) whole
+        ∙ drop-append_seam (spelled order g) (flat_map (spelled order) gs) in
+    let head : f ≡ g = spelled-injective order f g (All-head AreFields f fs hf) (All-head AreFields g gs hg) left in
+    let tail : fs ≡ gs = one_list_of_slots order fs gs rest (All-tail AreFields f fs hf) (All-tail AreFields g gs hg) short right in
+    cc
+
+-- the slots up to here were written anew behind what was there
+pub record Rewrites (order to : Order) (bytes rest old new : List ℕ) : Type 0 where
+  pub slots : List Fields
+  pub each : All AreFields slots
+  pub read : bytes ≡ flat_map (spelled order) slots ++ rest
+  pub written : new ≡ old ++ flat_map (spelled to) slots
+
+pub none_rewritten : (order to : Order) (bytes old : List ℕ) → Rewrites order to bytes bytes old old
+none_rewritten order to bytes old = record {
+  slots = [];
+  each = no_slots_in_range;
+  read = refl;
+  written = sym (append-nil old);
+}
+
+pub one_rewritten : (order to : Order) (bytes rest behind old new : List ℕ) (slot : Fields) → Rewrites order to bytes rest old new
+    → rest ≡ spelled order slot ++ behind → AreFields slot → Rewrites order to bytes behind old (new ++ spelled to slot)
+one_rewritten order to bytes rest behind old new slot so_far e fit = record {
+  slots = so_far.slots ++ slot ∷ [];
+  each = All-append AreFields so_far.slots (slot ∷ []) so_far.each (All-cons AreFields slot [] fit no_slots_in_range);
+  read = so_far.read ∙ ap (λ xs. flat_map (spelled order) so_far.slots ++ xs) e
+      ∙ sym (append_assoc (flat_map (spelled order) so_far.slots) (spelled order slot) behind)
+      ∙ ap (λ xs. xs ++ behind) (sym (flat_map-push order so_far.slots slot));
+  written = ap (λ xs. xs ++ spelled to slot) so_far.written
+      ∙ append_assoc old (flat_map (spelled to) so_far.slots) (spelled to slot)
+      ∙ ap (λ xs. old ++ xs) (sym (flat_map-push to so_far.slots slot));
+}
+  where
+    flat_map-push : (o : Order) (fs : List Fields) (f : Fields) → flat_map (spelled o) (fs ++ f ∷ []) ≡ flat_map (spelled o) fs ++ spelled o f
+    flat_map-push o fs f = flat_map-append (spelled o) fs (f ∷ []) ∙ ap (λ xs. flat_map (spelled o) fs ++ xs) (append-nil (spelled o f))
+
+-- where the bytes are a file, and less than a slot of them is left, what was written is that file
+pub file_rewritten : (order to : Order) (bytes rest old new : List ℕ) → Rewrites order to bytes rest old new → length rest < 8
+    → (insns : List Insn) → InsnFile order bytes insns → new ≡ old ++ file_of to insns
+file_rewritten order to bytes rest old new all short insns file =
+    let same : all.slots ≡ slots_of_file insns =
+        one_list_of_slots order all.slots (slots_of_file insns) rest all.each (file_in_range insns file.0) short
+          (sym all.read ∙ file.1 ∙ file_spelled order insns) in
+    all.written ∙ ap (λ xs. old ++ flat_map (spelled to) xs) same ∙ ap (λ xs. old ++ xs) (sym (file_spelled to insns))
