@@ -1,0 +1,174 @@
+//! Worked examples of headers, strings, names and frames.
+
+use crate::{
+    BtfCause, BtfFault, Header, NameCause, RawHead, check_strings, name_at, next_head, read_header,
+};
+use bpf_words::Order;
+use std::test::Fail;
+
+/// A file without types, whose string section is one NUL.
+const EMPTY: &[u8; 25] = b"\x9f\xeb\x01\0\x18\0\0\0\0\0\0\0\0\0\0\0\0\0\0\0\x01\0\0\0\0";
+
+fn told(pos: u64, cause: BtfCause) -> BtfFault {
+    BtfFault { pos, cause }
+}
+
+#[test]
+fn headers_are_read(rt: HostRuntime) {
+    let empty = Header {
+        order: Order::Little,
+        types_pos: 24,
+        types_len: 0,
+        str_pos: 24,
+        str_len: 1,
+    };
+    assert_eq!(rt; read_header(EMPTY), Ok(empty));
+    let mut strings_first = *EMPTY;
+    strings_first[8] = 1;
+    let other = Header {
+        types_pos: 25,
+        ..empty
+    };
+    assert_eq!(rt; read_header(&strings_first), Ok(other));
+    let big =
+        b"\xeb\x9f\x01\0\0\0\0\x18\0\0\0\0\0\0\0\x10\0\0\0\x10\0\0\0\x05\0\0\0\x01\x01\0\0\0\0\0\0\x04\x01\0\0\x20\0int\0";
+    let sections = Header {
+        order: Order::Big,
+        types_pos: 24,
+        types_len: 16,
+        str_pos: 40,
+        str_len: 5,
+    };
+    assert_eq!(rt; read_header(big), Ok(sections));
+    let long =
+        b"\x9f\xeb\x01\0\x1c\0\0\0\x07\0\0\0\x10\0\0\0\0\0\0\0\x07\0\0\0\0\0\0\0\0x\0int\0\x03\0\0\0\0\0\0\x01\x04\0\0\0\x20\0\0\x01";
+    let behind = Header {
+        order: Order::Little,
+        types_pos: 35,
+        types_len: 16,
+        str_pos: 28,
+        str_len: 7,
+    };
+    assert_eq!(rt; read_header(long), Ok(behind));
+    let mut tail = *long;
+    tail[26] = 1;
+    assert_eq!(rt; read_header(&tail), Err(told(26, BtfCause::HeaderTail)));
+}
+
+#[test]
+fn cut_files_are_told(rt: HostRuntime) {
+    assert_eq!(rt; read_header(b""), Err(told(0, BtfCause::ShortHeader)));
+    assert_eq!(rt;
+        read_header(&EMPTY[..23]),
+        Err(told(23, BtfCause::ShortHeader))
+    );
+    assert_eq!(rt;
+        read_header(&EMPTY[..24]),
+        Err(told(24, BtfCause::FileLength))
+    );
+    let longer = b"\x9f\xeb\x01\0\x18\0\0\0\0\0\0\0\0\0\0\0\0\0\0\0\x01\0\0\0\0\0";
+    assert_eq!(rt; read_header(longer), Err(told(25, BtfCause::FileLength)));
+}
+
+#[test]
+fn changed_headers_are_told(rt: HostRuntime) {
+    let cases: [(usize, u8, u64, BtfCause); 12] = [
+        (0, 0, 0, BtfCause::Magic),
+        (2, 2, 2, BtfCause::Version),
+        (3, 1, 3, BtfCause::Flags),
+        (4, 0x1a, 4, BtfCause::HeaderLength),
+        (4, 0x17, 4, BtfCause::HeaderLength),
+        (5, 0x10, 4, BtfCause::HeaderLength),
+        (4, 0x19, 25, BtfCause::FileLength),
+        (15, 3, 12, BtfCause::TypeLength),
+        (20, 0, 20, BtfCause::StringLength),
+        (23, 2, 20, BtfCause::StringLength),
+        (16, 1, 8, BtfCause::Sections),
+        (12, 1, 8, BtfCause::Sections),
+    ];
+    for (at, byte, pos, cause) in cases {
+        let mut file = *EMPTY;
+        if let Some(place) = file.get_mut(at) {
+            *place = byte;
+        }
+        assert_eq!(rt; read_header(&file), Err(told(pos, cause)));
+    }
+    let mut file = *EMPTY;
+    file[2] = 2;
+    file[3] = 1;
+    assert_eq!(rt; read_header(&file), Err(told(2, BtfCause::Version)));
+}
+
+#[test]
+fn ends_of_strings(rt: HostRuntime) {
+    assert_eq!(rt; check_strings(b"\0"), Ok(()));
+    assert_eq!(rt; check_strings(b"\0a\0"), Ok(()));
+    assert_eq!(rt;
+        check_strings(b"\x01a\0"),
+        Err(told(0, BtfCause::FirstString))
+    );
+    assert_eq!(rt; check_strings(b"\0a"), Err(told(1, BtfCause::LastString)));
+    assert_eq!(rt; check_strings(b"\x01"), Err(told(0, BtfCause::FirstString)));
+}
+
+#[test]
+fn names_end_at_the_next_nul(rt: HostRuntime) {
+    let strings = b"\0a\0";
+    assert!(rt; name_at(strings, 0) == Ok(""));
+    assert!(rt; name_at(strings, 1) == Ok("a"));
+    assert!(rt; name_at(strings, 2) == Ok(""));
+    assert!(rt; name_at(strings, 3) == Err(NameCause::Range));
+    assert!(rt; name_at(b"\0unsigned int\0", 10) == Ok("int"));
+    assert!(rt; name_at(b"\0\xff\0", 1) == Err(NameCause::Utf8));
+}
+
+#[test]
+fn frames_are_read(rt: HostRuntime) {
+    let int = b"\0\0\0\x01\x01\0\0\0\0\0\0\x04\x01\0\0\x20";
+    let head = RawHead {
+        kind: 1,
+        flag: false,
+        vlen: 0,
+        name_off: 1,
+        third: 4,
+        tail: 12,
+        next: 16,
+    };
+    assert_eq!(rt; next_head(Order::Big, int, 0), Ok(head));
+    let fields = b"\0\0\0\0\x01\0\0\x84\x04\0\0\0\0\0\0\0\0\0\0\0\0\0\0\x01";
+    let flagged = RawHead {
+        kind: 4,
+        flag: true,
+        vlen: 1,
+        name_off: 0,
+        third: 4,
+        tail: 12,
+        next: 24,
+    };
+    assert_eq!(rt; next_head(Order::Little, fields, 0), Ok(flagged));
+}
+
+#[test]
+fn faulty_frames_are_told(rt: HostRuntime) -> Result<(), Fail> {
+    let cases: [(&[u8], u64, BtfCause); 8] = [
+        (b"\0\0\0\0\0\0\0\x02\0\0\0", 0, BtfCause::RecordCut),
+        (b"\0\0\0\0\0\0\0\x14\0\0\0\0", 4, BtfCause::KindNumber),
+        (b"\0\0\0\0\0\0\0\0\0\0\0\0", 4, BtfCause::KindNumber),
+        (b"\0\0\0\0\0\0\0\x34\0\0\0\0", 4, BtfCause::InfoBits),
+        (b"\0\0\0\0\0\0\x01\x02\0\0\0\0", 4, BtfCause::InfoBits),
+        (b"\0\0\0\0\0\0\0\x82\0\0\0\0", 4, BtfCause::FlagSet),
+        (b"\0\0\0\0\x01\0\0\x02\0\0\0\0", 4, BtfCause::Vlen),
+        (
+            b"\0\0\0\0\x02\0\0\x04\x04\0\0\0\0\0\0\0\0\0\0\0\0\0\0\0",
+            12,
+            BtfCause::TailCut,
+        ),
+    ];
+    for (types, pos, cause) in cases {
+        if types.is_empty() {
+            return Err(Fail::from("no record"));
+        }
+        assert_eq!(rt; next_head(Order::Little, types, 0), Err(told(pos, cause)));
+    }
+    Ok(())
+}
