@@ -51,7 +51,7 @@ no_slots_in_range k d below = absurd (omega (arith, below))
 second_in_range : (i : Insn) → IsInsn i → All AreFields (second_fields (next_imm_of i))
 second_in_range (Wide d what) h =
     All-cons AreFields (fields 0 0 0 (pos 0) (wide_next_imm what)) []
-      (record { opcode = lit< tt; dst = lit< tt; src = lit< tt; off = omega (arith, ints); imm = wide_next_fits what h }) no_slots_in_range
+    (record { opcode = lit< tt; dst = lit< tt; src = lit< tt; off = omega (arith, ints); imm = wide_next_fits what h }) no_slots_in_range
 second_in_range _ h = no_slots_in_range
 
 insn_in_range : (i : Insn) → IsInsn i → All AreFields (slots_of_insn i)
@@ -76,18 +76,18 @@ one_list_of_slots order (f ∷ fs) [] rest hf hg short e =
     absurd (omega (arith, ap length e, length-append (spelled order f ++ flat_map (spelled order) fs) rest, length-append (spelled order f) (flat_map (spelled order) fs), length-spelled order f))
 one_list_of_slots order (f ∷ fs) (g ∷ gs) rest hf hg short e =
     let whole : spelled order f ++ (flat_map (spelled order) fs ++ rest) ≡ spelled order g ++ flat_map (spelled order) gs =
-        sym (append_assoc (spelled order f) (flat_map (spelled order) fs) rest) ∙ e in
+    sym (append_assoc (spelled order f) (flat_map (spelled order) fs) rest) ∙ e in
     let long : length (spelled order f) ≡ length (spelled order g) = length-spelled order f ∙ sym (length-spelled order g) in
     let left : spelled order f ≡ spelled order g =
-        sym (take-append_seam (spelled order f) (flat_map (spelled order) fs ++ rest))
-        ∙ ap (λ (n : ℕ). take n (spelled order f ++ (flat_map (spelled order) fs ++ rest))) long
-        ∙ ap (take (length (spelled order g))) whole
-        ∙ take-append_seam (spelled order g) (flat_map (spelled order) gs) in
+    sym (take-append_seam (spelled order f) (flat_map (spelled order) fs ++ rest))
+    ∙ ap (λ (n : ℕ). take n (spelled order f ++ (flat_map (spelled order) fs ++ rest))) long
+    ∙ ap (take (length (spelled order g))) whole
+    ∙ take-append_seam (spelled order g) (flat_map (spelled order) gs) in
     let right : flat_map (spelled order) fs ++ rest ≡ flat_map (spelled order) gs =
-        sym (drop-append_seam (spelled order f) (flat_map (spelled order) fs ++ rest))
-        ∙ ap (λ (n : ℕ). drop n (spelled order f ++ (flat_map (spelled order) fs ++ rest))) long
-        ∙ ap (drop (length (spelled order g))) whole
-        ∙ drop-append_seam (spelled order g) (flat_map (spelled order) gs) in
+    sym (drop-append_seam (spelled order f) (flat_map (spelled order) fs ++ rest))
+    ∙ ap (λ (n : ℕ). drop n (spelled order f ++ (flat_map (spelled order) fs ++ rest))) long
+    ∙ ap (drop (length (spelled order g))) whole
+    ∙ drop-append_seam (spelled order g) (flat_map (spelled order) gs) in
     let head : f ≡ g = spelled-injective order f g (All-head AreFields f fs hf) (All-head AreFields g gs hg) left in
     let tail : fs ≡ gs = one_list_of_slots order fs gs rest (All-tail AreFields f fs hf) (All-tail AreFields g gs hg) short right in
     cc
@@ -128,6 +128,6 @@ pub file_rewritten : (order to : Order) (bytes rest old new : List ℕ) → Rewr
     → (insns : List Insn) → InsnFile order bytes insns → new ≡ old ++ file_of to insns
 file_rewritten order to bytes rest old new all short insns file =
     let same : all.slots ≡ slots_of_file insns =
-        one_list_of_slots order all.slots (slots_of_file insns) rest all.each (file_in_range insns file.0) short
-          (sym all.read ∙ file.1 ∙ file_spelled order insns) in
+    one_list_of_slots order all.slots (slots_of_file insns) rest all.each (file_in_range insns file.0) short
+    (sym all.read ∙ file.1 ∙ file_spelled order insns) in
     all.written ∙ ap (λ xs. old ++ flat_map (spelled to) xs) same ∙ ap (λ xs. old ++ xs) (sym (file_spelled to insns))

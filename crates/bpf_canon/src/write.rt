@@ -26,11 +26,7 @@ pub fn write_insns<A: Allocator>(
 }
 
 // Appends the bytes of an instruction.
-fn push_insn<A: Allocator>(
-    out: &mut Vec<u8, A>,
-    order: Order,
-    insn: Insn,
-) -> Result<(), AllocError>
+fn push_insn<A: Allocator>(out: &mut Vec<u8, A>, order: Order, insn: Insn) -> Result<(), AllocError>
     ensures ok { OnOk result (out.new.items ≡ out.old.items ++ spelling order insn) }
     ensures in_range { IsInsn insn }
 {

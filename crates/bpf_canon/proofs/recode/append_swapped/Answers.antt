@@ -8,10 +8,10 @@ slots-preserved g c =
     let first : c.in-Some.slot.now ≡ take 8 c.slots.rest.now = c.in-Some.ensures.cases.0 in
     let behind : c.in-Some.behind.now ≡ drop 8 c.slots.rest.now = c.in-Some.ensures.cases.1 in
     let parts : c.slots.rest.now ≡ spelled c.args.order c.slot_of.result ++ c.in-Some.behind.now =
-        sym (take-append-drop 8 c.slots.rest.now) ∙ ap (λ (xs : List ℕ). xs ++ drop 8 c.slots.rest.now) (sym first ∙ c.slot_of.ensures.spelled)
-        ∙ ap (λ (xs : List ℕ). spelled c.args.order c.slot_of.result ++ xs) (sym behind) in
+    sym (take-append-drop 8 c.slots.rest.now) ∙ ap (λ (xs : List ℕ). xs ++ drop 8 c.slots.rest.now) (sym first ∙ c.slot_of.ensures.spelled)
+    ∙ ap (λ (xs : List ℕ). spelled c.args.order c.slot_of.result ++ xs) (sym behind) in
     let grown = one_rewritten c.args.order c.args.to c.args.bytes.now c.slots.rest.now c.in-Some.behind.now c.args.out.now.items c.slots.out.items
-        c.slot_of.result c.slots.invariant.0 parts c.slot_of.ensures.in_range in
+    c.slot_of.result c.slots.invariant.0 parts c.slot_of.ensures.in_range in
     (rw c.append_slot.ensures.items grown, omega (arith, c.slots.invariant.1, c.in-Some.ensures.cases.2, c.append_slot.ensures.len, c.append_slot.ensures.capacity))
 
 pub append_slot-requires : goal.append_slot-requires
