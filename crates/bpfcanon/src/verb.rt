@@ -1,0 +1,76 @@
+//! The commands of the program, and the options that each takes.
+
+ghost use Rattle.std.specs.Prelude.{◌≡◌, IfSome, IsNone};
+ghost use Rattle.bpfcanon.specs.declared.verb.Verb.{Verb};
+ghost use Rattle.bpfcanon.specs.Verbs.{name_of, setting_name, takes_setting};
+
+/// A command of the program.
+#[derive(Clone, Copy, Debug, PartialEq, Eq)]
+pub enum Verb {
+    /// `insn-canon`: writes instructions anew, in the order `--to`.
+    InsnCanon,
+}
+
+/// An option of a command.
+#[derive(Clone, Copy, Debug, PartialEq, Eq)]
+pub enum Setting {
+    /// `--order`: the byte order of the input, or of the first file.
+    Order,
+    /// `--to`: the byte order of the output.
+    To,
+    /// `--other`: the byte order of the second file.
+    Other,
+    /// `--split`: the length of the first file in bytes.
+    Split,
+}
+
+/// All commands.
+pub const VERBS: [Verb; 1] = [Verb::InsnCanon];
+
+/// All options.
+pub const SETTINGS: [Setting; 4] = [Setting::Order, Setting::To, Setting::Other, Setting::Split];
+
+impl Verb {
+    /// The word that names the command.
+    pub fn name<'a>(self) -> &'a str
+        ensures { result.now ≡ name_of self }
+    {
+        match self {
+            Verb::InsnCanon => "insn-canon",
+        }
+    }
+
+    /// The command that a word names.
+    pub fn named(name: &str) -> Option<Verb>
+        ensures some { IfSome result (λ verb. name.now ≡ name_of verb) }
+        ensures none { IsNone result → (verb : Verb) → name.now ≡ name_of verb → ⊥ }
+    {
+        match name {
+            "insn-canon" => Some(Verb::InsnCanon),
+            _ => None,
+        }
+    }
+
+    /// Whether the command takes an option.
+    pub fn takes(self, setting: Setting) -> bool
+        ensures { result ≡ takes_setting self setting }
+    {
+        match self {
+            Verb::InsnCanon => matches!(setting, Setting::Order | Setting::To),
+        }
+    }
+}
+
+impl Setting {
+    /// The word that names the option, after two dashes.
+    pub fn name<'a>(self) -> &'a str
+        ensures { result.now ≡ setting_name self }
+    {
+        match self {
+            Setting::Order => "order",
+            Setting::To => "to",
+            Setting::Other => "other",
+            Setting::Split => "split",
+        }
+    }
+}
