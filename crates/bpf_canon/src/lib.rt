@@ -1,15 +1,27 @@
 //! Canonical bytes of eBPF instructions, and the devices and engines that move them.
 #![tactic(auto)]
 
+mod canon;
 mod device;
+mod feed;
+mod front;
+pub mod laws;
 mod memory;
+mod run;
+mod same;
 mod sink;
 mod source;
 mod standard;
+mod write;
 
 pub use bpf_insn::{InsnError, Order};
+pub use canon::canon_insns;
 pub use device::DeviceFailed;
+pub use feed::InsnFeed;
 pub use memory::{MemSink, MemSource};
+pub use run::{INSN_LIMIT, RunCause, RunError, run_insns};
+pub use same::{SideError, same_insns};
 pub use sink::{ByteSink, put_all};
 pub use source::{ByteSource, ReadError, read_all};
 pub use standard::{ReaderSource, WriterSink};
+pub use write::write_insns;

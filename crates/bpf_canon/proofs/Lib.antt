@@ -1,0 +1,5 @@
+pub mod FrontLaws
+pub mod ReadingLemmas
+pub mod FeedLemmas
+pub mod RunLemmas
+pub mod CanonLemmas

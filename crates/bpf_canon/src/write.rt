@@ -1,0 +1,50 @@
+//! From instructions to their bytes.
+ghost use Rattle.std.specs.Prelude.{◌≡◌, ◌≤◌, ◌+◌, ◌++◌, length, vec_len, vec_capacity, IfOk, IsOk, OnOk, OnErr};
+ghost use Rattle.bpf_insn.specs.Table.{IsInsn};
+ghost use Rattle.bpf_insn.specs.Spelling.{file_of, spelling};
+
+use bpf_insn::{Insn, Order, insn_bytes};
+use std::alloc::{AllocError, Allocator};
+
+/// The bytes of instructions, one after the other, in the given order (RFC 9669 section 3).
+///
+/// # Errors
+///
+/// `AllocError` where the allocator refuses room for the bytes.
+pub fn write_insns<A: Allocator>(
+    alloc: A,
+    order: Order,
+    insns: &[Insn],
+) -> Result<Vec<u8, A>, AllocError>
+    ensures { IfOk result (λ bytes. bytes.items ≡ file_of order insns.now) }
+{
+    let mut bytes = Vec::new(alloc);
+    for insn in insns {
+        push_insn(&mut bytes, order, *insn)?;
+    }
+    Ok(bytes)
+}
+
+// Appends the bytes of an instruction.
+fn push_insn<A: Allocator>(
+    out: &mut Vec<u8, A>,
+    order: Order,
+    insn: Insn,
+) -> Result<(), AllocError>
+    ensures ok { OnOk result (out.new.items ≡ out.old.items ++ spelling order insn) }
+    ensures in_range { IsInsn insn }
+{
+    let (bytes, len) = insn_bytes(order, insn);
+    out.extend_from_slice(&bytes[..len])
+}
+
+// Appends the bytes of an instruction, for which there is room.
+pub(crate) fn append_insn<A: Allocator>(out: &mut Vec<u8, A>, order: Order, insn: Insn)
+    requires { vec_len out.old + length (spelling order insn) ≤ vec_capacity out.old }
+    ensures items { out.new.items ≡ out.old.items ++ spelling order insn }
+    ensures len { vec_len out.new ≡ vec_len out.old + length (spelling order insn) }
+    ensures capacity { vec_capacity out.old ≤ vec_capacity out.new }
+{
+    let (bytes, len) = insn_bytes(order, insn);
+    let _ = out.extend_from_slice(&bytes[..len]);
+}
