@@ -2,16 +2,17 @@
 use Rattle.std.specs.Prelude.{◌≡◌, Bool, true, false, List, [], ◌∷◌, codes, filter}
 use Rattle.clap.specs.Words.{Text}
 use Rattle.bpfcanon.specs.declared.verb.Verb.{Verb}
-use Rattle.bpfcanon.specs.declared.verb.Verb.TheVariants.{InsnCanon}
+use Rattle.bpfcanon.specs.declared.verb.Verb.TheVariants.{InsnCanon, InsnGroups}
 use Rattle.bpfcanon.specs.declared.verb.Setting.{Setting}
 use Rattle.bpfcanon.specs.declared.verb.Setting.TheVariants.{Order, To, Other, Split}
 
 abbrev pub all_verbs : List Verb
-all_verbs = InsnCanon ∷ []
+all_verbs = InsnCanon ∷ InsnGroups ∷ []
 
 -- the word that names a command
 abbrev pub name_of : Verb → Text
 name_of InsnCanon = codes "insn-canon"
+name_of InsnGroups = codes "insn-groups"
 
 abbrev pub all_settings : List Setting
 all_settings = Order ∷ To ∷ Other ∷ Split ∷ []
@@ -27,6 +28,7 @@ setting_name Split = codes "split"
 abbrev pub takes_setting : Verb → Setting → Bool
 takes_setting InsnCanon Order = true
 takes_setting InsnCanon To = true
+takes_setting InsnGroups Order = true
 takes_setting _ _ = false
 
 -- the options that a command takes

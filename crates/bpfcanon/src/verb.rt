@@ -2,6 +2,7 @@
 
 ghost use Rattle.std.specs.Prelude.{◌≡◌, IfSome, IsNone};
 ghost use Rattle.bpfcanon.specs.declared.verb.Verb.{Verb};
+ghost use Rattle.bpfcanon.specs.Reply.{limit_of};
 ghost use Rattle.bpfcanon.specs.Verbs.{name_of, setting_name, takes_setting};
 
 /// A command of the program.
@@ -9,6 +10,8 @@ ghost use Rattle.bpfcanon.specs.Verbs.{name_of, setting_name, takes_setting};
 pub enum Verb {
     /// `insn-canon`: writes instructions anew, in the order `--to`.
     InsnCanon,
+    /// `insn-groups`: lists the conformance groups of instructions.
+    InsnGroups,
 }
 
 /// An option of a command.
@@ -25,7 +28,7 @@ pub enum Setting {
 }
 
 /// All commands.
-pub const VERBS: [Verb; 1] = [Verb::InsnCanon];
+pub const VERBS: [Verb; 2] = [Verb::InsnCanon, Verb::InsnGroups];
 
 /// All options.
 pub const SETTINGS: [Setting; 4] = [Setting::Order, Setting::To, Setting::Other, Setting::Split];
@@ -37,6 +40,7 @@ impl Verb {
     {
         match self {
             Verb::InsnCanon => "insn-canon",
+            Verb::InsnGroups => "insn-groups",
         }
     }
 
@@ -47,6 +51,7 @@ impl Verb {
     {
         match name {
             "insn-canon" => Some(Verb::InsnCanon),
+            "insn-groups" => Some(Verb::InsnGroups),
             _ => None,
         }
     }
@@ -57,6 +62,16 @@ impl Verb {
     {
         match self {
             Verb::InsnCanon => matches!(setting, Setting::Order | Setting::To),
+            Verb::InsnGroups => matches!(setting, Setting::Order),
+        }
+    }
+
+    /// How many bytes the command takes at most.
+    pub fn limit(self) -> u64
+        ensures { result ≡ limit_of self }
+    {
+        match self {
+            Verb::InsnCanon | Verb::InsnGroups => 67_108_864,
         }
     }
 }
