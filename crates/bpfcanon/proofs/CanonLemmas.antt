@@ -17,7 +17,7 @@ use Rattle.bpfcanon.specs.declared.outcome.Outcome.{Outcome}
 use Rattle.bpfcanon.specs.declared.outcome.Outcome.TheVariants.{Done, Fault, TooLong, ReadFailed, WriteFailed, Memory}
 use Rattle.bpfcanon.specs.declared.verb.Verb.TheVariants.{InsnCanon}
 use Rattle.bpfcanon.specs.Reply.{HasLastingFault, IsCanonReply, canonical, canonical_to_fault, canonical_to_limit}
-use Rattle.bpfcanon.specs.Ends.{Change, EndsJob, TookPrefix, no_memory_amid, read_failed_amid, replied, write_failed}
+use Rattle.bpfcanon.specs.Ends.{Change, EndsJob, TookPrefix, no_memory_amid, read_failed_amid, replied, write_failed_amid}
 
 -- what the devices have, without their counts of failures
 abbrev pub devices_of : Change → Change → Devices
@@ -85,7 +85,7 @@ canon_unread j source sink n canon stop failed =
 pub canon_unwritten : (j : Job) (source sink : Change) (n : ℕ) → j.verb ≡ InsnCanon → StopsUnwritten (devices_of source sink) j.order j.to n
     → sink.failed_after ≡ sink.failed + 1 → EndsJob j source sink WriteFailed
 canon_unwritten j source sink n canon stop failed =
-    write_failed stop.read (omega arith) stop.wrote.came (took_prefix j source sink stop.read n canon stop.wrote)
+    write_failed_amid stop.read (omega arith) stop.wrote.came (took_prefix j source sink stop.read n canon stop.wrote)
 
 pub canon_no_memory : (j : Job) (source sink : Change) (n : ℕ) → j.verb ≡ InsnCanon → StopsUnwritten (devices_of source sink) j.order j.to n
     → EndsJob j source sink Memory

@@ -3,4 +3,4 @@ pub mod CommandLemmas
 pub mod LineLemmas
 pub mod OptionsLemmas
 pub mod OutcomeLemmas
-pub mod ReplyLemmas
+pub mod SameLemmas

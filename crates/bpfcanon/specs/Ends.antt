@@ -35,22 +35,24 @@ TookPrefix j sink input = (outcome : Outcome) (output : List ℕ) → IsReply j.
 abbrev pub TookNothing : Change → Type 0
 TookNothing sink = Appends sink.old sink.new []
 
--- how a job ends, by what its source and its sink did
+-- how a job ends, by what its source and its sink did; what ends it amid the input is for a command that writes as it reads
 pub data EndsJob (j : Job) (source sink : Change) : Outcome → Type 0 where
   -- the sink took the output for what came from the source
   replied : (input : List ℕ) (outcome : Outcome) (output : List ℕ) → Consumes source.old source.new input → IsRead j source input
       → IsReply j.verb j input outcome output → Appends sink.old sink.new output → sink.failed_after ≡ sink.failed
       → EndsJob j source sink outcome
-  -- a read failed before anything was written, in a command that reads its input whole
+  -- a read failed before anything was written
   read_failed : source.failed < source.failed_after → streams j.verb ≡ false → TookNothing sink → EndsJob j source sink ReadFailed
-  -- a read failed as the output was written
   read_failed_amid : (input : List ℕ) → source.failed < source.failed_after → Consumes source.old source.new input
       → ¬ IsEarly j.verb j input → TookPrefix j sink input → EndsJob j source sink ReadFailed
-  write_failed : (input : List ℕ) → sink.failed < sink.failed_after → Consumes source.old source.new input → TookPrefix j sink input
+  -- a write failed once the first n bytes of the output were taken
+  write_failed : (input : List ℕ) (outcome : Outcome) (output : List ℕ) (n : ℕ) → sink.failed < sink.failed_after
+      → Consumes source.old source.new input → IsReply j.verb j input outcome output → Appends sink.old sink.new (take n output)
+      → EndsJob j source sink WriteFailed
+  write_failed_amid : (input : List ℕ) → sink.failed < sink.failed_after → Consumes source.old source.new input → TookPrefix j sink input
       → EndsJob j source sink WriteFailed
   -- memory was refused before anything was written
   no_memory : TookNothing sink → EndsJob j source sink Memory
-  -- memory was refused as the output was written
   no_memory_amid : (input : List ℕ) → Consumes source.old source.new input → TookPrefix j sink input → EndsJob j source sink Memory
 
 -- how a command on these words ends

@@ -1,5 +1,5 @@
 -- What a command answers to an input, as if no device failed.
-use Rattle.std.specs.Prelude.{◌≡◌, ◌<◌, ◌≤◌, ◌++◌, ◌↔◌, ℕ, Bool, true, false, List, [], ◌∷◌, IsTrue, codes, filter, length, take}
+use Rattle.std.specs.Prelude.{◌≡◌, ◌<◌, ◌≤◌, ◌++◌, ◌↔◌, ℕ, Bool, true, false, List, [], ◌∷◌, IsTrue, codes, drop, filter, length, take}
 use Rattle.std.specs.List.{flat_map}
 use Rattle.bpf_words.specs.declared.Order.{Order}
 use Rattle.bpf_insn.specs.declared.insn.Insn.{Insn}
@@ -12,15 +12,16 @@ use Rattle.bpf_insn.specs.Faults.{IsFront, IsInsnFault}
 use Rattle.bpf_insn.specs.Groups.{InGroups}
 use Rattle.bpfcanon.specs.declared.command_line.Job.{Job}
 use Rattle.bpfcanon.specs.declared.outcome.Outcome.{Outcome}
-use Rattle.bpfcanon.specs.declared.outcome.Outcome.TheVariants.{Done, Fault, TooLong}
+use Rattle.bpfcanon.specs.declared.outcome.Outcome.TheVariants.{Done, Different, Fault, First, Second, TooLong, SplitBeyond}
 use Rattle.bpfcanon.specs.declared.verb.Verb.{Verb}
-use Rattle.bpfcanon.specs.declared.verb.Verb.TheVariants.{InsnCanon, InsnGroups}
+use Rattle.bpfcanon.specs.declared.verb.Verb.TheVariants.{InsnCanon, InsnGroups, InsnSame}
 use Rattle.bpfcanon.specs.Outcome.{newline}
 
 -- how many bytes a command takes
 abbrev pub limit_of : Verb → ℕ
 limit_of InsnCanon = 67108864
 limit_of InsnGroups = 67108864
+limit_of InsnSame = 134217728
 
 -- whether a command writes as it reads; the others read their input whole
 abbrev pub streams : Verb → Bool
@@ -69,12 +70,28 @@ pub data IsGroupsReply (limit : ℕ) (order : Order) (input : List ℕ) : Outcom
   ungrouped : (f : SlotFault) → length input ≤ limit → IsInsnFault order input f → IsGroupsReply limit order input (Fault f) []
   groups_too_long : limit < length input → IsGroupsReply limit order input TooLong []
 
+-- ---- insn-same
+
+-- the first file is the input's first bytes, as many as `split`, and the second the rest; each has its own order
+pub data IsSameReply (limit : ℕ) (order other : Order) (split : ℕ) (input : List ℕ) : Outcome → List ℕ → Type 0 where
+  same : (l : List Insn) → length input ≤ limit → split ≤ length input → InsnFile order (take split input) l
+      → InsnFile other (drop split input) l → IsSameReply limit order other split input Done (codes "same" ++ newline)
+  different : (l m : List Insn) → length input ≤ limit → split ≤ length input → InsnFile order (take split input) l
+      → InsnFile other (drop split input) m → ¬ (l ≡ m) → IsSameReply limit order other split input Different (codes "different" ++ newline)
+  first_at_fault : (f : SlotFault) → length input ≤ limit → split ≤ length input → IsInsnFault order (take split input) f
+      → IsSameReply limit order other split input (First f) []
+  second_at_fault : (l : List Insn) (f : SlotFault) → length input ≤ limit → split ≤ length input → InsnFile order (take split input) l
+      → IsInsnFault other (drop split input) f → IsSameReply limit order other split input (Second f) []
+  split_beyond : length input ≤ limit → length input < split → IsSameReply limit order other split input SplitBeyond []
+  files_too_long : limit < length input → IsSameReply limit order other split input TooLong []
+
 -- ---- each command
 
 -- how the job ends, and its output
 abbrev pub IsReply : Verb → Job → List ℕ → Outcome → List ℕ → Type 0
 IsReply InsnCanon j input outcome output = IsCanonReply (limit_of InsnCanon) j.order j.to input outcome output
 IsReply InsnGroups j input outcome output = IsGroupsReply (limit_of InsnGroups) j.order input outcome output
+IsReply InsnSame j input outcome output = IsSameReply (limit_of InsnSame) j.order j.other j.split input outcome output
 
 -- the answer comes before the input's end, whatever comes after what was read
 abbrev pub IsEarly : Verb → Job → List ℕ → Type 0

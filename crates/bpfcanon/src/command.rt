@@ -82,7 +82,7 @@ fn run_job<S: ByteSource, W: ByteSink>(
 {
     match job.verb {
         Verb::InsnCanon => run_canon(alloc, job, source, sink),
-        Verb::InsnGroups => run_whole(alloc, job, source, sink),
+        Verb::InsnGroups | Verb::InsnSame => run_whole(alloc, job, source, sink),
     }
 }
 

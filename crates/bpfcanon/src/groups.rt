@@ -59,10 +59,7 @@ pub fn groups_reply(alloc: Global, order: Order, input: &[u8]) -> Result<Reply, 
             outcome: Outcome::Done,
             output: group_lines(alloc, groups_of(insns.as_slice()))?,
         }),
-        Err(InsnError::Fault(fault)) => Ok(Reply {
-            outcome: Outcome::Fault(fault),
-            output: Vec::new(alloc),
-        }),
+        Err(InsnError::Fault(fault)) => Ok(Reply::bare(alloc, Outcome::Fault(fault))),
         Err(InsnError::Memory) => Err(AllocError),
     }
 }

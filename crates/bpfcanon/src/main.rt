@@ -9,6 +9,7 @@ mod groups;
 mod options;
 mod outcome;
 mod reply;
+mod same;
 mod verb;
 
 use bpf_canon::{ByteSink, ReaderSource, WriterSink, put_all};

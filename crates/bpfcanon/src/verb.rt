@@ -12,6 +12,8 @@ pub enum Verb {
     InsnCanon,
     /// `insn-groups`: lists the conformance groups of instructions.
     InsnGroups,
+    /// `insn-same`: tells whether two files have the same instructions.
+    InsnSame,
 }
 
 /// An option of a command.
@@ -28,7 +30,7 @@ pub enum Setting {
 }
 
 /// All commands.
-pub const VERBS: [Verb; 2] = [Verb::InsnCanon, Verb::InsnGroups];
+pub const VERBS: [Verb; 3] = [Verb::InsnCanon, Verb::InsnGroups, Verb::InsnSame];
 
 /// All options.
 pub const SETTINGS: [Setting; 4] = [Setting::Order, Setting::To, Setting::Other, Setting::Split];
@@ -41,6 +43,7 @@ impl Verb {
         match self {
             Verb::InsnCanon => "insn-canon",
             Verb::InsnGroups => "insn-groups",
+            Verb::InsnSame => "insn-same",
         }
     }
 
@@ -52,6 +55,7 @@ impl Verb {
         match name {
             "insn-canon" => Some(Verb::InsnCanon),
             "insn-groups" => Some(Verb::InsnGroups),
+            "insn-same" => Some(Verb::InsnSame),
             _ => None,
         }
     }
@@ -63,6 +67,7 @@ impl Verb {
         match self {
             Verb::InsnCanon => matches!(setting, Setting::Order | Setting::To),
             Verb::InsnGroups => matches!(setting, Setting::Order),
+            Verb::InsnSame => matches!(setting, Setting::Order | Setting::Other | Setting::Split),
         }
     }
 
@@ -72,6 +77,7 @@ impl Verb {
     {
         match self {
             Verb::InsnCanon | Verb::InsnGroups => 67_108_864,
+            Verb::InsnSame => 134_217_728,
         }
     }
 }

@@ -1,7 +1,7 @@
 use Rattle.std.proofs.Common.{arith, ◌∙◌, Err, add-zero, ap, inl, inr, refl}
 use Rattle.std.proofs.KnownBytes.{Appends-nil}
-use Rattle.bpfcanon.specs.Ends.{no_memory, read_failed, replied}
-use Rattle.bpfcanon.proofs.CommandLemmas.{ends_too_long, ends_unwritten}
+use Rattle.bpfcanon.specs.Ends.{no_memory, read_failed, replied, write_failed}
+use Rattle.bpfcanon.proofs.CommandLemmas.{ends_too_long}
 use Rattle.bpfcanon.proofs.command.run_whole.Goals as goal
 
 pub returns-in-Err-TooLong : goal.returns-in-Err-TooLong
@@ -32,6 +32,5 @@ pub returns : goal.returns
 returns g c =
     let reply = rw c.as_slice.ensures.value at c.in-Ok-reply_to.ensures in
     let took = rw c.as_slice-2.ensures.value at c.in-Err-put_all.ensures.taken in
-    let within = rw c.limit.ensures at c.in-Ok.ensures.within in
-    ends_unwritten c.args.job _ _ c.in-Ok.input.items c.in-Ok-reply_to.reply.outcome c.in-Ok-reply_to.reply.output.items c.in-Err-put_all.field-0
-    c.requires.whole c.in-Ok.ensures.came within reply took.1 c.in-Err-put_all.ensures.count
+    write_failed c.in-Ok.input.items c.in-Ok-reply_to.reply.outcome c.in-Ok-reply_to.reply.output.items c.in-Err-put_all.field-0
+    (omega (arith, c.in-Err-put_all.ensures.count)) c.in-Ok.ensures.came reply took.1

@@ -11,4 +11,4 @@ returns-in_ok-group_lines-in-Ok c =
 
 pub returns-in-Err-Fault : goal.returns-in-Err-Fault
 returns-in-Err-Fault c =
-    rw c.new.ensures.items (ungrouped c.in-Err-Fault.fault c.requires (c.decode_insns.ensures.fault c.in-Err-Fault.fault (c.in-Err-Fault.is ∙ ap (λ e. Err e) c.in-Err-Fault.field-0-is)))
+    rw (c.bare.ensures.outcome, c.bare.ensures.output) (ungrouped c.in-Err-Fault.fault c.requires (c.decode_insns.ensures.fault c.in-Err-Fault.fault (c.in-Err-Fault.is ∙ ap (λ e. Err e) c.in-Err-Fault.field-0-is)))
