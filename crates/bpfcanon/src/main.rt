@@ -43,3 +43,6 @@ fn main(rt: HostRuntime) -> ExitCode {
     let mut sink = WriterSink::new(rt.stdout());
     ExitCode::from(command::command(alloc, words.as_slice(), &mut source, &mut sink, &mut faults))
 }
+
+#[cfg(test)]
+mod tests;
