@@ -1,0 +1,23 @@
+-- How a command ends that reads its input whole.
+use Rattle.std.proofs.Common.{◌≡◌, ◌<◌, false, List, [], ℕ, inr, length}
+use Rattle.std.specs.Io.KnownBytes.{Consumes}
+use Rattle.std.proofs.KnownBytes.{Appends-nil}
+use Rattle.bpfcanon.specs.declared.command_line.Job.{Job}
+use Rattle.bpfcanon.specs.declared.outcome.Outcome.TheVariants.{TooLong}
+use Rattle.bpfcanon.specs.declared.verb.Verb.{Verb}
+use Rattle.bpfcanon.specs.declared.verb.Verb.TheVariants.{InsnCanon, InsnGroups, InsnSame}
+use Rattle.bpfcanon.specs.Reply.{IsReply, files_too_long, groups_too_long, limit_of, streams}
+use Rattle.bpfcanon.specs.Ends.{Change, EndsJob, replied}
+
+-- the reply to an input that is too long
+too_long_reply : (v : Verb) (j : Job) (input : List ℕ) → streams v ≡ false → limit_of v < length input → IsReply v j input TooLong []
+too_long_reply InsnCanon j input whole beyond = cc
+too_long_reply InsnGroups j input whole beyond = groups_too_long beyond
+too_long_reply InsnSame j input whole beyond = files_too_long beyond
+
+-- more came than the command takes
+pub ends_too_long : (j : Job) (source sink : Change) → streams j.verb ≡ false
+    → (bytes : List ℕ) × (Consumes source.old source.new bytes × (limit_of j.verb < length bytes))
+    → source.failed_after ≡ source.failed → sink.new ≡ sink.old → sink.failed_after ≡ sink.failed → EndsJob j source sink TooLong
+ends_too_long j source sink whole came healthy same unused =
+    replied came.0 TooLong [] came.1.0 (inr (healthy, inr came.1.1)) (too_long_reply j.verb j came.0 whole came.1.1) (rw same (Appends-nil sink.old)) unused

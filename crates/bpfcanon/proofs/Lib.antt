@@ -1,0 +1,6 @@
+pub mod CanonLemmas
+pub mod CommandLemmas
+pub mod LineLemmas
+pub mod OptionsLemmas
+pub mod OutcomeLemmas
+pub mod SameLemmas

@@ -1,0 +1,37 @@
+use Rattle.std.proofs.Common.{◌∙◌, add-zero}
+use Rattle.bpfcanon.proofs.CanonLemmas.{canon_done, canon_fault, canon_no_memory, canon_too_long, canon_unread, canon_unwritten}
+use Rattle.bpfcanon.proofs.command.run_canon.Goals as goal
+
+pub returns-in-Ok : goal.returns-in-Ok
+returns-in-Ok g c = canon_done c.args.job _ _ _ c.requires.canon c.in-Ok.ensures.ok c.in-Ok.ensures.healthy.0 c.in-Ok.ensures.healthy.1
+
+pub returns-in-Fault : goal.returns-in-Fault
+returns-in-Fault g c =
+    let stop = rw c.in-Fault.is at c.in-Err.ensures.err in
+    let reads = rw c.in-Fault.is at c.in-Err.ensures.reads in
+    let writes = rw c.in-Fault.is at c.in-Err.ensures.writes in
+    canon_fault c.args.job _ _ _ c.in-Fault.fault c.requires.canon stop (reads ∙ add-zero _) (writes ∙ add-zero _)
+
+pub returns-in-TooLong : goal.returns-in-TooLong
+returns-in-TooLong g c =
+    let stop = rw c.in-TooLong.is at c.in-Err.ensures.err in
+    let reads = rw c.in-TooLong.is at c.in-Err.ensures.reads in
+    let writes = rw c.in-TooLong.is at c.in-Err.ensures.writes in
+    canon_too_long c.args.job _ _ _ c.requires.canon stop (reads ∙ add-zero _) (writes ∙ add-zero _)
+
+pub returns-in-ReadFailed : goal.returns-in-ReadFailed
+returns-in-ReadFailed g c =
+    let stop = rw c.in-ReadFailed.is at c.in-Err.ensures.err in
+    let reads = rw c.in-ReadFailed.is at c.in-Err.ensures.reads in
+    canon_unread c.args.job _ _ _ c.requires.canon stop reads
+
+pub returns-in-WriteFailed : goal.returns-in-WriteFailed
+returns-in-WriteFailed g c =
+    let stop = rw c.in-WriteFailed.is at c.in-Err.ensures.err in
+    let writes = rw c.in-WriteFailed.is at c.in-Err.ensures.writes in
+    canon_unwritten c.args.job _ _ _ c.requires.canon stop writes
+
+pub returns-in-Memory : goal.returns-in-Memory
+returns-in-Memory g c =
+    let stop = rw c.in-Memory.is at c.in-Err.ensures.err in
+    canon_no_memory c.args.job _ _ _ c.requires.canon stop

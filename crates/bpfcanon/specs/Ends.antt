@@ -1,0 +1,65 @@
+-- The ways in which a command ends.
+use Rattle.std.specs.Prelude.{◌≡◌, ◌⊎◌, ◌<◌, ℕ, List, [], Option, false, length, take}
+use Rattle.std.specs.Io.KnownBytes.{Appends, Consumes, IsAtEnd}
+use Rattle.clap.specs.Words.{Text}
+use Rattle.bpfcanon.specs.declared.command_line.Job.{Job}
+use Rattle.bpfcanon.specs.declared.outcome.Outcome.{Outcome}
+use Rattle.bpfcanon.specs.declared.outcome.Outcome.TheVariants.{Usage, ReadFailed, WriteFailed, Memory}
+use Rattle.bpfcanon.specs.Line.{Asks, IsRefused}
+use Rattle.bpfcanon.specs.Reply.{IsEarly, IsReply, limit_of, streams}
+
+-- what a device has before and after: the bytes that it tells, and how often it failed
+pub record Change : Type 0 where
+  pub old : Option (List ℕ)
+  pub new : Option (List ℕ)
+  pub failed : ℕ
+  pub failed_after : ℕ
+
+abbrev pub change : Option (List ℕ) → Option (List ℕ) → ℕ → ℕ → Change
+change old new failed failed_after = record { old = old; new = new; failed = failed; failed_after = failed_after }
+
+-- the device wasn't used
+abbrev pub IsUnused : Change → Type 0
+IsUnused c = (c.new ≡ c.old) × (c.failed_after ≡ c.failed)
+
+-- what came from the source is answered early, or it was read to its end or past the limit without a failure
+abbrev pub IsRead : Job → Change → List ℕ → Type 0
+IsRead j source input = IsEarly j.verb j input
+    ⊎ ((source.failed_after ≡ source.failed) × (IsAtEnd source.new ⊎ (limit_of j.verb < length input)))
+
+-- the sink took the first bytes of the output for what came within the limit
+abbrev pub TookPrefix : Job → Change → List ℕ → Type 0
+TookPrefix j sink input = (outcome : Outcome) (output : List ℕ) → IsReply j.verb j (take (limit_of j.verb) input) outcome output
+    → (n : ℕ) × Appends sink.old sink.new (take n output)
+
+abbrev pub TookNothing : Change → Type 0
+TookNothing sink = Appends sink.old sink.new []
+
+-- how a job ends, by what its source and its sink did; what ends it amid the input is for a command that writes as it reads
+pub data EndsJob (j : Job) (source sink : Change) : Outcome → Type 0 where
+  -- the sink took the output for what came from the source
+  replied : (input : List ℕ) (outcome : Outcome) (output : List ℕ) → Consumes source.old source.new input → IsRead j source input
+      → IsReply j.verb j input outcome output → Appends sink.old sink.new output → sink.failed_after ≡ sink.failed
+      → EndsJob j source sink outcome
+  -- a read failed before anything was written
+  read_failed : source.failed < source.failed_after → streams j.verb ≡ false → TookNothing sink → EndsJob j source sink ReadFailed
+  read_failed_amid : (input : List ℕ) → source.failed < source.failed_after → Consumes source.old source.new input
+      → ¬ IsEarly j.verb j input → TookPrefix j sink input → EndsJob j source sink ReadFailed
+  -- a write failed once the first n bytes of the output were taken
+  write_failed : (input : List ℕ) (outcome : Outcome) (output : List ℕ) (n : ℕ) → sink.failed < sink.failed_after
+      → Consumes source.old source.new input → IsReply j.verb j input outcome output → Appends sink.old sink.new (take n output)
+      → EndsJob j source sink WriteFailed
+  write_failed_amid : (input : List ℕ) → sink.failed < sink.failed_after → Consumes source.old source.new input → TookPrefix j sink input
+      → EndsJob j source sink WriteFailed
+  -- memory was refused before anything was written
+  no_memory : TookNothing sink → EndsJob j source sink Memory
+  no_memory_amid : (input : List ℕ) → Consumes source.old source.new input → TookPrefix j sink input → EndsJob j source sink Memory
+
+-- how a command on these words ends
+pub data Ends (words : List Text) (source sink : Change) : Outcome → Type 0 where
+  -- clap doesn't take the words
+  usage : IsRefused words → IsUnused source → IsUnused sink → Ends words source sink Usage
+  -- memory was refused as the line was read
+  no_memory_for_line : IsUnused source → IsUnused sink → Ends words source sink Memory
+  -- the line asks for a job, and the job ended so
+  ran : (j : Job) (outcome : Outcome) → Asks words j → EndsJob j source sink outcome → Ends words source sink outcome

@@ -1,0 +1,6 @@
+pub mod Verbs
+pub mod Options
+pub mod Line
+pub mod Outcome
+pub mod Reply
+pub mod Ends

@@ -1,0 +1,145 @@
+//! Runs a command line.
+
+ghost use Rattle.std.specs.Prelude.{◌≡◌, ◌<◌, length, map, string_bytes, false};
+ghost use Rattle.bpfcanon.specs.declared.outcome.Outcome.{Outcome};
+ghost use Rattle.bpfcanon.specs.declared.verb.Verb.TheVariants.{InsnCanon};
+ghost use Rattle.bpfcanon.specs.Ends.{Ends, EndsJob, change};
+ghost use Rattle.bpfcanon.specs.Outcome.{Tells, line_of, status_of};
+ghost use Rattle.bpfcanon.specs.Reply.{limit_of, streams};
+
+use crate::command_line::{Job, LineError, parse_line};
+use crate::outcome::{Outcome, put_line};
+use crate::reply::reply_to;
+use crate::verb::Verb;
+use bpf_canon::{ByteSink, ByteSource, ReadError, RunCause, put_all, read_all, run_insns};
+use std::alloc::Global;
+
+/// Runs `insn-canon`, which writes as it reads.
+fn run_canon<S: ByteSource, W: ByteSink>(
+    alloc: Global,
+    job: Job,
+    source: &mut S,
+    sink: &mut W,
+) -> Outcome
+    requires canon { job.verb ≡ InsnCanon }
+    requires source { S.failures source.old < u64.MAX }
+    requires sink { W.failures sink.old < u64.MAX }
+    ensures { EndsJob job (change (S.remaining source.old) (S.remaining source.new) (S.failures source.old) (S.failures source.new))
+        (change (W.contents sink.old) (W.contents sink.new) (W.failures sink.old) (W.failures sink.new)) result }
+{
+    match run_insns(alloc, source, sink, job.order, job.to) {
+        Ok(_) => Outcome::Done,
+        Err(error) => match error.cause {
+            RunCause::Fault(fault) => Outcome::Fault(fault),
+            RunCause::TooLong => Outcome::TooLong,
+            RunCause::ReadFailed => Outcome::ReadFailed,
+            RunCause::WriteFailed => Outcome::WriteFailed,
+            RunCause::Memory => Outcome::Memory,
+        },
+    }
+}
+
+/// Runs a command that reads its input whole.
+fn run_whole<S: ByteSource, W: ByteSink>(
+    alloc: Global,
+    job: Job,
+    source: &mut S,
+    sink: &mut W,
+) -> Outcome
+    requires whole { streams job.verb ≡ false }
+    requires source { S.failures source.old < u64.MAX }
+    requires sink { W.failures sink.old < u64.MAX }
+    ensures { EndsJob job (change (S.remaining source.old) (S.remaining source.new) (S.failures source.old) (S.failures source.new))
+        (change (W.contents sink.old) (W.contents sink.new) (W.failures sink.old) (W.failures sink.new)) result }
+{
+    let input = match read_all(alloc, source, job.verb.limit()) {
+        Ok(input) => input,
+        Err(ReadError::TooLong) => return Outcome::TooLong,
+        Err(ReadError::ReadFailed) => return Outcome::ReadFailed,
+        Err(ReadError::Memory) => return Outcome::Memory,
+    };
+    let reply = match reply_to(alloc, job, input.as_slice()) {
+        Ok(reply) => reply,
+        Err(_) => return Outcome::Memory,
+    };
+    match put_all(sink, reply.output.as_slice()) {
+        Ok(()) => reply.outcome,
+        Err(_) => Outcome::WriteFailed,
+    }
+}
+
+/// Runs a job from a source to a sink.
+fn run_job<S: ByteSource, W: ByteSink>(
+    alloc: Global,
+    job: Job,
+    source: &mut S,
+    sink: &mut W,
+) -> Outcome
+    requires source { S.failures source.old < u64.MAX }
+    requires sink { W.failures sink.old < u64.MAX }
+    ensures { EndsJob job (change (S.remaining source.old) (S.remaining source.new) (S.failures source.old) (S.failures source.new))
+        (change (W.contents sink.old) (W.contents sink.new) (W.failures sink.old) (W.failures sink.new)) result }
+{
+    match job.verb {
+        Verb::InsnCanon => run_canon(alloc, job, source, sink),
+        Verb::InsnGroups | Verb::InsnSame => run_whole(alloc, job, source, sink),
+    }
+}
+
+/// Runs a command line over a source and an output sink.
+fn run_line<S: ByteSource, W: ByteSink>(
+    alloc: Global,
+    words: &[String],
+    source: &mut S,
+    sink: &mut W,
+) -> Outcome
+    requires words { 0 < length words.now }
+    requires source { S.failures source.old < u64.MAX }
+    requires sink { W.failures sink.old < u64.MAX }
+    ensures { Ends (map string_bytes words.now)
+        (change (S.remaining source.old) (S.remaining source.new) (S.failures source.old) (S.failures source.new))
+        (change (W.contents sink.old) (W.contents sink.new) (W.failures sink.old) (W.failures sink.new)) result }
+{
+    match parse_line(alloc, words) {
+        Ok(job) => run_job(alloc, job, source, sink),
+        Err(LineError::Usage) => Outcome::Usage,
+        Err(LineError::Memory) => Outcome::Memory,
+    }
+}
+
+/// Runs a command line over a source, an output sink and a fault sink, and answers the status with
+/// which the program ends. The first word is the program's name, and there has to be one.
+///
+/// | Status | When | Line on the fault sink |
+/// |---|---|---|
+/// | 0 | done, or two files are the same | none |
+/// | 1 | two files are different | none |
+/// | 1 | the input has a fault | `fault POS CAUSE`, of two files after `first: ` or `second: ` |
+/// | 1 | more bytes came than the command takes | `too long` |
+/// | 1 | the first of two files is longer than the input | `split beyond input` |
+/// | 2 | the line isn't one of the program's, or asks for help | `usage: ..` |
+/// | 3 | a device failed or memory was refused | `read failed`, `write failed` or `no memory` |
+///
+/// Except by `insn-canon`, the output sink takes nothing where there is a fault, too much input or
+/// a refused split. A failure of the fault sink changes nothing else.
+pub fn command<S: ByteSource, W: ByteSink, E: ByteSink>(
+    alloc: Global,
+    words: &[String],
+    source: &mut S,
+    sink: &mut W,
+    faults: &mut E,
+) -> u8
+    requires words { 0 < length words.now }
+    requires source { S.failures source.old < u64.MAX }
+    requires sink { W.failures sink.old < u64.MAX }
+    requires faults { E.failures faults.old < u64.MAX }
+    ensures { (outcome : Outcome) × ((result ≡ status_of outcome)
+        × Tells (E.contents faults.old) (E.contents faults.new) (E.failures faults.old) (E.failures faults.new) (line_of outcome)
+        × Ends (map string_bytes words.now)
+        (change (S.remaining source.old) (S.remaining source.new) (S.failures source.old) (S.failures source.new))
+        (change (W.contents sink.old) (W.contents sink.new) (W.failures sink.old) (W.failures sink.new)) outcome) }
+{
+    let outcome = run_line(alloc, words, source, sink);
+    put_line(faults, outcome);
+    outcome.status()
+}

@@ -1,0 +1,125 @@
+//! How a command ends: its status, and the line that it writes on the fault sink.
+
+ghost use Rattle.std.specs.Prelude.{◌≡◌, ◌<◌};
+ghost use Rattle.std.specs.List.{flat_map};
+ghost use Rattle.bpfcanon.specs.Outcome.{Tells, cause_name, fault_line, line_of, status_of};
+
+use bpf_canon::{ByteSink, put_all};
+use bpf_insn::{SlotCause, SlotFault};
+use itoa::Buffer;
+
+/// How a command ends.
+#[derive(Clone, Copy, Debug, PartialEq, Eq)]
+pub enum Outcome {
+    /// The output is whole, or two files are the same.
+    Done,
+    /// Two files are different.
+    Different,
+    /// The input has a fault.
+    Fault(SlotFault),
+    /// The first of two files has a fault.
+    First(SlotFault),
+    /// The second of two files has a fault, and the first has none.
+    Second(SlotFault),
+    /// More bytes came than the command takes.
+    TooLong,
+    /// The first of two files is said to be longer than the input.
+    SplitBeyond,
+    /// The line isn't one of the program's.
+    Usage,
+    /// A read failed.
+    ReadFailed,
+    /// A write failed.
+    WriteFailed,
+    /// Memory was refused.
+    Memory,
+}
+
+impl Outcome {
+    /// The status with which the program ends.
+    pub fn status(self) -> u8
+        ensures { result ≡ status_of self }
+    {
+        match self {
+            Outcome::Done => 0,
+            Outcome::Different
+            | Outcome::Fault(_)
+            | Outcome::First(_)
+            | Outcome::Second(_)
+            | Outcome::TooLong
+            | Outcome::SplitBeyond => 1,
+            Outcome::Usage => 2,
+            Outcome::ReadFailed | Outcome::WriteFailed | Outcome::Memory => 3,
+        }
+    }
+}
+
+/// The name of a cause.
+fn cause_name(cause: SlotCause) -> &'static [u8]
+    ensures { result.now ≡ cause_name cause }
+{
+    match cause {
+        SlotCause::Truncated => b"Truncated",
+        SlotCause::Opcode => b"Opcode",
+        SlotCause::Dst => b"Dst",
+        SlotCause::Src => b"Src",
+        SlotCause::Offset => b"Offset",
+        SlotCause::Imm => b"Imm",
+        SlotCause::Reserved => b"Reserved",
+        SlotCause::NextImm => b"NextImm",
+    }
+}
+
+/// Writes parts one after the other, until a write fails.
+fn put_parts<E: ByteSink>(faults: &mut E, parts: &[&[u8]])
+    requires { E.failures faults.old < u64.MAX }
+    ensures { Tells (E.contents faults.old) (E.contents faults.new) (E.failures faults.old) (E.failures faults.new) (flat_map (λ p. p.now) parts.now) }
+{
+    for part in parts {
+        if put_all(faults, part).is_err() {
+            return;
+        }
+    }
+}
+
+/// Writes a line that is known.
+fn put_text<E: ByteSink>(faults: &mut E, line: &[u8])
+    requires { E.failures faults.old < u64.MAX }
+    ensures { Tells (E.contents faults.old) (E.contents faults.new) (E.failures faults.old) (E.failures faults.new) line.now }
+{
+    let _ = put_all(faults, line);
+}
+
+/// Writes the line of a fault, after the name of the file where there are two.
+fn put_fault<E: ByteSink>(faults: &mut E, file: &'static [u8], fault: SlotFault)
+    requires { E.failures faults.old < u64.MAX }
+    ensures { Tells (E.contents faults.old) (E.contents faults.new) (E.failures faults.old) (E.failures faults.new) (fault_line file.now fault) }
+{
+    let mut buffer = Buffer::new();
+    let place = buffer.format(fault.pos).as_bytes();
+    let parts: [&[u8]; 6] = [file, b"fault ", place, b" ", cause_name(fault.cause), b"\n"];
+    put_parts(faults, parts.as_slice());
+}
+
+/// Writes the line that a command ends with, if any. It takes no memory. Where a write fails, the
+/// rest of the line is left out, and nothing else changes.
+pub fn put_line<E: ByteSink>(faults: &mut E, outcome: Outcome)
+    requires { E.failures faults.old < u64.MAX }
+    ensures { Tells (E.contents faults.old) (E.contents faults.new) (E.failures faults.old) (E.failures faults.new) (line_of outcome) }
+{
+    match outcome {
+        Outcome::Done | Outcome::Different => {}
+        Outcome::Fault(fault) => put_fault(faults, b"", fault),
+        Outcome::First(fault) => put_fault(faults, b"first: ", fault),
+        Outcome::Second(fault) => put_fault(faults, b"second: ", fault),
+        Outcome::TooLong => put_text(faults, b"too long\n"),
+        Outcome::SplitBeyond => put_text(faults, b"split beyond input\n"),
+        Outcome::Usage => put_text(
+            faults,
+            b"usage: bpfcanon COMMAND [--order little|big] [--to little|big] [--other little|big] [--split N]\n",
+        ),
+        Outcome::ReadFailed => put_text(faults, b"read failed\n"),
+        Outcome::WriteFailed => put_text(faults, b"write failed\n"),
+        Outcome::Memory => put_text(faults, b"no memory\n"),
+    }
+}

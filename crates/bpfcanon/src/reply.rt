@@ -1,0 +1,57 @@
+//! What a command answers that reads its input whole.
+
+ghost use Rattle.std.specs.Prelude.{◌≡◌, ◌≤◌, [], false, length, IfOk};
+ghost use Rattle.bpfcanon.specs.Reply.{IsReply, limit_of, streams};
+
+use crate::command_line::Job;
+use crate::groups::groups_reply;
+use crate::outcome::Outcome;
+use crate::same::same_reply;
+use crate::verb::Verb;
+use std::alloc::{AllocError, Global};
+
+/// How a command ends, and its output.
+#[derive(Drop)]
+pub struct Reply {
+    /// How the command ends.
+    pub outcome: Outcome,
+    /// The bytes for the output sink.
+    pub output: Vec<u8>,
+}
+
+impl Reply {
+    /// A reply without output.
+    pub fn bare(alloc: Global, outcome: Outcome) -> Reply
+        ensures outcome { result.outcome ≡ outcome }
+        ensures output { result.output.items ≡ [] }
+    {
+        Reply {
+            outcome,
+            output: Vec::new(alloc),
+        }
+    }
+
+    /// A reply with these bytes.
+    pub fn with_bytes(alloc: Global, outcome: Outcome, bytes: &[u8]) -> Result<Reply, AllocError>
+        ensures outcome { IfOk result (λ r. r.outcome ≡ outcome) }
+        ensures output { IfOk result (λ r. r.output.items ≡ bytes.now) }
+    {
+        Ok(Reply {
+            outcome,
+            output: Vec::from_slice(alloc, bytes)?,
+        })
+    }
+}
+
+/// The reply of a command to its whole input.
+pub fn reply_to(alloc: Global, job: Job, input: &[u8]) -> Result<Reply, AllocError>
+    requires whole { streams job.verb ≡ false }
+    requires within { length input.now ≤ limit_of job.verb }
+    ensures { IfOk result (λ r. IsReply job.verb job input.now r.outcome r.output.items) }
+{
+    match job.verb {
+        Verb::InsnCanon => unreachable!(),
+        Verb::InsnGroups => groups_reply(alloc, job.order, input),
+        Verb::InsnSame => same_reply(alloc, job, input),
+    }
+}

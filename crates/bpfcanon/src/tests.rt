@@ -1,0 +1,6 @@
+//! Worked examples, devices that fail, and the texts of errors.
+
+mod devices;
+mod examples;
+mod lines;
+mod running;

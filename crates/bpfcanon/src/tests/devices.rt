@@ -1,0 +1,155 @@
+//! Devices that fail at each of their calls in turn.
+
+use super::running::{Pace, run, steady};
+use std::test::Fail;
+
+/// A command line, its input, its output and its line on the fault sink.
+#[derive(Clone, Copy)]
+struct Sample {
+    line: &'static str,
+    input: &'static [u8],
+    output: &'static [u8],
+}
+
+const INSNS: &[u8] = b"\x37\x01\x01\0\x03\0\0\0\xdb\x21\xf8\xff\xf1\0\0\0\x95\0\0\0\0\0\0\0";
+
+fn samples() -> [Sample; 3] {
+    [
+        Sample {
+            line: "insn-canon",
+            input: INSNS,
+            output: INSNS,
+        },
+        Sample {
+            line: "insn-groups",
+            input: INSNS,
+            output: b"base32\natomic32\natomic64\ndivmul32\ndivmul64\n",
+        },
+        Sample {
+            line: "insn-same --split 0",
+            input: b"",
+            output: b"same\n",
+        },
+    ]
+}
+
+// One byte comes at a time, and one more read finds the end.
+#[test]
+fn each_read_fails(rt: HostRuntime) -> Result<(), Fail> {
+    for sample in samples() {
+        let line = sample.line;
+        let reads = sample.input.len() as u64;
+        for fuse in 1..=reads.saturating_add(2) {
+            let pace = Pace {
+                read_fuse: Some(fuse),
+                ..steady(1)
+            };
+            let ran = run(rt.alloc(), line, sample.input, pace)?;
+            if fuse > reads.saturating_add(1) {
+                assert_eq!(rt; ran.status, 0, "{line}, read {fuse}");
+                assert_eq!(rt; ran.output.as_slice(), sample.output, "{line}, read {fuse}");
+                continue;
+            }
+            // insn-canon has written the instructions that came, of 8 bytes each
+            let whole = if line == "insn-canon" {
+                (fuse - 1) / 8 * 8
+            } else {
+                0
+            };
+            assert_eq!(rt; ran.status, 3, "{line}, read {fuse}");
+            assert_eq!(rt;
+                ran.faults.as_slice(),
+                b"read failed\n".as_slice(),
+                "{line}, read {fuse}"
+            );
+            assert_eq!(rt; ran.output.len() as u64, whole, "{line}, read {fuse}");
+            assert!(rt;
+                sample.output.starts_with(ran.output.as_slice()),
+                "{line}, read {fuse}"
+            );
+        }
+    }
+    Ok(())
+}
+
+// One byte goes at a time.
+#[test]
+fn each_write_fails(rt: HostRuntime) -> Result<(), Fail> {
+    for sample in samples() {
+        let line = sample.line;
+        let writes = sample.output.len() as u64;
+        for fuse in 1..=writes.saturating_add(1) {
+            let pace = Pace {
+                write_fuse: Some(fuse),
+                ..steady(1)
+            };
+            let ran = run(rt.alloc(), line, sample.input, pace)?;
+            if fuse > writes {
+                assert_eq!(rt; ran.status, 0, "{line}, write {fuse}");
+                assert_eq!(rt;
+                    ran.output.as_slice(),
+                    sample.output,
+                    "{line}, write {fuse}"
+                );
+                continue;
+            }
+            assert_eq!(rt; ran.status, 3, "{line}, write {fuse}");
+            assert_eq!(rt;
+                ran.faults.as_slice(),
+                b"write failed\n".as_slice(),
+                "{line}, write {fuse}"
+            );
+            assert_eq!(rt; ran.output.len() as u64, fuse - 1, "{line}, write {fuse}");
+            assert!(rt;
+                sample.output.starts_with(ran.output.as_slice()),
+                "{line}, write {fuse}"
+            );
+        }
+    }
+    Ok(())
+}
+
+// A fault sink that fails takes the beginning of its line, and changes nothing else.
+#[test]
+fn fault_sink_fails(rt: HostRuntime) -> Result<(), Fail> {
+    let input = b"\x95\0\0\0\0\0\0\0\x04\x10\0\0\x05\0\0\0";
+    let told = b"fault 9 Src\n";
+    for fuse in 1..=told.len() as u64 {
+        let pace = Pace {
+            fault_fuse: Some(fuse),
+            ..steady(1)
+        };
+        let ran = run(rt.alloc(), "insn-canon", input, pace)?;
+        assert_eq!(rt; ran.status, 1, "write {fuse}");
+        assert_eq!(rt;
+            ran.output.as_slice(),
+            b"\x95\0\0\0\0\0\0\0".as_slice(),
+            "write {fuse}"
+        );
+        assert_eq!(rt; ran.faults.len() as u64, fuse - 1, "write {fuse}");
+        assert!(rt; told.starts_with(ran.faults.as_slice()), "write {fuse}");
+    }
+    Ok(())
+}
+
+// A fault in a slot that came whole is told before a read that fails, and missing bytes are not.
+#[test]
+fn faults_come_before_failed_reads(rt: HostRuntime) -> Result<(), Fail> {
+    let faulty: &[u8] = b"\x95\0\0\0\0\0\0\0\x04\x10\0\0\x05\0\0\0";
+    let cut: &[u8] = b"\x18\x01\0\0\x88\x77\x66\x55";
+    let cases: [(&[u8], usize, u8, &[u8]); 3] = [
+        (faulty, 16, 1, b"fault 9 Src\n"),
+        (faulty, 8, 3, b"read failed\n"),
+        (cut, 8, 3, b"read failed\n"),
+    ];
+    for (input, piece, status, told) in cases {
+        let pace = Pace {
+            read_fuse: Some(2),
+            ..steady(piece)
+        };
+        let ran = run(rt.alloc(), "insn-canon", input, pace)?;
+        assert_eq!(rt; ran.status, status, "pieces of {piece}");
+        assert_eq!(rt; ran.faults.as_slice(), told, "pieces of {piece}");
+    }
+    Ok(())
+}

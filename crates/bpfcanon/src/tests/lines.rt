@@ -1,0 +1,106 @@
+//! Command lines that are taken and refused.
+
+use super::running::{run, steady, words_of};
+use crate::command_line::{Job, LineError, parse_line};
+use crate::verb::Verb;
+use bpf_words::Order;
+use std::alloc::{AllocError, Global};
+use std::test::Fail;
+
+const CANON: Job = Job {
+    verb: Verb::InsnCanon,
+    order: Order::Little,
+    to: Order::Little,
+    other: Order::Little,
+    split: 0,
+};
+
+fn read(alloc: Global, line: &str) -> Result<Result<Job, LineError>, AllocError> {
+    let words = words_of(alloc, line)?;
+    if words.is_empty() {
+        return Err(AllocError);
+    }
+    Ok(parse_line(alloc, words.as_slice()))
+}
+
+#[test]
+fn reads_lines(rt: HostRuntime) -> Result<(), Fail> {
+    let same = Job {
+        verb: Verb::InsnSame,
+        split: 8,
+        ..CANON
+    };
+    let cases = [
+        ("", CANON),
+        ("insn-canon", CANON),
+        (
+            "insn-canon --to big",
+            Job {
+                to: Order::Big,
+                ..CANON
+            },
+        ),
+        (
+            "insn-groups --order=big",
+            Job {
+                verb: Verb::InsnGroups,
+                order: Order::Big,
+                ..CANON
+            },
+        ),
+        ("insn-same --split 8", same),
+        (
+            "insn-same --other big --split=134217728",
+            Job {
+                other: Order::Big,
+                split: 134_217_728,
+                ..same
+            },
+        ),
+    ];
+    for (line, job) in cases {
+        assert_eq!(rt; read(rt.alloc(), line)?, Ok(job), "{line}");
+    }
+    Ok(())
+}
+
+#[test]
+fn refuses_lines(rt: HostRuntime) -> Result<(), Fail> {
+    let lines = [
+        "insn-canon --order middle",
+        "--order big",
+        "insn-nothing",
+        "insn-canon insn-canon",
+        "insn-groups --to big",
+        "insn-same",
+        "insn-same --split 134217729",
+        "insn-same --split x",
+        "insn-same --split -1",
+        "--help",
+        "-h",
+        "help",
+        "help insn-canon",
+        "insn-canon --help",
+        "insn-canon -h",
+        "insn-canon help",
+        "--version",
+    ];
+    let usage: &[u8] =
+        b"usage: bpfcanon COMMAND [--order little|big] [--to little|big] [--other little|big] [--split N]\n";
+    for line in lines {
+        assert_eq!(rt; read(rt.alloc(), line)?, Err(LineError::Usage), "{line}");
+        let ran = run(rt.alloc(), line, b"\x95\0\0\0\0\0\0\0", steady(4096))?;
+        assert_eq!(rt; ran.status, 2, "{line}");
+        assert!(rt; ran.output.is_empty(), "{line}");
+        assert_eq!(rt; ran.faults.as_slice(), usage, "{line}");
+    }
+    Ok(())
+}
+
+#[test]
+fn line_errors_are_named(rt: HostRuntime) -> Result<(), Fail> {
+    for (error, name) in [(LineError::Usage, "Usage"), (LineError::Memory, "Memory")] {
+        assert_eq!(rt; format!(in rt.alloc(); "{error}")?.as_str(), name);
+    }
+    Ok(())
+}

@@ -1,0 +1,97 @@
+//! The commands of the program, and the options that each takes.
+
+ghost use Rattle.std.specs.Prelude.{◌≡◌, IfSome, IsNone};
+ghost use Rattle.bpfcanon.specs.declared.verb.Verb.{Verb};
+ghost use Rattle.bpfcanon.specs.Reply.{limit_of};
+ghost use Rattle.bpfcanon.specs.Verbs.{name_of, setting_name, takes_setting};
+
+/// A command of the program.
+#[derive(Clone, Copy, Debug, PartialEq, Eq)]
+pub enum Verb {
+    /// `insn-canon`: writes instructions anew, in the order `--to`.
+    InsnCanon,
+    /// `insn-groups`: lists the conformance groups of instructions.
+    InsnGroups,
+    /// `insn-same`: tells whether two files have the same instructions.
+    InsnSame,
+}
+
+/// An option of a command.
+#[derive(Clone, Copy, Debug, PartialEq, Eq)]
+pub enum Setting {
+    /// `--order`: the byte order of the input, or of the first file.
+    Order,
+    /// `--to`: the byte order of the output.
+    To,
+    /// `--other`: the byte order of the second file.
+    Other,
+    /// `--split`: the length of the first file in bytes.
+    Split,
+}
+
+/// All commands.
+pub const VERBS: [Verb; 3] = [Verb::InsnCanon, Verb::InsnGroups, Verb::InsnSame];
+
+/// All options.
+pub const SETTINGS: [Setting; 4] = [Setting::Order, Setting::To, Setting::Other, Setting::Split];
+
+impl Verb {
+    /// The word that names the command.
+    pub fn name<'a>(self) -> &'a str
+        ensures { result.now ≡ name_of self }
+    {
+        match self {
+            Verb::InsnCanon => "insn-canon",
+            Verb::InsnGroups => "insn-groups",
+            Verb::InsnSame => "insn-same",
+        }
+    }
+
+    /// The command that a word names.
+    pub fn named(name: &str) -> Option<Verb>
+        ensures some { IfSome result (λ verb. name.now ≡ name_of verb) }
+        ensures none { IsNone result → (verb : Verb) → name.now ≡ name_of verb → ⊥ }
+    {
+        match name {
+            "insn-canon" => Some(Verb::InsnCanon),
+            "insn-groups" => Some(Verb::InsnGroups),
+            "insn-same" => Some(Verb::InsnSame),
+            _ => None,
+        }
+    }
+
+    /// Whether the command takes an option.
+    pub fn takes(self, setting: Setting) -> bool
+        ensures { result ≡ takes_setting self setting }
+    {
+        match self {
+            Verb::InsnCanon => matches!(setting, Setting::Order | Setting::To),
+            Verb::InsnGroups => matches!(setting, Setting::Order),
+            Verb::InsnSame => matches!(setting, Setting::Order | Setting::Other | Setting::Split),
+        }
+    }
+
+    /// How many bytes the command takes at most.
+    pub fn limit(self) -> u64
+        ensures { result ≡ limit_of self }
+    {
+        match self {
+            Verb::InsnCanon | Verb::InsnGroups => 67_108_864,
+            Verb::InsnSame => 134_217_728,
+        }
+    }
+}
+
+impl Setting {
+    /// The word that names the option, after two dashes.
+    pub fn name<'a>(self) -> &'a str
+        ensures { result.now ≡ setting_name self }
+    {
+        match self {
+            Setting::Order => "order",
+            Setting::To => "to",
+            Setting::Other => "other",
+            Setting::Split => "split",
+        }
+    }
+}
