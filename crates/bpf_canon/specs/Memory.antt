@@ -29,13 +29,13 @@ abbrev pub source_pace : MemSource → Pace
 source_pace s = record { piece = s.piece; good_calls = s.good_calls }
 
 -- the bytes that the vector behind a sink has
-abbrev pub sink_bytes : MemSink → List ℕ
+abbrev pub sink_bytes : {A : Type 0} → MemSink A → List ℕ
 sink_bytes s = s.out.now.items
 
 -- how many of its writes failed
-abbrev pub sink_failures : MemSink → ℕ
+abbrev pub sink_failures : {A : Type 0} → MemSink A → ℕ
 sink_failures s = s.failures
 
 -- how much it takes at a write, and for how long
-abbrev pub sink_pace : MemSink → Pace
+abbrev pub sink_pace : {A : Type 0} → MemSink A → Pace
 sink_pace s = record { piece = s.piece; good_calls = s.good_calls }

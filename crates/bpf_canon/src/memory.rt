@@ -7,6 +7,7 @@ ghost use Rattle.bpf_canon.specs.Device.{CountsFailure};
 use crate::device::DeviceFailed;
 use crate::sink::ByteSink;
 use crate::source::ByteSource;
+use std::alloc::{Allocator, Global};
 
 /// A source over a slice, which gives at most a piece at each read.
 #[derive(Drop)]
@@ -70,8 +71,8 @@ impl ByteSource for MemSource<'_> {
 
 /// A sink onto a vector, which takes at most a piece at each write.
 #[derive(Drop)]
-pub struct MemSink<'a> {
-    out: &'a mut Vec<u8>,
+pub struct MemSink<'a, A: Allocator = Global> {
+    out: &'a mut Vec<u8, A>,
     piece: usize,
     // how many writes still succeed, where not all do
     good_calls: Option<u64>,
@@ -79,12 +80,12 @@ pub struct MemSink<'a> {
     ghost positive: { 0 < piece },
 }
 
-impl<'a> MemSink<'a> {
+impl<'a, A: Allocator> MemSink<'a, A> {
     ghost use Rattle.bpf_canon.specs.Memory.{sink_bytes, sink_failures, sink_pace, new_pace};
 
     /// Takes `piece` bytes at each write, fewer only where fewer are offered. It fails from write number `fuse` on,
     /// counted from 1. A write for which the vector can't grow fails too.
-    pub fn new(out: &'a mut Vec<u8>, piece: usize, fuse: Option<u64>) -> MemSink<'a>
+    pub fn new(out: &'a mut Vec<u8, A>, piece: usize, fuse: Option<u64>) -> MemSink<'a, A>
         requires { 0 < piece }
         ensures pace { sink_pace result ≡ new_pace piece fuse }
         ensures bytes { sink_bytes result ≡ out.entry.now.items }
@@ -99,7 +100,7 @@ impl<'a> MemSink<'a> {
     }
 }
 
-impl ByteSink for MemSink<'_> {
+impl<A: Allocator> ByteSink for MemSink<'_, A> {
     ghost use Rattle.bpf_canon.specs.Memory.{sink_bytes, sink_failures, sink_pace, next_pace};
 
     ghost contents = { λ s. Some (sink_bytes s) };
