@@ -170,8 +170,8 @@ fn of_the_engine(rt: HostRuntime) {
         if !give_away(&bump, bytes) {
             continue;
         }
-        // Longer and longer pieces make the engine's vector grow more than once.
-        let mut source = MemSource::new(FILE, 24, None);
+        // Pieces of five bytes make the engine's vector grow more than once.
+        let mut source = MemSource::new(FILE, 5, None);
         let mut out = Vec::new(rt.alloc());
         let mut sink = MemSink::new(&mut out, 5, None);
         let ran = run_insns(&bump, &mut source, &mut sink, Order::Little, Order::Little);
