@@ -1,5 +1,5 @@
 //! From instructions to their bytes.
-ghost use Rattle.std.specs.Prelude.{◌≡◌, ◌≤◌, ◌+◌, ◌++◌, length, vec_len, vec_capacity, IfOk, IsOk, OnOk, OnErr};
+ghost use Rattle.std.specs.Prelude.{◌≡◌, ◌≤◌, ◌+◌, ◌++◌, length, vec_len, vec_capacity, IfOk, OnOk};
 ghost use Rattle.bpf_insn.specs.Table.{IsInsn};
 ghost use Rattle.bpf_insn.specs.Spelling.{file_of, spelling};
 
@@ -26,11 +26,7 @@ pub fn write_insns<A: Allocator>(
 }
 
 // Appends the bytes of an instruction.
-fn push_insn<A: Allocator>(
-    out: &mut Vec<u8, A>,
-    order: Order,
-    insn: Insn,
-) -> Result<(), AllocError>
+fn push_insn<A: Allocator>(out: &mut Vec<u8, A>, order: Order, insn: Insn) -> Result<(), AllocError>
     ensures ok { OnOk result (out.new.items ≡ out.old.items ++ spelling order insn) }
     ensures in_range { IsInsn insn }
 {

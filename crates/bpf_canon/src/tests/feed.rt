@@ -25,7 +25,10 @@ fn whole_instructions_come_at_once(rt: HostRuntime) {
     let mut feed = InsnFeed::new(Order::Little, Order::Little);
     let mut out = Vec::new(rt.alloc());
     assert_eq!(rt; feed_piece(&rt, &mut feed, &WIDE[..9], &mut out), None);
-    assert_eq!(rt; (out.len(), feed.held(), feed.fed(), feed.count()), (0, 9, 9, 0));
+    assert_eq!(rt;
+        (out.len(), feed.held(), feed.fed(), feed.count()),
+        (0, 9, 9, 0)
+    );
     assert_eq!(rt; feed_piece(&rt, &mut feed, &WIDE[9..], &mut out), None);
     assert_eq!(rt; out.as_slice(), WIDE);
     assert_eq!(rt; (feed.held(), feed.fed(), feed.count()), (0, 16, 1));
@@ -47,7 +50,10 @@ fn a_fault_is_told_again(rt: HostRuntime) {
     assert_eq!(rt; feed_piece(&rt, &mut feed, &FAULTY[..15], &mut out), None);
     assert_eq!(rt; (out.as_slice(), feed.held()), (EXIT, 7));
     for piece in [b"\0".as_slice(), EXIT, b""] {
-        assert_eq!(rt; feed_piece(&rt, &mut feed, piece, &mut out), Some(FAULT_OF_FAULTY));
+        assert_eq!(rt;
+            feed_piece(&rt, &mut feed, piece, &mut out),
+            Some(FAULT_OF_FAULTY)
+        );
         assert_eq!(rt; (out.as_slice(), feed.held()), (EXIT, 0));
         assert_eq!(rt; (feed.fed(), feed.count()), (16, 1));
     }
@@ -58,7 +64,10 @@ fn a_fault_is_told_again(rt: HostRuntime) {
 fn good_instructions_before_a_fault_are_kept(rt: HostRuntime) {
     let mut feed = InsnFeed::new(Order::Little, Order::Little);
     let mut out = Vec::new(rt.alloc());
-    assert_eq!(rt; feed_piece(&rt, &mut feed, FAULTY, &mut out), Some(FAULT_OF_FAULTY));
+    assert_eq!(rt;
+        feed_piece(&rt, &mut feed, FAULTY, &mut out),
+        Some(FAULT_OF_FAULTY)
+    );
     assert_eq!(rt; out.as_slice(), EXIT);
     assert_eq!(rt; (feed.held(), feed.fed(), feed.count()), (0, 16, 1));
 }
@@ -71,7 +80,10 @@ fn a_faulty_first_slot_does_not_wait_for_the_second(rt: HostRuntime) {
         pos: 1,
         cause: SlotCause::Src,
     };
-    assert_eq!(rt; feed_piece(&rt, &mut feed, b"\x18\x71\0\0\0\0\0\0", &mut out), Some(fault));
+    assert_eq!(rt;
+        feed_piece(&rt, &mut feed, b"\x18\x71\0\0\0\0\0\0", &mut out),
+        Some(fault)
+    );
     assert_eq!(rt; (feed.held(), feed.fed(), feed.count()), (0, 8, 0));
 }
 
@@ -99,7 +111,10 @@ fn a_stream_may_end_too_soon(rt: HostRuntime) {
 
 // Feeds an example in two pieces, and compares.
 fn cut_in_two(rt: &impl Abort, alloc: Global, sample: Sample, at: usize) {
-    let (first, second) = sample.bytes.split_at_checked(at).expect(rt, "a place in the bytes");
+    let (first, second) = sample
+        .bytes
+        .split_at_checked(at)
+        .expect(rt, "a place in the bytes");
     let mut feed = InsnFeed::new(sample.order, Order::Little);
     let mut out = Vec::new(alloc);
     let early = feed_piece(rt, &mut feed, first, &mut out);

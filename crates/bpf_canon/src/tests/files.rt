@@ -34,7 +34,10 @@ fn instructions_are_written_in_either_order(rt: HostRuntime) -> Result<(), Fail>
     }
     let exits = [Insn::Exit, Insn::Exit];
     let written = write_insns(rt.alloc(), Order::Big, &exits)?;
-    assert_eq!(rt; written.as_slice(), b"\x95\0\0\0\0\0\0\0\x95\0\0\0\0\0\0\0".as_slice());
+    assert_eq!(rt;
+        written.as_slice(),
+        b"\x95\0\0\0\0\0\0\0\x95\0\0\0\0\0\0\0".as_slice()
+    );
     Ok(())
 }
 

@@ -76,7 +76,11 @@ fn inputs_about_as_long_as_the_limit(rt: HostRuntime) {
         (Some(most), b"\x95", too_long(INSN_LIMIT)),
         (None, b"", too_long(INSN_LIMIT)),
         // A wide load whose second slot would begin at the limit.
-        (Some(most - 1), b"\x18\x01\0\0\0\0\0\0\0\0\0\0\0\0\0\0", too_long(INSN_LIMIT - 8)),
+        (
+            Some(most - 1),
+            b"\x18\x01\0\0\0\0\0\0\0\0\0\0\0\0\0\0",
+            too_long(INSN_LIMIT - 8),
+        ),
         // A fault in the last slot before the limit, and beyond it.
         (Some(most - 1), b"\x04\x10\0\0\x05\0\0\0\x95", Err(faulty)),
         (Some(most), b"\x04\x10\0\0\x05\0\0\0", too_long(INSN_LIMIT)),
@@ -84,7 +88,13 @@ fn inputs_about_as_long_as_the_limit(rt: HostRuntime) {
     for (left, last, wanted) in cases {
         let mut source = Exits { left, last };
         let mut sink = Counter { taken: 0 };
-        let ran = run_insns(rt.alloc(), &mut source, &mut sink, Order::Little, Order::Little);
+        let ran = run_insns(
+            rt.alloc(),
+            &mut source,
+            &mut sink,
+            Order::Little,
+            Order::Little,
+        );
         assert_eq!(rt; ran, wanted, "{left:?} exits and {last:?}");
         let written = match wanted {
             Ok(written) => written,
@@ -100,5 +110,10 @@ fn an_endless_source_is_too_long_to_be_read(rt: HostRuntime) {
         left: None,
         last: b"",
     };
-    assert!(rt; matches!(read_all(rt.alloc(), &mut source, 10_000), Err(ReadError::TooLong)));
+    assert!(rt;
+        matches!(
+            read_all(rt.alloc(), &mut source, 10_000),
+            Err(ReadError::TooLong)
+        )
+    );
 }

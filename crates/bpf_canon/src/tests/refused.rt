@@ -11,7 +11,8 @@ use std::process::Abort;
 const ROOM: usize = 448;
 
 /// An exit seven times, and a faulty instruction.
-const FILE: &[u8; 64] = b"\x95\0\0\0\0\0\0\0\x95\0\0\0\0\0\0\0\x95\0\0\0\0\0\0\0\x95\0\0\0\0\0\0\0\x95\0\0\0\0\0\0\0\x95\0\0\0\0\0\0\0\x95\0\0\0\0\0\0\0\x04\x10\0\0\x05\0\0\0";
+const FILE: &[u8; 64] =
+    b"\x95\0\0\0\0\0\0\0\x95\0\0\0\0\0\0\0\x95\0\0\0\0\0\0\0\x95\0\0\0\0\0\0\0\x95\0\0\0\0\0\0\0\x95\0\0\0\0\0\0\0\x95\0\0\0\0\0\0\0\x04\x10\0\0\x05\0\0\0";
 
 // How many answers wanted memory, and how many didn't.
 #[derive(Drop)]
@@ -39,7 +40,10 @@ fn give_away(bump: &Bump<Global>, bytes: usize) -> bool {
 
 #[test]
 fn of_reading_whole(rt: HostRuntime) {
-    let mut tally = Tally { refused: 0, done: 0 };
+    let mut tally = Tally {
+        refused: 0,
+        done: 0,
+    };
     for bytes in 0..=ROOM {
         let bump = Bump::new(rt.alloc());
         if !give_away(&bump, bytes) {
@@ -63,7 +67,10 @@ fn of_reading_whole(rt: HostRuntime) {
 #[test]
 fn of_writing_instructions(rt: HostRuntime) {
     let insns = [Insn::Exit; 7];
-    let mut tally = Tally { refused: 0, done: 0 };
+    let mut tally = Tally {
+        refused: 0,
+        done: 0,
+    };
     for bytes in 0..=ROOM {
         let bump = Bump::new(rt.alloc());
         if !give_away(&bump, bytes) {
@@ -82,7 +89,10 @@ fn of_writing_instructions(rt: HostRuntime) {
 
 #[test]
 fn of_canonical_bytes(rt: HostRuntime) {
-    let mut tally = Tally { refused: 0, done: 0 };
+    let mut tally = Tally {
+        refused: 0,
+        done: 0,
+    };
     for bytes in 0..=ROOM {
         let bump = Bump::new(rt.alloc());
         if !give_away(&bump, bytes) {
@@ -102,7 +112,10 @@ fn of_canonical_bytes(rt: HostRuntime) {
 
 #[test]
 fn of_comparison(rt: HostRuntime) {
-    let mut tally = Tally { refused: 0, done: 0 };
+    let mut tally = Tally {
+        refused: 0,
+        done: 0,
+    };
     for bytes in 0..=ROOM {
         let bump = Bump::new(rt.alloc());
         if !give_away(&bump, bytes) {
@@ -147,7 +160,10 @@ fn feed_pieces<A: Allocator>(rt: &impl Abort, out: &mut Vec<u8, A>) -> usize {
 
 #[test]
 fn of_the_feed(rt: HostRuntime) {
-    let mut tally = Tally { refused: 0, done: 0 };
+    let mut tally = Tally {
+        refused: 0,
+        done: 0,
+    };
     for bytes in 0..=ROOM {
         let bump = Bump::new(rt.alloc());
         if !give_away(&bump, bytes) {
@@ -164,7 +180,10 @@ fn of_the_feed(rt: HostRuntime) {
 
 #[test]
 fn of_the_engine(rt: HostRuntime) {
-    let mut tally = Tally { refused: 0, done: 0 };
+    let mut tally = Tally {
+        refused: 0,
+        done: 0,
+    };
     for bytes in 0..=ROOM {
         let bump = Bump::new(rt.alloc());
         if !give_away(&bump, bytes) {
@@ -187,7 +206,13 @@ fn of_the_engine(rt: HostRuntime) {
                 pos: 57,
                 cause: SlotCause::Src,
             };
-            assert_eq!(rt; stop, RunError { cause: RunCause::Fault(fault), written: 56 });
+            assert_eq!(rt;
+                stop,
+                RunError {
+                    cause: RunCause::Fault(fault),
+                    written: 56
+                }
+            );
             tally.count(false);
         }
     }
@@ -197,7 +222,10 @@ fn of_the_engine(rt: HostRuntime) {
 // A growth of the sink's vector that is refused is a failed write.
 #[test]
 fn of_a_sink(rt: HostRuntime) {
-    let mut tally = Tally { refused: 0, done: 0 };
+    let mut tally = Tally {
+        refused: 0,
+        done: 0,
+    };
     for bytes in 0..=ROOM {
         let bump = Bump::new(rt.alloc());
         if !give_away(&bump, bytes) {
@@ -206,7 +234,13 @@ fn of_a_sink(rt: HostRuntime) {
         let mut source = MemSource::new(&FILE[..56], 24, None);
         let mut out = Vec::new(&bump);
         let mut sink = MemSink::new(&mut out, 5, None);
-        let ran = run_insns(rt.alloc(), &mut source, &mut sink, Order::Little, Order::Little);
+        let ran = run_insns(
+            rt.alloc(),
+            &mut source,
+            &mut sink,
+            Order::Little,
+            Order::Little,
+        );
         let written = match ran {
             Ok(written) => written,
             Err(stop) => {

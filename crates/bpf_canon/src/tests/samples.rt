@@ -50,11 +50,7 @@ pub fn accepted() -> [Sample; 14] {
     [
         canonical(b""),
         canonical(EXIT),
-        good(
-            Order::Big,
-            b"\xbf\x12\0\0\0\0\0\0",
-            b"\xbf\x21\0\0\0\0\0\0",
-        ),
+        good(Order::Big, b"\xbf\x12\0\0\0\0\0\0", b"\xbf\x21\0\0\0\0\0\0"),
         good(
             Order::Big,
             b"\xb7\0\0\0\xff\xff\xff\xfe",
