@@ -29,3 +29,5 @@ pub use write::write_insns;
 
 #[cfg(test)]
 mod compiled_programs;
+#[cfg(test)]
+mod tests;
