@@ -1,5 +1,5 @@
 -- Tokens spell one argument, up to how its sign is written.
-use Rattle.std.proofs.Common.{◌≡◌, ◌≢◌, ℕ, ◌+◌, ◌<◌, ◌≤◌, ℤ, pos, neg_ℤ, List, [], ◌∷◌, ◌++◌, ◌⊎◌, inl, inr, length, drop, refl, sym, ap, ◌∙◌, subst, arith, codes}
+use Rattle.std.proofs.Common.{◌≡◌, ◌≢◌, ℕ, ◌+◌, ◌<◌, ◌≤◌, ℤ, pos, neg_ℤ, List, [], ◌∷◌, ◌++◌, ◌⊎◌, inl, inr, length, drop, refl, sym, ap, ◌∙◌, subst, arith, codes, map}
 use Rattle.std.specs.List.{AllZip, slice_split}
 use Rattle.std.specs.Fmt.{decimal}
 use Rattle.std.specs.Str.Parse.{IsNumeral, digits_value}
@@ -7,7 +7,7 @@ use Rattle.std.proofs.Math.Bridge.{le_prop}
 use Rattle.std.proofs.lemmas.Fmt.{decimal_is_IsNumeral}
 use Rattle.bpf_insn.specs.declared.insn.Reg.{Reg}
 use Rattle.bpf_text.specs.Arguments.{Argument, register, number, signed, memory, register_text, SpellsMagnitude, SpellsSigned, SpellsNumber, SpellsRegister, SpellsMemory, SpellsArgument, SpellsArguments, is_comma}
-use Rattle.bpf_text.specs.Forms.{Same}
+use Rattle.bpf_text.specs.Forms.{plain}
 use Rattle.bpf_text.proofs.NumberLemmas.{one_magnitude}
 
 -- a number has one register
@@ -77,31 +77,33 @@ one_register_argument [] r s h k = absurd h
 one_register_argument (t ∷ []) r s h k = one_register t r s h k
 one_register_argument (t ∷ u ∷ more) r s h k = absurd h
 
-pub one_argument : (ts : List (List ℕ)) (a b : Argument) → SpellsArgument ts a → SpellsArgument ts b → Same a b
-one_argument ts (register r) (register s) h k = one_register_argument ts r s h k
+pub one_argument : (ts : List (List ℕ)) (a b : Argument) → SpellsArgument ts a → SpellsArgument ts b → plain a ≡ plain b
+one_argument ts (register r) (register s) h k = ap register (one_register_argument ts r s h k)
 one_argument ts (register r) (number z) h k = absurd (register_number ts r z h k)
 one_argument ts (register r) (signed z) h k = absurd (register_number ts r z h k)
 one_argument ts (register r) (memory s z) h k = absurd (register_memory ts r s z h k)
 one_argument ts (number y) (register s) h k = absurd (register_number ts s y k h)
-one_argument ts (number y) (number z) h k = one_number ts y z h k
-one_argument ts (number y) (signed z) h k = one_number ts y z h k
+one_argument ts (number y) (number z) h k = ap number (one_number ts y z h k)
+one_argument ts (number y) (signed z) h k = ap number (one_number ts y z h k)
 one_argument ts (number y) (memory s z) h k = absurd (number_memory ts y s z h k)
 one_argument ts (signed y) (register s) h k = absurd (register_number ts s y k h)
-one_argument ts (signed y) (number z) h k = one_number ts y z h k
-one_argument ts (signed y) (signed z) h k = one_number ts y z h k
+one_argument ts (signed y) (number z) h k = ap number (one_number ts y z h k)
+one_argument ts (signed y) (signed z) h k = ap number (one_number ts y z h k)
 one_argument ts (signed y) (memory s z) h k = absurd (number_memory ts y s z h k)
 one_argument ts (memory r y) (register s) h k = absurd (register_memory ts s r y k h)
 one_argument ts (memory r y) (number z) h k = absurd (number_memory ts z r y k h)
 one_argument ts (memory r y) (signed z) h k = absurd (number_memory ts z r y k h)
-one_argument ts (memory r y) (memory s z) h k = one_memory ts r s y z h k
+one_argument ts (memory r y) (memory s z) h k = let same = one_memory ts r s y z h k in let base : r ≡ s = same.0 in let offset : y ≡ z = same.1 in cc
 
-one_zip : (tss : List (List (List ℕ))) (xs bs : List Argument) → AllZip SpellsArgument tss xs → AllZip SpellsArgument tss bs → AllZip Same xs bs
-one_zip [] [] [] h k = tt
+one_zip : (tss : List (List (List ℕ))) (xs bs : List Argument) → AllZip SpellsArgument tss xs → AllZip SpellsArgument tss bs → map plain xs ≡ map plain bs
+one_zip [] [] [] h k = refl
 one_zip [] [] (b ∷ bs) h k = absurd k
 one_zip [] (a ∷ xs) bs h k = absurd h
 one_zip (t ∷ ts) [] bs h k = absurd h
 one_zip (t ∷ ts) (a ∷ xs) [] h k = absurd k
-one_zip (t ∷ ts) (a ∷ xs) (b ∷ bs) h k = (one_argument t a b h.0 k.0, one_zip ts xs bs h.1 k.1)
+one_zip (t ∷ ts) (a ∷ xs) (b ∷ bs) h k =
+    let first : plain a ≡ plain b = one_argument t a b h.0 k.0 in
+    let more : map plain xs ≡ map plain bs = one_zip ts xs bs h.1 k.1 in cc
 
 no_part : (a : Argument) → SpellsArgument [] a → ⊥
 no_part (register r) h = h
@@ -112,8 +114,8 @@ no_part (memory r z) h = h
 none_spelled : (b : Argument) (bs : List Argument) (ts : List (List ℕ)) → ts ≡ [] → SpellsArguments ts (b ∷ bs) → ⊥
 none_spelled b bs ts e k = no_part b (rw e at k).0
 
-pub one_arguments : (ts : List (List ℕ)) (xs bs : List Argument) → SpellsArguments ts xs → SpellsArguments ts bs → AllZip Same xs bs
-one_arguments ts [] [] h k = tt
+pub one_arguments : (ts : List (List ℕ)) (xs bs : List Argument) → SpellsArguments ts xs → SpellsArguments ts bs → map plain xs ≡ map plain bs
+one_arguments ts [] [] h k = refl
 one_arguments ts [] (b ∷ bs) h k = absurd (none_spelled b bs ts h k)
 one_arguments ts (a ∷ xs) [] h k = absurd (none_spelled a xs ts k h)
 one_arguments ts (a ∷ xs) (b ∷ bs) h k = one_zip (slice_split is_comma ts) (a ∷ xs) (b ∷ bs) h k

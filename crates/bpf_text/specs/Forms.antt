@@ -1,68 +1,88 @@
--- What reading arguments of one form answers.
-use Rattle.std.specs.Prelude.{◌≡◌, ◌≢◌, ℤ, List, [], ◌∷◌, map, Result, Ok, Err}
-use Rattle.std.specs.List.{AllZip}
+-- What reading the fields of an instruction from its arguments answers.
+use Rattle.std.specs.Prelude.{◌≡◌, ◌≢◌, ◌^◌, ◌<◌, ℕ, ℤ, pos, List, [], ◌∷◌, map, Result, Ok, Err}
 use Rattle.bpf_insn.specs.declared.insn.Reg.{Reg}
+use Rattle.bpf_insn.specs.declared.insn.Operand.{Operand}
 use Rattle.bpf_insn.specs.declared.insn.Insn.{Insn}
-use Rattle.bpf_insn.specs.Table.{IsOffset, IsInsn}
+use Rattle.bpf_insn.specs.Table.{IsOffset, IsImm, IsOperand, IsInsn}
 use Rattle.bpf_text.specs.declared.fault.LineCause.{LineCause}
 use Rattle.bpf_text.specs.declared.fault.LineCause.TheVariants.{Char, Word, Shape, Range}
 use Rattle.bpf_text.specs.declared.mnemonic.Mnemonic.{Mnemonic}
 use Rattle.bpf_text.specs.Arguments.{Argument, register, number, signed, memory, kind_of}
-use Rattle.bpf_text.specs.Table.{arguments_of}
+use Rattle.bpf_text.specs.Table.{operand_argument, arguments_of}
 use Rattle.bpf_text.specs.Mnemonics.{mnemonic_of}
 
--- the same argument, but that a number may be written with its sign
-abbrev pub Same : Argument → Argument → Type 0
-Same (register r) (register s) = r ≡ s
-Same (number y) (number z) = y ≡ z
-Same (number y) (signed z) = y ≡ z
-Same (signed y) (number z) = y ≡ z
-Same (signed y) (signed z) = y ≡ z
-Same (memory r y) (memory s z) = (r ≡ s) × (y ≡ z)
-Same _ _ = ⊥
+-- the argument, however its sign is written
+abbrev pub plain : Argument → Argument
+plain (register r) = register r
+plain (number z) = number z
+plain (signed z) = number z
+plain (memory r z) = memory r z
 
--- a field whose type has no wrong values
-abbrev pub IsAny : {X : Type 0} → X → Type 0
-IsAny x = Unit {0}
+-- one field of an instruction: its values, and how each is written
+pub record Field (X : Type 0) : Type 1 where
+  pub valid : X → Type 0
+  pub written : X → Argument
 
--- a base and an offset
-abbrev pub IsAddress : Reg × ℤ → Type 0
-IsAddress x = IsOffset x.1
+abbrev pub register_field : Field Reg
+register_field = record { valid = λ r. Unit {0}; written = register }
 
-abbrev pub address_argument : Reg × ℤ → Argument
-address_argument x = memory x.0 x.1
+abbrev pub imm_field : Field ℤ
+imm_field = record { valid = IsImm; written = number }
 
--- an answer for one argument
-abbrev pub ReadsArgument : {X : Type 0} → (X → Type 0) → (X → Argument) → Argument → Result X LineCause → Type 0
-ReadsArgument valid written a (Ok x) = valid x × Same (written x) a
-ReadsArgument {X} valid written a (Err Shape) = (x : X) → kind_of a ≢ kind_of (written x)
-ReadsArgument {X} valid written a (Err Range) = ((x : X) × (kind_of a ≡ kind_of (written x))) × ((x : X) → valid x → ¬ Same (written x) a)
-ReadsArgument valid written a (Err _) = ⊥
+abbrev pub offset_field : Field ℤ
+offset_field = record { valid = IsOffset; written = number }
 
--- an answer for all
-abbrev pub ReadsForm : {X : Type 0} → (X → Type 0) → (X → List Argument) → List Argument → Result X LineCause → Type 0
-ReadsForm valid written spelled (Ok x) = valid x × AllZip Same (written x) spelled
-ReadsForm {X} valid written spelled (Err Shape) = (x : X) → map kind_of spelled ≢ map kind_of (written x)
-ReadsForm {X} valid written spelled (Err Range) =
-    ((x : X) × (map kind_of spelled ≡ map kind_of (written x))) × ((x : X) → valid x → ¬ AllZip Same (written x) spelled)
-ReadsForm valid written spelled (Err _) = ⊥
+abbrev pub wide_number_field : Field ℕ
+wide_number_field = record { valid = λ n. n < 2 ^ 64; written = λ n. number (pos n) }
 
--- an answer for an instruction of a mnemonic
+abbrev pub operand_field : Field Operand
+operand_field = record { valid = IsOperand; written = operand_argument }
+
+abbrev pub address_field : Field (Reg × ℤ)
+address_field = record { valid = λ x. IsOffset x.1; written = λ x. memory x.0 x.1 }
+
+-- the fields of an instruction, in the order of its line
+pub record Form (X : Type 0) : Type 1 where
+  pub valid : X → Type 0
+  pub written : X → List Argument
+
+abbrev pub last : {X : Type 0} → Field X → Form X
+last field = record { valid = field.valid; written = λ x. field.written x ∷ [] }
+
+abbrev pub before : {X Y : Type 0} → Field X → Form Y → Form (X × Y)
+before field form = record { valid = λ x. field.valid x.0 × form.valid x.1; written = λ x. field.written x.0 ∷ form.written x.1 }
+
+-- an answer for one field
+abbrev pub ReadsField : {X : Type 0} → Field X → Argument → Result X LineCause → Type 0
+ReadsField field a (Ok x) = field.valid x × (plain a ≡ field.written x)
+ReadsField {X} field a (Err Shape) = (x : X) → kind_of a ≢ kind_of (field.written x)
+ReadsField {X} field a (Err Range) = ((x : X) × (kind_of a ≡ kind_of (field.written x))) × ((x : X) → field.valid x → plain a ≢ field.written x)
+ReadsField field a (Err _) = ⊥
+
+-- an answer for all fields
+abbrev pub ReadsForm : {X : Type 0} → Form X → List Argument → Result X LineCause → Type 0
+ReadsForm form spelled (Ok x) = form.valid x × (map plain spelled ≡ form.written x)
+ReadsForm {X} form spelled (Err Shape) = (x : X) → map kind_of spelled ≢ map kind_of (form.written x)
+ReadsForm {X} form spelled (Err Range) =
+    ((x : X) × (map kind_of spelled ≡ map kind_of (form.written x))) × ((x : X) → form.valid x → map plain spelled ≢ form.written x)
+ReadsForm form spelled (Err _) = ⊥
+
+-- an answer for the instruction of a mnemonic
 abbrev pub ReadsInsn : Mnemonic → List Argument → Result Insn LineCause → Type 0
-ReadsInsn m spelled (Ok i) = IsInsn i × (mnemonic_of i ≡ m) × AllZip Same (arguments_of i) spelled
+ReadsInsn m spelled (Ok i) = IsInsn i × (mnemonic_of i ≡ m) × (map plain spelled ≡ map plain (arguments_of i))
 ReadsInsn m spelled (Err Shape) = (i : Insn) → mnemonic_of i ≡ m → map kind_of spelled ≢ map kind_of (arguments_of i)
 ReadsInsn m spelled (Err Range) =
     ((i : Insn) × (mnemonic_of i ≡ m) × (map kind_of spelled ≡ map kind_of (arguments_of i)))
-    × ((i : Insn) → IsInsn i → mnemonic_of i ≡ m → ¬ AllZip Same (arguments_of i) spelled)
+    × ((i : Insn) → IsInsn i → mnemonic_of i ≡ m → map plain spelled ≢ map plain (arguments_of i))
 ReadsInsn m spelled (Err _) = ⊥
 
 -- two answers as one: a wrong shape comes before a number out of range
-abbrev pub both_read : {A B : Type 0} → Result A LineCause → Result B LineCause → Result (A × B) LineCause
+abbrev pub both_read : {X Y : Type 0} → Result X LineCause → Result Y LineCause → Result (X × Y) LineCause
 both_read (Ok x) (Ok y) = Ok (x, y)
 both_read (Ok x) (Err cause) = Err cause
 both_read (Err Range) (Err Shape) = Err Shape
 both_read (Err Range) _ = Err Range
 both_read (Err cause) _ = Err cause
 
-abbrev pub BothRead : {A B : Type 0} → Result A LineCause → Result B LineCause → Result (A × B) LineCause → Type 0
+abbrev pub BothRead : {X Y : Type 0} → Result X LineCause → Result Y LineCause → Result (X × Y) LineCause → Type 0
 BothRead first second result = result ≡ both_read first second

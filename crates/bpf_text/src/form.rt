@@ -1,21 +1,20 @@
-//! Forms: what stands behind a word, from arguments to fields.
+//! Fields of instructions, read from the arguments of a line.
 
-ghost use Rattle.std.specs.Prelude.{◌≡◌, ◌≢◌, ℕ, ◌<◌, ◌∷◌, [], List, map, FitsSigned};
-ghost use Rattle.std.specs.Int.{w16, w32};
+ghost use Rattle.std.specs.Prelude.{List};
 ghost use Rattle.std.specs.List.{AllZip};
-ghost use Rattle.bpf_insn.specs.Table.{IsOffset, IsImm, IsOperand};
-ghost use Rattle.bpf_text.specs.Arguments.{Argument, register, number, memory};
-ghost use Rattle.bpf_text.specs.Table.{operand_argument};
+ghost use Rattle.bpf_text.specs.Arguments.{Argument};
 ghost use Rattle.bpf_text.specs.Numbers.{IsArgument};
-ghost use Rattle.bpf_text.specs.Forms.{IsAny, IsAddress, address_argument, ReadsArgument, ReadsForm, BothRead, ReadsInsn};
+ghost use Rattle.bpf_text.specs.Forms.{register_field, imm_field, offset_field, wide_number_field, operand_field, address_field, last, before, ReadsField, ReadsForm, BothRead};
 
 use crate::fault::LineCause;
-use crate::mnemonic::Mnemonic;
 use crate::spelled::Spelled;
-use bpf_insn::{AluOp, Insn, Operand, Reg, Width};
+use bpf_insn::{Operand, Reg};
+
+/// A base register and an offset.
+pub(crate) type Address = (Reg, i16);
 
 fn register(argument: Spelled) -> Result<Reg, LineCause>
-    ensures { (a : Argument) → IsArgument argument a → ReadsArgument IsAny register a result }
+    ensures { (a : Argument) → IsArgument argument a → ReadsField register_field a result }
 {
     match argument {
         Spelled::Register(register) => Ok(register),
@@ -25,7 +24,7 @@ fn register(argument: Spelled) -> Result<Reg, LineCause>
 }
 
 fn imm(argument: Spelled) -> Result<i32, LineCause>
-    ensures { (a : Argument) → IsArgument argument a → ReadsArgument IsImm number a result }
+    ensures { (a : Argument) → IsArgument argument a → ReadsField imm_field a result }
 {
     match argument {
         Spelled::Register(_) => Err(LineCause::Shape),
@@ -38,7 +37,7 @@ fn imm(argument: Spelled) -> Result<i32, LineCause>
 }
 
 fn offset(argument: Spelled) -> Result<i16, LineCause>
-    ensures { (a : Argument) → IsArgument argument a → ReadsArgument IsOffset number a result }
+    ensures { (a : Argument) → IsArgument argument a → ReadsField offset_field a result }
 {
     match argument {
         Spelled::Register(_) => Err(LineCause::Shape),
@@ -50,8 +49,21 @@ fn offset(argument: Spelled) -> Result<i16, LineCause>
     }
 }
 
+fn wide_number(argument: Spelled) -> Result<u64, LineCause>
+    ensures { (a : Argument) → IsArgument argument a → ReadsField wide_number_field a result }
+{
+    match argument {
+        Spelled::Register(_) => Err(LineCause::Shape),
+        Spelled::Count(number) => match number.as_u64() {
+            Some(number) => Ok(number),
+            None => Err(LineCause::Range),
+        },
+        Spelled::Memory(_, _) => Err(LineCause::Shape),
+    }
+}
+
 fn operand(argument: Spelled) -> Result<Operand, LineCause>
-    ensures { (a : Argument) → IsArgument argument a → ReadsArgument IsOperand operand_argument a result }
+    ensures { (a : Argument) → IsArgument argument a → ReadsField operand_field a result }
 {
     match argument {
         Spelled::Register(register) => Ok(Operand::Reg(register)),
@@ -63,9 +75,8 @@ fn operand(argument: Spelled) -> Result<Operand, LineCause>
     }
 }
 
-fn address(argument: Spelled) -> Result<(Reg, i16), LineCause>
-    ensures { (a : Argument) → IsArgument argument a
-        → ReadsArgument IsAddress address_argument a result }
+fn address(argument: Spelled) -> Result<Address, LineCause>
+    ensures { (a : Argument) → IsArgument argument a → ReadsField address_field a result }
 {
     match argument {
         Spelled::Register(_) => Err(LineCause::Shape),
@@ -100,19 +111,127 @@ where
     }
 }
 
-pub(crate) fn alu(width: Width, op: AluOp, arguments: &[Spelled]) -> Result<Insn, LineCause>
-    ensures { (spelled : List Argument) → AllZip IsArgument arguments.now spelled → ReadsInsn (Mnemonic.Alu width op) spelled result }
+pub(crate) fn only_register(arguments: &[Spelled]) -> Result<Reg, LineCause>
+    ensures { (spelled : List Argument) → AllZip IsArgument arguments.now spelled → ReadsForm (last register_field) spelled result }
+{
+    if arguments.len() != 1 {
+        return Err(LineCause::Shape);
+    }
+    register(arguments[0])
+}
+
+pub(crate) fn only_imm(arguments: &[Spelled]) -> Result<i32, LineCause>
+    ensures { (spelled : List Argument) → AllZip IsArgument arguments.now spelled → ReadsForm (last imm_field) spelled result }
+{
+    if arguments.len() != 1 {
+        return Err(LineCause::Shape);
+    }
+    imm(arguments[0])
+}
+
+pub(crate) fn only_offset(arguments: &[Spelled]) -> Result<i16, LineCause>
+    ensures { (spelled : List Argument) → AllZip IsArgument arguments.now spelled → ReadsForm (last offset_field) spelled result }
+{
+    if arguments.len() != 1 {
+        return Err(LineCause::Shape);
+    }
+    offset(arguments[0])
+}
+
+pub(crate) fn two_registers(arguments: &[Spelled]) -> Result<(Reg, Reg), LineCause>
+    ensures { (spelled : List Argument) → AllZip IsArgument arguments.now spelled → ReadsForm (before register_field (last register_field)) spelled result }
 {
     if arguments.len() != 2 {
         return Err(LineCause::Shape);
     }
-    match both(register(arguments[0]), operand(arguments[1])) {
-        Ok(fields) => Ok(Insn::Alu {
-            width,
-            op,
-            dst: fields.0,
-            arg: fields.1,
-        }),
-        Err(cause) => Err(cause),
+    both(register(arguments[0]), register(arguments[1]))
+}
+
+pub(crate) fn register_and_operand(arguments: &[Spelled]) -> Result<(Reg, Operand), LineCause>
+    ensures { (spelled : List Argument) → AllZip IsArgument arguments.now spelled → ReadsForm (before register_field (last operand_field)) spelled result }
+{
+    if arguments.len() != 2 {
+        return Err(LineCause::Shape);
     }
+    both(register(arguments[0]), operand(arguments[1]))
+}
+
+pub(crate) fn register_and_imm(arguments: &[Spelled]) -> Result<(Reg, i32), LineCause>
+    ensures { (spelled : List Argument) → AllZip IsArgument arguments.now spelled → ReadsForm (before register_field (last imm_field)) spelled result }
+{
+    if arguments.len() != 2 {
+        return Err(LineCause::Shape);
+    }
+    both(register(arguments[0]), imm(arguments[1]))
+}
+
+pub(crate) fn register_and_wide_number(arguments: &[Spelled]) -> Result<(Reg, u64), LineCause>
+    ensures { (spelled : List Argument) → AllZip IsArgument arguments.now spelled → ReadsForm (before register_field (last wide_number_field)) spelled result }
+{
+    if arguments.len() != 2 {
+        return Err(LineCause::Shape);
+    }
+    both(register(arguments[0]), wide_number(arguments[1]))
+}
+
+pub(crate) fn imm_and_offset(arguments: &[Spelled]) -> Result<(i32, i16), LineCause>
+    ensures { (spelled : List Argument) → AllZip IsArgument arguments.now spelled → ReadsForm (before imm_field (last offset_field)) spelled result }
+{
+    if arguments.len() != 2 {
+        return Err(LineCause::Shape);
+    }
+    both(imm(arguments[0]), offset(arguments[1]))
+}
+
+pub(crate) fn register_and_address(arguments: &[Spelled]) -> Result<(Reg, Address), LineCause>
+    ensures { (spelled : List Argument) → AllZip IsArgument arguments.now spelled → ReadsForm (before register_field (last address_field)) spelled result }
+{
+    if arguments.len() != 2 {
+        return Err(LineCause::Shape);
+    }
+    both(register(arguments[0]), address(arguments[1]))
+}
+
+pub(crate) fn address_and_imm(arguments: &[Spelled]) -> Result<(Address, i32), LineCause>
+    ensures { (spelled : List Argument) → AllZip IsArgument arguments.now spelled → ReadsForm (before address_field (last imm_field)) spelled result }
+{
+    if arguments.len() != 2 {
+        return Err(LineCause::Shape);
+    }
+    both(address(arguments[0]), imm(arguments[1]))
+}
+
+pub(crate) fn address_and_register(arguments: &[Spelled]) -> Result<(Address, Reg), LineCause>
+    ensures { (spelled : List Argument) → AllZip IsArgument arguments.now spelled → ReadsForm (before address_field (last register_field)) spelled result }
+{
+    if arguments.len() != 2 {
+        return Err(LineCause::Shape);
+    }
+    both(address(arguments[0]), register(arguments[1]))
+}
+
+pub(crate) fn register_operand_and_offset(
+    arguments: &[Spelled],
+) -> Result<(Reg, (Operand, i16)), LineCause>
+    ensures { (spelled : List Argument) → AllZip IsArgument arguments.now spelled → ReadsForm (before register_field (before operand_field (last offset_field))) spelled result }
+{
+    if arguments.len() != 3 {
+        return Err(LineCause::Shape);
+    }
+    both(
+        register(arguments[0]),
+        both(operand(arguments[1]), offset(arguments[2])),
+    )
+}
+
+pub(crate) fn register_and_two_imms(arguments: &[Spelled]) -> Result<(Reg, (i32, i32)), LineCause>
+    ensures { (spelled : List Argument) → AllZip IsArgument arguments.now spelled → ReadsForm (before register_field (before imm_field (last imm_field))) spelled result }
+{
+    if arguments.len() != 3 {
+        return Err(LineCause::Shape);
+    }
+    both(
+        register(arguments[0]),
+        both(imm(arguments[1]), imm(arguments[2])),
+    )
 }

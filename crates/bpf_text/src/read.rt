@@ -1,56 +1,37 @@
 //! Listings, read.
 
-ghost use Rattle.std.specs.Prelude.{◌≡◌, ℕ, ◌+◌, ◌<◌, ◌≤◌, ◌++◌, List, length, map, MatchResult};
+ghost use Rattle.std.specs.Prelude.{◌≡◌, ℕ, ◌+◌, ◌<◌, ◌≤◌, ◌++◌, List, length, false, OnOk, MatchResult};
 ghost use Rattle.std.specs.Option.{option_to_list};
-ghost use Rattle.std.specs.List.{AllZip, position_or_len};
-ghost use Rattle.bpf_text.specs.Arguments.{Argument};
-ghost use Rattle.bpf_text.specs.Numbers.{IsArgument};
-ghost use Rattle.bpf_text.specs.Reading.{ReadsOrMemory, ReadsTokens};
+ghost use Rattle.std.specs.List.{AllZip, list_any, position_or_len};
+ghost use Rattle.bpf_text.specs.Reading.{ReadsTokens};
 ghost use Rattle.bpf_insn.specs.declared.insn.Insn.{Insn};
-ghost use Rattle.bpf_text.specs.Tokens.{is_newline};
+ghost use Rattle.bpf_text.specs.Tokens.{is_newline, is_stray, AreTokens};
 ghost use Rattle.bpf_text.specs.declared.fault.ListError.{ListError};
-ghost use Rattle.bpf_text.specs.Listing.{Listing, ListFault, ListsLine, RefusesLine, Refuses, list_error_of};
+ghost use Rattle.bpf_text.specs.Listing.{Listing, IsCause, ListsLine, Refuses};
 
 use crate::fault::{LineCause, LineFault, ListError};
-use crate::form::alu;
+use crate::make::insn_of;
 use crate::mnemonic::Mnemonic;
-use crate::spelled::{Spelled, arguments_of};
-use crate::token::{code_of, has_stray, tokens_of};
+use crate::spelled::arguments_of;
+use crate::token::{code_of, has_stray, next_token, tokens_of};
 use bpf_insn::Insn;
-use std::alloc::Global;
+use std::alloc::{AllocError, Allocator};
 
-/// Why a line lists nothing that can be told.
-#[derive(Clone, Copy, Debug)]
-pub(crate) enum LineRefusal {
-    Cause(LineCause),
-    Memory,
-}
-
-/// The instruction of a mnemonic and arguments. A stand-in: words other than those of arithmetic answer Memory.
-fn insn_of(mnemonic: Mnemonic, arguments: &[Spelled]) -> Result<Insn, LineRefusal>
-    ensures { (spelled : List Argument) → AllZip IsArgument arguments.now spelled → ReadsOrMemory mnemonic spelled result }
-{
-    match mnemonic {
-        Mnemonic::Alu(width, op) => match alu(width, op, arguments) {
-            Ok(insn) => Ok(insn),
-            Err(cause) => Err(LineRefusal::Cause(cause)),
-        },
-        _ => Err(LineRefusal::Memory),
-    }
-}
-
-/// What the tokens of a line list.
-fn read_tokens(alloc: Global, word: &[u8], rest: &[&[u8]]) -> Result<Insn, LineRefusal>
-    ensures { ReadsTokens word.now (map (λ t. t.now) rest.now) result }
+/// The instruction that a word and what stands behind it list.
+fn read_insn(word: &[u8], behind: &[u8]) -> Result<Insn, LineCause>
+    requires { list_any is_stray behind.now ≡ false }
+    ensures { (tokens : List (List ℕ)) → AreTokens behind.now tokens → ReadsTokens word.now tokens result }
 {
     let Some(mnemonic) = Mnemonic::read(word) else {
-        return Err(LineRefusal::Cause(LineCause::Word));
+        return Err(LineCause::Word);
     };
-    match arguments_of(alloc, rest) {
-        Err(_) => Err(LineRefusal::Memory),
-        Ok(None) => Err(LineRefusal::Cause(LineCause::Shape)),
-        Ok(Some(arguments)) => insn_of(mnemonic, &arguments),
-    }
+    let Some(tokens) = tokens_of(behind) else {
+        return Err(LineCause::Shape);
+    };
+    let Some(arguments) = arguments_of(tokens.as_slice()) else {
+        return Err(LineCause::Shape);
+    };
+    insn_of(mnemonic, arguments.as_slice())
 }
 
 fn is_newline(b: u8) -> bool
@@ -72,51 +53,34 @@ fn line_len(bytes: &[u8]) -> usize
 }
 
 /// What a line lists.
-fn read_line(alloc: Global, line: &[u8]) -> Result<Option<Insn>, LineRefusal>
-    ensures { MatchResult result (λ found. ListsLine line.now (option_to_list found)) (RefusesLine line.now) }
+fn read_line(line: &[u8]) -> Result<Option<Insn>, LineCause>
+    ensures { MatchResult result (λ found. ListsLine line.now (option_to_list found)) (IsCause line.now) }
 {
     let code = code_of(line);
     if has_stray(code) {
-        return Err(LineRefusal::Cause(LineCause::Char));
+        return Err(LineCause::Char);
     }
-    let Ok(tokens) = tokens_of(alloc, code) else {
-        return Err(LineRefusal::Memory);
-    };
-    if tokens.is_empty() {
-        return Ok(None);
-    }
-    match read_tokens(alloc, tokens[0], &tokens[1..]) {
-        Ok(insn) => Ok(Some(insn)),
-        Err(refusal) => Err(refusal),
+    match next_token(code) {
+        None => Ok(None),
+        Some(parts) => match read_insn(parts.0, parts.1) {
+            Ok(insn) => Ok(Some(insn)),
+            Err(cause) => Err(cause),
+        },
     }
 }
 
 /// Adds what a line lists.
-fn read_into(alloc: Global, insns: &mut Vec<Insn>, line: &[u8]) -> Result<(), LineRefusal>
-    ensures { MatchResult result
-        (λ _. (found : List Insn) × ListsLine line.now found × (insns.new.items ≡ insns.old.items ++ found))
-        (RefusesLine line.now) }
+fn push_found<A: Allocator>(insns: &mut Vec<Insn, A>, found: Option<Insn>) -> Result<(), AllocError>
+    ensures { OnOk result (insns.new.items ≡ insns.old.items ++ option_to_list found) }
 {
-    let found = read_line(alloc, line)?;
     if let Some(insn) = found {
-        if insns.push(insn).is_err() {
-            return Err(LineRefusal::Memory);
-        }
+        insns.push(insn)?;
     }
     Ok(())
 }
 
-fn list_error(refusal: LineRefusal, line: u64) -> ListError
-    ensures { result ≡ list_error_of refusal line }
-{
-    match refusal {
-        LineRefusal::Cause(cause) => ListError::Fault(LineFault { line, cause }),
-        LineRefusal::Memory => ListError::Memory,
-    }
-}
-
 /// The instructions that the lines list.
-fn read_lines(alloc: Global, text: &[u8]) -> Result<Vec<Insn>, ListError>
+fn read_lines<A: Allocator>(alloc: A, text: &[u8]) -> Result<Vec<Insn, A>, ListError>
     ensures { MatchResult result (λ insns. Listing text.now insns.items) (Refuses text.now) }
 {
     let mut insns = Vec::new(alloc);
@@ -124,8 +88,17 @@ fn read_lines(alloc: Global, text: &[u8]) -> Result<Vec<Insn>, ListError>
     let mut number: u64 = 1;
     'lines: loop {
         let (line, behind) = rest.split_at(line_len(rest));
-        if let Err(refusal) = read_into(alloc, &mut insns, line) {
-            return Err(list_error(refusal, number));
+        let found = match read_line(line) {
+            Ok(found) => found,
+            Err(cause) => {
+                return Err(ListError::Fault(LineFault {
+                    line: number,
+                    cause,
+                }));
+            }
+        };
+        if push_found(&mut insns, found).is_err() {
+            return Err(ListError::Memory);
         }
         if behind.is_empty() {
             return Ok(insns);
@@ -136,7 +109,7 @@ fn read_lines(alloc: Global, text: &[u8]) -> Result<Vec<Insn>, ListError>
 }
 
 /// The instructions that a text lists.
-pub fn read_listing(alloc: Global, text: &[u8]) -> Result<Vec<Insn>, ListError>
+pub fn read_listing<A: Allocator>(alloc: A, text: &[u8]) -> Result<Vec<Insn, A>, ListError>
     // What is read is listed, and a fault is the first one.
     ensures sound { MatchResult result (λ insns. Listing text.now insns.items) (Refuses text.now) }
     // What is listed is read, unless memory was refused.
