@@ -117,8 +117,3 @@ pub fn read_listing<A: Allocator>(alloc: A, text: &[u8]) -> Result<Vec<Insn, A>,
 {
     read_lines(alloc, text)
 }
-
-/// A text lists at most one list.
-pub fn one_listing()
-    ensures { (text : List ℕ) (l m : List Insn) → Listing text l → Listing text m → l ≡ m }
-{}
