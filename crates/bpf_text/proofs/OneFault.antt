@@ -7,7 +7,7 @@ use Rattle.bpf_text.specs.declared.fault.LineCause.{LineCause}
 use Rattle.bpf_text.specs.declared.fault.LineCause.TheVariants.{Char, Word, Shape, Range}
 use Rattle.bpf_text.specs.declared.fault.LineFault.{LineFault}
 use Rattle.bpf_text.specs.Tokens.{code_of, is_stray, AreTokens}
-use Rattle.bpf_text.specs.Listing.{IsWord, IsForm, IsCause, ListsLine, ListFault}
+use Rattle.bpf_text.specs.Listing.{IsWord, IsForm, IsCause, ListsLine, IsListFault}
 use Rattle.bpf_text.proofs.OneReading.{one_tokens}
 use Rattle.bpf_text.proofs.Excludes.{no_stray, excludes}
 
@@ -80,7 +80,7 @@ one_place (x ∷ front) (y ∷ front') back back' line line' (f ∷ listed) (g �
 abbrev fault_at : ℕ → LineCause → LineFault
 fault_at n c = record { line = n; cause = c }
 
-pub one_fault : (text : List ℕ) (f g : LineFault) → ListFault text f → ListFault text g → f ≡ g
+pub one_fault : (text : List ℕ) (f g : LineFault) → IsListFault text f → IsListFault text g → f ≡ g
 one_fault text f g h k =
     let place = one_place h.front k.front h.back k.back h.line k.line h.before.0 k.before.0 (sym h.lines ∙ k.lines) h.before.1 k.before.1 (λ found. excludes h.line f.cause found h.cause) (λ found. excludes k.line g.cause found k.cause) in
     let number : f.line ≡ g.line = h.place ∙ ap (λ n. n + 1) place.0 ∙ sym k.place in

@@ -1,11 +1,13 @@
 -- The lines of a list list it.
-use Rattle.std.proofs.Common.{◌≡◌, ℕ, zero, suc, ◌+◌, ◌^◌, ◌<◌, ◌≤◌, ℤ, pos, negsuc, Bool, true, false, List, [], ◌∷◌, ◌++◌, length, get_or, map, take, take_all, refl, sym, ap, ◌∙◌, subst, arith, append_assoc, append-nil, codes, FitsSigned}
+use Rattle.std.proofs.Common.{◌≡◌, ℕ, zero, suc, ◌+◌, ◌^◌, ◌<◌, ◌≤◌, ℤ, pos, negsuc, Bool, true, false, List, [], ◌∷◌, ◌++◌, ◌⊎◌, inl, inr, length, get_or, map, take, take_all, refl, sym, ap, ◌∙◌, subst, arith, append_assoc, append-nil, codes, FitsSigned}
 use Rattle.std.specs.Int.{w16, w32}
 use Rattle.std.specs.List.{AllZip, All, list_any, list_all, flat_map, slice_split, position_or_len, before_first}
 use Rattle.std.proofs.lemmas.Int.{ints}
-use Rattle.std.proofs.lemmas.Bool.{false≢true}
+use Rattle.std.proofs.lemmas.Bool.{cases_lt, false≢true}
 use Rattle.std.proofs.lemmas.Bool.Decides.{nat_tests}
 use Rattle.std.proofs.lemmas.List.Sums.{position_or_len_is}
+use Rattle.std.proofs.lemmas.List.{get_or_default, take_more}
+use Rattle.std.proofs.lemmas.List.Concat.{flat_map-append}
 use Rattle.std.proofs.lemmas.List.Splits.{slice_split_at}
 use Rattle.bpf_insn.specs.declared.insn.Operand.{Operand}
 use Rattle.bpf_insn.specs.declared.insn.Operand.TheVariants.{Imm, Reg}
@@ -16,7 +18,7 @@ use Rattle.bpf_insn.specs.Table.{IsInsn, IsOperand}
 use Rattle.bpf_text.specs.Table.{word_of, operand_argument, arguments_of}
 use Rattle.bpf_text.specs.Lines.{spaced, line_of, listing_of}
 use Rattle.bpf_text.specs.Tokens.{is_newline, is_comment_mark, is_stray, is_word_byte, code_of, AreTokens}
-use Rattle.bpf_text.specs.Listing.{lines_of, ListsInsn, ListsLine, Listing}
+use Rattle.bpf_text.specs.Listing.{lines_of, ListsInsn, ListsLine, Lists}
 use Rattle.bpf_text.proofs.Excludes.{no_stray}
 use Rattle.bpf_text.proofs.WordTokens.{word_is_token}
 use Rattle.bpf_text.proofs.WrittenTokens.{IsNear, IsWritable, AreWritable, arguments_tokens, word_then, spaced_then}
@@ -128,5 +130,32 @@ each_lists : (l : List Insn) → AllInsns l → AllZip ListsLine (lines_of (list
 each_lists [] h = (refl, tt)
 each_lists (i ∷ more) h = subst (λ (x : List (List ℕ)). AllZip ListsLine x (found_of (i ∷ more))) (sym (lines i more h.0)) (line_lists i h.0, each_lists more h.1)
 
-pub listing_lists : (l : List Insn) → All IsInsn l → Listing (listing_of l) l
+pub listing_lists : (l : List Insn) → All IsInsn l → Lists (listing_of l) l
 listing_lists l h = record { listed = found_of l; each = each_lists l (all_insns l h); whole = found_whole l }
+
+-- ---- a listing that is written
+
+-- one more instruction whose fields are in range
+pub in_range_more : (l : List Insn) (item : Insn) (i : ℕ) → item ≡ get_or l i item → i < length l → IsInsn item → ((k : ℕ) (d : Insn) → k < i → IsInsn (get_or l k d)) → (k : ℕ) (d : Insn) → k < i + 1 → IsInsn (get_or l k d)
+in_range_more l item i e inside here below k d h = pick (cases_lt k i)
+  where
+    pick : (k < i) ⊎ (i ≤ k) → IsInsn (get_or l k d)
+    pick (inl s) = below k d s
+    pick (inr s) =
+        let last : k ≡ i = omega arith in
+        let same : item ≡ get_or l k d = e ∙ get_or_default l i item d inside ∙ ap (λ n. get_or l n d) (sym last) in
+        subst (λ (x : Insn). IsInsn x) same here
+
+pub written_lists : (text : List ℕ) (l : List Insn) (i : ℕ) → length l ≤ i → text ≡ listing_of (take i l) → ((k : ℕ) (d : Insn) → k < i → IsInsn (get_or l k d)) → Lists text l
+written_lists text l i whole e below =
+    let all : take i l ≡ l = take_all i l whole in
+    let same : text ≡ listing_of l = e ∙ ap listing_of all in
+    subst (λ (x : List ℕ). Lists x l) (sym same) (listing_lists l (λ k d h. below k d (omega arith)))
+
+-- one more line
+pub written_more : (text more : List ℕ) (l : List Insn) (i : ℕ) (item : Insn) → item ≡ get_or l i item → i < length l → text ≡ listing_of (take i l) → more ≡ text ++ line_of item ++ codes "\n" → more ≡ listing_of (take (i + 1) l)
+written_more text more l i item e inside f g =
+    let taken : take (i + 1) l ≡ take i l ++ item ∷ [] = take_more l i item inside ∙ ap (λ x. take i l ++ x ∷ []) (sym e) in
+    let whole : listing_of (take (i + 1) l) ≡ listing_of (take i l) ++ listing_of (item ∷ []) =
+    ap listing_of taken ∙ flat_map-append (λ j. line_of j ++ codes "\n") (take i l) (item ∷ []) in
+    g ∙ append_assoc text (line_of item) (codes "\n") ∙ ap (λ x. x ++ (line_of item ++ codes "\n")) f ∙ ap (λ x. listing_of (take i l) ++ x) (sym (append-nil (line_of item ++ codes "\n"))) ∙ sym whole

@@ -5,19 +5,19 @@ ghost use Rattle.bpf_insn.specs.declared.insn.Insn.{Insn};
 ghost use Rattle.bpf_insn.specs.Table.{IsInsn};
 ghost use Rattle.bpf_text.specs.declared.fault.LineFault.{LineFault};
 ghost use Rattle.bpf_text.specs.Lines.{listing_of};
-ghost use Rattle.bpf_text.specs.Listing.{Listing, ListFault};
+ghost use Rattle.bpf_text.specs.Listing.{Lists, IsListFault};
 
 /// A text lists one list of instructions at most.
 pub fn text_has_one_list()
-    ensures { (text : List ℕ) (l m : List Insn) → Listing text l → Listing text m → l ≡ m }
+    ensures { (text : List ℕ) (l m : List Insn) → Lists text l → Lists text m → l ≡ m }
 {}
 
 /// The lines of a list, each with a newline, list it.
 pub fn lines_list_themselves()
-    ensures { (l : List Insn) → All IsInsn l → Listing (listing_of l) l }
+    ensures { (l : List Insn) → All IsInsn l → Lists (listing_of l) l }
 {}
 
 /// A text has one fault at most.
 pub fn text_has_one_fault()
-    ensures { (text : List ℕ) (f g : LineFault) → ListFault text f → ListFault text g → f ≡ g }
+    ensures { (text : List ℕ) (f g : LineFault) → IsListFault text f → IsListFault text g → f ≡ g }
 {}

@@ -1,13 +1,14 @@
 //! Listings, read.
 
-ghost use Rattle.std.specs.Prelude.{◌≡◌, ℕ, ◌+◌, ◌<◌, ◌≤◌, ◌++◌, List, length, false, OnOk, MatchResult};
+ghost use Rattle.std.specs.Prelude.{◌≡◌, ℕ, ◌+◌, ◌<◌, ◌≤◌, ◌++◌, List, length, false, Err, IfOk, OnOk, MatchResult};
 ghost use Rattle.std.specs.Option.{option_to_list};
 ghost use Rattle.std.specs.List.{AllZip, list_any, position_or_len};
-ghost use Rattle.bpf_text.specs.Reading.{ReadsTokens};
 ghost use Rattle.bpf_insn.specs.declared.insn.Insn.{Insn};
 ghost use Rattle.bpf_text.specs.Tokens.{is_newline, is_stray, AreTokens};
+ghost use Rattle.bpf_text.specs.declared.fault.LineFault.{LineFault};
 ghost use Rattle.bpf_text.specs.declared.fault.ListError.{ListError};
-ghost use Rattle.bpf_text.specs.Listing.{Listing, IsCause, ListsLine, Refuses};
+ghost use Rattle.bpf_text.specs.Listing.{Lists, IsListFault, IsCause, ListsLine};
+ghost use Rattle.bpf_text.specs.Reading.{ReadsTokens, Refuses};
 
 use crate::fault::{LineCause, LineFault, ListError};
 use crate::make::insn_of;
@@ -81,7 +82,7 @@ fn push_found<A: Allocator>(insns: &mut Vec<Insn, A>, found: Option<Insn>) -> Re
 
 /// The instructions that the lines list.
 fn read_lines<A: Allocator>(alloc: A, text: &[u8]) -> Result<Vec<Insn, A>, ListError>
-    ensures { MatchResult result (λ insns. Listing text.now insns.items) (Refuses text.now) }
+    ensures { MatchResult result (λ insns. Lists text.now insns.items) (Refuses text.now) }
 {
     let mut insns = Vec::new(alloc);
     let mut rest = text;
@@ -108,12 +109,19 @@ fn read_lines<A: Allocator>(alloc: A, text: &[u8]) -> Result<Vec<Insn, A>, ListE
     }
 }
 
-/// The instructions that a text lists.
+/// The instructions that a text lists, one for each line that has a word. Reading a line takes no memory; the list
+/// that is answered does.
+///
+/// # Errors
+///
+/// `Fault` with the first line that is faulty, counted from 1, and the first cause that holds of it; `Memory` where the
+/// list couldn't grow.
 pub fn read_listing<A: Allocator>(alloc: A, text: &[u8]) -> Result<Vec<Insn, A>, ListError>
-    // What is read is listed, and a fault is the first one.
-    ensures sound { MatchResult result (λ insns. Listing text.now insns.items) (Refuses text.now) }
+    ensures found { IfOk result (λ insns. Lists text.now insns.items) }
+
     // What is listed is read, unless memory was refused.
-    ensures only { (l : List Insn) → Listing text.now l → MatchResult result (λ insns. insns.items ≡ l) (λ e. e ≡ ListError.Memory) }
+    ensures all { (l : List Insn) → Lists text.now l → MatchResult result (λ insns. insns.items ≡ l) (λ e. e ≡ ListError.Memory) }
+    ensures fault { (f : LineFault) → result ≡ Err (ListError.Fault f) → IsListFault text.now f }
 {
     read_lines(alloc, text)
 }
