@@ -42,7 +42,11 @@ fn lines_are_read_and_listed(rt: HostRuntime) -> Result<(), Fail> {
         (b"exit ;\xff", b"\x95\0\0\0\0\0\0\0", b"exit\n"),
         (b"exit # \0", b"\x95\0\0\0\0\0\0\0", b"exit\n"),
         (b"mov r1, r2", b"\xbf\x21\0\0\0\0\0\0", b"mov r1, r2\n"),
-        (b"mov r0, -2", b"\xb7\0\0\0\xfe\xff\xff\xff", b"mov r0, -2\n"),
+        (
+            b"mov r0, -2",
+            b"\xb7\0\0\0\xfe\xff\xff\xff",
+            b"mov r0, -2\n",
+        ),
         (
             b"lddw r1, 0x1122334455667788",
             b"\x18\x01\0\0\x88\x77\x66\x55\0\0\0\0\x44\x33\x22\x11",
@@ -83,8 +87,16 @@ fn lines_are_read_and_listed(rt: HostRuntime) -> Result<(), Fail> {
     ];
     for (text, bytes, listed) in examples {
         let insns = read_listing(rt.alloc(), text)?;
-        assert_eq!(rt; little_endian(rt.alloc(), &insns)?.as_slice(), bytes, "{listed:?}");
-        assert_eq!(rt; listing(rt.alloc(), &insns)?.as_slice(), listed, "{listed:?}");
+        assert_eq!(rt;
+            little_endian(rt.alloc(), &insns)?.as_slice(),
+            bytes,
+            "{listed:?}"
+        );
+        assert_eq!(rt;
+            listing(rt.alloc(), &insns)?.as_slice(),
+            listed,
+            "{listed:?}"
+        );
     }
     Ok(())
 }
@@ -93,7 +105,10 @@ fn lines_are_read_and_listed(rt: HostRuntime) -> Result<(), Fail> {
 fn every_word_is_read_and_listed(rt: HostRuntime) -> Result<(), Fail> {
     let insns = read_listing(rt.alloc(), every_word::LINES)?;
     assert_eq!(rt; insns.len(), 120);
-    assert_eq!(rt; little_endian(rt.alloc(), &insns)?.as_slice(), every_word::BYTES);
+    assert_eq!(rt;
+        little_endian(rt.alloc(), &insns)?.as_slice(),
+        every_word::BYTES
+    );
     assert_eq!(rt; listing(rt.alloc(), &insns)?.as_slice(), every_word::LINES);
     Ok(())
 }
