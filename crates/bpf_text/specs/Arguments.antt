@@ -15,6 +15,7 @@ pub data Argument : Type 0 where
 
 -- ---- text
 
+-- r0 to r10
 abbrev pub register_text : Reg → List ℕ
 register_text r = codes "r" ++ decimal r.number
 
@@ -23,6 +24,7 @@ abbrev pub signed_text : ℤ → List ℕ
 signed_text (pos n) = codes "+" ++ decimal n
 signed_text (negsuc n) = codes "-" ++ decimal (suc n)
 
+-- an argument as a line has it
 abbrev pub argument_text : Argument → List ℕ
 argument_text (register r) = register_text r
 argument_text (number z) = signed_decimal z
@@ -37,7 +39,7 @@ arguments_text (a ∷ b ∷ more) = argument_text a ++ codes ", " ++ arguments_t
 
 -- ---- spellings; a token is its bytes
 
--- decimal digits, or hexadecimal digits behind 0x
+-- decimal digits, or hexadecimal digits behind 0x; a token has no capital letters
 abbrev pub SpellsMagnitude : List ℕ → ℕ → Type 0
 SpellsMagnitude token n =
     (IsNumeral 10 token × (n ≡ digits_value 10 token))
@@ -54,6 +56,7 @@ SpellsNumber (token ∷ []) z = (n : ℕ) × SpellsMagnitude token n × (z ≡ p
 SpellsNumber (sign ∷ token ∷ []) z = SpellsSigned sign token z
 SpellsNumber _ z = ⊥
 
+-- a token that is the register's text
 abbrev pub SpellsRegister : List ℕ → Reg → Type 0
 SpellsRegister token r = token ≡ register_text r
 
@@ -65,6 +68,7 @@ SpellsMemory (open_bracket ∷ base ∷ sign ∷ token ∷ close_bracket ∷ [])
     (open_bracket ≡ codes "[") × SpellsRegister base r × SpellsSigned sign token z × (close_bracket ≡ codes "]")
 SpellsMemory _ r z = ⊥
 
+-- the tokens between two commas
 abbrev pub SpellsArgument : List (List ℕ) → Argument → Type 0
 SpellsArgument (token ∷ []) (register r) = SpellsRegister token r
 SpellsArgument _ (register r) = ⊥
@@ -72,6 +76,7 @@ SpellsArgument tokens (number z) = SpellsNumber tokens z
 SpellsArgument tokens (signed z) = SpellsNumber tokens z
 SpellsArgument tokens (memory r z) = SpellsMemory tokens r z
 
+-- the token between two arguments
 abbrev pub is_comma : List ℕ → Bool
 is_comma token = bytes_eq token (codes ",")
 
@@ -80,13 +85,14 @@ abbrev pub SpellsArguments : List (List ℕ) → List Argument → Type 0
 SpellsArguments tokens [] = tokens ≡ []
 SpellsArguments tokens (a ∷ more) = AllZip SpellsArgument (slice_split is_comma tokens) (a ∷ more)
 
--- ---- kinds
+-- ---- kinds: a form is the kinds of its arguments
 
 pub data Kind : Type 0 where
   a_register : Kind
   a_number : Kind
   a_memory : Kind
 
+-- a number is of one kind, however its sign is written
 abbrev pub kind_of : Argument → Kind
 kind_of (register r) = a_register
 kind_of (number z) = a_number

@@ -18,7 +18,7 @@ fn register(argument: Spelled) -> Result<Reg, LineCause>
 {
     match argument {
         Spelled::Register(register) => Ok(register),
-        Spelled::Count(_) => Err(LineCause::Shape),
+        Spelled::Literal(_) => Err(LineCause::Shape),
         Spelled::Memory(_, _) => Err(LineCause::Shape),
     }
 }
@@ -28,7 +28,7 @@ fn imm(argument: Spelled) -> Result<i32, LineCause>
 {
     match argument {
         Spelled::Register(_) => Err(LineCause::Shape),
-        Spelled::Count(number) => match number.as_i32() {
+        Spelled::Literal(number) => match number.as_i32() {
             Some(imm) => Ok(imm),
             None => Err(LineCause::Range),
         },
@@ -41,7 +41,7 @@ fn offset(argument: Spelled) -> Result<i16, LineCause>
 {
     match argument {
         Spelled::Register(_) => Err(LineCause::Shape),
-        Spelled::Count(number) => match number.as_i16() {
+        Spelled::Literal(number) => match number.as_i16() {
             Some(offset) => Ok(offset),
             None => Err(LineCause::Range),
         },
@@ -54,7 +54,7 @@ fn wide_number(argument: Spelled) -> Result<u64, LineCause>
 {
     match argument {
         Spelled::Register(_) => Err(LineCause::Shape),
-        Spelled::Count(number) => match number.as_u64() {
+        Spelled::Literal(number) => match number.as_u64() {
             Some(number) => Ok(number),
             None => Err(LineCause::Range),
         },
@@ -67,7 +67,7 @@ fn operand(argument: Spelled) -> Result<Operand, LineCause>
 {
     match argument {
         Spelled::Register(register) => Ok(Operand::Reg(register)),
-        Spelled::Count(number) => match number.as_i32() {
+        Spelled::Literal(number) => match number.as_i32() {
             Some(imm) => Ok(Operand::Imm(imm)),
             None => Err(LineCause::Range),
         },
@@ -80,7 +80,7 @@ fn address(argument: Spelled) -> Result<Address, LineCause>
 {
     match argument {
         Spelled::Register(_) => Err(LineCause::Shape),
-        Spelled::Count(_) => Err(LineCause::Shape),
+        Spelled::Literal(_) => Err(LineCause::Shape),
         Spelled::Memory(base, number) => match number.as_i16() {
             Some(offset) => Ok((base, offset)),
             None => Err(LineCause::Range),
@@ -110,6 +110,9 @@ where
         Err(cause) => Err(cause),
     }
 }
+
+// Readers of the arguments of one form. Shape where their number or their kinds are others; else Range where a number
+// isn't in the range of its field.
 
 pub(crate) fn only_register(arguments: &[Spelled]) -> Result<Reg, LineCause>
     ensures { (spelled : List Argument) → AllZip IsArgument arguments.now spelled → ReadsForm (last register_field) spelled result }

@@ -9,8 +9,8 @@ use Rattle.bpf_text.proofs.form.offset.Goals as goal
 
 pub returns-in-Some : goal.returns-in-Some
 returns-in-Some c =
-    rw (c.in-Count.is, to_z-of_z w16 c.in-Some.offset c.in-Some.ensures.fits)
-    (count_some offset_field c.in-Some.offset c.in-Count.number c.in-Some.offset c.in-Some.ensures.fits refl c.in-Some.ensures.cases)
+    rw (c.in-Literal.is, to_z-of_z w16 c.in-Some.offset c.in-Some.ensures.fits)
+    (count_some offset_field c.in-Some.offset c.in-Literal.number c.in-Some.offset c.in-Some.ensures.fits refl c.in-Some.ensures.cases)
 
 pub returns-in-None : goal.returns-in-None
-returns-in-None c = rw c.in-Count.is (count_none offset_field (FitsSigned w16) c.in-Count.number c.in-None.ensures.cases (pos 0) refl (number_fits w16))
+returns-in-None c = rw c.in-Literal.is (count_none offset_field (FitsSigned w16) c.in-Literal.number c.in-None.ensures.cases (pos 0) refl (number_fits w16))

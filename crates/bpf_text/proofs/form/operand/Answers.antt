@@ -9,8 +9,8 @@ use Rattle.bpf_text.proofs.form.operand.Goals as goal
 
 pub returns-in-Some : goal.returns-in-Some
 returns-in-Some c =
-    rw c.in-Count.is
-    (operand_some c.in-Count.number (to_z w32 (of_z w32 c.in-Some.imm)) c.in-Some.imm c.in-Some.ensures.fits (to_z-of_z w32 c.in-Some.imm c.in-Some.ensures.fits) c.in-Some.ensures.cases)
+    rw c.in-Literal.is
+    (operand_some c.in-Literal.number (to_z w32 (of_z w32 c.in-Some.imm)) c.in-Some.imm c.in-Some.ensures.fits (to_z-of_z w32 c.in-Some.imm c.in-Some.ensures.fits) c.in-Some.ensures.cases)
 
 pub returns-in-None : goal.returns-in-None
-returns-in-None c = rw c.in-Count.is (count_none operand_field (FitsSigned w32) c.in-Count.number c.in-None.ensures.cases (Imm (pos 0)) refl operand_fits)
+returns-in-None c = rw c.in-Literal.is (count_none operand_field (FitsSigned w32) c.in-Literal.number c.in-None.ensures.cases (Imm (pos 0)) refl operand_fits)
