@@ -1,18 +1,17 @@
 -- What reading one field answers.
-use Rattle.std.proofs.Common.{◌≡◌, ◌≢◌, ◌^◌, ◌<◌, ◌≤◌, ℕ, ℤ, pos, List, [], ◌∷◌, map, refl, sym, ap, ◌∙◌, subst, Result, Ok, Err, FitsSigned}
+use Rattle.std.proofs.Common.{◌≡◌, ◌≢◌, ◌^◌, ◌<◌, ℕ, ℤ, pos, refl, sym, ap, ◌∙◌, subst, Ok, Err, FitsSigned}
 use Rattle.std.specs.Int.{Width, w16, w32}
 use Rattle.bpf_insn.specs.declared.insn.Reg.{Reg as Register}
 use Rattle.bpf_insn.specs.declared.insn.Operand.{Operand}
 use Rattle.bpf_insn.specs.declared.insn.Operand.TheVariants.{Imm, Reg}
-use Rattle.bpf_insn.specs.Table.{IsOffset, IsOperand}
+use Rattle.bpf_insn.specs.Table.{IsOperand}
 use Rattle.bpf_text.specs.declared.number.Number.{Number}
 use Rattle.bpf_text.specs.declared.spelled.Spelled.TheVariants.{Literal, Memory}
-use Rattle.bpf_text.specs.declared.fault.LineCause.{LineCause}
-use Rattle.bpf_text.specs.declared.fault.LineCause.TheVariants.{Char, Word, Shape, Range}
-use Rattle.bpf_text.specs.Arguments.{Argument, register, number, signed, memory, kind_of, Kind, a_register, a_number, a_memory}
+use Rattle.bpf_text.specs.declared.fault.LineCause.TheVariants.{Range}
+use Rattle.bpf_text.specs.Arguments.{Argument, register, number, signed, memory, kind_of, a_number}
 use Rattle.bpf_text.specs.Table.{operand_argument}
 use Rattle.bpf_text.specs.Numbers.{IsNumber, IsArgument}
-use Rattle.bpf_text.specs.Forms.{plain, Field, address_field, operand_field, wide_number_field, ReadsField}
+use Rattle.bpf_text.specs.Forms.{Field, address_field, operand_field, wide_number_field, ReadsField}
 
 -- a number that the field holds
 pub count_some : {X : Type 0} (field : Field X) (x : X) (n : Number) (v : ℤ) → field.valid x → field.written x ≡ number v → ((z : ℤ) → IsNumber n z → v ≡ z)

@@ -1,5 +1,5 @@
 -- What reading several fields answers, and what instruction they make.
-use Rattle.std.proofs.Common.{◌≡◌, ◌≢◌, ℕ, suc, ◌+◌, ◌<◌, ◌≤◌, List, [], ◌∷◌, map, length, get_or, refl, sym, ap, ◌∙◌, subst, Result, Ok, Err, IsErrAnd, arith}
+use Rattle.std.proofs.Common.{◌≡◌, ◌≢◌, ℕ, suc, ◌<◌, List, [], ◌∷◌, map, length, get_or, refl, sym, ap, ◌∙◌, subst, Result, Ok, Err, IsErrAnd, arith}
 use Rattle.std.proofs.lemmas.List.{length-map}
 use Rattle.std.specs.List.{AllZip}
 use Rattle.bpf_insn.specs.declared.insn.Insn.{Insn}
@@ -10,7 +10,7 @@ use Rattle.bpf_text.specs.declared.fault.LineCause.TheVariants.{Char, Word, Shap
 use Rattle.bpf_text.specs.declared.mnemonic.Mnemonic.{Mnemonic}
 use Rattle.bpf_text.specs.declared.mnemonic.Mnemonic.TheVariants.{Exit}
 use Rattle.bpf_text.specs.declared.spelled.Spelled.{Spelled}
-use Rattle.bpf_text.specs.Arguments.{Argument, register, number, signed, memory, Kind, kind_of}
+use Rattle.bpf_text.specs.Arguments.{Argument, register, number, signed, memory, kind_of}
 use Rattle.bpf_text.specs.Table.{arguments_of}
 use Rattle.bpf_text.specs.Mnemonics.{mnemonic_of}
 use Rattle.bpf_text.specs.Numbers.{IsArgument}

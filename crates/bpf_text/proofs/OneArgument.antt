@@ -1,12 +1,12 @@
 -- Tokens spell one argument, up to how its sign is written.
-use Rattle.std.proofs.Common.{◌≡◌, ◌≢◌, ℕ, ◌+◌, ◌<◌, ◌≤◌, ℤ, pos, neg_ℤ, List, [], ◌∷◌, ◌++◌, ◌⊎◌, inl, inr, length, drop, refl, sym, ap, ◌∙◌, subst, arith, codes, map}
+use Rattle.std.proofs.Common.{◌≡◌, ℕ, ◌<◌, ◌≤◌, ℤ, pos, neg_ℤ, List, [], ◌∷◌, ◌++◌, ◌⊎◌, inl, inr, drop, refl, sym, ap, ◌∙◌, subst, arith, codes, map}
 use Rattle.std.specs.List.{AllZip, slice_split}
 use Rattle.std.specs.Fmt.{decimal}
 use Rattle.std.specs.Str.Parse.{IsNumeral, digits_value}
 use Rattle.std.proofs.Math.Bridge.{le_prop}
 use Rattle.std.proofs.lemmas.Fmt.{decimal_is_IsNumeral}
 use Rattle.bpf_insn.specs.declared.insn.Reg.{Reg}
-use Rattle.bpf_text.specs.Arguments.{Argument, register, number, signed, memory, register_text, SpellsMagnitude, SpellsSigned, SpellsNumber, SpellsRegister, SpellsMemory, SpellsArgument, SpellsArguments, is_comma}
+use Rattle.bpf_text.specs.Arguments.{Argument, register, number, signed, memory, SpellsMagnitude, SpellsSigned, SpellsNumber, SpellsRegister, SpellsMemory, SpellsArgument, SpellsArguments, is_comma}
 use Rattle.bpf_text.specs.Forms.{plain}
 use Rattle.bpf_text.proofs.NumberLemmas.{one_magnitude}
 

@@ -1,7 +1,5 @@
 -- From a mnemonic and arguments to what the tokens list.
-use Rattle.std.proofs.Common.{◌≡◌, ◌≢◌, ℕ, ℤ, pos, List, [], ◌∷◌, ◌++◌, map, refl, sym, ap, ◌∙◌, subst, Result, Ok, Err, ◌+◌, ◌-◌, ◌<◌, ◌≤◌, Bool, true, false, eqb, length, get_or, take, drop, take_all, arith}
-use Rattle.std.specs.Borrow.{Bor}
-use Rattle.std.proofs.lemmas.Bool.Decides.{nat_tests}
+use Rattle.std.proofs.Common.{◌≡◌, ◌≢◌, ℕ, pos, List, [], ◌∷◌, map, refl, sym, ap, ◌∙◌, subst, Result, Ok, Err, ◌<◌, ◌≤◌, false, length, arith}
 use Rattle.bpf_text.specs.Tokens.{code_of, is_stray, StartsWithToken, AreTokens}
 use Rattle.std.specs.List.{AllZip, slice_split, list_any}
 use Rattle.bpf_insn.specs.declared.insn.Reg.{Reg}
@@ -9,17 +7,16 @@ use Rattle.bpf_insn.specs.declared.insn.Insn.{Insn}
 use Rattle.bpf_insn.specs.declared.insn.Insn.TheVariants as insn
 use Rattle.bpf_insn.specs.declared.insn.Operand.TheVariants.{Imm}
 use Rattle.bpf_insn.specs.declared.insn.WideOf.TheVariants as of
-use Rattle.bpf_insn.specs.Table.{IsInsn}
 use Rattle.bpf_text.specs.declared.fault.LineCause.{LineCause}
 use Rattle.bpf_text.specs.declared.fault.LineCause.TheVariants.{Char, Word, Shape, Range}
 use Rattle.bpf_text.specs.declared.mnemonic.WideKind.TheVariants as kind
 use Rattle.bpf_text.specs.declared.mnemonic.Mnemonic.{Mnemonic}
 use Rattle.bpf_text.specs.declared.mnemonic.Mnemonic.TheVariants.{Alu, Movsx, Neg, Swap, Jump, JumpLong, Branch, CallHelper, CallLocal, CallBtf, Exit, Load, LoadSigned, StoreImm, StoreReg, Atomic, Wide, PacketAbs, PacketInd}
-use Rattle.bpf_text.specs.Arguments.{Argument, register, number, signed, memory, Kind, kind_of, SpellsArgument, SpellsArguments, SpellsNumber, SpellsMemory, is_comma}
+use Rattle.bpf_text.specs.Arguments.{Argument, register, number, signed, memory, kind_of, SpellsArgument, SpellsArguments, is_comma}
 use Rattle.bpf_text.specs.Table.{word_of, arguments_of}
 use Rattle.bpf_text.specs.Mnemonics.{mnemonic_of, word_of_mnemonic}
 use Rattle.bpf_text.specs.Forms.{plain, ReadsInsn}
-use Rattle.bpf_text.specs.Listing.{IsWord, IsForm, IsTokenForm, ListsInsn, IsCause}
+use Rattle.bpf_text.specs.Listing.{IsWord, IsForm, ListsInsn, IsCause}
 use Rattle.bpf_text.specs.Reading.{ReadsTokens}
 use Rattle.bpf_text.proofs.Bounds.{tokens_bound, form_bound}
 use Rattle.bpf_text.proofs.TokensExist.{tokens_exist}

@@ -1,8 +1,8 @@
 -- Bytes without stray ones have tokens.
-use Rattle.std.proofs.Common.{◌≡◌, ◌≢◌, ℕ, zero, suc, ◌+◌, ◌<◌, ◌≤◌, Bool, true, false, List, [], ◌∷◌, ◌++◌, ◌⊎◌, inl, inr, length, take, drop, refl, sym, ap, ◌∙◌, subst, arith, append_assoc}
+use Rattle.std.proofs.Common.{◌≡◌, ℕ, zero, suc, ◌+◌, ◌<◌, ◌≤◌, false, List, [], ◌∷◌, ◌++◌, ◌⊎◌, inl, inr, length, take, drop, refl, sym, ap, ◌∙◌, subst, arith, append_assoc}
 use Rattle.std.specs.List.{list_any, prefix_len}
 use Rattle.std.proofs.lemmas.Bool.{cases_lt}
-use Rattle.std.proofs.lemmas.List.{length-drop, length-append}
+use Rattle.std.proofs.lemmas.List.{length-append}
 use Rattle.bpf_text.specs.Tokens.{is_blank, is_word_byte, is_stray, StartsWithToken, AreTokens}
 use Rattle.bpf_text.proofs.TokenLemmas.{all_blank, word_starts, symbol_starts, none_stray_behind, shorter_behind}
 use Rattle.bpf_text.proofs.OneReading.{one_start, none_or_some}

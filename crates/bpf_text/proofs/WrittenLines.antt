@@ -1,7 +1,7 @@
 -- The lines of a list list it.
-use Rattle.std.proofs.Common.{◌≡◌, ℕ, zero, suc, ◌+◌, ◌^◌, ◌<◌, ◌≤◌, ℤ, pos, negsuc, Bool, true, false, List, [], ◌∷◌, ◌++◌, ◌⊎◌, inl, inr, length, get_or, map, take, take_all, refl, sym, ap, ◌∙◌, subst, arith, append_assoc, append-nil, codes, FitsSigned}
+use Rattle.std.proofs.Common.{◌≡◌, ℕ, suc, ◌+◌, ◌<◌, ◌≤◌, ℤ, pos, negsuc, Bool, true, false, List, [], ◌∷◌, ◌++◌, ◌⊎◌, inl, inr, length, get_or, take, take_all, refl, sym, ap, ◌∙◌, subst, arith, append_assoc, append-nil, codes, FitsSigned}
 use Rattle.std.specs.Int.{w16, w32}
-use Rattle.std.specs.List.{AllZip, All, list_any, list_all, flat_map, slice_split, position_or_len, before_first}
+use Rattle.std.specs.List.{AllZip, All, list_any, flat_map, position_or_len}
 use Rattle.std.proofs.lemmas.Int.{ints}
 use Rattle.std.proofs.lemmas.Bool.{cases_lt, false≢true}
 use Rattle.std.proofs.lemmas.Bool.Decides.{nat_tests}
@@ -17,7 +17,7 @@ use Rattle.bpf_insn.specs.declared.insn.Insn.TheVariants.{Alu, Movsx, Neg, Swap,
 use Rattle.bpf_insn.specs.Table.{IsInsn, IsOperand}
 use Rattle.bpf_text.specs.Table.{word_of, operand_argument, arguments_of}
 use Rattle.bpf_text.specs.Lines.{spaced, line_of, listing_of}
-use Rattle.bpf_text.specs.Tokens.{is_newline, is_comment_mark, is_stray, is_word_byte, code_of, AreTokens}
+use Rattle.bpf_text.specs.Tokens.{is_newline, is_comment_mark, is_stray, code_of, AreTokens}
 use Rattle.bpf_text.specs.Listing.{lines_of, ListsInsn, ListsLine, Lists}
 use Rattle.bpf_text.proofs.Excludes.{no_stray}
 use Rattle.bpf_text.proofs.WordTokens.{word_is_token}

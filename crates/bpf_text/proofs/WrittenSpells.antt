@@ -1,18 +1,17 @@
 -- What is written spells its arguments.
-use Rattle.std.proofs.Common.{◌≡◌, ◌≢◌, ℕ, suc, ◌+◌, ◌^◌, ◌<◌, ◌≤◌, ℤ, pos, negsuc, neg_ℤ, Bool, true, false, ◌||◌, List, [], ◌∷◌, ◌++◌, ◌⊎◌, inl, inr, length, get_or, map, refl, sym, ap, ◌∙◌, subst, arith, codes}
+use Rattle.std.proofs.Common.{◌≡◌, ◌≢◌, ℕ, suc, ◌^◌, ◌<◌, ℤ, pos, negsuc, Bool, true, false, ◌||◌, List, [], ◌∷◌, ◌++◌, inl, inr, get_or, map, refl, sym, ap, ◌∙◌, subst, arith, codes}
 use Rattle.std.specs.Fmt.{decimal}
 use Rattle.std.specs.List.{AllZip, All, list_any, slice_split}
-use Rattle.std.specs.Str.{bytes_eq}
 use Rattle.std.specs.Char.{digit_value}
-use Rattle.std.specs.Str.Parse.{IsNumeral, digits_value}
+use Rattle.std.specs.Str.Parse.{IsNumeral}
 use Rattle.std.proofs.lemmas.Bool.{false≢true}
 use Rattle.std.proofs.lemmas.Bool.Decides.{nat_tests}
 use Rattle.std.proofs.lemmas.List.Folds.{list_any_at, list_any-append}
 use Rattle.std.proofs.lemmas.List.Splits.{slice_split_none, slice_split_at}
 use Rattle.std.proofs.lemmas.Fmt.{decimal_is_IsNumeral}
 use Rattle.bpf_insn.specs.declared.insn.Reg.{Reg}
-use Rattle.bpf_text.specs.Arguments.{Argument, register, number, signed, memory, register_text, SpellsMagnitude, SpellsSigned, SpellsArgument, SpellsArguments, is_comma}
-use Rattle.bpf_text.proofs.WrittenTokens.{IsNear, numeral, register_numeral, number_tokens, signed_tokens, IsWritable, AreWritable, argument_tokens, arguments_tokens}
+use Rattle.bpf_text.specs.Arguments.{Argument, register, number, signed, memory, register_text, SpellsMagnitude, SpellsArgument, SpellsArguments, is_comma}
+use Rattle.bpf_text.proofs.WrittenTokens.{IsNear, numeral, number_tokens, signed_tokens, IsWritable, AreWritable, argument_tokens, arguments_tokens}
 
 -- ---- one argument
 

@@ -5,7 +5,7 @@ use Rattle.bpf_insn.specs.declared.insn.Operand.{Operand}
 use Rattle.bpf_insn.specs.declared.insn.Insn.{Insn}
 use Rattle.bpf_insn.specs.Table.{IsOffset, IsImm, IsOperand, IsInsn}
 use Rattle.bpf_text.specs.declared.fault.LineCause.{LineCause}
-use Rattle.bpf_text.specs.declared.fault.LineCause.TheVariants.{Char, Word, Shape, Range}
+use Rattle.bpf_text.specs.declared.fault.LineCause.TheVariants.{Shape, Range}
 use Rattle.bpf_text.specs.declared.mnemonic.Mnemonic.{Mnemonic}
 use Rattle.bpf_text.specs.Arguments.{Argument, register, number, signed, memory, kind_of}
 use Rattle.bpf_text.specs.Table.{operand_argument, arguments_of}

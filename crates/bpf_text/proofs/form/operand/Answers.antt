@@ -1,10 +1,9 @@
-use Rattle.std.proofs.Common.{◌≡◌, ℤ, pos, refl, sym, FitsSigned, to_z, of_z, rules}
-use Rattle.std.specs.Int.{w16, w32}
+use Rattle.std.proofs.Common.{pos, refl, FitsSigned, to_z, of_z}
+use Rattle.std.specs.Int.{w32}
 use Rattle.std.proofs.lemmas.Int.{to_z-of_z}
-use Rattle.bpf_insn.specs.Table.{IsOffset, IsImm, IsOperand}
 use Rattle.bpf_insn.specs.declared.insn.Operand.TheVariants.{Imm}
-use Rattle.bpf_text.specs.Forms.{imm_field, offset_field, operand_field, wide_number_field}
-use Rattle.bpf_text.proofs.FieldLemmas.{count_some, count_none, address_some, address_none, number_fits, operand_fits, operand_some, wide_some, wide_none}
+use Rattle.bpf_text.specs.Forms.{operand_field}
+use Rattle.bpf_text.proofs.FieldLemmas.{count_none, operand_fits, operand_some}
 use Rattle.bpf_text.proofs.form.operand.Goals as goal
 
 pub returns-in-Some : goal.returns-in-Some

@@ -1,4 +1,4 @@
-use Rattle.std.proofs.Common.{◌≡◌, List, [], ◌∷◌, length, refl, sym, subst, arith}
+use Rattle.std.proofs.Common.{◌≡◌, List, [], ◌∷◌, refl, sym, subst, arith}
 use Rattle.bpf_text.specs.declared.spelled.Spelled.{Spelled}
 use Rattle.bpf_text.specs.Forms.{offset_field, operand_field, register_field, last, before, both_read}
 use Rattle.bpf_text.proofs.FormLemmas.{FormReader, other_length, one_read, three_cells, more_read}

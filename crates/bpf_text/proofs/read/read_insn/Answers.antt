@@ -1,8 +1,5 @@
-use Rattle.std.proofs.Common.{◌≡◌, ℕ, List, map, sym, subst}
-use Rattle.std.specs.List.{AllZip}
-use Rattle.bpf_text.specs.Arguments.{Argument, SpellsArguments}
-use Rattle.bpf_text.specs.Numbers.{IsArgument}
-use Rattle.bpf_text.specs.Reading.{ReadsTokens}
+use Rattle.std.proofs.Common.{◌≡◌, ℕ, List, map, subst}
+use Rattle.bpf_text.specs.Arguments.{SpellsArguments}
 use Rattle.bpf_text.proofs.ArgumentsLemmas.{bytes_of}
 use Rattle.bpf_text.proofs.OneReading.{one_tokens}
 use Rattle.bpf_text.proofs.ReadingLemmas.{no_word, is_word, no_form, no_form_of_many, tokens_read}
