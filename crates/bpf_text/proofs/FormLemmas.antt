@@ -14,7 +14,7 @@ use Rattle.bpf_text.specs.Arguments.{Argument, register, number, signed, memory,
 use Rattle.bpf_text.specs.Table.{arguments_of}
 use Rattle.bpf_text.specs.Mnemonics.{mnemonic_of}
 use Rattle.bpf_text.specs.Numbers.{IsArgument}
-use Rattle.bpf_text.specs.Forms.{plain, Field, Form, last, before, ReadsField, ReadsForm, ReadsInsn, both_read}
+use Rattle.bpf_text.specs.Forms.{plain, Field, Form, last, before, ReadsField, ReadsForm, FieldIsRead, FormIsRead, ReadsInsn, both_read}
 
 pub plain_kind : (a : Argument) → kind_of a ≡ kind_of (plain a)
 plain_kind (register r) = refl
@@ -86,20 +86,13 @@ module _ {X Y : Type 0} (field : Field X) (form : Form Y) (a : Argument) (more :
   before_reads (Err Range) (Err Shape) h k = λ z e. k z.1 (more_kinds z e)
   before_reads (Err Range) (Err Range) h k = (((h.0.0, k.0.0), kinds h.0.0 k.0.0 h.0.1 k.0.1), (λ z v e. h.1 z.0 v.0 (first_plain z e)))
 
--- a reader of one argument, and of a list of them
-abbrev pub FieldReader : {X : Type 0} → Field X → Spelled → Result X LineCause → Type 0
-FieldReader field s r = (a : Argument) → IsArgument s a → ReadsField field a r
-
-abbrev pub FormReader : {X : Type 0} → Form X → List Spelled → Result X LineCause → Type 0
-FormReader form xs r = (spelled : List Argument) → AllZip IsArgument xs spelled → ReadsForm form spelled r
-
-pub one_read : {X : Type 0} (field : Field X) (s : Spelled) (r : Result X LineCause) → FieldReader field s r → FormReader (last field) (s ∷ []) r
+pub one_read : {X : Type 0} (field : Field X) (s : Spelled) (r : Result X LineCause) → FieldIsRead field s r → FormIsRead (last field) (s ∷ []) r
 one_read field s r reads [] h = absurd h
 one_read field s r reads (a ∷ []) h = last_reads field a r (reads a h.0)
 one_read field s r reads (a ∷ b ∷ more) h = absurd h.1
 
 pub more_read : {X Y : Type 0} (field : Field X) (form : Form Y) (s : Spelled) (xs : List Spelled) (r : Result X LineCause) (t : Result Y LineCause)
-    → FieldReader field s r → FormReader form xs t → FormReader (before field form) (s ∷ xs) (both_read r t)
+    → FieldIsRead field s r → FormIsRead form xs t → FormIsRead (before field form) (s ∷ xs) (both_read r t)
 more_read field form s xs r t first rest [] h = absurd h
 more_read field form s xs r t first rest (a ∷ more) h = before_reads field form a more r t (first a h.0) (rest more h.1)
 
@@ -110,7 +103,7 @@ length_zip (x ∷ xs) [] h = absurd h
 length_zip (x ∷ xs) (y ∷ ys) h = ap suc (length_zip xs ys h.1)
 
 -- another number of arguments
-pub other_length : {X : Type 0} (form : Form X) (n : ℕ) → ((x : X) → length (form.written x) ≡ n) → (xs : List Spelled) → length xs ≢ n → FormReader form xs (Err Shape)
+pub other_length : {X : Type 0} (form : Form X) (n : ℕ) → ((x : X) → length (form.written x) ≡ n) → (xs : List Spelled) → length xs ≢ n → FormIsRead form xs (Err Shape)
 other_length form n size xs other spelled h = λ x e.
     let same : length spelled ≡ length (form.written x) = sym (length-map spelled kind_of) ∙ ap length e ∙ length-map (form.written x) kind_of in
     other (sym (length_zip xs spelled h) ∙ same ∙ size x)
@@ -160,13 +153,13 @@ module _ {X : Type 0} (form : Form X) (make : X → Insn) (m : Mnemonic) (makes 
     (λ i v e s. let w = makes.only i e in h.1 w.0 (w.2 v) (s ∙ w.1)),
   )
 
-  pub made_ok : (xs : List Spelled) (r : Result X LineCause) (x : X) (i : Insn) → (form.valid x → i ≡ make x) → r ≡ Ok x → FormReader form xs r
+  pub made_ok : (xs : List Spelled) (r : Result X LineCause) (x : X) (i : Insn) → (form.valid x → i ≡ make x) → r ≡ Ok x → FormIsRead form xs r
       → (spelled : List Argument) → AllZip IsArgument xs spelled → ReadsInsn m spelled (Ok i)
   made_ok xs r x i same e reads spelled h =
       let read = rw e at (reads spelled h) in
       subst (λ (j : Insn). ReadsInsn m spelled (Ok j)) (sym (same read.0)) (insn_reads spelled (Ok x) read)
 
-  pub made_err : (xs : List Spelled) (r : Result X LineCause) (cause : LineCause) (s : Result Insn LineCause) → IsErrAnd s (λ e. e ≡ cause) → r ≡ Err cause → FormReader form xs r
+  pub made_err : (xs : List Spelled) (r : Result X LineCause) (cause : LineCause) (s : Result Insn LineCause) → IsErrAnd s (λ e. e ≡ cause) → r ≡ Err cause → FormIsRead form xs r
       → (spelled : List Argument) → AllZip IsArgument xs spelled → ReadsInsn m spelled s
   made_err xs r cause (Ok i) same e reads spelled h = absurd same
   made_err xs r cause (Err other) same e reads spelled h =

@@ -1,5 +1,6 @@
 -- What reading the fields of an instruction from its arguments answers.
 use Rattle.std.specs.Prelude.{◌≡◌, ◌≢◌, ◌^◌, ◌<◌, ℕ, ℤ, pos, List, [], ◌∷◌, map, Result, Ok, Err}
+use Rattle.std.specs.List.{AllZip}
 use Rattle.bpf_insn.specs.declared.insn.Reg.{Reg}
 use Rattle.bpf_insn.specs.declared.insn.Operand.{Operand}
 use Rattle.bpf_insn.specs.declared.insn.Insn.{Insn}
@@ -7,9 +8,11 @@ use Rattle.bpf_insn.specs.Table.{IsOffset, IsImm, IsOperand, IsInsn}
 use Rattle.bpf_text.specs.declared.fault.LineCause.{LineCause}
 use Rattle.bpf_text.specs.declared.fault.LineCause.TheVariants.{Shape, Range}
 use Rattle.bpf_text.specs.declared.mnemonic.Mnemonic.{Mnemonic}
+use Rattle.bpf_text.specs.declared.spelled.Spelled.{Spelled}
 use Rattle.bpf_text.specs.Arguments.{Argument, register, number, signed, memory, kind_of}
 use Rattle.bpf_text.specs.Table.{operand_argument, arguments_of}
 use Rattle.bpf_text.specs.Mnemonics.{mnemonic_of}
+use Rattle.bpf_text.specs.Numbers.{IsArgument}
 
 -- the argument, however its sign is written
 abbrev pub plain : Argument → Argument
@@ -75,6 +78,16 @@ ReadsInsn m spelled (Err Range) =
     ((i : Insn) × (mnemonic_of i ≡ m) × (map kind_of spelled ≡ map kind_of (arguments_of i)))
     × ((i : Insn) → IsInsn i → mnemonic_of i ≡ m → map plain spelled ≢ map plain (arguments_of i))
 ReadsInsn m spelled (Err _) = ⊥
+
+-- the answers for what was read, whichever arguments it means
+abbrev pub FieldIsRead : {X : Type 0} → Field X → Spelled → Result X LineCause → Type 0
+FieldIsRead field argument result = (a : Argument) → IsArgument argument a → ReadsField field a result
+
+abbrev pub FormIsRead : {X : Type 0} → Form X → List Spelled → Result X LineCause → Type 0
+FormIsRead form arguments result = (spelled : List Argument) → AllZip IsArgument arguments spelled → ReadsForm form spelled result
+
+abbrev pub InsnIsRead : Mnemonic → List Spelled → Result Insn LineCause → Type 0
+InsnIsRead m arguments result = (spelled : List Argument) → AllZip IsArgument arguments spelled → ReadsInsn m spelled result
 
 -- two answers as one: a wrong shape comes before a number out of range
 abbrev pub both_read : {X Y : Type 0} → Result X LineCause → Result Y LineCause → Result (X × Y) LineCause

@@ -1,10 +1,6 @@
 //! Fields of instructions, read from the arguments of a line.
 
-ghost use Rattle.std.specs.Prelude.{List};
-ghost use Rattle.std.specs.List.{AllZip};
-ghost use Rattle.bpf_text.specs.Arguments.{Argument};
-ghost use Rattle.bpf_text.specs.Numbers.{IsArgument};
-ghost use Rattle.bpf_text.specs.Forms.{register_field, imm_field, offset_field, wide_number_field, operand_field, address_field, last, before, ReadsField, ReadsForm, BothRead};
+ghost use Rattle.bpf_text.specs.Forms.{register_field, imm_field, offset_field, wide_number_field, operand_field, address_field, last, before, FieldIsRead, FormIsRead, BothRead};
 
 use crate::fault::LineCause;
 use crate::spelled::Spelled;
@@ -14,7 +10,7 @@ use bpf_insn::{Operand, Reg};
 pub(crate) type Address = (Reg, i16);
 
 fn register(argument: Spelled) -> Result<Reg, LineCause>
-    ensures { (a : Argument) → IsArgument argument a → ReadsField register_field a result }
+    ensures { FieldIsRead register_field argument result }
 {
     match argument {
         Spelled::Register(register) => Ok(register),
@@ -24,7 +20,7 @@ fn register(argument: Spelled) -> Result<Reg, LineCause>
 }
 
 fn imm(argument: Spelled) -> Result<i32, LineCause>
-    ensures { (a : Argument) → IsArgument argument a → ReadsField imm_field a result }
+    ensures { FieldIsRead imm_field argument result }
 {
     match argument {
         Spelled::Register(_) => Err(LineCause::Shape),
@@ -37,7 +33,7 @@ fn imm(argument: Spelled) -> Result<i32, LineCause>
 }
 
 fn offset(argument: Spelled) -> Result<i16, LineCause>
-    ensures { (a : Argument) → IsArgument argument a → ReadsField offset_field a result }
+    ensures { FieldIsRead offset_field argument result }
 {
     match argument {
         Spelled::Register(_) => Err(LineCause::Shape),
@@ -50,7 +46,7 @@ fn offset(argument: Spelled) -> Result<i16, LineCause>
 }
 
 fn wide_number(argument: Spelled) -> Result<u64, LineCause>
-    ensures { (a : Argument) → IsArgument argument a → ReadsField wide_number_field a result }
+    ensures { FieldIsRead wide_number_field argument result }
 {
     match argument {
         Spelled::Register(_) => Err(LineCause::Shape),
@@ -63,7 +59,7 @@ fn wide_number(argument: Spelled) -> Result<u64, LineCause>
 }
 
 fn operand(argument: Spelled) -> Result<Operand, LineCause>
-    ensures { (a : Argument) → IsArgument argument a → ReadsField operand_field a result }
+    ensures { FieldIsRead operand_field argument result }
 {
     match argument {
         Spelled::Register(register) => Ok(Operand::Reg(register)),
@@ -76,7 +72,7 @@ fn operand(argument: Spelled) -> Result<Operand, LineCause>
 }
 
 fn address(argument: Spelled) -> Result<Address, LineCause>
-    ensures { (a : Argument) → IsArgument argument a → ReadsField address_field a result }
+    ensures { FieldIsRead address_field argument result }
 {
     match argument {
         Spelled::Register(_) => Err(LineCause::Shape),
@@ -115,7 +111,7 @@ where
 // isn't in the range of its field.
 
 pub(crate) fn only_register(arguments: &[Spelled]) -> Result<Reg, LineCause>
-    ensures { (spelled : List Argument) → AllZip IsArgument arguments.now spelled → ReadsForm (last register_field) spelled result }
+    ensures { FormIsRead (last register_field) arguments.now result }
 {
     if arguments.len() != 1 {
         return Err(LineCause::Shape);
@@ -124,7 +120,7 @@ pub(crate) fn only_register(arguments: &[Spelled]) -> Result<Reg, LineCause>
 }
 
 pub(crate) fn only_imm(arguments: &[Spelled]) -> Result<i32, LineCause>
-    ensures { (spelled : List Argument) → AllZip IsArgument arguments.now spelled → ReadsForm (last imm_field) spelled result }
+    ensures { FormIsRead (last imm_field) arguments.now result }
 {
     if arguments.len() != 1 {
         return Err(LineCause::Shape);
@@ -133,7 +129,7 @@ pub(crate) fn only_imm(arguments: &[Spelled]) -> Result<i32, LineCause>
 }
 
 pub(crate) fn only_offset(arguments: &[Spelled]) -> Result<i16, LineCause>
-    ensures { (spelled : List Argument) → AllZip IsArgument arguments.now spelled → ReadsForm (last offset_field) spelled result }
+    ensures { FormIsRead (last offset_field) arguments.now result }
 {
     if arguments.len() != 1 {
         return Err(LineCause::Shape);
@@ -142,7 +138,7 @@ pub(crate) fn only_offset(arguments: &[Spelled]) -> Result<i16, LineCause>
 }
 
 pub(crate) fn two_registers(arguments: &[Spelled]) -> Result<(Reg, Reg), LineCause>
-    ensures { (spelled : List Argument) → AllZip IsArgument arguments.now spelled → ReadsForm (before register_field (last register_field)) spelled result }
+    ensures { FormIsRead (before register_field (last register_field)) arguments.now result }
 {
     if arguments.len() != 2 {
         return Err(LineCause::Shape);
@@ -151,7 +147,7 @@ pub(crate) fn two_registers(arguments: &[Spelled]) -> Result<(Reg, Reg), LineCau
 }
 
 pub(crate) fn register_and_operand(arguments: &[Spelled]) -> Result<(Reg, Operand), LineCause>
-    ensures { (spelled : List Argument) → AllZip IsArgument arguments.now spelled → ReadsForm (before register_field (last operand_field)) spelled result }
+    ensures { FormIsRead (before register_field (last operand_field)) arguments.now result }
 {
     if arguments.len() != 2 {
         return Err(LineCause::Shape);
@@ -160,7 +156,7 @@ pub(crate) fn register_and_operand(arguments: &[Spelled]) -> Result<(Reg, Operan
 }
 
 pub(crate) fn register_and_imm(arguments: &[Spelled]) -> Result<(Reg, i32), LineCause>
-    ensures { (spelled : List Argument) → AllZip IsArgument arguments.now spelled → ReadsForm (before register_field (last imm_field)) spelled result }
+    ensures { FormIsRead (before register_field (last imm_field)) arguments.now result }
 {
     if arguments.len() != 2 {
         return Err(LineCause::Shape);
@@ -169,7 +165,7 @@ pub(crate) fn register_and_imm(arguments: &[Spelled]) -> Result<(Reg, i32), Line
 }
 
 pub(crate) fn register_and_wide_number(arguments: &[Spelled]) -> Result<(Reg, u64), LineCause>
-    ensures { (spelled : List Argument) → AllZip IsArgument arguments.now spelled → ReadsForm (before register_field (last wide_number_field)) spelled result }
+    ensures { FormIsRead (before register_field (last wide_number_field)) arguments.now result }
 {
     if arguments.len() != 2 {
         return Err(LineCause::Shape);
@@ -178,7 +174,7 @@ pub(crate) fn register_and_wide_number(arguments: &[Spelled]) -> Result<(Reg, u6
 }
 
 pub(crate) fn imm_and_offset(arguments: &[Spelled]) -> Result<(i32, i16), LineCause>
-    ensures { (spelled : List Argument) → AllZip IsArgument arguments.now spelled → ReadsForm (before imm_field (last offset_field)) spelled result }
+    ensures { FormIsRead (before imm_field (last offset_field)) arguments.now result }
 {
     if arguments.len() != 2 {
         return Err(LineCause::Shape);
@@ -187,7 +183,7 @@ pub(crate) fn imm_and_offset(arguments: &[Spelled]) -> Result<(i32, i16), LineCa
 }
 
 pub(crate) fn register_and_address(arguments: &[Spelled]) -> Result<(Reg, Address), LineCause>
-    ensures { (spelled : List Argument) → AllZip IsArgument arguments.now spelled → ReadsForm (before register_field (last address_field)) spelled result }
+    ensures { FormIsRead (before register_field (last address_field)) arguments.now result }
 {
     if arguments.len() != 2 {
         return Err(LineCause::Shape);
@@ -196,7 +192,7 @@ pub(crate) fn register_and_address(arguments: &[Spelled]) -> Result<(Reg, Addres
 }
 
 pub(crate) fn address_and_imm(arguments: &[Spelled]) -> Result<(Address, i32), LineCause>
-    ensures { (spelled : List Argument) → AllZip IsArgument arguments.now spelled → ReadsForm (before address_field (last imm_field)) spelled result }
+    ensures { FormIsRead (before address_field (last imm_field)) arguments.now result }
 {
     if arguments.len() != 2 {
         return Err(LineCause::Shape);
@@ -205,7 +201,7 @@ pub(crate) fn address_and_imm(arguments: &[Spelled]) -> Result<(Address, i32), L
 }
 
 pub(crate) fn address_and_register(arguments: &[Spelled]) -> Result<(Address, Reg), LineCause>
-    ensures { (spelled : List Argument) → AllZip IsArgument arguments.now spelled → ReadsForm (before address_field (last register_field)) spelled result }
+    ensures { FormIsRead (before address_field (last register_field)) arguments.now result }
 {
     if arguments.len() != 2 {
         return Err(LineCause::Shape);
@@ -216,7 +212,7 @@ pub(crate) fn address_and_register(arguments: &[Spelled]) -> Result<(Address, Re
 pub(crate) fn register_operand_and_offset(
     arguments: &[Spelled],
 ) -> Result<(Reg, (Operand, i16)), LineCause>
-    ensures { (spelled : List Argument) → AllZip IsArgument arguments.now spelled → ReadsForm (before register_field (before operand_field (last offset_field))) spelled result }
+    ensures { FormIsRead (before register_field (before operand_field (last offset_field))) arguments.now result }
 {
     if arguments.len() != 3 {
         return Err(LineCause::Shape);
@@ -228,7 +224,7 @@ pub(crate) fn register_operand_and_offset(
 }
 
 pub(crate) fn register_and_two_imms(arguments: &[Spelled]) -> Result<(Reg, (i32, i32)), LineCause>
-    ensures { (spelled : List Argument) → AllZip IsArgument arguments.now spelled → ReadsForm (before register_field (before imm_field (last imm_field))) spelled result }
+    ensures { FormIsRead (before register_field (before imm_field (last imm_field))) arguments.now result }
 {
     if arguments.len() != 3 {
         return Err(LineCause::Shape);

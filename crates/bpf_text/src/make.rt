@@ -1,10 +1,6 @@
 //! Instructions, made of a mnemonic and arguments.
 
-ghost use Rattle.std.specs.Prelude.{List};
-ghost use Rattle.std.specs.List.{AllZip};
-ghost use Rattle.bpf_text.specs.Arguments.{Argument};
-ghost use Rattle.bpf_text.specs.Numbers.{IsArgument};
-ghost use Rattle.bpf_text.specs.Forms.{ReadsInsn};
+ghost use Rattle.bpf_text.specs.Forms.{InsnIsRead};
 ghost use Rattle.bpf_text.specs.declared.mnemonic.Mnemonic.{Mnemonic};
 ghost use Rattle.bpf_text.specs.declared.mnemonic.WideKind.{WideKind};
 
@@ -22,7 +18,7 @@ use bpf_insn::{
 
 /// The instruction of a mnemonic and arguments.
 pub(crate) fn insn_of(mnemonic: Mnemonic, arguments: &[Spelled]) -> Result<Insn, LineCause>
-    ensures { (spelled : List Argument) → AllZip IsArgument arguments.now spelled → ReadsInsn mnemonic spelled result }
+    ensures { InsnIsRead mnemonic arguments.now result }
 {
     match mnemonic {
         Mnemonic::Alu(width, op) => alu(width, op, arguments),
@@ -48,7 +44,7 @@ pub(crate) fn insn_of(mnemonic: Mnemonic, arguments: &[Spelled]) -> Result<Insn,
 }
 
 fn wide(kind: WideKind, arguments: &[Spelled]) -> Result<Insn, LineCause>
-    ensures { (spelled : List Argument) → AllZip IsArgument arguments.now spelled → ReadsInsn (Mnemonic.Wide kind) spelled result }
+    ensures { InsnIsRead (Mnemonic.Wide kind) arguments.now result }
 {
     match kind {
         WideKind::Number => wide_number(arguments),
@@ -62,7 +58,7 @@ fn wide(kind: WideKind, arguments: &[Spelled]) -> Result<Insn, LineCause>
 }
 
 fn alu(width: Width, op: AluOp, arguments: &[Spelled]) -> Result<Insn, LineCause>
-    ensures { (spelled : List Argument) → AllZip IsArgument arguments.now spelled → ReadsInsn (Mnemonic.Alu width op) spelled result }
+    ensures { InsnIsRead (Mnemonic.Alu width op) arguments.now result }
 {
     let fields = register_and_operand(arguments)?;
     Ok(Insn::Alu {
@@ -74,7 +70,7 @@ fn alu(width: Width, op: AluOp, arguments: &[Spelled]) -> Result<Insn, LineCause
 }
 
 fn movsx(form: MovsxForm, arguments: &[Spelled]) -> Result<Insn, LineCause>
-    ensures { (spelled : List Argument) → AllZip IsArgument arguments.now spelled → ReadsInsn (Mnemonic.Movsx form) spelled result }
+    ensures { InsnIsRead (Mnemonic.Movsx form) arguments.now result }
 {
     let fields = two_registers(arguments)?;
     Ok(Insn::Movsx {
@@ -85,35 +81,35 @@ fn movsx(form: MovsxForm, arguments: &[Spelled]) -> Result<Insn, LineCause>
 }
 
 fn neg(width: Width, arguments: &[Spelled]) -> Result<Insn, LineCause>
-    ensures { (spelled : List Argument) → AllZip IsArgument arguments.now spelled → ReadsInsn (Mnemonic.Neg width) spelled result }
+    ensures { InsnIsRead (Mnemonic.Neg width) arguments.now result }
 {
     let dst = only_register(arguments)?;
     Ok(Insn::Neg { width, dst })
 }
 
 fn swap(kind: SwapKind, bits: SwapBits, arguments: &[Spelled]) -> Result<Insn, LineCause>
-    ensures { (spelled : List Argument) → AllZip IsArgument arguments.now spelled → ReadsInsn (Mnemonic.Swap kind bits) spelled result }
+    ensures { InsnIsRead (Mnemonic.Swap kind bits) arguments.now result }
 {
     let dst = only_register(arguments)?;
     Ok(Insn::Swap { kind, bits, dst })
 }
 
 fn jump(arguments: &[Spelled]) -> Result<Insn, LineCause>
-    ensures { (spelled : List Argument) → AllZip IsArgument arguments.now spelled → ReadsInsn Mnemonic.Jump spelled result }
+    ensures { InsnIsRead Mnemonic.Jump arguments.now result }
 {
     let off = only_offset(arguments)?;
     Ok(Insn::Jump { off })
 }
 
 fn jump_long(arguments: &[Spelled]) -> Result<Insn, LineCause>
-    ensures { (spelled : List Argument) → AllZip IsArgument arguments.now spelled → ReadsInsn Mnemonic.JumpLong spelled result }
+    ensures { InsnIsRead Mnemonic.JumpLong arguments.now result }
 {
     let imm = only_imm(arguments)?;
     Ok(Insn::JumpLong { imm })
 }
 
 fn branch(width: Width, op: BranchOp, arguments: &[Spelled]) -> Result<Insn, LineCause>
-    ensures { (spelled : List Argument) → AllZip IsArgument arguments.now spelled → ReadsInsn (Mnemonic.Branch width op) spelled result }
+    ensures { InsnIsRead (Mnemonic.Branch width op) arguments.now result }
 {
     let fields = register_operand_and_offset(arguments)?;
     Ok(Insn::Branch {
@@ -126,21 +122,21 @@ fn branch(width: Width, op: BranchOp, arguments: &[Spelled]) -> Result<Insn, Lin
 }
 
 fn call_helper(arguments: &[Spelled]) -> Result<Insn, LineCause>
-    ensures { (spelled : List Argument) → AllZip IsArgument arguments.now spelled → ReadsInsn Mnemonic.CallHelper spelled result }
+    ensures { InsnIsRead Mnemonic.CallHelper arguments.now result }
 {
     let id = only_imm(arguments)?;
     Ok(Insn::CallHelper { id })
 }
 
 fn call_local(arguments: &[Spelled]) -> Result<Insn, LineCause>
-    ensures { (spelled : List Argument) → AllZip IsArgument arguments.now spelled → ReadsInsn Mnemonic.CallLocal spelled result }
+    ensures { InsnIsRead Mnemonic.CallLocal arguments.now result }
 {
     let imm = only_imm(arguments)?;
     Ok(Insn::CallLocal { imm })
 }
 
 fn call_btf(arguments: &[Spelled]) -> Result<Insn, LineCause>
-    ensures { (spelled : List Argument) → AllZip IsArgument arguments.now spelled → ReadsInsn Mnemonic.CallBtf spelled result }
+    ensures { InsnIsRead Mnemonic.CallBtf arguments.now result }
 {
     let fields = imm_and_offset(arguments)?;
     Ok(Insn::CallBtf {
@@ -150,7 +146,7 @@ fn call_btf(arguments: &[Spelled]) -> Result<Insn, LineCause>
 }
 
 fn load(size: Size, arguments: &[Spelled]) -> Result<Insn, LineCause>
-    ensures { (spelled : List Argument) → AllZip IsArgument arguments.now spelled → ReadsInsn (Mnemonic.Load size) spelled result }
+    ensures { InsnIsRead (Mnemonic.Load size) arguments.now result }
 {
     let fields = register_and_address(arguments)?;
     Ok(Insn::Load {
@@ -162,7 +158,7 @@ fn load(size: Size, arguments: &[Spelled]) -> Result<Insn, LineCause>
 }
 
 fn load_signed(size: SmallSize, arguments: &[Spelled]) -> Result<Insn, LineCause>
-    ensures { (spelled : List Argument) → AllZip IsArgument arguments.now spelled → ReadsInsn (Mnemonic.LoadSigned size) spelled result }
+    ensures { InsnIsRead (Mnemonic.LoadSigned size) arguments.now result }
 {
     let fields = register_and_address(arguments)?;
     Ok(Insn::LoadSigned {
@@ -174,7 +170,7 @@ fn load_signed(size: SmallSize, arguments: &[Spelled]) -> Result<Insn, LineCause
 }
 
 fn store_imm(size: Size, arguments: &[Spelled]) -> Result<Insn, LineCause>
-    ensures { (spelled : List Argument) → AllZip IsArgument arguments.now spelled → ReadsInsn (Mnemonic.StoreImm size) spelled result }
+    ensures { InsnIsRead (Mnemonic.StoreImm size) arguments.now result }
 {
     let fields = address_and_imm(arguments)?;
     Ok(Insn::StoreImm {
@@ -186,7 +182,7 @@ fn store_imm(size: Size, arguments: &[Spelled]) -> Result<Insn, LineCause>
 }
 
 fn store_register(size: Size, arguments: &[Spelled]) -> Result<Insn, LineCause>
-    ensures { (spelled : List Argument) → AllZip IsArgument arguments.now spelled → ReadsInsn (Mnemonic.StoreReg size) spelled result }
+    ensures { InsnIsRead (Mnemonic.StoreReg size) arguments.now result }
 {
     let fields = address_and_register(arguments)?;
     Ok(Insn::StoreReg {
@@ -198,7 +194,7 @@ fn store_register(size: Size, arguments: &[Spelled]) -> Result<Insn, LineCause>
 }
 
 fn atomic(width: Width, op: AtomicOp, arguments: &[Spelled]) -> Result<Insn, LineCause>
-    ensures { (spelled : List Argument) → AllZip IsArgument arguments.now spelled → ReadsInsn (Mnemonic.Atomic width op) spelled result }
+    ensures { InsnIsRead (Mnemonic.Atomic width op) arguments.now result }
 {
     let fields = address_and_register(arguments)?;
     Ok(Insn::Atomic {
@@ -211,7 +207,7 @@ fn atomic(width: Width, op: AtomicOp, arguments: &[Spelled]) -> Result<Insn, Lin
 }
 
 fn wide_number(arguments: &[Spelled]) -> Result<Insn, LineCause>
-    ensures { (spelled : List Argument) → AllZip IsArgument arguments.now spelled → ReadsInsn (Mnemonic.Wide WideKind.Number) spelled result }
+    ensures { InsnIsRead (Mnemonic.Wide WideKind.Number) arguments.now result }
 {
     let fields = register_and_wide_number(arguments)?;
     Ok(Insn::Wide {
@@ -221,7 +217,7 @@ fn wide_number(arguments: &[Spelled]) -> Result<Insn, LineCause>
 }
 
 fn map_fd(arguments: &[Spelled]) -> Result<Insn, LineCause>
-    ensures { (spelled : List Argument) → AllZip IsArgument arguments.now spelled → ReadsInsn (Mnemonic.Wide WideKind.MapFd) spelled result }
+    ensures { InsnIsRead (Mnemonic.Wide WideKind.MapFd) arguments.now result }
 {
     let fields = register_and_imm(arguments)?;
     Ok(Insn::Wide {
@@ -231,7 +227,7 @@ fn map_fd(arguments: &[Spelled]) -> Result<Insn, LineCause>
 }
 
 fn map_value_fd(arguments: &[Spelled]) -> Result<Insn, LineCause>
-    ensures { (spelled : List Argument) → AllZip IsArgument arguments.now spelled → ReadsInsn (Mnemonic.Wide WideKind.MapValueFd) spelled result }
+    ensures { InsnIsRead (Mnemonic.Wide WideKind.MapValueFd) arguments.now result }
 {
     let fields = register_and_two_imms(arguments)?;
     Ok(Insn::Wide {
@@ -241,7 +237,7 @@ fn map_value_fd(arguments: &[Spelled]) -> Result<Insn, LineCause>
 }
 
 fn var_addr(arguments: &[Spelled]) -> Result<Insn, LineCause>
-    ensures { (spelled : List Argument) → AllZip IsArgument arguments.now spelled → ReadsInsn (Mnemonic.Wide WideKind.VarAddr) spelled result }
+    ensures { InsnIsRead (Mnemonic.Wide WideKind.VarAddr) arguments.now result }
 {
     let fields = register_and_two_imms(arguments)?;
     Ok(Insn::Wide {
@@ -251,7 +247,7 @@ fn var_addr(arguments: &[Spelled]) -> Result<Insn, LineCause>
 }
 
 fn code_addr(arguments: &[Spelled]) -> Result<Insn, LineCause>
-    ensures { (spelled : List Argument) → AllZip IsArgument arguments.now spelled → ReadsInsn (Mnemonic.Wide WideKind.CodeAddr) spelled result }
+    ensures { InsnIsRead (Mnemonic.Wide WideKind.CodeAddr) arguments.now result }
 {
     let fields = register_and_imm(arguments)?;
     Ok(Insn::Wide {
@@ -261,7 +257,7 @@ fn code_addr(arguments: &[Spelled]) -> Result<Insn, LineCause>
 }
 
 fn map_idx(arguments: &[Spelled]) -> Result<Insn, LineCause>
-    ensures { (spelled : List Argument) → AllZip IsArgument arguments.now spelled → ReadsInsn (Mnemonic.Wide WideKind.MapIdx) spelled result }
+    ensures { InsnIsRead (Mnemonic.Wide WideKind.MapIdx) arguments.now result }
 {
     let fields = register_and_imm(arguments)?;
     Ok(Insn::Wide {
@@ -271,7 +267,7 @@ fn map_idx(arguments: &[Spelled]) -> Result<Insn, LineCause>
 }
 
 fn map_value_idx(arguments: &[Spelled]) -> Result<Insn, LineCause>
-    ensures { (spelled : List Argument) → AllZip IsArgument arguments.now spelled → ReadsInsn (Mnemonic.Wide WideKind.MapValueIdx) spelled result }
+    ensures { InsnIsRead (Mnemonic.Wide WideKind.MapValueIdx) arguments.now result }
 {
     let fields = register_and_two_imms(arguments)?;
     Ok(Insn::Wide {
@@ -281,14 +277,14 @@ fn map_value_idx(arguments: &[Spelled]) -> Result<Insn, LineCause>
 }
 
 fn packet_abs(size: SmallSize, arguments: &[Spelled]) -> Result<Insn, LineCause>
-    ensures { (spelled : List Argument) → AllZip IsArgument arguments.now spelled → ReadsInsn (Mnemonic.PacketAbs size) spelled result }
+    ensures { InsnIsRead (Mnemonic.PacketAbs size) arguments.now result }
 {
     let imm = only_imm(arguments)?;
     Ok(Insn::PacketAbs { size, imm })
 }
 
 fn packet_ind(size: SmallSize, arguments: &[Spelled]) -> Result<Insn, LineCause>
-    ensures { (spelled : List Argument) → AllZip IsArgument arguments.now spelled → ReadsInsn (Mnemonic.PacketInd size) spelled result }
+    ensures { InsnIsRead (Mnemonic.PacketInd size) arguments.now result }
 {
     let fields = register_and_imm(arguments)?;
     Ok(Insn::PacketInd {
@@ -299,7 +295,7 @@ fn packet_ind(size: SmallSize, arguments: &[Spelled]) -> Result<Insn, LineCause>
 }
 
 fn exit(arguments: &[Spelled]) -> Result<Insn, LineCause>
-    ensures { (spelled : List Argument) → AllZip IsArgument arguments.now spelled → ReadsInsn Mnemonic.Exit spelled result }
+    ensures { InsnIsRead Mnemonic.Exit arguments.now result }
 {
     if arguments.is_empty() {
         Ok(Insn::Exit)
