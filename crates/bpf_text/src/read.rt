@@ -120,7 +120,8 @@ pub fn read_listing<A: Allocator>(alloc: A, text: &[u8]) -> Result<Vec<Insn, A>,
     ensures found { IfOk result (λ insns. Lists text.now insns.items) }
 
     // What is listed is read, unless memory was refused.
-    ensures all { (l : List Insn) → Lists text.now l → MatchResult result (λ insns. insns.items ≡ l) (λ e. e ≡ ListError.Memory) }
+    ensures all { (l : List Insn) → Lists text.now l →
+        MatchResult result (λ insns. insns.items ≡ l) (λ e. e ≡ ListError.Memory) }
     ensures fault { (f : LineFault) → result ≡ Err (ListError.Fault f) → IsListFault text.now f }
 {
     read_lines(alloc, text)
