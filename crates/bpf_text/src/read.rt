@@ -1,0 +1,128 @@
+//! Listings, read.
+
+ghost use Rattle.std.specs.Prelude.{◌≡◌, ℕ, ◌+◌, ◌<◌, ◌≤◌, ◌++◌, List, length, false, Err, IfOk, OnOk, MatchResult};
+ghost use Rattle.std.specs.Option.{option_to_list};
+ghost use Rattle.std.specs.List.{AllZip, list_any, position_or_len};
+ghost use Rattle.bpf_insn.specs.declared.insn.Insn.{Insn};
+ghost use Rattle.bpf_text.specs.Tokens.{is_newline, is_stray, AreTokens};
+ghost use Rattle.bpf_text.specs.declared.fault.LineFault.{LineFault};
+ghost use Rattle.bpf_text.specs.declared.fault.ListError.{ListError};
+ghost use Rattle.bpf_text.specs.Listing.{Lists, IsListFault, IsCause, ListsLine};
+ghost use Rattle.bpf_text.specs.Reading.{ReadsTokens, Refuses};
+
+use crate::fault::{LineCause, LineFault, ListError};
+use crate::make::insn_of;
+use crate::mnemonic::Mnemonic;
+use crate::spelled::arguments_of;
+use crate::token::{code_of, has_stray, next_token, tokens_of};
+use bpf_insn::Insn;
+use std::alloc::{AllocError, Allocator};
+
+/// The instruction that a word and what stands behind it list.
+fn read_insn(word: &[u8], behind: &[u8]) -> Result<Insn, LineCause>
+    requires { list_any is_stray behind.now ≡ false }
+    ensures { (tokens : List (List ℕ)) → AreTokens behind.now tokens → ReadsTokens word.now tokens result }
+{
+    let Some(mnemonic) = Mnemonic::read(word) else {
+        return Err(LineCause::Word);
+    };
+    let Some(tokens) = tokens_of(behind) else {
+        return Err(LineCause::Shape);
+    };
+    let Some(arguments) = arguments_of(tokens.as_slice()) else {
+        return Err(LineCause::Shape);
+    };
+    insn_of(mnemonic, arguments.as_slice())
+}
+
+fn is_newline(b: u8) -> bool
+    ensures { result ≡ is_newline b }
+{
+    b == b'\n'
+}
+
+fn line_len(bytes: &[u8]) -> usize
+    ensures value { result ≡ position_or_len is_newline bytes.now }
+    ensures within { result ≤ length bytes.now }
+{
+    for (i, b) in bytes.iter().enumerate() {
+        if is_newline(*b) {
+            return i;
+        }
+    }
+    bytes.len()
+}
+
+/// What a line lists.
+fn read_line(line: &[u8]) -> Result<Option<Insn>, LineCause>
+    ensures { MatchResult result (λ found. ListsLine line.now (option_to_list found)) (IsCause line.now) }
+{
+    let code = code_of(line);
+    if has_stray(code) {
+        return Err(LineCause::Char);
+    }
+    match next_token(code) {
+        None => Ok(None),
+        Some(parts) => match read_insn(parts.0, parts.1) {
+            Ok(insn) => Ok(Some(insn)),
+            Err(cause) => Err(cause),
+        },
+    }
+}
+
+/// Adds what a line lists.
+fn push_found<A: Allocator>(insns: &mut Vec<Insn, A>, found: Option<Insn>) -> Result<(), AllocError>
+    ensures { OnOk result (insns.new.items ≡ insns.old.items ++ option_to_list found) }
+{
+    if let Some(insn) = found {
+        insns.push(insn)?;
+    }
+    Ok(())
+}
+
+/// The instructions that the lines list.
+fn read_lines<A: Allocator>(alloc: A, text: &[u8]) -> Result<Vec<Insn, A>, ListError>
+    ensures { MatchResult result (λ insns. Lists text.now insns.items) (Refuses text.now) }
+{
+    let mut insns = Vec::new(alloc);
+    let mut rest = text;
+    let mut number: u64 = 1;
+    'lines: loop {
+        let (line, behind) = rest.split_at(line_len(rest));
+        let found = match read_line(line) {
+            Ok(found) => found,
+            Err(cause) => {
+                return Err(ListError::Fault(LineFault {
+                    line: number,
+                    cause,
+                }));
+            }
+        };
+        if push_found(&mut insns, found).is_err() {
+            return Err(ListError::Memory);
+        }
+        if behind.is_empty() {
+            return Ok(insns);
+        }
+        rest = &behind[1..];
+        number += 1;
+    }
+}
+
+/// The instructions that a text lists, one for each line that has a word. Reading a line takes no memory; the list
+/// that is answered does.
+///
+/// # Errors
+///
+/// `Fault` with the first line that is faulty, counted from 1, and the first cause that holds of it; `Memory` where the
+/// list couldn't grow.
+pub fn read_listing<A: Allocator>(alloc: A, text: &[u8]) -> Result<Vec<Insn, A>, ListError>
+    ensures found { IfOk result (λ insns. Lists text.now insns.items) }
+
+    // What is listed is read, unless memory was refused.
+    ensures all { (l : List Insn) → Lists text.now l →
+        MatchResult result (λ insns. insns.items ≡ l) (λ e. e ≡ ListError.Memory) }
+    ensures fault { (f : LineFault) → result ≡ Err (ListError.Fault f) → IsListFault text.now f }
+{
+    read_lines(alloc, text)
+}

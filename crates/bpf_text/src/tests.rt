@@ -1,0 +1,261 @@
+//! Worked examples, refused memory and hostile texts.
+
+mod every_word;
+
+use crate::{LineCause, LineFault, ListError, listing, push_line, read_listing};
+use bpf_insn::{Insn, Order, decode_insns, insn_bytes};
+use bumpalo::Bump;
+use std::alloc::Allocator;
+use std::process::Abort;
+use std::test::Fail;
+
+fn little_endian<A: Allocator>(alloc: A, insns: &[Insn]) -> Result<Vec<u8, A>, Fail> {
+    let mut bytes = Vec::new(alloc);
+    for insn in insns {
+        let (spelling, len) = insn_bytes(Order::Little, *insn);
+        bytes.extend_from_slice(&spelling[..len])?;
+    }
+    Ok(bytes)
+}
+
+#[test]
+fn errors_show_their_names(rt: HostRuntime) -> Result<(), Fail> {
+    let fault = LineFault {
+        line: 1,
+        cause: LineCause::Char,
+    };
+    for (error, name) in [
+        (ListError::Fault(fault), "Fault"),
+        (ListError::Memory, "Memory"),
+    ] {
+        assert_eq!(rt; format!(in rt.alloc(); "{error}")?.as_str(), name);
+    }
+    Ok(())
+}
+
+#[test]
+fn lines_are_read_and_listed(rt: HostRuntime) -> Result<(), Fail> {
+    let examples: [(&[u8], &[u8], &[u8]); 16] = [
+        (b"", b"", b""),
+        (b"# none\n\n", b"", b""),
+        (b"exit", b"\x95\0\0\0\0\0\0\0", b"exit\n"),
+        (b"exit ;\xff", b"\x95\0\0\0\0\0\0\0", b"exit\n"),
+        (b"exit # \0", b"\x95\0\0\0\0\0\0\0", b"exit\n"),
+        (b"mov r1, r2", b"\xbf\x21\0\0\0\0\0\0", b"mov r1, r2\n"),
+        (
+            b"mov r0, -2",
+            b"\xb7\0\0\0\xfe\xff\xff\xff",
+            b"mov r0, -2\n",
+        ),
+        (
+            b"lddw r1, 0x1122334455667788",
+            b"\x18\x01\0\0\x88\x77\x66\x55\0\0\0\0\x44\x33\x22\x11",
+            b"lddw r1, 1234605616436508552\n",
+        ),
+        (b"sdiv r1, 3", b"\x37\x01\x01\0\x03\0\0\0", b"sdiv r1, 3\n"),
+        (
+            b"cmpxchg [r1-8], r2",
+            b"\xdb\x21\xf8\xff\xf1\0\0\0",
+            b"cmpxchg [r1-8], r2\n",
+        ),
+        (
+            b"ldxw r1, [r2]",
+            b"\x61\x21\0\0\0\0\0\0",
+            b"ldxw r1, [r2+0]\n",
+        ),
+        (b"ja 5", b"\x05\0\x05\0\0\0\0\0", b"ja +5\n"),
+        (
+            b"mov32 r3, -0x80000000",
+            b"\xb4\x03\0\0\0\0\0\x80",
+            b"mov32 r3, -2147483648\n",
+        ),
+        (
+            b"lddw r1, 0xffffffffffffffff",
+            b"\x18\x01\0\0\xff\xff\xff\xff\0\0\0\0\xff\xff\xff\xff",
+            b"lddw r1, 18446744073709551615\n",
+        ),
+        (
+            b"  mov r1 , 0x10 ; sixteen\n\n# none\nexit",
+            b"\xb7\x01\0\0\x10\0\0\0\x95\0\0\0\0\0\0\0",
+            b"mov r1, 16\nexit\n",
+        ),
+        (
+            b"\tmov\tr1,+007\r\nstb[r1+ 0x7f]  ,-1\r",
+            b"\xb7\x01\0\0\x07\0\0\0\x72\x01\x7f\0\xff\xff\xff\xff",
+            b"mov r1, 7\nstb [r1+127], -1\n",
+        ),
+    ];
+    for (text, bytes, listed) in examples {
+        let insns = read_listing(rt.alloc(), text)?;
+        assert_eq!(rt;
+            little_endian(rt.alloc(), &insns)?.as_slice(),
+            bytes,
+            "{listed:?}"
+        );
+        assert_eq!(rt;
+            listing(rt.alloc(), &insns)?.as_slice(),
+            listed,
+            "{listed:?}"
+        );
+    }
+    Ok(())
+}
+
+#[test]
+fn every_word_is_read_and_listed(rt: HostRuntime) -> Result<(), Fail> {
+    let insns = read_listing(rt.alloc(), every_word::LINES)?;
+    assert_eq!(rt; insns.len(), 120);
+    assert_eq!(rt;
+        little_endian(rt.alloc(), &insns)?.as_slice(),
+        every_word::BYTES
+    );
+    assert_eq!(rt; listing(rt.alloc(), &insns)?.as_slice(), every_word::LINES);
+    Ok(())
+}
+
+#[test]
+fn bytes_are_listed(rt: HostRuntime) -> Result<(), Fail> {
+    let bytes = b"\x37\x01\x01\0\x03\0\0\0\xdb\x21\xf8\xff\xf1\0\0\0\x95\0\0\0\0\0\0\0";
+    let insns = decode_insns(rt.alloc(), Order::Little, bytes)?;
+    let mut text = Vec::from_slice(rt.alloc(), b"; three\n")?;
+    for insn in insns {
+        push_line(&mut text, insn)?;
+    }
+    assert_eq!(rt;
+        text.as_slice(),
+        b"; three\nsdiv r1, 3\ncmpxchg [r1-8], r2\nexit\n".as_slice()
+    );
+    Ok(())
+}
+
+#[test]
+fn the_first_fault_is_told(rt: HostRuntime) {
+    let cases: [(&[u8], u64, LineCause); 27] = [
+        (b"Exit", 1, LineCause::Char),
+        (b"exit\nleave", 2, LineCause::Word),
+        (b"mov r1, r11", 1, LineCause::Shape),
+        (b"stb [r1+32768], 0", 1, LineCause::Range),
+        (b"lddw r1, -1", 1, LineCause::Range),
+        (b"mov r1, 2147483648", 1, LineCause::Range),
+        (
+            b"mov r1,999999999999999999999999999999999999999999999999999999999999",
+            1,
+            LineCause::Range,
+        ),
+        (b"exit r0", 1, LineCause::Shape),
+        (b"mov r1 r2", 1, LineCause::Shape),
+        (b"mov r1, 0x", 1, LineCause::Shape),
+        (b"mov r1, r01", 1, LineCause::Shape),
+        (b"ja +-5", 1, LineCause::Shape),
+        (b"leave 5", 1, LineCause::Word),
+        (b", exit", 1, LineCause::Word),
+        (b"mov r1, 99999999999 @", 1, LineCause::Char),
+        (b"@", 1, LineCause::Char),
+        (b"exit\n\n# none\nexit\nexit \0", 5, LineCause::Char),
+        (b"exit \xff", 1, LineCause::Char),
+        (b"ldxw r1, [r2 0]", 1, LineCause::Shape),
+        (b"ja 32768", 1, LineCause::Range),
+        (b"lddw r1, 0x10000000000000000", 1, LineCause::Range),
+        (b"call_btf 2147483648, r1", 1, LineCause::Shape),
+        (b"stb [r1+32768], r0", 1, LineCause::Shape),
+        (b"mov r1, 2147483648\nleave", 1, LineCause::Range),
+        (b"exit exit", 1, LineCause::Shape),
+        (b"mov r1, 1,", 1, LineCause::Shape),
+        (b"mov_r1", 1, LineCause::Word),
+    ];
+    for (text, line, cause) in cases {
+        assert_eq!(rt;
+            read_listing(rt.alloc(), text).map(|_| ()),
+            Err(ListError::Fault(LineFault { line, cause })),
+            "{text:?}"
+        );
+    }
+}
+
+#[test]
+fn long_lines_are_refused(rt: HostRuntime) -> Result<(), Fail> {
+    for (start, byte, cause) in [
+        (b"exit ".as_slice(), b',', LineCause::Shape),
+        (b"mov r1, ".as_slice(), b'9', LineCause::Range),
+        (b"mov r1, 9".as_slice(), b'a', LineCause::Shape),
+        (b"exit ".as_slice(), b'\0', LineCause::Char),
+    ] {
+        let mut text = Vec::from_slice(rt.alloc(), start)?;
+        for _ in 0..8u32 << 20 {
+            text.push(byte)?;
+        }
+        assert_eq!(rt;
+            read_listing(rt.alloc(), &text).map(|_| ()),
+            Err(ListError::Fault(LineFault { line: 1, cause }))
+        );
+    }
+    Ok(())
+}
+
+// Each growth is refused in turn: an arena of one chunk, of which ever more was given away before.
+#[test]
+fn each_growth_is_refused(rt: HostRuntime) -> Result<(), Fail> {
+    let taken = [0u8; 448];
+    let text = b"exit\nlddw_map_value r1, 3, -4\nmov r1, 7\nexit\nexit\n".as_slice();
+    let insns = read_listing(rt.alloc(), text)?;
+    let mut refused = [0u32; 3];
+    let mut done = [0u32; 3];
+    for fill in 0..=448usize {
+        for call in 0..3usize {
+            let bump = Bump::new(rt.alloc());
+            bump.set_allocation_limit(Some(448));
+            if bump.try_alloc_slice_copy(&taken[..fill]).is_err() {
+                continue;
+            }
+            let is_done = match call {
+                0 => match read_listing(&bump, text) {
+                    Ok(found) => {
+                        assert!(rt; found.as_slice() == insns.as_slice());
+                        true
+                    }
+                    Err(error) => {
+                        assert_eq!(rt; error, ListError::Memory);
+                        false
+                    }
+                },
+                1 => match listing(&bump, &insns) {
+                    Ok(found) => {
+                        assert_eq!(rt; found.as_slice(), text);
+                        true
+                    }
+                    Err(_) => false,
+                },
+                _ => lines_until_refused(&rt, &bump, &insns, text)?,
+            };
+            if is_done {
+                done[call] = done[call].saturating_add(1);
+            } else {
+                refused[call] = refused[call].saturating_add(1);
+            }
+        }
+    }
+    for call in 0..3usize {
+        assert!(rt; done[call] > 0 && refused[call] > 0, "call {call}");
+    }
+    Ok(())
+}
+
+/// Appends line after line. Where memory is refused the text has whole lines alone.
+fn lines_until_refused(
+    rt: &impl Abort,
+    bump: &Bump,
+    insns: &[Insn],
+    text: &[u8],
+) -> Result<bool, Fail> {
+    let mut out = Vec::new(bump);
+    for insn in insns {
+        let before = out.len();
+        if push_line(&mut out, *insn).is_err() {
+            assert_eq!(rt; out.len(), before);
+            assert!(rt; text.starts_with(out.as_slice()));
+            return Ok(false);
+        }
+    }
+    assert_eq!(rt; out.as_slice(), text);
+    Ok(true)
+}
