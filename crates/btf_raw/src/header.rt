@@ -1,0 +1,164 @@
+//! The header, and the ends of the string section.
+
+ghost use Rattle.std.specs.Prelude.{◌≡◌, ◌+◌, ◌-◌, ◌<◌, ◌≤◌, length, take, drop, slice_index, slice_range, IfOk, IfErr, MatchResult, MatchOption, ◌≢◌, ℕ};
+ghost use Rattle.bpf_words.specs.Words.{word16_at};
+ghost use Rattle.bpf_words.specs.declared.Order.{Order as OrderValue};
+ghost use Rattle.btf_raw.specs.Header.{HeaderFault, StringFault, HasNulEnds};
+ghost use Rattle.btf_raw.specs.ReadHeader.{StartIsRight, LengthIsRight, SectionsAreRight, ReadsHeader};
+ghost use Rattle.btf_raw.specs.Cause.{LeastByCause, HasNone};
+
+use crate::cause::{BtfCause, BtfFault};
+use bpf_words::{Order, get16, get32};
+
+/// The order of a file, and where its two sections stand.
+#[derive(Clone, Copy, Debug, PartialEq, Eq)]
+pub struct Header {
+    pub order: Order,
+    pub types_pos: usize,
+    pub types_len: usize,
+    pub str_pos: usize,
+    pub str_len: usize,
+}
+
+const MAGIC: u16 = 0xeb9f;
+const TYPES_LIMIT: usize = 33_554_432;
+const STRINGS_LIMIT: usize = 16_777_216;
+
+pub(crate) fn fault(pos: usize, cause: BtfCause) -> BtfFault
+    ensures pos { result.pos ≡ pos }
+    ensures cause { result.cause ≡ cause }
+{
+    BtfFault { pos: pos as u64, cause }
+}
+
+/// Judges the ends of a string section.
+pub fn check_strings(strings: &[u8]) -> Result<(), BtfFault>
+    requires { 0 < length strings.now }
+    ensures cases { MatchResult result
+        (λ _. HasNulEnds strings.now)
+        (λ fault. LeastByCause (StringFault strings.now) fault.pos fault.cause) }
+    ensures inside { IfErr result (λ fault. fault.pos < length strings.now) }
+{
+    if strings[0] != 0 {
+        return Err(fault(0, BtfCause::FirstString));
+    }
+    let last = strings.len() - 1;
+    if strings[last] != 0 {
+        return Err(fault(last, BtfCause::LastString));
+    }
+    Ok(())
+}
+
+/// The order that the magic tells.
+fn order_of(bytes: &[u8]) -> Option<Order>
+    requires { 2 ≤ length bytes.now }
+    ensures { MatchOption result
+        ((o : OrderValue) → word16_at o bytes.now 0 ≢ 0xeb9f)
+        (λ o. word16_at o bytes.now 0 ≡ 0xeb9f) }
+{
+    if get16(Order::Little, bytes, 0) == MAGIC {
+        return Some(Order::Little);
+    }
+    if get16(Order::Big, bytes, 0) == MAGIC {
+        return Some(Order::Big);
+    }
+    None
+}
+
+/// Size, magic, version and flags.
+fn start_of(bytes: &[u8]) -> Result<Order, BtfFault>
+    ensures { MatchResult result
+        (λ o. StartIsRight bytes.now o)
+        (λ fault. LeastByCause (HeaderFault bytes.now) fault.pos fault.cause) }
+{
+    if bytes.len() < 24 {
+        return Err(fault(bytes.len(), BtfCause::ShortHeader));
+    }
+    let Some(order) = order_of(bytes) else {
+        return Err(fault(0, BtfCause::Magic));
+    };
+    if bytes[2] != 1 {
+        return Err(fault(2, BtfCause::Version));
+    }
+    if bytes[3] != 0 {
+        return Err(fault(3, BtfCause::Flags));
+    }
+    Ok(order)
+}
+
+/// The place of the first byte from 24 up to `end` that isn't 0.
+fn tail_of(bytes: &[u8], end: usize) -> Option<usize>
+    requires low { 24 ≤ end }
+    requires high { end ≤ length bytes.now }
+    ensures { MatchOption result
+        ((q : ℕ) → 24 ≤ q → q < end → slice_index bytes.now q ≡ 0)
+        (λ p. (24 ≤ p) × (p < end) × (slice_index bytes.now p ≢ 0) × ((q : ℕ) → 24 ≤ q → q < p → slice_index bytes.now q ≡ 0)) }
+{
+    for pos in 24..end {
+        if bytes[pos] != 0 {
+            return Some(pos);
+        }
+    }
+    None
+}
+
+/// The header's length, and the bytes past 24.
+fn length_of(order: Order, bytes: &[u8]) -> Result<usize, BtfFault>
+    requires { StartIsRight bytes.now order }
+    ensures { MatchResult result
+        (λ n. LengthIsRight bytes.now order n)
+        (λ fault. LeastByCause (HeaderFault bytes.now) fault.pos fault.cause) }
+{
+    let len = get32(order, bytes, 4) as usize;
+    if len < 24 || len > 4096 || len > bytes.len() {
+        return Err(fault(4, BtfCause::HeaderLength));
+    }
+    if let Some(pos) = tail_of(bytes, len) {
+        return Err(fault(pos, BtfCause::HeaderTail));
+    }
+    Ok(len)
+}
+
+/// The lengths and places of the two sections.
+fn sections_of(order: Order, bytes: &[u8], header_len: usize) -> Result<Header, BtfFault>
+    requires { LengthIsRight bytes.now order header_len }
+    ensures { MatchResult result
+        (λ h. SectionsAreRight bytes.now h × HasNone (HeaderFault bytes.now))
+        (λ fault. LeastByCause (HeaderFault bytes.now) fault.pos fault.cause) }
+{
+    let type_off = get32(order, bytes, 8) as usize;
+    let types_len = get32(order, bytes, 12) as usize;
+    let str_off = get32(order, bytes, 16) as usize;
+    let str_len = get32(order, bytes, 20) as usize;
+    if types_len > TYPES_LIMIT {
+        return Err(fault(12, BtfCause::TypeLength));
+    }
+    if str_len == 0 || str_len > STRINGS_LIMIT {
+        return Err(fault(20, BtfCause::StringLength));
+    }
+    if !(type_off == 0 && str_off == types_len) && !(str_off == 0 && type_off == str_len) {
+        return Err(fault(8, BtfCause::Sections));
+    }
+    let whole = header_len + types_len + str_len;
+    if whole != bytes.len() {
+        return Err(fault(whole.min(bytes.len()), BtfCause::FileLength));
+    }
+    Ok(Header {
+        order,
+        types_pos: header_len + type_off,
+        types_len,
+        str_pos: header_len + str_off,
+        str_len,
+    })
+}
+
+/// The numbers of a file's header.
+pub fn read_header(bytes: &[u8]) -> Result<Header, BtfFault>
+    ensures { MatchResult result
+        (λ h. ReadsHeader bytes.now h × HasNone (HeaderFault bytes.now))
+        (λ fault. LeastByCause (HeaderFault bytes.now) fault.pos fault.cause) }
+{
+    let order = start_of(bytes)?;
+    let header_len = length_of(order, bytes)?;
+    sections_of(order, bytes, header_len)
+}
