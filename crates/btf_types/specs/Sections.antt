@@ -8,6 +8,7 @@ use Rattle.btf_types.specs.Checks.{TypeFacts}
 use Rattle.btf_types.specs.FieldFaults.{frame_facts}
 use Rattle.btf_types.specs.Reading.{frame_at, frames_at}
 use Rattle.btf_types.specs.TableInvariant.{IsFramed}
+use Rattle.btf_types.specs.Texts.{TextsAre}
 
 -- the frame of the i-th record, from 0, and those of all
 abbrev pub frame_in : Section → ℕ → List ℕ
@@ -19,11 +20,12 @@ frames_in s = frames_at s.order s.types.now s.places.now
 abbrev pub facts_in : Section → List TypeFacts
 facts_in s = map frame_facts (frames_in s)
 
--- the strings have their ends, and the places are those of the frames
+-- the strings have their ends, the places are those of the frames, and the texts are judged
 pub record IsSection (s : Section) : Type 0 where
   pub ends : HasNulEnds s.strings.now
   pub few : length s.types.now ≤ 2 ^ 25
   pub framed : IsFramed s.order s.types.now s.places.now
+  pub texts : TextsAre s.strings.now s.texts.now
 
 -- a whole frame stands at this place
 pub record StandsIn (s : Section) (pos : ℕ) : Type 0 where

@@ -6,6 +6,7 @@ ghost use Rattle.btf_types.specs.Checks.{type_at};
 ghost use Rattle.btf_types.specs.Sections.{IsSection, StandsIn, FactsAre, facts_in};
 ghost use Rattle.btf_types.specs.FieldFaults.{frame_facts};
 
+use crate::texts::Texts;
 use bpf_words::{Order, get32};
 use btf_raw::info::{kind_of, vlen_of};
 use btf_raw::{FUNC, INT};
@@ -19,13 +20,14 @@ const NO_TYPE: Facts = Facts {
     bits: 0,
 };
 
-/// The two sections of a file, and the place of each record.
+/// The two sections of a file, the place of each record, and which texts are UTF-8.
 #[derive(Clone, Copy, Debug)]
 pub struct Section<'a> {
     pub order: Order,
     pub types: &'a [u8],
     pub strings: &'a [u8],
     pub places: &'a [u32],
+    pub texts: &'a Texts,
 }
 
 /// What other records ask of a type.
