@@ -353,8 +353,8 @@ judged s r j word role result is there word-is role-is tells held =
     word_judged s.strings.now (facts_in s) f r.bit_fields j is.stands.frame is.bit_fields_are (rw (← is.words_are) there) role result
     (rw (← is.kind_is) role-is) (rw (← is.kind_is) tells)
     (judged_same (HeldFault s r word role) (WordRoleFault s.strings.now (facts_in s) f r.bit_fields j role) result
-        (λ d h. rw (← is.kind_is, ← is.vlen_is, ← is.flag_is, ← is.third_is, ← word-is) h)
-        (λ d h. rw (is.kind_is, is.vlen_is, is.flag_is, is.third_is, word-is) h) held)
+    (λ d h. rw (← is.kind_is, ← is.vlen_is, ← is.flag_is, ← is.third_is, ← word-is) h)
+    (λ d h. rw (is.kind_is, is.vlen_is, is.flag_is, is.third_is, word-is) h) held)
 
 -- the numbers that a third word and a member's offset word are judged by
 pub third_judged : (types : List TypeFacts) (κ word v n t : ℕ) (result : Option BtfCause) → n ≡ length types → t ≡ (type_at types word).kind

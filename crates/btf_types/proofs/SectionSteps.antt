@@ -56,7 +56,7 @@ module _ (s : Section) (good : IsSection s) (i : ℕ) (there : i < length s.plac
       let start = good.framed.starts i there in
       let whole : length s.types.now ≡ length (section_of s.order (frames_in s)) = ap length good.framed.frames.whole in
       let room : length (section_of s.order (take i (frames_in s))) + 4 * length (frame_in s i) ≤ length (section_of s.order (frames_in s)) =
-          rw frame_is at (ends_inside s.order (frames_in s) i among) in
+      rw frame_is at (ends_inside s.order (frames_in s) i among) in
       record {
         inside = omega arith;
         frame = subst (λ (g : List ℕ). IsFrame g) frame_is (good.framed.frames.each i [] among);

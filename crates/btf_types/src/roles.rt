@@ -32,13 +32,7 @@ fn part_role(kind: u8, m: usize) -> Role
         INT => Role::IntWord,
         VAR => Role::Linkage,
         DECL_TAG => Role::Component,
-        ARRAY => {
-            if m < 2 {
-                Role::NamedType
-            } else {
-                Role::Free
-            }
-        }
+        ARRAY => { if m < 2 { Role::NamedType } else { Role::Free } }
         STRUCT | UNION => match m {
             0 => Role::ItemName,
             1 => Role::MemberType,
@@ -51,20 +45,8 @@ fn part_role(kind: u8, m: usize) -> Role
                 Role::NamedType
             }
         }
-        ENUM | ENUM64 => {
-            if m == 0 {
-                Role::ItemName
-            } else {
-                Role::Free
-            }
-        }
-        DATASEC => {
-            if m == 0 {
-                Role::NamedType
-            } else {
-                Role::Free
-            }
-        }
+        ENUM | ENUM64 => { if m == 0 { Role::ItemName } else { Role::Free } }
+        DATASEC => { if m == 0 { Role::NamedType } else { Role::Free } }
         _ => Role::Free,
     }
 }
@@ -75,11 +57,7 @@ fn part_of(kind: u8, j: usize) -> usize
     ensures { result ≡ part kind j }
 {
     let words = item_words(kind);
-    if words == 0 {
-        j - 3
-    } else {
-        (j - 3) % words
-    }
+    if words == 0 { j - 3 } else { (j - 3) % words }
 }
 
 /// What word j of a record is.

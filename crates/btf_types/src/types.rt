@@ -19,7 +19,11 @@ pub fn named_type_fault(section: &Section, kind: u8, target: u32) -> Option<BtfC
     if target > section.count() {
         return Some(BtfCause::Reference);
     }
-    if target_fits(kind, section.facts(target).kind) { None } else { Some(BtfCause::TargetKind) }
+    if target_fits(kind, section.facts(target).kind) {
+        None
+    } else {
+        Some(BtfCause::TargetKind)
+    }
 }
 
 #[tactic(auto, unfolding(crate::specs::Checks::member_int_fits))]
@@ -41,7 +45,11 @@ pub fn member_type_fault(section: &Section, bit_fields: bool, target: u32) -> Op
     if target > section.count() {
         return Some(BtfCause::Reference);
     }
-    if bit_fields && !member_int_fits(section, target) { Some(BtfCause::MemberInt) } else { None }
+    if bit_fields && !member_int_fits(section, target) {
+        Some(BtfCause::MemberInt)
+    } else {
+        None
+    }
 }
 
 #[tactic(auto, unfolding(crate::specs::Checks::component_fits))]
@@ -68,5 +76,9 @@ pub fn component_fault(section: &Section, target: u32, word: u32) -> Option<BtfC
         (spec.NoCause (ComponentFault (facts_in section.now) target word))
         (λ cause. spec.LeastCause (ComponentFault (facts_in section.now) target word) cause) }
 {
-    if word == u32::MAX || component_fits(section, target, word) { None } else { Some(BtfCause::Component) }
+    if word == u32::MAX || component_fits(section, target, word) {
+        None
+    } else {
+        Some(BtfCause::Component)
+    }
 }

@@ -11,7 +11,7 @@ returns-in-Some c =
     let s = c.args.section.now in
     rw c.record_at-this.ensures.pos
     (first_in_section s c.requires c.loop-i.i c.in-Some.word c.in-Some.cause c.loop-i-test.true c.loop-i.invariant
-        (subst (λ (p : ℕ). LeastOfRecord s.strings.now (facts_in s) (frame_at s.order s.types.now p) c.in-Some.word c.in-Some.cause) c.record_at-this.ensures.pos c.in-Some.ensures))
+    (subst (λ (p : ℕ). LeastOfRecord s.strings.now (facts_in s) (frame_at s.order s.types.now p) c.in-Some.word c.in-Some.cause) c.record_at-this.ensures.pos c.in-Some.ensures))
 
 pub loop-i-preserved : goal.loop-i-preserved
 loop-i-preserved c =

@@ -2,7 +2,7 @@ use Rattle.std.proofs.Common.{◌≡◌, ◌+◌, ◌-◌, ◌<◌, ◌≤◌, l
 use Rattle.std.specs.Prelude.{IsUtf8}
 use Rattle.std.specs.Str.{IsValidUpTo, valid_up_to}
 use Rattle.std.proofs.lemmas.List.{length-drop, take_all}
-use Rattle.btf_types.proofs.TextSteps.{step_bad}
+use Rattle.btf_types.proofs.Utf8Steps.{step_bad}
 use Rattle.btf_types.proofs.texts.first_utf8.Goals as goal
 
 pub loop-e-preserved : goal.loop-e-preserved

@@ -1,5 +1,5 @@
 use Rattle.std.proofs.Common.{◌≡◌, ◌<◌, ◌≤◌, length, arith}
-use Rattle.btf_types.proofs.TextSteps.{early_text, end_text, inner_text, through}
+use Rattle.btf_types.proofs.Utf8Steps.{early_text, end_text, inner_text, through}
 use Rattle.btf_types.proofs.texts.is_utf8_from.Goals as goal
 
 pub returns-then-o-first : goal.returns-then-o-first

@@ -1,6 +1,6 @@
 use Rattle.std.proofs.Common.{◌≡◌, ◌+◌, ◌<◌, ◌≤◌, length, subst, arith, ℕ}
 use Rattle.btf_types.specs.Texts.{AreMarks}
-use Rattle.btf_types.proofs.TextSteps.{marks_more, text_end}
+use Rattle.btf_types.proofs.Utf8Steps.{marks_more, text_end}
 use Rattle.btf_types.proofs.texts.marks_of.Goals as goal
 
 pub loop-at-preserved : goal.loop-at-preserved

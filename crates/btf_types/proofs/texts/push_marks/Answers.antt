@@ -1,5 +1,5 @@
 use Rattle.std.proofs.Common.{◌≡◌, arith}
-use Rattle.btf_types.proofs.TextSteps.{one_added}
+use Rattle.btf_types.proofs.Utf8Steps.{one_added}
 use Rattle.btf_types.proofs.texts.push_marks.Goals as goal
 
 pub loop-o-preserved : goal.loop-o-preserved

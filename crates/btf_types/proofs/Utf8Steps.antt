@@ -68,11 +68,12 @@ whole_text s at text u t = (there, back)
         let part = IsUtf8-between s at (at + length text) u (omega arith) first last in
         let size : at + length text - at ≡ length text = omega arith in
         subst (λ (x : List ℕ). IsUtf8 x) (text_is_part s at text t) (rw size at part)
+
     back : IsUtf8 text → BeginsChar (slice_index s at)
     back utf8 high = elim (cases_lt 0 (length text)) [
       | inl some ↦
           let here : get_or s at 0 ≡ get_or text 0 0 =
-              subst (λ (i : ℕ). get_or s i 0 ≡ get_or (text ++ 0 ∷ t.after) 0 0) (omega arith) (byte_of_text s at text t 0) ∙ head text some in
+          subst (λ (i : ℕ). get_or s i 0 ≡ get_or (text ++ 0 ∷ t.after) 0 0) (omega arith) (byte_of_text s at text t 0) ∙ head text some in
           rw here ((IsCharBoundary-start text utf8).1 some (rw (← here) high))
       | inr none ↦
           let zero_here : get_or s at 0 ≡ 0 = subst (λ (i : ℕ). get_or s i 0 ≡ 0) (omega arith) (end_of_text s at text t) in
@@ -91,10 +92,13 @@ none_before xs v o bad valid low utf8 =
     let short = valid.short in
     let edge = IsCharBoundary-from_drop xs o (omega arith) utf8 in
     let size : length (take v xs) ≡ v = length-take-le v xs (omega arith) in
-    let inner : IsCharBoundary (take v xs) o = (omega arith, λ lt high.
-        let lower : o < v = omega arith in
-        let same : get_or (take v xs) o 0 ≡ get_or xs o 0 = get_or-take v xs o 0 lower in
-        rw same (edge.1 (omega arith) (rw (← same) high))) in
+    let inner : IsCharBoundary (take v xs) o = (
+      omega arith,
+      λ lt high.
+          let lower : o < v = omega arith in
+          let same : get_or (take v xs) o 0 ≡ get_or xs o 0 = get_or-take v xs o 0 lower in
+          rw same (edge.1 (omega arith) (rw (← same) high)),
+    ) in
     let front : IsUtf8 (take o (take v xs)) = IsUtf8-take (take v xs) o valid.front inner in
     let same : take o (take v xs) ≡ take o xs = take-take o v xs low in
     bad (subst (λ (x : List ℕ). IsUtf8 x) (take-append-drop o xs) (IsUtf8-append (take o xs) (drop o xs) (subst (λ (x : List ℕ). IsUtf8 x) same front) utf8))
@@ -137,6 +141,7 @@ inner_text text first o is past low = (there, back)
         let edge : IsCharBoundary (drop first text) (o - first) = (omega (arith, length-drop first text), λ lt high. rw same (begins (rw same at high))) in
         let rest = IsUtf8-drop (drop first text) (o - first) is.rest edge in
         rw (drop-drop, sum) at rest
+
     back : IsUtf8 (drop o text) → BeginsChar (slice_index text o)
     back utf8 high =
         let some : 0 < length (drop o text) = omega (arith, length-drop o text) in
@@ -186,7 +191,7 @@ marks_more s at text marks after so t adds = record {
         let sum : at + (o - at) ≡ o = omega arith in
         let past : length marks + (o - at) ≡ o = omega (arith, so.size) in
         let value : get_or after o false ≡ get_or adds.added (o - at) false =
-            rw adds.whole (subst (λ (i : ℕ). get_or (marks ++ adds.added) i false ≡ get_or adds.added (o - at) false) past (get_or-append-add marks adds.added (o - at) false)) in
+        rw adds.whole (subst (λ (i : ℕ). get_or (marks ++ adds.added) i false ≡ get_or adds.added (o - at) false) past (get_or-append-add marks adds.added (o - at) false)) in
         let tail : TextAt s o (drop (o - at) text) = subst (λ (i : ℕ). TextAt s i (drop (o - at) text)) sum (tail_text s at (o - at) text t (omega arith)) in
         let same : drop (o - at) text ≡ x = TextAt-unique s o (drop (o - at) text) x tail standing in
         rw value (subst (λ (y : List ℕ). (get_or adds.added (o - at) false ≡ true) ↔ IsUtf8 y) same (adds.right (o - at) (omega arith)))
