@@ -89,7 +89,7 @@ module _ (strings : List ℕ) (types : List TypeFacts) (frame : List ℕ) (ends 
   unfolding fixed_words
   var_room e = let long = rw e at fixed_room in omega arith
 
-  tag_room : kind frame ≡ DECL_TAG → 3 < length frame
+  pub tag_room : kind frame ≡ DECL_TAG → 3 < length frame
   unfolding fixed_words
   tag_room e = let long = rw e at fixed_room in omega arith
 
