@@ -29,7 +29,7 @@ use Rattle.btf_types.proofs.FaultlessRecords.{frame_spells, frame_good, facts_sa
 
 -- ---- what other records know of a type
 
-get_is : {X : Type 0} (xs : List X) (i : ℕ) (d : X) → i < length xs → slice_get xs i ≡ Some (get_or xs i d)
+pub get_is : {X : Type 0} (xs : List X) (i : ℕ) (d : X) → i < length xs → slice_get xs i ≡ Some (get_or xs i d)
 get_is [] i d h = absurd (omega arith)
 get_is (x ∷ xs) zero d h = refl
 get_is (x ∷ xs) (suc i) d h = get_is xs i d (omega arith)
@@ -116,7 +116,7 @@ module _ (strings : List ℕ) (frames : List (List ℕ)) (ends : HasNulEnds stri
   abbrev types : List TypeFacts
   types = map frame_facts frames
 
-  faultless : (i : ℕ) (f : List ℕ) → slice_get frames i ≡ Some f → IsFaultless strings types f
+  pub faultless : (i : ℕ) (f : List ℕ) → slice_get frames i ≡ Some f → IsFaultless strings types f
   faultless i f is j c inside fault = none _ c (record { index = i; frame = f; word = j; frame_is = is; inside = inside; fault = fault; place_is = refl })
 
   -- a FUNC among the types names a FUNC_PROTO

@@ -13,7 +13,7 @@ use Rattle.btf_types.specs.Spelling.{MemberWord, ItemSpells}
 use Rattle.btf_types.specs.Checks.{TypeFacts, is_struct, has_item_names, member_fits, member_int_fits}
 use Rattle.btf_types.specs.Good.{ItemInRange, ItemOf, item_targets, TargetIsGood, MemberIsGood}
 use Rattle.btf_types.specs.FieldFaults.{IsItemWord, IsTypeField, IsMemberWord, HasBitFields, bit_offset, width}
-use Rattle.btf_types.specs.Reading.{text_from, head_from, head_of, item_of}
+use Rattle.btf_types.specs.Reading.{text_from, head_from, head_of, item_from, item_of}
 use Rattle.btf_types.specs.RecordFaults.{IsFaultless}
 use Rattle.btf_types.proofs.KindCases.{KindIs, IsInt, IsStruct, IsUnion, IsEnum, IsFuncProto, IsDatasec, IsEnum64}
 use Rattle.btf_types.proofs.FaultlessHeads.{count_of}
@@ -58,7 +58,7 @@ narrow its_flag v w some = split (its_flag == 0) some
     split false some = omega arith
 
 -- how many items there are, where there are any
-listed : (k i vlen : ℕ) → i < count_of k vlen → i < vlen
+pub listed : (k i vlen : ℕ) → i < count_of k vlen → i < vlen
 listed k i vlen low = split (item_words k == 0) low
   where
     split : (b : Bool) → i < (if b then 0 else vlen) → i < vlen
@@ -66,7 +66,7 @@ listed k i vlen low = split (item_words k == 0) low
     split false h = h
 
 module _ (strings : List ℕ) (types : List TypeFacts) (frame : List ℕ) (ends : HasNulEnds strings) (is_frame : IsFrame frame) (none : IsFaultless strings types frame) where
-  inside : (i m : ℕ) → i < vlen frame → m < item_words (kind frame) → 3 + item_words (kind frame) * i + m < length frame
+  pub inside : (i m : ℕ) → i < vlen frame → m < item_words (kind frame) → 3 + item_words (kind frame) * i + m < length frame
   inside i m low word =
       let end = item_ends (item_words (kind frame)) i (vlen frame) m low word in
       let size = room frame is_frame in
@@ -196,7 +196,7 @@ module _ (strings : List ℕ) (types : List TypeFacts) (frame : List ℕ) (ends 
     struct_words e = rw e refl
 
     struct_item : kind frame ≡ STRUCT → (j : ℕ) → item_of strings frame j ≡ Member (text_from strings (slice_index frame j)) (slice_index frame (j + 1)) (bit_offset frame (j + 2)) (width frame (j + 2))
-    unfolding item_of
+    unfolding item_from
     struct_item e j = rw e refl
 
     struct_of : kind frame ≡ STRUCT → (name : List ℕ) → (n : List ℕ) (t o w : ℕ) → ItemOf (head_of frame name) (Member n t o w)
@@ -215,7 +215,7 @@ module _ (strings : List ℕ) (types : List TypeFacts) (frame : List ℕ) (ends 
     union_words e = rw e refl
 
     union_item : kind frame ≡ UNION → (j : ℕ) → item_of strings frame j ≡ Member (text_from strings (slice_index frame j)) (slice_index frame (j + 1)) (bit_offset frame (j + 2)) (width frame (j + 2))
-    unfolding item_of
+    unfolding item_from
     union_item e j = rw e refl
 
     union_of : kind frame ≡ UNION → (name : List ℕ) → (n : List ℕ) (t o w : ℕ) → ItemOf (head_of frame name) (Member n t o w)
@@ -234,7 +234,7 @@ module _ (strings : List ℕ) (types : List TypeFacts) (frame : List ℕ) (ends 
     enum_words e = rw e refl
 
     enum_item : kind frame ≡ ENUM → (j : ℕ) → item_of strings frame j ≡ EnumValue (text_from strings (slice_index frame j)) (slice_index frame (j + 1))
-    unfolding item_of
+    unfolding item_from
     enum_item e j = rw e refl
 
     enum_of : kind frame ≡ ENUM → (name : List ℕ) → (n : List ℕ) (v : ℕ) → ItemOf (head_of frame name) (EnumValue n v)
@@ -253,7 +253,7 @@ module _ (strings : List ℕ) (types : List TypeFacts) (frame : List ℕ) (ends 
     enum64_words e = rw e refl
 
     enum64_item : kind frame ≡ ENUM64 → (j : ℕ) → item_of strings frame j ≡ Value64 (text_from strings (slice_index frame j)) (slice_index frame (j + 1) + 2 ^ 32 * slice_index frame (j + 2))
-    unfolding item_of
+    unfolding item_from
     enum64_item e j = rw e refl
 
     enum64_of : kind frame ≡ ENUM64 → (name : List ℕ) → (n : List ℕ) (v : ℕ) → ItemOf (head_of frame name) (Value64 n v)
@@ -272,7 +272,7 @@ module _ (strings : List ℕ) (types : List TypeFacts) (frame : List ℕ) (ends 
     proto_words e = rw e refl
 
     proto_item : kind frame ≡ FUNC_PROTO → (j : ℕ) → item_of strings frame j ≡ Param (text_from strings (slice_index frame j)) (slice_index frame (j + 1))
-    unfolding item_of
+    unfolding item_from
     proto_item e j = rw e refl
 
     proto_of : kind frame ≡ FUNC_PROTO → (name : List ℕ) → (n : List ℕ) (t : ℕ) → ItemOf (head_of frame name) (Param n t)
@@ -291,7 +291,7 @@ module _ (strings : List ℕ) (types : List TypeFacts) (frame : List ℕ) (ends 
     section_words e = rw e refl
 
     section_item : kind frame ≡ DATASEC → (j : ℕ) → item_of strings frame j ≡ Entry (slice_index frame j) (slice_index frame (j + 1)) (slice_index frame (j + 2))
-    unfolding item_of
+    unfolding item_from
     section_item e j = rw e refl
 
     section_of : kind frame ≡ DATASEC → (name : List ℕ) → (t o n : ℕ) → ItemOf (head_of frame name) (Entry t o n)

@@ -15,7 +15,7 @@ use Rattle.btf_types.specs.Spelling.{kind_number, head_third, record_vlen, head_
 use Rattle.btf_types.specs.Checks.{TypeFacts, type_at, size_fits, component_fits}
 use Rattle.btf_types.specs.Good.{TargetIsGood, MemberIsGood, ItemInRange, ItemOf, item_targets, head_targets, has_bit_fields, has_width, facts_of, IsGoodRecord, record_size}
 use Rattle.btf_types.specs.FieldFaults.{HasBitFields, IsTypeField, frame_facts, width}
-use Rattle.btf_types.specs.Reading.{text_from, component_of, head_of, item_of, item_total, record_of, tabulate}
+use Rattle.btf_types.specs.Reading.{text_from, component_of, head_of, item_from, item_of, item_total, record_of, tabulate}
 use Rattle.btf_types.specs.RecordFaults.{IsFaultless}
 use Rattle.btf_types.specs.TableLaws.{StandsIn}
 use Rattle.btf_types.proofs.Lists.{length-tabulate}
@@ -59,7 +59,7 @@ some_width (suc w) h e = omega arith
 module _ (strings : List ℕ) (frame : List ℕ) (is_frame : IsFrame frame) where
   -- a record with bit-fields has them in its frame
   wide : {k : ℕ} → KindIs k → kind frame ≡ k → (i j : ℕ) → j ≡ 3 + item_words (kind frame) * i → i < vlen frame → has_width (item_of strings frame j) ≡ true → HasBitFields frame
-  unfolding item_of
+  unfolding item_from
   wide IsStruct e i j is low h = let opened = rw e at h in (j + 2, (rw e refl, i, (low, omega arith)), some_width (width frame (j + 2)) opened)
   wide IsUnion e i j is low h = let opened = rw e at h in (j + 2, (rw e refl, i, (low, omega arith)), some_width (width frame (j + 2)) opened)
   wide other e i j is low h = let opened = rw e at h in absurd cc
