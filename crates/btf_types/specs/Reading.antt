@@ -62,16 +62,19 @@ abbrev pub head_of : List ℕ → List ℕ → TypeHead
 head_of frame name =
     head_from name (kind frame) (third_word frame) (flag frame) (vlen frame) (slice_index frame 3) (slice_index frame 4) (slice_index frame 5)
 
+-- the item that these numbers tell: its name, the kind and kind_flag of its record, and its words, of which the third may not be its own
+unfoldable pub item_from : List ℕ → ℕ → ℕ → ℕ → ℕ → ℕ → TypeItem
+item_from name k flag first second third =
+    if one_of (STRUCT ∷ UNION ∷ []) k then Member name second (if flag == 0 then third else third % 2 ^ 24) (if flag == 0 then 0 else third / 2 ^ 24)
+    else if k == ENUM then EnumValue name second
+    else if k == ENUM64 then Value64 name (second + 2 ^ 32 * third)
+    else if k == FUNC_PROTO then Param name second
+    else Entry first second third
+
 -- the item whose first word is word j of the frame
-unfoldable pub item_of : List ℕ → List ℕ → ℕ → TypeItem
+abbrev pub item_of : List ℕ → List ℕ → ℕ → TypeItem
 item_of strings frame j =
-    let k = kind frame in
-    let name = text_from strings (slice_index frame j) in
-    if one_of (STRUCT ∷ UNION ∷ []) k then Member name (slice_index frame (j + 1)) (bit_offset frame (j + 2)) (width frame (j + 2))
-    else if k == ENUM then EnumValue name (slice_index frame (j + 1))
-    else if k == ENUM64 then Value64 name (slice_index frame (j + 1) + 2 ^ 32 * slice_index frame (j + 2))
-    else if k == FUNC_PROTO then Param name (slice_index frame (j + 1))
-    else Entry (slice_index frame j) (slice_index frame (j + 1)) (slice_index frame (j + 2))
+    item_from (text_from strings (slice_index frame j)) (kind frame) (flag frame) (slice_index frame j) (slice_index frame (j + 1)) (slice_index frame (j + 2))
 
 -- f 0, f 1, .. up to n of them
 abbrev pub tabulate : {X : Type 0} → (ℕ → X) → ℕ → List X

@@ -7,7 +7,7 @@ ghost use Rattle.btf_types.specs.NameFaults.{NameFault, OwnNameFault, ItemNameFa
 ghost use Rattle.btf_types.specs.Texts.{TextsAre};
 
 use crate::checks::{has_no_name, needs_name};
-use crate::texts::Texts;
+use crate::utf8::Texts;
 use btf_raw::BtfCause;
 
 /// The least cause that speaks against a text in an item's name field.

@@ -6,7 +6,7 @@ ghost use Rattle.btf_types.specs.Checks.{type_at};
 ghost use Rattle.btf_types.specs.Sections.{IsSection, StandsIn, FactsAre, facts_in};
 ghost use Rattle.btf_types.specs.FieldFaults.{frame_facts};
 
-use crate::texts::Texts;
+use crate::utf8::Texts;
 use bpf_words::{Order, get32};
 use btf_raw::info::{kind_of, vlen_of};
 use btf_raw::{FUNC, INT};
