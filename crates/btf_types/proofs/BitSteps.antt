@@ -1,11 +1,10 @@
 -- The widths of a record's members.
-use Rattle.std.proofs.Common.{◌≡◌, ◌≢◌, ◌⊎◌, ℕ, zero, suc, ◌+◌, ◌-◌, ◌*◌, ◌/◌, ◌^◌, ◌<◌, ◌≤◌, Bool, true, false, List, length, refl, sym, ap, subst, ◌∙◌, inl, inr, arith}
-use Rattle.std.specs.Prelude.{IsTrue, slice_index, ◌==◌}
+use Rattle.std.proofs.Common.{◌≡◌, ◌≢◌, ℕ, ◌+◌, ◌*◌, ◌/◌, ◌^◌, ◌<◌, true, false, List, length, refl, sym, subst, ◌∙◌, arith}
+use Rattle.std.specs.Prelude.{IsTrue, slice_index}
 use Rattle.std.proofs.lemmas.Bool.{ne_eqb}
-use Rattle.btf_raw.specs.Kinds.{tail_words, item_words, fixed_words}
+use Rattle.btf_raw.specs.Kinds.{tail_words}
 use Rattle.btf_raw.specs.Frames.{IsFrame, kind, vlen, flag}
 use Rattle.btf_types.specs.Checks.{is_struct}
-use Rattle.btf_types.specs.FieldFaults.{HasBitFields, IsMemberWord}
 use Rattle.btf_types.specs.RecordFaults.{BitFieldsAre}
 use Rattle.btf_types.proofs.RoleSteps.{struct_size, struct_fixed}
 

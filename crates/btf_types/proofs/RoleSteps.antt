@@ -1,10 +1,10 @@
 -- What a cause says of a word is what it says of the word's role.
-use Rattle.std.proofs.Common.{◌≡◌, ◌≢◌, ◌⊎◌, ℕ, zero, suc, ◌+◌, ◌-◌, ◌*◌, ◌/◌, ◌%◌, ◌<◌, ◌≤◌, Bool, true, false, Option, List, [], ◌∷◌, length, refl, sym, ap, subst, ◌∙◌, inl, inr, lit<, arith}
-use Rattle.std.specs.Prelude.{IsTrue, IsFalse, IsUtf8, MatchOption, slice_index, ◌==◌, if◌then◌else◌}
+use Rattle.std.proofs.Common.{◌≡◌, ◌≢◌, ◌⊎◌, ℕ, zero, suc, ◌+◌, ◌-◌, ◌*◌, ◌/◌, ◌%◌, ◌<◌, ◌≤◌, Bool, true, false, Option, List, [], ◌∷◌, length, refl, sym, subst, ◌∙◌, inl, inr, lit<, arith}
+use Rattle.std.specs.Prelude.{IsTrue, IsFalse, MatchOption, slice_index, ◌==◌}
 use Rattle.std.proofs.lemmas.Bool.{cases_lt, eqb-true}
 use Rattle.btf_raw.specs.declared.cause.BtfCause.{BtfCause}
 use Rattle.btf_raw.specs.declared.cause.BtfCause.TheVariants.{NameRange, NameUtf8, NameMissing, NameUnwanted, NotZero, Size, Reference, TargetKind, IntWord, MemberInt, MemberPlace, Linkage, Component}
-use Rattle.btf_raw.specs.declared.kinds.TheConstants.{INT, ARRAY, STRUCT, UNION, ENUM, FUNC, FUNC_PROTO, VAR, DATASEC, DECL_TAG, ENUM64}
+use Rattle.btf_raw.specs.declared.kinds.TheConstants.{INT, ARRAY, STRUCT, UNION, ENUM, FUNC_PROTO, VAR, DATASEC, DECL_TAG, ENUM64}
 use Rattle.btf_raw.specs.Kinds.{one_of, tail_words, fixed_words, item_words}
 use Rattle.btf_raw.specs.Names.{TextAt}
 use Rattle.btf_raw.specs.Frames.{IsFrame, name_word, third_word, kind, vlen, flag}
@@ -12,7 +12,7 @@ use Rattle.btf_types.specs.declared.roles.Role.{Role}
 use Rattle.btf_types.specs.declared.roles.Role.TheVariants as roles
 use Rattle.btf_types.specs.Checks.{has_target, has_item_names, is_struct, size_fits, bits_fit, target_fits, component_fits, TypeFacts, type_at, ThirdFault, NoCause, LeastCause}
 use Rattle.btf_types.specs.FieldFaults.{WordFault, offset_in, width_in, int_unused, int_encoding, int_bits, IsTypeField, IsNameField, IsMemberWord, IsItemWord}
-use Rattle.btf_types.specs.Roles.{part, PartIs, PartTells, RoleIs, RoleTells}
+use Rattle.btf_types.specs.Roles.{part, PartIs, RoleIs, RoleTells}
 use Rattle.btf_types.specs.declared.fields.Record.{Record}
 use Rattle.btf_types.specs.declared.section.Section.{Section}
 use Rattle.btf_types.specs.Reading.{frame_at}

@@ -1,19 +1,18 @@
 -- The records of a framed section, one by one.
-use Rattle.std.proofs.Common.{◌≡◌, ◌≢◌, ◌⊎◌, ℕ, zero, suc, ◌+◌, ◌-◌, ◌*◌, ◌^◌, ◌<◌, ◌≤◌, Bool, true, false, Some, None, List, [], ◌∷◌, ◌++◌, length, get_or, take, drop, map, refl, sym, ap, subst, ◌∙◌, inl, inr, append_assoc, length-append, arith}
-use Rattle.std.specs.Prelude.{slice_index, slice_get, ◌==◌, unwrap_or, if◌then◌else◌}
+use Rattle.std.proofs.Common.{◌≡◌, ℕ, zero, suc, ◌+◌, ◌-◌, ◌*◌, ◌<◌, ◌≤◌, Some, List, [], ◌∷◌, length, get_or, take, map, refl, ap, subst, ◌∙◌, length-append, arith}
+use Rattle.std.specs.Prelude.{slice_index, slice_get}
 use Rattle.std.specs.List.{concat}
 use Rattle.std.proofs.Math.Dec.{eqb-suc-zero}
 use Rattle.std.proofs.lemmas.List.{length-map}
 use Rattle.bpf_words.specs.declared.Order.{Order}
 use Rattle.btf_raw.specs.declared.kinds.TheConstants.{INT}
 use Rattle.btf_raw.specs.Kinds.{tail_words, fixed_words, item_words}
-use Rattle.btf_raw.specs.Frames.{IsFrame, bytes_of, section_of, kind, vlen}
+use Rattle.btf_raw.specs.Frames.{IsFrame, bytes_of, section_of, kind}
 use Rattle.btf_raw.proofs.Frames.{length-bytes_of}
 use Rattle.btf_types.specs.declared.section.Section.{Section}
-use Rattle.btf_types.specs.Checks.{TypeFacts, type_at, no_type}
+use Rattle.btf_types.specs.Checks.{type_at}
 use Rattle.btf_types.specs.FieldFaults.{frame_facts}
-use Rattle.btf_types.specs.Reading.{frame_at, frames_at}
-use Rattle.btf_types.specs.TableInvariant.{IsFramed}
+use Rattle.btf_types.specs.Reading.{frame_at}
 use Rattle.btf_types.specs.Sections.{IsSection, StandsIn, frame_in, frames_in, facts_in}
 
 -- element i of a list that another is made of

@@ -1,5 +1,5 @@
 -- Which texts of a string section are UTF-8.
-use Rattle.std.specs.Prelude.{◌≡◌, ◌↔◌, ℕ, ◌+◌, ◌<◌, ◌≤◌, Bool, true, false, IsUtf8, List, ◌++◌, length, drop, get_or}
+use Rattle.std.specs.Prelude.{◌≡◌, ◌↔◌, ℕ, ◌<◌, ◌≤◌, Bool, true, false, IsUtf8, List, ◌++◌, length, drop, get_or}
 use Rattle.btf_raw.specs.Names.{TextAt}
 use Rattle.btf_types.specs.declared.utf8.Texts.{Texts}
 use Rattle.btf_types.specs.declared.utf8.Texts.TheVariants as texts

@@ -1,8 +1,7 @@
-use Rattle.std.proofs.Common.{◌≡◌, ◌+◌, ◌*◌, ◌<◌, ◌≤◌, length, sym, subst, arith, ℕ}
-use Rattle.std.specs.Prelude.{slice_index}
+use Rattle.std.proofs.Common.{subst, arith, ℕ}
 use Rattle.btf_types.specs.Reading.{frame_at}
 use Rattle.btf_types.specs.RecordFaults.{IsFaultless, LeastOfRecord}
-use Rattle.btf_types.specs.Sections.{facts_in, frames_in}
+use Rattle.btf_types.specs.Sections.{facts_in}
 use Rattle.btf_types.proofs.FieldSteps.{no_field_fault, first_in_section, faultless_more}
 use Rattle.btf_types.proofs.fields.first_field_fault.Goals as goal
 

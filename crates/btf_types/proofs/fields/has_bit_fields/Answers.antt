@@ -1,4 +1,4 @@
-use Rattle.std.proofs.Common.{◌≡◌, ◌≢◌, ℕ, ◌+◌, ◌*◌, ◌/◌, ◌^◌, ◌<◌, length, rules, sym, subst, arith}
+use Rattle.std.proofs.Common.{◌≢◌, ◌+◌, ◌*◌, ◌/◌, ◌^◌, ◌<◌, arith}
 use Rattle.std.specs.Prelude.{IsTrue, slice_index}
 use Rattle.btf_raw.specs.Frames.{kind, vlen, flag}
 use Rattle.btf_types.specs.Checks.{is_struct}

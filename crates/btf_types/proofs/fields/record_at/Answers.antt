@@ -1,5 +1,4 @@
-use Rattle.std.proofs.Common.{◌≡◌, ◌<◌, ◌≤◌, length, arith}
-use Rattle.btf_raw.specs.Kinds.{tail_words}
+use Rattle.std.proofs.Common.{arith}
 use Rattle.btf_types.proofs.SectionSteps.{stands_in, three_words}
 use Rattle.btf_types.proofs.fields.record_at.Goals as goal
 

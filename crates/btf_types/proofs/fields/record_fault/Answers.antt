@@ -1,7 +1,4 @@
-use Rattle.std.proofs.Common.{◌≡◌, ◌⊎◌, ◌+◌, ◌<◌, ◌≤◌, length, sym, subst, inl, inr, arith, ℕ}
-use Rattle.std.proofs.lemmas.Bool.{cases_lt}
-use Rattle.btf_raw.specs.declared.cause.BtfCause.{BtfCause}
-use Rattle.btf_types.specs.FieldFaults.{WordFault}
+use Rattle.std.proofs.Common.{◌<◌, length, arith}
 use Rattle.btf_types.specs.Reading.{frame_at}
 use Rattle.btf_types.specs.Sections.{facts_in}
 use Rattle.btf_types.proofs.WordSteps.{least_at_word, none_more}

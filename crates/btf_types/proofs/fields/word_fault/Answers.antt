@@ -1,4 +1,4 @@
-use Rattle.std.proofs.Common.{◌≡◌, sym, None}
+use Rattle.std.proofs.Common.{None}
 use Rattle.btf_types.specs.Sections.{facts_in}
 use Rattle.btf_types.specs.declared.roles.Role.TheVariants as roles
 use Rattle.btf_types.proofs.RoleSteps.{judged, third_judged, place_judged}

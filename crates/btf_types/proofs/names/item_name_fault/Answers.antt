@@ -1,4 +1,4 @@
-use Rattle.std.proofs.Common.{◌≡◌, ◌<◌, ◌≤◌, Bool, true, false, List, ℕ, length, subst, sym, arith}
+use Rattle.std.proofs.Common.{◌≡◌, Bool, true, false, List, ℕ, subst, arith}
 use Rattle.std.specs.Prelude.{◌↔◌, IsUtf8}
 use Rattle.btf_raw.specs.Names.{TextAt}
 use Rattle.btf_types.proofs.NameSteps.{utf8_fault, no_item_fault}

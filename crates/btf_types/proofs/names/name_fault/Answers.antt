@@ -1,7 +1,4 @@
-use Rattle.std.proofs.Common.{◌≡◌, ◌<◌, ◌≤◌, length, inl, inr, arith}
 use Rattle.std.specs.Prelude.{◌==◌, slice_index}
-use Rattle.std.proofs.lemmas.Bool.{cases_lt}
-use Rattle.btf_raw.specs.declared.cause.BtfCause.TheVariants.{NameRange}
 use Rattle.btf_types.specs.NameFaults.{NameFault, OwnNameFault}
 use Rattle.btf_types.proofs.Judging.{judged_same}
 use Rattle.btf_types.proofs.NameSteps.{item_to_name, own_to_name, name_to_own, in_range}

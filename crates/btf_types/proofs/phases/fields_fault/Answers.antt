@@ -1,4 +1,4 @@
-use Rattle.std.proofs.Common.{◌≡◌, ◌+◌, ◌<◌, ◌≤◌, length, arith}
+use Rattle.std.proofs.Common.{arith}
 use Rattle.btf_types.proofs.FieldSteps.{fault_inside}
 use Rattle.btf_types.proofs.PhaseSteps.{first_fields_fault}
 use Rattle.btf_types.proofs.phases.fields_fault.Goals as goal

@@ -1,4 +1,4 @@
-use Rattle.std.proofs.Common.{◌≡◌, ◌+◌, ◌-◌, ◌<◌, ◌≤◌, length, take, drop, subst, List, ℕ, arith}
+use Rattle.std.proofs.Common.{◌≡◌, ◌-◌, length, take, drop, subst, List, ℕ, arith}
 use Rattle.std.specs.Prelude.{IsUtf8}
 use Rattle.std.specs.Str.{IsValidUpTo, valid_up_to}
 use Rattle.std.proofs.lemmas.List.{length-drop, take_all}

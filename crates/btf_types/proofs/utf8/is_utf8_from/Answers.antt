@@ -1,4 +1,4 @@
-use Rattle.std.proofs.Common.{◌≡◌, ◌<◌, ◌≤◌, length, arith}
+use Rattle.std.proofs.Common.{arith}
 use Rattle.btf_types.proofs.Utf8Steps.{early_text, end_text, inner_text, through}
 use Rattle.btf_types.proofs.utf8.is_utf8_from.Goals as goal
 

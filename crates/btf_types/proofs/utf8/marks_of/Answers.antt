@@ -1,4 +1,4 @@
-use Rattle.std.proofs.Common.{◌≡◌, ◌+◌, ◌<◌, ◌≤◌, length, subst, arith, ℕ}
+use Rattle.std.proofs.Common.{subst, arith, ℕ}
 use Rattle.btf_types.specs.Texts.{AreMarks}
 use Rattle.btf_types.proofs.Utf8Steps.{marks_more, text_end}
 use Rattle.btf_types.proofs.utf8.marks_of.Goals as goal

@@ -1,4 +1,3 @@
-use Rattle.std.proofs.Common.{◌≡◌, arith}
 use Rattle.btf_types.proofs.Utf8Steps.{one_added}
 use Rattle.btf_types.proofs.utf8.push_marks.Goals as goal
 

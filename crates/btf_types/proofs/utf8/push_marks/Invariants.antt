@@ -1,4 +1,3 @@
-use Rattle.std.proofs.Common.{ℕ}
 use Rattle.btf_types.specs.Texts.{AddsMarks}
 use Rattle.btf_types.proofs.utf8.push_marks.Given as goal
 

@@ -1,4 +1,4 @@
-use Rattle.std.proofs.Common.{◌≡◌, ◌<◌, ◌≤◌, ◌-◌, length, sym, arith}
+use Rattle.std.proofs.Common.{◌-◌, arith}
 use Rattle.btf_types.proofs.SectionSteps.{stands_in, type_is}
 use Rattle.btf_types.proofs.section.Section.facts.Goals as goal
 

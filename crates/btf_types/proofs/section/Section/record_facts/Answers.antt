@@ -1,4 +1,4 @@
-use Rattle.std.proofs.Common.{◌≡◌, ◌∙◌, sym, arith}
+use Rattle.std.proofs.Common.{◌≡◌}
 use Rattle.btf_types.specs.Reading.{frame_at}
 use Rattle.btf_raw.specs.declared.kinds.TheConstants.{INT}
 use Rattle.btf_raw.specs.Frames.{kind}

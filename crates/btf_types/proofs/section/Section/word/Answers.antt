@@ -1,4 +1,4 @@
-use Rattle.std.proofs.Common.{◌≡◌, ◌+◌, ◌<◌, length, sym, ◌∙◌, arith}
+use Rattle.std.proofs.Common.{sym, ◌∙◌, arith}
 use Rattle.btf_types.proofs.FramingSteps.{frame_word, length-frame_at}
 use Rattle.btf_types.proofs.section.Section.word.Goals as goal
 

@@ -1,5 +1,3 @@
-use Rattle.std.proofs.Common.{◌≡◌, ◌<◌, false, length, get_or, sym, ◌∙◌, arith}
-use Rattle.std.proofs.lemmas.List.{get_or_read}
 use Rattle.btf_types.proofs.Utf8Steps.{whole_text, marked_text, through}
 use Rattle.btf_types.proofs.utf8.Texts.is_utf8.Goals as goal
 
