@@ -65,7 +65,7 @@ fn marks_of(alloc: Global, strings: &[u8]) -> Result<Vec<bool>, AllocError>
     requires { HasNulEnds strings.now }
     ensures { IfOk result (λ marks. AreMarks strings.now (length strings.now) marks.items) }
 {
-    let mut marks = Vec::new(alloc);
+    let mut marks = Vec::with_capacity(alloc, strings.len())?;
     let mut at = 0;
     while at < strings.len() {
         let text = text_at(strings, at);
