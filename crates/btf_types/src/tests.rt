@@ -254,3 +254,38 @@ fn texts_that_are_not_utf8(rt: HostRuntime) -> Result<(), Fail> {
     }
     Ok(())
 }
+
+/// A string section of NUL, so many times `a`, and these bytes.
+fn long_text(alloc: Global, len: usize, end: &[u8]) -> Result<Vec<u8>, AllocError> {
+    let mut strings = Vec::from_slice(alloc, b"\0")?;
+    for _ in 0..len {
+        strings.push(b'a')?;
+    }
+    strings.extend_from_slice(end)?;
+    Ok(strings)
+}
+
+#[test]
+fn longest_names(rt: HostRuntime) -> Result<(), Fail> {
+    let strings = long_text(rt.alloc(), 16_777_214, b"\0")?;
+    let records = b"\x01\0\0\0\0\0\0\x08\0\0\0\0\x02\0\0\0\0\0\0\x08\0\0\0\0";
+    let bytes = file(rt.alloc(), records, &strings)?;
+    assert_eq!(rt; told(rt.alloc(), &bytes)?, None);
+    Ok(())
+}
+
+/// Each of half a million values has the same name of a million bytes, beside a text that isn't UTF-8.
+#[test]
+fn many_uses_of_a_long_name(rt: HostRuntime) -> Result<(), Fail> {
+    let strings = long_text(rt.alloc(), 1_000_000, b"\0\xff\0")?;
+    let mut records = Vec::new(rt.alloc());
+    for _ in 0..8 {
+        records.extend_from_slice(b"\0\0\0\0\xff\xff\0\x06\x04\0\0\0")?;
+        for _ in 0..65_535 {
+            records.extend_from_slice(b"\x01\0\0\0\0\0\0\0")?;
+        }
+    }
+    let bytes = file(rt.alloc(), &records, &strings)?;
+    assert_eq!(rt; told(rt.alloc(), &bytes)?, None);
+    Ok(())
+}
