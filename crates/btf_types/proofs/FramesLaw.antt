@@ -121,13 +121,9 @@ walk o (suc fuel) (c ∷ rest) fits h = elim (first_frame o (c ∷ rest) fits (o
 ]
 
 -- a section without a fault of framing is a list of frames
-pub record IsFramedSection (o : Order) (types : List ℕ) : Type 0 where
-  pub frames : List (List ℕ)
-  pub framed : Frames o types frames
-
-pub frames_there : (o : Order) (types : List ℕ) → IsBytes types → ((place : ℕ) (cause : BtfCause) → ¬ FramingFault o types place cause) → IsFramedSection o types
+pub frames_there : (o : Order) (types : List ℕ) → IsBytes types → ((place : ℕ) (cause : BtfCause) → ¬ FramingFault o types place cause) → (frames : List (List ℕ)) × Frames o types frames
 frames_there o types fits none = elim (walk o (length types) types fits (omega arith)) [
-  | inl all ↦ record { frames = all.frames; framed = record { each = all.each; whole = all.whole } }
+  | inl all ↦ (all.frames, record { each = all.each; whole = all.whole })
   | inr broken ↦ absurd (none (length (section_of o broken.frames) + broken.first.place) broken.first.cause (record {
       frames = broken.frames;
       rest = broken.rest;
