@@ -1,0 +1,58 @@
+//! What speaks against the name fields of a record.
+
+ghost use Rattle.std.specs.Prelude.{◌≡◌, MatchOption};
+ghost use Rattle.btf_raw.specs.Header.{HasNulEnds};
+ghost use Rattle.btf_types.specs.Checks as spec;
+ghost use Rattle.btf_types.specs.NameFaults.{NameFault, OwnNameFault, ItemNameFault};
+ghost use Rattle.btf_types.specs.Texts.{TextsAre};
+
+use crate::checks::{has_no_name, needs_name};
+use crate::utf8::Texts;
+use btf_raw::BtfCause;
+
+/// The least cause that speaks against a text in an item's name field.
+pub fn item_name_fault(strings: &[u8], texts: &Texts, off: u32) -> Option<BtfCause>
+    requires ends { HasNulEnds strings.now }
+    requires texts { TextsAre strings.now texts.now }
+    ensures { MatchOption result
+        (spec.NoCause (ItemNameFault strings.now off))
+        (λ cause. spec.LeastCause (ItemNameFault strings.now off) cause) }
+{
+    let off = off as usize;
+    if off >= strings.len() {
+        return Some(BtfCause::NameRange);
+    }
+    if !texts.is_utf8(strings, off) {
+        return Some(BtfCause::NameUtf8);
+    }
+    None
+}
+
+/// The cause that speaks against a record's own name, which is empty or not.
+fn own_name_fault(kind: u8, empty: bool) -> Option<BtfCause>
+    ensures { MatchOption result
+        (spec.NoCause (OwnNameFault kind empty))
+        (λ cause. spec.LeastCause (OwnNameFault kind empty) cause) }
+{
+    if needs_name(kind) && empty {
+        return Some(BtfCause::NameMissing);
+    }
+    if has_no_name(kind) && !empty {
+        return Some(BtfCause::NameUnwanted);
+    }
+    None
+}
+
+/// The least cause that speaks against a record's own name field.
+pub fn name_fault(strings: &[u8], texts: &Texts, kind: u8, off: u32) -> Option<BtfCause>
+    requires ends { HasNulEnds strings.now }
+    requires texts { TextsAre strings.now texts.now }
+    ensures { MatchOption result
+        (spec.NoCause (NameFault strings.now kind off))
+        (λ cause. spec.LeastCause (NameFault strings.now kind off) cause) }
+{
+    match item_name_fault(strings, texts, off) {
+        Some(cause) => Some(cause),
+        None => own_name_fault(kind, strings[off as usize] == 0),
+    }
+}
