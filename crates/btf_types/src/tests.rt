@@ -2,7 +2,7 @@
 
 use crate::plain::{Fault, first_fault};
 use crate::{Btf, BtfError, BtfView};
-use btf_raw::BtfCause;
+use btf_raw::{BtfCause, BtfFault};
 use std::alloc::{AllocError, Global};
 use std::process::Abort;
 use std::test::Fail;
@@ -80,44 +80,46 @@ fn number(cause: BtfCause) -> u8 {
     (cause as u8).saturating_add(1)
 }
 
+/// Files, bytes that are changed in them, and the first fault.
+const WORKED: &[(&[u8], &[(usize, u8)], Option<(u64, BtfCause)>)] = &[
+    (EMPTY, &[], None),
+    (BIG_INT, &[], None),
+    (SHARED_NAME, &[], None),
+    (STRINGS_FIRST, &[], None),
+    (STRINGS_FIRST, &[(26, 1)], Some((26, BtfCause::HeaderTail))),
+    (MEMBER, &[], None),
+    (MEMBER, &[(63, 3)], None),
+    (MEMBER, &[(36, 0x1f)], None),
+    (MEMBER, &[(36, 0x1f), (63, 3)], Some((56, BtfCause::MemberInt))),
+    (MEMBER, &[(38, 1), (63, 3)], Some((56, BtfCause::MemberInt))),
+    (MEMBER, &[(63, 3), (60, 0x1d)], None),
+    (MEMBER, &[(63, 3), (60, 0x1e)], Some((60, BtfCause::MemberPlace))),
+    (BEYOND, &[], Some((32, BtfCause::Reference))),
+    (BEYOND_AND_CUT, &[], Some((36, BtfCause::RecordCut))),
+    (TAGGED, &[], None),
+    (TAGGED, &[(88, 0xff), (89, 0xff), (90, 0xff), (91, 0xff)], None),
+    (TAGGED, &[(88, 2)], Some((88, BtfCause::Component))),
+    (TAGGED, &[(88, 0xfe), (89, 0xff), (90, 0xff), (91, 0xff)], Some((88, BtfCause::Component))),
+    (BIG_ENUM64, &[], None),
+    (EMPTY_NAME, &[], None),
+    (EMPTY_NAME, &[(24, 5)], Some((24, BtfCause::NameRange))),
+    (EMPTY_NAME, &[(24, 1)], Some((24, BtfCause::NameUnwanted))),
+    (EMPTY_NAME, &[(24, 1), (37, 0xff)], Some((24, BtfCause::NameUtf8))),
+    (EMPTY, &[(8, 1)], None),
+    (EMPTY, &[(16, 1)], Some((8, BtfCause::Sections))),
+    (EMPTY, &[(4, 0x1a)], Some((4, BtfCause::HeaderLength))),
+    (EMPTY, &[(4, 0x19)], Some((25, BtfCause::FileLength))),
+    (EMPTY, &[(2, 2), (3, 1)], Some((2, BtfCause::Version))),
+    (EMPTY, &[(0, 0)], Some((0, BtfCause::Magic))),
+    (EMPTY, &[(20, 0)], Some((20, BtfCause::StringLength))),
+];
+
 #[test]
 fn worked_files(rt: HostRuntime) -> Result<(), Fail> {
-    let cases: [(&[u8], &[(usize, u8)], Option<(u64, BtfCause)>); 30] = [
-        (EMPTY, &[], None),
-        (BIG_INT, &[], None),
-        (SHARED_NAME, &[], None),
-        (STRINGS_FIRST, &[], None),
-        (STRINGS_FIRST, &[(26, 1)], Some((26, BtfCause::HeaderTail))),
-        (MEMBER, &[], None),
-        (MEMBER, &[(63, 3)], None),
-        (MEMBER, &[(36, 0x1f)], None),
-        (MEMBER, &[(36, 0x1f), (63, 3)], Some((56, BtfCause::MemberInt))),
-        (MEMBER, &[(38, 1), (63, 3)], Some((56, BtfCause::MemberInt))),
-        (MEMBER, &[(63, 3), (60, 0x1d)], None),
-        (MEMBER, &[(63, 3), (60, 0x1e)], Some((60, BtfCause::MemberPlace))),
-        (BEYOND, &[], Some((32, BtfCause::Reference))),
-        (BEYOND_AND_CUT, &[], Some((36, BtfCause::RecordCut))),
-        (TAGGED, &[], None),
-        (TAGGED, &[(88, 0xff), (89, 0xff), (90, 0xff), (91, 0xff)], None),
-        (TAGGED, &[(88, 2)], Some((88, BtfCause::Component))),
-        (TAGGED, &[(88, 0xfe), (89, 0xff), (90, 0xff), (91, 0xff)], Some((88, BtfCause::Component))),
-        (BIG_ENUM64, &[], None),
-        (EMPTY_NAME, &[], None),
-        (EMPTY_NAME, &[(24, 5)], Some((24, BtfCause::NameRange))),
-        (EMPTY_NAME, &[(24, 1)], Some((24, BtfCause::NameUnwanted))),
-        (EMPTY_NAME, &[(24, 1), (37, 0xff)], Some((24, BtfCause::NameUtf8))),
-        (EMPTY, &[(8, 1)], None),
-        (EMPTY, &[(16, 1)], Some((8, BtfCause::Sections))),
-        (EMPTY, &[(4, 0x1a)], Some((4, BtfCause::HeaderLength))),
-        (EMPTY, &[(4, 0x19)], Some((25, BtfCause::FileLength))),
-        (EMPTY, &[(2, 2), (3, 1)], Some((2, BtfCause::Version))),
-        (EMPTY, &[(0, 0)], Some((0, BtfCause::Magic))),
-        (EMPTY, &[(20, 0)], Some((20, BtfCause::StringLength))),
-    ];
-    for (bytes, edits, fault) in cases {
+    for (bytes, edits, fault) in WORKED {
         let bytes = edited(rt.alloc(), bytes, edits)?;
         let fault = match fault {
-            Some((pos, cause)) => Some((pos, number(cause))),
+            Some((pos, cause)) => Some((*pos, number(*cause))),
             None => None,
         };
         assert_eq!(rt; told(rt.alloc(), &bytes)?, fault);
@@ -151,46 +153,48 @@ const FUNC_IN_SECTION: &[u8] = b"\0\0\0\0\0\0\0\x0d\0\0\0\0\x01\0\0\0\x02\0\0\x0
 /// Three TYPEDEFs, one named by the end of both other names.
 const THREE_NAMES: &[u8] = b"\x0a\0\0\0\0\0\0\x08\0\0\0\0\x01\0\0\0\0\0\0\x08\0\0\0\0\x06\0\0\0\0\0\0\x08\0\0\0\0";
 
+/// Records, strings, bytes that are changed in their file, and its first fault.
+const SECTIONS: &[(&[u8], &[u8], &[(usize, u8)], Option<(u64, BtfCause)>)] = &[
+    (b"\0\0\0\0\0\0\0\x10\x03\0\0\0", b"\0", &[], Some((32, BtfCause::Size))),
+    (b"\0\0\0\0\0\0\0\x10\x0c\0\0\0", b"\0", &[], None),
+    (b"\0\0\0\0\0\0\0\x01\x01\0\0\0\x09\0\0\0", b"\0", &[], Some((36, BtfCause::IntWord))),
+    (b"\0\0\0\0\0\0\0\x01\x01\0\0\0\x08\0\0\x03", b"\0", &[], Some((36, BtfCause::IntWord))),
+    (b"\0\0\0\0\0\0\0\x01\x01\0\0\0\x08\x01\0\0", b"\0", &[], Some((36, BtfCause::IntWord))),
+    (b"\0\0\0\0\0\0\0\x01\x01\0\0\0\0\0\0\0", b"\0", &[], None),
+    (b"\0\0\0\0\0\0\0\x14\0\0\0\0", b"\0", &[], Some((28, BtfCause::KindNumber))),
+    (b"\0\0\0\0\0\0\0\x34\0\0\0\0", b"\0", &[], Some((28, BtfCause::InfoBits))),
+    (b"\0\0\0\0\0\0\0\x82\0\0\0\0", b"\0", &[], Some((28, BtfCause::FlagSet))),
+    (b"\0\0\0\0\x01\0\0\x02\0\0\0\0", b"\0", &[], Some((28, BtfCause::Vlen))),
+    (b"\0\0\0\0\x02\0\0\x04\x04\0\0\0\0\0\0\0\0\0\0\0\0\0\0\0", b"\0", &[], Some((36, BtfCause::TailCut))),
+    (b"\0\0\0\0\0\0\0\x07\0\0\0\0", b"\0", &[], Some((24, BtfCause::NameMissing))),
+    (b"\x01\0\0\0\0\0\0\x07\x01\0\0\0", b"\0f\0", &[], Some((32, BtfCause::NotZero))),
+    (b"\x01\0\0\0\x03\0\0\x0c\0\0\0\0", b"\0f\0", &[], Some((28, BtfCause::Linkage))),
+    (b"\x01\0\0\0\x02\0\0\x0c\0\0\0\0", b"\0f\0", &[], Some((32, BtfCause::TargetKind))),
+    (b"\x01\0\0\0\0\0\0\x0e\0\0\0\0\x03\0\0\0", b"\0f\0", &[], Some((36, BtfCause::Linkage))),
+    (TAG_OF_VAR, b"\0f\0t\0", &[], Some((52, BtfCause::Component))),
+    (TAG_OF_VAR, b"\0f\0t\0", &[(54, 1)], Some((52, BtfCause::Component))),
+    (TAG_OF_VAR, b"\0f\0t\0", &[(52, 0xff), (53, 0xff), (54, 0xff), (55, 0xff)], None),
+    (FUNC_IN_SECTION, b"\0f\0.ksyms\0", &[], None),
+    (FUNC_IN_SECTION, b"\0f\0.ksyms\0", &[(60, 1)], Some((60, BtfCause::TargetKind))),
+    (FUNC_IN_SECTION, b"\0f\0.ksyms\0", &[(60, 4)], Some((60, BtfCause::Reference))),
+    (b"\0\0\0\0\0\0\0\x84\0\0\0\0", b"\0", &[], None),
+    (b"\x01\0\0\0\0\0\0\x08\0\0\0\0", b"\0a\"\\\x01\x7f\0", &[], None),
+    (b"\0\0\0\0\x01\0\0\x04\0\0\x40\0\0\0\0\0\0\0\0\0\0\0\0\x01", b"\0", &[], None),
+    (b"\0\0\0\0\x01\0\0\x84\0\0\x40\0\0\0\0\0\0\0\0\0\0\0\0\x01", b"\0", &[], None),
+    (THREE_NAMES, b"\0c\0bc\0abc\0dbc\0", &[], None),
+    (THREE_NAMES, b"\0dbc\0abc\0", &[(24, 1), (36, 7), (48, 5)], None),
+    (b"\0\0\0\0\x01\0\0\x0d\0\0\0\0\0\0\0\0\x02\0\0\0", b"\0", &[], Some((40, BtfCause::Reference))),
+    (b"\0\0\0\0\0\0\0\x03\0\0\0\0\0\0\0\0\x02\0\0\0\0\0\0\0", b"\0", &[], Some((40, BtfCause::Reference))),
+    (b"\0\0\0\0\x01\0\0\x06\0\0\0\0\x09\0\0\0\0\0\0\0", b"\0", &[], Some((32, BtfCause::Size))),
+];
+
 #[test]
 fn small_sections(rt: HostRuntime) -> Result<(), Fail> {
-    let cases: [(&[u8], &[u8], &[(usize, u8)], Option<(u64, BtfCause)>); 31] = [
-        (b"\0\0\0\0\0\0\0\x10\x03\0\0\0", b"\0", &[], Some((32, BtfCause::Size))),
-        (b"\0\0\0\0\0\0\0\x10\x0c\0\0\0", b"\0", &[], None),
-        (b"\0\0\0\0\0\0\0\x01\x01\0\0\0\x09\0\0\0", b"\0", &[], Some((36, BtfCause::IntWord))),
-        (b"\0\0\0\0\0\0\0\x01\x01\0\0\0\x08\0\0\x03", b"\0", &[], Some((36, BtfCause::IntWord))),
-        (b"\0\0\0\0\0\0\0\x01\x01\0\0\0\x08\x01\0\0", b"\0", &[], Some((36, BtfCause::IntWord))),
-        (b"\0\0\0\0\0\0\0\x01\x01\0\0\0\0\0\0\0", b"\0", &[], None),
-        (b"\0\0\0\0\0\0\0\x14\0\0\0\0", b"\0", &[], Some((28, BtfCause::KindNumber))),
-        (b"\0\0\0\0\0\0\0\x34\0\0\0\0", b"\0", &[], Some((28, BtfCause::InfoBits))),
-        (b"\0\0\0\0\0\0\0\x82\0\0\0\0", b"\0", &[], Some((28, BtfCause::FlagSet))),
-        (b"\0\0\0\0\x01\0\0\x02\0\0\0\0", b"\0", &[], Some((28, BtfCause::Vlen))),
-        (b"\0\0\0\0\x02\0\0\x04\x04\0\0\0\0\0\0\0\0\0\0\0\0\0\0\0", b"\0", &[], Some((36, BtfCause::TailCut))),
-        (b"\0\0\0\0\0\0\0\x07\0\0\0\0", b"\0", &[], Some((24, BtfCause::NameMissing))),
-        (b"\x01\0\0\0\0\0\0\x07\x01\0\0\0", b"\0f\0", &[], Some((32, BtfCause::NotZero))),
-        (b"\x01\0\0\0\x03\0\0\x0c\0\0\0\0", b"\0f\0", &[], Some((28, BtfCause::Linkage))),
-        (b"\x01\0\0\0\x02\0\0\x0c\0\0\0\0", b"\0f\0", &[], Some((32, BtfCause::TargetKind))),
-        (b"\x01\0\0\0\0\0\0\x0e\0\0\0\0\x03\0\0\0", b"\0f\0", &[], Some((36, BtfCause::Linkage))),
-        (TAG_OF_VAR, b"\0f\0t\0", &[], Some((52, BtfCause::Component))),
-        (TAG_OF_VAR, b"\0f\0t\0", &[(54, 1)], Some((52, BtfCause::Component))),
-        (TAG_OF_VAR, b"\0f\0t\0", &[(52, 0xff), (53, 0xff), (54, 0xff), (55, 0xff)], None),
-        (FUNC_IN_SECTION, b"\0f\0.ksyms\0", &[], None),
-        (FUNC_IN_SECTION, b"\0f\0.ksyms\0", &[(60, 1)], Some((60, BtfCause::TargetKind))),
-        (FUNC_IN_SECTION, b"\0f\0.ksyms\0", &[(60, 4)], Some((60, BtfCause::Reference))),
-        (b"\0\0\0\0\0\0\0\x84\0\0\0\0", b"\0", &[], None),
-        (b"\x01\0\0\0\0\0\0\x08\0\0\0\0", b"\0a\"\\\x01\x7f\0", &[], None),
-        (b"\0\0\0\0\x01\0\0\x04\0\0\x40\0\0\0\0\0\0\0\0\0\0\0\0\x01", b"\0", &[], None),
-        (b"\0\0\0\0\x01\0\0\x84\0\0\x40\0\0\0\0\0\0\0\0\0\0\0\0\x01", b"\0", &[], None),
-        (THREE_NAMES, b"\0c\0bc\0abc\0dbc\0", &[], None),
-        (THREE_NAMES, b"\0dbc\0abc\0", &[(24, 1), (36, 7), (48, 5)], None),
-        (b"\0\0\0\0\x01\0\0\x0d\0\0\0\0\0\0\0\0\x02\0\0\0", b"\0", &[], Some((40, BtfCause::Reference))),
-        (b"\0\0\0\0\0\0\0\x03\0\0\0\0\0\0\0\0\x02\0\0\0\0\0\0\0", b"\0", &[], Some((40, BtfCause::Reference))),
-        (b"\0\0\0\0\x01\0\0\x06\0\0\0\0\x09\0\0\0\0\0\0\0", b"\0", &[], Some((32, BtfCause::Size))),
-    ];
-    for (records, strings, edits, fault) in cases {
+    for (records, strings, edits, fault) in SECTIONS {
         let bytes = file(rt.alloc(), records, strings)?;
         let bytes = edited(rt.alloc(), &bytes, edits)?;
         let fault = match fault {
-            Some((pos, cause)) => Some((pos, number(cause))),
+            Some((pos, cause)) => Some((*pos, number(*cause))),
             None => None,
         };
         assert_eq!(rt; told(rt.alloc(), &bytes)?, fault);
@@ -287,5 +291,16 @@ fn many_uses_of_a_long_name(rt: HostRuntime) -> Result<(), Fail> {
     }
     let bytes = file(rt.alloc(), &records, &strings)?;
     assert_eq!(rt; told(rt.alloc(), &bytes)?, None);
+    Ok(())
+}
+
+#[test]
+fn error_texts(rt: HostRuntime) -> Result<(), Fail> {
+    let fault = BtfFault {
+        pos: 32,
+        cause: BtfCause::Reference,
+    };
+    let told = format!(in rt.alloc(); "{} {}", BtfError::Fault(fault), BtfError::Memory)?;
+    assert_eq!(rt; told.as_str(), "Fault Memory");
     Ok(())
 }
