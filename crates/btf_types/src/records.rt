@@ -42,6 +42,9 @@ impl<'a> Iterator for Records<'a> {
     fn next(&mut self) -> Option<(u32, Head<'a>)> {
         let pos = *self.places.get(self.given as usize)?;
         self.given += 1;
-        Some((self.given, head_at(self.order, self.types, self.strings, pos as usize)))
+        Some((
+            self.given,
+            head_at(self.order, self.types, self.strings, pos as usize),
+        ))
     }
 }
