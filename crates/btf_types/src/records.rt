@@ -8,9 +8,9 @@ use crate::values::Head;
 use bpf_words::Order;
 use std::marker::Model;
 
-/// The heads of a table's records with their numbers, in order; from [`crate::BtfView::records`] and [`crate::Btf::records`].
+/// The heads of a table's records with their numbers, in order, from [`crate::BtfView::records`] or [`crate::Btf::records`].
 ///
-/// After the last record it gives `None`, and goes on to do so.
+/// After the last record it gives `None`, and goes on to do so. No step takes memory.
 #[derive(Drop)]
 pub struct Records<'a> {
     pub(crate) order: Order,
