@@ -1,4 +1,4 @@
-//! What speaks against the name fields of a record.
+//! What speaks against a name field: its offset, or the text that stands there (btf.rst section 2.1).
 
 ghost use Rattle.std.specs.Prelude.{◌≡◌, MatchOption};
 ghost use Rattle.btf_raw.specs.Header.{HasNulEnds};
@@ -10,7 +10,7 @@ use crate::checks::{has_no_name, needs_name};
 use crate::utf8::Texts;
 use btf_raw::BtfCause;
 
-/// The least cause that speaks against a text in an item's name field.
+/// The least cause that speaks against an item's name field: an offset past the strings, or a text that isn't UTF-8.
 pub fn item_name_fault(strings: &[u8], texts: &Texts, off: u32) -> Option<BtfCause>
     requires ends { HasNulEnds strings.now }
     requires texts { TextsAre strings.now texts.now }
@@ -43,7 +43,7 @@ fn own_name_fault(kind: u8, empty: bool) -> Option<BtfCause>
     None
 }
 
-/// The least cause that speaks against a record's own name field.
+/// The least cause that speaks against a record's own name field: those of an item's, and a name that is missing or unwanted.
 pub fn name_fault(strings: &[u8], texts: &Texts, kind: u8, off: u32) -> Option<BtfCause>
     requires ends { HasNulEnds strings.now }
     requires texts { TextsAre strings.now texts.now }

@@ -1,4 +1,5 @@
-//! What each word of a record is to the judge of fields.
+//! What each word of a record is to the judge of fields (btf.rst section 2.2): a name, a type, a place, or a word that any
+//! value fits.
 
 ghost use Rattle.std.specs.Prelude.{◌≡◌, ◌≤◌};
 ghost use Rattle.btf_types.specs.Roles.{part, RoleIs, RoleTells, PartIs, PartTells};
@@ -6,19 +7,30 @@ ghost use Rattle.btf_types.specs.Roles.{part, RoleIs, RoleTells, PartIs, PartTel
 use btf_raw::info::item_words;
 use btf_raw::{ARRAY, DATASEC, DECL_TAG, ENUM, ENUM64, FUNC_PROTO, INT, STRUCT, UNION, VAR};
 
-/// What a word of a record is.
+/// What a word of a record is to the judge of fields.
 #[derive(Clone, Copy, Debug, PartialEq, Eq)]
 pub enum Role {
+    /// The record's own `name_off`.
     OwnName,
+    /// `info`: kind, `vlen` and `kind_flag`.
     Info,
+    /// The size or the type behind `info`.
     Third,
+    /// An INT's encoding, offset and bits.
     IntWord,
+    /// A VAR's linkage.
     Linkage,
+    /// A DECL_TAG's `component_idx`.
     Component,
+    /// The `name_off` of a member, a value or a parameter.
     ItemName,
+    /// The type of an ARRAY's elements or index, of a parameter, or of a DATASEC's entry.
     NamedType,
+    /// A member's type.
     MemberType,
+    /// A member's offset, with its width where `kind_flag` is 1.
     MemberPlace,
+    /// A word that any value fits.
     Free,
 }
 

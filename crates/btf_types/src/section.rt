@@ -1,4 +1,5 @@
-//! A section whose records are framed, and what its words say.
+//! The sections of a file whose records are framed, and what a record asks of another: it is read at that one's place,
+//! wherever it stands, so a reference may point forward.
 
 ghost use Rattle.std.specs.Prelude.{◌≡◌, ◌+◌, ◌*◌, ◌<◌, ◌≤◌, length, slice_index};
 ghost use Rattle.btf_types.specs.Reading.{frame_at};
@@ -20,28 +21,34 @@ const NO_TYPE: Facts = Facts {
     bits: 0,
 };
 
-/// The two sections of a file, the place of each record, and which texts are UTF-8.
+/// The two sections of a file, and what is known of them before the fields are judged.
 #[derive(Clone, Copy, Debug)]
 pub struct Section<'a> {
     pub order: Order,
     pub types: &'a [u8],
     pub strings: &'a [u8],
+    /// Where each record begins, in bytes from the first of `types`. Type id 1 is the first.
     pub places: &'a [u32],
+    /// Which texts of `strings` are UTF-8.
     pub texts: &'a Texts,
 }
 
 /// What other records ask of a type.
 #[derive(Clone, Copy, Debug)]
 pub struct Facts {
+    /// Its kind, 0 of void and of a type that isn't there.
     pub kind: u8,
+    /// How many items it has.
     pub count: u16,
+    /// Its third word, a type where its kind names one.
     pub target: u32,
+    /// An INT's offset and its number of bits; 0 of other kinds.
     pub offset: u8,
     pub bits: u8,
 }
 
 impl<'a> Section<'a> {
-    /// Word j of the record at `pos`.
+    /// Word j of the record at `pos`, from 0.
     pub fn word(&self, pos: usize, j: usize) -> u32
         requires inside { pos + 4 * length (frame_at self.now.order self.now.types.now pos) ≤ length self.now.types.now }
         requires there { j < length (frame_at self.now.order self.now.types.now pos) }
@@ -67,7 +74,7 @@ impl<'a> Section<'a> {
         }
     }
 
-    /// What other records ask of a type.
+    /// What other records ask of the type with this id.
     pub fn facts(&self, id: u32) -> Facts
         requires { IsSection self.now }
         ensures { FactsAre result (type_at (facts_in self.now) id) }

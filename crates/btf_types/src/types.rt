@@ -1,4 +1,4 @@
-//! What a record asks of the types that it names.
+//! What a record asks of the types that it names, third words aside: they are there, and of a kind and size that fit.
 
 ghost use Rattle.std.specs.Prelude.{◌≡◌, MatchOption};
 ghost use Rattle.btf_types.specs.Checks as spec;
@@ -26,6 +26,7 @@ pub fn named_type_fault(section: &Section, kind: u8, target: u32) -> Option<BtfC
     }
 }
 
+/// Whether a type may be that of a member beside bit-fields: no INT, or one with offset 0 and 8, 16, 32, 64 or 128 bits.
 #[tactic(auto, unfolding(crate::specs::Checks::member_int_fits))]
 fn member_int_fits(section: &Section, target: u32) -> bool
     requires { IsSection section.now }
@@ -52,6 +53,7 @@ pub fn member_type_fault(section: &Section, bit_fields: bool, target: u32) -> Op
     }
 }
 
+/// Whether a type has this component: a member of a STRUCT or UNION, or a parameter of a FUNC's FUNC_PROTO.
 #[tactic(auto, unfolding(crate::specs::Checks::component_fits))]
 fn component_fits(section: &Section, target: u32, component: u32) -> bool
     requires { IsSection section.now }
@@ -69,7 +71,8 @@ fn component_fits(section: &Section, target: u32, component: u32) -> bool
     }
 }
 
-/// The cause that speaks against the component of a DECL_TAG that names this type.
+/// The cause that speaks against the component of a DECL_TAG that names this type. The word is read unsigned, and -1 is no
+/// component.
 pub fn component_fault(section: &Section, target: u32, word: u32) -> Option<BtfCause>
     requires { IsSection section.now }
     ensures { MatchOption result

@@ -1,4 +1,8 @@
-//! Which texts of a string section are UTF-8, judged once for the whole section.
+//! Which texts of a string section are UTF-8. A text runs from an offset, which may stand inside a string, to the next NUL.
+//!
+//! The section is judged once, in time in proportion to its length, and then each offset at once: any number of name fields
+//! may point into one long string. Where the section is UTF-8 as a whole, a text is UTF-8 exactly where a character begins.
+//! Else a mark is kept for each byte of it.
 
 ghost use Rattle.std.specs.Prelude.{◌≡◌, ◌↔◌, ℕ, List, ◌+◌, ◌<◌, ◌≤◌, length, drop, IfOk, IsTrue, IsUtf8};
 ghost use Rattle.btf_raw.specs.Header.{HasNulEnds};
@@ -17,13 +21,15 @@ pub enum Texts {
     Marked(Vec<bool>),
 }
 
+/// Whether a byte may begin a character, or is NUL.
 fn begins_char(byte: u8) -> bool
     ensures { IsTrue result ↔ BeginsChar byte }
 {
     !matches!(byte, 0x80..=0xbf)
 }
 
-/// The least place of a text from which it is UTF-8 to its end.
+/// The least place of a text from which it is UTF-8 to its end. No earlier place will do, also one before a fault: a text
+/// that ends in a text is UTF-8 only if that one is.
 fn first_utf8(text: &[u8]) -> usize
     ensures { IsFirstUtf8 text.now result }
 {
@@ -76,7 +82,11 @@ fn marks_of(alloc: Global, strings: &[u8]) -> Result<Vec<bool>, AllocError>
 }
 
 impl Texts {
-    /// The texts of a section. Memory is taken only where the section isn't UTF-8 as a whole: a byte for each of its bytes.
+    /// The texts of a string section that begins and ends with NUL.
+    ///
+    /// # Errors
+    ///
+    /// `AllocError` where memory was refused. None is taken where the section is UTF-8 as a whole, else a byte for each byte.
     pub fn of(alloc: Global, strings: &[u8]) -> Result<Texts, AllocError>
         requires { HasNulEnds strings.now }
         ensures { IfOk result (λ texts. TextsAre strings.now texts) }
@@ -88,7 +98,7 @@ impl Texts {
         }
     }
 
-    /// Whether the text at an offset of the section is UTF-8.
+    /// Whether the text at an offset of that section is UTF-8.
     pub fn is_utf8(&self, strings: &[u8], off: usize) -> bool
         requires texts { TextsAre strings.now self.now }
         requires there { off < length strings.now }
