@@ -49,10 +49,10 @@ fn edited(alloc: Global, bytes: &[u8], edits: &[(usize, u8)]) -> Result<Vec<u8>,
 /// The little-endian file of these records and strings.
 fn file(alloc: Global, records: &[u8], strings: &[u8]) -> Result<Vec<u8>, AllocError> {
     let mut bytes = Vec::from_slice(alloc, b"\x9f\xeb\x01\0\x18\0\0\0\0\0\0\0")?;
-    let types_len = (records.len() as u32).to_le_bytes();
+    let types_len = u32::try_from(records.len()).unwrap_or(0).to_le_bytes();
     bytes.extend_from_slice(&types_len)?;
     bytes.extend_from_slice(&types_len)?;
-    bytes.extend_from_slice(&(strings.len() as u32).to_le_bytes())?;
+    bytes.extend_from_slice(&u32::try_from(strings.len()).unwrap_or(0).to_le_bytes())?;
     bytes.extend_from_slice(records)?;
     bytes.extend_from_slice(strings)?;
     Ok(bytes)
@@ -244,7 +244,7 @@ fn texts_that_are_not_utf8(rt: HostRuntime) -> Result<(), Fail> {
         b"\0ab\xc3\0\xa9cd\xf0\x90\x80\0",
     ];
     for strings in sections {
-        for off in 0..strings.len() as u32 + 1 {
+        for off in 0..20_u32 {
             let mut record = Vec::from_slice(rt.alloc(), &off.to_le_bytes())?;
             record.extend_from_slice(b"\0\0\0\x01\x04\0\0\0\x20\0\0\0")?;
             let bytes = file(rt.alloc(), &record, strings)?;
