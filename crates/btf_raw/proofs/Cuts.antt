@@ -1,11 +1,11 @@
 -- A file is cut in at most one way: its bytes tell the order, the lengths and the places of the sections.
-use Rattle.std.proofs.Common.{◌≡◌, ◌≢◌, ◌⊎◌, ℕ, zero, suc, ◌+◌, ◌-◌, ◌*◌, ◌^◌, ◌<◌, ◌≤◌, List, [], ◌∷◌, ◌++◌, length, get_or, take, drop, replicate, refl, sym, ap, subst, ◌∙◌, inl, inr, append_assoc, append-nil, length-append, add-zero, lit<, arith}
+use Rattle.std.proofs.Common.{◌≡◌, ℕ, zero, suc, ◌+◌, ◌-◌, ◌*◌, ◌^◌, ◌<◌, ◌≤◌, List, [], ◌∷◌, ◌++◌, length, take, replicate, refl, sym, ap, subst, ◌∙◌, inl, inr, append_assoc, append-nil, length-append, lit<, arith}
 use Rattle.std.specs.Prelude.{slice_index}
 use Rattle.std.proofs.lemmas.List.{drop_at, take_at, length-replicate}
 use Rattle.bpf_words.specs.declared.Order.{Order}
 use Rattle.bpf_words.specs.declared.Order.TheVariants.{Little, Big}
-use Rattle.bpf_words.specs.Words.{word16, word32, word32_at}
-use Rattle.bpf_words.proofs.WordLemmas.{word32_at-word32, word32_at-append, length-word32, length-word16}
+use Rattle.bpf_words.specs.Words.{word16, word32_at}
+use Rattle.bpf_words.proofs.WordLemmas.{word32_at-append, length-word16}
 use Rattle.btf_raw.specs.Frames.{bytes_of}
 use Rattle.btf_raw.proofs.Frames.{IsWords, word32_at-bytes_of, length-bytes_of}
 use Rattle.btf_raw.specs.Header.{Cut, header, part, types_at, strings_at, TYPES_LIMIT, STRINGS_LIMIT}
@@ -33,8 +33,8 @@ pub header_word : (o : Order) (n a t c s j : ℕ) (rest : List ℕ) → IsWords 
 header_word o n a t c s j rest fit h =
     rw header_regrouped
     (subst (λ (k : ℕ). word32_at o (first_four o ++ (bytes_of o (header_words n a t c s) ++ (replicate (n - 24) 0 ++ rest))) (k + 4 * j) ≡ slice_index (header_words n a t c s) j) (length-first_four o)
-        (word32_at-append o (first_four o) (bytes_of o (header_words n a t c s) ++ (replicate (n - 24) 0 ++ rest)) (4 * j)
-        ∙ word32_at-bytes_of o (header_words n a t c s) (replicate (n - 24) 0 ++ rest) j fit h))
+    (word32_at-append o (first_four o) (bytes_of o (header_words n a t c s) ++ (replicate (n - 24) 0 ++ rest)) (4 * j)
+    ∙ word32_at-bytes_of o (header_words n a t c s) (replicate (n - 24) 0 ++ rest) j fit h))
 
 pub five_fit : (n a t c s : ℕ) → n < 2 ^ 32 → a < 2 ^ 32 → t < 2 ^ 32 → c < 2 ^ 32 → s < 2 ^ 32 → IsWords (header_words n a t c s)
 five_fit n a t c s hn ha ht hc hs zero = hn
@@ -62,7 +62,7 @@ cut_reads_first b o n types strings low high t-fits s-fits is =
     let whole : b ≡ h ++ (types ++ strings) = is ∙ append_assoc h types strings in
     let fit = five_fit n 0 (length types) (length types) (length strings) (omega arith) (omega arith) (omega arith) (omega arith) (omega arith) in
     let reads : (j : ℕ) → j < 5 → word32_at o b (4 + 4 * j) ≡ slice_index (header_words n 0 (length types) (length types) (length strings)) j =
-        λ j lt. rw whole (header_word o n 0 (length types) (length types) (length strings) j (types ++ strings) fit lt) in
+    λ j lt. rw whole (header_word o n 0 (length types) (length types) (length strings) j (types ++ strings) fit lt) in
     let w4 : word32_at o b 4 ≡ n = reads 0 (lit< tt) in
     let w8 : word32_at o b 8 ≡ 0 = reads 1 (lit< tt) in
     let w16 : word32_at o b 16 ≡ length types = reads 3 (lit< tt) in
@@ -81,7 +81,7 @@ cut_reads_second b o n types strings low high t-fits s-fits is =
     let whole : b ≡ h ++ (strings ++ types) = is ∙ append_assoc h strings types in
     let fit = five_fit n (length strings) (length types) 0 (length strings) (omega arith) (omega arith) (omega arith) (omega arith) (omega arith) in
     let reads : (j : ℕ) → j < 5 → word32_at o b (4 + 4 * j) ≡ slice_index (header_words n (length strings) (length types) 0 (length strings)) j =
-        λ j lt. rw whole (header_word o n (length strings) (length types) 0 (length strings) j (strings ++ types) fit lt) in
+    λ j lt. rw whole (header_word o n (length strings) (length types) 0 (length strings) j (strings ++ types) fit lt) in
     let w4 : word32_at o b 4 ≡ n = reads 0 (lit< tt) in
     let w8 : word32_at o b 8 ≡ length strings = reads 1 (lit< tt) in
     let w16 : word32_at o b 16 ≡ 0 = reads 3 (lit< tt) in

@@ -1,5 +1,5 @@
 -- A file has no fault of the header exactly where it can be cut.
-use Rattle.std.proofs.Common.{◌≡◌, ◌≢◌, ◌⊎◌, ℕ, zero, suc, ◌+◌, ◌-◌, ◌*◌, ◌^◌, ◌<◌, ◌≤◌, List, [], ◌∷◌, ◌++◌, length, get_or, take, drop, replicate, refl, sym, ap, subst, ◌∙◌, inl, inr, append_assoc, append-nil, length-append, lit<, arith}
+use Rattle.std.proofs.Common.{◌≡◌, ◌≢◌, ◌⊎◌, ℕ, zero, suc, ◌+◌, ◌-◌, ◌*◌, ◌^◌, ◌<◌, ◌≤◌, List, ◌++◌, length, get_or, drop, replicate, refl, sym, ap, ◌∙◌, inl, inr, append_assoc, length-append, lit<, arith}
 use Rattle.std.specs.Prelude.{slice_index}
 use Rattle.std.proofs.lemmas.Bool.{cases_lt, cases_eq}
 use Rattle.std.proofs.lemmas.List.{drop_at, get_or-drop, length-replicate}
@@ -8,11 +8,10 @@ use Rattle.bpf_words.specs.declared.Order.{Order}
 use Rattle.bpf_words.specs.declared.Order.TheVariants.{Little, Big}
 use Rattle.bpf_words.specs.Words.{IsBytes, word16_at, word32_at}
 use Rattle.btf_raw.specs.declared.header.Header.{Header}
-use Rattle.btf_raw.specs.declared.cause.BtfCause.{BtfCause}
 use Rattle.btf_raw.specs.declared.cause.BtfCause.TheVariants.{ShortHeader, Magic, Version, Flags, HeaderLength, HeaderTail, TypeLength, StringLength, Sections, FileLength}
 use Rattle.btf_raw.specs.Cause.{HasNone}
 use Rattle.btf_raw.specs.Frames.{bytes_of}
-use Rattle.btf_raw.specs.Header.{Cut, HeaderFault, HasOrder, HasWord, header, part, TYPES_LIMIT, STRINGS_LIMIT}
+use Rattle.btf_raw.specs.Header.{Cut, HeaderFault, HasOrder, HasWord, header, TYPES_LIMIT, STRINGS_LIMIT}
 use Rattle.btf_raw.specs.ReadHeader.{StartIsRight, LengthIsRight, SectionsAreRight, ReadsHeader}
 use Rattle.btf_raw.proofs.Frames.{length-bytes_of}
 use Rattle.btf_raw.proofs.Headers.{reads_header}
@@ -42,13 +41,15 @@ order_there b long none = elim (cases_eq (word16_at Little b 0) 0xeb9f) [
 start_there : (b : List ℕ) → HasNone (HeaderFault b) → (o : Order) × StartIsRight b o
 start_there b none =
     let long = below 24 (length b) (λ short. none (length b) ShortHeader (short, refl)) in
-    let order = order_there b long none in
-    (order.0, record {
-      there = long;
-      order = order.1;
-      version = same (slice_index b 2) 1 (λ other. none 2 Version (omega arith, other, refl));
-      flags = same (slice_index b 3) 0 (λ other. none 3 Flags (omega arith, other, refl));
-    })
+    let order = order_there b long none in (
+      order.0,
+      record {
+        there = long;
+        order = order.1;
+        version = same (slice_index b 2) 1 (λ other. none 2 Version (omega arith, other, refl));
+        flags = same (slice_index b 3) 0 (λ other. none 3 Flags (omega arith, other, refl));
+      },
+    )
 
 -- the first byte of a range that isn't 0, or none
 record FirstOther (b : List ℕ) (from end : ℕ) : Type 0 where
@@ -201,20 +202,22 @@ cut_right b o types strings cut = elim cut.parts [
       let whole : b ≡ header o n 0 t t s ++ (types ++ strings) = is ∙ append_assoc (header o n 0 t t s) types strings in
       let fit = five_fit n 0 t t s (omega arith) (omega arith) (omega arith) (omega arith) (omega arith) in
       let word : (j : ℕ) → j < 5 → word32_at o b (4 + 4 * j) ≡ slice_index (header_words n 0 t t s) j = λ j lt. rw whole (header_word o n 0 t t s j (types ++ strings) fit lt) in
-      let len : length b ≡ n + (t + s) = ap length whole ∙ length-append (header o n 0 t t s) (types ++ strings) ∙ rw (length-header o n 0 t t s low, length-append types strings) refl in
-      (record { order = o; types_pos = n + word32_at o b 8; types_len = t; str_pos = n + word32_at o b 16; str_len = s }, record {
-        header_len = n;
-        len = header_length b o n 0 t t s (types ++ strings) low high (omega arith) (omega arith) (omega arith) (omega arith) (omega arith) whole;
-        types_len = sym (word 2 (lit< tt));
-        str_len = sym (word 4 (lit< tt));
-        types_pos = refl;
-        str_pos = refl;
-        types_fit = t-fits;
-        some_strings = cut.some_strings;
-        strings_fit = s-fits;
-        fill = omega arith;
-        order_of_sections = inl (word 1 (lit< tt), word 3 (lit< tt));
-      })
+      let len : length b ≡ n + (t + s) = ap length whole ∙ length-append (header o n 0 t t s) (types ++ strings) ∙ rw (length-header o n 0 t t s low, length-append types strings) refl in (
+        record { order = o; types_pos = n + word32_at o b 8; types_len = t; str_pos = n + word32_at o b 16; str_len = s },
+        record {
+          header_len = n;
+          len = header_length b o n 0 t t s (types ++ strings) low high (omega arith) (omega arith) (omega arith) (omega arith) (omega arith) whole;
+          types_len = sym (word 2 (lit< tt));
+          str_len = sym (word 4 (lit< tt));
+          types_pos = refl;
+          str_pos = refl;
+          types_fit = t-fits;
+          some_strings = cut.some_strings;
+          strings_fit = s-fits;
+          fill = omega arith;
+          order_of_sections = inl (word 1 (lit< tt), word 3 (lit< tt));
+        },
+      )
   | inr is ↦
       let n = cut.header_len in
       let t = length types in
@@ -226,20 +229,22 @@ cut_right b o types strings cut = elim cut.parts [
       let whole : b ≡ header o n s t 0 s ++ (strings ++ types) = is ∙ append_assoc (header o n s t 0 s) strings types in
       let fit = five_fit n s t 0 s (omega arith) (omega arith) (omega arith) (omega arith) (omega arith) in
       let word : (j : ℕ) → j < 5 → word32_at o b (4 + 4 * j) ≡ slice_index (header_words n s t 0 s) j = λ j lt. rw whole (header_word o n s t 0 s j (strings ++ types) fit lt) in
-      let len : length b ≡ n + (s + t) = ap length whole ∙ length-append (header o n s t 0 s) (strings ++ types) ∙ rw (length-header o n s t 0 s low, length-append strings types) refl in
-      (record { order = o; types_pos = n + word32_at o b 8; types_len = t; str_pos = n + word32_at o b 16; str_len = s }, record {
-        header_len = n;
-        len = header_length b o n s t 0 s (strings ++ types) low high (omega arith) (omega arith) (omega arith) (omega arith) (omega arith) whole;
-        types_len = sym (word 2 (lit< tt));
-        str_len = sym (word 4 (lit< tt));
-        types_pos = refl;
-        str_pos = refl;
-        types_fit = t-fits;
-        some_strings = cut.some_strings;
-        strings_fit = s-fits;
-        fill = omega arith;
-        order_of_sections = inr (word 3 (lit< tt), word 1 (lit< tt));
-      })
+      let len : length b ≡ n + (s + t) = ap length whole ∙ length-append (header o n s t 0 s) (strings ++ types) ∙ rw (length-header o n s t 0 s low, length-append strings types) refl in (
+        record { order = o; types_pos = n + word32_at o b 8; types_len = t; str_pos = n + word32_at o b 16; str_len = s },
+        record {
+          header_len = n;
+          len = header_length b o n s t 0 s (strings ++ types) low high (omega arith) (omega arith) (omega arith) (omega arith) (omega arith) whole;
+          types_len = sym (word 2 (lit< tt));
+          str_len = sym (word 4 (lit< tt));
+          types_pos = refl;
+          str_pos = refl;
+          types_fit = t-fits;
+          some_strings = cut.some_strings;
+          strings_fit = s-fits;
+          fill = omega arith;
+          order_of_sections = inr (word 3 (lit< tt), word 1 (lit< tt));
+        },
+      )
 ]
 
 one_order : (b : List ℕ) (o p : Order) → word16_at o b 0 ≡ 0xeb9f → word16_at p b 0 ≡ 0xeb9f → o ≡ p

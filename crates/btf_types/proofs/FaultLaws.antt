@@ -1,6 +1,6 @@
 -- A file has no fault exactly where it denotes some list of records.
-use Rattle.std.proofs.Common.{◌≡◌, ◌≢◌, ◌⊎◌, ℕ, ◌+◌, ◌-◌, ◌<◌, ◌≤◌, List, [], ◌∷◌, ◌++◌, length, get_or, map, refl, sym, ap, subst, ◌∙◌, inl, inr, append-nil, arith}
-use Rattle.std.specs.List.{AllZip, concat}
+use Rattle.std.proofs.Common.{◌≡◌, ℕ, ◌+◌, ◌-◌, ◌<◌, ◌≤◌, List, [], ◌++◌, length, map, refl, sym, subst, ◌∙◌, inl, inr, append-nil, arith}
+use Rattle.std.specs.List.{AllZip}
 use Rattle.std.specs.Prelude.{slice_index}
 use Rattle.std.proofs.lemmas.Bool.{cases_eq}
 use Rattle.bpf_words.specs.declared.Order.{Order}
@@ -21,7 +21,7 @@ use Rattle.btf_types.specs.Denotes.{Denotes}
 use Rattle.btf_types.specs.Reading.{record_of}
 use Rattle.btf_types.specs.FieldFaults.{FieldFault}
 use Rattle.btf_types.specs.Faults.{Phase, InHeader, InStrings, InFrames, InFields, Faults, StringsFault, FramesFault, FieldsFault}
-use Rattle.btf_types.specs.Laws.{Exactly, CanBeCut, CutIsJudged, FramingIsJudged, FieldsAreJudged, NoFaultIsAccepted}
+use Rattle.btf_types.specs.Laws.{CutIsJudged, FramingIsJudged, FieldsAreJudged, NoFaultIsAccepted}
 use Rattle.btf_types.proofs.Denoting.{nothing_is_no_frame, frames_of}
 use Rattle.btf_types.proofs.PhaseSteps.{no_string_fault, frames_have_none}
 use Rattle.btf_types.proofs.TableSteps.{concat-map, spelled_bytes}
@@ -126,10 +126,11 @@ module _ (b : List ℕ) (o : Order) (types strings : List ℕ) (cut : Cut b o ty
     fields_there : HasNone (FieldsFault b) → (v : List TypeRecord) × AllZip (Spells strings) v frames × IsGood v
     fields_there none =
         let no_field = fields_none none in
-        let few : length (section_of o frames) ≤ TYPES_LIMIT = subst (λ (t : List ℕ). length t ≤ TYPES_LIMIT) framed.whole cut.types_fit in
-        (map (record_of strings) frames,
-         frames_spell strings frames ends framed.each no_field,
-         frames_good strings frames ends framed.each no_field o cut.strings_fit few)
+        let few : length (section_of o frames) ≤ TYPES_LIMIT = subst (λ (t : List ℕ). length t ≤ TYPES_LIMIT) framed.whole cut.types_fit in (
+          map (record_of strings) frames,
+          frames_spell strings frames ends framed.each no_field,
+          frames_good strings frames ends framed.each no_field o cut.strings_fit few,
+        )
 
     fields_back : (v : List TypeRecord) → AllZip (Spells strings) v frames → IsGood v → HasNone (FieldsFault b)
     fields_back v spelled good p c fault =
@@ -159,18 +160,20 @@ denoted b fits none =
     let o = can.order in
     let framed = framing_there b o can.types can.strings can.cut can.nul_ends fits (none InFrames) in
     let frames = framed.0 in
-    let right = fields_there b o can.types can.strings can.cut can.nul_ends frames framed.1 (none InFields) in
-    (right.0, record {
-      order = o;
-      types = can.types;
-      strings = can.strings;
-      spellings = map (bytes_of o) frames;
-      cut = can.cut;
-      nul_ends = can.nul_ends;
-      spelled = spelled_bytes o can.strings right.0 frames right.1;
-      whole = framed.1.whole ∙ sym (concat-map o frames);
-      good = right.2;
-    })
+    let right = fields_there b o can.types can.strings can.cut can.nul_ends frames framed.1 (none InFields) in (
+      right.0,
+      record {
+        order = o;
+        types = can.types;
+        strings = can.strings;
+        spellings = map (bytes_of o) frames;
+        cut = can.cut;
+        nul_ends = can.nul_ends;
+        spelled = spelled_bytes o can.strings right.0 frames right.1;
+        whole = framed.1.whole ∙ sym (concat-map o frames);
+        good = right.2;
+      },
+    )
 
 faultless : (b : List ℕ) (v : List TypeRecord) → Denotes b v → (phase : Phase) (place : ℕ) (cause : BtfCause) → ¬ Faults b phase place cause
 faultless b v d =

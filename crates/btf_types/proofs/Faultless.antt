@@ -1,28 +1,26 @@
 -- Frames without fault spell the records that they read as, and these records are good.
-use Rattle.std.proofs.Common.{◌≡◌, ◌≢◌, ◌⊎◌, ℕ, zero, suc, ◌+◌, ◌-◌, ◌*◌, ◌%◌, ◌^◌, ◌<◌, ◌≤◌, Bool, true, false, Some, None, List, [], ◌∷◌, ◌++◌, length, get_or, map, refl, sym, ap, subst, ◌∙◌, inl, inr, lit<, arith}
-use Rattle.std.specs.Prelude.{IsTrue, IfSome, slice_index, slice_get, unwrap_or, ◌==◌, not, nat_lt, if◌then◌else◌}
+use Rattle.std.proofs.Common.{◌≡◌, ◌≢◌, ℕ, zero, suc, ◌-◌, ◌^◌, ◌<◌, ◌≤◌, Bool, true, false, Some, None, List, [], ◌∷◌, length, get_or, map, refl, sym, ap, subst, ◌∙◌, inl, lit<, arith}
+use Rattle.std.specs.Prelude.{IsTrue, IfSome, slice_index, slice_get, unwrap_or, ◌==◌, if◌then◌else◌}
 use Rattle.std.specs.List.{All, AllZip, sum_by}
 use Rattle.std.proofs.lemmas.Bool.{eqb-true, ltb-true}
 use Rattle.std.proofs.lemmas.List.{length-append}
 use Rattle.std.proofs.lemmas.List.Elements.{All-nil, All-cons, All-head, All-tail}
 use Rattle.std.proofs.lemmas.List.Sums.{sum_by-cons}
 use Rattle.bpf_words.specs.declared.Order.{Order}
-use Rattle.btf_raw.specs.declared.cause.BtfCause.{BtfCause}
 use Rattle.btf_raw.specs.declared.kinds.TheConstants.{STRUCT, UNION, FUNC, FUNC_PROTO, VAR, TYPEDEF, DECL_TAG}
 use Rattle.btf_raw.specs.Cause.{HasNone}
 use Rattle.btf_raw.specs.Header.{HasNulEnds, TYPES_LIMIT, STRINGS_LIMIT}
 use Rattle.btf_raw.specs.Kinds.{one_of}
 use Rattle.btf_raw.specs.Frames.{IsFrame, bytes_of, section_of, kind, vlen, third_word}
 use Rattle.btf_raw.proofs.Frames.{length-bytes_of}
-use Rattle.btf_types.specs.Values.{TypeRecord}
 use Rattle.btf_types.specs.Spelling.{Spells}
 use Rattle.btf_types.specs.Checks.{TypeFacts, type_at, no_type, has_target, target_fits, component_fits, is_struct}
-use Rattle.btf_types.specs.Good.{TargetIsGood, facts, facts_of, IsGoodRecord, IsGood, record_size}
+use Rattle.btf_types.specs.Good.{facts, IsGoodRecord, IsGood, record_size}
 use Rattle.btf_types.specs.FieldFaults.{FieldFault, frame_facts}
-use Rattle.btf_types.specs.Reading.{component_of, record_of, frames_at, records_at}
+use Rattle.btf_types.specs.Reading.{component_of, record_of, frames_at}
 use Rattle.btf_types.specs.RecordFaults.{IsFaultless}
 use Rattle.btf_types.specs.TableInvariant.{IsFramed, FieldsAreRight}
-use Rattle.btf_types.proofs.KindCases.{OfEach, one_among}
+use Rattle.btf_types.proofs.KindCases.{one_among}
 use Rattle.btf_types.proofs.SpelledNames.{spelled_table}
 use Rattle.btf_types.proofs.FaultlessWords.{type_is, component_is}
 use Rattle.btf_types.proofs.FaultlessRecords.{frame_spells, frame_good, facts_same, size_same, tag_room}
@@ -137,12 +135,19 @@ module _ (strings : List ℕ) (frames : List (List ℕ)) (ends : HasNulEnds stri
   component_low id c named fits =
       let own = type_count_below frames id in
       let proto = type_count_below frames (type_at types id).target in
-      one_among (λ k. (type_at types id).kind ≡ k → c < 2 ^ 16) (STRUCT ∷ UNION ∷ FUNC ∷ VAR ∷ TYPEDEF ∷ []) ((type_at types id).kind)
-      ((λ e. omega (arith, struct_component types id c STRUCT refl e fits)),
-       ((λ e. omega (arith, struct_component types id c UNION refl e fits)),
-        ((λ e. omega (arith, func_component types id c e (func_names id e) fits)),
-         ((λ e. absurd (no_component types id c VAR refl e fits)),
-          ((λ e. absurd (no_component types id c TYPEDEF refl e fits)), tt)))))
+      one_among (λ k. (type_at types id).kind ≡ k → c < 2 ^ 16) (STRUCT ∷ UNION ∷ FUNC ∷ VAR ∷ TYPEDEF ∷ []) ((type_at types id).kind) (
+        (λ e. omega (arith, struct_component types id c STRUCT refl e fits)),
+        (
+          (λ e. omega (arith, struct_component types id c UNION refl e fits)),
+          (
+            (λ e. omega (arith, func_component types id c e (func_names id e) fits)),
+            (
+              (λ e. absurd (no_component types id c VAR refl e fits)),
+              ((λ e. absurd (no_component types id c TYPEDEF refl e fits)), tt),
+            ),
+          ),
+        ),
+      )
       named refl
 
   low_of_word : (id w : ℕ) → one_of (STRUCT ∷ UNION ∷ FUNC ∷ VAR ∷ TYPEDEF ∷ []) ((type_at types id).kind) ≡ true → IfSome (component_of w) (λ c. IsTrue (component_fits types id c)) → IfSome (component_of w) (λ c. c < 2 ^ 16)

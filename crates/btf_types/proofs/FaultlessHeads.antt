@@ -1,20 +1,20 @@
 -- The head that a record's numbers tell, kind by kind: what it must be so that the numbers spell it and it is good.
-use Rattle.std.proofs.Common.{◌≡◌, ◌≢◌, ◌⊎◌, ℕ, zero, suc, ◌+◌, ◌-◌, ◌*◌, ◌/◌, ◌%◌, ◌^◌, ◌<◌, ◌≤◌, Bool, true, false, Option, Some, None, List, [], ◌∷◌, length, refl, sym, ap, subst, ◌∙◌, inl, inr, lit<, arith}
-use Rattle.std.specs.Prelude.{IsTrue, IfSome, ◌==◌, not, if◌then◌else◌}
+use Rattle.std.proofs.Common.{◌≡◌, ◌⊎◌, ℕ, zero, suc, ◌+◌, ◌*◌, ◌^◌, ◌<◌, ◌≤◌, Bool, true, false, List, [], ◌∷◌, length, refl, sym, ap, ◌∙◌, inl, inr, lit<, arith}
+use Rattle.std.specs.Prelude.{IsTrue, IfSome, ◌==◌, if◌then◌else◌}
 use Rattle.std.specs.List.{All}
 use Rattle.std.proofs.lemmas.Bool.{eqb-true}
 use Rattle.std.proofs.lemmas.List.Elements.{All-nil, All-cons}
 use Rattle.btf_raw.specs.declared.kinds.TheConstants.{INT, ARRAY, FUNC, VAR, DECL_TAG, FWD}
 use Rattle.btf_raw.specs.Kinds.{one_of, has_flag, has_vlen, fixed_words, item_words}
-use Rattle.btf_types.specs.Values.{TypeHead, TypeItem, TypeRecord}
+use Rattle.btf_types.specs.Values.{TypeItem}
 use Rattle.btf_types.specs.Names.{head_name}
 use Rattle.btf_types.specs.Spelling.{kind_number, head_third, bit, FlagSpells, linkage_number, encoding_number, component_word, record_vlen, head_tail}
-use Rattle.btf_types.specs.Checks.{TypeFacts, has_target, has_no_name, needs_name, size_fits, bits_fit, component_fits}
+use Rattle.btf_types.specs.Checks.{TypeFacts, has_target, has_no_name, size_fits, bits_fit, component_fits}
 use Rattle.btf_types.specs.Good.{HeadInRange, HeadIsGood, head_targets}
 use Rattle.btf_types.specs.Good as good
 use Rattle.btf_types.specs.FieldFaults.{int_unused, int_encoding, int_offset, int_bits}
 use Rattle.btf_types.specs.Reading.{head_from, linkage_of, encoding_of, component_of, is_set}
-use Rattle.btf_types.proofs.KindCases.{one_among, KindIs, IsInt, IsPtr, IsArray, IsStruct, IsUnion, IsEnum, IsFwd, IsTypedef, IsVolatile, IsConst, IsRestrict, IsFunc, IsFuncProto, IsVar, IsDatasec, IsFloat, IsDeclTag, IsTypeTag, IsEnum64}
+use Rattle.btf_types.proofs.KindCases.{one_among, KindIs, IsInt, IsPtr, IsArray, IsStruct, IsUnion, IsEnum, IsFwd, IsTypedef, IsVolatile, IsConst, IsRestrict, IsFunc, IsFuncProto, IsVar, IsDatasec, IsDeclTag, IsTypeTag, IsEnum64}
 
 pub kind_of_head : {k : ℕ} → KindIs k → (name : List ℕ) (third flag vlen next fourth fifth : ℕ) → kind_number (head_from name k third flag vlen next fourth fifth) ≡ k
 unfolding head_from

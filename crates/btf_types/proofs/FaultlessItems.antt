@@ -1,21 +1,21 @@
 -- The items of a frame without fault: their words spell them, and they are good.
-use Rattle.std.proofs.Common.{◌≡◌, ◌≢◌, ◌⊎◌, ℕ, zero, suc, ◌+◌, ◌-◌, ◌*◌, ◌/◌, ◌%◌, ◌^◌, ◌<◌, ◌≤◌, Bool, true, false, List, [], ◌∷◌, length, take, drop, refl, sym, ap, subst, ◌∙◌, inl, inr, lit<, arith}
+use Rattle.std.proofs.Common.{◌≡◌, ◌≢◌, ℕ, zero, suc, ◌+◌, ◌*◌, ◌/◌, ◌%◌, ◌^◌, ◌<◌, Bool, true, false, List, [], ◌∷◌, length, take, drop, refl, ap, ◌∙◌, inl, inr, lit<, arith}
 use Rattle.std.specs.Prelude.{IsTrue, slice_index, ◌==◌, if◌then◌else◌}
 use Rattle.std.specs.List.{All}
 use Rattle.std.proofs.lemmas.List.Elements.{All-nil, All-cons}
 use Rattle.btf_raw.specs.declared.kinds.TheConstants.{STRUCT, UNION, ENUM, FUNC_PROTO, DATASEC, ENUM64}
 use Rattle.btf_raw.specs.Header.{HasNulEnds}
-use Rattle.btf_raw.specs.Kinds.{fixed_words, item_words}
+use Rattle.btf_raw.specs.Kinds.{item_words}
 use Rattle.btf_raw.specs.Names.{NameAt}
-use Rattle.btf_raw.specs.Frames.{IsFrame, name_word, third_word, kind, vlen, flag}
-use Rattle.btf_types.specs.Values.{TypeHead, KStruct, KUnion, KEnum, KFuncProto, KDatasec, KEnum64, TypeItem, Member, EnumValue, Value64, Param, Entry}
+use Rattle.btf_raw.specs.Frames.{IsFrame, third_word, kind, vlen, flag}
+use Rattle.btf_types.specs.Values.{TypeHead, TypeItem, Member, EnumValue, Value64, Param, Entry}
 use Rattle.btf_types.specs.Spelling.{MemberWord, ItemSpells}
-use Rattle.btf_types.specs.Checks.{TypeFacts, is_struct, has_item_names, member_fits, member_int_fits}
+use Rattle.btf_types.specs.Checks.{TypeFacts, is_struct, has_item_names}
 use Rattle.btf_types.specs.Good.{ItemInRange, ItemOf, item_targets, TargetIsGood, MemberIsGood}
-use Rattle.btf_types.specs.FieldFaults.{IsItemWord, IsTypeField, IsMemberWord, HasBitFields, bit_offset, width}
+use Rattle.btf_types.specs.FieldFaults.{IsTypeField, HasBitFields, bit_offset, width}
 use Rattle.btf_types.specs.Reading.{text_from, head_from, head_of, item_from, item_of}
 use Rattle.btf_types.specs.RecordFaults.{IsFaultless}
-use Rattle.btf_types.proofs.KindCases.{KindIs, IsInt, IsStruct, IsUnion, IsEnum, IsFuncProto, IsDatasec, IsEnum64}
+use Rattle.btf_types.proofs.KindCases.{KindIs, IsStruct, IsUnion, IsEnum, IsFuncProto, IsDatasec, IsEnum64}
 use Rattle.btf_types.proofs.FaultlessHeads.{count_of}
 use Rattle.btf_types.proofs.FaultlessWords.{item_ends, room, flag_low, type_is, item_name_is, member_int, member_place}
 use Rattle.btf_types.proofs.TabulateSteps.{two_at, three_at}
@@ -88,9 +88,10 @@ module _ (strings : List ℕ) (types : List TypeFacts) (frame : List ℕ) (ends 
           member = (
             member_place strings types frame ends is_frame none (j + 2) (omega arith) (struct, i, (low, omega arith)),
             λ has.
-                let wide = some has in
-                (narrow (flag frame) (slice_index frame wide.0) (slice_index frame (j + 2)) wide.2,
-                 member_int strings types frame ends is_frame none (j + 1) (omega arith) (struct, i, (low, omega arith)) wide)
+                let wide = some has in (
+                  narrow (flag frame) (slice_index frame wide.0) (slice_index frame (j + 2)) wide.2,
+                  member_int strings types frame ends is_frame none (j + 1) (omega arith) (struct, i, (low, omega arith)) wide,
+                ),
           );
         }
 

@@ -1,23 +1,21 @@
 -- A frame without fault spells the record that it reads as, and that record is good.
-use Rattle.std.proofs.Common.{◌≡◌, ◌≢◌, ◌⊎◌, ℕ, zero, suc, ◌+◌, ◌-◌, ◌*◌, ◌/◌, ◌%◌, ◌^◌, ◌<◌, ◌≤◌, Bool, true, false, Some, List, [], ◌∷◌, ◌++◌, length, take, drop, map, refl, sym, ap, subst, ◌∙◌, inl, inr, append-nil, lit<, arith}
+use Rattle.std.proofs.Common.{◌≡◌, ◌≢◌, ℕ, zero, suc, ◌+◌, ◌*◌, ◌^◌, ◌<◌, ◌≤◌, Bool, true, false, List, ◌∷◌, ◌++◌, length, take, drop, refl, sym, subst, ◌∙◌, inl, inr, arith}
 use Rattle.std.specs.Prelude.{IsTrue, IfSome, slice_index, ◌==◌, not, if◌then◌else◌}
-use Rattle.std.specs.List.{All, AllZip, concat, list_any}
+use Rattle.std.specs.List.{All, concat}
 use Rattle.std.proofs.lemmas.List.{take_all, length-drop}
-use Rattle.std.proofs.lemmas.List.Elements.{All-nil, All-cons}
 use Rattle.btf_raw.specs.declared.kinds.TheConstants.{INT, ARRAY, FUNC, VAR, DECL_TAG}
 use Rattle.btf_raw.specs.Header.{HasNulEnds}
-use Rattle.btf_raw.specs.Kinds.{fixed_words, item_words, tail_words}
+use Rattle.btf_raw.specs.Kinds.{fixed_words, item_words}
 use Rattle.btf_raw.specs.Names.{NameAt}
 use Rattle.btf_raw.specs.Frames.{IsFrame, name_word, info_word, third_word, kind, vlen, flag}
-use Rattle.btf_types.specs.Values.{TypeHead, TypeItem, Member, EnumValue, Value64, Param, Entry, TypeRecord}
-use Rattle.btf_types.specs.Names.{IsName, head_name, record_names, item_name}
+use Rattle.btf_types.specs.Values.{TypeItem}
+use Rattle.btf_types.specs.Names.{IsName, head_name, record_names}
 use Rattle.btf_types.specs.Spelling.{kind_number, head_third, record_vlen, head_tail, info, ItemSpells, Spells}
-use Rattle.btf_types.specs.Checks.{TypeFacts, type_at, size_fits, component_fits}
+use Rattle.btf_types.specs.Checks.{TypeFacts, size_fits}
 use Rattle.btf_types.specs.Good.{TargetIsGood, MemberIsGood, ItemInRange, ItemOf, item_targets, head_targets, has_bit_fields, has_width, facts_of, IsGoodRecord, record_size}
-use Rattle.btf_types.specs.FieldFaults.{HasBitFields, IsTypeField, frame_facts, width}
+use Rattle.btf_types.specs.FieldFaults.{HasBitFields, frame_facts, width}
 use Rattle.btf_types.specs.Reading.{text_from, component_of, head_of, item_from, item_of, item_total, record_of, tabulate}
 use Rattle.btf_types.specs.RecordFaults.{IsFaultless}
-use Rattle.btf_types.specs.TableLaws.{StandsIn}
 use Rattle.btf_types.proofs.Lists.{length-tabulate}
 use Rattle.btf_types.proofs.KindCases.{KindIs, IsInt, IsArray, IsVar, IsDeclTag, IsStruct, IsUnion, IsEnum, IsFuncProto, IsDatasec, IsEnum64}
 use Rattle.btf_types.proofs.FaultlessHeads.{IntIsRight, words_behind, count_of, kind_of_head, name_of_head, third_of_head, flag_of_head, tail_of_head, vlen_of_head, range_of_head, targets_of_head, good_head, size_of_count, offset_of_head, bits_of_head, count_is, room_of_items}
@@ -170,9 +168,9 @@ module _ (strings : List ℕ) (types : List TypeFacts) (frame : List ℕ) (ends 
   targets_good : All (TargetIsGood types (kind_number (head_of frame name))) (head_targets (head_of frame name))
   targets_good = rw kind_same
       (targets_of_head (known frame is_frame) (TargetIsGood types (kind frame)) name (third_word frame) (flag frame) (vlen frame) (slice_index frame 3) (slice_index frame 4) (slice_index frame 5)
-       (λ has. type_is strings types frame ends is_frame none 2 three (inl (has, refl)))
-       (λ array. let long = array_room array in type_is strings types frame ends is_frame none 3 (omega arith) (inr (inl (array, inl refl))))
-       (λ array. let long = array_room array in type_is strings types frame ends is_frame none 4 (omega arith) (inr (inl (array, inr refl)))))
+      (λ has. type_is strings types frame ends is_frame none 2 three (inl (has, refl)))
+      (λ array. let long = array_room array in type_is strings types frame ends is_frame none 3 (omega arith) (inr (inl (array, inl refl))))
+      (λ array. let long = array_room array in type_is strings types frame ends is_frame none 4 (omega arith) (inr (inl (array, inr refl)))))
 
   item_targets_good : All (λ item. All (TargetIsGood types (kind_number (head_of frame name))) (item_targets item)) (tabulate item_at count)
   item_targets_good = rw kind_same (All-tabulate (λ item. All (TargetIsGood types (kind frame)) (item_targets item)) item_at count (λ i low. (right i low).targets))

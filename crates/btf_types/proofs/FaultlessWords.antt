@@ -1,6 +1,6 @@
 -- What the words of a frame without fault are.
-use Rattle.std.proofs.Common.{◌≡◌, ◌≢◌, ◌⊎◌, ℕ, zero, suc, ◌+◌, ◌*◌, ◌/◌, ◌%◌, ◌^◌, ◌<◌, ◌≤◌, Bool, true, false, List, [], ◌∷◌, length, refl, sym, ap, subst, ◌∙◌, inl, inr, lit<, lit≤, arith}
-use Rattle.std.specs.Prelude.{IsTrue, IsFalse, IfSome, slice_index, ◌==◌}
+use Rattle.std.proofs.Common.{◌≡◌, ◌≢◌, ◌⊎◌, ℕ, suc, ◌+◌, ◌*◌, ◌^◌, ◌<◌, ◌≤◌, Bool, true, false, List, [], ◌∷◌, length, refl, subst, inl, inr, arith}
+use Rattle.std.specs.Prelude.{IsTrue, IfSome, slice_index, ◌==◌}
 use Rattle.std.proofs.lemmas.Bool.{cases_lt, cases_eq}
 use Rattle.btf_raw.specs.declared.cause.BtfCause.TheVariants.{NameRange, NameUtf8, NameMissing, NameUnwanted, NotZero, Size, Reference, TargetKind, IntWord, MemberInt, MemberPlace, Linkage, Component}
 use Rattle.btf_raw.specs.declared.kinds.TheConstants.{INT, ARRAY, FWD, FUNC, VAR, DECL_TAG}
@@ -15,7 +15,7 @@ use Rattle.btf_types.specs.FieldFaults.{IsTypeField, IsMemberWord, HasBitFields,
 use Rattle.btf_types.specs.Reading.{text_from, component_of}
 use Rattle.btf_types.specs.RecordFaults.{IsFaultless}
 use Rattle.btf_types.proofs.KindCases.{KindIs, kind_is}
-use Rattle.btf_types.proofs.TextSteps.{text_stands, decided, empty_or_not, name_there}
+use Rattle.btf_types.proofs.TextSteps.{decided, empty_or_not, name_there}
 use Rattle.btf_types.proofs.FaultlessHeads.{IntIsRight}
 
 -- info is told by its parts

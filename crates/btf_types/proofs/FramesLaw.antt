@@ -1,5 +1,5 @@
 -- A type section is a list of frames, or has a fault of framing.
-use Rattle.std.proofs.Common.{◌≡◌, ◌≢◌, ◌⊎◌, ℕ, zero, suc, ◌+◌, ◌-◌, ◌*◌, ◌<◌, ◌≤◌, Bool, true, false, List, [], ◌∷◌, ◌++◌, length, take, drop, refl, sym, ap, subst, ◌∙◌, inl, inr, append_assoc, append-nil, arith}
+use Rattle.std.proofs.Common.{◌≡◌, ◌≢◌, ◌⊎◌, ℕ, zero, suc, ◌+◌, ◌*◌, ◌<◌, ◌≤◌, Bool, List, [], ◌∷◌, ◌++◌, length, drop, refl, sym, ap, ◌∙◌, inl, inr, append_assoc, arith}
 use Rattle.std.specs.Prelude.{IsTrue, IsFalse}
 use Rattle.std.specs.List.{All}
 use Rattle.std.proofs.lemmas.Bool.{cases_lt, cases_eq}
@@ -12,7 +12,7 @@ use Rattle.btf_raw.specs.declared.cause.BtfCause.{BtfCause}
 use Rattle.btf_raw.specs.declared.cause.BtfCause.TheVariants.{RecordCut, InfoBits, KindNumber, FlagSet, Vlen, TailCut}
 use Rattle.btf_raw.specs.Kinds.{kind_of, vlen_of, flag_of, unused_of, is_kind, has_flag, has_vlen, tail_words}
 use Rattle.btf_raw.specs.Frames.{IsFrame, IsAllowed, Frames, InfoFault, RecordFault, FramingFault, bytes_of, section_of}
-use Rattle.btf_types.specs.Reading.{frame_at, info_at}
+use Rattle.btf_types.specs.Reading.{frame_at}
 use Rattle.btf_types.proofs.FramingSteps.{words_at, frame_is_frame, bytes_of-frame_at}
 use Rattle.btf_types.proofs.TextSteps.{decided}
 
@@ -35,10 +35,12 @@ info_judged info = elim (cases_eq (unused_of info) 0) [
       | inl none ↦ inl (inl none)
       | inr some ↦ elim (decided has) [ inl may ↦ inl (inr may) | inr not ↦ inr (some, not) ]
     ]
+
     vlen_judged : unused_of info ≡ 0 → IsTrue (is_kind (kind_of info)) → (flag_of info ≡ 0) ⊎ IsTrue (has_flag (kind_of info))
         → ((vlen_of info ≡ 0) ⊎ IsTrue (has_vlen (kind_of info))) ⊎ ((vlen_of info ≢ 0) × IsFalse (has_vlen (kind_of info))) → IsAllowed info ⊎ AgainstInfo info
     vlen_judged unused known flag (inl vlen) = inl (record { unused = unused; kind = known; flag = flag; vlen = vlen })
     vlen_judged unused known flag (inr against) = inr (record { cause = Vlen; fault = (known, against.0, against.1) })
+
     flag_judged : unused_of info ≡ 0 → IsTrue (is_kind (kind_of info))
         → ((flag_of info ≡ 0) ⊎ IsTrue (has_flag (kind_of info))) ⊎ ((flag_of info ≢ 0) × IsFalse (has_flag (kind_of info))) → IsAllowed info ⊎ AgainstInfo info
     flag_judged unused known (inl flag) = vlen_judged unused known flag (zero_or (vlen_of info) (has_vlen (kind_of info)))
@@ -106,17 +108,17 @@ walk o (suc fuel) (c ∷ rest) fits h = elim (first_frame o (c ∷ rest) fits (o
       let less = one.less in
       elim (walk o fuel one.after one.fits (omega arith)) [
         | inl more ↦ inl (record {
-            frames = one.frame ∷ more.frames;
-            each = All-cons IsFrame one.frame more.frames one.is_frame more.each;
-            whole = one.whole ∙ ap (λ (t : List ℕ). bytes_of o one.frame ++ t) more.whole;
-          })
+          frames = one.frame ∷ more.frames;
+          each = All-cons IsFrame one.frame more.frames one.is_frame more.each;
+          whole = one.whole ∙ ap (λ (t : List ℕ). bytes_of o one.frame ++ t) more.whole;
+        })
         | inr more ↦ inr (record {
-            frames = one.frame ∷ more.frames;
-            rest = more.rest;
-            each = All-cons IsFrame one.frame more.frames one.is_frame more.each;
-            whole = one.whole ∙ ap (λ (t : List ℕ). bytes_of o one.frame ++ t) more.whole ∙ sym (append_assoc (bytes_of o one.frame) (section_of o more.frames) more.rest);
-            first = more.first;
-          })
+          frames = one.frame ∷ more.frames;
+          rest = more.rest;
+          each = All-cons IsFrame one.frame more.frames one.is_frame more.each;
+          whole = one.whole ∙ ap (λ (t : List ℕ). bytes_of o one.frame ++ t) more.whole ∙ sym (append_assoc (bytes_of o one.frame) (section_of o more.frames) more.rest);
+          first = more.first;
+        })
       ]
 ]
 
@@ -125,12 +127,12 @@ pub frames_there : (o : Order) (types : List ℕ) → IsBytes types → ((place 
 frames_there o types fits none = elim (walk o (length types) types fits (omega arith)) [
   | inl all ↦ (all.frames, record { each = all.each; whole = all.whole })
   | inr broken ↦ absurd (none (length (section_of o broken.frames) + broken.first.place) broken.first.cause (record {
-      frames = broken.frames;
-      rest = broken.rest;
-      offset = broken.first.place;
-      each = broken.each;
-      whole = broken.whole;
-      fault = broken.first.fault;
-      place_is = refl;
-    }))
+    frames = broken.frames;
+    rest = broken.rest;
+    offset = broken.first.place;
+    each = broken.each;
+    whole = broken.whole;
+    fault = broken.first.fault;
+    place_is = refl;
+  }))
 ]

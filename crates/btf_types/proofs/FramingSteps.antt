@@ -1,7 +1,6 @@
 -- One more frame.
-use Rattle.std.proofs.Common.{◌≡◌, ◌≢◌, ◌⊎◌, ℕ, zero, suc, ◌+◌, ◌-◌, ◌*◌, ◌^◌, ◌<◌, ◌≤◌, List, [], ◌∷◌, ◌++◌, length, get_or, take, drop, map, refl, sym, ap, subst, ◌∙◌, inl, inr, append_assoc, length-append, append-nil, add-zero, lit<, arith}
+use Rattle.std.proofs.Common.{◌≡◌, ℕ, zero, suc, ◌+◌, ◌*◌, ◌<◌, ◌≤◌, List, [], ◌∷◌, ◌++◌, length, take, drop, refl, sym, ap, subst, ◌∙◌, inl, inr, length-append, append-nil, lit<, arith}
 use Rattle.std.specs.Prelude.{slice_index}
-use Rattle.std.specs.List.{All, flat_map}
 use Rattle.std.proofs.lemmas.Grind.{flat_map-append}
 use Rattle.std.proofs.lemmas.Bool.{cases_lt}
 use Rattle.std.proofs.lemmas.List.{map_push, drop-drop, take-append-drop, take-append-le, length-take-le, length-map, take_at, get_or_past}
@@ -16,7 +15,7 @@ use Rattle.btf_raw.specs.Kinds.{kind_of, vlen_of, tail_words}
 use Rattle.btf_raw.specs.Frames.{IsFrame, IsAllowed, RecordFault, FramingFault, bytes_of, section_of, info_word}
 use Rattle.btf_raw.specs.Heads.{HeadAt, HeadFault}
 use Rattle.btf_types.specs.Reading.{tabulate, info_at, frame_at, frames_at}
-use Rattle.btf_types.specs.TableInvariant.{IsFramed, IsFramedTo}
+use Rattle.btf_types.specs.TableInvariant.{IsFramedTo}
 use Rattle.btf_raw.specs.declared.cause.BtfCause.{BtfCause}
 use Rattle.btf_raw.specs.Cause.{LeastByPlace}
 use Rattle.btf_raw.proofs.Frames.{IsNoFrame, frame_has_none, frames_cancel}
@@ -90,7 +89,7 @@ first_framing_fault o types places pos place cause so least =
     let before : length (section_of o frames) ≡ pos = ap length so.whole ∙ length-take-le pos types so.inside in
     let whole : types ≡ section_of o frames ++ drop pos types = sym (rw so.whole (take-append-drop pos types)) in
     let no_frame : (x : List ℕ) (q : ℕ) (d : BtfCause) → RecordFault o x q d → IsNoFrame o x =
-        λ x q d fault f rest frame is. frame_has_none o f rest q d frame (subst (λ (b : List ℕ). RecordFault o b q d) is fault) in
+    λ x q d fault f rest frame is. frame_has_none o f rest q d frame (subst (λ (b : List ℕ). RecordFault o b q d) is fault) in
     record {
       holds = record {
         frames = frames;
@@ -103,6 +102,6 @@ first_framing_fault o types places pos place cause so least =
       };
       least = λ q d other.
           let same = frames_cancel o frames other.frames (drop pos types) other.rest so.each other.each
-              (no_frame (drop pos types) least.holds.0 cause least.holds.1) (no_frame other.rest other.offset d other.fault) (sym whole ∙ other.whole) in
+          (no_frame (drop pos types) least.holds.0 cause least.holds.1) (no_frame other.rest other.offset d other.fault) (sym whole ∙ other.whole) in
           least.least q d (other.offset, subst (λ (b : List ℕ). RecordFault o b other.offset d) (sym same.rest) other.fault, other.place_is ∙ rw (← same.frames, before) refl);
     }

@@ -1,5 +1,5 @@
 -- The items of a frame without fault, as they are read.
-use Rattle.std.proofs.Common.{◌≡◌, ◌⊎◌, ℕ, zero, suc, ◌+◌, ◌*◌, ◌<◌, ◌≤◌, Bool, true, false, Some, List, [], ◌∷◌, length, refl, sym, ap, subst, ◌∙◌, inl, inr, lit<, arith}
+use Rattle.std.proofs.Common.{◌≡◌, ℕ, ◌+◌, ◌*◌, ◌<◌, true, false, Some, List, refl, sym, ap, subst, ◌∙◌, inl, inr, lit<, arith}
 use Rattle.std.specs.Prelude.{IsTrue, slice_index, slice_get}
 use Rattle.btf_raw.specs.Header.{HasNulEnds}
 use Rattle.btf_raw.specs.Kinds.{item_words}
@@ -55,8 +55,8 @@ item_read strings frame is k j low at name its_kind its_flag first second third 
     let there = item_there strings frame k low in
     let whole : item_from (text_from strings first) its_kind its_flag first second third ≡ item_of strings frame (3 + item_words (kind frame) * k) = rw (kind-is, flag-is, first-is, second-is, third-is, at) refl in
     let same : item_from name its_kind its_flag first second third ≡ item_from (text_from strings first) its_kind its_flag first second third =
-        elim (decided (has_item_names its_kind)) [
-          | inl has ↦ ap (λ (x : List ℕ). item_from x its_kind its_flag first second third) (named has)
-          | inr none ↦ nameless (subst (λ (m : ℕ). KindIs m) (sym kind-is) (known frame is)) name (text_from strings first) its_flag first second third none
-        ] in
+    elim (decided (has_item_names its_kind)) [
+      | inl has ↦ ap (λ (x : List ℕ). item_from x its_kind its_flag first second third) (named has)
+      | inr none ↦ nameless (subst (λ (m : ℕ). KindIs m) (sym kind-is) (known frame is)) name (text_from strings first) its_flag first second third none
+    ] in
     there ∙ ap (λ (x : TypeItem). Some x) (sym whole ∙ sym same)

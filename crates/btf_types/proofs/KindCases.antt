@@ -1,5 +1,5 @@
 -- The 19 kinds, one by one: for proofs by cases on a kind.
-use Rattle.std.proofs.Common.{◌≡◌, ◌⊎◌, ℕ, Bool, true, false, List, [], ◌∷◌, inl, inr, sym, subst}
+use Rattle.std.proofs.Common.{◌≡◌, ℕ, true, List, [], ◌∷◌, inl, inr, sym, subst}
 use Rattle.std.specs.Prelude.{IsTrue, ◌==◌, ⊤}
 use Rattle.std.proofs.lemmas.Bool.{or_cases, eqb-true}
 use Rattle.btf_raw.specs.declared.kinds.TheConstants.{INT, PTR, ARRAY, STRUCT, UNION, ENUM, FWD, TYPEDEF, VOLATILE, CONST, RESTRICT, FUNC, FUNC_PROTO, VAR, DATASEC, FLOAT, DECL_TAG, TYPE_TAG, ENUM64}

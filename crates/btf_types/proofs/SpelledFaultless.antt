@@ -1,7 +1,7 @@
 -- A frame that spells a good record has no fault.
-use Rattle.std.proofs.Common.{◌≡◌, ◌≢◌, ◌⊎◌, ℕ, zero, suc, ◌+◌, ◌-◌, ◌*◌, ◌/◌, ◌%◌, ◌^◌, ◌<◌, ◌≤◌, Bool, true, false, Option, Some, None, List, [], ◌∷◌, ◌++◌, length, get_or, refl, sym, ap, subst, ◌∙◌, inl, inr, length-append, lit<, lit≤, arith}
-use Rattle.std.specs.Prelude.{IsTrue, IsFalse, IsUtf8, IfSome, slice_index, ◌==◌, not, if◌then◌else◌}
-use Rattle.std.specs.List.{All, AllZip, concat, list_any}
+use Rattle.std.proofs.Common.{◌≡◌, ◌≢◌, ◌⊎◌, ℕ, zero, suc, ◌+◌, ◌*◌, ◌/◌, ◌%◌, ◌^◌, ◌<◌, ◌≤◌, Bool, true, Some, None, List, [], ◌∷◌, length, get_or, refl, sym, ap, subst, ◌∙◌, inl, inr, lit<, lit≤, arith}
+use Rattle.std.specs.Prelude.{IsTrue, IsUtf8, slice_index, ◌==◌, not, if◌then◌else◌}
+use Rattle.std.specs.List.{All}
 use Rattle.std.proofs.lemmas.List.Elements.{All-head, All-tail}
 use Rattle.btf_raw.specs.declared.cause.BtfCause.{BtfCause}
 use Rattle.btf_raw.specs.declared.cause.BtfCause.TheVariants.{NameRange, NameUtf8, NameMissing, NameUnwanted, NotZero, Size, Reference, TargetKind, IntWord, MemberInt, MemberPlace, Linkage, Component}
@@ -14,13 +14,13 @@ use Rattle.btf_types.specs.declared.values.Encoding.{Encoding}
 use Rattle.btf_types.specs.declared.values.Encoding.TheVariants.{Plain, Signed, Char, Bool as Boolean}
 use Rattle.btf_types.specs.declared.values.Linkage.{Linkage as ItsLinkage}
 use Rattle.btf_types.specs.declared.values.Linkage.TheVariants.{LStatic, LGlobal, LExtern}
-use Rattle.btf_types.specs.Values.{TypeHead, KInt, KPtr, KArray, KStruct, KUnion, KEnum, KFwd, KTypedef, KVolatile, KConst, KRestrict, KFunc, KFuncProto, KVar, KDatasec, KFloat, KDeclTag, KTypeTag, KEnum64, TypeItem, Member, EnumValue, Value64, Param, Entry, TypeRecord}
+use Rattle.btf_types.specs.Values.{TypeHead, KInt, KPtr, KArray, KStruct, KUnion, KEnum, KFwd, KTypedef, KVolatile, KConst, KRestrict, KFunc, KFuncProto, KVar, KDatasec, KDeclTag, KTypeTag, KEnum64, TypeItem, Member, EnumValue, Value64, Param, Entry, TypeRecord}
 use Rattle.btf_types.specs.Names.{head_name, item_name}
-use Rattle.btf_types.specs.Spelling.{kind_number, head_third, record_vlen, head_tail, linkage_number, encoding_number, component_word, MemberWord, ItemSpells, Spells}
-use Rattle.btf_types.specs.Checks.{TypeFacts, type_at, needs_name, has_no_name, has_target, has_item_names, is_struct, size_fits, bits_fit, target_fits, component_fits, member_fits, member_int_fits}
+use Rattle.btf_types.specs.Spelling.{kind_number, head_third, head_tail, linkage_number, encoding_number, MemberWord, ItemSpells, Spells}
+use Rattle.btf_types.specs.Checks.{TypeFacts, has_no_name, has_target, has_item_names, is_struct, size_fits, bits_fit, component_fits, member_fits, member_int_fits}
 use Rattle.btf_types.specs.Good as good
 use Rattle.btf_types.specs.Good.{HeadInRange, HeadIsGood, ItemOf, head_targets, item_targets, has_width, has_bit_fields, TargetIsGood, MemberIsGood, IsGoodRecord, facts_of}
-use Rattle.btf_types.specs.FieldFaults.{IsItemWord, IsNameField, IsTypeField, IsMemberWord, HasBitFields, bit_offset, width, int_unused, int_encoding, int_offset, int_bits, frame_facts, WordFault}
+use Rattle.btf_types.specs.FieldFaults.{IsNameField, IsTypeField, IsMemberWord, HasBitFields, int_unused, int_encoding, int_offset, int_bits, frame_facts, WordFault}
 use Rattle.std.proofs.lemmas.Bool.Decides.{eqb_tells}
 use Rattle.btf_types.proofs.KindCases.{one_among}
 use Rattle.btf_types.proofs.Members.{Has-get_or, any_from_Has}
@@ -317,9 +317,9 @@ module _ (strings : List ℕ) (types : List TypeFacts) (r : TypeRecord) (f : Lis
       elim fault.2 [
         | inl some ↦ some (ap (λ (w : ℕ). int_unused w) word ∙ int.unused)
         | inr rest ↦ elim rest [
-            | inl code ↦ let fails = rw word at code in let passes = int.encoding in absurd cc
-            | inr bits ↦ let fails = rw (word, n.third) at bits in let passes = int.bits in absurd cc
-          ]
+          | inl code ↦ let fails = rw word at code in let passes = int.encoding in absurd cc
+          | inr bits ↦ let fails = rw (word, n.third) at bits in let passes = int.bits in absurd cc
+        ]
       ]
   spelled_faultless j MemberInt fault =
       let passes = (member_at 1 j fault.0).int (bit_fields_are fault.1) in
@@ -351,7 +351,7 @@ module _ (strings : List ℕ) (types : List TypeFacts) (r : TypeRecord) (f : Lis
       let int : kind_number r.head ≡ INT → IntStands r.head (get_or (head_tail r.head) 0 0) = λ is. int_stands types r.head is right.head_in_range right.head in
       let word : kind_number r.head ≡ INT → slice_index f 3 ≡ get_or (head_tail r.head) 0 0 = λ is. tail_word strings r f s 0 (int is).inside in
       let its_offset : good.int_offset r.head ≡ (if kind f == INT then int_offset (slice_index f 3) else 0) =
-          rw n.kind (offset_facts r.head (int_offset (slice_index f 3)) (λ is. ap (λ (w : ℕ). int_offset w) (word is) ∙ (int is).offset_is)) in
+      rw n.kind (offset_facts r.head (int_offset (slice_index f 3)) (λ is. ap (λ (w : ℕ). int_offset w) (word is) ∙ (int is).offset_is)) in
       let its_bits : good.int_bits r.head ≡ (if kind f == INT then int_bits (slice_index f 3) else 0) =
-          rw n.kind (bits_facts r.head (int_bits (slice_index f 3)) (λ is. ap (λ (w : ℕ). int_bits w) (word is) ∙ (int is).bits_is)) in
+      rw n.kind (bits_facts r.head (int_bits (slice_index f 3)) (λ is. ap (λ (w : ℕ). int_bits w) (word is) ∙ (int is).bits_is)) in
       rw (its_kind, its_count, its_third, its_offset, its_bits) refl

@@ -1,22 +1,18 @@
 -- The items of a good record, in the words of the frame that spells it.
-use Rattle.std.proofs.Common.{◌≡◌, ◌≢◌, ◌⊎◌, ℕ, zero, suc, ◌+◌, ◌-◌, ◌*◌, ◌/◌, ◌%◌, ◌^◌, ◌<◌, ◌≤◌, Bool, true, false, List, [], ◌∷◌, ◌++◌, length, get_or, refl, sym, ap, subst, ◌∙◌, inl, inr, length-append, lit<, arith}
-use Rattle.std.specs.Prelude.{IsTrue, slice_index, ◌==◌, if◌then◌else◌}
+use Rattle.std.proofs.Common.{◌≡◌, ℕ, zero, suc, ◌+◌, ◌*◌, ◌<◌, List, [], ◌∷◌, ◌++◌, length, get_or, refl, sym, ap, ◌∙◌, arith}
+use Rattle.std.specs.Prelude.{slice_index}
 use Rattle.std.specs.List.{All, AllZip, concat}
 use Rattle.std.proofs.lemmas.List.Elements.{All-head, All-tail}
 use Rattle.std.proofs.Math.ListN.{get_or-append}
 use Rattle.std.proofs.lemmas.List.{get_or-drop, drop_at}
-use Rattle.btf_raw.specs.declared.kinds.TheConstants.{STRUCT, UNION, FUNC_PROTO, DATASEC}
-use Rattle.btf_raw.specs.Kinds.{one_of, item_words}
-use Rattle.btf_raw.specs.Names.{NameAt}
-use Rattle.btf_raw.specs.Frames.{kind, vlen, flag, third_word}
-use Rattle.btf_types.specs.Values.{TypeHead, KInt, KPtr, KArray, KStruct, KUnion, KEnum, KFwd, KTypedef, KVolatile, KConst, KRestrict, KFunc, KFuncProto, KVar, KDatasec, KFloat, KDeclTag, KTypeTag, KEnum64, TypeItem, Member, EnumValue, Value64, Param, Entry, TypeRecord}
-use Rattle.btf_types.specs.Names.{item_name}
-use Rattle.btf_types.specs.Spelling.{kind_number, head_third, record_vlen, head_tail, MemberWord, ItemSpells, Spells}
-use Rattle.btf_types.specs.Checks.{TypeFacts, has_item_names, is_struct}
-use Rattle.btf_types.specs.Good.{ItemOf, item_targets, has_width, IsGoodRecord}
-use Rattle.btf_types.specs.FieldFaults.{bit_offset, width}
+use Rattle.btf_raw.specs.Kinds.{item_words}
+use Rattle.btf_raw.specs.Frames.{kind, vlen, flag}
+use Rattle.btf_types.specs.Values.{TypeHead, KInt, KArray, KFunc, KVar, KDeclTag, TypeItem, Entry, TypeRecord}
+use Rattle.btf_types.specs.Spelling.{kind_number, head_tail, ItemSpells, Spells}
+use Rattle.btf_types.specs.Checks.{TypeFacts}
+use Rattle.btf_types.specs.Good.{ItemOf, IsGoodRecord}
 use Rattle.btf_types.proofs.Spelled.{vlen_from, item_size}
-use Rattle.btf_types.proofs.Denoting.{IsNumbers, numbers}
+use Rattle.btf_types.proofs.Denoting.{numbers}
 
 pub nothing : TypeItem
 nothing = Entry 0 0 0
@@ -41,7 +37,7 @@ piece_word strings flag h (x ∷ xs) (ws ∷ wss) (suc i) m of z low word =
     let rest = piece_word strings flag h xs wss i m (All-tail (ItemOf h) x xs of) z.1 (omega arith) word in
     let at : item_words (kind_number h) * suc i + m ≡ length ws + (item_words (kind_number h) * i + m) = grind arith in
     rw at (sym (get_or-drop (length ws) (ws ++ concat wss) (item_words (kind_number h) * i + m) 0)
-        ∙ ap (λ (t : List ℕ). get_or t (item_words (kind_number h) * i + m) 0) (drop_at ws (concat wss) (length ws) refl) ∙ rest)
+    ∙ ap (λ (t : List ℕ). get_or t (item_words (kind_number h) * i + m) 0) (drop_at ws (concat wss) (length ws) refl) ∙ rest)
 
 -- a head whose record has items has no words of its own behind the third, and vlen counts its items
 no_tail : (h : TypeHead) → 0 < item_words (kind_number h) → head_tail h ≡ []
@@ -80,5 +76,5 @@ item_stands strings types r f good s i some low =
           let at : 3 + item_words (kind f) * i + m ≡ suc (suc (suc j)) = rw its (omega arith) in
           let behind : head_tail r.head ++ concat s.item_words ≡ concat s.item_words = rw (no_tail r.head (omega arith)) refl in
           rw at (ap (λ (t : List ℕ). get_or t (suc (suc (suc j))) 0) s.whole ∙ ap (λ (t : List ℕ). get_or t j 0) behind
-              ∙ piece_word strings s.flag r.head r.items s.item_words i m good.items_of s.items inside (omega arith));
+          ∙ piece_word strings s.flag r.head r.items s.item_words i m good.items_of s.items inside (omega arith));
     }

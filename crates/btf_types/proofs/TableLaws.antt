@@ -10,7 +10,7 @@ use Rattle.std.proofs.lemmas.List.Elements.{All-nil, All-cons, All-head, All-app
 use Rattle.btf_raw.specs.Names.{IsWithoutNul, TextAt}
 use Rattle.btf_types.specs.Names.{IsName, with_nul, place_in, kept, is_some_text, distinct}
 use Rattle.btf_raw.specs.Header.{HasNulEnds}
-use Rattle.btf_types.specs.SharedNames.{is_proper_suffix, hosts, host, shared_table, shared_place}
+use Rattle.btf_types.specs.SharedNames.{hosts, host, shared_table, shared_place}
 use Rattle.btf_types.specs.TableLaws.{SharedPlacesStand, IsCutInto, StandsIn, SectionsAreCut, NamesEndStrings, HostsEndApart, SharedIsShortest, NextTellsHost, TableLength, HostIsLeast, HostIsOne}
 use Rattle.btf_types.proofs.Members.{Has, Has-get_or, Has-from_Contains, Contains-from_Has, Has-from_filter}
 use Rattle.btf_types.proofs.Texts.{text_at_place, empty_at_zero, tail_at, Has-kept, Has-from_kept}

@@ -1,9 +1,9 @@
 -- More on lists by a function of the index, and on the words of a list.
-use Rattle.std.proofs.Common.{◌≡◌, ◌⊎◌, ℕ, zero, suc, ◌+◌, ◌*◌, ◌<◌, ◌≤◌, Bool, true, false, List, [], ◌∷◌, ◌++◌, length, get_or, take, drop, refl, sym, ap, ◌∙◌, inl, inr, append-nil, drop-cons, arith}
+use Rattle.std.proofs.Common.{◌≡◌, ℕ, zero, suc, ◌+◌, ◌*◌, ◌<◌, ◌≤◌, Bool, true, false, List, [], ◌∷◌, ◌++◌, length, get_or, take, drop, refl, sym, ap, ◌∙◌, inl, inr, append-nil, drop-cons, arith}
 use Rattle.std.specs.Prelude.{slice_get, Some}
 use Rattle.std.specs.List.{All, AllZip, concat, list_any}
 use Rattle.std.proofs.lemmas.Bool.{cases_lt, or_cases}
-use Rattle.std.proofs.lemmas.List.{length-append, length-drop, take_all, drop_all, drop-drop}
+use Rattle.std.proofs.lemmas.List.{length-drop, take_all, drop_all, drop-drop}
 use Rattle.std.proofs.lemmas.List.Elements.{All-nil, All-push}
 use Rattle.std.proofs.lemmas.List.Folds.{concat-append, list_any-append}
 use Rattle.std.proofs.Math.Seq.{take-add}
@@ -45,6 +45,7 @@ get-tabulate f (suc n) k h = elim (cases_lt k n) [
     get-front [] ys i h = absurd (omega arith)
     get-front (x ∷ xs) ys zero h = refl
     get-front (x ∷ xs) ys (suc i) h = get-front xs ys i (omega arith)
+
     get-seam : {X : Type 0} (xs : List X) (x : X) → slice_get (xs ++ x ∷ []) (length xs) ≡ Some x
     get-seam [] x = refl
     get-seam (y ∷ xs) x = get-seam xs x

@@ -1,5 +1,5 @@
 -- The text at an offset of a section with NUL ends, and when it is a name.
-use Rattle.std.proofs.Common.{◌≡◌, ◌≢◌, ◌⊎◌, ℕ, zero, suc, ◌+◌, ◌-◌, ◌<◌, ◌≤◌, Bool, true, false, List, [], ◌∷◌, ◌++◌, length, get_or, take, drop, refl, sym, ap, subst, ◌∙◌, inl, inr, take-append-drop, append_assoc, arith}
+use Rattle.std.proofs.Common.{◌≡◌, ◌≢◌, ◌⊎◌, ℕ, zero, suc, ◌-◌, ◌<◌, ◌≤◌, Bool, true, false, List, [], ◌∷◌, ◌++◌, length, get_or, take, drop, refl, sym, ap, subst, ◌∙◌, inl, inr, take-append-drop, append_assoc, arith}
 use Rattle.std.specs.Prelude.{IsUtf8}
 use Rattle.std.specs.Str.{is_utf8}
 use Rattle.std.proofs.lemmas.Bool.{cases_lt}
@@ -33,7 +33,7 @@ first_nul (suc x ∷ xs) (suc k) h e =
 pub text_stands : (strings : List ℕ) (offset : ℕ) → HasNulEnds strings → offset < length strings → TextAt strings offset (text_from strings offset)
 text_stands strings offset ends h =
     let last : get_or (drop offset strings) (length strings - 1 - offset) 0 ≡ 0 =
-        get_or-drop offset strings (length strings - 1 - offset) 0 ∙ subst (λ (i : ℕ). get_or strings i 0 ≡ 0) (omega arith) ends.last in
+    get_or-drop offset strings (length strings - 1 - offset) 0 ∙ subst (λ (i : ℕ). get_or strings i 0 ≡ 0) (omega arith) ends.last in
     let nul = first_nul (drop offset strings) (length strings - 1 - offset) (omega (arith, length-drop offset strings)) last in
     record {
       without_nul = nul.before;

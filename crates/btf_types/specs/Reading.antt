@@ -1,5 +1,5 @@
 -- The record that a frame reads as, whatever its words are: what the fields of a table mean.
-use Rattle.std.specs.Prelude.{◌≡◌, ℕ, zero, suc, ◌+◌, ◌*◌, ◌/◌, ◌%◌, ◌^◌, Bool, not, ◌==◌, Option, Some, None, List, [], ◌∷◌, ◌++◌, length, map, drop, slice_index, if◌then◌else◌}
+use Rattle.std.specs.Prelude.{ℕ, zero, suc, ◌+◌, ◌*◌, ◌/◌, ◌%◌, ◌^◌, Bool, not, ◌==◌, Option, Some, None, List, [], ◌∷◌, ◌++◌, map, drop, slice_index, if◌then◌else◌}
 use Rattle.bpf_words.specs.declared.Order.{Order}
 use Rattle.bpf_words.specs.Words.{word32_at}
 use Rattle.btf_raw.specs.declared.kinds.TheConstants.{INT, PTR, ARRAY, STRUCT, UNION, ENUM, FWD, TYPEDEF, VOLATILE, CONST, RESTRICT, FUNC, FUNC_PROTO, VAR, DATASEC, FLOAT, DECL_TAG, TYPE_TAG, ENUM64}
@@ -10,7 +10,7 @@ use Rattle.btf_types.specs.declared.values.Encoding.TheVariants.{Plain, Signed, 
 use Rattle.btf_types.specs.declared.values.Linkage.{Linkage}
 use Rattle.btf_types.specs.declared.values.Linkage.TheVariants.{LStatic, LGlobal, LExtern}
 use Rattle.btf_types.specs.Values.{TypeHead, KInt, KPtr, KArray, KStruct, KUnion, KEnum, KFwd, KTypedef, KVolatile, KConst, KRestrict, KFunc, KFuncProto, KVar, KDatasec, KFloat, KDeclTag, KTypeTag, KEnum64, TypeItem, Member, EnumValue, Value64, Param, Entry, TypeRecord}
-use Rattle.btf_types.specs.FieldFaults.{int_word, int_encoding, int_offset, int_bits, bit_offset, width}
+use Rattle.btf_types.specs.FieldFaults.{int_encoding, int_offset, int_bits}
 
 -- the bytes before the first NUL
 abbrev pub before_nul : List ℕ → List ℕ

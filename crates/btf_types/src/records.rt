@@ -8,9 +8,9 @@ use crate::values::Head;
 use bpf_words::Order;
 use std::marker::Model;
 
-/// The heads of a table's records with their numbers, in order; from [`crate::BtfView::records`] and [`crate::Btf::records`].
+/// The heads of a table's records with their numbers, in order, from [`crate::BtfView::records`] or [`crate::Btf::records`].
 ///
-/// After the last record it gives `None`, and goes on to do so.
+/// After the last record it gives `None`, and goes on to do so. No step takes memory.
 #[derive(Drop)]
 pub struct Records<'a> {
     pub(crate) order: Order,
@@ -42,6 +42,9 @@ impl<'a> Iterator for Records<'a> {
     fn next(&mut self) -> Option<(u32, Head<'a>)> {
         let pos = *self.places.get(self.given as usize)?;
         self.given += 1;
-        Some((self.given, head_at(self.order, self.types, self.strings, pos as usize)))
+        Some((
+            self.given,
+            head_at(self.order, self.types, self.strings, pos as usize),
+        ))
     }
 }

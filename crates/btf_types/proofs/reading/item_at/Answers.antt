@@ -1,10 +1,9 @@
-use Rattle.std.proofs.Common.{◌≡◌, true, ◌+◌, ◌*◌, ℕ, List, sym, ap, subst, ◌∙◌}
+use Rattle.std.proofs.Common.{◌≡◌, true, ◌+◌, ◌*◌, ℕ, ap, ◌∙◌}
 use Rattle.std.specs.Prelude.{slice_index}
 use Rattle.btf_raw.specs.Kinds.{item_words}
-use Rattle.btf_raw.specs.Names.{NameAt}
 use Rattle.btf_raw.specs.Frames.{kind, flag}
 use Rattle.btf_types.specs.Checks.{has_item_names}
-use Rattle.btf_types.specs.Reading.{frame_at, text_from}
+use Rattle.btf_types.specs.Reading.{frame_at}
 use Rattle.btf_types.proofs.ItemReads.{item_read}
 use Rattle.btf_types.proofs.reading.item_at.Goals.{then-has_item_names, else-has_item_names}
 use Rattle.btf_types.proofs.reading.item_at.Goals as goal
@@ -26,9 +25,9 @@ returns c =
     let its_flag : c.flag_of.result ≡ flag f = cc in
     rw c.item_from.ensures
     (item_read c.args.strings.now f c.requires.stands.frame c.args.k (3 + c.item_words.result * c.args.k) c.requires.inside words
-     c.if-has_item_names.name.now c.kind_of-kind.result c.flag_of.result c.word_at-first.result c.word_at.result c.word_at-2.result
-     its_kind its_flag c.word_at-first.ensures c.word_at.ensures c.word_at-2.ensures
-     (λ has. elim c.if-has_item_names.branch [
-       | then-has_item_names w ↦ rw w.name-is w.lent_name-name.ensures
-       | else-has_item_names w ↦ let fails = w.if-has_item_names.false in let same = c.has_item_names.ensures in absurd cc
-     ]))
+    c.if-has_item_names.name.now c.kind_of-kind.result c.flag_of.result c.word_at-first.result c.word_at.result c.word_at-2.result
+    its_kind its_flag c.word_at-first.ensures c.word_at.ensures c.word_at-2.ensures
+    (λ has. elim c.if-has_item_names.branch [
+      | then-has_item_names w ↦ rw w.name-is w.lent_name-name.ensures
+      | else-has_item_names w ↦ let fails = w.if-has_item_names.false in let same = c.has_item_names.ensures in absurd cc
+    ]))

@@ -1,6 +1,5 @@
-use Rattle.std.proofs.Common.{◌≡◌, ℕ, ◌+◌, ◌∷◌, ◌<◌, length, get_or, ap, sym, ◌∙◌, arith}
+use Rattle.std.proofs.Common.{◌+◌, ◌∷◌, length, ap, sym, ◌∙◌, arith}
 use Rattle.btf_types.specs.Values.{TypeHead}
-use Rattle.btf_types.specs.Reading.{frame_at, record_of}
 use Rattle.btf_types.specs.TableInvariant.{records_left}
 use Rattle.btf_types.proofs.TableReads.{stands_at}
 use Rattle.btf_types.proofs.RecordSteps.{one_given}
