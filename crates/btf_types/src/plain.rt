@@ -98,12 +98,18 @@ impl<'a> Record<'a> {
             3 => 3,
             _ => 0,
         };
-        items.saturating_add(fixed).saturating_add(3).saturating_mul(4)
+        items
+            .saturating_add(fixed)
+            .saturating_add(3)
+            .saturating_mul(4)
     }
 
     /// Word m of item k, by its number in the record.
     fn item_word(&self, k: u32, m: usize) -> usize {
-        self.item_words().saturating_mul(k as usize).saturating_add(3).saturating_add(m)
+        self.item_words()
+            .saturating_mul(k as usize)
+            .saturating_add(3)
+            .saturating_add(m)
     }
 
     /// The width in a member's offset word.
@@ -113,7 +119,11 @@ impl<'a> Record<'a> {
 
     /// The bit offset in a member's offset word.
     fn bit_offset(&self, j: usize) -> u32 {
-        if self.flag() { self.word(j) & 0xff_ffff } else { self.word(j) }
+        if self.flag() {
+            self.word(j) & 0xff_ffff
+        } else {
+            self.word(j)
+        }
     }
 }
 
@@ -139,7 +149,11 @@ fn number_fault(bytes: &[u8], big: bool) -> Option<Fault> {
     let tail = tail_byte(bytes, header);
     let sections_fit = off == 0 && str_off == types || str_off == 0 && off == strings;
     by_cause(&[
-        (header < 24 || header > 4096 || u64::from(header) > len, 4, 5),
+        (
+            header < 24 || header > 4096 || u64::from(header) > len,
+            4,
+            5,
+        ),
         (tail.is_some(), tail.unwrap_or(0), 6),
         (types > 33_554_432, 12, 7),
         (strings == 0 || strings > 16_777_216, 20, 8),
@@ -159,7 +173,11 @@ fn header_fault(bytes: &[u8]) -> Option<Fault> {
         (bytes.get(2) != Some(&1), 2, 3),
         (bytes.get(3) != Some(&0), 3, 4),
     ]);
-    if fault.is_some() { fault } else { number_fault(bytes, big) }
+    if fault.is_some() {
+        fault
+    } else {
+        number_fault(bytes, big)
+    }
 }
 
 /// The sections of a file without a fault of its header.
@@ -183,7 +201,11 @@ fn string_fault(parts: Parts) -> Option<Fault> {
     let last = parts.strings.len().saturating_sub(1) as u64;
     by_cause(&[
         (parts.strings.first() != Some(&0), parts.strings_pos, 11),
-        (parts.strings.last() != Some(&0), parts.strings_pos.saturating_add(last), 12),
+        (
+            parts.strings.last() != Some(&0),
+            parts.strings_pos.saturating_add(last),
+            12,
+        ),
     ])
 }
 
@@ -203,13 +225,20 @@ fn record_fault(record: Record) -> Option<Fault> {
             (whole_info && !known, at, 15),
             (known && record.flag() && !may_flag, at, 16),
             (known && record.vlen() != 0 && !counts, at, 17),
-            (known && len >= 12 && len < record.size(), record.place(3), 18),
+            (
+                known && len >= 12 && len < record.size(),
+                record.place(3),
+                18,
+            ),
         ],
     )
 }
 
 /// The records up to the first that has a fault of the framing, and that fault.
-fn frames<'a>(alloc: Global, parts: Parts<'a>) -> Result<(Vec<Record<'a>>, Option<Fault>), AllocError> {
+fn frames<'a>(
+    alloc: Global,
+    parts: Parts<'a>,
+) -> Result<(Vec<Record<'a>>, Option<Fault>), AllocError> {
     let mut records = Vec::new(alloc);
     let mut rest = parts.types;
     for _ in 0..parts.types.len() {
@@ -285,7 +314,13 @@ fn type_fault(least: Option<Fault>, records: &[Record], record: Record, j: usize
         17 => !matches!(target, 4 | 5 | 12 | 14 | 8),
         _ => false,
     };
-    by_place(least, &[(beyond, record.place(j), 26), (!beyond && wrong, record.place(j), 27)])
+    by_place(
+        least,
+        &[
+            (beyond, record.place(j), 26),
+            (!beyond && wrong, record.place(j), 27),
+        ],
+    )
 }
 
 /// Whether a DECL_TAG's component isn't there.
@@ -327,14 +362,28 @@ fn is_odd_int(records: &[Record], id: u32) -> bool {
     int.kind() == 1 && !(word >> 16 & 0xff == 0 && matches!(word & 0xff, 8 | 16 | 32 | 64 | 128))
 }
 
-fn member_fault(least: Option<Fault>, records: &[Record], record: Record, k: u32, bit_fields: bool) -> Option<Fault> {
+fn member_fault(
+    least: Option<Fault>,
+    records: &[Record],
+    record: Record,
+    k: u32,
+    bit_fields: bool,
+) -> Option<Fault> {
     let (named, at) = (record.item_word(k, 1), record.item_word(k, 2));
     let bits = u64::from(record.bit_offset(at)) + u64::from(record.width(at));
     by_place(
         least,
         &[
-            (bit_fields && is_odd_int(records, record.word(named)), record.place(named), 29),
-            (bits.div_ceil(8) > u64::from(record.word(2)), record.place(at), 30),
+            (
+                bit_fields && is_odd_int(records, record.word(named)),
+                record.place(named),
+                29,
+            ),
+            (
+                bits.div_ceil(8) > u64::from(record.word(2)),
+                record.place(at),
+                30,
+            ),
         ],
     )
 }
@@ -364,18 +413,31 @@ fn head_fault(least: Option<Fault>, records: &[Record], record: Record) -> Optio
     by_place(
         least,
         &[
-            (matches!(kind, 3 | 7) && record.word(2) != 0, record.place(2), 24),
+            (
+                matches!(kind, 3 | 7) && record.word(2) != 0,
+                record.place(2),
+                24,
+            ),
             (size_is_wrong(record), record.place(2), 25),
             (kind == 1 && int_is_wrong(record), record.place(3), 28),
             (kind == 12 && record.vlen() > 2, record.place(1), 31),
             (kind == 14 && record.word(3) > 2, record.place(3), 31),
-            (kind == 17 && component_is_wrong(records, record), record.place(3), 32),
+            (
+                kind == 17 && component_is_wrong(records, record),
+                record.place(3),
+                32,
+            ),
         ],
     )
 }
 
 /// The faults of the items of a record.
-fn item_faults(fault: Option<Fault>, strings: &[u8], records: &[Record], record: Record) -> Option<Fault> {
+fn item_faults(
+    fault: Option<Fault>,
+    strings: &[u8],
+    records: &[Record],
+    record: Record,
+) -> Option<Fault> {
     let mut least = fault;
     let kind = record.kind();
     let bit_fields = matches!(kind, 4 | 5) && has_bit_fields(record);

@@ -8,32 +8,42 @@ use std::process::Abort;
 use std::test::Fail;
 
 /// An INT in big-endian order.
-const BIG_INT: &[u8] = b"\xeb\x9f\x01\0\0\0\0\x18\0\0\0\0\0\0\0\x10\0\0\0\x10\0\0\0\x05\0\0\0\x01\x01\0\0\0\0\0\0\x04\x01\0\0\x20\0int\0";
+const BIG_INT: &[u8] =
+    b"\xeb\x9f\x01\0\0\0\0\x18\0\0\0\0\0\0\0\x10\0\0\0\x10\0\0\0\x05\0\0\0\x01\x01\0\0\0\0\0\0\x04\x01\0\0\x20\0int\0";
 
 /// Two INTs, one named by the end of the other's name.
-const SHARED_NAME: &[u8] = b"\x9f\xeb\x01\0\x18\0\0\0\0\0\0\0\x20\0\0\0\x20\0\0\0\x0e\0\0\0\x01\0\0\0\0\0\0\x01\x04\0\0\0\x20\0\0\0\x0a\0\0\0\0\0\0\x01\x04\0\0\0\x20\0\0\x01\0unsigned int\0";
+const SHARED_NAME: &[u8] =
+    b"\x9f\xeb\x01\0\x18\0\0\0\0\0\0\0\x20\0\0\0\x20\0\0\0\x0e\0\0\0\x01\0\0\0\0\0\0\x01\x04\0\0\0\x20\0\0\0\x0a\0\0\0\0\0\0\x01\x04\0\0\0\x20\0\0\x01\0unsigned int\0";
 
 /// Four bytes more of header, the strings before the types, and a string that no record names.
-const STRINGS_FIRST: &[u8] = b"\x9f\xeb\x01\0\x1c\0\0\0\x07\0\0\0\x10\0\0\0\0\0\0\0\x07\0\0\0\0\0\0\0\0x\0int\0\x03\0\0\0\0\0\0\x01\x04\0\0\0\x20\0\0\x01";
+const STRINGS_FIRST: &[u8] =
+    b"\x9f\xeb\x01\0\x1c\0\0\0\x07\0\0\0\x10\0\0\0\0\0\0\0\x07\0\0\0\0\0\0\0\0x\0int\0\x03\0\0\0\0\0\0\x01\x04\0\0\0\x20\0\0\x01";
 
 /// A STRUCT with kind_flag 1, whose member's width is 0.
-const MEMBER: &[u8] = b"\x9f\xeb\x01\0\x18\0\0\0\0\0\0\0\x28\0\0\0\x28\0\0\0\x09\0\0\0\x01\0\0\0\0\0\0\x01\x04\0\0\0\x20\0\0\x01\x05\0\0\0\x01\0\0\x84\x04\0\0\0\x07\0\0\0\x01\0\0\0\0\0\0\0\0int\0s\0a\0";
+const MEMBER: &[u8] =
+    b"\x9f\xeb\x01\0\x18\0\0\0\0\0\0\0\x28\0\0\0\x28\0\0\0\x09\0\0\0\x01\0\0\0\0\0\0\x01\x04\0\0\0\x20\0\0\x01\x05\0\0\0\x01\0\0\x84\x04\0\0\0\x07\0\0\0\x01\0\0\0\0\0\0\0\0int\0s\0a\0";
 
 /// A PTR to a type that isn't there, and the same with eight bytes more.
-const BEYOND: &[u8] = b"\x9f\xeb\x01\0\x18\0\0\0\0\0\0\0\x0c\0\0\0\x0c\0\0\0\x01\0\0\0\0\0\0\0\0\0\0\x02\x02\0\0\0\0";
-const BEYOND_AND_CUT: &[u8] = b"\x9f\xeb\x01\0\x18\0\0\0\0\0\0\0\x14\0\0\0\x14\0\0\0\x01\0\0\0\0\0\0\0\0\0\0\x02\x02\0\0\0\0\0\0\0\0\0\0\0\0";
+const BEYOND: &[u8] =
+    b"\x9f\xeb\x01\0\x18\0\0\0\0\0\0\0\x0c\0\0\0\x0c\0\0\0\x01\0\0\0\0\0\0\0\0\0\0\x02\x02\0\0\0\0";
+
+const BEYOND_AND_CUT: &[u8] =
+    b"\x9f\xeb\x01\0\x18\0\0\0\0\0\0\0\x14\0\0\0\x14\0\0\0\x01\0\0\0\0\0\0\0\0\0\0\x02\x02\0\0\0\0\0\0\0\0\0\0\0\0";
 
 /// A DECL_TAG of the second of two members.
-const TAGGED: &[u8] = b"\x9f\xeb\x01\0\x18\0\0\0\0\0\0\0\x44\0\0\0\x44\0\0\0\x0d\0\0\0\x01\0\0\0\0\0\0\x01\x04\0\0\0\x20\0\0\x01\x05\0\0\0\x02\0\0\x04\x08\0\0\0\x07\0\0\0\x01\0\0\0\0\0\0\0\x09\0\0\0\x01\0\0\0\x20\0\0\0\x0b\0\0\0\0\0\0\x11\x02\0\0\0\x01\0\0\0\0int\0s\0a\0b\0t\0";
+const TAGGED: &[u8] =
+    b"\x9f\xeb\x01\0\x18\0\0\0\0\0\0\0\x44\0\0\0\x44\0\0\0\x0d\0\0\0\x01\0\0\0\0\0\0\x01\x04\0\0\0\x20\0\0\x01\x05\0\0\0\x02\0\0\x04\x08\0\0\0\x07\0\0\0\x01\0\0\0\0\0\0\0\x09\0\0\0\x01\0\0\0\x20\0\0\0\x0b\0\0\0\0\0\0\x11\x02\0\0\0\x01\0\0\0\0int\0s\0a\0b\0t\0";
 
 /// An ENUM64 in big-endian order.
-const BIG_ENUM64: &[u8] = b"\xeb\x9f\x01\0\0\0\0\x18\0\0\0\0\0\0\0\x18\0\0\0\x18\0\0\0\x05\0\0\0\x01\x93\0\0\x01\0\0\0\x08\0\0\0\x03\xff\xff\xff\xfe\xff\xff\xff\xff\0e\0m\0";
+const BIG_ENUM64: &[u8] =
+    b"\xeb\x9f\x01\0\0\0\0\x18\0\0\0\0\0\0\0\x18\0\0\0\x18\0\0\0\x05\0\0\0\x01\x93\0\0\x01\0\0\0\x08\0\0\0\x03\xff\xff\xff\xfe\xff\xff\xff\xff\0e\0m\0";
 
 /// No types at all.
 const EMPTY: &[u8] = b"\x9f\xeb\x01\0\x18\0\0\0\0\0\0\0\0\0\0\0\0\0\0\0\x01\0\0\0\0";
 
 /// A PTR whose name is the empty text at the section's end.
-const EMPTY_NAME: &[u8] = b"\x9f\xeb\x01\0\x18\0\0\0\0\0\0\0\x0c\0\0\0\x0c\0\0\0\x05\0\0\0\x04\0\0\0\0\0\0\x02\0\0\0\0\0int\0";
+const EMPTY_NAME: &[u8] =
+    b"\x9f\xeb\x01\0\x18\0\0\0\0\0\0\0\x0c\0\0\0\x0c\0\0\0\x05\0\0\0\x04\0\0\0\0\0\0\x02\0\0\0\0\0int\0";
 
 /// The bytes with some of them changed.
 fn edited(alloc: Global, bytes: &[u8], edits: &[(usize, u8)]) -> Result<Vec<u8>, AllocError> {
@@ -90,21 +100,41 @@ const WORKED: &[(&[u8], &[(usize, u8)], Option<(u64, BtfCause)>)] = &[
     (MEMBER, &[], None),
     (MEMBER, &[(63, 3)], None),
     (MEMBER, &[(36, 0x1f)], None),
-    (MEMBER, &[(36, 0x1f), (63, 3)], Some((56, BtfCause::MemberInt))),
+    (
+        MEMBER,
+        &[(36, 0x1f), (63, 3)],
+        Some((56, BtfCause::MemberInt)),
+    ),
     (MEMBER, &[(38, 1), (63, 3)], Some((56, BtfCause::MemberInt))),
     (MEMBER, &[(63, 3), (60, 0x1d)], None),
-    (MEMBER, &[(63, 3), (60, 0x1e)], Some((60, BtfCause::MemberPlace))),
+    (
+        MEMBER,
+        &[(63, 3), (60, 0x1e)],
+        Some((60, BtfCause::MemberPlace)),
+    ),
     (BEYOND, &[], Some((32, BtfCause::Reference))),
     (BEYOND_AND_CUT, &[], Some((36, BtfCause::RecordCut))),
     (TAGGED, &[], None),
-    (TAGGED, &[(88, 0xff), (89, 0xff), (90, 0xff), (91, 0xff)], None),
+    (
+        TAGGED,
+        &[(88, 0xff), (89, 0xff), (90, 0xff), (91, 0xff)],
+        None,
+    ),
     (TAGGED, &[(88, 2)], Some((88, BtfCause::Component))),
-    (TAGGED, &[(88, 0xfe), (89, 0xff), (90, 0xff), (91, 0xff)], Some((88, BtfCause::Component))),
+    (
+        TAGGED,
+        &[(88, 0xfe), (89, 0xff), (90, 0xff), (91, 0xff)],
+        Some((88, BtfCause::Component)),
+    ),
     (BIG_ENUM64, &[], None),
     (EMPTY_NAME, &[], None),
     (EMPTY_NAME, &[(24, 5)], Some((24, BtfCause::NameRange))),
     (EMPTY_NAME, &[(24, 1)], Some((24, BtfCause::NameUnwanted))),
-    (EMPTY_NAME, &[(24, 1), (37, 0xff)], Some((24, BtfCause::NameUtf8))),
+    (
+        EMPTY_NAME,
+        &[(24, 1), (37, 0xff)],
+        Some((24, BtfCause::NameUtf8)),
+    ),
     (EMPTY, &[(8, 1)], None),
     (EMPTY, &[(16, 1)], Some((8, BtfCause::Sections))),
     (EMPTY, &[(4, 0x1a)], Some((4, BtfCause::HeaderLength))),
@@ -145,47 +175,180 @@ fn cut_and_longer_files(rt: HostRuntime) -> Result<(), Fail> {
 }
 
 /// A VAR and a DECL_TAG with a component of it.
-const TAG_OF_VAR: &[u8] = b"\x01\0\0\0\0\0\0\x0e\0\0\0\0\0\0\0\0\x03\0\0\0\0\0\0\x11\x01\0\0\0\0\0\0\0";
+const TAG_OF_VAR: &[u8] =
+    b"\x01\0\0\0\0\0\0\x0e\0\0\0\0\0\0\0\0\x03\0\0\0\0\0\0\x11\x01\0\0\0\0\0\0\0";
 
 /// A FUNC_PROTO, a FUNC and a DATASEC that names it.
-const FUNC_IN_SECTION: &[u8] = b"\0\0\0\0\0\0\0\x0d\0\0\0\0\x01\0\0\0\x02\0\0\x0c\x01\0\0\0\x03\0\0\0\x01\0\0\x0f\0\0\0\0\x02\0\0\0\0\0\0\0\0\0\0\0";
+const FUNC_IN_SECTION: &[u8] =
+    b"\0\0\0\0\0\0\0\x0d\0\0\0\0\x01\0\0\0\x02\0\0\x0c\x01\0\0\0\x03\0\0\0\x01\0\0\x0f\0\0\0\0\x02\0\0\0\0\0\0\0\0\0\0\0";
 
 /// Three TYPEDEFs, one named by the end of both other names.
-const THREE_NAMES: &[u8] = b"\x0a\0\0\0\0\0\0\x08\0\0\0\0\x01\0\0\0\0\0\0\x08\0\0\0\0\x06\0\0\0\0\0\0\x08\0\0\0\0";
+const THREE_NAMES: &[u8] =
+    b"\x0a\0\0\0\0\0\0\x08\0\0\0\0\x01\0\0\0\0\0\0\x08\0\0\0\0\x06\0\0\0\0\0\0\x08\0\0\0\0";
 
 /// Records, strings, bytes that are changed in their file, and its first fault.
 const SECTIONS: &[(&[u8], &[u8], &[(usize, u8)], Option<(u64, BtfCause)>)] = &[
-    (b"\0\0\0\0\0\0\0\x10\x03\0\0\0", b"\0", &[], Some((32, BtfCause::Size))),
+    (
+        b"\0\0\0\0\0\0\0\x10\x03\0\0\0",
+        b"\0",
+        &[],
+        Some((32, BtfCause::Size)),
+    ),
     (b"\0\0\0\0\0\0\0\x10\x0c\0\0\0", b"\0", &[], None),
-    (b"\0\0\0\0\0\0\0\x01\x01\0\0\0\x09\0\0\0", b"\0", &[], Some((36, BtfCause::IntWord))),
-    (b"\0\0\0\0\0\0\0\x01\x01\0\0\0\x08\0\0\x03", b"\0", &[], Some((36, BtfCause::IntWord))),
-    (b"\0\0\0\0\0\0\0\x01\x01\0\0\0\x08\x01\0\0", b"\0", &[], Some((36, BtfCause::IntWord))),
+    (
+        b"\0\0\0\0\0\0\0\x01\x01\0\0\0\x09\0\0\0",
+        b"\0",
+        &[],
+        Some((36, BtfCause::IntWord)),
+    ),
+    (
+        b"\0\0\0\0\0\0\0\x01\x01\0\0\0\x08\0\0\x03",
+        b"\0",
+        &[],
+        Some((36, BtfCause::IntWord)),
+    ),
+    (
+        b"\0\0\0\0\0\0\0\x01\x01\0\0\0\x08\x01\0\0",
+        b"\0",
+        &[],
+        Some((36, BtfCause::IntWord)),
+    ),
     (b"\0\0\0\0\0\0\0\x01\x01\0\0\0\0\0\0\0", b"\0", &[], None),
-    (b"\0\0\0\0\0\0\0\x14\0\0\0\0", b"\0", &[], Some((28, BtfCause::KindNumber))),
-    (b"\0\0\0\0\0\0\0\x34\0\0\0\0", b"\0", &[], Some((28, BtfCause::InfoBits))),
-    (b"\0\0\0\0\0\0\0\x82\0\0\0\0", b"\0", &[], Some((28, BtfCause::FlagSet))),
-    (b"\0\0\0\0\x01\0\0\x02\0\0\0\0", b"\0", &[], Some((28, BtfCause::Vlen))),
-    (b"\0\0\0\0\x02\0\0\x04\x04\0\0\0\0\0\0\0\0\0\0\0\0\0\0\0", b"\0", &[], Some((36, BtfCause::TailCut))),
-    (b"\0\0\0\0\0\0\0\x07\0\0\0\0", b"\0", &[], Some((24, BtfCause::NameMissing))),
-    (b"\x01\0\0\0\0\0\0\x07\x01\0\0\0", b"\0f\0", &[], Some((32, BtfCause::NotZero))),
-    (b"\x01\0\0\0\x03\0\0\x0c\0\0\0\0", b"\0f\0", &[], Some((28, BtfCause::Linkage))),
-    (b"\x01\0\0\0\x02\0\0\x0c\0\0\0\0", b"\0f\0", &[], Some((32, BtfCause::TargetKind))),
-    (b"\x01\0\0\0\0\0\0\x0e\0\0\0\0\x03\0\0\0", b"\0f\0", &[], Some((36, BtfCause::Linkage))),
-    (TAG_OF_VAR, b"\0f\0t\0", &[], Some((52, BtfCause::Component))),
-    (TAG_OF_VAR, b"\0f\0t\0", &[(54, 1)], Some((52, BtfCause::Component))),
-    (TAG_OF_VAR, b"\0f\0t\0", &[(52, 0xff), (53, 0xff), (54, 0xff), (55, 0xff)], None),
+    (
+        b"\0\0\0\0\0\0\0\x14\0\0\0\0",
+        b"\0",
+        &[],
+        Some((28, BtfCause::KindNumber)),
+    ),
+    (
+        b"\0\0\0\0\0\0\0\x34\0\0\0\0",
+        b"\0",
+        &[],
+        Some((28, BtfCause::InfoBits)),
+    ),
+    (
+        b"\0\0\0\0\0\0\0\x82\0\0\0\0",
+        b"\0",
+        &[],
+        Some((28, BtfCause::FlagSet)),
+    ),
+    (
+        b"\0\0\0\0\x01\0\0\x02\0\0\0\0",
+        b"\0",
+        &[],
+        Some((28, BtfCause::Vlen)),
+    ),
+    (
+        b"\0\0\0\0\x02\0\0\x04\x04\0\0\0\0\0\0\0\0\0\0\0\0\0\0\0",
+        b"\0",
+        &[],
+        Some((36, BtfCause::TailCut)),
+    ),
+    (
+        b"\0\0\0\0\0\0\0\x07\0\0\0\0",
+        b"\0",
+        &[],
+        Some((24, BtfCause::NameMissing)),
+    ),
+    (
+        b"\x01\0\0\0\0\0\0\x07\x01\0\0\0",
+        b"\0f\0",
+        &[],
+        Some((32, BtfCause::NotZero)),
+    ),
+    (
+        b"\x01\0\0\0\x03\0\0\x0c\0\0\0\0",
+        b"\0f\0",
+        &[],
+        Some((28, BtfCause::Linkage)),
+    ),
+    (
+        b"\x01\0\0\0\x02\0\0\x0c\0\0\0\0",
+        b"\0f\0",
+        &[],
+        Some((32, BtfCause::TargetKind)),
+    ),
+    (
+        b"\x01\0\0\0\0\0\0\x0e\0\0\0\0\x03\0\0\0",
+        b"\0f\0",
+        &[],
+        Some((36, BtfCause::Linkage)),
+    ),
+    (
+        TAG_OF_VAR,
+        b"\0f\0t\0",
+        &[],
+        Some((52, BtfCause::Component)),
+    ),
+    (
+        TAG_OF_VAR,
+        b"\0f\0t\0",
+        &[(54, 1)],
+        Some((52, BtfCause::Component)),
+    ),
+    (
+        TAG_OF_VAR,
+        b"\0f\0t\0",
+        &[(52, 0xff), (53, 0xff), (54, 0xff), (55, 0xff)],
+        None,
+    ),
     (FUNC_IN_SECTION, b"\0f\0.ksyms\0", &[], None),
-    (FUNC_IN_SECTION, b"\0f\0.ksyms\0", &[(60, 1)], Some((60, BtfCause::TargetKind))),
-    (FUNC_IN_SECTION, b"\0f\0.ksyms\0", &[(60, 4)], Some((60, BtfCause::Reference))),
+    (
+        FUNC_IN_SECTION,
+        b"\0f\0.ksyms\0",
+        &[(60, 1)],
+        Some((60, BtfCause::TargetKind)),
+    ),
+    (
+        FUNC_IN_SECTION,
+        b"\0f\0.ksyms\0",
+        &[(60, 4)],
+        Some((60, BtfCause::Reference)),
+    ),
     (b"\0\0\0\0\0\0\0\x84\0\0\0\0", b"\0", &[], None),
-    (b"\x01\0\0\0\0\0\0\x08\0\0\0\0", b"\0a\"\\\x01\x7f\0", &[], None),
-    (b"\0\0\0\0\x01\0\0\x04\0\0\x40\0\0\0\0\0\0\0\0\0\0\0\0\x01", b"\0", &[], None),
-    (b"\0\0\0\0\x01\0\0\x84\0\0\x40\0\0\0\0\0\0\0\0\0\0\0\0\x01", b"\0", &[], None),
+    (
+        b"\x01\0\0\0\0\0\0\x08\0\0\0\0",
+        b"\0a\"\\\x01\x7f\0",
+        &[],
+        None,
+    ),
+    (
+        b"\0\0\0\0\x01\0\0\x04\0\0\x40\0\0\0\0\0\0\0\0\0\0\0\0\x01",
+        b"\0",
+        &[],
+        None,
+    ),
+    (
+        b"\0\0\0\0\x01\0\0\x84\0\0\x40\0\0\0\0\0\0\0\0\0\0\0\0\x01",
+        b"\0",
+        &[],
+        None,
+    ),
     (THREE_NAMES, b"\0c\0bc\0abc\0dbc\0", &[], None),
-    (THREE_NAMES, b"\0dbc\0abc\0", &[(24, 1), (36, 7), (48, 5)], None),
-    (b"\0\0\0\0\x01\0\0\x0d\0\0\0\0\0\0\0\0\x02\0\0\0", b"\0", &[], Some((40, BtfCause::Reference))),
-    (b"\0\0\0\0\0\0\0\x03\0\0\0\0\0\0\0\0\x02\0\0\0\0\0\0\0", b"\0", &[], Some((40, BtfCause::Reference))),
-    (b"\0\0\0\0\x01\0\0\x06\0\0\0\0\x09\0\0\0\0\0\0\0", b"\0", &[], Some((32, BtfCause::Size))),
+    (
+        THREE_NAMES,
+        b"\0dbc\0abc\0",
+        &[(24, 1), (36, 7), (48, 5)],
+        None,
+    ),
+    (
+        b"\0\0\0\0\x01\0\0\x0d\0\0\0\0\0\0\0\0\x02\0\0\0",
+        b"\0",
+        &[],
+        Some((40, BtfCause::Reference)),
+    ),
+    (
+        b"\0\0\0\0\0\0\0\x03\0\0\0\0\0\0\0\0\x02\0\0\0\0\0\0\0",
+        b"\0",
+        &[],
+        Some((40, BtfCause::Reference)),
+    ),
+    (
+        b"\0\0\0\0\x01\0\0\x06\0\0\0\0\x09\0\0\0\0\0\0\0",
+        b"\0",
+        &[],
+        Some((32, BtfCause::Size)),
+    ),
 ];
 
 #[test]
