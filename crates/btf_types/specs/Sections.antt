@@ -10,6 +10,10 @@ use Rattle.btf_types.specs.Reading.{frame_at, frames_at}
 use Rattle.btf_types.specs.TableInvariant.{IsFramed}
 use Rattle.btf_types.specs.Texts.{TextsAre}
 
+-- the frame at a place
+abbrev pub frame_of : Section → ℕ → List ℕ
+frame_of s pos = frame_at s.order s.types.now pos
+
 -- the frame of the i-th record, from 0, and those of all
 abbrev pub frame_in : Section → ℕ → List ℕ
 frame_in s i = frame_at s.order s.types.now (slice_index s.places.now i)
@@ -29,8 +33,8 @@ pub record IsSection (s : Section) : Type 0 where
 
 -- a whole frame stands at this place
 pub record StandsIn (s : Section) (pos : ℕ) : Type 0 where
-  pub inside : pos + 4 * length (frame_at s.order s.types.now pos) ≤ length s.types.now
-  pub frame : IsFrame (frame_at s.order s.types.now pos)
+  pub inside : pos + 4 * length (frame_of s pos) ≤ length s.types.now
+  pub frame : IsFrame (frame_of s pos)
 
 pub record FactsAre (facts : Facts) (t : TypeFacts) : Type 0 where
   pub kind_is : facts.kind ≡ t.kind

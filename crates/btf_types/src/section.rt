@@ -2,9 +2,8 @@
 //! wherever it stands, so a reference may point forward.
 
 ghost use Rattle.std.specs.Prelude.{◌≡◌, ◌+◌, ◌*◌, ◌<◌, ◌≤◌, length, slice_index};
-ghost use Rattle.btf_types.specs.Reading.{frame_at};
 ghost use Rattle.btf_types.specs.Checks.{type_at};
-ghost use Rattle.btf_types.specs.Sections.{IsSection, StandsIn, FactsAre, facts_in};
+ghost use Rattle.btf_types.specs.Sections.{IsSection, StandsIn, FactsAre, facts_in, frame_of};
 ghost use Rattle.btf_types.specs.FieldFaults.{frame_facts};
 
 use crate::utf8::Texts;
@@ -50,9 +49,9 @@ pub struct Facts {
 impl<'a> Section<'a> {
     /// Word j of the record at `pos`, from 0.
     pub fn word(&self, pos: usize, j: usize) -> u32
-        requires inside { pos + 4 * length (frame_at self.now.order self.now.types.now pos) ≤ length self.now.types.now }
-        requires there { j < length (frame_at self.now.order self.now.types.now pos) }
-        ensures { result ≡ slice_index (frame_at self.now.order self.now.types.now pos) j }
+        requires inside { pos + 4 * length (frame_of self.now pos) ≤ length self.now.types.now }
+        requires there { j < length (frame_of self.now pos) }
+        ensures { result ≡ slice_index (frame_of self.now pos) j }
     {
         get32(self.order, self.types, pos + 4 * j)
     }
@@ -60,7 +59,7 @@ impl<'a> Section<'a> {
     /// What other records ask of the record at `pos`.
     fn record_facts(&self, pos: usize) -> Facts
         requires { StandsIn self.now pos }
-        ensures { FactsAre result (frame_facts (frame_at self.now.order self.now.types.now pos)) }
+        ensures { FactsAre result (frame_facts (frame_of self.now pos)) }
     {
         let info = self.word(pos, 1);
         let kind = kind_of(info);
