@@ -1,6 +1,6 @@
 //! What speaks against a name field: its offset, or the text that stands there (btf.rst section 2.1).
 
-ghost use Rattle.std.specs.Prelude.{◌≡◌, MatchOption};
+ghost use Rattle.std.specs.Prelude.{◌≡◌};
 ghost use Rattle.btf_raw.specs.Header.{HasNulEnds};
 ghost use Rattle.btf_types.specs.Checks as spec;
 ghost use Rattle.btf_types.specs.NameFaults.{NameFault, OwnNameFault, ItemNameFault};
@@ -14,9 +14,7 @@ use btf_raw::BtfCause;
 pub fn item_name_fault(strings: &[u8], texts: &Texts, off: u32) -> Option<BtfCause>
     requires ends { HasNulEnds strings.now }
     requires texts { TextsAre strings.now texts.now }
-    ensures { MatchOption result
-        (spec.NoCause (ItemNameFault strings.now off))
-        (λ cause. spec.LeastCause (ItemNameFault strings.now off) cause) }
+    ensures { spec.TellsLeast (ItemNameFault strings.now off) result }
 {
     let off = off as usize;
     if off >= strings.len() {
@@ -30,9 +28,7 @@ pub fn item_name_fault(strings: &[u8], texts: &Texts, off: u32) -> Option<BtfCau
 
 /// The cause that speaks against a record's own name, which is empty or not.
 fn own_name_fault(kind: u8, empty: bool) -> Option<BtfCause>
-    ensures { MatchOption result
-        (spec.NoCause (OwnNameFault kind empty))
-        (λ cause. spec.LeastCause (OwnNameFault kind empty) cause) }
+    ensures { spec.TellsLeast (OwnNameFault kind empty) result }
 {
     if needs_name(kind) && empty {
         return Some(BtfCause::NameMissing);
@@ -47,9 +43,7 @@ fn own_name_fault(kind: u8, empty: bool) -> Option<BtfCause>
 pub fn name_fault(strings: &[u8], texts: &Texts, kind: u8, off: u32) -> Option<BtfCause>
     requires ends { HasNulEnds strings.now }
     requires texts { TextsAre strings.now texts.now }
-    ensures { MatchOption result
-        (spec.NoCause (NameFault strings.now kind off))
-        (λ cause. spec.LeastCause (NameFault strings.now kind off) cause) }
+    ensures { spec.TellsLeast (NameFault strings.now kind off) result }
 {
     match item_name_fault(strings, texts, off) {
         Some(cause) => Some(cause),

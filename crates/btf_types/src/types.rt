@@ -1,6 +1,6 @@
 //! What a record asks of the types that it names, third words aside: they are there, and of a kind and size that fit.
 
-ghost use Rattle.std.specs.Prelude.{◌≡◌, MatchOption};
+ghost use Rattle.std.specs.Prelude.{◌≡◌};
 ghost use Rattle.btf_types.specs.Checks as spec;
 ghost use Rattle.btf_types.specs.NameFaults.{NamedTypeFault, MemberTypeFault, ComponentFault};
 ghost use Rattle.btf_types.specs.Sections.{IsSection, facts_in};
@@ -12,9 +12,7 @@ use btf_raw::{BtfCause, FUNC, FUNC_PROTO, INT, STRUCT, TYPEDEF, UNION, VAR};
 /// The least cause that speaks against a type that a record of this kind names, beside its third word.
 pub fn named_type_fault(section: &Section, kind: u8, target: u32) -> Option<BtfCause>
     requires { IsSection section.now }
-    ensures { MatchOption result
-        (spec.NoCause (NamedTypeFault (facts_in section.now) kind target))
-        (λ cause. spec.LeastCause (NamedTypeFault (facts_in section.now) kind target) cause) }
+    ensures { spec.TellsLeast (NamedTypeFault (facts_in section.now) kind target) result }
 {
     if target > section.count() {
         return Some(BtfCause::Reference);
@@ -39,9 +37,7 @@ fn member_int_fits(section: &Section, target: u32) -> bool
 /// The least cause that speaks against a member's type, in a record with bit-fields or without.
 pub fn member_type_fault(section: &Section, bit_fields: bool, target: u32) -> Option<BtfCause>
     requires { IsSection section.now }
-    ensures { MatchOption result
-        (spec.NoCause (MemberTypeFault (facts_in section.now) bit_fields target))
-        (λ cause. spec.LeastCause (MemberTypeFault (facts_in section.now) bit_fields target) cause) }
+    ensures { spec.TellsLeast (MemberTypeFault (facts_in section.now) bit_fields target) result }
 {
     if target > section.count() {
         return Some(BtfCause::Reference);
@@ -75,9 +71,7 @@ fn component_fits(section: &Section, target: u32, component: u32) -> bool
 /// component.
 pub fn component_fault(section: &Section, target: u32, word: u32) -> Option<BtfCause>
     requires { IsSection section.now }
-    ensures { MatchOption result
-        (spec.NoCause (ComponentFault (facts_in section.now) target word))
-        (λ cause. spec.LeastCause (ComponentFault (facts_in section.now) target word) cause) }
+    ensures { spec.TellsLeast (ComponentFault (facts_in section.now) target word) result }
 {
     if word == u32::MAX || component_fits(section, target, word) {
         None
