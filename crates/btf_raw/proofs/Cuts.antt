@@ -11,17 +11,17 @@ use Rattle.btf_raw.proofs.Frames.{IsWords, word32_at-bytes_of, length-bytes_of}
 use Rattle.btf_raw.specs.Header.{Cut, header, part, types_at, strings_at, TYPES_LIMIT, STRINGS_LIMIT}
 
 -- the header's words behind its first four bytes, and what follows
-abbrev header_words : ℕ → ℕ → ℕ → ℕ → ℕ → List ℕ
+abbrev pub header_words : ℕ → ℕ → ℕ → ℕ → ℕ → List ℕ
 header_words n a t c s = n ∷ a ∷ t ∷ c ∷ s ∷ []
 
-abbrev first_four : Order → List ℕ
+abbrev pub first_four : Order → List ℕ
 first_four o = word16 o 0xeb9f ++ (1 ∷ 0 ∷ [])
 
-header_regrouped : (o : Order) (n a t c s : ℕ) (rest : List ℕ) → header o n a t c s ++ rest
+pub header_regrouped : (o : Order) (n a t c s : ℕ) (rest : List ℕ) → header o n a t c s ++ rest
     ≡ first_four o ++ (bytes_of o (header_words n a t c s) ++ (replicate (n - 24) 0 ++ rest))
 header_regrouped o n a t c s rest = simp (append_assoc, append-nil)
 
-length-first_four : (o : Order) → length (first_four o) ≡ 4
+pub length-first_four : (o : Order) → length (first_four o) ≡ 4
 length-first_four o = length-append (word16 o 0xeb9f) (1 ∷ 0 ∷ []) ∙ rw (length-word16 o 0xeb9f) refl
 
 pub length-header : (o : Order) (n a t c s : ℕ) → 24 ≤ n → length (header o n a t c s) ≡ n
@@ -29,14 +29,14 @@ length-header o n a t c s h =
     ap length (sym (append-nil (header o n a t c s)) ∙ header_regrouped o n a t c s [])
     ∙ rw (length-append (first_four o), length-first_four, length-append (bytes_of o (header_words n a t c s)), length-bytes_of, append-nil, length-replicate) (omega arith)
 
-header_word : (o : Order) (n a t c s j : ℕ) (rest : List ℕ) → IsWords (header_words n a t c s) → j < 5 → word32_at o (header o n a t c s ++ rest) (4 + 4 * j) ≡ slice_index (header_words n a t c s) j
+pub header_word : (o : Order) (n a t c s j : ℕ) (rest : List ℕ) → IsWords (header_words n a t c s) → j < 5 → word32_at o (header o n a t c s ++ rest) (4 + 4 * j) ≡ slice_index (header_words n a t c s) j
 header_word o n a t c s j rest fit h =
     rw header_regrouped
     (subst (λ (k : ℕ). word32_at o (first_four o ++ (bytes_of o (header_words n a t c s) ++ (replicate (n - 24) 0 ++ rest))) (k + 4 * j) ≡ slice_index (header_words n a t c s) j) (length-first_four o)
     (word32_at-append o (first_four o) (bytes_of o (header_words n a t c s) ++ (replicate (n - 24) 0 ++ rest)) (4 * j)
     ∙ word32_at-bytes_of o (header_words n a t c s) (replicate (n - 24) 0 ++ rest) j fit h))
 
-five_fit : (n a t c s : ℕ) → n < 2 ^ 32 → a < 2 ^ 32 → t < 2 ^ 32 → c < 2 ^ 32 → s < 2 ^ 32 → IsWords (header_words n a t c s)
+pub five_fit : (n a t c s : ℕ) → n < 2 ^ 32 → a < 2 ^ 32 → t < 2 ^ 32 → c < 2 ^ 32 → s < 2 ^ 32 → IsWords (header_words n a t c s)
 five_fit n a t c s hn ha ht hc hs zero = hn
 five_fit n a t c s hn ha ht hc hs (suc zero) = ha
 five_fit n a t c s hn ha ht hc hs (suc (suc zero)) = ht

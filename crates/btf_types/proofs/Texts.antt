@@ -1,0 +1,90 @@
+-- Texts and their NUL, equal texts, and the table of a list of texts.
+use Rattle.std.proofs.Common.{◌≡◌, ℕ, suc, ◌+◌, ◌<◌, Bool, true, not, inl, inr, List, [], ◌∷◌, ◌++◌, length, get_or, refl, sym, ap, ◌∙◌, arith, append_assoc}
+use Rattle.std.specs.List.{flat_map, position_or_len, before_first, after_first}
+use Rattle.std.specs.Str.{bytes_eq}
+use Rattle.std.proofs.lemmas.Bool.{cond_both, cond-false, not_from_true, cases_Bool}
+use Rattle.std.proofs.lemmas.Slice.Eq.{bytes_eq-Decides}
+use Rattle.std.proofs.lemmas.List.Sums.{split_at_first, passes_at_first}
+use Rattle.std.proofs.lemmas.List.{length-append}
+use Rattle.std.proofs.lemmas.List.Concat.{flat_map-append}
+use Rattle.btf_raw.specs.Names.{IsWithoutNul, TextAt}
+use Rattle.btf_types.specs.Names.{with_nul, table_of, place_in, is_other, distinct, is_some_text, kept}
+use Rattle.btf_types.proofs.Members.{Has, Has-filter, Has-from_filter}
+
+pub same_text : (x y : List ℕ) → bytes_eq x y ≡ true → x ≡ y
+same_text x y = (bytes_eq-Decides x y).0
+
+pub bytes_eq-same : (x : List ℕ) → bytes_eq x x ≡ true
+bytes_eq-same x = (bytes_eq-Decides x x).1 refl
+
+-- the first place at which a test passes lies within, and it passes there
+pub position_below : {X : Type 0} (p : X → Bool) (xs : List X) (x : X) → Has xs x → p x ≡ true → position_or_len p xs < length xs
+position_below p [] x h t = absurd h
+position_below p (y ∷ ys) x (inl e) t = rw (cond-false (not (p y)) (1 + position_or_len p ys) 0 (not_from_true (p y) (ap p e ∙ t))) (omega arith)
+position_below p (y ∷ ys) x (inr h) t =
+    let i = position_below p ys x h t in
+    cond_both (not (p y)) (1 + position_or_len p ys) 0 (λ n. n < suc (length ys)) (λ _. omega arith) (λ _. omega arith)
+
+pub table_middle : (hs : List (List ℕ)) (y : List ℕ) (ts : List (List ℕ)) → table_of (hs ++ y ∷ ts) ≡ table_of hs ++ y ++ 0 ∷ flat_map with_nul ts
+table_middle hs y ts =
+    ap (λ (t : List ℕ). 0 ∷ t) (
+    flat_map-append with_nul hs (y ∷ ts)
+    ∙ ap (λ (t : List ℕ). flat_map with_nul hs ++ t) (append_assoc y (0 ∷ []) (flat_map with_nul ts))
+    ∙ sym (append_assoc (flat_map with_nul hs) y (0 ∷ flat_map with_nul ts)))
+
+-- a text of the list stands in its table, behind the table of the texts before it
+pub table_split : (ks : List (List ℕ)) (x : List ℕ) → Has ks x → table_of ks ≡ table_of (before_first (bytes_eq x) ks) ++ x ++ 0 ∷ flat_map with_nul (after_first (bytes_eq x) ks)
+table_split ks x h =
+    let p = bytes_eq x in
+    let inside : position_or_len p ks < length ks = position_below p ks x h (bytes_eq-same x) in
+    let same : x ≡ get_or ks (position_or_len p ks) x = same_text x _ (passes_at_first p ks x inside) in
+    let rest = flat_map with_nul (after_first p ks) in
+    ap table_of (split_at_first p ks x inside) ∙ table_middle (before_first p ks) _ (after_first p ks)
+    ∙ ap (λ (y : List ℕ). table_of (before_first p ks) ++ y ++ 0 ∷ rest) (sym same)
+
+pub text_at_place : (ks : List (List ℕ)) (x : List ℕ) → Has ks x → IsWithoutNul x → TextAt (table_of ks) (place_in ks x) x
+text_at_place ks x h n = record {
+  without_nul = n;
+  before = table_of (before_first (bytes_eq x) ks);
+  after = flat_map with_nul (after_first (bytes_eq x) ks);
+  place = refl;
+  stands = table_split ks x h;
+}
+
+-- the empty text stands at the table's first byte
+pub empty_at_zero : (ks : List (List ℕ)) → TextAt (table_of ks) 0 []
+empty_at_zero ks = record { without_nul = λ i h e. omega (arith, h); before = []; after = flat_map with_nul ks; place = refl; stands = refl }
+
+pub IsWithoutNul-suffix : (front x : List ℕ) → IsWithoutNul (front ++ x) → IsWithoutNul x
+IsWithoutNul-suffix [] x n = n
+IsWithoutNul-suffix (b ∷ front) x n = IsWithoutNul-suffix front x (λ i h e. n (suc i) (omega (arith, h)) e)
+
+-- a text ends with the texts that are its tails
+pub tail_at : (section : List ℕ) (offset : ℕ) (front x : List ℕ) → TextAt section offset (front ++ x) → TextAt section (offset + length front) x
+tail_at section offset front x t = record {
+  without_nul = IsWithoutNul-suffix front x t.without_nul;
+  before = t.before ++ front;
+  after = t.after;
+  place = length-append t.before front ∙ ap (λ (n : ℕ). n + length front) t.place;
+  stands = t.stands ∙ ap (λ (s : List ℕ). s ++ 0 ∷ t.after) (sym (append_assoc t.before front x));
+}
+
+-- the distinct ones have the same members
+pub Has-distinct : (xs : List (List ℕ)) (x : List ℕ) → Has xs x → Has (distinct xs) x
+Has-distinct [] x h = h
+Has-distinct (y ∷ ys) x (inl e) = inl e
+Has-distinct (y ∷ ys) x (inr h) = elim (cases_Bool (bytes_eq y x)) [
+  | inl t ↦ inl (same_text y x t)
+  | inr f ↦ inr (Has-filter (is_other y) (distinct ys) x (Has-distinct ys x h) (ap not f))
+]
+
+pub Has-from_distinct : (xs : List (List ℕ)) (x : List ℕ) → Has (distinct xs) x → Has xs x
+Has-from_distinct [] x h = h
+Has-from_distinct (y ∷ ys) x (inl e) = inl e
+Has-from_distinct (y ∷ ys) x (inr h) = inr (Has-from_distinct ys x ((Has-from_filter (is_other y) (distinct ys) x h).0))
+
+pub Has-kept : (xs : List (List ℕ)) (b : ℕ) (x : List ℕ) → Has xs (b ∷ x) → Has (kept xs) (b ∷ x)
+Has-kept xs b x h = Has-filter is_some_text (distinct xs) (b ∷ x) (Has-distinct xs (b ∷ x) h) refl
+
+pub Has-from_kept : (xs : List (List ℕ)) (x : List ℕ) → Has (kept xs) x → Has xs x
+Has-from_kept xs x h = Has-from_distinct xs x ((Has-from_filter is_some_text (distinct xs) x h).0)

@@ -1,0 +1,113 @@
+//! Tables of worked files, through every call of a reader.
+
+use crate::{Btf, BtfError, BtfView, Records, TypeTable};
+use std::alloc::{AllocError, Global};
+use std::test::Fail;
+
+/// An INT, a STRUCT with two members, and a DECL_TAG of the second.
+const TAGGED: &[u8] = b"\x9f\xeb\x01\0\x18\0\0\0\0\0\0\0\x44\0\0\0\x44\0\0\0\x0d\0\0\0\x01\0\0\0\0\0\0\x01\x04\0\0\0\x20\0\0\x01\x05\0\0\0\x02\0\0\x04\x08\0\0\0\x07\0\0\0\x01\0\0\0\0\0\0\0\x09\0\0\0\x01\0\0\0\x20\0\0\0\x0b\0\0\0\0\0\0\x11\x02\0\0\0\x01\0\0\0\0int\0s\0a\0b\0t\0";
+
+const TAGGED_HEADS: [&str; 3] = [
+    "1 KInt { name: \"int\", size: 4, encoding: Signed, offset: 0, bits: 32 }\n",
+    "2 KStruct { name: \"s\", size: 8 }\n",
+    "3 KDeclTag { name: \"t\", flag: false, target: 2, component: Some(1) }\n",
+];
+
+/// An ENUM64 with the value -2, in big-endian order.
+const BIG_ENUM64: &[u8] = b"\xeb\x9f\x01\0\0\0\0\x18\0\0\0\0\0\0\0\x18\0\0\0\x18\0\0\0\x05\0\0\0\x01\x93\0\0\x01\0\0\0\x08\0\0\0\x03\xff\xff\xff\xfe\xff\xff\xff\xff\0e\0m\0";
+
+/// A member's offset word whose high byte is 1, in a STRUCT with kind_flag 0 and with 1.
+const WIDE_OFFSET: &[u8] = b"\x9f\xeb\x01\0\x18\0\0\0\0\0\0\0\x18\0\0\0\x18\0\0\0\x01\0\0\0\0\0\0\0\x01\0\0\x04\0\0\x40\0\0\0\0\0\0\0\0\0\0\0\0\x01\0";
+const BIT_FIELD: &[u8] = b"\x9f\xeb\x01\0\x18\0\0\0\0\0\0\0\x18\0\0\0\x18\0\0\0\x01\0\0\0\0\0\0\0\x01\0\0\x84\0\0\x40\0\0\0\0\0\0\0\0\0\0\0\0\x01\0";
+
+/// No types at all.
+const EMPTY: &[u8] = b"\x9f\xeb\x01\0\x18\0\0\0\0\0\0\0\0\0\0\0\0\0\0\0\x01\0\0\0\0";
+
+/// The heads and items of a table, one a line.
+fn shown<T: TypeTable>(alloc: Global, table: &T) -> Result<String, AllocError> {
+    let mut text = String::new(alloc);
+    for i in 0..table.count() {
+        let id = i + 1;
+        text.push_str(&format!(in alloc; "{id} {:?}\n", table.head(id))?)?;
+        for k in 0..table.item_count(id) {
+            text.push_str(&format!(in alloc; "  {:?}\n", table.item(id, k))?)?;
+        }
+    }
+    Ok(text)
+}
+
+/// Those of both tables of a file, which are the same.
+fn both_shown(alloc: Global, bytes: &[u8]) -> Result<String, Fail> {
+    let (Ok(owned), Ok(lent)) = (Btf::parse(alloc, bytes), BtfView::parse(alloc, bytes)) else {
+        return Err("not accepted")?;
+    };
+    let text = shown(alloc, &owned)?;
+    if text != shown(alloc, &lent)? {
+        return Err("the two tables differ")?;
+    }
+    Ok(text)
+}
+
+#[test]
+fn heads_and_items(rt: HostRuntime) -> Result<(), Fail> {
+    let cases: [(&[u8], &str); 5] = [
+        (EMPTY, ""),
+        (
+            TAGGED,
+            "1 KInt { name: \"int\", size: 4, encoding: Signed, offset: 0, bits: 32 }\n\
+             2 KStruct { name: \"s\", size: 8 }\n\
+             \x20 Member { name: \"a\", target: 1, bit_offset: 0, width: 0 }\n\
+             \x20 Member { name: \"b\", target: 1, bit_offset: 32, width: 0 }\n\
+             3 KDeclTag { name: \"t\", flag: false, target: 2, component: Some(1) }\n",
+        ),
+        (
+            BIG_ENUM64,
+            "1 KEnum64 { name: \"e\", signed: true, size: 8 }\n\
+             \x20 Value64 { name: \"m\", value: 18446744073709551614 }\n",
+        ),
+        (
+            WIDE_OFFSET,
+            "1 KStruct { name: \"\", size: 4194304 }\n\
+             \x20 Member { name: \"\", target: 0, bit_offset: 16777216, width: 0 }\n",
+        ),
+        (
+            BIT_FIELD,
+            "1 KStruct { name: \"\", size: 4194304 }\n\
+             \x20 Member { name: \"\", target: 0, bit_offset: 0, width: 1 }\n",
+        ),
+    ];
+    for (bytes, text) in cases {
+        assert_eq!(rt; both_shown(rt.alloc(), bytes)?.as_str(), text);
+    }
+    Ok(())
+}
+
+/// The next record, as a line.
+fn next_shown(alloc: Global, records: &mut Records) -> Result<Option<String>, AllocError> {
+    let Some((id, head)) = records.next() else {
+        return Ok(None);
+    };
+    Ok(Some(format!(in alloc; "{id} {head:?}\n")?))
+}
+
+#[test]
+fn records_end_and_stay_ended(rt: HostRuntime) -> Result<(), Fail> {
+    let Ok(table) = BtfView::parse(rt.alloc(), TAGGED) else {
+        return Err("not accepted")?;
+    };
+    let mut records = table.records();
+    for line in TAGGED_HEADS {
+        assert_eq!(rt; next_shown(rt.alloc(), &mut records)?.as_deref(), Some(line));
+    }
+    assert!(rt; records.next().is_none());
+    assert!(rt; records.next().is_none());
+    let Ok(owned) = Btf::parse(rt.alloc(), TAGGED) else {
+        return Err("not accepted")?;
+    };
+    assert_eq!(rt; owned.records().count(), 3);
+    let Ok(none) = BtfView::parse(rt.alloc(), EMPTY) else {
+        return Err("not accepted")?;
+    };
+    assert!(rt; none.records().next().is_none());
+    Ok(())
+}
