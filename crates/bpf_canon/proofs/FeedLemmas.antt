@@ -253,6 +253,7 @@ moves_none s piece out zero = record {
     empty : (ys : List ℕ) → length ys ≡ 0 → ys ≡ []
     empty [] e = refl
     empty (y ∷ ys) e = absurd (omega arith)
+
     same : (b : List ℕ) → b ++ piece ≡ b
     same b = ap (λ x. b ++ x) (empty piece zero) ∙ append-nil b
 

@@ -22,20 +22,20 @@ source_bytes s = s.rest.now
 
 -- how many of its reads failed
 abbrev pub source_failures : MemSource → ℕ
-source_failures s = s.failures
+source_failures s = s.failed_reads
 
 -- how much it gives at a read, and for how long
 abbrev pub source_pace : MemSource → Pace
-source_pace s = record { piece = s.piece; good_calls = s.good_calls }
+source_pace s = record { piece = s.piece; good_calls = s.good_reads }
 
 -- the bytes that the vector behind a sink has
-abbrev pub sink_bytes : MemSink → List ℕ
+abbrev pub sink_bytes : {A : Type 0} → MemSink A → List ℕ
 sink_bytes s = s.out.now.items
 
 -- how many of its writes failed
-abbrev pub sink_failures : MemSink → ℕ
-sink_failures s = s.failures
+abbrev pub sink_failures : {A : Type 0} → MemSink A → ℕ
+sink_failures s = s.failed_writes
 
 -- how much it takes at a write, and for how long
-abbrev pub sink_pace : MemSink → Pace
-sink_pace s = record { piece = s.piece; good_calls = s.good_calls }
+abbrev pub sink_pace : {A : Type 0} → MemSink A → Pace
+sink_pace s = record { piece = s.piece; good_calls = s.good_writes }

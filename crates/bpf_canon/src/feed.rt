@@ -1,5 +1,5 @@
 //! Instructions that come in pieces.
-ghost use Rattle.std.specs.Prelude.{◌≡◌, ◌<◌, ◌≤◌, ◌+◌, ◌-◌, ◌^◌, ◌++◌, ℕ, List, [], Option, Some, None, length, take, vec_len, vec_capacity, IfErr, OnOk, IsErrOf, IfSome, IsNone, ◌⊎◌};
+ghost use Rattle.std.specs.Prelude.{◌≡◌, ◌<◌, ◌≤◌, ◌+◌, ◌-◌, ◌++◌, ℕ, List, [], Option, Some, None, length, take, vec_len, vec_capacity, IsErrOf, IfSome, IsNone};
 ghost use Rattle.bpf_words.specs.declared.Order.{Order};
 ghost use Rattle.bpf_insn.specs.declared.fault.SlotFault.{SlotFault};
 ghost use Rattle.bpf_canon.specs.FeedState.{FeedState, IsBetween, missing_place};

@@ -33,9 +33,8 @@ pub(crate) fn read_front<A: Allocator>(
     while len < bytes.len() {
         match read_insn(order, &bytes[len..]) {
             Ok(found) => {
-                let (insn, size) = found;
-                append_insn(out, to, insn);
-                len += size;
+                append_insn(out, to, found.0);
+                len += found.1;
                 count += 1;
             }
             Err(fault) => {

@@ -25,3 +25,6 @@ pub use sink::{ByteSink, put_all};
 pub use source::{ByteSource, ReadError, read_all};
 pub use standard::{ReaderSource, WriterSink};
 pub use write::write_insns;
+
+#[cfg(test)]
+mod tests;

@@ -1,5 +1,5 @@
 //! Devices over memory, which give and take in pieces and fail when they are told to.
-ghost use Rattle.std.specs.Prelude.{◌≡◌, ◌<◌, ◌≤◌, ◌+◌, ◌-◌, ◌^◌, ℕ, List, Option, Some, None, length, min, option_map, Result, Ok, Err, IsErr, IfOk, ◌↔◌};
+ghost use Rattle.std.specs.Prelude.{◌≡◌, ◌<◌, Option, Some, length, min, Result, Ok, Err, IsErr, IfOk, ◌↔◌};
 ghost use Rattle.std.specs.Io.{ReadsAtMost, WritesAtMost};
 ghost use Rattle.std.specs.Io.KnownBytes.{ReadConsumes, WriteAppends};
 ghost use Rattle.bpf_canon.specs.Device.{CountsFailure};
@@ -7,6 +7,7 @@ ghost use Rattle.bpf_canon.specs.Device.{CountsFailure};
 use crate::device::DeviceFailed;
 use crate::sink::ByteSink;
 use crate::source::ByteSource;
+use std::alloc::{Allocator, Global};
 
 /// A source over a slice, which gives at most a piece at each read.
 #[derive(Drop)]
@@ -14,8 +15,8 @@ pub struct MemSource<'a> {
     rest: &'a [u8],
     piece: usize,
     // how many reads still succeed, where not all do
-    good_calls: Option<u64>,
-    failures: u64,
+    good_reads: Option<u64>,
+    failed_reads: u64,
     ghost positive: { 0 < piece },
 }
 
@@ -33,8 +34,8 @@ impl<'a> MemSource<'a> {
         MemSource {
             rest: bytes,
             piece,
-            good_calls: fuse.map(|n| n.saturating_sub(1)),
-            failures: 0,
+            good_reads: fuse.map(|n| n.saturating_sub(1)),
+            failed_reads: 0,
         }
     }
 }
@@ -56,11 +57,11 @@ impl ByteSource for MemSource<'_> {
         ensures amount { IfOk result (λ n. n ≡ min (source_pace self.old).piece (min (length buffer.old) (length (source_bytes self.old)))) }
         ensures pace { source_pace self.new ≡ next_pace (source_pace self.old) }
     {
-        if self.good_calls == Some(0) {
-            self.failures += 1;
+        if self.good_reads == Some(0) {
+            self.failed_reads += 1;
             return Err(DeviceFailed);
         }
-        self.good_calls = self.good_calls.map(|n| n.saturating_sub(1));
+        self.good_reads = self.good_reads.map(|n| n.saturating_sub(1));
         let n = self.piece.min(buffer.len()).min(self.rest.len());
         buffer[..n].copy_from_slice(&self.rest[..n]);
         self.rest = &self.rest[n..];
@@ -70,21 +71,21 @@ impl ByteSource for MemSource<'_> {
 
 /// A sink onto a vector, which takes at most a piece at each write.
 #[derive(Drop)]
-pub struct MemSink<'a> {
-    out: &'a mut Vec<u8>,
+pub struct MemSink<'a, A: Allocator = Global> {
+    out: &'a mut Vec<u8, A>,
     piece: usize,
     // how many writes still succeed, where not all do
-    good_calls: Option<u64>,
-    failures: u64,
+    good_writes: Option<u64>,
+    failed_writes: u64,
     ghost positive: { 0 < piece },
 }
 
-impl<'a> MemSink<'a> {
+impl<'a, A: Allocator> MemSink<'a, A> {
     ghost use Rattle.bpf_canon.specs.Memory.{sink_bytes, sink_failures, sink_pace, new_pace};
 
     /// Takes `piece` bytes at each write, fewer only where fewer are offered. It fails from write number `fuse` on,
     /// counted from 1. A write for which the vector can't grow fails too.
-    pub fn new(out: &'a mut Vec<u8>, piece: usize, fuse: Option<u64>) -> MemSink<'a>
+    pub fn new(out: &'a mut Vec<u8, A>, piece: usize, fuse: Option<u64>) -> MemSink<'a, A>
         requires { 0 < piece }
         ensures pace { sink_pace result ≡ new_pace piece fuse }
         ensures bytes { sink_bytes result ≡ out.entry.now.items }
@@ -93,13 +94,13 @@ impl<'a> MemSink<'a> {
         MemSink {
             out,
             piece,
-            good_calls: fuse.map(|n| n.saturating_sub(1)),
-            failures: 0,
+            good_writes: fuse.map(|n| n.saturating_sub(1)),
+            failed_writes: 0,
         }
     }
 }
 
-impl ByteSink for MemSink<'_> {
+impl<A: Allocator> ByteSink for MemSink<'_, A> {
     ghost use Rattle.bpf_canon.specs.Memory.{sink_bytes, sink_failures, sink_pace, next_pace};
 
     ghost contents = { λ s. Some (sink_bytes s) };
@@ -118,13 +119,13 @@ impl ByteSink for MemSink<'_> {
         ensures amount { IfOk result (λ n. n ≡ min (sink_pace self.old).piece (length bytes.now)) }
         ensures pace { sink_pace self.new ≡ next_pace (sink_pace self.old) }
     {
-        let is_good = self.good_calls != Some(0);
-        self.good_calls = self.good_calls.map(|n| n.saturating_sub(1));
+        let is_good = self.good_writes != Some(0);
+        self.good_writes = self.good_writes.map(|n| n.saturating_sub(1));
         let n = self.piece.min(bytes.len());
         if is_good && self.out.extend_from_slice(&bytes[..n]).is_ok() {
             return Ok(n);
         }
-        self.failures += 1;
+        self.failed_writes += 1;
         Err(DeviceFailed)
     }
 }

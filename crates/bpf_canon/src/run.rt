@@ -1,5 +1,5 @@
 //! Instructions from a source to a sink.
-ghost use Rattle.std.specs.Prelude.{◌≡◌, ◌<◌, ◌≤◌, ◌+◌, ◌-◌, ◌^◌, ℕ, Option, length, take, min, IfOk, IfErr, OnOk, IsNone};
+ghost use Rattle.std.specs.Prelude.{◌≡◌, ◌<◌, ◌≤◌, ◌+◌, ◌-◌, length, min, IfOk, IfErr, OnOk, IsNone};
 ghost use Rattle.std.specs.Io.KnownBytes.{Appends};
 ghost use Rattle.bpf_canon.specs.Run.{RanWhole, Stops, devices, counts_read, counts_write};
 ghost use Rattle.bpf_canon.specs.Passed.{Passed, PassStops, PutStops};

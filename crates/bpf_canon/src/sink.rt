@@ -1,5 +1,5 @@
 //! Where bytes go.
-ghost use Rattle.std.specs.Prelude.{◌≡◌, ◌<◌, ◌≤◌, ◌+◌, ℕ, List, Option, length, take, IfOk, OnOk, IfErr};
+ghost use Rattle.std.specs.Prelude.{◌<◌, ℕ, List, Option, length, take, IfOk, OnOk, IfErr};
 ghost use Rattle.std.specs.Io.{WritesAtMost};
 ghost use Rattle.std.specs.Io.KnownBytes.{Appends, WriteAppends};
 ghost use Rattle.bpf_canon.specs.Device.{CountsFailure};

@@ -1,8 +1,5 @@
 //! Devices over any reader and writer, as the standard streams are.
-ghost use Rattle.std.specs.Prelude.{◌≡◌, ◌<◌, ◌≤◌, ◌+◌, ◌-◌, ◌^◌, ℕ, List, Option, Some, None, length};
-ghost use Rattle.std.specs.Io.{ReadsAtMost, WritesAtMost};
-ghost use Rattle.std.specs.Io.KnownBytes.{ReadConsumes, WriteAppends};
-ghost use Rattle.bpf_canon.specs.Device.{CountsFailure};
+ghost use Rattle.std.specs.Prelude.{◌≡◌};
 
 use crate::device::DeviceFailed;
 use crate::sink::ByteSink;
@@ -13,7 +10,7 @@ use std::io::{Read, Write};
 #[derive(Drop)]
 pub struct ReaderSource<R> {
     reader: R,
-    failures: u64,
+    failed_reads: u64,
 }
 
 impl<R: Read> ReaderSource<R> {
@@ -24,7 +21,7 @@ impl<R: Read> ReaderSource<R> {
     {
         ReaderSource {
             reader,
-            failures: 0,
+            failed_reads: 0,
         }
     }
 }
@@ -32,13 +29,13 @@ impl<R: Read> ReaderSource<R> {
 impl<R: Read> ByteSource for ReaderSource<R> {
     ghost remaining = { λ s. R.remaining s.reader };
 
-    ghost failures = { λ s. s.failures };
+    ghost failures = { λ s. s.failed_reads };
 
     fn read(&mut self, buffer: &mut [u8]) -> Result<usize, DeviceFailed> {
         match self.reader.read(buffer) {
             Ok(n) => Ok(n),
             Err(_) => {
-                self.failures += 1;
+                self.failed_reads += 1;
                 Err(DeviceFailed)
             }
         }
@@ -50,7 +47,7 @@ impl<R: Read> ByteSource for ReaderSource<R> {
 #[derive(Drop)]
 pub struct WriterSink<W> {
     writer: W,
-    failures: u64,
+    failed_writes: u64,
 }
 
 impl<W: Write> WriterSink<W> {
@@ -61,7 +58,7 @@ impl<W: Write> WriterSink<W> {
     {
         WriterSink {
             writer,
-            failures: 0,
+            failed_writes: 0,
         }
     }
 }
@@ -69,13 +66,13 @@ impl<W: Write> WriterSink<W> {
 impl<W: Write> ByteSink for WriterSink<W> {
     ghost contents = { λ s. W.contents s.writer };
 
-    ghost failures = { λ s. s.failures };
+    ghost failures = { λ s. s.failed_writes };
 
     fn write(&mut self, bytes: &[u8]) -> Result<usize, DeviceFailed> {
         match self.writer.write(bytes) {
             Ok(n) if n > 0 || bytes.is_empty() => Ok(n),
             _ => {
-                self.failures += 1;
+                self.failed_writes += 1;
                 Err(DeviceFailed)
             }
         }

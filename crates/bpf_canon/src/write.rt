@@ -1,5 +1,5 @@
 //! From instructions to their bytes.
-ghost use Rattle.std.specs.Prelude.{◌≡◌, ◌≤◌, ◌+◌, ◌++◌, length, vec_len, vec_capacity, IfOk, IsOk, OnOk, OnErr};
+ghost use Rattle.std.specs.Prelude.{◌≡◌, ◌≤◌, ◌+◌, ◌++◌, length, vec_len, vec_capacity, IfOk, OnOk};
 ghost use Rattle.bpf_insn.specs.Table.{IsInsn};
 ghost use Rattle.bpf_insn.specs.Spelling.{file_of, spelling};
 
@@ -26,16 +26,12 @@ pub fn write_insns<A: Allocator>(
 }
 
 // Appends the bytes of an instruction.
-fn push_insn<A: Allocator>(
-    out: &mut Vec<u8, A>,
-    order: Order,
-    insn: Insn,
-) -> Result<(), AllocError>
+fn push_insn<A: Allocator>(out: &mut Vec<u8, A>, order: Order, insn: Insn) -> Result<(), AllocError>
     ensures ok { OnOk result (out.new.items ≡ out.old.items ++ spelling order insn) }
     ensures in_range { IsInsn insn }
 {
-    let (bytes, len) = insn_bytes(order, insn);
-    out.extend_from_slice(&bytes[..len])
+    let spelled = insn_bytes(order, insn);
+    out.extend_from_slice(&spelled.0[..spelled.1])
 }
 
 // Appends the bytes of an instruction, for which there is room.
@@ -45,6 +41,7 @@ pub(crate) fn append_insn<A: Allocator>(out: &mut Vec<u8, A>, order: Order, insn
     ensures len { vec_len out.new ≡ vec_len out.old + length (spelling order insn) }
     ensures capacity { vec_capacity out.old ≤ vec_capacity out.new }
 {
-    let (bytes, len) = insn_bytes(order, insn);
-    let _ = out.extend_from_slice(&bytes[..len]);
+    // The pair isn't taken apart, since that would copy the bytes once more.
+    let spelled = insn_bytes(order, insn);
+    let _ = out.extend_from_slice(&spelled.0[..spelled.1]);
 }

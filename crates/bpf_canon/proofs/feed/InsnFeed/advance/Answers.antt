@@ -129,4 +129,4 @@ returns-in_default g c =
     let size = length-take-le c.self.inside.held_len c.self.inside.held (omega (arith, c.self.invariant.short)) in
     from_view (the_view c.self.inside) c.args.self.now _ c.args.piece.now _ _ c.self.view_is
     (advance_faulty (the_view c.self.inside) c.args.piece.now _ _ _ c.read_front_across-read.ensures.read c.in-Some.fault (c.self.inside.fed - c.self.inside.held_len)
-        c.in-Some.is c.in_default.not-Truncated (omega (arith, size, c.self.invariant.counted)))
+    c.in-Some.is c.in_default.not-Truncated (omega (arith, size, c.self.invariant.counted)))

@@ -1,0 +1,9 @@
+//! Worked examples, devices that fail, and memory that is refused.
+
+mod devices;
+mod feed;
+mod files;
+mod limit;
+mod refused;
+mod run;
+mod samples;
