@@ -1,8 +1,8 @@
 //! Listings, read.
 
-ghost use Rattle.std.specs.Prelude.{◌≡◌, ℕ, ◌+◌, ◌<◌, ◌≤◌, ◌++◌, List, length, false, Err, IfOk, OnOk, MatchResult};
+ghost use Rattle.std.specs.Prelude.{◌≡◌, ℕ, ◌+◌, ◌≤◌, ◌++◌, List, length, false, Err, IfOk, OnOk, MatchResult};
 ghost use Rattle.std.specs.Option.{option_to_list};
-ghost use Rattle.std.specs.List.{AllZip, list_any, position_or_len};
+ghost use Rattle.std.specs.List.{list_any, position_or_len};
 ghost use Rattle.bpf_insn.specs.declared.insn.Insn.{Insn};
 ghost use Rattle.bpf_text.specs.Tokens.{is_newline, is_stray, AreTokens};
 ghost use Rattle.bpf_text.specs.declared.fault.LineFault.{LineFault};
