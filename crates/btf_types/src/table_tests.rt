@@ -112,7 +112,14 @@ fn records_end_and_stay_ended(rt: HostRuntime) -> Result<(), Fail> {
     let Ok(owned) = Btf::parse(rt.alloc(), TAGGED) else {
         return Err("not accepted")?;
     };
-    assert_eq!(rt; owned.records().count(), 3);
+    let mut records = owned.records();
+    for line in TAGGED_HEADS {
+        assert_eq!(rt;
+            next_shown(rt.alloc(), &mut records)?.as_deref(),
+            Some(line)
+        );
+    }
+    assert!(rt; records.next().is_none());
     let Ok(none) = BtfView::parse(rt.alloc(), EMPTY) else {
         return Err("not accepted")?;
     };

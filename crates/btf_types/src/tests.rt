@@ -425,9 +425,7 @@ fn texts_that_are_not_utf8(rt: HostRuntime) -> Result<(), Fail> {
 /// A string section of NUL, so many times `a`, and these bytes.
 fn long_text(alloc: Global, len: usize, end: &[u8]) -> Result<Vec<u8>, AllocError> {
     let mut strings = Vec::from_slice(alloc, b"\0")?;
-    for _ in 0..len {
-        strings.push(b'a')?;
-    }
+    strings.resize(len.saturating_add(1), b'a')?;
     strings.extend_from_slice(end)?;
     Ok(strings)
 }
