@@ -87,7 +87,7 @@ fn told(alloc: Global, bytes: &[u8]) -> Result<Option<Fault>, Fail> {
 }
 
 fn number(cause: BtfCause) -> u8 {
-    (cause as u8).saturating_add(1)
+    cause as u8
 }
 
 /// Files, bytes that are changed in them, and the first fault.
