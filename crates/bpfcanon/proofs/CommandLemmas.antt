@@ -5,13 +5,15 @@ use Rattle.std.proofs.KnownBytes.{Appends-nil}
 use Rattle.bpfcanon.specs.declared.command_line.Job.{Job}
 use Rattle.bpfcanon.specs.declared.outcome.Outcome.TheVariants.{TooLong}
 use Rattle.bpfcanon.specs.declared.verb.Verb.{Verb}
-use Rattle.bpfcanon.specs.declared.verb.Verb.TheVariants.{InsnCanon, InsnGroups, InsnSame}
-use Rattle.bpfcanon.specs.Reply.{IsReply, files_too_long, groups_too_long, limit_of, streams}
+use Rattle.bpfcanon.specs.declared.verb.Verb.TheVariants.{InsnCanon, InsnShow, InsnRead, InsnGroups, InsnSame}
+use Rattle.bpfcanon.specs.Reply.{IsReply, files_too_long, groups_too_long, limit_of, show_too_long, streams, text_too_long}
 use Rattle.bpfcanon.specs.Ends.{Change, EndsJob, replied}
 
 -- the reply to an input that is too long
 too_long_reply : (v : Verb) (j : Job) (input : List ℕ) → streams v ≡ false → limit_of v < length input → IsReply v j input TooLong []
 too_long_reply InsnCanon j input whole beyond = cc
+too_long_reply InsnShow j input whole beyond = show_too_long beyond
+too_long_reply InsnRead j input whole beyond = text_too_long beyond
 too_long_reply InsnGroups j input whole beyond = groups_too_long beyond
 too_long_reply InsnSame j input whole beyond = files_too_long beyond
 

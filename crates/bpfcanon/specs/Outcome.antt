@@ -4,14 +4,18 @@ use Rattle.std.specs.Io.KnownBytes.{Appends}
 use Rattle.bpf_insn.specs.declared.fault.SlotFault.{SlotFault}
 use Rattle.bpf_insn.specs.declared.fault.SlotCause.{SlotCause}
 use Rattle.bpf_insn.specs.declared.fault.SlotCause.TheVariants as cause
+use Rattle.bpf_text.specs.declared.fault.LineFault.{LineFault}
+use Rattle.bpf_text.specs.declared.fault.LineCause.{LineCause}
+use Rattle.bpf_text.specs.declared.fault.LineCause.TheVariants as line_cause
 use Rattle.bpfcanon.specs.declared.outcome.Outcome.{Outcome}
-use Rattle.bpfcanon.specs.declared.outcome.Outcome.TheVariants.{Done, Different, Fault, First, Second, TooLong, SplitBeyond, Usage, ReadFailed, WriteFailed, Memory}
+use Rattle.bpfcanon.specs.declared.outcome.Outcome.TheVariants.{Done, Different, Fault, FaultyLine, First, Second, TooLong, SplitBeyond, Usage, ReadFailed, WriteFailed, Memory}
 
 -- the status with which the program ends
 abbrev pub status_of : Outcome → ℕ
 status_of Done = 0
 status_of Different = 1
 status_of (Fault f) = 1
+status_of (FaultyLine f) = 1
 status_of (First f) = 1
 status_of (Second f) = 1
 status_of TooLong = 1
@@ -38,11 +42,22 @@ cause_name cause.NextImm = codes "NextImm"
 abbrev pub fault_line : List ℕ → SlotFault → List ℕ
 fault_line file f = file ++ (codes "fault " ++ (decimal f.pos ++ (codes " " ++ (cause_name f.cause ++ newline))))
 
+abbrev pub line_cause_name : LineCause → List ℕ
+line_cause_name line_cause.Char = codes "Char"
+line_cause_name line_cause.Word = codes "Word"
+line_cause_name line_cause.Shape = codes "Shape"
+line_cause_name line_cause.Range = codes "Range"
+
+-- the line of a fault of a listing: the number of the faulty line, from 1, and the cause
+abbrev pub faulty_line : LineFault → List ℕ
+faulty_line f = codes "fault line " ++ (decimal f.line ++ (codes " " ++ (line_cause_name f.cause ++ newline)))
+
 -- the line that the fault sink is given, if any
 abbrev pub line_of : Outcome → List ℕ
 line_of Done = []
 line_of Different = []
 line_of (Fault f) = fault_line [] f
+line_of (FaultyLine f) = faulty_line f
 line_of (First f) = fault_line (codes "first: ") f
 line_of (Second f) = fault_line (codes "second: ") f
 line_of TooLong = codes "too long" ++ newline

@@ -10,16 +10,21 @@ use Rattle.bpf_insn.specs.declared.group.Group.TheVariants.{Base32, Base64, Atom
 use Rattle.bpf_insn.specs.Spelling.{InsnFile, file_of}
 use Rattle.bpf_insn.specs.Faults.{IsFront, IsInsnFault}
 use Rattle.bpf_insn.specs.Groups.{InGroups}
+use Rattle.bpf_text.specs.declared.fault.LineFault.{LineFault}
+use Rattle.bpf_text.specs.Lines.{listing_of}
+use Rattle.bpf_text.specs.Listing.{Lists, IsListFault}
 use Rattle.bpfcanon.specs.declared.command_line.Job.{Job}
 use Rattle.bpfcanon.specs.declared.outcome.Outcome.{Outcome}
-use Rattle.bpfcanon.specs.declared.outcome.Outcome.TheVariants.{Done, Different, Fault, First, Second, TooLong, SplitBeyond}
+use Rattle.bpfcanon.specs.declared.outcome.Outcome.TheVariants.{Done, Different, Fault, FaultyLine, First, Second, TooLong, SplitBeyond}
 use Rattle.bpfcanon.specs.declared.verb.Verb.{Verb}
-use Rattle.bpfcanon.specs.declared.verb.Verb.TheVariants.{InsnCanon, InsnGroups, InsnSame}
+use Rattle.bpfcanon.specs.declared.verb.Verb.TheVariants.{InsnCanon, InsnShow, InsnRead, InsnGroups, InsnSame}
 use Rattle.bpfcanon.specs.Outcome.{newline}
 
 -- how many bytes a command takes
 abbrev pub limit_of : Verb → ℕ
 limit_of InsnCanon = 67108864
+limit_of InsnShow = 67108864
+limit_of InsnRead = 67108864
 limit_of InsnGroups = 67108864
 limit_of InsnSame = 134217728
 
@@ -45,6 +50,22 @@ pub data IsCanonReply (limit : ℕ) (order to : Order) (input : List ℕ) : Outc
   -- it has none within the limit, but more bytes
   canonical_to_limit : (l : List Insn) (rest : List ℕ) → IsFront order (take limit input) l rest
       → ¬ HasLastingFault order (take limit input) → limit < length input → IsCanonReply limit order to input TooLong (file_of to l)
+
+-- ---- insn-show
+
+-- the listing of the instructions of a file
+pub data IsShowReply (limit : ℕ) (order : Order) (input : List ℕ) : Outcome → List ℕ → Type 0 where
+  shown : (l : List Insn) → length input ≤ limit → InsnFile order input l → IsShowReply limit order input Done (listing_of l)
+  unshown : (f : SlotFault) → length input ≤ limit → IsInsnFault order input f → IsShowReply limit order input (Fault f) []
+  show_too_long : limit < length input → IsShowReply limit order input TooLong []
+
+-- ---- insn-read
+
+-- the instructions that a text lists
+pub data IsReadReply (limit : ℕ) (to : Order) (input : List ℕ) : Outcome → List ℕ → Type 0 where
+  read_back : (l : List Insn) → length input ≤ limit → Lists input l → IsReadReply limit to input Done (file_of to l)
+  unread : (f : LineFault) → length input ≤ limit → IsListFault input f → IsReadReply limit to input (FaultyLine f) []
+  text_too_long : limit < length input → IsReadReply limit to input TooLong []
 
 -- ---- insn-groups
 
@@ -90,6 +111,8 @@ pub data IsSameReply (limit : ℕ) (order other : Order) (split : ℕ) (input : 
 -- how the job ends, and its output
 abbrev pub IsReply : Verb → Job → List ℕ → Outcome → List ℕ → Type 0
 IsReply InsnCanon j input outcome output = IsCanonReply (limit_of InsnCanon) j.order j.to input outcome output
+IsReply InsnShow j input outcome output = IsShowReply (limit_of InsnShow) j.order input outcome output
+IsReply InsnRead j input outcome output = IsReadReply (limit_of InsnRead) j.to input outcome output
 IsReply InsnGroups j input outcome output = IsGroupsReply (limit_of InsnGroups) j.order input outcome output
 IsReply InsnSame j input outcome output = IsSameReply (limit_of InsnSame) j.order j.other j.split input outcome output
 

@@ -2,16 +2,18 @@
 use Rattle.std.specs.Prelude.{◌≡◌, Bool, true, false, List, [], ◌∷◌, codes, filter}
 use Rattle.clap.specs.Words.{Text}
 use Rattle.bpfcanon.specs.declared.verb.Verb.{Verb}
-use Rattle.bpfcanon.specs.declared.verb.Verb.TheVariants.{InsnCanon, InsnGroups, InsnSame}
+use Rattle.bpfcanon.specs.declared.verb.Verb.TheVariants.{InsnCanon, InsnShow, InsnRead, InsnGroups, InsnSame}
 use Rattle.bpfcanon.specs.declared.verb.Setting.{Setting}
 use Rattle.bpfcanon.specs.declared.verb.Setting.TheVariants.{Order, To, Other, Split}
 
 abbrev pub all_verbs : List Verb
-all_verbs = InsnCanon ∷ InsnGroups ∷ InsnSame ∷ []
+all_verbs = InsnCanon ∷ InsnShow ∷ InsnRead ∷ InsnGroups ∷ InsnSame ∷ []
 
 -- the word that names a command
 abbrev pub name_of : Verb → Text
 name_of InsnCanon = codes "insn-canon"
+name_of InsnShow = codes "insn-show"
+name_of InsnRead = codes "insn-read"
 name_of InsnGroups = codes "insn-groups"
 name_of InsnSame = codes "insn-same"
 
@@ -29,6 +31,8 @@ setting_name Split = codes "split"
 abbrev pub takes_setting : Verb → Setting → Bool
 takes_setting InsnCanon Order = true
 takes_setting InsnCanon To = true
+takes_setting InsnShow Order = true
+takes_setting InsnRead To = true
 takes_setting InsnGroups Order = true
 takes_setting InsnSame Order = true
 takes_setting InsnSame Other = true

@@ -82,7 +82,9 @@ fn run_job<S: ByteSource, W: ByteSink>(
 {
     match job.verb {
         Verb::InsnCanon => run_canon(alloc, job, source, sink),
-        Verb::InsnGroups | Verb::InsnSame => run_whole(alloc, job, source, sink),
+        Verb::InsnShow | Verb::InsnRead | Verb::InsnGroups | Verb::InsnSame => {
+            run_whole(alloc, job, source, sink)
+        }
     }
 }
 
@@ -114,7 +116,7 @@ fn run_line<S: ByteSource, W: ByteSink>(
 /// |---|---|---|
 /// | 0 | done, or two files are the same | none |
 /// | 1 | two files are different | none |
-/// | 1 | the input has a fault | `fault POS CAUSE`, of two files after `first: ` or `second: ` |
+/// | 1 | the input has a fault | `fault POS CAUSE`, of two files after `first: ` or `second: `; of a listing `fault line N CAUSE` |
 /// | 1 | more bytes came than the command takes | `too long` |
 /// | 1 | the first of two files is longer than the input | `split beyond input` |
 /// | 2 | the line isn't one of the program's, or asks for help | `usage: ..` |

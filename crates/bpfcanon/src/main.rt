@@ -6,6 +6,7 @@ ghost use Rattle.std.specs.Prelude.{◌<◌};
 mod command;
 mod command_line;
 mod groups;
+mod listings;
 mod options;
 mod outcome;
 mod reply;

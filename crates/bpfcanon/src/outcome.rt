@@ -2,10 +2,11 @@
 
 ghost use Rattle.std.specs.Prelude.{◌≡◌, ◌<◌};
 ghost use Rattle.std.specs.List.{flat_map};
-ghost use Rattle.bpfcanon.specs.Outcome.{Tells, cause_name, fault_line, line_of, status_of};
+ghost use Rattle.bpfcanon.specs.Outcome.{Tells, cause_name, fault_line, faulty_line, line_cause_name, line_of, status_of};
 
 use bpf_canon::{ByteSink, put_all};
 use bpf_insn::{SlotCause, SlotFault};
+use bpf_text::{LineCause, LineFault};
 use itoa::Buffer;
 
 /// How a command ends.
@@ -17,6 +18,8 @@ pub enum Outcome {
     Different,
     /// The input has a fault.
     Fault(SlotFault),
+    /// The text has this faulty line.
+    FaultyLine(LineFault),
     /// The first of two files has a fault.
     First(SlotFault),
     /// The second of two files has a fault, and the first has none.
@@ -44,6 +47,7 @@ impl Outcome {
             Outcome::Done => 0,
             Outcome::Different
             | Outcome::Fault(_)
+            | Outcome::FaultyLine(_)
             | Outcome::First(_)
             | Outcome::Second(_)
             | Outcome::TooLong
@@ -101,6 +105,35 @@ fn put_fault<E: ByteSink>(faults: &mut E, file: &'static [u8], fault: SlotFault)
     put_parts(faults, parts.as_slice());
 }
 
+/// The name of a cause of a listing's fault.
+fn line_cause_name(cause: LineCause) -> &'static [u8]
+    ensures { result.now ≡ line_cause_name cause }
+{
+    match cause {
+        LineCause::Char => b"Char",
+        LineCause::Word => b"Word",
+        LineCause::Shape => b"Shape",
+        LineCause::Range => b"Range",
+    }
+}
+
+/// Writes the line of a listing's fault.
+fn put_faulty_line<E: ByteSink>(faults: &mut E, fault: LineFault)
+    requires { E.failures faults.old < u64.MAX }
+    ensures { Tells (E.contents faults.old) (E.contents faults.new) (E.failures faults.old) (E.failures faults.new) (faulty_line fault) }
+{
+    let mut buffer = Buffer::new();
+    let line = buffer.format(fault.line).as_bytes();
+    let parts: [&[u8]; 5] = [
+        b"fault line ",
+        line,
+        b" ",
+        line_cause_name(fault.cause),
+        b"\n",
+    ];
+    put_parts(faults, parts.as_slice());
+}
+
 /// Writes the line that a command ends with, if any. It takes no memory. Where a write fails, the
 /// rest of the line is left out, and nothing else changes.
 pub fn put_line<E: ByteSink>(faults: &mut E, outcome: Outcome)
@@ -110,6 +143,7 @@ pub fn put_line<E: ByteSink>(faults: &mut E, outcome: Outcome)
     match outcome {
         Outcome::Done | Outcome::Different => {}
         Outcome::Fault(fault) => put_fault(faults, b"", fault),
+        Outcome::FaultyLine(fault) => put_faulty_line(faults, fault),
         Outcome::First(fault) => put_fault(faults, b"first: ", fault),
         Outcome::Second(fault) => put_fault(faults, b"second: ", fault),
         Outcome::TooLong => put_text(faults, b"too long\n"),

@@ -5,6 +5,7 @@ ghost use Rattle.bpfcanon.specs.Reply.{IsReply, limit_of, streams};
 
 use crate::command_line::Job;
 use crate::groups::groups_reply;
+use crate::listings::{read_reply, show_reply};
 use crate::outcome::Outcome;
 use crate::same::same_reply;
 use crate::verb::Verb;
@@ -51,6 +52,8 @@ pub fn reply_to(alloc: Global, job: Job, input: &[u8]) -> Result<Reply, AllocErr
 {
     match job.verb {
         Verb::InsnCanon => unreachable!(),
+        Verb::InsnShow => show_reply(alloc, job.order, input),
+        Verb::InsnRead => read_reply(alloc, job.to, input),
         Verb::InsnGroups => groups_reply(alloc, job.order, input),
         Verb::InsnSame => same_reply(alloc, job, input),
     }

@@ -3,4 +3,5 @@
 mod devices;
 mod examples;
 mod lines;
+mod listings;
 mod running;

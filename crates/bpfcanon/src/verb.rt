@@ -10,6 +10,10 @@ ghost use Rattle.bpfcanon.specs.Verbs.{name_of, setting_name, takes_setting};
 pub enum Verb {
     /// `insn-canon`: writes instructions anew, in the order `--to`.
     InsnCanon,
+    /// `insn-show`: lists instructions.
+    InsnShow,
+    /// `insn-read`: reads a listing, and writes its instructions in the order `--to`.
+    InsnRead,
     /// `insn-groups`: lists the conformance groups of instructions.
     InsnGroups,
     /// `insn-same`: tells whether two files have the same instructions.
@@ -30,7 +34,13 @@ pub enum Setting {
 }
 
 /// All commands.
-pub const VERBS: [Verb; 3] = [Verb::InsnCanon, Verb::InsnGroups, Verb::InsnSame];
+pub const VERBS: [Verb; 5] = [
+    Verb::InsnCanon,
+    Verb::InsnShow,
+    Verb::InsnRead,
+    Verb::InsnGroups,
+    Verb::InsnSame,
+];
 
 /// All options.
 pub const SETTINGS: [Setting; 4] = [Setting::Order, Setting::To, Setting::Other, Setting::Split];
@@ -42,6 +52,8 @@ impl Verb {
     {
         match self {
             Verb::InsnCanon => "insn-canon",
+            Verb::InsnShow => "insn-show",
+            Verb::InsnRead => "insn-read",
             Verb::InsnGroups => "insn-groups",
             Verb::InsnSame => "insn-same",
         }
@@ -54,6 +66,8 @@ impl Verb {
     {
         match name {
             "insn-canon" => Some(Verb::InsnCanon),
+            "insn-show" => Some(Verb::InsnShow),
+            "insn-read" => Some(Verb::InsnRead),
             "insn-groups" => Some(Verb::InsnGroups),
             "insn-same" => Some(Verb::InsnSame),
             _ => None,
@@ -66,7 +80,8 @@ impl Verb {
     {
         match self {
             Verb::InsnCanon => matches!(setting, Setting::Order | Setting::To),
-            Verb::InsnGroups => matches!(setting, Setting::Order),
+            Verb::InsnShow | Verb::InsnGroups => matches!(setting, Setting::Order),
+            Verb::InsnRead => matches!(setting, Setting::To),
             Verb::InsnSame => matches!(setting, Setting::Order | Setting::Other | Setting::Split),
         }
     }
@@ -76,7 +91,7 @@ impl Verb {
         ensures { result ≡ limit_of self }
     {
         match self {
-            Verb::InsnCanon | Verb::InsnGroups => 67_108_864,
+            Verb::InsnCanon | Verb::InsnShow | Verb::InsnRead | Verb::InsnGroups => 67_108_864,
             Verb::InsnSame => 134_217_728,
         }
     }
