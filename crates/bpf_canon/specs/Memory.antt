@@ -1,5 +1,5 @@
 -- How the devices over memory give and take.
-use Rattle.std.specs.Prelude.{◌-◌, ℕ, List, Option, option_map}
+use Rattle.std.specs.Prelude.{◌-◌, ◌+◌, ◌≤◌, ℕ, List, Option, option_map, vec_len, vec_capacity}
 use Rattle.bpf_canon.specs.declared.memory.MemSource.{MemSource}
 use Rattle.bpf_canon.specs.declared.memory.MemSink.{MemSink}
 
@@ -39,3 +39,7 @@ sink_failures s = s.failed_writes
 -- how much it takes at a write, and for how long
 abbrev pub sink_pace : {A : Type 0} → MemSink A → Pace
 sink_pace s = record { piece = s.piece; good_calls = s.good_writes }
+
+-- whether the vector behind a sink has room for so many bytes more
+abbrev pub HasRoom : {A : Type 0} → MemSink A → ℕ → Type 0
+HasRoom s n = vec_len s.out.now + n ≤ vec_capacity s.out.now

@@ -1,5 +1,5 @@
 //! Devices over memory, which give and take in pieces and fail when they are told to.
-ghost use Rattle.std.specs.Prelude.{◌≡◌, ◌<◌, Option, Some, length, min, Result, Ok, Err, IsErr, IfOk, ◌↔◌};
+ghost use Rattle.std.specs.Prelude.{◌≡◌, ◌<◌, Option, Some, length, min, Result, Ok, Err, IsErr, IsOk, IfOk, ◌≢◌, ◌↔◌};
 ghost use Rattle.std.specs.Io.{ReadsAtMost, WritesAtMost};
 ghost use Rattle.std.specs.Io.KnownBytes.{ReadConsumes, WriteAppends};
 ghost use Rattle.bpf_canon.specs.Device.{CountsFailure};
@@ -101,7 +101,7 @@ impl<'a, A: Allocator> MemSink<'a, A> {
 }
 
 impl<A: Allocator> ByteSink for MemSink<'_, A> {
-    ghost use Rattle.bpf_canon.specs.Memory.{sink_bytes, sink_failures, sink_pace, next_pace};
+    ghost use Rattle.bpf_canon.specs.Memory.{HasRoom, sink_bytes, sink_failures, sink_pace, next_pace};
 
     ghost contents = { λ s. Some (sink_bytes s) };
 
@@ -114,8 +114,9 @@ impl<A: Allocator> ByteSink for MemSink<'_, A> {
         ensures bytes { WriteAppends (Some (sink_bytes self.old)) (Some (sink_bytes self.new)) result bytes.now }
         ensures count { CountsFailure (sink_failures self.old) (sink_failures self.new) result }
 
-        // A write within the fuse fails only where the vector can't grow.
+        // A write within the fuse fails only where the vector has to grow and can't.
         ensures fails { (sink_pace self.old).good_calls ≡ Some 0 → IsErr result }
+        ensures succeeds { (sink_pace self.old).good_calls ≢ Some 0 → HasRoom self.old (min (sink_pace self.old).piece (length bytes.now)) → IsOk result }
         ensures amount { IfOk result (λ n. n ≡ min (sink_pace self.old).piece (length bytes.now)) }
         ensures pace { sink_pace self.new ≡ next_pace (sink_pace self.old) }
     {
