@@ -1,7 +1,8 @@
 //! Reads, lists and normalises eBPF instructions and BTF, over the standard streams.
 #![tactic(auto)]
 
-ghost use Rattle.std.specs.Prelude.{◌<◌};
+ghost use Rattle.std.specs.Prelude.{◌<◌, ◌++◌, codes};
+ghost use Rattle.bpfcanon.specs.Outcome.{Tells, newline};
 
 mod command;
 mod command_line;
@@ -13,15 +14,17 @@ mod reply;
 mod same;
 mod verb;
 
-use bpf_canon::{ByteSink, ReaderSource, WriterSink, put_all};
+use bpf_canon::{ByteSink, ReaderSource, WriterSink};
+use outcome::put_text;
 use std::env;
 use std::process::ExitCode;
 
-/// Tells that the program's words couldn't be had.
+/// Tells on standard error that the program's words couldn't be had.
 fn no_words<E: ByteSink>(faults: &mut E) -> ExitCode
     requires { E.failures faults.old < u64.MAX }
+    ensures { Tells (E.contents faults.old) (E.contents faults.new) (E.failures faults.old) (E.failures faults.new) (codes "no words" ++ newline) }
 {
-    let _ = put_all(faults, b"no words\n");
+    put_text(faults, b"no words\n");
     ExitCode::from(3)
 }
 

@@ -86,8 +86,8 @@ fn put_parts<E: ByteSink>(faults: &mut E, parts: &[&[u8]])
     }
 }
 
-/// Writes a line that is known.
-fn put_text<E: ByteSink>(faults: &mut E, line: &[u8])
+/// Writes a line that is known, until a write fails.
+pub fn put_text<E: ByteSink>(faults: &mut E, line: &[u8])
     requires { E.failures faults.old < u64.MAX }
     ensures { Tells (E.contents faults.old) (E.contents faults.new) (E.failures faults.old) (E.failures faults.new) line.now }
 {

@@ -3,7 +3,7 @@
 use super::running::{Pace, run, steady};
 use std::test::Fail;
 
-/// A command line, its input, its output and its line on the fault sink.
+/// A command line that succeeds, its input and its output.
 #[derive(Clone, Copy)]
 struct Sample {
     line: &'static str,
