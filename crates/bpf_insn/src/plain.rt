@@ -2,14 +2,14 @@
 //!
 //! In most instructions each field after the opcode is judged by itself. A table has what each opcode
 //! allows there, so that these are told without being made. The others are left to be read: wide
-//! loads, byte swaps, atomic operations, what gives an operation's offset a meaning, and the rare.
+//! loads, byte swaps, atomic operations, operations with an offset, and a few rare opcodes.
 
 ghost use Rattle.std.specs.Prelude.{◌≡◌, ◌↔◌, ◌<◌, IsTrue};
 ghost use Rattle.bpf_insn.specs.Plain.{IsPlain, IsWithin, rule_at};
 
 use crate::Slot;
 
-/// Values of the fields after an opcode, each of which makes an instruction with each of the others.
+/// Values of the fields after an opcode, each of which makes an instruction whatever the others are.
 #[derive(Clone, Copy)]
 pub struct Rule {
     /// The highest dst.
@@ -76,6 +76,7 @@ const EXIT: Option<Rule> = Some(Rule {
 /// The rule of each opcode: a row for the five high bits, and in it a place for each class, LD, LDX,
 /// ST, STX, ALU, JMP, JMP32 and ALU64.
 static RULES: [[Option<Rule>; 8]; 32] = [
+    // 0x00
     [NONE, NONE, NONE, NONE, IMM, JUMP, NONE, IMM],
     [NONE, NONE, NONE, NONE, REG, NONE, NONE, REG],
     [NONE, NONE, NONE, NONE, IMM, IMM_OFF, IMM_OFF, IMM],
@@ -84,6 +85,7 @@ static RULES: [[Option<Rule>; 8]; 32] = [
     [NONE, NONE, NONE, NONE, REG, REG_OFF, REG_OFF, REG],
     [NONE, NONE, NONE, NONE, IMM, IMM_OFF, IMM_OFF, IMM],
     [NONE, NONE, NONE, NONE, REG, REG_OFF, REG_OFF, REG],
+    // 0x40
     [NONE, NONE, NONE, NONE, IMM, IMM_OFF, IMM_OFF, IMM],
     [NONE, NONE, NONE, NONE, REG, REG_OFF, REG_OFF, REG],
     [NONE, NONE, NONE, NONE, IMM, IMM_OFF, IMM_OFF, IMM],
@@ -92,6 +94,7 @@ static RULES: [[Option<Rule>; 8]; 32] = [
     [NONE, REG_OFF, IMM_OFF, REG_OFF, REG, REG_OFF, REG_OFF, REG],
     [NONE, REG_OFF, IMM_OFF, REG_OFF, IMM, IMM_OFF, IMM_OFF, IMM],
     [NONE, REG_OFF, IMM_OFF, REG_OFF, REG, REG_OFF, REG_OFF, REG],
+    // 0x80
     [NONE, REG_OFF, NONE, NONE, NONE, CALL, NONE, NONE],
     [NONE, REG_OFF, NONE, NONE, NONE, NONE, NONE, NONE],
     [NONE, REG_OFF, NONE, NONE, IMM, EXIT, NONE, IMM],
@@ -100,6 +103,7 @@ static RULES: [[Option<Rule>; 8]; 32] = [
     [NONE, NONE, NONE, NONE, REG, REG_OFF, REG_OFF, REG],
     [NONE, NONE, NONE, NONE, IMM, IMM_OFF, IMM_OFF, IMM],
     [NONE, NONE, NONE, NONE, REG, REG_OFF, REG_OFF, REG],
+    // 0xc0
     [NONE, NONE, NONE, NONE, IMM, IMM_OFF, IMM_OFF, IMM],
     [NONE, NONE, NONE, NONE, REG, REG_OFF, REG_OFF, REG],
     [NONE, NONE, NONE, NONE, NONE, IMM_OFF, IMM_OFF, NONE],

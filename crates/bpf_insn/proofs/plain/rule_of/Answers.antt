@@ -1,4 +1,4 @@
-use Rattle.std.proofs.Common.{ℕ, ◌/◌, ◌%◌, [], None, slice_index_or, refl, arith}
+use Rattle.std.proofs.Common.{◌/◌, ◌%◌, [], None, slice_index_or, refl, arith}
 use Rattle.bpf_insn.specs.declared.plain.TheConstants.{RULES}
 use Rattle.bpf_insn.specs.Forms.{form_at, alu32_form_at, alu64_form_at, jump32_form_at, jump64_form_at, load_form_at, alu_code_at, branch_op_at, size_at, small_size_at}
 use Rattle.bpf_insn.proofs.PlainLemmas.{table_told}
