@@ -5,7 +5,7 @@ ghost use Rattle.bpf_canon.specs.FrontReads.{BeginsAcross, BeginsNone, ReadsFron
 
 use crate::recode::append_recoded;
 use crate::write::append_insn;
-use bpf_insn::{Insn, Order, SlotFault, read_insn};
+use bpf_insn::{Insn, Order, SlotFault, insn_len, read_insn};
 use std::alloc::Allocator;
 
 // How far the whole instructions go.
@@ -26,9 +26,9 @@ fn judge_front(order: Order, bytes: &[u8]) -> FrontRead
     let mut len = 0;
     let mut count = 0;
     while len < bytes.len() {
-        match read_insn(order, &bytes[len..]) {
-            Ok(found) => {
-                len += found.1;
+        match insn_len(order, &bytes[len..]) {
+            Ok(size) => {
+                len += size;
                 count += 1;
             }
             Err(fault) => {

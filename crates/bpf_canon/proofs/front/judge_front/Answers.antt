@@ -10,10 +10,10 @@ pub overflow_add-count : goal.overflow_add-count
 overflow_add-count c = omega (arith, reading_count _ _ _ _ _ _ _ c.loop-len.invariant, c.loop-len-test.true)
 
 pub loop-len-preserved : goal.loop-len-preserved
-loop-len-preserved c = reading_same _ _ _ _ _ _ _ (reading_more _ _ _ _ _ _ _ _ _ c.loop-len.invariant c.in-Ok.ensures.found)
+loop-len-preserved c = reading_same _ _ _ _ _ _ _ (reading_more _ _ _ _ _ _ _ _ _ c.loop-len.invariant c.in-Ok.ensures.found.1)
 
 pub loop-len-smaller : goal.loop-len-smaller
-loop-len-smaller c = omega (arith, c.in-Ok.ensures.found.1, at_least_a_slot c.args.order c.in-Ok.found.0, c.loop-len-test.true)
+loop-len-smaller c = omega (arith, c.in-Ok.ensures.found.1.1, at_least_a_slot c.args.order c.in-Ok.ensures.found.0, c.loop-len-test.true)
 
 pub returns-in-Err : goal.returns-in-Err
 returns-in-Err c = reading_stops _ _ _ _ _ _ _ _ c.loop-len.invariant c.in-Err.ensures.fault

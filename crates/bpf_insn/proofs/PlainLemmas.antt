@@ -1,0 +1,174 @@
+-- A slot within its opcode's rule is an instruction, and the table has the rule of each opcode.
+use Rattle.std.proofs.Common.{◌≡◌, ℕ, zero, suc, ◌<◌, ◌≤◌, ℤ, pos, List, [], ◌∷◌, length, take, Option, Some, None, Result, Ok, Err, IfOk, IfErr, refl, ap, sym, ◌∙◌, subst, arith, inl, inr, drop, slice_index_or}
+use Rattle.std.specs.Option.{IsSomeAnd, option_and_then}
+use Rattle.std.proofs.lemmas.Bool.{cases_eq}
+use Rattle.bpf_words.specs.declared.Order.{Order}
+use Rattle.bpf_words.specs.Slots.{Fields, AreFields, fields, spelled}
+use Rattle.bpf_words.proofs.OneSpelling.{same_fields}
+use Rattle.bpf_insn.specs.Table.{fields_of, next_imm_of, IsInsn, IsOffset, IsImm, alu_code, alu_class, alu_offset, code_opcode}
+use Rattle.bpf_insn.specs.Spelling.{spelling}
+use Rattle.bpf_insn.specs.Faults.{BeginsWith, IsSlotFault}
+use Rattle.bpf_insn.specs.Forms.{form_at, form_opcode, alu_code_number}
+use Rattle.bpf_insn.specs.Plain.{IsWithin, IsPlain, rule_of_form, rule_at}
+use Rattle.bpf_insn.proofs.OpcodeLemmas.{opcode_from_form_at}
+use Rattle.bpf_insn.proofs.WitnessLemmas.{reg}
+use Rattle.bpf_insn.proofs.ReadLemmas.{read_whole}
+use Rattle.bpf_insn.proofs.FileLaws.{begins_once}
+use Rattle.bpf_insn.specs.declared.fault.SlotFault.{SlotFault}
+use Rattle.bpf_insn.specs.declared.insn.AluOp.{AluOp}
+use Rattle.bpf_insn.specs.declared.insn.AluOp.TheVariants as alu
+use Rattle.bpf_insn.specs.declared.insn.Operand.TheVariants as arg
+use Rattle.bpf_insn.specs.declared.insn.Insn.{Insn}
+use Rattle.bpf_insn.specs.declared.insn.Insn.TheVariants.{Alu, Jump, Branch, CallHelper, CallLocal, CallBtf, Exit, Load, LoadSigned, StoreImm, StoreReg}
+use Rattle.bpf_insn.specs.declared.form.Source.TheVariants.{K, X}
+use Rattle.bpf_insn.specs.declared.form.AluCode.{AluCode}
+use Rattle.bpf_insn.specs.declared.form.AluCode.TheVariants as code
+use Rattle.bpf_insn.specs.declared.form.Form.{Form}
+use Rattle.bpf_insn.specs.declared.form.Form.TheVariants as form
+use Rattle.bpf_insn.specs.declared.plain.Rule.{Rule}
+
+-- an instruction of one slot with these fields
+record IsOneSlot (slot : Fields) : Type 0 where
+  insn : Insn
+  is : IsInsn insn
+  fields : fields_of insn ≡ slot
+  alone : next_imm_of insn ≡ None
+
+-- the operation of a code that has offset 0
+abbrev plain_op : AluCode → AluOp
+plain_op code.Add = alu.Add
+plain_op code.Sub = alu.Sub
+plain_op code.Mul = alu.Mul
+plain_op code.Div = alu.Div
+plain_op code.Or = alu.Or
+plain_op code.And = alu.And
+plain_op code.Lsh = alu.Lsh
+plain_op code.Rsh = alu.Rsh
+plain_op code.Mod = alu.Mod
+plain_op code.Xor = alu.Xor
+plain_op code.Mov = alu.Mov
+plain_op code.Arsh = alu.Arsh
+
+plain_code : (op : AluCode) → alu_code (plain_op op) ≡ alu_code_number op
+plain_code code.Add = refl
+plain_code code.Sub = refl
+plain_code code.Mul = refl
+plain_code code.Div = refl
+plain_code code.Or = refl
+plain_code code.And = refl
+plain_code code.Lsh = refl
+plain_code code.Rsh = refl
+plain_code code.Mod = refl
+plain_code code.Xor = refl
+plain_code code.Mov = refl
+plain_code code.Arsh = refl
+
+plain_offset : (op : AluCode) → alu_offset (plain_op op) ≡ 0
+plain_offset code.Add = refl
+plain_offset code.Sub = refl
+plain_offset code.Mul = refl
+plain_offset code.Div = refl
+plain_offset code.Or = refl
+plain_offset code.And = refl
+plain_offset code.Lsh = refl
+plain_offset code.Rsh = refl
+plain_offset code.Mod = refl
+plain_offset code.Xor = refl
+plain_offset code.Mov = refl
+plain_offset code.Arsh = refl
+
+at_zero : (n : ℕ) → n ≤ 0 → 0 ≡ n
+at_zero n h = omega (arith, h)
+
+call_insn : (s : ℕ) (k : ℤ) → s ≤ 2 → IsImm k → IsOneSlot (fields 0x85 0 s (pos 0) k)
+call_insn zero k h hk = record { insn = CallHelper k; is = hk; fields = refl; alone = refl }
+call_insn (suc zero) k h hk = record { insn = CallLocal k; is = hk; fields = refl; alone = refl }
+call_insn (suc (suc n)) k h hk =
+    record { insn = CallBtf k (pos 0); is = (hk, omega arith); fields = same_fields _ _ refl refl (omega (arith, h)) refl refl; alone = refl }
+
+-- a rule allows no more than its form
+plain_insn : (f : Form) (d s : ℕ) (o k : ℤ) → IsSomeAnd (rule_of_form f) (λ r. IsWithin r (fields (form_opcode f) d s o k)) → IsOffset o → IsImm k
+    → IsOneSlot (fields (form_opcode f) d s o k)
+plain_insn (form.Alu width op K) d s o k h ho hk = record {
+  insn = Alu width (plain_op op) (reg d h.0) (arg.Imm k);
+  is = hk;
+  fields = same_fields _ _ (ap (λ (c : ℕ). code_opcode c 0 (alu_class width)) (plain_code op)) refl (at_zero s h.1) (ap pos (plain_offset op) ∙ sym h.2) refl;
+  alone = refl;
+}
+plain_insn (form.Alu width op X) d s o k h ho hk = record {
+  insn = Alu width (plain_op op) (reg d h.0) (arg.Reg (reg s h.1));
+  is = tt;
+  fields = same_fields _ _ (ap (λ (c : ℕ). code_opcode c 1 (alu_class width)) (plain_code op)) refl refl (ap pos (plain_offset op) ∙ sym h.2) (sym h.3);
+  alone = refl;
+}
+plain_insn (form.Neg width) d s o k h ho hk = absurd h
+plain_insn (form.Swap kind) d s o k h ho hk = absurd h
+plain_insn form.Jump d s o k h ho hk =
+    record { insn = Jump o; is = ho; fields = same_fields _ _ refl (at_zero d h.0) (at_zero s h.1) refl (sym h.3); alone = refl }
+plain_insn form.JumpLong d s o k h ho hk = absurd h
+plain_insn (form.Branch width op K) d s o k h ho hk =
+    record { insn = Branch width op (reg d h.0) (arg.Imm k) o; is = (hk, ho); fields = same_fields _ _ refl refl (at_zero s h.1) refl refl; alone = refl }
+plain_insn (form.Branch width op X) d s o k h ho hk =
+    record { insn = Branch width op (reg d h.0) (arg.Reg (reg s h.1)) o; is = (tt, ho); fields = same_fields _ _ refl refl refl refl (sym h.3); alone = refl }
+plain_insn form.Call d s o k h ho hk =
+    let call = call_insn s k h.1 hk in
+    record { insn = call.insn; is = call.is; fields = call.fields ∙ same_fields _ _ refl (at_zero d h.0) refl (sym h.2) refl; alone = call.alone }
+plain_insn form.Exit d s o k h ho hk =
+    record { insn = Exit; is = tt; fields = same_fields _ _ refl (at_zero d h.0) (at_zero s h.1) (sym h.2) (sym h.3); alone = refl }
+plain_insn (form.Load z) d s o k h ho hk =
+    record { insn = Load z (reg d h.0) (reg s h.1) o; is = ho; fields = same_fields _ _ refl refl refl refl (sym h.3); alone = refl }
+plain_insn (form.LoadSigned z) d s o k h ho hk =
+    record { insn = LoadSigned z (reg d h.0) (reg s h.1) o; is = ho; fields = same_fields _ _ refl refl refl refl (sym h.3); alone = refl }
+plain_insn (form.StoreImm z) d s o k h ho hk =
+    record { insn = StoreImm z (reg d h.0) o k; is = (ho, hk); fields = same_fields _ _ refl refl (at_zero s h.1) refl refl; alone = refl }
+plain_insn (form.StoreReg z) d s o k h ho hk =
+    record { insn = StoreReg z (reg d h.0) (reg s h.1) o; is = ho; fields = same_fields _ _ refl refl refl refl (sym h.3); alone = refl }
+plain_insn (form.Atomic width) d s o k h ho hk = absurd h
+plain_insn form.Wide d s o k h ho hk = absurd h
+plain_insn (form.PacketAbs z) d s o k h ho hk = absurd h
+plain_insn (form.PacketInd z) d s o k h ho hk = absurd h
+
+plain_is_insn : (slot : Fields) → AreFields slot → IsPlain slot → IsOneSlot slot
+plain_is_insn slot a h = by_form (form_at slot.opcode) refl h
+  where
+    by_form : (o : Option Form) → form_at slot.opcode ≡ o → IsSomeAnd (option_and_then rule_of_form o) (λ r. IsWithin r slot) → IsOneSlot slot
+    by_form None e h = absurd h
+    by_form (Some f) e h =
+        let opcode : form_opcode f ≡ slot.opcode = opcode_from_form_at slot.opcode f a.opcode e in
+        let whole : fields (form_opcode f) slot.dst slot.src slot.off slot.imm ≡ slot = same_fields _ _ opcode refl refl refl refl in
+        subst IsOneSlot whole (plain_insn f slot.dst slot.src slot.off slot.imm (subst (λ (x : Fields). IsSomeAnd (rule_of_form f) (λ r. IsWithin r x)) (sym whole) h) a.off a.imm)
+
+-- bytes that begin with a plain slot begin with an instruction of 8 bytes
+pub plain_begins : (order : Order) (s front rest : List ℕ) (slot : Fields) → front ≡ take 8 s → rest ≡ drop 8 s → front ≡ spelled order slot → AreFields slot → IsPlain slot
+    → (i : Insn) × (BeginsWith order i s × (length (spelling order i) ≡ 8))
+plain_begins order s front rest slot f b spelled_so a h =
+    let one = plain_is_insn slot a h in
+    let begins = read_whole order s front rest slot f b spelled_so one.insn 8 (one.is, one.fields, one.alone) refl in
+    (one.insn, (begins.0, sym begins.1))
+
+-- an answer that is the length of an instruction, or a fault, is that of each instruction that the bytes begin with
+pub len_answered : (order : Order) (s : List ℕ) (r : Result ℕ SlotFault) → IfOk r (λ n. (i : Insn) × (BeginsWith order i s × (n ≡ length (spelling order i)))) → IfErr r (IsSlotFault order s)
+    → (i : Insn) → BeginsWith order i s → r ≡ Ok (length (spelling order i))
+len_answered order s (Ok n) found fault i b =
+    ap (λ (x : ℕ). okay x) (found.1.1 ∙ ap (λ (j : Insn). length (spelling order j)) (begins_once order found.0 i s found.1.0 b))
+  where
+    okay : ℕ → Result ℕ SlotFault
+    okay x = Ok x
+len_answered order s (Err e) found fault i b = absurd (fault.unspelled i b)
+
+-- ---- the table
+
+-- the rules of the numbers below n
+abbrev pub listed : (ℕ → Option Rule) → ℕ → List (Option Rule)
+listed f zero = []
+listed f (suc n) = f n ∷ listed f n
+
+same_at : (f g : ℕ → Option Rule) (n : ℕ) → listed f n ≡ listed g n → (k : ℕ) → k < n → f k ≡ g k
+same_at f g zero e k h = absurd (omega (arith, h))
+same_at f g (suc n) e k h = elim (cases_eq k n) [
+  | inl same ↦ rw same (ap (λ (rules : List (Option Rule)). slice_index_or rules 0 None) e)
+  | inr other ↦ same_at f g n (ap (λ (rules : List (Option Rule)). drop 1 rules) e) k (omega arith)
+]
+
+pub table_told : (f : ℕ → Option Rule) → listed f 256 ≡ listed rule_at 256 → (n : ℕ) → n < 256 → f n ≡ rule_at n
+table_told f e n h = same_at f rule_at 256 e n h
