@@ -197,14 +197,3 @@ marks_more s at text marks after so t adds = record {
         rw value (subst (λ (y : List ℕ). (get_or adds.added (o - at) false ≡ true) ↔ IsUtf8 y) same (adds.right (o - at) (omega arith)))
   ];
 }
-
-pub marked_text : (s : List ℕ) (at : ℕ) (text : List ℕ) (marks : List Bool) (mark : Bool) → AreMarks s (length s) marks → at < length s
-    → mark ≡ get_or marks at mark → TextAt s at text → (mark ≡ true) ↔ IsUtf8 text
-marked_text s at text marks mark are there read t =
-    let value : get_or marks at false ≡ mark = sym (read ∙ default marks at mark false (omega (arith, are.size))) in
-    rw value at (are.right at text there t)
-  where
-    default : (xs : List Bool) (i : ℕ) (d e : Bool) → i < length xs → get_or xs i d ≡ get_or xs i e
-    default [] i d e low = absurd (omega arith)
-    default (x ∷ xs) zero d e low = refl
-    default (x ∷ xs) (suc i) d e low = default xs i d e (omega arith)

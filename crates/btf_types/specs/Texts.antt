@@ -15,7 +15,7 @@ pub record AreMarks (strings : List ℕ) (n : ℕ) (marks : List Bool) : Type 0 
 
 abbrev pub TextsAre : List ℕ → Texts → Type 0
 TextsAre strings texts.Utf8 = IsUtf8 strings
-TextsAre strings (texts.Marked marks) = AreMarks strings (length strings) marks.items
+TextsAre strings (texts.Marked marks) = AreMarks strings (length strings) marks.now
 
 -- the least place of the text from which it is UTF-8 to its end
 pub record IsFirstUtf8 (text : List ℕ) (first : ℕ) : Type 0 where

@@ -4,21 +4,21 @@
 //! may point into one long string. Where the section is UTF-8 as a whole, a text is UTF-8 exactly where a character begins.
 //! Else a mark is kept for each byte of it.
 
-ghost use Rattle.std.specs.Prelude.{◌≡◌, ◌↔◌, ℕ, List, ◌+◌, ◌<◌, ◌≤◌, length, drop, IfOk, IsTrue, IsUtf8};
+ghost use Rattle.std.specs.Prelude.{◌≡◌, ◌↔◌, ℕ, List, ◌+◌, ◌<◌, ◌≤◌, length, drop, IfOk, IsTrue, IsUtf8, MatchOption};
 ghost use Rattle.btf_raw.specs.Header.{HasNulEnds};
 ghost use Rattle.btf_raw.specs.Names.{TextAt};
 ghost use Rattle.btf_types.specs.Texts.{BeginsChar, TextsAre, AreMarks, IsFirstUtf8, AddsMarks};
 
 use btf_raw::text_at;
-use std::alloc::{AllocError, Global};
+use std::alloc::{AllocError, Allocator};
 
 /// Which texts of a string section are UTF-8.
-#[derive(Debug, Drop)]
-pub enum Texts {
+#[derive(Clone, Copy, Debug)]
+pub enum Texts<'a> {
     /// The section is UTF-8 as a whole, so a text is UTF-8 where a character begins.
     Utf8,
     /// A mark for each byte of the section: whether the text from there on is UTF-8.
-    Marked(Vec<bool>),
+    Marked(&'a [bool]),
 }
 
 /// Whether a byte may begin a character, or is NUL.
@@ -56,7 +56,7 @@ fn is_utf8_from(text: &[u8], first: usize, o: usize) -> bool
 }
 
 /// Adds a mark for each place of a text, and one for its end.
-fn push_marks(marks: &mut Vec<bool>, text: &[u8]) -> Result<(), AllocError>
+fn push_marks<A: Allocator>(marks: &mut Vec<bool, A>, text: &[u8]) -> Result<(), AllocError>
     ensures { IfOk result (λ _. AddsMarks marks.old.items marks.new.items text.now (length text.now + 1)) }
 {
     let first = first_utf8(text);
@@ -67,7 +67,7 @@ fn push_marks(marks: &mut Vec<bool>, text: &[u8]) -> Result<(), AllocError>
 }
 
 /// The marks of a whole section.
-fn marks_of(alloc: Global, strings: &[u8]) -> Result<Vec<bool>, AllocError>
+fn marks_of<A: Allocator>(alloc: A, strings: &[u8]) -> Result<Vec<bool, A>, AllocError>
     requires { HasNulEnds strings.now }
     ensures { IfOk result (λ marks. AreMarks strings.now (length strings.now) marks.items) }
 {
@@ -81,20 +81,33 @@ fn marks_of(alloc: Global, strings: &[u8]) -> Result<Vec<bool>, AllocError>
     Ok(marks)
 }
 
-impl Texts {
-    /// The texts of a string section that begins and ends with NUL.
-    ///
-    /// # Errors
-    ///
-    /// `AllocError` where memory was refused. None is taken where the section is UTF-8 as a whole, else a byte for each byte.
-    pub fn of(alloc: Global, strings: &[u8]) -> Result<Texts, AllocError>
-        requires { HasNulEnds strings.now }
-        ensures { IfOk result (λ texts. TextsAre strings.now texts) }
+/// The marks of a section that begins and ends with NUL, or `None` where it is UTF-8 as a whole.
+///
+/// # Errors
+///
+/// `AllocError` where memory was refused. None is taken where the section is UTF-8 as a whole, else a byte for each byte.
+pub fn marks_unless_utf8<A: Allocator>(
+    alloc: A,
+    strings: &[u8],
+) -> Result<Option<Vec<bool, A>>, AllocError>
+    requires { HasNulEnds strings.now }
+    ensures { IfOk result (λ marks. MatchOption marks (IsUtf8 strings.now) (λ v. AreMarks strings.now (length strings.now) v.items)) }
+{
+    if std::str::from_utf8(strings).is_ok() {
+        Ok(None)
+    } else {
+        Ok(Some(marks_of(alloc, strings)?))
+    }
+}
+
+impl<'a> Texts<'a> {
+    /// The texts of a string section with these marks.
+    pub fn of<A: Allocator>(marks: &'a Option<Vec<bool, A>>) -> Texts<'a>
+        ensures { (strings : List ℕ) → MatchOption marks.now (IsUtf8 strings) (λ v. AreMarks strings (length strings) v.items) → TextsAre strings result }
     {
-        if std::str::from_utf8(strings).is_ok() {
-            Ok(Texts::Utf8)
-        } else {
-            Ok(Texts::Marked(marks_of(alloc, strings)?))
+        match marks {
+            None => Texts::Utf8,
+            Some(marks) => Texts::Marked(marks),
         }
     }
 
