@@ -9,4 +9,4 @@ returns-in-Utf8 c text t =
 pub returns-in-Marked : goal.returns-in-Marked
 returns-in-Marked c text t =
     let marks = rw c.in-Marked.is at c.requires.texts in
-    marks.right c.args.off text c.requires.there t
+    marks.right c.args.off text t
