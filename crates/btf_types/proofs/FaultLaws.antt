@@ -1,5 +1,5 @@
 -- A file has no fault exactly where it denotes some list of records.
-use Rattle.std.proofs.Common.{◌≡◌, ℕ, ◌+◌, ◌-◌, ◌<◌, ◌≤◌, List, [], ◌++◌, length, map, refl, sym, subst, ◌∙◌, inl, inr, append-nil, arith}
+use Rattle.std.proofs.Common.{ℕ, ◌+◌, ◌-◌, ◌<◌, ◌≤◌, List, length, map, refl, sym, subst, ◌∙◌, inl, inr, arith}
 use Rattle.std.specs.List.{AllZip}
 use Rattle.std.specs.Prelude.{slice_index}
 use Rattle.std.proofs.lemmas.Bool.{cases_eq}
@@ -12,7 +12,6 @@ use Rattle.btf_raw.specs.Cause.{HasNone}
 use Rattle.btf_raw.specs.Header.{Cut, HasNulEnds, HeaderFault, StringFault, part, types_at, strings_at, TYPES_LIMIT}
 use Rattle.btf_raw.specs.Frames.{Frames, FramingFault, section_of, bytes_of}
 use Rattle.btf_raw.proofs.Cuts.{cut_unique, cut_reads, SameCut}
-use Rattle.btf_raw.proofs.Frames.{frames_cancel}
 use Rattle.btf_raw.proofs.HeaderLaw.{header_there, cut_has_none}
 use Rattle.btf_types.specs.Values.{TypeRecord}
 use Rattle.btf_types.specs.Spelling.{Spells}
@@ -22,8 +21,8 @@ use Rattle.btf_types.specs.Reading.{record_of}
 use Rattle.btf_types.specs.FieldFaults.{FieldFault}
 use Rattle.btf_types.specs.Faults.{Phase, InHeader, InStrings, InFrames, InFields, Faults, StringsFault, FramesFault, FieldsFault}
 use Rattle.btf_types.specs.Laws.{CutIsJudged, FramingIsJudged, FieldsAreJudged, NoFaultIsAccepted}
-use Rattle.btf_types.proofs.Denoting.{nothing_is_no_frame, frames_of}
-use Rattle.btf_types.proofs.PhaseSteps.{no_string_fault, frames_have_none}
+use Rattle.btf_types.proofs.Denoting.{frames_of}
+use Rattle.btf_types.proofs.PhaseSteps.{no_string_fault, frames_have_none, same_frames}
 use Rattle.btf_types.proofs.TableSteps.{concat-map, spelled_bytes}
 use Rattle.btf_types.proofs.FramesLaw.{frames_there}
 use Rattle.btf_types.proofs.FieldsLaw.{fields_have_none}
@@ -101,11 +100,6 @@ module _ (b : List ℕ) (o : Order) (types strings : List ℕ) (cut : Cut b o ty
 
   -- ---- the fields
 
-  same_frames : (fs gs : List (List ℕ)) → Frames o types fs → Frames o types gs → fs ≡ gs
-  same_frames fs gs one other =
-      let sections : section_of o fs ++ [] ≡ section_of o gs ++ [] = rw (append-nil, append-nil) (sym one.whole ∙ other.whole) in
-      (frames_cancel o fs gs [] [] one.each other.each (nothing_is_no_frame o) (nothing_is_no_frame o) sections).frames
-
   module _ (frames : List (List ℕ)) (framed : Frames o types frames) where
     fields_none : HasNone (FieldsFault b) → HasNone (FieldFault strings frames)
     fields_none none p c fault = none (types_at o b + p) c (record {
@@ -136,7 +130,7 @@ module _ (b : List ℕ) (o : Order) (types strings : List ℕ) (cut : Cut b o ty
     fields_back v spelled good p c fault =
         let same = same_cut fault.order fault.types fault.strings fault.cut in
         let its : Frames o types fault.frames = subst (λ (q : Order). Frames q types fault.frames) same.order (subst (λ (t : List ℕ). Frames fault.order t fault.frames) same.types fault.framed) in
-        let frames_are = same_frames fault.frames frames its framed in
+        let frames_are = same_frames o types fault.frames frames its framed in
         fields_have_none strings v frames spelled good fault.offset c
         (subst (λ (fs : List (List ℕ)). FieldFault strings fs fault.offset c) frames_are (subst (λ (s : List ℕ). FieldFault s fault.frames fault.offset c) same.strings fault.fault))
 

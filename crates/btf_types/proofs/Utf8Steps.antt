@@ -1,15 +1,12 @@
 -- Texts that are UTF-8.
-use Rattle.std.proofs.Common.{◌≡◌, ℕ, zero, suc, ◌+◌, ◌-◌, ◌<◌, ◌≤◌, Bool, true, false, List, [], ◌∷◌, ◌++◌, length, get_or, take, drop, refl, sym, ap, subst, ◌∙◌, inl, inr, append_assoc, length-append, take-append-drop, arith}
-use Rattle.std.specs.Prelude.{◌↔◌, IsUtf8, IsCharBoundary, slice_index}
-use Rattle.std.specs.Str.{IsValidUpTo}
+use Rattle.std.proofs.Common.{◌≡◌, ℕ, ◌+◌, ◌-◌, ◌<◌, ◌≤◌, Bool, true, List, [], ◌∷◌, ◌++◌, length, get_or, take, drop, refl, sym, ap, subst, ◌∙◌, inl, inr, append_assoc, length-append, take-append-drop, arith}
+use Rattle.std.specs.Prelude.{◌≢◌, ◌↔◌, IsUtf8, IsCharBoundary, MatchResult, Result, Ok, Err, is_ok, slice_index}
 use Rattle.std.proofs.lemmas.Bool.{cases_lt}
-use Rattle.std.proofs.lemmas.List.{length-drop, length-take-le, get_or-drop, get_or-take, drop-drop, get_or-append-add}
-use Rattle.std.proofs.lemmas.Str.{IsUtf8-nil, IsUtf8-append, IsUtf8-take, IsUtf8-drop, IsUtf8-between, IsCharBoundary-start, IsCharBoundary-from_drop, IsCharBoundary-before_ascii}
-use Rattle.std.proofs.Math.ListN.{get_or-append}
-use Rattle.std.proofs.Math.Seq.{get_or-append_seam}
+use Rattle.std.proofs.lemmas.List.{length-drop, length-take-le, get_or-drop, get_or_append_left, take-append-le}
+use Rattle.std.proofs.lemmas.Str.{IsUtf8-nil, IsUtf8-append, IsUtf8-take, IsUtf8-drop, IsUtf8-between, IsCharBoundary-start, IsCharBoundary-before_ascii}
 use Rattle.btf_raw.specs.Names.{TextAt}
-use Rattle.btf_raw.proofs.Texts.{TextAt-unique, text_behind}
-use Rattle.btf_types.specs.Texts.{BeginsChar, IsFirstUtf8, AddsMarks, AreMarks}
+use Rattle.btf_raw.proofs.Texts.{text_behind}
+use Rattle.btf_types.specs.Texts.{BeginsChar, IsNextChar}
 
 -- ---- a text in its section
 
@@ -48,6 +45,21 @@ empty_text s at (c ∷ text) t e =
     let same : at + 0 ≡ at = omega arith in
     absurd (t.without_nul 0 (omega arith) (sym first ∙ rw same e))
 
+first_byte : (s : List ℕ) (at : ℕ) (text : List ℕ) → TextAt s at text → 0 < length text → get_or s at 0 ≡ get_or text 0 0
+first_byte s at text t some =
+    subst (λ (i : ℕ). get_or s i 0 ≡ get_or (text ++ 0 ∷ t.after) 0 0) (omega arith) (byte_of_text s at text t 0) ∙ get_or_append_left text (0 ∷ t.after) 0 0 some
+
+-- a character may begin where a text is UTF-8
+pub begins_with_char : (s : List ℕ) (at : ℕ) (text : List ℕ) → TextAt s at text → IsUtf8 text → BeginsChar (slice_index s at)
+begins_with_char s at text t utf8 high = elim (cases_lt 0 (length text)) [
+  | inl some ↦
+      let here = first_byte s at text t some in
+      rw here ((IsCharBoundary-start text utf8).1 some (rw (← here) high))
+  | inr none ↦
+      let zero_here : get_or s at 0 ≡ 0 = subst (λ (i : ℕ). get_or s i 0 ≡ 0) (omega arith) (end_of_text s at text t) in
+      absurd (omega arith)
+]
+
 -- ---- a section that is UTF-8 as a whole
 
 text_is_part : (s : List ℕ) (at : ℕ) (text : List ℕ) → TextAt s at text → take (length text) (drop at s) ≡ text
@@ -70,141 +82,65 @@ whole_text s at text u t = (there, back)
         subst (λ (x : List ℕ). IsUtf8 x) (text_is_part s at text t) (rw size at part)
 
     back : IsUtf8 text → BeginsChar (slice_index s at)
-    back utf8 high = elim (cases_lt 0 (length text)) [
-      | inl some ↦
-          let here : get_or s at 0 ≡ get_or text 0 0 =
-          subst (λ (i : ℕ). get_or s i 0 ≡ get_or (text ++ 0 ∷ t.after) 0 0) (omega arith) (byte_of_text s at text t 0) ∙ head text some in
-          rw here ((IsCharBoundary-start text utf8).1 some (rw (← here) high))
-      | inr none ↦
-          let zero_here : get_or s at 0 ≡ 0 = subst (λ (i : ℕ). get_or s i 0 ≡ 0) (omega arith) (end_of_text s at text t) in
-          absurd (omega arith)
-    ]
-      where
-        head : (x : List ℕ) → 0 < length x → get_or (x ++ 0 ∷ t.after) 0 0 ≡ get_or x 0 0
-        head [] some = absurd (omega arith)
-        head (c ∷ x) some = refl
+    back utf8 = begins_with_char s at text t utf8
 
--- ---- the place from which a text is UTF-8
-
--- where a list stops being UTF-8, no end of it from before is UTF-8
-none_before : (xs : List ℕ) (v o : ℕ) → ¬ IsUtf8 xs → IsValidUpTo xs v → o ≤ v → ¬ IsUtf8 (drop o xs)
-none_before xs v o bad valid low utf8 =
-    let short = valid.short in
-    let edge = IsCharBoundary-from_drop xs o (omega arith) utf8 in
-    let size : length (take v xs) ≡ v = length-take-le v xs (omega arith) in
-    let inner : IsCharBoundary (take v xs) o = (
-      omega arith,
-      λ lt high.
-          let lower : o < v = omega arith in
-          let same : get_or (take v xs) o 0 ≡ get_or xs o 0 = get_or-take v xs o 0 lower in
-          rw same (edge.1 (omega arith) (rw (← same) high)),
-    ) in
-    let front : IsUtf8 (take o (take v xs)) = IsUtf8-take (take v xs) o valid.front inner in
-    let same : take o (take v xs) ≡ take o xs = take-take o v xs low in
-    bad (subst (λ (x : List ℕ). IsUtf8 x) (take-append-drop o xs) (IsUtf8-append (take o xs) (drop o xs) (subst (λ (x : List ℕ). IsUtf8 x) same front) utf8))
-  where
-    take-take : (a b : ℕ) (l : List ℕ) → a ≤ b → take a (take b l) ≡ take a l
-    take-take zero b l h = refl
-    take-take (suc a) zero l h = absurd (omega arith)
-    take-take (suc a) (suc b) [] h = refl
-    take-take (suc a) (suc b) (x ∷ l) h = ap (λ (y : List ℕ). x ∷ y) (take-take a b l (omega arith))
-
-pub step_bad : (text : List ℕ) (first v : ℕ) → ((o : ℕ) → o < first → ¬ IsUtf8 (drop o text)) → ¬ IsUtf8 (drop first text) → IsValidUpTo (drop first text) v
-    → (o : ℕ) → o < first + (v + 1) → ¬ IsUtf8 (drop o text)
-step_bad text first v before bad valid o low utf8 = elim (cases_lt o first) [
-  | inl lt ↦ before o lt utf8
-  | inr le ↦
-      let sum : first + (o - first) ≡ o = omega arith in
-      none_before (drop first text) v (o - first) bad valid (omega arith) (rw (drop-drop, sum) utf8)
-]
-
--- whether the rest of the text is UTF-8, at the places before that one, at the end, and elsewhere
-pub early_text : (text : List ℕ) (first o : ℕ) → IsFirstUtf8 text first → o < first → (false ≡ true) ↔ IsUtf8 (drop o text)
-early_text text first o is early = (λ e. absurd cc, λ utf8. absurd (is.before o early utf8))
-
-pub end_text : (text : List ℕ) (o : ℕ) → o ≡ length text → (true ≡ true) ↔ IsUtf8 (drop o text)
-end_text text o end =
-    let none : drop o text ≡ [] = ap (λ (i : ℕ). drop i text) end ∙ drop_all text in
-    (λ e. rw none IsUtf8-nil, λ utf8. refl)
-  where
-    drop_all : (xs : List ℕ) → drop (length xs) xs ≡ []
-    drop_all [] = refl
-    drop_all (x ∷ xs) = drop_all xs
-
-pub inner_text : (text : List ℕ) (first o : ℕ) → IsFirstUtf8 text first → first ≤ o → o < length text → BeginsChar (slice_index text o) ↔ IsUtf8 (drop o text)
-inner_text text first o is past low = (there, back)
-  where
-    there : BeginsChar (slice_index text o) → IsUtf8 (drop o text)
-    there begins =
-        let sum : first + (o - first) ≡ o = omega arith in
-        let same : get_or (drop first text) (o - first) 0 ≡ get_or text o 0 = get_or-drop first text (o - first) 0 ∙ rw sum refl in
-        let edge : IsCharBoundary (drop first text) (o - first) = (omega (arith, length-drop first text), λ lt high. rw same (begins (rw same at high))) in
-        let rest = IsUtf8-drop (drop first text) (o - first) is.rest edge in
-        rw (drop-drop, sum) at rest
-
-    back : IsUtf8 (drop o text) → BeginsChar (slice_index text o)
-    back utf8 high =
-        let some : 0 < length (drop o text) = omega (arith, length-drop o text) in
-        let same : get_or (drop o text) 0 0 ≡ get_or text o 0 = get_or-drop o text 0 0 ∙ ap (λ (i : ℕ). get_or text i 0) (omega arith) in
-        rw (← same) ((IsCharBoundary-start (drop o text) utf8).1 some (rw same high))
+-- ---- a text by its first character and the rest
 
 pub through : {A B C : Type 0} → A ↔ B → B ↔ C → A ↔ C
 through p q = (λ a. q.0 (p.0 a), λ k. p.1 (q.1 k))
 
--- ---- the marks
+-- a text that isn't empty reaches as far as the next place where a character may begin
+reaches : (s : List ℕ) (at next : ℕ) (rest : Bool) (text : List ℕ) → IsNextChar s at next rest → slice_index s at ≢ 0 → TextAt s at text → next - at ≤ length text
+reaches s at next rest text is some t = elim (cases_lt (length text) (next - at)) [
+  | inr far ↦ far
+  | inl short ↦
+      let end = end_of_text s at text t in
+      let past = is.past in
+      elim (cases_lt 0 (length text)) [
+        | inl more ↦
+            let high = is.between (at + length text) (omega arith) (omega arith) in
+            absurd (omega (arith, end))
+        | inr none ↦ absurd (some (subst (λ (i : ℕ). get_or s i 0 ≡ 0) (omega arith) end))
+      ]
+]
 
-pub no_marks : (s : List ℕ) → AreMarks s 0 []
-no_marks s = record { size = refl; right = λ o text low t. absurd (omega arith) }
+-- what stands before the next place is the front of the text
+front_of_text : (s : List ℕ) (at n : ℕ) (text : List ℕ) → TextAt s at text → n ≤ length text → take n (drop at s) ≡ take n text
+front_of_text s at n text t low = ap (λ (x : List ℕ). take n x) (text_behind s at text t) ∙ take-append-le n text (0 ∷ t.after) low
 
-pub nothing_added : (before : List Bool) (text : List ℕ) → AddsMarks before before text 0
-nothing_added before text = record { added = []; whole = sym (append-nil_of before); size = refl; right = λ o low. absurd (omega arith) }
-  where
-    append-nil_of : (xs : List Bool) → xs ++ [] ≡ xs
-    append-nil_of [] = refl
-    append-nil_of (x ∷ xs) = ap (λ (y : List Bool). x ∷ y) (append-nil_of xs)
+-- the text may be cut there
+edge_of_text : (s : List ℕ) (at next : ℕ) (rest : Bool) (text : List ℕ) → IsNextChar s at next rest → next < length s → TextAt s at text → next - at ≤ length text → IsCharBoundary text (next - at)
+edge_of_text s at next rest text is inside t low = (
+  low,
+  λ lt high.
+      let past = is.past in
+      let sum : at + (next - at) ≡ next = omega arith in
+      let here : get_or s next 0 ≡ get_or text (next - at) 0 =
+      subst (λ (i : ℕ). get_or s i 0 ≡ get_or text (next - at) 0) sum (byte_of_text s at text t (next - at) ∙ get_or_append_left text (0 ∷ t.after) 0 (next - at) lt) in
+      rw (← here) (is.begins inside (rw here high)),
+)
 
-pub one_added : (before now : List Bool) (text : List ℕ) (n : ℕ) (mark : Bool) → AddsMarks before now text n → (mark ≡ true) ↔ IsUtf8 (drop n text)
-    → AddsMarks before (now ++ mark ∷ []) text (n + 1)
-one_added before now text n mark so is = record {
-  added = so.added ++ mark ∷ [];
-  whole = ap (λ (x : List Bool). x ++ mark ∷ []) so.whole ∙ append_assoc before so.added (mark ∷ []);
-  size = omega (arith, length-append so.added (mark ∷ []), so.size);
-  right = λ o low. elim (cases_lt o n) [
-    | inl lt ↦ rw (get_or-append so.added (mark ∷ []) false o (omega (arith, so.size))) (so.right o lt)
-    | inr le ↦
-        let here : o ≡ length so.added = omega (arith, so.size) in
-        let there : o ≡ n = omega arith in
-        let value : get_or (so.added ++ mark ∷ []) o false ≡ mark = rw here (get_or-append_seam so.added mark [] false) in
-        rw value (subst (λ (i : ℕ). (mark ≡ true) ↔ IsUtf8 (drop i text)) (sym there) is)
-  ];
-}
+-- it is UTF-8 exactly where its front up to there is, and the rest
+pub front_and_rest : (s : List ℕ) (at next : ℕ) (rest : Bool) (text : List ℕ) → IsNextChar s at next rest → next < length s → slice_index s at ≢ 0 → TextAt s at text
+    → (IsUtf8 (take (next - at) (drop at s)) × (rest ≡ true)) ↔ IsUtf8 text
+front_and_rest s at next rest text is inside some t =
+    let n = next - at in
+    let past = is.past in
+    let low : n ≤ length text = reaches s at next rest text is some t in
+    let edge = edge_of_text s at next rest text is inside t low in
+    let front = front_of_text s at n text t low in
+    let sum : at + n ≡ next = omega arith in
+    let behind : TextAt s next (drop n text) = subst (λ (i : ℕ). TextAt s i (drop n text)) sum (tail_text s at n text t low) in
+    let goes_on = is.rest_is (drop n text) behind in (
+      λ both. subst (λ (x : List ℕ). IsUtf8 x) (take-append-drop n text)
+          (IsUtf8-append (take n text) (drop n text) (subst (λ (x : List ℕ). IsUtf8 x) front both.0) (goes_on.0 both.1)),
+      λ utf8. (subst (λ (x : List ℕ). IsUtf8 x) (sym front) (IsUtf8-take text n utf8 edge), goes_on.1 (IsUtf8-drop text n utf8 edge)),
+    )
 
-pub marks_more : (s : List ℕ) (at : ℕ) (text : List ℕ) (marks after : List Bool) → AreMarks s at marks → TextAt s at text → AddsMarks marks after text (length text + 1)
-    → AreMarks s (at + (length text + 1)) after
-marks_more s at text marks after so t adds = record {
-  size = omega (arith, ap length adds.whole, length-append marks adds.added, adds.size, so.size);
-  right = λ o x low standing. elim (cases_lt o at) [
-    | inl lt ↦
-        let value : get_or after o false ≡ get_or marks o false = rw adds.whole (get_or-append marks adds.added false o (omega (arith, so.size))) in
-        rw value (so.right o x lt standing)
-    | inr le ↦
-        let sum : at + (o - at) ≡ o = omega arith in
-        let past : length marks + (o - at) ≡ o = omega (arith, so.size) in
-        let value : get_or after o false ≡ get_or adds.added (o - at) false =
-        rw adds.whole (subst (λ (i : ℕ). get_or (marks ++ adds.added) i false ≡ get_or adds.added (o - at) false) past (get_or-append-add marks adds.added (o - at) false)) in
-        let tail : TextAt s o (drop (o - at) text) = subst (λ (i : ℕ). TextAt s i (drop (o - at) text)) sum (tail_text s at (o - at) text t (omega arith)) in
-        let same : drop (o - at) text ≡ x = TextAt-unique s o (drop (o - at) text) x tail standing in
-        rw value (subst (λ (y : List ℕ). (get_or adds.added (o - at) false ≡ true) ↔ IsUtf8 y) same (adds.right (o - at) (omega arith)))
-  ];
-}
+pub no_text_is_utf8 : (s : List ℕ) (at : ℕ) (text : List ℕ) → TextAt s at text → slice_index s at ≡ 0 → IsUtf8 text
+no_text_is_utf8 s at text t nul = rw (empty_text s at text t nul) IsUtf8-nil
 
-pub marked_text : (s : List ℕ) (at : ℕ) (text : List ℕ) (marks : List Bool) (mark : Bool) → AreMarks s (length s) marks → at < length s
-    → mark ≡ get_or marks at mark → TextAt s at text → (mark ≡ true) ↔ IsUtf8 text
-marked_text s at text marks mark are there read t =
-    let value : get_or marks at false ≡ mark = sym (read ∙ default marks at mark false (omega (arith, are.size))) in
-    rw value at (are.right at text there t)
-  where
-    default : (xs : List Bool) (i : ℕ) (d e : Bool) → i < length xs → get_or xs i d ≡ get_or xs i e
-    default [] i d e low = absurd (omega arith)
-    default (x ∷ xs) zero d e low = refl
-    default (x ∷ xs) (suc i) d e low = default xs i d e (omega arith)
+-- a call that tells whether bytes are UTF-8
+pub ok_tells : {X E P : Type 0} (A : X → Type 0) (B : E → Type 0) (r : Result X E) → MatchResult r (λ x. A x × P) (λ e. ¬ P × B e) → (is_ok r ≡ true) ↔ P
+ok_tells A B (Ok x) told = (λ ok. told.1, λ p. refl)
+ok_tells A B (Err e) told = (λ ok. absurd cc, λ p. absurd (told.0 p))

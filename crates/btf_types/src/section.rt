@@ -29,7 +29,7 @@ pub struct Section<'a> {
     /// Where each record begins, in bytes from the first of `types`. Type id 1 is the first.
     pub places: &'a [u32],
     /// Which texts of `strings` are UTF-8.
-    pub texts: &'a Texts,
+    pub texts: &'a Texts<'a>,
 }
 
 /// What other records ask of a type.

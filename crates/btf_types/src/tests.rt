@@ -46,7 +46,11 @@ const EMPTY_NAME: &[u8] =
     b"\x9f\xeb\x01\0\x18\0\0\0\0\0\0\0\x0c\0\0\0\x0c\0\0\0\x05\0\0\0\x04\0\0\0\0\0\0\x02\0\0\0\0\0int\0";
 
 /// The bytes with some of them changed.
-fn edited(alloc: Global, bytes: &[u8], edits: &[(usize, u8)]) -> Result<Vec<u8>, AllocError> {
+pub(crate) fn edited(
+    alloc: Global,
+    bytes: &[u8],
+    edits: &[(usize, u8)],
+) -> Result<Vec<u8>, AllocError> {
     let mut copy = Vec::from_slice(alloc, bytes)?;
     for (pos, byte) in edits {
         if let Some(old) = copy.get_mut(*pos) {
@@ -57,7 +61,7 @@ fn edited(alloc: Global, bytes: &[u8], edits: &[(usize, u8)]) -> Result<Vec<u8>,
 }
 
 /// The little-endian file of these records and strings.
-fn file(alloc: Global, records: &[u8], strings: &[u8]) -> Result<Vec<u8>, AllocError> {
+pub(crate) fn file(alloc: Global, records: &[u8], strings: &[u8]) -> Result<Vec<u8>, AllocError> {
     let mut bytes = Vec::from_slice(alloc, b"\x9f\xeb\x01\0\x18\0\0\0\0\0\0\0")?;
     let types_len = u32::try_from(records.len()).unwrap_or(0).to_le_bytes();
     bytes.extend_from_slice(&types_len)?;

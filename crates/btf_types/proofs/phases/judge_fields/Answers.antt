@@ -3,7 +3,7 @@ use Rattle.btf_types.proofs.Faultless.{fields_are_right}
 use Rattle.btf_types.proofs.phases.judge_fields.Goals as goal
 
 pub returns : goal.returns
-returns c =
+returns g c =
     let b = c.args.bytes.now in
     let h = c.args.header in
     let cut = c.requires.before.header.reads.cut in

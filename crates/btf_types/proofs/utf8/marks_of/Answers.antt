@@ -1,17 +1,22 @@
-use Rattle.std.proofs.Common.{subst, arith, ℕ}
-use Rattle.btf_types.specs.Texts.{AreMarks}
-use Rattle.btf_types.proofs.Utf8Steps.{marks_more, text_end}
+use Rattle.std.proofs.Common.{ℕ, subst, arith}
+use Rattle.btf_types.proofs.Marks.{AreMarksFrom, char_marked, no_char_marked, all_marked}
 use Rattle.btf_types.proofs.utf8.marks_of.Goals as goal
 
+pub loop-at-preserved-then-begins_char : goal.loop-at-preserved-then-begins_char
+loop-at-preserved-then-begins_char g c =
+    let l = c.loop-at in
+    char_marked c.args.strings.now l.at l.next l.rest c.is_utf8_with-rest.result l.marks.items l.invariant c.loop-at-test.true
+    (c.begins_char.ensures.0 c.if-begins_char.true) c.is_utf8_with-rest.ensures
+
 pub loop-at-preserved : goal.loop-at-preserved
-loop-at-preserved c =
-    let s = c.args.strings.now in
-    record {
-      marks = marks_more s c.loop-at.at c.text_at-text.result.now c.loop-at.marks.items c.push_marks.new.marks.items c.loop-at.invariant.marks c.text_at-text.ensures c.in_ok-push_marks.ensures;
-      inside = omega (arith, text_end s c.loop-at.at c.text_at-text.result.now c.text_at-text.ensures);
-    }
+loop-at-preserved g c =
+    let l = c.loop-at in
+    let none = c.if-begins_char.false in
+    no_char_marked c.args.strings.now l.at l.next l.rest l.marks.items c.requires l.invariant c.loop-at-test.true
+    (λ begins. let is = c.begins_char.ensures.1 begins in absurd cc)
 
 pub returns : goal.returns
-returns c =
-    let inside = c.loop-at.invariant.inside in
-    subst (λ (n : ℕ). AreMarks c.args.strings.now n c.loop-at.marks.items) (omega arith) c.loop-at.invariant.marks
+returns g c =
+    let l = c.loop-at in
+    let first = c.loop-at-test.false in
+    all_marked c.args.strings.now l.next l.rest l.marks.items (subst (λ (n : ℕ). AreMarksFrom c.args.strings.now n l.next l.rest l.marks.items) (omega arith) l.invariant)

@@ -1,9 +1,8 @@
-use Rattle.std.proofs.Common.{length, ◌-◌, ◌≤◌}
-use Rattle.btf_types.specs.Texts.{AreMarks}
+use Rattle.btf_types.proofs.Marks.{AreMarksFrom}
 use Rattle.btf_types.proofs.utf8.marks_of.Given as goal
 
 abbrev pub invariant-loop-at : goal.invariant-loop-at
-invariant-loop-at l = record { marks : AreMarks l.strings l.at l.marks.items; inside : l.at ≤ length l.strings }
+invariant-loop-at g l = AreMarksFrom l.strings l.at l.next l.rest l.marks.items
 
 abbrev pub decreases-loop-at : goal.decreases-loop-at
-decreases-loop-at l = length l.strings - l.at
+decreases-loop-at g l = l.at

@@ -5,14 +5,14 @@ use Rattle.btf_types.proofs.TableReads.{stands_at, place_inside, record_there, c
 use Rattle.btf_types.proofs.owned.BtfTypeTable.item_count.Goals as goal
 
 pub item_count_at-requires : goal.item_count_at-requires
-item_count_at-requires c =
+item_count_at-requires g c =
     let t = c.self.inside in
     let low : c.args.id - 1 < length t.places.items = place_inside t.order t.types.items t.strings.items t.places.items c.args.self.now c.args.id c.self.view_is c.requires.first c.requires.last in
     let at : c.index.result.now ≡ get_or t.places.items (c.args.id - 1) 0 = c.index.ensures ∙ get_or_default_zero t.places.items (c.args.id - 1) c.index.result.now low in
     rw (c.deref.ensures.value, at) (stands_at t.order t.types.items t.strings.items t.places.items (c.args.id - 1) c.self.invariant low).inside
 
 pub returns : goal.returns
-returns c =
+returns g c =
     let t = c.self.inside in
     let low : c.args.id - 1 < length t.places.items = place_inside t.order t.types.items t.strings.items t.places.items c.args.self.now c.args.id c.self.view_is c.requires.first c.requires.last in
     let at : c.index.result.now ≡ get_or t.places.items (c.args.id - 1) 0 = c.index.ensures ∙ get_or_default_zero t.places.items (c.args.id - 1) c.index.result.now low in

@@ -1,4 +1,4 @@
-use Rattle.btf_types.proofs.Utf8Steps.{whole_text, marked_text, through}
+use Rattle.btf_types.proofs.Utf8Steps.{whole_text, through}
 use Rattle.btf_types.proofs.utf8.Texts.is_utf8.Goals as goal
 
 pub returns-in-Utf8 : goal.returns-in-Utf8
@@ -9,4 +9,4 @@ returns-in-Utf8 c text t =
 pub returns-in-Marked : goal.returns-in-Marked
 returns-in-Marked c text t =
     let marks = rw c.in-Marked.is at c.requires.texts in
-    marked_text c.args.strings.now c.args.off text c.in-Marked.marks.items c.index.result.now marks c.requires.there c.index.ensures t
+    marks.right c.args.off text t

@@ -4,21 +4,21 @@ use Rattle.btf_types.proofs.TableReads.{stands_at, place_inside, record_there, i
 use Rattle.btf_types.proofs.view.BtfViewTypeTable.item.Goals as goal
 
 pub item_at-requires-clause-stands : goal.item_at-requires-clause-stands
-item_at-requires-clause-stands c =
+item_at-requires-clause-stands g c =
     let t = c.self.inside in
     let low : c.args.id - 1 < length t.places.items = place_inside t.order t.types.now t.strings.now t.places.items c.args.self.now c.args.id c.self.view_is c.requires.first c.requires.last in
     let at : c.index.result.now ≡ get_or t.places.items (c.args.id - 1) 0 = c.index.ensures ∙ get_or_default_zero t.places.items (c.args.id - 1) c.index.result.now low in
     rw at (stands_at t.order t.types.now t.strings.now t.places.items (c.args.id - 1) c.self.invariant low)
 
 pub item_at-requires-clause-inside : goal.item_at-requires-clause-inside
-item_at-requires-clause-inside c =
+item_at-requires-clause-inside g c =
     let t = c.self.inside in
     let low : c.args.id - 1 < length t.places.items = place_inside t.order t.types.now t.strings.now t.places.items c.args.self.now c.args.id c.self.view_is c.requires.first c.requires.last in
     let at : c.index.result.now ≡ get_or t.places.items (c.args.id - 1) 0 = c.index.ensures ∙ get_or_default_zero t.places.items (c.args.id - 1) c.index.result.now low in
     rw at (item_inside t.order t.types.now t.strings.now t.places.items c.args.self.now c.args.id c.args.k c.self.view_is low c.requires.inside)
 
 pub returns : goal.returns
-returns c =
+returns g c =
     let t = c.self.inside in
     let low : c.args.id - 1 < length t.places.items = place_inside t.order t.types.now t.strings.now t.places.items c.args.self.now c.args.id c.self.view_is c.requires.first c.requires.last in
     let at : c.index.result.now ≡ get_or t.places.items (c.args.id - 1) 0 = c.index.ensures ∙ get_or_default_zero t.places.items (c.args.id - 1) c.index.result.now low in
