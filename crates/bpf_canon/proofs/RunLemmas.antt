@@ -69,6 +69,7 @@ run_unread a b c p q o to s n r k =
       read = r.read;
       wrote = record {
         came = Consumes-kept a b c r.read r.came k;
+        near = omega (arith, r.within);
         insns = r.insns;
         rest = r.rest;
         front = subst P (sym e) r.front;
@@ -76,6 +77,7 @@ run_unread a b c p q o to s n r k =
         all = r.all;
       };
       sound = subst Q (sym e) (keeps_answer s o to r.read r.stands r.sound);
+      within = r.within;
     }
 
 same_at_end : (a b c : Option (List ℕ)) (read : List ℕ) → Consumes a b read → Consumes b c [] → Consumes a c read
@@ -111,6 +113,7 @@ run_cut a b c p q o to s n f r k end fault =
       read = r.read;
       wrote = record {
         came = same_at_end a b c r.read r.came k;
+        near = omega (arith, r.within);
         insns = r.insns;
         rest = r.rest;
         front = subst P (sym e) r.front;
@@ -169,8 +172,8 @@ run_more a b c p q r o to s t n k piece h came x fits =
 -- more than the limit came
 pub run_too_long : (a b c p q r : Option (List ℕ)) (o to : Order) (s t : FeedState) (n k : ℕ) (chunk piece : List ℕ) → (h : Running (devices a b p q) o to s n)
     → Consumes b c chunk → Passed s t piece q r k → take limit (h.read ++ chunk) ≡ h.read ++ piece → limit < s.fed + length chunk
-    → StopsTooLong (devices a c p r) o to (n + k)
-run_too_long a b c p q r o to s t n k chunk piece h came x cut beyond =
+    → length chunk ≤ 4096 → StopsTooLong (devices a c p r) o to (n + k)
+run_too_long a b c p q r o to s t n k chunk piece h came x cut beyond small =
     let adds = adds_of o to s t h.read piece h.insns h.rest x.out h.front h.stands x.moves in
     let P : List ℕ → Type 0 = λ b. IsFront o b (h.insns ++ adds.gained) adds.left in
     let Q : List ℕ → Type 0 = λ b. IsSound o b in
@@ -178,6 +181,7 @@ run_too_long a b c p q r o to s t n k chunk piece h came x cut beyond =
       read = h.read ++ chunk;
       wrote = record {
         came = Consumes-trans a b c h.read chunk h.came came;
+        near = omega (arith, small, h.within, length-append h.read chunk);
         insns = h.insns ++ adds.gained;
         rest = adds.left;
         front = subst P (sym cut) adds.front;
@@ -191,8 +195,8 @@ run_too_long a b c p q r o to s t n k chunk piece h came x cut beyond =
 -- the piece stops the engine
 pub run_stops : (a b c p q r : Option (List ℕ)) (o to : Order) (s t : FeedState) (n k : ℕ) (chunk piece : List ℕ) (why : RunCause SlotFault) → (h : Running (devices a b p q) o to s n)
     → Consumes b c chunk → PassStops s t piece q r k why → take limit (h.read ++ chunk) ≡ h.read ++ piece
-    → Stops (devices a c p r) o to (n + k) why
-run_stops a b c p q r o to s t n k chunk piece (cause.Fault f) h came x cut =
+    → length chunk ≤ 4096 → Stops (devices a c p r) o to (n + k) why
+run_stops a b c p q r o to s t n k chunk piece (cause.Fault f) h came x cut small =
     let adds = adds_of o to s t h.read piece h.insns h.rest x.out h.front h.stands x.moves in
     let has = keeps_fault t o to _ f adds.stands x.faulty in
     let P : List ℕ → Type 0 = λ b. IsFront o b (h.insns ++ adds.gained) adds.left in
@@ -201,6 +205,7 @@ run_stops a b c p q r o to s t n k chunk piece (cause.Fault f) h came x cut =
       read = h.read ++ chunk;
       wrote = record {
         came = Consumes-trans a b c h.read chunk h.came came;
+        near = omega (arith, small, h.within, length-append h.read chunk);
         insns = h.insns ++ adds.gained;
         rest = adds.left;
         front = subst P (sym cut) adds.front;
@@ -210,15 +215,16 @@ run_stops a b c p q r o to s t n k chunk piece (cause.Fault f) h came x cut =
       fault = subst Q (sym cut) has.fault;
       ended = λ e. absurd (has.lasting e);
     }
-run_stops a b c p q r o to s t n k chunk piece cause.TooLong h came x cut = absurd x
-run_stops a b c p q r o to s t n k chunk piece cause.ReadFailed h came x cut = absurd x
-run_stops a b c p q r o to s t n k chunk piece cause.WriteFailed h came x cut =
+run_stops a b c p q r o to s t n k chunk piece cause.TooLong h came x cut small = absurd x
+run_stops a b c p q r o to s t n k chunk piece cause.ReadFailed h came x cut small = absurd x
+run_stops a b c p q r o to s t n k chunk piece cause.WriteFailed h came x cut small =
     let adds = adds_of o to s t h.read piece h.insns h.rest x.out h.front h.stands x.moves in
     let P : List ℕ → Type 0 = λ b. IsFront o b (h.insns ++ adds.gained) adds.left in
     record {
       read = h.read ++ chunk;
       wrote = record {
         came = Consumes-trans a b c h.read chunk h.came came;
+        near = omega (arith, small, h.within, length-append h.read chunk);
         prefix = λ insns rest f.
             let once = one_front o (take limit (h.read ++ chunk)) (h.insns ++ adds.gained) insns adds.left rest (subst P (sym cut) adds.front) f in
             let whole : file_of to insns ≡ file_of to h.insns ++ x.out =
@@ -231,10 +237,11 @@ run_stops a b c p q r o to s t n k chunk piece cause.WriteFailed h came x cut =
             );
       };
     }
-run_stops a b c p q r o to s t n k chunk piece cause.Memory h came x cut = record {
+run_stops a b c p q r o to s t n k chunk piece cause.Memory h came x cut small = record {
   read = h.read ++ chunk;
   wrote = record {
     came = Consumes-trans a b c h.read chunk h.came came;
+    near = omega (arith, small, h.within, length-append h.read chunk);
     prefix = λ insns rest f.
         let Q : List ℕ → Type 0 = λ b. IsFront o b insns rest in
         let grown = front_grows o h.insns insns h.read piece h.rest rest h.front (subst Q cut f) in

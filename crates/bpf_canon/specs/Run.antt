@@ -1,5 +1,5 @@
 -- What an engine on instructions did.
-use Rattle.std.specs.Prelude.{◌≡◌, ◌<◌, ◌≤◌, ℕ, List, Option, length, take}
+use Rattle.std.specs.Prelude.{◌≡◌, ◌<◌, ◌≤◌, ◌+◌, ℕ, List, Option, length, take}
 use Rattle.std.specs.Io.KnownBytes.{Appends, Consumes, IsAtEnd}
 use Rattle.bpf_words.specs.declared.Order.{Order}
 use Rattle.bpf_insn.specs.declared.insn.Insn.{Insn}
@@ -37,15 +37,18 @@ pub record RanWhole (d : Devices) (o to : Order) (written : ℕ) : Type 0 where
   pub took : Appends d.sink d.sink_after (file_of to insns)
   pub all : written ≡ length (file_of to insns)
 
--- of the instructions at the front of what came within the limit, the sink took the first bytes in the order `to`
+-- what came goes beyond the limit by one read of 4,096 bytes at most; of the instructions at the front of what came within
+-- the limit, the sink took the first bytes in the order `to`
 pub record Wrote (d : Devices) (o to : Order) (read : List ℕ) (written : ℕ) : Type 0 where
   pub came : Consumes d.source d.source_after read
+  pub near : length read ≤ limit + 4096
   pub prefix : (insns : List Insn) (rest : List ℕ) → IsFront o (take limit read) insns rest
       → (written ≤ length (file_of to insns)) × Appends d.sink d.sink_after (take written (file_of to insns))
 
 -- the sink took all of them
 pub record WroteAll (d : Devices) (o to : Order) (read : List ℕ) (written : ℕ) : Type 0 where
   pub came : Consumes d.source d.source_after read
+  pub near : length read ≤ limit + 4096
   pub insns : List Insn
   pub rest : List ℕ
   pub front : IsFront o (take limit read) insns rest
@@ -66,11 +69,12 @@ pub record StopsTooLong (d : Devices) (o to : Order) (written : ℕ) : Type 0 wh
   pub sound : IsSound o (take limit read)
   pub beyond : limit < length read
 
--- a read failed, and no complete slot that came is faulty
+-- a read failed before more than the limit came, and no complete slot that came is faulty
 pub record StopsUnread (d : Devices) (o to : Order) (written : ℕ) : Type 0 where
   pub read : List ℕ
   pub wrote : WroteAll d o to read written
   pub sound : IsSound o (take limit read)
+  pub within : length read ≤ limit
 
 -- a write failed, or memory was refused
 pub record StopsUnwritten (d : Devices) (o to : Order) (written : ℕ) : Type 0 where

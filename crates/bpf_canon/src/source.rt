@@ -1,9 +1,9 @@
 //! Where bytes come from.
-ghost use Rattle.std.specs.Prelude.{◌≡◌, ◌<◌, ◌≤◌, ◌+◌, ℕ, List, Option, length, IfOk, OnOk, IfErr, IsErrOf};
+ghost use Rattle.std.specs.Prelude.{◌≡◌, ◌<◌, ◌≤◌, ◌+◌, ℕ, List, Option, length, IfOk, OnOk, IfErr};
 ghost use Rattle.std.specs.Io.{ReadsAtMost};
 ghost use Rattle.std.specs.Io.KnownBytes.{Consumes, IsAtEnd, ReadConsumes};
 ghost use Rattle.bpf_canon.specs.Device.{CountsFailure};
-ghost use Rattle.bpf_canon.specs.Reads.{failed_reads};
+ghost use Rattle.bpf_canon.specs.Reads.{EndsAmid, failed_reads};
 ghost use Rattle.bpf_canon.specs.declared.source.ReadError.TheVariants.{Memory};
 
 use crate::device::DeviceFailed;
@@ -69,8 +69,7 @@ pub fn read_all<S: ByteSource, A: Allocator>(
     ensures end { OnOk result (IsAtEnd (S.remaining source.new)) }
     ensures within { IfOk result (λ bytes. length bytes.items ≤ limit) }
     ensures healthy { OnOk result (S.failures source.new ≡ S.failures source.old) }
-    ensures too_long { IsErrOf result ReadError.TooLong →
-        (bytes : List ℕ) × (Consumes (S.remaining source.old) (S.remaining source.new) bytes × (limit < length bytes)) }
+    ensures amid { IfErr result (λ e. (bytes : List ℕ) × (Consumes (S.remaining source.old) (S.remaining source.new) bytes × EndsAmid limit bytes e)) }
     ensures count { IfErr result (λ e. S.failures source.new ≡ S.failures source.old + failed_reads e) }
 {
     let mut bytes = Vec::new(alloc);

@@ -5,5 +5,6 @@ mod feed;
 mod files;
 mod limit;
 mod refused;
+mod room;
 mod run;
 mod samples;

@@ -1,8 +1,7 @@
 -- How insn-canon ends, by what its engine did.
-use Rattle.std.proofs.Common.{◌≡◌, ◌≤◌, ◌+◌, ◌∙◌, ℕ, List, [], length, take, refl, ap, subst, inl, inr, arith}
+use Rattle.std.proofs.Common.{◌≡◌, ◌+◌, ℕ, List, [], take, refl, subst, inl, inr, arith}
 use Rattle.std.specs.Io.KnownBytes.{Appends}
 use Rattle.std.proofs.lemmas.List.{take-take}
-use Rattle.std.proofs.Math.Seq.{take-length}
 use Rattle.bpf_words.specs.declared.Order.{Order}
 use Rattle.bpf_insn.specs.declared.insn.Insn.{Insn}
 use Rattle.bpf_insn.specs.declared.fault.SlotFault.{SlotFault}
@@ -17,7 +16,7 @@ use Rattle.bpfcanon.specs.declared.outcome.Outcome.{Outcome}
 use Rattle.bpfcanon.specs.declared.outcome.Outcome.TheVariants.{Done, Fault, TooLong, ReadFailed, WriteFailed, Memory}
 use Rattle.bpfcanon.specs.declared.verb.Verb.TheVariants.{InsnCanon}
 use Rattle.bpfcanon.specs.Reply.{HasLastingFault, IsCanonReply, canonical, canonical_to_fault, canonical_to_limit}
-use Rattle.bpfcanon.specs.Ends.{Change, EndsJob, TookPrefix, no_memory_amid, read_failed_amid, replied, write_failed_amid}
+use Rattle.bpfcanon.specs.Ends.{Change, EndsJob, TookAll, TookPrefix, no_memory_amid, read_failed_amid, replied, write_failed_amid}
 
 -- what the devices have, without their counts of failures
 abbrev pub devices_of : Change → Change → Devices
@@ -38,17 +37,13 @@ took_prefix j source sink read n canon wrote = rw canon (λ outcome output reply
     let took = wrote.prefix front.0 front.1.0 front.1.1.0 in
     (n, rw front.1.1.1 took.1))
 
-wrote_prefix : (d : Devices) (o to : Order) (read : List ℕ) (n : ℕ) → WroteAll d o to read n → Wrote d o to read n
-wrote_prefix d o to read n wrote = record {
-  came = wrote.came;
-  prefix = λ insns rest front.
-      let same = (one_front o (take limit read) wrote.insns insns wrote.rest rest wrote.front front).0 in
-      let whole : take n (file_of to wrote.insns) ≡ file_of to wrote.insns =
-      ap (λ (k : ℕ). take k (file_of to wrote.insns)) wrote.all ∙ take-length (file_of to wrote.insns) in
-      let Prefix : List Insn → Type 0 = λ l. (n ≤ length (file_of to l)) × Appends d.sink d.sink_after (take n (file_of to l)) in
-      let here : Prefix wrote.insns = (omega (arith, wrote.all), rw whole wrote.took) in
-      subst Prefix same here;
-}
+took_all : (j : Job) (source sink : Change) (read : List ℕ) (n : ℕ) → j.verb ≡ InsnCanon → WroteAll (devices_of source sink) j.order j.to read n → TookAll j sink read
+took_all j source sink read n canon wrote = rw canon (λ outcome output reply.
+    let front = output_of_front j.order j.to read outcome output reply in
+    let same = (one_front j.order (take limit read) wrote.insns front.0 wrote.rest front.1.0 wrote.front front.1.1.0).0 in
+    let Took : List Insn → Type 0 = λ l. Appends sink.old sink.new (file_of j.to l) in
+    let took = subst Took same wrote.took in
+    rw front.1.1.1 took)
 
 sound_has_none : (o : Order) (b : List ℕ) → IsSound o b → ¬ HasLastingFault o b
 sound_has_none o b sound = λ fault. fault.1.1 (sound fault.0 fault.1.0)
@@ -56,37 +51,38 @@ sound_has_none o b sound = λ fault. fault.1.1 (sound fault.0 fault.1.0)
 pub canon_done : (j : Job) (source sink : Change) (n : ℕ) → j.verb ≡ InsnCanon → RanWhole (devices_of source sink) j.order j.to n
     → source.failed_after ≡ source.failed → sink.failed_after ≡ sink.failed → EndsJob j source sink Done
 canon_done j source sink n canon ran healthy unfailed =
-    replied ran.read Done (file_of j.to ran.insns) ran.came (inr (healthy, inl ran.ended)) (rw canon (canonical ran.insns ran.within ran.file)) ran.took unfailed
+    replied ran.read Done (file_of j.to ran.insns) healthy unfailed ran.came (inr (inl ran.ended)) (rw canon (canonical ran.insns ran.within ran.file)) ran.took
 
 pub canon_fault : (j : Job) (source sink : Change) (n : ℕ) (f : SlotFault) → j.verb ≡ InsnCanon → StopsAtFault (devices_of source sink) j.order j.to n f
     → source.failed_after ≡ source.failed → sink.failed_after ≡ sink.failed → EndsJob j source sink (Fault f)
 canon_fault j source sink n f canon stop healthy unfailed =
-    replied stop.read (Fault f) (file_of j.to stop.wrote.insns) stop.wrote.came
+    replied stop.read (Fault f) (file_of j.to stop.wrote.insns) healthy unfailed stop.wrote.came
     (elim (truncated_or_not f.cause) [
-      | inl cut ↦ inr (healthy, inl (stop.ended cut).0)
+      | inl cut ↦ inr (inl (stop.ended cut).0)
       | inr lasting ↦ inl (rw canon (f, (stop.fault, lasting)))
     ])
     (rw canon (canonical_to_fault stop.wrote.insns stop.wrote.rest f stop.wrote.front stop.fault (λ cut. (stop.ended cut).1)))
-    stop.wrote.took unfailed
+    stop.wrote.took
 
 pub canon_too_long : (j : Job) (source sink : Change) (n : ℕ) → j.verb ≡ InsnCanon → StopsTooLong (devices_of source sink) j.order j.to n
     → source.failed_after ≡ source.failed → sink.failed_after ≡ sink.failed → EndsJob j source sink TooLong
 canon_too_long j source sink n canon stop healthy unfailed =
-    replied stop.read TooLong (file_of j.to stop.wrote.insns) stop.wrote.came (inr (healthy, inr (rw canon stop.beyond)))
+    replied stop.read TooLong (file_of j.to stop.wrote.insns) healthy unfailed stop.wrote.came (inr (inr (rw canon stop.beyond)))
     (rw canon (canonical_to_limit stop.wrote.insns stop.wrote.rest stop.wrote.front (sound_has_none _ _ stop.sound) stop.beyond))
-    stop.wrote.took unfailed
+    stop.wrote.took
 
 pub canon_unread : (j : Job) (source sink : Change) (n : ℕ) → j.verb ≡ InsnCanon → StopsUnread (devices_of source sink) j.order j.to n
-    → source.failed_after ≡ source.failed + 1 → EndsJob j source sink ReadFailed
-canon_unread j source sink n canon stop failed =
-    read_failed_amid stop.read (omega arith) stop.wrote.came (rw canon (sound_has_none _ _ stop.sound))
-    (took_prefix j source sink stop.read n canon (wrote_prefix _ _ _ _ _ stop.wrote))
+    → source.failed_after ≡ source.failed + 1 → sink.failed_after ≡ sink.failed → EndsJob j source sink ReadFailed
+canon_unread j source sink n canon stop failed unfailed =
+    read_failed_amid stop.read (rw canon refl) failed unfailed stop.wrote.came (rw canon stop.within) (rw canon (sound_has_none _ _ stop.sound))
+    (took_all j source sink stop.read n canon stop.wrote)
 
 pub canon_unwritten : (j : Job) (source sink : Change) (n : ℕ) → j.verb ≡ InsnCanon → StopsUnwritten (devices_of source sink) j.order j.to n
-    → sink.failed_after ≡ sink.failed + 1 → EndsJob j source sink WriteFailed
-canon_unwritten j source sink n canon stop failed =
-    write_failed_amid stop.read (omega arith) stop.wrote.came (took_prefix j source sink stop.read n canon stop.wrote)
+    → source.failed_after ≡ source.failed → sink.failed_after ≡ sink.failed + 1 → EndsJob j source sink WriteFailed
+canon_unwritten j source sink n canon stop healthy failed =
+    write_failed_amid stop.read (rw canon refl) healthy failed stop.wrote.came (took_prefix j source sink stop.read n canon stop.wrote)
 
 pub canon_no_memory : (j : Job) (source sink : Change) (n : ℕ) → j.verb ≡ InsnCanon → StopsUnwritten (devices_of source sink) j.order j.to n
-    → EndsJob j source sink Memory
-canon_no_memory j source sink n canon stop = no_memory_amid stop.read stop.wrote.came (took_prefix j source sink stop.read n canon stop.wrote)
+    → source.failed_after ≡ source.failed → sink.failed_after ≡ sink.failed → EndsJob j source sink Memory
+canon_no_memory j source sink n canon stop healthy unfailed =
+    no_memory_amid stop.read (rw canon refl) healthy unfailed stop.wrote.came (took_prefix j source sink stop.read n canon stop.wrote)

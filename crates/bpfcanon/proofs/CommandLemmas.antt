@@ -22,4 +22,4 @@ pub ends_too_long : (j : Job) (source sink : Change) → streams j.verb ≡ fals
     → (bytes : List ℕ) × (Consumes source.old source.new bytes × (limit_of j.verb < length bytes))
     → source.failed_after ≡ source.failed → sink.new ≡ sink.old → sink.failed_after ≡ sink.failed → EndsJob j source sink TooLong
 ends_too_long j source sink whole came healthy same unused =
-    replied came.0 TooLong [] came.1.0 (inr (healthy, inr came.1.1)) (too_long_reply j.verb j came.0 whole came.1.1) (rw same (Appends-nil sink.old)) unused
+    replied came.0 TooLong [] healthy unused came.1.0 (inr (inr came.1.1)) (too_long_reply j.verb j came.0 whole came.1.1) (rw same (Appends-nil sink.old))

@@ -1,5 +1,5 @@
 -- The ways in which a command ends.
-use Rattle.std.specs.Prelude.{◌≡◌, ◌⊎◌, ◌<◌, ℕ, List, [], Option, false, length, take}
+use Rattle.std.specs.Prelude.{◌≡◌, ◌⊎◌, ◌<◌, ◌≤◌, ◌+◌, ℕ, List, Option, true, false, length, take}
 use Rattle.std.specs.Io.KnownBytes.{Appends, Consumes, IsAtEnd}
 use Rattle.clap.specs.Words.{Text}
 use Rattle.bpfcanon.specs.declared.command_line.Job.{Job}
@@ -22,38 +22,52 @@ change old new failed failed_after = record { old = old; new = new; failed = fai
 abbrev pub IsUnused : Change → Type 0
 IsUnused c = (c.new ≡ c.old) × (c.failed_after ≡ c.failed)
 
--- what came from the source is answered early, or it was read to its end or past the limit without a failure
-abbrev pub IsRead : Job → Change → List ℕ → Type 0
-IsRead j source input = IsEarly j.verb j input
-    ⊎ ((source.failed_after ≡ source.failed) × (IsAtEnd source.new ⊎ (limit_of j.verb < length input)))
+-- no call of the device failed
+abbrev pub IsHealthy : Change → Type 0
+IsHealthy c = c.failed_after ≡ c.failed
 
--- the sink took the first bytes of the output for what came within the limit
+-- one call of the device failed
+abbrev pub HasFailed : Change → Type 0
+HasFailed c = c.failed_after ≡ c.failed + 1
+
+-- what came from the source is answered early, or it was read to its end or past the limit
+abbrev pub IsRead : Job → Change → List ℕ → Type 0
+IsRead j source input = IsEarly j.verb j input ⊎ (IsAtEnd source.new ⊎ (limit_of j.verb < length input))
+
+-- the sink took the output for what came within the limit
+abbrev pub TookAll : Job → Change → List ℕ → Type 0
+TookAll j sink input = (outcome : Outcome) (output : List ℕ) → IsReply j.verb j (take (limit_of j.verb) input) outcome output
+    → Appends sink.old sink.new output
+
+-- the sink took the first bytes of that output
 abbrev pub TookPrefix : Job → Change → List ℕ → Type 0
 TookPrefix j sink input = (outcome : Outcome) (output : List ℕ) → IsReply j.verb j (take (limit_of j.verb) input) outcome output
     → (n : ℕ) × Appends sink.old sink.new (take n output)
 
-abbrev pub TookNothing : Change → Type 0
-TookNothing sink = Appends sink.old sink.new []
-
 -- how a job ends, by what its source and its sink did; what ends it amid the input is for a command that writes as it reads
 pub data EndsJob (j : Job) (source sink : Change) : Outcome → Type 0 where
   -- the sink took the output for what came from the source
-  replied : (input : List ℕ) (outcome : Outcome) (output : List ℕ) → Consumes source.old source.new input → IsRead j source input
-      → IsReply j.verb j input outcome output → Appends sink.old sink.new output → sink.failed_after ≡ sink.failed
-      → EndsJob j source sink outcome
-  -- a read failed before anything was written
-  read_failed : source.failed < source.failed_after → streams j.verb ≡ false → TookNothing sink → EndsJob j source sink ReadFailed
-  read_failed_amid : (input : List ℕ) → source.failed < source.failed_after → Consumes source.old source.new input
-      → ¬ IsEarly j.verb j input → TookPrefix j sink input → EndsJob j source sink ReadFailed
+  replied : (input : List ℕ) (outcome : Outcome) (output : List ℕ) → IsHealthy source → IsHealthy sink
+      → Consumes source.old source.new input → IsRead j source input → IsReply j.verb j input outcome output
+      → Appends sink.old sink.new output → EndsJob j source sink outcome
+  -- a read failed within the limit before anything was written
+  read_failed : (input : List ℕ) → streams j.verb ≡ false → HasFailed source → IsUnused sink
+      → Consumes source.old source.new input → length input ≤ limit_of j.verb → EndsJob j source sink ReadFailed
+  -- a read failed within the limit, and what came before it isn't answered early
+  read_failed_amid : (input : List ℕ) → streams j.verb ≡ true → HasFailed source → IsHealthy sink
+      → Consumes source.old source.new input → length input ≤ limit_of j.verb → ¬ IsEarly j.verb j input
+      → TookAll j sink input → EndsJob j source sink ReadFailed
   -- a write failed once the first n bytes of the output were taken
-  write_failed : (input : List ℕ) (outcome : Outcome) (output : List ℕ) (n : ℕ) → sink.failed < sink.failed_after
-      → Consumes source.old source.new input → IsReply j.verb j input outcome output → Appends sink.old sink.new (take n output)
-      → EndsJob j source sink WriteFailed
-  write_failed_amid : (input : List ℕ) → sink.failed < sink.failed_after → Consumes source.old source.new input → TookPrefix j sink input
-      → EndsJob j source sink WriteFailed
+  write_failed : (input : List ℕ) (outcome : Outcome) (output : List ℕ) (n : ℕ) → streams j.verb ≡ false → IsHealthy source → HasFailed sink
+      → Consumes source.old source.new input → IsRead j source input → IsReply j.verb j input outcome output
+      → n < length output → Appends sink.old sink.new (take n output) → EndsJob j source sink WriteFailed
+  write_failed_amid : (input : List ℕ) → streams j.verb ≡ true → IsHealthy source → HasFailed sink
+      → Consumes source.old source.new input → TookPrefix j sink input → EndsJob j source sink WriteFailed
   -- memory was refused before anything was written
-  no_memory : TookNothing sink → EndsJob j source sink Memory
-  no_memory_amid : (input : List ℕ) → Consumes source.old source.new input → TookPrefix j sink input → EndsJob j source sink Memory
+  no_memory : (input : List ℕ) → streams j.verb ≡ false → IsHealthy source → IsUnused sink
+      → Consumes source.old source.new input → EndsJob j source sink Memory
+  no_memory_amid : (input : List ℕ) → streams j.verb ≡ true → IsHealthy source → IsHealthy sink
+      → Consumes source.old source.new input → TookPrefix j sink input → EndsJob j source sink Memory
 
 -- how a command on these words ends
 pub data Ends (words : List Text) (source sink : Change) : Outcome → Type 0 where

@@ -10,6 +10,7 @@ use Rattle.bpf_insn.specs.declared.group.Group.TheVariants.{Base32, Base64, Atom
 use Rattle.bpf_insn.specs.Spelling.{InsnFile, file_of}
 use Rattle.bpf_insn.specs.Faults.{IsFront, IsInsnFault}
 use Rattle.bpf_insn.specs.Groups.{InGroups}
+use Rattle.bpf_canon.specs.Run as engine
 use Rattle.bpf_text.specs.declared.fault.LineFault.{LineFault}
 use Rattle.bpf_text.specs.Lines.{listing_of}
 use Rattle.bpf_text.specs.Listing.{Lists, IsListFault}
@@ -20,9 +21,9 @@ use Rattle.bpfcanon.specs.declared.verb.Verb.{Verb}
 use Rattle.bpfcanon.specs.declared.verb.Verb.TheVariants.{InsnCanon, InsnShow, InsnRead, InsnGroups, InsnSame}
 use Rattle.bpfcanon.specs.Outcome.{newline}
 
--- how many bytes a command takes
+-- how many bytes a command takes; insn-canon as many as its engine
 abbrev pub limit_of : Verb → ℕ
-limit_of InsnCanon = 67108864
+limit_of InsnCanon = engine.limit
 limit_of InsnShow = 67108864
 limit_of InsnRead = 67108864
 limit_of InsnGroups = 67108864

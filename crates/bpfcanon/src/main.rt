@@ -1,7 +1,8 @@
 //! Reads, lists and normalises eBPF instructions and BTF, over the standard streams.
 #![tactic(auto)]
 
-ghost use Rattle.std.specs.Prelude.{◌<◌, ◌++◌, codes};
+ghost use Rattle.std.specs.Prelude.{◌≡◌, ◌<◌, ◌++◌, codes};
+ghost use Rattle.std.specs.Process.{exit_status};
 ghost use Rattle.bpfcanon.specs.Outcome.{Tells, newline};
 
 mod command;
@@ -19,10 +20,11 @@ use outcome::put_text;
 use std::env;
 use std::process::ExitCode;
 
-/// Tells on standard error that the program's words couldn't be had.
+/// Tells on standard error that the program's words couldn't be had, which ends the program with status 3.
 fn no_words<E: ByteSink>(faults: &mut E) -> ExitCode
     requires { E.failures faults.old < u64.MAX }
-    ensures { Tells (E.contents faults.old) (E.contents faults.new) (E.failures faults.old) (E.failures faults.new) (codes "no words" ++ newline) }
+    ensures line { Tells (E.contents faults.old) (E.contents faults.new) (E.failures faults.old) (E.failures faults.new) (codes "no words" ++ newline) }
+    ensures status { exit_status result ≡ 3 }
 {
     put_text(faults, b"no words\n");
     ExitCode::from(3)

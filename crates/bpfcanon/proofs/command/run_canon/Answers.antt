@@ -23,15 +23,19 @@ pub returns-in-ReadFailed : goal.returns-in-ReadFailed
 returns-in-ReadFailed g c =
     let stop = rw c.in-ReadFailed.is at c.in-Err.ensures.err in
     let reads = rw c.in-ReadFailed.is at c.in-Err.ensures.reads in
-    canon_unread c.args.job _ _ _ c.requires.canon stop reads
+    let writes = rw c.in-ReadFailed.is at c.in-Err.ensures.writes in
+    canon_unread c.args.job _ _ _ c.requires.canon stop reads (writes ∙ add-zero _)
 
 pub returns-in-WriteFailed : goal.returns-in-WriteFailed
 returns-in-WriteFailed g c =
     let stop = rw c.in-WriteFailed.is at c.in-Err.ensures.err in
+    let reads = rw c.in-WriteFailed.is at c.in-Err.ensures.reads in
     let writes = rw c.in-WriteFailed.is at c.in-Err.ensures.writes in
-    canon_unwritten c.args.job _ _ _ c.requires.canon stop writes
+    canon_unwritten c.args.job _ _ _ c.requires.canon stop (reads ∙ add-zero _) writes
 
 pub returns-in-Memory : goal.returns-in-Memory
 returns-in-Memory g c =
     let stop = rw c.in-Memory.is at c.in-Err.ensures.err in
-    canon_no_memory c.args.job _ _ _ c.requires.canon stop
+    let reads = rw c.in-Memory.is at c.in-Err.ensures.reads in
+    let writes = rw c.in-Memory.is at c.in-Err.ensures.writes in
+    canon_no_memory c.args.job _ _ _ c.requires.canon stop (reads ∙ add-zero _) (writes ∙ add-zero _)
