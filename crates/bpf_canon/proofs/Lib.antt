@@ -4,3 +4,6 @@ pub mod FeedLemmas
 pub mod Recoding
 pub mod RunLemmas
 pub mod CanonLemmas
+pub mod CanonicalSpells
+pub mod CanonicalFiles
+pub mod WorkedBtf

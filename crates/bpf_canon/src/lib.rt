@@ -1,6 +1,7 @@
 //! Canonical bytes of eBPF instructions, and the devices and engines that move them.
 #![tactic(auto)]
 
+pub mod btf_laws;
 mod canon;
 mod device;
 mod feed;
