@@ -7,3 +7,9 @@ pub mod CanonLemmas
 pub mod CanonicalSpells
 pub mod CanonicalFiles
 pub mod WorkedBtf
+pub mod KeptSteps
+pub mod PlaceSteps
+pub mod HostSearch
+pub mod HostSteps
+pub mod SharedSteps
+pub mod Gathering
