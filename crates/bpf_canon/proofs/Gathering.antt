@@ -22,12 +22,12 @@ get_inside [] k d h = absurd (omega (arith, h))
 get_inside (y ∷ ys) zero d h = refl
 get_inside (y ∷ ys) (suc k) d h = get_inside ys k d (omega (arith, h))
 
-get_is : {X : Type 0} (xs : List X) (k : ℕ) (d : X) → k < length xs → get_or xs k d ≡ unwrap_or (slice_get xs k) d
+pub get_is : {X : Type 0} (xs : List X) (k : ℕ) (d : X) → k < length xs → get_or xs k d ≡ unwrap_or (slice_get xs k) d
 get_is [] k d h = absurd (omega (arith, h))
 get_is (y ∷ ys) zero d h = refl
 get_is (y ∷ ys) (suc k) d h = get_is ys k d (omega (arith, h))
 
-get_or_is : {X : Type 0} (xs : List X) (k : ℕ) (d x : X) → slice_get xs k ≡ Some x → (k < length xs) × (get_or xs k d ≡ x)
+pub get_or_is : {X : Type 0} (xs : List X) (k : ℕ) (d x : X) → slice_get xs k ≡ Some x → (k < length xs) × (get_or xs k d ≡ x)
 get_or_is [] k d x e = absurd cc
 get_or_is (y ∷ ys) zero d x e = (omega arith, (let same : y ≡ x = cc in same))
 get_or_is (y ∷ ys) (suc k) d x e = let rest = get_or_is ys k d x e in (omega (arith, rest.0), rest.1)

@@ -13,3 +13,5 @@ pub mod HostSearch
 pub mod HostSteps
 pub mod SharedSteps
 pub mod Gathering
+pub mod WriteSteps
+pub mod BtfFiles

@@ -1,7 +1,10 @@
 //! Canonical bytes of eBPF instructions, and the devices and engines that move them.
 #![tactic(auto)]
 
+mod btf_canon;
 pub mod btf_laws;
+mod btf_same;
+mod btf_write;
 mod canon;
 mod device;
 mod feed;
@@ -22,6 +25,9 @@ mod standard;
 mod write;
 
 pub use bpf_insn::{InsnError, Order};
+pub use btf_canon::canon_btf;
+pub use btf_same::same_btf;
+pub use btf_write::write_btf;
 pub use canon::canon_insns;
 pub use device::DeviceFailed;
 pub use feed::InsnFeed;
