@@ -4,3 +4,14 @@ pub mod FeedLemmas
 pub mod Recoding
 pub mod RunLemmas
 pub mod CanonLemmas
+pub mod CanonicalSpells
+pub mod CanonicalFiles
+pub mod WorkedBtf
+pub mod KeptSteps
+pub mod PlaceSteps
+pub mod HostSearch
+pub mod HostSteps
+pub mod SharedSteps
+pub mod Gathering
+pub mod WriteSteps
+pub mod BtfFiles

@@ -1,21 +1,33 @@
 //! Canonical bytes of eBPF instructions, and the devices and engines that move them.
 #![tactic(auto)]
 
+mod btf_canon;
+pub mod btf_laws;
+mod btf_same;
+mod btf_write;
 mod canon;
 mod device;
 mod feed;
 mod front;
+mod head_words;
+mod hosts;
+mod kept_names;
 pub mod laws;
 mod memory;
+mod placed_names;
 mod recode;
 mod run;
 mod same;
+mod shared_names;
 mod sink;
 mod source;
 mod standard;
 mod write;
 
 pub use bpf_insn::{InsnError, Order};
+pub use btf_canon::canon_btf;
+pub use btf_same::same_btf;
+pub use btf_write::write_btf;
 pub use canon::canon_insns;
 pub use device::DeviceFailed;
 pub use feed::InsnFeed;

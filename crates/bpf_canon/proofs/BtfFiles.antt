@@ -1,0 +1,60 @@
+-- Canonical bytes and BTF files.
+use Rattle.std.proofs.Common.{◌≡◌, ◌↔◌, ◌∙◌, ℕ, Bool, List, Result, Ok, Err, refl, sym, ap, subst, IsTrue}
+use Rattle.std.specs.Result.{IfOk}
+use Rattle.bpf_words.specs.declared.Order.{Order}
+use Rattle.bpf_words.specs.declared.Order.TheVariants.{Little}
+use Rattle.bpf_words.specs.Words.{IsBytes}
+use Rattle.btf_types.specs.declared.error.BtfError.{BtfError}
+use Rattle.btf_types.specs.declared.error.BtfError.TheVariants as error
+use Rattle.btf_types.specs.Values.{TypeRecord}
+use Rattle.btf_types.specs.Good.{IsGood}
+use Rattle.btf_types.specs.Denotes.{Denotes}
+use Rattle.btf_types.specs.Tables.{Fails}
+use Rattle.btf_types.proofs.Denoting.{denotes_unique}
+use Rattle.btf_types.proofs.FaultLaws.{no_fault_is_accepted}
+use Rattle.bpf_canon.specs.CanonicalBtf.{canonical}
+use Rattle.bpf_canon.specs.BtfLaws.{IsCanonicalBtf, ComparesBtf}
+use Rattle.bpf_canon.proofs.CanonicalFiles.{canonical_denotes, canonical_apart}
+
+-- what holds of a value that comes, by what holds of it
+pub ok_with : {T E : Type 0} (P Q : T → Type 0) → ((x : T) → P x → Q x) → (r : Result T E) → IfOk r P → IfOk r Q
+ok_with P Q f (Ok x) h = f x h
+ok_with P Q f (Err e) h = tt
+
+pub canonical_is_file : (o : Order) (v : List TypeRecord) (bytes : List ℕ) → IsGood v → bytes ≡ canonical o v → Denotes bytes v
+canonical_is_file o v bytes good e = subst (λ (b : List ℕ). Denotes b v) (sym e) (canonical_denotes o v good)
+
+-- the canonical bytes of the records of a file
+pub canonical_of : (b canon : List ℕ) (v : List TypeRecord) → Denotes b v → canon ≡ canonical Little v → IsCanonicalBtf b canon
+canonical_of b canon v d e =
+    let accepted : Denotes canon v = subst (λ (c : List ℕ). Denotes c v) (sym e) (canonical_denotes Little v d.good) in
+    record {
+      records = v;
+      file = d;
+      form = e;
+      accepted = accepted;
+      own = λ w other. ap (canonical Little) (denotes_unique canon w v other accepted) ∙ sym e;
+    }
+
+-- are those of its one list of records
+pub form_once : (b canon : List ℕ) (v : List TypeRecord) → IsCanonicalBtf b canon → Denotes b v → canon ≡ canonical Little v
+form_once b canon v c d = c.form ∙ ap (canonical Little) (denotes_unique b c.records v c.file d)
+
+-- a file that denotes records has no fault to be named
+pub fails_no_file : (b : List ℕ) (e : BtfError) (v : List TypeRecord) → IsBytes b → Fails b e → Denotes b v → e ≡ error.Memory
+fails_no_file b (error.Fault f) v fits first d = absurd ((no_fault_is_accepted b fits).back (v, d) first.phase f.pos f.cause first.holds)
+fails_no_file b error.Memory v fits first d = refl
+
+-- two files whose canonical bytes are compared
+pub compares : (a b c d : List ℕ) (same : Bool) → IsCanonicalBtf a c → IsCanonicalBtf b d → (IsTrue same ↔ (c ≡ d)) → ComparesBtf a b same
+compares a b c d same x y r = record {
+  first = x.records;
+  second = y.records;
+  first_file = x.file;
+  second_file = y.file;
+  records = (
+    λ t. canonical_apart Little x.records y.records x.file.good y.file.good (sym x.form ∙ r.0 t ∙ y.form),
+    λ e. r.1 (x.form ∙ ap (canonical Little) e ∙ sym y.form),
+  );
+  forms = (λ t. sym x.form ∙ r.0 t ∙ y.form, λ e. r.1 (x.form ∙ e ∙ sym y.form));
+}

@@ -1,0 +1,49 @@
+-- The canonical bytes of a list of BTF records: a header, the records, and the string table in which names share their tails
+-- (btf.rst section 2).
+use Rattle.std.specs.Prelude.{ℕ, ◌+◌, ◌*◌, ◌/◌, ◌%◌, ◌^◌, Bool, List, [], ◌∷◌, ◌++◌, length, map}
+use Rattle.std.specs.List.{flat_map}
+use Rattle.bpf_words.specs.declared.Order.{Order}
+use Rattle.btf_raw.specs.Header.{header}
+use Rattle.btf_raw.specs.Frames.{section_of}
+use Rattle.btf_types.specs.Values.{TypeHead, KStruct, KUnion, KEnum, KFwd, KDeclTag, KTypeTag, KEnum64, TypeItem, Member, EnumValue, Value64, Param, Entry, TypeRecord}
+use Rattle.btf_types.specs.Names.{head_name}
+use Rattle.btf_types.specs.StringTable.{string_table, place_of}
+use Rattle.btf_types.specs.Spelling.{kind_number, head_third, bit, record_vlen, head_tail, info}
+use Rattle.btf_types.specs.Good.{has_bit_fields}
+
+-- kind_flag: of a STRUCT or UNION 0 exactly where all widths are 0; of a kind whose value it is part of as the value has it; else 0
+abbrev pub canonical_flag : TypeHead → Bool → ℕ
+canonical_flag (KStruct name size) bit_fields = bit bit_fields
+canonical_flag (KUnion name size) bit_fields = bit bit_fields
+canonical_flag (KEnum name signed size) bit_fields = bit signed
+canonical_flag (KFwd name is_union) bit_fields = bit is_union
+canonical_flag (KDeclTag name flag target component) bit_fields = bit flag
+canonical_flag (KTypeTag name flag target) bit_fields = bit flag
+canonical_flag (KEnum64 name signed size) bit_fields = bit signed
+canonical_flag _ bit_fields = 0
+
+-- the words of an item, whose name stands at its place; a width stands in the high 8 bits, and a 64-bit value has its low word first
+abbrev pub item_words : (List ℕ → ℕ) → TypeItem → List ℕ
+item_words place (Member name target bit_offset width) = place name ∷ target ∷ (bit_offset + 2 ^ 24 * width) ∷ []
+item_words place (EnumValue name value) = place name ∷ value ∷ []
+item_words place (Value64 name value) = place name ∷ value % 2 ^ 32 ∷ value / 2 ^ 32 ∷ []
+item_words place (Param name target) = place name ∷ target ∷ []
+item_words place (Entry target offset size) = target ∷ offset ∷ size ∷ []
+
+-- the words of a record: its name at its place, info, the third word, and what follows
+abbrev pub record_words : (List ℕ → ℕ) → TypeRecord → List ℕ
+record_words place r =
+    place (head_name r.head) ∷ info (kind_number r.head) (record_vlen r) (canonical_flag r.head (has_bit_fields r)) ∷ head_third r.head
+    ∷ (head_tail r.head ++ flat_map (item_words place) r.items)
+
+-- the words of each record, with names at their places in the string table
+abbrev pub canonical_frames : List TypeRecord → List (List ℕ)
+canonical_frames v = map (record_words (place_of v)) v
+
+abbrev pub canonical_types : Order → List TypeRecord → List ℕ
+canonical_types o v = section_of o (canonical_frames v)
+
+-- a header of 24 bytes with type_off 0 and str_off = type_len, the records, and the string table
+abbrev pub canonical : Order → List TypeRecord → List ℕ
+canonical o v =
+    header o 24 0 (length (canonical_types o v)) (length (canonical_types o v)) (length (string_table v)) ++ canonical_types o v ++ string_table v

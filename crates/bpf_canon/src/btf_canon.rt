@@ -1,0 +1,32 @@
+//! The canonical bytes of BTF files.
+ghost use Rattle.std.specs.Prelude.{◌≡◌, List, IfOk, IfErr, MatchResult};
+ghost use Rattle.bpf_words.specs.declared.Order.TheVariants.{Little};
+ghost use Rattle.btf_types.specs.Values.{TypeRecord};
+ghost use Rattle.btf_types.specs.Denotes.{Denotes};
+ghost use Rattle.btf_types.specs.Tables.{Fails};
+ghost use Rattle.bpf_canon.specs.CanonicalBtf.{canonical};
+ghost use Rattle.bpf_canon.specs.BtfLaws.{IsCanonicalBtf};
+
+use crate::btf_write::write_btf;
+use bpf_words::Order;
+use btf_types::{BtfError, BtfView};
+use std::alloc::Global;
+
+/// The canonical bytes of a BTF file (btf.rst section 2), in little-endian order.
+///
+/// They are a file of the same types, and their own canonical bytes.
+///
+/// # Errors
+///
+/// `Fault` with the first fault of the file; its place counts from the file's first byte. `Memory` where memory was refused.
+pub fn canon_btf(alloc: Global, bytes: &[u8]) -> Result<Vec<u8>, BtfError>
+    ensures found { IfOk result (λ canon. IsCanonicalBtf bytes.now canon.items) }
+    ensures all { (v : List TypeRecord) → Denotes bytes.now v
+        → MatchResult result (λ canon. canon.items ≡ canonical Little v) (λ e. e ≡ BtfError.Memory) }
+    ensures fault { IfErr result (Fails bytes.now) }
+{
+    match BtfView::parse(alloc, bytes) {
+        Ok(table) => Ok(write_btf(alloc, Order::Little, &table)?),
+        Err(error) => Err(error),
+    }
+}
