@@ -10,7 +10,7 @@ ghost use Rattle.bpf_canon.specs.BtfLaws.{IsCanonicalBtf};
 use crate::btf_write::write_btf;
 use bpf_words::Order;
 use btf_types::{BtfError, BtfView};
-use std::alloc::Global;
+use std::alloc::Allocator;
 
 /// The canonical bytes of a BTF file (btf.rst section 2), in little-endian order.
 ///
@@ -19,7 +19,7 @@ use std::alloc::Global;
 /// # Errors
 ///
 /// `Fault` with the first fault of the file; its place counts from the file's first byte. `Memory` where memory was refused.
-pub fn canon_btf(alloc: Global, bytes: &[u8]) -> Result<Vec<u8>, BtfError>
+pub fn canon_btf<A: Allocator + Copy>(alloc: A, bytes: &[u8]) -> Result<Vec<u8, A>, BtfError>
     ensures found { IfOk result (λ canon. IsCanonicalBtf bytes.now canon.items) }
     ensures all { (v : List TypeRecord) → Denotes bytes.now v
         → MatchResult result (λ canon. canon.items ≡ canonical Little v) (λ e. e ≡ BtfError.Memory) }

@@ -6,7 +6,7 @@ use crate::btf_canon::canon_btf;
 use crate::same::SideError;
 use btf_raw::BtfFault;
 use btf_types::BtfError;
-use std::alloc::Global;
+use std::alloc::Allocator;
 
 /// Whether two BTF files denote the same records. That is so exactly where their canonical bytes are the same.
 ///
@@ -14,16 +14,16 @@ use std::alloc::Global;
 ///
 /// `First` and `Second` with the first fault of that file; its place counts from the file's first byte. `Second` is told only
 /// where the first file has no fault. `Memory` where memory was refused.
-pub fn same_btf(alloc: Global, a: &[u8], b: &[u8]) -> Result<bool, SideError<BtfFault>>
+pub fn same_btf<A: Allocator>(alloc: A, a: &[u8], b: &[u8]) -> Result<bool, SideError<BtfFault>>
     ensures same { IfOk result (ComparesBtf a.now b.now) }
     ensures fault { IfErr result (NamesBtfSide a.now b.now) }
 {
-    let first = match canon_btf(alloc, a) {
+    let first = match canon_btf(&alloc, a) {
         Ok(canon) => canon,
         Err(BtfError::Fault(fault)) => return Err(SideError::First(fault)),
         Err(BtfError::Memory) => return Err(SideError::Memory),
     };
-    let second = match canon_btf(alloc, b) {
+    let second = match canon_btf(&alloc, b) {
         Ok(canon) => canon,
         Err(BtfError::Fault(fault)) => return Err(SideError::Second(fault)),
         Err(BtfError::Memory) => return Err(SideError::Memory),

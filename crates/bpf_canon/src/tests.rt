@@ -1,10 +1,12 @@
 //! Worked examples, devices that fail, and memory that is refused.
 
+mod btf;
 mod devices;
 mod feed;
 mod files;
 mod limit;
 mod refused;
+mod refused_btf;
 mod room;
 mod run;
 mod samples;

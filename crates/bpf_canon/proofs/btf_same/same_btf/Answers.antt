@@ -9,7 +9,7 @@ told P true h = (λ t. h, λ p. refl)
 told P false h = (λ t. cc, λ p. absurd (h p))
 
 pub returns-clause-same : goal.returns-clause-same
-returns-clause-same c =
+returns-clause-same g c =
     let test = rw (c.as_slice.ensures.value, c.as_slice-2.ensures.value) at c.eq.ensures in
     let same = told (c.in-Ok.canon.items ≡ c.in-Ok-canon_btf.canon.items) c.eq.result (told_text _ _ c.eq.result test) in
     compares c.args.a.now c.args.b.now _ _ c.eq.result c.in-Ok.ensures.found c.in-Ok-canon_btf.ensures.found same
