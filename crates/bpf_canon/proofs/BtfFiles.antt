@@ -48,16 +48,13 @@ pub answers_file : {T : Type 0} (items : T → List ℕ) (b : List ℕ) (v : Lis
 answers_file items b v fits d (Ok canon) made fails = made.1.1 ∙ ap (canonical Little) (denotes_unique b made.0 v made.1.0 d)
 answers_file items b v fits d (Err e) made fails = fails_no_file b e v fits fails d
 
--- two files whose canonical bytes are compared
-pub compares : (a b c d : List ℕ) (same : Bool) → IsCanonicalBtf a c → IsCanonicalBtf b d → (IsTrue same ↔ (c ≡ d)) → ComparesBtf a b same
-compares a b c d same x y r = record {
-  first = x.records;
-  second = y.records;
-  first_file = x.file;
-  second_file = y.file;
-  records = (
-    λ t. canonical_apart Little x.records y.records x.file.good y.file.good (sym x.form ∙ r.0 t ∙ y.form),
-    λ e. r.1 (x.form ∙ ap (canonical Little) e ∙ sym y.form),
-  );
-  forms = (λ t. sym x.form ∙ r.0 t ∙ y.form, λ e. r.1 (x.form ∙ e ∙ sym y.form));
+-- two files whose records are compared
+pub compares : (a b : List ℕ) (v w : List TypeRecord) (same : Bool) → Denotes a v → Denotes b w → (IsTrue same ↔ (v ≡ w)) → ComparesBtf a b same
+compares a b v w same p q r = record {
+  first = v;
+  second = w;
+  first_file = p;
+  second_file = q;
+  records = r;
+  forms = (λ t. ap (canonical Little) (r.0 t), λ e. r.1 (canonical_apart Little v w p.good q.good e));
 }

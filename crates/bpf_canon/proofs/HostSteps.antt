@@ -95,11 +95,11 @@ MapsTo-push es f ks k v m e x c = elim (cases_Bool (bytes_eq x k.now)) [
   ]
 ]
 
-filter_all : (p : List ℕ → Bool) (xs : List (List ℕ)) → ((y : List ℕ) → Has xs y → p y ≡ true) → filter p xs ≡ xs
+pub filter_all : (p : List ℕ → Bool) (xs : List (List ℕ)) → ((y : List ℕ) → Has xs y → p y ≡ true) → filter p xs ≡ xs
 filter_all p [] h = refl
 filter_all p (x ∷ xs) h = cond-true (p x) (x ∷ filter p xs) (filter p xs) (h x (inl refl)) ∙ ap (λ (l : List (List ℕ)). x ∷ l) (filter_all p xs (λ y i. h y (inr i)))
 
-distinct_same : (xs : List (List ℕ)) → NoRepeats xs → distinct xs ≡ xs
+pub distinct_same : (xs : List (List ℕ)) → NoRepeats xs → distinct xs ≡ xs
 distinct_same [] n = refl
 distinct_same (x ∷ xs) (n, ns) = ap (λ (l : List (List ℕ)). x ∷ l) (
     ap (filter (is_other x)) (distinct_same xs ns)

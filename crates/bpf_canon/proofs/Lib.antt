@@ -11,7 +11,9 @@ pub mod KeptSteps
 pub mod PlaceSteps
 pub mod HostSearch
 pub mod HostSteps
+pub mod HostLaws
 pub mod SharedSteps
 pub mod Gathering
+pub mod SameTables
 pub mod WriteSteps
 pub mod BtfFiles

@@ -1,12 +1,16 @@
 -- What calls on canonical BTF answer, and the laws of canonical BTF.
 use Rattle.std.specs.Prelude.{◌≡◌, ◌↔◌, ◌≤◌, ℕ, Bool, List, IsTrue, length, ⊤}
+use Rattle.std.specs.List.{All}
 use Rattle.bpf_words.specs.declared.Order.{Order}
 use Rattle.bpf_words.specs.declared.Order.TheVariants.{Little}
 use Rattle.btf_raw.specs.declared.cause.BtfFault.{BtfFault}
+use Rattle.btf_raw.specs.Header.{HasNulEnds}
 use Rattle.btf_types.specs.Values.{TypeRecord}
+use Rattle.btf_types.specs.SharedNames.{hosts, shared_table}
 use Rattle.btf_types.specs.Good.{IsGood}
 use Rattle.btf_types.specs.Denotes.{Denotes}
 use Rattle.btf_types.specs.Faults.{IsFirst}
+use Rattle.btf_types.specs.TableLaws.{StandsIn}
 use Rattle.bpf_canon.specs.CanonicalBtf.{canonical}
 use Rattle.bpf_canon.specs.declared.same.SideError.{SideError}
 use Rattle.bpf_canon.specs.declared.same.SideError.TheVariants as side
@@ -46,3 +50,7 @@ CanonicalBtfTellsApart = (o : Order) (v w : List TypeRecord) → IsGood v → Is
 -- no file that denotes the records is shorter
 abbrev pub CanonicalBtfIsShortest : Type 0
 CanonicalBtfIsShortest = (o : Order) (b : List ℕ) (v : List TypeRecord) → Denotes b v → length (canonical o v) ≤ length b
+
+-- a section in which all hosts stand is at least as long as their table
+abbrev pub HostsFitSections : Type 0
+HostsFitSections = (xs : List (List ℕ)) (section : List ℕ) → HasNulEnds section → All (StandsIn section) (hosts xs) → length (shared_table xs) ≤ length section

@@ -113,7 +113,7 @@ pub(crate) fn info_word(head: Head<'_>, count: u32, bit_fields: bool) -> u32
 }
 
 // The number of an encoding.
-fn encoding_number(encoding: Encoding) -> u32
+pub(crate) fn encoding_number(encoding: Encoding) -> u32
     ensures is { result ≡ spec.encoding_number encoding }
     ensures few { result < 5 }
 {
