@@ -5,6 +5,10 @@ ghost use Rattle.std.specs.Prelude.{◌≡◌, ◌<◌, ◌++◌, codes};
 ghost use Rattle.std.specs.Process.{exit_status};
 ghost use Rattle.bpfcanon.specs.Outcome.{Tells, newline};
 
+mod btf_cause;
+mod btf_check;
+mod btf_listing;
+mod btf_same;
 mod command;
 mod command_line;
 mod groups;
