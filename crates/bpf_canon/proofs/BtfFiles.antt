@@ -1,6 +1,6 @@
 -- Canonical bytes and BTF files.
 use Rattle.std.proofs.Common.{◌≡◌, ◌↔◌, ◌∙◌, ℕ, Bool, List, Result, Ok, Err, refl, sym, ap, subst, IsTrue}
-use Rattle.std.specs.Result.{IfOk}
+use Rattle.std.specs.Result.{IfOk, IfErr, MatchResult}
 use Rattle.bpf_words.specs.declared.Order.{Order}
 use Rattle.bpf_words.specs.declared.Order.TheVariants.{Little}
 use Rattle.bpf_words.specs.Words.{IsBytes}
@@ -36,14 +36,17 @@ canonical_of b canon v d e =
       own = λ w other. ap (canonical Little) (denotes_unique canon w v other accepted) ∙ sym e;
     }
 
--- are those of its one list of records
-pub form_once : (b canon : List ℕ) (v : List TypeRecord) → IsCanonicalBtf b canon → Denotes b v → canon ≡ canonical Little v
-form_once b canon v c d = c.form ∙ ap (canonical Little) (denotes_unique b c.records v c.file d)
-
 -- a file that denotes records has no fault to be named
 pub fails_no_file : (b : List ℕ) (e : BtfError) (v : List TypeRecord) → IsBytes b → Fails b e → Denotes b v → e ≡ error.Memory
 fails_no_file b (error.Fault f) v fits first d = absurd ((no_fault_is_accepted b fits).back (v, d) first.phase f.pos f.cause first.holds)
 fails_no_file b error.Memory v fits first d = refl
+
+-- an answer with the canonical bytes of a file that denotes records has those of these records, or wanted memory
+pub answers_file : {T : Type 0} (items : T → List ℕ) (b : List ℕ) (v : List TypeRecord) → IsBytes b → Denotes b v → (r : Result T BtfError)
+    → IfOk r (λ canon. (w : List TypeRecord) × (Denotes b w × (items canon ≡ canonical Little w))) → IfErr r (Fails b)
+    → MatchResult r (λ canon. items canon ≡ canonical Little v) (λ e. e ≡ error.Memory)
+answers_file items b v fits d (Ok canon) made fails = made.1.1 ∙ ap (canonical Little) (denotes_unique b made.0 v made.1.0 d)
+answers_file items b v fits d (Err e) made fails = fails_no_file b e v fits fails d
 
 -- two files whose canonical bytes are compared
 pub compares : (a b c d : List ℕ) (same : Bool) → IsCanonicalBtf a c → IsCanonicalBtf b d → (IsTrue same ↔ (c ≡ d)) → ComparesBtf a b same

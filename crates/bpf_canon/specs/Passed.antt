@@ -1,5 +1,5 @@
 -- What one piece of the input does. Private contracts alone cite it.
-use Rattle.std.specs.Prelude.{◌≡◌, ◌≤◌, ℕ, List, [], Option, Some, None, length, take}
+use Rattle.std.specs.Prelude.{◌≡◌, ◌<◌, ◌≤◌, ℕ, List, [], Option, Some, None, length, take}
 use Rattle.std.specs.Io.KnownBytes.{Appends}
 use Rattle.bpf_insn.specs.declared.fault.SlotFault.{SlotFault}
 use Rattle.bpf_canon.specs.FeedState.{FeedState}
@@ -9,10 +9,10 @@ use Rattle.bpf_canon.specs.declared.run.RunCause.TheVariants as cause
 use Rattle.bpf_canon.specs.declared.run.RunError.{RunError}
 
 -- a write failed when the sink had taken the first bytes
-pub record PutStops (sink sink_after : Option (List ℕ)) (bytes : List ℕ) (e : RunError SlotFault) : Type 0 where
+pub record PutStops {F : Type 0} (sink sink_after : Option (List ℕ)) (bytes : List ℕ) (e : RunError F) : Type 0 where
   pub why : e.cause ≡ cause.WriteFailed
   pub took : Appends sink sink_after (take e.written bytes)
-  pub prefix : e.written ≤ length bytes
+  pub part : e.written < length bytes
 
 -- the feed took the piece, and the sink took what became whole
 pub record Passed (s t : FeedState) (piece : List ℕ) (sink sink_after : Option (List ℕ)) (written : ℕ) : Type 0 where

@@ -25,8 +25,20 @@ pub fn canon_btf<A: Allocator + Copy>(alloc: A, bytes: &[u8]) -> Result<Vec<u8, 
         → MatchResult result (λ canon. canon.items ≡ canonical Little v) (λ e. e ≡ BtfError.Memory) }
     ensures fault { IfErr result (Fails bytes.now) }
 {
+    canonical_in(alloc, Order::Little, bytes)
+}
+
+// The canonical bytes of a BTF file in the order that is asked.
+pub(crate) fn canonical_in<A: Allocator + Copy>(
+    alloc: A,
+    to: Order,
+    bytes: &[u8],
+) -> Result<Vec<u8, A>, BtfError>
+    ensures ok { IfOk result (λ canon. (v : List TypeRecord) × (Denotes bytes.now v × (canon.items ≡ canonical to v))) }
+    ensures fault { IfErr result (Fails bytes.now) }
+{
     match BtfView::parse(alloc, bytes) {
-        Ok(table) => Ok(write_btf(alloc, Order::Little, &table)?),
+        Ok(table) => Ok(write_btf(alloc, to, &table)?),
         Err(error) => Err(error),
     }
 }

@@ -3,6 +3,7 @@
 
 mod btf_canon;
 pub mod btf_laws;
+mod btf_run;
 mod btf_same;
 mod btf_write;
 mod canon;
@@ -26,6 +27,7 @@ mod write;
 
 pub use bpf_insn::{InsnError, Order};
 pub use btf_canon::canon_btf;
+pub use btf_run::{BTF_LIMIT, run_btf};
 pub use btf_same::same_btf;
 pub use btf_write::write_btf;
 pub use canon::canon_insns;

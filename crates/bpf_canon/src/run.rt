@@ -154,7 +154,7 @@ fn pass_on<A: Allocator, W: ByteSink>(
 }
 
 // Writes all the bytes, and tells how many they are.
-fn put_whole<W: ByteSink>(sink: &mut W, bytes: &[u8]) -> Result<u64, RunError<SlotFault>>
+pub(crate) fn put_whole<F, W: ByteSink>(sink: &mut W, bytes: &[u8]) -> Result<u64, RunError<F>>
     requires { W.failures sink.old < u64.MAX }
     ensures ok { IfOk result (λ n. (n ≡ length bytes.now) × Appends (W.contents sink.old) (W.contents sink.new) bytes.now) }
     ensures err { IfErr result (PutStops (W.contents sink.old) (W.contents sink.new) bytes.now) }

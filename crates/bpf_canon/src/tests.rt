@@ -1,6 +1,7 @@
 //! Worked examples, devices that fail, and memory that is refused.
 
 mod btf;
+mod btf_run;
 mod devices;
 mod feed;
 mod files;

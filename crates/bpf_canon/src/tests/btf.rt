@@ -21,17 +21,17 @@ const ENUM: &[u8] =
     b"\xeb\x9f\x01\0\0\0\0\x18\0\0\0\0\0\0\0\x18\0\0\0\x18\0\0\0\x05\0\0\0\x01\x93\0\0\x01\0\0\0\x08\0\0\0\x03\xff\xff\xff\xfe\xff\xff\xff\xff\0e\0m\0";
 
 /// A PTR to a type that isn't there.
-const FAULTY: &[u8] =
+pub(crate) const FAULTY: &[u8] =
     b"\x9f\xeb\x01\0\x18\0\0\0\0\0\0\0\x0c\0\0\0\x0c\0\0\0\x01\0\0\0\0\0\0\0\0\0\0\x02\x02\0\0\0\0";
 
 /// A file, and its canonical bytes.
 #[derive(Clone, Copy)]
-struct Sample {
-    bytes: &'static [u8],
-    canonical: &'static [u8],
+pub(crate) struct Sample {
+    pub(crate) bytes: &'static [u8],
+    pub(crate) canonical: &'static [u8],
 }
 
-fn samples() -> [Sample; 16] {
+pub(crate) fn samples() -> [Sample; 16] {
     [
         // no types, and a section that holds a NUL
         Sample {

@@ -1,14 +1,12 @@
 use Rattle.std.proofs.Common.{arith}
-use Rattle.bpf_canon.proofs.BtfFiles.{canonical_of, form_once, fails_no_file}
+use Rattle.bpf_canon.proofs.BtfFiles.{ok_with, canonical_of, answers_file}
 use Rattle.bpf_canon.proofs.btf_canon.canon_btf.Goals as goal
 
-pub returns-in_ok-write_btf-in-Ok-clause-found : goal.returns-in_ok-write_btf-in-Ok-clause-found
-returns-in_ok-write_btf-in-Ok-clause-found g c =
-    canonical_of c.args.bytes.now c.in_ok-write_btf-in-Ok.field-0.items c.in-Ok.table c.in-Ok.ensures c.in_ok-write_btf-in-Ok.ensures.form
+pub returns-clause-found : goal.returns-clause-found
+returns-clause-found g c =
+    ok_with _ _ (λ canon h. canonical_of c.args.bytes.now canon.items h.0 h.1.0 h.1.1) c.canonical_in.result c.canonical_in.ensures.ok
 
-pub returns-in_ok-write_btf-in-Ok-clause-all : goal.returns-in_ok-write_btf-in-Ok-clause-all
-returns-in_ok-write_btf-in-Ok-clause-all g c = λ v d.
-    form_once c.args.bytes.now c.in_ok-write_btf-in-Ok.field-0.items v (returns-in_ok-write_btf-in-Ok-clause-found g c) d
-
-pub returns-in-Err-clause-all : goal.returns-in-Err-clause-all
-returns-in-Err-clause-all g c = λ v d. fails_no_file c.args.bytes.now c.in-Err.error v (λ i. omega (arith, c.type_inv.bytes i)) c.in-Err.ensures d
+pub returns-clause-all : goal.returns-clause-all
+returns-clause-all g c = λ v d.
+    answers_file (λ canon. canon.items) c.args.bytes.now v (λ i. omega (arith, c.type_inv.bytes i)) d c.canonical_in.result c.canonical_in.ensures.ok
+    c.canonical_in.ensures.fault
