@@ -1,3 +1,5 @@
+pub mod BtfCanonLemmas
+pub mod BtfSameLemmas
 pub mod CanonLemmas
 pub mod CommandLemmas
 pub mod LineLemmas
