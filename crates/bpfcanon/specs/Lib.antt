@@ -4,3 +4,4 @@ pub mod Line
 pub mod Outcome
 pub mod Reply
 pub mod Ends
+pub mod BtfText

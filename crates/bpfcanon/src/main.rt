@@ -5,12 +5,15 @@ ghost use Rattle.std.specs.Prelude.{◌≡◌, ◌<◌, ◌++◌, codes};
 ghost use Rattle.std.specs.Process.{exit_status};
 ghost use Rattle.bpfcanon.specs.Outcome.{Tells, newline};
 
+mod btf_lines;
+mod btf_text;
 mod command;
 mod command_line;
 mod groups;
 mod listings;
 mod options;
 mod outcome;
+mod quoted_name;
 mod reply;
 mod same;
 mod verb;
