@@ -10,6 +10,7 @@ use Rattle.bpfcanon.specs.declared.outcome.Outcome.{Outcome}
 use Rattle.bpfcanon.specs.declared.outcome.Outcome.TheVariants as ends
 use Rattle.bpfcanon.specs.declared.outcome.Outcome.TheVariants.{Done, Different, FirstBtf, SecondBtf, TooLong, SplitBeyond}
 use Rattle.bpfcanon.specs.Outcome.{newline}
+use Rattle.bpfcanon.specs.BtfText.{text_of}
 
 -- ---- btf-canon
 
@@ -18,6 +19,14 @@ pub data IsBtfCanonReply (limit : ℕ) (to : Order) (input : List ℕ) : Outcome
   written : (v : List TypeRecord) → length input ≤ limit → Denotes input v → IsBtfCanonReply limit to input Done (canonical to v)
   unwritten : (f : BtfFault) → length input ≤ limit → IsFirst input f → IsBtfCanonReply limit to input (ends.BtfFault f) []
   canon_too_long : limit < length input → IsBtfCanonReply limit to input TooLong []
+
+-- ---- btf-show
+
+-- the text of the types of a file
+pub data IsBtfShowReply (limit : ℕ) (input : List ℕ) : Outcome → List ℕ → Type 0 where
+  shown : (v : List TypeRecord) → length input ≤ limit → Denotes input v → IsBtfShowReply limit input Done (text_of v)
+  unshown : (f : BtfFault) → length input ≤ limit → IsFirst input f → IsBtfShowReply limit input (ends.BtfFault f) []
+  show_too_long : limit < length input → IsBtfShowReply limit input TooLong []
 
 -- ---- btf-check
 

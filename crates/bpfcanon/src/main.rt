@@ -7,14 +7,17 @@ ghost use Rattle.bpfcanon.specs.Outcome.{Tells, newline};
 
 mod btf_cause;
 mod btf_check;
+mod btf_lines;
 mod btf_listing;
 mod btf_same;
+mod btf_text;
 mod command;
 mod command_line;
 mod groups;
 mod listings;
 mod options;
 mod outcome;
+mod quoted_name;
 mod reply;
 mod same;
 mod verb;
