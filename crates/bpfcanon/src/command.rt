@@ -2,16 +2,17 @@
 
 ghost use Rattle.std.specs.Prelude.{◌≡◌, ◌<◌, length, map, string_bytes, false};
 ghost use Rattle.bpfcanon.specs.declared.outcome.Outcome.{Outcome};
-ghost use Rattle.bpfcanon.specs.declared.verb.Verb.TheVariants.{BtfCanon, InsnCanon};
+ghost use Rattle.bpfcanon.specs.declared.verb.Verb.TheVariants.{InsnCanon};
 ghost use Rattle.bpfcanon.specs.Ends.{Ends, EndsJob, change};
 ghost use Rattle.bpfcanon.specs.Outcome.{Tells, line_of, status_of};
 ghost use Rattle.bpfcanon.specs.Reply.{has_engine, limit_of};
 
+use crate::btf_canon::run_btf_canon;
 use crate::command_line::{Job, LineError, parse_line};
 use crate::outcome::{Outcome, put_line};
 use crate::reply::reply_to;
 use crate::verb::Verb;
-use bpf_canon::{ByteSink, ByteSource, ReadError, RunCause, put_all, read_all, run_btf, run_insns};
+use bpf_canon::{ByteSink, ByteSource, ReadError, RunCause, put_all, read_all, run_insns};
 use std::alloc::Global;
 
 /// Runs `insn-canon`, which writes as it reads.
@@ -31,31 +32,6 @@ fn run_canon<S: ByteSource, W: ByteSink>(
         Ok(_) => Outcome::Done,
         Err(error) => match error.cause {
             RunCause::Fault(fault) => Outcome::Fault(fault),
-            RunCause::TooLong => Outcome::TooLong,
-            RunCause::ReadFailed => Outcome::ReadFailed,
-            RunCause::WriteFailed => Outcome::WriteFailed,
-            RunCause::Memory => Outcome::Memory,
-        },
-    }
-}
-
-/// Runs `btf-canon`, which writes once it has read its input whole.
-fn run_btf_canon<S: ByteSource, W: ByteSink>(
-    alloc: Global,
-    job: Job,
-    source: &mut S,
-    sink: &mut W,
-) -> Outcome
-    requires canon { job.verb ≡ BtfCanon }
-    requires source { S.failures source.old < u64.MAX }
-    requires sink { W.failures sink.old < u64.MAX }
-    ensures { EndsJob job (change (S.remaining source.old) (S.remaining source.new) (S.failures source.old) (S.failures source.new))
-        (change (W.contents sink.old) (W.contents sink.new) (W.failures sink.old) (W.failures sink.new)) result }
-{
-    match run_btf(alloc, source, sink, job.to) {
-        Ok(_) => Outcome::Done,
-        Err(error) => match error.cause {
-            RunCause::Fault(fault) => Outcome::BtfFault(fault),
             RunCause::TooLong => Outcome::TooLong,
             RunCause::ReadFailed => Outcome::ReadFailed,
             RunCause::WriteFailed => Outcome::WriteFailed,

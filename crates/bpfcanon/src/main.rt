@@ -5,6 +5,7 @@ ghost use Rattle.std.specs.Prelude.{◌≡◌, ◌<◌, ◌++◌, codes};
 ghost use Rattle.std.specs.Process.{exit_status};
 ghost use Rattle.bpfcanon.specs.Outcome.{Tells, newline};
 
+mod btf_canon;
 mod btf_cause;
 mod btf_check;
 mod btf_lines;

@@ -4,7 +4,7 @@ use Rattle.bpfcanon.proofs.btf_check.check_reply.Goals as goal
 pub returns-in_ok-count_line-in-Ok : goal.returns-in_ok-count_line-in-Ok
 returns-in_ok-count_line-in-Ok c =
     let line = rw c.count.ensures.count at c.in_ok-count_line-in-Ok.ensures in
-    rw line (checked c.in-Ok.table.value c.requires c.in-Ok.ensures)
+    rw line (checked c.in-Ok.table c.requires c.in-Ok.ensures)
 
 pub returns-in-Err-Fault : goal.returns-in-Err-Fault
 returns-in-Err-Fault c =

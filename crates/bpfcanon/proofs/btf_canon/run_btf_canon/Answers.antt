@@ -1,6 +1,6 @@
 use Rattle.std.proofs.Common.{◌∙◌, add-zero}
 use Rattle.bpfcanon.proofs.BtfCanonLemmas.{btf_canon_done, btf_canon_fault, btf_canon_no_memory, btf_canon_too_long, btf_canon_unread, btf_canon_unwritten}
-use Rattle.bpfcanon.proofs.command.run_btf_canon.Goals as goal
+use Rattle.bpfcanon.proofs.btf_canon.run_btf_canon.Goals as goal
 
 pub returns-in-Ok : goal.returns-in-Ok
 returns-in-Ok g c = btf_canon_done c.args.job _ _ _ c.requires.canon c.in-Ok.ensures.ok c.in-Ok.ensures.healthy.0 c.in-Ok.ensures.healthy.1
