@@ -265,24 +265,48 @@ fn append_fields<A: Allocator>(
     ensures { OnOk result (text.new.items ≡ text.old.items ++ spec.fields_text (head_value head.entry) items) }
 {
     match head {
-        Head::KInt { name, size, encoding, offset, bits } => append_int(text, name, size, encoding, offset, bits),
+        Head::KInt {
+            name,
+            size,
+            encoding,
+            offset,
+            bits,
+        } => append_int(text, name, size, encoding, offset, bits),
         Head::KPtr { target }
         | Head::KVolatile { target }
         | Head::KConst { target }
         | Head::KRestrict { target } => append_number(text, " type=", target),
-        Head::KArray { target, index, count } => append_array(text, target, index, count),
-        Head::KStruct { name, size } | Head::KUnion { name, size } | Head::KDatasec { name, size } => {
-            append_with_items(text, name, size, items)
-        }
+        Head::KArray {
+            target,
+            index,
+            count,
+        } => append_array(text, target, index, count),
+        Head::KStruct { name, size }
+        | Head::KUnion { name, size }
+        | Head::KDatasec { name, size } => { append_with_items(text, name, size, items) }
         Head::KEnum { name, signed, size } | Head::KEnum64 { name, signed, size } => {
             append_enum(text, name, signed, size, items)
         }
         Head::KFwd { name, is_union } => append_forward(text, name, is_union),
         Head::KTypedef { name, target } => append_typed(text, name, target),
-        Head::KFunc { name, linkage, target } | Head::KVar { name, target, linkage } => append_linked(text, name, linkage, target),
+        Head::KFunc {
+            name,
+            linkage,
+            target,
+        }
+        | Head::KVar {
+            name,
+            target,
+            linkage,
+        } => append_linked(text, name, linkage, target),
         Head::KFuncProto { target } => append_prototype(text, target, items),
         Head::KFloat { name, size } => append_sized(text, name, size),
-        Head::KDeclTag { name, flag, target, component } => append_decl_tag(text, name, flag, target, component),
+        Head::KDeclTag {
+            name,
+            flag,
+            target,
+            component,
+        } => append_decl_tag(text, name, flag, target, component),
         Head::KTypeTag { name, flag, target } => append_type_tag(text, name, flag, target),
     }
 }
@@ -377,7 +401,12 @@ fn append_item_text<A: Allocator>(
     ensures { OnOk result (text.new.items ≡ text.old.items ++ (codes "  " ++ spec.item_text signed (item_value item.entry))) }
 {
     match item {
-        Item::Member { name, target, bit_offset, width } => append_member(text, name, target, bit_offset, width),
+        Item::Member {
+            name,
+            target,
+            bit_offset,
+            width,
+        } => append_member(text, name, target, bit_offset, width),
         Item::EnumValue { name, value } => {
             append_name(text, "  value ", name)?;
             append(text, " ")?;
@@ -392,7 +421,11 @@ fn append_item_text<A: Allocator>(
             append_name(text, "  param ", name)?;
             append_number(text, " type=", target)
         }
-        Item::Entry { target, offset, size } => append_entry(text, target, offset, size),
+        Item::Entry {
+            target,
+            offset,
+            size,
+        } => append_entry(text, target, offset, size),
     }
 }
 

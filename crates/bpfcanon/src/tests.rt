@@ -1,5 +1,6 @@
-//! Worked examples, devices that fail, and the texts of errors.
+//! Worked examples, devices that fail, texts of BTF types, and the texts of errors.
 
+mod btf_texts;
 mod devices;
 mod examples;
 mod lines;
