@@ -1,6 +1,6 @@
 -- The text of BTF types: a line for each type, and behind it a line for each of its items. It is meant for values in the
 -- ranges of their types: std writes numbers of up to 64 digits.
-use Rattle.std.specs.Prelude.{ℕ, ◌+◌, ◌/◌, ◌%◌, Bool, true, false, List, [], ◌∷◌, ◌++◌, Option, Some, None, codes, decimal, length, if◌then◌else◌, ◌==◌, ◌||◌, nat_lt}
+use Rattle.std.specs.Prelude.{ℕ, ◌+◌, ◌/◌, ◌%◌, Bool, true, false, List, [], ◌∷◌, ◌++◌, Option, Some, None, codes, decimal, length, nat_lt, if◌then◌else◌, ◌==◌, ◌||◌}
 use Rattle.std.specs.Char.{digit_char}
 use Rattle.std.specs.Fmt.{signed_decimal}
 use Rattle.std.specs.Int.{Width, w32, w64, cast_signed}
@@ -132,19 +132,19 @@ is_signed head = false
 abbrev pub value_text : Width → Bool → ℕ → List ℕ
 value_text w signed value = if signed then signed_decimal (cast_signed w value) else decimal value
 
--- an item of a type with signed values or without
+-- an item of a type whose values are signed or not; its line begins with two spaces
 abbrev pub item_text : Bool → TypeItem → List ℕ
 item_text signed (Member name target bit_offset width) =
-    codes "member " ++ quoted name ++ codes " type=" ++ decimal target ++ codes " offset=" ++ decimal bit_offset
+    codes "  member " ++ quoted name ++ codes " type=" ++ decimal target ++ codes " offset=" ++ decimal bit_offset
     ++ codes " width=" ++ decimal width
-item_text signed (EnumValue name value) = codes "value " ++ quoted name ++ codes " " ++ value_text w32 signed value
-item_text signed (Value64 name value) = codes "value " ++ quoted name ++ codes " " ++ value_text w64 signed value
-item_text signed (Param name target) = codes "param " ++ quoted name ++ codes " type=" ++ decimal target
+item_text signed (EnumValue name value) = codes "  value " ++ quoted name ++ codes " " ++ value_text w32 signed value
+item_text signed (Value64 name value) = codes "  value " ++ quoted name ++ codes " " ++ value_text w64 signed value
+item_text signed (Param name target) = codes "  param " ++ quoted name ++ codes " type=" ++ decimal target
 item_text signed (Entry target offset size) =
-    codes "entry type=" ++ decimal target ++ codes " offset=" ++ decimal offset ++ codes " size=" ++ decimal size
+    codes "  entry type=" ++ decimal target ++ codes " offset=" ++ decimal offset ++ codes " size=" ++ decimal size
 
 abbrev pub item_line : Bool → TypeItem → List ℕ
-item_line signed item = codes "  " ++ item_text signed item ++ codes "\n"
+item_line signed item = item_text signed item ++ codes "\n"
 
 -- ---- the whole
 

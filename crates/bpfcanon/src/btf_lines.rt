@@ -1,6 +1,6 @@
 //! The lines of BTF types and of their items.
 
-ghost use Rattle.std.specs.Prelude.{◌≡◌, ◌++◌, codes, decimal, OnOk};
+ghost use Rattle.std.specs.Prelude.{◌≡◌, ◌++◌, false, codes, decimal, OnOk};
 ghost use Rattle.std.specs.Int.{w32, w64};
 ghost use Rattle.btf_types.specs.Values as values;
 ghost use Rattle.btf_types.specs.Values.{head_value, item_value};
@@ -111,6 +111,16 @@ fn append_sized<A: Allocator>(
     append_number(text, " size=", size)
 }
 
+fn append_encoding<A: Allocator>(
+    text: &mut Vec<u8, A>,
+    encoding: Encoding,
+) -> Result<(), AllocError>
+    ensures { OnOk result (text.new.items ≡ text.old.items ++ (codes " encoding=" ++ spec.encoding_name encoding)) }
+{
+    append(text, " encoding=")?;
+    append(text, encoding_name(encoding))
+}
+
 fn append_int<A: Allocator>(
     text: &mut Vec<u8, A>,
     name: &str,
@@ -122,8 +132,7 @@ fn append_int<A: Allocator>(
     ensures { OnOk result (text.new.items ≡ text.old.items ++ spec.fields_text (values.KInt name.now size encoding offset bits) 0) }
 {
     append_sized(text, name, size)?;
-    append(text, " encoding=")?;
-    append(text, encoding_name(encoding))?;
+    append_encoding(text, encoding)?;
     append_number(text, " offset=", u32::from(offset))?;
     append_number(text, " bits=", u32::from(bits))
 }
@@ -265,24 +274,48 @@ fn append_fields<A: Allocator>(
     ensures { OnOk result (text.new.items ≡ text.old.items ++ spec.fields_text (head_value head.entry) items) }
 {
     match head {
-        Head::KInt { name, size, encoding, offset, bits } => append_int(text, name, size, encoding, offset, bits),
+        Head::KInt {
+            name,
+            size,
+            encoding,
+            offset,
+            bits,
+        } => append_int(text, name, size, encoding, offset, bits),
         Head::KPtr { target }
         | Head::KVolatile { target }
         | Head::KConst { target }
         | Head::KRestrict { target } => append_number(text, " type=", target),
-        Head::KArray { target, index, count } => append_array(text, target, index, count),
-        Head::KStruct { name, size } | Head::KUnion { name, size } | Head::KDatasec { name, size } => {
-            append_with_items(text, name, size, items)
-        }
+        Head::KArray {
+            target,
+            index,
+            count,
+        } => append_array(text, target, index, count),
+        Head::KStruct { name, size }
+        | Head::KUnion { name, size }
+        | Head::KDatasec { name, size } => { append_with_items(text, name, size, items) }
         Head::KEnum { name, signed, size } | Head::KEnum64 { name, signed, size } => {
             append_enum(text, name, signed, size, items)
         }
         Head::KFwd { name, is_union } => append_forward(text, name, is_union),
         Head::KTypedef { name, target } => append_typed(text, name, target),
-        Head::KFunc { name, linkage, target } | Head::KVar { name, target, linkage } => append_linked(text, name, linkage, target),
+        Head::KFunc {
+            name,
+            linkage,
+            target,
+        }
+        | Head::KVar {
+            name,
+            target,
+            linkage,
+        } => append_linked(text, name, linkage, target),
         Head::KFuncProto { target } => append_prototype(text, target, items),
         Head::KFloat { name, size } => append_sized(text, name, size),
-        Head::KDeclTag { name, flag, target, component } => append_decl_tag(text, name, flag, target, component),
+        Head::KDeclTag {
+            name,
+            flag,
+            target,
+            component,
+        } => append_decl_tag(text, name, flag, target, component),
         Head::KTypeTag { name, flag, target } => append_type_tag(text, name, flag, target),
     }
 }
@@ -348,7 +381,7 @@ fn append_member<A: Allocator>(
     bit_offset: u32,
     width: u8,
 ) -> Result<(), AllocError>
-    ensures { OnOk result (text.new.items ≡ text.old.items ++ (codes "  " ++ spec.item_text false (values.Member name.now target bit_offset width))) }
+    ensures { OnOk result (text.new.items ≡ text.old.items ++ spec.item_text false (values.Member name.now target bit_offset width)) }
 {
     append_name(text, "  member ", name)?;
     append_number(text, " type=", target)?;
@@ -362,7 +395,7 @@ fn append_entry<A: Allocator>(
     offset: u32,
     size: u32,
 ) -> Result<(), AllocError>
-    ensures { OnOk result (text.new.items ≡ text.old.items ++ (codes "  " ++ spec.item_text false (values.Entry target offset size))) }
+    ensures { OnOk result (text.new.items ≡ text.old.items ++ spec.item_text false (values.Entry target offset size)) }
 {
     append_number(text, "  entry type=", target)?;
     append_number(text, " offset=", offset)?;
@@ -374,10 +407,15 @@ fn append_item_text<A: Allocator>(
     item: Item<'_>,
     signed: bool,
 ) -> Result<(), AllocError>
-    ensures { OnOk result (text.new.items ≡ text.old.items ++ (codes "  " ++ spec.item_text signed (item_value item.entry))) }
+    ensures { OnOk result (text.new.items ≡ text.old.items ++ spec.item_text signed (item_value item.entry)) }
 {
     match item {
-        Item::Member { name, target, bit_offset, width } => append_member(text, name, target, bit_offset, width),
+        Item::Member {
+            name,
+            target,
+            bit_offset,
+            width,
+        } => append_member(text, name, target, bit_offset, width),
         Item::EnumValue { name, value } => {
             append_name(text, "  value ", name)?;
             append(text, " ")?;
@@ -392,7 +430,11 @@ fn append_item_text<A: Allocator>(
             append_name(text, "  param ", name)?;
             append_number(text, " type=", target)
         }
-        Item::Entry { target, offset, size } => append_entry(text, target, offset, size),
+        Item::Entry {
+            target,
+            offset,
+            size,
+        } => append_entry(text, target, offset, size),
     }
 }
 

@@ -47,10 +47,7 @@ fn append_record<T: TypeTable, A: Allocator>(
 /// # Errors
 ///
 /// `AllocError` where the allocator refuses room for the text.
-pub fn show_btf<T: TypeTable, A: Allocator>(
-    alloc: A,
-    table: &T,
-) -> Result<Vec<u8, A>, AllocError>
+pub fn show_btf<T: TypeTable, A: Allocator>(alloc: A, table: &T) -> Result<Vec<u8, A>, AllocError>
     ensures { IfOk result (λ text. text.items ≡ text_of (T.meaning table.now)) }
 {
     let mut text = Vec::new(alloc);

@@ -1,7 +1,6 @@
 //! Names in quotes, with what a reader couldn't see or would take for a quote written otherwise.
 
-ghost use Rattle.std.specs.Prelude.{◌≡◌, ◌∷◌, [], ◌++◌, ◌<◌, ◌≤◌, codes, false, OnOk};
-ghost use Rattle.std.specs.List.{flat_map};
+ghost use Rattle.std.specs.Prelude.{◌≡◌, ◌/◌, ◌%◌, ◌∷◌, [], ◌++◌, ◌<◌, true, codes, OnOk};
 ghost use Rattle.std.specs.Char.{digit_char};
 ghost use Rattle.bpfcanon.specs.BtfText as spec;
 
@@ -37,6 +36,26 @@ fn append_control<A: Allocator>(text: &mut Vec<u8, A>, byte: u8) -> Result<(), A
     text.extend_from_slice(&[b'\\', b'x', hex_digit(byte / 16), hex_digit(byte % 16)])
 }
 
+/// Whether a byte stands for itself between the quotes.
+fn is_plain(byte: u8) -> bool
+    ensures { result ≡ true → spec.quoted_byte byte ≡ byte ∷ [] }
+{
+    !needs_backslash(byte) && !is_control(byte)
+}
+
+/// Appends a byte of a name.
+fn append_byte<A: Allocator>(text: &mut Vec<u8, A>, byte: u8) -> Result<(), AllocError>
+    ensures { OnOk result (text.new.items ≡ text.old.items ++ spec.quoted_byte byte) }
+{
+    if needs_backslash(byte) {
+        text.extend_from_slice(&[b'\\', byte])
+    } else if is_control(byte) {
+        append_control(text, byte)
+    } else {
+        text.extend_from_slice(&[byte])
+    }
+}
+
 /// Appends a name in double quotes: `"` and `\` behind a backslash, control characters of ASCII as `\x` and two hexadecimal
 /// digits, and all other bytes as they are.
 pub fn append_quoted<A: Allocator>(text: &mut Vec<u8, A>, name: &str) -> Result<(), AllocError>
@@ -44,16 +63,12 @@ pub fn append_quoted<A: Allocator>(text: &mut Vec<u8, A>, name: &str) -> Result<
 {
     let bytes = name.as_bytes();
     text.extend_from_slice(b"\"")?;
-    // The bytes from here on are not written yet.
+    // Plain bytes are appended by whole runs; those from here on are still to come.
     let mut start = 0;
     for (at, byte) in bytes.iter().enumerate() {
-        if needs_backslash(*byte) {
+        if !is_plain(*byte) {
             text.extend_from_slice(&bytes[start..at])?;
-            text.extend_from_slice(&[b'\\', *byte])?;
-            start = at + 1;
-        } else if is_control(*byte) {
-            text.extend_from_slice(&bytes[start..at])?;
-            append_control(text, *byte)?;
+            append_byte(text, *byte)?;
             start = at + 1;
         }
     }
