@@ -1,5 +1,5 @@
 -- Lines of types and items that are appended one after the other.
-use Rattle.std.proofs.Common.{◌≡◌, ℕ, zero, suc, ◌+◌, ◌<◌, Bool, List, [], ◌∷◌, ◌++◌, length, length-take, take, refl, sym, ap, ◌∙◌, arith, append_assoc, Some}
+use Rattle.std.proofs.Common.{◌≡◌, ℕ, zero, suc, ◌+◌, ◌<◌, Bool, List, [], ◌∷◌, ◌++◌, length, length-take, take, refl, sym, ap, ◌∙◌, arith, rules, append_assoc, Some}
 use Rattle.std.specs.Prelude.{Result, Ok, Err, OnOk, slice_get}
 use Rattle.std.specs.List.{flat_map, enumerate_from}
 use Rattle.std.proofs.lemmas.List.{flat_map_more}
@@ -8,10 +8,11 @@ use Rattle.btf_types.specs.TableWords.{record_at}
 use Rattle.bpf_canon.proofs.Gathering.{take_more, records_more}
 use Rattle.bpfcanon.specs.BtfText.{item_line, record_text, text_of}
 
--- what a call appends, before what those after it append
-pub before : {E : Type 0} (r : Result (Unit {0}) E) (old a mid new rest : List ℕ) → mid ≡ old ++ a → OnOk r (new ≡ mid ++ rest) → OnOk r (new ≡ old ++ (a ++ rest))
-before (Ok u) old a mid new rest e f = f ∙ ap (λ (t : List ℕ). t ++ rest) e ∙ append_assoc old a rest
-before (Err x) old a mid new rest e f = f
+-- what three calls append, each a label with a number
+pub labelled_joined : {E : Type 0} (r : Result (Unit {0}) E) (old a b c x y z one two three : List ℕ) → one ≡ old ++ (a ++ x) → two ≡ one ++ (b ++ y)
+    → OnOk r (three ≡ two ++ (c ++ z)) → OnOk r (three ≡ old ++ (a ++ x ++ b ++ y ++ c ++ z))
+labelled_joined (Ok u) old a b c x y z one two three e f h = h ∙ rw (f, e) (search (rules, append_assoc))
+labelled_joined (Err e) old a b c x y z one two three f g h = h
 
 -- one item more
 pub item_shown : (old : List ℕ) (signed : Bool) (xs : List TypeItem) (k : ℕ) (x : TypeItem) → slice_get xs k ≡ Some x
