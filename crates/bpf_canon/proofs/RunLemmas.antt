@@ -17,6 +17,7 @@ use Rattle.bpf_canon.specs.declared.run.RunCause.TheVariants as cause
 use Rattle.bpf_canon.specs.FeedState.{FeedState}
 use Rattle.bpf_canon.specs.Stands.{IsSound, Moves, Stands}
 use Rattle.bpf_canon.specs.Passed.{Passed, PassStops}
+use Rattle.bpf_canon.specs.Reads.{read_room}
 use Rattle.bpf_canon.specs.Run.{Devices, RanWhole, StopsAtFault, StopsTooLong, StopsUnread, Stops, devices, limit}
 use Rattle.bpf_canon.proofs.FeedLemmas.{keeps_answer, keeps_fault}
 use Rattle.bpf_canon.proofs.FrontLaws.{file_front, front-nil, front_fits, front_grows}
@@ -172,7 +173,7 @@ run_more a b c p q r o to s t n k piece h came x fits =
 -- more than the limit came
 pub run_too_long : (a b c p q r : Option (List ℕ)) (o to : Order) (s t : FeedState) (n k : ℕ) (chunk piece : List ℕ) → (h : Running (devices a b p q) o to s n)
     → Consumes b c chunk → Passed s t piece q r k → take limit (h.read ++ chunk) ≡ h.read ++ piece → limit < s.fed + length chunk
-    → length chunk ≤ 4096 → StopsTooLong (devices a c p r) o to (n + k)
+    → length chunk ≤ read_room → StopsTooLong (devices a c p r) o to (n + k)
 run_too_long a b c p q r o to s t n k chunk piece h came x cut beyond small =
     let adds = adds_of o to s t h.read piece h.insns h.rest x.out h.front h.stands x.moves in
     let P : List ℕ → Type 0 = λ b. IsFront o b (h.insns ++ adds.gained) adds.left in
@@ -195,7 +196,7 @@ run_too_long a b c p q r o to s t n k chunk piece h came x cut beyond small =
 -- the piece stops the engine
 pub run_stops : (a b c p q r : Option (List ℕ)) (o to : Order) (s t : FeedState) (n k : ℕ) (chunk piece : List ℕ) (why : RunCause SlotFault) → (h : Running (devices a b p q) o to s n)
     → Consumes b c chunk → PassStops s t piece q r k why → take limit (h.read ++ chunk) ≡ h.read ++ piece
-    → length chunk ≤ 4096 → Stops (devices a c p r) o to (n + k) why
+    → length chunk ≤ read_room → Stops (devices a c p r) o to (n + k) why
 run_stops a b c p q r o to s t n k chunk piece (cause.Fault f) h came x cut small =
     let adds = adds_of o to s t h.read piece h.insns h.rest x.out h.front h.stands x.moves in
     let has = keeps_fault t o to _ f adds.stands x.faulty in

@@ -7,6 +7,7 @@ use Rattle.bpf_insn.specs.declared.fault.SlotFault.{SlotFault}
 use Rattle.bpf_insn.specs.declared.fault.SlotCause.TheVariants.{Truncated}
 use Rattle.bpf_insn.specs.Spelling.{file_of, InsnFile}
 use Rattle.bpf_insn.specs.Faults.{IsFront, IsInsnFault}
+use Rattle.bpf_canon.specs.Reads.{read_room}
 use Rattle.bpf_canon.specs.Stands.{IsSound}
 use Rattle.bpf_canon.specs.declared.run.RunCause.{RunCause}
 use Rattle.bpf_canon.specs.declared.run.RunCause.TheVariants as cause
@@ -37,18 +38,18 @@ pub record RanWhole (d : Devices) (o to : Order) (written : ℕ) : Type 0 where
   pub took : Appends d.sink d.sink_after (file_of to insns)
   pub all : written ≡ length (file_of to insns)
 
--- what came goes beyond the limit by one read of 4,096 bytes at most; of the instructions at the front of what came within
+-- what came goes beyond the limit by one read at most; of the instructions at the front of what came within
 -- the limit, the sink took the first bytes in the order `to`
 pub record Wrote (d : Devices) (o to : Order) (read : List ℕ) (written : ℕ) : Type 0 where
   pub came : Consumes d.source d.source_after read
-  pub near : length read ≤ limit + 4096
+  pub near : length read ≤ limit + read_room
   pub prefix : (insns : List Insn) (rest : List ℕ) → IsFront o (take limit read) insns rest
       → (written ≤ length (file_of to insns)) × Appends d.sink d.sink_after (take written (file_of to insns))
 
 -- the sink took all of them
 pub record WroteAll (d : Devices) (o to : Order) (read : List ℕ) (written : ℕ) : Type 0 where
   pub came : Consumes d.source d.source_after read
-  pub near : length read ≤ limit + 4096
+  pub near : length read ≤ limit + read_room
   pub insns : List Insn
   pub rest : List ℕ
   pub front : IsFront o (take limit read) insns rest

@@ -7,6 +7,7 @@ use Rattle.btf_types.specs.Values.{TypeRecord}
 use Rattle.btf_types.specs.Denotes.{Denotes}
 use Rattle.btf_types.specs.Faults.{IsFirst}
 use Rattle.bpf_canon.specs.CanonicalBtf.{canonical}
+use Rattle.bpf_canon.specs.Reads.{read_room}
 use Rattle.bpf_canon.specs.Run.{Devices}
 use Rattle.bpf_canon.specs.declared.run.RunCause.{RunCause}
 use Rattle.bpf_canon.specs.declared.run.RunCause.TheVariants as cause
@@ -42,12 +43,12 @@ pub record StopsAtBtfFault (d : Devices) (written : ℕ) (f : BtfFault) : Type 0
   pub first : IsFirst read f
   pub nothing : WroteNothing d written
 
--- more than the limit came, by one read of 4,096 bytes at most
+-- more than the limit came, by one read at most
 pub record StopsBtfTooLong (d : Devices) (written : ℕ) : Type 0 where
   pub read : List ℕ
   pub came : Consumes d.source d.source_after read
   pub beyond : btf_limit < length read
-  pub near : length read ≤ btf_limit + 4096
+  pub near : length read ≤ btf_limit + read_room
   pub nothing : WroteNothing d written
 
 -- a read failed before more than the limit came
@@ -70,7 +71,7 @@ pub record StopsBtfUnwritten (d : Devices) (to : Order) (written : ℕ) : Type 0
 pub record StopsBtfRefused (d : Devices) (written : ℕ) : Type 0 where
   pub read : List ℕ
   pub came : Consumes d.source d.source_after read
-  pub near : length read ≤ btf_limit + 4096
+  pub near : length read ≤ btf_limit + read_room
   pub nothing : WroteNothing d written
 
 -- what the engine did that gives up for this cause

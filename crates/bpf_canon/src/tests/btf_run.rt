@@ -47,7 +47,11 @@ fn runs_files_in_pieces(rt: HostRuntime) {
             let ran = run_btf(rt.alloc(), &mut source, &mut sink, Order::Little);
             let written = sample.canonical.len() as u64;
             assert_eq!(rt; ran, Ok(written), "{bytes:?} in pieces of {piece}");
-            assert_eq!(rt; out.as_slice(), sample.canonical, "{bytes:?} in pieces of {piece}");
+            assert_eq!(rt;
+                out.as_slice(),
+                sample.canonical,
+                "{bytes:?} in pieces of {piece}"
+            );
         }
     }
 }
@@ -75,12 +79,40 @@ fn devices_that_fail_stop_the_engine_on_btf(rt: HostRuntime) {
         cause: BtfCause::ShortHeader,
     });
     let cases: [(&[u8], usize, Option<u64>, usize, Option<u64>, Ran); 8] = [
-        (BIG_INT, 45, None, 10, Some(3), stopped(RunCause::WriteFailed, 20)),
-        (BIG_INT, 45, None, 45, Some(1), stopped(RunCause::WriteFailed, 0)),
-        (BIG_INT, 45, Some(1), 10, None, stopped(RunCause::ReadFailed, 0)),
+        (
+            BIG_INT,
+            45,
+            None,
+            10,
+            Some(3),
+            stopped(RunCause::WriteFailed, 20),
+        ),
+        (
+            BIG_INT,
+            45,
+            None,
+            45,
+            Some(1),
+            stopped(RunCause::WriteFailed, 0),
+        ),
+        (
+            BIG_INT,
+            45,
+            Some(1),
+            10,
+            None,
+            stopped(RunCause::ReadFailed, 0),
+        ),
         // The first fault is told only where the source has ended, and a sink that would fail isn't used then.
         (FAULTY, 16, None, 10, Some(1), stopped(faulty, 0)),
-        (FAULTY, 37, Some(2), 10, Some(1), stopped(RunCause::ReadFailed, 0)),
+        (
+            FAULTY,
+            37,
+            Some(2),
+            10,
+            Some(1),
+            stopped(RunCause::ReadFailed, 0),
+        ),
         (FAULTY, 37, Some(3), 10, Some(1), stopped(faulty, 0)),
         (b"", 1, None, 1, Some(1), stopped(short, 0)),
         (BIG_INT, 45, Some(3), 45, Some(2), Ok(45)),
@@ -96,8 +128,15 @@ fn devices_that_fail_stop_the_engine_on_btf(rt: HostRuntime) {
             Ok(written) => written,
             Err(stop) => stop.written,
         };
-        assert_eq!(rt; out.len() as u64, written, "{bytes:?} in pieces of {piece} and {width}");
-        assert!(rt; INT.starts_with(&out), "{bytes:?} in pieces of {piece} and {width}");
+        assert_eq!(rt;
+            out.len() as u64,
+            written,
+            "{bytes:?} in pieces of {piece} and {width}"
+        );
+        assert!(rt;
+            INT.starts_with(&out),
+            "{bytes:?} in pieces of {piece} and {width}"
+        );
     }
 }
 
@@ -117,7 +156,11 @@ fn each_read_and_each_write_of_btf_may_fail(rt: HostRuntime) {
         let mut out = Vec::new(rt.alloc());
         let mut sink = MemSink::new(&mut out, 1, Some(fuse));
         let ran = run_btf(rt.alloc(), &mut source, &mut sink, Order::Little);
-        assert_eq!(rt; ran, stopped(RunCause::WriteFailed, fuse - 1), "write {fuse} fails");
+        assert_eq!(rt;
+            ran,
+            stopped(RunCause::WriteFailed, fuse - 1),
+            "write {fuse} fails"
+        );
         assert_eq!(rt; out.len() as u64, fuse - 1, "write {fuse} fails");
         assert!(rt; INT.starts_with(&out), "write {fuse} fails");
     }

@@ -85,7 +85,10 @@ fn of_running_btf(rt: HostRuntime) -> Result<(), Fail> {
                 done = done.saturating_add(1);
             }
             Err(stop) => {
-                assert_eq!(rt; (stop.cause, stop.written, out.len()), (RunCause::Memory, 0, 0));
+                assert_eq!(rt;
+                    (stop.cause, stop.written, out.len()),
+                    (RunCause::Memory, 0, 0)
+                );
                 refused = refused.saturating_add(1);
             }
         }
@@ -110,7 +113,10 @@ fn of_a_sink_of_btf(rt: HostRuntime) -> Result<(), Fail> {
                 done = done.saturating_add(1);
             }
             Err(stop) => {
-                assert_eq!(rt; (stop.cause, stop.written), (RunCause::WriteFailed, out.len() as u64));
+                assert_eq!(rt;
+                    (stop.cause, stop.written),
+                    (RunCause::WriteFailed, out.len() as u64)
+                );
                 assert!(rt; out.len() < 45 && BIG_INT.starts_with(&out));
                 refused = refused.saturating_add(1);
             }
