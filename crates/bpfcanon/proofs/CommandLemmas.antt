@@ -1,24 +1,34 @@
 -- How a command ends that reads its input whole.
-use Rattle.std.proofs.Common.{◌≡◌, ◌<◌, false, List, [], ℕ, inr, length}
+use Rattle.std.proofs.Common.{◌≡◌, ◌<◌, false, List, [], ℕ, inr, length, refl}
 use Rattle.std.specs.Io.KnownBytes.{Consumes}
 use Rattle.std.proofs.KnownBytes.{Appends-nil}
 use Rattle.bpfcanon.specs.declared.command_line.Job.{Job}
 use Rattle.bpfcanon.specs.declared.outcome.Outcome.TheVariants.{TooLong}
 use Rattle.bpfcanon.specs.declared.verb.Verb.{Verb}
-use Rattle.bpfcanon.specs.declared.verb.Verb.TheVariants.{InsnCanon, InsnShow, InsnRead, InsnGroups, InsnSame}
-use Rattle.bpfcanon.specs.Reply.{IsReply, files_too_long, groups_too_long, limit_of, show_too_long, streams, text_too_long}
+use Rattle.bpfcanon.specs.declared.verb.Verb.TheVariants.{InsnCanon, InsnShow, InsnRead, InsnGroups, InsnSame, BtfCanon, BtfShow, BtfCheck, BtfSame}
+use Rattle.bpfcanon.specs.BtfReply as btf
+use Rattle.bpfcanon.specs.Reply.{IsReply, files_too_long, groups_too_long, has_engine, limit_of, show_too_long, streams, text_too_long}
 use Rattle.bpfcanon.specs.Ends.{Change, EndsJob, replied}
 
+-- only an engine writes as it reads
+pub whole_input : (v : Verb) → has_engine v ≡ false → streams v ≡ false
+whole_input InsnCanon whole = cc
+whole_input _ whole = refl
+
 -- the reply to an input that is too long
-too_long_reply : (v : Verb) (j : Job) (input : List ℕ) → streams v ≡ false → limit_of v < length input → IsReply v j input TooLong []
+too_long_reply : (v : Verb) (j : Job) (input : List ℕ) → has_engine v ≡ false → limit_of v < length input → IsReply v j input TooLong []
 too_long_reply InsnCanon j input whole beyond = cc
 too_long_reply InsnShow j input whole beyond = show_too_long beyond
 too_long_reply InsnRead j input whole beyond = text_too_long beyond
 too_long_reply InsnGroups j input whole beyond = groups_too_long beyond
 too_long_reply InsnSame j input whole beyond = files_too_long beyond
+too_long_reply BtfCanon j input whole beyond = cc
+too_long_reply BtfShow j input whole beyond = btf.show_too_long beyond
+too_long_reply BtfCheck j input whole beyond = btf.check_too_long beyond
+too_long_reply BtfSame j input whole beyond = btf.files_too_long beyond
 
 -- more came than the command takes
-pub ends_too_long : (j : Job) (source sink : Change) → streams j.verb ≡ false
+pub ends_too_long : (j : Job) (source sink : Change) → has_engine j.verb ≡ false
     → (bytes : List ℕ) × (Consumes source.old source.new bytes × (limit_of j.verb < length bytes))
     → source.failed_after ≡ source.failed → sink.new ≡ sink.old → sink.failed_after ≡ sink.failed → EndsJob j source sink TooLong
 ends_too_long j source sink whole came healthy same unused =

@@ -20,7 +20,7 @@ reply_with P (Ok x) outcome bytes e f p = rw (e, f) p
 reply_with P (Err x) outcome bytes e f p = tt
 
 -- the bytes after the first n, as a slice to the end has them
-rest-slice : (n : ℕ) (s : List ℕ) → take (length s - n) (drop n s) ≡ drop n s
+pub rest-slice : (n : ℕ) (s : List ℕ) → take (length s - n) (drop n s) ≡ drop n s
 rest-slice n s = take_all (length s - n) (drop n s) (omega (arith, length-drop n s))
 
 pub files_same : (limit : ℕ) (order other : Order) (split : ℕ) (input : List ℕ) → length input ≤ limit → split ≤ length input

@@ -1,6 +1,9 @@
 pub mod Verbs
 pub mod Options
 pub mod Line
+pub mod CauseNames
 pub mod Outcome
+pub mod BtfText
+pub mod BtfReply
 pub mod Reply
 pub mod Ends

@@ -2,13 +2,12 @@
 use Rattle.std.specs.Prelude.{◌≡◌, ◌⊎◌, ◌≤◌, ◌+◌, ◌++◌, ℕ, List, [], ◌∷◌, Option, codes, decimal, length, take}
 use Rattle.std.specs.Io.KnownBytes.{Appends}
 use Rattle.bpf_insn.specs.declared.fault.SlotFault.{SlotFault}
-use Rattle.bpf_insn.specs.declared.fault.SlotCause.{SlotCause}
-use Rattle.bpf_insn.specs.declared.fault.SlotCause.TheVariants as cause
 use Rattle.bpf_text.specs.declared.fault.LineFault.{LineFault}
-use Rattle.bpf_text.specs.declared.fault.LineCause.{LineCause}
-use Rattle.bpf_text.specs.declared.fault.LineCause.TheVariants as line_cause
+use Rattle.btf_raw.specs.declared.cause.BtfFault.{BtfFault}
 use Rattle.bpfcanon.specs.declared.outcome.Outcome.{Outcome}
-use Rattle.bpfcanon.specs.declared.outcome.Outcome.TheVariants.{Done, Different, Fault, FaultyLine, First, Second, TooLong, SplitBeyond, Usage, ReadFailed, WriteFailed, Memory}
+use Rattle.bpfcanon.specs.declared.outcome.Outcome.TheVariants as ends
+use Rattle.bpfcanon.specs.declared.outcome.Outcome.TheVariants.{Done, Different, Fault, FaultyLine, First, Second, FirstBtf, SecondBtf, TooLong, SplitBeyond, Usage, ReadFailed, WriteFailed, Memory}
+use Rattle.bpfcanon.specs.CauseNames.{btf_cause_name, cause_name, line_cause_name}
 
 -- the status with which the program ends
 abbrev pub status_of : Outcome → ℕ
@@ -18,6 +17,9 @@ status_of (Fault f) = 1
 status_of (FaultyLine f) = 1
 status_of (First f) = 1
 status_of (Second f) = 1
+status_of (ends.BtfFault f) = 1
+status_of (FirstBtf f) = 1
+status_of (SecondBtf f) = 1
 status_of TooLong = 1
 status_of SplitBeyond = 1
 status_of Usage = 2
@@ -28,25 +30,15 @@ status_of Memory = 3
 abbrev pub newline : List ℕ
 newline = 10 ∷ []
 
-abbrev pub cause_name : SlotCause → List ℕ
-cause_name cause.Truncated = codes "Truncated"
-cause_name cause.Opcode = codes "Opcode"
-cause_name cause.Dst = codes "Dst"
-cause_name cause.Src = codes "Src"
-cause_name cause.Offset = codes "Offset"
-cause_name cause.Imm = codes "Imm"
-cause_name cause.Reserved = codes "Reserved"
-cause_name cause.NextImm = codes "NextImm"
+-- the line of a fault: which file where there are two, the place and the cause's name
+abbrev pub fault_line : List ℕ → ℕ → List ℕ → List ℕ
+fault_line file place cause = file ++ (codes "fault " ++ (decimal place ++ (codes " " ++ (cause ++ newline))))
 
--- the line of a fault: which file where there are two, the place and the cause
-abbrev pub fault_line : List ℕ → SlotFault → List ℕ
-fault_line file f = file ++ (codes "fault " ++ (decimal f.pos ++ (codes " " ++ (cause_name f.cause ++ newline))))
+abbrev pub slot_fault_line : List ℕ → SlotFault → List ℕ
+slot_fault_line file f = fault_line file f.pos (cause_name f.cause)
 
-abbrev pub line_cause_name : LineCause → List ℕ
-line_cause_name line_cause.Char = codes "Char"
-line_cause_name line_cause.Word = codes "Word"
-line_cause_name line_cause.Shape = codes "Shape"
-line_cause_name line_cause.Range = codes "Range"
+abbrev pub btf_fault_line : List ℕ → BtfFault → List ℕ
+btf_fault_line file f = fault_line file f.pos (btf_cause_name f.cause)
 
 -- the line of a fault of a listing: the number of the faulty line, from 1, and the cause
 abbrev pub faulty_line : LineFault → List ℕ
@@ -56,10 +48,13 @@ faulty_line f = codes "fault line " ++ (decimal f.line ++ (codes " " ++ (line_ca
 abbrev pub line_of : Outcome → List ℕ
 line_of Done = []
 line_of Different = []
-line_of (Fault f) = fault_line [] f
+line_of (Fault f) = slot_fault_line [] f
 line_of (FaultyLine f) = faulty_line f
-line_of (First f) = fault_line (codes "first: ") f
-line_of (Second f) = fault_line (codes "second: ") f
+line_of (First f) = slot_fault_line (codes "first: ") f
+line_of (Second f) = slot_fault_line (codes "second: ") f
+line_of (ends.BtfFault f) = btf_fault_line [] f
+line_of (FirstBtf f) = btf_fault_line (codes "first: ") f
+line_of (SecondBtf f) = btf_fault_line (codes "second: ") f
 line_of TooLong = codes "too long" ++ newline
 line_of SplitBeyond = codes "split beyond input" ++ newline
 line_of Usage =

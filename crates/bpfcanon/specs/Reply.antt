@@ -11,6 +11,7 @@ use Rattle.bpf_insn.specs.Spelling.{InsnFile, file_of}
 use Rattle.bpf_insn.specs.Faults.{IsFront, IsInsnFault}
 use Rattle.bpf_insn.specs.Groups.{InGroups}
 use Rattle.bpf_canon.specs.Run as engine
+use Rattle.bpf_canon.specs.RunBtf.{btf_limit}
 use Rattle.bpf_text.specs.declared.fault.LineFault.{LineFault}
 use Rattle.bpf_text.specs.Lines.{listing_of}
 use Rattle.bpf_text.specs.Listing.{Lists, IsListFault}
@@ -18,21 +19,32 @@ use Rattle.bpfcanon.specs.declared.command_line.Job.{Job}
 use Rattle.bpfcanon.specs.declared.outcome.Outcome.{Outcome}
 use Rattle.bpfcanon.specs.declared.outcome.Outcome.TheVariants.{Done, Different, Fault, FaultyLine, First, Second, TooLong, SplitBeyond}
 use Rattle.bpfcanon.specs.declared.verb.Verb.{Verb}
-use Rattle.bpfcanon.specs.declared.verb.Verb.TheVariants.{InsnCanon, InsnShow, InsnRead, InsnGroups, InsnSame}
+use Rattle.bpfcanon.specs.declared.verb.Verb.TheVariants.{InsnCanon, InsnShow, InsnRead, InsnGroups, InsnSame, BtfCanon, BtfShow, BtfCheck, BtfSame}
 use Rattle.bpfcanon.specs.Outcome.{newline}
+use Rattle.bpfcanon.specs.BtfReply.{IsBtfCanonReply, IsBtfShowReply, IsBtfCheckReply, IsBtfSameReply}
 
--- how many bytes a command takes; insn-canon as many as its engine
+-- how many bytes a command takes; insn-canon and btf-canon as many as their engines
 abbrev pub limit_of : Verb → ℕ
 limit_of InsnCanon = engine.limit
 limit_of InsnShow = 67108864
 limit_of InsnRead = 67108864
 limit_of InsnGroups = 67108864
 limit_of InsnSame = 134217728
+limit_of BtfCanon = btf_limit
+limit_of BtfShow = 50335744
+limit_of BtfCheck = 50335744
+limit_of BtfSame = 100671488
 
 -- whether a command writes as it reads; the others read their input whole
 abbrev pub streams : Verb → Bool
 streams InsnCanon = true
 streams _ = false
+
+-- whether an engine runs a command from its source to its sink
+abbrev pub has_engine : Verb → Bool
+has_engine InsnCanon = true
+has_engine BtfCanon = true
+has_engine _ = false
 
 -- ---- insn-canon
 
@@ -116,6 +128,10 @@ IsReply InsnShow j input outcome output = IsShowReply (limit_of InsnShow) j.orde
 IsReply InsnRead j input outcome output = IsReadReply (limit_of InsnRead) j.to input outcome output
 IsReply InsnGroups j input outcome output = IsGroupsReply (limit_of InsnGroups) j.order input outcome output
 IsReply InsnSame j input outcome output = IsSameReply (limit_of InsnSame) j.order j.other j.split input outcome output
+IsReply BtfCanon j input outcome output = IsBtfCanonReply (limit_of BtfCanon) j.to input outcome output
+IsReply BtfShow j input outcome output = IsBtfShowReply (limit_of BtfShow) input outcome output
+IsReply BtfCheck j input outcome output = IsBtfCheckReply (limit_of BtfCheck) input outcome output
+IsReply BtfSame j input outcome output = IsBtfSameReply (limit_of BtfSame) j.split input outcome output
 
 -- the answer comes before the input's end, whatever comes after what was read
 abbrev pub IsEarly : Verb → Job → List ℕ → Type 0

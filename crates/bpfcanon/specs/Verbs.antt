@@ -2,12 +2,12 @@
 use Rattle.std.specs.Prelude.{◌≡◌, Bool, true, false, List, [], ◌∷◌, codes, filter}
 use Rattle.clap.specs.Words.{Text}
 use Rattle.bpfcanon.specs.declared.verb.Verb.{Verb}
-use Rattle.bpfcanon.specs.declared.verb.Verb.TheVariants.{InsnCanon, InsnShow, InsnRead, InsnGroups, InsnSame}
+use Rattle.bpfcanon.specs.declared.verb.Verb.TheVariants.{InsnCanon, InsnShow, InsnRead, InsnGroups, InsnSame, BtfCanon, BtfShow, BtfCheck, BtfSame}
 use Rattle.bpfcanon.specs.declared.verb.Setting.{Setting}
 use Rattle.bpfcanon.specs.declared.verb.Setting.TheVariants.{Order, To, Other, Split}
 
 abbrev pub all_verbs : List Verb
-all_verbs = InsnCanon ∷ InsnShow ∷ InsnRead ∷ InsnGroups ∷ InsnSame ∷ []
+all_verbs = InsnCanon ∷ InsnShow ∷ InsnRead ∷ InsnGroups ∷ InsnSame ∷ BtfCanon ∷ BtfShow ∷ BtfCheck ∷ BtfSame ∷ []
 
 -- the word that names a command
 abbrev pub name_of : Verb → Text
@@ -16,6 +16,10 @@ name_of InsnShow = codes "insn-show"
 name_of InsnRead = codes "insn-read"
 name_of InsnGroups = codes "insn-groups"
 name_of InsnSame = codes "insn-same"
+name_of BtfCanon = codes "btf-canon"
+name_of BtfShow = codes "btf-show"
+name_of BtfCheck = codes "btf-check"
+name_of BtfSame = codes "btf-same"
 
 abbrev pub all_settings : List Setting
 all_settings = Order ∷ To ∷ Other ∷ Split ∷ []
@@ -37,6 +41,8 @@ takes_setting InsnGroups Order = true
 takes_setting InsnSame Order = true
 takes_setting InsnSame Other = true
 takes_setting InsnSame Split = true
+takes_setting BtfCanon To = true
+takes_setting BtfSame Split = true
 takes_setting _ _ = false
 
 -- the options that a command takes

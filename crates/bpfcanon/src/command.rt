@@ -5,8 +5,9 @@ ghost use Rattle.bpfcanon.specs.declared.outcome.Outcome.{Outcome};
 ghost use Rattle.bpfcanon.specs.declared.verb.Verb.TheVariants.{InsnCanon};
 ghost use Rattle.bpfcanon.specs.Ends.{Ends, EndsJob, change};
 ghost use Rattle.bpfcanon.specs.Outcome.{Tells, line_of, status_of};
-ghost use Rattle.bpfcanon.specs.Reply.{limit_of, streams};
+ghost use Rattle.bpfcanon.specs.Reply.{has_engine, limit_of};
 
+use crate::btf_canon::run_btf_canon;
 use crate::command_line::{Job, LineError, parse_line};
 use crate::outcome::{Outcome, put_line};
 use crate::reply::reply_to;
@@ -39,14 +40,14 @@ fn run_canon<S: ByteSource, W: ByteSink>(
     }
 }
 
-/// Runs a command that reads its input whole.
+/// Runs a command that no engine runs: it reads its input whole, and answers once.
 fn run_whole<S: ByteSource, W: ByteSink>(
     alloc: Global,
     job: Job,
     source: &mut S,
     sink: &mut W,
 ) -> Outcome
-    requires whole { streams job.verb ≡ false }
+    requires whole { has_engine job.verb ≡ false }
     requires source { S.failures source.old < u64.MAX }
     requires sink { W.failures sink.old < u64.MAX }
     ensures { EndsJob job (change (S.remaining source.old) (S.remaining source.new) (S.failures source.old) (S.failures source.new))
@@ -82,9 +83,14 @@ fn run_job<S: ByteSource, W: ByteSink>(
 {
     match job.verb {
         Verb::InsnCanon => run_canon(alloc, job, source, sink),
-        Verb::InsnShow | Verb::InsnRead | Verb::InsnGroups | Verb::InsnSame => {
-            run_whole(alloc, job, source, sink)
-        }
+        Verb::BtfCanon => run_btf_canon(alloc, job, source, sink),
+        Verb::InsnShow
+        | Verb::InsnRead
+        | Verb::InsnGroups
+        | Verb::InsnSame
+        | Verb::BtfShow
+        | Verb::BtfCheck
+        | Verb::BtfSame => run_whole(alloc, job, source, sink),
     }
 }
 

@@ -1,22 +1,33 @@
 //! Reads, lists and normalises eBPF instructions and BTF, over the standard streams.
 #![tactic(auto)]
 
-ghost use Rattle.std.specs.Prelude.{◌≡◌, ◌<◌, ◌++◌, codes};
+ghost use Rattle.std.specs.Prelude.{◌≡◌, ◌<◌, ◌++◌, codes, length, map, string_bytes};
 ghost use Rattle.std.specs.Process.{exit_status};
-ghost use Rattle.bpfcanon.specs.Outcome.{Tells, newline};
+ghost use Rattle.bpfcanon.specs.declared.outcome.Outcome.{Outcome};
+ghost use Rattle.bpfcanon.specs.Ends.{Ends, change};
+ghost use Rattle.bpfcanon.specs.Outcome.{Tells, line_of, newline, status_of};
 
+mod btf_canon;
+mod btf_cause;
+mod btf_check;
+mod btf_lines;
+mod btf_listing;
+mod btf_same;
+mod btf_text;
 mod command;
 mod command_line;
 mod groups;
 mod listings;
 mod options;
 mod outcome;
+mod quoted_name;
 mod reply;
 mod same;
 mod verb;
 
-use bpf_canon::{ByteSink, ReaderSource, WriterSink};
+use bpf_canon::{ByteSink, ByteSource, ReaderSource, WriterSink};
 use outcome::put_text;
+use std::alloc::Global;
 use std::env;
 use std::process::ExitCode;
 
@@ -28,6 +39,27 @@ fn no_words<E: ByteSink>(faults: &mut E) -> ExitCode
 {
     put_text(faults, b"no words\n");
     ExitCode::from(3)
+}
+
+/// Runs a command line, and gives the status with which the process ends.
+fn run_words<S: ByteSource, W: ByteSink, E: ByteSink>(
+    alloc: Global,
+    words: &[String],
+    source: &mut S,
+    sink: &mut W,
+    faults: &mut E,
+) -> ExitCode
+    requires words { 0 < length words.now }
+    requires source { S.failures source.old < u64.MAX }
+    requires sink { W.failures sink.old < u64.MAX }
+    requires faults { E.failures faults.old < u64.MAX }
+    ensures { (outcome : Outcome) × ((exit_status result ≡ status_of outcome)
+        × Tells (E.contents faults.old) (E.contents faults.new) (E.failures faults.old) (E.failures faults.new) (line_of outcome)
+        × Ends (map string_bytes words.now)
+        (change (S.remaining source.old) (S.remaining source.new) (S.failures source.old) (S.failures source.new))
+        (change (W.contents sink.old) (W.contents sink.new) (W.failures sink.old) (W.failures sink.new)) outcome) }
+{
+    ExitCode::from(command::command(alloc, words, source, sink, faults))
 }
 
 /// Runs the command line of the process. Where its words can't be had or there are none, it writes
@@ -47,7 +79,7 @@ fn main(rt: HostRuntime) -> ExitCode {
     }
     let mut source = ReaderSource::new(rt.stdin());
     let mut sink = WriterSink::new(rt.stdout());
-    ExitCode::from(command::command(alloc, words.as_slice(), &mut source, &mut sink, &mut faults))
+    run_words(alloc, words.as_slice(), &mut source, &mut sink, &mut faults)
 }
 
 #[cfg(test)]

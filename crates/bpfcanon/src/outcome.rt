@@ -2,11 +2,14 @@
 
 ghost use Rattle.std.specs.Prelude.{◌≡◌, ◌<◌};
 ghost use Rattle.std.specs.List.{flat_map};
-ghost use Rattle.bpfcanon.specs.Outcome.{Tells, cause_name, fault_line, faulty_line, line_cause_name, line_of, status_of};
+ghost use Rattle.bpfcanon.specs.CauseNames.{cause_name, line_cause_name};
+ghost use Rattle.bpfcanon.specs.Outcome.{Tells, btf_fault_line, fault_line, faulty_line, line_of, slot_fault_line, status_of};
 
+use crate::btf_cause::btf_cause_name;
 use bpf_canon::{ByteSink, put_all};
 use bpf_insn::{SlotCause, SlotFault};
 use bpf_text::{LineCause, LineFault};
+use btf_raw::BtfFault;
 use itoa::Buffer;
 
 /// How a command ends.
@@ -24,6 +27,12 @@ pub enum Outcome {
     First(SlotFault),
     /// The second of two files has a fault, and the first has none.
     Second(SlotFault),
+    /// The input has a fault as BTF.
+    BtfFault(BtfFault),
+    /// The first of two BTF files has a fault.
+    FirstBtf(BtfFault),
+    /// The second of two BTF files has a fault, and the first has none.
+    SecondBtf(BtfFault),
     /// More bytes came than the command takes.
     TooLong,
     /// The first of two files is said to be longer than the input.
@@ -50,6 +59,9 @@ impl Outcome {
             | Outcome::FaultyLine(_)
             | Outcome::First(_)
             | Outcome::Second(_)
+            | Outcome::BtfFault(_)
+            | Outcome::FirstBtf(_)
+            | Outcome::SecondBtf(_)
             | Outcome::TooLong
             | Outcome::SplitBeyond => 1,
             Outcome::Usage => 2,
@@ -95,14 +107,28 @@ pub fn put_text<E: ByteSink>(faults: &mut E, line: &[u8])
 }
 
 /// Writes the line of a fault, after the name of the file where there are two.
-fn put_fault<E: ByteSink>(faults: &mut E, file: &'static [u8], fault: SlotFault)
+fn put_fault<E: ByteSink>(faults: &mut E, file: &'static [u8], place: u64, cause: &'static [u8])
     requires { E.failures faults.old < u64.MAX }
-    ensures { Tells (E.contents faults.old) (E.contents faults.new) (E.failures faults.old) (E.failures faults.new) (fault_line file.now fault) }
+    ensures { Tells (E.contents faults.old) (E.contents faults.new) (E.failures faults.old) (E.failures faults.new) (fault_line file.now place cause.now) }
 {
     let mut buffer = Buffer::new();
-    let place = buffer.format(fault.pos).as_bytes();
-    let parts: [&[u8]; 6] = [file, b"fault ", place, b" ", cause_name(fault.cause), b"\n"];
+    let digits = buffer.format(place).as_bytes();
+    let parts: [&[u8]; 6] = [file, b"fault ", digits, b" ", cause, b"\n"];
     put_parts(faults, parts.as_slice());
+}
+
+fn put_slot_fault<E: ByteSink>(faults: &mut E, file: &'static [u8], fault: SlotFault)
+    requires { E.failures faults.old < u64.MAX }
+    ensures { Tells (E.contents faults.old) (E.contents faults.new) (E.failures faults.old) (E.failures faults.new) (slot_fault_line file.now fault) }
+{
+    put_fault(faults, file, fault.pos, cause_name(fault.cause));
+}
+
+fn put_btf_fault<E: ByteSink>(faults: &mut E, file: &'static [u8], fault: BtfFault)
+    requires { E.failures faults.old < u64.MAX }
+    ensures { Tells (E.contents faults.old) (E.contents faults.new) (E.failures faults.old) (E.failures faults.new) (btf_fault_line file.now fault) }
+{
+    put_fault(faults, file, fault.pos, btf_cause_name(fault.cause));
 }
 
 /// The name of a cause of a listing's fault.
@@ -142,10 +168,13 @@ pub fn put_line<E: ByteSink>(faults: &mut E, outcome: Outcome)
 {
     match outcome {
         Outcome::Done | Outcome::Different => {}
-        Outcome::Fault(fault) => put_fault(faults, b"", fault),
+        Outcome::Fault(fault) => put_slot_fault(faults, b"", fault),
         Outcome::FaultyLine(fault) => put_faulty_line(faults, fault),
-        Outcome::First(fault) => put_fault(faults, b"first: ", fault),
-        Outcome::Second(fault) => put_fault(faults, b"second: ", fault),
+        Outcome::First(fault) => put_slot_fault(faults, b"first: ", fault),
+        Outcome::Second(fault) => put_slot_fault(faults, b"second: ", fault),
+        Outcome::BtfFault(fault) => put_btf_fault(faults, b"", fault),
+        Outcome::FirstBtf(fault) => put_btf_fault(faults, b"first: ", fault),
+        Outcome::SecondBtf(fault) => put_btf_fault(faults, b"second: ", fault),
         Outcome::TooLong => put_text(faults, b"too long\n"),
         Outcome::SplitBeyond => put_text(faults, b"split beyond input\n"),
         Outcome::Usage => put_text(

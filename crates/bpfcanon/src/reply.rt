@@ -1,8 +1,11 @@
 //! What a command answers that reads its input whole.
 
 ghost use Rattle.std.specs.Prelude.{◌≡◌, ◌≤◌, [], false, length, IfOk};
-ghost use Rattle.bpfcanon.specs.Reply.{IsReply, limit_of, streams};
+ghost use Rattle.bpfcanon.specs.Reply.{IsReply, has_engine, limit_of};
 
+use crate::btf_check::check_reply;
+use crate::btf_listing::btf_show_reply;
+use crate::btf_same::btf_same_reply;
 use crate::command_line::Job;
 use crate::groups::groups_reply;
 use crate::listings::{read_reply, show_reply};
@@ -44,17 +47,20 @@ impl Reply {
     }
 }
 
-/// The reply of a command to its whole input.
+/// The reply of a command that no engine runs to its whole input.
 pub fn reply_to(alloc: Global, job: Job, input: &[u8]) -> Result<Reply, AllocError>
-    requires whole { streams job.verb ≡ false }
+    requires whole { has_engine job.verb ≡ false }
     requires within { length input.now ≤ limit_of job.verb }
     ensures { IfOk result (λ r. IsReply job.verb job input.now r.outcome r.output.items) }
 {
     match job.verb {
-        Verb::InsnCanon => unreachable!(),
+        Verb::InsnCanon | Verb::BtfCanon => unreachable!(),
         Verb::InsnShow => show_reply(alloc, job.order, input),
         Verb::InsnRead => read_reply(alloc, job.to, input),
         Verb::InsnGroups => groups_reply(alloc, job.order, input),
         Verb::InsnSame => same_reply(alloc, job, input),
+        Verb::BtfShow => btf_show_reply(alloc, input),
+        Verb::BtfCheck => check_reply(alloc, input),
+        Verb::BtfSame => btf_same_reply(alloc, job.split, input),
     }
 }

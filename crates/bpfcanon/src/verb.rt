@@ -18,6 +18,14 @@ pub enum Verb {
     InsnGroups,
     /// `insn-same`: tells whether two files have the same instructions.
     InsnSame,
+    /// `btf-canon`: writes the canonical bytes of BTF, in the order `--to`.
+    BtfCanon,
+    /// `btf-show`: lists the types of BTF.
+    BtfShow,
+    /// `btf-check`: tells how many types BTF has.
+    BtfCheck,
+    /// `btf-same`: tells whether two BTF files have the same types.
+    BtfSame,
 }
 
 /// An option of a command.
@@ -34,12 +42,16 @@ pub enum Setting {
 }
 
 /// All commands.
-pub const VERBS: [Verb; 5] = [
+pub const VERBS: [Verb; 9] = [
     Verb::InsnCanon,
     Verb::InsnShow,
     Verb::InsnRead,
     Verb::InsnGroups,
     Verb::InsnSame,
+    Verb::BtfCanon,
+    Verb::BtfShow,
+    Verb::BtfCheck,
+    Verb::BtfSame,
 ];
 
 /// All options.
@@ -56,6 +68,10 @@ impl Verb {
             Verb::InsnRead => "insn-read",
             Verb::InsnGroups => "insn-groups",
             Verb::InsnSame => "insn-same",
+            Verb::BtfCanon => "btf-canon",
+            Verb::BtfShow => "btf-show",
+            Verb::BtfCheck => "btf-check",
+            Verb::BtfSame => "btf-same",
         }
     }
 
@@ -70,6 +86,10 @@ impl Verb {
             "insn-read" => Some(Verb::InsnRead),
             "insn-groups" => Some(Verb::InsnGroups),
             "insn-same" => Some(Verb::InsnSame),
+            "btf-canon" => Some(Verb::BtfCanon),
+            "btf-show" => Some(Verb::BtfShow),
+            "btf-check" => Some(Verb::BtfCheck),
+            "btf-same" => Some(Verb::BtfSame),
             _ => None,
         }
     }
@@ -81,8 +101,10 @@ impl Verb {
         match self {
             Verb::InsnCanon => matches!(setting, Setting::Order | Setting::To),
             Verb::InsnShow | Verb::InsnGroups => matches!(setting, Setting::Order),
-            Verb::InsnRead => matches!(setting, Setting::To),
+            Verb::InsnRead | Verb::BtfCanon => matches!(setting, Setting::To),
             Verb::InsnSame => matches!(setting, Setting::Order | Setting::Other | Setting::Split),
+            Verb::BtfShow | Verb::BtfCheck => false,
+            Verb::BtfSame => matches!(setting, Setting::Split),
         }
     }
 
@@ -93,6 +115,8 @@ impl Verb {
         match self {
             Verb::InsnCanon | Verb::InsnShow | Verb::InsnRead | Verb::InsnGroups => 67_108_864,
             Verb::InsnSame => 134_217_728,
+            Verb::BtfCanon | Verb::BtfShow | Verb::BtfCheck => 50_335_744,
+            Verb::BtfSame => 100_671_488,
         }
     }
 }

@@ -1,5 +1,6 @@
 //! Devices that fail at each of their calls in turn.
 
+use super::btf_files::{BIG_INT, INT, NO_TYPES, STRUCT};
 use super::running::{Pace, run, steady};
 use std::test::Fail;
 
@@ -13,7 +14,7 @@ struct Sample {
 
 const INSNS: &[u8] = b"\x37\x01\x01\0\x03\0\0\0\xdb\x21\xf8\xff\xf1\0\0\0\x95\0\0\0\0\0\0\0";
 
-fn samples() -> [Sample; 3] {
+fn samples() -> [Sample; 7] {
     [
         Sample {
             line: "insn-canon",
@@ -28,6 +29,26 @@ fn samples() -> [Sample; 3] {
         Sample {
             line: "insn-same --split 0",
             input: b"",
+            output: b"same\n",
+        },
+        Sample {
+            line: "btf-canon",
+            input: BIG_INT,
+            output: INT,
+        },
+        Sample {
+            line: "btf-show",
+            input: STRUCT,
+            output: b"[1] int \"int\" size=4 encoding=signed offset=0 bits=32\n[2] struct \"s\" size=4 items=1\n  member \"a\" type=1 offset=0 width=0\n",
+        },
+        Sample {
+            line: "btf-check",
+            input: NO_TYPES,
+            output: b"ok 0 types\n",
+        },
+        Sample {
+            line: "btf-same --split 25",
+            input: b"\x9f\xeb\x01\0\x18\0\0\0\0\0\0\0\0\0\0\0\0\0\0\0\x01\0\0\0\0\x9f\xeb\x01\0\x18\0\0\0\0\0\0\0\0\0\0\0\0\0\0\0\x01\0\0\0\0",
             output: b"same\n",
         },
     ]

@@ -1,58 +1,7 @@
 //! Inputs, and what the commands have to answer to them.
 
-use super::running::{Pace, run, steady};
-use std::alloc::Global;
-use std::process::Abort;
+use super::running::{Example, check, done, refused, steady};
 use std::test::Fail;
-
-/// A command line, its input, and what it has to answer.
-#[derive(Clone, Copy)]
-struct Example {
-    line: &'static str,
-    input: &'static [u8],
-    status: u8,
-    output: &'static [u8],
-    faults: &'static [u8],
-}
-
-fn done(line: &'static str, input: &'static [u8], output: &'static [u8]) -> Example {
-    Example {
-        line,
-        input,
-        status: 0,
-        output,
-        faults: b"",
-    }
-}
-
-/// An input that is refused before anything is written.
-fn refused(line: &'static str, input: &'static [u8], faults: &'static [u8]) -> Example {
-    Example {
-        line,
-        input,
-        status: 1,
-        output: b"",
-        faults,
-    }
-}
-
-fn check(rt: &impl Abort, alloc: Global, example: Example, pace: Pace) -> Result<(), Fail> {
-    let line = example.line;
-    let input = example.input;
-    let ran = run(alloc, line, input, pace)?;
-    assert_eq!(rt; ran.status, example.status, "{line} on {input:?}");
-    assert_eq!(rt;
-        ran.output.as_slice(),
-        example.output,
-        "{line} on {input:?}"
-    );
-    assert_eq!(rt;
-        ran.faults.as_slice(),
-        example.faults,
-        "{line} on {input:?}"
-    );
-    Ok(())
-}
 
 const EXIT: &[u8] = b"\x95\0\0\0\0\0\0\0";
 

@@ -57,6 +57,36 @@ fn reads_lines(rt: HostRuntime) -> Result<(), Fail> {
                 ..same
             },
         ),
+        (
+            "btf-canon --to big",
+            Job {
+                verb: Verb::BtfCanon,
+                to: Order::Big,
+                ..CANON
+            },
+        ),
+        (
+            "btf-show",
+            Job {
+                verb: Verb::BtfShow,
+                ..CANON
+            },
+        ),
+        (
+            "btf-check",
+            Job {
+                verb: Verb::BtfCheck,
+                ..CANON
+            },
+        ),
+        (
+            "btf-same --split=45",
+            Job {
+                verb: Verb::BtfSame,
+                split: 45,
+                ..CANON
+            },
+        ),
     ];
     for (line, job) in cases {
         assert_eq!(rt; read(rt.alloc(), line)?, Ok(job), "{line}");
@@ -76,6 +106,15 @@ fn refuses_lines(rt: HostRuntime) -> Result<(), Fail> {
         "insn-same --split 134217729",
         "insn-same --split x",
         "insn-same --split -1",
+        "btf-nothing",
+        "btf-canon --order big",
+        "btf-canon --to middle",
+        "btf-show --to big",
+        "btf-check --order little",
+        "btf-same",
+        "btf-same --split 134217729",
+        "btf-same --split 45 --order big",
+        "btf-same --split 45 --other big",
         "--help",
         "-h",
         "help",

@@ -1,8 +1,10 @@
-//! Runs the command over memory.
+//! Runs the command over memory, and compares what it answers.
 
 use crate::command::command;
 use bpf_canon::{MemSink, MemSource};
 use std::alloc::{AllocError, Global};
+use std::process::Abort;
+use std::test::Fail;
 
 /// How the devices give and take: how many bytes a call moves at most, and which call fails first,
 /// counted from 1.
@@ -66,4 +68,55 @@ pub fn run(alloc: Global, line: &str, input: &[u8], pace: Pace) -> Result<Ran, A
         output,
         faults,
     })
+}
+
+/// A command line, its input, and what it has to answer.
+#[derive(Clone, Copy)]
+pub struct Example {
+    pub line: &'static str,
+    pub input: &'static [u8],
+    pub status: u8,
+    pub output: &'static [u8],
+    pub faults: &'static [u8],
+}
+
+/// An input that is answered without a fault.
+pub fn done(line: &'static str, input: &'static [u8], output: &'static [u8]) -> Example {
+    Example {
+        line,
+        input,
+        status: 0,
+        output,
+        faults: b"",
+    }
+}
+
+/// An input that is refused before anything is written.
+pub fn refused(line: &'static str, input: &'static [u8], faults: &'static [u8]) -> Example {
+    Example {
+        line,
+        input,
+        status: 1,
+        output: b"",
+        faults,
+    }
+}
+
+/// Runs an example, and compares what came.
+pub fn check(rt: &impl Abort, alloc: Global, example: Example, pace: Pace) -> Result<(), Fail> {
+    let line = example.line;
+    let input = example.input;
+    let ran = run(alloc, line, input, pace)?;
+    assert_eq!(rt; ran.status, example.status, "{line} on {input:?}");
+    assert_eq!(rt;
+        ran.output.as_slice(),
+        example.output,
+        "{line} on {input:?}"
+    );
+    assert_eq!(rt;
+        ran.faults.as_slice(),
+        example.faults,
+        "{line} on {input:?}"
+    );
+    Ok(())
 }

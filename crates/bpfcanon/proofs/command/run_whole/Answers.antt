@@ -1,6 +1,6 @@
 use Rattle.std.proofs.Common.{◌∙◌, add-zero, inl, inr, refl}
 use Rattle.bpfcanon.specs.Ends.{no_memory, read_failed, replied, write_failed}
-use Rattle.bpfcanon.proofs.CommandLemmas.{ends_too_long}
+use Rattle.bpfcanon.proofs.CommandLemmas.{ends_too_long, whole_input}
 use Rattle.bpfcanon.proofs.command.run_whole.Goals as goal
 
 pub returns-in-Err-TooLong : goal.returns-in-Err-TooLong
@@ -13,17 +13,17 @@ pub returns-in-Err-ReadFailed : goal.returns-in-Err-ReadFailed
 returns-in-Err-ReadFailed g c =
     let failed = rw c.in-Err-ReadFailed.field-0-is at c.in-Err-ReadFailed.ensures.count in
     let came = rw (c.in-Err-ReadFailed.field-0-is, c.limit.ensures) at c.in-Err-ReadFailed.ensures.amid in
-    read_failed came.0 c.requires.whole failed (refl, refl) came.1.0 came.1.1
+    read_failed came.0 (whole_input _ c.requires.whole) failed (refl, refl) came.1.0 came.1.1
 
 pub returns-in-Err-Memory : goal.returns-in-Err-Memory
 returns-in-Err-Memory g c =
     let healthy = rw c.in-Err-Memory.field-0-is at c.in-Err-Memory.ensures.count in
     let came = c.in-Err-Memory.ensures.amid in
-    no_memory came.0 c.requires.whole (healthy ∙ add-zero _) (refl, refl) came.1.0
+    no_memory came.0 (whole_input _ c.requires.whole) (healthy ∙ add-zero _) (refl, refl) came.1.0
 
 pub returns-in-Err : goal.returns-in-Err
 returns-in-Err g c =
-    no_memory c.in-Ok.input.items c.requires.whole c.in-Ok.ensures.healthy (refl, refl) c.in-Ok.ensures.came
+    no_memory c.in-Ok.input.items (whole_input _ c.requires.whole) c.in-Ok.ensures.healthy (refl, refl) c.in-Ok.ensures.came
 
 pub returns-in-Ok-put_all : goal.returns-in-Ok-put_all
 returns-in-Ok-put_all g c =
@@ -37,5 +37,5 @@ returns g c =
     let reply = rw c.as_slice.ensures.value at c.in-Ok-reply_to.ensures in
     let took = rw c.as_slice-2.ensures.value at c.in-Err-put_all.ensures.taken in
     write_failed c.in-Ok.input.items c.in-Ok-reply_to.reply.outcome c.in-Ok-reply_to.reply.output.items c.in-Err-put_all.field-0
-    c.requires.whole c.in-Ok.ensures.healthy c.in-Err-put_all.ensures.count c.in-Ok.ensures.came (inr (inl c.in-Ok.ensures.end))
+    (whole_input _ c.requires.whole) c.in-Ok.ensures.healthy c.in-Err-put_all.ensures.count c.in-Ok.ensures.came (inr (inl c.in-Ok.ensures.end))
     reply took.0 took.1

@@ -1,0 +1,13 @@
+use Rattle.std.proofs.Common.{ℕ, List, ◌++◌, ap, ◌∙◌}
+use Rattle.btf_types.specs.Values.{item_value}
+use Rattle.btf_types.specs.TableWords.{record_at}
+use Rattle.bpfcanon.specs.BtfText.{item_line}
+use Rattle.bpfcanon.proofs.BtfTextLemmas.{item_shown}
+use Rattle.bpfcanon.proofs.btf_text.append_items.Goals as goal
+
+pub loop-k-preserved : goal.loop-k-preserved
+loop-k-preserved g c =
+    let items = (record_at (g.T.TypeTable.meaning c.args.table.now) c.args.id).items in
+    c.in_ok-append_item.ensures
+    ∙ ap (λ (t : List ℕ). t ++ item_line c.args.signed (item_value c.item.result)) c.loop-k.invariant
+    ∙ item_shown c.args.text.now.items c.args.signed items c.loop-k.k (item_value c.item.result) c.item.ensures

@@ -1,0 +1,35 @@
+//! The command `btf-canon`.
+
+ghost use Rattle.std.specs.Prelude.{◌≡◌, ◌<◌};
+ghost use Rattle.bpfcanon.specs.declared.verb.Verb.TheVariants.{BtfCanon};
+ghost use Rattle.bpfcanon.specs.Ends.{EndsJob, change};
+
+use crate::command_line::Job;
+use crate::outcome::Outcome;
+use bpf_canon::{ByteSink, ByteSource, RunCause, run_btf};
+use std::alloc::Global;
+
+/// Runs `btf-canon`, which writes once it has read its input whole.
+pub fn run_btf_canon<S: ByteSource, W: ByteSink>(
+    alloc: Global,
+    job: Job,
+    source: &mut S,
+    sink: &mut W,
+) -> Outcome
+    requires canon { job.verb ≡ BtfCanon }
+    requires source { S.failures source.old < u64.MAX }
+    requires sink { W.failures sink.old < u64.MAX }
+    ensures { EndsJob job (change (S.remaining source.old) (S.remaining source.new) (S.failures source.old) (S.failures source.new))
+        (change (W.contents sink.old) (W.contents sink.new) (W.failures sink.old) (W.failures sink.new)) result }
+{
+    match run_btf(alloc, source, sink, job.to) {
+        Ok(_) => Outcome::Done,
+        Err(error) => match error.cause {
+            RunCause::Fault(fault) => Outcome::BtfFault(fault),
+            RunCause::TooLong => Outcome::TooLong,
+            RunCause::ReadFailed => Outcome::ReadFailed,
+            RunCause::WriteFailed => Outcome::WriteFailed,
+            RunCause::Memory => Outcome::Memory,
+        },
+    }
+}
