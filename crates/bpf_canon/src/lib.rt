@@ -46,4 +46,6 @@ pub use write::write_insns;
 #[cfg(test)]
 mod compiled_programs;
 #[cfg(test)]
+mod compiled_types;
+#[cfg(test)]
 mod tests;
