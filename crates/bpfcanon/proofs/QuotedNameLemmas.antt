@@ -1,7 +1,7 @@
 -- Names that are appended by runs of plain bytes.
-use Rattle.std.proofs.Common.{◌≡◌, ℕ, suc, ◌+◌, ◌-◌, ◌<◌, ◌≤◌, List, [], ◌∷◌, ◌++◌, length, take, drop, get_or, refl, sym, ap, ◌∙◌, arith, append_assoc, append-nil, length-take, length-drop}
+use Rattle.std.proofs.Common.{◌≡◌, ℕ, suc, ◌+◌, ◌-◌, ◌<◌, ◌≤◌, List, [], ◌∷◌, ◌++◌, length, take, drop, get_or, sym, ap, ◌∙◌, arith, append_assoc, append-nil, length-take}
 use Rattle.std.specs.List.{flat_map}
-use Rattle.std.proofs.lemmas.List.{flat_map_more, drop-append-le, drop-take, length-take-le, drop_all}
+use Rattle.std.proofs.lemmas.List.{flat_map_more, drop-append-le, drop-take, drop_all}
 use Rattle.std.proofs.Math.Seq.{take-suc}
 use Rattle.bpfcanon.specs.BtfText.{quoted_byte}
 

@@ -1,6 +1,6 @@
 -- The text of BTF types: a line for each type, and behind it a line for each of its items. It is meant for values in the
 -- ranges of their types: std writes numbers of up to 64 digits.
-use Rattle.std.specs.Prelude.{ℕ, ◌+◌, ◌/◌, ◌%◌, Bool, true, false, List, [], ◌∷◌, ◌++◌, Option, Some, None, codes, decimal, length, nat_lt, if◌then◌else◌, ◌==◌, ◌||◌}
+use Rattle.std.specs.Prelude.{ℕ, ◌/◌, ◌%◌, Bool, false, List, [], ◌∷◌, ◌++◌, Option, Some, None, codes, decimal, length, nat_lt, if◌then◌else◌, ◌==◌, ◌||◌}
 use Rattle.std.specs.Char.{digit_char}
 use Rattle.std.specs.Fmt.{signed_decimal}
 use Rattle.std.specs.Int.{Width, w32, w64, cast_signed}

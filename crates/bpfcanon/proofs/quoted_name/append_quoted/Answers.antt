@@ -1,4 +1,4 @@
-use Rattle.std.proofs.Common.{◌≡◌, ◌++◌, List, ℕ, [], ◌∷◌, arith, refl, sym, ◌∙◌}
+use Rattle.std.proofs.Common.{◌++◌, [], ◌∷◌, arith, refl}
 use Rattle.bpfcanon.proofs.QuotedNameLemmas.{run_ended, run_longer}
 use Rattle.bpfcanon.proofs.quoted_name.append_quoted.Goals as goal
 use Rattle.bpfcanon.proofs.quoted_name.append_quoted.Goals.{then-not-is_plain+in_ok-extend_from_slice-2+in_ok-append_byte, else-not-is_plain}
