@@ -5,6 +5,8 @@ ghost use Rattle.bpfcanon.specs.declared.verb.Verb.{Verb};
 ghost use Rattle.bpfcanon.specs.Reply.{limit_of};
 ghost use Rattle.bpfcanon.specs.Verbs.{name_of, setting_name, takes_setting};
 
+use bpf_canon::{BTF_LIMIT, INSN_LIMIT};
+
 /// A command of the program.
 #[derive(Clone, Copy, Debug, PartialEq, Eq)]
 pub enum Verb {
@@ -108,15 +110,15 @@ impl Verb {
         }
     }
 
-    /// How many bytes the command takes at most.
+    /// How many bytes the command takes at most: as many as the engines, and twice as many for two files.
     pub fn limit(self) -> u64
         ensures { result ≡ limit_of self }
     {
         match self {
-            Verb::InsnCanon | Verb::InsnShow | Verb::InsnRead | Verb::InsnGroups => 67_108_864,
-            Verb::InsnSame => 134_217_728,
-            Verb::BtfCanon | Verb::BtfShow | Verb::BtfCheck => 50_335_744,
-            Verb::BtfSame => 100_671_488,
+            Verb::InsnCanon | Verb::InsnShow | Verb::InsnRead | Verb::InsnGroups => INSN_LIMIT,
+            Verb::InsnSame => 2 * INSN_LIMIT,
+            Verb::BtfCanon | Verb::BtfShow | Verb::BtfCheck => BTF_LIMIT,
+            Verb::BtfSame => 2 * BTF_LIMIT,
         }
     }
 }
