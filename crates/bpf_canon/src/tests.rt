@@ -6,6 +6,7 @@ mod devices;
 mod feed;
 mod files;
 mod limit;
+mod long_names;
 mod refused;
 mod refused_btf;
 mod room;
