@@ -18,11 +18,30 @@ use std::hash::{BuildHasherDefault, FoldHasher};
 /// The host of each name, by name.
 pub(crate) type HostMap<'a, A> = IndexMap<&'a str, &'a str, BuildHasherDefault<FoldHasher>, A>;
 
+// How many bytes are compared at once. Few names are as long as this.
+const BLOCK: usize = 64;
+
+// Both texts without the blocks at their ends in which they agree.
+fn without_equal_ends<'a>(a: &'a [u8], b: &'a [u8]) -> (&'a [u8], &'a [u8])
+    ensures { tail_cmp result.0.now result.1.now ≡ tail_cmp a.now b.now }
+{
+    let (mut first, mut second) = (a, b);
+    'ends: while let Some((first_front, first_end)) = first.split_last_chunk::<BLOCK>()
+        && let Some((second_front, second_end)) = second.split_last_chunk::<BLOCK>()
+        && first_end == second_end
+    {
+        first = first_front;
+        second = second_front;
+    }
+    (first, second)
+}
+
 // Compares two texts by their bytes from the end.
 fn compare_tails(a: &str, b: &str) -> Ordering
     ensures { result ≡ tail_cmp a.now b.now }
 {
-    a.as_bytes().iter().rev().cmp(b.as_bytes().iter().rev())
+    let (a, b) = without_equal_ends(a.as_bytes(), b.as_bytes());
+    a.iter().rev().cmp(b.iter().rev())
 }
 
 // Whether the text ends with the tail.
