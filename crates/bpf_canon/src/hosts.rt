@@ -2,12 +2,11 @@
 //!
 //! The kept names are sorted by their bytes from the end. Then a name that ends any other name ends the next one, and has
 //! its host, so each is tested against its next neighbour alone.
-ghost use Rattle.std.specs.Prelude.{◌≡◌, ◌<◌, ◌^◌, ℕ, Some, List, IfOk, length, map};
-ghost use Rattle.std.specs.Str.{bytes_eq};
+ghost use Rattle.std.specs.Prelude.{◌≡◌, ◌<◌, ◌^◌, ℕ, List, IfOk, length, map};
 ghost use Rattle.btf_types.specs.Names.{kept, table_of};
-ghost use Rattle.btf_types.specs.SharedNames.{is_suffix, is_proper_suffix, tail_cmp, host, hosts_of, host_in};
+ghost use Rattle.btf_types.specs.SharedNames.{is_suffix, is_proper_suffix, tail_cmp, host, hosts_of, host_in, shared_among};
 ghost use Rattle.btf_types.specs.TableLaws.{IsTailSorted};
-ghost use Rattle.bpf_canon.specs.Interned.{lent_texts, looked_up, MapsTo};
+ghost use Rattle.bpf_canon.specs.Interned.{lent_texts, MapsTo, AreHostsOf};
 
 use crate::placed_names::PlacedNames;
 use indexmap::IndexMap;
@@ -102,32 +101,59 @@ pub(crate) fn host_map<'a, A: Allocator + Copy>(
     Ok(host_of)
 }
 
-// Whether the name is its own host.
-fn is_host<A: Allocator>(host_of: &HostMap<'_, A>, name: &str) -> bool
-    ensures { (y : List ℕ) → looked_up name.now host_of.now.entries ≡ Some y → result ≡ bytes_eq y name.now }
-{
-    match host_of.get(name) {
-        Some(host) => *host == name,
-        None => false,
-    }
-}
-
-// The hosts among the names, with their places.
-pub(crate) fn host_table<'a, A: Allocator + Copy>(
+// The host of each of the names.
+pub(crate) fn named_hosts<'a, A: Allocator>(
     alloc: A,
     names: &[&'a str],
     host_of: &HostMap<'a, A>,
+) -> Result<Vec<&'a str, A>, AllocError>
+    requires { MapsTo host_of.now.entries (host_in (hosts_of (lent_texts names.now))) (lent_texts names.now) }
+    ensures { IfOk result (λ hosts. AreHostsOf (lent_texts names.now) (lent_texts hosts.items)) }
+{
+    let mut hosts = Vec::new(alloc);
+    for k in 0..names.len() {
+        hosts.push(*host_of.get(names[k]).unwrap())?;
+    }
+    Ok(hosts)
+}
+
+// The hosts among the names, with their places. Each of the names comes with its host.
+pub(crate) fn host_table<'a, A: Allocator + Copy>(
+    alloc: A,
+    names: &[&'a str],
+    named: &[&'a str],
 ) -> Result<PlacedNames<'a, A>, AllocError>
     requires own { kept (lent_texts names.now) ≡ lent_texts names.now }
-    requires maps { MapsTo host_of.now.entries (host_in (hosts_of (lent_texts names.now))) (lent_texts names.now) }
+    requires hosts { AreHostsOf (lent_texts names.now) (lent_texts named.now) }
     requires room { length (table_of (hosts_of (lent_texts names.now))) < 2 ^ 32 }
     ensures { IfOk result (λ hosts. hosts ≡ hosts_of (lent_texts names.now)) }
 {
     let mut hosts = PlacedNames::new(alloc);
-    for name in names {
-        if is_host(host_of, *name) {
-            hosts.add(*name)?;
+    for k in 0..names.len() {
+        if named[k] == names[k] {
+            hosts.add(names[k])?;
         }
     }
     Ok(hosts)
+}
+
+// The place of each of the names, at the end of its host.
+pub(crate) fn shared_places<'a, A: Allocator + Copy>(
+    alloc: A,
+    names: &[&'a str],
+    named: &[&'a str],
+    hosts: &PlacedNames<'a, A>,
+) -> Result<Vec<u32, A>, AllocError>
+    requires own { kept (lent_texts names.now) ≡ lent_texts names.now }
+    requires named { AreHostsOf (lent_texts names.now) (lent_texts named.now) }
+    requires hosts { hosts.now ≡ hosts_of (lent_texts names.now) }
+    requires room { length (table_of hosts.now) < 2 ^ 32 }
+    ensures { IfOk result (λ places. places.items ≡ map (shared_among (lent_texts names.now)) (lent_texts names.now)) }
+{
+    let mut places = Vec::new(alloc);
+    for k in 0..names.len() {
+        let before = named[k].len() - names[k].len();
+        places.push(hosts.place(named[k]) + before as u32)?;
+    }
+    Ok(places)
 }
