@@ -1,18 +1,19 @@
 -- Kept names in an index set, the map from names to hosts, and the table of the hosts.
-use Rattle.std.proofs.Common.{◌≡◌, ◌≢◌, ℕ, zero, suc, ◌+◌, ◌<◌, ◌≤◌, Bool, true, false, not, cond, ◌||◌, inl, inr, List, [], ◌∷◌, ◌++◌, length, map, get_or, take, drop, refl, sym, ap, ◌∙◌, subst, arith, Bor, Some, eqb}
+use Rattle.std.proofs.Common.{◌≡◌, ◌≢◌, ℕ, zero, suc, ◌+◌, ◌<◌, ◌≤◌, Bool, true, false, not, cond, ◌||◌, inl, inr, List, [], ◌∷◌, ◌++◌, length, map, get_or, take, drop, refl, sym, ap, ◌∙◌, subst, arith, Bor, Option, Some, None, is_some, IsSome, position, eqb}
 use Rattle.std.specs.List.{filter, list_any, Contains, flat_map}
 use Rattle.std.specs.Map.{lookup}
-use Rattle.std.specs.Option.{option_map}
+use Rattle.std.specs.Option.{option_map, option_copied}
 use Rattle.std.specs.Str.{bytes_eq}
 use Rattle.std.proofs.lemmas.Bool.{cases_Bool, cond-true, cond-false, both_ways, eqb-false, false_from_ne_true}
-use Rattle.std.proofs.lemmas.List.{map-append, length-append, append-nil, take-append-drop, get_or-map, map_more}
+use Rattle.std.proofs.lemmas.List.{map-append, length-append, append-nil, take-append-drop, get_or-map, map_more, length-map}
 use Rattle.std.proofs.lemmas.List.Concat.{flat_map-append}
 use Rattle.std.proofs.lemmas.List.Elements.{Contains-push_cases, Contains-get_or, filter-append, filter_more}
+use Rattle.std.proofs.lemmas.List.Quantifiers.{position-Some}
 use Rattle.indexmap.specs.IndexMap.{insert_entry}
 use Rattle.indexmap.specs.IndexSet.{insert_key}
 use Rattle.btf_types.specs.Names.{distinct, is_other, is_some_text, kept, with_nul, table_of}
 use Rattle.btf_types.specs.SharedNames.{is_proper_suffix, hosts_of, host_in}
-use Rattle.bpf_canon.specs.Interned.{lent_texts, looked_up, MapsTo, AddsName}
+use Rattle.bpf_canon.specs.Interned.{lent_texts, looked_up, MapsTo, AreHostsOf, AddsName}
 use Rattle.btf_types.proofs.Members.{Has, Has-from_filter, Has-from_Contains}
 use Rattle.btf_types.proofs.Texts.{same_text, bytes_eq-same}
 use Rattle.btf_types.proofs.Hosts.{own_host_of, host_differs}
@@ -25,6 +26,17 @@ use Rattle.bpf_canon.proofs.HostSearch.{text_at, texts_length}
 set_tells : (k : Bor (List ℕ)) (ks : List (Bor (List ℕ))) → list_any (text_eq k) ks ≡ list_any (bytes_eq k.now) (lent_texts ks)
 set_tells k [] = refl
 set_tells k (y ∷ ys) = ap (λ (b : Bool). bytes_eq k.now y.now || b) (set_tells k ys)
+
+-- which of the texts a text is
+pub index_found : (ks : List (Bor (List ℕ))) (now : List (List ℕ)) (x : Bor (List ℕ)) (r : Option ℕ) → lent_texts ks ≡ now → Contains now x.now → is_some r ≡ list_any (text_eq x) ks → IsSome r
+index_found ks now x r same c tells =
+    tells ∙ set_tells x ks ∙ ap (list_any (bytes_eq x.now)) same ∙ test_from_Has now x.now (Has-from_Contains now x.now c)
+
+pub index_text : (ks : List (Bor (List ℕ))) (now : List (List ℕ)) (x : Bor (List ℕ)) (i : ℕ) → lent_texts ks ≡ now → position (text_eq x) ks ≡ Some i → (d : List ℕ) → get_or now i d ≡ x.now
+index_text ks now x i same found d =
+    let e : Bor (List ℕ) = record { ref_ptr = (0, 0); now = d } in
+    let at = position-Some (text_eq x) ks i e found in
+    ap (λ (l : List (List ℕ)). get_or l i d) (sym same) ∙ text_at ks i e at.0 ∙ sym (same_text x.now ((get_or ks i e).now) at.1)
 
 texts_push : (ks : List (Bor (List ℕ))) (k : Bor (List ℕ)) → lent_texts (ks ++ k ∷ []) ≡ lent_texts ks ++ k.now ∷ []
 texts_push ks k = map-append (λ (n : Bor (List ℕ)). n.now) ks (k ∷ [])
@@ -94,6 +106,14 @@ MapsTo-push es f ks k v m e x c = elim (cases_Bool (bytes_eq x k.now)) [
     | inr q ↦ absurd (both_ways (bytes_eq x k.now) n (ap (bytes_eq x) q ∙ bytes_eq-same x))
   ]
 ]
+
+-- what a look-up gives
+pub told_some : (x y : List ℕ) (es : List (Bor (List ℕ) × Bor (List ℕ))) (r : Option (Bor (Bor (List ℕ)))) → option_copied r ≡ lookup (λ (k : Bor (List ℕ)). bytes_eq x k.now) es → looked_up x es ≡ Some y → IsSome r
+told_some x y es None e told = absurd (let n : None ≡ Some y = ap (option_map (λ (b : Bor (List ℕ)). b.now)) e ∙ told in cc)
+told_some x y es (Some b) e told = refl
+
+pub told_text : (x y : List ℕ) (es : List (Bor (List ℕ) × Bor (List ℕ))) (v : Bor (Bor (List ℕ))) → option_copied (Some v) ≡ lookup (λ (k : Bor (List ℕ)). bytes_eq x k.now) es → looked_up x es ≡ Some y → v.now.now ≡ y
+told_text x y es v e told = let both : Some v.now.now ≡ Some y = ap (option_map (λ (b : Bor (List ℕ)). b.now)) e ∙ told in cc
 
 pub filter_all : (p : List ℕ → Bool) (xs : List (List ℕ)) → ((y : List ℕ) → Has xs y → p y ≡ true) → filter p xs ≡ xs
 filter_all p [] h = refl
@@ -170,6 +190,10 @@ host_room ks old i d h t e =
     let more = ap (λ (l : List (List ℕ)). length (table_of l)) (hosts_among_more ks i d h t) in
     omega (arith, more, length-table_push (hosts_among ks i) (get_or ks i d), hosts_among_room ks (i + 1), ap (λ (l : List (List ℕ)). length (table_of l)) e)
 
+pub named_length : (names named : List (Bor (List ℕ))) → AreHostsOf (lent_texts names) (lent_texts named) → length named ≡ length names
+named_length names named all =
+    sym (texts_length named) ∙ ap (λ (l : List (List ℕ)). length l) all ∙ length-map (lent_texts names) (host_in (hosts_of (lent_texts names))) ∙ texts_length names
+
 -- the loops, in the form that the code gives them
 module _ (names : List (Bor (List ℕ))) (i : ℕ) (e : Bor (List ℕ)) (inside : i < length names) where
   same_text_at : get_or (lent_texts names) i e.now ≡ (get_or names i e).now
@@ -189,10 +213,23 @@ module _ (names : List (Bor (List ℕ))) (i : ℕ) (e : Bor (List ℕ)) (inside 
       subst (λ (es : List (Bor (List ℕ) × Bor (List ℕ))). MapsTo es f (lent_texts (take (i + 1) names))) (sym made)
       (subst (MapsTo (insert_entry text_eq es k v) f) (sym (map_more (λ (n : Bor (List ℕ)). n.now) names i e inside)) pushed)
 
-  pub is_host_keeps : (es : List (Bor (List ℕ) × Bor (List ℕ))) (r : Bool) → MapsTo es (host_in (hosts_of (lent_texts names))) (lent_texts names) → ((y : List ℕ) → looked_up ((get_or names i e).now) es ≡ Some y → r ≡ bytes_eq y ((get_or names i e).now)) → r ≡ keeps (lent_texts names) (get_or (lent_texts names) i e.now)
-  is_host_keeps es r m says =
+  pub named_more : (hosts : List (Bor (List ℕ))) (v : Bor (List ℕ)) (f : List ℕ → List ℕ) → lent_texts hosts ≡ map f (lent_texts (take i names)) → v.now ≡ f ((get_or names i e).now) → lent_texts (hosts ++ v ∷ []) ≡ map f (lent_texts (take (i + 1) names))
+  named_more hosts v f before its =
+      texts_push hosts v ∙ ap (λ (l : List (List ℕ)). l ++ v.now ∷ []) before
+      ∙ ap (λ (t : List ℕ). map f (lent_texts (take i names)) ++ t ∷ []) its
+      ∙ sym (map-append f (lent_texts (take i names)) ((get_or names i e).now ∷ []))
+      ∙ ap (map f) (sym (map_more (λ (n : Bor (List ℕ)). n.now) names i e inside))
+
+  pub named_at : (named : List (Bor (List ℕ))) → AreHostsOf (lent_texts names) (lent_texts named) → (get_or named i e).now ≡ host_in (hosts_of (lent_texts names)) ((get_or names i e).now)
+  named_at named all =
+      let f = host_in (hosts_of (lent_texts names)) in
+      sym (text_at named i e (omega (arith, inside, named_length names named all))) ∙ ap (λ (l : List (List ℕ)). get_or l i e.now) all
+      ∙ get_or-map f (lent_texts names) i e.now e.now (omega (arith, inside, texts_length names)) ∙ ap f same_text_at
+
+  pub own_keeps : (named : List (Bor (List ℕ))) → AreHostsOf (lent_texts names) (lent_texts named) → bytes_eq ((get_or named i e).now) ((get_or names i e).now) ≡ keeps (lent_texts names) (get_or (lent_texts names) i e.now)
+  own_keeps named all =
       let x = (get_or names i e).now in
-      says (host_in (hosts_of (lent_texts names)) x) (m x contains_text)
+      ap (λ (h : List ℕ). bytes_eq h x) (named_at named all)
       ∙ own_host_test (lent_texts names) x (Has-from_Contains (lent_texts names) x contains_text)
       ∙ ap (keeps (lent_texts names)) (sym same_text_at)
 

@@ -9,6 +9,7 @@ pub mod CanonicalFiles
 pub mod WorkedBtf
 pub mod KeptSteps
 pub mod PlaceSteps
+pub mod TailSteps
 pub mod HostSearch
 pub mod HostSteps
 pub mod HostLaws

@@ -1,12 +1,12 @@
 -- What maps and sets of lent texts hold. Contracts of private functions cite it.
-use Rattle.std.specs.Prelude.{◌≡◌, ◌⊎◌, ℕ, ◌<◌, ◌^◌, Option, Some, List, [], ◌∷◌, ◌++◌, length, map}
+use Rattle.std.specs.Prelude.{◌≡◌, ◌⊎◌, ℕ, Option, Some, List, [], ◌∷◌, ◌++◌, length, map}
 use Rattle.std.specs.Borrow.{Bor}
 use Rattle.std.specs.List.{Contains}
 use Rattle.std.specs.Map.{lookup}
 use Rattle.std.specs.Option.{option_map}
 use Rattle.std.specs.Str.{bytes_eq}
 use Rattle.btf_types.specs.Names.{kept, table_of, place_in}
-use Rattle.btf_types.specs.SharedNames.{hosts_of, host_in}
+use Rattle.btf_types.specs.SharedNames.{hosts_of, host_in, shared_among}
 
 -- the texts that are lent
 abbrev pub lent_texts : List (Bor (List ℕ)) → List (List ℕ)
@@ -40,8 +40,11 @@ looked_up x entries = option_map (λ (b : Bor (List ℕ)). b.now) (lookup (λ (k
 abbrev pub MapsTo : List (Bor (List ℕ) × Bor (List ℕ)) → (List ℕ → List ℕ) → List (List ℕ) → Type 0
 MapsTo entries f ks = (x : List ℕ) → Contains ks x → looked_up x entries ≡ Some (f x)
 
--- What stands for the kept names: their hosts with their places, and the host of each.
-pub record AreHosts (ks hosts : List (List ℕ)) (entries : List (Bor (List ℕ) × Bor (List ℕ))) : Type 0 where
+-- each of the names has its host, in the same order
+abbrev pub AreHostsOf : List (List ℕ) → List (List ℕ) → Type 0
+AreHostsOf ks named = named ≡ map (host_in (hosts_of ks)) ks
+
+-- What stands for the kept names: their hosts, and the place of each name.
+pub record AreShared (ks hosts : List (List ℕ)) (places : List ℕ) : Type 0 where
   pub hosts_are : hosts ≡ hosts_of ks
-  pub host_are : MapsTo entries (host_in (hosts_of ks)) ks
-  pub room : length (table_of hosts) < 2 ^ 32
+  pub places_are : places ≡ map (shared_among ks) ks

@@ -2,12 +2,11 @@
 //!
 //! The kept names are sorted by their bytes from the end. Then a name that ends any other name ends the next one, and has
 //! its host, so each is tested against its next neighbour alone.
-ghost use Rattle.std.specs.Prelude.{◌≡◌, ◌<◌, ◌^◌, ℕ, Some, List, IfOk, length, map};
-ghost use Rattle.std.specs.Str.{bytes_eq};
+ghost use Rattle.std.specs.Prelude.{◌≡◌, ◌<◌, ◌^◌, ℕ, List, IfOk, length, map};
 ghost use Rattle.btf_types.specs.Names.{kept, table_of};
-ghost use Rattle.btf_types.specs.SharedNames.{is_suffix, is_proper_suffix, tail_cmp, host, hosts_of, host_in};
+ghost use Rattle.btf_types.specs.SharedNames.{is_suffix, is_proper_suffix, tail_cmp, host, hosts_of, host_in, shared_among};
 ghost use Rattle.btf_types.specs.TableLaws.{IsTailSorted};
-ghost use Rattle.bpf_canon.specs.Interned.{lent_texts, looked_up, MapsTo};
+ghost use Rattle.bpf_canon.specs.Interned.{lent_texts, MapsTo, AreHostsOf};
 
 use crate::placed_names::PlacedNames;
 use indexmap::IndexMap;
@@ -18,11 +17,30 @@ use std::hash::{BuildHasherDefault, FoldHasher};
 /// The host of each name, by name.
 pub(crate) type HostMap<'a, A> = IndexMap<&'a str, &'a str, BuildHasherDefault<FoldHasher>, A>;
 
+// How many bytes are compared at once. Few names are as long as this.
+const BLOCK: usize = 64;
+
+// Both texts without the blocks at their ends in which they agree.
+fn without_equal_ends<'a>(a: &'a [u8], b: &'a [u8]) -> (&'a [u8], &'a [u8])
+    ensures { tail_cmp result.0.now result.1.now ≡ tail_cmp a.now b.now }
+{
+    let (mut first, mut second) = (a, b);
+    'ends: while let Some((first_front, first_end)) = first.split_last_chunk::<BLOCK>()
+        && let Some((second_front, second_end)) = second.split_last_chunk::<BLOCK>()
+        && first_end == second_end
+    {
+        first = first_front;
+        second = second_front;
+    }
+    (first, second)
+}
+
 // Compares two texts by their bytes from the end.
 fn compare_tails(a: &str, b: &str) -> Ordering
     ensures { result ≡ tail_cmp a.now b.now }
 {
-    a.as_bytes().iter().rev().cmp(b.as_bytes().iter().rev())
+    let (a, b) = without_equal_ends(a.as_bytes(), b.as_bytes());
+    a.iter().rev().cmp(b.iter().rev())
 }
 
 // Whether the text ends with the tail.
@@ -83,32 +101,59 @@ pub(crate) fn host_map<'a, A: Allocator + Copy>(
     Ok(host_of)
 }
 
-// Whether the name is its own host.
-fn is_host<A: Allocator>(host_of: &HostMap<'_, A>, name: &str) -> bool
-    ensures { (y : List ℕ) → looked_up name.now host_of.now.entries ≡ Some y → result ≡ bytes_eq y name.now }
-{
-    match host_of.get(name) {
-        Some(host) => *host == name,
-        None => false,
-    }
-}
-
-// The hosts among the names, with their places.
-pub(crate) fn host_table<'a, A: Allocator + Copy>(
+// The host of each of the names.
+pub(crate) fn named_hosts<'a, A: Allocator>(
     alloc: A,
     names: &[&'a str],
     host_of: &HostMap<'a, A>,
+) -> Result<Vec<&'a str, A>, AllocError>
+    requires { MapsTo host_of.now.entries (host_in (hosts_of (lent_texts names.now))) (lent_texts names.now) }
+    ensures { IfOk result (λ hosts. AreHostsOf (lent_texts names.now) (lent_texts hosts.items)) }
+{
+    let mut hosts = Vec::new(alloc);
+    for k in 0..names.len() {
+        hosts.push(*host_of.get(names[k]).unwrap())?;
+    }
+    Ok(hosts)
+}
+
+// The hosts among the names, with their places. Each of the names comes with its host.
+pub(crate) fn host_table<'a, A: Allocator + Copy>(
+    alloc: A,
+    names: &[&'a str],
+    named: &[&'a str],
 ) -> Result<PlacedNames<'a, A>, AllocError>
     requires own { kept (lent_texts names.now) ≡ lent_texts names.now }
-    requires maps { MapsTo host_of.now.entries (host_in (hosts_of (lent_texts names.now))) (lent_texts names.now) }
+    requires hosts { AreHostsOf (lent_texts names.now) (lent_texts named.now) }
     requires room { length (table_of (hosts_of (lent_texts names.now))) < 2 ^ 32 }
     ensures { IfOk result (λ hosts. hosts ≡ hosts_of (lent_texts names.now)) }
 {
     let mut hosts = PlacedNames::new(alloc);
-    for name in names {
-        if is_host(host_of, *name) {
-            hosts.add(*name)?;
+    for k in 0..names.len() {
+        if named[k] == names[k] {
+            hosts.add(names[k])?;
         }
     }
     Ok(hosts)
+}
+
+// The place of each of the names, at the end of its host.
+pub(crate) fn shared_places<'a, A: Allocator + Copy>(
+    alloc: A,
+    names: &[&'a str],
+    named: &[&'a str],
+    hosts: &PlacedNames<'a, A>,
+) -> Result<Vec<u32, A>, AllocError>
+    requires own { kept (lent_texts names.now) ≡ lent_texts names.now }
+    requires named { AreHostsOf (lent_texts names.now) (lent_texts named.now) }
+    requires hosts { hosts.now ≡ hosts_of (lent_texts names.now) }
+    requires room { length (table_of hosts.now) < 2 ^ 32 }
+    ensures { IfOk result (λ places. places.items ≡ map (shared_among (lent_texts names.now)) (lent_texts names.now)) }
+{
+    let mut places = Vec::new(alloc);
+    for k in 0..names.len() {
+        let before = named[k].len() - names[k].len();
+        places.push(hosts.place(named[k]) + before as u32)?;
+    }
+    Ok(places)
 }

@@ -1,5 +1,6 @@
 //! The names of a table of types, each kept once, in the order of their first use.
-ghost use Rattle.std.specs.Prelude.{◌≡◌, ◌<◌, ◌≤◌, [], IfOk, OnOk, OnErr, length};
+ghost use Rattle.std.specs.Prelude.{◌≡◌, ◌<◌, ◌≤◌, ℕ, List, [], IfOk, OnOk, OnErr, length, slice_index_or};
+ghost use Rattle.std.specs.List.{Contains};
 ghost use Rattle.btf_types.specs.Names as spec;
 ghost use Rattle.btf_types.specs.Names.{kept, names, record_names};
 ghost use Rattle.btf_types.specs.Values.{head_value, item_value};
@@ -46,6 +47,15 @@ impl<'a, A: Allocator + Copy> KeptNames<'a, A> {
         ensures own { kept self.now ≡ self.now }
     {
         self.names.as_slice()
+    }
+
+    // Which of the names this one is.
+    pub(crate) fn index_of(&self, name: &str) -> usize
+        requires { Contains self.now name.now }
+        ensures inside { result < length self.now }
+        ensures at { (d : List ℕ) → slice_index_or self.now result d ≡ name.now }
+    {
+        self.names.get_index_of(name).unwrap()
     }
 
     // Notes a name.

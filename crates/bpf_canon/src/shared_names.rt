@@ -1,52 +1,68 @@
 //! The names of a file with their places in its string table, in which names share their tails: each stands at the end of its
 //! host.
 ghost use Rattle.std.specs.Prelude.{◌≡◌, ◌<◌, ◌^◌, ◌++◌, IfOk, OnOk, length};
-ghost use Rattle.std.specs.List.{Contains};
-ghost use Rattle.btf_types.specs.Names.{table_of};
-ghost use Rattle.btf_types.specs.SharedNames.{hosts_of, host_in, shared_among};
-ghost use Rattle.bpf_canon.specs.Interned.{IsPlaced};
+ghost use Rattle.btf_types.specs.Names.{kept, table_of};
+ghost use Rattle.btf_types.specs.SharedNames.{hosts_of, shared_among};
+ghost use Rattle.bpf_canon.specs.Interned.{lent_texts, AreHostsOf, IsPlaced};
 
-use crate::hosts::{HostMap, host_map, host_table, hosts_of_sorted, sorted_by_tails};
+use crate::hosts::{
+    host_map, host_table, hosts_of_sorted, named_hosts, shared_places, sorted_by_tails,
+};
 use crate::kept_names::KeptNames;
 use crate::placed_names::PlacedNames;
 use std::alloc::{AllocError, Allocator};
 use std::marker::Model;
+
+// The host of each of the names. What helps to find them goes here.
+fn found_hosts<'a, A: Allocator + Copy>(
+    alloc: A,
+    names: &[&'a str],
+) -> Result<Vec<&'a str, A>, AllocError>
+    requires { kept (lent_texts names.now) ≡ lent_texts names.now }
+    ensures { IfOk result (λ hosts. AreHostsOf (lent_texts names.now) (lent_texts hosts.items)) }
+{
+    let sorted = sorted_by_tails(alloc, names)?;
+    let sorted = sorted.as_slice();
+    let found = hosts_of_sorted(alloc, sorted)?;
+    let host_of = host_map(alloc, sorted, found.as_slice())?;
+    named_hosts(alloc, names, &host_of)
+}
 
 /// Kept names that share tails.
 #[derive(Drop)]
 pub(crate) struct SharedNames<'a, A: Allocator> {
     kept: KeptNames<'a, A>,
     hosts: PlacedNames<'a, A>,
-    host_of: HostMap<'a, A>,
+    // where each of the kept names stands
+    places: Vec<u32, A>,
 }
 
 impl<'a, A: Allocator> Model for SharedNames<'a, A> {
     ghost use Rattle.std.specs.Prelude.{ℕ, List};
-    ghost use Rattle.bpf_canon.specs.Interned.{AreHosts};
+    ghost use Rattle.bpf_canon.specs.Interned.{AreShared};
 
     ghost Value = { List (List ℕ) };
 
     ghost view = { λ n. n.kept };
 
-    ghost invariant = { λ n. AreHosts n.kept n.hosts n.host_of.entries };
+    ghost invariant = { λ n. AreShared n.kept n.hosts n.places.items };
 }
 
 impl<'a, A: Allocator + Copy> SharedNames<'a, A> {
-    // Finds the hosts of the kept names.
+    // Finds the places of the kept names.
     pub(crate) fn new(alloc: A, kept: KeptNames<'a, A>) -> Result<Self, AllocError>
         requires { length (table_of (hosts_of kept)) < 2 ^ 32 }
         ensures { IfOk result (λ n. n ≡ kept.entry) }
     {
-        let names = kept.names.as_slice();
-        let sorted = sorted_by_tails(alloc, names)?;
-        let sorted = sorted.as_slice();
-        let found = hosts_of_sorted(alloc, sorted)?;
-        let host_of = host_map(alloc, sorted, found.as_slice())?;
-        let hosts = host_table(alloc, names, &host_of)?;
+        let names = kept.as_slice();
+        let named = found_hosts(alloc, names)?;
+        let named = named.as_slice();
+        let hosts = host_table(alloc, names, named)?;
+        let places = shared_places(alloc, names, named, &hosts)?;
         Ok(SharedNames {
             kept,
             hosts,
-            host_of,
+            places,
         })
     }
 
@@ -58,16 +74,7 @@ impl<'a, A: Allocator + Copy> SharedNames<'a, A> {
         if name.is_empty() {
             return 0;
         }
-        let host = self.host(name);
-        self.hosts.place(host) + (host.len() - name.len()) as u32
-    }
-
-    // The host of a kept name.
-    fn host(&self, name: &str) -> &'a str
-        requires { Contains self.now name.now }
-        ensures { result.now ≡ host_in (hosts_of self.now) name.now }
-    {
-        *self.host_of.get(name).unwrap()
+        self.places[self.kept.index_of(name)]
     }
 
     // Appends the string table.

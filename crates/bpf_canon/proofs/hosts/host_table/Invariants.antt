@@ -3,5 +3,5 @@ use Rattle.bpf_canon.specs.Interned.{lent_texts}
 use Rattle.bpf_canon.proofs.HostSteps.{hosts_among}
 use Rattle.bpf_canon.proofs.hosts.host_table.Given as goal
 
-abbrev pub invariant-loop-name : goal.invariant-loop-name
-invariant-loop-name g l = l.hosts ≡ hosts_among (lent_texts l.names) l.name-index
+abbrev pub invariant-loop-k : goal.invariant-loop-k
+invariant-loop-k g l = l.hosts ≡ hosts_among (lent_texts l.names) l.k
