@@ -16,6 +16,9 @@ ghost use Rattle.bpf_insn.specs.Table.{IsOperand, alu_class, alu_code, alu_offse
 use crate::write_operand::operand_of;
 use crate::{AluOp, Insn, MovsxForm, Operand, Reg, Slot, SwapBits, SwapKind, Width};
 
+/// The code of a negation.
+const NEG: u8 = 0x8;
+
 /// The class of arithmetic of this width: ALU or ALU64.
 fn alu_class_of(width: Width) -> u8
     ensures { result ≡ alu_class width }
@@ -93,11 +96,8 @@ pub(crate) fn movsx_slot(form: MovsxForm, dst: Reg, src: Reg) -> Slot
 {
     let (width, bits) = movsx_of(form);
     Slot {
-        opcode: 16 * 0xb + 8 + alu_class_of(width),
-        dst: dst.number(),
-        src: src.number(),
         off: bits,
-        imm: 0,
+        ..alu_slot(width, AluOp::Mov, dst, Operand::Reg(src))
     }
 }
 
@@ -107,7 +107,7 @@ pub(crate) fn neg_slot(width: Width, dst: Reg) -> Slot
     ensures { result ≡ fields_of (Insn.Neg width dst) }
 {
     Slot {
-        opcode: 16 * 0x8 + alu_class_of(width),
+        opcode: 16 * NEG + alu_class_of(width),
         dst: dst.number(),
         src: 0,
         off: 0,

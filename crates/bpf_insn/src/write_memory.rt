@@ -14,28 +14,24 @@ ghost use Rattle.bpf_insn.specs.Table.{atomic_number, atomic_size, fields_of, si
 
 use crate::{AtomicOp, Insn, Reg, Size, Slot, SmallSize, Width};
 
-// The modes.
-
-/// A packet, at the immediate.
+/// Mode ABS: a packet, at the immediate.
 const ABS: u8 = 1;
-/// A packet, at a register and the immediate.
+/// Mode IND: a packet, at a register and the immediate.
 const IND: u8 = 2;
-/// Memory.
+/// Mode MEM: memory, at a register and the offset.
 const MEM: u8 = 3;
-/// Memory, with the sign extended.
+/// Mode MEMSX: memory, of which the sign is extended.
 const MEMSX: u8 = 4;
-/// An atomic operation.
+/// Mode ATOMIC: memory, read and written at once.
 const ATOMIC: u8 = 6;
 
-// The classes.
-
-/// Loads that name no memory by a register alone.
+/// Class LD: loads into r0 from a packet.
 const LD: u8 = 0;
-/// Loads into a register.
+/// Class LDX: loads into a register.
 const LDX: u8 = 1;
-/// Stores of an immediate.
+/// Class ST: stores of an immediate.
 const ST: u8 = 2;
-/// Stores of a register.
+/// Class STX: stores of a register.
 const STX: u8 = 3;
 
 /// The number of a size.
