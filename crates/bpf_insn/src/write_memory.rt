@@ -20,9 +20,9 @@ const ABS: u8 = 1;
 const IND: u8 = 2;
 /// Mode MEM: memory, at a register and the offset.
 const MEM: u8 = 3;
-/// Mode MEMSX: memory, of which the sign is extended.
+/// Mode MEMSX: as MEM, with the sign extended.
 const MEMSX: u8 = 4;
-/// Mode ATOMIC: memory, read and written at once.
+/// Mode ATOMIC: as MEM, read and written in one step.
 const ATOMIC: u8 = 6;
 
 /// Class LD: loads into r0 from a packet.
