@@ -48,13 +48,16 @@ pub answers_file : {T : Type 0} (items : T → List ℕ) (b : List ℕ) (v : Lis
 answers_file items b v fits d (Ok canon) made fails = made.1.1 ∙ ap (canonical Little) (denotes_unique b made.0 v made.1.0 d)
 answers_file items b v fits d (Err e) made fails = fails_no_file b e v fits fails d
 
--- two files whose records are compared
-pub compares : (a b : List ℕ) (v w : List TypeRecord) (same : Bool) → Denotes a v → Denotes b w → (IsTrue same ↔ (v ≡ w)) → ComparesBtf a b same
-compares a b v w same p q r = record {
-  first = v;
-  second = w;
-  first_file = p;
-  second_file = q;
-  records = r;
-  forms = (λ t. ap (canonical Little) (r.0 t), λ e. r.1 (canonical_apart Little v w p.good q.good e));
-}
+-- two files whose canonical bytes are compared
+pub compares : (a b x y : List ℕ) (same : Bool) → (v : List TypeRecord) × (Denotes a v × (x ≡ canonical Little v)) → (w : List TypeRecord) × (Denotes b w × (y ≡ canonical Little w))
+    → (IsTrue same ↔ (x ≡ y)) → ComparesBtf a b same
+compares a b x y same (v, p) (w, q) r =
+    let forms : IsTrue same ↔ (canonical Little v ≡ canonical Little w) = (λ t. sym p.1 ∙ r.0 t ∙ q.1, λ e. r.1 (p.1 ∙ e ∙ sym q.1)) in
+    record {
+      first = v;
+      second = w;
+      first_file = p.0;
+      second_file = q.0;
+      records = (λ t. canonical_apart Little v w p.0.good q.0.good (forms.0 t), λ e. forms.1 (ap (canonical Little) e));
+      forms = forms;
+    }

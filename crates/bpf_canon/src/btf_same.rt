@@ -2,15 +2,17 @@
 ghost use Rattle.std.specs.Prelude.{IfOk, IfErr};
 ghost use Rattle.bpf_canon.specs.BtfLaws.{ComparesBtf, NamesBtfSide};
 
+use crate::btf_canon::canonical_in;
 use crate::same::SideError;
-use crate::same_tables::same_tables;
+use bpf_words::Order;
 use btf_raw::BtfFault;
-use btf_types::{BtfError, BtfView};
+use btf_types::BtfError;
 use std::alloc::Allocator;
 
 /// Whether two BTF files denote the same records. That is so exactly where their canonical bytes are the same.
 ///
-/// The records are compared as they are read, and no canonical bytes are made: memory is taken for reading the two files alone.
+/// The canonical bytes of both files are made and compared, so the call takes the time of the files, also where names are long and
+/// shared.
 ///
 /// # Errors
 ///
@@ -20,15 +22,15 @@ pub fn same_btf<A: Allocator>(alloc: A, a: &[u8], b: &[u8]) -> Result<bool, Side
     ensures same { IfOk result (ComparesBtf a.now b.now) }
     ensures fault { IfErr result (NamesBtfSide a.now b.now) }
 {
-    let first = match BtfView::parse(&alloc, a) {
-        Ok(table) => table,
+    let first = match canonical_in(&alloc, Order::Little, a) {
+        Ok(canon) => canon,
         Err(BtfError::Fault(fault)) => return Err(SideError::First(fault)),
         Err(BtfError::Memory) => return Err(SideError::Memory),
     };
-    let second = match BtfView::parse(&alloc, b) {
-        Ok(table) => table,
+    let second = match canonical_in(&alloc, Order::Little, b) {
+        Ok(canon) => canon,
         Err(BtfError::Fault(fault)) => return Err(SideError::Second(fault)),
         Err(BtfError::Memory) => return Err(SideError::Memory),
     };
-    Ok(same_tables(&first, &second))
+    Ok(first.as_slice() == second.as_slice())
 }

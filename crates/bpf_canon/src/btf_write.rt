@@ -18,6 +18,7 @@ ghost use Rattle.bpf_canon.specs.CanonicalBtf.{canonical, item_words, record_wor
 
 use crate::head_words::{component_word, head_third, info_word, int_word, linkage_number};
 use crate::kept_names::{head_name, kept_names};
+use crate::section_write::write_sections;
 use crate::shared_names::SharedNames;
 use bpf_words::{Order, push16, push32};
 use btf_types::{Head, Item, TypeTable};
@@ -38,7 +39,7 @@ fn push_words<A: Allocator>(
 }
 
 // Appends a header of 24 bytes, with type_off 0 and str_off = type_len.
-fn push_header<A: Allocator>(
+pub(crate) fn push_header<A: Allocator>(
     out: &mut Vec<u8, A>,
     order: Order,
     types_len: u32,
@@ -244,6 +245,19 @@ fn write_named<T: TypeTable, A: Allocator + Copy>(
     Ok(bytes)
 }
 
+// The canonical bytes of a table that lends no sections: its names are read as texts.
+fn write_table<T: TypeTable, A: Allocator + Copy>(
+    alloc: A,
+    order: Order,
+    table: &T,
+) -> Result<Vec<u8, A>, AllocError>
+    requires { IsGood (T.meaning table.now) }
+    ensures { IfOk result (λ bytes. bytes.items ≡ canonical order (T.meaning table.now)) }
+{
+    let names = shared_names(alloc, table)?;
+    write_named(alloc, order, &names, table)
+}
+
 /// The canonical bytes of a table of types in the given order (btf.rst section 2): a header of 24 bytes, the records, and the
 /// string table.
 ///
@@ -262,6 +276,8 @@ pub fn write_btf<T: TypeTable, A: Allocator + Copy>(
     ensures accepted { IfOk result (λ bytes. Denotes bytes.items (T.meaning table.now)) }
 {
     let _count = table.count();
-    let names = shared_names(alloc, table)?;
-    write_named(alloc, order, &names, table)
+    match table.sections() {
+        Some(sections) => write_sections(alloc, order, &sections),
+        None => write_table(alloc, order, table),
+    }
 }

@@ -1,5 +1,5 @@
 //! Instructions that come in pieces.
-ghost use Rattle.std.specs.Prelude.{◌≡◌, ◌<◌, ◌≤◌, ◌+◌, ◌-◌, ◌++◌, ℕ, List, [], Option, Some, None, length, take, vec_len, vec_capacity, IsErrOf, IfSome, IsNone};
+ghost use Rattle.std.specs.Prelude.{◌≡◌, ◌<◌, ◌≤◌, ◌+◌, ◌-◌, ◌++◌, ℕ, List, [], Option, Some, None, length, take, vec_len, vec_capacity, IsErrOf, IsOk, IfSome, IsNone};
 ghost use Rattle.bpf_words.specs.declared.Order.{Order};
 ghost use Rattle.bpf_insn.specs.declared.fault.SlotFault.{SlotFault};
 ghost use Rattle.bpf_canon.specs.FeedState.{FeedState, IsBetween, missing_place};
@@ -86,7 +86,8 @@ impl InsnFeed {
     ///
     /// `Fault` where the stream has a fault that no more bytes can mend, with its place counted from the stream's first
     /// byte. `out` has then gained the instructions before it, and every later call answers this fault and changes
-    /// nothing. `Memory` where the allocator refuses room; nothing has changed then, and the piece may be fed again.
+    /// nothing. `Memory` where the allocator refuses room; nothing has changed then, and the piece may be fed again. An empty
+    /// piece takes no memory, and neither does a piece after a fault.
     pub fn feed<A: Allocator>(
         &mut self,
         piece: &[u8],
@@ -103,6 +104,9 @@ impl InsnFeed {
         // A fault that is kept is told again, and nothing changes.
         ensures kept { IfSome self.old.fault (λ f. IsErrOf result (InsnError.Fault f)
             × ((self.new ≡ self.old) × (out.new.items ≡ out.old.items))) }
+
+        // An empty piece takes no memory.
+        ensures empty { length piece.now ≡ 0 → IsNone self.old.fault → IsOk result }
 
         ensures bound { vec_len out.new ≤ vec_len out.old + (length self.old.held + length piece.now) }
     {

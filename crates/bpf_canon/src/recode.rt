@@ -2,13 +2,14 @@
 //!
 //! The two orders differ in the register byte and in the order of the bytes of words, and a wide load's second slot
 //! holds zeros where a first slot has its opcode, registers and offset. So each 8 bytes are written anew alike.
-ghost use Rattle.std.specs.Prelude.{◌≡◌, ◌≤◌, ◌+◌, ◌++◌, List, length, vec_len, vec_capacity};
-ghost use Rattle.bpf_words.specs.Slots.{spelled};
+ghost use Rattle.std.specs.Prelude.{◌≡◌, ◌≢◌, ◌≤◌, ◌+◌, ◌++◌, List, length, vec_len, vec_capacity};
+ghost use Rattle.bpf_words.specs.declared.Order.{Order};
+ghost use Rattle.bpf_words.specs.Slots.{AreFields, Fields, spelled};
 ghost use Rattle.bpf_insn.specs.declared.insn.Insn.{Insn};
 ghost use Rattle.bpf_insn.specs.Spelling.{InsnFile, file_of};
 
-use bpf_insn::{Order, Slot};
-use bpf_words::{slot_bytes, slot_of};
+use bpf_insn::Order;
+use bpf_words::slot_of;
 use std::alloc::Allocator;
 
 // Appends the bytes of instructions, which some bytes spell in one order, in the order `to`. There is room for them.
@@ -28,24 +29,47 @@ pub(crate) fn append_recoded<A: Allocator>(
     }
 }
 
-// Appends each slot in the order `to`.
+// Appends each slot in the order `to`, which is the other one.
 fn append_swapped<A: Allocator>(order: Order, to: Order, bytes: &[u8], out: &mut Vec<u8, A>)
-    requires { vec_len out.old + length bytes.now ≤ vec_capacity out.old }
+    requires other { order ≢ to }
+    requires room { vec_len out.old + length bytes.now ≤ vec_capacity out.old }
     ensures { (insns : List Insn) → InsnFile order bytes.now insns → out.new.items ≡ out.old.items ++ file_of to insns }
 {
     let mut rest = bytes;
     'slots: while let Some((slot, behind)) = rest.split_first_chunk::<8>() {
-        append_slot(out, to, slot_of(order, slot));
+        append_bytes(out, swapped(order, slot));
         rest = behind;
     }
 }
 
+// The bytes of a slot in the other order: the halves of the register byte, the two bytes of the offset and the four of
+// the immediate stand the other way round.
+#[inline(always)]
+fn swapped(order: Order, slot: &[u8; 8]) -> [u8; 8]
+    ensures { (slot_fields : Fields) × (AreFields slot_fields × ((slot.now ≡ spelled order slot_fields)
+        × ((to : Order) → order ≢ to → result ≡ spelled to slot_fields))) }
+{
+    let fields = slot_of(order, slot);
+    let registers = slot[1] % 16 * 16 + slot[1] / 16;
+    [
+        fields.opcode,
+        registers,
+        slot[3],
+        slot[2],
+        slot[7],
+        slot[6],
+        slot[5],
+        slot[4],
+    ]
+}
+
 // Appends the bytes of a slot, for which there is room.
-fn append_slot<A: Allocator>(out: &mut Vec<u8, A>, order: Order, slot: Slot)
+#[inline(always)]
+fn append_bytes<A: Allocator>(out: &mut Vec<u8, A>, bytes: [u8; 8])
     requires { vec_len out.old + 8 ≤ vec_capacity out.old }
-    ensures items { out.new.items ≡ out.old.items ++ spelled order slot }
+    ensures items { out.new.items ≡ out.old.items ++ bytes }
     ensures len { vec_len out.new ≡ vec_len out.old + 8 }
     ensures capacity { vec_capacity out.old ≤ vec_capacity out.new }
 {
-    let _ = out.extend_from_slice(&slot_bytes(order, slot));
+    let _ = out.extend_from_slice(&bytes);
 }

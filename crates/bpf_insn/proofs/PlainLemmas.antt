@@ -1,7 +1,6 @@
--- A slot within its opcode's rule is an instruction, and the table has the rule of each opcode.
-use Rattle.std.proofs.Common.{◌≡◌, ℕ, zero, suc, ◌<◌, ◌≤◌, ℤ, pos, List, [], ◌∷◌, length, take, Option, Some, None, Result, Ok, Err, IfOk, IfErr, refl, ap, sym, ◌∙◌, subst, arith, inl, inr, drop, slice_index_or}
+-- A slot within its opcode's rule is an instruction.
+use Rattle.std.proofs.Common.{◌≡◌, ℕ, ℤ, pos, List, length, take, Option, Some, None, Result, Ok, Err, IfOk, IfErr, refl, ap, sym, ◌∙◌, subst, drop}
 use Rattle.std.specs.Option.{IsSomeAnd, option_and_then}
-use Rattle.std.proofs.lemmas.Bool.{cases_eq}
 use Rattle.bpf_words.specs.declared.Order.{Order}
 use Rattle.bpf_words.specs.Slots.{Fields, AreFields, fields, spelled}
 use Rattle.bpf_words.proofs.OneSpelling.{same_fields}
@@ -9,7 +8,7 @@ use Rattle.bpf_insn.specs.Table.{fields_of, next_imm_of, IsInsn, IsOffset, IsImm
 use Rattle.bpf_insn.specs.Spelling.{spelling}
 use Rattle.bpf_insn.specs.Faults.{BeginsWith, IsSlotFault}
 use Rattle.bpf_insn.specs.Forms.{form_at, form_opcode, alu_code_number}
-use Rattle.bpf_insn.specs.Plain.{IsWithin, IsPlain, rule_of_form, rule_at}
+use Rattle.bpf_insn.specs.Plain.{IsWithin, IsPlain, rule_of_form}
 use Rattle.bpf_insn.proofs.OpcodeLemmas.{opcode_from_form_at}
 use Rattle.bpf_insn.proofs.WitnessLemmas.{reg}
 use Rattle.bpf_insn.proofs.ReadLemmas.{read_whole}
@@ -19,13 +18,12 @@ use Rattle.bpf_insn.specs.declared.insn.AluOp.{AluOp}
 use Rattle.bpf_insn.specs.declared.insn.AluOp.TheVariants as alu
 use Rattle.bpf_insn.specs.declared.insn.Operand.TheVariants as arg
 use Rattle.bpf_insn.specs.declared.insn.Insn.{Insn}
-use Rattle.bpf_insn.specs.declared.insn.Insn.TheVariants.{Alu, Jump, Branch, CallHelper, CallLocal, CallBtf, Exit, Load, LoadSigned, StoreImm, StoreReg}
+use Rattle.bpf_insn.specs.declared.insn.Insn.TheVariants.{Alu, Neg, Jump, JumpLong, Branch, CallHelper, Exit, Load, LoadSigned, StoreImm, StoreReg, PacketAbs, PacketInd}
 use Rattle.bpf_insn.specs.declared.form.Source.TheVariants.{K, X}
 use Rattle.bpf_insn.specs.declared.form.AluCode.{AluCode}
 use Rattle.bpf_insn.specs.declared.form.AluCode.TheVariants as code
 use Rattle.bpf_insn.specs.declared.form.Form.{Form}
 use Rattle.bpf_insn.specs.declared.form.Form.TheVariants as form
-use Rattle.bpf_insn.specs.declared.plain.Rule.{Rule}
 
 -- an instruction of one slot with these fields
 record IsOneSlot (slot : Fields) : Type 0 where
@@ -77,56 +75,50 @@ plain_offset code.Xor = refl
 plain_offset code.Mov = refl
 plain_offset code.Arsh = refl
 
-at_zero : (n : ℕ) → n ≤ 0 → 0 ≡ n
-at_zero n h = omega (arith, h)
-
-call_insn : (s : ℕ) (k : ℤ) → s ≤ 2 → IsImm k → IsOneSlot (fields 0x85 0 s (pos 0) k)
-call_insn zero k h hk = record { insn = CallHelper k; is = hk; fields = refl; alone = refl }
-call_insn (suc zero) k h hk = record { insn = CallLocal k; is = hk; fields = refl; alone = refl }
-call_insn (suc (suc n)) k h hk =
-    record { insn = CallBtf k (pos 0); is = (hk, omega arith); fields = same_fields _ _ refl refl (omega (arith, h)) refl refl; alone = refl }
-
 -- a rule allows no more than its form
 plain_insn : (f : Form) (d s : ℕ) (o k : ℤ) → IsSomeAnd (rule_of_form f) (λ r. IsWithin r (fields (form_opcode f) d s o k)) → IsOffset o → IsImm k
     → IsOneSlot (fields (form_opcode f) d s o k)
 plain_insn (form.Alu width op K) d s o k h ho hk = record {
-  insn = Alu width (plain_op op) (reg d h.0) (arg.Imm k);
+  insn = Alu width (plain_op op) (reg d h.dst) (arg.Imm k);
   is = hk;
-  fields = same_fields _ _ (ap (λ (c : ℕ). code_opcode c 0 (alu_class width)) (plain_code op)) refl (at_zero s h.1) (ap pos (plain_offset op) ∙ sym h.2) refl;
+  fields = same_fields _ _ (ap (λ (c : ℕ). code_opcode c 0 (alu_class width)) (plain_code op)) refl (sym h.no_src) (ap pos (plain_offset op) ∙ sym h.no_off) refl;
   alone = refl;
 }
 plain_insn (form.Alu width op X) d s o k h ho hk = record {
-  insn = Alu width (plain_op op) (reg d h.0) (arg.Reg (reg s h.1));
+  insn = Alu width (plain_op op) (reg d h.dst) (arg.Reg (reg s h.src));
   is = tt;
-  fields = same_fields _ _ (ap (λ (c : ℕ). code_opcode c 1 (alu_class width)) (plain_code op)) refl refl (ap pos (plain_offset op) ∙ sym h.2) (sym h.3);
+  fields = same_fields _ _ (ap (λ (c : ℕ). code_opcode c 1 (alu_class width)) (plain_code op)) refl refl (ap pos (plain_offset op) ∙ sym h.no_off) (sym h.no_imm);
   alone = refl;
 }
-plain_insn (form.Neg width) d s o k h ho hk = absurd h
+plain_insn (form.Neg width) d s o k h ho hk =
+    record { insn = Neg width (reg d h.dst); is = tt; fields = same_fields _ _ refl refl (sym h.no_src) (sym h.no_off) (sym h.no_imm); alone = refl }
 plain_insn (form.Swap kind) d s o k h ho hk = absurd h
 plain_insn form.Jump d s o k h ho hk =
-    record { insn = Jump o; is = ho; fields = same_fields _ _ refl (at_zero d h.0) (at_zero s h.1) refl (sym h.3); alone = refl }
-plain_insn form.JumpLong d s o k h ho hk = absurd h
+    record { insn = Jump o; is = ho; fields = same_fields _ _ refl (sym h.no_dst) (sym h.no_src) refl (sym h.no_imm); alone = refl }
+plain_insn form.JumpLong d s o k h ho hk =
+    record { insn = JumpLong k; is = hk; fields = same_fields _ _ refl (sym h.no_dst) (sym h.no_src) (sym h.no_off) refl; alone = refl }
 plain_insn (form.Branch width op K) d s o k h ho hk =
-    record { insn = Branch width op (reg d h.0) (arg.Imm k) o; is = (hk, ho); fields = same_fields _ _ refl refl (at_zero s h.1) refl refl; alone = refl }
+    record { insn = Branch width op (reg d h.dst) (arg.Imm k) o; is = (hk, ho); fields = same_fields _ _ refl refl (sym h.no_src) refl refl; alone = refl }
 plain_insn (form.Branch width op X) d s o k h ho hk =
-    record { insn = Branch width op (reg d h.0) (arg.Reg (reg s h.1)) o; is = (tt, ho); fields = same_fields _ _ refl refl refl refl (sym h.3); alone = refl }
+    record { insn = Branch width op (reg d h.dst) (arg.Reg (reg s h.src)) o; is = (tt, ho); fields = same_fields _ _ refl refl refl refl (sym h.no_imm); alone = refl }
 plain_insn form.Call d s o k h ho hk =
-    let call = call_insn s k h.1 hk in
-    record { insn = call.insn; is = call.is; fields = call.fields ∙ same_fields _ _ refl (at_zero d h.0) refl (sym h.2) refl; alone = call.alone }
+    record { insn = CallHelper k; is = hk; fields = same_fields _ _ refl (sym h.no_dst) (sym h.no_src) (sym h.no_off) refl; alone = refl }
 plain_insn form.Exit d s o k h ho hk =
-    record { insn = Exit; is = tt; fields = same_fields _ _ refl (at_zero d h.0) (at_zero s h.1) (sym h.2) (sym h.3); alone = refl }
+    record { insn = Exit; is = tt; fields = same_fields _ _ refl (sym h.no_dst) (sym h.no_src) (sym h.no_off) (sym h.no_imm); alone = refl }
 plain_insn (form.Load z) d s o k h ho hk =
-    record { insn = Load z (reg d h.0) (reg s h.1) o; is = ho; fields = same_fields _ _ refl refl refl refl (sym h.3); alone = refl }
+    record { insn = Load z (reg d h.dst) (reg s h.src) o; is = ho; fields = same_fields _ _ refl refl refl refl (sym h.no_imm); alone = refl }
 plain_insn (form.LoadSigned z) d s o k h ho hk =
-    record { insn = LoadSigned z (reg d h.0) (reg s h.1) o; is = ho; fields = same_fields _ _ refl refl refl refl (sym h.3); alone = refl }
+    record { insn = LoadSigned z (reg d h.dst) (reg s h.src) o; is = ho; fields = same_fields _ _ refl refl refl refl (sym h.no_imm); alone = refl }
 plain_insn (form.StoreImm z) d s o k h ho hk =
-    record { insn = StoreImm z (reg d h.0) o k; is = (ho, hk); fields = same_fields _ _ refl refl (at_zero s h.1) refl refl; alone = refl }
+    record { insn = StoreImm z (reg d h.dst) o k; is = (ho, hk); fields = same_fields _ _ refl refl (sym h.no_src) refl refl; alone = refl }
 plain_insn (form.StoreReg z) d s o k h ho hk =
-    record { insn = StoreReg z (reg d h.0) (reg s h.1) o; is = ho; fields = same_fields _ _ refl refl refl refl (sym h.3); alone = refl }
+    record { insn = StoreReg z (reg d h.dst) (reg s h.src) o; is = ho; fields = same_fields _ _ refl refl refl refl (sym h.no_imm); alone = refl }
 plain_insn (form.Atomic width) d s o k h ho hk = absurd h
 plain_insn form.Wide d s o k h ho hk = absurd h
-plain_insn (form.PacketAbs z) d s o k h ho hk = absurd h
-plain_insn (form.PacketInd z) d s o k h ho hk = absurd h
+plain_insn (form.PacketAbs z) d s o k h ho hk =
+    record { insn = PacketAbs z k; is = hk; fields = same_fields _ _ refl (sym h.no_dst) (sym h.no_src) (sym h.no_off) refl; alone = refl }
+plain_insn (form.PacketInd z) d s o k h ho hk =
+    record { insn = PacketInd z (reg s h.src) k; is = hk; fields = same_fields _ _ refl (sym h.no_dst) refl (sym h.no_off) refl; alone = refl }
 
 plain_is_insn : (slot : Fields) → AreFields slot → IsPlain slot → IsOneSlot slot
 plain_is_insn slot a h = by_form (form_at slot.opcode) refl h
@@ -155,20 +147,3 @@ len_answered order s (Ok n) found fault i b =
     okay : ℕ → Result ℕ SlotFault
     okay x = Ok x
 len_answered order s (Err e) found fault i b = absurd (fault.unspelled i b)
-
--- ---- the table
-
--- the rules of the numbers below n
-abbrev pub listed : (ℕ → Option Rule) → ℕ → List (Option Rule)
-listed f zero = []
-listed f (suc n) = f n ∷ listed f n
-
-same_at : (f g : ℕ → Option Rule) (n : ℕ) → listed f n ≡ listed g n → (k : ℕ) → k < n → f k ≡ g k
-same_at f g zero e k h = absurd (omega (arith, h))
-same_at f g (suc n) e k h = elim (cases_eq k n) [
-  | inl same ↦ rw same (ap (λ (rules : List (Option Rule)). slice_index_or rules 0 None) e)
-  | inr other ↦ same_at f g n (ap (λ (rules : List (Option Rule)). drop 1 rules) e) k (omega arith)
-]
-
-pub table_told : (f : ℕ → Option Rule) → listed f 256 ≡ listed rule_at 256 → (n : ℕ) → n < 256 → f n ≡ rule_at n
-table_told f e n h = same_at f rule_at 256 e n h

@@ -1,39 +1,54 @@
--- Plain: instructions in which each field after the opcode is judged by itself. No contract of a public
--- function cites this file.
-use Rattle.std.specs.Prelude.{◌≡◌, ℕ, ◌≤◌, pos, Bool, true, false, Option, Some, None, IsSomeAnd, option_and_then}
+-- Plain: instructions in which each field after the opcode is judged by itself, and these judgements as bits of a number.
+-- No contract of a public function cites this file.
+use Rattle.std.specs.Prelude.{◌≡◌, ℕ, ◌+◌, ◌*◌, ◌/◌, ◌%◌, ◌≤◌, pos, Bool, true, false, Option, Some, None, IsSomeAnd, option_and_then}
 use Rattle.std.specs.Bool.{OnFalse}
-use Rattle.bpf_words.specs.Slots.{Fields}
+use Rattle.bpf_words.specs.declared.Order.{Order}
+use Rattle.bpf_words.specs.Slots.{Fields, register_byte}
 use Rattle.bpf_insn.specs.Forms.{form_at}
 use Rattle.bpf_insn.specs.declared.form.Source.{Source}
 use Rattle.bpf_insn.specs.declared.form.Source.TheVariants.{K, X}
 use Rattle.bpf_insn.specs.declared.form.Form.{Form}
-use Rattle.bpf_insn.specs.declared.form.Form.TheVariants.{Alu, Jump, Branch, Call, Exit, Load, LoadSigned, StoreImm, StoreReg}
-use Rattle.bpf_insn.specs.declared.plain.Rule.{Rule}
+use Rattle.bpf_insn.specs.declared.form.Form.TheVariants.{Alu, Neg, Jump, JumpLong, Branch, Call, Exit, Load, LoadSigned, StoreImm, StoreReg, PacketAbs, PacketInd}
+
+-- which fields may have any value, and not 0 alone
+pub record Rule : Type 0 where
+  pub any_dst : Bool
+  pub any_src : Bool
+  pub any_off : Bool
+  pub any_imm : Bool
 
 -- the fields are within a rule
-abbrev pub IsWithin : Rule → Fields → Type 0
-IsWithin r slot =
-    (slot.dst ≤ r.dst_max) × (slot.src ≤ r.src_max) × OnFalse r.any_off (slot.off ≡ pos 0) × OnFalse r.any_imm (slot.imm ≡ pos 0)
+pub record IsWithin (r : Rule) (slot : Fields) : Type 0 where
+  pub dst : slot.dst ≤ 10
+  pub src : slot.src ≤ 10
+  pub no_dst : OnFalse r.any_dst (slot.dst ≡ 0)
+  pub no_src : OnFalse r.any_src (slot.src ≡ 0)
+  pub no_off : OnFalse r.any_off (slot.off ≡ pos 0)
+  pub no_imm : OnFalse r.any_imm (slot.imm ≡ pos 0)
 
-abbrev pub rule : ℕ → ℕ → Bool → Bool → Rule
-rule dst_max src_max any_off any_imm = record { dst_max = dst_max; src_max = src_max; any_off = any_off; any_imm = any_imm }
+abbrev pub rule : Bool → Bool → Bool → Bool → Rule
+rule any_dst any_src any_off any_imm = record { any_dst = any_dst; any_src = any_src; any_off = any_off; any_imm = any_imm }
 
 -- with a destination, and a number or a register as the other operand
 abbrev pub operand_rule : Source → Bool → Rule
-operand_rule K any_off = rule 10 0 any_off true
-operand_rule X any_off = rule 10 10 any_off false
+operand_rule K any_off = rule true false any_off true
+operand_rule X any_off = rule true true any_off false
 
--- the rule of a form, if it has one
+-- the rule of a form, if it has one; of calls it allows those of helpers alone
 abbrev pub rule_of_form : Form → Option Rule
 rule_of_form (Alu width op source) = Some (operand_rule source false)
-rule_of_form Jump = Some (rule 0 0 true false)
+rule_of_form (Neg width) = Some (rule true false false false)
+rule_of_form Jump = Some (rule false false true false)
+rule_of_form JumpLong = Some (rule false false false true)
 rule_of_form (Branch width op source) = Some (operand_rule source true)
-rule_of_form Call = Some (rule 0 2 false true)
-rule_of_form Exit = Some (rule 0 0 false false)
+rule_of_form Call = Some (rule false false false true)
+rule_of_form Exit = Some (rule false false false false)
 rule_of_form (Load z) = Some (operand_rule X true)
 rule_of_form (LoadSigned z) = Some (operand_rule X true)
 rule_of_form (StoreImm z) = Some (operand_rule K true)
 rule_of_form (StoreReg z) = Some (operand_rule X true)
+rule_of_form (PacketAbs z) = Some (rule false false false true)
+rule_of_form (PacketInd z) = Some (rule false true false true)
 rule_of_form _ = None
 
 abbrev pub rule_at : ℕ → Option Rule
@@ -42,3 +57,27 @@ rule_at n = option_and_then rule_of_form (form_at n)
 -- the opcode has a rule, and the fields are within it
 abbrev pub IsPlain : Fields → Type 0
 IsPlain slot = IsSomeAnd (rule_at slot.opcode) (λ r. IsWithin r slot)
+
+-- ---- as bits of the number whose bytes, the least significant one first, are those of a slot
+
+-- the bits that have to be 0: all of them, or none where any value is allowed
+abbrev pub zero_unless : Bool → ℕ → ℕ
+zero_unless true all = 0
+zero_unless false all = all
+
+abbrev pub rule_bits : Order → Rule → ℕ
+rule_bits order r =
+    0x100 * (register_byte order (zero_unless r.any_dst 0xf) (zero_unless r.any_src 0xf)
+    + 0x100 * (zero_unless r.any_off 0xffff + 0x10000 * zero_unless r.any_imm 0xffffffff))
+
+-- without a rule, bit 0
+abbrev pub bits_of : Order → Option Rule → ℕ
+bits_of order None = 1
+bits_of order (Some r) = rule_bits order r
+
+abbrev pub zero_bits_at : Order → ℕ → ℕ
+zero_bits_at order n = bits_of order (rule_at n)
+
+-- how many of the two registers of a byte are above 10
+abbrev pub registers_above : ℕ → ℕ
+registers_above n = n % 16 / 11 + n / 16 / 11

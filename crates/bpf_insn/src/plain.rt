@@ -1,144 +1,157 @@
-//! Instructions that are told by a table.
+//! Instructions that are told by tables.
 //!
-//! In most instructions each field after the opcode is judged by itself. A table has what each opcode
-//! allows there, so that these are told without being made. The others are left to be read: wide
-//! loads, byte swaps, atomic operations, operations with an offset, and a few rare opcodes.
+//! In most instructions each field after the opcode is judged by itself: it has to be 0, or it may have any value, but
+//! for a register above 10. So a slot is judged at once, as a number of 64 bits, by the bits that have to be 0 for its
+//! opcode, and by whether a register is above 10. The others are left to be read: wide loads, byte swaps, atomic
+//! operations, operations with an offset, and calls of anything but helpers.
 
-ghost use Rattle.std.specs.Prelude.{◌≡◌, ◌↔◌, ◌<◌, IsTrue};
-ghost use Rattle.bpf_insn.specs.Plain.{IsPlain, IsWithin, rule_at};
+ghost use Rattle.std.specs.Prelude.{◌≡◌, IsTrue};
+ghost use Rattle.bpf_words.specs.Slots.{AreFields, Fields, spelled};
+ghost use Rattle.bpf_insn.specs.Plain.{IsPlain, registers_above, zero_bits_at};
 
-use crate::Slot;
+use crate::{Order, Slot};
+use bpf_words::slot_of;
 
-/// Values of the fields after an opcode, each of which makes an instruction whatever the others are.
-#[derive(Clone, Copy)]
-pub struct Rule {
-    /// The highest dst.
-    dst_max: u8,
-    /// The highest src.
-    src_max: u8,
-    /// Any offset, and not 0 alone.
-    any_off: bool,
-    /// Any immediate, and not 0 alone.
-    any_imm: bool,
+/// An opcode that is left to be read. Bit 0 is set before a slot is judged.
+const NONE: u64 = 1;
+
+/// A destination and an immediate.
+const IMM_LITTLE: u64 = 0x0000_0000_ffff_f000;
+
+const IMM_BIG: u64 = 0x0000_0000_ffff_0f00;
+
+/// A destination, an offset and an immediate.
+const IMM_OFF_LITTLE: u64 = 0x0000_0000_0000_f000;
+
+const IMM_OFF_BIG: u64 = 0x0000_0000_0000_0f00;
+
+/// A destination alone.
+const DST_LITTLE: u64 = 0xffff_ffff_ffff_f000;
+
+const DST_BIG: u64 = 0xffff_ffff_ffff_0f00;
+
+/// A source and an immediate.
+const SRC_IMM_LITTLE: u64 = 0x0000_0000_ffff_0f00;
+
+const SRC_IMM_BIG: u64 = 0x0000_0000_ffff_f000;
+
+/// A destination and a source.
+const REG: u64 = 0xffff_ffff_ffff_0000;
+
+/// A destination, a source and an offset.
+const REG_OFF: u64 = 0xffff_ffff_0000_0000;
+
+/// An offset alone.
+const OFF: u64 = 0xffff_ffff_0000_ff00;
+
+/// An immediate alone.
+const ID: u64 = 0x0000_0000_ffff_ff00;
+
+/// No field but the opcode.
+const EXIT: u64 = 0xffff_ffff_ffff_ff00;
+
+/// The bits that have to be 0 for each opcode: a row for its five high bits, and in it a place for each class, LD, LDX,
+/// ST, STX, ALU, JMP, JMP32 and ALU64. Those of one register's half depend on the byte order.
+macro_rules! by_opcode {
+    ($imm:expr, $imm_off:expr, $dst:expr, $src_imm:expr) => {
+        [
+            // 0x00
+            NONE, NONE, NONE, NONE, $imm, OFF, ID, $imm,
+            NONE, NONE, NONE, NONE, REG, NONE, NONE, REG,
+            NONE, NONE, NONE, NONE, $imm, $imm_off, $imm_off, $imm,
+            NONE, NONE, NONE, NONE, REG, REG_OFF, REG_OFF, REG,
+            ID, NONE, NONE, NONE, $imm, $imm_off, $imm_off, $imm,
+            ID, NONE, NONE, NONE, REG, REG_OFF, REG_OFF, REG,
+            ID, NONE, NONE, NONE, $imm, $imm_off, $imm_off, $imm,
+            NONE, NONE, NONE, NONE, REG, REG_OFF, REG_OFF, REG,
+            // 0x40
+            $src_imm, NONE, NONE, NONE, $imm, $imm_off, $imm_off, $imm,
+            $src_imm, NONE, NONE, NONE, REG, REG_OFF, REG_OFF, REG,
+            $src_imm, NONE, NONE, NONE, $imm, $imm_off, $imm_off, $imm,
+            NONE, NONE, NONE, NONE, REG, REG_OFF, REG_OFF, REG,
+            NONE, REG_OFF, $imm_off, REG_OFF, $imm, $imm_off, $imm_off, $imm,
+            NONE, REG_OFF, $imm_off, REG_OFF, REG, REG_OFF, REG_OFF, REG,
+            NONE, REG_OFF, $imm_off, REG_OFF, $imm, $imm_off, $imm_off, $imm,
+            NONE, REG_OFF, $imm_off, REG_OFF, REG, REG_OFF, REG_OFF, REG,
+            // 0x80
+            NONE, REG_OFF, NONE, NONE, $dst, ID, NONE, $dst,
+            NONE, REG_OFF, NONE, NONE, NONE, NONE, NONE, NONE,
+            NONE, REG_OFF, NONE, NONE, $imm, EXIT, NONE, $imm,
+            NONE, NONE, NONE, NONE, REG, NONE, NONE, REG,
+            NONE, NONE, NONE, NONE, $imm, $imm_off, $imm_off, $imm,
+            NONE, NONE, NONE, NONE, REG, REG_OFF, REG_OFF, REG,
+            NONE, NONE, NONE, NONE, $imm, $imm_off, $imm_off, $imm,
+            NONE, NONE, NONE, NONE, REG, REG_OFF, REG_OFF, REG,
+            // 0xc0
+            NONE, NONE, NONE, NONE, $imm, $imm_off, $imm_off, $imm,
+            NONE, NONE, NONE, NONE, REG, REG_OFF, REG_OFF, REG,
+            NONE, NONE, NONE, NONE, NONE, $imm_off, $imm_off, NONE,
+            NONE, NONE, NONE, NONE, NONE, REG_OFF, REG_OFF, NONE,
+            NONE, NONE, NONE, NONE, NONE, NONE, NONE, NONE,
+            NONE, NONE, NONE, NONE, NONE, NONE, NONE, NONE,
+            NONE, NONE, NONE, NONE, NONE, NONE, NONE, NONE,
+            NONE, NONE, NONE, NONE, NONE, NONE, NONE, NONE,
+        ]
+    };
 }
 
-const NONE: Option<Rule> = None;
+static ZERO_LITTLE: [u64; 256] = by_opcode!(IMM_LITTLE, IMM_OFF_LITTLE, DST_LITTLE, SRC_IMM_LITTLE);
 
-const IMM: Option<Rule> = Some(Rule {
-    dst_max: 10,
-    src_max: 0,
-    any_off: false,
-    any_imm: true,
-});
+static ZERO_BIG: [u64; 256] = by_opcode!(IMM_BIG, IMM_OFF_BIG, DST_BIG, SRC_IMM_BIG);
 
-const REG: Option<Rule> = Some(Rule {
-    dst_max: 10,
-    src_max: 10,
-    any_off: false,
-    any_imm: false,
-});
-
-const IMM_OFF: Option<Rule> = Some(Rule {
-    dst_max: 10,
-    src_max: 0,
-    any_off: true,
-    any_imm: true,
-});
-
-const REG_OFF: Option<Rule> = Some(Rule {
-    dst_max: 10,
-    src_max: 10,
-    any_off: true,
-    any_imm: false,
-});
-
-const JUMP: Option<Rule> = Some(Rule {
-    dst_max: 0,
-    src_max: 0,
-    any_off: true,
-    any_imm: false,
-});
-
-const CALL: Option<Rule> = Some(Rule {
-    dst_max: 0,
-    src_max: 2,
-    any_off: false,
-    any_imm: true,
-});
-
-const EXIT: Option<Rule> = Some(Rule {
-    dst_max: 0,
-    src_max: 0,
-    any_off: false,
-    any_imm: false,
-});
-
-/// The rule of each opcode: a row for the five high bits, and in it a place for each class, LD, LDX,
-/// ST, STX, ALU, JMP, JMP32 and ALU64.
-static RULES: [[Option<Rule>; 8]; 32] = [
-    // 0x00
-    [NONE, NONE, NONE, NONE, IMM, JUMP, NONE, IMM],
-    [NONE, NONE, NONE, NONE, REG, NONE, NONE, REG],
-    [NONE, NONE, NONE, NONE, IMM, IMM_OFF, IMM_OFF, IMM],
-    [NONE, NONE, NONE, NONE, REG, REG_OFF, REG_OFF, REG],
-    [NONE, NONE, NONE, NONE, IMM, IMM_OFF, IMM_OFF, IMM],
-    [NONE, NONE, NONE, NONE, REG, REG_OFF, REG_OFF, REG],
-    [NONE, NONE, NONE, NONE, IMM, IMM_OFF, IMM_OFF, IMM],
-    [NONE, NONE, NONE, NONE, REG, REG_OFF, REG_OFF, REG],
-    // 0x40
-    [NONE, NONE, NONE, NONE, IMM, IMM_OFF, IMM_OFF, IMM],
-    [NONE, NONE, NONE, NONE, REG, REG_OFF, REG_OFF, REG],
-    [NONE, NONE, NONE, NONE, IMM, IMM_OFF, IMM_OFF, IMM],
-    [NONE, NONE, NONE, NONE, REG, REG_OFF, REG_OFF, REG],
-    [NONE, REG_OFF, IMM_OFF, REG_OFF, IMM, IMM_OFF, IMM_OFF, IMM],
-    [NONE, REG_OFF, IMM_OFF, REG_OFF, REG, REG_OFF, REG_OFF, REG],
-    [NONE, REG_OFF, IMM_OFF, REG_OFF, IMM, IMM_OFF, IMM_OFF, IMM],
-    [NONE, REG_OFF, IMM_OFF, REG_OFF, REG, REG_OFF, REG_OFF, REG],
-    // 0x80
-    [NONE, REG_OFF, NONE, NONE, NONE, CALL, NONE, NONE],
-    [NONE, REG_OFF, NONE, NONE, NONE, NONE, NONE, NONE],
-    [NONE, REG_OFF, NONE, NONE, IMM, EXIT, NONE, IMM],
-    [NONE, NONE, NONE, NONE, REG, NONE, NONE, REG],
-    [NONE, NONE, NONE, NONE, IMM, IMM_OFF, IMM_OFF, IMM],
-    [NONE, NONE, NONE, NONE, REG, REG_OFF, REG_OFF, REG],
-    [NONE, NONE, NONE, NONE, IMM, IMM_OFF, IMM_OFF, IMM],
-    [NONE, NONE, NONE, NONE, REG, REG_OFF, REG_OFF, REG],
-    // 0xc0
-    [NONE, NONE, NONE, NONE, IMM, IMM_OFF, IMM_OFF, IMM],
-    [NONE, NONE, NONE, NONE, REG, REG_OFF, REG_OFF, REG],
-    [NONE, NONE, NONE, NONE, NONE, IMM_OFF, IMM_OFF, NONE],
-    [NONE, NONE, NONE, NONE, NONE, REG_OFF, REG_OFF, NONE],
-    [NONE, NONE, NONE, NONE, NONE, NONE, NONE, NONE],
-    [NONE, NONE, NONE, NONE, NONE, NONE, NONE, NONE],
-    [NONE, NONE, NONE, NONE, NONE, NONE, NONE, NONE],
-    [NONE, NONE, NONE, NONE, NONE, NONE, NONE, NONE],
-];
-
-/// The rule of an opcode, if the table has one.
-fn rule_of(opcode: u8) -> Option<Rule>
-    ensures { result ≡ rule_at opcode }
-{
-    RULES[opcode as usize / 8][opcode as usize % 8]
-}
-
-/// Tells whether the fields of a slot are within a rule.
-fn is_within(rule: Rule, slot: Slot) -> bool
-    ensures { IsTrue result ↔ IsWithin rule slot }
-{
-    slot.dst <= rule.dst_max
-        && slot.src <= rule.src_max
-        && (rule.any_off || slot.off == 0)
-        && (rule.any_imm || slot.imm == 0)
-}
-
-/// Tells whether a slot's opcode has a rule, and its fields are within it. The slot is then an
-/// instruction.
+/// The bits that have to be 0 in a slot with this opcode.
 #[inline(always)]
-pub(crate) fn is_plain(slot: Slot) -> bool
-    ensures { IsTrue result ↔ IsPlain slot }
+fn zero_bits(order: Order, opcode: u8) -> u64
+    ensures { result ≡ zero_bits_at order opcode }
 {
-    match rule_of(slot.opcode) {
-        Some(rule) => is_within(rule, slot),
-        None => false,
+    match order {
+        Order::Little => ZERO_LITTLE[opcode as usize],
+        Order::Big => ZERO_BIG[opcode as usize],
     }
+}
+
+/// A value for each register byte: a row for its high half, and in it a place for its low half.
+macro_rules! by_registers {
+    ($none:expr, $one:expr, $both:expr) => {
+        [
+            $none, $none, $none, $none, $none, $none, $none, $none, $none, $none, $none, $one, $one, $one, $one, $one,
+            $none, $none, $none, $none, $none, $none, $none, $none, $none, $none, $none, $one, $one, $one, $one, $one,
+            $none, $none, $none, $none, $none, $none, $none, $none, $none, $none, $none, $one, $one, $one, $one, $one,
+            $none, $none, $none, $none, $none, $none, $none, $none, $none, $none, $none, $one, $one, $one, $one, $one,
+            $none, $none, $none, $none, $none, $none, $none, $none, $none, $none, $none, $one, $one, $one, $one, $one,
+            $none, $none, $none, $none, $none, $none, $none, $none, $none, $none, $none, $one, $one, $one, $one, $one,
+            $none, $none, $none, $none, $none, $none, $none, $none, $none, $none, $none, $one, $one, $one, $one, $one,
+            $none, $none, $none, $none, $none, $none, $none, $none, $none, $none, $none, $one, $one, $one, $one, $one,
+            $none, $none, $none, $none, $none, $none, $none, $none, $none, $none, $none, $one, $one, $one, $one, $one,
+            $none, $none, $none, $none, $none, $none, $none, $none, $none, $none, $none, $one, $one, $one, $one, $one,
+            $none, $none, $none, $none, $none, $none, $none, $none, $none, $none, $none, $one, $one, $one, $one, $one,
+            $one, $one, $one, $one, $one, $one, $one, $one, $one, $one, $one, $both, $both, $both, $both, $both,
+            $one, $one, $one, $one, $one, $one, $one, $one, $one, $one, $one, $both, $both, $both, $both, $both,
+            $one, $one, $one, $one, $one, $one, $one, $one, $one, $one, $one, $both, $both, $both, $both, $both,
+            $one, $one, $one, $one, $one, $one, $one, $one, $one, $one, $one, $both, $both, $both, $both, $both,
+            $one, $one, $one, $one, $one, $one, $one, $one, $one, $one, $one, $both, $both, $both, $both, $both,
+        ]
+    };
+}
+
+/// How many of the two registers are above 10.
+static ABOVE: [u64; 256] = by_registers!(0, 1, 2);
+
+/// How many registers of a register byte are above 10.
+#[inline(always)]
+fn registers_above_ten(registers: u8) -> u64
+    ensures { result ≡ registers_above registers }
+{
+    ABOVE[registers as usize]
+}
+
+/// Tells whether 8 bytes are a plain instruction: the opcode has a rule, and the other fields are within it.
+#[inline(always)]
+pub(crate) fn is_plain(order: Order, bytes: &[u8; 8]) -> bool
+    ensures { IsTrue result → (slot : Fields) × (AreFields slot × ((bytes.now ≡ spelled order slot) × IsPlain slot)) }
+{
+    let slot: Slot = slot_of(order, bytes);
+    let word = u64::from_le_bytes(*bytes) | 1;
+    let set = word & zero_bits(order, slot.opcode);
+    (set | registers_above_ten(bytes[1])) == 0
 }

@@ -1,12 +1,11 @@
-//! Worked examples, refused memory and hostile texts.
+//! Worked examples and hostile texts.
 
 mod every_word;
+mod memory;
 
 use crate::{LineCause, LineFault, ListError, listing, push_line, read_listing};
 use bpf_insn::{Insn, Order, decode_insns, insn_bytes};
-use bumpalo::Bump;
 use std::alloc::Allocator;
-use std::process::Abort;
 use std::test::Fail;
 
 fn little_endian<A: Allocator>(alloc: A, insns: &[Insn]) -> Result<Vec<u8, A>, Fail> {
@@ -35,7 +34,7 @@ fn errors_show_their_names(rt: HostRuntime) -> Result<(), Fail> {
 
 #[test]
 fn lines_are_read_and_listed(rt: HostRuntime) -> Result<(), Fail> {
-    let examples: [(&[u8], &[u8], &[u8]); 16] = [
+    let examples: [(&[u8], &[u8], &[u8]); 25] = [
         (b"", b"", b""),
         (b"# none\n\n", b"", b""),
         (b"exit", b"\x95\0\0\0\0\0\0\0", b"exit\n"),
@@ -73,6 +72,35 @@ fn lines_are_read_and_listed(rt: HostRuntime) -> Result<(), Fail> {
             b"lddw r1, 0xffffffffffffffff",
             b"\x18\x01\0\0\xff\xff\xff\xff\0\0\0\0\xff\xff\xff\xff",
             b"lddw r1, 18446744073709551615\n",
+        ),
+        (b"mov32 r1, 7", b"\xb4\x01\0\0\x07\0\0\0", b"mov32 r1, 7\n"),
+        (b"ja +0", b"\x05\0\0\0\0\0\0\0", b"ja +0\n"),
+        (
+            b"movsx8 r2, r1",
+            b"\xbf\x12\x08\0\0\0\0\0",
+            b"movsx8 r2, r1\n",
+        ),
+        (
+            b"ldindh r3, 4",
+            b"\x48\x30\0\0\x04\0\0\0",
+            b"ldindh r3, 4\n",
+        ),
+        (b"swap32 r1", b"\xd7\x01\0\0\x20\0\0\0", b"swap32 r1\n"),
+        (b"swap64 r1", b"\xd7\x01\0\0\x40\0\0\0", b"swap64 r1\n"),
+        (
+            b"call_btf 7, 5",
+            b"\x85\x20\x05\0\x07\0\0\0",
+            b"call_btf 7, 5\n",
+        ),
+        (
+            b"lddw_var r1, 3, 1",
+            b"\x18\x31\0\0\x03\0\0\0\0\0\0\0\x01\0\0\0",
+            b"lddw_var r1, 3, 1\n",
+        ),
+        (
+            b"ldxsb r2, [r1+4]",
+            b"\x91\x12\x04\0\0\0\0\0",
+            b"ldxsb r2, [r1+4]\n",
         ),
         (
             b"  mov r1 , 0x10 ; sixteen\n\n# none\nexit",
@@ -192,70 +220,15 @@ fn long_lines_are_refused(rt: HostRuntime) -> Result<(), Fail> {
     Ok(())
 }
 
-// Each growth is refused in turn: an arena of one chunk, of which ever more was given away before.
 #[test]
-fn each_growth_is_refused(rt: HostRuntime) -> Result<(), Fail> {
-    let taken = [0u8; 448];
-    let text = b"exit\nlddw_map_value r1, 3, -4\nmov r1, 7\nexit\nexit\n".as_slice();
-    let insns = read_listing(rt.alloc(), text)?;
-    let mut refused = [0u32; 3];
-    let mut done = [0u32; 3];
-    for fill in 0..=448usize {
-        for call in 0..3usize {
-            let bump = Bump::new(rt.alloc());
-            bump.set_allocation_limit(Some(448));
-            if bump.try_alloc_slice_copy(&taken[..fill]).is_err() {
-                continue;
-            }
-            let is_done = match call {
-                0 => match read_listing(&bump, text) {
-                    Ok(found) => {
-                        assert!(rt; found.as_slice() == insns.as_slice());
-                        true
-                    }
-                    Err(error) => {
-                        assert_eq!(rt; error, ListError::Memory);
-                        false
-                    }
-                },
-                1 => match listing(&bump, &insns) {
-                    Ok(found) => {
-                        assert_eq!(rt; found.as_slice(), text);
-                        true
-                    }
-                    Err(_) => false,
-                },
-                _ => lines_until_refused(&rt, &bump, &insns, text)?,
-            };
-            if is_done {
-                done[call] = done[call].saturating_add(1);
-            } else {
-                refused[call] = refused[call].saturating_add(1);
-            }
-        }
+fn causes_have_their_numbers(rt: HostRuntime) {
+    let causes = [
+        LineCause::Char,
+        LineCause::Word,
+        LineCause::Shape,
+        LineCause::Range,
+    ];
+    for (i, cause) in causes.iter().enumerate() {
+        assert_eq!(rt; *cause as usize, i + 1);
     }
-    for call in 0..3usize {
-        assert!(rt; done[call] > 0 && refused[call] > 0, "call {call}");
-    }
-    Ok(())
-}
-
-/// Appends line after line. Where memory is refused the text has whole lines alone.
-fn lines_until_refused(
-    rt: &impl Abort,
-    bump: &Bump,
-    insns: &[Insn],
-    text: &[u8],
-) -> Result<bool, Fail> {
-    let mut out = Vec::new(bump);
-    for insn in insns {
-        let before = out.len();
-        if push_line(&mut out, *insn).is_err() {
-            assert_eq!(rt; out.len(), before);
-            assert!(rt; text.starts_with(out.as_slice()));
-            return Ok(false);
-        }
-    }
-    assert_eq!(rt; out.as_slice(), text);
-    Ok(true)
 }

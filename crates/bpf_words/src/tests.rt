@@ -2,6 +2,7 @@
 
 use crate::{Order, Slot, get16, get32, push16, push32, slot_bytes, slot_of};
 use bumpalo::Bump;
+use std::process::Abort;
 use std::test::Fail;
 
 #[test]
@@ -41,13 +42,60 @@ fn slots_in_both_orders(rt: HostRuntime) {
     assert!(rt; slot_bytes(Order::Big, slot) == *big);
 }
 
+const ROOM: usize = 448;
+
+/// What a vector holds, or its first bytes, before a word is appended.
+const HELD: &[u8; 8] = b"\x11\x12\x13\x14\x15\x16\x17\x18";
+
+/// Gives away all of the arena but so many bytes.
+fn leave(bump: &Bump, room: usize) -> bool {
+    let taken = [0u8; ROOM];
+    bump.set_allocation_limit(Some(ROOM));
+    room <= ROOM && bump.try_alloc_slice_copy(&taken[room..]).is_ok()
+}
+
+/// Appends a word of 16 or of 32 bits to some bytes in an arena. The answer says whether it was appended, or else its
+/// growth was refused and the vector is as it was; it is `None` where the arena hasn't even room for the bytes.
+fn append(rt: &impl Abort, bump: &Bump, held: &[u8], is_long: bool) -> Option<bool> {
+    let Ok(mut out) = Vec::from_slice(bump, held) else {
+        return None;
+    };
+    let (appended, word) = if is_long {
+        let appended = push32(&mut out, Order::Little, 0x0405_0607);
+        (appended, b"\x07\x06\x05\x04".as_slice())
+    } else {
+        let appended = push16(&mut out, Order::Big, 0x0203);
+        (appended, b"\x02\x03".as_slice())
+    };
+    assert!(rt; out.starts_with(held));
+    if appended.is_err() {
+        assert_eq!(rt; out.len(), held.len());
+        return Some(false);
+    }
+    assert_eq!(rt; &out[held.len()..], word);
+    Some(true)
+}
+
 #[test]
-fn refused_words_change_nothing(rt: HostRuntime) -> Result<(), Fail> {
-    let bump = Bump::new(rt.alloc());
-    bump.set_allocation_limit(Some(0));
-    let mut out = Vec::new(&bump);
-    assert!(rt; push16(&mut out, Order::Big, 0x0203).is_err());
-    assert!(rt; push32(&mut out, Order::Little, 0x0405_0607).is_err());
-    assert_eq!(rt; out.len(), 0);
-    Ok(())
+fn refused_words_change_nothing(rt: HostRuntime) {
+    for is_long in [false, true] {
+        for held in 0..=8usize {
+            let mut refused = 0u32;
+            let mut done = 0u32;
+            for room in 0..=64usize {
+                let bump = Bump::new(rt.alloc());
+                if !leave(&bump, room) {
+                    continue;
+                }
+                match append(&rt, &bump, &HELD[..held], is_long) {
+                    None => {}
+                    Some(false) => refused = refused.saturating_add(1),
+                    Some(true) => done = done.saturating_add(1),
+                }
+            }
+            // The word needs room beside what is held, and each smaller room is refused.
+            let word = if is_long { 4 } else { 2 };
+            assert!(rt; refused >= word && done > 0, "{held} bytes held");
+        }
+    }
 }

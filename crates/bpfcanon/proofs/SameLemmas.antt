@@ -14,7 +14,7 @@ use Rattle.bpfcanon.specs.Outcome.{newline}
 use Rattle.bpfcanon.specs.Reply.{IsSameReply, different, same, second_at_fault}
 
 -- a reply that was made of an outcome and some bytes
-pub reply_with : (P : Outcome → List ℕ → Type 0) (r : Result Reply AllocError) (outcome : Outcome) (bytes : List ℕ)
+pub reply_with : {A : Type 0} (P : Outcome → List ℕ → Type 0) (r : Result (Reply A) AllocError) (outcome : Outcome) (bytes : List ℕ)
     → IfOk r (λ x. x.outcome ≡ outcome) → IfOk r (λ x. x.output.items ≡ bytes) → P outcome bytes → IfOk r (λ x. P x.outcome x.output.items)
 reply_with P (Ok x) outcome bytes e f p = rw (e, f) p
 reply_with P (Err x) outcome bytes e f p = tt

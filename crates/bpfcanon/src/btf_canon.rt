@@ -7,11 +7,11 @@ ghost use Rattle.bpfcanon.specs.Ends.{EndsJob, change};
 use crate::command_line::Job;
 use crate::outcome::Outcome;
 use bpf_canon::{ByteSink, ByteSource, RunCause, run_btf};
-use std::alloc::Global;
+use std::alloc::Allocator;
 
 /// Runs `btf-canon`, which writes once it has read its input whole.
-pub fn run_btf_canon<S: ByteSource, W: ByteSink>(
-    alloc: Global,
+pub fn run_btf_canon<A: Allocator + Copy, S: ByteSource, W: ByteSink>(
+    alloc: A,
     job: Job,
     source: &mut S,
     sink: &mut W,

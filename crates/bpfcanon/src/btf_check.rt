@@ -9,10 +9,10 @@ use crate::outcome::Outcome;
 use crate::reply::Reply;
 use btf_types::{BtfError, BtfView, TypeTable};
 use itoa::Buffer;
-use std::alloc::{AllocError, Global};
+use std::alloc::{AllocError, Allocator};
 
 /// The line of a file without a fault: how many types it has.
-fn count_line(alloc: Global, count: u32) -> Result<Vec<u8>, AllocError>
+fn count_line<A: Allocator>(alloc: A, count: u32) -> Result<Vec<u8, A>, AllocError>
     ensures { IfOk result (λ line. line.items ≡ count_line count) }
 {
     let mut buffer = Buffer::new();
@@ -23,7 +23,7 @@ fn count_line(alloc: Global, count: u32) -> Result<Vec<u8>, AllocError>
 }
 
 /// How many types a BTF file has, or its first fault.
-pub fn check_reply(alloc: Global, input: &[u8]) -> Result<Reply, AllocError>
+pub fn check_reply<A: Allocator + Copy>(alloc: A, input: &[u8]) -> Result<Reply<A>, AllocError>
     requires { length input.now ≤ limit_of BtfCheck }
     ensures { IfOk result (λ r. IsBtfCheckReply (limit_of BtfCheck) input.now r.outcome r.output.items) }
 {

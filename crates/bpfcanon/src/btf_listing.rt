@@ -9,10 +9,10 @@ use crate::btf_text::show_btf;
 use crate::outcome::Outcome;
 use crate::reply::Reply;
 use btf_types::{BtfError, BtfView};
-use std::alloc::{AllocError, Global};
+use std::alloc::{AllocError, Allocator};
 
 /// The text of the types of a BTF file, or its first fault.
-pub fn btf_show_reply(alloc: Global, input: &[u8]) -> Result<Reply, AllocError>
+pub fn btf_show_reply<A: Allocator + Copy>(alloc: A, input: &[u8]) -> Result<Reply<A>, AllocError>
     requires { length input.now ≤ limit_of BtfShow }
     ensures { IfOk result (λ r. IsBtfShowReply (limit_of BtfShow) input.now r.outcome r.output.items) }
 {

@@ -8,11 +8,15 @@ ghost use Rattle.bpfcanon.specs.Reply.{limit_of};
 use crate::outcome::Outcome;
 use crate::reply::Reply;
 use bpf_canon::{SideError, same_btf};
-use std::alloc::{AllocError, Global};
+use std::alloc::{AllocError, Allocator};
 
 /// Whether two BTF files have the same types. The first is the input's first `split` bytes, and the
 /// second the rest.
-pub fn btf_same_reply(alloc: Global, split: u64, input: &[u8]) -> Result<Reply, AllocError>
+pub fn btf_same_reply<A: Allocator + Copy>(
+    alloc: A,
+    split: u64,
+    input: &[u8],
+) -> Result<Reply<A>, AllocError>
     requires { length input.now ≤ limit_of BtfSame }
     ensures { IfOk result (λ r. IsBtfSameReply (limit_of BtfSame) split input.now r.outcome r.output.items) }
 {

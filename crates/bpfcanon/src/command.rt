@@ -13,11 +13,11 @@ use crate::outcome::{Outcome, put_line};
 use crate::reply::reply_to;
 use crate::verb::Verb;
 use bpf_canon::{ByteSink, ByteSource, ReadError, RunCause, put_all, read_all, run_insns};
-use std::alloc::Global;
+use std::alloc::{Allocator, Global};
 
 /// Runs `insn-canon`, which writes as it reads.
-fn run_canon<S: ByteSource, W: ByteSink>(
-    alloc: Global,
+fn run_canon<A: Allocator + Copy, S: ByteSource, W: ByteSink>(
+    alloc: A,
     job: Job,
     source: &mut S,
     sink: &mut W,
@@ -41,8 +41,8 @@ fn run_canon<S: ByteSource, W: ByteSink>(
 }
 
 /// Runs a command that no engine runs: it reads its input whole, and answers once.
-fn run_whole<S: ByteSource, W: ByteSink>(
-    alloc: Global,
+fn run_whole<A: Allocator + Copy, S: ByteSource, W: ByteSink>(
+    alloc: A,
     job: Job,
     source: &mut S,
     sink: &mut W,
@@ -70,8 +70,8 @@ fn run_whole<S: ByteSource, W: ByteSink>(
 }
 
 /// Runs a job from a source to a sink.
-fn run_job<S: ByteSource, W: ByteSink>(
-    alloc: Global,
+pub fn run_job<A: Allocator + Copy, S: ByteSource, W: ByteSink>(
+    alloc: A,
     job: Job,
     source: &mut S,
     sink: &mut W,

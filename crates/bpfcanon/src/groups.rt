@@ -8,7 +8,7 @@ ghost use Rattle.bpfcanon.specs.Reply.{IsGroupsReply, group_lines, group_name, l
 use crate::outcome::Outcome;
 use crate::reply::Reply;
 use bpf_insn::{Group, GroupSet, InsnError, Order, decode_insns, groups_of};
-use std::alloc::{AllocError, Global};
+use std::alloc::{AllocError, Allocator};
 
 /// All groups, in the order in which they are listed.
 const GROUPS: [Group; 7] = [
@@ -36,7 +36,7 @@ fn group_name(group: Group) -> &'static [u8]
 }
 
 /// The names of the groups of a set, each on a line of its own.
-fn group_lines(alloc: Global, set: GroupSet) -> Result<Vec<u8>, AllocError>
+fn group_lines<A: Allocator>(alloc: A, set: GroupSet) -> Result<Vec<u8, A>, AllocError>
     ensures { IfOk result (λ lines. lines.items ≡ group_lines (holds set)) }
 {
     let mut lines = Vec::new(alloc);
@@ -50,7 +50,11 @@ fn group_lines(alloc: Global, set: GroupSet) -> Result<Vec<u8>, AllocError>
 }
 
 /// The groups of the instructions of a file.
-pub fn groups_reply(alloc: Global, order: Order, input: &[u8]) -> Result<Reply, AllocError>
+pub fn groups_reply<A: Allocator + Copy>(
+    alloc: A,
+    order: Order,
+    input: &[u8],
+) -> Result<Reply<A>, AllocError>
     requires { length input.now ≤ limit_of InsnGroups }
     ensures { IfOk result (λ r. IsGroupsReply (limit_of InsnGroups) order input.now r.outcome r.output.items) }
 {

@@ -9,10 +9,14 @@ use crate::reply::Reply;
 use bpf_canon::write_insns;
 use bpf_insn::{InsnError, Order, decode_insns};
 use bpf_text::{ListError, listing, read_listing};
-use std::alloc::{AllocError, Global};
+use std::alloc::{AllocError, Allocator};
 
 /// The listing of the instructions of a file.
-pub fn show_reply(alloc: Global, order: Order, input: &[u8]) -> Result<Reply, AllocError>
+pub fn show_reply<A: Allocator + Copy>(
+    alloc: A,
+    order: Order,
+    input: &[u8],
+) -> Result<Reply<A>, AllocError>
     requires { length input.now ≤ limit_of InsnShow }
     ensures { IfOk result (λ r. IsShowReply (limit_of InsnShow) order input.now r.outcome r.output.items) }
 {
@@ -27,7 +31,11 @@ pub fn show_reply(alloc: Global, order: Order, input: &[u8]) -> Result<Reply, Al
 }
 
 /// The instructions that a text lists, in the order `to`.
-pub fn read_reply(alloc: Global, to: Order, input: &[u8]) -> Result<Reply, AllocError>
+pub fn read_reply<A: Allocator + Copy>(
+    alloc: A,
+    to: Order,
+    input: &[u8],
+) -> Result<Reply<A>, AllocError>
     requires { length input.now ≤ limit_of InsnRead }
     ensures { IfOk result (λ r. IsReadReply (limit_of InsnRead) to input.now r.outcome r.output.items) }
 {

@@ -12,20 +12,20 @@ use crate::listings::{read_reply, show_reply};
 use crate::outcome::Outcome;
 use crate::same::same_reply;
 use crate::verb::Verb;
-use std::alloc::{AllocError, Global};
+use std::alloc::{AllocError, Allocator};
 
 /// How a command ends, and its output.
 #[derive(Drop)]
-pub struct Reply {
+pub struct Reply<A: Allocator> {
     /// How the command ends.
     pub outcome: Outcome,
     /// The bytes for the output sink.
-    pub output: Vec<u8>,
+    pub output: Vec<u8, A>,
 }
 
-impl Reply {
+impl<A: Allocator> Reply<A> {
     /// A reply without output.
-    pub fn bare(alloc: Global, outcome: Outcome) -> Reply
+    pub fn bare(alloc: A, outcome: Outcome) -> Reply<A>
         ensures outcome { result.outcome ≡ outcome }
         ensures output { result.output.items ≡ [] }
     {
@@ -36,7 +36,7 @@ impl Reply {
     }
 
     /// A reply with these bytes.
-    pub fn with_bytes(alloc: Global, outcome: Outcome, bytes: &[u8]) -> Result<Reply, AllocError>
+    pub fn with_bytes(alloc: A, outcome: Outcome, bytes: &[u8]) -> Result<Reply<A>, AllocError>
         ensures outcome { IfOk result (λ r. r.outcome ≡ outcome) }
         ensures output { IfOk result (λ r. r.output.items ≡ bytes.now) }
     {
@@ -48,7 +48,11 @@ impl Reply {
 }
 
 /// The reply of a command that no engine runs to its whole input.
-pub fn reply_to(alloc: Global, job: Job, input: &[u8]) -> Result<Reply, AllocError>
+pub fn reply_to<A: Allocator + Copy>(
+    alloc: A,
+    job: Job,
+    input: &[u8],
+) -> Result<Reply<A>, AllocError>
     requires whole { has_engine job.verb ≡ false }
     requires within { length input.now ≤ limit_of job.verb }
     ensures { IfOk result (λ r. IsReply job.verb job input.now r.outcome r.output.items) }

@@ -8,11 +8,15 @@ use crate::command_line::Job;
 use crate::outcome::Outcome;
 use crate::reply::Reply;
 use bpf_canon::{SideError, same_insns};
-use std::alloc::{AllocError, Global};
+use std::alloc::{AllocError, Allocator};
 
 /// Whether two files have the same instructions. The first is the input's first bytes, as many as
 /// the job says, and the second the rest.
-pub fn same_reply(alloc: Global, job: Job, input: &[u8]) -> Result<Reply, AllocError>
+pub fn same_reply<A: Allocator + Copy>(
+    alloc: A,
+    job: Job,
+    input: &[u8],
+) -> Result<Reply<A>, AllocError>
     requires { length input.now ≤ limit_of InsnSame }
     ensures { IfOk result (λ r. IsSameReply (limit_of InsnSame) job.order job.other job.split input.now r.outcome r.output.items) }
 {

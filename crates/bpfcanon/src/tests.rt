@@ -1,5 +1,6 @@
-//! Worked examples, devices that fail, texts of BTF types, and the texts of errors.
+//! Worked examples, devices that fail, memory that is refused, texts of BTF types, and the texts of errors.
 
+mod arena;
 mod btf;
 mod btf_faults;
 mod btf_files;
@@ -8,4 +9,5 @@ mod devices;
 mod examples;
 mod lines;
 mod listings;
+mod refused;
 mod running;

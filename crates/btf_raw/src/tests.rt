@@ -172,3 +172,48 @@ fn faulty_frames_are_told(rt: HostRuntime) -> Result<(), Fail> {
     }
     Ok(())
 }
+
+#[test]
+fn causes_are_numbered_from_1_to_32(rt: HostRuntime) {
+    let causes = [
+        BtfCause::ShortHeader,
+        BtfCause::Magic,
+        BtfCause::Version,
+        BtfCause::Flags,
+        BtfCause::HeaderLength,
+        BtfCause::HeaderTail,
+        BtfCause::TypeLength,
+        BtfCause::StringLength,
+        BtfCause::Sections,
+        BtfCause::FileLength,
+        BtfCause::FirstString,
+        BtfCause::LastString,
+        BtfCause::RecordCut,
+        BtfCause::InfoBits,
+        BtfCause::KindNumber,
+        BtfCause::FlagSet,
+        BtfCause::Vlen,
+        BtfCause::TailCut,
+        BtfCause::NameRange,
+        BtfCause::NameUtf8,
+        BtfCause::NameMissing,
+        BtfCause::NameUnwanted,
+        BtfCause::TextsTooLong,
+        BtfCause::NotZero,
+        BtfCause::Size,
+        BtfCause::Reference,
+        BtfCause::TargetKind,
+        BtfCause::IntWord,
+        BtfCause::MemberInt,
+        BtfCause::MemberPlace,
+        BtfCause::Linkage,
+        BtfCause::Component,
+    ];
+    for (number, cause) in (1..=32_u8).zip(causes) {
+        assert_eq!(rt;
+            (cause as u8, cause.number()),
+            (number, number),
+            "{cause:?}"
+        );
+    }
+}

@@ -356,14 +356,7 @@ judged s r j word role result is there word-is role-is tells held =
     (λ d h. rw (← is.kind_is, ← is.vlen_is, ← is.flag_is, ← is.third_is, ← word-is) h)
     (λ d h. rw (is.kind_is, is.vlen_is, is.flag_is, is.third_is, word-is) h) held)
 
--- the numbers that a third word and a member's offset word are judged by
-pub third_judged : (types : List TypeFacts) (κ word v n t : ℕ) (result : Option BtfCause) → n ≡ length types → t ≡ (type_at types word).kind
-    → MatchOption result (NoCause (ThirdFault κ word v n t)) (λ c. LeastCause (ThirdFault κ word v n t) c)
-    → MatchOption result (NoCause (ThirdFault κ word v (length types) ((type_at types word).kind))) (λ c. LeastCause (ThirdFault κ word v (length types) ((type_at types word).kind)) c)
-third_judged types κ word v n t result n-is t-is held =
-    judged_same (ThirdFault κ word v n t) (ThirdFault κ word v (length types) ((type_at types word).kind)) result
-    (λ d h. rw (← n-is, ← t-is) h) (λ d h. rw (n-is, t-is) h) held
-
+-- the numbers that a member's offset word is judged by
 pub place_judged : (third flag word at wide : ℕ) (result : Option BtfCause) → at ≡ offset_in flag word → wide ≡ width_in flag word
     → MatchOption result (NoCause (MemberPlaceFault third at wide)) (λ c. LeastCause (MemberPlaceFault third at wide) c)
     → MatchOption result (NoCause (MemberPlaceFault third (offset_in flag word) (width_in flag word))) (λ c. LeastCause (MemberPlaceFault third (offset_in flag word) (width_in flag word)) c)

@@ -17,19 +17,21 @@ pub struct Records<'a> {
     pub(crate) types: &'a [u8],
     pub(crate) strings: &'a [u8],
     pub(crate) places: &'a [u32],
+    pub(crate) ends: &'a [u32],
     pub(crate) given: u32,
 }
 
 impl<'a> Model for Records<'a> {
     ghost use Rattle.std.specs.Prelude.{ℕ, List};
     ghost use Rattle.btf_types.specs.Values.{TypeHead};
-    ghost use Rattle.btf_types.specs.TableInvariant.{IsPartGiven, records_left};
+    ghost use Rattle.btf_types.specs.TableInvariant.{records_left};
+    ghost use Rattle.btf_types.specs.TablePlaces.{IsGivenTable};
 
     ghost Value = { List (ℕ × TypeHead) };
 
     ghost view = { λ t. records_left t.order t.types.now t.strings.now t.places.now t.given };
 
-    ghost invariant = { λ t. IsPartGiven t.order t.types.now t.strings.now t.places.now t.given };
+    ghost invariant = { λ t. IsGivenTable t.order t.types.now t.strings.now t.places.now t.ends.now t.given };
 }
 
 impl<'a> Iterator for Records<'a> {
@@ -44,7 +46,13 @@ impl<'a> Iterator for Records<'a> {
         self.given += 1;
         Some((
             self.given,
-            head_at(self.order, self.types, self.strings, pos as usize),
+            head_at(
+                self.order,
+                self.types,
+                self.strings,
+                self.ends,
+                pos as usize,
+            ),
         ))
     }
 }

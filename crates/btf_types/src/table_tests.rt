@@ -14,6 +14,10 @@ const TAGGED_HEADS: [&str; 3] = [
     "3 KDeclTag { name: \"t\", flag: false, target: 2, component: Some(1) }\n",
 ];
 
+/// The same with a DECL_TAG of the whole STRUCT.
+const TAGGED_WHOLE: &[u8] =
+    b"\x9f\xeb\x01\0\x18\0\0\0\0\0\0\0\x44\0\0\0\x44\0\0\0\x0d\0\0\0\x01\0\0\0\0\0\0\x01\x04\0\0\0\x20\0\0\x01\x05\0\0\0\x02\0\0\x04\x08\0\0\0\x07\0\0\0\x01\0\0\0\0\0\0\0\x09\0\0\0\x01\0\0\0\x20\0\0\0\x0b\0\0\0\0\0\0\x11\x02\0\0\0\xff\xff\xff\xff\0int\0s\0a\0b\0t\0";
+
 /// An ENUM64 with the value -2, in big-endian order.
 const BIG_ENUM64: &[u8] =
     b"\xeb\x9f\x01\0\0\0\0\x18\0\0\0\0\0\0\0\x18\0\0\0\x18\0\0\0\x05\0\0\0\x01\x93\0\0\x01\0\0\0\x08\0\0\0\x03\xff\xff\xff\xfe\xff\xff\xff\xff\0e\0m\0";
@@ -55,8 +59,16 @@ fn both_shown(alloc: Global, bytes: &[u8]) -> Result<String, Fail> {
 
 #[test]
 fn heads_and_items(rt: HostRuntime) -> Result<(), Fail> {
-    let cases: [(&[u8], &str); 5] = [
+    let cases: [(&[u8], &str); 6] = [
         (EMPTY, ""),
+        (
+            TAGGED_WHOLE,
+            "1 KInt { name: \"int\", size: 4, encoding: Signed, offset: 0, bits: 32 }\n\
+             2 KStruct { name: \"s\", size: 8 }\n\
+             \x20 Member { name: \"a\", target: 1, bit_offset: 0, width: 0 }\n\
+             \x20 Member { name: \"b\", target: 1, bit_offset: 32, width: 0 }\n\
+             3 KDeclTag { name: \"t\", flag: false, target: 2, component: None }\n",
+        ),
         (
             TAGGED,
             "1 KInt { name: \"int\", size: 4, encoding: Signed, offset: 0, bits: 32 }\n\

@@ -1,7 +1,7 @@
 //! Worked files, and every change of one byte of them, before a second judge.
 
 use crate::plain::{Fault, first_fault};
-use crate::{Btf, BtfError, BtfView};
+use crate::{Btf, BtfError, BtfView, TypeTable};
 use btf_raw::{BtfCause, BtfFault};
 use std::alloc::{AllocError, Global};
 use std::process::Abort;
@@ -146,6 +146,14 @@ const WORKED: &[(&[u8], &[(usize, u8)], Option<(u64, BtfCause)>)] = &[
     (EMPTY, &[(2, 2), (3, 1)], Some((2, BtfCause::Version))),
     (EMPTY, &[(0, 0)], Some((0, BtfCause::Magic))),
     (EMPTY, &[(20, 0)], Some((20, BtfCause::StringLength))),
+    (EMPTY, &[(3, 1)], Some((3, BtfCause::Flags))),
+    (BIG_INT, &[(40, 1)], Some((40, BtfCause::FirstString))),
+    (BIG_INT, &[(44, 1)], Some((44, BtfCause::LastString))),
+    // the longest sections, and one byte more
+    (EMPTY, &[(15, 2)], Some((8, BtfCause::Sections))),
+    (EMPTY, &[(15, 2), (12, 1)], Some((12, BtfCause::TypeLength))),
+    (EMPTY, &[(23, 1), (20, 0)], Some((25, BtfCause::FileLength))),
+    (EMPTY, &[(23, 1)], Some((20, BtfCause::StringLength))),
 ];
 
 #[test]
@@ -174,6 +182,35 @@ fn cut_and_longer_files(rt: HostRuntime) -> Result<(), Fail> {
     ];
     for (bytes, pos, cause) in cases {
         assert_eq!(rt; told(rt.alloc(), bytes)?, Some((pos, number(cause))));
+    }
+    Ok(())
+}
+
+/// The first fault of a file that is cut to so many bytes, whose own header has more than 24 bytes or just these.
+fn fault_of_cut(len: usize, header_len: usize) -> (u64, BtfCause) {
+    if len < 24 {
+        (len as u64, BtfCause::ShortHeader)
+    } else if len < header_len {
+        (4, BtfCause::HeaderLength)
+    } else {
+        (len as u64, BtfCause::FileLength)
+    }
+}
+
+#[test]
+fn files_cut_at_every_length(rt: HostRuntime) -> Result<(), Fail> {
+    let cases: [(&[u8], usize, usize); 2] = [(TAGGED, 24, 105), (STRINGS_FIRST, 28, 51)];
+    for (file, header_len, file_len) in cases {
+        assert_eq!(rt; file.len(), file_len);
+        assert_eq!(rt; told(rt.alloc(), file)?, None);
+        for len in 0..file.len() {
+            let (pos, cause) = fault_of_cut(len, header_len);
+            assert_eq!(rt;
+                told(rt.alloc(), &file[..len])?,
+                Some((pos, number(cause))),
+                "cut to {len} bytes"
+            );
+        }
     }
     Ok(())
 }
@@ -434,12 +471,64 @@ fn long_text(alloc: Global, len: usize, end: &[u8]) -> Result<Vec<u8>, AllocErro
     Ok(strings)
 }
 
+/// The longest string section has one name, or two of which one ends the other. A byte more is too long.
 #[test]
 fn longest_names(rt: HostRuntime) -> Result<(), Fail> {
-    let strings = long_text(rt.alloc(), 16_777_214, b"\0")?;
-    let records = b"\x01\0\0\0\0\0\0\x08\0\0\0\0\x02\0\0\0\0\0\0\x08\0\0\0\0";
-    let bytes = file(rt.alloc(), records, &strings)?;
-    assert_eq!(rt; told(rt.alloc(), &bytes)?, None);
+    let one: &[u8] = b"\x01\0\0\0\0\0\0\x08\0\0\0\0";
+    let two: &[u8] = b"\x01\0\0\0\0\0\0\x08\0\0\0\0\x02\0\0\0\0\0\0\x08\0\0\0\0";
+    let too_long = Some((20, number(BtfCause::StringLength)));
+    let cases = [
+        (one, 16_777_214, None),
+        (two, 16_777_214, None),
+        (one, 16_777_215, too_long),
+    ];
+    for (records, letters, fault) in cases {
+        let strings = long_text(rt.alloc(), letters, b"\0")?;
+        let bytes = file(rt.alloc(), records, &strings)?;
+        assert_eq!(rt; told(rt.alloc(), &bytes)?, fault, "{letters} letters");
+    }
+    Ok(())
+}
+
+/// How many records the tables of a file have, one that owns its bytes and one that lends them.
+fn counts(alloc: Global, bytes: &[u8]) -> Result<(u32, u32), Fail> {
+    let (Ok(owned), Ok(lent)) = (Btf::parse(alloc, bytes), BtfView::parse(alloc, bytes)) else {
+        return Err("not accepted")?;
+    };
+    Ok((owned.count(), lent.count()))
+}
+
+/// The most records that a type section holds: an ENUM with a value, and PTRs of it. The last one may be a type too far, or cut.
+#[test]
+fn longest_type_sections(rt: HostRuntime) -> Result<(), Fail> {
+    let mut records = Vec::from_slice(
+        rt.alloc(),
+        b"\0\0\0\0\x01\0\0\x06\x04\0\0\0\0\0\0\0\0\0\0\0",
+    )?;
+    for _ in 0..2_796_201 {
+        records.extend_from_slice(b"\0\0\0\0\0\0\0\x02\x01\0\0\0")?;
+    }
+    assert_eq!(rt; records.len(), 33_554_432);
+    let mut bytes = file(rt.alloc(), &records, b"\0")?;
+    assert_eq!(rt; counts(rt.alloc(), &bytes)?, (2_796_202, 2_796_202));
+    // the type of the last PTR
+    for (pos, byte) in [(33_554_452, 0xab), (33_554_453, 0xaa), (33_554_454, 0x2a)] {
+        if let Some(old) = bytes.get_mut(pos) {
+            *old = byte;
+        }
+    }
+    let beyond = Some((33_554_452, number(BtfCause::Reference)));
+    assert_eq!(rt; told(rt.alloc(), &bytes)?, beyond);
+    // its word info, with a kind that is none
+    if let Some(old) = bytes.get_mut(33_554_451) {
+        *old = 20;
+    }
+    let no_kind = Some((33_554_448, number(BtfCause::KindNumber)));
+    assert_eq!(rt; told(rt.alloc(), &bytes)?, no_kind);
+    records.push(0)?;
+    let bytes = file(rt.alloc(), &records, b"\0")?;
+    let too_long = Some((12, number(BtfCause::TypeLength)));
+    assert_eq!(rt; told(rt.alloc(), &bytes)?, too_long);
     Ok(())
 }
 

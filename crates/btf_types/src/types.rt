@@ -1,13 +1,49 @@
-//! What a record asks of the types that it names, third words aside: they are there, and of a kind and size that fit.
+//! What a record asks of the types that it names: they are there, and of a kind and size that fit. A type is read at its place
+//! only where something is asked of it.
 
-ghost use Rattle.std.specs.Prelude.{◌≡◌};
+ghost use Rattle.std.specs.Prelude.{◌≡◌, length};
 ghost use Rattle.btf_types.specs.Checks as spec;
+ghost use Rattle.btf_types.specs.Checks.{type_at};
 ghost use Rattle.btf_types.specs.NameFaults.{NamedTypeFault, MemberTypeFault, ComponentFault};
 ghost use Rattle.btf_types.specs.Sections.{IsSection, facts_in};
 
-use crate::checks::{is_plain_int, target_fits};
+use crate::checks::{has_target, is_plain_int, size_fits, target_fits};
 use crate::section::Section;
-use btf_raw::{BtfCause, FUNC, FUNC_PROTO, INT, STRUCT, TYPEDEF, UNION, VAR};
+use btf_raw::{
+    ARRAY, BtfCause, DATASEC, DECL_TAG, FUNC, FUNC_PROTO, FWD, INT, STRUCT, TYPEDEF, UNION, VAR,
+};
+
+/// Whether a type is of a kind that a record of this kind may name.
+#[tactic(auto, unfolding(crate::specs::Checks::target_fits))]
+fn named_kind_fits(section: &Section, kind: u8, target: u32) -> bool
+    requires { IsSection section.now }
+    ensures { result ≡ spec.target_fits kind (type_at (facts_in section.now) target).kind }
+{
+    !matches!(kind, FUNC | DATASEC | DECL_TAG) || target_fits(kind, section.facts(target).kind)
+}
+
+/// The least cause that a third word has against it.
+pub fn third_fault(section: &Section, kind: u8, third: u32, vlen: u16) -> Option<BtfCause>
+    requires { IsSection section.now }
+    ensures { spec.TellsLeast (spec.ThirdFault kind third vlen (length (facts_in section.now)) (type_at (facts_in section.now) third).kind) result }
+{
+    if matches!(kind, ARRAY | FWD) && third != 0 {
+        return Some(BtfCause::NotZero);
+    }
+    if !size_fits(kind, third, vlen) {
+        return Some(BtfCause::Size);
+    }
+    if !has_target(kind) {
+        return None;
+    }
+    if third > section.count() {
+        return Some(BtfCause::Reference);
+    }
+    if !named_kind_fits(section, kind, third) {
+        return Some(BtfCause::TargetKind);
+    }
+    None
+}
 
 /// The least cause that speaks against a type that a record of this kind names, beside its third word.
 pub fn named_type_fault(section: &Section, kind: u8, target: u32) -> Option<BtfCause>
@@ -17,7 +53,7 @@ pub fn named_type_fault(section: &Section, kind: u8, target: u32) -> Option<BtfC
     if target > section.count() {
         return Some(BtfCause::Reference);
     }
-    if target_fits(kind, section.facts(target).kind) {
+    if named_kind_fits(section, kind, target) {
         None
     } else {
         Some(BtfCause::TargetKind)

@@ -3,6 +3,7 @@ use crate::{SideError, canon_btf, same_btf, write_btf};
 use bpf_words::Order;
 use btf_raw::{BtfCause, BtfFault};
 use btf_types::{Btf, BtfView};
+use std::alloc::Global;
 use std::test::Fail;
 
 /// A signed INT named `int`, in big-endian order, and its canonical bytes.
@@ -24,6 +25,19 @@ const ENUM: &[u8] =
 pub(crate) const FAULTY: &[u8] =
     b"\x9f\xeb\x01\0\x18\0\0\0\0\0\0\0\x0c\0\0\0\x0c\0\0\0\x01\0\0\0\0\0\0\0\0\0\0\x02\x02\0\0\0\0";
 
+/// No types, and a section that holds a NUL.
+const EMPTY: &[u8] = b"\x9f\xeb\x01\0\x18\0\0\0\0\0\0\0\0\0\0\0\0\0\0\0\x01\0\0\0\0";
+
+/// The same with the strings first.
+const STRINGS_FIRST: &[u8] = b"\x9f\xeb\x01\0\x18\0\0\0\x01\0\0\0\0\0\0\0\0\0\0\0\x01\0\0\0\0";
+
+/// A member's offset word whose high byte is 1: bit offset 2 ^ 24 in a STRUCT with kind_flag 0, and a width of 1 with kind_flag 1.
+const WIDE_OFFSET: &[u8] =
+    b"\x9f\xeb\x01\0\x18\0\0\0\0\0\0\0\x18\0\0\0\x18\0\0\0\x01\0\0\0\0\0\0\0\x01\0\0\x04\0\0@\0\0\0\0\0\0\0\0\0\0\0\0\x01\0";
+
+const BIT_FIELD: &[u8] =
+    b"\x9f\xeb\x01\0\x18\0\0\0\0\0\0\0\x18\0\0\0\x18\0\0\0\x01\0\0\0\0\0\0\0\x01\0\0\x84\0\0@\0\0\0\0\0\0\0\0\0\0\0\0\x01\0";
+
 /// A file, and its canonical bytes.
 #[derive(Clone, Copy)]
 pub(crate) struct Sample {
@@ -31,17 +45,17 @@ pub(crate) struct Sample {
     pub(crate) canonical: &'static [u8],
 }
 
-pub(crate) fn samples() -> [Sample; 16] {
+pub(crate) fn samples() -> [Sample; 24] {
     [
         // no types, and a section that holds a NUL
         Sample {
-            bytes: b"\x9f\xeb\x01\0\x18\0\0\0\0\0\0\0\0\0\0\0\0\0\0\0\x01\0\0\0\0",
-            canonical: b"\x9f\xeb\x01\0\x18\0\0\0\0\0\0\0\0\0\0\0\0\0\0\0\x01\0\0\0\0",
+            bytes: EMPTY,
+            canonical: EMPTY,
         },
         // the same, with the strings first
         Sample {
-            bytes: b"\x9f\xeb\x01\0\x18\0\0\0\x01\0\0\0\0\0\0\0\0\0\0\0\x01\0\0\0\0",
-            canonical: b"\x9f\xeb\x01\0\x18\0\0\0\0\0\0\0\0\0\0\0\0\0\0\0\x01\0\0\0\0",
+            bytes: STRINGS_FIRST,
+            canonical: EMPTY,
         },
         // a big-endian file
         Sample {
@@ -95,13 +109,13 @@ pub(crate) fn samples() -> [Sample; 16] {
         },
         // a bit offset of 2 ^ 24
         Sample {
-            bytes: b"\x9f\xeb\x01\0\x18\0\0\0\0\0\0\0\x18\0\0\0\x18\0\0\0\x01\0\0\0\0\0\0\0\x01\0\0\x04\0\0@\0\0\0\0\0\0\0\0\0\0\0\0\x01\0",
-            canonical: b"\x9f\xeb\x01\0\x18\0\0\0\0\0\0\0\x18\0\0\0\x18\0\0\0\x01\0\0\0\0\0\0\0\x01\0\0\x04\0\0@\0\0\0\0\0\0\0\0\0\0\0\0\x01\0",
+            bytes: WIDE_OFFSET,
+            canonical: WIDE_OFFSET,
         },
         // a width at bit offset 0
         Sample {
-            bytes: b"\x9f\xeb\x01\0\x18\0\0\0\0\0\0\0\x18\0\0\0\x18\0\0\0\x01\0\0\0\0\0\0\0\x01\0\0\x84\0\0@\0\0\0\0\0\0\0\0\0\0\0\0\x01\0",
-            canonical: b"\x9f\xeb\x01\0\x18\0\0\0\0\0\0\0\x18\0\0\0\x18\0\0\0\x01\0\0\0\0\0\0\0\x01\0\0\x84\0\0@\0\0\0\0\0\0\0\0\0\0\0\0\x01\0",
+            bytes: BIT_FIELD,
+            canonical: BIT_FIELD,
         },
         // kind_flag without members
         Sample {
@@ -112,6 +126,46 @@ pub(crate) fn samples() -> [Sample; 16] {
         Sample {
             bytes: b"\x9f\xeb\x01\0\x18\0\0\0\0\0\0\0$\0\0\0$\0\0\0\x0e\0\0\0\x0a\0\0\0\0\0\0\x08\0\0\0\0\x01\0\0\0\0\0\0\x08\0\0\0\0\x06\0\0\0\0\0\0\x08\0\0\0\0\0c\0bc\0abc\0dbc\0",
             canonical: b"\x9f\xeb\x01\0\x18\0\0\0\0\0\0\0$\0\0\0$\0\0\0\x09\0\0\0\x01\0\0\0\0\0\0\x08\0\0\0\0\x07\0\0\0\0\0\0\x08\0\0\0\0\x05\0\0\0\0\0\0\x08\0\0\0\0\0dbc\0abc\0",
+        },
+        // a FLOAT of 12 bytes
+        Sample {
+            bytes: b"\x9f\xeb\x01\0\x18\0\0\0\0\0\0\0\x0c\0\0\0\x0c\0\0\0\x01\0\0\0\0\0\0\0\0\0\0\x10\x0c\0\0\0\0",
+            canonical: b"\x9f\xeb\x01\0\x18\0\0\0\0\0\0\0\x0c\0\0\0\x0c\0\0\0\x01\0\0\0\0\0\0\0\0\0\0\x10\x0c\0\0\0\0",
+        },
+        // an INT without bits
+        Sample {
+            bytes: b"\x9f\xeb\x01\0\x18\0\0\0\0\0\0\0\x10\0\0\0\x10\0\0\0\x01\0\0\0\0\0\0\0\0\0\0\x01\x01\0\0\0\0\0\0\0\0",
+            canonical: b"\x9f\xeb\x01\0\x18\0\0\0\0\0\0\0\x10\0\0\0\x10\0\0\0\x01\0\0\0\0\0\0\0\0\0\0\x01\x01\0\0\0\0\0\0\0\0",
+        },
+        // kind_flag without a width, beside an INT of 31 bits
+        Sample {
+            bytes: b"\x9f\xeb\x01\0\x18\0\0\0\0\0\0\0(\0\0\0(\0\0\0\x09\0\0\0\x01\0\0\0\0\0\0\x01\x04\0\0\0\x1f\0\0\x01\x05\0\0\0\x01\0\0\x84\x04\0\0\0\x07\0\0\0\x01\0\0\0\0\0\0\0\0int\0s\0a\0",
+            canonical: b"\x9f\xeb\x01\0\x18\0\0\0\0\0\0\0(\0\0\0(\0\0\0\x09\0\0\0\x01\0\0\0\0\0\0\x01\x04\0\0\0\x1f\0\0\x01\x05\0\0\0\x01\0\0\x04\x04\0\0\0\x07\0\0\0\x01\0\0\0\0\0\0\0\0int\0s\0a\0",
+        },
+        // a bit-field that ends with its record
+        Sample {
+            bytes: b"\x9f\xeb\x01\0\x18\0\0\0\0\0\0\0(\0\0\0(\0\0\0\x09\0\0\0\x01\0\0\0\0\0\0\x01\x04\0\0\0 \0\0\x01\x05\0\0\0\x01\0\0\x84\x04\0\0\0\x07\0\0\0\x01\0\0\0\x1d\0\0\x03\0int\0s\0a\0",
+            canonical: b"\x9f\xeb\x01\0\x18\0\0\0\0\0\0\0(\0\0\0(\0\0\0\x09\0\0\0\x01\0\0\0\0\0\0\x01\x04\0\0\0 \0\0\x01\x05\0\0\0\x01\0\0\x84\x04\0\0\0\x07\0\0\0\x01\0\0\0\x1d\0\0\x03\0int\0s\0a\0",
+        },
+        // a tag of a whole VAR
+        Sample {
+            bytes: b"\x9f\xeb\x01\0\x18\0\0\0\0\0\0\0 \0\0\0 \0\0\0\x05\0\0\0\x01\0\0\0\0\0\0\x0e\0\0\0\0\0\0\0\0\x03\0\0\0\0\0\0\x11\x01\0\0\0\xff\xff\xff\xff\0f\0t\0",
+            canonical: b"\x9f\xeb\x01\0\x18\0\0\0\0\0\0\0 \0\0\0 \0\0\0\x05\0\0\0\x01\0\0\0\0\0\0\x0e\0\0\0\0\0\0\0\0\x03\0\0\0\0\0\0\x11\x01\0\0\0\xff\xff\xff\xff\0f\0t\0",
+        },
+        // a FUNC in a DATASEC
+        Sample {
+            bytes: b"\x9f\xeb\x01\0\x18\0\0\0\0\0\0\00\0\0\00\0\0\0\x0a\0\0\0\0\0\0\0\0\0\0\x0d\0\0\0\0\x01\0\0\0\x02\0\0\x0c\x01\0\0\0\x03\0\0\0\x01\0\0\x0f\0\0\0\0\x02\0\0\0\0\0\0\0\0\0\0\0\0f\0.ksyms\0",
+            canonical: b"\x9f\xeb\x01\0\x18\0\0\0\0\0\0\00\0\0\00\0\0\0\x0a\0\0\0\0\0\0\0\0\0\0\x0d\0\0\0\0\x01\0\0\0\x02\0\0\x0c\x01\0\0\0\x03\0\0\0\x01\0\0\x0f\0\0\0\0\x02\0\0\0\0\0\0\0\0\0\0\0\0f\0.ksyms\0",
+        },
+        // a name that is no identifier
+        Sample {
+            bytes: b"\x9f\xeb\x01\0\x18\0\0\0\0\0\0\0\x0c\0\0\0\x0c\0\0\0\x07\0\0\0\x01\0\0\0\0\0\0\x08\0\0\0\0\0a\"\\\x01\x7f\0",
+            canonical: b"\x9f\xeb\x01\0\x18\0\0\0\0\0\0\0\x0c\0\0\0\x0c\0\0\0\x07\0\0\0\x01\0\0\0\0\0\0\x08\0\0\0\0\0a\"\\\x01\x7f\0",
+        },
+        // a tag of a whole STRUCT
+        Sample {
+            bytes: b"\x9f\xeb\x01\0\x18\0\0\0\0\0\0\0D\0\0\0D\0\0\0\x0d\0\0\0\x01\0\0\0\0\0\0\x01\x04\0\0\0 \0\0\x01\x05\0\0\0\x02\0\0\x04\x08\0\0\0\x07\0\0\0\x01\0\0\0\0\0\0\0\x09\0\0\0\x01\0\0\0 \0\0\0\x0b\0\0\0\0\0\0\x11\x02\0\0\0\xff\xff\xff\xff\0int\0s\0a\0b\0t\0",
+            canonical: b"\x9f\xeb\x01\0\x18\0\0\0\0\0\0\0D\0\0\0D\0\0\0\x0b\0\0\0\x01\0\0\0\0\0\0\x01\x04\0\0\0 \0\0\x01\x05\0\0\0\x02\0\0\x04\x08\0\0\0\x07\0\0\0\x01\0\0\0\0\0\0\0\x09\0\0\0\x01\0\0\0 \0\0\0\x03\0\0\0\0\0\0\x11\x02\0\0\0\xff\xff\xff\xff\0int\0s\0a\0b\0",
         },
     ]
 }
@@ -139,13 +193,46 @@ fn both_tables_are_written_in_either_order(rt: HostRuntime) -> Result<(), Fail> 
     Ok(())
 }
 
+/// The canonical bytes of a file in both orders, by a table that keeps its names and by one that lends them, which agree.
+fn written(alloc: Global, order: Order, bytes: &[u8]) -> Result<Vec<u8>, Fail> {
+    let owned = write_btf(alloc, order, &Btf::parse(alloc, bytes)?)?;
+    let lent = write_btf(alloc, order, &BtfView::parse(alloc, bytes)?)?;
+    if owned != lent {
+        return Err("the two tables differ")?;
+    }
+    Ok(owned)
+}
+
+#[test]
+fn examples_are_written_by_both_tables_in_both_orders(rt: HostRuntime) -> Result<(), Fail> {
+    for sample in samples() {
+        let bytes = sample.bytes;
+        let little = written(rt.alloc(), Order::Little, bytes)?;
+        assert_eq!(rt; little.as_slice(), sample.canonical, "of {bytes:?}");
+        let big = written(rt.alloc(), Order::Big, bytes)?;
+        assert!(rt; big.starts_with(b"\xeb\x9f"), "of {bytes:?}");
+        let again = canon_btf(rt.alloc(), &big)?;
+        assert_eq!(rt; again.as_slice(), sample.canonical, "of {bytes:?}");
+        assert!(rt;
+            little.len() <= bytes.len() && big.len() <= bytes.len(),
+            "{bytes:?} is lengthened"
+        );
+    }
+    let big_enum = written(rt.alloc(), Order::Big, ENUM)?;
+    assert_eq!(rt; big_enum.as_slice(), ENUM);
+    Ok(())
+}
+
 #[test]
 fn btf_files_are_the_same_where_their_types_are(rt: HostRuntime) {
     let fault = BtfFault {
         pos: 32,
         cause: BtfCause::Reference,
     };
-    let cases: [(&[u8], &[u8], Result<bool, SideError<BtfFault>>); 6] = [
+    let cases: [(&[u8], &[u8], Result<bool, SideError<BtfFault>>); 9] = [
+        (EMPTY, STRINGS_FIRST, Ok(true)),
+        (WIDE_OFFSET, BIT_FIELD, Ok(false)),
+        (WIDE_OFFSET, WIDE_OFFSET, Ok(true)),
         (BIG_INT, LOOSE_INT, Ok(true)),
         (BIG_INT, ENUM, Ok(false)),
         (INT, INT, Ok(true)),

@@ -29,6 +29,8 @@ fn names_in_one_string_stay_there(rt: HostRuntime) -> Result<(), Fail> {
     for (count, letters, len) in [
         (5791, 5791, 75_309),
         (5792, 5792, 75_322),
+        // the longest name that there is, alone and beside the longest that ends it
+        (1, 16_777_214, 16_777_252),
         (2, 16_777_214, 16_777_264),
     ] {
         let file = typedefs(rt.alloc(), count, letters)?;

@@ -1,4 +1,5 @@
-//! Each growth is refused in turn: an arena of one chunk, of which ever more was given away before.
+//! Each growth of the calls on instructions is refused in turn.
+use crate::tests::arena::{ENOUGH, ROOM, Tally, leave};
 use crate::{
     InsnFeed, MemSink, MemSource, ReadError, RunCause, RunError, SideError, canon_insns, read_all,
     run_insns, same_insns, write_insns,
@@ -7,137 +8,137 @@ use bpf_insn::{Insn, InsnError, Order, SlotCause, SlotFault};
 use bumpalo::Bump;
 use std::alloc::{Allocator, Global};
 use std::process::Abort;
-
-const ROOM: usize = 448;
+use std::test::Fail;
 
 /// An exit seven times, and a faulty instruction.
 const FILE: &[u8; 64] =
     b"\x95\0\0\0\0\0\0\0\x95\0\0\0\0\0\0\0\x95\0\0\0\0\0\0\0\x95\0\0\0\0\0\0\0\x95\0\0\0\0\0\0\0\x95\0\0\0\0\0\0\0\x95\0\0\0\0\0\0\0\x04\x10\0\0\x05\0\0\0";
 
-// How many answers wanted memory, and how many didn't.
-#[derive(Drop)]
-struct Tally {
-    refused: u32,
-    done: u32,
-}
+/// The fault of the last instruction.
+const FAULT: SlotFault = SlotFault {
+    pos: 57,
+    cause: SlotCause::Src,
+};
 
-impl Tally {
-    fn count(&mut self, was_refused: bool) {
-        if was_refused {
-            self.refused = self.refused.saturating_add(1);
-        } else {
-            self.done = self.done.saturating_add(1);
-        }
-    }
-}
-
-// Gives away so many bytes of the arena.
-fn give_away(bump: &Bump<Global>, bytes: usize) -> bool {
-    let taken = [0u8; ROOM];
-    bump.set_allocation_limit(Some(ROOM));
-    bytes <= ROOM && bump.try_alloc_slice_copy(&taken[..bytes]).is_ok()
-}
-
+/// The vector grows for the first piece, and more than once behind it.
 #[test]
-fn of_reading_whole(rt: HostRuntime) {
-    let mut tally = Tally {
-        refused: 0,
-        done: 0,
-    };
-    for bytes in 0..=ROOM {
-        let bump = Bump::new(rt.alloc());
-        if !give_away(&bump, bytes) {
-            continue;
-        }
+fn of_reading_whole(rt: HostRuntime) -> Result<(), Fail> {
+    let mut tally = Tally::new();
+    for room in 0..ROOM {
+        let bump = Bump::try_with_capacity(rt.alloc(), ROOM)?;
+        leave(&rt, &bump, room);
         let mut source = MemSource::new(FILE, 5, None);
         match read_all(&bump, &mut source, 100) {
             Ok(read) => {
                 assert_eq!(rt; read.as_slice(), FILE.as_slice());
-                tally.count(false);
+                tally.succeed();
             }
             Err(error) => {
                 assert_eq!(rt; error, ReadError::Memory);
-                tally.count(true);
+                let rest = read_all(rt.alloc(), &mut source, 100)?.len();
+                tally.refuse(&rt, 64_usize.saturating_sub(rest));
             }
         }
+        if tally.done == ENOUGH {
+            break;
+        }
     }
-    assert!(rt; tally.done > 0 && tally.refused > 0);
+    assert!(rt; tally.done > 0 && tally.refused >= 64 && tally.places >= 3);
+    Ok(())
 }
 
 #[test]
-fn of_writing_instructions(rt: HostRuntime) {
+fn of_writing_instructions(rt: HostRuntime) -> Result<(), Fail> {
     let insns = [Insn::Exit; 7];
-    let mut tally = Tally {
-        refused: 0,
-        done: 0,
-    };
-    for bytes in 0..=ROOM {
-        let bump = Bump::new(rt.alloc());
-        if !give_away(&bump, bytes) {
-            continue;
-        }
+    let mut tally = Tally::new();
+    for room in 0..ROOM {
+        let bump = Bump::try_with_capacity(rt.alloc(), ROOM)?;
+        leave(&rt, &bump, room);
         match write_insns(&bump, Order::Little, &insns) {
             Ok(written) => {
                 assert_eq!(rt; written.as_slice(), &FILE[..56]);
-                tally.count(false);
+                tally.succeed();
             }
-            Err(_) => tally.count(true),
+            Err(_) => tally.refuse(&rt, 0),
+        }
+        if tally.done == ENOUGH {
+            break;
         }
     }
-    assert!(rt; tally.done > 0 && tally.refused > 0);
+    assert!(rt; tally.done > 0 && tally.refused >= 56);
+    Ok(())
 }
 
+/// Of a good file, and of a faulty one, whose fault is never another.
 #[test]
-fn of_canonical_bytes(rt: HostRuntime) {
-    let mut tally = Tally {
-        refused: 0,
-        done: 0,
-    };
-    for bytes in 0..=ROOM {
-        let bump = Bump::new(rt.alloc());
-        if !give_away(&bump, bytes) {
-            continue;
-        }
+fn of_canonical_bytes(rt: HostRuntime) -> Result<(), Fail> {
+    let mut good = Tally::new();
+    let mut faulty = Tally::new();
+    for room in 0..ROOM {
+        let bump = Bump::try_with_capacity(rt.alloc(), ROOM)?;
+        leave(&rt, &bump, room);
         match canon_insns(&bump, Order::Little, &FILE[..56]) {
             Ok(canon) => {
                 assert_eq!(rt; canon.as_slice(), &FILE[..56]);
-                tally.count(false);
+                good.succeed();
             }
-            Err(InsnError::Memory) => tally.count(true),
+            Err(InsnError::Memory) => good.refuse(&rt, 0),
             Err(InsnError::Fault(_)) => panic!(rt; "a fault of a good file"),
         }
-    }
-    assert!(rt; tally.done > 0 && tally.refused > 0);
-}
-
-#[test]
-fn of_comparison(rt: HostRuntime) {
-    let mut tally = Tally {
-        refused: 0,
-        done: 0,
-    };
-    for bytes in 0..=ROOM {
-        let bump = Bump::new(rt.alloc());
-        if !give_away(&bump, bytes) {
-            continue;
-        }
-        let told = same_insns(&bump, Order::Little, &FILE[..56], Order::Little, FILE);
-        match told {
-            Err(SideError::Memory) => tally.count(true),
-            _ => {
-                let fault = SlotFault {
-                    pos: 57,
-                    cause: SlotCause::Src,
-                };
-                assert_eq!(rt; told, Err(SideError::Second(fault)));
-                tally.count(false);
+        match canon_insns(&bump, Order::Little, FILE) {
+            Ok(_) => panic!(rt; "a faulty file is accepted"),
+            Err(InsnError::Memory) => faulty.refuse(&rt, 0),
+            Err(InsnError::Fault(fault)) => {
+                assert_eq!(rt; fault, FAULT);
+                faulty.succeed();
             }
         }
+        if good.done >= ENOUGH && faulty.done >= ENOUGH {
+            break;
+        }
     }
-    assert!(rt; tally.done > 0 && tally.refused > 0);
+    assert!(rt; good.done > 0 && good.refused >= 56);
+    assert!(rt; faulty.done > 0 && faulty.refused > 0);
+    Ok(())
 }
 
-// Feeds exits in pieces of 14 bytes, and tells how many bytes came before a growth was refused.
+/// How many rooms are too small to compare the good file with another one, with this answer.
+fn refused_comparing(
+    rt: &impl Abort,
+    alloc: Global,
+    second: &[u8],
+    answer: Result<bool, SideError<SlotFault>>,
+) -> Result<usize, Fail> {
+    let mut tally = Tally::new();
+    for room in 0..ROOM {
+        let bump = Bump::try_with_capacity(alloc, ROOM)?;
+        leave(rt, &bump, room);
+        match same_insns(&bump, Order::Little, &FILE[..56], Order::Little, second) {
+            Err(SideError::Memory) => tally.refuse(rt, 0),
+            reported => {
+                assert_eq!(rt; reported, answer);
+                tally.succeed();
+            }
+        }
+        if tally.done == ENOUGH {
+            break;
+        }
+    }
+    assert!(rt; tally.done > 0);
+    Ok(tally.refused)
+}
+
+/// An empty file takes no memory. So the rooms that are too small only for two files are refused while the second is read.
+#[test]
+fn of_comparison(rt: HostRuntime) -> Result<(), Fail> {
+    let first = refused_comparing(&rt, rt.alloc(), b"", Ok(false))?;
+    let both = refused_comparing(&rt, rt.alloc(), &FILE[..56], Ok(true))?;
+    let faulty = refused_comparing(&rt, rt.alloc(), FILE, Err(SideError::Second(FAULT)))?;
+    assert!(rt; first > 0 && both > first && faulty > first);
+    Ok(())
+}
+
+/// Feeds exits in pieces of 14 bytes. The answer is how many bytes came before a growth was refused.
 fn feed_pieces<A: Allocator>(rt: &impl Abort, out: &mut Vec<u8, A>) -> usize {
     let mut feed = InsnFeed::new(Order::Little, Order::Little);
     let mut at = 0;
@@ -158,37 +159,37 @@ fn feed_pieces<A: Allocator>(rt: &impl Abort, out: &mut Vec<u8, A>) -> usize {
     at
 }
 
+/// The vector grows for the first piece, and for later ones.
 #[test]
-fn of_the_feed(rt: HostRuntime) {
-    let mut tally = Tally {
-        refused: 0,
-        done: 0,
-    };
-    for bytes in 0..=ROOM {
-        let bump = Bump::new(rt.alloc());
-        if !give_away(&bump, bytes) {
-            continue;
-        }
+fn of_the_feed(rt: HostRuntime) -> Result<(), Fail> {
+    let mut tally = Tally::new();
+    for room in 0..ROOM {
+        let bump = Bump::try_with_capacity(rt.alloc(), ROOM)?;
+        leave(&rt, &bump, room);
         let mut out = Vec::new(&bump);
         let at = feed_pieces(&rt, &mut out);
         assert_eq!(rt; out.len(), at / 8 * 8);
         assert!(rt; FILE.starts_with(&out));
-        tally.count(at < 56);
+        if at < 56 {
+            tally.refuse(&rt, at);
+        } else {
+            tally.succeed();
+        }
+        if tally.done == ENOUGH {
+            break;
+        }
     }
-    assert!(rt; tally.done > 0 && tally.refused > 0);
+    assert!(rt; tally.done > 0 && tally.refused >= 56 && tally.places >= 3);
+    Ok(())
 }
 
+/// Where the engine is refused room for a piece, it has written the instructions before it.
 #[test]
-fn of_the_engine(rt: HostRuntime) {
-    let mut tally = Tally {
-        refused: 0,
-        done: 0,
-    };
-    for bytes in 0..=ROOM {
-        let bump = Bump::new(rt.alloc());
-        if !give_away(&bump, bytes) {
-            continue;
-        }
+fn of_the_engine(rt: HostRuntime) -> Result<(), Fail> {
+    let mut tally = Tally::new();
+    for room in 0..ROOM {
+        let bump = Bump::try_with_capacity(rt.alloc(), ROOM)?;
+        leave(&rt, &bump, room);
         // Pieces of five bytes make the engine's vector grow more than once.
         let mut source = MemSource::new(FILE, 5, None);
         let mut out = Vec::new(rt.alloc());
@@ -200,37 +201,31 @@ fn of_the_engine(rt: HostRuntime) {
         assert_eq!(rt; out.len() as u64, stop.written);
         assert!(rt; FILE.starts_with(&out));
         if stop.cause == RunCause::Memory {
-            tally.count(true);
+            let rest = read_all(rt.alloc(), &mut source, 100)?.len();
+            tally.refuse(&rt, 64_usize.saturating_sub(rest));
         } else {
-            let fault = SlotFault {
-                pos: 57,
-                cause: SlotCause::Src,
+            let faulty = RunError {
+                cause: RunCause::Fault(FAULT),
+                written: 56,
             };
-            assert_eq!(rt;
-                stop,
-                RunError {
-                    cause: RunCause::Fault(fault),
-                    written: 56
-                }
-            );
-            tally.count(false);
+            assert_eq!(rt; stop, faulty);
+            tally.succeed();
+        }
+        if tally.done == ENOUGH {
+            break;
         }
     }
-    assert!(rt; tally.done > 0 && tally.refused > 0);
+    assert!(rt; tally.done > 0 && tally.places >= 2);
+    Ok(())
 }
 
-// A growth of the sink's vector that is refused is a failed write.
+/// A growth of the sink's vector that is refused is a failed write, the first growth and each later one.
 #[test]
-fn of_a_sink(rt: HostRuntime) {
-    let mut tally = Tally {
-        refused: 0,
-        done: 0,
-    };
-    for bytes in 0..=ROOM {
-        let bump = Bump::new(rt.alloc());
-        if !give_away(&bump, bytes) {
-            continue;
-        }
+fn of_a_sink(rt: HostRuntime) -> Result<(), Fail> {
+    let mut tally = Tally::new();
+    for room in 0..ROOM {
+        let bump = Bump::try_with_capacity(rt.alloc(), ROOM)?;
+        leave(&rt, &bump, room);
         let mut source = MemSource::new(&FILE[..56], 24, None);
         let mut out = Vec::new(&bump);
         let mut sink = MemSink::new(&mut out, 5, None);
@@ -241,16 +236,24 @@ fn of_a_sink(rt: HostRuntime) {
             Order::Little,
             Order::Little,
         );
-        let written = match ran {
-            Ok(written) => written,
-            Err(stop) => {
-                assert_eq!(rt; stop.cause, RunCause::WriteFailed);
-                stop.written
+        match ran {
+            Ok(written) => {
+                assert_eq!(rt; written, 56);
+                tally.succeed();
             }
-        };
-        assert_eq!(rt; out.as_slice().len() as u64, written);
+            Err(stop) => {
+                assert_eq!(rt;
+                    (stop.cause, stop.written),
+                    (RunCause::WriteFailed, out.len() as u64)
+                );
+                tally.refuse(&rt, out.len());
+            }
+        }
         assert!(rt; FILE.starts_with(&out));
-        tally.count(written < 56);
+        if tally.done == ENOUGH {
+            break;
+        }
     }
-    assert!(rt; tally.done > 0 && tally.refused > 0);
+    assert!(rt; tally.done > 0 && tally.refused >= 56 && tally.places >= 3);
+    Ok(())
 }

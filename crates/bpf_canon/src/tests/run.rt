@@ -187,6 +187,60 @@ fn each_read_and_each_write_may_fail(rt: HostRuntime) {
     }
 }
 
+/// A move of registers in big-endian order, by single bytes: no byte is written before the eighth has come.
+#[test]
+fn each_read_and_each_write_of_a_big_endian_move_may_fail(rt: HostRuntime) {
+    let big = b"\xbf\x12\0\0\0\0\0\0";
+    let little = b"\xbf\x21\0\0\0\0\0\0";
+    for (read_fuse, write_fuse, wanted) in [
+        (Some(1u64), None, stopped(RunCause::ReadFailed, 0)),
+        (Some(2), None, stopped(RunCause::ReadFailed, 0)),
+        (Some(3), None, stopped(RunCause::ReadFailed, 0)),
+        (Some(4), None, stopped(RunCause::ReadFailed, 0)),
+        (Some(5), None, stopped(RunCause::ReadFailed, 0)),
+        (Some(6), None, stopped(RunCause::ReadFailed, 0)),
+        (Some(7), None, stopped(RunCause::ReadFailed, 0)),
+        (Some(8), None, stopped(RunCause::ReadFailed, 0)),
+        // The eighth read gave the last byte, and the ninth finds the end.
+        (Some(9), None, stopped(RunCause::ReadFailed, 8)),
+        (Some(10), None, Ok(8)),
+        (None, Some(1u64), stopped(RunCause::WriteFailed, 0)),
+        (None, Some(2), stopped(RunCause::WriteFailed, 1)),
+        (None, Some(3), stopped(RunCause::WriteFailed, 2)),
+        (None, Some(4), stopped(RunCause::WriteFailed, 3)),
+        (None, Some(5), stopped(RunCause::WriteFailed, 4)),
+        (None, Some(6), stopped(RunCause::WriteFailed, 5)),
+        (None, Some(7), stopped(RunCause::WriteFailed, 6)),
+        (None, Some(8), stopped(RunCause::WriteFailed, 7)),
+        (None, Some(9), Ok(8)),
+    ] {
+        let mut source = MemSource::new(big, 1, read_fuse);
+        let mut out = Vec::new(rt.alloc());
+        let mut sink = MemSink::new(&mut out, 1, write_fuse);
+        let ran = run_insns(
+            rt.alloc(),
+            &mut source,
+            &mut sink,
+            Order::Big,
+            Order::Little,
+        );
+        assert_eq!(rt; ran, wanted, "fuses {read_fuse:?} and {write_fuse:?}");
+        let written = match wanted {
+            Ok(written) => written,
+            Err(stop) => stop.written,
+        };
+        assert_eq!(rt;
+            out.len() as u64,
+            written,
+            "fuses {read_fuse:?} and {write_fuse:?}"
+        );
+        assert!(rt;
+            little.starts_with(&out),
+            "fuses {read_fuse:?} and {write_fuse:?}"
+        );
+    }
+}
+
 #[test]
 fn runs_over_readers_and_writers(rt: HostRuntime) {
     let mut source = ReaderSource::new(FAULTY);

@@ -46,7 +46,7 @@ fn bad(bytes: &'static [u8], pos: u64, cause: SlotCause) -> Sample {
     }
 }
 
-pub fn accepted() -> [Sample; 14] {
+pub fn accepted() -> [Sample; 28] {
     [
         canonical(b""),
         canonical(EXIT),
@@ -74,10 +74,29 @@ pub fn accepted() -> [Sample; 14] {
             b"\x18\x31\0\0\x03\0\0\0\0\0\0\0\x01\0\0\0",
         ),
         canonical(b"\x91\x12\x04\0\0\0\0\0"),
+        canonical(WIDE),
+        canonical(b"\xbf\x21\0\0\0\0\0\0"),
+        canonical(b"\xb7\0\0\0\xfe\xff\xff\xff"),
+        good(
+            Order::Big,
+            b"\xb4\x10\0\0\0\0\0\x07",
+            b"\xb4\x01\0\0\x07\0\0\0",
+        ),
+        canonical(b"\x05\0\0\0\0\0\0\0"),
+        canonical(b"\xbf\x12\x08\0\0\0\0\0"),
+        canonical(b"\x18\x31\0\0\x03\0\0\0\0\0\0\0\x01\0\0\0"),
+        // those of listings: three, two and one instructions
+        canonical(b"\x37\x01\x01\0\x03\0\0\0\xdb\x21\xf8\xff\xf1\0\0\0\x95\0\0\0\0\0\0\0"),
+        canonical(b"\xb7\x01\0\0\x10\0\0\0\x95\0\0\0\0\0\0\0"),
+        canonical(b"\x61\x21\0\0\0\0\0\0"),
+        canonical(b"\x05\0\x05\0\0\0\0\0"),
+        canonical(b"\xb4\x03\0\0\0\0\0\x80"),
+        canonical(b"\x18\x01\0\0\xff\xff\xff\xff\0\0\0\0\xff\xff\xff\xff"),
+        canonical(b"\x95\0\0\0\0\0\0\0\x95\0\0\0\0\0\0\0"),
     ]
 }
 
-pub fn refused() -> [Sample; 16] {
+pub fn refused() -> [Sample; 22] {
     [
         bad(b"\x18\x01\0\0\x88\x77\x66\x55", 8, SlotCause::Truncated),
         bad(b"\xbf\x2b\0\0\0\0\0\0", 1, SlotCause::Dst),
@@ -89,6 +108,16 @@ pub fn refused() -> [Sample; 16] {
         bad(b"\xbc\x12\x20\0\0\0\0\0", 2, SlotCause::Offset),
         bad(b"\xd7\x01\0\0\x08\0\0\0", 4, SlotCause::Imm),
         bad(b"\xdf\0\0\0\0\0\0\0", 0, SlotCause::Opcode),
+        bad(b"\x8d\0\0\0\0\0\0\0", 0, SlotCause::Opcode),
+        bad(b"\xe5\0\0\0\0\0\0\0", 0, SlotCause::Opcode),
+        bad(b"\xd3\0\0\0\0\0\0\0", 0, SlotCause::Opcode),
+        bad(b"\x99\0\0\0\0\0\0\0", 0, SlotCause::Opcode),
+        bad(
+            b"\x18\x01\0\0\x88\x77\x66\x55\0\0\0\0",
+            8,
+            SlotCause::Truncated,
+        ),
+        bad(b"\x18\x01\0\0\x88\x77\x66", 0, SlotCause::Truncated),
         bad(b"\x85\x10\x05\0\x07\0\0\0", 2, SlotCause::Offset),
         bad(b"\x85\x30\x05\0\x07\0\0\0", 1, SlotCause::Src),
         bad(

@@ -1,9 +1,9 @@
 //! Texts of BTF types, through both tables.
 
+use super::arena::{MOST_ROOM, arena};
 use crate::btf_text::show_btf;
 use bpf_words::{Order, push16, push32};
 use btf_types::{Btf, BtfView};
-use bumpalo::Bump;
 use std::alloc::{AllocError, Global};
 use std::test::Fail;
 
@@ -269,29 +269,22 @@ fn names_keep_what_needs_no_quoting(rt: HostRuntime) -> Result<(), Fail> {
     Ok(())
 }
 
-/// The arenas have 0 bytes, 64 bytes, and so on; the last has more than the text takes.
-const ARENAS: usize = 128;
-
 #[test]
-fn growth_of_the_text_is_refused(rt: HostRuntime) -> Result<(), Fail> {
+fn each_growth_of_the_text_is_refused(rt: HostRuntime) -> Result<(), Fail> {
     let expected = samples_text(rt.alloc())?;
     let bytes = samples_file(rt.alloc(), Order::Little)?;
     let table = match BtfView::parse(rt.alloc(), bytes.as_slice()) {
         Ok(table) => table,
         Err(_) => return Err("not accepted")?,
     };
-    let (mut refused, mut done) = (0_u32, 0_u32);
-    for number in 0..ARENAS {
-        let bump = Bump::try_with_capacity(rt.alloc(), 64 * number)?;
-        bump.set_allocation_limit(Some(bump.allocated_bytes()));
-        match show_btf(&bump, &table) {
-            Ok(text) => {
-                assert_eq!(rt; text.as_slice(), expected.as_slice());
-                done = done.saturating_add(1);
-            }
-            Err(_) => refused = refused.saturating_add(1),
+    for room in 0..MOST_ROOM {
+        let bump = arena(rt.alloc(), room)?;
+        if let Ok(text) = show_btf(&bump, &table) {
+            assert_eq!(rt; text.as_slice(), expected.as_slice(), "with {room} bytes");
+            // The whole text has to be kept, so fewer bytes are too few.
+            assert!(rt; room >= expected.len(), "{room} bytes were enough");
+            return Ok(());
         }
     }
-    assert!(rt; done > 0 && refused > 0);
-    Ok(())
+    Err("never enough room")?
 }

@@ -14,11 +14,27 @@ struct Sample {
 
 const INSNS: &[u8] = b"\x37\x01\x01\0\x03\0\0\0\xdb\x21\xf8\xff\xf1\0\0\0\x95\0\0\0\0\0\0\0";
 
-fn samples() -> [Sample; 7] {
+/// A line of each command, and of those that write in another order.
+fn samples() -> [Sample; 11] {
     [
         Sample {
             line: "insn-canon",
             input: INSNS,
+            output: INSNS,
+        },
+        Sample {
+            line: "insn-canon --order big",
+            input: b"\xbf\x12\0\0\0\0\0\0",
+            output: b"\xbf\x21\0\0\0\0\0\0",
+        },
+        Sample {
+            line: "insn-show",
+            input: INSNS,
+            output: b"sdiv r1, 3\ncmpxchg [r1-8], r2\nexit\n",
+        },
+        Sample {
+            line: "insn-read",
+            input: b"sdiv r1, 3\ncmpxchg [r1-8], r2\nexit\n",
             output: INSNS,
         },
         Sample {
@@ -35,6 +51,11 @@ fn samples() -> [Sample; 7] {
             line: "btf-canon",
             input: BIG_INT,
             output: INT,
+        },
+        Sample {
+            line: "btf-canon --to big",
+            input: INT,
+            output: BIG_INT,
         },
         Sample {
             line: "btf-show",
@@ -72,7 +93,7 @@ fn each_read_fails(rt: HostRuntime) -> Result<(), Fail> {
                 continue;
             }
             // insn-canon has written the instructions that came, of 8 bytes each
-            let whole = if line == "insn-canon" {
+            let whole = if line.starts_with("insn-canon") {
                 (fuse - 1) / 8 * 8
             } else {
                 0

@@ -1,4 +1,4 @@
-use Rattle.std.proofs.Common.{[], arith, take}
+use Rattle.std.proofs.Common.{[], arith}
 use Rattle.bpf_insn.proofs.FileLaws.{at_least_a_slot}
 use Rattle.bpf_canon.proofs.ReadingLemmas.{reading_none, reading_more, reading_same, reading_count, reading_stops, reading_ends}
 use Rattle.bpf_canon.proofs.front.judge_front.Goals as goal

@@ -1,4 +1,4 @@
-use Rattle.std.proofs.Common.{◌≤◌, ◌-◌, [], length, take}
+use Rattle.std.proofs.Common.{◌-◌, [], length, take}
 use Rattle.bpf_canon.proofs.ReadingLemmas.{ReadTo}
 use Rattle.bpf_canon.proofs.front.judge_front.Given as goal
 

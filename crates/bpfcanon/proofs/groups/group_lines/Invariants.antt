@@ -6,5 +6,5 @@ use Rattle.bpfcanon.specs.Reply.{all_groups, group_name}
 use Rattle.bpfcanon.proofs.groups.group_lines.Given as goal
 
 abbrev pub invariant-loop-group : goal.invariant-loop-group
-invariant-loop-group l =
+invariant-loop-group g l =
     l.lines.items ≡ flat_map (λ g. group_name g ++ newline) (filter (holds l.set) (take l.group-index all_groups))

@@ -1,7 +1,7 @@
 use Rattle.std.proofs.Common.{None}
 use Rattle.btf_types.specs.Sections.{facts_in}
 use Rattle.btf_types.specs.declared.roles.Role.TheVariants as roles
-use Rattle.btf_types.proofs.RoleSteps.{judged, third_judged, place_judged}
+use Rattle.btf_types.proofs.RoleSteps.{judged, place_judged}
 use Rattle.btf_types.proofs.fields.word_fault.Goals as goal
 
 pub returns-in-OwnName : goal.returns-in-OwnName
@@ -17,7 +17,7 @@ returns-in-Info c =
 pub returns-in-Third : goal.returns-in-Third
 returns-in-Third c =
     judged c.args.section.now c.args.this.now c.args.j c.word-word.result roles.Third c.third_fault.result c.requires.this c.requires.there c.word-word.ensures
-    c.in-Third.ensures.is c.in-Third.ensures.tells (third_judged (facts_in c.args.section.now) c.args.this.now.kind c.word-word.result c.args.this.now.vlen _ _ c.third_fault.result c.count.ensures c.facts.ensures.kind_is c.third_fault.ensures)
+    c.in-Third.ensures.is c.in-Third.ensures.tells c.third_fault.ensures
 
 pub returns-in-IntWord : goal.returns-in-IntWord
 returns-in-IntWord c =

@@ -1,5 +1,4 @@
 use Rattle.std.proofs.Common.{◌≡◌, ◌-◌, ◌<◌, length, get_or, sym, ◌∙◌}
-use Rattle.std.proofs.lemmas.Grind.{get_or_default_zero}
 use Rattle.btf_types.specs.Reading.{frame_at}
 use Rattle.btf_types.proofs.TableReads.{stands_at, place_inside, record_there, count_there}
 use Rattle.btf_types.proofs.owned.BtfTypeTable.item_count.Goals as goal
@@ -7,13 +6,13 @@ use Rattle.btf_types.proofs.owned.BtfTypeTable.item_count.Goals as goal
 pub item_count_at-requires : goal.item_count_at-requires
 item_count_at-requires g c =
     let t = c.self.inside in
-    let low : c.args.id - 1 < length t.places.items = place_inside t.order t.types.items t.strings.items t.places.items c.args.self.now c.args.id c.self.view_is c.requires.first c.requires.last in
-    let at : c.index.result.now ≡ get_or t.places.items (c.args.id - 1) 0 = c.index.ensures ∙ get_or_default_zero t.places.items (c.args.id - 1) c.index.result.now low in
-    rw (c.deref.ensures.value, at) (stands_at t.order t.types.items t.strings.items t.places.items (c.args.id - 1) c.self.invariant low).inside
+    let low : c.args.id - 1 < length t.places.records = place_inside t.order t.types.items t.strings.items t.places.records c.args.self.now c.args.id c.self.view_is c.requires.first c.requires.last in
+    let at : c.record.result ≡ get_or t.places.records (c.args.id - 1) 0 = c.record.ensures in
+    rw (c.deref.ensures.value, at) (stands_at t.order t.types.items t.strings.items t.places.records (c.args.id - 1) c.self.invariant.table low).inside
 
 pub returns : goal.returns
 returns g c =
     let t = c.self.inside in
-    let low : c.args.id - 1 < length t.places.items = place_inside t.order t.types.items t.strings.items t.places.items c.args.self.now c.args.id c.self.view_is c.requires.first c.requires.last in
-    let at : c.index.result.now ≡ get_or t.places.items (c.args.id - 1) 0 = c.index.ensures ∙ get_or_default_zero t.places.items (c.args.id - 1) c.index.result.now low in
-    rw (record_there t.order t.types.items t.strings.items t.places.items c.args.self.now c.args.id c.self.view_is low) (rw (c.deref.ensures.value, at) at c.item_count_at.ensures ∙ sym (count_there t.strings.items (frame_at t.order t.types.items (get_or t.places.items (c.args.id - 1) 0))))
+    let low : c.args.id - 1 < length t.places.records = place_inside t.order t.types.items t.strings.items t.places.records c.args.self.now c.args.id c.self.view_is c.requires.first c.requires.last in
+    let at : c.record.result ≡ get_or t.places.records (c.args.id - 1) 0 = c.record.ensures in
+    rw (record_there t.order t.types.items t.strings.items t.places.records c.args.self.now c.args.id c.self.view_is low) (rw (c.deref.ensures.value, at) at c.item_count_at.ensures ∙ sym (count_there t.strings.items (frame_at t.order t.types.items (get_or t.places.records (c.args.id - 1) 0))))

@@ -5,11 +5,11 @@ use Rattle.btf_types.proofs.TableReads.{stands_at}
 use Rattle.btf_types.proofs.RecordSteps.{one_given}
 use Rattle.btf_types.proofs.records.RecordsIterator.next.Goals as goal
 
-pub head_at-requires : goal.head_at-requires
-head_at-requires c =
+pub head_at-requires-clause-stands : goal.head_at-requires-clause-stands
+head_at-requires-clause-stands c =
     let t = c.self.inside in
     let found = c.in_ok-pos.ensures.lookup.3 in
-    rw (found.1 0) (stands_at t.order t.types.now t.strings.now t.places.now t.given c.self.invariant.table found.0)
+    rw (found.1 0) (stands_at t.order t.types.now t.strings.now t.places.now t.given c.self.invariant.part.table found.0)
 
 pub returns-clause-steps : goal.returns-clause-steps
 returns-clause-steps c =

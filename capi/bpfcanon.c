@@ -1,0 +1,76 @@
+/* The part of the C interface that is C: blocks for output, and names. It is tested and not proved. */
+#include "bpfcanon.h"
+
+#include <stdlib.h>
+
+/* A place for slices of 0 bytes, which may not be at null. */
+static uint8_t nowhere;
+
+/* A block for output that is at most as long as the input. */
+static uint8_t *block_of(size_t len)
+{
+	return malloc(len ? len : 1);
+}
+
+static bpfcanon_answer no_memory(void)
+{
+	bpfcanon_answer answer = { BPFCANON_MEMORY, 0, 0, 0 };
+
+	return answer;
+}
+
+/* Hands the block out where it was filled, and else frees it. */
+static bpfcanon_answer hand_out(bpfcanon_answer answer, uint8_t *block, uint8_t **out)
+{
+	if (answer.status == BPFCANON_DONE)
+		*out = block;
+	else
+		free(block);
+	return answer;
+}
+
+bpfcanon_answer bpfcanon_btf_canon_new(uint32_t to, const uint8_t *bytes, size_t len, uint8_t **out)
+{
+	uint8_t *block = block_of(len);
+
+	*out = NULL;
+	if (!block)
+		return no_memory();
+	return hand_out(bpfcanon_btf_canon(to, len ? bytes : &nowhere, len, block, len), block, out);
+}
+
+bpfcanon_answer bpfcanon_insn_canon_new(uint32_t order, uint32_t to, const uint8_t *bytes, size_t len, uint8_t **out)
+{
+	uint8_t *block = block_of(len);
+
+	*out = NULL;
+	if (!block)
+		return no_memory();
+	return hand_out(bpfcanon_insn_canon(order, to, len ? bytes : &nowhere, len, block, len), block, out);
+}
+
+void bpfcanon_free(uint8_t *block)
+{
+	free(block);
+}
+
+static const char *const insn_causes[] = {
+	NULL, "Truncated", "Opcode", "Dst", "Src", "Offset", "Imm", "Reserved", "NextImm",
+};
+
+static const char *const btf_causes[] = {
+	NULL, "ShortHeader", "Magic", "Version", "Flags", "HeaderLength", "HeaderTail", "TypeLength", "StringLength", "Sections",
+	"FileLength", "FirstString", "LastString", "RecordCut", "InfoBits", "KindNumber", "FlagSet", "Vlen", "TailCut",
+	"NameRange", "NameUtf8", "NameMissing", "NameUnwanted", "TextsTooLong", "NotZero", "Size", "Reference", "TargetKind",
+	"IntWord", "MemberInt", "MemberPlace", "Linkage", "Component",
+};
+
+const char *bpfcanon_insn_cause(uint32_t cause)
+{
+	return cause < sizeof insn_causes / sizeof *insn_causes ? insn_causes[cause] : NULL;
+}
+
+const char *bpfcanon_btf_cause(uint32_t cause)
+{
+	return cause < sizeof btf_causes / sizeof *btf_causes ? btf_causes[cause] : NULL;
+}

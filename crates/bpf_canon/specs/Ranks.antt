@@ -1,0 +1,38 @@
+-- Numbers of sorted texts: the common tails of neighbours, and the ranks that follow from them.
+use Rattle.std.specs.Prelude.{◌≡◌, ℕ, zero, suc, ◌<◌, ◌≤◌, List, length, slice_index}
+use Rattle.btf_types.specs.CommonTails.{common_tail, at_rank, IsNextHost}
+use Rattle.std.specs.List.Sorted.{IsSorted}
+use Rattle.btf_types.specs.SharedNames.{tail_cmp}
+
+-- how much the text of a rank has in common with that before it
+abbrev pub common_before : List (List ℕ) → ℕ → ℕ
+common_before sorted zero = 0
+common_before sorted (suc k) = common_tail (at_rank sorted k) (at_rank sorted (suc k))
+
+pub record AreCommon (sorted : List (List ℕ)) (common : List ℕ) : Type 0 where
+  pub whole : length common ≡ length sorted
+  pub each : (k : ℕ) → k < length sorted → slice_index common k ≡ common_before sorted k
+
+-- each rank has its next host
+pub record AreNextHosts (sorted : List (List ℕ)) (hosts : List ℕ) : Type 0 where
+  pub whole : length hosts ≡ length sorted
+  pub each : (k : ℕ) → k < length sorted → IsNextHost sorted k (slice_index hosts k)
+
+-- p is the last rank before k with less in common
+pub record IsLower (common : List ℕ) (p k : ℕ) : Type 0 where
+  pub before : p < k
+  pub less : slice_index common p < slice_index common k
+  pub between : (j : ℕ) → p < j → j < k → slice_index common k ≤ slice_index common j
+
+-- each rank that has something in common has its lower one
+pub record AreLower (common lower : List ℕ) : Type 0 where
+  pub whole : length lower ≡ length common
+  pub first : slice_index common 0 ≡ 0
+  pub each : (k : ℕ) → k < length common → 0 < slice_index common k → IsLower common (slice_index lower k) k
+
+-- texts in the order of their tails, with these numbers of each
+pub record AreRanked (sorted : List (List ℕ)) (common lower hosts : List ℕ) : Type 0 where
+  pub in_order : IsSorted tail_cmp sorted
+  pub are_common : AreCommon sorted common
+  pub are_lower : AreLower common lower
+  pub are_hosts : AreNextHosts sorted hosts

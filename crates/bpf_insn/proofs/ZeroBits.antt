@@ -1,0 +1,192 @@
+-- A slot whose bits are 0 where its opcode's rule has them 0, and whose registers are up to 10, is plain.
+use Rattle.std.proofs.Common.{◌≡◌, ℕ, zero, suc, ◌+◌, ◌*◌, ◌^◌, ◌<◌, ◌≤◌, pos, List, [], ◌∷◌, Bool, true, false, Option, Some, None, refl, ap, sym, ◌∙◌, arith, lit<, inl, inr, drop, slice_index, bit_and, bit_or}
+use Rattle.std.specs.Bool.{OnFalse}
+use Rattle.std.specs.Option.{IsSomeAnd}
+use Rattle.std.specs.Int.{w16, w32, w64, cast_unsigned, from_le_bytes}
+use Rattle.std.specs.Prelude.{IsTrue, ◌==◌}
+use Rattle.std.proofs.lemmas.Bool.{cases_eq}
+use Rattle.std.proofs.lemmas.Bool.Decides.{nat_tests}
+use Rattle.std.proofs.lemmas.Int.{ints}
+use Rattle.std.proofs.lemmas.Nat.{and_block, and_mask, and_comm, and_or_self, and_or_apart, le_or_l, le_or_r, from_le_bytes-to_le_bytes_2, from_le_bytes-to_le_bytes_4}
+use Rattle.bpf_words.specs.declared.Order.{Order}
+use Rattle.bpf_words.specs.declared.Order.TheVariants.{Little, Big}
+use Rattle.bpf_words.specs.Words.{word16, word32}
+use Rattle.bpf_words.specs.Slots.{Fields, AreFields, register_byte, spelled}
+use Rattle.bpf_words.proofs.OneSpelling.{signed_16, signed_32, pattern_fits_16, pattern_fits_32}
+use Rattle.bpf_insn.specs.Plain.{Rule, IsWithin, IsPlain, rule_at, zero_unless, rule_bits, bits_of, zero_bits_at, registers_above}
+
+-- ---- a table of 256 numbers
+
+-- the numbers of those below n
+abbrev pub listed : (ℕ → ℕ) → ℕ → List ℕ
+listed f zero = []
+listed f (suc n) = f n ∷ listed f n
+
+same_at : (f g : ℕ → ℕ) (n : ℕ) → listed f n ≡ listed g n → (k : ℕ) → k < n → f k ≡ g k
+same_at f g zero e k h = absurd (omega (arith, h))
+same_at f g (suc n) e k h = elim (cases_eq k n) [
+  | inl same ↦ rw same (ap (λ (xs : List ℕ). slice_index xs 0) e)
+  | inr other ↦ same_at f g n (ap (λ (xs : List ℕ). drop 1 xs) e) k (omega arith)
+]
+
+pub table_told : (f g : ℕ → ℕ) → listed f 256 ≡ listed g 256 → (n : ℕ) → n < 256 → f n ≡ g n
+table_told f g e n h = same_at f g 256 e n h
+
+-- ---- the number of a slot, by its fields
+
+abbrev joined : ℕ → ℕ → ℕ → ℕ → ℕ
+joined op registers off imm = ((imm * 2 ^ 16 + off) * 2 ^ 8 + registers) * 2 ^ 8 + op
+
+off_of : Order → Fields → ℕ
+off_of order f = from_le_bytes w16 (word16 order (cast_unsigned w16 f.off))
+
+imm_of : Order → Fields → ℕ
+imm_of order f = from_le_bytes w32 (word32 order (cast_unsigned w32 f.imm))
+
+number_of : (order : Order) (f : Fields) → from_le_bytes w64 (spelled order f) ≡ joined f.opcode (register_byte order f.dst f.src) (off_of order f) (imm_of order f)
+unfolding off_of imm_of
+number_of Little f = omega arith
+number_of Big f = omega arith
+
+-- ---- each part by itself
+
+and_joined : (op r o k R O K : ℕ) → op < 2 ^ 8 → r < 2 ^ 8 → R < 2 ^ 8 → o < 2 ^ 16 → O < 2 ^ 16
+    → bit_and (joined op r o k) (joined 0 R O K) ≡ joined (bit_and op 0) (bit_and r R) (bit_and o O) (bit_and k K)
+and_joined op r o k R O K hop hr hR ho hO =
+    and_block 8 _ _ op 0 hop (lit< tt)
+    ∙ ap (λ (x : ℕ). x * 2 ^ 8 + bit_and op 0) (and_block 8 _ _ r R hr hR
+    ∙ ap (λ (x : ℕ). x * 2 ^ 8 + bit_and r R) (and_block 16 k K o O ho hO))
+
+and_registers : (order : Order) (d s D S : ℕ) → d < 2 ^ 4 → s < 2 ^ 4 → D < 2 ^ 4 → S < 2 ^ 4
+    → bit_and (register_byte order d s) (register_byte order D S) ≡ register_byte order (bit_and d D) (bit_and s S)
+and_registers Little d s D S hd hs hD hS = rw_products s d S D (bit_and d D) (bit_and s S) (and_block 4 s S d D hd hD)
+  where
+    rw_products : (a b c e x y : ℕ) → bit_and (a * 2 ^ 4 + b) (c * 2 ^ 4 + e) ≡ y * 2 ^ 4 + x → bit_and (16 * a + b) (16 * c + e) ≡ 16 * y + x
+    rw_products a b c e x y h = grind arith
+and_registers Big d s D S hd hs hD hS = rw_products d s D S (bit_and s S) (bit_and d D) (and_block 4 d D s S hs hS)
+  where
+    rw_products : (a b c e x y : ℕ) → bit_and (a * 2 ^ 4 + b) (c * 2 ^ 4 + e) ≡ y * 2 ^ 4 + x → bit_and (16 * a + b) (16 * c + e) ≡ 16 * y + x
+    rw_products a b c e x y h = grind arith
+
+below : (any : Bool) (all : ℕ) → zero_unless any all < suc all
+below true all = omega arith
+below false all = omega arith
+
+nibble_zero : (any : Bool) (d : ℕ) → d < 16 → bit_and d (zero_unless any 15) ≡ 0 → OnFalse any (d ≡ 0)
+nibble_zero true d h e = tt
+nibble_zero false d h e = omega (arith, and_mask d 4)
+
+word_zero : (any : Bool) (n : ℕ) → n < 2 ^ 16 → bit_and n (zero_unless any 0xffff) ≡ 0 → OnFalse any (n ≡ 0)
+word_zero true n h e = tt
+word_zero false n h e = omega (arith, and_mask n 16)
+
+long_zero : (any : Bool) (n : ℕ) → n < 2 ^ 32 → bit_and n (zero_unless any 0xffffffff) ≡ 0 → OnFalse any (n ≡ 0)
+long_zero true n h e = tt
+long_zero false n h e = omega (arith, and_mask n 32)
+
+on_false : (any : Bool) {A B : Type 0} → (A → B) → OnFalse any A → OnFalse any B
+on_false true f h = tt
+on_false false f h = f h
+
+-- a word is 0 where its bytes are
+zero_word16 : (order : Order) (n : ℕ) → n < 2 ^ 16 → from_le_bytes w16 (word16 order n) ≡ 0 → n ≡ 0
+zero_word16 Little n h e = sym (from_le_bytes-to_le_bytes_2 n h) ∙ e
+zero_word16 Big n h e = omega arith
+
+zero_word32 : (order : Order) (n : ℕ) → n < 2 ^ 32 → from_le_bytes w32 (word32 order n) ≡ 0 → n ≡ 0
+zero_word32 Little n h e = sym (from_le_bytes-to_le_bytes_4 n h) ∙ e
+zero_word32 Big n h e = omega arith
+
+word16_below : (order : Order) (n : ℕ) → from_le_bytes w16 (word16 order n) < 2 ^ 16
+word16_below Little n = omega arith
+word16_below Big n = omega arith
+
+word32_below : (order : Order) (n : ℕ) → from_le_bytes w32 (word32 order n) < 2 ^ 32
+word32_below Little n = omega arith
+word32_below Big n = omega arith
+
+no_off : (order : Order) (f : Fields) → AreFields f → off_of order f ≡ 0 → f.off ≡ pos 0
+unfolding off_of
+no_off order f a e = signed_16 f.off (pos 0) a.off (omega (arith, ints)) (zero_word16 order _ (pattern_fits_16 f.off a.off) e)
+
+no_imm : (order : Order) (f : Fields) → AreFields f → imm_of order f ≡ 0 → f.imm ≡ pos 0
+unfolding imm_of
+no_imm order f a e = signed_32 f.imm (pos 0) a.imm (omega (arith, ints)) (zero_word32 order _ (pattern_fits_32 f.imm a.imm) e)
+
+-- ---- the whole
+
+registers_below : (order : Order) (d s : ℕ) → d < 16 → s < 16 → register_byte order d s < 2 ^ 8
+registers_below Little d s hd hs = omega arith
+registers_below Big d s hd hs = omega arith
+
+up_to_ten : (order : Order) (d s : ℕ) → d < 16 → s < 16 → registers_above (register_byte order d s) ≡ 0 → (d ≤ 10) × (s ≤ 10)
+up_to_ten Little d s hd hs e = (omega arith, omega arith)
+up_to_ten Big d s hd hs e = (omega arith, omega arith)
+
+no_registers : (order : Order) (d s : ℕ) → register_byte order d s ≡ 0 → (d ≡ 0) × (s ≡ 0)
+no_registers Little d s e = (omega arith, omega arith)
+no_registers Big d s e = (omega arith, omega arith)
+
+off_below : (order : Order) (f : Fields) → off_of order f < 2 ^ 16
+unfolding off_of
+off_below order f = word16_below order _
+
+imm_below : (order : Order) (f : Fields) → imm_of order f < 2 ^ 32
+unfolding imm_of
+imm_below order f = word32_below order _
+
+rule_joined : (order : Order) (r : Rule)
+    → rule_bits order r ≡ joined 0 (register_byte order (zero_unless r.any_dst 0xf) (zero_unless r.any_src 0xf)) (zero_unless r.any_off 0xffff) (zero_unless r.any_imm 0xffffffff)
+rule_joined order r = omega arith
+
+joined_zero : (op r o k : ℕ) → joined op r o k ≡ 0 → (r ≡ 0) × ((o ≡ 0) × (k ≡ 0))
+joined_zero op r o k e = (omega arith, (omega arith, omega arith))
+
+within : (order : Order) (f : Fields) (r : Rule) → AreFields f → bit_and (from_le_bytes w64 (spelled order f)) (rule_bits order r) ≡ 0
+    → registers_above (register_byte order f.dst f.src) ≡ 0 → IsWithin r f
+within order f r a e above =
+    let D = zero_unless r.any_dst 0xf in
+    let S = zero_unless r.any_src 0xf in
+    let parts = joined_zero _ _ _ _ (
+    sym (and_joined f.opcode (register_byte order f.dst f.src) (off_of order f) (imm_of order f) (register_byte order D S) (zero_unless r.any_off 0xffff) (zero_unless r.any_imm 0xffffffff)
+    a.opcode (registers_below order f.dst f.src a.dst a.src) (registers_below order D S (below r.any_dst 15) (below r.any_src 15)) (off_below order f) (below r.any_off 0xffff))
+    ∙ sym (ap (λ (x : ℕ). bit_and x (joined 0 (register_byte order D S) (zero_unless r.any_off 0xffff) (zero_unless r.any_imm 0xffffffff))) (number_of order f))
+    ∙ sym (ap (λ (x : ℕ). bit_and (from_le_bytes w64 (spelled order f)) x) (rule_joined order r))
+    ∙ e) in
+    let regs = no_registers order _ _ (sym (and_registers order f.dst f.src D S a.dst a.src (below r.any_dst 15) (below r.any_src 15)) ∙ parts.0) in
+    let ten = up_to_ten order f.dst f.src a.dst a.src above in
+    record {
+      dst = ten.0;
+      src = ten.1;
+      no_dst = nibble_zero r.any_dst f.dst a.dst regs.0;
+      no_src = nibble_zero r.any_src f.src a.src regs.1;
+      no_off = on_false r.any_off (no_off order f a) (word_zero r.any_off (off_of order f) (off_below order f) parts.1.0);
+      no_imm = on_false r.any_imm (no_imm order f a) (long_zero r.any_imm (imm_of order f) (imm_below order f) parts.1.1);
+    }
+
+even : (order : Order) (r : Rule) → bit_and 1 (rule_bits order r) ≡ 0
+even order r = and_comm 1 (rule_bits order r) ∙ and_mask (rule_bits order r) 1 ∙ omega arith
+
+by_rule : (order : Order) (f : Fields) (o : Option Rule) → AreFields f → bit_and (bit_or (from_le_bytes w64 (spelled order f)) 1) (bits_of order o) ≡ 0
+    → registers_above (register_byte order f.dst f.src) ≡ 0 → IsSomeAnd o (λ r. IsWithin r f)
+by_rule order f None a e above = absurd (omega (arith, e, and_or_self 1 (from_le_bytes w64 (spelled order f))))
+by_rule order f (Some r) a e above = within order f r a (sym (and_or_apart (rule_bits order r) (from_le_bytes w64 (spelled order f)) 1 (even order r)) ∙ e) above
+
+second_byte : (order : Order) (f : Fields) → slice_index (spelled order f) 1 ≡ register_byte order f.dst f.src
+second_byte Little f = refl
+second_byte Big f = refl
+
+is_zero : (n : ℕ) (b : Bool) → b ≡ (n == 0) → b ≡ true → n ≡ 0
+is_zero n b e t = grind (arith, nat_tests)
+
+-- what is told of a slot by its bytes
+pub told_plain : (order : Order) (f : Fields) (bytes : List ℕ) (word bits above : ℕ) → AreFields f → bytes ≡ spelled order f → word ≡ from_le_bytes w64 bytes
+    → bits ≡ zero_bits_at order f.opcode → above ≡ registers_above (slice_index bytes 1) → IsTrue (bit_or (bit_and (bit_or word 1) bits) above == 0) → IsPlain f
+told_plain order f bytes word bits above a e hw hb ha told =
+    let h = is_zero (bit_or (bit_and (bit_or word 1) bits) above) _ refl told in
+    let left : bit_and (bit_or word 1) bits ≡ 0 = omega (arith, h, le_or_l (bit_and (bit_or word 1) bits) above) in
+    let right : above ≡ 0 = omega (arith, h, le_or_r (bit_and (bit_or word 1) bits) above) in
+    let number : word ≡ from_le_bytes w64 (spelled order f) = hw ∙ ap (from_le_bytes w64) e in
+    by_rule order f (rule_at f.opcode) a
+    (sym (ap (λ (x : ℕ). bit_and (bit_or x 1) (zero_bits_at order f.opcode)) number) ∙ sym (ap (λ (x : ℕ). bit_and (bit_or word 1) x) hb) ∙ left)
+    (sym (ap registers_above (sym (second_byte order f))) ∙ sym (ap (λ (xs : List ℕ). registers_above (slice_index xs 1)) e) ∙ sym ha ∙ right)

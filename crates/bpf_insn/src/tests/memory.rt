@@ -1,0 +1,118 @@
+//! Large files with ample memory, and small ones with each growth refused in turn.
+
+use crate::{Insn, InsnError, Order, Reg, SlotCause, SlotFault, WideOf, decode_insns};
+use bumpalo::Bump;
+use std::alloc::{AllocError, Global};
+use std::process::Abort;
+use std::test::Fail;
+
+const ROOM: usize = 1984;
+
+/// How many instructions a list grows for: those that find it full.
+const GROWTHS: [usize; 3] = [0, 4, 8];
+
+const EXIT: &[u8; 8] = b"\x95\0\0\0\0\0\0\0";
+
+/// An instruction whose src field is at fault.
+const FAULTY: &[u8; 8] = b"\x04\x10\0\0\x05\0\0\0";
+
+/// Nine exits, and the faulty instruction.
+const FILE: &[u8; 80] = b"\
+    \x95\0\0\0\0\0\0\0\x95\0\0\0\0\0\0\0\x95\0\0\0\0\0\0\0\
+    \x95\0\0\0\0\0\0\0\x95\0\0\0\0\0\0\0\x95\0\0\0\0\0\0\0\
+    \x95\0\0\0\0\0\0\0\x95\0\0\0\0\0\0\0\x95\0\0\0\0\0\0\0\x04\x10\0\0\x05\0\0\0";
+
+/// An arena of one chunk with so many bytes left, which gets no other chunk.
+fn arena(alloc: Global, room: usize) -> Result<Bump<Global>, AllocError> {
+    let taken = [0u8; ROOM];
+    let bump = Bump::try_with_capacity(alloc, ROOM)?;
+    bump.set_allocation_limit(Some(0));
+    let given_away = ROOM.saturating_sub(room);
+    bump.try_alloc_slice_copy(&taken[..given_away])?;
+    Ok(bump)
+}
+
+/// How many exits an arena of so much room takes, up to nine.
+fn exits_in(alloc: Global, room: usize) -> Result<usize, AllocError> {
+    for count in 1..=9usize {
+        let bump = arena(alloc, room)?;
+        match decode_insns(&bump, Order::Little, &FILE[..8 * count]) {
+            Ok(_) => {}
+            Err(_) => return Ok(count - 1),
+        }
+    }
+    Ok(9)
+}
+
+#[test]
+fn each_growth_is_refused(rt: HostRuntime) -> Result<(), Fail> {
+    let fault = SlotFault {
+        pos: 73,
+        cause: SlotCause::Src,
+    };
+    let mut refused = [0u32; 10];
+    for room in 0..=ROOM {
+        let fits = exits_in(rt.alloc(), room)?;
+        assert!(rt; fits < 10);
+        let bump = arena(rt.alloc(), room)?;
+        match decode_insns(&bump, Order::Little, FILE) {
+            Ok(_) => assert!(rt; false, "a faulty file is accepted"),
+            Err(InsnError::Memory) => refused[fits] = refused[fits].saturating_add(1),
+            Err(InsnError::Fault(told)) => {
+                assert_eq!(rt; told, fault);
+                assert_eq!(rt; fits, 9);
+            }
+        }
+    }
+    let places = refused.iter().filter(|count| **count > 0).count();
+    assert_eq!(rt; places, GROWTHS.len());
+    for full in GROWTHS {
+        assert!(rt; refused[full] > 0, "no refusal with {full} instructions");
+    }
+    assert!(rt; refused[9] == 0);
+    Ok(())
+}
+
+/// The largest stream that is read: 64 MiB, of wide loads, and the last instruction as it is given.
+fn largest(alloc: Global, last: &[u8; 8]) -> Result<Vec<u8>, AllocError> {
+    let mut bytes = Vec::with_capacity(alloc, 64 << 20)?;
+    for number in 0..(4u32 << 20) - 1 {
+        let [low, next, high, top] = number.to_le_bytes();
+        let wide = [
+            0x18, 3, 0, 0, low, next, high, top, 0, 0, 0, 0, 0, 0, 0, 0x80,
+        ];
+        bytes.extend_from_slice(&wide)?;
+    }
+    bytes.extend_from_slice(EXIT)?;
+    bytes.extend_from_slice(last)?;
+    Ok(bytes)
+}
+
+#[test]
+fn the_largest_stream_is_decoded(rt: HostRuntime) -> Result<(), Fail> {
+    let bytes = largest(rt.alloc(), EXIT)?;
+    assert_eq!(rt; bytes.len(), 67_108_864);
+    let insns = decode_insns(rt.alloc(), Order::Little, &bytes)?;
+    assert_eq!(rt; insns.len(), 4_194_305);
+    let dst = Reg::new(3).ok_or("no register")?;
+    for (number, insn) in (0..(4u64 << 20) - 1).zip(insns.iter()) {
+        let what = WideOf::Number(0x8000_0000_0000_0000 | number);
+        assert!(rt; *insn == Insn::Wide { dst, what }, "at {number}");
+    }
+    assert!(rt; insns[4_194_303] == Insn::Exit && insns[4_194_304] == Insn::Exit);
+    Ok(())
+}
+
+#[test]
+fn the_fault_of_the_largest_stream_is_told(rt: HostRuntime) -> Result<(), Fail> {
+    let bytes = largest(rt.alloc(), FAULTY)?;
+    let fault = SlotFault {
+        pos: 67_108_857,
+        cause: SlotCause::Src,
+    };
+    match decode_insns(rt.alloc(), Order::Little, &bytes) {
+        Err(InsnError::Fault(told)) => assert_eq!(rt; told, fault),
+        _ => assert!(rt; false, "no fault"),
+    }
+    Ok(())
+}

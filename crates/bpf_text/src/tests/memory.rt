@@ -1,0 +1,184 @@
+//! Large texts with ample memory, and small ones with each growth refused in turn.
+
+use crate::{LineCause, LineFault, ListError, listing, push_line, read_listing};
+use bpf_insn::{Insn, Reg, WideOf};
+use bumpalo::Bump;
+use std::alloc::{AllocError, Global};
+use std::process::Abort;
+use std::test::Fail;
+
+const ROOM: usize = 1984;
+
+/// Nine lines, and a faulty one. A list of instructions grows for its first, its fifth and its ninth.
+const LINES: &[u8] = b"exit\nexit\nexit\nexit\nexit\nexit\nexit\nexit\nexit\nleave\n";
+
+/// An arena of one chunk with so many bytes left, which gets no other chunk.
+fn arena(alloc: Global, room: usize) -> Result<Bump<Global>, AllocError> {
+    let taken = [0u8; ROOM];
+    let bump = Bump::try_with_capacity(alloc, ROOM)?;
+    bump.set_allocation_limit(Some(0));
+    let given_away = ROOM.saturating_sub(room);
+    bump.try_alloc_slice_copy(&taken[..given_away])?;
+    Ok(bump)
+}
+
+/// Which of the places where memory can be refused were met: after how many instructions.
+fn places(refused: &[u32; 10]) -> usize {
+    refused.iter().filter(|count| **count > 0).count()
+}
+
+/// How many of the nine lines are read with so much room.
+fn lines_read_in(alloc: Global, room: usize) -> Result<usize, AllocError> {
+    for count in 1..=9usize {
+        let bump = arena(alloc, room)?;
+        if read_listing(&bump, &LINES[..5 * count]).is_err() {
+            return Ok(count - 1);
+        }
+    }
+    Ok(9)
+}
+
+#[test]
+fn of_reading(rt: HostRuntime) -> Result<(), Fail> {
+    let mut refused = [0u32; 10];
+    let fault = LineFault {
+        line: 10,
+        cause: LineCause::Word,
+    };
+    for room in 0..=ROOM {
+        let fits = lines_read_in(rt.alloc(), room)?;
+        assert!(rt; fits < 10);
+        let bump = arena(rt.alloc(), room)?;
+        match read_listing(&bump, LINES) {
+            Ok(_) => assert!(rt; false, "a faulty text is accepted"),
+            Err(ListError::Memory) => refused[fits] = refused[fits].saturating_add(1),
+            Err(ListError::Fault(told)) => {
+                assert_eq!(rt; told, fault);
+                assert_eq!(rt; fits, 9);
+            }
+        }
+    }
+    assert_eq!(rt; places(&refused), 3);
+    assert!(rt; refused[0] > 0 && refused[4] > 0 && refused[8] > 0);
+    Ok(())
+}
+
+/// How many of nine instructions are listed with so much room.
+fn lines_listed_in(alloc: Global, room: usize) -> Result<usize, AllocError> {
+    for count in 1..=9usize {
+        let bump = arena(alloc, room)?;
+        if listing(&bump, &[Insn::Exit; 9][..count]).is_err() {
+            return Ok(count - 1);
+        }
+    }
+    Ok(9)
+}
+
+#[test]
+fn of_listing(rt: HostRuntime) -> Result<(), Fail> {
+    let mut refused = [0u32; 10];
+    for room in 0..=ROOM {
+        let fits = lines_listed_in(rt.alloc(), room)?;
+        assert!(rt; fits < 10);
+        let bump = arena(rt.alloc(), room)?;
+        match listing(&bump, &[Insn::Exit; 9]) {
+            Ok(text) => {
+                assert_eq!(rt; text.as_slice(), &LINES[..45]);
+                assert_eq!(rt; fits, 9);
+            }
+            Err(_) => refused[fits] = refused[fits].saturating_add(1),
+        }
+    }
+    assert!(rt; places(&refused) >= 3 && refused[0] > 0 && refused[9] == 0);
+    Ok(())
+}
+
+/// Appends lines to what a vector holds, until memory is refused, and tells how many were appended. The text has whole
+/// lines alone.
+fn append_lines(rt: &impl Abort, bump: &Bump<Global>, held: &[u8]) -> Option<usize> {
+    let Ok(mut out) = Vec::from_slice(bump, held) else {
+        return None;
+    };
+    for count in 0..9usize {
+        let pushed = push_line(&mut out, Insn::Exit);
+        let lines = if pushed.is_ok() { count + 1 } else { count };
+        assert!(rt; out.starts_with(held));
+        assert!(rt; out[held.len()..] == LINES[..5 * lines]);
+        if pushed.is_err() {
+            return Some(count);
+        }
+    }
+    Some(9)
+}
+
+#[test]
+fn of_appending(rt: HostRuntime) -> Result<(), Fail> {
+    for held in [b"".as_slice(), b"; text", b"; more text\n"] {
+        let mut refused = [0u32; 10];
+        for room in 0..=ROOM {
+            let bump = arena(rt.alloc(), room)?;
+            match append_lines(&rt, &bump, held) {
+                Some(count) if count < 10 => refused[count] = refused[count].saturating_add(1),
+                _ => {}
+            }
+        }
+        // The last place stands for those that had room for all.
+        assert!(rt; places(&refused) >= 4 && refused[0] > 0 && refused[9] > 0);
+    }
+    Ok(())
+}
+
+/// How many lines the largest text has, of 32 bytes each.
+const COUNT: u64 = 2 << 20;
+
+/// The largest text that is read, 64 MiB: wide loads of the numbers from 0, and the last line as it is given.
+fn largest(alloc: Global, last: &[u8; 32]) -> Result<Vec<u8>, AllocError> {
+    let mut text = Vec::with_capacity(alloc, 64 << 20)?;
+    for number in 0..(2u32 << 20) - 1 {
+        text.extend_from_slice(b"lddw r9, 0x0000000000")?;
+        for place in [20, 16, 12, 8, 4, 0] {
+            text.push(b"0123456789abcdef"[(number >> place) as usize % 16])?;
+        }
+        text.extend_from_slice(b" ;;;\n")?;
+    }
+    text.extend_from_slice(last)?;
+    Ok(text)
+}
+
+#[test]
+fn the_largest_text_is_read_and_listed(rt: HostRuntime) -> Result<(), Fail> {
+    let text = largest(rt.alloc(), b"lddw r9, 0x00000000001fffff ;;;\n")?;
+    assert_eq!(rt; text.len(), 67_108_864);
+    let insns = read_listing(rt.alloc(), &text)?;
+    assert_eq!(rt; insns.len() as u64, COUNT);
+    let dst = Reg::new(9).ok_or("no register")?;
+    for (number, insn) in (0..COUNT).zip(insns.iter()) {
+        let what = WideOf::Number(number);
+        assert!(rt; *insn == Insn::Wide { dst, what }, "at {number}");
+    }
+    let mut listed = listing(rt.alloc(), &insns)?;
+    // Ten bytes a line, and the digits of each number.
+    let digits = 10 + 2 * 90 + 3 * 900 + 4 * 9_000 + 5 * 90_000 + 6 * 900_000 + 7 * 1_097_152;
+    assert_eq!(rt; listed.len(), 10 * 2_097_152 + digits);
+    assert!(rt; listed.starts_with(b"lddw r9, 0\nlddw r9, 1\n"));
+    assert!(rt; listed.ends_with(b"lddw r9, 2097150\nlddw r9, 2097151\n"));
+    let again = read_listing(rt.alloc(), &listed)?;
+    assert!(rt; again.as_slice() == insns.as_slice());
+    push_line(&mut listed, Insn::Exit)?;
+    assert!(rt; listed.ends_with(b"lddw r9, 2097151\nexit\n"));
+    Ok(())
+}
+
+#[test]
+fn the_fault_of_the_largest_text_is_told(rt: HostRuntime) -> Result<(), Fail> {
+    let text = largest(rt.alloc(), b"leave                          \n")?;
+    let fault = LineFault {
+        line: COUNT,
+        cause: LineCause::Word,
+    };
+    assert_eq!(rt;
+        read_listing(rt.alloc(), &text).map(|_| ()),
+        Err(ListError::Fault(fault))
+    );
+    Ok(())
+}

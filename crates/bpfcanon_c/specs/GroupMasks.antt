@@ -1,0 +1,45 @@
+-- The groups of instructions as a mask.
+use Rattle.std.specs.Prelude.{◌≡◌, ◌↔◌, ⊤, ℕ, ◌+◌, Bool, List, IsTrue, if◌then◌else◌}
+use Rattle.bpf_words.specs.declared.Order.{Order}
+use Rattle.bpf_insn.specs.declared.fault.SlotFault.{SlotFault}
+use Rattle.bpf_insn.specs.declared.insn.Insn.{Insn}
+use Rattle.bpf_insn.specs.declared.group.Group.{Group}
+use Rattle.bpf_insn.specs.declared.group.Group.TheVariants.{Base32, Base64, Atomic32, Atomic64, Divmul32, Divmul64, Packet}
+use Rattle.bpf_insn.specs.declared.group.GroupSet.{GroupSet}
+use Rattle.bpf_insn.specs.Groups.{InGroups, holds}
+use Rattle.bpf_insn.specs.Spelling.{InsnFile}
+use Rattle.bpf_insn.specs.Faults.{IsInsnFault}
+use Rattle.bpfcanon_c.specs.declared.answer.Answer.{Answer}
+use Rattle.bpfcanon_c.specs.declared.answer.Ending.{Ending}
+use Rattle.bpfcanon_c.specs.declared.answer.Ending.TheVariants.{Counted, First, Memory}
+use Rattle.bpfcanon_c.specs.declared.answer.Ending.TheVariants as ending
+use Rattle.bpfcanon_c.specs.Answers.{code_of_slot, order_number}
+use Rattle.bpfcanon_c.specs.Endings.{IsNoOrder, Tells}
+
+abbrev pub weighed : Bool → ℕ → ℕ
+weighed b weight = if b then weight else 0
+
+-- a bit for each group, from the lowest
+abbrev pub mask : GroupSet → ℕ
+mask s =
+    weighed (holds s Base32) 1 + weighed (holds s Base64) 2 + weighed (holds s Atomic32) 4 + weighed (holds s Atomic64) 8
+    + weighed (holds s Divmul32) 16 + weighed (holds s Divmul64) 32 + weighed (holds s Packet) 64
+
+-- the mask of a set that has the groups of these instructions
+pub record IsGroupMask (l : List Insn) (n : ℕ) : Type 0 where
+  pub set : GroupSet
+  pub groups : (g : Group) → IsTrue (holds set g) ↔ InGroups l g
+  pub bits : n ≡ mask set
+
+abbrev pub EndsGroupsIn : Order → List ℕ → Ending → Type 0
+EndsGroupsIn o bytes (Counted n) = (l : List Insn) × (InsnFile o bytes l × IsGroupMask l n)
+EndsGroupsIn o bytes (First code) = (fault : SlotFault) × (IsInsnFault o bytes fault × (code ≡ code_of_slot fault))
+EndsGroupsIn o bytes Memory = ⊤
+EndsGroupsIn o bytes _ = ⊥
+
+abbrev pub EndsGroups : ℕ → List ℕ → Ending → Type 0
+EndsGroups n bytes ending.Order = IsNoOrder n
+EndsGroups n bytes e = (o : Order) × ((n ≡ order_number o) × EndsGroupsIn o bytes e)
+
+abbrev pub AnswersGroups : ℕ → List ℕ → Answer → Type 0
+AnswersGroups n bytes = Tells (EndsGroups n bytes)

@@ -1,0 +1,81 @@
+//! The calls on BTF.
+ghost use Rattle.std.specs.Prelude.{◌≡◌};
+ghost use Rattle.bpfcanon_c.specs.Endings.{EndsBtf, EndsBtfIn, AnswersBtf, EndsBtfCheck, AnswersBtfCheck, EndsSameBtf, AnswersSameBtf};
+
+use crate::answer::{Answer, Ending, btf_code, order_from, put, report};
+use bpf_canon::{SideError, same_btf, write_btf};
+use bpf_insn::Order;
+use btf_types::{BtfError, BtfView, TypeTable};
+use std::alloc::Global;
+
+/// Writes the canonical bytes of a BTF file in the byte order `to` at the front of `out`. They are no longer than the file.
+#[unsafe(no_mangle)]
+pub extern "C" fn bpfcanon_btf_canon(alloc: Global, to: u32, bytes: &[u8], out: &mut [u8]) -> Answer
+    ensures { AnswersBtf to bytes.now out.old out.new result }
+{
+    report(btf_into(alloc, to, bytes, out))
+}
+
+/// The canonical bytes in the order of a number.
+fn btf_into(alloc: Global, to: u32, bytes: &[u8], out: &mut [u8]) -> Ending
+    ensures { EndsBtf to bytes.now out.old out.new result }
+{
+    match order_from(to) {
+        Some(to) => btf_in(alloc, to, bytes, out),
+        None => Ending::Order,
+    }
+}
+
+/// The canonical bytes in an order.
+fn btf_in(alloc: Global, to: Order, bytes: &[u8], out: &mut [u8]) -> Ending
+    ensures { EndsBtfIn to bytes.now out.old out.new result }
+{
+    match BtfView::parse(alloc, bytes) {
+        Ok(table) => match write_btf(alloc, to, &table) {
+            Ok(canon) => put(&canon, out),
+            Err(_) => Ending::Memory,
+        },
+        Err(BtfError::Fault(fault)) => Ending::First(btf_code(fault)),
+        Err(BtfError::Memory) => Ending::Memory,
+    }
+}
+
+/// Counts the types of a BTF file, or reports its first fault.
+#[unsafe(no_mangle)]
+pub extern "C" fn bpfcanon_btf_check(alloc: Global, bytes: &[u8]) -> Answer
+    ensures { AnswersBtfCheck bytes.now result }
+{
+    report(btf_counted(alloc, bytes))
+}
+
+/// How many types there are.
+fn btf_counted(alloc: Global, bytes: &[u8]) -> Ending
+    ensures { EndsBtfCheck bytes.now result }
+{
+    match BtfView::parse(alloc, bytes) {
+        Ok(table) => Ending::Counted(table.count() as usize),
+        Err(BtfError::Fault(fault)) => Ending::First(btf_code(fault)),
+        Err(BtfError::Memory) => Ending::Memory,
+    }
+}
+
+/// Whether two BTF files have the same types.
+#[unsafe(no_mangle)]
+pub extern "C" fn bpfcanon_btf_same(alloc: Global, first: &[u8], second: &[u8]) -> Answer
+    ensures { AnswersSameBtf first.now second.now result }
+{
+    report(btf_compared(alloc, first, second))
+}
+
+/// How the comparison ends.
+fn btf_compared(alloc: Global, first: &[u8], second: &[u8]) -> Ending
+    ensures { EndsSameBtf first.now second.now result }
+{
+    match same_btf(alloc, first, second) {
+        Ok(true) => Ending::Same,
+        Ok(false) => Ending::Different,
+        Err(SideError::First(fault)) => Ending::First(btf_code(fault)),
+        Err(SideError::Second(fault)) => Ending::Second(btf_code(fault)),
+        Err(SideError::Memory) => Ending::Memory,
+    }
+}

@@ -1,0 +1,140 @@
+//! The calls on instruction files.
+ghost use Rattle.std.specs.Prelude.{◌≡◌};
+ghost use Rattle.bpf_insn.specs.Groups.{holds};
+ghost use Rattle.bpfcanon_c.specs.Endings.{EndsInsns, EndsInsnsIn, AnswersInsns, EndsSameInsns, AnswersSameInsns};
+ghost use Rattle.bpfcanon_c.specs.GroupMasks.{weighed, mask, EndsGroups, EndsGroupsIn, AnswersGroups};
+
+use crate::answer::{Answer, Ending, order_from, put, report, slot_code};
+use bpf_canon::{SideError, same_insns, write_insns};
+use bpf_insn::{Group, GroupSet, InsnError, Order, decode_insns, groups_of};
+use std::alloc::Global;
+
+/// Writes the instructions of a file of the byte order `order` in the byte order `to` at the front of `out`. They are as many
+/// bytes as the file's. Little-endian bytes are canonical.
+#[unsafe(no_mangle)]
+pub extern "C" fn bpfcanon_insn_canon(
+    alloc: Global,
+    order: u32,
+    to: u32,
+    bytes: &[u8],
+    out: &mut [u8],
+) -> Answer
+    ensures { AnswersInsns order to bytes.now out.old out.new result }
+{
+    report(insns_into(alloc, order, to, bytes, out))
+}
+
+/// The instructions in the order of a number.
+fn insns_into(alloc: Global, order: u32, to: u32, bytes: &[u8], out: &mut [u8]) -> Ending
+    ensures { EndsInsns order to bytes.now out.old out.new result }
+{
+    match order_from(order) {
+        Some(order) => match order_from(to) {
+            Some(to) => insns_in(alloc, order, to, bytes, out),
+            None => Ending::Order,
+        },
+        None => Ending::Order,
+    }
+}
+
+/// The instructions of a file in an order.
+fn insns_in(alloc: Global, order: Order, to: Order, bytes: &[u8], out: &mut [u8]) -> Ending
+    ensures { EndsInsnsIn order to bytes.now out.old out.new result }
+{
+    match decode_insns(alloc, order, bytes) {
+        Ok(insns) => match write_insns(alloc, to, &insns) {
+            Ok(written) => put(&written, out),
+            Err(_) => Ending::Memory,
+        },
+        Err(InsnError::Fault(fault)) => Ending::First(slot_code(fault)),
+        Err(InsnError::Memory) => Ending::Memory,
+    }
+}
+
+/// The conformance groups that the instructions of a file need, as a mask of 7 bits from the lowest: base32, base64, atomic32,
+/// atomic64, divmul32, divmul64, packet.
+#[unsafe(no_mangle)]
+pub extern "C" fn bpfcanon_insn_groups(alloc: Global, order: u32, bytes: &[u8]) -> Answer
+    ensures { AnswersGroups order bytes.now result }
+{
+    report(groups_into(alloc, order, bytes))
+}
+
+/// The groups of a file in the order of a number.
+fn groups_into(alloc: Global, order: u32, bytes: &[u8]) -> Ending
+    ensures { EndsGroups order bytes.now result }
+{
+    match order_from(order) {
+        Some(order) => groups_in(alloc, order, bytes),
+        None => Ending::Order,
+    }
+}
+
+/// The groups of a file.
+fn groups_in(alloc: Global, order: Order, bytes: &[u8]) -> Ending
+    ensures { EndsGroupsIn order bytes.now result }
+{
+    match decode_insns(alloc, order, bytes) {
+        Ok(insns) => Ending::Counted(mask_of(&groups_of(&insns))),
+        Err(InsnError::Fault(fault)) => Ending::First(slot_code(fault)),
+        Err(InsnError::Memory) => Ending::Memory,
+    }
+}
+
+/// The bit of this weight, where the set has the group.
+fn bit(set: &GroupSet, group: Group, weight: usize) -> usize
+    ensures { result ≡ weighed (holds set.now group) weight }
+{
+    if set.has(group) { weight } else { 0 }
+}
+
+/// The mask of a set of groups.
+fn mask_of(set: &GroupSet) -> usize
+    ensures { result ≡ mask set.now }
+{
+    let widths = bit(set, Group::Base32, 1) + bit(set, Group::Base64, 2);
+    let atomics = bit(set, Group::Atomic32, 4) + bit(set, Group::Atomic64, 8);
+    let divisions = bit(set, Group::Divmul32, 16) + bit(set, Group::Divmul64, 32);
+    widths + atomics + divisions + bit(set, Group::Packet, 64)
+}
+
+/// Whether two instruction files, each in its own byte order, have the same instructions.
+#[unsafe(no_mangle)]
+pub extern "C" fn bpfcanon_insn_same(
+    alloc: Global,
+    order_first: u32,
+    first: &[u8],
+    order_second: u32,
+    second: &[u8],
+) -> Answer
+    ensures { AnswersSameInsns order_first first.now order_second second.now result }
+{
+    report(insns_compared(alloc, order_first, first, order_second, second))
+}
+
+/// How the comparison ends.
+fn insns_compared(
+    alloc: Global,
+    order_first: u32,
+    first: &[u8],
+    order_second: u32,
+    second: &[u8],
+) -> Ending
+    ensures { EndsSameInsns order_first first.now order_second second.now result }
+{
+    let order_a = match order_from(order_first) {
+        Some(order) => order,
+        None => return Ending::Order,
+    };
+    let order_b = match order_from(order_second) {
+        Some(order) => order,
+        None => return Ending::Order,
+    };
+    match same_insns(alloc, order_a, first, order_b, second) {
+        Ok(true) => Ending::Same,
+        Ok(false) => Ending::Different,
+        Err(SideError::First(fault)) => Ending::First(slot_code(fault)),
+        Err(SideError::Second(fault)) => Ending::Second(slot_code(fault)),
+        Err(SideError::Memory) => Ending::Memory,
+    }
+}

@@ -1,0 +1,222 @@
+/* Calls each function of the C interface on worked files, and exits with 1 where some check failed. usage: calls TESTDATA */
+#include "bpfcanon.h"
+
+#include <stdio.h>
+#include <stdlib.h>
+#include <string.h>
+
+static int checks, failed;
+
+#define CHECK(holds) (checks++, (holds) ? 0 : (failed++, printf("%s:%d: %s\n", __FILE__, __LINE__, #holds)))
+#define BYTES(text) (const uint8_t *)(text), sizeof(text) - 1
+
+/* an INT in big-endian BTF, its canonical bytes, and the same type with another name, strings first and a longer header */
+static const char INT_BIG[] = "\xeb\x9f\x01\0\0\0\0\x18\0\0\0\0\0\0\0\x10\0\0\0\x10\0\0\0\x05\0\0\0\x01\x01\0\0\0\0\0\0\x04\x01\0\0 \0int\0";
+static const char INT[] = "\x9f\xeb\x01\0\x18\0\0\0\0\0\0\0\x10\0\0\0\x10\0\0\0\x05\0\0\0\x01\0\0\0\0\0\0\x01\x04\0\0\0 \0\0\x01\0int\0";
+static const char INT_LOOSE[] = "\x9f\xeb\x01\0\x1c\0\0\0\x07\0\0\0\x10\0\0\0\0\0\0\0\x07\0\0\0\0\0\0\0\0x\0int\0\x03\0\0\0\0\0\0\x01\x04\0\0\0 \0\0\x01";
+static const char NO_TYPES[] = "\x9f\xeb\x01\0\x18\0\0\0\0\0\0\0\0\0\0\0\0\0\0\0\x01\0\0\0\0";
+static const char MOV_BIG[] = "\xbf\x12\0\0\0\0\0\0", MOV[] = "\xbf\x21\0\0\0\0\0\0", EXIT[] = "\x95\0\0\0\0\0\0\0";
+static const char EXIT_AND_FAULT[] = "\x95\0\0\0\0\0\0\0\x04\x10\0\0\x05\0\0\0";
+
+static int is(bpfcanon_answer answer, uint32_t status, uint32_t cause, uint64_t pos, size_t len)
+{
+	return answer.status == status && answer.cause == cause && answer.pos == pos && answer.len == len;
+}
+
+static int is_filled(const uint8_t *from, const uint8_t *to)
+{
+	for (; from < to; from++)
+		if (*from != 0xaa)
+			return 0;
+	return 1;
+}
+
+static uint8_t *load(const char *folder, const char *name, size_t *len)
+{
+	char path[4096];
+	uint8_t *bytes = malloc(1 << 20);
+	FILE *file;
+
+	snprintf(path, sizeof path, "%s/%s", folder, name);
+	file = fopen(path, "rb");
+	if (!file || !bytes) {
+		perror(path);
+		exit(2);
+	}
+	*len = fread(bytes, 1, 1 << 20, file);
+	fclose(file);
+	return bytes;
+}
+
+static void btf_goes_into_the_callers_room(void)
+{
+	uint8_t out[256];
+	bpfcanon_answer answer;
+
+	memset(out, 0xaa, sizeof out);
+	answer = bpfcanon_btf_canon(BPFCANON_LITTLE, BYTES(INT_BIG), out, sizeof out);
+	CHECK(is(answer, BPFCANON_DONE, 0, 0, sizeof INT - 1) && !memcmp(out, INT, answer.len));
+	CHECK(is_filled(out + answer.len, out + sizeof out));
+	answer = bpfcanon_btf_canon(BPFCANON_BIG, BYTES(INT_LOOSE), out, sizeof out);
+	CHECK(is(answer, BPFCANON_DONE, 0, 0, sizeof INT_BIG - 1) && !memcmp(out, INT_BIG, answer.len));
+
+	memset(out, 0xaa, sizeof out);
+	CHECK(is(bpfcanon_btf_canon(BPFCANON_LITTLE, BYTES(INT_BIG), out, 44), BPFCANON_ROOM, 0, 0, 45));
+	CHECK(is(bpfcanon_btf_canon(BPFCANON_LITTLE, (const uint8_t *)INT_BIG, 23, out, sizeof out), BPFCANON_FAULT, 1, 23, 0));
+	CHECK(is(bpfcanon_btf_canon(2, BYTES(INT_BIG), out, sizeof out), BPFCANON_ORDER, 0, 0, 0));
+	CHECK(is_filled(out, out + sizeof out));
+	CHECK(is(bpfcanon_btf_canon(BPFCANON_LITTLE, BYTES(INT_BIG), out, 45), BPFCANON_DONE, 0, 0, 45));
+	CHECK(is_filled(out + 45, out + sizeof out));
+}
+
+static void btf_goes_into_blocks(void)
+{
+	uint8_t *block;
+
+	CHECK(is(bpfcanon_btf_canon_new(BPFCANON_LITTLE, BYTES(INT_BIG), &block), BPFCANON_DONE, 0, 0, 45));
+	CHECK(block && !memcmp(block, INT, 45));
+	bpfcanon_free(block);
+	CHECK(is(bpfcanon_btf_canon_new(BPFCANON_LITTLE, NULL, 0, &block), BPFCANON_FAULT, 1, 0, 0) && !block);
+}
+
+static void btf_is_checked_and_compared(void)
+{
+	CHECK(is(bpfcanon_btf_check(BYTES(INT_BIG)), BPFCANON_DONE, 0, 0, 1));
+	CHECK(is(bpfcanon_btf_check(BYTES(NO_TYPES)), BPFCANON_DONE, 0, 0, 0));
+	CHECK(is(bpfcanon_btf_check((const uint8_t *)NO_TYPES, 24), BPFCANON_FAULT, 10, 24, 0));
+	CHECK(is(bpfcanon_btf_same(BYTES(INT_BIG), BYTES(INT_LOOSE)), BPFCANON_DONE, 0, 0, 0));
+	CHECK(is(bpfcanon_btf_same(BYTES(INT_BIG), BYTES(NO_TYPES)), BPFCANON_DIFFERENT, 0, 0, 0));
+	CHECK(is(bpfcanon_btf_same(BYTES("\x9f\xea"), BYTES("")), BPFCANON_FAULT, 1, 2, 0));
+	CHECK(is(bpfcanon_btf_same(BYTES(INT_BIG), BYTES("\x9f\xeb\x01")), BPFCANON_FAULT_SECOND, 1, 3, 0));
+}
+
+static void instructions_change_order(void)
+{
+	static const char wide_big[] = "\x18\x10\0\0\x55\x66\x77\x88\0\0\0\0\x11\x22\x33\x44";
+	static const char wide[] = "\x18\x01\0\0\x88\x77\x66\x55\0\0\0\0\x44\x33\x22\x11";
+	uint8_t out[256], *block;
+
+	CHECK(is(bpfcanon_insn_canon(BPFCANON_BIG, BPFCANON_LITTLE, BYTES(MOV_BIG), out, sizeof out), BPFCANON_DONE, 0, 0, 8));
+	CHECK(!memcmp(out, MOV, 8));
+	CHECK(is(bpfcanon_insn_canon(BPFCANON_LITTLE, BPFCANON_BIG, BYTES(wide), out, sizeof out), BPFCANON_DONE, 0, 0, 16));
+	CHECK(!memcmp(out, wide_big, 16));
+	memset(out, 0xaa, sizeof out);
+	CHECK(is(bpfcanon_insn_canon(0, 0, BYTES(EXIT_AND_FAULT), out, sizeof out), BPFCANON_FAULT, 4, 9, 0));
+	CHECK(is(bpfcanon_insn_canon(0, 0, BYTES("\x95\0\0\0"), out, sizeof out), BPFCANON_FAULT, 1, 0, 0));
+	CHECK(is(bpfcanon_insn_canon(2, 0, BYTES(EXIT), out, sizeof out), BPFCANON_ORDER, 0, 0, 0));
+	CHECK(is(bpfcanon_insn_canon(0, 2, BYTES(EXIT), out, sizeof out), BPFCANON_ORDER, 0, 0, 0));
+	CHECK(is(bpfcanon_insn_canon(0, 0, BYTES(EXIT), out, 7), BPFCANON_ROOM, 0, 0, 8));
+	CHECK(is_filled(out, out + sizeof out));
+	CHECK(is(bpfcanon_insn_canon_new(0, 0, NULL, 0, &block), BPFCANON_DONE, 0, 0, 0) && block);
+	bpfcanon_free(block);
+}
+
+static void instructions_are_compared(void)
+{
+	CHECK(is(bpfcanon_insn_same(BPFCANON_BIG, BYTES(MOV_BIG), BPFCANON_LITTLE, BYTES(MOV)), BPFCANON_DONE, 0, 0, 0));
+	CHECK(is(bpfcanon_insn_same(BPFCANON_LITTLE, BYTES(MOV_BIG), BPFCANON_LITTLE, BYTES(MOV)), BPFCANON_DIFFERENT, 0, 0, 0));
+	CHECK(is(bpfcanon_insn_same(0, BYTES(EXIT), 0, BYTES("\xbf\x2b\0\0\0\0\0\0")), BPFCANON_FAULT_SECOND, 3, 1, 0));
+	CHECK(is(bpfcanon_insn_same(7, BYTES(""), 0, BYTES("")), BPFCANON_ORDER, 0, 0, 0));
+}
+
+static void groups_are_a_mask(void)
+{
+	/* sdiv r1, 3; cmpxchg [r1-8], r2; exit */
+	static const char program[] = "\x37\x01\x01\0\x03\0\0\0\xdb\x21\xf8\xff\xf1\0\0\0\x95\0\0\0\0\0\0\0";
+	const size_t wanted = BPFCANON_BASE32 | BPFCANON_ATOMIC32 | BPFCANON_ATOMIC64 | BPFCANON_DIVMUL32 | BPFCANON_DIVMUL64;
+
+	CHECK(is(bpfcanon_insn_groups(0, BYTES(program)), BPFCANON_DONE, 0, 0, wanted));
+	CHECK(is(bpfcanon_insn_groups(0, BYTES(MOV)), BPFCANON_DONE, 0, 0, BPFCANON_BASE32 | BPFCANON_BASE64));
+	CHECK(is(bpfcanon_insn_groups(0, BYTES("\x48\x30\0\0\x04\0\0\0")), BPFCANON_DONE, 0, 0, BPFCANON_PACKET));
+	CHECK(is(bpfcanon_insn_groups(0, BYTES("")), BPFCANON_DONE, 0, 0, 0));
+	CHECK(is(bpfcanon_insn_groups(0, BYTES(EXIT_AND_FAULT)), BPFCANON_FAULT, 4, 9, 0));
+}
+
+/* A stream in pieces of one length, with what is left kept in front of the next. */
+static void stream_in_pieces_of(size_t piece, const uint8_t *big, size_t len, const uint8_t *little, size_t little_len)
+{
+	uint8_t held[16 + 64], whole[512];
+	size_t kept = 0, done = 0;
+
+	for (size_t i = 0; i < len; i += piece) {
+		size_t more = len - i < piece ? len - i : piece;
+		bpfcanon_front front;
+
+		memcpy(held + kept, big + i, more);
+		front = bpfcanon_insn_front(BPFCANON_BIG, BPFCANON_LITTLE, held, kept + more, whole + done, sizeof whole - done);
+		CHECK(front.status == BPFCANON_DONE && front.read == front.written && kept + more - front.read < 16);
+		kept += more - front.read;
+		memmove(held, held + front.read, kept);
+		done += front.written;
+	}
+	CHECK(kept == 0 && done == little_len && !memcmp(whole, little, done));
+}
+
+static void streams_may_be_cut_anywhere(const char *folder)
+{
+	size_t len, little_len;
+	uint8_t out[64], *big = load(folder, "packet_filter.big.bin", &len);
+	uint8_t *little = load(folder, "packet_filter.little.bin", &little_len);
+	bpfcanon_front front;
+
+	for (size_t piece = 1; piece < 60; piece++)
+		stream_in_pieces_of(piece, big, len, little, little_len);
+	front = bpfcanon_insn_front(BPFCANON_LITTLE, BPFCANON_BIG, BYTES(EXIT_AND_FAULT), out, sizeof out);
+	CHECK(front.status == BPFCANON_FAULT && front.cause == 4 && front.pos == 9 && front.read == 8 && front.written == 8);
+	front = bpfcanon_insn_front(0, 0, BYTES("\x95\0\0\0\0\0\0\0\x04"), out, 7);
+	CHECK(front.status == BPFCANON_ROOM && front.written == 8);
+	front = bpfcanon_insn_front(0, 2, BYTES(EXIT), out, sizeof out);
+	CHECK(front.status == BPFCANON_ORDER);
+	free(big);
+	free(little);
+}
+
+static void compiled_files_have_one_form(const char *folder)
+{
+	size_t len, little_len;
+	uint8_t *block, *other, *big = load(folder, "hash_words.big.bin", &len);
+	uint8_t *little = load(folder, "hash_words.little.bin", &little_len);
+	bpfcanon_answer answer = bpfcanon_insn_canon_new(BPFCANON_BIG, BPFCANON_LITTLE, big, len, &block);
+
+	CHECK(is(answer, BPFCANON_DONE, 0, 0, little_len) && !memcmp(block, little, little_len));
+	bpfcanon_free(block);
+	free(big);
+	free(little);
+
+	big = load(folder, "flow_table.big.btf", &len);
+	little = load(folder, "flow_table.little.btf", &little_len);
+	answer = bpfcanon_btf_canon_new(BPFCANON_LITTLE, big, len, &block);
+	CHECK(answer.status == BPFCANON_DONE);
+	CHECK(bpfcanon_btf_canon_new(BPFCANON_LITTLE, little, little_len, &other).len == answer.len);
+	CHECK(!memcmp(block, other, answer.len));
+	CHECK(is(bpfcanon_btf_same(big, len, little, little_len), BPFCANON_DONE, 0, 0, 0));
+	bpfcanon_free(block);
+	bpfcanon_free(other);
+	free(big);
+	free(little);
+}
+
+static void causes_have_names(void)
+{
+	CHECK(!strcmp(bpfcanon_insn_cause(1), "Truncated") && !strcmp(bpfcanon_insn_cause(8), "NextImm"));
+	CHECK(!bpfcanon_insn_cause(0) && !bpfcanon_insn_cause(9));
+	CHECK(!strcmp(bpfcanon_btf_cause(1), "ShortHeader") && !strcmp(bpfcanon_btf_cause(23), "TextsTooLong"));
+	CHECK(!strcmp(bpfcanon_btf_cause(32), "Component") && !bpfcanon_btf_cause(0) && !bpfcanon_btf_cause(33));
+}
+
+int main(int argc, char **argv)
+{
+	if (argc != 2)
+		return 2;
+	btf_goes_into_the_callers_room();
+	btf_goes_into_blocks();
+	btf_is_checked_and_compared();
+	instructions_change_order();
+	instructions_are_compared();
+	groups_are_a_mask();
+	streams_may_be_cut_anywhere(argv[1]);
+	compiled_files_have_one_form(argv[1]);
+	causes_have_names();
+	printf("C interface: %d checks, %d failed\n", checks, failed);
+	return failed != 0;
+}

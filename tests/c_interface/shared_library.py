@@ -1,0 +1,50 @@
+"""Calls the shared library by ctypes. usage: shared_library.py LIBRARY TESTDATA"""
+
+import ctypes
+import pathlib
+import sys
+
+
+class Answer(ctypes.Structure):
+    _fields_ = [
+        ("status", ctypes.c_uint32),
+        ("cause", ctypes.c_uint32),
+        ("pos", ctypes.c_uint64),
+        ("len", ctypes.c_size_t),
+    ]
+
+
+def load(path):
+    library = ctypes.CDLL(path)
+    bytes_and_length = [ctypes.c_char_p, ctypes.c_size_t]
+    library.bpfcanon_btf_canon.restype = Answer
+    library.bpfcanon_btf_canon.argtypes = [ctypes.c_uint32, *bytes_and_length, *bytes_and_length]
+    library.bpfcanon_insn_same.restype = Answer
+    library.bpfcanon_insn_same.argtypes = [ctypes.c_uint32, *bytes_and_length] * 2
+    return library
+
+
+def canonical(library, file):
+    room = ctypes.create_string_buffer(max(len(file), 1))
+    answer = library.bpfcanon_btf_canon(0, file, len(file), room, len(file))
+    return (answer.status, answer.cause, answer.pos), room.raw[: answer.len]
+
+
+def main():
+    library, testdata = load(sys.argv[1]), pathlib.Path(sys.argv[2])
+    little = (testdata / "flow_table.little.btf").read_bytes()
+    big = (testdata / "flow_table.big.btf").read_bytes()
+    mov, mov_big = b"\xbf\x21\0\0\0\0\0\0", b"\xbf\x12\0\0\0\0\0\0"
+    checks = [
+        canonical(library, little)[0] == (0, 0, 0),
+        canonical(library, little) == canonical(library, big),
+        canonical(library, big[:23]) == ((2, 1, 23), b""),
+        library.bpfcanon_insn_same(1, mov_big, 8, 0, mov, 8).status == 0,
+        library.bpfcanon_insn_same(0, mov_big, 8, 0, mov, 8).status == 1,
+    ]
+    print(f"C interface from Python: {len(checks)} checks, {checks.count(False)} failed")
+    sys.exit(not all(checks))
+
+
+if __name__ == "__main__":
+    main()

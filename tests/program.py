@@ -1,0 +1,87 @@
+"""Runs the built program as a process, and keeps count of what was right and wrong."""
+
+import contextlib
+import subprocess
+from typing import NamedTuple
+
+# A run that takes longer than this has hung.
+SECONDS = 60
+
+
+class Ran(NamedTuple):
+    """What a process answered: its exit status, and what it wrote on standard output and standard error."""
+
+    status: int
+    output: bytes
+    told: bytes
+
+    def __str__(self):
+        return f"status {self.status}, output {shortened(self.output)}, told {shortened(self.told)}"
+
+
+def shortened(text):
+    """The bytes as Python writes them; of many only the first, and how many there are."""
+    if len(text) <= 80:
+        return repr(text)
+    return f"{text[:60]!r}.. ({len(text)} bytes)"
+
+
+class Program:
+    """The executable, which is started anew for each run."""
+
+    def __init__(self, path):
+        self.path = path
+
+    def run(self, line, input=b"", **how):
+        """Runs the program with the words of a line; `how` is passed on to `subprocess.run`."""
+        if "stdin" not in how:
+            how["input"] = input
+        how.setdefault("stdout", subprocess.PIPE)
+        how.setdefault("stderr", subprocess.PIPE)
+        words = [self.path, *line.split()]
+        done = subprocess.run(words, timeout=SECONDS, check=False, **how)
+        return Ran(done.returncode, done.stdout or b"", done.stderr or b"")
+
+
+class Report:
+    """Prints a line for each group of runs, and at the end how many were wrong."""
+
+    def __init__(self):
+        self.runs = 0
+        self.wrong = 0
+        self.skipped = 0
+
+    @contextlib.contextmanager
+    def group(self, name):
+        """Counts the runs that are compared inside a `with`, and prints their line behind it."""
+        runs, wrong = self.runs, self.wrong
+        try:
+            yield
+        except subprocess.TimeoutExpired as late:
+            self.tell_wrong(f"no answer within {late.timeout} seconds: {' '.join(late.cmd)}")
+        runs, wrong = self.runs - runs, self.wrong - wrong
+        print(f"{'WRONG' if wrong else 'ok'}: {name}: {runs} runs, {wrong} wrong", flush=True)
+
+    def expect(self, what, ran, expected):
+        """Compares what a run answered with what is right."""
+        self.expect_that(ran == expected, what, f"it gave {ran}, and right is {expected}")
+
+    def expect_that(self, is_right, what, otherwise):
+        """Counts a run; where it isn't right, says so."""
+        self.runs += 1
+        if not is_right:
+            self.tell_wrong(f"{what}: {otherwise}")
+
+    def tell_wrong(self, text):
+        self.wrong += 1
+        print(f"  wrong: {text}", flush=True)
+
+    def skip(self, what, why):
+        self.skipped += 1
+        print(f"skipped: {what}: {why}", flush=True)
+
+    def end(self, name):
+        """Prints the last line, and gives the status for the process."""
+        skipped = f", {self.skipped} skipped" if self.skipped else ""
+        print(f"{name}: {self.runs} runs, {self.wrong} wrong{skipped}", flush=True)
+        return 1 if self.wrong or not self.runs else 0

@@ -1,0 +1,137 @@
+"""Runs the built program with each of its allocations refused in turn, alone and with all that follow.
+
+    refused_memory.py PROGRAM REFUSE_ALLOCATION
+
+The second word is the shared object that is built of refuse_allocation.c. What the program takes for its words
+and for clap is refused too, which no test inside the crates can do.
+
+Whatever is refused, three answers are right: the one with ample memory; status 3 with `no memory`; status 3 with
+`no words`, as the program couldn't keep its own words. Of the output there is nothing then, but for insn-canon,
+which writes as it reads: there it is the beginning of the right output.
+"""
+
+import os
+import sys
+
+import examples
+from program import Program, Report
+
+# No line takes so many allocations: a loop that comes here has found no end.
+MOST_ALLOCATIONS = 2_000
+
+# Lines of each command that succeed.
+GOOD = [
+    examples.done("no word", "", examples.EXIT, examples.EXIT),
+    examples.done("canonical bytes", "insn-canon --order big", examples.WIDE_BIG, examples.WIDE),
+    examples.done("a listing", "insn-show", examples.THREE_INSTRUCTIONS, examples.THREE_LINES),
+    examples.done("a listing read", "insn-read", examples.LOOSE_LISTING, examples.LISTED),
+    examples.done("groups", "insn-groups --order big", examples.MOV_BIG, b"base32\nbase64\n"),
+    examples.done("the same", "insn-same --split 8 --order big", examples.MOV_BIG + examples.MOV, b"same\n"),
+    examples.different("different", "insn-same --split 8", examples.MOV_BIG + examples.MOV),
+    examples.done("canonical BTF", "btf-canon", examples.TAGGED_MEMBER, examples.TAIL_OF_TAG),
+    examples.done("big-endian BTF", "btf-canon --to big", examples.INT, examples.INT_BIG),
+    examples.done("BTF shown", "btf-show", examples.INT_BIG, examples.INT_TEXT),
+    examples.done("BTF checked", "btf-check", examples.TAGGED_MEMBER, b"ok 3 types\n"),
+    examples.done("the same BTF", "btf-same --split 45", examples.INT_BIG + examples.LOOSE_INT, b"same\n"),
+    examples.different("different BTF", "btf-same --split 45", examples.INT_BIG + examples.ENUM64_BIG),
+]
+
+FAULTY = [
+    examples.refused(
+        "instructions",
+        "insn-canon",
+        examples.EXIT + examples.SOURCE_BESIDE_IMMEDIATE,
+        "fault 9 Src",
+        examples.EXIT,
+    ),
+    examples.refused("instructions to list", "insn-show", examples.CUT_WIDE, "fault 8 Truncated"),
+    examples.refused("a listing", "insn-read", b"exit\nleave", "fault line 2 Word"),
+    examples.refused("instructions of groups", "insn-groups", examples.REGISTER_ELEVEN, "fault 1 Dst"),
+    examples.refused(
+        "the second of two files",
+        "insn-same --split 8",
+        examples.EXIT + examples.CUT_WIDE,
+        "second: fault 8 Truncated",
+    ),
+    examples.refused("BTF", "btf-canon", examples.POINTER_TO_NOTHING, "fault 32 Reference"),
+    examples.refused("BTF to show", "btf-show", examples.NAME_NOT_UTF8, "fault 24 NameUtf8"),
+    examples.refused("BTF to check", "btf-check", examples.TAG_OF_A_THIRD_MEMBER, "fault 88 Component"),
+    examples.refused(
+        "the first of two BTF files",
+        "btf-same --split 37",
+        examples.POINTER_TO_NOTHING,
+        "first: fault 32 Reference",
+    ),
+    examples.refused("a split behind the end", "btf-same --split 26", examples.NO_TYPES, "split beyond input"),
+]
+
+REFUSED_LINES = [
+    examples.refused_line("insn-same"),
+    examples.refused_line("insn-canon --order middle"),
+    examples.refused_line("insn-canon --help"),
+    examples.refused_line("leave"),
+]
+
+
+def run_refused(program, shared_object, example, first, last):
+    """Runs a line with these allocations refused, and tells whether any was."""
+    told, tell = os.pipe()
+    try:
+        settings = {
+            "LD_PRELOAD": shared_object,
+            "REFUSE_FROM": str(first),
+            "REFUSE_TO": str(last),
+            "REFUSE_TOLD": str(tell),
+        }
+        ran = program.run(example.line, example.input, env=settings, pass_fds=[tell])
+    finally:
+        os.close(tell)
+        with os.fdopen(told, "rb") as reader:
+            was_refused = reader.read(1) != b""
+    return ran, was_refused
+
+
+def is_refusal(ran, example):
+    """Whether the program told that it had no memory, and wrote nothing that it shouldn't."""
+    streams = example.line == "" or example.line.startswith("insn-canon")
+    written = example.right.output if streams else b""
+    return ran.status == 3 and ran.told in (b"no memory\n", b"no words\n") and written.startswith(ran.output)
+
+
+def refuse_each(report, program, shared_object, example, only_one):
+    """Refuses the first allocation, the second and so on, until the line ends before it; returns what was told."""
+    told = set()
+    what = "alone" if only_one else "and all that follow"
+    for number in range(1, MOST_ALLOCATIONS):
+        last = number if only_one else MOST_ALLOCATIONS
+        ran, was_refused = run_refused(program, shared_object, example, number, last)
+        where = f"{example.name} ({example.line}), allocation {number} {what}"
+        if not was_refused:
+            report.expect(f"{where}, which there isn't", ran, example.right)
+            return told
+        right = f"right is {example.right} or status 3 with `no memory` or `no words`"
+        report.expect_that(ran == example.right or is_refusal(ran, example), where, f"it gave {ran}, and {right}")
+        told.add(ran.told)
+    report.tell_wrong(f"{example.name} ({example.line}): more than {MOST_ALLOCATIONS} allocations")
+    return told
+
+
+def main():
+    if len(sys.argv) != 3:
+        sys.exit(__doc__)
+    program, shared_object = Program(sys.argv[1]), os.path.abspath(sys.argv[2])
+    report = Report()
+    groups = {"that succeed": GOOD, "with a faulty input": FAULTY, "that are refused": REFUSED_LINES}
+    for name, lines in groups.items():
+        with report.group(f"memory is refused to {len(lines)} lines {name}"):
+            for example in lines:
+                for only_one in (True, False):
+                    told = refuse_each(report, program, shared_object, example, only_one)
+                    # each line takes memory for the words of the process, and again for clap
+                    for line in {b"no words\n", b"no memory\n"} - told:
+                        report.tell_wrong(f"{example.name} ({example.line}): no run told {line!r}")
+    return report.end("refused memory")
+
+
+if __name__ == "__main__":
+    sys.exit(main())
