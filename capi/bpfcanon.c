@@ -49,6 +49,40 @@ bpfcanon_answer bpfcanon_insn_canon_new(uint32_t order, uint32_t to, const uint8
 	return hand_out(bpfcanon_insn_canon(order, to, len ? bytes : &nowhere, len, block, len), block, out);
 }
 
+/* A call that writes at most `room` bytes, in the order or from a file of the order `order`. */
+typedef bpfcanon_answer write_call(uint32_t order, const uint8_t *bytes, size_t len, uint8_t *out, size_t room);
+
+/* Calls with a block of so much room, and where that is too short, once more with as much as the answer says. */
+static bpfcanon_answer write_new(write_call *call, uint32_t order, const uint8_t *bytes, size_t len, size_t room, uint8_t **out)
+{
+	uint8_t *block = block_of(room);
+	bpfcanon_answer answer;
+
+	*out = NULL;
+	if (!block)
+		return no_memory();
+	answer = call(order, len ? bytes : &nowhere, len, block, room);
+	if (answer.status != BPFCANON_ROOM)
+		return hand_out(answer, block, out);
+	free(block);
+	room = answer.len;
+	block = block_of(room);
+	if (!block)
+		return no_memory();
+	return hand_out(call(order, len ? bytes : &nowhere, len, block, room), block, out);
+}
+
+bpfcanon_answer bpfcanon_insn_show_new(uint32_t order, const uint8_t *bytes, size_t len, uint8_t **out)
+{
+	/* a line takes about three times as much as its instruction */
+	return write_new(bpfcanon_insn_show, order, bytes, len, 3 * len, out);
+}
+
+bpfcanon_answer bpfcanon_insn_read_new(uint32_t to, const uint8_t *text, size_t len, uint8_t **out)
+{
+	return write_new(bpfcanon_insn_read, to, text, len, len, out);
+}
+
 void bpfcanon_free(uint8_t *block)
 {
 	free(block);
@@ -65,6 +99,8 @@ static const char *const btf_causes[] = {
 	"IntWord", "MemberInt", "MemberPlace", "Linkage", "Component",
 };
 
+static const char *const line_causes[] = { NULL, "Char", "Word", "Shape", "Range" };
+
 const char *bpfcanon_insn_cause(uint32_t cause)
 {
 	return cause < sizeof insn_causes / sizeof *insn_causes ? insn_causes[cause] : NULL;
@@ -73,4 +109,9 @@ const char *bpfcanon_insn_cause(uint32_t cause)
 const char *bpfcanon_btf_cause(uint32_t cause)
 {
 	return cause < sizeof btf_causes / sizeof *btf_causes ? btf_causes[cause] : NULL;
+}
+
+const char *bpfcanon_line_cause(uint32_t cause)
+{
+	return cause < sizeof line_causes / sizeof *line_causes ? line_causes[cause] : NULL;
 }

@@ -31,7 +31,7 @@ enum { BPFCANON_LITTLE = 0, BPFCANON_BIG = 1 };
 enum {
 	BPFCANON_DONE = 0,         /* done: `len` is what the call says; or two files are the same */
 	BPFCANON_DIFFERENT = 1,    /* two files are different */
-	BPFCANON_FAULT = 2,        /* the input, or the first of two, has the fault `cause` at byte `pos` */
+	BPFCANON_FAULT = 2,        /* the input, or the first of two, has the fault `cause` at byte `pos`, or on line `pos` of a listing */
 	BPFCANON_FAULT_SECOND = 3, /* the second of two has it, and the first has none */
 	BPFCANON_MEMORY = 4,       /* out of memory */
 	BPFCANON_ROOM = 5,         /* the output takes `len` bytes, which is more than its room; nothing was written */
@@ -41,7 +41,7 @@ enum {
 /* What a call returns. Fields that the status doesn't name are 0. */
 typedef struct bpfcanon_answer {
 	uint32_t status;
-	uint32_t cause; /* a number of docs/FORMATS.md, of instruction faults or of BTF faults */
+	uint32_t cause; /* a number of docs/FORMATS.md, of instruction faults, of BTF faults or of listing faults */
 	uint64_t pos;
 	size_t len;
 } bpfcanon_answer;
@@ -78,6 +78,15 @@ bpfcanon_answer bpfcanon_btf_same(const uint8_t *first, size_t first_len, const 
 bpfcanon_answer bpfcanon_insn_same(uint32_t first_order, const uint8_t *first, size_t first_len, uint32_t second_order,
                                    const uint8_t *second, size_t second_len);
 
+/*
+ * bpfcanon_insn_show writes the listing of the instructions of a file: a line for each, with a newline, and no NUL at the end.
+ * bpfcanon_insn_read writes the instructions that a listing has, in the order `to`; the place of a fault is its line, from 1 on.
+ * `len` of the answer is how many bytes were written. The output may be longer than the input: at BPFCANON_ROOM `len` is the room
+ * that it takes. At each status but BPFCANON_DONE all of `out` stays as it is.
+ */
+bpfcanon_answer bpfcanon_insn_show(uint32_t order, const uint8_t *bytes, size_t len, uint8_t *out, size_t room);
+bpfcanon_answer bpfcanon_insn_read(uint32_t to, const uint8_t *text, size_t len, uint8_t *out, size_t room);
+
 /* What bpfcanon_insn_front returns. `pos` counts from the first byte that this call was given. */
 typedef struct bpfcanon_front {
 	uint32_t status; /* BPFCANON_DONE, BPFCANON_FAULT, BPFCANON_MEMORY, BPFCANON_ROOM or BPFCANON_ORDER */
@@ -99,6 +108,8 @@ bpfcanon_front bpfcanon_insn_front(uint32_t order, uint32_t to, const uint8_t *b
 /* As above, into a block of their own at `*out`, which the caller gives to bpfcanon_free; null at each status but BPFCANON_DONE. */
 bpfcanon_answer bpfcanon_btf_canon_new(uint32_t to, const uint8_t *bytes, size_t len, uint8_t **out);
 bpfcanon_answer bpfcanon_insn_canon_new(uint32_t order, uint32_t to, const uint8_t *bytes, size_t len, uint8_t **out);
+bpfcanon_answer bpfcanon_insn_show_new(uint32_t order, const uint8_t *bytes, size_t len, uint8_t **out);
+bpfcanon_answer bpfcanon_insn_read_new(uint32_t to, const uint8_t *text, size_t len, uint8_t **out);
 void bpfcanon_free(uint8_t *block);
 
 /* --- Names (capi/bpfcanon.c) --- */
@@ -106,6 +117,7 @@ void bpfcanon_free(uint8_t *block);
 /* The name of a cause, as docs/FORMATS.md and the program have it; null for a number that is no cause. */
 const char *bpfcanon_insn_cause(uint32_t cause);
 const char *bpfcanon_btf_cause(uint32_t cause);
+const char *bpfcanon_line_cause(uint32_t cause);
 
 #ifdef __cplusplus
 }

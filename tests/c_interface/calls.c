@@ -132,6 +132,66 @@ static void groups_are_a_mask(void)
 	CHECK(is(bpfcanon_insn_groups(0, BYTES(EXIT_AND_FAULT)), BPFCANON_FAULT, 4, 9, 0));
 }
 
+static void instructions_are_listed(void)
+{
+	/* lddw r1, 1234605616436508552 in big-endian bytes */
+	static const char wide_big[] = "\x18\x10\0\0\x55\x66\x77\x88\0\0\0\0\x11\x22\x33\x44";
+	static const char wide_line[] = "lddw r1, 1234605616436508552\n";
+	uint8_t out[256], *block;
+
+	memset(out, 0xaa, sizeof out);
+	CHECK(is(bpfcanon_insn_show(BPFCANON_BIG, BYTES(wide_big), out, sizeof out), BPFCANON_DONE, 0, 0, sizeof wide_line - 1));
+	CHECK(!memcmp(out, wide_line, sizeof wide_line - 1) && is_filled(out + sizeof wide_line - 1, out + sizeof out));
+	memset(out, 0xaa, sizeof out);
+	CHECK(is(bpfcanon_insn_show(BPFCANON_BIG, BYTES(wide_big), out, sizeof wide_line - 2), BPFCANON_ROOM, 0, 0, sizeof wide_line - 1));
+	CHECK(is(bpfcanon_insn_show(BPFCANON_LITTLE, BYTES(EXIT_AND_FAULT), out, sizeof out), BPFCANON_FAULT, 4, 9, 0));
+	CHECK(is(bpfcanon_insn_show(2, BYTES(EXIT), out, sizeof out), BPFCANON_ORDER, 0, 0, 0));
+	CHECK(is_filled(out, out + sizeof out));
+	CHECK(is(bpfcanon_insn_show(BPFCANON_LITTLE, BYTES(""), out, 0), BPFCANON_DONE, 0, 0, 0));
+	CHECK(is(bpfcanon_insn_show_new(BPFCANON_LITTLE, BYTES(EXIT), &block), BPFCANON_DONE, 0, 0, 5) && !memcmp(block, "exit\n", 5));
+	bpfcanon_free(block);
+	CHECK(is(bpfcanon_insn_show_new(BPFCANON_LITTLE, NULL, 0, &block), BPFCANON_DONE, 0, 0, 0) && block);
+	bpfcanon_free(block);
+	CHECK(is(bpfcanon_insn_show_new(BPFCANON_LITTLE, BYTES(EXIT_AND_FAULT), &block), BPFCANON_FAULT, 4, 9, 0) && !block);
+}
+
+static void listings_are_read(void)
+{
+	uint8_t out[256], *block;
+
+	memset(out, 0xaa, sizeof out);
+	CHECK(is(bpfcanon_insn_read(BPFCANON_BIG, BYTES("mov r1, r2"), out, sizeof out), BPFCANON_DONE, 0, 0, 8));
+	CHECK(!memcmp(out, MOV_BIG, 8) && is_filled(out + 8, out + sizeof out));
+	memset(out, 0xaa, sizeof out);
+	CHECK(is(bpfcanon_insn_read(BPFCANON_LITTLE, BYTES("exit"), out, 7), BPFCANON_ROOM, 0, 0, 8));
+	CHECK(is(bpfcanon_insn_read(BPFCANON_LITTLE, BYTES("Exit"), out, sizeof out), BPFCANON_FAULT, 1, 1, 0));
+	CHECK(is(bpfcanon_insn_read(BPFCANON_LITTLE, BYTES("exit\nleave"), out, sizeof out), BPFCANON_FAULT, 2, 2, 0));
+	CHECK(is(bpfcanon_insn_read(BPFCANON_LITTLE, BYTES("mov r1, r11"), out, sizeof out), BPFCANON_FAULT, 3, 1, 0));
+	CHECK(is(bpfcanon_insn_read(BPFCANON_LITTLE, BYTES("stb [r1+32768], 0"), out, sizeof out), BPFCANON_FAULT, 4, 1, 0));
+	CHECK(is(bpfcanon_insn_read(2, BYTES("exit"), out, sizeof out), BPFCANON_ORDER, 0, 0, 0));
+	CHECK(is_filled(out, out + sizeof out));
+	CHECK(is(bpfcanon_insn_read_new(BPFCANON_LITTLE, BYTES("exit"), &block), BPFCANON_DONE, 0, 0, 8) && !memcmp(block, EXIT, 8));
+	bpfcanon_free(block);
+	CHECK(is(bpfcanon_insn_read_new(BPFCANON_LITTLE, NULL, 0, &block), BPFCANON_DONE, 0, 0, 0) && block);
+	bpfcanon_free(block);
+	CHECK(is(bpfcanon_insn_read_new(BPFCANON_LITTLE, BYTES("Exit"), &block), BPFCANON_FAULT, 1, 1, 0) && !block);
+}
+
+/* A listing of a compiled program, read, is the program. */
+static void compiled_programs_come_back(const char *folder)
+{
+	size_t len;
+	uint8_t *text, *bytes, *little = load(folder, "packet_filter.little.bin", &len);
+	bpfcanon_answer answer = bpfcanon_insn_show_new(BPFCANON_LITTLE, little, len, &text);
+
+	CHECK(answer.status == BPFCANON_DONE && answer.len > len);
+	CHECK(is(bpfcanon_insn_read_new(BPFCANON_LITTLE, text, answer.len, &bytes), BPFCANON_DONE, 0, 0, len));
+	CHECK(!memcmp(bytes, little, len));
+	bpfcanon_free(bytes);
+	bpfcanon_free(text);
+	free(little);
+}
+
 /* A stream in pieces of one length, with what is left kept in front of the next. */
 static void stream_in_pieces_of(size_t piece, const uint8_t *big, size_t len, const uint8_t *little, size_t little_len)
 {
@@ -202,6 +262,8 @@ static void causes_have_names(void)
 	CHECK(!bpfcanon_insn_cause(0) && !bpfcanon_insn_cause(9));
 	CHECK(!strcmp(bpfcanon_btf_cause(1), "ShortHeader") && !strcmp(bpfcanon_btf_cause(23), "TextsTooLong"));
 	CHECK(!strcmp(bpfcanon_btf_cause(32), "Component") && !bpfcanon_btf_cause(0) && !bpfcanon_btf_cause(33));
+	CHECK(!strcmp(bpfcanon_line_cause(1), "Char") && !strcmp(bpfcanon_line_cause(4), "Range"));
+	CHECK(!bpfcanon_line_cause(0) && !bpfcanon_line_cause(5));
 }
 
 int main(int argc, char **argv)
@@ -214,6 +276,9 @@ int main(int argc, char **argv)
 	instructions_change_order();
 	instructions_are_compared();
 	groups_are_a_mask();
+	instructions_are_listed();
+	listings_are_read();
+	compiled_programs_come_back(argv[1]);
 	streams_may_be_cut_anywhere(argv[1]);
 	compiled_files_have_one_form(argv[1]);
 	causes_have_names();

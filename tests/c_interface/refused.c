@@ -55,6 +55,13 @@ static bpfcanon_answer insn_canon(void)
 	return bpfcanon_insn_canon(BPFCANON_LITTLE, BPFCANON_BIG, before, 80, out, sizeof out);
 }
 
+static bpfcanon_answer insn_show(void) { return bpfcanon_insn_show(BPFCANON_LITTLE, before, 80, out, sizeof out); }
+
+static bpfcanon_answer insn_read(void)
+{
+	return bpfcanon_insn_read(BPFCANON_LITTLE, (const uint8_t *)"exit\nexit\nexit\nexit\nexit\nexit\n", 30, out, sizeof out);
+}
+
 static bpfcanon_answer insn_groups(void) { return bpfcanon_insn_groups(BPFCANON_LITTLE, before, 80); }
 
 static const struct {
@@ -64,7 +71,8 @@ static const struct {
 } calls[] = {
 	{ "btf_canon", btf_canon, BPFCANON_DONE },     { "btf_check", btf_check, BPFCANON_DONE },
 	{ "btf_same", btf_same, BPFCANON_DONE },       { "insn_canon", insn_canon, BPFCANON_DONE },
-	{ "insn_groups", insn_groups, BPFCANON_DONE },
+	{ "insn_groups", insn_groups, BPFCANON_DONE }, { "insn_show", insn_show, BPFCANON_DONE },
+	{ "insn_read", insn_read, BPFCANON_DONE },
 };
 
 static int is_memory(bpfcanon_answer answer)

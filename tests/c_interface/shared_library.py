@@ -21,6 +21,8 @@ def load(path):
     library.bpfcanon_btf_canon.argtypes = [ctypes.c_uint32, *bytes_and_length, *bytes_and_length]
     library.bpfcanon_insn_same.restype = Answer
     library.bpfcanon_insn_same.argtypes = [ctypes.c_uint32, *bytes_and_length] * 2
+    library.bpfcanon_insn_show.restype = Answer
+    library.bpfcanon_insn_show.argtypes = [ctypes.c_uint32, *bytes_and_length, *bytes_and_length]
     return library
 
 
@@ -28,6 +30,14 @@ def canonical(library, file):
     room = ctypes.create_string_buffer(max(len(file), 1))
     answer = library.bpfcanon_btf_canon(0, file, len(file), room, len(file))
     return (answer.status, answer.cause, answer.pos), room.raw[: answer.len]
+
+
+def shown(library, file):
+    """The listing of a little-endian file, in as much room as the first answer asks for."""
+    needed = library.bpfcanon_insn_show(0, file, len(file), b"", 0)
+    room = ctypes.create_string_buffer(max(needed.len, 1))
+    answer = library.bpfcanon_insn_show(0, file, len(file), room, needed.len)
+    return (needed.status, answer.status), room.raw[: answer.len]
 
 
 def main():
@@ -41,6 +51,7 @@ def main():
         canonical(library, big[:23]) == ((2, 1, 23), b""),
         library.bpfcanon_insn_same(1, mov_big, 8, 0, mov, 8).status == 0,
         library.bpfcanon_insn_same(0, mov_big, 8, 0, mov, 8).status == 1,
+        shown(library, mov) == ((5, 0), b"mov r1, r2\n"),
     ]
     print(f"C interface from Python: {len(checks)} checks, {checks.count(False)} failed")
     sys.exit(not all(checks))

@@ -2,3 +2,4 @@ pub mod Answers
 pub mod Endings
 pub mod Fronts
 pub mod GroupMasks
+pub mod Listings

@@ -8,6 +8,7 @@ mod answer;
 mod btf;
 mod front;
 mod insn;
+mod listing;
 
 pub use answer::{Answer, Ending, FaultCode};
 pub use front::{FrontAnswer, FrontEnding};

@@ -1,0 +1,95 @@
+//! The calls on listings of instructions.
+ghost use Rattle.std.specs.Prelude.{◌≡◌};
+ghost use Rattle.bpfcanon_c.specs.Listings.{code_of_line, EndsListing, EndsListingIn, AnswersListing, EndsListed, EndsListedIn, AnswersListed};
+
+use crate::answer::{Answer, Ending, FaultCode, order_from, put, report, slot_code};
+use bpf_canon::write_insns;
+use bpf_insn::{InsnError, Order, decode_insns};
+use bpf_text::{LineFault, ListError, listing, read_listing};
+use std::alloc::Global;
+
+/// Writes the listing of the instructions of a file of the byte order `order` at the front of `out`: a line for each, with a
+/// newline. A listing is longer than its file.
+#[unsafe(no_mangle)]
+pub extern "C" fn bpfcanon_insn_show(
+    alloc: Global,
+    order: u32,
+    bytes: &[u8],
+    out: &mut [u8],
+) -> Answer
+    ensures { AnswersListing order bytes.now out.old out.new result }
+{
+    report(listing_into(alloc, order, bytes, out))
+}
+
+/// The listing of a file in the order of a number.
+fn listing_into(alloc: Global, order: u32, bytes: &[u8], out: &mut [u8]) -> Ending
+    ensures { EndsListing order bytes.now out.old out.new result }
+{
+    match order_from(order) {
+        Some(order) => listing_in(alloc, order, bytes, out),
+        None => Ending::Order,
+    }
+}
+
+/// The listing of a file.
+fn listing_in(alloc: Global, order: Order, bytes: &[u8], out: &mut [u8]) -> Ending
+    ensures { EndsListingIn order bytes.now out.old out.new result }
+{
+    match decode_insns(alloc, order, bytes) {
+        Ok(insns) => match listing(alloc, &insns) {
+            Ok(text) => put(&text, out),
+            Err(_) => Ending::Memory,
+        },
+        Err(InsnError::Fault(fault)) => Ending::First(slot_code(fault)),
+        Err(InsnError::Memory) => Ending::Memory,
+    }
+}
+
+/// Writes the instructions that a text lists in the byte order `to` at the front of `out`. The place of a fault is the number of
+/// its line, from 1 on.
+#[unsafe(no_mangle)]
+pub extern "C" fn bpfcanon_insn_read(
+    alloc: Global,
+    to: u32,
+    text: &[u8],
+    out: &mut [u8],
+) -> Answer
+    ensures { AnswersListed to text.now out.old out.new result }
+{
+    report(listed_into(alloc, to, text, out))
+}
+
+/// The instructions of a text in the order of a number.
+fn listed_into(alloc: Global, to: u32, text: &[u8], out: &mut [u8]) -> Ending
+    ensures { EndsListed to text.now out.old out.new result }
+{
+    match order_from(to) {
+        Some(to) => listed_in(alloc, to, text, out),
+        None => Ending::Order,
+    }
+}
+
+/// The instructions of a text.
+fn listed_in(alloc: Global, to: Order, text: &[u8], out: &mut [u8]) -> Ending
+    ensures { EndsListedIn to text.now out.old out.new result }
+{
+    match read_listing(alloc, text) {
+        Ok(insns) => match write_insns(alloc, to, &insns) {
+            Ok(written) => put(&written, out),
+            Err(_) => Ending::Memory,
+        },
+        Err(ListError::Fault(fault)) => Ending::First(line_code(fault)),
+        Err(ListError::Memory) => Ending::Memory,
+    }
+}
+
+/// A fault of a listing by its numbers.
+fn line_code(fault: LineFault) -> FaultCode
+    ensures { result ≡ code_of_line fault }
+{
+    FaultCode {
+        pos: fault.line,
+        cause: fault.cause as u32,
+    }
+}
