@@ -1,15 +1,12 @@
 -- The slots of a file, written anew in the other order, are the file in that order.
-use Rattle.std.proofs.Common.{◌≡◌, ◌≢◌, ℕ, ◌+◌, ◌*◌, ◌/◌, ◌%◌, slice_index, ◌<◌, ◌≤◌, ℤ, pos, List, [], ◌∷◌, ◌++◌, Option, Some, None, length, take, drop, All, refl, sym, ap, ◌∙◌, append_assoc, append-nil, arith, length-append, lit<}
+use Rattle.std.proofs.Common.{◌≡◌, ℕ, ◌<◌, ℤ, pos, List, [], ◌∷◌, ◌++◌, Option, Some, None, length, take, drop, All, refl, sym, ap, ◌∙◌, append_assoc, append-nil, arith, length-append, lit<}
 use Rattle.std.specs.List.{flat_map}
-use Rattle.std.specs.Int.{w16, w32, cast_unsigned}
-use Rattle.std.specs.Prelude.{FitsSigned}
 use Rattle.std.proofs.lemmas.List.Elements.{All-head, All-tail, All-cons, All-append}
 use Rattle.std.proofs.lemmas.Int.{ints}
 use Rattle.std.proofs.lemmas.Grind.{flat_map-append}
 use Rattle.std.proofs.Math.Seq.{drop-append_seam, take-append_seam}
 use Rattle.bpf_words.specs.declared.Order.{Order}
 use Rattle.bpf_words.specs.declared.Order.TheVariants.{Little, Big}
-use Rattle.bpf_words.specs.Words.{word16, word32}
 use Rattle.bpf_words.specs.Slots.{Fields, AreFields, fields, spelled}
 use Rattle.bpf_words.proofs.OneSpelling.{spelled-injective}
 use Rattle.bpf_insn.specs.declared.insn.Insn.{Insn}
@@ -92,24 +89,6 @@ one_list_of_slots order (f ∷ fs) (g ∷ gs) rest hf hg short e =
     let head : f ≡ g = spelled-injective order f g (All-head AreFields f fs hf) (All-head AreFields g gs hg) left in
     let tail : fs ≡ gs = one_list_of_slots order fs gs rest (All-tail AreFields f fs hf) (All-tail AreFields g gs hg) short right in
     cc
-
--- a slot's bytes, each field turned round
-abbrev pub turned : List ℕ → List ℕ
-turned b =
-    slice_index b 0 ∷ (slice_index b 1 % 16 * 16 + slice_index b 1 / 16) ∷ slice_index b 3 ∷ slice_index b 2
-    ∷ slice_index b 7 ∷ slice_index b 6 ∷ slice_index b 5 ∷ slice_index b 4 ∷ []
-
-halves_little : (d s : ℕ) → d < 16 → s < 16 → (16 * s + d) % 16 * 16 + (16 * s + d) / 16 ≡ 16 * d + s
-halves_little d s hd hs = omega arith
-
-turned_spelled : (order to : Order) → order ≢ to → (f : Fields) → AreFields f → turned (spelled order f) ≡ spelled to f
-turned_spelled Little Little other f a = absurd (other refl)
-turned_spelled Little Big other f a = ap (λ (x : ℕ). (f.opcode ∷ x ∷ word16 Big (cast_unsigned w16 f.off)) ++ word32 Big (cast_unsigned w32 f.imm)) (halves_little f.dst f.src a.dst a.src)
-turned_spelled Big Little other f a = ap (λ (x : ℕ). (f.opcode ∷ x ∷ word16 Little (cast_unsigned w16 f.off)) ++ word32 Little (cast_unsigned w32 f.imm)) (halves_little f.src f.dst a.src a.dst)
-turned_spelled Big Big other f a = absurd (other refl)
-
-pub slot_turned : (order to : Order) → order ≢ to → (f : Fields) → AreFields f → (bytes : List ℕ) → bytes ≡ spelled order f → turned bytes ≡ spelled to f
-slot_turned order to other f a bytes e = ap turned e ∙ turned_spelled order to other f a
 
 -- the slots up to here were written anew behind what was there
 pub record Rewrites (order to : Order) (bytes rest old new : List ℕ) : Type 0 where

@@ -51,16 +51,14 @@ fn swapped(order: Order, slot: &[u8; 8]) -> [u8; 8]
 {
     let fields = slot_of(order, slot);
     let registers = slot[1] % 16 * 16 + slot[1] / 16;
-    [
-        fields.opcode,
-        registers,
-        slot[3],
-        slot[2],
-        slot[7],
-        slot[6],
-        slot[5],
-        slot[4],
-    ]
+    let offset = u16::from_be_bytes([slot[2], slot[3]]);
+    let imm = u32::from_be_bytes([slot[4], slot[5], slot[6], slot[7]]);
+    // one number, so that the bytes are stored at once
+    let word = u64::from(fields.opcode)
+        + u64::from(registers) * 0x100
+        + u64::from(offset) * 0x1_0000
+        + u64::from(imm) * 0x1_0000_0000;
+    word.to_le_bytes()
 }
 
 // Appends the bytes of a slot, for which there is room.
