@@ -64,7 +64,7 @@ class Running:
                 stream.close()
 
     def feed(self, pieces):
-        """Writes pieces from a thread of its own, until they end or the program takes no more; then closes the input."""
+        """Writes pieces from a thread of its own until they end, then closes the input. Ends where nobody reads it."""
         self.cut = threading.Event()
         threading.Thread(target=self.feed_now, args=[pieces], daemon=True).start()
 
@@ -87,6 +87,10 @@ class Running:
                 break
             read += more
         return bytes(read)
+
+    def unread_input(self):
+        """How many bytes stand in the pipe before the program."""
+        return unread(self.process.stdin)
 
     def end(self, output=b""):
         """How the program ended, with the output that was read before; where it hangs, `subprocess.TimeoutExpired`."""
