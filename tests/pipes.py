@@ -187,7 +187,7 @@ def check_endless_inputs(program, report):
 
 def give_bytes(stream, given, pause_after):
     """Writes a byte, and the next one when that one was read; now and then it rests a while."""
-    with contextlib.suppress(OSError):
+    with contextlib.suppress(OSError, ValueError):  # where the program ended before its input
         for at, byte in enumerate(given):
             os.write(stream.fileno(), bytes([byte]))
             late = time.monotonic() + SECONDS
@@ -195,7 +195,7 @@ def give_bytes(stream, given, pause_after):
                 os.sched_yield()
             if at % pause_after == pause_after - 1:
                 time.sleep(0.003)
-    stream.close()
+        stream.close()
 
 
 def unread(stream):
