@@ -165,6 +165,7 @@ STRUCT = bytes_of(
     "00 69 6e 74 00 73 00 61 00"
 )
 STRUCT_CANONICAL = STRUCT[:47] + b"\x04" + STRUCT[48:]
+STRUCT_OF_A_BIT_FIELD = STRUCT[:63] + b"\x03" + STRUCT[64:]
 # A struct with two members; a tag on the second, or on the struct itself.
 TAGGED_MEMBER = bytes_of(
     "9f eb 01 00 18 00 00 00 00 00 00 00 44 00 00 00 44 00 00 00 0d 00 00 00"
@@ -176,6 +177,7 @@ TAGGED_MEMBER = bytes_of(
 )
 TAGGED_STRUCT = TAGGED_MEMBER[:88] + b"\xff\xff\xff\xff" + TAGGED_MEMBER[92:]
 TAG_OF_A_THIRD_MEMBER = TAGGED_MEMBER[:88] + b"\x02\x00\x00\x00" + TAGGED_MEMBER[92:]
+TAG_OF_MEMBER_MINUS_TWO = TAGGED_MEMBER[:88] + b"\xfe\xff\xff\xff" + TAGGED_MEMBER[92:]
 # Names share their tails: "t" is the end of "int", and isn't spelled again.
 TAIL_OF_TAG = TAGGED_MEMBER[:20] + b"\x0b" + TAGGED_MEMBER[21:76] + b"\x03" + TAGGED_MEMBER[77:103]
 TAIL_OF_STRUCT_TAG = TAIL_OF_TAG[:88] + b"\xff\xff\xff\xff" + TAIL_OF_TAG[92:]
@@ -216,6 +218,7 @@ BTF = [
     done("a loose layout to big-endian", "btf-canon --to big", LOOSE_INT, INT_BIG),
     done("a shared tail stays", "btf-canon", TWO_NAMES_WITH_ONE_TAIL, TWO_NAMES_WITH_ONE_TAIL),
     done("a flag without bit-fields", "btf-canon", STRUCT, STRUCT_CANONICAL),
+    done("a flag with a bit-field", "btf-canon", STRUCT_OF_A_BIT_FIELD, STRUCT_OF_A_BIT_FIELD),
     done("a tag on a member", "btf-canon", TAGGED_MEMBER, TAIL_OF_TAG),
     done("a tag on a struct", "btf-canon", TAGGED_STRUCT, TAIL_OF_STRUCT_TAG),
     done("an enum64", "btf-canon", ENUM64_BIG, ENUM64),
@@ -262,6 +265,7 @@ FAULTY_BTF = [
     refused("a name of a pointer", "btf-canon", NAMED_POINTER, "fault 24 NameUnwanted"),
     refused("a name that isn't UTF-8", "btf-show", NAME_NOT_UTF8, "fault 24 NameUtf8"),
     refused("a tag on no member", "btf-check", TAG_OF_A_THIRD_MEMBER, "fault 88 Component"),
+    refused("a tag on member -2", "btf-check", TAG_OF_MEMBER_MINUS_TWO, "fault 88 Component"),
 ]
 
 TWO_BTF_FILES = [

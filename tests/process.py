@@ -10,7 +10,6 @@ import contextlib
 import os
 import select
 import socket
-import struct
 import subprocess
 import sys
 
@@ -205,76 +204,6 @@ def check_answers_amid_the_input(program, report):
                 report.expect_that(running.wait(SECONDS) == 1, line, f"status {running.returncode}")
 
 
-# ---- inputs of the limit, and one byte more
-
-INSTRUCTIONS = 67_108_864 // len(EXIT)
-INT_RECORDS = 33_554_432 // 16
-STRINGS = 16_777_216
-HEADER = 4_096
-BTF_LIMIT = HEADER + 16 * INT_RECORDS + STRINGS
-
-
-def btf_header(header_length, types, strings):
-    return struct.pack("<HBBIIIII", 0xEB9F, 1, 0, header_length, 0, types, types, strings)
-
-
-def int_records(name):
-    """As many records of a signed int as a file may have, all with the name at this offset."""
-    return struct.pack("<IIII", name, 0x0100_0000, 4, 0x0100_0020) * INT_RECORDS
-
-
-def largest_btf():
-    """A file of the limit in each of its parts, whose types all have the last two letters of the strings for a name."""
-    strings = b"\0" + b"a" * (STRINGS - 2) + b"\0"
-    header = btf_header(HEADER, 16 * INT_RECORDS, STRINGS)
-    return header + bytes(HEADER - len(header)) + int_records(STRINGS - 3) + strings
-
-
-def largest_btf_canonical():
-    strings = b"\0aa\0"
-    return btf_header(24, 16 * INT_RECORDS, len(strings)) + int_records(1) + strings
-
-
-def largest_btf_text():
-    return "".join(f'[{i + 1}] int "aa" size=4 encoding=signed offset=0 bits=32\n' for i in range(INT_RECORDS)).encode()
-
-
-def check_limit(program, report, line, given, output, output_of_more=b""):
-    """The input of the limit is answered, and one byte more is too long."""
-    report.expect(f"{line} at the limit", program.run(line, given), Ran(0, output, b""))
-    too_long = Ran(1, output_of_more, b"too long\n")
-    report.expect(f"{line} past the limit", program.run(line, given + b"\n"), too_long)
-
-
-def check_largest_instruction_files(program, report):
-    file = EXIT * INSTRUCTIONS
-    with report.group(f"instructions and listings of {len(file):,} bytes, and one more"):
-        check_limit(program, report, "insn-canon", file, file, output_of_more=file)
-        check_limit(program, report, "insn-show", file, b"exit\n" * INSTRUCTIONS)
-        check_limit(program, report, "insn-read", b"exit   \n" * INSTRUCTIONS, file)
-        check_limit(program, report, "insn-groups", file, b"base32\n")
-        check_limit(program, report, f"insn-same --split {len(file)}", file + file, b"same\n")
-
-
-def check_largest_btf_files(program, report):
-    file = largest_btf()
-    assert len(file) == BTF_LIMIT
-    with report.group(f"BTF of {len(file):,} bytes, and one more"):
-        check_limit(program, report, "btf-check", file, f"ok {INT_RECORDS} types\n".encode())
-        check_limit(program, report, "btf-canon", file, largest_btf_canonical())
-        check_limit(program, report, "btf-show", file, largest_btf_text())
-        check_limit(program, report, f"btf-same --split {len(file)}", file + file, b"same\n")
-
-
-def check_longest_names(program, report):
-    """Two typedefs of void: one with the longest name, and one with that name but for its first letter."""
-    types = struct.pack("<IIIIII", 1, 0x0800_0000, 0, 2, 0x0800_0000, 0)
-    file = btf_header(24, len(types), STRINGS) + types + b"\0" + b"a" * (STRINGS - 2) + b"\0"
-    with report.group("names of 16 MB that share their bytes"):
-        report.expect("btf-canon", program.run("btf-canon", file), Ran(0, file, b""))
-        report.expect("btf-check", program.run("btf-check", file), Ran(0, b"ok 2 types\n", b""))
-
-
 def main():
     if len(sys.argv) != 2:
         sys.exit(__doc__)
@@ -287,9 +216,6 @@ def main():
         check_reads_are_not_tried_again,
         check_writes_are_not_tried_again,
         check_answers_amid_the_input,
-        check_largest_instruction_files,
-        check_largest_btf_files,
-        check_longest_names,
     ]:
         check(program, report)
     return report.end("process")

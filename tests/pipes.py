@@ -1,0 +1,313 @@
+"""Runs the built program between pipes: cut off, endless, of one byte at a time, and slow.
+
+    pipes.py PROGRAM
+
+process.py has streams that fail from the start. Here a reader goes away amid the output, a writer never ends, and
+both give and take single bytes, so that each read and each write of the program moves as little as it can.
+"""
+
+import contextlib
+import fcntl
+import os
+import select
+import subprocess
+import sys
+import termios
+import threading
+import time
+
+import btf_rows
+import examples
+import instruction_rows
+from examples import EXIT
+from formats import GROUPS, btf, floats, turned, words_of
+from program import SECONDS, Program, Ran, Report
+
+# The least room that Linux gives a pipe: a page.
+PIPE_ROOM = 4_096
+# So much output doesn't fit into a pipe, not even of the usual 65,536 bytes.
+EXITS = 100_000
+FLOATS = 20_000
+
+
+def large_outputs():
+    """Lines of each command whose output can be long, with an input and the right output."""
+    exits, names = EXIT * EXITS, floats([1] * FLOATS)
+    file = btf("little", names, b"\0d\0")
+    text = b"".join(b'[%d] float "d" size=8\n' % number for number in range(1, FLOATS + 1))
+    return [
+        ("insn-canon", exits, exits),
+        ("insn-show", exits, b"exit\n" * EXITS),
+        ("insn-read", b"exit\n" * EXITS, exits),
+        ("btf-canon", btf("big", names, b"\0d\0"), file),
+        ("btf-show", file, text),
+    ]
+
+
+class Running:
+    """A program between two pipes. Whatever happens, it doesn't outlive its `with`."""
+
+    def __init__(self, program, line):
+        # SIGPIPE is as it is by default, so that a program that doesn't see to it is killed
+        words = [program.path, *line.split()]
+        pipes = {"stdin": subprocess.PIPE, "stdout": subprocess.PIPE, "stderr": subprocess.PIPE}
+        self.process = subprocess.Popen(words, bufsize=0, **pipes)
+
+    def __enter__(self):
+        return self
+
+    def __exit__(self, *_):
+        self.process.kill()
+        self.process.wait()
+        for stream in self.process.stdin, self.process.stdout, self.process.stderr:
+            with contextlib.suppress(OSError):
+                stream.close()
+
+    def feed(self, pieces):
+        """Writes pieces from a thread of its own until they end, then closes the input. Ends where nobody reads it."""
+        self.cut = threading.Event()
+        threading.Thread(target=self.feed_now, args=[pieces], daemon=True).start()
+
+    def feed_now(self, pieces):
+        try:
+            for piece in pieces:
+                rest = memoryview(piece)
+                while rest:
+                    rest = rest[os.write(self.process.stdin.fileno(), rest) :]
+            self.process.stdin.close()
+        except (OSError, ValueError):
+            self.cut.set()
+
+    def read(self, count):
+        """The next bytes of the output, fewer where they don't come in time or where it ends."""
+        output, read = self.process.stdout, bytearray()
+        while len(read) < count and select.select([output], [], [], SECONDS)[0]:
+            more = os.read(output.fileno(), min(count - len(read), 1 << 20))
+            if not more:
+                break
+            read += more
+        return bytes(read)
+
+    def unread_input(self):
+        """How many bytes stand in the pipe before the program."""
+        return unread(self.process.stdin)
+
+    def end(self, output=b""):
+        """How the program ended, with the output that was read before; where it hangs, `subprocess.TimeoutExpired`."""
+        self.process.wait(SECONDS)
+        return Ran(self.process.returncode, output, self.process.stderr.read())
+
+
+# ---- cut off
+
+
+def check_readers_that_go_away(program, report):
+    with report.group("the reader of standard output goes away amid the output"):
+        for line, given, output in large_outputs():
+            for count in [1, 7, 4_096, 65_537, 150_000]:
+                with Running(program, line) as running:
+                    running.feed([given])
+                    read = running.read(count)
+                    running.process.stdout.close()
+                    right = Ran(3, output[:count], b"write failed\n")
+                    report.expect(f"{line}, cut off after {count} bytes", running.end(read), right)
+
+
+def endless(piece):
+    piece = piece * 10_000
+    while True:
+        yield piece
+
+
+def check_cut_amid_an_endless_input(program, report):
+    with report.group("the reader goes away, and the input never ends"):
+        for line, piece, output in [("", EXIT, EXIT), ("insn-canon --order big", examples.MOV_BIG, examples.MOV)]:
+            with Running(program, line) as running:
+                running.feed(endless(piece))
+                read = running.read(1_000)
+                running.process.stdout.close()
+                right = Ran(3, (output * 125)[:1_000], b"write failed\n")
+                report.expect(f"{line}, cut off", running.end(read), right)
+                report.expect_that(running.cut.wait(SECONDS), line, "its writer was not cut off")
+
+
+def check_fault_lines_to_a_cut_pipe(program, report):
+    with report.group("nobody reads standard error"):
+        for line, given, status, output in [
+            ("insn-canon", EXIT + examples.REGISTER_ELEVEN, 1, EXIT),
+            ("insn-show", examples.REGISTER_ELEVEN, 1, b""),
+            ("insn-read", b"leave", 1, b""),
+            ("insn-groups", examples.REGISTER_ELEVEN, 1, b""),
+            ("insn-same --split 9", EXIT, 1, b""),
+            ("btf-canon", b"", 1, b""),
+            ("btf-show", b"", 1, b""),
+            ("btf-check", b"", 1, b""),
+            ("btf-same --split 0", b"", 1, b""),
+            ("leave", b"", 2, b""),
+        ]:
+            reader, writer = os.pipe()
+            os.close(reader)
+            try:
+                report.expect(line, program.run(line, given, stderr=writer), Ran(status, output, b""))
+            finally:
+                os.close(writer)
+
+
+# ---- endless
+
+INSTRUCTION_LIMIT = 67_108_864
+
+
+def check_endless_inputs(program, report):
+    too_long = Ran(1, b"", b"too long\n")
+    with report.group("an input that never ends"), open("/dev/zero", "rb") as zeros:
+        for line in [
+            "insn-show",
+            "insn-read",
+            "insn-groups",
+            "insn-same --split 8",
+            "btf-canon",
+            "btf-show",
+            "btf-check",
+            "btf-same --split 45",
+        ]:
+            report.expect(f"{line} of zero bytes", program.run(line, stdin=zeros), too_long)
+        told = Ran(1, b"", b"fault 0 Opcode\n")
+        report.expect("insn-canon of zero bytes", program.run("insn-canon", stdin=zeros), told)
+        with Running(program, "insn-canon") as running:
+            running.feed(endless(EXIT))
+            read = running.read(INSTRUCTION_LIMIT + 1)
+            right = Ran(1, EXIT * (INSTRUCTION_LIMIT // len(EXIT)), b"too long\n")
+            report.expect("insn-canon of exits", running.end(read), right)
+            report.expect_that(running.cut.wait(SECONDS), "insn-canon of exits", "its writer was not cut off")
+
+
+# ---- one byte at a time
+
+
+def give_bytes(stream, given, pause_after):
+    """Writes a byte, and the next one when that one was read; now and then it rests a while."""
+    with contextlib.suppress(OSError, ValueError):  # where the program ended before its input
+        for at, byte in enumerate(given):
+            os.write(stream.fileno(), bytes([byte]))
+            late = time.monotonic() + SECONDS
+            while unread(stream) and time.monotonic() < late:
+                os.sched_yield()
+            if at % pause_after == pause_after - 1:
+                time.sleep(0.003)
+        stream.close()
+
+
+def unread(stream):
+    """How many bytes stand in a pipe."""
+    return int.from_bytes(fcntl.ioctl(stream.fileno(), termios.FIONREAD, bytes(4)), sys.byteorder)
+
+
+def take_bytes(stream, pause_after):
+    """Reads a byte at a time to the end; now and then it rests a while."""
+    taken = bytearray()
+    while select.select([stream], [], [], SECONDS)[0]:
+        byte = os.read(stream.fileno(), 1)
+        if not byte:
+            break
+        taken += byte
+        if len(taken) % pause_after == 0:
+            time.sleep(0.003)
+    return bytes(taken)
+
+
+def run_by_bytes(program, line, given, pause_after):
+    with Running(program, line) as running:
+        fcntl.fcntl(running.process.stdout.fileno(), fcntl.F_SETPIPE_SZ, PIPE_ROOM)
+        writing = threading.Thread(target=give_bytes, args=[running.process.stdin, given, pause_after], daemon=True)
+        writing.start()
+        return running.end(take_bytes(running.process.stdout, pause_after))
+
+
+def lines_by_bytes():
+    """A line of each command, good and faulty, with some hundred bytes of input."""
+    rows = instruction_rows.ROWS[::9]
+    insns = b"".join(bytes.fromhex(row) for _, row, _ in rows)
+    text = b"".join(line.encode() + b"\n" for line, _, _ in rows)
+    _, row, strings, shown = max(btf_rows.KINDS, key=lambda kind: len(kind[1]))
+    little, big = (btf(order, words_of(row), strings) for order in ("little", "big"))
+    count = sum(line.startswith(b"[") for line in shown.splitlines())
+    groups = set(b"".join(GROUPS[group] for _, _, group in rows).split())
+    listed = b"".join(group.encode() + b"\n" for group in GROUPS if group.encode() in groups)
+    at_fault = f"fault {len(insns) + 8} Truncated\n".encode()
+    return [
+        ("", insns, Ran(0, insns, b"")),
+        ("insn-canon --to big", insns, Ran(0, turned(insns), b"")),
+        ("insn-canon", insns + EXIT + EXIT[:7], Ran(1, insns + EXIT, at_fault)),
+        ("insn-show", insns, Ran(0, text, b"")),
+        ("insn-show", insns + EXIT + EXIT[:7], Ran(1, b"", at_fault)),
+        ("insn-read", text, Ran(0, insns, b"")),
+        ("insn-read", text + b"leave", Ran(1, b"", f"fault line {len(rows) + 1} Word\n".encode())),
+        ("insn-groups", insns, Ran(0, listed, b"")),
+        (f"insn-same --split {len(insns)} --other big", insns + turned(insns), Ran(0, b"same\n", b"")),
+        ("btf-canon", big, Ran(0, little, b"")),
+        ("btf-canon", big[:-1], Ran(1, b"", f"fault {len(big) - 1} FileLength\n".encode())),
+        ("btf-show", big, Ran(0, shown, b"")),
+        ("btf-check", big, Ran(0, b"ok %d types\n" % count, b"")),
+        (f"btf-same --split {len(big)}", big + little, Ran(0, b"same\n", b"")),
+    ]
+
+
+def check_single_bytes(program, report):
+    with report.group("input and output of one byte at a time"):
+        for line, given, right in lines_by_bytes():
+            report.expect(line, run_by_bytes(program, line, given, pause_after=97), right)
+
+
+def check_slow_readers(program, report):
+    """The output is longer than the pipe, so the program has to wait, and a write moves only a part."""
+    with report.group("an output that is read byte by byte out of a small pipe"):
+        for line, given, output in large_outputs():
+            with Running(program, line) as running:
+                fcntl.fcntl(running.process.stdout.fileno(), fcntl.F_SETPIPE_SZ, PIPE_ROOM)
+                running.feed([given])
+                first = b"".join(running.read(1) for _ in range(5_000))
+                time.sleep(0.01)
+                rest = running.read(len(output))
+                report.expect(line, running.end(first + rest), Ran(0, output, b""))
+
+
+# ---- an input that isn't finished
+
+
+def check_silence_before_the_end(program, report):
+    """All but insn-canon write when their input has ended, and tell no fault before."""
+    with report.group("nothing comes before the end of the input"):
+        for line, given, right in lines_by_bytes():
+            if line == "" or line.startswith("insn-canon"):
+                continue
+            with Running(program, line) as running:
+                process = running.process
+                process.stdin.write(given)
+                while unread(process.stdin):
+                    os.sched_yield()
+                early = select.select([process.stdout, process.stderr], [], [], 0.02)[0]
+                report.expect_that(not early, line, "it wrote before its input ended")
+                process.stdin.close()
+                report.expect(f"{line}, ended", running.end(running.read(len(right.output) + 1)), right)
+
+
+def main():
+    if len(sys.argv) != 2:
+        sys.exit(__doc__)
+    program, report = Program(sys.argv[1]), Report()
+    for check in [
+        check_readers_that_go_away,
+        check_cut_amid_an_endless_input,
+        check_fault_lines_to_a_cut_pipe,
+        check_endless_inputs,
+        check_single_bytes,
+        check_slow_readers,
+        check_silence_before_the_end,
+    ]:
+        check(program, report)
+    return report.end("pipes")
+
+
+if __name__ == "__main__":
+    sys.exit(main())
