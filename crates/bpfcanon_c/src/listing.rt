@@ -49,12 +49,7 @@ fn listing_in(alloc: Global, order: Order, bytes: &[u8], out: &mut [u8]) -> Endi
 /// Writes the instructions that a text lists in the byte order `to` at the front of `out`. The place of a fault is the number of
 /// its line, from 1 on.
 #[unsafe(no_mangle)]
-pub extern "C" fn bpfcanon_insn_read(
-    alloc: Global,
-    to: u32,
-    text: &[u8],
-    out: &mut [u8],
-) -> Answer
+pub extern "C" fn bpfcanon_insn_read(alloc: Global, to: u32, text: &[u8], out: &mut [u8]) -> Answer
     ensures { AnswersListed to text.now out.old out.new result }
 {
     report(listed_into(alloc, to, text, out))
