@@ -3,7 +3,7 @@ ghost use Rattle.std.specs.Prelude.{◌≡◌, ◌<◌, ◌+◌, IfOk, IfErr, On
 ghost use Rattle.bpf_canon.specs.Run.{devices, counts_read, counts_write};
 ghost use Rattle.bpf_canon.specs.RunBtf.{RanBtf, StopsBtf};
 
-use crate::btf_canon::canonical_in;
+use btf_canon::canonical_in;
 use crate::run::{RunCause, RunError, put_whole};
 use crate::sink::ByteSink;
 use crate::source::{ByteSource, ReadError, read_all};

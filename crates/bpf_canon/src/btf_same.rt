@@ -1,8 +1,8 @@
 //! Whether two BTF files have the same types.
 ghost use Rattle.std.specs.Prelude.{IfOk, IfErr};
-ghost use Rattle.bpf_canon.specs.BtfLaws.{ComparesBtf, NamesBtfSide};
+ghost use Rattle.bpf_canon.specs.SameBtf.{ComparesBtf, NamesBtfSide};
 
-use crate::btf_canon::canonical_in;
+use btf_canon::canonical_in;
 use crate::same::SideError;
 use bpf_words::Order;
 use btf_raw::BtfFault;

@@ -1,7 +1,7 @@
 -- What btf-same answers, by what the comparison of two files found.
 use Rattle.std.proofs.Common.{◌≡◌, ◌≤◌, ◌-◌, ◌++◌, ℕ, true, false, List, [], drop, length, take, refl, codes}
 use Rattle.btf_raw.specs.declared.cause.BtfFault.{BtfFault}
-use Rattle.bpf_canon.specs.BtfLaws.{ComparesBtf, NamesBtfSide}
+use Rattle.bpf_canon.specs.SameBtf.{ComparesBtf, NamesBtfSide}
 use Rattle.bpf_canon.specs.declared.same.SideError.TheVariants as side
 use Rattle.bpfcanon.specs.declared.outcome.Outcome.TheVariants.{Done, Different, SecondBtf}
 use Rattle.bpfcanon.specs.Outcome.{newline}

@@ -5,7 +5,7 @@ use Rattle.std.specs.List.{flat_map, enumerate_from}
 use Rattle.std.proofs.lemmas.List.{flat_map_more}
 use Rattle.btf_types.specs.Values.{TypeItem, TypeRecord}
 use Rattle.btf_types.specs.TableWords.{record_at}
-use Rattle.bpf_canon.proofs.Gathering.{take_more, records_more}
+use Rattle.btf_canon.proofs.Gathering.{take_more, records_more}
 use Rattle.bpfcanon.specs.BtfText.{item_line, record_text, text_of}
 
 -- what three calls append, each a label with a number

@@ -5,7 +5,7 @@ use Rattle.btf_raw.specs.declared.cause.BtfFault.{BtfFault}
 use Rattle.btf_types.specs.Values.{TypeRecord}
 use Rattle.btf_types.specs.Denotes.{Denotes}
 use Rattle.btf_types.specs.Faults.{IsFirst}
-use Rattle.bpf_canon.specs.CanonicalBtf.{canonical}
+use Rattle.btf_canon.specs.CanonicalBtf.{canonical}
 use Rattle.bpfcanon.specs.declared.outcome.Outcome.{Outcome}
 use Rattle.bpfcanon.specs.declared.outcome.Outcome.TheVariants as ends
 use Rattle.bpfcanon.specs.declared.outcome.Outcome.TheVariants.{Done, Different, FirstBtf, SecondBtf, TooLong, SplitBeyond}

@@ -7,7 +7,7 @@ ghost use Rattle.bpfcanon.specs.Ends.{Ends, EndsJob, change};
 ghost use Rattle.bpfcanon.specs.Outcome.{Tells, line_of, status_of};
 ghost use Rattle.bpfcanon.specs.Reply.{has_engine, limit_of};
 
-use crate::btf_canon::run_btf_canon;
+use crate::btf_canon_job::run_btf_canon;
 use crate::command_line::{Job, LineError, parse_line};
 use crate::outcome::{Outcome, put_line};
 use crate::reply::reply_to;

@@ -1,0 +1,84 @@
+//! Devices over memory and over readers and writers.
+use bpf_canon::{
+    ByteSink, ByteSource, DeviceFailed, MemSink, MemSource, ReadError, ReaderSource, WriterSink,
+    put_all, read_all,
+};
+use std::test::Fail;
+
+#[test]
+fn errors_show_their_names(rt: HostRuntime) -> Result<(), Fail> {
+    for (error, name) in [
+        (ReadError::TooLong, "TooLong"),
+        (ReadError::ReadFailed, "ReadFailed"),
+        (ReadError::Memory, "Memory"),
+    ] {
+        assert_eq!(rt; format!(in rt.alloc(); "{error}")?.as_str(), name);
+    }
+    Ok(())
+}
+
+#[test]
+fn reads_whole_inputs_within_the_limit(rt: HostRuntime) -> Result<(), Fail> {
+    let cases: [(&[u8], usize, Option<u64>, u64, Option<ReadError>); 8] = [
+        (b"abcdefgh", 3, None, 8, None),
+        (b"abcdefgh", 1, None, u64::MAX, None),
+        (b"abcdefgh", 5000, None, 8, None),
+        (b"", 1, None, 0, None),
+        (b"abcdefgh", 3, None, 7, Some(ReadError::TooLong)),
+        (b"abcdefgh", 3, Some(1), 8, Some(ReadError::ReadFailed)),
+        (b"abcdefgh", 3, Some(4), 8, Some(ReadError::ReadFailed)),
+        (b"abcdefgh", 3, Some(5), 8, None),
+    ];
+    for (bytes, piece, fuse, limit, stop) in cases {
+        assert!(rt; piece > 0);
+        let mut source = MemSource::new(bytes, piece, fuse);
+        match read_all(rt.alloc(), &mut source, limit) {
+            Ok(read) => {
+                assert!(rt; stop.is_none(), "pieces of {piece}, limit {limit}");
+                assert_eq!(rt; read.as_slice(), bytes);
+            }
+            Err(error) => assert_eq!(rt; Some(error), stop, "pieces of {piece}, limit {limit}"),
+        }
+    }
+    Ok(())
+}
+
+#[test]
+fn a_source_gives_pieces_until_its_fuse(rt: HostRuntime) {
+    let mut source = MemSource::new(b"abcdefgh", 3, Some(3));
+    let mut buffer = [0u8; 2];
+    assert_eq!(rt; source.read(&mut buffer), Ok(2));
+    assert_eq!(rt; &buffer, b"ab");
+    let mut buffer = [0u8; 16];
+    assert_eq!(rt; source.read(&mut buffer), Ok(3));
+    assert!(rt; buffer.starts_with(b"cde"));
+    assert_eq!(rt; source.read(&mut buffer), Err(DeviceFailed));
+}
+
+#[test]
+fn a_sink_takes_a_prefix_until_its_fuse(rt: HostRuntime) {
+    for (piece, fuse, written, taken) in [
+        (1usize, Some(3u64), Err(2u64), b"ab".as_slice()),
+        (2, Some(2), Err(2), b"ab"),
+        (2, Some(1), Err(0), b""),
+        (2, Some(3), Ok(()), b"abc"),
+        (9, None, Ok(()), b"abc"),
+    ] {
+        assert!(rt; piece > 0);
+        let mut out = Vec::new(rt.alloc());
+        let mut sink = MemSink::new(&mut out, piece, fuse);
+        assert_eq!(rt; put_all(&mut sink, b"abc"), written, "pieces of {piece}");
+        assert_eq!(rt; out.as_slice(), taken, "pieces of {piece}");
+    }
+}
+
+#[test]
+fn readers_and_writers_are_devices(rt: HostRuntime) -> Result<(), Fail> {
+    let mut source = ReaderSource::new(b"abc".as_slice());
+    let read = read_all(rt.alloc(), &mut source, 3)?;
+    assert_eq!(rt; read.as_slice(), b"abc".as_slice());
+    let mut sink = WriterSink::new(Vec::new(rt.alloc()));
+    assert_eq!(rt; sink.write(b""), Ok(0));
+    assert_eq!(rt; put_all(&mut sink, b"abc"), Ok(()));
+    Ok(())
+}

@@ -1,0 +1,43 @@
+//! Tests of bpf_canon as another crate calls it: worked examples, devices that fail, and memory that is refused.
+#![tactic(auto)]
+
+#[cfg(test)]
+mod arena;
+#[cfg(test)]
+mod btf;
+#[cfg(test)]
+mod btf_run;
+#[cfg(test)]
+mod compiled_programs;
+#[cfg(test)]
+mod compiled_types;
+#[cfg(test)]
+mod devices;
+#[cfg(test)]
+mod faulty_files;
+#[cfg(test)]
+mod feed;
+#[cfg(test)]
+mod files;
+#[cfg(test)]
+mod largest;
+#[cfg(test)]
+mod limit;
+#[cfg(test)]
+mod long_names;
+#[cfg(test)]
+mod nested_names;
+#[cfg(test)]
+mod own_table;
+#[cfg(test)]
+mod plain_table;
+#[cfg(test)]
+mod refused;
+#[cfg(test)]
+mod refused_btf;
+#[cfg(test)]
+mod room;
+#[cfg(test)]
+mod run;
+#[cfg(test)]
+mod samples;

@@ -1,0 +1,259 @@
+//! Each growth of the calls on instructions is refused in turn.
+use crate::arena::{ENOUGH, ROOM, Tally, leave};
+use bpf_canon::{
+    InsnFeed, MemSink, MemSource, ReadError, RunCause, RunError, SideError, canon_insns, read_all,
+    run_insns, same_insns, write_insns,
+};
+use bpf_insn::{Insn, InsnError, Order, SlotCause, SlotFault};
+use bumpalo::Bump;
+use std::alloc::{Allocator, Global};
+use std::process::Abort;
+use std::test::Fail;
+
+/// An exit seven times, and a faulty instruction.
+const FILE: &[u8; 64] =
+    b"\x95\0\0\0\0\0\0\0\x95\0\0\0\0\0\0\0\x95\0\0\0\0\0\0\0\x95\0\0\0\0\0\0\0\x95\0\0\0\0\0\0\0\x95\0\0\0\0\0\0\0\x95\0\0\0\0\0\0\0\x04\x10\0\0\x05\0\0\0";
+
+/// The fault of the last instruction.
+const FAULT: SlotFault = SlotFault {
+    pos: 57,
+    cause: SlotCause::Src,
+};
+
+/// The vector grows for the first piece, and more than once behind it.
+#[test]
+fn of_reading_whole(rt: HostRuntime) -> Result<(), Fail> {
+    let mut tally = Tally::new();
+    for room in 0..ROOM {
+        let bump = Bump::try_with_capacity(rt.alloc(), ROOM)?;
+        leave(&rt, &bump, room);
+        let mut source = MemSource::new(FILE, 5, None);
+        match read_all(&bump, &mut source, 100) {
+            Ok(read) => {
+                assert_eq!(rt; read.as_slice(), FILE.as_slice());
+                tally.succeed();
+            }
+            Err(error) => {
+                assert_eq!(rt; error, ReadError::Memory);
+                let rest = read_all(rt.alloc(), &mut source, 100)?.len();
+                tally.refuse(&rt, 64_usize.saturating_sub(rest));
+            }
+        }
+        if tally.done == ENOUGH {
+            break;
+        }
+    }
+    assert!(rt; tally.done > 0 && tally.refused >= 64 && tally.places >= 3);
+    Ok(())
+}
+
+#[test]
+fn of_writing_instructions(rt: HostRuntime) -> Result<(), Fail> {
+    let insns = [Insn::Exit; 7];
+    let mut tally = Tally::new();
+    for room in 0..ROOM {
+        let bump = Bump::try_with_capacity(rt.alloc(), ROOM)?;
+        leave(&rt, &bump, room);
+        match write_insns(&bump, Order::Little, &insns) {
+            Ok(written) => {
+                assert_eq!(rt; written.as_slice(), &FILE[..56]);
+                tally.succeed();
+            }
+            Err(_) => tally.refuse(&rt, 0),
+        }
+        if tally.done == ENOUGH {
+            break;
+        }
+    }
+    assert!(rt; tally.done > 0 && tally.refused >= 56);
+    Ok(())
+}
+
+/// Of a good file, and of a faulty one, whose fault is never another.
+#[test]
+fn of_canonical_bytes(rt: HostRuntime) -> Result<(), Fail> {
+    let mut good = Tally::new();
+    let mut faulty = Tally::new();
+    for room in 0..ROOM {
+        let bump = Bump::try_with_capacity(rt.alloc(), ROOM)?;
+        leave(&rt, &bump, room);
+        match canon_insns(&bump, Order::Little, &FILE[..56]) {
+            Ok(canon) => {
+                assert_eq!(rt; canon.as_slice(), &FILE[..56]);
+                good.succeed();
+            }
+            Err(InsnError::Memory) => good.refuse(&rt, 0),
+            Err(InsnError::Fault(_)) => panic!(rt; "a fault of a good file"),
+        }
+        match canon_insns(&bump, Order::Little, FILE) {
+            Ok(_) => panic!(rt; "a faulty file is accepted"),
+            Err(InsnError::Memory) => faulty.refuse(&rt, 0),
+            Err(InsnError::Fault(fault)) => {
+                assert_eq!(rt; fault, FAULT);
+                faulty.succeed();
+            }
+        }
+        if good.done >= ENOUGH && faulty.done >= ENOUGH {
+            break;
+        }
+    }
+    assert!(rt; good.done > 0 && good.refused >= 56);
+    assert!(rt; faulty.done > 0 && faulty.refused > 0);
+    Ok(())
+}
+
+/// How many rooms are too small to compare the good file with another one, with this answer.
+fn refused_comparing(
+    rt: &impl Abort,
+    alloc: Global,
+    second: &[u8],
+    answer: Result<bool, SideError<SlotFault>>,
+) -> Result<usize, Fail> {
+    let mut tally = Tally::new();
+    for room in 0..ROOM {
+        let bump = Bump::try_with_capacity(alloc, ROOM)?;
+        leave(rt, &bump, room);
+        match same_insns(&bump, Order::Little, &FILE[..56], Order::Little, second) {
+            Err(SideError::Memory) => tally.refuse(rt, 0),
+            reported => {
+                assert_eq!(rt; reported, answer);
+                tally.succeed();
+            }
+        }
+        if tally.done == ENOUGH {
+            break;
+        }
+    }
+    assert!(rt; tally.done > 0);
+    Ok(tally.refused)
+}
+
+/// An empty file takes no memory. So the rooms that are too small only for two files are refused while the second is read.
+#[test]
+fn of_comparison(rt: HostRuntime) -> Result<(), Fail> {
+    let first = refused_comparing(&rt, rt.alloc(), b"", Ok(false))?;
+    let both = refused_comparing(&rt, rt.alloc(), &FILE[..56], Ok(true))?;
+    let faulty = refused_comparing(&rt, rt.alloc(), FILE, Err(SideError::Second(FAULT)))?;
+    assert!(rt; first > 0 && both > first && faulty > first);
+    Ok(())
+}
+
+/// Feeds exits in pieces of 14 bytes. The answer is how many bytes came before a growth was refused.
+fn feed_pieces<A: Allocator>(rt: &impl Abort, out: &mut Vec<u8, A>) -> usize {
+    let mut feed = InsnFeed::new(Order::Little, Order::Little);
+    let mut at = 0;
+    for piece in FILE[..56].chunks(14) {
+        assert!(rt; at <= 1000 && feed.fed() <= 1000 && piece.len() <= 14);
+        let had = out.len();
+        match feed.feed(piece, out) {
+            Ok(()) => at += piece.len(),
+            Err(InsnError::Memory) => {
+                // Nothing has changed, and an empty piece takes no memory.
+                assert_eq!(rt; (out.len(), feed.held()), (had, at % 8));
+                assert!(rt; feed.fed() == at as u64 && feed.feed(b"", out).is_ok());
+                return at;
+            }
+            Err(InsnError::Fault(_)) => panic!(rt; "a fault of a good file"),
+        }
+    }
+    at
+}
+
+/// The vector grows for the first piece, and for later ones.
+#[test]
+fn of_the_feed(rt: HostRuntime) -> Result<(), Fail> {
+    let mut tally = Tally::new();
+    for room in 0..ROOM {
+        let bump = Bump::try_with_capacity(rt.alloc(), ROOM)?;
+        leave(&rt, &bump, room);
+        let mut out = Vec::new(&bump);
+        let at = feed_pieces(&rt, &mut out);
+        assert_eq!(rt; out.len(), at / 8 * 8);
+        assert!(rt; FILE.starts_with(&out));
+        if at < 56 {
+            tally.refuse(&rt, at);
+        } else {
+            tally.succeed();
+        }
+        if tally.done == ENOUGH {
+            break;
+        }
+    }
+    assert!(rt; tally.done > 0 && tally.refused >= 56 && tally.places >= 3);
+    Ok(())
+}
+
+/// Where the engine is refused room for a piece, it has written the instructions before it.
+#[test]
+fn of_the_engine(rt: HostRuntime) -> Result<(), Fail> {
+    let mut tally = Tally::new();
+    for room in 0..ROOM {
+        let bump = Bump::try_with_capacity(rt.alloc(), ROOM)?;
+        leave(&rt, &bump, room);
+        // Pieces of five bytes make the engine's vector grow more than once.
+        let mut source = MemSource::new(FILE, 5, None);
+        let mut out = Vec::new(rt.alloc());
+        let mut sink = MemSink::new(&mut out, 5, None);
+        let ran = run_insns(&bump, &mut source, &mut sink, Order::Little, Order::Little);
+        let Err(stop) = ran else {
+            panic!(rt; "a faulty file is accepted");
+        };
+        assert_eq!(rt; out.len() as u64, stop.written);
+        assert!(rt; FILE.starts_with(&out));
+        if stop.cause == RunCause::Memory {
+            let rest = read_all(rt.alloc(), &mut source, 100)?.len();
+            tally.refuse(&rt, 64_usize.saturating_sub(rest));
+        } else {
+            let faulty = RunError {
+                cause: RunCause::Fault(FAULT),
+                written: 56,
+            };
+            assert_eq!(rt; stop, faulty);
+            tally.succeed();
+        }
+        if tally.done == ENOUGH {
+            break;
+        }
+    }
+    assert!(rt; tally.done > 0 && tally.places >= 2);
+    Ok(())
+}
+
+/// A growth of the sink's vector that is refused is a failed write, the first growth and each later one.
+#[test]
+fn of_a_sink(rt: HostRuntime) -> Result<(), Fail> {
+    let mut tally = Tally::new();
+    for room in 0..ROOM {
+        let bump = Bump::try_with_capacity(rt.alloc(), ROOM)?;
+        leave(&rt, &bump, room);
+        let mut source = MemSource::new(&FILE[..56], 24, None);
+        let mut out = Vec::new(&bump);
+        let mut sink = MemSink::new(&mut out, 5, None);
+        let ran = run_insns(
+            rt.alloc(),
+            &mut source,
+            &mut sink,
+            Order::Little,
+            Order::Little,
+        );
+        match ran {
+            Ok(written) => {
+                assert_eq!(rt; written, 56);
+                tally.succeed();
+            }
+            Err(stop) => {
+                assert_eq!(rt;
+                    (stop.cause, stop.written),
+                    (RunCause::WriteFailed, out.len() as u64)
+                );
+                tally.refuse(&rt, out.len());
+            }
+        }
+        assert!(rt; FILE.starts_with(&out));
+        if tally.done == ENOUGH {
+            break;
+        }
+    }
+    assert!(rt; tally.done > 0 && tally.refused >= 56 && tally.places >= 3);
+    Ok(())
+}

@@ -1,0 +1,337 @@
+-- Steps of the loop that lays out hosts in the order of first use.
+use Rattle.std.proofs.Common.{◌≡◌, ◌≢◌, ℕ, ◌+◌, ◌-◌, ◌<◌, ◌≤◌, Bool, true, false, not, ◌⊎◌, inl, inr, List, [], ◌∷◌, ◌++◌, length, map, get_or, set, take, drop, refl, sym, ap, ◌∙◌, subst, arith, append_assoc, take-append-drop}
+use Rattle.std.specs.List.{filter, list_any, All}
+use Rattle.std.specs.List.Sorted.{IsSorted}
+use Rattle.std.proofs.lemmas.Bool.{both_ways, cases_Bool, cases_eq, cases_lt, cond-true, cond-false, false_from_ne_true}
+use Rattle.std.proofs.lemmas.List.{append-nil, map-append, length-set, get_or-set_same, get_or-set_other, get_or-map, get_or_default, map_more, nil_from_length}
+use Rattle.std.proofs.lemmas.List.Elements.{filter-append, All-append, All-cons, All-nil}
+use Rattle.btf_types.specs.Names.{kept, table_of, place_in}
+use Rattle.btf_types.specs.Reading.{text_from}
+use Rattle.btf_types.specs.SharedNames.{is_suffix, is_proper_suffix, tail_cmp, hosts, host, shared_table}
+use Rattle.btf_types.specs.CommonTails.{at_rank}
+use Rattle.btf_types.proofs.Members.{Has, Has-filter, Has-from_filter, Has-from_Contains}
+use Rattle.btf_types.proofs.Suffixes.{Ends, Ends-refl, Ends-same_length, suffix_from_Ends}
+use Rattle.btf_types.proofs.Hosts.{host_is, own_host_of, host_differs}
+use Rattle.btf_types.proofs.CommonTails.{ranks_are_together}
+use Rattle.btf_types.proofs.Longest.{Has-kept_some}
+use Rattle.btf_canon.specs.InHost.{found_of, no_host}
+use Rattle.btf_canon.specs.UsedOffsets.{number_of}
+use Rattle.btf_canon.specs.Longest.{IsUsed}
+use Rattle.btf_canon.specs.Tails.{tail_text}
+use Rattle.btf_canon.specs.declared.shared_strings.tails.Tail.{Tail}
+use Rattle.btf_canon.specs.HostLayout.{span_text, IsSpan, IsAtHost, IsFound, AreLaidOut}
+use Rattle.btf_canon.specs.declared.shared_strings.hosts_by_rank.InHost.{InHost}
+use Rattle.btf_canon.specs.declared.shared_strings.host_layout.Span.{Span}
+use Rattle.btf_canon.proofs.KeptSteps.{Has_cases, kept_empty, kept_known, kept_new, place_stays, place_last, length-table_push}
+use Rattle.btf_canon.proofs.LongestSteps.{tail_text_is, used_length}
+use Rattle.btf_canon.proofs.FoundHosts.{no_text, text_some, in_map}
+
+-- no other of the names properly ends with x
+abbrev pub is_own : List (List ℕ) → List ℕ → Bool
+is_own xs x = not (list_any (is_proper_suffix x) (kept xs))
+
+-- those hosts among the names xs that some of the names, ys, use
+abbrev pub laid : List (List ℕ) → List (List ℕ) → List (List ℕ)
+laid xs ys = filter (is_own xs) (kept ys)
+
+kept_cases : (ys : List (List ℕ)) (x : List ℕ) → (kept (ys ++ x ∷ []) ≡ kept ys) ⊎ ((kept (ys ++ x ∷ []) ≡ kept ys ++ x ∷ []) × (x ≢ []))
+kept_cases ys [] = inl (kept_empty ys)
+kept_cases ys (b ∷ x) = elim (Has_cases (kept ys) (b ∷ x)) [
+  | inl h ↦ inl (kept_known ys (b ∷ x) h)
+  | inr n ↦ inr (kept_new ys (b ∷ x) (λ q. absurd cc) n, λ q. absurd cc)
+]
+
+one_own : (xs ys : List (List ℕ)) (x : List ℕ) → is_own xs x ≡ true → filter (is_own xs) (kept ys ++ x ∷ []) ≡ laid xs ys ++ x ∷ []
+one_own xs ys x t = filter-append (is_own xs) (kept ys) (x ∷ []) ∙ ap (λ (l : List (List ℕ)). laid xs ys ++ l) (cond-true (is_own xs x) (x ∷ []) [] t)
+
+one_other : (xs ys : List (List ℕ)) (x : List ℕ) → is_own xs x ≡ false → filter (is_own xs) (kept ys ++ x ∷ []) ≡ laid xs ys
+one_other xs ys x f =
+    filter-append (is_own xs) (kept ys) (x ∷ []) ∙ ap (λ (l : List (List ℕ)). laid xs ys ++ l) (cond-false (is_own xs x) (x ∷ []) [] f) ∙ append-nil (laid xs ys)
+
+pub laid_empty : (xs ys : List (List ℕ)) (x : List ℕ) → x ≡ [] → laid xs (ys ++ x ∷ []) ≡ laid xs ys
+laid_empty xs ys x e = ap (λ (t : List ℕ). laid xs (ys ++ t ∷ [])) e ∙ ap (filter (is_own xs)) (kept_empty ys)
+
+pub laid_other : (xs ys : List (List ℕ)) (x : List ℕ) → is_own xs x ≡ false → laid xs (ys ++ x ∷ []) ≡ laid xs ys
+laid_other xs ys x f = elim (kept_cases ys x) [
+  | inl e ↦ ap (filter (is_own xs)) e
+  | inr n ↦ ap (filter (is_own xs)) n.0 ∙ one_other xs ys x f
+]
+
+pub laid_known : (xs ys : List (List ℕ)) (x : List ℕ) → Has (laid xs ys) x → laid xs (ys ++ x ∷ []) ≡ laid xs ys
+laid_known xs ys x h = ap (filter (is_own xs)) (kept_known ys x (Has-from_filter (is_own xs) (kept ys) x h).0)
+
+pub laid_new : (xs ys : List (List ℕ)) (x : List ℕ) → x ≢ [] → is_own xs x ≡ true → ¬ Has (laid xs ys) x → laid xs (ys ++ x ∷ []) ≡ laid xs ys ++ x ∷ []
+laid_new xs ys x some t n =
+    ap (filter (is_own xs)) (kept_new ys x some (λ h. n (Has-filter (is_own xs) (kept ys) x h t))) ∙ one_own xs ys x t
+
+laid_step : (xs ys : List (List ℕ)) (x : List ℕ) → length (table_of (laid xs ys)) ≤ length (table_of (laid xs (ys ++ x ∷ [])))
+laid_step xs ys x = elim (kept_cases ys x) [
+  | inl e ↦ let same = ap (λ (l : List (List ℕ)). length (table_of (filter (is_own xs) l))) e in omega (arith, same)
+  | inr n ↦ elim (cases_Bool (is_own xs x)) [
+    | inl t ↦ let more = ap (λ (l : List (List ℕ)). length (table_of l)) (ap (filter (is_own xs)) n.0 ∙ one_own xs ys x t) in omega (arith, more, length-table_push (laid xs ys) x)
+    | inr f ↦ let same = ap (λ (l : List (List ℕ)). length (table_of l)) (ap (filter (is_own xs)) n.0 ∙ one_other xs ys x f) in omega (arith, same)
+  ]
+]
+
+pub laid_fits : (xs ys more : List (List ℕ)) → length (table_of (laid xs ys)) ≤ length (table_of (laid xs (ys ++ more)))
+laid_fits xs ys [] = let same = ap (λ (l : List (List ℕ)). length (table_of (laid xs l))) (append-nil ys) in omega (arith, same)
+laid_fits xs ys (x ∷ more) =
+    let same = ap (λ (l : List (List ℕ)). length (table_of (laid xs l))) (append_assoc ys (x ∷ []) more) in
+    omega (arith, laid_step xs ys x, laid_fits xs (ys ++ x ∷ []) more, same)
+
+-- members of a list that got one more
+has_push : (xs : List (List ℕ)) (y x : List ℕ) → Has (xs ++ y ∷ []) x → Has xs x ⊎ (y ≡ x)
+has_push [] y x h = elim h [ inl e ↦ inr e | inr n ↦ absurd n ]
+has_push (z ∷ xs) y x h = elim h [
+  | inl e ↦ inl (inl e)
+  | inr i ↦ elim (has_push xs y x i) [ inl j ↦ inl (inr j) | inr e ↦ inr e ]
+]
+
+has_more : (xs : List (List ℕ)) (y x : List ℕ) → Has xs x → Has (xs ++ y ∷ []) x
+has_more [] y x h = absurd h
+has_more (z ∷ xs) y x h = elim h [ inl e ↦ inl e | inr i ↦ inr (has_more xs y x i) ]
+
+has_last : (xs : List (List ℕ)) (y : List ℕ) → Has (xs ++ y ∷ []) y
+has_last [] y = inl refl
+has_last (z ∷ xs) y = inr (has_last xs y)
+
+-- a rank whose text doesn't end the next one
+pub record IsLast (sorted : List (List ℕ)) (r : ℕ) : Type 0 where
+  pub inside : r < length sorted
+  pub last : r + 1 < length sorted → is_suffix (at_rank sorted r) (at_rank sorted (r + 1)) ≡ false
+
+before_same : (sorted : List (List ℕ)) (r s : ℕ) → IsSorted tail_cmp sorted → IsLast sorted r → IsLast sorted s → at_rank sorted r ≡ at_rank sorted s → ¬ (r < s)
+before_same sorted r s up a b e h =
+    let more : r + 1 < length sorted = omega (arith, h, b.inside) in
+    both_ways _ (a.last more)
+    (ranks_are_together sorted up (at_rank sorted r) r (r + 1) s (omega arith) (omega (arith, h)) b.inside
+    (suffix_from_Ends _ _ (Ends-refl (at_rank sorted r)))
+    (suffix_from_Ends _ _ (subst (Ends (at_rank sorted r)) e (Ends-refl (at_rank sorted r)))))
+
+pub rank_same : (sorted : List (List ℕ)) (r s : ℕ) → IsSorted tail_cmp sorted → IsLast sorted r → IsLast sorted s → at_rank sorted r ≡ at_rank sorted s → r ≡ s
+rank_same sorted r s up a b e = elim (cases_eq r s) [
+  | inl q ↦ q
+  | inr n ↦ elim (cases_lt r s) [
+    | inl l ↦ absurd (before_same sorted r s up a b e l)
+    | inr g ↦ absurd (before_same sorted s r up b a (sym e) (omega (arith, g, n)))
+  ]
+]
+
+-- laid out so far
+pub record LaidTo (section : List ℕ) (sorted out : List (List ℕ)) (placed : List ℕ) (spans : List Span) (len : ℕ) : Type 0 where
+  pub are_spans : All (IsSpan section) spans
+  pub texts : map (span_text section) spans ≡ out
+  pub whole : len ≡ length (table_of out)
+  pub ranks : length placed ≡ length sorted + 1
+  pub none : get_or placed 0 0 ≡ 0
+  pub absent : (r : ℕ) → IsLast sorted r → get_or placed (r + 1) 0 ≡ 0 → ¬ Has out (at_rank sorted r)
+  pub there : (r : ℕ) → IsLast sorted r → get_or placed (r + 1) 0 ≢ 0 → Has out (at_rank sorted r)
+  pub place : (r : ℕ) → IsLast sorted r → get_or placed (r + 1) 0 ≢ 0 → get_or placed (r + 1) 0 ≡ place_in out (at_rank sorted r)
+
+pub laid_none : (section : List ℕ) (sorted : List (List ℕ)) (placed : List ℕ) → length placed ≡ length sorted + 1 → ((k : ℕ) → get_or placed k 0 ≡ 0) → LaidTo section sorted [] placed [] 1
+laid_none section sorted placed long none = record {
+  are_spans = All-nil (IsSpan section);
+  texts = refl;
+  whole = refl;
+  ranks = long;
+  none = none 0;
+  absent = λ r a z h. h;
+  there = λ r a n. absurd (n (none (r + 1)));
+  place = λ r a n. absurd (n (none (r + 1)));
+}
+
+pub lays_one : (section : List ℕ) (sorted out : List (List ℕ)) (placed : List ℕ) (spans : List Span) (len r : ℕ) (s : Span) → LaidTo section sorted out placed spans len → IsSorted tail_cmp sorted → IsLast sorted r → get_or placed (r + 1) 0 ≡ 0
+    → IsSpan section s → span_text section s ≡ at_rank sorted r → LaidTo section sorted (out ++ at_rank sorted r ∷ []) (set placed (r + 1) len) (spans ++ s ∷ []) (len + (length (at_rank sorted r) + 1))
+lays_one section sorted out placed spans len r s to up at empty span text =
+    let x = at_rank sorted r in
+    let gone : ¬ Has out x = to.absent r at empty in
+    let some : 0 < len = omega (arith, to.whole) in
+    let here : get_or (set placed (r + 1) len) (r + 1) 0 ≡ len = get_or-set_same placed (r + 1) len 0 (omega (arith, to.ranks, at.inside)) in
+    let other = λ (k : ℕ) (n : k ≢ r + 1). get_or-set_other placed (r + 1) k len 0 n in
+    record {
+      are_spans = All-append (IsSpan section) spans (s ∷ []) to.are_spans (All-cons (IsSpan section) s [] span (All-nil (IsSpan section)));
+      texts = map-append (span_text section) spans (s ∷ []) ∙ ap (λ (l : List (List ℕ)). l ++ span_text section s ∷ []) to.texts ∙ ap (λ (t : List ℕ). out ++ t ∷ []) text;
+      whole = omega (arith, to.whole, length-table_push out x);
+      ranks = length-set placed (r + 1) len ∙ to.ranks;
+      none = other 0 (λ e. omega (arith, e)) ∙ to.none;
+      absent = λ k a z h. elim (cases_eq k r) [
+        | inl e ↦ omega (arith, some, here, z, ap (λ (n : ℕ). get_or (set placed (r + 1) len) (n + 1) 0) e)
+        | inr n ↦
+            let old : get_or placed (k + 1) 0 ≡ 0 = sym (other (k + 1) (λ e. n (omega (arith, e)))) ∙ z in
+            elim (has_push out x (at_rank sorted k) h) [
+              | inl i ↦ to.absent k a old i
+              | inr e ↦ n (sym (rank_same sorted r k up at a e))
+            ]
+      ];
+      there = λ k a z. elim (cases_eq k r) [
+        | inl e ↦ subst (λ (m : ℕ). Has (out ++ x ∷ []) (at_rank sorted m)) (sym e) (has_last out x)
+        | inr n ↦ has_more out x (at_rank sorted k) (to.there k a (λ q. z (other (k + 1) (λ e. n (omega (arith, e))) ∙ q)))
+      ];
+      place = λ k a z. elim (cases_eq k r) [
+        | inl e ↦
+            ap (λ (n : ℕ). get_or (set placed (r + 1) len) (n + 1) 0) e ∙ here ∙ to.whole ∙ sym (place_last out x gone)
+            ∙ ap (λ (m : ℕ). place_in (out ++ x ∷ []) (at_rank sorted m)) (sym e)
+        | inr n ↦
+            let same = other (k + 1) (λ e. n (omega (arith, e))) in
+            let old : get_or placed (k + 1) 0 ≢ 0 = λ q. z (same ∙ q) in
+            same ∙ to.place k a old ∙ sym (place_stays out x (at_rank sorted k) (to.there k a old))
+      ];
+    }
+
+-- a name at an offset
+module _ (section slots : List ℕ) (sorted xs : List (List ℕ)) (found : List InHost) (off : ℕ) (is : IsFound section slots sorted xs found off) (has : Has xs (text_from section off)) where
+  abbrev h : InHost
+  h = found_of slots found off
+
+  abbrev x : List ℕ
+  x = text_from section off
+
+  pub no_host_empty : h.host ≡ 0 → x ≡ []
+  no_host_empty z = elim (cases_eq (get_or section off 0) 0) [
+    | inl e ↦ nil_from_length x (no_text section off is.inside e)
+    | inr n ↦ let a = is.some n in absurd (omega (arith, z, a.numbered))
+  ]
+
+  pub at_host : h.host ≢ 0 → IsAtHost sorted xs x h
+  at_host n = elim (cases_eq (get_or section off 0) 0) [
+    | inl e ↦ absurd (n (ap (λ (i : InHost). i.host) (is.empty e)))
+    | inr s ↦ is.some s
+  ]
+
+module _ (sorted xs : List (List ℕ)) (x : List ℕ) (h : InHost) (a : IsAtHost sorted xs x h) (has : Has xs x) (some : 0 < length x) where
+  in_kept : Has (kept xs) x
+  in_kept = Has-kept_some xs x has some
+
+  ends_host : Ends x (host xs x)
+  ends_host = (host_is (kept xs) x in_kept).ends
+
+  pub host_last : IsLast sorted a.rank
+  host_last = record { inside = a.inside; last = a.last }
+
+  pub own_text : h.before ≡ 0 → at_rank sorted a.rank ≡ x
+  own_text z = sym a.is_host ∙ Ends-same_length x (host xs x) ends_host (omega (arith, a.before, z, ap (λ (t : List ℕ). length t) a.is_host))
+
+  pub own_yes : h.before ≡ 0 → is_own xs x ≡ true
+  own_yes z = ap not (false_from_ne_true (list_any (is_proper_suffix x) (kept xs)) (λ t. host_differs (kept xs) x in_kept t (a.is_host ∙ own_text z)))
+
+  pub own_no : h.before ≢ 0 → is_own xs x ≡ false
+  own_no n = elim (cases_Bool (list_any (is_proper_suffix x) (kept xs))) [
+    | inl t ↦ ap not t
+    | inr f ↦ absurd (n (omega (arith, a.before, ap (λ (t : List ℕ). length t) (sym a.is_host ∙ own_host_of (kept xs) x in_kept f))))
+  ]
+
+  pub host_there : Has (hosts xs) (at_rank sorted a.rank)
+  host_there = subst (Has (hosts xs)) a.is_host (host_is (kept xs) x in_kept).host
+
+-- the span of the text of a rank
+pub record SpanOf (section : List ℕ) (sorted : List (List ℕ)) (rank : ℕ) (s : Span) : Type 0 where
+  pub span : IsSpan section s
+  pub text : span_text section s ≡ at_rank sorted rank
+  pub long : length (at_rank sorted rank) ≡ s.end - s.start
+
+pub span_of : (section slots : List ℕ) (ts : List Tail) → All (IsUsed section slots) ts → (rank : ℕ) (t : Tail) → rank < length ts → t ≡ get_or ts rank t → SpanOf section (map (tail_text section) ts) rank (record { start = t.start; end = t.end })
+span_of section slots ts used rank t inside is =
+    let u : IsUsed section slots t = subst (IsUsed section slots) (sym is) (used rank t inside) in
+    let here : at_rank (map (tail_text section) ts) rank ≡ tail_text section t = get_or-map (tail_text section) ts rank t [] inside ∙ ap (tail_text section) (sym is) in
+    record {
+      span = record { up = omega (arith, u.some); inside = u.inside; nul = u.nul };
+      text = sym (tail_text_is section t (omega (arith, u.some)) (omega (arith, u.inside))) ∙ sym here;
+      long = ap (λ (l : List ℕ). length l) here ∙ used_length section slots t u;
+    }
+
+-- the step of one offset, whose number is n
+module _ (section slots offsets : List ℕ) (sorted : List (List ℕ)) (found : List InHost) (k n : ℕ) (inside : k < length offsets) (n_is : n ≡ number_of slots (get_or offsets k 0))
+    (all : All (IsFound section slots sorted (map (text_from section) offsets) found) offsets) where
+  abbrev names : List (List ℕ)
+  names = map (text_from section) offsets
+
+  abbrev taken : ℕ → List (List ℕ)
+  taken j = map (text_from section) (take j offsets)
+
+  abbrev own : List ℕ
+  own = text_from section (get_or offsets k 0)
+
+  abbrev here : InHost
+  here = get_or found n no_host
+
+  same_here : here ≡ found_of slots found (get_or offsets k 0)
+  same_here = ap (λ (m : ℕ). get_or found m no_host) n_is
+
+  is : IsFound section slots sorted names found (get_or offsets k 0)
+  is = all k 0 inside
+
+  has : Has names own
+  has = Has-from_Contains names own (in_map (text_from section) offsets (get_or offsets k 0) (k, inside, get_or_default offsets k (get_or offsets k 0) 0 inside))
+
+  more : laid names (taken (k + 1)) ≡ laid names (taken k ++ own ∷ [])
+  more = ap (laid names) (map_more (text_from section) offsets k 0 inside)
+
+  at_here : here.host ≢ 0 → IsAtHost sorted names own here
+  at_here h = subst (IsAtHost sorted names own) (sym same_here) (at_host section slots sorted names found (get_or offsets k 0) is has (λ z. h (ap (λ (i : InHost). i.host) same_here ∙ z)))
+
+  some_here : here.host ≢ 0 → 0 < length own
+  some_here h = elim (cases_eq (length own) 0) [
+    | inr m ↦ omega (arith, m)
+    | inl z ↦ elim (cases_eq (get_or section (get_or offsets k 0) 0) 0) [
+      | inl e ↦ absurd (h (ap (λ (i : InHost). i.host) (same_here ∙ is.empty e)))
+      | inr b ↦ absurd (text_some section (get_or offsets k 0) is.inside b z)
+    ]
+  ]
+
+  pub placed_inside : (placed : List ℕ) (spans : List Span) (len : ℕ) → LaidTo section sorted (laid names (taken k)) placed spans len → here.host < length placed
+  placed_inside placed spans len to = elim (cases_eq here.host 0) [
+    | inl z ↦ omega (arith, z, to.ranks)
+    | inr h ↦ let a = at_here h in omega (arith, a.numbered, a.inside, to.ranks)
+  ]
+
+  pub skips_empty : here.host ≡ 0 → laid names (taken k) ≡ laid names (taken (k + 1))
+  skips_empty z = sym (more ∙ laid_empty names (taken k) own (no_host_empty section slots sorted names found (get_or offsets k 0) is has (ap (λ (i : InHost). i.host) (sym same_here) ∙ z)))
+
+  pub skips_other : here.host ≢ 0 → here.before ≢ 0 → laid names (taken k) ≡ laid names (taken (k + 1))
+  skips_other h b = sym (more ∙ laid_other names (taken k) own (own_no sorted names own here (at_here h) has (some_here h) b))
+
+  pub skips_placed : (placed : List ℕ) (spans : List Span) (len : ℕ) → LaidTo section sorted (laid names (taken k)) placed spans len → here.host ≢ 0 → here.before ≡ 0 → get_or placed here.host 0 ≢ 0 → laid names (taken k) ≡ laid names (taken (k + 1))
+  skips_placed placed spans len to h b p =
+      let a = at_here h in
+      let there : Has (laid names (taken k)) (at_rank sorted a.rank) = to.there a.rank (host_last sorted names own here a has (some_here h)) (λ z. p (ap (λ (j : ℕ). get_or placed j 0) a.numbered ∙ z)) in
+      sym (more ∙ laid_known names (taken k) own (subst (Has (laid names (taken k))) (own_text sorted names own here a has (some_here h) b) there))
+
+  pub lays : (placed : List ℕ) (spans : List Span) (len v : ℕ) (s : Span) → LaidTo section sorted (laid names (taken k)) placed spans len → IsSorted tail_cmp sorted → here.host ≢ 0 → here.before ≡ 0 → get_or placed here.host 0 ≡ 0
+      → SpanOf section sorted (here.host - 1) s → v ≡ s.end - s.start → LaidTo section sorted (laid names (taken (k + 1))) (set placed here.host len) (spans ++ s ∷ []) (len + (v + 1))
+  lays placed spans len v s to up h b p span v_is =
+      let a = at_here h in
+      let at = host_last sorted names own here a has (some_here h) in
+      let rank_is : here.host - 1 ≡ a.rank = omega (arith, a.numbered) in
+      let text : at_rank sorted a.rank ≡ own = own_text sorted names own here a has (some_here h) b in
+      let free : get_or placed (a.rank + 1) 0 ≡ 0 = ap (λ (j : ℕ). get_or placed j 0) (sym a.numbered) ∙ p in
+      let out : laid names (taken k) ++ at_rank sorted a.rank ∷ [] ≡ laid names (taken (k + 1)) =
+      ap (λ (t : List ℕ). laid names (taken k) ++ t ∷ []) text
+      ∙ sym (more ∙ laid_new names (taken k) own (λ e. omega (arith, some_here h, ap (λ (t : List ℕ). length t) e)) (own_yes sorted names own here a has (some_here h) b) (λ i. to.absent a.rank at free (subst (Has (laid names (taken k))) (sym text) i))) in
+      let laid_out = lays_one section sorted (laid names (taken k)) placed spans len a.rank s to up at free span.span (span.text ∙ ap (at_rank sorted) rank_is) in
+      let len_is : length (at_rank sorted a.rank) ≡ v = omega (arith, span.long, v_is, ap (λ (j : ℕ). length (at_rank sorted j)) rank_is) in
+      subst (λ (m : ℕ). LaidTo section sorted (laid names (taken (k + 1))) (set placed m len) (spans ++ s ∷ []) (len + (v + 1))) (sym a.numbered)
+      (subst (λ (m : ℕ). LaidTo section sorted (laid names (taken (k + 1))) (set placed (a.rank + 1) len) (spans ++ s ∷ []) (len + (m + 1))) len_is
+      (subst (λ (l : List (List ℕ)). LaidTo section sorted l (set placed (a.rank + 1) len) (spans ++ s ∷ []) (len + (length (at_rank sorted a.rank) + 1))) out laid_out))
+
+pub laid_room : (section offsets : List ℕ) (j : ℕ) → length (table_of (laid (map (text_from section) offsets) (map (text_from section) (take j offsets)))) ≤ length (shared_table (map (text_from section) offsets))
+laid_room section offsets j =
+    let xs = map (text_from section) offsets in
+    let whole : map (text_from section) (take j offsets) ++ map (text_from section) (drop j offsets) ≡ xs =
+    sym (map-append (text_from section) (take j offsets) (drop j offsets)) ∙ ap (map (text_from section)) (take-append-drop j offsets) in
+    let same = ap (λ (l : List (List ℕ)). length (table_of (laid xs l))) whole in
+    omega (arith, laid_fits xs (map (text_from section) (take j offsets)) (map (text_from section) (drop j offsets)), same)
+
+pub laid_all : (section : List ℕ) (sorted xs : List (List ℕ)) (placed : List ℕ) (spans : List Span) (len : ℕ) → LaidTo section sorted (hosts xs) placed spans len → AreLaidOut section sorted xs placed spans len
+laid_all section sorted xs placed spans len to = record {
+  are_spans = to.are_spans;
+  texts = to.texts;
+  whole = to.whole;
+  ranks = to.ranks;
+  none = to.none;
+  place = λ r inside last c.
+      let at : IsLast sorted r = record { inside = inside; last = last } in
+      elim (cases_eq (get_or placed (r + 1) 0) 0) [
+        | inl z ↦ absurd (to.absent r at z (Has-from_Contains (hosts xs) (at_rank sorted r) c))
+        | inr n ↦ to.place r at n
+      ];
+}

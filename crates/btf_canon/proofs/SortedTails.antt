@@ -1,0 +1,66 @@
+-- Tails that are sorted by keys and texts are sorted as texts.
+use Rattle.std.proofs.Common.{◌≡◌, ◌≢◌, ℕ, zero, suc, ◌+◌, ◌<◌, inl, inr, List, [], ◌∷◌, length, map, get_or, take, drop, refl, sym, ap, ◌∙◌, arith}
+use Rattle.std.specs.List.{All}
+use Rattle.std.specs.List.Sorted.{IsSorted, IsSortedBy}
+use Rattle.std.specs.Ordering.{is_lt, nat_cmp, ordering_then}
+use Rattle.std.specs.Cmp.{IsTotalOrder}
+use Rattle.std.specs.declared.cmp.Ordering.{Ordering}
+use Rattle.std.specs.declared.cmp.Ordering.TheVariants.{Less, Equal, Greater}
+use Rattle.std.proofs.lemmas.Bool.{cases_eq}
+use Rattle.std.proofs.lemmas.Cmp.{nat_cmp_total, tied_itself, on_total, then_total, ranked}
+use Rattle.std.proofs.lemmas.List.{get_or-map, length-map}
+use Rattle.btf_types.specs.SharedNames.{tail_cmp}
+use Rattle.btf_types.proofs.Hosts.{tail_lt, tail_total}
+use Rattle.btf_canon.specs.TailKeys.{tail_key}
+use Rattle.btf_canon.specs.Tails.{start_in, tail_text, HasKey, compared}
+use Rattle.btf_canon.specs.declared.shared_strings.tails.Tail.{Tail}
+use Rattle.btf_canon.proofs.TailKeys.{Bytes, bytes_from, key_apart}
+
+bytes_at : (x : List ℕ) → Bytes x → (i : ℕ) → get_or x i 0 < 256
+bytes_at [] p i = omega arith
+bytes_at (b ∷ x) (h, p) zero = h
+bytes_at (b ∷ x) (h, p) (suc i) = bytes_at x p i
+
+bytes_drop : (n : ℕ) (x : List ℕ) → Bytes x → Bytes (drop n x)
+bytes_drop zero x p = p
+bytes_drop (suc n) [] p = tt
+bytes_drop (suc n) (b ∷ x) (h, p) = bytes_drop n x p
+
+bytes_take : (n : ℕ) (x : List ℕ) → Bytes x → Bytes (take n x)
+bytes_take zero x p = tt
+bytes_take (suc n) [] p = tt
+bytes_take (suc n) (b ∷ x) (h, p) = (h, bytes_take n x p)
+
+text_bytes : (section : List ℕ) (t : Tail) → ((i : ℕ) → get_or section i 0 < 256) → (i : ℕ) → get_or (tail_text section t) i 0 < 256
+text_bytes section t p = bytes_at (tail_text section t) (bytes_take _ _ (bytes_drop (start_in section t) section (bytes_from section p)))
+
+apart_then : (o s : Ordering) → o ≢ Equal → ordering_then o s ≡ o
+apart_then Less s n = refl
+apart_then Equal s n = absurd (n refl)
+apart_then Greater s n = refl
+
+tied_same : (a b : ℕ) → nat_cmp a b ≡ Equal → a ≡ b
+tied_same a b e = ranked a b Equal (sym e)
+
+pub compared_as_texts : (section : List ℕ) (a b : Tail) → ((i : ℕ) → get_or section i 0 < 256) → HasKey section a → HasKey section b → compared section a b ≡ tail_cmp (tail_text section a) (tail_text section b)
+compared_as_texts section a b p ka kb = elim (cases_eq a.key b.key) [
+  | inl e ↦ ap (λ (o : Ordering). ordering_then o (tail_cmp (tail_text section a) (tail_text section b))) (ap (nat_cmp a.key) (sym e) ∙ tied_itself nat_cmp_total a.key)
+  | inr n ↦
+      apart_then (nat_cmp a.key b.key) (tail_cmp (tail_text section a) (tail_text section b)) (λ e. n (tied_same a.key b.key e))
+      ∙ ap (λ (k : ℕ). nat_cmp k b.key) ka ∙ ap (nat_cmp (tail_key (tail_text section a))) kb
+      ∙ key_apart (tail_text section a) (tail_text section b) (text_bytes section a p) (text_bytes section b p) (λ e. n (ka ∙ e ∙ sym kb))
+]
+
+pub compared_total : (section : List ℕ) → IsTotalOrder (compared section)
+compared_total section = then_total (on_total (λ t. t.key) nat_cmp_total) (on_total (tail_text section) tail_total)
+
+pub sorted_texts : (section : List ℕ) (ts : List Tail) → ((i : ℕ) → get_or section i 0 < 256) → All (HasKey section) ts → IsSortedBy (λ x y. is_lt (compared section x y)) ts → IsSorted tail_cmp (map (tail_text section) ts)
+sorted_texts section ts p keys up k d low h =
+    let e : Tail = record { key = 0; start = 0; end = 0 } in
+    let inside : k + 1 < length ts = omega (arith, h, length-map ts (tail_text section)) in
+    let a = get_or ts k e in
+    let b = get_or ts (k + 1) e in
+    let same = compared_as_texts section b a p (keys (k + 1) e inside) (keys k e (omega (arith, inside))) in
+    ap (λ (t : List ℕ). tail_lt t (get_or (map (tail_text section) ts) k d)) (get_or-map (tail_text section) ts (k + 1) e d inside)
+    ∙ ap (tail_lt (tail_text section b)) (get_or-map (tail_text section) ts k e d (omega (arith, inside)))
+    ∙ ap is_lt (sym same) ∙ up k e low inside

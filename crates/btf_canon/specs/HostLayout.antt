@@ -1,0 +1,55 @@
+-- The table of hosts, laid out in the order of first use.
+use Rattle.std.specs.Prelude.{◌≡◌, ◌≢◌, ℕ, ◌+◌, ◌-◌, ◌<◌, ◌≤◌, false, List, length, map, take, drop, slice_index}
+use Rattle.std.specs.List.{All, Contains}
+use Rattle.btf_types.specs.Names.{place_in}
+use Rattle.btf_types.specs.Reading.{text_from}
+use Rattle.btf_types.specs.SharedNames.{is_suffix, hosts, host, shared_table, shared_place}
+use Rattle.btf_types.specs.CommonTails.{at_rank}
+use Rattle.btf_canon.specs.UsedOffsets.{number_of}
+use Rattle.btf_canon.specs.InHost.{found_of, no_host}
+use Rattle.btf_canon.specs.declared.shared_strings.hosts_by_rank.InHost.{InHost}
+use Rattle.btf_canon.specs.declared.shared_strings.host_layout.Span.{Span}
+
+-- the bytes of the section between the ends of a span
+abbrev pub span_text : List ℕ → Span → List ℕ
+span_text section s = take (s.end - s.start) (drop s.start section)
+
+-- the span ends at a NUL of the section
+pub record IsSpan (section : List ℕ) (s : Span) : Type 0 where
+  pub up : s.start ≤ s.end
+  pub inside : s.end < length section
+  pub nul : slice_index section s.end ≡ 0
+
+-- Among the names xs, x has the text of this rank as its host, which doesn't end the next one.
+pub record IsAtHost (sorted xs : List (List ℕ)) (x : List ℕ) (h : InHost) : Type 0 where
+  pub rank : ℕ
+  pub numbered : h.host ≡ rank + 1
+  pub inside : rank < length sorted
+  pub last : rank + 1 < length sorted → is_suffix (at_rank sorted rank) (at_rank sorted (rank + 1)) ≡ false
+  pub is_host : host xs x ≡ at_rank sorted rank
+  pub before : h.before + length x ≡ length (at_rank sorted rank)
+
+-- the name at an offset has its host, and the empty one has none
+pub record IsFound (section slots : List ℕ) (sorted xs : List (List ℕ)) (found : List InHost) (off : ℕ) : Type 0 where
+  pub inside : off < length section
+  pub used : slice_index slots off ≢ 0
+  pub empty : slice_index section off ≡ 0 → found_of slots found off ≡ no_host
+  pub some : slice_index section off ≢ 0 → IsAtHost sorted xs (text_from section off) (found_of slots found off)
+
+-- The hosts are spans of the section, and of the text of each rank that is a host it is known where it stands.
+pub record AreLaidOut (section : List ℕ) (sorted xs : List (List ℕ)) (placed : List ℕ) (spans : List Span) (len : ℕ) : Type 0 where
+  pub are_spans : All (IsSpan section) spans
+  pub texts : map (span_text section) spans ≡ hosts xs
+  pub whole : len ≡ length (shared_table xs)
+  pub ranks : length placed ≡ length sorted + 1
+  pub none : slice_index placed 0 ≡ 0
+  pub place : (r : ℕ) → r < length sorted → (r + 1 < length sorted → is_suffix (at_rank sorted r) (at_rank sorted (r + 1)) ≡ false) → Contains (hosts xs) (at_rank sorted r) → slice_index placed (r + 1) ≡ place_in (hosts xs) (at_rank sorted r)
+
+-- Of names at offsets of a section, the place of each in the table that they share is known by its number, and the table by its hosts.
+pub record ArePlaced (section offsets slots places : List ℕ) (spans : List Span) (len : ℕ) : Type 0 where
+  pub used : (off : ℕ) → Contains offsets off → slice_index slots off ≢ 0
+  pub numbers : length places ≡ number_of slots (length slots)
+  pub place : (off : ℕ) → Contains offsets off → slice_index places (number_of slots off) ≡ shared_place (map (text_from section) offsets) (text_from section off)
+  pub are_spans : All (IsSpan section) spans
+  pub texts : map (span_text section) spans ≡ hosts (map (text_from section) offsets)
+  pub whole : len ≡ length (shared_table (map (text_from section) offsets))

@@ -1,0 +1,37 @@
+-- Where names stand in their hosts.
+use Rattle.std.specs.Prelude.{◌≡◌, ◌≢◌, ℕ, ◌+◌, ◌<◌, false, List, length, slice_index, slice_index_or}
+use Rattle.btf_types.specs.Reading.{text_from}
+use Rattle.btf_types.specs.SharedNames.{is_suffix, hosts_of, host_in}
+use Rattle.btf_types.specs.CommonTails.{at_rank, AreInTailOrder}
+use Rattle.btf_canon.specs.UsedOffsets.{number_of}
+use Rattle.btf_canon.specs.Longest.{IsWithin}
+use Rattle.btf_canon.specs.declared.shared_strings.tails.Tail.{Tail}
+use Rattle.btf_canon.specs.declared.shared_strings.hosts_by_rank.InHost.{InHost}
+
+-- Of sorted texts, the one of this rank is the host of x, whatever texts they sort, and it doesn't end the next one.
+pub record IsInHost (sorted : List (List ℕ)) (x : List ℕ) (h : InHost) : Type 0 where
+  pub rank : ℕ
+  pub numbered : h.host ≡ rank + 1
+  pub inside : rank < length sorted
+  pub last : rank + 1 < length sorted → is_suffix (at_rank sorted rank) (at_rank sorted (rank + 1)) ≡ false
+  pub host : (ks : List (List ℕ)) → AreInTailOrder ks sorted → host_in (hosts_of ks) x ≡ at_rank sorted rank
+  pub before : h.before + length x ≡ length (at_rank sorted rank)
+
+abbrev pub no_host : InHost
+no_host = record { host = 0; before = 0 }
+
+-- what is found of a used offset
+abbrev pub found_of : List ℕ → List InHost → ℕ → InHost
+found_of slots found off = slice_index_or found (number_of slots off) no_host
+
+-- The used offsets within a text were given their hosts, and the others stayed as they were.
+pub record FindsWithin (section slots : List ℕ) (sorted : List (List ℕ)) (t : Tail) (old new : List InHost) : Type 0 where
+  pub whole : length new ≡ length old
+  pub here : (off : ℕ) → slice_index slots off ≢ 0 → IsWithin off t → IsInHost sorted (text_from section off) (found_of slots new off)
+  pub there : (off : ℕ) → slice_index slots off ≢ 0 → ¬ IsWithin off t → found_of slots new off ≡ found_of slots old off
+
+-- Each used offset has its host, but where its text is empty.
+pub record AreInHosts (section slots : List ℕ) (sorted : List (List ℕ)) (found : List InHost) : Type 0 where
+  pub whole : length found ≡ number_of slots (length slots)
+  pub empty : (off : ℕ) → slice_index slots off ≢ 0 → slice_index section off ≡ 0 → found_of slots found off ≡ no_host
+  pub some : (off : ℕ) → slice_index slots off ≢ 0 → slice_index section off ≢ 0 → IsInHost sorted (text_from section off) (found_of slots found off)

@@ -1,0 +1,15 @@
+pub mod CanonicalBtf
+pub mod BtfLaws
+pub mod Interned
+pub mod NameOffsets
+pub mod KeptFrames
+pub mod BtfWords
+pub mod FirstUses
+pub mod NamesByPlace
+pub mod TailKeys
+pub mod Tails
+pub mod UsedOffsets
+pub mod Ranks
+pub mod Longest
+pub mod InHost
+pub mod HostLayout

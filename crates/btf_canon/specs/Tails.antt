@@ -1,0 +1,24 @@
+-- Texts of a section with keys, and their order.
+use Rattle.std.specs.Prelude.{◌≡◌, ℕ, ◌-◌, min, List, length, take, drop}
+use Rattle.std.specs.Ordering.{nat_cmp, on, then_cmp}
+use Rattle.std.specs.declared.cmp.Ordering.{Ordering}
+use Rattle.btf_types.specs.SharedNames.{tail_cmp}
+use Rattle.btf_canon.specs.TailKeys.{tail_key}
+use Rattle.btf_canon.specs.declared.shared_strings.tails.Tail.{Tail}
+
+-- what stands between the ends of a tail, as far as the section reaches
+abbrev pub end_in : List ℕ → Tail → ℕ
+end_in section t = min t.end (length section)
+
+abbrev pub start_in : List ℕ → Tail → ℕ
+start_in section t = min t.start (end_in section t)
+
+abbrev pub tail_text : List ℕ → Tail → List ℕ
+tail_text section t = take (end_in section t - start_in section t) (drop (start_in section t) section)
+
+-- its key is that of its text
+abbrev pub HasKey : List ℕ → Tail → Type 0
+HasKey section t = t.key ≡ tail_key (tail_text section t)
+
+abbrev pub compared : List ℕ → Tail → Tail → Ordering
+compared section = then_cmp (on (λ t. t.key) nat_cmp) (on (tail_text section) tail_cmp)

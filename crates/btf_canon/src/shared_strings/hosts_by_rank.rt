@@ -1,0 +1,79 @@
+//! The host of each name, by the ranks of the longest texts.
+ghost use Rattle.std.specs.Prelude.{◌≡◌, ◌<◌, ◌^◌, length, map, slice_index_or, IfOk};
+ghost use Rattle.std.specs.List.{All, Any};
+ghost use Rattle.std.specs.List.Sorted.{IsPermutation};
+ghost use Rattle.btf_canon.specs.Ranks.{AreRanked};
+ghost use Rattle.btf_canon.specs.Longest.{IsUsed, AreLongestOf};
+ghost use Rattle.btf_canon.specs.Tails.{tail_text};
+ghost use Rattle.btf_canon.specs.UsedOffsets.{number_of};
+ghost use Rattle.btf_canon.specs.InHost as spec;
+
+use crate::shared_strings::ranked_tails::RankedTails;
+use crate::shared_strings::ranks::first_rank;
+use crate::shared_strings::used_offsets::UsedOffsets;
+use std::alloc::{AllocError, Allocator};
+
+/// Where a name stands in its host.
+#[derive(Clone, Copy)]
+pub(crate) struct InHost {
+    /// Which of the sorted texts is the host, from 1 on, and 0 for the empty name.
+    pub(crate) host: u32,
+    /// How many bytes of the host come before the name.
+    pub(crate) before: u32,
+}
+
+impl InHost {
+    // Nothing is found yet, or the name is empty.
+    const NONE: InHost = InHost { host: 0, before: 0 };
+}
+
+// Finds the hosts of the used offsets within the text of a rank. Their texts get shorter, so the first rank that ends with one is
+// sought from that of the one before.
+fn find_within<A: Allocator>(
+    uses: &UsedOffsets<A>,
+    ranked: &RankedTails<'_, A>,
+    rank: usize,
+    found: &mut [InHost],
+)
+    requires ranked { AreRanked (map (tail_text ranked.now.section.now) ranked.now.tails.items) ranked.now.common.items ranked.now.lower.items ranked.now.hosts.items }
+    requires few { length ranked.now.tails.items < 2 ^ 32 }
+    requires used { All (IsUsed ranked.now.section.now uses.now) ranked.now.tails.items }
+    requires slots { length uses.now ≡ length ranked.now.section.now }
+    requires section { length ranked.now.section.now < 2 ^ 32 }
+    requires inside { rank < length ranked.now.tails.items }
+    requires whole { length found.old ≡ number_of uses.now (length uses.now) }
+    ensures { spec.FindsWithin ranked.now.section.now uses.now (map (tail_text ranked.now.section.now) ranked.now.tails.items) (slice_index_or ranked.now.tails.items rank (record { key = 0; start = 0; end = 0 })) found.old found.new }
+{
+    let end = ranked.tails[rank].end;
+    let mut from = rank;
+    for off in ranked.tails[rank].start..end {
+        if uses.is_used(off as usize) {
+            from = first_rank(&ranked.common, &ranked.lower, from, end - off);
+            let host = ranked.hosts[from];
+            let len = ranked.tails[host as usize].len();
+            found[uses.number(off as usize)] = InHost {
+                host: host + 1,
+                before: len - (end - off),
+            };
+        }
+    }
+}
+
+// The host of each used offset, by its number.
+pub(crate) fn find_hosts<A: Allocator + Copy>(
+    alloc: A,
+    uses: &UsedOffsets<A>,
+    ranked: &RankedTails<'_, A>,
+) -> Result<Vec<InHost, A>, AllocError>
+    requires ranked { AreRanked (map (tail_text ranked.now.section.now) ranked.now.tails.items) ranked.now.common.items ranked.now.lower.items ranked.now.hosts.items }
+    requires longest { AreLongestOf ranked.now.section.now uses.now ranked.now.tails.items }
+    requires slots { length uses.now ≡ length ranked.now.section.now }
+    requires section { length ranked.now.section.now < 2 ^ 32 }
+    ensures { IfOk result (λ found. spec.AreInHosts ranked.now.section.now uses.now (map (tail_text ranked.now.section.now) ranked.now.tails.items) found.items) }
+{
+    let mut found = vec![in alloc; InHost::NONE; uses.count()]?;
+    for rank in 0..ranked.tails.len() {
+        find_within(uses, ranked, rank, &mut found);
+    }
+    Ok(found)
+}
