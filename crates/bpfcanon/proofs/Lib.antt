@@ -1,10 +1,8 @@
 pub mod BtfCanonLemmas
 pub mod BtfSameLemmas
-pub mod BtfTextLemmas
 pub mod CanonLemmas
 pub mod CommandLemmas
 pub mod LineLemmas
 pub mod OptionsLemmas
 pub mod OutcomeLemmas
-pub mod QuotedNameLemmas
 pub mod SameLemmas

@@ -10,7 +10,7 @@ use Rattle.bpfcanon.specs.declared.outcome.Outcome.{Outcome}
 use Rattle.bpfcanon.specs.declared.outcome.Outcome.TheVariants as ends
 use Rattle.bpfcanon.specs.declared.outcome.Outcome.TheVariants.{Done, Different, FirstBtf, SecondBtf, TooLong, SplitBeyond}
 use Rattle.bpfcanon.specs.Outcome.{newline}
-use Rattle.bpfcanon.specs.BtfText.{text_of}
+use Rattle.btf_text.specs.BtfText.{text_of}
 
 -- ---- btf-canon
 

@@ -3,7 +3,6 @@ pub mod Options
 pub mod Line
 pub mod CauseNames
 pub mod Outcome
-pub mod BtfText
 pub mod BtfReply
 pub mod Reply
 pub mod Ends

@@ -5,9 +5,9 @@ ghost use Rattle.bpfcanon.specs.declared.verb.Verb.TheVariants.{BtfShow};
 ghost use Rattle.bpfcanon.specs.BtfReply.{IsBtfShowReply};
 ghost use Rattle.bpfcanon.specs.Reply.{limit_of};
 
-use crate::btf_text::show_btf;
 use crate::outcome::Outcome;
 use crate::reply::Reply;
+use btf_text::show_btf;
 use btf_types::{BtfError, BtfView};
 use std::alloc::{AllocError, Allocator};
 

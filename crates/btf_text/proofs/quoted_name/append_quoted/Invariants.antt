@@ -1,8 +1,8 @@
 use Rattle.std.proofs.Common.{◌≡◌, ◌≤◌, ◌++◌, take, drop}
 use Rattle.std.specs.Prelude.{codes}
 use Rattle.std.specs.List.{flat_map}
-use Rattle.bpfcanon.specs.BtfText.{quoted_byte}
-use Rattle.bpfcanon.proofs.quoted_name.append_quoted.Given as goal
+use Rattle.btf_text.specs.BtfText.{quoted_byte}
+use Rattle.btf_text.proofs.quoted_name.append_quoted.Given as goal
 
 -- once the bytes from start on are appended, the text has those up to here as they stand between quotes
 abbrev pub invariant-loop-at : goal.invariant-loop-at

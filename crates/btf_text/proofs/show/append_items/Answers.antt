@@ -1,9 +1,9 @@
 use Rattle.std.proofs.Common.{ℕ, List, ◌++◌, ap, ◌∙◌}
 use Rattle.btf_types.specs.Values.{item_value}
 use Rattle.btf_types.specs.TableWords.{record_at}
-use Rattle.bpfcanon.specs.BtfText.{item_line}
-use Rattle.bpfcanon.proofs.BtfTextLemmas.{item_shown}
-use Rattle.bpfcanon.proofs.btf_text.append_items.Goals as goal
+use Rattle.btf_text.specs.BtfText.{item_line}
+use Rattle.btf_text.proofs.BtfTextLemmas.{item_shown}
+use Rattle.btf_text.proofs.show.append_items.Goals as goal
 
 pub loop-k-preserved : goal.loop-k-preserved
 loop-k-preserved g c =

@@ -2,7 +2,7 @@
 
 ghost use Rattle.std.specs.Prelude.{◌≡◌, ◌/◌, ◌%◌, ◌∷◌, [], ◌++◌, ◌<◌, true, codes, OnOk};
 ghost use Rattle.std.specs.Char.{digit_char};
-ghost use Rattle.bpfcanon.specs.BtfText as spec;
+ghost use Rattle.btf_text.specs.BtfText as spec;
 
 use std::alloc::{AllocError, Allocator};
 

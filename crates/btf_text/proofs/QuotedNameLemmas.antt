@@ -3,7 +3,7 @@ use Rattle.std.proofs.Common.{◌≡◌, ℕ, suc, ◌+◌, ◌-◌, ◌<◌, �
 use Rattle.std.specs.List.{flat_map}
 use Rattle.std.proofs.lemmas.List.{flat_map_more, drop-append-le, drop-take, drop_all}
 use Rattle.std.proofs.Math.Seq.{take-suc}
-use Rattle.bpfcanon.specs.BtfText.{quoted_byte}
+use Rattle.btf_text.specs.BtfText.{quoted_byte}
 
 -- one byte more, as it stands between quotes
 byte_more : (base bytes : List ℕ) (at : ℕ) → at < length bytes

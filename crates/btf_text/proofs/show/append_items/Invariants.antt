@@ -1,8 +1,8 @@
 use Rattle.std.proofs.Common.{◌≡◌, ◌++◌, take}
 use Rattle.std.specs.List.{flat_map}
 use Rattle.btf_types.specs.TableWords.{record_at}
-use Rattle.bpfcanon.specs.BtfText.{item_line}
-use Rattle.bpfcanon.proofs.btf_text.append_items.Given as goal
+use Rattle.btf_text.specs.BtfText.{item_line}
+use Rattle.btf_text.proofs.show.append_items.Given as goal
 
 abbrev pub invariant-loop-k : goal.invariant-loop-k
 invariant-loop-k g l =

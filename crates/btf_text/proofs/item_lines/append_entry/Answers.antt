@@ -1,6 +1,6 @@
 use Rattle.std.specs.Prelude.{codes, decimal}
-use Rattle.bpfcanon.proofs.BtfTextLemmas.{labelled_joined}
-use Rattle.bpfcanon.proofs.btf_lines.append_entry.Goals as goal
+use Rattle.btf_text.proofs.BtfTextLemmas.{labelled_joined}
+use Rattle.btf_text.proofs.item_lines.append_entry.Goals as goal
 
 pub returns : goal.returns
 returns g c =

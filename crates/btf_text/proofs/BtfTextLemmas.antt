@@ -5,8 +5,8 @@ use Rattle.std.specs.List.{flat_map, enumerate_from}
 use Rattle.std.proofs.lemmas.List.{flat_map_more}
 use Rattle.btf_types.specs.Values.{TypeItem, TypeRecord}
 use Rattle.btf_types.specs.TableWords.{record_at}
-use Rattle.btf_canon.proofs.Gathering.{take_more, records_more}
-use Rattle.bpfcanon.specs.BtfText.{item_line, record_text, text_of}
+use Rattle.btf_types.proofs.TableWalk.{take_more, records_more}
+use Rattle.btf_text.specs.BtfText.{item_line, record_text, text_of}
 
 -- what three calls append, each a label with a number
 pub labelled_joined : {E : Type 0} (r : Result (Unit {0}) E) (old a b c x y z one two three : List ℕ) → one ≡ old ++ (a ++ x) → two ≡ one ++ (b ++ y)

@@ -3,9 +3,10 @@
 ghost use Rattle.std.specs.Prelude.{◌≡◌, ◌<◌, ◌≤◌, ◌++◌, length, IfOk, OnOk};
 ghost use Rattle.std.specs.List.{flat_map};
 ghost use Rattle.btf_types.specs.TableWords.{record_at};
-ghost use Rattle.bpfcanon.specs.BtfText.{is_signed, item_line, record_text, text_of};
+ghost use Rattle.btf_text.specs.BtfText.{is_signed, item_line, record_text, text_of};
 
-use crate::btf_lines::{append_head, append_item, is_signed};
+use crate::head_lines::{append_head, is_signed};
+use crate::item_lines::append_item;
 use btf_types::TypeTable;
 use std::alloc::{AllocError, Allocator};
 

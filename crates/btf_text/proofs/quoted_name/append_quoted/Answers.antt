@@ -1,7 +1,7 @@
 use Rattle.std.proofs.Common.{◌++◌, [], ◌∷◌, arith, refl}
-use Rattle.bpfcanon.proofs.QuotedNameLemmas.{run_ended, run_longer}
-use Rattle.bpfcanon.proofs.quoted_name.append_quoted.Goals as goal
-use Rattle.bpfcanon.proofs.quoted_name.append_quoted.Goals.{then-not-is_plain+in_ok-extend_from_slice-2+in_ok-append_byte, else-not-is_plain}
+use Rattle.btf_text.proofs.QuotedNameLemmas.{run_ended, run_longer}
+use Rattle.btf_text.proofs.quoted_name.append_quoted.Goals as goal
+use Rattle.btf_text.proofs.quoted_name.append_quoted.Goals.{then-not-is_plain+in_ok-extend_from_slice-2+in_ok-append_byte, else-not-is_plain}
 
 pub loop-at-preserved : goal.loop-at-preserved
 loop-at-preserved g c =

@@ -1,8 +1,8 @@
 use Rattle.std.proofs.Common.{ℕ, List, ◌<◌, ◌+◌, ◌++◌, length, ap, ◌∙◌, arith}
 use Rattle.btf_types.specs.TableWords.{record_at}
-use Rattle.bpfcanon.specs.BtfText.{record_text}
-use Rattle.bpfcanon.proofs.BtfTextLemmas.{type_shown}
-use Rattle.bpfcanon.proofs.btf_text.show_btf.Goals as goal
+use Rattle.btf_text.specs.BtfText.{record_text}
+use Rattle.btf_text.proofs.BtfTextLemmas.{type_shown}
+use Rattle.btf_text.proofs.show.show_btf.Goals as goal
 
 pub loop-index-preserved : goal.loop-index-preserved
 loop-index-preserved g c =

@@ -1,0 +1,2 @@
+pub mod BtfTextLemmas
+pub mod QuotedNameLemmas

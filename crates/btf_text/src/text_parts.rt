@@ -1,0 +1,39 @@
+//! The parts that lines are put together from: words, numbers and names.
+
+ghost use Rattle.std.specs.Prelude.{◌≡◌, ◌++◌, decimal, OnOk};
+ghost use Rattle.btf_text.specs.BtfText as spec;
+
+use crate::quoted_name::append_quoted;
+use itoa::Buffer;
+use std::alloc::{AllocError, Allocator};
+
+/// Appends a text.
+pub(crate) fn append<A: Allocator>(text: &mut Vec<u8, A>, more: &str) -> Result<(), AllocError>
+    ensures { OnOk result (text.new.items ≡ text.old.items ++ more.now) }
+{
+    text.extend_from_slice(more.as_bytes())
+}
+
+/// Appends a label and a number.
+pub(crate) fn append_number<A: Allocator>(
+    text: &mut Vec<u8, A>,
+    label: &str,
+    number: u32,
+) -> Result<(), AllocError>
+    ensures { OnOk result (text.new.items ≡ text.old.items ++ (label.now ++ decimal number)) }
+{
+    append(text, label)?;
+    append(text, Buffer::new().format(number))
+}
+
+/// Appends a label and a name in quotes.
+pub(crate) fn append_name<A: Allocator>(
+    text: &mut Vec<u8, A>,
+    label: &str,
+    name: &str,
+) -> Result<(), AllocError>
+    ensures { OnOk result (text.new.items ≡ text.old.items ++ (label.now ++ spec.quoted name.now)) }
+{
+    append(text, label)?;
+    append_quoted(text, name)
+}
