@@ -3,11 +3,11 @@ ghost use Rattle.std.specs.Prelude.{◌≡◌, ◌<◌, ◌+◌, IfOk, IfErr, On
 ghost use Rattle.bpf_canon.specs.Run.{devices, counts_read, counts_write};
 ghost use Rattle.bpf_canon.specs.RunBtf.{RanBtf, StopsBtf};
 
-use btf_canon::canonical_in;
 use crate::run::{RunCause, RunError, put_whole};
 use crate::sink::ByteSink;
 use crate::source::{ByteSource, ReadError, read_all};
 use bpf_words::Order;
+use btf_canon::canonical_in;
 use btf_raw::BtfFault;
 use btf_types::BtfError;
 use std::alloc::Allocator;

@@ -2,9 +2,9 @@
 ghost use Rattle.std.specs.Prelude.{IfOk, IfErr};
 ghost use Rattle.bpf_canon.specs.SameBtf.{ComparesBtf, NamesBtfSide};
 
-use btf_canon::canonical_in;
 use crate::same::SideError;
 use bpf_words::Order;
+use btf_canon::canonical_in;
 use btf_raw::BtfFault;
 use btf_types::BtfError;
 use std::alloc::Allocator;

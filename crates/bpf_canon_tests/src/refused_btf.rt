@@ -1,7 +1,7 @@
 //! Each growth of the calls on BTF is refused in turn. The files have 26 types with 28 names, more than are sorted in place.
-use crate::compiled_types::{FLOW_TABLE_BIG, FLOW_TABLE_LITTLE};
 use crate::arena::{ENOUGH, ROOM, Tally, leave};
 use crate::btf::{BIG_INT, LOOSE_INT};
+use crate::compiled_types::{FLOW_TABLE_BIG, FLOW_TABLE_LITTLE};
 use crate::own_table::Counting;
 use bpf_canon::{
     MemSink, MemSource, RunCause, SideError, canon_btf, read_all, run_btf, same_btf, write_btf,
