@@ -83,6 +83,19 @@ bpfcanon_answer bpfcanon_insn_read_new(uint32_t to, const uint8_t *text, size_t 
 	return write_new(bpfcanon_insn_read, to, text, len, len, out);
 }
 
+/* bpfcanon_btf_show as a call of the shape above: BTF has its own order. */
+static bpfcanon_answer btf_show(uint32_t order, const uint8_t *bytes, size_t len, uint8_t *out, size_t room)
+{
+	(void)order;
+	return bpfcanon_btf_show(bytes, len, out, room);
+}
+
+bpfcanon_answer bpfcanon_btf_show_new(const uint8_t *bytes, size_t len, uint8_t **out)
+{
+	/* the text of a kernel's types takes about twice as much as the types */
+	return write_new(btf_show, BPFCANON_LITTLE, bytes, len, 2 * len, out);
+}
+
 void bpfcanon_free(uint8_t *block)
 {
 	free(block);

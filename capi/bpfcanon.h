@@ -87,6 +87,12 @@ bpfcanon_answer bpfcanon_insn_same(uint32_t first_order, const uint8_t *first, s
 bpfcanon_answer bpfcanon_insn_show(uint32_t order, const uint8_t *bytes, size_t len, uint8_t *out, size_t room);
 bpfcanon_answer bpfcanon_insn_read(uint32_t to, const uint8_t *text, size_t len, uint8_t *out, size_t room);
 
+/*
+ * Writes the text of the types of BTF: a line for each type and for each of its items, with a newline, and no NUL at the end. `len`
+ * and `out` are as with bpfcanon_insn_show.
+ */
+bpfcanon_answer bpfcanon_btf_show(const uint8_t *bytes, size_t len, uint8_t *out, size_t room);
+
 /* What bpfcanon_insn_front returns. `pos` counts from the first byte that this call was given. */
 typedef struct bpfcanon_front {
 	uint32_t status; /* BPFCANON_DONE, BPFCANON_FAULT, BPFCANON_MEMORY, BPFCANON_ROOM or BPFCANON_ORDER */
@@ -110,6 +116,7 @@ bpfcanon_answer bpfcanon_btf_canon_new(uint32_t to, const uint8_t *bytes, size_t
 bpfcanon_answer bpfcanon_insn_canon_new(uint32_t order, uint32_t to, const uint8_t *bytes, size_t len, uint8_t **out);
 bpfcanon_answer bpfcanon_insn_show_new(uint32_t order, const uint8_t *bytes, size_t len, uint8_t **out);
 bpfcanon_answer bpfcanon_insn_read_new(uint32_t to, const uint8_t *text, size_t len, uint8_t **out);
+bpfcanon_answer bpfcanon_btf_show_new(const uint8_t *bytes, size_t len, uint8_t **out);
 void bpfcanon_free(uint8_t *block);
 
 /* --- Names (capi/bpfcanon.c) --- */

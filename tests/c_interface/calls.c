@@ -177,6 +177,27 @@ static void listings_are_read(void)
 	CHECK(is(bpfcanon_insn_read_new(BPFCANON_LITTLE, BYTES("Exit"), &block), BPFCANON_FAULT, 1, 1, 0) && !block);
 }
 
+static void types_are_shown(void)
+{
+	/* an ENUM64 with one value, in a big-endian file of 53 bytes */
+	static const char enum64[] = "\xeb\x9f\x01\0\0\0\0\x18\0\0\0\0\0\0\0\x18\0\0\0\x18\0\0\0\x05"
+		"\0\0\0\x01\x93\0\0\x01\0\0\0\x08\0\0\0\x03\xff\xff\xff\xfe\xff\xff\xff\xff\0e\0m\0";
+	static const char text[] = "[1] enum64 \"e\" signed size=8 items=1\n  value \"m\" -2\n";
+	uint8_t out[256], *block;
+
+	memset(out, 0xaa, sizeof out);
+	CHECK(is(bpfcanon_btf_show(BYTES(enum64), out, sizeof out), BPFCANON_DONE, 0, 0, sizeof text - 1));
+	CHECK(!memcmp(out, text, sizeof text - 1) && is_filled(out + sizeof text - 1, out + sizeof out));
+	memset(out, 0xaa, sizeof out);
+	CHECK(is(bpfcanon_btf_show(BYTES(enum64), out, sizeof text - 2), BPFCANON_ROOM, 0, 0, sizeof text - 1));
+	CHECK(is(bpfcanon_btf_show((const uint8_t *)enum64, 23, out, sizeof out), BPFCANON_FAULT, 1, 23, 0));
+	CHECK(is_filled(out, out + sizeof out));
+	CHECK(is(bpfcanon_btf_show_new(BYTES(enum64), &block), BPFCANON_DONE, 0, 0, sizeof text - 1) && !memcmp(block, text, sizeof text - 1));
+	bpfcanon_free(block);
+	CHECK(is(bpfcanon_btf_show_new((const uint8_t *)enum64, 23, &block), BPFCANON_FAULT, 1, 23, 0) && !block);
+	CHECK(is(bpfcanon_btf_show_new(NULL, 0, &block), BPFCANON_FAULT, 1, 0, 0) && !block);
+}
+
 /* A listing of a compiled program, read, is the program. */
 static void compiled_programs_come_back(const char *folder)
 {
@@ -278,6 +299,7 @@ int main(int argc, char **argv)
 	groups_are_a_mask();
 	instructions_are_listed();
 	listings_are_read();
+	types_are_shown();
 	compiled_programs_come_back(argv[1]);
 	streams_may_be_cut_anywhere(argv[1]);
 	compiled_files_have_one_form(argv[1]);

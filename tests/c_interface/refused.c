@@ -62,6 +62,8 @@ static bpfcanon_answer insn_read(void)
 	return bpfcanon_insn_read(BPFCANON_LITTLE, (const uint8_t *)"exit\nexit\nexit\nexit\nexit\nexit\n", 30, out, sizeof out);
 }
 
+static bpfcanon_answer btf_show(void) { return bpfcanon_btf_show(input, len, out, sizeof out); }
+
 static bpfcanon_answer insn_groups(void) { return bpfcanon_insn_groups(BPFCANON_LITTLE, before, 80); }
 
 static const struct {
@@ -72,7 +74,7 @@ static const struct {
 	{ "btf_canon", btf_canon, BPFCANON_DONE },     { "btf_check", btf_check, BPFCANON_DONE },
 	{ "btf_same", btf_same, BPFCANON_DONE },       { "insn_canon", insn_canon, BPFCANON_DONE },
 	{ "insn_groups", insn_groups, BPFCANON_DONE }, { "insn_show", insn_show, BPFCANON_DONE },
-	{ "insn_read", insn_read, BPFCANON_DONE },
+	{ "insn_read", insn_read, BPFCANON_DONE },     { "btf_show", btf_show, BPFCANON_DONE },
 };
 
 static int is_memory(bpfcanon_answer answer)

@@ -23,6 +23,8 @@ def load(path):
     library.bpfcanon_insn_same.argtypes = [ctypes.c_uint32, *bytes_and_length] * 2
     library.bpfcanon_insn_show.restype = Answer
     library.bpfcanon_insn_show.argtypes = [ctypes.c_uint32, *bytes_and_length, *bytes_and_length]
+    library.bpfcanon_btf_show.restype = Answer
+    library.bpfcanon_btf_show.argtypes = [*bytes_and_length, *bytes_and_length]
     return library
 
 
@@ -40,6 +42,14 @@ def shown(library, file):
     return (needed.status, answer.status), room.raw[: answer.len]
 
 
+def types_shown(library, file):
+    """The text of a file's types, in as much room as the first answer asks for."""
+    needed = library.bpfcanon_btf_show(file, len(file), b"", 0)
+    room = ctypes.create_string_buffer(max(needed.len, 1))
+    answer = library.bpfcanon_btf_show(file, len(file), room, needed.len)
+    return (needed.status, answer.status), room.raw[: answer.len]
+
+
 def main():
     library, testdata = load(sys.argv[1]), pathlib.Path(sys.argv[2])
     little = (testdata / "flow_table.little.btf").read_bytes()
@@ -52,6 +62,8 @@ def main():
         library.bpfcanon_insn_same(1, mov_big, 8, 0, mov, 8).status == 0,
         library.bpfcanon_insn_same(0, mov_big, 8, 0, mov, 8).status == 1,
         shown(library, mov) == ((5, 0), b"mov r1, r2\n"),
+        types_shown(library, little)[0] == (5, 0),
+        types_shown(library, little) == types_shown(library, big),
     ]
     print(f"C interface from Python: {len(checks)} checks, {checks.count(False)} failed")
     sys.exit(not all(checks))

@@ -3,3 +3,4 @@ pub mod Endings
 pub mod Fronts
 pub mod GroupMasks
 pub mod Listings
+pub mod TypesText

@@ -9,6 +9,7 @@ mod btf;
 mod front;
 mod insn;
 mod listing;
+mod types_text;
 
 pub use answer::{Answer, Ending, FaultCode};
 pub use front::{FrontAnswer, FrontEnding};

@@ -1,0 +1,30 @@
+//! The call on the text of BTF types.
+ghost use Rattle.bpfcanon_c.specs.TypesText.{EndsBtfShow, AnswersBtfShow};
+
+use crate::answer::{Answer, Ending, btf_code, put, report};
+use btf_text::show_btf;
+use btf_types::{BtfError, BtfView};
+use std::alloc::Global;
+
+/// Writes the text of the types of a BTF file at the front of `out`: a line for each type, and behind it a line for each of its
+/// items. The text may be longer than the file.
+#[unsafe(no_mangle)]
+pub extern "C" fn bpfcanon_btf_show(alloc: Global, bytes: &[u8], out: &mut [u8]) -> Answer
+    ensures { AnswersBtfShow bytes.now out.old out.new result }
+{
+    report(shown_into(alloc, bytes, out))
+}
+
+/// The text of the types of a file.
+fn shown_into(alloc: Global, bytes: &[u8], out: &mut [u8]) -> Ending
+    ensures { EndsBtfShow bytes.now out.old out.new result }
+{
+    match BtfView::parse(alloc, bytes) {
+        Ok(table) => match show_btf(alloc, &table) {
+            Ok(text) => put(&text, out),
+            Err(_) => Ending::Memory,
+        },
+        Err(BtfError::Fault(fault)) => Ending::First(btf_code(fault)),
+        Err(BtfError::Memory) => Ending::Memory,
+    }
+}
