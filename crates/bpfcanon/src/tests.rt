@@ -4,7 +4,6 @@ mod arena;
 mod btf;
 mod btf_faults;
 mod btf_files;
-mod btf_texts;
 mod devices;
 mod examples;
 mod lines;

@@ -1,4 +1,4 @@
-//! Tests of bpf_canon as another crate calls it: worked examples, devices that fail, and memory that is refused.
+//! Tests of the libraries as another crate calls them: worked examples, devices that fail, and memory that is refused.
 #![tactic(auto)]
 
 #[cfg(test)]
@@ -8,11 +8,15 @@ mod btf;
 #[cfg(test)]
 mod btf_run;
 #[cfg(test)]
+mod btf_texts;
+#[cfg(test)]
 mod compiled_programs;
 #[cfg(test)]
 mod compiled_types;
 #[cfg(test)]
 mod devices;
+#[cfg(test)]
+mod example_results;
 #[cfg(test)]
 mod faulty_files;
 #[cfg(test)]
@@ -21,6 +25,8 @@ mod feed;
 mod files;
 #[cfg(test)]
 mod largest;
+#[cfg(test)]
+mod library_example;
 #[cfg(test)]
 mod limit;
 #[cfg(test)]

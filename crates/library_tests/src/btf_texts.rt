@@ -1,9 +1,10 @@
 //! Texts of BTF types, through both tables.
 
-use super::arena::{MOST_ROOM, arena};
-use crate::btf_text::show_btf;
+use crate::arena::{ROOM, leave};
 use bpf_words::{Order, push16, push32};
+use btf_text::show_btf;
 use btf_types::{Btf, BtfView};
+use bumpalo::Bump;
 use std::alloc::{AllocError, Global};
 use std::test::Fail;
 
@@ -277,8 +278,9 @@ fn each_growth_of_the_text_is_refused(rt: HostRuntime) -> Result<(), Fail> {
         Ok(table) => table,
         Err(_) => return Err("not accepted")?,
     };
-    for room in 0..MOST_ROOM {
-        let bump = arena(rt.alloc(), room)?;
+    for room in 0..ROOM {
+        let bump = Bump::try_with_capacity(rt.alloc(), ROOM)?;
+        leave(&rt, &bump, room);
         if let Ok(text) = show_btf(&bump, &table) {
             assert_eq!(rt; text.as_slice(), expected.as_slice(), "with {room} bytes");
             // The whole text has to be kept, so fewer bytes are too few.

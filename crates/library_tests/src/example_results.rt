@@ -1,0 +1,37 @@
+//! What the example of the library returns.
+
+use crate::library_example::{canonical_for_big_endian, canonical_stream, member_names};
+use std::test::Fail;
+
+#[test]
+fn the_library_by_an_example(rt: HostRuntime) -> Result<(), Fail> {
+    // struct point { int x; int y; }, in a big-endian file
+    let file = b"\xeb\x9f\x01\0\0\0\0\x18\0\0\0\0\0\0\0\x34\0\0\0\x34\0\0\0\x0f\
+        \0\0\0\x01\x01\0\0\0\0\0\0\x04\x01\0\0\x20\
+        \0\0\0\x05\x04\0\0\x02\0\0\0\x08\
+        \0\0\0\x0b\0\0\0\x01\0\0\0\0\0\0\0\x0d\0\0\0\x01\0\0\0\x20\
+        \0int\0point\0x\0y\0";
+    assert_eq!(rt;
+        member_names(rt.alloc(), file)?.as_slice(),
+        b"x\ny\n".as_slice()
+    );
+
+    // "int" ends "point", so it needs no string of its own
+    assert_eq!(rt;
+        canonical_for_big_endian(rt.alloc(), file)?.as_slice(),
+        b"\xeb\x9f\x01\0\0\0\0\x18\0\0\0\0\0\0\0\x34\0\0\0\x34\0\0\0\x0b\
+            \0\0\0\x03\x01\0\0\0\0\0\0\x04\x01\0\0\x20\
+            \0\0\0\x01\x04\0\0\x02\0\0\0\x08\
+            \0\0\0\x07\0\0\0\x01\0\0\0\0\0\0\0\x09\0\0\0\x01\0\0\0\x20\
+            \0point\0x\0y\0"
+            .as_slice()
+    );
+
+    // mov r1, r2 and exit, cut inside an instruction
+    let pieces: [&[u8]; 2] = [b"\xbf\x12\0\0\0", b"\0\0\0\x95\0\0\0\0\0\0\0"];
+    assert_eq!(rt;
+        canonical_stream(rt.alloc(), &pieces)?.as_slice(),
+        b"\xbf\x21\0\0\0\0\0\0\x95\0\0\0\0\0\0\0".as_slice()
+    );
+    Ok(())
+}
