@@ -1,7 +1,2 @@
-pub mod FrontLaws
-pub mod ReadingLemmas
-pub mod FeedLemmas
-pub mod Recoding
-pub mod RunLemmas
-pub mod CanonLemmas
-pub mod ComparedFiles
+pub mod insn
+pub mod btf

@@ -1,5 +1,10 @@
 //! What a source and a sink have in common.
 
+pub(crate) mod memory;
+pub(crate) mod sink;
+pub(crate) mod source;
+pub(crate) mod standard;
+
 /// A device's call failed. It says nothing of why.
 #[derive(Clone, Copy, Debug, PartialEq, Eq)]
 pub struct DeviceFailed;

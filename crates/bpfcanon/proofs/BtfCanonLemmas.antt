@@ -3,7 +3,7 @@ use Rattle.std.proofs.Common.{◌≡◌, ◌+◌, ℕ, [], refl, inl, inr}
 use Rattle.std.proofs.KnownBytes.{Appends-nil}
 use Rattle.btf_raw.specs.declared.cause.BtfFault.{BtfFault}
 use Rattle.btf_canon.specs.CanonicalBtf.{canonical}
-use Rattle.bpf_canon.specs.RunBtf.{RanBtf, StopsAtBtfFault, StopsBtfRefused, StopsBtfTooLong, StopsBtfUnread, StopsBtfUnwritten}
+use Rattle.bpf_canon.specs.btf.RunBtf.{RanBtf, StopsAtBtfFault, StopsBtfRefused, StopsBtfTooLong, StopsBtfUnread, StopsBtfUnwritten}
 use Rattle.bpfcanon.specs.declared.command_line.Job.{Job}
 use Rattle.bpfcanon.specs.declared.outcome.Outcome.TheVariants as ends
 use Rattle.bpfcanon.specs.declared.outcome.Outcome.TheVariants.{Done, TooLong, ReadFailed, WriteFailed, Memory}

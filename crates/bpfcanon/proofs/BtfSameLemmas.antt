@@ -1,8 +1,8 @@
 -- What btf-same answers, by what the comparison of two files found.
 use Rattle.std.proofs.Common.{◌≡◌, ◌≤◌, ◌-◌, ◌++◌, ℕ, true, false, List, [], drop, length, take, refl, codes}
 use Rattle.btf_raw.specs.declared.cause.BtfFault.{BtfFault}
-use Rattle.bpf_canon.specs.SameBtf.{ComparesBtf, NamesBtfSide}
-use Rattle.bpf_canon.specs.declared.same.SideError.TheVariants as side
+use Rattle.bpf_canon.specs.btf.SameBtf.{ComparesBtf, NamesBtfSide}
+use Rattle.bpf_canon.specs.declared.insn.same.SideError.TheVariants as side
 use Rattle.bpfcanon.specs.declared.outcome.Outcome.TheVariants.{Done, Different, SecondBtf}
 use Rattle.bpfcanon.specs.Outcome.{newline}
 use Rattle.bpfcanon.specs.BtfReply.{IsBtfSameReply, different, same, second_at_fault}

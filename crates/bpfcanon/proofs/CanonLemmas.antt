@@ -8,9 +8,9 @@ use Rattle.bpf_insn.specs.declared.fault.SlotFault.{SlotFault}
 use Rattle.bpf_insn.specs.Spelling.{file_of}
 use Rattle.bpf_insn.specs.Faults.{IsFront}
 use Rattle.bpf_insn.proofs.FrontLemmas.{one_front}
-use Rattle.bpf_canon.specs.Run.{Devices, RanWhole, StopsAtFault, StopsTooLong, StopsUnread, StopsUnwritten, Wrote, WroteAll, limit}
-use Rattle.bpf_canon.specs.Stands.{IsSound}
-use Rattle.bpf_canon.proofs.FrontLaws.{file_front, truncated_or_not}
+use Rattle.bpf_canon.specs.insn.Run.{Devices, RanWhole, StopsAtFault, StopsTooLong, StopsUnread, StopsUnwritten, Wrote, WroteAll, limit}
+use Rattle.bpf_canon.specs.insn.Stands.{IsSound}
+use Rattle.bpf_canon.proofs.insn.FrontLaws.{file_front, truncated_or_not}
 use Rattle.bpfcanon.specs.declared.command_line.Job.{Job}
 use Rattle.bpfcanon.specs.declared.outcome.Outcome.{Outcome}
 use Rattle.bpfcanon.specs.declared.outcome.Outcome.TheVariants.{Done, Fault, TooLong, ReadFailed, WriteFailed, Memory}

@@ -9,7 +9,7 @@ use Rattle.std.proofs.lemmas.List.{take-append-drop, take-append-le}
 use Rattle.std.proofs.lemmas.List.Concat.{flat_map-append}
 use Rattle.std.proofs.Math.Seq.{take-append-add, take-length}
 use Rattle.std.proofs.KnownBytes.{Appends-trans, Appends-nil}
-use Rattle.bpf_canon.specs.Device.{CountsFailure}
+use Rattle.bpf_canon.specs.device.Device.{CountsFailure}
 use Rattle.bpfcanon.specs.Outcome.{Tells}
 
 -- nothing to tell

@@ -10,8 +10,8 @@ use Rattle.bpf_insn.specs.declared.group.Group.TheVariants.{Base32, Base64, Atom
 use Rattle.bpf_insn.specs.Spelling.{InsnFile, file_of}
 use Rattle.bpf_insn.specs.Faults.{IsFront, IsInsnFault}
 use Rattle.bpf_insn.specs.Groups.{InGroups}
-use Rattle.bpf_canon.specs.Run as engine
-use Rattle.bpf_canon.specs.RunBtf.{btf_limit}
+use Rattle.bpf_canon.specs.insn.Run as engine
+use Rattle.bpf_canon.specs.btf.RunBtf.{btf_limit}
 use Rattle.bpf_text.specs.declared.fault.LineFault.{LineFault}
 use Rattle.bpf_text.specs.Lines.{listing_of}
 use Rattle.bpf_text.specs.Listing.{Lists, IsListFault}

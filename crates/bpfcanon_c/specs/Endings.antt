@@ -5,9 +5,9 @@ use Rattle.bpf_insn.specs.declared.fault.SlotFault.{SlotFault}
 use Rattle.bpf_insn.specs.declared.insn.Insn.{Insn}
 use Rattle.bpf_insn.specs.Spelling.{InsnFile, file_of}
 use Rattle.bpf_insn.specs.Faults.{IsInsnFault}
-use Rattle.bpf_canon.specs.Canonical.{Compares}
+use Rattle.bpf_canon.specs.insn.Canonical.{Compares}
 use Rattle.btf_canon.specs.CanonicalBtf.{canonical}
-use Rattle.bpf_canon.specs.SameBtf.{ComparesBtf}
+use Rattle.bpf_canon.specs.btf.SameBtf.{ComparesBtf}
 use Rattle.btf_raw.specs.declared.cause.BtfFault.{BtfFault}
 use Rattle.btf_types.specs.Values.{TypeRecord}
 use Rattle.btf_types.specs.Denotes.{Denotes}

@@ -12,16 +12,16 @@ use Rattle.btf_raw.proofs.Frames.{length-bytes_of}
 use Rattle.btf_raw.proofs.Cuts.{length-header}
 use Rattle.btf_types.specs.Values.{TypeRecord}
 use Rattle.btf_types.specs.Names.{names, with_nul, table_of}
-use Rattle.btf_types.specs.SharedNames.{hosts}
-use Rattle.btf_types.specs.StringTable.{string_table}
+use Rattle.btf_types.specs.strings.SharedNames.{hosts}
+use Rattle.btf_types.specs.strings.StringTable.{string_table}
 use Rattle.btf_types.specs.Spelling.{head_tail, Spells}
-use Rattle.btf_types.specs.Checks.{TypeFacts}
+use Rattle.btf_types.specs.judge.Checks.{TypeFacts}
 use Rattle.btf_types.specs.Good.{IsGoodRecord, IsGood, record_size, facts}
 use Rattle.btf_types.specs.Denotes.{Denotes}
 use Rattle.btf_types.proofs.Spelled.{fixed_is, items_size}
-use Rattle.btf_types.proofs.TableSteps.{concat-map, spelled_bytes}
+use Rattle.btf_types.proofs.tables.TableSteps.{concat-map, spelled_bytes}
 use Rattle.btf_types.proofs.Denoting.{frames_of, denotes_unique}
-use Rattle.btf_types.proofs.SpelledNames.{spelled_table_fits}
+use Rattle.btf_types.proofs.strings.SpelledNames.{spelled_table_fits}
 use Rattle.btf_canon.specs.CanonicalBtf.{canonical, canonical_frames, canonical_types}
 use Rattle.btf_canon.specs.BtfLaws.{CanonicalBtfIsAccepted, CanonicalBtfTellsApart, CanonicalBtfIsShortest}
 use Rattle.btf_canon.proofs.CanonicalSpells.{frames_spell}

@@ -3,14 +3,14 @@ use Rattle.std.proofs.Common.{◌≡◌, ◌≢◌, ℕ, zero, suc, ◌<◌, tru
 use Rattle.std.specs.List.{All, Contains}
 use Rattle.std.proofs.lemmas.List.{get_or-map, length-map, get_or_default}
 use Rattle.std.proofs.Math.Seq.{drop-cons}
-use Rattle.btf_types.specs.SharedNames.{is_suffix}
+use Rattle.btf_types.specs.strings.SharedNames.{is_suffix}
 use Rattle.btf_types.specs.Reading.{before_nul, text_from}
-use Rattle.btf_types.specs.LongestTexts.{AreLongest}
+use Rattle.btf_types.specs.strings.LongestTexts.{AreLongest}
 use Rattle.btf_canon.specs.Tails.{tail_text}
 use Rattle.btf_canon.specs.Longest.{IsUsed, AreLongestOf}
 use Rattle.btf_canon.specs.FirstUses.{AreMarked}
 use Rattle.btf_canon.specs.declared.shared_strings.tails.Tail.{Tail}
-use Rattle.btf_types.proofs.Suffixes.{suffix_from_Ends}
+use Rattle.btf_types.proofs.strings.Suffixes.{suffix_from_Ends}
 use Rattle.btf_canon.proofs.LongestSteps.{used_text, within_ends}
 
 abbrev none : Tail

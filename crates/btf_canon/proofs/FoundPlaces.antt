@@ -9,12 +9,12 @@ use Rattle.std.proofs.lemmas.List.Elements.{All-map}
 use Rattle.std.proofs.lemmas.List.Sorted.{IsPermutation-map, All-permutation, Contains-permutation, length_permutation}
 use Rattle.btf_types.specs.Names.{kept, with_nul, table_of, place_in}
 use Rattle.btf_types.specs.Reading.{text_from}
-use Rattle.btf_types.specs.SharedNames.{tail_cmp, hosts, hosts_of, host_in, shared_among, shared_table, shared_place}
-use Rattle.btf_types.specs.LongestTexts.{AreLongest}
-use Rattle.btf_types.specs.CommonTails.{at_rank, AreInTailOrder}
+use Rattle.btf_types.specs.strings.SharedNames.{tail_cmp, hosts, hosts_of, host_in, shared_among, shared_table, shared_place}
+use Rattle.btf_types.specs.strings.LongestTexts.{AreLongest}
+use Rattle.btf_types.specs.strings.CommonTails.{at_rank, AreInTailOrder}
 use Rattle.btf_types.proofs.Members.{Has, Has-from_Contains, Contains-from_Has}
-use Rattle.btf_types.proofs.Texts.{table_split}
-use Rattle.btf_types.proofs.Longest.{longest_tell_host}
+use Rattle.btf_types.proofs.strings.Texts.{table_split}
+use Rattle.btf_types.proofs.strings.Longest.{longest_tell_host}
 use Rattle.btf_canon.specs.FirstUses.{AreMarked}
 use Rattle.btf_canon.specs.UsedOffsets.{number_of, AreSameUses}
 use Rattle.btf_canon.specs.Longest.{IsUsed, IsWithin, AreLongestOf}

@@ -3,11 +3,11 @@ use Rattle.std.proofs.Common.{◌≡◌, true, not, inl, inr, List, ℕ, ◌≤�
 use Rattle.std.specs.List.{filter, list_any}
 use Rattle.std.proofs.lemmas.Bool.{cases_Bool}
 use Rattle.btf_types.specs.Names.{distinct, is_some_text, kept, table_of}
-use Rattle.btf_types.specs.SharedNames.{is_proper_suffix, hosts_of, hosts}
+use Rattle.btf_types.specs.strings.SharedNames.{is_proper_suffix, hosts_of, hosts}
 use Rattle.btf_types.proofs.Members.{Has, Has-from_filter, Has_from_any}
-use Rattle.btf_types.proofs.Hosts.{host_tells, host_member}
-use Rattle.btf_types.proofs.Distinct.{NoRepeats-filter, NoRepeats-kept}
-use Rattle.btf_types.proofs.TableLaws.{shared_is_shortest}
+use Rattle.btf_types.proofs.strings.Hosts.{host_tells, host_member}
+use Rattle.btf_types.proofs.strings.Distinct.{NoRepeats-filter, NoRepeats-kept}
+use Rattle.btf_types.proofs.strings.TableLaws.{shared_is_shortest}
 use Rattle.btf_canon.specs.BtfLaws.{HostsFitSections}
 use Rattle.btf_canon.proofs.HostSteps.{filter_all, distinct_same, keeps}
 

@@ -4,10 +4,10 @@ use Rattle.std.specs.List.{All}
 use Rattle.std.proofs.lemmas.Bool.{cases_eq, cases_lt}
 use Rattle.std.proofs.lemmas.List.{get_or-map, length-map, length-set, get_or-set_same, get_or-set_other, get_or_default, get_or_read, get_or-replicate, length-replicate}
 use Rattle.btf_types.specs.Reading.{text_from}
-use Rattle.btf_types.specs.SharedNames.{is_suffix}
-use Rattle.btf_types.specs.CommonTails.{at_rank, IsFirstRank, IsNextHost}
-use Rattle.btf_types.proofs.Suffixes.{Ends, Ends-refl, Ends-trans, Ends-length, Ends-from_suffix, suffix_from_Ends}
-use Rattle.btf_types.proofs.CommonTails.{first_ends, rank_tells_host}
+use Rattle.btf_types.specs.strings.SharedNames.{is_suffix}
+use Rattle.btf_types.specs.strings.CommonTails.{at_rank, IsFirstRank, IsNextHost}
+use Rattle.btf_types.proofs.strings.Suffixes.{Ends, Ends-refl, Ends-trans, Ends-length, Ends-from_suffix, suffix_from_Ends}
+use Rattle.btf_types.proofs.strings.CommonTails.{first_ends, rank_tells_host}
 use Rattle.btf_canon.specs.Tails.{tail_text}
 use Rattle.btf_canon.specs.Longest.{IsUsed, IsWithin, AreLongestOf}
 use Rattle.btf_canon.specs.Ranks.{AreRanked}

@@ -7,13 +7,13 @@ use Rattle.std.proofs.lemmas.List.{append-nil, map-append, length-set, get_or-se
 use Rattle.std.proofs.lemmas.List.Elements.{filter-append, All-append, All-cons, All-nil}
 use Rattle.btf_types.specs.Names.{kept, table_of, place_in}
 use Rattle.btf_types.specs.Reading.{text_from}
-use Rattle.btf_types.specs.SharedNames.{is_suffix, is_proper_suffix, tail_cmp, hosts, host, shared_table}
-use Rattle.btf_types.specs.CommonTails.{at_rank}
+use Rattle.btf_types.specs.strings.SharedNames.{is_suffix, is_proper_suffix, tail_cmp, hosts, host, shared_table}
+use Rattle.btf_types.specs.strings.CommonTails.{at_rank}
 use Rattle.btf_types.proofs.Members.{Has, Has-filter, Has-from_filter, Has-from_Contains}
-use Rattle.btf_types.proofs.Suffixes.{Ends, Ends-refl, Ends-same_length, suffix_from_Ends}
-use Rattle.btf_types.proofs.Hosts.{host_is, own_host_of, host_differs}
-use Rattle.btf_types.proofs.CommonTails.{ranks_are_together}
-use Rattle.btf_types.proofs.Longest.{Has-kept_some}
+use Rattle.btf_types.proofs.strings.Suffixes.{Ends, Ends-refl, Ends-same_length, suffix_from_Ends}
+use Rattle.btf_types.proofs.strings.Hosts.{host_is, own_host_of, host_differs}
+use Rattle.btf_types.proofs.strings.CommonTails.{ranks_are_together}
+use Rattle.btf_types.proofs.strings.Longest.{Has-kept_some}
 use Rattle.btf_canon.specs.InHost.{found_of, no_host}
 use Rattle.btf_canon.specs.UsedOffsets.{number_of}
 use Rattle.btf_canon.specs.Longest.{IsUsed}

@@ -9,10 +9,10 @@ use Rattle.bpf_words.specs.declared.Order.{Order}
 use Rattle.btf_raw.specs.Kinds.{fixed_words, item_words}
 use Rattle.btf_raw.specs.Frames.{IsFrame, name_word, kind, vlen}
 use Rattle.btf_raw.proofs.Texts.{TextAt-inside}
-use Rattle.btf_types.specs.Checks.{has_item_names}
-use Rattle.btf_types.specs.PlaceWords.{StandsAt}
+use Rattle.btf_types.specs.judge.Checks.{has_item_names}
+use Rattle.btf_types.specs.tables.PlaceWords.{StandsAt}
 use Rattle.btf_types.specs.Reading.{text_from, frame_at, frames_at, item_total, tabulate}
-use Rattle.btf_types.proofs.FaultlessWords.{room}
+use Rattle.btf_types.proofs.faultless.FaultlessWords.{room}
 use Rattle.btf_canon.specs.FirstUses.{noted, noted_all}
 use Rattle.btf_canon.specs.NameOffsets.{item_word, name_offsets, all_offsets}
 use Rattle.btf_canon.proofs.FirstUseSteps.{noted_all-append}

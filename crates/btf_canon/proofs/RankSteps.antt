@@ -8,12 +8,12 @@ use Rattle.std.specs.List.Sorted.{IsPermutation, IsSorted}
 use Rattle.std.proofs.lemmas.List.Elements.{All-contains}
 use Rattle.std.proofs.lemmas.List.Sorted.{Contains-permutation, IsPermutation-sym}
 use Rattle.btf_types.specs.Names.{kept}
-use Rattle.btf_types.specs.SharedNames.{is_suffix, tail_cmp}
+use Rattle.btf_types.specs.strings.SharedNames.{is_suffix, tail_cmp}
 use Rattle.btf_types.proofs.Members.{Has-from_Contains, Contains-from_Has}
-use Rattle.btf_types.proofs.Texts.{Has-from_kept}
-use Rattle.btf_types.proofs.Longest.{Has-kept_some}
-use Rattle.btf_types.specs.CommonTails.{common_front, common_tail, at_rank, IsNextHost, IsFirstRank, AreInTailOrder}
-use Rattle.btf_types.proofs.CommonTails.{suffix_by_tail}
+use Rattle.btf_types.proofs.strings.Texts.{Has-from_kept}
+use Rattle.btf_types.proofs.strings.Longest.{Has-kept_some}
+use Rattle.btf_types.specs.strings.CommonTails.{common_front, common_tail, at_rank, IsNextHost, IsFirstRank, AreInTailOrder}
+use Rattle.btf_types.proofs.strings.CommonTails.{suffix_by_tail}
 use Rattle.btf_canon.specs.Ranks.{common_before, AreCommon}
 use Rattle.btf_canon.specs.declared.shared_strings.tails.Tail.{Tail}
 

@@ -7,9 +7,9 @@ use Rattle.btf_raw.specs.Header.{header, TYPES_LIMIT, STRINGS_LIMIT}
 use Rattle.btf_raw.specs.Frames.{section_of}
 use Rattle.btf_types.specs.Values.{TypeRecord}
 use Rattle.btf_types.specs.Names.{names, kept, table_of}
-use Rattle.btf_types.specs.SharedNames.{hosts_of, shared_among, shared_table, shared_place}
+use Rattle.btf_types.specs.strings.SharedNames.{hosts_of, shared_among, shared_table, shared_place}
 use Rattle.btf_types.specs.Good.{facts}
-use Rattle.btf_types.specs.TableInvariant.{IsTable}
+use Rattle.btf_types.specs.tables.TableInvariant.{IsTable}
 use Rattle.btf_types.specs.Reading.{text_from, frames_at, records_at}
 use Rattle.btf_types.proofs.Members.{Has}
 use Rattle.btf_canon.specs.CanonicalBtf.{canonical, canonical_types, record_words}

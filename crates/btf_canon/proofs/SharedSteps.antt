@@ -6,13 +6,13 @@ use Rattle.std.proofs.lemmas.Bool.{false≢true}
 use Rattle.std.proofs.lemmas.List.{length-map, length-append, map-append, map_more}
 use Rattle.std.proofs.lemmas.List.Sorted.{Contains-permutation}
 use Rattle.btf_types.specs.Names.{distinct, is_some_text, kept, with_nul, table_of, place_in, place_among}
-use Rattle.btf_types.specs.SharedNames.{hosts_of, host_in, host, shared_among}
-use Rattle.btf_types.specs.TableLaws.{IsTailSorted}
+use Rattle.btf_types.specs.strings.SharedNames.{hosts_of, host_in, host, shared_among}
+use Rattle.btf_types.specs.strings.TableLaws.{IsTailSorted}
 use Rattle.btf_canon.specs.Interned.{lent_texts, MapsTo, AreHostsOf}
 use Rattle.btf_types.proofs.Members.{Has, Has-from_filter, Has-from_Contains, Contains-from_Has}
-use Rattle.btf_types.proofs.Texts.{table_split}
-use Rattle.btf_types.proofs.Suffixes.{Ends-length}
-use Rattle.btf_types.proofs.Hosts.{IsHostOf, host_is}
+use Rattle.btf_types.proofs.strings.Texts.{table_split}
+use Rattle.btf_types.proofs.strings.Suffixes.{Ends-length}
+use Rattle.btf_types.proofs.strings.Hosts.{IsHostOf, host_is}
 use Rattle.btf_canon.proofs.HostSearch.{texts_length}
 use Rattle.btf_canon.proofs.HostSteps.{contains_text, named_at}
 

@@ -11,7 +11,7 @@ use Rattle.std.proofs.lemmas.Cmp.{nat_cmp_total, nat_list_cmp_total, tied_itself
 use Rattle.std.proofs.lemmas.List.{reverse-append, length-reverse, length-append, length-drop, length-replicate}
 use Rattle.std.proofs.lemmas.Nat.{row_fits, mul-add-lt}
 use Rattle.std.proofs.Math.Nat.{one-le-pow, pow-suc}
-use Rattle.btf_types.specs.SharedNames.{tail_cmp}
+use Rattle.btf_types.specs.strings.SharedNames.{tail_cmp}
 use Rattle.btf_canon.specs.TailKeys.{front_key, tail_key}
 
 -- each is below 256

@@ -14,16 +14,16 @@ use Rattle.btf_raw.specs.Header.{header, TYPES_LIMIT}
 use Rattle.btf_raw.specs.Frames.{bytes_of, section_of}
 use Rattle.btf_types.specs.Values.{TypeHead, KFunc, TypeItem, Member, EnumValue, Value64, Param, Entry, TypeRecord}
 use Rattle.btf_types.specs.Names.{names, kept, table_of}
-use Rattle.btf_types.specs.SharedNames.{hosts_of, shared_among}
+use Rattle.btf_types.specs.strings.SharedNames.{hosts_of, shared_among}
 use Rattle.btf_types.specs.Spelling.{head_third, record_vlen}
-use Rattle.btf_types.specs.Checks.{TypeFacts}
+use Rattle.btf_types.specs.judge.Checks.{TypeFacts}
 use Rattle.btf_types.specs.Good.{has_width, has_bit_fields, MemberIsGood, IsGoodRecord, IsGood, facts}
-use Rattle.btf_types.specs.TableWords.{record_at, no_record}
+use Rattle.btf_types.specs.tables.TableWords.{record_at, no_record}
 use Rattle.btf_types.proofs.Members.{Has, any_from_Has}
 use Rattle.btf_canon.specs.BtfWords.{head_vlen, head_words, MemberFits}
 use Rattle.btf_canon.specs.CanonicalBtf.{canonical, canonical_types, item_words, record_words}
 use Rattle.btf_canon.proofs.CanonicalFiles.{canonical_size}
-use Rattle.btf_types.proofs.TableWalk.{take_more, get_is, get_or_is, records_more}
+use Rattle.btf_types.proofs.tables.TableWalk.{take_more, get_is, get_or_is, records_more}
 
 -- ---- words
 

@@ -5,10 +5,10 @@ use Rattle.bpf_words.specs.declared.Order.{Order}
 use Rattle.bpf_words.specs.declared.Order.TheVariants.{Little}
 use Rattle.btf_raw.specs.Header.{HasNulEnds}
 use Rattle.btf_types.specs.Values.{TypeRecord}
-use Rattle.btf_types.specs.SharedNames.{hosts, shared_table}
+use Rattle.btf_types.specs.strings.SharedNames.{hosts, shared_table}
 use Rattle.btf_types.specs.Good.{IsGood}
 use Rattle.btf_types.specs.Denotes.{Denotes}
-use Rattle.btf_types.specs.TableLaws.{StandsIn}
+use Rattle.btf_types.specs.strings.TableLaws.{StandsIn}
 use Rattle.btf_canon.specs.CanonicalBtf.{canonical}
 
 -- The file denotes some records, and these are their canonical bytes in little-endian order. They are a file of the same records,

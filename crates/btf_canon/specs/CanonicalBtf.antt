@@ -7,7 +7,7 @@ use Rattle.btf_raw.specs.Header.{header}
 use Rattle.btf_raw.specs.Frames.{section_of}
 use Rattle.btf_types.specs.Values.{TypeHead, KStruct, KUnion, KEnum, KFwd, KDeclTag, KTypeTag, KEnum64, TypeItem, Member, EnumValue, Value64, Param, Entry, TypeRecord}
 use Rattle.btf_types.specs.Names.{head_name}
-use Rattle.btf_types.specs.StringTable.{string_table, place_of}
+use Rattle.btf_types.specs.strings.StringTable.{string_table, place_of}
 use Rattle.btf_types.specs.Spelling.{kind_number, head_third, bit, record_vlen, head_tail, info}
 use Rattle.btf_types.specs.Good.{has_bit_fields}
 

@@ -3,8 +3,8 @@ use Rattle.std.specs.Prelude.{◌≡◌, ◌≢◌, ℕ, ◌+◌, ◌-◌, ◌<�
 use Rattle.std.specs.List.{All, Contains}
 use Rattle.btf_types.specs.Names.{place_in}
 use Rattle.btf_types.specs.Reading.{text_from}
-use Rattle.btf_types.specs.SharedNames.{is_suffix, hosts, host, shared_table, shared_place}
-use Rattle.btf_types.specs.CommonTails.{at_rank}
+use Rattle.btf_types.specs.strings.SharedNames.{is_suffix, hosts, host, shared_table, shared_place}
+use Rattle.btf_types.specs.strings.CommonTails.{at_rank}
 use Rattle.btf_canon.specs.UsedOffsets.{number_of}
 use Rattle.btf_canon.specs.InHost.{found_of, no_host}
 use Rattle.btf_canon.specs.declared.shared_strings.hosts_by_rank.InHost.{InHost}

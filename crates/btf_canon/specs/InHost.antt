@@ -1,8 +1,8 @@
 -- Where names stand in their hosts.
 use Rattle.std.specs.Prelude.{◌≡◌, ◌≢◌, ℕ, ◌+◌, ◌<◌, false, List, length, slice_index, slice_index_or}
 use Rattle.btf_types.specs.Reading.{text_from}
-use Rattle.btf_types.specs.SharedNames.{is_suffix, hosts_of, host_in}
-use Rattle.btf_types.specs.CommonTails.{at_rank, AreInTailOrder}
+use Rattle.btf_types.specs.strings.SharedNames.{is_suffix, hosts_of, host_in}
+use Rattle.btf_types.specs.strings.CommonTails.{at_rank, AreInTailOrder}
 use Rattle.btf_canon.specs.UsedOffsets.{number_of}
 use Rattle.btf_canon.specs.Longest.{IsWithin}
 use Rattle.btf_canon.specs.declared.shared_strings.tails.Tail.{Tail}

@@ -6,7 +6,7 @@ use Rattle.std.specs.Map.{lookup}
 use Rattle.std.specs.Option.{option_map}
 use Rattle.std.specs.Str.{bytes_eq}
 use Rattle.btf_types.specs.Names.{kept, table_of, place_in}
-use Rattle.btf_types.specs.SharedNames.{hosts_of, host_in, shared_among}
+use Rattle.btf_types.specs.strings.SharedNames.{hosts_of, host_in, shared_among}
 
 -- the texts that are lent
 abbrev pub lent_texts : List (Bor (List ℕ)) → List (List ℕ)

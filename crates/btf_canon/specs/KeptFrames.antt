@@ -1,12 +1,12 @@
 -- The frames of the sections that a table keeps, and the records that they read as. Contracts of private functions cite it.
 use Rattle.std.specs.Prelude.{ℕ, List, ◌++◌}
 use Rattle.std.specs.List.{flat_map}
-use Rattle.btf_types.specs.declared.table.FileSections.{FileSections}
+use Rattle.btf_types.specs.declared.tables.table.FileSections.{FileSections}
 use Rattle.btf_types.specs.Values.{TypeRecord}
 use Rattle.btf_types.specs.Spelling.{kind_number, head_tail, record_vlen, info}
 use Rattle.btf_types.specs.Good.{has_bit_fields}
 use Rattle.btf_types.specs.Reading.{frame_at, record_of}
-use Rattle.btf_types.specs.PlaceWords.{StandsAt}
+use Rattle.btf_types.specs.tables.PlaceWords.{StandsAt}
 use Rattle.btf_canon.specs.CanonicalBtf.{canonical_flag, item_words}
 
 -- the frame at a place, and its record

@@ -3,7 +3,7 @@ use Rattle.std.specs.Prelude.{ℕ, ◌+◌, ◌*◌, List, [], ◌∷◌, slice_
 use Rattle.std.specs.List.{flat_map}
 use Rattle.btf_raw.specs.Kinds.{item_words}
 use Rattle.btf_raw.specs.Frames.{name_word, kind, vlen}
-use Rattle.btf_types.specs.Checks.{has_item_names}
+use Rattle.btf_types.specs.judge.Checks.{has_item_names}
 use Rattle.btf_types.specs.Reading.{tabulate}
 
 -- the first word of item k

@@ -1,8 +1,8 @@
 -- Numbers of sorted texts: the common tails of neighbours, and the ranks that follow from them.
 use Rattle.std.specs.Prelude.{◌≡◌, ℕ, zero, suc, ◌<◌, ◌≤◌, List, length, slice_index}
-use Rattle.btf_types.specs.CommonTails.{common_tail, at_rank, IsNextHost}
+use Rattle.btf_types.specs.strings.CommonTails.{common_tail, at_rank, IsNextHost}
 use Rattle.std.specs.List.Sorted.{IsSorted}
-use Rattle.btf_types.specs.SharedNames.{tail_cmp}
+use Rattle.btf_types.specs.strings.SharedNames.{tail_cmp}
 
 -- how much the text of a rank has in common with that before it
 abbrev pub common_before : List (List ℕ) → ℕ → ℕ

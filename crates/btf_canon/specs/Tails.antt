@@ -2,7 +2,7 @@
 use Rattle.std.specs.Prelude.{◌≡◌, ℕ, ◌-◌, min, List, length, take, drop}
 use Rattle.std.specs.Ordering.{nat_cmp, on, then_cmp}
 use Rattle.std.specs.declared.cmp.Ordering.{Ordering}
-use Rattle.btf_types.specs.SharedNames.{tail_cmp}
+use Rattle.btf_types.specs.strings.SharedNames.{tail_cmp}
 use Rattle.btf_canon.specs.TailKeys.{tail_key}
 use Rattle.btf_canon.specs.declared.shared_strings.tails.Tail.{Tail}
 

@@ -2,7 +2,7 @@
 //!
 //! Each function does nothing. Its contract is the law, for all lists of bytes and of records.
 ghost use Rattle.std.specs.Prelude.{ℕ, List};
-ghost use Rattle.btf_types.specs.TableLaws.{SectionsAreCut, NamesEndStrings, HostsEndApart, NextTellsHost};
+ghost use Rattle.btf_types.specs.strings.TableLaws.{SectionsAreCut, NamesEndStrings, HostsEndApart, NextTellsHost};
 ghost use Rattle.btf_canon.specs.BtfLaws.{CanonicalBtfIsAccepted, CanonicalBtfTellsApart, CanonicalBtfIsShortest, HostsFitSections};
 
 /// The canonical bytes of good records, in either order, are a file that denotes these records.

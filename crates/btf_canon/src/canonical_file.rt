@@ -3,7 +3,7 @@ ghost use Rattle.std.specs.Prelude.{◌≡◌, List, IfOk, IfErr, MatchResult};
 ghost use Rattle.bpf_words.specs.declared.Order.TheVariants.{Little};
 ghost use Rattle.btf_types.specs.Values.{TypeRecord};
 ghost use Rattle.btf_types.specs.Denotes.{Denotes};
-ghost use Rattle.btf_types.specs.Tables.{Fails};
+ghost use Rattle.btf_types.specs.tables.Tables.{Fails};
 ghost use Rattle.btf_canon.specs.CanonicalBtf.{canonical};
 ghost use Rattle.btf_canon.specs.BtfLaws.{IsCanonicalBtf};
 

@@ -3,10 +3,10 @@ ghost use Rattle.std.specs.Prelude.{◌≡◌, ◌≢◌, ◌+◌, ◌*◌, ◌/
 ghost use Rattle.std.specs.List.{All, Contains, flat_map};
 ghost use Rattle.btf_raw.specs.Kinds as kinds;
 ghost use Rattle.btf_raw.specs.Frames.{bytes_of, section_of, kind, vlen, flag, info_word, third_word};
-ghost use Rattle.btf_types.specs.Checks as checks;
+ghost use Rattle.btf_types.specs.judge.Checks as checks;
 ghost use Rattle.btf_types.specs.Good.{has_bit_fields};
-ghost use Rattle.btf_types.specs.SharedNames.{shared_place};
-ghost use Rattle.btf_types.specs.TableInvariant.{IsTable};
+ghost use Rattle.btf_types.specs.strings.SharedNames.{shared_place};
+ghost use Rattle.btf_types.specs.tables.TableInvariant.{IsTable};
 ghost use Rattle.btf_types.specs.Reading.{frames_at, records_at};
 ghost use Rattle.btf_canon.specs.CanonicalBtf as canon;
 ghost use Rattle.btf_canon.specs.CanonicalBtf.{record_words};

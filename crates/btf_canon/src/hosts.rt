@@ -4,8 +4,8 @@
 //! its host, so each is tested against its next neighbour alone.
 ghost use Rattle.std.specs.Prelude.{◌≡◌, ◌<◌, ◌^◌, ℕ, List, IfOk, length, map};
 ghost use Rattle.btf_types.specs.Names.{kept, table_of};
-ghost use Rattle.btf_types.specs.SharedNames.{is_suffix, is_proper_suffix, tail_cmp, host, hosts_of, host_in, shared_among};
-ghost use Rattle.btf_types.specs.TableLaws.{IsTailSorted};
+ghost use Rattle.btf_types.specs.strings.SharedNames.{is_suffix, is_proper_suffix, tail_cmp, host, hosts_of, host_in, shared_among};
+ghost use Rattle.btf_types.specs.strings.TableLaws.{IsTailSorted};
 ghost use Rattle.btf_canon.specs.Interned.{lent_texts, MapsTo, AreHostsOf};
 
 use crate::placed_names::PlacedNames;

@@ -4,7 +4,7 @@ ghost use Rattle.std.specs.List.{Contains};
 ghost use Rattle.btf_types.specs.Names as spec;
 ghost use Rattle.btf_types.specs.Names.{kept, names, record_names};
 ghost use Rattle.btf_types.specs.Values.{head_value, item_value};
-ghost use Rattle.btf_types.specs.TableWords.{record_at};
+ghost use Rattle.btf_types.specs.tables.TableWords.{record_at};
 ghost use Rattle.btf_canon.specs.Interned.{lent_texts, AddsName, AddsNames};
 
 use btf_types::{Head, Item, TypeTable};

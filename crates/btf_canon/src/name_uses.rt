@@ -2,9 +2,9 @@
 ghost use Rattle.std.specs.Prelude.{◌≡◌, ◌≤◌, [], IsTrue, IfOk, OnOk, length};
 ghost use Rattle.btf_raw.specs.Kinds as kinds;
 ghost use Rattle.btf_raw.specs.Frames.{kind, vlen};
-ghost use Rattle.btf_types.specs.Checks as checks;
+ghost use Rattle.btf_types.specs.judge.Checks as checks;
 ghost use Rattle.btf_types.specs.Reading.{frames_at, tabulate};
-ghost use Rattle.btf_types.specs.TableInvariant.{IsTable};
+ghost use Rattle.btf_types.specs.tables.TableInvariant.{IsTable};
 ghost use Rattle.btf_canon.specs.FirstUses.{noted_all};
 ghost use Rattle.btf_canon.specs.KeptFrames.{frame_in, HasRecord};
 ghost use Rattle.btf_canon.specs.NameOffsets.{item_word, name_offsets, all_offsets};

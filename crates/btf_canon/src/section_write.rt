@@ -2,7 +2,7 @@
 ghost use Rattle.std.specs.Prelude.{◌≡◌, IfOk, map};
 ghost use Rattle.std.specs.List.{All, Contains};
 ghost use Rattle.btf_types.specs.Names.{kept, names};
-ghost use Rattle.btf_types.specs.TableInvariant.{IsTable};
+ghost use Rattle.btf_types.specs.tables.TableInvariant.{IsTable};
 ghost use Rattle.btf_types.specs.Reading.{frames_at, records_at};
 ghost use Rattle.btf_canon.specs.CanonicalBtf.{canonical};
 ghost use Rattle.btf_canon.specs.NameOffsets.{all_offsets};

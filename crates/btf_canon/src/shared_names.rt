@@ -2,7 +2,7 @@
 //! host.
 ghost use Rattle.std.specs.Prelude.{◌≡◌, ◌<◌, ◌^◌, ◌++◌, IfOk, OnOk, length};
 ghost use Rattle.btf_types.specs.Names.{kept, table_of};
-ghost use Rattle.btf_types.specs.SharedNames.{hosts_of, shared_among};
+ghost use Rattle.btf_types.specs.strings.SharedNames.{hosts_of, shared_among};
 ghost use Rattle.btf_canon.specs.Interned.{lent_texts, AreHostsOf, IsPlaced};
 
 use crate::hosts::{

@@ -2,7 +2,7 @@
 
 ghost use Rattle.std.specs.Prelude.{◌≡◌, ◌<◌, ◌≤◌, ◌++◌, length, IfOk, OnOk};
 ghost use Rattle.std.specs.List.{flat_map};
-ghost use Rattle.btf_types.specs.TableWords.{record_at};
+ghost use Rattle.btf_types.specs.tables.TableWords.{record_at};
 ghost use Rattle.btf_text.specs.BtfText.{is_signed, item_line, record_text, text_of};
 
 use crate::head_lines::{append_head, is_signed};

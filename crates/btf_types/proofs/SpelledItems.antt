@@ -9,7 +9,7 @@ use Rattle.btf_raw.specs.Kinds.{item_words}
 use Rattle.btf_raw.specs.Frames.{kind, vlen, flag}
 use Rattle.btf_types.specs.Values.{TypeHead, KInt, KArray, KFunc, KVar, KDeclTag, TypeItem, Entry, TypeRecord}
 use Rattle.btf_types.specs.Spelling.{kind_number, head_tail, ItemSpells, Spells}
-use Rattle.btf_types.specs.Checks.{TypeFacts}
+use Rattle.btf_types.specs.judge.Checks.{TypeFacts}
 use Rattle.btf_types.specs.Good.{ItemOf, IsGoodRecord}
 use Rattle.btf_types.proofs.Spelled.{vlen_from, item_size}
 use Rattle.btf_types.proofs.Denoting.{numbers}

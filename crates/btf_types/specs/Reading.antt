@@ -10,7 +10,7 @@ use Rattle.btf_types.specs.declared.values.Encoding.TheVariants.{Plain, Signed, 
 use Rattle.btf_types.specs.declared.values.Linkage.{Linkage}
 use Rattle.btf_types.specs.declared.values.Linkage.TheVariants.{LStatic, LGlobal, LExtern}
 use Rattle.btf_types.specs.Values.{TypeHead, KInt, KPtr, KArray, KStruct, KUnion, KEnum, KFwd, KTypedef, KVolatile, KConst, KRestrict, KFunc, KFuncProto, KVar, KDatasec, KFloat, KDeclTag, KTypeTag, KEnum64, TypeItem, Member, EnumValue, Value64, Param, Entry, TypeRecord}
-use Rattle.btf_types.specs.FieldFaults.{int_encoding, int_offset, int_bits}
+use Rattle.btf_types.specs.judge.FieldFaults.{int_encoding, int_offset, int_bits}
 
 -- the bytes before the first NUL
 abbrev pub before_nul : List ℕ → List ℕ

@@ -2,13 +2,13 @@
 use Rattle.std.specs.Prelude.{◌≡◌, ℕ, ◌+◌, ◌*◌, ◌^◌, ◌≤◌, List, length, map, slice_index}
 use Rattle.btf_raw.specs.Header.{HasNulEnds}
 use Rattle.btf_raw.specs.Frames.{IsFrame}
-use Rattle.btf_types.specs.declared.section.Section.{Section}
-use Rattle.btf_types.specs.declared.section.Facts.{Facts}
-use Rattle.btf_types.specs.Checks.{TypeFacts}
-use Rattle.btf_types.specs.FieldFaults.{frame_facts}
+use Rattle.btf_types.specs.declared.tables.section.Section.{Section}
+use Rattle.btf_types.specs.declared.tables.section.Facts.{Facts}
+use Rattle.btf_types.specs.judge.Checks.{TypeFacts}
+use Rattle.btf_types.specs.judge.FieldFaults.{frame_facts}
 use Rattle.btf_types.specs.Reading.{frame_at, frames_at}
-use Rattle.btf_types.specs.TableInvariant.{IsFramed}
-use Rattle.btf_types.specs.Texts.{TextsAre}
+use Rattle.btf_types.specs.tables.TableInvariant.{IsFramed}
+use Rattle.btf_types.specs.judge.Texts.{TextsAre}
 
 -- the frame at a place
 abbrev pub frame_of : Section → ℕ → List ℕ

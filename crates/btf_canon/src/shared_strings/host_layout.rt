@@ -3,7 +3,7 @@ ghost use Rattle.std.specs.Prelude.{◌≡◌, ◌<◌, ◌^◌, length, map, If
 ghost use Rattle.std.specs.List.{All};
 ghost use Rattle.std.specs.List.Sorted.{IsSorted};
 ghost use Rattle.btf_types.specs.Reading.{text_from};
-ghost use Rattle.btf_types.specs.SharedNames.{tail_cmp, shared_table};
+ghost use Rattle.btf_types.specs.strings.SharedNames.{tail_cmp, shared_table};
 ghost use Rattle.btf_canon.specs.Longest.{IsUsed};
 ghost use Rattle.btf_canon.specs.Tails.{tail_text};
 ghost use Rattle.btf_canon.specs.UsedOffsets.{number_of};

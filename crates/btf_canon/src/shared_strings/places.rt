@@ -3,7 +3,7 @@ ghost use Rattle.std.specs.Prelude.{◌≡◌, ◌+◌, ◌<◌, ◌^◌, ◌++�
 ghost use Rattle.std.specs.List.{All, Contains};
 ghost use Rattle.btf_raw.specs.Header.{HasNulEnds};
 ghost use Rattle.btf_types.specs.Reading.{text_from};
-ghost use Rattle.btf_types.specs.SharedNames.{shared_table, shared_place};
+ghost use Rattle.btf_types.specs.strings.SharedNames.{shared_table, shared_place};
 ghost use Rattle.btf_canon.specs.NamesByPlace.{placed_texts};
 
 use crate::shared_strings::first_uses::FirstUses;

@@ -1,6 +1,6 @@
 //! Ranks of sorted texts.
 ghost use Rattle.std.specs.Prelude.{◌≡◌, ◌<◌, ◌≤◌, ◌^◌, ℕ, IfOk, length, map, slice_index};
-ghost use Rattle.btf_types.specs.CommonTails as spec;
+ghost use Rattle.btf_types.specs.strings.CommonTails as spec;
 ghost use Rattle.btf_canon.specs.Ranks.{AreCommon, AreNextHosts, AreLower};
 ghost use Rattle.btf_canon.specs.Tails.{tail_text};
 

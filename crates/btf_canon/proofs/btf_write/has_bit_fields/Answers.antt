@@ -1,6 +1,6 @@
 use Rattle.std.proofs.Common.{sym}
 use Rattle.btf_types.specs.Values.{item_value}
-use Rattle.btf_types.specs.TableWords.{record_at}
+use Rattle.btf_types.specs.tables.TableWords.{record_at}
 use Rattle.btf_canon.proofs.WriteSteps.{width_found, width_missed}
 use Rattle.btf_canon.proofs.btf_write.has_bit_fields.Goals as goal
 

@@ -1,8 +1,8 @@
 use Rattle.std.proofs.Common.{◌≡◌, ◌++◌, take}
 use Rattle.std.specs.List.{flat_map}
 use Rattle.btf_raw.specs.Frames.{bytes_of}
-use Rattle.btf_types.specs.SharedNames.{shared_among}
-use Rattle.btf_types.specs.TableWords.{record_at}
+use Rattle.btf_types.specs.strings.SharedNames.{shared_among}
+use Rattle.btf_types.specs.tables.TableWords.{record_at}
 use Rattle.btf_canon.specs.CanonicalBtf.{item_words}
 use Rattle.btf_canon.proofs.btf_write.push_items.Given as goal
 

@@ -1,7 +1,7 @@
 use Rattle.std.proofs.Common.{ℕ, List, ◌<◌, ◌+◌, ◌++◌, length, ap, ◌∙◌, arith}
 use Rattle.btf_raw.specs.Frames.{bytes_of}
-use Rattle.btf_types.specs.SharedNames.{shared_among}
-use Rattle.btf_types.specs.TableWords.{record_at}
+use Rattle.btf_types.specs.strings.SharedNames.{shared_among}
+use Rattle.btf_types.specs.tables.TableWords.{record_at}
 use Rattle.btf_canon.specs.CanonicalBtf.{record_words}
 use Rattle.btf_canon.proofs.WriteSteps.{section_pushed}
 use Rattle.btf_canon.proofs.btf_write.write_types.Goals as goal

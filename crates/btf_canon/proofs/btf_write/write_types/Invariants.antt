@@ -1,6 +1,6 @@
 use Rattle.std.proofs.Common.{◌≡◌, map, take}
 use Rattle.btf_raw.specs.Frames.{section_of}
-use Rattle.btf_types.specs.SharedNames.{shared_among}
+use Rattle.btf_types.specs.strings.SharedNames.{shared_among}
 use Rattle.btf_canon.specs.CanonicalBtf.{record_words}
 use Rattle.btf_canon.proofs.btf_write.write_types.Given as goal
 

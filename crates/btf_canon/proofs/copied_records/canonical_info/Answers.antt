@@ -2,7 +2,7 @@ use Rattle.std.proofs.Common.{◌≡◌, ◌≢◌, ◌⊎◌, ◌%◌, ◌^◌,
 use Rattle.std.proofs.lemmas.Nat.{and_mask}
 use Rattle.btf_raw.specs.Kinds.{kind_of, flag_of}
 use Rattle.btf_raw.specs.Frames.{kind, flag, info_word}
-use Rattle.btf_types.specs.Checks.{is_struct}
+use Rattle.btf_types.specs.judge.Checks.{is_struct}
 use Rattle.btf_types.specs.Good.{has_bit_fields}
 use Rattle.btf_canon.specs.KeptFrames.{frame_in, record_in}
 use Rattle.btf_canon.proofs.RecordWords.{items_few, unmarked_record, info_of_others, info_unmarked, info_wide, info_cleared}

@@ -1,6 +1,6 @@
 use Rattle.std.proofs.Common.{◌≡◌, ◌++◌}
 use Rattle.btf_raw.specs.Frames.{bytes_of}
-use Rattle.btf_types.specs.SharedNames.{shared_place}
+use Rattle.btf_types.specs.strings.SharedNames.{shared_place}
 use Rattle.btf_canon.specs.KeptFrames.{frame_in}
 use Rattle.btf_canon.specs.NamesByPlace.{placed_texts}
 use Rattle.btf_canon.proofs.RecordWords.{items_to}

@@ -2,7 +2,7 @@ use Rattle.std.proofs.Common.{◌≡◌, [], ◌∷◌, ◌++◌, ℕ, List, sym
 use Rattle.std.specs.List.{Contains}
 use Rattle.std.proofs.lemmas.Result.{on_ok_weaker}
 use Rattle.btf_raw.specs.Frames.{bytes_of, name_word}
-use Rattle.btf_types.specs.SharedNames.{shared_place}
+use Rattle.btf_types.specs.strings.SharedNames.{shared_place}
 use Rattle.btf_types.specs.Reading.{text_from}
 use Rattle.btf_canon.specs.KeptFrames.{frame_in, record_in, record_tail}
 use Rattle.btf_canon.specs.NamesByPlace.{placed_texts}

@@ -2,8 +2,8 @@ use Rattle.std.proofs.Common.{◌≡◌, ◌⊎◌, ◌+◌, ◌++◌, ℕ, List
 use Rattle.std.proofs.lemmas.Result.{on_ok_weaker}
 use Rattle.btf_raw.specs.Kinds.{item_words, tail_words, kind_of, vlen_of}
 use Rattle.btf_raw.specs.Frames.{bytes_of, kind, vlen}
-use Rattle.btf_types.specs.Checks.{has_item_names}
-use Rattle.btf_types.specs.SharedNames.{shared_place}
+use Rattle.btf_types.specs.judge.Checks.{has_item_names}
+use Rattle.btf_types.specs.strings.SharedNames.{shared_place}
 use Rattle.btf_canon.specs.KeptFrames.{frame_in}
 use Rattle.btf_canon.specs.NamesByPlace.{placed_texts}
 use Rattle.btf_canon.proofs.RecordWords.{rest_words, items_are_tail, two_or_three}

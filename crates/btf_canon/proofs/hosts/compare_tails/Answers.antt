@@ -4,7 +4,7 @@ use Rattle.std.specs.Slice.Iter.{iter_rest}
 use Rattle.std.specs.Iterator.Adapters.{rev_source}
 use Rattle.std.proofs.lemmas.Iterator.Search.{cmp_from_yields_List}
 use Rattle.std.proofs.lemmas.Iterator.Adapters.{YieldsList-from_rev_slice}
-use Rattle.btf_types.specs.SharedNames.{tail_cmp}
+use Rattle.btf_types.specs.strings.SharedNames.{tail_cmp}
 use Rattle.btf_canon.proofs.hosts.compare_tails.Goals as goal
 
 -- each side yields its bytes from the end

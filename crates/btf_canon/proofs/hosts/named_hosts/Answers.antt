@@ -1,6 +1,6 @@
 use Rattle.std.proofs.Common.{◌≡◌, ℕ, List, [], ap, sym, ◌∙◌, Bor, get_or}
 use Rattle.std.specs.Option.{option_copied}
-use Rattle.btf_types.specs.SharedNames.{hosts_of, host_in}
+use Rattle.btf_types.specs.strings.SharedNames.{hosts_of, host_in}
 use Rattle.btf_canon.specs.Interned.{lent_texts}
 use Rattle.btf_canon.proofs.HostSteps.{contains_text, named_more, told_some, told_text}
 use Rattle.btf_canon.proofs.hosts.named_hosts.Goals as goal

@@ -1,5 +1,5 @@
 use Rattle.std.proofs.Common.{◌≡◌, map, take}
-use Rattle.btf_types.specs.SharedNames.{hosts_of, host_in}
+use Rattle.btf_types.specs.strings.SharedNames.{hosts_of, host_in}
 use Rattle.btf_canon.specs.Interned.{lent_texts}
 use Rattle.btf_canon.proofs.hosts.named_hosts.Given as goal
 

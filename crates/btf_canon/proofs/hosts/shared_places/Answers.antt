@@ -1,5 +1,5 @@
 use Rattle.std.proofs.Common.{ℕ, ◌+◌, ◌-◌, List, [], length, get_or, arith, ◌∙◌, Bor}
-use Rattle.btf_types.specs.SharedNames.{shared_among}
+use Rattle.btf_types.specs.strings.SharedNames.{shared_among}
 use Rattle.btf_canon.specs.Interned.{lent_texts}
 use Rattle.btf_canon.proofs.SharedSteps.{EndsHost, ends_host, places_more}
 use Rattle.btf_canon.proofs.hosts.shared_places.Given.{Over}

@@ -1,5 +1,5 @@
 use Rattle.std.proofs.Common.{◌≡◌, length}
-use Rattle.btf_types.specs.SharedNames.{tail_cmp}
+use Rattle.btf_types.specs.strings.SharedNames.{tail_cmp}
 use Rattle.btf_canon.proofs.hosts.without_equal_ends.Given as goal
 
 abbrev pub invariant-ends : goal.invariant-ends

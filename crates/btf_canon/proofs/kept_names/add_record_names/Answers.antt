@@ -1,7 +1,7 @@
 use Rattle.std.proofs.Common.{ℕ, List, [], ◌∷◌, ◌++◌, map, take, ap, ◌∙◌}
 use Rattle.btf_types.specs.Names.{kept, head_name, item_name}
 use Rattle.btf_types.specs.Values.{item_value}
-use Rattle.btf_types.specs.TableWords.{record_at}
+use Rattle.btf_types.specs.tables.TableWords.{record_at}
 use Rattle.btf_canon.proofs.Gathering.{item_names_more}
 use Rattle.btf_canon.proofs.kept_names.add_record_names.Goals as goal
 

@@ -1,6 +1,6 @@
 use Rattle.std.proofs.Common.{◌∷◌, map, take}
 use Rattle.btf_types.specs.Names.{head_name, item_name}
-use Rattle.btf_types.specs.TableWords.{record_at}
+use Rattle.btf_types.specs.tables.TableWords.{record_at}
 use Rattle.btf_canon.specs.Interned.{AddsNames}
 use Rattle.btf_canon.proofs.kept_names.add_record_names.Given as goal
 

@@ -1,5 +1,5 @@
 use Rattle.std.proofs.Common.{ℕ, List, sym, ap, ◌∙◌, subst, Bor}
-use Rattle.btf_types.specs.TableLaws.{IsTailSorted}
+use Rattle.btf_types.specs.strings.TableLaws.{IsTailSorted}
 use Rattle.btf_canon.specs.Interned.{lent_texts}
 use Rattle.btf_canon.proofs.SharedSteps.{found_maps}
 use Rattle.btf_canon.proofs.shared_names.found_hosts.Goals as goal

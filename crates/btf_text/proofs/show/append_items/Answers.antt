@@ -1,6 +1,6 @@
 use Rattle.std.proofs.Common.{ℕ, List, ◌++◌, ap, ◌∙◌}
 use Rattle.btf_types.specs.Values.{item_value}
-use Rattle.btf_types.specs.TableWords.{record_at}
+use Rattle.btf_types.specs.tables.TableWords.{record_at}
 use Rattle.btf_text.specs.BtfText.{item_line}
 use Rattle.btf_text.proofs.BtfTextLemmas.{item_shown}
 use Rattle.btf_text.proofs.show.append_items.Goals as goal

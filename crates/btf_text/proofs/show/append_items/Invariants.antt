@@ -1,6 +1,6 @@
 use Rattle.std.proofs.Common.{◌≡◌, ◌++◌, take}
 use Rattle.std.specs.List.{flat_map}
-use Rattle.btf_types.specs.TableWords.{record_at}
+use Rattle.btf_types.specs.tables.TableWords.{record_at}
 use Rattle.btf_text.specs.BtfText.{item_line}
 use Rattle.btf_text.proofs.show.append_items.Given as goal
 

@@ -1,5 +1,5 @@
 use Rattle.std.proofs.Common.{ℕ, List, ◌<◌, ◌+◌, ◌++◌, length, ap, ◌∙◌, arith}
-use Rattle.btf_types.specs.TableWords.{record_at}
+use Rattle.btf_types.specs.tables.TableWords.{record_at}
 use Rattle.btf_text.specs.BtfText.{record_text}
 use Rattle.btf_text.proofs.BtfTextLemmas.{type_shown}
 use Rattle.btf_text.proofs.show.show_btf.Goals as goal

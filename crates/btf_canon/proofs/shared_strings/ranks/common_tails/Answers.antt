@@ -1,6 +1,6 @@
 use Rattle.std.proofs.Common.{◌≡◌, ℕ, ◌<◌, ◌+◌, ◌-◌, [], ◌∷◌, ◌++◌, length, map, get_or, arith, ◌∙◌, sym, ap, subst, List}
 use Rattle.std.proofs.lemmas.List.{length_push}
-use Rattle.btf_types.specs.CommonTails.{common_tail}
+use Rattle.btf_types.specs.strings.CommonTails.{common_tail}
 use Rattle.btf_canon.specs.Ranks.{common_before}
 use Rattle.btf_canon.specs.Tails.{tail_text}
 use Rattle.btf_canon.specs.declared.shared_strings.tails.Tail.{Tail}

@@ -1,6 +1,6 @@
 use Rattle.std.proofs.Common.{◌≡◌, ℕ, ◌<◌, ◌≤◌, length, map}
 use Rattle.std.specs.Prelude.{slice_index}
-use Rattle.btf_types.specs.CommonTails.{IsNextHost}
+use Rattle.btf_types.specs.strings.CommonTails.{IsNextHost}
 use Rattle.btf_canon.specs.Tails.{tail_text}
 use Rattle.btf_canon.proofs.shared_strings.ranks.next_hosts.Given as goal
 

@@ -1,6 +1,6 @@
 use Rattle.std.proofs.Common.{rules, ◌≡◌, ℕ, ◌-◌, ◌<◌, inl, inr, ◌⊎◌, length, get_or, arith, ap, ◌∙◌, sym, List}
 use Rattle.std.specs.Ordering.{nat_cmp}
-use Rattle.btf_types.specs.SharedNames.{tail_cmp}
+use Rattle.btf_types.specs.strings.SharedNames.{tail_cmp}
 use Rattle.btf_canon.specs.TailKeys.{tail_key}
 use Rattle.btf_canon.proofs.TailKeys.{key_apart, key_alike, key_ends}
 use Rattle.btf_canon.proofs.shared_strings.tails.compare_tails.Goals as goal

@@ -2,7 +2,7 @@ use Rattle.std.proofs.Common.{◌≡◌, ◌<◌, ℕ, ◌+◌, ◌^◌, List, l
 use Rattle.std.specs.List.{All}
 use Rattle.std.specs.List.Sorted.{IsSorted}
 use Rattle.btf_types.specs.Reading.{text_from}
-use Rattle.btf_types.specs.SharedNames.{tail_cmp, shared_table}
+use Rattle.btf_types.specs.strings.SharedNames.{tail_cmp, shared_table}
 use Rattle.btf_canon.specs.FirstUses.{Noted, AreMarked}
 use Rattle.btf_canon.specs.Longest.{AreLongestOf}
 use Rattle.btf_canon.specs.Tails.{tail_text}

@@ -1,0 +1,2 @@
+-- Lemmas on compared BTF files.
+pub mod ComparedFiles

@@ -1,7 +1,0 @@
-use Rattle.std.proofs.Common.{◌∙◌}
-use Rattle.bpf_canon.proofs.ReadingLemmas.{reading_recoded}
-use Rattle.bpf_canon.proofs.front.read_front.Goals as goal
-
-pub returns : goal.returns
-returns g c = reading_recoded c.args.order c.args.to c.args.bytes.now c.judge_front-read.result c.args.out.now.items c.append_recoded.new.out.items c.judge_front-read.ensures
-    (λ insns file. c.append_recoded.ensures insns (file.0, c.split_at.ensures.front ∙ file.1))

@@ -1,0 +1,7 @@
+-- Lemmas on streams of instructions.
+pub mod FrontLaws
+pub mod ReadingLemmas
+pub mod FeedLemmas
+pub mod Recoding
+pub mod RunLemmas
+pub mod CanonLemmas

@@ -1,0 +1,180 @@
+-- Fronts of byte lists: how they join, grow and compare.
+use Rattle.std.proofs.Common.{◌≡◌, ◌<◌, ◌≤◌, ◌+◌, ◌*◌, ◌++◌, ◌⊎◌, ◌∙◌, ℕ, ℤ, List, [], ◌∷◌, Option, Some, None, length, refl, sym, ap, subst, inl, inr, arith, append_assoc, length-append, All}
+use Rattle.std.proofs.lemmas.List.{append-nil}
+use Rattle.std.proofs.lemmas.List.Elements.{All-append, All-head, All-nil, All-push, All-tail}
+use Rattle.std.proofs.lemmas.List.Concat.{flat_map-append}
+use Rattle.bpf_words.specs.declared.Order.{Order}
+use Rattle.bpf_words.specs.Slots.{spelled}
+use Rattle.bpf_insn.specs.declared.insn.Insn.{Insn}
+use Rattle.bpf_insn.specs.declared.fault.SlotFault.{SlotFault}
+use Rattle.bpf_insn.specs.declared.fault.SlotCause.{SlotCause}
+use Rattle.bpf_insn.specs.declared.fault.SlotCause.TheVariants.{Truncated, Opcode, Dst, Src, Offset, Imm, Reserved, NextImm}
+use Rattle.bpf_insn.specs.Table.{IsInsn, fields_of, next_imm_of}
+use Rattle.bpf_insn.specs.Spelling.{InsnFile, file_of, second_slot, spelling}
+use Rattle.bpf_insn.specs.Faults.{IsFront, IsInsnFault, IsSlotFault}
+use Rattle.bpf_insn.proofs.FaultLemmas.{slot_length}
+use Rattle.bpf_insn.proofs.WideLemmas.{second_length}
+use Rattle.bpf_insn.proofs.FileLaws.{at_least_a_slot, begins_once, file_fault, longest_front, rests_same}
+use Rattle.bpf_insn.proofs.FrontLemmas.{one_front}
+use Rattle.bpf_insn.proofs.UniqueLemmas.{one_fault}
+use Rattle.bpf_canon.specs.insn.FrontReads.{BeginsNone}
+use Rattle.bpf_canon.specs.insn.Stands.{IsSound}
+
+-- ---- lengths
+
+second_size : (o p : Order) (k : Option ℤ) → length (second_slot o k) ≡ length (second_slot p k)
+second_size o p None = refl
+second_size o p (Some m) = second_length o m ∙ sym (second_length p m)
+
+-- a spelling is as long in one order as in the other
+pub length-spelling_same : (o p : Order) (i : Insn) → length (spelling o i) ≡ length (spelling p i)
+unfolding spelling
+length-spelling_same o p i =
+    omega (
+      arith,
+      length-append (spelled o (fields_of i)) (second_slot o (next_imm_of i)),
+      length-append (spelled p (fields_of i)) (second_slot p (next_imm_of i)),
+      slot_length o (fields_of i),
+      slot_length p (fields_of i),
+      second_size o p (next_imm_of i),
+    )
+
+-- and so are the bytes of some instructions
+pub length-file_same : (o p : Order) (l : List Insn) → length (file_of o l) ≡ length (file_of p l)
+length-file_same o p [] = refl
+length-file_same o p (i ∷ l) =
+    omega (
+      arith,
+      length-append (spelling o i) (file_of o l),
+      length-append (spelling p i) (file_of p l),
+      length-spelling_same o p i,
+      length-file_same o p l,
+    )
+
+-- each instruction takes at least a slot
+pub length-at_most_file : (o : Order) (l : List Insn) → 8 * length l ≤ length (file_of o l)
+length-at_most_file o [] = omega arith
+length-at_most_file o (i ∷ l) =
+    omega (arith, length-append (spelling o i) (file_of o l), at_least_a_slot o i, length-at_most_file o l)
+
+-- what is read is no more than what there is, in either order
+pub front_fits : (o to : Order) (b : List ℕ) (l : List Insn) (rest : List ℕ) → IsFront o b l rest
+    → length (file_of to l) + length rest ≡ length b
+front_fits o to b l rest f = omega (arith, ap length f.front, length-append (file_of o l) rest, length-file_same o to l)
+
+pub front_counts : (o : Order) (b : List ℕ) (l : List Insn) (rest : List ℕ) → IsFront o b l rest → 8 * length l + length rest ≤ length b
+front_counts o b l rest f = omega (arith, length-at_most_file o l, front_fits o o b l rest f)
+
+-- ---- what follows a front begins with no instruction
+
+pub empty_begins_none : (o : Order) → BeginsNone o []
+empty_begins_none o i b = omega (arith, ap length b.1.1, length-append (spelling o i) b.1.0, at_least_a_slot o i)
+
+pub front_of : (o : Order) (b : List ℕ) (l : List Insn) (rest : List ℕ) → All IsInsn l → b ≡ file_of o l ++ rest → BeginsNone o rest → IsFront o b l rest
+front_of o b l rest each whole none = record {
+  each = each;
+  front = whole;
+  longest = λ others more h e. longest_front o l others rest more each h (sym whole ∙ e) none;
+}
+
+-- the bytes of one instruction more
+pub file-push : (o : Order) (l : List Insn) (i : Insn) → file_of o (l ++ i ∷ []) ≡ file_of o l ++ spelling o i
+file-push o l i = flat_map-append (spelling o) l (i ∷ []) ∙ ap (λ s. file_of o l ++ s) (append-nil (spelling o i))
+
+pub front_begins_none : (o : Order) (b : List ℕ) (l : List Insn) (rest : List ℕ) → IsFront o b l rest → BeginsNone o rest
+front_begins_none o b l rest f i g =
+    let whole : b ≡ file_of o (l ++ i ∷ []) ++ g.1.0 =
+    f.front ∙ ap (λ s. file_of o l ++ s) g.1.1 ∙ sym (append_assoc (file_of o l) (spelling o i) g.1.0)
+    ∙ ap (λ s. s ++ g.1.0) (sym (file-push o l i)) in
+    omega (arith, f.longest (l ++ i ∷ []) g.1.0 (All-push IsInsn l i f.each g.0) whole, length-append l (i ∷ []))
+
+pub front-nil : (o : Order) → IsFront o [] [] []
+front-nil o = front_of o [] [] [] (All-nil IsInsn) refl (empty_begins_none o)
+
+-- a file is its own front
+pub file_front : (o : Order) (b : List ℕ) (l : List Insn) → InsnFile o b l → IsFront o b l []
+file_front o b l f = front_of o b l [] f.0 (f.1 ∙ sym (append-nil (file_of o l))) (empty_begins_none o)
+
+-- ---- longer bytes
+
+-- the front of what is left and what follows joins the front
+pub front_joins : (o : Order) (b more : List ℕ) (l m : List Insn) (rest left : List ℕ) → IsFront o b l rest → IsFront o (rest ++ more) m left
+    → IsFront o (b ++ more) (l ++ m) left
+front_joins o b more l m rest left f g =
+    let whole : b ++ more ≡ file_of o (l ++ m) ++ left =
+    ap (λ s. s ++ more) f.front ∙ append_assoc (file_of o l) rest more ∙ ap (λ s. file_of o l ++ s) g.front
+    ∙ sym (append_assoc (file_of o l) (file_of o m) left) ∙ ap (λ s. s ++ left) (sym (flat_map-append (spelling o) l m)) in
+    front_of o (b ++ more) (l ++ m) left (All-append IsInsn l m f.each g.each) whole (front_begins_none o (rest ++ more) m left g)
+
+grows : (o : Order) (l m : List Insn) (r s : List ℕ) → All IsInsn l → All IsInsn m → file_of o l ++ r ≡ file_of o m ++ s → BeginsNone o s
+    → (k : List Insn) × (m ≡ l ++ k)
+grows o [] m r s hl hm e none = (m, refl)
+grows o (i ∷ l) [] r s hl hm e none =
+    absurd (none i (All-head IsInsn i l hl, (file_of o l ++ r, sym e ∙ append_assoc (spelling o i) (file_of o l) r)))
+grows o (i ∷ l) (j ∷ m) r s hl hm e none =
+    let whole : spelling o i ++ (file_of o l ++ r) ≡ spelling o j ++ (file_of o m ++ s) =
+    sym (append_assoc (spelling o i) (file_of o l) r) ∙ e ∙ append_assoc (spelling o j) (file_of o m) s in
+    let same = begins_once o i j (spelling o i ++ (file_of o l ++ r)) (All-head IsInsn i l hl, (file_of o l ++ r, refl)) (All-head IsInsn j m hm, (file_of o m ++ s, whole)) in
+    let tails = rests_same o i j (file_of o l ++ r) (file_of o m ++ s) same whole in
+    let more = grows o l m r s (All-tail IsInsn i l hl) (All-tail IsInsn j m hm) tails none in
+    (more.0, ap (λ k. k ∷ m) (sym same) ∙ ap (λ t. i ∷ t) more.1)
+
+-- the front of bytes is at the front of longer bytes
+pub front_grows : (o : Order) (l m : List Insn) (b x r s : List ℕ) → IsFront o b l r → IsFront o (b ++ x) m s → (k : List Insn) × (m ≡ l ++ k)
+front_grows o l m b x r s f g =
+    grows o l m (r ++ x) s f.each g.each
+    (sym (append_assoc (file_of o l) r x) ∙ ap (λ t. t ++ x) (sym f.front) ∙ g.front) (front_begins_none o (b ++ x) m s g)
+
+-- ---- faults
+
+pub truncated_or_not : (cause : SlotCause) → (cause ≡ Truncated) ⊎ (cause ≡ Truncated → ⊥)
+truncated_or_not Truncated = inl refl
+truncated_or_not Opcode = inr (λ e. cc)
+truncated_or_not Dst = inr (λ e. cc)
+truncated_or_not Src = inr (λ e. cc)
+truncated_or_not Offset = inr (λ e. cc)
+truncated_or_not Imm = inr (λ e. cc)
+truncated_or_not Reserved = inr (λ e. cc)
+truncated_or_not NextImm = inr (λ e. cc)
+
+pub lasting_length : (o : Order) (s : List ℕ) (at : ℕ) (cause : SlotCause) → (cause ≡ Truncated → ⊥)
+    → IsSlotFault o s (record { pos = at; cause = cause }) → 8 ≤ length s
+lasting_length o s at Truncated t f = absurd (t refl)
+lasting_length o s at Opcode t f = f.first.0
+lasting_length o s at Dst t f = f.first.0
+lasting_length o s at Src t f = f.first.0
+lasting_length o s at Offset t f = f.first.0
+lasting_length o s at Imm t f = f.first.0
+lasting_length o s at Reserved t f = omega (arith, f.first.0)
+lasting_length o s at NextImm t f = omega (arith, f.first.0)
+
+pub cut_length : (o : Order) (s : List ℕ) (at : ℕ) (cause : SlotCause) → cause ≡ Truncated
+    → IsSlotFault o s (record { pos = at; cause = cause }) → length s < 16
+cut_length o s at Truncated t f = elim f.first [ inl h ↦ omega (arith, h.0) | inr h ↦ h.1 ]
+cut_length o s at Opcode t f = cc
+cut_length o s at Dst t f = cc
+cut_length o s at Src t f = cc
+cut_length o s at Offset t f = cc
+cut_length o s at Imm t f = cc
+cut_length o s at Reserved t f = cc
+cut_length o s at NextImm t f = cc
+
+-- a file has no fault
+pub sound_file : (o : Order) (b : List ℕ) (l : List Insn) → IsFront o b l [] → IsSound o b
+sound_file o b l front f fault = absurd (fault.no_file l (front.each, front.front ∙ append-nil (file_of o l)))
+
+-- bytes of which the last instruction is cut have no other fault
+pub sound_cut : (o : Order) (b : List ℕ) (l : List Insn) (rest : List ℕ) (e : SlotFault) → IsFront o b l rest → IsSlotFault o rest e → e.cause ≡ Truncated
+    → IsSound o b
+sound_cut o b l rest e front slot same f fault =
+    let once = one_front o b fault.insns l fault.rest rest fault.front front in
+    let P : List ℕ → Type 0 = λ r. IsSlotFault o r fault.slot in
+    let one = one_fault o rest fault.slot e (subst P once.1 fault.slot_fault) slot in
+    fault.cause ∙ ap (λ (x : SlotFault). x.cause) one ∙ same
+
+-- the fault of what follows the front is that of the bytes
+pub front_fault : (o : Order) (b : List ℕ) (l : List Insn) (rest : List ℕ) (e f : SlotFault) → IsFront o b l rest → 0 < length rest → IsSlotFault o rest e
+    → f.pos + length rest ≡ length b + e.pos → f.cause ≡ e.cause → IsInsnFault o b f
+front_fault o b l rest e f front some slot place cause =
+    file_fault o b l rest e f front.each front.front (λ h. omega (arith, some, ap length h)) slot
+    (omega (arith, place, ap length front.front, length-append (file_of o l) rest)) cause

@@ -1,0 +1,3 @@
+-- How the engine on BTF and the comparison of BTF files end.
+pub mod RunBtf
+pub mod SameBtf

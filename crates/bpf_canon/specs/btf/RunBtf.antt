@@ -1,0 +1,83 @@
+-- What the engine on BTF did.
+use Rattle.std.specs.Prelude.{◌≡◌, ◌<◌, ◌≤◌, ◌+◌, ℕ, List, length, take}
+use Rattle.std.specs.Io.KnownBytes.{Appends, Consumes, IsAtEnd}
+use Rattle.bpf_words.specs.declared.Order.{Order}
+use Rattle.btf_raw.specs.declared.cause.BtfFault.{BtfFault}
+use Rattle.btf_types.specs.Values.{TypeRecord}
+use Rattle.btf_types.specs.Denotes.{Denotes}
+use Rattle.btf_types.specs.Faults.{IsFirst}
+use Rattle.btf_canon.specs.CanonicalBtf.{canonical}
+use Rattle.bpf_canon.specs.device.Reads.{read_room}
+use Rattle.bpf_canon.specs.insn.Run.{Devices}
+use Rattle.bpf_canon.specs.declared.insn.run.RunCause.{RunCause}
+use Rattle.bpf_canon.specs.declared.insn.run.RunCause.TheVariants as cause
+
+-- how many bytes the engine takes
+abbrev pub btf_limit : ℕ
+btf_limit = 50335744
+
+-- these bytes came within the limit, and then the source ended
+pub record CameWhole (d : Devices) (read : List ℕ) : Type 0 where
+  pub came : Consumes d.source d.source_after read
+  pub ended : IsAtEnd d.source_after
+  pub within : length read ≤ btf_limit
+
+-- the sink is as it was
+pub record WroteNothing (d : Devices) (written : ℕ) : Type 0 where
+  pub kept : d.sink_after ≡ d.sink
+  pub none : written ≡ 0
+
+-- what came is a file of some records, and the sink took their canonical bytes in the order `to`
+pub record RanBtf (d : Devices) (to : Order) (written : ℕ) : Type 0 where
+  pub read : List ℕ
+  pub input : CameWhole d read
+  pub records : List TypeRecord
+  pub file : Denotes read records
+  pub took : Appends d.sink d.sink_after (canonical to records)
+  pub all : written ≡ length (canonical to records)
+
+-- this is the first fault of what came
+pub record StopsAtBtfFault (d : Devices) (written : ℕ) (f : BtfFault) : Type 0 where
+  pub read : List ℕ
+  pub input : CameWhole d read
+  pub first : IsFirst read f
+  pub nothing : WroteNothing d written
+
+-- more than the limit came, by one read at most
+pub record StopsBtfTooLong (d : Devices) (written : ℕ) : Type 0 where
+  pub read : List ℕ
+  pub came : Consumes d.source d.source_after read
+  pub beyond : btf_limit < length read
+  pub near : length read ≤ btf_limit + read_room
+  pub nothing : WroteNothing d written
+
+-- a read failed before more than the limit came
+pub record StopsBtfUnread (d : Devices) (written : ℕ) : Type 0 where
+  pub read : List ℕ
+  pub came : Consumes d.source d.source_after read
+  pub within : length read ≤ btf_limit
+  pub nothing : WroteNothing d written
+
+-- what came is a file of some records, and a write failed when the sink had taken the first of their canonical bytes, but not all
+pub record StopsBtfUnwritten (d : Devices) (to : Order) (written : ℕ) : Type 0 where
+  pub read : List ℕ
+  pub input : CameWhole d read
+  pub records : List TypeRecord
+  pub file : Denotes read records
+  pub took : Appends d.sink d.sink_after (take written (canonical to records))
+  pub part : written < length (canonical to records)
+
+-- memory was refused
+pub record StopsBtfRefused (d : Devices) (written : ℕ) : Type 0 where
+  pub read : List ℕ
+  pub came : Consumes d.source d.source_after read
+  pub near : length read ≤ btf_limit + read_room
+  pub nothing : WroteNothing d written
+
+-- what the engine did that gives up for this cause
+abbrev pub StopsBtf : Devices → Order → ℕ → RunCause BtfFault → Type 0
+StopsBtf d to written (cause.Fault f) = StopsAtBtfFault d written f
+StopsBtf d to written cause.TooLong = StopsBtfTooLong d written
+StopsBtf d to written cause.ReadFailed = StopsBtfUnread d written
+StopsBtf d to written cause.WriteFailed = StopsBtfUnwritten d to written
+StopsBtf d to written cause.Memory = StopsBtfRefused d written

@@ -1,0 +1,25 @@
+-- What the comparison of two BTF files answers.
+use Rattle.std.specs.Prelude.{◌≡◌, ◌↔◌, ℕ, Bool, List, IsTrue, ⊤}
+use Rattle.bpf_words.specs.declared.Order.TheVariants.{Little}
+use Rattle.btf_raw.specs.declared.cause.BtfFault.{BtfFault}
+use Rattle.btf_types.specs.Values.{TypeRecord}
+use Rattle.btf_types.specs.Denotes.{Denotes}
+use Rattle.btf_types.specs.Faults.{IsFirst}
+use Rattle.btf_canon.specs.CanonicalBtf.{canonical}
+use Rattle.bpf_canon.specs.declared.insn.same.SideError.{SideError}
+use Rattle.bpf_canon.specs.declared.insn.same.SideError.TheVariants as side
+
+-- two files, and whether they denote the same records, which is whether their canonical bytes are the same
+pub record ComparesBtf (a b : List ℕ) (same : Bool) : Type 0 where
+  pub first : List TypeRecord
+  pub second : List TypeRecord
+  pub first_file : Denotes a first
+  pub second_file : Denotes b second
+  pub records : IsTrue same ↔ (first ≡ second)
+  pub forms : IsTrue same ↔ (canonical Little first ≡ canonical Little second)
+
+-- the fault that an error names is the first of the first file, or that of the second, and then the first file has none
+abbrev pub NamesBtfSide : List ℕ → List ℕ → SideError BtfFault → Type 0
+NamesBtfSide a b (side.First f) = IsFirst a f
+NamesBtfSide a b (side.Second f) = ((v : List TypeRecord) × Denotes a v) × IsFirst b f
+NamesBtfSide a b side.Memory = ⊤

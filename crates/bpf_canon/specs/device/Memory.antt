@@ -1,0 +1,45 @@
+-- How the devices over memory give and take.
+use Rattle.std.specs.Prelude.{◌-◌, ◌+◌, ◌≤◌, ℕ, List, Option, option_map, vec_len, vec_capacity}
+use Rattle.bpf_canon.specs.declared.device.memory.MemSource.{MemSource}
+use Rattle.bpf_canon.specs.declared.device.memory.MemSink.{MemSink}
+
+-- at most `piece` bytes a call; `good_calls` is how many calls still succeed, where not all do
+pub record Pace : Type 0 where
+  pub piece : ℕ
+  pub good_calls : Option ℕ
+
+-- the pace of a new device, which fails from call number `fuse` on, counted from 1
+abbrev pub new_pace : ℕ → Option ℕ → Pace
+new_pace piece fuse = record { piece = piece; good_calls = option_map (λ n. n - 1) fuse }
+
+-- the pace after one more call
+abbrev pub next_pace : Pace → Pace
+next_pace p = record p { good_calls = option_map (λ n. n - 1) p.good_calls }
+
+-- the bytes that a source has still to give
+abbrev pub source_bytes : MemSource → List ℕ
+source_bytes s = s.rest.now
+
+-- how many of its reads failed
+abbrev pub source_failures : MemSource → ℕ
+source_failures s = s.failed_reads
+
+-- how much it gives at a read, and for how long
+abbrev pub source_pace : MemSource → Pace
+source_pace s = record { piece = s.piece; good_calls = s.good_reads }
+
+-- the bytes that the vector behind a sink has
+abbrev pub sink_bytes : {A : Type 0} → MemSink A → List ℕ
+sink_bytes s = s.out.now.items
+
+-- how many of its writes failed
+abbrev pub sink_failures : {A : Type 0} → MemSink A → ℕ
+sink_failures s = s.failed_writes
+
+-- how much it takes at a write, and for how long
+abbrev pub sink_pace : {A : Type 0} → MemSink A → Pace
+sink_pace s = record { piece = s.piece; good_calls = s.good_writes }
+
+-- whether the vector behind a sink has room for so many bytes more
+abbrev pub HasRoom : {A : Type 0} → MemSink A → ℕ → Type 0
+HasRoom s n = vec_len s.out.now + n ≤ vec_capacity s.out.now

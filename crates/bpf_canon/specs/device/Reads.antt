@@ -1,0 +1,19 @@
+-- How the reading of a whole input gives up.
+use Rattle.std.specs.Prelude.{◌<◌, ◌≤◌, ◌+◌, ℕ, List, length}
+use Rattle.bpf_canon.specs.declared.device.source.ReadError.{ReadError}
+use Rattle.bpf_canon.specs.declared.device.source.ReadError.TheVariants.{TooLong, ReadFailed, Memory}
+
+-- how many bytes each read offers room for
+abbrev pub read_room : ℕ
+read_room = 4096
+
+-- how many reads failed, where the reading ends with this error
+abbrev pub failed_reads : ReadError → ℕ
+failed_reads ReadFailed = 1
+failed_reads _ = 0
+
+-- how much came, where the reading ends with this error; the last read may go beyond the limit
+abbrev pub EndsAmid : ℕ → List ℕ → ReadError → Type 0
+EndsAmid limit bytes TooLong = (limit < length bytes) × (length bytes ≤ limit + read_room)
+EndsAmid limit bytes ReadFailed = length bytes ≤ limit
+EndsAmid limit bytes Memory = length bytes ≤ limit + read_room

@@ -1,0 +1,7 @@
+-- Streams of instructions, engines on them, and their canonical bytes.
+pub mod FeedState
+pub mod Stands
+pub mod FrontReads
+pub mod Run
+pub mod Passed
+pub mod Canonical

@@ -1,0 +1,51 @@
+-- Canonical bytes: instructions in little-endian order.
+use Rattle.std.specs.Prelude.{◌≡◌, ◌↔◌, ℕ, Bool, List, IsTrue, All}
+use Rattle.bpf_words.specs.declared.Order.{Order}
+use Rattle.bpf_words.specs.declared.Order.TheVariants.{Little}
+use Rattle.bpf_insn.specs.declared.insn.Insn.{Insn}
+use Rattle.bpf_insn.specs.declared.fault.SlotFault.{SlotFault}
+use Rattle.bpf_insn.specs.declared.decode.InsnError.{InsnError}
+use Rattle.bpf_insn.specs.declared.decode.InsnError.TheVariants as error
+use Rattle.bpf_insn.specs.Table.{IsInsn}
+use Rattle.bpf_insn.specs.Spelling.{InsnFile, file_of}
+use Rattle.bpf_insn.specs.Faults.{IsInsnFault}
+use Rattle.bpf_canon.specs.declared.insn.same.SideError.{SideError}
+use Rattle.bpf_canon.specs.declared.insn.same.SideError.TheVariants as side
+
+-- the bytes are a file of some instructions, whose bytes in little-endian order these are
+pub record IsCanonical (o : Order) (bytes canon : List ℕ) : Type 0 where
+  pub insns : List Insn
+  pub file : InsnFile o bytes insns
+  pub canonical : canon ≡ file_of Little insns
+
+-- two files, and whether their instructions are the same, which is whether their canonical bytes are
+pub record Compares (o : Order) (a : List ℕ) (p : Order) (b : List ℕ) (same : Bool) : Type 0 where
+  pub first : List Insn
+  pub second : List Insn
+  pub first_file : InsnFile o a first
+  pub second_file : InsnFile p b second
+  pub lists : IsTrue same ↔ (first ≡ second)
+  pub canonical : IsTrue same ↔ (file_of Little first ≡ file_of Little second)
+
+-- the fault that an error names is that of the bytes
+abbrev pub NamesFault : Order → List ℕ → InsnError → Type 0
+NamesFault o b (error.Fault f) = IsInsnFault o b f
+NamesFault o b error.Memory = Unit {0}
+
+-- the fault that an error names is that of the first file, or that of the second, and then the first has none
+abbrev pub NamesSide : Order → List ℕ → Order → List ℕ → SideError SlotFault → Type 0
+NamesSide o a p b (side.First f) = IsInsnFault o a f
+NamesSide o a p b (side.Second f) = ((l : List Insn) × InsnFile o a l) × IsInsnFault p b f
+NamesSide o a p b side.Memory = Unit {0}
+
+-- canonical bytes are accepted, and denote the instructions that they were made of
+abbrev pub CanonicalBytesAreAccepted : Type 0
+CanonicalBytesAreAccepted = (l : List Insn) → All IsInsn l → InsnFile Little (file_of Little l) l
+
+-- canonical bytes canonicalise to themselves
+abbrev pub CanonicalBytesAreTheirOwn : Type 0
+CanonicalBytesAreTheirOwn = (o : Order) (bytes canon : List ℕ) → IsCanonical o bytes canon → IsCanonical Little canon canon
+
+-- two files denote the same instructions exactly where their canonical bytes are equal
+abbrev pub CanonicalBytesTellFilesApart : Type 0
+CanonicalBytesTellFilesApart = (o p : Order) (a b : List ℕ) (l m : List Insn) → InsnFile o a l → InsnFile p b m → (l ≡ m) ↔ (file_of Little l ≡ file_of Little m)

@@ -1,0 +1,53 @@
+-- What reading whole instructions from the front of some bytes comes to. Private contracts alone cite it.
+use Rattle.std.specs.Prelude.{◌≡◌, ◌≤◌, ◌+◌, ◌++◌, ℕ, List, [], Option, Some, None, length, drop}
+use Rattle.bpf_words.specs.declared.Order.{Order}
+use Rattle.bpf_insn.specs.declared.insn.Insn.{Insn}
+use Rattle.bpf_insn.specs.declared.fault.SlotFault.{SlotFault}
+use Rattle.bpf_insn.specs.declared.fault.SlotCause.TheVariants.{Truncated}
+use Rattle.bpf_insn.specs.Table.{IsInsn}
+use Rattle.bpf_insn.specs.Spelling.{file_of, spelling}
+use Rattle.bpf_insn.specs.Faults.{BeginsWith, IsFront, IsSlotFault}
+use Rattle.bpf_canon.specs.declared.insn.front.FrontRead.{FrontRead}
+use Rattle.bpf_canon.specs.insn.FeedState.{FeedState, IsCut}
+
+-- the bytes begin with no instruction
+abbrev pub BeginsNone : Order → List ℕ → Type 0
+BeginsNone o s = (i : Insn) → BeginsWith o i s → ⊥
+
+-- why the reading stopped: the bytes ended, or what is left has this fault
+abbrev pub StopsAt : Order → List ℕ → Option SlotFault → Type 0
+StopsAt o left None = left ≡ []
+StopsAt o left (Some f) = IsSlotFault o left f
+
+-- the front of the bytes was read, and the bytes of its instructions were appended in the order `to`
+pub record ReadsFront (o to : Order) (bytes : List ℕ) (read : FrontRead) (old new : List ℕ) : Type 0 where
+  pub insns : List Insn
+  pub front : IsFront o bytes insns (drop read.len bytes)
+  pub stops : StopsAt o (drop read.len bytes) read.stop
+  pub counted : read.count ≡ length insns
+  pub within : read.len ≤ length bytes
+  pub grows : new ≡ old ++ file_of to insns
+
+-- some held bytes and the first bytes of a piece spell the instruction
+pub record BeginsAcross (o : Order) (i : Insn) (held piece : List ℕ) (used : ℕ) : Type 0 where
+  pub insn : IsInsn i
+  pub within : used ≤ length piece
+  pub whole : held ++ piece ≡ spelling o i ++ drop used piece
+  pub size : length (spelling o i) ≡ length held + used
+
+-- what is held, and which fault is kept, by what is left of a stream of which `fed` bytes came
+abbrev pub Leaves : Order → ℕ → List ℕ → List ℕ → Option SlotFault → Type 0
+Leaves o fed left held None = (held ≡ left) × IsCut o left
+Leaves o fed left held (Some f) = (held ≡ []) × ((e : SlotFault) × (IsSlotFault o left e × ((e.cause ≡ Truncated → ⊥) × ((f.pos + length left ≡ fed + e.pos) × (f.cause ≡ e.cause)))))
+
+-- a feed without a fault has read the whole instructions of what it held and the piece
+pub record Advances (s t : FeedState) (piece old new : List ℕ) : Type 0 where
+  pub reads : t.order ≡ s.order
+  pub writes : t.to ≡ s.to
+  pub fed : t.fed ≡ s.fed + length piece
+  pub gained : List Insn
+  pub left : List ℕ
+  pub front : IsFront s.order (s.held ++ piece) gained left
+  pub counted : t.count ≡ s.count + length gained
+  pub grows : new ≡ old ++ file_of s.to gained
+  pub leaves : Leaves s.order t.fed left t.held t.fault

@@ -1,0 +1,45 @@
+-- What one piece of the input does. Private contracts alone cite it.
+use Rattle.std.specs.Prelude.{◌≡◌, ◌<◌, ◌≤◌, ℕ, List, [], Option, Some, None, length, take}
+use Rattle.std.specs.Io.KnownBytes.{Appends}
+use Rattle.bpf_insn.specs.declared.fault.SlotFault.{SlotFault}
+use Rattle.bpf_canon.specs.insn.FeedState.{FeedState}
+use Rattle.bpf_canon.specs.insn.Stands.{Moves}
+use Rattle.bpf_canon.specs.declared.insn.run.RunCause.{RunCause}
+use Rattle.bpf_canon.specs.declared.insn.run.RunCause.TheVariants as cause
+use Rattle.bpf_canon.specs.declared.insn.run.RunError.{RunError}
+
+-- a write failed when the sink had taken the first bytes
+pub record PutStops {F : Type 0} (sink sink_after : Option (List ℕ)) (bytes : List ℕ) (e : RunError F) : Type 0 where
+  pub why : e.cause ≡ cause.WriteFailed
+  pub took : Appends sink sink_after (take e.written bytes)
+  pub part : e.written < length bytes
+
+-- the feed took the piece, and the sink took what became whole
+pub record Passed (s t : FeedState) (piece : List ℕ) (sink sink_after : Option (List ℕ)) (written : ℕ) : Type 0 where
+  pub out : List ℕ
+  pub moves : Moves s t piece [] out
+  pub sound : t.fault ≡ None
+  pub took : Appends sink sink_after out
+  pub all : written ≡ length out
+
+-- the feed took the piece, whose fault it keeps, and the sink took what became whole
+pub record PassedFault (s t : FeedState) (piece : List ℕ) (sink sink_after : Option (List ℕ)) (written : ℕ) (f : SlotFault) : Type 0 where
+  pub out : List ℕ
+  pub moves : Moves s t piece [] out
+  pub faulty : t.fault ≡ Some f
+  pub took : Appends sink sink_after out
+  pub all : written ≡ length out
+
+-- the feed took the piece, and the sink a part of what became whole
+pub record PassedPart (s t : FeedState) (piece : List ℕ) (sink sink_after : Option (List ℕ)) (written : ℕ) : Type 0 where
+  pub out : List ℕ
+  pub moves : Moves s t piece [] out
+  pub took : Appends sink sink_after (take written out)
+  pub prefix : written ≤ length out
+
+-- how a piece stops the engine, by the cause that is told
+abbrev pub PassStops : FeedState → FeedState → List ℕ → Option (List ℕ) → Option (List ℕ) → ℕ → RunCause SlotFault → Type 0
+PassStops s t piece sink sink_after written (cause.Fault f) = PassedFault s t piece sink sink_after written f
+PassStops s t piece sink sink_after written cause.WriteFailed = PassedPart s t piece sink sink_after written
+PassStops s t piece sink sink_after written cause.Memory = (written ≡ 0) × Appends sink sink_after []
+PassStops s t piece sink sink_after written _ = ⊥

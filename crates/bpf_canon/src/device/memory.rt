@@ -1,0 +1,132 @@
+//! Devices over memory, which give and take in pieces and fail when they are told to.
+ghost use Rattle.std.specs.Prelude.{◌≡◌, ◌<◌, Option, Some, length, min, Result, Ok, Err, IsErr, IsOk, IfOk, ◌≢◌, ◌↔◌};
+ghost use Rattle.std.specs.Io.{ReadsAtMost, WritesAtMost};
+ghost use Rattle.std.specs.Io.KnownBytes.{ReadConsumes, WriteAppends};
+ghost use Rattle.bpf_canon.specs.device.Device.{CountsFailure};
+
+use crate::device::DeviceFailed;
+use crate::device::sink::ByteSink;
+use crate::device::source::ByteSource;
+use std::alloc::{Allocator, Global};
+
+/// A source over a slice, which gives at most a piece at each read.
+#[derive(Drop)]
+pub struct MemSource<'a> {
+    rest: &'a [u8],
+    piece: usize,
+    // how many reads still succeed, where not all do
+    good_reads: Option<u64>,
+    failed_reads: u64,
+    ghost positive: { 0 < piece },
+}
+
+impl<'a> MemSource<'a> {
+    ghost use Rattle.bpf_canon.specs.device.Memory.{source_bytes, source_failures, source_pace, new_pace};
+
+    /// Gives `piece` bytes at each read, fewer only where the buffer or the rest is shorter. It fails from read number
+    /// `fuse` on, counted from 1.
+    pub fn new(bytes: &'a [u8], piece: usize, fuse: Option<u64>) -> MemSource<'a>
+        requires { 0 < piece }
+        ensures pace { source_pace result ≡ new_pace piece fuse }
+        ensures bytes { source_bytes result ≡ bytes.entry.now }
+        ensures healthy { source_failures result ≡ 0 }
+    {
+        MemSource {
+            rest: bytes,
+            piece,
+            good_reads: fuse.map(|n| n.saturating_sub(1)),
+            failed_reads: 0,
+        }
+    }
+}
+
+impl ByteSource for MemSource<'_> {
+    ghost use Rattle.bpf_canon.specs.device.Memory.{source_bytes, source_failures, source_pace, next_pace};
+
+    ghost remaining = { λ s. Some (source_bytes s) };
+
+    ghost failures = { λ s. source_failures s };
+
+    fn read(&mut self, buffer: &mut [u8]) -> Result<usize, DeviceFailed>
+        requires { source_failures self.old < u64.MAX }
+        ensures bound { ReadsAtMost result buffer.new }
+        ensures bytes { ReadConsumes (Some (source_bytes self.old)) (Some (source_bytes self.new)) result buffer.new }
+        ensures count { CountsFailure (source_failures self.old) (source_failures self.new) result }
+
+        ensures fails { IsErr result ↔ ((source_pace self.old).good_calls ≡ Some 0) }
+        ensures amount { IfOk result (λ n. n ≡ min (source_pace self.old).piece (min (length buffer.old) (length (source_bytes self.old)))) }
+        ensures pace { source_pace self.new ≡ next_pace (source_pace self.old) }
+    {
+        if self.good_reads == Some(0) {
+            self.failed_reads += 1;
+            return Err(DeviceFailed);
+        }
+        self.good_reads = self.good_reads.map(|n| n.saturating_sub(1));
+        let n = self.piece.min(buffer.len()).min(self.rest.len());
+        buffer[..n].copy_from_slice(&self.rest[..n]);
+        self.rest = &self.rest[n..];
+        Ok(n)
+    }
+}
+
+/// A sink onto a vector, which takes at most a piece at each write.
+#[derive(Drop)]
+pub struct MemSink<'a, A: Allocator = Global> {
+    out: &'a mut Vec<u8, A>,
+    piece: usize,
+    // how many writes still succeed, where not all do
+    good_writes: Option<u64>,
+    failed_writes: u64,
+    ghost positive: { 0 < piece },
+}
+
+impl<'a, A: Allocator> MemSink<'a, A> {
+    ghost use Rattle.bpf_canon.specs.device.Memory.{sink_bytes, sink_failures, sink_pace, new_pace};
+
+    /// Takes `piece` bytes at each write, fewer only where fewer are offered. It fails from write number `fuse` on,
+    /// counted from 1. A write for which the vector can't grow fails too.
+    pub fn new(out: &'a mut Vec<u8, A>, piece: usize, fuse: Option<u64>) -> MemSink<'a, A>
+        requires { 0 < piece }
+        ensures pace { sink_pace result ≡ new_pace piece fuse }
+        ensures bytes { sink_bytes result ≡ out.entry.now.items }
+        ensures healthy { sink_failures result ≡ 0 }
+    {
+        MemSink {
+            out,
+            piece,
+            good_writes: fuse.map(|n| n.saturating_sub(1)),
+            failed_writes: 0,
+        }
+    }
+}
+
+impl<A: Allocator> ByteSink for MemSink<'_, A> {
+    ghost use Rattle.bpf_canon.specs.device.Memory.{HasRoom, sink_bytes, sink_failures, sink_pace, next_pace};
+
+    ghost contents = { λ s. Some (sink_bytes s) };
+
+    ghost failures = { λ s. sink_failures s };
+
+    fn write(&mut self, bytes: &[u8]) -> Result<usize, DeviceFailed>
+        requires { sink_failures self.old < u64.MAX }
+        ensures bound { WritesAtMost result bytes.now }
+        ensures progress { IfOk result (λ n. 0 < length bytes.now → 0 < n) }
+        ensures bytes { WriteAppends (Some (sink_bytes self.old)) (Some (sink_bytes self.new)) result bytes.now }
+        ensures count { CountsFailure (sink_failures self.old) (sink_failures self.new) result }
+
+        // A write within the fuse fails only where the vector has to grow and can't.
+        ensures fails { (sink_pace self.old).good_calls ≡ Some 0 → IsErr result }
+        ensures succeeds { (sink_pace self.old).good_calls ≢ Some 0 → HasRoom self.old (min (sink_pace self.old).piece (length bytes.now)) → IsOk result }
+        ensures amount { IfOk result (λ n. n ≡ min (sink_pace self.old).piece (length bytes.now)) }
+        ensures pace { sink_pace self.new ≡ next_pace (sink_pace self.old) }
+    {
+        let is_good = self.good_writes != Some(0);
+        self.good_writes = self.good_writes.map(|n| n.saturating_sub(1));
+        let n = self.piece.min(bytes.len());
+        if is_good && self.out.extend_from_slice(&bytes[..n]).is_ok() {
+            return Ok(n);
+        }
+        self.failed_writes += 1;
+        Err(DeviceFailed)
+    }
+}

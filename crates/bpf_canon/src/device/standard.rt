@@ -1,0 +1,80 @@
+//! Devices over any reader and writer, as the standard streams are.
+ghost use Rattle.std.specs.Prelude.{◌≡◌};
+
+use crate::device::DeviceFailed;
+use crate::device::sink::ByteSink;
+use crate::device::source::ByteSource;
+use std::io::{Read, Write};
+
+/// A reader as a source. Every error of the reader is a failed read, an interrupted one too.
+#[derive(Drop)]
+pub struct ReaderSource<R> {
+    reader: R,
+    failed_reads: u64,
+}
+
+impl<R: Read> ReaderSource<R> {
+    /// A source that gives what the reader gives, and has not failed yet.
+    pub fn new(reader: R) -> ReaderSource<R>
+        ensures bytes { ⟦<ReaderSource<R> as ByteSource>⟧.remaining result ≡ R.remaining reader }
+        ensures healthy { ⟦<ReaderSource<R> as ByteSource>⟧.failures result ≡ 0 }
+    {
+        ReaderSource {
+            reader,
+            failed_reads: 0,
+        }
+    }
+}
+
+impl<R: Read> ByteSource for ReaderSource<R> {
+    ghost remaining = { λ s. R.remaining s.reader };
+
+    ghost failures = { λ s. s.failed_reads };
+
+    fn read(&mut self, buffer: &mut [u8]) -> Result<usize, DeviceFailed> {
+        match self.reader.read(buffer) {
+            Ok(n) => Ok(n),
+            Err(_) => {
+                self.failed_reads += 1;
+                Err(DeviceFailed)
+            }
+        }
+    }
+}
+
+/// A writer as a sink. Every error of the writer is a failed write, an interrupted one too, and so is a write that
+/// takes none of some bytes.
+#[derive(Drop)]
+pub struct WriterSink<W> {
+    writer: W,
+    failed_writes: u64,
+}
+
+impl<W: Write> WriterSink<W> {
+    /// A sink that gives the writer what it takes, and has not failed yet.
+    pub fn new(writer: W) -> WriterSink<W>
+        ensures bytes { ⟦<WriterSink<W> as ByteSink>⟧.contents result ≡ W.contents writer }
+        ensures healthy { ⟦<WriterSink<W> as ByteSink>⟧.failures result ≡ 0 }
+    {
+        WriterSink {
+            writer,
+            failed_writes: 0,
+        }
+    }
+}
+
+impl<W: Write> ByteSink for WriterSink<W> {
+    ghost contents = { λ s. W.contents s.writer };
+
+    ghost failures = { λ s. s.failed_writes };
+
+    fn write(&mut self, bytes: &[u8]) -> Result<usize, DeviceFailed> {
+        match self.writer.write(bytes) {
+            Ok(n) if n > 0 || bytes.is_empty() => Ok(n),
+            _ => {
+                self.failed_writes += 1;
+                Err(DeviceFailed)
+            }
+        }
+    }
+}

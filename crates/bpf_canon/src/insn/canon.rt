@@ -1,0 +1,37 @@
+//! The canonical bytes of instruction files.
+ghost use Rattle.std.specs.Prelude.{◌≡◌, List, IfOk, IfErr, MatchResult};
+ghost use Rattle.bpf_words.specs.declared.Order.TheVariants.{Little};
+ghost use Rattle.bpf_insn.specs.declared.insn.Insn.{Insn};
+ghost use Rattle.bpf_insn.specs.Spelling.{InsnFile, file_of};
+ghost use Rattle.bpf_canon.specs.insn.Canonical.{IsCanonical, NamesFault};
+
+use crate::insn::feed::InsnFeed;
+use bpf_insn::{InsnError, Order};
+use std::alloc::Allocator;
+
+/// The canonical bytes of an instruction file: its instructions in little-endian order (RFC 9669 section 3).
+///
+/// # Errors
+///
+/// `Fault` where the bytes are no file of instructions: their first fault, with its place counted from the first byte.
+/// `Memory` where the allocator refuses room for the canonical bytes.
+pub fn canon_insns<A: Allocator>(
+    alloc: A,
+    order: Order,
+    bytes: &[u8],
+) -> Result<Vec<u8, A>, InsnError>
+    ensures found { IfOk result (λ canon. IsCanonical order bytes.now canon.items) }
+    ensures all { (l : List Insn) → InsnFile order bytes.now l
+        → MatchResult result (λ canon. canon.items ≡ file_of Little l) (λ e. e ≡ InsnError.Memory) }
+    ensures fault { IfErr result (NamesFault order bytes.now) }
+{
+    let mut feed = InsnFeed::new(order, Order::Little);
+    let mut canon = Vec::new(alloc);
+    match feed.feed(bytes, &mut canon) {
+        Ok(()) => match feed.finish() {
+            Ok(_) => Ok(canon),
+            Err(fault) => Err(InsnError::Fault(fault)),
+        },
+        Err(error) => Err(error),
+    }
+}

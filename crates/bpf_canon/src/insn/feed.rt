@@ -1,0 +1,194 @@
+//! Instructions that come in pieces.
+ghost use Rattle.std.specs.Prelude.{◌≡◌, ◌<◌, ◌≤◌, ◌+◌, ◌-◌, ◌++◌, ℕ, List, [], Option, Some, None, length, take, vec_len, vec_capacity, IsErrOf, IsOk, IfSome, IsNone};
+ghost use Rattle.bpf_words.specs.declared.Order.{Order};
+ghost use Rattle.bpf_insn.specs.declared.fault.SlotFault.{SlotFault};
+ghost use Rattle.bpf_canon.specs.insn.FeedState.{FeedState, IsBetween, missing_place};
+ghost use Rattle.bpf_canon.specs.insn.Stands.{AnswersFor, Feeds, Finishes, Stands, end_of};
+ghost use Rattle.bpf_canon.specs.insn.FrontReads.{Advances};
+
+use crate::insn::front::read_front_across;
+use bpf_insn::{InsnError, Order, SlotCause, SlotFault};
+use std::alloc::Allocator;
+use std::marker::Model;
+
+/// Reads instructions from the pieces of a stream in one order, and writes them in another as soon as they are whole.
+/// It holds fewer than 16 bytes of the stream.
+#[derive(Drop)]
+pub struct InsnFeed {
+    order: Order,
+    to: Order,
+    // the bytes of an instruction that hasn't come whole stand in front
+    held: [u8; 16],
+    held_len: usize,
+    fed: u64,
+    count: u64,
+    fault: Option<SlotFault>,
+}
+
+impl Model for InsnFeed {
+    ghost Value = { FeedState };
+
+    ghost view = { λ f. record {
+      order = f.order;
+      to = f.to;
+      held = take f.held_len f.held;
+      fed = f.fed;
+      count = f.count;
+      fault = f.fault;
+    } };
+
+    ghost invariant = { λ f. IsBetween f.order (take f.held_len f.held) f.held_len f.fed f.count };
+}
+
+impl InsnFeed {
+    /// A feed of the empty stream, which reads in the order `order` and writes in the order `to`.
+    pub fn new(order: Order, to: Order) -> InsnFeed
+        ensures stands { Stands result order to [] }
+        ensures sound { result.fault ≡ None }
+    {
+        InsnFeed {
+            order,
+            to,
+            held: [0; 16],
+            held_len: 0,
+            fed: 0,
+            count: 0,
+            fault: None,
+        }
+    }
+
+    /// How many bytes of the stream are held, since they begin an instruction that hasn't come whole.
+    pub fn held(&self) -> usize
+        ensures held { result ≡ length self.now.held }
+        ensures bound { result < 16 }
+    {
+        self.held_len
+    }
+
+    /// How many bytes of the stream came, through the end of the last piece that was taken.
+    pub fn fed(&self) -> u64
+        ensures { result ≡ self.now.fed }
+    {
+        self.fed
+    }
+
+    /// How many instructions of the stream were whole.
+    pub fn count(&self) -> u64
+        ensures { result ≡ self.now.count }
+    {
+        self.count
+    }
+
+    /// Takes the next piece of the stream, and appends to `out` the bytes of each instruction that is whole now. The
+    /// room for them is made first, at once.
+    ///
+    /// # Errors
+    ///
+    /// `Fault` where the stream has a fault that no more bytes can mend, with its place counted from the stream's first
+    /// byte. `out` has then gained the instructions before it, and every later call answers this fault and changes
+    /// nothing. `Memory` where the allocator refuses room; nothing has changed then, and the piece may be fed again. An empty
+    /// piece takes no memory, and neither does a piece after a fault.
+    pub fn feed<A: Allocator>(
+        &mut self,
+        piece: &[u8],
+        out: &mut Vec<u8, A>,
+    ) -> Result<(), InsnError>
+        requires { self.old.fed + length piece.now ≤ u64.MAX }
+
+        // Where no fault is kept: the feed and the output move on with each stream that the feed stands for, and the
+        // answer is that of the longer stream.
+        ensures moves { IsNone self.old.fault → Feeds self.old self.new piece.now out.old.items out.new.items result }
+        ensures answer { (o to : Order) (b : List ℕ) → IsNone self.old.fault → Stands self.old o to b
+            → AnswersFor o (b ++ piece.now) result }
+
+        // A fault that is kept is told again, and nothing changes.
+        ensures kept { IfSome self.old.fault (λ f. IsErrOf result (InsnError.Fault f)
+            × ((self.new ≡ self.old) × (out.new.items ≡ out.old.items))) }
+
+        // An empty piece takes no memory.
+        ensures empty { length piece.now ≡ 0 → IsNone self.old.fault → IsOk result }
+
+        ensures bound { vec_len out.new ≤ vec_len out.old + (length self.old.held + length piece.now) }
+    {
+        match self.fault {
+            Some(fault) => return Err(InsnError::Fault(fault)),
+            None => {}
+        }
+        if piece.is_empty() {
+            return Ok(());
+        }
+        if out.reserve(self.held_len + piece.len()).is_err() {
+            return Err(InsnError::Memory);
+        }
+        self.advance(piece, out);
+        match self.fault {
+            Some(fault) => Err(InsnError::Fault(fault)),
+            None => Ok(()),
+        }
+    }
+
+    /// Ends the stream, and gives the number of its instructions.
+    ///
+    /// # Errors
+    ///
+    /// The fault of the stream: the one that was told before, or `Truncated` at the slot whose bytes are missing.
+    pub fn finish(self) -> Result<u64, SlotFault>
+        ensures end { result ≡ end_of self }
+        ensures answer { (o to : Order) (b : List ℕ) → Stands self o to b → Finishes o b result }
+    {
+        match self.fault {
+            Some(fault) => Err(fault),
+            None if self.held_len == 0 => Ok(self.count),
+            None => Err(SlotFault {
+                pos: self.fed - self.held_len as u64 + missing_slot(self.held_len),
+                cause: SlotCause::Truncated,
+            }),
+        }
+    }
+
+    // Reads the whole instructions of what is held and the piece, for which there is room.
+    fn advance<A: Allocator>(&mut self, piece: &[u8], out: &mut Vec<u8, A>)
+        requires fits { self.old.fed + length piece.now ≤ u64.MAX }
+        requires sound { self.old.fault ≡ None }
+        requires room { vec_len out.old + length self.old.held + length piece.now ≤ vec_capacity out.old }
+        ensures { Advances self.old self.new piece.now out.old.items out.new.items }
+    {
+        let held = &self.held[..self.held_len];
+        let read = read_front_across(self.order, self.to, held, piece, out);
+        let start = self.fed - self.held_len as u64;
+        // An instruction takes all that was held, or it leaves all.
+        let kept = self.held_len.saturating_sub(read.len);
+        let left = &piece[read.len.saturating_sub(self.held_len)..];
+        self.fed += piece.len() as u64;
+        self.count += read.count;
+        self.held_len = 0;
+        match read.stop {
+            None => {}
+            Some(fault) => match fault.cause {
+                SlotCause::Truncated => self.held_len = hold(&mut self.held, kept, left),
+                cause => {
+                    let pos = start + read.len as u64 + fault.pos;
+                    self.fault = Some(SlotFault { pos, cause });
+                }
+            },
+        }
+    }
+}
+
+// Where the slot begins whose bytes are missing, where so many are held.
+fn missing_slot(held_len: usize) -> u64
+    ensures { result ≡ missing_place held_len }
+{
+    if held_len < 8 { 0 } else { 8 }
+}
+
+// Puts some bytes behind the first ones of an array, and tells how many stand there now.
+fn hold(held: &mut [u8; 16], kept: usize, more: &[u8]) -> usize
+    requires { kept + length more.now ≤ 16 }
+    ensures len { result ≡ kept + length more.now }
+    ensures bytes { take result held.new ≡ take kept held.old ++ more.now }
+{
+    let len = kept + more.len();
+    held[kept..len].copy_from_slice(more);
+    len
+}

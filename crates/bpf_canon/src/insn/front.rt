@@ -1,0 +1,129 @@
+//! Whole instructions at the front of some bytes, read in one order and written in another.
+ghost use Rattle.std.specs.Prelude.{◌≡◌, ◌<◌, ◌≤◌, ◌+◌, ◌-◌, ◌++◌, [], length, take, vec_len, vec_capacity, IfOk, IfErr};
+ghost use Rattle.bpf_insn.specs.Faults.{IsSlotFault};
+ghost use Rattle.bpf_canon.specs.insn.FrontReads.{BeginsAcross, BeginsNone, ReadsFront};
+
+use crate::insn::recode::append_recoded;
+use crate::insn::write::append_insn;
+use bpf_insn::{Insn, Order, SlotFault, insn_len, read_insn};
+use std::alloc::Allocator;
+
+// How far the whole instructions go.
+#[derive(Clone, Copy)]
+pub(crate) struct FrontRead {
+    // the bytes of the whole instructions
+    pub(crate) len: usize,
+    // how many they are
+    pub(crate) count: u64,
+    // the fault of what follows them, counted from its first byte, where anything does
+    pub(crate) stop: Option<SlotFault>,
+}
+
+// Judges the whole instructions at the front of some bytes.
+fn judge_front(order: Order, bytes: &[u8]) -> FrontRead
+    ensures { ReadsFront order order bytes.now result [] (take result.len bytes.now) }
+{
+    let mut len = 0;
+    let mut count = 0;
+    while len < bytes.len() {
+        match insn_len(order, &bytes[len..]) {
+            Ok(size) => {
+                len += size;
+                count += 1;
+            }
+            Err(fault) => {
+                return FrontRead {
+                    len,
+                    count,
+                    stop: Some(fault),
+                };
+            }
+        }
+    }
+    FrontRead {
+        len,
+        count,
+        stop: None,
+    }
+}
+
+// Reads the whole instructions at the front of some bytes, and appends each in the order `to`.
+pub(crate) fn read_front<A: Allocator>(
+    order: Order,
+    to: Order,
+    bytes: &[u8],
+    out: &mut Vec<u8, A>,
+) -> FrontRead
+    requires { vec_len out.old + length bytes.now ≤ vec_capacity out.old }
+    ensures { ReadsFront order to bytes.now result out.old.items out.new.items }
+{
+    let read = judge_front(order, bytes);
+    let (front, _) = bytes.split_at(read.len);
+    append_recoded(order, to, front, out);
+    read
+}
+
+// Does the same for some bytes that were held and the piece that follows them.
+pub(crate) fn read_front_across<A: Allocator>(
+    order: Order,
+    to: Order,
+    held: &[u8],
+    piece: &[u8],
+    out: &mut Vec<u8, A>,
+) -> FrontRead
+    requires short { length held.now < 16 }
+    requires unspelled { BeginsNone order held.now }
+    requires room { vec_len out.old + length held.now + length piece.now ≤ vec_capacity out.old }
+    ensures read { ReadsFront order to (held.now ++ piece.now) result out.old.items out.new.items }
+    ensures held { 0 < result.count → length held.now ≤ result.len }
+{
+    if held.is_empty() {
+        return read_front(order, to, piece, out);
+    }
+    match complete(order, held, piece) {
+        Ok(found) => {
+            let (insn, used) = found;
+            append_insn(out, to, insn);
+            let rest = read_front(order, to, &piece[used..], out);
+            FrontRead {
+                len: held.len() + used + rest.len,
+                count: 1 + rest.count,
+                stop: rest.stop,
+            }
+        }
+        Err(fault) => FrontRead {
+            len: 0,
+            count: 0,
+            stop: Some(fault),
+        },
+    }
+}
+
+// The instruction that some held bytes begin and a piece completes, and how many bytes of the piece it takes.
+fn complete(order: Order, held: &[u8], piece: &[u8]) -> Result<(Insn, usize), SlotFault>
+    requires short { length held.now < 16 }
+    requires unspelled { BeginsNone order held.now }
+    ensures found { IfOk result (λ r. BeginsAcross order r.0 held.now piece.now r.1) }
+    ensures fault { IfErr result (IsSlotFault order (held.now ++ piece.now)) }
+{
+    let used = piece.len().min(16 - held.len());
+    let joined = join(held, &piece[..used]);
+    match read_insn(order, &joined[..held.len() + used]) {
+        Ok(found) => {
+            let (insn, size) = found;
+            Ok((insn, size - held.len()))
+        }
+        Err(fault) => Err(fault),
+    }
+}
+
+// Two slices, one after the other, and zeros.
+fn join(first: &[u8], second: &[u8]) -> [u8; 16]
+    requires { length first.now + length second.now ≤ 16 }
+    ensures { take (length first.now + length second.now) result ≡ first.now ++ second.now }
+{
+    let mut joined = [0; 16];
+    joined[..first.len()].copy_from_slice(first);
+    joined[first.len()..first.len() + second.len()].copy_from_slice(second);
+    joined
+}

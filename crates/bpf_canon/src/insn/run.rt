@@ -1,0 +1,171 @@
+//! Instructions from a source to a sink.
+ghost use Rattle.std.specs.Prelude.{◌≡◌, ◌<◌, ◌≤◌, ◌+◌, ◌-◌, length, min, IfOk, IfErr, OnOk, IsNone};
+ghost use Rattle.std.specs.Io.KnownBytes.{Appends};
+ghost use Rattle.bpf_canon.specs.insn.Run.{RanWhole, Stops, devices, counts_read, counts_write};
+ghost use Rattle.bpf_canon.specs.insn.Passed.{Passed, PassStops, PutStops};
+
+use crate::device::DeviceFailed;
+use crate::device::sink::{ByteSink, put_all};
+use crate::device::source::ByteSource;
+use crate::insn::feed::InsnFeed;
+use bpf_insn::{InsnError, Order, SlotFault};
+use std::alloc::Allocator;
+
+/// How many bytes of instructions an engine takes from a source: 64 MiB.
+pub const INSN_LIMIT: u64 = 67_108_864;
+
+/// Why an engine stopped. `F` is a fault of its input.
+#[derive(Clone, Copy, Debug, PartialEq, Eq)]
+pub enum RunCause<F> {
+    /// The input has this fault.
+    Fault(F),
+    /// More bytes came than the limit allows.
+    TooLong,
+    /// A read of the source failed.
+    ReadFailed,
+    /// A write to the sink failed.
+    WriteFailed,
+    /// The allocator refused memory.
+    Memory,
+}
+
+/// What an engine says that stopped.
+#[derive(Clone, Copy, Debug, PartialEq, Eq)]
+pub struct RunError<F> {
+    /// Why it stopped.
+    pub cause: RunCause<F>,
+    /// How many bytes the sink took.
+    pub written: u64,
+}
+
+/// Reads instructions in one order to the source's end, and writes them in another as they come. The answer is how many
+/// bytes were written. Each read offers 4,096 bytes of room, and the input isn't kept.
+///
+/// # Errors
+///
+/// In each, `written` is how many bytes the sink took.
+///
+/// - `Fault` where the input is no file of instructions: its first fault, with its place counted from the first byte.
+///   A fault in a complete slot comes before `ReadFailed` and `TooLong`; `Truncated` is told only where the source ended.
+/// - `TooLong` where more than [`INSN_LIMIT`] bytes came.
+/// - `ReadFailed` and `WriteFailed` where that device failed.
+/// - `Memory` where the allocator refuses room for a piece.
+///
+/// At `Fault`, `TooLong` and `ReadFailed` the sink has taken the bytes of each whole instruction before the fault or the
+/// end of what was read within the limit. At `WriteFailed` and `Memory` it has taken a prefix of these.
+pub fn run_insns<A: Allocator, S: ByteSource, W: ByteSink>(
+    alloc: A,
+    source: &mut S,
+    sink: &mut W,
+    order: Order,
+    to: Order,
+) -> Result<u64, RunError<SlotFault>>
+    requires source { S.failures source.old < u64.MAX }
+    requires sink { W.failures sink.old < u64.MAX }
+
+    ensures ok { IfOk result (RanWhole (devices (S.remaining source.old) (S.remaining source.new) (W.contents sink.old) (W.contents sink.new)) order to) }
+    ensures err { IfErr result (λ e. Stops (devices (S.remaining source.old) (S.remaining source.new) (W.contents sink.old) (W.contents sink.new)) order to e.written e.cause) }
+
+    // Each failure of a device is told, and none is told that wasn't.
+    ensures healthy { OnOk result ((S.failures source.new ≡ S.failures source.old) × (W.failures sink.new ≡ W.failures sink.old)) }
+    ensures reads { IfErr result (λ e. S.failures source.new ≡ S.failures source.old + counts_read e.cause) }
+    ensures writes { IfErr result (λ e. W.failures sink.new ≡ W.failures sink.old + counts_write e.cause) }
+{
+    let mut feed = InsnFeed::new(order, to);
+    let mut out = Vec::new(alloc);
+    let mut buffer = [0u8; 4096];
+    let mut written = 0;
+    'reads: loop {
+        let n = match source.read(&mut buffer) {
+            Ok(0) => break,
+            Ok(n) => n,
+            Err(DeviceFailed) => {
+                return Err(RunError {
+                    cause: RunCause::ReadFailed,
+                    written,
+                });
+            }
+        };
+        let within = within_limit(n, feed.fed());
+        match pass_on(&mut feed, &buffer[..within], &mut out, sink) {
+            Ok(more) => written += more,
+            Err(stop) => {
+                return Err(RunError {
+                    cause: stop.cause,
+                    written: written + stop.written,
+                });
+            }
+        }
+        if within < n {
+            return Err(RunError {
+                cause: RunCause::TooLong,
+                written,
+            });
+        }
+    }
+    match feed.finish() {
+        Ok(_) => Ok(written),
+        Err(fault) => Err(RunError {
+            cause: RunCause::Fault(fault),
+            written,
+        }),
+    }
+}
+
+// How many of n bytes are within the limit, where some came before.
+fn within_limit(n: usize, before: u64) -> usize
+    requires { before ≤ INSN_LIMIT }
+    ensures { result ≡ min n (INSN_LIMIT - before) }
+{
+    n.min((INSN_LIMIT - before) as usize)
+}
+
+// Feeds a piece, and writes what became whole. The vector is used over again.
+fn pass_on<A: Allocator, W: ByteSink>(
+    feed: &mut InsnFeed,
+    piece: &[u8],
+    out: &mut Vec<u8, A>,
+    sink: &mut W,
+) -> Result<u64, RunError<SlotFault>>
+    requires fits { feed.old.fed + length piece.now ≤ u64.MAX }
+    requires sound { IsNone feed.old.fault }
+    requires healthy { W.failures sink.old < u64.MAX }
+    ensures ok { IfOk result (Passed feed.old feed.new piece.now (W.contents sink.old) (W.contents sink.new)) }
+    ensures err { IfErr result (λ e. PassStops feed.old feed.new piece.now (W.contents sink.old) (W.contents sink.new) e.written e.cause) }
+    ensures fed { OnOk result (feed.new.fed ≡ feed.old.fed + length piece.now) }
+    ensures healthy { OnOk result (W.failures sink.new ≡ W.failures sink.old) }
+    ensures count { IfErr result (λ e. W.failures sink.new ≡ W.failures sink.old + counts_write e.cause) }
+{
+    out.clear();
+    match feed.feed(piece, out) {
+        Ok(()) => put_whole(sink, out.as_slice()),
+        Err(InsnError::Fault(fault)) => {
+            let written = put_whole(sink, out.as_slice())?;
+            Err(RunError {
+                cause: RunCause::Fault(fault),
+                written,
+            })
+        }
+        Err(InsnError::Memory) => Err(RunError {
+            cause: RunCause::Memory,
+            written: 0,
+        }),
+    }
+}
+
+// Writes all the bytes, and tells how many they are.
+pub(crate) fn put_whole<F, W: ByteSink>(sink: &mut W, bytes: &[u8]) -> Result<u64, RunError<F>>
+    requires { W.failures sink.old < u64.MAX }
+    ensures ok { IfOk result (λ n. (n ≡ length bytes.now) × Appends (W.contents sink.old) (W.contents sink.new) bytes.now) }
+    ensures err { IfErr result (PutStops (W.contents sink.old) (W.contents sink.new) bytes.now) }
+    ensures healthy { OnOk result (W.failures sink.new ≡ W.failures sink.old) }
+    ensures count { IfErr result (λ e. W.failures sink.new ≡ W.failures sink.old + 1) }
+{
+    match put_all(sink, bytes) {
+        Ok(()) => Ok(bytes.len() as u64),
+        Err(written) => Err(RunError {
+            cause: RunCause::WriteFailed,
+            written,
+        }),
+    }
+}

@@ -1,0 +1,8 @@
+-- A file has no fault exactly where its frames spell good records.
+pub mod Faultless
+pub mod FaultlessHeads
+pub mod FaultlessItems
+pub mod FaultlessRecords
+pub mod FaultlessWords
+pub mod SpelledFaultless
+pub mod ItemReads

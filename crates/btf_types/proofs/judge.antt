@@ -1,0 +1,15 @@
+-- Lemmas on faults.
+pub mod FieldSteps
+pub mod FieldsLaw
+pub mod Firsts
+pub mod FramesLaw
+pub mod FramingSteps
+pub mod Judging
+pub mod NameSteps
+pub mod PhaseSteps
+pub mod RoleSteps
+pub mod WordSteps
+pub mod Utf8Steps
+pub mod Marks
+pub mod FaultLaws
+pub mod BitSteps

@@ -1,0 +1,137 @@
+-- From the faults of a section to those of the file.
+use Rattle.std.proofs.Common.{◌≡◌, ℕ, ◌+◌, ◌-◌, List, [], ◌++◌, length, get_or, sym, ap, subst, ◌∙◌, inl, inr, append-nil, arith}
+use Rattle.bpf_words.specs.declared.Order.{Order}
+use Rattle.btf_raw.specs.declared.header.Header.{Header}
+use Rattle.btf_raw.specs.declared.cause.BtfCause.{BtfCause}
+use Rattle.btf_raw.specs.declared.cause.BtfCause.TheVariants.{FirstString, LastString, RecordCut, TailCut}
+use Rattle.btf_raw.specs.Cause.{LeastByCause, LeastByPlace}
+use Rattle.btf_raw.specs.Header.{Cut, HasNulEnds, StringFault, types_at}
+use Rattle.btf_raw.specs.Frames.{Frames, FramingFault, RecordFault, section_of}
+use Rattle.btf_raw.proofs.Frames.{IsNoFrame, frame_has_none, frames_cancel}
+use Rattle.btf_raw.proofs.Cuts.{cut_unique, SameCut}
+use Rattle.btf_types.proofs.Denoting.{nothing_is_no_frame}
+use Rattle.btf_types.specs.Faults.{StringsFault, FramesFault, FieldsFault}
+use Rattle.btf_types.specs.judge.FieldFaults.{FieldFault}
+use Rattle.btf_types.specs.Reading.{frames_at}
+use Rattle.btf_types.specs.tables.TableInvariant.{IsFramed}
+use Rattle.btf_types.specs.judge.Phases.{HasHeader, HasStrings, HasFrames, types_of, strings_of}
+
+pub no_string_fault : (strings : List ℕ) (p : ℕ) (c : BtfCause) → HasNulEnds strings → ¬ StringFault strings p c
+no_string_fault strings p FirstString ends fault = fault.2 (subst (λ (i : ℕ). get_or strings i 0 ≡ 0) (sym fault.0) ends.first)
+no_string_fault strings p LastString ends fault =
+    let last : length strings - 1 ≡ p = omega (arith, fault.0) in
+    fault.1 (subst (λ (i : ℕ). get_or strings i 0 ≡ 0) last ends.last)
+no_string_fault strings p c ends fault = absurd fault
+
+-- the cut of a fault is that of the header
+same_cut : (b : List ℕ) (h : Header) (o : Order) (types strings : List ℕ) → HasHeader b h → Cut b o types strings → SameCut o h.order types strings (types_of b h) (strings_of b h)
+same_cut b h o types strings has cut = cut_unique b o h.order types strings (types_of b h) (strings_of b h) cut has.reads.cut
+
+pub strings_judged : (b : List ℕ) (h : Header) → HasHeader b h → HasNulEnds (strings_of b h) → HasStrings b h
+strings_judged b h has ends = record {
+  header = has;
+  ends = ends;
+  none = λ p c fault. no_string_fault (strings_of b h) fault.offset c ends
+      (subst (λ (s : List ℕ). StringFault s fault.offset c) (same_cut b h fault.order fault.types fault.strings has fault.cut).strings fault.fault);
+}
+
+pub first_string_fault : (b : List ℕ) (h : Header) (p q : ℕ) (c : BtfCause) → HasHeader b h → LeastByCause (StringFault (strings_of b h)) q c → p ≡ h.str_pos + q → LeastByCause (StringsFault b) p c
+first_string_fault b h p q c has least is = record {
+  holds = record {
+    header = has.none;
+    order = h.order;
+    types = types_of b h;
+    strings = strings_of b h;
+    offset = q;
+    cut = has.reads.cut;
+    fault = least.holds;
+    place_is = is ∙ ap (λ (k : ℕ). k + q) has.reads.str_pos;
+  };
+  least = λ r d other. least.least other.offset d
+      (subst (λ (s : List ℕ). StringFault s other.offset d) (same_cut b h other.order other.types other.strings has other.cut).strings other.fault);
+}
+
+no_fault_of_nothing : (o : Order) (p : ℕ) (c : BtfCause) → ¬ RecordFault o [] p c
+no_fault_of_nothing o p RecordCut fault = omega (arith, fault.0)
+no_fault_of_nothing o p TailCut fault = omega (arith, fault.1.0)
+no_fault_of_nothing o p c fault = omega (arith, fault.1.0)
+
+-- a section of frames has no fault of framing
+pub frames_have_none : (o : Order) (types : List ℕ) (frames : List (List ℕ)) (p : ℕ) (c : BtfCause) → Frames o types frames → ¬ FramingFault o types p c
+frames_have_none o types frames p c framed fault =
+    let rest_is_none : IsNoFrame o fault.rest = λ f rest frame is. frame_has_none o f rest fault.offset c frame (subst (λ (b : List ℕ). RecordFault o b fault.offset c) is fault.fault) in
+    let same = frames_cancel o frames fault.frames [] fault.rest framed.each fault.each (nothing_is_no_frame o) rest_is_none (rw append-nil (sym framed.whole ∙ fault.whole)) in
+    no_fault_of_nothing o fault.offset c (subst (λ (b : List ℕ). RecordFault o b fault.offset c) (sym same.rest) fault.fault)
+
+pub framing_judged : (b : List ℕ) (h : Header) (places : List ℕ) → HasStrings b h → IsFramed h.order (types_of b h) places → HasFrames b h places
+framing_judged b h places has framed = record {
+  before = has;
+  framed = framed;
+  none = λ p c fault.
+      let same = same_cut b h fault.order fault.types fault.strings has.header fault.cut in
+      frames_have_none h.order (types_of b h) (frames_at h.order (types_of b h) places) fault.offset c framed.frames
+      (subst (λ (o : Order). FramingFault o (types_of b h) fault.offset c) same.order (subst (λ (t : List ℕ). FramingFault fault.order t fault.offset c) same.types fault.fault));
+}
+
+pub first_frames_fault : (b : List ℕ) (h : Header) (p q : ℕ) (c : BtfCause) → HasStrings b h → LeastByPlace (FramingFault h.order (types_of b h)) q c → p ≡ h.types_pos + q → LeastByPlace (FramesFault b) p c
+first_frames_fault b h p q c has least is = record {
+  holds = record {
+    header = has.header.none;
+    ends = has.none;
+    order = h.order;
+    types = types_of b h;
+    strings = strings_of b h;
+    offset = q;
+    cut = has.header.reads.cut;
+    fault = least.holds;
+    place_is = is ∙ ap (λ (k : ℕ). k + q) has.header.reads.types_pos;
+  };
+  least = λ r d other.
+      let same = same_cut b h other.order other.types other.strings has.header other.cut in
+      let fault = subst (λ (o : Order). FramingFault o (types_of b h) other.offset d) same.order (subst (λ (t : List ℕ). FramingFault other.order t other.offset d) same.types other.fault) in
+      let base : types_at other.order b ≡ h.types_pos = ap (λ (o : Order). types_at o b) same.order ∙ sym has.header.reads.types_pos in
+      let place = other.place_is in
+      elim (least.least other.offset d fault) [
+        | inl before ↦ inl (omega arith)
+        | inr here ↦ inr (omega (arith, here.0), here.1)
+      ];
+}
+
+-- a section is cut into frames in one way
+pub same_frames : (o : Order) (types : List ℕ) (fs gs : List (List ℕ)) → Frames o types fs → Frames o types gs → fs ≡ gs
+same_frames o types fs gs one other =
+    let sections : section_of o fs ++ [] ≡ section_of o gs ++ [] = rw (append-nil, append-nil) (sym one.whole ∙ other.whole) in
+    (frames_cancel o fs gs [] [] one.each other.each (nothing_is_no_frame o) (nothing_is_no_frame o) sections).frames
+
+pub first_fields_fault : (b : List ℕ) (h : Header) (places : List ℕ) (p q : ℕ) (c : BtfCause) → HasFrames b h places
+    → LeastByPlace (FieldFault (strings_of b h) (frames_at h.order (types_of b h) places)) q c → p ≡ h.types_pos + q → LeastByPlace (FieldsFault b) p c
+first_fields_fault b h places p q c has least is =
+    let reads = has.before.header.reads in
+    let frames = frames_at h.order (types_of b h) places in
+    record {
+      holds = record {
+        header = has.before.header.none;
+        ends = has.before.none;
+        framing = has.none;
+        order = h.order;
+        types = types_of b h;
+        strings = strings_of b h;
+        frames = frames;
+        offset = q;
+        cut = reads.cut;
+        framed = has.framed.frames;
+        fault = least.holds;
+        place_is = is ∙ ap (λ (k : ℕ). k + q) reads.types_pos;
+      };
+      least = λ r d other.
+          let same = same_cut b h other.order other.types other.strings has.before.header other.cut in
+          let framed = subst (λ (o : Order). Frames o (types_of b h) other.frames) same.order (subst (λ (t : List ℕ). Frames other.order t other.frames) same.types other.framed) in
+          let these = same_frames h.order (types_of b h) other.frames frames framed has.framed.frames in
+          let fault = subst (λ (f : List (List ℕ)). FieldFault (strings_of b h) f other.offset d) these (subst (λ (s : List ℕ). FieldFault s other.frames other.offset d) same.strings other.fault) in
+          let base : types_at other.order b ≡ h.types_pos = ap (λ (o : Order). types_at o b) same.order ∙ sym reads.types_pos in
+          let place = other.place_is in
+          elim (least.least other.offset d fault) [
+            | inl before ↦ inl (omega arith)
+            | inr here ↦ inr (omega (arith, here.0), here.1)
+          ];
+    }

@@ -1,0 +1,195 @@
+-- The ends of long texts are found block by block, and each end is found among them.
+use Rattle.std.proofs.Common.{◌≡◌, ◌≢◌, ◌⊎◌, ℕ, zero, suc, ◌+◌, ◌-◌, ◌<◌, ◌≤◌, Bool, true, false, List, [], ◌∷◌, ◌++◌, length, get_or, take, drop, refl, sym, ap, subst, ◌∙◌, inl, inr, arith, length-append}
+use Rattle.std.specs.List.{AllWithin}
+use Rattle.std.specs.Prelude.{nat_lt, min}
+use Rattle.std.proofs.lemmas.Grind.{get_or_default_zero}
+use Rattle.std.proofs.lemmas.Bool.{cases_lt, ltb-true, ltb-false, lt-ltb}
+use Rattle.std.proofs.lemmas.List.{get_or-take, get_or-drop, length-take, length-drop}
+use Rattle.std.proofs.Math.ListN.{get_or-append}
+use Rattle.std.proofs.Math.Seq.{get_or-append_seam}
+use Rattle.btf_raw.specs.Header.{HasNulEnds}
+use Rattle.btf_raw.specs.Names.{TextAt}
+use Rattle.btf_raw.proofs.Texts.{TextAt-first, TextAt-unique}
+use Rattle.btf_types.specs.tables.StringEnds.{IsEnd, IsAmong, AreLongEndsTo, AreLongEnds, HasNulNear}
+
+pub none_yet : (strings : List ℕ) → AreLongEndsTo strings [] 0
+none_yet strings = record {
+  inside = λ k h. absurd (omega (arith, h));
+  nuls = λ k h. absurd (omega (arith, h));
+  rising = λ j k h i. absurd (omega (arith, i));
+  each = λ offset end low h i. absurd (omega (arith, low));
+}
+
+-- no text of 128 bytes ends within 64 bytes of a NUL
+near : (strings : List ℕ) (at offset end : ℕ) → HasNulNear strings at → end < at + 64 → IsEnd strings offset end → offset + 128 ≤ end → end < at
+near strings at offset end (inl e) h is long = absurd (omega arith)
+near strings at offset end (inr (z, below, within, nul)) h is long =
+    elim (cases_lt z end) [
+      | inl lt ↦ absurd (is.before z (omega arith) lt nul)
+      | inr le ↦ omega arith
+    ]
+
+-- so none is missed where a block has a NUL, or where the section ends
+pub more_bytes : (strings ends : List ℕ) (at to : ℕ) → AreLongEndsTo strings ends at → HasNulNear strings at → at ≤ to → to ≤ at + 64 → AreLongEndsTo strings ends to
+more_bytes strings ends at to are gap low high = record {
+  inside = λ k h. let i = are.inside k h in omega arith;
+  nuls = are.nuls;
+  rising = are.rising;
+  each = λ offset end below is long. are.each offset end (near strings at offset end gap (omega arith) is long) is long;
+}
+
+one_more : (ends : List ℕ) (end : ℕ) (P : ℕ → Type 0) → ((k : ℕ) → k < length ends → P (get_or ends k 0)) → P end → (k : ℕ) → k < length (ends ++ end ∷ []) → P (get_or (ends ++ end ∷ []) k 0)
+one_more ends end P all last k h =
+    elim (cases_lt k (length ends)) [
+      | inl lt ↦ subst P (sym (get_or-append ends (end ∷ []) 0 k lt)) (all k lt)
+      | inr le ↦
+          let e : length ends ≡ k = omega (arith, length-append ends (end ∷ [])) in
+          subst (λ (i : ℕ). P (get_or (ends ++ end ∷ []) i 0)) e (subst P (sym (get_or-append_seam ends end [] 0)) last)
+    ]
+
+rising_more : (strings ends : List ℕ) (at end : ℕ) → AreLongEndsTo strings ends at → at ≤ end → (j k : ℕ) → j ≤ k → k < length (ends ++ end ∷ []) → get_or (ends ++ end ∷ []) j 0 ≤ get_or (ends ++ end ∷ []) k 0
+rising_more strings ends at end are le j k jk h =
+    elim (cases_lt k (length ends)) [
+      | inl lt ↦
+          let here = get_or-append ends (end ∷ []) 0 j (omega arith) in
+          let there = get_or-append ends (end ∷ []) 0 k lt in
+          let rises = are.rising j k jk lt in
+          omega arith
+      | inr ge ↦
+          let e : length ends ≡ k = omega (arith, length-append ends (end ∷ [])) in
+          let last : get_or (ends ++ end ∷ []) k 0 ≡ end = subst (λ (i : ℕ). get_or (ends ++ end ∷ []) i 0 ≡ end) e (get_or-append_seam ends end [] 0) in
+          let most : get_or (ends ++ end ∷ []) j 0 ≤ end =
+          one_more ends end (λ x. x ≤ end) (λ i below. let inside = are.inside i below in omega arith) (omega arith) j (omega arith) in
+          omega arith
+    ]
+
+among_more : (ends : List ℕ) (end x : ℕ) → IsAmong ends x → IsAmong (ends ++ end ∷ []) x
+among_more ends end x (k, lt, e) = (k, omega (arith, length-append ends (end ∷ [])), get_or-append ends (end ∷ []) 0 k lt ∙ e)
+
+-- the next NUL behind a place is one end more
+pub one_end_more : (strings ends : List ℕ) (at end : ℕ) → AreLongEndsTo strings ends at → HasNulNear strings at → IsEnd strings at end → AreLongEndsTo strings (ends ++ end ∷ []) (end + 1)
+one_end_more strings ends at end are gap is = record {
+  inside = one_more ends end (λ x. x < end + 1) (λ k h. let i = are.inside k h in omega (arith, is.from)) (omega arith);
+  nuls = one_more ends end (λ x. get_or strings x 0 ≡ 0) are.nuls is.nul;
+  rising = rising_more strings ends at end are is.from;
+  each = λ offset other below other_is long.
+      elim (cases_lt other at) [
+        | inl lt ↦ among_more ends end other (are.each offset other lt other_is long)
+        | inr le ↦
+            let same : end ≡ other = elim (cases_lt other end) [
+              | inl lt ↦ absurd (is.before other le lt other_is.nul)
+              | inr ge ↦ omega arith
+            ] in
+            (length ends, omega (arith, length-append ends (end ∷ [])), get_or-append_seam ends end [] 0 ∙ same)
+      ];
+}
+
+pub nul_behind : (strings : List ℕ) (at end : ℕ) → IsEnd strings at end → HasNulNear strings (end + 1)
+nul_behind strings at end is = inr (end, omega arith, omega arith, is.nul)
+
+-- where the next bytes have no NUL, the first of the ends from the offset on is the end
+pub end_among : (strings ends : List ℕ) (offset end k : ℕ) → AreLongEnds strings ends → IsEnd strings offset end → offset + 128 ≤ end
+    → AllWithin (λ x. x < offset) ends 0 k → AllWithin (λ x. offset ≤ x) ends k (length ends) → (k < length ends) × (get_or ends k 0 ≡ end)
+end_among strings ends offset end k are is long passed left =
+    let (j, inside, here) = are.each offset end is.inside is long in
+    let high : k ≤ j = elim (cases_lt j k) [
+      | inl lt ↦ let low : get_or ends j 0 < offset = passed j 0 (omega arith) lt in absurd (omega (arith, is.from))
+      | inr le ↦ le
+    ] in
+    let from : offset ≤ get_or ends k 0 = left k 0 (omega arith) (omega arith) in
+    let most : get_or ends k 0 ≤ get_or ends j 0 = are.rising k j high inside in
+    let nul = are.nuls k (omega arith) in (
+      omega arith,
+      elim (cases_lt (get_or ends k 0) end) [
+        | inl lt ↦ absurd (is.before (get_or ends k 0) from lt nul)
+        | inr ge ↦ omega arith
+      ],
+    )
+
+-- a byte of a part
+part_byte : (strings : List ℕ) (off n i : ℕ) → i < n → get_or (take n (drop off strings)) i 0 ≡ get_or strings (off + i) 0
+part_byte strings off n i h = get_or-take n (drop off strings) i 0 h ∙ get_or-drop off strings i 0
+
+-- the first NUL of a part
+pub first_in_part : (strings : List ℕ) (off n k : ℕ) → k < length (take n (drop off strings)) → get_or (take n (drop off strings)) k 0 ≡ 0
+    → ((i : ℕ) → i < k → get_or (take n (drop off strings)) i 0 ≢ 0) → IsEnd strings off (off + k)
+first_in_part strings off n k inside nul before =
+    let low : k < n = omega (arith, length-take n (drop off strings)) in
+    record {
+      from = omega arith;
+      inside = omega (arith, length-take n (drop off strings), length-drop off strings);
+      nul = sym (part_byte strings off n k low) ∙ nul;
+      before = λ i high lt e.
+          let same : off + (i - off) ≡ i = omega arith in
+          before (i - off) (omega arith) (part_byte strings off n (i - off) (omega arith) ∙ ap (λ (j : ℕ). get_or strings j 0) same ∙ e);
+    }
+
+pub none_in_part : (strings : List ℕ) (off to : ℕ) → to ≤ length strings → ((i : ℕ) → i < length (take (to - off) (drop off strings)) → get_or (take (to - off) (drop off strings)) i 0 ≢ 0)
+    → (i : ℕ) → off ≤ i → i < to → get_or strings i 0 ≢ 0
+none_in_part strings off to inside none i high low e =
+    let same : off + (i - off) ≡ i = omega arith in
+    let part : i - off < length (take (to - off) (drop off strings)) = omega (arith, length-take (to - off) (drop off strings), length-drop off strings) in
+    none (i - off) part (part_byte strings off (to - off) (i - off) (omega arith) ∙ ap (λ (j : ℕ). get_or strings j 0) same ∙ e)
+
+-- each text of a section with NUL ends has an end
+end_before : (strings : List ℕ) (n offset last : ℕ) → offset + n ≡ last → last < length strings → get_or strings last 0 ≡ 0 → (end : ℕ) × IsEnd strings offset end
+end_before strings zero offset last e h nul =
+    let same : offset ≡ last = omega arith in
+    (last, record { from = omega arith; inside = h; nul = nul; before = λ i low high is. omega arith })
+end_before strings (suc n) offset last e h nul =
+    elim (cases_lt 0 (get_or strings offset 0)) [
+      | inl some ↦
+          let (end, is) = end_before strings n (offset + 1) last (omega arith) h nul in (
+            end,
+            record {
+              from = let from = is.from in omega arith;
+              inside = is.inside;
+              nul = is.nul;
+              before = λ i low high zero_there. elim (cases_lt offset i) [
+                | inl lt ↦ is.before i (omega arith) high zero_there
+                | inr le ↦
+                    let same : i ≡ offset = omega arith in
+                    let here : get_or strings offset 0 ≡ 0 = subst (λ (j : ℕ). get_or strings j 0 ≡ 0) same zero_there in
+                    omega arith
+              ];
+            },
+          )
+      | inr none ↦ (offset, record { from = omega arith; inside = omega arith; nul = omega arith; before = λ i low high is. omega arith })
+    ]
+
+-- where the next 128 bytes have no NUL, the first of the ends from the offset on is the end
+pub found_among : (strings ends : List ℕ) (offset near k : ℕ) → HasNulEnds strings → offset < length strings → AreLongEnds strings ends
+    → near ≡ min (length strings) (offset + 128) → ((i : ℕ) → offset ≤ i → i < near → get_or strings i 0 ≢ 0)
+    → AllWithin (λ x. nat_lt x offset ≡ true) ends 0 k → AllWithin (λ x. nat_lt x offset ≡ false) ends k (length ends)
+    → (k < length ends) × IsEnd strings offset (get_or ends k 0)
+found_among strings ends offset near k nuls inside are e none passed left =
+    let (end, is) = end_before strings (length strings - 1 - offset) offset (length strings - 1) (omega arith) (omega arith) nuls.last in
+    let long : offset + 128 ≤ end = elim (cases_lt end near) [
+      | inl lt ↦ absurd (none end is.from lt is.nul)
+      | inr le ↦ let below = is.inside in omega arith
+    ] in
+    let found = end_among strings ends offset end k are is long
+    (λ j d low high. ltb-true _ _ (passed j d low high))
+    (λ j d low high. ltb-false _ _ (left j d low high)) in
+    (found.0, subst (λ (x : ℕ). IsEnd strings offset x) (sym found.1) is)
+
+-- the ends rise, so those before an offset come first
+pub ends_part : (strings ends : List ℕ) (offset i j d : ℕ) → AreLongEnds strings ends → i ≤ j → j < length ends
+    → nat_lt (get_or ends j d) offset ≡ true → nat_lt (get_or ends i d) offset ≡ true
+ends_part strings ends offset i j d are low high h =
+    let rises = are.rising i j low high in
+    let here = get_or_default_zero ends i d (omega arith) in
+    let there = get_or_default_zero ends j d high in
+    let below = ltb-true _ _ h in
+    lt-ltb _ _ (omega arith)
+
+-- what stands up to the end is the text
+pub text_to_end : (strings : List ℕ) (offset end : ℕ) (text : List ℕ) → TextAt strings offset text → IsEnd strings offset end → take (end - offset) (drop offset strings) ≡ text
+text_to_end strings offset end text there is =
+    let low = is.from in
+    let inside = is.inside in
+    let nul : get_or (drop offset strings) (end - offset) 0 ≡ 0 =
+    get_or-drop offset strings (end - offset) 0 ∙ subst (λ (i : ℕ). get_or strings i 0 ≡ 0) (let e : end ≡ offset + (end - offset) = omega arith in e) is.nul in
+    let first = TextAt-first strings offset (end - offset) (omega arith) (omega (arith, length-drop offset strings)) nul
+    (λ i lt e. is.before (offset + i) (omega arith) (omega arith) (sym (get_or-drop offset strings i 0) ∙ e)) in
+    TextAt-unique strings offset (take (end - offset) (drop offset strings)) text first there

@@ -1,0 +1,88 @@
+-- The records of a framed section, one by one.
+use Rattle.std.proofs.Common.{◌≡◌, ℕ, zero, suc, ◌+◌, ◌-◌, ◌*◌, ◌<◌, ◌≤◌, Some, List, [], ◌∷◌, length, get_or, take, map, refl, ap, subst, ◌∙◌, length-append, arith}
+use Rattle.std.specs.Prelude.{slice_index, slice_get}
+use Rattle.std.specs.List.{concat}
+use Rattle.std.proofs.Math.Dec.{eqb-suc-zero}
+use Rattle.std.proofs.lemmas.List.{length-map}
+use Rattle.bpf_words.specs.declared.Order.{Order}
+use Rattle.btf_raw.specs.declared.kinds.TheConstants.{INT}
+use Rattle.btf_raw.specs.Kinds.{tail_words, fixed_words, item_words}
+use Rattle.btf_raw.specs.Frames.{IsFrame, bytes_of, section_of, kind}
+use Rattle.btf_raw.proofs.Frames.{length-bytes_of}
+use Rattle.btf_types.specs.declared.tables.section.Section.{Section}
+use Rattle.btf_types.specs.judge.Checks.{type_at}
+use Rattle.btf_types.specs.judge.FieldFaults.{frame_facts}
+use Rattle.btf_types.specs.Reading.{frame_at}
+use Rattle.btf_types.specs.Sections.{IsSection, StandsIn, frame_in, frames_in, facts_in}
+
+-- element i of a list that another is made of
+get-map : {X Y : Type 0} (f : X → Y) (xs : List X) (i : ℕ) (d : X) → i < length xs → slice_get (map f xs) i ≡ Some (f (get_or xs i d))
+get-map f [] i d h = absurd (omega arith)
+get-map f (x ∷ xs) zero d h = refl
+get-map f (x ∷ xs) (suc i) d h = get-map f xs i d (omega arith)
+
+get_or-map : {X Y : Type 0} (f : X → Y) (xs : List X) (i : ℕ) (d : X) (e : Y) → i < length xs → get_or (map f xs) i e ≡ f (get_or xs i d)
+get_or-map f [] i d e h = absurd (omega arith)
+get_or-map f (x ∷ xs) zero d e h = refl
+get_or-map f (x ∷ xs) (suc i) d e h = get_or-map f xs i d e (omega arith)
+
+-- bytes are four for each word
+pub length-section : (o : Order) (fs : List (List ℕ)) → length (section_of o fs) ≡ 4 * length (concat fs)
+length-section o [] = refl
+length-section o (f ∷ fs) = omega (arith, length-append (bytes_of o f) (section_of o fs), length-append f (concat fs), length-bytes_of o f, length-section o fs)
+
+-- a frame ends within the section
+ends_inside : (o : Order) (frames : List (List ℕ)) (i : ℕ) → i < length frames → length (section_of o (take i frames)) + 4 * length (get_or frames i []) ≤ length (section_of o frames)
+ends_inside o [] i h = absurd (omega arith)
+ends_inside o (f ∷ frames) zero h = omega (arith, length-append (bytes_of o f) (section_of o frames), length-bytes_of o f)
+ends_inside o (f ∷ frames) (suc i) h =
+    let rest = ends_inside o frames i (omega arith) in
+    omega (arith, rest, length-append (bytes_of o f) (section_of o frames), length-append (bytes_of o f) (section_of o (take i frames)))
+
+module _ (s : Section) (good : IsSection s) (i : ℕ) (there : i < length s.places.now) where
+  pos : ℕ
+  pos = slice_index s.places.now i
+
+  among : i < length (frames_in s)
+  among = omega (arith, length-map s.places.now (frame_at s.order s.types.now))
+
+  frame_is : get_or (frames_in s) i [] ≡ frame_in s i
+  frame_is = get_or-map (frame_at s.order s.types.now) s.places.now i 0 [] there
+
+  -- it stands there, four bytes a word behind the words of those before it
+  pub stands_in : StandsIn s (slice_index s.places.now i)
+  stands_in =
+      let start = good.framed.starts i there in
+      let whole : length s.types.now ≡ length (section_of s.order (frames_in s)) = ap length good.framed.frames.whole in
+      let room : length (section_of s.order (take i (frames_in s))) + 4 * length (frame_in s i) ≤ length (section_of s.order (frames_in s)) =
+      rw frame_is at (ends_inside s.order (frames_in s) i among) in
+      record {
+        inside = omega arith;
+        frame = subst (λ (g : List ℕ). IsFrame g) frame_is (good.framed.frames.each i [] among);
+      }
+
+  pub starts_in : slice_index s.places.now i ≡ 4 * length (concat (take i (frames_in s)))
+  starts_in = good.framed.starts i there ∙ length-section s.order (take i (frames_in s))
+
+  pub frame_get : slice_get (frames_in s) i ≡ Some (frame_in s i)
+  frame_get = get-map (frame_at s.order s.types.now) s.places.now i 0 there
+
+  pub facts_get : slice_get (facts_in s) i ≡ Some (frame_facts (frame_in s i))
+  facts_get = get-map frame_facts (frames_in s) i [] among ∙ ap (λ (f : List ℕ). Some (frame_facts f)) frame_is
+
+pub length-facts_in : (s : Section) → length (facts_in s) ≡ length s.places.now
+length-facts_in s = length-map (frames_in s) frame_facts ∙ length-map s.places.now (frame_at s.order s.types.now)
+
+-- a frame has three words, and an INT has its own
+pub three_words : (f : List ℕ) → IsFrame f → 3 ≤ length f
+three_words f frame = omega (arith, frame.size)
+
+pub int_has_word : (f : List ℕ) → IsFrame f → kind f ≡ INT → 3 < length f
+unfolding tail_words fixed_words item_words
+int_has_word f frame int = let size : length f ≡ 4 = frame.size ∙ rw int (omega arith) in omega arith
+
+pub type_is : (s : Section) (id : ℕ) → IsSection s → 0 < id → id ≤ length s.places.now → type_at (facts_in s) id ≡ frame_facts (frame_in s (id - 1))
+type_is s zero good some few = absurd (omega arith)
+type_is s (suc i) good some few =
+    let e : suc i - 1 ≡ i = omega arith in
+    rw (e, eqb-suc-zero i, facts_get s good i (omega arith)) refl

@@ -1,0 +1,48 @@
+-- Block by block: a block with a NUL ends no long text; in another block stands one, whose end is noted.
+use Rattle.std.proofs.Common.{◌≡◌, ◌+◌, ◌++◌, [], ◌∷◌, length, take, drop, sym, subst, ◌∙◌, List, ℕ, inl, inr, refl, arith}
+use Rattle.std.proofs.Math.Seq.{drop-length, take-length}
+use Rattle.std.proofs.lemmas.List.{drop-append-le, take-append-le, length-append}
+use Rattle.btf_types.specs.tables.StringEnds.{AreLongEndsTo, IsEnd}
+use Rattle.btf_types.proofs.strings.LongEnds.{none_yet, more_bytes, one_end_more, nul_behind}
+use Rattle.btf_types.proofs.tables.string_ends.push_long_ends.Goals as goal
+
+pub blocks-2-init : goal.blocks-2-init
+blocks-2-init g c = record {
+  kept = take-length c.args.out.now.items;
+  long = omega arith;
+  ends = rw (drop-length c.args.out.now.items) (none_yet c.args.strings.now);
+  gap = inl refl;
+  inside = omega arith;
+}
+
+pub blocks-2-preserved-in-Some : goal.blocks-2-preserved-in-Some
+blocks-2-preserved-in-Some g c =
+    let i = c.blocks-2.invariant in
+    let found = c.in-Some.ensures in
+    record {
+      kept = i.kept;
+      long = i.long;
+      ends = more_bytes c.args.strings.now _ c.blocks-2.at (c.blocks-2.at + 64) i.ends i.gap (omega arith) (omega arith);
+      gap = inr (c.in-Some.field-0, found.1, (let from = found.0.from in omega arith), found.0.nul);
+      inside = omega arith;
+    }
+
+pub blocks-2-preserved : goal.blocks-2-preserved
+blocks-2-preserved g c =
+    let i = c.blocks-2.invariant in
+    let pushed = c.in_ok-push-in-None.ensures.items in
+    let is = c.next_nul-end.ensures in
+    let old = c.args.out.now.items in
+    let end = c.next_nul-end.result in
+    rw pushed (record {
+      kept = take-append-le (length old) c.blocks-2.out.items (end ∷ []) i.long ∙ i.kept;
+      long = omega (arith, length-append c.blocks-2.out.items (end ∷ []));
+      ends = rw (drop-append-le (length old) c.blocks-2.out.items (end ∷ []) i.long) (one_end_more c.args.strings.now _ c.blocks-2.at end i.ends i.gap is);
+      gap = nul_behind c.args.strings.now c.blocks-2.at end is;
+      inside = let inside = is.inside in omega arith;
+    })
+
+pub returns-clause-ends : goal.returns-clause-ends
+returns-clause-ends g c =
+    let i = c.blocks-2.invariant in
+    more_bytes c.args.strings.now _ c.blocks-2.at (length c.args.strings.now) i.ends i.gap i.inside (omega arith)

@@ -1,0 +1,64 @@
+-- How many bytes two texts have in common at their ends, and laws by which sorted texts tell hosts by these numbers.
+use Rattle.std.specs.Prelude.{◌≡◌, ℕ, ◌+◌, ◌-◌, ◌<◌, ◌≤◌, ◌==◌, true, false, List, [], ◌∷◌, length, reverse, slice_index_or, if◌then◌else◌}
+use Rattle.std.specs.List.Sorted.{IsSorted}
+use Rattle.btf_types.specs.strings.SharedNames.{is_suffix, tail_cmp, hosts_of, host_in}
+use Rattle.btf_types.specs.strings.LongestTexts.{SameMembers}
+
+-- how many first elements two lists have in common
+abbrev pub common_front : List ℕ → List ℕ → ℕ
+common_front [] y = 0
+common_front (a ∷ x) [] = 0
+common_front (a ∷ x) (b ∷ y) = if a == b then 1 + common_front x y else 0
+
+abbrev pub common_tail : List ℕ → List ℕ → ℕ
+common_tail x y = common_front (reverse x) (reverse y)
+
+-- a text ends another exactly where all of it is common to both
+pub record SuffixByTail (x y : List ℕ) : Type 0 where
+  pub whole : is_suffix x y ≡ true → common_tail x y ≡ length x
+  pub suffix : length x ≤ common_tail x y → is_suffix x y ≡ true
+
+-- and a text that ends another ends those texts that have as much in common with that one
+abbrev pub SuffixThrough : List ℕ → List ℕ → List ℕ → Type 0
+SuffixThrough x y z = is_suffix x y ≡ true → length x ≤ common_tail y z → is_suffix x z ≡ true
+
+abbrev pub CommonThrough : List ℕ → List ℕ → List ℕ → Type 0
+CommonThrough x y z = is_suffix x y ≡ true → is_suffix x z ≡ true → length x ≤ common_tail y z
+
+-- texts by their bytes from the end, which are these texts; some may stand there more than once
+pub record AreInTailOrder (ks sorted : List (List ℕ)) : Type 0 where
+  pub members : SameMembers ks sorted
+  pub in_order : IsSorted tail_cmp sorted
+
+-- the text at a rank
+abbrev pub at_rank : List (List ℕ) → ℕ → List ℕ
+at_rank sorted k = slice_index_or sorted k []
+
+-- the ranks of the texts that end with x have no gaps
+abbrev pub RanksAreTogether : List (List ℕ) → Type 0
+RanksAreTogether sorted = IsSorted tail_cmp sorted → (x : List ℕ) (i j k : ℕ) → i ≤ j → j ≤ k → k < length sorted → is_suffix x (at_rank sorted i) ≡ true → is_suffix x (at_rank sorted k) ≡ true → is_suffix x (at_rank sorted j) ≡ true
+
+-- Rank l is the first of those from which on all texts up to rank k have at least n bytes in common with their neighbours.
+pub record IsFirstRank (sorted : List (List ℕ)) (n l k : ℕ) : Type 0 where
+  pub before : l ≤ k
+  pub common : (j : ℕ) → l < j → j ≤ k → n ≤ common_tail (at_rank sorted (j - 1)) (at_rank sorted j)
+  pub less : 0 < l → common_tail (at_rank sorted (l - 1)) (at_rank sorted l) < n
+
+-- Rank r is the first from rank l on whose text doesn't end the next one.
+pub record IsNextHost (sorted : List (List ℕ)) (l r : ℕ) : Type 0 where
+  pub inside : r < length sorted
+  pub from : l ≤ r
+  pub passed : (j : ℕ) → l ≤ j → j < r → is_suffix (at_rank sorted j) (at_rank sorted (j + 1)) ≡ true
+  pub stops : r + 1 < length sorted → is_suffix (at_rank sorted r) (at_rank sorted (r + 1)) ≡ false
+
+-- that first rank is the first whose text ends with x, where x ends the text of rank k
+pub record IsFirstEnding (sorted : List (List ℕ)) (x : List ℕ) (l : ℕ) : Type 0 where
+  pub ends : is_suffix x (at_rank sorted l) ≡ true
+  pub first : (j : ℕ) → j < length sorted → is_suffix x (at_rank sorted j) ≡ true → l ≤ j
+
+abbrev pub FirstRankEnds : List (List ℕ) → Type 0
+FirstRankEnds sorted = IsSorted tail_cmp sorted → (x : List ℕ) (l k : ℕ) → k < length sorted → is_suffix x (at_rank sorted k) ≡ true → IsFirstRank sorted (length x) l k → IsFirstEnding sorted x l
+
+-- and the next host from there on is the host of x
+abbrev pub RankTellsHost : List (List ℕ) → List (List ℕ) → Type 0
+RankTellsHost ks sorted = AreInTailOrder ks sorted → (x : List ℕ) (l k r : ℕ) → k < length sorted → is_suffix x (at_rank sorted k) ≡ true → IsFirstRank sorted (length x) l k → IsNextHost sorted l r → host_in (hosts_of ks) x ≡ at_rank sorted r

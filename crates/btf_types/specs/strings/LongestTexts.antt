@@ -1,0 +1,32 @@
+-- Laws by which the hosts of names are found from few of them, over the definitions alone.
+use Rattle.std.specs.Prelude.{◌≡◌, ℕ, ◌<◌, true, List, length}
+use Rattle.std.specs.List.{Any, Contains, filter, list_any}
+use Rattle.std.specs.Str.{bytes_eq}
+use Rattle.btf_types.specs.Names.{kept}
+use Rattle.btf_types.specs.strings.SharedNames.{is_suffix, hosts, host_in}
+
+-- some of the texts, so that each text that isn't empty ends one of these
+pub record AreLongest (xs longest : List (List ℕ)) : Type 0 where
+  pub among : (z : List ℕ) → Contains longest z → Contains xs z
+  pub each : (x : List ℕ) → Contains xs x → 0 < length x → Any (λ l. is_suffix x l ≡ true) longest
+
+-- these lists have the same members
+pub record SameMembers (xs ys : List (List ℕ)) : Type 0 where
+  pub here : (z : List ℕ) → Contains xs z → Contains ys z
+  pub there : (z : List ℕ) → Contains ys z → Contains xs z
+
+-- the host of a text is a matter of the members of the hosts
+abbrev pub HostInMembers : List (List ℕ) → List (List ℕ) → Type 0
+HostInMembers hs gs = SameMembers hs gs → (x : List ℕ) → host_in hs x ≡ host_in gs x
+
+-- the hosts of the longest texts are the hosts, in whatever order
+abbrev pub LongestTellHosts : List (List ℕ) → List (List ℕ) → Type 0
+LongestTellHosts xs longest = AreLongest xs longest → SameMembers (hosts xs) (hosts longest)
+
+-- and in the order of first use they are the kept names that are hosts of the longest texts
+abbrev pub HostsByFirstUse : List (List ℕ) → List (List ℕ) → Type 0
+HostsByFirstUse xs longest = AreLongest xs longest → hosts xs ≡ filter (λ x. list_any (bytes_eq x) (hosts longest)) (kept xs)
+
+-- so each text has one host by both
+abbrev pub LongestTellHost : List (List ℕ) → List (List ℕ) → Type 0
+LongestTellHost xs longest = AreLongest xs longest → (x : List ℕ) → host_in (hosts xs) x ≡ host_in (hosts longest) x

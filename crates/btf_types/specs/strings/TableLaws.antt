@@ -1,0 +1,77 @@
+-- Laws of the string table in which names share tails, over the definitions alone.
+use Rattle.std.specs.Prelude.{◌≡◌, ℕ, ◌+◌, ◌<◌, ◌≤◌, true, false, List, length, slice_index_or}
+use Rattle.std.specs.List.{All, AllZip, Any, Contains, flat_map, sum_by}
+use Rattle.std.specs.Ordering.{is_lt}
+use Rattle.std.specs.List.Sorted.{IsPermutation, IsSorted}
+use Rattle.bpf_words.specs.declared.Order.{Order}
+use Rattle.btf_raw.specs.Header.{HasNulEnds}
+use Rattle.btf_raw.specs.Names.{NameAt, IsWithoutNul}
+use Rattle.btf_types.specs.Values.{TypeRecord}
+use Rattle.btf_types.specs.Names.{IsName, with_nul, kept, table_of}
+use Rattle.btf_types.specs.strings.SharedNames.{is_suffix, is_proper_suffix, tail_cmp, hosts, host, shared_table, shared_place}
+use Rattle.btf_types.specs.strings.StringTable.{string_table}
+use Rattle.btf_types.specs.Spelling.{IsRecord}
+
+-- each name stands at its place in the table
+abbrev pub SharedPlacesStand : List (List ℕ) → Type 0
+SharedPlacesStand xs = All IsName xs → All (λ x. NameAt (shared_table xs) (shared_place xs x) x) xs
+
+-- the section is these strings, each followed by NUL: it is cut after each NUL
+pub record IsCutInto (section : List ℕ) (strings : List (List ℕ)) : Type 0 where
+  pub without_nul : All IsWithoutNul strings
+  pub whole : section ≡ flat_map with_nul strings
+
+-- the name stands in the section, at some offset
+abbrev pub StandsIn : List ℕ → List ℕ → Type 0
+StandsIn section x = (offset : ℕ) × NameAt section offset x
+
+-- a section that ends with NUL can be cut
+abbrev pub SectionsAreCut : List ℕ → Type 0
+SectionsAreCut section = HasNulEnds section → (strings : List (List ℕ)) × IsCutInto section strings
+
+-- each name that stands in a section is a suffix of one of its strings
+abbrev pub NamesEndStrings : List ℕ → List (List ℕ) → Type 0
+NamesEndStrings section strings = IsCutInto section strings → (x : List ℕ) → StandsIn section x → Any (λ s. is_suffix x s ≡ true) strings
+
+-- no text ends with two different hosts
+abbrev pub HostsEndApart : List (List ℕ) → Type 0
+HostsEndApart xs = (s h g : List ℕ) → Contains (hosts xs) h → Contains (hosts xs) g → is_suffix h s ≡ true → is_suffix g s ≡ true → h ≡ g
+
+-- a section that spells all names is at least as long as their shared table
+abbrev pub SharedIsShortest : List (List ℕ) → List ℕ → Type 0
+SharedIsShortest xs section = HasNulEnds section → All (StandsIn section) xs → length (shared_table xs) ≤ length section
+
+-- the kept names by their bytes from the end
+pub record IsTailSorted (xs sorted : List (List ℕ)) : Type 0 where
+  pub permutation : IsPermutation (kept xs) sorted
+  pub in_order : IsSorted tail_cmp sorted
+
+-- with the kept names so ordered, a name that is a proper suffix of any other is one of the next, and they share their host
+pub record NextSharesHost (xs sorted : List (List ℕ)) (k : ℕ) (x next : List ℕ) : Type 0 where
+  pub inside : k + 1 < length sorted
+  pub suffix : is_proper_suffix x next ≡ true
+  pub host : host xs x ≡ host xs next
+
+abbrev pub NextTellsHost : List (List ℕ) → List (List ℕ) → Type 0
+NextTellsHost xs sorted = IsTailSorted xs sorted → (k : ℕ) (d z : List ℕ) → k < length sorted → Contains (kept xs) z → is_proper_suffix (slice_index_or sorted k d) z ≡ true → NextSharesHost xs sorted k (slice_index_or sorted k d) (slice_index_or sorted (k + 1) d)
+
+-- a table takes a byte, and for each name its bytes and a byte more
+abbrev pub TableLength : List (List ℕ) → Type 0
+TableLength ks = length (table_of ks) ≡ 1 + sum_by (λ k. length k + 1) ks
+
+-- the host of a kept name: a host that ends with it, and no such host is below it by bytes from the end
+pub record IsLeastHost (xs : List (List ℕ)) (x h : List ℕ) : Type 0 where
+  pub host : Contains (hosts xs) h
+  pub suffix : is_suffix x h ≡ true
+  pub least : (g : List ℕ) → Contains (hosts xs) g → is_suffix x g ≡ true → is_lt (tail_cmp g h) ≡ false
+
+abbrev pub HostIsLeast : List (List ℕ) → Type 0
+HostIsLeast xs = (x : List ℕ) → Contains (kept xs) x → IsLeastHost xs x (host xs x)
+
+-- and no other text is so
+abbrev pub HostIsOne : List (List ℕ) → Type 0
+HostIsOne xs = (x g h : List ℕ) → IsLeastHost xs x g → IsLeastHost xs x h → g ≡ h
+
+-- the string table of records that a section with NUL ends spells is no longer than that section
+abbrev pub SpelledTableFits : Type 0
+SpelledTableFits = (o : Order) (strings : List ℕ) (v : List TypeRecord) (spellings : List (List ℕ)) → HasNulEnds strings → AllZip (IsRecord o strings) v spellings → length (string_table v) ≤ length strings

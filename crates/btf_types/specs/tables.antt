@@ -1,0 +1,8 @@
+-- What a table keeps of a file.
+pub mod Tables
+pub mod TableWords
+pub mod TableInvariant
+pub mod TablePlaces
+pub mod PlaceWords
+pub mod KeptSections
+pub mod StringEnds

@@ -1,0 +1,51 @@
+-- When a section with the places of its records is a table.
+use Rattle.std.specs.Prelude.{◌≡◌, ℕ, ◌+◌, ◌^◌, ◌<◌, ◌≤◌, List, length, take, drop, slice_index}
+use Rattle.std.specs.List.{All, AllZip}
+use Rattle.bpf_words.specs.declared.Order.{Order}
+use Rattle.btf_raw.specs.Header.{HasNulEnds, STRINGS_LIMIT}
+use Rattle.btf_raw.specs.Frames.{Frames, IsFrame, section_of}
+use Rattle.btf_types.specs.Values.{TypeHead}
+use Rattle.btf_types.specs.Spelling.{Spells}
+use Rattle.btf_raw.specs.Cause.{HasNone}
+use Rattle.btf_types.specs.judge.FieldFaults.{FieldFault}
+use Rattle.btf_types.specs.tables.TableWords.{numbered}
+use Rattle.btf_types.specs.Good.{IsGood}
+use Rattle.btf_types.specs.Reading.{frames_at, records_at}
+
+-- The places are those of the frames of the section, in order.
+pub record IsFramed (o : Order) (types places : List ℕ) : Type 0 where
+  pub frames : Frames o types (frames_at o types places)
+  pub count : length places ≤ length types
+  pub starts : (i : ℕ) → i < length places → slice_index places i ≡ length (section_of o (take i (frames_at o types places)))
+
+-- The same, up to a place of the section.
+pub record IsFramedTo (o : Order) (types places : List ℕ) (pos : ℕ) : Type 0 where
+  pub each : All IsFrame (frames_at o types places)
+  pub whole : section_of o (frames_at o types places) ≡ take pos types
+  pub inside : pos ≤ length types
+  pub count : length places ≤ pos
+  pub starts : (i : ℕ) → i < length places → slice_index places i ≡ length (section_of o (take i (frames_at o types places)))
+
+-- The records at the places are spelled there, without a fault, and are good.
+pub record IsTable (o : Order) (types strings places : List ℕ) : Type 0 where
+  pub few : length places < 2 ^ 32
+  pub short : length strings ≤ STRINGS_LIMIT
+  pub ends : HasNulEnds strings
+  pub framed : IsFramed o types places
+  pub none : HasNone (FieldFault strings (frames_at o types places))
+  pub spelled : AllZip (Spells strings) (records_at o types strings places) (frames_at o types places)
+  pub good : IsGood (records_at o types strings places)
+
+-- No field of the records at the places has a fault, so they are spelled there and good.
+pub record FieldsAreRight (o : Order) (types strings places : List ℕ) : Type 0 where
+  pub none : HasNone (FieldFault strings (frames_at o types places))
+  pub spelled : AllZip (Spells strings) (records_at o types strings places) (frames_at o types places)
+  pub good : IsGood (records_at o types strings places)
+
+-- So many records of a table were given, and these are left.
+pub record IsPartGiven (o : Order) (types strings places : List ℕ) (given : ℕ) : Type 0 where
+  pub table : IsTable o types strings places
+  pub inside : given ≤ length places
+
+abbrev pub records_left : Order → List ℕ → List ℕ → List ℕ → ℕ → List (ℕ × TypeHead)
+records_left o types strings places given = numbered (given + 1) (drop given (records_at o types strings places))

@@ -1,0 +1,20 @@
+-- What a table keeps of where things stand in its two sections. Contracts of private functions cite it.
+use Rattle.std.specs.Prelude.{◌≡◌, ℕ, List}
+use Rattle.bpf_words.specs.declared.Order.{Order}
+use Rattle.btf_types.specs.tables.StringEnds.{AreLongEnds}
+use Rattle.btf_types.specs.tables.TableInvariant.{IsTable, IsPartGiven}
+
+-- the places of the records in the types, and the ends of the long strings
+pub record TablePlaces : Type 0 where
+  pub records : List ℕ
+  pub ends : List ℕ
+
+-- the records at their places are a table, and the ends are those of the long strings
+pub record IsPlacedTable (o : Order) (types strings : List ℕ) (places : TablePlaces) : Type 0 where
+  pub table : IsTable o types strings places.records
+  pub ends : AreLongEnds strings places.ends
+
+-- so many records of such a table were given
+pub record IsGivenTable (o : Order) (types strings places ends : List ℕ) (given : ℕ) : Type 0 where
+  pub part : IsPartGiven o types strings places given
+  pub long : AreLongEnds strings ends

@@ -1,0 +1,10 @@
+//! The first fault of a BTF file.
+
+pub(crate) mod checks;
+pub(crate) mod fields;
+pub(crate) mod framing;
+pub(crate) mod names;
+pub(crate) mod phases;
+pub(crate) mod roles;
+pub(crate) mod types;
+pub(crate) mod utf8;

@@ -1,0 +1,178 @@
+//! What the fields of a record must be, on numbers alone (btf.rst section 2.2). Each `_fault` tells the least cause that
+//! speaks against a word, and None where none does.
+
+ghost use Rattle.std.specs.Prelude.{◌≡◌, ◌∷◌, []};
+ghost use Rattle.btf_types.specs.judge.Checks as spec;
+ghost use Rattle.btf_types.specs.judge.FieldFaults as words;
+ghost use Rattle.btf_raw.specs.Kinds.{one_of};
+ghost use Rattle.btf_types.specs.judge.NameFaults.{IntFault, LinkageFault, MemberPlaceFault};
+
+use btf_raw::{
+    ARRAY, BtfCause, CONST, DATASEC, DECL_TAG, ENUM, ENUM64, FLOAT, FUNC, FUNC_PROTO, FWD, PTR,
+    RESTRICT, STRUCT, TYPE_TAG, TYPEDEF, UNION, VAR, VOLATILE,
+};
+
+/// Whether a record of this kind has a name that isn't empty.
+#[tactic(auto, unfolding(crate::specs::Checks::needs_name))]
+pub fn needs_name(kind: u8) -> bool
+    ensures { result ≡ spec.needs_name kind }
+{
+    matches!(
+        kind,
+        FWD | TYPEDEF | FUNC | VAR | DATASEC | DECL_TAG | TYPE_TAG
+    )
+}
+
+/// Whether a record of this kind has an empty name.
+#[tactic(auto, unfolding(crate::specs::Checks::has_no_name))]
+pub fn has_no_name(kind: u8) -> bool
+    ensures { result ≡ spec.has_no_name kind }
+{
+    matches!(kind, PTR | ARRAY | VOLATILE | CONST | RESTRICT | FUNC_PROTO)
+}
+
+/// Whether the third word is a type.
+#[tactic(auto, unfolding(crate::specs::Checks::has_target))]
+pub fn has_target(kind: u8) -> bool
+    ensures { result ≡ spec.has_target kind }
+{
+    matches!(
+        kind,
+        PTR | TYPEDEF | VOLATILE | CONST | RESTRICT | FUNC | FUNC_PROTO | VAR | DECL_TAG | TYPE_TAG
+    )
+}
+
+/// Whether the items are members.
+pub fn is_struct(kind: u8) -> bool
+    ensures { result ≡ spec.is_struct kind }
+{
+    matches!(kind, STRUCT | UNION)
+}
+
+#[tactic(auto, unfolding(crate::specs::Checks::has_item_names))]
+pub fn has_item_names(kind: u8) -> bool
+    ensures { result ≡ spec.has_item_names kind }
+{
+    matches!(kind, STRUCT | UNION | ENUM | FUNC_PROTO | ENUM64)
+}
+
+/// Whether an ENUM or ENUM64 with so many values, or a FLOAT, may have this size in bytes.
+#[tactic(auto, unfolding(crate::specs::Checks::size_fits))]
+pub fn size_fits(kind: u8, size: u32, count: u16) -> bool
+    ensures { result ≡ spec.size_fits kind size count }
+{
+    match kind {
+        ENUM | ENUM64 => matches!(size, 1 | 2 | 4 | 8) || (size == 0 && count == 0),
+        FLOAT => matches!(size, 2 | 4 | 8 | 12 | 16),
+        _ => true,
+    }
+}
+
+/// Whether a record of this kind may name a type of the target's kind.
+#[tactic(auto, unfolding(crate::specs::Checks::target_fits))]
+pub fn target_fits(kind: u8, target: u8) -> bool
+    ensures { result ≡ spec.target_fits kind target }
+{
+    match kind {
+        FUNC => target == FUNC_PROTO,
+        DATASEC => matches!(target, VAR | FUNC),
+        DECL_TAG => matches!(target, STRUCT | UNION | FUNC | VAR | TYPEDEF),
+        _ => true,
+    }
+}
+
+/// The cause that speaks against a second word, beside its framing.
+pub fn second_fault(kind: u8, vlen: u16) -> Option<BtfCause>
+    ensures { spec.TellsLeast (spec.SecondFault kind vlen) result }
+{
+    if kind == FUNC && vlen > 2 {
+        Some(BtfCause::Linkage)
+    } else {
+        None
+    }
+}
+
+/// Whether an INT of this size in bytes may have so many bits.
+#[tactic(auto, unfolding(crate::specs::Checks::bits_fit))]
+fn bits_fit(size: u32, bits: u32) -> bool
+    ensures { result ≡ spec.bits_fit size bits }
+{
+    bits <= 128 && u64::from(bits) <= 8 * u64::from(size)
+}
+
+/// Whether an INT's offset and bits are those of a bit-field's type.
+#[tactic(auto, unfolding(crate::specs::Checks::is_plain_int))]
+pub fn is_plain_int(offset: u8, bits: u8) -> bool
+    ensures { result ≡ spec.is_plain_int offset bits }
+{
+    offset == 0 && matches!(bits, 8 | 16 | 32 | 64 | 128)
+}
+
+/// Whether a member's bits, rounded up to bytes, lie within a record of this size.
+#[tactic(auto, unfolding(crate::specs::Checks::member_fits))]
+fn member_fits(bit_offset: u32, width: u8, size: u32) -> bool
+    ensures { result ≡ spec.member_fits bit_offset width size }
+{
+    (u64::from(bit_offset) + u64::from(width) + 7) / 8 <= u64::from(size)
+}
+
+/// The cause that speaks against an INT's word.
+pub fn int_fault(size: u32, word: u32) -> Option<BtfCause>
+    ensures { spec.TellsLeast (IntFault size word) result }
+{
+    if int_unused(word) == 0 && is_encoding(word >> 24 & 0xf) && bits_fit(size, word & 0xff) {
+        None
+    } else {
+        Some(BtfCause::IntWord)
+    }
+}
+
+/// The sum of an INT word's unused bits: 0 where each is 0.
+fn int_unused(word: u32) -> u32
+    ensures { result ≡ words.int_unused word }
+{
+    (word >> 28) + (word >> 8 & 0xff)
+}
+
+/// Whether an INT may be encoded so: plain, signed, char or bool.
+fn is_encoding(encoding: u32) -> bool
+    ensures { result ≡ one_of (0 ∷ 1 ∷ 2 ∷ 4 ∷ []) encoding }
+{
+    matches!(encoding, 0 | 1 | 2 | 4)
+}
+
+/// The bit offset in a member's offset word, in a record with this kind_flag.
+pub fn bit_offset_of(flag: u32, word: u32) -> u32
+    ensures { result ≡ words.offset_in flag word }
+{
+    if flag == 0 { word } else { word & 0xff_ffff }
+}
+
+/// The width in a member's offset word, in a record with this kind_flag.
+pub fn width_of(flag: u32, word: u32) -> u8
+    ensures { result ≡ words.width_in flag word }
+{
+    if flag == 0 { 0 } else { (word >> 24) as u8 }
+}
+
+/// The cause that speaks against a member's offset word.
+pub fn member_place_fault(size: u32, bit_offset: u32, width: u8) -> Option<BtfCause>
+    ensures { spec.TellsLeast (MemberPlaceFault size bit_offset width) result }
+{
+    if member_fits(bit_offset, width, size) {
+        None
+    } else {
+        Some(BtfCause::MemberPlace)
+    }
+}
+
+/// The cause that speaks against the linkage of a VAR.
+pub fn linkage_fault(word: u32) -> Option<BtfCause>
+    ensures { spec.TellsLeast (LinkageFault word) result }
+{
+    if word > 2 {
+        Some(BtfCause::Linkage)
+    } else {
+        None
+    }
+}

@@ -1,0 +1,117 @@
+//! What a record asks of the types that it names: they are there, and of a kind and size that fit. A type is read at its place
+//! only where something is asked of it.
+
+ghost use Rattle.std.specs.Prelude.{◌≡◌, length};
+ghost use Rattle.btf_types.specs.judge.Checks as spec;
+ghost use Rattle.btf_types.specs.judge.Checks.{type_at};
+ghost use Rattle.btf_types.specs.judge.NameFaults.{NamedTypeFault, MemberTypeFault, ComponentFault};
+ghost use Rattle.btf_types.specs.Sections.{IsSection, facts_in};
+
+use crate::judge::checks::{has_target, is_plain_int, size_fits, target_fits};
+use crate::tables::section::Section;
+use btf_raw::{
+    ARRAY, BtfCause, DATASEC, DECL_TAG, FUNC, FUNC_PROTO, FWD, INT, STRUCT, TYPEDEF, UNION, VAR,
+};
+
+/// Whether a type is of a kind that a record of this kind may name.
+#[tactic(auto, unfolding(crate::specs::Checks::target_fits))]
+fn named_kind_fits(section: &Section, kind: u8, target: u32) -> bool
+    requires { IsSection section.now }
+    ensures { result ≡ spec.target_fits kind (type_at (facts_in section.now) target).kind }
+{
+    !matches!(kind, FUNC | DATASEC | DECL_TAG) || target_fits(kind, section.facts(target).kind)
+}
+
+/// The least cause that a third word has against it.
+pub fn third_fault(section: &Section, kind: u8, third: u32, vlen: u16) -> Option<BtfCause>
+    requires { IsSection section.now }
+    ensures { spec.TellsLeast (spec.ThirdFault kind third vlen (length (facts_in section.now)) (type_at (facts_in section.now) third).kind) result }
+{
+    if matches!(kind, ARRAY | FWD) && third != 0 {
+        return Some(BtfCause::NotZero);
+    }
+    if !size_fits(kind, third, vlen) {
+        return Some(BtfCause::Size);
+    }
+    if !has_target(kind) {
+        return None;
+    }
+    if third > section.count() {
+        return Some(BtfCause::Reference);
+    }
+    if !named_kind_fits(section, kind, third) {
+        return Some(BtfCause::TargetKind);
+    }
+    None
+}
+
+/// The least cause that speaks against a type that a record of this kind names, beside its third word.
+pub fn named_type_fault(section: &Section, kind: u8, target: u32) -> Option<BtfCause>
+    requires { IsSection section.now }
+    ensures { spec.TellsLeast (NamedTypeFault (facts_in section.now) kind target) result }
+{
+    if target > section.count() {
+        return Some(BtfCause::Reference);
+    }
+    if named_kind_fits(section, kind, target) {
+        None
+    } else {
+        Some(BtfCause::TargetKind)
+    }
+}
+
+/// Whether a type may be that of a member beside bit-fields: no INT, or one with offset 0 and 8, 16, 32, 64 or 128 bits.
+#[tactic(auto, unfolding(crate::specs::Checks::member_int_fits))]
+fn member_int_fits(section: &Section, target: u32) -> bool
+    requires { IsSection section.now }
+    ensures { result ≡ spec.member_int_fits (facts_in section.now) target }
+{
+    let facts = section.facts(target);
+    facts.kind != INT || is_plain_int(facts.offset, facts.bits)
+}
+
+/// The least cause that speaks against a member's type, in a record with bit-fields or without.
+pub fn member_type_fault(section: &Section, bit_fields: bool, target: u32) -> Option<BtfCause>
+    requires { IsSection section.now }
+    ensures { spec.TellsLeast (MemberTypeFault (facts_in section.now) bit_fields target) result }
+{
+    if target > section.count() {
+        return Some(BtfCause::Reference);
+    }
+    if bit_fields && !member_int_fits(section, target) {
+        Some(BtfCause::MemberInt)
+    } else {
+        None
+    }
+}
+
+/// Whether a type has this component: a member of a STRUCT or UNION, or a parameter of a FUNC's FUNC_PROTO.
+#[tactic(auto, unfolding(crate::specs::Checks::component_fits))]
+fn component_fits(section: &Section, target: u32, component: u32) -> bool
+    requires { IsSection section.now }
+    ensures { result ≡ spec.component_fits (facts_in section.now) target component }
+{
+    let facts = section.facts(target);
+    match facts.kind {
+        STRUCT | UNION => component < u32::from(facts.count),
+        FUNC => {
+            let proto = section.facts(facts.target);
+            proto.kind != FUNC_PROTO || component < u32::from(proto.count)
+        }
+        VAR | TYPEDEF => false,
+        _ => true,
+    }
+}
+
+/// The cause that speaks against the component of a DECL_TAG that names this type. The word is read unsigned, and -1 is no
+/// component.
+pub fn component_fault(section: &Section, target: u32, word: u32) -> Option<BtfCause>
+    requires { IsSection section.now }
+    ensures { spec.TellsLeast (ComponentFault (facts_in section.now) target word) result }
+{
+    if word == u32::MAX || component_fits(section, target, word) {
+        None
+    } else {
+        Some(BtfCause::Component)
+    }
+}

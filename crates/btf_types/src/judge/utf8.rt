@@ -1,0 +1,105 @@
+//! Which texts of a string section are UTF-8. A text runs from an offset, which may stand inside a string, to the next NUL.
+//!
+//! The section is judged once, in time in proportion to its length, and then each offset at once: any number of name fields
+//! may point into one long string. Where the section is UTF-8 as a whole, a text is UTF-8 exactly where a character begins.
+//! Else a mark is kept for each byte of it.
+
+ghost use Rattle.std.specs.Prelude.{◌≡◌, ◌≢◌, ◌↔◌, ℕ, List, ◌<◌, length, slice_index, IfOk, IsTrue, IsUtf8, MatchOption};
+ghost use Rattle.btf_raw.specs.Header.{HasNulEnds};
+ghost use Rattle.btf_raw.specs.Names.{TextAt};
+ghost use Rattle.btf_types.specs.judge.Texts.{BeginsChar, TextsAre, AreMarks, IsNextChar};
+
+use std::alloc::{AllocError, Allocator};
+
+/// Which texts of a string section are UTF-8.
+#[derive(Clone, Copy, Debug)]
+pub enum Texts<'a> {
+    /// The section is UTF-8 as a whole, so a text is UTF-8 where a character begins.
+    Utf8,
+    /// A mark for each byte of the section: whether the text from there on is UTF-8.
+    Marked(&'a [bool]),
+}
+
+/// Whether a byte may begin a character, or is NUL.
+fn begins_char(byte: u8) -> bool
+    ensures { IsTrue result ↔ BeginsChar byte }
+{
+    !matches!(byte, 0x80..=0xbf)
+}
+
+/// Whether the text at a place is UTF-8. Behind its first byte, the next place where a character may begin is `next`, and
+/// `rest` tells whether the text there is UTF-8.
+fn is_utf8_with(strings: &[u8], at: usize, next: usize, rest: bool) -> bool
+    requires there { at < length strings.now }
+    requires next { IsNextChar strings.now at next rest }
+    requires inside { slice_index strings.now at ≢ 0 → next < length strings.now }
+    ensures { (text : List ℕ) → TextAt strings.now at text → (IsTrue result ↔ IsUtf8 text) }
+{
+    if strings[at] == 0 {
+        return true;
+    }
+    rest && std::str::from_utf8(&strings[at..next]).is_ok()
+}
+
+/// The marks of a whole section, told from its end: a text is UTF-8 where it begins with a character and goes on as UTF-8.
+fn marks_of<A: Allocator>(alloc: A, strings: &[u8]) -> Result<Vec<bool, A>, AllocError>
+    requires { HasNulEnds strings.now }
+    ensures { IfOk result (λ marks. AreMarks strings.now marks.items) }
+{
+    let mut marks = vec![in alloc; false; strings.len()]?;
+    let mut at = strings.len();
+    let mut next = strings.len();
+    let mut rest = true;
+    while at > 0 {
+        at -= 1;
+        if begins_char(strings[at]) {
+            rest = is_utf8_with(strings, at, next, rest);
+            next = at;
+            marks[at] = rest;
+        }
+    }
+    Ok(marks)
+}
+
+/// The marks of a section that begins and ends with NUL, or `None` where it is UTF-8 as a whole.
+///
+/// # Errors
+///
+/// `AllocError` where memory was refused. None is taken where the section is UTF-8 as a whole, else a byte for each byte.
+pub fn marks_unless_utf8<A: Allocator>(
+    alloc: A,
+    strings: &[u8],
+) -> Result<Option<Vec<bool, A>>, AllocError>
+    requires { HasNulEnds strings.now }
+    ensures { IfOk result (λ marks. MatchOption marks (IsUtf8 strings.now) (λ v. AreMarks strings.now v.items)) }
+{
+    if std::str::from_utf8(strings).is_ok() {
+        Ok(None)
+    } else {
+        Ok(Some(marks_of(alloc, strings)?))
+    }
+}
+
+impl<'a> Texts<'a> {
+    /// The texts of a string section with these marks.
+    pub fn of<A: Allocator>(marks: &'a Option<Vec<bool, A>>) -> Texts<'a>
+        ensures { (strings : List ℕ) → MatchOption marks.now (IsUtf8 strings) (λ v. AreMarks strings v.items) → TextsAre strings result }
+    {
+        match marks {
+            None => Texts::Utf8,
+            Some(marks) => Texts::Marked(marks),
+        }
+    }
+
+    /// Whether the text at an offset of that section is UTF-8.
+    pub fn is_utf8(&self, strings: &[u8], off: usize) -> bool
+        requires texts { TextsAre strings.now self.now }
+        requires there { off < length strings.now }
+        ensures { (text : List ℕ) → TextAt strings.now off text → (IsTrue result ↔ IsUtf8 text) }
+    {
+        match self {
+            Texts::Utf8 => begins_char(strings[off]),
+            Texts::Marked(marks) => marks[off],
+        }
+    }
+}

@@ -1,0 +1,9 @@
+//! Both tables of types, and what they keep.
+
+pub(crate) mod owned;
+pub(crate) mod places;
+pub(crate) mod records;
+pub(crate) mod section;
+pub(crate) mod string_ends;
+pub(crate) mod table;
+pub(crate) mod view;

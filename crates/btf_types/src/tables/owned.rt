@@ -1,0 +1,128 @@
+//! A table that owns its bytes.
+
+ghost use Rattle.std.specs.Prelude.{◌≡◌, length, MatchResult};
+ghost use Rattle.btf_types.specs.Denotes.{Denotes};
+ghost use Rattle.btf_types.specs.tables.Tables.{Fails};
+ghost use Rattle.btf_types.specs.tables.TableWords.{numbered};
+
+use crate::error::BtfError;
+use crate::reading::{head_at, item_at, item_count_at};
+use crate::tables::places::Places;
+use crate::tables::records::Records;
+use crate::tables::table::{FileSections, TypeTable};
+use crate::tables::view::BtfView;
+use crate::values::{Head, Item};
+use bpf_words::Order;
+use std::alloc::{Allocator, Global};
+use std::marker::Model;
+
+/// The types of a BTF file (btf.rst section 2), kept apart from the file.
+///
+/// It keeps a copy of the two sections and a list of the places of the records, so each name stands once, and names share their tails
+/// as they did in the file.
+#[derive(Drop)]
+pub struct Btf<A: Allocator = Global> {
+    order: Order,
+    types: Vec<u8, A>,
+    strings: Vec<u8, A>,
+    places: Places<A>,
+}
+
+impl<A: Allocator> Model for Btf<A> {
+    ghost use Rattle.std.specs.Prelude.{List};
+    ghost use Rattle.btf_types.specs.Values.{TypeRecord};
+    ghost use Rattle.btf_types.specs.Reading.{records_at};
+    ghost use Rattle.btf_types.specs.tables.TablePlaces.{IsPlacedTable};
+
+    ghost Value = { List TypeRecord };
+
+    ghost view = { λ t. records_at t.order t.types.items t.strings.items t.places.records };
+
+    ghost invariant = { λ t. IsPlacedTable t.order t.types.items t.strings.items t.places };
+}
+
+impl<A: Allocator + Clone> Btf<A> {
+    /// Reads a whole BTF file (btf.rst section 2), and copies its two sections.
+    ///
+    /// # Errors
+    ///
+    /// `Fault` with the first fault of the file: one of the header or of the ends of the strings by its cause, then one of the
+    /// framing or of the fields by its place and cause. `Memory` where memory was refused.
+    pub fn parse(alloc: A, bytes: &[u8]) -> Result<Btf<A>, BtfError>
+        ensures { MatchResult result (λ v. Denotes bytes.now v) (λ e. Fails bytes.now e) }
+    {
+        let view = BtfView::parse(alloc.clone()?, bytes)?;
+        let BtfView {
+            order,
+            types,
+            strings,
+            places,
+        } = view;
+        let types = Vec::from_slice(alloc.clone()?, types)?;
+        let strings = Vec::from_slice(alloc, strings)?;
+        Ok(Btf {
+            order,
+            types,
+            strings,
+            places,
+        })
+    }
+}
+
+impl<A: Allocator> Btf<A> {
+    /// The heads of the records with their numbers, from 1 to [`TypeTable::count`], in order.
+    pub fn records(&self) -> Records<'_>
+        ensures { result ≡ numbered 1 self.now }
+    {
+        Records {
+            order: self.order,
+            types: &self.types,
+            strings: &self.strings,
+            places: self.places.records(),
+            ends: self.places.ends(),
+            given: 0,
+        }
+    }
+}
+
+impl<A: Allocator> TypeTable for Btf<A> {
+    ghost meaning = { λ t. t };
+
+    fn count(&self) -> u32 {
+        self.places.records().len() as u32
+    }
+
+    fn head(&self, id: u32) -> Head<'_> {
+        head_at(
+            self.order,
+            &self.types,
+            &self.strings,
+            self.places.ends(),
+            self.places.record(id),
+        )
+    }
+
+    fn item_count(&self, id: u32) -> u32 {
+        item_count_at(self.order, &self.types, self.places.record(id))
+    }
+
+    fn item(&self, id: u32, k: u32) -> Item<'_> {
+        item_at(
+            self.order,
+            &self.types,
+            &self.strings,
+            self.places.ends(),
+            self.places.record(id),
+            k as usize,
+        )
+    }
+
+    fn sections(&self) -> Option<FileSections<'_>> {
+        Some(FileSections {
+            order: self.order,
+            types: &self.types,
+            strings: &self.strings,
+            places: self.places.records(),
+        })
+    }
+}

@@ -1,0 +1,67 @@
+//! Where the records of a table begin, and where its long strings end. Both stand in one vector, as a table has one allocator.
+
+ghost use Rattle.std.specs.Prelude.{◌≡◌, ◌-◌, ◌<◌, ◌≤◌, ◌^◌, IfOk, length, slice_index};
+ghost use Rattle.btf_raw.specs.Header.{HasNulEnds};
+ghost use Rattle.btf_types.specs.tables.StringEnds.{AreLongEnds};
+
+use crate::tables::string_ends::push_long_ends;
+use std::alloc::{AllocError, Allocator};
+use std::marker::Model;
+
+/// The places of records in the types, and the ends of long strings in the strings, in bytes from the first of each section.
+#[derive(Drop)]
+pub struct Places<A: Allocator> {
+    /// The places of the records, then the ends of the strings.
+    index: Vec<u32, A>,
+    /// How many records there are.
+    count: usize,
+}
+
+impl<A: Allocator> Model for Places<A> {
+    ghost use Rattle.std.specs.Prelude.{◌≤◌, length, take, drop};
+    ghost use Rattle.btf_types.specs.tables.TablePlaces.{TablePlaces};
+
+    ghost Value = { TablePlaces };
+
+    ghost view = { λ p. record { records = take p.count p.index.items; ends = drop p.count p.index.items } };
+
+    ghost invariant = { λ p. p.count ≤ length p.index.items };
+}
+
+impl<A: Allocator> Places<A> {
+    /// These places of records, and the ends of the long strings.
+    pub fn new(records: Vec<u32, A>, strings: &[u8]) -> Result<Places<A>, AllocError>
+        requires nuls { HasNulEnds strings.now }
+        requires room { length strings.now < 2 ^ 32 }
+        ensures records { IfOk result (λ p. p.records ≡ records.items) }
+        ensures ends { IfOk result (λ p. AreLongEnds strings.now p.ends) }
+    {
+        let count = records.len();
+        let mut index = records;
+        push_long_ends(&mut index, strings)?;
+        Ok(Places { index, count })
+    }
+
+    /// The places of the records, in order.
+    pub fn records(&self) -> &[u32]
+        ensures { result.now ≡ self.now.records }
+    {
+        &self.index[..self.count]
+    }
+
+    /// The ends of the long strings, ascending.
+    pub fn ends(&self) -> &[u32]
+        ensures { result.now ≡ self.now.ends }
+    {
+        &self.index[self.count..]
+    }
+
+    /// The place of record `id`.
+    pub fn record(&self, id: u32) -> usize
+        requires first { 0 < id }
+        requires last { id ≤ length self.now.records }
+        ensures { result ≡ slice_index self.now.records (id - 1) }
+    {
+        self.records()[id as usize - 1] as usize
+    }
+}

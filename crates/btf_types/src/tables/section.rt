@@ -1,0 +1,94 @@
+//! The sections of a file whose records are framed, and what a record asks of another: it is read at that one's place,
+//! wherever it stands, so a reference may point forward.
+
+ghost use Rattle.std.specs.Prelude.{◌≡◌, ◌+◌, ◌*◌, ◌<◌, ◌≤◌, length, slice_index};
+ghost use Rattle.btf_types.specs.judge.Checks.{type_at};
+ghost use Rattle.btf_types.specs.Sections.{IsSection, StandsIn, FactsAre, facts_in, frame_of};
+ghost use Rattle.btf_types.specs.judge.FieldFaults.{frame_facts};
+
+use crate::judge::utf8::Texts;
+use bpf_words::{Order, get32};
+use btf_raw::info::{kind_of, vlen_of};
+use btf_raw::{FUNC, INT};
+
+/// What is known of void, and of a type that isn't there.
+const NO_TYPE: Facts = Facts {
+    kind: 0,
+    count: 0,
+    target: 0,
+    offset: 0,
+    bits: 0,
+};
+
+/// The two sections of a file, and what is known of them before the fields are judged.
+#[derive(Clone, Copy, Debug)]
+pub struct Section<'a> {
+    pub order: Order,
+    pub types: &'a [u8],
+    pub strings: &'a [u8],
+    /// Where each record begins, in bytes from the first of `types`. Type id 1 is the first.
+    pub places: &'a [u32],
+    /// Which texts of `strings` are UTF-8.
+    pub texts: &'a Texts<'a>,
+}
+
+/// What other records ask of a type.
+#[derive(Clone, Copy, Debug)]
+pub struct Facts {
+    /// Its kind, 0 of void and of a type that isn't there.
+    pub kind: u8,
+    /// How many items it has.
+    pub count: u16,
+    /// Its third word, a type where its kind names one.
+    pub target: u32,
+    /// An INT's offset and its number of bits; 0 of other kinds.
+    pub offset: u8,
+    pub bits: u8,
+}
+
+impl<'a> Section<'a> {
+    /// Word j of the record at `pos`, from 0.
+    pub fn word(&self, pos: usize, j: usize) -> u32
+        requires inside { pos + 4 * length (frame_of self.now pos) ≤ length self.now.types.now }
+        requires there { j < length (frame_of self.now pos) }
+        ensures { result ≡ slice_index (frame_of self.now pos) j }
+    {
+        get32(self.order, self.types, pos + 4 * j)
+    }
+
+    /// What other records ask of the record at `pos`.
+    fn record_facts(&self, pos: usize) -> Facts
+        requires { StandsIn self.now pos }
+        ensures { FactsAre result (frame_facts (frame_of self.now pos)) }
+    {
+        let info = self.word(pos, 1);
+        let kind = kind_of(info);
+        let int = if kind == INT { self.word(pos, 3) } else { 0 };
+        Facts {
+            kind,
+            count: if kind == FUNC { 0 } else { vlen_of(info) },
+            target: self.word(pos, 2),
+            offset: (int >> 16 & 0xff) as u8,
+            bits: (int & 0xff) as u8,
+        }
+    }
+
+    /// What other records ask of the type with this id.
+    pub fn facts(&self, id: u32) -> Facts
+        requires { IsSection self.now }
+        ensures { FactsAre result (type_at (facts_in self.now) id) }
+    {
+        if id == 0 || id as usize > self.places.len() {
+            return NO_TYPE;
+        }
+        self.record_facts(self.places[id as usize - 1] as usize)
+    }
+
+    /// How many types there are.
+    pub fn count(&self) -> u32
+        requires { IsSection self.now }
+        ensures { result ≡ length (facts_in self.now) }
+    {
+        self.places.len() as u32
+    }
+}

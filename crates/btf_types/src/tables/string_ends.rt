@@ -1,0 +1,82 @@
+//! Where the texts of a string section end (btf.rst section 2.1): a text runs from an offset, which may stand inside a string, to
+//! the next NUL.
+//!
+//! Most strings are short, so an end is looked for in the next few bytes. The ends of long strings are kept, as many names may end
+//! in one of them: no name takes time by its length.
+
+ghost use Rattle.std.specs.Prelude.{◌≡◌, ◌≢◌, ◌<◌, ◌^◌, ◌≤◌, ◌+◌, ◌++◌, ℕ, nat_lt, MatchOption, OnOk, length, take, drop, slice_index};
+ghost use Rattle.btf_raw.specs.Header.{HasNulEnds};
+ghost use Rattle.btf_types.specs.tables.StringEnds.{IsEnd, AreLongEnds};
+
+use memchr::memchr;
+use std::alloc::{AllocError, Allocator};
+
+/// How many bytes are looked through at once for strings that are long. A long string fills such a block.
+const BLOCK: usize = 64;
+
+/// How many bytes behind an offset are looked through for the end.
+const NEAR: usize = 128;
+
+/// The first NUL from an offset on, if it comes before another.
+fn nul_between(strings: &[u8], off: usize, to: usize) -> Option<usize>
+    requires order { off ≤ to }
+    requires inside { to ≤ length strings.now }
+    ensures { MatchOption result ((i : ℕ) → off ≤ i → i < to → slice_index strings.now i ≢ 0) (λ end. IsEnd strings.now off end × (end < to)) }
+{
+    match memchr(0, &strings[off..to]) {
+        Some(len) => Some(off + len),
+        None => None,
+    }
+}
+
+/// The first NUL from an offset on.
+fn next_nul(strings: &[u8], off: usize) -> usize
+    requires ends { HasNulEnds strings.now }
+    requires inside { off < length strings.now }
+    ensures { IsEnd strings.now off result }
+{
+    match nul_between(strings, off, strings.len()) {
+        Some(end) => end,
+        None => unreachable!(),
+    }
+}
+
+/// Appends the ends of all texts of 128 bytes and more.
+pub fn push_long_ends<A: Allocator>(out: &mut Vec<u32, A>, strings: &[u8]) -> Result<(), AllocError>
+    requires ends { HasNulEnds strings.now }
+    requires room { length strings.now < 2 ^ 32 }
+    ensures kept { OnOk result (take (length out.old.items) out.new.items ≡ out.old.items) }
+    ensures ends { OnOk result (AreLongEnds strings.now (drop (length out.old.items) out.new.items)) }
+{
+    let mut at = 0;
+    'blocks: while at + BLOCK <= strings.len() {
+        match nul_between(strings, at, at + BLOCK) {
+            Some(_) => at += BLOCK,
+            None => {
+                let end = next_nul(strings, at);
+                out.push(end as u32)?;
+                at = end + 1;
+            }
+        }
+    }
+    Ok(())
+}
+
+/// Where the text at an offset ends. `ends` are the ends of the long strings.
+pub fn end_of(strings: &[u8], ends: &[u32], off: usize) -> usize
+    requires nuls { HasNulEnds strings.now }
+    requires ends { AreLongEnds strings.now ends.now }
+    requires inside { off < length strings.now }
+    ensures { IsEnd strings.now off result }
+{
+    let near = strings.len().min(off + NEAR);
+    if let Some(end) = nul_between(strings, off, near) {
+        return end;
+    }
+    let passed = ends.partition_point(
+        |end: &u32| -> bool
+            ensures { result ≡ nat_lt end.now off }
+        { (*end as usize) < off },
+    );
+    ends[passed] as usize
+}

@@ -1,0 +1,63 @@
+//! Every change of one byte of worked files, before a second judge.
+
+use crate::tests::second_judge::first_fault;
+use crate::tests::{BIG_ENUM64, BIG_INT, MEMBER, STRINGS_FIRST, TAGGED, file, told};
+use std::alloc::Global;
+use std::process::Abort;
+use std::test::Fail;
+
+/// Compares the parsers with the second judge, for every change of one byte.
+fn changes_are_judged(rt: &impl Abort, alloc: Global, file: &[u8]) -> Result<(), Fail> {
+    let mut bytes = Vec::from_slice(alloc, file)?;
+    for (pos, old) in file.iter().enumerate() {
+        for value in 0..=u8::MAX {
+            if let Some(byte) = bytes.get_mut(pos) {
+                *byte = value;
+            }
+            let fault = first_fault(alloc, &bytes)?;
+            assert_eq!(rt; told(alloc, &bytes)?, fault, "byte {pos} as {value}");
+        }
+        if let Some(byte) = bytes.get_mut(pos) {
+            *byte = *old;
+        }
+    }
+    Ok(())
+}
+
+#[test]
+fn changes_of_one_byte(rt: HostRuntime) -> Result<(), Fail> {
+    for file in [BIG_INT, STRINGS_FIRST, BIG_ENUM64] {
+        changes_are_judged(&rt, rt.alloc(), file)?;
+    }
+    Ok(())
+}
+
+#[test]
+fn changes_of_one_byte_in_members(rt: HostRuntime) -> Result<(), Fail> {
+    for file in [MEMBER, TAGGED] {
+        changes_are_judged(&rt, rt.alloc(), file)?;
+    }
+    Ok(())
+}
+
+#[test]
+fn texts_that_are_not_utf8(rt: HostRuntime) -> Result<(), Fail> {
+    let sections: [&[u8]; 6] = [
+        b"\0\xc3\xa9\0\xe2\x82\xac\0\xf0\x9f\x98\x80b\0",
+        b"\0a\xffb\0\xc3\xa9\0",
+        b"\0\xe2\x82\0\x82a\0\xe2\x28\xa1c\0",
+        b"\0\xed\xa0\x80d\0\xc0\x80\0\xf5\x80\x80\x80e\0",
+        b"\0\xff\xff\xff\0\xff\0",
+        b"\0ab\xc3\0\xa9cd\xf0\x90\x80\0",
+    ];
+    for strings in sections {
+        for off in 0..20_u32 {
+            let mut record = Vec::from_slice(rt.alloc(), &off.to_le_bytes())?;
+            record.extend_from_slice(b"\0\0\0\x01\x04\0\0\0\x20\0\0\0")?;
+            let bytes = file(rt.alloc(), &record, strings)?;
+            let fault = first_fault(rt.alloc(), &bytes)?;
+            assert_eq!(rt; told(rt.alloc(), &bytes)?, fault, "at {off}");
+        }
+    }
+    Ok(())
+}
