@@ -1,2 +1,2 @@
-pub mod insn
-pub mod btf
+pub mod InsnLemmas
+pub mod BtfLemmas

@@ -10,7 +10,7 @@ use Rattle.bpf_insn.specs.Faults.{IsFront}
 use Rattle.bpf_insn.proofs.FrontLemmas.{one_front}
 use Rattle.bpf_canon.specs.insn.Run.{Devices, RanWhole, StopsAtFault, StopsTooLong, StopsUnread, StopsUnwritten, Wrote, WroteAll, limit}
 use Rattle.bpf_canon.specs.insn.Stands.{IsSound}
-use Rattle.bpf_canon.proofs.insn.FrontLaws.{file_front, truncated_or_not}
+use Rattle.bpf_canon.proofs.InsnLemmas.FrontLaws.{file_front, truncated_or_not}
 use Rattle.bpfcanon.specs.declared.command_line.Job.{Job}
 use Rattle.bpfcanon.specs.declared.outcome.Outcome.{Outcome}
 use Rattle.bpfcanon.specs.declared.outcome.Outcome.TheVariants.{Done, Fault, TooLong, ReadFailed, WriteFailed, Memory}

@@ -11,7 +11,7 @@ use Rattle.btf_types.specs.Good.{IsGood}
 use Rattle.btf_types.specs.Denotes.{Denotes}
 use Rattle.btf_types.specs.tables.Tables.{Fails}
 use Rattle.btf_types.proofs.Denoting.{denotes_unique}
-use Rattle.btf_types.proofs.judge.FaultLaws.{no_fault_is_accepted}
+use Rattle.btf_types.proofs.JudgeLemmas.FaultLaws.{no_fault_is_accepted}
 use Rattle.btf_canon.specs.CanonicalBtf.{canonical}
 use Rattle.btf_canon.specs.BtfLaws.{IsCanonicalBtf}
 use Rattle.btf_canon.proofs.CanonicalFiles.{canonical_denotes}

@@ -19,9 +19,9 @@ use Rattle.btf_types.specs.judge.Checks.{TypeFacts}
 use Rattle.btf_types.specs.Good.{IsGoodRecord, IsGood, record_size, facts}
 use Rattle.btf_types.specs.Denotes.{Denotes}
 use Rattle.btf_types.proofs.Spelled.{fixed_is, items_size}
-use Rattle.btf_types.proofs.tables.TableSteps.{concat-map, spelled_bytes}
+use Rattle.btf_types.proofs.TableLemmas.TableSteps.{concat-map, spelled_bytes}
 use Rattle.btf_types.proofs.Denoting.{frames_of, denotes_unique}
-use Rattle.btf_types.proofs.strings.SpelledNames.{spelled_table_fits}
+use Rattle.btf_types.proofs.StringLemmas.SpelledNames.{spelled_table_fits}
 use Rattle.btf_canon.specs.CanonicalBtf.{canonical, canonical_frames, canonical_types}
 use Rattle.btf_canon.specs.BtfLaws.{CanonicalBtfIsAccepted, CanonicalBtfTellsApart, CanonicalBtfIsShortest}
 use Rattle.btf_canon.proofs.CanonicalSpells.{frames_spell}

@@ -19,7 +19,7 @@ use Rattle.btf_types.specs.Spelling.{kind_number, head_third, bit, FlagSpells, l
 use Rattle.btf_types.specs.judge.Checks.{TypeFacts}
 use Rattle.btf_types.specs.Good.{HeadInRange, ItemInRange, ItemOf, has_width, has_bit_fields, MemberIsGood, IsGoodRecord, IsGood, facts}
 use Rattle.btf_types.proofs.Spelled.{kind_below, vlen_below, flag_below}
-use Rattle.btf_types.proofs.strings.TableLaws.{shared_places}
+use Rattle.btf_types.proofs.StringLemmas.TableLaws.{shared_places}
 use Rattle.btf_canon.specs.CanonicalBtf.{canonical_flag, item_words, record_words, canonical_frames}
 
 -- ---- lists

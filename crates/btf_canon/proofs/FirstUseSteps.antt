@@ -8,7 +8,7 @@ use Rattle.std.proofs.lemmas.List.Folds.{list_any_at, Any-from_list_any}
 use Rattle.std.proofs.lemmas.List.Elements.{Contains-push_cases}
 use Rattle.btf_types.specs.Names.{kept}
 use Rattle.btf_types.proofs.Members.{Has, Has-from_Contains}
-use Rattle.btf_types.proofs.strings.Texts.{Has-kept}
+use Rattle.btf_types.proofs.StringLemmas.Texts.{Has-kept}
 use Rattle.btf_canon.specs.FirstUses.{noted, noted_all, AreMarked}
 use Rattle.btf_canon.proofs.KeptSteps.{Has_cases, kept_empty, kept_known, kept_new}
 

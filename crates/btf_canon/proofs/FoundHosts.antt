@@ -10,7 +10,7 @@ use Rattle.btf_canon.specs.Tails.{tail_text}
 use Rattle.btf_canon.specs.Longest.{IsUsed, AreLongestOf}
 use Rattle.btf_canon.specs.FirstUses.{AreMarked}
 use Rattle.btf_canon.specs.declared.shared_strings.tails.Tail.{Tail}
-use Rattle.btf_types.proofs.strings.Suffixes.{suffix_from_Ends}
+use Rattle.btf_types.proofs.StringLemmas.Suffixes.{suffix_from_Ends}
 use Rattle.btf_canon.proofs.LongestSteps.{used_text, within_ends}
 
 abbrev none : Tail

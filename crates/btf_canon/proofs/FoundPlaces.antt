@@ -13,8 +13,8 @@ use Rattle.btf_types.specs.strings.SharedNames.{tail_cmp, hosts, hosts_of, host_
 use Rattle.btf_types.specs.strings.LongestTexts.{AreLongest}
 use Rattle.btf_types.specs.strings.CommonTails.{at_rank, AreInTailOrder}
 use Rattle.btf_types.proofs.Members.{Has, Has-from_Contains, Contains-from_Has}
-use Rattle.btf_types.proofs.strings.Texts.{table_split}
-use Rattle.btf_types.proofs.strings.Longest.{longest_tell_host}
+use Rattle.btf_types.proofs.StringLemmas.Texts.{table_split}
+use Rattle.btf_types.proofs.StringLemmas.Longest.{longest_tell_host}
 use Rattle.btf_canon.specs.FirstUses.{AreMarked}
 use Rattle.btf_canon.specs.UsedOffsets.{number_of, AreSameUses}
 use Rattle.btf_canon.specs.Longest.{IsUsed, IsWithin, AreLongestOf}

@@ -8,8 +8,8 @@ use Rattle.btf_types.specs.Values.{TypeItem, TypeRecord}
 use Rattle.btf_types.specs.Names.{head_name, item_name, record_names, names, kept}
 use Rattle.btf_types.specs.tables.TableWords.{record_at}
 use Rattle.btf_types.proofs.Members.{Has, Contains-from_Has}
-use Rattle.btf_types.proofs.tables.TableWalk.{take_more, records_more, has_record}
-use Rattle.btf_types.proofs.strings.Texts.{Has-kept}
+use Rattle.btf_types.proofs.TableLemmas.TableWalk.{take_more, records_more, has_record}
+use Rattle.btf_types.proofs.StringLemmas.Texts.{Has-kept}
 use Rattle.btf_canon.specs.Interned.{IsPlaced}
 
 -- ---- the names of a table

@@ -4,11 +4,11 @@ use Rattle.std.proofs.lemmas.Bool.{cases_eq}
 use Rattle.std.proofs.lemmas.List.{get_or-set_same, get_or-set_other, length-set, length-map, get_or-map, same_lists, get_or_default, get_or_read}
 use Rattle.std.specs.List.Sorted.{IsSorted, IsSortedBy}
 use Rattle.btf_types.specs.strings.SharedNames.{is_proper_suffix, host, tail_cmp}
-use Rattle.btf_types.proofs.strings.Hosts.{tail_lt}
+use Rattle.btf_types.proofs.StringLemmas.Hosts.{tail_lt}
 use Rattle.btf_types.specs.strings.TableLaws.{IsTailSorted}
 use Rattle.btf_canon.specs.Interned.{lent_texts}
-use Rattle.btf_types.proofs.strings.Distinct.{NoRepeats-kept}
-use Rattle.btf_types.proofs.strings.Neighbours.{next_host, own_host}
+use Rattle.btf_types.proofs.StringLemmas.Distinct.{NoRepeats-kept}
+use Rattle.btf_types.proofs.StringLemmas.Neighbours.{next_host, own_host}
 use Rattle.btf_types.specs.Names.{kept}
 
 -- The hosts of the names from k on are found, and each name before k stands for its own.

@@ -15,9 +15,9 @@ use Rattle.btf_types.specs.Names.{distinct, is_other, is_some_text, kept, with_n
 use Rattle.btf_types.specs.strings.SharedNames.{is_proper_suffix, hosts_of, host_in}
 use Rattle.btf_canon.specs.Interned.{lent_texts, looked_up, MapsTo, AreHostsOf, AddsName}
 use Rattle.btf_types.proofs.Members.{Has, Has-from_filter, Has-from_Contains}
-use Rattle.btf_types.proofs.strings.Texts.{same_text, bytes_eq-same}
-use Rattle.btf_types.proofs.strings.Hosts.{own_host_of, host_differs}
-use Rattle.btf_types.proofs.strings.Distinct.{NoRepeats, NoRepeats-filter, NoRepeats-kept}
+use Rattle.btf_types.proofs.StringLemmas.Texts.{same_text, bytes_eq-same}
+use Rattle.btf_types.proofs.StringLemmas.Hosts.{own_host_of, host_differs}
+use Rattle.btf_types.proofs.StringLemmas.Distinct.{NoRepeats, NoRepeats-filter, NoRepeats-kept}
 use Rattle.btf_canon.proofs.KeptSteps.{Has_from_test, test_from_Has, Has_cases, kept_known, kept_new, length-table_push}
 use Rattle.btf_canon.proofs.PlaceSteps.{text_eq}
 use Rattle.btf_canon.proofs.HostSearch.{text_at, texts_length}

@@ -6,8 +6,8 @@ use Rattle.std.proofs.lemmas.List.{get_or-map, length-map, length-set, get_or-se
 use Rattle.btf_types.specs.Reading.{text_from}
 use Rattle.btf_types.specs.strings.SharedNames.{is_suffix}
 use Rattle.btf_types.specs.strings.CommonTails.{at_rank, IsFirstRank, IsNextHost}
-use Rattle.btf_types.proofs.strings.Suffixes.{Ends, Ends-refl, Ends-trans, Ends-length, Ends-from_suffix, suffix_from_Ends}
-use Rattle.btf_types.proofs.strings.CommonTails.{first_ends, rank_tells_host}
+use Rattle.btf_types.proofs.StringLemmas.Suffixes.{Ends, Ends-refl, Ends-trans, Ends-length, Ends-from_suffix, suffix_from_Ends}
+use Rattle.btf_types.proofs.StringLemmas.CommonTails.{first_ends, rank_tells_host}
 use Rattle.btf_canon.specs.Tails.{tail_text}
 use Rattle.btf_canon.specs.Longest.{IsUsed, IsWithin, AreLongestOf}
 use Rattle.btf_canon.specs.Ranks.{AreRanked}

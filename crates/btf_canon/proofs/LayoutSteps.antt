@@ -10,10 +10,10 @@ use Rattle.btf_types.specs.Reading.{text_from}
 use Rattle.btf_types.specs.strings.SharedNames.{is_suffix, is_proper_suffix, tail_cmp, hosts, host, shared_table}
 use Rattle.btf_types.specs.strings.CommonTails.{at_rank}
 use Rattle.btf_types.proofs.Members.{Has, Has-filter, Has-from_filter, Has-from_Contains}
-use Rattle.btf_types.proofs.strings.Suffixes.{Ends, Ends-refl, Ends-same_length, suffix_from_Ends}
-use Rattle.btf_types.proofs.strings.Hosts.{host_is, own_host_of, host_differs}
-use Rattle.btf_types.proofs.strings.CommonTails.{ranks_are_together}
-use Rattle.btf_types.proofs.strings.Longest.{Has-kept_some}
+use Rattle.btf_types.proofs.StringLemmas.Suffixes.{Ends, Ends-refl, Ends-same_length, suffix_from_Ends}
+use Rattle.btf_types.proofs.StringLemmas.Hosts.{host_is, own_host_of, host_differs}
+use Rattle.btf_types.proofs.StringLemmas.CommonTails.{ranks_are_together}
+use Rattle.btf_types.proofs.StringLemmas.Longest.{Has-kept_some}
 use Rattle.btf_canon.specs.InHost.{found_of, no_host}
 use Rattle.btf_canon.specs.UsedOffsets.{number_of}
 use Rattle.btf_canon.specs.Longest.{IsUsed}

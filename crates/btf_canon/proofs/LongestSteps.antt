@@ -6,7 +6,7 @@ use Rattle.std.proofs.lemmas.Bool.{cases_eq, cases_lt}
 use Rattle.std.proofs.lemmas.List.{get_or-drop, length-drop, get_or_append_left, get_or_at, length-append, length-take-le}
 use Rattle.std.proofs.lemmas.List.Elements.{All-nil, All-cons, All-append}
 use Rattle.btf_types.specs.Reading.{before_nul, text_from}
-use Rattle.btf_types.proofs.strings.Suffixes.{Ends, Ends-refl}
+use Rattle.btf_types.proofs.StringLemmas.Suffixes.{Ends, Ends-refl}
 use Rattle.btf_canon.specs.TailKeys.{tail_key}
 use Rattle.btf_canon.specs.Tails.{end_in, start_in, tail_text, HasKey}
 use Rattle.btf_canon.specs.Longest.{IsUsed, IsWithin, AreLongestOf}

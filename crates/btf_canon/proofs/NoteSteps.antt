@@ -12,7 +12,7 @@ use Rattle.btf_raw.proofs.Texts.{TextAt-inside}
 use Rattle.btf_types.specs.judge.Checks.{has_item_names}
 use Rattle.btf_types.specs.tables.PlaceWords.{StandsAt}
 use Rattle.btf_types.specs.Reading.{text_from, frame_at, frames_at, item_total, tabulate}
-use Rattle.btf_types.proofs.faultless.FaultlessWords.{room}
+use Rattle.btf_types.proofs.FaultlessLemmas.FaultlessWords.{room}
 use Rattle.btf_canon.specs.FirstUses.{noted, noted_all}
 use Rattle.btf_canon.specs.NameOffsets.{item_word, name_offsets, all_offsets}
 use Rattle.btf_canon.proofs.FirstUseSteps.{noted_all-append}

@@ -10,7 +10,7 @@ use Rattle.indexmap.specs.IndexMap.{insert_entry}
 use Rattle.btf_types.specs.Names.{kept, table_of, place_in, place_among}
 use Rattle.btf_canon.specs.Interned.{texts_of, ArePlaces, AddsName}
 use Rattle.btf_types.proofs.Members.{Has, Has-from_Contains}
-use Rattle.btf_types.proofs.strings.Texts.{same_text}
+use Rattle.btf_types.proofs.StringLemmas.Texts.{same_text}
 use Rattle.btf_canon.proofs.KeptSteps.{Has_from_test, test_from_Has, place_stays, place_last, length-table_push, kept_empty, kept_known, kept_new}
 
 abbrev pub Entries : Type 0

@@ -10,10 +10,10 @@ use Rattle.std.proofs.lemmas.List.Sorted.{Contains-permutation, IsPermutation-sy
 use Rattle.btf_types.specs.Names.{kept}
 use Rattle.btf_types.specs.strings.SharedNames.{is_suffix, tail_cmp}
 use Rattle.btf_types.proofs.Members.{Has-from_Contains, Contains-from_Has}
-use Rattle.btf_types.proofs.strings.Texts.{Has-from_kept}
-use Rattle.btf_types.proofs.strings.Longest.{Has-kept_some}
+use Rattle.btf_types.proofs.StringLemmas.Texts.{Has-from_kept}
+use Rattle.btf_types.proofs.StringLemmas.Longest.{Has-kept_some}
 use Rattle.btf_types.specs.strings.CommonTails.{common_front, common_tail, at_rank, IsNextHost, IsFirstRank, AreInTailOrder}
-use Rattle.btf_types.proofs.strings.CommonTails.{suffix_by_tail}
+use Rattle.btf_types.proofs.StringLemmas.CommonTails.{suffix_by_tail}
 use Rattle.btf_canon.specs.Ranks.{common_before, AreCommon}
 use Rattle.btf_canon.specs.declared.shared_strings.tails.Tail.{Tail}
 

@@ -18,9 +18,9 @@ use Rattle.btf_types.specs.Spelling.{Spells}
 use Rattle.btf_types.specs.judge.Checks.{has_item_names}
 use Rattle.btf_types.specs.Reading.{text_from, item_from, item_of, item_total, record_of, frame_at, frames_at, tabulate}
 use Rattle.btf_types.proofs.KindCases.{KindIs, IsStruct, IsUnion, IsEnum, IsFuncProto, IsEnum64}
-use Rattle.btf_types.proofs.faultless.FaultlessWords.{known}
+use Rattle.btf_types.proofs.FaultlessLemmas.FaultlessWords.{known}
 use Rattle.btf_types.proofs.Lists.{length-tabulate, get_or-tabulate}
-use Rattle.btf_types.proofs.tables.TextSteps.{text_stands, decided}
+use Rattle.btf_types.proofs.TableLemmas.TextSteps.{text_stands, decided}
 use Rattle.btf_canon.specs.NameOffsets.{item_word, name_offsets, all_offsets}
 
 -- ---- empty names aren't kept

@@ -20,11 +20,11 @@ use Rattle.btf_types.specs.judge.Checks.{has_item_names, is_struct}
 use Rattle.btf_types.specs.Good.{has_width, has_bit_fields}
 use Rattle.btf_types.specs.Reading.{text_from, head_from, item_from, item_of, item_total, record_of, frame_at, records_at, tabulate}
 use Rattle.btf_types.proofs.KindCases.{KindIs, IsInt, IsArray, IsStruct, IsUnion, IsEnum, IsFuncProto, IsVar, IsDeclTag, IsEnum64}
-use Rattle.btf_types.proofs.faultless.FaultlessWords.{known, room}
+use Rattle.btf_types.proofs.FaultlessLemmas.FaultlessWords.{known, room}
 use Rattle.btf_types.proofs.Spelled.{info_parts, InfoParts, kind_below, vlen_below, flag_below}
-use Rattle.btf_types.proofs.tables.TableReads.{count_there}
+use Rattle.btf_types.proofs.TableLemmas.TableReads.{count_there}
 use Rattle.btf_types.proofs.TabulateSteps.{All-tabulate}
-use Rattle.btf_types.proofs.tables.TextSteps.{decided}
+use Rattle.btf_types.proofs.TableLemmas.TextSteps.{decided}
 use Rattle.btf_canon.specs.CanonicalBtf.{canonical_flag, item_words as words_of, record_words}
 use Rattle.btf_canon.specs.KeptFrames.{record_info, record_tail}
 use Rattle.btf_canon.proofs.RecordNames.{head_name_is}

@@ -10,9 +10,9 @@ use Rattle.btf_types.specs.strings.SharedNames.{hosts_of, host_in, host, shared_
 use Rattle.btf_types.specs.strings.TableLaws.{IsTailSorted}
 use Rattle.btf_canon.specs.Interned.{lent_texts, MapsTo, AreHostsOf}
 use Rattle.btf_types.proofs.Members.{Has, Has-from_filter, Has-from_Contains, Contains-from_Has}
-use Rattle.btf_types.proofs.strings.Texts.{table_split}
-use Rattle.btf_types.proofs.strings.Suffixes.{Ends-length}
-use Rattle.btf_types.proofs.strings.Hosts.{IsHostOf, host_is}
+use Rattle.btf_types.proofs.StringLemmas.Texts.{table_split}
+use Rattle.btf_types.proofs.StringLemmas.Suffixes.{Ends-length}
+use Rattle.btf_types.proofs.StringLemmas.Hosts.{IsHostOf, host_is}
 use Rattle.btf_canon.proofs.HostSearch.{texts_length}
 use Rattle.btf_canon.proofs.HostSteps.{contains_text, named_at}
 

@@ -10,7 +10,7 @@ use Rattle.std.proofs.lemmas.Bool.{cases_eq}
 use Rattle.std.proofs.lemmas.Cmp.{nat_cmp_total, tied_itself, on_total, then_total, ranked}
 use Rattle.std.proofs.lemmas.List.{get_or-map, length-map}
 use Rattle.btf_types.specs.strings.SharedNames.{tail_cmp}
-use Rattle.btf_types.proofs.strings.Hosts.{tail_lt, tail_total}
+use Rattle.btf_types.proofs.StringLemmas.Hosts.{tail_lt, tail_total}
 use Rattle.btf_canon.specs.TailKeys.{tail_key}
 use Rattle.btf_canon.specs.Tails.{start_in, tail_text, HasKey, compared}
 use Rattle.btf_canon.specs.declared.shared_strings.tails.Tail.{Tail}

@@ -8,7 +8,7 @@ use Rattle.std.specs.Str.{bytes_eq}
 use Rattle.std.proofs.lemmas.Cmp.{nat_cmp_total, tied_itself}
 use Rattle.std.proofs.lemmas.List.{reverse-append, take-append-drop}
 use Rattle.btf_types.specs.strings.SharedNames.{tail_cmp}
-use Rattle.btf_types.proofs.strings.Texts.{same_text}
+use Rattle.btf_types.proofs.StringLemmas.Texts.{same_text}
 
 same_front : (t x y : List ℕ) → slice_cmp nat_cmp (t ++ x) (t ++ y) ≡ slice_cmp nat_cmp x y
 same_front [] x y = refl

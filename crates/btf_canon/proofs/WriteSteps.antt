@@ -23,7 +23,7 @@ use Rattle.btf_types.proofs.Members.{Has, any_from_Has}
 use Rattle.btf_canon.specs.BtfWords.{head_vlen, head_words, MemberFits}
 use Rattle.btf_canon.specs.CanonicalBtf.{canonical, canonical_types, item_words, record_words}
 use Rattle.btf_canon.proofs.CanonicalFiles.{canonical_size}
-use Rattle.btf_types.proofs.tables.TableWalk.{take_more, get_is, get_or_is, records_more}
+use Rattle.btf_types.proofs.TableLemmas.TableWalk.{take_more, get_is, get_or_is, records_more}
 
 -- ---- words
 

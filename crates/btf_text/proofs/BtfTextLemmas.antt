@@ -5,7 +5,7 @@ use Rattle.std.specs.List.{flat_map, enumerate_from}
 use Rattle.std.proofs.lemmas.List.{flat_map_more}
 use Rattle.btf_types.specs.Values.{TypeItem, TypeRecord}
 use Rattle.btf_types.specs.tables.TableWords.{record_at}
-use Rattle.btf_types.proofs.tables.TableWalk.{take_more, records_more}
+use Rattle.btf_types.proofs.TableLemmas.TableWalk.{take_more, records_more}
 use Rattle.btf_text.specs.BtfText.{item_line, record_text, text_of}
 
 -- what three calls append, each a label with a number

@@ -1,4 +1,4 @@
--- What a table keeps of where things stand in its two sections. Contracts of private functions cite it.
+-- What a table keeps of where things stand in its two sections. The invariants of the tables cite it, and contracts of private functions.
 use Rattle.std.specs.Prelude.{◌≡◌, ℕ, List}
 use Rattle.bpf_words.specs.declared.Order.{Order}
 use Rattle.btf_types.specs.tables.StringEnds.{AreLongEnds}

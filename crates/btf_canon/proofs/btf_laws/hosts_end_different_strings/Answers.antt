@@ -1,4 +1,4 @@
-use Rattle.btf_types.proofs.strings.TableLaws.{sections_are_cut, names_end_strings, hosts_end_apart}
+use Rattle.btf_types.proofs.StringLemmas.TableLaws.{sections_are_cut, names_end_strings, hosts_end_apart}
 use Rattle.btf_canon.proofs.HostLaws.{hosts_fit}
 use Rattle.btf_canon.proofs.btf_laws.hosts_end_different_strings.Goals as goal
 

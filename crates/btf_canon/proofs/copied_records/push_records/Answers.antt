@@ -4,7 +4,7 @@ use Rattle.std.proofs.lemmas.List.{take_all}
 use Rattle.btf_raw.specs.Frames.{bytes_of, section_of}
 use Rattle.btf_types.specs.strings.SharedNames.{shared_place}
 use Rattle.btf_types.specs.Reading.{records_at}
-use Rattle.btf_types.proofs.tables.TableReads.{stands_at}
+use Rattle.btf_types.proofs.TableLemmas.TableReads.{stands_at}
 use Rattle.btf_canon.specs.CanonicalBtf.{record_words}
 use Rattle.btf_canon.specs.KeptFrames.{record_in}
 use Rattle.btf_canon.specs.NamesByPlace.{placed_texts}

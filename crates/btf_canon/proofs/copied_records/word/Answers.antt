@@ -1,5 +1,5 @@
 use Rattle.std.proofs.Common.{sym, ◌∙◌, arith}
-use Rattle.btf_types.proofs.judge.FramingSteps.{frame_word, length-frame_at}
+use Rattle.btf_types.proofs.JudgeLemmas.FramingSteps.{frame_word, length-frame_at}
 use Rattle.btf_canon.proofs.copied_records.word.Goals as goal
 
 pub returns : goal.returns

@@ -5,7 +5,7 @@ use Rattle.std.proofs.lemmas.List.Elements.{same_from_all_zip}
 use Rattle.std.proofs.lemmas.List.Sorted.{answers_always, ranks_by, IsPermutation-map}
 use Rattle.btf_canon.specs.Interned.{lent_texts}
 use Rattle.btf_types.specs.strings.SharedNames.{tail_cmp}
-use Rattle.btf_types.proofs.strings.Hosts.{tail_lt, tail_total}
+use Rattle.btf_types.proofs.StringLemmas.Hosts.{tail_lt, tail_total}
 use Rattle.btf_canon.proofs.HostSearch.{sorted_texts}
 use Rattle.btf_canon.proofs.hosts.sorted_by_tails.Goals as goal
 

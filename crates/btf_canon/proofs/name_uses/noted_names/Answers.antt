@@ -1,7 +1,7 @@
 use Rattle.std.proofs.Common.{◌≡◌, ◌<◌, ℕ, List, [], length, get_or, take, ap, ◌∙◌, arith}
 use Rattle.std.proofs.lemmas.List.{take_all}
 use Rattle.btf_types.specs.Reading.{frame_at, frames_at}
-use Rattle.btf_types.proofs.tables.TableReads.{stands_at}
+use Rattle.btf_types.proofs.TableLemmas.TableReads.{stands_at}
 use Rattle.btf_canon.specs.FirstUses.{noted_all}
 use Rattle.btf_canon.specs.NameOffsets.{name_offsets, all_offsets}
 use Rattle.btf_canon.proofs.NoteSteps.{record_noted}

@@ -1,4 +1,4 @@
-use Rattle.btf_types.proofs.strings.TableLaws.{hosts_end_apart}
+use Rattle.btf_types.proofs.StringLemmas.TableLaws.{hosts_end_apart}
 use Rattle.btf_types.proofs.laws.hosts_end_apart.Goals as goal
 
 pub returns : goal.returns

@@ -1,4 +1,4 @@
-use Rattle.btf_types.proofs.strings.TableLaws.{names_end_strings}
+use Rattle.btf_types.proofs.StringLemmas.TableLaws.{names_end_strings}
 use Rattle.btf_types.proofs.laws.names_end_strings.Goals as goal
 
 pub returns : goal.returns

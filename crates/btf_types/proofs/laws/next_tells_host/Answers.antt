@@ -1,4 +1,4 @@
-use Rattle.btf_types.proofs.strings.TableLaws.{next_tells_host}
+use Rattle.btf_types.proofs.StringLemmas.TableLaws.{next_tells_host}
 use Rattle.btf_types.proofs.laws.next_tells_host.Goals as goal
 
 pub returns : goal.returns

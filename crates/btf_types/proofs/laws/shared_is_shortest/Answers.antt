@@ -1,4 +1,4 @@
-use Rattle.btf_types.proofs.strings.TableLaws.{shared_is_shortest}
+use Rattle.btf_types.proofs.StringLemmas.TableLaws.{shared_is_shortest}
 use Rattle.btf_types.proofs.laws.shared_is_shortest.Goals as goal
 
 pub returns : goal.returns

@@ -1,4 +1,4 @@
-use Rattle.btf_types.proofs.strings.TableLaws.{shared_places}
+use Rattle.btf_types.proofs.StringLemmas.TableLaws.{shared_places}
 use Rattle.btf_types.proofs.laws.shared_places_stand.Goals as goal
 
 pub returns : goal.returns

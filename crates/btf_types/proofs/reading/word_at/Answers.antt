@@ -2,7 +2,7 @@ use Rattle.std.proofs.Common.{◌≡◌, sym, ◌∙◌, arith}
 use Rattle.std.proofs.lemmas.List.{get_or_past}
 use Rattle.btf_raw.specs.Kinds.{tail_words, kind_of, vlen_of}
 use Rattle.btf_types.specs.Reading.{info_at, frame_at}
-use Rattle.btf_types.proofs.judge.FramingSteps.{frame_word, length-frame_at}
+use Rattle.btf_types.proofs.JudgeLemmas.FramingSteps.{frame_word, length-frame_at}
 use Rattle.btf_types.proofs.reading.word_at.Goals as goal
 
 pub get32-requires : goal.get32-requires

@@ -1,6 +1,6 @@
 use Rattle.std.proofs.Common.{◌≡◌, ◌↔◌, IsTrue, Bool, true, false, MatchBool, refl}
 use Rattle.std.specs.Cmp.Lexicographic.{told_text}
-use Rattle.bpf_canon.proofs.btf.ComparedFiles.{compares}
+use Rattle.bpf_canon.proofs.BtfLemmas.ComparedFiles.{compares}
 use Rattle.bpf_canon.proofs.btf.btf_same.same_btf.Goals as goal
 
 -- what a test has told

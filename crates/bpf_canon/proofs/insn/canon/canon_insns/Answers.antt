@@ -1,5 +1,5 @@
 use Rattle.std.proofs.Common.{rules, []}
-use Rattle.bpf_canon.proofs.insn.CanonLemmas.{canonical_of, canonical_once, names_no_file, names_of_feed}
+use Rattle.bpf_canon.proofs.InsnLemmas.CanonLemmas.{canonical_of, canonical_once, names_no_file, names_of_feed}
 use Rattle.bpf_canon.proofs.insn.canon.canon_insns.Goals as goal
 
 pub returns-in-Ok-finish-clause-found : goal.returns-in-Ok-finish-clause-found

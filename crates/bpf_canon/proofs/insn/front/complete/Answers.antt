@@ -1,6 +1,6 @@
 use Rattle.std.proofs.Common.{arith, ◌≤◌, length}
 use Rattle.std.proofs.lemmas.List.{length-take-le}
-use Rattle.bpf_canon.proofs.insn.ReadingLemmas.{across_fault, across_found, across_longer}
+use Rattle.bpf_canon.proofs.InsnLemmas.ReadingLemmas.{across_fault, across_found, across_longer}
 use Rattle.bpf_canon.proofs.insn.front.complete.Goals as goal
 
 pub returns-in-Ok : goal.returns-in-Ok

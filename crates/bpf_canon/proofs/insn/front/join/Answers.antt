@@ -1,5 +1,5 @@
 use Rattle.std.proofs.Common.{refl}
-use Rattle.bpf_canon.proofs.insn.ReadingLemmas.{joined}
+use Rattle.bpf_canon.proofs.InsnLemmas.ReadingLemmas.{joined}
 use Rattle.bpf_canon.proofs.insn.front.join.Goals as goal
 
 pub returns : goal.returns

@@ -1,6 +1,6 @@
 use Rattle.std.proofs.Common.{[], arith}
 use Rattle.bpf_insn.proofs.FileLaws.{at_least_a_slot}
-use Rattle.bpf_canon.proofs.insn.ReadingLemmas.{reading_none, reading_more, reading_same, reading_count, reading_stops, reading_ends}
+use Rattle.bpf_canon.proofs.InsnLemmas.ReadingLemmas.{reading_none, reading_more, reading_same, reading_count, reading_stops, reading_ends}
 use Rattle.bpf_canon.proofs.insn.front.judge_front.Goals as goal
 
 pub loop-len-init : goal.loop-len-init

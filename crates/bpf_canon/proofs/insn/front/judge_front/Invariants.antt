@@ -1,5 +1,5 @@
 use Rattle.std.proofs.Common.{◌-◌, [], length, take}
-use Rattle.bpf_canon.proofs.insn.ReadingLemmas.{ReadTo}
+use Rattle.bpf_canon.proofs.InsnLemmas.ReadingLemmas.{ReadTo}
 use Rattle.bpf_canon.proofs.insn.front.judge_front.Given as goal
 
 abbrev pub invariant-loop-len : goal.invariant-loop-len

@@ -1,5 +1,5 @@
 use Rattle.std.proofs.Common.{◌∙◌}
-use Rattle.bpf_canon.proofs.insn.ReadingLemmas.{reading_recoded}
+use Rattle.bpf_canon.proofs.InsnLemmas.ReadingLemmas.{reading_recoded}
 use Rattle.bpf_canon.proofs.insn.front.read_front.Goals as goal
 
 pub returns : goal.returns

@@ -1,6 +1,6 @@
 use Rattle.std.proofs.Common.{◌≡◌, ◌∙◌, ◌++◌, take, drop, List, ℕ, arith, sym, ap, take-append-drop}
 use Rattle.bpf_words.specs.Slots.{spelled}
-use Rattle.bpf_canon.proofs.insn.Recoding.{one_rewritten, file_rewritten}
+use Rattle.bpf_canon.proofs.InsnLemmas.Recoding.{one_rewritten, file_rewritten}
 use Rattle.bpf_canon.proofs.insn.recode.append_swapped.Goals as goal
 
 pub slots-preserved : goal.slots-preserved

@@ -1,5 +1,5 @@
 use Rattle.std.proofs.Common.{◌≤◌, ◌+◌, length, vec_len, vec_capacity}
-use Rattle.bpf_canon.proofs.insn.Recoding.{Rewrites}
+use Rattle.bpf_canon.proofs.InsnLemmas.Recoding.{Rewrites}
 use Rattle.bpf_canon.proofs.insn.recode.append_swapped.Given as goal
 
 abbrev pub invariant-slots : goal.invariant-slots

@@ -1,7 +1,7 @@
 use Rattle.std.proofs.Common.{rules, arith, ◌≡◌, ◌≤◌, ◌-◌, length, min}
 use Rattle.std.proofs.lemmas.List.{length-take-le}
 use Rattle.bpf_canon.specs.insn.Run.{limit}
-use Rattle.bpf_canon.proofs.insn.RunLemmas.{running_within, run_unread, run_whole, run_cut, run_more, run_too_long, run_stops, cut_chunk, passed_small, stops_small}
+use Rattle.bpf_canon.proofs.InsnLemmas.RunLemmas.{running_within, run_unread, run_whole, run_cut, run_more, run_too_long, run_stops, cut_chunk, passed_small, stops_small}
 use Rattle.bpf_canon.proofs.insn.run.run_insns.Goals as goal
 
 pub returns-in-Err-clause-err : goal.returns-in-Err-clause-err

@@ -1,6 +1,6 @@
 use Rattle.std.proofs.Common.{◌≡◌, ◌-◌}
 use Rattle.bpf_canon.specs.insn.Run.{devices, limit}
-use Rattle.bpf_canon.proofs.insn.RunLemmas.{Running}
+use Rattle.bpf_canon.proofs.InsnLemmas.RunLemmas.{Running}
 use Rattle.bpf_canon.proofs.insn.run.run_insns.Given as goal
 
 abbrev pub invariant-reads : goal.invariant-reads

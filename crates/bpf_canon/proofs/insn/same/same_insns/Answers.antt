@@ -1,6 +1,6 @@
 use Rattle.std.proofs.Common.{◌≡◌, ◌↔◌, IsTrue, Bool, true, false, MatchBool, refl}
 use Rattle.std.specs.Cmp.Lexicographic.{told_text}
-use Rattle.bpf_canon.proofs.insn.CanonLemmas.{compares}
+use Rattle.bpf_canon.proofs.InsnLemmas.CanonLemmas.{compares}
 use Rattle.bpf_canon.proofs.insn.same.same_insns.Goals as goal
 
 -- what a test has told

@@ -2,7 +2,7 @@ use Rattle.std.proofs.Common.{subst, arith, ℕ}
 use Rattle.btf_types.specs.Reading.{frame_at}
 use Rattle.btf_types.specs.judge.RecordFaults.{IsFaultless, LeastOfRecord}
 use Rattle.btf_types.specs.Sections.{facts_in}
-use Rattle.btf_types.proofs.judge.FieldSteps.{no_field_fault, first_in_section, faultless_more}
+use Rattle.btf_types.proofs.JudgeLemmas.FieldSteps.{no_field_fault, first_in_section, faultless_more}
 use Rattle.btf_types.proofs.judge.fields.first_field_fault.Goals as goal
 
 pub returns-in-Some : goal.returns-in-Some

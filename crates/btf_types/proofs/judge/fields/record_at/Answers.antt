@@ -1,5 +1,5 @@
 use Rattle.std.proofs.Common.{arith}
-use Rattle.btf_types.proofs.tables.SectionSteps.{stands_in, three_words}
+use Rattle.btf_types.proofs.TableLemmas.SectionSteps.{stands_in, three_words}
 use Rattle.btf_types.proofs.judge.fields.record_at.Goals as goal
 
 pub word-info-requires-clause-inside : goal.word-info-requires-clause-inside

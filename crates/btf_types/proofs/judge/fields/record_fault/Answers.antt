@@ -1,7 +1,7 @@
 use Rattle.std.proofs.Common.{◌<◌, length, arith}
 use Rattle.btf_types.specs.Reading.{frame_at}
 use Rattle.btf_types.specs.Sections.{facts_in}
-use Rattle.btf_types.proofs.judge.WordSteps.{least_at_word, none_more}
+use Rattle.btf_types.proofs.JudgeLemmas.WordSteps.{least_at_word, none_more}
 use Rattle.btf_types.proofs.judge.fields.record_fault.Goals as goal
 
 pub returns-in-Some : goal.returns-in-Some

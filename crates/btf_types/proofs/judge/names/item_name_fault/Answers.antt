@@ -1,7 +1,7 @@
 use Rattle.std.proofs.Common.{◌≡◌, Bool, true, false, List, ℕ, subst, arith}
 use Rattle.std.specs.Prelude.{◌↔◌, IsUtf8}
 use Rattle.btf_raw.specs.Names.{TextAt}
-use Rattle.btf_types.proofs.judge.NameSteps.{utf8_fault, no_item_fault}
+use Rattle.btf_types.proofs.JudgeLemmas.NameSteps.{utf8_fault, no_item_fault}
 use Rattle.btf_types.proofs.judge.names.item_name_fault.Goals as goal
 
 pub returns-then-not-is_utf8 : goal.returns-then-not-is_utf8

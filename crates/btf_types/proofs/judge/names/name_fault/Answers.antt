@@ -1,7 +1,7 @@
 use Rattle.std.specs.Prelude.{◌==◌, slice_index}
 use Rattle.btf_types.specs.judge.NameFaults.{NameFault, OwnNameFault}
-use Rattle.btf_types.proofs.judge.Judging.{judged_same}
-use Rattle.btf_types.proofs.judge.NameSteps.{item_to_name, own_to_name, name_to_own, in_range}
+use Rattle.btf_types.proofs.JudgeLemmas.Judging.{judged_same}
+use Rattle.btf_types.proofs.JudgeLemmas.NameSteps.{item_to_name, own_to_name, name_to_own, in_range}
 use Rattle.btf_types.proofs.judge.names.name_fault.Goals as goal
 
 pub bounds-strings-off : goal.bounds-strings-off

@@ -1,6 +1,6 @@
 use Rattle.std.proofs.Common.{arith}
-use Rattle.btf_types.proofs.judge.FieldSteps.{fault_inside}
-use Rattle.btf_types.proofs.judge.PhaseSteps.{first_fields_fault}
+use Rattle.btf_types.proofs.JudgeLemmas.FieldSteps.{fault_inside}
+use Rattle.btf_types.proofs.JudgeLemmas.PhaseSteps.{first_fields_fault}
 use Rattle.btf_types.proofs.judge.phases.fields_fault.Goals as goal
 
 pub moved-requires : goal.moved-requires

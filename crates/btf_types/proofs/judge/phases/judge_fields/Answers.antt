@@ -1,5 +1,5 @@
 use Rattle.btf_types.specs.judge.Phases.{types_of, strings_of}
-use Rattle.btf_types.proofs.faultless.Faultless.{fields_are_right}
+use Rattle.btf_types.proofs.FaultlessLemmas.Faultless.{fields_are_right}
 use Rattle.btf_types.proofs.judge.phases.judge_fields.Goals as goal
 
 pub returns : goal.returns

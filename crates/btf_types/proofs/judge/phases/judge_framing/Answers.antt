@@ -1,4 +1,4 @@
-use Rattle.btf_types.proofs.judge.PhaseSteps.{framing_judged, first_frames_fault}
+use Rattle.btf_types.proofs.JudgeLemmas.PhaseSteps.{framing_judged, first_frames_fault}
 use Rattle.btf_types.proofs.judge.phases.judge_framing.Goals as goal
 
 pub returns-in-Ok : goal.returns-in-Ok

@@ -1,4 +1,4 @@
-use Rattle.btf_types.proofs.judge.PhaseSteps.{strings_judged, first_string_fault}
+use Rattle.btf_types.proofs.JudgeLemmas.PhaseSteps.{strings_judged, first_string_fault}
 use Rattle.btf_types.proofs.judge.phases.judge_strings.Goals as goal
 
 pub returns-in-Ok : goal.returns-in-Ok

@@ -1,6 +1,6 @@
 use Rattle.std.proofs.Common.{◌≢◌, sym, ◌∙◌}
 use Rattle.std.specs.Prelude.{slice_index}
-use Rattle.btf_types.proofs.judge.Utf8Steps.{front_and_rest, ok_tells}
+use Rattle.btf_types.proofs.JudgeLemmas.Utf8Steps.{front_and_rest, ok_tells}
 use Rattle.btf_types.proofs.judge.utf8.is_utf8_with.Goals as goal
 
 pub returns-then-rest : goal.returns-then-rest

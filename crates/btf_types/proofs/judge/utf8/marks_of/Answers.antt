@@ -1,5 +1,5 @@
 use Rattle.std.proofs.Common.{ℕ, subst, arith}
-use Rattle.btf_types.proofs.judge.Marks.{AreMarksFrom, char_marked, no_char_marked, all_marked}
+use Rattle.btf_types.proofs.JudgeLemmas.Marks.{AreMarksFrom, char_marked, no_char_marked, all_marked}
 use Rattle.btf_types.proofs.judge.utf8.marks_of.Goals as goal
 
 pub loop-at-preserved-then-begins_char : goal.loop-at-preserved-then-begins_char

@@ -1,4 +1,4 @@
-use Rattle.btf_types.proofs.judge.Marks.{AreMarksFrom}
+use Rattle.btf_types.proofs.JudgeLemmas.Marks.{AreMarksFrom}
 use Rattle.btf_types.proofs.judge.utf8.marks_of.Given as goal
 
 abbrev pub invariant-loop-at : goal.invariant-loop-at

@@ -3,7 +3,7 @@ use Rattle.std.proofs.Common.{◌≡◌, ◌+◌, ◌++◌, [], ◌∷◌, lengt
 use Rattle.std.proofs.Math.Seq.{drop-length, take-length}
 use Rattle.std.proofs.lemmas.List.{drop-append-le, take-append-le, length-append}
 use Rattle.btf_types.specs.tables.StringEnds.{AreLongEndsTo, IsEnd}
-use Rattle.btf_types.proofs.strings.LongEnds.{none_yet, more_bytes, one_end_more, nul_behind}
+use Rattle.btf_types.proofs.StringLemmas.LongEnds.{none_yet, more_bytes, one_end_more, nul_behind}
 use Rattle.btf_types.proofs.tables.string_ends.push_long_ends.Goals as goal
 
 pub blocks-2-init : goal.blocks-2-init

@@ -3,7 +3,7 @@ use Rattle.std.proofs.lemmas.List.{length-take-le}
 use Rattle.bpf_canon.specs.insn.FeedState.{FeedState, IsCut}
 use Rattle.bpf_canon.specs.insn.FrontReads.{Advances}
 use Rattle.bpf_canon.specs.contracts.insn.feed.InsnFeed.{the_view}
-use Rattle.bpf_canon.proofs.insn.FeedLemmas.{advance_counts, advance_cut, advance_faulty, advance_few, advance_held, advance_whole, advance_within, cut_begins_none, held_left, held_left_size, none_or_all}
+use Rattle.bpf_canon.proofs.InsnLemmas.FeedLemmas.{advance_counts, advance_cut, advance_faulty, advance_few, advance_held, advance_whole, advance_within, cut_begins_none, held_left, held_left_size, none_or_all}
 use Rattle.bpf_canon.proofs.insn.feed.InsnFeed.advance.Goals as goal
 
 -- the feed before the call is what its fields show

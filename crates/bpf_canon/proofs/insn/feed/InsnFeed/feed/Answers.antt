@@ -1,6 +1,6 @@
 use Rattle.std.proofs.Common.{rules, arith, ◌≡◌, ◌∙◌, None, ap, sym, length}
 use Rattle.bpf_canon.specs.insn.FeedState.{FeedState}
-use Rattle.bpf_canon.proofs.insn.FeedLemmas.{advanced_bound, advanced_holds_none, advanced_moves, feeds_answers, keeps_answer, moves_none}
+use Rattle.bpf_canon.proofs.InsnLemmas.FeedLemmas.{advanced_bound, advanced_holds_none, advanced_moves, feeds_answers, keeps_answer, moves_none}
 use Rattle.bpf_canon.proofs.insn.feed.InsnFeed.feed.Goals as goal
 use Rattle.bpf_canon.proofs.insn.feed.InsnFeed.feed.Goals.{in-Some-fault, in-None-fault}
 

@@ -1,4 +1,4 @@
-use Rattle.btf_types.proofs.judge.Utf8Steps.{whole_text, through}
+use Rattle.btf_types.proofs.JudgeLemmas.Utf8Steps.{whole_text, through}
 use Rattle.btf_types.proofs.judge.utf8.Texts.is_utf8.Goals as goal
 
 pub returns-in-Utf8 : goal.returns-in-Utf8

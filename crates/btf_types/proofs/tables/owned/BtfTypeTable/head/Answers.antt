@@ -1,5 +1,5 @@
 use Rattle.std.proofs.Common.{◌≡◌, ◌-◌, ◌<◌, length, get_or, ◌∙◌}
-use Rattle.btf_types.proofs.tables.TableReads.{stands_at, place_inside, record_there}
+use Rattle.btf_types.proofs.TableLemmas.TableReads.{stands_at, place_inside, record_there}
 use Rattle.btf_types.proofs.tables.owned.BtfTypeTable.head.Goals as goal
 
 pub head_at-requires-clause-stands : goal.head_at-requires-clause-stands

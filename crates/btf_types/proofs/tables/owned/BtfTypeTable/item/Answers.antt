@@ -1,5 +1,5 @@
 use Rattle.std.proofs.Common.{◌≡◌, ◌-◌, ◌<◌, length, get_or, ◌∙◌}
-use Rattle.btf_types.proofs.tables.TableReads.{stands_at, place_inside, record_there, item_inside}
+use Rattle.btf_types.proofs.TableLemmas.TableReads.{stands_at, place_inside, record_there, item_inside}
 use Rattle.btf_types.proofs.tables.owned.BtfTypeTable.item.Goals as goal
 
 pub item_at-requires-clause-stands : goal.item_at-requires-clause-stands

@@ -1,6 +1,6 @@
 use Rattle.std.proofs.Common.{◌≡◌, ◌-◌, ◌<◌, length, get_or, sym, ◌∙◌}
 use Rattle.btf_types.specs.Reading.{frame_at}
-use Rattle.btf_types.proofs.tables.TableReads.{stands_at, place_inside, record_there, count_there}
+use Rattle.btf_types.proofs.TableLemmas.TableReads.{stands_at, place_inside, record_there, count_there}
 use Rattle.btf_types.proofs.tables.owned.BtfTypeTable.item_count.Goals as goal
 
 pub item_count_at-requires : goal.item_count_at-requires

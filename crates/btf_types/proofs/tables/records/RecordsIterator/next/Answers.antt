@@ -1,8 +1,8 @@
 use Rattle.std.proofs.Common.{◌+◌, ◌∷◌, length, ap, sym, ◌∙◌, arith}
 use Rattle.btf_types.specs.Values.{TypeHead}
 use Rattle.btf_types.specs.tables.TableInvariant.{records_left}
-use Rattle.btf_types.proofs.tables.TableReads.{stands_at}
-use Rattle.btf_types.proofs.tables.RecordSteps.{one_given}
+use Rattle.btf_types.proofs.TableLemmas.TableReads.{stands_at}
+use Rattle.btf_types.proofs.TableLemmas.RecordSteps.{one_given}
 use Rattle.btf_types.proofs.tables.records.RecordsIterator.next.Goals as goal
 
 pub head_at-requires-clause-stands : goal.head_at-requires-clause-stands

@@ -1,5 +1,5 @@
 use Rattle.std.proofs.Common.{◌-◌, arith}
-use Rattle.btf_types.proofs.tables.SectionSteps.{stands_in, type_is}
+use Rattle.btf_types.proofs.TableLemmas.SectionSteps.{stands_in, type_is}
 use Rattle.btf_types.proofs.tables.section.Section.facts.Goals as goal
 
 pub record_facts-requires : goal.record_facts-requires

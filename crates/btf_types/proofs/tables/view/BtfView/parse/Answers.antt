@@ -1,7 +1,7 @@
 use Rattle.std.proofs.Common.{arith}
 use Rattle.std.proofs.lemmas.Result.{err_from_is_err_and}
-use Rattle.btf_types.proofs.judge.Firsts.{first_of_strings}
-use Rattle.btf_types.proofs.tables.TableSteps.{table_denotes, is_table, fails_frames, fails_fields}
+use Rattle.btf_types.proofs.JudgeLemmas.Firsts.{first_of_strings}
+use Rattle.btf_types.proofs.TableLemmas.TableSteps.{table_denotes, is_table, fails_frames, fails_fields}
 use Rattle.btf_types.proofs.tables.view.BtfView.parse.Goals as goal
 
 pub returns-in_err-judge_strings : goal.returns-in_err-judge_strings

@@ -1,0 +1,64 @@
+-- Canonical bytes and files.
+use Rattle.std.proofs.Common.{◌≡◌, ◌↔◌, ◌++◌, ◌∙◌, ℕ, Bool, List, [], refl, sym, ap, All, IsTrue}
+use Rattle.bpf_words.specs.declared.Order.{Order}
+use Rattle.bpf_words.specs.declared.Order.TheVariants.{Little}
+use Rattle.bpf_insn.specs.declared.insn.Insn.{Insn}
+use Rattle.bpf_insn.specs.declared.decode.InsnError.{InsnError}
+use Rattle.bpf_insn.specs.declared.decode.InsnError.TheVariants as error
+use Rattle.bpf_insn.specs.Table.{IsInsn}
+use Rattle.bpf_insn.specs.Spelling.{InsnFile, file_of}
+use Rattle.bpf_insn.proofs.FileLaws.{one_list}
+use Rattle.bpf_insn.proofs.FrontLemmas.{one_front}
+use Rattle.bpf_canon.specs.insn.FeedState.{FeedState}
+use Rattle.bpf_canon.specs.insn.Stands.{IsFaultOf, Moves, Stands}
+use Rattle.bpf_canon.specs.insn.Canonical.{CanonicalBytesAreAccepted, CanonicalBytesAreTheirOwn, CanonicalBytesTellFilesApart, Compares, IsCanonical, NamesFault}
+use Rattle.bpf_canon.proofs.InsnLemmas.FrontLaws.{file_front, front-nil}
+
+-- a feed of a whole file gave its canonical bytes
+pub canonical_of : (s t : FeedState) (o : Order) (bytes canon : List ℕ) (l : List Insn) → Stands s o Little [] → Moves s t bytes [] canon → InsnFile o bytes l
+    → IsCanonical o bytes canon
+canonical_of s t o bytes canon l h m file =
+    let g = m.gains o Little [] h in
+    let none = one_front o [] g.before [] g.rest [] g.front (front-nil o) in
+    let whole = one_front o bytes l (g.before ++ g.gained) [] g.left (file_front o bytes l file) g.longer in
+    let same : l ≡ g.gained = whole.0 ∙ ap (λ (x : List Insn). x ++ g.gained) none.0 in
+    record { insns = l; file = file; canonical = g.grows ∙ ap (file_of Little) (sym same) }
+
+-- the canonical bytes of a file are those of its one list
+pub canonical_once : (o : Order) (bytes canon : List ℕ) (l : List Insn) → IsCanonical o bytes canon → InsnFile o bytes l → canon ≡ file_of Little l
+canonical_once o bytes canon l c file = c.canonical ∙ ap (file_of Little) (one_list o bytes c.insns l c.file file)
+
+pub accepted : CanonicalBytesAreAccepted
+accepted l h = (h, refl)
+
+pub own : CanonicalBytesAreTheirOwn
+own o bytes canon c = record { insns = c.insns; file = (c.file.0, c.canonical); canonical = c.canonical }
+
+-- instructions with the same canonical bytes are the same
+same_list : (l m : List Insn) → All IsInsn l → All IsInsn m → file_of Little l ≡ file_of Little m → l ≡ m
+same_list l m hl hm e = one_list Little (file_of Little l) l m (hl, refl) (hm, e)
+
+pub apart : CanonicalBytesTellFilesApart
+apart o p a b l m f g = (λ e. ap (file_of Little) e, λ e. same_list l m f.0 g.0 e)
+
+pub compares : (o p : Order) (a b c d : List ℕ) (same : Bool) → IsCanonical o a c → IsCanonical p b d → (IsTrue same ↔ (c ≡ d)) → Compares o a p b same
+compares o p a b c d same x y r = record {
+  first = x.insns;
+  second = y.insns;
+  first_file = x.file;
+  second_file = y.file;
+  lists = (λ t. same_list x.insns y.insns x.file.0 y.file.0 (sym x.canonical ∙ r.0 t ∙ y.canonical), λ e. r.1 (x.canonical ∙ ap (file_of Little) e ∙ sym y.canonical));
+  canonical = (λ t. sym x.canonical ∙ r.0 t ∙ y.canonical, λ e. r.1 (x.canonical ∙ e ∙ sym y.canonical));
+}
+
+-- ---- errors
+
+-- bytes that are a file have no fault to be named
+pub names_no_file : (o : Order) (b : List ℕ) (e : InsnError) (l : List Insn) → NamesFault o b e → InsnFile o b l → e ≡ error.Memory
+names_no_file o b (error.Fault f) l n file = absurd (n.no_file l file)
+names_no_file o b error.Memory l n file = refl
+
+-- what a feed of the whole bytes names
+pub names_of_feed : (o : Order) (b : List ℕ) (e : InsnError) → IsFaultOf o b e → NamesFault o b e
+names_of_feed o b (error.Fault f) h = h.fault
+names_of_feed o b error.Memory h = tt

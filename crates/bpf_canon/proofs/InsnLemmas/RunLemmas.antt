@@ -1,0 +1,319 @@
+-- An engine between two reads.
+use Rattle.std.proofs.Common.{◌≡◌, ◌<◌, ◌≤◌, ◌+◌, ◌-◌, ◌++◌, ◌∙◌, ℕ, List, [], Option, None, length, take, min, refl, sym, ap, subst, arith, length-append}
+use Rattle.std.proofs.lemmas.List.{append-nil, take_all, take_min, take-take, length-take-le}
+use Rattle.std.proofs.lemmas.List.Concat.{flat_map-append}
+use Rattle.std.proofs.Math.Seq.{take-append-add, take-append_seam}
+use Rattle.std.proofs.Math.Nat.{min_comm}
+use Rattle.std.proofs.KnownBytes.{Appends-trans, Appends-nil, Consumes-trans, Consumes-nil, Consumes-kept}
+use Rattle.std.specs.Io.KnownBytes.{Appends, Consumes, IsAtEnd, Keeps as KeepsBytes}
+use Rattle.bpf_words.specs.declared.Order.{Order}
+use Rattle.bpf_insn.specs.declared.insn.Insn.{Insn}
+use Rattle.bpf_insn.specs.declared.fault.SlotFault.{SlotFault}
+use Rattle.bpf_insn.specs.Spelling.{InsnFile, file_of, spelling}
+use Rattle.bpf_insn.specs.Faults.{IsFront, IsInsnFault}
+use Rattle.bpf_insn.proofs.FrontLemmas.{one_front}
+use Rattle.bpf_canon.specs.declared.insn.run.RunCause.{RunCause}
+use Rattle.bpf_canon.specs.declared.insn.run.RunCause.TheVariants as cause
+use Rattle.bpf_canon.specs.insn.FeedState.{FeedState}
+use Rattle.bpf_canon.specs.insn.Stands.{IsSound, Moves, Stands}
+use Rattle.bpf_canon.specs.insn.Passed.{Passed, PassStops}
+use Rattle.bpf_canon.specs.device.Reads.{read_room}
+use Rattle.bpf_canon.specs.insn.Run.{Devices, RanWhole, StopsAtFault, StopsTooLong, StopsUnread, Stops, devices, limit}
+use Rattle.bpf_canon.proofs.InsnLemmas.FeedLemmas.{keeps_answer, keeps_fault}
+use Rattle.bpf_canon.proofs.InsnLemmas.FrontLaws.{file_front, front-nil, front_fits, front_grows}
+
+-- the engine so far: the feed stands for what was read, and the sink took all that was whole
+pub record Running (d : Devices) (o to : Order) (s : FeedState) (written : ℕ) : Type 0 where
+  pub read : List ℕ
+  pub came : Consumes d.source d.source_after read
+  pub within : length read ≤ limit
+  pub insns : List Insn
+  pub rest : List ℕ
+  pub front : IsFront o read insns rest
+  pub stands : Stands s o to read
+  pub sound : s.fault ≡ None
+  pub took : Appends d.sink d.sink_after (file_of to insns)
+  pub all : written ≡ length (file_of to insns)
+
+front_within : (o to : Order) (b : List ℕ) (l : List Insn) (rest : List ℕ) → IsFront o b l rest → length (file_of to l) ≤ length b
+front_within o to b l rest f = omega (arith, front_fits o to b l rest f)
+
+pub running_fits : (d : Devices) (o to : Order) (s : FeedState) (n : ℕ) → Running d o to s n → n ≤ s.fed
+running_fits d o to s n r = omega (arith, r.all, front_within o to r.read r.insns r.rest r.front, r.stands.fed)
+
+pub running_within : (d : Devices) (o to : Order) (s : FeedState) (n : ℕ) → Running d o to s n → s.fed ≤ limit
+running_within d o to s n r = omega (arith, r.stands.fed, r.within)
+
+-- before the first read
+pub running_none : (a b : Option (List ℕ)) (o to : Order) (s : FeedState) → Stands s o to [] → s.fault ≡ None → Running (devices a a b b) o to s 0
+running_none a b o to s h sound = record {
+  read = [];
+  came = Consumes-nil a;
+  within = omega arith;
+  insns = [];
+  rest = [];
+  front = front-nil o;
+  stands = h;
+  sound = sound;
+  took = Appends-nil b;
+  all = refl;
+}
+
+-- a read failed
+pub run_unread : (a b c p q : Option (List ℕ)) (o to : Order) (s : FeedState) (n : ℕ) → Running (devices a b p q) o to s n → KeepsBytes b c
+    → StopsUnread (devices a c p q) o to n
+run_unread a b c p q o to s n r k =
+    let e = take_all limit r.read r.within in
+    let P : List ℕ → Type 0 = λ x. IsFront o x r.insns r.rest in
+    let Q : List ℕ → Type 0 = λ x. IsSound o x in
+    record {
+      read = r.read;
+      wrote = record {
+        came = Consumes-kept a b c r.read r.came k;
+        near = omega (arith, r.within);
+        insns = r.insns;
+        rest = r.rest;
+        front = subst P (sym e) r.front;
+        took = r.took;
+        all = r.all;
+      };
+      sound = subst Q (sym e) (keeps_answer s o to r.read r.stands r.sound);
+      within = r.within;
+    }
+
+same_at_end : (a b c : Option (List ℕ)) (read : List ℕ) → Consumes a b read → Consumes b c [] → Consumes a c read
+same_at_end a b c read h k = let P : List ℕ → Type 0 = λ x. Consumes a c x in subst P (append-nil read) (Consumes-trans a b c read [] h k)
+
+-- the source ended
+pub run_whole : (a b c p q : Option (List ℕ)) (o to : Order) (s : FeedState) (n : ℕ) → Running (devices a b p q) o to s n → Consumes b c [] → IsAtEnd c
+    → ((read : List ℕ) → Stands s o to read → (l : List Insn) × InsnFile o read l)
+    → RanWhole (devices a c p q) o to n
+run_whole a b c p q o to s n r k end whole =
+    let w = whole r.read r.stands in
+    let once = one_front o r.read w.0 r.insns [] r.rest (file_front o r.read w.0 w.1) r.front in
+    let P : List Insn → Type 0 = λ l. Appends p q (file_of to l) in
+    record {
+      read = r.read;
+      came = same_at_end a b c r.read r.came k;
+      ended = end;
+      within = r.within;
+      insns = w.0;
+      file = w.1;
+      took = subst P (sym once.0) r.took;
+      all = r.all ∙ ap (λ l. length (file_of to l)) (sym once.0);
+    }
+
+pub run_cut : (a b c p q : Option (List ℕ)) (o to : Order) (s : FeedState) (n : ℕ) (f : SlotFault) → Running (devices a b p q) o to s n → Consumes b c [] → IsAtEnd c
+    → ((read : List ℕ) → Stands s o to read → IsInsnFault o read f)
+    → StopsAtFault (devices a c p q) o to n f
+run_cut a b c p q o to s n f r k end fault =
+    let e = take_all limit r.read r.within in
+    let P : List ℕ → Type 0 = λ x. IsFront o x r.insns r.rest in
+    let Q : List ℕ → Type 0 = λ x. IsInsnFault o x f in
+    record {
+      read = r.read;
+      wrote = record {
+        came = same_at_end a b c r.read r.came k;
+        near = omega (arith, r.within);
+        insns = r.insns;
+        rest = r.rest;
+        front = subst P (sym e) r.front;
+        took = r.took;
+        all = r.all;
+      };
+      fault = subst Q (sym e) (fault r.read r.stands);
+      ended = λ _. (end, r.within);
+    }
+
+-- what a piece adds
+record Adds (o to : Order) (t : FeedState) (read piece : List ℕ) (before : List Insn) (out : List ℕ) : Type 0 where
+  gained : List Insn
+  left : List ℕ
+  front : IsFront o (read ++ piece) (before ++ gained) left
+  made : out ≡ file_of to gained
+  stands : Stands t o to (read ++ piece)
+
+adds_of : (o to : Order) (s t : FeedState) (read piece : List ℕ) (before : List Insn) (rest out : List ℕ) → IsFront o read before rest
+    → Stands s o to read → Moves s t piece [] out → Adds o to t read piece before out
+adds_of o to s t read piece before rest out front h m =
+    let g = m.gains o to read h in
+    let once = one_front o read g.before before g.rest rest g.front front in
+    let P : List Insn → Type 0 = λ l. IsFront o (read ++ piece) (l ++ g.gained) g.left in
+    record { gained = g.gained; left = g.left; front = subst P once.0 g.longer; made = g.grows; stands = m.stands o to read h }
+
+wrote_more : (p q r : Option (List ℕ)) (to : Order) (before gained : List Insn) (out : List ℕ) → Appends p q (file_of to before) → Appends q r out
+    → out ≡ file_of to gained → Appends p r (file_of to (before ++ gained))
+wrote_more p q r to before gained out h k e =
+    let P : List ℕ → Type 0 = λ x. Appends p r x in
+    subst P (ap (λ x. file_of to before ++ x) e ∙ sym (flat_map-append (spelling to) before gained)) (Appends-trans p q r _ _ h k)
+
+size_more : (to : Order) (before gained : List Insn) (out : List ℕ) (n k : ℕ) → n ≡ length (file_of to before) → k ≡ length out → out ≡ file_of to gained
+    → n + k ≡ length (file_of to (before ++ gained))
+size_more to before gained out n k h j e =
+    omega (arith, h, j, ap length e, ap length (flat_map-append (spelling to) before gained), length-append (file_of to before) (file_of to gained))
+
+-- one more piece within the limit
+pub run_more : (a b c p q r : Option (List ℕ)) (o to : Order) (s t : FeedState) (n k : ℕ) (piece : List ℕ) → Running (devices a b p q) o to s n
+    → Consumes b c piece → Passed s t piece q r k → s.fed + length piece ≤ limit → Running (devices a c p r) o to t (n + k)
+run_more a b c p q r o to s t n k piece h came x fits =
+    let adds = adds_of o to s t h.read piece h.insns h.rest x.out h.front h.stands x.moves in
+    record {
+      read = h.read ++ piece;
+      came = Consumes-trans a b c h.read piece h.came came;
+      within = omega (arith, fits, h.stands.fed, length-append h.read piece);
+      insns = h.insns ++ adds.gained;
+      rest = adds.left;
+      front = adds.front;
+      stands = adds.stands;
+      sound = x.sound;
+      took = wrote_more p q r to h.insns adds.gained x.out h.took x.took adds.made;
+      all = size_more to h.insns adds.gained x.out n k h.all x.all adds.made;
+    }
+
+-- more than the limit came
+pub run_too_long : (a b c p q r : Option (List ℕ)) (o to : Order) (s t : FeedState) (n k : ℕ) (chunk piece : List ℕ) → (h : Running (devices a b p q) o to s n)
+    → Consumes b c chunk → Passed s t piece q r k → take limit (h.read ++ chunk) ≡ h.read ++ piece → limit < s.fed + length chunk
+    → length chunk ≤ read_room → StopsTooLong (devices a c p r) o to (n + k)
+run_too_long a b c p q r o to s t n k chunk piece h came x cut beyond small =
+    let adds = adds_of o to s t h.read piece h.insns h.rest x.out h.front h.stands x.moves in
+    let P : List ℕ → Type 0 = λ b. IsFront o b (h.insns ++ adds.gained) adds.left in
+    let Q : List ℕ → Type 0 = λ b. IsSound o b in
+    record {
+      read = h.read ++ chunk;
+      wrote = record {
+        came = Consumes-trans a b c h.read chunk h.came came;
+        near = omega (arith, small, h.within, length-append h.read chunk);
+        insns = h.insns ++ adds.gained;
+        rest = adds.left;
+        front = subst P (sym cut) adds.front;
+        took = wrote_more p q r to h.insns adds.gained x.out h.took x.took adds.made;
+        all = size_more to h.insns adds.gained x.out n k h.all x.all adds.made;
+      };
+      sound = subst Q (sym cut) (keeps_answer t o to _ adds.stands x.sound);
+      beyond = omega (arith, beyond, h.stands.fed, length-append h.read chunk);
+    }
+
+-- the piece stops the engine
+pub run_stops : (a b c p q r : Option (List ℕ)) (o to : Order) (s t : FeedState) (n k : ℕ) (chunk piece : List ℕ) (why : RunCause SlotFault) → (h : Running (devices a b p q) o to s n)
+    → Consumes b c chunk → PassStops s t piece q r k why → take limit (h.read ++ chunk) ≡ h.read ++ piece
+    → length chunk ≤ read_room → Stops (devices a c p r) o to (n + k) why
+run_stops a b c p q r o to s t n k chunk piece (cause.Fault f) h came x cut small =
+    let adds = adds_of o to s t h.read piece h.insns h.rest x.out h.front h.stands x.moves in
+    let has = keeps_fault t o to _ f adds.stands x.faulty in
+    let P : List ℕ → Type 0 = λ b. IsFront o b (h.insns ++ adds.gained) adds.left in
+    let Q : List ℕ → Type 0 = λ b. IsInsnFault o b f in
+    record {
+      read = h.read ++ chunk;
+      wrote = record {
+        came = Consumes-trans a b c h.read chunk h.came came;
+        near = omega (arith, small, h.within, length-append h.read chunk);
+        insns = h.insns ++ adds.gained;
+        rest = adds.left;
+        front = subst P (sym cut) adds.front;
+        took = wrote_more p q r to h.insns adds.gained x.out h.took x.took adds.made;
+        all = size_more to h.insns adds.gained x.out n k h.all x.all adds.made;
+      };
+      fault = subst Q (sym cut) has.fault;
+      ended = λ e. absurd (has.lasting e);
+    }
+run_stops a b c p q r o to s t n k chunk piece cause.TooLong h came x cut small = absurd x
+run_stops a b c p q r o to s t n k chunk piece cause.ReadFailed h came x cut small = absurd x
+run_stops a b c p q r o to s t n k chunk piece cause.WriteFailed h came x cut small =
+    let adds = adds_of o to s t h.read piece h.insns h.rest x.out h.front h.stands x.moves in
+    let P : List ℕ → Type 0 = λ b. IsFront o b (h.insns ++ adds.gained) adds.left in
+    record {
+      read = h.read ++ chunk;
+      wrote = record {
+        came = Consumes-trans a b c h.read chunk h.came came;
+        near = omega (arith, small, h.within, length-append h.read chunk);
+        prefix = λ insns rest f.
+            let once = one_front o (take limit (h.read ++ chunk)) (h.insns ++ adds.gained) insns adds.left rest (subst P (sym cut) adds.front) f in
+            let whole : file_of to insns ≡ file_of to h.insns ++ x.out =
+            ap (file_of to) (sym once.0) ∙ flat_map-append (spelling to) h.insns adds.gained ∙ ap (λ y. file_of to h.insns ++ y) (sym adds.made) in
+            let part : take (n + k) (file_of to insns) ≡ file_of to h.insns ++ take k x.out =
+            ap (take (n + k)) whole ∙ ap (λ m. take (m + k) (file_of to h.insns ++ x.out)) h.all ∙ take-append-add (file_of to h.insns) x.out k in
+            let R : List ℕ → Type 0 = λ y. Appends p r y in (
+              omega (arith, h.all, x.prefix, ap length whole, length-append (file_of to h.insns) x.out),
+              subst R (sym part) (Appends-trans p q r _ _ h.took x.took),
+            );
+      };
+    }
+run_stops a b c p q r o to s t n k chunk piece cause.Memory h came x cut small = record {
+  read = h.read ++ chunk;
+  wrote = record {
+    came = Consumes-trans a b c h.read chunk h.came came;
+    near = omega (arith, small, h.within, length-append h.read chunk);
+    prefix = λ insns rest f.
+        let Q : List ℕ → Type 0 = λ b. IsFront o b insns rest in
+        let grown = front_grows o h.insns insns h.read piece h.rest rest h.front (subst Q cut f) in
+        let whole : file_of to insns ≡ file_of to h.insns ++ file_of to grown.0 =
+        ap (file_of to) grown.1 ∙ flat_map-append (spelling to) h.insns grown.0 in
+        let size : n + k ≡ length (file_of to h.insns) = omega (arith, h.all, x.0) in
+        let part : take (n + k) (file_of to insns) ≡ file_of to h.insns =
+        ap (take (n + k)) whole ∙ ap (λ m. take m (file_of to h.insns ++ file_of to grown.0)) size ∙ take-append_seam (file_of to h.insns) (file_of to grown.0) in
+        let R : List ℕ → Type 0 = λ y. Appends p r y in (
+          omega (arith, size, ap length whole, length-append (file_of to h.insns) (file_of to grown.0)),
+          subst R (append-nil (file_of to h.insns) ∙ sym part) (Appends-trans p q r _ [] h.took x.1),
+        );
+  };
+}
+
+-- what of a chunk is within the limit
+pub within_cut : (read chunk : List ℕ) (fed within : ℕ) → fed ≡ length read → fed ≤ limit → within ≡ min (length chunk) (limit - fed)
+    → take limit (read ++ chunk) ≡ read ++ take within chunk
+within_cut read chunk fed within e h w =
+    let k = limit - fed in
+    let split : limit ≡ length read + k = omega (arith, e, h) in
+    let long : take limit (read ++ chunk) ≡ read ++ take k chunk = ap (λ m. take m (read ++ chunk)) split ∙ take-append-add read chunk k in
+    long ∙ ap (λ x. read ++ x) (sym (ap (λ m. take m chunk) w ∙ ap (λ m. take m chunk) (min_comm (length chunk) k) ∙ take_min k chunk))
+
+-- what is in a part of a read is in the read
+pub cut_chunk : (read buffer : List ℕ) (fed n within : ℕ) → fed ≡ length read → fed ≤ limit → n ≤ length buffer → within ≡ min n (limit - fed)
+    → take limit (read ++ take n buffer) ≡ read ++ take within buffer
+cut_chunk read buffer fed n within e h l w =
+    let size : length (take n buffer) ≡ n = length-take-le n buffer l in
+    let least : within ≤ n = omega (arith, w) in
+    within_cut read (take n buffer) fed within e h (w ∙ ap (λ m. min m (limit - fed)) (sym size))
+    ∙ ap (λ x. read ++ x) (take-take within n buffer least)
+
+-- what a piece that stops the engine adds is small
+pub stops_small : (a b p q r : Option (List ℕ)) (o to : Order) (s t : FeedState) (n k : ℕ) (piece : List ℕ) (why : RunCause SlotFault)
+    → Running (devices a b p q) o to s n → PassStops s t piece q r k why → s.fed + length piece ≤ limit → n + k ≤ limit
+stops_small a b p q r o to s t n k piece (cause.Fault f) h x fits =
+    let adds = adds_of o to s t h.read piece h.insns h.rest x.out h.front h.stands x.moves in
+    omega (
+      arith,
+      fits,
+      h.stands.fed,
+      length-append h.read piece,
+      front_within o to _ _ _ adds.front,
+      size_more to h.insns adds.gained x.out n k h.all x.all adds.made,
+    )
+stops_small a b p q r o to s t n k piece cause.TooLong h x fits = absurd x
+stops_small a b p q r o to s t n k piece cause.ReadFailed h x fits = absurd x
+stops_small a b p q r o to s t n k piece cause.WriteFailed h x fits =
+    let adds = adds_of o to s t h.read piece h.insns h.rest x.out h.front h.stands x.moves in
+    omega (
+      arith,
+      fits,
+      h.stands.fed,
+      length-append h.read piece,
+      front_within o to _ _ _ adds.front,
+      x.prefix,
+      size_more to h.insns adds.gained x.out n (length x.out) h.all refl adds.made,
+    )
+stops_small a b p q r o to s t n k piece cause.Memory h x fits =
+    omega (arith, x.0, h.within, h.all, front_within o to h.read h.insns h.rest h.front)
+
+pub passed_small : (a b p q r : Option (List ℕ)) (o to : Order) (s t : FeedState) (n k : ℕ) (piece : List ℕ)
+    → Running (devices a b p q) o to s n → Passed s t piece q r k → s.fed + length piece ≤ limit → n + k ≤ limit
+passed_small a b p q r o to s t n k piece h x fits =
+    let adds = adds_of o to s t h.read piece h.insns h.rest x.out h.front h.stands x.moves in
+    omega (
+      arith,
+      fits,
+      h.stands.fed,
+      length-append h.read piece,
+      front_within o to _ _ _ adds.front,
+      size_more to h.insns adds.gained x.out n k h.all x.all adds.made,
+    )

@@ -1,0 +1,227 @@
+-- Frames without fault spell the records that they read as, and these records are good.
+use Rattle.std.proofs.Common.{◌≡◌, ◌≢◌, ℕ, zero, suc, ◌-◌, ◌^◌, ◌<◌, ◌≤◌, Bool, true, false, Some, None, List, [], ◌∷◌, length, get_or, map, refl, sym, ap, subst, ◌∙◌, inl, lit<, arith}
+use Rattle.std.specs.Prelude.{IsTrue, IfSome, slice_index, slice_get, unwrap_or, ◌==◌, if◌then◌else◌}
+use Rattle.std.specs.List.{All, AllZip, sum_by}
+use Rattle.std.proofs.lemmas.Bool.{eqb-true, ltb-true}
+use Rattle.std.proofs.lemmas.List.{length-append}
+use Rattle.std.proofs.lemmas.List.Elements.{All-nil, All-cons, All-head, All-tail}
+use Rattle.std.proofs.lemmas.List.Sums.{sum_by-cons}
+use Rattle.bpf_words.specs.declared.Order.{Order}
+use Rattle.btf_raw.specs.declared.kinds.TheConstants.{STRUCT, UNION, FUNC, FUNC_PROTO, VAR, TYPEDEF, DECL_TAG}
+use Rattle.btf_raw.specs.Cause.{HasNone}
+use Rattle.btf_raw.specs.Header.{HasNulEnds, TYPES_LIMIT, STRINGS_LIMIT}
+use Rattle.btf_raw.specs.Kinds.{one_of}
+use Rattle.btf_raw.specs.Frames.{IsFrame, bytes_of, section_of, kind, vlen, third_word}
+use Rattle.btf_raw.proofs.Frames.{length-bytes_of}
+use Rattle.btf_types.specs.Spelling.{Spells}
+use Rattle.btf_types.specs.judge.Checks.{TypeFacts, type_at, no_type, has_target, target_fits, component_fits, is_struct}
+use Rattle.btf_types.specs.Good.{facts, IsGoodRecord, IsGood, record_size}
+use Rattle.btf_types.specs.judge.FieldFaults.{FieldFault, frame_facts}
+use Rattle.btf_types.specs.Reading.{component_of, record_of, frames_at}
+use Rattle.btf_types.specs.judge.RecordFaults.{IsFaultless}
+use Rattle.btf_types.specs.tables.TableInvariant.{IsFramed, FieldsAreRight}
+use Rattle.btf_types.proofs.KindCases.{one_among}
+use Rattle.btf_types.proofs.StringLemmas.SpelledNames.{spelled_table}
+use Rattle.btf_types.proofs.FaultlessLemmas.FaultlessWords.{type_is, component_is}
+use Rattle.btf_types.proofs.FaultlessLemmas.FaultlessRecords.{frame_spells, frame_good, facts_same, size_same, tag_room}
+
+-- ---- what other records know of a type
+
+pub get_is : {X : Type 0} (xs : List X) (i : ℕ) (d : X) → i < length xs → slice_get xs i ≡ Some (get_or xs i d)
+get_is [] i d h = absurd (omega arith)
+get_is (x ∷ xs) zero d h = refl
+get_is (x ∷ xs) (suc i) d h = get_is xs i d (omega arith)
+
+count_below : (frame : List ℕ) → (frame_facts frame).count < 2 ^ 16
+count_below frame = split (kind frame == FUNC)
+  where
+    split : (b : Bool) → (if b then 0 else vlen frame) < 2 ^ 16
+    split true = lit< tt
+    split false = omega arith
+
+counts_below : (frames : List (List ℕ)) (k : ℕ) → (unwrap_or (slice_get (map frame_facts frames) k) no_type).count < 2 ^ 16
+counts_below [] k = lit< tt
+counts_below (f ∷ frames) zero = count_below f
+counts_below (f ∷ frames) (suc k) = counts_below frames k
+
+pub type_count_below : (frames : List (List ℕ)) (id : ℕ) → (type_at (map frame_facts frames) id).count < 2 ^ 16
+type_count_below frames id = split (id == 0)
+  where
+    split : (b : Bool) → (if b then no_type else unwrap_or (slice_get (map frame_facts frames) (id - 1)) no_type).count < 2 ^ 16
+    split true = lit< tt
+    split false = counts_below frames (id - 1)
+
+-- a type that has a kind is one of the frames
+pub record IsTypeOf (frames : List (List ℕ)) (t : TypeFacts) : Type 0 where
+  pub index : ℕ
+  pub frame : List ℕ
+  pub inside : index < length frames
+  pub there : get_or frames index frame ≡ frame
+  pub is : t ≡ frame_facts frame
+
+found : (frames : List (List ℕ)) (k : ℕ) → (unwrap_or (slice_get (map frame_facts frames) k) no_type).kind ≢ 0 → IsTypeOf frames (unwrap_or (slice_get (map frame_facts frames) k) no_type)
+found [] k some = absurd (some refl)
+found (f ∷ frames) zero some = record { index = 0; frame = f; inside = omega arith; there = refl; is = refl }
+found (f ∷ frames) (suc k) some =
+    let rest = found frames k some in
+    let low = rest.inside in
+    record { index = suc rest.index; frame = rest.frame; inside = omega arith; there = rest.there; is = rest.is }
+
+pub type_found : (frames : List (List ℕ)) (id : ℕ) → (type_at (map frame_facts frames) id).kind ≢ 0 → IsTypeOf frames (type_at (map frame_facts frames) id)
+type_found frames id = split (id == 0)
+  where
+    split : (b : Bool) → (if b then no_type else unwrap_or (slice_get (map frame_facts frames) (id - 1)) no_type).kind ≢ 0 → IsTypeOf frames (if b then no_type else unwrap_or (slice_get (map frame_facts frames) (id - 1)) no_type)
+    split true some = absurd (some refl)
+    split false some = found frames (id - 1) some
+
+-- a FUNC that is right names a FUNC_PROTO
+func_fits : (kind' target : ℕ) → kind' ≡ FUNC → IsTrue (target_fits kind' target) → target ≡ FUNC_PROTO
+unfolding target_fits
+func_fits kind' target e fits = eqb-true target FUNC_PROTO (rw e at fits)
+
+tag_fits : (kind' target : ℕ) → kind' ≡ DECL_TAG → IsTrue (target_fits kind' target) → one_of (STRUCT ∷ UNION ∷ FUNC ∷ VAR ∷ TYPEDEF ∷ []) target ≡ true
+unfolding target_fits
+tag_fits kind' target e fits = rw e at fits
+
+func_has_target : (k : ℕ) → k ≡ FUNC → IsTrue (has_target k)
+unfolding has_target
+func_has_target k e = rw e refl
+
+tag_has_target : (k : ℕ) → k ≡ DECL_TAG → IsTrue (has_target k)
+unfolding has_target
+tag_has_target k e = rw e refl
+
+-- the component of a type that a DECL_TAG may name lies below some count
+struct_below : (types : List TypeFacts) (id c : ℕ) → IsTrue (is_struct ((type_at types id).kind)) → IsTrue (component_fits types id c) → c < (type_at types id).count
+unfolding component_fits
+struct_below types id c is fits = let opened = rw is at fits in ltb-true c _ opened
+
+struct_component : (types : List TypeFacts) (id c k : ℕ) → IsTrue (is_struct k) → (type_at types id).kind ≡ k → IsTrue (component_fits types id c) → c < (type_at types id).count
+struct_component types id c k is e fits = struct_below types id c (rw e is) fits
+
+func_component : (types : List TypeFacts) (id c : ℕ) → (type_at types id).kind ≡ FUNC → (type_at types (type_at types id).target).kind ≡ FUNC_PROTO → IsTrue (component_fits types id c)
+    → c < (type_at types (type_at types id).target).count
+unfolding component_fits
+func_component types id c e proto fits = let opened = rw (e, proto) at fits in ltb-true c _ opened
+
+no_component : (types : List TypeFacts) (id c k : ℕ) → IsTrue (one_of (VAR ∷ TYPEDEF ∷ []) k) → (type_at types id).kind ≡ k → ¬ IsTrue (component_fits types id c)
+unfolding component_fits
+no_component types id c k one e fits = one_among (λ m. k ≡ m → ⊥) (VAR ∷ TYPEDEF ∷ []) k ((λ is. let opened = rw (e, is) at fits in absurd cc), ((λ is. let opened = rw (e, is) at fits in absurd cc), tt)) one refl
+
+-- ---- the frames of a section
+
+module _ (strings : List ℕ) (frames : List (List ℕ)) (ends : HasNulEnds strings) (each : All IsFrame frames) (none : HasNone (FieldFault strings frames)) where
+  abbrev types : List TypeFacts
+  types = map frame_facts frames
+
+  pub faultless : (i : ℕ) (f : List ℕ) → slice_get frames i ≡ Some f → IsFaultless strings types f
+  faultless i f is j c inside fault = none _ c (record { index = i; frame = f; word = j; frame_is = is; inside = inside; fault = fault; place_is = refl })
+
+  -- a FUNC among the types names a FUNC_PROTO
+  its_target : (t : TypeFacts) → IsTypeOf frames t → t.kind ≡ FUNC → (type_at types t.target).kind ≡ FUNC_PROTO
+  its_target t of e =
+      let g = of.frame in
+      let is : IsFrame g = subst (λ (h : List ℕ). IsFrame h) of.there (each of.index g of.inside) in
+      let stands : slice_get frames of.index ≡ Some g = get_is frames of.index g of.inside ∙ ap (λ (h : List ℕ). Some h) of.there in
+      let func : kind g ≡ FUNC = ap (λ (u : TypeFacts). u.kind) (sym of.is) ∙ e in
+      let good = type_is strings types g ends is (faultless of.index g stands) 2 (omega (arith, is.size)) (inl (func_has_target (kind g) func, refl)) in
+      ap (λ (u : TypeFacts). (type_at types u.target).kind) of.is ∙ func_fits (kind g) _ func good.fits
+
+  func_names : (id : ℕ) → (type_at types id).kind ≡ FUNC → (type_at types (type_at types id).target).kind ≡ FUNC_PROTO
+  func_names id e = its_target (type_at types id) (type_found frames id (λ z. omega arith)) e
+
+  -- so a component is a number of 16 bits
+  component_low : (id c : ℕ) → one_of (STRUCT ∷ UNION ∷ FUNC ∷ VAR ∷ TYPEDEF ∷ []) ((type_at types id).kind) ≡ true → IsTrue (component_fits types id c) → c < 2 ^ 16
+  component_low id c named fits =
+      let own = type_count_below frames id in
+      let proto = type_count_below frames (type_at types id).target in
+      one_among (λ k. (type_at types id).kind ≡ k → c < 2 ^ 16) (STRUCT ∷ UNION ∷ FUNC ∷ VAR ∷ TYPEDEF ∷ []) ((type_at types id).kind) (
+        (λ e. omega (arith, struct_component types id c STRUCT refl e fits)),
+        (
+          (λ e. omega (arith, struct_component types id c UNION refl e fits)),
+          (
+            (λ e. omega (arith, func_component types id c e (func_names id e) fits)),
+            (
+              (λ e. absurd (no_component types id c VAR refl e fits)),
+              ((λ e. absurd (no_component types id c TYPEDEF refl e fits)), tt),
+            ),
+          ),
+        ),
+      )
+      named refl
+
+  low_of_word : (id w : ℕ) → one_of (STRUCT ∷ UNION ∷ FUNC ∷ VAR ∷ TYPEDEF ∷ []) ((type_at types id).kind) ≡ true → IfSome (component_of w) (λ c. IsTrue (component_fits types id c)) → IfSome (component_of w) (λ c. c < 2 ^ 16)
+  low_of_word id w named = split (w == 0xffffffff)
+    where
+      split : (b : Bool) → IfSome (if b then None else Some w) (λ c. IsTrue (component_fits types id c)) → IfSome (if b then None else Some w) (λ c. c < 2 ^ 16)
+      split true fits = tt
+      split false fits = component_low id w named fits
+
+  -- what each frame is
+  record IsRight (f : List ℕ) : Type 0 where
+    is_frame : IsFrame f
+    no_fault : IsFaultless strings types f
+    component : kind f ≡ DECL_TAG → IfSome (component_of (slice_index f 3)) (λ c. c < 2 ^ 16)
+
+  frame_right : (f : List ℕ) → IsFrame f → IsFaultless strings types f → IsRight f
+  frame_right f is without = record {
+    is_frame = is;
+    no_fault = without;
+    component = λ tag.
+        let target = type_is strings types f ends is without 2 (omega (arith, is.size)) (inl (tag_has_target (kind f) tag, refl)) in
+        low_of_word (third_word f) (slice_index f 3) (tag_fits (kind f) _ tag target.fits)
+        (component_is strings types f ends is without tag (tag_room strings types f ends is without tag));
+  }
+
+  all_right : All IsRight frames
+  all_right i d low = frame_right (get_or frames i d) (each i d low) (faultless i (get_or frames i d) (get_is frames i d low))
+
+  spelled_right : (fs : List (List ℕ)) → All IsRight fs → AllZip (Spells strings) (map (record_of strings) fs) fs
+  spelled_right [] all = tt
+  spelled_right (f ∷ fs) all =
+      let one = All-head IsRight f fs all in
+      (frame_spells strings types f ends one.is_frame one.no_fault, spelled_right fs (All-tail IsRight f fs all))
+
+  good_right : (fs : List (List ℕ)) → All IsRight fs → All (IsGoodRecord types) (map (record_of strings) fs)
+  good_right [] all = All-nil (IsGoodRecord types)
+  good_right (f ∷ fs) all =
+      let one = All-head IsRight f fs all in
+      All-cons (IsGoodRecord types) (record_of strings f) (map (record_of strings) fs) (frame_good strings types f ends one.is_frame one.no_fault one.component) (good_right fs (All-tail IsRight f fs all))
+
+  facts_right : (fs : List (List ℕ)) → All IsRight fs → facts (map (record_of strings) fs) ≡ map frame_facts fs
+  facts_right [] all = refl
+  facts_right (f ∷ fs) all =
+      let one = All-head IsRight f fs all in
+      let first = facts_same strings types f ends one.is_frame one.no_fault in
+      let rest = facts_right fs (All-tail IsRight f fs all) in
+      cc
+
+  size_right : (o : Order) (fs : List (List ℕ)) → All IsRight fs → sum_by record_size (map (record_of strings) fs) ≡ length (section_of o fs)
+  size_right o [] all = refl
+  size_right o (f ∷ fs) all =
+      let one = All-head IsRight f fs all in
+      let first = size_same strings types f ends one.is_frame one.no_fault in
+      let rest = size_right o fs (All-tail IsRight f fs all) in
+      omega (arith, sum_by-cons record_size (record_of strings f) (map (record_of strings) fs), first, rest, length-append (bytes_of o f) (section_of o fs), length-bytes_of o f)
+
+  pub frames_spell : AllZip (Spells strings) (map (record_of strings) frames) frames
+  frames_spell = spelled_right frames all_right
+
+  pub frames_good : (o : Order) → length strings ≤ STRINGS_LIMIT → length (section_of o frames) ≤ TYPES_LIMIT → IsGood (map (record_of strings) frames)
+  frames_good o short few = record {
+    each = subst (λ (ts : List TypeFacts). All (IsGoodRecord ts) (map (record_of strings) frames)) (sym (facts_right frames all_right)) (good_right frames all_right);
+    size = omega (arith, size_right o frames all_right);
+    texts = spelled_table STRINGS_LIMIT strings (map (record_of strings) frames) frames ends short frames_spell;
+  }
+
+-- Where no field of the frames at these places has a fault, they spell the records that they read as, and these are good.
+pub fields_are_right : (o : Order) (types strings places : List ℕ) → IsFramed o types places → HasNulEnds strings → length strings ≤ STRINGS_LIMIT → length types ≤ TYPES_LIMIT
+    → HasNone (FieldFault strings (frames_at o types places)) → FieldsAreRight o types strings places
+fields_are_right o types strings places framed ends short few none =
+    let frames = frames_at o types places in
+    let whole = framed.frames.whole in
+    record {
+      none = none;
+      spelled = frames_spell strings frames ends framed.frames.each none;
+      good = frames_good strings frames ends framed.frames.each none o short (subst (λ (t : List ℕ). length t ≤ TYPES_LIMIT) whole few);
+    }

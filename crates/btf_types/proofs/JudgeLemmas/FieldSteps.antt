@@ -1,0 +1,113 @@
+-- The first fault of the fields: behind records without one, the first of a record.
+use Rattle.std.proofs.Common.{◌≡◌, ◌⊎◌, ℕ, zero, suc, ◌+◌, ◌*◌, ◌<◌, ◌≤◌, Option, Some, None, List, [], ◌∷◌, length, take, map, refl, ap, subst, ◌∙◌, inl, inr, length-append, arith}
+use Rattle.std.specs.Prelude.{slice_get, slice_index}
+use Rattle.std.specs.List.{concat}
+use Rattle.std.proofs.lemmas.Bool.{cases_lt}
+use Rattle.btf_raw.specs.declared.cause.BtfCause.{BtfCause}
+use Rattle.btf_raw.specs.Cause.{number_of, HasNone, LeastByPlace}
+use Rattle.std.proofs.lemmas.List.{length-map}
+use Rattle.std.proofs.lemmas.Option.{slice_get_past}
+use Rattle.btf_types.specs.declared.tables.section.Section.{Section}
+use Rattle.btf_types.specs.judge.FieldFaults.{WordFault, FieldFault, frame_facts}
+use Rattle.btf_types.specs.Reading.{frame_at}
+use Rattle.btf_types.specs.judge.RecordFaults.{IsFaultless, LeastOfRecord}
+use Rattle.btf_types.specs.Sections.{IsSection, frame_in, frames_in, facts_in}
+use Rattle.btf_types.proofs.TableLemmas.SectionSteps.{frame_get, starts_in, stands_in}
+
+-- where the i-th list begins among the lists, and where it ends
+abbrev start : List (List ℕ) → ℕ → ℕ
+start fs i = length (concat (take i fs))
+
+pub apart : (fs : List (List ℕ)) (i k : ℕ) (f : List ℕ) → slice_get fs i ≡ Some f → i < k → start fs i + length f ≤ start fs k
+apart [] i k f is h = absurd cc
+apart (g ∷ fs) zero zero f is h = absurd (omega arith)
+apart (g ∷ fs) zero (suc k) f is h =
+    let same : g ≡ f = cc in
+    rw (← same) (omega (arith, length-append g (concat (take k fs))))
+apart (g ∷ fs) (suc i) zero f is h = absurd (omega arith)
+apart (g ∷ fs) (suc i) (suc k) f is h =
+    let rest = apart fs i k f is (omega arith) in
+    omega (arith, rest, length-append g (concat (take i fs)), length-append g (concat (take k fs)))
+
+some_is : (x y : List ℕ) (o : Option (List ℕ)) → o ≡ Some x → o ≡ Some y → x ≡ y
+some_is x y o p q = cc
+
+module _ (strings : List ℕ) (fs : List (List ℕ)) where
+  pub first_field_fault : (i : ℕ) (f : List ℕ) (word : ℕ) (c : BtfCause) → slice_get fs i ≡ Some f
+      → ((k : ℕ) (g : List ℕ) → k < i → slice_get fs k ≡ Some g → (j : ℕ) (d : BtfCause) → j < length g → ¬ WordFault strings (map frame_facts fs) g j d)
+      → word < length f → WordFault strings (map frame_facts fs) f word c
+      → ((j : ℕ) (d : BtfCause) → j < length f → WordFault strings (map frame_facts fs) f j d → (word < j) ⊎ ((word ≡ j) × (number_of c ≤ number_of d)))
+      → LeastByPlace (FieldFault strings fs) (4 * (start fs i + word)) c
+  first_field_fault i f word c is before inside holds least = record {
+    holds = record { index = i; frame = f; word = word; frame_is = is; inside = inside; fault = holds; place_is = refl };
+    least = λ q d other. elim (cases_lt other.index i) [
+      | inl earlier ↦ absurd (before other.index other.frame earlier other.frame_is other.word d other.inside other.fault)
+      | inr le ↦ elim (cases_lt i other.index) [
+        | inl later ↦
+            let far = apart fs i other.index f is later in
+            let place = other.place_is in
+            inl (omega arith)
+        | inr ge ↦
+            let same : other.index ≡ i = omega arith in
+            let frame : other.frame ≡ f = some_is other.frame f (slice_get fs i) (subst (λ (k : ℕ). slice_get fs k ≡ Some other.frame) same other.frame_is) is in
+            let fault : WordFault strings (map frame_facts fs) f other.word d =
+            subst (λ (g : List ℕ). WordFault strings (map frame_facts fs) g other.word d) frame other.fault in
+            let there : other.word < length f = subst (λ (g : List ℕ). other.word < length g) frame other.inside in
+            let place : q ≡ 4 * (start fs i + other.word) = other.place_is ∙ ap (λ (k : ℕ). 4 * (start fs k + other.word)) same in
+            elim (least other.word d there fault) [
+              | inl after ↦ inl (omega arith)
+              | inr here ↦ inr (omega (arith, here.0), here.1)
+            ]
+      ]
+    ];
+  }
+
+-- the same of a framed section
+module _ (s : Section) (good : IsSection s) where
+  faultless_before : (n : ℕ) → ((k : ℕ) → k < n → IsFaultless s.strings.now (facts_in s) (frame_in s k)) → (k : ℕ) (g : List ℕ) → k < length s.places.now → k < n → slice_get (frames_in s) k ≡ Some g → IsFaultless s.strings.now (facts_in s) g
+  faultless_before n none k g there low is =
+      subst (λ (x : List ℕ). IsFaultless s.strings.now (facts_in s) x) (some_is (frame_in s k) g (slice_get (frames_in s) k) (frame_get s good k there) is) (none k low)
+
+  get_inside : (k : ℕ) (g : List ℕ) → slice_get (frames_in s) k ≡ Some g → k < length s.places.now
+  get_inside k g is = elim (cases_lt k (length s.places.now)) [
+    | inl lt ↦ lt
+    | inr le ↦ absurd (none_is g (slice_get_past (frames_in s) k (omega (arith, length-map s.places.now (frame_at s.order s.types.now)))) is)
+  ]
+    where
+      none_is : (x : List ℕ) {o : Option (List ℕ)} → o ≡ None → o ≡ Some x → ⊥
+      none_is x p q = cc
+
+  pub no_field_fault : ((k : ℕ) → k < length s.places.now → IsFaultless s.strings.now (facts_in s) (frame_in s k)) → HasNone (FieldFault s.strings.now (frames_in s))
+  no_field_fault none p c fault =
+      let there = get_inside fault.index fault.frame fault.frame_is in
+      faultless_before (length s.places.now) none fault.index fault.frame there there fault.frame_is fault.word c fault.inside fault.fault
+
+  pub first_in_section : (i word : ℕ) (c : BtfCause) → i < length s.places.now
+      → ((k : ℕ) → k < i → IsFaultless s.strings.now (facts_in s) (frame_in s k))
+      → LeastOfRecord s.strings.now (facts_in s) (frame_in s i) word c
+      → LeastByPlace (FieldFault s.strings.now (frames_in s)) (slice_index s.places.now i + 4 * word) c
+  first_in_section i word c there none least =
+      let place : slice_index s.places.now i + 4 * word ≡ 4 * (length (concat (take i (frames_in s))) + word) = omega (arith, starts_in s good i there) in
+      rw place
+      (first_field_fault s.strings.now (frames_in s) i (frame_in s i) word c (frame_get s good i there)
+      (λ k g low is j d inside fault. faultless_before i none k g (get_inside k g is) low is j d inside fault)
+      least.inside least.holds least.least)
+
+  -- one more record without a fault
+  pub faultless_more : (i : ℕ) → ((k : ℕ) → k < i → IsFaultless s.strings.now (facts_in s) (frame_in s k)) → IsFaultless s.strings.now (facts_in s) (frame_in s i)
+      → (k : ℕ) → k < i + 1 → IsFaultless s.strings.now (facts_in s) (frame_in s k)
+  faultless_more i before here k low = elim (cases_lt k i) [
+    | inl lt ↦ before k lt
+    | inr le ↦ subst (λ (n : ℕ). IsFaultless s.strings.now (facts_in s) (frame_in s n)) (omega arith) here
+  ]
+
+  -- a fault stands within the section
+  pub fault_inside : (p : ℕ) (c : BtfCause) → FieldFault s.strings.now (frames_in s) p c → p < length s.types.now
+  fault_inside p c fault =
+      let there = get_inside fault.index fault.frame fault.frame_is in
+      let same = some_is (frame_in s fault.index) fault.frame (slice_get (frames_in s) fault.index) (frame_get s good fault.index there) fault.frame_is in
+      let word : fault.word < length (frame_in s fault.index) = rw same fault.inside in
+      let room = (stands_in s good fault.index there).inside in
+      let start = starts_in s good fault.index there in
+      let place = fault.place_is in
+      omega arith

@@ -1,0 +1,365 @@
+-- What a cause says of a word is what it says of the word's role.
+use Rattle.std.proofs.Common.{◌≡◌, ◌≢◌, ◌⊎◌, ℕ, zero, suc, ◌+◌, ◌-◌, ◌*◌, ◌/◌, ◌%◌, ◌<◌, ◌≤◌, Bool, true, false, Option, List, [], ◌∷◌, length, refl, sym, subst, ◌∙◌, inl, inr, lit<, arith}
+use Rattle.std.specs.Prelude.{IsTrue, IsFalse, MatchOption, slice_index, ◌==◌}
+use Rattle.std.proofs.lemmas.Bool.{cases_lt, eqb-true}
+use Rattle.btf_raw.specs.declared.cause.BtfCause.{BtfCause}
+use Rattle.btf_raw.specs.declared.cause.BtfCause.TheVariants.{NameRange, NameUtf8, NameMissing, NameUnwanted, NotZero, Size, Reference, TargetKind, IntWord, MemberInt, MemberPlace, Linkage, Component}
+use Rattle.btf_raw.specs.declared.kinds.TheConstants.{INT, ARRAY, STRUCT, UNION, ENUM, FUNC_PROTO, VAR, DATASEC, DECL_TAG, ENUM64}
+use Rattle.btf_raw.specs.Kinds.{one_of, tail_words, fixed_words, item_words}
+use Rattle.btf_raw.specs.Names.{TextAt}
+use Rattle.btf_raw.specs.Frames.{IsFrame, name_word, third_word, kind, vlen, flag}
+use Rattle.btf_types.specs.declared.judge.roles.Role.{Role}
+use Rattle.btf_types.specs.declared.judge.roles.Role.TheVariants as roles
+use Rattle.btf_types.specs.judge.Checks.{has_target, has_item_names, is_struct, size_fits, bits_fit, target_fits, component_fits, TypeFacts, type_at, ThirdFault, NoCause, LeastCause}
+use Rattle.btf_types.specs.judge.FieldFaults.{WordFault, offset_in, width_in, int_unused, int_encoding, int_bits, IsTypeField, IsNameField, IsMemberWord, IsItemWord}
+use Rattle.btf_types.specs.judge.Roles.{part, PartIs, RoleIs, RoleTells}
+use Rattle.btf_types.specs.declared.judge.fields.Record.{Record}
+use Rattle.btf_types.specs.declared.tables.section.Section.{Section}
+use Rattle.btf_types.specs.Reading.{frame_at}
+use Rattle.btf_types.specs.Sections.{facts_in}
+use Rattle.btf_types.specs.judge.RecordFaults.{BitFieldsAre, RecordIs, RoleFault}
+use Rattle.btf_types.specs.judge.NameFaults.{MemberPlaceFault}
+use Rattle.btf_types.proofs.JudgeLemmas.Judging.{judged_same}
+
+-- ---- the sizes of items
+
+pub one_or_more : (k κ : ℕ) (ks : List ℕ) → IsTrue (one_of (k ∷ ks) κ) → (κ ≡ k) ⊎ IsTrue (one_of ks κ)
+one_or_more k κ ks h = split (κ == k) refl h
+  where
+    split : (b : Bool) → (κ == k) ≡ b → IsTrue (one_of (k ∷ ks) κ) → (κ ≡ k) ⊎ IsTrue (one_of ks κ)
+    split true e h = inl (eqb-true κ k e)
+    split false e h = inr (rw e at h)
+
+abbrev TwoOrThree : ℕ → Type 0
+TwoOrThree w = (w ≡ 2) ⊎ (w ≡ 3)
+
+pub struct_size : (κ : ℕ) → IsTrue (is_struct κ) → item_words κ ≡ 3
+unfolding item_words
+struct_size κ h = elim (one_or_more STRUCT κ (UNION ∷ []) h) [
+  | inl s ↦ rw s refl
+  | inr more ↦ elim (one_or_more UNION κ [] more) [ inl u ↦ rw u refl | inr none ↦ absurd cc ]
+]
+
+item_size : (κ : ℕ) → IsTrue (has_item_names κ) → TwoOrThree (item_words κ)
+unfolding has_item_names item_words
+item_size κ h = elim (one_or_more STRUCT κ (UNION ∷ ENUM ∷ FUNC_PROTO ∷ ENUM64 ∷ []) h) [
+  | inl e ↦ inr (rw e refl)
+  | inr h1 ↦ elim (one_or_more UNION κ (ENUM ∷ FUNC_PROTO ∷ ENUM64 ∷ []) h1) [
+    | inl e ↦ inr (rw e refl)
+    | inr h2 ↦ elim (one_or_more ENUM κ (FUNC_PROTO ∷ ENUM64 ∷ []) h2) [
+      | inl e ↦ inl (rw e refl)
+      | inr h3 ↦ elim (one_or_more FUNC_PROTO κ (ENUM64 ∷ []) h3) [
+        | inl e ↦ inl (rw e refl)
+        | inr h4 ↦ elim (one_or_more ENUM64 κ [] h4) [ inl e ↦ inr (rw e refl) | inr none ↦ absurd cc ]
+      ]
+    ]
+  ]
+]
+
+pub struct_fixed : (κ : ℕ) → IsTrue (is_struct κ) → fixed_words κ ≡ 0
+unfolding fixed_words
+struct_fixed κ h = elim (one_or_more STRUCT κ (UNION ∷ []) h) [
+  | inl s ↦ rw s refl
+  | inr more ↦ elim (one_or_more UNION κ [] more) [ inl u ↦ rw u refl | inr none ↦ absurd cc ]
+]
+
+named_fixed : (κ : ℕ) → IsTrue (has_item_names κ) → fixed_words κ ≡ 0
+unfolding has_item_names fixed_words
+named_fixed κ h = elim (one_or_more STRUCT κ (UNION ∷ ENUM ∷ FUNC_PROTO ∷ ENUM64 ∷ []) h) [
+  | inl e ↦ rw e refl
+  | inr h1 ↦ elim (one_or_more UNION κ (ENUM ∷ FUNC_PROTO ∷ ENUM64 ∷ []) h1) [
+    | inl e ↦ rw e refl
+    | inr h2 ↦ elim (one_or_more ENUM κ (FUNC_PROTO ∷ ENUM64 ∷ []) h2) [
+      | inl e ↦ rw e refl
+      | inr h3 ↦ elim (one_or_more FUNC_PROTO κ (ENUM64 ∷ []) h3) [
+        | inl e ↦ rw e refl
+        | inr h4 ↦ elim (one_or_more ENUM64 κ [] h4) [ inl e ↦ rw e refl | inr none ↦ absurd cc ]
+      ]
+    ]
+  ]
+]
+
+proto_size : (κ : ℕ) → κ ≡ FUNC_PROTO → item_words κ ≡ 2
+unfolding item_words
+proto_size κ e = rw e refl
+
+datasec_size : (κ : ℕ) → κ ≡ DATASEC → item_words κ ≡ 3
+unfolding item_words
+datasec_size κ e = rw e refl
+
+array_size : (κ : ℕ) → κ ≡ ARRAY → item_words κ ≡ 0
+unfolding item_words
+array_size κ e = rw e refl
+
+-- word m of an item, from the place in the record, and back
+part_is : (κ k m j : ℕ) → TwoOrThree (item_words κ) → m < item_words κ → j ≡ 3 + item_words κ * k + m → part κ j ≡ m
+part_is κ k m j (inl two) low at = rw two (let there : j ≡ 3 + 2 * k + m = rw two at at in let less : m < 2 = rw two at low in omega arith)
+part_is κ k m j (inr three) low at = rw three (let there : j ≡ 3 + 3 * k + m = rw three at at in let less : m < 3 = rw three at low in omega arith)
+
+record ItemWord (κ v m j : ℕ) : Type 0 where
+  k : ℕ
+  low : k < v
+  at : j ≡ 3 + item_words κ * k + m
+
+item_word : (κ v m j : ℕ) → TwoOrThree (item_words κ) → 3 ≤ j → j < 3 + item_words κ * v → part κ j ≡ m → ItemWord κ v m j
+item_word κ v m j (inl two) past inside is =
+    let there : (j - 3) % 2 ≡ m = rw two at is in
+    let room : j < 3 + 2 * v = rw two at inside in
+    record { k = (j - 3) / 2; low = omega arith; at = rw two (omega arith) }
+item_word κ v m j (inr three) past inside is =
+    let there : (j - 3) % 3 ≡ m = rw three at is in
+    let room : j < 3 + 3 * v = rw three at inside in
+    record { k = (j - 3) / 3; low = omega arith; at = rw three (omega arith) }
+
+-- a role's faults on the numbers of a frame
+abbrev WordRoleFault : List ℕ → List TypeFacts → List ℕ → Bool → ℕ → Role → BtfCause → Type 0
+WordRoleFault strings types frame b j role c =
+    RoleFault strings types (kind frame) (vlen frame) (flag frame) (third_word frame) b (slice_index frame j) role c
+
+-- ---- from a cause to the role
+
+module _ (frame : List ℕ) (j : ℕ) (role : Role) (tells : RoleTells (kind frame) j role) where
+  past_head : (w k m : ℕ) → j ≡ 3 + w * k + m → 3 ≤ j
+  past_head w k m at = omega arith
+
+  name_role : (n : ℕ) → IsNameField frame n j → (role ≡ roles.OwnName) ⊎ (role ≡ roles.ItemName)
+  name_role zero field = inl (tells.name field)
+  name_role (suc k) field =
+      let size = item_size (kind frame) field.0 in
+      let first = part_is (kind frame) k 0 j size (elim size [ inl two ↦ rw two (lit< tt) | inr three ↦ rw three (lit< tt) ]) field.1.1 in
+      inr ((tells.tail (past_head (item_words (kind frame)) k 0 field.1.1)).name field.0 first)
+
+  member_part : (m : ℕ) → m < 3 → (at : IsMemberWord frame m j) → (3 ≤ j) × (part (kind frame) j ≡ m)
+  member_part m low at =
+      let three = struct_size (kind frame) at.0 in
+      (past_head (item_words (kind frame)) at.1 m at.2.1, part_is (kind frame) at.1 m j (inr three) (rw three low) at.2.1)
+
+  member_role : IsMemberWord frame 1 j → role ≡ roles.MemberType
+  member_role at = let is = member_part 1 (lit< tt) at in (tells.tail is.0).member at.0 is.1
+
+  place_role : IsMemberWord frame 2 j → role ≡ roles.MemberPlace
+  place_role at = let is = member_part 2 (lit< tt) at in (tells.tail is.0).place at.0 is.1
+
+  array_role : kind frame ≡ ARRAY → (j ≡ 3) ⊎ (j ≡ 4) → role ≡ roles.NamedType
+  array_role array at =
+      let none = array_size (kind frame) array in
+      let low : 3 ≤ j = omega arith in
+      let is : part (kind frame) j < 2 = rw none (omega arith) in
+      (tells.tail low).array array is
+
+  entry_role : kind frame ≡ DATASEC → (k : ℕ) → IsItemWord frame k 0 j → role ≡ roles.NamedType
+  entry_role datasec k at =
+      let three = datasec_size (kind frame) datasec in
+      (tells.tail (past_head (item_words (kind frame)) k 0 at.1)).entry datasec (part_is (kind frame) k 0 j (inr three) (rw three (lit< tt)) at.1)
+
+  param_role : kind frame ≡ FUNC_PROTO → (k : ℕ) → IsItemWord frame k 1 j → role ≡ roles.NamedType
+  param_role proto k at =
+      let two = proto_size (kind frame) proto in
+      (tells.tail (past_head (item_words (kind frame)) k 1 at.1)).param proto (part_is (kind frame) k 1 j (inl two) (rw two (lit< tt)) at.1)
+
+  struct_or_proto : (κ : ℕ) → IsTrue (one_of (STRUCT ∷ UNION ∷ FUNC_PROTO ∷ []) κ) → IsTrue (is_struct κ) ⊎ (κ ≡ FUNC_PROTO)
+  struct_or_proto κ h = elim (one_or_more STRUCT κ (UNION ∷ FUNC_PROTO ∷ []) h) [
+    | inl s ↦ inl (rw s refl)
+    | inr h1 ↦ elim (one_or_more UNION κ (FUNC_PROTO ∷ []) h1) [
+      | inl u ↦ inl (rw u refl)
+      | inr h2 ↦ elim (one_or_more FUNC_PROTO κ [] h2) [ inl p ↦ inr p | inr none ↦ absurd cc ]
+    ]
+  ]
+
+  type_role : IsTypeField frame j → (IsTrue (has_target (kind frame)) × (role ≡ roles.Third)) ⊎ (role ≡ roles.NamedType) ⊎ (IsTrue (is_struct (kind frame)) × (role ≡ roles.MemberType))
+  type_role (inl third) = inl (third.0, tells.third third.1)
+  type_role (inr (inl array)) = inr (inl (array_role array.0 array.1))
+  type_role (inr (inr (inl item))) = elim (struct_or_proto (kind frame) item.0) [
+    | inl s ↦ inr (inr (s, member_role (s, item.1, item.2)))
+    | inr p ↦ inr (inl (param_role p item.1 item.2))
+  ]
+  type_role (inr (inr (inr entry))) = inr (inl (entry_role entry.0 entry.1 entry.2))
+
+module _ (strings : List ℕ) (types : List TypeFacts) (frame : List ℕ) (b : Bool) (j : ℕ) (role : Role) where
+  is_role : (r : Role) (c : BtfCause) → role ≡ r → WordRoleFault strings types frame b j r c → WordRoleFault strings types frame b j role c
+  is_role r c e fault = subst (λ (x : Role). WordRoleFault strings types frame b j x c) (sym e) fault
+
+  struct_fits_any : (κ target : ℕ) → IsTrue (is_struct κ) → target_fits κ target ≡ true
+  unfolding target_fits
+  struct_fits_any κ target h = elim (one_or_more STRUCT κ (UNION ∷ []) h) [
+    | inl s ↦ rw s refl
+    | inr more ↦ elim (one_or_more UNION κ [] more) [ inl u ↦ rw u refl | inr none ↦ absurd cc ]
+  ]
+
+  at_name : (P : ℕ → Type 0) → j ≡ 0 → P (name_word frame) → P (slice_index frame j)
+  at_name P first h = subst (λ (i : ℕ). P (slice_index frame i)) (sym first) h
+
+  at_third : (P : ℕ → Type 0) → j ≡ 2 → P (third_word frame) → P (slice_index frame j)
+  at_third P third h = subst (λ (i : ℕ). P (slice_index frame i)) (sym third) h
+
+  at_fourth : (P : ℕ → Type 0) → j ≡ 3 → P (slice_index frame 3) → P (slice_index frame j)
+  at_fourth P fourth h = subst (λ (i : ℕ). P (slice_index frame i)) (sym fourth) h
+
+  role_says : BitFieldsAre frame b → RoleTells (kind frame) j role → (c : BtfCause) → WordFault strings types frame j c → WordRoleFault strings types frame b j role c
+  role_says bits tells NameRange fault = elim (name_role frame j role tells fault.0 fault.1) [
+    | inl own ↦ is_role roles.OwnName NameRange own fault.2
+    | inr item ↦ is_role roles.ItemName NameRange item fault.2
+  ]
+  role_says bits tells NameUtf8 fault = elim (name_role frame j role tells fault.0 fault.1) [
+    | inl own ↦ is_role roles.OwnName NameUtf8 own (fault.2, fault.3, fault.4)
+    | inr item ↦ is_role roles.ItemName NameUtf8 item (fault.2, fault.3, fault.4)
+  ]
+  role_says bits tells NameMissing fault =
+      is_role roles.OwnName NameMissing (tells.name fault.0) (fault.1, at_name (λ i. TextAt strings i []) fault.0 fault.2)
+  role_says bits tells NameUnwanted fault =
+      is_role roles.OwnName NameUnwanted (tells.name fault.0) (fault.1, fault.2, at_name (λ i. TextAt strings i fault.2) fault.0 fault.3, fault.4)
+  role_says bits tells NotZero fault = is_role roles.Third NotZero (tells.third fault.0) (fault.1, at_third (λ i. i ≢ 0) fault.0 fault.2)
+  role_says bits tells Size fault =
+      is_role roles.Third Size (tells.third fault.0) (at_third (λ i. IsFalse (size_fits (kind frame) i (vlen frame))) fault.0 fault.1)
+  role_says bits tells Reference fault = elim (type_role frame j role tells fault.0) [
+    | inl third ↦ is_role roles.Third Reference third.1 (third.0, fault.1)
+    | inr (inl named) ↦ is_role roles.NamedType Reference named fault.1
+    | inr (inr member) ↦ is_role roles.MemberType Reference member.1 fault.1
+  ]
+  role_says bits tells TargetKind fault = elim (type_role frame j role tells fault.0) [
+    | inl third ↦ is_role roles.Third TargetKind third.1 (third.0, fault.1, fault.2)
+    | inr (inl named) ↦ is_role roles.NamedType TargetKind named (fault.1, fault.2)
+    | inr (inr member) ↦
+        let fits = struct_fits_any (kind frame) ((type_at types (slice_index frame j)).kind) member.0 in
+        let not = fault.2 in
+        absurd cc
+  ]
+  role_says bits tells IntWord fault =
+      let low : 3 ≤ j = omega (arith, fault.0) in
+      is_role roles.IntWord IntWord ((tells.tail low).int fault.1)
+      (at_fourth (λ i. (int_unused i ≢ 0) ⊎ IsFalse (one_of (0 ∷ 1 ∷ 2 ∷ 4 ∷ []) (int_encoding i)) ⊎ IsFalse (bits_fit (third_word frame) (int_bits i))) fault.0 fault.2)
+  role_says bits tells MemberInt fault = is_role roles.MemberType MemberInt (member_role frame j role tells fault.0) (bits.none fault.1, fault.2)
+  role_says bits tells MemberPlace fault = is_role roles.MemberPlace MemberPlace (place_role frame j role tells fault.0) fault.1
+  role_says bits tells Linkage (inl func) = is_role roles.Info Linkage (tells.info func.1) (func.0, func.2)
+  role_says bits tells Linkage (inr var) =
+      let at = var.1 in
+      let low : 3 ≤ j = omega arith in
+      is_role roles.Linkage Linkage ((tells.tail low).var var.0) (at_fourth (λ i. 2 < i) var.1 var.2)
+  role_says bits tells Component fault =
+      let low : 3 ≤ j = omega (arith, fault.1) in
+      is_role roles.Component Component ((tells.tail low).tag fault.0)
+      (at_fourth (λ i. i ≢ 0xffffffff) fault.1 fault.2, at_fourth (λ i. IsFalse (component_fits types (third_word frame) i)) fault.1 fault.3)
+  role_says bits tells c fault = absurd fault
+
+-- ---- and back
+
+module _ (strings : List ℕ) (types : List TypeFacts) (frame : List ℕ) (b : Bool) (j : ℕ) (is_frame : IsFrame frame) (bits : BitFieldsAre frame b) (there : j < length frame) where
+  room : fixed_words (kind frame) ≡ 0 → j < 3 + item_words (kind frame) * vlen frame
+  unfolding tail_words
+  room none = let size = is_frame.size in omega arith
+
+  item_name_field : IsTrue (has_item_names (kind frame)) → 3 ≤ j → part (kind frame) j ≡ 0 → (n : ℕ) × IsNameField frame n j
+  item_name_field named past first =
+      let at = item_word (kind frame) (vlen frame) 0 j (item_size (kind frame) named) past (room (named_fixed (kind frame) named)) first in
+      (suc at.k, (named, (at.low, at.at)))
+
+  member_field : (m : ℕ) → IsTrue (is_struct (kind frame)) → 3 ≤ j → part (kind frame) j ≡ m → IsMemberWord frame m j
+  member_field m struct past is =
+      let at = item_word (kind frame) (vlen frame) m j (inr (struct_size (kind frame) struct)) past (room (struct_fixed (kind frame) struct)) is in
+      (struct, at.k, (at.low, at.at))
+
+  place_part : IsTrue (is_struct (kind frame)) → 1 < part (kind frame) j → part (kind frame) j ≡ 2
+  place_part struct past = let three = struct_size (kind frame) struct in rw three (let more : 1 < (j - 3) % 3 = rw three at past in omega arith)
+
+  fourth : (κ : ℕ) → kind frame ≡ κ → 3 + tail_words κ (vlen frame) ≡ 4 → 3 ≤ j → j ≡ 3
+  fourth κ is four past = let size : length frame ≡ 4 = is_frame.size ∙ rw is four in omega arith
+
+  one_word : (κ : ℕ) → (κ ≡ INT) ⊎ (κ ≡ VAR) ⊎ (κ ≡ DECL_TAG) → 3 + tail_words κ (vlen frame) ≡ 4
+  unfolding tail_words fixed_words item_words
+  one_word κ (inl e) = rw e (omega arith)
+  one_word κ (inr (inl e)) = rw e (omega arith)
+  one_word κ (inr (inr e)) = rw e (omega arith)
+
+  named_field : 3 ≤ j → PartIs (kind frame) (part (kind frame) j) roles.NamedType → IsTypeField frame j
+  unfolding fixed_words
+  named_field past (inl array) =
+      let none = array_size (kind frame) array.0 in
+      let low : j - 3 < 2 = rw none at array.1 in
+      inr (inl (array.0, elim (cases_lt j 4) [ inl lt ↦ inl (omega arith) | inr le ↦ inr (omega arith) ]))
+  named_field past (inr (inl param)) =
+      let two = proto_size (kind frame) param.0 in
+      let first : part (kind frame) j ≡ 1 = rw two (let more : 0 < (j - 3) % 2 = rw two at param.1 in omega arith) in
+      let at = item_word (kind frame) (vlen frame) 1 j (inl two) past (room (rw param.0 refl)) first in
+      inr (inr (inl (rw param.0 refl, at.k, (at.low, at.at))))
+  named_field past (inr (inr entry)) =
+      let three = datasec_size (kind frame) entry.0 in
+      let at = item_word (kind frame) (vlen frame) 0 j (inr three) past (room (rw entry.0 refl)) entry.1 in
+      inr (inr (inr (entry.0, at.k, (at.low, at.at))))
+
+  member_type_field : IsMemberWord frame 1 j → IsTypeField frame j
+  member_type_field at = inr (inr (inl (struct_is_any (kind frame) at.0, at.1, at.2)))
+    where
+      struct_is_any : (κ : ℕ) → IsTrue (is_struct κ) → IsTrue (one_of (STRUCT ∷ UNION ∷ FUNC_PROTO ∷ []) κ)
+      struct_is_any κ h = elim (one_or_more STRUCT κ (UNION ∷ []) h) [
+        | inl s ↦ rw s refl
+        | inr more ↦ elim (one_or_more UNION κ [] more) [ inl u ↦ rw u refl | inr none ↦ absurd cc ]
+      ]
+
+  back_name : (P : ℕ → Type 0) → j ≡ 0 → P (slice_index frame j) → P (name_word frame)
+  back_name P first h = subst (λ (i : ℕ). P (slice_index frame i)) first h
+
+  back_third : (P : ℕ → Type 0) → j ≡ 2 → P (slice_index frame j) → P (third_word frame)
+  back_third P third h = subst (λ (i : ℕ). P (slice_index frame i)) third h
+
+  back_fourth : (P : ℕ → Type 0) → j ≡ 3 → P (slice_index frame j) → P (slice_index frame 3)
+  back_fourth P is h = subst (λ (i : ℕ). P (slice_index frame i)) is h
+
+  role_holds : (role : Role) → RoleIs (kind frame) j role → (c : BtfCause) → WordRoleFault strings types frame b j role c → WordFault strings types frame j c
+  role_holds roles.OwnName is NameRange fault = (0, is, fault)
+  role_holds roles.OwnName is NameUtf8 fault = (0, is, fault.0, fault.1, fault.2)
+  role_holds roles.OwnName is NameMissing fault = (is, fault.0, back_name (λ i. TextAt strings i []) is fault.1)
+  role_holds roles.OwnName is NameUnwanted fault = (is, fault.0, fault.1, back_name (λ i. TextAt strings i fault.1) is fault.2, fault.3)
+  role_holds roles.Info is Linkage fault = inl (fault.0, is, fault.1)
+  role_holds roles.Third is NotZero fault = (is, fault.0, back_third (λ i. i ≢ 0) is fault.1)
+  role_holds roles.Third is Size fault = (is, back_third (λ i. IsFalse (size_fits (kind frame) i (vlen frame))) is fault)
+  role_holds roles.Third is Reference fault = (inl (fault.0, is), fault.1)
+  role_holds roles.Third is TargetKind fault = (inl (fault.0, is), fault.1, fault.2)
+  role_holds roles.IntWord is IntWord fault =
+      let at = fourth INT is.1 (one_word INT (inl refl)) is.0 in
+      (at, is.1, back_fourth (λ i. (int_unused i ≢ 0) ⊎ IsFalse (one_of (0 ∷ 1 ∷ 2 ∷ 4 ∷ []) (int_encoding i)) ⊎ IsFalse (bits_fit (third_word frame) (int_bits i))) at fault)
+  role_holds roles.Linkage is Linkage fault =
+      let at = fourth VAR is.1 (one_word VAR (inr (inl refl))) is.0 in
+      inr (is.1, at, back_fourth (λ i. 2 < i) at fault)
+  role_holds roles.Component is Component fault =
+      let at = fourth DECL_TAG is.1 (one_word DECL_TAG (inr (inr refl))) is.0 in
+      (is.1, at, back_fourth (λ i. i ≢ 0xffffffff) at fault.0, back_fourth (λ i. IsFalse (component_fits types (third_word frame) i)) at fault.1)
+  role_holds roles.ItemName is NameRange fault = let field = item_name_field is.1.0 is.0 is.1.1 in (field.0, field.1, fault)
+  role_holds roles.ItemName is NameUtf8 fault = let field = item_name_field is.1.0 is.0 is.1.1 in (field.0, field.1, fault.0, fault.1, fault.2)
+  role_holds roles.NamedType is Reference fault = (named_field is.0 is.1, fault)
+  role_holds roles.NamedType is TargetKind fault = (named_field is.0 is.1, fault.0, fault.1)
+  role_holds roles.MemberType is Reference fault = (member_type_field (member_field 1 is.1.0 is.0 is.1.1), fault)
+  role_holds roles.MemberType is MemberInt fault = (member_field 1 is.1.0 is.0 is.1.1, bits.some fault.0, fault.1)
+  role_holds roles.MemberPlace is MemberPlace fault = (member_field 2 is.1.0 is.0 (place_part is.1.0 is.1.1), fault)
+  role_holds role is c fault = absurd fault
+
+  -- a role's judge is the word's
+  word_judged : (role : Role) (r : Option BtfCause) → RoleIs (kind frame) j role → RoleTells (kind frame) j role
+      → MatchOption r (NoCause (WordRoleFault strings types frame b j role)) (λ c. LeastCause (WordRoleFault strings types frame b j role) c)
+      → MatchOption r (NoCause (WordFault strings types frame j)) (λ c. LeastCause (WordFault strings types frame j) c)
+  word_judged role r is tells judged =
+      judged_same (WordRoleFault strings types frame b j role) (WordFault strings types frame j) r
+      (role_holds role is) (role_says strings types frame b j role bits tells) judged
+
+abbrev pub HeldFault : Section → Record → ℕ → Role → BtfCause → Type 0
+HeldFault s r word role c = RoleFault s.strings.now (facts_in s) r.kind r.vlen r.flag r.third r.bit_fields word role c
+
+-- the same on the numbers that are kept of a record
+pub judged : (s : Section) (r : Record) (j word : ℕ) (role : Role) (result : Option BtfCause) → RecordIs s r → j < r.words
+    → word ≡ slice_index (frame_at s.order s.types.now r.pos) j → RoleIs r.kind j role → RoleTells r.kind j role
+    → MatchOption result (NoCause (HeldFault s r word role)) (λ c. LeastCause (HeldFault s r word role) c)
+    → MatchOption result (NoCause (WordFault s.strings.now (facts_in s) (frame_at s.order s.types.now r.pos) j)) (λ c. LeastCause (WordFault s.strings.now (facts_in s) (frame_at s.order s.types.now r.pos) j) c)
+judged s r j word role result is there word-is role-is tells held =
+    let f = frame_at s.order s.types.now r.pos in
+    word_judged s.strings.now (facts_in s) f r.bit_fields j is.stands.frame is.bit_fields_are (rw (← is.words_are) there) role result
+    (rw (← is.kind_is) role-is) (rw (← is.kind_is) tells)
+    (judged_same (HeldFault s r word role) (WordRoleFault s.strings.now (facts_in s) f r.bit_fields j role) result
+    (λ d h. rw (← is.kind_is, ← is.vlen_is, ← is.flag_is, ← is.third_is, ← word-is) h)
+    (λ d h. rw (is.kind_is, is.vlen_is, is.flag_is, is.third_is, word-is) h) held)
+
+-- the numbers that a member's offset word is judged by
+pub place_judged : (third flag word at wide : ℕ) (result : Option BtfCause) → at ≡ offset_in flag word → wide ≡ width_in flag word
+    → MatchOption result (NoCause (MemberPlaceFault third at wide)) (λ c. LeastCause (MemberPlaceFault third at wide) c)
+    → MatchOption result (NoCause (MemberPlaceFault third (offset_in flag word) (width_in flag word))) (λ c. LeastCause (MemberPlaceFault third (offset_in flag word) (width_in flag word)) c)
+place_judged third flag word at wide result at-is wide-is held =
+    judged_same (MemberPlaceFault third at wide) (MemberPlaceFault third (offset_in flag word) (width_in flag word)) result
+    (λ d h. rw (← at-is, ← wide-is) h) (λ d h. rw (at-is, wide-is) h) held

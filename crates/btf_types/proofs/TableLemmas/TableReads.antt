@@ -1,0 +1,127 @@
+-- What a table's invariant says of one record.
+use Rattle.std.proofs.Common.{◌≡◌, ◌⊎◌, ℕ, zero, suc, ◌+◌, ◌-◌, ◌*◌, ◌^◌, ◌<◌, ◌≤◌, Bool, true, false, Some, List, [], ◌∷◌, length, get_or, take, map, refl, sym, ap, subst, ◌∙◌, inl, inr, length-append, arith}
+use Rattle.std.specs.Prelude.{slice_index, slice_get, IfSome, ◌==◌}
+use Rattle.std.specs.List.{AllZip}
+use Rattle.std.proofs.lemmas.List.{length-map}
+use Rattle.std.proofs.lemmas.Bool.{eqb-true}
+use Rattle.bpf_words.specs.declared.Order.{Order}
+use Rattle.btf_raw.specs.declared.kinds.TheConstants.{DECL_TAG}
+use Rattle.btf_raw.specs.Header.{HasNulEnds}
+use Rattle.btf_raw.specs.Names.{NameAt}
+use Rattle.btf_raw.specs.Frames.{IsFrame, bytes_of, section_of, kind, name_word}
+use Rattle.btf_raw.proofs.Texts.{TextAt-unique, TextAt-inside}
+use Rattle.btf_raw.proofs.Frames.{length-bytes_of}
+use Rattle.btf_types.specs.Values.{TypeRecord}
+use Rattle.btf_types.specs.Spelling.{Spells}
+use Rattle.btf_types.specs.Good.{HeadInRange}
+use Rattle.btf_types.specs.tables.TableWords.{record_at}
+use Rattle.btf_raw.specs.Kinds.{item_words}
+use Rattle.btf_types.proofs.Lists.{length-tabulate}
+use Rattle.btf_types.specs.Reading.{text_from, frame_at, frames_at, record_of, records_at, item_of, item_total, head_from, head_of, component_of}
+use Rattle.btf_types.specs.tables.TableInvariant.{IsTable}
+use Rattle.btf_types.specs.tables.PlaceWords.{StandsAt}
+use Rattle.btf_types.specs.judge.FieldFaults.{frame_facts}
+use Rattle.btf_types.proofs.FaultlessLemmas.Faultless.{get_is, faultless}
+use Rattle.btf_types.proofs.FaultlessLemmas.ItemReads.{item_names_stand}
+use Rattle.btf_types.proofs.TableLemmas.TextSteps.{text_stands}
+
+-- element i of a list that another is made of
+pub get-map : {X Y : Type 0} (f : X → Y) (xs : List X) (i : ℕ) (d : X) → i < length xs → slice_get (map f xs) i ≡ Some (f (get_or xs i d))
+get-map f [] i d h = absurd (omega arith)
+get-map f (x ∷ xs) zero d h = refl
+get-map f (x ∷ xs) (suc i) d h = get-map f xs i d (omega arith)
+
+pub get_or-map : {X Y : Type 0} (f : X → Y) (xs : List X) (i : ℕ) (d : X) (e : Y) → i < length xs → get_or (map f xs) i e ≡ f (get_or xs i d)
+get_or-map f [] i d e h = absurd (omega arith)
+get_or-map f (x ∷ xs) zero d e h = refl
+get_or-map f (x ∷ xs) (suc i) d e h = get_or-map f xs i d e (omega arith)
+
+zip_at : {A B : Type 0} (R : A → B → Type 0) (f : B → A) (ys : List B) (i : ℕ) (d : B) → AllZip R (map f ys) ys → i < length ys → R (f (get_or ys i d)) (get_or ys i d)
+zip_at R f [] i d all h = absurd (omega arith)
+zip_at R f (y ∷ ys) zero d all h = all.0
+zip_at R f (y ∷ ys) (suc i) d all h = zip_at R f ys i d all.1 (omega arith)
+
+-- a frame ends within the section
+ends_inside : (o : Order) (frames : List (List ℕ)) (i : ℕ) → i < length frames → length (section_of o (take i frames)) + 4 * length (get_or frames i []) ≤ length (section_of o frames)
+ends_inside o [] i h = absurd (omega arith)
+ends_inside o (f ∷ frames) zero h = omega (arith, length-append (bytes_of o f) (section_of o frames), length-bytes_of o f)
+ends_inside o (f ∷ frames) (suc i) h =
+    let rest = ends_inside o frames i (omega arith) in
+    omega (arith, rest, length-append (bytes_of o f) (section_of o frames), length-append (bytes_of o f) (section_of o (take i frames)))
+
+name_at_word : (strings : List ℕ) (r : TypeRecord) (f : List ℕ) → HasNulEnds strings → Spells strings r f → NameAt strings (name_word f) (text_from strings (name_word f))
+name_at_word strings r f ends s =
+    let offset : name_word f ≡ s.name_offset = ap (λ (t : List ℕ). slice_index t 0) s.whole in
+    let text = text_stands strings s.name_offset ends (TextAt-inside strings s.name_offset _ s.name.text) in
+    let same = TextAt-unique strings s.name_offset _ (text_from strings s.name_offset) s.name.text text in
+    rw offset (subst (λ (x : List ℕ). NameAt strings s.name_offset x) same s.name)
+
+component_fits_word : (w : ℕ) → IfSome (component_of w) (λ c. c < 2 ^ 16) → (w ≡ 0xffffffff) ⊎ (w < 2 ^ 16)
+component_fits_word w h = split (w == 0xffffffff) refl h
+  where
+    split : (b : Bool) → (w == 0xffffffff) ≡ b → IfSome (component_of w) (λ c. c < 2 ^ 16) → (w ≡ 0xffffffff) ⊎ (w < 2 ^ 16)
+    split true e h = inl (eqb-true w 0xffffffff e)
+    split false e h = inr (rw e at h)
+
+tag_in_range : (name frame : List ℕ) → kind frame ≡ DECL_TAG → HeadInRange (head_of frame name) → IfSome (component_of (slice_index frame 3)) (λ c. c < 2 ^ 16)
+unfolding head_from
+tag_in_range name frame tag range = let opened = rw tag at range in opened.1
+
+pub stands_at : (o : Order) (types strings places : List ℕ) (i : ℕ) → IsTable o types strings places → i < length places → StandsAt o types strings (get_or places i 0)
+stands_at o types strings places i table h =
+    let frames = frames_at o types places in
+    let pos = get_or places i 0 in
+    let f = frame_at o types pos in
+    let inside : i < length frames = omega (arith, length-map places (frame_at o types)) in
+    let frame-is : get_or frames i [] ≡ f = get_or-map (frame_at o types) places i 0 [] h in
+    let start = table.framed.starts i h in
+    let whole : length types ≡ length (section_of o frames) = ap length table.framed.frames.whole in
+    let room : length (section_of o (take i frames)) + 4 * length f ≤ length (section_of o frames) = rw frame-is at (ends_inside o frames i inside) in
+    let spelled : Spells strings (record_of strings f) f =
+    subst (λ (g : List ℕ). Spells strings (record_of strings g) g) frame-is (zip_at (Spells strings) (record_of strings) frames i [] table.spelled inside) in
+    record {
+      ends = table.ends;
+      inside = omega arith;
+      frame = subst (λ (g : List ℕ). IsFrame g) frame-is (table.framed.frames.each i [] inside);
+      spelled = spelled;
+      name = name_at_word strings (record_of strings f) f table.ends spelled;
+      item_names =
+          let frame_there : slice_get frames i ≡ Some f = get_is frames i [] inside ∙ ap (λ (g : List ℕ). Some g) frame-is in
+          let is : IsFrame f = subst (λ (g : List ℕ). IsFrame g) frame-is (table.framed.frames.each i [] inside) in
+          item_names_stand strings (map frame_facts frames) f table.ends is (faultless strings frames table.ends table.framed.frames.each table.none i f frame_there);
+      component = λ tag.
+          let here : get_or (records_at o types strings places) i (record_of strings f) ≡ record_of strings f =
+          get_or-map (record_of strings) frames i [] (record_of strings f) inside ∙ ap (λ (g : List ℕ). record_of strings g) frame-is in
+          let good = table.good.each i (record_of strings f) (rw (length-map, length-map) h) in
+          component_fits_word (slice_index f 3) (tag_in_range (text_from strings (name_word f)) f tag (subst (λ (r : TypeRecord). HeadInRange r.head) here good.head_in_range));
+    }
+
+pub record_is : (o : Order) (types strings places : List ℕ) (i : ℕ) → i < length places → slice_get (records_at o types strings places) i ≡ Some (record_of strings (frame_at o types (get_or places i 0)))
+record_is o types strings places i h =
+    get-map (record_of strings) (frames_at o types places) i [] (omega (arith, length-map places (frame_at o types)))
+    ∙ ap (λ (f : List ℕ). Some (record_of strings f)) (get_or-map (frame_at o types) places i 0 [] h)
+
+pub length-records_at : (o : Order) (types strings places : List ℕ) → length (records_at o types strings places) ≡ length places
+length-records_at o types strings places = length-map (frames_at o types places) (record_of strings) ∙ length-map places (frame_at o types)
+
+-- where a record of a table stands, from its number
+pub place_inside : (o : Order) (types strings places : List ℕ) (v : List TypeRecord) (id : ℕ) → records_at o types strings places ≡ v → 0 < id → id ≤ length v → id - 1 < length places
+place_inside o types strings places v id is some low = omega (arith, ap length (sym is), length-records_at o types strings places)
+
+pub count_there : (strings frame : List ℕ) → length (record_of strings frame).items ≡ item_total frame
+count_there strings frame = length-tabulate (λ i. item_of strings frame (3 + item_words (kind frame) * i)) (item_total frame)
+
+-- the record of a table that has this number
+pub record_there : (o : Order) (types strings places : List ℕ) (v : List TypeRecord) (id : ℕ) → records_at o types strings places ≡ v → id - 1 < length places
+    → record_at v id ≡ record_of strings (frame_at o types (get_or places (id - 1) 0))
+record_there o types strings places v id is low =
+    let there : slice_get v (id - 1) ≡ Some (record_of strings (frame_at o types (get_or places (id - 1) 0))) = rw (← is) (record_is o types strings places (id - 1) low) in
+    rw there refl
+
+-- an item that is one of the record's
+pub item_inside : (o : Order) (types strings places : List ℕ) (v : List TypeRecord) (id k : ℕ) → records_at o types strings places ≡ v → id - 1 < length places
+    → k < length (record_at v id).items → k < item_total (frame_at o types (get_or places (id - 1) 0))
+item_inside o types strings places v id k is low inside =
+    let f = frame_at o types (get_or places (id - 1) 0) in
+    let there = rw (record_there o types strings places v id is low) at inside in
+    omega (arith, there, count_there strings f)

@@ -1,0 +1,60 @@
+-- What the phases leave is a table of what the file denotes.
+use Rattle.std.proofs.Common.{◌≡◌, ℕ, arith, List, [], ◌∷◌, ◌++◌, map, refl, sym, ap, ◌∙◌}
+use Rattle.std.specs.List.{AllZip, concat}
+use Rattle.bpf_words.specs.declared.Order.{Order}
+use Rattle.btf_raw.specs.declared.header.Header.{Header}
+use Rattle.btf_raw.specs.Frames.{bytes_of, section_of}
+use Rattle.btf_types.specs.declared.error.BtfError.{BtfError}
+use Rattle.btf_types.specs.declared.error.BtfError.TheVariants as errors
+use Rattle.btf_types.specs.Values.{TypeRecord}
+use Rattle.btf_types.specs.Spelling.{Spells, IsRecord}
+use Rattle.btf_types.specs.Denotes.{Denotes}
+use Rattle.btf_types.specs.Reading.{frames_at, records_at}
+use Rattle.btf_types.specs.tables.TableInvariant.{FieldsAreRight, IsTable}
+use Rattle.btf_types.specs.tables.Tables.{Fails, FailsFrames, FailsFileFields}
+use Rattle.btf_types.specs.judge.Phases.{HasFrames, types_of, strings_of}
+use Rattle.btf_types.proofs.JudgeLemmas.Firsts.{first_of_frames, first_of_fields}
+
+pub concat-map : (o : Order) (frames : List (List ℕ)) → concat (map (bytes_of o) frames) ≡ section_of o frames
+concat-map o [] = refl
+concat-map o (f ∷ frames) = ap (λ (t : List ℕ). bytes_of o f ++ t) (concat-map o frames)
+
+pub spelled_bytes : (o : Order) (strings : List ℕ) (v : List TypeRecord) (frames : List (List ℕ)) → AllZip (Spells strings) v frames → AllZip (IsRecord o strings) v (map (bytes_of o) frames)
+spelled_bytes o strings [] [] s = tt
+spelled_bytes o strings [] (f ∷ frames) s = absurd s
+spelled_bytes o strings (r ∷ v) [] s = absurd s
+spelled_bytes o strings (r ∷ v) (f ∷ frames) s = ((f, s.0, refl), spelled_bytes o strings v frames s.1)
+
+pub table_denotes : (b : List ℕ) (h : Header) (places : List ℕ) → HasFrames b h places → FieldsAreRight h.order (types_of b h) (strings_of b h) places → Denotes b (records_at h.order (types_of b h) (strings_of b h) places)
+table_denotes b h places has right =
+    let frames = frames_at h.order (types_of b h) places in
+    record {
+      order = h.order;
+      types = types_of b h;
+      strings = strings_of b h;
+      spellings = map (bytes_of h.order) frames;
+      cut = has.before.header.reads.cut;
+      nul_ends = has.before.ends;
+      spelled = spelled_bytes h.order (strings_of b h) (records_at h.order (types_of b h) (strings_of b h) places) frames right.spelled;
+      whole = has.framed.frames.whole ∙ sym (concat-map h.order frames);
+      good = right.good;
+    }
+
+pub fails_frames : (b : List ℕ) (e : BtfError) → FailsFrames b e → Fails b e
+fails_frames b (errors.Fault fault) least = first_of_frames b fault.pos fault.cause least
+fails_frames b errors.Memory least = tt
+
+pub fails_fields : (b : List ℕ) (e : BtfError) → FailsFileFields b e → Fails b e
+fails_fields b (errors.Fault fault) least = first_of_fields b fault.pos fault.cause least
+fails_fields b errors.Memory least = tt
+
+pub is_table : (b : List ℕ) (h : Header) (places : List ℕ) → HasFrames b h places → FieldsAreRight h.order (types_of b h) (strings_of b h) places → IsTable h.order (types_of b h) (strings_of b h) places
+is_table b h places has right = record {
+  few = omega (arith, has.framed.count, has.before.header.reads.cut.types_fit);
+  short = has.before.header.reads.cut.strings_fit;
+  ends = has.before.ends;
+  framed = has.framed;
+  none = right.none;
+  spelled = right.spelled;
+  good = right.good;
+}
