@@ -23,7 +23,7 @@ use byteorder::{BigEndian, ByteOrder, LittleEndian};
 use std::alloc::{AllocError, Allocator};
 
 // Whether the items of a record of this kind have names.
-#[tactic(auto, unfolding(btf_types::specs::Checks::has_item_names))]
+#[tactic(auto, unfolding(btf_types::specs::judge::Checks::has_item_names))]
 pub(crate) fn has_item_names(kind: u8) -> bool
     ensures { result ≡ checks.has_item_names kind }
 {

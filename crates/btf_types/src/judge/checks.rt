@@ -13,7 +13,7 @@ use btf_raw::{
 };
 
 /// Whether a record of this kind has a name that isn't empty.
-#[tactic(auto, unfolding(crate::specs::Checks::needs_name))]
+#[tactic(auto, unfolding(crate::specs::judge::Checks::needs_name))]
 pub fn needs_name(kind: u8) -> bool
     ensures { result ≡ spec.needs_name kind }
 {
@@ -24,7 +24,7 @@ pub fn needs_name(kind: u8) -> bool
 }
 
 /// Whether a record of this kind has an empty name.
-#[tactic(auto, unfolding(crate::specs::Checks::has_no_name))]
+#[tactic(auto, unfolding(crate::specs::judge::Checks::has_no_name))]
 pub fn has_no_name(kind: u8) -> bool
     ensures { result ≡ spec.has_no_name kind }
 {
@@ -32,7 +32,7 @@ pub fn has_no_name(kind: u8) -> bool
 }
 
 /// Whether the third word is a type.
-#[tactic(auto, unfolding(crate::specs::Checks::has_target))]
+#[tactic(auto, unfolding(crate::specs::judge::Checks::has_target))]
 pub fn has_target(kind: u8) -> bool
     ensures { result ≡ spec.has_target kind }
 {
@@ -49,7 +49,7 @@ pub fn is_struct(kind: u8) -> bool
     matches!(kind, STRUCT | UNION)
 }
 
-#[tactic(auto, unfolding(crate::specs::Checks::has_item_names))]
+#[tactic(auto, unfolding(crate::specs::judge::Checks::has_item_names))]
 pub fn has_item_names(kind: u8) -> bool
     ensures { result ≡ spec.has_item_names kind }
 {
@@ -57,7 +57,7 @@ pub fn has_item_names(kind: u8) -> bool
 }
 
 /// Whether an ENUM or ENUM64 with so many values, or a FLOAT, may have this size in bytes.
-#[tactic(auto, unfolding(crate::specs::Checks::size_fits))]
+#[tactic(auto, unfolding(crate::specs::judge::Checks::size_fits))]
 pub fn size_fits(kind: u8, size: u32, count: u16) -> bool
     ensures { result ≡ spec.size_fits kind size count }
 {
@@ -69,7 +69,7 @@ pub fn size_fits(kind: u8, size: u32, count: u16) -> bool
 }
 
 /// Whether a record of this kind may name a type of the target's kind.
-#[tactic(auto, unfolding(crate::specs::Checks::target_fits))]
+#[tactic(auto, unfolding(crate::specs::judge::Checks::target_fits))]
 pub fn target_fits(kind: u8, target: u8) -> bool
     ensures { result ≡ spec.target_fits kind target }
 {
@@ -93,7 +93,7 @@ pub fn second_fault(kind: u8, vlen: u16) -> Option<BtfCause>
 }
 
 /// Whether an INT of this size in bytes may have so many bits.
-#[tactic(auto, unfolding(crate::specs::Checks::bits_fit))]
+#[tactic(auto, unfolding(crate::specs::judge::Checks::bits_fit))]
 fn bits_fit(size: u32, bits: u32) -> bool
     ensures { result ≡ spec.bits_fit size bits }
 {
@@ -101,7 +101,7 @@ fn bits_fit(size: u32, bits: u32) -> bool
 }
 
 /// Whether an INT's offset and bits are those of a bit-field's type.
-#[tactic(auto, unfolding(crate::specs::Checks::is_plain_int))]
+#[tactic(auto, unfolding(crate::specs::judge::Checks::is_plain_int))]
 pub fn is_plain_int(offset: u8, bits: u8) -> bool
     ensures { result ≡ spec.is_plain_int offset bits }
 {
@@ -109,7 +109,7 @@ pub fn is_plain_int(offset: u8, bits: u8) -> bool
 }
 
 /// Whether a member's bits, rounded up to bytes, lie within a record of this size.
-#[tactic(auto, unfolding(crate::specs::Checks::member_fits))]
+#[tactic(auto, unfolding(crate::specs::judge::Checks::member_fits))]
 fn member_fits(bit_offset: u32, width: u8, size: u32) -> bool
     ensures { result ≡ spec.member_fits bit_offset width size }
 {

@@ -14,7 +14,7 @@ use btf_raw::{
 };
 
 /// Whether a type is of a kind that a record of this kind may name.
-#[tactic(auto, unfolding(crate::specs::Checks::target_fits))]
+#[tactic(auto, unfolding(crate::specs::judge::Checks::target_fits))]
 fn named_kind_fits(section: &Section, kind: u8, target: u32) -> bool
     requires { IsSection section.now }
     ensures { result ≡ spec.target_fits kind (type_at (facts_in section.now) target).kind }
@@ -61,7 +61,7 @@ pub fn named_type_fault(section: &Section, kind: u8, target: u32) -> Option<BtfC
 }
 
 /// Whether a type may be that of a member beside bit-fields: no INT, or one with offset 0 and 8, 16, 32, 64 or 128 bits.
-#[tactic(auto, unfolding(crate::specs::Checks::member_int_fits))]
+#[tactic(auto, unfolding(crate::specs::judge::Checks::member_int_fits))]
 fn member_int_fits(section: &Section, target: u32) -> bool
     requires { IsSection section.now }
     ensures { result ≡ spec.member_int_fits (facts_in section.now) target }
@@ -86,7 +86,7 @@ pub fn member_type_fault(section: &Section, bit_fields: bool, target: u32) -> Op
 }
 
 /// Whether a type has this component: a member of a STRUCT or UNION, or a parameter of a FUNC's FUNC_PROTO.
-#[tactic(auto, unfolding(crate::specs::Checks::component_fits))]
+#[tactic(auto, unfolding(crate::specs::judge::Checks::component_fits))]
 fn component_fits(section: &Section, target: u32, component: u32) -> bool
     requires { IsSection section.now }
     ensures { result ≡ spec.component_fits (facts_in section.now) target component }
