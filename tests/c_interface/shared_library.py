@@ -2,6 +2,7 @@
 
 import ctypes
 import pathlib
+import re
 import sys
 
 
@@ -23,6 +24,9 @@ def load(path):
     library.bpfcanon_insn_same.argtypes = [ctypes.c_uint32, *bytes_and_length] * 2
     library.bpfcanon_insn_show.restype = Answer
     library.bpfcanon_insn_show.argtypes = [ctypes.c_uint32, *bytes_and_length, *bytes_and_length]
+    for names in (library.bpfcanon_insn_cause, library.bpfcanon_btf_cause, library.bpfcanon_line_cause):
+        names.restype = ctypes.c_char_p
+        names.argtypes = [ctypes.c_uint32]
     library.bpfcanon_btf_show.restype = Answer
     library.bpfcanon_btf_show.argtypes = [*bytes_and_length, *bytes_and_length]
     return library
@@ -50,8 +54,17 @@ def types_shown(library, file):
     return (needed.status, answer.status), room.raw[: answer.len]
 
 
+def has_names_of(call, source, enum):
+    """Whether a call gives the name of each variant of an enum at its number, and no name at the numbers around them."""
+    body = re.search(rf"pub enum {enum} \{{(.*?)\n\}}", source.read_text(), re.DOTALL)[1]
+    names = {int(number): name for name, number in re.findall(r"^    (\w+) = (\d+),$", body, re.MULTILINE)}
+    given = {number: call(number) for number in range(len(names) + 2)}
+    return given == {number: names[number].encode() if number in names else None for number in given}
+
+
 def main():
     library, testdata = load(sys.argv[1]), pathlib.Path(sys.argv[2])
+    crates = testdata.parent / "crates"
     little = (testdata / "flow_table.little.btf").read_bytes()
     big = (testdata / "flow_table.big.btf").read_bytes()
     mov, mov_big = b"\xbf\x21\0\0\0\0\0\0", b"\xbf\x12\0\0\0\0\0\0"
@@ -64,6 +77,9 @@ def main():
         shown(library, mov) == ((5, 0), b"mov r1, r2\n"),
         types_shown(library, little)[0] == (5, 0),
         types_shown(library, little) == types_shown(library, big),
+        has_names_of(library.bpfcanon_insn_cause, crates / "bpf_insn/src/fault.rt", "SlotCause"),
+        has_names_of(library.bpfcanon_btf_cause, crates / "btf_raw/src/cause.rt", "BtfCause"),
+        has_names_of(library.bpfcanon_line_cause, crates / "bpf_text/src/fault.rt", "LineCause"),
     ]
     print(f"C interface from Python: {len(checks)} checks, {checks.count(False)} failed")
     sys.exit(not all(checks))
