@@ -1,0 +1,83 @@
+/*
+ * Canonical bytes by calls of the C interface: of BTF and of instructions as a whole, and of instructions in pieces of 1 MiB.
+ *
+ * usage: canon_calls btf little|big < file > file
+ *        canon_calls insn|front little|big little|big < program > program
+ *
+ * btf calls bpfcanon_btf_canon, insn bpfcanon_insn_canon, and front bpfcanon_insn_front once for each piece.
+ */
+#include "reference/whole_io.h"
+
+#include <bpfcanon.h>
+
+static uint32_t order_of(const char *word)
+{
+	return strcmp(word, "big") ? BPFCANON_LITTLE : BPFCANON_BIG;
+}
+
+/* Calls for a whole file, whose order BTF states itself. */
+static int write_file(int is_btf, uint32_t order, uint32_t to)
+{
+	size_t len;
+	uint8_t *bytes = read_whole(&len), *out = malloc(len + 1);
+	bpfcanon_answer answer;
+
+	if (!out)
+		return 3;
+	if (is_btf)
+		answer = bpfcanon_btf_canon(to, bytes, len, out, len);
+	else
+		answer = bpfcanon_insn_canon(order, to, bytes, len, out, len);
+	if (answer.status == BPFCANON_FAULT)
+		refuse(is_btf ? bpfcanon_btf_cause(answer.cause) : bpfcanon_insn_cause(answer.cause), answer.pos);
+	if (answer.status != BPFCANON_DONE)
+		return 3;
+	write_whole(out, answer.len);
+	return 0;
+}
+
+#define PIECE (1 << 20)
+static uint8_t piece[PIECE], room[PIECE];
+
+/* Calls for each piece, with what was not read of the one before it in front. */
+static int write_pieces(uint32_t order, uint32_t to)
+{
+	size_t held = 0;
+	uint64_t done = 0;
+	bpfcanon_answer rest;
+
+	for (;;) {
+		ssize_t n = read(0, piece + held, PIECE - held);
+		bpfcanon_front front;
+
+		if (n < 0)
+			return 3;
+		if (n == 0)
+			break;
+		held += n;
+		front = bpfcanon_insn_front(order, to, piece, held, room, PIECE);
+		if (front.status != BPFCANON_DONE && front.status != BPFCANON_FAULT)
+			return 3;
+		write_whole(room, front.written);
+		if (front.status == BPFCANON_FAULT)
+			refuse(bpfcanon_insn_cause(front.cause), done + front.pos);
+		done += front.read;
+		held -= front.read;
+		memmove(piece, piece + front.read, held);
+	}
+	rest = bpfcanon_insn_canon(order, to, piece, held, room, PIECE);
+	if (rest.status == BPFCANON_FAULT)
+		refuse(bpfcanon_insn_cause(rest.cause), done + rest.pos);
+	return rest.status == BPFCANON_DONE ? 0 : 3;
+}
+
+int main(int argc, char **argv)
+{
+	if (argc == 3 && !strcmp(argv[1], "btf"))
+		return write_file(1, BPFCANON_LITTLE, order_of(argv[2]));
+	if (argc == 4 && !strcmp(argv[1], "insn"))
+		return write_file(0, order_of(argv[2]), order_of(argv[3]));
+	if (argc == 4 && !strcmp(argv[1], "front"))
+		return write_pieces(order_of(argv[2]), order_of(argv[3]));
+	return 2;
+}
