@@ -4,7 +4,9 @@ pub mod BtfTextLemmas
 pub mod CanonLemmas
 pub mod CommandLemmas
 pub mod LineLemmas
+pub mod ListingPieces
 pub mod OptionsLemmas
 pub mod OutcomeLemmas
+pub mod PiecesLemmas
 pub mod QuotedNameLemmas
 pub mod SameLemmas

@@ -7,3 +7,4 @@ pub mod BtfText
 pub mod BtfReply
 pub mod Reply
 pub mod Ends
+pub mod Pieces
