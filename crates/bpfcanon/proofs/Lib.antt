@@ -3,6 +3,8 @@ pub mod BtfSameLemmas
 pub mod CanonLemmas
 pub mod CommandLemmas
 pub mod LineLemmas
+pub mod ListingPieces
 pub mod OptionsLemmas
 pub mod OutcomeLemmas
+pub mod PiecesLemmas
 pub mod SameLemmas

@@ -6,7 +6,7 @@ use Rattle.bpfcanon.specs.declared.command_line.Job.{Job}
 use Rattle.bpfcanon.specs.declared.outcome.Outcome.{Outcome}
 use Rattle.bpfcanon.specs.declared.outcome.Outcome.TheVariants.{Usage, ReadFailed, WriteFailed, Memory}
 use Rattle.bpfcanon.specs.Line.{Asks, IsRefused}
-use Rattle.bpfcanon.specs.Reply.{IsEarly, IsReply, limit_of, streams}
+use Rattle.bpfcanon.specs.Reply.{IsEarly, IsReply, in_pieces, limit_of, streams}
 
 -- what a device has before and after: the bytes that it tells, and how often it failed
 pub record Change : Type 0 where
@@ -66,6 +66,10 @@ pub data EndsJob (j : Job) (source sink : Change) : Outcome → Type 0 where
   -- memory was refused before anything was written
   no_memory : (input : List ℕ) → streams j.verb ≡ false → IsHealthy source → IsUnused sink
       → Consumes source.old source.new input → EndsJob j source sink Memory
+  -- memory was refused once the first n bytes of the output were taken
+  no_memory_in_pieces : (input : List ℕ) (outcome : Outcome) (output : List ℕ) (n : ℕ) → in_pieces j.verb ≡ true → IsHealthy source → IsHealthy sink
+      → Consumes source.old source.new input → IsRead j source input → IsReply j.verb j input outcome output
+      → Appends sink.old sink.new (take n output) → EndsJob j source sink Memory
   no_memory_amid : (input : List ℕ) → streams j.verb ≡ true → IsHealthy source → IsHealthy sink
       → Consumes source.old source.new input → TookPrefix j sink input → EndsJob j source sink Memory
 

@@ -6,3 +6,4 @@ pub mod Outcome
 pub mod BtfReply
 pub mod Reply
 pub mod Ends
+pub mod Pieces

@@ -40,6 +40,11 @@ abbrev pub streams : Verb → Bool
 streams InsnCanon = true
 streams _ = false
 
+-- whether a command writes its output in pieces, once it has read its input whole and found no fault
+abbrev pub in_pieces : Verb → Bool
+in_pieces InsnShow = true
+in_pieces _ = false
+
 -- whether an engine runs a command from its source to its sink
 abbrev pub has_engine : Verb → Bool
 has_engine InsnCanon = true

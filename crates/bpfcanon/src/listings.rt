@@ -1,34 +1,15 @@
-//! The commands `insn-show` and `insn-read`.
+//! The command `insn-read`.
 
 ghost use Rattle.std.specs.Prelude.{◌≤◌, length, IfOk};
-ghost use Rattle.bpfcanon.specs.declared.verb.Verb.TheVariants.{InsnRead, InsnShow};
-ghost use Rattle.bpfcanon.specs.Reply.{IsReadReply, IsShowReply, limit_of};
+ghost use Rattle.bpfcanon.specs.declared.verb.Verb.TheVariants.{InsnRead};
+ghost use Rattle.bpfcanon.specs.Reply.{IsReadReply, limit_of};
 
 use crate::outcome::Outcome;
 use crate::reply::Reply;
 use bpf_canon::write_insns;
-use bpf_insn::{InsnError, Order, decode_insns};
-use bpf_text::{ListError, listing, read_listing};
+use bpf_insn::Order;
+use bpf_text::{ListError, read_listing};
 use std::alloc::{AllocError, Allocator};
-
-/// The listing of the instructions of a file.
-pub fn show_reply<A: Allocator + Copy>(
-    alloc: A,
-    order: Order,
-    input: &[u8],
-) -> Result<Reply<A>, AllocError>
-    requires { length input.now ≤ limit_of InsnShow }
-    ensures { IfOk result (λ r. IsShowReply (limit_of InsnShow) order input.now r.outcome r.output.items) }
-{
-    match decode_insns(alloc, order, input) {
-        Ok(insns) => Ok(Reply {
-            outcome: Outcome::Done,
-            output: listing(alloc, insns.as_slice())?,
-        }),
-        Err(InsnError::Fault(fault)) => Ok(Reply::bare(alloc, Outcome::Fault(fault))),
-        Err(InsnError::Memory) => Err(AllocError),
-    }
-}
 
 /// The instructions that a text lists, in the order `to`.
 pub fn read_reply<A: Allocator + Copy>(

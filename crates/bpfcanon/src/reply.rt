@@ -1,14 +1,14 @@
-//! What a command answers that reads its input whole.
+//! What a command answers that reads its input whole and writes its output whole.
 
 ghost use Rattle.std.specs.Prelude.{◌≡◌, ◌≤◌, [], false, length, IfOk};
-ghost use Rattle.bpfcanon.specs.Reply.{IsReply, has_engine, limit_of};
+ghost use Rattle.bpfcanon.specs.Reply.{IsReply, has_engine, in_pieces, limit_of};
 
 use crate::btf_check::check_reply;
 use crate::btf_listing::btf_show_reply;
 use crate::btf_same::btf_same_reply;
 use crate::command_line::Job;
 use crate::groups::groups_reply;
-use crate::listings::{read_reply, show_reply};
+use crate::listings::read_reply;
 use crate::outcome::Outcome;
 use crate::same::same_reply;
 use crate::verb::Verb;
@@ -47,19 +47,19 @@ impl<A: Allocator> Reply<A> {
     }
 }
 
-/// The reply of a command that no engine runs to its whole input.
+/// The reply to its whole input of a command that no engine runs and that doesn't write in pieces.
 pub fn reply_to<A: Allocator + Copy>(
     alloc: A,
     job: Job,
     input: &[u8],
 ) -> Result<Reply<A>, AllocError>
     requires whole { has_engine job.verb ≡ false }
+    requires once { in_pieces job.verb ≡ false }
     requires within { length input.now ≤ limit_of job.verb }
     ensures { IfOk result (λ r. IsReply job.verb job input.now r.outcome r.output.items) }
 {
     match job.verb {
-        Verb::InsnCanon | Verb::BtfCanon => unreachable!(),
-        Verb::InsnShow => show_reply(alloc, job.order, input),
+        Verb::InsnCanon | Verb::InsnShow | Verb::BtfCanon => unreachable!(),
         Verb::InsnRead => read_reply(alloc, job.to, input),
         Verb::InsnGroups => groups_reply(alloc, job.order, input),
         Verb::InsnSame => same_reply(alloc, job, input),

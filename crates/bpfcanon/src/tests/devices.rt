@@ -2,6 +2,7 @@
 
 use super::btf_files::{BIG_INT, INT, NO_TYPES, STRUCT};
 use super::running::{Pace, run, steady};
+use std::alloc::{AllocError, Global};
 use std::test::Fail;
 
 /// A command line that succeeds, its input and its output.
@@ -148,6 +149,86 @@ fn each_write_fails(rt: HostRuntime) -> Result<(), Fail> {
             );
         }
     }
+    Ok(())
+}
+
+/// So many lines `exit`, and the instructions that they list.
+fn exits(alloc: Global, count: usize) -> Result<(Vec<u8>, Vec<u8>), AllocError> {
+    let mut insns = Vec::new(alloc);
+    let mut lines = Vec::new(alloc);
+    for _ in 0..count {
+        insns.extend_from_slice(b"\x95\0\0\0\0\0\0\0")?;
+        lines.extend_from_slice(b"exit\n")?;
+    }
+    Ok((insns, lines))
+}
+
+// A listing of 15,000 bytes goes in two pieces: 1,639 lines are the first 8,192 bytes or more.
+#[test]
+fn each_piece_fails(rt: HostRuntime) -> Result<(), Fail> {
+    let (insns, lines) = exits(rt.alloc(), 3000)?;
+    // how many bytes go at a time, and how many have gone when the write of this number fails
+    let cases: [(usize, u64, usize); 12] = [
+        (1000, 1, 0),
+        (1000, 2, 1000),
+        (1000, 9, 8000),
+        (1000, 10, 8195),
+        (1000, 11, 9195),
+        (1000, 16, 14_195),
+        (1, 1, 0),
+        (1, 8195, 8194),
+        (1, 8196, 8195),
+        (1, 8197, 8196),
+        (1, 15_000, 14_999),
+        (4096, 4, 8195),
+    ];
+    for (piece, fuse, taken) in cases {
+        let pace = Pace {
+            write_fuse: Some(fuse),
+            ..steady(piece)
+        };
+        let ran = run(rt.alloc(), "insn-show", &insns, pace)?;
+        assert_eq!(rt; ran.status, 3, "{piece} at a time, write {fuse}");
+        assert_eq!(rt;
+            ran.faults.as_slice(),
+            b"write failed\n".as_slice(),
+            "{piece} at a time, write {fuse}"
+        );
+        assert_eq!(rt; ran.output.len(), taken, "{piece} at a time, write {fuse}");
+        assert!(rt;
+            lines.starts_with(&ran.output),
+            "{piece} at a time, write {fuse}"
+        );
+    }
+    Ok(())
+}
+
+// The last write is the 16th by 1,000 bytes, and the 15,000th by one.
+#[test]
+fn pieces_join_to_the_listing(rt: HostRuntime) -> Result<(), Fail> {
+    let (insns, lines) = exits(rt.alloc(), 3000)?;
+    for (piece, fuse) in [(1000, 17), (1, 15_001), (4096, 6)] {
+        let pace = Pace {
+            write_fuse: Some(fuse),
+            ..steady(piece)
+        };
+        let ran = run(rt.alloc(), "insn-show", &insns, pace)?;
+        assert_eq!(rt; ran.status, 0, "{piece} at a time");
+        assert_eq!(rt; ran.output, lines, "{piece} at a time");
+        assert!(rt; ran.faults.is_empty(), "{piece} at a time");
+    }
+    Ok(())
+}
+
+// The fault is in the last of many instructions, whose listing would be longer than a piece.
+#[test]
+fn nothing_is_written_before_the_whole_input_is_judged(rt: HostRuntime) -> Result<(), Fail> {
+    let (mut insns, _) = exits(rt.alloc(), 3000)?;
+    insns.extend_from_slice(b"\x04\x10\0\0\x05\0\0\0")?;
+    let ran = run(rt.alloc(), "insn-show", &insns, steady(4096))?;
+    assert_eq!(rt; ran.status, 1);
+    assert!(rt; ran.output.is_empty());
+    assert_eq!(rt; ran.faults.as_slice(), b"fault 24001 Src\n".as_slice());
     Ok(())
 }
 

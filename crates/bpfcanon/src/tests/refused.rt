@@ -1,6 +1,6 @@
 //! Each growth is refused in turn, to every command: an arena has room for ever one byte more.
 
-use super::arena::{MOST_ROOM, arena};
+use super::arena::{MOST_ROOM, arena, arena_of};
 use super::btf_files::{BIG_ENUM, BIG_INT, INT, STRUCT, UNKNOWN_TYPE};
 use crate::command::run_job;
 use crate::command_line::Job;
@@ -74,7 +74,7 @@ fn refusals(rt: &impl Abort, alloc: Global, sample: Sample<'_>) -> Result<usize,
             );
             return Ok(room);
         }
-        // Only a command that writes as it reads has written something.
+        // Only a command that writes as it reads has written something: the others' outputs are shorter than a piece.
         let is_written = verb == Verb::InsnCanon && sample.output.starts_with(&output);
         assert!(rt;
             output.is_empty() || is_written,
@@ -172,6 +172,44 @@ fn of_faulty_instructions(rt: HostRuntime) -> Result<(), Fail> {
         refuse_each(&rt, rt.alloc(), sample)?;
     }
     Ok(())
+}
+
+/// How much room the arena of a listing in pieces has at most, in bytes.
+const LISTING_ROOM: usize = 160_000;
+
+// The first piece is 1,024 lines of 8 bytes, for which the vector grows to 8,192 bytes; the second is 8,195 bytes long.
+#[test]
+fn between_pieces(rt: HostRuntime) -> Result<(), Fail> {
+    let mut insns = Vec::new(rt.alloc());
+    let mut lines = Vec::new(rt.alloc());
+    for _ in 0..1024 {
+        insns.extend_from_slice(b"\x87\x0a\0\0\0\0\0\0")?;
+        lines.extend_from_slice(b"neg r10\n")?;
+    }
+    for _ in 0..1639 {
+        insns.extend_from_slice(b"\x95\0\0\0\0\0\0\0")?;
+        lines.extend_from_slice(b"exit\n")?;
+    }
+    let mut refused_after_a_piece = 0;
+    for room in (0..LISTING_ROOM).step_by(512) {
+        let bump = arena_of(rt.alloc(), LISTING_ROOM, room)?;
+        let mut output = Vec::new(rt.alloc());
+        let mut source = MemSource::new(&insns, 4096, None);
+        let mut sink = MemSink::new(&mut output, 4096, None);
+        let outcome = run_job(&bump, job(Verb::InsnShow, 0), &mut source, &mut sink);
+        if outcome == Outcome::Done {
+            assert_eq!(rt; output, lines, "{room} bytes");
+            assert!(rt; refused_after_a_piece > 0);
+            return Ok(());
+        }
+        assert_eq!(rt; outcome, Outcome::Memory, "{room} bytes");
+        assert!(rt; output.is_empty() || output.len() == 8192, "{room} bytes");
+        assert!(rt; lines.starts_with(&output), "{room} bytes");
+        if !output.is_empty() {
+            refused_after_a_piece = 1;
+        }
+    }
+    Err("never enough room")?
 }
 
 /// A BTF file of 24 TYPEDEFs of void with the names `a` to `x`, in canonical form.

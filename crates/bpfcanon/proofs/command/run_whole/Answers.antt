@@ -1,7 +1,12 @@
-use Rattle.std.proofs.Common.{◌∙◌, add-zero, inl, inr, refl}
-use Rattle.bpfcanon.specs.Ends.{no_memory, read_failed, replied, write_failed}
-use Rattle.bpfcanon.proofs.CommandLemmas.{ends_too_long, whole_input}
+use Rattle.std.proofs.Common.{◌∙◌, add-zero, refl}
+use Rattle.bpfcanon.specs.Ends.{no_memory, read_failed}
+use Rattle.bpfcanon.proofs.CommandLemmas.{ends_answered, ends_too_long, whole_input}
 use Rattle.bpfcanon.proofs.command.run_whole.Goals as goal
+
+pub returns-in-Ok : goal.returns-in-Ok
+returns-in-Ok g c =
+    let reply = rw c.as_slice.ensures.value at c.answer.ensures in
+    ends_answered c.args.job _ _ c.in-Ok.input.items c.answer.result c.requires.whole c.in-Ok.ensures.came c.in-Ok.ensures.end c.in-Ok.ensures.healthy reply
 
 pub returns-in-Err-TooLong : goal.returns-in-Err-TooLong
 returns-in-Err-TooLong g c =
@@ -20,22 +25,3 @@ returns-in-Err-Memory g c =
     let healthy = rw c.in-Err-Memory.field-0-is at c.in-Err-Memory.ensures.count in
     let came = c.in-Err-Memory.ensures.amid in
     no_memory came.0 (whole_input _ c.requires.whole) (healthy ∙ add-zero _) (refl, refl) came.1.0
-
-pub returns-in-Err : goal.returns-in-Err
-returns-in-Err g c =
-    no_memory c.in-Ok.input.items (whole_input _ c.requires.whole) c.in-Ok.ensures.healthy (refl, refl) c.in-Ok.ensures.came
-
-pub returns-in-Ok-put_all : goal.returns-in-Ok-put_all
-returns-in-Ok-put_all g c =
-    let reply = rw c.as_slice.ensures.value at c.in-Ok-reply_to.ensures in
-    let took = rw c.as_slice-2.ensures.value at c.in-Ok-put_all.ensures.ok in
-    replied c.in-Ok.input.items c.in-Ok-reply_to.reply.outcome c.in-Ok-reply_to.reply.output.items
-    c.in-Ok.ensures.healthy c.in-Ok-put_all.ensures.count c.in-Ok.ensures.came (inr (inl c.in-Ok.ensures.end)) reply took
-
-pub returns : goal.returns
-returns g c =
-    let reply = rw c.as_slice.ensures.value at c.in-Ok-reply_to.ensures in
-    let took = rw c.as_slice-2.ensures.value at c.in-Err-put_all.ensures.taken in
-    write_failed c.in-Ok.input.items c.in-Ok-reply_to.reply.outcome c.in-Ok-reply_to.reply.output.items c.in-Err-put_all.field-0
-    (whole_input _ c.requires.whole) c.in-Ok.ensures.healthy c.in-Err-put_all.ensures.count c.in-Ok.ensures.came (inr (inl c.in-Ok.ensures.end))
-    reply took.0 took.1
