@@ -1,7 +1,6 @@
 pub mod Verbs
 pub mod Options
 pub mod Line
-pub mod CauseNames
 pub mod Outcome
 pub mod BtfReply
 pub mod Reply

@@ -7,7 +7,9 @@ use Rattle.btf_raw.specs.declared.cause.BtfFault.{BtfFault}
 use Rattle.bpfcanon.specs.declared.outcome.Outcome.{Outcome}
 use Rattle.bpfcanon.specs.declared.outcome.Outcome.TheVariants as ends
 use Rattle.bpfcanon.specs.declared.outcome.Outcome.TheVariants.{Done, Different, Fault, FaultyLine, First, Second, FirstBtf, SecondBtf, TooLong, SplitBeyond, Usage, ReadFailed, WriteFailed, Memory}
-use Rattle.bpfcanon.specs.CauseNames.{btf_cause_name, cause_name, line_cause_name}
+use Rattle.bpf_insn.specs.CauseNames.{cause_name}
+use Rattle.bpf_text.specs.LineCauseNames.{line_cause_name}
+use Rattle.btf_raw.specs.BtfCauseNames.{btf_cause_name}
 
 -- the status with which the program ends
 abbrev pub status_of : Outcome → ℕ

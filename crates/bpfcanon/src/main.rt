@@ -8,7 +8,6 @@ ghost use Rattle.bpfcanon.specs.Ends.{Ends, change};
 ghost use Rattle.bpfcanon.specs.Outcome.{Tells, line_of, newline, status_of};
 
 mod btf_canon_job;
-mod btf_cause;
 mod btf_check;
 mod btf_listing;
 mod btf_same;

@@ -2,13 +2,11 @@
 
 ghost use Rattle.std.specs.Prelude.{◌≡◌, ◌<◌};
 ghost use Rattle.std.specs.List.{flat_map};
-ghost use Rattle.bpfcanon.specs.CauseNames.{cause_name, line_cause_name};
 ghost use Rattle.bpfcanon.specs.Outcome.{Tells, btf_fault_line, fault_line, faulty_line, line_of, slot_fault_line, status_of};
 
-use crate::btf_cause::btf_cause_name;
 use bpf_canon::{ByteSink, put_all};
-use bpf_insn::{SlotCause, SlotFault};
-use bpf_text::{LineCause, LineFault};
+use bpf_insn::SlotFault;
+use bpf_text::LineFault;
 use btf_raw::BtfFault;
 use itoa::Buffer;
 
@@ -70,22 +68,6 @@ impl Outcome {
     }
 }
 
-/// The name of a cause.
-fn cause_name(cause: SlotCause) -> &'static [u8]
-    ensures { result.now ≡ cause_name cause }
-{
-    match cause {
-        SlotCause::Truncated => b"Truncated",
-        SlotCause::Opcode => b"Opcode",
-        SlotCause::Dst => b"Dst",
-        SlotCause::Src => b"Src",
-        SlotCause::Offset => b"Offset",
-        SlotCause::Imm => b"Imm",
-        SlotCause::Reserved => b"Reserved",
-        SlotCause::NextImm => b"NextImm",
-    }
-}
-
 /// Writes parts one after the other, until a write fails.
 fn put_parts<E: ByteSink>(faults: &mut E, parts: &[&[u8]])
     requires { E.failures faults.old < u64.MAX }
@@ -121,26 +103,14 @@ fn put_slot_fault<E: ByteSink>(faults: &mut E, file: &'static [u8], fault: SlotF
     requires { E.failures faults.old < u64.MAX }
     ensures { Tells (E.contents faults.old) (E.contents faults.new) (E.failures faults.old) (E.failures faults.new) (slot_fault_line file.now fault) }
 {
-    put_fault(faults, file, fault.pos, cause_name(fault.cause));
+    put_fault(faults, file, fault.pos, fault.cause.name().as_bytes());
 }
 
 fn put_btf_fault<E: ByteSink>(faults: &mut E, file: &'static [u8], fault: BtfFault)
     requires { E.failures faults.old < u64.MAX }
     ensures { Tells (E.contents faults.old) (E.contents faults.new) (E.failures faults.old) (E.failures faults.new) (btf_fault_line file.now fault) }
 {
-    put_fault(faults, file, fault.pos, btf_cause_name(fault.cause));
-}
-
-/// The name of a cause of a listing's fault.
-fn line_cause_name(cause: LineCause) -> &'static [u8]
-    ensures { result.now ≡ line_cause_name cause }
-{
-    match cause {
-        LineCause::Char => b"Char",
-        LineCause::Word => b"Word",
-        LineCause::Shape => b"Shape",
-        LineCause::Range => b"Range",
-    }
+    put_fault(faults, file, fault.pos, fault.cause.name().as_bytes());
 }
 
 /// Writes the line of a listing's fault.
@@ -154,7 +124,7 @@ fn put_faulty_line<E: ByteSink>(faults: &mut E, fault: LineFault)
         b"fault line ",
         line,
         b" ",
-        line_cause_name(fault.cause),
+        fault.cause.name().as_bytes(),
         b"\n",
     ];
     put_parts(faults, parts.as_slice());

@@ -1,27 +1,7 @@
--- The names of the causes, as the program tells them.
+-- The names of the causes of BTF faults.
 use Rattle.std.specs.Prelude.{ℕ, List, codes}
-use Rattle.bpf_insn.specs.declared.fault.SlotCause.{SlotCause}
-use Rattle.bpf_insn.specs.declared.fault.SlotCause.TheVariants as cause
-use Rattle.bpf_text.specs.declared.fault.LineCause.{LineCause}
-use Rattle.bpf_text.specs.declared.fault.LineCause.TheVariants as line_cause
 use Rattle.btf_raw.specs.declared.cause.BtfCause.{BtfCause}
 use Rattle.btf_raw.specs.declared.cause.BtfCause.TheVariants as btf_cause
-
-abbrev pub cause_name : SlotCause → List ℕ
-cause_name cause.Truncated = codes "Truncated"
-cause_name cause.Opcode = codes "Opcode"
-cause_name cause.Dst = codes "Dst"
-cause_name cause.Src = codes "Src"
-cause_name cause.Offset = codes "Offset"
-cause_name cause.Imm = codes "Imm"
-cause_name cause.Reserved = codes "Reserved"
-cause_name cause.NextImm = codes "NextImm"
-
-abbrev pub line_cause_name : LineCause → List ℕ
-line_cause_name line_cause.Char = codes "Char"
-line_cause_name line_cause.Word = codes "Word"
-line_cause_name line_cause.Shape = codes "Shape"
-line_cause_name line_cause.Range = codes "Range"
 
 abbrev pub btf_cause_name : BtfCause → List ℕ
 btf_cause_name btf_cause.ShortHeader = codes "ShortHeader"
