@@ -85,6 +85,10 @@ func BTFSame(first, second []byte) Answer {
 	return answer(C.bpfcanon_btf_same(start(first), size(first), start(second), size(second)))
 }
 
+func BTFShow(file, out []byte) Answer {
+	return answer(C.bpfcanon_btf_show(start(file), size(file), start(out), size(out)))
+}
+
 func InsnCanon(order, to Order, file, out []byte) Answer {
 	return answer(C.bpfcanon_insn_canon(C.uint32_t(order), C.uint32_t(to), start(file), size(file), start(out), size(out)))
 }

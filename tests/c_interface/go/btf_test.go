@@ -68,6 +68,14 @@ func TestCompiledTypesHaveOneForm(t *testing.T) {
 	wantAnswer(t, "compared with others", BTFSame(big, btf(binary.BigEndian, loose, looseNames)), Answer{Status: Different})
 }
 
+func TestTypesAreShown(t *testing.T) {
+	want := []byte("[1] int \"int\" size=4 encoding=signed offset=0 bits=32\n[2] typedef \"foo_int\" type=1\n")
+	for _, order := range []binary.ByteOrder{binary.LittleEndian, binary.BigEndian} {
+		file := btf(order, loose, looseNames)
+		wantInEachRoom(t, "types", func(out []byte) Answer { return BTFShow(file, out) }, want)
+	}
+}
+
 func TestFirstFaultOfTypesHasPlaceAndCause(t *testing.T) {
 	good := btf(binary.LittleEndian, loose, looseNames)
 	set := func(at int, value byte) []byte {
@@ -96,6 +104,7 @@ func TestFirstFaultOfTypesHasPlaceAndCause(t *testing.T) {
 		out, want := room(len(good)+1), Answer{Status: Fault, Cause: fault.cause, Pos: fault.pos}
 		wantAnswer(t, fault.name, BTFCheck(fault.file), want)
 		wantAnswer(t, fault.name+" of canonical bytes", BTFCanon(Little, fault.file, out), want)
+		wantAnswer(t, fault.name+" of a text", BTFShow(fault.file, out), want)
 		wantUntouched(t, fault.name, out)
 		wantAnswer(t, fault.name+" of the first", BTFSame(fault.file, fault.file), want)
 		if got, _, is := BTFCanonNew(Little, fault.file); got != want || is {
