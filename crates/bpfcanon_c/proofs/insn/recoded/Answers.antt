@@ -4,7 +4,7 @@ use Rattle.bpfcanon_c.proofs.Fronts.{recoded_of}
 use Rattle.bpfcanon_c.proofs.insn.recoded.Goals as goal
 
 pub returns-in-Ok-finish-clause-found : goal.returns-in-Ok-finish-clause-found
-returns-in-Ok-finish-clause-found g c =
+returns-in-Ok-finish-clause-found c =
     let stands = c.new-feed.ensures.stands in
     let fed = c.in-Ok.ensures.moves (search rules) in
     let end = c.in-Ok-finish.ensures.answer c.args.order _ _ (fed.0.stands _ _ [] stands) in
@@ -12,10 +12,10 @@ returns-in-Ok-finish-clause-found g c =
     (end.0, (end.1.0, recoded_of c.args.order c.args.to c.new-feed.result c.feed.new.self c.args.bytes.now c.feed.new.out.items end.0 stands moves end.1.0))
 
 pub returns-in-Err-finish-clause-fault : goal.returns-in-Err-finish-clause-fault
-returns-in-Err-finish-clause-fault g c =
+returns-in-Err-finish-clause-fault c =
     let fed = c.in-Ok.ensures.moves (search rules) in
     c.in-Err-finish.ensures.answer c.args.order _ _ (fed.0.stands _ _ [] c.new-feed.ensures.stands)
 
 pub returns-in-Err-clause-fault : goal.returns-in-Err-clause-fault
-returns-in-Err-clause-fault g c =
+returns-in-Err-clause-fault c =
     names_of_feed c.args.order c.args.bytes.now c.in-Err.error (c.in-Err.ensures.answer c.args.order _ [] (search rules) c.new-feed.ensures.stands)
