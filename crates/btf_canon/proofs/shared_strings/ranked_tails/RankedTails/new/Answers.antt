@@ -8,12 +8,12 @@ use Rattle.btf_canon.proofs.shared_strings.ranked_tails.RankedTails.new.Goals as
 pub next_hosts-requires-clause-few : goal.next_hosts-requires-clause-few
 next_hosts-requires-clause-few g c =
     let same = ap (λ (l : List Tail). length l) c.deref-2.ensures.value in
-    let long = length_permutation c.args.texts.items c.sort_tails.new.list.items c.in_ok-sort_tails.ensures.permutation in
+    let long = length_permutation c.args.texts.items c.sort_tails.new.list.items c.sort_tails.ensures.permutation in
     omega (arith, same, long, c.requires.few)
 
 pub lower_ranks-requires-clause-few : goal.lower_ranks-requires-clause-few
 lower_ranks-requires-clause-few g c =
     let tails = ap (λ (l : List Tail). length l) c.deref.ensures.value in
     let common = ap (λ (l : List ℕ). length l) c.deref-4.ensures.value in
-    let long = length_permutation c.args.texts.items c.sort_tails.new.list.items c.in_ok-sort_tails.ensures.permutation in
+    let long = length_permutation c.args.texts.items c.sort_tails.new.list.items c.sort_tails.ensures.permutation in
     omega (arith, tails, common, long, c.in_ok-common.ensures.whole, length-map c.deref.result.now (tail_text c.args.section.now), c.requires.few)
