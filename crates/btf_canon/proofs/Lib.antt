@@ -20,6 +20,7 @@ pub mod TailKeys
 pub mod SortedTails
 pub mod TextLemmas
 pub mod RankSteps
+pub mod KeyBytes
 pub mod LongestSteps
 pub mod FoundHosts
 pub mod UsedSteps

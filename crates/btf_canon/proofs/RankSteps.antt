@@ -23,14 +23,14 @@ front_same a b x y e = cond-true (eqb a b) (1 + common_front x y) 0 (eq-eqb a b 
 front_other : (a b : ℕ) (x y : List ℕ) → (a ≡ b → ⊥) → common_front (a ∷ x) (b ∷ y) ≡ 0
 front_other a b x y n = cond-false (eqb a b) (1 + common_front x y) 0 (ne_eqb a b n)
 
-front_stops : (n : ℕ) (x y : List ℕ) → n < length x → n < length y → ((j : ℕ) → j < n → get_or x j 0 ≡ get_or y j 0) → (get_or x n 0 ≡ get_or y n 0 → ⊥) → common_front x y ≡ n
+pub front_stops : (n : ℕ) (x y : List ℕ) → n < length x → n < length y → ((j : ℕ) → j < n → get_or x j 0 ≡ get_or y j 0) → (get_or x n 0 ≡ get_or y n 0 → ⊥) → common_front x y ≡ n
 front_stops n [] y h l f o = absurd (omega (arith, h))
 front_stops n (a ∷ x) [] h l f o = absurd (omega (arith, l))
 front_stops zero (a ∷ x) (b ∷ y) h l f o = front_other a b x y o
 front_stops (suc n) (a ∷ x) (b ∷ y) h l f o =
     front_same a b x y (f 0 (omega arith)) ∙ ap (λ (m : ℕ). 1 + m) (front_stops n x y (omega (arith, h)) (omega (arith, l)) (λ j k. f (suc j) (omega (arith, k))) o) ∙ (let e : 1 + n ≡ suc n = omega arith in e)
 
-front_ends : (x y : List ℕ) → ((j : ℕ) → j < min (length x) (length y) → get_or x j 0 ≡ get_or y j 0) → common_front x y ≡ min (length x) (length y)
+pub front_ends : (x y : List ℕ) → ((j : ℕ) → j < min (length x) (length y) → get_or x j 0 ≡ get_or y j 0) → common_front x y ≡ min (length x) (length y)
 front_ends [] y f = omega arith
 front_ends (a ∷ x) [] f = omega arith
 front_ends (a ∷ x) (b ∷ y) f =

@@ -31,7 +31,7 @@ bytes_take zero x p = tt
 bytes_take (suc n) [] p = tt
 bytes_take (suc n) (b ∷ x) (h, p) = (h, bytes_take n x p)
 
-text_bytes : (section : List ℕ) (t : Tail) → ((i : ℕ) → get_or section i 0 < 256) → (i : ℕ) → get_or (tail_text section t) i 0 < 256
+pub text_bytes : (section : List ℕ) (t : Tail) → ((i : ℕ) → get_or section i 0 < 256) → (i : ℕ) → get_or (tail_text section t) i 0 < 256
 text_bytes section t p = bytes_at (tail_text section t) (bytes_take _ _ (bytes_drop (start_in section t) section (bytes_from section p)))
 
 apart_then : (o s : Ordering) → o ≢ Equal → ordering_then o s ≡ o

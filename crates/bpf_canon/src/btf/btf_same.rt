@@ -6,13 +6,25 @@ use crate::insn::same::SideError;
 use bpf_words::Order;
 use btf_canon::canonical_in;
 use btf_raw::BtfFault;
-use btf_types::BtfError;
+use btf_types::{BtfError, BtfView};
 use std::alloc::Allocator;
+
+// Judges a file that is compared with itself.
+fn same_file<A: Allocator>(alloc: A, bytes: &[u8]) -> Result<bool, SideError<BtfFault>>
+    ensures same { IfOk result (ComparesBtf bytes.now bytes.now) }
+    ensures fault { IfErr result (NamesBtfSide bytes.now bytes.now) }
+{
+    match BtfView::parse(alloc, bytes) {
+        Ok(_) => Ok(true),
+        Err(BtfError::Fault(fault)) => Err(SideError::First(fault)),
+        Err(BtfError::Memory) => Err(SideError::Memory),
+    }
+}
 
 /// Whether two BTF files denote the same records. That is so exactly where their canonical bytes are the same.
 ///
 /// The canonical bytes of both files are made and compared, so the call takes the time of the files, also where names are long and
-/// shared.
+/// shared. Of files with the same bytes one is judged, and nothing is made.
 ///
 /// # Errors
 ///
@@ -22,6 +34,9 @@ pub fn same_btf<A: Allocator>(alloc: A, a: &[u8], b: &[u8]) -> Result<bool, Side
     ensures same { IfOk result (ComparesBtf a.now b.now) }
     ensures fault { IfErr result (NamesBtfSide a.now b.now) }
 {
+    if a == b {
+        return same_file(alloc, a);
+    }
     let first = match canonical_in(&alloc, Order::Little, a) {
         Ok(canon) => canon,
         Err(BtfError::Fault(fault)) => return Err(SideError::First(fault)),

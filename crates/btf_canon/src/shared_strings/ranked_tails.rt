@@ -37,7 +37,7 @@ impl<'a, A: Allocator + Copy> RankedTails<'a, A> {
         ensures ranked { IfOk result (λ r. AreRanked (map (tail_text section.now) r.tails.items) r.common.items r.lower.items r.hosts.items) }
     {
         let mut tails = texts;
-        sort_tails(section, &mut tails)?;
+        sort_tails(section, &mut tails);
         let common = common_tails(alloc, section, &tails)?;
         let hosts = next_hosts(alloc, section, &tails, &common)?;
         let lower = lower_ranks(alloc, &common)?;

@@ -1,8 +1,10 @@
 //! Ranks of sorted texts.
-ghost use Rattle.std.specs.Prelude.{◌≡◌, ◌<◌, ◌≤◌, ◌^◌, ℕ, IfOk, length, map, slice_index};
+ghost use Rattle.std.specs.Prelude.{◌≡◌, ◌≢◌, ◌-◌, ◌<◌, ◌≤◌, ◌^◌, ℕ, IfOk, length, map, slice_index};
+ghost use Rattle.std.specs.Int.{w64, to_le_bytes};
+ghost use Rattle.std.specs.List.{All};
 ghost use Rattle.btf_types.specs.strings.CommonTails as spec;
 ghost use Rattle.btf_canon.specs.Ranks.{AreCommon, AreNextHosts, AreLower};
-ghost use Rattle.btf_canon.specs.Tails.{tail_text};
+ghost use Rattle.btf_canon.specs.Tails.{tail_text, HasKey};
 
 use crate::shared_strings::tails::{Tail, text_of};
 use std::alloc::{AllocError, Allocator};
@@ -21,24 +23,54 @@ pub(crate) fn common_tail(a: &[u8], b: &[u8]) -> usize
     most
 }
 
+// How many of their last eight bytes two keys have in common.
+fn common_bytes(a: u64, b: u64) -> usize
+    ensures few { result ≤ 8 }
+    ensures same { (j : ℕ) → j < result → slice_index (to_le_bytes w64 a) (7 - j) ≡ slice_index (to_le_bytes w64 b) (7 - j) }
+    ensures differ { result < 8 → slice_index (to_le_bytes w64 a) (7 - result) ≢ slice_index (to_le_bytes w64 b) (7 - result) }
+{
+    let (first, second) = (a.to_le_bytes(), b.to_le_bytes());
+    for behind in 0..8usize {
+        if first[7 - behind] != second[7 - behind] {
+            return behind;
+        }
+    }
+    8
+}
+
+// How many bytes the texts of two tails have in common at their ends. Mostly their keys tell, and the section isn't read.
+fn common_of(section: &[u8], a: &Tail, b: &Tail) -> usize
+    requires first { HasKey section.now a.now }
+    requires second { HasKey section.now b.now }
+    ensures common { result ≡ spec.common_tail (tail_text section.now a.now) (tail_text section.now b.now) }
+    ensures inside { result ≤ length (tail_text section.now a.now) }
+{
+    let (first, second) = (text_of(section, a), text_of(section, b));
+    let common = common_bytes(a.key, b.key)
+        .min(first.len())
+        .min(second.len());
+    if common < 8 {
+        return common;
+    }
+    common_tail(first, second)
+}
+
 // How much each text has in common with the one before it.
 pub(crate) fn common_tails<A: Allocator>(
     alloc: A,
     section: &[u8],
     sorted: &[Tail],
 ) -> Result<Vec<u32, A>, AllocError>
-    requires { length section.now < 2 ^ 32 }
+    requires section { length section.now < 2 ^ 32 }
+    requires keys { All (HasKey section.now) sorted.now }
     ensures { IfOk result (λ common. AreCommon (map (tail_text section.now) sorted.now) common.items) }
 {
-    let mut common = Vec::new(alloc);
+    let mut common = Vec::with_capacity(alloc, sorted.len())?;
     for k in 0..sorted.len() {
         let here = if k == 0 {
             0
         } else {
-            common_tail(
-                text_of(section, &sorted[k - 1]),
-                text_of(section, &sorted[k]),
-            )
+            common_of(section, &sorted[k - 1], &sorted[k])
         };
         common.push(here as u32)?;
     }
@@ -76,7 +108,7 @@ pub(crate) fn lower_ranks<A: Allocator>(alloc: A, common: &[u32]) -> Result<Vec<
     requires few { length common.now < 2 ^ 32 }
     ensures { IfOk result (λ lower. AreLower common.now lower.items) }
 {
-    let mut lower = Vec::new(alloc);
+    let mut lower = Vec::with_capacity(alloc, common.len())?;
     for k in 0..common.len() {
         let mut before = k;
         if common[k] != 0 {

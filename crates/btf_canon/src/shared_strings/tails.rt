@@ -1,12 +1,12 @@
 //! Tails of texts.
-ghost use Rattle.std.specs.Prelude.{◌≡◌, ◌<◌, ◌≤◌, ◌-◌, ℕ, slice_index_or, reverse, map, OnOk};
+ghost use Rattle.std.specs.Prelude.{◌≡◌, ◌<◌, ◌≤◌, ◌-◌, ℕ, slice_index_or, reverse, map};
 ghost use Rattle.btf_canon.specs.TailKeys as spec;
 ghost use Rattle.std.specs.List.{All};
 ghost use Rattle.std.specs.List.Sorted.{IsPermutation, IsSorted};
 ghost use Rattle.btf_types.specs.strings.SharedNames.{tail_cmp};
 ghost use Rattle.btf_canon.specs.Tails as tails;
 
-use std::alloc::{AllocError, Allocator};
+use std::alloc::Allocator;
 use std::cmp::Ordering;
 
 /// A text of a section, with the key of its last bytes.
@@ -89,6 +89,14 @@ pub(crate) fn text_of<'a>(section: &'a [u8], tail: &Tail) -> &'a [u8]
     &section[start..end]
 }
 
+// Compares the texts. This stands apart, so that the comparison of keys is inlined.
+#[inline(never)]
+fn compare_texts(section: &[u8], a: &Tail, b: &Tail) -> Ordering
+    ensures { result ≡ tail_cmp (tails.tail_text section.now a.now) (tails.tail_text section.now b.now) }
+{
+    compare_tails(text_of(section, a), text_of(section, b))
+}
+
 // Compares by keys, then by texts.
 fn compare(section: &[u8], a: &Tail, b: &Tail) -> Ordering
     ensures { result ≡ tails.compared section.now a.now b.now }
@@ -96,18 +104,14 @@ fn compare(section: &[u8], a: &Tail, b: &Tail) -> Ordering
     if a.key != b.key {
         return a.key.cmp(&b.key);
     }
-    compare_tails(text_of(section, a), text_of(section, b))
+    compare_texts(section, a, b)
 }
 
 /// Sorts by bytes from the end.
-pub(crate) fn sort_tails<A: Allocator>(
-    section: &[u8],
-    list: &mut Vec<Tail, A>,
-) -> Result<(), AllocError>
+pub(crate) fn sort_tails<A: Allocator>(section: &[u8], list: &mut Vec<Tail, A>)
     requires { All (tails.HasKey section.now) list.old.items }
     ensures permutation { IsPermutation list.old.items list.new.items }
-    ensures sorted { OnOk result (IsSorted tail_cmp (map (tails.tail_text section.now) list.new.items)) }
+    ensures sorted { IsSorted tail_cmp (map (tails.tail_text section.now) list.new.items) }
 {
-    list.sort_by(|a, b| compare(section, a, b))?;
-    Ok(())
+    list.sort_unstable_by(|a, b| compare(section, a, b));
 }

@@ -10,6 +10,6 @@ told P false h = (λ t. cc, λ p. absurd (h p))
 
 pub returns-clause-same : goal.returns-clause-same
 returns-clause-same g c =
-    let test = rw (c.as_slice.ensures.value, c.as_slice-2.ensures.value) at c.eq.ensures in
-    let same = told (c.in-Ok.canon.items ≡ c.in-Ok-canonical_in.canon.items) c.eq.result (told_text _ _ c.eq.result test) in
-    compares c.args.a.now c.args.b.now _ _ c.eq.result c.in-Ok.ensures.ok c.in-Ok-canonical_in.ensures.ok same
+    let test = rw (c.as_slice.ensures.value, c.as_slice-2.ensures.value) at c.eq-2.ensures in
+    let same = told (c.in-Ok.canon.items ≡ c.in-Ok-canonical_in.canon.items) c.eq-2.result (told_text _ _ c.eq-2.result test) in
+    compares c.args.a.now c.args.b.now _ _ c.eq-2.result c.in-Ok.ensures.ok c.in-Ok-canonical_in.ensures.ok same

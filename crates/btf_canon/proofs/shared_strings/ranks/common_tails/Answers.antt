@@ -1,6 +1,5 @@
-use Rattle.std.proofs.Common.{◌≡◌, ℕ, ◌<◌, ◌+◌, ◌-◌, [], ◌∷◌, ◌++◌, length, map, get_or, arith, ◌∙◌, sym, ap, subst, List}
+use Rattle.std.proofs.Common.{◌≡◌, ℕ, ◌<◌, ◌+◌, [], ◌∷◌, ◌++◌, length, map, get_or, arith, ◌∙◌, sym, ap, subst, List}
 use Rattle.std.proofs.lemmas.List.{length_push}
-use Rattle.btf_types.specs.strings.CommonTails.{common_tail}
 use Rattle.btf_canon.specs.Ranks.{common_before}
 use Rattle.btf_canon.specs.Tails.{tail_text}
 use Rattle.btf_canon.specs.declared.shared_strings.tails.Tail.{Tail}
@@ -21,7 +20,7 @@ loop-k-preserved g c =
     let inside : k < length ts = omega arith in
     let is : n ≡ common_before ms k = elim c.if-k-eq0.branch [
       | then-k-eq0 w ↦ common_first ms k n w.if-k-eq0.true w.here-is
-      | else-k-eq0 w ↦ common_here (tail_text c.args.section.now) ts k n none inside w.if-k-eq0.false (w.here-is ∙ w.common_tail-here.ensures.common ∙ ap (λ (t : List ℕ). common_tail t w.text_of-else-k-eq0.result.now) w.text_of.ensures ∙ ap (common_tail (tail_text c.args.section.now (get_or ts (k - 1) none))) w.text_of-else-k-eq0.ensures)
+      | else-k-eq0 w ↦ common_here (tail_text c.args.section.now) ts k n none inside w.if-k-eq0.false (w.here-is ∙ w.common_of-here.ensures.common)
     ] in
     let more : c.push.new.self.items ≡ old ++ n ∷ [] = c.in_ok-push.ensures.items in (
       ap (λ (l : List ℕ). length l) more ∙ length_push old n ∙ (let long = c.loop-k.invariant.0 in omega (arith, long)),

@@ -9,8 +9,8 @@ use Rattle.btf_canon.proofs.shared_strings.tails.sort_tails.Goals as goal
 pub returns-clause-sorted : goal.returns-clause-sorted
 returns-clause-sorted g c =
     let section = c.args.section.now in
-    let up = c.in_ok-sort_by.ensures.sorted (λ x y. is_lt (compared section x y)) (ranks_by (compared_total section) (λ t. t))
+    let up = c.sort_unstable_by.ensures.sorted (λ x y. is_lt (compared section x y)) (ranks_by (compared_total section) (λ t. t))
     (always_returns_same _ (λ a r. is_lt r ≡ is_lt (compared section a.0.now a.1.0.now)) _ (λ a r g call. let e : r ≡ compared section a.0.now a.1.0.now = search rules in (ap is_lt e, search rules))) in
     let bytes : (i : ℕ) → get_or section i 0 < 256 = search rules in
-    sorted_texts section c.sort_by.new.self.items bytes
-    (All-permutation (HasKey section) c.args.list.now.items c.sort_by.new.self.items c.in_ok-sort_by.ensures.permutation c.requires) up
+    sorted_texts section c.sort_unstable_by.new.self.items bytes
+    (All-permutation (HasKey section) c.args.list.now.items c.sort_unstable_by.new.self.items c.sort_unstable_by.ensures.permutation c.requires) up

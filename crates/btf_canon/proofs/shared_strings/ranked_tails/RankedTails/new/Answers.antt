@@ -1,19 +1,27 @@
-use Rattle.std.proofs.Common.{ℕ, List, length, arith, ap}
+use Rattle.std.proofs.Common.{ℕ, List, length, arith, ap, subst, sym}
 use Rattle.std.proofs.lemmas.List.{length-map}
-use Rattle.std.proofs.lemmas.List.Sorted.{length_permutation}
-use Rattle.btf_canon.specs.Tails.{tail_text}
+use Rattle.std.proofs.lemmas.List.Sorted.{length_permutation, All-permutation}
+use Rattle.std.specs.List.{All}
+use Rattle.btf_canon.specs.Tails.{tail_text, HasKey}
 use Rattle.btf_canon.specs.declared.shared_strings.tails.Tail.{Tail}
 use Rattle.btf_canon.proofs.shared_strings.ranked_tails.RankedTails.new.Goals as goal
+
+pub common_tails-requires-clause-keys : goal.common_tails-requires-clause-keys
+common_tails-requires-clause-keys g c =
+    let section = c.args.section.now in
+    let items = c.sort_tails.new.list.items in
+    subst (λ (l : List Tail). All (HasKey section) l) (sym c.deref.ensures.value)
+    (All-permutation (HasKey section) c.args.texts.items items c.sort_tails.ensures.permutation c.requires.keys)
 
 pub next_hosts-requires-clause-few : goal.next_hosts-requires-clause-few
 next_hosts-requires-clause-few g c =
     let same = ap (λ (l : List Tail). length l) c.deref-2.ensures.value in
-    let long = length_permutation c.args.texts.items c.sort_tails.new.list.items c.in_ok-sort_tails.ensures.permutation in
+    let long = length_permutation c.args.texts.items c.sort_tails.new.list.items c.sort_tails.ensures.permutation in
     omega (arith, same, long, c.requires.few)
 
 pub lower_ranks-requires-clause-few : goal.lower_ranks-requires-clause-few
 lower_ranks-requires-clause-few g c =
     let tails = ap (λ (l : List Tail). length l) c.deref.ensures.value in
     let common = ap (λ (l : List ℕ). length l) c.deref-4.ensures.value in
-    let long = length_permutation c.args.texts.items c.sort_tails.new.list.items c.in_ok-sort_tails.ensures.permutation in
+    let long = length_permutation c.args.texts.items c.sort_tails.new.list.items c.sort_tails.ensures.permutation in
     omega (arith, tails, common, long, c.in_ok-common.ensures.whole, length-map c.deref.result.now (tail_text c.args.section.now), c.requires.few)
