@@ -2,6 +2,8 @@
 ghost use Rattle.std.specs.Prelude.{◌≡◌, ◌<◌, ◌≤◌, ◌≢◌, ℕ, length, slice_index};
 ghost use Rattle.btf_raw.specs.Header.{HasNulEnds};
 
+use memchr::memchr;
+
 // Where the text at an offset ends: the next NUL.
 pub(crate) fn end_of(section: &[u8], start: usize) -> usize
     requires ends { HasNulEnds section.now }
@@ -11,10 +13,8 @@ pub(crate) fn end_of(section: &[u8], start: usize) -> usize
     ensures nul { slice_index section.now result ≡ 0 }
     ensures before { (k : ℕ) → start ≤ k → k < result → slice_index section.now k ≢ 0 }
 {
-    for end in start..section.len() {
-        if section[end] == 0 {
-            return end;
-        }
+    match memchr(0, &section[start..]) {
+        Some(len) => start + len,
+        None => unreachable!(),
     }
-    unreachable!()
 }
