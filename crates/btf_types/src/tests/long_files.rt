@@ -1,7 +1,7 @@
 //! Names and sections as long as the limits allow.
 
 use crate::tests::{file, number, told};
-use crate::{Btf, BtfView};
+use crate::{Btf, BtfView, TypeTable};
 use btf_raw::BtfCause;
 use std::alloc::{AllocError, Global};
 use std::test::Fail;
