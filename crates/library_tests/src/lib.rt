@@ -1,4 +1,5 @@
-//! Tests of the libraries as another crate calls them: worked examples, devices that fail, and memory that is refused.
+//! The libraries as another crate calls them: an example with its contracts, and tests: worked examples, devices that fail, and
+//! memory that is refused.
 #![tactic(auto)]
 
 #[cfg(test)]
@@ -25,8 +26,7 @@ mod feed;
 mod files;
 #[cfg(test)]
 mod largest;
-#[cfg(test)]
-mod library_example;
+pub mod library_example;
 #[cfg(test)]
 mod limit;
 #[cfg(test)]

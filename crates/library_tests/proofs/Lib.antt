@@ -1,0 +1,2 @@
+pub mod MemberLineLemmas
+pub mod StreamLemmas
