@@ -2,9 +2,9 @@
 ghost use Rattle.std.specs.Prelude.{None, ℕ, List};
 
 use super::btf::{BIG_INT, FAULTY, INT, samples};
+use super::fused_devices::FusedDevices;
 use bpf_canon::{
-    ByteSource, DeviceFailed, MemSink, MemSource, ReaderSource, RunCause, RunError, WriterSink,
-    run_btf,
+    ByteSource, DeviceFailed, MemSink, ReaderSource, RunCause, RunError, WriterSink, run_btf,
 };
 use bpf_words::Order;
 use btf_raw::{BtfCause, BtfFault};
@@ -14,6 +14,11 @@ type Ran = Result<u64, RunError<BtfFault>>;
 fn stopped(cause: RunCause<BtfFault>, written: u64) -> Ran {
     Err(RunError { cause, written })
 }
+
+const FAULT_OF_FAULTY: BtfFault = BtfFault {
+    pos: 32,
+    cause: BtfCause::Reference,
+};
 
 /// Gives so many zero bytes, or zero bytes without end.
 #[derive(Drop)]
@@ -39,16 +44,13 @@ impl ByteSource for Zeros {
 fn runs_files_in_pieces(rt: HostRuntime) {
     for piece in [1usize, 3, 8, 5000] {
         for sample in samples() {
-            assert!(rt; piece > 0);
             let bytes = sample.bytes;
-            let mut source = MemSource::new(bytes, piece, None);
-            let mut out = Vec::new(rt.alloc());
-            let mut sink = MemSink::new(&mut out, piece, None);
-            let ran = run_btf(rt.alloc(), &mut source, &mut sink, Order::Little);
+            let devices = FusedDevices::sound(bytes, piece);
+            let run = devices.run_btf(&rt, rt.alloc(), Order::Little);
             let written = sample.canonical.len() as u64;
-            assert_eq!(rt; ran, Ok(written), "{bytes:?} in pieces of {piece}");
+            assert_eq!(rt; run.ended, Ok(written), "{bytes:?} in pieces of {piece}");
             assert_eq!(rt;
-                out.as_slice(),
+                run.taken.as_slice(),
                 sample.canonical,
                 "{bytes:?} in pieces of {piece}"
             );
@@ -59,110 +61,103 @@ fn runs_files_in_pieces(rt: HostRuntime) {
 #[test]
 fn writes_btf_in_the_order_that_is_asked(rt: HostRuntime) {
     for bytes in [INT, BIG_INT] {
-        let mut source = MemSource::new(bytes, 7, None);
-        let mut out = Vec::new(rt.alloc());
-        let mut sink = MemSink::new(&mut out, 7, None);
-        let ran = run_btf(rt.alloc(), &mut source, &mut sink, Order::Big);
-        assert_eq!(rt; ran, Ok(45), "of {bytes:?}");
-        assert_eq!(rt; out.as_slice(), BIG_INT, "of {bytes:?}");
+        let run = FusedDevices::sound(bytes, 7).run_btf(&rt, rt.alloc(), Order::Big);
+        assert_eq!(rt; run.ended, Ok(45), "of {bytes:?}");
+        assert_eq!(rt; run.taken.as_slice(), BIG_INT, "of {bytes:?}");
     }
 }
 
 #[test]
-fn devices_that_fail_stop_the_engine_on_btf(rt: HostRuntime) {
-    let faulty = RunCause::Fault(BtfFault {
-        pos: 32,
-        cause: BtfCause::Reference,
-    });
-    let short = RunCause::Fault(BtfFault {
+fn sources_that_fail_stop_the_engine_on_btf(rt: HostRuntime) {
+    let failed = stopped(RunCause::ReadFailed, 0);
+    let cases: [(&[u8], usize, u64, Ran); 4] = [
+        (BIG_INT, 45, 1, failed),
+        (BIG_INT, 45, 3, Ok(45)),
+        // The first fault is told only where the source has ended.
+        (FAULTY, 37, 2, failed),
+        (FAULTY, 37, 3, stopped(RunCause::Fault(FAULT_OF_FAULTY), 0)),
+    ];
+    for (bytes, read_piece, fuse, wanted) in cases {
+        let devices = FusedDevices {
+            bytes,
+            read_piece,
+            read_fuse: Some(fuse),
+            write_piece: 10,
+            write_fuse: None,
+        };
+        let run = devices.run_btf(&rt, rt.alloc(), Order::Little);
+        assert_eq!(rt; run.ended, wanted, "{bytes:?} where read {fuse} fails");
+        run.took_front_of(&rt, INT);
+    }
+}
+
+#[test]
+fn sinks_that_fail_stop_the_engine_on_btf(rt: HostRuntime) {
+    let failed = |written| stopped(RunCause::WriteFailed, written);
+    let short = BtfFault {
         pos: 0,
         cause: BtfCause::ShortHeader,
-    });
-    let cases: [(&[u8], usize, Option<u64>, usize, Option<u64>, Ran); 8] = [
-        (
-            BIG_INT,
-            45,
-            None,
-            10,
-            Some(3),
-            stopped(RunCause::WriteFailed, 20),
-        ),
-        (
-            BIG_INT,
-            45,
-            None,
-            45,
-            Some(1),
-            stopped(RunCause::WriteFailed, 0),
-        ),
-        (
-            BIG_INT,
-            45,
-            Some(1),
-            10,
-            None,
-            stopped(RunCause::ReadFailed, 0),
-        ),
-        // The first fault is told only where the source has ended, and a sink that would fail isn't used then.
-        (FAULTY, 16, None, 10, Some(1), stopped(faulty, 0)),
-        (
-            FAULTY,
-            37,
-            Some(2),
-            10,
-            Some(1),
-            stopped(RunCause::ReadFailed, 0),
-        ),
-        (FAULTY, 37, Some(3), 10, Some(1), stopped(faulty, 0)),
-        (b"", 1, None, 1, Some(1), stopped(short, 0)),
-        (BIG_INT, 45, Some(3), 45, Some(2), Ok(45)),
+    };
+    let cases: [(&[u8], usize, u64, Ran); 5] = [
+        (BIG_INT, 10, 3, failed(20)),
+        (BIG_INT, 45, 1, failed(0)),
+        (BIG_INT, 45, 2, Ok(45)),
+        // Where there is a fault, the sink isn't used.
+        (FAULTY, 10, 1, stopped(RunCause::Fault(FAULT_OF_FAULTY), 0)),
+        (b"", 1, 1, stopped(RunCause::Fault(short), 0)),
     ];
-    for (bytes, piece, read_fuse, width, write_fuse, wanted) in cases {
-        assert!(rt; piece > 0 && width > 0);
-        let mut source = MemSource::new(bytes, piece, read_fuse);
-        let mut out = Vec::new(rt.alloc());
-        let mut sink = MemSink::new(&mut out, width, write_fuse);
-        let ran = run_btf(rt.alloc(), &mut source, &mut sink, Order::Little);
-        assert_eq!(rt; ran, wanted, "{bytes:?} in pieces of {piece} and {width}");
-        let written = match wanted {
-            Ok(written) => written,
-            Err(stop) => stop.written,
+    for (bytes, write_piece, fuse, wanted) in cases {
+        let devices = FusedDevices {
+            bytes,
+            read_piece: 16,
+            read_fuse: None,
+            write_piece,
+            write_fuse: Some(fuse),
         };
-        assert_eq!(rt;
-            out.len() as u64,
-            written,
-            "{bytes:?} in pieces of {piece} and {width}"
-        );
-        assert!(rt;
-            INT.starts_with(&out),
-            "{bytes:?} in pieces of {piece} and {width}"
-        );
+        let run = devices.run_btf(&rt, rt.alloc(), Order::Little);
+        assert_eq!(rt; run.ended, wanted, "{bytes:?} where write {fuse} fails");
+        run.took_front_of(&rt, INT);
     }
 }
 
 #[test]
-fn each_read_and_each_write_of_btf_may_fail(rt: HostRuntime) {
+fn each_read_of_btf_may_fail(rt: HostRuntime) {
     // Nine pieces and the end are read.
     for fuse in 1..=10u64 {
-        let mut source = MemSource::new(BIG_INT, 5, Some(fuse));
-        let mut out = Vec::new(rt.alloc());
-        let mut sink = MemSink::new(&mut out, 7, None);
-        let ran = run_btf(rt.alloc(), &mut source, &mut sink, Order::Little);
-        assert_eq!(rt; ran, stopped(RunCause::ReadFailed, 0), "read {fuse} fails");
-        assert_eq!(rt; out.len(), 0, "read {fuse} fails");
-    }
-    for fuse in 1..=45u64 {
-        let mut source = MemSource::new(BIG_INT, 5, None);
-        let mut out = Vec::new(rt.alloc());
-        let mut sink = MemSink::new(&mut out, 1, Some(fuse));
-        let ran = run_btf(rt.alloc(), &mut source, &mut sink, Order::Little);
+        let devices = FusedDevices {
+            bytes: BIG_INT,
+            read_piece: 5,
+            read_fuse: Some(fuse),
+            write_piece: 7,
+            write_fuse: None,
+        };
+        let run = devices.run_btf(&rt, rt.alloc(), Order::Little);
         assert_eq!(rt;
-            ran,
+            run.ended,
+            stopped(RunCause::ReadFailed, 0),
+            "read {fuse} fails"
+        );
+        assert_eq!(rt; run.taken.len(), 0, "read {fuse} fails");
+    }
+}
+
+#[test]
+fn each_write_of_btf_may_fail(rt: HostRuntime) {
+    for fuse in 1..=45u64 {
+        let devices = FusedDevices {
+            bytes: BIG_INT,
+            read_piece: 5,
+            read_fuse: None,
+            write_piece: 1,
+            write_fuse: Some(fuse),
+        };
+        let run = devices.run_btf(&rt, rt.alloc(), Order::Little);
+        assert_eq!(rt;
+            run.ended,
             stopped(RunCause::WriteFailed, fuse - 1),
             "write {fuse} fails"
         );
-        assert_eq!(rt; out.len() as u64, fuse - 1, "write {fuse} fails");
-        assert!(rt; INT.starts_with(&out), "write {fuse} fails");
+        run.took_front_of(&rt, INT);
     }
 }
 

@@ -25,6 +25,8 @@ mod feed;
 #[cfg(test)]
 mod files;
 #[cfg(test)]
+mod fused_devices;
+#[cfg(test)]
 mod largest;
 pub mod library_example;
 #[cfg(test)]

@@ -1,6 +1,7 @@
-//! The engine over devices that give and take pieces, and fail.
+//! The engine on instructions over devices that give and take pieces, and fail.
+use super::fused_devices::FusedDevices;
 use super::samples::{EXIT, FAULT_OF_FAULTY, FAULTY, Sample, accepted, refused};
-use bpf_canon::{MemSink, MemSource, ReaderSource, RunCause, RunError, WriterSink, run_insns};
+use bpf_canon::{ReaderSource, RunCause, RunError, WriterSink, run_insns};
 use bpf_insn::{Order, SlotFault};
 use std::alloc::Global;
 use std::process::Abort;
@@ -13,20 +14,17 @@ fn stopped(cause: RunCause<SlotFault>, written: u64) -> Ran {
 
 // Runs an example in pieces, and compares.
 fn run_sample(rt: &impl Abort, alloc: Global, sample: Sample, piece: usize) {
-    assert!(rt; piece > 0);
     let bytes = sample.bytes;
-    let mut source = MemSource::new(bytes, piece, None);
-    let mut out = Vec::new(alloc);
-    let mut sink = MemSink::new(&mut out, piece, None);
-    let ran = run_insns(alloc, &mut source, &mut sink, sample.order, Order::Little);
+    let devices = FusedDevices::sound(bytes, piece);
+    let run = devices.run_insns(rt, alloc, sample.order, Order::Little);
     let written = sample.canonical.len() as u64;
     let wanted = match sample.fault {
         None => Ok(written),
         Some(fault) => stopped(RunCause::Fault(fault), written),
     };
-    assert_eq!(rt; ran, wanted, "{bytes:?} in pieces of {piece}");
+    assert_eq!(rt; run.ended, wanted, "{bytes:?} in pieces of {piece}");
     assert_eq!(rt;
-        out.as_slice(),
+        run.taken.as_slice(),
         sample.canonical,
         "{bytes:?} in pieces of {piece}"
     );
@@ -46,152 +44,110 @@ fn runs_examples_in_pieces(rt: HostRuntime) {
 
 #[test]
 fn writes_in_the_order_that_is_asked(rt: HostRuntime) {
-    let mut source = MemSource::new(b"\xb4\x01\0\0\x07\0\0\0", 5, None);
-    let mut out = Vec::new(rt.alloc());
-    let mut sink = MemSink::new(&mut out, 5, None);
-    let ran = run_insns(
-        rt.alloc(),
-        &mut source,
-        &mut sink,
-        Order::Little,
-        Order::Big,
-    );
-    assert_eq!(rt; ran, Ok(8));
-    assert_eq!(rt; out.as_slice(), b"\xb4\x10\0\0\0\0\0\x07".as_slice());
+    let devices = FusedDevices::sound(b"\xb4\x01\0\0\x07\0\0\0", 5);
+    let run = devices.run_insns(&rt, rt.alloc(), Order::Little, Order::Big);
+    assert_eq!(rt; run.ended, Ok(8));
+    assert_eq!(rt; run.taken.as_slice(), b"\xb4\x10\0\0\0\0\0\x07".as_slice());
 }
 
+const TWICE: &[u8] = b"\x95\0\0\0\0\0\0\0\x95\0\0\0\0\0\0\0";
+
+const HALF: &[u8] = b"\x18\x01\0\0\x88\x77\x66\x55";
+
 #[test]
-fn devices_that_fail_stop_the_engine(rt: HostRuntime) {
-    let twice: &[u8] = b"\x95\0\0\0\0\0\0\0\x95\0\0\0\0\0\0\0";
-    let half: &[u8] = b"\x18\x01\0\0\x88\x77\x66\x55";
-    let cases: [(&[u8], usize, Option<u64>, usize, Option<u64>, Ran); 8] = [
-        (
-            EXIT,
-            16,
-            None,
-            1,
-            Some(3),
-            stopped(RunCause::WriteFailed, 2),
-        ),
-        (
-            twice,
-            8,
-            Some(2),
-            16,
-            None,
-            stopped(RunCause::ReadFailed, 8),
-        ),
-        (
-            twice,
-            8,
-            Some(1),
-            16,
-            None,
-            stopped(RunCause::ReadFailed, 0),
-        ),
-        (
-            FAULTY,
-            16,
-            Some(2),
-            16,
-            None,
-            stopped(RunCause::Fault(FAULT_OF_FAULTY), 8),
-        ),
-        (
-            FAULTY,
-            8,
-            Some(2),
-            16,
-            None,
-            stopped(RunCause::ReadFailed, 8),
-        ),
-        (half, 8, Some(2), 16, None, stopped(RunCause::ReadFailed, 0)),
-        (
-            FAULTY,
-            16,
-            None,
-            16,
-            Some(1),
-            stopped(RunCause::WriteFailed, 0),
-        ),
-        (twice, 16, Some(3), 16, Some(2), Ok(16)),
+fn sources_that_fail_stop_the_engine(rt: HostRuntime) {
+    let failed = |written| stopped(RunCause::ReadFailed, written);
+    let fault = stopped(RunCause::Fault(FAULT_OF_FAULTY), 8);
+    let cases: [(&[u8], usize, u64, Ran); 6] = [
+        (TWICE, 8, 2, failed(8)),
+        (TWICE, 8, 1, failed(0)),
+        (FAULTY, 16, 2, fault),
+        (FAULTY, 8, 2, failed(8)),
+        (HALF, 8, 2, failed(0)),
+        (TWICE, 16, 3, Ok(16)),
     ];
-    for (bytes, piece, read_fuse, width, write_fuse, wanted) in cases {
-        assert!(rt; piece > 0 && width > 0);
-        let mut source = MemSource::new(bytes, piece, read_fuse);
-        let mut out = Vec::new(rt.alloc());
-        let mut sink = MemSink::new(&mut out, width, write_fuse);
-        let ran = run_insns(
-            rt.alloc(),
-            &mut source,
-            &mut sink,
-            Order::Little,
-            Order::Little,
-        );
-        assert_eq!(rt; ran, wanted, "{bytes:?} in pieces of {piece} and {width}");
-        let written = match wanted {
-            Ok(written) => written,
-            Err(stop) => stop.written,
+    for (bytes, read_piece, fuse, wanted) in cases {
+        let devices = FusedDevices {
+            bytes,
+            read_piece,
+            read_fuse: Some(fuse),
+            write_piece: 16,
+            write_fuse: None,
         };
-        assert_eq!(rt;
-            out.len() as u64,
-            written,
-            "{bytes:?} in pieces of {piece} and {width}"
-        );
-        assert!(rt;
-            twice.starts_with(&out),
-            "{bytes:?} in pieces of {piece} and {width}"
-        );
+        let run = devices.run_insns(&rt, rt.alloc(), Order::Little, Order::Little);
+        assert_eq!(rt; run.ended, wanted, "{bytes:?} in pieces of {read_piece}");
+        run.took_front_of(&rt, TWICE);
     }
 }
 
 #[test]
-fn each_read_and_each_write_may_fail(rt: HostRuntime) {
-    let exits: &[u8] = b"\x95\0\0\0\0\0\0\0\x95\0\0\0\0\0\0\0\x95\0\0\0\0\0\0\0";
+fn sinks_that_fail_stop_the_engine(rt: HostRuntime) {
+    let failed = |written| stopped(RunCause::WriteFailed, written);
+    let cases: [(&[u8], usize, u64, Ran); 3] = [
+        (EXIT, 1, 3, failed(2)),
+        (FAULTY, 16, 1, failed(0)),
+        (TWICE, 16, 2, Ok(16)),
+    ];
+    for (bytes, write_piece, fuse, wanted) in cases {
+        let devices = FusedDevices {
+            bytes,
+            read_piece: 16,
+            read_fuse: None,
+            write_piece,
+            write_fuse: Some(fuse),
+        };
+        let run = devices.run_insns(&rt, rt.alloc(), Order::Little, Order::Little);
+        assert_eq!(rt; run.ended, wanted, "{bytes:?} in pieces of {write_piece}");
+        run.took_front_of(&rt, TWICE);
+    }
+}
+
+const EXITS: &[u8] = b"\x95\0\0\0\0\0\0\0\x95\0\0\0\0\0\0\0\x95\0\0\0\0\0\0\0";
+
+#[test]
+fn each_read_may_fail(rt: HostRuntime) {
     for fuse in 1..=6u64 {
-        let mut source = MemSource::new(exits, 5, Some(fuse));
-        let mut out = Vec::new(rt.alloc());
-        let mut sink = MemSink::new(&mut out, 7, None);
-        let ran = run_insns(
-            rt.alloc(),
-            &mut source,
-            &mut sink,
-            Order::Little,
-            Order::Little,
-        );
+        let devices = FusedDevices {
+            bytes: EXITS,
+            read_piece: 5,
+            read_fuse: Some(fuse),
+            write_piece: 7,
+            write_fuse: None,
+        };
+        let run = devices.run_insns(&rt, rt.alloc(), Order::Little, Order::Little);
         let whole = (5 * (fuse - 1)).min(24) / 8 * 8;
         assert_eq!(rt;
-            ran,
+            run.ended,
             stopped(RunCause::ReadFailed, whole),
             "read {fuse} fails"
         );
-        assert_eq!(rt; out.len() as u64, whole, "read {fuse} fails");
+        run.took_front_of(&rt, EXITS);
     }
+}
+
+#[test]
+fn each_write_may_fail(rt: HostRuntime) {
     for fuse in 1..=24u64 {
-        let mut source = MemSource::new(exits, 5, None);
-        let mut out = Vec::new(rt.alloc());
-        let mut sink = MemSink::new(&mut out, 1, Some(fuse));
-        let ran = run_insns(
-            rt.alloc(),
-            &mut source,
-            &mut sink,
-            Order::Little,
-            Order::Little,
-        );
+        let devices = FusedDevices {
+            bytes: EXITS,
+            read_piece: 5,
+            read_fuse: None,
+            write_piece: 1,
+            write_fuse: Some(fuse),
+        };
+        let run = devices.run_insns(&rt, rt.alloc(), Order::Little, Order::Little);
         assert_eq!(rt;
-            ran,
+            run.ended,
             stopped(RunCause::WriteFailed, fuse - 1),
             "write {fuse} fails"
         );
-        assert_eq!(rt; out.len() as u64, fuse - 1, "write {fuse} fails");
+        run.took_front_of(&rt, EXITS);
     }
 }
 
 /// A move of registers in big-endian order, by single bytes: no byte is written before the eighth has come.
 #[test]
 fn each_read_and_each_write_of_a_big_endian_move_may_fail(rt: HostRuntime) {
-    let big = b"\xbf\x12\0\0\0\0\0\0";
-    let little = b"\xbf\x21\0\0\0\0\0\0";
     for (read_fuse, write_fuse, wanted) in [
         (Some(1u64), None, stopped(RunCause::ReadFailed, 0)),
         (Some(2), None, stopped(RunCause::ReadFailed, 0)),
@@ -214,30 +170,16 @@ fn each_read_and_each_write_of_a_big_endian_move_may_fail(rt: HostRuntime) {
         (None, Some(8), stopped(RunCause::WriteFailed, 7)),
         (None, Some(9), Ok(8)),
     ] {
-        let mut source = MemSource::new(big, 1, read_fuse);
-        let mut out = Vec::new(rt.alloc());
-        let mut sink = MemSink::new(&mut out, 1, write_fuse);
-        let ran = run_insns(
-            rt.alloc(),
-            &mut source,
-            &mut sink,
-            Order::Big,
-            Order::Little,
-        );
-        assert_eq!(rt; ran, wanted, "fuses {read_fuse:?} and {write_fuse:?}");
-        let written = match wanted {
-            Ok(written) => written,
-            Err(stop) => stop.written,
+        let devices = FusedDevices {
+            bytes: b"\xbf\x12\0\0\0\0\0\0",
+            read_piece: 1,
+            read_fuse,
+            write_piece: 1,
+            write_fuse,
         };
-        assert_eq!(rt;
-            out.len() as u64,
-            written,
-            "fuses {read_fuse:?} and {write_fuse:?}"
-        );
-        assert!(rt;
-            little.starts_with(&out),
-            "fuses {read_fuse:?} and {write_fuse:?}"
-        );
+        let run = devices.run_insns(&rt, rt.alloc(), Order::Big, Order::Little);
+        assert_eq!(rt; run.ended, wanted, "fuses {read_fuse:?} and {write_fuse:?}");
+        run.took_front_of(&rt, b"\xbf\x21\0\0\0\0\0\0");
     }
 }
 
