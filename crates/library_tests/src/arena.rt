@@ -4,12 +4,13 @@
 use bumpalo::Bump;
 use std::alloc::Global;
 use std::process::Abort;
+use std::test::Fail;
 
 /// How many bytes an arena has at least, before any are given away.
 pub(crate) const ROOM: usize = 16_384;
 
 /// After so many calls with enough room a test ends.
-pub(crate) const ENOUGH: usize = 16;
+const ENOUGH: usize = 16;
 
 /// Gives away all of the arena but so many bytes. It gets no other chunk.
 pub(crate) fn leave(rt: &impl Abort, bump: &Bump<Global>, room: usize) {
@@ -41,6 +42,29 @@ impl Tally {
             done: 0,
             last_place: None,
         }
+    }
+
+    /// Makes a call with ever more room, which returns the place where it was refused memory.
+    pub(crate) fn of<Call: FnMut(&Bump<Global>) -> Option<usize>>(
+        rt: &impl Abort,
+        alloc: Global,
+        mut call: Call,
+    ) -> Result<Tally, Fail>
+        requires { (f : _) (x : _) → Call.pre f x }
+    {
+        let mut tally = Tally::new();
+        for room in 0..ROOM {
+            let bump = Bump::try_with_capacity(alloc, ROOM)?;
+            leave(rt, &bump, room);
+            match call(&bump) {
+                None => tally.succeed(),
+                Some(place) => tally.refuse(rt, place),
+            }
+            if tally.done == ENOUGH {
+                return Ok(tally);
+            }
+        }
+        Err("no room is enough")?
     }
 
     /// Counts a call that had enough room. Each later one has, too.

@@ -1,11 +1,10 @@
 //! Each growth of the calls on instructions is refused in turn.
-use crate::arena::{ENOUGH, ROOM, Tally, leave};
+use crate::arena::Tally;
 use bpf_canon::{
     InsnFeed, MemSink, MemSource, ReadError, RunCause, RunError, SideError, canon_insns, read_all,
     run_insns, same_insns, write_insns,
 };
 use bpf_insn::{Insn, InsnError, Order, SlotCause, SlotFault};
-use bumpalo::Bump;
 use std::alloc::{Allocator, Global};
 use std::process::Abort;
 use std::test::Fail;
@@ -23,82 +22,70 @@ const FAULT: SlotFault = SlotFault {
 /// The vector grows for the first piece, and more than once behind it.
 #[test]
 fn of_reading_whole(rt: HostRuntime) -> Result<(), Fail> {
-    let mut tally = Tally::new();
-    for room in 0..ROOM {
-        let bump = Bump::try_with_capacity(rt.alloc(), ROOM)?;
-        leave(&rt, &bump, room);
+    let tally = Tally::of(&rt, rt.alloc(), |bump| {
         let mut source = MemSource::new(FILE, 5, None);
-        match read_all(&bump, &mut source, 100) {
+        match read_all(bump, &mut source, 100) {
             Ok(read) => {
                 assert_eq!(rt; read.as_slice(), FILE.as_slice());
-                tally.succeed();
+                None
             }
             Err(error) => {
                 assert_eq!(rt; error, ReadError::Memory);
-                let rest = read_all(rt.alloc(), &mut source, 100)?.len();
-                tally.refuse(&rt, 64_usize.saturating_sub(rest));
+                let rest = read_all(rt.alloc(), &mut source, 100).expect(&rt, "the rest");
+                Some(FILE.len().saturating_sub(rest.len()))
             }
         }
-        if tally.done == ENOUGH {
-            break;
-        }
-    }
-    assert!(rt; tally.done > 0 && tally.refused >= 64 && tally.places >= 3);
+    })?;
+    assert!(rt; tally.refused >= 64 && tally.places >= 3);
     Ok(())
 }
 
 #[test]
 fn of_writing_instructions(rt: HostRuntime) -> Result<(), Fail> {
     let insns = [Insn::Exit; 7];
-    let mut tally = Tally::new();
-    for room in 0..ROOM {
-        let bump = Bump::try_with_capacity(rt.alloc(), ROOM)?;
-        leave(&rt, &bump, room);
-        match write_insns(&bump, Order::Little, &insns) {
+    let tally = Tally::of(&rt, rt.alloc(), |bump| {
+        match write_insns(bump, Order::Little, &insns) {
             Ok(written) => {
                 assert_eq!(rt; written.as_slice(), &FILE[..56]);
-                tally.succeed();
+                None
             }
-            Err(_) => tally.refuse(&rt, 0),
+            Err(_) => Some(0),
         }
-        if tally.done == ENOUGH {
-            break;
-        }
-    }
-    assert!(rt; tally.done > 0 && tally.refused >= 56);
+    })?;
+    assert!(rt; tally.refused >= 56);
     Ok(())
 }
 
-/// Of a good file, and of a faulty one, whose fault is never another.
 #[test]
 fn of_canonical_bytes(rt: HostRuntime) -> Result<(), Fail> {
-    let mut good = Tally::new();
-    let mut faulty = Tally::new();
-    for room in 0..ROOM {
-        let bump = Bump::try_with_capacity(rt.alloc(), ROOM)?;
-        leave(&rt, &bump, room);
-        match canon_insns(&bump, Order::Little, &FILE[..56]) {
+    let tally = Tally::of(&rt, rt.alloc(), |bump| {
+        match canon_insns(bump, Order::Little, &FILE[..56]) {
             Ok(canon) => {
                 assert_eq!(rt; canon.as_slice(), &FILE[..56]);
-                good.succeed();
+                None
             }
-            Err(InsnError::Memory) => good.refuse(&rt, 0),
+            Err(InsnError::Memory) => Some(0),
             Err(InsnError::Fault(_)) => panic!(rt; "a fault of a good file"),
         }
-        match canon_insns(&bump, Order::Little, FILE) {
+    })?;
+    assert!(rt; tally.refused >= 56);
+    Ok(())
+}
+
+/// The fault of a faulty file is never another.
+#[test]
+fn of_canonical_bytes_of_a_faulty_file(rt: HostRuntime) -> Result<(), Fail> {
+    let tally = Tally::of(&rt, rt.alloc(), |bump| {
+        match canon_insns(bump, Order::Little, FILE) {
             Ok(_) => panic!(rt; "a faulty file is accepted"),
-            Err(InsnError::Memory) => faulty.refuse(&rt, 0),
+            Err(InsnError::Memory) => Some(0),
             Err(InsnError::Fault(fault)) => {
                 assert_eq!(rt; fault, FAULT);
-                faulty.succeed();
+                None
             }
         }
-        if good.done >= ENOUGH && faulty.done >= ENOUGH {
-            break;
-        }
-    }
-    assert!(rt; good.done > 0 && good.refused >= 56);
-    assert!(rt; faulty.done > 0 && faulty.refused > 0);
+    })?;
+    assert!(rt; tally.refused > 0);
     Ok(())
 }
 
@@ -109,22 +96,15 @@ fn refused_comparing(
     second: &[u8],
     answer: Result<bool, SideError<SlotFault>>,
 ) -> Result<usize, Fail> {
-    let mut tally = Tally::new();
-    for room in 0..ROOM {
-        let bump = Bump::try_with_capacity(alloc, ROOM)?;
-        leave(rt, &bump, room);
-        match same_insns(&bump, Order::Little, &FILE[..56], Order::Little, second) {
-            Err(SideError::Memory) => tally.refuse(rt, 0),
+    let tally = Tally::of(rt, alloc, |bump| {
+        match same_insns(bump, Order::Little, &FILE[..56], Order::Little, second) {
+            Err(SideError::Memory) => Some(0),
             reported => {
                 assert_eq!(rt; reported, answer);
-                tally.succeed();
+                None
             }
         }
-        if tally.done == ENOUGH {
-            break;
-        }
-    }
-    assert!(rt; tally.done > 0);
+    })?;
     Ok(tally.refused)
 }
 
@@ -162,98 +142,66 @@ fn feed_pieces<A: Allocator>(rt: &impl Abort, out: &mut Vec<u8, A>) -> usize {
 /// The vector grows for the first piece, and for later ones.
 #[test]
 fn of_the_feed(rt: HostRuntime) -> Result<(), Fail> {
-    let mut tally = Tally::new();
-    for room in 0..ROOM {
-        let bump = Bump::try_with_capacity(rt.alloc(), ROOM)?;
-        leave(&rt, &bump, room);
-        let mut out = Vec::new(&bump);
+    let tally = Tally::of(&rt, rt.alloc(), |bump| {
+        let mut out = Vec::new(bump);
         let at = feed_pieces(&rt, &mut out);
         assert_eq!(rt; out.len(), at / 8 * 8);
         assert!(rt; FILE.starts_with(&out));
-        if at < 56 {
-            tally.refuse(&rt, at);
-        } else {
-            tally.succeed();
-        }
-        if tally.done == ENOUGH {
-            break;
-        }
-    }
-    assert!(rt; tally.done > 0 && tally.refused >= 56 && tally.places >= 3);
+        (at < 56).then_some(at)
+    })?;
+    assert!(rt; tally.refused >= 56 && tally.places >= 3);
     Ok(())
 }
 
 /// Where the engine is refused room for a piece, it has written the instructions before it.
 #[test]
 fn of_the_engine(rt: HostRuntime) -> Result<(), Fail> {
-    let mut tally = Tally::new();
-    for room in 0..ROOM {
-        let bump = Bump::try_with_capacity(rt.alloc(), ROOM)?;
-        leave(&rt, &bump, room);
+    let faulty = RunError {
+        cause: RunCause::Fault(FAULT),
+        written: 56,
+    };
+    let tally = Tally::of(&rt, rt.alloc(), |bump| {
         // Pieces of five bytes make the engine's vector grow more than once.
         let mut source = MemSource::new(FILE, 5, None);
         let mut out = Vec::new(rt.alloc());
         let mut sink = MemSink::new(&mut out, 5, None);
-        let ran = run_insns(&bump, &mut source, &mut sink, Order::Little, Order::Little);
+        let ran = run_insns(bump, &mut source, &mut sink, Order::Little, Order::Little);
         let Err(stop) = ran else {
             panic!(rt; "a faulty file is accepted");
         };
         assert_eq!(rt; out.len() as u64, stop.written);
         assert!(rt; FILE.starts_with(&out));
         if stop.cause == RunCause::Memory {
-            let rest = read_all(rt.alloc(), &mut source, 100)?.len();
-            tally.refuse(&rt, 64_usize.saturating_sub(rest));
-        } else {
-            let faulty = RunError {
-                cause: RunCause::Fault(FAULT),
-                written: 56,
-            };
-            assert_eq!(rt; stop, faulty);
-            tally.succeed();
+            let rest = read_all(rt.alloc(), &mut source, 100).expect(&rt, "the rest");
+            return Some(FILE.len().saturating_sub(rest.len()));
         }
-        if tally.done == ENOUGH {
-            break;
-        }
-    }
-    assert!(rt; tally.done > 0 && tally.places >= 2);
+        assert_eq!(rt; stop, faulty);
+        None
+    })?;
+    assert!(rt; tally.places >= 2);
     Ok(())
 }
 
 /// A growth of the sink's vector that is refused is a failed write, the first growth and each later one.
 #[test]
 fn of_a_sink(rt: HostRuntime) -> Result<(), Fail> {
-    let mut tally = Tally::new();
-    for room in 0..ROOM {
-        let bump = Bump::try_with_capacity(rt.alloc(), ROOM)?;
-        leave(&rt, &bump, room);
+    let tally = Tally::of(&rt, rt.alloc(), |bump| {
         let mut source = MemSource::new(&FILE[..56], 24, None);
-        let mut out = Vec::new(&bump);
+        let mut out = Vec::new(bump);
         let mut sink = MemSink::new(&mut out, 5, None);
-        let ran = run_insns(
-            rt.alloc(),
-            &mut source,
-            &mut sink,
-            Order::Little,
-            Order::Little,
-        );
-        match ran {
-            Ok(written) => {
-                assert_eq!(rt; written, 56);
-                tally.succeed();
-            }
-            Err(stop) => {
-                assert_eq!(rt;
-                    (stop.cause, stop.written),
-                    (RunCause::WriteFailed, out.len() as u64)
-                );
-                tally.refuse(&rt, out.len());
-            }
-        }
+        let order = Order::Little;
+        let ran = run_insns(rt.alloc(), &mut source, &mut sink, order, order);
         assert!(rt; FILE.starts_with(&out));
-        if tally.done == ENOUGH {
-            break;
-        }
-    }
-    assert!(rt; tally.done > 0 && tally.refused >= 56 && tally.places >= 3);
+        let Err(stop) = ran else {
+            assert_eq!(rt; ran, Ok(56));
+            return None;
+        };
+        assert_eq!(rt;
+            (stop.cause, stop.written),
+            (RunCause::WriteFailed, out.len() as u64)
+        );
+        Some(out.len())
+    })?;
+    assert!(rt; tally.refused >= 56 && tally.places >= 3);
     Ok(())
 }

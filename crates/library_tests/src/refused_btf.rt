@@ -1,5 +1,5 @@
 //! Each growth of the calls on BTF is refused in turn. The files have 26 types with 28 names, more than are sorted in place.
-use crate::arena::{ENOUGH, ROOM, Tally, leave};
+use crate::arena::Tally;
 use crate::btf::{BIG_INT, LOOSE_INT};
 use crate::compiled_types::{FLOW_TABLE_BIG, FLOW_TABLE_LITTLE};
 use crate::own_table::Counting;
@@ -9,7 +9,6 @@ use bpf_canon::{
 use bpf_words::Order;
 use btf_raw::{BtfCause, BtfFault};
 use btf_types::{BtfError, BtfView};
-use bumpalo::Bump;
 use std::alloc::Global;
 use std::process::Abort;
 use std::test::Fail;
@@ -22,42 +21,28 @@ fn of_writing_btf(rt: HostRuntime) -> Result<(), Fail> {
     let view = BtfView::parse(rt.alloc(), FLOW_TABLE_LITTLE)?;
     let ample = write_btf(rt.alloc(), Order::Big, &view)?;
     assert_eq!(rt; ample.len(), CANONICAL_LEN);
-    let mut tally = Tally::new();
-    for room in 0..ROOM {
-        let bump = Bump::try_with_capacity(rt.alloc(), ROOM)?;
-        leave(&rt, &bump, room);
+    let tally = Tally::of(&rt, rt.alloc(), |bump| {
         let table = Counting::new(&view);
-        match write_btf(&bump, Order::Big, &table) {
+        match write_btf(bump, Order::Big, &table) {
             Ok(bytes) => {
                 assert_eq!(rt; bytes.as_slice(), ample.as_slice());
-                tally.succeed();
+                None
             }
             // The calls of the table that were made tell how far the writer came.
-            Err(_) => tally.refuse(&rt, table.asked()),
+            Err(_) => Some(table.asked()),
         }
-        if tally.done == ENOUGH {
-            break;
-        }
-    }
-    assert!(rt; tally.done > 0 && tally.refused >= CANONICAL_LEN && tally.places >= 4);
+    })?;
+    assert!(rt; tally.refused >= CANONICAL_LEN && tally.places >= 4);
     Ok(())
 }
 
 /// How many rooms are too small to read a file.
 fn refused_reading(rt: &impl Abort, alloc: Global, file: &[u8]) -> Result<usize, Fail> {
-    let mut tally = Tally::new();
-    for room in 0..ROOM {
-        let bump = Bump::try_with_capacity(alloc, ROOM)?;
-        leave(rt, &bump, room);
-        match BtfView::parse(&bump, file) {
-            Ok(_) => tally.succeed(),
-            Err(BtfError::Memory) => tally.refuse(rt, 0),
-            Err(BtfError::Fault(_)) => return Err("a fault of a good file")?,
-        }
-        if tally.done == ENOUGH {
-            break;
-        }
-    }
+    let tally = Tally::of(rt, alloc, |bump| match BtfView::parse(bump, file) {
+        Ok(_) => None,
+        Err(BtfError::Memory) => Some(0),
+        Err(BtfError::Fault(_)) => panic!(rt; "a fault of a good file"),
+    })?;
     Ok(tally.refused)
 }
 
@@ -65,25 +50,19 @@ fn refused_reading(rt: &impl Abort, alloc: Global, file: &[u8]) -> Result<usize,
 fn of_canonical_btf(rt: HostRuntime) -> Result<(), Fail> {
     let ample = canon_btf(rt.alloc(), FLOW_TABLE_BIG)?;
     assert_eq!(rt; ample.len(), CANONICAL_LEN);
-    let mut tally = Tally::new();
-    for room in 0..ROOM {
-        let bump = Bump::try_with_capacity(rt.alloc(), ROOM)?;
-        leave(&rt, &bump, room);
-        match canon_btf(&bump, FLOW_TABLE_BIG) {
+    let tally = Tally::of(&rt, rt.alloc(), |bump| {
+        match canon_btf(bump, FLOW_TABLE_BIG) {
             Ok(canon) => {
                 assert_eq!(rt; canon.as_slice(), ample.as_slice());
-                tally.succeed();
+                None
             }
-            Err(BtfError::Memory) => tally.refuse(&rt, 0),
+            Err(BtfError::Memory) => Some(0),
             Err(BtfError::Fault(_)) => panic!(rt; "a fault of a good file"),
         }
-        if tally.done == ENOUGH {
-            break;
-        }
-    }
+    })?;
     // Rooms are refused in which the file is read.
     let reading = refused_reading(&rt, rt.alloc(), FLOW_TABLE_BIG)?;
-    assert!(rt; tally.done > 0 && tally.refused >= CANONICAL_LEN && tally.refused > reading);
+    assert!(rt; tally.refused >= CANONICAL_LEN && tally.refused > reading);
     Ok(())
 }
 
@@ -94,22 +73,15 @@ fn refused_comparing(
     second: &[u8],
     answer: Result<bool, SideError<BtfFault>>,
 ) -> Result<usize, Fail> {
-    let mut tally = Tally::new();
-    for room in 0..ROOM {
-        let bump = Bump::try_with_capacity(alloc, ROOM)?;
-        leave(rt, &bump, room);
-        match same_btf(&bump, FLOW_TABLE_LITTLE, second) {
-            Err(SideError::Memory) => tally.refuse(rt, 0),
+    let tally = Tally::of(rt, alloc, |bump| {
+        match same_btf(bump, FLOW_TABLE_LITTLE, second) {
+            Err(SideError::Memory) => Some(0),
             reported => {
                 assert_eq!(rt; reported, answer);
-                tally.succeed();
+                None
             }
         }
-        if tally.done == ENOUGH {
-            break;
-        }
-    }
-    assert!(rt; tally.done > 0);
+    })?;
     Ok(tally.refused)
 }
 
@@ -142,70 +114,50 @@ fn of_comparing_btf(rt: HostRuntime) -> Result<(), Fail> {
 #[test]
 fn of_running_btf(rt: HostRuntime) -> Result<(), Fail> {
     let ample = canon_btf(rt.alloc(), FLOW_TABLE_BIG)?;
-    let mut tally = Tally::new();
     let mut after_reading = 0_usize;
-    for room in 0..ROOM {
-        let bump = Bump::try_with_capacity(rt.alloc(), ROOM)?;
-        leave(&rt, &bump, room);
+    let tally = Tally::of(&rt, rt.alloc(), |bump| {
         let mut source = MemSource::new(FLOW_TABLE_BIG, 100, None);
         let mut out = Vec::new(rt.alloc());
         let mut sink = MemSink::new(&mut out, 100, None);
-        match run_btf(&bump, &mut source, &mut sink, Order::Little) {
-            Ok(written) => {
-                assert_eq!(rt; written, 751);
-                assert_eq!(rt; out.as_slice(), ample.as_slice());
-                tally.succeed();
-            }
-            Err(stop) => {
-                assert_eq!(rt;
-                    (stop.cause, stop.written, out.len()),
-                    (RunCause::Memory, 0, 0)
-                );
-                let rest = read_all(rt.alloc(), &mut source, 849)?.len();
-                tally.refuse(&rt, 849_usize.saturating_sub(rest));
-                if rest == 0 {
-                    after_reading = after_reading.saturating_add(1);
-                }
-            }
+        let Err(stop) = run_btf(bump, &mut source, &mut sink, Order::Little) else {
+            assert_eq!(rt; out.as_slice(), ample.as_slice());
+            return None;
+        };
+        assert_eq!(rt;
+            (stop.cause, stop.written, out.len()),
+            (RunCause::Memory, 0, 0)
+        );
+        let rest = read_all(rt.alloc(), &mut source, 849).expect(&rt, "the rest of the file");
+        if rest.is_empty() {
+            after_reading = after_reading.saturating_add(1);
         }
-        if tally.done == ENOUGH {
-            break;
-        }
-    }
+        Some(849_usize.saturating_sub(rest.len()))
+    })?;
     // The vector that keeps the input grows at least for the first, the second and the last piece.
-    assert!(rt; tally.done > 0 && tally.places >= 3 && after_reading > 0);
+    assert!(rt; tally.places >= 3 && after_reading > 0);
     Ok(())
 }
 
 /// A growth of the sink's vector that is refused is a failed write, the first growth and each later one.
 #[test]
 fn of_a_sink_of_btf(rt: HostRuntime) -> Result<(), Fail> {
-    let mut tally = Tally::new();
-    for room in 0..ROOM {
-        let bump = Bump::try_with_capacity(rt.alloc(), ROOM)?;
-        leave(&rt, &bump, room);
+    let tally = Tally::of(&rt, rt.alloc(), |bump| {
         let mut source = MemSource::new(LOOSE_INT, 5, None);
-        let mut out = Vec::new(&bump);
+        let mut out = Vec::new(bump);
         let mut sink = MemSink::new(&mut out, 5, None);
-        match run_btf(rt.alloc(), &mut source, &mut sink, Order::Big) {
-            Ok(written) => {
-                assert_eq!(rt; written, 45);
-                assert_eq!(rt; out.as_slice(), BIG_INT);
-                tally.succeed();
-            }
-            Err(stop) => {
-                assert_eq!(rt;
-                    (stop.cause, stop.written),
-                    (RunCause::WriteFailed, out.len() as u64)
-                );
-                assert!(rt; out.len() < 45 && BIG_INT.starts_with(&out));
-                tally.refuse(&rt, out.len());
-            }
-        }
-        if tally.done == ENOUGH {
-            break;
-        }
-    }
-    assert!(rt; tally.done > 0 && tally.refused >= 45 && tally.places >= 3);
+        let ran = run_btf(rt.alloc(), &mut source, &mut sink, Order::Big);
+        assert!(rt; BIG_INT.starts_with(&out));
+        let Err(stop) = ran else {
+            assert_eq!(rt; out.len(), 45);
+            return None;
+        };
+        assert_eq!(rt;
+            (stop.cause, stop.written),
+            (RunCause::WriteFailed, out.len() as u64)
+        );
+        assert!(rt; out.len() < 45);
+        Some(out.len())
+    })?;
+    assert!(rt; tally.refused >= 45 && tally.places >= 3);
     Ok(())
 }
