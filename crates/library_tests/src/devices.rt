@@ -1,6 +1,6 @@
 //! Devices over memory and over readers and writers.
 use bpf_canon::{
-    ByteSink, ByteSource, DeviceFailed, MemSink, MemSource, ReadError, ReaderSource, WriterSink,
+    ByteSink, ByteSource, DeviceFailed, MemSink, MemSource, ReadError, ReaderSource, RunCause, RunError, SideError, WriterSink,
     put_all, read_all,
 };
 use std::test::Fail;
@@ -14,6 +14,29 @@ fn errors_show_their_names(rt: HostRuntime) -> Result<(), Fail> {
     ] {
         assert_eq!(rt; format!(in rt.alloc(); "{error}")?.as_str(), name);
     }
+    Ok(())
+}
+
+#[test]
+fn errors_of_engines_show_their_names(rt: HostRuntime) -> Result<(), Fail> {
+    for (cause, name) in [
+        (RunCause::Fault(0), "Fault"),
+        (RunCause::TooLong, "TooLong"),
+        (RunCause::ReadFailed, "ReadFailed"),
+        (RunCause::WriteFailed, "WriteFailed"),
+        (RunCause::Memory, "Memory"),
+    ] {
+        let error = RunError { cause, written: 8 };
+        assert_eq!(rt; format!(in rt.alloc(); "{error}")?.as_str(), name);
+    }
+    for (error, name) in [
+        (SideError::First(0), "First"),
+        (SideError::Second(0), "Second"),
+        (SideError::Memory, "Memory"),
+    ] {
+        assert_eq!(rt; format!(in rt.alloc(); "{error}")?.as_str(), name);
+    }
+    assert_eq!(rt; format!(in rt.alloc(); "{DeviceFailed}")?.as_str(), "DeviceFailed");
     Ok(())
 }
 

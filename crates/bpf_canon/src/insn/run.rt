@@ -10,27 +10,34 @@ use crate::device::source::ByteSource;
 use crate::insn::feed::InsnFeed;
 use bpf_insn::{InsnError, Order, SlotFault};
 use std::alloc::Allocator;
+use thiserror::Error;
 
 /// How many bytes of instructions an engine takes from a source: 64 MiB.
 pub const INSN_LIMIT: u64 = 67_108_864;
 
 /// Why an engine stopped. `F` is a fault of its input.
-#[derive(Clone, Copy, Debug, PartialEq, Eq)]
+#[derive(Clone, Copy, Debug, PartialEq, Eq, Error)]
 pub enum RunCause<F> {
     /// The input has this fault.
+    #[error("Fault")]
     Fault(F),
     /// More bytes came than the limit allows.
+    #[error("TooLong")]
     TooLong,
     /// A read of the source failed.
+    #[error("ReadFailed")]
     ReadFailed,
     /// A write to the sink failed.
+    #[error("WriteFailed")]
     WriteFailed,
     /// The allocator refused memory.
+    #[error("Memory")]
     Memory,
 }
 
 /// What an engine says that stopped.
-#[derive(Clone, Copy, Debug, PartialEq, Eq)]
+#[derive(Clone, Copy, Debug, PartialEq, Eq, Error)]
+#[error("{cause}")]
 pub struct RunError<F> {
     /// Why it stopped.
     pub cause: RunCause<F>,
