@@ -1,4 +1,4 @@
-use Rattle.std.proofs.Common.{◌≡◌, ◌++◌, take}
+use Rattle.std.proofs.Common.{◌++◌, take}
 use Rattle.std.specs.List.{flat_map}
 use Rattle.btf_types.specs.tables.TableWords.{record_at}
 use Rattle.btf_text.specs.BtfText.{item_line}
