@@ -4,7 +4,7 @@
 
 Two answers are right within any limit: the one with ample memory; status 3 with `no memory`, or `no words` where not
 even the words of the process could be kept. Of the output there is nothing then, but for insn-canon, which writes as
-it reads, and insn-show, which writes in pieces: there it is the beginning of the right output. Only where the limit is so
+it reads, and insn-show and btf-show, which write in pieces: there it is the beginning of the right output. Only where the limit is so
 low that the system can't load the program, the end is the system's: the kernel's signal, and then the loader's line with
 status 127.
 
@@ -58,7 +58,7 @@ def large_lines():
 
 def is_refusal(ran, line, right, told=(b"no memory\n",)):
     """Whether the program told that it had no memory, and wrote nothing that it shouldn't."""
-    written = right.output if line == "" or line.startswith(("insn-canon", "insn-show")) else b""
+    written = right.output if line == "" or line.startswith(("insn-canon", "insn-show", "btf-show")) else b""
     return ran.status == 3 and ran.told in told and written.startswith(ran.output)
 
 

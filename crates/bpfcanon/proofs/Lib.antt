@@ -1,4 +1,5 @@
 pub mod BtfCanonLemmas
+pub mod BtfPieces
 pub mod BtfSameLemmas
 pub mod CanonLemmas
 pub mod CommandLemmas

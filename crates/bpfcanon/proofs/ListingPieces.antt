@@ -21,7 +21,7 @@ use Rattle.bpfcanon.specs.declared.verb.Verb.TheVariants.{InsnShow}
 use Rattle.bpfcanon.specs.Ends.{Change, change}
 use Rattle.bpfcanon.specs.Pieces.{Answers, Gathered, TookFront, TookPart, answered, refused_amid, unwritten}
 use Rattle.bpfcanon.specs.Reply.{limit_of, shown, unshown}
-use Rattle.bpfcanon.proofs.PiecesLemmas.{front_more, gathered_all, gathered_more, gathered_none, part_more}
+use Rattle.bpfcanon.proofs.PiecesLemmas.{front_more, gathered_all, gathered_more, gathered_none, part_last, part_more}
 
 -- the lines of the instructions before a place are gathered, and those of the others follow
 pub record Listed (order : Order) (input : List ℕ) (at : ℕ) (sink : Change) (piece : List ℕ) : Type 0 where
@@ -139,11 +139,7 @@ module _ (order : Order) (input : List ℕ) (at : ℕ) (a b : Option (List ℕ))
   pub last_part : (c : Option (List ℕ)) (h : ℕ) → length input ≤ at → TookPart (change b c g h) piece
       → (l : List Insn) × (InsnFile order input l × TookPart (change a c f h) (listing_of l))
   last_part c h done q =
-      let piece_is : piece ≡ piece ++ [] = sym (append-nil piece) in
-      let text_is : listing_of p.before ++ [] ++ [] ≡ listing_of p.before = append-nil (listing_of p.before ++ []) ∙ append-nil (listing_of p.before) in
-      let part : TookPart (change a c f h) (listing_of p.before ++ [] ++ []) =
-      part_more a b c f g h piece (listing_of p.before) [] [] p.gathered (subst (TookPart (change b c g h)) piece_is q) in
-      (p.before, (subst (InsnFile order input) (nothing_left done) p.file, subst (TookPart (change a c f h)) text_is part))
+      (p.before, (subst (InsnFile order input) (nothing_left done) p.file, part_last a b c f g h piece (listing_of p.before) p.gathered q))
 
 -- ---- how insn-show ends
 

@@ -35,6 +35,12 @@ Puts sink text (Ok done) = Appends sink.old sink.new text × IsHealthy sink
 Puts sink text (Err WriteFailed) = TookPart sink text
 Puts sink text (Err Memory) = TookFront sink text
 
+-- what the sink took of a text that a call adds to, and the piece that is held behind it, by how the call ended
+abbrev pub Gathers : Change → List ℕ → List ℕ → Result (Unit {0}) PutError → Type 0
+Gathers sink held text (Ok done) = Gathered sink held text
+Gathers sink held text (Err WriteFailed) = TookPart sink text
+Gathers sink held text (Err Memory) = TookFront sink text
+
 -- how a job ends whose input was read whole, by what its sink took of the reply
 pub data Answers (j : Job) (input : List ℕ) (sink : Change) : Outcome → Type 0 where
   -- the sink took the output

@@ -43,6 +43,7 @@ streams _ = false
 -- whether a command writes its output in pieces, once it has read its input whole and found no fault
 abbrev pub in_pieces : Verb → Bool
 in_pieces InsnShow = true
+in_pieces BtfShow = true
 in_pieces _ = false
 
 -- whether an engine runs a command from its source to its sink

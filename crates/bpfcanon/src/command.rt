@@ -9,6 +9,7 @@ ghost use Rattle.bpfcanon.specs.Pieces.{Answers};
 ghost use Rattle.bpfcanon.specs.Reply.{has_engine, in_pieces, limit_of};
 
 use crate::btf_canon_job::run_btf_canon;
+use crate::btf_listing::put_btf_shown;
 use crate::command_line::{Job, LineError, parse_line};
 use crate::listing_pieces::put_shown;
 use crate::outcome::{Outcome, put_line};
@@ -81,12 +82,12 @@ fn answer<A: Allocator + Copy, W: ByteSink>(
 {
     match job.verb {
         Verb::InsnShow => put_shown(alloc, job, input, sink),
+        Verb::BtfShow => put_btf_shown(alloc, job, input, sink),
         Verb::InsnCanon
         | Verb::InsnRead
         | Verb::InsnGroups
         | Verb::InsnSame
         | Verb::BtfCanon
-        | Verb::BtfShow
         | Verb::BtfCheck
         | Verb::BtfSame => put_reply(alloc, job, input, sink),
     }

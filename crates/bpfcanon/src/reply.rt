@@ -4,7 +4,6 @@ ghost use Rattle.std.specs.Prelude.{◌≡◌, ◌≤◌, [], false, length, IfO
 ghost use Rattle.bpfcanon.specs.Reply.{IsReply, has_engine, in_pieces, limit_of};
 
 use crate::btf_check::check_reply;
-use crate::btf_listing::btf_show_reply;
 use crate::btf_same::btf_same_reply;
 use crate::command_line::Job;
 use crate::groups::groups_reply;
@@ -59,11 +58,10 @@ pub fn reply_to<A: Allocator + Copy>(
     ensures { IfOk result (λ r. IsReply job.verb job input.now r.outcome r.output.items) }
 {
     match job.verb {
-        Verb::InsnCanon | Verb::InsnShow | Verb::BtfCanon => unreachable!(),
+        Verb::InsnCanon | Verb::InsnShow | Verb::BtfCanon | Verb::BtfShow => unreachable!(),
         Verb::InsnRead => read_reply(alloc, job.to, input),
         Verb::InsnGroups => groups_reply(alloc, job.order, input),
         Verb::InsnSame => same_reply(alloc, job, input),
-        Verb::BtfShow => btf_show_reply(alloc, input),
         Verb::BtfCheck => check_reply(alloc, input),
         Verb::BtfSame => btf_same_reply(alloc, job.split, input),
     }

@@ -4,6 +4,7 @@ mod arena;
 mod btf;
 mod btf_faults;
 mod btf_files;
+mod btf_pieces;
 mod devices;
 mod examples;
 mod lines;

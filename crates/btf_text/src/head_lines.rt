@@ -290,6 +290,10 @@ fn append_fields<A: Allocator>(
 }
 
 /// Appends the line of a type with its number and so many items.
+///
+/// # Errors
+///
+/// `AllocError` where the vector couldn't grow. It may then hold the first bytes of the line.
 pub fn append_head<A: Allocator>(
     text: &mut Vec<u8, A>,
     id: u32,

@@ -104,6 +104,10 @@ fn append_item_text<A: Allocator>(
 }
 
 /// Appends the line of an item of a type whose values are read as signed or not.
+///
+/// # Errors
+///
+/// `AllocError` where the vector couldn't grow. It may then hold the first bytes of the line.
 pub fn append_item<A: Allocator>(
     text: &mut Vec<u8, A>,
     item: Item<'_>,

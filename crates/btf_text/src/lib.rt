@@ -7,4 +7,6 @@ mod quoted_name;
 mod show;
 mod text_parts;
 
+pub use head_lines::{append_head, is_signed};
+pub use item_lines::append_item;
 pub use show::show_btf;

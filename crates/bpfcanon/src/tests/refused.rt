@@ -1,7 +1,7 @@
 //! Each growth is refused in turn, to every command: an arena has room for ever one byte more.
 
 use super::arena::{MOST_ROOM, arena, arena_of};
-use super::btf_files::{BIG_ENUM, BIG_INT, INT, STRUCT, UNKNOWN_TYPE};
+use super::btf_files::{BIG_ENUM, BIG_INT, INT, STRUCT, UNKNOWN_TYPE, nameless};
 use crate::command::run_job;
 use crate::command_line::Job;
 use crate::outcome::Outcome;
@@ -174,8 +174,33 @@ fn of_faulty_instructions(rt: HostRuntime) -> Result<(), Fail> {
     Ok(())
 }
 
-/// How much room the arena of a listing in pieces has at most, in bytes.
-const LISTING_ROOM: usize = 160_000;
+/// How much room the arena of a text in pieces has at most, in bytes.
+const PIECES_ROOM: usize = 160_000;
+
+/// Runs a job whose first piece has 8,192 bytes with arenas of ever more room until it succeeds, and sees that memory is refused behind
+/// that piece too.
+fn refuse_between_pieces(rt: &impl Abort, alloc: Global, sample: Sample<'_>) -> Result<(), Fail> {
+    let mut refused_after_a_piece = 0;
+    for room in (0..PIECES_ROOM).step_by(512) {
+        let bump = arena_of(alloc, PIECES_ROOM, room)?;
+        let mut output = Vec::new(alloc);
+        let mut source = MemSource::new(sample.input, 4096, None);
+        let mut sink = MemSink::new(&mut output, 4096, None);
+        let outcome = run_job(&bump, sample.job, &mut source, &mut sink);
+        if outcome == Outcome::Done {
+            assert_eq!(rt; output.as_slice(), sample.output, "{room} bytes");
+            assert!(rt; refused_after_a_piece > 0);
+            return Ok(());
+        }
+        assert_eq!(rt; outcome, Outcome::Memory, "{room} bytes");
+        assert!(rt; output.is_empty() || output.len() == 8192, "{room} bytes");
+        assert!(rt; sample.output.starts_with(&output), "{room} bytes");
+        if !output.is_empty() {
+            refused_after_a_piece = 1;
+        }
+    }
+    Err("never enough room")?
+}
 
 // The first piece is 1,024 lines of 8 bytes, for which the vector grows to 8,192 bytes; the second is 8,195 bytes long.
 #[test]
@@ -190,26 +215,14 @@ fn between_pieces(rt: HostRuntime) -> Result<(), Fail> {
         insns.extend_from_slice(b"\x95\0\0\0\0\0\0\0")?;
         lines.extend_from_slice(b"exit\n")?;
     }
-    let mut refused_after_a_piece = 0;
-    for room in (0..LISTING_ROOM).step_by(512) {
-        let bump = arena_of(rt.alloc(), LISTING_ROOM, room)?;
-        let mut output = Vec::new(rt.alloc());
-        let mut source = MemSource::new(&insns, 4096, None);
-        let mut sink = MemSink::new(&mut output, 4096, None);
-        let outcome = run_job(&bump, job(Verb::InsnShow, 0), &mut source, &mut sink);
-        if outcome == Outcome::Done {
-            assert_eq!(rt; output, lines, "{room} bytes");
-            assert!(rt; refused_after_a_piece > 0);
-            return Ok(());
-        }
-        assert_eq!(rt; outcome, Outcome::Memory, "{room} bytes");
-        assert!(rt; output.is_empty() || output.len() == 8192, "{room} bytes");
-        assert!(rt; lines.starts_with(&output), "{room} bytes");
-        if !output.is_empty() {
-            refused_after_a_piece = 1;
-        }
-    }
-    Err("never enough room")?
+    refuse_between_pieces(&rt, rt.alloc(), done(Verb::InsnShow, &insns, &lines))
+}
+
+// The first piece is the lines of 488 types, for which the vector grows to 8,192 bytes; the second is 8,194 bytes long.
+#[test]
+fn between_pieces_of_types(rt: HostRuntime) -> Result<(), Fail> {
+    let (file, text) = nameless(rt.alloc(), 2, 1000)?;
+    refuse_between_pieces(&rt, rt.alloc(), done(Verb::BtfShow, &file, &text))
 }
 
 /// A BTF file of 24 TYPEDEFs of void with the names `a` to `x`, in canonical form.
