@@ -14,7 +14,7 @@ use crate::fault::{LineCause, LineFault, ListError};
 use crate::make::insn_of;
 use crate::mnemonic::Mnemonic;
 use crate::spelled::arguments_of;
-use crate::token::{code_of, has_stray, next_token, tokens_of};
+use crate::token::{known_code, next_token, tokens_of};
 use bpf_insn::Insn;
 use memchr::memchr;
 use std::alloc::{AllocError, Allocator};
@@ -52,10 +52,9 @@ pub(crate) fn first_line(text: &[u8]) -> (&[u8], Option<&[u8]>)
 pub(crate) fn read_line(line: &[u8]) -> Result<Option<Insn>, LineCause>
     ensures { MatchResult result (λ found. ListsLine line.now (option_to_list found)) (IsCause line.now) }
 {
-    let code = code_of(line);
-    if has_stray(code) {
+    let Some(code) = known_code(line) else {
         return Err(LineCause::Char);
-    }
+    };
     match next_token(code) {
         None => Ok(None),
         Some(parts) => match read_insn(parts.0, parts.1) {
