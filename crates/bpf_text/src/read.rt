@@ -1,21 +1,22 @@
 //! Listings, read.
 
-ghost use Rattle.std.specs.Prelude.{◌≡◌, ℕ, ◌+◌, ◌≤◌, ◌++◌, List, length, false, Err, IfOk, OnOk, MatchResult};
+ghost use Rattle.std.specs.Prelude.{◌≡◌, ℕ, ◌<◌, [], ◌∷◌, ◌++◌, List, length, false, Err, IfOk, IfSome, OnOk, MatchOption, MatchResult};
 ghost use Rattle.std.specs.Option.{option_to_list};
-ghost use Rattle.std.specs.List.{list_any, position_or_len};
+ghost use Rattle.std.specs.List.{list_any};
 ghost use Rattle.bpf_insn.specs.declared.insn.Insn.{Insn};
-ghost use Rattle.bpf_text.specs.Tokens.{is_newline, is_stray, AreTokens};
+ghost use Rattle.bpf_text.specs.Tokens.{is_stray, AreTokens};
 ghost use Rattle.bpf_text.specs.declared.fault.LineFault.{LineFault};
 ghost use Rattle.bpf_text.specs.declared.fault.ListError.{ListError};
-ghost use Rattle.bpf_text.specs.Listing.{Lists, IsListFault, IsCause, ListsLine};
+ghost use Rattle.bpf_text.specs.Listing.{lines_of, Lists, IsListFault, IsCause, ListsLine};
 ghost use Rattle.bpf_text.specs.Reading.{ReadsTokens, Refuses};
 
 use crate::fault::{LineCause, LineFault, ListError};
 use crate::make::insn_of;
 use crate::mnemonic::Mnemonic;
 use crate::spelled::arguments_of;
-use crate::token::{code_of, has_stray, next_token, tokens_of};
+use crate::token::{known_code, next_token, tokens_of};
 use bpf_insn::Insn;
+use memchr::memchr;
 use std::alloc::{AllocError, Allocator};
 
 /// The instruction that a word and what stands behind it list.
@@ -35,32 +36,25 @@ fn read_insn(word: &[u8], behind: &[u8]) -> Result<Insn, LineCause>
     insn_of(mnemonic, arguments.as_slice())
 }
 
-fn is_newline(b: u8) -> bool
-    ensures { result ≡ is_newline b }
+/// The first line of a text, and what stands behind its newline, where it has one.
+pub(crate) fn first_line(text: &[u8]) -> (&[u8], Option<&[u8]>)
+    ensures lines { MatchOption result.1 (lines_of text.now ≡ result.0.now ∷ [])
+        (λ behind. lines_of text.now ≡ result.0.now ∷ lines_of behind.now) }
+    ensures shorter { IfSome result.1 (λ behind. length behind.now < length text.now) }
 {
-    b == b'\n'
-}
-
-fn line_len(bytes: &[u8]) -> usize
-    ensures value { result ≡ position_or_len is_newline bytes.now }
-    ensures within { result ≤ length bytes.now }
-{
-    for (i, b) in bytes.iter().enumerate() {
-        if is_newline(*b) {
-            return i;
-        }
+    match memchr(b'\n', text) {
+        Some(end) => (&text[..end], Some(&text[end + 1..])),
+        None => (text, None),
     }
-    bytes.len()
 }
 
 /// What a line lists.
-fn read_line(line: &[u8]) -> Result<Option<Insn>, LineCause>
+pub(crate) fn read_line(line: &[u8]) -> Result<Option<Insn>, LineCause>
     ensures { MatchResult result (λ found. ListsLine line.now (option_to_list found)) (IsCause line.now) }
 {
-    let code = code_of(line);
-    if has_stray(code) {
+    let Some(code) = known_code(line) else {
         return Err(LineCause::Char);
-    }
+    };
     match next_token(code) {
         None => Ok(None),
         Some(parts) => match read_insn(parts.0, parts.1) {
@@ -88,7 +82,7 @@ fn read_lines<A: Allocator>(alloc: A, text: &[u8]) -> Result<Vec<Insn, A>, ListE
     let mut rest = text;
     let mut number: u64 = 1;
     'lines: loop {
-        let (line, behind) = rest.split_at(line_len(rest));
+        let (line, behind) = first_line(rest);
         let found = match read_line(line) {
             Ok(found) => found,
             Err(cause) => {
@@ -101,10 +95,10 @@ fn read_lines<A: Allocator>(alloc: A, text: &[u8]) -> Result<Vec<Insn, A>, ListE
         if push_found(&mut insns, found).is_err() {
             return Err(ListError::Memory);
         }
-        if behind.is_empty() {
+        let Some(behind) = behind else {
             return Ok(insns);
-        }
-        rest = &behind[1..];
+        };
+        rest = behind;
         number += 1;
     }
 }

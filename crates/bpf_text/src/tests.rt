@@ -3,7 +3,9 @@
 mod every_word;
 mod memory;
 
-use crate::{LineCause, LineFault, ListError, listing, push_line, read_listing};
+use crate::{
+    LineCause, LineFault, ListError, listing, push_line, read_listing, read_listing_bytes,
+};
 use bpf_insn::{Insn, Order, decode_insns, insn_bytes};
 use std::alloc::Allocator;
 use std::test::Fail;
@@ -121,11 +123,30 @@ fn lines_are_read_and_listed(rt: HostRuntime) -> Result<(), Fail> {
             "{listed:?}"
         );
         assert_eq!(rt;
+            read_listing_bytes(rt.alloc(), Order::Little, text)?.as_slice(),
+            bytes,
+            "{listed:?}"
+        );
+        assert_eq!(rt;
             listing(rt.alloc(), &insns)?.as_slice(),
             listed,
             "{listed:?}"
         );
     }
+    Ok(())
+}
+
+#[test]
+fn bytes_are_read_in_both_orders(rt: HostRuntime) -> Result<(), Fail> {
+    let text = b"; three\nmov r1, 0x10 # sixteen\n\nlddw r2, 0x0102030405060708\nexit";
+    assert_eq!(rt;
+        read_listing_bytes(rt.alloc(), Order::Little, text)?.as_slice(),
+        b"\xb7\x01\0\0\x10\0\0\0\x18\x02\0\0\x08\x07\x06\x05\0\0\0\0\x04\x03\x02\x01\x95\0\0\0\0\0\0\0".as_slice()
+    );
+    assert_eq!(rt;
+        read_listing_bytes(rt.alloc(), Order::Big, text)?.as_slice(),
+        b"\xb7\x10\0\0\0\0\0\x10\x18\x20\0\0\x05\x06\x07\x08\0\0\0\0\x01\x02\x03\x04\x95\0\0\0\0\0\0\0".as_slice()
+    );
     Ok(())
 }
 
@@ -194,6 +215,11 @@ fn the_first_fault_is_told(rt: HostRuntime) {
     for (text, line, cause) in cases {
         assert_eq!(rt;
             read_listing(rt.alloc(), text).map(|_| ()),
+            Err(ListError::Fault(LineFault { line, cause })),
+            "{text:?}"
+        );
+        assert_eq!(rt;
+            read_listing_bytes(rt.alloc(), Order::Big, text).map(|_| ()),
             Err(ListError::Fault(LineFault { line, cause })),
             "{text:?}"
         );

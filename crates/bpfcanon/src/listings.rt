@@ -6,9 +6,8 @@ ghost use Rattle.bpfcanon.specs.Reply.{IsReadReply, limit_of};
 
 use crate::outcome::Outcome;
 use crate::reply::Reply;
-use bpf_canon::write_insns;
 use bpf_insn::Order;
-use bpf_text::{ListError, read_listing};
+use bpf_text::{ListError, read_listing_bytes};
 use std::alloc::{AllocError, Allocator};
 
 /// The instructions that a text lists, in the order `to`.
@@ -20,10 +19,10 @@ pub fn read_reply<A: Allocator + Copy>(
     requires { length input.now ≤ limit_of InsnRead }
     ensures { IfOk result (λ r. IsReadReply (limit_of InsnRead) to input.now r.outcome r.output.items) }
 {
-    match read_listing(alloc, input) {
-        Ok(insns) => Ok(Reply {
+    match read_listing_bytes(alloc, to, input) {
+        Ok(output) => Ok(Reply {
             outcome: Outcome::Done,
-            output: write_insns(alloc, to, insns.as_slice())?,
+            output,
         }),
         Err(ListError::Fault(fault)) => Ok(Reply::bare(alloc, Outcome::FaultyLine(fault))),
         Err(ListError::Memory) => Err(AllocError),

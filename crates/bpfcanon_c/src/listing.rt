@@ -3,9 +3,8 @@ ghost use Rattle.std.specs.Prelude.{◌≡◌};
 ghost use Rattle.bpfcanon_c.specs.Listings.{code_of_line, EndsListing, EndsListingIn, AnswersListing, EndsListed, EndsListedIn, AnswersListed};
 
 use crate::answer::{Answer, Ending, FaultCode, order_from, put, report, slot_code};
-use bpf_canon::write_insns;
 use bpf_insn::{InsnError, Order, decode_insns};
-use bpf_text::{LineFault, ListError, listing, read_listing};
+use bpf_text::{LineFault, ListError, listing, read_listing_bytes};
 use std::alloc::Global;
 
 /// Writes the listing of the instructions of a file of the byte order `order` at the front of `out`: a line for each, with a
@@ -69,11 +68,8 @@ fn listed_into(alloc: Global, to: u32, text: &[u8], out: &mut [u8]) -> Ending
 fn listed_in(alloc: Global, to: Order, text: &[u8], out: &mut [u8]) -> Ending
     ensures { EndsListedIn to text.now out.old out.new result }
 {
-    match read_listing(alloc, text) {
-        Ok(insns) => match write_insns(alloc, to, &insns) {
-            Ok(written) => put(&written, out),
-            Err(_) => Ending::Memory,
-        },
+    match read_listing_bytes(alloc, to, text) {
+        Ok(written) => put(&written, out),
         Err(ListError::Fault(fault)) => Ending::First(line_code(fault)),
         Err(ListError::Memory) => Ending::Memory,
     }

@@ -1,7 +1,9 @@
 //! Large texts with ample memory, and small ones with each growth refused in turn.
 
-use crate::{LineCause, LineFault, ListError, listing, push_line, read_listing};
-use bpf_insn::{Insn, Reg, WideOf};
+use crate::{
+    LineCause, LineFault, ListError, listing, push_line, read_listing, read_listing_bytes,
+};
+use bpf_insn::{Insn, Order, Reg, WideOf};
 use bumpalo::Bump;
 use std::alloc::{AllocError, Global};
 use std::process::Abort;
@@ -60,6 +62,42 @@ fn of_reading(rt: HostRuntime) -> Result<(), Fail> {
     }
     assert_eq!(rt; places(&refused), 3);
     assert!(rt; refused[0] > 0 && refused[4] > 0 && refused[8] > 0);
+    Ok(())
+}
+
+/// How many of the nine lines are read to bytes with so much room.
+fn bytes_read_in(alloc: Global, room: usize) -> Result<usize, AllocError> {
+    for count in 1..=9usize {
+        let bump = arena(alloc, room)?;
+        if read_listing_bytes(&bump, Order::Little, &LINES[..5 * count]).is_err() {
+            return Ok(count - 1);
+        }
+    }
+    Ok(9)
+}
+
+#[test]
+fn of_reading_bytes(rt: HostRuntime) -> Result<(), Fail> {
+    let mut refused = [0u32; 10];
+    let fault = LineFault {
+        line: 10,
+        cause: LineCause::Word,
+    };
+    for room in 0..=ROOM {
+        let fits = bytes_read_in(rt.alloc(), room)?;
+        assert!(rt; fits < 10);
+        let bump = arena(rt.alloc(), room)?;
+        match read_listing_bytes(&bump, Order::Little, LINES) {
+            Ok(_) => assert!(rt; false, "a faulty text is accepted"),
+            Err(ListError::Memory) => refused[fits] = refused[fits].saturating_add(1),
+            Err(ListError::Fault(told)) => {
+                assert_eq!(rt; told, fault);
+                assert_eq!(rt; fits, 9);
+            }
+        }
+    }
+    // Eight bytes an instruction: room grows for the first, and at least for each doubling.
+    assert!(rt; places(&refused) >= 3 && refused[0] > 0 && refused[9] == 0);
     Ok(())
 }
 
@@ -151,6 +189,9 @@ fn the_largest_text_is_read_and_listed(rt: HostRuntime) -> Result<(), Fail> {
     assert_eq!(rt; text.len(), 67_108_864);
     let insns = read_listing(rt.alloc(), &text)?;
     assert_eq!(rt; insns.len() as u64, COUNT);
+    let bytes = read_listing_bytes(rt.alloc(), Order::Little, &text)?;
+    assert_eq!(rt; bytes.len(), 33_554_432);
+    assert!(rt; bytes.ends_with(b"\x18\x09\0\0\xff\xff\x1f\0\0\0\0\0\0\0\0\0"));
     let dst = Reg::new(9).ok_or("no register")?;
     for (number, insn) in (0..COUNT).zip(insns.iter()) {
         let what = WideOf::Number(number);

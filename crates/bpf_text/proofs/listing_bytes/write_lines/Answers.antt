@@ -1,0 +1,35 @@
+use Rattle.std.proofs.Common.{◌≡◌, ◌∷◌, [], arith, refl}
+use Rattle.std.specs.Option.{option_to_list}
+use Rattle.bpf_text.specs.Listing.{lines_of}
+use Rattle.bpf_text.proofs.Outcomes.{on_ok}
+use Rattle.bpf_text.proofs.BytesRead.{one_more_written, at_the_end_written}
+use Rattle.bpf_text.proofs.ListingLemmas.{starts, at_a_fault}
+use Rattle.bpf_text.proofs.listing_bytes.write_lines.Goals as goal
+
+pub lines-init : goal.lines-init
+lines-init g c =
+    record {
+      so_far = record { insns = []; so_far = starts c.args.text.now [] refl; spelled = c.new-bytes.ensures.items };
+      bound = omega arith;
+    }
+
+pub returns-in-Err : goal.returns-in-Err
+returns-in-Err g c =
+    let so_far = c.lines.invariant.so_far in
+    at_a_fault c.args.text.now c.lines.rest.now c.first_line.result.0.now c.first_line.result.1 so_far.insns c.lines.number c.in-Err.cause so_far.so_far c.first_line.ensures.lines c.in-Err.ensures
+
+pub returns-in_default : goal.returns-in_default
+returns-in_default g c =
+    let last : lines_of c.lines.rest.now ≡ c.first_line.result.0.now ∷ [] = rw c.in_default.is at c.first_line.ensures.lines in
+    let pushed = on_ok _ c.append_found.result c.is_err.result c.is_err.ensures.value c.if-is_err.false c.append_found.ensures in
+    at_the_end_written c.args.to c.args.text.now c.lines.rest.now c.first_line.result.0.now c.lines.bytes.items c.append_found.new.bytes.items (option_to_list c.in-Ok.found) c.lines.number c.lines.invariant.so_far last c.in-Ok.ensures pushed
+
+pub lines-preserved : goal.lines-preserved
+lines-preserved g c =
+    let line : lines_of c.lines.rest.now ≡ c.first_line.result.0.now ∷ lines_of c.in-Some.behind.now = rw c.in-Some.is at c.first_line.ensures.lines in
+    let shorter = rw c.in-Some.is at c.first_line.ensures.shorter in
+    let pushed = on_ok _ c.append_found.result c.is_err.result c.is_err.ensures.value c.if-is_err.false c.append_found.ensures in
+    record {
+      so_far = one_more_written c.args.to c.args.text.now c.lines.rest.now c.first_line.result.0.now c.in-Some.behind.now c.lines.bytes.items c.append_found.new.bytes.items (option_to_list c.in-Ok.found) c.lines.number c.lines.invariant.so_far line c.in-Ok.ensures pushed;
+      bound = omega (arith, c.lines.invariant.bound, shorter);
+    }
