@@ -1,5 +1,5 @@
 //! The host of each name, by the ranks of the longest texts.
-ghost use Rattle.std.specs.Prelude.{◌≡◌, ◌<◌, ◌^◌, length, map, slice_index_or, IfOk};
+ghost use Rattle.std.specs.Prelude.{◌≡◌, ◌<◌, ◌^◌, false, length, map, slice_index_or, IfOk};
 ghost use Rattle.std.specs.List.{All, Any};
 ghost use Rattle.std.specs.List.Sorted.{IsPermutation};
 ghost use Rattle.btf_canon.specs.Ranks.{AreRanked};
@@ -42,7 +42,7 @@ fn find_within<A: Allocator>(
     requires section { length ranked.now.section.now < 2 ^ 32 }
     requires inside { rank < length ranked.now.tails.items }
     requires whole { length found.old ≡ number_of uses.now (length uses.now) }
-    ensures { spec.FindsWithin ranked.now.section.now uses.now (map (tail_text ranked.now.section.now) ranked.now.tails.items) (slice_index_or ranked.now.tails.items rank (record { key = 0; start = 0; end = 0 })) found.old found.new }
+    ensures { spec.FindsWithin ranked.now.section.now uses.now (map (tail_text ranked.now.section.now) ranked.now.tails.items) (slice_index_or ranked.now.tails.items rank (record { key = 0; start = 0; end = 0; number = 0; alone = false })) found.old found.new }
 {
     let end = ranked.tails[rank].end;
     let mut from = rank;
@@ -59,7 +59,7 @@ fn find_within<A: Allocator>(
     }
 }
 
-// The host of each used offset, by its number.
+// The host of each used offset, by its number. That of a text under one name alone is found without a look at the offsets.
 pub(crate) fn find_hosts<A: Allocator + Copy>(
     alloc: A,
     uses: &UsedOffsets<A>,
@@ -73,7 +73,18 @@ pub(crate) fn find_hosts<A: Allocator + Copy>(
 {
     let mut found = vec![in alloc; InHost::NONE; uses.count()]?;
     for rank in 0..ranked.tails.len() {
-        find_within(uses, ranked, rank, &mut found);
+        let text = ranked.tails[rank];
+        if !text.alone {
+            find_within(uses, ranked, rank, &mut found);
+            continue;
+        }
+        let first = first_rank(&ranked.common, &ranked.lower, rank, text.len());
+        let host = ranked.hosts[first];
+        let len = ranked.tails[host as usize].len();
+        found[text.number as usize] = InHost {
+            host: host + 1,
+            before: len - text.len(),
+        };
     }
     Ok(found)
 }

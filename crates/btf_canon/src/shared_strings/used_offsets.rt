@@ -1,5 +1,5 @@
 //! The used offsets of a string section, numbered in ascending order.
-ghost use Rattle.std.specs.Prelude.{◌≡◌, ◌≢◌, ◌<◌, ◌^◌, true, false, length, slice_index, IfOk};
+ghost use Rattle.std.specs.Prelude.{◌≡◌, ◌≢◌, ◌<◌, ◌≤◌, ◌^◌, ℕ, true, false, length, slice_index, IfOk};
 ghost use Rattle.btf_canon.specs.UsedOffsets as spec;
 
 use std::alloc::{AllocError, Allocator};
@@ -67,6 +67,20 @@ impl<A: Allocator> UsedOffsets<A> {
         ensures no { result ≡ false → slice_index self.now off ≡ 0 }
     {
         self.slots[off] != 0
+    }
+
+    // Whether none of the offsets from `start` up to `end` is used.
+    pub(crate) fn are_unused(&self, start: usize, end: usize) -> bool
+        requires order { start ≤ end }
+        requires inside { end ≤ length self.now }
+        ensures { result ≡ true → (off : ℕ) → start ≤ off → off < end → slice_index self.now off ≡ 0 }
+    {
+        for off in start..end {
+            if self.slots[off] != 0 {
+                return false;
+            }
+        }
+        true
     }
 
     // How many used offsets come before a used one.
