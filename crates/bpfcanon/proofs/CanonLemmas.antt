@@ -1,5 +1,6 @@
 -- How insn-canon ends, by what its engine did.
-use Rattle.std.proofs.Common.{◌≡◌, ◌+◌, ℕ, List, [], take, refl, subst, inl, inr, arith}
+use Rattle.std.proofs.Common.{◌≡◌, ◌∙◌, ◌+◌, ℕ, List, [], take, refl, subst, inl, inr, arith, add-zero}
+use Rattle.std.specs.Prelude.{MatchResult}
 use Rattle.std.specs.Io.KnownBytes.{Appends}
 use Rattle.std.proofs.lemmas.List.{take-take}
 use Rattle.bpf_words.specs.declared.Order.{Order}
@@ -8,7 +9,9 @@ use Rattle.bpf_insn.specs.declared.fault.SlotFault.{SlotFault}
 use Rattle.bpf_insn.specs.Spelling.{file_of}
 use Rattle.bpf_insn.specs.Faults.{IsFront}
 use Rattle.bpf_insn.proofs.FrontLemmas.{one_front}
-use Rattle.bpf_canon.specs.insn.Run.{Devices, RanWhole, StopsAtFault, StopsTooLong, StopsUnread, StopsUnwritten, Wrote, WroteAll, limit}
+use Rattle.bpf_canon.specs.declared.insn.run.RunCause.{RunCause}
+use Rattle.bpf_canon.specs.declared.insn.run.RunCause.TheVariants as cause
+use Rattle.bpf_canon.specs.insn.Run.{Devices, RanWhole, Stops, StopsAtFault, StopsTooLong, StopsUnread, StopsUnwritten, Wrote, WroteAll, counts_read, counts_write, limit}
 use Rattle.bpf_canon.specs.insn.Stands.{IsSound}
 use Rattle.bpf_canon.proofs.InsnLemmas.FrontLaws.{file_front, truncated_or_not}
 use Rattle.bpfcanon.specs.declared.command_line.Job.{Job}
@@ -16,7 +19,7 @@ use Rattle.bpfcanon.specs.declared.outcome.Outcome.{Outcome}
 use Rattle.bpfcanon.specs.declared.outcome.Outcome.TheVariants.{Done, Fault, TooLong, ReadFailed, WriteFailed, Memory}
 use Rattle.bpfcanon.specs.declared.verb.Verb.TheVariants.{InsnCanon}
 use Rattle.bpfcanon.specs.Reply.{HasLastingFault, IsCanonReply, canonical, canonical_to_fault, canonical_to_limit}
-use Rattle.bpfcanon.specs.Ends.{Change, EndsJob, TookAll, TookPrefix, no_memory_amid, read_failed_amid, replied, write_failed_amid}
+use Rattle.bpfcanon.specs.Ends.{Change, EndsJob, TookAll, end_of_stop, TookPrefix, no_memory_amid, read_failed_amid, replied, write_failed_amid}
 
 -- what the devices have, without their counts of failures
 abbrev pub devices_of : Change → Change → Devices
@@ -53,7 +56,7 @@ pub canon_done : (j : Job) (source sink : Change) (n : ℕ) → j.verb ≡ InsnC
 canon_done j source sink n canon ran healthy unfailed =
     replied ran.read Done (file_of j.to ran.insns) healthy unfailed ran.came (inr (inl ran.ended)) (rw canon (canonical ran.insns ran.within ran.file)) ran.took
 
-pub canon_fault : (j : Job) (source sink : Change) (n : ℕ) (f : SlotFault) → j.verb ≡ InsnCanon → StopsAtFault (devices_of source sink) j.order j.to n f
+canon_fault : (j : Job) (source sink : Change) (n : ℕ) (f : SlotFault) → j.verb ≡ InsnCanon → StopsAtFault (devices_of source sink) j.order j.to n f
     → source.failed_after ≡ source.failed → sink.failed_after ≡ sink.failed → EndsJob j source sink (Fault f)
 canon_fault j source sink n f canon stop healthy unfailed =
     replied stop.read (Fault f) (file_of j.to stop.wrote.insns) healthy unfailed stop.wrote.came
@@ -64,25 +67,35 @@ canon_fault j source sink n f canon stop healthy unfailed =
     (rw canon (canonical_to_fault stop.wrote.insns stop.wrote.rest f stop.wrote.front stop.fault (λ cut. (stop.ended cut).1)))
     stop.wrote.took
 
-pub canon_too_long : (j : Job) (source sink : Change) (n : ℕ) → j.verb ≡ InsnCanon → StopsTooLong (devices_of source sink) j.order j.to n
+canon_too_long : (j : Job) (source sink : Change) (n : ℕ) → j.verb ≡ InsnCanon → StopsTooLong (devices_of source sink) j.order j.to n
     → source.failed_after ≡ source.failed → sink.failed_after ≡ sink.failed → EndsJob j source sink TooLong
 canon_too_long j source sink n canon stop healthy unfailed =
     replied stop.read TooLong (file_of j.to stop.wrote.insns) healthy unfailed stop.wrote.came (inr (inr (rw canon stop.beyond)))
     (rw canon (canonical_to_limit stop.wrote.insns stop.wrote.rest stop.wrote.front (sound_has_none _ _ stop.sound) stop.beyond))
     stop.wrote.took
 
-pub canon_unread : (j : Job) (source sink : Change) (n : ℕ) → j.verb ≡ InsnCanon → StopsUnread (devices_of source sink) j.order j.to n
+canon_unread : (j : Job) (source sink : Change) (n : ℕ) → j.verb ≡ InsnCanon → StopsUnread (devices_of source sink) j.order j.to n
     → source.failed_after ≡ source.failed + 1 → sink.failed_after ≡ sink.failed → EndsJob j source sink ReadFailed
 canon_unread j source sink n canon stop failed unfailed =
     read_failed_amid stop.read (rw canon refl) failed unfailed stop.wrote.came (rw canon stop.within) (rw canon (sound_has_none _ _ stop.sound))
     (took_all j source sink stop.read n canon stop.wrote)
 
-pub canon_unwritten : (j : Job) (source sink : Change) (n : ℕ) → j.verb ≡ InsnCanon → StopsUnwritten (devices_of source sink) j.order j.to n
+canon_unwritten : (j : Job) (source sink : Change) (n : ℕ) → j.verb ≡ InsnCanon → StopsUnwritten (devices_of source sink) j.order j.to n
     → source.failed_after ≡ source.failed → sink.failed_after ≡ sink.failed + 1 → EndsJob j source sink WriteFailed
 canon_unwritten j source sink n canon stop healthy failed =
     write_failed_amid stop.read (rw canon refl) healthy failed stop.wrote.came (took_prefix j source sink stop.read n canon stop.wrote)
 
-pub canon_no_memory : (j : Job) (source sink : Change) (n : ℕ) → j.verb ≡ InsnCanon → StopsUnwritten (devices_of source sink) j.order j.to n
+canon_no_memory : (j : Job) (source sink : Change) (n : ℕ) → j.verb ≡ InsnCanon → StopsUnwritten (devices_of source sink) j.order j.to n
     → source.failed_after ≡ source.failed → sink.failed_after ≡ sink.failed → EndsJob j source sink Memory
 canon_no_memory j source sink n canon stop healthy unfailed =
     no_memory_amid stop.read (rw canon refl) healthy unfailed stop.wrote.came (took_prefix j source sink stop.read n canon stop.wrote)
+
+-- where the engine stopped
+pub canon_stopped : (j : Job) (source sink : Change) (n : ℕ) (stop : RunCause SlotFault) → j.verb ≡ InsnCanon → Stops (devices_of source sink) j.order j.to n stop
+    → source.failed_after ≡ source.failed + counts_read stop → sink.failed_after ≡ sink.failed + counts_write stop
+    → MatchResult (end_of_stop stop) (EndsJob j source sink) (λ f. EndsJob j source sink (Fault f))
+canon_stopped j source sink n (cause.Fault f) canon stop reads writes = canon_fault j source sink n f canon stop (reads ∙ add-zero _) (writes ∙ add-zero _)
+canon_stopped j source sink n cause.TooLong canon stop reads writes = canon_too_long j source sink n canon stop (reads ∙ add-zero _) (writes ∙ add-zero _)
+canon_stopped j source sink n cause.ReadFailed canon stop reads writes = canon_unread j source sink n canon stop reads (writes ∙ add-zero _)
+canon_stopped j source sink n cause.WriteFailed canon stop reads writes = canon_unwritten j source sink n canon stop (reads ∙ add-zero _) writes
+canon_stopped j source sink n cause.Memory canon stop reads writes = canon_no_memory j source sink n canon stop (reads ∙ add-zero _) (writes ∙ add-zero _)

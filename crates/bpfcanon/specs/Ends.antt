@@ -1,10 +1,12 @@
 -- The ways in which a command ends.
-use Rattle.std.specs.Prelude.{◌≡◌, ◌⊎◌, ◌<◌, ◌≤◌, ◌+◌, ℕ, List, Option, true, false, length, take}
+use Rattle.std.specs.Prelude.{◌≡◌, ◌⊎◌, ◌<◌, ◌≤◌, ◌+◌, ℕ, List, Option, Result, Ok, Err, true, false, length, take}
 use Rattle.std.specs.Io.KnownBytes.{Appends, Consumes, IsAtEnd}
 use Rattle.clap.specs.Words.{Text}
+use Rattle.bpf_canon.specs.declared.insn.run.RunCause.{RunCause}
+use Rattle.bpf_canon.specs.declared.insn.run.RunCause.TheVariants as cause
 use Rattle.bpfcanon.specs.declared.command_line.Job.{Job}
 use Rattle.bpfcanon.specs.declared.outcome.Outcome.{Outcome}
-use Rattle.bpfcanon.specs.declared.outcome.Outcome.TheVariants.{Usage, ReadFailed, WriteFailed, Memory}
+use Rattle.bpfcanon.specs.declared.outcome.Outcome.TheVariants.{TooLong, Usage, ReadFailed, WriteFailed, Memory}
 use Rattle.bpfcanon.specs.Line.{Asks, IsRefused}
 use Rattle.bpfcanon.specs.Reply.{IsEarly, IsReply, in_pieces, limit_of, streams}
 
@@ -29,6 +31,14 @@ IsHealthy c = c.failed_after ≡ c.failed
 -- one call of the device failed
 abbrev pub HasFailed : Change → Type 0
 HasFailed c = c.failed_after ≡ c.failed + 1
+
+-- how a job ends whose engine stopped, where its input has no fault
+abbrev pub end_of_stop : {F : Type 0} → RunCause F → Result Outcome F
+end_of_stop (cause.Fault f) = Err f
+end_of_stop cause.TooLong = Ok TooLong
+end_of_stop cause.ReadFailed = Ok ReadFailed
+end_of_stop cause.WriteFailed = Ok WriteFailed
+end_of_stop cause.Memory = Ok Memory
 
 -- what came from the source is answered early, or it was read to its end or past the limit
 abbrev pub IsRead : Job → Change → List ℕ → Type 0

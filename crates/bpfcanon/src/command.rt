@@ -2,46 +2,20 @@
 
 ghost use Rattle.std.specs.Prelude.{◌≡◌, ◌<◌, ◌≤◌, length, map, string_bytes, false};
 ghost use Rattle.bpfcanon.specs.declared.outcome.Outcome.{Outcome};
-ghost use Rattle.bpfcanon.specs.declared.verb.Verb.TheVariants.{InsnCanon};
 ghost use Rattle.bpfcanon.specs.Ends.{Ends, EndsJob, change};
 ghost use Rattle.bpfcanon.specs.Outcome.{Tells, line_of, status_of};
 ghost use Rattle.bpfcanon.specs.Pieces.{Answers};
 ghost use Rattle.bpfcanon.specs.Reply.{has_engine, in_pieces, limit_of};
 
-use crate::btf_canon_job::run_btf_canon;
 use crate::btf_listing::put_btf_shown;
 use crate::command_line::{Job, LineError, parse_line};
+use crate::engines::{run_btf_canon, run_canon};
 use crate::listing_pieces::put_shown;
 use crate::outcome::{Outcome, put_line};
 use crate::reply::reply_to;
 use crate::verb::Verb;
-use bpf_canon::{ByteSink, ByteSource, ReadError, RunCause, put_all, read_all, run_insns};
+use bpf_canon::{ByteSink, ByteSource, ReadError, put_all, read_all};
 use std::alloc::{Allocator, Global};
-
-/// Runs `insn-canon`, which writes as it reads.
-fn run_canon<A: Allocator + Copy, S: ByteSource, W: ByteSink>(
-    alloc: A,
-    job: Job,
-    source: &mut S,
-    sink: &mut W,
-) -> Outcome
-    requires canon { job.verb ≡ InsnCanon }
-    requires source { S.failures source.old < u64.MAX }
-    requires sink { W.failures sink.old < u64.MAX }
-    ensures { EndsJob job (change (S.remaining source.old) (S.remaining source.new) (S.failures source.old) (S.failures source.new))
-        (change (W.contents sink.old) (W.contents sink.new) (W.failures sink.old) (W.failures sink.new)) result }
-{
-    match run_insns(alloc, source, sink, job.order, job.to) {
-        Ok(_) => Outcome::Done,
-        Err(error) => match error.cause {
-            RunCause::Fault(fault) => Outcome::Fault(fault),
-            RunCause::TooLong => Outcome::TooLong,
-            RunCause::ReadFailed => Outcome::ReadFailed,
-            RunCause::WriteFailed => Outcome::WriteFailed,
-            RunCause::Memory => Outcome::Memory,
-        },
-    }
-}
 
 /// Writes the reply of a command that writes it whole.
 fn put_reply<A: Allocator + Copy, W: ByteSink>(

@@ -7,12 +7,12 @@ ghost use Rattle.bpfcanon.specs.declared.outcome.Outcome.{Outcome};
 ghost use Rattle.bpfcanon.specs.Ends.{Ends, change};
 ghost use Rattle.bpfcanon.specs.Outcome.{Tells, line_of, newline, status_of};
 
-mod btf_canon_job;
 mod btf_check;
 mod btf_listing;
 mod btf_same;
 mod command;
 mod command_line;
+mod engines;
 mod groups;
 mod listing_pieces;
 mod listings;
