@@ -183,6 +183,16 @@ def check_streams_in_little_memory(program, report):
         report.expect("insn-canon", ran, Ran(0, given, b""))
 
 
+def check_shows_names_in_little_memory(program, report):
+    """All names end in one string of 1 MB, so the text is 64 times as long as the file: btf-show keeps no more of it than a line."""
+    name, count = b"n" * MEGABYTE, 64
+    given = btf("little", floats(range(1, count + 1)), b"\0" + name + b"\0")
+    text = b"".join(b'[%d] float "%s" size=8\n' % (number, name[number - 1 :]) for number in range(1, count + 1))
+    with report.group("btf-show of names that share their bytes, which may grow by 8 MB"):
+        ran = run_limited_amid(program, resource.RLIMIT_AS, 8 * MEGABYTE, "btf-show", given, 16_384)
+        report.expect_that(ran == Ran(0, text, b""), "btf-show", f"it ended with {ran.status}, {ran.told}, {len(ran.output)} bytes")
+
+
 def main():
     if len(sys.argv) != 2:
         sys.exit(__doc__)
@@ -192,6 +202,7 @@ def main():
         check_large_inputs_from_the_start,
         check_limits_amid_the_input,
         check_streams_in_little_memory,
+        check_shows_names_in_little_memory,
     ]:
         check(program, report)
     return report.end("memory limits")

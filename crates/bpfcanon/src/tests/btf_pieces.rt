@@ -63,11 +63,14 @@ fn pieces_join_to_the_text_of_types(rt: HostRuntime) -> Result<(), Fail> {
     Ok(())
 }
 
-// The last of many types names a type that isn't there: its third word, behind a header of 24 bytes and 899 types of 12 bytes.
+// The last of many types names a type that isn't there, by its third word, behind which only the string section's NUL stands.
 #[test]
 fn no_type_is_shown_before_the_whole_file_is_judged(rt: HostRuntime) -> Result<(), Fail> {
     let (mut file, _) = nameless(rt.alloc(), 0, 900)?;
-    file[24 + 899 * 12 + 9] = 16;
+    for _ in 0..5 {
+        file.pop();
+    }
+    file.extend_from_slice(b"\0\x10\0\0\0")?;
     let ran = run(rt.alloc(), "btf-show", &file, steady(4096))?;
     assert_eq!(rt; ran.status, 1);
     assert!(rt; ran.output.is_empty());
