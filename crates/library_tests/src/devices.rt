@@ -1,7 +1,7 @@
 //! Devices over memory and over readers and writers.
 use bpf_canon::{
-    ByteSink, ByteSource, DeviceFailed, MemSink, MemSource, ReadError, ReaderSource, RunCause, RunError, SideError, WriterSink,
-    put_all, read_all,
+    ByteSink, ByteSource, DeviceFailed, MemSink, MemSource, ReadError, ReaderSource, RunCause,
+    RunError, SideError, WriterSink, put_all, read_all,
 };
 use std::test::Fail;
 
@@ -36,7 +36,10 @@ fn errors_of_engines_show_their_names(rt: HostRuntime) -> Result<(), Fail> {
     ] {
         assert_eq!(rt; format!(in rt.alloc(); "{error}")?.as_str(), name);
     }
-    assert_eq!(rt; format!(in rt.alloc(); "{DeviceFailed}")?.as_str(), "DeviceFailed");
+    assert_eq!(rt;
+        format!(in rt.alloc(); "{DeviceFailed}")?.as_str(),
+        "DeviceFailed"
+    );
     Ok(())
 }
 
