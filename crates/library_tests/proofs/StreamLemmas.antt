@@ -1,17 +1,26 @@
 -- A stream that comes in pieces, and the bytes that are written of it.
-use Rattle.std.proofs.Common.{◌≡◌, ◌<◌, ◌+◌, ◌∙◌, ◌++◌, ℕ, zero, suc, List, [], ◌∷◌, length, take, get_or, ap, arith, refl, subst, sym}
+use Rattle.std.proofs.Common.{◌≡◌, ◌<◌, ◌+◌, ◌∙◌, ◌++◌, ℕ, zero, suc, List, [], ◌∷◌, length, length-append, take, drop, get_or, ap, arith, refl, subst, sym}
+use Rattle.std.specs.Prelude.{Result, Ok, Err, IsErrAnd, MatchResult}
+use Rattle.std.specs.Result.{IsErr}
 use Rattle.std.specs.Borrow.{Bor}
 use Rattle.std.specs.List.{flat_map}
-use Rattle.std.proofs.lemmas.List.{flat_map_more}
+use Rattle.std.proofs.lemmas.List.{append-nil, flat_map_more, take-append-drop}
 use Rattle.std.proofs.lemmas.List.Concat.{flat_map-append}
 use Rattle.bpf_words.specs.declared.Order.{Order}
+use Rattle.bpf_words.specs.declared.Order.TheVariants.{Big}
+use Rattle.bpf_insn.specs.declared.decode.InsnError.{InsnError}
+use Rattle.bpf_insn.specs.declared.decode.InsnError.TheVariants as error
+use Rattle.bpf_insn.specs.declared.fault.SlotFault.{SlotFault}
 use Rattle.bpf_insn.specs.declared.insn.Insn.{Insn}
 use Rattle.bpf_insn.specs.Spelling.{InsnFile, file_of, spelling}
-use Rattle.bpf_insn.specs.Faults.{IsFront}
+use Rattle.bpf_insn.specs.Faults.{IsFront, IsInsnFault}
 use Rattle.bpf_insn.proofs.FrontLemmas.{one_front}
 use Rattle.bpf_canon.specs.insn.FeedState.{FeedState}
-use Rattle.bpf_canon.specs.insn.Stands.{Gains, Moves, Stands}
+use Rattle.bpf_canon.specs.insn.Stands.{Gains, IsFaultOf, Moves, Stands}
 use Rattle.bpf_canon.proofs.InsnLemmas.FrontLaws.{file_front, front-nil}
+use Rattle.library_tests.specs.Streams.{Refuses}
+use Rattle.library_tests.specs.declared.library_example.StreamError.{StreamError}
+use Rattle.library_tests.specs.declared.library_example.StreamError.TheVariants.{Insns}
 
 -- the bytes of the whole instructions at the front of a stream
 pub record Written (o to : Order) (stream out : List ℕ) : Type 0 where
@@ -67,3 +76,35 @@ pub fed_more : (o to : Order) (s t : FeedState) (b more longer old new : List �
 fed_more o to s t b more longer old new e m h w =
     let P : List ℕ → Type 0 = λ x. Fed o to t x new in
     subst P e (record { stands = m.stands o to b h; written = written_more o to b more old new w (m.gains o to b h) })
+
+-- ---- why a stream is refused
+
+joined_split : (pieces : List (Bor (List ℕ))) (k : ℕ) → joined pieces ≡ joined (take k pieces) ++ joined (drop k pieces)
+joined_split pieces k =
+    ap joined (sym (take-append-drop k pieces)) ∙ flat_map-append (λ (p : Bor (List ℕ)). p.now) (take k pieces) (drop k pieces)
+
+-- what came is no longer than the stream
+pub goes_beyond : (pieces : List (Bor (List ℕ))) (k n m : ℕ) → n ≡ length (joined (take k pieces)) → m < n → m < length (joined pieces)
+goes_beyond pieces k n m e h =
+    omega (arith, e, h, ap length (joined_split pieces k), length-append (joined (take k pieces)) (joined (drop k pieces)))
+
+-- the fault that a piece brought
+pub refused_at : (pieces : List (Bor (List ℕ))) (k : ℕ) (d : Bor (List ℕ)) (e : InsnError) → k < length pieces
+    → IsFaultOf Big (joined (take k pieces) ++ (get_or pieces k d).now) e → Refuses (joined pieces) (Insns e)
+refused_at pieces k d (error.Fault f) h fault = record {
+  front = joined (take k pieces) ++ (get_or pieces k d).now;
+  rest = joined (drop (k + 1) pieces);
+  whole = joined_split pieces (k + 1) ∙ ap (λ (t : List ℕ). t ++ joined (drop (k + 1) pieces)) (sym (joined_more pieces k d h));
+  fault = fault.fault;
+}
+refused_at pieces k d error.Memory h fault = tt
+
+-- the fault of the whole stream
+pub refused_whole : (stream : List ℕ) (f : SlotFault) → IsInsnFault Big stream f → Refuses stream (Insns (error.Fault f))
+refused_whole stream f fault = record { front = stream; rest = []; whole = sym (append-nil stream); fault = fault }
+
+-- what `?` returns
+pub returned : {T : Type 0} (P : T → Type 0) (Q : StreamError → Type 0) (r : Result T StreamError) (e : StreamError) → IsErr r × IsErrAnd r (λ made. made ≡ e) → Q e
+    → MatchResult r P Q
+returned P Q (Ok x) e made holds = absurd cc
+returned P Q (Err x) e made holds = rw made.1 holds

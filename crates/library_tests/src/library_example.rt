@@ -11,6 +11,8 @@ ghost use Rattle.btf_types.specs.tables.Tables.{Fails};
 ghost use Rattle.btf_types.specs.tables.TableWords.{record_at};
 ghost use Rattle.btf_canon.specs.CanonicalBtf.{canonical};
 ghost use Rattle.library_tests.specs.MemberLines.{member_line, member_lines};
+ghost use Rattle.library_tests.specs.Streams.{Refuses};
+ghost use Rattle.library_tests.specs.declared.library_example.StreamError.TheVariants.{Insns};
 
 use bpf_canon::{INSN_LIMIT, InsnFeed, Order, write_btf};
 use bpf_insn::InsnError;
@@ -96,6 +98,8 @@ pub enum StreamError {
 }
 
 impl From<InsnError> for StreamError {
+    ghost from_gives = { λ error made. made ≡ Insns error };
+
     fn from(error: InsnError) -> StreamError {
         StreamError::Insns(error)
     }
@@ -107,9 +111,9 @@ impl From<InsnError> for StreamError {
 ///
 /// As [`StreamError`] says; the pieces behind are then left.
 pub fn canonical_stream<A: Allocator>(alloc: A, pieces: &[&[u8]]) -> Result<Vec<u8, A>, StreamError>
-    ensures { IfOk result (λ bytes. (insns : List Insn)
+    ensures { MatchResult result (λ bytes. (insns : List Insn)
         × (InsnFile Big (flat_map (λ p. p.now) pieces.now) insns
-        × (bytes.items ≡ file_of Little insns))) }
+        × (bytes.items ≡ file_of Little insns))) (Refuses (flat_map (λ p. p.now) pieces.now)) }
 {
     let mut feed = InsnFeed::new(Order::Big, Order::Little);
     let mut canonical = Vec::new(alloc);
