@@ -115,6 +115,17 @@ func TestThreadsCallAtTheSameTime(t *testing.T) {
 					t.Errorf("a thread got %+v of instructions", gotProgram)
 					return
 				}
+				listing, again := room(16*len(input.program)), room(len(input.program))
+				shown := InsnShow(Big, input.program, listing)
+				if shown.Status != Done {
+					t.Errorf("a thread got %+v of a listing", shown)
+					return
+				}
+				read := InsnRead(Little, listing[:shown.Len], again)
+				if read.Status != Done || !bytes.Equal(again, input.wantProgram) {
+					t.Errorf("a thread got %+v of a listing that it read", read)
+					return
+				}
 			}
 		}()
 	}
