@@ -1,5 +1,5 @@
--- Each word is a token.
-use Rattle.std.proofs.Common.{◌≡◌, ℕ, ◌<◌, Bool, true, false, List, [], ◌∷◌, length, refl, ap, ◌∙◌, arith}
+-- Each word is a token, of at most 14 bytes.
+use Rattle.std.proofs.Common.{◌≡◌, ℕ, zero, suc, ◌<◌, ◌≤◌, Bool, true, false, cond, List, [], ◌∷◌, length, refl, ap, ◌∙◌, arith}
 use Rattle.std.specs.List.{list_all}
 use Rattle.std.proofs.lemmas.Bool.{false≢true}
 use Rattle.bpf_insn.specs.declared.insn.Width.TheVariants.{W32, W64}
@@ -20,10 +20,16 @@ use Rattle.bpf_text.specs.Table.{word_of}
 use Rattle.bpf_text.specs.Tokens.{is_word_byte}
 use Rattle.bpf_text.proofs.OneInsn.{word_is}
 
--- word bytes, and at least one
+-- no more elements than a number
+abbrev is_within : ℕ → List ℕ → Bool
+is_within n [] = true
+is_within zero (b ∷ bytes) = false
+is_within (suc n) (b ∷ bytes) = is_within n bytes
+
+-- word bytes, at least one and at most 14
 abbrev is_word : List ℕ → Bool
 is_word [] = false
-is_word (b ∷ bytes) = list_all is_word_byte (b ∷ bytes)
+is_word (b ∷ bytes) = cond (is_within 14 (b ∷ bytes)) (list_all is_word_byte (b ∷ bytes)) false
 
 mnemonic_is_word : (m : Mnemonic) → is_word (word_of_mnemonic m) ≡ true
 mnemonic_is_word (Alu W32 alu.Add) = refl
@@ -147,9 +153,27 @@ mnemonic_is_word (PacketInd small.B) = refl
 mnemonic_is_word (PacketInd small.H) = refl
 mnemonic_is_word (PacketInd small.W) = refl
 
-parts : (word : List ℕ) → is_word word ≡ true → (0 < length word) × (list_all is_word_byte word ≡ true)
+within_length : (n : ℕ) (bytes : List ℕ) → is_within n bytes ≡ true → length bytes ≤ n
+within_length n [] e = omega arith
+within_length zero (b ∷ bytes) e = absurd (false≢true e)
+within_length (suc n) (b ∷ bytes) e = omega (arith, within_length n bytes e)
+
+abbrev Parts : List ℕ → Type 0
+Parts word = (0 < length word) × (list_all is_word_byte word ≡ true) × (length word ≤ 14)
+
+parts : (word : List ℕ) → is_word word ≡ true → Parts word
 parts [] e = absurd (false≢true e)
-parts (b ∷ bytes) e = (omega arith, e)
+parts (b ∷ bytes) e = by_test (is_within 14 (b ∷ bytes)) refl e
+  where
+    by_test : (short : Bool) → is_within 14 (b ∷ bytes) ≡ short → cond short (list_all is_word_byte (b ∷ bytes)) false ≡ true → Parts (b ∷ bytes)
+    by_test true is e = (omega arith, e, within_length 14 (b ∷ bytes) is)
+    by_test false is e = absurd (false≢true e)
+
+word_parts : (i : Insn) → Parts (word_of i)
+word_parts i = parts (word_of i) (ap is_word (word_is i) ∙ mnemonic_is_word (mnemonic_of i))
 
 pub word_is_token : (i : Insn) → (0 < length (word_of i)) × (list_all is_word_byte (word_of i) ≡ true)
-word_is_token i = parts (word_of i) (ap is_word (word_is i) ∙ mnemonic_is_word (mnemonic_of i))
+word_is_token i = let p = word_parts i in (p.0, p.1)
+
+pub word_is_short : (i : Insn) → length (word_of i) ≤ 14
+word_is_short i = (word_parts i).2
