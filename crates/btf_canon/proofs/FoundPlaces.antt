@@ -16,7 +16,7 @@ use Rattle.btf_types.proofs.Members.{Has, Has-from_Contains, Contains-from_Has}
 use Rattle.btf_types.proofs.StringLemmas.Texts.{table_split}
 use Rattle.btf_types.proofs.StringLemmas.Longest.{longest_tell_host}
 use Rattle.btf_canon.specs.FirstUses.{AreMarked}
-use Rattle.btf_canon.specs.UsedOffsets.{number_of, AreSameUses}
+use Rattle.btf_canon.specs.UsedOffsets.{number_of}
 use Rattle.btf_canon.specs.Longest.{IsUsed, IsWithin, IsCounted, AreLongestOf}
 use Rattle.btf_canon.specs.Tails.{tail_text, HasKey}
 use Rattle.btf_canon.specs.InHost.{no_host, found_of, AreInHosts}
@@ -41,12 +41,6 @@ longest_permuted section slots texts tails are perm = record {
   used = All-permutation (IsUsed section slots) texts tails perm are.used;
   counted = All-permutation (IsCounted slots) texts tails perm are.counted;
   each = λ off h s b. any_permuted (IsWithin off) texts tails perm (are.each off h s b);
-}
-
-pub slots_marked : (offsets marks slots : List ℕ) → AreMarked offsets marks → AreSameUses marks slots → AreMarked offsets slots
-slots_marked offsets marks slots are same = record {
-  marked = λ off c z. are.marked off c (same.there off z);
-  only = λ off s. are.only off (λ z. s (same.here off z));
 }
 
 module _ (section slots offsets : List ℕ) (texts tails : List Tail) (found : List InHost) (marked : AreMarked offsets slots) (long : length slots ≡ length section) (longest : AreLongestOf section slots texts)

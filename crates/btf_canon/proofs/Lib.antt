@@ -24,6 +24,7 @@ pub mod KeyBytes
 pub mod LongestSteps
 pub mod FoundHosts
 pub mod UsedSteps
+pub mod OffsetMarkSteps
 pub mod InHostSteps
 pub mod LayoutSteps
 pub mod FoundPlaces

@@ -9,6 +9,7 @@ pub mod NamesByPlace
 pub mod TailKeys
 pub mod Tails
 pub mod UsedOffsets
+pub mod OffsetMarks
 pub mod Ranks
 pub mod Longest
 pub mod InHost

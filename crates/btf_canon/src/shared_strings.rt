@@ -3,6 +3,7 @@ pub(crate) mod first_uses;
 mod host_layout;
 mod hosts_by_rank;
 mod longest;
+pub(crate) mod offset_marks;
 pub(crate) mod places;
 mod ranked_tails;
 mod ranks;

@@ -2,14 +2,15 @@
 ghost use Rattle.std.specs.Prelude.{◌≡◌, ◌<◌, IfOk, OnOk};
 ghost use Rattle.btf_canon.specs.FirstUses as spec;
 
+use crate::shared_strings::offset_marks::OffsetMarks;
 use std::alloc::{AllocError, Allocator};
 use std::marker::Model;
 
 /// Offsets of a string section at which names begin, each once, in the order of first use.
 #[derive(Drop)]
 pub(crate) struct FirstUses<A: Allocator> {
-    // for each byte of the section, 1 where a name begins, and else 0
-    pub(crate) marks: Vec<u8, A>,
+    // the offsets where names begin
+    pub(crate) marks: OffsetMarks<A>,
     pub(crate) offsets: Vec<u32, A>,
 }
 
@@ -19,9 +20,9 @@ impl<A: Allocator> Model for FirstUses<A> {
 
     ghost Value = { Noted };
 
-    ghost view = { λ f. record { section_len = length f.marks.items; offsets = f.offsets.items } };
+    ghost view = { λ f. record { section_len = length f.marks; offsets = f.offsets.items } };
 
-    ghost invariant = { λ f. AreMarked f.offsets.items f.marks.items };
+    ghost invariant = { λ f. AreMarked f.offsets.items f.marks };
 }
 
 impl<A: Allocator + Copy> FirstUses<A> {
@@ -30,7 +31,7 @@ impl<A: Allocator + Copy> FirstUses<A> {
         ensures { IfOk result (λ f. f ≡ spec.nothing_noted section_len) }
     {
         Ok(FirstUses {
-            marks: vec![in alloc; 0; section_len]?,
+            marks: OffsetMarks::new(alloc, section_len)?,
             offsets: Vec::new(alloc),
         })
     }
@@ -41,9 +42,9 @@ impl<A: Allocator + Copy> FirstUses<A> {
         ensures section { self.new.section_len ≡ self.old.section_len }
         ensures offsets { OnOk result (self.new.offsets ≡ spec.noted self.old.offsets off) }
     {
-        if self.marks[off as usize] == 0 {
+        if !self.marks.is_marked(off as usize) {
             self.offsets.push(off)?;
-            self.marks[off as usize] = 1;
+            self.marks.mark(off as usize);
         }
         Ok(())
     }

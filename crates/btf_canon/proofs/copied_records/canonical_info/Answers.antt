@@ -1,7 +1,7 @@
-use Rattle.std.proofs.Common.{◌≡◌, ◌≢◌, ◌⊎◌, ◌%◌, ◌^◌, ℕ, true, false, inl, inr, sym, ap, ◌∙◌, subst, bit_and, arith}
+use Rattle.std.proofs.Common.{◌≡◌, ◌≢◌, ◌%◌, ◌^◌, ℕ, true, false, sym, ap, ◌∙◌, bit_and}
 use Rattle.std.proofs.lemmas.Nat.{and_mask}
 use Rattle.btf_raw.specs.Kinds.{kind_of, flag_of}
-use Rattle.btf_raw.specs.Frames.{kind, flag, info_word}
+use Rattle.btf_raw.specs.Frames.{kind, flag}
 use Rattle.btf_types.specs.judge.Checks.{is_struct}
 use Rattle.btf_types.specs.Good.{has_bit_fields}
 use Rattle.btf_canon.specs.KeptFrames.{frame_in, record_in}

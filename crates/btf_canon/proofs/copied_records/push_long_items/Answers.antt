@@ -1,8 +1,7 @@
-use Rattle.std.proofs.Common.{◌≡◌, ◌*◌, ◌+◌, ◌<◌, ℕ, [], ◌∷◌, ◌++◌, true, sym, ap, ◌∙◌, subst, arith}
+use Rattle.std.proofs.Common.{◌≡◌, ◌*◌, ◌+◌, ◌<◌, ℕ, [], ◌∷◌, ◌++◌, sym, ap, ◌∙◌, subst, arith}
 use Rattle.std.specs.Prelude.{slice_index}
 use Rattle.std.specs.List.{Contains}
-use Rattle.btf_raw.specs.Kinds.{item_words}
-use Rattle.btf_raw.specs.Frames.{bytes_of, kind, vlen}
+use Rattle.btf_raw.specs.Frames.{bytes_of, vlen}
 use Rattle.btf_types.specs.strings.SharedNames.{shared_place}
 use Rattle.btf_types.specs.Reading.{text_from}
 use Rattle.btf_canon.specs.KeptFrames.{frame_in}

@@ -1,4 +1,4 @@
-use Rattle.std.proofs.Common.{◌≡◌, ◌+◌, ◌++◌, List, ℕ, length, drop, sym, ap, ◌∙◌, arith}
+use Rattle.std.proofs.Common.{◌++◌, List, ℕ, drop, ap, ◌∙◌, arith}
 use Rattle.std.proofs.lemmas.List.{take_all, length-drop}
 use Rattle.bpf_words.specs.Words.{word32}
 use Rattle.btf_raw.specs.Frames.{bytes_of}

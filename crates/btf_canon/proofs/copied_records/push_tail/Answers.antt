@@ -1,4 +1,4 @@
-use Rattle.std.proofs.Common.{◌≡◌, ◌⊎◌, ◌+◌, ◌++◌, ℕ, List, true, false, inl, inr, length, sym, ap, ◌∙◌, arith}
+use Rattle.std.proofs.Common.{◌≡◌, ◌+◌, ◌++◌, ℕ, List, true, false, inl, inr, sym, ap, ◌∙◌}
 use Rattle.std.proofs.lemmas.Result.{on_ok_weaker}
 use Rattle.btf_raw.specs.Kinds.{item_words, tail_words, kind_of, vlen_of}
 use Rattle.btf_raw.specs.Frames.{bytes_of, kind, vlen}

@@ -1,4 +1,4 @@
-use Rattle.std.proofs.Common.{◌≡◌, ◌++◌, ℕ, List, length, refl, ap, ◌∙◌, arith}
+use Rattle.std.proofs.Common.{◌++◌, ℕ, List, length, refl, ap, ◌∙◌, arith}
 use Rattle.btf_raw.specs.Header.{header}
 use Rattle.btf_canon.specs.NamesByPlace.{placed_texts}
 use Rattle.btf_canon.proofs.SectionFiles.{types_low, sections_written}

@@ -4,7 +4,6 @@ use Rattle.btf_types.specs.Names.{kept, names}
 use Rattle.btf_types.specs.Reading.{text_from, frames_at, records_at}
 use Rattle.btf_canon.specs.FirstUses.{noted_all}
 use Rattle.btf_canon.specs.NameOffsets.{all_offsets}
-use Rattle.btf_canon.specs.NamesByPlace.{placed_texts}
 use Rattle.btf_canon.proofs.SectionFiles.{each_noted, kept_uses, table_low}
 use Rattle.btf_canon.proofs.section_write.write_sections.Goals as goal
 

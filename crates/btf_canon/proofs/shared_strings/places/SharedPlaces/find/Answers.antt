@@ -8,7 +8,7 @@ use Rattle.btf_canon.specs.Longest.{AreLongestOf}
 use Rattle.btf_canon.specs.Tails.{tail_text}
 use Rattle.btf_canon.specs.HostLayout.{IsFound, AreLaidOut, ArePlaced}
 use Rattle.btf_canon.specs.declared.shared_strings.hosts_by_rank.InHost.{InHost}
-use Rattle.btf_canon.proofs.FoundPlaces.{longest_permuted, slots_marked, all_found, all_ranked, all_fit, all_placed}
+use Rattle.btf_canon.proofs.FoundPlaces.{longest_permuted, all_found, all_ranked, all_fit, all_placed}
 use Rattle.btf_canon.proofs.shared_strings.places.SharedPlaces.find.Goals as goal
 
 pub find_hosts-requires-clause-longest : goal.find_hosts-requires-clause-longest
@@ -33,9 +33,9 @@ lay_out-requires-clause-found g c =
     let tails = c.in_ok-ranked.ranked.tails.items in
     let found = c.in_ok-found.found.items in
     let sorted = map (tail_text section) tails in
-    let len : length c.uses.inside.marks.items ≡ c.args.uses.section_len = ap (λ (n : Noted). n.section_len) c.uses.view_is in
-    let long : length slots ≡ length section = omega (arith, c.in_ok-used.ensures.whole, len, c.requires.whole, ap (λ (l : List ℕ). length l) same) in
-    let marked : AreMarked offsets slots = slots_marked offsets c.uses.inside.marks.items slots c.uses.invariant c.in_ok-used.ensures.same in
+    let len : length c.uses.inside.marks ≡ c.args.uses.section_len = ap (λ (n : Noted). n.section_len) c.uses.view_is in
+    let long : length slots ≡ length section = omega (arith, ap (λ (l : List ℕ). length l) c.in_ok-used.ensures, len, c.requires.whole, ap (λ (l : List ℕ). length l) same) in
+    let marked : AreMarked offsets slots = subst (AreMarked offsets) (sym c.in_ok-used.ensures) c.uses.invariant in
     let longest : AreLongestOf section slots c.in_ok-texts.texts.items = subst (λ (s : List ℕ). AreLongestOf s slots c.in_ok-texts.texts.items) (sym same) c.in_ok-texts.ensures in
     let up : IsSorted tail_cmp sorted = subst (λ (s : List ℕ). IsSorted tail_cmp (map (tail_text s) tails)) (sym same) c.in_ok-ranked.ensures.ranked.in_order in
     subst (λ (l : List ℕ). All (IsFound section slots sorted (map (text_from section) l) c.deref-2.result.now) l) (sym c.deref.ensures.value)
@@ -55,9 +55,9 @@ places_of-requires-clause-ranked g c =
     let table_len = c.in_ok-layout.layout.len in
     let texts = c.in_ok-texts.texts.items in
     let sorted = map (tail_text section) tails in
-    let len : length c.uses.inside.marks.items ≡ c.args.uses.section_len = ap (λ (n : Noted). n.section_len) c.uses.view_is in
-    let long : length slots ≡ length section = omega (arith, c.in_ok-used.ensures.whole, len, c.requires.whole, ap (λ (l : List ℕ). length l) same) in
-    let marked : AreMarked offsets slots = slots_marked offsets c.uses.inside.marks.items slots c.uses.invariant c.in_ok-used.ensures.same in
+    let len : length c.uses.inside.marks ≡ c.args.uses.section_len = ap (λ (n : Noted). n.section_len) c.uses.view_is in
+    let long : length slots ≡ length section = omega (arith, ap (λ (l : List ℕ). length l) c.in_ok-used.ensures, len, c.requires.whole, ap (λ (l : List ℕ). length l) same) in
+    let marked : AreMarked offsets slots = subst (AreMarked offsets) (sym c.in_ok-used.ensures) c.uses.invariant in
     let longest : AreLongestOf section slots texts = subst (λ (s : List ℕ). AreLongestOf s slots texts) (sym same) c.in_ok-texts.ensures in
     let up : IsSorted tail_cmp sorted = subst (λ (s : List ℕ). IsSorted tail_cmp (map (tail_text s) tails)) (sym same) c.in_ok-ranked.ensures.ranked.in_order in
     let laid : AreLaidOut section sorted (map (text_from section) offsets) placed spans table_len = subst (λ (l : List ℕ). AreLaidOut section sorted (map (text_from section) l) placed spans table_len) c.deref.ensures.value c.in_ok-layout.ensures in
@@ -78,9 +78,9 @@ places_of-requires-clause-fits g c =
     let table_len = c.in_ok-layout.layout.len in
     let texts = c.in_ok-texts.texts.items in
     let sorted = map (tail_text section) tails in
-    let len : length c.uses.inside.marks.items ≡ c.args.uses.section_len = ap (λ (n : Noted). n.section_len) c.uses.view_is in
-    let long : length slots ≡ length section = omega (arith, c.in_ok-used.ensures.whole, len, c.requires.whole, ap (λ (l : List ℕ). length l) same) in
-    let marked : AreMarked offsets slots = slots_marked offsets c.uses.inside.marks.items slots c.uses.invariant c.in_ok-used.ensures.same in
+    let len : length c.uses.inside.marks ≡ c.args.uses.section_len = ap (λ (n : Noted). n.section_len) c.uses.view_is in
+    let long : length slots ≡ length section = omega (arith, ap (λ (l : List ℕ). length l) c.in_ok-used.ensures, len, c.requires.whole, ap (λ (l : List ℕ). length l) same) in
+    let marked : AreMarked offsets slots = subst (AreMarked offsets) (sym c.in_ok-used.ensures) c.uses.invariant in
     let longest : AreLongestOf section slots texts = subst (λ (s : List ℕ). AreLongestOf s slots texts) (sym same) c.in_ok-texts.ensures in
     let up : IsSorted tail_cmp sorted = subst (λ (s : List ℕ). IsSorted tail_cmp (map (tail_text s) tails)) (sym same) c.in_ok-ranked.ensures.ranked.in_order in
     let laid : AreLaidOut section sorted (map (text_from section) offsets) placed spans table_len = subst (λ (l : List ℕ). AreLaidOut section sorted (map (text_from section) l) placed spans table_len) c.deref.ensures.value c.in_ok-layout.ensures in
@@ -105,9 +105,9 @@ invariant_of-result g c =
     let table_len = c.in_ok-layout.layout.len in
     let texts = c.in_ok-texts.texts.items in
     let sorted = map (tail_text section) tails in
-    let len : length c.uses.inside.marks.items ≡ c.args.uses.section_len = ap (λ (n : Noted). n.section_len) c.uses.view_is in
-    let long : length slots ≡ length section = omega (arith, c.in_ok-used.ensures.whole, len, c.requires.whole, ap (λ (l : List ℕ). length l) same) in
-    let marked : AreMarked offsets slots = slots_marked offsets c.uses.inside.marks.items slots c.uses.invariant c.in_ok-used.ensures.same in
+    let len : length c.uses.inside.marks ≡ c.args.uses.section_len = ap (λ (n : Noted). n.section_len) c.uses.view_is in
+    let long : length slots ≡ length section = omega (arith, ap (λ (l : List ℕ). length l) c.in_ok-used.ensures, len, c.requires.whole, ap (λ (l : List ℕ). length l) same) in
+    let marked : AreMarked offsets slots = subst (AreMarked offsets) (sym c.in_ok-used.ensures) c.uses.invariant in
     let longest : AreLongestOf section slots texts = subst (λ (s : List ℕ). AreLongestOf s slots texts) (sym same) c.in_ok-texts.ensures in
     let up : IsSorted tail_cmp sorted = subst (λ (s : List ℕ). IsSorted tail_cmp (map (tail_text s) tails)) (sym same) c.in_ok-ranked.ensures.ranked.in_order in
     let laid : AreLaidOut section sorted (map (text_from section) offsets) placed spans table_len = subst (λ (l : List ℕ). AreLaidOut section sorted (map (text_from section) l) placed spans table_len) c.deref.ensures.value c.in_ok-layout.ensures in
