@@ -5,6 +5,7 @@ pub mod CanonLemmas
 pub mod CommandLemmas
 pub mod LineLemmas
 pub mod ListingPieces
+pub mod LongNameLemmas
 pub mod OptionsLemmas
 pub mod OutcomeLemmas
 pub mod PiecesLemmas

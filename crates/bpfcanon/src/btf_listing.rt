@@ -11,10 +11,11 @@ ghost use Rattle.bpfcanon.specs.Pieces.{Answers, Gathers, Puts};
 ghost use Rattle.bpfcanon.specs.Reply.{limit_of};
 
 use crate::command_line::Job;
+use crate::long_names::{is_long, put_long_head, put_long_item};
 use crate::outcome::Outcome;
 use crate::pieces::{PutError, put_long_piece, put_piece};
 use bpf_canon::ByteSink;
-use btf_text::{append_head, append_item, is_signed};
+use btf_text::{append_head, append_item, head_name, is_signed, item_name};
 use btf_types::{BtfError, BtfView, Head, Item, TypeTable};
 use std::alloc::Allocator;
 
@@ -30,6 +31,9 @@ fn put_head<A: Allocator, W: ByteSink>(
     ensures { Gathers (change (W.contents sink.old) (W.contents sink.new) (W.failures sink.old) (W.failures sink.new))
         piece.new.items (piece.old.items ++ head_line id (head_value head.entry) items) result }
 {
+    if is_long(head_name(head)) {
+        return put_long_head(sink, piece, id, head, items);
+    }
     if append_head(piece, id, head, items).is_err() {
         return Err(PutError::Memory);
     }
@@ -50,6 +54,9 @@ fn put_item<A: Allocator, W: ByteSink>(
     ensures { Gathers (change (W.contents sink.old) (W.contents sink.new) (W.failures sink.old) (W.failures sink.new))
         piece.new.items (piece.old.items ++ item_line signed (item_value item.entry)) result }
 {
+    if is_long(item_name(item)) {
+        return put_long_item(sink, piece, item, signed);
+    }
     if append_item(piece, item, signed).is_err() {
         return Err(PutError::Memory);
     }

@@ -16,6 +16,7 @@ mod engines;
 mod groups;
 mod listing_pieces;
 mod listings;
+mod long_names;
 mod options;
 mod outcome;
 mod pieces;

@@ -5,6 +5,7 @@ mod btf;
 mod btf_faults;
 mod btf_files;
 mod btf_pieces;
+mod chunked_names;
 mod devices;
 mod examples;
 mod lines;

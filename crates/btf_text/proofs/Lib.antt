@@ -1,2 +1,3 @@
 pub mod BtfTextLemmas
+pub mod LinePartsLemmas
 pub mod QuotedNameLemmas

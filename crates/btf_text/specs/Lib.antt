@@ -1,1 +1,2 @@
 pub mod BtfText
+pub mod LineParts

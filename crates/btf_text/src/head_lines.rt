@@ -1,11 +1,14 @@
 //! The line of a BTF type: its number, the word of its kind, and its fields.
 
-ghost use Rattle.std.specs.Prelude.{◌≡◌, ◌++◌, codes, OnOk};
+ghost use Rattle.std.specs.Prelude.{◌≡◌, [], ◌++◌, codes, OnOk};
 ghost use Rattle.btf_types.specs.Values as values;
 ghost use Rattle.btf_types.specs.Values.{head_value};
+ghost use Rattle.btf_types.specs.Names as names;
 ghost use Rattle.btf_text.specs.BtfText as spec;
+ghost use Rattle.btf_text.specs.LineParts as parts;
 
-use crate::text_parts::{append, append_name, append_number};
+use crate::quoted_name::append_quoted_part;
+use crate::text_parts::{append, append_number};
 use btf_types::{Encoding, Head, Linkage};
 use itoa::Buffer;
 use std::alloc::{AllocError, Allocator};
@@ -69,17 +72,6 @@ fn kind_word(head: Head<'_>) -> &'static str
     }
 }
 
-fn append_sized<A: Allocator>(
-    text: &mut Vec<u8, A>,
-    name: &str,
-    size: u32,
-) -> Result<(), AllocError>
-    ensures { OnOk result (text.new.items ≡ text.old.items ++ spec.fields_text (values.KFloat name.now size) 0) }
-{
-    append_name(text, " ", name)?;
-    append_number(text, " size=", size)
-}
-
 fn append_encoding<A: Allocator>(
     text: &mut Vec<u8, A>,
     encoding: Encoding,
@@ -92,15 +84,14 @@ fn append_encoding<A: Allocator>(
 
 fn append_int<A: Allocator>(
     text: &mut Vec<u8, A>,
-    name: &str,
     size: u32,
     encoding: Encoding,
     offset: u8,
     bits: u8,
 ) -> Result<(), AllocError>
-    ensures { OnOk result (text.new.items ≡ text.old.items ++ spec.fields_text (values.KInt name.now size encoding offset bits) 0) }
+    ensures { OnOk result (text.new.items ≡ text.old.items ++ parts.head_fields (values.KInt [] size encoding offset bits) 0) }
 {
-    append_sized(text, name, size)?;
+    append_number(text, "\" size=", size)?;
     append_encoding(text, encoding)?;
     append_number(text, " offset=", u32::from(offset))?;
     append_number(text, " bits=", u32::from(bits))
@@ -112,7 +103,7 @@ fn append_array<A: Allocator>(
     index: u32,
     count: u32,
 ) -> Result<(), AllocError>
-    ensures { OnOk result (text.new.items ≡ text.old.items ++ spec.fields_text (values.KArray target index count) 0) }
+    ensures { OnOk result (text.new.items ≡ text.old.items ++ parts.head_fields (values.KArray target index count) 0) }
 {
     append_number(text, " type=", target)?;
     append_number(text, " index=", index)?;
@@ -121,64 +112,37 @@ fn append_array<A: Allocator>(
 
 fn append_with_items<A: Allocator>(
     text: &mut Vec<u8, A>,
-    name: &str,
     size: u32,
     items: u32,
 ) -> Result<(), AllocError>
-    ensures { OnOk result (text.new.items ≡ text.old.items ++ spec.fields_text (values.KStruct name.now size) items) }
+    ensures { OnOk result (text.new.items ≡ text.old.items ++ parts.head_fields (values.KStruct [] size) items) }
 {
-    append_sized(text, name, size)?;
+    append_number(text, "\" size=", size)?;
     append_number(text, " items=", items)
 }
 
 fn append_enum<A: Allocator>(
     text: &mut Vec<u8, A>,
-    name: &str,
     signed: bool,
     size: u32,
     items: u32,
 ) -> Result<(), AllocError>
-    ensures { OnOk result (text.new.items ≡ text.old.items ++ spec.fields_text (values.KEnum name.now signed size) items) }
+    ensures { OnOk result (text.new.items ≡ text.old.items ++ parts.head_fields (values.KEnum [] signed size) items) }
 {
-    append_name(text, " ", name)?;
-    append(text, " ")?;
+    append(text, "\" ")?;
     append(text, sign_name(signed))?;
     append_number(text, " size=", size)?;
     append_number(text, " items=", items)
 }
 
-fn append_forward<A: Allocator>(
-    text: &mut Vec<u8, A>,
-    name: &str,
-    is_union: bool,
-) -> Result<(), AllocError>
-    ensures { OnOk result (text.new.items ≡ text.old.items ++ spec.fields_text (values.KFwd name.now is_union) 0) }
-{
-    append_name(text, " ", name)?;
-    append(text, if is_union { " union" } else { " struct" })
-}
-
-fn append_typed<A: Allocator>(
-    text: &mut Vec<u8, A>,
-    name: &str,
-    target: u32,
-) -> Result<(), AllocError>
-    ensures { OnOk result (text.new.items ≡ text.old.items ++ spec.fields_text (values.KTypedef name.now target) 0) }
-{
-    append_name(text, " ", name)?;
-    append_number(text, " type=", target)
-}
-
 fn append_linked<A: Allocator>(
     text: &mut Vec<u8, A>,
-    name: &str,
     linkage: Linkage,
     target: u32,
 ) -> Result<(), AllocError>
-    ensures { OnOk result (text.new.items ≡ text.old.items ++ spec.fields_text (values.KFunc name.now linkage target) 0) }
+    ensures { OnOk result (text.new.items ≡ text.old.items ++ parts.head_fields (values.KFunc [] linkage target) 0) }
 {
-    append_name(text, " ", name)?;
-    append(text, " ")?;
+    append(text, "\" ")?;
     append(text, linkage_name(linkage))?;
     append_number(text, " type=", target)
 }
@@ -188,7 +152,7 @@ fn append_prototype<A: Allocator>(
     target: u32,
     items: u32,
 ) -> Result<(), AllocError>
-    ensures { OnOk result (text.new.items ≡ text.old.items ++ spec.fields_text (values.KFuncProto target) items) }
+    ensures { OnOk result (text.new.items ≡ text.old.items ++ parts.head_fields (values.KFuncProto target) items) }
 {
     append_number(text, " type=", target)?;
     append_number(text, " items=", items)
@@ -196,14 +160,12 @@ fn append_prototype<A: Allocator>(
 
 fn append_type_tag<A: Allocator>(
     text: &mut Vec<u8, A>,
-    name: &str,
     flag: bool,
     target: u32,
 ) -> Result<(), AllocError>
-    ensures { OnOk result (text.new.items ≡ text.old.items ++ spec.fields_text (values.KTypeTag name.now flag target) 0) }
+    ensures { OnOk result (text.new.items ≡ text.old.items ++ parts.head_fields (values.KTypeTag [] flag target) 0) }
 {
-    append_name(text, " ", name)?;
-    append(text, " flag=")?;
+    append(text, "\" flag=")?;
     append(text, flag_text(flag))?;
     append_number(text, " type=", target)
 }
@@ -222,34 +184,33 @@ fn append_component<A: Allocator>(
 
 fn append_decl_tag<A: Allocator>(
     text: &mut Vec<u8, A>,
-    name: &str,
     flag: bool,
     target: u32,
     component: Option<u16>,
 ) -> Result<(), AllocError>
-    ensures { OnOk result (text.new.items ≡ text.old.items ++ spec.fields_text (values.KDeclTag name.now flag target component) 0) }
+    ensures { OnOk result (text.new.items ≡ text.old.items ++ parts.head_fields (values.KDeclTag [] flag target component) 0) }
 {
-    append_type_tag(text, name, flag, target)?;
+    append_type_tag(text, flag, target)?;
     append(text, " component=")?;
     append_component(text, component)
 }
 
-/// Appends what stands behind the word of a type with so many items.
+/// Appends what stands behind the name of a type with so many items.
 fn append_fields<A: Allocator>(
     text: &mut Vec<u8, A>,
     head: Head<'_>,
     items: u32,
 ) -> Result<(), AllocError>
-    ensures { OnOk result (text.new.items ≡ text.old.items ++ spec.fields_text (head_value head.entry) items) }
+    ensures { OnOk result (text.new.items ≡ text.old.items ++ parts.head_fields (head_value head.entry) items) }
 {
     match head {
         Head::KInt {
-            name,
             size,
             encoding,
             offset,
             bits,
-        } => append_int(text, name, size, encoding, offset, bits),
+            ..
+        } => append_int(text, size, encoding, offset, bits),
         Head::KPtr { target }
         | Head::KVolatile { target }
         | Head::KConst { target }
@@ -259,34 +220,114 @@ fn append_fields<A: Allocator>(
             index,
             count,
         } => append_array(text, target, index, count),
-        Head::KStruct { name, size }
-        | Head::KUnion { name, size }
-        | Head::KDatasec { name, size } => { append_with_items(text, name, size, items) }
-        Head::KEnum { name, signed, size } | Head::KEnum64 { name, signed, size } => {
-            append_enum(text, name, signed, size, items)
+        Head::KStruct { size, .. } | Head::KUnion { size, .. } | Head::KDatasec { size, .. } => {
+            append_with_items(text, size, items)
         }
-        Head::KFwd { name, is_union } => append_forward(text, name, is_union),
-        Head::KTypedef { name, target } => append_typed(text, name, target),
+        Head::KEnum { signed, size, .. } | Head::KEnum64 { signed, size, .. } => {
+            append_enum(text, signed, size, items)
+        }
+        Head::KFwd { is_union, .. } => append(
+            text,
+            if is_union { "\" union" } else { "\" struct" },
+        ),
+        Head::KTypedef { target, .. } => append_number(text, "\" type=", target),
         Head::KFunc {
-            name,
             linkage,
             target,
+            ..
         }
         | Head::KVar {
-            name,
             target,
             linkage,
-        } => append_linked(text, name, linkage, target),
+            ..
+        } => append_linked(text, linkage, target),
         Head::KFuncProto { target } => append_prototype(text, target, items),
-        Head::KFloat { name, size } => append_sized(text, name, size),
+        Head::KFloat { size, .. } => append_number(text, "\" size=", size),
         Head::KDeclTag {
-            name,
             flag,
             target,
             component,
-        } => append_decl_tag(text, name, flag, target, component),
-        Head::KTypeTag { name, flag, target } => append_type_tag(text, name, flag, target),
+            ..
+        } => append_decl_tag(text, flag, target, component),
+        Head::KTypeTag { flag, target, .. } => append_type_tag(text, flag, target),
     }
+}
+
+/// The name of a type, which is empty where its kind has none.
+pub fn head_name<'a>(head: Head<'a>) -> &'a str
+    ensures { result.now ≡ names.head_name (head_value head.entry) }
+{
+    match head {
+        Head::KInt { name, .. }
+        | Head::KStruct { name, .. }
+        | Head::KUnion { name, .. }
+        | Head::KEnum { name, .. }
+        | Head::KFwd { name, .. }
+        | Head::KTypedef { name, .. }
+        | Head::KFunc { name, .. }
+        | Head::KVar { name, .. }
+        | Head::KDatasec { name, .. }
+        | Head::KFloat { name, .. }
+        | Head::KDeclTag { name, .. }
+        | Head::KTypeTag { name, .. }
+        | Head::KEnum64 { name, .. } => name,
+        Head::KPtr { .. }
+        | Head::KArray { .. }
+        | Head::KVolatile { .. }
+        | Head::KConst { .. }
+        | Head::KRestrict { .. }
+        | Head::KFuncProto { .. } => "",
+    }
+}
+
+/// What stands between the word of a kind and the first byte of its name.
+fn opening(head: Head<'_>) -> &'static str
+    ensures { result.now ≡ parts.opening (head_value head.entry) }
+{
+    match head {
+        Head::KPtr { .. }
+        | Head::KArray { .. }
+        | Head::KVolatile { .. }
+        | Head::KConst { .. }
+        | Head::KRestrict { .. }
+        | Head::KFuncProto { .. } => "",
+        _ => " \"",
+    }
+}
+
+/// Appends the line of a type with its number up to the first byte of its name. Behind it come the bytes of the name, by
+/// `append_quoted_part`, and `append_head_end`.
+///
+/// # Errors
+///
+/// `AllocError` where the vector couldn't grow. It may then hold the first bytes of the line.
+pub fn append_head_start<A: Allocator>(
+    text: &mut Vec<u8, A>,
+    id: u32,
+    head: Head<'_>,
+) -> Result<(), AllocError>
+    ensures { OnOk result (text.new.items ≡ text.old.items ++ parts.head_start id (head_value head.entry)) }
+{
+    append_number(text, "[", id)?;
+    append(text, "] ")?;
+    append(text, kind_word(head))?;
+    append(text, opening(head))
+}
+
+/// Appends the line of a type with so many items from behind the last byte of its name.
+///
+/// # Errors
+///
+/// `AllocError` where the vector couldn't grow. It may then hold the first bytes of what was to come.
+pub fn append_head_end<A: Allocator>(
+    text: &mut Vec<u8, A>,
+    head: Head<'_>,
+    items: u32,
+) -> Result<(), AllocError>
+    ensures { OnOk result (text.new.items ≡ text.old.items ++ parts.head_end (head_value head.entry) items) }
+{
+    append_fields(text, head, items)?;
+    append(text, "\n")
 }
 
 /// Appends the line of a type with its number and so many items.
@@ -302,11 +343,9 @@ pub fn append_head<A: Allocator>(
 ) -> Result<(), AllocError>
     ensures { OnOk result (text.new.items ≡ text.old.items ++ spec.head_line id (head_value head.entry) items) }
 {
-    append_number(text, "[", id)?;
-    append(text, "] ")?;
-    append(text, kind_word(head))?;
-    append_fields(text, head, items)?;
-    append(text, "\n")
+    append_head_start(text, id, head)?;
+    append_quoted_part(text, head_name(head).as_bytes())?;
+    append_head_end(text, head, items)
 }
 
 /// Whether the values of a type are read as signed.

@@ -1,7 +1,8 @@
-//! Names in quotes, with what a reader couldn't see or would take for a quote written otherwise.
+//! The bytes of names between quotes, with what a reader couldn't see or would take for a quote written otherwise.
 
 ghost use Rattle.std.specs.Prelude.{◌≡◌, ◌/◌, ◌%◌, ◌∷◌, [], ◌++◌, ◌<◌, true, codes, OnOk};
 ghost use Rattle.std.specs.Char.{digit_char};
+ghost use Rattle.std.specs.List.{flat_map};
 ghost use Rattle.btf_text.specs.BtfText as spec;
 
 use std::alloc::{AllocError, Allocator};
@@ -56,22 +57,27 @@ fn append_byte<A: Allocator>(text: &mut Vec<u8, A>, byte: u8) -> Result<(), Allo
     }
 }
 
-/// Appends a name in double quotes: `"` and `\` behind a backslash, control characters of ASCII as `\x` and two hexadecimal
-/// digits, and all other bytes as they are.
-pub fn append_quoted<A: Allocator>(text: &mut Vec<u8, A>, name: &str) -> Result<(), AllocError>
-    ensures { OnOk result (text.new.items ≡ text.old.items ++ spec.quoted name.now) }
+/// Appends bytes of a name as they stand between its quotes: `"` and `\` behind a backslash, control characters of ASCII as
+/// `\x` and two hexadecimal digits, and all other bytes as they are. A name may be cut anywhere: what its parts append is what
+/// the whole name does.
+///
+/// # Errors
+///
+/// `AllocError` where the vector couldn't grow. It may then hold the first bytes of what was to come.
+pub fn append_quoted_part<A: Allocator>(
+    text: &mut Vec<u8, A>,
+    part: &[u8],
+) -> Result<(), AllocError>
+    ensures { OnOk result (text.new.items ≡ text.old.items ++ flat_map spec.quoted_byte part.now) }
 {
-    let bytes = name.as_bytes();
-    text.extend_from_slice(b"\"")?;
     // Plain bytes are appended by whole runs; those from here on are still to come.
     let mut start = 0;
-    for (at, byte) in bytes.iter().enumerate() {
+    for (at, byte) in part.iter().enumerate() {
         if !is_plain(*byte) {
-            text.extend_from_slice(&bytes[start..at])?;
+            text.extend_from_slice(&part[start..at])?;
             append_byte(text, *byte)?;
             start = at + 1;
         }
     }
-    text.extend_from_slice(&bytes[start..])?;
-    text.extend_from_slice(b"\"")
+    text.extend_from_slice(&part[start..])
 }

@@ -1,9 +1,7 @@
-//! The parts that lines are put together from: words, numbers and names.
+//! The parts that lines are put together from: words and numbers.
 
 ghost use Rattle.std.specs.Prelude.{◌≡◌, ◌++◌, decimal, OnOk};
-ghost use Rattle.btf_text.specs.BtfText as spec;
 
-use crate::quoted_name::append_quoted;
 use itoa::Buffer;
 use std::alloc::{AllocError, Allocator};
 
@@ -24,16 +22,4 @@ pub(crate) fn append_number<A: Allocator>(
 {
     append(text, label)?;
     append(text, Buffer::new().format(number))
-}
-
-/// Appends a label and a name in quotes.
-pub(crate) fn append_name<A: Allocator>(
-    text: &mut Vec<u8, A>,
-    label: &str,
-    name: &str,
-) -> Result<(), AllocError>
-    ensures { OnOk result (text.new.items ≡ text.old.items ++ (label.now ++ spec.quoted name.now)) }
-{
-    append(text, label)?;
-    append_quoted(text, name)
 }
