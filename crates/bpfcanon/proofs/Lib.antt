@@ -1,12 +1,2 @@
-pub mod BtfCanonLemmas
-pub mod BtfPieces
-pub mod BtfSameLemmas
-pub mod CanonLemmas
-pub mod CommandLemmas
 pub mod LineLemmas
-pub mod ListingPieces
-pub mod LongNameLemmas
 pub mod OptionsLemmas
-pub mod OutcomeLemmas
-pub mod PiecesLemmas
-pub mod SameLemmas

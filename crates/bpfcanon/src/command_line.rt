@@ -2,32 +2,17 @@
 
 ghost use Rattle.std.specs.Prelude.{◌≡◌, ◌<◌, length, map, string_bytes, IfOk, IfSome, IsErrOf};
 ghost use Rattle.clap.specs.Words.{subcommand_rows_of, rows_of, found_of};
-ghost use Rattle.bpfcanon.specs.Verbs.{IsVerbName};
+ghost use Rattle.bpf_jobs.specs.Verbs.{IsVerbName};
 ghost use Rattle.bpfcanon.specs.Line as spec;
 ghost use Rattle.bpfcanon.specs.Line.{Asks, IsRefused, IsJobOf};
 
 use crate::options::{OrderNames, program_command};
-use crate::verb::{Setting, Verb};
+use bpf_jobs::{Job, Setting, Verb};
 use bpf_words::Order;
 use clap::ArgMatches;
 use clap::error::ErrorKind;
 use std::alloc::Global;
 use thiserror::Error;
-
-/// What a command line asks for. A setting that the command doesn't take is `Little` or 0.
-#[derive(Clone, Copy, Debug, PartialEq, Eq)]
-pub struct Job {
-    /// The command.
-    pub verb: Verb,
-    /// The byte order of the input, or of the first file.
-    pub order: Order,
-    /// The byte order of the output.
-    pub to: Order,
-    /// The byte order of the second file.
-    pub other: Order,
-    /// The length of the first file in bytes.
-    pub split: u64,
-}
 
 /// Why a command line has no job.
 #[derive(Clone, Copy, Debug, PartialEq, Eq, Error)]

@@ -3,29 +3,17 @@
 
 ghost use Rattle.std.specs.Prelude.{◌≡◌, ◌<◌, ◌++◌, codes, length, map, string_bytes};
 ghost use Rattle.std.specs.Process.{exit_status};
-ghost use Rattle.bpfcanon.specs.declared.outcome.Outcome.{Outcome};
-ghost use Rattle.bpfcanon.specs.Ends.{Ends, change};
-ghost use Rattle.bpfcanon.specs.Outcome.{Tells, line_of, newline, status_of};
+ghost use Rattle.bpf_jobs.specs.declared.outcome.Outcome.{Outcome};
+ghost use Rattle.bpf_jobs.specs.JobEnds.{change};
+ghost use Rattle.bpf_jobs.specs.Outcome.{Tells, line_of, newline, status_of};
+ghost use Rattle.bpfcanon.specs.Ends.{Ends};
 
-mod btf_check;
-mod btf_listing;
-mod btf_same;
 mod command;
 mod command_line;
-mod engines;
-mod groups;
-mod listing_pieces;
-mod listings;
-mod long_names;
 mod options;
-mod outcome;
-mod pieces;
-mod reply;
-mod same;
-mod verb;
 
 use bpf_canon::{ByteSink, ByteSource, ReaderSource, WriterSink};
-use outcome::put_text;
+use bpf_jobs::put_text;
 use std::alloc::Global;
 use std::env;
 use std::process::ExitCode;

@@ -1,8 +1,8 @@
 //! Command lines that are taken and refused.
 
 use super::running::{run, steady, words_of};
-use crate::command_line::{Job, LineError, parse_line};
-use crate::verb::Verb;
+use crate::command_line::{LineError, parse_line};
+use bpf_jobs::{Job, Verb};
 use bpf_words::Order;
 use std::alloc::{AllocError, Global};
 use std::test::Fail;

@@ -2,12 +2,9 @@
 
 use super::arena::{MOST_ROOM, arena, arena_of};
 use super::btf_files::{BIG_ENUM, BIG_INT, INT, STRUCT, UNKNOWN_TYPE, nameless};
-use crate::command::run_job;
-use crate::command_line::Job;
-use crate::outcome::Outcome;
-use crate::verb::Verb;
 use bpf_canon::{MemSink, MemSource};
 use bpf_insn::{SlotCause, SlotFault};
+use bpf_jobs::{Job, Outcome, Verb, run_job};
 use bpf_text::{LineCause, LineFault};
 use bpf_words::{Order, push32};
 use btf_raw::{BtfCause, BtfFault};
