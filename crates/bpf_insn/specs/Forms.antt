@@ -7,7 +7,7 @@ use Rattle.bpf_words.specs.Slots.{Fields, fields}
 use Rattle.bpf_insn.specs.Spelling.{second_slot}
 use Rattle.bpf_insn.specs.Faults.{place}
 use Rattle.bpf_insn.specs.declared.insn.WideOf.{WideOf}
-use Rattle.bpf_insn.specs.Table.{code_opcode, mode_opcode, alu_class, branch_class, branch_code, size_number, small_size_number, atomic_size, swap_opcode, swap_bits, atomic_number, IsReg, IsImm, IsInsn, IsOperand, fields_of, next_imm_of, source_bit, immediate, IsWideOf, wide_source, wide_imm, wide_next_imm}
+use Rattle.bpf_insn.specs.Table.{code_opcode, mode_opcode, alu_class, alu_code, branch_class, branch_code, size_number, small_size_number, atomic_size, swap_opcode, swap_bits, atomic_number, IsReg, IsImm, IsInsn, IsOperand, fields_of, next_imm_of, source_bit, immediate, IsWideOf, wide_source, wide_imm, wide_next_imm}
 use Rattle.bpf_insn.specs.Table as table
 use Rattle.bpf_insn.specs.declared.insn.Insn.{Insn}
 use Rattle.bpf_insn.specs.declared.insn.Operand.{Operand}
@@ -17,6 +17,7 @@ use Rattle.bpf_insn.specs.declared.insn.Size.{Size}
 use Rattle.bpf_insn.specs.declared.insn.Size.TheVariants as size
 use Rattle.bpf_insn.specs.declared.insn.SmallSize.{SmallSize}
 use Rattle.bpf_insn.specs.declared.insn.SmallSize.TheVariants as small
+use Rattle.bpf_insn.specs.declared.insn.AluOp.TheVariants as alu
 use Rattle.bpf_insn.specs.declared.insn.BranchOp.{BranchOp}
 use Rattle.bpf_insn.specs.declared.insn.BranchOp.TheVariants as branch
 use Rattle.bpf_insn.specs.declared.insn.SwapKind.TheVariants as swap
@@ -33,19 +34,20 @@ use Rattle.bpf_insn.specs.declared.form.Head.TheVariants.{Whole, WideHead}
 use Rattle.bpf_insn.specs.declared.form.Form.{Form}
 use Rattle.bpf_insn.specs.declared.form.Form.TheVariants.{Alu, Neg, Swap, Jump, JumpLong, Branch, Call, Exit, Load, LoadSigned, StoreImm, StoreReg, Atomic, Wide, PacketAbs, PacketInd}
 
+-- the codes of the operations; a signed division has that of the unsigned one
 abbrev pub alu_code_number : AluCode → ℕ
-alu_code_number code.Add = 0x0
-alu_code_number code.Sub = 0x1
-alu_code_number code.Mul = 0x2
-alu_code_number code.Div = 0x3
-alu_code_number code.Or = 0x4
-alu_code_number code.And = 0x5
-alu_code_number code.Lsh = 0x6
-alu_code_number code.Rsh = 0x7
-alu_code_number code.Mod = 0x9
-alu_code_number code.Xor = 0xa
-alu_code_number code.Mov = 0xb
-alu_code_number code.Arsh = 0xc
+alu_code_number code.Add = alu_code alu.Add
+alu_code_number code.Sub = alu_code alu.Sub
+alu_code_number code.Mul = alu_code alu.Mul
+alu_code_number code.Div = alu_code alu.Div
+alu_code_number code.Or = alu_code alu.Or
+alu_code_number code.And = alu_code alu.And
+alu_code_number code.Lsh = alu_code alu.Lsh
+alu_code_number code.Rsh = alu_code alu.Rsh
+alu_code_number code.Mod = alu_code alu.Mod
+alu_code_number code.Xor = alu_code alu.Xor
+alu_code_number code.Mov = alu_code alu.Mov
+alu_code_number code.Arsh = alu_code alu.Arsh
 
 abbrev pub source_number : Source → ℕ
 source_number K = 0

@@ -1,0 +1,278 @@
+//! Jumps, branches, calls and exits, read and written (RFC 9669 section 4.3).
+//!
+//! The code names the comparison, or one of JA (0x0), CALL (0x8) and EXIT (0x9); the source bit s tells
+//! a register from an immediate, and the class, JMP (5) or JMP32 (6), tells the width:
+//!
+//! ```text
+//! +-+-+-+-+-+-+-+-+
+//! |  code |s|class|
+//! +-+-+-+-+-+-+-+-+
+//!  7     4 3 2   0
+//! ```
+
+ghost use Rattle.std.specs.Prelude.{◌≡◌, ◌⊎◌, ◌≤◌, pos, Some};
+ghost use Rattle.bpf_words.specs.Slots.{fields};
+ghost use Rattle.bpf_insn.specs.Table.{IsOperand, branch_class, branch_code, fields_of};
+ghost use Rattle.bpf_insn.specs.Forms.{AllowsSource, Makes, branch_op_at, jump32_form_at, jump64_form_at};
+
+use crate::family::operand::{fields_of_operand, operand_of, source_of};
+use crate::form::{Form, Source};
+use crate::opcode::{JMP, JMP32};
+use crate::{BranchOp, Insn, Operand, Reg, Slot, Width};
+
+// The codes of the comparisons.
+const EQ: u8 = 0x1;
+
+const GT: u8 = 0x2;
+
+const GE: u8 = 0x3;
+
+const SET: u8 = 0x4;
+
+const NE: u8 = 0x5;
+
+const SGT: u8 = 0x6;
+
+const SGE: u8 = 0x7;
+
+const LT: u8 = 0xa;
+
+const LE: u8 = 0xb;
+
+const SLT: u8 = 0xc;
+
+const SLE: u8 = 0xd;
+
+/// The opcode of a jump by the offset: code JA (0x0), and class JMP.
+const JUMP: u8 = 0x05;
+
+/// The opcode of a jump by the immediate: code JA (0x0), and class JMP32.
+const JUMP_LONG: u8 = 0x06;
+
+/// The opcode of a call: code 0x8, and class JMP.
+const CALL: u8 = 0x85;
+
+/// The opcode of an exit: code 0x9, and class JMP.
+const EXIT: u8 = 0x95;
+
+/// The comparison of a code.
+#[tactic(auto, unfolding(crate::specs::Forms::branch_op_at))]
+fn branch_op_of(code: u8) -> Option<BranchOp>
+    ensures { result ≡ branch_op_at code }
+{
+    match code {
+        EQ => Some(BranchOp::Eq),
+        GT => Some(BranchOp::Gt),
+        GE => Some(BranchOp::Ge),
+        SET => Some(BranchOp::Set),
+        NE => Some(BranchOp::Ne),
+        SGT => Some(BranchOp::Sgt),
+        SGE => Some(BranchOp::Sge),
+        LT => Some(BranchOp::Lt),
+        LE => Some(BranchOp::Le),
+        SLT => Some(BranchOp::Slt),
+        SLE => Some(BranchOp::Sle),
+        _ => None,
+    }
+}
+
+/// The code of a comparison.
+fn number_of_branch_op(op: BranchOp) -> u8
+    ensures { result ≡ branch_code op }
+{
+    match op {
+        BranchOp::Eq => EQ,
+        BranchOp::Gt => GT,
+        BranchOp::Ge => GE,
+        BranchOp::Set => SET,
+        BranchOp::Ne => NE,
+        BranchOp::Sgt => SGT,
+        BranchOp::Sge => SGE,
+        BranchOp::Lt => LT,
+        BranchOp::Le => LE,
+        BranchOp::Slt => SLT,
+        BranchOp::Sle => SLE,
+    }
+}
+
+/// The form of an opcode of class JMP32.
+#[tactic(auto, unfolding(crate::specs::Forms::jump32_form_at))]
+pub(crate) fn jump32_form_of(opcode: u8) -> Option<Form>
+    ensures { result ≡ jump32_form_at opcode }
+{
+    if let Some(op) = branch_op_of(opcode / 16) {
+        return Some(Form::Branch {
+            width: Width::W32,
+            op,
+            source: source_of(opcode),
+        });
+    }
+    match opcode {
+        JUMP_LONG => Some(Form::JumpLong),
+        _ => None,
+    }
+}
+
+/// The form of an opcode of class JMP.
+#[tactic(auto, unfolding(crate::specs::Forms::jump64_form_at))]
+pub(crate) fn jump64_form_of(opcode: u8) -> Option<Form>
+    ensures { result ≡ jump64_form_at opcode }
+{
+    if let Some(op) = branch_op_of(opcode / 16) {
+        return Some(Form::Branch {
+            width: Width::W64,
+            op,
+            source: source_of(opcode),
+        });
+    }
+    match opcode {
+        JUMP => Some(Form::Jump),
+        CALL => Some(Form::Call),
+        EXIT => Some(Form::Exit),
+        _ => None,
+    }
+}
+
+/// The class of branches of this width.
+fn branch_class_of(width: Width) -> u8
+    ensures { result ≡ branch_class width }
+{
+    match width {
+        Width::W32 => JMP32,
+        Width::W64 => JMP,
+    }
+}
+
+/// The branch with these fields, if it allows the immediate.
+#[inline(always)]
+pub(crate) fn branch_of(
+    width: Width,
+    op: BranchOp,
+    source: Source,
+    dst: Reg,
+    src: Reg,
+    off: i16,
+    imm: i32,
+) -> Option<Insn>
+    requires { AllowsSource source src.number }
+    ensures { Makes (Form.Branch width op source) dst.number src.number off imm result }
+{
+    let arg = operand_of(source, src, imm)?;
+    Some(Insn::Branch {
+        width,
+        op,
+        dst,
+        arg,
+        off,
+    })
+}
+
+/// The call of this src field.
+pub(crate) fn call_of(src: Reg, off: i16, imm: i32) -> Insn
+    requires src { src.number ≤ 2 }
+    requires off { (src.number ≡ 2) ⊎ (off ≡ pos 0) }
+    ensures { Makes Form.Call 0 src.number off imm (Some result) }
+{
+    match src.number() {
+        0 => Insn::CallHelper { id: imm },
+        1 => Insn::CallLocal { imm },
+        _ => Insn::CallBtf { id: imm, off },
+    }
+}
+
+/// The slot of a jump where a comparison holds.
+#[inline]
+pub(crate) fn branch_slot(width: Width, op: BranchOp, dst: Reg, arg: Operand, off: i16) -> Slot
+    ensures fields { result ≡ fields_of (Insn.Branch width op dst arg off) }
+    ensures in_range { IsOperand arg }
+{
+    let (bit, src, imm) = fields_of_operand(arg);
+    Slot {
+        opcode: 16 * number_of_branch_op(op) + 8 * bit + branch_class_of(width),
+        dst: dst.number(),
+        src,
+        off,
+        imm,
+    }
+}
+
+/// The slot of a jump by the offset: JA of class JMP.
+#[inline]
+pub(crate) fn jump_slot(off: i16) -> Slot
+    ensures { result ≡ fields_of (Insn.Jump off) }
+{
+    Slot {
+        opcode: JUMP,
+        dst: 0,
+        src: 0,
+        off,
+        imm: 0,
+    }
+}
+
+/// The slot of a jump by the immediate: JA of class JMP32.
+#[inline]
+pub(crate) fn jump_long_slot(imm: i32) -> Slot
+    ensures { result ≡ fields_of (Insn.JumpLong imm) }
+{
+    Slot {
+        opcode: JUMP_LONG,
+        dst: 0,
+        src: 0,
+        off: 0,
+        imm,
+    }
+}
+
+/// The slot of a call. The source field, 0 to 2, tells what is called.
+#[inline]
+fn call_slot(src: u8, off: i16, imm: i32) -> Slot
+    requires { src ≤ 2 }
+    ensures { result ≡ fields 0x85 0 src off imm }
+{
+    Slot {
+        opcode: CALL,
+        dst: 0,
+        src,
+        off,
+        imm,
+    }
+}
+
+/// The slot of a call of a helper function by its number.
+#[inline]
+pub(crate) fn call_helper_slot(id: i32) -> Slot
+    ensures { result ≡ fields_of (Insn.CallHelper id) }
+{
+    call_slot(0, 0, id)
+}
+
+/// The slot of a call of a function of the program.
+#[inline]
+pub(crate) fn call_local_slot(imm: i32) -> Slot
+    ensures { result ≡ fields_of (Insn.CallLocal imm) }
+{
+    call_slot(1, 0, imm)
+}
+
+/// The slot of a call of a helper function by the number of its BTF type.
+#[inline]
+pub(crate) fn call_btf_slot(id: i32, off: i16) -> Slot
+    ensures { result ≡ fields_of (Insn.CallBtf id off) }
+{
+    call_slot(2, off, id)
+}
+
+/// The slot of an exit.
+#[inline]
+pub(crate) fn exit_slot() -> Slot
+    ensures { result ≡ fields_of Insn.Exit }
+{
+    Slot {
+        opcode: EXIT,
+        dst: 0,
+        src: 0,
+        off: 0,
+        imm: 0,
+    }
+}

@@ -1,0 +1,308 @@
+//! Loads, stores and atomic operations, read and written (RFC 9669 sections 5.1 to 5.3 and 5.5), and the
+//! opcodes of wide loads, which share their classes.
+//!
+//! The mode tells how memory is accessed, sz how much of it, and the class from where to where:
+//!
+//! ```text
+//! +-+-+-+-+-+-+-+-+
+//! |mode |sz |class|
+//! +-+-+-+-+-+-+-+-+
+//!  7   5 4 3 2   0
+//! ```
+
+ghost use Rattle.std.specs.Prelude.{◌≡◌, ◌≢◌, ◌<◌, MatchOption, pos};
+ghost use Rattle.bpf_insn.specs.declared.insn.AtomicOp.{AtomicOp};
+ghost use Rattle.bpf_insn.specs.Table.{atomic_number, atomic_size, fields_of, size_number, small_size_number};
+ghost use Rattle.bpf_insn.specs.Forms.{Makes, load_form_at, size_at, small_size_at};
+
+use crate::form::Form;
+use crate::opcode::{LD, LDX, ST, STX};
+use crate::{AtomicOp, Insn, Reg, Size, Slot, SmallSize, Width};
+
+/// Mode IMM: a number of two slots.
+const IMM: u8 = 0;
+/// Mode ABS: a packet, at the immediate.
+const ABS: u8 = 1;
+/// Mode IND: a packet, at a register and the immediate.
+const IND: u8 = 2;
+/// Mode MEM: memory, at a register and the offset.
+const MEM: u8 = 3;
+/// Mode MEMSX: as MEM, with the sign extended.
+const MEMSX: u8 = 4;
+/// Mode ATOMIC: as MEM, read and written in one step.
+const ATOMIC: u8 = 6;
+
+/// Words of 32 bits.
+const W: u8 = 0;
+/// Half words.
+const H: u8 = 1;
+/// Bytes.
+const B: u8 = 2;
+/// Double words.
+const DW: u8 = 3;
+
+// The immediates of the atomic operations.
+const ADD: i32 = 0x00;
+
+const OR: i32 = 0x40;
+
+const AND: i32 = 0x50;
+
+const XOR: i32 = 0xa0;
+
+const FETCH_ADD: i32 = 0x01;
+
+const FETCH_OR: i32 = 0x41;
+
+const FETCH_AND: i32 = 0x51;
+
+const FETCH_XOR: i32 = 0xa1;
+
+const XCHG: i32 = 0xe1;
+
+const CMPXCHG: i32 = 0xf1;
+
+/// The size of a number.
+#[tactic(auto, unfolding(crate::specs::Forms::size_at))]
+fn size_of(number: u8) -> Option<Size>
+    ensures { result ≡ size_at number }
+{
+    match number {
+        W => Some(Size::W),
+        H => Some(Size::H),
+        B => Some(Size::B),
+        DW => Some(Size::D),
+        _ => None,
+    }
+}
+
+/// The number of a size.
+fn number_of_size(size: Size) -> u8
+    ensures { result ≡ size_number size }
+{
+    match size {
+        Size::W => W,
+        Size::H => H,
+        Size::B => B,
+        Size::D => DW,
+    }
+}
+
+/// The size of a number, double words left out.
+#[tactic(auto, unfolding(crate::specs::Forms::small_size_at))]
+fn small_size_of(number: u8) -> Option<SmallSize>
+    ensures { result ≡ small_size_at number }
+{
+    match number {
+        W => Some(SmallSize::W),
+        H => Some(SmallSize::H),
+        B => Some(SmallSize::B),
+        _ => None,
+    }
+}
+
+/// The number of a size that is no double word.
+fn number_of_small_size(size: SmallSize) -> u8
+    ensures { result ≡ small_size_number size }
+{
+    match size {
+        SmallSize::W => W,
+        SmallSize::H => H,
+        SmallSize::B => B,
+    }
+}
+
+/// The operation that an immediate names.
+fn atomic_op_of(imm: i32) -> Option<AtomicOp>
+    ensures { MatchOption result ((op : AtomicOp) → imm ≢ pos (atomic_number op)) (λ op. imm ≡ pos (atomic_number op)) }
+{
+    match imm {
+        ADD => Some(AtomicOp::Add),
+        OR => Some(AtomicOp::Or),
+        AND => Some(AtomicOp::And),
+        XOR => Some(AtomicOp::Xor),
+        FETCH_ADD => Some(AtomicOp::FetchAdd),
+        FETCH_OR => Some(AtomicOp::FetchOr),
+        FETCH_AND => Some(AtomicOp::FetchAnd),
+        FETCH_XOR => Some(AtomicOp::FetchXor),
+        XCHG => Some(AtomicOp::Xchg),
+        CMPXCHG => Some(AtomicOp::Cmpxchg),
+        _ => None,
+    }
+}
+
+/// The immediate of an atomic operation.
+fn number_of_atomic_op(op: AtomicOp) -> i32
+    ensures { result ≡ pos (atomic_number op) }
+{
+    match op {
+        AtomicOp::Add => ADD,
+        AtomicOp::Or => OR,
+        AtomicOp::And => AND,
+        AtomicOp::Xor => XOR,
+        AtomicOp::FetchAdd => FETCH_ADD,
+        AtomicOp::FetchOr => FETCH_OR,
+        AtomicOp::FetchAnd => FETCH_AND,
+        AtomicOp::FetchXor => FETCH_XOR,
+        AtomicOp::Xchg => XCHG,
+        AtomicOp::Cmpxchg => CMPXCHG,
+    }
+}
+
+/// The form of an opcode of the classes LD, LDX, ST and STX.
+#[tactic(auto, unfolding(crate::specs::Forms::load_form_at))]
+pub(crate) fn load_form_of(class: u8, mode: u8, size: u8) -> Option<Form>
+    requires { class < 4 }
+    ensures { result ≡ load_form_at class mode size }
+{
+    match (class, mode) {
+        (LD, IMM) => { if size == DW { Some(Form::Wide) } else { None } }
+        (LD, ABS) => Some(Form::PacketAbs {
+            size: small_size_of(size)?,
+        }),
+        (LD, IND) => Some(Form::PacketInd {
+            size: small_size_of(size)?,
+        }),
+        (LDX, MEM) => Some(Form::Load {
+            size: size_of(size)?,
+        }),
+        (LDX, MEMSX) => Some(Form::LoadSigned {
+            size: small_size_of(size)?,
+        }),
+        (ST, MEM) => Some(Form::StoreImm {
+            size: size_of(size)?,
+        }),
+        (STX, MEM) => Some(Form::StoreReg {
+            size: size_of(size)?,
+        }),
+        (STX, ATOMIC) => match size {
+            W => Some(Form::Atomic { width: Width::W32 }),
+            DW => Some(Form::Atomic { width: Width::W64 }),
+            _ => None,
+        },
+        _ => None,
+    }
+}
+
+/// The atomic operation with these fields, if its immediate names one.
+#[inline(always)]
+pub(crate) fn atomic_of(width: Width, dst: Reg, src: Reg, off: i16, imm: i32) -> Option<Insn>
+    ensures { Makes (Form.Atomic width) dst.number src.number off imm result }
+{
+    let op = atomic_op_of(imm)?;
+    Some(Insn::Atomic {
+        width,
+        op,
+        dst,
+        src,
+        off,
+    })
+}
+
+/// The slot of a load.
+#[inline]
+pub(crate) fn load_slot(size: Size, dst: Reg, src: Reg, off: i16) -> Slot
+    ensures { result ≡ fields_of (Insn.Load size dst src off) }
+{
+    Slot {
+        opcode: 32 * MEM + 8 * number_of_size(size) + LDX,
+        dst: dst.number(),
+        src: src.number(),
+        off,
+        imm: 0,
+    }
+}
+
+/// The slot of a load that extends the sign.
+#[inline]
+pub(crate) fn load_signed_slot(size: SmallSize, dst: Reg, src: Reg, off: i16) -> Slot
+    ensures { result ≡ fields_of (Insn.LoadSigned size dst src off) }
+{
+    Slot {
+        opcode: 32 * MEMSX + 8 * number_of_small_size(size) + LDX,
+        dst: dst.number(),
+        src: src.number(),
+        off,
+        imm: 0,
+    }
+}
+
+/// The slot of a store of an immediate.
+#[inline]
+pub(crate) fn store_imm_slot(size: Size, dst: Reg, off: i16, imm: i32) -> Slot
+    ensures { result ≡ fields_of (Insn.StoreImm size dst off imm) }
+{
+    Slot {
+        opcode: 32 * MEM + 8 * number_of_size(size) + ST,
+        dst: dst.number(),
+        src: 0,
+        off,
+        imm,
+    }
+}
+
+/// The slot of a store of a register.
+#[inline]
+pub(crate) fn store_reg_slot(size: Size, dst: Reg, src: Reg, off: i16) -> Slot
+    ensures { result ≡ fields_of (Insn.StoreReg size dst src off) }
+{
+    Slot {
+        opcode: 32 * MEM + 8 * number_of_size(size) + STX,
+        dst: dst.number(),
+        src: src.number(),
+        off,
+        imm: 0,
+    }
+}
+
+/// The number of the size of an atomic operation.
+fn atomic_size_of(width: Width) -> u8
+    ensures { result ≡ atomic_size width }
+{
+    match width {
+        Width::W32 => W,
+        Width::W64 => DW,
+    }
+}
+
+/// The slot of an atomic operation.
+#[inline]
+pub(crate) fn atomic_slot(width: Width, op: AtomicOp, dst: Reg, src: Reg, off: i16) -> Slot
+    ensures { result ≡ fields_of (Insn.Atomic width op dst src off) }
+{
+    Slot {
+        opcode: 32 * ATOMIC + 8 * atomic_size_of(width) + STX,
+        dst: dst.number(),
+        src: src.number(),
+        off,
+        imm: number_of_atomic_op(op),
+    }
+}
+
+/// The slot of a load from the packet at the immediate.
+#[inline]
+pub(crate) fn packet_abs_slot(size: SmallSize, imm: i32) -> Slot
+    ensures { result ≡ fields_of (Insn.PacketAbs size imm) }
+{
+    Slot {
+        opcode: 32 * ABS + 8 * number_of_small_size(size) + LD,
+        dst: 0,
+        src: 0,
+        off: 0,
+        imm,
+    }
+}
+
+/// The slot of a load from the packet at a register and the immediate.
+#[inline]
+pub(crate) fn packet_ind_slot(size: SmallSize, src: Reg, imm: i32) -> Slot
+    ensures { result ≡ fields_of (Insn.PacketInd size src imm) }
+{
+    Slot {
+        opcode: 32 * IND + 8 * number_of_small_size(size) + LD,
+        dst: 0,
+        src: src.number(),
+        off: 0,
+        imm,
+    }
+}

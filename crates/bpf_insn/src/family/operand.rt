@@ -1,0 +1,62 @@
+//! The second operand of arithmetic and branches, read and written.
+//!
+//! Source bit 0, K, says that the operand is the immediate; 1, X, that it is the source register (RFC
+//! 9669 section 4).
+
+ghost use Rattle.std.specs.Prelude.{◌≡◌, ◌↔◌, IsTrue};
+ghost use Rattle.bpf_insn.specs.Table.{IsOperand, immediate, source, source_bit};
+ghost use Rattle.bpf_insn.specs.Forms.{AllowsSource, MakesOperand, source_at};
+
+use crate::form::Source;
+use crate::{Operand, Reg};
+
+/// The source bit of an opcode.
+pub(crate) fn source_of(opcode: u8) -> Source
+    ensures { result ≡ source_at opcode }
+{
+    if opcode / 8 % 2 == 0 {
+        Source::K
+    } else {
+        Source::X
+    }
+}
+
+/// Tells whether a source bit allows this src field.
+pub(crate) fn allows_source(source: Source, src: u8) -> bool
+    ensures { IsTrue result ↔ AllowsSource source src }
+{
+    match source {
+        Source::K => src == 0,
+        Source::X => src <= 10,
+    }
+}
+
+/// The operand of these fields. A register leaves no use for the immediate.
+pub(crate) fn operand_of(source: Source, src: Reg, imm: i32) -> Option<Operand>
+    requires { AllowsSource source src.number }
+    ensures { MakesOperand source src.number imm result }
+{
+    match source {
+        Source::K => Some(Operand::Imm(imm)),
+        Source::X => {
+            if imm == 0 {
+                Some(Operand::Reg(src))
+            } else {
+                None
+            }
+        }
+    }
+}
+
+/// The source bit, the source field and the immediate of an operand.
+pub(crate) fn fields_of_operand(arg: Operand) -> (u8, u8, i32)
+    ensures bit { result.0 ≡ source_bit arg }
+    ensures source { result.1 ≡ source arg }
+    ensures imm { result.2 ≡ immediate arg }
+    ensures in_range { IsOperand arg }
+{
+    match arg {
+        Operand::Imm(imm) => (0, 0, imm),
+        Operand::Reg(src) => (1, src.number(), 0),
+    }
+}
