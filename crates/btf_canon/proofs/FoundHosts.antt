@@ -1,5 +1,5 @@
 -- The hosts of the texts at the used offsets of a section, found by the longest of them.
-use Rattle.std.proofs.Common.{◌≡◌, ◌≢◌, ℕ, zero, suc, ◌<◌, true, List, ◌∷◌, length, map, get_or, false, drop, refl, sym, ap, ◌∙◌, subst, arith}
+use Rattle.std.proofs.Common.{◌≡◌, ◌≢◌, ℕ, zero, suc, ◌<◌, true, List, ◌∷◌, length, map, get_or, drop, refl, sym, ap, ◌∙◌, subst, arith}
 use Rattle.std.specs.List.{All, Contains}
 use Rattle.std.proofs.lemmas.List.{get_or-map, length-map, get_or_default}
 use Rattle.std.proofs.Math.Seq.{drop-cons}
@@ -14,7 +14,7 @@ use Rattle.btf_types.proofs.StringLemmas.Suffixes.{suffix_from_Ends}
 use Rattle.btf_canon.proofs.LongestSteps.{used_text, within_ends}
 
 abbrev none : Tail
-none = record { key = 0; start = 0; end = 0; number = 0; alone = false }
+none = record { key = 0; start = 0; end = 0 }
 
 -- members of a list that is mapped
 pub in_map : {X : Type 0} (f : X → List ℕ) (xs : List X) (x : X) → Contains xs x → Contains (map f xs) (f x)

@@ -17,7 +17,7 @@ use Rattle.btf_types.proofs.StringLemmas.Texts.{table_split}
 use Rattle.btf_types.proofs.StringLemmas.Longest.{longest_tell_host}
 use Rattle.btf_canon.specs.FirstUses.{AreMarked}
 use Rattle.btf_canon.specs.UsedOffsets.{number_of}
-use Rattle.btf_canon.specs.Longest.{IsUsed, IsWithin, IsCounted, AreLongestOf}
+use Rattle.btf_canon.specs.Longest.{IsUsed, IsWithin, AreLongestOf}
 use Rattle.btf_canon.specs.Tails.{tail_text, HasKey}
 use Rattle.btf_canon.specs.InHost.{no_host, found_of, AreInHosts}
 use Rattle.btf_canon.specs.HostLayout.{IsFound, AreLaidOut, ArePlaced}
@@ -39,7 +39,6 @@ longest_permuted section slots texts tails are perm = record {
   few = omega (arith, are.few, length_permutation texts tails perm);
   keys = All-permutation (HasKey section) texts tails perm are.keys;
   used = All-permutation (IsUsed section slots) texts tails perm are.used;
-  counted = All-permutation (IsCounted slots) texts tails perm are.counted;
   each = λ off h s b. any_permuted (IsWithin off) texts tails perm (are.each off h s b);
 }
 

@@ -1,5 +1,5 @@
 -- The host of a text by ranks, and the steps of the loops that find the hosts of all.
-use Rattle.std.proofs.Common.{◌≡◌, ◌≢◌, ℕ, zero, suc, ◌+◌, ◌-◌, ◌<◌, ◌≤◌, true, false, ◌⊎◌, inl, inr, List, [], length, map, get_or, set, replicate, refl, sym, ap, ◌∙◌, subst, arith}
+use Rattle.std.proofs.Common.{◌≡◌, ◌≢◌, ℕ, zero, suc, ◌+◌, ◌-◌, ◌<◌, ◌≤◌, true, ◌⊎◌, inl, inr, List, [], length, map, get_or, set, replicate, refl, sym, ap, ◌∙◌, subst, arith}
 use Rattle.std.specs.List.{All}
 use Rattle.std.proofs.lemmas.Bool.{cases_eq, cases_lt}
 use Rattle.std.proofs.lemmas.List.{get_or-map, length-map, length-set, get_or-set_same, get_or-set_other, get_or_default, get_or_read, get_or-replicate, length-replicate}
@@ -9,7 +9,7 @@ use Rattle.btf_types.specs.strings.CommonTails.{at_rank, IsFirstRank, IsNextHost
 use Rattle.btf_types.proofs.StringLemmas.Suffixes.{Ends, Ends-refl, Ends-trans, Ends-length, Ends-from_suffix, suffix_from_Ends}
 use Rattle.btf_types.proofs.StringLemmas.CommonTails.{first_ends, rank_tells_host}
 use Rattle.btf_canon.specs.Tails.{tail_text}
-use Rattle.btf_canon.specs.Longest.{IsUsed, IsWithin, IsCounted, AreLongestOf}
+use Rattle.btf_canon.specs.Longest.{IsUsed, IsWithin, AreLongestOf}
 use Rattle.btf_canon.specs.Ranks.{AreRanked}
 use Rattle.btf_canon.specs.UsedOffsets.{number_of}
 use Rattle.btf_canon.specs.InHost.{IsInHost, no_host, found_of, FindsWithin, AreInHosts}
@@ -20,7 +20,7 @@ use Rattle.btf_canon.proofs.LongestSteps.{used_length, within_length, within_end
 use Rattle.btf_canon.proofs.RankSteps.{first_rank_is}
 
 abbrev pub no_tail : Tail
-no_tail = record { key = 0; start = 0; end = 0; number = 0; alone = false }
+no_tail = record { key = 0; start = 0; end = 0 }
 
 -- the texts that are passed on the way to the next host all end it
 passed_end : (ms : List (List ℕ)) (n j l r : ℕ) → n + j ≡ r → l ≤ j → ((i : ℕ) → l ≤ i → i < r → is_suffix (at_rank ms i) (at_rank ms (i + 1)) ≡ true) → Ends (at_rank ms j) (at_rank ms r)
@@ -201,37 +201,33 @@ module _ (section slots : List ℕ) (sorted : List (List ℕ)) (common : List �
   }
 
 -- the host of a text that is alone
-pub finds_alone : (section slots : List ℕ) (sorted : List (List ℕ)) (t : Tail) (old : List InHost) (h : InHost) → IsUsed section slots t → IsCounted slots t → t.alone ≡ true → length old ≡ number_of slots (length slots) → IsInHost sorted (text_from section t.start) h
-    → FindsWithin section slots sorted t old (set old t.number h)
-finds_alone section slots sorted t old h used counted alone long is =
+pub finds_alone : (section slots : List ℕ) (sorted : List (List ℕ)) (t : Tail) (old : List InHost) (h : InHost) → IsUsed section slots t → ((k : ℕ) → t.start + 1 ≤ k → k < t.end → get_or slots k 0 ≡ 0) → length old ≡ number_of slots (length slots) → IsInHost sorted (text_from section t.start) h
+    → FindsWithin section slots sorted t old (set old (number_of slots t.start) h)
+finds_alone section slots sorted t old h used alone long is =
     let number = number_of slots t.start in
     let here : found_of slots (set old number h) t.start ≡ h = get_or-set_same old number h no_host (omega (arith, number_inside slots t.start used.slot, long)) in
-    subst (λ (n : ℕ). FindsWithin section slots sorted t old (set old n h)) (sym counted.number) (record {
+    record {
       whole = length-set old number h;
       here = λ o s w.
-          let e : o ≡ t.start = counted.alone alone o s w in
+          let e : o ≡ t.start = elim (cases_eq o t.start) [ inl q ↦ q | inr n ↦ absurd (s (alone o (omega (arith, w.from, n)) w.before)) ] in
           subst (λ (k : ℕ). IsInHost sorted (text_from section k) (found_of slots (set old number h) k)) (sym e) (subst (IsInHost sorted (text_from section t.start)) (sym here) is);
       there = λ o s n. get_or-set_other old number (number_of slots o) h no_host (λ e.
           let same : o ≡ t.start = number_tells slots o t.start s used.slot e in
           n (record { from = omega (arith, same); before = omega (arith, same, used.some) }));
-    })
+    }
 
 -- the same of a text that was read
 module _ (section slots : List ℕ) (ts : List Tail) (longest : AreLongestOf section slots ts) (rank : ℕ) (t : Tail) (inside : rank < length ts) (t_is : t ≡ get_or ts rank t) where
   t_end : t ≡ get_or ts rank no_tail
   t_end = t_is ∙ get_or_default ts rank t no_tail inside
 
-  pub alone_inside : (old : List InHost) → length old ≡ number_of slots (length slots) → t.number < length old
-  alone_inside old long =
-      let used = longest.used rank no_tail inside in
-      let counted = longest.counted rank no_tail inside in
-      omega (arith, ap (λ (k : Tail). k.number) t_end, counted.number, number_inside slots (get_or ts rank no_tail).start used.slot, long)
+  pub used_read : IsUsed section slots t
+  used_read = subst (IsUsed section slots) (sym t_end) (longest.used rank no_tail inside)
 
-  pub finds_read : (sorted : List (List ℕ)) (old : List InHost) (h : InHost) → t.alone ≡ true → length old ≡ number_of slots (length slots) → IsInHost sorted (text_from section t.start) h
-      → FindsWithin section slots sorted (get_or ts rank no_tail) old (set old t.number h)
+  pub finds_read : (sorted : List (List ℕ)) (old : List InHost) (h : InHost) → ((k : ℕ) → t.start + 1 ≤ k → k < t.end → get_or slots k 0 ≡ 0) → length old ≡ number_of slots (length slots) → IsInHost sorted (text_from section t.start) h
+      → FindsWithin section slots sorted (get_or ts rank no_tail) old (set old (number_of slots t.start) h)
   finds_read sorted old h alone long is =
-      subst (λ (k : Tail). FindsWithin section slots sorted k old (set old t.number h)) t_end
-      (finds_alone section slots sorted t old h (subst (IsUsed section slots) (sym t_end) (longest.used rank no_tail inside)) (subst (IsCounted slots) (sym t_end) (longest.counted rank no_tail inside)) alone long is)
+      subst (λ (k : Tail). FindsWithin section slots sorted k old (set old (number_of slots t.start) h)) t_end (finds_alone section slots sorted t old h used_read alone long is)
 
 cases_within : (off : ℕ) (t : Tail) → IsWithin off t ⊎ (¬ IsWithin off t)
 cases_within off t = elim (cases_lt off t.start) [

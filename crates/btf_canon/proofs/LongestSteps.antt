@@ -1,5 +1,5 @@
 -- Steps of the loop over a section that finds the longest used texts.
-use Rattle.std.proofs.Common.{◌≡◌, ◌≢◌, ℕ, zero, suc, ◌+◌, ◌-◌, ◌<◌, ◌≤◌, true, inl, inr, List, [], ◌∷◌, ◌++◌, length, get_or, take, drop, refl, sym, ap, ◌∙◌, subst, arith}
+use Rattle.std.proofs.Common.{◌≡◌, ◌≢◌, ℕ, zero, suc, ◌+◌, ◌-◌, ◌<◌, ◌≤◌, inl, inr, List, [], ◌∷◌, ◌++◌, length, get_or, take, drop, refl, sym, ap, ◌∙◌, subst, arith}
 use Rattle.std.specs.List.{All, Any}
 use Rattle.std.proofs.Math.Seq.{drop-nil}
 use Rattle.std.proofs.lemmas.Bool.{cases_eq, cases_lt}
@@ -9,8 +9,7 @@ use Rattle.btf_types.specs.Reading.{before_nul, text_from}
 use Rattle.btf_types.proofs.StringLemmas.Suffixes.{Ends, Ends-refl}
 use Rattle.btf_canon.specs.TailKeys.{tail_key}
 use Rattle.btf_canon.specs.Tails.{end_in, start_in, tail_text, HasKey}
-use Rattle.btf_canon.specs.Longest.{IsUsed, IsWithin, IsCounted, AreLongestOf}
-use Rattle.btf_canon.specs.UsedOffsets.{number_of}
+use Rattle.btf_canon.specs.Longest.{IsUsed, IsWithin, AreLongestOf}
 use Rattle.btf_canon.specs.declared.shared_strings.tails.Tail.{Tail}
 use Rattle.btf_canon.proofs.TextLemmas.{text_is}
 
@@ -68,7 +67,6 @@ pub record LongestTo (section slots : List ℕ) (ts : List Tail) (off : ℕ) : T
   pub inside : off ≤ length section
   pub keys : All (HasKey section) ts
   pub used : All (IsUsed section slots) ts
-  pub counted : All (IsCounted slots) ts
   pub each : (o : ℕ) → o < off → get_or slots o 0 ≢ 0 → get_or section o 0 ≢ 0 → Any (IsWithin o) ts
 
 pub longest_none : (section slots : List ℕ) → LongestTo section slots [] 0
@@ -77,7 +75,6 @@ longest_none section slots = record {
   inside = omega arith;
   keys = All-nil (HasKey section);
   used = All-nil (IsUsed section slots);
-  counted = All-nil (IsCounted slots);
   each = λ o h. absurd (omega (arith, h));
 }
 
@@ -93,7 +90,6 @@ longest_nul section slots ts off to more nul = record {
   inside = omega (arith, more);
   keys = to.keys;
   used = to.used;
-  counted = to.counted;
   each = λ o h slot some. elim (cases_eq o off) [
     | inl e ↦ absurd (some (ap (λ (k : ℕ). get_or section k 0) e ∙ nul))
     | inr n ↦ to.each o (omega (arith, h, n)) slot some
@@ -106,15 +102,14 @@ longest_unused section slots ts off to more unused = record {
   inside = omega (arith, more);
   keys = to.keys;
   used = to.used;
-  counted = to.counted;
   each = λ o h slot some. elim (cases_eq o off) [
     | inl e ↦ absurd (slot (ap (λ (k : ℕ). get_or slots k 0) e ∙ unused))
     | inr n ↦ to.each o (omega (arith, h, n)) slot some
   ];
 }
 
-pub longest_push : (section slots : List ℕ) (ts : List Tail) (off : ℕ) (t : Tail) → LongestTo section slots ts off → get_or section off 0 ≢ 0 → get_or slots off 0 ≢ 0 → t.start ≡ off → off ≤ t.end → t.end < length section → get_or section t.end 0 ≡ 0 → ((k : ℕ) → off ≤ k → k < t.end → get_or section k 0 ≢ 0) → t.key ≡ tail_key (take (t.end - off) (drop off section)) → t.number ≡ number_of slots off → (t.alone ≡ true → (k : ℕ) → off + 1 ≤ k → k < t.end → get_or slots k 0 ≡ 0) → LongestTo section slots (ts ++ t ∷ []) (t.end + 1)
-longest_push section slots ts off t to some slot start low high nul before key number alone =
+pub longest_push : (section slots : List ℕ) (ts : List Tail) (off : ℕ) (t : Tail) → LongestTo section slots ts off → get_or section off 0 ≢ 0 → get_or slots off 0 ≢ 0 → t.start ≡ off → off ≤ t.end → t.end < length section → get_or section t.end 0 ≡ 0 → ((k : ℕ) → off ≤ k → k < t.end → get_or section k 0 ≢ 0) → t.key ≡ tail_key (take (t.end - off) (drop off section)) → LongestTo section slots (ts ++ t ∷ []) (t.end + 1)
+longest_push section slots ts off t to some slot start low high nul before key =
     let cut : tail_text section t ≡ take (t.end - off) (drop off section) =
     tail_text_is section t (omega (arith, start, low)) (omega (arith, high)) ∙ ap (λ (n : ℕ). take (t.end - n) (drop n section)) start in
     let more : off < t.end = elim (cases_eq off t.end) [
@@ -132,13 +127,6 @@ longest_push section slots ts off t to some slot start low high nul before key n
         nul = nul;
         before = λ k l h. before k (omega (arith, start, l)) h;
       }) (All-nil (IsUsed section slots)));
-      counted = All-append (IsCounted slots) ts (t ∷ []) to.counted (All-cons (IsCounted slots) t [] (record {
-        number = number ∙ sym (ap (number_of slots) start);
-        alone = λ yes k s w. elim (cases_eq k off) [
-          | inl e ↦ e ∙ sym start
-          | inr n ↦ absurd (s (alone yes k (omega (arith, w.from, start, n)) w.before))
-        ];
-      }) (All-nil (IsCounted slots)));
       each = λ o h s f. elim (cases_lt o off) [
         | inl l ↦ any_more (IsWithin o) ts t (to.each o l s f)
         | inr g ↦ elim (cases_eq o t.end) [
@@ -153,6 +141,5 @@ longest_all section slots ts off to h = record {
   few = omega (arith, to.few, to.inside);
   keys = to.keys;
   used = to.used;
-  counted = to.counted;
   each = λ o below s f. to.each o (omega (arith, below, h)) s f;
 }

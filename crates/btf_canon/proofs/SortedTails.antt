@@ -1,5 +1,5 @@
 -- Tails that are sorted by keys and texts are sorted as texts.
-use Rattle.std.proofs.Common.{◌≡◌, ◌≢◌, ℕ, zero, suc, ◌+◌, ◌<◌, inl, inr, List, [], ◌∷◌, length, map, get_or, false, take, drop, refl, sym, ap, ◌∙◌, arith}
+use Rattle.std.proofs.Common.{◌≡◌, ◌≢◌, ℕ, zero, suc, ◌+◌, ◌<◌, inl, inr, List, [], ◌∷◌, length, map, get_or, take, drop, refl, sym, ap, ◌∙◌, arith}
 use Rattle.std.specs.List.{All}
 use Rattle.std.specs.List.Sorted.{IsSorted, IsSortedBy}
 use Rattle.std.specs.Ordering.{is_lt, nat_cmp, ordering_then}
@@ -56,7 +56,7 @@ compared_total section = then_total (on_total (λ t. t.key) nat_cmp_total) (on_t
 
 pub sorted_texts : (section : List ℕ) (ts : List Tail) → ((i : ℕ) → get_or section i 0 < 256) → All (HasKey section) ts → IsSortedBy (λ x y. is_lt (compared section x y)) ts → IsSorted tail_cmp (map (tail_text section) ts)
 sorted_texts section ts p keys up k d low h =
-    let e : Tail = record { key = 0; start = 0; end = 0; number = 0; alone = false } in
+    let e : Tail = record { key = 0; start = 0; end = 0 } in
     let inside : k + 1 < length ts = omega (arith, h, length-map ts (tail_text section)) in
     let a = get_or ts k e in
     let b = get_or ts (k + 1) e in

@@ -44,6 +44,25 @@ number_below slots o (suc n) h s = elim (cases_eq (get_or slots n 0) 0) [
       ]
 ]
 
+number_grows : (slots : List ℕ) (m n : ℕ) → m ≤ n → number_of slots m ≤ number_of slots n
+number_grows slots m zero h = omega (arith, ap (number_of slots) (let e : m ≡ 0 = omega (arith, h) in e))
+number_grows slots m (suc n) h = elim (cases_eq m (suc n)) [
+  | inl q ↦ omega (arith, ap (number_of slots) q)
+  | inr q ↦
+      let rest = number_grows slots m n (omega (arith, h, q)) in
+      elim (cases_eq (get_or slots n 0) 0) [
+        | inl z ↦ omega (arith, rest, ap (λ (l : List ℕ). length l) (below_unused slots n z))
+        | inr s ↦ omega (arith, rest, ap (λ (l : List ℕ). length l) (below_used slots n s), length_push (used_below slots n) n)
+      ]
+]
+
+-- none is used between two offsets with the same number
+pub unused_between : (slots : List ℕ) (start end off : ℕ) → number_of slots start ≡ number_of slots end → start ≤ off → off < end → get_or slots off 0 ≡ 0
+unused_between slots start end off e low high = elim (cases_eq (get_or slots off 0) 0) [
+  | inl z ↦ z
+  | inr s ↦ absurd (omega (arith, e, number_grows slots start off low, number_below slots off end high s))
+]
+
 pub number_tells : (slots : List ℕ) (o p : ℕ) → get_or slots o 0 ≢ 0 → get_or slots p 0 ≢ 0 → number_of slots o ≡ number_of slots p → o ≡ p
 number_tells slots o p s t e = elim (cases_eq o p) [
   | inl q ↦ q

@@ -1,8 +1,7 @@
 -- The longest used texts of a section.
-use Rattle.std.specs.Prelude.{◌≡◌, ◌≢◌, ℕ, ◌<◌, ◌≤◌, true, List, length, slice_index}
+use Rattle.std.specs.Prelude.{◌≡◌, ◌≢◌, ℕ, ◌<◌, ◌≤◌, List, length, slice_index}
 use Rattle.std.specs.List.{All, Any}
 use Rattle.btf_canon.specs.Tails.{HasKey}
-use Rattle.btf_canon.specs.UsedOffsets.{number_of}
 use Rattle.btf_canon.specs.declared.shared_strings.tails.Tail.{Tail}
 
 -- a text from a used offset, one whose slot isn't 0, to the next NUL, and not the empty one
@@ -18,15 +17,9 @@ pub record IsWithin (off : ℕ) (t : Tail) : Type 0 where
   pub from : t.start ≤ off
   pub before : off < t.end
 
--- its number is that of the offset at which it starts, and where it is alone no other used offset is within it
-pub record IsCounted (slots : List ℕ) (t : Tail) : Type 0 where
-  pub number : t.number ≡ number_of slots t.start
-  pub alone : t.alone ≡ true → (off : ℕ) → slice_index slots off ≢ 0 → IsWithin off t → off ≡ t.start
-
 -- each used offset is within one of these, but where its text is empty
 pub record AreLongestOf (section slots : List ℕ) (ts : List Tail) : Type 0 where
   pub few : length ts ≤ length section
   pub keys : All (HasKey section) ts
   pub used : All (IsUsed section slots) ts
-  pub counted : All (IsCounted slots) ts
   pub each : (off : ℕ) → off < length section → slice_index slots off ≢ 0 → slice_index section off ≢ 0 → Any (IsWithin off) ts

@@ -42,7 +42,7 @@ fn find_within<A: Allocator>(
     requires section { length ranked.now.section.now < 2 ^ 32 }
     requires inside { rank < length ranked.now.tails.items }
     requires whole { length found.old ≡ number_of uses.now (length uses.now) }
-    ensures { spec.FindsWithin ranked.now.section.now uses.now (map (tail_text ranked.now.section.now) ranked.now.tails.items) (slice_index_or ranked.now.tails.items rank (record { key = 0; start = 0; end = 0; number = 0; alone = false })) found.old found.new }
+    ensures { spec.FindsWithin ranked.now.section.now uses.now (map (tail_text ranked.now.section.now) ranked.now.tails.items) (slice_index_or ranked.now.tails.items rank (record { key = 0; start = 0; end = 0 })) found.old found.new }
 {
     let end = ranked.tails[rank].end;
     let mut from = rank;
@@ -74,14 +74,15 @@ pub(crate) fn find_hosts<A: Allocator + Copy>(
     let mut found = vec![in alloc; InHost::NONE; uses.count()]?;
     for rank in 0..ranked.tails.len() {
         let text = ranked.tails[rank];
-        if !text.alone {
+        let start = text.start as usize;
+        if !uses.are_unused(start + 1, text.end as usize) {
             find_within(uses, ranked, rank, &mut found);
             continue;
         }
         let first = first_rank(&ranked.common, &ranked.lower, rank, text.len());
         let host = ranked.hosts[first];
         let len = ranked.tails[host as usize].len();
-        found[text.number as usize] = InHost {
+        found[uses.number(start)] = InHost {
             host: host + 1,
             before: len - text.len(),
         };

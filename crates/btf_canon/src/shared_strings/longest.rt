@@ -31,8 +31,6 @@ pub(crate) fn longest_texts<A: Allocator>(
             key: tail_key(&section[off..end]),
             start: off as u32,
             end: end as u32,
-            number: uses.number(off) as u32,
-            alone: uses.are_unused(off + 1, end),
         })?;
         off = end + 1;
     }

@@ -15,10 +15,6 @@ pub(crate) struct Tail {
     pub(crate) key: u64,
     pub(crate) start: u32,
     pub(crate) end: u32,
-    /// How many used offsets of the section come before it.
-    pub(crate) number: u32,
-    /// No other used offset is within it.
-    pub(crate) alone: bool,
 }
 
 impl Tail {

@@ -55,18 +55,13 @@ impl<A: Allocator> UsedOffsets<A> {
         self.marks.is_marked(off)
     }
 
-    // Whether none of the offsets from `start` up to `end` is used.
+    // Whether none of the offsets from `start` up to `end` is used: as many come before the one as before the other.
     pub(crate) fn are_unused(&self, start: usize, end: usize) -> bool
         requires order { start ≤ end }
         requires inside { end ≤ length self.now }
         ensures { result ≡ true → (off : ℕ) → start ≤ off → off < end → slice_index self.now off ≡ 0 }
     {
-        for off in start..end {
-            if self.marks.is_marked(off) {
-                return false;
-            }
-        }
-        true
+        self.used_before(start) == self.used_before(end)
     }
 
     // How many used offsets come before this one.

@@ -1,14 +1,14 @@
-use Rattle.std.proofs.Common.{◌≡◌, ◌+◌, ◌-◌, ◌<◌, refl, List, length, map, get_or, set, drop, arith, subst, sym}
-use Rattle.std.proofs.lemmas.Bool.{not-false}
+use Rattle.std.proofs.Common.{◌≡◌, ℕ, ◌+◌, ◌-◌, ◌<◌, refl, List, length, map, get_or, set, drop, arith, subst, sym}
 use Rattle.std.proofs.lemmas.List.{take_at}
 use Rattle.btf_canon.specs.Tails.{tail_text}
 use Rattle.btf_canon.specs.InHost.{FindsWithin}
+use Rattle.btf_canon.specs.UsedOffsets.{number_of}
 use Rattle.btf_canon.specs.declared.shared_strings.hosts_by_rank.InHost.{InHost}
-use Rattle.btf_canon.proofs.InHostSteps.{HostsTo, hosts_more, hosts_all, no_tail, steps_whole, host_inside, tail_up, alone_inside, finds_read}
+use Rattle.btf_canon.proofs.InHostSteps.{HostsTo, hosts_more, hosts_all, no_tail, steps_whole, host_inside, tail_up, finds_read}
 use Rattle.btf_canon.proofs.shared_strings.hosts_by_rank.find_hosts.Goals as goal
 
-pub loop-rank-preserved-then-not-text : goal.loop-rank-preserved-then-not-text
-loop-rank-preserved-then-not-text g c =
+pub loop-rank-preserved-then-not-are_unused : goal.loop-rank-preserved-then-not-are_unused
+loop-rank-preserved-then-not-are_unused g c =
     let section = c.args.ranked.now.section.now in
     let slots = c.args.uses.now in
     let ts = c.args.ranked.now.tails.items in
@@ -56,15 +56,6 @@ overflow_sub-len g c =
     inside c.index-text.ensures c.len.ensures c.deref.ensures.value c.first_rank-first.ensures.before c.first_rank-first.ensures.common c.first_rank-first.ensures.less c.index-host.ensures c.index.ensures in
     omega (arith, step.shorter, c.len-len.ensures, c.len-in-loop-rank.ensures)
 
-pub index_mut-requires : goal.index_mut-requires
-index_mut-requires g c =
-    let r = c.args.ranked.now in
-    let t = c.index-text.result.now in
-    let first = c.first_rank-first.result in
-    let inside : c.loop-rank.rank < length r.tails.items = omega arith in
-    let low = alone_inside r.section.now c.args.uses.now r.tails.items c.requires.longest c.loop-rank.rank t inside c.index-text.ensures c.loop-rank.found.items c.loop-rank.invariant.whole in
-    omega (arith, low)
-
 pub loop-rank-preserved : goal.loop-rank-preserved
 loop-rank-preserved g c =
     let r = c.args.ranked.now in
@@ -73,12 +64,14 @@ loop-rank-preserved g c =
     let inside : c.loop-rank.rank < length r.tails.items = omega arith in
     let step = steps_whole r.section.now c.args.uses.now r.tails.items r.common.items r.lower.items r.hosts.items c.requires.ranked c.requires.longest.used c.loop-rank.rank first c.index-host.result.now c.len.result t c.index.result.now c.deref.result.now
     inside c.index-text.ensures c.len.ensures c.deref.ensures.value c.first_rank-first.ensures.before c.first_rank-first.ensures.common c.first_rank-first.ensures.less c.index-host.ensures c.index.ensures in
+    let slots = c.args.uses.now in
     let sorted = map (tail_text r.section.now) r.tails.items in
     let old = c.loop-rank.found.items in
     let h : InHost = record { host = c.index-host.result.now + 1; before = c.len-len.result - c.len-in-loop-rank.result } in
     let before : h.before + (t.end - t.start) ≡ c.index.result.now.end - c.index.result.now.start = omega (arith, step.shorter, c.len-len.ensures, c.len-in-loop-rank.ensures) in
-    hosts_more r.section.now c.args.uses.now r.tails.items sorted c.requires.longest old (set old t.number h) c.loop-rank.rank c.loop-rank.invariant inside
-    (finds_read r.section.now c.args.uses.now r.tails.items c.requires.longest c.loop-rank.rank t inside c.index-text.ensures sorted old h (not-false t.alone c.if-not-text.false) c.loop-rank.invariant.whole (step.found h refl before))
+    subst (λ (n : ℕ). HostsTo r.section.now slots r.tails.items sorted (set old n h) (c.loop-rank.rank + 1)) (sym c.number.ensures.number)
+    (hosts_more r.section.now c.args.uses.now r.tails.items sorted c.requires.longest old (set old (number_of slots t.start) h) c.loop-rank.rank c.loop-rank.invariant inside
+    (finds_read r.section.now c.args.uses.now r.tails.items c.requires.longest c.loop-rank.rank t inside c.index-text.ensures sorted old h (c.are_unused.ensures c.if-not-are_unused.false) c.loop-rank.invariant.whole (step.found h refl before)))
 
 pub returns : goal.returns
 returns g c =

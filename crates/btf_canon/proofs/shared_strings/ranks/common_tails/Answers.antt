@@ -1,4 +1,4 @@
-use Rattle.std.proofs.Common.{◌≡◌, ℕ, ◌<◌, ◌+◌, [], ◌∷◌, ◌++◌, length, map, get_or, false, arith, ◌∙◌, sym, ap, subst, List}
+use Rattle.std.proofs.Common.{◌≡◌, ℕ, ◌<◌, ◌+◌, [], ◌∷◌, ◌++◌, length, map, get_or, arith, ◌∙◌, sym, ap, subst, List}
 use Rattle.std.proofs.lemmas.List.{length_push}
 use Rattle.btf_canon.specs.Ranks.{common_before}
 use Rattle.btf_canon.specs.Tails.{tail_text}
@@ -8,7 +8,7 @@ use Rattle.btf_canon.proofs.shared_strings.ranks.common_tails.Goals as goal
 use Rattle.btf_canon.proofs.shared_strings.ranks.common_tails.Goals.{then-k-eq0, else-k-eq0}
 
 abbrev none : Tail
-none = record { key = 0; start = 0; end = 0; number = 0; alone = false }
+none = record { key = 0; start = 0; end = 0 }
 
 pub loop-k-preserved : goal.loop-k-preserved
 loop-k-preserved g c =

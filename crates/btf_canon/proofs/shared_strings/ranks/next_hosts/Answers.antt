@@ -1,4 +1,4 @@
-use Rattle.std.proofs.Common.{◌≡◌, ℕ, ◌<◌, ◌≤◌, ◌+◌, ◌-◌, [], length, map, get_or, false, arith, ◌∙◌, sym, ap, subst, List}
+use Rattle.std.proofs.Common.{◌≡◌, ℕ, ◌<◌, ◌≤◌, ◌+◌, ◌-◌, [], length, map, get_or, arith, ◌∙◌, sym, ap, subst, List}
 use Rattle.std.proofs.lemmas.List.{get_or-map, length-map, length-set, get_or_read}
 use Rattle.btf_types.specs.strings.CommonTails.{at_rank, IsNextHost}
 use Rattle.btf_canon.specs.Ranks.{common_before}
@@ -9,7 +9,7 @@ use Rattle.btf_canon.proofs.shared_strings.ranks.next_hosts.Goals as goal
 use Rattle.btf_canon.proofs.shared_strings.ranks.next_hosts.Goals.{then-k-sorted+then-common-k, then-k-sorted+else-common-k, else-k-sorted}
 
 abbrev none : Tail
-none = record { key = 0; start = 0; end = 0; number = 0; alone = false }
+none = record { key = 0; start = 0; end = 0 }
 
 pub loop-k-preserved : goal.loop-k-preserved
 loop-k-preserved g c =

@@ -1,0 +1,14 @@
+use Rattle.std.proofs.Common.{◌∙◌, sym, arith}
+use Rattle.std.proofs.lemmas.Bool.{eqb-true}
+use Rattle.btf_canon.proofs.UsedSteps.{unused_between}
+use Rattle.btf_canon.proofs.shared_strings.used_offsets.UsedOffsets.are_unused.Goals as goal
+
+pub used_before-requires : goal.used_before-requires
+used_before-requires g c = omega (arith, c.requires.order, c.requires.inside)
+
+pub used_before-requires-2 : goal.used_before-requires-2
+used_before-requires-2 g c = c.requires.inside
+
+pub returns : goal.returns
+returns g c same off low high =
+    unused_between c.args.self.now c.args.start c.args.end off (sym c.used_before.ensures ∙ eqb-true c.used_before.result c.used_before-2.result same ∙ c.used_before-2.ensures) low high
