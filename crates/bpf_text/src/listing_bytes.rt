@@ -11,6 +11,7 @@ ghost use Rattle.bpf_text.specs.Reading.{Refuses};
 
 use crate::fault::{LineFault, ListError};
 use crate::read::{first_line, read_line};
+use arrayvec::ArrayVec;
 use bpf_insn::{Insn, Order, insn_bytes};
 use std::alloc::{AllocError, Allocator};
 
@@ -38,11 +39,12 @@ fn write_lines<A: Allocator>(alloc: A, to: Order, text: &[u8]) -> Result<Vec<u8,
         (λ bytes. (insns : List Insn) × Lists text.now insns × (bytes.items ≡ file_of to insns)) (Refuses text.now) }
 {
     let mut bytes = Vec::new(alloc);
+    let mut tokens = ArrayVec::new();
     let mut rest = text;
     let mut number: u64 = 1;
     'lines: loop {
         let (line, behind) = first_line(rest);
-        let found = match read_line(line) {
+        let found = match read_line(&mut tokens, line) {
             Ok(found) => found,
             Err(cause) => {
                 return Err(ListError::Fault(LineFault {

@@ -14,22 +14,24 @@ use crate::fault::{LineCause, LineFault, ListError};
 use crate::make::insn_of;
 use crate::mnemonic::Mnemonic;
 use crate::spelled::arguments_of;
-use crate::token::{known_code, next_token, tokens_of};
+use crate::token::{Tokens, known_code, next_token, read_tokens};
+use arrayvec::ArrayVec;
 use bpf_insn::Insn;
 use memchr::memchr;
 use std::alloc::{AllocError, Allocator};
 
-/// The instruction that a word and what stands behind it list.
-fn read_insn(word: &[u8], behind: &[u8]) -> Result<Insn, LineCause>
+/// The instruction that a word and what stands behind it list. The tokens are put where those of the line before stood,
+/// since to make room for them takes longer than to read them.
+fn read_insn<'a>(tokens: &mut Tokens<'a>, word: &[u8], behind: &'a [u8]) -> Result<Insn, LineCause>
     requires { list_any is_stray behind.now ≡ false }
     ensures { (tokens : List (List ℕ)) → AreTokens behind.now tokens → ReadsTokens word.now tokens result }
 {
     let Some(mnemonic) = Mnemonic::read(word) else {
         return Err(LineCause::Word);
     };
-    let Some(tokens) = tokens_of(behind) else {
+    if !read_tokens(tokens, behind) {
         return Err(LineCause::Shape);
-    };
+    }
     let Some(arguments) = arguments_of(tokens.as_slice()) else {
         return Err(LineCause::Shape);
     };
@@ -49,7 +51,10 @@ pub(crate) fn first_line(text: &[u8]) -> (&[u8], Option<&[u8]>)
 }
 
 /// What a line lists.
-pub(crate) fn read_line(line: &[u8]) -> Result<Option<Insn>, LineCause>
+pub(crate) fn read_line<'a>(
+    tokens: &mut Tokens<'a>,
+    line: &'a [u8],
+) -> Result<Option<Insn>, LineCause>
     ensures { MatchResult result (λ found. ListsLine line.now (option_to_list found)) (IsCause line.now) }
 {
     let Some(code) = known_code(line) else {
@@ -57,7 +62,7 @@ pub(crate) fn read_line(line: &[u8]) -> Result<Option<Insn>, LineCause>
     };
     match next_token(code) {
         None => Ok(None),
-        Some(parts) => match read_insn(parts.0, parts.1) {
+        Some(parts) => match read_insn(tokens, parts.0, parts.1) {
             Ok(insn) => Ok(Some(insn)),
             Err(cause) => Err(cause),
         },
@@ -79,11 +84,12 @@ fn read_lines<A: Allocator>(alloc: A, text: &[u8]) -> Result<Vec<Insn, A>, ListE
     ensures { MatchResult result (λ insns. Lists text.now insns.items) (Refuses text.now) }
 {
     let mut insns = Vec::new(alloc);
+    let mut tokens = ArrayVec::new();
     let mut rest = text;
     let mut number: u64 = 1;
     'lines: loop {
         let (line, behind) = first_line(rest);
-        let found = match read_line(line) {
+        let found = match read_line(&mut tokens, line) {
             Ok(found) => found,
             Err(cause) => {
                 return Err(ListError::Fault(LineFault {

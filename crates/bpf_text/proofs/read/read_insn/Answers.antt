@@ -8,20 +8,20 @@ use Rattle.bpf_text.proofs.read.read_insn.Goals as goal
 pub returns-in_default : goal.returns-in_default
 returns-in_default c = λ ts h. no_word c.args.word.now c.in_default.ensures.none
 
-pub returns-in_default-tokens_of : goal.returns-in_default-tokens_of
-returns-in_default-tokens_of c = λ ts h. (
+pub returns-then-not-read_tokens : goal.returns-then-not-read_tokens
+returns-then-not-read_tokens c = λ ts h. (
   is_word c.args.word.now c.in-Some.mnemonic c.in-Some.ensures.some,
-  no_form_of_many c.args.word.now ts (c.in_default-tokens_of.ensures.none ts h),
+  no_form_of_many c.args.word.now ts (rw c.if-not-read_tokens.true at c.read_tokens.ensures ts h),
 )
 
 pub returns-in_default-arguments_of : goal.returns-in_default-arguments_of
 returns-in_default-arguments_of c = λ ts h.
-    let same : map bytes_of c.as_slice.result.now ≡ ts = rw c.as_slice.ensures.value (one_tokens c.args.behind.now (map bytes_of c.in-Some-tokens_of.tokens.items) ts c.in-Some-tokens_of.ensures.some h) in
+    let same : map bytes_of c.as_slice.result.now ≡ ts = rw c.as_slice.ensures.value (one_tokens c.args.behind.now (map bytes_of c.read_tokens.new.tokens.items) ts (rw c.if-not-read_tokens.false at c.read_tokens.ensures) h) in
     (is_word c.args.word.now c.in-Some.mnemonic c.in-Some.ensures.some, no_form c.args.word.now ts (rw same at c.in_default-arguments_of.ensures.none))
 
 pub returns : goal.returns
 returns c = λ ts h.
-    let same : map bytes_of c.as_slice.result.now ≡ ts = rw c.as_slice.ensures.value (one_tokens c.args.behind.now (map bytes_of c.in-Some-tokens_of.tokens.items) ts c.in-Some-tokens_of.ensures.some h) in
+    let same : map bytes_of c.as_slice.result.now ≡ ts = rw c.as_slice.ensures.value (one_tokens c.args.behind.now (map bytes_of c.read_tokens.new.tokens.items) ts (rw c.if-not-read_tokens.false at c.read_tokens.ensures) h) in
     let w = c.in-Some-arguments_of.ensures.some in
     let spells : SpellsArguments ts w.0 = subst (λ (x : List (List ℕ)). SpellsArguments x w.0) same w.1 in
     tokens_read c.args.word.now ts c.in-Some.mnemonic c.in-Some.ensures.some w.0 spells c.insn_of.result (c.insn_of.ensures w.0 (rw c.as_slice-2.ensures.value w.2))
