@@ -70,9 +70,6 @@ module _ (s : Section) (good : IsSection s) (i : ℕ) (there : i < length s.plac
   pub facts_get : slice_get (facts_in s) i ≡ Some (frame_facts (frame_in s i))
   facts_get = get-map frame_facts (frames_in s) i [] among ∙ ap (λ (f : List ℕ). Some (frame_facts f)) frame_is
 
-pub length-facts_in : (s : Section) → length (facts_in s) ≡ length s.places.now
-length-facts_in s = length-map (frames_in s) frame_facts ∙ length-map s.places.now (frame_at s.order s.types.now)
-
 -- a frame has three words, and an INT has its own
 pub three_words : (f : List ℕ) → IsFrame f → 3 ≤ length f
 three_words f frame = omega (arith, frame.size)
