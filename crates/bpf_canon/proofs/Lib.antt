@@ -1,2 +1,3 @@
+pub mod TestOfEquality
 pub mod InsnLemmas
 pub mod BtfLemmas

@@ -8,9 +8,11 @@ mod small_sections;
 mod walked_tables;
 mod worked_files;
 
+use crate::tests::second_judge::first_fault;
 use crate::{Btf, BtfError, BtfView};
 use btf_raw::BtfCause;
 use std::alloc::{AllocError, Global};
+use std::process::Abort;
 use std::test::Fail;
 
 /// Where a fault stands, and the number of its cause.
@@ -101,4 +103,20 @@ pub(crate) fn told(alloc: Global, bytes: &[u8]) -> Result<Option<Fault>, Fail> {
 
 pub(crate) fn number(cause: BtfCause) -> u8 {
     cause as u8
+}
+
+/// Checks that both parsers and the second judge tell this first fault of a file, or none.
+pub(crate) fn is_told(
+    rt: &impl Abort,
+    alloc: Global,
+    bytes: &[u8],
+    fault: &Option<(u64, BtfCause)>,
+) -> Result<(), Fail> {
+    let fault = match fault {
+        Some((pos, cause)) => Some((*pos, number(*cause))),
+        None => None,
+    };
+    assert_eq!(rt; told(alloc, bytes)?, fault);
+    assert_eq!(rt; first_fault(alloc, bytes)?, fault);
+    Ok(())
 }

@@ -334,13 +334,6 @@ ends s o to b small cut h = by_cases s.fault s.held refl refl
         let P : List ℕ → Type 0 = λ l. IsInsnFault o b (record { pos = s.fed - length l + missing_place (length l); cause = Truncated }) in
         subst P same (ends_cut s o to b e (omega (arith, ap length same)) small cut h)
 
-pub end-kept : (fed count : ℕ) (held : List ℕ) (fault : Option SlotFault) (f : SlotFault) → fault ≡ Some f → Err f ≡ end_after fed count held fault
-end-kept fed count held fault f e = rw e refl
-
-pub end-whole : (fed count n : ℕ) (held : List ℕ) (fault : Option SlotFault) → fault ≡ None → length held ≡ 0 → Ok count ≡ end_after fed count held fault
-end-whole fed count n [] fault e h = rw e refl
-end-whole fed count n (x ∷ xs) fault e h = absurd (omega (arith, h))
-
 abbrev missing : ℕ → Result ℕ SlotFault
 missing n = Err (record { pos = n; cause = Truncated })
 

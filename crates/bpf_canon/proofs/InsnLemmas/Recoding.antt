@@ -14,6 +14,7 @@ use Rattle.bpf_insn.specs.declared.insn.Insn.TheVariants.{Wide}
 use Rattle.bpf_insn.specs.Table.{IsInsn, fields_of, next_imm_of, wide_next_imm}
 use Rattle.bpf_insn.specs.Spelling.{spelling, second_slot, file_of, InsnFile}
 use Rattle.bpf_insn.proofs.FieldLemmas.{fields_in_range, wide_next_fits}
+use Rattle.bpf_insn.proofs.FaultLemmas.{slot_length}
 
 -- a second slot is one whose fields are 0, but for the immediate
 abbrev pub second_fields : Option ℤ → List Fields
@@ -60,22 +61,18 @@ file_in_range [] h = no_slots_in_range
 file_in_range (i ∷ insns) h =
     All-append AreFields (slots_of_insn i) (slots_of_file insns) (insn_in_range i (All-head IsInsn i insns h)) (file_in_range insns (All-tail IsInsn i insns h))
 
-length-spelled : (order : Order) (f : Fields) → length (spelled order f) ≡ 8
-length-spelled Little f = refl
-length-spelled Big f = refl
-
 -- the slots that bytes spell, but for fewer than 8 at their end, are told by the bytes
 one_list_of_slots : (order : Order) (fs gs : List Fields) (rest : List ℕ) → All AreFields fs → All AreFields gs
     → length rest < 8 → flat_map (spelled order) fs ++ rest ≡ flat_map (spelled order) gs → fs ≡ gs
 one_list_of_slots order [] [] rest hf hg short e = refl
 one_list_of_slots order [] (g ∷ gs) rest hf hg short e =
-    absurd (omega (arith, ap length e, length-append (spelled order g) (flat_map (spelled order) gs), length-spelled order g))
+    absurd (omega (arith, ap length e, length-append (spelled order g) (flat_map (spelled order) gs), slot_length order g))
 one_list_of_slots order (f ∷ fs) [] rest hf hg short e =
-    absurd (omega (arith, ap length e, length-append (spelled order f ++ flat_map (spelled order) fs) rest, length-append (spelled order f) (flat_map (spelled order) fs), length-spelled order f))
+    absurd (omega (arith, ap length e, length-append (spelled order f ++ flat_map (spelled order) fs) rest, length-append (spelled order f) (flat_map (spelled order) fs), slot_length order f))
 one_list_of_slots order (f ∷ fs) (g ∷ gs) rest hf hg short e =
     let whole : spelled order f ++ (flat_map (spelled order) fs ++ rest) ≡ spelled order g ++ flat_map (spelled order) gs =
     sym (append_assoc (spelled order f) (flat_map (spelled order) fs) rest) ∙ e in
-    let long : length (spelled order f) ≡ length (spelled order g) = length-spelled order f ∙ sym (length-spelled order g) in
+    let long : length (spelled order f) ≡ length (spelled order g) = slot_length order f ∙ sym (slot_length order g) in
     let left : spelled order f ≡ spelled order g =
     sym (take-append_seam (spelled order f) (flat_map (spelled order) fs ++ rest))
     ∙ ap (λ (n : ℕ). take n (spelled order f ++ (flat_map (spelled order) fs ++ rest))) long
@@ -96,14 +93,6 @@ pub record Rewrites (order to : Order) (bytes rest old new : List ℕ) : Type 0 
   pub each : All AreFields slots
   pub read : bytes ≡ flat_map (spelled order) slots ++ rest
   pub written : new ≡ old ++ flat_map (spelled to) slots
-
-pub none_rewritten : (order to : Order) (bytes old : List ℕ) → Rewrites order to bytes bytes old old
-none_rewritten order to bytes old = record {
-  slots = [];
-  each = no_slots_in_range;
-  read = refl;
-  written = sym (append-nil old);
-}
 
 pub one_rewritten : (order to : Order) (bytes rest behind old new : List ℕ) (slot : Fields) → Rewrites order to bytes rest old new
     → rest ≡ spelled order slot ++ behind → AreFields slot → Rewrites order to bytes behind old (new ++ spelled to slot)

@@ -4,7 +4,7 @@ use Rattle.std.proofs.lemmas.List.{append-nil, take_all, take_min, take-take, le
 use Rattle.std.proofs.lemmas.List.Concat.{flat_map-append}
 use Rattle.std.proofs.Math.Seq.{take-append-add, take-append_seam}
 use Rattle.std.proofs.Math.Nat.{min_comm}
-use Rattle.std.proofs.KnownBytes.{Appends-trans, Appends-nil, Consumes-trans, Consumes-nil, Consumes-kept}
+use Rattle.std.proofs.KnownBytes.{Appends-trans, Consumes-trans, Consumes-kept}
 use Rattle.std.specs.Io.KnownBytes.{Appends, Consumes, IsAtEnd, Keeps as KeepsBytes}
 use Rattle.bpf_words.specs.declared.Order.{Order}
 use Rattle.bpf_insn.specs.declared.insn.Insn.{Insn}
@@ -20,7 +20,7 @@ use Rattle.bpf_canon.specs.insn.Passed.{Passed, PassStops}
 use Rattle.bpf_canon.specs.device.Reads.{read_room}
 use Rattle.bpf_canon.specs.insn.Run.{Devices, RanWhole, StopsAtFault, StopsTooLong, StopsUnread, Stops, devices, limit}
 use Rattle.bpf_canon.proofs.InsnLemmas.FeedLemmas.{keeps_answer, keeps_fault}
-use Rattle.bpf_canon.proofs.InsnLemmas.FrontLaws.{file_front, front-nil, front_fits, front_grows}
+use Rattle.bpf_canon.proofs.InsnLemmas.FrontLaws.{file_front, front_fits, front_grows}
 
 -- the engine so far: the feed stands for what was read, and the sink took all that was whole
 pub record Running (d : Devices) (o to : Order) (s : FeedState) (written : ℕ) : Type 0 where
@@ -38,26 +38,8 @@ pub record Running (d : Devices) (o to : Order) (s : FeedState) (written : ℕ) 
 front_within : (o to : Order) (b : List ℕ) (l : List Insn) (rest : List ℕ) → IsFront o b l rest → length (file_of to l) ≤ length b
 front_within o to b l rest f = omega (arith, front_fits o to b l rest f)
 
-pub running_fits : (d : Devices) (o to : Order) (s : FeedState) (n : ℕ) → Running d o to s n → n ≤ s.fed
-running_fits d o to s n r = omega (arith, r.all, front_within o to r.read r.insns r.rest r.front, r.stands.fed)
-
 pub running_within : (d : Devices) (o to : Order) (s : FeedState) (n : ℕ) → Running d o to s n → s.fed ≤ limit
 running_within d o to s n r = omega (arith, r.stands.fed, r.within)
-
--- before the first read
-pub running_none : (a b : Option (List ℕ)) (o to : Order) (s : FeedState) → Stands s o to [] → s.fault ≡ None → Running (devices a a b b) o to s 0
-running_none a b o to s h sound = record {
-  read = [];
-  came = Consumes-nil a;
-  within = omega arith;
-  insns = [];
-  rest = [];
-  front = front-nil o;
-  stands = h;
-  sound = sound;
-  took = Appends-nil b;
-  all = refl;
-}
 
 -- a read failed
 pub run_unread : (a b c p q : Option (List ℕ)) (o to : Order) (s : FeedState) (n : ℕ) → Running (devices a b p q) o to s n → KeepsBytes b c

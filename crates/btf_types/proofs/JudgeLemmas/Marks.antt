@@ -1,12 +1,11 @@
 -- Marks of texts that are UTF-8, told from the end of a section.
-use Rattle.std.proofs.Common.{◌≡◌, ℕ, ◌-◌, ◌<◌, ◌≤◌, Bool, true, false, List, length, get_or, set, replicate, inl, inr, arith}
-use Rattle.std.specs.Prelude.{◌≢◌, ◌↔◌, IsUtf8, slice_index}
+use Rattle.std.proofs.Common.{◌≡◌, ℕ, ◌-◌, ◌<◌, ◌≤◌, Bool, true, false, List, length, get_or, set, inl, inr, arith}
+use Rattle.std.specs.Prelude.{◌↔◌, IsUtf8, slice_index}
 use Rattle.std.proofs.lemmas.Bool.{cases_lt, cases_eq}
-use Rattle.std.proofs.lemmas.List.{length-set, length-replicate, get_or-replicate, get_or-set_same, get_or-set_other}
+use Rattle.std.proofs.lemmas.List.{length-set, get_or-set_same, get_or-set_other}
 use Rattle.btf_raw.specs.Header.{HasNulEnds}
 use Rattle.btf_raw.specs.Names.{TextAt}
-use Rattle.btf_raw.proofs.Texts.{TextAt-inside}
-use Rattle.btf_types.specs.judge.Texts.{BeginsChar, AreMarks, IsNextChar}
+use Rattle.btf_types.specs.judge.Texts.{BeginsChar, AreMarks}
 use Rattle.btf_types.proofs.JudgeLemmas.Utf8Steps.{begins_with_char}
 
 -- the marks from this place on are told, and no other is set
@@ -20,39 +19,6 @@ pub record AreMarksFrom (s : List ℕ) (at next : ℕ) (rest : Bool) (marks : Li
   pub rest_is : (text : List ℕ) → TextAt s next text → (rest ≡ true) ↔ IsUtf8 text
   pub right : (o : ℕ) (text : List ℕ) → at ≤ o → TextAt s o text → (get_or marks o false ≡ true) ↔ IsUtf8 text
   pub before : (o : ℕ) → o < at → get_or marks o false ≡ false
-
-pub none_told : (s : List ℕ) → AreMarksFrom s (length s) (length s) true (replicate (length s) false)
-none_told s = record {
-  size = length-replicate (length s) false;
-  low = omega arith;
-  inside = omega arith;
-  there = λ lt. lt;
-  begins = λ lt. absurd (omega arith);
-  between = λ i past low. absurd (omega arith);
-  rest_is = λ text t. let low = TextAt-inside s (length s) text t in absurd (omega arith);
-  right = λ o text past t. let low = TextAt-inside s o text t in absurd (omega arith);
-  before = λ o low. get_or-replicate (length s) o false false low;
-}
-
-pub next_char : (s : List ℕ) (n next : ℕ) (rest : Bool) (marks : List Bool) → AreMarksFrom s n next rest marks → 0 < n → IsNextChar s (n - 1) next rest
-next_char s n next rest marks so some = record {
-  past = omega (arith, so.low);
-  inside = so.inside;
-  begins = so.begins;
-  between = λ i past low. so.between i (omega arith) low;
-  rest_is = so.rest_is;
-}
-
--- the last byte is NUL, so behind each other one a character may begin
-pub char_behind : (s : List ℕ) (n next : ℕ) (rest : Bool) (marks : List Bool) → HasNulEnds s → AreMarksFrom s n next rest marks → 0 < n → slice_index s (n - 1) ≢ 0 → next < length s
-char_behind s n next rest marks ends so some other = elim (cases_lt n (length s)) [
-  | inl lt ↦ so.there lt
-  | inr le ↦
-      let low = so.low in
-      let inside = so.inside in
-      let same : length s - 1 ≡ n - 1 = omega arith in
-      absurd (other (rw (← same) ends.last))
-]
 
 -- one more mark, where a character may begin
 pub char_marked : (s : List ℕ) (n next : ℕ) (rest mark : Bool) (marks : List Bool) → AreMarksFrom s n next rest marks → 0 < n → BeginsChar (slice_index s (n - 1))

@@ -3,7 +3,7 @@ use Rattle.std.proofs.Common.{◌≡◌, ℕ, ◌+◌, ◌-◌, ◌<◌, ◌≤�
 use Rattle.std.specs.Prelude.{◌≢◌, ◌↔◌, IsUtf8, IsCharBoundary, MatchResult, Result, Ok, Err, is_ok, slice_index}
 use Rattle.std.proofs.lemmas.Bool.{cases_lt}
 use Rattle.std.proofs.lemmas.List.{length-drop, length-take-le, get_or-drop, get_or_append_left, take-append-le}
-use Rattle.std.proofs.lemmas.Str.{IsUtf8-nil, IsUtf8-append, IsUtf8-take, IsUtf8-drop, IsUtf8-between, IsCharBoundary-start, IsCharBoundary-before_ascii}
+use Rattle.std.proofs.lemmas.Str.{IsUtf8-append, IsUtf8-take, IsUtf8-drop, IsUtf8-between, IsCharBoundary-start, IsCharBoundary-before_ascii}
 use Rattle.btf_raw.specs.Names.{TextAt}
 use Rattle.btf_raw.proofs.Texts.{text_behind}
 use Rattle.btf_types.specs.judge.Texts.{BeginsChar, IsNextChar}
@@ -136,9 +136,6 @@ front_and_rest s at next rest text is inside some t =
           (IsUtf8-append (take n text) (drop n text) (subst (λ (x : List ℕ). IsUtf8 x) front both.0) (goes_on.0 both.1)),
       λ utf8. (subst (λ (x : List ℕ). IsUtf8 x) (sym front) (IsUtf8-take text n utf8 edge), goes_on.1 (IsUtf8-drop text n utf8 edge)),
     )
-
-pub no_text_is_utf8 : (s : List ℕ) (at : ℕ) (text : List ℕ) → TextAt s at text → slice_index s at ≡ 0 → IsUtf8 text
-no_text_is_utf8 s at text t nul = rw (empty_text s at text t nul) IsUtf8-nil
 
 -- a call that tells whether bytes are UTF-8
 pub ok_tells : {X E P : Type 0} (A : X → Type 0) (B : E → Type 0) (r : Result X E) → MatchResult r (λ x. A x × P) (λ e. ¬ P × B e) → (is_ok r ≡ true) ↔ P

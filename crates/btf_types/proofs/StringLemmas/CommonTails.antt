@@ -1,20 +1,19 @@
 -- Common tails tell which texts end with which, and so the hosts among texts in the order of their tails.
-use Rattle.std.proofs.Common.{◌≡◌, ℕ, zero, suc, ◌+◌, ◌-◌, ◌<◌, ◌≤◌, Bool, true, false, not, cond, eqb, inl, inr, List, [], ◌∷◌, ◌++◌, length, get_or, refl, sym, ap, ◌∙◌, subst, arith}
+use Rattle.std.proofs.Common.{◌≡◌, ℕ, zero, suc, ◌+◌, ◌-◌, ◌<◌, ◌≤◌, true, false, eqb, inl, inr, List, [], ◌∷◌, ◌++◌, length, get_or, refl, sym, ap, ◌∙◌, subst, arith}
 use Rattle.std.specs.Prelude.{reverse}
 use Rattle.std.specs.Ordering.{is_lt}
-use Rattle.std.specs.List.{filter, Contains}
+use Rattle.std.specs.List.{filter}
 use Rattle.std.specs.List.Sorted.{IsSorted}
 use Rattle.std.specs.Str.{bytes_eq}
-use Rattle.std.proofs.lemmas.Bool.{both_ways, cases_Bool, cases_lt, cases_eq, cond-true, cond-false, eq-eqb, ne_eqb, false_from_ne_true}
+use Rattle.std.proofs.lemmas.Bool.{both_ways, cases_Bool, cases_lt, cases_eq, cond-true, cond-false, eq-eqb, ne_eqb}
 use Rattle.std.proofs.lemmas.Cmp.{tied_itself}
-use Rattle.std.proofs.lemmas.List.{reverse-append, reverse-reverse, length-reverse, length-append, append-nil, get_or_default}
+use Rattle.std.proofs.lemmas.List.{reverse-append, reverse-reverse, length-reverse, get_or_default}
 use Rattle.std.proofs.lemmas.List.Sorted.{sorted_far}
-use Rattle.btf_types.specs.strings.SharedNames.{is_suffix, is_proper_suffix, tail_cmp, hosts_of, host_in, least_by_tail}
-use Rattle.btf_types.specs.strings.LongestTexts.{SameMembers}
-use Rattle.btf_types.specs.strings.CommonTails.{common_front, common_tail, SuffixByTail, SuffixThrough, CommonThrough, AreInTailOrder, at_rank, RanksAreTogether, IsFirstRank, IsNextHost, IsFirstEnding, FirstRankEnds, RankTellsHost}
+use Rattle.btf_types.specs.strings.SharedNames.{is_suffix, tail_cmp, hosts_of, host_in, least_by_tail}
+use Rattle.btf_types.specs.strings.CommonTails.{common_front, common_tail, SuffixByTail, AreInTailOrder, RanksAreTogether, IsFirstRank, IsNextHost, FirstRankEnds, RankTellsHost}
 use Rattle.btf_types.proofs.Members.{Has, Has-get_or, Has-filter, Has-from_filter, Has-from_Contains, Contains-from_Has}
 use Rattle.btf_types.proofs.StringLemmas.Texts.{same_text, bytes_eq-same}
-use Rattle.btf_types.proofs.StringLemmas.Suffixes.{Ends, Ends-refl, Ends-trans, Ends-length, Ends-same_length, Ends-from_suffix, suffix_from_Ends, Ends-from_proper, proper_from_Ends}
+use Rattle.btf_types.proofs.StringLemmas.Suffixes.{Ends, Ends-refl, Ends-trans, Ends-same_length, Ends-from_suffix, suffix_from_Ends, Ends-from_proper, proper_from_Ends}
 use Rattle.btf_types.proofs.StringLemmas.Hosts.{tail_lt, tail_ranks, tail_total, least_is, host_tells, host_member}
 use Rattle.btf_types.proofs.StringLemmas.TailOrder.{Ends-between, Ends-below, tail_tie}
 use Rattle.btf_types.proofs.StringLemmas.Longest.{host_from}
@@ -93,12 +92,6 @@ suffix_by_tail x y = record {
   whole = λ t. omega (arith, Ends-common x x y (Ends-refl x) (Ends-from_suffix x y t), tail_at_most x y);
   suffix = λ h. suffix_from_Ends x y (Ends-through x x y (Ends-refl x) h);
 }
-
-pub suffix_through : (x y z : List ℕ) → SuffixThrough x y z
-suffix_through x y z t h = suffix_from_Ends x z (Ends-through x y z (Ends-from_suffix x y t) h)
-
-pub common_through : (x y z : List ℕ) → CommonThrough x y z
-common_through x y z t u = Ends-common x y z (Ends-from_suffix x y t) (Ends-from_suffix x z u)
 
 -- no text is below itself, nor one that it ends
 lt_itself : (x : List ℕ) → tail_lt x x ≡ false

@@ -1,15 +1,15 @@
 -- The hosts of texts are those of the longest of them, of which each text ends one.
 use Rattle.std.proofs.Common.{◌≡◌, ℕ, ◌<◌, Bool, true, false, not, inl, inr, List, [], ◌∷◌, length, refl, sym, ap, ◌∙◌, subst, arith}
-use Rattle.std.specs.List.{filter, list_any, Contains}
+use Rattle.std.specs.List.{filter, list_any}
 use Rattle.std.specs.Str.{bytes_eq}
-use Rattle.std.proofs.lemmas.Bool.{both_ways, not-true, cases_Bool, false_from_ne_true}
+use Rattle.std.proofs.lemmas.Bool.{both_ways, cases_Bool, false_from_ne_true}
 use Rattle.btf_types.specs.Names.{kept, is_some_text, distinct}
 use Rattle.btf_types.specs.strings.SharedNames.{is_suffix, is_proper_suffix, hosts_of, hosts, host_in, least_by_tail}
-use Rattle.btf_types.specs.strings.LongestTexts.{AreLongest, SameMembers, HostInMembers, LongestTellHosts, HostsByFirstUse, LongestTellHost}
+use Rattle.btf_types.specs.strings.LongestTexts.{AreLongest, LongestTellHosts, HostsByFirstUse, LongestTellHost}
 use Rattle.btf_types.proofs.Members.{Has, Has-filter, Has-from_filter, any_from_Has, Has_from_any, Has-from_Contains, Contains-from_Has}
 use Rattle.btf_types.proofs.StringLemmas.Texts.{same_text, bytes_eq-same, Has-kept, Has-from_kept}
-use Rattle.btf_types.proofs.StringLemmas.Suffixes.{Ends, Ends-length, Ends-from_suffix, suffix_from_Ends, Ends-trans, Ends-from_proper, proper_from_Ends}
-use Rattle.btf_types.proofs.StringLemmas.Hosts.{tail_lt, least_is, host_tells, host_member}
+use Rattle.btf_types.proofs.StringLemmas.Suffixes.{Ends, Ends-length, Ends-from_suffix, Ends-trans, Ends-from_proper, proper_from_Ends}
+use Rattle.btf_types.proofs.StringLemmas.Hosts.{least_is, host_tells, host_member}
 use Rattle.btf_types.proofs.StringLemmas.TailOrder.{tail_tie}
 
 pub Has-kept_some : (xs : List (List ℕ)) (x : List ℕ) → Has xs x → 0 < length x → Has (kept xs) x
@@ -40,11 +40,6 @@ pub host_in_same : (hs gs : List (List ℕ)) (x : List ℕ) → ((z : List ℕ) 
 host_in_same hs gs x f g = least_same (filter (is_suffix x) hs) (filter (is_suffix x) gs)
     (λ z i. let p = Has-from_filter (is_suffix x) hs z i in Has-filter (is_suffix x) gs z (f z p.0) p.1)
     (λ z i. let p = Has-from_filter (is_suffix x) gs z i in Has-filter (is_suffix x) hs z (g z p.0) p.1)
-
-pub host_in_members : (hs gs : List (List ℕ)) → HostInMembers hs gs
-host_in_members hs gs same x = host_in_same hs gs x
-    (λ z i. Has-from_Contains gs z (same.here z (Contains-from_Has hs z i)))
-    (λ z i. Has-from_Contains hs z (same.there z (Contains-from_Has gs z i)))
 
 -- the filter of a list by tests that agree on its members
 filter_same : (p q : List ℕ → Bool) (xs : List (List ℕ)) → ((x : List ℕ) → Has xs x → p x ≡ q x) → filter p xs ≡ filter q xs

@@ -1,5 +1,5 @@
 -- The laws of the string tables, from the lemmas beside this file.
-use Rattle.std.proofs.Common.{◌≡◌, ℕ, zero, suc, ◌+◌, ◌-◌, ◌<◌, ◌≤◌, inl, inr, List, [], ◌∷◌, ◌++◌, length, get_or, take, drop, refl, sym, ap, ◌∙◌, subst, arith, append_assoc, take-append-drop}
+use Rattle.std.proofs.Common.{◌≡◌, ℕ, zero, suc, ◌+◌, ◌-◌, ◌≤◌, inl, inr, List, [], ◌∷◌, ◌++◌, length, get_or, take, drop, refl, sym, ap, ◌∙◌, subst, arith, append_assoc, take-append-drop}
 use Rattle.std.proofs.Math.Seq.{drop-cons}
 use Rattle.std.specs.Prelude.{Some, slice_get}
 use Rattle.std.specs.List.{All}
@@ -8,14 +8,15 @@ use Rattle.std.proofs.lemmas.List.Sums.{sum_by-cons}
 use Rattle.std.proofs.lemmas.List.Concat.{flat_map-append}
 use Rattle.std.proofs.lemmas.List.Elements.{All-nil, All-cons, All-head, All-append, All-contains}
 use Rattle.btf_raw.specs.Names.{IsWithoutNul, TextAt}
-use Rattle.btf_types.specs.Names.{IsName, with_nul, place_in, kept, is_some_text, distinct}
+use Rattle.btf_types.specs.Names.{IsName, with_nul, place_in, kept}
 use Rattle.btf_raw.specs.Header.{HasNulEnds}
 use Rattle.btf_types.specs.strings.SharedNames.{hosts, host, shared_table, shared_place}
 use Rattle.btf_types.specs.strings.TableLaws.{SharedPlacesStand, IsCutInto, StandsIn, SectionsAreCut, NamesEndStrings, HostsEndApart, SharedIsShortest, NextTellsHost, TableLength, HostIsLeast, HostIsOne}
-use Rattle.btf_types.proofs.Members.{Has, Has-get_or, Has-from_Contains, Contains-from_Has, Has-from_filter}
+use Rattle.btf_types.proofs.Members.{Has, Has-get_or, Has-from_Contains, Contains-from_Has}
 use Rattle.btf_types.proofs.StringLemmas.Texts.{text_at_place, empty_at_zero, tail_at, Has-kept, Has-from_kept}
 use Rattle.btf_types.proofs.StringLemmas.Suffixes.{Ends, Ends-length, Ends-from_suffix, suffix_from_Ends}
 use Rattle.btf_types.proofs.StringLemmas.Hosts.{host_is, host_member, hosts_apart}
+use Rattle.btf_types.proofs.StringLemmas.Longest.{kept_some}
 use Rattle.btf_types.proofs.StringLemmas.TailOrder.{tail_tie}
 use Rattle.btf_types.proofs.StringLemmas.Distinct.{NoRepeats-filter, NoRepeats-kept}
 use Rattle.btf_types.proofs.StringLemmas.Neighbours.{next_ends, next_host}
@@ -78,10 +79,6 @@ names_end_strings section strings into x stands =
 pub hosts_end_apart : (xs : List (List ℕ)) → HostsEndApart xs
 hosts_end_apart xs s h g i j e f = hosts_apart (kept xs) h g s (Has-from_Contains (hosts xs) h i) (Has-from_Contains (hosts xs) g j) (Ends-from_suffix h s e) (Ends-from_suffix g s f)
 
-kept_is_some_text : (xs : List (List ℕ)) (x : List ℕ) → Has (kept xs) x → 0 < length x
-kept_is_some_text xs [] h = absurd (let e = (Has-from_filter is_some_text (distinct xs) [] h).1 in cc)
-kept_is_some_text xs (b ∷ x) h = omega arith
-
 shortest : (xs : List (List ℕ)) (section : List ℕ) (strings : List (List ℕ)) → IsCutInto section strings → slice_get section 0 ≡ Some 0 → All (StandsIn section) xs → length (shared_table xs) ≤ length section
 shortest xs section [] into first stand = absurd (let e = ap (λ (s : List ℕ). slice_get s 0) into.whole in cc)
 shortest xs section ((b ∷ s) ∷ ss) into first stand =
@@ -94,7 +91,7 @@ shortest xs section ([] ∷ ss) into first stand =
     fits ss (hosts xs) (NoRepeats-filter _ (kept xs) (NoRepeats-kept xs)) (hosts_apart (kept xs)) (λ h i.
     let e = names_end section ([] ∷ ss) into h (All-contains (StandsIn section) xs h stand (Contains-from_Has xs h (Has-from_kept xs h (in_kept h i)))) in
     elim e.1 [
-      | inl same ↦ absurd (omega (arith, kept_is_some_text xs h (in_kept h i), Ends-length h e.0 e.2, ap length same))
+      | inl same ↦ absurd (omega (arith, kept_some xs h (in_kept h i), Ends-length h e.0 e.2, ap length same))
       | inr has ↦ (e.0, has, e.2)
     ]) in
     omega (arith, room, ap length into.whole)

@@ -4,7 +4,8 @@ use Rattle.bpf_words.specs.declared.Order.{Order}
 use Rattle.btf_types.specs.Values.{TypeRecord}
 use Rattle.btf_types.specs.Reading.{frame_at, frames_at, record_of, records_at}
 use Rattle.btf_types.specs.tables.TableInvariant.{records_left}
-use Rattle.btf_types.proofs.TableLemmas.TableReads.{get_or-map, length-records_at}
+use Rattle.btf_types.proofs.Lists.{get_or-map}
+use Rattle.btf_types.proofs.TableLemmas.TableReads.{length-records_at}
 use Rattle.std.proofs.lemmas.List.{length-map}
 
 pub one_given : (o : Order) (types strings places : List ℕ) (given : ℕ) → given < length places

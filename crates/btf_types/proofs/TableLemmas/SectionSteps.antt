@@ -1,5 +1,5 @@
 -- The records of a framed section, one by one.
-use Rattle.std.proofs.Common.{◌≡◌, ℕ, zero, suc, ◌+◌, ◌-◌, ◌*◌, ◌<◌, ◌≤◌, Some, List, [], ◌∷◌, length, get_or, take, map, refl, ap, subst, ◌∙◌, length-append, arith}
+use Rattle.std.proofs.Common.{◌≡◌, ℕ, zero, suc, ◌+◌, ◌-◌, ◌*◌, ◌<◌, ◌≤◌, Some, List, [], ◌∷◌, length, get_or, take, refl, ap, subst, ◌∙◌, length-append, arith}
 use Rattle.std.specs.Prelude.{slice_index, slice_get}
 use Rattle.std.specs.List.{concat}
 use Rattle.std.proofs.Math.Dec.{eqb-suc-zero}
@@ -9,22 +9,12 @@ use Rattle.btf_raw.specs.declared.kinds.TheConstants.{INT}
 use Rattle.btf_raw.specs.Kinds.{tail_words, fixed_words, item_words}
 use Rattle.btf_raw.specs.Frames.{IsFrame, bytes_of, section_of, kind}
 use Rattle.btf_raw.proofs.Frames.{length-bytes_of}
+use Rattle.btf_types.proofs.Lists.{get-map, get_or-map}
 use Rattle.btf_types.specs.declared.tables.section.Section.{Section}
 use Rattle.btf_types.specs.judge.Checks.{type_at}
 use Rattle.btf_types.specs.judge.FieldFaults.{frame_facts}
 use Rattle.btf_types.specs.Reading.{frame_at}
 use Rattle.btf_types.specs.Sections.{IsSection, StandsIn, frame_in, frames_in, facts_in}
-
--- element i of a list that another is made of
-get-map : {X Y : Type 0} (f : X → Y) (xs : List X) (i : ℕ) (d : X) → i < length xs → slice_get (map f xs) i ≡ Some (f (get_or xs i d))
-get-map f [] i d h = absurd (omega arith)
-get-map f (x ∷ xs) zero d h = refl
-get-map f (x ∷ xs) (suc i) d h = get-map f xs i d (omega arith)
-
-get_or-map : {X Y : Type 0} (f : X → Y) (xs : List X) (i : ℕ) (d : X) (e : Y) → i < length xs → get_or (map f xs) i e ≡ f (get_or xs i d)
-get_or-map f [] i d e h = absurd (omega arith)
-get_or-map f (x ∷ xs) zero d e h = refl
-get_or-map f (x ∷ xs) (suc i) d e h = get_or-map f xs i d e (omega arith)
 
 -- bytes are four for each word
 pub length-section : (o : Order) (fs : List (List ℕ)) → length (section_of o fs) ≡ 4 * length (concat fs)
@@ -32,7 +22,7 @@ length-section o [] = refl
 length-section o (f ∷ fs) = omega (arith, length-append (bytes_of o f) (section_of o fs), length-append f (concat fs), length-bytes_of o f, length-section o fs)
 
 -- a frame ends within the section
-ends_inside : (o : Order) (frames : List (List ℕ)) (i : ℕ) → i < length frames → length (section_of o (take i frames)) + 4 * length (get_or frames i []) ≤ length (section_of o frames)
+pub ends_inside : (o : Order) (frames : List (List ℕ)) (i : ℕ) → i < length frames → length (section_of o (take i frames)) + 4 * length (get_or frames i []) ≤ length (section_of o frames)
 ends_inside o [] i h = absurd (omega arith)
 ends_inside o (f ∷ frames) zero h = omega (arith, length-append (bytes_of o f) (section_of o frames), length-bytes_of o f)
 ends_inside o (f ∷ frames) (suc i) h =
@@ -69,9 +59,6 @@ module _ (s : Section) (good : IsSection s) (i : ℕ) (there : i < length s.plac
 
   pub facts_get : slice_get (facts_in s) i ≡ Some (frame_facts (frame_in s i))
   facts_get = get-map frame_facts (frames_in s) i [] among ∙ ap (λ (f : List ℕ). Some (frame_facts f)) frame_is
-
-pub length-facts_in : (s : Section) → length (facts_in s) ≡ length s.places.now
-length-facts_in s = length-map (frames_in s) frame_facts ∙ length-map s.places.now (frame_at s.order s.types.now)
 
 -- a frame has three words, and an INT has its own
 pub three_words : (f : List ℕ) → IsFrame f → 3 ≤ length f

@@ -1,5 +1,5 @@
 -- What a table's invariant says of one record.
-use Rattle.std.proofs.Common.{◌≡◌, ◌⊎◌, ℕ, zero, suc, ◌+◌, ◌-◌, ◌*◌, ◌^◌, ◌<◌, ◌≤◌, Bool, true, false, Some, List, [], ◌∷◌, length, get_or, take, map, refl, sym, ap, subst, ◌∙◌, inl, inr, length-append, arith}
+use Rattle.std.proofs.Common.{◌≡◌, ◌⊎◌, ℕ, zero, suc, ◌+◌, ◌-◌, ◌*◌, ◌^◌, ◌<◌, ◌≤◌, Bool, true, false, Some, List, [], ◌∷◌, length, get_or, take, map, refl, sym, ap, subst, ◌∙◌, inl, inr, arith}
 use Rattle.std.specs.Prelude.{slice_index, slice_get, IfSome, ◌==◌}
 use Rattle.std.specs.List.{AllZip}
 use Rattle.std.proofs.lemmas.List.{length-map}
@@ -8,15 +8,15 @@ use Rattle.bpf_words.specs.declared.Order.{Order}
 use Rattle.btf_raw.specs.declared.kinds.TheConstants.{DECL_TAG}
 use Rattle.btf_raw.specs.Header.{HasNulEnds}
 use Rattle.btf_raw.specs.Names.{NameAt}
-use Rattle.btf_raw.specs.Frames.{IsFrame, bytes_of, section_of, kind, name_word}
+use Rattle.btf_raw.specs.Frames.{IsFrame, section_of, kind, name_word}
 use Rattle.btf_raw.proofs.Texts.{TextAt-unique, TextAt-inside}
-use Rattle.btf_raw.proofs.Frames.{length-bytes_of}
 use Rattle.btf_types.specs.Values.{TypeRecord}
 use Rattle.btf_types.specs.Spelling.{Spells}
 use Rattle.btf_types.specs.Good.{HeadInRange}
 use Rattle.btf_types.specs.tables.TableWords.{record_at}
 use Rattle.btf_raw.specs.Kinds.{item_words}
-use Rattle.btf_types.proofs.Lists.{length-tabulate}
+use Rattle.btf_types.proofs.Lists.{length-tabulate, get-map, get_or-map}
+use Rattle.btf_types.proofs.TableLemmas.SectionSteps.{ends_inside}
 use Rattle.btf_types.specs.Reading.{text_from, frame_at, frames_at, record_of, records_at, item_of, item_total, head_from, head_of, component_of}
 use Rattle.btf_types.specs.tables.TableInvariant.{IsTable}
 use Rattle.btf_types.specs.tables.PlaceWords.{StandsAt}
@@ -25,29 +25,10 @@ use Rattle.btf_types.proofs.FaultlessLemmas.Faultless.{get_is, faultless}
 use Rattle.btf_types.proofs.FaultlessLemmas.ItemReads.{item_names_stand}
 use Rattle.btf_types.proofs.TableLemmas.TextSteps.{text_stands}
 
--- element i of a list that another is made of
-pub get-map : {X Y : Type 0} (f : X → Y) (xs : List X) (i : ℕ) (d : X) → i < length xs → slice_get (map f xs) i ≡ Some (f (get_or xs i d))
-get-map f [] i d h = absurd (omega arith)
-get-map f (x ∷ xs) zero d h = refl
-get-map f (x ∷ xs) (suc i) d h = get-map f xs i d (omega arith)
-
-pub get_or-map : {X Y : Type 0} (f : X → Y) (xs : List X) (i : ℕ) (d : X) (e : Y) → i < length xs → get_or (map f xs) i e ≡ f (get_or xs i d)
-get_or-map f [] i d e h = absurd (omega arith)
-get_or-map f (x ∷ xs) zero d e h = refl
-get_or-map f (x ∷ xs) (suc i) d e h = get_or-map f xs i d e (omega arith)
-
 zip_at : {A B : Type 0} (R : A → B → Type 0) (f : B → A) (ys : List B) (i : ℕ) (d : B) → AllZip R (map f ys) ys → i < length ys → R (f (get_or ys i d)) (get_or ys i d)
 zip_at R f [] i d all h = absurd (omega arith)
 zip_at R f (y ∷ ys) zero d all h = all.0
 zip_at R f (y ∷ ys) (suc i) d all h = zip_at R f ys i d all.1 (omega arith)
-
--- a frame ends within the section
-ends_inside : (o : Order) (frames : List (List ℕ)) (i : ℕ) → i < length frames → length (section_of o (take i frames)) + 4 * length (get_or frames i []) ≤ length (section_of o frames)
-ends_inside o [] i h = absurd (omega arith)
-ends_inside o (f ∷ frames) zero h = omega (arith, length-append (bytes_of o f) (section_of o frames), length-bytes_of o f)
-ends_inside o (f ∷ frames) (suc i) h =
-    let rest = ends_inside o frames i (omega arith) in
-    omega (arith, rest, length-append (bytes_of o f) (section_of o frames), length-append (bytes_of o f) (section_of o (take i frames)))
 
 name_at_word : (strings : List ℕ) (r : TypeRecord) (f : List ℕ) → HasNulEnds strings → Spells strings r f → NameAt strings (name_word f) (text_from strings (name_word f))
 name_at_word strings r f ends s =

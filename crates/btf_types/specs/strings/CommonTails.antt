@@ -18,13 +18,6 @@ pub record SuffixByTail (x y : List ℕ) : Type 0 where
   pub whole : is_suffix x y ≡ true → common_tail x y ≡ length x
   pub suffix : length x ≤ common_tail x y → is_suffix x y ≡ true
 
--- and a text that ends another ends those texts that have as much in common with that one
-abbrev pub SuffixThrough : List ℕ → List ℕ → List ℕ → Type 0
-SuffixThrough x y z = is_suffix x y ≡ true → length x ≤ common_tail y z → is_suffix x z ≡ true
-
-abbrev pub CommonThrough : List ℕ → List ℕ → List ℕ → Type 0
-CommonThrough x y z = is_suffix x y ≡ true → is_suffix x z ≡ true → length x ≤ common_tail y z
-
 -- texts by their bytes from the end, which are these texts; some may stand there more than once
 pub record AreInTailOrder (ks sorted : List (List ℕ)) : Type 0 where
   pub members : SameMembers ks sorted

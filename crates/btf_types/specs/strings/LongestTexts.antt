@@ -15,10 +15,6 @@ pub record SameMembers (xs ys : List (List ℕ)) : Type 0 where
   pub here : (z : List ℕ) → Contains xs z → Contains ys z
   pub there : (z : List ℕ) → Contains ys z → Contains xs z
 
--- the host of a text is a matter of the members of the hosts
-abbrev pub HostInMembers : List (List ℕ) → List (List ℕ) → Type 0
-HostInMembers hs gs = SameMembers hs gs → (x : List ℕ) → host_in hs x ≡ host_in gs x
-
 -- the hosts of the longest texts are the hosts, in whatever order
 abbrev pub LongestTellHosts : List (List ℕ) → List (List ℕ) → Type 0
 LongestTellHosts xs longest = AreLongest xs longest → SameMembers (hosts xs) (hosts longest)

@@ -1,5 +1,5 @@
 -- What a table keeps of where things stand in its two sections. The invariants of the tables cite it, and contracts of private functions.
-use Rattle.std.specs.Prelude.{◌≡◌, ℕ, List}
+use Rattle.std.specs.Prelude.{ℕ, List}
 use Rattle.bpf_words.specs.declared.Order.{Order}
 use Rattle.btf_types.specs.tables.StringEnds.{AreLongEnds}
 use Rattle.btf_types.specs.tables.TableInvariant.{IsTable, IsPartGiven}

@@ -6,7 +6,6 @@ use Rattle.bpf_words.specs.declared.Order.{Order}
 use Rattle.btf_raw.specs.Cause.{LeastByPlace}
 use Rattle.btf_raw.specs.Frames.{FramingFault}
 use Rattle.btf_types.specs.Faults.{IsFirst, FramesFault, FieldsFault}
-use Rattle.btf_types.specs.judge.FieldFaults.{FieldFault}
 
 -- What an error of a parser says: the first fault, or that memory was refused.
 abbrev pub Fails : List ℕ → BtfError → Type 0
@@ -22,10 +21,6 @@ FailsFraming o types errors.Memory = ⊤
 abbrev pub FailsFrames : List ℕ → BtfError → Type 0
 FailsFrames b (errors.Fault fault) = LeastByPlace (FramesFault b) fault.pos fault.cause
 FailsFrames b errors.Memory = ⊤
-
-abbrev pub FailsFields : List ℕ → List (List ℕ) → BtfError → Type 0
-FailsFields strings frames (errors.Fault fault) = LeastByPlace (FieldFault strings frames) fault.pos fault.cause
-FailsFields strings frames errors.Memory = ⊤
 
 -- a fault stands within these bytes, or at their end
 abbrev pub FaultInside : {X : Type 0} → List ℕ → Result X BtfError → Type 0

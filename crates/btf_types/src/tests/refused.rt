@@ -74,47 +74,40 @@ fn has_typedefs<T: TypeTable>(table: &T) -> bool {
     table.count() == 9
 }
 
-#[test]
-fn of_a_view(rt: HostRuntime) -> Result<(), Fail> {
-    let bytes = typedefs(rt.alloc())?;
-    let mut tally = Tally::new();
-    for room in 0..=ROOM {
-        let bump = Bump::new(rt.alloc());
-        if !leave(&bump, room) {
-            continue;
+/// Counts the answer of a parser for the good file.
+fn count_table<T: TypeTable>(
+    rt: &impl Abort,
+    tally: &mut Tally,
+    parsed: &Result<T, BtfError>,
+    room: usize,
+) {
+    match parsed {
+        Ok(table) => {
+            assert!(rt; has_typedefs(table), "with {room} bytes");
+            tally.count(rt, false);
         }
-        match BtfView::parse(&bump, &bytes) {
-            Ok(table) => {
-                assert!(rt; has_typedefs(&table), "with {room} bytes");
-                tally.count(&rt, false);
-            }
-            Err(BtfError::Memory) => tally.count(&rt, true),
-            Err(BtfError::Fault(_)) => panic!(rt; "a fault of a good file"),
-        }
+        Err(BtfError::Memory) => tally.count(rt, true),
+        Err(BtfError::Fault(_)) => panic!(rt; "a fault of a good file"),
     }
-    assert!(rt; tally.done > 0 && tally.refused >= PLACES + MARKS);
-    Ok(())
 }
 
 #[test]
-fn of_an_owned_table(rt: HostRuntime) -> Result<(), Fail> {
+fn of_a_good_file(rt: HostRuntime) -> Result<(), Fail> {
     let bytes = typedefs(rt.alloc())?;
-    let mut tally = Tally::new();
+    let mut lent = Tally::new();
+    let mut owned = Tally::new();
     for room in 0..=ROOM {
         let bump = Bump::new(rt.alloc());
-        if !leave(&bump, room) {
-            continue;
+        if leave(&bump, room) {
+            count_table(&rt, &mut lent, &BtfView::parse(&bump, &bytes), room);
         }
-        match Btf::parse(&bump, &bytes) {
-            Ok(table) => {
-                assert!(rt; has_typedefs(&table), "with {room} bytes");
-                tally.count(&rt, false);
-            }
-            Err(BtfError::Memory) => tally.count(&rt, true),
-            Err(BtfError::Fault(_)) => panic!(rt; "a fault of a good file"),
+        let bump = Bump::new(rt.alloc());
+        if leave(&bump, room) {
+            count_table(&rt, &mut owned, &Btf::parse(&bump, &bytes), room);
         }
     }
-    assert!(rt; tally.done > 0 && tally.refused >= PLACES + TYPES + MARKS);
+    assert!(rt; lent.done > 0 && lent.refused >= PLACES + MARKS);
+    assert!(rt; owned.done > 0 && owned.refused >= PLACES + TYPES + MARKS);
     Ok(())
 }
 
@@ -143,6 +136,20 @@ const FAULTY: &[(&[(usize, u8)], u64, BtfCause, u32)] = &[
     (&[(128, 10)], 128, BtfCause::Reference, PLACES + MARKS),
 ];
 
+/// The answers of both parsers for a file whose first fault is this one, with each room.
+fn fault_tallies(rt: &impl Abort, alloc: Global, bytes: &[u8], fault: BtfFault) -> (Tally, Tally) {
+    let mut lent = Tally::new();
+    let mut owned = Tally::new();
+    for room in 0..=ROOM {
+        let bump = Bump::new(alloc);
+        if leave(&bump, room) {
+            count_fault(rt, &mut lent, &BtfView::parse(&bump, bytes), fault);
+            count_fault(rt, &mut owned, &Btf::parse(&bump, bytes), fault);
+        }
+    }
+    (lent, owned)
+}
+
 #[test]
 fn of_faulty_files(rt: HostRuntime) -> Result<(), Fail> {
     let good = typedefs(rt.alloc())?;
@@ -152,15 +159,7 @@ fn of_faulty_files(rt: HostRuntime) -> Result<(), Fail> {
             pos: *pos,
             cause: *cause,
         };
-        let mut lent = Tally::new();
-        let mut owned = Tally::new();
-        for room in 0..=ROOM {
-            let bump = Bump::new(rt.alloc());
-            if leave(&bump, room) {
-                count_fault(&rt, &mut lent, &BtfView::parse(&bump, &bytes), fault);
-                count_fault(&rt, &mut owned, &Btf::parse(&bump, &bytes), fault);
-            }
-        }
+        let (lent, owned) = fault_tallies(&rt, rt.alloc(), &bytes, fault);
         assert!(rt; lent.done > 0 && owned.done > 0);
         assert!(rt; lent.refused >= *least && owned.refused >= *least);
         assert!(rt; *least > 0 || lent.refused == 0 && owned.refused == 0);

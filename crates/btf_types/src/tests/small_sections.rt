@@ -1,7 +1,6 @@
 //! Small sections of types, each with its first fault.
 
-use crate::tests::second_judge::first_fault;
-use crate::tests::{edited, file, number, told};
+use crate::tests::{edited, file, is_told};
 use btf_raw::BtfCause;
 use std::test::Fail;
 
@@ -187,12 +186,7 @@ fn small_sections(rt: HostRuntime) -> Result<(), Fail> {
     for (records, strings, edits, fault) in SECTIONS {
         let bytes = file(rt.alloc(), records, strings)?;
         let bytes = edited(rt.alloc(), &bytes, edits)?;
-        let fault = match fault {
-            Some((pos, cause)) => Some((*pos, number(*cause))),
-            None => None,
-        };
-        assert_eq!(rt; told(rt.alloc(), &bytes)?, fault);
-        assert_eq!(rt; first_fault(rt.alloc(), &bytes)?, fault);
+        is_told(&rt, rt.alloc(), &bytes, fault)?;
     }
     Ok(())
 }

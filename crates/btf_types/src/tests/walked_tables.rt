@@ -1,13 +1,12 @@
 //! Tables of worked files, through every call of a reader.
 
-use crate::{Btf, BtfError, BtfView, Records, TypeTable};
+use crate::tests::{BIG_ENUM64, EMPTY, TAGGED};
+use crate::{Btf, BtfView, Records, TypeTable};
 use std::alloc::{AllocError, Global};
+use std::process::Abort;
 use std::test::Fail;
 
-/// An INT, a STRUCT with two members, and a DECL_TAG of the second.
-const TAGGED: &[u8] =
-    b"\x9f\xeb\x01\0\x18\0\0\0\0\0\0\0\x44\0\0\0\x44\0\0\0\x0d\0\0\0\x01\0\0\0\0\0\0\x01\x04\0\0\0\x20\0\0\x01\x05\0\0\0\x02\0\0\x04\x08\0\0\0\x07\0\0\0\x01\0\0\0\0\0\0\0\x09\0\0\0\x01\0\0\0\x20\0\0\0\x0b\0\0\0\0\0\0\x11\x02\0\0\0\x01\0\0\0\0int\0s\0a\0b\0t\0";
-
+/// The heads of the records of `TAGGED`.
 const TAGGED_HEADS: [&str; 3] = [
     "1 KInt { name: \"int\", size: 4, encoding: Signed, offset: 0, bits: 32 }\n",
     "2 KStruct { name: \"s\", size: 8 }\n",
@@ -18,19 +17,12 @@ const TAGGED_HEADS: [&str; 3] = [
 const TAGGED_WHOLE: &[u8] =
     b"\x9f\xeb\x01\0\x18\0\0\0\0\0\0\0\x44\0\0\0\x44\0\0\0\x0d\0\0\0\x01\0\0\0\0\0\0\x01\x04\0\0\0\x20\0\0\x01\x05\0\0\0\x02\0\0\x04\x08\0\0\0\x07\0\0\0\x01\0\0\0\0\0\0\0\x09\0\0\0\x01\0\0\0\x20\0\0\0\x0b\0\0\0\0\0\0\x11\x02\0\0\0\xff\xff\xff\xff\0int\0s\0a\0b\0t\0";
 
-/// An ENUM64 with the value -2, in big-endian order.
-const BIG_ENUM64: &[u8] =
-    b"\xeb\x9f\x01\0\0\0\0\x18\0\0\0\0\0\0\0\x18\0\0\0\x18\0\0\0\x05\0\0\0\x01\x93\0\0\x01\0\0\0\x08\0\0\0\x03\xff\xff\xff\xfe\xff\xff\xff\xff\0e\0m\0";
-
 /// A member's offset word whose high byte is 1, in a STRUCT with kind_flag 0 and with 1.
 const WIDE_OFFSET: &[u8] =
     b"\x9f\xeb\x01\0\x18\0\0\0\0\0\0\0\x18\0\0\0\x18\0\0\0\x01\0\0\0\0\0\0\0\x01\0\0\x04\0\0\x40\0\0\0\0\0\0\0\0\0\0\0\0\x01\0";
 
 const BIT_FIELD: &[u8] =
     b"\x9f\xeb\x01\0\x18\0\0\0\0\0\0\0\x18\0\0\0\x18\0\0\0\x01\0\0\0\0\0\0\0\x01\0\0\x84\0\0\x40\0\0\0\0\0\0\0\0\0\0\0\0\x01\0";
-
-/// No types at all.
-const EMPTY: &[u8] = b"\x9f\xeb\x01\0\x18\0\0\0\0\0\0\0\0\0\0\0\0\0\0\0\x01\0\0\0\0";
 
 /// The heads and items of a table, one a line.
 fn shown<T: TypeTable>(alloc: Global, table: &T) -> Result<String, AllocError> {
@@ -107,31 +99,26 @@ fn next_shown(alloc: Global, records: &mut Records) -> Result<Option<String>, Al
     Ok(Some(format!(in alloc; "{id} {head:?}\n")?))
 }
 
+/// Checks that a walk gives the records of `TAGGED`, and stays at its end.
+fn walks_tagged(rt: &impl Abort, alloc: Global, records: &mut Records) -> Result<(), Fail> {
+    for line in TAGGED_HEADS {
+        assert_eq!(rt; next_shown(alloc, records)?.as_deref(), Some(line));
+    }
+    assert!(rt; records.next().is_none());
+    assert!(rt; records.next().is_none());
+    Ok(())
+}
+
 #[test]
 fn records_end_and_stay_ended(rt: HostRuntime) -> Result<(), Fail> {
-    let Ok(table) = BtfView::parse(rt.alloc(), TAGGED) else {
+    let (Ok(owned), Ok(lent)) = (
+        Btf::parse(rt.alloc(), TAGGED),
+        BtfView::parse(rt.alloc(), TAGGED),
+    ) else {
         return Err("not accepted")?;
     };
-    let mut records = table.records();
-    for line in TAGGED_HEADS {
-        assert_eq!(rt;
-            next_shown(rt.alloc(), &mut records)?.as_deref(),
-            Some(line)
-        );
-    }
-    assert!(rt; records.next().is_none());
-    assert!(rt; records.next().is_none());
-    let Ok(owned) = Btf::parse(rt.alloc(), TAGGED) else {
-        return Err("not accepted")?;
-    };
-    let mut records = owned.records();
-    for line in TAGGED_HEADS {
-        assert_eq!(rt;
-            next_shown(rt.alloc(), &mut records)?.as_deref(),
-            Some(line)
-        );
-    }
-    assert!(rt; records.next().is_none());
+    walks_tagged(&rt, rt.alloc(), &mut owned.records())?;
+    walks_tagged(&rt, rt.alloc(), &mut lent.records())?;
     let Ok(none) = BtfView::parse(rt.alloc(), EMPTY) else {
         return Err("not accepted")?;
     };

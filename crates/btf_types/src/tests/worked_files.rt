@@ -1,12 +1,13 @@
 //! Worked files, and files that are cut or too long.
 
 use crate::BtfError;
-use crate::tests::second_judge::first_fault;
 use crate::tests::{
     BEYOND, BEYOND_AND_CUT, BIG_ENUM64, BIG_INT, EMPTY, EMPTY_NAME, MEMBER, SHARED_NAME,
-    STRINGS_FIRST, TAGGED, edited, file, number, told,
+    STRINGS_FIRST, TAGGED, edited, is_told, number, told,
 };
 use btf_raw::{BtfCause, BtfFault};
+use std::alloc::Global;
+use std::process::Abort;
 use std::test::Fail;
 
 /// Files, bytes that are changed in them, and the first fault.
@@ -75,12 +76,7 @@ const WORKED: &[(&[u8], &[(usize, u8)], Option<(u64, BtfCause)>)] = &[
 fn worked_files(rt: HostRuntime) -> Result<(), Fail> {
     for (bytes, edits, fault) in WORKED {
         let bytes = edited(rt.alloc(), bytes, edits)?;
-        let fault = match fault {
-            Some((pos, cause)) => Some((*pos, number(*cause))),
-            None => None,
-        };
-        assert_eq!(rt; told(rt.alloc(), &bytes)?, fault);
-        assert_eq!(rt; first_fault(rt.alloc(), &bytes)?, fault);
+        is_told(&rt, rt.alloc(), &bytes, fault)?;
     }
     Ok(())
 }
@@ -112,20 +108,31 @@ fn fault_of_cut(len: usize, header_len: usize) -> (u64, BtfCause) {
     }
 }
 
+/// Checks the fault of a file that is cut at each length, whose own header has so many bytes.
+fn cuts_are_told(
+    rt: &impl Abort,
+    alloc: Global,
+    file: &[u8],
+    header_len: usize,
+) -> Result<(), Fail> {
+    for len in 0..file.len() {
+        let (pos, cause) = fault_of_cut(len, header_len);
+        assert_eq!(rt;
+            told(alloc, &file[..len])?,
+            Some((pos, number(cause))),
+            "cut to {len} bytes"
+        );
+    }
+    Ok(())
+}
+
 #[test]
 fn files_cut_at_every_length(rt: HostRuntime) -> Result<(), Fail> {
     let cases: [(&[u8], usize, usize); 2] = [(TAGGED, 24, 105), (STRINGS_FIRST, 28, 51)];
     for (file, header_len, file_len) in cases {
         assert_eq!(rt; file.len(), file_len);
         assert_eq!(rt; told(rt.alloc(), file)?, None);
-        for len in 0..file.len() {
-            let (pos, cause) = fault_of_cut(len, header_len);
-            assert_eq!(rt;
-                told(rt.alloc(), &file[..len])?,
-                Some((pos, number(cause))),
-                "cut to {len} bytes"
-            );
-        }
+        cuts_are_told(&rt, rt.alloc(), file, header_len)?;
     }
     Ok(())
 }

@@ -1,12 +1,8 @@
-use Rattle.std.proofs.Common.{◌≡◌, ◌↔◌, IsTrue, Bool, true, false, MatchBool, refl}
+use Rattle.std.proofs.Common.{◌≡◌}
 use Rattle.std.specs.Cmp.Lexicographic.{told_text}
+use Rattle.bpf_canon.proofs.TestOfEquality.{told}
 use Rattle.bpf_canon.proofs.BtfLemmas.ComparedFiles.{compares}
 use Rattle.bpf_canon.proofs.btf.btf_same.same_btf.Goals as goal
-
--- what a test has told
-told : (P : Type 0) (r : Bool) → MatchBool r P (P → ⊥) → IsTrue r ↔ P
-told P true h = (λ t. h, λ p. refl)
-told P false h = (λ t. cc, λ p. absurd (h p))
 
 pub returns-clause-same : goal.returns-clause-same
 returns-clause-same g c =

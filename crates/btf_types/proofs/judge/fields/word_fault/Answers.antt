@@ -1,5 +1,4 @@
 use Rattle.std.proofs.Common.{None}
-use Rattle.btf_types.specs.Sections.{facts_in}
 use Rattle.btf_types.specs.declared.judge.roles.Role.TheVariants as roles
 use Rattle.btf_types.proofs.JudgeLemmas.RoleSteps.{judged, place_judged}
 use Rattle.btf_types.proofs.judge.fields.word_fault.Goals as goal

@@ -1,8 +1,7 @@
 -- Block by block: a block with a NUL ends no long text; in another block stands one, whose end is noted.
-use Rattle.std.proofs.Common.{◌≡◌, ◌+◌, ◌++◌, [], ◌∷◌, length, take, drop, sym, subst, ◌∙◌, List, ℕ, inl, inr, refl, arith}
+use Rattle.std.proofs.Common.{◌+◌, [], ◌∷◌, length, ◌∙◌, inl, inr, refl, arith}
 use Rattle.std.proofs.Math.Seq.{drop-length, take-length}
 use Rattle.std.proofs.lemmas.List.{drop-append-le, take-append-le, length-append}
-use Rattle.btf_types.specs.tables.StringEnds.{AreLongEndsTo, IsEnd}
 use Rattle.btf_types.proofs.StringLemmas.LongEnds.{none_yet, more_bytes, one_end_more, nul_behind}
 use Rattle.btf_types.proofs.tables.string_ends.push_long_ends.Goals as goal
 

@@ -1,4 +1,4 @@
-use Rattle.std.proofs.Common.{◌≡◌, ◌+◌, ◌-◌, ◌<◌, ◌≤◌, length, take, drop, List, ℕ}
+use Rattle.std.proofs.Common.{◌≡◌, ◌+◌, ◌-◌, ◌≤◌, length, take, drop, List, ℕ}
 use Rattle.btf_types.specs.tables.StringEnds.{AreLongEndsTo, HasNulNear}
 use Rattle.btf_types.proofs.tables.string_ends.push_long_ends.Given as goal
 

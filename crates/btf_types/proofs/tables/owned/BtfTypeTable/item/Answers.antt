@@ -1,4 +1,4 @@
-use Rattle.std.proofs.Common.{◌≡◌, ◌-◌, ◌<◌, length, get_or, ◌∙◌}
+use Rattle.std.proofs.Common.{◌≡◌, ◌-◌, ◌<◌, length, get_or}
 use Rattle.btf_types.proofs.TableLemmas.TableReads.{stands_at, place_inside, record_there, item_inside}
 use Rattle.btf_types.proofs.tables.owned.BtfTypeTable.item.Goals as goal
 
