@@ -14,7 +14,7 @@ use Rattle.btf_types.proofs.StringLemmas.Suffixes.{suffix_from_Ends}
 use Rattle.btf_canon.proofs.LongestSteps.{used_text, within_ends}
 
 abbrev none : Tail
-none = record { key = 0; start = 0; end = 0 }
+none = record { key = 0; before = 0; start = 0; end = 0 }
 
 -- members of a list that is mapped
 pub in_map : {X : Type 0} (f : X → List ℕ) (xs : List X) (x : X) → Contains xs x → Contains (map f xs) (f x)

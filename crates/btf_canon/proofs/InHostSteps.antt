@@ -20,7 +20,7 @@ use Rattle.btf_canon.proofs.LongestSteps.{used_length, within_length, within_end
 use Rattle.btf_canon.proofs.RankSteps.{first_rank_is}
 
 abbrev pub no_tail : Tail
-no_tail = record { key = 0; start = 0; end = 0 }
+no_tail = record { key = 0; before = 0; start = 0; end = 0 }
 
 -- the texts that are passed on the way to the next host all end it
 passed_end : (ms : List (List ℕ)) (n j l r : ℕ) → n + j ≡ r → l ≤ j → ((i : ℕ) → l ≤ i → i < r → is_suffix (at_rank ms i) (at_rank ms (i + 1)) ≡ true) → Ends (at_rank ms j) (at_rank ms r)

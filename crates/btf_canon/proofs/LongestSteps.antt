@@ -8,7 +8,7 @@ use Rattle.std.proofs.lemmas.List.Elements.{All-nil, All-cons, All-append}
 use Rattle.btf_types.specs.Reading.{before_nul, text_from}
 use Rattle.btf_types.proofs.StringLemmas.Suffixes.{Ends, Ends-refl}
 use Rattle.btf_canon.specs.TailKeys.{tail_key}
-use Rattle.btf_canon.specs.Tails.{end_in, start_in, tail_text, HasKey}
+use Rattle.btf_canon.specs.Tails.{end_in, start_in, tail_text, text_before, HasKey}
 use Rattle.btf_canon.specs.Longest.{IsUsed, IsWithin, AreLongestOf}
 use Rattle.btf_canon.specs.declared.shared_strings.tails.Tail.{Tail}
 use Rattle.btf_canon.proofs.TextLemmas.{text_is}
@@ -108,8 +108,8 @@ longest_unused section slots ts off to more unused = record {
   ];
 }
 
-pub longest_push : (section slots : List ℕ) (ts : List Tail) (off : ℕ) (t : Tail) → LongestTo section slots ts off → get_or section off 0 ≢ 0 → get_or slots off 0 ≢ 0 → t.start ≡ off → off ≤ t.end → t.end < length section → get_or section t.end 0 ≡ 0 → ((k : ℕ) → off ≤ k → k < t.end → get_or section k 0 ≢ 0) → t.key ≡ tail_key (take (t.end - off) (drop off section)) → LongestTo section slots (ts ++ t ∷ []) (t.end + 1)
-longest_push section slots ts off t to some slot start low high nul before key =
+pub longest_push : (section slots : List ℕ) (ts : List Tail) (off : ℕ) (t : Tail) → LongestTo section slots ts off → get_or section off 0 ≢ 0 → get_or slots off 0 ≢ 0 → t.start ≡ off → off ≤ t.end → t.end < length section → get_or section t.end 0 ≡ 0 → ((k : ℕ) → off ≤ k → k < t.end → get_or section k 0 ≢ 0) → t.key ≡ tail_key (take (t.end - off) (drop off section)) → t.before ≡ tail_key (text_before (take (t.end - off) (drop off section))) → LongestTo section slots (ts ++ t ∷ []) (t.end + 1)
+longest_push section slots ts off t to some slot start low high nul before key rest =
     let cut : tail_text section t ≡ take (t.end - off) (drop off section) =
     tail_text_is section t (omega (arith, start, low)) (omega (arith, high)) ∙ ap (λ (n : ℕ). take (t.end - n) (drop n section)) start in
     let more : off < t.end = elim (cases_eq off t.end) [
@@ -119,7 +119,7 @@ longest_push section slots ts off t to some slot start low high nul before key =
     record {
       few = omega (arith, to.few, more, length-append ts (t ∷ []));
       inside = omega (arith, high);
-      keys = All-append (HasKey section) ts (t ∷ []) to.keys (All-cons (HasKey section) t [] (key ∙ ap tail_key (sym cut)) (All-nil (HasKey section)));
+      keys = All-append (HasKey section) ts (t ∷ []) to.keys (All-cons (HasKey section) t [] (record { last = key ∙ ap tail_key (sym cut); before = rest ∙ ap (λ (l : List ℕ). tail_key (text_before l)) (sym cut) }) (All-nil (HasKey section)));
       used = All-append (IsUsed section slots) ts (t ∷ []) to.used (All-cons (IsUsed section slots) t [] (record {
         slot = subst (λ (k : ℕ). get_or slots k 0 ≢ 0) (sym start) slot;
         some = omega (arith, start, more);

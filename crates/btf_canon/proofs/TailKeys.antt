@@ -31,10 +31,10 @@ bytes_turned : (x : List ℕ) → Bytes x → Bytes (reverse x)
 bytes_turned [] p = tt
 bytes_turned (b ∷ x) (h, p) = subst Bytes (sym (reverse-append (b ∷ []) x)) (bytes_both (reverse x) (b ∷ []) (bytes_turned x p) (h, tt))
 
-less : (a b : ℕ) → a < b → nat_cmp a b ≡ Less
+pub less : (a b : ℕ) → a < b → nat_cmp a b ≡ Less
 less a b h = cond-true (nat_lt a b) Less _ (lt-ltb a b h)
 
-greater : (a b : ℕ) → b < a → nat_cmp a b ≡ Greater
+pub greater : (a b : ℕ) → b < a → nat_cmp a b ≡ Greater
 greater a b h = cond-false (nat_lt a b) Less _ (le-ltb a b (omega arith)) ∙ cond-false (a == b) Equal Greater (ne_eqb a b (λ e. omega (arith, e, h)))
 
 tied : (a b : ℕ) → a ≡ b → nat_cmp a b ≡ Equal
@@ -188,6 +188,11 @@ key_ends x y p q e s =
     let less_turned : (length (reverse x) < 8) ⊎ (length (reverse y) < 8) = elim s [ inl l ↦ inl (omega (arith, l, length-reverse x)) | inr l ↦ inr (omega (arith, l, length-reverse y)) ] in
     sym (key_short 8 (reverse x) (reverse y) (bytes_turned x (bytes_from x p)) (bytes_turned y (bytes_from y q)) less_turned e
     ∙ ap (nat_cmp (length (reverse x))) (length-reverse y) ∙ ap (λ (n : ℕ). nat_cmp n (length y)) (length-reverse x))
+
+-- the key of no bytes
+pub key_none : (x : List ℕ) (n : ℕ) → n ≡ 0 → tail_key (take n x) ≡ 0
+unfolding tail_key
+key_none x n e = ap (λ (k : ℕ). front_key 8 (reverse (take k x))) e
 
 -- the key of the bytes that stand from the end, one by one
 pub key_by_bytes : (y : List ℕ) → get_or y 7 0 + get_or y 6 0 * 256 + get_or y 5 0 * 65536 + get_or y 4 0 * 16777216 + get_or y 3 0 * 4294967296 + get_or y 2 0 * 1099511627776 + get_or y 1 0 * 281474976710656 + get_or y 0 0 * 72057594037927936 ≡ front_key 8 y

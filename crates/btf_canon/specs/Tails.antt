@@ -16,9 +16,14 @@ start_in section t = min t.start (end_in section t)
 abbrev pub tail_text : List ℕ → Tail → List ℕ
 tail_text section t = take (end_in section t - start_in section t) (drop (start_in section t) section)
 
--- its key is that of its text
-abbrev pub HasKey : List ℕ → Tail → Type 0
-HasKey section t = t.key ≡ tail_key (tail_text section t)
+-- a text without its last eight bytes
+abbrev pub text_before : List ℕ → List ℕ
+text_before x = take (length x - 8) x
+
+-- its keys are those of its text
+pub record HasKey (section : List ℕ) (t : Tail) : Type 0 where
+  pub last : t.key ≡ tail_key (tail_text section t)
+  pub before : t.before ≡ tail_key (text_before (tail_text section t))
 
 abbrev pub compared : List ℕ → Tail → Tail → Ordering
-compared section = then_cmp (on (λ t. t.key) nat_cmp) (on (tail_text section) tail_cmp)
+compared section = then_cmp (on (λ t. t.key) nat_cmp) (then_cmp (on (λ t. t.before) nat_cmp) (on (tail_text section) tail_cmp))

@@ -42,7 +42,7 @@ fn find_within<A: Allocator>(
     requires section { length ranked.now.section.now < 2 ^ 32 }
     requires inside { rank < length ranked.now.tails.items }
     requires whole { length found.old ≡ number_of uses.now (length uses.now) }
-    ensures { spec.FindsWithin ranked.now.section.now uses.now (map (tail_text ranked.now.section.now) ranked.now.tails.items) (slice_index_or ranked.now.tails.items rank (record { key = 0; start = 0; end = 0 })) found.old found.new }
+    ensures { spec.FindsWithin ranked.now.section.now uses.now (map (tail_text ranked.now.section.now) ranked.now.tails.items) (slice_index_or ranked.now.tails.items rank (record { key = 0; before = 0; start = 0; end = 0 })) found.old found.new }
 {
     let end = ranked.tails[rank].end;
     let mut from = rank;

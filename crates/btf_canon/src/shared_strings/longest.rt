@@ -27,8 +27,11 @@ pub(crate) fn longest_texts<A: Allocator>(
             continue;
         }
         let end = end_of(section, off);
+        let text = &section[off..end];
+        let before = &text[..text.len().saturating_sub(8)];
         longest.push(Tail {
-            key: tail_key(&section[off..end]),
+            key: tail_key(text),
+            before: tail_key(before),
             start: off as u32,
             end: end as u32,
         })?;

@@ -52,6 +52,12 @@ fn common_of(section: &[u8], a: &Tail, b: &Tail) -> usize
     if common < 8 {
         return common;
     }
+    let before = common_bytes(a.before, b.before)
+        .min(first.len() - 8)
+        .min(second.len() - 8);
+    if before < 8 {
+        return 8 + before;
+    }
     common_tail(first, second)
 }
 

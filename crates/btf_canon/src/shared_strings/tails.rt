@@ -9,10 +9,12 @@ ghost use Rattle.btf_canon.specs.Tails as tails;
 use std::alloc::Allocator;
 use std::cmp::Ordering;
 
-/// A text of a section, with the key of its last bytes.
+/// A text of a section, with the keys of its last bytes.
 #[derive(Clone, Copy)]
 pub(crate) struct Tail {
     pub(crate) key: u64,
+    /// The key of what comes before the last eight bytes.
+    pub(crate) before: u64,
     pub(crate) start: u32,
     pub(crate) end: u32,
 }
@@ -103,6 +105,9 @@ fn compare(section: &[u8], a: &Tail, b: &Tail) -> Ordering
 {
     if a.key != b.key {
         return a.key.cmp(&b.key);
+    }
+    if a.before != b.before {
+        return a.before.cmp(&b.before);
     }
     compare_texts(section, a, b)
 }

@@ -8,7 +8,7 @@ use Rattle.btf_canon.proofs.shared_strings.ranks.common_tails.Goals as goal
 use Rattle.btf_canon.proofs.shared_strings.ranks.common_tails.Goals.{then-k-eq0, else-k-eq0}
 
 abbrev none : Tail
-none = record { key = 0; start = 0; end = 0 }
+none = record { key = 0; before = 0; start = 0; end = 0 }
 
 pub loop-k-preserved : goal.loop-k-preserved
 loop-k-preserved g c =

@@ -9,7 +9,7 @@ use Rattle.btf_canon.proofs.shared_strings.ranks.next_hosts.Goals as goal
 use Rattle.btf_canon.proofs.shared_strings.ranks.next_hosts.Goals.{then-k-sorted+then-common-k, then-k-sorted+else-common-k, else-k-sorted}
 
 abbrev none : Tail
-none = record { key = 0; start = 0; end = 0 }
+none = record { key = 0; before = 0; start = 0; end = 0 }
 
 pub loop-k-preserved : goal.loop-k-preserved
 loop-k-preserved g c =
