@@ -11,4 +11,5 @@ mod examples;
 mod lines;
 mod listings;
 mod refused;
+mod refused_names;
 mod running;

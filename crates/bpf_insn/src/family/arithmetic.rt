@@ -12,13 +12,12 @@
 
 ghost use Rattle.std.specs.Prelude.{◌≡◌, ◌≢◌, ◌↔◌, IsTrue, pos};
 ghost use Rattle.bpf_insn.specs.Table.{IsOperand, alu_class, alu_code, alu_offset, code_opcode, fields_of, movsx_bits, movsx_width};
-ghost use Rattle.bpf_insn.specs.Forms.{AllowsAluOff, AllowsMovOff, AllowsOpOff, AllowsSource, Makes, alu32_form_at, alu64_form_at, alu_code_at, alu_code_number};
+ghost use Rattle.bpf_insn.specs.Forms.{AllowsAluOff, AllowsMovOff, AllowsOpOff, AllowsSource, Makes, alu_code_number};
 
-use crate::family::operand::{fields_of_operand, operand_of, source_of};
-use crate::family::swap::{BE, LE, SWAP};
+use crate::family::operand::{fields_of_operand, operand_of};
 use crate::form::{AluCode, Form, Source};
 use crate::opcode::{ALU, ALU64};
-use crate::{AluOp, Insn, MovsxForm, Operand, Reg, Slot, SwapKind, Width};
+use crate::{AluOp, Insn, MovsxForm, Operand, Reg, Slot, Width};
 
 // The codes of the operations with two operands.
 const ADD: u8 = 0x0;
@@ -51,28 +50,6 @@ const NEG32: u8 = 0x84;
 /// The opcode of a negation of 64 bits: code 0x8, and class ALU64.
 const NEG64: u8 = 0x87;
 
-/// The operation of a code.
-#[tactic(auto, unfolding(crate::specs::Forms::alu_code_at))]
-fn alu_code_of(code: u8) -> Option<AluCode>
-    ensures { result ≡ alu_code_at code }
-{
-    match code {
-        ADD => Some(AluCode::Add),
-        SUB => Some(AluCode::Sub),
-        MUL => Some(AluCode::Mul),
-        DIV => Some(AluCode::Div),
-        OR => Some(AluCode::Or),
-        AND => Some(AluCode::And),
-        LSH => Some(AluCode::Lsh),
-        RSH => Some(AluCode::Rsh),
-        MOD => Some(AluCode::Mod),
-        XOR => Some(AluCode::Xor),
-        MOV => Some(AluCode::Mov),
-        ARSH => Some(AluCode::Arsh),
-        _ => None,
-    }
-}
-
 /// The code of an operation.
 fn number_of_alu_op(op: AluOp) -> u8
     ensures { result ≡ alu_code op }
@@ -90,47 +67,6 @@ fn number_of_alu_op(op: AluOp) -> u8
         AluOp::Xor => XOR,
         AluOp::Mov => MOV,
         AluOp::Arsh => ARSH,
-    }
-}
-
-/// The form of an opcode of class ALU.
-#[tactic(auto, unfolding(crate::specs::Forms::alu32_form_at))]
-pub(crate) fn alu32_form_of(opcode: u8) -> Option<Form>
-    ensures { result ≡ alu32_form_at opcode }
-{
-    if let Some(code) = alu_code_of(opcode / 16) {
-        return Some(Form::Alu {
-            width: Width::W32,
-            code,
-            source: source_of(opcode),
-        });
-    }
-    match opcode {
-        NEG32 => Some(Form::Neg { width: Width::W32 }),
-        LE => Some(Form::Swap { kind: SwapKind::Le }),
-        BE => Some(Form::Swap { kind: SwapKind::Be }),
-        _ => None,
-    }
-}
-
-/// The form of an opcode of class ALU64.
-#[tactic(auto, unfolding(crate::specs::Forms::alu64_form_at))]
-pub(crate) fn alu64_form_of(opcode: u8) -> Option<Form>
-    ensures { result ≡ alu64_form_at opcode }
-{
-    if let Some(code) = alu_code_of(opcode / 16) {
-        return Some(Form::Alu {
-            width: Width::W64,
-            code,
-            source: source_of(opcode),
-        });
-    }
-    match opcode {
-        NEG64 => Some(Form::Neg { width: Width::W64 }),
-        SWAP => Some(Form::Swap {
-            kind: SwapKind::Swap,
-        }),
-        _ => None,
     }
 }
 
@@ -229,6 +165,7 @@ fn width_and_bits_of(form: MovsxForm) -> (Width, i16)
 }
 
 /// The arithmetic instruction with these fields, if it allows the immediate.
+#[inline(always)]
 pub(crate) fn alu_of(
     width: Width,
     code: AluCode,

@@ -13,9 +13,9 @@
 ghost use Rattle.std.specs.Prelude.{◌≡◌, ◌⊎◌, ◌≤◌, pos, Some};
 ghost use Rattle.bpf_words.specs.Slots.{fields};
 ghost use Rattle.bpf_insn.specs.Table.{IsOperand, branch_class, branch_code, fields_of};
-ghost use Rattle.bpf_insn.specs.Forms.{AllowsSource, Makes, branch_op_at, jump32_form_at, jump64_form_at};
+ghost use Rattle.bpf_insn.specs.Forms.{AllowsSource, Makes};
 
-use crate::family::operand::{fields_of_operand, operand_of, source_of};
+use crate::family::operand::{fields_of_operand, operand_of};
 use crate::form::{Form, Source};
 use crate::opcode::{JMP, JMP32};
 use crate::{BranchOp, Insn, Operand, Reg, Slot, Width};
@@ -55,27 +55,6 @@ const CALL: u8 = 0x85;
 /// The opcode of an exit: code 0x9, and class JMP.
 const EXIT: u8 = 0x95;
 
-/// The comparison of a code.
-#[tactic(auto, unfolding(crate::specs::Forms::branch_op_at))]
-fn branch_op_of(code: u8) -> Option<BranchOp>
-    ensures { result ≡ branch_op_at code }
-{
-    match code {
-        EQ => Some(BranchOp::Eq),
-        GT => Some(BranchOp::Gt),
-        GE => Some(BranchOp::Ge),
-        SET => Some(BranchOp::Set),
-        NE => Some(BranchOp::Ne),
-        SGT => Some(BranchOp::Sgt),
-        SGE => Some(BranchOp::Sge),
-        LT => Some(BranchOp::Lt),
-        LE => Some(BranchOp::Le),
-        SLT => Some(BranchOp::Slt),
-        SLE => Some(BranchOp::Sle),
-        _ => None,
-    }
-}
-
 /// The code of a comparison.
 fn number_of_branch_op(op: BranchOp) -> u8
     ensures { result ≡ branch_code op }
@@ -92,44 +71,6 @@ fn number_of_branch_op(op: BranchOp) -> u8
         BranchOp::Le => LE,
         BranchOp::Slt => SLT,
         BranchOp::Sle => SLE,
-    }
-}
-
-/// The form of an opcode of class JMP32.
-#[tactic(auto, unfolding(crate::specs::Forms::jump32_form_at))]
-pub(crate) fn jump32_form_of(opcode: u8) -> Option<Form>
-    ensures { result ≡ jump32_form_at opcode }
-{
-    if let Some(op) = branch_op_of(opcode / 16) {
-        return Some(Form::Branch {
-            width: Width::W32,
-            op,
-            source: source_of(opcode),
-        });
-    }
-    match opcode {
-        JUMP_LONG => Some(Form::JumpLong),
-        _ => None,
-    }
-}
-
-/// The form of an opcode of class JMP.
-#[tactic(auto, unfolding(crate::specs::Forms::jump64_form_at))]
-pub(crate) fn jump64_form_of(opcode: u8) -> Option<Form>
-    ensures { result ≡ jump64_form_at opcode }
-{
-    if let Some(op) = branch_op_of(opcode / 16) {
-        return Some(Form::Branch {
-            width: Width::W64,
-            op,
-            source: source_of(opcode),
-        });
-    }
-    match opcode {
-        JUMP => Some(Form::Jump),
-        CALL => Some(Form::Call),
-        EXIT => Some(Form::Exit),
-        _ => None,
     }
 }
 

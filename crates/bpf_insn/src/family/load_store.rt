@@ -1,5 +1,4 @@
-//! Loads, stores and atomic operations, read and written (RFC 9669 sections 5.1 to 5.3 and 5.5), and the
-//! opcodes of wide loads, which share their classes.
+//! Loads, stores and atomic operations, read and written (RFC 9669 sections 5.1 to 5.3 and 5.5).
 //!
 //! The mode tells how memory is accessed, sz how much of it, and the class from where to where:
 //!
@@ -10,17 +9,15 @@
 //!  7   5 4 3 2   0
 //! ```
 
-ghost use Rattle.std.specs.Prelude.{◌≡◌, ◌≢◌, ◌<◌, MatchOption, pos};
+ghost use Rattle.std.specs.Prelude.{◌≡◌, ◌≢◌, MatchOption, pos};
 ghost use Rattle.bpf_insn.specs.declared.insn.AtomicOp.{AtomicOp};
 ghost use Rattle.bpf_insn.specs.Table.{atomic_number, atomic_size, fields_of, size_number, small_size_number};
-ghost use Rattle.bpf_insn.specs.Forms.{Makes, load_form_at, size_at, small_size_at};
+ghost use Rattle.bpf_insn.specs.Forms.{Makes};
 
 use crate::form::Form;
 use crate::opcode::{LD, LDX, ST, STX};
 use crate::{AtomicOp, Insn, Reg, Size, Slot, SmallSize, Width};
 
-/// Mode IMM: a number of two slots.
-const IMM: u8 = 0;
 /// Mode ABS: a packet, at the immediate.
 const ABS: u8 = 1;
 /// Mode IND: a packet, at a register and the immediate.
@@ -62,20 +59,6 @@ const XCHG: i32 = 0xe1;
 
 const CMPXCHG: i32 = 0xf1;
 
-/// The size of a number.
-#[tactic(auto, unfolding(crate::specs::Forms::size_at))]
-fn size_of(number: u8) -> Option<Size>
-    ensures { result ≡ size_at number }
-{
-    match number {
-        W => Some(Size::W),
-        H => Some(Size::H),
-        B => Some(Size::B),
-        DW => Some(Size::D),
-        _ => None,
-    }
-}
-
 /// The number of a size.
 fn number_of_size(size: Size) -> u8
     ensures { result ≡ size_number size }
@@ -85,19 +68,6 @@ fn number_of_size(size: Size) -> u8
         Size::H => H,
         Size::B => B,
         Size::D => DW,
-    }
-}
-
-/// The size of a number, double words left out.
-#[tactic(auto, unfolding(crate::specs::Forms::small_size_at))]
-fn small_size_of(number: u8) -> Option<SmallSize>
-    ensures { result ≡ small_size_at number }
-{
-    match number {
-        W => Some(SmallSize::W),
-        H => Some(SmallSize::H),
-        B => Some(SmallSize::B),
-        _ => None,
     }
 }
 
@@ -146,41 +116,6 @@ fn number_of_atomic_op(op: AtomicOp) -> i32
         AtomicOp::FetchXor => FETCH_XOR,
         AtomicOp::Xchg => XCHG,
         AtomicOp::Cmpxchg => CMPXCHG,
-    }
-}
-
-/// The form of an opcode of the classes LD, LDX, ST and STX.
-#[tactic(auto, unfolding(crate::specs::Forms::load_form_at))]
-pub(crate) fn load_form_of(class: u8, mode: u8, size: u8) -> Option<Form>
-    requires { class < 4 }
-    ensures { result ≡ load_form_at class mode size }
-{
-    match (class, mode) {
-        (LD, IMM) => { if size == DW { Some(Form::Wide) } else { None } }
-        (LD, ABS) => Some(Form::PacketAbs {
-            size: small_size_of(size)?,
-        }),
-        (LD, IND) => Some(Form::PacketInd {
-            size: small_size_of(size)?,
-        }),
-        (LDX, MEM) => Some(Form::Load {
-            size: size_of(size)?,
-        }),
-        (LDX, MEMSX) => Some(Form::LoadSigned {
-            size: small_size_of(size)?,
-        }),
-        (ST, MEM) => Some(Form::StoreImm {
-            size: size_of(size)?,
-        }),
-        (STX, MEM) => Some(Form::StoreReg {
-            size: size_of(size)?,
-        }),
-        (STX, ATOMIC) => match size {
-            W => Some(Form::Atomic { width: Width::W32 }),
-            DW => Some(Form::Atomic { width: Width::W64 }),
-            _ => None,
-        },
-        _ => None,
     }
 }
 

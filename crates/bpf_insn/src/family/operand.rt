@@ -5,21 +5,10 @@
 
 ghost use Rattle.std.specs.Prelude.{◌≡◌, ◌↔◌, IsTrue};
 ghost use Rattle.bpf_insn.specs.Table.{IsOperand, immediate, source, source_bit};
-ghost use Rattle.bpf_insn.specs.Forms.{AllowsSource, MakesOperand, source_at};
+ghost use Rattle.bpf_insn.specs.Forms.{AllowsSource, MakesOperand};
 
 use crate::form::Source;
 use crate::{Operand, Reg};
-
-/// The source bit of an opcode.
-pub(crate) fn source_of(opcode: u8) -> Source
-    ensures { result ≡ source_at opcode }
-{
-    if opcode / 8 % 2 == 0 {
-        Source::K
-    } else {
-        Source::X
-    }
-}
 
 /// Tells whether a source bit allows this src field.
 pub(crate) fn allows_source(source: Source, src: u8) -> bool

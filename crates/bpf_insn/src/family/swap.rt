@@ -12,11 +12,11 @@ use crate::form::Form;
 use crate::{Insn, Reg, Slot, SwapBits, SwapKind};
 
 /// To little-endian.
-pub(crate) const LE: u8 = 0xd4;
+const LE: u8 = 0xd4;
 /// To big-endian.
-pub(crate) const BE: u8 = 0xdc;
+const BE: u8 = 0xdc;
 /// Always.
-pub(crate) const SWAP: u8 = 0xd7;
+const SWAP: u8 = 0xd7;
 
 /// The opcode of a byte swap.
 fn opcode_of_swap(kind: SwapKind) -> u8

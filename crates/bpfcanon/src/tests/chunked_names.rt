@@ -6,7 +6,7 @@ use std::alloc::{AllocError, Global};
 use std::test::Fail;
 
 /// A little-endian file of these words of types, whose one name begins behind the first byte of the strings.
-fn named(alloc: Global, words: &[u32], name: &[u8]) -> Result<Vec<u8>, AllocError> {
+pub fn named(alloc: Global, words: &[u32], name: &[u8]) -> Result<Vec<u8>, AllocError> {
     let mut file = Vec::from_slice(alloc, b"\x9f\xeb\x01\0")?;
     let length = u32::try_from(words.len())
         .unwrap_or(u32::MAX)
@@ -27,7 +27,7 @@ fn named(alloc: Global, words: &[u32], name: &[u8]) -> Result<Vec<u8>, AllocErro
 }
 
 /// So many of these bytes, one behind the other.
-fn repeated(alloc: Global, bytes: &[u8], count: usize) -> Result<Vec<u8>, AllocError> {
+pub fn repeated(alloc: Global, bytes: &[u8], count: usize) -> Result<Vec<u8>, AllocError> {
     let mut all = Vec::new(alloc);
     for _ in 0..count {
         all.extend_from_slice(bytes)?;
