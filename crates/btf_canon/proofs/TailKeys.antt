@@ -194,6 +194,11 @@ pub key_none : (x : List ℕ) (n : ℕ) → n ≡ 0 → tail_key (take n x) ≡ 
 unfolding tail_key
 key_none x n e = ap (λ (k : ℕ). front_key 8 (reverse (take k x))) e
 
+pub key_of_none : (x : List ℕ) → length x ≡ 0 → tail_key x ≡ 0
+unfolding tail_key
+key_of_none [] e = refl
+key_of_none (b ∷ x) e = absurd (omega (arith, e))
+
 -- the key of the bytes that stand from the end, one by one
 pub key_by_bytes : (y : List ℕ) → get_or y 7 0 + get_or y 6 0 * 256 + get_or y 5 0 * 65536 + get_or y 4 0 * 16777216 + get_or y 3 0 * 4294967296 + get_or y 2 0 * 1099511627776 + get_or y 1 0 * 281474976710656 + get_or y 0 0 * 72057594037927936 ≡ front_key 8 y
 key_by_bytes [] = omega arith

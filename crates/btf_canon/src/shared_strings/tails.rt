@@ -47,6 +47,9 @@ pub(crate) fn tail_key(text: &[u8]) -> u64
     ensures key { result ≡ spec.tail_key text.now }
     ensures bytes { (i : ℕ) → slice_index_or text.now i 0 < 256 }
 {
+    if text.is_empty() {
+        return 0;
+    }
     if let Some((_, last)) = text.split_last_chunk::<8>() {
         return u64::from_le_bytes(*last);
     }

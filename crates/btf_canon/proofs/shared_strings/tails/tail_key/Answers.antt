@@ -1,7 +1,12 @@
-use Rattle.std.proofs.Common.{◌≡◌, ◌+◌, ◌-◌, length, drop, arith, ap, ◌∙◌, w64}
+use Rattle.std.proofs.Common.{rules, sym, ◌≡◌, ◌+◌, ◌-◌, length, drop, arith, ap, ◌∙◌, w64}
 use Rattle.std.specs.Int.{from_le_bytes}
-use Rattle.btf_canon.proofs.TailKeys.{key_of_long, key_from_bytes}
+use Rattle.btf_canon.proofs.TailKeys.{key_of_none, key_of_long, key_from_bytes}
 use Rattle.btf_canon.proofs.shared_strings.tails.tail_key.Goals as goal
+
+pub returns-then-is_empty-clause-key : goal.returns-then-is_empty-clause-key
+returns-then-is_empty-clause-key c =
+    let none : length c.args.text.now ≡ 0 = search rules in
+    sym (key_of_none c.args.text.now none)
 
 pub returns-in-Some-clause-key : goal.returns-in-Some-clause-key
 returns-in-Some-clause-key c =
