@@ -17,7 +17,7 @@ use Rattle.bpf_insn.specs.Faults.{IsFront, IsInsnFault}
 use Rattle.bpf_insn.proofs.FrontLemmas.{one_front}
 use Rattle.bpf_canon.specs.insn.FeedState.{FeedState}
 use Rattle.bpf_canon.specs.insn.Stands.{Gains, IsFaultOf, Moves, Stands}
-use Rattle.bpf_canon.proofs.InsnLemmas.FrontLaws.{file_front, front-nil}
+use Rattle.bpf_canon.proofs.InsnLemmas.FrontLaws.{file_front}
 use Rattle.library_tests.specs.Streams.{Refuses}
 use Rattle.library_tests.specs.declared.library_example.StreamError.{StreamError}
 use Rattle.library_tests.specs.declared.library_example.StreamError.TheVariants.{Insns}
@@ -28,9 +28,6 @@ pub record Written (o to : Order) (stream out : List ℕ) : Type 0 where
   pub rest : List ℕ
   pub front : IsFront o stream insns rest
   pub form : out ≡ file_of to insns
-
-pub nothing_written : (o to : Order) → Written o to [] []
-nothing_written o to = record { insns = []; rest = []; front = front-nil o; form = refl }
 
 -- of a longer stream more is written
 pub written_more : (o to : Order) (b more old new : List ℕ) → Written o to b old → Gains o to b more old new → Written o to (b ++ more) new
