@@ -27,6 +27,10 @@ fn append_found<A: Allocator>(
         Some(insn) => {
             // The pair isn't taken apart, since that would copy the bytes once more.
             let spelled = insn_bytes(to, insn);
+            // Most have 8 bytes, which are copied at once where their number is known.
+            if spelled.1 == 8 {
+                return bytes.extend_from_slice(&spelled.0[..8]);
+            }
             bytes.extend_from_slice(&spelled.0[..spelled.1])
         }
         None => Ok(()),
