@@ -1,12 +1,12 @@
 //! Worked files, and files that are cut or too long.
 
-use crate::BtfError;
-use crate::tests::second_judge::first_fault;
-use crate::tests::{
+use crate::type_files::second_judge::first_fault;
+use crate::type_files::{
     BEYOND, BEYOND_AND_CUT, BIG_ENUM64, BIG_INT, EMPTY, EMPTY_NAME, MEMBER, SHARED_NAME,
     STRINGS_FIRST, TAGGED, edited, file, number, told,
 };
 use btf_raw::{BtfCause, BtfFault};
+use btf_types::BtfError;
 use std::test::Fail;
 
 /// Files, bytes that are changed in them, and the first fault.

@@ -1,7 +1,7 @@
 //! Small sections of types, each with its first fault.
 
-use crate::tests::second_judge::first_fault;
-use crate::tests::{edited, file, number, told};
+use crate::type_files::second_judge::first_fault;
+use crate::type_files::{edited, file, number, told};
 use btf_raw::BtfCause;
 use std::test::Fail;
 

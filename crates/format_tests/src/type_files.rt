@@ -2,14 +2,14 @@
 
 mod changed_bytes;
 mod long_files;
-mod refused;
+mod refused_types;
 mod second_judge;
 mod small_sections;
 mod walked_tables;
 mod worked_files;
 
-use crate::{Btf, BtfError, BtfView};
 use btf_raw::BtfCause;
+use btf_types::{Btf, BtfError, BtfView};
 use std::alloc::{AllocError, Global};
 use std::test::Fail;
 

@@ -1,6 +1,6 @@
 //! Tables of worked files, through every call of a reader.
 
-use crate::{Btf, BtfError, BtfView, Records, TypeTable};
+use btf_types::{Btf, BtfError, BtfView, Records, TypeTable};
 use std::alloc::{AllocError, Global};
 use std::test::Fail;
 
