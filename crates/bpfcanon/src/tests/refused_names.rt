@@ -2,11 +2,8 @@
 
 use super::arena::arena_of;
 use super::chunked_names::{named, repeated};
-use crate::command::run_job;
-use crate::command_line::Job;
-use crate::outcome::Outcome;
-use crate::verb::Verb;
 use bpf_canon::{MemSink, MemSource};
+use bpf_jobs::{Job, Outcome, Verb, run_job};
 use bpf_words::Order;
 use std::alloc::{AllocError, Global};
 use std::test::Fail;

@@ -2,15 +2,15 @@
 
 mod changed_bytes;
 mod long_files;
-mod refused;
+mod refused_types;
 mod second_judge;
 mod small_sections;
 mod walked_tables;
 mod worked_files;
 
-use crate::tests::second_judge::first_fault;
-use crate::{Btf, BtfError, BtfView};
+use crate::type_files::second_judge::first_fault;
 use btf_raw::BtfCause;
+use btf_types::{Btf, BtfError, BtfView};
 use std::alloc::{AllocError, Global};
 use std::process::Abort;
 use std::test::Fail;

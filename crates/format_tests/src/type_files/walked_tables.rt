@@ -1,7 +1,7 @@
 //! Tables of worked files, through every call of a reader.
 
-use crate::tests::{BIG_ENUM64, EMPTY, TAGGED};
-use crate::{Btf, BtfView, Records, TypeTable};
+use crate::type_files::{BIG_ENUM64, EMPTY, TAGGED};
+use btf_types::{Btf, BtfView, Records, TypeTable};
 use std::alloc::{AllocError, Global};
 use std::process::Abort;
 use std::test::Fail;

@@ -2,8 +2,8 @@
 
 mod fields;
 
-use crate::tests::Fault;
-use crate::tests::second_judge::fields::field_fault;
+use crate::type_files::Fault;
+use crate::type_files::second_judge::fields::field_fault;
 use std::alloc::{AllocError, Global};
 
 /// Whether a fault holds, and which it is.

@@ -1,9 +1,9 @@
 //! Large texts with ample memory, and small ones with each growth refused in turn.
 
-use crate::{
+use bpf_insn::{Insn, Order, Reg, WideOf};
+use bpf_text::{
     LineCause, LineFault, ListError, listing, push_line, read_listing, read_listing_bytes,
 };
-use bpf_insn::{Insn, Order, Reg, WideOf};
 use bumpalo::Bump;
 use std::alloc::{AllocError, Global};
 use std::process::Abort;

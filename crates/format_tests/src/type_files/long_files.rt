@@ -1,8 +1,8 @@
 //! Names and sections as long as the limits allow.
 
-use crate::tests::{file, number, told};
-use crate::{Btf, BtfView, TypeTable};
+use crate::type_files::{file, number, told};
 use btf_raw::BtfCause;
+use btf_types::{Btf, BtfView, TypeTable};
 use std::alloc::{AllocError, Global};
 use std::test::Fail;
 

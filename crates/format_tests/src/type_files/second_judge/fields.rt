@@ -1,7 +1,7 @@
 //! What the second judge says of the fields of records.
 
-use crate::tests::Fault;
-use crate::tests::second_judge::{Record, by_place};
+use crate::type_files::Fault;
+use crate::type_files::second_judge::{Record, by_place};
 
 /// The text at an offset of the strings.
 fn text_at(strings: &[u8], off: u32) -> Option<&[u8]> {

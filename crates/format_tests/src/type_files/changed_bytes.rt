@@ -1,7 +1,7 @@
 //! Every change of one byte of worked files, before a second judge.
 
-use crate::tests::second_judge::first_fault;
-use crate::tests::{BIG_ENUM64, BIG_INT, MEMBER, STRINGS_FIRST, TAGGED, file, told};
+use crate::type_files::second_judge::first_fault;
+use crate::type_files::{BIG_ENUM64, BIG_INT, MEMBER, STRINGS_FIRST, TAGGED, file, told};
 use std::alloc::Global;
 use std::process::Abort;
 use std::test::Fail;

@@ -1,12 +1,12 @@
 //! Worked examples and hostile texts.
 
 mod every_word;
-mod memory;
+mod listing_memory;
 
-use crate::{
+use bpf_insn::{Insn, Order, decode_insns, insn_bytes};
+use bpf_text::{
     LineCause, LineFault, ListError, listing, push_line, read_listing, read_listing_bytes,
 };
-use bpf_insn::{Insn, Order, decode_insns, insn_bytes};
 use std::alloc::Allocator;
 use std::test::Fail;
 

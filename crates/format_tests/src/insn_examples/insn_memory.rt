@@ -1,6 +1,6 @@
 //! Large files with ample memory, and small ones with each growth refused in turn.
 
-use crate::{Insn, InsnError, Order, Reg, SlotCause, SlotFault, WideOf, decode_insns};
+use bpf_insn::{Insn, InsnError, Order, Reg, SlotCause, SlotFault, WideOf, decode_insns};
 use bumpalo::Bump;
 use std::alloc::{AllocError, Global};
 use std::process::Abort;

@@ -1,6 +1,6 @@
 //! Small sections of types, each with its first fault.
 
-use crate::tests::{edited, file, is_told};
+use crate::type_files::{edited, file, is_told};
 use btf_raw::BtfCause;
 use std::test::Fail;
 

@@ -1,11 +1,11 @@
 //! Worked files, and files that are cut or too long.
 
-use crate::BtfError;
-use crate::tests::{
+use crate::type_files::{
     BEYOND, BEYOND_AND_CUT, BIG_ENUM64, BIG_INT, EMPTY, EMPTY_NAME, MEMBER, SHARED_NAME,
     STRINGS_FIRST, TAGGED, edited, is_told, number, told,
 };
 use btf_raw::{BtfCause, BtfFault};
+use btf_types::BtfError;
 use std::alloc::Global;
 use std::process::Abort;
 use std::test::Fail;

@@ -1,8 +1,8 @@
 //! Each growth is refused in turn: an arena of one chunk, of which ever less was given away before.
 
-use crate::tests::{edited, file};
-use crate::{Btf, BtfError, BtfView, Head, TypeTable};
+use crate::type_files::{edited, file};
 use btf_raw::{BtfCause, BtfFault};
+use btf_types::{Btf, BtfError, BtfView, Head, TypeTable};
 use bumpalo::Bump;
 use std::alloc::{AllocError, Global};
 use std::process::Abort;
