@@ -12,10 +12,6 @@ use Rattle.std.proofs.KnownBytes.{Appends-trans, Appends-nil}
 use Rattle.bpf_canon.specs.device.Device.{CountsFailure}
 use Rattle.bpf_jobs.specs.Outcome.{Tells}
 
--- nothing to tell
-pub tells_nothing : (a : Option (List ℕ)) (f : ℕ) → Tells a a f f []
-tells_nothing a f = record { n = 0; took = Appends-nil a; whole = inl (omega arith, refl) }
-
 pub tells_whole : (a b : Option (List ℕ)) (f g : ℕ) (line : List ℕ) → Appends a b line → g ≡ f → Tells a b f g line
 tells_whole a b f g line h e =
     let P : List ℕ → Type 0 = λ x. Appends a b x in

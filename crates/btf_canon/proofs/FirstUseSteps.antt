@@ -39,12 +39,6 @@ contains_more xs y x (k, inside, is) = (k, omega (arith, inside, length_push xs 
 contains_last : (xs : List ℕ) (y x : ℕ) → x ≡ y → Contains (xs ++ y ∷ []) x
 contains_last xs y x e = (length xs, omega (arith, length_push xs y), get_or_push xs y x (length xs) refl ∙ sym e)
 
-pub nothing_marked : (marks : List ℕ) → ((k : ℕ) → get_or marks k 0 ≡ 0) → AreMarked [] marks
-nothing_marked marks none = record {
-  marked = λ off c. absurd (omega (arith, c.1));
-  only = λ off s. absurd (s (none off));
-}
-
 pub marked_more : (offs marks : List ℕ) (o : ℕ) → AreMarked offs marks → o < length marks → AreMarked (offs ++ o ∷ []) (set marks o 1)
 marked_more offs marks o are inside =
     let here : get_or (set marks o 1) o 0 ≡ 1 = get_or-set_same marks o 1 0 inside in

@@ -128,18 +128,6 @@ pub record LaidTo (section : List ℕ) (sorted out : List (List ℕ)) (placed : 
   pub there : (r : ℕ) → IsLast sorted r → get_or placed (r + 1) 0 ≢ 0 → Has out (at_rank sorted r)
   pub place : (r : ℕ) → IsLast sorted r → get_or placed (r + 1) 0 ≢ 0 → get_or placed (r + 1) 0 ≡ place_in out (at_rank sorted r)
 
-pub laid_none : (section : List ℕ) (sorted : List (List ℕ)) (placed : List ℕ) → length placed ≡ length sorted + 1 → ((k : ℕ) → get_or placed k 0 ≡ 0) → LaidTo section sorted [] placed [] 1
-laid_none section sorted placed long none = record {
-  are_spans = All-nil (IsSpan section);
-  texts = refl;
-  whole = refl;
-  ranks = long;
-  none = none 0;
-  absent = λ r a z h. h;
-  there = λ r a n. absurd (n (none (r + 1)));
-  place = λ r a n. absurd (n (none (r + 1)));
-}
-
 pub lays_one : (section : List ℕ) (sorted out : List (List ℕ)) (placed : List ℕ) (spans : List Span) (len r : ℕ) (s : Span) → LaidTo section sorted out placed spans len → IsSorted tail_cmp sorted → IsLast sorted r → get_or placed (r + 1) 0 ≡ 0
     → IsSpan section s → span_text section s ≡ at_rank sorted r → LaidTo section sorted (out ++ at_rank sorted r ∷ []) (set placed (r + 1) len) (spans ++ s ∷ []) (len + (length (at_rank sorted r) + 1))
 lays_one section sorted out placed spans len r s to up at empty span text =

@@ -69,44 +69,11 @@ pub record LongestTo (section slots : List ℕ) (ts : List Tail) (off : ℕ) : T
   pub used : All (IsUsed section slots) ts
   pub each : (o : ℕ) → o < off → get_or slots o 0 ≢ 0 → get_or section o 0 ≢ 0 → Any (IsWithin o) ts
 
-pub longest_none : (section slots : List ℕ) → LongestTo section slots [] 0
-longest_none section slots = record {
-  few = omega arith;
-  inside = omega arith;
-  keys = All-nil (HasKey section);
-  used = All-nil (IsUsed section slots);
-  each = λ o h. absurd (omega (arith, h));
-}
-
 any_more : (P : Tail → Type 0) (ts : List Tail) (t : Tail) → Any P ts → Any P (ts ++ t ∷ [])
 any_more P ts t (k, x, inside, is, p) = (k, x, omega (arith, inside, length-append ts (t ∷ [])), get_or_append_left ts (t ∷ []) x k inside ∙ is, p)
 
 any_last : (P : Tail → Type 0) (ts : List Tail) (t : Tail) → P t → Any P (ts ++ t ∷ [])
 any_last P ts t p = (length ts, t, omega (arith, length-append ts (t ∷ [])), get_or_at ts t [] t (length ts) refl, p)
-
-pub longest_nul : (section slots : List ℕ) (ts : List Tail) (off : ℕ) → LongestTo section slots ts off → off < length section → get_or section off 0 ≡ 0 → LongestTo section slots ts (off + 1)
-longest_nul section slots ts off to more nul = record {
-  few = omega (arith, to.few);
-  inside = omega (arith, more);
-  keys = to.keys;
-  used = to.used;
-  each = λ o h slot some. elim (cases_eq o off) [
-    | inl e ↦ absurd (some (ap (λ (k : ℕ). get_or section k 0) e ∙ nul))
-    | inr n ↦ to.each o (omega (arith, h, n)) slot some
-  ];
-}
-
-pub longest_unused : (section slots : List ℕ) (ts : List Tail) (off : ℕ) → LongestTo section slots ts off → off < length section → get_or slots off 0 ≡ 0 → LongestTo section slots ts (off + 1)
-longest_unused section slots ts off to more unused = record {
-  few = omega (arith, to.few);
-  inside = omega (arith, more);
-  keys = to.keys;
-  used = to.used;
-  each = λ o h slot some. elim (cases_eq o off) [
-    | inl e ↦ absurd (slot (ap (λ (k : ℕ). get_or slots k 0) e ∙ unused))
-    | inr n ↦ to.each o (omega (arith, h, n)) slot some
-  ];
-}
 
 pub longest_push : (section slots : List ℕ) (ts : List Tail) (off : ℕ) (t : Tail) → LongestTo section slots ts off → get_or section off 0 ≢ 0 → get_or slots off 0 ≢ 0 → t.start ≡ off → off ≤ t.end → t.end < length section → get_or section t.end 0 ≡ 0 → ((k : ℕ) → off ≤ k → k < t.end → get_or section k 0 ≢ 0) → t.key ≡ tail_key (take (t.end - off) (drop off section)) → t.before ≡ tail_key (text_before (take (t.end - off) (drop off section))) → LongestTo section slots (ts ++ t ∷ []) (t.end + 1)
 longest_push section slots ts off t to some slot start low high nul before key rest =
@@ -135,11 +102,3 @@ longest_push section slots ts off t to some slot start low high nul before key r
         ]
       ];
     }
-
-pub longest_all : (section slots : List ℕ) (ts : List Tail) (off : ℕ) → LongestTo section slots ts off → length section ≤ off → AreLongestOf section slots ts
-longest_all section slots ts off to h = record {
-  few = omega (arith, to.few, to.inside);
-  keys = to.keys;
-  used = to.used;
-  each = λ o below s f. to.each o (omega (arith, below, h)) s f;
-}

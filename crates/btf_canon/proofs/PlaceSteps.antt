@@ -100,9 +100,6 @@ pub its_place : (es : Entries) (ks : List (List ℕ)) (len : ℕ) (x : List ℕ)
 its_place es ks len [] v same a some f = absurd (both_ways (eqb 0 0) some refl)
 its_place es ks len (b ∷ x) v same a some f = found_value (place_in (texts_of es)) (b ∷ x) es v a.places f ∙ ap (λ (l : List (List ℕ)). place_in l (b ∷ x)) same
 
-pub empty_place : (ks : List (List ℕ)) (x : List ℕ) → eqb (length x) 0 ≡ true → 0 ≡ place_among ks x
-empty_place ks x t = sym (ap (place_among ks) (nil_from_length x (eqb-true (length x) 0 t)))
-
 copied_some : (r : Option (Bor ℕ)) (o : Option ℕ) → option_copied r ≡ o → is_some o ≡ true → IsSome r
 copied_some None o e t = absurd (false≢true (ap is_some e ∙ t))
 copied_some (Some b) o e t = refl

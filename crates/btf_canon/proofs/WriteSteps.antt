@@ -30,25 +30,9 @@ use Rattle.btf_types.proofs.TableLemmas.TableWalk.{take_more, get_is, get_or_is,
 pub pushed_two : (o : Order) (old xs ys : List ℕ) → (old ++ bytes_of o xs) ++ bytes_of o ys ≡ old ++ bytes_of o (xs ++ ys)
 pushed_two o old xs ys = append_assoc old (bytes_of o xs) (bytes_of o ys) ∙ ap (λ (t : List ℕ). old ++ t) (sym (flat_map-append (word32 o) xs ys))
 
--- one word more
-pub word_pushed : (o : Order) (old words : List ℕ) (k : ℕ) → k < length words → (old ++ bytes_of o (take k words)) ++ word32 o (get_or words k 0) ≡ old ++ bytes_of o (take (k + 1) words)
-word_pushed o old words k h =
-    let next : k + 1 ≡ suc k = omega arith in
-    let one : bytes_of o (get_or words k 0 ∷ []) ≡ word32 o (get_or words k 0) = append-nil (word32 o (get_or words k 0)) in
-    ap (λ (t : List ℕ). (old ++ bytes_of o (take k words)) ++ t) (sym one)
-    ∙ pushed_two o old (take k words) (get_or words k 0 ∷ [])
-    ∙ ap (λ (t : List ℕ). old ++ bytes_of o t) (rw next (sym (take-suc words k 0 h)))
-
 header_words : (o : Order) (t s : ℕ) → word16 o 0xeb9f ++ ((1 ∷ 0 ∷ []) ++ bytes_of o (24 ∷ 0 ∷ t ∷ t ∷ s ∷ [])) ≡ header o 24 0 t t s
 header_words Little t s = refl
 header_words Big t s = refl
-
-pub pushed_header : (o : Order) (old : List ℕ) (t s : ℕ) → ((old ++ word16 o 0xeb9f) ++ (1 ∷ 0 ∷ [])) ++ bytes_of o (24 ∷ 0 ∷ t ∷ t ∷ s ∷ []) ≡ old ++ header o 24 0 t t s
-pushed_header o old t s =
-    let words = bytes_of o (24 ∷ 0 ∷ t ∷ t ∷ s ∷ []) in
-    append_assoc (old ++ word16 o 0xeb9f) (1 ∷ 0 ∷ []) words
-    ∙ append_assoc old (word16 o 0xeb9f) ((1 ∷ 0 ∷ []) ++ words)
-    ∙ ap (λ (b : List ℕ). old ++ b) (header_words o t s)
 
 -- ---- records
 

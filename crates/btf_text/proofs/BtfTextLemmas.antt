@@ -8,12 +8,6 @@ use Rattle.btf_types.specs.tables.TableWords.{record_at}
 use Rattle.btf_types.proofs.TableLemmas.TableWalk.{take_more, records_more}
 use Rattle.btf_text.specs.BtfText.{item_line, record_text, text_of}
 
--- what three calls append, each a label with a number
-pub labelled_joined : {E : Type 0} (r : Result (Unit {0}) E) (old a b c x y z one two three : List ℕ) → one ≡ old ++ (a ++ x) → two ≡ one ++ (b ++ y)
-    → OnOk r (three ≡ two ++ (c ++ z)) → OnOk r (three ≡ old ++ (a ++ x ++ b ++ y ++ c ++ z))
-labelled_joined (Ok u) old a b c x y z one two three e f h = h ∙ rw (f, e) (search (rules, append_assoc))
-labelled_joined (Err e) old a b c x y z one two three f g h = h
-
 -- one item more
 pub item_shown : (old : List ℕ) (signed : Bool) (xs : List TypeItem) (k : ℕ) (x : TypeItem) → slice_get xs k ≡ Some x
     → (old ++ flat_map (item_line signed) (take k xs)) ++ item_line signed x ≡ old ++ flat_map (item_line signed) (take (k + 1) xs)
