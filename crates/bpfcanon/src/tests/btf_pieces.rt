@@ -1,7 +1,7 @@
 //! The text of BTF types in pieces: writes that fail, faults, and names that share their bytes.
 
 use super::btf_files::nameless;
-use super::running::{Pace, run, steady};
+use super::running::{Pace, check_failed_writes, run, steady};
 use bpf_words::{Order, push32};
 use std::alloc::{AllocError, Global};
 use std::test::Fail;
@@ -10,7 +10,6 @@ use std::test::Fail;
 #[test]
 fn each_piece_of_types_fails(rt: HostRuntime) -> Result<(), Fail> {
     let (file, text) = nameless(rt.alloc(), 0, 900)?;
-    // how many bytes go at a time, and how many have gone when the write of this number fails
     let cases: [(usize, u64, usize); 12] = [
         (1000, 1, 0),
         (1000, 2, 1000),
@@ -25,25 +24,7 @@ fn each_piece_of_types_fails(rt: HostRuntime) -> Result<(), Fail> {
         (1, 15_192, 15_191),
         (4096, 4, 8205),
     ];
-    for (piece, fuse, taken) in cases {
-        let pace = Pace {
-            write_fuse: Some(fuse),
-            ..steady(piece)
-        };
-        let ran = run(rt.alloc(), "btf-show", &file, pace)?;
-        assert_eq!(rt; ran.status, 3, "{piece} at a time, write {fuse}");
-        assert_eq!(rt;
-            ran.faults.as_slice(),
-            b"write failed\n".as_slice(),
-            "{piece} at a time, write {fuse}"
-        );
-        assert_eq!(rt; ran.output.len(), taken, "{piece} at a time, write {fuse}");
-        assert!(rt;
-            text.starts_with(&ran.output),
-            "{piece} at a time, write {fuse}"
-        );
-    }
-    Ok(())
+    check_failed_writes(&rt, rt.alloc(), "btf-show", &file, &text, &cases)
 }
 
 // The last write is the 16th by 1,000 bytes, the 15,192nd by one, and the 5th by 4,096.

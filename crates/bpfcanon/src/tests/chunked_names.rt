@@ -1,6 +1,6 @@
 //! The text of BTF types with long names: chunks that end amid characters, and writes that fail amid a name.
 
-use super::running::{Pace, run, steady};
+use super::running::{check_failed_writes, run, steady};
 use bpf_words::{Order, push32};
 use std::alloc::{AllocError, Global};
 use std::test::Fail;
@@ -79,7 +79,6 @@ fn characters_that_are_cut_are_shown_whole(rt: HostRuntime) -> Result<(), Fail> 
 #[test]
 fn writes_fail_amid_a_name(rt: HostRuntime) -> Result<(), Fail> {
     let (file, text) = control_typedef(rt.alloc(), 5000)?;
-    // how many bytes go at a time, and how many have gone when the write of this number fails
     let cases: [(usize, u64, usize); 10] = [
         (1000, 1, 0),
         (1000, 9, 8000),
@@ -92,23 +91,5 @@ fn writes_fail_amid_a_name(rt: HostRuntime) -> Result<(), Fail> {
         (1, 20_014, 20_013),
         (1, 20_022, 20_021),
     ];
-    for (piece, fuse, taken) in cases {
-        let pace = Pace {
-            write_fuse: Some(fuse),
-            ..steady(piece)
-        };
-        let ran = run(rt.alloc(), "btf-show", &file, pace)?;
-        assert_eq!(rt; ran.status, 3, "{piece} at a time, write {fuse}");
-        assert_eq!(rt;
-            ran.faults.as_slice(),
-            b"write failed\n".as_slice(),
-            "{piece} at a time, write {fuse}"
-        );
-        assert_eq!(rt; ran.output.len(), taken, "{piece} at a time, write {fuse}");
-        assert!(rt;
-            text.starts_with(&ran.output),
-            "{piece} at a time, write {fuse}"
-        );
-    }
-    Ok(())
+    check_failed_writes(&rt, rt.alloc(), "btf-show", &file, &text, &cases)
 }

@@ -1,7 +1,7 @@
 //! Devices that fail at each of their calls in turn.
 
 use super::btf_files::{BIG_INT, INT, NO_TYPES, STRUCT};
-use super::running::{Pace, run, steady};
+use super::running::{Pace, check_failed_writes, run, steady};
 use std::alloc::{AllocError, Global};
 use std::test::Fail;
 
@@ -167,7 +167,6 @@ fn exits(alloc: Global, count: usize) -> Result<(Vec<u8>, Vec<u8>), AllocError> 
 #[test]
 fn each_piece_fails(rt: HostRuntime) -> Result<(), Fail> {
     let (insns, lines) = exits(rt.alloc(), 3000)?;
-    // how many bytes go at a time, and how many have gone when the write of this number fails
     let cases: [(usize, u64, usize); 12] = [
         (1000, 1, 0),
         (1000, 2, 1000),
@@ -182,25 +181,7 @@ fn each_piece_fails(rt: HostRuntime) -> Result<(), Fail> {
         (1, 15_000, 14_999),
         (4096, 4, 8195),
     ];
-    for (piece, fuse, taken) in cases {
-        let pace = Pace {
-            write_fuse: Some(fuse),
-            ..steady(piece)
-        };
-        let ran = run(rt.alloc(), "insn-show", &insns, pace)?;
-        assert_eq!(rt; ran.status, 3, "{piece} at a time, write {fuse}");
-        assert_eq!(rt;
-            ran.faults.as_slice(),
-            b"write failed\n".as_slice(),
-            "{piece} at a time, write {fuse}"
-        );
-        assert_eq!(rt; ran.output.len(), taken, "{piece} at a time, write {fuse}");
-        assert!(rt;
-            lines.starts_with(&ran.output),
-            "{piece} at a time, write {fuse}"
-        );
-    }
-    Ok(())
+    check_failed_writes(&rt, rt.alloc(), "insn-show", &insns, &lines, &cases)
 }
 
 // The last write is the 16th by 1,000 bytes, and the 15,000th by one.

@@ -120,3 +120,35 @@ pub fn check(rt: &impl Abort, alloc: Global, example: Example, pace: Pace) -> Re
     );
     Ok(())
 }
+
+/// Where the bytes go a piece at a time and a write fails, the sink has taken a prefix of what is right.
+///
+/// Each case is how many bytes go at a time, the number of the write that fails, and how many have gone by then.
+pub fn check_failed_writes(
+    rt: &impl Abort,
+    alloc: Global,
+    line: &str,
+    input: &[u8],
+    right: &[u8],
+    cases: &[(usize, u64, usize)],
+) -> Result<(), Fail> {
+    for (piece, fuse, taken) in cases {
+        let pace = Pace {
+            write_fuse: Some(*fuse),
+            ..steady(*piece)
+        };
+        let ran = run(alloc, line, input, pace)?;
+        assert_eq!(rt; ran.status, 3, "{piece} at a time, write {fuse}");
+        assert_eq!(rt;
+            ran.faults.as_slice(),
+            b"write failed\n".as_slice(),
+            "{piece} at a time, write {fuse}"
+        );
+        assert_eq!(rt; ran.output.len(), *taken, "{piece} at a time, write {fuse}");
+        assert!(rt;
+            right.starts_with(&ran.output),
+            "{piece} at a time, write {fuse}"
+        );
+    }
+    Ok(())
+}
