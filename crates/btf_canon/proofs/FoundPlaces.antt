@@ -79,6 +79,7 @@ module _ (section slots offsets : List ℕ) (texts tails : List Tail) (found : L
           last = h.last;
           is_host = longest_tell_host xs (map (tail_text section) texts) are (text_from section off) ∙ h.host (kept (map (tail_text section) texts)) order;
           before = h.before;
+          long = h.long;
         };
   }
 

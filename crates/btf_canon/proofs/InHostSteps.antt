@@ -12,7 +12,7 @@ use Rattle.btf_canon.specs.Tails.{tail_text}
 use Rattle.btf_canon.specs.Longest.{IsUsed, IsWithin, AreLongestOf}
 use Rattle.btf_canon.specs.Ranks.{AreRanked}
 use Rattle.btf_canon.specs.UsedOffsets.{number_of}
-use Rattle.btf_canon.specs.InHost.{IsInHost, no_host, found_of, FindsWithin, AreInHosts}
+use Rattle.btf_canon.specs.InHost.{IsInHost, no_host, found_of, FindsWithin, AreInHosts, IsAlone, AreAlone}
 use Rattle.btf_canon.specs.declared.shared_strings.tails.Tail.{Tail}
 use Rattle.btf_canon.specs.declared.shared_strings.hosts_by_rank.InHost.{InHost}
 use Rattle.btf_canon.proofs.UsedSteps.{number_tells, number_inside, used_inside}
@@ -28,7 +28,7 @@ passed_end ms zero j l r e low p = subst (λ (m : ℕ). Ends (at_rank ms j) (at_
 passed_end ms (suc n) j l r e low p =
     Ends-trans (at_rank ms j) (at_rank ms (j + 1)) (at_rank ms r) (Ends-from_suffix _ _ (p j low (omega (arith, e)))) (passed_end ms n (j + 1) l r (omega (arith, e)) (omega (arith, low)) p)
 
-module _ (section slots : List ℕ) (ts : List Tail) (common lower hosts : List ℕ) (ranked : AreRanked (map (tail_text section) ts) common lower hosts) (used : All (IsUsed section slots) ts) where
+module _ (section slots : List ℕ) (ts : List Tail) (common hosts : List ℕ) (ranked : AreRanked (map (tail_text section) ts) common hosts) (used : All (IsUsed section slots) ts) where
   abbrev texts : List (List ℕ)
   texts = map (tail_text section) ts
 
@@ -72,8 +72,9 @@ module _ (section slots : List ℕ) (ts : List Tail) (common lower hosts : List 
       )
 
   pub in_host : (rank off l : ℕ) → rank < length ts → IsWithin off (get_or ts rank no_tail) → l ≤ rank → ((j : ℕ) → l < j → j ≤ rank → (get_or ts rank no_tail).end - off ≤ get_or common j 0) → get_or common l 0 < (get_or ts rank no_tail).end - off
-      → (h : InHost) → h.host ≡ get_or hosts l 0 + 1 → h.before + ((get_or ts rank no_tail).end - off) ≡ (get_or ts (get_or hosts l 0) no_tail).end - (get_or ts (get_or hosts l 0) no_tail).start → IsInHost texts (text_from section off) h
-  in_host rank off l inside within below before less h host_is before_is =
+      → (h : InHost) → h.host ≡ get_or hosts l 0 + 1 → h.before + ((get_or ts rank no_tail).end - off) ≡ (get_or ts (get_or hosts l 0) no_tail).end - (get_or ts (get_or hosts l 0) no_tail).start
+      → h.len ≡ (get_or ts (get_or hosts l 0) no_tail).end - (get_or ts (get_or hosts l 0) no_tail).start → IsInHost texts (text_from section off) h
+  in_host rank off l inside within below before less h host_is before_is len_is =
       let is = first rank off l inside within below before less in
       let n = next rank l inside below in
       record {
@@ -83,6 +84,7 @@ module _ (section slots : List ℕ) (ts : List Tail) (common lower hosts : List 
         last = n.stops;
         host = λ ks order. rank_tells_host ks texts order (text_from section off) l rank (get_or hosts l 0) (omega (arith, inside, length-map ts (tail_text section))) (suffix_from_Ends _ _ (ends_rank rank off inside within)) is n;
         before = omega (arith, before_is, within_length section slots (get_or ts rank no_tail) off (used rank no_tail inside) within, length_of_rank (get_or hosts l 0) (next_inside rank l inside below));
+        long = len_is ∙ sym (length_of_rank (get_or hosts l 0) (next_inside rank l inside below));
       }
 
   -- the step from what was read: the text of the rank, the first rank, its host, and the host's text
@@ -90,7 +92,7 @@ module _ (section slots : List ℕ) (ts : List Tail) (common lower hosts : List 
     pub low : (get_or ts rank no_tail).start ≤ off
     pub shorter : t.end - off ≤ u.end - u.start
     pub back : (j : ℕ) → l < j → j ≤ from → (get_or ts rank no_tail).end - off ≤ get_or common j 0
-    pub found : (h : InHost) → h.host ≡ v + 1 → h.before + (t.end - off) ≡ u.end - u.start → IsInHost texts (text_from section off) h
+    pub found : (h : InHost) → h.host ≡ v + 1 → h.before + (t.end - off) ≡ u.end - u.start → h.len ≡ u.end - u.start → IsInHost texts (text_from section off) h
 
   pub steps_back : (rank off from l v : ℕ) (s t u : Tail) (numbers : List ℕ) → rank < length ts → s ≡ get_or ts rank s → t ≡ get_or ts rank t → s.start ≤ off → off < t.end → from ≤ rank
       → ((j : ℕ) → from < j → j ≤ rank → (get_or ts rank no_tail).end - off ≤ get_or common j 0) → numbers ≡ common → l ≤ from → ((j : ℕ) → l < j → j ≤ from → t.end - off ≤ get_or numbers j 0) → get_or numbers l 0 < t.end - off
@@ -118,17 +120,15 @@ module _ (section slots : List ℕ) (ts : List Tail) (common lower hosts : List 
         low = from_start;
         shorter = omega (arith, no_longer rank off l inside within low_enough all less_here, u_len, ends);
         back = back_here;
-        found = λ h a b. in_host rank off l inside within low_enough all less_here h (omega (arith, a, host_is)) (omega (arith, b, u_len, ends));
+        found = λ h a b e. in_host rank off l inside within low_enough all less_here h (omega (arith, a, host_is)) (omega (arith, b, u_len, ends)) (e ∙ u_len);
       }
 
-  -- the same for a whole text, from its rank on
-  pub steps_whole : (rank l v len : ℕ) (t u : Tail) (numbers : List ℕ) → rank < length ts → t ≡ get_or ts rank t → len ≡ t.end - t.start → numbers ≡ common → l ≤ rank → ((j : ℕ) → l < j → j ≤ rank → len ≤ get_or numbers j 0) → get_or numbers l 0 < len
-      → v ≡ get_or hosts l v → u ≡ get_or ts v u → StepsBack rank t.start rank l v t u
-  steps_whole rank l v len t u numbers inside t_is len_is same back more less v_is u_is =
-      let t_end : t ≡ get_or ts rank no_tail = t_is ∙ get_or_default ts rank t no_tail inside in
-      let some = (used rank no_tail inside).some in
-      let high : t.start < t.end = omega (arith, some, ap (λ (k : Tail). k.start) t_end, ap (λ (k : Tail). k.end) t_end) in
-      steps_back rank t.start rank l v t t u numbers inside t_is t_is (omega arith) high (omega arith) (λ j a b. absurd (omega (arith, a, b))) same back (λ j a b. omega (arith, more j a b, len_is)) (omega (arith, less, len_is)) v_is u_is
+  -- the same for a text that is alone, from its rank on
+  pub steps_alone : (rank v : ℕ) (t u : Tail) → rank < length ts → t ≡ get_or ts rank t → AreAlone slots common ts (length ts) → v ≡ get_or hosts rank v → u ≡ get_or ts v u → StepsBack rank t.start rank rank v t u
+  steps_alone rank v t u inside t_is alone v_is u_is =
+      let at : IsAlone slots common rank t = subst (IsAlone slots common rank) (sym t_is) (alone rank t inside inside) in
+      let high : t.start < t.end = omega (arith, at.less) in
+      steps_back rank t.start rank rank v t t u common inside t_is t_is (omega arith) high (omega arith) (λ j a b. absurd (omega (arith, a, b))) refl (omega arith) (λ j a b. absurd (omega (arith, a, b))) at.less v_is u_is
 
   pub host_inside : (rank l v : ℕ) → rank < length ts → l ≤ rank → v ≡ get_or hosts l v → v < length ts
   host_inside rank l v inside low v_is =

@@ -1,11 +1,13 @@
 -- Steps of the loop that lays out hosts in the order of first use.
-use Rattle.std.proofs.Common.{◌≡◌, ◌≢◌, ℕ, ◌+◌, ◌-◌, ◌<◌, ◌≤◌, Bool, true, false, not, ◌⊎◌, inl, inr, List, [], ◌∷◌, ◌++◌, length, map, get_or, set, take, drop, refl, sym, ap, ◌∙◌, subst, arith, append_assoc, take-append-drop}
-use Rattle.std.specs.List.{filter, list_any, All}
+use Rattle.std.proofs.Common.{◌≡◌, ◌≢◌, ℕ, ◌+◌, ◌<◌, ◌≤◌, Bool, true, false, not, ◌⊎◌, inl, inr, List, [], ◌∷◌, ◌++◌, length, map, get_or, set, take, drop, refl, sym, ap, ◌∙◌, subst, arith, append_assoc, take-append-drop}
+use Rattle.std.specs.List.{filter, flat_map, list_any, All}
 use Rattle.std.specs.List.Sorted.{IsSorted}
 use Rattle.std.proofs.lemmas.Bool.{both_ways, cases_Bool, cases_eq, cases_lt, cond-true, cond-false, false_from_ne_true}
-use Rattle.std.proofs.lemmas.List.{append-nil, map-append, length-set, get_or-set_same, get_or-set_other, get_or-map, get_or_default, map_more, nil_from_length}
-use Rattle.std.proofs.lemmas.List.Elements.{filter-append, All-append, All-cons, All-nil}
-use Rattle.btf_types.specs.Names.{kept, table_of, place_in}
+use Rattle.std.proofs.lemmas.List.{append-nil, map-append, length-set, get_or-set_same, get_or-set_other, get_or_default, map_more, nil_from_length, get_or_read}
+use Rattle.std.proofs.lemmas.List.Concat.{flat_map-append}
+use Rattle.std.proofs.lemmas.List.Elements.{filter-append}
+use Rattle.btf_types.specs.Names.{kept, with_nul, table_of, place_in}
+use Rattle.btf_raw.specs.Header.{HasNulEnds}
 use Rattle.btf_types.specs.Reading.{text_from}
 use Rattle.btf_types.specs.strings.SharedNames.{is_suffix, is_proper_suffix, tail_cmp, hosts, host, shared_table}
 use Rattle.btf_types.specs.strings.CommonTails.{at_rank}
@@ -16,15 +18,14 @@ use Rattle.btf_types.proofs.StringLemmas.CommonTails.{ranks_are_together}
 use Rattle.btf_types.proofs.StringLemmas.Longest.{Has-kept_some}
 use Rattle.btf_canon.specs.InHost.{found_of, no_host}
 use Rattle.btf_canon.specs.UsedOffsets.{number_of}
-use Rattle.btf_canon.specs.Longest.{IsUsed}
 use Rattle.btf_canon.specs.Tails.{tail_text}
 use Rattle.btf_canon.specs.declared.shared_strings.tails.Tail.{Tail}
-use Rattle.btf_canon.specs.HostLayout.{span_text, IsSpan, IsAtHost, IsFound, AreLaidOut}
+use Rattle.btf_canon.specs.HostLayout.{span_bytes, IsSpan, HasText, IsAtHost, IsFound, AreLaidOut}
 use Rattle.btf_canon.specs.declared.shared_strings.hosts_by_rank.InHost.{InHost}
 use Rattle.btf_canon.specs.declared.shared_strings.host_layout.Span.{Span}
 use Rattle.btf_canon.proofs.KeptSteps.{Has_cases, kept_empty, kept_known, kept_new, place_stays, place_last, length-table_push}
-use Rattle.btf_canon.proofs.LongestSteps.{tail_text_is, used_length}
 use Rattle.btf_canon.proofs.FoundHosts.{no_text, text_some, in_map}
+use Rattle.btf_canon.proofs.TableSpans.{span_of}
 
 -- no other of the names properly ends with x
 abbrev pub is_own : List (List ℕ) → List ℕ → Bool
@@ -120,7 +121,7 @@ rank_same sorted r s up a b e = elim (cases_eq r s) [
 -- laid out so far
 pub record LaidTo (section : List ℕ) (sorted out : List (List ℕ)) (placed : List ℕ) (spans : List Span) (len : ℕ) : Type 0 where
   pub are_spans : All (IsSpan section) spans
-  pub texts : map (span_text section) spans ≡ out
+  pub texts : flat_map (span_bytes section) spans ≡ flat_map with_nul out
   pub whole : len ≡ length (table_of out)
   pub ranks : length placed ≡ length sorted + 1
   pub none : get_or placed 0 0 ≡ 0
@@ -128,17 +129,17 @@ pub record LaidTo (section : List ℕ) (sorted out : List (List ℕ)) (placed : 
   pub there : (r : ℕ) → IsLast sorted r → get_or placed (r + 1) 0 ≢ 0 → Has out (at_rank sorted r)
   pub place : (r : ℕ) → IsLast sorted r → get_or placed (r + 1) 0 ≢ 0 → get_or placed (r + 1) 0 ≡ place_in out (at_rank sorted r)
 
-pub lays_one : (section : List ℕ) (sorted out : List (List ℕ)) (placed : List ℕ) (spans : List Span) (len r : ℕ) (s : Span) → LaidTo section sorted out placed spans len → IsSorted tail_cmp sorted → IsLast sorted r → get_or placed (r + 1) 0 ≡ 0
-    → IsSpan section s → span_text section s ≡ at_rank sorted r → LaidTo section sorted (out ++ at_rank sorted r ∷ []) (set placed (r + 1) len) (spans ++ s ∷ []) (len + (length (at_rank sorted r) + 1))
-lays_one section sorted out placed spans len r s to up at empty span text =
+pub lays_one : (section : List ℕ) (sorted out : List (List ℕ)) (placed : List ℕ) (spans new : List Span) (len r : ℕ) (s : Span) → LaidTo section sorted out placed spans len → IsSorted tail_cmp sorted → IsLast sorted r → get_or placed (r + 1) 0 ≡ 0
+    → HasText section spans new s → span_bytes section s ≡ with_nul (at_rank sorted r) → LaidTo section sorted (out ++ at_rank sorted r ∷ []) (set placed (r + 1) len) new (len + (length (at_rank sorted r) + 1))
+lays_one section sorted out placed spans new len r s to up at empty more text =
     let x = at_rank sorted r in
     let gone : ¬ Has out x = to.absent r at empty in
     let some : 0 < len = omega (arith, to.whole) in
     let here : get_or (set placed (r + 1) len) (r + 1) 0 ≡ len = get_or-set_same placed (r + 1) len 0 (omega (arith, to.ranks, at.inside)) in
     let other = λ (k : ℕ) (n : k ≢ r + 1). get_or-set_other placed (r + 1) k len 0 n in
     record {
-      are_spans = All-append (IsSpan section) spans (s ∷ []) to.are_spans (All-cons (IsSpan section) s [] span (All-nil (IsSpan section)));
-      texts = map-append (span_text section) spans (s ∷ []) ∙ ap (λ (l : List (List ℕ)). l ++ span_text section s ∷ []) to.texts ∙ ap (λ (t : List ℕ). out ++ t ∷ []) text;
+      are_spans = more.are_spans;
+      texts = more.bytes ∙ ap (λ (t : List ℕ). t ++ span_bytes section s) to.texts ∙ ap (λ (t : List ℕ). flat_map with_nul out ++ t) (text ∙ sym (append-nil (with_nul x))) ∙ sym (flat_map-append with_nul out (x ∷ []));
       whole = omega (arith, to.whole, length-table_push out x);
       ranks = length-set placed (r + 1) len ∙ to.ranks;
       none = other 0 (λ e. omega (arith, e)) ∙ to.none;
@@ -211,22 +212,6 @@ module _ (sorted xs : List (List ℕ)) (x : List ℕ) (h : InHost) (a : IsAtHost
   pub host_there : Has (hosts xs) (at_rank sorted a.rank)
   host_there = subst (Has (hosts xs)) a.is_host (host_is (kept xs) x in_kept).host
 
--- the span of the text of a rank
-pub record SpanOf (section : List ℕ) (sorted : List (List ℕ)) (rank : ℕ) (s : Span) : Type 0 where
-  pub span : IsSpan section s
-  pub text : span_text section s ≡ at_rank sorted rank
-  pub long : length (at_rank sorted rank) ≡ s.end - s.start
-
-pub span_of : (section slots : List ℕ) (ts : List Tail) → All (IsUsed section slots) ts → (rank : ℕ) (t : Tail) → rank < length ts → t ≡ get_or ts rank t → SpanOf section (map (tail_text section) ts) rank (record { start = t.start; end = t.end })
-span_of section slots ts used rank t inside is =
-    let u : IsUsed section slots t = subst (IsUsed section slots) (sym is) (used rank t inside) in
-    let here : at_rank (map (tail_text section) ts) rank ≡ tail_text section t = get_or-map (tail_text section) ts rank t [] inside ∙ ap (tail_text section) (sym is) in
-    record {
-      span = record { up = omega (arith, u.some); inside = u.inside; nul = u.nul };
-      text = sym (tail_text_is section t (omega (arith, u.some)) (omega (arith, u.inside))) ∙ sym here;
-      long = ap (λ (l : List ℕ). length l) here ∙ used_length section slots t u;
-    }
-
 -- the step of one offset, whose number is n
 module _ (section slots offsets : List ℕ) (sorted : List (List ℕ)) (found : List InHost) (k n : ℕ) (inside : k < length offsets) (n_is : n ≡ number_of slots (get_or offsets k 0))
     (all : All (IsFound section slots sorted (map (text_from section) offsets) found) offsets) where
@@ -266,6 +251,10 @@ module _ (section slots offsets : List ℕ) (sorted : List (List ℕ)) (found : 
     ]
   ]
 
+  -- a name that is its own host is as long as that
+  pub own_long : here.host ≢ 0 → here.before ≡ 0 → here.len ≡ length own
+  own_long h b = let a = at_here h in omega (arith, a.long, a.before, b)
+
   pub placed_inside : (placed : List ℕ) (spans : List Span) (len : ℕ) → LaidTo section sorted (laid names (taken k)) placed spans len → here.host < length placed
   placed_inside placed spans len to = elim (cases_eq here.host 0) [
     | inl z ↦ omega (arith, z, to.ranks)
@@ -284,22 +273,47 @@ module _ (section slots offsets : List ℕ) (sorted : List (List ℕ)) (found : 
       let there : Has (laid names (taken k)) (at_rank sorted a.rank) = to.there a.rank (host_last sorted names own here a has (some_here h)) (λ z. p (ap (λ (j : ℕ). get_or placed j 0) a.numbered ∙ z)) in
       sym (more ∙ laid_known names (taken k) own (subst (Has (laid names (taken k))) (own_text sorted names own here a has (some_here h) b) there))
 
-  pub lays : (placed : List ℕ) (spans : List Span) (len v : ℕ) (s : Span) → LaidTo section sorted (laid names (taken k)) placed spans len → IsSorted tail_cmp sorted → here.host ≢ 0 → here.before ≡ 0 → get_or placed here.host 0 ≡ 0
-      → SpanOf section sorted (here.host - 1) s → v ≡ s.end - s.start → LaidTo section sorted (laid names (taken (k + 1))) (set placed here.host len) (spans ++ s ∷ []) (len + (v + 1))
-  lays placed spans len v s to up h b p span v_is =
+  -- the table with the text of a host that isn't there yet, and what is laid out then
+  pub record LaysText (placed : List ℕ) (spans : List Span) (len v : ℕ) (s : Span) : Type 0 where
+    pub span : IsSpan section s
+    pub whole : len + (v + 1) ≡ length (table_of (laid names (taken (k + 1))))
+    pub laid_out : (new : List Span) → HasText section spans new s → LaidTo section sorted (laid names (taken (k + 1))) (set placed here.host len) new (len + (v + 1))
+
+  lays : (placed : List ℕ) (spans : List Span) (len v : ℕ) (s : Span) → LaidTo section sorted (laid names (taken k)) placed spans len → IsSorted tail_cmp sorted → here.host ≢ 0 → here.before ≡ 0 → get_or placed here.host 0 ≡ 0
+      → IsSpan section s → span_bytes section s ≡ with_nul own → v ≡ length own → LaysText placed spans len v s
+  lays placed spans len v s to up h b p span bytes v_is =
       let a = at_here h in
       let at = host_last sorted names own here a has (some_here h) in
-      let rank_is : here.host - 1 ≡ a.rank = omega (arith, a.numbered) in
       let text : at_rank sorted a.rank ≡ own = own_text sorted names own here a has (some_here h) b in
       let free : get_or placed (a.rank + 1) 0 ≡ 0 = ap (λ (j : ℕ). get_or placed j 0) (sym a.numbered) ∙ p in
       let out : laid names (taken k) ++ at_rank sorted a.rank ∷ [] ≡ laid names (taken (k + 1)) =
       ap (λ (t : List ℕ). laid names (taken k) ++ t ∷ []) text
       ∙ sym (more ∙ laid_new names (taken k) own (λ e. omega (arith, some_here h, ap (λ (t : List ℕ). length t) e)) (own_yes sorted names own here a has (some_here h) b) (λ i. to.absent a.rank at free (subst (Has (laid names (taken k))) (sym text) i))) in
-      let laid_out = lays_one section sorted (laid names (taken k)) placed spans len a.rank s to up at free span.span (span.text ∙ ap (at_rank sorted) rank_is) in
-      let len_is : length (at_rank sorted a.rank) ≡ v = omega (arith, span.long, v_is, ap (λ (j : ℕ). length (at_rank sorted j)) rank_is) in
-      subst (λ (m : ℕ). LaidTo section sorted (laid names (taken (k + 1))) (set placed m len) (spans ++ s ∷ []) (len + (v + 1))) (sym a.numbered)
-      (subst (λ (m : ℕ). LaidTo section sorted (laid names (taken (k + 1))) (set placed (a.rank + 1) len) (spans ++ s ∷ []) (len + (m + 1))) len_is
-      (subst (λ (l : List (List ℕ)). LaidTo section sorted l (set placed (a.rank + 1) len) (spans ++ s ∷ []) (len + (length (at_rank sorted a.rank) + 1))) out laid_out))
+      let len_is : length (at_rank sorted a.rank) ≡ v = ap (λ (t : List ℕ). length t) text ∙ sym v_is in
+      let long = ap (λ (l : List (List ℕ)). length (table_of l)) out in
+      record {
+        span = span;
+        whole = omega (arith, to.whole, len_is, length-table_push (laid names (taken k)) (at_rank sorted a.rank), long);
+        laid_out = λ new more_bytes.
+            let laid_one = lays_one section sorted (laid names (taken k)) placed spans new len a.rank s to up at free more_bytes (bytes ∙ ap with_nul (sym text)) in
+            subst (λ (m : ℕ). LaidTo section sorted (laid names (taken (k + 1))) (set placed m len) new (len + (v + 1))) (sym a.numbered)
+            (subst (λ (m : ℕ). LaidTo section sorted (laid names (taken (k + 1))) (set placed (a.rank + 1) len) new (len + (m + 1))) len_is
+            (subst (λ (l : List (List ℕ)). LaidTo section sorted l (set placed (a.rank + 1) len) new (len + (length (at_rank sorted a.rank) + 1))) out laid_one));
+      }
+
+-- the same from what was read: whether the host is placed
+pub lays_read : (section slots offsets : List ℕ) (ts : List Tail) (found : List InHost) (k n : ℕ) (inside : k < length offsets) (n_is : n ≡ number_of slots (get_or offsets k 0)) (all : All (IsFound section slots (map (tail_text section) ts) (map (text_from section) offsets) found) offsets)
+    → (placed : List ℕ) (spans : List Span) (len there : ℕ) → LaidTo section (map (tail_text section) ts) (laid (map (text_from section) offsets) (map (text_from section) (take k offsets))) placed spans len → IsSorted tail_cmp (map (tail_text section) ts) → HasNulEnds section
+    → (get_or found n no_host).host ≢ 0 → (get_or found n no_host).before ≡ 0 → there ≡ get_or placed (get_or found n no_host).host there → there ≡ 0
+    → LaysText section slots offsets (map (tail_text section) ts) found k n inside n_is all placed spans len (get_or found n no_host).len (record { start = get_or offsets k 0; end = get_or offsets k 0 + (get_or found n no_host).len })
+lays_read section slots offsets ts found k n inside n_is all placed spans len there to up ends h b there_is z =
+    let sorted = map (tail_text section) ts in
+    let here = get_or found n no_host in
+    let off = get_or offsets k 0 in
+    let below : here.host < length placed = placed_inside section slots offsets sorted found k n inside n_is all placed spans len to in
+    let long : here.len ≡ length (text_from section off) = own_long section slots offsets sorted found k n inside n_is all h b in
+    let span = span_of section off here.len ends (all k 0 inside).inside long in
+    lays section slots offsets sorted found k n inside n_is all placed spans len here.len (record { start = off; end = off + here.len }) to up h b (sym (get_or_read placed here.host there below there_is 0) ∙ z) span.span span.bytes long
 
 pub laid_room : (section offsets : List ℕ) (j : ℕ) → length (table_of (laid (map (text_from section) offsets) (map (text_from section) (take j offsets)))) ≤ length (shared_table (map (text_from section) offsets))
 laid_room section offsets j =

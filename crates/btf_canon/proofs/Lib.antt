@@ -20,6 +20,7 @@ pub mod TailKeys
 pub mod SortedTails
 pub mod TextLemmas
 pub mod RankSteps
+pub mod CommonBits
 pub mod KeyBytes
 pub mod LongestSteps
 pub mod FoundHosts
@@ -28,4 +29,5 @@ pub mod OffsetMarkSteps
 pub mod InHostSteps
 pub mod LayoutSteps
 pub mod FoundPlaces
+pub mod SpanSteps
 pub mod TableSpans

@@ -9,7 +9,7 @@ use Rattle.btf_types.specs.Reading.{before_nul, text_from}
 use Rattle.btf_types.proofs.StringLemmas.Suffixes.{Ends, Ends-refl}
 use Rattle.btf_canon.specs.TailKeys.{tail_key}
 use Rattle.btf_canon.specs.Tails.{end_in, start_in, tail_text, text_before, HasKey}
-use Rattle.btf_canon.specs.Longest.{IsUsed, IsWithin, AreLongestOf}
+use Rattle.btf_canon.specs.Longest.{IsUsed, IsWithin}
 use Rattle.btf_canon.specs.declared.shared_strings.tails.Tail.{Tail}
 use Rattle.btf_canon.proofs.TextLemmas.{text_is}
 
@@ -21,7 +21,7 @@ before_from (suc n) (suc b ∷ xs) h f =
     let i = before_from n xs (omega (arith, h)) (λ k l. f (suc k) (omega (arith, l))) in
     (suc b ∷ i.0, ap (λ (t : List ℕ). suc b ∷ t) i.1)
 
-drop_more : (m n : ℕ) (xs : List ℕ) → drop n (drop m xs) ≡ drop (m + n) xs
+pub drop_more : (m n : ℕ) (xs : List ℕ) → drop n (drop m xs) ≡ drop (m + n) xs
 drop_more zero n xs = ap (λ (k : ℕ). drop k xs) (let e : n ≡ 0 + n = omega arith in e)
 drop_more (suc m) n [] = drop-nil {A = ℕ} n ∙ sym (drop-nil {A = ℕ} (suc m + n))
 drop_more (suc m) n (b ∷ xs) = drop_more m n xs ∙ ap (λ (k : ℕ). drop k (b ∷ xs)) (let e : suc (m + n) ≡ suc m + n = omega arith in e)

@@ -1,5 +1,5 @@
 -- Tails that are sorted by keys and texts are sorted as texts.
-use Rattle.std.proofs.Common.{◌≡◌, ◌≢◌, ℕ, zero, suc, ◌+◌, ◌-◌, ◌<◌, inl, inr, List, [], ◌∷◌, length, map, get_or, take, drop, refl, sym, ap, ◌∙◌, arith}
+use Rattle.std.proofs.Common.{◌≡◌, ◌≢◌, ℕ, zero, suc, ◌+◌, ◌*◌, ◌-◌, ◌^◌, ◌<◌, inl, inr, List, [], ◌∷◌, length, map, get_or, take, drop, refl, sym, ap, ◌∙◌, arith}
 use Rattle.std.specs.List.{All}
 use Rattle.std.specs.List.Sorted.{IsSorted, IsSortedBy}
 use Rattle.std.specs.Ordering.{is_lt, nat_cmp, ordering_then}
@@ -73,6 +73,41 @@ before_apart x y p q e n = elim (cases_lt (length x) 8) [
 
 tied_then : (a b : ℕ) (s : Ordering) → a ≡ b → ordering_then (nat_cmp a b) s ≡ s
 tied_then a b s e = ap (λ (o : Ordering). ordering_then o s) (ap (nat_cmp a) (sym e) ∙ tied_itself nat_cmp_total a)
+
+-- Two numbers below 2 ^ 64 behind two others, each pair as one number.
+pair_less : (a b c d : ℕ) → b < 2 ^ 64 → d < 2 ^ 64 → a * 2 ^ 64 + b < c * 2 ^ 64 + d → (s : Ordering) → ordering_then (nat_cmp a c) (ordering_then (nat_cmp b d) s) ≡ Less
+pair_less a b c d p q h s = elim (cases_lt a c) [
+  | inl l ↦ ap (λ (o : Ordering). ordering_then o (ordering_then (nat_cmp b d) s)) (less a c l)
+  | inr g ↦
+      let e : a ≡ c = omega (arith, g, h, p, q) in
+      tied_then a c (ordering_then (nat_cmp b d) s) e ∙ ap (λ (o : Ordering). ordering_then o s) (less b d (omega (arith, h, e)))
+]
+
+pair_greater : (a b c d : ℕ) → b < 2 ^ 64 → d < 2 ^ 64 → c * 2 ^ 64 + d < a * 2 ^ 64 + b → (s : Ordering) → ordering_then (nat_cmp a c) (ordering_then (nat_cmp b d) s) ≡ Greater
+pair_greater a b c d p q h s = elim (cases_lt c a) [
+  | inl l ↦ ap (λ (o : Ordering). ordering_then o (ordering_then (nat_cmp b d) s)) (greater a c l)
+  | inr g ↦
+      let e : a ≡ c = omega (arith, g, h, p, q) in
+      tied_then a c (ordering_then (nat_cmp b d) s) e ∙ ap (λ (o : Ordering). ordering_then o s) (greater b d (omega (arith, h, e)))
+]
+
+-- Keys that differ compare as one number, and of the same keys the texts decide.
+module _ (section : List ℕ) (a b : Tail) (p : a.before < 2 ^ 64) (q : b.before < 2 ^ 64) where
+  abbrev texts_compared : Ordering
+  texts_compared = tail_cmp (tail_text section a) (tail_text section b)
+
+  pub keys_apart : a.key * 2 ^ 64 + a.before ≢ b.key * 2 ^ 64 + b.before → nat_cmp (a.key * 2 ^ 64 + a.before) (b.key * 2 ^ 64 + b.before) ≡ compared section a b
+  keys_apart n = elim (cases_lt (a.key * 2 ^ 64 + a.before) (b.key * 2 ^ 64 + b.before)) [
+    | inl l ↦ less _ _ l ∙ sym (pair_less a.key a.before b.key b.before p q l texts_compared)
+    | inr g ↦
+        let down : b.key * 2 ^ 64 + b.before < a.key * 2 ^ 64 + a.before = elim (cases_lt (b.key * 2 ^ 64 + b.before) (a.key * 2 ^ 64 + a.before)) [ inl l ↦ l | inr h ↦ absurd (n (omega (arith, g, h))) ] in
+        greater _ _ down ∙ sym (pair_greater a.key a.before b.key b.before p q down texts_compared)
+  ]
+
+  pub keys_alike : a.key * 2 ^ 64 + a.before ≡ b.key * 2 ^ 64 + b.before → texts_compared ≡ compared section a b
+  keys_alike e =
+      let last : a.key ≡ b.key = omega (arith, e, p, q) in
+      sym (tied_then a.key b.key (ordering_then (nat_cmp a.before b.before) texts_compared) last ∙ tied_then a.before b.before texts_compared (omega (arith, e, last)))
 
 compared_before : (section : List ℕ) (a b : Tail) → ((i : ℕ) → get_or section i 0 < 256) → HasKey section a → HasKey section b → a.key ≡ b.key → ordering_then (nat_cmp a.before b.before) (tail_cmp (tail_text section a) (tail_text section b)) ≡ tail_cmp (tail_text section a) (tail_text section b)
 compared_before section a b p ka kb e = elim (cases_eq a.before b.before) [

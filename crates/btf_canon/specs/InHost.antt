@@ -1,5 +1,5 @@
 -- Where names stand in their hosts.
-use Rattle.std.specs.Prelude.{◌≡◌, ◌≢◌, ℕ, ◌+◌, ◌<◌, false, List, length, slice_index, slice_index_or}
+use Rattle.std.specs.Prelude.{◌≡◌, ◌≢◌, ℕ, ◌+◌, ◌-◌, ◌<◌, ◌≤◌, false, List, length, slice_index, slice_index_or}
 use Rattle.btf_types.specs.Reading.{text_from}
 use Rattle.btf_types.specs.strings.SharedNames.{is_suffix, hosts_of, host_in}
 use Rattle.btf_types.specs.strings.CommonTails.{at_rank, AreInTailOrder}
@@ -16,9 +16,10 @@ pub record IsInHost (sorted : List (List ℕ)) (x : List ℕ) (h : InHost) : Typ
   pub last : rank + 1 < length sorted → is_suffix (at_rank sorted rank) (at_rank sorted (rank + 1)) ≡ false
   pub host : (ks : List (List ℕ)) → AreInTailOrder ks sorted → host_in (hosts_of ks) x ≡ at_rank sorted rank
   pub before : h.before + length x ≡ length (at_rank sorted rank)
+  pub long : h.len ≡ length (at_rank sorted rank)
 
 abbrev pub no_host : InHost
-no_host = record { host = 0; before = 0 }
+no_host = record { host = 0; before = 0; len = 0 }
 
 -- what is found of a used offset
 abbrev pub found_of : List ℕ → List InHost → ℕ → InHost
@@ -35,3 +36,12 @@ pub record AreInHosts (section slots : List ℕ) (sorted : List (List ℕ)) (fou
   pub whole : length found ≡ number_of slots (length slots)
   pub empty : (off : ℕ) → slice_index slots off ≢ 0 → slice_index section off ≡ 0 → found_of slots found off ≡ no_host
   pub some : (off : ℕ) → slice_index slots off ≢ 0 → slice_index section off ≢ 0 → IsInHost sorted (text_from section off) (found_of slots found off)
+
+-- The text of a rank has less in common with that before it than it is long, and no name begins behind its first byte.
+pub record IsAlone (slots common : List ℕ) (rank : ℕ) (t : Tail) : Type 0 where
+  pub less : slice_index common rank < t.end - t.start
+  pub unused : (off : ℕ) → t.start + 1 ≤ off → off < t.end → slice_index slots off ≡ 0
+
+-- the texts of all ranks below n are alone
+abbrev pub AreAlone : List ℕ → List ℕ → List Tail → ℕ → Type 0
+AreAlone slots common ts n = (rank : ℕ) (d : Tail) → rank < n → rank < length ts → IsAlone slots common rank (slice_index_or ts rank d)

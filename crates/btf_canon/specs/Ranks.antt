@@ -31,8 +31,7 @@ pub record AreLower (common lower : List ℕ) : Type 0 where
   pub each : (k : ℕ) → k < length common → 0 < slice_index common k → IsLower common (slice_index lower k) k
 
 -- texts in the order of their tails, with these numbers of each
-pub record AreRanked (sorted : List (List ℕ)) (common lower hosts : List ℕ) : Type 0 where
+pub record AreRanked (sorted : List (List ℕ)) (common hosts : List ℕ) : Type 0 where
   pub in_order : IsSorted tail_cmp sorted
   pub are_common : AreCommon sorted common
-  pub are_lower : AreLower common lower
   pub are_hosts : AreNextHosts sorted hosts

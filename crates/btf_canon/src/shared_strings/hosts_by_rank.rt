@@ -1,15 +1,15 @@
 //! The host of each name, by the ranks of the longest texts.
-ghost use Rattle.std.specs.Prelude.{◌≡◌, ◌<◌, ◌^◌, false, length, map, slice_index_or, IfOk};
+ghost use Rattle.std.specs.Prelude.{◌≡◌, ◌<◌, ◌^◌, true, length, map, slice_index_or, IfOk};
 ghost use Rattle.std.specs.List.{All, Any};
 ghost use Rattle.std.specs.List.Sorted.{IsPermutation};
-ghost use Rattle.btf_canon.specs.Ranks.{AreRanked};
+ghost use Rattle.btf_canon.specs.Ranks.{AreLower, AreRanked};
 ghost use Rattle.btf_canon.specs.Longest.{IsUsed, AreLongestOf};
 ghost use Rattle.btf_canon.specs.Tails.{tail_text};
 ghost use Rattle.btf_canon.specs.UsedOffsets.{number_of};
 ghost use Rattle.btf_canon.specs.InHost as spec;
 
 use crate::shared_strings::ranked_tails::RankedTails;
-use crate::shared_strings::ranks::first_rank;
+use crate::shared_strings::ranks::{first_rank, lower_ranks};
 use crate::shared_strings::used_offsets::UsedOffsets;
 use std::alloc::{AllocError, Allocator};
 
@@ -20,11 +20,17 @@ pub(crate) struct InHost {
     pub(crate) host: u32,
     /// How many bytes of the host come before the name.
     pub(crate) before: u32,
+    /// How many bytes the host has.
+    pub(crate) len: u32,
 }
 
 impl InHost {
     // Nothing is found yet, or the name is empty.
-    const NONE: InHost = InHost { host: 0, before: 0 };
+    const NONE: InHost = InHost {
+        host: 0,
+        before: 0,
+        len: 0,
+    };
 }
 
 // Finds the hosts of the used offsets within the text of a rank. Their texts get shorter, so the first rank that ends with one is
@@ -32,10 +38,12 @@ impl InHost {
 fn find_within<A: Allocator>(
     uses: &UsedOffsets<A>,
     ranked: &RankedTails<'_, A>,
+    lower: &[u32],
     rank: usize,
     found: &mut [InHost],
 )
-    requires ranked { AreRanked (map (tail_text ranked.now.section.now) ranked.now.tails.items) ranked.now.common.items ranked.now.lower.items ranked.now.hosts.items }
+    requires ranked { AreRanked (map (tail_text ranked.now.section.now) ranked.now.tails.items) ranked.now.common.items ranked.now.hosts.items }
+    requires lower { AreLower ranked.now.common.items lower.now }
     requires few { length ranked.now.tails.items < 2 ^ 32 }
     requires used { All (IsUsed ranked.now.section.now uses.now) ranked.now.tails.items }
     requires slots { length uses.now ≡ length ranked.now.section.now }
@@ -48,44 +56,99 @@ fn find_within<A: Allocator>(
     let mut from = rank;
     for off in ranked.tails[rank].start..end {
         if uses.is_used(off as usize) {
-            from = first_rank(&ranked.common, &ranked.lower, from, end - off);
+            from = first_rank(&ranked.common, lower, from, end - off);
             let host = ranked.hosts[from];
             let len = ranked.tails[host as usize].len();
             found[uses.number(off as usize)] = InHost {
                 host: host + 1,
                 before: len - (end - off),
+                len,
             };
         }
     }
 }
 
-// The host of each used offset, by its number. That of a text under one name alone is found without a look at the offsets.
-pub(crate) fn find_hosts<A: Allocator + Copy>(
+// Whether no two texts are the same and none has a name behind its first byte, as in most files.
+fn are_alone<A: Allocator>(uses: &UsedOffsets<A>, ranked: &RankedTails<'_, A>) -> bool
+    requires ranked { AreRanked (map (tail_text ranked.now.section.now) ranked.now.tails.items) ranked.now.common.items ranked.now.hosts.items }
+    requires longest { AreLongestOf ranked.now.section.now uses.now ranked.now.tails.items }
+    requires slots { length uses.now ≡ length ranked.now.section.now }
+    requires section { length ranked.now.section.now < 2 ^ 32 }
+    ensures { result ≡ true → spec.AreAlone uses.now ranked.now.common.items ranked.now.tails.items (length ranked.now.tails.items) }
+{
+    for rank in 0..ranked.tails.len() {
+        let text = ranked.tails[rank];
+        let is_alone = ranked.common[rank] < text.len()
+            && uses.are_unused(text.start as usize + 1, text.end as usize);
+        if !is_alone {
+            return false;
+        }
+    }
+    true
+}
+
+// The host of each used offset, by its number, where each text is alone: that of a rank is the next host from there on.
+fn find_alone<A: Allocator + Copy>(
     alloc: A,
     uses: &UsedOffsets<A>,
     ranked: &RankedTails<'_, A>,
 ) -> Result<Vec<InHost, A>, AllocError>
-    requires ranked { AreRanked (map (tail_text ranked.now.section.now) ranked.now.tails.items) ranked.now.common.items ranked.now.lower.items ranked.now.hosts.items }
+    requires ranked { AreRanked (map (tail_text ranked.now.section.now) ranked.now.tails.items) ranked.now.common.items ranked.now.hosts.items }
     requires longest { AreLongestOf ranked.now.section.now uses.now ranked.now.tails.items }
     requires slots { length uses.now ≡ length ranked.now.section.now }
     requires section { length ranked.now.section.now < 2 ^ 32 }
+    requires alone { spec.AreAlone uses.now ranked.now.common.items ranked.now.tails.items (length ranked.now.tails.items) }
     ensures { IfOk result (λ found. spec.AreInHosts ranked.now.section.now uses.now (map (tail_text ranked.now.section.now) ranked.now.tails.items) found.items) }
 {
     let mut found = vec![in alloc; InHost::NONE; uses.count()]?;
     for rank in 0..ranked.tails.len() {
         let text = ranked.tails[rank];
-        let start = text.start as usize;
-        if !uses.are_unused(start + 1, text.end as usize) {
-            find_within(uses, ranked, rank, &mut found);
-            continue;
-        }
-        let first = first_rank(&ranked.common, &ranked.lower, rank, text.len());
-        let host = ranked.hosts[first];
+        let host = ranked.hosts[rank];
         let len = ranked.tails[host as usize].len();
-        found[uses.number(start)] = InHost {
+        found[uses.number(text.start as usize)] = InHost {
             host: host + 1,
             before: len - text.len(),
+            len,
         };
     }
     Ok(found)
+}
+
+// The host of each used offset, by its number, where texts may be the same, and names may stand within one.
+fn find_shared<A: Allocator + Copy>(
+    alloc: A,
+    uses: &UsedOffsets<A>,
+    ranked: &RankedTails<'_, A>,
+) -> Result<Vec<InHost, A>, AllocError>
+    requires ranked { AreRanked (map (tail_text ranked.now.section.now) ranked.now.tails.items) ranked.now.common.items ranked.now.hosts.items }
+    requires longest { AreLongestOf ranked.now.section.now uses.now ranked.now.tails.items }
+    requires slots { length uses.now ≡ length ranked.now.section.now }
+    requires section { length ranked.now.section.now < 2 ^ 32 }
+    ensures { IfOk result (λ found. spec.AreInHosts ranked.now.section.now uses.now (map (tail_text ranked.now.section.now) ranked.now.tails.items) found.items) }
+{
+    let lower = lower_ranks(alloc, &ranked.common)?;
+    let mut found = vec![in alloc; InHost::NONE; uses.count()]?;
+    for rank in 0..ranked.tails.len() {
+        find_within(uses, ranked, &lower, rank, &mut found);
+    }
+    Ok(found)
+}
+
+// The host of each used offset, by its number.
+pub(crate) fn find_hosts<A: Allocator + Copy>(
+    alloc: A,
+    uses: &UsedOffsets<A>,
+    ranked: &RankedTails<'_, A>,
+) -> Result<Vec<InHost, A>, AllocError>
+    requires ranked { AreRanked (map (tail_text ranked.now.section.now) ranked.now.tails.items) ranked.now.common.items ranked.now.hosts.items }
+    requires longest { AreLongestOf ranked.now.section.now uses.now ranked.now.tails.items }
+    requires slots { length uses.now ≡ length ranked.now.section.now }
+    requires section { length ranked.now.section.now < 2 ^ 32 }
+    ensures { IfOk result (λ found. spec.AreInHosts ranked.now.section.now uses.now (map (tail_text ranked.now.section.now) ranked.now.tails.items) found.items) }
+{
+    if are_alone(uses, ranked) {
+        find_alone(alloc, uses, ranked)
+    } else {
+        find_shared(alloc, uses, ranked)
+    }
 }

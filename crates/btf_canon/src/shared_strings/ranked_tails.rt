@@ -5,7 +5,7 @@ ghost use Rattle.std.specs.List.Sorted.{IsPermutation};
 ghost use Rattle.btf_canon.specs.Ranks.{AreRanked};
 ghost use Rattle.btf_canon.specs.Tails.{tail_text, HasKey};
 
-use crate::shared_strings::ranks::{common_tails, lower_ranks, next_hosts};
+use crate::shared_strings::ranks::{common_tails, next_hosts};
 use crate::shared_strings::tails::{Tail, sort_tails};
 use std::alloc::{AllocError, Allocator};
 
@@ -16,8 +16,6 @@ pub(crate) struct RankedTails<'a, A: Allocator> {
     pub(crate) tails: Vec<Tail, A>,
     // how many bytes at its end each has in common with the one before it
     pub(crate) common: Vec<u32, A>,
-    // the last rank before each that has less in common
-    pub(crate) lower: Vec<u32, A>,
     // the first rank from each on whose text doesn't end the next one
     pub(crate) hosts: Vec<u32, A>,
 }
@@ -34,18 +32,16 @@ impl<'a, A: Allocator + Copy> RankedTails<'a, A> {
         requires keys { All (HasKey section.now) texts.items }
         ensures section { IfOk result (λ r. r.section.now ≡ section.entry.now) }
         ensures permutation { IfOk result (λ r. IsPermutation texts.items r.tails.items) }
-        ensures ranked { IfOk result (λ r. AreRanked (map (tail_text section.now) r.tails.items) r.common.items r.lower.items r.hosts.items) }
+        ensures ranked { IfOk result (λ r. AreRanked (map (tail_text section.now) r.tails.items) r.common.items r.hosts.items) }
     {
         let mut tails = texts;
         sort_tails(section, &mut tails);
         let common = common_tails(alloc, section, &tails)?;
         let hosts = next_hosts(alloc, section, &tails, &common)?;
-        let lower = lower_ranks(alloc, &common)?;
         Ok(RankedTails {
             section,
             tails,
             common,
-            lower,
             hosts,
         })
     }

@@ -29,13 +29,7 @@ fn common_bytes(a: u64, b: u64) -> usize
     ensures same { (j : ℕ) → j < result → slice_index (to_le_bytes w64 a) (7 - j) ≡ slice_index (to_le_bytes w64 b) (7 - j) }
     ensures differ { result < 8 → slice_index (to_le_bytes w64 a) (7 - result) ≢ slice_index (to_le_bytes w64 b) (7 - result) }
 {
-    let (first, second) = (a.to_le_bytes(), b.to_le_bytes());
-    for behind in 0..8usize {
-        if first[7 - behind] != second[7 - behind] {
-            return behind;
-        }
-    }
-    8
+    (a ^ b).leading_zeros() as usize / 8
 }
 
 // How many bytes the texts of two tails have in common at their ends. Mostly their keys tell, and the section isn't read.

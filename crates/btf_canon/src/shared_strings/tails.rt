@@ -1,5 +1,5 @@
 //! Tails of texts.
-ghost use Rattle.std.specs.Prelude.{◌≡◌, ◌<◌, ◌≤◌, ◌-◌, ℕ, slice_index_or, reverse, map};
+ghost use Rattle.std.specs.Prelude.{◌≡◌, ◌+◌, ◌*◌, ◌^◌, ◌<◌, ◌≤◌, ◌-◌, ℕ, slice_index_or, reverse, map};
 ghost use Rattle.btf_canon.specs.TailKeys as spec;
 ghost use Rattle.std.specs.List.{All};
 ghost use Rattle.std.specs.List.Sorted.{IsPermutation, IsSorted};
@@ -26,6 +26,14 @@ impl Tail {
         ensures { result ≡ self.end - self.start }
     {
         self.end - self.start
+    }
+
+    // Both keys as one number: it is compared at once, without a branch.
+    fn keys(&self) -> u128
+        ensures both { result ≡ self.now.key * 2 ^ 64 + self.now.before }
+        ensures low { self.now.before < 2 ^ 64 }
+    {
+        u128::from(self.key) * (1 << 64) + u128::from(self.before)
     }
 }
 
@@ -106,11 +114,9 @@ fn compare_texts(section: &[u8], a: &Tail, b: &Tail) -> Ordering
 fn compare(section: &[u8], a: &Tail, b: &Tail) -> Ordering
     ensures { result ≡ tails.compared section.now a.now b.now }
 {
-    if a.key != b.key {
-        return a.key.cmp(&b.key);
-    }
-    if a.before != b.before {
-        return a.before.cmp(&b.before);
+    let (first, second) = (a.keys(), b.keys());
+    if first != second {
+        return first.cmp(&second);
     }
     compare_texts(section, a, b)
 }

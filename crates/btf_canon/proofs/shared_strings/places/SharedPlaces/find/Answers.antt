@@ -1,6 +1,7 @@
 use Rattle.std.proofs.Common.{◌≡◌, ◌<◌, ℕ, ◌+◌, ◌^◌, List, length, map, get_or, arith, subst, sym, ap, ◌∙◌}
 use Rattle.std.specs.List.{All}
 use Rattle.std.specs.List.Sorted.{IsSorted}
+use Rattle.btf_raw.specs.Header.{HasNulEnds}
 use Rattle.btf_types.specs.Reading.{text_from}
 use Rattle.btf_types.specs.strings.SharedNames.{tail_cmp, shared_table}
 use Rattle.btf_canon.specs.FirstUses.{Noted, AreMarked}
@@ -17,12 +18,8 @@ find_hosts-requires-clause-longest g c =
     let tails = c.in_ok-ranked.ranked.tails.items in
     subst (λ (s : List ℕ). AreLongestOf s slots tails) (sym c.in_ok-ranked.ensures.section) (longest_permuted c.args.strings.now slots c.in_ok-texts.texts.items tails c.in_ok-texts.ensures c.in_ok-ranked.ensures.permutation)
 
-pub lay_out-requires-clause-used : goal.lay_out-requires-clause-used
-lay_out-requires-clause-used g c =
-    let slots = c.in_ok-used.used in
-    let tails = c.in_ok-ranked.ranked.tails.items in
-    let longest : AreLongestOf c.in_ok-ranked.ranked.section.now slots tails = subst (λ (s : List ℕ). AreLongestOf s slots tails) (sym c.in_ok-ranked.ensures.section) (longest_permuted c.args.strings.now slots c.in_ok-texts.texts.items tails c.in_ok-texts.ensures c.in_ok-ranked.ensures.permutation) in
-    longest.used
+pub lay_out-requires-clause-ends : goal.lay_out-requires-clause-ends
+lay_out-requires-clause-ends g c = subst HasNulEnds (sym c.in_ok-ranked.ensures.section) c.requires.ends
 
 pub lay_out-requires-clause-found : goal.lay_out-requires-clause-found
 lay_out-requires-clause-found g c =

@@ -1,4 +1,5 @@
-use Rattle.std.proofs.Common.{◌+◌, ◌-◌, ◌<◌, List, length, get_or, take, drop, arith, ap}
+use Rattle.std.proofs.Common.{◌+◌, ◌<◌, ◌++◌, List, length, get_or, arith, ap, ◌∙◌}
+use Rattle.btf_canon.specs.HostLayout.{span_bytes}
 use Rattle.btf_canon.specs.declared.shared_strings.host_layout.Span.{Span}
 use Rattle.btf_canon.proofs.TableSpans.{table_more}
 use Rattle.btf_canon.proofs.shared_strings.places.SharedPlaces.push_table.Goals as goal
@@ -10,6 +11,5 @@ loop-span-preserved g c =
     let i = c.loop-span.span-index in
     let d : Span = record { start = 0; end = 0 } in
     let inside : i < length spans = omega arith in
-    let piece = λ (l : List Span). take ((get_or l i d).end + 1 - (get_or l i d).start) (drop (get_or l i d).start strings) in
-    table_more strings spans i d c.loop-span.out.items c.extend_from_slice.new.self.items (piece c.deref-span-items.result.now) c.args.out.now.items inside
-    (c.self.invariant.are_spans i d inside) c.loop-span.invariant (ap piece c.deref-span-items.ensures.value) c.in_ok-extend_from_slice.ensures.items
+    table_more strings spans i d c.loop-span.out.items c.extend_from_slice.new.self.items c.args.out.now.items inside c.loop-span.invariant
+    (c.in_ok-extend_from_slice.ensures.items ∙ ap (λ (l : List Span). c.loop-span.out.items ++ span_bytes strings (get_or l i d)) c.deref-span-items.ensures.value)

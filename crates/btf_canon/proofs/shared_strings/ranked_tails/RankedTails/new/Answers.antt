@@ -1,8 +1,7 @@
-use Rattle.std.proofs.Common.{ℕ, List, length, arith, ap, subst, sym}
-use Rattle.std.proofs.lemmas.List.{length-map}
+use Rattle.std.proofs.Common.{List, length, arith, ap, subst, sym}
 use Rattle.std.proofs.lemmas.List.Sorted.{length_permutation, All-permutation}
 use Rattle.std.specs.List.{All}
-use Rattle.btf_canon.specs.Tails.{tail_text, HasKey}
+use Rattle.btf_canon.specs.Tails.{HasKey}
 use Rattle.btf_canon.specs.declared.shared_strings.tails.Tail.{Tail}
 use Rattle.btf_canon.proofs.shared_strings.ranked_tails.RankedTails.new.Goals as goal
 
@@ -18,10 +17,3 @@ next_hosts-requires-clause-few g c =
     let same = ap (λ (l : List Tail). length l) c.deref-2.ensures.value in
     let long = length_permutation c.args.texts.items c.sort_tails.new.list.items c.sort_tails.ensures.permutation in
     omega (arith, same, long, c.requires.few)
-
-pub lower_ranks-requires-clause-few : goal.lower_ranks-requires-clause-few
-lower_ranks-requires-clause-few g c =
-    let tails = ap (λ (l : List Tail). length l) c.deref.ensures.value in
-    let common = ap (λ (l : List ℕ). length l) c.deref-4.ensures.value in
-    let long = length_permutation c.args.texts.items c.sort_tails.new.list.items c.sort_tails.ensures.permutation in
-    omega (arith, tails, common, long, c.in_ok-common.ensures.whole, length-map c.deref.result.now (tail_text c.args.section.now), c.requires.few)
