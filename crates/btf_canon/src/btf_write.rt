@@ -17,7 +17,7 @@ ghost use Rattle.btf_canon.specs.BtfWords.{head_words, MemberFits};
 ghost use Rattle.btf_canon.specs.CanonicalBtf.{canonical, item_words, record_words};
 
 use crate::head_words::{component_word, head_third, info_word, int_word, linkage_number};
-use crate::kept_names::{head_name, kept_names};
+use crate::kept_names::kept_names;
 use crate::section_write::write_sections;
 use crate::shared_names::SharedNames;
 use bpf_words::{Order, push16, push32};
@@ -91,7 +91,7 @@ fn push_head<A: Allocator, B: Allocator + Copy>(
     requires placed { IsPlaced names.now (spec.head_name (head_value head)) }
     ensures { OnOk result (out.new.items ≡ out.old.items ++ bytes_of order (head_words (shared_among names.now) (head_value head.entry) count bit_fields)) }
 {
-    let name_off = names.place(head_name(head));
+    let name_off = names.place(head.name());
     let info = info_word(head, count, bit_fields);
     push_words(out, order, &[name_off, info, head_third(head)])?;
     push_tail(out, order, head)

@@ -257,27 +257,7 @@ fn append_fields<A: Allocator>(
 pub fn head_name<'a>(head: Head<'a>) -> &'a str
     ensures { result.now ≡ names.head_name (head_value head.entry) }
 {
-    match head {
-        Head::KInt { name, .. }
-        | Head::KStruct { name, .. }
-        | Head::KUnion { name, .. }
-        | Head::KEnum { name, .. }
-        | Head::KFwd { name, .. }
-        | Head::KTypedef { name, .. }
-        | Head::KFunc { name, .. }
-        | Head::KVar { name, .. }
-        | Head::KDatasec { name, .. }
-        | Head::KFloat { name, .. }
-        | Head::KDeclTag { name, .. }
-        | Head::KTypeTag { name, .. }
-        | Head::KEnum64 { name, .. } => name,
-        Head::KPtr { .. }
-        | Head::KArray { .. }
-        | Head::KVolatile { .. }
-        | Head::KConst { .. }
-        | Head::KRestrict { .. }
-        | Head::KFuncProto { .. } => "",
-    }
+    head.name()
 }
 
 /// What stands between the word of a kind and the first byte of its name.
