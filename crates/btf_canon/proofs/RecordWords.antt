@@ -1,5 +1,5 @@
 -- The words of a record, from those of its frame.
-use Rattle.std.proofs.Common.{◌≡◌, ◌≢◌, ◌⊎◌, ℕ, zero, suc, ◌+◌, ◌*◌, ◌/◌, ◌%◌, ◌^◌, ◌<◌, ◌≤◌, Bool, true, false, not, List, [], ◌∷◌, ◌++◌, length, map, take, drop, get_or, refl, sym, ap, ◌∙◌, inl, inr, append_assoc, append-nil, lit≤, arith}
+use Rattle.std.proofs.Common.{◌≡◌, ◌≢◌, ◌⊎◌, ℕ, zero, suc, ◌+◌, ◌*◌, ◌/◌, ◌%◌, ◌^◌, ◌<◌, ◌≤◌, Bool, true, false, not, List, [], ◌∷◌, ◌++◌, length, map, take, drop, get_or, refl, sym, ap, ◌∙◌, inl, inr, append-nil, lit≤, arith}
 use Rattle.std.specs.Prelude.{slice_index, ◌==◌, ◌||◌, if◌then◌else◌, ⊤}
 use Rattle.std.specs.List.{All, AllZip, concat, flat_map, list_any}
 use Rattle.std.proofs.lemmas.Bool.{cases_eq, ne_eqb, or_left, or_right}
@@ -29,6 +29,7 @@ use Rattle.btf_canon.specs.CanonicalBtf.{canonical_flag, item_words as words_of,
 use Rattle.btf_canon.specs.KeptFrames.{record_info, record_items, record_tail}
 use Rattle.btf_canon.specs.NameOffsets.{HasNamedItems}
 use Rattle.btf_canon.proofs.RecordNames.{head_name_is}
+use Rattle.btf_canon.proofs.WriteSteps.{pushed_two}
 
 -- ---- whether a record has bit-fields
 
@@ -178,9 +179,6 @@ named_item IsFuncProto place name flag a b c has low = refl
 named_item IsEnum64 place name flag a b c has low = rw (low_half b c low, high_half b c low) refl
 named_item other place name flag a b c has low = absurd cc
 
-pushed : (o : Order) (old xs ys : List ℕ) → (old ++ bytes_of o xs) ++ bytes_of o ys ≡ old ++ bytes_of o (xs ++ ys)
-pushed o old xs ys = append_assoc old (bytes_of o xs) (bytes_of o ys) ∙ ap (λ (t : List ℕ). old ++ t) (sym (flat_map-append (word32 o) xs ys))
-
 -- the bytes of one item more
 item_more : (o : Order) (old : List ℕ) (place : List ℕ → ℕ) (item : ℕ → TypeItem) (k : ℕ) (ws : List ℕ) → words_of place (item k) ≡ ws
     → (old ++ bytes_of o (flat_map (words_of place) (tabulate item k))) ++ bytes_of o ws ≡ old ++ bytes_of o (flat_map (words_of place) (tabulate item (k + 1)))
@@ -189,7 +187,7 @@ item_more o old place item k ws e =
     let next : k + 1 ≡ suc k = omega arith in
     let more : flat_map f (tabulate item (suc k)) ≡ flat_map f (tabulate item k) ++ f (item k) =
     flat_map-append f (tabulate item k) (item k ∷ []) ∙ ap (λ (t : List ℕ). flat_map f (tabulate item k) ++ t) (append-nil (f (item k))) in
-    pushed o old (flat_map f (tabulate item k)) ws
+    pushed_two o old (flat_map f (tabulate item k)) ws
     ∙ ap (λ (t : List ℕ). old ++ bytes_of o (flat_map f (tabulate item k) ++ t)) (sym e)
     ∙ rw next (ap (λ (t : List ℕ). old ++ bytes_of o t) (sym more))
 
@@ -251,7 +249,7 @@ rest_more o old f k w low is =
     let here : w ≡ get_or (drop 3 f) k 0 = is ∙ sym (get_or-drop 3 f k 0) in
     rw here (
     ap (λ (t : List ℕ). (old ++ bytes_of o (take k (drop 3 f))) ++ t) (sym (append-nil (word32 o (get_or (drop 3 f) k 0))))
-    ∙ pushed o old (take k (drop 3 f)) (get_or (drop 3 f) k 0 ∷ [])
+    ∙ pushed_two o old (take k (drop 3 f)) (get_or (drop 3 f) k 0 ∷ [])
     ∙ ap (λ (t : List ℕ). old ++ bytes_of o t) (rw next (sym (take-suc (drop 3 f) k 0 inside))))
 
 -- ---- a record
@@ -280,7 +278,7 @@ record_pushed o old place strings f at info third ends s ate ie te =
     let r = record_of strings f in
     let name : at ≡ place (head_name r.head) = ate ∙ ap place (sym (head_name_is strings r f ends s)) in
     let size : third ≡ head_third r.head = te ∙ ap (λ (t : List ℕ). slice_index t 2) s.whole in
-    pushed o old (at ∷ info ∷ third ∷ []) (record_tail place r)
+    pushed_two o old (at ∷ info ∷ third ∷ []) (record_tail place r)
     ∙ ap (λ (w : ℕ). old ++ bytes_of o (w ∷ info ∷ third ∷ record_tail place r)) name
     ∙ ap (λ (w : ℕ). old ++ bytes_of o (place (head_name r.head) ∷ w ∷ third ∷ record_tail place r)) ie
     ∙ ap (λ (w : ℕ). old ++ bytes_of o (place (head_name r.head) ∷ record_info r ∷ w ∷ record_tail place r)) size
