@@ -1,21 +1,18 @@
 -- The names of one item and of one record more.
-use Rattle.std.proofs.Common.{◌≡◌, ℕ, suc, ◌+◌, ◌*◌, ◌<◌, true, List, [], ◌∷◌, ◌++◌, length, take, get_or, sym, ap, ◌∙◌, append-nil, inl, inr, arith}
+use Rattle.std.proofs.Common.{◌≡◌, ℕ, suc, ◌+◌, ◌<◌, true, List, [], ◌∷◌, ◌++◌, length, take, get_or, sym, ap, ◌∙◌, append-nil, arith}
 use Rattle.std.proofs.lemmas.List.{map-append}
 use Rattle.std.proofs.lemmas.List.Concat.{flat_map-append}
 use Rattle.std.proofs.Math.Seq.{take-suc}
 use Rattle.bpf_words.specs.declared.Order.{Order}
-use Rattle.btf_raw.specs.Kinds.{item_words}
-use Rattle.btf_raw.specs.Frames.{IsFrame, name_word, kind, vlen}
+use Rattle.btf_raw.specs.Frames.{name_word, kind, vlen}
 use Rattle.btf_raw.proofs.Texts.{TextAt-inside}
 use Rattle.btf_types.specs.judge.Checks.{has_item_names}
 use Rattle.btf_types.specs.tables.PlaceWords.{StandsAt}
 use Rattle.btf_types.specs.Reading.{text_from, frame_at, frames_at, item_total, tabulate}
-use Rattle.btf_types.proofs.FaultlessLemmas.FaultlessWords.{room}
 use Rattle.btf_canon.specs.FirstUses.{noted, noted_all}
 use Rattle.btf_canon.specs.NameOffsets.{item_word, name_offsets, all_offsets}
 use Rattle.btf_canon.proofs.FirstUseSteps.{noted_all-append}
 use Rattle.btf_canon.proofs.RecordNames.{named_total}
-use Rattle.btf_canon.proofs.RecordWords.{two_or_three}
 
 pub item_noted : (offs : List ℕ) (f : ℕ → ℕ) (k : ℕ) → noted (noted_all offs (tabulate f k)) (f k) ≡ noted_all offs (tabulate f (k + 1))
 item_noted offs f k =
@@ -48,11 +45,3 @@ pub own_within : (o : Order) (types strings : List ℕ) (pos : ℕ) → StandsAt
 own_within o types strings pos at =
     let f = frame_at o types pos in
     TextAt-inside strings (name_word f) (text_from strings (name_word f)) at.name.text
-
-pub item_room : (f : List ℕ) (k : ℕ) → IsFrame f → has_item_names (kind f) ≡ true → k < vlen f → 3 + item_words (kind f) * k < length f
-item_room f k frame has low =
-    let size = room f frame in
-    elim (two_or_three f frame has) [
-      | inl two ↦ rw two (let its = rw two at size in omega arith)
-      | inr three ↦ rw three (let its = rw three at size in omega arith)
-    ]

@@ -1,7 +1,7 @@
 -- The names of records are the texts at the offsets in their frames.
 use Rattle.std.proofs.Common.{◌≡◌, ℕ, zero, suc, ◌+◌, ◌*◌, ◌<◌, Bool, true, false, List, [], ◌∷◌, ◌++◌, length, map, get_or, refl, sym, ap, ◌∙◌, subst, inl, inr, arith}
 use Rattle.std.specs.Prelude.{slice_index, ◌==◌, if◌then◌else◌}
-use Rattle.std.specs.List.{All, AllZip, filter}
+use Rattle.std.specs.List.{All, AllZip, Contains, filter}
 use Rattle.std.proofs.lemmas.List.{map-append}
 use Rattle.std.proofs.lemmas.List.Elements.{All-nil, All-cons, All-head, All-tail, filter-append}
 use Rattle.bpf_words.specs.declared.Order.{Order}
@@ -9,6 +9,7 @@ use Rattle.btf_raw.specs.Header.{HasNulEnds}
 use Rattle.btf_raw.specs.Kinds.{item_words}
 use Rattle.btf_raw.specs.Frames.{IsFrame, name_word, kind, vlen, flag}
 use Rattle.btf_raw.proofs.Texts.{TextAt-unique, TextAt-inside}
+use Rattle.btf_types.specs.declared.tables.table.FileSections.{FileSections}
 use Rattle.btf_types.specs.Values.{TypeItem, TypeRecord}
 use Rattle.btf_types.specs.Names.{head_name, item_name, record_names, names, is_other, distinct, is_some_text, kept}
 use Rattle.btf_types.specs.Spelling.{Spells}
@@ -18,7 +19,9 @@ use Rattle.btf_types.proofs.KindCases.{KindIs, IsStruct, IsUnion, IsEnum, IsFunc
 use Rattle.btf_types.proofs.FaultlessLemmas.FaultlessWords.{known}
 use Rattle.btf_types.proofs.Lists.{length-tabulate, get_or-tabulate}
 use Rattle.btf_types.proofs.TableLemmas.TextSteps.{text_stands, decided}
-use Rattle.btf_canon.specs.NameOffsets.{item_word, name_offsets, all_offsets}
+use Rattle.btf_canon.specs.KeptFrames.{frame_in}
+use Rattle.btf_canon.specs.NameOffsets.{item_word, name_offsets, all_offsets, HasNamedItems, HasNotedNames}
+use Rattle.btf_canon.specs.NamesByPlace.{NamesByPlace}
 
 -- ---- empty names aren't kept
 
@@ -162,12 +165,20 @@ kept_at_offsets strings frames ends is s =
 pub own_offset : (P : ℕ → Type 0) (f : List ℕ) → All P (name_offsets f) → P (name_word f)
 own_offset P f all = All-head P (name_word f) (if has_item_names (kind f) then tabulate (item_word f) (vlen f) else []) all
 
-pub item_offset : (P : ℕ → Type 0) (f : List ℕ) (k : ℕ) → has_item_names (kind f) ≡ true → All P (name_offsets f) → k < vlen f → P (item_word f k)
+item_offset : (P : ℕ → Type 0) (f : List ℕ) (k : ℕ) → has_item_names (kind f) ≡ true → All P (name_offsets f) → k < vlen f → P (item_word f k)
 item_offset P f k has all low =
     let offsets : List ℕ = tabulate (item_word f) (vlen f) in
     let same : (if has_item_names (kind f) then offsets else []) ≡ offsets = rw has refl in
     let each : All P offsets = subst (All P) same (All-tail P (name_word f) (if has_item_names (kind f) then offsets else []) all) in
     subst P (get_or-tabulate (item_word f) (vlen f) k 0 low) (each k 0 (omega (arith, length-tabulate (item_word f) (vlen f))))
+
+pub item_is_noted : (names : NamesByPlace) (s : FileSections) (pos size count k offset : ℕ) → HasNotedNames names s pos → HasNamedItems (frame_in s pos) size count → k < count
+    → offset ≡ slice_index (frame_in s pos) (3 + size * k) → Contains names.offsets offset
+item_is_noted names s pos size count k offset noted items low is =
+    let f = frame_in s pos in
+    let all = items.all in
+    let at : item_word f k ≡ offset = ap (λ (w : ℕ). slice_index f (3 + w * k)) items.words ∙ sym is in
+    subst (Contains names.offsets) at (item_offset (Contains names.offsets) f k items.named noted.offsets (omega arith))
 
 All-front : (P : ℕ → Type 0) (xs ys : List ℕ) → All P (xs ++ ys) → All P xs
 All-front P [] ys all = All-nil P

@@ -1,5 +1,5 @@
 -- The words of a record, from those of its frame.
-use Rattle.std.proofs.Common.{◌≡◌, ◌≢◌, ◌⊎◌, ℕ, zero, suc, ◌+◌, ◌*◌, ◌/◌, ◌%◌, ◌^◌, ◌<◌, Bool, true, false, not, List, [], ◌∷◌, ◌++◌, length, map, take, drop, get_or, refl, sym, ap, ◌∙◌, inl, inr, append_assoc, append-nil, arith}
+use Rattle.std.proofs.Common.{◌≡◌, ◌≢◌, ◌⊎◌, ℕ, zero, suc, ◌+◌, ◌*◌, ◌/◌, ◌%◌, ◌^◌, ◌<◌, ◌≤◌, Bool, true, false, not, List, [], ◌∷◌, ◌++◌, length, map, take, drop, get_or, refl, sym, ap, ◌∙◌, inl, inr, append-nil, lit≤, arith}
 use Rattle.std.specs.Prelude.{slice_index, ◌==◌, ◌||◌, if◌then◌else◌, ⊤}
 use Rattle.std.specs.List.{All, AllZip, concat, flat_map, list_any}
 use Rattle.std.proofs.lemmas.Bool.{cases_eq, ne_eqb, or_left, or_right}
@@ -26,8 +26,10 @@ use Rattle.btf_types.proofs.TableLemmas.TableReads.{count_there}
 use Rattle.btf_types.proofs.TabulateSteps.{All-tabulate}
 use Rattle.btf_types.proofs.TableLemmas.TextSteps.{decided}
 use Rattle.btf_canon.specs.CanonicalBtf.{canonical_flag, item_words as words_of, record_words}
-use Rattle.btf_canon.specs.KeptFrames.{record_info, record_tail}
+use Rattle.btf_canon.specs.KeptFrames.{record_info, record_items, record_tail}
+use Rattle.btf_canon.specs.NameOffsets.{HasNamedItems}
 use Rattle.btf_canon.proofs.RecordNames.{head_name_is}
+use Rattle.btf_canon.proofs.WriteSteps.{pushed_two}
 
 -- ---- whether a record has bit-fields
 
@@ -156,7 +158,7 @@ items_few strings f = omega (arith, count_there strings f, total_low f)
 pub unmarked_record : (strings f : List ℕ) → IsFrame f → flag f ≡ 0 → has_bit_fields (record_of strings f) ≡ false
 unmarked_record strings f frame none = unmarked strings f frame (item_total f) none
 
--- ---- items
+-- ---- items that have names
 
 member_offset : (flag c : ℕ) → (if flag == 0 then c else c % 2 ^ 24) + 2 ^ 24 * (if flag == 0 then 0 else c / 2 ^ 24) ≡ c
 member_offset flag c = elim (decided (flag == 0)) [ inl none ↦ rw none (omega arith) | inr some ↦ rw some (omega arith) ]
@@ -167,28 +169,15 @@ low_half b c h = omega arith
 high_half : (b c : ℕ) → b < 2 ^ 32 → (b + 2 ^ 32 * c) / 2 ^ 32 ≡ c
 high_half b c h = omega arith
 
-long_item : {k : ℕ} → KindIs k → (place : List ℕ → ℕ) (name : List ℕ) (flag a b c : ℕ) → has_item_names k ≡ true → item_words k ≡ 3 → b < 2 ^ 32
-    → words_of place (item_from name k flag a b c) ≡ place name ∷ b ∷ c ∷ []
+named_item : {k : ℕ} → KindIs k → (place : List ℕ → ℕ) (name : List ℕ) (flag a b c : ℕ) → has_item_names k ≡ true → b < 2 ^ 32
+    → words_of place (item_from name k flag a b c) ≡ take (item_words k) (place name ∷ b ∷ c ∷ [])
 unfolding has_item_names item_words item_from
-long_item IsStruct place name flag a b c has three low = ap (λ (w : ℕ). place name ∷ b ∷ w ∷ []) (member_offset flag c)
-long_item IsUnion place name flag a b c has three low = ap (λ (w : ℕ). place name ∷ b ∷ w ∷ []) (member_offset flag c)
-long_item IsEnum place name flag a b c has three low = absurd (omega arith)
-long_item IsFuncProto place name flag a b c has three low = absurd (omega arith)
-long_item IsEnum64 place name flag a b c has three low = rw (low_half b c low, high_half b c low) refl
-long_item other place name flag a b c has three low = absurd cc
-
-short_item : {k : ℕ} → KindIs k → (place : List ℕ → ℕ) (name : List ℕ) (flag a b c : ℕ) → has_item_names k ≡ true → item_words k ≡ 2
-    → words_of place (item_from name k flag a b c) ≡ place name ∷ b ∷ []
-unfolding has_item_names item_words item_from
-short_item IsStruct place name flag a b c has two = absurd (omega arith)
-short_item IsUnion place name flag a b c has two = absurd (omega arith)
-short_item IsEnum place name flag a b c has two = refl
-short_item IsFuncProto place name flag a b c has two = refl
-short_item IsEnum64 place name flag a b c has two = absurd (omega arith)
-short_item other place name flag a b c has two = absurd cc
-
-pushed : (o : Order) (old xs ys : List ℕ) → (old ++ bytes_of o xs) ++ bytes_of o ys ≡ old ++ bytes_of o (xs ++ ys)
-pushed o old xs ys = append_assoc old (bytes_of o xs) (bytes_of o ys) ∙ ap (λ (t : List ℕ). old ++ t) (sym (flat_map-append (word32 o) xs ys))
+named_item IsStruct place name flag a b c has low = ap (λ (w : ℕ). place name ∷ b ∷ w ∷ []) (member_offset flag c)
+named_item IsUnion place name flag a b c has low = ap (λ (w : ℕ). place name ∷ b ∷ w ∷ []) (member_offset flag c)
+named_item IsEnum place name flag a b c has low = refl
+named_item IsFuncProto place name flag a b c has low = refl
+named_item IsEnum64 place name flag a b c has low = rw (low_half b c low, high_half b c low) refl
+named_item other place name flag a b c has low = absurd cc
 
 -- the bytes of one item more
 item_more : (o : Order) (old : List ℕ) (place : List ℕ → ℕ) (item : ℕ → TypeItem) (k : ℕ) (ws : List ℕ) → words_of place (item k) ≡ ws
@@ -198,35 +187,25 @@ item_more o old place item k ws e =
     let next : k + 1 ≡ suc k = omega arith in
     let more : flat_map f (tabulate item (suc k)) ≡ flat_map f (tabulate item k) ++ f (item k) =
     flat_map-append f (tabulate item k) (item k ∷ []) ∙ ap (λ (t : List ℕ). flat_map f (tabulate item k) ++ t) (append-nil (f (item k))) in
-    pushed o old (flat_map f (tabulate item k)) ws
+    pushed_two o old (flat_map f (tabulate item k)) ws
     ∙ ap (λ (t : List ℕ). old ++ bytes_of o (flat_map f (tabulate item k) ++ t)) (sym e)
     ∙ rw next (ap (λ (t : List ℕ). old ++ bytes_of o t) (sym more))
 
 abbrev pub items_to : (List ℕ → ℕ) → List ℕ → List ℕ → ℕ → List ℕ
 items_to place strings f k = flat_map (words_of place) (tabulate (item_in strings f) k)
 
-pub long_item_more : (o : Order) (old : List ℕ) (place : List ℕ → ℕ) (strings f : List ℕ) (k a b c at : ℕ) → IsFrame f → has_item_names (kind f) ≡ true → item_words (kind f) ≡ 3
-    → a ≡ slice_index f (3 + 3 * k) → at ≡ place (text_from strings a) → b ≡ slice_index f (4 + 3 * k) → c ≡ slice_index f (5 + 3 * k)
-    → (old ++ bytes_of o (items_to place strings f k)) ++ bytes_of o (at ∷ b ∷ c ∷ []) ≡ old ++ bytes_of o (items_to place strings f (k + 1))
-long_item_more o old place strings f k a b c at frame has three ae ate be ce =
-    let j : 3 + item_words (kind f) * k ≡ 3 + 3 * k = rw three refl in
-    let second : 3 + 3 * k + 1 ≡ 4 + 3 * k = omega arith in
-    let third : 3 + 3 * k + 2 ≡ 5 + 3 * k = omega arith in
-    let its : item_in strings f k ≡ item_from (text_from strings a) (kind f) (flag f) a b c = rw (j, second, third, ae, be, ce) refl in
-    let low : b < 2 ^ 32 = rw be (frame.words (4 + 3 * k)) in
-    item_more o old place (item_in strings f) k (at ∷ b ∷ c ∷ [])
-    (ap (words_of place) its ∙ long_item (known f frame) place (text_from strings a) (flag f) a b c has three low ∙ ap (λ (p : ℕ). p ∷ b ∷ c ∷ []) (sym ate))
-
-pub short_item_more : (o : Order) (old : List ℕ) (place : List ℕ → ℕ) (strings f : List ℕ) (k a b at : ℕ) → IsFrame f → has_item_names (kind f) ≡ true → item_words (kind f) ≡ 2
-    → a ≡ slice_index f (3 + 2 * k) → at ≡ place (text_from strings a) → b ≡ slice_index f (4 + 2 * k)
-    → (old ++ bytes_of o (items_to place strings f k)) ++ bytes_of o (at ∷ b ∷ []) ≡ old ++ bytes_of o (items_to place strings f (k + 1))
-short_item_more o old place strings f k a b at frame has two ae ate be =
-    let j : 3 + item_words (kind f) * k ≡ 3 + 2 * k = rw two refl in
-    let second : 3 + 2 * k + 1 ≡ 4 + 2 * k = omega arith in
-    let c = slice_index f (3 + 2 * k + 2) in
-    let its : item_in strings f k ≡ item_from (text_from strings a) (kind f) (flag f) a b c = rw (j, second, ae, be) refl in
-    item_more o old place (item_in strings f) k (at ∷ b ∷ [])
-    (ap (words_of place) its ∙ short_item (known f frame) place (text_from strings a) (flag f) a b c has two ∙ ap (λ (p : ℕ). p ∷ b ∷ []) (sym ate))
+pub named_item_more : (o : Order) (old : List ℕ) (place : List ℕ → ℕ) (strings f : List ℕ) (size count k offset at b c : ℕ) → IsFrame f → HasNamedItems f size count
+    → offset ≡ slice_index f (3 + size * k) → at ≡ place (text_from strings offset) → b ≡ slice_index f (4 + size * k) → c ≡ slice_index f (5 + size * k)
+    → (old ++ bytes_of o (items_to place strings f k)) ++ bytes_of o (take size (at ∷ b ∷ c ∷ [])) ≡ old ++ bytes_of o (items_to place strings f (k + 1))
+named_item_more o old place strings f size count k offset at b c frame items offset_is at_is b_is c_is =
+    let j : 3 + item_words (kind f) * k ≡ 3 + size * k = rw items.words refl in
+    let second : 3 + size * k + 1 ≡ 4 + size * k = omega arith in
+    let third : 3 + size * k + 2 ≡ 5 + size * k = omega arith in
+    let its : item_in strings f k ≡ item_from (text_from strings offset) (kind f) (flag f) offset b c = rw (j, second, third, offset_is, b_is, c_is) refl in
+    let low : b < 2 ^ 32 = rw b_is (frame.words (4 + size * k)) in
+    item_more o old place (item_in strings f) k (take size (at ∷ b ∷ c ∷ []))
+    (ap (words_of place) its ∙ named_item (known f frame) place (text_from strings offset) (flag f) offset b c items.named low
+    ∙ ap (λ (n : ℕ). take n (place (text_from strings offset) ∷ b ∷ c ∷ [])) items.words ∙ ap (λ (p : ℕ). take size (p ∷ b ∷ c ∷ [])) (sym at_is))
 
 -- ---- what follows the third word, where items have no names
 
@@ -270,7 +249,7 @@ rest_more o old f k w low is =
     let here : w ≡ get_or (drop 3 f) k 0 = is ∙ sym (get_or-drop 3 f k 0) in
     rw here (
     ap (λ (t : List ℕ). (old ++ bytes_of o (take k (drop 3 f))) ++ t) (sym (append-nil (word32 o (get_or (drop 3 f) k 0))))
-    ∙ pushed o old (take k (drop 3 f)) (get_or (drop 3 f) k 0 ∷ [])
+    ∙ pushed_two o old (take k (drop 3 f)) (get_or (drop 3 f) k 0 ∷ [])
     ∙ ap (λ (t : List ℕ). old ++ bytes_of o t) (rw next (sym (take-suc (drop 3 f) k 0 inside))))
 
 -- ---- a record
@@ -285,11 +264,11 @@ no_tail IsEnum64 name third flag vlen next fourth fifth has = refl
 no_tail other name third flag vlen next fourth fifth has = absurd cc
 
 pub items_are_tail : (place : List ℕ → ℕ) (strings f : List ℕ) → IsFrame f → has_item_names (kind f) ≡ true
-    → flat_map (words_of place) (record_of strings f).items ≡ record_tail place (record_of strings f)
+    → record_items place (record_of strings f) ≡ record_tail place (record_of strings f)
 items_are_tail place strings f frame has =
     let r = record_of strings f in
     let tail : head_tail r.head ≡ [] = no_tail (known f frame) _ _ _ _ _ _ _ has in
-    ap (λ (t : List ℕ). t ++ flat_map (words_of place) r.items) (sym tail)
+    ap (λ (t : List ℕ). t ++ record_items place r) (sym tail)
 
 -- the first three words, and what follows them
 pub record_pushed : (o : Order) (old : List ℕ) (place : List ℕ → ℕ) (strings f : List ℕ) (at info third : ℕ) → HasNulEnds strings → Spells strings (record_of strings f) f
@@ -299,7 +278,7 @@ record_pushed o old place strings f at info third ends s ate ie te =
     let r = record_of strings f in
     let name : at ≡ place (head_name r.head) = ate ∙ ap place (sym (head_name_is strings r f ends s)) in
     let size : third ≡ head_third r.head = te ∙ ap (λ (t : List ℕ). slice_index t 2) s.whole in
-    pushed o old (at ∷ info ∷ third ∷ []) (record_tail place r)
+    pushed_two o old (at ∷ info ∷ third ∷ []) (record_tail place r)
     ∙ ap (λ (w : ℕ). old ++ bytes_of o (w ∷ info ∷ third ∷ record_tail place r)) name
     ∙ ap (λ (w : ℕ). old ++ bytes_of o (place (head_name r.head) ∷ w ∷ third ∷ record_tail place r)) ie
     ∙ ap (λ (w : ℕ). old ++ bytes_of o (place (head_name r.head) ∷ record_info r ∷ w ∷ record_tail place r)) size
@@ -326,14 +305,8 @@ record_more from to place types strings places i low =
 
 -- ---- room
 
-pub long_room : (f : List ℕ) (k : ℕ) → IsFrame f → item_words (kind f) ≡ 3 → k < vlen f → 5 + 3 * k < length f
-long_room f k frame three low = let size = rw three at (room f frame) in omega arith
-
-pub short_room : (f : List ℕ) (k : ℕ) → IsFrame f → item_words (kind f) ≡ 2 → k < vlen f → 4 + 2 * k < length f
-short_room f k frame two low = let size = rw two at (room f frame) in omega arith
-
 pub struct_room : (f : List ℕ) (k : ℕ) → IsFrame f → is_struct (kind f) ≡ true → k < vlen f → 5 + 3 * k < length f
-struct_room f k frame is low = long_room f k frame (struct_words (known f frame) is) low
+struct_room f k frame is low = let size = rw (struct_words (known f frame) is) at (room f frame) in omega arith
 
 pub struct_total : (f : List ℕ) → IsFrame f → is_struct (kind f) ≡ true → item_total f ≡ vlen f
 struct_total f frame is = rw (struct_words (known f frame) is) refl
@@ -349,3 +322,11 @@ two_or_three_words other has = absurd cc
 
 pub two_or_three : (f : List ℕ) → IsFrame f → has_item_names (kind f) ≡ true → (item_words (kind f) ≡ 2) ⊎ (item_words (kind f) ≡ 3)
 two_or_three f frame has = two_or_three_words (known f frame) has
+
+pub item_room : (f : List ℕ) (size count k : ℕ) → IsFrame f → HasNamedItems f size count → k < count → (2 ≤ size) × (3 + size * k + size ≤ length f)
+item_room f size count k frame items low =
+    let all = items.all in
+    elim (two_or_three f frame items.named) [
+      | inl two ↦ let is : size ≡ 2 = sym items.words ∙ two in rw is (lit≤ tt, let its = rw two at (room f frame) in omega arith)
+      | inr three ↦ let is : size ≡ 3 = sym items.words ∙ three in rw is (lit≤ tt, let its = rw three at (room f frame) in omega arith)
+    ]

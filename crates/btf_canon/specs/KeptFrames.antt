@@ -24,6 +24,9 @@ HasRecord s pos = StandsAt s.order s.types.now s.strings.now pos
 abbrev pub record_info : TypeRecord → ℕ
 record_info r = info (kind_number r.head) (record_vlen r) (canonical_flag r.head (has_bit_fields r))
 
--- the words of a record behind the third
+-- the words of a record's items, and all behind the third
+abbrev pub record_items : (List ℕ → ℕ) → TypeRecord → List ℕ
+record_items place r = flat_map (item_words place) r.items
+
 abbrev pub record_tail : (List ℕ → ℕ) → TypeRecord → List ℕ
-record_tail place r = head_tail r.head ++ flat_map (item_words place) r.items
+record_tail place r = head_tail r.head ++ record_items place r

@@ -1,6 +1,5 @@
 //! From a table of types to its canonical bytes (btf.rst section 2).
 ghost use Rattle.std.specs.Prelude.{◌≡◌, ◌<◌, ◌≤◌, ◌^◌, ◌++◌, IfOk, OnOk, length, map};
-ghost use Rattle.std.specs.List.{flat_map};
 ghost use Rattle.btf_raw.specs.Header.{header};
 ghost use Rattle.btf_raw.specs.Frames.{bytes_of, section_of};
 ghost use Rattle.btf_types.specs.Values.{head_value, item_value};
@@ -17,7 +16,7 @@ ghost use Rattle.btf_canon.specs.BtfWords.{head_words, MemberFits};
 ghost use Rattle.btf_canon.specs.CanonicalBtf.{canonical, item_words, record_words};
 
 use crate::head_words::{component_word, head_third, info_word, int_word, linkage_number};
-use crate::kept_names::{head_name, kept_names};
+use crate::kept_names::kept_names;
 use crate::section_write::write_sections;
 use crate::shared_names::SharedNames;
 use bpf_words::{Order, push16, push32};
@@ -91,7 +90,7 @@ fn push_head<A: Allocator, B: Allocator + Copy>(
     requires placed { IsPlaced names.now (spec.head_name (head_value head)) }
     ensures { OnOk result (out.new.items ≡ out.old.items ++ bytes_of order (head_words (shared_among names.now) (head_value head.entry) count bit_fields)) }
 {
-    let name_off = names.place(head_name(head));
+    let name_off = names.place(head.name());
     let info = info_word(head, count, bit_fields);
     push_words(out, order, &[name_off, info, head_third(head)])?;
     push_tail(out, order, head)
@@ -157,26 +156,6 @@ fn has_bit_fields<T: TypeTable>(table: &T, id: u32) -> bool
     false
 }
 
-// Appends the words of a record's items.
-fn push_items<T: TypeTable, A: Allocator, B: Allocator + Copy>(
-    out: &mut Vec<u8, A>,
-    order: Order,
-    names: &SharedNames<'_, B>,
-    table: &T,
-    id: u32,
-) -> Result<(), AllocError>
-    requires first { 0 < id }
-    requires last { id ≤ length (T.meaning table.now) }
-    requires good { IsGood (T.meaning table.now) }
-    requires kept { names.now ≡ kept (spec.names (T.meaning table.now)) }
-    ensures { OnOk result (out.new.items ≡ out.old.items ++ bytes_of order (flat_map (item_words (shared_among names.now)) (record_at (T.meaning table.now) id).items)) }
-{
-    for k in 0..table.item_count(id) {
-        push_item(out, order, names, table.item(id, k))?;
-    }
-    Ok(())
-}
-
 // Appends the words of a record.
 fn push_record<T: TypeTable, A: Allocator, B: Allocator + Copy>(
     out: &mut Vec<u8, A>,
@@ -194,7 +173,10 @@ fn push_record<T: TypeTable, A: Allocator, B: Allocator + Copy>(
     let count = table.item_count(id);
     let bit_fields = has_bit_fields(table, id);
     push_head(out, order, names, table.head(id), count, bit_fields)?;
-    push_items(out, order, names, table, id)
+    for k in 0..count {
+        push_item(out, order, names, table.item(id, k))?;
+    }
+    Ok(())
 }
 
 // The bytes of all records.

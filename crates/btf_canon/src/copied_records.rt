@@ -1,17 +1,15 @@
 //! The records of a section, copied word by word with their names at other places (btf.rst section 2.2).
 ghost use Rattle.std.specs.Prelude.{◌≡◌, ◌≢◌, ◌+◌, ◌*◌, ◌/◌, ◌<◌, ◌≤◌, ◌^◌, ◌∷◌, [], ◌++◌, IsTrue, IsFalse, OnOk, length, drop, map, slice_index};
-ghost use Rattle.std.specs.List.{All, Contains, flat_map};
-ghost use Rattle.btf_raw.specs.Kinds as kinds;
+ghost use Rattle.std.specs.List.{All, Contains};
 ghost use Rattle.btf_raw.specs.Frames.{bytes_of, section_of, kind, vlen, flag, info_word, third_word};
 ghost use Rattle.btf_types.specs.judge.Checks as checks;
 ghost use Rattle.btf_types.specs.Good.{has_bit_fields};
 ghost use Rattle.btf_types.specs.strings.SharedNames.{shared_place};
 ghost use Rattle.btf_types.specs.tables.TableInvariant.{IsTable};
 ghost use Rattle.btf_types.specs.Reading.{frames_at, records_at};
-ghost use Rattle.btf_canon.specs.CanonicalBtf as canon;
 ghost use Rattle.btf_canon.specs.CanonicalBtf.{record_words};
-ghost use Rattle.btf_canon.specs.KeptFrames.{frame_in, record_in, HasRecord, record_info, record_tail};
-ghost use Rattle.btf_canon.specs.NameOffsets.{name_offsets, all_offsets};
+ghost use Rattle.btf_canon.specs.KeptFrames.{frame_in, record_in, HasRecord, record_info, record_items, record_tail};
+ghost use Rattle.btf_canon.specs.NameOffsets.{HasNamedItems, HasNotedNames, all_offsets};
 ghost use Rattle.btf_canon.specs.NamesByPlace.{placed_texts};
 
 use crate::shared_strings::places::SharedPlaces;
@@ -120,12 +118,9 @@ fn push_long_items<A: Allocator, B: Allocator + Copy>(
     count: u16,
 ) -> Result<(), AllocError>
     requires record { HasRecord sections.now pos }
-    requires strings { names.now.strings ≡ sections.now.strings.now }
-    requires noted { All (Contains names.now.offsets) (name_offsets (frame_in sections.now pos)) }
-    requires named { IsTrue (checks.has_item_names (kind (frame_in sections.now pos))) }
-    requires words { kinds.item_words (kind (frame_in sections.now pos)) ≡ 3 }
-    requires all { count ≡ vlen (frame_in sections.now pos) }
-    ensures { OnOk result (out.new.items ≡ out.old.items ++ bytes_of to (flat_map (canon.item_words (shared_place (placed_texts names.now))) (record_in sections.now pos).items)) }
+    requires noted { HasNotedNames names.now sections.now pos }
+    requires items { HasNamedItems (frame_in sections.now pos) 3 count }
+    ensures { OnOk result (out.new.items ≡ out.old.items ++ bytes_of to (record_items (shared_place (placed_texts names.now)) (record_in sections.now pos))) }
 {
     for k in 0..usize::from(count) {
         let name = names.place(word(sections, pos, 3 + 3 * k));
@@ -146,12 +141,9 @@ fn push_short_items<A: Allocator, B: Allocator + Copy>(
     count: u16,
 ) -> Result<(), AllocError>
     requires record { HasRecord sections.now pos }
-    requires strings { names.now.strings ≡ sections.now.strings.now }
-    requires noted { All (Contains names.now.offsets) (name_offsets (frame_in sections.now pos)) }
-    requires named { IsTrue (checks.has_item_names (kind (frame_in sections.now pos))) }
-    requires words { kinds.item_words (kind (frame_in sections.now pos)) ≡ 2 }
-    requires all { count ≡ vlen (frame_in sections.now pos) }
-    ensures { OnOk result (out.new.items ≡ out.old.items ++ bytes_of to (flat_map (canon.item_words (shared_place (placed_texts names.now))) (record_in sections.now pos).items)) }
+    requires noted { HasNotedNames names.now sections.now pos }
+    requires items { HasNamedItems (frame_in sections.now pos) 2 count }
+    ensures { OnOk result (out.new.items ≡ out.old.items ++ bytes_of to (record_items (shared_place (placed_texts names.now)) (record_in sections.now pos))) }
 {
     for k in 0..usize::from(count) {
         let name = names.place(word(sections, pos, 3 + 2 * k));
@@ -159,6 +151,28 @@ fn push_short_items<A: Allocator, B: Allocator + Copy>(
         push_two(out, to, [name, second])?;
     }
     Ok(())
+}
+
+// Appends the items of a record, each with a name and of so many words.
+fn push_items<A: Allocator, B: Allocator + Copy>(
+    out: &mut Vec<u8, A>,
+    to: Order,
+    names: &SharedPlaces<'_, B>,
+    sections: &FileSections<'_>,
+    pos: usize,
+    size: usize,
+    count: u16,
+) -> Result<(), AllocError>
+    requires record { HasRecord sections.now pos }
+    requires noted { HasNotedNames names.now sections.now pos }
+    requires items { HasNamedItems (frame_in sections.now pos) size count }
+    ensures { OnOk result (out.new.items ≡ out.old.items ++ bytes_of to (record_items (shared_place (placed_texts names.now)) (record_in sections.now pos))) }
+{
+    if size == 2 {
+        push_short_items(out, to, names, sections, pos, count)
+    } else {
+        push_long_items(out, to, names, sections, pos, count)
+    }
 }
 
 // Appends the words behind the third of a record whose items have no names.
@@ -189,19 +203,16 @@ fn push_tail<A: Allocator, B: Allocator + Copy>(
     info: u32,
 ) -> Result<(), AllocError>
     requires record { HasRecord sections.now pos }
-    requires strings { names.now.strings ≡ sections.now.strings.now }
-    requires noted { All (Contains names.now.offsets) (name_offsets (frame_in sections.now pos)) }
+    requires noted { HasNotedNames names.now sections.now pos }
     requires own { info ≡ info_word (frame_in sections.now pos) }
     ensures { OnOk result (out.new.items ≡ out.old.items ++ bytes_of to (record_tail (shared_place (placed_texts names.now)) (record_in sections.now pos))) }
 {
     let kind = kind_of(info);
     let vlen = vlen_of(info);
-    if !has_item_names(kind) {
-        push_rest(out, to, sections, pos, tail_words(kind, vlen))
-    } else if item_words(kind) == 2 {
-        push_short_items(out, to, names, sections, pos, vlen)
+    if has_item_names(kind) {
+        push_items(out, to, names, sections, pos, item_words(kind), vlen)
     } else {
-        push_long_items(out, to, names, sections, pos, vlen)
+        push_rest(out, to, sections, pos, tail_words(kind, vlen))
     }
 }
 
@@ -214,8 +225,7 @@ fn push_record<A: Allocator, B: Allocator + Copy>(
     pos: usize,
 ) -> Result<(), AllocError>
     requires record { HasRecord sections.now pos }
-    requires strings { names.now.strings ≡ sections.now.strings.now }
-    requires noted { All (Contains names.now.offsets) (name_offsets (frame_in sections.now pos)) }
+    requires noted { HasNotedNames names.now sections.now pos }
     ensures { OnOk result (out.new.items ≡ out.old.items ++ bytes_of to (record_words (shared_place (placed_texts names.now)) (record_in sections.now pos))) }
 {
     let name = names.place(word(sections, pos, 0));

@@ -1,13 +1,11 @@
 //! The names of a table of types, each kept once, in the order of their first use.
 ghost use Rattle.std.specs.Prelude.{◌≡◌, ◌<◌, ◌≤◌, ℕ, List, [], IfOk, OnOk, OnErr, length, slice_index_or};
 ghost use Rattle.std.specs.List.{Contains};
-ghost use Rattle.btf_types.specs.Names as spec;
 ghost use Rattle.btf_types.specs.Names.{kept, names, record_names};
-ghost use Rattle.btf_types.specs.Values.{head_value, item_value};
 ghost use Rattle.btf_types.specs.tables.TableWords.{record_at};
 ghost use Rattle.btf_canon.specs.Interned.{lent_texts, AddsName, AddsNames};
 
-use btf_types::{Head, Item, TypeTable};
+use btf_types::TypeTable;
 use indexmap::IndexSet;
 use std::alloc::{AllocError, Allocator};
 use std::hash::{BuildHasherDefault, FoldHasher};
@@ -70,46 +68,6 @@ impl<'a, A: Allocator + Copy> KeptNames<'a, A> {
     }
 }
 
-// A record's own name, empty where its kind has none.
-pub(crate) fn head_name(head: Head<'_>) -> &str
-    ensures { result.now ≡ spec.head_name (head_value head.entry) }
-{
-    match head {
-        Head::KPtr { .. }
-        | Head::KArray { .. }
-        | Head::KVolatile { .. }
-        | Head::KConst { .. }
-        | Head::KRestrict { .. }
-        | Head::KFuncProto { .. } => "",
-        Head::KInt { name, .. }
-        | Head::KStruct { name, .. }
-        | Head::KUnion { name, .. }
-        | Head::KEnum { name, .. }
-        | Head::KFwd { name, .. }
-        | Head::KTypedef { name, .. }
-        | Head::KFunc { name, .. }
-        | Head::KVar { name, .. }
-        | Head::KDatasec { name, .. }
-        | Head::KFloat { name, .. }
-        | Head::KDeclTag { name, .. }
-        | Head::KTypeTag { name, .. }
-        | Head::KEnum64 { name, .. } => name,
-    }
-}
-
-// An item's name, empty where its kind has none.
-pub(crate) fn item_name(item: Item<'_>) -> &str
-    ensures { result.now ≡ spec.item_name (item_value item.entry) }
-{
-    match item {
-        Item::Member { name, .. }
-        | Item::EnumValue { name, .. }
-        | Item::Value64 { name, .. }
-        | Item::Param { name, .. } => name,
-        Item::Entry { .. } => "",
-    }
-}
-
 // Notes the names of one record: its own, then those of its items.
 fn add_record_names<'t, T: TypeTable, A: Allocator + Copy>(
     names: &mut KeptNames<'t, A>,
@@ -120,9 +78,9 @@ fn add_record_names<'t, T: TypeTable, A: Allocator + Copy>(
     requires last { id ≤ length (T.meaning table.now) }
     ensures { OnOk result (AddsNames names.old names.new (record_names (record_at (T.meaning table.now) id))) }
 {
-    names.add(head_name(table.head(id)))?;
+    names.add(table.head(id).name())?;
     for k in 0..table.item_count(id) {
-        names.add(item_name(table.item(id, k)))?;
+        names.add(table.item(id, k).name())?;
     }
     Ok(())
 }

@@ -1,13 +1,11 @@
 //! The names of a section, noted by their offsets alone: no text is read (btf.rst section 2.2).
-ghost use Rattle.std.specs.Prelude.{◌≡◌, ◌≤◌, [], IsTrue, IfOk, OnOk, length};
-ghost use Rattle.btf_raw.specs.Kinds as kinds;
-ghost use Rattle.btf_raw.specs.Frames.{kind, vlen};
-ghost use Rattle.btf_types.specs.judge.Checks as checks;
+ghost use Rattle.std.specs.Prelude.{◌≡◌, ◌≤◌, [], IfOk, OnOk, length};
+ghost use Rattle.btf_raw.specs.Frames.{vlen};
 ghost use Rattle.btf_types.specs.Reading.{frames_at, tabulate};
 ghost use Rattle.btf_types.specs.tables.TableInvariant.{IsTable};
 ghost use Rattle.btf_canon.specs.FirstUses.{noted_all};
 ghost use Rattle.btf_canon.specs.KeptFrames.{frame_in, HasRecord};
-ghost use Rattle.btf_canon.specs.NameOffsets.{item_word, name_offsets, all_offsets};
+ghost use Rattle.btf_canon.specs.NameOffsets.{item_word, name_offsets, all_offsets, HasNamedItems};
 
 use crate::copied_records::{has_item_names, word};
 use crate::shared_strings::first_uses::FirstUses;
@@ -25,10 +23,8 @@ fn note_items<A: Allocator + Copy>(
 ) -> Result<(), AllocError>
     requires record { HasRecord sections.now pos }
     requires whole { uses.old.section_len ≡ length sections.now.strings.now }
-    requires named { IsTrue (checks.has_item_names (kind (frame_in sections.now pos))) }
-    requires words { size ≡ kinds.item_words (kind (frame_in sections.now pos)) }
+    requires items { HasNamedItems (frame_in sections.now pos) size count }
     requires few { size ≤ 3 }
-    requires all { count ≡ vlen (frame_in sections.now pos) }
     ensures section { uses.new.section_len ≡ uses.old.section_len }
     ensures offsets { OnOk result (uses.new.offsets ≡ noted_all uses.old.offsets (tabulate (item_word (frame_in sections.now pos)) (vlen (frame_in sections.now pos)))) }
 {

@@ -188,64 +188,48 @@ header_length b o n a t c s rest low high hn ha ht hc hs is =
       zeros = header_zeros b o n a t c s rest is;
     }
 
+-- the numbers that a header tells, where the sections behind it fill the file in one of the two orders
+cut_at : (b : List ℕ) (o : Order) (n a t c s : ℕ) (rest : List ℕ) → 24 ≤ n → n ≤ 4096 → t ≤ TYPES_LIMIT → 0 < s → s ≤ STRINGS_LIMIT
+    → ((a ≡ 0) × (c ≡ t)) ⊎ ((c ≡ 0) × (a ≡ s)) → length rest ≡ t + s → b ≡ header o n a t c s ++ rest → (h : Header) × SectionsAreRight b h
+cut_at b o n a t c s rest low high t-fits some s-fits places fill is =
+    let a-fits : a < 2 ^ 32 = elim places [ inl first ↦ let at = first.0 in omega arith | inr first ↦ let at = first.1 in omega arith ] in
+    let c-fits : c < 2 ^ 32 = elim places [ inl first ↦ let at = first.1 in omega arith | inr first ↦ let at = first.0 in omega arith ] in
+    let fit = five_fit n a t c s (omega arith) a-fits (omega arith) c-fits (omega arith) in
+    let word : (j : ℕ) → j < 5 → word32_at o b (4 + 4 * j) ≡ slice_index (header_words n a t c s) j = λ j lt. rw is (header_word o n a t c s j rest fit lt) in
+    let len : length b ≡ n + length rest = ap length is ∙ length-append (header o n a t c s) rest ∙ rw (length-header o n a t c s low) refl in (
+      record { order = o; types_pos = n + word32_at o b 8; types_len = t; str_pos = n + word32_at o b 16; str_len = s },
+      record {
+        header_len = n;
+        len = header_length b o n a t c s rest low high (omega arith) a-fits (omega arith) c-fits (omega arith) is;
+        types_len = sym (word 2 (lit< tt));
+        str_len = sym (word 4 (lit< tt));
+        types_pos = refl;
+        str_pos = refl;
+        types_fit = t-fits;
+        some_strings = some;
+        strings_fit = s-fits;
+        fill = omega arith;
+        order_of_sections = elim places [
+          | inl first ↦ inl (word 1 (lit< tt) ∙ first.0, word 3 (lit< tt) ∙ first.1)
+          | inr first ↦ inr (word 3 (lit< tt) ∙ first.0, word 1 (lit< tt) ∙ first.1)
+        ];
+      },
+    )
+
 -- the numbers that a cut tells
 cut_right : (b : List ℕ) (o : Order) (types strings : List ℕ) → Cut b o types strings → (h : Header) × SectionsAreRight b h
-cut_right b o types strings cut = elim cut.parts [
-  | inl is ↦
-      let n = cut.header_len in
-      let t = length types in
-      let s = length strings in
-      let low = cut.at_least in
-      let high = cut.at_most in
-      let t-fits = cut.types_fit in
-      let s-fits = cut.strings_fit in
-      let whole : b ≡ header o n 0 t t s ++ (types ++ strings) = is ∙ append_assoc (header o n 0 t t s) types strings in
-      let fit = five_fit n 0 t t s (omega arith) (omega arith) (omega arith) (omega arith) (omega arith) in
-      let word : (j : ℕ) → j < 5 → word32_at o b (4 + 4 * j) ≡ slice_index (header_words n 0 t t s) j = λ j lt. rw whole (header_word o n 0 t t s j (types ++ strings) fit lt) in
-      let len : length b ≡ n + (t + s) = ap length whole ∙ length-append (header o n 0 t t s) (types ++ strings) ∙ rw (length-header o n 0 t t s low, length-append types strings) refl in (
-        record { order = o; types_pos = n + word32_at o b 8; types_len = t; str_pos = n + word32_at o b 16; str_len = s },
-        record {
-          header_len = n;
-          len = header_length b o n 0 t t s (types ++ strings) low high (omega arith) (omega arith) (omega arith) (omega arith) (omega arith) whole;
-          types_len = sym (word 2 (lit< tt));
-          str_len = sym (word 4 (lit< tt));
-          types_pos = refl;
-          str_pos = refl;
-          types_fit = t-fits;
-          some_strings = cut.some_strings;
-          strings_fit = s-fits;
-          fill = omega arith;
-          order_of_sections = inl (word 1 (lit< tt), word 3 (lit< tt));
-        },
-      )
-  | inr is ↦
-      let n = cut.header_len in
-      let t = length types in
-      let s = length strings in
-      let low = cut.at_least in
-      let high = cut.at_most in
-      let t-fits = cut.types_fit in
-      let s-fits = cut.strings_fit in
-      let whole : b ≡ header o n s t 0 s ++ (strings ++ types) = is ∙ append_assoc (header o n s t 0 s) strings types in
-      let fit = five_fit n s t 0 s (omega arith) (omega arith) (omega arith) (omega arith) (omega arith) in
-      let word : (j : ℕ) → j < 5 → word32_at o b (4 + 4 * j) ≡ slice_index (header_words n s t 0 s) j = λ j lt. rw whole (header_word o n s t 0 s j (strings ++ types) fit lt) in
-      let len : length b ≡ n + (s + t) = ap length whole ∙ length-append (header o n s t 0 s) (strings ++ types) ∙ rw (length-header o n s t 0 s low, length-append strings types) refl in (
-        record { order = o; types_pos = n + word32_at o b 8; types_len = t; str_pos = n + word32_at o b 16; str_len = s },
-        record {
-          header_len = n;
-          len = header_length b o n s t 0 s (strings ++ types) low high (omega arith) (omega arith) (omega arith) (omega arith) (omega arith) whole;
-          types_len = sym (word 2 (lit< tt));
-          str_len = sym (word 4 (lit< tt));
-          types_pos = refl;
-          str_pos = refl;
-          types_fit = t-fits;
-          some_strings = cut.some_strings;
-          strings_fit = s-fits;
-          fill = omega arith;
-          order_of_sections = inr (word 3 (lit< tt), word 1 (lit< tt));
-        },
-      )
-]
+cut_right b o types strings cut =
+    let n = cut.header_len in
+    let t = length types in
+    let s = length strings in
+    elim cut.parts [
+      | inl is ↦
+          cut_at b o n 0 t t s (types ++ strings) cut.at_least cut.at_most cut.types_fit cut.some_strings cut.strings_fit
+          (inl (refl, refl)) (length-append types strings) (is ∙ append_assoc (header o n 0 t t s) types strings)
+      | inr is ↦
+          cut_at b o n s t 0 s (strings ++ types) cut.at_least cut.at_most cut.types_fit cut.some_strings cut.strings_fit
+          (inr (refl, refl)) (omega (arith, length-append strings types)) (is ∙ append_assoc (header o n s t 0 s) strings types)
+    ]
 
 one_order : (b : List ℕ) (o p : Order) → word16_at o b 0 ≡ 0xeb9f → word16_at p b 0 ≡ 0xeb9f → o ≡ p
 one_order b Little Little e f = refl

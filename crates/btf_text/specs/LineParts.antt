@@ -1,6 +1,6 @@
 -- The line of a type or an item in three parts: what stands before its name, the bytes of the name, and what stands behind
 -- them. A line without a name is cut behind its word.
-use Rattle.std.specs.Prelude.{ℕ, Bool, List, [], ◌++◌, codes, decimal, if◌then◌else◌}
+use Rattle.std.specs.Prelude.{ℕ, Bool, true, false, List, [], ◌++◌, codes, decimal, if◌then◌else◌}
 use Rattle.std.specs.Int.{w32, w64}
 use Rattle.btf_types.specs.Values.{TypeHead, KInt, KPtr, KArray, KStruct, KUnion, KEnum, KFwd, KTypedef, KVolatile, KConst, KRestrict, KFunc, KFuncProto, KVar, KDatasec, KFloat, KDeclTag, KTypeTag, KEnum64, TypeItem, Member, EnumValue, Value64, Param, Entry}
 use Rattle.btf_text.specs.BtfText.{encoding_name, linkage_name, sign_name, flag_text, component_text, kind_word, value_text}
@@ -56,6 +56,16 @@ head_fields (KTypeTag name flag target) items =
     codes "\" flag=" ++ flag_text flag ++ codes " type=" ++ decimal target
 head_fields (KEnum64 name signed size) items =
     codes "\" " ++ sign_name signed ++ codes " size=" ++ decimal size ++ codes " items=" ++ decimal items
+
+-- whether a type is declared by its name alone, or is linked or a tag; a contract of a private function cites it
+abbrev pub is_declaration : TypeHead → Bool
+is_declaration (KFwd name is_union) = true
+is_declaration (KTypedef name target) = true
+is_declaration (KFunc name linkage target) = true
+is_declaration (KVar name target linkage) = true
+is_declaration (KDeclTag name flag target component) = true
+is_declaration (KTypeTag name flag target) = true
+is_declaration head = false
 
 -- the line of a type with so many items, from behind its name
 abbrev pub head_end : TypeHead → ℕ → List ℕ

@@ -1,6 +1,6 @@
 //! The line of a BTF type: its number, the word of its kind, and its fields.
 
-ghost use Rattle.std.specs.Prelude.{◌≡◌, [], ◌++◌, codes, OnOk};
+ghost use Rattle.std.specs.Prelude.{◌≡◌, [], ◌++◌, codes, decimal, IsTrue, OnOk};
 ghost use Rattle.btf_types.specs.Values as values;
 ghost use Rattle.btf_types.specs.Values.{head_value};
 ghost use Rattle.btf_types.specs.Names as names;
@@ -110,14 +110,16 @@ fn append_array<A: Allocator>(
     append_number(text, " count=", count)
 }
 
-fn append_with_items<A: Allocator>(
+// Appends a label and a number, and how many items there are.
+fn append_counted<A: Allocator>(
     text: &mut Vec<u8, A>,
-    size: u32,
+    label: &str,
+    number: u32,
     items: u32,
 ) -> Result<(), AllocError>
-    ensures { OnOk result (text.new.items ≡ text.old.items ++ parts.head_fields (values.KStruct [] size) items) }
+    ensures { OnOk result (text.new.items ≡ text.old.items ++ (label.now ++ decimal number ++ codes " items=" ++ decimal items)) }
 {
-    append_number(text, "\" size=", size)?;
+    append_number(text, label, number)?;
     append_number(text, " items=", items)
 }
 
@@ -131,42 +133,20 @@ fn append_enum<A: Allocator>(
 {
     append(text, "\" ")?;
     append(text, sign_name(signed))?;
-    append_number(text, " size=", size)?;
-    append_number(text, " items=", items)
+    append_counted(text, " size=", size, items)
 }
 
-fn append_linked<A: Allocator>(
+// Appends a label and a word, and the number of a type.
+fn append_with_type<A: Allocator>(
     text: &mut Vec<u8, A>,
-    linkage: Linkage,
+    label: &str,
+    word: &str,
     target: u32,
 ) -> Result<(), AllocError>
-    ensures { OnOk result (text.new.items ≡ text.old.items ++ parts.head_fields (values.KFunc [] linkage target) 0) }
+    ensures { OnOk result (text.new.items ≡ text.old.items ++ (label.now ++ word.now ++ codes " type=" ++ decimal target)) }
 {
-    append(text, "\" ")?;
-    append(text, linkage_name(linkage))?;
-    append_number(text, " type=", target)
-}
-
-fn append_prototype<A: Allocator>(
-    text: &mut Vec<u8, A>,
-    target: u32,
-    items: u32,
-) -> Result<(), AllocError>
-    ensures { OnOk result (text.new.items ≡ text.old.items ++ parts.head_fields (values.KFuncProto target) items) }
-{
-    append_number(text, " type=", target)?;
-    append_number(text, " items=", items)
-}
-
-fn append_type_tag<A: Allocator>(
-    text: &mut Vec<u8, A>,
-    flag: bool,
-    target: u32,
-) -> Result<(), AllocError>
-    ensures { OnOk result (text.new.items ≡ text.old.items ++ parts.head_fields (values.KTypeTag [] flag target) 0) }
-{
-    append(text, "\" flag=")?;
-    append(text, flag_text(flag))?;
+    append(text, label)?;
+    append(text, word)?;
     append_number(text, " type=", target)
 }
 
@@ -190,12 +170,46 @@ fn append_decl_tag<A: Allocator>(
 ) -> Result<(), AllocError>
     ensures { OnOk result (text.new.items ≡ text.old.items ++ parts.head_fields (values.KDeclTag [] flag target component) 0) }
 {
-    append_type_tag(text, flag, target)?;
+    append_with_type(text, "\" flag=", flag_text(flag), target)?;
     append(text, " component=")?;
     append_component(text, component)
 }
 
-/// Appends what stands behind the name of a type with so many items.
+// Appends what stands behind the name of a declaration: a type that is declared by its name alone, or is linked or a tag.
+fn append_declaration<A: Allocator>(text: &mut Vec<u8, A>, head: Head<'_>) -> Result<(), AllocError>
+    requires { IsTrue (parts.is_declaration (head_value head)) }
+    ensures { OnOk result (text.new.items ≡ text.old.items ++ parts.head_fields (head_value head.entry) 0) }
+{
+    match head {
+        Head::KFwd { is_union, .. } => append(
+            text,
+            if is_union { "\" union" } else { "\" struct" },
+        ),
+        Head::KTypedef { target, .. } => append_number(text, "\" type=", target),
+        Head::KFunc {
+            linkage,
+            target,
+            ..
+        }
+        | Head::KVar {
+            target,
+            linkage,
+            ..
+        } => append_with_type(text, "\" ", linkage_name(linkage), target),
+        Head::KDeclTag {
+            flag,
+            target,
+            component,
+            ..
+        } => append_decl_tag(text, flag, target, component),
+        Head::KTypeTag { flag, target, .. } => {
+            append_with_type(text, "\" flag=", flag_text(flag), target)
+        }
+        _ => unreachable!(),
+    }
+}
+
+// Appends what stands behind the name of a type with so many items.
 fn append_fields<A: Allocator>(
     text: &mut Vec<u8, A>,
     head: Head<'_>,
@@ -221,35 +235,14 @@ fn append_fields<A: Allocator>(
             count,
         } => append_array(text, target, index, count),
         Head::KStruct { size, .. } | Head::KUnion { size, .. } | Head::KDatasec { size, .. } => {
-            append_with_items(text, size, items)
+            append_counted(text, "\" size=", size, items)
         }
         Head::KEnum { signed, size, .. } | Head::KEnum64 { signed, size, .. } => {
             append_enum(text, signed, size, items)
         }
-        Head::KFwd { is_union, .. } => append(
-            text,
-            if is_union { "\" union" } else { "\" struct" },
-        ),
-        Head::KTypedef { target, .. } => append_number(text, "\" type=", target),
-        Head::KFunc {
-            linkage,
-            target,
-            ..
-        }
-        | Head::KVar {
-            target,
-            linkage,
-            ..
-        } => append_linked(text, linkage, target),
-        Head::KFuncProto { target } => append_prototype(text, target, items),
+        Head::KFuncProto { target } => append_counted(text, " type=", target, items),
         Head::KFloat { size, .. } => append_number(text, "\" size=", size),
-        Head::KDeclTag {
-            flag,
-            target,
-            component,
-            ..
-        } => append_decl_tag(text, flag, target, component),
-        Head::KTypeTag { flag, target, .. } => append_type_tag(text, flag, target),
+        _ => append_declaration(text, head),
     }
 }
 
@@ -257,27 +250,7 @@ fn append_fields<A: Allocator>(
 pub fn head_name<'a>(head: Head<'a>) -> &'a str
     ensures { result.now ≡ names.head_name (head_value head.entry) }
 {
-    match head {
-        Head::KInt { name, .. }
-        | Head::KStruct { name, .. }
-        | Head::KUnion { name, .. }
-        | Head::KEnum { name, .. }
-        | Head::KFwd { name, .. }
-        | Head::KTypedef { name, .. }
-        | Head::KFunc { name, .. }
-        | Head::KVar { name, .. }
-        | Head::KDatasec { name, .. }
-        | Head::KFloat { name, .. }
-        | Head::KDeclTag { name, .. }
-        | Head::KTypeTag { name, .. }
-        | Head::KEnum64 { name, .. } => name,
-        Head::KPtr { .. }
-        | Head::KArray { .. }
-        | Head::KVolatile { .. }
-        | Head::KConst { .. }
-        | Head::KRestrict { .. }
-        | Head::KFuncProto { .. } => "",
-    }
+    head.name()
 }
 
 /// What stands between the word of a kind and the first byte of its name.

@@ -105,13 +105,7 @@ fn append_item_fields<A: Allocator>(
 pub fn item_name<'a>(item: Item<'a>) -> &'a str
     ensures { result.now ≡ names.item_name (item_value item.entry) }
 {
-    match item {
-        Item::Member { name, .. }
-        | Item::EnumValue { name, .. }
-        | Item::Value64 { name, .. }
-        | Item::Param { name, .. } => name,
-        Item::Entry { .. } => "",
-    }
+    item.name()
 }
 
 /// Appends the line of an item up to the first byte of its name. Behind it come the bytes of the name, by

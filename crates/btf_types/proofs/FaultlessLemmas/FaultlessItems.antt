@@ -1,11 +1,11 @@
 -- The items of a frame without fault: their words spell them, and they are good.
-use Rattle.std.proofs.Common.{◌≡◌, ◌≢◌, ℕ, zero, suc, ◌+◌, ◌*◌, ◌/◌, ◌%◌, ◌^◌, ◌<◌, Bool, true, false, List, [], ◌∷◌, length, take, drop, refl, ap, ◌∙◌, inl, inr, lit<, arith}
+use Rattle.std.proofs.Common.{◌≡◌, ◌≢◌, ◌⊎◌, ℕ, zero, suc, ◌+◌, ◌*◌, ◌/◌, ◌%◌, ◌^◌, ◌<◌, Bool, true, false, List, [], ◌∷◌, length, take, drop, refl, ap, ◌∙◌, inl, inr, lit<, arith}
 use Rattle.std.specs.Prelude.{IsTrue, slice_index, ◌==◌, if◌then◌else◌}
 use Rattle.std.specs.List.{All}
 use Rattle.std.proofs.lemmas.List.Elements.{All-nil, All-cons}
 use Rattle.btf_raw.specs.declared.kinds.TheConstants.{STRUCT, UNION, ENUM, FUNC_PROTO, DATASEC, ENUM64}
 use Rattle.btf_raw.specs.Header.{HasNulEnds}
-use Rattle.btf_raw.specs.Kinds.{item_words}
+use Rattle.btf_raw.specs.Kinds.{item_words, one_of}
 use Rattle.btf_raw.specs.Names.{NameAt}
 use Rattle.btf_raw.specs.Frames.{IsFrame, third_word, kind, vlen, flag}
 use Rattle.btf_types.specs.Values.{TypeHead, TypeItem, Member, EnumValue, Value64, Param, Entry}
@@ -172,13 +172,16 @@ module _ (strings : List ℕ) (types : List TypeFacts) (frame : List ℕ) (ends 
         let j = 3 + item_words (kind frame) * i in
         ap (λ (n : ℕ). take n (drop j frame)) words ∙ three_at frame j (omega arith)
 
-    struct_named : kind frame ≡ STRUCT → IsTrue (has_item_names (kind frame))
-    unfolding has_item_names
-    struct_named e = rw e refl
+    -- the item of each kind; a STRUCT and a UNION have the same ones
+    abbrev IsRightAt : List ℕ → ℕ → Type 0
+    IsRightAt name i = ItemIsRight strings types frame bit_fields (head_of frame name) (item_of strings frame (3 + item_words (kind frame) * i)) (take (item_words (kind frame)) (drop (3 + item_words (kind frame) * i) frame))
 
-    union_named : kind frame ≡ UNION → IsTrue (has_item_names (kind frame))
+    abbrev HasMembers : Type 0
+    HasMembers = (kind frame ≡ STRUCT) ⊎ (kind frame ≡ UNION)
+
+    members_named : HasMembers → IsTrue (has_item_names (kind frame))
     unfolding has_item_names
-    union_named e = rw e refl
+    members_named is = elim is [ inl e ↦ rw e refl | inr e ↦ rw e refl ]
 
     enum_named : kind frame ≡ ENUM → IsTrue (has_item_names (kind frame))
     unfolding has_item_names
@@ -192,43 +195,25 @@ module _ (strings : List ℕ) (types : List TypeFacts) (frame : List ℕ) (ends 
     unfolding has_item_names
     proto_named e = rw e refl
 
-    struct_words : kind frame ≡ STRUCT → item_words (kind frame) ≡ 3
+    member_words : HasMembers → item_words (kind frame) ≡ 3
     unfolding item_words
-    struct_words e = rw e refl
+    member_words is = elim is [ inl e ↦ rw e refl | inr e ↦ rw e refl ]
 
-    struct_item : kind frame ≡ STRUCT → (j : ℕ) → item_of strings frame j ≡ Member (text_from strings (slice_index frame j)) (slice_index frame (j + 1)) (bit_offset frame (j + 2)) (width frame (j + 2))
+    member_item : HasMembers → (j : ℕ) → item_of strings frame j ≡ Member (text_from strings (slice_index frame j)) (slice_index frame (j + 1)) (bit_offset frame (j + 2)) (width frame (j + 2))
     unfolding item_from
-    struct_item e j = rw e refl
+    member_item is j = elim is [ inl e ↦ rw e refl | inr e ↦ rw e refl ]
 
-    struct_of : kind frame ≡ STRUCT → (name : List ℕ) → (n : List ℕ) (t o w : ℕ) → ItemOf (head_of frame name) (Member n t o w)
+    member_of : HasMembers → (name : List ℕ) → (n : List ℕ) (t o w : ℕ) → ItemOf (head_of frame name) (Member n t o w)
     unfolding head_from
-    struct_of e name = rw e (λ n t o w. tt)
+    member_of is name = elim is [ inl e ↦ rw e (λ n t o w. tt) | inr e ↦ rw e (λ n t o w. tt) ]
 
-    struct_case : kind frame ≡ STRUCT → (name : List ℕ) (i : ℕ) → i < vlen frame
-        → ItemIsRight strings types frame bit_fields (head_of frame name) (item_of strings frame (3 + item_words (kind frame) * i)) (take (item_words (kind frame)) (drop (3 + item_words (kind frame) * i) frame))
-    struct_case e name i low =
+    member_case : HasMembers → (name : List ℕ) (i : ℕ) → i < vlen frame → IsRightAt name i
+    member_case is name i low =
         let j = 3 + item_words (kind frame) * i in
-        rw (struct_item e j, three_words i (struct_words e) low)
-        (member_right (head_of frame name) i j refl (rw e refl) (struct_words e) (struct_named e) (struct_of e name) (inr (inr (inl (rw e refl, i, (low, omega arith))))) low)
-
-    union_words : kind frame ≡ UNION → item_words (kind frame) ≡ 3
-    unfolding item_words
-    union_words e = rw e refl
-
-    union_item : kind frame ≡ UNION → (j : ℕ) → item_of strings frame j ≡ Member (text_from strings (slice_index frame j)) (slice_index frame (j + 1)) (bit_offset frame (j + 2)) (width frame (j + 2))
-    unfolding item_from
-    union_item e j = rw e refl
-
-    union_of : kind frame ≡ UNION → (name : List ℕ) → (n : List ℕ) (t o w : ℕ) → ItemOf (head_of frame name) (Member n t o w)
-    unfolding head_from
-    union_of e name = rw e (λ n t o w. tt)
-
-    union_case : kind frame ≡ UNION → (name : List ℕ) (i : ℕ) → i < vlen frame
-        → ItemIsRight strings types frame bit_fields (head_of frame name) (item_of strings frame (3 + item_words (kind frame) * i)) (take (item_words (kind frame)) (drop (3 + item_words (kind frame) * i) frame))
-    union_case e name i low =
-        let j = 3 + item_words (kind frame) * i in
-        rw (union_item e j, three_words i (union_words e) low)
-        (member_right (head_of frame name) i j refl (rw e refl) (union_words e) (union_named e) (union_of e name) (inr (inr (inl (rw e refl, i, (low, omega arith))))) low)
+        let struct : IsTrue (is_struct (kind frame)) = elim is [ inl e ↦ rw e refl | inr e ↦ rw e refl ] in
+        let typed : IsTrue (one_of (STRUCT ∷ UNION ∷ FUNC_PROTO ∷ []) (kind frame)) = elim is [ inl e ↦ rw e refl | inr e ↦ rw e refl ] in
+        rw (member_item is j, three_words i (member_words is) low)
+        (member_right (head_of frame name) i j refl struct (member_words is) (members_named is) (member_of is name) (inr (inr (inl (typed, i, (low, omega arith))))) low)
 
     enum_words : kind frame ≡ ENUM → item_words (kind frame) ≡ 2
     unfolding item_words
@@ -242,8 +227,7 @@ module _ (strings : List ℕ) (types : List TypeFacts) (frame : List ℕ) (ends 
     unfolding head_from
     enum_of e name = rw e (λ n v. tt)
 
-    enum_case : kind frame ≡ ENUM → (name : List ℕ) (i : ℕ) → i < vlen frame
-        → ItemIsRight strings types frame bit_fields (head_of frame name) (item_of strings frame (3 + item_words (kind frame) * i)) (take (item_words (kind frame)) (drop (3 + item_words (kind frame) * i) frame))
+    enum_case : kind frame ≡ ENUM → (name : List ℕ) (i : ℕ) → i < vlen frame → IsRightAt name i
     enum_case e name i low =
         let j = 3 + item_words (kind frame) * i in
         rw (enum_item e j, two_words i (enum_words e) low)
@@ -261,8 +245,7 @@ module _ (strings : List ℕ) (types : List TypeFacts) (frame : List ℕ) (ends 
     unfolding head_from
     enum64_of e name = rw e (λ n v. tt)
 
-    enum64_case : kind frame ≡ ENUM64 → (name : List ℕ) (i : ℕ) → i < vlen frame
-        → ItemIsRight strings types frame bit_fields (head_of frame name) (item_of strings frame (3 + item_words (kind frame) * i)) (take (item_words (kind frame)) (drop (3 + item_words (kind frame) * i) frame))
+    enum64_case : kind frame ≡ ENUM64 → (name : List ℕ) (i : ℕ) → i < vlen frame → IsRightAt name i
     enum64_case e name i low =
         let j = 3 + item_words (kind frame) * i in
         rw (enum64_item e j, three_words i (enum64_words e) low)
@@ -280,8 +263,7 @@ module _ (strings : List ℕ) (types : List TypeFacts) (frame : List ℕ) (ends 
     unfolding head_from
     proto_of e name = rw e (λ n t. tt)
 
-    proto_case : kind frame ≡ FUNC_PROTO → (name : List ℕ) (i : ℕ) → i < vlen frame
-        → ItemIsRight strings types frame bit_fields (head_of frame name) (item_of strings frame (3 + item_words (kind frame) * i)) (take (item_words (kind frame)) (drop (3 + item_words (kind frame) * i) frame))
+    proto_case : kind frame ≡ FUNC_PROTO → (name : List ℕ) (i : ℕ) → i < vlen frame → IsRightAt name i
     proto_case e name i low =
         let j = 3 + item_words (kind frame) * i in
         rw (proto_item e j, two_words i (proto_words e) low)
@@ -299,18 +281,16 @@ module _ (strings : List ℕ) (types : List TypeFacts) (frame : List ℕ) (ends 
     unfolding head_from
     section_of e name = rw e (λ t o n. tt)
 
-    section_case : kind frame ≡ DATASEC → (name : List ℕ) (i : ℕ) → i < vlen frame
-        → ItemIsRight strings types frame bit_fields (head_of frame name) (item_of strings frame (3 + item_words (kind frame) * i)) (take (item_words (kind frame)) (drop (3 + item_words (kind frame) * i) frame))
+    section_case : kind frame ≡ DATASEC → (name : List ℕ) (i : ℕ) → i < vlen frame → IsRightAt name i
     section_case e name i low =
         let j = 3 + item_words (kind frame) * i in
         rw (section_item e j, three_words i (section_words e) low)
         (entry_right (head_of frame name) i j refl (section_words e) (section_of e name) (inr (inr (inr (e, i, (low, omega arith))))) low)
 
-    pub item_right : {k : ℕ} → KindIs k → kind frame ≡ k → (name : List ℕ) (i : ℕ) → i < count_of k (vlen frame)
-        → ItemIsRight strings types frame bit_fields (head_of frame name) (item_of strings frame (3 + item_words (kind frame) * i)) (take (item_words (kind frame)) (drop (3 + item_words (kind frame) * i) frame))
+    pub item_right : {k : ℕ} → KindIs k → kind frame ≡ k → (name : List ℕ) (i : ℕ) → i < count_of k (vlen frame) → IsRightAt name i
     unfolding item_words
-    item_right IsStruct e name i low = struct_case e name i (listed STRUCT i (vlen frame) low)
-    item_right IsUnion e name i low = union_case e name i (listed UNION i (vlen frame) low)
+    item_right IsStruct e name i low = member_case (inl e) name i (listed STRUCT i (vlen frame) low)
+    item_right IsUnion e name i low = member_case (inr e) name i (listed UNION i (vlen frame) low)
     item_right IsEnum e name i low = enum_case e name i (listed ENUM i (vlen frame) low)
     item_right IsFuncProto e name i low = proto_case e name i (listed FUNC_PROTO i (vlen frame) low)
     item_right IsDatasec e name i low = section_case e name i (listed DATASEC i (vlen frame) low)

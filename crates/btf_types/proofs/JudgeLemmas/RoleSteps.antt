@@ -344,11 +344,11 @@ abbrev pub HeldFault : Section → Record → ℕ → Role → BtfCause → Type
 HeldFault s r word role c = RoleFault s.strings.now (facts_in s) r.kind r.vlen r.flag r.third r.bit_fields word role c
 
 -- the same on the numbers that are kept of a record
-pub judged : (s : Section) (r : Record) (j word : ℕ) (role : Role) (result : Option BtfCause) → RecordIs s r → j < r.words
+pub judged : {s : Section} {r : Record} {j word : ℕ} (role : Role) (result : Option BtfCause) → RecordIs s r → j < r.words
     → word ≡ slice_index (frame_at s.order s.types.now r.pos) j → RoleIs r.kind j role → RoleTells r.kind j role
     → MatchOption result (NoCause (HeldFault s r word role)) (λ c. LeastCause (HeldFault s r word role) c)
     → MatchOption result (NoCause (WordFault s.strings.now (facts_in s) (frame_at s.order s.types.now r.pos) j)) (λ c. LeastCause (WordFault s.strings.now (facts_in s) (frame_at s.order s.types.now r.pos) j) c)
-judged s r j word role result is there word-is role-is tells held =
+judged {s} {r} {j} {word} role result is there word-is role-is tells held =
     let f = frame_at s.order s.types.now r.pos in
     word_judged s.strings.now (facts_in s) f r.bit_fields j is.stands.frame is.bit_fields_are (rw (← is.words_are) there) role result
     (rw (← is.kind_is) role-is) (rw (← is.kind_is) tells)

@@ -22,7 +22,10 @@ pub push_record-requires-clause-noted : goal.push_record-requires-clause-noted
 push_record-requires-clause-noted g c =
     let s = c.args.sections.now in
     let low : c.loop-pos.pos-index < length s.places.now = omega arith in
-    record_offsets (Contains c.args.names.now.offsets) s.order s.types.now s.places.now c.loop-pos.pos-index low c.requires.noted
+    record {
+      strings = c.requires.strings;
+      offsets = record_offsets (Contains c.args.names.now.offsets) s.order s.types.now s.places.now c.loop-pos.pos-index low c.requires.noted;
+    }
 
 pub loop-pos-preserved : goal.loop-pos-preserved
 loop-pos-preserved g c =
