@@ -1,6 +1,6 @@
 //! Text that is written in pieces, as it is made.
 
-ghost use Rattle.std.specs.Prelude.{◌≡◌, ◌<◌, [], IfErr, OnOk};
+ghost use Rattle.std.specs.Prelude.{◌≡◌, ◌<◌, [], length, IfErr, OnOk};
 ghost use Rattle.bpf_jobs.specs.declared.pieces.PutError.TheVariants.{Memory, WriteFailed};
 ghost use Rattle.bpf_jobs.specs.JobEnds.{change};
 ghost use Rattle.bpf_jobs.specs.Pieces.{Gathers, Puts, end_of_pieces};
@@ -78,6 +78,7 @@ pub fn put_long_piece<W: ByteSink, A: Allocator>(
 ) -> Result<(), PutError>
     requires { W.failures sink.old < u64.MAX }
     ensures gathered { Gathers (change (W.contents sink.old) (W.contents sink.new) (W.failures sink.old) (W.failures sink.new)) piece.new.items piece.old.items result }
+    ensures short { OnOk result (length piece.new.items < PIECE) }
     ensures failed { IfErr result (λ e. e ≡ WriteFailed) }
 {
     if piece.len() < PIECE {
