@@ -7,7 +7,8 @@ use Rattle.bpf_words.specs.declared.Order.TheVariants.{Little, Big}
 use Rattle.bpf_words.specs.Words.{word16, word32}
 use Rattle.bpf_words.specs.Slots.{Fields, AreFields, spelled}
 use Rattle.bpf_words.proofs.OneSpelling.{word-injective_16, word-injective_32, signed_16, signed_32, pattern_fits_16, pattern_fits_32}
-use Rattle.bpf_insn.specs.Table.{fields_of, IsInsn, IsOffset, IsImm, alu_code, alu_class, branch_code, branch_class, source_bit, source, immediate, IsOperand, IsWideOf, alu_offset, wide_source, wide_imm, wide_next_imm, movsx_width, movsx_bits, swap_opcode, swap_bits, size_number, small_size_number, atomic_size, atomic_number}
+use Rattle.bpf_insn.specs.Table.{fields_of, IsInsn, IsOffset, IsImm, alu_code, alu_class, branch_code, branch_class, source_bit, source, immediate, IsOperand, IsWideOf, alu_offset, wide_imm, wide_next_imm, movsx_width, movsx_bits, swap_opcode, swap_bits, size_number, small_size_number, atomic_size, atomic_number}
+use Rattle.bpf_insn.proofs.FormLemmas.{wide_allowed}
 use Rattle.bpf_insn.specs.Faults.{held}
 use Rattle.bpf_insn.specs.declared.fault.SlotCause.TheVariants.{Opcode, Dst, Src, Offset, Imm}
 use Rattle.bpf_insn.specs.declared.insn.Width.{Width}
@@ -94,15 +95,6 @@ immediate_fits : (a : Operand) → IsOperand a → IsImm (immediate a)
 immediate_fits (arg.Imm k) h = h
 immediate_fits (arg.Reg r) h = small_imm 0 (omega arith)
 
-wide_source_below : (what : WideOf) → wide_source what < 16
-wide_source_below (Number n) = omega arith
-wide_source_below (MapFd k) = omega arith
-wide_source_below (MapValueFd k m) = omega arith
-wide_source_below (VarAddr k m) = omega arith
-wide_source_below (CodeAddr k) = omega arith
-wide_source_below (MapIdx k) = omega arith
-wide_source_below (MapValueIdx k m) = omega arith
-
 pattern_signed : (n : ℕ) → n < 2 ^ 32 → IsImm (cast_signed w32 n)
 pattern_signed n h = omega (arith, ints)
 
@@ -164,7 +156,7 @@ fields_in_range (StoreReg z d s o) h =
 fields_in_range (Atomic width op d s o) h =
     record { opcode = omega (arith, atomic_size_below width); dst = omega (arith, d.in_range); src = omega (arith, s.in_range); off = h; imm = small_imm (atomic_number op) (atomic_below op) }
 fields_in_range (Wide d what) h =
-    record { opcode = omega arith; dst = omega (arith, d.in_range); src = wide_source_below what; off = zero_offset; imm = wide_imm_fits what h }
+    record { opcode = omega arith; dst = omega (arith, d.in_range); src = omega (arith, wide_allowed what); off = zero_offset; imm = wide_imm_fits what h }
 fields_in_range (PacketAbs z k) h =
     record { opcode = omega (arith, small_below z); dst = omega arith; src = omega arith; off = zero_offset; imm = h }
 fields_in_range (PacketInd z s k) h =

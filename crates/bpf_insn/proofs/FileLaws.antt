@@ -20,32 +20,15 @@ use Rattle.bpf_insn.specs.declared.fault.SlotCause.{SlotCause}
 use Rattle.bpf_insn.specs.declared.fault.SlotCause.TheVariants.{Truncated, Opcode, Dst, Src, Offset, Imm, Reserved, NextImm}
 use Rattle.bpf_insn.specs.declared.fault.SlotFault.{SlotFault}
 use Rattle.bpf_insn.specs.declared.insn.Insn.{Insn}
-use Rattle.bpf_insn.specs.declared.insn.Insn.TheVariants.{Alu, Movsx, Neg, Swap, Jump, JumpLong, Branch, CallHelper, CallLocal, CallBtf, Exit, Load, LoadSigned, StoreImm, StoreReg, Atomic, Wide, PacketAbs, PacketInd}
+use Rattle.bpf_insn.specs.declared.insn.Insn.TheVariants.{Wide}
 use Rattle.bpf_insn.specs.declared.form.Form.TheVariants as form
 
 -- ---- one instruction
 
 -- a wide load, or an instruction of one slot
 wide_or_not : (i : Insn) → (insn_form i ≡ form.Wide) ⊎ (next_imm_of i ≡ None)
-wide_or_not (Alu width op d a) = inr refl
-wide_or_not (Movsx f d s) = inr refl
-wide_or_not (Neg width d) = inr refl
-wide_or_not (Swap kind bits d) = inr refl
-wide_or_not (Jump o) = inr refl
-wide_or_not (JumpLong k) = inr refl
-wide_or_not (Branch width op d a o) = inr refl
-wide_or_not (CallHelper k) = inr refl
-wide_or_not (CallLocal k) = inr refl
-wide_or_not (CallBtf k o) = inr refl
-wide_or_not Exit = inr refl
-wide_or_not (Load z d s o) = inr refl
-wide_or_not (LoadSigned z d s o) = inr refl
-wide_or_not (StoreImm z d o k) = inr refl
-wide_or_not (StoreReg z d s o) = inr refl
-wide_or_not (Atomic width op d s o) = inr refl
 wide_or_not (Wide d what) = inl refl
-wide_or_not (PacketAbs z k) = inr refl
-wide_or_not (PacketInd z s k) = inr refl
+wide_or_not _ = inr refl
 
 next_fits : (i : Insn) (w : IsWideLoad i) → IsInsn i → (next_imm_of i ≡ Some (wide_next_imm w.what)) × (cast_unsigned w32 (wide_next_imm w.what) < 2 ^ 32) × FitsSigned w32 (wide_next_imm w.what)
 next_fits i w h =

@@ -49,31 +49,11 @@ plain_op code.Arsh = alu.Arsh
 
 plain_code : (op : AluCode) → alu_code (plain_op op) ≡ alu_code_number op
 plain_code code.Add = refl
-plain_code code.Sub = refl
-plain_code code.Mul = refl
-plain_code code.Div = refl
-plain_code code.Or = refl
-plain_code code.And = refl
-plain_code code.Lsh = refl
-plain_code code.Rsh = refl
-plain_code code.Mod = refl
-plain_code code.Xor = refl
-plain_code code.Mov = refl
-plain_code code.Arsh = refl
+plain_code _ = refl
 
 plain_offset : (op : AluCode) → alu_offset (plain_op op) ≡ 0
 plain_offset code.Add = refl
-plain_offset code.Sub = refl
-plain_offset code.Mul = refl
-plain_offset code.Div = refl
-plain_offset code.Or = refl
-plain_offset code.And = refl
-plain_offset code.Lsh = refl
-plain_offset code.Rsh = refl
-plain_offset code.Mod = refl
-plain_offset code.Xor = refl
-plain_offset code.Mov = refl
-plain_offset code.Arsh = refl
+plain_offset _ = refl
 
 -- a rule allows no more than its form
 plain_insn : (f : Form) (d s : ℕ) (o k : ℤ) → IsSomeAnd (rule_of_form f) (λ r. IsWithin r (fields (form_opcode f) d s o k)) → IsOffset o → IsImm k

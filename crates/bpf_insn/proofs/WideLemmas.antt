@@ -19,7 +19,7 @@ use Rattle.bpf_insn.specs.declared.insn.Reg.{Reg}
 use Rattle.bpf_insn.specs.declared.insn.WideOf.{WideOf}
 use Rattle.bpf_insn.specs.declared.insn.WideOf.TheVariants.{Number, MapFd, MapValueFd, VarAddr, CodeAddr, MapIdx, MapValueIdx}
 use Rattle.bpf_insn.specs.declared.insn.Insn.{Insn}
-use Rattle.bpf_insn.specs.declared.insn.Insn.TheVariants.{Alu, Movsx, Neg, Swap, Jump, JumpLong, Branch, CallHelper, CallLocal, CallBtf, Exit, Load, LoadSigned, StoreImm, StoreReg, Atomic, Wide, PacketAbs, PacketInd}
+use Rattle.bpf_insn.specs.declared.insn.Insn.TheVariants.{Wide}
 use Rattle.bpf_insn.specs.declared.form.Form.TheVariants as form
 
 -- an instruction of the wide form is a wide load
@@ -29,25 +29,8 @@ pub record IsWideLoad (i : Insn) : Type 0 where
   pub is : i ≡ Wide dst what
 
 pub wide_of_form : (i : Insn) → insn_form i ≡ form.Wide → IsWideLoad i
-wide_of_form (Alu width op d a) e = absurd (cc)
-wide_of_form (Movsx f d s) e = absurd (cc)
-wide_of_form (Neg width d) e = absurd (cc)
-wide_of_form (Swap kind bits d) e = absurd (cc)
-wide_of_form (Jump o) e = absurd (cc)
-wide_of_form (JumpLong k) e = absurd (cc)
-wide_of_form (Branch width op d a o) e = absurd (cc)
-wide_of_form (CallHelper k) e = absurd (cc)
-wide_of_form (CallLocal k) e = absurd (cc)
-wide_of_form (CallBtf k o) e = absurd (cc)
-wide_of_form Exit e = absurd (cc)
-wide_of_form (Load z d s o) e = absurd (cc)
-wide_of_form (LoadSigned z d s o) e = absurd (cc)
-wide_of_form (StoreImm z d o k) e = absurd (cc)
-wide_of_form (StoreReg z d s o) e = absurd (cc)
-wide_of_form (Atomic width op d s o) e = absurd (cc)
 wide_of_form (Wide d what) e = record { dst = d; what = what; is = refl }
-wide_of_form (PacketAbs z k) e = absurd (cc)
-wide_of_form (PacketInd z s k) e = absurd (cc)
+wide_of_form _ e = absurd (cc)
 
 pub wide_of_opcode : (i : Insn) → (fields_of i).opcode ≡ 0x18 → IsWideLoad i
 wide_of_opcode i e = wide_of_form i (same_form i form.Wide e)

@@ -5,7 +5,6 @@ use Rattle.std.specs.List.{flat_map, enumerate_from}
 use Rattle.std.proofs.lemmas.List.{take-append-drop, take_all}
 use Rattle.std.proofs.lemmas.List.Concat.{flat_map-append}
 use Rattle.std.proofs.KnownBytes.{Appends-nil}
-use Rattle.std.specs.Io.KnownBytes.{Appends}
 use Rattle.btf_raw.specs.declared.cause.BtfFault.{BtfFault}
 use Rattle.btf_types.specs.Values.{TypeHead, TypeItem, TypeRecord}
 use Rattle.btf_types.specs.Denotes.{Denotes}
@@ -16,13 +15,12 @@ use Rattle.btf_text.proofs.BtfTextLemmas.{item_shown, type_shown}
 use Rattle.bpf_jobs.specs.declared.job.Job.{Job}
 use Rattle.bpf_jobs.specs.declared.outcome.Outcome.TheVariants as ends
 use Rattle.bpf_jobs.specs.declared.pieces.PutError.{PutError}
-use Rattle.bpf_jobs.specs.declared.pieces.PutError.TheVariants.{WriteFailed, Memory}
 use Rattle.bpf_jobs.specs.declared.verb.Verb.TheVariants.{BtfShow}
 use Rattle.bpf_jobs.specs.JobEnds.{Change, change}
 use Rattle.bpf_jobs.specs.BtfReply.{shown, unshown}
-use Rattle.bpf_jobs.specs.Pieces.{Answers, Gathered, Gathers, Puts, TookFront, TookPart, answered, refused_amid, unwritten}
+use Rattle.bpf_jobs.specs.Pieces.{Answers, Gathered, Gathers, Puts, answered, end_of_pieces}
 use Rattle.bpf_jobs.specs.Reply.{limit_of}
-use Rattle.bpf_jobs.proofs.PiecesLemmas.{gathered_all, gathered_more, gathers_front, gathers_then, part_last}
+use Rattle.bpf_jobs.proofs.PiecesLemmas.{gathered_more, gathers_front, gathers_then, pieces_end, puts_stopped, puts_then}
 
 -- ---- the items of a type
 
@@ -116,37 +114,19 @@ module _ (a b c : Option (List ℕ)) (f g h : ℕ) (held kept : List ℕ) (v : L
       gathers_then a b c f g h held kept _ _ (Err e) p q in
       let whole : (text_of (take i v) ++ record_text (i + 1) (record_at v (i + 1))) ++ rest_of v (i + 1) ≡ text_of v =
       ap (λ (t : List ℕ). t ++ rest_of v (i + 1)) (type_shown v i inside) ∙ types_rest v (i + 1) in
-      puts e (subst (λ (t : List ℕ). Gathers (change a c f h) kept t (Err e)) whole (gathers_front (change a c f h) kept _ (rest_of v (i + 1)) e line))
-    where
-      puts : (e : PutError) → Gathers (change a c f h) kept (text_of v) (Err e) → Puts (change a c f h) (text_of v) (Err e)
-      puts WriteFailed q = q
-      puts Memory q = q
+      puts_stopped _ kept _ e (subst (λ (t : List ℕ). Gathers (change a c f h) kept t (Err e)) whole (gathers_front (change a c f h) kept _ (rest_of v (i + 1)) e line))
 
--- the sink took the last piece
-pub types_all : (a b c : Option (List ℕ)) (f g h : ℕ) (held : List ℕ) (v : List TypeRecord) (i : ℕ) → length v ≤ i → Gathered (change a b f g) held (text_of (take i v))
-    → Appends b c held → h ≡ g → Appends a c (text_of v) × (h ≡ f)
-types_all a b c f g h held v i done p took healthy =
-    subst (λ (w : List TypeRecord). Appends a c (text_of w) × (h ≡ f)) (take_all i v done) (gathered_all a b c f g h held (text_of (take i v)) p took healthy)
-
--- it failed amid the last piece
-pub types_part : (a b c : Option (List ℕ)) (f g h : ℕ) (held : List ℕ) (v : List TypeRecord) (i : ℕ) → length v ≤ i → Gathered (change a b f g) held (text_of (take i v))
-    → TookPart (change b c g h) held → TookPart (change a c f h) (text_of v)
-types_part a b c f g h held v i done p q =
-    subst (λ (w : List TypeRecord). TookPart (change a c f h) (text_of w)) (take_all i v done) (part_last a b c f g h held (text_of (take i v)) p q)
+-- the sink took the last piece, or a part of it
+pub types_put : (a b c : Option (List ℕ)) (f g h : ℕ) (held : List ℕ) (v : List TypeRecord) (i : ℕ) (r : Result (Unit {0}) PutError) → length v ≤ i
+    → Gathered (change a b f g) held (text_of (take i v)) → Puts (change b c g h) held r → Puts (change a c f h) (text_of v) r
+types_put a b c f g h held v i r done p q =
+    subst (λ (w : List TypeRecord). Puts (change a c f h) (text_of w) r) (take_all i v done) (puts_then a b c f g h held (text_of (take i v)) r p q)
 
 -- ---- how btf-show ends
 
-pub btf_shown : (j : Job) (input : List ℕ) (a b : Option (List ℕ)) (f g : ℕ) (v : List TypeRecord) → j.verb ≡ BtfShow → length input ≤ limit_of BtfShow → Denotes input v
-    → Appends a b (text_of v) × (g ≡ f) → Answers j input (change a b f g) ends.Done
-btf_shown j input a b f g v show within types put = answered ends.Done (text_of v) (rw show (shown v within types)) put.0 put.1
-
-pub btf_unwritten : (j : Job) (input : List ℕ) (a b : Option (List ℕ)) (f g : ℕ) (v : List TypeRecord) → j.verb ≡ BtfShow → length input ≤ limit_of BtfShow → Denotes input v
-    → TookPart (change a b f g) (text_of v) → Answers j input (change a b f g) ends.WriteFailed
-btf_unwritten j input a b f g v show within types part = unwritten ends.Done (text_of v) (rw show (shown v within types)) part
-
-pub btf_refused : (j : Job) (input : List ℕ) (a b : Option (List ℕ)) (f g : ℕ) (v : List TypeRecord) → j.verb ≡ BtfShow → length input ≤ limit_of BtfShow → Denotes input v
-    → TookFront (change a b f g) (text_of v) → Answers j input (change a b f g) ends.Memory
-btf_refused j input a b f g v show within types front = refused_amid ends.Done (text_of v) (rw show refl) (rw show (shown v within types)) front
+pub btf_ended : (j : Job) (input : List ℕ) (sink : Change) (v : List TypeRecord) (r : Result (Unit {0}) PutError) → j.verb ≡ BtfShow → length input ≤ limit_of BtfShow
+    → Denotes input v → Puts sink (text_of v) r → Answers j input sink (end_of_pieces r)
+btf_ended j input sink v r show within types put = pieces_end j input (text_of v) sink r (rw show refl) (rw show (shown v within types)) put
 
 pub btf_fault : (j : Job) (input : List ℕ) (a : Option (List ℕ)) (f : ℕ) (fault : BtfFault) → j.verb ≡ BtfShow → length input ≤ limit_of BtfShow
     → IsFirst input fault → Answers j input (change a a f f) (ends.BtfFault fault)

@@ -1,5 +1,7 @@
 -- A listing that is written in pieces, instruction by instruction.
 use Rattle.std.proofs.Common.{◌≡◌, ◌<◌, ◌≤◌, ◌+◌, ◌-◌, ◌++◌, ◌∙◌, ℕ, List, [], ◌∷◌, Option, length, take, drop, codes, refl, sym, ap, subst, arith, append_assoc, length-append, length-drop, All}
+use Rattle.std.specs.Prelude.{Result, Err}
+use Rattle.std.specs.Result.{IsErrAnd}
 use Rattle.std.proofs.lemmas.List.{append-nil, drop-drop, flat_map_more, take_all}
 use Rattle.std.proofs.lemmas.List.Concat.{flat_map-append}
 use Rattle.std.proofs.lemmas.List.Elements.{All-head, All-tail}
@@ -12,15 +14,16 @@ use Rattle.bpf_insn.specs.Spelling.{InsnFile, file_of, spelling}
 use Rattle.bpf_insn.specs.Faults.{BeginsWith, IsInsnFault, IsSlotFault}
 use Rattle.bpf_insn.proofs.FileLaws.{at_least_a_slot, begins_once}
 use Rattle.bpf_text.specs.Lines.{line_of, listing_of}
-use Rattle.std.specs.Io.KnownBytes.{Appends}
 use Rattle.std.proofs.KnownBytes.{Appends-nil}
 use Rattle.bpf_jobs.specs.declared.job.Job.{Job}
-use Rattle.bpf_jobs.specs.declared.outcome.Outcome.TheVariants.{Done, Fault, Memory, WriteFailed}
+use Rattle.bpf_jobs.specs.declared.outcome.Outcome.TheVariants.{Fault}
+use Rattle.bpf_jobs.specs.declared.pieces.PutError.{PutError}
+use Rattle.bpf_jobs.specs.declared.pieces.PutError.TheVariants.{Memory}
 use Rattle.bpf_jobs.specs.declared.verb.Verb.TheVariants.{InsnShow}
 use Rattle.bpf_jobs.specs.JobEnds.{Change, change}
-use Rattle.bpf_jobs.specs.Pieces.{Answers, Gathered, TookFront, TookPart, answered, refused_amid, unwritten}
+use Rattle.bpf_jobs.specs.Pieces.{Answers, Gathered, Gathers, Puts, TookFront, answered, end_of_pieces}
 use Rattle.bpf_jobs.specs.Reply.{limit_of, shown, unshown}
-use Rattle.bpf_jobs.proofs.PiecesLemmas.{front_more, gathered_all, gathered_more, gathered_none, part_last, part_more}
+use Rattle.bpf_jobs.proofs.PiecesLemmas.{front_more, gathered_more, gathered_none, gathers_front, gathers_then, pieces_end, puts_handed, puts_stopped, puts_then}
 
 -- the lines of the instructions before a place are gathered, and those of the others follow
 pub record Listed (order : Order) (input : List ℕ) (at : ℕ) (sink : Change) (piece : List ℕ) : Type 0 where
@@ -102,19 +105,23 @@ module _ (order : Order) (input : List ℕ) (at : ℕ) (a b : Option (List ℕ))
   pub faultless : (fault : SlotFault) → at < length input → IsSlotFault order (take (length input - at) (drop at input)) fault → ⊥
   faultless fault more at_fault = let n = next order input at p.after p.each p.rest more in at_fault.unspelled n.insn n.begins
 
-  -- a write failed amid the piece with one line more
-  pub listed_part : (c : Option (List ℕ)) (h : ℕ) (i : Insn) → at < length input → BeginsWith order i (take (length input - at) (drop at input))
-      → TookPart (change b c g h) (piece ++ line i) → (l : List Insn) × (InsnFile order input l × TookPart (change a c f h) (listing_of l))
-  listed_part c h i more found q =
+  -- the piece with one line more couldn't be written
+  pub listed_stopped : (c : Option (List ℕ)) (h : ℕ) (pushed kept : List ℕ) (i : Insn) (e : PutError) → at < length input → BeginsWith order i (take (length input - at) (drop at input))
+      → pushed ≡ piece ++ line i → Gathers (change b c g h) kept pushed (Err e) → (l : List Insn) × (InsnFile order input l × Puts (change a c f h) (listing_of l) (Err e))
+  listed_stopped c h pushed kept i e more found grown q =
       let n = next order input at p.after p.each p.rest more in
       let same : i ≡ n.insn = begins_once order i n.insn _ found n.begins in
       let is : p.after ≡ i ∷ n.others = n.is ∙ ap (λ (x : Insn). x ∷ n.others) (sym same) in
       let text : listing_of (p.before ++ p.after) ≡ listing_of p.before ++ line i ++ listing_of n.others =
       ap (λ (x : List Insn). listing_of (p.before ++ x)) is ∙ listing_split p.before n.others i in
-      (p.before ++ p.after, (p.file, subst (TookPart (change a c f h)) (sym text) (part_more a b c f g h piece (listing_of p.before) (line i) (listing_of n.others) p.gathered q)))
+      let part : Gathers (change a c f h) kept (listing_of p.before ++ line i) (Err e) =
+      gathers_then a b c f g h piece kept _ _ (Err e) p.gathered (subst (λ (t : List ℕ). Gathers (change b c g h) kept t (Err e)) grown q) in
+      let whole : Gathers (change a c f h) kept (listing_of (p.before ++ p.after)) (Err e) =
+      subst (λ (t : List ℕ). Gathers (change a c f h) kept t (Err e)) (sym text) (gathers_front (change a c f h) kept _ (listing_of n.others) e part) in
+      (p.before ++ p.after, (p.file, puts_stopped _ kept _ e whole))
 
   -- memory was refused for the next line
-  pub listed_front : (l : List Insn) × (InsnFile order input l × TookFront (change a b f g) (listing_of l))
+  pub listed_front : (l : List Insn) × (InsnFile order input l × Puts (change a b f g) (listing_of l) (Err Memory))
   listed_front =
       let text : listing_of (p.before ++ p.after) ≡ listing_of p.before ++ listing_of p.after = flat_map-append line p.before p.after in
       (p.before ++ p.after, (p.file, subst (TookFront (change a b f g)) (sym text) (front_more a b f g piece (listing_of p.before) (listing_of p.after) p.gathered)))
@@ -128,17 +135,16 @@ module _ (order : Order) (input : List ℕ) (at : ℕ) (a b : Option (List ℕ))
       none [] e = refl
       none (x ∷ xs) e = absurd (omega (arith, e, length-append (spelling order x) (file_of order xs), at_least_a_slot order x))
 
-  -- the sink took the last piece
-  pub listed_all : (c : Option (List ℕ)) (h : ℕ) → length input ≤ at → Appends b c piece → h ≡ g
-      → (l : List Insn) × (InsnFile order input l × (Appends a c (listing_of l) × (h ≡ f)))
-  listed_all c h done took healthy =
-      (p.before, (subst (InsnFile order input) (nothing_left done) p.file, gathered_all a b c f g h piece (listing_of p.before) p.gathered took healthy))
+  -- the sink took the last piece, or a part of it
+  pub listed_put : (c : Option (List ℕ)) (h : ℕ) (r : Result (Unit {0}) PutError) → length input ≤ at → Puts (change b c g h) piece r
+      → (l : List Insn) × (InsnFile order input l × Puts (change a c f h) (listing_of l) r)
+  listed_put c h r done q =
+      (p.before, (subst (InsnFile order input) (nothing_left done) p.file, puts_then a b c f g h piece (listing_of p.before) r p.gathered q))
 
-  -- it failed amid the last piece
-  pub last_part : (c : Option (List ℕ)) (h : ℕ) → length input ≤ at → TookPart (change b c g h) piece
-      → (l : List Insn) × (InsnFile order input l × TookPart (change a c f h) (listing_of l))
-  last_part c h done q =
-      (p.before, (subst (InsnFile order input) (nothing_left done) p.file, part_last a b c f g h piece (listing_of p.before) p.gathered q))
+-- a call hands on how one that it made ended
+pub listed_handed : (order : Order) (input : List ℕ) (sink : Change) (e : PutError) (r : Result (Unit {0}) PutError) → IsErrAnd r (λ x. x ≡ e)
+    → (l : List Insn) × (InsnFile order input l × Puts sink (listing_of l) (Err e)) → (l : List Insn) × (InsnFile order input l × Puts sink (listing_of l) r)
+listed_handed order input sink e r same put = (put.0, (put.1.0, puts_handed sink (listing_of put.0) e r same put.1.1))
 
 -- ---- how insn-show ends
 
@@ -146,14 +152,7 @@ pub show_fault : (j : Job) (input : List ℕ) (a : Option (List ℕ)) (f : ℕ) 
     → IsInsnFault j.order input fault → Answers j input (change a a f f) (Fault fault)
 show_fault j input a f fault show within at_fault = answered (Fault fault) [] (rw show (unshown fault within at_fault)) (Appends-nil a) refl
 
-pub show_done : (j : Job) (input : List ℕ) (a b : Option (List ℕ)) (f g : ℕ) → j.verb ≡ InsnShow → length input ≤ limit_of InsnShow
-    → (l : List Insn) × (InsnFile j.order input l × (Appends a b (listing_of l) × (g ≡ f))) → Answers j input (change a b f g) Done
-show_done j input a b f g show within put = answered Done (listing_of put.0) (rw show (shown put.0 within put.1.0)) put.1.1.0 put.1.1.1
-
-pub show_unwritten : (j : Job) (input : List ℕ) (a b : Option (List ℕ)) (f g : ℕ) → j.verb ≡ InsnShow → length input ≤ limit_of InsnShow
-    → (l : List Insn) × (InsnFile j.order input l × TookPart (change a b f g) (listing_of l)) → Answers j input (change a b f g) WriteFailed
-show_unwritten j input a b f g show within put = unwritten Done (listing_of put.0) (rw show (shown put.0 within put.1.0)) put.1.1
-
-pub show_refused : (j : Job) (input : List ℕ) (a b : Option (List ℕ)) (f g : ℕ) → j.verb ≡ InsnShow → length input ≤ limit_of InsnShow
-    → (l : List Insn) × (InsnFile j.order input l × TookFront (change a b f g) (listing_of l)) → Answers j input (change a b f g) Memory
-show_refused j input a b f g show within put = refused_amid Done (listing_of put.0) (rw show refl) (rw show (shown put.0 within put.1.0)) put.1.1
+pub show_ended : (j : Job) (input : List ℕ) (sink : Change) (r : Result (Unit {0}) PutError) → j.verb ≡ InsnShow → length input ≤ limit_of InsnShow
+    → (l : List Insn) × (InsnFile j.order input l × Puts sink (listing_of l) r) → Answers j input sink (end_of_pieces r)
+show_ended j input sink r show within put =
+    pieces_end j input (listing_of put.0) sink r (rw show refl) (rw show (shown put.0 within put.1.0)) put.1.1

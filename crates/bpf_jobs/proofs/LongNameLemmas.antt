@@ -1,15 +1,14 @@
 -- Lines whose names are written chunk by chunk.
 use Rattle.std.proofs.Common.{◌≡◌, ◌≤◌, ◌+◌, ◌-◌, ◌++◌, ◌∙◌, ℕ, List, Option, length, take, drop, sym, ap, subst, arith, append_assoc}
-use Rattle.std.specs.Prelude.{Err}
+use Rattle.std.specs.Prelude.{Result, Err}
 use Rattle.std.specs.List.{flat_map}
 use Rattle.std.proofs.lemmas.List.{take-append-drop, take_all}
 use Rattle.std.proofs.lemmas.List.Concat.{flat_map-append}
 use Rattle.std.proofs.Math.Seq.{take-add}
 use Rattle.btf_text.specs.BtfText.{quoted_byte}
 use Rattle.bpf_jobs.specs.declared.pieces.PutError.{PutError}
-use Rattle.bpf_jobs.specs.declared.pieces.PutError.TheVariants.{WriteFailed}
 use Rattle.bpf_jobs.specs.JobEnds.{Change, change}
-use Rattle.bpf_jobs.specs.Pieces.{Gathered, Gathers, TookFront, TookPart}
+use Rattle.bpf_jobs.specs.Pieces.{Gathered, Gathers, TookFront}
 use Rattle.bpf_jobs.proofs.PiecesLemmas.{front_more, gathered_more, gathers_front, gathers_then}
 
 -- ---- the chunks of a name
@@ -76,10 +75,6 @@ module _ (old first name last line : List ℕ) (whole : first ++ name ++ last �
   last_refused a b f g held p = subst (TookFront (change a b f g)) joined (front_more a b f g held ((old ++ first) ++ name) last p)
 
   module _ (a b c : Option (List ℕ)) (f g h : ℕ) (held kept : List ℕ) (p : Gathered (change a b f g) held ((old ++ first) ++ name)) where
-    -- the line is gathered
-    pub last_gathered : Gathered (change b c g h) kept (held ++ last) → Gathered (change a c f h) kept (old ++ line)
-    last_gathered q = subst (Gathered (change a c f h) kept) joined (gathered_more a b c f g h held kept _ _ p q)
-
-    -- what stands behind the name couldn't be written
-    pub last_unwritten : TookPart (change b c g h) (held ++ last) → TookPart (change a c f h) (old ++ line)
-    last_unwritten q = subst (TookPart (change a c f h)) joined (gathers_then a b c f g h held kept _ _ (Err WriteFailed) p q)
+    -- the line is gathered, or couldn't be written
+    pub last_gathers : (r : Result (Unit {0}) PutError) → Gathers (change b c g h) kept (held ++ last) r → Gathers (change a c f h) kept (old ++ line) r
+    last_gathers r q = subst (λ (t : List ℕ). Gathers (change a c f h) kept t r) joined (gathers_then a b c f g h held kept _ _ r p q)

@@ -1,15 +1,18 @@
 -- Text that is written in pieces.
 use Rattle.std.proofs.Common.{◌≡◌, ◌<◌, ◌+◌, ◌++◌, ◌∙◌, ℕ, List, [], Option, length, take, drop, refl, sym, ap, subst, arith, append_assoc, length-append}
-use Rattle.std.specs.Prelude.{Result, Ok, Err, OnOk, OnErr, true, false}
-use Rattle.std.specs.Result.{IsErrAnd, is_err}
+use Rattle.std.specs.Prelude.{Result, Ok, Err, true}
+use Rattle.std.specs.Result.{IsErrAnd}
 use Rattle.std.proofs.lemmas.List.{append-nil, take-append-drop, take-append-le}
 use Rattle.std.proofs.Math.Seq.{take-append-add, take-append_seam}
 use Rattle.std.proofs.KnownBytes.{Appends-nil, Appends-trans}
 use Rattle.std.specs.Io.KnownBytes.{Appends}
+use Rattle.bpf_jobs.specs.declared.job.Job.{Job}
+use Rattle.bpf_jobs.specs.declared.outcome.Outcome.TheVariants.{Done}
 use Rattle.bpf_jobs.specs.declared.pieces.PutError.{PutError}
 use Rattle.bpf_jobs.specs.declared.pieces.PutError.TheVariants.{WriteFailed, Memory}
 use Rattle.bpf_jobs.specs.JobEnds.{Change, change}
-use Rattle.bpf_jobs.specs.Pieces.{Gathered, Gathers, Puts, TookFront, TookPart}
+use Rattle.bpf_jobs.specs.Pieces.{Answers, Gathered, Gathers, Puts, TookFront, TookPart, answered, end_of_pieces, refused_amid, unwritten}
+use Rattle.bpf_jobs.specs.Reply.{IsReply, in_pieces}
 
 module _ (a b c : Option (List ℕ)) (f g h : ℕ) where
   -- more text, of which some went to the sink
@@ -24,13 +27,13 @@ module _ (a b c : Option (List ℕ)) (f g h : ℕ) where
   }
 
   -- the sink took the rest
-  pub gathered_all : (held text : List ℕ) → Gathered (change a b f g) held text → Appends b c held → h ≡ g → Appends a c text × (h ≡ f)
+  gathered_all : (held text : List ℕ) → Gathered (change a b f g) held text → Appends b c held → h ≡ g → Appends a c text × (h ≡ f)
   gathered_all held text p took healthy =
       let whole : Appends a c (p.taken ++ held) = Appends-trans a b c p.taken held p.took took in
       (subst (λ (x : List ℕ). Appends a c x) (sym p.whole) whole, healthy ∙ p.healthy)
 
   -- a write failed amid what was held and a line more
-  pub part_more : (held text line more : List ℕ) → Gathered (change a b f g) held text → TookPart (change b c g h) (held ++ line)
+  part_more : (held text line more : List ℕ) → Gathered (change a b f g) held text → TookPart (change b c g h) (held ++ line)
       → TookPart (change a c f h) (text ++ line ++ more)
   part_more held text line more p q =
       let whole : text ++ line ++ more ≡ p.taken ++ ((held ++ line) ++ more) =
@@ -61,11 +64,19 @@ module _ (a b c : Option (List ℕ)) (f g h : ℕ) where
       }
 
   -- a write failed amid what was held
-  pub part_last : (held text : List ℕ) → Gathered (change a b f g) held text → TookPart (change b c g h) held → TookPart (change a c f h) text
+  part_last : (held text : List ℕ) → Gathered (change a b f g) held text → TookPart (change b c g h) held → TookPart (change a c f h) text
   part_last held text p q =
       let held_is : held ≡ held ++ [] = sym (append-nil held) in
       let text_is : text ++ [] ++ [] ≡ text = append-nil (text ++ []) ∙ append-nil text in
       subst (TookPart (change a c f h)) text_is (part_more held text [] [] p (subst (TookPart (change b c g h)) held_is q))
+
+  -- the sink took the rest, or a part of it
+  pub puts_then : (held text : List ℕ) (r : Result (Unit {0}) PutError) → Gathered (change a b f g) held text → Puts (change b c g h) held r
+      → Puts (change a c f h) text r
+  puts_then held text (Ok done) p q = gathered_all held text p q.0 q.1
+  puts_then held text (Err WriteFailed) p q = part_last held text p q
+  puts_then held text (Err Memory) p q =
+      subst (TookFront (change a c f h)) (append-nil text) (front_then held text [] p (subst (TookFront (change b c g h)) (sym (append-nil held)) q))
 
   -- a call added a line to what was gathered
   pub gathers_then : (held kept text line : List ℕ) (r : Result (Unit {0}) PutError) → Gathered (change a b f g) held text
@@ -96,6 +107,10 @@ gathers_front sink kept text more Memory p =
       healthy = p.healthy;
     }
 
+pub puts_stopped : (sink : Change) (kept text : List ℕ) (e : PutError) → Gathers sink kept text (Err e) → Puts sink text (Err e)
+puts_stopped sink kept text WriteFailed p = p
+puts_stopped sink kept text Memory p = p
+
 -- a call hands on how one that it made ended
 pub gathers_handed : (sink : Change) (kept text : List ℕ) (e : PutError) (r : Result (Unit {0}) PutError) → IsErrAnd r (λ x. x ≡ e) → Gathers sink kept text (Err e)
     → Gathers sink kept text r
@@ -121,15 +136,12 @@ front_more a b f g held text more p =
     let front : take (length p.taken) (text ++ more) ≡ p.taken = ap (take (length p.taken)) whole ∙ take-append_seam p.taken (held ++ more) in
     record { count = length p.taken; took = subst (λ (x : List ℕ). Appends a b x) (sym front) p.took; healthy = p.healthy }
 
--- ---- what a call that may fail says once it is known how it ended
-
-pub unfailed : {T E P : Type 0} (r : Result T E) → false ≡ is_err r → OnOk r P → P
-unfailed (Ok x) e h = h
-unfailed (Err x) e h = cc
-
-pub failed : {T E P : Type 0} (r : Result T E) → true ≡ is_err r → OnErr r P → P
-failed (Ok x) e h = cc
-failed (Err x) e h = h
+-- the job of a command that wrote its output in pieces ends with it
+pub pieces_end : (j : Job) (input output : List ℕ) (sink : Change) (r : Result (Unit {0}) PutError) → in_pieces j.verb ≡ true → IsReply j.verb j input Done output
+    → Puts sink output r → Answers j input sink (end_of_pieces r)
+pieces_end j input output sink (Ok done) pieces reply put = answered Done output reply put.0 put.1
+pieces_end j input output sink (Err WriteFailed) pieces reply put = unwritten Done output reply put
+pieces_end j input output sink (Err Memory) pieces reply put = refused_amid Done output pieces reply put
 
 -- fewer calls have failed than can be counted
 pub still_under : (f g most : ℕ) → g ≡ f → f < most → g < most

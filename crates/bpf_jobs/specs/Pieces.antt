@@ -41,6 +41,12 @@ Gathers sink held text (Ok done) = Gathered sink held text
 Gathers sink held text (Err WriteFailed) = TookPart sink text
 Gathers sink held text (Err Memory) = TookFront sink text
 
+-- how a command ends that wrote its output in pieces
+abbrev pub end_of_pieces : Result (Unit {0}) PutError → Outcome
+end_of_pieces (Ok done) = ends.Done
+end_of_pieces (Err WriteFailed) = ends.WriteFailed
+end_of_pieces (Err Memory) = ends.Memory
+
 -- how a job ends whose input was read whole, by what its sink took of the reply
 pub data Answers (j : Job) (input : List ℕ) (sink : Change) : Outcome → Type 0 where
   -- the sink took the output

@@ -2,9 +2,9 @@
 use Rattle.std.proofs.Common.{◌≡◌, ℕ, suc, ◌+◌, ◌*◌, ◌<◌, ◌≤◌, Bool, true, false, cond, List, [], ◌∷◌, length, refl, sym, ap, ◌∙◌, arith}
 use Rattle.std.proofs.lemmas.List.{length-map}
 use Rattle.std.specs.List.{AllZip, slice_split, onto_first}
-use Rattle.bpf_insn.specs.declared.insn.WideOf.TheVariants.{Number, MapFd, MapValueFd, VarAddr, CodeAddr, MapIdx, MapValueIdx}
+use Rattle.bpf_insn.specs.declared.insn.WideOf.TheVariants.{Number}
 use Rattle.bpf_insn.specs.declared.insn.Insn.{Insn}
-use Rattle.bpf_insn.specs.declared.insn.Insn.TheVariants.{Alu, Movsx, Neg, Swap, Jump, JumpLong, Branch, CallHelper, CallLocal, CallBtf, Exit, Load, LoadSigned, StoreImm, StoreReg, Atomic, Wide, PacketAbs, PacketInd}
+use Rattle.bpf_insn.specs.declared.insn.Insn.TheVariants.{Wide}
 use Rattle.bpf_text.specs.Arguments.{Argument, register, number, signed, memory, kind_of, SpellsArgument, SpellsArguments, is_comma}
 use Rattle.bpf_text.specs.Table.{arguments_of}
 use Rattle.bpf_text.specs.Listing.{IsForm}
@@ -65,31 +65,8 @@ tokens_bound ts (x ∷ xs) l h =
 
 -- an instruction has at most three arguments
 arguments_bound : (i : Insn) → length (arguments_of i) ≤ 3
-arguments_bound (Alu width op d arg) = omega arith
-arguments_bound (Movsx form d s) = omega arith
-arguments_bound (Neg width d) = omega arith
-arguments_bound (Swap kind bits d) = omega arith
-arguments_bound (Jump o) = omega arith
-arguments_bound (JumpLong k) = omega arith
-arguments_bound (Branch width op d arg o) = omega arith
-arguments_bound (CallHelper k) = omega arith
-arguments_bound (CallLocal k) = omega arith
-arguments_bound (CallBtf k o) = omega arith
-arguments_bound Exit = omega arith
-arguments_bound (Load z d s o) = omega arith
-arguments_bound (LoadSigned z d s o) = omega arith
-arguments_bound (StoreImm z d o k) = omega arith
-arguments_bound (StoreReg z d s o) = omega arith
-arguments_bound (Atomic width op d s o) = omega arith
 arguments_bound (Wide d (Number n)) = omega arith
-arguments_bound (Wide d (MapFd k)) = omega arith
-arguments_bound (Wide d (MapValueFd k m)) = omega arith
-arguments_bound (Wide d (VarAddr k m)) = omega arith
-arguments_bound (Wide d (CodeAddr k)) = omega arith
-arguments_bound (Wide d (MapIdx k)) = omega arith
-arguments_bound (Wide d (MapValueIdx k m)) = omega arith
-arguments_bound (PacketAbs z k) = omega arith
-arguments_bound (PacketInd z s k) = omega arith
+arguments_bound _ = omega arith
 
 -- so does what has the form of a word
 pub form_bound : (word : List ℕ) (ts : List (List ℕ)) (form : IsForm word ts) → length form.2.0 ≤ 3

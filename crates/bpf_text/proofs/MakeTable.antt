@@ -236,12 +236,6 @@ wide_number_insn x = insn.Wide x.0 (of.Number x.1)
 
 wide_number_only : (i : Insn) → IsMadeOf wide_number_form (Wide kind.Number) i
 wide_number_only (insn.Wide d (of.Number n)) e = ((d, n), refl, (λ v. (tt, v)))
-wide_number_only (insn.Wide d (of.MapFd k)) e = cc
-wide_number_only (insn.Wide d (of.MapValueFd k m)) e = cc
-wide_number_only (insn.Wide d (of.VarAddr k m)) e = cc
-wide_number_only (insn.Wide d (of.CodeAddr k)) e = cc
-wide_number_only (insn.Wide d (of.MapIdx k)) e = cc
-wide_number_only (insn.Wide d (of.MapValueIdx k m)) e = cc
 wide_number_only _ e = cc
 
 pub wide_number_makes : Makes wide_number_form wide_number_insn (Wide kind.Number)
@@ -255,12 +249,6 @@ map_fd_insn x = insn.Wide x.0 (of.MapFd x.1)
 
 map_fd_only : (i : Insn) → IsMadeOf map_fd_form (Wide kind.MapFd) i
 map_fd_only (insn.Wide d (of.MapFd k)) e = ((d, k), refl, (λ v. (tt, v)))
-map_fd_only (insn.Wide d (of.Number n)) e = cc
-map_fd_only (insn.Wide d (of.MapValueFd k m)) e = cc
-map_fd_only (insn.Wide d (of.VarAddr k m)) e = cc
-map_fd_only (insn.Wide d (of.CodeAddr k)) e = cc
-map_fd_only (insn.Wide d (of.MapIdx k)) e = cc
-map_fd_only (insn.Wide d (of.MapValueIdx k m)) e = cc
 map_fd_only _ e = cc
 
 pub map_fd_makes : Makes map_fd_form map_fd_insn (Wide kind.MapFd)
@@ -274,12 +262,6 @@ map_value_fd_insn x = insn.Wide x.0 (of.MapValueFd x.1.0 x.1.1)
 
 map_value_fd_only : (i : Insn) → IsMadeOf map_value_fd_form (Wide kind.MapValueFd) i
 map_value_fd_only (insn.Wide d (of.MapValueFd k m)) e = ((d, (k, m)), refl, (λ v. (tt, v)))
-map_value_fd_only (insn.Wide d (of.Number n)) e = cc
-map_value_fd_only (insn.Wide d (of.MapFd k)) e = cc
-map_value_fd_only (insn.Wide d (of.VarAddr k m)) e = cc
-map_value_fd_only (insn.Wide d (of.CodeAddr k)) e = cc
-map_value_fd_only (insn.Wide d (of.MapIdx k)) e = cc
-map_value_fd_only (insn.Wide d (of.MapValueIdx k m)) e = cc
 map_value_fd_only _ e = cc
 
 pub map_value_fd_makes : Makes map_value_fd_form map_value_fd_insn (Wide kind.MapValueFd)
@@ -293,12 +275,6 @@ var_addr_insn x = insn.Wide x.0 (of.VarAddr x.1.0 x.1.1)
 
 var_addr_only : (i : Insn) → IsMadeOf var_addr_form (Wide kind.VarAddr) i
 var_addr_only (insn.Wide d (of.VarAddr k m)) e = ((d, (k, m)), refl, (λ v. (tt, v)))
-var_addr_only (insn.Wide d (of.Number n)) e = cc
-var_addr_only (insn.Wide d (of.MapFd k)) e = cc
-var_addr_only (insn.Wide d (of.MapValueFd k m)) e = cc
-var_addr_only (insn.Wide d (of.CodeAddr k)) e = cc
-var_addr_only (insn.Wide d (of.MapIdx k)) e = cc
-var_addr_only (insn.Wide d (of.MapValueIdx k m)) e = cc
 var_addr_only _ e = cc
 
 pub var_addr_makes : Makes var_addr_form var_addr_insn (Wide kind.VarAddr)
@@ -312,12 +288,6 @@ code_addr_insn x = insn.Wide x.0 (of.CodeAddr x.1)
 
 code_addr_only : (i : Insn) → IsMadeOf code_addr_form (Wide kind.CodeAddr) i
 code_addr_only (insn.Wide d (of.CodeAddr k)) e = ((d, k), refl, (λ v. (tt, v)))
-code_addr_only (insn.Wide d (of.Number n)) e = cc
-code_addr_only (insn.Wide d (of.MapFd k)) e = cc
-code_addr_only (insn.Wide d (of.MapValueFd k m)) e = cc
-code_addr_only (insn.Wide d (of.VarAddr k m)) e = cc
-code_addr_only (insn.Wide d (of.MapIdx k)) e = cc
-code_addr_only (insn.Wide d (of.MapValueIdx k m)) e = cc
 code_addr_only _ e = cc
 
 pub code_addr_makes : Makes code_addr_form code_addr_insn (Wide kind.CodeAddr)
@@ -331,12 +301,6 @@ map_idx_insn x = insn.Wide x.0 (of.MapIdx x.1)
 
 map_idx_only : (i : Insn) → IsMadeOf map_idx_form (Wide kind.MapIdx) i
 map_idx_only (insn.Wide d (of.MapIdx k)) e = ((d, k), refl, (λ v. (tt, v)))
-map_idx_only (insn.Wide d (of.Number n)) e = cc
-map_idx_only (insn.Wide d (of.MapFd k)) e = cc
-map_idx_only (insn.Wide d (of.MapValueFd k m)) e = cc
-map_idx_only (insn.Wide d (of.VarAddr k m)) e = cc
-map_idx_only (insn.Wide d (of.CodeAddr k)) e = cc
-map_idx_only (insn.Wide d (of.MapValueIdx k m)) e = cc
 map_idx_only _ e = cc
 
 pub map_idx_makes : Makes map_idx_form map_idx_insn (Wide kind.MapIdx)
@@ -350,12 +314,6 @@ map_value_idx_insn x = insn.Wide x.0 (of.MapValueIdx x.1.0 x.1.1)
 
 map_value_idx_only : (i : Insn) → IsMadeOf map_value_idx_form (Wide kind.MapValueIdx) i
 map_value_idx_only (insn.Wide d (of.MapValueIdx k m)) e = ((d, (k, m)), refl, (λ v. (tt, v)))
-map_value_idx_only (insn.Wide d (of.Number n)) e = cc
-map_value_idx_only (insn.Wide d (of.MapFd k)) e = cc
-map_value_idx_only (insn.Wide d (of.MapValueFd k m)) e = cc
-map_value_idx_only (insn.Wide d (of.VarAddr k m)) e = cc
-map_value_idx_only (insn.Wide d (of.CodeAddr k)) e = cc
-map_value_idx_only (insn.Wide d (of.MapIdx k)) e = cc
 map_value_idx_only _ e = cc
 
 pub map_value_idx_makes : Makes map_value_idx_form map_value_idx_insn (Wide kind.MapValueIdx)

@@ -9,8 +9,8 @@ ghost use Rattle.bpf_text.specs.declared.fault.ListError.{ListError};
 ghost use Rattle.bpf_text.specs.Listing.{Lists, IsListFault};
 ghost use Rattle.bpf_text.specs.Reading.{Refuses};
 
-use crate::fault::{LineFault, ListError};
-use crate::read::{first_line, read_line};
+use crate::fault::ListError;
+use crate::read::{first_line, read_numbered};
 use arrayvec::ArrayVec;
 use bpf_insn::{Insn, Order, insn_bytes};
 use std::alloc::{AllocError, Allocator};
@@ -48,15 +48,7 @@ fn write_lines<A: Allocator>(alloc: A, to: Order, text: &[u8]) -> Result<Vec<u8,
     let mut number: u64 = 1;
     'lines: loop {
         let (line, behind) = first_line(rest);
-        let found = match read_line(&mut tokens, line) {
-            Ok(found) => found,
-            Err(cause) => {
-                return Err(ListError::Fault(LineFault {
-                    line: number,
-                    cause,
-                }));
-            }
-        };
+        let found = read_numbered(&mut tokens, line, number)?;
         if append_found(&mut bytes, to, found).is_err() {
             return Err(ListError::Memory);
         }

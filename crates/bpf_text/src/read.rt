@@ -8,7 +8,7 @@ ghost use Rattle.bpf_text.specs.Tokens.{is_stray, AreTokens};
 ghost use Rattle.bpf_text.specs.declared.fault.LineFault.{LineFault};
 ghost use Rattle.bpf_text.specs.declared.fault.ListError.{ListError};
 ghost use Rattle.bpf_text.specs.Listing.{lines_of, Lists, IsListFault, IsCause, ListsLine};
-ghost use Rattle.bpf_text.specs.Reading.{ReadsTokens, Refuses};
+ghost use Rattle.bpf_text.specs.Reading.{ReadsTokens, Refuses, RefusesLine};
 
 use crate::fault::{LineCause, LineFault, ListError};
 use crate::make::insn_of;
@@ -51,10 +51,7 @@ pub(crate) fn first_line(text: &[u8]) -> (&[u8], Option<&[u8]>)
 }
 
 /// What a line lists.
-pub(crate) fn read_line<'a>(
-    tokens: &mut Tokens<'a>,
-    line: &'a [u8],
-) -> Result<Option<Insn>, LineCause>
+fn read_line<'a>(tokens: &mut Tokens<'a>, line: &'a [u8]) -> Result<Option<Insn>, LineCause>
     ensures { MatchResult result (λ found. ListsLine line.now (option_to_list found)) (IsCause line.now) }
 {
     let Some(code) = known_code(line) else {
@@ -66,6 +63,23 @@ pub(crate) fn read_line<'a>(
             Ok(insn) => Ok(Some(insn)),
             Err(cause) => Err(cause),
         },
+    }
+}
+
+/// What a line lists that has this number in its text.
+pub(crate) fn read_numbered<'a>(
+    tokens: &mut Tokens<'a>,
+    line: &'a [u8],
+    number: u64,
+) -> Result<Option<Insn>, ListError>
+    ensures { MatchResult result (λ found. ListsLine line.now (option_to_list found)) (RefusesLine line.now number) }
+{
+    match read_line(tokens, line) {
+        Ok(found) => Ok(found),
+        Err(cause) => Err(ListError::Fault(LineFault {
+            line: number,
+            cause,
+        })),
     }
 }
 
@@ -89,15 +103,7 @@ fn read_lines<A: Allocator>(alloc: A, text: &[u8]) -> Result<Vec<Insn, A>, ListE
     let mut number: u64 = 1;
     'lines: loop {
         let (line, behind) = first_line(rest);
-        let found = match read_line(&mut tokens, line) {
-            Ok(found) => found,
-            Err(cause) => {
-                return Err(ListError::Fault(LineFault {
-                    line: number,
-                    cause,
-                }));
-            }
-        };
+        let found = read_numbered(&mut tokens, line, number)?;
         if push_found(&mut insns, found).is_err() {
             return Err(ListError::Memory);
         }

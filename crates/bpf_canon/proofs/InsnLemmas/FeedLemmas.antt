@@ -95,6 +95,21 @@ module _ (s : FeedState) (piece old new : List ℕ) (read : FrontRead) (reads : 
   pub advance_counts : 8 * read.count + length (drop read.len (s.held ++ piece)) ≤ length s.held + length piece
   advance_counts = omega (arith, front_counts s.order (s.held ++ piece) reads.insns (drop read.len (s.held ++ piece)) reads.front, reads.counted, length-append s.held piece)
 
+  -- a feed with the held bytes and the fault that are left
+  advanced : (held : List ℕ) (fault : Option SlotFault) → Leaves s.order (s.fed + length piece) (drop read.len (s.held ++ piece)) held fault
+      → Advances s (record s { held = held; fed = s.fed + length piece; count = s.count + read.count; fault = fault }) piece old new
+  advanced held fault leaves = record {
+    reads = refl;
+    writes = refl;
+    fed = refl;
+    gained = reads.insns;
+    left = drop read.len (s.held ++ piece);
+    front = reads.front;
+    counted = omega (arith, reads.counted);
+    grows = reads.grows;
+    leaves = leaves;
+  }
+
   -- the bytes ended with an instruction
   pub advance_whole : s.fault ≡ None → read.stop ≡ None
       → Advances s (record s { held = []; fed = s.fed + length piece; count = s.count + read.count }) piece old new
@@ -102,17 +117,7 @@ module _ (s : FeedState) (piece old new : List ℕ) (read : FrontRead) (reads : 
       let P : Option SlotFault → Type 0 = λ x. StopsAt s.order (drop read.len (s.held ++ piece)) x in
       let none : drop read.len (s.held ++ piece) ≡ [] = subst P e reads.stops in
       let Q : Option SlotFault → Type 0 = λ x. Leaves s.order (s.fed + length piece) (drop read.len (s.held ++ piece)) [] x in
-      record {
-        reads = refl;
-        writes = refl;
-        fed = refl;
-        gained = reads.insns;
-        left = drop read.len (s.held ++ piece);
-        front = reads.front;
-        counted = omega (arith, reads.counted);
-        grows = reads.grows;
-        leaves = subst Q (sym sound) (sym none, inl none);
-      }
+      advanced [] s.fault (subst Q (sym sound) (sym none, inl none))
 
   stopped : (f : SlotFault) → read.stop ≡ Some f → IsSlotFault s.order (drop read.len (s.held ++ piece)) f
   stopped f e = let P : Option SlotFault → Type 0 = λ x. StopsAt s.order (drop read.len (s.held ++ piece)) x in subst P e reads.stops
@@ -128,17 +133,7 @@ module _ (s : FeedState) (piece old new : List ℕ) (read : FrontRead) (reads : 
       → Advances s (record s { held = held; fed = s.fed + length piece; count = s.count + read.count }) piece old new
   advance_held f held sound e t h =
       let Q : Option SlotFault → Type 0 = λ x. Leaves s.order (s.fed + length piece) (drop read.len (s.held ++ piece)) held x in
-      record {
-        reads = refl;
-        writes = refl;
-        fed = refl;
-        gained = reads.insns;
-        left = drop read.len (s.held ++ piece);
-        front = reads.front;
-        counted = omega (arith, reads.counted);
-        grows = reads.grows;
-        leaves = subst Q (sym sound) (h, advance_cut f e t);
-      }
+      advanced held s.fault (subst Q (sym sound) (h, advance_cut f e t))
 
   pub advance_within : (f : SlotFault) → read.stop ≡ Some f → read.len + f.pos ≤ length s.held + length piece
   advance_within f e = omega (arith, left_size, fault_within s.order (drop read.len (s.held ++ piece)) f.pos f.cause (stopped f e))
@@ -151,17 +146,8 @@ module _ (s : FeedState) (piece old new : List ℕ) (read : FrontRead) (reads : 
         count = s.count + read.count;
         fault = Some (record { pos = start + read.len + f.pos; cause = f.cause });
       }) piece old new
-  advance_faulty f start e t at = record {
-    reads = refl;
-    writes = refl;
-    fed = refl;
-    gained = reads.insns;
-    left = drop read.len (s.held ++ piece);
-    front = reads.front;
-    counted = omega (arith, reads.counted);
-    grows = reads.grows;
-    leaves = (refl, (f, (stopped f e, (t, (omega (arith, at, left_size), refl)))));
-  }
+  advance_faulty f start e t at = advanced [] (Some (record { pos = start + read.len + f.pos; cause = f.cause }))
+      (refl, (f, (stopped f e, (t, (omega (arith, at, left_size), refl)))))
 
 -- ---- a feed moves on
 

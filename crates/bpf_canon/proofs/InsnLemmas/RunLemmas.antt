@@ -18,7 +18,7 @@ use Rattle.bpf_canon.specs.insn.FeedState.{FeedState}
 use Rattle.bpf_canon.specs.insn.Stands.{IsSound, Moves, Stands}
 use Rattle.bpf_canon.specs.insn.Passed.{Passed, PassStops}
 use Rattle.bpf_canon.specs.device.Reads.{read_room}
-use Rattle.bpf_canon.specs.insn.Run.{Devices, RanWhole, StopsAtFault, StopsTooLong, StopsUnread, Stops, devices, limit}
+use Rattle.bpf_canon.specs.insn.Run.{Devices, RanWhole, StopsAtFault, StopsTooLong, StopsUnread, Stops, WroteAll, devices, limit}
 use Rattle.bpf_canon.proofs.InsnLemmas.FeedLemmas.{keeps_answer, keeps_fault}
 use Rattle.bpf_canon.proofs.InsnLemmas.FrontLaws.{file_front, front_fits, front_grows}
 
@@ -41,25 +41,30 @@ front_within o to b l rest f = omega (arith, front_fits o to b l rest f)
 pub running_within : (d : Devices) (o to : Order) (s : FeedState) (n : ℕ) → Running d o to s n → s.fed ≤ limit
 running_within d o to s n r = omega (arith, r.stands.fed, r.within)
 
+-- what came before the source failed or ended
+wrote_read : (a b c p q : Option (List ℕ)) (o to : Order) (s : FeedState) (n : ℕ) (r : Running (devices a b p q) o to s n) → Consumes a c r.read
+    → WroteAll (devices a c p q) o to r.read n
+wrote_read a b c p q o to s n r came =
+    let P : List ℕ → Type 0 = λ x. IsFront o x r.insns r.rest in
+    record {
+      came = came;
+      near = omega (arith, r.within);
+      insns = r.insns;
+      rest = r.rest;
+      front = subst P (sym (take_all limit r.read r.within)) r.front;
+      took = r.took;
+      all = r.all;
+    }
+
 -- a read failed
 pub run_unread : (a b c p q : Option (List ℕ)) (o to : Order) (s : FeedState) (n : ℕ) → Running (devices a b p q) o to s n → KeepsBytes b c
     → StopsUnread (devices a c p q) o to n
 run_unread a b c p q o to s n r k =
-    let e = take_all limit r.read r.within in
-    let P : List ℕ → Type 0 = λ x. IsFront o x r.insns r.rest in
     let Q : List ℕ → Type 0 = λ x. IsSound o x in
     record {
       read = r.read;
-      wrote = record {
-        came = Consumes-kept a b c r.read r.came k;
-        near = omega (arith, r.within);
-        insns = r.insns;
-        rest = r.rest;
-        front = subst P (sym e) r.front;
-        took = r.took;
-        all = r.all;
-      };
-      sound = subst Q (sym e) (keeps_answer s o to r.read r.stands r.sound);
+      wrote = wrote_read a b c p q o to s n r (Consumes-kept a b c r.read r.came k);
+      sound = subst Q (sym (take_all limit r.read r.within)) (keeps_answer s o to r.read r.stands r.sound);
       within = r.within;
     }
 
@@ -89,21 +94,11 @@ pub run_cut : (a b c p q : Option (List ℕ)) (o to : Order) (s : FeedState) (n 
     → ((read : List ℕ) → Stands s o to read → IsInsnFault o read f)
     → StopsAtFault (devices a c p q) o to n f
 run_cut a b c p q o to s n f r k end fault =
-    let e = take_all limit r.read r.within in
-    let P : List ℕ → Type 0 = λ x. IsFront o x r.insns r.rest in
     let Q : List ℕ → Type 0 = λ x. IsInsnFault o x f in
     record {
       read = r.read;
-      wrote = record {
-        came = same_at_end a b c r.read r.came k;
-        near = omega (arith, r.within);
-        insns = r.insns;
-        rest = r.rest;
-        front = subst P (sym e) r.front;
-        took = r.took;
-        all = r.all;
-      };
-      fault = subst Q (sym e) (fault r.read r.stands);
+      wrote = wrote_read a b c p q o to s n r (same_at_end a b c r.read r.came k);
+      fault = subst Q (sym (take_all limit r.read r.within)) (fault r.read r.stands);
       ended = λ _. (end, r.within);
     }
 
@@ -152,25 +147,32 @@ run_more a b c p q r o to s t n k piece h came x fits =
       all = size_more to h.insns adds.gained x.out n k h.all x.all adds.made;
     }
 
+-- what came with a chunk, of which a piece is within the limit, where the sink took what became whole
+wrote_chunk : (a b c p q r : Option (List ℕ)) (o to : Order) (s t : FeedState) (n k : ℕ) (chunk piece out : List ℕ) → (h : Running (devices a b p q) o to s n)
+    → Consumes b c chunk → Adds o to t h.read piece h.insns out → Appends q r out → k ≡ length out → take limit (h.read ++ chunk) ≡ h.read ++ piece
+    → length chunk ≤ read_room → WroteAll (devices a c p r) o to (h.read ++ chunk) (n + k)
+wrote_chunk a b c p q r o to s t n k chunk piece out h came adds took all cut small =
+    let P : List ℕ → Type 0 = λ b. IsFront o b (h.insns ++ adds.gained) adds.left in
+    record {
+      came = Consumes-trans a b c h.read chunk h.came came;
+      near = omega (arith, small, h.within, length-append h.read chunk);
+      insns = h.insns ++ adds.gained;
+      rest = adds.left;
+      front = subst P (sym cut) adds.front;
+      took = wrote_more p q r to h.insns adds.gained out h.took took adds.made;
+      all = size_more to h.insns adds.gained out n k h.all all adds.made;
+    }
+
 -- more than the limit came
 pub run_too_long : (a b c p q r : Option (List ℕ)) (o to : Order) (s t : FeedState) (n k : ℕ) (chunk piece : List ℕ) → (h : Running (devices a b p q) o to s n)
     → Consumes b c chunk → Passed s t piece q r k → take limit (h.read ++ chunk) ≡ h.read ++ piece → limit < s.fed + length chunk
     → length chunk ≤ read_room → StopsTooLong (devices a c p r) o to (n + k)
 run_too_long a b c p q r o to s t n k chunk piece h came x cut beyond small =
     let adds = adds_of o to s t h.read piece h.insns h.rest x.out h.front h.stands x.moves in
-    let P : List ℕ → Type 0 = λ b. IsFront o b (h.insns ++ adds.gained) adds.left in
     let Q : List ℕ → Type 0 = λ b. IsSound o b in
     record {
       read = h.read ++ chunk;
-      wrote = record {
-        came = Consumes-trans a b c h.read chunk h.came came;
-        near = omega (arith, small, h.within, length-append h.read chunk);
-        insns = h.insns ++ adds.gained;
-        rest = adds.left;
-        front = subst P (sym cut) adds.front;
-        took = wrote_more p q r to h.insns adds.gained x.out h.took x.took adds.made;
-        all = size_more to h.insns adds.gained x.out n k h.all x.all adds.made;
-      };
+      wrote = wrote_chunk a b c p q r o to s t n k chunk piece x.out h came adds x.took x.all cut small;
       sound = subst Q (sym cut) (keeps_answer t o to _ adds.stands x.sound);
       beyond = omega (arith, beyond, h.stands.fed, length-append h.read chunk);
     }
@@ -182,19 +184,10 @@ pub run_stops : (a b c p q r : Option (List ℕ)) (o to : Order) (s t : FeedStat
 run_stops a b c p q r o to s t n k chunk piece (cause.Fault f) h came x cut small =
     let adds = adds_of o to s t h.read piece h.insns h.rest x.out h.front h.stands x.moves in
     let has = keeps_fault t o to _ f adds.stands x.faulty in
-    let P : List ℕ → Type 0 = λ b. IsFront o b (h.insns ++ adds.gained) adds.left in
     let Q : List ℕ → Type 0 = λ b. IsInsnFault o b f in
     record {
       read = h.read ++ chunk;
-      wrote = record {
-        came = Consumes-trans a b c h.read chunk h.came came;
-        near = omega (arith, small, h.within, length-append h.read chunk);
-        insns = h.insns ++ adds.gained;
-        rest = adds.left;
-        front = subst P (sym cut) adds.front;
-        took = wrote_more p q r to h.insns adds.gained x.out h.took x.took adds.made;
-        all = size_more to h.insns adds.gained x.out n k h.all x.all adds.made;
-      };
+      wrote = wrote_chunk a b c p q r o to s t n k chunk piece x.out h came adds x.took x.all cut small;
       fault = subst Q (sym cut) has.fault;
       ended = λ e. absurd (has.lasting e);
     }
@@ -258,44 +251,30 @@ cut_chunk read buffer fed n within e h l w =
     within_cut read (take n buffer) fed within e h (w ∙ ap (λ m. min m (limit - fed)) (sym size))
     ∙ ap (λ x. read ++ x) (take-take within n buffer least)
 
+-- what became whole with a piece within the limit is within the limit
+out_within : (a b p q : Option (List ℕ)) (o to : Order) (s t : FeedState) (n : ℕ) (piece out : List ℕ)
+    → Running (devices a b p q) o to s n → Moves s t piece [] out → s.fed + length piece ≤ limit → n + length out ≤ limit
+out_within a b p q o to s t n piece out h moves fits =
+    let adds = adds_of o to s t h.read piece h.insns h.rest out h.front h.stands moves in
+    omega (
+      arith,
+      fits,
+      h.stands.fed,
+      length-append h.read piece,
+      front_within o to _ _ _ adds.front,
+      size_more to h.insns adds.gained out n (length out) h.all refl adds.made,
+    )
+
 -- what a piece that stops the engine adds is small
 pub stops_small : (a b p q r : Option (List ℕ)) (o to : Order) (s t : FeedState) (n k : ℕ) (piece : List ℕ) (why : RunCause SlotFault)
     → Running (devices a b p q) o to s n → PassStops s t piece q r k why → s.fed + length piece ≤ limit → n + k ≤ limit
-stops_small a b p q r o to s t n k piece (cause.Fault f) h x fits =
-    let adds = adds_of o to s t h.read piece h.insns h.rest x.out h.front h.stands x.moves in
-    omega (
-      arith,
-      fits,
-      h.stands.fed,
-      length-append h.read piece,
-      front_within o to _ _ _ adds.front,
-      size_more to h.insns adds.gained x.out n k h.all x.all adds.made,
-    )
+stops_small a b p q r o to s t n k piece (cause.Fault f) h x fits = omega (arith, x.all, out_within a b p q o to s t n piece x.out h x.moves fits)
 stops_small a b p q r o to s t n k piece cause.TooLong h x fits = absurd x
 stops_small a b p q r o to s t n k piece cause.ReadFailed h x fits = absurd x
-stops_small a b p q r o to s t n k piece cause.WriteFailed h x fits =
-    let adds = adds_of o to s t h.read piece h.insns h.rest x.out h.front h.stands x.moves in
-    omega (
-      arith,
-      fits,
-      h.stands.fed,
-      length-append h.read piece,
-      front_within o to _ _ _ adds.front,
-      x.prefix,
-      size_more to h.insns adds.gained x.out n (length x.out) h.all refl adds.made,
-    )
+stops_small a b p q r o to s t n k piece cause.WriteFailed h x fits = omega (arith, x.prefix, out_within a b p q o to s t n piece x.out h x.moves fits)
 stops_small a b p q r o to s t n k piece cause.Memory h x fits =
     omega (arith, x.0, h.within, h.all, front_within o to h.read h.insns h.rest h.front)
 
 pub passed_small : (a b p q r : Option (List ℕ)) (o to : Order) (s t : FeedState) (n k : ℕ) (piece : List ℕ)
     → Running (devices a b p q) o to s n → Passed s t piece q r k → s.fed + length piece ≤ limit → n + k ≤ limit
-passed_small a b p q r o to s t n k piece h x fits =
-    let adds = adds_of o to s t h.read piece h.insns h.rest x.out h.front h.stands x.moves in
-    omega (
-      arith,
-      fits,
-      h.stands.fed,
-      length-append h.read piece,
-      front_within o to _ _ _ adds.front,
-      size_more to h.insns adds.gained x.out n k h.all x.all adds.made,
-    )
+passed_small a b p q r o to s t n k piece h x fits = omega (arith, x.all, out_within a b p q o to s t n piece x.out h x.moves fits)

@@ -5,7 +5,7 @@ ghost use Rattle.bpf_canon.specs.btf.RunBtf.{RanBtf, StopsBtf};
 
 use crate::device::sink::ByteSink;
 use crate::device::source::{ByteSource, ReadError, read_all};
-use crate::insn::run::{RunCause, RunError, put_whole};
+use crate::insn::run::{RunCause, RunError, put_whole, stopped};
 use bpf_words::Order;
 use btf_canon::canonical_in;
 use btf_raw::BtfFault;
@@ -47,21 +47,13 @@ pub fn run_btf<A: Allocator + Copy, S: ByteSource, W: ByteSink>(
 {
     let bytes = match read_all(alloc, source, BTF_LIMIT) {
         Ok(bytes) => bytes,
-        Err(ReadError::TooLong) => return Err(before_writing(RunCause::TooLong)),
-        Err(ReadError::ReadFailed) => return Err(before_writing(RunCause::ReadFailed)),
-        Err(ReadError::Memory) => return Err(before_writing(RunCause::Memory)),
+        Err(ReadError::TooLong) => return Err(stopped(RunCause::TooLong, 0)),
+        Err(ReadError::ReadFailed) => return Err(stopped(RunCause::ReadFailed, 0)),
+        Err(ReadError::Memory) => return Err(stopped(RunCause::Memory, 0)),
     };
     match canonical_in(alloc, to, &bytes) {
         Ok(canon) => put_whole(sink, canon.as_slice()),
-        Err(BtfError::Fault(fault)) => Err(before_writing(RunCause::Fault(fault))),
-        Err(BtfError::Memory) => Err(before_writing(RunCause::Memory)),
+        Err(BtfError::Fault(fault)) => Err(stopped(RunCause::Fault(fault), 0)),
+        Err(BtfError::Memory) => Err(stopped(RunCause::Memory, 0)),
     }
-}
-
-// What an engine says that stops before it writes.
-fn before_writing(cause: RunCause<BtfFault>) -> RunError<BtfFault>
-    ensures cause { result.cause ≡ cause }
-    ensures none { result.written ≡ 0 }
-{
-    RunError { cause, written: 0 }
 }

@@ -86,37 +86,29 @@ pub fn run_insns<A: Allocator, S: ByteSource, W: ByteSink>(
         let n = match source.read(&mut buffer) {
             Ok(0) => break,
             Ok(n) => n,
-            Err(DeviceFailed) => {
-                return Err(RunError {
-                    cause: RunCause::ReadFailed,
-                    written,
-                });
-            }
+            Err(DeviceFailed) => return Err(stopped(RunCause::ReadFailed, written)),
         };
         let within = within_limit(n, feed.fed());
         match pass_on(&mut feed, &buffer[..within], &mut out, sink) {
             Ok(more) => written += more,
-            Err(stop) => {
-                return Err(RunError {
-                    cause: stop.cause,
-                    written: written + stop.written,
-                });
-            }
+            Err(stop) => return Err(stopped(stop.cause, written + stop.written)),
         }
         if within < n {
-            return Err(RunError {
-                cause: RunCause::TooLong,
-                written,
-            });
+            return Err(stopped(RunCause::TooLong, written));
         }
     }
     match feed.finish() {
         Ok(_) => Ok(written),
-        Err(fault) => Err(RunError {
-            cause: RunCause::Fault(fault),
-            written,
-        }),
+        Err(fault) => Err(stopped(RunCause::Fault(fault), written)),
     }
+}
+
+// What an engine says that stops for a cause when the sink has taken so many bytes.
+pub(crate) fn stopped<F>(cause: RunCause<F>, written: u64) -> RunError<F>
+    ensures cause { result.cause ≡ cause }
+    ensures written { result.written ≡ written }
+{
+    RunError { cause, written }
 }
 
 // How many of n bytes are within the limit, where some came before.
@@ -148,15 +140,9 @@ fn pass_on<A: Allocator, W: ByteSink>(
         Ok(()) => put_whole(sink, out.as_slice()),
         Err(InsnError::Fault(fault)) => {
             let written = put_whole(sink, out.as_slice())?;
-            Err(RunError {
-                cause: RunCause::Fault(fault),
-                written,
-            })
+            Err(stopped(RunCause::Fault(fault), written))
         }
-        Err(InsnError::Memory) => Err(RunError {
-            cause: RunCause::Memory,
-            written: 0,
-        }),
+        Err(InsnError::Memory) => Err(stopped(RunCause::Memory, 0)),
     }
 }
 
@@ -170,9 +156,6 @@ pub(crate) fn put_whole<F, W: ByteSink>(sink: &mut W, bytes: &[u8]) -> Result<u6
 {
     match put_all(sink, bytes) {
         Ok(()) => Ok(bytes.len() as u64),
-        Err(written) => Err(RunError {
-            cause: RunCause::WriteFailed,
-            written,
-        }),
+        Err(written) => Err(stopped(RunCause::WriteFailed, written)),
     }
 }

@@ -13,7 +13,7 @@ ghost use Rattle.bpf_jobs.specs.Reply.{limit_of};
 use crate::job::Job;
 use crate::outcome::Outcome;
 use crate::pieces::long_names::{is_long, put_long_head, put_long_item};
-use crate::pieces::{PutError, put_long_piece, put_piece};
+use crate::pieces::{PutError, end_of_pieces, put_long_piece, put_piece};
 use bpf_canon::ByteSink;
 use btf_text::{append_head, append_item, head_name, is_signed, item_name};
 use btf_types::{BtfError, BtfView, Head, Item, TypeTable};
@@ -34,13 +34,8 @@ fn put_head<A: Allocator, W: ByteSink>(
     if is_long(head_name(head)) {
         return put_long_head(sink, piece, id, head, items);
     }
-    if append_head(piece, id, head, items).is_err() {
-        return Err(PutError::Memory);
-    }
-    match put_long_piece(sink, piece) {
-        Ok(()) => Ok(()),
-        Err(_) => Err(PutError::WriteFailed),
-    }
+    append_head(piece, id, head, items)?;
+    put_long_piece(sink, piece)
 }
 
 /// Appends the line of an item to a piece, which is written once it is long enough.
@@ -57,13 +52,8 @@ fn put_item<A: Allocator, W: ByteSink>(
     if is_long(item_name(item)) {
         return put_long_item(sink, piece, item, signed);
     }
-    if append_item(piece, item, signed).is_err() {
-        return Err(PutError::Memory);
-    }
-    match put_long_piece(sink, piece) {
-        Ok(()) => Ok(()),
-        Err(_) => Err(PutError::WriteFailed),
-    }
+    append_item(piece, item, signed)?;
+    put_long_piece(sink, piece)
 }
 
 /// Gathers the lines of a type's items, and writes each piece that is long enough.
@@ -117,10 +107,7 @@ fn put_types<A: Allocator, W: ByteSink, T: TypeTable>(
     for index in 0..table.count() {
         put_record(sink, &mut piece, table, index + 1)?;
     }
-    match put_piece(sink, &mut piece) {
-        Ok(()) => Ok(()),
-        Err(_) => Err(PutError::WriteFailed),
-    }
+    put_piece(sink, &mut piece)
 }
 
 /// Runs `btf-show` on its input. Nothing is written where the input has a fault.
@@ -137,11 +124,7 @@ pub fn put_btf_shown<A: Allocator + Copy, W: ByteSink>(
         (change (W.contents sink.old) (W.contents sink.new) (W.failures sink.old) (W.failures sink.new)) result }
 {
     match BtfView::parse(alloc, input) {
-        Ok(table) => match put_types(alloc, &table, sink) {
-            Ok(()) => Outcome::Done,
-            Err(PutError::WriteFailed) => Outcome::WriteFailed,
-            Err(PutError::Memory) => Outcome::Memory,
-        },
+        Ok(table) => end_of_pieces(put_types(alloc, &table, sink)),
         Err(BtfError::Fault(fault)) => Outcome::BtfFault(fault),
         Err(BtfError::Memory) => Outcome::Memory,
     }

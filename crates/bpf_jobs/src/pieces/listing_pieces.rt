@@ -13,7 +13,7 @@ ghost use Rattle.bpf_jobs.specs.Reply.{limit_of};
 
 use crate::job::Job;
 use crate::outcome::Outcome;
-use crate::pieces::{PutError, put_long_piece, put_piece};
+use crate::pieces::{PutError, end_of_pieces, put_long_piece, put_piece};
 use bpf_canon::ByteSink;
 use bpf_insn::{Order, SlotFault, insn_len, read_insn};
 use bpf_text::push_line;
@@ -57,21 +57,14 @@ fn put_listing<A: Allocator, W: ByteSink>(
         match read_insn(order, &input[pos..]) {
             Ok(found) => {
                 let (insn, len) = found;
-                if push_line(&mut piece, insn).is_err() {
-                    return Err(PutError::Memory);
-                }
-                if put_long_piece(sink, &mut piece).is_err() {
-                    return Err(PutError::WriteFailed);
-                }
+                push_line(&mut piece, insn)?;
+                put_long_piece(sink, &mut piece)?;
                 pos += len;
             }
             Err(_) => unreachable!(),
         }
     }
-    match put_piece(sink, &mut piece) {
-        Ok(()) => Ok(()),
-        Err(_) => Err(PutError::WriteFailed),
-    }
+    put_piece(sink, &mut piece)
 }
 
 /// Runs `insn-show` on its input. Nothing is written where the input has a fault.
@@ -89,10 +82,6 @@ pub fn put_shown<A: Allocator, W: ByteSink>(
 {
     match first_fault(job.order, input) {
         Some(fault) => Outcome::Fault(fault),
-        None => match put_listing(alloc, job.order, input, sink) {
-            Ok(()) => Outcome::Done,
-            Err(PutError::WriteFailed) => Outcome::WriteFailed,
-            Err(PutError::Memory) => Outcome::Memory,
-        },
+        None => end_of_pieces(put_listing(alloc, job.order, input, sink)),
     }
 }

@@ -36,13 +36,8 @@ fn put_chunk<A: Allocator, W: ByteSink>(
     ensures { Gathers (change (W.contents sink.old) (W.contents sink.new) (W.failures sink.old) (W.failures sink.new))
         piece.new.items (piece.old.items ++ flat_map quoted_byte chunk.now) result }
 {
-    if append_quoted_part(piece, chunk).is_err() {
-        return Err(PutError::Memory);
-    }
-    match put_long_piece(sink, piece) {
-        Ok(()) => Ok(()),
-        Err(_) => Err(PutError::WriteFailed),
-    }
+    append_quoted_part(piece, chunk)?;
+    put_long_piece(sink, piece)
 }
 
 /// Gathers the bytes of a name as they stand between its quotes, and writes each piece that is long enough.
@@ -76,17 +71,10 @@ pub fn put_long_head<A: Allocator, W: ByteSink>(
     ensures { Gathers (change (W.contents sink.old) (W.contents sink.new) (W.failures sink.old) (W.failures sink.new))
         piece.new.items (piece.old.items ++ head_line id (head_value head.entry) items) result }
 {
-    if append_head_start(piece, id, head).is_err() {
-        return Err(PutError::Memory);
-    }
+    append_head_start(piece, id, head)?;
     put_name(sink, piece, head_name(head).as_bytes())?;
-    if append_head_end(piece, head, items).is_err() {
-        return Err(PutError::Memory);
-    }
-    match put_long_piece(sink, piece) {
-        Ok(()) => Ok(()),
-        Err(_) => Err(PutError::WriteFailed),
-    }
+    append_head_end(piece, head, items)?;
+    put_long_piece(sink, piece)
 }
 
 /// Gathers the line of an item, and writes each piece that is long enough.
@@ -100,15 +88,8 @@ pub fn put_long_item<A: Allocator, W: ByteSink>(
     ensures { Gathers (change (W.contents sink.old) (W.contents sink.new) (W.failures sink.old) (W.failures sink.new))
         piece.new.items (piece.old.items ++ item_line signed (item_value item.entry)) result }
 {
-    if append_item_start(piece, item).is_err() {
-        return Err(PutError::Memory);
-    }
+    append_item_start(piece, item)?;
     put_name(sink, piece, item_name(item).as_bytes())?;
-    if append_item_end(piece, item, signed).is_err() {
-        return Err(PutError::Memory);
-    }
-    match put_long_piece(sink, piece) {
-        Ok(()) => Ok(()),
-        Err(_) => Err(PutError::WriteFailed),
-    }
+    append_item_end(piece, item, signed)?;
+    put_long_piece(sink, piece)
 }

@@ -5,7 +5,8 @@ use Rattle.bpf_canon.proofs.InsnLemmas.RunLemmas.{running_within, run_unread, ru
 use Rattle.bpf_canon.proofs.insn.run.run_insns.Goals as goal
 
 pub returns-in-Err-clause-err : goal.returns-in-Err-clause-err
-returns-in-Err-clause-err g c = run_unread _ _ _ _ _ _ _ _ _ c.reads.invariant.running c.in-Err.ensures.bytes
+returns-in-Err-clause-err g c =
+    rw (c.stopped.ensures.cause, c.stopped.ensures.written) (run_unread _ _ _ _ _ _ _ _ _ c.reads.invariant.running c.in-Err.ensures.bytes)
 
 pub overflow_add-written : goal.overflow_add-written
 overflow_add-written g c =
@@ -15,8 +16,8 @@ overflow_add-written g c =
     let small = passed_small _ _ _ _ _ _ _ _ _ _ _ _ c.reads.invariant.running c.in-Ok-pass_on.ensures.ok (omega (arith, size, running_within _ _ _ _ _ c.reads.invariant.running)) in
     omega (arith, small)
 
-pub overflow_add-result : goal.overflow_add-result
-overflow_add-result g c =
+pub overflow_add-written-in-Err-pass_on : goal.overflow_add-written-in-Err-pass_on
+overflow_add-written-in-Err-pass_on g c =
     let inside : c.within_limit-within.result ≡ min c.in-Ok.n (limit - c.reads.feed.fed) = rw c.fed.ensures at c.within_limit-within.ensures in
     let room : c.in-Ok.n ≤ length c.read.new.buffer = search rules in
     let size = length-take-le c.within_limit-within.result c.read.new.buffer (omega arith) in
@@ -30,7 +31,8 @@ returns-in-Err-pass_on-clause-err g c =
     let room : c.in-Ok.n ≤ length c.read.new.buffer = search rules in
     let size = length-take-le c.in-Ok.n c.read.new.buffer room in
     let cut = cut_chunk run.read c.read.new.buffer c.reads.feed.fed c.in-Ok.n c.within_limit-within.result run.stands.fed (running_within _ _ _ _ _ run) room inside in
-    run_stops _ _ _ _ _ _ _ _ _ _ _ _ _ _ _ run c.in-Ok.ensures.bytes.0 c.in-Err-pass_on.ensures.err cut (omega (arith, size, room))
+    rw (c.stopped-in-Err-pass_on.ensures.cause, c.stopped-in-Err-pass_on.ensures.written)
+    (run_stops _ _ _ _ _ _ _ _ _ _ _ _ _ _ _ run c.in-Ok.ensures.bytes.0 c.in-Err-pass_on.ensures.err cut (omega (arith, size, room)))
 
 pub returns-then-within-n-clause-err : goal.returns-then-within-n-clause-err
 returns-then-within-n-clause-err g c =
@@ -39,7 +41,8 @@ returns-then-within-n-clause-err g c =
     let room : c.in-Ok.n ≤ length c.read.new.buffer = search rules in
     let size = length-take-le c.in-Ok.n c.read.new.buffer room in
     let cut = cut_chunk run.read c.read.new.buffer c.reads.feed.fed c.in-Ok.n c.within_limit-within.result run.stands.fed (running_within _ _ _ _ _ run) room inside in
-    run_too_long _ _ _ _ _ _ _ _ _ _ _ _ _ _ run c.in-Ok.ensures.bytes.0 c.in-Ok-pass_on.ensures.ok cut (omega (arith, inside, c.if-within-n.true, size)) (omega (arith, size, room))
+    rw (c.stopped-then-within-n.ensures.cause, c.stopped-then-within-n.ensures.written)
+    (run_too_long _ _ _ _ _ _ _ _ _ _ _ _ _ _ run c.in-Ok.ensures.bytes.0 c.in-Ok-pass_on.ensures.ok cut (omega (arith, inside, c.if-within-n.true, size)) (omega (arith, size, room)))
 
 pub reads-preserved : goal.reads-preserved
 reads-preserved g c =
@@ -68,4 +71,5 @@ returns-clause-err g c =
     let bytes = c.in-Ok-eq0.ensures.bytes in
     let zero : c.in-Ok-eq0.field-0 ≡ 0 = search rules in
     let none = rw zero at bytes.0 in
-    run_cut _ _ _ _ _ _ _ _ _ _ c.reads.invariant.running none (bytes.1 zero (omega arith)) (λ read h. c.in-Err-finish.ensures.answer _ _ read h)
+    rw (c.stopped-in-Err-finish.ensures.cause, c.stopped-in-Err-finish.ensures.written)
+    (run_cut _ _ _ _ _ _ _ _ _ _ c.reads.invariant.running none (bytes.1 zero (omega arith)) (λ read h. c.in-Err-finish.ensures.answer _ _ read h))

@@ -1,5 +1,5 @@
 use Rattle.std.proofs.Common.{◌<◌, ◌≤◌, length, arith}
-use Rattle.bpf_jobs.proofs.BtfPieces.{types_all, types_more, types_part, types_stopped}
+use Rattle.bpf_jobs.proofs.BtfPieces.{types_more, types_put, types_stopped}
 use Rattle.bpf_jobs.proofs.PiecesLemmas.{gathered_none, puts_handed, still_under}
 use Rattle.bpf_jobs.proofs.pieces.btf_listing.put_types.Goals as goal
 
@@ -25,14 +25,8 @@ loop-index-preserved g c =
 pub put_piece-requires : goal.put_piece-requires
 put_piece-requires g c = still_under _ _ _ c.loop-index.invariant.healthy c.requires
 
-pub returns-in-Ok : goal.returns-in-Ok
-returns-in-Ok g c =
-    let v = g.T.TypeTable.meaning c.args.table.now in
-    let done : length v ≤ c.loop-index.index = omega (arith, c.loop-index-test.false, c.count-index-end.ensures.count) in
-    types_all _ _ _ _ _ _ _ v c.loop-index.index done c.loop-index.invariant c.in-Ok.ensures.took c.in-Ok.ensures.count
-
 pub returns : goal.returns
 returns g c =
     let v = g.T.TypeTable.meaning c.args.table.now in
     let done : length v ≤ c.loop-index.index = omega (arith, c.loop-index-test.false, c.count-index-end.ensures.count) in
-    types_part _ _ _ _ _ _ _ v c.loop-index.index done c.loop-index.invariant c.in-Err.ensures.part
+    types_put _ _ _ _ _ _ _ v c.loop-index.index c.put_piece.result done c.loop-index.invariant c.put_piece.ensures.put

@@ -5,37 +5,30 @@ use Rattle.btf_types.specs.Values.{head_value}
 use Rattle.btf_text.specs.BtfText.{quoted_byte}
 use Rattle.btf_text.specs.LineParts.{head_end, head_start}
 use Rattle.btf_text.proofs.LinePartsLemmas.{head_parts}
-use Rattle.bpf_jobs.proofs.LongNameLemmas.{last_gathered, last_refused, last_unwritten, name_unwritten}
-use Rattle.bpf_jobs.proofs.PiecesLemmas.{gathers_handed, unfailed}
+use Rattle.bpf_jobs.proofs.LongNameLemmas.{last_gathers, last_refused, name_unwritten}
+use Rattle.bpf_jobs.proofs.PiecesLemmas.{gathers_handed}
 use Rattle.bpf_jobs.proofs.pieces.long_names.put_long_head.Goals as goal
 
 pub returns-in_err-put_name : goal.returns-in_err-put_name
 returns-in_err-put_name g c =
-    let opened : c.append_head_start.new.text.items ≡ c.args.piece.now.items ++ head_start c.args.id (head_value c.args.head) = unfailed c.append_head_start.result c.if-is_err.ensures.value c.append_head_start.ensures in
+    let opened : c.append_head_start.new.text.items ≡ c.args.piece.now.items ++ head_start c.args.id (head_value c.args.head) = c.in_ok-append_head_start.ensures in
     let same : c.as_bytes.result.now ≡ head_name (head_value c.args.head) = c.as_bytes.ensures.value ∙ c.head_name.ensures in
-    gathers_handed _ _ _ c.in_err-put_name.field-0.0 c.from_residual.result c.from_residual.ensures.1
+    gathers_handed _ _ _ c.in_err-put_name.field-0.0 c.from_residual-in_err-put_name.result c.from_residual-in_err-put_name.ensures.1
     (name_unwritten c.args.piece.now.items (head_start c.args.id (head_value c.args.head)) (flat_map quoted_byte (head_name (head_value c.args.head))) (head_end (head_value c.args.head) c.args.items) _ (head_parts c.args.id (head_value c.args.head) c.args.items) _ c.append_head_start.new.text.items (flat_map quoted_byte c.as_bytes.result.now) c.put_name.new.piece.items c.in_err-put_name.field-0.0 opened
     (ap (flat_map quoted_byte) same) c.in_err-put_name.ensures)
 
-pub returns-then-is_err-2 : goal.returns-then-is_err-2
-returns-then-is_err-2 g c =
-    let opened : c.append_head_start.new.text.items ≡ c.args.piece.now.items ++ head_start c.args.id (head_value c.args.head) = unfailed c.append_head_start.result c.if-is_err.ensures.value c.append_head_start.ensures in
+pub returns-in_err-append_head_end : goal.returns-in_err-append_head_end
+returns-in_err-append_head_end g c =
+    let opened : c.append_head_start.new.text.items ≡ c.args.piece.now.items ++ head_start c.args.id (head_value c.args.head) = c.in_ok-append_head_start.ensures in
     let same : c.as_bytes.result.now ≡ head_name (head_value c.args.head) = c.as_bytes.ensures.value ∙ c.head_name.ensures in
     let gathered = rw same at (rw opened at c.in_ok-put_name.ensures) in
-    last_refused c.args.piece.now.items (head_start c.args.id (head_value c.args.head)) (flat_map quoted_byte (head_name (head_value c.args.head))) (head_end (head_value c.args.head) c.args.items) _ (head_parts c.args.id (head_value c.args.head) c.args.items) _ _ _ _ _ gathered
+    gathers_handed _ _ _ _ c.from_residual-in_err-append_head_end.result c.from_residual-in_err-append_head_end.ensures.1
+    (last_refused c.args.piece.now.items (head_start c.args.id (head_value c.args.head)) (flat_map quoted_byte (head_name (head_value c.args.head))) (head_end (head_value c.args.head) c.args.items) _ (head_parts c.args.id (head_value c.args.head) c.args.items) _ _ _ _ _ gathered)
 
-pub returns-in-Ok : goal.returns-in-Ok
-returns-in-Ok g c =
-    let opened : c.append_head_start.new.text.items ≡ c.args.piece.now.items ++ head_start c.args.id (head_value c.args.head) = unfailed c.append_head_start.result c.if-is_err.ensures.value c.append_head_start.ensures in
+pub returns : goal.returns
+returns g c =
+    let opened : c.append_head_start.new.text.items ≡ c.args.piece.now.items ++ head_start c.args.id (head_value c.args.head) = c.in_ok-append_head_start.ensures in
     let same : c.as_bytes.result.now ≡ head_name (head_value c.args.head) = c.as_bytes.ensures.value ∙ c.head_name.ensures in
-    let closed : c.append_head_end.new.text.items ≡ c.put_name.new.piece.items ++ head_end (head_value c.args.head) c.args.items = unfailed c.append_head_end.result c.if-is_err-2.ensures.value c.append_head_end.ensures in
+    let closed : c.append_head_end.new.text.items ≡ c.put_name.new.piece.items ++ head_end (head_value c.args.head) c.args.items = c.in_ok-append_head_end.ensures in
     let gathered = rw same at (rw opened at c.in_ok-put_name.ensures) in
-    last_gathered c.args.piece.now.items (head_start c.args.id (head_value c.args.head)) (flat_map quoted_byte (head_name (head_value c.args.head))) (head_end (head_value c.args.head) c.args.items) _ (head_parts c.args.id (head_value c.args.head) c.args.items) _ _ _ _ _ _ _ _ gathered (rw closed at c.in-Ok.ensures.gathered)
-
-pub returns-in-Err : goal.returns-in-Err
-returns-in-Err g c =
-    let opened : c.append_head_start.new.text.items ≡ c.args.piece.now.items ++ head_start c.args.id (head_value c.args.head) = unfailed c.append_head_start.result c.if-is_err.ensures.value c.append_head_start.ensures in
-    let same : c.as_bytes.result.now ≡ head_name (head_value c.args.head) = c.as_bytes.ensures.value ∙ c.head_name.ensures in
-    let closed : c.append_head_end.new.text.items ≡ c.put_name.new.piece.items ++ head_end (head_value c.args.head) c.args.items = unfailed c.append_head_end.result c.if-is_err-2.ensures.value c.append_head_end.ensures in
-    let gathered = rw same at (rw opened at c.in_ok-put_name.ensures) in
-    last_unwritten c.args.piece.now.items (head_start c.args.id (head_value c.args.head)) (flat_map quoted_byte (head_name (head_value c.args.head))) (head_end (head_value c.args.head) c.args.items) _ (head_parts c.args.id (head_value c.args.head) c.args.items) _ _ _ _ _ _ _ c.put_name.new.piece.items gathered (rw closed at c.in-Err.ensures.part)
+    last_gathers c.args.piece.now.items (head_start c.args.id (head_value c.args.head)) (flat_map quoted_byte (head_name (head_value c.args.head))) (head_end (head_value c.args.head) c.args.items) _ (head_parts c.args.id (head_value c.args.head) c.args.items) _ _ _ _ _ _ _ _ gathered c.put_long_piece.result (rw closed at c.put_long_piece.ensures.gathered)
