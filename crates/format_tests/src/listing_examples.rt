@@ -264,7 +264,10 @@ fn causes_have_their_numbers(rt: HostRuntime) {
 fn a_listing_is_tidied(rt: HostRuntime) -> Result<(), Fail> {
     let loose = b"; a swap of nothing\n\tmov \t r1 ,\rr2\r\n\nja 0x10\nstb[r1+1],-1 # -1";
     let tidy = tidy_listing(rt.alloc(), loose)?;
-    assert_eq!(rt; tidy.as_slice(), b"mov r1, r2\nja +16\nstb [r1+1], -1\n");
+    assert_eq!(rt;
+        tidy.as_slice(),
+        b"mov r1, r2\nja +16\nstb [r1+1], -1\n".as_slice()
+    );
     let faulty = tidy_listing(rt.alloc(), b"exit\nexit!");
     let fault = LineFault {
         line: 2,
