@@ -3,6 +3,8 @@
 #![tactic(auto)]
 
 #[cfg(test)]
+mod arena;
+#[cfg(test)]
 mod insn_examples;
 #[cfg(test)]
 mod listing_examples;
