@@ -1,10 +1,13 @@
-//! Tests of instructions, listings and tables of types, as another crate calls them: worked examples, faulty inputs, the largest,
-//! and memory that is refused.
+//! Instructions, listings and tables of types as another crate calls them: an example with its contract, and tests: worked
+//! examples, faulty inputs, the largest, and memory that is refused.
 #![tactic(auto)]
 
+#[cfg(test)]
+mod arena;
 #[cfg(test)]
 mod insn_examples;
 #[cfg(test)]
 mod listing_examples;
+pub mod tidy_listing;
 #[cfg(test)]
 mod type_files;

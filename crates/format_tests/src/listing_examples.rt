@@ -3,6 +3,7 @@
 mod every_word;
 mod listing_memory;
 
+use crate::tidy_listing::tidy_listing;
 use bpf_insn::{Insn, Order, decode_insns, insn_bytes};
 use bpf_text::{
     LineCause, LineFault, ListError, listing, push_line, read_listing, read_listing_bytes,
@@ -257,4 +258,21 @@ fn causes_have_their_numbers(rt: HostRuntime) {
     for (i, cause) in causes.iter().enumerate() {
         assert_eq!(rt; *cause as usize, i + 1);
     }
+}
+
+#[test]
+fn a_listing_is_tidied(rt: HostRuntime) -> Result<(), Fail> {
+    let loose = b"; a swap of nothing\n\tmov \t r1 ,\rr2\r\n\nja 0x10\nstb[r1+1],-1 # -1";
+    let tidy = tidy_listing(rt.alloc(), loose)?;
+    assert_eq!(rt;
+        tidy.as_slice(),
+        b"mov r1, r2\nja +16\nstb [r1+1], -1\n".as_slice()
+    );
+    let faulty = tidy_listing(rt.alloc(), b"exit\nexit!");
+    let fault = LineFault {
+        line: 2,
+        cause: LineCause::Char,
+    };
+    assert_eq!(rt; faulty.map(|_| ()), Err(ListError::Fault(fault)));
+    Ok(())
 }

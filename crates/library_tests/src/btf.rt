@@ -1,4 +1,5 @@
 //! Canonical bytes and comparison of BTF files.
+use crate::expect::{equal, equal_bytes};
 use bpf_canon::{SideError, canon_btf, same_btf, write_btf};
 use bpf_words::Order;
 use btf_raw::{BtfCause, BtfFault};
@@ -175,7 +176,7 @@ fn canonical_bytes_of_btf_files(rt: HostRuntime) -> Result<(), Fail> {
     for sample in samples() {
         let bytes = sample.bytes;
         let canon = canon_btf(rt.alloc(), bytes)?;
-        assert_eq!(rt; canon.as_slice(), sample.canonical, "of {bytes:?}");
+        equal_bytes(&rt, canon.as_slice(), sample.canonical, &bytes);
     }
     Ok(())
 }
@@ -184,12 +185,12 @@ fn canonical_bytes_of_btf_files(rt: HostRuntime) -> Result<(), Fail> {
 fn both_tables_are_written_in_either_order(rt: HostRuntime) -> Result<(), Fail> {
     let lent = BtfView::parse(rt.alloc(), INT)?;
     let big = write_btf(rt.alloc(), Order::Big, &lent)?;
-    assert_eq!(rt; big.as_slice(), BIG_INT);
+    equal_bytes(&rt, big.as_slice(), BIG_INT, &"in big-endian order");
     let owned = Btf::parse(rt.alloc(), BIG_INT)?;
     let big = write_btf(rt.alloc(), Order::Big, &owned)?;
-    assert_eq!(rt; big.as_slice(), BIG_INT);
+    equal_bytes(&rt, big.as_slice(), BIG_INT, &"in big-endian order");
     let little = write_btf(rt.alloc(), Order::Little, &owned)?;
-    assert_eq!(rt; little.as_slice(), INT);
+    equal_bytes(&rt, little.as_slice(), INT, &"in little-endian order");
     Ok(())
 }
 
@@ -208,18 +209,18 @@ fn examples_are_written_by_both_tables_in_both_orders(rt: HostRuntime) -> Result
     for sample in samples() {
         let bytes = sample.bytes;
         let little = written(rt.alloc(), Order::Little, bytes)?;
-        assert_eq!(rt; little.as_slice(), sample.canonical, "of {bytes:?}");
+        equal_bytes(&rt, little.as_slice(), sample.canonical, &bytes);
         let big = written(rt.alloc(), Order::Big, bytes)?;
         assert!(rt; big.starts_with(b"\xeb\x9f"), "of {bytes:?}");
         let again = canon_btf(rt.alloc(), &big)?;
-        assert_eq!(rt; again.as_slice(), sample.canonical, "of {bytes:?}");
+        equal_bytes(&rt, again.as_slice(), sample.canonical, &bytes);
         assert!(rt;
             little.len() <= bytes.len() && big.len() <= bytes.len(),
             "{bytes:?} is lengthened"
         );
     }
     let big_enum = written(rt.alloc(), Order::Big, ENUM)?;
-    assert_eq!(rt; big_enum.as_slice(), ENUM);
+    equal_bytes(&rt, big_enum.as_slice(), ENUM, &"an ENUM64");
     Ok(())
 }
 
@@ -242,6 +243,6 @@ fn btf_files_are_the_same_where_their_types_are(rt: HostRuntime) {
     ];
     for (first, second, answer) in cases {
         let told = same_btf(rt.alloc(), first, second);
-        assert_eq!(rt; told, answer, "{first:?} and {second:?}");
+        equal(&rt, &told, &answer, &(first, second));
     }
 }

@@ -3,6 +3,7 @@ ghost use Rattle.std.specs.Prelude.{None, ℕ, List};
 
 use super::btf::{BIG_INT, FAULTY, INT, samples};
 use super::fused_devices::FusedDevices;
+use crate::expect::{equal, equal_bytes};
 use bpf_canon::{
     ByteSource, DeviceFailed, MemSink, ReaderSource, RunCause, RunError, WriterSink, run_btf,
 };
@@ -48,12 +49,8 @@ fn runs_files_in_pieces(rt: HostRuntime) {
             let devices = FusedDevices::sound(bytes, piece);
             let run = devices.run_btf(&rt, rt.alloc(), Order::Little);
             let written = sample.canonical.len() as u64;
-            assert_eq!(rt; run.ended, Ok(written), "{bytes:?} in pieces of {piece}");
-            assert_eq!(rt;
-                run.taken.as_slice(),
-                sample.canonical,
-                "{bytes:?} in pieces of {piece}"
-            );
+            equal(&rt, &run.ended, &Ok(written), &(bytes, piece));
+            equal_bytes(&rt, run.taken.as_slice(), sample.canonical, &(bytes, piece));
         }
     }
 }
@@ -62,8 +59,8 @@ fn runs_files_in_pieces(rt: HostRuntime) {
 fn writes_btf_in_the_order_that_is_asked(rt: HostRuntime) {
     for bytes in [INT, BIG_INT] {
         let run = FusedDevices::sound(bytes, 7).run_btf(&rt, rt.alloc(), Order::Big);
-        assert_eq!(rt; run.ended, Ok(45), "of {bytes:?}");
-        assert_eq!(rt; run.taken.as_slice(), BIG_INT, "of {bytes:?}");
+        equal(&rt, &run.ended, &Ok(45), &bytes);
+        equal_bytes(&rt, run.taken.as_slice(), BIG_INT, &bytes);
     }
 }
 
@@ -86,7 +83,7 @@ fn sources_that_fail_stop_the_engine_on_btf(rt: HostRuntime) {
             write_fuse: None,
         };
         let run = devices.run_btf(&rt, rt.alloc(), Order::Little);
-        assert_eq!(rt; run.ended, wanted, "{bytes:?} where read {fuse} fails");
+        equal(&rt, &run.ended, &wanted, &(bytes, fuse));
         run.took_front_of(&rt, INT);
     }
 }
@@ -115,7 +112,7 @@ fn sinks_that_fail_stop_the_engine_on_btf(rt: HostRuntime) {
             write_fuse: Some(fuse),
         };
         let run = devices.run_btf(&rt, rt.alloc(), Order::Little);
-        assert_eq!(rt; run.ended, wanted, "{bytes:?} where write {fuse} fails");
+        equal(&rt, &run.ended, &wanted, &(bytes, fuse));
         run.took_front_of(&rt, INT);
     }
 }
@@ -132,12 +129,8 @@ fn each_read_of_btf_may_fail(rt: HostRuntime) {
             write_fuse: None,
         };
         let run = devices.run_btf(&rt, rt.alloc(), Order::Little);
-        assert_eq!(rt;
-            run.ended,
-            stopped(RunCause::ReadFailed, 0),
-            "read {fuse} fails"
-        );
-        assert_eq!(rt; run.taken.len(), 0, "read {fuse} fails");
+        equal(&rt, &run.ended, &stopped(RunCause::ReadFailed, 0), &fuse);
+        equal(&rt, &run.taken.len(), &0, &fuse);
     }
 }
 
@@ -152,10 +145,11 @@ fn each_write_of_btf_may_fail(rt: HostRuntime) {
             write_fuse: Some(fuse),
         };
         let run = devices.run_btf(&rt, rt.alloc(), Order::Little);
-        assert_eq!(rt;
-            run.ended,
-            stopped(RunCause::WriteFailed, fuse - 1),
-            "write {fuse} fails"
+        equal(
+            &rt,
+            &run.ended,
+            &stopped(RunCause::WriteFailed, fuse - 1),
+            &fuse,
         );
         run.took_front_of(&rt, INT);
     }
@@ -176,8 +170,8 @@ fn inputs_about_as_long_as_a_btf_file_can_be(rt: HostRuntime) {
         let mut out = Vec::new(rt.alloc());
         let mut sink = MemSink::new(&mut out, 1, None);
         let ran = run_btf(rt.alloc(), &mut source, &mut sink, Order::Little);
-        assert_eq!(rt; ran, wanted, "{left:?} zero bytes");
-        assert_eq!(rt; out.len(), 0, "{left:?} zero bytes");
+        equal(&rt, &ran, &wanted, &left);
+        equal(&rt, &out.len(), &0, &left);
     }
 }
 
@@ -186,5 +180,5 @@ fn runs_btf_over_readers_and_writers(rt: HostRuntime) {
     let mut source = ReaderSource::new(BIG_INT);
     let mut sink = WriterSink::new(Vec::new(rt.alloc()));
     let ran = run_btf(rt.alloc(), &mut source, &mut sink, Order::Little);
-    assert_eq!(rt; ran, Ok(45));
+    equal(&rt, &ran, &Ok(45), &"a run");
 }

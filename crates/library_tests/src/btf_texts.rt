@@ -1,6 +1,7 @@
 //! Texts of BTF types, through both tables.
 
 use crate::arena::{ROOM, leave};
+use crate::expect::equal_bytes;
 use bpf_words::{Order, push16, push32};
 use btf_text::show_btf;
 use btf_types::{Btf, BtfView};
@@ -76,7 +77,7 @@ fn files_are_shown(rt: HostRuntime) -> Result<(), Fail> {
         ),
     ];
     for (bytes, text) in cases {
-        assert_eq!(rt; shown(rt.alloc(), bytes)?.as_slice(), text);
+        equal_bytes(&rt, shown(rt.alloc(), bytes)?.as_slice(), text, &bytes);
     }
     Ok(())
 }
@@ -239,9 +240,11 @@ fn all_kinds_are_shown(rt: HostRuntime) -> Result<(), Fail> {
     let text = samples_text(rt.alloc())?;
     for order in [Order::Little, Order::Big] {
         let bytes = samples_file(rt.alloc(), order)?;
-        assert_eq!(rt;
+        equal_bytes(
+            &rt,
             shown(rt.alloc(), bytes.as_slice())?.as_slice(),
-            text.as_slice()
+            text.as_slice(),
+            &"all kinds",
         );
     }
     Ok(())
@@ -262,9 +265,11 @@ fn names_keep_what_needs_no_quoting(rt: HostRuntime) -> Result<(), Fail> {
         let mut text = Vec::from_slice(rt.alloc(), b"[1] typedef \"")?;
         text.extend_from_slice(name)?;
         text.extend_from_slice(b"\" type=0\n")?;
-        assert_eq!(rt;
+        equal_bytes(
+            &rt,
             shown(rt.alloc(), bytes.as_slice())?.as_slice(),
-            text.as_slice()
+            text.as_slice(),
+            &strings,
         );
     }
     Ok(())
@@ -282,7 +287,7 @@ fn each_growth_of_the_text_is_refused(rt: HostRuntime) -> Result<(), Fail> {
         let bump = Bump::try_with_capacity(rt.alloc(), ROOM)?;
         leave(&rt, &bump, room);
         if let Ok(text) = show_btf(&bump, &table) {
-            assert_eq!(rt; text.as_slice(), expected.as_slice(), "with {room} bytes");
+            equal_bytes(&rt, text.as_slice(), expected.as_slice(), &room);
             // The whole text has to be kept, so fewer bytes are too few.
             assert!(rt; room >= expected.len(), "{room} bytes were enough");
             return Ok(());

@@ -1,5 +1,6 @@
 //! Programs that clang compiled for both byte orders (`testdata/README.md` says how) have the same canonical bytes.
 
+use crate::expect::equal_bytes;
 use bpf_canon::{Order, canon_insns, same_insns};
 use std::test::Fail;
 
@@ -59,9 +60,19 @@ fn both_orders_have_the_same_canonical_bytes(rt: HostRuntime) -> Result<(), Fail
     ];
     for (little, big) in programs {
         let canonical = canon_insns(rt.alloc(), Order::Big, big)?;
-        assert_eq!(rt; canonical.as_slice(), little);
+        equal_bytes(
+            &rt,
+            canonical.as_slice(),
+            little,
+            &"of the big-endian program",
+        );
         let same = canon_insns(rt.alloc(), Order::Little, little)?;
-        assert_eq!(rt; same.as_slice(), little);
+        equal_bytes(
+            &rt,
+            same.as_slice(),
+            little,
+            &"of the little-endian program",
+        );
         match same_insns(rt.alloc(), Order::Big, big, Order::Little, little) {
             Ok(same) => assert!(rt; same),
             Err(_) => assert!(rt; false, "a program was refused"),

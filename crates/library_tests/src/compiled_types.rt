@@ -1,5 +1,6 @@
 //! BTF that clang compiled for both byte orders (`testdata/README.md` says how) has the same canonical bytes.
 
+use crate::expect::{equal, equal_bytes};
 use bpf_canon::{canon_btf, same_btf};
 use std::test::Fail;
 
@@ -128,9 +129,15 @@ const STRINGS_POS: usize = 24 + 540;
 fn both_orders_have_the_same_canonical_types(rt: HostRuntime) -> Result<(), Fail> {
     let little = canon_btf(rt.alloc(), FLOW_TABLE_LITTLE)?;
     let big = canon_btf(rt.alloc(), FLOW_TABLE_BIG)?;
-    assert_eq!(rt; little.as_slice(), big.as_slice());
-    assert_eq!(rt; little.len(), STRINGS_POS + STRINGS.len());
-    assert_eq!(rt; &little.as_slice()[STRINGS_POS..], STRINGS);
+    equal_bytes(&rt, little.as_slice(), big.as_slice(), &"both orders");
+    equal(
+        &rt,
+        &little.len(),
+        &(STRINGS_POS + STRINGS.len()),
+        &"the length",
+    );
+    let strings = little.get(STRINGS_POS..);
+    equal(&rt, &strings, &Some(STRINGS), &"the strings");
     match same_btf(rt.alloc(), FLOW_TABLE_BIG, FLOW_TABLE_LITTLE) {
         Ok(same) => assert!(rt; same),
         Err(_) => assert!(rt; false, "a file was refused"),

@@ -1,4 +1,5 @@
 //! Devices over memory and over readers and writers.
+use crate::expect::{equal, equal_bytes};
 use bpf_canon::{
     ByteSink, ByteSource, DeviceFailed, MemSink, MemSource, ReadError, ReaderSource, RunCause,
     RunError, SideError, WriterSink, put_all, read_all,
@@ -12,7 +13,12 @@ fn errors_show_their_names(rt: HostRuntime) -> Result<(), Fail> {
         (ReadError::ReadFailed, "ReadFailed"),
         (ReadError::Memory, "Memory"),
     ] {
-        assert_eq!(rt; format!(in rt.alloc(); "{error}")?.as_str(), name);
+        equal(
+            &rt,
+            &format!(in rt.alloc(); "{error}")?.as_str(),
+            &name,
+            &name,
+        );
     }
     Ok(())
 }
@@ -27,18 +33,30 @@ fn errors_of_engines_show_their_names(rt: HostRuntime) -> Result<(), Fail> {
         (RunCause::Memory, "Memory"),
     ] {
         let error = RunError { cause, written: 8 };
-        assert_eq!(rt; format!(in rt.alloc(); "{error}")?.as_str(), name);
+        equal(
+            &rt,
+            &format!(in rt.alloc(); "{error}")?.as_str(),
+            &name,
+            &name,
+        );
     }
     for (error, name) in [
         (SideError::First(0), "First"),
         (SideError::Second(0), "Second"),
         (SideError::Memory, "Memory"),
     ] {
-        assert_eq!(rt; format!(in rt.alloc(); "{error}")?.as_str(), name);
+        equal(
+            &rt,
+            &format!(in rt.alloc(); "{error}")?.as_str(),
+            &name,
+            &name,
+        );
     }
-    assert_eq!(rt;
-        format!(in rt.alloc(); "{DeviceFailed}")?.as_str(),
-        "DeviceFailed"
+    equal(
+        &rt,
+        &format!(in rt.alloc(); "{DeviceFailed}")?.as_str(),
+        &"DeviceFailed",
+        &"a device that failed",
     );
     Ok(())
 }
@@ -61,9 +79,9 @@ fn reads_whole_inputs_within_the_limit(rt: HostRuntime) -> Result<(), Fail> {
         match read_all(rt.alloc(), &mut source, limit) {
             Ok(read) => {
                 assert!(rt; stop.is_none(), "pieces of {piece}, limit {limit}");
-                assert_eq!(rt; read.as_slice(), bytes);
+                equal_bytes(&rt, read.as_slice(), bytes, &(piece, limit));
             }
-            Err(error) => assert_eq!(rt; Some(error), stop, "pieces of {piece}, limit {limit}"),
+            Err(error) => equal(&rt, &Some(error), &stop, &(piece, limit)),
         }
     }
     Ok(())
@@ -73,12 +91,17 @@ fn reads_whole_inputs_within_the_limit(rt: HostRuntime) -> Result<(), Fail> {
 fn a_source_gives_pieces_until_its_fuse(rt: HostRuntime) {
     let mut source = MemSource::new(b"abcdefgh", 3, Some(3));
     let mut buffer = [0u8; 2];
-    assert_eq!(rt; source.read(&mut buffer), Ok(2));
-    assert_eq!(rt; &buffer, b"ab");
+    equal(&rt, &source.read(&mut buffer), &Ok(2), &"a read");
+    equal_bytes(&rt, &buffer, b"ab", &"what was read");
     let mut buffer = [0u8; 16];
-    assert_eq!(rt; source.read(&mut buffer), Ok(3));
+    equal(&rt, &source.read(&mut buffer), &Ok(3), &"a read");
     assert!(rt; buffer.starts_with(b"cde"));
-    assert_eq!(rt; source.read(&mut buffer), Err(DeviceFailed));
+    equal(
+        &rt,
+        &source.read(&mut buffer),
+        &Err(DeviceFailed),
+        &"a read",
+    );
 }
 
 #[test]
@@ -93,8 +116,8 @@ fn a_sink_takes_a_prefix_until_its_fuse(rt: HostRuntime) {
         assert!(rt; piece > 0);
         let mut out = Vec::new(rt.alloc());
         let mut sink = MemSink::new(&mut out, piece, fuse);
-        assert_eq!(rt; put_all(&mut sink, b"abc"), written, "pieces of {piece}");
-        assert_eq!(rt; out.as_slice(), taken, "pieces of {piece}");
+        equal(&rt, &put_all(&mut sink, b"abc"), &written, &piece);
+        equal_bytes(&rt, out.as_slice(), taken, &piece);
     }
 }
 
@@ -102,9 +125,9 @@ fn a_sink_takes_a_prefix_until_its_fuse(rt: HostRuntime) {
 fn readers_and_writers_are_devices(rt: HostRuntime) -> Result<(), Fail> {
     let mut source = ReaderSource::new(b"abc".as_slice());
     let read = read_all(rt.alloc(), &mut source, 3)?;
-    assert_eq!(rt; read.as_slice(), b"abc".as_slice());
+    equal_bytes(&rt, read.as_slice(), b"abc".as_slice(), &"what was read");
     let mut sink = WriterSink::new(Vec::new(rt.alloc()));
-    assert_eq!(rt; sink.write(b""), Ok(0));
-    assert_eq!(rt; put_all(&mut sink, b"abc"), Ok(()));
+    equal(&rt, &sink.write(b""), &Ok(0), &"an empty write");
+    equal(&rt, &put_all(&mut sink, b"abc"), &Ok(()), &"a write");
     Ok(())
 }

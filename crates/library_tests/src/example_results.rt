@@ -1,5 +1,6 @@
 //! What the example of the library returns.
 
+use crate::expect::{equal, equal_bytes};
 use crate::library_example::{
     StreamError, canonical_for_big_endian, canonical_stream, member_names,
 };
@@ -14,27 +15,33 @@ fn the_library_by_an_example(rt: HostRuntime) -> Result<(), Fail> {
         \0\0\0\x05\x04\0\0\x02\0\0\0\x08\
         \0\0\0\x0b\0\0\0\x01\0\0\0\0\0\0\0\x0d\0\0\0\x01\0\0\0\x20\
         \0int\0point\0x\0y\0";
-    assert_eq!(rt;
+    equal_bytes(
+        &rt,
         member_names(rt.alloc(), file)?.as_slice(),
-        b"x\ny\n".as_slice()
+        b"x\ny\n".as_slice(),
+        &"the members",
     );
 
     // "int" ends "point", so it needs no string of its own
-    assert_eq!(rt;
+    equal_bytes(
+        &rt,
         canonical_for_big_endian(rt.alloc(), file)?.as_slice(),
         b"\xeb\x9f\x01\0\0\0\0\x18\0\0\0\0\0\0\0\x34\0\0\0\x34\0\0\0\x0b\
             \0\0\0\x03\x01\0\0\0\0\0\0\x04\x01\0\0\x20\
             \0\0\0\x01\x04\0\0\x02\0\0\0\x08\
             \0\0\0\x07\0\0\0\x01\0\0\0\0\0\0\0\x09\0\0\0\x01\0\0\0\x20\
             \0point\0x\0y\0"
-            .as_slice()
+            .as_slice(),
+        &"the canonical file",
     );
 
     // mov r1, r2 and exit, cut inside an instruction
     let pieces: [&[u8]; 2] = [b"\xbf\x12\0\0\0", b"\0\0\0\x95\0\0\0\0\0\0\0"];
-    assert_eq!(rt;
+    equal_bytes(
+        &rt,
         canonical_stream(rt.alloc(), &pieces)?.as_slice(),
-        b"\xbf\x21\0\0\0\0\0\0\x95\0\0\0\0\0\0\0".as_slice()
+        b"\xbf\x21\0\0\0\0\0\0\x95\0\0\0\0\0\0\0".as_slice(),
+        &"the canonical stream",
     );
     Ok(())
 }
@@ -48,9 +55,11 @@ fn the_example_lists_members_alone(rt: HostRuntime) -> Result<(), Fail> {
         \x07\0\0\0\x01\0\0\x06\x04\0\0\0\x09\0\0\0\x01\0\0\0\
         \x0d\0\0\0\0\0\0\x08\x01\0\0\0\
         \0int\0a\0e\0one\0t\0";
-    assert_eq!(rt;
+    equal_bytes(
+        &rt,
         member_names(rt.alloc(), file)?.as_slice(),
-        b"a\n".as_slice()
+        b"a\n".as_slice(),
+        &"the members",
     );
     Ok(())
 }
@@ -61,8 +70,8 @@ fn the_example_tells_faults(rt: HostRuntime) -> Result<(), Fail> {
     let pieces: [&[u8]; 2] = [b"\x95\0\0\0\0\0\0\0", b"\xff\0\0\0\0\0\0\0"];
     match canonical_stream(rt.alloc(), &pieces) {
         Err(StreamError::Insns(InsnError::Fault(fault))) => {
-            assert_eq!(rt; fault.pos, 8);
-            assert_eq!(rt; fault.cause, SlotCause::Opcode);
+            equal(&rt, &fault.pos, &8, &"the place");
+            equal(&rt, &fault.cause, &SlotCause::Opcode, &"the cause");
         }
         _ => assert!(rt; false),
     }

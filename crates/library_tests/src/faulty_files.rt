@@ -1,5 +1,6 @@
 //! BTF files with their first faults, one of each cause at least that a file can have.
 use super::btf::INT;
+use crate::expect::equal;
 use bpf_canon::{MemSink, MemSource, RunCause, RunError, SideError, canon_btf, run_btf, same_btf};
 use bpf_words::Order;
 use btf_raw::{BtfCause, BtfFault};
@@ -193,7 +194,7 @@ fn have_no_canonical_bytes(rt: HostRuntime) {
             cause: *cause,
         };
         match canon_btf(rt.alloc(), bytes) {
-            Err(BtfError::Fault(reported)) => assert_eq!(rt; reported, fault, "{bytes:?}"),
+            Err(BtfError::Fault(reported)) => equal(&rt, &reported, &fault, &bytes),
             Err(BtfError::Memory) => panic!(rt; "out of memory at {bytes:?}"),
             Ok(_) => panic!(rt; "{bytes:?} is accepted"),
         }
@@ -208,11 +209,11 @@ fn are_the_same_as_no_file(rt: HostRuntime) {
             cause: *cause,
         };
         let first = same_btf(rt.alloc(), bytes, INT);
-        assert_eq!(rt; first, Err(SideError::First(fault)), "{bytes:?}");
+        equal(&rt, &first, &Err(SideError::First(fault)), &bytes);
         let second = same_btf(rt.alloc(), INT, bytes);
-        assert_eq!(rt; second, Err(SideError::Second(fault)), "{bytes:?}");
+        equal(&rt, &second, &Err(SideError::Second(fault)), &bytes);
         let both = same_btf(rt.alloc(), bytes, b"");
-        assert_eq!(rt; both, Err(SideError::First(fault)), "{bytes:?}");
+        equal(&rt, &both, &Err(SideError::First(fault)), &bytes);
     }
 }
 
@@ -231,7 +232,7 @@ fn stop_the_engine_before_it_writes(rt: HostRuntime) {
             cause: RunCause::Fault(fault),
             written: 0,
         };
-        assert_eq!(rt; ran, Err(stopped), "{bytes:?}");
+        equal(&rt, &ran, &Err(stopped), &bytes);
         assert!(rt; out.is_empty(), "{bytes:?}");
     }
 }

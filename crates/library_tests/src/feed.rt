@@ -1,5 +1,6 @@
 //! Instructions in pieces.
 use super::samples::{EXIT, FAULT_OF_FAULTY, FAULTY, Sample, WIDE, accepted, refused};
+use crate::expect::{equal, equal_bytes};
 use bpf_canon::InsnFeed;
 use bpf_insn::{InsnError, Order, SlotCause, SlotFault};
 use std::alloc::Global;
@@ -24,52 +25,98 @@ fn feed_piece(
 fn whole_instructions_come_at_once(rt: HostRuntime) {
     let mut feed = InsnFeed::new(Order::Little, Order::Little);
     let mut out = Vec::new(rt.alloc());
-    assert_eq!(rt; feed_piece(&rt, &mut feed, &WIDE[..9], &mut out), None);
-    assert_eq!(rt;
-        (out.len(), feed.held(), feed.fed(), feed.count()),
-        (0, 9, 9, 0)
+    equal(
+        &rt,
+        &feed_piece(&rt, &mut feed, &WIDE[..9], &mut out),
+        &None,
+        &"a fault",
     );
-    assert_eq!(rt; feed_piece(&rt, &mut feed, &WIDE[9..], &mut out), None);
-    assert_eq!(rt; out.as_slice(), WIDE);
-    assert_eq!(rt; (feed.held(), feed.fed(), feed.count()), (0, 16, 1));
-    assert_eq!(rt; feed.finish(), Ok(1));
+    equal(
+        &rt,
+        &(out.len(), feed.held(), feed.fed(), feed.count()),
+        &(0, 9, 9, 0),
+        &"counts",
+    );
+    equal(
+        &rt,
+        &feed_piece(&rt, &mut feed, &WIDE[9..], &mut out),
+        &None,
+        &"a fault",
+    );
+    equal_bytes(&rt, out.as_slice(), WIDE, &"written");
+    equal(
+        &rt,
+        &(feed.held(), feed.fed(), feed.count()),
+        &(0, 16, 1),
+        &"counts",
+    );
+    equal(&rt, &feed.finish(), &Ok(1), &"the end");
 
     let mut feed = InsnFeed::new(Order::Little, Order::Big);
     let mut out = Vec::new(rt.alloc());
     for piece in [b"\xbf\x21\0\0\0\0\0\0", b"\xb4\x01\0\0\x07\0\0\0"] {
-        assert_eq!(rt; feed_piece(&rt, &mut feed, piece, &mut out), None);
+        equal(
+            &rt,
+            &feed_piece(&rt, &mut feed, piece, &mut out),
+            &None,
+            &"a fault",
+        );
     }
     let big = b"\xbf\x12\0\0\0\0\0\0\xb4\x10\0\0\0\0\0\x07";
-    assert_eq!(rt; out.as_slice(), big.as_slice());
+    equal_bytes(&rt, out.as_slice(), big.as_slice(), &"written");
 }
 
 #[test]
 fn a_fault_is_told_again(rt: HostRuntime) {
     let mut feed = InsnFeed::new(Order::Little, Order::Little);
     let mut out = Vec::new(rt.alloc());
-    assert_eq!(rt; feed_piece(&rt, &mut feed, &FAULTY[..15], &mut out), None);
-    assert_eq!(rt; (out.as_slice(), feed.held()), (EXIT, 7));
+    equal(
+        &rt,
+        &feed_piece(&rt, &mut feed, &FAULTY[..15], &mut out),
+        &None,
+        &"a fault",
+    );
+    equal(
+        &rt,
+        &(out.as_slice(), feed.held()),
+        &(EXIT, 7),
+        &"written and held",
+    );
     for piece in [b"\0".as_slice(), EXIT, b""] {
-        assert_eq!(rt;
-            feed_piece(&rt, &mut feed, piece, &mut out),
-            Some(FAULT_OF_FAULTY)
+        equal(
+            &rt,
+            &feed_piece(&rt, &mut feed, piece, &mut out),
+            &Some(FAULT_OF_FAULTY),
+            &"a fault",
         );
-        assert_eq!(rt; (out.as_slice(), feed.held()), (EXIT, 0));
-        assert_eq!(rt; (feed.fed(), feed.count()), (16, 1));
+        equal(
+            &rt,
+            &(out.as_slice(), feed.held()),
+            &(EXIT, 0),
+            &"written and held",
+        );
+        equal(&rt, &(feed.fed(), feed.count()), &(16, 1), &"counts");
     }
-    assert_eq!(rt; feed.finish(), Err(FAULT_OF_FAULTY));
+    equal(&rt, &feed.finish(), &Err(FAULT_OF_FAULTY), &"the end");
 }
 
 #[test]
 fn good_instructions_before_a_fault_are_kept(rt: HostRuntime) {
     let mut feed = InsnFeed::new(Order::Little, Order::Little);
     let mut out = Vec::new(rt.alloc());
-    assert_eq!(rt;
-        feed_piece(&rt, &mut feed, FAULTY, &mut out),
-        Some(FAULT_OF_FAULTY)
+    equal(
+        &rt,
+        &feed_piece(&rt, &mut feed, FAULTY, &mut out),
+        &Some(FAULT_OF_FAULTY),
+        &"a fault",
     );
-    assert_eq!(rt; out.as_slice(), EXIT);
-    assert_eq!(rt; (feed.held(), feed.fed(), feed.count()), (0, 16, 1));
+    equal_bytes(&rt, out.as_slice(), EXIT, &"written");
+    equal(
+        &rt,
+        &(feed.held(), feed.fed(), feed.count()),
+        &(0, 16, 1),
+        &"counts",
+    );
 }
 
 #[test]
@@ -80,11 +127,18 @@ fn a_faulty_first_slot_does_not_wait_for_the_second(rt: HostRuntime) {
         pos: 1,
         cause: SlotCause::Src,
     };
-    assert_eq!(rt;
-        feed_piece(&rt, &mut feed, b"\x18\x71\0\0\0\0\0\0", &mut out),
-        Some(fault)
+    equal(
+        &rt,
+        &feed_piece(&rt, &mut feed, b"\x18\x71\0\0\0\0\0\0", &mut out),
+        &Some(fault),
+        &"a fault",
     );
-    assert_eq!(rt; (feed.held(), feed.fed(), feed.count()), (0, 8, 0));
+    equal(
+        &rt,
+        &(feed.held(), feed.fed(), feed.count()),
+        &(0, 8, 0),
+        &"counts",
+    );
 }
 
 #[test]
@@ -99,13 +153,18 @@ fn a_stream_may_end_too_soon(rt: HostRuntime) {
         assert!(rt; len <= 16);
         let mut feed = InsnFeed::new(Order::Little, Order::Little);
         let mut out = Vec::new(rt.alloc());
-        assert_eq!(rt; feed_piece(&rt, &mut feed, &WIDE[..len], &mut out), None);
-        assert_eq!(rt; feed.held(), len % 16);
+        equal(
+            &rt,
+            &feed_piece(&rt, &mut feed, &WIDE[..len], &mut out),
+            &None,
+            &"a fault",
+        );
+        equal(&rt, &feed.held(), &(len % 16), &len);
         let told = end.map_err(|pos| SlotFault {
             pos,
             cause: SlotCause::Truncated,
         });
-        assert_eq!(rt; feed.finish(), told, "after {len} bytes");
+        equal(&rt, &feed.finish(), &told, &len);
     }
 }
 
@@ -122,8 +181,8 @@ fn cut_in_two(rt: &impl Abort, alloc: Global, sample: Sample, at: usize) {
     assert!(rt; early.is_none() || early == late);
     let fault = feed.finish().err();
     assert!(rt; late.is_none() || late == fault);
-    assert_eq!(rt; fault, sample.fault, "cut at {at}");
-    assert_eq!(rt; out.as_slice(), sample.canonical, "cut at {at}");
+    equal(rt, &fault, &sample.fault, &at);
+    equal_bytes(rt, out.as_slice(), sample.canonical, &at);
 }
 
 fn cut_everywhere(rt: &impl Abort, alloc: Global, sample: Sample) {

@@ -1,5 +1,6 @@
 //! Canonical bytes and comparison of whole files.
 use super::samples::{EXIT, accepted, refused};
+use crate::expect::{equal, equal_bytes};
 use bpf_canon::{SideError, canon_insns, same_insns, write_insns};
 use bpf_insn::{Insn, InsnError, Order, SlotCause, SlotFault, decode_insns};
 use std::test::Fail;
@@ -9,13 +10,13 @@ fn canonical_bytes_of_examples(rt: HostRuntime) -> Result<(), Fail> {
     for sample in accepted() {
         let bytes = sample.bytes;
         let canon = canon_insns(rt.alloc(), sample.order, bytes)?;
-        assert_eq!(rt; canon.as_slice(), sample.canonical, "of {bytes:?}");
+        equal_bytes(&rt, canon.as_slice(), sample.canonical, &bytes);
     }
     for sample in refused() {
         let bytes = sample.bytes;
         match canon_insns(rt.alloc(), sample.order, bytes) {
             Err(InsnError::Fault(fault)) => {
-                assert_eq!(rt; Some(fault), sample.fault, "of {bytes:?}");
+                equal(&rt, &Some(fault), &sample.fault, &bytes);
             }
             _ => panic!(rt; "{bytes:?} is accepted"),
         }
@@ -28,15 +29,17 @@ fn instructions_are_written_in_either_order(rt: HostRuntime) -> Result<(), Fail>
     for sample in accepted() {
         let insns = decode_insns(rt.alloc(), sample.order, sample.bytes)?;
         let own = write_insns(rt.alloc(), sample.order, &insns)?;
-        assert_eq!(rt; own.as_slice(), sample.bytes);
+        equal_bytes(&rt, own.as_slice(), sample.bytes, &sample.bytes);
         let little = write_insns(rt.alloc(), Order::Little, &insns)?;
-        assert_eq!(rt; little.as_slice(), sample.canonical);
+        equal_bytes(&rt, little.as_slice(), sample.canonical, &sample.bytes);
     }
     let exits = [Insn::Exit, Insn::Exit];
     let written = write_insns(rt.alloc(), Order::Big, &exits)?;
-    assert_eq!(rt;
+    equal_bytes(
+        &rt,
         written.as_slice(),
-        b"\x95\0\0\0\0\0\0\0\x95\0\0\0\0\0\0\0".as_slice()
+        b"\x95\0\0\0\0\0\0\0\x95\0\0\0\0\0\0\0".as_slice(),
+        &"two exits",
     );
     Ok(())
 }
@@ -62,6 +65,6 @@ fn files_are_the_same_where_their_instructions_are(rt: HostRuntime) {
     ];
     for (order, first, second, answer) in cases {
         let told = same_insns(rt.alloc(), order, first, Order::Little, second);
-        assert_eq!(rt; told, answer, "{first:?} and {second:?}");
+        equal(&rt, &told, &answer, &(first, second));
     }
 }

@@ -1,4 +1,5 @@
 //! Calls with ample memory on the largest files that the limits allow.
+use crate::expect::equal;
 use bpf_canon::{
     BTF_LIMIT, INSN_LIMIT, InsnFeed, MemSink, MemSource, RunCause, RunError, SideError, canon_btf,
     canon_insns, read_all, run_btf, run_insns, same_btf, same_insns, write_btf, write_insns,
@@ -36,20 +37,25 @@ const LAST_DST: SlotFault = SlotFault {
 fn instructions_are_brought_to_canonical_bytes(rt: HostRuntime) -> Result<(), Fail> {
     let big = moves(rt.alloc(), BIG_MOVE)?;
     let mut little = moves(rt.alloc(), LITTLE_MOVE)?;
-    assert_eq!(rt; big.len() as u64, INSN_LIMIT);
+    equal(&rt, &(big.len() as u64), &INSN_LIMIT, &"the length");
     let canon = canon_insns(rt.alloc(), Order::Big, &big)?;
     assert!(rt; canon == little);
     let same = same_insns(rt.alloc(), Order::Big, &big, Order::Little, &little);
-    assert_eq!(rt; same, Ok(true));
+    equal(&rt, &same, &Ok(true), &"a comparison");
     if let Some(registers) = little.get_mut(67_108_857) {
         *registers = 0x2b;
     }
     match canon_insns(rt.alloc(), Order::Little, &little) {
-        Err(InsnError::Fault(fault)) => assert_eq!(rt; fault, LAST_DST),
+        Err(InsnError::Fault(fault)) => equal(&rt, &fault, &LAST_DST, &"the fault"),
         _ => panic!(rt; "a faulty file is accepted"),
     }
     let same = same_insns(rt.alloc(), Order::Big, &big, Order::Little, &little);
-    assert_eq!(rt; same, Err(SideError::Second(LAST_DST)));
+    equal(
+        &rt,
+        &same,
+        &Err(SideError::Second(LAST_DST)),
+        &"a comparison",
+    );
     Ok(())
 }
 
@@ -61,7 +67,7 @@ fn instructions_are_fed_at_once(rt: HostRuntime) -> Result<(), Fail> {
     assert!(rt; big.len() <= 67_108_864);
     feed.feed(&big, &mut out)?;
     assert!(rt; out == moves(rt.alloc(), LITTLE_MOVE)?);
-    assert_eq!(rt; feed.finish(), Ok(MOVES as u64));
+    equal(&rt, &feed.finish(), &Ok(MOVES as u64), &"the end");
     Ok(())
 }
 
@@ -87,7 +93,7 @@ fn instructions_are_run_and_read(rt: HostRuntime) -> Result<(), Fail> {
         Order::Big,
         Order::Little,
     );
-    assert_eq!(rt; ran, Ok(INSN_LIMIT));
+    equal(&rt, &ran, &Ok(INSN_LIMIT), &"a run");
     assert!(rt; out == moves(rt.alloc(), LITTLE_MOVE)?);
     let mut source = MemSource::new(&big, 10_000, None);
     let read = read_all(rt.alloc(), &mut source, INSN_LIMIT)?;
@@ -120,7 +126,7 @@ fn longest_file(alloc: Global) -> Result<Vec<u8>, AllocError> {
 
 /// Whether these are the bytes of the longest file but for a header of 24 bytes.
 fn is_canonical(rt: &impl Abort, canon: &[u8], file: &[u8]) {
-    assert_eq!(rt; canon.len(), 50_331_672);
+    equal(rt, &canon.len(), &50_331_672, &"the length");
     let header = b"\x9f\xeb\x01\0\x18\0\0\0\0\0\0\0\0\0\0\x02\0\0\0\x02\0\0\0\x01";
     assert!(rt; canon.starts_with(header));
     assert!(rt; canon.get(24..) == file.get(4096..));
@@ -129,10 +135,15 @@ fn is_canonical(rt: &impl Abort, canon: &[u8], file: &[u8]) {
 #[test]
 fn types_are_brought_to_canonical_bytes(rt: HostRuntime) -> Result<(), Fail> {
     let file = longest_file(rt.alloc())?;
-    assert_eq!(rt; file.len() as u64, BTF_LIMIT);
+    equal(&rt, &(file.len() as u64), &BTF_LIMIT, &"the length");
     let canon = canon_btf(rt.alloc(), &file)?;
     is_canonical(&rt, &canon, &file);
-    assert_eq!(rt; same_btf(rt.alloc(), &file, &canon), Ok(true));
+    equal(
+        &rt,
+        &same_btf(rt.alloc(), &file, &canon),
+        &Ok(true),
+        &"a comparison",
+    );
     Ok(())
 }
 
@@ -140,12 +151,17 @@ fn types_are_brought_to_canonical_bytes(rt: HostRuntime) -> Result<(), Fail> {
 fn types_are_written(rt: HostRuntime) -> Result<(), Fail> {
     let file = longest_file(rt.alloc())?;
     let table = Btf::parse(rt.alloc(), &file)?;
-    assert_eq!(rt; table.count(), 2_796_202);
+    equal(&rt, &table.count(), &2_796_202, &"the count");
     let little = write_btf(rt.alloc(), Order::Little, &table)?;
     is_canonical(&rt, &little, &file);
     let big = write_btf(rt.alloc(), Order::Big, &table)?;
-    assert_eq!(rt; big.len(), little.len());
-    assert_eq!(rt; same_btf(rt.alloc(), &big, &file), Ok(true));
+    equal(&rt, &big.len(), &little.len(), &"the length");
+    equal(
+        &rt,
+        &same_btf(rt.alloc(), &big, &file),
+        &Ok(true),
+        &"a comparison",
+    );
     Ok(())
 }
 
@@ -156,7 +172,7 @@ fn types_are_run(rt: HostRuntime) -> Result<(), Fail> {
     let mut out = Vec::new(rt.alloc());
     let mut sink = MemSink::new(&mut out, 1_000_000, None);
     let ran = run_btf(rt.alloc(), &mut source, &mut sink, Order::Little);
-    assert_eq!(rt; ran, Ok(50_331_672));
+    equal(&rt, &ran, &Ok(50_331_672), &"a run");
     is_canonical(&rt, &out, &file);
     Ok(())
 }
@@ -175,11 +191,11 @@ fn faulty_types_are_refused(rt: HostRuntime) -> Result<(), Fail> {
         cause: BtfCause::Reference,
     };
     match canon_btf(rt.alloc(), &file) {
-        Err(BtfError::Fault(fault)) => assert_eq!(rt; fault, beyond),
+        Err(BtfError::Fault(fault)) => equal(&rt, &fault, &beyond, &"the fault"),
         _ => panic!(rt; "a faulty file is accepted"),
     }
     let same = same_btf(rt.alloc(), &file, &file);
-    assert_eq!(rt; same, Err(SideError::First(beyond)));
+    equal(&rt, &same, &Err(SideError::First(beyond)), &"a comparison");
     let mut source = MemSource::new(&file, 10_000, None);
     let mut out = Vec::new(rt.alloc());
     let mut sink = MemSink::new(&mut out, 1_000_000, None);
@@ -188,6 +204,6 @@ fn faulty_types_are_refused(rt: HostRuntime) -> Result<(), Fail> {
         cause: RunCause::Fault(beyond),
         written: 0,
     };
-    assert_eq!(rt; ran, Err(stopped));
+    equal(&rt, &ran, &Err(stopped), &"a run");
     Ok(())
 }

@@ -19,6 +19,8 @@ mod devices;
 #[cfg(test)]
 mod example_results;
 #[cfg(test)]
+mod expect;
+#[cfg(test)]
 mod faulty_files;
 #[cfg(test)]
 mod feed;

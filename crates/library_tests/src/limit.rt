@@ -2,6 +2,7 @@
 ghost use Rattle.std.specs.Prelude.{None, ℕ, List};
 
 use super::samples::EXIT;
+use crate::expect::equal;
 use bpf_canon::{
     ByteSink, ByteSource, DeviceFailed, INSN_LIMIT, ReadError, RunCause, RunError, read_all,
     run_insns,
@@ -95,12 +96,12 @@ fn inputs_about_as_long_as_the_limit(rt: HostRuntime) {
             Order::Little,
             Order::Little,
         );
-        assert_eq!(rt; ran, wanted, "{left:?} exits and {last:?}");
+        equal(&rt, &ran, &wanted, &(left, last));
         let written = match wanted {
             Ok(written) => written,
             Err(stop) => stop.written,
         };
-        assert_eq!(rt; sink.taken, written, "{left:?} exits and {last:?}");
+        equal(&rt, &sink.taken, &written, &(left, last));
     }
 }
 

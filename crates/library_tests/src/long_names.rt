@@ -1,5 +1,6 @@
 //! Files of TYPEDEFs whose names all end in one string, which are their own canonical bytes.
 
+use crate::expect::equal;
 use bpf_canon::canon_btf;
 use std::alloc::{AllocError, Global};
 use std::test::Fail;
@@ -34,7 +35,7 @@ fn names_in_one_string_stay_there(rt: HostRuntime) -> Result<(), Fail> {
         (2, 16_777_214, 16_777_264),
     ] {
         let file = typedefs(rt.alloc(), count, letters)?;
-        assert_eq!(rt; file.len(), len);
+        equal(&rt, &file.len(), &len, &count);
         let canon = canon_btf(rt.alloc(), &file)?;
         assert!(rt; canon == file, "of {count} names");
     }

@@ -1,5 +1,6 @@
 //! A table of types as a user may write one, which counts how often it is asked.
 use crate::btf::samples;
+use crate::expect::equal_bytes;
 use bpf_canon::write_btf;
 use bpf_words::Order;
 use btf_types::{BtfView, Head, Item, TypeTable};
@@ -61,7 +62,7 @@ fn tables_of_ones_own_are_written(rt: HostRuntime) -> Result<(), Fail> {
         let bytes = sample.bytes;
         let view = BtfView::parse(rt.alloc(), bytes)?;
         let written = write_btf(rt.alloc(), Order::Little, &Counting::new(&view))?;
-        assert_eq!(rt; written.as_slice(), sample.canonical, "of {bytes:?}");
+        equal_bytes(&rt, written.as_slice(), sample.canonical, &bytes);
     }
     Ok(())
 }

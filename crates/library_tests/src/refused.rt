@@ -1,5 +1,6 @@
 //! Each growth of the calls on instructions is refused in turn.
 use crate::arena::Tally;
+use crate::expect::{equal, equal_bytes};
 use bpf_canon::{
     InsnFeed, MemSink, MemSource, ReadError, RunCause, RunError, SideError, canon_insns, read_all,
     run_insns, same_insns, write_insns,
@@ -26,11 +27,11 @@ fn of_reading_whole(rt: HostRuntime) -> Result<(), Fail> {
         let mut source = MemSource::new(FILE, 5, None);
         match read_all(bump, &mut source, 100) {
             Ok(read) => {
-                assert_eq!(rt; read.as_slice(), FILE.as_slice());
+                equal_bytes(&rt, read.as_slice(), FILE.as_slice(), &"what was read");
                 None
             }
             Err(error) => {
-                assert_eq!(rt; error, ReadError::Memory);
+                equal(&rt, &error, &ReadError::Memory, &"the cause");
                 let rest = read_all(rt.alloc(), &mut source, 100).expect(&rt, "the rest");
                 Some(FILE.len().saturating_sub(rest.len()))
             }
@@ -46,7 +47,7 @@ fn of_writing_instructions(rt: HostRuntime) -> Result<(), Fail> {
     let tally = Tally::of(&rt, rt.alloc(), |bump| {
         match write_insns(bump, Order::Little, &insns) {
             Ok(written) => {
-                assert_eq!(rt; written.as_slice(), &FILE[..56]);
+                equal_bytes(&rt, written.as_slice(), &FILE[..56], &"what was written");
                 None
             }
             Err(_) => Some(0),
@@ -61,7 +62,7 @@ fn of_canonical_bytes(rt: HostRuntime) -> Result<(), Fail> {
     let tally = Tally::of(&rt, rt.alloc(), |bump| {
         match canon_insns(bump, Order::Little, &FILE[..56]) {
             Ok(canon) => {
-                assert_eq!(rt; canon.as_slice(), &FILE[..56]);
+                equal_bytes(&rt, canon.as_slice(), &FILE[..56], &"canonical bytes");
                 None
             }
             Err(InsnError::Memory) => Some(0),
@@ -80,7 +81,7 @@ fn of_canonical_bytes_of_a_faulty_file(rt: HostRuntime) -> Result<(), Fail> {
             Ok(_) => panic!(rt; "a faulty file is accepted"),
             Err(InsnError::Memory) => Some(0),
             Err(InsnError::Fault(fault)) => {
-                assert_eq!(rt; fault, FAULT);
+                equal(&rt, &fault, &FAULT, &"the fault");
                 None
             }
         }
@@ -100,7 +101,7 @@ fn refused_comparing(
         match same_insns(bump, Order::Little, &FILE[..56], Order::Little, second) {
             Err(SideError::Memory) => Some(0),
             reported => {
-                assert_eq!(rt; reported, answer);
+                equal(rt, &reported, &answer, &"a comparison");
                 None
             }
         }
@@ -129,7 +130,12 @@ fn feed_pieces<A: Allocator>(rt: &impl Abort, out: &mut Vec<u8, A>) -> usize {
             Ok(()) => at += piece.len(),
             Err(InsnError::Memory) => {
                 // Nothing has changed, and an empty piece takes no memory.
-                assert_eq!(rt; (out.len(), feed.held()), (had, at % 8));
+                equal(
+                    rt,
+                    &(out.len(), feed.held()),
+                    &(had, at % 8),
+                    &"written and held",
+                );
                 assert!(rt; feed.fed() == at as u64 && feed.feed(b"", out).is_ok());
                 return at;
             }
@@ -145,7 +151,7 @@ fn of_the_feed(rt: HostRuntime) -> Result<(), Fail> {
     let tally = Tally::of(&rt, rt.alloc(), |bump| {
         let mut out = Vec::new(bump);
         let at = feed_pieces(&rt, &mut out);
-        assert_eq!(rt; out.len(), at / 8 * 8);
+        equal(&rt, &out.len(), &(at / 8 * 8), &"written");
         assert!(rt; FILE.starts_with(&out));
         (at < 56).then_some(at)
     })?;
@@ -169,13 +175,13 @@ fn of_the_engine(rt: HostRuntime) -> Result<(), Fail> {
         let Err(stop) = ran else {
             panic!(rt; "a faulty file is accepted");
         };
-        assert_eq!(rt; out.len() as u64, stop.written);
+        equal(&rt, &(out.len() as u64), &stop.written, &"written");
         assert!(rt; FILE.starts_with(&out));
         if stop.cause == RunCause::Memory {
             let rest = read_all(rt.alloc(), &mut source, 100).expect(&rt, "the rest");
             return Some(FILE.len().saturating_sub(rest.len()));
         }
-        assert_eq!(rt; stop, faulty);
+        equal(&rt, &stop, &faulty, &"the stop");
         None
     })?;
     assert!(rt; tally.places >= 2);
@@ -193,12 +199,14 @@ fn of_a_sink(rt: HostRuntime) -> Result<(), Fail> {
         let ran = run_insns(rt.alloc(), &mut source, &mut sink, order, order);
         assert!(rt; FILE.starts_with(&out));
         let Err(stop) = ran else {
-            assert_eq!(rt; ran, Ok(56));
+            equal(&rt, &ran, &Ok(56), &"a run");
             return None;
         };
-        assert_eq!(rt;
-            (stop.cause, stop.written),
-            (RunCause::WriteFailed, out.len() as u64)
+        equal(
+            &rt,
+            &(stop.cause, stop.written),
+            &(RunCause::WriteFailed, out.len() as u64),
+            &"the stop",
         );
         Some(out.len())
     })?;

@@ -2,6 +2,7 @@
 use crate::arena::Tally;
 use crate::btf::{BIG_INT, LOOSE_INT};
 use crate::compiled_types::{FLOW_TABLE_BIG, FLOW_TABLE_LITTLE};
+use crate::expect::{equal, equal_bytes};
 use crate::own_table::Counting;
 use bpf_canon::{
     MemSink, MemSource, RunCause, SideError, canon_btf, read_all, run_btf, same_btf, write_btf,
@@ -20,12 +21,12 @@ const CANONICAL_LEN: usize = 751;
 fn of_writing_btf(rt: HostRuntime) -> Result<(), Fail> {
     let view = BtfView::parse(rt.alloc(), FLOW_TABLE_LITTLE)?;
     let ample = write_btf(rt.alloc(), Order::Big, &view)?;
-    assert_eq!(rt; ample.len(), CANONICAL_LEN);
+    equal(&rt, &ample.len(), &CANONICAL_LEN, &"the length");
     let tally = Tally::of(&rt, rt.alloc(), |bump| {
         let table = Counting::new(&view);
         match write_btf(bump, Order::Big, &table) {
             Ok(bytes) => {
-                assert_eq!(rt; bytes.as_slice(), ample.as_slice());
+                equal_bytes(&rt, bytes.as_slice(), ample.as_slice(), &"canonical bytes");
                 None
             }
             // The calls of the table that were made tell how far the writer came.
@@ -49,11 +50,11 @@ fn refused_reading(rt: &impl Abort, alloc: Global, file: &[u8]) -> Result<usize,
 #[test]
 fn of_canonical_btf(rt: HostRuntime) -> Result<(), Fail> {
     let ample = canon_btf(rt.alloc(), FLOW_TABLE_BIG)?;
-    assert_eq!(rt; ample.len(), CANONICAL_LEN);
+    equal(&rt, &ample.len(), &CANONICAL_LEN, &"the length");
     let tally = Tally::of(&rt, rt.alloc(), |bump| {
         match canon_btf(bump, FLOW_TABLE_BIG) {
             Ok(canon) => {
-                assert_eq!(rt; canon.as_slice(), ample.as_slice());
+                equal_bytes(&rt, canon.as_slice(), ample.as_slice(), &"canonical bytes");
                 None
             }
             Err(BtfError::Memory) => Some(0),
@@ -77,7 +78,7 @@ fn refused_comparing(
         match same_btf(bump, FLOW_TABLE_LITTLE, second) {
             Err(SideError::Memory) => Some(0),
             reported => {
-                assert_eq!(rt; reported, answer);
+                equal(rt, &reported, &answer, &"a comparison");
                 None
             }
         }
@@ -120,12 +121,14 @@ fn of_running_btf(rt: HostRuntime) -> Result<(), Fail> {
         let mut out = Vec::new(rt.alloc());
         let mut sink = MemSink::new(&mut out, 100, None);
         let Err(stop) = run_btf(bump, &mut source, &mut sink, Order::Little) else {
-            assert_eq!(rt; out.as_slice(), ample.as_slice());
+            equal_bytes(&rt, out.as_slice(), ample.as_slice(), &"canonical bytes");
             return None;
         };
-        assert_eq!(rt;
-            (stop.cause, stop.written, out.len()),
-            (RunCause::Memory, 0, 0)
+        equal(
+            &rt,
+            &(stop.cause, stop.written, out.len()),
+            &(RunCause::Memory, 0, 0),
+            &"the stop",
         );
         let rest = read_all(rt.alloc(), &mut source, 849).expect(&rt, "the rest of the file");
         if rest.is_empty() {
@@ -148,12 +151,14 @@ fn of_a_sink_of_btf(rt: HostRuntime) -> Result<(), Fail> {
         let ran = run_btf(rt.alloc(), &mut source, &mut sink, Order::Big);
         assert!(rt; BIG_INT.starts_with(&out));
         let Err(stop) = ran else {
-            assert_eq!(rt; out.len(), 45);
+            equal(&rt, &out.len(), &45, &"the length");
             return None;
         };
-        assert_eq!(rt;
-            (stop.cause, stop.written),
-            (RunCause::WriteFailed, out.len() as u64)
+        equal(
+            &rt,
+            &(stop.cause, stop.written),
+            &(RunCause::WriteFailed, out.len() as u64),
+            &"the stop",
         );
         assert!(rt; out.len() < 45);
         Some(out.len())

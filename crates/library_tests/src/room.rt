@@ -1,4 +1,5 @@
 //! How much room a read offers.
+use crate::expect::equal;
 use bpf_canon::{MemSink, MemSource, ReadError, RunCause, read_all, run_insns};
 use bpf_insn::Order;
 use std::test::Fail;
@@ -9,7 +10,12 @@ fn each_read_offers_4096_bytes(rt: HostRuntime) -> Result<(), Fail> {
     let mut source = MemSource::new(bytes.as_slice(), 5000, None);
     let read = read_all(rt.alloc(), &mut source, 0);
     assert!(rt; matches!(read, Err(ReadError::TooLong)));
-    assert_eq!(rt; read_all(rt.alloc(), &mut source, 5000)?.len(), 904);
+    equal(
+        &rt,
+        &read_all(rt.alloc(), &mut source, 5000)?.len(),
+        &904,
+        &"what is left",
+    );
 
     // No instruction has the opcode 0, so the engine stops after its first read.
     let mut source = MemSource::new(bytes.as_slice(), 5000, None);
@@ -23,6 +29,11 @@ fn each_read_offers_4096_bytes(rt: HostRuntime) -> Result<(), Fail> {
         Order::Little,
     );
     assert!(rt; ran.is_err_and(|stop| matches!(stop.cause, RunCause::Fault(_))));
-    assert_eq!(rt; read_all(rt.alloc(), &mut source, 5000)?.len(), 904);
+    equal(
+        &rt,
+        &read_all(rt.alloc(), &mut source, 5000)?.len(),
+        &904,
+        &"what is left",
+    );
     Ok(())
 }

@@ -1,6 +1,7 @@
 //! The engine on instructions over devices that give and take pieces, and fail.
 use super::fused_devices::FusedDevices;
 use super::samples::{EXIT, FAULT_OF_FAULTY, FAULTY, Sample, accepted, refused};
+use crate::expect::{equal, equal_bytes};
 use bpf_canon::{ReaderSource, RunCause, RunError, WriterSink, run_insns};
 use bpf_insn::{Order, SlotFault};
 use std::alloc::Global;
@@ -22,12 +23,8 @@ fn run_sample(rt: &impl Abort, alloc: Global, sample: Sample, piece: usize) {
         None => Ok(written),
         Some(fault) => stopped(RunCause::Fault(fault), written),
     };
-    assert_eq!(rt; run.ended, wanted, "{bytes:?} in pieces of {piece}");
-    assert_eq!(rt;
-        run.taken.as_slice(),
-        sample.canonical,
-        "{bytes:?} in pieces of {piece}"
-    );
+    equal(rt, &run.ended, &wanted, &(bytes, piece));
+    equal_bytes(rt, run.taken.as_slice(), sample.canonical, &(bytes, piece));
 }
 
 #[test]
@@ -46,8 +43,13 @@ fn runs_examples_in_pieces(rt: HostRuntime) {
 fn writes_in_the_order_that_is_asked(rt: HostRuntime) {
     let devices = FusedDevices::sound(b"\xb4\x01\0\0\x07\0\0\0", 5);
     let run = devices.run_insns(&rt, rt.alloc(), Order::Little, Order::Big);
-    assert_eq!(rt; run.ended, Ok(8));
-    assert_eq!(rt; run.taken.as_slice(), b"\xb4\x10\0\0\0\0\0\x07".as_slice());
+    equal(&rt, &run.ended, &Ok(8), &"the end");
+    equal_bytes(
+        &rt,
+        run.taken.as_slice(),
+        b"\xb4\x10\0\0\0\0\0\x07".as_slice(),
+        &"what was taken",
+    );
 }
 
 const TWICE: &[u8] = b"\x95\0\0\0\0\0\0\0\x95\0\0\0\0\0\0\0";
@@ -75,7 +77,7 @@ fn sources_that_fail_stop_the_engine(rt: HostRuntime) {
             write_fuse: None,
         };
         let run = devices.run_insns(&rt, rt.alloc(), Order::Little, Order::Little);
-        assert_eq!(rt; run.ended, wanted, "{bytes:?} in pieces of {read_piece}");
+        equal(&rt, &run.ended, &wanted, &(bytes, read_piece));
         run.took_front_of(&rt, TWICE);
     }
 }
@@ -97,7 +99,7 @@ fn sinks_that_fail_stop_the_engine(rt: HostRuntime) {
             write_fuse: Some(fuse),
         };
         let run = devices.run_insns(&rt, rt.alloc(), Order::Little, Order::Little);
-        assert_eq!(rt; run.ended, wanted, "{bytes:?} in pieces of {write_piece}");
+        equal(&rt, &run.ended, &wanted, &(bytes, write_piece));
         run.took_front_of(&rt, TWICE);
     }
 }
@@ -116,10 +118,11 @@ fn each_read_may_fail(rt: HostRuntime) {
         };
         let run = devices.run_insns(&rt, rt.alloc(), Order::Little, Order::Little);
         let whole = (5 * (fuse - 1)).min(24) / 8 * 8;
-        assert_eq!(rt;
-            run.ended,
-            stopped(RunCause::ReadFailed, whole),
-            "read {fuse} fails"
+        equal(
+            &rt,
+            &run.ended,
+            &stopped(RunCause::ReadFailed, whole),
+            &fuse,
         );
         run.took_front_of(&rt, EXITS);
     }
@@ -136,10 +139,11 @@ fn each_write_may_fail(rt: HostRuntime) {
             write_fuse: Some(fuse),
         };
         let run = devices.run_insns(&rt, rt.alloc(), Order::Little, Order::Little);
-        assert_eq!(rt;
-            run.ended,
-            stopped(RunCause::WriteFailed, fuse - 1),
-            "write {fuse} fails"
+        equal(
+            &rt,
+            &run.ended,
+            &stopped(RunCause::WriteFailed, fuse - 1),
+            &fuse,
         );
         run.took_front_of(&rt, EXITS);
     }
@@ -178,7 +182,7 @@ fn each_read_and_each_write_of_a_big_endian_move_may_fail(rt: HostRuntime) {
             write_fuse,
         };
         let run = devices.run_insns(&rt, rt.alloc(), Order::Big, Order::Little);
-        assert_eq!(rt; run.ended, wanted, "fuses {read_fuse:?} and {write_fuse:?}");
+        equal(&rt, &run.ended, &wanted, &(read_fuse, write_fuse));
         run.took_front_of(&rt, b"\xbf\x21\0\0\0\0\0\0");
     }
 }
@@ -194,5 +198,10 @@ fn runs_over_readers_and_writers(rt: HostRuntime) {
         Order::Little,
         Order::Little,
     );
-    assert_eq!(rt; ran, stopped(RunCause::Fault(FAULT_OF_FAULTY), 8));
+    equal(
+        &rt,
+        &ran,
+        &stopped(RunCause::Fault(FAULT_OF_FAULTY), 8),
+        &"a run",
+    );
 }

@@ -1,12 +1,10 @@
 //! Large files with ample memory, and small ones with each growth refused in turn.
 
+use crate::arena::{ROOM, arena};
 use bpf_insn::{Insn, InsnError, Order, Reg, SlotCause, SlotFault, WideOf, decode_insns};
-use bumpalo::Bump;
 use std::alloc::{AllocError, Global};
 use std::process::Abort;
 use std::test::Fail;
-
-const ROOM: usize = 1984;
 
 /// How many instructions a list grows for: those that find it full.
 const GROWTHS: [usize; 3] = [0, 4, 8];
@@ -21,16 +19,6 @@ const FILE: &[u8; 80] = b"\
     \x95\0\0\0\0\0\0\0\x95\0\0\0\0\0\0\0\x95\0\0\0\0\0\0\0\
     \x95\0\0\0\0\0\0\0\x95\0\0\0\0\0\0\0\x95\0\0\0\0\0\0\0\
     \x95\0\0\0\0\0\0\0\x95\0\0\0\0\0\0\0\x95\0\0\0\0\0\0\0\x04\x10\0\0\x05\0\0\0";
-
-/// An arena of one chunk with so many bytes left, which gets no other chunk.
-fn arena(alloc: Global, room: usize) -> Result<Bump<Global>, AllocError> {
-    let taken = [0u8; ROOM];
-    let bump = Bump::try_with_capacity(alloc, ROOM)?;
-    bump.set_allocation_limit(Some(0));
-    let given_away = ROOM.saturating_sub(room);
-    bump.try_alloc_slice_copy(&taken[..given_away])?;
-    Ok(bump)
-}
 
 /// How many exits an arena of so much room takes, up to nine.
 fn exits_in(alloc: Global, room: usize) -> Result<usize, AllocError> {

@@ -1,5 +1,6 @@
 //! Large texts with ample memory, and small ones with each growth refused in turn.
 
+use crate::arena::{ROOM, arena};
 use bpf_insn::{Insn, Order, Reg, WideOf};
 use bpf_text::{
     LineCause, LineFault, ListError, listing, push_line, read_listing, read_listing_bytes,
@@ -9,20 +10,8 @@ use std::alloc::{AllocError, Global};
 use std::process::Abort;
 use std::test::Fail;
 
-const ROOM: usize = 1984;
-
 /// Nine lines, and a faulty one. A list of instructions grows for its first, its fifth and its ninth.
 const LINES: &[u8] = b"exit\nexit\nexit\nexit\nexit\nexit\nexit\nexit\nexit\nleave\n";
-
-/// An arena of one chunk with so many bytes left, which gets no other chunk.
-fn arena(alloc: Global, room: usize) -> Result<Bump<Global>, AllocError> {
-    let taken = [0u8; ROOM];
-    let bump = Bump::try_with_capacity(alloc, ROOM)?;
-    bump.set_allocation_limit(Some(0));
-    let given_away = ROOM.saturating_sub(room);
-    bump.try_alloc_slice_copy(&taken[..given_away])?;
-    Ok(bump)
-}
 
 /// Which of the places where memory can be refused were met: after how many instructions.
 fn places(refused: &[u32; 10]) -> usize {
