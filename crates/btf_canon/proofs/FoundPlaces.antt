@@ -20,7 +20,7 @@ use Rattle.btf_canon.specs.UsedOffsets.{number_of}
 use Rattle.btf_canon.specs.Longest.{IsUsed, IsWithin, AreLongestOf}
 use Rattle.btf_canon.specs.Tails.{tail_text, HasKey}
 use Rattle.btf_canon.specs.InHost.{no_host, found_of, AreInHosts}
-use Rattle.btf_canon.specs.HostLayout.{IsFound, AreLaidOut, ArePlaced}
+use Rattle.btf_canon.specs.HostLayout.{IsFound, AreLaidOut, ArePlaced, GivePlaces}
 use Rattle.btf_canon.specs.declared.shared_strings.tails.Tail.{Tail}
 use Rattle.btf_canon.specs.declared.shared_strings.hosts_by_rank.InHost.{InHost}
 use Rattle.btf_canon.specs.declared.shared_strings.host_layout.Span.{Span}
@@ -175,26 +175,28 @@ module _ (section slots offsets placed : List ℕ) (texts tails : List Tail) (fo
   same_found : (k : ℕ) (d : InHost) (h : k < length found) → get_or found k d ≡ found_of slots found (named k h).off
   same_found k d h = get_or_default found k d no_host h ∙ ap (λ (j : ℕ). get_or found j no_host) (sym (named k h).number)
 
-  pub all_ranked : All (λ (i : InHost). i.host < length placed) found
+  all_ranked : All (λ (i : InHost). i.host < length placed) found
   all_ranked k d h =
       let n = named k h in
       subst (λ (i : InHost). i.host < length placed) (sym (same_found k d h)) (host_ranked section slots offsets placed in_order found spans len laid n.off n.named (at n.off n.named))
 
-  pub all_fit : length (shared_table (map (text_from section) offsets)) < 2 ^ 32 → All (λ (i : InHost). get_or placed i.host 0 + i.before < 2 ^ 32) found
+  all_fit : length (shared_table (map (text_from section) offsets)) < 2 ^ 32 → All (λ (i : InHost). get_or placed i.host 0 + i.before < 2 ^ 32) found
   all_fit room k d h =
       let n = named k h in
       subst (λ (i : InHost). get_or placed i.host 0 + i.before < 2 ^ 32) (sym (same_found k d h)) (place_fits section slots offsets placed in_order found spans len laid n.off n.named (at n.off n.named) room)
 
-  pub all_placed : (places : List ℕ) → places ≡ map (λ (i : InHost). get_or placed i.host 0 + i.before) found → ArePlaced section offsets slots places spans len
-  all_placed places e = record {
+  all_placed : ArePlaced section offsets slots (map (λ (i : InHost). get_or placed i.host 0 + i.before) found) spans len
+  all_placed = record {
     used = marked.marked;
-    numbers = ap (λ (l : List ℕ). length l) e ∙ length-map found (λ (i : InHost). get_or placed i.host 0 + i.before) ∙ hosts_are.whole;
+    numbers = length-map found (λ (i : InHost). get_or placed i.host 0 + i.before) ∙ hosts_are.whole;
     place = λ off c.
         let inside : number_of slots off < length found = omega (arith, number_inside slots off (marked.marked off c), hosts_are.whole) in
-        ap (λ (l : List ℕ). get_or l (number_of slots off) 0) e
-        ∙ get_or-map (λ (i : InHost). get_or placed i.host 0 + i.before) found (number_of slots off) no_host 0 inside
+        get_or-map (λ (i : InHost). get_or placed i.host 0 + i.before) found (number_of slots off) no_host 0 inside
         ∙ place_found section slots offsets placed in_order found spans len laid off c (at off c);
     are_spans = laid.are_spans;
     texts = laid.texts;
     whole = laid.whole;
   }
+
+  pub give_places : length (shared_table (map (text_from section) offsets)) < 2 ^ 32 → GivePlaces section offsets slots found placed spans len
+  give_places room = record { ranked = all_ranked; fits = all_fit room; are_placed = all_placed }

@@ -1,5 +1,5 @@
 -- The table of hosts, laid out in the order of first use.
-use Rattle.std.specs.Prelude.{◌≡◌, ◌≢◌, ℕ, ◌+◌, ◌-◌, ◌<◌, ◌≤◌, false, List, ◌++◌, length, map, take, drop, slice_index}
+use Rattle.std.specs.Prelude.{◌≡◌, ◌≢◌, ℕ, ◌+◌, ◌-◌, ◌^◌, ◌<◌, ◌≤◌, false, List, ◌++◌, length, map, take, drop, slice_index}
 use Rattle.std.specs.List.{All, Contains, flat_map}
 use Rattle.btf_types.specs.Names.{with_nul, place_in}
 use Rattle.btf_types.specs.Reading.{text_from}
@@ -58,3 +58,9 @@ pub record ArePlaced (section offsets slots places : List ℕ) (spans : List Spa
   pub are_spans : All (IsSpan section) spans
   pub texts : flat_map (span_bytes section) spans ≡ flat_map with_nul (hosts (map (text_from section) offsets))
   pub whole : len ≡ length (shared_table (map (text_from section) offsets))
+
+-- What is found of used offsets and the layout of the hosts give the place of each name: that of its host, and what comes before it there.
+pub record GivePlaces (section offsets slots : List ℕ) (found : List InHost) (placed : List ℕ) (spans : List Span) (len : ℕ) : Type 0 where
+  pub ranked : All (λ at. at.host < length placed) found
+  pub fits : All (λ at. slice_index placed at.host + at.before < 2 ^ 32) found
+  pub are_placed : ArePlaced section offsets slots (map (λ at. slice_index placed at.host + at.before) found) spans len

@@ -4,6 +4,8 @@ ghost use Rattle.std.specs.List.{All, Contains};
 ghost use Rattle.btf_raw.specs.Header.{HasNulEnds};
 ghost use Rattle.btf_types.specs.Reading.{text_from};
 ghost use Rattle.btf_types.specs.strings.SharedNames.{shared_table, shared_place};
+ghost use Rattle.btf_canon.specs.FirstUses.{AreMarked};
+ghost use Rattle.btf_canon.specs.HostLayout.{GivePlaces};
 ghost use Rattle.btf_canon.specs.NamesByPlace.{placed_texts};
 
 use crate::shared_strings::first_uses::FirstUses;
@@ -56,6 +58,27 @@ fn places_of<A: Allocator>(
     Ok(places)
 }
 
+// The hosts of the names at these offsets, and the table in which they stand.
+fn found_and_laid<A: Allocator + Copy>(
+    alloc: A,
+    strings: &[u8],
+    offsets: &[u32],
+    used: &UsedOffsets<A>,
+) -> Result<(Vec<InHost, A>, HostLayout<A>), AllocError>
+    requires ends { HasNulEnds strings.now }
+    requires few { length strings.now < 2 ^ 32 }
+    requires slots { length used.now ≡ length strings.now }
+    requires marked { AreMarked offsets.now used.now }
+    requires room { length (shared_table (map (text_from strings.now) offsets.now)) < 2 ^ 32 }
+    ensures { IfOk result (λ (found, layout). GivePlaces strings.now offsets.now used.now found.items layout.placed.items layout.spans.items layout.len) }
+{
+    let texts = longest_texts(alloc, strings, used)?;
+    let ranked = RankedTails::new(alloc, strings, texts)?;
+    let found = find_hosts(alloc, used, &ranked)?;
+    let layout = lay_out(alloc, offsets, used, &found, &ranked)?;
+    Ok((found, layout))
+}
+
 impl<'a, A: Allocator + Copy> SharedPlaces<'a, A> {
     // Finds the places of the names that are noted of this section.
     pub(crate) fn find(
@@ -72,10 +95,7 @@ impl<'a, A: Allocator + Copy> SharedPlaces<'a, A> {
     {
         let FirstUses { marks, offsets } = uses;
         let used = UsedOffsets::new(alloc, marks)?;
-        let texts = longest_texts(alloc, strings, &used)?;
-        let ranked = RankedTails::new(alloc, strings, texts)?;
-        let found = find_hosts(alloc, &used, &ranked)?;
-        let layout = lay_out(alloc, &offsets, &used, &found, &ranked)?;
+        let (found, layout) = found_and_laid(alloc, strings, &offsets, &used)?;
         let HostLayout { placed, spans, len } = layout;
         let places = places_of(alloc, &found, &placed)?;
         Ok(SharedPlaces {
