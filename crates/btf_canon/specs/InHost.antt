@@ -1,10 +1,12 @@
 -- Where names stand in their hosts.
-use Rattle.std.specs.Prelude.{◌≡◌, ◌≢◌, ℕ, ◌+◌, ◌-◌, ◌<◌, ◌≤◌, false, List, length, slice_index, slice_index_or}
+use Rattle.std.specs.Prelude.{◌≡◌, ◌≢◌, ℕ, ◌+◌, ◌-◌, ◌^◌, ◌<◌, ◌≤◌, false, List, length, map, slice_index, slice_index_or}
 use Rattle.btf_types.specs.Reading.{text_from}
 use Rattle.btf_types.specs.strings.SharedNames.{is_suffix, hosts_of, host_in}
 use Rattle.btf_types.specs.strings.CommonTails.{at_rank, AreInTailOrder}
 use Rattle.btf_canon.specs.UsedOffsets.{number_of}
-use Rattle.btf_canon.specs.Longest.{IsWithin}
+use Rattle.btf_canon.specs.Tails.{tail_text}
+use Rattle.btf_canon.specs.Ranks.{AreRanked}
+use Rattle.btf_canon.specs.Longest.{IsWithin, AreLongestOf}
 use Rattle.btf_canon.specs.declared.shared_strings.tails.Tail.{Tail}
 use Rattle.btf_canon.specs.declared.shared_strings.hosts_by_rank.InHost.{InHost}
 
@@ -45,3 +47,10 @@ pub record IsAlone (slots common : List ℕ) (rank : ℕ) (t : Tail) : Type 0 wh
 -- the texts of all ranks below n are alone
 abbrev pub AreAlone : List ℕ → List ℕ → List Tail → ℕ → Type 0
 AreAlone slots common ts n = (rank : ℕ) (d : Tail) → rank < n → rank < length ts → IsAlone slots common rank (slice_index_or ts rank d)
+
+-- The longest used texts of a section, sorted, with their numbers.
+pub record AreRankedTexts (section slots : List ℕ) (ts : List Tail) (common hosts : List ℕ) : Type 0 where
+  pub ranked : AreRanked (map (tail_text section) ts) common hosts
+  pub longest : AreLongestOf section slots ts
+  pub whole : length slots ≡ length section
+  pub few : length section < 2 ^ 32

@@ -70,10 +70,7 @@ fn find_within<A: Allocator>(
 
 // Whether no two texts are the same and none has a name behind its first byte, as in most files.
 fn are_alone<A: Allocator>(uses: &UsedOffsets<A>, ranked: &RankedTails<'_, A>) -> bool
-    requires ranked { AreRanked (map (tail_text ranked.now.section.now) ranked.now.tails.items) ranked.now.common.items ranked.now.hosts.items }
-    requires longest { AreLongestOf ranked.now.section.now uses.now ranked.now.tails.items }
-    requires slots { length uses.now ≡ length ranked.now.section.now }
-    requires section { length ranked.now.section.now < 2 ^ 32 }
+    requires { spec.AreRankedTexts ranked.now.section.now uses.now ranked.now.tails.items ranked.now.common.items ranked.now.hosts.items }
     ensures { result ≡ true → spec.AreAlone uses.now ranked.now.common.items ranked.now.tails.items (length ranked.now.tails.items) }
 {
     for rank in 0..ranked.tails.len() {
@@ -93,10 +90,7 @@ fn find_alone<A: Allocator + Copy>(
     uses: &UsedOffsets<A>,
     ranked: &RankedTails<'_, A>,
 ) -> Result<Vec<InHost, A>, AllocError>
-    requires ranked { AreRanked (map (tail_text ranked.now.section.now) ranked.now.tails.items) ranked.now.common.items ranked.now.hosts.items }
-    requires longest { AreLongestOf ranked.now.section.now uses.now ranked.now.tails.items }
-    requires slots { length uses.now ≡ length ranked.now.section.now }
-    requires section { length ranked.now.section.now < 2 ^ 32 }
+    requires texts { spec.AreRankedTexts ranked.now.section.now uses.now ranked.now.tails.items ranked.now.common.items ranked.now.hosts.items }
     requires alone { spec.AreAlone uses.now ranked.now.common.items ranked.now.tails.items (length ranked.now.tails.items) }
     ensures { IfOk result (λ found. spec.AreInHosts ranked.now.section.now uses.now (map (tail_text ranked.now.section.now) ranked.now.tails.items) found.items) }
 {
@@ -120,10 +114,7 @@ fn find_shared<A: Allocator + Copy>(
     uses: &UsedOffsets<A>,
     ranked: &RankedTails<'_, A>,
 ) -> Result<Vec<InHost, A>, AllocError>
-    requires ranked { AreRanked (map (tail_text ranked.now.section.now) ranked.now.tails.items) ranked.now.common.items ranked.now.hosts.items }
-    requires longest { AreLongestOf ranked.now.section.now uses.now ranked.now.tails.items }
-    requires slots { length uses.now ≡ length ranked.now.section.now }
-    requires section { length ranked.now.section.now < 2 ^ 32 }
+    requires { spec.AreRankedTexts ranked.now.section.now uses.now ranked.now.tails.items ranked.now.common.items ranked.now.hosts.items }
     ensures { IfOk result (λ found. spec.AreInHosts ranked.now.section.now uses.now (map (tail_text ranked.now.section.now) ranked.now.tails.items) found.items) }
 {
     let lower = lower_ranks(alloc, &ranked.common)?;
@@ -140,10 +131,7 @@ pub(crate) fn find_hosts<A: Allocator + Copy>(
     uses: &UsedOffsets<A>,
     ranked: &RankedTails<'_, A>,
 ) -> Result<Vec<InHost, A>, AllocError>
-    requires ranked { AreRanked (map (tail_text ranked.now.section.now) ranked.now.tails.items) ranked.now.common.items ranked.now.hosts.items }
-    requires longest { AreLongestOf ranked.now.section.now uses.now ranked.now.tails.items }
-    requires slots { length uses.now ≡ length ranked.now.section.now }
-    requires section { length ranked.now.section.now < 2 ^ 32 }
+    requires { spec.AreRankedTexts ranked.now.section.now uses.now ranked.now.tails.items ranked.now.common.items ranked.now.hosts.items }
     ensures { IfOk result (λ found. spec.AreInHosts ranked.now.section.now uses.now (map (tail_text ranked.now.section.now) ranked.now.tails.items) found.items) }
 {
     if are_alone(uses, ranked) {

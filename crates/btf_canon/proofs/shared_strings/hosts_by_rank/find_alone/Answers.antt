@@ -11,7 +11,7 @@ index-requires g c =
     let r = c.args.ranked.now in
     let t = c.index-text.result.now in
     let inside : c.loop-rank.rank < length r.tails.items = omega arith in
-    let low = host_inside r.section.now c.args.uses.now r.tails.items r.common.items r.hosts.items c.requires.ranked c.requires.longest.used c.loop-rank.rank c.loop-rank.rank c.index-host.result.now inside (omega arith) c.index-host.ensures in
+    let low = host_inside r.section.now c.args.uses.now r.tails.items r.common.items r.hosts.items c.requires.texts.ranked c.requires.texts.longest.used c.loop-rank.rank c.loop-rank.rank c.index-host.result.now inside (omega arith) c.index-host.ensures in
     omega (arith, low)
 
 pub len-len-requires : goal.len-len-requires
@@ -19,22 +19,22 @@ len-len-requires g c =
     let r = c.args.ranked.now in
     let t = c.index-text.result.now in
     let inside : c.loop-rank.rank < length r.tails.items = omega arith in
-    tail_up r.section.now c.args.uses.now r.tails.items r.common.items r.hosts.items c.requires.ranked c.requires.longest.used c.index-host.result.now c.index.result.now (host_inside r.section.now c.args.uses.now r.tails.items r.common.items r.hosts.items c.requires.ranked c.requires.longest.used c.loop-rank.rank c.loop-rank.rank c.index-host.result.now inside (omega arith) c.index-host.ensures) c.index.ensures
+    tail_up r.section.now c.args.uses.now r.tails.items r.common.items r.hosts.items c.requires.texts.ranked c.requires.texts.longest.used c.index-host.result.now c.index.result.now (host_inside r.section.now c.args.uses.now r.tails.items r.common.items r.hosts.items c.requires.texts.ranked c.requires.texts.longest.used c.loop-rank.rank c.loop-rank.rank c.index-host.result.now inside (omega arith) c.index-host.ensures) c.index.ensures
 
 pub overflow_add-host : goal.overflow_add-host
 overflow_add-host g c =
     let r = c.args.ranked.now in
     let t = c.index-text.result.now in
     let inside : c.loop-rank.rank < length r.tails.items = omega arith in
-    let low = host_inside r.section.now c.args.uses.now r.tails.items r.common.items r.hosts.items c.requires.ranked c.requires.longest.used c.loop-rank.rank c.loop-rank.rank c.index-host.result.now inside (omega arith) c.index-host.ensures in
-    omega (arith, low, c.requires.longest.few, c.requires.section)
+    let low = host_inside r.section.now c.args.uses.now r.tails.items r.common.items r.hosts.items c.requires.texts.ranked c.requires.texts.longest.used c.loop-rank.rank c.loop-rank.rank c.index-host.result.now inside (omega arith) c.index-host.ensures in
+    omega (arith, low, c.requires.texts.longest.few, c.requires.texts.few)
 
 pub overflow_sub-len : goal.overflow_sub-len
 overflow_sub-len g c =
     let r = c.args.ranked.now in
     let t = c.index-text.result.now in
     let inside : c.loop-rank.rank < length r.tails.items = omega arith in
-    let step = steps_alone r.section.now c.args.uses.now r.tails.items r.common.items r.hosts.items c.requires.ranked c.requires.longest.used c.loop-rank.rank c.index-host.result.now t c.index.result.now inside c.index-text.ensures c.requires.alone c.index-host.ensures c.index.ensures in
+    let step = steps_alone r.section.now c.args.uses.now r.tails.items r.common.items r.hosts.items c.requires.texts.ranked c.requires.texts.longest.used c.loop-rank.rank c.index-host.result.now t c.index.result.now inside c.index-text.ensures c.requires.alone c.index-host.ensures c.index.ensures in
     omega (arith, step.shorter, c.len-len.ensures, c.len.ensures)
 
 pub loop-rank-preserved : goal.loop-rank-preserved
@@ -42,7 +42,7 @@ loop-rank-preserved g c =
     let r = c.args.ranked.now in
     let t = c.index-text.result.now in
     let inside : c.loop-rank.rank < length r.tails.items = omega arith in
-    let step = steps_alone r.section.now c.args.uses.now r.tails.items r.common.items r.hosts.items c.requires.ranked c.requires.longest.used c.loop-rank.rank c.index-host.result.now t c.index.result.now inside c.index-text.ensures c.requires.alone c.index-host.ensures c.index.ensures in
+    let step = steps_alone r.section.now c.args.uses.now r.tails.items r.common.items r.hosts.items c.requires.texts.ranked c.requires.texts.longest.used c.loop-rank.rank c.index-host.result.now t c.index.result.now inside c.index-text.ensures c.requires.alone c.index-host.ensures c.index.ensures in
     let slots = c.args.uses.now in
     let sorted = map (tail_text r.section.now) r.tails.items in
     let old = c.loop-rank.found.items in
@@ -50,8 +50,8 @@ loop-rank-preserved g c =
     let before : h.before + (t.end - t.start) ≡ c.index.result.now.end - c.index.result.now.start = omega (arith, step.shorter, c.len-len.ensures, c.len.ensures) in
     let at : IsAlone slots r.common.items c.loop-rank.rank t = subst (IsAlone slots r.common.items c.loop-rank.rank) (sym c.index-text.ensures) (c.requires.alone c.loop-rank.rank t inside inside) in
     subst (λ (n : ℕ). HostsTo r.section.now slots r.tails.items sorted (set old n h) (c.loop-rank.rank + 1)) (sym c.number.ensures.number)
-    (hosts_more r.section.now c.args.uses.now r.tails.items sorted c.requires.longest old (set old (number_of slots t.start) h) c.loop-rank.rank c.loop-rank.invariant inside
-    (finds_read r.section.now c.args.uses.now r.tails.items c.requires.longest c.loop-rank.rank t inside c.index-text.ensures sorted old h at.unused c.loop-rank.invariant.whole (step.found h refl before c.len-len.ensures)))
+    (hosts_more r.section.now c.args.uses.now r.tails.items sorted c.requires.texts.longest old (set old (number_of slots t.start) h) c.loop-rank.rank c.loop-rank.invariant inside
+    (finds_read r.section.now c.args.uses.now r.tails.items c.requires.texts.longest c.loop-rank.rank t inside c.index-text.ensures sorted old h at.unused c.loop-rank.invariant.whole (step.found h refl before c.len-len.ensures)))
 
 pub returns : goal.returns
 returns g c =
@@ -60,4 +60,4 @@ returns g c =
     let sorted = map (tail_text section) ts in
     let found = c.loop-rank.found.items in
     let at_end : c.loop-rank.rank ≡ length ts = omega arith in
-    hosts_all section c.args.uses.now ts sorted c.requires.longest found (subst (HostsTo section c.args.uses.now ts sorted found) at_end c.loop-rank.invariant) c.requires.slots
+    hosts_all section c.args.uses.now ts sorted c.requires.texts.longest found (subst (HostsTo section c.args.uses.now ts sorted found) at_end c.loop-rank.invariant) c.requires.texts.whole

@@ -26,4 +26,4 @@ returns g c =
     let sorted = map (tail_text section) ts in
     let found = c.loop-rank.found.items in
     let at_end : c.loop-rank.rank ≡ length ts = omega arith in
-    hosts_all section c.args.uses.now ts sorted c.requires.longest found (subst (HostsTo section c.args.uses.now ts sorted found) at_end c.loop-rank.invariant) c.requires.slots
+    hosts_all section c.args.uses.now ts sorted c.requires.longest found (subst (HostsTo section c.args.uses.now ts sorted found) at_end c.loop-rank.invariant) c.requires.whole

@@ -1,10 +1,11 @@
-use Rattle.std.proofs.Common.{◌≡◌, ℕ, List, length, map, arith, subst, sym, ap}
+use Rattle.std.proofs.Common.{◌≡◌, ◌<◌, ◌^◌, ℕ, List, length, map, arith, subst, sym, ap, ◌∙◌}
 use Rattle.std.specs.List.{All}
 use Rattle.std.specs.List.Sorted.{IsSorted}
 use Rattle.btf_raw.specs.Header.{HasNulEnds}
 use Rattle.btf_types.specs.Reading.{text_from}
 use Rattle.btf_types.specs.strings.SharedNames.{tail_cmp}
 use Rattle.btf_canon.specs.Longest.{AreLongestOf}
+use Rattle.btf_canon.specs.Ranks.{AreRanked}
 use Rattle.btf_canon.specs.Tails.{tail_text}
 use Rattle.btf_canon.specs.InHost.{AreInHosts}
 use Rattle.btf_canon.specs.HostLayout.{IsFound, AreLaidOut}
@@ -12,11 +13,17 @@ use Rattle.btf_canon.specs.declared.shared_strings.hosts_by_rank.InHost.{InHost}
 use Rattle.btf_canon.proofs.FoundPlaces.{longest_permuted, all_found, give_places}
 use Rattle.btf_canon.proofs.shared_strings.places.found_and_laid.Goals as goal
 
-pub find_hosts-requires-clause-longest : goal.find_hosts-requires-clause-longest
-find_hosts-requires-clause-longest g c =
+pub find_hosts-requires : goal.find_hosts-requires
+find_hosts-requires g c =
     let slots = c.args.used.now in
     let tails = c.in_ok-ranked.ranked.tails.items in
-    subst (λ (s : List ℕ). AreLongestOf s slots tails) (sym c.in_ok-ranked.ensures.section) (longest_permuted c.args.strings.now slots c.in_ok-texts.texts.items tails c.in_ok-texts.ensures c.in_ok-ranked.ensures.permutation)
+    let same = c.in_ok-ranked.ensures.section in
+    record {
+      ranked = subst (λ (s : List ℕ). AreRanked (map (tail_text s) tails) c.in_ok-ranked.ranked.common.items c.in_ok-ranked.ranked.hosts.items) (sym same) c.in_ok-ranked.ensures.ranked;
+      longest = subst (λ (s : List ℕ). AreLongestOf s slots tails) (sym same) (longest_permuted c.args.strings.now slots c.in_ok-texts.texts.items tails c.in_ok-texts.ensures c.in_ok-ranked.ensures.permutation);
+      whole = c.requires.slots ∙ ap (λ (l : List ℕ). length l) (sym same);
+      few = subst (λ (s : List ℕ). length s < 2 ^ 32) (sym same) c.requires.few;
+    }
 
 pub lay_out-requires-clause-ends : goal.lay_out-requires-clause-ends
 lay_out-requires-clause-ends g c = subst HasNulEnds (sym c.in_ok-ranked.ensures.section) c.requires.ends
