@@ -1,17 +1,16 @@
 -- Steps of the loop that lays out hosts in the order of first use.
-use Rattle.std.proofs.Common.{◌≡◌, ◌≢◌, ℕ, ◌+◌, ◌<◌, ◌≤◌, Bool, true, false, not, ◌⊎◌, inl, inr, List, [], ◌∷◌, ◌++◌, length, map, get_or, set, take, drop, refl, sym, ap, ◌∙◌, subst, arith, append_assoc, take-append-drop}
-use Rattle.std.specs.List.{filter, flat_map, list_any, All}
+use Rattle.std.proofs.Common.{◌≡◌, ◌≢◌, ℕ, ◌+◌, ◌<◌, ◌≤◌, true, false, not, inl, inr, List, [], ◌∷◌, ◌++◌, length, map, get_or, set, take, drop, sym, ap, ◌∙◌, subst, arith, take-append-drop}
+use Rattle.std.specs.List.{flat_map, list_any, All}
 use Rattle.std.specs.List.Sorted.{IsSorted}
-use Rattle.std.proofs.lemmas.Bool.{both_ways, cases_Bool, cases_eq, cases_lt, cond-true, cond-false, false_from_ne_true}
+use Rattle.std.proofs.lemmas.Bool.{both_ways, cases_Bool, cases_eq, cases_lt, false_from_ne_true}
 use Rattle.std.proofs.lemmas.List.{append-nil, map-append, length-set, get_or-set_same, get_or-set_other, get_or_default, map_more, nil_from_length, get_or_read}
 use Rattle.std.proofs.lemmas.List.Concat.{flat_map-append}
-use Rattle.std.proofs.lemmas.List.Elements.{filter-append}
 use Rattle.btf_types.specs.Names.{kept, with_nul, table_of, place_in}
 use Rattle.btf_raw.specs.Header.{HasNulEnds}
 use Rattle.btf_types.specs.Reading.{text_from}
 use Rattle.btf_types.specs.strings.SharedNames.{is_suffix, is_proper_suffix, tail_cmp, hosts, host, shared_table}
 use Rattle.btf_types.specs.strings.CommonTails.{at_rank}
-use Rattle.btf_types.proofs.Members.{Has, Has-filter, Has-from_filter, Has-from_Contains}
+use Rattle.btf_types.proofs.Members.{Has, Has-from_Contains}
 use Rattle.btf_types.proofs.StringLemmas.Suffixes.{Ends, Ends-refl, Ends-same_length, suffix_from_Ends}
 use Rattle.btf_types.proofs.StringLemmas.Hosts.{host_is, own_host_of, host_differs}
 use Rattle.btf_types.proofs.StringLemmas.CommonTails.{ranks_are_together}
@@ -23,78 +22,10 @@ use Rattle.btf_canon.specs.declared.shared_strings.tails.Tail.{Tail}
 use Rattle.btf_canon.specs.HostLayout.{span_bytes, IsSpan, HasText, IsAtHost, IsFound, AreLaidOut}
 use Rattle.btf_canon.specs.declared.shared_strings.hosts_by_rank.InHost.{InHost}
 use Rattle.btf_canon.specs.declared.shared_strings.host_layout.Span.{Span}
-use Rattle.btf_canon.proofs.KeptSteps.{Has_cases, kept_empty, kept_known, kept_new, place_stays, place_last, length-table_push}
+use Rattle.btf_canon.proofs.KeptSteps.{place_stays, place_last, length-table_push}
 use Rattle.btf_canon.proofs.FoundHosts.{no_text, text_some, in_map}
 use Rattle.btf_canon.proofs.TableSpans.{span_of}
-
--- no other of the names properly ends with x
-abbrev pub is_own : List (List ℕ) → List ℕ → Bool
-is_own xs x = not (list_any (is_proper_suffix x) (kept xs))
-
--- those hosts among the names xs that some of the names, ys, use
-abbrev pub laid : List (List ℕ) → List (List ℕ) → List (List ℕ)
-laid xs ys = filter (is_own xs) (kept ys)
-
-kept_cases : (ys : List (List ℕ)) (x : List ℕ) → (kept (ys ++ x ∷ []) ≡ kept ys) ⊎ ((kept (ys ++ x ∷ []) ≡ kept ys ++ x ∷ []) × (x ≢ []))
-kept_cases ys [] = inl (kept_empty ys)
-kept_cases ys (b ∷ x) = elim (Has_cases (kept ys) (b ∷ x)) [
-  | inl h ↦ inl (kept_known ys (b ∷ x) h)
-  | inr n ↦ inr (kept_new ys (b ∷ x) (λ q. absurd cc) n, λ q. absurd cc)
-]
-
-one_own : (xs ys : List (List ℕ)) (x : List ℕ) → is_own xs x ≡ true → filter (is_own xs) (kept ys ++ x ∷ []) ≡ laid xs ys ++ x ∷ []
-one_own xs ys x t = filter-append (is_own xs) (kept ys) (x ∷ []) ∙ ap (λ (l : List (List ℕ)). laid xs ys ++ l) (cond-true (is_own xs x) (x ∷ []) [] t)
-
-one_other : (xs ys : List (List ℕ)) (x : List ℕ) → is_own xs x ≡ false → filter (is_own xs) (kept ys ++ x ∷ []) ≡ laid xs ys
-one_other xs ys x f =
-    filter-append (is_own xs) (kept ys) (x ∷ []) ∙ ap (λ (l : List (List ℕ)). laid xs ys ++ l) (cond-false (is_own xs x) (x ∷ []) [] f) ∙ append-nil (laid xs ys)
-
-pub laid_empty : (xs ys : List (List ℕ)) (x : List ℕ) → x ≡ [] → laid xs (ys ++ x ∷ []) ≡ laid xs ys
-laid_empty xs ys x e = ap (λ (t : List ℕ). laid xs (ys ++ t ∷ [])) e ∙ ap (filter (is_own xs)) (kept_empty ys)
-
-pub laid_other : (xs ys : List (List ℕ)) (x : List ℕ) → is_own xs x ≡ false → laid xs (ys ++ x ∷ []) ≡ laid xs ys
-laid_other xs ys x f = elim (kept_cases ys x) [
-  | inl e ↦ ap (filter (is_own xs)) e
-  | inr n ↦ ap (filter (is_own xs)) n.0 ∙ one_other xs ys x f
-]
-
-pub laid_known : (xs ys : List (List ℕ)) (x : List ℕ) → Has (laid xs ys) x → laid xs (ys ++ x ∷ []) ≡ laid xs ys
-laid_known xs ys x h = ap (filter (is_own xs)) (kept_known ys x (Has-from_filter (is_own xs) (kept ys) x h).0)
-
-pub laid_new : (xs ys : List (List ℕ)) (x : List ℕ) → x ≢ [] → is_own xs x ≡ true → ¬ Has (laid xs ys) x → laid xs (ys ++ x ∷ []) ≡ laid xs ys ++ x ∷ []
-laid_new xs ys x some t n =
-    ap (filter (is_own xs)) (kept_new ys x some (λ h. n (Has-filter (is_own xs) (kept ys) x h t))) ∙ one_own xs ys x t
-
-laid_step : (xs ys : List (List ℕ)) (x : List ℕ) → length (table_of (laid xs ys)) ≤ length (table_of (laid xs (ys ++ x ∷ [])))
-laid_step xs ys x = elim (kept_cases ys x) [
-  | inl e ↦ let same = ap (λ (l : List (List ℕ)). length (table_of (filter (is_own xs) l))) e in omega (arith, same)
-  | inr n ↦ elim (cases_Bool (is_own xs x)) [
-    | inl t ↦ let more = ap (λ (l : List (List ℕ)). length (table_of l)) (ap (filter (is_own xs)) n.0 ∙ one_own xs ys x t) in omega (arith, more, length-table_push (laid xs ys) x)
-    | inr f ↦ let same = ap (λ (l : List (List ℕ)). length (table_of l)) (ap (filter (is_own xs)) n.0 ∙ one_other xs ys x f) in omega (arith, same)
-  ]
-]
-
-pub laid_fits : (xs ys more : List (List ℕ)) → length (table_of (laid xs ys)) ≤ length (table_of (laid xs (ys ++ more)))
-laid_fits xs ys [] = let same = ap (λ (l : List (List ℕ)). length (table_of (laid xs l))) (append-nil ys) in omega (arith, same)
-laid_fits xs ys (x ∷ more) =
-    let same = ap (λ (l : List (List ℕ)). length (table_of (laid xs l))) (append_assoc ys (x ∷ []) more) in
-    omega (arith, laid_step xs ys x, laid_fits xs (ys ++ x ∷ []) more, same)
-
--- members of a list that got one more
-has_push : (xs : List (List ℕ)) (y x : List ℕ) → Has (xs ++ y ∷ []) x → Has xs x ⊎ (y ≡ x)
-has_push [] y x h = elim h [ inl e ↦ inr e | inr n ↦ absurd n ]
-has_push (z ∷ xs) y x h = elim h [
-  | inl e ↦ inl (inl e)
-  | inr i ↦ elim (has_push xs y x i) [ inl j ↦ inl (inr j) | inr e ↦ inr e ]
-]
-
-has_more : (xs : List (List ℕ)) (y x : List ℕ) → Has xs x → Has (xs ++ y ∷ []) x
-has_more [] y x h = absurd h
-has_more (z ∷ xs) y x h = elim h [ inl e ↦ inl e | inr i ↦ inr (has_more xs y x i) ]
-
-has_last : (xs : List (List ℕ)) (y : List ℕ) → Has (xs ++ y ∷ []) y
-has_last [] y = inl refl
-has_last (z ∷ xs) y = inr (has_last xs y)
+use Rattle.btf_canon.proofs.LaidNames.{is_own, laid, laid_empty, laid_other, laid_known, laid_new, laid_fits, has_push, has_more, has_last}
 
 -- a rank whose text doesn't end the next one
 pub record IsLast (sorted : List (List ℕ)) (r : ℕ) : Type 0 where

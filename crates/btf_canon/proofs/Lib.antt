@@ -27,6 +27,7 @@ pub mod FoundHosts
 pub mod UsedSteps
 pub mod OffsetMarkSteps
 pub mod InHostSteps
+pub mod LaidNames
 pub mod LayoutSteps
 pub mod FoundPlaces
 pub mod SpanSteps

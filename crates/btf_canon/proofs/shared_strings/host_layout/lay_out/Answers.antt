@@ -3,7 +3,8 @@ use Rattle.std.proofs.lemmas.List.{take_all, get_or_read}
 use Rattle.btf_types.specs.Reading.{text_from}
 use Rattle.btf_canon.specs.InHost.{no_host}
 use Rattle.btf_canon.specs.Tails.{tail_text}
-use Rattle.btf_canon.proofs.LayoutSteps.{LaidTo, laid, skips_empty, skips_other, skips_placed, placed_inside, lays_read, laid_room, laid_all}
+use Rattle.btf_canon.proofs.LaidNames.{laid}
+use Rattle.btf_canon.proofs.LayoutSteps.{LaidTo, skips_empty, skips_other, skips_placed, placed_inside, lays_read, laid_room, laid_all}
 use Rattle.btf_canon.proofs.shared_strings.host_layout.lay_out.Goals as goal
 use Rattle.btf_canon.proofs.shared_strings.host_layout.lay_out.Goals.{then-host-eq0-via-then-host-eq0, then-host-eq0-via-else-host-eq0+then-at-ne0, then-host-eq0-via-else-host-eq0+else-at-ne0+then-index-ne0}
 

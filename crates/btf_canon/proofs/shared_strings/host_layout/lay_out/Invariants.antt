@@ -1,7 +1,8 @@
 use Rattle.std.proofs.Common.{map, take}
 use Rattle.btf_types.specs.Reading.{text_from}
 use Rattle.btf_canon.specs.Tails.{tail_text}
-use Rattle.btf_canon.proofs.LayoutSteps.{LaidTo, laid}
+use Rattle.btf_canon.proofs.LaidNames.{laid}
+use Rattle.btf_canon.proofs.LayoutSteps.{LaidTo}
 use Rattle.btf_canon.proofs.shared_strings.host_layout.lay_out.Given as goal
 
 abbrev pub invariant-loop-k : goal.invariant-loop-k
