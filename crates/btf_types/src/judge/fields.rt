@@ -21,7 +21,7 @@ use btf_raw::info::{flag_of, kind_of, tail_words, vlen_of};
 use btf_raw::{BtfCause, BtfFault};
 
 /// A record of the section, and what its first words say.
-#[derive(Clone, Copy, Debug)]
+#[derive(Clone, Copy)]
 pub struct Record {
     /// Where it begins, in bytes from the first of the type section.
     pub pos: usize,

@@ -8,7 +8,7 @@ use btf_raw::info::item_words;
 use btf_raw::{ARRAY, DATASEC, DECL_TAG, ENUM, ENUM64, FUNC_PROTO, INT, STRUCT, UNION, VAR};
 
 /// What a word of a record is to the judge of fields.
-#[derive(Clone, Copy, Debug, PartialEq, Eq)]
+#[derive(Clone, Copy)]
 pub enum Role {
     /// The record's own `name_off`.
     OwnName,

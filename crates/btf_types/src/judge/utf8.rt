@@ -12,7 +12,7 @@ ghost use Rattle.btf_types.specs.judge.Texts.{BeginsChar, TextsAre, AreMarks, Is
 use std::alloc::{AllocError, Allocator};
 
 /// Which texts of a string section are UTF-8.
-#[derive(Clone, Copy, Debug)]
+#[derive(Clone, Copy)]
 pub enum Texts<'a> {
     /// The section is UTF-8 as a whole, so a text is UTF-8 where a character begins.
     Utf8,

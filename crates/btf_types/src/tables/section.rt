@@ -21,7 +21,7 @@ const NO_TYPE: Facts = Facts {
 };
 
 /// The two sections of a file, and what is known of them before the fields are judged.
-#[derive(Clone, Copy, Debug)]
+#[derive(Clone, Copy)]
 pub struct Section<'a> {
     pub order: Order,
     pub types: &'a [u8],
@@ -33,7 +33,7 @@ pub struct Section<'a> {
 }
 
 /// What other records ask of a type.
-#[derive(Clone, Copy, Debug)]
+#[derive(Clone, Copy)]
 pub struct Facts {
     /// Its kind, 0 of void and of a type that isn't there.
     pub kind: u8,
