@@ -8,6 +8,7 @@ mod btf_pieces;
 mod chunked_names;
 mod devices;
 mod examples;
+mod expect;
 mod lines;
 mod listings;
 mod refused;

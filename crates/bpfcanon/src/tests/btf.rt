@@ -3,6 +3,7 @@
 use super::btf_files::{
     BIG_ENUM, BIG_INT, INT, LOOSE_INT, NO_TYPES, QUOTED, STRUCT, TAGGED, UNKNOWN_TYPE,
 };
+use super::expect::answered;
 use super::running::{Example, check, done, refused, run, steady};
 use std::alloc::{AllocError, Global};
 use std::test::Fail;
@@ -122,17 +123,7 @@ fn compares_btf_files(rt: HostRuntime) -> Result<(), Fail> {
         let input = joined(rt.alloc(), first, second)?;
         for piece in [1, 4096] {
             let ran = run(rt.alloc(), line, input.as_slice(), steady(piece))?;
-            assert_eq!(rt; ran.status, status, "{line} on {first:?} and {second:?}");
-            assert_eq!(rt;
-                ran.output.as_slice(),
-                output,
-                "{line} on {first:?} and {second:?}"
-            );
-            assert_eq!(rt;
-                ran.faults.as_slice(),
-                told,
-                "{line} on {first:?} and {second:?}"
-            );
+            answered(&rt, &ran, status, output, told, &(line, first, second));
         }
     }
     Ok(())

@@ -1,6 +1,7 @@
 //! The text of BTF types in pieces: writes that fail, faults, and names that share their bytes.
 
 use super::btf_files::nameless;
+use super::expect::answered;
 use super::running::{Pace, check_failed_writes, run, steady};
 use bpf_words::{Order, push32};
 use std::alloc::{AllocError, Global};
@@ -37,9 +38,7 @@ fn pieces_join_to_the_text_of_types(rt: HostRuntime) -> Result<(), Fail> {
             ..steady(piece)
         };
         let ran = run(rt.alloc(), "btf-show", &file, pace)?;
-        assert_eq!(rt; ran.status, 0, "{piece} at a time");
-        assert_eq!(rt; ran.output, text, "{piece} at a time");
-        assert!(rt; ran.faults.is_empty(), "{piece} at a time");
+        answered(&rt, &ran, 0, &text, b"", &piece);
     }
     Ok(())
 }
@@ -53,12 +52,7 @@ fn no_type_is_shown_before_the_whole_file_is_judged(rt: HostRuntime) -> Result<(
     }
     file.extend_from_slice(b"\0\x10\0\0\0")?;
     let ran = run(rt.alloc(), "btf-show", &file, steady(4096))?;
-    assert_eq!(rt; ran.status, 1);
-    assert!(rt; ran.output.is_empty());
-    assert_eq!(rt;
-        ran.faults.as_slice(),
-        b"fault 10820 Reference\n".as_slice()
-    );
+    answered(&rt, &ran, 1, b"", b"fault 10820 Reference\n", &"btf-show");
     Ok(())
 }
 
@@ -100,7 +94,6 @@ fn shared_names(alloc: Global) -> Result<(Vec<u8>, Vec<u8>), AllocError> {
 fn names_that_share_their_bytes_are_shown_in_full(rt: HostRuntime) -> Result<(), Fail> {
     let (file, text) = shared_names(rt.alloc())?;
     let ran = run(rt.alloc(), "btf-show", &file, steady(4096))?;
-    assert_eq!(rt; ran.status, 0);
-    assert_eq!(rt; ran.output, text);
+    answered(&rt, &ran, 0, &text, b"", &"btf-show");
     Ok(())
 }

@@ -1,5 +1,6 @@
 //! The text of BTF types with long names: chunks that end amid characters, and writes that fail amid a name.
 
+use super::expect::answered;
 use super::running::{check_failed_writes, run, steady};
 use bpf_words::{Order, push32};
 use std::alloc::{AllocError, Global};
@@ -50,8 +51,7 @@ fn names_of_each_length_are_shown_in_full(rt: HostRuntime) -> Result<(), Fail> {
     for count in [1, 2047, 2048, 2049, 4095, 4096, 4097, 6144, 10_000] {
         let (file, text) = control_typedef(rt.alloc(), count)?;
         let ran = run(rt.alloc(), "btf-show", &file, steady(4096))?;
-        assert_eq!(rt; ran.status, 0, "{count} characters");
-        assert_eq!(rt; ran.output, text, "{count} characters");
+        answered(&rt, &ran, 0, &text, b"", &count);
     }
     Ok(())
 }
@@ -69,8 +69,7 @@ fn characters_that_are_cut_are_shown_whole(rt: HostRuntime) -> Result<(), Fail> 
     text.extend_from_slice(&name)?;
     text.extend_from_slice(b"\" 7\n")?;
     let ran = run(rt.alloc(), "btf-show", &file, steady(4096))?;
-    assert_eq!(rt; ran.status, 0);
-    assert_eq!(rt; ran.output, text);
+    answered(&rt, &ran, 0, &text, b"", &"btf-show");
     Ok(())
 }
 

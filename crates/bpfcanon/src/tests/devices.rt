@@ -1,6 +1,7 @@
 //! Devices that fail at each of their calls in turn.
 
 use super::btf_files::{BIG_INT, INT, NO_TYPES, STRUCT};
+use super::expect::{answered, begins, equal, equal_bytes, failed};
 use super::running::{Pace, check_failed_writes, run, steady};
 use std::alloc::{AllocError, Global};
 use std::test::Fail;
@@ -88,9 +89,9 @@ fn each_read_fails(rt: HostRuntime) -> Result<(), Fail> {
                 ..steady(1)
             };
             let ran = run(rt.alloc(), line, sample.input, pace)?;
+            let case = (line, fuse);
             if fuse > reads.saturating_add(1) {
-                assert_eq!(rt; ran.status, 0, "{line}, read {fuse}");
-                assert_eq!(rt; ran.output.as_slice(), sample.output, "{line}, read {fuse}");
+                answered(&rt, &ran, 0, sample.output, b"", &case);
                 continue;
             }
             // insn-canon has written the instructions that came, of 8 bytes each
@@ -99,17 +100,8 @@ fn each_read_fails(rt: HostRuntime) -> Result<(), Fail> {
             } else {
                 0
             };
-            assert_eq!(rt; ran.status, 3, "{line}, read {fuse}");
-            assert_eq!(rt;
-                ran.faults.as_slice(),
-                b"read failed\n".as_slice(),
-                "{line}, read {fuse}"
-            );
-            assert_eq!(rt; ran.output.len() as u64, whole, "{line}, read {fuse}");
-            assert!(rt;
-                sample.output.starts_with(ran.output.as_slice()),
-                "{line}, read {fuse}"
-            );
+            let whole = whole as usize;
+            failed(&rt, &ran, b"read failed\n", sample.output, whole, &case);
         }
     }
     Ok(())
@@ -127,26 +119,13 @@ fn each_write_fails(rt: HostRuntime) -> Result<(), Fail> {
                 ..steady(1)
             };
             let ran = run(rt.alloc(), line, sample.input, pace)?;
+            let case = (line, fuse);
             if fuse > writes {
-                assert_eq!(rt; ran.status, 0, "{line}, write {fuse}");
-                assert_eq!(rt;
-                    ran.output.as_slice(),
-                    sample.output,
-                    "{line}, write {fuse}"
-                );
+                answered(&rt, &ran, 0, sample.output, b"", &case);
                 continue;
             }
-            assert_eq!(rt; ran.status, 3, "{line}, write {fuse}");
-            assert_eq!(rt;
-                ran.faults.as_slice(),
-                b"write failed\n".as_slice(),
-                "{line}, write {fuse}"
-            );
-            assert_eq!(rt; ran.output.len() as u64, fuse - 1, "{line}, write {fuse}");
-            assert!(rt;
-                sample.output.starts_with(ran.output.as_slice()),
-                "{line}, write {fuse}"
-            );
+            let taken = (fuse - 1) as usize;
+            failed(&rt, &ran, b"write failed\n", sample.output, taken, &case);
         }
     }
     Ok(())
@@ -194,9 +173,7 @@ fn pieces_join_to_the_listing(rt: HostRuntime) -> Result<(), Fail> {
             ..steady(piece)
         };
         let ran = run(rt.alloc(), "insn-show", &insns, pace)?;
-        assert_eq!(rt; ran.status, 0, "{piece} at a time");
-        assert_eq!(rt; ran.output, lines, "{piece} at a time");
-        assert!(rt; ran.faults.is_empty(), "{piece} at a time");
+        answered(&rt, &ran, 0, &lines, b"", &piece);
     }
     Ok(())
 }
@@ -207,9 +184,7 @@ fn nothing_is_written_before_the_whole_input_is_judged(rt: HostRuntime) -> Resul
     let (mut insns, _) = exits(rt.alloc(), 3000)?;
     insns.extend_from_slice(b"\x04\x10\0\0\x05\0\0\0")?;
     let ran = run(rt.alloc(), "insn-show", &insns, steady(4096))?;
-    assert_eq!(rt; ran.status, 1);
-    assert!(rt; ran.output.is_empty());
-    assert_eq!(rt; ran.faults.as_slice(), b"fault 24001 Src\n".as_slice());
+    answered(&rt, &ran, 1, b"", b"fault 24001 Src\n", &"insn-show");
     Ok(())
 }
 
@@ -224,14 +199,10 @@ fn fault_sink_fails(rt: HostRuntime) -> Result<(), Fail> {
             ..steady(1)
         };
         let ran = run(rt.alloc(), "insn-canon", input, pace)?;
-        assert_eq!(rt; ran.status, 1, "write {fuse}");
-        assert_eq!(rt;
-            ran.output.as_slice(),
-            b"\x95\0\0\0\0\0\0\0".as_slice(),
-            "write {fuse}"
-        );
-        assert_eq!(rt; ran.faults.len() as u64, fuse - 1, "write {fuse}");
-        assert!(rt; told.starts_with(ran.faults.as_slice()), "write {fuse}");
+        equal(&rt, &ran.status, &1, &fuse);
+        equal_bytes(&rt, &ran.output, b"\x95\0\0\0\0\0\0\0", &fuse);
+        equal(&rt, &(ran.faults.len() as u64), &(fuse - 1), &fuse);
+        begins(&rt, told, &ran.faults, &fuse);
     }
     Ok(())
 }
@@ -252,8 +223,8 @@ fn faults_come_before_failed_reads(rt: HostRuntime) -> Result<(), Fail> {
             ..steady(piece)
         };
         let ran = run(rt.alloc(), "insn-canon", input, pace)?;
-        assert_eq!(rt; ran.status, status, "pieces of {piece}");
-        assert_eq!(rt; ran.faults.as_slice(), told, "pieces of {piece}");
+        equal(&rt, &ran.status, &status, &piece);
+        equal_bytes(&rt, &ran.faults, told, &piece);
     }
     Ok(())
 }

@@ -1,5 +1,6 @@
 //! Command lines that are taken and refused.
 
+use super::expect::{answered, equal};
 use super::running::{run, steady, words_of};
 use crate::command_line::{LineError, parse_line};
 use bpf_jobs::{Job, Verb};
@@ -89,7 +90,7 @@ fn reads_lines(rt: HostRuntime) -> Result<(), Fail> {
         ),
     ];
     for (line, job) in cases {
-        assert_eq!(rt; read(rt.alloc(), line)?, Ok(job), "{line}");
+        equal(&rt, &read(rt.alloc(), line)?, &Ok(job), &line);
     }
     Ok(())
 }
@@ -127,11 +128,9 @@ fn refuses_lines(rt: HostRuntime) -> Result<(), Fail> {
     let usage: &[u8] =
         b"usage: bpfcanon COMMAND [--order little|big] [--to little|big] [--other little|big] [--split N]\n";
     for line in lines {
-        assert_eq!(rt; read(rt.alloc(), line)?, Err(LineError::Usage), "{line}");
+        equal(&rt, &read(rt.alloc(), line)?, &Err(LineError::Usage), &line);
         let ran = run(rt.alloc(), line, b"\x95\0\0\0\0\0\0\0", steady(4096))?;
-        assert_eq!(rt; ran.status, 2, "{line}");
-        assert!(rt; ran.output.is_empty(), "{line}");
-        assert_eq!(rt; ran.faults.as_slice(), usage, "{line}");
+        answered(&rt, &ran, 2, b"", usage, &line);
     }
     Ok(())
 }

@@ -1,5 +1,6 @@
 //! Listings that are written and read.
 
+use super::expect::answered;
 use super::running::{run, steady};
 use std::test::Fail;
 
@@ -21,9 +22,7 @@ fn instructions_are_listed(rt: HostRuntime) -> Result<(), Fail> {
     for (line, input, output) in cases {
         for piece in [1, 4096] {
             let ran = run(rt.alloc(), line, input, steady(piece))?;
-            assert_eq!(rt; ran.status, 0, "{line}");
-            assert_eq!(rt; ran.output.as_slice(), output, "{line}");
-            assert!(rt; ran.faults.is_empty(), "{line}");
+            answered(&rt, &ran, 0, output, b"", &line);
         }
     }
     Ok(())
@@ -33,18 +32,15 @@ fn instructions_are_listed(rt: HostRuntime) -> Result<(), Fail> {
 fn listings_are_read(rt: HostRuntime) -> Result<(), Fail> {
     let listing = b"  mov r1 , 0x10 ; sixteen\n\n# none\nexit";
     let ran = run(rt.alloc(), "insn-read", listing, steady(3))?;
-    assert_eq!(rt; ran.status, 0);
     let bytes: &[u8] = b"\xb7\x01\0\0\x10\0\0\0\x95\0\0\0\0\0\0\0";
-    assert_eq!(rt; ran.output.as_slice(), bytes);
-    assert!(rt; ran.faults.is_empty());
+    answered(&rt, &ran, 0, bytes, b"", &"little");
     let ran = run(
         rt.alloc(),
         "insn-read --to big",
         b"mov r1, r2",
         steady(4096),
     )?;
-    let bytes: &[u8] = b"\xbf\x12\0\0\0\0\0\0";
-    assert_eq!(rt; ran.output.as_slice(), bytes);
+    answered(&rt, &ran, 0, b"\xbf\x12\0\0\0\0\0\0", b"", &"big");
     Ok(())
 }
 
@@ -59,9 +55,7 @@ fn faulty_lines_are_told(rt: HostRuntime) -> Result<(), Fail> {
     ];
     for (line, input, fault) in cases {
         let ran = run(rt.alloc(), line, input, steady(4096))?;
-        assert_eq!(rt; ran.status, 1, "{line}");
-        assert!(rt; ran.output.is_empty(), "{line}");
-        assert_eq!(rt; ran.faults.as_slice(), fault, "{line}");
+        answered(&rt, &ran, 1, b"", fault, &line);
     }
     Ok(())
 }

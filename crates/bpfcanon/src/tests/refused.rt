@@ -2,6 +2,7 @@
 
 use super::arena::{MOST_ROOM, arena, arena_of};
 use super::btf_files::{BIG_ENUM, BIG_INT, INT, STRUCT, UNKNOWN_TYPE, nameless};
+use super::expect::{begins, equal, equal_bytes, holds};
 use bpf_canon::{MemSink, MemSource};
 use bpf_insn::{SlotCause, SlotFault};
 use bpf_jobs::{Job, Outcome, Verb, run_job};
@@ -62,21 +63,15 @@ fn refusals(rt: &impl Abort, alloc: Global, sample: Sample<'_>) -> Result<usize,
         let mut source = MemSource::new(sample.input, 5, None);
         let mut sink = MemSink::new(&mut output, 4096, None);
         let outcome = run_job(&bump, sample.job, &mut source, &mut sink);
+        let case = (verb, room);
         if outcome != Outcome::Memory {
-            assert_eq!(rt; outcome, sample.outcome, "{verb:?} with {room} bytes");
-            assert_eq!(rt;
-                output.as_slice(),
-                sample.output,
-                "{verb:?} with {room} bytes"
-            );
+            equal(rt, &outcome, &sample.outcome, &case);
+            equal_bytes(rt, &output, sample.output, &case);
             return Ok(room);
         }
         // Only a command that writes as it reads has written something: the others' outputs are shorter than a piece.
         let is_written = verb == Verb::InsnCanon && sample.output.starts_with(&output);
-        assert!(rt;
-            output.is_empty() || is_written,
-            "{verb:?} with {room} bytes"
-        );
+        holds(rt, output.is_empty() || is_written, &case);
     }
     Err("never enough room")?
 }
@@ -92,11 +87,8 @@ fn kept_at_least(sample: Sample<'_>) -> usize {
 
 fn refuse_each(rt: &impl Abort, alloc: Global, sample: Sample<'_>) -> Result<(), Fail> {
     let refused = refusals(rt, alloc, sample)?;
-    let verb = sample.job.verb;
-    assert!(rt;
-        refused >= kept_at_least(sample),
-        "{verb:?} was refused {refused} rooms"
-    );
+    let case = (sample.job.verb, refused);
+    holds(rt, refused >= kept_at_least(sample), &case);
     Ok(())
 }
 
@@ -185,13 +177,13 @@ fn refuse_between_pieces(rt: &impl Abort, alloc: Global, sample: Sample<'_>) -> 
         let mut sink = MemSink::new(&mut output, 4096, None);
         let outcome = run_job(&bump, sample.job, &mut source, &mut sink);
         if outcome == Outcome::Done {
-            assert_eq!(rt; output.as_slice(), sample.output, "{room} bytes");
-            assert!(rt; refused_after_a_piece > 0);
+            equal_bytes(rt, &output, sample.output, &room);
+            holds(rt, refused_after_a_piece > 0, &room);
             return Ok(());
         }
-        assert_eq!(rt; outcome, Outcome::Memory, "{room} bytes");
-        assert!(rt; output.is_empty() || output.len() == 8192, "{room} bytes");
-        assert!(rt; sample.output.starts_with(&output), "{room} bytes");
+        equal(rt, &outcome, &Outcome::Memory, &room);
+        holds(rt, output.is_empty() || output.len() == 8192, &room);
+        begins(rt, sample.output, &output, &room);
         if !output.is_empty() {
             refused_after_a_piece = 1;
         }

@@ -2,6 +2,7 @@
 
 use super::arena::arena_of;
 use super::chunked_names::{named, repeated};
+use super::expect::{begins, equal, equal_bytes, holds};
 use bpf_canon::{MemSink, MemSource};
 use bpf_jobs::{Job, Outcome, Verb, run_job};
 use bpf_words::Order;
@@ -50,13 +51,13 @@ fn memory_is_refused_amid_a_name(rt: HostRuntime) -> Result<(), Fail> {
     for room in (0..ROOM).step_by(512) {
         let (outcome, output) = shown(rt.alloc(), &file, room)?;
         if outcome == Outcome::Done {
-            assert_eq!(rt; output, text, "{room} bytes");
-            assert!(rt; refused_behind_a_piece > 0);
+            equal_bytes(&rt, &output, &text, &room);
+            holds(&rt, refused_behind_a_piece > 0, &room);
             return Ok(());
         }
-        assert_eq!(rt; outcome, Outcome::Memory, "{room} bytes");
-        assert!(rt; output.is_empty() || output.len() == 8205, "{room} bytes");
-        assert!(rt; text.starts_with(&output), "{room} bytes");
+        equal(&rt, &outcome, &Outcome::Memory, &room);
+        holds(&rt, output.is_empty() || output.len() == 8205, &room);
+        begins(&rt, &text, &output, &room);
         if !output.is_empty() {
             refused_behind_a_piece = 1;
         }

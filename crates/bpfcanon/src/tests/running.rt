@@ -1,5 +1,6 @@
 //! Runs the command over memory, and compares what it answers.
 
+use super::expect::{answered, failed};
 use crate::command::command;
 use bpf_canon::{MemSink, MemSource};
 use std::alloc::{AllocError, Global};
@@ -107,16 +108,14 @@ pub fn check(rt: &impl Abort, alloc: Global, example: Example, pace: Pace) -> Re
     let line = example.line;
     let input = example.input;
     let ran = run(alloc, line, input, pace)?;
-    assert_eq!(rt; ran.status, example.status, "{line} on {input:?}");
-    assert_eq!(rt;
-        ran.output.as_slice(),
+    let case = (line, input);
+    answered(
+        rt,
+        &ran,
+        example.status,
         example.output,
-        "{line} on {input:?}"
-    );
-    assert_eq!(rt;
-        ran.faults.as_slice(),
         example.faults,
-        "{line} on {input:?}"
+        &case,
     );
     Ok(())
 }
@@ -138,17 +137,8 @@ pub fn check_failed_writes(
             ..steady(*piece)
         };
         let ran = run(alloc, line, input, pace)?;
-        assert_eq!(rt; ran.status, 3, "{piece} at a time, write {fuse}");
-        assert_eq!(rt;
-            ran.faults.as_slice(),
-            b"write failed\n".as_slice(),
-            "{piece} at a time, write {fuse}"
-        );
-        assert_eq!(rt; ran.output.len(), *taken, "{piece} at a time, write {fuse}");
-        assert!(rt;
-            right.starts_with(&ran.output),
-            "{piece} at a time, write {fuse}"
-        );
+        let case = (piece, fuse);
+        failed(rt, &ran, b"write failed\n", right, *taken, &case);
     }
     Ok(())
 }
