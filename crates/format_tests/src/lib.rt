@@ -5,6 +5,8 @@
 #[cfg(test)]
 mod arena;
 #[cfg(test)]
+mod expect;
+#[cfg(test)]
 mod insn_examples;
 #[cfg(test)]
 mod listing_examples;

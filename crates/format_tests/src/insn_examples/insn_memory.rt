@@ -1,20 +1,18 @@
 //! Large files with ample memory, and small ones with each growth refused in turn.
 
-use crate::arena::{ROOM, arena};
+use crate::arena::{ROOM, arena, count_refusal, places};
+use crate::expect::{equal, holds};
 use bpf_insn::{Insn, InsnError, Order, Reg, SlotCause, SlotFault, WideOf, decode_insns};
 use std::alloc::{AllocError, Global};
 use std::process::Abort;
 use std::test::Fail;
-
-/// How many instructions a list grows for: those that find it full.
-const GROWTHS: [usize; 3] = [0, 4, 8];
 
 const EXIT: &[u8; 8] = b"\x95\0\0\0\0\0\0\0";
 
 /// An instruction whose src field is at fault.
 const FAULTY: &[u8; 8] = b"\x04\x10\0\0\x05\0\0\0";
 
-/// Nine exits, and the faulty instruction.
+/// Nine exits, and the faulty instruction. A list of instructions grows for its first, its fifth and its ninth.
 const FILE: &[u8; 80] = b"\
     \x95\0\0\0\0\0\0\0\x95\0\0\0\0\0\0\0\x95\0\0\0\0\0\0\0\
     \x95\0\0\0\0\0\0\0\x95\0\0\0\0\0\0\0\x95\0\0\0\0\0\0\0\
@@ -34,30 +32,24 @@ fn exits_in(alloc: Global, room: usize) -> Result<usize, AllocError> {
 
 #[test]
 fn each_growth_is_refused(rt: HostRuntime) -> Result<(), Fail> {
-    let fault = SlotFault {
-        pos: 73,
-        cause: SlotCause::Src,
-    };
     let mut refused = [0u32; 10];
     for room in 0..=ROOM {
         let fits = exits_in(rt.alloc(), room)?;
-        assert!(rt; fits < 10);
         let bump = arena(rt.alloc(), room)?;
-        match decode_insns(&bump, Order::Little, FILE) {
-            Ok(_) => assert!(rt; false, "a faulty file is accepted"),
-            Err(InsnError::Memory) => refused[fits] = refused[fits].saturating_add(1),
-            Err(InsnError::Fault(told)) => {
-                assert_eq!(rt; told, fault);
-                assert_eq!(rt; fits, 9);
+        match decode_insns(&bump, Order::Little, FILE).err() {
+            Some(InsnError::Memory) => count_refusal(&rt, &mut refused, fits),
+            told => {
+                let fault = InsnError::Fault(SlotFault {
+                    pos: 73,
+                    cause: SlotCause::Src,
+                });
+                equal(&rt, &(told, fits), &(Some(fault), 9), &("room", room));
             }
         }
     }
-    let places = refused.iter().filter(|count| **count > 0).count();
-    assert_eq!(rt; places, GROWTHS.len());
-    for full in GROWTHS {
-        assert!(rt; refused[full] > 0, "no refusal with {full} instructions");
-    }
-    assert!(rt; refused[9] == 0);
+    equal(&rt, &places(&refused), &3, &refused);
+    let each_growth = refused[0] > 0 && refused[4] > 0 && refused[8] > 0;
+    holds(&rt, each_growth, &refused);
     Ok(())
 }
 
@@ -76,19 +68,25 @@ fn largest(alloc: Global, last: &[u8; 8]) -> Result<Vec<u8>, AllocError> {
     Ok(bytes)
 }
 
-#[test]
-fn the_largest_stream_is_decoded(rt: HostRuntime) -> Result<(), Fail> {
-    let bytes = largest(rt.alloc(), EXIT)?;
-    assert_eq!(rt; bytes.len(), 67_108_864);
-    let insns = decode_insns(rt.alloc(), Order::Little, &bytes)?;
-    assert_eq!(rt; insns.len(), 4_194_305);
+/// Checks that instructions begin with the wide loads of the largest stream.
+fn are_numbered(rt: &impl Abort, insns: &[Insn]) -> Result<(), Fail> {
     let dst = Reg::new(3).ok_or("no register")?;
     for (number, insn) in (0..(4u64 << 20) - 1).zip(insns.iter()) {
         let what = WideOf::Number(0x8000_0000_0000_0000 | number);
-        assert!(rt; *insn == Insn::Wide { dst, what }, "at {number}");
+        equal(rt, insn, &Insn::Wide { dst, what }, &number);
     }
-    assert!(rt; insns[4_194_303] == Insn::Exit && insns[4_194_304] == Insn::Exit);
     Ok(())
+}
+
+#[test]
+fn the_largest_stream_is_decoded(rt: HostRuntime) -> Result<(), Fail> {
+    let bytes = largest(rt.alloc(), EXIT)?;
+    equal(&rt, &bytes.len(), &67_108_864, &"bytes");
+    let insns = decode_insns(rt.alloc(), Order::Little, &bytes)?;
+    equal(&rt, &insns.len(), &4_194_305, &"instructions");
+    let ends = insns.ends_with(&[Insn::Exit, Insn::Exit]);
+    holds(&rt, ends, &"the last two are exits");
+    are_numbered(&rt, &insns)
 }
 
 #[test]
@@ -98,9 +96,7 @@ fn the_fault_of_the_largest_stream_is_told(rt: HostRuntime) -> Result<(), Fail> 
         pos: 67_108_857,
         cause: SlotCause::Src,
     };
-    match decode_insns(rt.alloc(), Order::Little, &bytes) {
-        Err(InsnError::Fault(told)) => assert_eq!(rt; told, fault),
-        _ => assert!(rt; false, "no fault"),
-    }
+    let told = decode_insns(rt.alloc(), Order::Little, &bytes).err();
+    equal(&rt, &told, &Some(InsnError::Fault(fault)), &"the fault");
     Ok(())
 }

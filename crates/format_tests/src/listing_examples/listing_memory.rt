@@ -1,6 +1,7 @@
 //! Large texts with ample memory, and small ones with each growth refused in turn.
 
-use crate::arena::{ROOM, arena};
+use crate::arena::{ROOM, arena, count_refusal, places};
+use crate::expect::{equal, equal_bytes, holds};
 use bpf_insn::{Insn, Order, Reg, WideOf};
 use bpf_text::{
     LineCause, LineFault, ListError, listing, push_line, read_listing, read_listing_bytes,
@@ -12,11 +13,6 @@ use std::test::Fail;
 
 /// Nine lines, and a faulty one. A list of instructions grows for its first, its fifth and its ninth.
 const LINES: &[u8] = b"exit\nexit\nexit\nexit\nexit\nexit\nexit\nexit\nexit\nleave\n";
-
-/// Which of the places where memory can be refused were met: after how many instructions.
-fn places(refused: &[u32; 10]) -> usize {
-    refused.iter().filter(|count| **count > 0).count()
-}
 
 /// How many of the nine lines are read with so much room.
 fn lines_read_in(alloc: Global, room: usize) -> Result<usize, AllocError> {
@@ -32,25 +28,21 @@ fn lines_read_in(alloc: Global, room: usize) -> Result<usize, AllocError> {
 #[test]
 fn of_reading(rt: HostRuntime) -> Result<(), Fail> {
     let mut refused = [0u32; 10];
-    let fault = LineFault {
+    let fault = ListError::Fault(LineFault {
         line: 10,
         cause: LineCause::Word,
-    };
+    });
     for room in 0..=ROOM {
         let fits = lines_read_in(rt.alloc(), room)?;
-        assert!(rt; fits < 10);
         let bump = arena(rt.alloc(), room)?;
-        match read_listing(&bump, LINES) {
-            Ok(_) => assert!(rt; false, "a faulty text is accepted"),
-            Err(ListError::Memory) => refused[fits] = refused[fits].saturating_add(1),
-            Err(ListError::Fault(told)) => {
-                assert_eq!(rt; told, fault);
-                assert_eq!(rt; fits, 9);
-            }
+        match read_listing(&bump, LINES).err() {
+            Some(ListError::Memory) => count_refusal(&rt, &mut refused, fits),
+            told => equal(&rt, &(told, fits), &(Some(fault), 9), &("room", room)),
         }
     }
-    assert_eq!(rt; places(&refused), 3);
-    assert!(rt; refused[0] > 0 && refused[4] > 0 && refused[8] > 0);
+    equal(&rt, &places(&refused), &3, &refused);
+    let each_growth = refused[0] > 0 && refused[4] > 0 && refused[8] > 0;
+    holds(&rt, each_growth, &refused);
     Ok(())
 }
 
@@ -68,25 +60,21 @@ fn bytes_read_in(alloc: Global, room: usize) -> Result<usize, AllocError> {
 #[test]
 fn of_reading_bytes(rt: HostRuntime) -> Result<(), Fail> {
     let mut refused = [0u32; 10];
-    let fault = LineFault {
+    let fault = ListError::Fault(LineFault {
         line: 10,
         cause: LineCause::Word,
-    };
+    });
     for room in 0..=ROOM {
         let fits = bytes_read_in(rt.alloc(), room)?;
-        assert!(rt; fits < 10);
         let bump = arena(rt.alloc(), room)?;
-        match read_listing_bytes(&bump, Order::Little, LINES) {
-            Ok(_) => assert!(rt; false, "a faulty text is accepted"),
-            Err(ListError::Memory) => refused[fits] = refused[fits].saturating_add(1),
-            Err(ListError::Fault(told)) => {
-                assert_eq!(rt; told, fault);
-                assert_eq!(rt; fits, 9);
-            }
+        match read_listing_bytes(&bump, Order::Little, LINES).err() {
+            Some(ListError::Memory) => count_refusal(&rt, &mut refused, fits),
+            told => equal(&rt, &(told, fits), &(Some(fault), 9), &("room", room)),
         }
     }
     // Eight bytes an instruction: room grows for the first, and at least for each doubling.
-    assert!(rt; places(&refused) >= 3 && refused[0] > 0 && refused[9] == 0);
+    let each_growth = places(&refused) >= 3 && refused[0] > 0 && refused[9] == 0;
+    holds(&rt, each_growth, &refused);
     Ok(())
 }
 
@@ -106,17 +94,17 @@ fn of_listing(rt: HostRuntime) -> Result<(), Fail> {
     let mut refused = [0u32; 10];
     for room in 0..=ROOM {
         let fits = lines_listed_in(rt.alloc(), room)?;
-        assert!(rt; fits < 10);
         let bump = arena(rt.alloc(), room)?;
         match listing(&bump, &[Insn::Exit; 9]) {
             Ok(text) => {
-                assert_eq!(rt; text.as_slice(), &LINES[..45]);
-                assert_eq!(rt; fits, 9);
+                equal_bytes(&rt, &text, &LINES[..45], &("room", room));
+                equal(&rt, &fits, &9, &("room", room));
             }
-            Err(_) => refused[fits] = refused[fits].saturating_add(1),
+            Err(_) => count_refusal(&rt, &mut refused, fits),
         }
     }
-    assert!(rt; places(&refused) >= 3 && refused[0] > 0 && refused[9] == 0);
+    let each_growth = places(&refused) >= 3 && refused[0] > 0 && refused[9] == 0;
+    holds(&rt, each_growth, &refused);
     Ok(())
 }
 
@@ -129,8 +117,9 @@ fn append_lines(rt: &impl Abort, bump: &Bump<Global>, held: &[u8]) -> Option<usi
     for count in 0..9usize {
         let pushed = push_line(&mut out, Insn::Exit);
         let lines = if pushed.is_ok() { count + 1 } else { count };
-        assert!(rt; out.starts_with(held));
-        assert!(rt; out[held.len()..] == LINES[..5 * lines]);
+        holds(rt, out.starts_with(held), &("lines", lines));
+        let appended = out.get(held.len()..).unwrap_or(b"");
+        equal_bytes(rt, appended, &LINES[..5 * lines], &("lines", lines));
         if pushed.is_err() {
             return Some(count);
         }
@@ -144,13 +133,13 @@ fn of_appending(rt: HostRuntime) -> Result<(), Fail> {
         let mut refused = [0u32; 10];
         for room in 0..=ROOM {
             let bump = arena(rt.alloc(), room)?;
-            match append_lines(&rt, &bump, held) {
-                Some(count) if count < 10 => refused[count] = refused[count].saturating_add(1),
-                _ => {}
+            if let Some(count) = append_lines(&rt, &bump, held) {
+                count_refusal(&rt, &mut refused, count);
             }
         }
         // The last place stands for those that had room for all.
-        assert!(rt; places(&refused) >= 4 && refused[0] > 0 && refused[9] > 0);
+        let each_growth = places(&refused) >= 4 && refused[0] > 0 && refused[9] > 0;
+        holds(&rt, each_growth, &refused);
     }
     Ok(())
 }
@@ -172,31 +161,51 @@ fn largest(alloc: Global, last: &[u8; 32]) -> Result<Vec<u8>, AllocError> {
     Ok(text)
 }
 
-#[test]
-fn the_largest_text_is_read_and_listed(rt: HostRuntime) -> Result<(), Fail> {
-    let text = largest(rt.alloc(), b"lddw r9, 0x00000000001fffff ;;;\n")?;
-    assert_eq!(rt; text.len(), 67_108_864);
-    let insns = read_listing(rt.alloc(), &text)?;
-    assert_eq!(rt; insns.len() as u64, COUNT);
-    let bytes = read_listing_bytes(rt.alloc(), Order::Little, &text)?;
-    assert_eq!(rt; bytes.len(), 33_554_432);
-    assert!(rt; bytes.ends_with(b"\x18\x09\0\0\xff\xff\x1f\0\0\0\0\0\0\0\0\0"));
+/// Checks that instructions are wide loads of the numbers from 0.
+fn are_numbered(rt: &impl Abort, insns: &[Insn]) -> Result<(), Fail> {
+    equal(rt, &(insns.len() as u64), &COUNT, &"instructions");
     let dst = Reg::new(9).ok_or("no register")?;
     for (number, insn) in (0..COUNT).zip(insns.iter()) {
         let what = WideOf::Number(number);
-        assert!(rt; *insn == Insn::Wide { dst, what }, "at {number}");
+        equal(rt, insn, &Insn::Wide { dst, what }, &number);
     }
-    let mut listed = listing(rt.alloc(), &insns)?;
+    Ok(())
+}
+
+/// Checks the listing of these instructions, that it is read as the same, and that a line more is appended to it.
+fn is_listed(rt: &impl Abort, alloc: Global, insns: &[Insn]) -> Result<(), Fail> {
+    let mut listed = listing(alloc, insns)?;
     // Ten bytes a line, and the digits of each number.
     let digits = 10 + 2 * 90 + 3 * 900 + 4 * 9_000 + 5 * 90_000 + 6 * 900_000 + 7 * 1_097_152;
-    assert_eq!(rt; listed.len(), 10 * 2_097_152 + digits);
-    assert!(rt; listed.starts_with(b"lddw r9, 0\nlddw r9, 1\n"));
-    assert!(rt; listed.ends_with(b"lddw r9, 2097150\nlddw r9, 2097151\n"));
-    let again = read_listing(rt.alloc(), &listed)?;
-    assert!(rt; again.as_slice() == insns.as_slice());
+    equal(
+        rt,
+        &listed.len(),
+        &(10 * 2_097_152 + digits),
+        &"the listing",
+    );
+    let starts = listed.starts_with(b"lddw r9, 0\nlddw r9, 1\n");
+    holds(rt, starts, &"the first lines");
+    let ends = listed.ends_with(b"lddw r9, 2097150\nlddw r9, 2097151\n");
+    holds(rt, ends, &"the last lines");
+    let is_same = read_listing(alloc, &listed)?.as_slice() == insns;
+    holds(rt, is_same, &"the listing is read as the same instructions");
     push_line(&mut listed, Insn::Exit)?;
-    assert!(rt; listed.ends_with(b"lddw r9, 2097151\nexit\n"));
+    let ends = listed.ends_with(b"lddw r9, 2097151\nexit\n");
+    holds(rt, ends, &"a line is appended");
     Ok(())
+}
+
+#[test]
+fn the_largest_text_is_read_and_listed(rt: HostRuntime) -> Result<(), Fail> {
+    let text = largest(rt.alloc(), b"lddw r9, 0x00000000001fffff ;;;\n")?;
+    equal(&rt, &text.len(), &67_108_864, &"the text");
+    let bytes = read_listing_bytes(rt.alloc(), Order::Little, &text)?;
+    equal(&rt, &bytes.len(), &33_554_432, &"bytes");
+    let ends = bytes.ends_with(b"\x18\x09\0\0\xff\xff\x1f\0\0\0\0\0\0\0\0\0");
+    holds(&rt, ends, &"the last bytes");
+    let insns = read_listing(rt.alloc(), &text)?;
+    are_numbered(&rt, &insns)?;
+    is_listed(&rt, rt.alloc(), &insns)
 }
 
 #[test]
@@ -206,9 +215,7 @@ fn the_fault_of_the_largest_text_is_told(rt: HostRuntime) -> Result<(), Fail> {
         line: COUNT,
         cause: LineCause::Word,
     };
-    assert_eq!(rt;
-        read_listing(rt.alloc(), &text).map(|_| ()),
-        Err(ListError::Fault(fault))
-    );
+    let told = read_listing(rt.alloc(), &text).err();
+    equal(&rt, &told, &Some(ListError::Fault(fault)), &"the fault");
     Ok(())
 }
