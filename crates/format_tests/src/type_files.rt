@@ -8,6 +8,7 @@ mod small_sections;
 mod walked_tables;
 mod worked_files;
 
+use crate::expect::equal;
 use crate::type_files::second_judge::first_fault;
 use btf_raw::BtfCause;
 use btf_types::{Btf, BtfError, BtfView};
@@ -56,6 +57,15 @@ pub(crate) const EMPTY: &[u8] = b"\x9f\xeb\x01\0\x18\0\0\0\0\0\0\0\0\0\0\0\0\0\0
 pub(crate) const EMPTY_NAME: &[u8] =
     b"\x9f\xeb\x01\0\x18\0\0\0\0\0\0\0\x0c\0\0\0\x0c\0\0\0\x05\0\0\0\x04\0\0\0\0\0\0\x02\0\0\0\0\0int\0";
 
+/// Changes some of the bytes.
+pub(crate) fn change(bytes: &mut [u8], edits: &[(usize, u8)]) {
+    for (pos, byte) in edits {
+        if let Some(old) = bytes.get_mut(*pos) {
+            *old = *byte;
+        }
+    }
+}
+
 /// The bytes with some of them changed.
 pub(crate) fn edited(
     alloc: Global,
@@ -63,11 +73,7 @@ pub(crate) fn edited(
     edits: &[(usize, u8)],
 ) -> Result<Vec<u8>, AllocError> {
     let mut copy = Vec::from_slice(alloc, bytes)?;
-    for (pos, byte) in edits {
-        if let Some(old) = copy.get_mut(*pos) {
-            *old = *byte;
-        }
-    }
+    change(&mut copy, edits);
     Ok(copy)
 }
 
@@ -83,18 +89,19 @@ pub(crate) fn file(alloc: Global, records: &[u8], strings: &[u8]) -> Result<Vec<
     Ok(bytes)
 }
 
+/// What a parser tells of a file: no fault, or the first.
+fn fault_of<T>(parsed: &Result<T, BtfError>) -> Result<Option<Fault>, Fail> {
+    match parsed {
+        Ok(_) => Ok(None),
+        Err(BtfError::Fault(fault)) => Ok(Some((fault.pos, number(fault.cause)))),
+        Err(BtfError::Memory) => Err("no memory")?,
+    }
+}
+
 /// What both parsers tell of a file: no fault, or the first.
 pub(crate) fn told(alloc: Global, bytes: &[u8]) -> Result<Option<Fault>, Fail> {
-    let owned = match Btf::parse(alloc, bytes) {
-        Ok(_) => None,
-        Err(BtfError::Fault(fault)) => Some((fault.pos, number(fault.cause))),
-        Err(BtfError::Memory) => return Err("no memory")?,
-    };
-    let lent = match BtfView::parse(alloc, bytes) {
-        Ok(_) => None,
-        Err(BtfError::Fault(fault)) => Some((fault.pos, number(fault.cause))),
-        Err(BtfError::Memory) => return Err("no memory")?,
-    };
+    let owned = fault_of(&Btf::parse(alloc, bytes))?;
+    let lent = fault_of(&BtfView::parse(alloc, bytes))?;
     if owned != lent {
         return Err("the two parsers differ")?;
     }
@@ -116,7 +123,8 @@ pub(crate) fn is_told(
         Some((pos, cause)) => Some((*pos, number(*cause))),
         None => None,
     };
-    assert_eq!(rt; told(alloc, bytes)?, fault);
-    assert_eq!(rt; first_fault(alloc, bytes)?, fault);
+    equal(rt, &told(alloc, bytes)?, &fault, &("told of", bytes));
+    let judged = first_fault(alloc, bytes)?;
+    equal(rt, &judged, &fault, &("judged of", bytes));
     Ok(())
 }

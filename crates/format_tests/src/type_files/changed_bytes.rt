@@ -1,25 +1,29 @@
 //! Every change of one byte of worked files, before a second judge.
 
+use crate::expect::equal;
 use crate::type_files::second_judge::first_fault;
-use crate::type_files::{BIG_ENUM64, BIG_INT, MEMBER, STRINGS_FIRST, TAGGED, file, told};
-use std::alloc::Global;
+use crate::type_files::{BIG_ENUM64, BIG_INT, MEMBER, STRINGS_FIRST, TAGGED, change, file, told};
+use std::alloc::{AllocError, Global};
+use std::fmt::Debug;
 use std::process::Abort;
 use std::test::Fail;
 
-/// Compares the parsers with the second judge, for every change of one byte.
+/// Compares the parsers with the second judge.
+fn is_judged(rt: &impl Abort, alloc: Global, bytes: &[u8], case: &impl Debug) -> Result<(), Fail> {
+    let fault = first_fault(alloc, bytes)?;
+    equal(rt, &told(alloc, bytes)?, &fault, case);
+    Ok(())
+}
+
+/// Compares them for every change of one byte.
 fn changes_are_judged(rt: &impl Abort, alloc: Global, file: &[u8]) -> Result<(), Fail> {
     let mut bytes = Vec::from_slice(alloc, file)?;
     for (pos, old) in file.iter().enumerate() {
         for value in 0..=u8::MAX {
-            if let Some(byte) = bytes.get_mut(pos) {
-                *byte = value;
-            }
-            let fault = first_fault(alloc, &bytes)?;
-            assert_eq!(rt; told(alloc, &bytes)?, fault, "byte {pos} as {value}");
+            change(&mut bytes, &[(pos, value)]);
+            is_judged(rt, alloc, &bytes, &("byte", pos, "as", value))?;
         }
-        if let Some(byte) = bytes.get_mut(pos) {
-            *byte = *old;
-        }
+        change(&mut bytes, &[(pos, *old)]);
     }
     Ok(())
 }
@@ -40,6 +44,13 @@ fn changes_of_one_byte_in_members(rt: HostRuntime) -> Result<(), Fail> {
     Ok(())
 }
 
+/// The file of an INT whose name begins at an offset of the strings.
+fn named_int(alloc: Global, off: u32, strings: &[u8]) -> Result<Vec<u8>, AllocError> {
+    let mut record = Vec::from_slice(alloc, &off.to_le_bytes())?;
+    record.extend_from_slice(b"\0\0\0\x01\x04\0\0\0\x20\0\0\0")?;
+    file(alloc, &record, strings)
+}
+
 #[test]
 fn texts_that_are_not_utf8(rt: HostRuntime) -> Result<(), Fail> {
     let sections: [&[u8]; 6] = [
@@ -52,11 +63,8 @@ fn texts_that_are_not_utf8(rt: HostRuntime) -> Result<(), Fail> {
     ];
     for strings in sections {
         for off in 0..20_u32 {
-            let mut record = Vec::from_slice(rt.alloc(), &off.to_le_bytes())?;
-            record.extend_from_slice(b"\0\0\0\x01\x04\0\0\0\x20\0\0\0")?;
-            let bytes = file(rt.alloc(), &record, strings)?;
-            let fault = first_fault(rt.alloc(), &bytes)?;
-            assert_eq!(rt; told(rt.alloc(), &bytes)?, fault, "at {off}");
+            let bytes = named_int(rt.alloc(), off, strings)?;
+            is_judged(&rt, rt.alloc(), &bytes, &(strings, off))?;
         }
     }
     Ok(())

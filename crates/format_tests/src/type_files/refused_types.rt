@@ -1,5 +1,6 @@
 //! Each growth is refused in turn: an arena of one chunk, of which ever less was given away before.
 
+use crate::expect::{equal, holds};
 use crate::type_files::{edited, file};
 use btf_raw::{BtfCause, BtfFault};
 use btf_types::{Btf, BtfError, BtfView, Head, TypeTable};
@@ -36,7 +37,7 @@ impl Tally {
     /// Counts an answer. Where less room was enough, more is too.
     fn count(&mut self, rt: &impl Abort, was_refused: bool) {
         if was_refused {
-            assert!(rt; self.done == 0);
+            equal(rt, &self.done, &0, &"answers with less room");
             self.refused = self.refused.saturating_add(1);
         } else {
             self.done = self.done.saturating_add(1);
@@ -83,7 +84,7 @@ fn count_table<T: TypeTable>(
 ) {
     match parsed {
         Ok(table) => {
-            assert!(rt; has_typedefs(table), "with {room} bytes");
+            holds(rt, has_typedefs(table), &("room", room));
             tally.count(rt, false);
         }
         Err(BtfError::Memory) => tally.count(rt, true),
@@ -106,8 +107,10 @@ fn of_a_good_file(rt: HostRuntime) -> Result<(), Fail> {
             count_table(&rt, &mut owned, &Btf::parse(&bump, &bytes), room);
         }
     }
-    assert!(rt; lent.done > 0 && lent.refused >= PLACES + MARKS);
-    assert!(rt; owned.done > 0 && owned.refused >= PLACES + TYPES + MARKS);
+    let lent_grows = lent.done > 0 && lent.refused >= PLACES + MARKS;
+    holds(&rt, lent_grows, &("lent", lent.done, lent.refused));
+    let owned_grows = owned.done > 0 && owned.refused >= PLACES + TYPES + MARKS;
+    holds(&rt, owned_grows, &("owned", owned.done, owned.refused));
     Ok(())
 }
 
@@ -122,7 +125,7 @@ fn count_fault<T>(
         Ok(_) => panic!(rt; "a faulty file is accepted"),
         Err(BtfError::Memory) => tally.count(rt, true),
         Err(BtfError::Fault(told)) => {
-            assert_eq!(rt; *told, fault);
+            equal(rt, told, &fault, &"the fault");
             tally.count(rt, false);
         }
     }
@@ -150,6 +153,12 @@ fn fault_tallies(rt: &impl Abort, alloc: Global, bytes: &[u8], fault: BtfFault) 
     (lent, owned)
 }
 
+/// Checks that a fault was told, after at least so many refusals, or without any where 0 bytes have to be there.
+fn is_refused_before(rt: &impl Abort, tally: &Tally, least: u32, fault: BtfFault) {
+    let is_right = tally.done > 0 && tally.refused >= least && (least > 0 || tally.refused == 0);
+    holds(rt, is_right, &(fault, tally.done, tally.refused));
+}
+
 #[test]
 fn of_faulty_files(rt: HostRuntime) -> Result<(), Fail> {
     let good = typedefs(rt.alloc())?;
@@ -160,9 +169,8 @@ fn of_faulty_files(rt: HostRuntime) -> Result<(), Fail> {
             cause: *cause,
         };
         let (lent, owned) = fault_tallies(&rt, rt.alloc(), &bytes, fault);
-        assert!(rt; lent.done > 0 && owned.done > 0);
-        assert!(rt; lent.refused >= *least && owned.refused >= *least);
-        assert!(rt; *least > 0 || lent.refused == 0 && owned.refused == 0);
+        is_refused_before(&rt, &lent, *least, fault);
+        is_refused_before(&rt, &owned, *least, fault);
     }
     Ok(())
 }

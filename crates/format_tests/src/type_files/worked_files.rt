@@ -1,5 +1,6 @@
 //! Worked files, and files that are cut or too long.
 
+use crate::expect::equal;
 use crate::type_files::{
     BEYOND, BEYOND_AND_CUT, BIG_ENUM64, BIG_INT, EMPTY, EMPTY_NAME, MEMBER, SHARED_NAME,
     STRINGS_FIRST, TAGGED, edited, is_told, number, told,
@@ -92,7 +93,8 @@ fn cut_and_longer_files(rt: HostRuntime) -> Result<(), Fail> {
         (&longer, 25, BtfCause::FileLength),
     ];
     for (bytes, pos, cause) in cases {
-        assert_eq!(rt; told(rt.alloc(), bytes)?, Some((pos, number(cause))));
+        let fault = Some((pos, number(cause)));
+        equal(&rt, &told(rt.alloc(), bytes)?, &fault, &bytes);
     }
     Ok(())
 }
@@ -117,11 +119,8 @@ fn cuts_are_told(
 ) -> Result<(), Fail> {
     for len in 0..file.len() {
         let (pos, cause) = fault_of_cut(len, header_len);
-        assert_eq!(rt;
-            told(alloc, &file[..len])?,
-            Some((pos, number(cause))),
-            "cut to {len} bytes"
-        );
+        let fault = Some((pos, number(cause)));
+        equal(rt, &told(alloc, &file[..len])?, &fault, &("cut to", len));
     }
     Ok(())
 }
@@ -130,8 +129,8 @@ fn cuts_are_told(
 fn files_cut_at_every_length(rt: HostRuntime) -> Result<(), Fail> {
     let cases: [(&[u8], usize, usize); 2] = [(TAGGED, 24, 105), (STRINGS_FIRST, 28, 51)];
     for (file, header_len, file_len) in cases {
-        assert_eq!(rt; file.len(), file_len);
-        assert_eq!(rt; told(rt.alloc(), file)?, None);
+        equal(&rt, &file.len(), &file_len, &"the length");
+        equal(&rt, &told(rt.alloc(), file)?, &None, &file_len);
         cuts_are_told(&rt, rt.alloc(), file, header_len)?;
     }
     Ok(())
@@ -144,6 +143,6 @@ fn error_texts(rt: HostRuntime) -> Result<(), Fail> {
         cause: BtfCause::Reference,
     };
     let told = format!(in rt.alloc(); "{} {}", BtfError::Fault(fault), BtfError::Memory)?;
-    assert_eq!(rt; told.as_str(), "Fault Memory");
+    equal(&rt, &told.as_str(), &"Fault Memory", &"names");
     Ok(())
 }
