@@ -63,6 +63,16 @@ unused_between slots start end off e low high = elim (cases_eq (get_or slots off
   | inr s ↦ absurd (omega (arith, e, number_grows slots start off low, number_below slots off end high s))
 ]
 
+-- as many come before two offsets between which none is used
+pub number_kept : (slots : List ℕ) (start end : ℕ) → start ≤ end → ((off : ℕ) → start ≤ off → off < end → get_or slots off 0 ≡ 0) → number_of slots start ≡ number_of slots end
+number_kept slots start zero h none = ap (number_of slots) (let e : start ≡ 0 = omega (arith, h) in e)
+number_kept slots start (suc n) h none = elim (cases_eq start (suc n)) [
+  | inl q ↦ ap (number_of slots) q
+  | inr q ↦
+      number_kept slots start n (omega (arith, h, q)) (λ off low high. none off low (omega (arith, high)))
+      ∙ sym (ap (λ (l : List ℕ). length l) (below_unused slots n (none n (omega (arith, h, q)) (omega arith))))
+]
+
 pub number_tells : (slots : List ℕ) (o p : ℕ) → get_or slots o 0 ≢ 0 → get_or slots p 0 ≢ 0 → number_of slots o ≡ number_of slots p → o ≡ p
 number_tells slots o p s t e = elim (cases_eq o p) [
   | inl q ↦ q

@@ -1,5 +1,5 @@
 //! The host of each name, by the ranks of the longest texts.
-ghost use Rattle.std.specs.Prelude.{◌≡◌, ◌<◌, ◌^◌, true, length, map, slice_index_or, IfOk};
+ghost use Rattle.std.specs.Prelude.{◌≡◌, ◌<◌, ◌^◌, true, false, length, map, slice_index_or, IfOk};
 ghost use Rattle.std.specs.List.{All, Any};
 ghost use Rattle.std.specs.List.Sorted.{IsPermutation};
 ghost use Rattle.btf_canon.specs.Ranks.{AreLower, AreRanked};
@@ -71,7 +71,8 @@ fn find_within<A: Allocator>(
 // Whether no two texts are the same and none has a name behind its first byte, as in most files.
 fn are_alone<A: Allocator>(uses: &UsedOffsets<A>, ranked: &RankedTails<'_, A>) -> bool
     requires { spec.AreRankedTexts ranked.now.section.now uses.now ranked.now.tails.items ranked.now.common.items ranked.now.hosts.items }
-    ensures { result ≡ true → spec.AreAlone uses.now ranked.now.common.items ranked.now.tails.items (length ranked.now.tails.items) }
+    ensures yes { result ≡ true → spec.AreAlone uses.now ranked.now.common.items ranked.now.tails.items (length ranked.now.tails.items) }
+    ensures no { result ≡ false → ¬ spec.AreAlone uses.now ranked.now.common.items ranked.now.tails.items (length ranked.now.tails.items) }
 {
     for rank in 0..ranked.tails.len() {
         let text = ranked.tails[rank];

@@ -59,7 +59,8 @@ impl<A: Allocator> UsedOffsets<A> {
     pub(crate) fn are_unused(&self, start: usize, end: usize) -> bool
         requires order { start ≤ end }
         requires inside { end ≤ length self.now }
-        ensures { result ≡ true → (off : ℕ) → start ≤ off → off < end → slice_index self.now off ≡ 0 }
+        ensures yes { result ≡ true → (off : ℕ) → start ≤ off → off < end → slice_index self.now off ≡ 0 }
+        ensures no { result ≡ false → ¬ ((off : ℕ) → start ≤ off → off < end → slice_index self.now off ≡ 0) }
     {
         self.used_before(start) == self.used_before(end)
     }

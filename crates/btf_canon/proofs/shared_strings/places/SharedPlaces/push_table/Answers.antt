@@ -1,4 +1,4 @@
-use Rattle.std.proofs.Common.{◌+◌, ◌<◌, ◌++◌, List, length, get_or, arith, ap, ◌∙◌}
+use Rattle.std.proofs.Common.{◌<◌, ◌++◌, List, length, get_or, arith, ap, ◌∙◌}
 use Rattle.btf_canon.specs.HostLayout.{span_bytes}
 use Rattle.btf_canon.specs.declared.shared_strings.host_layout.Span.{Span}
 use Rattle.btf_canon.proofs.TableSpans.{table_more}
