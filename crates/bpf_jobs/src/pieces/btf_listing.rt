@@ -1,11 +1,12 @@
 //! The command `btf-show`: the input is judged first, and then the text of its types is written in pieces.
 
-ghost use Rattle.std.specs.Prelude.{◌≡◌, ◌<◌, ◌≤◌, ◌++◌, length};
+ghost use Rattle.std.specs.Prelude.{◌≡◌, ◌<◌, ◌≤◌, ◌++◌, length, OnOk};
 ghost use Rattle.std.specs.List.{flat_map};
 ghost use Rattle.btf_types.specs.Values.{head_value, item_value};
 ghost use Rattle.btf_types.specs.tables.TableWords.{record_at};
 ghost use Rattle.btf_text.specs.BtfText.{head_line, item_line, record_text, text_of};
 ghost use Rattle.bpf_jobs.specs.declared.verb.Verb.TheVariants.{BtfShow};
+ghost use Rattle.bpf_jobs.specs.declared.pieces.TheConstants.{PIECE};
 ghost use Rattle.bpf_jobs.specs.JobEnds.{change};
 ghost use Rattle.bpf_jobs.specs.Pieces.{Answers, Gathers, Puts};
 ghost use Rattle.bpf_jobs.specs.Reply.{limit_of};
@@ -28,8 +29,9 @@ fn put_head<A: Allocator, W: ByteSink>(
     items: u32,
 ) -> Result<(), PutError>
     requires { W.failures sink.old < u64.MAX }
-    ensures { Gathers (change (W.contents sink.old) (W.contents sink.new) (W.failures sink.old) (W.failures sink.new))
+    ensures gathered { Gathers (change (W.contents sink.old) (W.contents sink.new) (W.failures sink.old) (W.failures sink.new))
         piece.new.items (piece.old.items ++ head_line id (head_value head.entry) items) result }
+    ensures short { OnOk result (length piece.new.items < PIECE) }
 {
     if is_long(head_name(head)) {
         return put_long_head(sink, piece, id, head, items);
@@ -46,8 +48,9 @@ fn put_item<A: Allocator, W: ByteSink>(
     signed: bool,
 ) -> Result<(), PutError>
     requires { W.failures sink.old < u64.MAX }
-    ensures { Gathers (change (W.contents sink.old) (W.contents sink.new) (W.failures sink.old) (W.failures sink.new))
+    ensures gathered { Gathers (change (W.contents sink.old) (W.contents sink.new) (W.failures sink.old) (W.failures sink.new))
         piece.new.items (piece.old.items ++ item_line signed (item_value item.entry)) result }
+    ensures short { OnOk result (length piece.new.items < PIECE) }
 {
     if is_long(item_name(item)) {
         return put_long_item(sink, piece, item, signed);

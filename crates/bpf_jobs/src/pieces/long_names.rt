@@ -1,9 +1,10 @@
 //! Lines of BTF text with long names: the bytes of a name are quoted and written chunk by chunk, so that no line is held whole.
 
-ghost use Rattle.std.specs.Prelude.{◌≡◌, ◌<◌, ◌++◌, length, nat_lt};
+ghost use Rattle.std.specs.Prelude.{◌≡◌, ◌<◌, ◌++◌, length, nat_lt, OnOk};
 ghost use Rattle.std.specs.List.{flat_map};
 ghost use Rattle.btf_types.specs.Values.{head_value, item_value};
 ghost use Rattle.btf_text.specs.BtfText.{head_line, item_line, quoted_byte};
+ghost use Rattle.bpf_jobs.specs.declared.pieces.TheConstants.{PIECE};
 ghost use Rattle.bpf_jobs.specs.JobEnds.{change};
 ghost use Rattle.bpf_jobs.specs.Pieces.{Gathers};
 
@@ -33,8 +34,9 @@ fn put_chunk<A: Allocator, W: ByteSink>(
     chunk: &[u8],
 ) -> Result<(), PutError>
     requires { W.failures sink.old < u64.MAX }
-    ensures { Gathers (change (W.contents sink.old) (W.contents sink.new) (W.failures sink.old) (W.failures sink.new))
+    ensures gathered { Gathers (change (W.contents sink.old) (W.contents sink.new) (W.failures sink.old) (W.failures sink.new))
         piece.new.items (piece.old.items ++ flat_map quoted_byte chunk.now) result }
+    ensures short { OnOk result (length piece.new.items < PIECE) }
 {
     append_quoted_part(piece, chunk)?;
     put_long_piece(sink, piece)
@@ -68,8 +70,9 @@ pub fn put_long_head<A: Allocator, W: ByteSink>(
     items: u32,
 ) -> Result<(), PutError>
     requires { W.failures sink.old < u64.MAX }
-    ensures { Gathers (change (W.contents sink.old) (W.contents sink.new) (W.failures sink.old) (W.failures sink.new))
+    ensures gathered { Gathers (change (W.contents sink.old) (W.contents sink.new) (W.failures sink.old) (W.failures sink.new))
         piece.new.items (piece.old.items ++ head_line id (head_value head.entry) items) result }
+    ensures short { OnOk result (length piece.new.items < PIECE) }
 {
     append_head_start(piece, id, head)?;
     put_name(sink, piece, head_name(head).as_bytes())?;
@@ -85,8 +88,9 @@ pub fn put_long_item<A: Allocator, W: ByteSink>(
     signed: bool,
 ) -> Result<(), PutError>
     requires { W.failures sink.old < u64.MAX }
-    ensures { Gathers (change (W.contents sink.old) (W.contents sink.new) (W.failures sink.old) (W.failures sink.new))
+    ensures gathered { Gathers (change (W.contents sink.old) (W.contents sink.new) (W.failures sink.old) (W.failures sink.new))
         piece.new.items (piece.old.items ++ item_line signed (item_value item.entry)) result }
+    ensures short { OnOk result (length piece.new.items < PIECE) }
 {
     append_item_start(piece, item)?;
     put_name(sink, piece, item_name(item).as_bytes())?;

@@ -13,11 +13,11 @@ put_item-requires g c = still_under _ _ _ c.loop-k.invariant.healthy c.requires.
 pub returns-in_err-put_item : goal.returns-in_err-put_item
 returns-in_err-put_item g c =
     gathers_handed _ _ _ c.in_err-put_item.field-0.0 c.from_residual.result c.from_residual.ensures.1
-    (items_stopped _ _ _ _ _ _ _ c.put_item.new.piece.items c.args.piece.now.items c.args.signed _ c.loop-k.k _ c.item.ensures c.loop-k.invariant c.in_err-put_item.field-0.0 c.in_err-put_item.ensures)
+    (items_stopped _ _ _ _ _ _ _ c.put_item.new.piece.items c.args.piece.now.items c.args.signed _ c.loop-k.k _ c.item.ensures c.loop-k.invariant c.in_err-put_item.field-0.0 c.in_err-put_item.ensures.gathered)
 
 pub loop-k-preserved : goal.loop-k-preserved
 loop-k-preserved g c =
-    items_more _ _ _ _ _ _ _ _ c.args.piece.now.items c.args.signed _ c.loop-k.k _ c.item.ensures c.loop-k.invariant c.in_ok-put_item.ensures
+    items_more _ _ _ _ _ _ _ _ c.args.piece.now.items c.args.signed _ c.loop-k.k _ c.item.ensures c.loop-k.invariant c.in_ok-put_item.ensures.gathered
 
 pub returns : goal.returns
 returns g c =
