@@ -65,6 +65,8 @@ REGISTER_ELEVEN = bytes_of("bf 2b 00 00 00 00 00 00")
 SOURCE_BESIDE_IMMEDIATE = bytes_of("04 10 00 00 05 00 00 00")
 OFFSET_TWO_OF_DIVISION = bytes_of("37 01 02 00 03 00 00 00")
 NO_ATOMIC_OPERATION = bytes_of("db 21 f8 ff f0 00 00 00")
+EXIT_OF_A_REGISTER = bytes_of("95 11 00 00 00 00 00 00")
+SWAP_BY_REGISTER = bytes_of("df 00 00 00 00 00 00 00")
 CALL_BY_REGISTER = bytes_of("8d 00 00 00 00 00 00 00")
 RESERVED_WORD_SET = bytes_of("18 11 00 00 03 00 00 00 01 00 00 00 00 00 00 00")
 NEXT_IMMEDIATE_OF_A_MAP = bytes_of("18 11 00 00 03 00 00 00 00 00 00 00 01 00 00 00")
@@ -96,6 +98,7 @@ INSTRUCTIONS = [
     ),
     done("a big-endian move's groups", "insn-groups --order big", MOV_BIG, b"base32\nbase64\n"),
     done("no instruction's groups", "insn-groups", b"", b""),
+    done("an exit's group", "insn-groups", EXIT, b"base32\n"),
     done("a loose listing", "insn-read", LOOSE_LISTING, LISTED),
     done("a listing to big-endian", "insn-read --to big", b"mov r1, r2", MOV_BIG),
     done("an empty listing", "insn-read", b"", b""),
@@ -107,6 +110,8 @@ FAULTY_INSTRUCTIONS = [
     refused("a cut wide load", "insn-canon", CUT_WIDE, "fault 8 Truncated"),
     refused("an unknown opcode", "insn-canon", CALL_BY_REGISTER, "fault 0 Opcode"),
     refused("register 11", "insn-canon", REGISTER_ELEVEN, "fault 1 Dst"),
+    refused("a destination of an exit", "insn-canon", EXIT_OF_A_REGISTER, "fault 1 Dst"),
+    refused("a swap on 64 bits by a register", "insn-canon", SWAP_BY_REGISTER, "fault 0 Opcode"),
     refused("a source beside an immediate", "insn-canon", SOURCE_BESIDE_IMMEDIATE, "fault 1 Src"),
     refused("no division", "insn-canon", OFFSET_TWO_OF_DIVISION, "fault 2 Offset"),
     refused("no atomic operation", "insn-canon", NO_ATOMIC_OPERATION, "fault 4 Imm"),
@@ -208,12 +213,15 @@ FAR_MEMBER = bytes_of(
 )
 BIT_FIELD = FAR_MEMBER[:31] + b"\x84" + FAR_MEMBER[32:]
 
+QUOTED = bytes_of(POINTER_HEAD + "07 00 00 00 01 00 00 00 00 00 00 08 00 00 00 00 00 61 22 5c 01 7f 00")
+QUOTED_TEXT = b'[1] typedef "a\\"\\\\\\x01\\x7f" type=0\n'
 INT_TEXT = b'[1] int "int" size=4 encoding=signed offset=0 bits=32\n'
 
 BTF = [
     done("no types", "btf-canon", NO_TYPES, NO_TYPES),
     done("big-endian to canonical", "btf-canon", INT_BIG, INT),
     done("canonical to big-endian", "btf-canon --to big", INT, INT_BIG),
+    done("big-endian BTF stays", "btf-canon --to=big", INT_BIG, INT_BIG),
     done("a loose layout", "btf-canon --to=little", LOOSE_INT, INT),
     done("a loose layout to big-endian", "btf-canon --to big", LOOSE_INT, INT_BIG),
     done("a shared tail stays", "btf-canon", TWO_NAMES_WITH_ONE_TAIL, TWO_NAMES_WITH_ONE_TAIL),
@@ -243,12 +251,23 @@ BTF = [
         + b'[3] decl_tag "t" flag=0 type=2 component=-1\n',
     ),
     done(
+        "a tag on a member shown",
+        "btf-show",
+        TAGGED_MEMBER,
+        INT_TEXT
+        + b'[2] struct "s" size=8 items=2\n'
+        + b'  member "a" type=1 offset=0 width=0\n  member "b" type=1 offset=32 width=0\n'
+        + b'[3] decl_tag "t" flag=0 type=2 component=1\n',
+    ),
+    done(
         "an enum64 shown",
         "btf-show",
         ENUM64_BIG,
         b'[1] enum64 "e" signed size=8 items=1\n  value "m" -2\n',
     ),
+    done("a name with a quote, a backslash and control characters", "btf-show", QUOTED, QUOTED_TEXT),
     done("no types counted", "btf-check", NO_TYPES, b"ok 0 types\n"),
+    done("a loose layout counted", "btf-check", LOOSE_INT, b"ok 1 types\n"),
     done("two types counted", "btf-check", STRUCT, b"ok 2 types\n"),
     done("three types counted", "btf-check", TAGGED_MEMBER, b"ok 3 types\n"),
 ]
@@ -276,7 +295,9 @@ TWO_BTF_FILES = [
     refused("the first is faulty", "btf-same --split 37", POINTER_TO_NOTHING, "first: fault 32 Reference"),
     refused("the second is faulty", "btf-same --split 25", NO_TYPES + POINTER_TO_NOTHING, "second: fault 32 Reference"),
     refused("the second is empty", "btf-same --split 25", NO_TYPES, "second: fault 0 ShortHeader"),
+    refused("both are empty", "btf-same --split 0", b"", "first: fault 0 ShortHeader"),
     refused("the split is behind the end", "btf-same --split 26", NO_TYPES, "split beyond input"),
+    refused("the split comes before a fault", "btf-same --split 38", POINTER_TO_NOTHING, "split beyond input"),
 ]
 
 # ---- command lines
@@ -295,17 +316,27 @@ REFUSED_LINES = LINES_WITHOUT_SPLIT + [
         "insn-show --to big",
         "insn-read --order big",
         "insn-groups --split 8",
+        "insn-groups --to big",
+        "insn-nothing",
         "insn-same --split 134217729",
         "insn-same --split x",
         "insn-same --split -1",
         "btf-canon --order big",
+        "btf-canon --to middle",
+        "btf-nothing",
         "btf-show --to big",
         "btf-check --split 1",
+        "btf-check --order little",
+        "btf-same --split 134217729",
+        "btf-same --split 45 --order big",
         "btf-same --split 45 --other big",
         "--help",
         "-h",
         "help",
+        "help insn-canon",
         "insn-canon --help",
+        "insn-canon -h",
+        "insn-canon help",
         "help btf-show",
         "--version",
     ]

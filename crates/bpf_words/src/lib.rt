@@ -22,6 +22,3 @@ pub enum Order {
     /// The most significant byte comes first.
     Big,
 }
-
-#[cfg(test)]
-mod tests;

@@ -14,25 +14,13 @@ pub const BIG_INT: &[u8] =
 pub const INT: &[u8] =
     b"\x9f\xeb\x01\0\x18\0\0\0\0\0\0\0\x10\0\0\0\x10\0\0\0\x05\0\0\0\x01\0\0\0\0\0\0\x01\x04\0\0\0 \0\0\x01\0int\0";
 
-/// The same with a longer header, the strings first, and a string that no type names.
-pub const LOOSE_INT: &[u8] =
-    b"\x9f\xeb\x01\0\x1c\0\0\0\x07\0\0\0\x10\0\0\0\0\0\0\0\x07\0\0\0\0\0\0\0\0x\0int\0\x03\0\0\0\0\0\0\x01\x04\0\0\0 \0\0\x01";
-
 /// An INT, and a STRUCT with a member of it and kind_flag 1.
 pub const STRUCT: &[u8] =
     b"\x9f\xeb\x01\0\x18\0\0\0\0\0\0\0(\0\0\0(\0\0\0\x09\0\0\0\x01\0\0\0\0\0\0\x01\x04\0\0\0 \0\0\x01\x05\0\0\0\x01\0\0\x84\x04\0\0\0\x07\0\0\0\x01\0\0\0\0\0\0\0\0int\0s\0a\0";
 
-/// An INT, a STRUCT with two members of it, and a tag on the second.
-pub const TAGGED: &[u8] =
-    b"\x9f\xeb\x01\0\x18\0\0\0\0\0\0\0D\0\0\0D\0\0\0\x0d\0\0\0\x01\0\0\0\0\0\0\x01\x04\0\0\0 \0\0\x01\x05\0\0\0\x02\0\0\x04\x08\0\0\0\x07\0\0\0\x01\0\0\0\0\0\0\0\x09\0\0\0\x01\0\0\0 \0\0\0\x0b\0\0\0\0\0\0\x11\x02\0\0\0\x01\0\0\0\0int\0s\0a\0b\0t\0";
-
 /// A signed ENUM64, in big-endian order.
 pub const BIG_ENUM: &[u8] =
     b"\xeb\x9f\x01\0\0\0\0\x18\0\0\0\0\0\0\0\x18\0\0\0\x18\0\0\0\x05\0\0\0\x01\x93\0\0\x01\0\0\0\x08\0\0\0\x03\xff\xff\xff\xfe\xff\xff\xff\xff\0e\0m\0";
-
-/// A TYPEDEF whose name has a quote, a backslash and control characters.
-pub const QUOTED: &[u8] =
-    b"\x9f\xeb\x01\0\x18\0\0\0\0\0\0\0\x0c\0\0\0\x0c\0\0\0\x07\0\0\0\x01\0\0\0\0\0\0\x08\0\0\0\0\0a\"\\\x01\x7f\0";
 
 /// A PTR to a type that isn't there.
 pub const UNKNOWN_TYPE: &[u8] =

@@ -1,7 +1,7 @@
-//! Command lines that are taken and refused.
+//! Command lines, and the names of what refuses one.
 
-use super::expect::{answered, equal};
-use super::running::{run, steady, words_of};
+use super::expect::equal;
+use super::running::words_of;
 use crate::command_line::{LineError, parse_line};
 use bpf_jobs::{Job, Verb};
 use bpf_words::Order;
@@ -91,46 +91,6 @@ fn reads_lines(rt: HostRuntime) -> Result<(), Fail> {
     ];
     for (line, job) in cases {
         equal(&rt, &read(rt.alloc(), line)?, &Ok(job), &line);
-    }
-    Ok(())
-}
-
-#[test]
-fn refuses_lines(rt: HostRuntime) -> Result<(), Fail> {
-    let lines = [
-        "insn-canon --order middle",
-        "--order big",
-        "insn-nothing",
-        "insn-canon insn-canon",
-        "insn-groups --to big",
-        "insn-same",
-        "insn-same --split 134217729",
-        "insn-same --split x",
-        "insn-same --split -1",
-        "btf-nothing",
-        "btf-canon --order big",
-        "btf-canon --to middle",
-        "btf-show --to big",
-        "btf-check --order little",
-        "btf-same",
-        "btf-same --split 134217729",
-        "btf-same --split 45 --order big",
-        "btf-same --split 45 --other big",
-        "--help",
-        "-h",
-        "help",
-        "help insn-canon",
-        "insn-canon --help",
-        "insn-canon -h",
-        "insn-canon help",
-        "--version",
-    ];
-    let usage: &[u8] =
-        b"usage: bpfcanon COMMAND [--order little|big] [--to little|big] [--other little|big] [--split N]\n";
-    for line in lines {
-        equal(&rt, &read(rt.alloc(), line)?, &Err(LineError::Usage), &line);
-        let ran = run(rt.alloc(), line, b"\x95\0\0\0\0\0\0\0", steady(4096))?;
-        answered(&rt, &ran, 2, b"", usage, &line);
     }
     Ok(())
 }

@@ -1,6 +1,6 @@
 //! Runs the command over memory, and compares what it answers.
 
-use super::expect::{answered, failed};
+use super::expect::failed;
 use crate::command::command;
 use bpf_canon::{MemSink, MemSource};
 use std::alloc::{AllocError, Global};
@@ -69,55 +69,6 @@ pub fn run(alloc: Global, line: &str, input: &[u8], pace: Pace) -> Result<Ran, A
         output,
         faults,
     })
-}
-
-/// A command line, its input, and what it has to answer.
-#[derive(Clone, Copy)]
-pub struct Example {
-    pub line: &'static str,
-    pub input: &'static [u8],
-    pub status: u8,
-    pub output: &'static [u8],
-    pub faults: &'static [u8],
-}
-
-/// An input that is answered without a fault.
-pub fn done(line: &'static str, input: &'static [u8], output: &'static [u8]) -> Example {
-    Example {
-        line,
-        input,
-        status: 0,
-        output,
-        faults: b"",
-    }
-}
-
-/// An input that is refused before anything is written.
-pub fn refused(line: &'static str, input: &'static [u8], faults: &'static [u8]) -> Example {
-    Example {
-        line,
-        input,
-        status: 1,
-        output: b"",
-        faults,
-    }
-}
-
-/// Runs an example, and compares what came.
-pub fn check(rt: &impl Abort, alloc: Global, example: Example, pace: Pace) -> Result<(), Fail> {
-    let line = example.line;
-    let input = example.input;
-    let ran = run(alloc, line, input, pace)?;
-    let case = (line, input);
-    answered(
-        rt,
-        &ran,
-        example.status,
-        example.output,
-        example.faults,
-        &case,
-    );
-    Ok(())
 }
 
 /// Where the bytes go a piece at a time and a write fails, the sink has taken a prefix of what is right.

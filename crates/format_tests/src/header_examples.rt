@@ -1,9 +1,10 @@
 //! Worked examples of headers, strings, names and frames.
 
-use crate::{
+use crate::expect::equal;
+use bpf_words::Order;
+use btf_raw::{
     BtfCause, BtfFault, Header, NameCause, RawHead, check_strings, name_at, next_head, read_header,
 };
-use bpf_words::Order;
 use std::test::Fail;
 
 /// A file without types, whose string section is one NUL.
@@ -22,14 +23,19 @@ fn headers_are_read(rt: HostRuntime) {
         str_pos: 24,
         str_len: 1,
     };
-    assert_eq!(rt; read_header(EMPTY), Ok(empty));
+    equal(&rt, &read_header(EMPTY), &Ok(empty), &"no types");
     let mut strings_first = *EMPTY;
     strings_first[8] = 1;
     let other = Header {
         types_pos: 25,
         ..empty
     };
-    assert_eq!(rt; read_header(&strings_first), Ok(other));
+    equal(
+        &rt,
+        &read_header(&strings_first),
+        &Ok(other),
+        &"strings first",
+    );
     let big =
         b"\xeb\x9f\x01\0\0\0\0\x18\0\0\0\0\0\0\0\x10\0\0\0\x10\0\0\0\x05\0\0\0\x01\x01\0\0\0\0\0\0\x04\x01\0\0\x20\0int\0";
     let sections = Header {
@@ -39,7 +45,7 @@ fn headers_are_read(rt: HostRuntime) {
         str_pos: 40,
         str_len: 5,
     };
-    assert_eq!(rt; read_header(big), Ok(sections));
+    equal(&rt, &read_header(big), &Ok(sections), &"big-endian");
     let long =
         b"\x9f\xeb\x01\0\x1c\0\0\0\x07\0\0\0\x10\0\0\0\0\0\0\0\x07\0\0\0\0\0\0\0\0x\0int\0\x03\0\0\0\0\0\0\x01\x04\0\0\0\x20\0\0\x01";
     let behind = Header {
@@ -49,25 +55,29 @@ fn headers_are_read(rt: HostRuntime) {
         str_pos: 28,
         str_len: 7,
     };
-    assert_eq!(rt; read_header(long), Ok(behind));
+    equal(&rt, &read_header(long), &Ok(behind), &"longer header");
     let mut tail = *long;
     tail[26] = 1;
-    assert_eq!(rt; read_header(&tail), Err(told(26, BtfCause::HeaderTail)));
+    equal(
+        &rt,
+        &read_header(&tail),
+        &Err(told(26, BtfCause::HeaderTail)),
+        &"tail",
+    );
 }
 
 #[test]
 fn cut_files_are_told(rt: HostRuntime) {
-    assert_eq!(rt; read_header(b""), Err(told(0, BtfCause::ShortHeader)));
-    assert_eq!(rt;
-        read_header(&EMPTY[..23]),
-        Err(told(23, BtfCause::ShortHeader))
-    );
-    assert_eq!(rt;
-        read_header(&EMPTY[..24]),
-        Err(told(24, BtfCause::FileLength))
-    );
     let longer = b"\x9f\xeb\x01\0\x18\0\0\0\0\0\0\0\0\0\0\0\0\0\0\0\x01\0\0\0\0\0";
-    assert_eq!(rt; read_header(longer), Err(told(25, BtfCause::FileLength)));
+    let cases: [(&[u8], u64, BtfCause); 4] = [
+        (b"", 0, BtfCause::ShortHeader),
+        (&EMPTY[..23], 23, BtfCause::ShortHeader),
+        (&EMPTY[..24], 24, BtfCause::FileLength),
+        (longer, 25, BtfCause::FileLength),
+    ];
+    for (file, pos, cause) in cases {
+        equal(&rt, &read_header(file), &Err(told(pos, cause)), &file.len());
+    }
 }
 
 #[test]
@@ -91,35 +101,59 @@ fn changed_headers_are_told(rt: HostRuntime) {
         if let Some(place) = file.get_mut(at) {
             *place = byte;
         }
-        assert_eq!(rt; read_header(&file), Err(told(pos, cause)));
+        equal(
+            &rt,
+            &read_header(&file),
+            &Err(told(pos, cause)),
+            &(at, byte),
+        );
     }
     let mut file = *EMPTY;
     file[2] = 2;
     file[3] = 1;
-    assert_eq!(rt; read_header(&file), Err(told(2, BtfCause::Version)));
+    equal(
+        &rt,
+        &read_header(&file),
+        &Err(told(2, BtfCause::Version)),
+        &"two faults",
+    );
 }
 
 #[test]
 fn ends_of_strings(rt: HostRuntime) {
-    assert_eq!(rt; check_strings(b"\0"), Ok(()));
-    assert_eq!(rt; check_strings(b"\0a\0"), Ok(()));
-    assert_eq!(rt;
-        check_strings(b"\x01a\0"),
-        Err(told(0, BtfCause::FirstString))
-    );
-    assert_eq!(rt; check_strings(b"\0a"), Err(told(1, BtfCause::LastString)));
-    assert_eq!(rt; check_strings(b"\x01"), Err(told(0, BtfCause::FirstString)));
+    let first = Err(told(0, BtfCause::FirstString));
+    let last = Err(told(1, BtfCause::LastString));
+    equal(&rt, &check_strings(b"\0"), &Ok(()), &"one NUL");
+    equal(&rt, &check_strings(b"\0a\0"), &Ok(()), &"a name");
+    equal(&rt, &check_strings(b"\x01a\0"), &first, &"no NUL first");
+    equal(&rt, &check_strings(b"\0a"), &last, &"no NUL last");
+    equal(&rt, &check_strings(b"\x01"), &first, &"no NUL");
 }
 
 #[test]
 fn names_end_at_the_next_nul(rt: HostRuntime) {
     let strings = b"\0a\0";
-    assert!(rt; name_at(strings, 0) == Ok(""));
-    assert!(rt; name_at(strings, 1) == Ok("a"));
-    assert!(rt; name_at(strings, 2) == Ok(""));
-    assert!(rt; name_at(strings, 3) == Err(NameCause::Range));
-    assert!(rt; name_at(b"\0unsigned int\0", 10) == Ok("int"));
-    assert!(rt; name_at(b"\0\xff\0", 1) == Err(NameCause::Utf8));
+    equal(&rt, &name_at(strings, 0), &Ok(""), &"the first NUL");
+    equal(&rt, &name_at(strings, 1), &Ok("a"), &"a name");
+    equal(&rt, &name_at(strings, 2), &Ok(""), &"the last NUL");
+    equal(
+        &rt,
+        &name_at(strings, 3),
+        &Err(NameCause::Range),
+        &"behind the section",
+    );
+    equal(
+        &rt,
+        &name_at(b"\0unsigned int\0", 10),
+        &Ok("int"),
+        &"the end of a name",
+    );
+    equal(
+        &rt,
+        &name_at(b"\0\xff\0", 1),
+        &Err(NameCause::Utf8),
+        &"no UTF-8",
+    );
 }
 
 #[test]
@@ -134,7 +168,7 @@ fn frames_are_read(rt: HostRuntime) {
         tail: 12,
         next: 16,
     };
-    assert_eq!(rt; next_head(Order::Big, int, 0), Ok(head));
+    equal(&rt, &next_head(Order::Big, int, 0), &Ok(head), &"INT");
     let fields = b"\0\0\0\0\x01\0\0\x84\x04\0\0\0\0\0\0\0\0\0\0\0\0\0\0\x01";
     let flagged = RawHead {
         kind: 4,
@@ -145,7 +179,12 @@ fn frames_are_read(rt: HostRuntime) {
         tail: 12,
         next: 24,
     };
-    assert_eq!(rt; next_head(Order::Little, fields, 0), Ok(flagged));
+    equal(
+        &rt,
+        &next_head(Order::Little, fields, 0),
+        &Ok(flagged),
+        &"STRUCT",
+    );
 }
 
 #[test]
@@ -168,7 +207,12 @@ fn faulty_frames_are_told(rt: HostRuntime) -> Result<(), Fail> {
         if types.is_empty() {
             return Err(Fail::from("no record"));
         }
-        assert_eq!(rt; next_head(Order::Little, types, 0), Err(told(pos, cause)));
+        equal(
+            &rt,
+            &next_head(Order::Little, types, 0),
+            &Err(told(pos, cause)),
+            &types,
+        );
     }
     Ok(())
 }
@@ -210,10 +254,11 @@ fn causes_are_numbered_from_1_to_32(rt: HostRuntime) {
         BtfCause::Component,
     ];
     for (number, cause) in (1..=32_u8).zip(causes) {
-        assert_eq!(rt;
-            (cause as u8, cause.number()),
-            (number, number),
-            "{cause:?}"
+        equal(
+            &rt,
+            &(cause as u8, cause.number()),
+            &(number, number),
+            &cause,
         );
     }
 }

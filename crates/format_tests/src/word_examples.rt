@@ -1,6 +1,7 @@
 //! Worked examples of words and slots, and refused memory.
 
-use crate::{Order, Slot, get16, get32, push16, push32, slot_bytes, slot_of};
+use crate::expect::{equal, equal_bytes, holds};
+use bpf_words::{Order, Slot, get16, get32, push16, push32, slot_bytes, slot_of};
 use bumpalo::Bump;
 use std::process::Abort;
 use std::test::Fail;
@@ -8,19 +9,39 @@ use std::test::Fail;
 #[test]
 fn words_are_read(rt: HostRuntime) {
     let bytes = b"\x01\x02\x03\x07\x06\x05\x04";
-    assert_eq!(rt; get16(Order::Big, bytes, 1), 0x0203);
-    assert_eq!(rt; get16(Order::Little, bytes, 1), 0x0302);
-    assert_eq!(rt; get32(Order::Little, bytes, 3), 0x0405_0607);
-    assert_eq!(rt; get32(Order::Big, bytes, 3), 0x0706_0504);
+    equal(&rt, &get16(Order::Big, bytes, 1), &0x0203, &"16 bits, big");
+    equal(
+        &rt,
+        &get16(Order::Little, bytes, 1),
+        &0x0302,
+        &"16 bits, little",
+    );
+    equal(
+        &rt,
+        &get32(Order::Little, bytes, 3),
+        &0x0405_0607,
+        &"32 bits, little",
+    );
+    equal(
+        &rt,
+        &get32(Order::Big, bytes, 3),
+        &0x0706_0504,
+        &"32 bits, big",
+    );
 }
 
 #[test]
 fn words_are_appended(rt: HostRuntime) -> Result<(), Fail> {
     let mut out = [1].to_vec(rt.alloc())?;
     push16(&mut out, Order::Big, 0x0203)?;
-    assert_eq!(rt; out.as_slice(), b"\x01\x02\x03".as_slice());
+    equal_bytes(&rt, &out, b"\x01\x02\x03", &"16 bits");
     push32(&mut out, Order::Little, 0x0405_0607)?;
-    assert_eq!(rt; out.as_slice(), b"\x01\x02\x03\x07\x06\x05\x04".as_slice());
+    equal_bytes(
+        &rt,
+        &out,
+        b"\x01\x02\x03\x07\x06\x05\x04",
+        &"32 bits behind them",
+    );
     Ok(())
 }
 
@@ -36,10 +57,10 @@ fn slots_in_both_orders(rt: HostRuntime) {
     };
     let little = b"\xdb\x21\xf8\xff\xf1\0\0\0";
     let big = b"\xdb\x12\xff\xf8\0\0\0\xf1";
-    assert_eq!(rt; slot_of(Order::Little, little), slot);
-    assert_eq!(rt; slot_of(Order::Big, big), slot);
-    assert!(rt; slot_bytes(Order::Little, slot) == *little);
-    assert!(rt; slot_bytes(Order::Big, slot) == *big);
+    equal(&rt, &slot_of(Order::Little, little), &slot, &"little");
+    equal(&rt, &slot_of(Order::Big, big), &slot, &"big");
+    equal_bytes(&rt, &slot_bytes(Order::Little, slot), little, &"little");
+    equal_bytes(&rt, &slot_bytes(Order::Big, slot), big, &"big");
 }
 
 const ROOM: usize = 448;
@@ -67,12 +88,17 @@ fn append(rt: &impl Abort, bump: &Bump, held: &[u8], is_long: bool) -> Option<bo
         let appended = push16(&mut out, Order::Big, 0x0203);
         (appended, b"\x02\x03".as_slice())
     };
-    assert!(rt; out.starts_with(held));
     if appended.is_err() {
-        assert_eq!(rt; out.len(), held.len());
+        equal_bytes(rt, &out, held, &"refused");
         return Some(false);
     }
-    assert_eq!(rt; &out[held.len()..], word);
+    holds(rt, out.starts_with(held), &"what was held");
+    equal_bytes(
+        rt,
+        out.get(held.len()..).unwrap_or_default(),
+        word,
+        &"the word",
+    );
     Some(true)
 }
 
@@ -95,7 +121,7 @@ fn refused_words_change_nothing(rt: HostRuntime) {
             }
             // The word needs room beside what is held, and each smaller room is refused.
             let word = if is_long { 4 } else { 2 };
-            assert!(rt; refused >= word && done > 0, "{held} bytes held");
+            holds(&rt, refused >= word && done > 0, &held);
         }
     }
 }
