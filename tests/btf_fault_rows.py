@@ -25,6 +25,7 @@ HEADERS = [
     ("a gap before the types", {"type_off": 4}, b"", b"\0", 8, "Sections"),
     ("a gap before the strings", {"str_off": 1}, b"", b"\0", 8, "Sections"),
     ("a byte behind the strings", {"str_len": 1}, b"", b"\0\0", 25, "FileLength"),
+    ("a header that takes the strings", {"hdr_len": 25}, b"", b"\0", 25, "FileLength"),
     ("strings that begin with a letter", {}, b"", b"a\0", 24, "FirstString"),
     ("strings that end with a letter", {}, b"", b"\0a", 25, "LastString"),
     ("one letter for all strings", {}, b"", b"a", 24, "FirstString"),
@@ -101,6 +102,13 @@ RECORDS = [
     ("a FUNC of an INT", INT + "00000001 0c000000 00000001", b"\0a\0", 48, "TargetKind"),
     ("a FUNC of void", "00000001 0c000000 00000000", b"\0f\0", 32, "TargetKind"),
     ("an entry of an INT", INT + "00000001 0f000001 00000004 00000001 00000000 00000004", b"\0a\0", 52, "TargetKind"),
+    (
+        "an entry of a FUNC_PROTO",
+        "00000000 0d000000 00000000  00000001 0f000001 00000000 00000001 00000000 00000000",
+        b"\0d\0",
+        48,
+        "TargetKind",
+    ),
     ("an entry of void", "00000001 0f000001 00000004 00000000 00000000 00000004", b"\0d\0", 36, "TargetKind"),
     ("a tag of an INT", INT + "00000001 11000000 00000001 ffffffff", b"\0a\0", 48, "TargetKind"),
     ("a tag of void", "00000001 11000000 00000000 ffffffff", b"\0g\0", 32, "TargetKind"),
@@ -110,6 +118,7 @@ RECORDS = [
     ("two encodings", "00000000 01000000 00000004 03000020", b"\0", 36, "IntWord"),
     ("encoding 8", "00000000 01000000 00000004 08000020", b"\0", 36, "IntWord"),
     ("129 bits", "00000000 01000000 00000020 00000081", b"\0", 36, "IntWord"),
+    ("9 bits of a byte", "00000000 01000000 00000001 00000009", b"\0", 36, "IntWord"),
     ("33 bits of 4 bytes", "00000000 01000000 00000004 00000021", b"\0", 36, "IntWord"),
     (
         "a bit-field of an INT of 31 bits",
@@ -141,6 +150,13 @@ RECORDS = [
     (
         "a component of a VAR",
         "00000001 0e000000 00000000 00000000 00000001 11000000 00000001 00000000",
+        b"\0v\0",
+        52,
+        "Component",
+    ),
+    (
+        "component 65536 of a VAR",
+        "00000001 0e000000 00000000 00000000 00000001 11000000 00000001 00010000",
         b"\0v\0",
         52,
         "Component",

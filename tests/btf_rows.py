@@ -126,6 +126,61 @@ KINDS = [
         b'\0a"b\\c\x01\n\x1f \x7f\xc3\xa9!\0[\'\xf0\x9f\x90\x9d]\0',
         b'[1] float "a\\"b\\\\c\\x01\\x0a\\x1f \\x7f\xc3\xa9!" size=8\n[2] float "[\'\xf0\x9f\x90\x9d]" size=8\n',
     ),
+    (
+        "a name with tabs, and one that is quoted text",
+        "00000001 08000000 00000000  00000005 08000000 00000000",
+        b"\0\t\x0b~\0\\x01\0",
+        b'[1] typedef "\\x09\\x0b~" type=0\n[2] typedef "\\\\x01" type=0\n',
+    ),
+    (
+        "a member behind 2 MB",
+        "00000000 04000001 00400000 00000000 00000000 01000000",
+        b"\0",
+        b'[1] struct "" size=4194304 items=1\n  member "" type=0 offset=16777216 width=0\n',
+    ),
+    (
+        "a bit-field at the start, and one that ends with its record",
+        "00000000 84000001 00400000 00000000 00000000 01000000"
+        "00000000 01000000 00000004 00000020  00000000 84000001 00000004 00000000 00000002 0300001d",
+        b"\0",
+        b'[1] struct "" size=4194304 items=1\n  member "" type=0 offset=0 width=1\n'
+        b'[2] int "" size=4 encoding=plain offset=0 bits=32\n'
+        b'[3] struct "" size=4 items=1\n  member "" type=2 offset=29 width=3\n',
+    ),
+    (
+        "a function in a section of data",
+        "00000000 0d000000 00000000  00000001 0c000000 00000001  00000003 0f000001 00000000 00000002 00000000 00000000",
+        b"\0f\0.ksyms\0",
+        b'[1] func_proto type=0 items=0\n[2] func "f" static type=1\n'
+        b'[3] datasec ".ksyms" size=0 items=1\n  entry type=2 offset=0 size=0\n',
+    ),
+    (
+        "tags of a variable, of a struct and of its last member",
+        "00000001 0e000000 00000000 00000000  00000003 11000000 00000001 ffffffff"
+        "00000000 04000002 00000008 00000000 00000000 00000000 00000000 00000000 00000020"
+        "00000003 11000000 00000003 ffffffff  00000003 91000000 00000003 00000001",
+        b"\0v\0g\0",
+        b'[1] var "v" static type=0\n[2] decl_tag "g" flag=0 type=1 component=-1\n'
+        b'[3] struct "" size=8 items=2\n  member "" type=0 offset=0 width=0\n  member "" type=0 offset=32 width=0\n'
+        b'[4] decl_tag "g" flag=0 type=3 component=-1\n[5] decl_tag "g" flag=1 type=3 component=1\n',
+    ),
+]
+
+# A STRUCT or UNION with kind_flag 1 and without bit-fields, the words of the canonical bytes, and the strings.
+KIND_FLAGS = [
+    ("no members", "00000000 84000000 00000000", "00000000 04000000 00000000", b"\0"),
+    (
+        "a member",
+        "00000001 01000000 00000004 01000020  00000001 85000001 00000004 00000001 00000001 00000000",
+        "00000001 01000000 00000004 01000020  00000001 05000001 00000004 00000001 00000001 00000000",
+        b"\0a\0",
+    ),
+    (
+        "a member of 31 bits, which only a bit-field may not have",
+        "00000001 01000000 00000004 0100001f  00000001 84000001 00000004 00000001 00000001 00000000",
+        "00000001 01000000 00000004 0100001f  00000001 04000001 00000004 00000001 00000001 00000000",
+        b"\0a\0",
+    ),
 ]
 
 # A float of 8 bytes for each name offset, and the string section; then the offsets and strings of the canonical bytes.
@@ -139,4 +194,13 @@ LOOSE_STRINGS = [
     ("bytes are compared from the end", [1, 5, 9], b"\0axb\0bwb\0b\0", [1, 5, 7], b"\0axb\0bwb\0"),
     ("a name inside another", [2], b"\0xab\0", [1], b"\0ab\0"),
     ("an empty name at the end of the strings", [1, 2], b"\0a\0", [1, 0], b"\0a\0"),
+    ("no types", [], b"\0", [], b"\0"),
+    ("the second of two names has the tail", [1, 7, 5], b"\0dbc\0abc\0", [1, 7, 5], b"\0dbc\0abc\0"),
+]
+
+# The names of testdata/flow_table.c in the order of first use, but for `flow`, `int` and `char`, which end others of them.
+FLOW_TABLE_NAMES = [
+    *(b"source", b"direction", b"closed", b"retries", b"load", b"host", b"name", b"address", b"v4", b"v6"),
+    *(b"unsigned int", b"unsigned char", b"__ARRAY_SIZE_TYPE__", b"OUTBOUND", b"INBOUND", b"float", b"user", b"_Bool"),
+    *(b"first", b"any", b"find_flow", b"misses", b"flows", b"table", b".bss"),
 ]

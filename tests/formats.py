@@ -6,6 +6,7 @@ The rows stand in instruction_rows.py, listing_rows.py, fault_rows.py, btf_rows.
 by every command that reads it, in both byte orders.
 """
 
+import pathlib
 import struct
 import sys
 
@@ -28,6 +29,7 @@ GROUPS = {
 }
 ALL_GROUPS = b"base32\nbase64\natomic32\natomic64\ndivmul32\ndivmul64\npacket\n"
 EXIT = bytes.fromhex("95 00 00 00 00 00 00 00")
+TESTDATA = pathlib.Path(__file__).resolve().parent.parent / "testdata"
 NO_TYPES = bytes.fromhex("9f eb 01 00 18 00 00 00 00 00 00 00 00 00 00 00 00 00 00 00 01 00 00 00 00")
 
 
@@ -208,6 +210,35 @@ def check_loose_strings(program, report):
                 report.expect(f"{name}, {layout}, compared", same, done(b"same\n"))
 
 
+def check_kind_flags(program, report):
+    with report.group("kind_flag of structs and unions without bit-fields"):
+        for name, row, right_row, strings in btf_rows.KIND_FLAGS:
+            canonical = btf("little", words_of(right_row), strings)
+            for order in "little", "big":
+                given = btf(order, words_of(row), strings)
+                report.expect(f"{name}, {order}", program.run("btf-canon", given), done(canonical))
+                same = program.run(f"btf-same --split {len(given)}", given + canonical)
+                report.expect(f"{name}, {order}, compared", same, done(b"same\n"))
+
+
+def check_compiled_files(program, report):
+    """What clang made of the same source for both orders."""
+    with report.group("compiled programs and their types"):
+        for name in "packet_filter", "hash_words":
+            little, big = ((TESTDATA / f"{name}.{order}.bin").read_bytes() for order in ("little", "big"))
+            report.expect(name, program.run("insn-canon --order big", big), done(little))
+            report.expect(f"{name}, little", program.run("insn-canon", little), done(little))
+            same = program.run(f"insn-same --split {len(big)} --order big", big + little)
+            report.expect(f"{name}, compared", same, done(b"same\n"))
+        little, big = ((TESTDATA / f"flow_table.{order}.btf").read_bytes() for order in ("little", "big"))
+        canonical = program.run("btf-canon", big)
+        report.expect("flow_table", program.run("btf-canon", little), canonical)
+        report.expect("flow_table, compared", program.run(f"btf-same --split {len(big)}", big + little), done(b"same\n"))
+        strings = b"".join(name + b"\0" for name in [b"", *btf_rows.FLOW_TABLE_NAMES])
+        right = canonical.status == 0 and canonical.output[24 + 540 :] == strings
+        report.expect_that(right, "flow_table, its strings", f"it gave {canonical.output[24 + 540 :]}")
+
+
 def check_refused_btf(program, report, name, order, given, told):
     for command, input, right in [
         ("btf-check", given, refused(told)),
@@ -244,6 +275,8 @@ def main():
         check_faulty_listings,
         check_kinds,
         check_loose_strings,
+        check_kind_flags,
+        check_compiled_files,
         check_faulty_btf,
     ]:
         check(program, report)

@@ -80,13 +80,30 @@ def check_largest_btf_files(program, report):
         check_limit(program, report, f"btf-same --split {len(file)}", file + file, b"same\n")
 
 
+def typedefs(count, letters):
+    """So many typedefs of void, named from each of the first letters of one string on, which are their own canonical bytes."""
+    types = b"".join(struct.pack("<III", name, 0x0800_0000, 0) for name in range(1, count + 1))
+    return btf_header(24, len(types), letters + 2) + types + b"\0" + b"a" * letters + b"\0"
+
+
 def check_longest_names(program, report):
-    """Two typedefs of void: one with the longest name, and one with that name but for its first letter."""
-    types = struct.pack("<IIIIII", 1, 0x0800_0000, 0, 2, 0x0800_0000, 0)
-    file = btf_header(24, len(types), STRINGS) + types + b"\0" + b"a" * (STRINGS - 2) + b"\0"
-    with report.group("names of 16 MB that share their bytes"):
-        report.expect("btf-canon", run(program, "btf-canon", file), Ran(0, file, b""))
-        report.expect("btf-check", run(program, "btf-check", file), Ran(0, b"ok 2 types\n", b""))
+    with report.group("names that share their bytes, of 16 MB or thousands of them"):
+        for count, letters in [(1, STRINGS - 2), (2, STRINGS - 2), (5791, 5791), (5792, 5792)]:
+            file = typedefs(count, letters)
+            report.expect(f"btf-canon of {count}", run(program, "btf-canon", file), Ran(0, file, b""))
+            checked = run(program, "btf-check", file)
+            report.expect(f"btf-check of {count}", checked, Ran(0, f"ok {count} types\n".encode(), b""))
+
+
+def check_names_used_often(program, report):
+    """Each of half a million values has the same name of a million bytes, beside a text that isn't UTF-8."""
+    enum = struct.pack("<III", 0, 0x0600_FFFF, 4) + struct.pack("<II", 1, 0) * 0xFFFF
+    strings = b"\0" + b"a" * 1_000_000 + b"\0"
+    canonical = btf_header(24, 8 * len(enum), len(strings)) + 8 * enum + strings
+    file = btf_header(24, 8 * len(enum), len(strings) + 2) + 8 * enum + strings + b"\xff\0"
+    with report.group("a name of a million bytes that is used half a million times"):
+        report.expect("btf-check", run(program, "btf-check", file), Ran(0, b"ok 8 types\n", b""))
+        report.expect("btf-canon", run(program, "btf-canon", file), Ran(0, canonical, b""))
 
 
 # ---- what else is wrong at the limit
@@ -175,6 +192,7 @@ def main():
         check_largest_instruction_files,
         check_largest_btf_files,
         check_longest_names,
+        check_names_used_often,
         check_faults_at_the_limit,
         check_listings_at_the_limit,
         check_splits_at_the_limit,

@@ -20,6 +20,8 @@ def load(path):
     bytes_and_length = [ctypes.c_char_p, ctypes.c_size_t]
     library.bpfcanon_btf_canon.restype = Answer
     library.bpfcanon_btf_canon.argtypes = [ctypes.c_uint32, *bytes_and_length, *bytes_and_length]
+    library.bpfcanon_btf_same.restype = Answer
+    library.bpfcanon_btf_same.argtypes = bytes_and_length * 2
     library.bpfcanon_insn_same.restype = Answer
     library.bpfcanon_insn_same.argtypes = [ctypes.c_uint32, *bytes_and_length] * 2
     library.bpfcanon_insn_show.restype = Answer
@@ -32,9 +34,9 @@ def load(path):
     return library
 
 
-def canonical(library, file):
+def canonical(library, file, to=0):
     room = ctypes.create_string_buffer(max(len(file), 1))
-    answer = library.bpfcanon_btf_canon(0, file, len(file), room, len(file))
+    answer = library.bpfcanon_btf_canon(to, file, len(file), room, len(file))
     return (answer.status, answer.cause, answer.pos), room.raw[: answer.len]
 
 

@@ -1,19 +1,13 @@
-//! Files that both parsers accept or refuse: worked ones, all with one byte changed, and the largest.
+//! Files that both parsers accept or refuse: worked ones, and the largest.
 
-mod changed_bytes;
 mod long_files;
 mod refused_types;
-mod second_judge;
-mod small_sections;
 mod walked_tables;
 mod worked_files;
 
-use crate::expect::equal;
-use crate::type_files::second_judge::first_fault;
 use btf_raw::BtfCause;
 use btf_types::{Btf, BtfError, BtfView};
 use std::alloc::{AllocError, Global};
-use std::process::Abort;
 use std::test::Fail;
 
 /// Where a fault stands, and the number of its cause.
@@ -23,24 +17,13 @@ type Fault = (u64, u8);
 pub(crate) const BIG_INT: &[u8] =
     b"\xeb\x9f\x01\0\0\0\0\x18\0\0\0\0\0\0\0\x10\0\0\0\x10\0\0\0\x05\0\0\0\x01\x01\0\0\0\0\0\0\x04\x01\0\0\x20\0int\0";
 
-/// Two INTs, one named by the end of the other's name.
-pub(crate) const SHARED_NAME: &[u8] =
-    b"\x9f\xeb\x01\0\x18\0\0\0\0\0\0\0\x20\0\0\0\x20\0\0\0\x0e\0\0\0\x01\0\0\0\0\0\0\x01\x04\0\0\0\x20\0\0\0\x0a\0\0\0\0\0\0\x01\x04\0\0\0\x20\0\0\x01\0unsigned int\0";
-
-/// Four bytes more of header, the strings before the types, and a string that no record names.
-pub(crate) const STRINGS_FIRST: &[u8] =
-    b"\x9f\xeb\x01\0\x1c\0\0\0\x07\0\0\0\x10\0\0\0\0\0\0\0\x07\0\0\0\0\0\0\0\0x\0int\0\x03\0\0\0\0\0\0\x01\x04\0\0\0\x20\0\0\x01";
-
 /// A STRUCT with kind_flag 1, whose member's width is 0.
 pub(crate) const MEMBER: &[u8] =
     b"\x9f\xeb\x01\0\x18\0\0\0\0\0\0\0\x28\0\0\0\x28\0\0\0\x09\0\0\0\x01\0\0\0\0\0\0\x01\x04\0\0\0\x20\0\0\x01\x05\0\0\0\x01\0\0\x84\x04\0\0\0\x07\0\0\0\x01\0\0\0\0\0\0\0\0int\0s\0a\0";
 
-/// A PTR to a type that isn't there, and the same with eight bytes more.
+/// A PTR to a type that isn't there.
 pub(crate) const BEYOND: &[u8] =
     b"\x9f\xeb\x01\0\x18\0\0\0\0\0\0\0\x0c\0\0\0\x0c\0\0\0\x01\0\0\0\0\0\0\0\0\0\0\x02\x02\0\0\0\0";
-
-pub(crate) const BEYOND_AND_CUT: &[u8] =
-    b"\x9f\xeb\x01\0\x18\0\0\0\0\0\0\0\x14\0\0\0\x14\0\0\0\x01\0\0\0\0\0\0\0\0\0\0\x02\x02\0\0\0\0\0\0\0\0\0\0\0\0";
 
 /// A DECL_TAG of the second of two members.
 pub(crate) const TAGGED: &[u8] =
@@ -52,10 +35,6 @@ pub(crate) const BIG_ENUM64: &[u8] =
 
 /// No types at all.
 pub(crate) const EMPTY: &[u8] = b"\x9f\xeb\x01\0\x18\0\0\0\0\0\0\0\0\0\0\0\0\0\0\0\x01\0\0\0\0";
-
-/// A PTR whose name is the empty text at the section's end.
-pub(crate) const EMPTY_NAME: &[u8] =
-    b"\x9f\xeb\x01\0\x18\0\0\0\0\0\0\0\x0c\0\0\0\x0c\0\0\0\x05\0\0\0\x04\0\0\0\0\0\0\x02\0\0\0\0\0int\0";
 
 /// Changes some of the bytes.
 pub(crate) fn change(bytes: &mut [u8], edits: &[(usize, u8)]) {
@@ -110,21 +89,4 @@ pub(crate) fn told(alloc: Global, bytes: &[u8]) -> Result<Option<Fault>, Fail> {
 
 pub(crate) fn number(cause: BtfCause) -> u8 {
     cause as u8
-}
-
-/// Checks that both parsers and the second judge tell this first fault of a file, or none.
-pub(crate) fn is_told(
-    rt: &impl Abort,
-    alloc: Global,
-    bytes: &[u8],
-    fault: &Option<(u64, BtfCause)>,
-) -> Result<(), Fail> {
-    let fault = match fault {
-        Some((pos, cause)) => Some((*pos, number(*cause))),
-        None => None,
-    };
-    equal(rt, &told(alloc, bytes)?, &fault, &("told of", bytes));
-    let judged = first_fault(alloc, bytes)?;
-    equal(rt, &judged, &fault, &("judged of", bytes));
-    Ok(())
 }

@@ -46,14 +46,9 @@ pub(crate) struct Sample {
     pub(crate) canonical: &'static [u8],
 }
 
-pub(crate) fn samples() -> [Sample; 24] {
+pub(crate) fn samples() -> [Sample; 6] {
     [
-        // no types, and a section that holds a NUL
-        Sample {
-            bytes: EMPTY,
-            canonical: EMPTY,
-        },
-        // the same, with the strings first
+        // no types, and the strings first
         Sample {
             bytes: STRINGS_FIRST,
             canonical: EMPTY,
@@ -68,16 +63,6 @@ pub(crate) fn samples() -> [Sample; 24] {
             bytes: b"\x9f\xeb\x01\0\x18\0\0\0\0\0\0\0 \0\0\0 \0\0\0\x0e\0\0\0\x01\0\0\0\0\0\0\x01\x04\0\0\0 \0\0\0\x0a\0\0\0\0\0\0\x01\x04\0\0\0 \0\0\x01\0unsigned int\0",
             canonical: b"\x9f\xeb\x01\0\x18\0\0\0\0\0\0\0 \0\0\0 \0\0\0\x0e\0\0\0\x01\0\0\0\0\0\0\x01\x04\0\0\0 \0\0\0\x0a\0\0\0\0\0\0\x01\x04\0\0\0 \0\0\x01\0unsigned int\0",
         },
-        // the same, with both names kept apart
-        Sample {
-            bytes: b"\x9f\xeb\x01\0\x18\0\0\0\0\0\0\0 \0\0\0 \0\0\0\x12\0\0\0\x01\0\0\0\0\0\0\x01\x04\0\0\0 \0\0\0\x0e\0\0\0\0\0\0\x01\x04\0\0\0 \0\0\x01\0unsigned int\0int\0",
-            canonical: b"\x9f\xeb\x01\0\x18\0\0\0\0\0\0\0 \0\0\0 \0\0\0\x0e\0\0\0\x01\0\0\0\0\0\0\x01\x04\0\0\0 \0\0\0\x0a\0\0\0\0\0\0\x01\x04\0\0\0 \0\0\x01\0unsigned int\0",
-        },
-        // the longer name comes second
-        Sample {
-            bytes: b"\x9f\xeb\x01\0\x18\0\0\0\0\0\0\0 \0\0\0 \0\0\0\x0e\0\0\0\x0a\0\0\0\0\0\0\x01\x04\0\0\0 \0\0\0\x01\0\0\0\0\0\0\x01\x04\0\0\0 \0\0\x01\0unsigned int\0",
-            canonical: b"\x9f\xeb\x01\0\x18\0\0\0\0\0\0\0 \0\0\0 \0\0\0\x0e\0\0\0\x0a\0\0\0\0\0\0\x01\x04\0\0\0 \0\0\0\x01\0\0\0\0\0\0\x01\x04\0\0\0 \0\0\x01\0unsigned int\0",
-        },
         // a longer header, strings first, a string that no record names
         Sample {
             bytes: LOOSE_INT,
@@ -88,85 +73,10 @@ pub(crate) fn samples() -> [Sample; 24] {
             bytes: b"\x9f\xeb\x01\0\x18\0\0\0\0\0\0\0(\0\0\0(\0\0\0\x09\0\0\0\x01\0\0\0\0\0\0\x01\x04\0\0\0 \0\0\x01\x05\0\0\0\x01\0\0\x84\x04\0\0\0\x07\0\0\0\x01\0\0\0\0\0\0\0\0int\0s\0a\0",
             canonical: b"\x9f\xeb\x01\0\x18\0\0\0\0\0\0\0(\0\0\0(\0\0\0\x09\0\0\0\x01\0\0\0\0\0\0\x01\x04\0\0\0 \0\0\x01\x05\0\0\0\x01\0\0\x04\x04\0\0\0\x07\0\0\0\x01\0\0\0\0\0\0\0\0int\0s\0a\0",
         },
-        // kind_flag with a width
-        Sample {
-            bytes: b"\x9f\xeb\x01\0\x18\0\0\0\0\0\0\0(\0\0\0(\0\0\0\x09\0\0\0\x01\0\0\0\0\0\0\x01\x04\0\0\0 \0\0\x01\x05\0\0\0\x01\0\0\x84\x04\0\0\0\x07\0\0\0\x01\0\0\0\0\0\0\x03\0int\0s\0a\0",
-            canonical: b"\x9f\xeb\x01\0\x18\0\0\0\0\0\0\0(\0\0\0(\0\0\0\x09\0\0\0\x01\0\0\0\0\0\0\x01\x04\0\0\0 \0\0\x01\x05\0\0\0\x01\0\0\x84\x04\0\0\0\x07\0\0\0\x01\0\0\0\0\0\0\x03\0int\0s\0a\0",
-        },
-        // a tag whose name ends another
-        Sample {
-            bytes: b"\x9f\xeb\x01\0\x18\0\0\0\0\0\0\0D\0\0\0D\0\0\0\x0d\0\0\0\x01\0\0\0\0\0\0\x01\x04\0\0\0 \0\0\x01\x05\0\0\0\x02\0\0\x04\x08\0\0\0\x07\0\0\0\x01\0\0\0\0\0\0\0\x09\0\0\0\x01\0\0\0 \0\0\0\x0b\0\0\0\0\0\0\x11\x02\0\0\0\x01\0\0\0\0int\0s\0a\0b\0t\0",
-            canonical: b"\x9f\xeb\x01\0\x18\0\0\0\0\0\0\0D\0\0\0D\0\0\0\x0b\0\0\0\x01\0\0\0\0\0\0\x01\x04\0\0\0 \0\0\x01\x05\0\0\0\x02\0\0\x04\x08\0\0\0\x07\0\0\0\x01\0\0\0\0\0\0\0\x09\0\0\0\x01\0\0\0 \0\0\0\x03\0\0\0\0\0\0\x11\x02\0\0\0\x01\0\0\0\0int\0s\0a\0b\0",
-        },
-        // no name at the end of a string
-        Sample {
-            bytes: b"\x9f\xeb\x01\0\x18\0\0\0\0\0\0\0\x0c\0\0\0\x0c\0\0\0\x05\0\0\0\x04\0\0\0\0\0\0\x02\0\0\0\0\0int\0",
-            canonical: b"\x9f\xeb\x01\0\x18\0\0\0\0\0\0\0\x0c\0\0\0\x0c\0\0\0\x01\0\0\0\0\0\0\0\0\0\0\x02\0\0\0\0\0",
-        },
         // halves of a value
         Sample {
             bytes: ENUM,
             canonical: b"\x9f\xeb\x01\0\x18\0\0\0\0\0\0\0\x18\0\0\0\x18\0\0\0\x05\0\0\0\x01\0\0\0\x01\0\0\x93\x08\0\0\0\x03\0\0\0\xfe\xff\xff\xff\xff\xff\xff\xff\0e\0m\0",
-        },
-        // a bit offset of 2 ^ 24
-        Sample {
-            bytes: WIDE_OFFSET,
-            canonical: WIDE_OFFSET,
-        },
-        // a width at bit offset 0
-        Sample {
-            bytes: BIT_FIELD,
-            canonical: BIT_FIELD,
-        },
-        // kind_flag without members
-        Sample {
-            bytes: b"\x9f\xeb\x01\0\x18\0\0\0\0\0\0\0\x0c\0\0\0\x0c\0\0\0\x01\0\0\0\0\0\0\0\0\0\0\x84\0\0\0\0\0",
-            canonical: b"\x9f\xeb\x01\0\x18\0\0\0\0\0\0\0\x0c\0\0\0\x0c\0\0\0\x01\0\0\0\0\0\0\0\0\0\0\x04\0\0\0\0\0",
-        },
-        // the least host by bytes from the end
-        Sample {
-            bytes: b"\x9f\xeb\x01\0\x18\0\0\0\0\0\0\0$\0\0\0$\0\0\0\x0e\0\0\0\x0a\0\0\0\0\0\0\x08\0\0\0\0\x01\0\0\0\0\0\0\x08\0\0\0\0\x06\0\0\0\0\0\0\x08\0\0\0\0\0c\0bc\0abc\0dbc\0",
-            canonical: b"\x9f\xeb\x01\0\x18\0\0\0\0\0\0\0$\0\0\0$\0\0\0\x09\0\0\0\x01\0\0\0\0\0\0\x08\0\0\0\0\x07\0\0\0\0\0\0\x08\0\0\0\0\x05\0\0\0\0\0\0\x08\0\0\0\0\0dbc\0abc\0",
-        },
-        // a FLOAT of 12 bytes
-        Sample {
-            bytes: b"\x9f\xeb\x01\0\x18\0\0\0\0\0\0\0\x0c\0\0\0\x0c\0\0\0\x01\0\0\0\0\0\0\0\0\0\0\x10\x0c\0\0\0\0",
-            canonical: b"\x9f\xeb\x01\0\x18\0\0\0\0\0\0\0\x0c\0\0\0\x0c\0\0\0\x01\0\0\0\0\0\0\0\0\0\0\x10\x0c\0\0\0\0",
-        },
-        // an INT without bits
-        Sample {
-            bytes: b"\x9f\xeb\x01\0\x18\0\0\0\0\0\0\0\x10\0\0\0\x10\0\0\0\x01\0\0\0\0\0\0\0\0\0\0\x01\x01\0\0\0\0\0\0\0\0",
-            canonical: b"\x9f\xeb\x01\0\x18\0\0\0\0\0\0\0\x10\0\0\0\x10\0\0\0\x01\0\0\0\0\0\0\0\0\0\0\x01\x01\0\0\0\0\0\0\0\0",
-        },
-        // kind_flag without a width, beside an INT of 31 bits
-        Sample {
-            bytes: b"\x9f\xeb\x01\0\x18\0\0\0\0\0\0\0(\0\0\0(\0\0\0\x09\0\0\0\x01\0\0\0\0\0\0\x01\x04\0\0\0\x1f\0\0\x01\x05\0\0\0\x01\0\0\x84\x04\0\0\0\x07\0\0\0\x01\0\0\0\0\0\0\0\0int\0s\0a\0",
-            canonical: b"\x9f\xeb\x01\0\x18\0\0\0\0\0\0\0(\0\0\0(\0\0\0\x09\0\0\0\x01\0\0\0\0\0\0\x01\x04\0\0\0\x1f\0\0\x01\x05\0\0\0\x01\0\0\x04\x04\0\0\0\x07\0\0\0\x01\0\0\0\0\0\0\0\0int\0s\0a\0",
-        },
-        // a bit-field that ends with its record
-        Sample {
-            bytes: b"\x9f\xeb\x01\0\x18\0\0\0\0\0\0\0(\0\0\0(\0\0\0\x09\0\0\0\x01\0\0\0\0\0\0\x01\x04\0\0\0 \0\0\x01\x05\0\0\0\x01\0\0\x84\x04\0\0\0\x07\0\0\0\x01\0\0\0\x1d\0\0\x03\0int\0s\0a\0",
-            canonical: b"\x9f\xeb\x01\0\x18\0\0\0\0\0\0\0(\0\0\0(\0\0\0\x09\0\0\0\x01\0\0\0\0\0\0\x01\x04\0\0\0 \0\0\x01\x05\0\0\0\x01\0\0\x84\x04\0\0\0\x07\0\0\0\x01\0\0\0\x1d\0\0\x03\0int\0s\0a\0",
-        },
-        // a tag of a whole VAR
-        Sample {
-            bytes: b"\x9f\xeb\x01\0\x18\0\0\0\0\0\0\0 \0\0\0 \0\0\0\x05\0\0\0\x01\0\0\0\0\0\0\x0e\0\0\0\0\0\0\0\0\x03\0\0\0\0\0\0\x11\x01\0\0\0\xff\xff\xff\xff\0f\0t\0",
-            canonical: b"\x9f\xeb\x01\0\x18\0\0\0\0\0\0\0 \0\0\0 \0\0\0\x05\0\0\0\x01\0\0\0\0\0\0\x0e\0\0\0\0\0\0\0\0\x03\0\0\0\0\0\0\x11\x01\0\0\0\xff\xff\xff\xff\0f\0t\0",
-        },
-        // a FUNC in a DATASEC
-        Sample {
-            bytes: b"\x9f\xeb\x01\0\x18\0\0\0\0\0\0\00\0\0\00\0\0\0\x0a\0\0\0\0\0\0\0\0\0\0\x0d\0\0\0\0\x01\0\0\0\x02\0\0\x0c\x01\0\0\0\x03\0\0\0\x01\0\0\x0f\0\0\0\0\x02\0\0\0\0\0\0\0\0\0\0\0\0f\0.ksyms\0",
-            canonical: b"\x9f\xeb\x01\0\x18\0\0\0\0\0\0\00\0\0\00\0\0\0\x0a\0\0\0\0\0\0\0\0\0\0\x0d\0\0\0\0\x01\0\0\0\x02\0\0\x0c\x01\0\0\0\x03\0\0\0\x01\0\0\x0f\0\0\0\0\x02\0\0\0\0\0\0\0\0\0\0\0\0f\0.ksyms\0",
-        },
-        // a name that is no identifier
-        Sample {
-            bytes: b"\x9f\xeb\x01\0\x18\0\0\0\0\0\0\0\x0c\0\0\0\x0c\0\0\0\x07\0\0\0\x01\0\0\0\0\0\0\x08\0\0\0\0\0a\"\\\x01\x7f\0",
-            canonical: b"\x9f\xeb\x01\0\x18\0\0\0\0\0\0\0\x0c\0\0\0\x0c\0\0\0\x07\0\0\0\x01\0\0\0\0\0\0\x08\0\0\0\0\0a\"\\\x01\x7f\0",
-        },
-        // a tag of a whole STRUCT
-        Sample {
-            bytes: b"\x9f\xeb\x01\0\x18\0\0\0\0\0\0\0D\0\0\0D\0\0\0\x0d\0\0\0\x01\0\0\0\0\0\0\x01\x04\0\0\0 \0\0\x01\x05\0\0\0\x02\0\0\x04\x08\0\0\0\x07\0\0\0\x01\0\0\0\0\0\0\0\x09\0\0\0\x01\0\0\0 \0\0\0\x0b\0\0\0\0\0\0\x11\x02\0\0\0\xff\xff\xff\xff\0int\0s\0a\0b\0t\0",
-            canonical: b"\x9f\xeb\x01\0\x18\0\0\0\0\0\0\0D\0\0\0D\0\0\0\x0b\0\0\0\x01\0\0\0\0\0\0\x01\x04\0\0\0 \0\0\x01\x05\0\0\0\x02\0\0\x04\x08\0\0\0\x07\0\0\0\x01\0\0\0\0\0\0\0\x09\0\0\0\x01\0\0\0 \0\0\0\x03\0\0\0\0\0\0\x11\x02\0\0\0\xff\xff\xff\xff\0int\0s\0a\0b\0",
         },
     ]
 }
@@ -181,20 +91,7 @@ fn canonical_bytes_of_btf_files(rt: HostRuntime) -> Result<(), Fail> {
     Ok(())
 }
 
-#[test]
-fn both_tables_are_written_in_either_order(rt: HostRuntime) -> Result<(), Fail> {
-    let lent = BtfView::parse(rt.alloc(), INT)?;
-    let big = write_btf(rt.alloc(), Order::Big, &lent)?;
-    equal_bytes(&rt, big.as_slice(), BIG_INT, &"in big-endian order");
-    let owned = Btf::parse(rt.alloc(), BIG_INT)?;
-    let big = write_btf(rt.alloc(), Order::Big, &owned)?;
-    equal_bytes(&rt, big.as_slice(), BIG_INT, &"in big-endian order");
-    let little = write_btf(rt.alloc(), Order::Little, &owned)?;
-    equal_bytes(&rt, little.as_slice(), INT, &"in little-endian order");
-    Ok(())
-}
-
-/// The canonical bytes of a file in both orders, by a table that keeps its names and by one that lends them, which agree.
+/// The canonical bytes of a file in an order, by a table that keeps its names and by one that lends them, which agree.
 fn written(alloc: Global, order: Order, bytes: &[u8]) -> Result<Vec<u8>, Fail> {
     let owned = write_btf(alloc, order, &Btf::parse(alloc, bytes)?)?;
     let lent = write_btf(alloc, order, &BtfView::parse(alloc, bytes)?)?;
@@ -211,16 +108,13 @@ fn examples_are_written_by_both_tables_in_both_orders(rt: HostRuntime) -> Result
         let little = written(rt.alloc(), Order::Little, bytes)?;
         equal_bytes(&rt, little.as_slice(), sample.canonical, &bytes);
         let big = written(rt.alloc(), Order::Big, bytes)?;
-        assert!(rt; big.starts_with(b"\xeb\x9f"), "of {bytes:?}");
         let again = canon_btf(rt.alloc(), &big)?;
         equal_bytes(&rt, again.as_slice(), sample.canonical, &bytes);
-        assert!(rt;
-            little.len() <= bytes.len() && big.len() <= bytes.len(),
-            "{bytes:?} is lengthened"
-        );
+        equal(&rt, &big.len(), &little.len(), &bytes);
     }
-    let big_enum = written(rt.alloc(), Order::Big, ENUM)?;
-    equal_bytes(&rt, big_enum.as_slice(), ENUM, &"an ENUM64");
+    for big in [BIG_INT, ENUM] {
+        equal_bytes(&rt, written(rt.alloc(), Order::Big, big)?.as_slice(), big, &big);
+    }
     Ok(())
 }
 

@@ -1,8 +1,4 @@
-//! BTF that clang compiled for both byte orders (`testdata/README.md` says how) has the same canonical bytes.
-
-use crate::expect::{equal, equal_bytes};
-use bpf_canon::{canon_btf, same_btf};
-use std::test::Fail;
+//! BTF that clang compiled for both byte orders (`testdata/README.md` says how).
 
 /// The bytes of `testdata/flow_table.little.btf`.
 pub(crate) const FLOW_TABLE_LITTLE: &[u8; 849] = b"\
@@ -117,30 +113,3 @@ pub(crate) const FLOW_TABLE_BIG: &[u8; 849] = b"\
     \x20\x66\x6c\x6f\x77\x73\x29\x3b\x00\x6d\x69\x73\x73\x65\x73\x00\
     \x66\x6c\x6f\x77\x73\x00\x74\x61\x62\x6c\x65\x00\x2e\x62\x73\x73\
     \x00";
-/// The names that the records use, in the order of first use. `flow`, `int` and `char` stand at the ends of others; lines of the
-/// source, which clang keeps for its line table, are gone.
-const STRINGS: &[u8] =
-    b"\0source\0direction\0closed\0retries\0load\0host\0name\0address\0v4\0v6\0unsigned int\0unsigned char\0__ARRAY_SIZE_TYPE__\0OUTBOUND\0INBOUND\0float\0user\0_Bool\0first\0any\0find_flow\0misses\0flows\0table\0.bss\0";
-
-/// A header, and 540 bytes of records.
-const STRINGS_POS: usize = 24 + 540;
-
-#[test]
-fn both_orders_have_the_same_canonical_types(rt: HostRuntime) -> Result<(), Fail> {
-    let little = canon_btf(rt.alloc(), FLOW_TABLE_LITTLE)?;
-    let big = canon_btf(rt.alloc(), FLOW_TABLE_BIG)?;
-    equal_bytes(&rt, little.as_slice(), big.as_slice(), &"both orders");
-    equal(
-        &rt,
-        &little.len(),
-        &(STRINGS_POS + STRINGS.len()),
-        &"the length",
-    );
-    let strings = little.get(STRINGS_POS..);
-    equal(&rt, &strings, &Some(STRINGS), &"the strings");
-    match same_btf(rt.alloc(), FLOW_TABLE_BIG, FLOW_TABLE_LITTLE) {
-        Ok(same) => assert!(rt; same),
-        Err(_) => assert!(rt; false, "a file was refused"),
-    }
-    Ok(())
-}

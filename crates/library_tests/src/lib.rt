@@ -11,8 +11,6 @@ mod btf_run;
 #[cfg(test)]
 mod btf_texts;
 #[cfg(test)]
-mod compiled_programs;
-#[cfg(test)]
 mod compiled_types;
 #[cfg(test)]
 mod devices;
@@ -20,8 +18,6 @@ mod devices;
 mod example_results;
 #[cfg(test)]
 mod expect;
-#[cfg(test)]
-mod faulty_files;
 #[cfg(test)]
 mod feed;
 #[cfg(test)]
@@ -34,13 +30,7 @@ pub mod library_example;
 #[cfg(test)]
 mod limit;
 #[cfg(test)]
-mod long_names;
-#[cfg(test)]
-mod nested_names;
-#[cfg(test)]
 mod own_table;
-#[cfg(test)]
-mod plain_table;
 #[cfg(test)]
 mod refused;
 #[cfg(test)]

@@ -87,26 +87,3 @@ fn longest_type_sections(rt: HostRuntime) -> Result<(), Fail> {
     equal(&rt, &told(rt.alloc(), &longer)?, &too_long, &"a byte more");
     Ok(())
 }
-
-/// An ENUM with as many values as one can have, all of the same name.
-fn full_enum(alloc: Global) -> Result<Vec<u8>, AllocError> {
-    let mut record = Vec::from_slice(alloc, b"\0\0\0\0\xff\xff\0\x06\x04\0\0\0")?;
-    for _ in 0..65_535 {
-        record.extend_from_slice(b"\x01\0\0\0\0\0\0\0")?;
-    }
-    Ok(record)
-}
-
-/// Each of half a million values has the same name of a million bytes, beside a text that isn't UTF-8.
-#[test]
-fn many_uses_of_a_long_name(rt: HostRuntime) -> Result<(), Fail> {
-    let strings = long_text(rt.alloc(), 1_000_000, b"\0\xff\0")?;
-    let record = full_enum(rt.alloc())?;
-    let mut records = Vec::new(rt.alloc());
-    for _ in 0..8 {
-        records.extend_from_slice(&record)?;
-    }
-    let bytes = file(rt.alloc(), &records, &strings)?;
-    equal(&rt, &told(rt.alloc(), &bytes)?, &None, &"the file");
-    Ok(())
-}
