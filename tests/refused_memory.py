@@ -7,13 +7,15 @@ and for clap is refused too, which no test inside the crates can do.
 
 Whatever is refused, three answers are right: the one with ample memory; status 3 with `no memory`; status 3 with
 `no words`, as the program couldn't keep its own words. Of the output there is nothing then, but for insn-canon,
-which writes as it reads: there it is the beginning of the right output.
+which writes as it reads: there it is the beginning of the right output; and for a text in pieces: there it is the
+first piece or nothing.
 """
 
 import os
 import sys
 
 import examples
+import long_texts
 from program import Program, Report
 
 # No line takes so many allocations: a loop that comes here has found no end.
@@ -65,6 +67,24 @@ FAULTY = [
     examples.refused("a split behind the end", "btf-same --split 26", examples.NO_TYPES, "split beyond input"),
 ]
 
+NAMES = [bytes([letter]) for letter in b"abcdefghijklmnopqrstuvwx"]
+# A file of TYPEDEFs with these names, which is canonical, and its text.
+MANY_NAMES, MANY_LINES = long_texts.typedefs(range(1, 48, 2), b"\0" + b"\0".join(NAMES) + b"\0", NAMES)
+
+WITH_MANY_NAMES = [
+    examples.done("canonical names", "btf-canon", MANY_NAMES, MANY_NAMES),
+    examples.done("names shown", "btf-show", MANY_NAMES, MANY_LINES),
+    examples.done("names checked", "btf-check", MANY_NAMES, b"ok 24 types\n"),
+    examples.done("the same names", f"btf-same --split {len(MANY_NAMES)}", MANY_NAMES * 2, b"same\n"),
+]
+
+# Lines whose output goes in two pieces, and how many bytes the first has. The second takes more memory.
+IN_PIECES = [
+    (examples.done("a listing in pieces", "insn-show", *long_texts.negations_and_exits()), 8_192),
+    (examples.done("types in pieces", "btf-show", *long_texts.nameless(2, 1_000)), 8_192),
+    (examples.done("a long name in pieces", "btf-show", *long_texts.letters_and_controls()), 8_205),
+]
+
 REFUSED_LINES = [
     examples.refused_line("insn-same"),
     examples.refused_line("insn-canon --order middle"),
@@ -91,15 +111,17 @@ def run_refused(program, shared_object, example, first, last):
     return ran, was_refused
 
 
-def is_refusal(ran, example):
+def is_refusal(ran, example, first_piece):
     """Whether the program told that it had no memory, and wrote nothing that it shouldn't."""
-    streams = example.line == "" or example.line.startswith("insn-canon")
-    written = example.right.output if streams else b""
-    return ran.status == 3 and ran.told in (b"no memory\n", b"no words\n") and written.startswith(ran.output)
+    if example.line == "" or example.line.startswith("insn-canon"):
+        is_written = example.right.output.startswith(ran.output)
+    else:
+        is_written = ran.output in (b"", example.right.output[:first_piece])
+    return ran.status == 3 and ran.told in (b"no memory\n", b"no words\n") and is_written
 
 
-def refuse_each(report, program, shared_object, example, only_one):
-    """Refuses the first allocation, the second and so on, until the line ends before it; returns what was told."""
+def refuse_each(report, program, shared_object, example, only_one, first_piece=0):
+    """Refuses the first allocation, the second and so on, until the line ends before it; returns what was told and written."""
     told = set()
     what = "alone" if only_one else "and all that follow"
     for number in range(1, MOST_ALLOCATIONS):
@@ -110,8 +132,9 @@ def refuse_each(report, program, shared_object, example, only_one):
             report.expect(f"{where}, which there isn't", ran, example.right)
             return told
         right = f"right is {example.right} or status 3 with `no memory` or `no words`"
-        report.expect_that(ran == example.right or is_refusal(ran, example), where, f"it gave {ran}, and {right}")
-        told.add(ran.told)
+        is_right = ran == example.right or is_refusal(ran, example, first_piece)
+        report.expect_that(is_right, where, f"it gave {ran}, and {right}")
+        told |= {ran.told, ran.output}
     report.tell_wrong(f"{example.name} ({example.line}): more than {MOST_ALLOCATIONS} allocations")
     return told
 
@@ -121,7 +144,12 @@ def main():
         sys.exit(__doc__)
     program, shared_object = Program(sys.argv[1]), os.path.abspath(sys.argv[2])
     report = Report()
-    groups = {"that succeed": GOOD, "with a faulty input": FAULTY, "that are refused": REFUSED_LINES}
+    groups = {
+        "that succeed": GOOD,
+        "with many names": WITH_MANY_NAMES,
+        "with a faulty input": FAULTY,
+        "that are refused": REFUSED_LINES,
+    }
     for name, lines in groups.items():
         with report.group(f"memory is refused to {len(lines)} lines {name}"):
             for example in lines:
@@ -130,6 +158,12 @@ def main():
                     # each line takes memory for the words of the process, and again for clap
                     for line in {b"no words\n", b"no memory\n"} - told:
                         report.tell_wrong(f"{example.name} ({example.line}): no run told {line!r}")
+    with report.group("memory is refused behind a piece"):
+        for example, first_piece in IN_PIECES:
+            for only_one in (True, False):
+                told = refuse_each(report, program, shared_object, example, only_one, first_piece)
+                if example.right.output[:first_piece] not in told:
+                    report.tell_wrong(f"{example.name}: no run ended behind the first piece")
     return report.end("refused memory")
 
 

@@ -12,16 +12,13 @@ use bpf_words::Order;
 use clap::ArgMatches;
 use clap::error::ErrorKind;
 use std::alloc::Global;
-use thiserror::Error;
 
 /// Why a command line has no job.
-#[derive(Clone, Copy, Debug, PartialEq, Eq, Error)]
+#[derive(Clone, Copy)]
 pub enum LineError {
     /// The words aren't those of a command with its options, or they ask for help.
-    #[error("Usage")]
     Usage,
     /// Memory was refused.
-    #[error("Memory")]
     Memory,
 }
 

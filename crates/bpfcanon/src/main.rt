@@ -68,6 +68,3 @@ fn main(rt: HostRuntime) -> ExitCode {
     let mut sink = WriterSink::new(rt.stdout());
     run_words(alloc, words.as_slice(), &mut source, &mut sink, &mut faults)
 }
-
-#[cfg(test)]
-mod tests;

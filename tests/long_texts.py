@@ -1,0 +1,59 @@
+"""Inputs whose text is written in pieces: listings, and the text of BTF types with many names and with long ones.
+
+A piece is as many lines, or chunks of a long name, as make 8,192 bytes or more. A chunk of a name is 2,048 of its bytes.
+"""
+
+from examples import EXIT
+from formats import btf
+
+NEG = bytes.fromhex("87 0a 00 00 00 00 00 00")
+TYPEDEF, PTR, CONST = 0x0800_0000, 0x0200_0000, 0x0A00_0000
+
+
+def exits(count):
+    """So many instructions `exit`, and their listing."""
+    return EXIT * count, b"exit\n" * count
+
+
+def negations_and_exits():
+    """The first piece is 1,024 lines of 8 bytes, and the second, of 8,195, takes more room than that."""
+    return NEG * 1_024 + EXIT * 1_639, b"neg r10\n" * 1_024 + b"exit\n" * 1_639
+
+
+def nameless(consts, count):
+    """So many types without names, and their text: the first are CONSTs of void, and the others PTRs to void."""
+    infos = [CONST] * consts + [PTR] * (count - consts)
+    words = [word for info in infos for word in (0, info, 0)]
+    kinds = {CONST: b"const", PTR: b"ptr"}
+    text = b"".join(b"[%d] %s type=0\n" % (number, kinds[info]) for number, info in enumerate(infos, 1))
+    return btf("little", words, b"\0"), text
+
+
+def typedefs(names, strings, shown):
+    """A TYPEDEF of void for each offset of a name, and their text with these names."""
+    words = [word for name in names for word in (name, TYPEDEF, 0)]
+    text = b"".join(b'[%d] typedef "%s" type=0\n' % (number, name) for number, name in enumerate(shown, 1))
+    return btf("little", words, strings), text
+
+
+def controls(count):
+    """A name of so many control characters, each of which is shown by four."""
+    return typedefs([1], b"\0" + b"\x01" * count + b"\0", [b"\\x01" * count])
+
+
+def letters_and_controls():
+    """The first piece is what stands before the name and four chunks of letters, 8,205 bytes, and the second takes more room than that."""
+    return typedefs([1], b"\0" + b"n" * 14_336 + b"\x01" * 2_048 + b"\0", [b"n" * 14_336 + b"\\x01" * 2_048])
+
+
+def ends_of_one_string():
+    """Names that are the ends of one string, from the longest to the shortest."""
+    names = [b"n" * length for length in range(300, 0, -1)]
+    return typedefs(range(1, 301), b"\0" + b"n" * 300 + b"\0", names)
+
+
+def value_of_cut_characters():
+    """A value's name of characters of two bytes behind one of one byte: each chunk ends amid a character."""
+    name = b"n" + b"\xc3\xa9" * 5_000
+    text = b'[1] enum "" unsigned size=4 items=1\n  value "%s" 7\n' % name
+    return btf("little", [0, 0x0600_0001, 4, 1, 7], b"\0" + name + b"\0"), text
