@@ -149,6 +149,15 @@ def check_listings_at_the_limit(program, report):
         report.expect("a fault and too much", run(program, "insn-read", b"leave\n" + lines), refused("too long"))
 
 
+def check_numbered_lines(program, report):
+    count = 1_000_000
+    file = b"".join(struct.pack("<BBhi", 0xB7, 9, 0, number) for number in range(count))
+    text = b"".join(b"mov r9, %d\n" % number for number in range(count))
+    with report.group("a million lines, each with another number"):
+        report.expect("insn-show", run(program, "insn-show", file), Ran(0, text, b""))
+        report.expect("insn-read", run(program, "insn-read", text), Ran(0, file, b""))
+
+
 def check_splits_at_the_limit(program, report):
     file = EXIT * INSTRUCTIONS
     both = 2 * len(file)
@@ -195,6 +204,7 @@ def main():
         check_names_used_often,
         check_faults_at_the_limit,
         check_listings_at_the_limit,
+        check_numbered_lines,
         check_splits_at_the_limit,
         check_faulty_btf_at_the_limit,
     ]:

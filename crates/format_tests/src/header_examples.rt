@@ -1,4 +1,5 @@
-//! Worked examples of headers, strings, names and frames.
+//! What each call answers to headers, strings, names and frames. The program shows each cause, by the rows of
+//! `tests/btf_fault_rows.py`.
 
 use crate::expect::equal;
 use bpf_words::Order;
@@ -67,33 +68,9 @@ fn headers_are_read(rt: HostRuntime) {
 }
 
 #[test]
-fn cut_files_are_told(rt: HostRuntime) {
-    let longer = b"\x9f\xeb\x01\0\x18\0\0\0\0\0\0\0\0\0\0\0\0\0\0\0\x01\0\0\0\0\0";
-    let cases: [(&[u8], u64, BtfCause); 4] = [
-        (b"", 0, BtfCause::ShortHeader),
-        (&EMPTY[..23], 23, BtfCause::ShortHeader),
-        (&EMPTY[..24], 24, BtfCause::FileLength),
-        (longer, 25, BtfCause::FileLength),
-    ];
-    for (file, pos, cause) in cases {
-        equal(&rt, &read_header(file), &Err(told(pos, cause)), &file.len());
-    }
-}
-
-#[test]
 fn changed_headers_are_told(rt: HostRuntime) {
-    let cases: [(usize, u8, u64, BtfCause); 12] = [
-        (0, 0, 0, BtfCause::Magic),
-        (2, 2, 2, BtfCause::Version),
-        (3, 1, 3, BtfCause::Flags),
-        (4, 0x1a, 4, BtfCause::HeaderLength),
-        (4, 0x17, 4, BtfCause::HeaderLength),
-        (5, 0x10, 4, BtfCause::HeaderLength),
+    let cases: [(usize, u8, u64, BtfCause); 2] = [
         (4, 0x19, 25, BtfCause::FileLength),
-        (15, 3, 12, BtfCause::TypeLength),
-        (20, 0, 20, BtfCause::StringLength),
-        (23, 2, 20, BtfCause::StringLength),
-        (16, 1, 8, BtfCause::Sections),
         (12, 1, 8, BtfCause::Sections),
     ];
     for (at, byte, pos, cause) in cases {
@@ -108,32 +85,18 @@ fn changed_headers_are_told(rt: HostRuntime) {
             &(at, byte),
         );
     }
-    let mut file = *EMPTY;
-    file[2] = 2;
-    file[3] = 1;
-    equal(
-        &rt,
-        &read_header(&file),
-        &Err(told(2, BtfCause::Version)),
-        &"two faults",
-    );
 }
 
 #[test]
 fn ends_of_strings(rt: HostRuntime) {
-    let first = Err(told(0, BtfCause::FirstString));
     let last = Err(told(1, BtfCause::LastString));
-    equal(&rt, &check_strings(b"\0"), &Ok(()), &"one NUL");
     equal(&rt, &check_strings(b"\0a\0"), &Ok(()), &"a name");
-    equal(&rt, &check_strings(b"\x01a\0"), &first, &"no NUL first");
     equal(&rt, &check_strings(b"\0a"), &last, &"no NUL last");
-    equal(&rt, &check_strings(b"\x01"), &first, &"no NUL");
 }
 
 #[test]
 fn names_end_at_the_next_nul(rt: HostRuntime) {
     let strings = b"\0a\0";
-    equal(&rt, &name_at(strings, 0), &Ok(""), &"the first NUL");
     equal(&rt, &name_at(strings, 1), &Ok("a"), &"a name");
     equal(&rt, &name_at(strings, 2), &Ok(""), &"the last NUL");
     equal(
@@ -141,12 +104,6 @@ fn names_end_at_the_next_nul(rt: HostRuntime) {
         &name_at(strings, 3),
         &Err(NameCause::Range),
         &"behind the section",
-    );
-    equal(
-        &rt,
-        &name_at(b"\0unsigned int\0", 10),
-        &Ok("int"),
-        &"the end of a name",
     );
     equal(
         &rt,
@@ -189,19 +146,9 @@ fn frames_are_read(rt: HostRuntime) {
 
 #[test]
 fn faulty_frames_are_told(rt: HostRuntime) -> Result<(), Fail> {
-    let cases: [(&[u8], u64, BtfCause); 8] = [
+    let cases: [(&[u8], u64, BtfCause); 2] = [
         (b"\0\0\0\0\0\0\0\x02\0\0\0", 0, BtfCause::RecordCut),
-        (b"\0\0\0\0\0\0\0\x14\0\0\0\0", 4, BtfCause::KindNumber),
-        (b"\0\0\0\0\0\0\0\0\0\0\0\0", 4, BtfCause::KindNumber),
         (b"\0\0\0\0\0\0\0\x34\0\0\0\0", 4, BtfCause::InfoBits),
-        (b"\0\0\0\0\0\0\x01\x02\0\0\0\0", 4, BtfCause::InfoBits),
-        (b"\0\0\0\0\0\0\0\x82\0\0\0\0", 4, BtfCause::FlagSet),
-        (b"\0\0\0\0\x01\0\0\x02\0\0\0\0", 4, BtfCause::Vlen),
-        (
-            b"\0\0\0\0\x02\0\0\x04\x04\0\0\0\0\0\0\0\0\0\0\0\0\0\0\0",
-            12,
-            BtfCause::TailCut,
-        ),
     ];
     for (types, pos, cause) in cases {
         if types.is_empty() {

@@ -1,8 +1,8 @@
-//! Large texts with ample memory, and small ones with each growth refused in turn.
+//! Small texts with each growth refused in turn, and the largest with ample memory.
 
 use crate::arena::{ROOM, arena, count_refusal, places};
 use crate::expect::{equal, equal_bytes, holds};
-use bpf_insn::{Insn, Order, Reg, WideOf};
+use bpf_insn::{Insn, Order};
 use bpf_text::{
     LineCause, LineFault, ListError, listing, push_line, read_listing, read_listing_bytes,
 };
@@ -144,78 +144,25 @@ fn of_appending(rt: HostRuntime) -> Result<(), Fail> {
     Ok(())
 }
 
-/// How many lines the largest text has, of 32 bytes each.
-const COUNT: u64 = 2 << 20;
+/// A line of the largest text that is read.
+const LINE: &[u8; 32] = b"lddw r9, 0x00000000001fffff ;;;\n";
 
-/// The largest text that is read, 64 MiB: wide loads of the numbers from 0, and the last line as it is given.
-fn largest(alloc: Global, last: &[u8; 32]) -> Result<Vec<u8>, AllocError> {
-    let mut text = Vec::with_capacity(alloc, 64 << 20)?;
-    for number in 0..(2u32 << 20) - 1 {
-        text.extend_from_slice(b"lddw r9, 0x0000000000")?;
-        for place in [20, 16, 12, 8, 4, 0] {
-            text.push(b"0123456789abcdef"[(number >> place) as usize % 16])?;
-        }
-        text.extend_from_slice(b" ;;;\n")?;
-    }
-    text.extend_from_slice(last)?;
-    Ok(text)
-}
-
-/// Checks that instructions are wide loads of the numbers from 0.
-fn are_numbered(rt: &impl Abort, insns: &[Insn]) -> Result<(), Fail> {
-    equal(rt, &(insns.len() as u64), &COUNT, &"instructions");
-    let dst = Reg::new(9).ok_or("no register")?;
-    for (number, insn) in (0..COUNT).zip(insns.iter()) {
-        let what = WideOf::Number(number);
-        equal(rt, insn, &Insn::Wide { dst, what }, &number);
-    }
-    Ok(())
-}
-
-/// Checks the listing of these instructions, that it is read as the same, and that a line more is appended to it.
-fn is_listed(rt: &impl Abort, alloc: Global, insns: &[Insn]) -> Result<(), Fail> {
-    let mut listed = listing(alloc, insns)?;
-    // Ten bytes a line, and the digits of each number.
-    let digits = 10 + 2 * 90 + 3 * 900 + 4 * 9_000 + 5 * 90_000 + 6 * 900_000 + 7 * 1_097_152;
-    equal(
-        rt,
-        &listed.len(),
-        &(10 * 2_097_152 + digits),
-        &"the listing",
-    );
-    let starts = listed.starts_with(b"lddw r9, 0\nlddw r9, 1\n");
-    holds(rt, starts, &"the first lines");
-    let ends = listed.ends_with(b"lddw r9, 2097150\nlddw r9, 2097151\n");
-    holds(rt, ends, &"the last lines");
-    let is_same = read_listing(alloc, &listed)?.as_slice() == insns;
-    holds(rt, is_same, &"the listing is read as the same instructions");
-    push_line(&mut listed, Insn::Exit)?;
-    let ends = listed.ends_with(b"lddw r9, 2097151\nexit\n");
-    holds(rt, ends, &"a line is appended");
-    Ok(())
-}
+/// How many lines the largest text has.
+const COUNT: usize = 2 << 20;
 
 #[test]
 fn the_largest_text_is_read_and_listed(rt: HostRuntime) -> Result<(), Fail> {
-    let text = largest(rt.alloc(), b"lddw r9, 0x00000000001fffff ;;;\n")?;
+    let mut text = Vec::with_capacity(rt.alloc(), 64 << 20)?;
+    for _ in 0..COUNT {
+        text.extend_from_slice(LINE)?;
+    }
     equal(&rt, &text.len(), &67_108_864, &"the text");
-    let bytes = read_listing_bytes(rt.alloc(), Order::Little, &text)?;
-    equal(&rt, &bytes.len(), &33_554_432, &"bytes");
-    let ends = bytes.ends_with(b"\x18\x09\0\0\xff\xff\x1f\0\0\0\0\0\0\0\0\0");
-    holds(&rt, ends, &"the last bytes");
     let insns = read_listing(rt.alloc(), &text)?;
-    are_numbered(&rt, &insns)?;
-    is_listed(&rt, rt.alloc(), &insns)
-}
-
-#[test]
-fn the_fault_of_the_largest_text_is_told(rt: HostRuntime) -> Result<(), Fail> {
-    let text = largest(rt.alloc(), b"leave                          \n")?;
-    let fault = LineFault {
-        line: COUNT,
-        cause: LineCause::Word,
-    };
-    let told = read_listing(rt.alloc(), &text).err();
-    equal(&rt, &told, &Some(ListError::Fault(fault)), &"the fault");
+    equal(&rt, &insns.len(), &2_097_152, &"instructions");
+    let mut listed = listing(rt.alloc(), &insns)?;
+    equal(&rt, &listed.len(), &35_651_584, &"the listing");
+    push_line(&mut listed, Insn::Exit)?;
+    let ends = listed.ends_with(b"\nlddw r9, 2097151\nexit\n");
+    holds(&rt, ends, &"the last lines");
     Ok(())
 }
