@@ -113,7 +113,12 @@ fn examples_are_written_by_both_tables_in_both_orders(rt: HostRuntime) -> Result
         equal(&rt, &big.len(), &little.len(), &bytes);
     }
     for big in [BIG_INT, ENUM] {
-        equal_bytes(&rt, written(rt.alloc(), Order::Big, big)?.as_slice(), big, &big);
+        equal_bytes(
+            &rt,
+            written(rt.alloc(), Order::Big, big)?.as_slice(),
+            big,
+            &big,
+        );
     }
     Ok(())
 }
