@@ -58,9 +58,9 @@ def check_each_read(paced, report):
     with report.group("each read fails"):
         for line, given, output in LINES:
             # insn-canon has written the instructions that came, of 8 bytes each
-            size = 8 if line.startswith("insn-canon") or line == "" else len(output) + 1
+            streams = line == "" or line.startswith("insn-canon")
             for number in range(1, len(given) + 2):
-                written = output[: (number - 1) // size * size]
+                written = output[: (number - 1) // 8 * 8] if streams else b""
                 ran = paced.run(line, given, 1, read=number)
                 report.expect(f"{line}, read {number}", ran, Ran(3, written, b"read failed\n"))
             ran = paced.run(line, given, 1, read=len(given) + 2)

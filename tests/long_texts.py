@@ -42,7 +42,7 @@ def controls(count):
 
 
 def letters_and_controls():
-    """The first piece is what stands before the name and four chunks of letters, 8,205 bytes, and the second takes more room than that."""
+    """The first piece is what stands before the name and four chunks of letters, 8,205 bytes; the second takes more room."""
     return typedefs([1], b"\0" + b"n" * 14_336 + b"\x01" * 2_048 + b"\0", [b"n" * 14_336 + b"\\x01" * 2_048])
 
 

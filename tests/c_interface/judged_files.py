@@ -2,7 +2,7 @@
 
     judged_files.py LIBRARY
 
-For each file: the first fault, or the canonical bytes in both orders and whether the file means the same as the one it was made of.
+For each file: the first fault, or the canonical bytes in both orders and whether it means the same as the file it was made of.
 """
 
 import itertools
@@ -32,7 +32,7 @@ TEXTS = [
 
 
 def judged(file):
-    """What the second judge answers: the status, the number of the cause and its place; and the canonical bytes in both orders."""
+    """What the second judge answers: the status, the cause's number and its place; and the canonical bytes in both orders."""
     fault = second_judge.first_fault(file)
     if fault:
         place, cause = fault
@@ -143,8 +143,8 @@ def check_shared_tails(report, library):
 
 
 def words_with(names):
-    """A struct with two members and an enum with a value: the first name is the struct's and the value's, the last that of a member and
-    the enum's."""
+    """A struct with two members and an enum with a value. The first name is the struct's and the value's, and the last that of a
+    member and the enum's."""
     first, second, third = names
     return [first, 0x0400_0002, 0, second, 0, 0, third, 0, 0, third, 0x0600_0001, 4, first, 7]
 
