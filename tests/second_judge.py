@@ -356,8 +356,3 @@ def canonical(file, mark="<"):
     size = 4 * len(words)
     header = struct.pack(f"{mark}HBBIIIII", 0xEB9F, 1, 0, 24, 0, size, size, len(table))
     return header + struct.pack(f"{mark}{len(words)}I", *words) + table
-
-
-def count(file):
-    """How many types a file without a fault has."""
-    return len(framed(sections_of(file))[0])
