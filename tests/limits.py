@@ -80,7 +80,7 @@ def check_largest_btf_files(program, report):
         check_limit(program, report, f"btf-same --split {len(file)}", file + file, b"same\n")
 
 
-def typedefs(count, letters):
+def names_in_one_string(count, letters):
     """So many typedefs of void, named from each of the first letters of one string on, which are their own canonical bytes."""
     types = b"".join(struct.pack("<III", name, 0x0800_0000, 0) for name in range(1, count + 1))
     return btf_header(24, len(types), letters + 2) + types + b"\0" + b"a" * letters + b"\0"
@@ -89,7 +89,7 @@ def typedefs(count, letters):
 def check_longest_names(program, report):
     with report.group("names that share their bytes, of 16 MB or thousands of them"):
         for count, letters in [(1, STRINGS - 2), (2, STRINGS - 2), (5791, 5791), (5792, 5792)]:
-            file = typedefs(count, letters)
+            file = names_in_one_string(count, letters)
             report.expect(f"btf-canon of {count}", run(program, "btf-canon", file), Ran(0, file, b""))
             checked = run(program, "btf-check", file)
             report.expect(f"btf-check of {count}", checked, Ran(0, f"ok {count} types\n".encode(), b""))
