@@ -19,7 +19,6 @@ from program import SECONDS, Program, Ran, Report
 
 READ_FAILED = Ran(3, b"", b"read failed\n")
 WRITE_FAILED = Ran(3, b"", b"write failed\n")
-TOO_LONG = Ran(1, b"", b"too long\n")
 
 # A line of each command that writes something, with its input.
 EACH_COMMAND = [
