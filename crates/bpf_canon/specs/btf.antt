@@ -1,3 +1,19 @@
 -- How the engine on BTF and the comparison of BTF files end.
 pub mod RunBtf
 pub mod SameBtf
+pub mod CanonicalBtf
+pub mod BtfLaws
+pub mod Interned
+pub mod NameOffsets
+pub mod KeptFrames
+pub mod BtfWords
+pub mod FirstUses
+pub mod NamesByPlace
+pub mod TailKeys
+pub mod Tails
+pub mod UsedOffsets
+pub mod OffsetMarks
+pub mod Ranks
+pub mod Longest
+pub mod InHost
+pub mod HostLayout

@@ -6,9 +6,11 @@ mod device;
 mod insn;
 
 pub use bpf_insn::{InsnError, Order};
+pub use btf::btf_laws;
 pub use btf::btf_run::{BTF_LIMIT, run_btf};
 pub use btf::btf_same::same_btf;
-pub use btf_canon::{btf_laws, canon_btf, write_btf};
+pub use btf::btf_write::write_btf;
+pub use btf::canonical_file::{canon_btf, canonical_in};
 pub use device::DeviceFailed;
 pub use device::memory::{MemSink, MemSource};
 pub use device::sink::{ByteSink, put_all};

@@ -14,8 +14,8 @@ use Rattle.clap.specs.declared.parser.matches.ArgMatches.{ArgMatches}
 use Rattle.clap.specs.declared.error.Error.{Error}
 use Rattle.clap.specs.declared.error.kind.ErrorKind.{ErrorKind}
 use Rattle.clap.specs.declared.error.kind.ErrorKind.TheVariants.{OutOfMemory}
-use Rattle.bpf_jobs.specs.declared.verb.Verb.{Verb}
-use Rattle.bpf_jobs.specs.Verbs.{IsVerbName, all_verbs}
+use Rattle.bpfcanon.specs.declared.verb.Verb.{Verb}
+use Rattle.bpfcanon.specs.Verbs.{IsVerbName, all_verbs}
 use Rattle.bpfcanon.specs.Options.{Names, program, shape_for}
 use Rattle.bpfcanon.specs.Line.{number_named}
 

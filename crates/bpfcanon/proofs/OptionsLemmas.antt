@@ -10,9 +10,9 @@ use Rattle.clap.specs.Simple.{new_shape}
 use Rattle.clap.specs.declared.builder.arg.Arg.{Arg}
 use Rattle.clap.specs.declared.builder.command.Command.{Command}
 use Rattle.clap.specs.declared.builder.command.Command.TheViews.{out-Command}
-use Rattle.bpf_jobs.specs.declared.verb.Verb.{Verb}
-use Rattle.bpf_jobs.specs.declared.verb.Setting.{Setting}
-use Rattle.bpf_jobs.specs.Verbs.{all_settings, all_verbs, name_of, takes_setting}
+use Rattle.bpfcanon.specs.declared.verb.Verb.{Verb}
+use Rattle.bpfcanon.specs.declared.verb.Setting.{Setting}
+use Rattle.bpfcanon.specs.Verbs.{all_settings, all_verbs, name_of, takes_setting}
 use Rattle.bpfcanon.specs.Options.{Names, bare_program, option_of, program, shape_for}
 
 -- those of the options that the command takes

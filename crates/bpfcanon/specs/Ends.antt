@@ -1,10 +1,10 @@
 -- The ways in which a command line ends.
 use Rattle.std.specs.Prelude.{List}
 use Rattle.clap.specs.Words.{Text}
-use Rattle.bpf_jobs.specs.declared.job.Job.{Job}
-use Rattle.bpf_jobs.specs.declared.outcome.Outcome.{Outcome}
-use Rattle.bpf_jobs.specs.declared.outcome.Outcome.TheVariants.{Usage, Memory}
-use Rattle.bpf_jobs.specs.JobEnds.{Change, EndsJob, IsUnused}
+use Rattle.bpfcanon.specs.declared.job.Job.{Job}
+use Rattle.bpfcanon.specs.declared.outcome.Outcome.{Outcome}
+use Rattle.bpfcanon.specs.declared.outcome.Outcome.TheVariants.{Usage, Memory}
+use Rattle.bpfcanon.specs.JobEnds.{Change, EndsJob, IsUnused}
 use Rattle.bpfcanon.specs.Line.{Asks, IsRefused}
 
 -- how a command on these words ends

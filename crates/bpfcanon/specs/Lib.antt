@@ -1,3 +1,9 @@
 pub mod Options
 pub mod Line
 pub mod Ends
+pub mod Verbs
+pub mod Outcome
+pub mod BtfReply
+pub mod Reply
+pub mod JobEnds
+pub mod Pieces

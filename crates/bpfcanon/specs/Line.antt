@@ -7,12 +7,12 @@ use Rattle.clap.specs.Words.{Row, Text, first_of, one_of, subcommand_of, takes, 
 use Rattle.clap.specs.ValueTests.{is_unsigned_in}
 use Rattle.bpf_words.specs.declared.Order.{Order}
 use Rattle.bpf_words.specs.declared.Order.TheVariants.{Little, Big}
-use Rattle.bpf_jobs.specs.declared.job.Job.{Job}
-use Rattle.bpf_jobs.specs.declared.verb.Verb.{Verb}
-use Rattle.bpf_jobs.specs.declared.verb.Verb.TheVariants.{InsnCanon}
-use Rattle.bpf_jobs.specs.declared.verb.Setting.{Setting}
-use Rattle.bpf_jobs.specs.declared.verb.Setting.TheVariants as setting
-use Rattle.bpf_jobs.specs.Verbs.{name_of, setting_name, takes_setting}
+use Rattle.bpfcanon.specs.declared.job.Job.{Job}
+use Rattle.bpfcanon.specs.declared.verb.Verb.{Verb}
+use Rattle.bpfcanon.specs.declared.verb.Verb.TheVariants.{InsnCanon}
+use Rattle.bpfcanon.specs.declared.verb.Setting.{Setting}
+use Rattle.bpfcanon.specs.declared.verb.Setting.TheVariants as setting
+use Rattle.bpfcanon.specs.Verbs.{name_of, setting_name, takes_setting}
 use Rattle.bpfcanon.specs.Options.{IsOrderNames, Names, program}
 
 -- the order of this name

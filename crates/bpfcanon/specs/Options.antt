@@ -5,10 +5,10 @@ use Rattle.clap.specs.Words.{App, Rule, Shape, Text, new_rule}
 use Rattle.clap.specs.Simple.{new_shape}
 use Rattle.clap.specs.Walk.{texts}
 use Rattle.clap.specs.declared.builder.value_parser.ValueParser.TheVariants as parser
-use Rattle.bpf_jobs.specs.declared.verb.Verb.{Verb}
-use Rattle.bpf_jobs.specs.declared.verb.Setting.{Setting}
-use Rattle.bpf_jobs.specs.declared.verb.Setting.TheVariants.{Order, To, Other, Split}
-use Rattle.bpf_jobs.specs.Verbs.{all_verbs, name_of, setting_name, settings_of}
+use Rattle.bpfcanon.specs.declared.verb.Verb.{Verb}
+use Rattle.bpfcanon.specs.declared.verb.Setting.{Setting}
+use Rattle.bpfcanon.specs.declared.verb.Setting.TheVariants.{Order, To, Other, Split}
+use Rattle.bpfcanon.specs.Verbs.{all_verbs, name_of, setting_name, settings_of}
 
 -- clap keeps the words that an option takes behind a reference
 abbrev pub Names : Type 0

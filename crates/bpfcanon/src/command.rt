@@ -1,14 +1,15 @@
 //! Runs a command line.
 
 ghost use Rattle.std.specs.Prelude.{◌≡◌, ◌<◌, length, map, string_bytes};
-ghost use Rattle.bpf_jobs.specs.declared.outcome.Outcome.{Outcome};
-ghost use Rattle.bpf_jobs.specs.JobEnds.{change};
-ghost use Rattle.bpf_jobs.specs.Outcome.{Tells, line_of, status_of};
+ghost use Rattle.bpfcanon.specs.declared.outcome.Outcome.{Outcome};
+ghost use Rattle.bpfcanon.specs.JobEnds.{change};
+ghost use Rattle.bpfcanon.specs.Outcome.{Tells, line_of, status_of};
 ghost use Rattle.bpfcanon.specs.Ends.{Ends};
 
 use crate::command_line::{LineError, parse_line};
+use crate::job_run::run_job;
+use crate::outcome::{Outcome, put_line};
 use bpf_canon::{ByteSink, ByteSource};
-use bpf_jobs::{Outcome, put_line, run_job};
 use std::alloc::Global;
 
 /// Runs a command line over a source and an output sink.

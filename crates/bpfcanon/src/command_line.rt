@@ -2,12 +2,13 @@
 
 ghost use Rattle.std.specs.Prelude.{◌≡◌, ◌<◌, length, map, string_bytes, IfOk, IfSome, IsErrOf};
 ghost use Rattle.clap.specs.Words.{subcommand_rows_of, rows_of, found_of};
-ghost use Rattle.bpf_jobs.specs.Verbs.{IsVerbName};
+ghost use Rattle.bpfcanon.specs.Verbs.{IsVerbName};
 ghost use Rattle.bpfcanon.specs.Line as spec;
 ghost use Rattle.bpfcanon.specs.Line.{Asks, IsRefused, IsJobOf};
 
+use crate::job::Job;
 use crate::options::{OrderNames, program_command};
-use bpf_jobs::{Job, Setting, Verb};
+use crate::verb::{Setting, Verb};
 use bpf_words::Order;
 use clap::ArgMatches;
 use clap::error::ErrorKind;

@@ -3,17 +3,24 @@
 
 ghost use Rattle.std.specs.Prelude.{◌≡◌, ◌<◌, ◌++◌, codes, length, map, string_bytes};
 ghost use Rattle.std.specs.Process.{exit_status};
-ghost use Rattle.bpf_jobs.specs.declared.outcome.Outcome.{Outcome};
-ghost use Rattle.bpf_jobs.specs.JobEnds.{change};
-ghost use Rattle.bpf_jobs.specs.Outcome.{Tells, line_of, newline, status_of};
+ghost use Rattle.bpfcanon.specs.declared.outcome.Outcome.{Outcome};
+ghost use Rattle.bpfcanon.specs.JobEnds.{change};
+ghost use Rattle.bpfcanon.specs.Outcome.{Tells, line_of, newline, status_of};
 ghost use Rattle.bpfcanon.specs.Ends.{Ends};
 
 mod command;
 mod command_line;
+mod engines;
+mod job;
+mod job_run;
 mod options;
+mod outcome;
+mod pieces;
+mod reply;
+mod verb;
 
+use crate::outcome::put_text;
 use bpf_canon::{ByteSink, ByteSource, ReaderSource, WriterSink};
-use bpf_jobs::put_text;
 use std::alloc::Global;
 use std::env;
 use std::process::ExitCode;

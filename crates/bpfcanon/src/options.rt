@@ -4,10 +4,10 @@ ghost use Rattle.std.specs.Prelude.{◌≡◌, IfOk, false};
 ghost use Rattle.clap.specs.Words.{app_of, new_app, rule_of};
 ghost use Rattle.clap.specs.declared.builder.command.Command.TheViews.{out-Command};
 ghost use Rattle.clap.specs.Simple.{shape_of};
-ghost use Rattle.bpf_jobs.specs.Verbs.{name_of};
+ghost use Rattle.bpfcanon.specs.Verbs.{name_of};
 ghost use Rattle.bpfcanon.specs.Options.{IsOrderNames, bare_program, option_of, order_option, program, shape_for, split_option};
 
-use bpf_jobs::{SETTINGS, Setting, VERBS, Verb};
+use crate::verb::{SETTINGS, Setting, VERBS, Verb};
 use clap::{Arg, Command, value_parser};
 use std::alloc::{AllocError, Global};
 

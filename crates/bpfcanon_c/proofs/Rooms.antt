@@ -5,8 +5,8 @@ use Rattle.bpf_insn.specs.declared.insn.Insn.{Insn}
 use Rattle.bpf_insn.specs.Spelling.{InsnFile, file_of}
 use Rattle.btf_types.specs.Values.{TypeRecord}
 use Rattle.btf_types.specs.Denotes.{Denotes}
-use Rattle.btf_canon.specs.CanonicalBtf.{canonical}
-use Rattle.btf_canon.proofs.CanonicalFiles.{canonical_shortest}
+use Rattle.bpf_canon.specs.btf.CanonicalBtf.{canonical}
+use Rattle.bpf_canon.proofs.BtfLemmas.CanonicalFiles.{canonical_shortest}
 use Rattle.bpf_canon.proofs.InsnLemmas.FrontLaws.{length-file_same}
 use Rattle.bpfcanon_c.specs.declared.answer.Ending.{Ending}
 use Rattle.bpfcanon_c.specs.declared.answer.Ending.TheVariants.{Written, Counted, Same, Different, First, Second, Memory, Room}

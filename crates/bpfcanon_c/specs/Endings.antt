@@ -6,7 +6,7 @@ use Rattle.bpf_insn.specs.declared.insn.Insn.{Insn}
 use Rattle.bpf_insn.specs.Spelling.{InsnFile, file_of}
 use Rattle.bpf_insn.specs.Faults.{IsInsnFault}
 use Rattle.bpf_canon.specs.insn.Canonical.{Compares}
-use Rattle.btf_canon.specs.CanonicalBtf.{canonical}
+use Rattle.bpf_canon.specs.btf.CanonicalBtf.{canonical}
 use Rattle.bpf_canon.specs.btf.SameBtf.{ComparesBtf}
 use Rattle.btf_raw.specs.declared.cause.BtfFault.{BtfFault}
 use Rattle.btf_types.specs.Values.{TypeRecord}

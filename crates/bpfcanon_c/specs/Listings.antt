@@ -5,11 +5,11 @@ use Rattle.bpf_insn.specs.declared.fault.SlotFault.{SlotFault}
 use Rattle.bpf_insn.specs.declared.insn.Insn.{Insn}
 use Rattle.bpf_insn.specs.Spelling.{InsnFile, file_of}
 use Rattle.bpf_insn.specs.Faults.{IsInsnFault}
-use Rattle.bpf_text.specs.declared.fault.LineCause.{LineCause}
-use Rattle.bpf_text.specs.declared.fault.LineCause.TheVariants as line
-use Rattle.bpf_text.specs.declared.fault.LineFault.{LineFault}
-use Rattle.bpf_text.specs.Lines.{listing_of}
-use Rattle.bpf_text.specs.Listing.{Lists, IsListFault}
+use Rattle.bpf_text.specs.declared.insn.fault.LineCause.{LineCause}
+use Rattle.bpf_text.specs.declared.insn.fault.LineCause.TheVariants as line
+use Rattle.bpf_text.specs.declared.insn.fault.LineFault.{LineFault}
+use Rattle.bpf_text.specs.insn.Lines.{listing_of}
+use Rattle.bpf_text.specs.insn.Listing.{Lists, IsListFault}
 use Rattle.bpfcanon_c.specs.declared.answer.Answer.{Answer}
 use Rattle.bpfcanon_c.specs.declared.answer.FaultCode.{FaultCode}
 use Rattle.bpfcanon_c.specs.declared.answer.Ending.{Ending}

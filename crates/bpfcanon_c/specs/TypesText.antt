@@ -4,7 +4,7 @@ use Rattle.btf_raw.specs.declared.cause.BtfFault.{BtfFault}
 use Rattle.btf_types.specs.Values.{TypeRecord}
 use Rattle.btf_types.specs.Denotes.{Denotes}
 use Rattle.btf_types.specs.Faults.{IsFirst}
-use Rattle.btf_text.specs.BtfText.{text_of}
+use Rattle.bpf_text.specs.btf.BtfText.{text_of}
 use Rattle.bpfcanon_c.specs.declared.answer.Answer.{Answer}
 use Rattle.bpfcanon_c.specs.declared.answer.Ending.{Ending}
 use Rattle.bpfcanon_c.specs.declared.answer.Ending.TheVariants.{Written, First, Memory, Room}

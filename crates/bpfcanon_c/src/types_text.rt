@@ -2,7 +2,7 @@
 ghost use Rattle.bpfcanon_c.specs.TypesText.{EndsBtfShow, AnswersBtfShow};
 
 use crate::answer::{Answer, Ending, btf_code, put, report};
-use btf_text::show_btf;
+use bpf_text::show_btf;
 use btf_types::{BtfError, BtfView};
 use std::alloc::Global;
 

@@ -1,9 +1,9 @@
 //! A listing in the form in which listings are written.
 ghost use Rattle.std.specs.Prelude.{◌≡◌, List, MatchResult};
 ghost use Rattle.bpf_insn.specs.declared.insn.Insn.{Insn};
-ghost use Rattle.bpf_text.specs.Lines.{listing_of};
-ghost use Rattle.bpf_text.specs.Listing.{Lists};
-ghost use Rattle.bpf_text.specs.Reading.{Refuses};
+ghost use Rattle.bpf_text.specs.insn.Lines.{listing_of};
+ghost use Rattle.bpf_text.specs.insn.Listing.{Lists};
+ghost use Rattle.bpf_text.specs.insn.Reading.{Refuses};
 
 use bpf_text::{ListError, listing, read_listing};
 use std::alloc::Allocator;

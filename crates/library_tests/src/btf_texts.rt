@@ -3,7 +3,7 @@
 use crate::arena::Tally;
 use crate::compiled_types::FLOW_TABLE_LITTLE;
 use crate::expect::equal_bytes;
-use btf_text::show_btf;
+use bpf_text::show_btf;
 use btf_types::{Btf, BtfView};
 use std::alloc::Global;
 use std::test::Fail;

@@ -9,7 +9,7 @@ ghost use Rattle.btf_types.specs.Denotes.{Denotes};
 ghost use Rattle.btf_types.specs.Values.{TypeRecord, item_value};
 ghost use Rattle.btf_types.specs.tables.Tables.{Fails};
 ghost use Rattle.btf_types.specs.tables.TableWords.{record_at};
-ghost use Rattle.btf_canon.specs.CanonicalBtf.{canonical};
+ghost use Rattle.bpf_canon.specs.btf.CanonicalBtf.{canonical};
 ghost use Rattle.library_tests.specs.MemberLines.{member_line, member_lines};
 ghost use Rattle.library_tests.specs.Streams.{Refuses};
 ghost use Rattle.library_tests.specs.declared.library_example.StreamError.TheVariants.{Insns};

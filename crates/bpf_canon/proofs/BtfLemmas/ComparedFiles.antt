@@ -3,8 +3,8 @@ use Rattle.std.proofs.Common.{◌≡◌, ◌↔◌, ◌∙◌, ℕ, Bool, List, 
 use Rattle.bpf_words.specs.declared.Order.TheVariants.{Little}
 use Rattle.btf_types.specs.Values.{TypeRecord}
 use Rattle.btf_types.specs.Denotes.{Denotes}
-use Rattle.btf_canon.specs.CanonicalBtf.{canonical}
-use Rattle.btf_canon.proofs.CanonicalFiles.{canonical_apart}
+use Rattle.bpf_canon.specs.btf.CanonicalBtf.{canonical}
+use Rattle.bpf_canon.proofs.BtfLemmas.CanonicalFiles.{canonical_apart}
 use Rattle.bpf_canon.specs.btf.SameBtf.{ComparesBtf}
 
 -- two files whose canonical bytes are compared

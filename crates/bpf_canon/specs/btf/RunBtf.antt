@@ -6,7 +6,7 @@ use Rattle.btf_raw.specs.declared.cause.BtfFault.{BtfFault}
 use Rattle.btf_types.specs.Values.{TypeRecord}
 use Rattle.btf_types.specs.Denotes.{Denotes}
 use Rattle.btf_types.specs.Faults.{IsFirst}
-use Rattle.btf_canon.specs.CanonicalBtf.{canonical}
+use Rattle.bpf_canon.specs.btf.CanonicalBtf.{canonical}
 use Rattle.bpf_canon.specs.device.Reads.{read_room}
 use Rattle.bpf_canon.specs.insn.Run.{Devices}
 use Rattle.bpf_canon.specs.declared.insn.run.RunCause.{RunCause}

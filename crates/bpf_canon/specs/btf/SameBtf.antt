@@ -5,7 +5,7 @@ use Rattle.btf_raw.specs.declared.cause.BtfFault.{BtfFault}
 use Rattle.btf_types.specs.Values.{TypeRecord}
 use Rattle.btf_types.specs.Denotes.{Denotes}
 use Rattle.btf_types.specs.Faults.{IsFirst}
-use Rattle.btf_canon.specs.CanonicalBtf.{canonical}
+use Rattle.bpf_canon.specs.btf.CanonicalBtf.{canonical}
 use Rattle.bpf_canon.specs.declared.insn.same.SideError.{SideError}
 use Rattle.bpf_canon.specs.declared.insn.same.SideError.TheVariants as side
 

@@ -3,11 +3,11 @@ ghost use Rattle.std.specs.Prelude.{◌≡◌, ◌<◌, ◌+◌, IfOk, IfErr, On
 ghost use Rattle.bpf_canon.specs.insn.Run.{devices, counts_read, counts_write};
 ghost use Rattle.bpf_canon.specs.btf.RunBtf.{RanBtf, StopsBtf};
 
+use crate::btf::canonical_file::canonical_in;
 use crate::device::sink::ByteSink;
 use crate::device::source::{ByteSource, ReadError, read_all};
 use crate::insn::run::{RunCause, RunError, put_whole, stopped};
 use bpf_words::Order;
-use btf_canon::canonical_in;
 use btf_raw::BtfFault;
 use btf_types::BtfError;
 use std::alloc::Allocator;

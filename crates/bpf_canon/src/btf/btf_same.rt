@@ -2,9 +2,9 @@
 ghost use Rattle.std.specs.Prelude.{IfOk, IfErr};
 ghost use Rattle.bpf_canon.specs.btf.SameBtf.{ComparesBtf, NamesBtfSide};
 
+use crate::btf::canonical_file::canonical_in;
 use crate::insn::same::SideError;
 use bpf_words::Order;
-use btf_canon::canonical_in;
 use btf_raw::BtfFault;
 use btf_types::{BtfError, BtfView};
 use std::alloc::Allocator;

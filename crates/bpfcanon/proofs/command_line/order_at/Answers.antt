@@ -1,7 +1,7 @@
 use Rattle.std.proofs.Common.{rules, ◌≡◌, ◌∙◌, Some, None, Option, sym}
 use Rattle.clap.specs.Words.{Text, found_of, first_of, rows_of}
 use Rattle.clap.proofs.WalkLemmas.{first_value-rows}
-use Rattle.bpf_jobs.specs.Verbs.{setting_name}
+use Rattle.bpfcanon.specs.Verbs.{setting_name}
 use Rattle.bpfcanon.proofs.command_line.order_at.Goals as goal
 
 pub returns-in-Some : goal.returns-in-Some

@@ -1,6 +1,6 @@
 use Rattle.std.proofs.Common.{◌≡◌, take}
 use Rattle.clap.specs.Words.{app_of}
-use Rattle.bpf_jobs.specs.Verbs.{all_verbs}
+use Rattle.bpfcanon.specs.Verbs.{all_verbs}
 use Rattle.bpfcanon.proofs.OptionsLemmas.{program_with}
 use Rattle.bpfcanon.proofs.options.program_command.Given as goal
 

@@ -1,0 +1,216 @@
+-- The canonical words of good records spell them, with the string table as strings.
+use Rattle.std.proofs.Common.{◌≡◌, ◌≢◌, ℕ, zero, suc, ◌+◌, ◌*◌, ◌/◌, ◌%◌, ◌^◌, ◌<◌, ◌≤◌, Bool, true, false, Option, Some, None, List, [], ◌∷◌, ◌++◌, length, map, refl, ap, inl, inr, lit<, arith}
+use Rattle.std.specs.Prelude.{IsTrue, IfSome, not, ◌==◌}
+use Rattle.std.specs.List.{All, AllZip, concat, flat_map, list_any}
+use Rattle.std.proofs.lemmas.Bool.{cases_eq, ne_eqb, or_left, or_right, both_ways}
+use Rattle.std.proofs.lemmas.List.Elements.{All-nil, All-cons, All-head, All-tail, All-append}
+use Rattle.btf_raw.specs.Header.{STRINGS_LIMIT}
+use Rattle.btf_raw.specs.Names.{NameAt}
+use Rattle.btf_raw.proofs.Texts.{TextAt-inside}
+use Rattle.btf_raw.proofs.Frames.{IsWords}
+use Rattle.btf_types.specs.declared.values.Encoding.{Encoding}
+use Rattle.btf_types.specs.declared.values.Encoding.TheVariants.{Plain, Signed, Char, Bool as Boolean}
+use Rattle.btf_types.specs.declared.values.Linkage.{Linkage}
+use Rattle.btf_types.specs.declared.values.Linkage.TheVariants.{LStatic, LGlobal, LExtern}
+use Rattle.btf_types.specs.Values.{TypeHead, KInt, KPtr, KArray, KStruct, KUnion, KEnum, KFuncProto, KVar, KDatasec, KDeclTag, KEnum64, TypeItem, Member, EnumValue, Value64, Param, Entry, TypeRecord}
+use Rattle.btf_types.specs.Names.{IsName, head_name, item_name, record_names, names}
+use Rattle.btf_types.specs.strings.StringTable.{string_table, place_of}
+use Rattle.btf_types.specs.Spelling.{kind_number, head_third, bit, FlagSpells, linkage_number, encoding_number, component_word, record_vlen, info, head_tail, MemberWord, ItemSpells, Spells}
+use Rattle.btf_types.specs.judge.Checks.{TypeFacts}
+use Rattle.btf_types.specs.Good.{HeadInRange, ItemInRange, ItemOf, has_width, has_bit_fields, MemberIsGood, IsGoodRecord, IsGood, facts}
+use Rattle.btf_types.proofs.Spelled.{kind_below, vlen_below, flag_below}
+use Rattle.btf_types.proofs.StringLemmas.TableLaws.{shared_places}
+use Rattle.bpf_canon.specs.btf.CanonicalBtf.{canonical_flag, item_words, record_words, canonical_frames}
+
+-- ---- lists
+
+All-front : {X : Type 0} (P : X → Type 0) (xs ys : List X) → All P (xs ++ ys) → All P xs
+All-front P [] ys all = All-nil P
+All-front P (x ∷ xs) ys all = All-cons P x xs (All-head P x (xs ++ ys) all) (All-front P xs ys (All-tail P x (xs ++ ys) all))
+
+All-back : {X : Type 0} (P : X → Type 0) (xs ys : List X) → All P (xs ++ ys) → All P ys
+All-back P [] ys all = all
+All-back P (x ∷ xs) ys all = All-back P xs ys (All-tail P x (xs ++ ys) all)
+
+IsWords-nil : IsWords []
+IsWords-nil i = lit< tt
+
+IsWords-cons : (w : ℕ) (ws : List ℕ) → w < 2 ^ 32 → IsWords ws → IsWords (w ∷ ws)
+IsWords-cons w ws h all zero = h
+IsWords-cons w ws h all (suc i) = all i
+
+IsWords-append : (xs ys : List ℕ) → IsWords xs → IsWords ys → IsWords (xs ++ ys)
+IsWords-append [] ys all more = more
+IsWords-append (x ∷ xs) ys all more = IsWords-cons x (xs ++ ys) (all 0) (IsWords-append xs ys (λ i. all (suc i)) more)
+
+fits_one : (a : ℕ) → a < 2 ^ 32 → IsWords (a ∷ [])
+fits_one a ha = IsWords-cons a [] ha IsWords-nil
+
+fits_two : (a b : ℕ) → a < 2 ^ 32 → b < 2 ^ 32 → IsWords (a ∷ b ∷ [])
+fits_two a b ha hb = IsWords-cons a (b ∷ []) ha (fits_one b hb)
+
+fits_three : (a b c : ℕ) → a < 2 ^ 32 → b < 2 ^ 32 → c < 2 ^ 32 → IsWords (a ∷ b ∷ c ∷ [])
+fits_three a b c ha hb hc = IsWords-cons a (b ∷ c ∷ []) ha (fits_two b c hb hc)
+
+concat-map : {X : Type 0} (f : X → List ℕ) (xs : List X) → concat (map f xs) ≡ flat_map f xs
+concat-map f [] = refl
+concat-map f (x ∷ xs) = ap (λ (t : List ℕ). f x ++ t) (concat-map f xs)
+
+-- ---- the words of a head
+
+flag_spells : (h : TypeHead) (bit_fields : Bool) → FlagSpells h (canonical_flag h bit_fields)
+flag_spells (KStruct name size) true = lit< tt
+flag_spells (KStruct name size) false = lit< tt
+flag_spells (KUnion name size) true = lit< tt
+flag_spells (KUnion name size) false = lit< tt
+flag_spells h bit_fields = refl
+
+encoding_below : (e : Encoding) → encoding_number e < 16
+encoding_below Plain = lit< tt
+encoding_below Signed = lit< tt
+encoding_below Char = lit< tt
+encoding_below Boolean = lit< tt
+
+linkage_below : (l : Linkage) → linkage_number l < 2 ^ 32
+linkage_below LStatic = lit< tt
+linkage_below LGlobal = lit< tt
+linkage_below LExtern = lit< tt
+
+component_below : (c : Option ℕ) → IfSome c (λ n. n < 2 ^ 16) → component_word c < 2 ^ 32
+component_below None h = lit< tt
+component_below (Some n) h = omega (arith, h)
+
+pub third_below : (h : TypeHead) → HeadInRange h → head_third h < 2 ^ 32
+third_below (KInt name size encoding offset bits) range = range.0
+third_below (KArray target index count) range = lit< tt
+third_below (KDeclTag name flag target component) range = range.0
+third_below h range = range
+
+tail_fits : (h : TypeHead) → HeadInRange h → IsWords (head_tail h)
+tail_fits (KInt name size encoding offset bits) range =
+    fits_one (bits + 2 ^ 16 * offset + 2 ^ 24 * encoding_number encoding) (omega (arith, range.1, range.2, encoding_below encoding))
+tail_fits (KArray target index count) range = fits_three target index count range.0 range.1 range.2
+tail_fits (KVar name target linkage) range = fits_one (linkage_number linkage) (linkage_below linkage)
+tail_fits (KDeclTag name flag target component) range = fits_one (component_word component) (component_below component range.1)
+tail_fits h range = IsWords-nil
+
+-- ---- the words of an item
+
+not_zero : (w : ℕ) → w ≢ 0 → not (w == 0) ≡ true
+not_zero w some = ap not (ne_eqb w 0 some)
+
+-- a member's offset word, where the record has bit-fields if this width isn't 0
+pub member_word : (b : Bool) (o w : ℕ) → (not (w == 0) ≡ true → b ≡ true) → (IsTrue b → o < 2 ^ 24) → MemberWord (bit b) o w (o + 2 ^ 24 * w)
+member_word true o w some low = inr (refl, low refl, refl)
+member_word false o w some low = elim (cases_eq w 0) [
+  | inl none ↦ inl (refl, none, omega (arith, none))
+  | inr other ↦ absurd (both_ways false refl (some (not_zero w other)))
+]
+
+-- the word fits
+pub member_fits : (flag o w word : ℕ) → MemberWord flag o w word → o < 2 ^ 32 → w < 2 ^ 8 → word < 2 ^ 32
+member_fits flag o w word (inl plain) wide narrow = omega (arith, plain.2, wide)
+member_fits flag o w word (inr field) wide narrow = omega (arith, field.1, field.2, narrow)
+
+-- an item of a good record, whose name stands at its place
+pub record ItemStands (strings : List ℕ) (place : List ℕ → ℕ) (flag : ℕ) (x : TypeItem) : Type 0 where
+  pub spells : ItemSpells strings flag x (item_words place x)
+  pub fits : IsWords (item_words place x)
+
+module _ (strings : List ℕ) (place : List ℕ → ℕ) (types : List TypeFacts) (h : TypeHead) (size : ℕ) (b : Bool) (short : length strings ≤ STRINGS_LIMIT) where
+  place_below : (x : List ℕ) → NameAt strings (place x) x → place x < 2 ^ 32
+  place_below x at = omega (arith, short, TextAt-inside strings (place x) x at.text)
+
+  two_words : (name : List ℕ) (value : ℕ) → NameAt strings (place name) name → value < 2 ^ 32 → IsWords (place name ∷ value ∷ [])
+  two_words name value at low = fits_two (place name) value (place_below name at) low
+
+  member_stands : (n : List ℕ) (t o w : ℕ) → ItemInRange (Member n t o w) → MemberWord (bit b) o w (o + 2 ^ 24 * w) → NameAt strings (place n) n → ItemStands strings place (bit b) (Member n t o w)
+  member_stands n t o w range word at = record {
+    spells = (place n, o + 2 ^ 24 * w, at, word, refl);
+    fits = fits_three (place n) t (o + 2 ^ 24 * w) (place_below n at) range.0 (member_fits (bit b) o w (o + 2 ^ 24 * w) word range.1 range.2);
+  }
+
+item_stands : (strings : List ℕ) (place : List ℕ → ℕ) (types : List TypeFacts) (h : TypeHead) (size : ℕ) (b : Bool) → length strings ≤ STRINGS_LIMIT
+    → (x : TypeItem) → ItemOf h x → ItemInRange x → MemberIsGood types size b x → (has_width x ≡ true → b ≡ true) → NameAt strings (place (item_name x)) (item_name x)
+    → ItemStands strings place (canonical_flag h b) x
+item_stands strings place types (KStruct name size') size b short (Member n t o w) of range good some at =
+    member_stands strings place types (KStruct name size') size b short n t o w range (member_word b o w some (λ i. (good.1 i).0)) at
+item_stands strings place types (KUnion name size') size b short (Member n t o w) of range good some at =
+    member_stands strings place types (KUnion name size') size b short n t o w range (member_word b o w some (λ i. (good.1 i).0)) at
+item_stands strings place types (KEnum name signed size') size b short (EnumValue n v) of range good some at =
+    record { spells = (place n, at, refl); fits = two_words strings place types (KPtr 0) size b short n v at range }
+item_stands strings place types (KFuncProto target) size b short (Param n t) of range good some at =
+    record { spells = (place n, at, refl); fits = two_words strings place types (KPtr 0) size b short n t at range }
+item_stands strings place types (KDatasec name size') size b short (Entry a c d) of range good some at =
+    record { spells = refl; fits = fits_three a c d range.0 range.1 range.2 }
+item_stands strings place types (KEnum64 name signed size') size b short (Value64 n v) of range good some at =
+    record {
+      spells = (place n, at, refl);
+      fits = fits_three (place n) (v % 2 ^ 32) (v / 2 ^ 32) (place_below strings place types (KPtr 0) size b short n at) (omega arith) (omega (arith, range));
+    }
+item_stands strings place types h size b short x of range good some at = absurd of
+
+-- ---- the items of a record
+
+record ItemsStand (strings : List ℕ) (place : List ℕ → ℕ) (flag : ℕ) (xs : List TypeItem) : Type 0 where
+  spells : AllZip (ItemSpells strings flag) xs (map (item_words place) xs)
+  fits : IsWords (flat_map (item_words place) xs)
+
+items_stand : (strings : List ℕ) (place : List ℕ → ℕ) (types : List TypeFacts) (h : TypeHead) (size : ℕ) (b : Bool) → length strings ≤ STRINGS_LIMIT
+    → (xs : List TypeItem) → All (ItemOf h) xs → All ItemInRange xs → All (MemberIsGood types size b) xs → (list_any has_width xs ≡ true → b ≡ true)
+    → All (λ n. NameAt strings (place n) n) (map item_name xs) → ItemsStand strings place (canonical_flag h b) xs
+items_stand strings place types h size b short [] of range good some at = record { spells = tt; fits = IsWords-nil }
+items_stand strings place types h size b short (x ∷ xs) of range good some at =
+    let one = item_stands strings place types h size b short x (All-head (ItemOf h) x xs of) (All-head ItemInRange x xs range) (All-head (MemberIsGood types size b) x xs good)
+    (λ e. some (or_left _ _ e)) (All-head (λ n. NameAt strings (place n) n) (item_name x) (map item_name xs) at) in
+    let rest = items_stand strings place types h size b short xs (All-tail (ItemOf h) x xs of) (All-tail ItemInRange x xs range) (All-tail (MemberIsGood types size b) x xs good)
+    (λ e. some (or_right _ _ e)) (All-tail (λ n. NameAt strings (place n) n) (item_name x) (map item_name xs) at) in
+    record { spells = (one.spells, rest.spells); fits = IsWords-append (item_words place x) (flat_map (item_words place) xs) one.fits rest.fits }
+
+-- ---- records
+
+-- the words of a good record whose names stand at their places
+pub record_spells : (strings : List ℕ) (place : List ℕ → ℕ) (types : List TypeFacts) (r : TypeRecord) → length strings ≤ STRINGS_LIMIT → IsGoodRecord types r
+    → All (λ n. NameAt strings (place n) n) (record_names r) → Spells strings r (record_words place r)
+record_spells strings place types r short good at =
+    let name = All-head (λ n. NameAt strings (place n) n) (head_name r.head) (map item_name r.items) at in
+    let b = has_bit_fields r in
+    let flag = canonical_flag r.head b in
+    let items = items_stand strings place types r.head (head_third r.head) b short r.items good.items_of good.items_in_range good.members (λ e. e)
+    (All-tail (λ n. NameAt strings (place n) n) (head_name r.head) (map item_name r.items) at) in
+    let low = flag_below r.head flag (flag_spells r.head b) in
+    let word : info (kind_number r.head) (record_vlen r) flag < 2 ^ 32 = omega (arith, kind_below r.head, vlen_below r.head r.items good.items_fit, low) in
+    record {
+      name_offset = place (head_name r.head);
+      flag = flag;
+      item_words = map (item_words place) r.items;
+      name = name;
+      flag_spells = flag_spells r.head b;
+      items = items.spells;
+      whole = rw (concat-map (item_words place) r.items) refl;
+      fit =
+          IsWords-append
+          (place (head_name r.head) ∷ info (kind_number r.head) (record_vlen r) flag ∷ head_third r.head ∷ [])
+          (head_tail r.head ++ flat_map (item_words place) r.items)
+          (fits_three (place (head_name r.head)) (info (kind_number r.head) (record_vlen r) flag) (head_third r.head)
+          (place_below strings place types r.head 0 b short (head_name r.head) name) word (third_below r.head good.head_in_range))
+          (IsWords-append (head_tail r.head) (flat_map (item_words place) r.items) (tail_fits r.head good.head_in_range) items.fits);
+    }
+
+records_spell : (strings : List ℕ) (place : List ℕ → ℕ) (types : List TypeFacts) (v : List TypeRecord) → length strings ≤ STRINGS_LIMIT → All (IsGoodRecord types) v
+    → All (λ n. NameAt strings (place n) n) (flat_map record_names v) → AllZip (Spells strings) v (map (record_words place) v)
+records_spell strings place types [] short good at = tt
+records_spell strings place types (r ∷ v) short good at = (
+  record_spells strings place types r short (All-head (IsGoodRecord types) r v good) (All-front (λ n. NameAt strings (place n) n) (record_names r) (flat_map record_names v) at),
+  records_spell strings place types v short (All-tail (IsGoodRecord types) r v good) (All-back (λ n. NameAt strings (place n) n) (record_names r) (flat_map record_names v) at),
+)
+
+all_names : (types : List TypeFacts) (v : List TypeRecord) → All (IsGoodRecord types) v → All IsName (flat_map record_names v)
+all_names types [] good = All-nil IsName
+all_names types (r ∷ v) good =
+    All-append IsName (record_names r) (flat_map record_names v) (All-head (IsGoodRecord types) r v good).names (all_names types v (All-tail (IsGoodRecord types) r v good))
+
+-- so do those of a good list, with names at their places in its string table
+pub frames_spell : (v : List TypeRecord) → IsGood v → AllZip (Spells (string_table v)) v (canonical_frames v)
+frames_spell v good =
+    records_spell (string_table v) (place_of v) (facts v) v good.texts good.each (shared_places (names v) (all_names (facts v) v good.each))

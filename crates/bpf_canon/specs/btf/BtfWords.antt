@@ -1,0 +1,20 @@
+-- The words that the parts of a record are written in. Contracts of private functions cite it.
+use Rattle.std.specs.Prelude.{◌≡◌, ◌⊎◌, ℕ, ◌^◌, ◌<◌, Bool, List, ◌∷◌, ⊤}
+use Rattle.btf_types.specs.Values.{TypeHead, KFunc, TypeItem, Member}
+use Rattle.btf_types.specs.Names.{head_name}
+use Rattle.btf_types.specs.Spelling.{kind_number, head_third, linkage_number, head_tail, info}
+use Rattle.bpf_canon.specs.btf.CanonicalBtf.{canonical_flag}
+
+-- vlen of a head with so many items
+abbrev pub head_vlen : TypeHead → ℕ → ℕ
+head_vlen head count = elim head [ KFunc name linkage target ↦ linkage_number linkage | _ ↦ count ]
+
+-- the words of a record up to its items
+abbrev pub head_words : (List ℕ → ℕ) → TypeHead → ℕ → Bool → List ℕ
+head_words place head count bit_fields =
+    place (head_name head) ∷ info (kind_number head) (head_vlen head count) (canonical_flag head bit_fields) ∷ head_third head ∷ head_tail head
+
+-- a width and a bit offset have room in one word
+abbrev pub MemberFits : TypeItem → Type 0
+MemberFits (Member name target bit_offset width) = (width ≡ 0) ⊎ (bit_offset < 2 ^ 24)
+MemberFits _ = ⊤

@@ -1,0 +1,32 @@
+-- The frames of the sections that a table keeps, and the records that they read as. Contracts of private functions cite it.
+use Rattle.std.specs.Prelude.{ℕ, List, ◌++◌}
+use Rattle.std.specs.List.{flat_map}
+use Rattle.btf_types.specs.declared.tables.table.FileSections.{FileSections}
+use Rattle.btf_types.specs.Values.{TypeRecord}
+use Rattle.btf_types.specs.Spelling.{kind_number, head_tail, record_vlen, info}
+use Rattle.btf_types.specs.Good.{has_bit_fields}
+use Rattle.btf_types.specs.Reading.{frame_at, record_of}
+use Rattle.btf_types.specs.tables.PlaceWords.{StandsAt}
+use Rattle.bpf_canon.specs.btf.CanonicalBtf.{canonical_flag, item_words}
+
+-- the frame at a place, and its record
+abbrev pub frame_in : FileSections → ℕ → List ℕ
+frame_in s pos = frame_at s.order s.types.now pos
+
+abbrev pub record_in : FileSections → ℕ → TypeRecord
+record_in s pos = record_of s.strings.now (frame_in s pos)
+
+-- a record stands at this place
+abbrev pub HasRecord : FileSections → ℕ → Type 0
+HasRecord s pos = StandsAt s.order s.types.now s.strings.now pos
+
+-- info of a record, with its canonical kind_flag
+abbrev pub record_info : TypeRecord → ℕ
+record_info r = info (kind_number r.head) (record_vlen r) (canonical_flag r.head (has_bit_fields r))
+
+-- the words of a record's items, and all behind the third
+abbrev pub record_items : (List ℕ → ℕ) → TypeRecord → List ℕ
+record_items place r = flat_map (item_words place) r.items
+
+abbrev pub record_tail : (List ℕ → ℕ) → TypeRecord → List ℕ
+record_tail place r = head_tail r.head ++ record_items place r

@@ -1,0 +1,46 @@
+-- Names that are appended by runs of plain bytes.
+use Rattle.std.proofs.Common.{◌≡◌, ℕ, suc, ◌+◌, ◌-◌, ◌<◌, ◌≤◌, List, [], ◌∷◌, ◌++◌, length, take, drop, get_or, sym, ap, ◌∙◌, arith, append_assoc, append-nil, length-take}
+use Rattle.std.specs.List.{flat_map}
+use Rattle.std.proofs.lemmas.List.{flat_map_more, drop-append-le, drop-take, drop_all}
+use Rattle.std.proofs.Math.Seq.{take-suc}
+use Rattle.bpf_text.specs.btf.BtfText.{quoted_byte}
+
+-- one byte more, as it stands between quotes
+byte_more : (base bytes : List ℕ) (at : ℕ) → at < length bytes
+    → (base ++ flat_map quoted_byte (take at bytes)) ++ quoted_byte (get_or bytes at 0) ≡ base ++ flat_map quoted_byte (take (at + 1) bytes)
+byte_more base bytes at h =
+    let next : at + 1 ≡ suc at = omega arith in
+    let more : take (at + 1) bytes ≡ take at bytes ++ get_or bytes at 0 ∷ [] = rw next (take-suc bytes at 0 h) in
+    flat_map_more quoted_byte base (take at bytes) (get_or bytes at 0) ∙ ap (λ (t : List ℕ). base ++ flat_map quoted_byte t) (sym more)
+
+-- a plain byte makes the run longer
+pub run_longer : (base text bytes : List ℕ) (start at : ℕ) → start ≤ at → at < length bytes → quoted_byte (get_or bytes at 0) ≡ get_or bytes at 0 ∷ []
+    → text ++ drop start (take at bytes) ≡ base ++ flat_map quoted_byte (take at bytes)
+    → text ++ drop start (take (at + 1) bytes) ≡ base ++ flat_map quoted_byte (take (at + 1) bytes)
+run_longer base text bytes start at low inside plain e =
+    let b = get_or bytes at 0 in
+    let next : at + 1 ≡ suc at = omega arith in
+    let more : take (at + 1) bytes ≡ take at bytes ++ b ∷ [] = rw next (take-suc bytes at 0 inside) in
+    let run : drop start (take (at + 1) bytes) ≡ drop start (take at bytes) ++ b ∷ [] =
+    ap (drop start) more ∙ drop-append-le start (take at bytes) (b ∷ []) (omega (arith, length-take at bytes)) in
+    ap (λ (t : List ℕ). text ++ t) run
+    ∙ sym (append_assoc text (drop start (take at bytes)) (b ∷ []))
+    ∙ ap (λ (t : List ℕ). t ++ b ∷ []) e
+    ∙ ap (λ (t : List ℕ). (base ++ flat_map quoted_byte (take at bytes)) ++ t) (sym plain)
+    ∙ byte_more base bytes at inside
+
+-- another byte ends the run
+pub run_ended : (base text run mid out bytes : List ℕ) (start at : ℕ) → start ≤ at → at < length bytes
+    → text ++ drop start (take at bytes) ≡ base ++ flat_map quoted_byte (take at bytes)
+    → run ≡ take (at - start) (drop start bytes) → mid ≡ text ++ run → out ≡ mid ++ quoted_byte (get_or bytes at 0)
+    → out ++ drop (at + 1) (take (at + 1) bytes) ≡ base ++ flat_map quoted_byte (take (at + 1) bytes)
+run_ended base text run mid out bytes start at low inside e re me oe =
+    let b = get_or bytes at 0 in
+    let whole : start + (at - start) ≡ at = omega arith in
+    let same : run ≡ drop start (take at bytes) = re ∙ sym (drop-take start (at - start) bytes) ∙ ap (λ (n : ℕ). drop start (take n bytes)) whole in
+    let none : drop (at + 1) (take (at + 1) bytes) ≡ [] = drop_all (at + 1) (take (at + 1) bytes) (omega (arith, length-take (at + 1) bytes)) in
+    ap (λ (t : List ℕ). out ++ t) none
+    ∙ append-nil out
+    ∙ oe
+    ∙ ap (λ (t : List ℕ). t ++ quoted_byte b) (me ∙ ap (λ (t : List ℕ). text ++ t) same ∙ e)
+    ∙ byte_more base bytes at inside

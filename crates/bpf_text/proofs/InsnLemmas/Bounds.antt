@@ -1,0 +1,74 @@
+-- How many tokens and arguments a line can have.
+use Rattle.std.proofs.Common.{◌≡◌, ℕ, suc, ◌+◌, ◌*◌, ◌<◌, ◌≤◌, Bool, true, false, cond, List, [], ◌∷◌, length, refl, sym, ap, ◌∙◌, arith}
+use Rattle.std.proofs.lemmas.List.{length-map}
+use Rattle.std.specs.List.{AllZip, slice_split, onto_first}
+use Rattle.bpf_insn.specs.declared.insn.WideOf.TheVariants.{Number}
+use Rattle.bpf_insn.specs.declared.insn.Insn.{Insn}
+use Rattle.bpf_insn.specs.declared.insn.Insn.TheVariants.{Wide}
+use Rattle.bpf_text.specs.insn.Arguments.{Argument, register, number, signed, memory, kind_of, SpellsArgument, SpellsArguments, is_comma}
+use Rattle.bpf_text.specs.insn.Table.{arguments_of}
+use Rattle.bpf_text.specs.insn.Listing.{IsForm}
+
+-- the number of elements of all parts
+abbrev total : {X : Type 0} → List (List X) → ℕ
+total [] = 0
+total (x ∷ xs) = length x + total xs
+
+-- a part has at most five tokens
+part_bound : (ts : List (List ℕ)) (a : Argument) → SpellsArgument ts a → length ts ≤ 5
+part_bound [] a h = omega arith
+part_bound (t ∷ []) a h = omega arith
+part_bound (t ∷ u ∷ []) a h = omega arith
+part_bound (t ∷ u ∷ v ∷ []) a h = omega arith
+part_bound (t ∷ u ∷ v ∷ w ∷ []) a h = omega arith
+part_bound (t ∷ u ∷ v ∷ w ∷ x ∷ []) a h = omega arith
+part_bound (t ∷ u ∷ v ∷ w ∷ x ∷ y ∷ more) (register r) h = absurd h
+part_bound (t ∷ u ∷ v ∷ w ∷ x ∷ y ∷ more) (number z) h = absurd h
+part_bound (t ∷ u ∷ v ∷ w ∷ x ∷ y ∷ more) (signed z) h = absurd h
+part_bound (t ∷ u ∷ v ∷ w ∷ x ∷ y ∷ more) (memory r z) h = absurd h
+
+parts_bound : (parts : List (List (List ℕ))) (xs : List Argument) → AllZip SpellsArgument parts xs → total parts ≤ 5 * length xs
+parts_bound [] [] h = omega arith
+parts_bound [] (x ∷ xs) h = absurd h
+parts_bound (p ∷ parts) [] h = absurd h
+parts_bound (p ∷ parts) (x ∷ xs) h = omega (arith, part_bound p x h.0, parts_bound parts xs h.1)
+
+pub zip_length : {A B : Type 0} (R : A → B → Type 0) (xs : List A) (ys : List B) → AllZip R xs ys → length xs ≡ length ys
+zip_length R [] [] h = refl
+zip_length R [] (y ∷ ys) h = absurd h
+zip_length R (x ∷ xs) [] h = absurd h
+zip_length R (x ∷ xs) (y ∷ ys) h = ap suc (zip_length R xs ys h.1)
+
+-- cutting at commas loses the commas alone
+onto_total : {X : Type 0} (x : X) (parts : List (List X)) → 0 < length parts → (total (onto_first x parts) ≡ total parts + 1) × (length (onto_first x parts) ≡ length parts)
+onto_total x [] h = absurd (omega arith)
+onto_total x (p ∷ parts) h = (omega arith, refl)
+
+abbrev Counts : {X : Type 0} → List X → List (List X) → Type 0
+Counts xs parts = (length xs + 1 ≡ total parts + length parts) × (0 < length parts)
+
+by_test : {X : Type 0} (x : X) (xs : List X) (parts : List (List X)) → Counts xs parts → (b : Bool) → Counts (x ∷ xs) (cond b ([] ∷ parts) (onto_first x parts))
+by_test x xs parts more true = (omega (arith, more.0), omega arith)
+by_test x xs parts more false =
+    let onto = onto_total x parts more.1 in
+    (omega (arith, more.0, onto.0, onto.1), omega (arith, more.1, onto.1))
+
+split_total : {X : Type 0} (p : X → Bool) (xs : List X) → Counts xs (slice_split p xs)
+split_total p [] = (omega arith, omega arith)
+split_total p (x ∷ xs) = by_test x xs (slice_split p xs) (split_total p xs) (p x)
+
+-- three arguments have at most 17 tokens
+pub tokens_bound : (ts : List (List ℕ)) (xs : List Argument) → length xs ≤ 3 → SpellsArguments ts xs → length ts ≤ 17
+tokens_bound ts [] l h = omega (arith, ap length h)
+tokens_bound ts (x ∷ xs) l h =
+    omega (arith, (split_total is_comma ts).0, parts_bound (slice_split is_comma ts) (x ∷ xs) h, zip_length SpellsArgument (slice_split is_comma ts) (x ∷ xs) h)
+
+-- an instruction has at most three arguments
+arguments_bound : (i : Insn) → length (arguments_of i) ≤ 3
+arguments_bound (Wide d (Number n)) = omega arith
+arguments_bound _ = omega arith
+
+-- so does what has the form of a word
+pub form_bound : (word : List ℕ) (ts : List (List ℕ)) (form : IsForm word ts) → length form.2.0 ≤ 3
+form_bound word ts form =
+    omega (arith, arguments_bound form.0, sym (length-map form.2.0 kind_of) ∙ ap length form.2.1 ∙ length-map (arguments_of form.0) kind_of)

@@ -1,0 +1,112 @@
+-- A faulty line lists nothing.
+use Rattle.std.proofs.Common.{◌≡◌, ℕ, Bool, true, false, not, ◌||◌, ◌&&◌, List, [], ◌∷◌, ◌++◌, ◌⊎◌, inl, inr, refl, sym, ap, ◌∙◌, Result, Ok, Err, MatchResult, IfOk, Vec}
+use Rattle.std.specs.List.{AllZip, list_any, list_all}
+use Rattle.std.proofs.lemmas.Bool.{false≢true}
+use Rattle.std.proofs.lemmas.List.Folds.{list_any-append}
+use Rattle.bpf_insn.specs.declared.insn.Insn.{Insn}
+use Rattle.bpf_text.specs.declared.insn.fault.LineCause.{LineCause}
+use Rattle.bpf_text.specs.declared.insn.fault.LineCause.TheVariants.{Char, Word, Shape, Range}
+use Rattle.bpf_text.specs.declared.insn.fault.ListError.{ListError}
+use Rattle.bpf_text.specs.declared.insn.fault.ListError.TheVariants.{Fault, Memory}
+use Rattle.bpf_text.specs.declared.insn.fault.LineFault.{LineFault}
+use Rattle.bpf_text.specs.insn.Table.{arguments_of}
+use Rattle.bpf_text.specs.insn.Tokens.{code_of, is_blank, is_word_byte, is_symbol, is_stray, IsTokenBefore, AreTokens}
+use Rattle.bpf_text.specs.insn.Listing.{IsTokenForm, ListsLine, IsCause, Lists, IsListFault}
+use Rattle.bpf_text.specs.insn.Reading.{Refuses}
+use Rattle.bpf_text.proofs.InsnLemmas.OneReading.{one_tokens}
+use Rattle.bpf_text.proofs.InsnLemmas.OneInsn.{one_listing}
+
+known : (a b c : Bool) → (a ≡ true) ⊎ (b ≡ true) ⊎ (c ≡ true) → not (a || b || c) ≡ false
+known true b c h = refl
+known false true c h = refl
+known false false true h = refl
+known false false false h = elim h [ inl e ↦ absurd (false≢true e) | inr e ↦ elim e [ inl f ↦ absurd (false≢true f) | inr f ↦ absurd (false≢true f) ] ]
+
+left : (a b : Bool) → (a && b) ≡ true → a ≡ true
+left true b e = refl
+left false b e = e
+
+right : (a b : Bool) → (a && b) ≡ true → b ≡ true
+right true b e = e
+right false b e = absurd (false≢true e)
+
+neither : (a b : Bool) → a ≡ false → b ≡ false → (a || b) ≡ false
+neither true b e f = absurd (false≢true (sym e))
+neither false b e f = f
+
+none_of : (p : ℕ → Bool) → ((b : ℕ) → p b ≡ true → is_stray b ≡ false) → (xs : List ℕ) → list_all p xs ≡ true → list_any is_stray xs ≡ false
+none_of p each [] h = refl
+none_of p each (x ∷ xs) h = neither (is_stray x) (list_any is_stray xs) (each x (left (p x) (list_all p xs) h)) (none_of p each xs (right (p x) (list_all p xs) h))
+
+blank_known : (b : ℕ) → is_blank b ≡ true → is_stray b ≡ false
+blank_known b h = known (is_blank b) (is_word_byte b) (is_symbol b) (inl h)
+
+word_known : (b : ℕ) → is_word_byte b ≡ true → is_stray b ≡ false
+word_known b h = known (is_blank b) (is_word_byte b) (is_symbol b) (inr (inl h))
+
+symbol_known : (b : ℕ) → is_symbol b ≡ true → is_stray b ≡ false
+symbol_known b h = known (is_blank b) (is_word_byte b) (is_symbol b) (inr (inr h))
+
+token_known : (token rest : List ℕ) → IsTokenBefore token rest → list_any is_stray token ≡ false
+token_known token rest (inl h) = none_of is_word_byte word_known token h.1
+token_known token rest (inr h) = rw h.1 (neither (is_stray h.0) false (symbol_known h.0 h.2) refl)
+
+pub no_stray : (bytes : List ℕ) (ts : List (List ℕ)) → AreTokens bytes ts → list_any is_stray bytes ≡ false
+no_stray bytes [] h = none_of is_blank blank_known bytes h
+no_stray bytes (t ∷ ts) h =
+    let s = h.1 in
+    let blanks : list_any is_stray s.blanks ≡ false = none_of is_blank blank_known s.blanks s.blank in
+    let front : list_any is_stray (s.blanks ++ t) ≡ false = list_any-append is_stray s.blanks t ∙ neither (list_any is_stray s.blanks) (list_any is_stray t) blanks (token_known t h.0 s.longest) in
+    ap (list_any is_stray) s.whole ∙ list_any-append is_stray (s.blanks ++ t) h.0 ∙ neither (list_any is_stray (s.blanks ++ t)) (list_any is_stray h.0) front (no_stray h.0 ts h.2)
+
+some_tokens : (line : List ℕ) (f : List Insn) → ListsLine line f → (ts : List (List ℕ)) × AreTokens (code_of line) ts
+some_tokens line [] h = ([], h)
+some_tokens line (i ∷ []) h = (h.1.0, h.1.1)
+some_tokens line (i ∷ j ∷ more) h = absurd h
+
+form_of : (line word : List ℕ) (ts : List (List ℕ)) (i : Insn) → AreTokens (code_of line) (word ∷ ts) → ListsLine line (i ∷ []) → IsTokenForm (word ∷ ts) i
+form_of line word ts i t h =
+    let same = one_tokens (code_of line) h.1.0 (word ∷ ts) h.1.1 t in rw same at h.1.2
+
+none_there : (line word : List ℕ) (ts : List (List ℕ)) → AreTokens (code_of line) (word ∷ ts) → AreTokens (code_of line) [] → ⊥
+none_there line word ts t h =
+    let same = one_tokens (code_of line) (word ∷ ts) [] t h in cc
+
+pub excludes : (line : List ℕ) (c : LineCause) (f : List Insn) → IsCause line c → ListsLine line f → ⊥
+excludes line Char f c h = let t = some_tokens line f h in false≢true (sym (no_stray (code_of line) t.0 t.1) ∙ c)
+excludes line Word [] c h = none_there line c.0 c.1 c.2 h
+excludes line Word (i ∷ []) c h = let form = form_of line c.0 c.1 i c.2 h in c.3 (i, form.0)
+excludes line Word (i ∷ j ∷ more) c h = h
+excludes line Shape [] c h = none_there line c.0 c.1 c.2 h
+excludes line Shape (i ∷ []) c h = let form = form_of line c.0 c.1 i c.2 h in c.4 (i, form.0, (arguments_of i, refl, form.1))
+excludes line Shape (i ∷ j ∷ more) c h = h
+excludes line Range [] c h = none_there line c.0 c.1 c.2 h
+excludes line Range (i ∷ []) c h = c.4 i h.0 (form_of line c.0 c.1 i c.2 h)
+excludes line Range (i ∷ j ∷ more) c h = h
+
+at_line : (front : List (List ℕ)) (line : List ℕ) (back : List (List ℕ)) (listed : List (List Insn)) → AllZip ListsLine (front ++ line ∷ back) listed → (f : List Insn) × ListsLine line f
+at_line [] line back [] h = absurd h
+at_line [] line back (f ∷ listed) h = (f, h.0)
+at_line (x ∷ front) line back [] h = absurd h
+at_line (x ∷ front) line back (f ∷ listed) h = at_line front line back listed h.1
+
+pub no_listing : (text : List ℕ) (fault : LineFault) (l : List Insn) → IsListFault text fault → Lists text l → ⊥
+no_listing text fault l h k =
+    let w = at_line h.front h.line h.back k.listed (rw h.lines at k.each) in
+    excludes h.line fault.cause w.0 h.cause w.1
+
+-- ---- what an answer says
+
+module _ {A : Type 0} (text : List ℕ) where
+  -- what is listed is what is read, unless memory was refused
+  pub all_read : (r : Result (Vec Insn A) ListError) → MatchResult r (λ v. Lists text v.items) (Refuses text) → (l : List Insn) → Lists text l → MatchResult r (λ v. v.items ≡ l) (λ e. e ≡ Memory)
+  all_read (Ok v) h l k = one_listing text v.items l h k
+  all_read (Err (Fault fault)) h l k = absurd (no_listing text fault l h k)
+  all_read (Err Memory) h l k = refl
+
+  pub found_listed : (r : Result (Vec Insn A) ListError) → MatchResult r (λ v. Lists text v.items) (Refuses text) → IfOk r (λ v. Lists text v.items)
+  found_listed (Ok v) h = h
+  found_listed (Err e) h = tt
+
+  pub fault_told : (r : Result (Vec Insn A) ListError) → MatchResult r (λ v. Lists text v.items) (Refuses text) → (f : LineFault) → r ≡ Err (Fault f) → IsListFault text f
+  fault_told r h f e = rw e at h

@@ -1,0 +1,92 @@
+-- A line lists one instruction, and a text one list.
+use Rattle.std.proofs.Common.{◌≡◌, ℕ, List, [], ◌∷◌, refl, sym, ap, ◌∙◌, map}
+use Rattle.std.specs.List.{AllZip, flat_map}
+use Rattle.bpf_insn.specs.declared.insn.Operand.TheVariants.{Imm, Reg}
+use Rattle.bpf_insn.specs.declared.insn.WideOf.TheVariants.{Number, MapFd, MapValueFd, VarAddr, CodeAddr, MapIdx, MapValueIdx}
+use Rattle.bpf_insn.specs.declared.insn.Insn.{Insn}
+use Rattle.bpf_insn.specs.declared.insn.Insn.TheVariants.{Alu, Movsx, Neg, Swap, Jump, JumpLong, Branch, CallHelper, CallLocal, CallBtf, Exit, Load, LoadSigned, StoreImm, StoreReg, Atomic, Wide, PacketAbs, PacketInd}
+use Rattle.bpf_text.specs.insn.Table.{word_of, arguments_of}
+use Rattle.bpf_text.specs.insn.Tokens.{code_of, AreTokens}
+use Rattle.bpf_text.specs.insn.Mnemonics.{mnemonic_of, word_of_mnemonic}
+use Rattle.bpf_text.specs.insn.Forms.{plain}
+use Rattle.bpf_text.specs.insn.Listing.{lines_of, IsTokenForm, ListsInsn, ListsLine, Lists}
+use Rattle.bpf_text.proofs.InsnLemmas.OneWord.{one_word}
+use Rattle.bpf_text.proofs.InsnLemmas.OneArgument.{one_arguments}
+use Rattle.bpf_text.proofs.InsnLemmas.OneReading.{one_tokens}
+
+pub word_is : (i : Insn) → word_of i ≡ word_of_mnemonic (mnemonic_of i)
+word_is (Alu width op d (Imm k)) = refl
+word_is (Alu width op d (Reg r)) = refl
+word_is (Branch width op d (Imm k) o) = refl
+word_is (Branch width op d (Reg r) o) = refl
+word_is (Wide d (Number n)) = refl
+word_is _ = refl
+
+-- the mnemonic and the arguments make the instruction
+same_insn : (i j : Insn) → mnemonic_of i ≡ mnemonic_of j → map plain (arguments_of i) ≡ map plain (arguments_of j) → i ≡ j
+same_insn (Alu width op d (Imm k)) (Alu width' op' d' (Imm k')) names fields = cc
+same_insn (Alu width op d (Reg r)) (Alu width' op' d' (Reg r')) names fields = cc
+same_insn (Movsx form d s) (Movsx form' d' s') names fields = cc
+same_insn (Neg width d) (Neg width' d') names fields = cc
+same_insn (Swap kind bits d) (Swap kind' bits' d') names fields = cc
+same_insn (Jump o) (Jump o') names fields = cc
+same_insn (JumpLong k) (JumpLong k') names fields = cc
+same_insn (Branch width op d (Imm k) o) (Branch width' op' d' (Imm k') o') names fields = cc
+same_insn (Branch width op d (Reg r) o) (Branch width' op' d' (Reg r') o') names fields = cc
+same_insn (CallHelper k) (CallHelper k') names fields = cc
+same_insn (CallLocal k) (CallLocal k') names fields = cc
+same_insn (CallBtf k o) (CallBtf k' o') names fields = cc
+same_insn Exit Exit names fields = cc
+same_insn (Load z d s o) (Load z' d' s' o') names fields = cc
+same_insn (LoadSigned z d s o) (LoadSigned z' d' s' o') names fields = cc
+same_insn (StoreImm z d o k) (StoreImm z' d' o' k') names fields = cc
+same_insn (StoreReg z d s o) (StoreReg z' d' s' o') names fields = cc
+same_insn (Atomic width op d s o) (Atomic width' op' d' s' o') names fields = cc
+same_insn (Wide d (Number n)) (Wide d' (Number n')) names fields = cc
+same_insn (Wide d (MapFd k)) (Wide d' (MapFd k')) names fields = cc
+same_insn (Wide d (MapValueFd k m)) (Wide d' (MapValueFd k' m')) names fields = cc
+same_insn (Wide d (VarAddr k m)) (Wide d' (VarAddr k' m')) names fields = cc
+same_insn (Wide d (CodeAddr k)) (Wide d' (CodeAddr k')) names fields = cc
+same_insn (Wide d (MapIdx k)) (Wide d' (MapIdx k')) names fields = cc
+same_insn (Wide d (MapValueIdx k m)) (Wide d' (MapValueIdx k' m')) names fields = cc
+same_insn (PacketAbs z k) (PacketAbs z' k') names fields = cc
+same_insn (PacketInd z s k) (PacketInd z' s' k') names fields = cc
+same_insn _ _ names fields = cc
+
+pub one_form : (ts : List (List ℕ)) (i j : Insn) → IsTokenForm ts i → IsTokenForm ts j → i ≡ j
+one_form [] i j h k = absurd h
+one_form (word ∷ ts) i j h k =
+    same_insn i j (one_word (mnemonic_of i) (mnemonic_of j) (sym (word_is i) ∙ sym h.0 ∙ k.0 ∙ word_is j)) (one_arguments ts (arguments_of i) (arguments_of j) h.1 k.1)
+
+one_insn : (line : List ℕ) (i j : Insn) → ListsInsn line i → ListsInsn line j → i ≡ j
+one_insn line i j h k =
+    let same = one_tokens (code_of line) k.1.0 h.1.0 k.1.1 h.1.1 in
+    one_form h.1.0 i j h.1.2 (rw same at k.1.2)
+
+no_insn : (line : List ℕ) (i : Insn) → AreTokens (code_of line) [] → ListsInsn line i → ⊥
+no_insn line i h k =
+    let same = one_tokens (code_of line) k.1.0 [] k.1.1 h in
+    rw same at k.1.2
+
+pub one_line : (line : List ℕ) (f g : List Insn) → ListsLine line f → ListsLine line g → f ≡ g
+one_line line [] [] h k = refl
+one_line line [] (j ∷ []) h k = absurd (no_insn line j h k)
+one_line line [] (j ∷ j' ∷ more) h k = absurd k
+one_line line (i ∷ []) [] h k = absurd (no_insn line i k h)
+one_line line (i ∷ []) (j ∷ []) h k = ap (λ x. x ∷ []) (one_insn line i j h k)
+one_line line (i ∷ []) (j ∷ j' ∷ more) h k = absurd k
+one_line line (i ∷ i' ∷ more) g h k = absurd h
+
+one_zip : (lines : List (List ℕ)) (f g : List (List Insn)) → AllZip ListsLine lines f → AllZip ListsLine lines g → f ≡ g
+one_zip [] [] [] h k = refl
+one_zip [] [] (y ∷ g) h k = absurd k
+one_zip [] (x ∷ f) g h k = absurd h
+one_zip (l ∷ lines) [] g h k = absurd h
+one_zip (l ∷ lines) (x ∷ f) [] h k = absurd k
+one_zip (l ∷ lines) (x ∷ f) (y ∷ g) h k =
+    let first : x ≡ y = one_line l x y h.0 k.0 in
+    let more : f ≡ g = one_zip lines f g h.1 k.1 in cc
+
+-- at most one list is listed by a text
+pub one_listing : (text : List ℕ) (l m : List Insn) → Lists text l → Lists text m → l ≡ m
+one_listing text l m h k = h.whole ∙ ap (flat_map (λ found. found)) (one_zip (lines_of text) h.listed k.listed h.each k.each) ∙ sym k.whole

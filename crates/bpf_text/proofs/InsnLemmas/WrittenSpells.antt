@@ -1,0 +1,94 @@
+-- What is written spells its arguments.
+use Rattle.std.proofs.Common.{◌≡◌, ◌≢◌, ℕ, suc, ◌^◌, ◌<◌, ℤ, pos, negsuc, Bool, true, false, ◌||◌, List, [], ◌∷◌, ◌++◌, inl, inr, get_or, map, refl, sym, ap, ◌∙◌, subst, arith, codes}
+use Rattle.std.specs.Fmt.{decimal}
+use Rattle.std.specs.List.{AllZip, All, list_any, slice_split}
+use Rattle.std.specs.Char.{digit_value}
+use Rattle.std.specs.Str.Parse.{IsNumeral}
+use Rattle.std.proofs.lemmas.Bool.{false≢true}
+use Rattle.std.proofs.lemmas.Bool.Decides.{nat_tests}
+use Rattle.std.proofs.lemmas.List.Folds.{list_any_at, list_any-append}
+use Rattle.std.proofs.lemmas.List.Splits.{slice_split_none, slice_split_at}
+use Rattle.std.proofs.lemmas.Fmt.{decimal_is_IsNumeral}
+use Rattle.bpf_insn.specs.declared.insn.Reg.{Reg}
+use Rattle.bpf_text.specs.insn.Arguments.{Argument, register, number, signed, memory, register_text, SpellsMagnitude, SpellsArgument, SpellsArguments, is_comma}
+use Rattle.bpf_text.proofs.InsnLemmas.WrittenTokens.{IsNear, numeral, number_tokens, signed_tokens, IsWritable, AreWritable, argument_tokens, arguments_tokens}
+
+-- ---- one argument
+
+magnitude : (n : ℕ) → n < 2 ^ 64 → SpellsMagnitude (decimal n) n
+magnitude n near = let d = decimal_is_IsNumeral n near in inl (d.0, sym d.1)
+
+signed_spells : (z : ℤ) → IsNear z → SpellsArgument (signed_tokens z) (signed z)
+signed_spells (pos n) near = (n, magnitude n near, inl (refl, refl))
+signed_spells (negsuc n) near = (suc n, magnitude (suc n) near, inr (refl, refl))
+
+number_spells : (z : ℤ) → IsNear z → SpellsArgument (number_tokens z) (number z)
+number_spells (pos n) near = (n, magnitude n near, refl)
+number_spells (negsuc n) near = (suc n, magnitude (suc n) near, inr (refl, refl))
+
+memory_spells : (r : Reg) (z : ℤ) → IsNear z → SpellsArgument (argument_tokens (memory r z)) (memory r z)
+memory_spells r (pos n) near = (refl, refl, (n, magnitude n near, inl (refl, refl)), refl)
+memory_spells r (negsuc n) near = (refl, refl, (suc n, magnitude (suc n) near, inr (refl, refl)), refl)
+
+argument_spells : (a : Argument) → IsWritable a → SpellsArgument (argument_tokens a) a
+argument_spells (register r) near = refl
+argument_spells (number z) near = number_spells z near
+argument_spells (signed z) near = signed_spells z near
+argument_spells (memory r z) near = memory_spells r z near
+
+-- ---- commas
+
+neither : (a b : Bool) → a ≡ false → b ≡ false → (a || b) ≡ false
+neither true b e f = absurd (false≢true (sym e))
+neither false b e f = f
+
+numeral_no_comma : (ds : List ℕ) → IsNumeral 10 ds → is_comma ds ≡ false
+numeral_no_comma [] h = refl
+numeral_no_comma (d ∷ ds) h = let digit : digit_value d < 10 = h.1.0 in grind (arith, nat_tests)
+
+word_no_comma : (b : ℕ) (ds : List ℕ) → b ≢ 44 → is_comma (b ∷ ds) ≡ false
+word_no_comma b ds h = grind (arith, nat_tests)
+
+none_then : (t : List ℕ) (ts : List (List ℕ)) → is_comma t ≡ false → list_any is_comma ts ≡ false → list_any is_comma (t ∷ ts) ≡ false
+none_then t ts e f = neither (is_comma t) (list_any is_comma ts) e f
+
+signed_no_comma : (z : ℤ) → IsNear z → list_any is_comma (signed_tokens z) ≡ false
+signed_no_comma (pos n) near = none_then (codes "+") (decimal n ∷ []) refl (none_then (decimal n) [] (numeral_no_comma (decimal n) (numeral n near)) refl)
+signed_no_comma (negsuc n) near = none_then (codes "-") (decimal (suc n) ∷ []) refl (none_then (decimal (suc n)) [] (numeral_no_comma (decimal (suc n)) (numeral (suc n) near)) refl)
+
+number_no_comma : (z : ℤ) → IsNear z → list_any is_comma (number_tokens z) ≡ false
+number_no_comma (pos n) near = none_then (decimal n) [] (numeral_no_comma (decimal n) (numeral n near)) refl
+number_no_comma (negsuc n) near = none_then (codes "-") (decimal (suc n) ∷ []) refl (none_then (decimal (suc n)) [] (numeral_no_comma (decimal (suc n)) (numeral (suc n) near)) refl)
+
+argument_no_comma : (a : Argument) → IsWritable a → list_any is_comma (argument_tokens a) ≡ false
+argument_no_comma (register r) near = none_then (register_text r) [] (word_no_comma 114 (decimal r.number) (λ e. omega arith)) refl
+argument_no_comma (number z) near = number_no_comma z near
+argument_no_comma (signed z) near = signed_no_comma z near
+argument_no_comma (memory r z) near =
+    none_then (codes "[") (register_text r ∷ (signed_tokens z ++ codes "]" ∷ [])) refl
+    (none_then (register_text r) (signed_tokens z ++ codes "]" ∷ []) (word_no_comma 114 (decimal r.number) (λ e. omega arith))
+    (list_any-append is_comma (signed_tokens z) (codes "]" ∷ []) ∙ neither (list_any is_comma (signed_tokens z)) (list_any is_comma (codes "]" ∷ [])) (signed_no_comma z near) refl))
+
+-- no element passes a test that a list fails
+pub none_passes : {X : Type 0} (p : X → Bool) (xs : List X) → list_any p xs ≡ false → All (λ x. p x ≡ false) xs
+none_passes p xs none k d h = by_test (p (get_or xs k d)) refl
+  where
+    by_test : (b : Bool) → p (get_or xs k d) ≡ b → p (get_or xs k d) ≡ false
+    by_test true e = absurd (false≢true (sym none ∙ list_any_at p xs k d h e))
+    by_test false e = e
+
+-- ---- several arguments
+
+split : (a : Argument) (more : List Argument) → AreWritable (a ∷ more) → slice_split is_comma (arguments_tokens (a ∷ more)) ≡ map argument_tokens (a ∷ more)
+split a [] near = slice_split_none is_comma (argument_tokens a) (none_passes is_comma (argument_tokens a) (argument_no_comma a near.0))
+split a (b ∷ more) near =
+    slice_split_at is_comma (argument_tokens a) (codes ",") (arguments_tokens (b ∷ more)) (none_passes is_comma (argument_tokens a) (argument_no_comma a near.0)) refl
+    ∙ ap (λ parts. argument_tokens a ∷ parts) (split b more near.1)
+
+each_spells : (xs : List Argument) → AreWritable xs → AllZip SpellsArgument (map argument_tokens xs) xs
+each_spells [] near = tt
+each_spells (a ∷ more) near = (argument_spells a near.0, each_spells more near.1)
+
+pub arguments_spell : (xs : List Argument) → AreWritable xs → SpellsArguments (arguments_tokens xs) xs
+arguments_spell [] near = refl
+arguments_spell (a ∷ more) near = subst (λ (parts : List (List (List ℕ))). AllZip SpellsArgument parts (a ∷ more)) (sym (split a more near)) (each_spells (a ∷ more) near)

@@ -1,0 +1,157 @@
+-- The tokens of what is written.
+use Rattle.std.proofs.Common.{◌≡◌, ◌≢◌, ℕ, suc, ◌^◌, ◌<◌, ℤ, pos, negsuc, Bool, true, false, ◌&&◌, List, [], ◌∷◌, ◌++◌, inl, inr, length, refl, sym, ap, ◌∙◌, subst, arith, append_assoc, append-nil, codes}
+use Rattle.std.specs.Fmt.{decimal, signed_decimal}
+use Rattle.std.specs.List.{list_all}
+use Rattle.std.specs.Char.{digit_value}
+use Rattle.std.specs.Str.Parse.{AllDigits, IsNumeral}
+use Rattle.std.proofs.lemmas.Bool.{false≢true}
+use Rattle.std.proofs.lemmas.Bool.Decides.{nat_tests}
+use Rattle.std.proofs.lemmas.Fmt.{decimal_is_IsNumeral}
+use Rattle.bpf_insn.specs.declared.insn.Reg.{Reg}
+use Rattle.bpf_text.specs.insn.Arguments.{Argument, register, number, signed, memory, register_text, signed_text, argument_text, arguments_text}
+use Rattle.bpf_text.specs.insn.Lines.{spaced}
+use Rattle.bpf_text.specs.insn.Tokens.{is_blank, is_word_byte, is_symbol, BeginsWithWordByte, AreTokens}
+
+-- ---- tokens of parts
+
+both_true : (a b : Bool) → a ≡ true → b ≡ true → (a && b) ≡ true
+both_true true b e f = f
+both_true false b e f = e
+
+not_empty : {X : Type 0} (xs : List X) → 0 < length xs → xs ≢ []
+not_empty xs some e = omega (arith, ap length e)
+
+pub word_then : (word rest : List ℕ) (ts : List (List ℕ)) → 0 < length word → list_all is_word_byte word ≡ true → ¬ BeginsWithWordByte rest → AreTokens rest ts → AreTokens (word ++ rest) (word ∷ ts)
+word_then word rest ts some all ends h = (rest, record { blanks = []; whole = refl; blank = refl; longest = inl (not_empty word some, all, ends) }, h)
+
+symbol_then : (b : ℕ) (rest : List ℕ) (ts : List (List ℕ)) → is_symbol b ≡ true → AreTokens rest ts → AreTokens (b ∷ rest) ((b ∷ []) ∷ ts)
+symbol_then b rest ts e h = (rest, record { blanks = []; whole = refl; blank = refl; longest = inr (b, refl, e) }, h)
+
+blank_then : (b : ℕ) (bytes : List ℕ) (ts : List (List ℕ)) → is_blank b ≡ true → AreTokens bytes ts → AreTokens (b ∷ bytes) ts
+blank_then b bytes [] e h = both_true (is_blank b) (list_all is_blank bytes) e h
+blank_then b bytes (t ∷ ts) e h =
+    let s = h.1 in
+    (h.0, record { blanks = b ∷ s.blanks; whole = ap (λ x. b ∷ x) s.whole; blank = both_true (is_blank b) (list_all is_blank s.blanks) e s.blank; longest = s.longest }, h.2)
+
+-- ---- numbers and registers
+
+digit_is_word_byte : (c : ℕ) → digit_value c < 10 → is_word_byte c ≡ true
+digit_is_word_byte c h = grind (arith, nat_tests)
+
+pub digits_are_word_bytes : (ds : List ℕ) → AllDigits 10 ds → list_all is_word_byte ds ≡ true
+digits_are_word_bytes [] h = refl
+digits_are_word_bytes (d ∷ ds) h = both_true (is_word_byte d) (list_all is_word_byte ds) (digit_is_word_byte d h.0) (digits_are_word_bytes ds h.1)
+
+numeral_then : (ds rest : List ℕ) (ts : List (List ℕ)) → IsNumeral 10 ds → ¬ BeginsWithWordByte rest → AreTokens rest ts → AreTokens (ds ++ rest) (ds ∷ ts)
+numeral_then ds rest ts n ends h = word_then ds rest ts n.0 (digits_are_word_bytes ds n.1) ends h
+
+letter_then : (b : ℕ) (ds rest : List ℕ) (ts : List (List ℕ)) → is_word_byte b ≡ true → IsNumeral 10 ds → ¬ BeginsWithWordByte rest → AreTokens rest ts → AreTokens ((b ∷ ds) ++ rest) ((b ∷ ds) ∷ ts)
+letter_then b ds rest ts e n ends h =
+    word_then (b ∷ ds) rest ts (omega arith) (both_true (is_word_byte b) (list_all is_word_byte ds) e (digits_are_word_bytes ds n.1)) ends h
+
+-- a number whose magnitude has 64 bits
+abbrev pub IsNear : ℤ → Type 0
+IsNear (pos n) = n < 2 ^ 64
+IsNear (negsuc n) = suc n < 2 ^ 64
+
+abbrev pub number_tokens : ℤ → List (List ℕ)
+number_tokens (pos n) = decimal n ∷ []
+number_tokens (negsuc n) = codes "-" ∷ decimal (suc n) ∷ []
+
+abbrev pub signed_tokens : ℤ → List (List ℕ)
+signed_tokens (pos n) = codes "+" ∷ decimal n ∷ []
+signed_tokens (negsuc n) = codes "-" ∷ decimal (suc n) ∷ []
+
+pub numeral : (n : ℕ) → n < 2 ^ 64 → IsNumeral 10 (decimal n)
+numeral n h = (decimal_is_IsNumeral n h).0
+
+signed_numeral_then : (b : ℕ) (ds rest : List ℕ) (ts : List (List ℕ)) → is_symbol b ≡ true → IsNumeral 10 ds → ¬ BeginsWithWordByte rest → AreTokens rest ts → AreTokens ((b ∷ ds) ++ rest) ((b ∷ []) ∷ ds ∷ ts)
+signed_numeral_then b ds rest ts e n ends h = symbol_then b (ds ++ rest) (ds ∷ ts) e (numeral_then ds rest ts n ends h)
+
+number_then : (z : ℤ) (rest : List ℕ) (ts : List (List ℕ)) → IsNear z → ¬ BeginsWithWordByte rest → AreTokens rest ts → AreTokens (signed_decimal z ++ rest) (number_tokens z ++ ts)
+number_then (pos n) rest ts near ends h = numeral_then (decimal n) rest ts (numeral n near) ends h
+number_then (negsuc n) rest ts near ends h = signed_numeral_then 45 (decimal (suc n)) rest ts refl (numeral (suc n) near) ends h
+
+signed_then : (z : ℤ) (rest : List ℕ) (ts : List (List ℕ)) → IsNear z → ¬ BeginsWithWordByte rest → AreTokens rest ts → AreTokens (signed_text z ++ rest) (signed_tokens z ++ ts)
+signed_then (pos n) rest ts near ends h = signed_numeral_then 43 (decimal n) rest ts refl (numeral n near) ends h
+signed_then (negsuc n) rest ts near ends h = signed_numeral_then 45 (decimal (suc n)) rest ts refl (numeral (suc n) near) ends h
+
+pub register_numeral : (r : Reg) → IsNumeral 10 (decimal r.number)
+register_numeral r = numeral r.number (omega (arith, r.in_range))
+
+register_then : (r : Reg) (rest : List ℕ) (ts : List (List ℕ)) → ¬ BeginsWithWordByte rest → AreTokens rest ts → AreTokens (register_text r ++ rest) (register_text r ∷ ts)
+register_then r rest ts ends h = letter_then 114 (decimal r.number) rest ts refl (register_numeral r) ends h
+
+-- ---- arguments
+
+abbrev pub IsWritable : Argument → Type 0
+IsWritable (register r) = Unit {0}
+IsWritable (number z) = IsNear z
+IsWritable (signed z) = IsNear z
+IsWritable (memory r z) = IsNear z
+
+abbrev pub AreWritable : List Argument → Type 0
+AreWritable [] = Unit {0}
+AreWritable (a ∷ more) = IsWritable a × AreWritable more
+
+abbrev pub argument_tokens : Argument → List (List ℕ)
+argument_tokens (register r) = register_text r ∷ []
+argument_tokens (number z) = number_tokens z
+argument_tokens (signed z) = signed_tokens z
+argument_tokens (memory r z) = codes "[" ∷ register_text r ∷ (signed_tokens z ++ codes "]" ∷ [])
+
+abbrev pub arguments_tokens : List Argument → List (List ℕ)
+arguments_tokens [] = []
+arguments_tokens (a ∷ []) = argument_tokens a
+arguments_tokens (a ∷ b ∷ more) = argument_tokens a ++ codes "," ∷ arguments_tokens (b ∷ more)
+
+four_parts : (a b c d e : List ℕ) → (((a ++ b) ++ c) ++ d) ++ e ≡ a ++ (b ++ (c ++ (d ++ e)))
+four_parts a b c d e = simp append_assoc
+
+two_parts : (a b c : List ℕ) → (a ++ b) ++ c ≡ a ++ (b ++ c)
+two_parts a b c = append_assoc a b c
+
+two_token_parts : (a b c : List (List ℕ)) → a ++ (b ++ c) ≡ (a ++ b) ++ c
+two_token_parts a b c = sym (append_assoc a b c)
+
+no_word : (b : ℕ) (rest : List ℕ) → is_word_byte b ≡ false → ¬ BeginsWithWordByte (b ∷ rest)
+no_word b rest e = λ h. false≢true (sym e ∙ h)
+
+memory_then : (r : Reg) (z : ℤ) (rest : List ℕ) (ts : List (List ℕ)) → IsNear z → AreTokens rest ts
+    → AreTokens (codes "[" ++ (register_text r ++ (signed_text z ++ (codes "]" ++ rest)))) (codes "[" ∷ register_text r ∷ (signed_tokens z ++ (codes "]" ∷ ts)))
+memory_then r z rest ts near h =
+    symbol_then 91 (register_text r ++ (signed_text z ++ (codes "]" ++ rest))) (register_text r ∷ (signed_tokens z ++ (codes "]" ∷ ts))) refl
+    (register_then r (signed_text z ++ (codes "]" ++ rest)) (signed_tokens z ++ (codes "]" ∷ ts)) (sign_first z (codes "]" ++ rest))
+    (signed_then z (codes "]" ++ rest) (codes "]" ∷ ts) near (no_word 93 rest refl) (symbol_then 93 rest ts refl h)))
+  where
+    sign_first : (z : ℤ) (more : List ℕ) → ¬ BeginsWithWordByte (signed_text z ++ more)
+    sign_first (pos n) more = no_word 43 (decimal n ++ more) refl
+    sign_first (negsuc n) more = no_word 45 (decimal (suc n) ++ more) refl
+
+argument_then : (a : Argument) (rest : List ℕ) (ts : List (List ℕ)) → IsWritable a → ¬ BeginsWithWordByte rest → AreTokens rest ts → AreTokens (argument_text a ++ rest) (argument_tokens a ++ ts)
+argument_then (register r) rest ts near ends h = register_then r rest ts ends h
+argument_then (number z) rest ts near ends h = number_then z rest ts near ends h
+argument_then (signed z) rest ts near ends h = signed_then z rest ts near ends h
+argument_then (memory r z) rest ts near ends h =
+    subst (λ (x : List ℕ). AreTokens x (argument_tokens (memory r z) ++ ts)) (sym (four_parts (codes "[") (register_text r) (signed_text z) (codes "]") rest))
+    (subst (λ (x : List (List ℕ)). AreTokens (codes "[" ++ (register_text r ++ (signed_text z ++ (codes "]" ++ rest)))) (codes "[" ∷ register_text r ∷ x))
+    (two_token_parts (signed_tokens z) (codes "]" ∷ []) ts) (memory_then r z rest ts near h))
+
+pub arguments_then : (xs : List Argument) → AreWritable xs → AreTokens (arguments_text xs) (arguments_tokens xs)
+arguments_then [] near = refl
+arguments_then (a ∷ []) near =
+    subst (λ (x : List ℕ). AreTokens x (argument_tokens a)) (append-nil (argument_text a))
+    (subst (λ (x : List (List ℕ)). AreTokens (argument_text a ++ []) x) (append-nil (argument_tokens a)) (argument_then a [] [] near.0 (λ h. h) refl))
+arguments_then (a ∷ b ∷ more) near =
+    let rest = arguments_text (b ∷ more) in
+    let ts = arguments_tokens (b ∷ more) in
+    let behind : AreTokens (44 ∷ 32 ∷ rest) (codes "," ∷ ts) = symbol_then 44 (32 ∷ rest) ts refl (blank_then 32 rest ts refl (arguments_then (b ∷ more) near.1)) in
+    subst (λ (x : List ℕ). AreTokens x (argument_tokens a ++ codes "," ∷ ts)) (sym (two_parts (argument_text a) (codes ", ") rest))
+    (argument_then a (44 ∷ 32 ∷ rest) (codes "," ∷ ts) near.0 (no_word 44 (32 ∷ rest) refl) behind)
+
+pub spaced_then : (xs : List Argument) → AreWritable xs → AreTokens (spaced xs) (arguments_tokens xs) × ¬ BeginsWithWordByte (spaced xs)
+spaced_then [] near = (refl, (λ h. h))
+spaced_then (a ∷ more) near = (
+  blank_then 32 (arguments_text (a ∷ more)) (arguments_tokens (a ∷ more)) refl (arguments_then (a ∷ more) near),
+  no_word 32 (arguments_text (a ∷ more)) refl,
+)

@@ -1,0 +1,11 @@
+use Rattle.std.proofs.Common.{◌≡◌, ◌≤◌, ◌++◌, take, drop}
+use Rattle.std.specs.List.{flat_map}
+use Rattle.bpf_text.specs.btf.BtfText.{quoted_byte}
+use Rattle.bpf_text.proofs.btf.quoted_name.append_quoted_part.Given as goal
+
+-- once the bytes from start on are appended, the text has those up to here as they stand between quotes
+abbrev pub invariant-loop-at : goal.invariant-loop-at
+invariant-loop-at g l = record {
+  within : l.start ≤ l.at;
+  written : l.text.items ++ drop l.start (take l.at l.part) ≡ l.fn.text.items ++ flat_map quoted_byte (take l.at l.part);
+}

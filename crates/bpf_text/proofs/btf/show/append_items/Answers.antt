@@ -1,0 +1,13 @@
+use Rattle.std.proofs.Common.{ℕ, List, ◌++◌, ap, ◌∙◌}
+use Rattle.btf_types.specs.Values.{item_value}
+use Rattle.btf_types.specs.tables.TableWords.{record_at}
+use Rattle.bpf_text.specs.btf.BtfText.{item_line}
+use Rattle.bpf_text.proofs.BtfLemmas.BtfTextLemmas.{item_shown}
+use Rattle.bpf_text.proofs.btf.show.append_items.Goals as goal
+
+pub loop-k-preserved : goal.loop-k-preserved
+loop-k-preserved g c =
+    let items = (record_at (g.T.TypeTable.meaning c.args.table.now) c.args.id).items in
+    c.in_ok-append_item.ensures
+    ∙ ap (λ (t : List ℕ). t ++ item_line c.args.signed (item_value c.item.result)) c.loop-k.invariant
+    ∙ item_shown c.args.text.now.items c.args.signed items c.loop-k.k (item_value c.item.result) c.item.ensures

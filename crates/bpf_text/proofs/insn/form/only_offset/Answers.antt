@@ -1,0 +1,14 @@
+use Rattle.std.proofs.Common.{◌≡◌, List, [], ◌∷◌, refl, sym, subst, arith}
+use Rattle.bpf_text.specs.declared.insn.spelled.Spelled.{Spelled}
+use Rattle.bpf_text.specs.insn.Forms.{FormIsRead, offset_field, last}
+use Rattle.bpf_text.proofs.InsnLemmas.FormLemmas.{other_length, one_read, one_cell}
+use Rattle.bpf_text.proofs.insn.form.only_offset.Goals as goal
+
+pub returns-then-arguments-ne1 : goal.returns-then-arguments-ne1
+returns-then-arguments-ne1 c = other_length (last offset_field) 1 (λ x. refl) c.args.arguments.now c.if-arguments-ne1.true
+
+pub returns : goal.returns
+returns c =
+    let cells : c.args.arguments.now ≡ c.index-arguments-0.result ∷ [] = one_cell c.index-arguments-0.result c.args.arguments.now c.index-arguments-0.is (omega arith) in
+    subst (λ (xs : List Spelled). FormIsRead (last offset_field) xs c.offset.result) (sym cells)
+    (one_read offset_field c.index-arguments-0.result c.offset.result c.offset.ensures)

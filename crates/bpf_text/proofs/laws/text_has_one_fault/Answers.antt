@@ -1,5 +1,0 @@
-use Rattle.bpf_text.proofs.OneFault.{one_fault}
-use Rattle.bpf_text.proofs.laws.text_has_one_fault.Goals as goal
-
-pub returns : goal.returns
-returns c = one_fault

@@ -1,5 +1,0 @@
-use Rattle.bpf_text.proofs.OneInsn.{one_listing}
-use Rattle.bpf_text.proofs.laws.text_has_one_list.Goals as goal
-
-pub returns : goal.returns
-returns c = one_listing

@@ -1,9 +1,0 @@
-use Rattle.std.proofs.Common.{false, get_or, refl, arith}
-use Rattle.bpf_text.specs.declared.byte_tables.TheConstants.{STRAY_BYTES}
-use Rattle.bpf_text.specs.Tokens.{is_stray}
-use Rattle.bpf_text.proofs.ByteTables.{table_told}
-use Rattle.bpf_text.proofs.token.is_stray.Goals as goal
-
--- the table is held against the definition at each of the 256 bytes, by computing
-pub returns : goal.returns
-returns c = table_told (λ b. get_or STRAY_BYTES b false) is_stray refl c.args.b (omega arith)

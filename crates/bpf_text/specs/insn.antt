@@ -1,0 +1,12 @@
+pub mod Arguments
+pub mod Table
+pub mod Tokens
+pub mod Lines
+pub mod Listing
+pub mod LineCauseNames
+pub mod Written
+pub mod Numbers
+pub mod Mnemonics
+pub mod WordHash
+pub mod Forms
+pub mod Reading

@@ -1,0 +1,72 @@
+-- Which text lists which instructions, and why a text lists none.
+use Rattle.std.specs.Prelude.{◌≡◌, ℕ, ◌+◌, List, [], ◌∷◌, ◌++◌, length, map, IsTrue}
+use Rattle.std.specs.List.{slice_split, AllZip, flat_map, list_any}
+use Rattle.bpf_insn.specs.declared.insn.Insn.{Insn}
+use Rattle.bpf_insn.specs.Table.{IsInsn}
+use Rattle.bpf_text.specs.declared.insn.fault.LineCause.{LineCause}
+use Rattle.bpf_text.specs.declared.insn.fault.LineCause.TheVariants.{Char, Word, Shape, Range}
+use Rattle.bpf_text.specs.declared.insn.fault.LineFault.{LineFault}
+use Rattle.bpf_text.specs.insn.Arguments.{Argument, kind_of, SpellsArguments}
+use Rattle.bpf_text.specs.insn.Table.{word_of, arguments_of}
+use Rattle.bpf_text.specs.insn.Tokens.{is_newline, code_of, AreTokens, is_stray}
+
+-- what stands before, between and behind the newlines
+abbrev pub lines_of : List ℕ → List (List ℕ)
+lines_of text = slice_split is_newline text
+
+-- ---- one line
+
+-- the instruction's word, and its arguments in any spelling
+abbrev pub IsTokenForm : List (List ℕ) → Insn → Type 0
+IsTokenForm [] i = ⊥
+IsTokenForm (word ∷ tokens) i = (word ≡ word_of i) × SpellsArguments tokens (arguments_of i)
+
+-- the code of the line is a token form of an instruction whose fields are in range
+abbrev pub ListsInsn : List ℕ → Insn → Type 0
+ListsInsn line i = IsInsn i × ((tokens : List (List ℕ)) × AreTokens (code_of line) tokens × IsTokenForm tokens i)
+
+-- what a line lists: nothing, or one instruction
+abbrev pub ListsLine : List ℕ → List Insn → Type 0
+ListsLine line [] = AreTokens (code_of line) []
+ListsLine line (i ∷ []) = ListsInsn line i
+ListsLine line _ = ⊥
+
+-- ---- the fault of one line
+
+-- some instruction has this word
+abbrev pub IsWord : List ℕ → Type 0
+IsWord word = (i : Insn) × (word ≡ word_of i)
+
+-- the tokens spell arguments of the kinds that some instruction of this word has
+abbrev pub IsForm : List ℕ → List (List ℕ) → Type 0
+IsForm word tokens =
+    (i : Insn) × (word ≡ word_of i) × ((arguments : List Argument) × (map kind_of arguments ≡ map kind_of (arguments_of i)) × SpellsArguments tokens arguments)
+
+-- the first of the four causes that holds
+abbrev pub IsCause : List ℕ → LineCause → Type 0
+IsCause line Char = IsTrue (list_any is_stray (code_of line))
+IsCause line Word =
+    (word : List ℕ) × (tokens : List (List ℕ)) × AreTokens (code_of line) (word ∷ tokens) × ¬ IsWord word
+IsCause line Shape =
+    (word : List ℕ) × (tokens : List (List ℕ)) × AreTokens (code_of line) (word ∷ tokens) × IsWord word × ¬ IsForm word tokens
+IsCause line Range =
+    (word : List ℕ) × (tokens : List (List ℕ)) × AreTokens (code_of line) (word ∷ tokens) × IsForm word tokens
+    × ((i : Insn) → IsInsn i → ¬ IsTokenForm (word ∷ tokens) i)
+
+-- ---- a text
+
+-- the instructions that the lines list, in order
+pub record Lists (text : List ℕ) (insns : List Insn) : Type 0 where
+  pub listed : List (List Insn)
+  pub each : AllZip ListsLine (lines_of text) listed
+  pub whole : insns ≡ flat_map (λ found. found) listed
+
+-- the first line that lists neither nothing nor an instruction, counted from 1
+pub record IsListFault (text : List ℕ) (fault : LineFault) : Type 0 where
+  pub front : List (List ℕ)
+  pub line : List ℕ
+  pub back : List (List ℕ)
+  pub lines : lines_of text ≡ front ++ line ∷ back
+  pub before : (listed : List (List Insn)) × AllZip ListsLine front listed
+  pub place : fault.line ≡ length front + 1
+  pub cause : IsCause line fault.cause

@@ -1,0 +1,332 @@
+//! The line of a BTF type: its number, the word of its kind, and its fields.
+
+ghost use Rattle.std.specs.Prelude.{◌≡◌, [], ◌++◌, codes, decimal, IsTrue, OnOk};
+ghost use Rattle.btf_types.specs.Values as values;
+ghost use Rattle.btf_types.specs.Values.{head_value};
+ghost use Rattle.btf_types.specs.Names as names;
+ghost use Rattle.bpf_text.specs.btf.BtfText as spec;
+ghost use Rattle.bpf_text.specs.btf.LineParts as parts;
+
+use crate::btf::quoted_name::append_quoted_part;
+use crate::btf::text_parts::{append, append_number};
+use btf_types::{Encoding, Head, Linkage};
+use itoa::Buffer;
+use std::alloc::{AllocError, Allocator};
+
+fn encoding_name(encoding: Encoding) -> &'static str
+    ensures { result.now ≡ spec.encoding_name encoding }
+{
+    match encoding {
+        Encoding::Plain => "plain",
+        Encoding::Signed => "signed",
+        Encoding::Char => "char",
+        Encoding::Bool => "bool",
+    }
+}
+
+fn linkage_name(linkage: Linkage) -> &'static str
+    ensures { result.now ≡ spec.linkage_name linkage }
+{
+    match linkage {
+        Linkage::LStatic => "static",
+        Linkage::LGlobal => "global",
+        Linkage::LExtern => "extern",
+    }
+}
+
+fn sign_name(signed: bool) -> &'static str
+    ensures { result.now ≡ spec.sign_name signed }
+{
+    if signed { "signed" } else { "unsigned" }
+}
+
+fn flag_text(flag: bool) -> &'static str
+    ensures { result.now ≡ spec.flag_text flag }
+{
+    if flag { "1" } else { "0" }
+}
+
+fn kind_word(head: Head<'_>) -> &'static str
+    ensures { result.now ≡ spec.kind_word (head_value head.entry) }
+{
+    match head {
+        Head::KInt { .. } => "int",
+        Head::KPtr { .. } => "ptr",
+        Head::KArray { .. } => "array",
+        Head::KStruct { .. } => "struct",
+        Head::KUnion { .. } => "union",
+        Head::KEnum { .. } => "enum",
+        Head::KFwd { .. } => "fwd",
+        Head::KTypedef { .. } => "typedef",
+        Head::KVolatile { .. } => "volatile",
+        Head::KConst { .. } => "const",
+        Head::KRestrict { .. } => "restrict",
+        Head::KFunc { .. } => "func",
+        Head::KFuncProto { .. } => "func_proto",
+        Head::KVar { .. } => "var",
+        Head::KDatasec { .. } => "datasec",
+        Head::KFloat { .. } => "float",
+        Head::KDeclTag { .. } => "decl_tag",
+        Head::KTypeTag { .. } => "type_tag",
+        Head::KEnum64 { .. } => "enum64",
+    }
+}
+
+fn append_encoding<A: Allocator>(
+    text: &mut Vec<u8, A>,
+    encoding: Encoding,
+) -> Result<(), AllocError>
+    ensures { OnOk result (text.new.items ≡ text.old.items ++ (codes " encoding=" ++ spec.encoding_name encoding)) }
+{
+    append(text, " encoding=")?;
+    append(text, encoding_name(encoding))
+}
+
+fn append_int<A: Allocator>(
+    text: &mut Vec<u8, A>,
+    size: u32,
+    encoding: Encoding,
+    offset: u8,
+    bits: u8,
+) -> Result<(), AllocError>
+    ensures { OnOk result (text.new.items ≡ text.old.items ++ parts.head_fields (values.KInt [] size encoding offset bits) 0) }
+{
+    append_number(text, "\" size=", size)?;
+    append_encoding(text, encoding)?;
+    append_number(text, " offset=", u32::from(offset))?;
+    append_number(text, " bits=", u32::from(bits))
+}
+
+fn append_array<A: Allocator>(
+    text: &mut Vec<u8, A>,
+    target: u32,
+    index: u32,
+    count: u32,
+) -> Result<(), AllocError>
+    ensures { OnOk result (text.new.items ≡ text.old.items ++ parts.head_fields (values.KArray target index count) 0) }
+{
+    append_number(text, " type=", target)?;
+    append_number(text, " index=", index)?;
+    append_number(text, " count=", count)
+}
+
+// Appends a label and a number, and how many items there are.
+fn append_counted<A: Allocator>(
+    text: &mut Vec<u8, A>,
+    label: &str,
+    number: u32,
+    items: u32,
+) -> Result<(), AllocError>
+    ensures { OnOk result (text.new.items ≡ text.old.items ++ (label.now ++ decimal number ++ codes " items=" ++ decimal items)) }
+{
+    append_number(text, label, number)?;
+    append_number(text, " items=", items)
+}
+
+fn append_enum<A: Allocator>(
+    text: &mut Vec<u8, A>,
+    signed: bool,
+    size: u32,
+    items: u32,
+) -> Result<(), AllocError>
+    ensures { OnOk result (text.new.items ≡ text.old.items ++ parts.head_fields (values.KEnum [] signed size) items) }
+{
+    append(text, "\" ")?;
+    append(text, sign_name(signed))?;
+    append_counted(text, " size=", size, items)
+}
+
+// Appends a label and a word, and the number of a type.
+fn append_with_type<A: Allocator>(
+    text: &mut Vec<u8, A>,
+    label: &str,
+    word: &str,
+    target: u32,
+) -> Result<(), AllocError>
+    ensures { OnOk result (text.new.items ≡ text.old.items ++ (label.now ++ word.now ++ codes " type=" ++ decimal target)) }
+{
+    append(text, label)?;
+    append(text, word)?;
+    append_number(text, " type=", target)
+}
+
+fn append_component<A: Allocator>(
+    text: &mut Vec<u8, A>,
+    component: Option<u16>,
+) -> Result<(), AllocError>
+    ensures { OnOk result (text.new.items ≡ text.old.items ++ spec.component_text component) }
+{
+    match component {
+        Some(index) => append(text, Buffer::new().format(index)),
+        None => append(text, "-1"),
+    }
+}
+
+fn append_decl_tag<A: Allocator>(
+    text: &mut Vec<u8, A>,
+    flag: bool,
+    target: u32,
+    component: Option<u16>,
+) -> Result<(), AllocError>
+    ensures { OnOk result (text.new.items ≡ text.old.items ++ parts.head_fields (values.KDeclTag [] flag target component) 0) }
+{
+    append_with_type(text, "\" flag=", flag_text(flag), target)?;
+    append(text, " component=")?;
+    append_component(text, component)
+}
+
+// Appends what stands behind the name of a declaration: a type that is declared by its name alone, or is linked or a tag.
+fn append_declaration<A: Allocator>(text: &mut Vec<u8, A>, head: Head<'_>) -> Result<(), AllocError>
+    requires { IsTrue (parts.is_declaration (head_value head)) }
+    ensures { OnOk result (text.new.items ≡ text.old.items ++ parts.head_fields (head_value head.entry) 0) }
+{
+    match head {
+        Head::KFwd { is_union, .. } => append(
+            text,
+            if is_union { "\" union" } else { "\" struct" },
+        ),
+        Head::KTypedef { target, .. } => append_number(text, "\" type=", target),
+        Head::KFunc {
+            linkage,
+            target,
+            ..
+        }
+        | Head::KVar {
+            target,
+            linkage,
+            ..
+        } => append_with_type(text, "\" ", linkage_name(linkage), target),
+        Head::KDeclTag {
+            flag,
+            target,
+            component,
+            ..
+        } => append_decl_tag(text, flag, target, component),
+        Head::KTypeTag { flag, target, .. } => {
+            append_with_type(text, "\" flag=", flag_text(flag), target)
+        }
+        _ => unreachable!(),
+    }
+}
+
+// Appends what stands behind the name of a type with so many items.
+fn append_fields<A: Allocator>(
+    text: &mut Vec<u8, A>,
+    head: Head<'_>,
+    items: u32,
+) -> Result<(), AllocError>
+    ensures { OnOk result (text.new.items ≡ text.old.items ++ parts.head_fields (head_value head.entry) items) }
+{
+    match head {
+        Head::KInt {
+            size,
+            encoding,
+            offset,
+            bits,
+            ..
+        } => append_int(text, size, encoding, offset, bits),
+        Head::KPtr { target }
+        | Head::KVolatile { target }
+        | Head::KConst { target }
+        | Head::KRestrict { target } => append_number(text, " type=", target),
+        Head::KArray {
+            target,
+            index,
+            count,
+        } => append_array(text, target, index, count),
+        Head::KStruct { size, .. } | Head::KUnion { size, .. } | Head::KDatasec { size, .. } => {
+            append_counted(text, "\" size=", size, items)
+        }
+        Head::KEnum { signed, size, .. } | Head::KEnum64 { signed, size, .. } => {
+            append_enum(text, signed, size, items)
+        }
+        Head::KFuncProto { target } => append_counted(text, " type=", target, items),
+        Head::KFloat { size, .. } => append_number(text, "\" size=", size),
+        _ => append_declaration(text, head),
+    }
+}
+
+/// The name of a type, which is empty where its kind has none.
+pub fn head_name<'a>(head: Head<'a>) -> &'a str
+    ensures { result.now ≡ names.head_name (head_value head.entry) }
+{
+    head.name()
+}
+
+/// What stands between the word of a kind and the first byte of its name.
+fn opening(head: Head<'_>) -> &'static str
+    ensures { result.now ≡ parts.opening (head_value head.entry) }
+{
+    match head {
+        Head::KPtr { .. }
+        | Head::KArray { .. }
+        | Head::KVolatile { .. }
+        | Head::KConst { .. }
+        | Head::KRestrict { .. }
+        | Head::KFuncProto { .. } => "",
+        _ => " \"",
+    }
+}
+
+/// Appends the line of a type with its number up to the first byte of its name. Behind it come the bytes of the name, by
+/// `append_quoted_part`, and `append_head_end`.
+///
+/// # Errors
+///
+/// `AllocError` where the vector couldn't grow. It may then hold the first bytes of the line.
+pub fn append_head_start<A: Allocator>(
+    text: &mut Vec<u8, A>,
+    id: u32,
+    head: Head<'_>,
+) -> Result<(), AllocError>
+    ensures { OnOk result (text.new.items ≡ text.old.items ++ parts.head_start id (head_value head.entry)) }
+{
+    append_number(text, "[", id)?;
+    append(text, "] ")?;
+    append(text, kind_word(head))?;
+    append(text, opening(head))
+}
+
+/// Appends the line of a type with so many items from behind the last byte of its name.
+///
+/// # Errors
+///
+/// `AllocError` where the vector couldn't grow. It may then hold the first bytes of what was to come.
+pub fn append_head_end<A: Allocator>(
+    text: &mut Vec<u8, A>,
+    head: Head<'_>,
+    items: u32,
+) -> Result<(), AllocError>
+    ensures { OnOk result (text.new.items ≡ text.old.items ++ parts.head_end (head_value head.entry) items) }
+{
+    append_fields(text, head, items)?;
+    append(text, "\n")
+}
+
+/// Appends the line of a type with its number and so many items.
+///
+/// # Errors
+///
+/// `AllocError` where the vector couldn't grow. It may then hold the first bytes of the line.
+pub fn append_head<A: Allocator>(
+    text: &mut Vec<u8, A>,
+    id: u32,
+    head: Head<'_>,
+    items: u32,
+) -> Result<(), AllocError>
+    ensures { OnOk result (text.new.items ≡ text.old.items ++ spec.head_line id (head_value head.entry) items) }
+{
+    append_head_start(text, id, head)?;
+    append_quoted_part(text, head_name(head).as_bytes())?;
+    append_head_end(text, head, items)
+}
+
+/// Whether the values of a type are read as signed.
+pub fn is_signed(head: Head<'_>) -> bool
+    ensures { result ≡ spec.is_signed (head_value head.entry) }
+{
+    match head {
+        Head::KEnum { signed, .. } | Head::KEnum64 { signed, .. } => signed,
+        _ => false,
+    }
+}

@@ -1,0 +1,162 @@
+//! The lines of the items of BTF types: members, values, parameters and entries.
+
+ghost use Rattle.std.specs.Prelude.{◌≡◌, [], ◌++◌, false, OnOk};
+ghost use Rattle.std.specs.Int.{w32, w64};
+ghost use Rattle.btf_types.specs.Values as values;
+ghost use Rattle.btf_types.specs.Values.{item_value};
+ghost use Rattle.btf_types.specs.Names as names;
+ghost use Rattle.bpf_text.specs.btf.BtfText as spec;
+ghost use Rattle.bpf_text.specs.btf.LineParts as parts;
+
+use crate::btf::quoted_name::append_quoted_part;
+use crate::btf::text_parts::{append, append_number};
+use btf_types::Item;
+use itoa::Buffer;
+use std::alloc::{AllocError, Allocator};
+
+fn append_value32<A: Allocator>(
+    text: &mut Vec<u8, A>,
+    value: u32,
+    signed: bool,
+) -> Result<(), AllocError>
+    ensures { OnOk result (text.new.items ≡ text.old.items ++ spec.value_text w32 signed value) }
+{
+    if signed {
+        append(text, Buffer::new().format(value.cast_signed()))
+    } else {
+        append(text, Buffer::new().format(value))
+    }
+}
+
+fn append_value64<A: Allocator>(
+    text: &mut Vec<u8, A>,
+    value: u64,
+    signed: bool,
+) -> Result<(), AllocError>
+    ensures { OnOk result (text.new.items ≡ text.old.items ++ spec.value_text w64 signed value) }
+{
+    if signed {
+        append(text, Buffer::new().format(value.cast_signed()))
+    } else {
+        append(text, Buffer::new().format(value))
+    }
+}
+
+/// Appends what stands behind the name of a member.
+fn append_place<A: Allocator>(
+    text: &mut Vec<u8, A>,
+    target: u32,
+    bit_offset: u32,
+    width: u8,
+) -> Result<(), AllocError>
+    ensures { OnOk result (text.new.items ≡ text.old.items ++ parts.item_fields false (values.Member [] target bit_offset width)) }
+{
+    append_number(text, "\" type=", target)?;
+    append_number(text, " offset=", bit_offset)?;
+    append_number(text, " width=", u32::from(width))
+}
+
+fn append_entry<A: Allocator>(
+    text: &mut Vec<u8, A>,
+    target: u32,
+    offset: u32,
+    size: u32,
+) -> Result<(), AllocError>
+    ensures { OnOk result (text.new.items ≡ text.old.items ++ parts.item_fields false (values.Entry target offset size)) }
+{
+    append_number(text, " type=", target)?;
+    append_number(text, " offset=", offset)?;
+    append_number(text, " size=", size)
+}
+
+/// Appends what stands behind the name of an item.
+fn append_item_fields<A: Allocator>(
+    text: &mut Vec<u8, A>,
+    item: Item<'_>,
+    signed: bool,
+) -> Result<(), AllocError>
+    ensures { OnOk result (text.new.items ≡ text.old.items ++ parts.item_fields signed (item_value item.entry)) }
+{
+    match item {
+        Item::Member {
+            target,
+            bit_offset,
+            width,
+            ..
+        } => append_place(text, target, bit_offset, width),
+        Item::EnumValue { value, .. } => {
+            append(text, "\" ")?;
+            append_value32(text, value, signed)
+        }
+        Item::Value64 { value, .. } => {
+            append(text, "\" ")?;
+            append_value64(text, value, signed)
+        }
+        Item::Param { target, .. } => append_number(text, "\" type=", target),
+        Item::Entry {
+            target,
+            offset,
+            size,
+        } => append_entry(text, target, offset, size),
+    }
+}
+
+/// The name of an item, which is empty where it has none.
+pub fn item_name<'a>(item: Item<'a>) -> &'a str
+    ensures { result.now ≡ names.item_name (item_value item.entry) }
+{
+    item.name()
+}
+
+/// Appends the line of an item up to the first byte of its name. Behind it come the bytes of the name, by
+/// `append_quoted_part`, and `append_item_end`.
+///
+/// # Errors
+///
+/// `AllocError` where the vector couldn't grow. It may then hold the first bytes of the line.
+pub fn append_item_start<A: Allocator>(
+    text: &mut Vec<u8, A>,
+    item: Item<'_>,
+) -> Result<(), AllocError>
+    ensures { OnOk result (text.new.items ≡ text.old.items ++ parts.item_start (item_value item.entry)) }
+{
+    match item {
+        Item::Member { .. } => append(text, "  member \""),
+        Item::EnumValue { .. } | Item::Value64 { .. } => append(text, "  value \""),
+        Item::Param { .. } => append(text, "  param \""),
+        Item::Entry { .. } => append(text, "  entry"),
+    }
+}
+
+/// Appends the line of an item from behind the last byte of its name, of a type whose values are read as signed or not.
+///
+/// # Errors
+///
+/// `AllocError` where the vector couldn't grow. It may then hold the first bytes of what was to come.
+pub fn append_item_end<A: Allocator>(
+    text: &mut Vec<u8, A>,
+    item: Item<'_>,
+    signed: bool,
+) -> Result<(), AllocError>
+    ensures { OnOk result (text.new.items ≡ text.old.items ++ parts.item_end signed (item_value item.entry)) }
+{
+    append_item_fields(text, item, signed)?;
+    append(text, "\n")
+}
+
+/// Appends the line of an item of a type whose values are read as signed or not.
+///
+/// # Errors
+///
+/// `AllocError` where the vector couldn't grow. It may then hold the first bytes of the line.
+pub fn append_item<A: Allocator>(
+    text: &mut Vec<u8, A>,
+    item: Item<'_>,
+    signed: bool,
+) -> Result<(), AllocError>
+    ensures { OnOk result (text.new.items ≡ text.old.items ++ spec.item_line signed (item_value item.entry)) }
+{
+    append_item_start(text, item)?;
+    append_quoted_part(text, item_name(item).as_bytes())?;
+    append_item_end(text, item, signed)
+}

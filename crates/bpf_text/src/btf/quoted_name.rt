@@ -1,0 +1,83 @@
+//! The bytes of names between quotes, with what a reader couldn't see or would take for a quote written otherwise.
+
+ghost use Rattle.std.specs.Prelude.{◌≡◌, ◌/◌, ◌%◌, ◌∷◌, [], ◌++◌, ◌<◌, true, codes, OnOk};
+ghost use Rattle.std.specs.Char.{digit_char};
+ghost use Rattle.std.specs.List.{flat_map};
+ghost use Rattle.bpf_text.specs.btf.BtfText as spec;
+
+use std::alloc::{AllocError, Allocator};
+
+/// The digits of a number in hexadecimal.
+const HEX_DIGITS: [u8; 16] = *b"0123456789abcdef";
+
+fn needs_backslash(byte: u8) -> bool
+    ensures { result ≡ spec.needs_backslash byte }
+{
+    byte == b'"' || byte == b'\\'
+}
+
+fn is_control(byte: u8) -> bool
+    ensures { result ≡ spec.is_control byte }
+{
+    byte < 0x20 || byte == 0x7f
+}
+
+/// The hexadecimal digit of a number.
+fn hex_digit(number: u8) -> u8
+    requires { number < 16 }
+    ensures { result ≡ digit_char number }
+{
+    HEX_DIGITS[usize::from(number)]
+}
+
+/// Appends a control character as `\x` and two hexadecimal digits.
+fn append_control<A: Allocator>(text: &mut Vec<u8, A>, byte: u8) -> Result<(), AllocError>
+    ensures { OnOk result (text.new.items ≡ text.old.items ++ (codes "\\x" ++ digit_char (byte / 16) ∷ digit_char (byte % 16) ∷ [])) }
+{
+    text.extend_from_slice(&[b'\\', b'x', hex_digit(byte / 16), hex_digit(byte % 16)])
+}
+
+/// Whether a byte stands for itself between the quotes.
+fn is_plain(byte: u8) -> bool
+    ensures { result ≡ true → spec.quoted_byte byte ≡ byte ∷ [] }
+{
+    !needs_backslash(byte) && !is_control(byte)
+}
+
+/// Appends a byte of a name.
+fn append_byte<A: Allocator>(text: &mut Vec<u8, A>, byte: u8) -> Result<(), AllocError>
+    ensures { OnOk result (text.new.items ≡ text.old.items ++ spec.quoted_byte byte) }
+{
+    if needs_backslash(byte) {
+        text.extend_from_slice(&[b'\\', byte])
+    } else if is_control(byte) {
+        append_control(text, byte)
+    } else {
+        text.extend_from_slice(&[byte])
+    }
+}
+
+/// Appends bytes of a name as they stand between its quotes: `"` and `\` behind a backslash, control characters of ASCII as
+/// `\x` and two hexadecimal digits, and all other bytes as they are. A name may be cut anywhere: what its parts append is what
+/// the whole name does.
+///
+/// # Errors
+///
+/// `AllocError` where the vector couldn't grow. It may then hold the first bytes of what was to come.
+pub fn append_quoted_part<A: Allocator>(
+    text: &mut Vec<u8, A>,
+    part: &[u8],
+) -> Result<(), AllocError>
+    ensures { OnOk result (text.new.items ≡ text.old.items ++ flat_map spec.quoted_byte part.now) }
+{
+    // Plain bytes are appended by whole runs; those from here on are still to come.
+    let mut start = 0;
+    for (at, byte) in part.iter().enumerate() {
+        if !is_plain(*byte) {
+            text.extend_from_slice(&part[start..at])?;
+            append_byte(text, *byte)?;
+            start = at + 1;
+        }
+    }
+    text.extend_from_slice(&part[start..])
+}

@@ -1,0 +1,59 @@
+//! The text of a table of BTF types.
+
+ghost use Rattle.std.specs.Prelude.{◌≡◌, ◌<◌, ◌≤◌, ◌++◌, length, IfOk, OnOk};
+ghost use Rattle.std.specs.List.{flat_map};
+ghost use Rattle.btf_types.specs.tables.TableWords.{record_at};
+ghost use Rattle.bpf_text.specs.btf.BtfText.{is_signed, item_line, record_text, text_of};
+
+use crate::btf::head_lines::{append_head, is_signed};
+use crate::btf::item_lines::append_item;
+use btf_types::TypeTable;
+use std::alloc::{AllocError, Allocator};
+
+/// Appends the lines of a type's items.
+fn append_items<T: TypeTable, A: Allocator>(
+    text: &mut Vec<u8, A>,
+    table: &T,
+    id: u32,
+    signed: bool,
+) -> Result<(), AllocError>
+    requires first { 0 < id }
+    requires last { id ≤ length (T.meaning table.now) }
+    ensures { OnOk result (text.new.items ≡ text.old.items ++ flat_map (item_line signed) (record_at (T.meaning table.now) id).items) }
+{
+    for k in 0..table.item_count(id) {
+        append_item(text, table.item(id, k), signed)?;
+    }
+    Ok(())
+}
+
+/// Appends the lines of a type.
+fn append_record<T: TypeTable, A: Allocator>(
+    text: &mut Vec<u8, A>,
+    table: &T,
+    id: u32,
+) -> Result<(), AllocError>
+    requires first { 0 < id }
+    requires last { id ≤ length (T.meaning table.now) }
+    ensures { OnOk result (text.new.items ≡ text.old.items ++ record_text id (record_at (T.meaning table.now) id)) }
+{
+    let head = table.head(id);
+    append_head(text, id, head, table.item_count(id))?;
+    append_items(text, table, id, is_signed(head))
+}
+
+/// The text of a table of types: a line for each type, which begins with its number in brackets, and behind it a line for each
+/// of its items, which begins with two spaces. The text of no types is empty.
+///
+/// # Errors
+///
+/// `AllocError` where the allocator refuses room for the text.
+pub fn show_btf<T: TypeTable, A: Allocator>(alloc: A, table: &T) -> Result<Vec<u8, A>, AllocError>
+    ensures { IfOk result (λ text. text.items ≡ text_of (T.meaning table.now)) }
+{
+    let mut text = Vec::new(alloc);
+    for index in 0..table.count() {
+        append_record(&mut text, table, index + 1)?;
+    }
+    Ok(text)
+}

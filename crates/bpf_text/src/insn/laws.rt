@@ -1,0 +1,23 @@
+//! Laws of listings.
+
+ghost use Rattle.std.specs.Prelude.{◌≡◌, ℕ, List, All};
+ghost use Rattle.bpf_insn.specs.declared.insn.Insn.{Insn};
+ghost use Rattle.bpf_insn.specs.Table.{IsInsn};
+ghost use Rattle.bpf_text.specs.declared.insn.fault.LineFault.{LineFault};
+ghost use Rattle.bpf_text.specs.insn.Lines.{listing_of};
+ghost use Rattle.bpf_text.specs.insn.Listing.{Lists, IsListFault};
+
+/// A text lists one list of instructions at most.
+pub fn text_has_one_list()
+    ensures { (text : List ℕ) (l m : List Insn) → Lists text l → Lists text m → l ≡ m }
+{}
+
+/// The lines of a list, each with a newline, list it.
+pub fn lines_list_themselves()
+    ensures { (l : List Insn) → All IsInsn l → Lists (listing_of l) l }
+{}
+
+/// A text has one fault at most.
+pub fn text_has_one_fault()
+    ensures { (text : List ℕ) (f g : LineFault) → IsListFault text f → IsListFault text g → f ≡ g }
+{}

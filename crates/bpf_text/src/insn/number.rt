@@ -1,0 +1,169 @@
+//! Numbers in a listing.
+
+ghost use Rattle.std.specs.Prelude.{◌≡◌, ◌≢◌, ℕ, ◌+◌, ◌*◌, ◌^◌, ◌<◌, ◌≤◌, ℤ, pos, codes, MatchBool, MatchOption, IfSome, IfNone, FitsSigned};
+ghost use Rattle.std.specs.Str.Parse.{IsNumeral, digits_value};
+ghost use Rattle.bpf_text.specs.insn.Arguments.{SpellsMagnitude, SpellsSigned};
+ghost use Rattle.bpf_text.specs.insn.Numbers.{IsMagnitude, IsNumber, IsFar};
+ghost use Rattle.std.specs.Int.{w16, w32, w128};
+
+/// A number below 2^64, or that it is larger.
+#[derive(Clone, Copy)]
+pub(crate) enum Magnitude {
+    Small(u64),
+    Large,
+}
+
+/// A number with its sign.
+#[derive(Clone, Copy)]
+pub(crate) struct Number {
+    pub(crate) negative: bool,
+    pub(crate) magnitude: Magnitude,
+}
+
+/// The number with one more digit.
+fn with_digit(number: Magnitude, radix: u32, digit: u32) -> Magnitude
+    requires { 0 < radix }
+    ensures { (n : ℕ) → IsMagnitude number n → IsMagnitude result (n * radix + digit) }
+{
+    match number {
+        Magnitude::Large => Magnitude::Large,
+        Magnitude::Small(n) => match n.checked_mul(u64::from(radix)) {
+            None => Magnitude::Large,
+            Some(shifted) => match shifted.checked_add(u64::from(digit)) {
+                None => Magnitude::Large,
+                Some(sum) => Magnitude::Small(sum),
+            },
+        },
+    }
+}
+
+/// What the digits write, where they are digits and there are some.
+fn digits_magnitude(radix: u32, digits: &[u8]) -> Option<Magnitude>
+    requires low { 2 ≤ radix }
+    requires high { radix ≤ 36 }
+    ensures none { IfNone result (¬ IsNumeral radix digits.now) }
+    ensures some { IfSome result
+        (λ m. IsNumeral radix digits.now × IsMagnitude m (digits_value radix digits.now)) }
+{
+    if digits.is_empty() {
+        return None;
+    }
+    let mut number = Magnitude::Small(0);
+    for b in digits {
+        let digit = char::from(*b).to_digit(radix)?;
+        number = with_digit(number, radix, digit);
+    }
+    Some(number)
+}
+
+/// The number that a token spells.
+#[inline(always)]
+pub(crate) fn magnitude_of(token: &[u8]) -> Option<Magnitude>
+    ensures none { IfNone result ((n : ℕ) → ¬ SpellsMagnitude token.now n) }
+    ensures some { IfSome result (λ m. (n : ℕ) × SpellsMagnitude token.now n × IsMagnitude m n) }
+{
+    match token.strip_prefix(b"0x") {
+        Some(digits) => digits_magnitude(16, digits),
+        None => digits_magnitude(10, token),
+    }
+}
+
+/// Whether the sign is a minus, where it is a sign.
+fn is_minus(sign: &[u8]) -> Option<bool>
+    ensures none { IfNone result ((sign.now ≢ codes "+") × (sign.now ≢ codes "-")) }
+    ensures some { IfSome result (λ b. MatchBool b (sign.now ≡ codes "-") (sign.now ≡ codes "+")) }
+{
+    if sign == b"-".as_slice() {
+        Some(true)
+    } else if sign == b"+".as_slice() {
+        Some(false)
+    } else {
+        None
+    }
+}
+
+/// The number that a token spells without a sign.
+pub(crate) fn unsigned_number(token: &[u8]) -> Option<Number>
+    ensures none { IfNone result ((n : ℕ) → ¬ SpellsMagnitude token.now n) }
+    ensures some { IfSome result (λ k. (n : ℕ) × SpellsMagnitude token.now n × IsNumber k (pos n)) }
+{
+    let magnitude = magnitude_of(token)?;
+    Some(Number {
+        negative: false,
+        magnitude,
+    })
+}
+
+/// The number that a sign and a token spell.
+pub(crate) fn signed_number(sign: &[u8], token: &[u8]) -> Option<Number>
+    ensures none { IfNone result ((z : ℤ) → ¬ SpellsSigned sign.now token.now z) }
+    ensures some { IfSome result (λ k. (z : ℤ) × SpellsSigned sign.now token.now z × IsNumber k z) }
+{
+    let negative = is_minus(sign)?;
+    let magnitude = magnitude_of(token)?;
+    Some(Number {
+        negative,
+        magnitude,
+    })
+}
+
+impl Number {
+    fn value(self) -> Option<i128>
+        ensures cases { (z : ℤ) → IsNumber self z → MatchOption result (IsFar z) (λ v. v ≡ z) }
+        ensures fits { IfSome result (λ v. FitsSigned w128 v) }
+    {
+        match self.magnitude {
+            Magnitude::Large => None,
+            Magnitude::Small(n) => {
+                if self.negative {
+                    Some(-i128::from(n))
+                } else {
+                    Some(i128::from(n))
+                }
+            }
+        }
+    }
+
+    pub(crate) fn as_i32(self) -> Option<i32>
+        ensures cases { (z : ℤ) → IsNumber self z → MatchOption result (¬ FitsSigned w32 z) (λ v. v ≡ z) }
+        ensures fits { IfSome result (λ v. FitsSigned w32 v) }
+    {
+        match self.value() {
+            None => None,
+            Some(value) => match i32::try_from(value) {
+                Ok(value) => Some(value),
+                Err(_) => None,
+            },
+        }
+    }
+
+    pub(crate) fn as_i16(self) -> Option<i16>
+        ensures cases { (z : ℤ) → IsNumber self z → MatchOption result (¬ FitsSigned w16 z) (λ v. v ≡ z) }
+        ensures fits { IfSome result (λ v. FitsSigned w16 v) }
+    {
+        match self.value() {
+            None => None,
+            Some(value) => match i16::try_from(value) {
+                Ok(value) => Some(value),
+                Err(_) => None,
+            },
+        }
+    }
+
+    pub(crate) fn as_u64(self) -> Option<u64>
+        ensures cases { (z : ℤ) → IsNumber self z →
+            MatchOption result ((m : ℕ) → m < 2 ^ 64 → z ≢ pos m) (λ n. z ≡ pos n) }
+        ensures fits { IfSome result (λ n. n < 2 ^ 64) }
+    {
+        match self.magnitude {
+            Magnitude::Large => None,
+            Magnitude::Small(n) => {
+                if self.negative && n != 0 {
+                    None
+                } else {
+                    Some(n)
+                }
+            }
+        }
+    }
+}

@@ -1,0 +1,122 @@
+//! The tokens of a line.
+
+ghost use Rattle.std.specs.Prelude.{◌≡◌, ℕ, ◌<◌, ◌≤◌, false, List, length, map, IsTrue, IfSome, IfNone, MatchBool};
+ghost use Rattle.std.specs.List.{list_any, list_all, prefix_len, position_or_len};
+ghost use Rattle.bpf_text.specs.insn.Tokens.{is_comment_mark, is_blank, is_word_byte, is_stray, code_of, StartsWithToken, AreTokens};
+
+use crate::insn::byte_tables::{STRAY_BYTES, WORD_BYTES};
+use arrayvec::ArrayVec;
+
+/// The most tokens that the arguments of a line have: 5 for each of 3, and 2 commas.
+pub(crate) const MOST_TOKENS: usize = 17;
+
+/// The tokens behind a word. They take no memory of an allocator.
+pub(crate) type Tokens<'a> = ArrayVec<&'a [u8], MOST_TOKENS>;
+
+fn is_comment_mark(b: u8) -> bool
+    ensures { result ≡ is_comment_mark b }
+{
+    b == b';' || b == b'#'
+}
+
+fn is_blank(b: u8) -> bool
+    ensures { result ≡ is_blank b }
+{
+    b == b' ' || b == b'\t' || b == b'\r'
+}
+
+#[inline(always)]
+fn is_word_byte(b: u8) -> bool
+    ensures { result ≡ is_word_byte b }
+{
+    WORD_BYTES[b as usize]
+}
+
+#[inline(always)]
+fn is_stray(b: u8) -> bool
+    ensures { result ≡ is_stray b }
+{
+    STRAY_BYTES[b as usize]
+}
+
+/// The length of what stands before the first stray byte.
+fn known_len(bytes: &[u8]) -> usize
+    ensures value { result ≡ position_or_len is_stray bytes.now }
+    ensures within { result ≤ length bytes.now }
+{
+    for (i, b) in bytes.iter().enumerate() {
+        if is_stray(*b) {
+            return i;
+        }
+    }
+    bytes.len()
+}
+
+/// What a line has before its comment, where each byte of that is blank or part of a token. The marks of comments are
+/// stray bytes themselves, so the first stray byte ends it.
+pub(crate) fn known_code(line: &[u8]) -> Option<&[u8]>
+    ensures none { IfNone result (IsTrue (list_any is_stray (code_of line.now))) }
+    ensures some { IfSome result (λ code. (code.now ≡ code_of line.now) × (list_any is_stray code.now ≡ false)) }
+{
+    let end = known_len(line);
+    if end < line.len() && !is_comment_mark(line[end]) {
+        return None;
+    }
+    Some(&line[..end])
+}
+
+fn blank_len(bytes: &[u8]) -> usize
+    ensures value { result ≡ prefix_len is_blank bytes.now }
+    ensures within { result ≤ length bytes.now }
+{
+    for (i, b) in bytes.iter().enumerate() {
+        if !is_blank(*b) {
+            return i;
+        }
+    }
+    bytes.len()
+}
+
+fn word_len(bytes: &[u8]) -> usize
+    ensures value { result ≡ prefix_len is_word_byte bytes.now }
+    ensures within { result ≤ length bytes.now }
+{
+    for (i, b) in bytes.iter().enumerate() {
+        if !is_word_byte(*b) {
+            return i;
+        }
+    }
+    bytes.len()
+}
+
+/// The first token, and what stands behind it.
+pub(crate) fn next_token(bytes: &[u8]) -> Option<(&[u8], &[u8])>
+    requires { list_any is_stray bytes.now ≡ false }
+    ensures none { IfNone result (IsTrue (list_all is_blank bytes.now)) }
+    ensures some { IfSome result (λ x. StartsWithToken bytes.now x.0.now x.1.now) }
+{
+    let (_, rest) = bytes.split_at(blank_len(bytes));
+    if rest.is_empty() {
+        return None;
+    }
+    let run = word_len(rest);
+    Some(rest.split_at(if run == 0 { 1 } else { run }))
+}
+
+/// Puts the tokens of a line without its comment in the place of those that were there, and tells whether there was
+/// room for them.
+pub(crate) fn read_tokens<'a>(tokens: &mut Tokens<'a>, code: &'a [u8]) -> bool
+    requires { list_any is_stray code.now ≡ false }
+    ensures { MatchBool result (AreTokens code.now (map (λ t. t.now) tokens.new.items))
+        ((tokens : List (List ℕ)) → AreTokens code.now tokens → MOST_TOKENS < length tokens) }
+{
+    tokens.clear();
+    let mut rest = code;
+    while let Some((token, after)) = next_token(rest) {
+        if tokens.try_push(token).is_err() {
+            return false;
+        }
+        rest = after;
+    }
+    true
+}

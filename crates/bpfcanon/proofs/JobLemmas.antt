@@ -1,0 +1,50 @@
+-- How a command ends that reads its input whole.
+use Rattle.std.proofs.Common.{◌≡◌, ◌<◌, false, List, [], ℕ, inl, inr, length, refl}
+use Rattle.std.specs.Io.KnownBytes.{Consumes, IsAtEnd}
+use Rattle.std.proofs.KnownBytes.{Appends-nil}
+use Rattle.bpfcanon.specs.declared.job.Job.{Job}
+use Rattle.bpfcanon.specs.declared.outcome.Outcome.{Outcome}
+use Rattle.bpfcanon.specs.declared.outcome.Outcome.TheVariants.{TooLong}
+use Rattle.bpfcanon.specs.declared.verb.Verb.{Verb}
+use Rattle.bpfcanon.specs.declared.verb.Verb.TheVariants.{InsnCanon, InsnShow, InsnRead, InsnGroups, InsnSame, BtfCanon, BtfShow, BtfCheck, BtfSame}
+use Rattle.bpfcanon.specs.BtfReply as btf
+use Rattle.bpfcanon.specs.Reply.{IsReply, files_too_long, groups_too_long, has_engine, limit_of, show_too_long, streams, text_too_long}
+use Rattle.bpfcanon.specs.JobEnds.{Change, EndsJob, no_memory, no_memory_in_pieces, replied, write_failed}
+use Rattle.bpfcanon.specs.Pieces.{Answers, answered, refused, refused_amid, unwritten}
+
+-- only an engine writes as it reads
+pub whole_input : (v : Verb) → has_engine v ≡ false → streams v ≡ false
+whole_input InsnCanon whole = cc
+whole_input _ whole = refl
+
+-- the reply to an input that is too long
+too_long_reply : (v : Verb) (j : Job) (input : List ℕ) → has_engine v ≡ false → limit_of v < length input → IsReply v j input TooLong []
+too_long_reply InsnCanon j input whole beyond = cc
+too_long_reply InsnShow j input whole beyond = show_too_long beyond
+too_long_reply InsnRead j input whole beyond = text_too_long beyond
+too_long_reply InsnGroups j input whole beyond = groups_too_long beyond
+too_long_reply InsnSame j input whole beyond = files_too_long beyond
+too_long_reply BtfCanon j input whole beyond = cc
+too_long_reply BtfShow j input whole beyond = btf.show_too_long beyond
+too_long_reply BtfCheck j input whole beyond = btf.check_too_long beyond
+too_long_reply BtfSame j input whole beyond = btf.files_too_long beyond
+
+-- more came than the command takes
+pub ends_too_long : (j : Job) (source sink : Change) → has_engine j.verb ≡ false
+    → (bytes : List ℕ) × (Consumes source.old source.new bytes × (limit_of j.verb < length bytes))
+    → source.failed_after ≡ source.failed → sink.new ≡ sink.old → sink.failed_after ≡ sink.failed → EndsJob j source sink TooLong
+ends_too_long j source sink whole came healthy same unused =
+    replied came.0 TooLong [] healthy unused came.1.0 (inr (inr came.1.1)) (too_long_reply j.verb j came.0 whole came.1.1) (rw same (Appends-nil sink.old))
+
+-- the input was read to its end, and answered
+pub ends_answered : (j : Job) (source sink : Change) (input : List ℕ) (outcome : Outcome) → has_engine j.verb ≡ false
+    → Consumes source.old source.new input → IsAtEnd source.new → source.failed_after ≡ source.failed
+    → Answers j input sink outcome → EndsJob j source sink outcome
+ends_answered j source sink input outcome whole came ended healthy (answered told output reply took unfailed) =
+    replied input told output healthy unfailed came (inr (inl ended)) reply took
+ends_answered j source sink input outcome whole came ended healthy (unwritten told output reply part) =
+    write_failed input told output part.count (whole_input j.verb whole) healthy part.failed came (inr (inl ended)) reply part.part part.took
+ends_answered j source sink input outcome whole came ended healthy (refused unused) =
+    no_memory input (whole_input j.verb whole) healthy unused came
+ends_answered j source sink input outcome whole came ended healthy (refused_amid told output pieces reply front) =
+    no_memory_in_pieces input told output front.count pieces healthy front.healthy came (inr (inl ended)) reply front.took

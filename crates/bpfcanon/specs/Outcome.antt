@@ -1,0 +1,72 @@
+-- What a command tells as it ends.
+use Rattle.std.specs.Prelude.{◌≡◌, ◌⊎◌, ◌≤◌, ◌+◌, ◌++◌, ℕ, List, [], ◌∷◌, Option, codes, decimal, length, take}
+use Rattle.std.specs.Io.KnownBytes.{Appends}
+use Rattle.bpf_insn.specs.declared.fault.SlotFault.{SlotFault}
+use Rattle.bpf_text.specs.declared.insn.fault.LineFault.{LineFault}
+use Rattle.btf_raw.specs.declared.cause.BtfFault.{BtfFault}
+use Rattle.bpfcanon.specs.declared.outcome.Outcome.{Outcome}
+use Rattle.bpfcanon.specs.declared.outcome.Outcome.TheVariants as ends
+use Rattle.bpfcanon.specs.declared.outcome.Outcome.TheVariants.{Done, Different, Fault, FaultyLine, First, Second, FirstBtf, SecondBtf, TooLong, SplitBeyond, Usage, ReadFailed, WriteFailed, Memory}
+use Rattle.bpf_insn.specs.CauseNames.{cause_name}
+use Rattle.bpf_text.specs.insn.LineCauseNames.{line_cause_name}
+use Rattle.btf_raw.specs.BtfCauseNames.{btf_cause_name}
+
+-- the status with which the program ends
+abbrev pub status_of : Outcome → ℕ
+status_of Done = 0
+status_of Different = 1
+status_of (Fault f) = 1
+status_of (FaultyLine f) = 1
+status_of (First f) = 1
+status_of (Second f) = 1
+status_of (ends.BtfFault f) = 1
+status_of (FirstBtf f) = 1
+status_of (SecondBtf f) = 1
+status_of TooLong = 1
+status_of SplitBeyond = 1
+status_of Usage = 2
+status_of ReadFailed = 3
+status_of WriteFailed = 3
+status_of Memory = 3
+
+abbrev pub newline : List ℕ
+newline = 10 ∷ []
+
+-- the line of a fault: which file where there are two, the place and the cause's name
+abbrev pub fault_line : List ℕ → ℕ → List ℕ → List ℕ
+fault_line file place cause = file ++ (codes "fault " ++ (decimal place ++ (codes " " ++ (cause ++ newline))))
+
+abbrev pub slot_fault_line : List ℕ → SlotFault → List ℕ
+slot_fault_line file f = fault_line file f.pos (cause_name f.cause)
+
+abbrev pub btf_fault_line : List ℕ → BtfFault → List ℕ
+btf_fault_line file f = fault_line file f.pos (btf_cause_name f.cause)
+
+-- the line of a fault of a listing: the number of the faulty line, from 1, and the cause
+abbrev pub faulty_line : LineFault → List ℕ
+faulty_line f = codes "fault line " ++ (decimal f.line ++ (codes " " ++ (line_cause_name f.cause ++ newline)))
+
+-- the line that the fault sink is given, if any
+abbrev pub line_of : Outcome → List ℕ
+line_of Done = []
+line_of Different = []
+line_of (Fault f) = slot_fault_line [] f
+line_of (FaultyLine f) = faulty_line f
+line_of (First f) = slot_fault_line (codes "first: ") f
+line_of (Second f) = slot_fault_line (codes "second: ") f
+line_of (ends.BtfFault f) = btf_fault_line [] f
+line_of (FirstBtf f) = btf_fault_line (codes "first: ") f
+line_of (SecondBtf f) = btf_fault_line (codes "second: ") f
+line_of TooLong = codes "too long" ++ newline
+line_of SplitBeyond = codes "split beyond input" ++ newline
+line_of Usage =
+    codes "usage: bpfcanon COMMAND [--order little|big] [--to little|big] [--other little|big] [--split N]" ++ newline
+line_of ReadFailed = codes "read failed" ++ newline
+line_of WriteFailed = codes "write failed" ++ newline
+line_of Memory = codes "no memory" ++ newline
+
+-- the fault sink took the line, or its first n bytes where it failed
+pub record Tells (old new : Option (List ℕ)) (failed failed_after : ℕ) (line : List ℕ) : Type 0 where
+  pub n : ℕ
+  pub took : Appends old new (take n line)
+  pub whole : (length line ≤ n) × (failed_after ≡ failed) ⊎ (failed_after ≡ failed + 1)

@@ -1,0 +1,138 @@
+//! The commands of the program, and the options that each takes.
+
+ghost use Rattle.std.specs.Prelude.{◌≡◌, IfSome, IsNone};
+ghost use Rattle.bpfcanon.specs.declared.verb.Verb.{Verb};
+ghost use Rattle.bpfcanon.specs.Reply.{limit_of};
+ghost use Rattle.bpfcanon.specs.Verbs.{name_of, setting_name, takes_setting};
+
+use bpf_canon::{BTF_LIMIT, INSN_LIMIT};
+
+/// A command of the program.
+#[derive(Clone, Copy, Debug, PartialEq, Eq)]
+pub enum Verb {
+    /// `insn-canon`: writes instructions anew, in the order `--to`.
+    InsnCanon,
+    /// `insn-show`: lists instructions.
+    InsnShow,
+    /// `insn-read`: reads a listing, and writes its instructions in the order `--to`.
+    InsnRead,
+    /// `insn-groups`: lists the conformance groups of instructions.
+    InsnGroups,
+    /// `insn-same`: tells whether two files have the same instructions.
+    InsnSame,
+    /// `btf-canon`: writes the canonical bytes of BTF, in the order `--to`.
+    BtfCanon,
+    /// `btf-show`: lists the types of BTF.
+    BtfShow,
+    /// `btf-check`: tells how many types BTF has.
+    BtfCheck,
+    /// `btf-same`: tells whether two BTF files have the same types.
+    BtfSame,
+}
+
+/// An option of a command.
+#[derive(Clone, Copy, Debug, PartialEq, Eq)]
+pub enum Setting {
+    /// `--order`: the byte order of the input, or of the first file.
+    Order,
+    /// `--to`: the byte order of the output.
+    To,
+    /// `--other`: the byte order of the second file.
+    Other,
+    /// `--split`: the length of the first file in bytes.
+    Split,
+}
+
+/// All commands.
+pub const VERBS: [Verb; 9] = [
+    Verb::InsnCanon,
+    Verb::InsnShow,
+    Verb::InsnRead,
+    Verb::InsnGroups,
+    Verb::InsnSame,
+    Verb::BtfCanon,
+    Verb::BtfShow,
+    Verb::BtfCheck,
+    Verb::BtfSame,
+];
+
+/// All options.
+pub const SETTINGS: [Setting; 4] = [Setting::Order, Setting::To, Setting::Other, Setting::Split];
+
+impl Verb {
+    /// The word that names the command.
+    pub fn name<'a>(self) -> &'a str
+        ensures { result.now ≡ name_of self }
+    {
+        match self {
+            Verb::InsnCanon => "insn-canon",
+            Verb::InsnShow => "insn-show",
+            Verb::InsnRead => "insn-read",
+            Verb::InsnGroups => "insn-groups",
+            Verb::InsnSame => "insn-same",
+            Verb::BtfCanon => "btf-canon",
+            Verb::BtfShow => "btf-show",
+            Verb::BtfCheck => "btf-check",
+            Verb::BtfSame => "btf-same",
+        }
+    }
+
+    /// The command that a word names.
+    pub fn named(name: &str) -> Option<Verb>
+        ensures some { IfSome result (λ verb. name.now ≡ name_of verb) }
+        ensures none { IsNone result → (verb : Verb) → name.now ≡ name_of verb → ⊥ }
+    {
+        match name {
+            "insn-canon" => Some(Verb::InsnCanon),
+            "insn-show" => Some(Verb::InsnShow),
+            "insn-read" => Some(Verb::InsnRead),
+            "insn-groups" => Some(Verb::InsnGroups),
+            "insn-same" => Some(Verb::InsnSame),
+            "btf-canon" => Some(Verb::BtfCanon),
+            "btf-show" => Some(Verb::BtfShow),
+            "btf-check" => Some(Verb::BtfCheck),
+            "btf-same" => Some(Verb::BtfSame),
+            _ => None,
+        }
+    }
+
+    /// Whether the command takes an option.
+    pub fn takes(self, setting: Setting) -> bool
+        ensures { result ≡ takes_setting self setting }
+    {
+        match self {
+            Verb::InsnCanon => matches!(setting, Setting::Order | Setting::To),
+            Verb::InsnShow | Verb::InsnGroups => matches!(setting, Setting::Order),
+            Verb::InsnRead | Verb::BtfCanon => matches!(setting, Setting::To),
+            Verb::InsnSame => matches!(setting, Setting::Order | Setting::Other | Setting::Split),
+            Verb::BtfShow | Verb::BtfCheck => false,
+            Verb::BtfSame => matches!(setting, Setting::Split),
+        }
+    }
+
+    /// How many bytes the command takes at most: as many as the engines, and twice as many for two files.
+    pub fn limit(self) -> u64
+        ensures { result ≡ limit_of self }
+    {
+        match self {
+            Verb::InsnCanon | Verb::InsnShow | Verb::InsnRead | Verb::InsnGroups => INSN_LIMIT,
+            Verb::InsnSame => 2 * INSN_LIMIT,
+            Verb::BtfCanon | Verb::BtfShow | Verb::BtfCheck => BTF_LIMIT,
+            Verb::BtfSame => 2 * BTF_LIMIT,
+        }
+    }
+}
+
+impl Setting {
+    /// The word that names the option, after two dashes.
+    pub fn name<'a>(self) -> &'a str
+        ensures { result.now ≡ setting_name self }
+    {
+        match self {
+            Setting::Order => "order",
+            Setting::To => "to",
+            Setting::Other => "other",
+            Setting::Split => "split",
+        }
+    }
+}

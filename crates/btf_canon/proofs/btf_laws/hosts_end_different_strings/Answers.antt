@@ -1,6 +1,0 @@
-use Rattle.btf_types.proofs.StringLemmas.TableLaws.{sections_are_cut, names_end_strings, hosts_end_apart}
-use Rattle.btf_canon.proofs.HostLaws.{hosts_fit}
-use Rattle.btf_canon.proofs.btf_laws.hosts_end_different_strings.Goals as goal
-
-pub returns : goal.returns
-returns c = record { cut = sections_are_cut; ends = names_end_strings; apart = hosts_end_apart; fit = hosts_fit }

@@ -1,7 +1,0 @@
-use Rattle.std.proofs.Common.{map}
-use Rattle.btf_canon.specs.Tails.{tail_text}
-use Rattle.btf_canon.proofs.InHostSteps.{HostsTo}
-use Rattle.btf_canon.proofs.shared_strings.hosts_by_rank.find_shared.Given as goal
-
-abbrev pub invariant-loop-rank : goal.invariant-loop-rank
-invariant-loop-rank g l = HostsTo l.ranked.section.now l.uses l.ranked.tails.items (map (tail_text l.ranked.section.now) l.ranked.tails.items) l.found.items l.rank

@@ -1,6 +1,0 @@
-use Rattle.std.proofs.Common.{◌≡◌, take}
-use Rattle.btf_text.specs.BtfText.{text_of}
-use Rattle.btf_text.proofs.show.show_btf.Given as goal
-
-abbrev pub invariant-loop-index : goal.invariant-loop-index
-invariant-loop-index g l = l.text.items ≡ text_of (take l.index (g.T.TypeTable.meaning l.table))
