@@ -20,7 +20,7 @@ from program import SECONDS, Program, Report
 TOP = pathlib.Path(__file__).resolve().parent.parent
 BUILT = TOP / "crates" / "bpfcanon" / "out" / "bpfcanon"
 BLOCK = re.compile(r"```console\n(.*?)```", re.DOTALL)
-CAUSES = [("bpf_insn", "fault.rt"), ("bpf_text", "fault.rt"), ("btf_raw", "cause.rt")]
+CAUSES = [("bpf_insn", "fault.rt"), ("bpf_text", "insn/fault.rt"), ("btf_raw", "cause.rt")]
 EXIT = b"\x95" + bytes(7)
 
 

@@ -81,7 +81,7 @@ def main():
         types_shown(library, little) == types_shown(library, big),
         has_names_of(library.bpfcanon_insn_cause, crates / "bpf_insn/src/fault.rt", "SlotCause"),
         has_names_of(library.bpfcanon_btf_cause, crates / "btf_raw/src/cause.rt", "BtfCause"),
-        has_names_of(library.bpfcanon_line_cause, crates / "bpf_text/src/fault.rt", "LineCause"),
+        has_names_of(library.bpfcanon_line_cause, crates / "bpf_text/src/insn/fault.rt", "LineCause"),
     ]
     print(f"C interface from Python: {len(checks)} checks, {checks.count(False)} failed")
     sys.exit(not all(checks))
