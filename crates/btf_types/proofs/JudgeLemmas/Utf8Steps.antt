@@ -138,6 +138,6 @@ front_and_rest s at next rest text is inside some t =
     )
 
 -- a call that tells whether bytes are UTF-8
-pub ok_tells : {X E P : Type 0} (A : X → Type 0) (B : E → Type 0) (r : Result X E) → MatchResult r (λ x. A x × P) (λ e. ¬ P × B e) → (is_ok r ≡ true) ↔ P
-ok_tells A B (Ok x) told = (λ ok. told.1, λ p. refl)
-ok_tells A B (Err e) told = (λ ok. absurd cc, λ p. absurd (told.0 p))
+pub ok_tells : {X E P : Type 0} (A : X → Type 0) (r : Result X E) → MatchResult r (λ x. A x × P) (λ _. ¬ P) → (is_ok r ≡ true) ↔ P
+ok_tells A (Ok x) told = (λ ok. told.1, λ p. refl)
+ok_tells A (Err e) told = (λ ok. absurd cc, λ p. absurd (told p))

@@ -9,6 +9,7 @@ ghost use Rattle.btf_raw.specs.Header.{HasNulEnds};
 ghost use Rattle.btf_raw.specs.Names.{TextAt};
 ghost use Rattle.btf_types.specs.judge.Texts.{BeginsChar, TextsAre, AreMarks, IsNextChar};
 
+use simdutf8::basic::from_utf8;
 use std::alloc::{AllocError, Allocator};
 
 /// Which texts of a string section are UTF-8.
@@ -38,7 +39,7 @@ fn is_utf8_with(strings: &[u8], at: usize, next: usize, rest: bool) -> bool
     if strings[at] == 0 {
         return true;
     }
-    rest && std::str::from_utf8(&strings[at..next]).is_ok()
+    rest && from_utf8(&strings[at..next]).is_ok()
 }
 
 /// The marks of a whole section, told from its end: a text is UTF-8 where it begins with a character and goes on as UTF-8.
@@ -73,7 +74,7 @@ pub fn marks_unless_utf8<A: Allocator>(
     requires { HasNulEnds strings.now }
     ensures { IfOk result (λ marks. MatchOption marks (IsUtf8 strings.now) (λ v. AreMarks strings.now v.items)) }
 {
-    if std::str::from_utf8(strings).is_ok() {
+    if from_utf8(strings).is_ok() {
         Ok(None)
     } else {
         Ok(Some(marks_of(alloc, strings)?))

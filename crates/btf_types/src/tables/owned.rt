@@ -1,7 +1,8 @@
 //! A table that owns its bytes.
 
-ghost use Rattle.std.specs.Prelude.{◌≡◌, length, MatchResult};
+ghost use Rattle.std.specs.Prelude.{◌≡◌, IfSome, IsSome, length, MatchResult};
 ghost use Rattle.btf_types.specs.Denotes.{Denotes};
+ghost use Rattle.btf_types.specs.tables.KeptSections.{AreSections};
 ghost use Rattle.btf_types.specs.tables.Tables.{Fails};
 ghost use Rattle.btf_types.specs.tables.TableWords.{numbered};
 
@@ -117,7 +118,10 @@ impl<A: Allocator> TypeTable for Btf<A> {
         )
     }
 
-    fn sections(&self) -> Option<FileSections<'_>> {
+    fn sections(&self) -> Option<FileSections<'_>>
+        ensures kept { IsSome result }
+        ensures sections { IfSome result (λ s. AreSections self.now s.order s.types.now s.strings.now s.places.now) }
+    {
         Some(FileSections {
             order: self.order,
             types: &self.types,

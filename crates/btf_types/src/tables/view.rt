@@ -1,7 +1,8 @@
 //! A table that lends its names from the file it was read from.
 
-ghost use Rattle.std.specs.Prelude.{◌≡◌, length, MatchResult};
+ghost use Rattle.std.specs.Prelude.{◌≡◌, IfSome, IsSome, length, MatchResult};
 ghost use Rattle.btf_types.specs.Denotes.{Denotes};
+ghost use Rattle.btf_types.specs.tables.KeptSections.{AreSections};
 ghost use Rattle.btf_types.specs.tables.Tables.{Fails};
 ghost use Rattle.btf_types.specs.tables.TableWords.{numbered};
 
@@ -112,7 +113,10 @@ impl<'a, A: Allocator> TypeTable for BtfView<'a, A> {
         )
     }
 
-    fn sections(&self) -> Option<FileSections<'_>> {
+    fn sections(&self) -> Option<FileSections<'_>>
+        ensures kept { IsSome result }
+        ensures sections { IfSome result (λ s. AreSections self.now s.order s.types.now s.strings.now s.places.now) }
+    {
         Some(FileSections {
             order: self.order,
             types: self.types,

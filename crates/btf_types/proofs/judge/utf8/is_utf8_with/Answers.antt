@@ -7,7 +7,7 @@ pub returns-then-rest : goal.returns-then-rest
 returns-then-rest c text t =
     let some : slice_index c.args.strings.now c.args.at ≢ 0 = c.if-strings-at-eq0.false in
     let both = front_and_rest c.args.strings.now c.args.at c.args.next c.args.rest text c.requires.next (c.requires.inside some) some t in
-    let front = ok_tells _ _ c.from_utf8.result c.from_utf8.ensures.cases in
+    let front = ok_tells _ c.from_utf8.result c.from_utf8.ensures in
     let is = c.is_ok.ensures.value in
     (λ ok. both.0 (front.0 (sym is ∙ ok), c.if-rest.true), λ utf8. is ∙ front.1 (both.1 utf8).0)
 
