@@ -47,4 +47,4 @@ ends_answered j source sink input outcome whole came ended healthy (unwritten to
 ends_answered j source sink input outcome whole came ended healthy (refused unused) =
     no_memory input (whole_input j.verb whole) healthy unused came
 ends_answered j source sink input outcome whole came ended healthy (refused_amid told output pieces reply front) =
-    no_memory_in_pieces input told output front.count pieces healthy front.healthy came (inr (inl ended)) reply front.took
+    no_memory_in_pieces input told output front.count pieces healthy front.healthy came (inr (inl ended)) reply front.part front.took

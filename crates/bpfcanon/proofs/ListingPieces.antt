@@ -69,6 +69,10 @@ listed_none order input a f l = record {
 listing-push : (l : List Insn) (i : Insn) → listing_of l ++ line i ≡ listing_of (l ++ i ∷ [])
 listing-push l i = flat_map_more line [] l i
 
+-- a listing of some instruction has a line
+a_line : (i : Insn) (t : List Insn) → 0 < length (listing_of (i ∷ t))
+a_line i t = omega (arith, length-append (line i) (listing_of t), length-append (line_of i) (codes "\n"))
+
 listing_split : (l t : List Insn) (i : Insn) → listing_of (l ++ i ∷ t) ≡ listing_of l ++ line i ++ listing_of t
 listing_split l t i = flat_map-append line l (i ∷ t) ∙ sym (append_assoc (listing_of l) (line i) (listing_of t))
 
@@ -120,11 +124,13 @@ module _ (order : Order) (input : List ℕ) (at : ℕ) (a b : Option (List ℕ))
       subst (λ (t : List ℕ). Gathers (change a c f h) kept t (Err e)) (sym text) (gathers_front (change a c f h) kept _ (listing_of n.others) e part) in
       (p.before ++ p.after, (p.file, puts_stopped _ kept _ e whole))
 
-  -- memory was refused for the next line
-  pub listed_front : (l : List Insn) × (InsnFile order input l × Puts (change a b f g) (listing_of l) (Err Memory))
-  listed_front =
+  -- memory ran out for the next line
+  pub listed_front : at < length input → (l : List Insn) × (InsnFile order input l × Puts (change a b f g) (listing_of l) (Err Memory))
+  listed_front more =
+      let n = next order input at p.after p.each p.rest more in
       let text : listing_of (p.before ++ p.after) ≡ listing_of p.before ++ listing_of p.after = flat_map-append line p.before p.after in
-      (p.before ++ p.after, (p.file, subst (TookFront (change a b f g)) (sym text) (front_more a b f g piece (listing_of p.before) (listing_of p.after) p.gathered)))
+      let some : 0 < length (listing_of p.after) = rw n.is (a_line n.insn n.others) in
+      (p.before ++ p.after, (p.file, subst (TookFront (change a b f g)) (sym text) (front_more a b f g piece (listing_of p.before) (listing_of p.after) some p.gathered)))
 
   -- all instructions are listed
   nothing_left : length input ≤ at → p.before ++ p.after ≡ p.before

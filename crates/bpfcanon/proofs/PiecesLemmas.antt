@@ -1,8 +1,8 @@
 -- Text that is written in pieces.
-use Rattle.std.proofs.Common.{◌≡◌, ◌<◌, ◌+◌, ◌++◌, ◌∙◌, ℕ, List, [], Option, length, take, drop, refl, sym, ap, subst, arith, append_assoc, length-append}
+use Rattle.std.proofs.Common.{◌≡◌, ◌<◌, ◌+◌, ◌++◌, ◌∙◌, ℕ, List, [], Option, length, take, refl, sym, ap, subst, arith, append_assoc, length-append}
 use Rattle.std.specs.Prelude.{Result, Ok, Err, true}
 use Rattle.std.specs.Result.{IsErrAnd}
-use Rattle.std.proofs.lemmas.List.{append-nil, take-append-drop, take-append-le}
+use Rattle.std.proofs.lemmas.List.{append-nil, take-append-le}
 use Rattle.std.proofs.Math.Seq.{take-append-add, take-append_seam}
 use Rattle.std.proofs.KnownBytes.{Appends-nil, Appends-trans}
 use Rattle.std.specs.Io.KnownBytes.{Appends}
@@ -59,6 +59,7 @@ module _ (a b c : Option (List ℕ)) (f g h : ℕ) where
       let took : Appends a c (p.taken ++ take q.count (held ++ line)) = Appends-trans a b c p.taken (take q.count (held ++ line)) p.took q.took in
       record {
         count = length p.taken + q.count;
+        part = omega (arith, q.part, ap length whole, length-append p.taken (held ++ line));
         took = subst (λ (x : List ℕ). Appends a c x) (sym front) took;
         healthy = q.healthy ∙ p.healthy;
       }
@@ -97,12 +98,10 @@ gathers_front sink kept text more WriteFailed p =
       failed = p.failed;
     }
 gathers_front sink kept text more Memory p =
-    let taken = take p.count text in
-    let whole : text ++ more ≡ taken ++ (drop p.count text ++ more) =
-    ap (λ (x : List ℕ). x ++ more) (sym (take-append-drop p.count text)) ∙ append_assoc taken (drop p.count text) more in
-    let front : take (length taken) (text ++ more) ≡ taken = ap (take (length taken)) whole ∙ take-append_seam taken (drop p.count text ++ more) in
+    let front : take p.count (text ++ more) ≡ take p.count text = take-append-le p.count text more (omega (arith, p.part)) in
     record {
-      count = length taken;
+      count = p.count;
+      part = omega (arith, p.part, length-append text more);
       took = subst (λ (x : List ℕ). Appends sink.old sink.new x) (sym front) p.took;
       healthy = p.healthy;
     }
@@ -121,6 +120,14 @@ pub puts_handed : (sink : Change) (text : List ℕ) (e : PutError) (r : Result (
 puts_handed sink text e (Ok done) same p = absurd same
 puts_handed sink text e (Err other) same p = subst (λ (x : PutError). Puts sink text (Err x)) (sym same) p
 
+-- memory ran out before anything was written of a text that isn't empty
+pub gathers_none : (a : Option (List ℕ)) (f : ℕ) (kept old more : List ℕ) (r : Result (Unit {0}) PutError) → 0 < length more → IsErrAnd r (λ x. x ≡ Memory)
+    → Gathers (change a a f f) kept (old ++ more) r
+gathers_none a f kept old more r some same =
+    let front : TookFront (change a a f f) (old ++ more) =
+    record { count = 0; part = omega (arith, some, length-append old more); took = Appends-nil a; healthy = refl } in
+    gathers_handed (change a a f f) kept (old ++ more) Memory r same front
+
 -- nothing is gathered yet
 pub gathered_none : (a : Option (List ℕ)) (f : ℕ) → Gathered (change a a f f) [] []
 gathered_none a f = record { taken = []; took = Appends-nil a; whole = refl; healthy = refl }
@@ -129,12 +136,17 @@ gathered_none a f = record { taken = []; took = Appends-nil a; whole = refl; hea
 pub gathered_held : (a : Option (List ℕ)) (f : ℕ) (held : List ℕ) → Gathered (change a a f f) held (held ++ [])
 gathered_held a f held = record { taken = []; took = Appends-nil a; whole = append-nil held; healthy = refl }
 
--- memory was refused for what follows the text
-pub front_more : (a b : Option (List ℕ)) (f g : ℕ) (held text more : List ℕ) → Gathered (change a b f g) held text → TookFront (change a b f g) (text ++ more)
-front_more a b f g held text more p =
+-- memory ran out for what follows the text
+pub front_more : (a b : Option (List ℕ)) (f g : ℕ) (held text more : List ℕ) → 0 < length more → Gathered (change a b f g) held text → TookFront (change a b f g) (text ++ more)
+front_more a b f g held text more some p =
     let whole : text ++ more ≡ p.taken ++ (held ++ more) = ap (λ (x : List ℕ). x ++ more) p.whole ∙ append_assoc p.taken held more in
     let front : take (length p.taken) (text ++ more) ≡ p.taken = ap (take (length p.taken)) whole ∙ take-append_seam p.taken (held ++ more) in
-    record { count = length p.taken; took = subst (λ (x : List ℕ). Appends a b x) (sym front) p.took; healthy = p.healthy }
+    record {
+      count = length p.taken;
+      part = omega (arith, some, ap length whole, length-append p.taken (held ++ more), length-append held more);
+      took = subst (λ (x : List ℕ). Appends a b x) (sym front) p.took;
+      healthy = p.healthy;
+    }
 
 -- the job of a command that wrote its output in pieces ends with it
 pub pieces_end : (j : Job) (input output : List ℕ) (sink : Change) (r : Result (Unit {0}) PutError) → in_pieces j.verb ≡ true → IsReply j.verb j input Done output

@@ -74,9 +74,9 @@ pub data EndsJob (j : Job) (source sink : Change) : Outcome → Type 0 where
   -- memory was refused before anything was written
   no_memory : (input : List ℕ) → streams j.verb ≡ false → IsHealthy source → IsUnused sink
       → Consumes source.old source.new input → EndsJob j source sink Memory
-  -- memory was refused once the first n bytes of the output were taken
+  -- memory ran out once the first n bytes of the output were taken, which are not all
   no_memory_in_pieces : (input : List ℕ) (outcome : Outcome) (output : List ℕ) (n : ℕ) → in_pieces j.verb ≡ true → IsHealthy source → IsHealthy sink
       → Consumes source.old source.new input → IsRead j source input → IsReply j.verb j input outcome output
-      → Appends sink.old sink.new (take n output) → EndsJob j source sink Memory
+      → n < length output → Appends sink.old sink.new (take n output) → EndsJob j source sink Memory
   no_memory_amid : (input : List ℕ) → streams j.verb ≡ true → IsHealthy source → IsHealthy sink
       → Consumes source.old source.new input → TookPrefix j sink input → EndsJob j source sink Memory

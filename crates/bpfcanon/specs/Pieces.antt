@@ -23,9 +23,10 @@ pub record TookPart (sink : Change) (text : List ℕ) : Type 0 where
   pub took : Appends sink.old sink.new (take count text)
   pub failed : HasFailed sink
 
--- no write failed, and the sink took the first bytes of the text
+-- no write failed, and the sink took the first bytes of the text, but not all
 pub record TookFront (sink : Change) (text : List ℕ) : Type 0 where
   pub count : ℕ
+  pub part : count < length text
   pub took : Appends sink.old sink.new (take count text)
   pub healthy : IsHealthy sink
 
@@ -57,6 +58,6 @@ pub data Answers (j : Job) (input : List ℕ) (sink : Change) : Outcome → Type
       → TookPart sink output → Answers j input sink ends.WriteFailed
   -- memory was refused before anything was written
   refused : IsUnused sink → Answers j input sink ends.Memory
-  -- memory was refused between pieces
+  -- memory ran out between pieces, once the sink had taken the first bytes of the output
   refused_amid : (outcome : Outcome) (output : List ℕ) → in_pieces j.verb ≡ true → IsReply j.verb j input outcome output
       → TookFront sink output → Answers j input sink ends.Memory

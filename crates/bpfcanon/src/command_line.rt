@@ -2,6 +2,7 @@
 
 ghost use Rattle.std.specs.Prelude.{◌≡◌, ◌<◌, length, map, string_bytes, IfOk, IfSome, IsErrOf};
 ghost use Rattle.clap.specs.Words.{subcommand_rows_of, rows_of, found_of};
+ghost use Rattle.bpfcanon.specs.declared.command_line.LineError.TheVariants.{Memory};
 ghost use Rattle.bpfcanon.specs.Verbs.{IsVerbName};
 ghost use Rattle.bpfcanon.specs.Line as spec;
 ghost use Rattle.bpfcanon.specs.Line.{Asks, IsRefused, IsJobOf};
@@ -12,15 +13,26 @@ use crate::verb::{Setting, Verb};
 use bpf_words::Order;
 use clap::ArgMatches;
 use clap::error::ErrorKind;
-use std::alloc::Global;
+use std::alloc::{AllocError, Global};
+use thiserror::Error;
 
 /// Why a command line has no job.
-#[derive(Clone, Copy)]
+#[derive(Clone, Copy, Debug, PartialEq, Eq, Error)]
 pub enum LineError {
     /// The words aren't those of a command with its options, or they ask for help.
+    #[error("Usage")]
     Usage,
-    /// Memory was refused.
+    /// Out of memory.
+    #[error("Memory")]
     Memory,
+}
+
+impl From<AllocError> for LineError {
+    ghost from_gives = { λ _ made. made ≡ Memory };
+
+    fn from(_error: AllocError) -> LineError {
+        LineError::Memory
+    }
 }
 
 fn order_named(name: &str) -> Order
@@ -88,8 +100,10 @@ fn job_of(matches: &ArgMatches<'_>) -> Job
     }
 }
 
+/// Out of memory where clap reports that, and a refused line otherwise.
 fn line_error(kind: ErrorKind) -> LineError
-    ensures { result ≡ LineError.Usage → kind ≡ ErrorKind.OutOfMemory → ⊥ }
+    ensures memory { result ≡ LineError.Memory → kind ≡ ErrorKind.OutOfMemory }
+    ensures usage { result ≡ LineError.Usage → kind ≡ ErrorKind.OutOfMemory → ⊥ }
 {
     match kind {
         ErrorKind::OutOfMemory => LineError::Memory,
@@ -102,16 +116,13 @@ fn line_error(kind: ErrorKind) -> LineError
 ///
 /// # Errors
 ///
-/// `Usage` where clap doesn't take the words, and `Memory` where memory was refused.
+/// `Usage` if clap doesn't take the words, and `Memory` if memory ran out.
 pub fn parse_line(alloc: Global, words: &[String]) -> Result<Job, LineError>
     requires { 0 < length words.now }
     ensures asks { IfOk result (Asks (map string_bytes words.now)) }
     ensures refused { IsErrOf result LineError.Usage → IsRefused (map string_bytes words.now) }
 {
-    let command = match program_command(alloc, OrderNames::new()) {
-        Ok(command) => command,
-        Err(_) => return Err(LineError::Memory),
-    };
+    let command = program_command(alloc, OrderNames::new())?;
     match command.try_get_matches_from(words) {
         Ok(matches) => Ok(job_of(&matches)),
         Err(error) => Err(line_error(error.kind())),

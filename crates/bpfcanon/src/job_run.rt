@@ -13,7 +13,7 @@ use crate::pieces::listing_pieces::put_shown;
 use crate::reply::reply_to;
 use crate::verb::Verb;
 use bpf_canon::{ByteSink, ByteSource, ReadError, put_all, read_all};
-use std::alloc::Allocator;
+use std::alloc::{AllocError, Allocator};
 
 /// Writes the reply of a command that writes it whole.
 fn put_reply<A: Allocator + Copy, W: ByteSink>(
@@ -31,7 +31,7 @@ fn put_reply<A: Allocator + Copy, W: ByteSink>(
 {
     let reply = match reply_to(alloc, job, input) {
         Ok(reply) => reply,
-        Err(_) => return Outcome::Memory,
+        Err(AllocError) => return Outcome::Memory,
     };
     match put_all(sink, reply.output.as_slice()) {
         Ok(()) => reply.outcome,

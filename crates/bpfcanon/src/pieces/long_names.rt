@@ -33,7 +33,8 @@ fn put_chunk<A: Allocator, W: ByteSink>(
     piece: &mut Vec<u8, A>,
     chunk: &[u8],
 ) -> Result<(), PutError>
-    requires { W.failures sink.old < u64.MAX }
+    requires some { 0 < length chunk.now }
+    requires sink { W.failures sink.old < u64.MAX }
     ensures gathered { Gathers (change (W.contents sink.old) (W.contents sink.new) (W.failures sink.old) (W.failures sink.new))
         piece.new.items (piece.old.items ++ flat_map quoted_byte chunk.now) result }
     ensures short { OnOk result (length piece.new.items < PIECE) }

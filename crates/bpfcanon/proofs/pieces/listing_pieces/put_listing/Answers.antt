@@ -9,7 +9,7 @@ loop-pos-init g c = rw c.new-piece.ensures.items (listed_none c.args.order c.arg
 
 pub returns-in_err-push_line-in-Ok : goal.returns-in_err-push_line-in-Ok
 returns-in_err-push_line-in-Ok g c =
-    listed_handed _ _ _ _ c.from_residual.result c.from_residual.ensures.1 (listed_front _ _ _ _ _ _ _ _ c.loop-pos.invariant)
+    listed_handed _ _ _ _ c.from_residual.result c.from_residual.ensures.1 (listed_front _ _ _ _ _ _ _ _ c.loop-pos.invariant c.loop-pos-test.true)
 
 pub put_long_piece-requires : goal.put_long_piece-requires
 put_long_piece-requires g c = still_under _ _ _ c.loop-pos.invariant.gathered.healthy c.requires.sink

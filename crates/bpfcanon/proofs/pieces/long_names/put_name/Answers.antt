@@ -6,8 +6,8 @@ use Rattle.bpfcanon.proofs.pieces.long_names.put_name.Goals as goal
 pub loop-start-init : goal.loop-start-init
 loop-start-init g c = gathered_held _ _ c.args.piece.now.items
 
-pub put_chunk-requires : goal.put_chunk-requires
-put_chunk-requires g c = still_under _ _ _ c.loop-start.invariant.healthy c.requires
+pub put_chunk-requires-clause-sink : goal.put_chunk-requires-clause-sink
+put_chunk-requires-clause-sink g c = still_under _ _ _ c.loop-start.invariant.healthy c.requires
 
 pub returns-in_err-put_chunk : goal.returns-in_err-put_chunk
 returns-in_err-put_chunk g c =
