@@ -1,14 +1,5 @@
 /* Calls each function of the C interface on worked files, and exits with 1 where some check failed. usage: calls TESTDATA */
-#include "bpfcanon.h"
-
-#include <stdio.h>
-#include <stdlib.h>
-#include <string.h>
-
-static int checks, failed;
-
-#define CHECK(holds) (checks++, (holds) ? 0 : (failed++, printf("%s:%d: %s\n", __FILE__, __LINE__, #holds)))
-#define BYTES(text) (const uint8_t *)(text), sizeof(text) - 1
+#include "checks.h"
 
 /* an INT in big-endian BTF, its canonical bytes, and the same type with another name, strings first and a longer header */
 static const char INT_BIG[] = "\xeb\x9f\x01\0\0\0\0\x18\0\0\0\0\0\0\0\x10\0\0\0\x10\0\0\0\x05\0\0\0\x01\x01\0\0\0\0\0\0\x04\x01\0\0 \0int\0";
@@ -17,36 +8,6 @@ static const char INT_LOOSE[] = "\x9f\xeb\x01\0\x1c\0\0\0\x07\0\0\0\x10\0\0\0\0\
 static const char NO_TYPES[] = "\x9f\xeb\x01\0\x18\0\0\0\0\0\0\0\0\0\0\0\0\0\0\0\x01\0\0\0\0";
 static const char MOV_BIG[] = "\xbf\x12\0\0\0\0\0\0", MOV[] = "\xbf\x21\0\0\0\0\0\0", EXIT[] = "\x95\0\0\0\0\0\0\0";
 static const char EXIT_AND_FAULT[] = "\x95\0\0\0\0\0\0\0\x04\x10\0\0\x05\0\0\0";
-
-static int is(bpfcanon_answer answer, uint32_t status, uint32_t cause, uint64_t pos, size_t len)
-{
-	return answer.status == status && answer.cause == cause && answer.pos == pos && answer.len == len;
-}
-
-static int is_filled(const uint8_t *from, const uint8_t *to)
-{
-	for (; from < to; from++)
-		if (*from != 0xaa)
-			return 0;
-	return 1;
-}
-
-static uint8_t *load(const char *folder, const char *name, size_t *len)
-{
-	char path[4096];
-	uint8_t *bytes = malloc(1 << 20);
-	FILE *file;
-
-	snprintf(path, sizeof path, "%s/%s", folder, name);
-	file = fopen(path, "rb");
-	if (!file || !bytes) {
-		perror(path);
-		exit(2);
-	}
-	*len = fread(bytes, 1, 1 << 20, file);
-	fclose(file);
-	return bytes;
-}
 
 static void btf_goes_into_the_callers_room(void)
 {
@@ -277,14 +238,34 @@ static void compiled_files_have_one_form(const char *folder)
 	free(little);
 }
 
+/* The names of the causes 1, 2, 3 .., and none for the numbers around them. */
+static void has_names(const char *(*call)(uint32_t), const char *const *names, uint32_t count)
+{
+	static const uint32_t far[] = { 0x7fffffff, 0x80000000, 0x80000001, 0xfffffffe, 0xffffffff };
+
+	for (uint32_t cause = 0; cause <= 300; cause++) {
+		const char *name = call(cause);
+
+		CHECK(cause == 0 || cause > count ? !name : name && !strcmp(name, names[cause - 1]));
+	}
+	for (size_t k = 0; k < COUNT(far); k++)
+		CHECK(!call(far[k]));
+}
+
 static void causes_have_names(void)
 {
-	CHECK(!strcmp(bpfcanon_insn_cause(1), "Truncated") && !strcmp(bpfcanon_insn_cause(8), "NextImm"));
-	CHECK(!bpfcanon_insn_cause(0) && !bpfcanon_insn_cause(9));
-	CHECK(!strcmp(bpfcanon_btf_cause(1), "ShortHeader") && !strcmp(bpfcanon_btf_cause(23), "TextsTooLong"));
-	CHECK(!strcmp(bpfcanon_btf_cause(32), "Component") && !bpfcanon_btf_cause(0) && !bpfcanon_btf_cause(33));
-	CHECK(!strcmp(bpfcanon_line_cause(1), "Char") && !strcmp(bpfcanon_line_cause(4), "Range"));
-	CHECK(!bpfcanon_line_cause(0) && !bpfcanon_line_cause(5));
+	static const char *const insn[] = { "Truncated", "Opcode", "Dst", "Src", "Offset", "Imm", "Reserved", "NextImm" };
+	static const char *const line[] = { "Char", "Word", "Shape", "Range" };
+	static const char *const btf[] = {
+		"ShortHeader", "Magic", "Version", "Flags", "HeaderLength", "HeaderTail", "TypeLength", "StringLength", "Sections",
+		"FileLength", "FirstString", "LastString", "RecordCut", "InfoBits", "KindNumber", "FlagSet", "Vlen", "TailCut",
+		"NameRange", "NameUtf8", "NameMissing", "NameUnwanted", "TextsTooLong", "NotZero", "Size", "Reference", "TargetKind",
+		"IntWord", "MemberInt", "MemberPlace", "Linkage", "Component",
+	};
+
+	has_names(bpfcanon_insn_cause, insn, COUNT(insn));
+	has_names(bpfcanon_btf_cause, btf, COUNT(btf));
+	has_names(bpfcanon_line_cause, line, COUNT(line));
 }
 
 int main(int argc, char **argv)
@@ -304,6 +285,5 @@ int main(int argc, char **argv)
 	streams_may_be_cut_anywhere(argv[1]);
 	compiled_files_have_one_form(argv[1]);
 	causes_have_names();
-	printf("C interface: %d checks, %d failed\n", checks, failed);
-	return failed != 0;
+	return end("worked files");
 }

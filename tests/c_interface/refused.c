@@ -1,47 +1,9 @@
 /*
- * Refuses each allocation of each call in turn: the call then reports that it is out of memory and leaves its room as it was, and
- * nothing leaks. Linked with --wrap for malloc, realloc and free. usage: refused BTF
+ * Refuses each allocation of each proved call in turn: the call then reports that it is out of memory and leaves its room as it was,
+ * and it frees what it took. usage: refused FILE, a BTF file
  */
-#include "bpfcanon.h"
-
-#include <stdio.h>
-#include <stdlib.h>
-#include <string.h>
-
-void *__real_malloc(size_t size);
-void *__real_realloc(void *block, size_t size);
-void __real_free(void *block);
-
-static long allowed = -1; /* how many allocations succeed before one is refused; none is refused where it is negative */
-static long live;         /* blocks that weren't freed */
-
-static int refuse(void)
-{
-	if (allowed == 0)
-		return 1;
-	if (allowed > 0)
-		allowed--;
-	return 0;
-}
-
-void *__wrap_malloc(size_t size)
-{
-	void *block = refuse() ? NULL : __real_malloc(size);
-
-	live += block != NULL;
-	return block;
-}
-
-void *__wrap_realloc(void *block, size_t size)
-{
-	return refuse() ? NULL : __real_realloc(block, size);
-}
-
-void __wrap_free(void *block)
-{
-	live -= block != NULL;
-	__real_free(block);
-}
+#include "checks.h"
+#include "allocations.h"
 
 static uint8_t input[4096], out[4096], before[4096];
 static size_t len;
@@ -66,6 +28,31 @@ static bpfcanon_answer btf_show(void) { return bpfcanon_btf_show(input, len, out
 
 static bpfcanon_answer insn_groups(void) { return bpfcanon_insn_groups(BPFCANON_LITTLE, before, 80); }
 
+static bpfcanon_answer insn_same(void) { return bpfcanon_insn_same(BPFCANON_LITTLE, before, 80, BPFCANON_LITTLE, before, 80); }
+
+/* The answer of a front in the shape of the others; a front that is read is `len`. */
+static bpfcanon_answer front_of(size_t given)
+{
+	bpfcanon_front front = bpfcanon_insn_front(BPFCANON_LITTLE, BPFCANON_BIG, before, given, out, sizeof out);
+	bpfcanon_answer answer = { front.status, front.cause, front.pos, front.read };
+
+	CHECK(front.read == front.written);
+	return answer;
+}
+
+static bpfcanon_answer insn_front(void) { return front_of(83); }
+
+/* The same with a fault in the last slot. */
+static bpfcanon_answer faulty_front(void)
+{
+	bpfcanon_answer answer;
+
+	before[80] = 0;
+	answer = front_of(88);
+	before[80] = 0x95;
+	return answer;
+}
+
 static const struct {
 	const char *name;
 	bpfcanon_answer (*call)(void);
@@ -75,17 +62,40 @@ static const struct {
 	{ "btf_same", btf_same, BPFCANON_DONE },       { "insn_canon", insn_canon, BPFCANON_DONE },
 	{ "insn_groups", insn_groups, BPFCANON_DONE }, { "insn_show", insn_show, BPFCANON_DONE },
 	{ "insn_read", insn_read, BPFCANON_DONE },     { "btf_show", btf_show, BPFCANON_DONE },
+	{ "insn_same", insn_same, BPFCANON_DONE },     { "insn_front", insn_front, BPFCANON_DONE },
+	{ "faulty_front", faulty_front, BPFCANON_FAULT },
 };
 
-static int is_memory(bpfcanon_answer answer)
+/* The call with 0, 1, 2 .. allocations, until it takes no more. */
+static void refuse_each(size_t call)
 {
-	return answer.status == BPFCANON_MEMORY && !answer.len && !answer.pos && !answer.cause;
+	for (long n = 0; n < 10000; n++) {
+		long blocks = live;
+		bpfcanon_answer answer;
+
+		memcpy(out, before, sizeof out);
+		refused = 0;
+		allowed = n;
+		answer = calls[call].call();
+		allowed = -1;
+		CHECK(live == blocks);
+		if (!refused) {
+			CHECK(answer.status == calls[call].status);
+			CHECK(n > 0 || calls[call].call == insn_same);
+			return;
+		}
+		if (!is(answer, BPFCANON_MEMORY, 0, 0, 0) || memcmp(out, before, sizeof out)) {
+			printf("%s with %ld allocations\n", calls[call].name, n);
+			failed++;
+			return;
+		}
+	}
+	CHECK(!"a call takes no more than 10,000 allocations");
 }
 
 int main(int argc, char **argv)
 {
 	FILE *file = argc == 2 ? fopen(argv[1], "rb") : NULL;
-	long refused = 0, wrong = 0;
 
 	if (!file)
 		return 2;
@@ -93,26 +103,7 @@ int main(int argc, char **argv)
 	fclose(file);
 	for (size_t at = 0; at < sizeof before; at += 8)
 		before[at] = 0x95; /* exit */
-	for (size_t k = 0; k < sizeof calls / sizeof *calls; k++)
-		for (long n = 0, done = 0; !done; n++) {
-			long blocks = live;
-			bpfcanon_answer answer;
-
-			memcpy(out, before, sizeof out);
-			allowed = n;
-			answer = calls[k].call();
-			allowed = -1;
-			done = answer.status == calls[k].status;
-			if (!done) {
-				refused++;
-				wrong += !is_memory(answer) || memcmp(out, before, sizeof out) != 0;
-			}
-			if (live != blocks || (!done && !is_memory(answer))) {
-				printf("%s with %ld allocations\n", calls[k].name, n);
-				wrong++;
-				done = 1;
-			}
-		}
-	printf("C interface: %ld allocations refused, %ld wrong\n", refused, wrong);
-	return wrong != 0 || refused == 0;
+	for (size_t call = 0; call < COUNT(calls); call++)
+		refuse_each(call);
+	return end("refused memory");
 }

@@ -1,0 +1,252 @@
+/*
+ * Compares each call that allocates with the proved call below it, over room that is ample: with every number of each order and one
+ * that is none, each kind of fault, outputs that are longer than the first block, and each allocation refused in turn. `*out` holds
+ * a pointer beforehand, and the blocks are counted. usage: blocks TESTDATA
+ */
+#include "checks.h"
+#include "allocations.h"
+
+#define ROOM (4 << 20)
+
+typedef bpfcanon_answer room_call(uint32_t order, uint32_t to, const uint8_t *bytes, size_t len, uint8_t *out, size_t room);
+typedef bpfcanon_answer new_call(uint32_t order, uint32_t to, const uint8_t *bytes, size_t len, uint8_t **out);
+
+/* Each pair in one shape. The order or the two orders that a call doesn't have are 0. */
+static bpfcanon_answer btf_canon(uint32_t order, uint32_t to, const uint8_t *bytes, size_t len, uint8_t *out, size_t room)
+{
+	return (void)order, bpfcanon_btf_canon(to, bytes, len, out, room);
+}
+
+static bpfcanon_answer btf_canon_new(uint32_t order, uint32_t to, const uint8_t *bytes, size_t len, uint8_t **out)
+{
+	return (void)order, bpfcanon_btf_canon_new(to, bytes, len, out);
+}
+
+static bpfcanon_answer btf_show(uint32_t order, uint32_t to, const uint8_t *bytes, size_t len, uint8_t *out, size_t room)
+{
+	return (void)order, (void)to, bpfcanon_btf_show(bytes, len, out, room);
+}
+
+static bpfcanon_answer btf_show_new(uint32_t order, uint32_t to, const uint8_t *bytes, size_t len, uint8_t **out)
+{
+	return (void)order, (void)to, bpfcanon_btf_show_new(bytes, len, out);
+}
+
+static bpfcanon_answer insn_show(uint32_t order, uint32_t to, const uint8_t *bytes, size_t len, uint8_t *out, size_t room)
+{
+	return (void)to, bpfcanon_insn_show(order, bytes, len, out, room);
+}
+
+static bpfcanon_answer insn_show_new(uint32_t order, uint32_t to, const uint8_t *bytes, size_t len, uint8_t **out)
+{
+	return (void)to, bpfcanon_insn_show_new(order, bytes, len, out);
+}
+
+static bpfcanon_answer insn_read(uint32_t order, uint32_t to, const uint8_t *bytes, size_t len, uint8_t *out, size_t room)
+{
+	return (void)order, bpfcanon_insn_read(to, bytes, len, out, room);
+}
+
+static bpfcanon_answer insn_read_new(uint32_t order, uint32_t to, const uint8_t *bytes, size_t len, uint8_t **out)
+{
+	return (void)order, bpfcanon_insn_read_new(to, bytes, len, out);
+}
+
+enum { BTF_CANON, BTF_SHOW, INSN_CANON, INSN_SHOW, INSN_READ, CALLS };
+
+static const struct {
+	const char *name;
+	new_call *make;
+	room_call *write;
+	uint32_t orders, tos; /* how many numbers of orders are tried: 0, 1 and 2, or 0 alone where the call has none */
+	uint32_t causes;      /* the greatest number of a cause */
+} calls[CALLS] = {
+	[BTF_CANON] = { "btf_canon_new", btf_canon_new, btf_canon, 1, 3, 32 },
+	[BTF_SHOW] = { "btf_show_new", btf_show_new, btf_show, 1, 1, 32 },
+	[INSN_CANON] = { "insn_canon_new", bpfcanon_insn_canon_new, bpfcanon_insn_canon, 3, 3, 8 },
+	[INSN_SHOW] = { "insn_show_new", insn_show_new, insn_show, 3, 1, 8 },
+	[INSN_READ] = { "insn_read_new", insn_read_new, insn_read, 1, 3, 4 },
+};
+
+static uint8_t wanted[ROOM], marker;
+static char seen[CALLS][33]; /* the causes that were reported */
+
+static int is_block_of(const uint8_t *block, bpfcanon_answer answer)
+{
+	return block && block != &marker && !memcmp(block, wanted, answer.len);
+}
+
+/* A call with ample memory: the answer of the proved call, and a block of its own where it is done. */
+static void compare(int call, uint32_t order, uint32_t to, const uint8_t *bytes, size_t len, bpfcanon_answer right)
+{
+	uint8_t *block = &marker, *other = &marker;
+	long blocks = live;
+	int is_done = right.status == BPFCANON_DONE;
+
+	CHECK(is_equal(calls[call].make(order, to, bytes, len, &block), right));
+	CHECK(is_done ? is_block_of(block, right) : !block);
+	CHECK(live == blocks + is_done);
+	CHECK(is_equal(calls[call].make(order, to, bytes, len, &other), right));
+	CHECK(is_done ? is_block_of(other, right) && is_block_of(block, right) && other != block : !other);
+	CHECK(live == blocks + 2 * is_done);
+	if (right.status != BPFCANON_DONE)
+		return;
+	bpfcanon_free(block);
+	CHECK(live == blocks + 1 && is_block_of(other, right));
+	bpfcanon_free(other);
+	CHECK(live == blocks);
+}
+
+/* The call with 0, 1, 2 .. allocations, until it takes no more. */
+static void refuse_each(int call, uint32_t order, uint32_t to, const uint8_t *bytes, size_t len, bpfcanon_answer right)
+{
+	for (long n = 0; n < 10000; n++) {
+		uint8_t *block = &marker;
+		long blocks = live;
+		bpfcanon_answer answer;
+
+		refused = 0;
+		allowed = n;
+		answer = calls[call].make(order, to, bytes, len, &block);
+		allowed = -1;
+		if (!refused) {
+			CHECK(is_equal(answer, right));
+			if (answer.status == BPFCANON_DONE)
+				bpfcanon_free(block);
+			CHECK(live == blocks && n > 0);
+			return;
+		}
+		CHECK(is(answer, BPFCANON_MEMORY, 0, 0, 0) && !block && live == blocks);
+	}
+	CHECK(!"a call takes no more than 10,000 allocations");
+}
+
+/* One input in each order. Memory is refused where it is asked for, and where a cause comes for the first time. */
+static void try_in(int call, uint32_t order, uint32_t to, const uint8_t *bytes, size_t len, int refuses)
+{
+	bpfcanon_answer right = calls[call].write(order, to, bytes ? bytes : &marker, len, wanted, ROOM);
+	int is_new = right.cause && !seen[call][right.cause];
+
+	seen[call][right.cause] = 1;
+	compare(call, order, to, bytes, len, right);
+	if (refuses || is_new)
+		refuse_each(call, order, to, bytes, len, right);
+}
+
+static void try_input(int call, const uint8_t *bytes, size_t len, int refuses)
+{
+	for (uint32_t order = 0; order < calls[call].orders; order++)
+		for (uint32_t to = 0; to < calls[call].tos; to++)
+			try_in(call, order, to, bytes, len, refuses);
+}
+
+/* A file as it is, cut at each length, and with each byte changed in some ways. */
+static void try_changed(int call, const uint8_t *bytes, size_t len)
+{
+	static const uint8_t changes[] = { 1, 2, 4, 8, 16, 32, 64, 128, 255 };
+	uint8_t *copy = repeat(bytes, len, 1);
+
+	try_input(call, bytes, len, 1);
+	for (size_t cut = 0; cut < len; cut++)
+		try_input(call, bytes, cut, 0);
+	for (size_t at = 0; at < len; at++)
+		for (size_t k = 0; k < COUNT(changes); k++) {
+			copy[at] ^= changes[k];
+			try_input(call, copy, len, 0);
+			copy[at] ^= changes[k];
+		}
+	free(copy);
+}
+
+static void try_files(const char *folder)
+{
+	static const struct {
+		const char *name;
+		int first, second;
+	} files[] = {
+		{ "flow_table.little.btf", BTF_CANON, BTF_SHOW },       { "flow_table.big.btf", BTF_CANON, BTF_SHOW },
+		{ "packet_filter.little.bin", INSN_CANON, INSN_SHOW },  { "packet_filter.big.bin", INSN_CANON, INSN_SHOW },
+		{ "hash_words.little.bin", INSN_CANON, INSN_SHOW },     { "hash_words.big.bin", INSN_CANON, INSN_SHOW },
+	};
+
+	for (size_t k = 0; k < COUNT(files); k++) {
+		size_t len;
+		uint8_t *bytes = load(folder, files[k].name, &len);
+
+		try_changed(files[k].first, bytes, len);
+		try_changed(files[k].second, bytes, len);
+		free(bytes);
+	}
+}
+
+static void try_listings(void)
+{
+	static const char text[] = "mov r1, r2\nlddw r3, 4294967296\nstb [r1-8], 7 ; one byte\njeq r1, 65535, 1\ncall 5\n\nexit\n";
+	static const char range[] = "exit\nstb [r1+32768], 0\n";
+
+	try_changed(INSN_READ, BYTES(text));
+	try_input(INSN_READ, BYTES(range), 1);
+}
+
+/* Outputs of more than 64 KB, also where the first block is too short for them. */
+static void try_long_outputs(void)
+{
+	static const char jump[] = "\x66\x0a\0\x80\0\0\0\x80"; /* jsgt32 r10, -2147483648, -32768: 31 bytes for 8 */
+	uint8_t *jumps = repeat(jump, 8, 20000), *exits = repeat("\x95\0\0\0\0\0\0", 8, 20000), *lines = repeat("exit\n", 5, 20000);
+
+	try_input(INSN_SHOW, jumps, 8 * 20000, 1);
+	try_input(INSN_SHOW, exits, 8 * 20000, 1);
+	try_input(INSN_CANON, exits, 8 * 20000, 1);
+	try_input(INSN_READ, lines, 5 * 20000, 1);
+	lines[5 * 19999] = 'E';
+	try_input(INSN_READ, lines, 5 * 20000, 1);
+	exits[8 * 19999] = 0;
+	try_input(INSN_SHOW, exits, 8 * 20000, 1);
+	free(jumps);
+	free(exits);
+	free(lines);
+}
+
+/* Eight FLOATs with one name of 100,000 bytes, so that the text is eight times as long as the file. */
+static void try_long_names(void)
+{
+	const size_t types = 8 * 12, letters = 100000, len = 24 + types + letters + 2;
+	const uint32_t header[] = { 0x0001eb9f, 24, 0, types, types, letters + 2 }, record[] = { 1, 0x10000000, 8 };
+	uint8_t *file = allocate(len);
+
+	memcpy(file, header, 24);
+	for (size_t at = 24; at < 24 + types; at += 12)
+		memcpy(file + at, record, 12);
+	memset(file + 24 + types, 'n', letters + 2);
+	file[24 + types] = file[len - 1] = 0;
+	try_input(BTF_SHOW, file, len, 1);
+	try_input(BTF_CANON, file, len, 1);
+	free(file);
+}
+
+/* Some file has each cause but 23, TextsTooLong, which never occurs. */
+static void check_causes(void)
+{
+	for (int call = 0; call < CALLS; call++)
+		for (uint32_t cause = 1; cause <= calls[call].causes; cause++)
+			if (!seen[call][cause] && !(calls[call].causes == 32 && cause == 23)) {
+				printf("%s: no file has the cause %u\n", calls[call].name, cause);
+				failed++;
+			}
+}
+
+int main(int argc, char **argv)
+{
+	if (argc != 2)
+		return 2;
+	for (int call = 0; call < CALLS; call++) {
+		try_input(call, NULL, 0, 1);
+		try_input(call, &marker, 0, 1);
+	}
+	try_files(argv[1]);
+	try_listings();
+	try_long_outputs();
+	try_long_names();
+	check_causes();
+	return end("blocks");
+}

@@ -1,0 +1,82 @@
+/* What the tests of the C interface share: checks, worked files, and malloc that can be refused. */
+#ifndef CHECKS_H
+#define CHECKS_H
+
+#include "bpfcanon.h"
+
+#include <stdio.h>
+#include <stdlib.h>
+#include <string.h>
+
+#define CHECK(holds) (checks++, (holds) ? 0 : (failed++, printf("%s:%d: %s\n", __FILE__, __LINE__, #holds)))
+#define BYTES(text) (const uint8_t *)(text), sizeof(text) - 1
+#define COUNT(array) (sizeof(array) / sizeof *(array))
+
+static long checks, failed;
+
+static inline int is(bpfcanon_answer answer, uint32_t status, uint32_t cause, uint64_t pos, size_t len)
+{
+	return answer.status == status && answer.cause == cause && answer.pos == pos && answer.len == len;
+}
+
+static inline int is_equal(bpfcanon_answer one, bpfcanon_answer other)
+{
+	return is(one, other.status, other.cause, other.pos, other.len);
+}
+
+/* Whether all of some bytes are still 0xaa. */
+static inline int is_filled(const uint8_t *from, const uint8_t *to)
+{
+	for (; from < to; from++)
+		if (*from != 0xaa)
+			return 0;
+	return 1;
+}
+
+/* A block that has to be there for the test to go on. */
+static inline uint8_t *allocate(size_t size)
+{
+	uint8_t *block = malloc(size ? size : 1);
+
+	if (!block) {
+		perror("malloc");
+		exit(2);
+	}
+	return block;
+}
+
+/* Copies of a text or of bytes, one after another. */
+static inline uint8_t *repeat(const void *bytes, size_t len, size_t times)
+{
+	uint8_t *all = allocate(len * times);
+
+	for (size_t i = 0; i < times; i++)
+		memcpy(all + i * len, bytes, len);
+	return all;
+}
+
+static inline uint8_t *load(const char *folder, const char *name, size_t *len)
+{
+	char path[4096];
+	uint8_t *bytes = allocate(1 << 20);
+	FILE *file;
+
+	snprintf(path, sizeof path, "%s/%s", folder, name);
+	file = fopen(path, "rb");
+	if (!file) {
+		perror(path);
+		exit(2);
+	}
+	*len = fread(bytes, 1, 1 << 20, file);
+	fclose(file);
+	return bytes;
+}
+
+/* Prints the last line of a test and gives the status of its process. */
+static inline int end(const char *name)
+{
+	printf("C interface, %s: %ld checks, %ld failed\n", name, checks, failed);
+	return failed != 0 || checks == 0;
+}
+
+#endif

@@ -1,0 +1,80 @@
+/*
+ * The front of a stream in room that is just enough, and in less, where whole instructions, a fault or a cut wide load follow it, from
+ * and to each order.
+ */
+#include "checks.h"
+
+#define MOVES 5
+#define FRONT (8 * MOVES)
+
+/* What may follow the front, in the order of the row, and how the call ends in room that is enough. */
+static const struct {
+	const char *what;
+	uint32_t order;
+	const char *bytes;
+	size_t len;
+	uint32_t status, cause;
+	uint64_t pos; /* from the end of the front */
+} tails[] = {
+	{ "nothing", BPFCANON_LITTLE, "", 0, BPFCANON_DONE, 0, 0 },
+	{ "half a slot", BPFCANON_BIG, "\x95\0\0\0", 4, BPFCANON_DONE, 0, 0 },
+	{ "half a wide load", BPFCANON_LITTLE, "\x18\x01\0\0\1\0\0\0", 8, BPFCANON_DONE, 0, 0 },
+	{ "half a wide load", BPFCANON_BIG, "\x18\x10\0\0\0\0\0\1", 8, BPFCANON_DONE, 0, 0 },
+	{ "a wide load but for a byte", BPFCANON_LITTLE, "\x18\x01\0\0\1\0\0\0\0\0\0\0\1\0\0", 15, BPFCANON_DONE, 0, 0 },
+	{ "an unknown opcode", BPFCANON_LITTLE, "\0\0\0\0\0\0\0\0", 8, BPFCANON_FAULT, 2, 0 },
+	{ "register 11", BPFCANON_LITTLE, "\xbf\x1b\0\0\0\0\0\0", 8, BPFCANON_FAULT, 3, 1 },
+	{ "register 11", BPFCANON_BIG, "\xbf\xb1\0\0\0\0\0\0", 8, BPFCANON_FAULT, 3, 1 },
+	{ "a source beside an immediate", BPFCANON_BIG, "\x04\x01\0\0\0\0\0\5", 8, BPFCANON_FAULT, 4, 1 },
+	{ "a wide load with a faulty first slot", BPFCANON_BIG, "\x18\xb0\0\0\0\0\0\1", 8, BPFCANON_FAULT, 3, 1 },
+	{ "a wide load with a faulty second slot", BPFCANON_LITTLE, "\x18\x01\0\0\1\0\0\0\1\0\0\0\1\0\0\0", 16, BPFCANON_FAULT, 7, 8 },
+};
+
+static int is_front(bpfcanon_front front, uint32_t status, uint32_t cause, uint64_t pos, size_t read, size_t written)
+{
+	return front.status == status && front.cause == cause && front.pos == pos && front.read == read && front.written == written;
+}
+
+/* The call in some room: what it writes if that is enough, and else how much is. */
+static void try_room(size_t tail, uint32_t to, const uint8_t *bytes, const uint8_t *right, size_t room)
+{
+	size_t len = FRONT + tails[tail].len;
+	uint8_t *out = allocate(room);
+	long before = failed;
+	bpfcanon_front front;
+
+	memset(out, 0xaa, room);
+	front = bpfcanon_insn_front(tails[tail].order, to, bytes, len, out, room);
+	if (room < FRONT) {
+		CHECK(is_front(front, BPFCANON_ROOM, 0, 0, 0, FRONT));
+		CHECK(is_filled(out, out + room));
+	} else {
+		uint64_t pos = tails[tail].status == BPFCANON_FAULT ? FRONT + tails[tail].pos : 0;
+
+		CHECK(is_front(front, tails[tail].status, tails[tail].cause, pos, FRONT, FRONT));
+		CHECK(!memcmp(out, right, FRONT) && is_filled(out + FRONT, out + room));
+	}
+	if (failed != before)
+		printf("%s, from %u to %u, room %zu: status %u cause %u\n", tails[tail].what, tails[tail].order, to, room, front.status,
+		       front.cause);
+	free(out);
+}
+
+int main(void)
+{
+	static const char mov[2][9] = { "\xbf\x21\0\0\0\0\0\0", "\xbf\x12\0\0\0\0\0\0" };
+	uint8_t *front[2] = { repeat(mov[0], 8, MOVES), repeat(mov[1], 8, MOVES) };
+
+	for (size_t tail = 0; tail < COUNT(tails); tail++) {
+		uint8_t *bytes = allocate(FRONT + tails[tail].len);
+
+		memcpy(bytes, front[tails[tail].order], FRONT);
+		memcpy(bytes + FRONT, tails[tail].bytes, tails[tail].len);
+		for (uint32_t to = 0; to < 2; to++)
+			for (size_t room = 0; room <= FRONT + 20; room++)
+				try_room(tail, to, bytes, front[to], room);
+		free(bytes);
+	}
+	free(front[0]);
+	free(front[1]);
+	return end("fronts");
+}
