@@ -30,6 +30,7 @@ FILES = {
     "share/zsh/site-functions/_bpfcanon": TOP / "completions" / "zsh" / "_bpfcanon",
     "share/doc/bpfcanon/README.md": TOP / "README.md",
     "share/doc/bpfcanon/recipes/object-key": TOP / "recipes" / "object-key",
+    "share/doc/bpfcanon/recipes/count.c": TOP / "recipes" / "count.c",
 }
 FILES |= {f"share/doc/bpfcanon/docs/{page.name}": page for page in (TOP / "docs").glob("*.md")}
 EXECUTABLE = {"bin/bpfcanon", "share/doc/bpfcanon/recipes/object-key"}
