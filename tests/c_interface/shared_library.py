@@ -56,9 +56,10 @@ def types_shown(library, file):
     return (needed.status, answer.status), room.raw[: answer.len]
 
 
-def has_names_of(call, source, enum):
-    """Whether a call gives the name of each variant of an enum at its number, and no name at the numbers around them."""
-    body = re.search(rf"pub enum {enum} \{{(.*?)\n\}}", source.read_text(), re.DOTALL)[1]
+def has_names_of(call, crate, enum):
+    """Whether a call gives the name of each variant of a crate's enum at its number, and no name at the numbers around them."""
+    sources = "\n".join(path.read_text() for path in crate.glob("src/**/*.rt"))
+    body = re.search(rf"pub enum {enum} \{{(.*?)\n\}}", sources, re.DOTALL)[1]
     names = {int(number): name for name, number in re.findall(r"^    (\w+) = (\d+),$", body, re.MULTILINE)}
     given = {number: call(number) for number in range(len(names) + 2)}
     return given == {number: names[number].encode() if number in names else None for number in given}
@@ -79,9 +80,9 @@ def main():
         shown(library, mov) == ((5, 0), b"mov r1, r2\n"),
         types_shown(library, little)[0] == (5, 0),
         types_shown(library, little) == types_shown(library, big),
-        has_names_of(library.bpfcanon_insn_cause, crates / "bpf_insn/src/fault.rt", "SlotCause"),
-        has_names_of(library.bpfcanon_btf_cause, crates / "btf_raw/src/cause.rt", "BtfCause"),
-        has_names_of(library.bpfcanon_line_cause, crates / "bpf_text/src/insn/fault.rt", "LineCause"),
+        has_names_of(library.bpfcanon_insn_cause, crates / "bpf_insn", "SlotCause"),
+        has_names_of(library.bpfcanon_btf_cause, crates / "btf_raw", "BtfCause"),
+        has_names_of(library.bpfcanon_line_cause, crates / "bpf_text", "LineCause"),
     ]
     print(f"C interface from Python: {len(checks)} checks, {checks.count(False)} failed")
     sys.exit(not all(checks))

@@ -1,0 +1,137 @@
+/*
+ * Makes each call on several megabytes, and at the limits of the command: instructions and listings of 67,108,864 bytes, BTF of
+ * 50,335,744. usage: large [several], which leaves the limits out
+ */
+#include "checks.h"
+
+#define INSN_LIMIT ((size_t)67108864)
+#define BTF_TYPES ((size_t)2097152)
+#define BTF_STRINGS ((size_t)16777216)
+#define BTF_HEADER ((size_t)4096)
+
+static int is_times(const uint8_t *block, size_t times, const void *bytes, size_t len)
+{
+	for (size_t i = 0; i < times; i++)
+		if (memcmp(block + i * len, bytes, len))
+			return 0;
+	return 1;
+}
+
+/* The calls on a program that is one instruction again and again: in both orders, and its line. */
+static void repeat_insn(const char *little, const char *big, const char *line, size_t times, uint32_t groups)
+{
+	const size_t len = 8 * times, line_len = strlen(line), text_len = line_len * times;
+	uint8_t *bytes = repeat(little, 8, times), *text = repeat(line, line_len, times), *out = allocate(len), *block;
+	bpfcanon_front front;
+
+	CHECK(is(bpfcanon_insn_canon(0, 1, bytes, len, out, len), BPFCANON_DONE, 0, 0, len) && is_times(out, times, big, 8));
+	CHECK(is(bpfcanon_insn_canon_new(1, 0, out, len, &block), BPFCANON_DONE, 0, 0, len) && !memcmp(block, bytes, len));
+	bpfcanon_free(block);
+	CHECK(is(bpfcanon_insn_same(0, bytes, len, 1, out, len), BPFCANON_DONE, 0, 0, 0));
+	CHECK(is(bpfcanon_insn_same(0, bytes, len, 1, out, len - 8), BPFCANON_DIFFERENT, 0, 0, 0));
+	CHECK(is(bpfcanon_insn_same(0, bytes, len, 1, out, len - 1), BPFCANON_FAULT_SECOND, 1, len - 8, 0));
+	CHECK(is(bpfcanon_insn_groups(0, bytes, len), BPFCANON_DONE, 0, 0, groups));
+	front = bpfcanon_insn_front(1, 1, out, len, out, 0);
+	CHECK(front.status == BPFCANON_ROOM && front.written == len);
+	memset(out, 0, len);
+	front = bpfcanon_insn_front(0, 1, bytes, len, out, len);
+	CHECK(front.status == BPFCANON_DONE && front.read == len && front.written == len && is_times(out, times, big, 8));
+
+	CHECK(is(bpfcanon_insn_show_new(0, bytes, len, &block), BPFCANON_DONE, 0, 0, text_len) && !memcmp(block, text, text_len));
+	memset(block, 0, text_len);
+	CHECK(is(bpfcanon_insn_show(0, bytes, len, block, text_len), BPFCANON_DONE, 0, 0, text_len) && !memcmp(block, text, text_len));
+	bpfcanon_free(block);
+	CHECK(is(bpfcanon_insn_read_new(1, text, text_len, &block), BPFCANON_DONE, 0, 0, len) && is_times(block, times, big, 8));
+	bpfcanon_free(block);
+	CHECK(is(bpfcanon_insn_read(0, text, text_len, out, len), BPFCANON_DONE, 0, 0, len) && !memcmp(out, bytes, len));
+	bytes[len - 8] = 0;
+	CHECK(is(bpfcanon_insn_show_new(0, bytes, len, &block), BPFCANON_FAULT, 2, len - 8, 0) && !block);
+	free(bytes);
+	free(text);
+	free(out);
+}
+
+/* A listing of the limit's length. */
+static void read_spaced_lines(const char *exit_insn)
+{
+	uint8_t *text = repeat("exit   \n", 8, INSN_LIMIT / 8), *block;
+
+	CHECK(is(bpfcanon_insn_read_new(0, text, INSN_LIMIT, &block), BPFCANON_DONE, 0, 0, INSN_LIMIT));
+	CHECK(is_times(block, INSN_LIMIT / 8, exit_insn, 8));
+	bpfcanon_free(block);
+	free(text);
+}
+
+/* INTs in little-endian BTF, all with the name at an offset of the strings. */
+static uint8_t *ints(size_t header_len, size_t types, uint32_t name, const uint8_t *strings, size_t strings_len)
+{
+	const uint32_t header[] = { 0x0001eb9f, header_len, 0, 16 * types, 16 * types, strings_len };
+	const uint32_t record[] = { name, 0x01000000, 4, 0x01000020 };
+	uint8_t *file = allocate(header_len + 16 * types + strings_len);
+
+	memset(file, 0, header_len);
+	memcpy(file, header, sizeof header);
+	for (size_t k = 0; k < types; k++)
+		memcpy(file + header_len + 16 * k, record, 16);
+	memcpy(file + header_len + 16 * types, strings, strings_len);
+	return file;
+}
+
+/* The calls on INTs whose name is at the end of a string of many letters, so that the canonical file has two of these alone. */
+static void repeat_int(size_t header_len, size_t types, size_t strings_len)
+{
+	static const char line[] = "int \"aa\" size=4 encoding=signed offset=0 bits=32\n";
+	const size_t len = header_len + 16 * types + strings_len, right_len = 24 + 16 * types + 4;
+	uint8_t *strings = allocate(strings_len), *bytes, *right, *out = allocate(len), *block, *at;
+	bpfcanon_answer answer;
+
+	memset(strings, 'a', strings_len);
+	strings[0] = strings[strings_len - 1] = 0;
+	bytes = ints(header_len, types, strings_len - 3, strings, strings_len);
+	right = ints(24, types, 1, (const uint8_t *)"\0aa", 4);
+	CHECK(is(bpfcanon_btf_check(bytes, len), BPFCANON_DONE, 0, 0, types));
+	CHECK(is(bpfcanon_btf_check(bytes, len - 1), BPFCANON_FAULT, 10, len - 1, 0));
+	CHECK(is(bpfcanon_btf_canon(0, bytes, len, out, len), BPFCANON_DONE, 0, 0, right_len) && !memcmp(out, right, right_len));
+	CHECK(is(bpfcanon_btf_canon_new(1, bytes, len, &block), BPFCANON_DONE, 0, 0, right_len));
+	CHECK(is(bpfcanon_btf_same(bytes, len, block, right_len), BPFCANON_DONE, 0, 0, 0));
+	CHECK(is(bpfcanon_btf_canon(0, block, right_len, out, right_len), BPFCANON_DONE, 0, 0, right_len));
+	CHECK(!memcmp(out, right, right_len));
+	bpfcanon_free(block);
+
+	answer = bpfcanon_btf_show_new(bytes, len, &block);
+	CHECK(answer.status == BPFCANON_DONE);
+	at = block;
+	for (size_t number = 1; number <= types; number++) {
+		char wanted[128];
+		int wanted_len = snprintf(wanted, sizeof wanted, "[%zu] %s", number, line);
+
+		if (at + wanted_len > block + answer.len || memcmp(at, wanted, wanted_len))
+			break;
+		at += wanted_len;
+	}
+	CHECK(at == block + answer.len && at != block);
+	CHECK(is(bpfcanon_btf_show(bytes, len, block, answer.len - 1), BPFCANON_ROOM, 0, 0, answer.len));
+	CHECK(is_equal(bpfcanon_btf_show(bytes, len, block, answer.len), answer));
+	bpfcanon_free(block);
+	free(strings);
+	free(bytes);
+	free(right);
+	free(out);
+}
+
+int main(int argc, char **argv)
+{
+	const int is_at_limits = argc != 2 || strcmp(argv[1], "several");
+	static const char exit_insn[] = "\x95\0\0\0\0\0\0", mov[] = "\xbf\x21\0\0\0\0\0", mov_big[] = "\xbf\x12\0\0\0\0\0";
+	static const char jump[] = "\x66\x0a\0\x80\0\0\0\x80", jump_big[] = "\x66\xa0\x80\0\x80\0\0\0";
+
+	repeat_insn(mov, mov_big, "mov r1, r2\n", 1000003, BPFCANON_BASE32 | BPFCANON_BASE64);
+	repeat_insn(jump, jump_big, "jsgt32 r10, -2147483648, -32768\n", 300007, BPFCANON_BASE32);
+	repeat_int(24, 200003, 1000003);
+	if (is_at_limits) {
+		repeat_insn(exit_insn, exit_insn, "exit\n", INSN_LIMIT / 8, BPFCANON_BASE32);
+		read_spaced_lines(exit_insn);
+		repeat_int(BTF_HEADER, BTF_TYPES, BTF_STRINGS);
+	}
+	return end(is_at_limits ? "megabytes and the limits" : "megabytes");
+}

@@ -1,0 +1,147 @@
+/*
+ * Eight threads make each call that allocates, compare its block, and free the blocks that another thread made. Half of them give
+ * faulty inputs in between, and numbers that are no order. usage: threads TESTDATA
+ */
+#include "checks.h"
+
+#include <pthread.h>
+#include <stdatomic.h>
+
+#define THREADS 8
+#define ROUNDS 1000
+
+/* A block with what it has to hold, on its way to the thread that frees it. */
+struct made {
+	uint8_t *block;
+	const uint8_t *wanted;
+	size_t len;
+};
+
+/* A file, and what each call makes of it. */
+struct file {
+	uint8_t *bytes, *canon, *text;
+	size_t len, canon_len, text_len;
+};
+
+static struct file types[2], insns[2];
+static struct made *_Atomic places[THREADS];
+static atomic_long wrong, compared;
+
+static void expect(int holds)
+{
+	compared++;
+	wrong += !holds;
+}
+
+static void free_made(struct made *made)
+{
+	if (!made)
+		return;
+	expect(!memcmp(made->block, made->wanted, made->len));
+	bpfcanon_free(made->block);
+	free(made);
+}
+
+/* Puts a block where the next thread takes it, and frees the one that is there. */
+static void pass_on(int thread, bpfcanon_answer answer, uint8_t *block, const uint8_t *wanted, size_t len)
+{
+	struct made *made = (struct made *)allocate(sizeof *made), *taken;
+
+	expect(is(answer, BPFCANON_DONE, 0, 0, len));
+	made->block = block;
+	made->wanted = wanted;
+	made->len = len;
+	taken = atomic_exchange(&places[(thread + 1) % THREADS], made);
+	free_made(taken);
+	free_made(atomic_exchange(&places[thread], NULL));
+}
+
+static void make_all(int thread, int order)
+{
+	uint8_t *block;
+	bpfcanon_answer answer;
+
+	answer = bpfcanon_btf_canon_new(BPFCANON_LITTLE, types[order].bytes, types[order].len, &block);
+	pass_on(thread, answer, block, types[0].canon, types[0].canon_len);
+	answer = bpfcanon_btf_show_new(types[order].bytes, types[order].len, &block);
+	pass_on(thread, answer, block, types[0].text, types[0].text_len);
+	answer = bpfcanon_insn_canon_new(order, BPFCANON_BIG, insns[order].bytes, insns[order].len, &block);
+	pass_on(thread, answer, block, insns[1].bytes, insns[1].len);
+	answer = bpfcanon_insn_show_new(order, insns[order].bytes, insns[order].len, &block);
+	pass_on(thread, answer, block, insns[0].text, insns[0].text_len);
+	answer = bpfcanon_insn_read_new(order, insns[0].text, insns[0].text_len, &block);
+	pass_on(thread, answer, block, insns[order].bytes, insns[order].len);
+}
+
+static void fail_all(void)
+{
+	uint8_t *block;
+
+	expect(is(bpfcanon_btf_canon_new(BPFCANON_BIG, types[0].bytes, 23, &block), BPFCANON_FAULT, 1, 23, 0) && !block);
+	expect(is(bpfcanon_btf_show_new(types[1].bytes, 0, &block), BPFCANON_FAULT, 1, 0, 0) && !block);
+	expect(is(bpfcanon_insn_show_new(0, insns[0].bytes, 7, &block), BPFCANON_FAULT, 1, 0, 0) && !block);
+	expect(is(bpfcanon_insn_canon_new(0, 2, insns[0].bytes, 8, &block), BPFCANON_ORDER, 0, 0, 0) && !block);
+	expect(is(bpfcanon_insn_read_new(2, insns[0].text, 8, &block), BPFCANON_ORDER, 0, 0, 0) && !block);
+}
+
+static void *work(void *number)
+{
+	int thread = (int)(size_t)number;
+
+	for (int round = 0; round < ROUNDS; round++) {
+		make_all(thread, (thread + round) % 2);
+		if (thread % 2)
+			fail_all();
+	}
+	return NULL;
+}
+
+/* What one thread makes of a file is what eight have to make. */
+static void prepare(const char *folder)
+{
+	static const char *const names[4] = {
+		"flow_table.little.btf", "flow_table.big.btf", "packet_filter.little.bin", "packet_filter.big.bin",
+	};
+
+	for (int k = 0; k < 4; k++) {
+		struct file *file = k < 2 ? &types[k] : &insns[k - 2];
+		bpfcanon_answer canon, text;
+
+		file->bytes = load(folder, names[k], &file->len);
+		if (k < 2) {
+			canon = bpfcanon_btf_canon_new(BPFCANON_LITTLE, file->bytes, file->len, &file->canon);
+			text = bpfcanon_btf_show_new(file->bytes, file->len, &file->text);
+		} else {
+			canon = bpfcanon_insn_canon_new(k - 2, BPFCANON_LITTLE, file->bytes, file->len, &file->canon);
+			text = bpfcanon_insn_show_new(k - 2, file->bytes, file->len, &file->text);
+		}
+		CHECK(canon.status == BPFCANON_DONE && text.status == BPFCANON_DONE);
+		file->canon_len = canon.len;
+		file->text_len = text.len;
+	}
+}
+
+int main(int argc, char **argv)
+{
+	pthread_t threads[THREADS];
+
+	if (argc != 2)
+		return 2;
+	prepare(argv[1]);
+	for (size_t k = 0; k < THREADS; k++)
+		CHECK(!pthread_create(&threads[k], NULL, work, (void *)k));
+	for (size_t k = 0; k < THREADS; k++)
+		CHECK(!pthread_join(threads[k], NULL));
+	for (size_t k = 0; k < THREADS; k++)
+		free_made(places[k]);
+	for (int k = 0; k < 4; k++) {
+		struct file *file = k < 2 ? &types[k] : &insns[k - 2];
+
+		free(file->bytes);
+		bpfcanon_free(file->canon);
+		bpfcanon_free(file->text);
+	}
+	checks += compared;
+	failed += wrong;
+	return end("threads");
+}
