@@ -122,11 +122,12 @@ impl<A: Allocator> TypeTable for Btf<A> {
         ensures kept { IsSome result }
         ensures sections { IfSome result (λ s. AreSections self.now s.order s.types.now s.strings.now s.places.now) }
     {
-        Some(FileSections {
+        let sections = FileSections {
             order: self.order,
             types: &self.types,
             strings: &self.strings,
             places: self.places.records(),
-        })
+        };
+        Some(sections)
     }
 }

@@ -1,0 +1,102 @@
+//! Files with each byte changed to every other value, cut at every length, or with names at every offset, compared with the plain judge.
+
+use crate::tests::examples::{BIG_ENUM64, BIG_INT, EMPTY, MEMBER, STRINGS_FIRST, TAGGED};
+use crate::tests::expect::equal;
+use crate::tests::judge::first_fault;
+use crate::tests::{change, fault, file, first_fault_of_both};
+use btf_raw::{BtfCause, BtfFault};
+use std::alloc::{AllocError, Global};
+use std::fmt::Debug;
+use std::process::Abort;
+use std::test::Fail;
+
+/// Checks that both parsers answer what the judge does.
+fn is_judged(rt: &impl Abort, alloc: Global, bytes: &[u8], case: &impl Debug) -> Result<(), Fail> {
+    let wanted = first_fault(alloc, bytes)?;
+    equal(rt, &first_fault_of_both(alloc, bytes)?, &wanted, case);
+    Ok(())
+}
+
+/// Checks it for a file with each byte changed to every value.
+fn changes_are_judged(rt: &impl Abort, alloc: Global, file: &[u8]) -> Result<(), Fail> {
+    let mut bytes = Vec::from_slice(alloc, file)?;
+    for (pos, old) in file.iter().enumerate() {
+        for value in 0..=u8::MAX {
+            change(&mut bytes, &[(pos, value)]);
+            is_judged(rt, alloc, &bytes, &("byte", pos, "as", value))?;
+        }
+        change(&mut bytes, &[(pos, *old)]);
+    }
+    Ok(())
+}
+
+#[test]
+fn each_byte_with_every_value(rt: HostRuntime) -> Result<(), Fail> {
+    for file in [BIG_INT, STRINGS_FIRST, MEMBER, TAGGED, BIG_ENUM64] {
+        changes_are_judged(&rt, rt.alloc(), file)?;
+    }
+    Ok(())
+}
+
+/// String sections, with and without texts that aren't UTF-8.
+const STRINGS: &[&[u8]] = &[
+    b"\0\xc3\xa9\0\xe2\x82\xac\0\xf0\x9f\x98\x80b\0",
+    b"\0a\xffb\0\xc3\xa9\0",
+    b"\0\xe2\x82\0\x82a\0\xe2\x28\xa1c\0",
+    b"\0\xed\xa0\x80d\0\xc0\x80\0\xf5\x80\x80\x80e\0",
+    b"\0\xff\xff\xff\0\xff\0",
+    b"\0ab\xc3\0\xa9cd\xf0\x90\x80\0",
+    b"\0a text of 64 bytes and more, in which a character takes two: \xc3\xa9, and then three: \xe2\x82\xac.\0",
+    b"\0a text of 64 bytes and more, in which a character lacks its end: \xe2\x82, at a place past byte 64: \xc3.\0b\0",
+];
+
+/// The file of an INT whose name begins at an offset of the strings.
+fn named_int(alloc: Global, off: u32, strings: &[u8]) -> Result<Vec<u8>, AllocError> {
+    let mut record = Vec::from_slice(alloc, &off.to_le_bytes())?;
+    record.extend_from_slice(b"\0\0\0\x01\x04\0\0\0\x20\0\0\0")?;
+    file(alloc, &record, strings)
+}
+
+#[test]
+fn names_at_every_offset(rt: HostRuntime) -> Result<(), Fail> {
+    for strings in STRINGS {
+        for off in 0..120_u32 {
+            let bytes = named_int(rt.alloc(), off, strings)?;
+            is_judged(&rt, rt.alloc(), &bytes, &(strings, off))?;
+        }
+    }
+    Ok(())
+}
+
+/// A file, its own header's length, and its length.
+struct Whole(&'static [u8], usize, usize);
+
+const WHOLE: &[Whole] = &[
+    Whole(EMPTY, 24, 25),
+    Whole(TAGGED, 24, 105),
+    Whole(STRINGS_FIRST, 28, 51),
+];
+
+/// The first fault of a file that is cut to this length, by the length of its own header.
+fn fault_of_cut(len: usize, header_len: usize) -> BtfFault {
+    if len < 24 {
+        fault(len as u64, BtfCause::ShortHeader)
+    } else if len < header_len {
+        fault(4, BtfCause::HeaderLength)
+    } else {
+        fault(len as u64, BtfCause::FileLength)
+    }
+}
+
+#[test]
+fn files_cut_at_every_length(rt: HostRuntime) -> Result<(), Fail> {
+    for Whole(file, header_len, file_len) in WHOLE {
+        equal(&rt, &file.len(), file_len, &"the length");
+        for len in 0..file.len() {
+            let wanted = Some(fault_of_cut(len, *header_len));
+            let answered = first_fault_of_both(rt.alloc(), &file[..len])?;
+            equal(&rt, &answered, &wanted, &(file_len, "cut to", len));
+        }
+    }
+    Ok(())
+}

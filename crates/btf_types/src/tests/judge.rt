@@ -1,0 +1,376 @@
+//! A plain judge of BTF files, written from docs/FORMATS.md alone. It collects the faults of a phase and takes the least. It calls
+//! no parser: of the library it uses only the type of a fault.
+
+mod fields;
+
+use btf_raw::{BtfCause, BtfFault};
+use fields::field_faults;
+use std::alloc::{AllocError, Global};
+
+/// What a word of a record is.
+#[derive(Clone, Copy, PartialEq, Eq)]
+enum Word {
+    Name,
+    Info,
+    Size,
+    Zero,
+    Type,
+    Int,
+    Linkage,
+    Component,
+    Offset,
+    Any,
+}
+
+/// Whether a record has a name.
+#[derive(Clone, Copy, PartialEq, Eq)]
+enum Naming {
+    Free,
+    Needed,
+    Unnamed,
+}
+
+/// What a record of a kind has: its name, its third word, kind_flag, the words after the third, and those of each item.
+struct Layout(Naming, Word, bool, &'static [Word], &'static [Word]);
+
+const MEMBER: &[Word] = &[Word::Name, Word::Type, Word::Offset];
+
+/// The layouts of the kinds 1 to 19.
+const LAYOUTS: &[Layout] = &[
+    Layout(Naming::Free, Word::Size, false, &[Word::Int], &[]),
+    Layout(Naming::Unnamed, Word::Type, false, &[], &[]),
+    Layout(
+        Naming::Unnamed,
+        Word::Zero,
+        false,
+        &[Word::Type, Word::Type, Word::Any],
+        &[],
+    ),
+    Layout(Naming::Free, Word::Size, true, &[], MEMBER),
+    Layout(Naming::Free, Word::Size, true, &[], MEMBER),
+    Layout(
+        Naming::Free,
+        Word::Size,
+        true,
+        &[],
+        &[Word::Name, Word::Any],
+    ),
+    Layout(Naming::Needed, Word::Zero, true, &[], &[]),
+    Layout(Naming::Needed, Word::Type, false, &[], &[]),
+    Layout(Naming::Unnamed, Word::Type, false, &[], &[]),
+    Layout(Naming::Unnamed, Word::Type, false, &[], &[]),
+    Layout(Naming::Unnamed, Word::Type, false, &[], &[]),
+    Layout(Naming::Needed, Word::Type, false, &[], &[]),
+    Layout(
+        Naming::Unnamed,
+        Word::Type,
+        false,
+        &[],
+        &[Word::Name, Word::Type],
+    ),
+    Layout(Naming::Needed, Word::Type, false, &[Word::Linkage], &[]),
+    Layout(
+        Naming::Needed,
+        Word::Size,
+        false,
+        &[],
+        &[Word::Type, Word::Any, Word::Any],
+    ),
+    Layout(Naming::Free, Word::Size, false, &[], &[]),
+    Layout(Naming::Needed, Word::Type, true, &[Word::Component], &[]),
+    Layout(Naming::Needed, Word::Type, true, &[], &[]),
+    Layout(
+        Naming::Free,
+        Word::Size,
+        true,
+        &[],
+        &[Word::Name, Word::Any, Word::Any],
+    ),
+];
+
+fn layout_of(kind: u32) -> Option<&'static Layout> {
+    LAYOUTS.get(kind.checked_sub(1)? as usize)
+}
+
+/// The faults of a phase.
+#[derive(Drop)]
+struct Faults {
+    found: Vec<BtfFault>,
+}
+
+impl Faults {
+    /// Notes a fault if it holds.
+    fn note(&mut self, holds: bool, pos: u64, cause: BtfCause) -> Result<(), AllocError> {
+        if holds {
+            self.found.push(BtfFault { pos, cause })?;
+        }
+        Ok(())
+    }
+
+    /// The least fault by its cause alone.
+    fn by_cause(&self) -> Option<BtfFault> {
+        let mut least: Option<BtfFault> = None;
+        for fault in self.found.iter() {
+            if !matches!(least, Some(other) if other.cause as u8 <= fault.cause as u8) {
+                least = Some(*fault);
+            }
+        }
+        least
+    }
+
+    /// The least fault by its place, then by its cause.
+    fn by_place(&self) -> Option<BtfFault> {
+        let mut least: Option<BtfFault> = None;
+        for fault in self.found.iter() {
+            let here = (fault.pos, fault.cause as u8);
+            if !matches!(least, Some(other) if (other.pos, other.cause as u8) <= here) {
+                least = Some(*fault);
+            }
+        }
+        least
+    }
+}
+
+fn word_at(bytes: &[u8], big: bool, pos: usize) -> Option<u32> {
+    match bytes.get(pos..)? {
+        [a, b, c, d, ..] if big => Some(u32::from_be_bytes([*a, *b, *c, *d])),
+        [a, b, c, d, ..] => Some(u32::from_le_bytes([*a, *b, *c, *d])),
+        _ => None,
+    }
+}
+
+/// A record, from its first byte to the end of its section, and where it begins in the file.
+#[derive(Clone, Copy)]
+struct Record<'a> {
+    big: bool,
+    pos: u64,
+    bytes: &'a [u8],
+}
+
+impl<'a> Record<'a> {
+    fn word(&self, j: usize) -> u32 {
+        word_at(self.bytes, self.big, j.saturating_mul(4)).unwrap_or(0)
+    }
+
+    fn kind(&self) -> u32 {
+        self.word(1) >> 24 & 0x1f
+    }
+
+    fn flag(&self) -> bool {
+        self.word(1) >> 31 == 1
+    }
+
+    fn vlen(&self) -> u32 {
+        self.word(1) & 0xffff
+    }
+
+    /// The place of word j in the file.
+    fn place(&self, j: usize) -> u64 {
+        self.pos.saturating_add((j as u64).saturating_mul(4))
+    }
+
+    /// How many words it has.
+    fn len(&self) -> usize {
+        match layout_of(self.kind()) {
+            Some(Layout(_, _, _, words, item)) => item
+                .len()
+                .saturating_mul(self.vlen() as usize)
+                .saturating_add(words.len())
+                .saturating_add(3),
+            None => 3,
+        }
+    }
+
+    /// What word j is.
+    fn role(&self, j: usize) -> Word {
+        let Some(Layout(_, third, _, words, item)) = layout_of(self.kind()) else {
+            return Word::Any;
+        };
+        let after = j.saturating_sub(3);
+        match (j, item.len()) {
+            (0, _) => Word::Name,
+            (1, _) => Word::Info,
+            (2, _) => *third,
+            (_, 0) => words.get(after).copied().unwrap_or(Word::Any),
+            (_, len) => item.get(after % len).copied().unwrap_or(Word::Any),
+        }
+    }
+
+    fn width(&self, j: usize) -> u32 {
+        if self.flag() { self.word(j) >> 24 } else { 0 }
+    }
+
+    fn bit_offset(&self, j: usize) -> u32 {
+        if self.flag() {
+            self.word(j) & 0xff_ffff
+        } else {
+            self.word(j)
+        }
+    }
+
+    /// Whether it is a STRUCT or UNION in which some width isn't 0.
+    fn has_bit_fields(&self) -> bool {
+        for j in 3..self.len() {
+            if self.role(j) == Word::Offset && self.width(j) != 0 {
+                return true;
+            }
+        }
+        false
+    }
+}
+
+/// A file whose header has no fault.
+#[derive(Clone, Copy)]
+struct Sections<'a> {
+    big: bool,
+    types_pos: u64,
+    types: &'a [u8],
+    strings_pos: u64,
+    strings: &'a [u8],
+}
+
+/// The first byte from 24 to the end of the header that isn't 0.
+fn tail_byte(bytes: &[u8], header_len: u64) -> Option<u64> {
+    for (pos, byte) in bytes.iter().enumerate() {
+        if pos >= 24 && (pos as u64) < header_len && *byte != 0 {
+            return Some(pos as u64);
+        }
+    }
+    None
+}
+
+/// A number of the header.
+fn number(bytes: &[u8], big: bool, pos: usize) -> u64 {
+    u64::from(word_at(bytes, big, pos).unwrap_or(0))
+}
+
+/// The faults of the numbers of a header of 24 bytes or more.
+fn number_faults(faults: &mut Faults, bytes: &[u8], big: bool) -> Result<(), AllocError> {
+    let len = bytes.len() as u64;
+    let (header, types) = (number(bytes, big, 4), number(bytes, big, 12));
+    let (type_off, str_off) = (number(bytes, big, 8), number(bytes, big, 16));
+    let strings = number(bytes, big, 20);
+    let end = header.saturating_add(types).saturating_add(strings);
+    let tail = tail_byte(bytes, header);
+    let types_first = type_off == 0 && str_off == types;
+    let strings_first = str_off == 0 && type_off == strings;
+    let header_fits = 24 <= header && header <= 4096 && header <= len;
+    faults.note(bytes.get(2) != Some(&1), 2, BtfCause::Version)?;
+    faults.note(bytes.get(3) != Some(&0), 3, BtfCause::Flags)?;
+    faults.note(!header_fits, 4, BtfCause::HeaderLength)?;
+    faults.note(tail.is_some(), tail.unwrap_or(0), BtfCause::HeaderTail)?;
+    faults.note(types > 33_554_432, 12, BtfCause::TypeLength)?;
+    faults.note(
+        strings == 0 || strings > 16_777_216,
+        20,
+        BtfCause::StringLength,
+    )?;
+    faults.note(!types_first && !strings_first, 8, BtfCause::Sections)?;
+    faults.note(end != len, end.min(len), BtfCause::FileLength)
+}
+
+fn header_faults(faults: &mut Faults, bytes: &[u8]) -> Result<(), AllocError> {
+    let len = bytes.len() as u64;
+    let big = bytes.starts_with(b"\xeb\x9f");
+    let has_magic = big || bytes.starts_with(b"\x9f\xeb");
+    faults.note(len < 24, len, BtfCause::ShortHeader)?;
+    faults.note(!has_magic, 0, BtfCause::Magic)?;
+    if len >= 24 && has_magic {
+        number_faults(faults, bytes, big)?;
+    }
+    Ok(())
+}
+
+/// The sections of a file whose header has no fault.
+fn sections_of(bytes: &[u8]) -> Option<Sections<'_>> {
+    let big = bytes.starts_with(b"\xeb\x9f");
+    let header = u64::from(word_at(bytes, big, 4)?);
+    let types_pos = header.saturating_add(u64::from(word_at(bytes, big, 8)?));
+    let strings_pos = header.saturating_add(u64::from(word_at(bytes, big, 16)?));
+    let types_len = word_at(bytes, big, 12)? as usize;
+    let str_len = word_at(bytes, big, 20)? as usize;
+    Some(Sections {
+        big,
+        types_pos,
+        types: bytes.get(types_pos as usize..)?.get(..types_len)?,
+        strings_pos,
+        strings: bytes.get(strings_pos as usize..)?.get(..str_len)?,
+    })
+}
+
+fn string_faults(faults: &mut Faults, file: Sections) -> Result<(), AllocError> {
+    let first = file.strings_pos;
+    let last = first.saturating_add(file.strings.len().saturating_sub(1) as u64);
+    faults.note(
+        file.strings.first() != Some(&0),
+        first,
+        BtfCause::FirstString,
+    )?;
+    faults.note(file.strings.last() != Some(&0), last, BtfCause::LastString)
+}
+
+/// The faults of a record's frame.
+fn frame_faults(faults: &mut Faults, record: Record) -> Result<(), AllocError> {
+    let len = record.bytes.len();
+    faults.note(len < 12, record.place(0), BtfCause::RecordCut)?;
+    if len < 8 {
+        return Ok(());
+    }
+    let (info, at) = (record.word(1), record.place(1));
+    faults.note(info & 0x60ff_0000 != 0, at, BtfCause::InfoBits)?;
+    let Some(Layout(_, _, has_flag, _, item)) = layout_of(record.kind()) else {
+        return faults.note(true, at, BtfCause::KindNumber);
+    };
+    let has_vlen = !item.is_empty() || record.kind() == 12;
+    let is_cut = len >= 12 && len < record.len().saturating_mul(4);
+    faults.note(record.flag() && !*has_flag, at, BtfCause::FlagSet)?;
+    faults.note(record.vlen() != 0 && !has_vlen, at, BtfCause::Vlen)?;
+    faults.note(is_cut, record.place(3), BtfCause::TailCut)
+}
+
+/// The records up to the first whose frame has a fault; these faults are noted.
+fn frames<'a>(
+    faults: &mut Faults,
+    alloc: Global,
+    file: Sections<'a>,
+) -> Result<Vec<Record<'a>>, AllocError> {
+    let mut records = Vec::new(alloc);
+    let mut rest = file.types;
+    for _ in 0..file.types.len() {
+        if rest.is_empty() || !faults.found.is_empty() {
+            break;
+        }
+        let before = file.types.len().saturating_sub(rest.len()) as u64;
+        let record = Record {
+            big: file.big,
+            pos: file.types_pos.saturating_add(before),
+            bytes: rest,
+        };
+        frame_faults(faults, record)?;
+        rest = rest.get(record.len().saturating_mul(4)..).unwrap_or(&[]);
+        records.push(record)?;
+    }
+    Ok(records)
+}
+
+/// The first fault of a file, if it has one.
+pub(crate) fn first_fault(alloc: Global, bytes: &[u8]) -> Result<Option<BtfFault>, AllocError> {
+    let mut faults = Faults {
+        found: Vec::new(alloc),
+    };
+    header_faults(&mut faults, bytes)?;
+    let Some(file) = sections_of(bytes) else {
+        return Ok(faults.by_cause());
+    };
+    if faults.found.is_empty() {
+        string_faults(&mut faults, file)?;
+    }
+    if !faults.found.is_empty() {
+        return Ok(faults.by_cause());
+    }
+    let records = frames(&mut faults, alloc, file)?;
+    if faults.found.is_empty() {
+        field_faults(&mut faults, file.strings, &records)?;
+    }
+    Ok(faults.by_place())
+}

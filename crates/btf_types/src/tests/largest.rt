@@ -1,0 +1,193 @@
+//! Names and sections as long as the limits allow, and files of several thousand names in each other.
+
+use crate::tests::expect::equal;
+use crate::tests::{change, file, first_fault_of_both};
+use crate::{Btf, BtfView, Head, TypeTable};
+use btf_raw::{BtfCause, BtfFault};
+use std::alloc::{AllocError, Global};
+use std::process::Abort;
+use std::test::Fail;
+
+/// A string section: NUL, a number of `a`, and these bytes.
+fn letters(alloc: Global, len: usize, end: &[u8]) -> Result<Vec<u8>, AllocError> {
+    let mut strings = Vec::from_slice(alloc, b"\0")?;
+    strings.resize(len.saturating_add(1), b'a')?;
+    strings.extend_from_slice(end)?;
+    Ok(strings)
+}
+
+/// TYPEDEFs of void, named at the offsets 1, 2 and on.
+fn typedefs(alloc: Global, count: u32) -> Result<Vec<u8>, AllocError> {
+    let mut records = Vec::new(alloc);
+    for i in 0..count {
+        records.extend_from_slice(&i.saturating_add(1).to_le_bytes())?;
+        records.extend_from_slice(b"\0\0\0\x08\0\0\0\0")?;
+    }
+    Ok(records)
+}
+
+/// A number of TYPEDEFs, the number of letters of the first name, the file's length, and its first fault.
+struct Nested(u32, usize, usize, Option<BtfFault>);
+
+const NESTED: &[Nested] = &[
+    Nested(1, 16_777_214, 16_777_252, None),
+    Nested(2, 16_777_214, 16_777_264, None),
+    Nested(
+        1,
+        16_777_215,
+        16_777_253,
+        Some(BtfFault {
+            pos: 20,
+            cause: BtfCause::StringLength,
+        }),
+    ),
+    Nested(5791, 5791, 75_309, None),
+    Nested(5792, 5792, 75_322, None),
+];
+
+/// The length of a record's own name.
+fn name_len<T: TypeTable>(table: &T, id: u32) -> usize {
+    if id == 0 || id > table.count() {
+        return 0;
+    }
+    match table.head(id) {
+        Head::KTypedef { name, .. } => name.len(),
+        _ => 0,
+    }
+}
+
+/// How many records a table has, and the lengths of the first name and of the last.
+fn ends<T: TypeTable>(table: &T) -> (u32, usize, usize) {
+    let count = table.count();
+    (count, name_len(table, 1), name_len(table, count))
+}
+
+/// Checks these of both tables of a file.
+fn has_names(rt: &impl Abort, alloc: Global, bytes: &[u8], row: &Nested) -> Result<(), Fail> {
+    let Nested(count, len, _, _) = row;
+    let last = len.saturating_sub(*count as usize).saturating_add(1);
+    let wanted = (*count, *len, last);
+    equal(rt, &ends(&Btf::parse(alloc, bytes)?), &wanted, &"owned");
+    equal(rt, &ends(&BtfView::parse(alloc, bytes)?), &wanted, &"lent");
+    Ok(())
+}
+
+#[test]
+fn names_in_each_other(rt: HostRuntime) -> Result<(), Fail> {
+    for row in NESTED {
+        let Nested(count, len, file_len, wanted) = row;
+        let strings = letters(rt.alloc(), *len, b"\0")?;
+        let bytes = file(rt.alloc(), &typedefs(rt.alloc(), *count)?, &strings)?;
+        equal(&rt, &bytes.len(), file_len, &("names", count));
+        equal(
+            &rt,
+            &first_fault_of_both(rt.alloc(), &bytes)?,
+            wanted,
+            &("names", count),
+        );
+        if wanted.is_none() {
+            has_names(&rt, rt.alloc(), &bytes, row)?;
+        }
+    }
+    Ok(())
+}
+
+/// The file of the most records that a type section holds: an ENUM with a value, and PTRs of it; and a byte more or not.
+fn most_records(alloc: Global, end: &[u8]) -> Result<Vec<u8>, AllocError> {
+    let head = b"\0\0\0\0\x01\0\0\x06\x04\0\0\0\0\0\0\0\0\0\0\0";
+    let mut records = Vec::from_slice(alloc, head)?;
+    for _ in 0..2_796_201 {
+        records.extend_from_slice(b"\0\0\0\0\0\0\0\x02\x01\0\0\0")?;
+    }
+    records.extend_from_slice(end)?;
+    file(alloc, &records, b"\0")
+}
+
+/// What is added to the section, bytes that are changed, and the first fault.
+struct Longest(&'static [u8], &'static [(usize, u8)], Option<BtfFault>);
+
+const LONGEST: &[Longest] = &[
+    Longest(b"", &[], None),
+    // the type of the last PTR
+    Longest(
+        b"",
+        &[(33_554_452, 0xab), (33_554_453, 0xaa), (33_554_454, 0x2a)],
+        Some(BtfFault {
+            pos: 33_554_452,
+            cause: BtfCause::Reference,
+        }),
+    ),
+    // the kind of the last PTR
+    Longest(
+        b"",
+        &[(33_554_451, 20)],
+        Some(BtfFault {
+            pos: 33_554_448,
+            cause: BtfCause::KindNumber,
+        }),
+    ),
+    Longest(
+        b"\0",
+        &[],
+        Some(BtfFault {
+            pos: 12,
+            cause: BtfCause::TypeLength,
+        }),
+    ),
+];
+
+#[test]
+fn longest_type_sections(rt: HostRuntime) -> Result<(), Fail> {
+    for Longest(end, edits, wanted) in LONGEST {
+        let mut bytes = most_records(rt.alloc(), end)?;
+        change(&mut bytes, edits);
+        equal(
+            &rt,
+            &first_fault_of_both(rt.alloc(), &bytes)?,
+            wanted,
+            &edits,
+        );
+        if wanted.is_none() {
+            equal(&rt, &bytes.len(), &33_554_457, &"the file");
+            equal(
+                &rt,
+                &Btf::parse(rt.alloc(), &bytes)?.count(),
+                &2_796_202,
+                &"owned",
+            );
+            equal(
+                &rt,
+                &BtfView::parse(rt.alloc(), &bytes)?.count(),
+                &2_796_202,
+                &"lent",
+            );
+        }
+    }
+    Ok(())
+}
+
+/// ENUMs with as many values as one can have, all of the same name.
+fn full_enums(alloc: Global, count: u32) -> Result<Vec<u8>, AllocError> {
+    let mut records = Vec::new(alloc);
+    for _ in 0..count {
+        records.extend_from_slice(b"\0\0\0\0\xff\xff\0\x06\x04\0\0\0")?;
+        for _ in 0..65_535 {
+            records.extend_from_slice(b"\x01\0\0\0\0\0\0\0")?;
+        }
+    }
+    Ok(records)
+}
+
+/// Each of half a million values has the same name of a million bytes, beside a text that isn't UTF-8.
+#[test]
+fn many_uses_of_a_long_name(rt: HostRuntime) -> Result<(), Fail> {
+    let strings = letters(rt.alloc(), 1_000_000, b"\0\xff\0")?;
+    let bytes = file(rt.alloc(), &full_enums(rt.alloc(), 8)?, &strings)?;
+    equal(
+        &rt,
+        &first_fault_of_both(rt.alloc(), &bytes)?,
+        &None,
+        &"the file",
+    );
+    Ok(())
+}
