@@ -17,6 +17,8 @@ mod options;
 mod outcome;
 mod pieces;
 mod reply;
+#[cfg(test)]
+mod tests;
 mod verb;
 
 use crate::outcome::put_text;

@@ -1,0 +1,13 @@
+//! Arenas with room for a given number of bytes.
+
+use bumpalo::Bump;
+use std::alloc::{AllocError, Global};
+
+/// An arena of `most` bytes with room for `room` of them: the others are given away first.
+pub fn arena(alloc: Global, most: usize, room: usize) -> Result<Bump<Global>, AllocError> {
+    let bump = Bump::try_with_capacity(alloc, most)?;
+    bump.set_allocation_limit(Some(bump.allocated_bytes()));
+    let taken = bump.chunk_capacity().saturating_sub(room);
+    bump.try_alloc_slice_fill_clone(taken, 0u8)?;
+    Ok(bump)
+}

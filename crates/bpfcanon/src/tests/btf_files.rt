@@ -1,0 +1,90 @@
+//! BTF files of a given size.
+
+use bpf_words::{Order, push32};
+use std::alloc::{AllocError, Global};
+
+/// No types, and a string section of one NUL.
+pub const NO_TYPES: &[u8] = b"\x9f\xeb\x01\0\x18\0\0\0\0\0\0\0\0\0\0\0\0\0\0\0\x01\0\0\0\0";
+
+/// A signed INT named `int`, in big-endian order.
+pub const BIG_INT: &[u8] =
+    b"\xeb\x9f\x01\0\0\0\0\x18\0\0\0\0\0\0\0\x10\0\0\0\x10\0\0\0\x05\0\0\0\x01\x01\0\0\0\0\0\0\x04\x01\0\0 \0int\0";
+
+/// Its canonical bytes.
+pub const INT: &[u8] =
+    b"\x9f\xeb\x01\0\x18\0\0\0\0\0\0\0\x10\0\0\0\x10\0\0\0\x05\0\0\0\x01\0\0\0\0\0\0\x01\x04\0\0\0 \0\0\x01\0int\0";
+
+/// An INT, and a STRUCT with a member of it and kind_flag 1.
+pub const STRUCT: &[u8] =
+    b"\x9f\xeb\x01\0\x18\0\0\0\0\0\0\0(\0\0\0(\0\0\0\x09\0\0\0\x01\0\0\0\0\0\0\x01\x04\0\0\0 \0\0\x01\x05\0\0\0\x01\0\0\x84\x04\0\0\0\x07\0\0\0\x01\0\0\0\0\0\0\0\0int\0s\0a\0";
+
+/// The text of its types.
+pub const STRUCT_TEXT: &[u8] = b"[1] int \"int\" size=4 encoding=signed offset=0 bits=32\n\
+    [2] struct \"s\" size=4 items=1\n\x20 member \"a\" type=1 offset=0 width=0\n";
+
+/// A PTR to a type that doesn't exist.
+pub const UNKNOWN_TYPE: &[u8] =
+    b"\x9f\xeb\x01\0\x18\0\0\0\0\0\0\0\x0c\0\0\0\x0c\0\0\0\x01\0\0\0\0\0\0\0\0\0\0\x02\x02\0\0\0\0";
+
+/// A file and its text.
+#[derive(Drop)]
+pub struct Shown {
+    pub file: Vec<u8>,
+    pub text: Vec<u8>,
+}
+
+/// The little-endian header of a file with sections of these lengths, types first.
+pub fn header(alloc: Global, types: u32, strings: u32) -> Result<Vec<u8>, AllocError> {
+    let mut file = Vec::from_slice(alloc, b"\x9f\xeb\x01\0")?;
+    for number in [24, 0, types, types, strings] {
+        push32(&mut file, Order::Little, number)?;
+    }
+    Ok(file)
+}
+
+/// A file of types without names: the first are CONSTs of void, and the others PTRs to void.
+pub fn nameless(alloc: Global, consts: u32, types: u32) -> Result<Shown, AllocError> {
+    let mut file = header(alloc, types.saturating_mul(12), 1)?;
+    let mut text = Vec::new(alloc);
+    for number in 1..=types {
+        let (info, kind) = if number <= consts {
+            (0x0a00_0000, "const")
+        } else {
+            (0x0200_0000, "ptr")
+        };
+        for word in [0, info, 0] {
+            push32(&mut file, Order::Little, word)?;
+        }
+        let line = format!(in alloc; "[{number}] {kind} type=0\n")?;
+        text.extend_from_slice(line.as_bytes())?;
+    }
+    file.push(0)?;
+    Ok(Shown { file, text })
+}
+
+/// A file of these words of types, whose one name begins after the first byte of the strings.
+pub fn named(alloc: Global, words: &[u32], name: &[u8]) -> Result<Vec<u8>, AllocError> {
+    let types = u32::try_from(words.len())
+        .unwrap_or(u32::MAX)
+        .saturating_mul(4);
+    let strings = u32::try_from(name.len())
+        .unwrap_or(u32::MAX)
+        .saturating_add(2);
+    let mut file = header(alloc, types, strings)?;
+    for word in words {
+        push32(&mut file, Order::Little, *word)?;
+    }
+    file.push(0)?;
+    file.extend_from_slice(name)?;
+    file.push(0)?;
+    Ok(file)
+}
+
+/// These bytes, `count` times one after another.
+pub fn repeated(alloc: Global, bytes: &[u8], count: usize) -> Result<Vec<u8>, AllocError> {
+    let mut all = Vec::new(alloc);
+    for _ in 0..count {
+        all.extend_from_slice(bytes)?;
+    }
+    Ok(all)
+}

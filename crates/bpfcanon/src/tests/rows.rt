@@ -1,0 +1,84 @@
+//! All rows, each with pieces of one byte, of three and of the largest that a read offers.
+
+use super::btf_header_fault_rows::FAULTY_BTF_HEADERS;
+use super::btf_record_fault_rows::FAULTY_BTF_RECORDS;
+use super::btf_rows::BTF;
+use super::btf_same_rows::TWO_BTF_FILES;
+use super::btf_text_rows::BTF_TEXTS;
+use super::expect::answered;
+use super::insn_fault_rows::FAULTY_INSTRUCTIONS;
+use super::insn_rows::INSTRUCTIONS;
+use super::listing_rows::LISTINGS;
+use super::runner::{Row, check_row, run, steady};
+use std::alloc::Global;
+use std::process::Abort;
+use std::test::Fail;
+
+#[test]
+fn commands_answer_as_their_rows_say(rt: HostRuntime) -> Result<(), Fail> {
+    let tables: [&[Row]; 8] = [
+        &INSTRUCTIONS,
+        &FAULTY_INSTRUCTIONS,
+        &LISTINGS,
+        &BTF,
+        &BTF_TEXTS,
+        &FAULTY_BTF_HEADERS,
+        &FAULTY_BTF_RECORDS,
+        &TWO_BTF_FILES,
+    ];
+    for row in tables.into_iter().flatten() {
+        for piece in [1, 3, 4096] {
+            check_row(&rt, rt.alloc(), row, steady(piece))?;
+        }
+    }
+    Ok(())
+}
+
+/// A file that is cut off, and the lengths at which its header is longer than the file.
+#[derive(Clone, Copy)]
+struct CutFile {
+    file: &'static [u8],
+    shorter_than_its_header: usize,
+}
+
+/// A struct with a tag on a member, and a file with a header of 28 bytes.
+static CUT_FILES: [CutFile; 2] = [
+    CutFile {
+        file: b"\x9f\xeb\x01\0\x18\0\0\0\0\0\0\0\x44\0\0\0\x44\0\0\0\x0d\0\0\0\
+            \x01\0\0\0\0\0\0\x01\x04\0\0\0\x20\0\0\x01\
+            \x05\0\0\0\x02\0\0\x04\x08\0\0\0\
+            \x07\0\0\0\x01\0\0\0\0\0\0\0\x09\0\0\0\x01\0\0\0\x20\0\0\0\
+            \x0b\0\0\0\0\0\0\x11\x02\0\0\0\x01\0\0\0\
+            \0int\0s\0a\0b\0t\0",
+        shorter_than_its_header: 24,
+    },
+    CutFile {
+        file: b"\x9f\xeb\x01\0\x1c\0\0\0\x07\0\0\0\x10\0\0\0\0\0\0\0\x07\0\0\0\0\0\0\0\
+            \0x\0int\0\x03\0\0\0\0\0\0\x01\x04\0\0\0\x20\0\0\x01",
+        shorter_than_its_header: 28,
+    },
+];
+
+/// Cuts a file off after each of its bytes but the last.
+fn check_cut_file(rt: &impl Abort, alloc: Global, cut: CutFile) -> Result<(), Fail> {
+    for len in 0..cut.file.len() {
+        let fault = if len < 24 {
+            format!(in alloc; "fault {len} ShortHeader\n")?
+        } else if len < cut.shorter_than_its_header {
+            String::from_str(alloc, "fault 4 HeaderLength\n")?
+        } else {
+            format!(in alloc; "fault {len} FileLength\n")?
+        };
+        let ran = run(alloc, "btf-check", &cut.file[..len], steady(4096))?;
+        answered(rt, &ran, 1, b"", fault.as_bytes(), &len);
+    }
+    Ok(())
+}
+
+#[test]
+fn files_that_are_cut_off_are_refused(rt: HostRuntime) -> Result<(), Fail> {
+    for cut in CUT_FILES {
+        check_cut_file(&rt, rt.alloc(), cut)?;
+    }
+    Ok(())
+}
