@@ -4,6 +4,8 @@
 mod btf;
 mod device;
 mod insn;
+#[cfg(test)]
+mod tests;
 
 pub use bpf_insn::{InsnError, Order};
 pub use btf::btf_laws;

@@ -1,0 +1,88 @@
+//! Arenas of one chunk with a given number of free bytes, and what calls over them returned.
+//!
+//! A test gives a call 0 bytes, 1 byte, and so on. So each growth is refused that takes a byte more than the ones before it.
+use bumpalo::Bump;
+use std::alloc::Global;
+use std::process::Abort;
+use std::test::Fail;
+
+/// How many bytes an arena has at least, before any are given away.
+pub(crate) const ROOM: usize = 16_384;
+
+/// A test ends after this number of calls with enough room.
+const ENOUGH: usize = 16;
+
+/// Takes all of the arena but `room` bytes. It gets no other chunk.
+pub(crate) fn leave(rt: &impl Abort, bump: &Bump<Global>, room: usize) {
+    let taken = [0u8; 2 * ROOM];
+    let bytes = bump.chunk_capacity().saturating_sub(room);
+    assert!(rt; bytes <= taken.len());
+    assert!(rt; bump.try_alloc_slice_copy(&taken[..bytes]).is_ok());
+    assert_eq!(rt; bump.chunk_capacity(), room);
+    bump.set_allocation_limit(Some(bump.allocated_bytes()));
+}
+
+/// What a call answered with ever more room.
+#[derive(Drop)]
+pub(crate) struct Tally {
+    /// How many rooms were too small, from 0 bytes on.
+    pub(crate) refused: usize,
+    /// At how many places of the call growths were refused, as far as the call can tell them apart.
+    pub(crate) places: usize,
+    /// How many rooms were enough.
+    pub(crate) done: usize,
+    last_place: Option<usize>,
+}
+
+impl Tally {
+    pub(crate) fn new() -> Tally {
+        Tally {
+            refused: 0,
+            places: 0,
+            done: 0,
+            last_place: None,
+        }
+    }
+
+    /// Makes a call with ever more room, which returns the place where it was refused memory.
+    pub(crate) fn of<Call: FnMut(&Bump<Global>) -> Option<usize>>(
+        rt: &impl Abort,
+        alloc: Global,
+        mut call: Call,
+    ) -> Result<Tally, Fail>
+        requires { (f : _) (x : _) → Call.pre f x }
+    {
+        let mut tally = Tally::new();
+        for room in 0..ROOM {
+            let bump = Bump::try_with_capacity(alloc, ROOM)?;
+            leave(rt, &bump, room);
+            match call(&bump) {
+                None => tally.succeed(),
+                Some(place) => tally.refuse(rt, place),
+            }
+            if tally.done == ENOUGH {
+                return Ok(tally);
+            }
+        }
+        Err("no room is enough")?
+    }
+
+    /// Counts a call that had enough room. Each later one has, too.
+    pub(crate) fn succeed(&mut self) {
+        self.done = self.done.saturating_add(1);
+    }
+
+    /// Counts a call that was refused memory, when it had come so far. With more room it comes no less far.
+    pub(crate) fn refuse(&mut self, rt: &impl Abort, place: usize) {
+        assert!(rt; self.done == 0, "a call with more room is refused memory");
+        assert!(rt;
+            self.last_place <= Some(place),
+            "a call with more room comes less far"
+        );
+        self.refused = self.refused.saturating_add(1);
+        if self.last_place != Some(place) {
+            self.places = self.places.saturating_add(1);
+            self.last_place = Some(place);
+        }
+    }
+}

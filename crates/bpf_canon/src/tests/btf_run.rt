@@ -1,0 +1,318 @@
+//! The engine on BTF over devices that give and take pieces, are about as long as the limit, and fail.
+ghost use Rattle.std.specs.Prelude.{None, ℕ, List};
+
+use super::btf_files::{BIG_INT, BTF_FILES, BtfFile, FAULTY, INT};
+use super::expect::{equal, equal_bytes};
+use super::fused_devices::FusedDevices;
+use crate::{
+    ByteSource, DeviceFailed, MemSink, ReaderSource, RunCause, RunError, WriterSink, run_btf,
+};
+use bpf_words::Order;
+use btf_raw::{BtfCause, BtfFault};
+use std::alloc::Global;
+use std::process::Abort;
+
+type Ran = Result<u64, RunError<BtfFault>>;
+
+const FAULT_OF_FAULTY: BtfFault = BtfFault {
+    pos: 32,
+    cause: BtfCause::Reference,
+};
+
+const SHORT_HEADER: BtfFault = BtfFault {
+    pos: 0,
+    cause: BtfCause::ShortHeader,
+};
+
+const MAGIC: BtfFault = BtfFault {
+    pos: 0,
+    cause: BtfCause::Magic,
+};
+
+/// The first 20 bytes of `INT`.
+const INT_FRONT: &[u8] = b"\x9f\xeb\x01\0\x18\0\0\0\0\0\0\0\x10\0\0\0\x10\0\0\0";
+
+fn stopped(cause: RunCause<BtfFault>, written: u64) -> Ran {
+    Err(RunError { cause, written })
+}
+
+/// Runs a file in pieces, and compares.
+fn run_file(rt: &impl Abort, alloc: Global, file: &BtfFile, piece: usize) {
+    let run = FusedDevices::sound(file.bytes, piece).run_btf(rt, alloc, Order::Little);
+    let written = file.canonical.len() as u64;
+    equal(rt, &run.ended, &Ok(written), &(file.name, piece));
+    equal_bytes(
+        rt,
+        run.taken.as_slice(),
+        file.canonical,
+        &(file.name, piece),
+    );
+}
+
+#[test]
+fn runs_btf_files_in_pieces(rt: HostRuntime) {
+    for file in &BTF_FILES {
+        for piece in [1usize, 3, 8, 5000] {
+            run_file(&rt, rt.alloc(), file, piece);
+        }
+    }
+}
+
+/// A run, how it ends, and what the sink has taken by then.
+struct RunRow {
+    name: &'static str,
+    to: Order,
+    devices: FusedDevices<'static>,
+    ended: Ran,
+    taken: &'static [u8],
+}
+
+static RUNS: [RunRow; 11] = [
+    RunRow {
+        name: "a little-endian file written in big-endian order",
+        to: Order::Big,
+        devices: FusedDevices {
+            bytes: INT,
+            read_piece: 7,
+            read_fuse: None,
+            write_piece: 7,
+            write_fuse: None,
+        },
+        ended: Ok(45),
+        taken: BIG_INT,
+    },
+    RunRow {
+        name: "a big-endian file written in its own order",
+        to: Order::Big,
+        devices: FusedDevices {
+            bytes: BIG_INT,
+            read_piece: 7,
+            read_fuse: None,
+            write_piece: 7,
+            write_fuse: None,
+        },
+        ended: Ok(45),
+        taken: BIG_INT,
+    },
+    RunRow {
+        name: "a sink that fails at its third write",
+        to: Order::Little,
+        devices: FusedDevices {
+            bytes: BIG_INT,
+            read_piece: 16,
+            read_fuse: None,
+            write_piece: 10,
+            write_fuse: Some(3),
+        },
+        ended: Err(RunError {
+            cause: RunCause::WriteFailed,
+            written: 20,
+        }),
+        taken: INT_FRONT,
+    },
+    RunRow {
+        name: "a sink that fails at once",
+        to: Order::Little,
+        devices: FusedDevices {
+            bytes: BIG_INT,
+            read_piece: 16,
+            read_fuse: None,
+            write_piece: 45,
+            write_fuse: Some(1),
+        },
+        ended: Err(RunError {
+            cause: RunCause::WriteFailed,
+            written: 0,
+        }),
+        taken: b"",
+    },
+    RunRow {
+        name: "a fuse beyond the last write",
+        to: Order::Little,
+        devices: FusedDevices {
+            bytes: BIG_INT,
+            read_piece: 16,
+            read_fuse: None,
+            write_piece: 45,
+            write_fuse: Some(2),
+        },
+        ended: Ok(45),
+        taken: INT,
+    },
+    RunRow {
+        name: "a source that fails at once",
+        to: Order::Little,
+        devices: FusedDevices {
+            bytes: BIG_INT,
+            read_piece: 45,
+            read_fuse: Some(1),
+            write_piece: 10,
+            write_fuse: None,
+        },
+        ended: Err(RunError {
+            cause: RunCause::ReadFailed,
+            written: 0,
+        }),
+        taken: b"",
+    },
+    RunRow {
+        name: "a fuse beyond the last read",
+        to: Order::Little,
+        devices: FusedDevices {
+            bytes: BIG_INT,
+            read_piece: 45,
+            read_fuse: Some(3),
+            write_piece: 10,
+            write_fuse: None,
+        },
+        ended: Ok(45),
+        taken: INT,
+    },
+    RunRow {
+        name: "a failed read, and a fault in what was read",
+        to: Order::Little,
+        devices: FusedDevices {
+            bytes: FAULTY,
+            read_piece: 37,
+            read_fuse: Some(2),
+            write_piece: 10,
+            write_fuse: None,
+        },
+        ended: Err(RunError {
+            cause: RunCause::ReadFailed,
+            written: 0,
+        }),
+        taken: b"",
+    },
+    RunRow {
+        name: "a fault where the source has ended",
+        to: Order::Little,
+        devices: FusedDevices {
+            bytes: FAULTY,
+            read_piece: 37,
+            read_fuse: Some(3),
+            write_piece: 10,
+            write_fuse: None,
+        },
+        ended: Err(RunError {
+            cause: RunCause::Fault(FAULT_OF_FAULTY),
+            written: 0,
+        }),
+        taken: b"",
+    },
+    RunRow {
+        name: "a fault before a write that would fail",
+        to: Order::Little,
+        devices: FusedDevices {
+            bytes: FAULTY,
+            read_piece: 16,
+            read_fuse: None,
+            write_piece: 10,
+            write_fuse: Some(1),
+        },
+        ended: Err(RunError {
+            cause: RunCause::Fault(FAULT_OF_FAULTY),
+            written: 0,
+        }),
+        taken: b"",
+    },
+    RunRow {
+        name: "an empty input",
+        to: Order::Little,
+        devices: FusedDevices {
+            bytes: b"",
+            read_piece: 16,
+            read_fuse: None,
+            write_piece: 1,
+            write_fuse: Some(1),
+        },
+        ended: Err(RunError {
+            cause: RunCause::Fault(SHORT_HEADER),
+            written: 0,
+        }),
+        taken: b"",
+    },
+];
+
+#[test]
+fn devices_that_fail_stop_the_engine_on_btf(rt: HostRuntime) {
+    for row in &RUNS {
+        let run = row.devices.run_btf(&rt, rt.alloc(), row.to);
+        equal(&rt, &run.ended, &row.ended, &row.name);
+        equal_bytes(&rt, run.taken.as_slice(), row.taken, &row.name);
+    }
+}
+
+/// Runs a file of 45 bytes with these fuses of the source and the sink, and compares.
+fn run_fused(rt: &impl Abort, alloc: Global, fuses: (Option<u64>, Option<u64>), wanted: Ran) {
+    let devices = FusedDevices {
+        bytes: BIG_INT,
+        read_piece: 5,
+        read_fuse: fuses.0,
+        write_piece: 1,
+        write_fuse: fuses.1,
+    };
+    let run = devices.run_btf(rt, alloc, Order::Little);
+    equal(rt, &run.ended, &wanted, &fuses);
+    run.took_front_of(rt, INT);
+}
+
+#[test]
+fn each_read_and_each_write_of_btf_may_fail(rt: HostRuntime) {
+    // Nine pieces and the end are read, and each byte is written.
+    for fuse in 1..=10u64 {
+        let wanted = stopped(RunCause::ReadFailed, 0);
+        run_fused(&rt, rt.alloc(), (Some(fuse), None), wanted);
+    }
+    for fuse in 1..=45u64 {
+        let wanted = stopped(RunCause::WriteFailed, fuse - 1);
+        run_fused(&rt, rt.alloc(), (None, Some(fuse)), wanted);
+    }
+    run_fused(&rt, rt.alloc(), (Some(11), Some(46)), Ok(45));
+}
+
+/// Gives this number of zero bytes, or zero bytes without end.
+#[derive(Drop)]
+struct Zeros {
+    left: Option<u64>,
+}
+
+impl ByteSource for Zeros {
+    ghost remaining = { λ _. None };
+
+    ghost failures = { λ _. 0 };
+
+    fn read(&mut self, buffer: &mut [u8]) -> Result<usize, DeviceFailed> {
+        let room = buffer.len() as u64;
+        let given = self.left.map_or(room, |left| room.min(left));
+        self.left = self.left.map(|left| left.saturating_sub(given));
+        buffer.fill(0);
+        Ok(buffer.len().min(given as usize))
+    }
+}
+
+#[test]
+fn inputs_about_as_long_as_a_btf_file_can_be(rt: HostRuntime) {
+    for (left, cause) in [
+        (Some(50_335_744), RunCause::Fault(MAGIC)),
+        (Some(50_335_745), RunCause::TooLong),
+        (None, RunCause::TooLong),
+    ] {
+        let mut source = Zeros { left };
+        let mut out = Vec::new(rt.alloc());
+        let mut sink = MemSink::new(&mut out, 1, None);
+        let ran = run_btf(rt.alloc(), &mut source, &mut sink, Order::Little);
+        equal(&rt, &ran, &stopped(cause, 0), &left);
+        equal(&rt, &out.len(), &0, &left);
+    }
+}
+
+#[test]
+fn runs_btf_over_readers_and_writers(rt: HostRuntime) {
+    let mut source = ReaderSource::new(BIG_INT);
+    let mut out = Vec::new(rt.alloc());
+    let mut sink = WriterSink::new(&mut out);
+    let ran = run_btf(rt.alloc(), &mut source, &mut sink, Order::Little);
+    equal(&rt, &ran, &Ok(45), &"a run");
+    equal_bytes(&rt, out.as_slice(), INT, &"a run");
+}

@@ -1,0 +1,241 @@
+//! Devices over memory and over readers and writers, and the texts of the errors.
+use super::expect::{equal, equal_bytes};
+use crate::{
+    ByteSink, ByteSource, DeviceFailed, MemSink, MemSource, ReadError, ReaderSource, RunCause,
+    RunError, SideError, WriterSink, put_all, read_all, run_insns,
+};
+use bpf_insn::{Order, SlotCause, SlotFault};
+use std::alloc::Global;
+use std::fmt::Display;
+use std::process::Abort;
+use std::test::Fail;
+
+fn shows(rt: &impl Abort, alloc: Global, error: &impl Display, name: &str) -> Result<(), Fail> {
+    let text = format!(in alloc; "{error}")?;
+    equal_bytes(rt, text.as_bytes(), name.as_bytes(), &name);
+    Ok(())
+}
+
+#[test]
+fn errors_show_their_names(rt: HostRuntime) -> Result<(), Fail> {
+    shows(&rt, rt.alloc(), &DeviceFailed, "DeviceFailed")?;
+    for (error, name) in [
+        (ReadError::TooLong, "TooLong"),
+        (ReadError::ReadFailed, "ReadFailed"),
+        (ReadError::Memory, "Memory"),
+    ] {
+        shows(&rt, rt.alloc(), &error, name)?;
+    }
+    for (error, name) in [
+        (SideError::First(0), "First"),
+        (SideError::Second(0), "Second"),
+        (SideError::Memory, "Memory"),
+    ] {
+        shows(&rt, rt.alloc(), &error, name)?;
+    }
+    for (cause, name) in [
+        (RunCause::Fault(0), "Fault"),
+        (RunCause::TooLong, "TooLong"),
+        (RunCause::ReadFailed, "ReadFailed"),
+        (RunCause::WriteFailed, "WriteFailed"),
+        (RunCause::Memory, "Memory"),
+    ] {
+        shows(&rt, rt.alloc(), &cause, name)?;
+        let error = RunError { cause, written: 8 };
+        shows(&rt, rt.alloc(), &error, name)?;
+    }
+    Ok(())
+}
+
+/// An input, the piece and the fuse of its source, the limit, and why reading stops if it does.
+struct Reading {
+    bytes: &'static [u8],
+    piece: usize,
+    fuse: Option<u64>,
+    limit: u64,
+    stop: Option<ReadError>,
+}
+
+static READINGS: [Reading; 8] = [
+    Reading {
+        bytes: b"abcdefgh",
+        piece: 3,
+        fuse: None,
+        limit: 8,
+        stop: None,
+    },
+    Reading {
+        bytes: b"abcdefgh",
+        piece: 1,
+        fuse: None,
+        limit: u64::MAX,
+        stop: None,
+    },
+    Reading {
+        bytes: b"abcdefgh",
+        piece: 5000,
+        fuse: None,
+        limit: 8,
+        stop: None,
+    },
+    Reading {
+        bytes: b"",
+        piece: 1,
+        fuse: None,
+        limit: 0,
+        stop: None,
+    },
+    Reading {
+        bytes: b"abcdefgh",
+        piece: 3,
+        fuse: None,
+        limit: 7,
+        stop: Some(ReadError::TooLong),
+    },
+    Reading {
+        bytes: b"abcdefgh",
+        piece: 3,
+        fuse: Some(1),
+        limit: 8,
+        stop: Some(ReadError::ReadFailed),
+    },
+    Reading {
+        bytes: b"abcdefgh",
+        piece: 3,
+        fuse: Some(4),
+        limit: 8,
+        stop: Some(ReadError::ReadFailed),
+    },
+    Reading {
+        bytes: b"abcdefgh",
+        piece: 3,
+        fuse: Some(5),
+        limit: 8,
+        stop: None,
+    },
+];
+
+#[test]
+fn reads_whole_inputs_within_the_limit(rt: HostRuntime) {
+    for row in &READINGS {
+        assert!(rt; row.piece > 0);
+        let mut source = MemSource::new(row.bytes, row.piece, row.fuse);
+        let case = (row.piece, row.fuse, row.limit);
+        match read_all(rt.alloc(), &mut source, row.limit) {
+            Ok(read) => {
+                equal(&rt, &row.stop, &None, &case);
+                equal_bytes(&rt, read.as_slice(), row.bytes, &case);
+            }
+            Err(error) => equal(&rt, &Some(error), &row.stop, &case),
+        }
+    }
+}
+
+#[test]
+fn a_source_gives_pieces_until_its_fuse(rt: HostRuntime) {
+    let mut source = MemSource::new(b"abcdefgh", 3, Some(3));
+    let mut buffer = [0u8; 2];
+    equal(&rt, &source.read(&mut buffer), &Ok(2), &"a short buffer");
+    equal_bytes(&rt, &buffer, b"ab", &"a short buffer");
+    let mut buffer = [0u8; 16];
+    equal(&rt, &source.read(&mut buffer), &Ok(3), &"a piece");
+    equal_bytes(&rt, &buffer[..3], b"cde", &"a piece");
+    let failed = Err(DeviceFailed);
+    equal(&rt, &source.read(&mut buffer), &failed, &"the fuse");
+    equal(&rt, &source.read(&mut buffer), &failed, &"after the fuse");
+}
+
+/// The piece and the fuse of a sink, how the writing of three bytes ends, and what the sink took.
+struct Writing {
+    piece: usize,
+    fuse: Option<u64>,
+    ended: Result<(), u64>,
+    taken: &'static [u8],
+}
+
+static WRITINGS: [Writing; 5] = [
+    Writing {
+        piece: 1,
+        fuse: Some(3),
+        ended: Err(2),
+        taken: b"ab",
+    },
+    Writing {
+        piece: 2,
+        fuse: Some(2),
+        ended: Err(2),
+        taken: b"ab",
+    },
+    Writing {
+        piece: 2,
+        fuse: Some(1),
+        ended: Err(0),
+        taken: b"",
+    },
+    Writing {
+        piece: 2,
+        fuse: Some(3),
+        ended: Ok(()),
+        taken: b"abc",
+    },
+    Writing {
+        piece: 9,
+        fuse: None,
+        ended: Ok(()),
+        taken: b"abc",
+    },
+];
+
+#[test]
+fn a_sink_takes_a_prefix_until_its_fuse(rt: HostRuntime) {
+    for row in &WRITINGS {
+        assert!(rt; row.piece > 0);
+        let mut out = Vec::new(rt.alloc());
+        let mut sink = MemSink::new(&mut out, row.piece, row.fuse);
+        let ended = put_all(&mut sink, b"abc");
+        equal(&rt, &ended, &row.ended, &(row.piece, row.fuse));
+        equal_bytes(&rt, out.as_slice(), row.taken, &(row.piece, row.fuse));
+    }
+}
+
+#[test]
+fn readers_and_writers_are_devices(rt: HostRuntime) -> Result<(), Fail> {
+    let mut source = ReaderSource::new(b"abc".as_slice());
+    let read = read_all(rt.alloc(), &mut source, 3)?;
+    equal_bytes(&rt, read.as_slice(), b"abc".as_slice(), &"a reader");
+    let mut out = Vec::new(rt.alloc());
+    let mut sink = WriterSink::new(&mut out);
+    equal(&rt, &sink.write(b""), &Ok(0), &"an empty write");
+    equal(&rt, &put_all(&mut sink, b"abc"), &Ok(()), &"a writer");
+    equal_bytes(&rt, out.as_slice(), b"abc".as_slice(), &"a writer");
+    Ok(())
+}
+
+#[test]
+fn each_read_offers_4096_bytes(rt: HostRuntime) -> Result<(), Fail> {
+    let bytes = [0u8; 5000];
+    let mut source = MemSource::new(bytes.as_slice(), 5000, None);
+    let read = read_all(rt.alloc(), &mut source, 0).err();
+    equal(&rt, &read, &Some(ReadError::TooLong), &"a limit of 0");
+    let rest = read_all(rt.alloc(), &mut source, 5000)?;
+    equal(&rt, &rest.len(), &904, &"what is left");
+
+    // No instruction has the opcode 0, so the engine stops after its first read.
+    let mut source = MemSource::new(bytes.as_slice(), 5000, None);
+    let mut out = Vec::new(rt.alloc());
+    let mut sink = MemSink::new(&mut out, 1, None);
+    let order = Order::Little;
+    let ran = run_insns(rt.alloc(), &mut source, &mut sink, order, order);
+    let opcode = SlotFault {
+        pos: 0,
+        cause: SlotCause::Opcode,
+    };
+    let stop = RunError {
+        cause: RunCause::Fault(opcode),
+        written: 0,
+    };
+    equal(&rt, &ran, &Err(stop), &"a faulty front");
+    let rest = read_all(rt.alloc(), &mut source, 5000)?;
+    equal(&rt, &rest.len(), &904, &"what is left");
+    Ok(())
+}

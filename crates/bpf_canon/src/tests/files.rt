@@ -1,0 +1,125 @@
+//! Canonical bytes and comparison of whole instruction files.
+use super::expect::{equal, equal_bytes, holds};
+use super::samples::{EXIT, INSN_FILES, InsnFile};
+use crate::{SideError, canon_insns, same_insns, write_insns};
+use bpf_insn::{Insn, InsnError, Order, SlotCause, SlotFault, decode_insns};
+use std::alloc::Global;
+use std::process::Abort;
+use std::test::Fail;
+
+/// What `canon_insns` returns for the file, without the reason of an error other than its fault.
+fn check_canonical(rt: &impl Abort, alloc: Global, file: &InsnFile) {
+    match canon_insns(alloc, file.order, file.bytes) {
+        Ok(canon) => {
+            equal(rt, &file.fault, &None, &file.bytes);
+            equal_bytes(rt, canon.as_slice(), file.canonical, &file.bytes);
+        }
+        Err(InsnError::Fault(fault)) => equal(rt, &Some(fault), &file.slot_fault(), &file.bytes),
+        Err(InsnError::Memory) => holds(rt, false, &"memory is ample"),
+    }
+}
+
+/// Writes the instructions of the file in both orders, and compares each with the file.
+fn check_written(rt: &impl Abort, alloc: Global, file: &InsnFile) -> Result<(), Fail> {
+    let insns = decode_insns(alloc, file.order, file.bytes)?;
+    let own = write_insns(alloc, file.order, &insns)?;
+    equal_bytes(rt, own.as_slice(), file.bytes, &file.bytes);
+    let little = write_insns(alloc, Order::Little, &insns)?;
+    equal_bytes(rt, little.as_slice(), file.canonical, &file.bytes);
+    let big = write_insns(alloc, Order::Big, &insns)?;
+    let same = same_insns(alloc, Order::Big, &big, file.order, file.bytes);
+    equal(rt, &same, &Ok(true), &file.bytes);
+    Ok(())
+}
+
+#[test]
+fn files_have_their_canonical_bytes_or_their_first_fault(rt: HostRuntime) -> Result<(), Fail> {
+    for file in &INSN_FILES {
+        check_canonical(&rt, rt.alloc(), file);
+        if file.fault.is_none() {
+            check_written(&rt, rt.alloc(), file)?;
+        }
+    }
+    let exits = write_insns(rt.alloc(), Order::Big, &[Insn::Exit, Insn::Exit])?;
+    let wanted = b"\x95\0\0\0\0\0\0\0\x95\0\0\0\0\0\0\0";
+    equal_bytes(&rt, exits.as_slice(), wanted.as_slice(), &"two exits");
+    Ok(())
+}
+
+/// Two files, the first in this order and the second in little-endian order, and whether their instructions are equal.
+struct Comparison {
+    order: Order,
+    first: &'static [u8],
+    second: &'static [u8],
+    answer: Result<bool, SideError<SlotFault>>,
+}
+
+const BIG_MOVE: &[u8] = b"\xbf\x12\0\0\0\0\0\0";
+
+const LITTLE_MOVE: &[u8] = b"\xbf\x21\0\0\0\0\0\0";
+
+const FAULTY_MOVE: &[u8] = b"\xbf\x2b\0\0\0\0\0\0";
+
+const FAULT: SlotFault = SlotFault {
+    pos: 1,
+    cause: SlotCause::Dst,
+};
+
+static COMPARISONS: [Comparison; 8] = [
+    Comparison {
+        order: Order::Big,
+        first: BIG_MOVE,
+        second: LITTLE_MOVE,
+        answer: Ok(true),
+    },
+    Comparison {
+        order: Order::Little,
+        first: BIG_MOVE,
+        second: LITTLE_MOVE,
+        answer: Ok(false),
+    },
+    Comparison {
+        order: Order::Little,
+        first: b"",
+        second: b"",
+        answer: Ok(true),
+    },
+    Comparison {
+        order: Order::Little,
+        first: EXIT,
+        second: b"",
+        answer: Ok(false),
+    },
+    Comparison {
+        order: Order::Little,
+        first: EXIT,
+        second: EXIT,
+        answer: Ok(true),
+    },
+    Comparison {
+        order: Order::Little,
+        first: EXIT,
+        second: FAULTY_MOVE,
+        answer: Err(SideError::Second(FAULT)),
+    },
+    Comparison {
+        order: Order::Little,
+        first: FAULTY_MOVE,
+        second: EXIT,
+        answer: Err(SideError::First(FAULT)),
+    },
+    Comparison {
+        order: Order::Little,
+        first: FAULTY_MOVE,
+        second: b"\0",
+        answer: Err(SideError::First(FAULT)),
+    },
+];
+
+#[test]
+fn files_are_the_same_where_their_instructions_are(rt: HostRuntime) {
+    for row in &COMPARISONS {
+        let same = same_insns(rt.alloc(), row.order, row.first, Order::Little, row.second);
+        equal(&rt, &same, &row.answer, &(row.first, row.second));
+    }
+}

@@ -1,0 +1,75 @@
+//! The devices of a run of an engine, over memory.
+use crate::{MemSink, MemSource, RunError, run_btf, run_insns};
+use bpf_insn::{Order, SlotFault};
+use btf_raw::BtfFault;
+use std::alloc::Global;
+use std::process::Abort;
+
+/// A source that gives some bytes, and a sink that keeps all, each in pieces. The call of either that its fuse
+/// counts, from 1, fails.
+#[derive(Clone, Copy)]
+pub(crate) struct FusedDevices<'a> {
+    pub(crate) bytes: &'a [u8],
+    pub(crate) read_piece: usize,
+    pub(crate) read_fuse: Option<u64>,
+    pub(crate) write_piece: usize,
+    pub(crate) write_fuse: Option<u64>,
+}
+
+/// How a run ended, and what its sink took.
+#[derive(Drop)]
+pub(crate) struct Run<F: Drop> {
+    pub(crate) ended: Result<u64, RunError<F>>,
+    pub(crate) taken: Vec<u8>,
+}
+
+impl<'a> FusedDevices<'a> {
+    /// Devices that don't fail.
+    pub(crate) fn sound(bytes: &'a [u8], piece: usize) -> FusedDevices<'a> {
+        FusedDevices {
+            bytes,
+            read_piece: piece,
+            read_fuse: None,
+            write_piece: piece,
+            write_fuse: None,
+        }
+    }
+
+    /// Runs the engine on instructions.
+    pub(crate) fn run_insns(
+        self,
+        rt: &impl Abort,
+        alloc: Global,
+        order: Order,
+        to: Order,
+    ) -> Run<SlotFault> {
+        assert!(rt; self.read_piece > 0 && self.write_piece > 0);
+        let mut source = MemSource::new(self.bytes, self.read_piece, self.read_fuse);
+        let mut taken = Vec::new(alloc);
+        let mut sink = MemSink::new(&mut taken, self.write_piece, self.write_fuse);
+        let ended = run_insns(alloc, &mut source, &mut sink, order, to);
+        Run { ended, taken }
+    }
+
+    /// Runs the engine on BTF.
+    pub(crate) fn run_btf(self, rt: &impl Abort, alloc: Global, to: Order) -> Run<BtfFault> {
+        assert!(rt; self.read_piece > 0 && self.write_piece > 0);
+        let mut source = MemSource::new(self.bytes, self.read_piece, self.read_fuse);
+        let mut taken = Vec::new(alloc);
+        let mut sink = MemSink::new(&mut taken, self.write_piece, self.write_fuse);
+        let ended = run_btf(alloc, &mut source, &mut sink, to);
+        Run { ended, taken }
+    }
+}
+
+impl<F: Drop> Run<F> {
+    /// The sink took the number of bytes that the engine counted, and they begin these.
+    pub(crate) fn took_front_of(&self, rt: &impl Abort, bytes: &[u8]) {
+        let written = match &self.ended {
+            Ok(written) => *written,
+            Err(stop) => stop.written,
+        };
+        assert_eq!(rt; self.taken.len() as u64, written);
+        assert!(rt; bytes.starts_with(&self.taken));
+    }
+}

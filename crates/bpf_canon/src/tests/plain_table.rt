@@ -1,0 +1,76 @@
+//! The string table in which names share suffixes, computed plainly: each name is tested against all others.
+
+use std::alloc::{AllocError, Global};
+use std::cmp::Ordering;
+
+/// The text from an offset of a string section to the next NUL.
+pub(crate) fn text_at(strings: &[u8], off: usize) -> &[u8] {
+    let rest = strings.get(off..).unwrap_or(&[]);
+    rest.split(|byte| *byte == 0).next().unwrap_or(&[])
+}
+
+/// The string table of some names, and where each begins in it.
+#[derive(Drop)]
+pub(crate) struct PlainTable<'a> {
+    hosts: Vec<&'a [u8], Global>,
+}
+
+impl<'a> PlainTable<'a> {
+    /// Finds the hosts: the names that end no other, each once, in the order of first use.
+    pub(crate) fn of(alloc: Global, names: &[&'a [u8]]) -> Result<PlainTable<'a>, AllocError> {
+        let mut hosts = Vec::new(alloc);
+        for (index, name) in names.iter().enumerate() {
+            let before = names.get(..index).unwrap_or(&[]);
+            let is_new = !name.is_empty() && !before.iter().any(|other| *other == *name);
+            let ends_none = !names
+                .iter()
+                .any(|other| other.len() > name.len() && other.ends_with(name));
+            if is_new && ends_none {
+                hosts.push(*name)?;
+            }
+        }
+        Ok(PlainTable { hosts })
+    }
+
+    /// Where a name begins: at the end of the host that comes first by its bytes from the end.
+    pub(crate) fn place(&self, name: &[u8]) -> u32 {
+        let mut least: Option<(u32, &[u8])> = None;
+        let mut begin: u32 = 1;
+        for host in &self.hosts {
+            if !name.is_empty() && host.ends_with(name) && is_less(host, least) {
+                least = Some((begin, *host));
+            }
+            begin = begin.wrapping_add(length_of(host.len())).wrapping_add(1);
+        }
+        match least {
+            Some((begin, host)) => {
+                let before = length_of(host.len().saturating_sub(name.len()));
+                begin.wrapping_add(before)
+            }
+            None => 0,
+        }
+    }
+
+    /// The table's bytes: a NUL, then each host with its NUL.
+    pub(crate) fn bytes(&self, alloc: Global) -> Result<Vec<u8, Global>, AllocError> {
+        let mut bytes = Vec::from_slice(alloc, b"\0")?;
+        for host in &self.hosts {
+            bytes.extend_from_slice(host)?;
+            bytes.push(0)?;
+        }
+        Ok(bytes)
+    }
+}
+
+/// A length of a small list as a word.
+pub(crate) fn length_of(len: usize) -> u32 {
+    u32::try_from(len).unwrap_or(u32::MAX)
+}
+
+/// Whether a text comes before another by its bytes from the end, or there is no other.
+fn is_less(text: &[u8], other: Option<(u32, &[u8])>) -> bool {
+    match other {
+        Some((_, other)) => text.iter().rev().cmp(other.iter().rev()) == Ordering::Less,
+        None => true,
+    }
+}
