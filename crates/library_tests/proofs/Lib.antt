@@ -1,2 +1,0 @@
-pub mod MemberLineLemmas
-pub mod StreamLemmas

@@ -1,2 +1,0 @@
-pub mod MemberLines
-pub mod Streams
