@@ -1,16 +1,9 @@
 //! BTF from a source to a sink, and two BTF files compared.
 
 pub mod btf_laws;
-pub(crate) mod btf_run;
-pub(crate) mod btf_same;
-pub(crate) mod btf_write;
-pub(crate) mod canonical_file;
-pub(crate) mod copied_records;
-pub(crate) mod head_words;
-pub(crate) mod hosts;
-pub(crate) mod kept_names;
-pub(crate) mod name_uses;
-pub(crate) mod placed_names;
-pub(crate) mod section_write;
-pub(crate) mod shared_names;
-pub(crate) mod shared_strings;
+pub(crate) mod canon;
+pub(crate) mod names;
+pub(crate) mod run;
+pub(crate) mod same;
+pub(crate) mod strings;
+pub(crate) mod write;

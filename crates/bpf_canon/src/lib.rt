@@ -9,10 +9,10 @@ mod tests;
 
 pub use bpf_insn::{InsnError, Order};
 pub use btf::btf_laws;
-pub use btf::btf_run::{BTF_LIMIT, run_btf};
-pub use btf::btf_same::same_btf;
-pub use btf::btf_write::write_btf;
-pub use btf::canonical_file::{canon_btf, canonical_in};
+pub use btf::canon::{canon_btf, canonical_in};
+pub use btf::run::{BTF_LIMIT, run_btf};
+pub use btf::same::same_btf;
+pub use btf::write::table::write_btf;
 pub use device::DeviceFailed;
 pub use device::memory::{MemSink, MemSource};
 pub use device::sink::{ByteSink, put_all};

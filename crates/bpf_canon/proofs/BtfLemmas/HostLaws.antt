@@ -9,7 +9,7 @@ use Rattle.btf_types.proofs.StringLemmas.Hosts.{host_tells, host_member}
 use Rattle.btf_types.proofs.StringLemmas.Distinct.{NoRepeats-filter, NoRepeats-kept}
 use Rattle.btf_types.proofs.StringLemmas.TableLaws.{shared_is_shortest}
 use Rattle.bpf_canon.specs.btf.BtfLaws.{HostsFitSections}
-use Rattle.bpf_canon.proofs.BtfLemmas.HostSteps.{filter_all, distinct_same, keeps}
+use Rattle.bpf_canon.proofs.BtfLemmas.Names.HostSteps.{filter_all, distinct_same, keeps}
 
 -- they are different names that aren't empty
 hosts_kept : (xs : List (List ℕ)) → kept (hosts xs) ≡ hosts xs

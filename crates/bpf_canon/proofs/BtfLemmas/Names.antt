@@ -1,0 +1,8 @@
+-- Lemmas on the string table from the texts of names.
+pub mod KeptSteps
+pub mod PlaceSteps
+pub mod HostSearch
+pub mod HostSteps
+pub mod SharedSteps
+pub mod Gathering
+pub mod NoteSteps

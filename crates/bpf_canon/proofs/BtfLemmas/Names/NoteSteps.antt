@@ -1,0 +1,47 @@
+-- The names of one item and of one record more.
+use Rattle.std.proofs.Common.{◌≡◌, ℕ, suc, ◌+◌, ◌<◌, true, List, [], ◌∷◌, ◌++◌, length, take, get_or, sym, ap, ◌∙◌, append-nil, arith}
+use Rattle.std.proofs.lemmas.List.{map-append}
+use Rattle.std.proofs.lemmas.List.Concat.{flat_map-append}
+use Rattle.std.proofs.Math.Seq.{take-suc}
+use Rattle.bpf_words.specs.declared.Order.{Order}
+use Rattle.btf_raw.specs.Frames.{name_word, kind, vlen}
+use Rattle.btf_raw.proofs.Texts.{TextAt-inside}
+use Rattle.btf_types.specs.judge.Checks.{has_item_names}
+use Rattle.btf_types.specs.tables.PlaceWords.{StandsAt}
+use Rattle.btf_types.specs.Reading.{text_from, frame_at, frames_at, item_total, tabulate}
+use Rattle.bpf_canon.specs.btf.strings.FirstUses.{noted, noted_all}
+use Rattle.bpf_canon.specs.btf.write.NameOffsets.{item_word, name_offsets, all_offsets}
+use Rattle.bpf_canon.proofs.BtfLemmas.Strings.FirstUseSteps.{noted_all-append}
+use Rattle.bpf_canon.proofs.BtfLemmas.Write.RecordNames.{named_total}
+
+pub item_noted : (offs : List ℕ) (f : ℕ → ℕ) (k : ℕ) → noted (noted_all offs (tabulate f k)) (f k) ≡ noted_all offs (tabulate f (k + 1))
+item_noted offs f k =
+    let next : k + 1 ≡ suc k = omega arith in
+    rw next (sym (noted_all-append offs (tabulate f k) (f k ∷ [])))
+
+pub record_noted : (o : Order) (types places : List ℕ) (i : ℕ) → i < length places
+    → noted_all (noted_all [] (all_offsets (frames_at o types (take i places)))) (name_offsets (frame_at o types (get_or places i 0))) ≡ noted_all [] (all_offsets (frames_at o types (take (i + 1) places)))
+record_noted o types places i low =
+    let pos = get_or places i 0 in
+    let next : i + 1 ≡ suc i = omega arith in
+    let front = frames_at o types (take i places) in
+    let more : take (i + 1) places ≡ take i places ++ pos ∷ [] = rw next (take-suc places i 0 low) in
+    let all : all_offsets (frames_at o types (take (i + 1) places)) ≡ all_offsets front ++ name_offsets (frame_at o types pos) =
+    ap (λ (ps : List ℕ). all_offsets (frames_at o types ps)) more
+    ∙ ap all_offsets (map-append (frame_at o types) (take i places) (pos ∷ []))
+    ∙ flat_map-append name_offsets front (frame_at o types pos ∷ [])
+    ∙ ap (λ (t : List ℕ). all_offsets front ++ t) (append-nil (name_offsets (frame_at o types pos))) in
+    sym (ap (noted_all []) all ∙ noted_all-append [] (all_offsets front) (name_offsets (frame_at o types pos)))
+
+-- the names lie in the strings, and the first words of items in their frame
+pub item_within : (o : Order) (types strings : List ℕ) (pos k : ℕ) → StandsAt o types strings pos → has_item_names (kind (frame_at o types pos)) ≡ true → k < vlen (frame_at o types pos)
+    → item_word (frame_at o types pos) k < length strings
+item_within o types strings pos k at has low =
+    let f = frame_at o types pos in
+    let total : k < item_total f = omega (arith, named_total f at.frame has, low) in
+    TextAt-inside strings (item_word f k) (text_from strings (item_word f k)) (at.item_names k total has).text
+
+pub own_within : (o : Order) (types strings : List ℕ) (pos : ℕ) → StandsAt o types strings pos → name_word (frame_at o types pos) < length strings
+own_within o types strings pos at =
+    let f = frame_at o types pos in
+    TextAt-inside strings (name_word f) (text_from strings (name_word f)) at.name.text

@@ -1,0 +1,202 @@
+-- From what is found of used offsets to the places of names in the table that they share.
+use Rattle.std.proofs.Common.{◌≡◌, ◌≢◌, ℕ, ◌+◌, ◌-◌, ◌^◌, ◌<◌, ◌≤◌, inl, inr, List, [], ◌∷◌, ◌++◌, length, map, get_or, sym, ap, ◌∙◌, subst, arith}
+use Rattle.std.specs.List.{All, Any, Contains, flat_map, before_first, after_first}
+use Rattle.std.specs.List.Sorted.{IsPermutation, IsSorted}
+use Rattle.std.specs.Str.{bytes_eq}
+use Rattle.std.proofs.lemmas.Bool.{cases_eq}
+use Rattle.std.proofs.lemmas.List.{length-append, length-map, get_or-map, get_or_default, nil_from_length}
+use Rattle.std.proofs.lemmas.List.Elements.{All-map}
+use Rattle.std.proofs.lemmas.List.Sorted.{IsPermutation-map, All-permutation, Contains-permutation, length_permutation}
+use Rattle.btf_types.specs.Names.{kept, with_nul, table_of, place_in}
+use Rattle.btf_types.specs.Reading.{text_from}
+use Rattle.btf_types.specs.strings.SharedNames.{tail_cmp, hosts, hosts_of, host_in, shared_among, shared_table, shared_place}
+use Rattle.btf_types.specs.strings.LongestTexts.{AreLongest}
+use Rattle.btf_types.specs.strings.CommonTails.{at_rank, AreInTailOrder}
+use Rattle.btf_types.proofs.Members.{Has, Has-from_Contains, Contains-from_Has}
+use Rattle.btf_types.proofs.StringLemmas.Texts.{table_split}
+use Rattle.btf_types.proofs.StringLemmas.Longest.{longest_tell_host}
+use Rattle.bpf_canon.specs.btf.strings.FirstUses.{AreMarked}
+use Rattle.bpf_canon.specs.btf.strings.UsedOffsets.{number_of}
+use Rattle.bpf_canon.specs.btf.strings.Longest.{IsUsed, IsWithin, AreLongestOf}
+use Rattle.bpf_canon.specs.btf.strings.Tails.{tail_text, HasKey}
+use Rattle.bpf_canon.specs.btf.strings.InHost.{no_host, found_of, AreInHosts}
+use Rattle.bpf_canon.specs.btf.strings.HostLayout.{IsFound, AreLaidOut, ArePlaced, GivePlaces}
+use Rattle.bpf_canon.specs.declared.btf.strings.tails.Tail.{Tail}
+use Rattle.bpf_canon.specs.declared.btf.strings.hosts_by_rank.InHost.{InHost}
+use Rattle.bpf_canon.specs.declared.btf.strings.host_layout.Span.{Span}
+use Rattle.bpf_canon.proofs.BtfLemmas.Strings.UsedSteps.{used_inside, used_at, number_inside}
+use Rattle.bpf_canon.proofs.BtfLemmas.Strings.LongestSteps.{used_length}
+use Rattle.bpf_canon.proofs.BtfLemmas.Strings.RankSteps.{in_tail_order}
+use Rattle.bpf_canon.proofs.BtfLemmas.Strings.FoundHosts.{longest_are, in_map, no_text, text_some}
+use Rattle.bpf_canon.proofs.BtfLemmas.Strings.LayoutSteps.{host_there}
+
+-- the longest texts in another order
+any_permuted : (P : Tail → Type 0) (xs ys : List Tail) → IsPermutation xs ys → Any P xs → Any P ys
+any_permuted P xs ys perm (k, t, inside, is, p) = let c = Contains-permutation xs ys t perm (k, inside, is) in (c.0, t, c.1, c.2, p)
+
+pub longest_permuted : (section slots : List ℕ) (texts tails : List Tail) → AreLongestOf section slots texts → IsPermutation texts tails → AreLongestOf section slots tails
+longest_permuted section slots texts tails are perm = record {
+  few = omega (arith, are.few, length_permutation texts tails perm);
+  keys = All-permutation (HasKey section) texts tails perm are.keys;
+  used = All-permutation (IsUsed section slots) texts tails perm are.used;
+  each = λ off h s b. any_permuted (IsWithin off) texts tails perm (are.each off h s b);
+}
+
+module _ (section slots offsets : List ℕ) (texts tails : List Tail) (found : List InHost) (marked : AreMarked offsets slots) (long : length slots ≡ length section) (longest : AreLongestOf section slots texts)
+    (perm : IsPermutation texts tails) (up : IsSorted tail_cmp (map (tail_text section) tails)) (hosts_are : AreInHosts section slots (map (tail_text section) tails) found) where
+  abbrev xs : List (List ℕ)
+  xs = map (text_from section) offsets
+
+  abbrev sorted : List (List ℕ)
+  sorted = map (tail_text section) tails
+
+  inside : (off : ℕ) → Contains offsets off → off < length section
+  inside off c = omega (arith, used_inside slots off (marked.marked off c), long)
+
+  all_inside : All (λ off. off < length section) offsets
+  all_inside k d h = inside (get_or offsets k d) (k, h, get_or_default offsets k (get_or offsets k d) d h)
+
+  are : AreLongest xs (map (tail_text section) texts)
+  are = longest_are section slots offsets texts longest marked all_inside
+
+  some_text : All (λ (t : List ℕ). 0 < length t) (map (tail_text section) texts)
+  some_text = All-map (λ (t : List ℕ). 0 < length t) (tail_text section) texts (λ k d h. let u = longest.used k d h in omega (arith, used_length section slots (get_or texts k d) u, u.some))
+
+  order : AreInTailOrder (kept (map (tail_text section) texts)) sorted
+  order = in_tail_order (map (tail_text section) texts) sorted (IsPermutation-map (tail_text section) texts tails perm) up some_text
+
+  pub is_found : (off : ℕ) → Contains offsets off → IsFound section slots sorted xs found off
+  is_found off c = record {
+    inside = inside off c;
+    used = marked.marked off c;
+    empty = hosts_are.empty off (marked.marked off c);
+    some = λ b.
+        let h = hosts_are.some off (marked.marked off c) b in
+        record {
+          rank = h.rank;
+          numbered = h.numbered;
+          inside = h.inside;
+          last = h.last;
+          is_host = longest_tell_host xs (map (tail_text section) texts) are (text_from section off) ∙ h.host (kept (map (tail_text section) texts)) order;
+          before = h.before;
+          long = h.long;
+        };
+  }
+
+  pub all_found : All (IsFound section slots sorted xs found) offsets
+  all_found k d h = is_found (get_or offsets k d) (k, h, get_or_default offsets k (get_or offsets k d) d h)
+
+-- a place in a table leaves room for the text and its NUL
+place_room : (ks : List (List ℕ)) (x : List ℕ) → Has ks x → place_in ks x + length x + 1 ≤ length (table_of ks)
+place_room ks x h =
+    let before = table_of (before_first (bytes_eq x) ks) in
+    let after = flat_map with_nul (after_first (bytes_eq x) ks) in
+    omega (arith, ap (λ (t : List ℕ). length t) (table_split ks x h), length-append (before ++ x) (0 ∷ after), length-append before x)
+
+-- the place of a name, at the end of its host
+place_at_host : (ks : List (List ℕ)) (x h : List ℕ) (n b : ℕ) → 0 < length x → host_in (hosts_of ks) x ≡ h → n ≡ place_in (hosts_of ks) h → b + length x ≡ length h → n + b ≡ shared_among ks x
+place_at_host ks [] h n b some is place before = absurd (omega (arith, some))
+place_at_host ks (c ∷ bytes) h n b some is place before =
+    let x : List ℕ = c ∷ bytes in
+    let gap : b ≡ length h - length x = omega (arith, before) in
+    ap (λ (m : ℕ). m + b) place ∙ ap (λ (m : ℕ). place_in (hosts_of ks) h + m) gap
+    ∙ ap (λ (g : List ℕ). place_in (hosts_of ks) g + (length g - length x)) (sym is)
+
+no_place : (ks : List (List ℕ)) (x : List ℕ) → x ≡ [] → 0 ≡ shared_among ks x
+no_place ks x e = sym (ap (shared_among ks) e)
+
+module _ (section slots offsets placed : List ℕ) (sorted : List (List ℕ)) (found : List InHost) (spans : List Span) (len : ℕ) (laid : AreLaidOut section sorted (map (text_from section) offsets) placed spans len)
+    (off : ℕ) (c : Contains offsets off) (is : IsFound section slots sorted (map (text_from section) offsets) found off) where
+  abbrev names : List (List ℕ)
+  names = map (text_from section) offsets
+
+  abbrev x : List ℕ
+  x = text_from section off
+
+  abbrev h : InHost
+  h = found_of slots found off
+
+  has : Has names x
+  has = Has-from_Contains names x (in_map (text_from section) offsets off c)
+
+  some : get_or section off 0 ≢ 0 → 0 < length x
+  some b = elim (cases_eq (length x) 0) [
+    | inr n ↦ omega (arith, n)
+    | inl z ↦ absurd (let a = is.some b in text_some section off is.inside b z)
+  ]
+
+  there : (b : get_or section off 0 ≢ 0) → Has (hosts names) (at_rank sorted (is.some b).rank)
+  there b = host_there sorted names x h (is.some b) has (some b)
+
+  place_is : (b : get_or section off 0 ≢ 0) → get_or placed h.host 0 ≡ place_in (hosts names) (at_rank sorted (is.some b).rank)
+  place_is b =
+      let a = is.some b in
+      ap (λ (k : ℕ). get_or placed k 0) a.numbered ∙ laid.place a.rank a.inside a.last (Contains-from_Has (hosts names) (at_rank sorted a.rank) (there b))
+
+  pub host_ranked : h.host < length placed
+  host_ranked = elim (cases_eq (get_or section off 0) 0) [
+    | inl z ↦ omega (arith, ap (λ (i : InHost). i.host) (is.empty z), laid.ranks)
+    | inr b ↦ let a = is.some b in omega (arith, a.numbered, a.inside, laid.ranks)
+  ]
+
+  pub place_fits : length (shared_table names) < 2 ^ 32 → get_or placed h.host 0 + h.before < 2 ^ 32
+  place_fits room = elim (cases_eq (get_or section off 0) 0) [
+    | inl z ↦ omega (arith, ap (λ (i : InHost). i.before) (is.empty z), ap (λ (i : InHost). get_or placed i.host 0) (is.empty z), laid.none)
+    | inr b ↦ let a = is.some b in omega (arith, place_is b, a.before, place_room (hosts names) (at_rank sorted a.rank) (there b), room)
+  ]
+
+  pub place_found : get_or placed h.host 0 + h.before ≡ shared_place names x
+  place_found = elim (cases_eq (get_or section off 0) 0) [
+    | inl z ↦
+        let none : get_or placed h.host 0 + h.before ≡ 0 = omega (arith, ap (λ (i : InHost). i.before) (is.empty z), ap (λ (i : InHost). get_or placed i.host 0) (is.empty z), laid.none) in
+        none ∙ no_place (kept names) x (nil_from_length x (no_text section off is.inside z))
+    | inr b ↦ let a = is.some b in place_at_host (kept names) x (at_rank sorted a.rank) (get_or placed h.host 0) h.before (some b) a.is_host (place_is b) a.before
+  ]
+
+-- all of it together
+module _ (section slots offsets placed : List ℕ) (texts tails : List Tail) (found : List InHost) (spans : List Span) (len : ℕ) (marked : AreMarked offsets slots) (long : length slots ≡ length section)
+    (longest : AreLongestOf section slots texts) (perm : IsPermutation texts tails) (up : IsSorted tail_cmp (map (tail_text section) tails)) (hosts_are : AreInHosts section slots (map (tail_text section) tails) found)
+    (laid : AreLaidOut section (map (tail_text section) tails) (map (text_from section) offsets) placed spans len) where
+  abbrev in_order : List (List ℕ)
+  in_order = map (tail_text section) tails
+
+  at : (off : ℕ) → Contains offsets off → IsFound section slots in_order (map (text_from section) offsets) found off
+  at off c = is_found section slots offsets texts tails found marked long longest perm up hosts_are off c
+
+  -- each number is that of a name
+  record Named (k : ℕ) : Type 0 where
+    off : ℕ
+    named : Contains offsets off
+    number : number_of slots off ≡ k
+
+  named : (k : ℕ) → k < length found → Named k
+  named k h = let u = used_at slots (length slots) k (omega (arith, h, hosts_are.whole)) in record { off = u.0; named = marked.only u.0 u.2; number = u.3 }
+
+  same_found : (k : ℕ) (d : InHost) (h : k < length found) → get_or found k d ≡ found_of slots found (named k h).off
+  same_found k d h = get_or_default found k d no_host h ∙ ap (λ (j : ℕ). get_or found j no_host) (sym (named k h).number)
+
+  all_ranked : All (λ (i : InHost). i.host < length placed) found
+  all_ranked k d h =
+      let n = named k h in
+      subst (λ (i : InHost). i.host < length placed) (sym (same_found k d h)) (host_ranked section slots offsets placed in_order found spans len laid n.off n.named (at n.off n.named))
+
+  all_fit : length (shared_table (map (text_from section) offsets)) < 2 ^ 32 → All (λ (i : InHost). get_or placed i.host 0 + i.before < 2 ^ 32) found
+  all_fit room k d h =
+      let n = named k h in
+      subst (λ (i : InHost). get_or placed i.host 0 + i.before < 2 ^ 32) (sym (same_found k d h)) (place_fits section slots offsets placed in_order found spans len laid n.off n.named (at n.off n.named) room)
+
+  all_placed : ArePlaced section offsets slots (map (λ (i : InHost). get_or placed i.host 0 + i.before) found) spans len
+  all_placed = record {
+    used = marked.marked;
+    numbers = length-map found (λ (i : InHost). get_or placed i.host 0 + i.before) ∙ hosts_are.whole;
+    place = λ off c.
+        let inside : number_of slots off < length found = omega (arith, number_inside slots off (marked.marked off c), hosts_are.whole) in
+        get_or-map (λ (i : InHost). get_or placed i.host 0 + i.before) found (number_of slots off) no_host 0 inside
+        ∙ place_found section slots offsets placed in_order found spans len laid off c (at off c);
+    are_spans = laid.are_spans;
+    texts = laid.texts;
+    whole = laid.whole;
+  }
+
+  pub give_places : length (shared_table (map (text_from section) offsets)) < 2 ^ 32 → GivePlaces section offsets slots found placed spans len
+  give_places room = record { ranked = all_ranked; fits = all_fit room; are_placed = all_placed }

@@ -1,0 +1,119 @@
+-- What two texts have in common at their ends, by the bytes of their keys.
+use Rattle.std.proofs.Common.{◌≡◌, ◌≢◌, ℕ, ◌+◌, ◌-◌, ◌<◌, ◌≤◌, min, inl, inr, List, ◌++◌, length, get_or, drop, replicate, sym, subst, ap, ◌∙◌, arith}
+use Rattle.std.specs.Prelude.{reverse}
+use Rattle.std.specs.Int.{w64, to_le_bytes}
+use Rattle.std.proofs.lemmas.Bool.{cases_lt}
+use Rattle.std.proofs.lemmas.List.{get_or-reverse, get_or-drop, get_or-replicate, get_or_append_left, get_or-append_right, get_or_past, length-append, length-drop, length-replicate, length-reverse, length-take-le, get_or-take}
+use Rattle.std.proofs.lemmas.Nat.{le_bytes_8}
+use Rattle.btf_types.specs.strings.CommonTails.{common_tail}
+use Rattle.bpf_canon.specs.btf.strings.TailKeys.{tail_key}
+use Rattle.bpf_canon.specs.btf.strings.Tails.{text_before}
+use Rattle.bpf_canon.proofs.BtfLemmas.Strings.TailKeys.{key_of_long, key_of_short}
+use Rattle.bpf_canon.proofs.BtfLemmas.Strings.RankSteps.{front_stops, front_ends}
+
+module _ (x : List ℕ) (p : (i : ℕ) → get_or x i 0 < 256) (j : ℕ) (h : j < 8) where
+  byte_of_long : 8 ≤ length x → get_or (to_le_bytes w64 (tail_key x)) (7 - j) 0 ≡ get_or (reverse x) j 0
+  byte_of_long l =
+      let n = length x - 8 in
+      let long : length (drop n x) ≡ 8 = omega (arith, l, length-drop n x) in
+      let bytes : (i : ℕ) → get_or (drop n x) i 0 < 256 = λ i. omega (arith, get_or-drop n x i 0, p (n + i)) in
+      ap (λ (t : List ℕ). get_or t (7 - j) 0) (le_bytes_8 (drop n x) (tail_key x) long bytes (sym (key_of_long x n (omega (arith, l)))))
+      ∙ get_or-drop n x (7 - j) 0
+      ∙ ap (λ (k : ℕ). get_or x k 0) (let e : n + (7 - j) ≡ length x - 1 - j = omega (arith, l, h) in e)
+      ∙ sym (get_or-reverse x j 0 (omega (arith, l, h)))
+
+  byte_of_short : length x < 8 → get_or (to_le_bytes w64 (tail_key x)) (7 - j) 0 ≡ get_or (reverse x) j 0
+  byte_of_short l =
+      let n = 8 - length x in
+      let zeros : List ℕ = replicate n 0 in
+      let few : length zeros ≡ n = length-replicate n 0 in
+      let long : length (zeros ++ x) ≡ 8 = omega (arith, l, few, length-append zeros x) in
+      let low : (i : ℕ) → i < n → get_or (zeros ++ x) i 0 ≡ 0 = λ i k. get_or_append_left zeros x 0 i (omega (arith, few, k)) ∙ get_or-replicate n i 0 0 k in
+      let high : (i : ℕ) → n ≤ i → get_or (zeros ++ x) i 0 ≡ get_or x (i - n) 0 = λ i k. get_or-append_right zeros x n i 0 few k in
+      let bytes : (i : ℕ) → get_or (zeros ++ x) i 0 < 256 = λ i. elim (cases_lt i n) [ inl k ↦ omega (arith, low i k) | inr k ↦ omega (arith, high i k, p (i - n)) ] in
+      ap (λ (t : List ℕ). get_or t (7 - j) 0) (le_bytes_8 (zeros ++ x) (tail_key x) long bytes (sym (key_of_short x n (omega (arith, l)))))
+      ∙ elim (cases_lt j (length x)) [
+        | inl k ↦
+            high (7 - j) (omega (arith, k, l))
+            ∙ ap (λ (m : ℕ). get_or x m 0) (let e : 7 - j - n ≡ length x - 1 - j = omega (arith, k, l, h) in e)
+            ∙ sym (get_or-reverse x j 0 k)
+        | inr k ↦ low (7 - j) (omega (arith, k, l, h)) ∙ sym (get_or_past (reverse x) j 0 (omega (arith, k, length-reverse x)))
+      ]
+
+  pub key_byte : get_or (to_le_bytes w64 (tail_key x)) (7 - j) 0 ≡ get_or (reverse x) j 0
+  key_byte = elim (cases_lt (length x) 8) [ inl l ↦ byte_of_short l | inr l ↦ byte_of_long l ]
+
+module _ (x y : List ℕ) (p : (i : ℕ) → get_or x i 0 < 256) (q : (i : ℕ) → get_or y i 0 < 256) (k m n : ℕ) (first : k ≡ tail_key x) (second : m ≡ tail_key y) where
+  of_first : (j : ℕ) → j < 8 → get_or (to_le_bytes w64 k) (7 - j) 0 ≡ get_or (reverse x) j 0
+  of_first j h = ap (λ (t : ℕ). get_or (to_le_bytes w64 t) (7 - j) 0) first ∙ key_byte x p j h
+
+  of_second : (j : ℕ) → j < 8 → get_or (to_le_bytes w64 m) (7 - j) 0 ≡ get_or (reverse y) j 0
+  of_second j h = ap (λ (t : ℕ). get_or (to_le_bytes w64 t) (7 - j) 0) second ∙ key_byte y q j h
+
+  pub common_by_keys : n ≤ 8 → ((j : ℕ) → j < n → get_or (to_le_bytes w64 k) (7 - j) 0 ≡ get_or (to_le_bytes w64 m) (7 - j) 0) → (n < 8 → get_or (to_le_bytes w64 k) (7 - n) 0 ≢ get_or (to_le_bytes w64 m) (7 - n) 0)
+      → min (min n (length x)) (length y) < 8 → min (min n (length x)) (length y) ≡ common_tail x y
+  common_by_keys few same differ below =
+      let alike : (j : ℕ) → j < n → get_or (reverse x) j 0 ≡ get_or (reverse y) j 0 = λ j h. sym (of_first j (omega (arith, h, few))) ∙ same j h ∙ of_second j (omega (arith, h, few)) in
+      let long_x = length-reverse x in
+      let long_y = length-reverse y in
+      elim (cases_lt n (min (length x) (length y))) [
+        | inl h ↦
+            let small : n < 8 = omega (arith, h, below) in
+            let is : min (min n (length x)) (length y) ≡ n = omega (arith, h) in
+            is ∙ sym (front_stops n (reverse x) (reverse y) (omega (arith, h, long_x)) (omega (arith, h, long_y)) alike (λ e. differ small (of_first n small ∙ e ∙ sym (of_second n small))))
+        | inr h ↦
+            let ends = front_ends (reverse x) (reverse y) (λ j l. alike j (omega (arith, l, h, long_x, long_y))) in
+            omega (arith, h, ends, long_x, long_y)
+      ]
+
+-- what stands behind the last eight bytes, from the end
+front_byte : (x : List ℕ) (j : ℕ) → 8 ≤ length x → get_or (reverse (text_before x)) j 0 ≡ get_or (reverse x) (8 + j) 0
+front_byte x j long =
+    let few : length (text_before x) ≡ length x - 8 = length-take-le (length x - 8) x (omega arith) in
+    elim (cases_lt j (length x - 8)) [
+      | inl h ↦
+          get_or-reverse (text_before x) j 0 (omega (arith, h, few))
+          ∙ get_or-take (length x - 8) x (length (text_before x) - 1 - j) 0 (omega (arith, h, few))
+          ∙ ap (λ (i : ℕ). get_or x i 0) (let e : length (text_before x) - 1 - j ≡ length x - 1 - (8 + j) = omega (arith, few) in e)
+          ∙ sym (get_or-reverse x (8 + j) 0 (omega (arith, h)))
+      | inr h ↦
+          get_or_past (reverse (text_before x)) j 0 (omega (arith, h, few, length-reverse (text_before x)))
+          ∙ sym (get_or_past (reverse x) (8 + j) 0 (omega (arith, h, long, length-reverse x)))
+    ]
+
+module _ (x y : List ℕ) (p : (i : ℕ) → get_or x i 0 < 256) (q : (i : ℕ) → get_or y i 0 < 256) (long_x : 8 ≤ length x) (long_y : 8 ≤ length y) (k m n : ℕ) (first : k ≡ tail_key x) (second : m ≡ tail_key y)
+    (same : (j : ℕ) → j < n → get_or (to_le_bytes w64 k) (7 - j) 0 ≡ get_or (to_le_bytes w64 m) (7 - j) 0) (all : 8 ≤ n)
+    (fp : (i : ℕ) → get_or (text_before x) i 0 < 256) (fq : (i : ℕ) → get_or (text_before y) i 0 < 256) (b d r : ℕ) (first_before : b ≡ tail_key (text_before x)) (second_before : d ≡ tail_key (text_before y))
+    (few : r ≤ 8) (same_before : (j : ℕ) → j < r → get_or (to_le_bytes w64 b) (7 - j) 0 ≡ get_or (to_le_bytes w64 d) (7 - j) 0) where
+  alike_last : (j : ℕ) → j < 8 → get_or (reverse x) j 0 ≡ get_or (reverse y) j 0
+  alike_last j h = sym (of_first x y p q k m n first second j h) ∙ same j (omega (arith, h, all)) ∙ of_second x y p q k m n first second j h
+
+  of_front : (j : ℕ) → j < 8 → get_or (to_le_bytes w64 b) (7 - j) 0 ≡ get_or (reverse x) (8 + j) 0
+  of_front j h = of_first (text_before x) (text_before y) fp fq b d r first_before second_before j h ∙ front_byte x j long_x
+
+  of_other_front : (j : ℕ) → j < 8 → get_or (to_le_bytes w64 d) (7 - j) 0 ≡ get_or (reverse y) (8 + j) 0
+  of_other_front j h = of_second (text_before x) (text_before y) fp fq b d r first_before second_before j h ∙ front_byte y j long_y
+
+  alike_to : (j : ℕ) → j < 8 + r → get_or (reverse x) j 0 ≡ get_or (reverse y) j 0
+  alike_to j h = elim (cases_lt j 8) [
+    | inl l ↦ alike_last j l
+    | inr g ↦
+        let e : 8 + (j - 8) ≡ j = omega (arith, g) in
+        subst (λ (i : ℕ). get_or (reverse x) i 0 ≡ get_or (reverse y) i 0) e
+        (sym (of_front (j - 8) (omega (arith, h, g, few))) ∙ same_before (j - 8) (omega (arith, h, g)) ∙ of_other_front (j - 8) (omega (arith, h, g, few)))
+  ]
+
+  -- the same by the keys of what comes before, where the last eight bytes are the same
+  pub common_by_both_keys : (r < 8 → get_or (to_le_bytes w64 b) (7 - r) 0 ≢ get_or (to_le_bytes w64 d) (7 - r) 0) → min (min r (length x - 8)) (length y - 8) < 8 → 8 + min (min r (length x - 8)) (length y - 8) ≡ common_tail x y
+  common_by_both_keys differ below =
+      let turned_x = length-reverse x in
+      let turned_y = length-reverse y in
+      elim (cases_lt r (min (length x - 8) (length y - 8))) [
+        | inl h ↦
+            let small : r < 8 = omega (arith, h, below) in
+            let stops : common_tail x y ≡ 8 + r = front_stops (8 + r) (reverse x) (reverse y) (omega (arith, h, turned_x)) (omega (arith, h, turned_y)) alike_to (λ e. differ small (of_front r small ∙ e ∙ sym (of_other_front r small))) in
+            omega (arith, h, stops)
+        | inr h ↦
+            let ends : common_tail x y ≡ min (length (reverse x)) (length (reverse y)) = front_ends (reverse x) (reverse y) (λ j l. alike_to j (omega (arith, l, h, turned_x, turned_y, long_x, long_y))) in
+            omega (arith, h, ends, turned_x, turned_y, long_x, long_y)
+      ]

@@ -1,0 +1,126 @@
+-- Steps of the loops over ranks.
+use Rattle.std.proofs.Common.{◌≡◌, ◌≢◌, ℕ, zero, suc, ◌+◌, ◌-◌, ◌<◌, ◌≤◌, min, inl, inr, List, [], ◌∷◌, length, map, get_or, refl, sym, ap, ◌∙◌, subst, arith, eqb, true, set, ◌++◌}
+use Rattle.std.specs.Prelude.{reverse}
+use Rattle.std.proofs.lemmas.Bool.{cond-true, cond-false, eq-eqb, ne_eqb, cases_eq, false_from_ne_true}
+use Rattle.std.proofs.lemmas.List.{get_or-reverse, length-reverse, get_or-map, get_or_push, get_or_append_left, get_or-set_same, get_or-set_other}
+use Rattle.std.specs.List.{All}
+use Rattle.std.specs.List.Sorted.{IsPermutation, IsSorted}
+use Rattle.std.proofs.lemmas.List.Elements.{All-contains}
+use Rattle.std.proofs.lemmas.List.Sorted.{Contains-permutation, IsPermutation-sym}
+use Rattle.btf_types.specs.Names.{kept}
+use Rattle.btf_types.specs.strings.SharedNames.{is_suffix, tail_cmp}
+use Rattle.btf_types.proofs.Members.{Has-from_Contains, Contains-from_Has}
+use Rattle.btf_types.proofs.StringLemmas.Texts.{Has-from_kept}
+use Rattle.btf_types.proofs.StringLemmas.Longest.{Has-kept_some}
+use Rattle.btf_types.specs.strings.CommonTails.{common_front, common_tail, at_rank, IsNextHost, IsFirstRank, AreInTailOrder}
+use Rattle.btf_types.proofs.StringLemmas.CommonTails.{suffix_by_tail}
+use Rattle.bpf_canon.specs.btf.strings.Ranks.{common_before, AreCommon}
+use Rattle.bpf_canon.specs.declared.btf.strings.tails.Tail.{Tail}
+
+front_same : (a b : ℕ) (x y : List ℕ) → a ≡ b → common_front (a ∷ x) (b ∷ y) ≡ 1 + common_front x y
+front_same a b x y e = cond-true (eqb a b) (1 + common_front x y) 0 (eq-eqb a b e)
+
+front_other : (a b : ℕ) (x y : List ℕ) → (a ≡ b → ⊥) → common_front (a ∷ x) (b ∷ y) ≡ 0
+front_other a b x y n = cond-false (eqb a b) (1 + common_front x y) 0 (ne_eqb a b n)
+
+pub front_stops : (n : ℕ) (x y : List ℕ) → n < length x → n < length y → ((j : ℕ) → j < n → get_or x j 0 ≡ get_or y j 0) → (get_or x n 0 ≡ get_or y n 0 → ⊥) → common_front x y ≡ n
+front_stops n [] y h l f o = absurd (omega (arith, h))
+front_stops n (a ∷ x) [] h l f o = absurd (omega (arith, l))
+front_stops zero (a ∷ x) (b ∷ y) h l f o = front_other a b x y o
+front_stops (suc n) (a ∷ x) (b ∷ y) h l f o =
+    front_same a b x y (f 0 (omega arith)) ∙ ap (λ (m : ℕ). 1 + m) (front_stops n x y (omega (arith, h)) (omega (arith, l)) (λ j k. f (suc j) (omega (arith, k))) o) ∙ (let e : 1 + n ≡ suc n = omega arith in e)
+
+pub front_ends : (x y : List ℕ) → ((j : ℕ) → j < min (length x) (length y) → get_or x j 0 ≡ get_or y j 0) → common_front x y ≡ min (length x) (length y)
+front_ends [] y f = omega arith
+front_ends (a ∷ x) [] f = omega arith
+front_ends (a ∷ x) (b ∷ y) f =
+    let rest = front_ends x y (λ j h. f (suc j) (omega (arith, h))) in
+    omega (arith, rest, front_same a b x y (f 0 (omega arith)))
+
+module _ (a b : List ℕ) where
+  turned : (n : ℕ) → n ≤ length a → n ≤ length b → ((j : ℕ) → j < n → get_or a (length a - 1 - j) 0 ≡ get_or b (length b - 1 - j) 0) → (j : ℕ) → j < n → get_or (reverse a) j 0 ≡ get_or (reverse b) j 0
+  turned n h l f j k = get_or-reverse a j 0 (omega (arith, h, k)) ∙ f j k ∙ sym (get_or-reverse b j 0 (omega (arith, l, k)))
+
+  pub tail_stops : (n : ℕ) → n < length a → n < length b → ((j : ℕ) → j < n → get_or a (length a - 1 - j) 0 ≡ get_or b (length b - 1 - j) 0) → (get_or a (length a - 1 - n) 0 ≡ get_or b (length b - 1 - n) 0 → ⊥) → n ≡ common_tail a b
+  tail_stops n h l f o = sym (front_stops n (reverse a) (reverse b) (omega (arith, h, length-reverse a)) (omega (arith, l, length-reverse b))
+      (turned n (omega (arith, h)) (omega (arith, l)) f)
+      (λ e. o (sym (get_or-reverse a n 0 h) ∙ e ∙ get_or-reverse b n 0 l)))
+
+  pub tail_ends : ((j : ℕ) → j < min (length a) (length b) → get_or a (length a - 1 - j) 0 ≡ get_or b (length b - 1 - j) 0) → min (length a) (length b) ≡ common_tail a b
+  tail_ends f =
+      let same : min (length (reverse a)) (length (reverse b)) ≡ min (length a) (length b) = omega (arith, length-reverse a, length-reverse b) in
+      sym (front_ends (reverse a) (reverse b) (λ j h. turned (min (length a) (length b)) (omega arith) (omega arith) f j (omega (arith, h, same))) ∙ same)
+
+-- the loop over neighbours
+common_next : (ms : List (List ℕ)) (k : ℕ) → common_before ms (k + 1) ≡ common_tail (at_rank ms k) (at_rank ms (k + 1))
+common_next ms k = subst (λ (m : ℕ). common_before ms m ≡ common_tail (at_rank ms k) (at_rank ms m)) (let e : suc k ≡ k + 1 = omega arith in e) refl
+
+pub common_first : (ms : List (List ℕ)) (k n : ℕ) → k ≡ 0 → n ≡ 0 → n ≡ common_before ms k
+common_first ms k n e z = z ∙ ap (common_before ms) (sym e)
+
+pub common_here : (f : Tail → List ℕ) (ts : List Tail) (k n : ℕ) (e : Tail) → k < length ts → k ≢ 0 → n ≡ common_tail (f (get_or ts (k - 1) e)) (f (get_or ts k e)) → n ≡ common_before (map f ts) k
+common_here f ts zero n e h some same = absurd (some refl)
+common_here f ts (suc k) n e h some same =
+    let back : suc k - 1 ≡ k = omega arith in
+    same ∙ ap (λ (m : ℕ). common_tail (f (get_or ts m e)) (f (get_or ts (suc k) e))) back
+    ∙ ap (λ (t : List ℕ). common_tail t (f (get_or ts (suc k) e))) (sym (get_or-map f ts k e [] (omega (arith, h))))
+    ∙ ap (common_tail (at_rank (map f ts) k)) (sym (get_or-map f ts (suc k) e [] h))
+
+pub common_more : (ms : List (List ℕ)) (items : List ℕ) (k n : ℕ) → length items ≡ k → ((j : ℕ) → j < k → get_or items j 0 ≡ common_before ms j) → n ≡ common_before ms k → (j : ℕ) → j < k + 1 → get_or (items ++ n ∷ []) j 0 ≡ common_before ms j
+common_more ms items k n long f here j h = elim (cases_eq j k) [
+  | inl e ↦ get_or_push items n 0 j (omega (arith, long, e)) ∙ here ∙ ap (common_before ms) (sym e)
+  | inr o ↦ get_or_append_left items (n ∷ []) 0 j (omega (arith, long, h, o)) ∙ f j (omega (arith, h, o))
+]
+
+-- the loop over hosts
+ends_from : (ms : List (List ℕ)) (k : ℕ) → common_before ms (k + 1) ≡ length (at_rank ms k) → is_suffix (at_rank ms k) (at_rank ms (k + 1)) ≡ true
+ends_from ms k e = (suffix_by_tail (at_rank ms k) (at_rank ms (k + 1))).suffix (omega (arith, e, common_next ms k))
+
+pub next_own : (ms : List (List ℕ)) (k : ℕ) → k < length ms → (k + 1 < length ms → common_before ms (k + 1) ≢ length (at_rank ms k)) → IsNextHost ms k k
+next_own ms k h differs = record {
+  inside = h;
+  from = omega arith;
+  passed = λ j low high. absurd (omega (arith, low, high));
+  stops = λ more. false_from_ne_true (is_suffix (at_rank ms k) (at_rank ms (k + 1))) (λ t. differs more (common_next ms k ∙ (suffix_by_tail (at_rank ms k) (at_rank ms (k + 1))).whole t));
+}
+
+pub next_taken : (ms : List (List ℕ)) (k r : ℕ) → common_before ms (k + 1) ≡ length (at_rank ms k) → IsNextHost ms (k + 1) r → IsNextHost ms k r
+next_taken ms k r e next = record {
+  inside = next.inside;
+  from = omega (arith, next.from);
+  passed = λ j low high. elim (cases_eq j k) [
+    | inl q ↦ subst (λ (m : ℕ). is_suffix (at_rank ms m) (at_rank ms (m + 1)) ≡ true) (sym q) (ends_from ms k e)
+    | inr o ↦ next.passed j (omega (arith, low, o)) high
+  ];
+  stops = next.stops;
+}
+
+pub hosts_step : (ms : List (List ℕ)) (hosts : List ℕ) (k v : ℕ) → length hosts ≡ length ms → k < length ms → ((j : ℕ) → k + 1 ≤ j → j < length ms → IsNextHost ms j (get_or hosts j 0)) → IsNextHost ms k v → (j : ℕ) → k ≤ j → j < length ms → IsNextHost ms j (get_or (set hosts k v) j 0)
+hosts_step ms hosts k v long h f here j low high = elim (cases_eq j k) [
+  | inl e ↦ subst (λ (m : ℕ). IsNextHost ms m (get_or (set hosts k v) m 0)) (sym e) (subst (IsNextHost ms k) (sym (get_or-set_same hosts k v 0 (omega (arith, h, long)))) here)
+  | inr o ↦ subst (IsNextHost ms j) (sym (get_or-set_other hosts k j v 0 o)) (f j (omega (arith, low, o)) high)
+]
+
+-- from the numbers to the host
+common_at : (ms : List (List ℕ)) (j : ℕ) → 0 < j → common_before ms j ≡ common_tail (at_rank ms (j - 1)) (at_rank ms j)
+common_at ms zero h = absurd (omega (arith, h))
+common_at ms (suc j) h = subst (λ (m : ℕ). common_before ms (suc j) ≡ common_tail (at_rank ms m) (at_rank ms (suc j))) (let e : j ≡ suc j - 1 = omega arith in e) refl
+
+pub first_rank_is : (ms : List (List ℕ)) (common : List ℕ) (n r k : ℕ) → AreCommon ms common → k < length ms → r ≤ k → ((j : ℕ) → r < j → j ≤ k → n ≤ get_or common j 0) → get_or common r 0 < n → IsFirstRank ms n r k
+first_rank_is ms common n r k are inside before f less = record {
+  before = before;
+  common = λ j low high. omega (arith, f j low high, are.each j (omega (arith, high, inside)), common_at ms j (omega (arith, low)));
+  less = λ some. omega (arith, less, are.each r (omega (arith, before, inside)), common_at ms r some);
+}
+
+-- sorted texts of a list are in order by their tails
+pub in_tail_order : (texts ms : List (List ℕ)) → IsPermutation texts ms → IsSorted tail_cmp ms → All (λ t. 0 < length t) texts → AreInTailOrder (kept texts) ms
+in_tail_order texts ms perm up some = record {
+  members = record {
+    here = λ z c. Contains-permutation texts ms z perm (Contains-from_Has texts z (Has-from_kept texts z (Has-from_Contains (kept texts) z c)));
+    there = λ z c.
+        let has = Has-from_Contains texts z (Contains-permutation ms texts z (IsPermutation-sym texts ms perm) c) in
+        Contains-from_Has (kept texts) z (Has-kept_some texts z has (All-contains (λ t. 0 < length t) texts z some (Contains-from_Has texts z has)));
+  };
+  in_order = up;
+}

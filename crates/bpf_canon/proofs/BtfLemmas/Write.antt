@@ -1,0 +1,5 @@
+-- Lemmas on records that are written.
+pub mod WriteSteps
+pub mod RecordNames
+pub mod RecordWords
+pub mod SectionFiles

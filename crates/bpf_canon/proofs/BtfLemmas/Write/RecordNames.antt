@@ -1,0 +1,195 @@
+-- The names of records are the texts at the offsets in their frames.
+use Rattle.std.proofs.Common.{◌≡◌, ℕ, zero, suc, ◌+◌, ◌*◌, ◌<◌, Bool, true, false, List, [], ◌∷◌, ◌++◌, length, map, get_or, refl, sym, ap, ◌∙◌, subst, inl, inr, arith}
+use Rattle.std.specs.Prelude.{slice_index, ◌==◌, if◌then◌else◌}
+use Rattle.std.specs.List.{All, AllZip, Contains, filter}
+use Rattle.std.proofs.lemmas.List.{map-append}
+use Rattle.std.proofs.lemmas.List.Elements.{All-nil, All-cons, All-head, All-tail, filter-append}
+use Rattle.bpf_words.specs.declared.Order.{Order}
+use Rattle.btf_raw.specs.Header.{HasNulEnds}
+use Rattle.btf_raw.specs.Kinds.{item_words}
+use Rattle.btf_raw.specs.Frames.{IsFrame, name_word, kind, vlen, flag}
+use Rattle.btf_raw.proofs.Texts.{TextAt-unique, TextAt-inside}
+use Rattle.btf_types.specs.declared.tables.table.FileSections.{FileSections}
+use Rattle.btf_types.specs.Values.{TypeItem, TypeRecord}
+use Rattle.btf_types.specs.Names.{head_name, item_name, record_names, names, is_other, distinct, is_some_text, kept}
+use Rattle.btf_types.specs.Spelling.{Spells}
+use Rattle.btf_types.specs.judge.Checks.{has_item_names}
+use Rattle.btf_types.specs.Reading.{text_from, item_from, item_of, item_total, record_of, frame_at, frames_at, tabulate}
+use Rattle.btf_types.proofs.KindCases.{KindIs, IsStruct, IsUnion, IsEnum, IsFuncProto, IsEnum64}
+use Rattle.btf_types.proofs.FaultlessLemmas.FaultlessWords.{known}
+use Rattle.btf_types.proofs.Lists.{length-tabulate, get_or-tabulate}
+use Rattle.btf_types.proofs.TableLemmas.TextSteps.{text_stands, decided}
+use Rattle.bpf_canon.specs.btf.write.KeptFrames.{frame_in}
+use Rattle.bpf_canon.specs.btf.write.NameOffsets.{item_word, name_offsets, all_offsets, HasNamedItems, HasNotedNames}
+use Rattle.bpf_canon.specs.btf.strings.NamesByPlace.{NamesByPlace}
+
+-- ---- empty names aren't kept
+
+filter-comm : {X : Type 0} (p q : X → Bool) (xs : List X) → filter p (filter q xs) ≡ filter q (filter p xs)
+filter-comm p q [] = refl
+filter-comm p q (x ∷ xs) = elim (decided (p x)) [
+  | inl pt ↦ elim (decided (q x)) [
+    | inl qt ↦ simp (pt, qt) (ap (λ t. x ∷ t) (filter-comm p q xs))
+    | inr qf ↦ simp (pt, qf) (filter-comm p q xs)
+  ]
+  | inr pf ↦ elim (decided (q x)) [
+    | inl qt ↦ simp (pf, qt) (filter-comm p q xs)
+    | inr qf ↦ simp (pf, qf) (filter-comm p q xs)
+  ]
+]
+
+some_is_other : (xs : List (List ℕ)) → filter is_some_text (filter (is_other []) xs) ≡ filter is_some_text xs
+some_is_other [] = refl
+some_is_other ([] ∷ xs) = some_is_other xs
+some_is_other ((b ∷ x) ∷ xs) = ap (λ (t : List (List ℕ)). (b ∷ x) ∷ t) (some_is_other xs)
+
+pub kept_of_some : (xs : List (List ℕ)) → kept (filter is_some_text xs) ≡ kept xs
+kept_of_some [] = refl
+kept_of_some ([] ∷ xs) = kept_of_some xs ∙ sym (some_is_other (distinct xs))
+kept_of_some ((b ∷ x) ∷ xs) =
+    let other = is_other (b ∷ x) in
+    ap (λ (t : List (List ℕ)). (b ∷ x) ∷ t) (
+    filter-comm is_some_text other (distinct (filter is_some_text xs))
+    ∙ ap (filter other) (kept_of_some xs)
+    ∙ filter-comm other is_some_text (distinct xs))
+
+-- ---- the names of one record
+
+map-tabulate : {X Y : Type 0} (g : X → Y) (f : ℕ → X) (n : ℕ) → map g (tabulate f n) ≡ tabulate (λ k. g (f k)) n
+map-tabulate g f zero = refl
+map-tabulate g f (suc n) = map-append g (tabulate f n) (f n ∷ []) ∙ ap (λ t. t ++ g (f n) ∷ []) (map-tabulate g f n)
+
+tabulate-same : {X : Type 0} (f g : ℕ → X) (n : ℕ) → ((k : ℕ) → f k ≡ g k) → tabulate f n ≡ tabulate g n
+tabulate-same f g zero each = refl
+tabulate-same f g (suc n) each = rw (tabulate-same f g n each, each n) refl
+
+none_kept : (n : ℕ) → filter is_some_text (tabulate (λ k. []) n) ≡ []
+none_kept zero = refl
+none_kept (suc n) = filter-append is_some_text (tabulate (λ k. []) n) ([] ∷ []) ∙ rw (none_kept n) refl
+
+-- an item's name is the text at its first word, where its kind has names; a list of these kinds has as many items as vlen says
+item_named : {k : ℕ} → KindIs k → (name : List ℕ) (flag a b c : ℕ) → has_item_names k ≡ true → item_name (item_from name k flag a b c) ≡ name
+unfolding has_item_names item_from
+item_named IsStruct name flag a b c has = refl
+item_named IsUnion name flag a b c has = refl
+item_named IsEnum name flag a b c has = refl
+item_named IsFuncProto name flag a b c has = refl
+item_named IsEnum64 name flag a b c has = refl
+item_named other name flag a b c has = absurd cc
+
+item_nameless : {k : ℕ} → KindIs k → (name : List ℕ) (flag a b c : ℕ) → has_item_names k ≡ false → item_name (item_from name k flag a b c) ≡ []
+unfolding has_item_names item_from
+item_nameless IsStruct name flag a b c none = absurd cc
+item_nameless IsUnion name flag a b c none = absurd cc
+item_nameless IsEnum name flag a b c none = absurd cc
+item_nameless IsFuncProto name flag a b c none = absurd cc
+item_nameless IsEnum64 name flag a b c none = absurd cc
+item_nameless other name flag a b c none = refl
+
+named_words : {k : ℕ} → KindIs k → has_item_names k ≡ true → (item_words k == 0) ≡ false
+unfolding has_item_names item_words
+named_words IsStruct has = refl
+named_words IsUnion has = refl
+named_words IsEnum has = refl
+named_words IsFuncProto has = refl
+named_words IsEnum64 has = refl
+named_words other has = absurd cc
+
+pub named_total : (f : List ℕ) → IsFrame f → has_item_names (kind f) ≡ true → item_total f ≡ vlen f
+named_total f is has = rw (named_words (known f is) has) refl
+
+pub head_name_is : (strings : List ℕ) (r : TypeRecord) (f : List ℕ) → HasNulEnds strings → Spells strings r f → head_name r.head ≡ text_from strings (name_word f)
+head_name_is strings r f ends s =
+    let offset : name_word f ≡ s.name_offset = ap (λ (t : List ℕ). slice_index t 0) s.whole in
+    let text = text_stands strings s.name_offset ends (TextAt-inside strings s.name_offset _ s.name.text) in
+    rw offset (TextAt-unique strings s.name_offset _ (text_from strings s.name_offset) s.name.text text)
+
+item_names_are : (strings f : List ℕ) → IsFrame f → has_item_names (kind f) ≡ true
+    → map item_name (record_of strings f).items ≡ map (text_from strings) (tabulate (item_word f) (vlen f))
+item_names_are strings f is has =
+    let item : ℕ → TypeItem = λ k. item_of strings f (3 + item_words (kind f) * k) in
+    map-tabulate item_name item (item_total f)
+    ∙ tabulate-same (λ k. item_name (item k)) (λ k. text_from strings (item_word f k)) (item_total f)
+    (λ k. item_named (known f is) _ (flag f) _ _ _ has)
+    ∙ ap (tabulate (λ k. text_from strings (item_word f k))) (named_total f is has)
+    ∙ sym (map-tabulate (text_from strings) (item_word f) (vlen f))
+
+item_names_none : (strings f : List ℕ) → IsFrame f → has_item_names (kind f) ≡ false → filter is_some_text (map item_name (record_of strings f).items) ≡ []
+item_names_none strings f is none =
+    let item : ℕ → TypeItem = λ k. item_of strings f (3 + item_words (kind f) * k) in
+    ap (filter is_some_text) (
+    map-tabulate item_name item (item_total f)
+    ∙ tabulate-same (λ k. item_name (item k)) (λ k. []) (item_total f) (λ k. item_nameless (known f is) _ (flag f) _ _ _ none))
+    ∙ none_kept (item_total f)
+
+some_more : (x : List ℕ) (xs ys : List (List ℕ)) → filter is_some_text xs ≡ filter is_some_text ys → filter is_some_text (x ∷ xs) ≡ filter is_some_text (x ∷ ys)
+some_more [] xs ys e = e
+some_more (b ∷ x) xs ys e = ap (λ (t : List (List ℕ)). (b ∷ x) ∷ t) e
+
+record_texts : (strings f : List ℕ) → HasNulEnds strings → IsFrame f → Spells strings (record_of strings f) f
+    → filter is_some_text (map (text_from strings) (name_offsets f)) ≡ filter is_some_text (record_names (record_of strings f))
+record_texts strings f ends is s =
+    let r = record_of strings f in
+    let own = text_from strings (name_word f) in
+    let offsets : List ℕ = if has_item_names (kind f) then tabulate (item_word f) (vlen f) else [] in
+    let rest : filter is_some_text (map (text_from strings) offsets) ≡ filter is_some_text (map item_name r.items) =
+    elim (decided (has_item_names (kind f))) [
+      | inl has ↦ rw has (ap (filter is_some_text) (sym (item_names_are strings f is has)))
+      | inr none ↦ rw none (sym (item_names_none strings f is none))
+    ] in
+    some_more own (map (text_from strings) offsets) (map item_name r.items) rest ∙ ap (λ (x : List ℕ). filter is_some_text (x ∷ map item_name r.items)) (sym (head_name_is strings r f ends s))
+
+-- ---- the names of all
+
+all_texts : (strings : List ℕ) (frames : List (List ℕ)) → HasNulEnds strings → All IsFrame frames → AllZip (Spells strings) (map (record_of strings) frames) frames
+    → filter is_some_text (map (text_from strings) (all_offsets frames)) ≡ filter is_some_text (names (map (record_of strings) frames))
+all_texts strings [] ends is s = refl
+all_texts strings (f ∷ frames) ends is s =
+    let r = record_of strings f in
+    let v = map (record_of strings) frames in
+    let one = record_texts strings f ends (All-head IsFrame f frames is) s.0 in
+    let rest = all_texts strings frames ends (All-tail IsFrame f frames is) s.1 in
+    ap (filter is_some_text) (map-append (text_from strings) (name_offsets f) (all_offsets frames))
+    ∙ filter-append is_some_text (map (text_from strings) (name_offsets f)) (map (text_from strings) (all_offsets frames))
+    ∙ rw (one, rest) (sym (filter-append is_some_text (record_names r) (names v)))
+
+pub kept_at_offsets : (strings : List ℕ) (frames : List (List ℕ)) → HasNulEnds strings → All IsFrame frames → AllZip (Spells strings) (map (record_of strings) frames) frames
+    → kept (map (text_from strings) (all_offsets frames)) ≡ kept (names (map (record_of strings) frames))
+kept_at_offsets strings frames ends is s =
+    sym (kept_of_some (map (text_from strings) (all_offsets frames)))
+    ∙ ap kept (all_texts strings frames ends is s)
+    ∙ kept_of_some (names (map (record_of strings) frames))
+
+-- ---- what holds of each offset
+
+pub own_offset : (P : ℕ → Type 0) (f : List ℕ) → All P (name_offsets f) → P (name_word f)
+own_offset P f all = All-head P (name_word f) (if has_item_names (kind f) then tabulate (item_word f) (vlen f) else []) all
+
+item_offset : (P : ℕ → Type 0) (f : List ℕ) (k : ℕ) → has_item_names (kind f) ≡ true → All P (name_offsets f) → k < vlen f → P (item_word f k)
+item_offset P f k has all low =
+    let offsets : List ℕ = tabulate (item_word f) (vlen f) in
+    let same : (if has_item_names (kind f) then offsets else []) ≡ offsets = rw has refl in
+    let each : All P offsets = subst (All P) same (All-tail P (name_word f) (if has_item_names (kind f) then offsets else []) all) in
+    subst P (get_or-tabulate (item_word f) (vlen f) k 0 low) (each k 0 (omega (arith, length-tabulate (item_word f) (vlen f))))
+
+pub item_is_noted : (names : NamesByPlace) (s : FileSections) (pos size count k offset : ℕ) → HasNotedNames names s pos → HasNamedItems (frame_in s pos) size count → k < count
+    → offset ≡ slice_index (frame_in s pos) (3 + size * k) → Contains names.offsets offset
+item_is_noted names s pos size count k offset noted items low is =
+    let f = frame_in s pos in
+    let all = items.all in
+    let at : item_word f k ≡ offset = ap (λ (w : ℕ). slice_index f (3 + w * k)) items.words ∙ sym is in
+    subst (Contains names.offsets) at (item_offset (Contains names.offsets) f k items.named noted.offsets (omega arith))
+
+All-front : (P : ℕ → Type 0) (xs ys : List ℕ) → All P (xs ++ ys) → All P xs
+All-front P [] ys all = All-nil P
+All-front P (x ∷ xs) ys all = All-cons P x xs (All-head P x (xs ++ ys) all) (All-front P xs ys (All-tail P x (xs ++ ys) all))
+
+All-back : (P : ℕ → Type 0) (xs ys : List ℕ) → All P (xs ++ ys) → All P ys
+All-back P [] ys all = all
+All-back P (x ∷ xs) ys all = All-back P xs ys (All-tail P x (xs ++ ys) all)
+
+pub record_offsets : (P : ℕ → Type 0) (o : Order) (types places : List ℕ) (i : ℕ) → i < length places → All P (all_offsets (frames_at o types places)) → All P (name_offsets (frame_at o types (get_or places i 0)))
+record_offsets P o types [] i low all = absurd (omega arith)
+record_offsets P o types (pos ∷ places) zero low all = All-front P (name_offsets (frame_at o types pos)) (all_offsets (frames_at o types places)) all
+record_offsets P o types (pos ∷ places) (suc i) low all =
+    record_offsets P o types places i (omega arith) (All-back P (name_offsets (frame_at o types pos)) (all_offsets (frames_at o types places)) all)

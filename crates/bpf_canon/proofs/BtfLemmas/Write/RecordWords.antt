@@ -1,0 +1,332 @@
+-- The words of a record, from those of its frame.
+use Rattle.std.proofs.Common.{◌≡◌, ◌≢◌, ◌⊎◌, ℕ, zero, suc, ◌+◌, ◌*◌, ◌/◌, ◌%◌, ◌^◌, ◌<◌, ◌≤◌, Bool, true, false, not, List, [], ◌∷◌, ◌++◌, length, map, take, drop, get_or, refl, sym, ap, ◌∙◌, inl, inr, append-nil, lit≤, arith}
+use Rattle.std.specs.Prelude.{slice_index, ◌==◌, ◌||◌, if◌then◌else◌, ⊤}
+use Rattle.std.specs.List.{All, AllZip, concat, flat_map, list_any}
+use Rattle.std.proofs.lemmas.Bool.{cases_eq, ne_eqb, or_left, or_right}
+use Rattle.std.proofs.lemmas.List.Concat.{flat_map-append}
+use Rattle.std.proofs.lemmas.List.Elements.{All-head, All-tail}
+use Rattle.std.proofs.lemmas.List.Folds.{list_any-append}
+use Rattle.std.proofs.Math.Seq.{take-suc}
+use Rattle.std.proofs.lemmas.List.{get_or-drop, length-drop}
+use Rattle.bpf_words.specs.declared.Order.{Order}
+use Rattle.bpf_words.specs.Words.{word32}
+use Rattle.btf_raw.specs.Header.{HasNulEnds}
+use Rattle.btf_raw.specs.Kinds.{item_words, kind_of, flag_of}
+use Rattle.btf_raw.specs.Frames.{IsFrame, info_word, third_word, name_word, kind, vlen, flag, bytes_of, section_of}
+use Rattle.btf_types.specs.Values.{TypeHead, KStruct, KUnion, TypeItem, Entry, TypeRecord}
+use Rattle.btf_types.specs.Names.{head_name}
+use Rattle.btf_types.specs.Spelling.{kind_number, head_third, head_tail, bit, FlagSpells, record_vlen, info, ItemSpells, Spells}
+use Rattle.btf_types.specs.judge.Checks.{has_item_names, is_struct}
+use Rattle.btf_types.specs.Good.{has_width, has_bit_fields}
+use Rattle.btf_types.specs.Reading.{text_from, head_from, item_from, item_of, item_total, record_of, frame_at, records_at, tabulate}
+use Rattle.btf_types.proofs.KindCases.{KindIs, IsStruct, IsUnion, IsEnum, IsFuncProto, IsEnum64}
+use Rattle.btf_types.proofs.FaultlessLemmas.FaultlessWords.{known, room}
+use Rattle.btf_types.proofs.Spelled.{info_parts, InfoParts, kind_below, vlen_below, flag_below}
+use Rattle.btf_types.proofs.TableLemmas.TableReads.{count_there}
+use Rattle.btf_types.proofs.TabulateSteps.{All-tabulate}
+use Rattle.btf_types.proofs.TableLemmas.TextSteps.{decided}
+use Rattle.bpf_canon.specs.btf.CanonicalBtf.{canonical_flag, item_words as words_of, record_words}
+use Rattle.bpf_canon.specs.btf.write.KeptFrames.{record_info, record_items, record_tail}
+use Rattle.bpf_canon.specs.btf.write.NameOffsets.{HasNamedItems}
+use Rattle.bpf_canon.proofs.BtfLemmas.Write.RecordNames.{head_name_is}
+use Rattle.bpf_canon.proofs.BtfLemmas.Write.WriteSteps.{pushed_two}
+
+-- ---- whether a record has bit-fields
+
+abbrev pub item_in : List ℕ → List ℕ → ℕ → TypeItem
+item_in strings f k = item_of strings f (3 + item_words (kind f) * k)
+
+any_later : {X : Type 0} (p : X → Bool) (f : ℕ → X) (n : ℕ) → list_any p (tabulate f (suc n)) ≡ (list_any p (tabulate f n) || (p (f n) || false))
+any_later p f n = list_any-append p (tabulate f n) (f n ∷ [])
+
+any_here : {X : Type 0} (p : X → Bool) (f : ℕ → X) (n k : ℕ) → k < n → p (f k) ≡ true → list_any p (tabulate f n) ≡ true
+any_here p f zero k low h = absurd (omega arith)
+any_here p f (suc n) k low h = any_later p f n ∙ elim (cases_eq k n) [
+  | inl e ↦ or_right (list_any p (tabulate f n)) (p (f n) || false) (or_left (p (f n)) false (ap (λ (i : ℕ). p (f i)) (sym e) ∙ h))
+  | inr other ↦ or_left (list_any p (tabulate f n)) (p (f n) || false) (any_here p f n k (omega arith) h)
+]
+
+none_here : {X : Type 0} (p : X → Bool) (f : ℕ → X) (n : ℕ) → ((k : ℕ) → p (f k) ≡ false) → list_any p (tabulate f n) ≡ false
+none_here p f zero each = refl
+none_here p f (suc n) each = any_later p f n ∙ rw (none_here p f n each, each n) refl
+
+none_more : {X : Type 0} (p : X → Bool) (f : ℕ → X) (k : ℕ) → list_any p (tabulate f k) ≡ false → p (f k) ≡ false → list_any p (tabulate f (k + 1)) ≡ false
+none_more p f k before here =
+    let next : k + 1 ≡ suc k = omega arith in
+    rw next (any_later p f k ∙ rw (before, here) refl)
+
+wide_member : {k : ℕ} → KindIs k → (name : List ℕ) (flag a b c : ℕ) → is_struct k ≡ true → flag ≢ 0 → has_width (item_from name k flag a b c) ≡ not (c / 2 ^ 24 == 0)
+unfolding item_from
+wide_member IsStruct name flag a b c is some = rw (ne_eqb flag 0 some) refl
+wide_member IsUnion name flag a b c is some = rw (ne_eqb flag 0 some) refl
+wide_member other name flag a b c is some = absurd cc
+
+plain_item : {k : ℕ} → KindIs k → (name : List ℕ) (flag a b c : ℕ) → flag ≡ 0 → has_width (item_from name k flag a b c) ≡ false
+unfolding item_from
+plain_item IsStruct name flag a b c none = rw none refl
+plain_item IsUnion name flag a b c none = rw none refl
+plain_item other name flag a b c none = refl
+
+struct_words : {k : ℕ} → KindIs k → is_struct k ≡ true → item_words k ≡ 3
+unfolding item_words
+struct_words IsStruct is = refl
+struct_words IsUnion is = refl
+struct_words other is = absurd cc
+
+module _ (strings f : List ℕ) (frame : IsFrame f) where
+  unmarked : (n : ℕ) → flag f ≡ 0 → list_any has_width (tabulate (item_in strings f) n) ≡ false
+  unmarked n none = none_here has_width (item_in strings f) n (λ k. plain_item (known f frame) _ (flag f) _ _ _ none)
+
+  width_at : (k : ℕ) → is_struct (kind f) ≡ true → flag f ≢ 0 → has_width (item_in strings f k) ≡ not (slice_index f (5 + 3 * k) / 2 ^ 24 == 0)
+  width_at k is some =
+      let at : 3 + item_words (kind f) * k + 2 ≡ 5 + 3 * k = rw (struct_words (known f frame) is) (omega arith) in
+      wide_member (known f frame) _ (flag f) _ _ _ is some ∙ ap (λ (j : ℕ). not (slice_index f j / 2 ^ 24 == 0)) at
+
+  pub width_found : (k n : ℕ) → is_struct (kind f) ≡ true → flag f ≢ 0 → k < n → slice_index f (5 + 3 * k) / 2 ^ 24 ≢ 0 → list_any has_width (tabulate (item_in strings f) n) ≡ true
+  width_found k n is some low wide = any_here has_width (item_in strings f) n k low (width_at k is some ∙ ap not (ne_eqb (slice_index f (5 + 3 * k) / 2 ^ 24) 0 wide))
+
+  pub width_missed : (k : ℕ) → is_struct (kind f) ≡ true → flag f ≢ 0 → list_any has_width (tabulate (item_in strings f) k) ≡ false → slice_index f (5 + 3 * k) / 2 ^ 24 ≡ 0
+      → list_any has_width (tabulate (item_in strings f) (k + 1)) ≡ false
+  width_missed k is some before none = none_more has_width (item_in strings f) k before (width_at k is some ∙ rw none refl)
+
+-- ---- info
+
+struct_flag : (h : TypeHead) (b : Bool) → is_struct (kind_number h) ≡ true → canonical_flag h b ≡ bit b
+struct_flag (KStruct name size) b is = refl
+struct_flag (KUnion name size) b is = refl
+struct_flag h b is = absurd cc
+
+other_flag : (h : TypeHead) (flag : ℕ) (b : Bool) → FlagSpells h flag → is_struct (kind_number h) ≡ false → canonical_flag h b ≡ flag
+other_flag (KStruct name size) marked b e other = absurd cc
+other_flag (KUnion name size) marked b e other = absurd cc
+other_flag h marked b e other = sym e
+
+cleared : (k v marked : ℕ) → k < 2 ^ 5 → v < 2 ^ 16 → marked ≡ 1 → info k v marked % 2 ^ 31 ≡ info k v 0
+cleared k v marked hk hv one = omega arith
+
+total_low : (f : List ℕ) → item_total f < 2 ^ 16
+total_low f = elim (decided (item_words (kind f) == 0)) [ inl none ↦ rw none (omega arith) | inr some ↦ rw some (omega arith) ]
+
+module _ (strings f : List ℕ) (r : TypeRecord) (few : length r.items < 2 ^ 16) (s : Spells strings r f) where
+  flag_low : s.flag < 2
+  flag_low = flag_below r.head s.flag s.flag_spells
+
+  parts : InfoParts (info (kind_number r.head) (record_vlen r) s.flag) (kind_number r.head) (record_vlen r) s.flag
+  parts = info_parts (kind_number r.head) (record_vlen r) s.flag (kind_below r.head) (vlen_below r.head r.items few) flag_low
+
+  word : info_word f ≡ info (kind_number r.head) (record_vlen r) s.flag
+  word = ap (λ (t : List ℕ). slice_index t 1) s.whole
+
+  kind_same : kind f ≡ kind_number r.head
+  kind_same = ap kind_of word ∙ (parts).kind
+
+  flag_same : flag f ≡ s.flag
+  flag_same = ap flag_of word ∙ (parts).flag
+
+  kept_flag : canonical_flag r.head (has_bit_fields r) ≡ s.flag → info_word f ≡ record_info r
+  kept_flag e = word ∙ ap (λ (b : ℕ). info (kind_number r.head) (record_vlen r) b) (sym e)
+
+  -- the flag of other kinds is part of the value
+  pub info_of_others : is_struct (kind f) ≡ false → info_word f ≡ record_info r
+  info_of_others other = kept_flag (other_flag r.head s.flag (has_bit_fields r) s.flag_spells (ap is_struct (sym kind_same) ∙ other))
+
+  struct_bit : is_struct (kind f) ≡ true → canonical_flag r.head (has_bit_fields r) ≡ bit (has_bit_fields r)
+  struct_bit is = struct_flag r.head (has_bit_fields r) (ap is_struct (sym kind_same) ∙ is)
+
+  pub info_unmarked : flag f ≡ 0 → has_bit_fields r ≡ false → info_word f ≡ record_info r
+  info_unmarked none plain = elim (decided (is_struct (kind f))) [
+    | inl is ↦ kept_flag (struct_bit is ∙ ap bit plain ∙ (sym none ∙ flag_same))
+    | inr other ↦ info_of_others other
+  ]
+
+  pub info_wide : is_struct (kind f) ≡ true → flag f ≢ 0 → has_bit_fields r ≡ true → info_word f ≡ record_info r
+  info_wide is some wide =
+      let one : 1 ≡ s.flag = (let low = flag_low in let same = flag_same in omega arith) in
+      kept_flag (struct_bit is ∙ ap bit wide ∙ one)
+
+  -- a flag that says nothing is cleared
+  pub info_cleared : is_struct (kind f) ≡ true → flag f ≢ 0 → has_bit_fields r ≡ false → info_word f % 2 ^ 31 ≡ record_info r
+  info_cleared is some none =
+      let one : s.flag ≡ 1 = (let low = flag_low in let same = flag_same in omega arith) in
+      let canon : canonical_flag r.head (has_bit_fields r) ≡ 0 = struct_bit is ∙ ap bit none in
+      ap (λ (w : ℕ). w % 2 ^ 31) word ∙ cleared (kind_number r.head) (record_vlen r) s.flag (kind_below r.head) (vlen_below r.head r.items few) one
+      ∙ ap (λ (b : ℕ). info (kind_number r.head) (record_vlen r) b) (sym canon)
+
+pub items_few : (strings f : List ℕ) → length (record_of strings f).items < 2 ^ 16
+items_few strings f = omega (arith, count_there strings f, total_low f)
+
+pub unmarked_record : (strings f : List ℕ) → IsFrame f → flag f ≡ 0 → has_bit_fields (record_of strings f) ≡ false
+unmarked_record strings f frame none = unmarked strings f frame (item_total f) none
+
+-- ---- items that have names
+
+member_offset : (flag c : ℕ) → (if flag == 0 then c else c % 2 ^ 24) + 2 ^ 24 * (if flag == 0 then 0 else c / 2 ^ 24) ≡ c
+member_offset flag c = elim (decided (flag == 0)) [ inl none ↦ rw none (omega arith) | inr some ↦ rw some (omega arith) ]
+
+low_half : (b c : ℕ) → b < 2 ^ 32 → (b + 2 ^ 32 * c) % 2 ^ 32 ≡ b
+low_half b c h = omega arith
+
+high_half : (b c : ℕ) → b < 2 ^ 32 → (b + 2 ^ 32 * c) / 2 ^ 32 ≡ c
+high_half b c h = omega arith
+
+named_item : {k : ℕ} → KindIs k → (place : List ℕ → ℕ) (name : List ℕ) (flag a b c : ℕ) → has_item_names k ≡ true → b < 2 ^ 32
+    → words_of place (item_from name k flag a b c) ≡ take (item_words k) (place name ∷ b ∷ c ∷ [])
+unfolding has_item_names item_words item_from
+named_item IsStruct place name flag a b c has low = ap (λ (w : ℕ). place name ∷ b ∷ w ∷ []) (member_offset flag c)
+named_item IsUnion place name flag a b c has low = ap (λ (w : ℕ). place name ∷ b ∷ w ∷ []) (member_offset flag c)
+named_item IsEnum place name flag a b c has low = refl
+named_item IsFuncProto place name flag a b c has low = refl
+named_item IsEnum64 place name flag a b c has low = rw (low_half b c low, high_half b c low) refl
+named_item other place name flag a b c has low = absurd cc
+
+-- the bytes of one item more
+item_more : (o : Order) (old : List ℕ) (place : List ℕ → ℕ) (item : ℕ → TypeItem) (k : ℕ) (ws : List ℕ) → words_of place (item k) ≡ ws
+    → (old ++ bytes_of o (flat_map (words_of place) (tabulate item k))) ++ bytes_of o ws ≡ old ++ bytes_of o (flat_map (words_of place) (tabulate item (k + 1)))
+item_more o old place item k ws e =
+    let f = words_of place in
+    let next : k + 1 ≡ suc k = omega arith in
+    let more : flat_map f (tabulate item (suc k)) ≡ flat_map f (tabulate item k) ++ f (item k) =
+    flat_map-append f (tabulate item k) (item k ∷ []) ∙ ap (λ (t : List ℕ). flat_map f (tabulate item k) ++ t) (append-nil (f (item k))) in
+    pushed_two o old (flat_map f (tabulate item k)) ws
+    ∙ ap (λ (t : List ℕ). old ++ bytes_of o (flat_map f (tabulate item k) ++ t)) (sym e)
+    ∙ rw next (ap (λ (t : List ℕ). old ++ bytes_of o t) (sym more))
+
+abbrev pub items_to : (List ℕ → ℕ) → List ℕ → List ℕ → ℕ → List ℕ
+items_to place strings f k = flat_map (words_of place) (tabulate (item_in strings f) k)
+
+pub named_item_more : (o : Order) (old : List ℕ) (place : List ℕ → ℕ) (strings f : List ℕ) (size count k offset at b c : ℕ) → IsFrame f → HasNamedItems f size count
+    → offset ≡ slice_index f (3 + size * k) → at ≡ place (text_from strings offset) → b ≡ slice_index f (4 + size * k) → c ≡ slice_index f (5 + size * k)
+    → (old ++ bytes_of o (items_to place strings f k)) ++ bytes_of o (take size (at ∷ b ∷ c ∷ [])) ≡ old ++ bytes_of o (items_to place strings f (k + 1))
+named_item_more o old place strings f size count k offset at b c frame items offset_is at_is b_is c_is =
+    let j : 3 + item_words (kind f) * k ≡ 3 + size * k = rw items.words refl in
+    let second : 3 + size * k + 1 ≡ 4 + size * k = omega arith in
+    let third : 3 + size * k + 2 ≡ 5 + size * k = omega arith in
+    let its : item_in strings f k ≡ item_from (text_from strings offset) (kind f) (flag f) offset b c = rw (j, second, third, offset_is, b_is, c_is) refl in
+    let low : b < 2 ^ 32 = rw b_is (frame.words (4 + size * k)) in
+    item_more o old place (item_in strings f) k (take size (at ∷ b ∷ c ∷ []))
+    (ap (words_of place) its ∙ named_item (known f frame) place (text_from strings offset) (flag f) offset b c items.named low
+    ∙ ap (λ (n : ℕ). take n (place (text_from strings offset) ∷ b ∷ c ∷ [])) items.words ∙ ap (λ (p : ℕ). take size (p ∷ b ∷ c ∷ [])) (sym at_is))
+
+-- ---- what follows the third word, where items have no names
+
+abbrev IsEntry : TypeItem → Type 0
+IsEntry (Entry target offset size) = ⊤
+IsEntry _ = ⊥
+
+entry_read : {k : ℕ} → KindIs k → (name : List ℕ) (flag a b c : ℕ) → has_item_names k ≡ false → IsEntry (item_from name k flag a b c)
+unfolding has_item_names item_from
+entry_read IsStruct name flag a b c none = absurd cc
+entry_read IsUnion name flag a b c none = absurd cc
+entry_read IsEnum name flag a b c none = absurd cc
+entry_read IsFuncProto name flag a b c none = absurd cc
+entry_read IsEnum64 name flag a b c none = absurd cc
+entry_read other name flag a b c none = tt
+
+entry_words : (place : List ℕ → ℕ) (strings : List ℕ) (flag : ℕ) (x : TypeItem) (ws : List ℕ) → IsEntry x → ItemSpells strings flag x ws → ws ≡ words_of place x
+entry_words place strings flag (Entry target offset size) ws is s = s
+entry_words place strings flag x ws is s = absurd is
+
+entries_words : (place : List ℕ → ℕ) (strings : List ℕ) (flag : ℕ) (xs : List TypeItem) (wss : List (List ℕ)) → All IsEntry xs → AllZip (ItemSpells strings flag) xs wss
+    → concat wss ≡ flat_map (words_of place) xs
+entries_words place strings flag [] [] is s = refl
+entries_words place strings flag [] (ws ∷ wss) is s = absurd s
+entries_words place strings flag (x ∷ xs) [] is s = absurd s
+entries_words place strings flag (x ∷ xs) (ws ∷ wss) is s =
+    rw (entry_words place strings flag x ws (All-head IsEntry x xs is) s.0, entries_words place strings flag xs wss (All-tail IsEntry x xs is) s.1) refl
+
+pub rest_words : (place : List ℕ → ℕ) (strings f : List ℕ) → IsFrame f → Spells strings (record_of strings f) f → has_item_names (kind f) ≡ false
+    → drop 3 f ≡ record_tail place (record_of strings f)
+rest_words place strings f frame s none =
+    let r = record_of strings f in
+    let entries : All IsEntry r.items = All-tabulate IsEntry (item_in strings f) (item_total f) (λ k low. entry_read (known f frame) _ (flag f) _ _ _ none) in
+    ap (drop 3) s.whole ∙ ap (λ (t : List ℕ). head_tail r.head ++ t) (entries_words place strings s.flag r.items s.item_words entries s.items)
+
+pub rest_more : (o : Order) (old f : List ℕ) (k w : ℕ) → 3 + k < length f → w ≡ slice_index f (3 + k)
+    → (old ++ bytes_of o (take k (drop 3 f))) ++ word32 o w ≡ old ++ bytes_of o (take (k + 1) (drop 3 f))
+rest_more o old f k w low is =
+    let next : k + 1 ≡ suc k = omega arith in
+    let inside : k < length (drop 3 f) = omega (arith, length-drop 3 f) in
+    let here : w ≡ get_or (drop 3 f) k 0 = is ∙ sym (get_or-drop 3 f k 0) in
+    rw here (
+    ap (λ (t : List ℕ). (old ++ bytes_of o (take k (drop 3 f))) ++ t) (sym (append-nil (word32 o (get_or (drop 3 f) k 0))))
+    ∙ pushed_two o old (take k (drop 3 f)) (get_or (drop 3 f) k 0 ∷ [])
+    ∙ ap (λ (t : List ℕ). old ++ bytes_of o t) (rw next (sym (take-suc (drop 3 f) k 0 inside))))
+
+-- ---- a record
+
+no_tail : {k : ℕ} → KindIs k → (name : List ℕ) (third flag vlen next fourth fifth : ℕ) → has_item_names k ≡ true → head_tail (head_from name k third flag vlen next fourth fifth) ≡ []
+unfolding has_item_names head_from
+no_tail IsStruct name third flag vlen next fourth fifth has = refl
+no_tail IsUnion name third flag vlen next fourth fifth has = refl
+no_tail IsEnum name third flag vlen next fourth fifth has = refl
+no_tail IsFuncProto name third flag vlen next fourth fifth has = refl
+no_tail IsEnum64 name third flag vlen next fourth fifth has = refl
+no_tail other name third flag vlen next fourth fifth has = absurd cc
+
+pub items_are_tail : (place : List ℕ → ℕ) (strings f : List ℕ) → IsFrame f → has_item_names (kind f) ≡ true
+    → record_items place (record_of strings f) ≡ record_tail place (record_of strings f)
+items_are_tail place strings f frame has =
+    let r = record_of strings f in
+    let tail : head_tail r.head ≡ [] = no_tail (known f frame) _ _ _ _ _ _ _ has in
+    ap (λ (t : List ℕ). t ++ record_items place r) (sym tail)
+
+-- the first three words, and what follows them
+pub record_pushed : (o : Order) (old : List ℕ) (place : List ℕ → ℕ) (strings f : List ℕ) (at info third : ℕ) → HasNulEnds strings → Spells strings (record_of strings f) f
+    → at ≡ place (text_from strings (name_word f)) → info ≡ record_info (record_of strings f) → third ≡ third_word f
+    → (old ++ bytes_of o (at ∷ info ∷ third ∷ [])) ++ bytes_of o (record_tail place (record_of strings f)) ≡ old ++ bytes_of o (record_words place (record_of strings f))
+record_pushed o old place strings f at info third ends s ate ie te =
+    let r = record_of strings f in
+    let name : at ≡ place (head_name r.head) = ate ∙ ap place (sym (head_name_is strings r f ends s)) in
+    let size : third ≡ head_third r.head = te ∙ ap (λ (t : List ℕ). slice_index t 2) s.whole in
+    pushed_two o old (at ∷ info ∷ third ∷ []) (record_tail place r)
+    ∙ ap (λ (w : ℕ). old ++ bytes_of o (w ∷ info ∷ third ∷ record_tail place r)) name
+    ∙ ap (λ (w : ℕ). old ++ bytes_of o (place (head_name r.head) ∷ w ∷ third ∷ record_tail place r)) ie
+    ∙ ap (λ (w : ℕ). old ++ bytes_of o (place (head_name r.head) ∷ record_info r ∷ w ∷ record_tail place r)) size
+
+-- ---- all records
+
+pub record_more : (from to : Order) (place : List ℕ → ℕ) (types strings places : List ℕ) (i : ℕ) → i < length places
+    → section_of to (map (record_words place) (records_at from types strings (take i places))) ++ bytes_of to (record_words place (record_of strings (frame_at from types (get_or places i 0))))
+    ≡ section_of to (map (record_words place) (records_at from types strings (take (i + 1) places)))
+record_more from to place types strings places i low =
+    let words : ℕ → List ℕ = λ pos. record_words place (record_of strings (frame_at from types pos)) in
+    let all : (ps : List ℕ) → List (List ℕ) = λ ps. map (record_words place) (records_at from types strings ps) in
+    let pos = get_or places i 0 in
+    let next : i + 1 ≡ suc i = omega arith in
+    let more : take (i + 1) places ≡ take i places ++ pos ∷ [] = rw next (take-suc places i 0 low) in
+    let split : all (take i places ++ pos ∷ []) ≡ all (take i places) ++ words pos ∷ [] = last_record (record_words place) (record_of strings) (frame_at from types) (take i places) pos in
+    sym (ap (λ (ps : List ℕ). section_of to (all ps)) more ∙ ap (section_of to) split
+    ∙ flat_map-append (bytes_of to) (all (take i places)) (words pos ∷ [])
+    ∙ ap (λ (t : List ℕ). section_of to (all (take i places)) ++ t) (append-nil (bytes_of to (words pos))))
+  where
+    last_record : {W X Y Z : Type 0} (f : Y → Z) (g : X → Y) (h : W → X) (ps : List W) (p : W) → map f (map g (map h (ps ++ p ∷ []))) ≡ map f (map g (map h ps)) ++ f (g (h p)) ∷ []
+    last_record f g h [] p = refl
+    last_record f g h (q ∷ ps) p = ap (λ t. f (g (h q)) ∷ t) (last_record f g h ps p)
+
+-- ---- room
+
+pub struct_room : (f : List ℕ) (k : ℕ) → IsFrame f → is_struct (kind f) ≡ true → k < vlen f → 5 + 3 * k < length f
+struct_room f k frame is low = let size = rw (struct_words (known f frame) is) at (room f frame) in omega arith
+
+pub struct_total : (f : List ℕ) → IsFrame f → is_struct (kind f) ≡ true → item_total f ≡ vlen f
+struct_total f frame is = rw (struct_words (known f frame) is) refl
+
+two_or_three_words : {k : ℕ} → KindIs k → has_item_names k ≡ true → (item_words k ≡ 2) ⊎ (item_words k ≡ 3)
+unfolding has_item_names item_words
+two_or_three_words IsStruct has = inr refl
+two_or_three_words IsUnion has = inr refl
+two_or_three_words IsEnum has = inl refl
+two_or_three_words IsFuncProto has = inl refl
+two_or_three_words IsEnum64 has = inr refl
+two_or_three_words other has = absurd cc
+
+pub two_or_three : (f : List ℕ) → IsFrame f → has_item_names (kind f) ≡ true → (item_words (kind f) ≡ 2) ⊎ (item_words (kind f) ≡ 3)
+two_or_three f frame has = two_or_three_words (known f frame) has
+
+pub item_room : (f : List ℕ) (size count k : ℕ) → IsFrame f → HasNamedItems f size count → k < count → (2 ≤ size) × (3 + size * k + size ≤ length f)
+item_room f size count k frame items low =
+    let all = items.all in
+    elim (two_or_three f frame items.named) [
+      | inl two ↦ let is : size ≡ 2 = sym items.words ∙ two in rw is (lit≤ tt, let its = rw two at (room f frame) in omega arith)
+      | inr three ↦ let is : size ≡ 3 = sym items.words ∙ three in rw is (lit≤ tt, let its = rw three at (room f frame) in omega arith)
+    ]

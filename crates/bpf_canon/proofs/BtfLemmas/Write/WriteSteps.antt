@@ -1,0 +1,128 @@
+-- Words and records that are appended one after the other.
+use Rattle.std.proofs.Common.{◌≡◌, ℕ, zero, suc, ◌+◌, ◌-◌, ◌<◌, ◌≤◌, Bool, true, false, List, [], ◌∷◌, ◌++◌, length, map, take, refl, sym, ap, subst, ◌∙◌, inl, inr, append_assoc, arith, Some}
+use Rattle.std.specs.Prelude.{slice_get, not}
+use Rattle.std.specs.List.{flat_map, list_any}
+use Rattle.std.proofs.lemmas.Bool.{cases_eq, ne_eqb}
+use Rattle.std.proofs.lemmas.List.{map-append, append-nil}
+use Rattle.std.proofs.lemmas.List.Concat.{flat_map-append}
+use Rattle.std.proofs.lemmas.List.Folds.{list_any-append}
+use Rattle.bpf_words.specs.declared.Order.{Order}
+use Rattle.bpf_words.specs.declared.Order.TheVariants.{Little, Big}
+use Rattle.bpf_words.specs.Words.{word16, word32}
+use Rattle.btf_raw.specs.Header.{header, TYPES_LIMIT}
+use Rattle.btf_raw.specs.Frames.{bytes_of, section_of}
+use Rattle.btf_types.specs.Values.{TypeHead, KFunc, TypeItem, Member, EnumValue, Value64, Param, Entry, TypeRecord}
+use Rattle.btf_types.specs.Names.{names, kept, table_of}
+use Rattle.btf_types.specs.strings.SharedNames.{hosts_of, shared_among}
+use Rattle.btf_types.specs.Spelling.{head_third, record_vlen}
+use Rattle.btf_types.specs.judge.Checks.{TypeFacts}
+use Rattle.btf_types.specs.Good.{has_width, has_bit_fields, MemberIsGood, IsGoodRecord, IsGood, facts}
+use Rattle.btf_types.specs.tables.TableWords.{record_at, no_record}
+use Rattle.btf_types.proofs.Members.{Has, any_from_Has}
+use Rattle.bpf_canon.specs.btf.write.BtfWords.{head_vlen, head_words, MemberFits}
+use Rattle.bpf_canon.specs.btf.CanonicalBtf.{canonical, canonical_types, item_words, record_words}
+use Rattle.bpf_canon.proofs.BtfLemmas.CanonicalFiles.{canonical_size}
+use Rattle.btf_types.proofs.TableLemmas.TableWalk.{take_more, get_is, get_or_is, records_more}
+
+-- ---- words
+
+pub pushed_two : (o : Order) (old xs ys : List ℕ) → (old ++ bytes_of o xs) ++ bytes_of o ys ≡ old ++ bytes_of o (xs ++ ys)
+pushed_two o old xs ys = append_assoc old (bytes_of o xs) (bytes_of o ys) ∙ ap (λ (t : List ℕ). old ++ t) (sym (flat_map-append (word32 o) xs ys))
+
+header_words : (o : Order) (t s : ℕ) → word16 o 0xeb9f ++ ((1 ∷ 0 ∷ []) ++ bytes_of o (24 ∷ 0 ∷ t ∷ t ∷ s ∷ [])) ≡ header o 24 0 t t s
+header_words Little t s = refl
+header_words Big t s = refl
+
+-- ---- records
+
+pub item_pushed : (o : Order) (old : List ℕ) (place : List ℕ → ℕ) (xs : List TypeItem) (k : ℕ) (x : TypeItem) → slice_get xs k ≡ Some x
+    → (old ++ bytes_of o (flat_map (item_words place) (take k xs))) ++ bytes_of o (item_words place x) ≡ old ++ bytes_of o (flat_map (item_words place) (take (k + 1) xs))
+item_pushed o old place xs k x e =
+    let f = item_words place in
+    let next : k + 1 ≡ suc k = omega arith in
+    let more : take (k + 1) xs ≡ take k xs ++ x ∷ [] = rw next (take_more xs k x e) in
+    let words : flat_map f (take (k + 1) xs) ≡ flat_map f (take k xs) ++ f x =
+    ap (flat_map f) more ∙ flat_map-append f (take k xs) (x ∷ []) ∙ ap (λ (t : List ℕ). flat_map f (take k xs) ++ t) (append-nil (f x)) in
+    pushed_two o old (flat_map f (take k xs)) (f x) ∙ ap (λ (t : List ℕ). old ++ bytes_of o t) (sym words)
+
+vlen_is : (h : TypeHead) (xs : List TypeItem) → head_vlen h (length xs) ≡ record_vlen (record { head = h; items = xs })
+vlen_is (KFunc name linkage target) xs = refl
+vlen_is h xs = refl
+
+pub record_pushed : (o : Order) (old : List ℕ) (place : List ℕ → ℕ) (r : TypeRecord) (count : ℕ) → count ≡ length r.items
+    → (old ++ bytes_of o (head_words place r.head count (has_bit_fields r))) ++ bytes_of o (flat_map (item_words place) r.items) ≡ old ++ bytes_of o (record_words place r)
+record_pushed o old place r count e =
+    pushed_two o old (head_words place r.head count (has_bit_fields r)) (flat_map (item_words place) r.items)
+    ∙ rw (e, vlen_is r.head r.items) refl
+
+pub section_pushed : (o : Order) (place : List ℕ → ℕ) (v : List TypeRecord) (i : ℕ) → i < length v
+    → section_of o (map (record_words place) (take i v)) ++ bytes_of o (record_words place (record_at v (i + 1))) ≡ section_of o (map (record_words place) (take (i + 1) v))
+section_pushed o place v i h =
+    let f = record_words place in
+    let r = record_at v (i + 1) in
+    let more : map f (take (i + 1) v) ≡ map f (take i v) ++ f r ∷ [] = ap (map f) (records_more v i h) ∙ map-append f (take i v) (r ∷ []) in
+    sym (ap (section_of o) more ∙ flat_map-append (bytes_of o) (map f (take i v)) (f r ∷ [])
+    ∙ ap (λ (t : List ℕ). section_of o (map f (take i v)) ++ t) (append-nil (bytes_of o (f r))))
+
+-- ---- what is known of a record of a table
+
+pub record_good : (v : List TypeRecord) (id : ℕ) → IsGood v → 0 < id → id ≤ length v → IsGoodRecord (facts v) (record_at v id)
+record_good v id good some low =
+    let inside : id - 1 < length v = omega arith in
+    subst (IsGoodRecord (facts v)) (get_is v (id - 1) no_record inside) (good.each (id - 1) no_record inside)
+
+item_in : (xs : List TypeItem) (k : ℕ) (x : TypeItem) → slice_get xs k ≡ Some x → Has xs x
+item_in [] k x e = absurd cc
+item_in (y ∷ ys) zero x e = let same : y ≡ x = cc in inl same
+item_in (y ∷ ys) (suc k) x e = inr (item_in ys k x e)
+
+-- whether some item has a width, one item after the other
+pub width_found : (xs : List TypeItem) (k : ℕ) (x : TypeItem) → slice_get xs k ≡ Some x → has_width x ≡ true → list_any has_width xs ≡ true
+width_found xs k x e wide = any_from_Has has_width xs x (item_in xs k x e) wide
+
+pub width_missed : (xs : List TypeItem) (k : ℕ) (x : TypeItem) → slice_get xs k ≡ Some x → has_width x ≡ false → list_any has_width (take k xs) ≡ false → list_any has_width (take (k + 1) xs) ≡ false
+width_missed xs k x e none before =
+    let next : k + 1 ≡ suc k = omega arith in
+    let more : take (k + 1) xs ≡ take k xs ++ x ∷ [] = rw next (take_more xs k x e) in
+    ap (list_any has_width) more ∙ list_any-append has_width (take k xs) (x ∷ []) ∙ rw (before, none) refl
+
+member_room : (types : List TypeFacts) (size : ℕ) (b : Bool) (x : TypeItem) → MemberIsGood types size b x → (has_width x ≡ true → b ≡ true) → MemberFits x
+member_room types size b (Member name target bit_offset width) good some = elim (cases_eq width 0) [
+  | inl none ↦ inl none
+  | inr other ↦ inr (good.1 (some (ap not (ne_eqb width 0 other)))).0
+]
+member_room types size b (EnumValue name value) good some = tt
+member_room types size b (Value64 name value) good some = tt
+member_room types size b (Param name target) good some = tt
+member_room types size b (Entry target offset bytes) good some = tt
+
+pub item_fits : (v : List TypeRecord) (id k : ℕ) (x : TypeItem) → IsGood v → 0 < id → id ≤ length v → slice_get (record_at v id).items k ≡ Some x → MemberFits x
+item_fits v id k x good some low e =
+    let r = record_at v id in
+    let right = record_good v id good some low in
+    let at = get_or_is r.items k x x e in
+    let size = head_third r.head in
+    member_room (facts v) size (has_bit_fields r) x (subst (MemberIsGood (facts v) size (has_bit_fields r)) at.1 (right.members k x at.0))
+    (any_from_Has has_width r.items x (item_in r.items k x e))
+
+-- ---- the whole
+
+pub types_fit : (o : Order) (v : List TypeRecord) (ks : List (List ℕ)) (types : List ℕ) → IsGood v → ks ≡ kept (names v)
+    → types ≡ section_of o (map (record_words (shared_among ks)) v) → length types ≤ TYPES_LIMIT
+types_fit o v ks types good ke te =
+    let same : types ≡ canonical_types o v = te ∙ ap (λ (l : List (List ℕ)). section_of o (map (record_words (shared_among l)) v)) ke in
+    omega (arith, ap length same, canonical_size o v good, good.size)
+
+abbrev types_with : Order → List TypeRecord → List (List ℕ) → List ℕ
+types_with o v ks = section_of o (map (record_words (shared_among ks)) v)
+
+abbrev file_with : Order → List TypeRecord → List (List ℕ) → List ℕ
+file_with o v ks =
+    header o 24 0 (length (types_with o v ks)) (length (types_with o v ks)) (length (table_of (hosts_of ks))) ++ types_with o v ks ++ table_of (hosts_of ks)
+
+pub written : (o : Order) (v : List TypeRecord) (ks : List (List ℕ)) (types front more whole : List ℕ) (t s : ℕ) → ks ≡ kept (names v)
+    → types ≡ section_of o (map (record_words (shared_among ks)) v) → t ≡ length types → s ≡ length (table_of (hosts_of ks))
+    → front ≡ header o 24 0 t t s → more ≡ front ++ types → whole ≡ more ++ table_of (hosts_of ks) → whole ≡ canonical o v
+written o v ks types front more whole t s ke te tl sl e1 e2 e3 =
+    let its : whole ≡ file_with o v ks = e3 ∙ rw (e2, e1, tl, sl, te) refl in
+    its ∙ ap (file_with o v) ke

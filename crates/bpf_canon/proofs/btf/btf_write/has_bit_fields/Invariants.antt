@@ -1,8 +1,0 @@
-use Rattle.std.proofs.Common.{◌≡◌, false, take}
-use Rattle.std.specs.List.{list_any}
-use Rattle.btf_types.specs.Good.{has_width}
-use Rattle.btf_types.specs.tables.TableWords.{record_at}
-use Rattle.bpf_canon.proofs.btf.btf_write.has_bit_fields.Given as goal
-
-abbrev pub invariant-loop-k : goal.invariant-loop-k
-invariant-loop-k g l = list_any has_width (take l.k (record_at (g.T.TypeTable.meaning l.table) l.id).items) ≡ false

@@ -1,6 +1,0 @@
-use Rattle.std.proofs.Common.{◌≡◌, take}
-use Rattle.btf_types.specs.Names.{kept, names}
-use Rattle.bpf_canon.proofs.btf.kept_names.kept_names.Given as goal
-
-abbrev pub invariant-loop-index : goal.invariant-loop-index
-invariant-loop-index g l = l.found ≡ kept (names (take l.index (g.T.TypeTable.meaning l.table)))

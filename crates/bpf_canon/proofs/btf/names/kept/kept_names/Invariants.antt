@@ -1,0 +1,6 @@
+use Rattle.std.proofs.Common.{◌≡◌, take}
+use Rattle.btf_types.specs.Names.{kept, names}
+use Rattle.bpf_canon.proofs.btf.names.kept.kept_names.Given as goal
+
+abbrev pub invariant-loop-index : goal.invariant-loop-index
+invariant-loop-index g l = l.found ≡ kept (names (take l.index (g.T.TypeTable.meaning l.table)))

@@ -1,5 +1,0 @@
-use Rattle.bpf_canon.proofs.BtfLemmas.UsedSteps.{CountedTo}
-use Rattle.bpf_canon.proofs.btf.shared_strings.used_offsets.UsedOffsets.new.Given as goal
-
-abbrev pub invariant-loop-word : goal.invariant-loop-word
-invariant-loop-word g l = CountedTo l.fn.marks l.before.items l.count l.word

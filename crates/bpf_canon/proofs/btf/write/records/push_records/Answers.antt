@@ -1,0 +1,49 @@
+use Rattle.std.proofs.Common.{◌++◌, ◌<◌, ℕ, List, length, map, take, get_or, ap, ◌∙◌, append_assoc, arith}
+use Rattle.std.specs.List.{Contains}
+use Rattle.std.proofs.lemmas.List.{take_all}
+use Rattle.btf_raw.specs.Frames.{bytes_of, section_of}
+use Rattle.btf_types.specs.strings.SharedNames.{shared_place}
+use Rattle.btf_types.specs.Reading.{records_at}
+use Rattle.btf_types.proofs.TableLemmas.TableReads.{stands_at}
+use Rattle.bpf_canon.specs.btf.CanonicalBtf.{record_words}
+use Rattle.bpf_canon.specs.btf.write.KeptFrames.{record_in}
+use Rattle.bpf_canon.specs.btf.strings.NamesByPlace.{placed_texts}
+use Rattle.bpf_canon.proofs.BtfLemmas.Write.RecordNames.{record_offsets}
+use Rattle.bpf_canon.proofs.BtfLemmas.Write.RecordWords.{record_more}
+use Rattle.bpf_canon.proofs.btf.write.records.push_records.Goals as goal
+
+pub push_record-requires-clause-record : goal.push_record-requires-clause-record
+push_record-requires-clause-record g c =
+    let s = c.args.sections.now in
+    let low : c.loop-pos.pos-index < length s.places.now = omega arith in
+    stands_at s.order s.types.now s.strings.now s.places.now c.loop-pos.pos-index c.requires.table low
+
+pub push_record-requires-clause-noted : goal.push_record-requires-clause-noted
+push_record-requires-clause-noted g c =
+    let s = c.args.sections.now in
+    let low : c.loop-pos.pos-index < length s.places.now = omega arith in
+    record {
+      strings = c.requires.strings;
+      offsets = record_offsets (Contains c.args.names.now.offsets) s.order s.types.now s.places.now c.loop-pos.pos-index low c.requires.noted;
+    }
+
+pub loop-pos-preserved : goal.loop-pos-preserved
+loop-pos-preserved g c =
+    let s = c.args.sections.now in
+    let old = c.args.out.now.items in
+    let place : List ℕ → ℕ = shared_place (placed_texts c.args.names.now) in
+    let before : List ℕ = section_of c.args.to (map (record_words place) (records_at s.order s.types.now s.strings.now (take c.loop-pos.pos-index s.places.now))) in
+    let more : List ℕ = bytes_of c.args.to (record_words place (record_in s (get_or s.places.now c.loop-pos.pos-index 0))) in
+    let low : c.loop-pos.pos-index < length s.places.now = omega arith in
+    c.in_ok-push_record.ensures
+    ∙ ap (λ (t : List ℕ). t ++ more) c.loop-pos.invariant
+    ∙ append_assoc old before more
+    ∙ ap (λ (t : List ℕ). old ++ t) (record_more s.order c.args.to place s.types.now s.strings.now s.places.now c.loop-pos.pos-index low)
+
+pub returns : goal.returns
+returns g c =
+    let s = c.args.sections.now in
+    let place : List ℕ → ℕ = shared_place (placed_texts c.args.names.now) in
+    c.loop-pos.invariant
+    ∙ ap (λ (ps : List ℕ). c.args.out.now.items ++ section_of c.args.to (map (record_words place) (records_at s.order s.types.now s.strings.now ps)))
+    (take_all c.loop-pos.pos-index s.places.now (omega arith))

@@ -1,0 +1,2 @@
+-- The string table from the texts of names.
+pub mod Interned

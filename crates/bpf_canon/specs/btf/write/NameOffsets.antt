@@ -1,0 +1,32 @@
+-- The offsets of names in the frames of a section. Contracts of private functions cite it.
+use Rattle.std.specs.Prelude.{◌≡◌, ℕ, ◌+◌, ◌*◌, List, [], ◌∷◌, IsTrue, slice_index, if◌then◌else◌}
+use Rattle.std.specs.List.{All, Contains, flat_map}
+use Rattle.btf_raw.specs.Kinds.{item_words}
+use Rattle.btf_raw.specs.Frames.{name_word, kind, vlen}
+use Rattle.btf_types.specs.judge.Checks.{has_item_names}
+use Rattle.btf_types.specs.declared.tables.table.FileSections.{FileSections}
+use Rattle.btf_types.specs.Reading.{tabulate}
+use Rattle.bpf_canon.specs.btf.write.KeptFrames.{frame_in}
+use Rattle.bpf_canon.specs.btf.strings.NamesByPlace.{NamesByPlace}
+
+-- the first word of item k
+abbrev pub item_word : List ℕ → ℕ → ℕ
+item_word frame k = slice_index frame (3 + item_words (kind frame) * k)
+
+-- the offsets of a record's names: its own, then those of its items
+abbrev pub name_offsets : List ℕ → List ℕ
+name_offsets frame = name_word frame ∷ (if has_item_names (kind frame) then tabulate (item_word frame) (vlen frame) else [])
+
+abbrev pub all_offsets : List (List ℕ) → List ℕ
+all_offsets frames = flat_map name_offsets frames
+
+-- the record has so many items, each with a name and of so many words
+pub record HasNamedItems (frame : List ℕ) (size count : ℕ) : Type 0 where
+  pub named : IsTrue (has_item_names (kind frame))
+  pub words : item_words (kind frame) ≡ size
+  pub all : count ≡ vlen frame
+
+-- the offsets of the names of the record at a place are among those that are noted
+pub record HasNotedNames (names : NamesByPlace) (s : FileSections) (pos : ℕ) : Type 0 where
+  pub strings : names.strings ≡ s.strings.now
+  pub offsets : All (Contains names.offsets) (name_offsets (frame_in s pos))

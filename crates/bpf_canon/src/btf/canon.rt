@@ -1,0 +1,51 @@
+//! The canonical bytes of BTF files.
+ghost use Rattle.std.specs.Prelude.{◌≡◌, List, IfOk, IfErr, MatchResult};
+ghost use Rattle.bpf_words.specs.declared.Order.TheVariants.{Little};
+ghost use Rattle.btf_types.specs.Values.{TypeRecord};
+ghost use Rattle.btf_types.specs.Denotes.{Denotes};
+ghost use Rattle.btf_types.specs.tables.Tables.{Fails};
+ghost use Rattle.bpf_canon.specs.btf.CanonicalBtf.{canonical};
+ghost use Rattle.bpf_canon.specs.btf.BtfLaws.{IsCanonicalBtf};
+
+use crate::btf::write::table::write_btf;
+use bpf_words::Order;
+use btf_types::{BtfError, BtfView};
+use std::alloc::Allocator;
+
+/// The canonical bytes of a BTF file (btf.rst section 2), in little-endian order.
+///
+/// They are a file of the same types, and their own canonical bytes.
+///
+/// # Errors
+///
+/// `Fault` with the first fault of the file; its place counts from the file's first byte. `Memory` where memory was refused.
+pub fn canon_btf<A: Allocator + Copy>(alloc: A, bytes: &[u8]) -> Result<Vec<u8, A>, BtfError>
+    ensures found { IfOk result (λ canon. IsCanonicalBtf bytes.now canon.items) }
+    ensures all { (v : List TypeRecord) → Denotes bytes.now v
+        → MatchResult result (λ canon. canon.items ≡ canonical Little v) (λ e. e ≡ BtfError.Memory) }
+    ensures fault { IfErr result (Fails bytes.now) }
+{
+    canonical_in(alloc, Order::Little, bytes)
+}
+
+/// The canonical bytes of a BTF file (btf.rst section 2) in the order `to`.
+///
+/// In little-endian order they are the answer of [`canon_btf`]. In big-endian order they are what [`write_btf`] writes of the
+/// file's records in that order.
+///
+/// # Errors
+///
+/// `Fault` with the first fault of the file; its place counts from the file's first byte. `Memory` where memory was refused.
+pub fn canonical_in<A: Allocator + Copy>(
+    alloc: A,
+    to: Order,
+    bytes: &[u8],
+) -> Result<Vec<u8, A>, BtfError>
+    ensures ok { IfOk result (λ canon. (v : List TypeRecord) × (Denotes bytes.now v × (canon.items ≡ canonical to v))) }
+    ensures fault { IfErr result (Fails bytes.now) }
+{
+    match BtfView::parse(alloc, bytes) {
+        Ok(table) => Ok(write_btf(alloc, to, &table)?),
+        Err(error) => Err(error),
+    }
+}

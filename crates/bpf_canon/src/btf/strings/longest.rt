@@ -1,0 +1,41 @@
+//! The longest used texts of a section.
+ghost use Rattle.std.specs.Prelude.{◌≡◌, ◌<◌, ◌^◌, IfOk, length};
+ghost use Rattle.btf_raw.specs.Header.{HasNulEnds};
+ghost use Rattle.bpf_canon.specs.btf.strings.Longest.{AreLongestOf};
+
+use crate::btf::strings::tails::{Tail, tail_key};
+use crate::btf::strings::texts::end_of;
+use crate::btf::strings::used_offsets::UsedOffsets;
+use std::alloc::{AllocError, Allocator};
+
+// The longest used text of each string of the section. Those at further offsets of the string are its suffixes.
+pub(crate) fn longest_texts<A: Allocator>(
+    alloc: A,
+    section: &[u8],
+    uses: &UsedOffsets<A>,
+) -> Result<Vec<Tail, A>, AllocError>
+    requires ends { HasNulEnds section.now }
+    requires few { length section.now < 2 ^ 32 }
+    requires whole { length uses.now ≡ length section.now }
+    ensures { IfOk result (λ longest. AreLongestOf section.now uses.now longest.items) }
+{
+    let mut longest = Vec::with_capacity(alloc, uses.count())?;
+    let mut off = 0;
+    'texts: while off < section.len() {
+        if section[off] == 0 || !uses.is_used(off) {
+            off += 1;
+            continue;
+        }
+        let end = end_of(section, off);
+        let text = &section[off..end];
+        let before = &text[..text.len().saturating_sub(8)];
+        longest.push(Tail {
+            key: tail_key(text),
+            before: tail_key(before),
+            start: off as u32,
+            end: end as u32,
+        })?;
+        off = end + 1;
+    }
+    Ok(longest)
+}

@@ -1,0 +1,139 @@
+//! Ranks of sorted texts.
+ghost use Rattle.std.specs.Prelude.{◌≡◌, ◌≢◌, ◌-◌, ◌<◌, ◌≤◌, ◌^◌, ℕ, IfOk, length, map, slice_index};
+ghost use Rattle.std.specs.Int.{w64, to_le_bytes};
+ghost use Rattle.std.specs.List.{All};
+ghost use Rattle.btf_types.specs.strings.CommonTails as spec;
+ghost use Rattle.bpf_canon.specs.btf.strings.Ranks.{AreCommon, AreNextHosts, AreLower};
+ghost use Rattle.bpf_canon.specs.btf.strings.Tails.{tail_text, HasKey};
+
+use crate::btf::strings::tails::{Tail, text_of};
+use std::alloc::{AllocError, Allocator};
+
+// How many bytes two texts have in common at their ends.
+pub(crate) fn common_tail(a: &[u8], b: &[u8]) -> usize
+    ensures common { result ≡ spec.common_tail a.now b.now }
+    ensures first { result ≤ length a.now }
+{
+    let most = a.len().min(b.len());
+    for n in 0..most {
+        if a[a.len() - 1 - n] != b[b.len() - 1 - n] {
+            return n;
+        }
+    }
+    most
+}
+
+// How many of their last eight bytes two keys have in common.
+fn common_bytes(a: u64, b: u64) -> usize
+    ensures few { result ≤ 8 }
+    ensures same { (j : ℕ) → j < result → slice_index (to_le_bytes w64 a) (7 - j) ≡ slice_index (to_le_bytes w64 b) (7 - j) }
+    ensures differ { result < 8 → slice_index (to_le_bytes w64 a) (7 - result) ≢ slice_index (to_le_bytes w64 b) (7 - result) }
+{
+    (a ^ b).leading_zeros() as usize / 8
+}
+
+// How many bytes the texts of two tails have in common at their ends. Mostly their keys tell, and the section isn't read.
+fn common_of(section: &[u8], a: &Tail, b: &Tail) -> usize
+    requires first { HasKey section.now a.now }
+    requires second { HasKey section.now b.now }
+    ensures common { result ≡ spec.common_tail (tail_text section.now a.now) (tail_text section.now b.now) }
+    ensures inside { result ≤ length (tail_text section.now a.now) }
+{
+    let (first, second) = (text_of(section, a), text_of(section, b));
+    let common = common_bytes(a.key, b.key)
+        .min(first.len())
+        .min(second.len());
+    if common < 8 {
+        return common;
+    }
+    let before = common_bytes(a.before, b.before)
+        .min(first.len() - 8)
+        .min(second.len() - 8);
+    if before < 8 {
+        return 8 + before;
+    }
+    common_tail(first, second)
+}
+
+// How much each text has in common with the one before it.
+pub(crate) fn common_tails<A: Allocator>(
+    alloc: A,
+    section: &[u8],
+    sorted: &[Tail],
+) -> Result<Vec<u32, A>, AllocError>
+    requires section { length section.now < 2 ^ 32 }
+    requires keys { All (HasKey section.now) sorted.now }
+    ensures { IfOk result (λ common. AreCommon (map (tail_text section.now) sorted.now) common.items) }
+{
+    let mut common = Vec::with_capacity(alloc, sorted.len())?;
+    for k in 0..sorted.len() {
+        let here = if k == 0 {
+            0
+        } else {
+            common_of(section, &sorted[k - 1], &sorted[k])
+        };
+        common.push(here as u32)?;
+    }
+    Ok(common)
+}
+
+// The next host of each rank.
+pub(crate) fn next_hosts<A: Allocator>(
+    alloc: A,
+    section: &[u8],
+    sorted: &[Tail],
+    common: &[u32],
+) -> Result<Vec<u32, A>, AllocError>
+    requires common { AreCommon (map (tail_text section.now) sorted.now) common.now }
+    requires few { length sorted.now < 2 ^ 32 }
+    ensures { IfOk result (λ hosts. AreNextHosts (map (tail_text section.now) sorted.now) hosts.items) }
+{
+    let mut hosts = vec![in alloc; 0; sorted.len()]?;
+    for k in (0..sorted.len()).rev() {
+        let mut host = k as u32;
+        if k + 1 < sorted.len() {
+            let len = text_of(section, &sorted[k]).len();
+            if common[k + 1] as usize == len {
+                host = hosts[k + 1];
+            }
+        }
+        hosts[k] = host;
+    }
+    Ok(hosts)
+}
+
+// The last rank before each with less in common.
+pub(crate) fn lower_ranks<A: Allocator>(alloc: A, common: &[u32]) -> Result<Vec<u32, A>, AllocError>
+    requires first { slice_index common.now 0 ≡ 0 }
+    requires few { length common.now < 2 ^ 32 }
+    ensures { IfOk result (λ lower. AreLower common.now lower.items) }
+{
+    let mut lower = Vec::with_capacity(alloc, common.len())?;
+    for k in 0..common.len() {
+        let mut before = k;
+        if common[k] != 0 {
+            before = k - 1;
+            'back: while common[before] >= common[k] {
+                before = lower[before] as usize;
+            }
+        }
+        lower.push(before as u32)?;
+    }
+    Ok(lower)
+}
+
+// From a rank back to the first of those from which on so much is common.
+pub(crate) fn first_rank(common: &[u32], lower: &[u32], from: usize, len: u32) -> usize
+    requires lower { AreLower common.now lower.now }
+    requires inside { from < length common.now }
+    requires some { 0 < len }
+    ensures before { result ≤ from }
+    ensures common { (j : ℕ) → result < j → j ≤ from → len ≤ slice_index common.now j }
+    ensures less { slice_index common.now result < len }
+{
+    let mut rank = from;
+    'back: while common[rank] >= len {
+        rank = lower[rank] as usize;
+    }
+    rank
+}

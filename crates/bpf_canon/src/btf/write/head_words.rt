@@ -1,0 +1,143 @@
+//! The numbers of a record's head, as they stand in its words (btf.rst section 2.2).
+ghost use Rattle.std.specs.Prelude.{◌≡◌, ◌+◌, ◌*◌, ◌<◌, ◌^◌};
+ghost use Rattle.btf_types.specs.Spelling as spec;
+ghost use Rattle.btf_types.specs.Values.{head_value};
+ghost use Rattle.bpf_canon.specs.btf.write.BtfWords as words;
+ghost use Rattle.bpf_canon.specs.btf.CanonicalBtf.{canonical_flag};
+
+use btf_raw::{
+    ARRAY, CONST, DATASEC, DECL_TAG, ENUM, ENUM64, FLOAT, FUNC, FUNC_PROTO, FWD, INT, PTR,
+    RESTRICT, STRUCT, TYPE_TAG, TYPEDEF, UNION, VAR, VOLATILE,
+};
+use btf_types::{Encoding, Head, Linkage};
+
+// The number of the head's kind.
+pub(crate) fn kind_number(head: Head<'_>) -> u8
+    ensures { result ≡ spec.kind_number (head_value head.entry) }
+{
+    match head {
+        Head::KInt { .. } => INT,
+        Head::KPtr { .. } => PTR,
+        Head::KArray { .. } => ARRAY,
+        Head::KStruct { .. } => STRUCT,
+        Head::KUnion { .. } => UNION,
+        Head::KEnum { .. } => ENUM,
+        Head::KFwd { .. } => FWD,
+        Head::KTypedef { .. } => TYPEDEF,
+        Head::KVolatile { .. } => VOLATILE,
+        Head::KConst { .. } => CONST,
+        Head::KRestrict { .. } => RESTRICT,
+        Head::KFunc { .. } => FUNC,
+        Head::KFuncProto { .. } => FUNC_PROTO,
+        Head::KVar { .. } => VAR,
+        Head::KDatasec { .. } => DATASEC,
+        Head::KFloat { .. } => FLOAT,
+        Head::KDeclTag { .. } => DECL_TAG,
+        Head::KTypeTag { .. } => TYPE_TAG,
+        Head::KEnum64 { .. } => ENUM64,
+    }
+}
+
+// The third word: a size, a type or 0.
+pub(crate) fn head_third(head: Head<'_>) -> u32
+    ensures { result ≡ spec.head_third (head_value head.entry) }
+{
+    match head {
+        Head::KArray { .. } | Head::KFwd { .. } => 0,
+        Head::KInt { size, .. }
+        | Head::KStruct { size, .. }
+        | Head::KUnion { size, .. }
+        | Head::KEnum { size, .. }
+        | Head::KDatasec { size, .. }
+        | Head::KFloat { size, .. }
+        | Head::KEnum64 { size, .. } => size,
+        Head::KPtr { target }
+        | Head::KTypedef { target, .. }
+        | Head::KVolatile { target }
+        | Head::KConst { target }
+        | Head::KRestrict { target }
+        | Head::KFunc { target, .. }
+        | Head::KFuncProto { target }
+        | Head::KVar { target, .. }
+        | Head::KDeclTag { target, .. }
+        | Head::KTypeTag { target, .. } => target,
+    }
+}
+
+// kind_flag: of a STRUCT or UNION 1 exactly where it has bit-fields, of a kind whose value it is part of as the value has it.
+fn kind_flag(head: Head<'_>, bit_fields: bool) -> u32
+    ensures is { result ≡ canonical_flag (head_value head.entry) bit_fields }
+    ensures bit { result < 2 }
+{
+    u32::from(match head {
+        Head::KStruct { .. } | Head::KUnion { .. } => bit_fields,
+        Head::KEnum { signed, .. } | Head::KEnum64 { signed, .. } => signed,
+        Head::KFwd { is_union, .. } => is_union,
+        Head::KDeclTag { flag, .. } | Head::KTypeTag { flag, .. } => flag,
+        _ => false,
+    })
+}
+
+// The number of a linkage.
+pub(crate) fn linkage_number(linkage: Linkage) -> u32
+    ensures is { result ≡ spec.linkage_number linkage }
+    ensures few { result < 3 }
+{
+    match linkage {
+        Linkage::LStatic => 0,
+        Linkage::LGlobal => 1,
+        Linkage::LExtern => 2,
+    }
+}
+
+// vlen: the linkage of a FUNC, else the number of items.
+fn head_vlen(head: Head<'_>, count: u32) -> u32
+    requires { count < 2 ^ 16 }
+    ensures is { result ≡ words.head_vlen (head_value head.entry) count }
+    ensures fits { result < 2 ^ 16 }
+{
+    match head {
+        Head::KFunc { linkage, .. } => linkage_number(linkage),
+        _ => count,
+    }
+}
+
+// The word info of a head with so many items.
+pub(crate) fn info_word(head: Head<'_>, count: u32, bit_fields: bool) -> u32
+    requires { count < 2 ^ 16 }
+    ensures { result ≡ spec.info (spec.kind_number (head_value head.entry)) (words.head_vlen (head_value head.entry) count) (canonical_flag (head_value head.entry) bit_fields) }
+{
+    head_vlen(head, count)
+        + (u32::from(kind_number(head)) << 24)
+        + (kind_flag(head, bit_fields) << 31)
+}
+
+// The number of an encoding.
+pub(crate) fn encoding_number(encoding: Encoding) -> u32
+    ensures is { result ≡ spec.encoding_number encoding }
+    ensures few { result < 5 }
+{
+    match encoding {
+        Encoding::Plain => 0,
+        Encoding::Signed => 1,
+        Encoding::Char => 2,
+        Encoding::Bool => 4,
+    }
+}
+
+// The word of an INT: its bits, its offset and its encoding.
+pub(crate) fn int_word(encoding: Encoding, offset: u8, bits: u8) -> u32
+    ensures { result ≡ bits + 2 ^ 16 * offset + 2 ^ 24 * spec.encoding_number encoding }
+{
+    u32::from(bits) + (u32::from(offset) << 16) + (encoding_number(encoding) << 24)
+}
+
+// The word of a component, -1 where there is none.
+pub(crate) fn component_word(component: Option<u16>) -> u32
+    ensures { result ≡ spec.component_word component }
+{
+    match component {
+        Some(index) => u32::from(index),
+        None => u32::MAX,
+    }
+}

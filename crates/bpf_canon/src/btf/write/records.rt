@@ -1,0 +1,256 @@
+//! The records of a section, copied word by word with their names at other places (btf.rst section 2.2).
+ghost use Rattle.std.specs.Prelude.{◌≡◌, ◌≢◌, ◌+◌, ◌*◌, ◌/◌, ◌<◌, ◌≤◌, ◌^◌, ◌∷◌, [], ◌++◌, IsTrue, IsFalse, OnOk, length, drop, map, slice_index};
+ghost use Rattle.std.specs.List.{All, Contains};
+ghost use Rattle.btf_raw.specs.Frames.{bytes_of, section_of, kind, vlen, flag, info_word, third_word};
+ghost use Rattle.btf_types.specs.judge.Checks as checks;
+ghost use Rattle.btf_types.specs.Good.{has_bit_fields};
+ghost use Rattle.btf_types.specs.strings.SharedNames.{shared_place};
+ghost use Rattle.btf_types.specs.tables.TableInvariant.{IsTable};
+ghost use Rattle.btf_types.specs.Reading.{frames_at, records_at};
+ghost use Rattle.bpf_canon.specs.btf.CanonicalBtf.{record_words};
+ghost use Rattle.bpf_canon.specs.btf.write.KeptFrames.{frame_in, record_in, HasRecord, record_info, record_items, record_tail};
+ghost use Rattle.bpf_canon.specs.btf.write.NameOffsets.{HasNamedItems, HasNotedNames, all_offsets};
+ghost use Rattle.bpf_canon.specs.btf.strings.NamesByPlace.{placed_texts};
+
+use crate::btf::strings::places::SharedPlaces;
+use bpf_words::{Order, get32, push32};
+use btf_raw::info::{flag_of, item_words, kind_of, tail_words, vlen_of};
+use btf_raw::{ENUM, ENUM64, FUNC_PROTO, STRUCT, UNION};
+use btf_types::FileSections;
+use byteorder::{BigEndian, ByteOrder, LittleEndian};
+use std::alloc::{AllocError, Allocator};
+
+// Whether the items of a record of this kind have names.
+#[tactic(auto, unfolding(btf_types::specs::judge::Checks::has_item_names))]
+pub(crate) fn has_item_names(kind: u8) -> bool
+    ensures { result ≡ checks.has_item_names kind }
+{
+    matches!(kind, STRUCT | UNION | ENUM | FUNC_PROTO | ENUM64)
+}
+
+// Whether the items of a record of this kind are members.
+fn is_struct(kind: u8) -> bool
+    ensures { result ≡ checks.is_struct kind }
+{
+    matches!(kind, STRUCT | UNION)
+}
+
+// Word `j` of the frame at `pos` of the types.
+pub(crate) fn word(sections: &FileSections<'_>, pos: usize, j: usize) -> u32
+    requires record { HasRecord sections.now pos }
+    requires inside { j < length (frame_in sections.now pos) }
+    ensures { result ≡ slice_index (frame_in sections.now pos) j }
+{
+    get32(sections.order, sections.types, pos + 4 * j)
+}
+
+// Appends three words.
+fn push_three<A: Allocator>(
+    out: &mut Vec<u8, A>,
+    order: Order,
+    words: [u32; 3],
+) -> Result<(), AllocError>
+    ensures { OnOk result (out.new.items ≡ out.old.items ++ bytes_of order words) }
+{
+    let mut bytes = [0; 12];
+    match order {
+        Order::Little => LittleEndian::write_u32_into(&words, &mut bytes),
+        Order::Big => BigEndian::write_u32_into(&words, &mut bytes),
+    }
+    out.extend_from_slice(&bytes)
+}
+
+// Appends two words.
+fn push_two<A: Allocator>(
+    out: &mut Vec<u8, A>,
+    order: Order,
+    words: [u32; 2],
+) -> Result<(), AllocError>
+    ensures { OnOk result (out.new.items ≡ out.old.items ++ bytes_of order words) }
+{
+    let mut bytes = [0; 8];
+    match order {
+        Order::Little => LittleEndian::write_u32_into(&words, &mut bytes),
+        Order::Big => BigEndian::write_u32_into(&words, &mut bytes),
+    }
+    out.extend_from_slice(&bytes)
+}
+
+// Whether a member of a STRUCT or UNION whose kind_flag is 1 has a width.
+fn has_widths(sections: &FileSections<'_>, pos: usize, count: u16) -> bool
+    requires record { HasRecord sections.now pos }
+    requires members { IsTrue (checks.is_struct (kind (frame_in sections.now pos))) }
+    requires marked { flag (frame_in sections.now pos) ≢ 0 }
+    requires all { count ≡ vlen (frame_in sections.now pos) }
+    ensures { result ≡ has_bit_fields (record_in sections.now pos) }
+{
+    for k in 0..usize::from(count) {
+        if word(sections, pos, 5 + 3 * k) >> 24 != 0 {
+            return true;
+        }
+    }
+    false
+}
+
+// The word info of a record: kind_flag of a STRUCT or UNION is 0 where no member has a width.
+fn canonical_info(sections: &FileSections<'_>, pos: usize, info: u32) -> u32
+    requires record { HasRecord sections.now pos }
+    requires own { info ≡ info_word (frame_in sections.now pos) }
+    ensures { result ≡ record_info (record_in sections.now pos) }
+{
+    if flag_of(info) == 0 || !is_struct(kind_of(info)) {
+        return info;
+    }
+    if has_widths(sections, pos, vlen_of(info)) {
+        info
+    } else {
+        info & 0x7fff_ffff
+    }
+}
+
+// Appends the items of a record whose items have a name and two words more.
+fn push_long_items<A: Allocator, B: Allocator + Copy>(
+    out: &mut Vec<u8, A>,
+    to: Order,
+    names: &SharedPlaces<'_, B>,
+    sections: &FileSections<'_>,
+    pos: usize,
+    count: u16,
+) -> Result<(), AllocError>
+    requires record { HasRecord sections.now pos }
+    requires noted { HasNotedNames names.now sections.now pos }
+    requires items { HasNamedItems (frame_in sections.now pos) 3 count }
+    ensures { OnOk result (out.new.items ≡ out.old.items ++ bytes_of to (record_items (shared_place (placed_texts names.now)) (record_in sections.now pos))) }
+{
+    for k in 0..usize::from(count) {
+        let name = names.place(word(sections, pos, 3 + 3 * k));
+        let second = word(sections, pos, 4 + 3 * k);
+        let third = word(sections, pos, 5 + 3 * k);
+        push_three(out, to, [name, second, third])?;
+    }
+    Ok(())
+}
+
+// Appends the items of a record whose items have a name and one word more.
+fn push_short_items<A: Allocator, B: Allocator + Copy>(
+    out: &mut Vec<u8, A>,
+    to: Order,
+    names: &SharedPlaces<'_, B>,
+    sections: &FileSections<'_>,
+    pos: usize,
+    count: u16,
+) -> Result<(), AllocError>
+    requires record { HasRecord sections.now pos }
+    requires noted { HasNotedNames names.now sections.now pos }
+    requires items { HasNamedItems (frame_in sections.now pos) 2 count }
+    ensures { OnOk result (out.new.items ≡ out.old.items ++ bytes_of to (record_items (shared_place (placed_texts names.now)) (record_in sections.now pos))) }
+{
+    for k in 0..usize::from(count) {
+        let name = names.place(word(sections, pos, 3 + 2 * k));
+        let second = word(sections, pos, 4 + 2 * k);
+        push_two(out, to, [name, second])?;
+    }
+    Ok(())
+}
+
+// Appends the items of a record, each with a name and of so many words.
+fn push_items<A: Allocator, B: Allocator + Copy>(
+    out: &mut Vec<u8, A>,
+    to: Order,
+    names: &SharedPlaces<'_, B>,
+    sections: &FileSections<'_>,
+    pos: usize,
+    size: usize,
+    count: u16,
+) -> Result<(), AllocError>
+    requires record { HasRecord sections.now pos }
+    requires noted { HasNotedNames names.now sections.now pos }
+    requires items { HasNamedItems (frame_in sections.now pos) size count }
+    ensures { OnOk result (out.new.items ≡ out.old.items ++ bytes_of to (record_items (shared_place (placed_texts names.now)) (record_in sections.now pos))) }
+{
+    if size == 2 {
+        push_short_items(out, to, names, sections, pos, count)
+    } else {
+        push_long_items(out, to, names, sections, pos, count)
+    }
+}
+
+// Appends the words behind the third of a record whose items have no names.
+fn push_rest<A: Allocator>(
+    out: &mut Vec<u8, A>,
+    to: Order,
+    sections: &FileSections<'_>,
+    pos: usize,
+    count: usize,
+) -> Result<(), AllocError>
+    requires record { HasRecord sections.now pos }
+    requires all { 3 + count ≡ length (frame_in sections.now pos) }
+    ensures { OnOk result (out.new.items ≡ out.old.items ++ bytes_of to (drop 3 (frame_in sections.now pos))) }
+{
+    for k in 0..count {
+        push32(out, to, word(sections, pos, 3 + k))?;
+    }
+    Ok(())
+}
+
+// Appends the words behind the third of the record at `pos` of the types.
+fn push_tail<A: Allocator, B: Allocator + Copy>(
+    out: &mut Vec<u8, A>,
+    to: Order,
+    names: &SharedPlaces<'_, B>,
+    sections: &FileSections<'_>,
+    pos: usize,
+    info: u32,
+) -> Result<(), AllocError>
+    requires record { HasRecord sections.now pos }
+    requires noted { HasNotedNames names.now sections.now pos }
+    requires own { info ≡ info_word (frame_in sections.now pos) }
+    ensures { OnOk result (out.new.items ≡ out.old.items ++ bytes_of to (record_tail (shared_place (placed_texts names.now)) (record_in sections.now pos))) }
+{
+    let kind = kind_of(info);
+    let vlen = vlen_of(info);
+    if has_item_names(kind) {
+        push_items(out, to, names, sections, pos, item_words(kind), vlen)
+    } else {
+        push_rest(out, to, sections, pos, tail_words(kind, vlen))
+    }
+}
+
+// Appends the words of the record at `pos` of the types.
+fn push_record<A: Allocator, B: Allocator + Copy>(
+    out: &mut Vec<u8, A>,
+    to: Order,
+    names: &SharedPlaces<'_, B>,
+    sections: &FileSections<'_>,
+    pos: usize,
+) -> Result<(), AllocError>
+    requires record { HasRecord sections.now pos }
+    requires noted { HasNotedNames names.now sections.now pos }
+    ensures { OnOk result (out.new.items ≡ out.old.items ++ bytes_of to (record_words (shared_place (placed_texts names.now)) (record_in sections.now pos))) }
+{
+    let name = names.place(word(sections, pos, 0));
+    let info = word(sections, pos, 1);
+    let third = word(sections, pos, 2);
+    let canonical = canonical_info(sections, pos, info);
+    push_three(out, to, [name, canonical, third])?;
+    push_tail(out, to, names, sections, pos, info)
+}
+
+// Appends the words of all records.
+pub(crate) fn push_records<A: Allocator, B: Allocator + Copy>(
+    out: &mut Vec<u8, A>,
+    to: Order,
+    names: &SharedPlaces<'_, B>,
+    sections: &FileSections<'_>,
+) -> Result<(), AllocError>
+    requires table { IsTable sections.now.order sections.now.types.now sections.now.strings.now sections.now.places.now }
+    requires strings { names.now.strings ≡ sections.now.strings.now }
+    requires noted { All (Contains names.now.offsets) (all_offsets (frames_at sections.now.order sections.now.types.now sections.now.places.now)) }
+    ensures { OnOk result (out.new.items ≡ out.old.items ++ section_of to (map (record_words (shared_place (placed_texts names.now)))
+        (records_at sections.now.order sections.now.types.now sections.now.strings.now sections.now.places.now))) }
+{
+    for pos in sections.places {
+        push_record(out, to, names, sections, *pos as usize)?;
+    }
+    Ok(())
+}

@@ -1,0 +1,53 @@
+//! From the sections that a table keeps to canonical bytes (btf.rst section 2): names are offsets until they are places.
+ghost use Rattle.std.specs.Prelude.{◌≡◌, IfOk, map};
+ghost use Rattle.std.specs.List.{All, Contains};
+ghost use Rattle.btf_types.specs.Names.{kept, names};
+ghost use Rattle.btf_types.specs.tables.TableInvariant.{IsTable};
+ghost use Rattle.btf_types.specs.Reading.{frames_at, records_at};
+ghost use Rattle.bpf_canon.specs.btf.CanonicalBtf.{canonical};
+ghost use Rattle.bpf_canon.specs.btf.write.NameOffsets.{all_offsets};
+ghost use Rattle.bpf_canon.specs.btf.strings.NamesByPlace.{placed_texts};
+
+use crate::btf::strings::places::SharedPlaces;
+use crate::btf::write::name_uses::noted_names;
+use crate::btf::write::records::push_records;
+use crate::btf::write::table::push_header;
+use bpf_words::Order;
+use btf_types::FileSections;
+use std::alloc::{AllocError, Allocator};
+
+// The canonical bytes of sections whose names stand at these places.
+fn write_placed<A: Allocator + Copy>(
+    alloc: A,
+    to: Order,
+    placed: &SharedPlaces<'_, A>,
+    sections: &FileSections<'_>,
+) -> Result<Vec<u8, A>, AllocError>
+    requires table { IsTable sections.now.order sections.now.types.now sections.now.strings.now sections.now.places.now }
+    requires strings { placed.now.strings ≡ sections.now.strings.now }
+    requires noted { All (Contains placed.now.offsets) (all_offsets (frames_at sections.now.order sections.now.types.now sections.now.places.now)) }
+    requires kept { kept (placed_texts placed.now) ≡ kept (names (records_at sections.now.order sections.now.types.now sections.now.strings.now sections.now.places.now)) }
+    ensures { IfOk result (λ bytes. bytes.items ≡ canonical to (records_at sections.now.order sections.now.types.now sections.now.strings.now sections.now.places.now)) }
+{
+    let types_len = sections.types.len();
+    let table_len = placed.table_len();
+    let mut bytes = Vec::with_capacity(alloc, 24 + types_len + table_len as usize)?;
+    push_header(&mut bytes, to, types_len as u32, table_len)?;
+    push_records(&mut bytes, to, placed, sections)?;
+    placed.push_table(&mut bytes)?;
+    Ok(bytes)
+}
+
+// The canonical bytes of the records that these sections spell.
+pub(crate) fn write_sections<A: Allocator + Copy>(
+    alloc: A,
+    to: Order,
+    sections: &FileSections<'_>,
+) -> Result<Vec<u8, A>, AllocError>
+    requires { IsTable sections.now.order sections.now.types.now sections.now.strings.now sections.now.places.now }
+    ensures { IfOk result (λ bytes. bytes.items ≡ canonical to (records_at sections.now.order sections.now.types.now sections.now.strings.now sections.now.places.now)) }
+{
+    let uses = noted_names(alloc, sections)?;
+    let placed = SharedPlaces::find(alloc, sections.strings, uses)?;
+    write_placed(alloc, to, &placed, sections)
+}

@@ -1,0 +1,267 @@
+//! From a table of types to its canonical bytes (btf.rst section 2).
+ghost use Rattle.std.specs.Prelude.{◌≡◌, ◌<◌, ◌≤◌, ◌^◌, ◌++◌, IfOk, OnOk, length, map};
+ghost use Rattle.btf_raw.specs.Header.{header};
+ghost use Rattle.btf_raw.specs.Frames.{bytes_of, section_of};
+ghost use Rattle.btf_types.specs.Values.{head_value, item_value};
+ghost use Rattle.btf_types.specs.Names as spec;
+ghost use Rattle.btf_types.specs.Names.{kept};
+ghost use Rattle.btf_types.specs.strings.SharedNames.{shared_among};
+ghost use Rattle.btf_types.specs.Spelling.{head_tail};
+ghost use Rattle.btf_types.specs.Good as good;
+ghost use Rattle.btf_types.specs.Good.{IsGood};
+ghost use Rattle.btf_types.specs.Denotes.{Denotes};
+ghost use Rattle.btf_types.specs.tables.TableWords.{record_at};
+ghost use Rattle.bpf_canon.specs.btf.names.Interned.{IsPlaced};
+ghost use Rattle.bpf_canon.specs.btf.write.BtfWords.{head_words, MemberFits};
+ghost use Rattle.bpf_canon.specs.btf.CanonicalBtf.{canonical, item_words, record_words};
+
+use crate::btf::names::kept::kept_names;
+use crate::btf::names::shared::SharedNames;
+use crate::btf::write::head_words::{
+    component_word, head_third, info_word, int_word, linkage_number,
+};
+use crate::btf::write::sections::write_sections;
+use bpf_words::{Order, push16, push32};
+use btf_types::{Head, Item, TypeTable};
+use std::alloc::{AllocError, Allocator};
+
+// Appends words of 32 bits.
+fn push_words<A: Allocator>(
+    out: &mut Vec<u8, A>,
+    order: Order,
+    words: &[u32],
+) -> Result<(), AllocError>
+    ensures { OnOk result (out.new.items ≡ out.old.items ++ bytes_of order words.now) }
+{
+    for word in words {
+        push32(out, order, *word)?;
+    }
+    Ok(())
+}
+
+// Appends a header of 24 bytes, with type_off 0 and str_off = type_len.
+pub(crate) fn push_header<A: Allocator>(
+    out: &mut Vec<u8, A>,
+    order: Order,
+    types_len: u32,
+    strings_len: u32,
+) -> Result<(), AllocError>
+    ensures { OnOk result (out.new.items ≡ out.old.items ++ header order 24 0 types_len types_len strings_len) }
+{
+    push16(out, order, 0xeb9f)?;
+    out.extend_from_slice(&[1, 0])?;
+    push_words(out, order, &[24, 0, types_len, types_len, strings_len])
+}
+
+// Appends the words behind the third that a head has of its own.
+fn push_tail<A: Allocator>(
+    out: &mut Vec<u8, A>,
+    order: Order,
+    head: Head<'_>,
+) -> Result<(), AllocError>
+    ensures { OnOk result (out.new.items ≡ out.old.items ++ bytes_of order (head_tail (head_value head.entry))) }
+{
+    match head {
+        Head::KInt {
+            encoding,
+            offset,
+            bits,
+            ..
+        } => push_words(out, order, &[int_word(encoding, offset, bits)]),
+        Head::KArray {
+            target,
+            index,
+            count,
+        } => push_words(out, order, &[target, index, count]),
+        Head::KVar { linkage, .. } => push_words(out, order, &[linkage_number(linkage)]),
+        Head::KDeclTag { component, .. } => push_words(out, order, &[component_word(component)]),
+        _ => Ok(()),
+    }
+}
+
+// Appends the words of a head with so many items.
+fn push_head<A: Allocator, B: Allocator + Copy>(
+    out: &mut Vec<u8, A>,
+    order: Order,
+    names: &SharedNames<'_, B>,
+    head: Head<'_>,
+    count: u32,
+    bit_fields: bool,
+) -> Result<(), AllocError>
+    requires few { count < 2 ^ 16 }
+    requires placed { IsPlaced names.now (spec.head_name (head_value head)) }
+    ensures { OnOk result (out.new.items ≡ out.old.items ++ bytes_of order (head_words (shared_among names.now) (head_value head.entry) count bit_fields)) }
+{
+    let name_off = names.place(head.name());
+    let info = info_word(head, count, bit_fields);
+    push_words(out, order, &[name_off, info, head_third(head)])?;
+    push_tail(out, order, head)
+}
+
+// Appends the words of an item.
+fn push_item<A: Allocator, B: Allocator + Copy>(
+    out: &mut Vec<u8, A>,
+    order: Order,
+    names: &SharedNames<'_, B>,
+    item: Item<'_>,
+) -> Result<(), AllocError>
+    requires fits { MemberFits (item_value item) }
+    requires placed { IsPlaced names.now (spec.item_name (item_value item)) }
+    ensures { OnOk result (out.new.items ≡ out.old.items ++ bytes_of order (item_words (shared_among names.now) (item_value item.entry))) }
+{
+    match item {
+        Item::Member {
+            name,
+            target,
+            bit_offset,
+            width,
+        } => {
+            let offset = bit_offset + (u32::from(width) << 24);
+            push_words(out, order, &[names.place(name), target, offset])
+        }
+        Item::EnumValue { name, value } => push_words(out, order, &[names.place(name), value]),
+        Item::Value64 { name, value } => {
+            let low = (value & 0xffff_ffff) as u32;
+            let high = (value >> 32) as u32;
+            push_words(out, order, &[names.place(name), low, high])
+        }
+        Item::Param { name, target } => push_words(out, order, &[names.place(name), target]),
+        Item::Entry {
+            target,
+            offset,
+            size,
+        } => push_words(out, order, &[target, offset, size]),
+    }
+}
+
+// Whether the item is a bit-field.
+fn has_width(item: Item<'_>) -> bool
+    ensures { result ≡ good.has_width (item_value item.entry) }
+{
+    match item {
+        Item::Member { width, .. } => width != 0,
+        _ => false,
+    }
+}
+
+// Whether the record has bit-fields.
+fn has_bit_fields<T: TypeTable>(table: &T, id: u32) -> bool
+    requires first { 0 < id }
+    requires last { id ≤ length (T.meaning table.now) }
+    ensures { result ≡ good.has_bit_fields (record_at (T.meaning table.now) id) }
+{
+    for k in 0..table.item_count(id) {
+        if has_width(table.item(id, k)) {
+            return true;
+        }
+    }
+    false
+}
+
+// Appends the words of a record.
+fn push_record<T: TypeTable, A: Allocator, B: Allocator + Copy>(
+    out: &mut Vec<u8, A>,
+    order: Order,
+    names: &SharedNames<'_, B>,
+    table: &T,
+    id: u32,
+) -> Result<(), AllocError>
+    requires first { 0 < id }
+    requires last { id ≤ length (T.meaning table.now) }
+    requires good { IsGood (T.meaning table.now) }
+    requires kept { names.now ≡ kept (spec.names (T.meaning table.now)) }
+    ensures { OnOk result (out.new.items ≡ out.old.items ++ bytes_of order (record_words (shared_among names.now) (record_at (T.meaning table.now) id))) }
+{
+    let count = table.item_count(id);
+    let bit_fields = has_bit_fields(table, id);
+    push_head(out, order, names, table.head(id), count, bit_fields)?;
+    for k in 0..count {
+        push_item(out, order, names, table.item(id, k))?;
+    }
+    Ok(())
+}
+
+// The bytes of all records.
+fn write_types<T: TypeTable, A: Allocator + Copy>(
+    alloc: A,
+    order: Order,
+    names: &SharedNames<'_, A>,
+    table: &T,
+) -> Result<Vec<u8, A>, AllocError>
+    requires kept { names.now ≡ kept (spec.names (T.meaning table.now)) }
+    ensures { IfOk result (λ types. types.items ≡ section_of order (map (record_words (shared_among names.now)) (T.meaning table.now))) }
+{
+    let mut types = Vec::new(alloc);
+    for index in 0..table.count() {
+        push_record(&mut types, order, names, table, index + 1)?;
+    }
+    Ok(types)
+}
+
+// The names of a table with their places.
+fn shared_names<'t, T: TypeTable, A: Allocator + Copy>(
+    alloc: A,
+    table: &'t T,
+) -> Result<SharedNames<'t, A>, AllocError>
+    requires { IsGood (T.meaning table.now) }
+    ensures { IfOk result (λ found. found ≡ kept (spec.names (T.meaning table.now))) }
+{
+    let kept = kept_names(alloc, table)?;
+    SharedNames::new(alloc, kept)
+}
+
+// The canonical bytes of a table whose names these are.
+fn write_named<T: TypeTable, A: Allocator + Copy>(
+    alloc: A,
+    order: Order,
+    names: &SharedNames<'_, A>,
+    table: &T,
+) -> Result<Vec<u8, A>, AllocError>
+    requires good { IsGood (T.meaning table.now) }
+    requires kept { names.now ≡ kept (spec.names (T.meaning table.now)) }
+    ensures { IfOk result (λ bytes. bytes.items ≡ canonical order (T.meaning table.now)) }
+{
+    let types = write_types(alloc, order, names, table)?;
+    let mut bytes = Vec::new(alloc);
+    push_header(&mut bytes, order, types.len() as u32, names.table_len())?;
+    bytes.extend_from_slice(types.as_slice())?;
+    names.push_table(&mut bytes)?;
+    Ok(bytes)
+}
+
+// The canonical bytes of a table that lends no sections: its names are read as texts.
+fn write_table<T: TypeTable, A: Allocator + Copy>(
+    alloc: A,
+    order: Order,
+    table: &T,
+) -> Result<Vec<u8, A>, AllocError>
+    requires { IsGood (T.meaning table.now) }
+    ensures { IfOk result (λ bytes. bytes.items ≡ canonical order (T.meaning table.now)) }
+{
+    let names = shared_names(alloc, table)?;
+    write_named(alloc, order, &names, table)
+}
+
+/// The canonical bytes of a table of types in the given order (btf.rst section 2): a header of 24 bytes, the records, and the
+/// string table.
+///
+/// In the string table each name stands once, in the order of first use; a name that ends another one stands at its end.
+/// A STRUCT or UNION has kind_flag 0 exactly where no member has a width.
+///
+/// # Errors
+///
+/// `AllocError` where the allocator refuses room.
+pub fn write_btf<T: TypeTable, A: Allocator + Copy>(
+    alloc: A,
+    order: Order,
+    table: &T,
+) -> Result<Vec<u8, A>, AllocError>
+    ensures form { IfOk result (λ bytes. bytes.items ≡ canonical order (T.meaning table.now)) }
+    ensures accepted { IfOk result (λ bytes. Denotes bytes.items (T.meaning table.now)) }
+{
+    let _count = table.count();
+    match table.sections() {
+        Some(sections) => write_sections(alloc, order, &sections),
+        None => write_table(alloc, order, table),
+    }
+}
