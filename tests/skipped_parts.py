@@ -21,7 +21,8 @@ TOP = pathlib.Path(__file__).resolve().parent.parent
 # What the scripts need in any case.
 BASE = "bash env cat cut dirname cmp grep ls mkdir mktemp nproc rm sed tail tee test touch true uname".split()
 # What verify and the scripts below it are made of, and the stand-ins with what each does.
-COPIED = ["verify", "README.md", "tests/run", "tests/c_interface/run"]
+EXAMPLE = "crates/bpfcanon/src/tests/library_example.rt"
+COPIED = ["verify", "README.md", "docs/LIBRARY.md", EXAMPLE, "tests/run", "tests/c_interface/run"]
 PASS = "#!/usr/bin/env bash\n"
 STAND_INS = {
     "bin/rt": PASS + "echo '1 passed, 0 failed'\n",
@@ -30,8 +31,6 @@ STAND_INS = {
     "tests/recipes": PASS + "echo 'recipes: 1 passed, 0 failed, 1 skipped (no bpftool)'\n",
     "crates/bpfcanon/out/bpfcanon": PASS,
     "crates/bpfcanon_c/out/empty": "",
-    # the example is compared with that of the README
-    "bin/cmp": PASS,
 }
 
 # The tools that are there beside the base, and how each part ended, without its seconds.
