@@ -92,43 +92,41 @@ fn names_in_each_other(rt: HostRuntime) -> Result<(), Fail> {
     Ok(())
 }
 
-/// The file of the most records that a type section holds: an ENUM with a value, and PTRs of it; and a byte more or not.
-fn most_records(alloc: Global, end: &[u8]) -> Result<Vec<u8>, AllocError> {
+/// The file of the most records that a type section holds: an ENUM with a value, and PTRs of it.
+fn most_records(alloc: Global) -> Result<Vec<u8>, AllocError> {
     let head = b"\0\0\0\0\x01\0\0\x06\x04\0\0\0\0\0\0\0\0\0\0\0";
     let mut records = Vec::from_slice(alloc, head)?;
-    for _ in 0..2_796_201 {
-        records.extend_from_slice(b"\0\0\0\0\0\0\0\x02\x01\0\0\0")?;
+    records.resize(33_554_432, 0)?;
+    for record in records[20..].chunks_mut(12) {
+        change(record, &[(7, 2), (8, 1)]);
     }
-    records.extend_from_slice(end)?;
     file(alloc, &records, b"\0")
 }
 
-/// What is added to the section, bytes that are changed, and the first fault.
-struct Longest(&'static [u8], &'static [(usize, u8)], Option<BtfFault>);
+/// Bytes that are changed in that file beside the earlier ones, and the first fault.
+struct Longest(&'static [(usize, u8)], Option<BtfFault>);
 
 const LONGEST: &[Longest] = &[
-    Longest(b"", &[], None),
+    Longest(&[], None),
     // the type of the last PTR
     Longest(
-        b"",
         &[(33_554_452, 0xab), (33_554_453, 0xaa), (33_554_454, 0x2a)],
         Some(BtfFault {
             pos: 33_554_452,
             cause: BtfCause::Reference,
         }),
     ),
-    // the kind of the last PTR
+    // its kind
     Longest(
-        b"",
         &[(33_554_451, 20)],
         Some(BtfFault {
             pos: 33_554_448,
             cause: BtfCause::KindNumber,
         }),
     ),
+    // a type section of a byte more, which takes the byte of the strings
     Longest(
-        b"\0",
-        &[],
+        &[(12, 1)],
         Some(BtfFault {
             pos: 12,
             cause: BtfCause::TypeLength,
@@ -136,32 +134,23 @@ const LONGEST: &[Longest] = &[
     ),
 ];
 
+/// How many records both tables of a file have.
+fn counts(alloc: Global, bytes: &[u8]) -> Result<(u32, u32), Fail> {
+    let owned = Btf::parse(alloc, bytes)?;
+    let lent = BtfView::parse(alloc, bytes)?;
+    Ok((owned.count(), lent.count()))
+}
+
 #[test]
 fn longest_type_sections(rt: HostRuntime) -> Result<(), Fail> {
-    for Longest(end, edits, wanted) in LONGEST {
-        let mut bytes = most_records(rt.alloc(), end)?;
+    let mut bytes = most_records(rt.alloc())?;
+    equal(&rt, &bytes.len(), &33_554_457, &"the file");
+    let counts = counts(rt.alloc(), &bytes)?;
+    equal(&rt, &counts, &(2_796_202, 2_796_202), &"counts");
+    for Longest(edits, wanted) in LONGEST {
         change(&mut bytes, edits);
-        equal(
-            &rt,
-            &first_fault_of_both(rt.alloc(), &bytes)?,
-            wanted,
-            &edits,
-        );
-        if wanted.is_none() {
-            equal(&rt, &bytes.len(), &33_554_457, &"the file");
-            equal(
-                &rt,
-                &Btf::parse(rt.alloc(), &bytes)?.count(),
-                &2_796_202,
-                &"owned",
-            );
-            equal(
-                &rt,
-                &BtfView::parse(rt.alloc(), &bytes)?.count(),
-                &2_796_202,
-                &"lent",
-            );
-        }
+        let found = first_fault_of_both(rt.alloc(), &bytes)?;
+        equal(&rt, &found, wanted, edits);
     }
     Ok(())
 }

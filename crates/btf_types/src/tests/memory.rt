@@ -138,16 +138,17 @@ fn count_answer<T: TypeTable>(
     rt: &impl Abort,
     tally: &mut Tally,
     parsed: &Result<T, BtfError>,
-    row: &Row,
+    wanted: Option<BtfFault>,
 ) {
     match parsed {
         Ok(table) => {
-            holds(rt, row.fault.is_none() && has_typedefs(table), &row.edits);
+            let is_right = wanted.is_none() && has_typedefs(table);
+            holds(rt, is_right, &("a table in place of", wanted));
             tally.count(rt, false);
         }
         Err(BtfError::Memory) => tally.count(rt, true),
         Err(BtfError::Fault(fault)) => {
-            equal(rt, &Some(*fault), &row.fault, &row.edits);
+            equal(rt, &Some(*fault), &wanted, &"the fault");
             tally.count(rt, false);
         }
     }
@@ -163,11 +164,11 @@ fn less_and_less_room(rt: HostRuntime) -> Result<(), Fail> {
         for room in 0..=ROOM {
             let bump = Bump::new(rt.alloc());
             if leave(&bump, room) {
-                count_answer(&rt, &mut lent, &BtfView::parse(&bump, &bytes), row);
+                count_answer(&rt, &mut lent, &BtfView::parse(&bump, &bytes), row.fault);
             }
             let bump = Bump::new(rt.alloc());
             if leave(&bump, room) {
-                count_answer(&rt, &mut owned, &Btf::parse(&bump, &bytes), row);
+                count_answer(&rt, &mut owned, &Btf::parse(&bump, &bytes), row.fault);
             }
         }
         lent.is_right(&rt, row.lent, row);
