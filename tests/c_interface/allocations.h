@@ -14,7 +14,8 @@ void *__wrap_malloc(size_t size);
 void *__wrap_realloc(void *block, size_t size);
 void __wrap_free(void *block);
 
-static long allowed = -1; /* how many allocations succeed before all later ones are refused; none is where it is negative */
+static long allowed = -1; /* how many allocations succeed before one is refused; none is where it is negative */
+static int refuses_one;   /* whether the allocations after the refused one succeed; else they are refused, too */
 static long refused;      /* how many were refused */
 static long live;         /* blocks that weren't freed */
 
@@ -22,6 +23,8 @@ static int refuse(void)
 {
 	if (allowed == 0) {
 		refused++;
+		if (refuses_one)
+			allowed = -1;
 		return 1;
 	}
 	if (allowed > 0)

@@ -1,7 +1,8 @@
 /*
  * Compares each call that allocates with the proved call below it, over room that is ample: with every number of each order and one
- * that is none, each kind of fault, outputs that are longer than the first block, and each allocation refused in turn. `*out` holds
- * a pointer beforehand, and the blocks are counted. usage: blocks TESTDATA
+ * that is none, each kind of fault, outputs that are longer than the first block, and each allocation refused in turn, alone and with
+ * all that follow. `*out` holds a pointer beforehand, and the blocks are counted. No proved call gets a null pointer: it is linked
+ * with --wrap for each, too. usage: blocks TESTDATA
  */
 #include "checks.h"
 #include "allocations.h"
@@ -10,6 +11,23 @@
 
 typedef bpfcanon_answer room_call(uint32_t order, uint32_t to, const uint8_t *bytes, size_t len, uint8_t *out, size_t room);
 typedef bpfcanon_answer new_call(uint32_t order, uint32_t to, const uint8_t *bytes, size_t len, uint8_t **out);
+
+/* Defines a proved call that checks its pointers first. */
+#define NO_NULL(call, parameters, arguments)                         \
+	bpfcanon_answer __real_bpfcanon_##call parameters;           \
+	bpfcanon_answer __wrap_bpfcanon_##call parameters;           \
+	bpfcanon_answer __wrap_bpfcanon_##call parameters            \
+	{                                                            \
+		CHECK(bytes && out);                                 \
+		return __real_bpfcanon_##call arguments;             \
+	}
+
+NO_NULL(btf_canon, (uint32_t to, const uint8_t *bytes, size_t len, uint8_t *out, size_t room), (to, bytes, len, out, room))
+NO_NULL(insn_canon, (uint32_t order, uint32_t to, const uint8_t *bytes, size_t len, uint8_t *out, size_t room),
+        (order, to, bytes, len, out, room))
+NO_NULL(insn_show, (uint32_t order, const uint8_t *bytes, size_t len, uint8_t *out, size_t room), (order, bytes, len, out, room))
+NO_NULL(insn_read, (uint32_t to, const uint8_t *bytes, size_t len, uint8_t *out, size_t room), (to, bytes, len, out, room))
+NO_NULL(btf_show, (const uint8_t *bytes, size_t len, uint8_t *out, size_t room), (bytes, len, out, room))
 
 /* Each pair in one shape. The order or the two orders that a call doesn't have are 0. */
 static bpfcanon_answer btf_canon(uint32_t order, uint32_t to, const uint8_t *bytes, size_t len, uint8_t *out, size_t room)
@@ -129,7 +147,7 @@ static void try_in(int call, uint32_t order, uint32_t to, const uint8_t *bytes, 
 
 	seen[call][right.cause] = 1;
 	compare(call, order, to, bytes, len, right);
-	if (refuses || is_new)
+	for (refuses_one = 0; refuses_one < 2 && (refuses || is_new); refuses_one++)
 		refuse_each(call, order, to, bytes, len, right);
 }
 
