@@ -124,7 +124,7 @@ fn words_in_both_orders(rt: HostRuntime) -> Result<(), Fail> {
 }
 
 #[test]
-fn words_behind_a_byte(rt: HostRuntime) -> Result<(), Fail> {
+fn words_after_a_byte(rt: HostRuntime) -> Result<(), Fail> {
     let mut out = [1].to_vec(rt.alloc())?;
     push16(&mut out, Order::Big, 0x0203)?;
     push32(&mut out, Order::Little, 0x0405_0607)?;

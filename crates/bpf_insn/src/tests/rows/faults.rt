@@ -9,7 +9,8 @@ macro_rules! row {
     };
 }
 
-pub(super) static FAULTS: &[FaultRow] = &[
+/// Cut bytes, opcodes and destinations.
+pub(super) static FIRST_FIELDS: &[FaultRow] = &[
     row!("no bytes": b"" => 0, Truncated),
     row!("one byte": b"\x95" => 0, Truncated),
     row!("seven bytes that no instruction begins with": b"\xff\xff\xff\xff\xff\xff\xff" => 0, Truncated),
@@ -51,6 +52,19 @@ pub(super) static FAULTS: &[FaultRow] = &[
     row!("an exit with a destination": b"\x95\x01\0\0\0\0\0\0" => 1, Dst),
     row!("a packet load with a destination": b"\x30\x01\0\0\0\0\0\0" => 1, Dst),
     row!("an indirect packet load with a destination": b"\x50\x21\0\0\0\0\0\0" => 1, Dst),
+    row!("an exit with both registers": b"\x95\x11\0\0\0\0\0\0" => 1, Dst),
+    row!("three bytes of an exit": b"\x95\0\0" => 0, Truncated),
+    row!("the first slot of a wide load alone": b"\x18\x01\0\0\x88\x77\x66\x55" => 8, Truncated),
+    row!("a move to register 11": b"\xbf\x2b\0\0\0\0\0\0" => 1, Dst),
+    row!("opcode df": b"\xdf\0\0\0\0\0\0\0" => 0, Opcode),
+    row!("opcode 8d": b"\x8d\0\0\0\0\0\0\0" => 0, Opcode),
+    row!("opcode e5": b"\xe5\0\0\0\0\0\0\0" => 0, Opcode),
+    row!("opcode d3": b"\xd3\0\0\0\0\0\0\0" => 0, Opcode),
+    row!("opcode 99": b"\x99\0\0\0\0\0\0\0" => 0, Opcode),
+];
+
+/// Sources and offsets.
+pub(super) static MIDDLE_FIELDS: &[FaultRow] = &[
     row!("arithmetic by register 11": b"\x0f\xb1\0\0\0\0\0\0" => 1, Src),
     row!("arithmetic by an immediate with a source": b"\xb7\x11\0\0\0\0\0\0" => 1, Src),
     row!("a negation with a source": b"\x87\x11\0\0\0\0\0\0" => 1, Src),
@@ -88,6 +102,14 @@ pub(super) static FAULTS: &[FaultRow] = &[
     row!("a packet load with an offset": b"\x28\0\x01\0\0\0\0\0" => 2, Offset),
     row!("an indirect packet load with an offset": b"\x48\x20\x01\0\0\0\0\0" => 2, Offset),
     row!("a wide load with an offset, cut": b"\x18\x01\x01\0\0\0\0\0" => 2, Offset),
+    row!("an addition of an immediate with a source": b"\x04\x10\0\0\x05\0\0\0" => 1, Src),
+    row!("a signed division with offset 2": b"\x37\x01\x02\0\x03\0\0\0" => 2, Offset),
+    row!("an extension of 32 bits to 32": b"\xbc\x12\x20\0\0\0\0\0" => 2, Offset),
+    row!("a local call with offset 5": b"\x85\x10\x05\0\x07\0\0\0" => 2, Offset),
+];
+
+/// Immediates, and the second slot of a wide load.
+pub(super) static LAST_FIELDS: &[FaultRow] = &[
     row!("arithmetic by a register with an immediate": b"\x0f\x21\0\0\x01\0\0\0" => 4, Imm),
     row!("an extension with an immediate": b"\xbf\x21\x08\0\x01\0\0\0" => 4, Imm),
     row!("a negation with an immediate": b"\x87\x01\0\0\xff\xff\xff\xff" => 4, Imm),
@@ -110,24 +132,8 @@ pub(super) static FAULTS: &[FaultRow] = &[
     row!("a map with a second immediate": b"\x18\x11\0\0\0\0\0\0\0\0\0\0\0\0\0\x80" => 12, NextImm),
     row!("code with a second immediate": b"\x18\x41\0\0\0\0\0\0\0\0\0\0\x01\0\0\0" => 12, NextImm),
     row!("a map's index with a second immediate": b"\x18\x51\0\0\0\0\0\0\0\0\0\0\x01\0\0\0" => 12, NextImm),
-    // the rows of the standard's tables that the ones above don't have
-    row!("an exit with both registers": b"\x95\x11\0\0\0\0\0\0" => 1, Dst),
-    row!("three bytes of an exit": b"\x95\0\0" => 0, Truncated),
-    row!("the first slot of a wide load alone": b"\x18\x01\0\0\x88\x77\x66\x55" => 8, Truncated),
-    row!("a move to register 11": b"\xbf\x2b\0\0\0\0\0\0" => 1, Dst),
-    row!("an addition of an immediate with a source": b"\x04\x10\0\0\x05\0\0\0" => 1, Src),
-    row!("a signed division with offset 2": b"\x37\x01\x02\0\x03\0\0\0" => 2, Offset),
     row!("an exchange with another low half": b"\xdb\x21\xf8\xff\xf0\0\0\0" => 4, Imm),
-    row!("an extension of 32 bits to 32": b"\xbc\x12\x20\0\0\0\0\0" => 2, Offset),
     row!("a swap of 8 bits always": b"\xd7\x01\0\0\x08\0\0\0" => 4, Imm),
-    row!("opcode df": b"\xdf\0\0\0\0\0\0\0" => 0, Opcode),
-    row!("opcode 8d": b"\x8d\0\0\0\0\0\0\0" => 0, Opcode),
-    row!("opcode e5": b"\xe5\0\0\0\0\0\0\0" => 0, Opcode),
-    row!("opcode d3": b"\xd3\0\0\0\0\0\0\0" => 0, Opcode),
-    row!("opcode 99": b"\x99\0\0\0\0\0\0\0" => 0, Opcode),
-    row!("a local call with offset 5": b"\x85\x10\x05\0\x07\0\0\0" => 2, Offset),
-    row!("a call of source 3": b"\x85\x30\x05\0\x07\0\0\0" => 1, Src),
     row!("a map with a second number": b"\x18\x11\0\0\x03\0\0\0\0\0\0\0\x01\0\0\0" => 12, NextImm),
     row!("a map with a reserved word": b"\x18\x11\0\0\x03\0\0\0\x01\0\0\0\x01\0\0\0" => 8, Reserved),
-    row!("a wide load of source 7": b"\x18\x71\0\0\0\0\0\0" => 1, Src),
 ];
