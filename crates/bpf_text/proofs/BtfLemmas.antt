@@ -1,3 +1,4 @@
+pub mod AppendingLemmas
 pub mod BtfTextLemmas
 pub mod LinePartsLemmas
 pub mod QuotedNameLemmas

@@ -1,11 +1,13 @@
 -- The lines of types and items, put together from their parts.
 use Rattle.std.proofs.Common.{◌≡◌, ℕ, Bool, List, ◌++◌, refl, ap, ◌∙◌, rules, append_assoc}
-use Rattle.std.specs.Prelude.{Result, Ok, Err, OnOk, codes, decimal, true, false}
+use Rattle.std.specs.Prelude.{Result, Ok, Err, codes, decimal, true, false}
 use Rattle.std.specs.List.{flat_map}
 use Rattle.btf_types.specs.Values.{TypeHead, KInt, KPtr, KArray, KStruct, KUnion, KEnum, KFwd, KTypedef, KVolatile, KConst, KRestrict, KFunc, KFuncProto, KVar, KDatasec, KFloat, KDeclTag, KTypeTag, KEnum64, TypeItem, Member, EnumValue, Value64, Param, Entry}
 use Rattle.btf_types.specs.Names.{head_name, item_name}
 use Rattle.bpf_text.specs.btf.BtfText.{fields_text, head_line, item_line, item_text, kind_word, quoted_byte}
+use Rattle.bpf_text.specs.btf.Appending.{Appends}
 use Rattle.bpf_text.specs.btf.LineParts.{head_end, head_fields, head_start, item_end, item_fields, item_start, opening}
+use Rattle.bpf_text.proofs.BtfLemmas.AppendingLemmas.{kept_more}
 
 ended : (a n x z : List ℕ) → a ++ n ++ (x ++ z) ≡ (a ++ n ++ x) ++ z
 ended a n x z = search (rules, append_assoc)
@@ -59,7 +61,8 @@ item_parts signed item =
 
 -- three calls append a line in its parts
 pub appended : {E : Type 0} (r : Result (Unit {0}) E) (old a b c line one two three : List ℕ) → a ++ b ++ c ≡ line → one ≡ old ++ a → two ≡ one ++ b
-    → OnOk r (three ≡ two ++ c) → OnOk r (three ≡ old ++ line)
+    → Appends r two c three → Appends r old line three
 appended (Ok u) old a b c line one two three whole e f h =
     h ∙ ap (λ (t : List ℕ). t ++ c) (f ∙ ap (λ (t : List ℕ). t ++ b) e ∙ append_assoc old a b) ∙ append_assoc old (a ++ b) c ∙ ap (λ (t : List ℕ). old ++ t) whole
-appended (Err x) old a b c line one two three whole e f h = h
+appended (Err x) old a b c line one two three whole e f h =
+    kept_more old two three h.0 (a ++ b, f ∙ ap (λ (t : List ℕ). t ++ b) e ∙ append_assoc old a b) h.1

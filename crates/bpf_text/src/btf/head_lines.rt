@@ -1,11 +1,12 @@
 //! The line of a BTF type: its number, the word of its kind, and its fields.
 
-ghost use Rattle.std.specs.Prelude.{◌≡◌, [], ◌++◌, codes, decimal, IsTrue, OnOk};
+ghost use Rattle.std.specs.Prelude.{◌≡◌, [], ◌++◌, codes, decimal, IsTrue};
 ghost use Rattle.btf_types.specs.Values as values;
 ghost use Rattle.btf_types.specs.Values.{head_value};
 ghost use Rattle.btf_types.specs.Names as names;
 ghost use Rattle.bpf_text.specs.btf.BtfText as spec;
 ghost use Rattle.bpf_text.specs.btf.LineParts as parts;
+ghost use Rattle.bpf_text.specs.btf.Appending.{Appends};
 
 use crate::btf::quoted_name::append_quoted_part;
 use crate::btf::text_parts::{append, append_number};
@@ -76,7 +77,7 @@ fn append_encoding<A: Allocator>(
     text: &mut Vec<u8, A>,
     encoding: Encoding,
 ) -> Result<(), AllocError>
-    ensures { OnOk result (text.new.items ≡ text.old.items ++ (codes " encoding=" ++ spec.encoding_name encoding)) }
+    ensures { Appends result text.old.items (codes " encoding=" ++ spec.encoding_name encoding) text.new.items }
 {
     append(text, " encoding=")?;
     append(text, encoding_name(encoding))
@@ -89,7 +90,7 @@ fn append_int<A: Allocator>(
     offset: u8,
     bits: u8,
 ) -> Result<(), AllocError>
-    ensures { OnOk result (text.new.items ≡ text.old.items ++ parts.head_fields (values.KInt [] size encoding offset bits) 0) }
+    ensures { Appends result text.old.items (parts.head_fields (values.KInt [] size encoding offset bits) 0) text.new.items }
 {
     append_number(text, "\" size=", size)?;
     append_encoding(text, encoding)?;
@@ -103,7 +104,7 @@ fn append_array<A: Allocator>(
     index: u32,
     count: u32,
 ) -> Result<(), AllocError>
-    ensures { OnOk result (text.new.items ≡ text.old.items ++ parts.head_fields (values.KArray target index count) 0) }
+    ensures { Appends result text.old.items (parts.head_fields (values.KArray target index count) 0) text.new.items }
 {
     append_number(text, " type=", target)?;
     append_number(text, " index=", index)?;
@@ -117,7 +118,7 @@ fn append_counted<A: Allocator>(
     number: u32,
     items: u32,
 ) -> Result<(), AllocError>
-    ensures { OnOk result (text.new.items ≡ text.old.items ++ (label.now ++ decimal number ++ codes " items=" ++ decimal items)) }
+    ensures { Appends result text.old.items (label.now ++ decimal number ++ codes " items=" ++ decimal items) text.new.items }
 {
     append_number(text, label, number)?;
     append_number(text, " items=", items)
@@ -129,7 +130,7 @@ fn append_enum<A: Allocator>(
     size: u32,
     items: u32,
 ) -> Result<(), AllocError>
-    ensures { OnOk result (text.new.items ≡ text.old.items ++ parts.head_fields (values.KEnum [] signed size) items) }
+    ensures { Appends result text.old.items (parts.head_fields (values.KEnum [] signed size) items) text.new.items }
 {
     append(text, "\" ")?;
     append(text, sign_name(signed))?;
@@ -143,7 +144,7 @@ fn append_with_type<A: Allocator>(
     word: &str,
     target: u32,
 ) -> Result<(), AllocError>
-    ensures { OnOk result (text.new.items ≡ text.old.items ++ (label.now ++ word.now ++ codes " type=" ++ decimal target)) }
+    ensures { Appends result text.old.items (label.now ++ word.now ++ codes " type=" ++ decimal target) text.new.items }
 {
     append(text, label)?;
     append(text, word)?;
@@ -154,7 +155,7 @@ fn append_component<A: Allocator>(
     text: &mut Vec<u8, A>,
     component: Option<u16>,
 ) -> Result<(), AllocError>
-    ensures { OnOk result (text.new.items ≡ text.old.items ++ spec.component_text component) }
+    ensures { Appends result text.old.items (spec.component_text component) text.new.items }
 {
     match component {
         Some(index) => append(text, Buffer::new().format(index)),
@@ -168,7 +169,7 @@ fn append_decl_tag<A: Allocator>(
     target: u32,
     component: Option<u16>,
 ) -> Result<(), AllocError>
-    ensures { OnOk result (text.new.items ≡ text.old.items ++ parts.head_fields (values.KDeclTag [] flag target component) 0) }
+    ensures { Appends result text.old.items (parts.head_fields (values.KDeclTag [] flag target component) 0) text.new.items }
 {
     append_with_type(text, "\" flag=", flag_text(flag), target)?;
     append(text, " component=")?;
@@ -178,7 +179,7 @@ fn append_decl_tag<A: Allocator>(
 // Appends what stands behind the name of a declaration: a type that is declared by its name alone, or is linked or a tag.
 fn append_declaration<A: Allocator>(text: &mut Vec<u8, A>, head: Head<'_>) -> Result<(), AllocError>
     requires { IsTrue (parts.is_declaration (head_value head)) }
-    ensures { OnOk result (text.new.items ≡ text.old.items ++ parts.head_fields (head_value head.entry) 0) }
+    ensures { Appends result text.old.items (parts.head_fields (head_value head.entry) 0) text.new.items }
 {
     match head {
         Head::KFwd { is_union, .. } => append(
@@ -215,7 +216,7 @@ fn append_fields<A: Allocator>(
     head: Head<'_>,
     items: u32,
 ) -> Result<(), AllocError>
-    ensures { OnOk result (text.new.items ≡ text.old.items ++ parts.head_fields (head_value head.entry) items) }
+    ensures { Appends result text.old.items (parts.head_fields (head_value head.entry) items) text.new.items }
 {
     match head {
         Head::KInt {
@@ -273,13 +274,14 @@ fn opening(head: Head<'_>) -> &'static str
 ///
 /// # Errors
 ///
-/// `AllocError` where the vector couldn't grow. It may then hold the first bytes of the line.
+/// `AllocError` where the vector couldn't grow. What it held before is then still in front, and the first bytes of the
+/// line may follow.
 pub fn append_head_start<A: Allocator>(
     text: &mut Vec<u8, A>,
     id: u32,
     head: Head<'_>,
 ) -> Result<(), AllocError>
-    ensures { OnOk result (text.new.items ≡ text.old.items ++ parts.head_start id (head_value head.entry)) }
+    ensures { Appends result text.old.items (parts.head_start id (head_value head.entry)) text.new.items }
 {
     append_number(text, "[", id)?;
     append(text, "] ")?;
@@ -291,13 +293,14 @@ pub fn append_head_start<A: Allocator>(
 ///
 /// # Errors
 ///
-/// `AllocError` where the vector couldn't grow. It may then hold the first bytes of what was to come.
+/// `AllocError` where the vector couldn't grow. What it held before is then still in front, and the first bytes of what
+/// was to come may follow.
 pub fn append_head_end<A: Allocator>(
     text: &mut Vec<u8, A>,
     head: Head<'_>,
     items: u32,
 ) -> Result<(), AllocError>
-    ensures { OnOk result (text.new.items ≡ text.old.items ++ parts.head_end (head_value head.entry) items) }
+    ensures { Appends result text.old.items (parts.head_end (head_value head.entry) items) text.new.items }
 {
     append_fields(text, head, items)?;
     append(text, "\n")
@@ -307,14 +310,15 @@ pub fn append_head_end<A: Allocator>(
 ///
 /// # Errors
 ///
-/// `AllocError` where the vector couldn't grow. It may then hold the first bytes of the line.
+/// `AllocError` where the vector couldn't grow. What it held before is then still in front, and the first bytes of the
+/// line may follow.
 pub fn append_head<A: Allocator>(
     text: &mut Vec<u8, A>,
     id: u32,
     head: Head<'_>,
     items: u32,
 ) -> Result<(), AllocError>
-    ensures { OnOk result (text.new.items ≡ text.old.items ++ spec.head_line id (head_value head.entry) items) }
+    ensures { Appends result text.old.items (spec.head_line id (head_value head.entry) items) text.new.items }
 {
     append_head_start(text, id, head)?;
     append_quoted_part(text, head_name(head).as_bytes())?;

@@ -1,12 +1,13 @@
 //! The lines of the items of BTF types: members, values, parameters and entries.
 
-ghost use Rattle.std.specs.Prelude.{◌≡◌, [], ◌++◌, false, OnOk};
+ghost use Rattle.std.specs.Prelude.{◌≡◌, [], ◌++◌, false};
 ghost use Rattle.std.specs.Int.{w32, w64};
 ghost use Rattle.btf_types.specs.Values as values;
 ghost use Rattle.btf_types.specs.Values.{item_value};
 ghost use Rattle.btf_types.specs.Names as names;
 ghost use Rattle.bpf_text.specs.btf.BtfText as spec;
 ghost use Rattle.bpf_text.specs.btf.LineParts as parts;
+ghost use Rattle.bpf_text.specs.btf.Appending.{Appends};
 
 use crate::btf::quoted_name::append_quoted_part;
 use crate::btf::text_parts::{append, append_number};
@@ -19,7 +20,7 @@ fn append_value32<A: Allocator>(
     value: u32,
     signed: bool,
 ) -> Result<(), AllocError>
-    ensures { OnOk result (text.new.items ≡ text.old.items ++ spec.value_text w32 signed value) }
+    ensures { Appends result text.old.items (spec.value_text w32 signed value) text.new.items }
 {
     if signed {
         append(text, Buffer::new().format(value.cast_signed()))
@@ -33,7 +34,7 @@ fn append_value64<A: Allocator>(
     value: u64,
     signed: bool,
 ) -> Result<(), AllocError>
-    ensures { OnOk result (text.new.items ≡ text.old.items ++ spec.value_text w64 signed value) }
+    ensures { Appends result text.old.items (spec.value_text w64 signed value) text.new.items }
 {
     if signed {
         append(text, Buffer::new().format(value.cast_signed()))
@@ -49,7 +50,7 @@ fn append_place<A: Allocator>(
     bit_offset: u32,
     width: u8,
 ) -> Result<(), AllocError>
-    ensures { OnOk result (text.new.items ≡ text.old.items ++ parts.item_fields false (values.Member [] target bit_offset width)) }
+    ensures { Appends result text.old.items (parts.item_fields false (values.Member [] target bit_offset width)) text.new.items }
 {
     append_number(text, "\" type=", target)?;
     append_number(text, " offset=", bit_offset)?;
@@ -62,7 +63,7 @@ fn append_entry<A: Allocator>(
     offset: u32,
     size: u32,
 ) -> Result<(), AllocError>
-    ensures { OnOk result (text.new.items ≡ text.old.items ++ parts.item_fields false (values.Entry target offset size)) }
+    ensures { Appends result text.old.items (parts.item_fields false (values.Entry target offset size)) text.new.items }
 {
     append_number(text, " type=", target)?;
     append_number(text, " offset=", offset)?;
@@ -75,7 +76,7 @@ fn append_item_fields<A: Allocator>(
     item: Item<'_>,
     signed: bool,
 ) -> Result<(), AllocError>
-    ensures { OnOk result (text.new.items ≡ text.old.items ++ parts.item_fields signed (item_value item.entry)) }
+    ensures { Appends result text.old.items (parts.item_fields signed (item_value item.entry)) text.new.items }
 {
     match item {
         Item::Member {
@@ -113,12 +114,13 @@ pub fn item_name<'a>(item: Item<'a>) -> &'a str
 ///
 /// # Errors
 ///
-/// `AllocError` where the vector couldn't grow. It may then hold the first bytes of the line.
+/// `AllocError` where the vector couldn't grow. What it held before is then still in front, and the first bytes of the
+/// line may follow.
 pub fn append_item_start<A: Allocator>(
     text: &mut Vec<u8, A>,
     item: Item<'_>,
 ) -> Result<(), AllocError>
-    ensures { OnOk result (text.new.items ≡ text.old.items ++ parts.item_start (item_value item.entry)) }
+    ensures { Appends result text.old.items (parts.item_start (item_value item.entry)) text.new.items }
 {
     match item {
         Item::Member { .. } => append(text, "  member \""),
@@ -132,13 +134,14 @@ pub fn append_item_start<A: Allocator>(
 ///
 /// # Errors
 ///
-/// `AllocError` where the vector couldn't grow. It may then hold the first bytes of what was to come.
+/// `AllocError` where the vector couldn't grow. What it held before is then still in front, and the first bytes of what
+/// was to come may follow.
 pub fn append_item_end<A: Allocator>(
     text: &mut Vec<u8, A>,
     item: Item<'_>,
     signed: bool,
 ) -> Result<(), AllocError>
-    ensures { OnOk result (text.new.items ≡ text.old.items ++ parts.item_end signed (item_value item.entry)) }
+    ensures { Appends result text.old.items (parts.item_end signed (item_value item.entry)) text.new.items }
 {
     append_item_fields(text, item, signed)?;
     append(text, "\n")
@@ -148,13 +151,14 @@ pub fn append_item_end<A: Allocator>(
 ///
 /// # Errors
 ///
-/// `AllocError` where the vector couldn't grow. It may then hold the first bytes of the line.
+/// `AllocError` where the vector couldn't grow. What it held before is then still in front, and the first bytes of the
+/// line may follow.
 pub fn append_item<A: Allocator>(
     text: &mut Vec<u8, A>,
     item: Item<'_>,
     signed: bool,
 ) -> Result<(), AllocError>
-    ensures { OnOk result (text.new.items ≡ text.old.items ++ spec.item_line signed (item_value item.entry)) }
+    ensures { Appends result text.old.items (spec.item_line signed (item_value item.entry)) text.new.items }
 {
     append_item_start(text, item)?;
     append_quoted_part(text, item_name(item).as_bytes())?;

@@ -1,9 +1,10 @@
 //! The bytes of names between quotes, with what a reader couldn't see or would take for a quote written otherwise.
 
-ghost use Rattle.std.specs.Prelude.{◌≡◌, ◌/◌, ◌%◌, ◌∷◌, [], ◌++◌, ◌<◌, true, codes, OnOk};
+ghost use Rattle.std.specs.Prelude.{◌≡◌, ◌/◌, ◌%◌, ◌∷◌, [], ◌++◌, ◌<◌, true, codes};
 ghost use Rattle.std.specs.Char.{digit_char};
 ghost use Rattle.std.specs.List.{flat_map};
 ghost use Rattle.bpf_text.specs.btf.BtfText as spec;
+ghost use Rattle.bpf_text.specs.btf.Appending.{Appends};
 
 use std::alloc::{AllocError, Allocator};
 
@@ -32,7 +33,7 @@ fn hex_digit(number: u8) -> u8
 
 /// Appends a control character as `\x` and two hexadecimal digits.
 fn append_control<A: Allocator>(text: &mut Vec<u8, A>, byte: u8) -> Result<(), AllocError>
-    ensures { OnOk result (text.new.items ≡ text.old.items ++ (codes "\\x" ++ digit_char (byte / 16) ∷ digit_char (byte % 16) ∷ [])) }
+    ensures { Appends result text.old.items (codes "\\x" ++ digit_char (byte / 16) ∷ digit_char (byte % 16) ∷ []) text.new.items }
 {
     text.extend_from_slice(&[b'\\', b'x', hex_digit(byte / 16), hex_digit(byte % 16)])
 }
@@ -46,7 +47,7 @@ fn is_plain(byte: u8) -> bool
 
 /// Appends a byte of a name.
 fn append_byte<A: Allocator>(text: &mut Vec<u8, A>, byte: u8) -> Result<(), AllocError>
-    ensures { OnOk result (text.new.items ≡ text.old.items ++ spec.quoted_byte byte) }
+    ensures { Appends result text.old.items (spec.quoted_byte byte) text.new.items }
 {
     if needs_backslash(byte) {
         text.extend_from_slice(&[b'\\', byte])
@@ -63,12 +64,13 @@ fn append_byte<A: Allocator>(text: &mut Vec<u8, A>, byte: u8) -> Result<(), Allo
 ///
 /// # Errors
 ///
-/// `AllocError` where the vector couldn't grow. It may then hold the first bytes of what was to come.
+/// `AllocError` where the vector couldn't grow. What it held before is then still in front, and the first bytes of what
+/// was to come may follow.
 pub fn append_quoted_part<A: Allocator>(
     text: &mut Vec<u8, A>,
     part: &[u8],
 ) -> Result<(), AllocError>
-    ensures { OnOk result (text.new.items ≡ text.old.items ++ flat_map spec.quoted_byte part.now) }
+    ensures { Appends result text.old.items (flat_map spec.quoted_byte part.now) text.new.items }
 {
     // Plain bytes are appended by whole runs; those from here on are still to come.
     let mut start = 0;

@@ -1,9 +1,10 @@
 //! The text of a table of BTF types.
 
-ghost use Rattle.std.specs.Prelude.{◌≡◌, ◌<◌, ◌≤◌, ◌++◌, length, IfOk, OnOk};
+ghost use Rattle.std.specs.Prelude.{◌≡◌, ◌<◌, ◌≤◌, ◌++◌, length, IfOk};
 ghost use Rattle.std.specs.List.{flat_map};
 ghost use Rattle.btf_types.specs.tables.TableWords.{record_at};
 ghost use Rattle.bpf_text.specs.btf.BtfText.{is_signed, item_line, record_text, text_of};
+ghost use Rattle.bpf_text.specs.btf.Appending.{Appends};
 
 use crate::btf::head_lines::{append_head, is_signed};
 use crate::btf::item_lines::append_item;
@@ -19,7 +20,7 @@ fn append_items<T: TypeTable, A: Allocator>(
 ) -> Result<(), AllocError>
     requires first { 0 < id }
     requires last { id ≤ length (T.meaning table.now) }
-    ensures { OnOk result (text.new.items ≡ text.old.items ++ flat_map (item_line signed) (record_at (T.meaning table.now) id).items) }
+    ensures { Appends result text.old.items (flat_map (item_line signed) (record_at (T.meaning table.now) id).items) text.new.items }
 {
     for k in 0..table.item_count(id) {
         append_item(text, table.item(id, k), signed)?;
@@ -35,7 +36,7 @@ fn append_record<T: TypeTable, A: Allocator>(
 ) -> Result<(), AllocError>
     requires first { 0 < id }
     requires last { id ≤ length (T.meaning table.now) }
-    ensures { OnOk result (text.new.items ≡ text.old.items ++ record_text id (record_at (T.meaning table.now) id)) }
+    ensures { Appends result text.old.items (record_text id (record_at (T.meaning table.now) id)) text.new.items }
 {
     let head = table.head(id);
     append_head(text, id, head, table.item_count(id))?;

@@ -1,13 +1,14 @@
 //! The parts that lines are put together from: words and numbers.
 
-ghost use Rattle.std.specs.Prelude.{◌≡◌, ◌++◌, decimal, OnOk};
+ghost use Rattle.std.specs.Prelude.{◌≡◌, ◌++◌, decimal};
+ghost use Rattle.bpf_text.specs.btf.Appending.{Appends};
 
 use itoa::Buffer;
 use std::alloc::{AllocError, Allocator};
 
 /// Appends a text.
 pub(crate) fn append<A: Allocator>(text: &mut Vec<u8, A>, more: &str) -> Result<(), AllocError>
-    ensures { OnOk result (text.new.items ≡ text.old.items ++ more.now) }
+    ensures { Appends result text.old.items more.now text.new.items }
 {
     text.extend_from_slice(more.as_bytes())
 }
@@ -18,7 +19,7 @@ pub(crate) fn append_number<A: Allocator>(
     label: &str,
     number: u32,
 ) -> Result<(), AllocError>
-    ensures { OnOk result (text.new.items ≡ text.old.items ++ (label.now ++ decimal number)) }
+    ensures { Appends result text.old.items (label.now ++ decimal number) text.new.items }
 {
     append(text, label)?;
     append(text, Buffer::new().format(number))

@@ -1,11 +1,13 @@
-use Rattle.std.proofs.Common.{◌≡◌, ◌≤◌, ◌++◌, take, drop}
+use Rattle.std.proofs.Common.{◌≡◌, ◌≤◌, ◌++◌, ℕ, List, take, drop}
 use Rattle.std.specs.List.{flat_map}
 use Rattle.bpf_text.specs.btf.BtfText.{quoted_byte}
 use Rattle.bpf_text.proofs.btf.quoted_name.append_quoted_part.Given as goal
 
--- once the bytes from start on are appended, the text has those up to here as they stand between quotes
+-- once the bytes from start on are appended, the text has those up to here as they stand between quotes;
+-- what it held before is in front
 abbrev pub invariant-loop-at : goal.invariant-loop-at
 invariant-loop-at g l = record {
   within : l.start ≤ l.at;
   written : l.text.items ++ drop l.start (take l.at l.part) ≡ l.fn.text.items ++ flat_map quoted_byte (take l.at l.part);
+  kept : (rest : List ℕ) × (l.text.items ≡ l.fn.text.items ++ rest);
 }
