@@ -1,8 +1,10 @@
 //! Why a text is no listing.
 
 ghost use Rattle.std.specs.Prelude.{◌≡◌};
+ghost use Rattle.bpf_text.specs.declared.insn.fault.ListError.TheVariants.{Memory};
 ghost use Rattle.bpf_text.specs.insn.LineCauseNames.{line_cause_name};
 
+use std::alloc::AllocError;
 use std::fmt;
 use thiserror::Error;
 
@@ -57,4 +59,12 @@ pub enum ListError {
     /// Memory was refused.
     #[error("Memory")]
     Memory,
+}
+
+impl From<AllocError> for ListError {
+    ghost from_gives = { λ _ e. e ≡ Memory };
+
+    fn from(_e: AllocError) -> ListError {
+        ListError::Memory
+    }
 }

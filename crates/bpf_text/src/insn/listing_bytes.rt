@@ -49,9 +49,7 @@ fn write_lines<A: Allocator>(alloc: A, to: Order, text: &[u8]) -> Result<Vec<u8,
     'lines: loop {
         let (line, behind) = first_line(rest);
         let found = read_numbered(&mut tokens, line, number)?;
-        if append_found(&mut bytes, to, found).is_err() {
-            return Err(ListError::Memory);
-        }
+        append_found(&mut bytes, to, found)?;
         let Some(behind) = behind else {
             return Ok(bytes);
         };

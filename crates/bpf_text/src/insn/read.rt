@@ -104,9 +104,7 @@ fn read_lines<A: Allocator>(alloc: A, text: &[u8]) -> Result<Vec<Insn, A>, ListE
     'lines: loop {
         let (line, behind) = first_line(rest);
         let found = read_numbered(&mut tokens, line, number)?;
-        if push_found(&mut insns, found).is_err() {
-            return Err(ListError::Memory);
-        }
+        push_found(&mut insns, found)?;
         let Some(behind) = behind else {
             return Ok(insns);
         };

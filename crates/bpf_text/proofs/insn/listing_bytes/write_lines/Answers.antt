@@ -1,7 +1,6 @@
 use Rattle.std.proofs.Common.{◌≡◌, ◌∷◌, [], arith, refl}
 use Rattle.std.specs.Option.{option_to_list}
 use Rattle.bpf_text.specs.insn.Listing.{lines_of}
-use Rattle.bpf_text.proofs.InsnLemmas.Outcomes.{on_ok}
 use Rattle.bpf_text.proofs.InsnLemmas.BytesRead.{one_more_written, at_the_end_written}
 use Rattle.bpf_text.proofs.InsnLemmas.ListingLemmas.{starts, at_a_fault}
 use Rattle.bpf_text.proofs.insn.listing_bytes.write_lines.Goals as goal
@@ -22,14 +21,14 @@ returns-in_err-found g c =
 pub returns-in_default : goal.returns-in_default
 returns-in_default g c =
     let last : lines_of c.lines.rest.now ≡ c.first_line.result.0.now ∷ [] = rw c.in_default.is at c.first_line.ensures.lines in
-    let pushed = on_ok _ c.append_found.result c.is_err.result c.is_err.ensures.value c.if-is_err.false c.append_found.ensures in
+    let pushed = c.in_ok-append_found.ensures in
     at_the_end_written c.args.to c.args.text.now c.lines.rest.now c.first_line.result.0.now c.lines.bytes.items c.append_found.new.bytes.items (option_to_list c.in_ok-found.found) c.lines.number c.lines.invariant.so_far last c.in_ok-found.ensures pushed
 
 pub lines-preserved : goal.lines-preserved
 lines-preserved g c =
     let line : lines_of c.lines.rest.now ≡ c.first_line.result.0.now ∷ lines_of c.in-Some.behind.now = rw c.in-Some.is at c.first_line.ensures.lines in
     let shorter = rw c.in-Some.is at c.first_line.ensures.shorter in
-    let pushed = on_ok _ c.append_found.result c.is_err.result c.is_err.ensures.value c.if-is_err.false c.append_found.ensures in
+    let pushed = c.in_ok-append_found.ensures in
     record {
       so_far = one_more_written c.args.to c.args.text.now c.lines.rest.now c.first_line.result.0.now c.in-Some.behind.now c.lines.bytes.items c.append_found.new.bytes.items (option_to_list c.in_ok-found.found) c.lines.number c.lines.invariant.so_far line c.in_ok-found.ensures pushed;
       bound = omega (arith, c.lines.invariant.bound, shorter);
