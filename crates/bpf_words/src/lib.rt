@@ -5,6 +5,8 @@
 pub mod laws;
 mod slot;
 mod spelling;
+#[cfg(test)]
+mod tests;
 mod words;
 
 pub use slot::Slot;

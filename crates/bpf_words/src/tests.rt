@@ -1,0 +1,302 @@
+//! Words and slots in both orders, and growths that are refused.
+
+use crate::{Order, Slot, get16, get32, push16, push32, slot_bytes, slot_of};
+use bumpalo::Bump;
+use std::alloc::{AllocError, Allocator, Global};
+use std::fmt::Debug;
+use std::process::Abort;
+use std::test::Fail;
+
+/// Ends the test where a value isn't the one that is wanted, and says in which case.
+fn equal<T: PartialEq + Debug>(rt: &impl Abort, value: &T, wanted: &T, case: &impl Debug) {
+    assert_eq!(rt; value, wanted, "{case:?}");
+}
+
+/// A word with its bytes.
+#[derive(Clone, Copy, Debug, PartialEq, Eq)]
+enum Word {
+    Half(u16),
+    Whole(u32),
+}
+
+/// A word of either size, and the bytes that it has in one of the orders.
+#[derive(Clone, Copy, Debug)]
+struct WordRow {
+    order: Order,
+    word: Word,
+    bytes: &'static [u8],
+}
+
+const WORDS: [WordRow; 12] = [
+    WordRow {
+        order: Order::Big,
+        word: Word::Half(0x0203),
+        bytes: b"\x02\x03",
+    },
+    WordRow {
+        order: Order::Little,
+        word: Word::Half(0x0203),
+        bytes: b"\x03\x02",
+    },
+    WordRow {
+        order: Order::Big,
+        word: Word::Half(0xeb9f),
+        bytes: b"\xeb\x9f",
+    },
+    WordRow {
+        order: Order::Little,
+        word: Word::Half(0xeb9f),
+        bytes: b"\x9f\xeb",
+    },
+    WordRow {
+        order: Order::Little,
+        word: Word::Half(0),
+        bytes: b"\0\0",
+    },
+    WordRow {
+        order: Order::Big,
+        word: Word::Half(0xffff),
+        bytes: b"\xff\xff",
+    },
+    WordRow {
+        order: Order::Little,
+        word: Word::Whole(0x0405_0607),
+        bytes: b"\x07\x06\x05\x04",
+    },
+    WordRow {
+        order: Order::Big,
+        word: Word::Whole(0x0405_0607),
+        bytes: b"\x04\x05\x06\x07",
+    },
+    WordRow {
+        order: Order::Little,
+        word: Word::Whole(0x8000_0001),
+        bytes: b"\x01\0\0\x80",
+    },
+    WordRow {
+        order: Order::Big,
+        word: Word::Whole(0x8000_0001),
+        bytes: b"\x80\0\0\x01",
+    },
+    WordRow {
+        order: Order::Little,
+        word: Word::Whole(0),
+        bytes: b"\0\0\0\0",
+    },
+    WordRow {
+        order: Order::Big,
+        word: Word::Whole(0xffff_ffff),
+        bytes: b"\xff\xff\xff\xff",
+    },
+];
+
+/// What the words are appended to, and where they are read from.
+const HELD: &[u8] = b"\x11\x12\x13\x14\x15\x16\x17\x18";
+
+fn push<A: Allocator>(out: &mut Vec<u8, A>, order: Order, word: Word) -> Result<(), AllocError> {
+    match word {
+        Word::Half(value) => push16(out, order, value),
+        Word::Whole(value) => push32(out, order, value),
+    }
+}
+
+/// The word of the same size as another that begins at a position, if it lies in the bytes.
+fn read(order: Order, bytes: &[u8], pos: usize, like: Word) -> Option<Word> {
+    let left = bytes.len().saturating_sub(pos);
+    match like {
+        Word::Half(_) if left >= 2 => Some(Word::Half(get16(order, bytes, pos))),
+        Word::Whole(_) if left >= 4 => Some(Word::Whole(get32(order, bytes, pos))),
+        _ => None,
+    }
+}
+
+#[test]
+fn words_in_both_orders(rt: HostRuntime) -> Result<(), Fail> {
+    for row in WORDS {
+        let mut out = HELD.to_vec(rt.alloc())?;
+        push(&mut out, row.order, row.word)?;
+        let appended = (out.starts_with(HELD), out.get(HELD.len()..));
+        equal(&rt, &appended, &(true, Some(row.bytes)), &row);
+        let found = read(row.order, &out, HELD.len(), row.word);
+        equal(&rt, &found, &Some(row.word), &row);
+    }
+    Ok(())
+}
+
+#[test]
+fn words_after_a_byte(rt: HostRuntime) -> Result<(), Fail> {
+    let mut out = [1].to_vec(rt.alloc())?;
+    push16(&mut out, Order::Big, 0x0203)?;
+    push32(&mut out, Order::Little, 0x0405_0607)?;
+    let bytes: &[u8] = b"\x01\x02\x03\x07\x06\x05\x04";
+    equal(&rt, &out.as_slice(), &bytes, &"two words");
+    Ok(())
+}
+
+/// A slot, and its bytes in both orders.
+#[derive(Clone, Copy, Debug)]
+struct SlotRow {
+    slot: Slot,
+    little: [u8; 8],
+    big: [u8; 8],
+}
+
+const SLOTS: [SlotRow; 6] = [
+    // exit
+    SlotRow {
+        slot: Slot {
+            opcode: 0x95,
+            dst: 0,
+            src: 0,
+            off: 0,
+            imm: 0,
+        },
+        little: *b"\x95\0\0\0\0\0\0\0",
+        big: *b"\x95\0\0\0\0\0\0\0",
+    },
+    // mov r1, r2
+    SlotRow {
+        slot: Slot {
+            opcode: 0xbf,
+            dst: 1,
+            src: 2,
+            off: 0,
+            imm: 0,
+        },
+        little: *b"\xbf\x21\0\0\0\0\0\0",
+        big: *b"\xbf\x12\0\0\0\0\0\0",
+    },
+    // mov r0, -2
+    SlotRow {
+        slot: Slot {
+            opcode: 0xb7,
+            dst: 0,
+            src: 0,
+            off: 0,
+            imm: -2,
+        },
+        little: *b"\xb7\0\0\0\xfe\xff\xff\xff",
+        big: *b"\xb7\0\0\0\xff\xff\xff\xfe",
+    },
+    // cmpxchg [r1-8], r2
+    SlotRow {
+        slot: Slot {
+            opcode: 0xdb,
+            dst: 1,
+            src: 2,
+            off: -8,
+            imm: 0xf1,
+        },
+        little: *b"\xdb\x21\xf8\xff\xf1\0\0\0",
+        big: *b"\xdb\x12\xff\xf8\0\0\0\xf1",
+    },
+    // The greatest number in each field, and the least.
+    SlotRow {
+        slot: Slot {
+            opcode: 0xff,
+            dst: 15,
+            src: 0,
+            off: 0x7fff,
+            imm: 0x7fff_ffff,
+        },
+        little: *b"\xff\x0f\xff\x7f\xff\xff\xff\x7f",
+        big: *b"\xff\xf0\x7f\xff\x7f\xff\xff\xff",
+    },
+    SlotRow {
+        slot: Slot {
+            opcode: 0,
+            dst: 0,
+            src: 15,
+            off: -0x8000,
+            imm: -0x8000_0000,
+        },
+        little: *b"\0\xf0\0\x80\0\0\0\x80",
+        big: *b"\0\x0f\x80\0\x80\0\0\0",
+    },
+];
+
+#[test]
+fn slots_in_both_orders(rt: HostRuntime) {
+    for row in &SLOTS {
+        for (order, bytes) in [(Order::Little, row.little), (Order::Big, row.big)] {
+            let found = (slot_of(order, &bytes), slot_bytes(order, row.slot));
+            equal(&rt, &found, &(row.slot, bytes), &(order, row));
+        }
+    }
+}
+
+/// How many bytes an arena has, before any are given away.
+const ROOM: usize = 448;
+
+/// An arena with `room` bytes left, which gets no more.
+fn arena(alloc: Global, room: usize) -> Result<Bump<Global>, AllocError> {
+    let taken = [0u8; ROOM];
+    let bump = Bump::try_with_capacity(alloc, ROOM)?;
+    bump.set_allocation_limit(Some(0));
+    bump.try_alloc_slice_copy(&taken[..ROOM.saturating_sub(room)])?;
+    Ok(bump)
+}
+
+/// What became of a word that is appended to `held` bytes in an arena.
+#[derive(Clone, Copy, Debug, PartialEq, Eq)]
+enum Appended {
+    /// The arena has no room for the held bytes.
+    NoRoom,
+    /// The word is at the end of the held bytes.
+    Whole,
+    /// The growth was refused and the vector is as before.
+    Unchanged,
+    /// The vector is neither.
+    Changed,
+}
+
+fn append(bump: &Bump<Global>, held: &[u8], row: WordRow) -> Appended {
+    let Ok(mut out) = Vec::from_slice(bump, held) else {
+        return Appended::NoRoom;
+    };
+    let refused = push(&mut out, row.order, row.word).is_err();
+    let word = out.strip_prefix(held).unwrap_or_default();
+    if out.starts_with(held) && refused && word.is_empty() {
+        Appended::Unchanged
+    } else if out.starts_with(held) && !refused && word == row.bytes {
+        Appended::Whole
+    } else {
+        Appended::Changed
+    }
+}
+
+/// How many rooms had each end.
+#[derive(Clone, Copy, Debug, Default)]
+struct Ends {
+    whole: usize,
+    unchanged: usize,
+    changed: usize,
+}
+
+/// Appends a word to `held` bytes with each room from none to more than enough.
+fn count_ends(alloc: Global, held: &[u8], row: WordRow) -> Result<Ends, AllocError> {
+    let mut ends = Ends::default();
+    for room in 0..=64usize {
+        let bump = arena(alloc, room)?;
+        match append(&bump, held, row) {
+            Appended::NoRoom => {}
+            Appended::Whole => ends.whole = ends.whole.saturating_add(1),
+            Appended::Unchanged => ends.unchanged = ends.unchanged.saturating_add(1),
+            Appended::Changed => ends.changed = ends.changed.saturating_add(1),
+        }
+    }
+    Ok(ends)
+}
+
+/// The word needs room beside what is held, so each smaller room is refused.
+#[test]
+fn a_refused_growth_changes_nothing(rt: HostRuntime) -> Result<(), Fail> {
+    for row in WORDS {
+        for held in 0..=HELD.len() {
+            let ends = count_ends(rt.alloc(), &HELD[..held], row)?;
+            let right = ends.changed == 0 && ends.unchanged >= row.bytes.len() && ends.whole > 0;
+            equal(&rt, &right, &true, &(row, held, ends));
+        }
+    }
+    Ok(())
+}
