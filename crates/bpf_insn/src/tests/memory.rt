@@ -1,0 +1,186 @@
+//! Files that are decoded with each growth refused, and large ones with ample memory.
+
+use super::equal;
+use crate::{InsnError, Order, SlotCause, SlotFault, decode_insns};
+use bumpalo::Bump;
+use std::alloc::{AllocError, Global};
+use std::test::Fail;
+
+/// Nine exits, and an instruction whose src field is at fault. A list of instructions grows for its first, its fifth
+/// and its ninth.
+const FILE: &[u8; 80] = b"\
+    \x95\0\0\0\0\0\0\0\x95\0\0\0\0\0\0\0\x95\0\0\0\0\0\0\0\
+    \x95\0\0\0\0\0\0\0\x95\0\0\0\0\0\0\0\x95\0\0\0\0\0\0\0\
+    \x95\0\0\0\0\0\0\0\x95\0\0\0\0\0\0\0\x95\0\0\0\0\0\0\0\x04\x10\0\0\x05\0\0\0";
+
+/// How many bytes an arena has, before any are given away.
+const ROOM: usize = 1984;
+
+/// An arena with `room` bytes left, which gets no more.
+fn arena(alloc: Global, room: usize) -> Result<Bump<Global>, AllocError> {
+    let taken = [0u8; ROOM];
+    let bump = Bump::try_with_capacity(alloc, ROOM)?;
+    bump.set_allocation_limit(Some(0));
+    bump.try_alloc_slice_copy(&taken[..ROOM.saturating_sub(room)])?;
+    Ok(bump)
+}
+
+/// What a file of `count` exits, of all nine and of the fault too gives in a room.
+#[derive(Clone, Copy, Debug, PartialEq, Eq)]
+enum Decoded {
+    /// All of its instructions.
+    Whole,
+    /// Its fault, by the right place and cause.
+    Faulty,
+    /// Out of memory.
+    Refused,
+    /// Another answer.
+    Wrong,
+}
+
+fn outcome(bump: &Bump<Global>, bytes: &[u8]) -> Decoded {
+    let fault = SlotFault {
+        pos: 73,
+        cause: SlotCause::Src,
+    };
+    match decode_insns(bump, Order::Little, bytes) {
+        Ok(insns) if insns.len() == bytes.len() / 8 => Decoded::Whole,
+        Err(InsnError::Fault(found)) if found == fault => Decoded::Faulty,
+        Err(InsnError::Memory) => Decoded::Refused,
+        _ => Decoded::Wrong,
+    }
+}
+
+/// The first room in which the first bytes of the file aren't refused. Each smaller one is refused.
+fn least_room(alloc: Global, bytes: &[u8], end: Decoded) -> Result<Option<usize>, AllocError> {
+    let mut least = None;
+    for room in 0..=ROOM {
+        let found = outcome(&arena(alloc, room)?, bytes);
+        match least {
+            None if found == end => least = Some(room),
+            None if found == Decoded::Refused => {}
+            Some(_) if found == end => {}
+            _ => return Ok(None),
+        }
+    }
+    Ok(least)
+}
+
+/// A file, and whether it needs more room than the one before it.
+#[derive(Clone, Copy, Debug)]
+struct RoomRow {
+    insns: usize,
+    grows: bool,
+    end: Decoded,
+}
+
+const ROOMS: [RoomRow; 8] = [
+    RoomRow {
+        insns: 1,
+        grows: true,
+        end: Decoded::Whole,
+    },
+    RoomRow {
+        insns: 2,
+        grows: false,
+        end: Decoded::Whole,
+    },
+    RoomRow {
+        insns: 4,
+        grows: false,
+        end: Decoded::Whole,
+    },
+    RoomRow {
+        insns: 5,
+        grows: true,
+        end: Decoded::Whole,
+    },
+    RoomRow {
+        insns: 6,
+        grows: false,
+        end: Decoded::Whole,
+    },
+    RoomRow {
+        insns: 8,
+        grows: false,
+        end: Decoded::Whole,
+    },
+    RoomRow {
+        insns: 9,
+        grows: true,
+        end: Decoded::Whole,
+    },
+    RoomRow {
+        insns: 10,
+        grows: false,
+        end: Decoded::Faulty,
+    },
+];
+
+#[test]
+fn each_growth_is_refused(rt: HostRuntime) -> Result<(), Fail> {
+    let mut before = 0;
+    for row in ROOMS {
+        let room = least_room(rt.alloc(), &FILE[..8 * row.insns], row.end)?;
+        let right = room.is_some_and(|room| if row.grows {
+            room > before
+        } else {
+            room == before
+        });
+        equal(&rt, &right, &true, &(row, room, before));
+        before = room.unwrap_or(before);
+    }
+    Ok(())
+}
+
+/// How many slots the large files have: 4 MiB. The program decodes the largest, in `tests/limits.py`.
+const COUNT: usize = 524_288;
+
+/// A file of exits up to its last slot, and how many instructions or which fault it has.
+#[derive(Clone, Copy, Debug)]
+struct LargeRow {
+    last: &'static [u8],
+    answer: Result<usize, SlotFault>,
+}
+
+static LARGE: [LargeRow; 2] = [
+    LargeRow {
+        last: b"\x95\0\0\0\0\0\0\0",
+        answer: Ok(524_288),
+    },
+    LargeRow {
+        last: b"\x18\x01\0\0\0\0\0\0",
+        answer: Err(SlotFault {
+            pos: 4_194_304,
+            cause: SlotCause::Truncated,
+        }),
+    },
+];
+
+/// The bytes of a large file.
+fn large(alloc: Global, last: &[u8]) -> Result<Vec<u8>, AllocError> {
+    let mut bytes = Vec::new(alloc);
+    for _ in 1..COUNT {
+        bytes.extend_from_slice(b"\x95\0\0\0\0\0\0\0")?;
+    }
+    bytes.extend_from_slice(last)?;
+    Ok(bytes)
+}
+
+/// Tells whether a large file has the answer of its row.
+fn is_decoded(alloc: Global, row: &LargeRow) -> Result<bool, AllocError> {
+    let bytes = large(alloc, row.last)?;
+    Ok(match decode_insns(alloc, Order::Little, &bytes) {
+        Ok(insns) => Ok(insns.len()) == row.answer,
+        Err(InsnError::Fault(fault)) => Err(fault) == row.answer,
+        Err(InsnError::Memory) => false,
+    })
+}
+
+#[test]
+fn large_files_are_decoded(rt: HostRuntime) -> Result<(), Fail> {
+    for row in &LARGE {
+        equal(&rt, &is_decoded(rt.alloc(), row)?, &true, row);
+    }
+    Ok(())
+}

@@ -1,0 +1,353 @@
+//! What each call answers: to the bytes of every form of instruction, to faulty bytes, and to files.
+
+use super::equal;
+use crate::{
+    Group, InsnError, Order, Reg, SlotCause, SlotFault, decode_insns, group_of, groups_of,
+    insn_bytes, insn_len, read_insn,
+};
+use std::alloc::{AllocError, Global};
+use std::test::Fail;
+
+/// The little-endian bytes of an instruction, the instruction by its `Debug` text, and its group. A static can't hold
+/// a register, whose number has a bound.
+#[derive(Clone, Copy, Debug)]
+struct InsnRow {
+    little: &'static [u8],
+    insn: &'static str,
+    group: Group,
+}
+
+/// Faulty bytes, and the place and the cause of their first fault.
+#[derive(Clone, Copy, Debug)]
+struct FaultRow {
+    what: &'static str,
+    little: &'static [u8],
+    pos: u64,
+    cause: SlotCause,
+}
+
+macro_rules! row {
+    ($little:literal => $insn:literal, $group:ident) => {
+        InsnRow { little: $little, insn: $insn, group: Group::$group }
+    };
+}
+
+mod arithmetic;
+mod faults;
+mod jumps;
+mod load_store;
+
+/// The same bytes in another order: in big-endian ones the halves of the register byte and the bytes of each number have
+/// changed places.
+fn in_order(alloc: Global, order: Order, little: &[u8]) -> Result<Vec<u8>, AllocError> {
+    let mut bytes = little.to_vec(alloc)?;
+    if order == Order::Little {
+        return Ok(bytes);
+    }
+    if let Some(registers) = bytes.get_mut(1) {
+        *registers = registers.rotate_left(4);
+    }
+    for (start, end) in [(2, 4), (4, 8), (8, 12), (12, 16)] {
+        if end <= bytes.len() {
+            bytes[start..end].reverse();
+        }
+    }
+    Ok(bytes)
+}
+
+/// Tells whether each call answers to the bytes of an instruction what the row says.
+fn is_right(alloc: Global, order: Order, row: &InsnRow) -> Result<bool, Fail> {
+    let bytes = in_order(alloc, order, row.little)?;
+    let (insn, len) = read_insn(order, &bytes).map_err(InsnError::Fault)?;
+    let shown = format!(in alloc; "{insn:?}")?;
+    let (spelled, spelled_len) = insn_bytes(order, insn);
+    let is_read = shown.as_str() == row.insn && len == bytes.len();
+    let is_spelled = spelled_len == len && &spelled[..spelled_len] == bytes.as_slice();
+    let is_filled = spelled[spelled_len..].iter().all(|byte| *byte == 0);
+    let has_len = insn_len(order, &bytes) == Ok(len);
+    Ok(is_read && is_spelled && is_filled && has_len && group_of(insn) == row.group)
+}
+
+#[test]
+fn instructions_in_both_orders(rt: HostRuntime) -> Result<(), Fail> {
+    let rows = arithmetic::ARITHMETIC
+        .iter()
+        .chain(jumps::JUMPS)
+        .chain(load_store::LOAD_STORE);
+    for row in rows {
+        for order in [Order::Little, Order::Big] {
+            let is_right = is_right(rt.alloc(), order, row)?;
+            equal(&rt, &is_right, &true, &(order, row));
+        }
+    }
+    Ok(())
+}
+
+/// The bytes of one instruction in both orders.
+#[derive(Clone, Copy, Debug)]
+struct OrderRow {
+    little: &'static [u8],
+    big: &'static [u8],
+}
+
+static ORDERS: [OrderRow; 7] = [
+    OrderRow {
+        little: b"\x95\0\0\0\0\0\0\0",
+        big: b"\x95\0\0\0\0\0\0\0",
+    },
+    OrderRow {
+        little: b"\xbf\x21\0\0\0\0\0\0",
+        big: b"\xbf\x12\0\0\0\0\0\0",
+    },
+    OrderRow {
+        little: b"\xb7\0\0\0\xfe\xff\xff\xff",
+        big: b"\xb7\0\0\0\xff\xff\xff\xfe",
+    },
+    OrderRow {
+        little: b"\xb4\x01\0\0\x07\0\0\0",
+        big: b"\xb4\x10\0\0\0\0\0\x07",
+    },
+    OrderRow {
+        little: b"\xdb\x21\xf8\xff\xf1\0\0\0",
+        big: b"\xdb\x12\xff\xf8\0\0\0\xf1",
+    },
+    OrderRow {
+        little: b"\x18\x01\0\0\x88\x77\x66\x55\0\0\0\0\x44\x33\x22\x11",
+        big: b"\x18\x10\0\0\x55\x66\x77\x88\0\0\0\0\x11\x22\x33\x44",
+    },
+    OrderRow {
+        little: b"\x18\x31\0\0\x03\0\0\0\0\0\0\0\x01\0\0\0",
+        big: b"\x18\x13\0\0\0\0\0\x03\0\0\0\0\0\0\0\x01",
+    },
+];
+
+#[test]
+fn files_of_one_instruction_in_both_orders(rt: HostRuntime) -> Result<(), Fail> {
+    for row in &ORDERS {
+        let little = decode_insns(rt.alloc(), Order::Little, row.little)?;
+        let big = decode_insns(rt.alloc(), Order::Big, row.big)?;
+        let other = in_order(rt.alloc(), Order::Big, row.little)?;
+        let right = little.len() == 1 && little == big && other.as_slice() == row.big;
+        equal(&rt, &right, &true, row);
+    }
+    Ok(())
+}
+
+/// Tells whether both calls find the fault of a row.
+fn has_fault(alloc: Global, order: Order, row: &FaultRow) -> Result<bool, AllocError> {
+    let fault = SlotFault {
+        pos: row.pos,
+        cause: row.cause,
+    };
+    let bytes = in_order(alloc, order, row.little)?;
+    Ok(read_insn(order, &bytes) == Err(fault) && insn_len(order, &bytes) == Err(fault))
+}
+
+#[test]
+fn first_faults_in_both_orders(rt: HostRuntime) -> Result<(), Fail> {
+    let rows = faults::FIRST_FIELDS
+        .iter()
+        .chain(faults::MIDDLE_FIELDS)
+        .chain(faults::LAST_FIELDS);
+    for row in rows {
+        for order in [Order::Little, Order::Big] {
+            let has_fault = has_fault(rt.alloc(), order, row)?;
+            equal(&rt, &has_fault, &true, &(order, row));
+        }
+    }
+    Ok(())
+}
+
+/// A signed division, an exchange, an exit and a wide load.
+const FILE: &[u8; 40] = b"\
+    \x37\x01\x01\0\x03\0\0\0\xdb\x21\xf8\xff\xf1\0\0\0\x95\0\0\0\0\0\0\0\
+    \x18\x01\0\0\x88\x77\x66\x55\0\0\0\0\x44\x33\x22\x11";
+
+/// How many instructions the first bytes of the file have, if they are whole.
+fn whole_insns(len: usize) -> Option<usize> {
+    match len {
+        40 => Some(4),
+        0 | 8 | 16 | 24 => Some(len / 8),
+        _ => None,
+    }
+}
+
+#[test]
+fn a_file_that_is_cut_anywhere(rt: HostRuntime) {
+    for len in 0..=FILE.len() {
+        let found = match decode_insns(rt.alloc(), Order::Little, &FILE[..len]) {
+            Ok(insns) => Ok(insns.len()),
+            Err(error) => Err(error),
+        };
+        let truncated = SlotFault {
+            pos: (len - len % 8) as u64,
+            cause: SlotCause::Truncated,
+        };
+        let answer = whole_insns(len).ok_or(InsnError::Fault(truncated));
+        equal(&rt, &found, &answer, &len);
+    }
+}
+
+/// A file, and the place and the cause of its first fault.
+static FILE_FAULTS: [FaultRow; 4] = [
+    FaultRow {
+        what: "a source after an exit",
+        little: b"\x95\0\0\0\0\0\0\0\x04\x10\0\0\x05\0\0\0",
+        pos: 9,
+        cause: SlotCause::Src,
+    },
+    FaultRow {
+        what: "a reserved word after an exit",
+        little: b"\x95\0\0\0\0\0\0\0\x18\x01\0\0\0\0\0\0\0\0\0\x01\0\0\0\0",
+        pos: 16,
+        cause: SlotCause::Reserved,
+    },
+    FaultRow {
+        what: "an opcode after a wide load",
+        little: b"\x18\x01\0\0\0\0\0\0\0\0\0\0\0\0\0\0\xff\0\0\0\0\0\0\0",
+        pos: 16,
+        cause: SlotCause::Opcode,
+    },
+    FaultRow {
+        what: "the first of two",
+        little: b"\x95\0\0\0\x01\0\0\0\xff\0\0\0\0\0\0\0",
+        pos: 4,
+        cause: SlotCause::Imm,
+    },
+];
+
+#[test]
+fn faults_of_files_count_from_the_first_byte(rt: HostRuntime) {
+    for row in &FILE_FAULTS {
+        let found = decode_insns(rt.alloc(), Order::Little, row.little).err();
+        let fault = SlotFault {
+            pos: row.pos,
+            cause: row.cause,
+        };
+        equal(&rt, &found, &Some(InsnError::Fault(fault)), row);
+    }
+}
+
+/// A file, and all groups of its instructions.
+#[derive(Clone, Copy, Debug)]
+struct GroupsRow {
+    little: &'static [u8],
+    groups: &'static [Group],
+}
+
+static GROUPS: [GroupsRow; 9] = [
+    GroupsRow {
+        little: b"",
+        groups: &[],
+    },
+    // the file above
+    GroupsRow {
+        little: b"\x37\x01\x01\0\x03\0\0\0\xdb\x21\xf8\xff\xf1\0\0\0\x95\0\0\0\0\0\0\0",
+        groups: &[
+            Group::Base32,
+            Group::Atomic32,
+            Group::Atomic64,
+            Group::Divmul32,
+            Group::Divmul64,
+        ],
+    },
+    // exit
+    GroupsRow {
+        little: b"\x95\0\0\0\0\0\0\0",
+        groups: &[Group::Base32],
+    },
+    // mov r1, r2
+    GroupsRow {
+        little: b"\xbf\x21\0\0\0\0\0\0",
+        groups: &[Group::Base32, Group::Base64],
+    },
+    // atomic_add32 [r1+0], r4
+    GroupsRow {
+        little: b"\xc3\x41\0\0\0\0\0\0",
+        groups: &[Group::Atomic32],
+    },
+    // atomic_add [r0-2], r1
+    GroupsRow {
+        little: b"\xdb\x10\xfe\xff\0\0\0\0",
+        groups: &[Group::Atomic32, Group::Atomic64],
+    },
+    // mul32 r1, r4
+    GroupsRow {
+        little: b"\x2c\x41\0\0\0\0\0\0",
+        groups: &[Group::Divmul32],
+    },
+    // mul r10, r9
+    GroupsRow {
+        little: b"\x2f\x9a\0\0\0\0\0\0",
+        groups: &[Group::Divmul32, Group::Divmul64],
+    },
+    // ldindh r3, 4
+    GroupsRow {
+        little: b"\x48\x30\0\0\x04\0\0\0",
+        groups: &[Group::Packet],
+    },
+];
+
+const ALL_GROUPS: [Group; 7] = [
+    Group::Base32,
+    Group::Base64,
+    Group::Atomic32,
+    Group::Atomic64,
+    Group::Divmul32,
+    Group::Divmul64,
+    Group::Packet,
+];
+
+#[test]
+fn groups_of_files(rt: HostRuntime) -> Result<(), Fail> {
+    for row in &GROUPS {
+        let insns = decode_insns(rt.alloc(), Order::Little, row.little)?;
+        let set = groups_of(&insns);
+        for group in ALL_GROUPS {
+            equal(
+                &rt,
+                &set.has(group),
+                &row.groups.contains(&group),
+                &(group, row),
+            );
+        }
+    }
+    Ok(())
+}
+
+#[test]
+fn registers_have_the_numbers_up_to_ten(rt: HostRuntime) {
+    for number in 0..=u8::MAX {
+        let found = Reg::new(number).map(Reg::number);
+        let register = if number <= 10 { Some(number) } else { None };
+        equal(&rt, &found, &register, &number);
+    }
+}
+
+/// The causes by their numbers, and their names.
+const CAUSES: [(SlotCause, &str); 8] = [
+    (SlotCause::Truncated, "Truncated"),
+    (SlotCause::Opcode, "Opcode"),
+    (SlotCause::Dst, "Dst"),
+    (SlotCause::Src, "Src"),
+    (SlotCause::Offset, "Offset"),
+    (SlotCause::Imm, "Imm"),
+    (SlotCause::Reserved, "Reserved"),
+    (SlotCause::NextImm, "NextImm"),
+];
+
+#[test]
+fn causes_and_errors_are_shown_by_their_names(rt: HostRuntime) -> Result<(), Fail> {
+    for (index, (cause, name)) in CAUSES.iter().enumerate() {
+        let shown = format!(in rt.alloc(); "{} {} {cause}", *cause as usize, cause.name())?;
+        let wanted = format!(in rt.alloc(); "{} {name} {name}", index + 1)?;
+        equal(&rt, &shown, &wanted, cause);
+    }
+    let fault = InsnError::Fault(SlotFault {
+        pos: 0,
+        cause: SlotCause::Opcode,
+    });
+    let shown = format!(in rt.alloc(); "{fault} {}", InsnError::Memory)?;
+    equal(&rt, &shown.as_str(), &"Fault Memory", &"errors");
+    Ok(())
+}
