@@ -1,0 +1,206 @@
+//! What each call answers to lines and to instructions.
+
+use super::equal;
+use crate::{
+    LineCause, LineFault, ListError, listing, push_line, read_listing, read_listing_bytes,
+};
+use bpf_insn::{Insn, Order, decode_insns, insn_bytes};
+use std::alloc::{AllocError, Global};
+use std::test::Fail;
+
+mod faults;
+mod forms;
+mod words;
+
+/// A line as it is written, with its newline, and the little-endian bytes of its instruction.
+#[derive(Clone, Copy, Debug)]
+struct WrittenRow {
+    line: &'static [u8],
+    bytes: &'static [u8],
+}
+
+/// A text, its lines as they are written, and the little-endian bytes of its instructions.
+#[derive(Clone, Copy, Debug)]
+struct FormRow {
+    text: &'static [u8],
+    lines: &'static [u8],
+    bytes: &'static [u8],
+}
+
+/// A text, and the line and the cause of its first fault.
+#[derive(Clone, Copy, Debug)]
+struct FaultRow {
+    text: &'static [u8],
+    line: u64,
+    cause: LineCause,
+}
+
+/// The bytes of instructions.
+fn bytes_of(alloc: Global, order: Order, insns: &[Insn]) -> Result<Vec<u8>, AllocError> {
+    let mut bytes = Vec::new(alloc);
+    for insn in insns {
+        let (spelling, len) = insn_bytes(order, *insn);
+        bytes.extend_from_slice(&spelling[..len])?;
+    }
+    Ok(bytes)
+}
+
+/// The lines of instructions after a comment, as `push_line` appends them.
+fn pushed(alloc: Global, insns: &[Insn]) -> Result<Vec<u8>, AllocError> {
+    let mut text = Vec::from_slice(alloc, COMMENT)?;
+    for insn in insns {
+        push_line(&mut text, *insn)?;
+    }
+    Ok(text)
+}
+
+const COMMENT: &[u8] = b"; lines\n";
+
+/// Tells whether a text has these lines and bytes by every call.
+fn is_listed(alloc: Global, text: &[u8], lines: &[u8], bytes: &[u8]) -> Result<bool, Fail> {
+    let insns = read_listing(alloc, text)?;
+    let appended = pushed(alloc, &insns)?;
+    let big = bytes_of(alloc, Order::Big, &insns)?;
+    let is_read = decode_insns(alloc, Order::Little, bytes)? == insns
+        && bytes_of(alloc, Order::Little, &insns)?.as_slice() == bytes
+        && read_listing_bytes(alloc, Order::Little, text)?.as_slice() == bytes
+        && read_listing_bytes(alloc, Order::Big, text)? == big;
+    let is_written = listing(alloc, &insns)?.as_slice() == lines
+        && appended.strip_prefix(COMMENT) == Some(lines);
+    Ok(is_read && is_written)
+}
+
+#[test]
+fn each_word_is_read_and_written(rt: HostRuntime) -> Result<(), Fail> {
+    let rows = words::ARITHMETIC
+        .iter()
+        .chain(words::JUMPS)
+        .chain(words::LOAD_STORE);
+    for row in rows {
+        let is_listed = is_listed(rt.alloc(), row.line, row.line, row.bytes)?;
+        equal(&rt, &is_listed, &true, row);
+    }
+    Ok(())
+}
+
+#[test]
+fn other_forms_are_read(rt: HostRuntime) -> Result<(), Fail> {
+    for row in forms::FORMS.iter() {
+        let is_listed = is_listed(rt.alloc(), row.text, row.lines, row.bytes)?;
+        equal(&rt, &is_listed, &true, row);
+    }
+    Ok(())
+}
+
+#[test]
+fn bytes_are_read_in_both_orders(rt: HostRuntime) -> Result<(), Fail> {
+    let text = b"; three\nmov r1, 0x10 # sixteen\n\nlddw r2, 0x0102030405060708\nexit";
+    let rows: [(Order, &[u8]); 2] = [
+        (
+            Order::Little,
+            b"\xb7\x01\0\0\x10\0\0\0\x18\x02\0\0\x08\x07\x06\x05\0\0\0\0\x04\x03\x02\x01\x95\0\0\0\0\0\0\0",
+        ),
+        (
+            Order::Big,
+            b"\xb7\x10\0\0\0\0\0\x10\x18\x20\0\0\x05\x06\x07\x08\0\0\0\0\x01\x02\x03\x04\x95\0\0\0\0\0\0\0",
+        ),
+    ];
+    for (order, bytes) in rows {
+        let read = read_listing_bytes(rt.alloc(), order, text)?;
+        equal(&rt, &read.as_slice(), &bytes, &order);
+    }
+    Ok(())
+}
+
+/// What both calls that read answer to a faulty text.
+fn both_faults(alloc: Global, text: &[u8]) -> (Option<ListError>, Option<ListError>) {
+    (
+        read_listing(alloc, text).err(),
+        read_listing_bytes(alloc, Order::Big, text).err(),
+    )
+}
+
+#[test]
+fn the_first_fault_is_found(rt: HostRuntime) {
+    for row in faults::FAULTS.iter() {
+        let fault = Some(ListError::Fault(LineFault {
+            line: row.line,
+            cause: row.cause,
+        }));
+        equal(
+            &rt,
+            &both_faults(rt.alloc(), row.text),
+            &(fault, fault),
+            row,
+        );
+    }
+}
+
+/// The beginning of a line, a byte that is repeated after it, and the cause of the whole.
+#[derive(Clone, Copy, Debug)]
+struct LongRow {
+    start: &'static [u8],
+    byte: u8,
+    cause: LineCause,
+}
+
+static LONG_LINES: [LongRow; 4] = [
+    LongRow {
+        start: b"exit ",
+        byte: b',',
+        cause: LineCause::Shape,
+    },
+    LongRow {
+        start: b"mov r1, ",
+        byte: b'9',
+        cause: LineCause::Range,
+    },
+    LongRow {
+        start: b"mov r1, 9",
+        byte: b'a',
+        cause: LineCause::Shape,
+    },
+    LongRow {
+        start: b"exit ",
+        byte: b'\0',
+        cause: LineCause::Char,
+    },
+];
+
+#[test]
+fn long_lines_are_faulty(rt: HostRuntime) -> Result<(), Fail> {
+    for row in &LONG_LINES {
+        let mut text = Vec::from_slice(rt.alloc(), row.start)?;
+        text.resize(1 << 16, row.byte)?;
+        let fault = Some(ListError::Fault(LineFault {
+            line: 1,
+            cause: row.cause,
+        }));
+        equal(&rt, &both_faults(rt.alloc(), &text), &(fault, fault), row);
+    }
+    Ok(())
+}
+
+/// The causes by their numbers, and their names.
+const CAUSES: [(LineCause, &str); 4] = [
+    (LineCause::Char, "Char"),
+    (LineCause::Word, "Word"),
+    (LineCause::Shape, "Shape"),
+    (LineCause::Range, "Range"),
+];
+
+#[test]
+fn causes_and_errors_are_shown_by_their_names(rt: HostRuntime) -> Result<(), Fail> {
+    for (index, (cause, name)) in CAUSES.iter().enumerate() {
+        let shown = format!(in rt.alloc(); "{} {} {cause}", *cause as usize, cause.name())?;
+        let wanted = format!(in rt.alloc(); "{} {name} {name}", index + 1)?;
+        equal(&rt, &shown, &wanted, cause);
+    }
+    let fault = ListError::Fault(LineFault {
+        line: 1,
+        cause: LineCause::Char,
+    });
+    let shown = format!(in rt.alloc(); "{fault} {}", ListError::Memory)?;
+    equal(&rt, &shown.as_str(), &"Fault Memory", &"errors");
+    Ok(())
+}
