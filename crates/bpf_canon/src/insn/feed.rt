@@ -8,7 +8,7 @@ ghost use Rattle.bpf_canon.specs.insn.FrontReads.{Advances};
 
 use crate::insn::front::read_front_across;
 use bpf_insn::{InsnError, Order, SlotCause, SlotFault};
-use std::alloc::Allocator;
+use std::alloc::{AllocError, Allocator};
 use std::marker::Model;
 
 /// Reads instructions from the pieces of a stream in one order, and writes them in another as soon as they are whole.
@@ -117,8 +117,9 @@ impl InsnFeed {
         if piece.is_empty() {
             return Ok(());
         }
-        if out.reserve(self.held_len + piece.len()).is_err() {
-            return Err(InsnError::Memory);
+        match out.reserve(self.held_len + piece.len()) {
+            Ok(()) => {}
+            Err(AllocError) => return Err(InsnError::Memory),
         }
         self.advance(piece, out);
         match self.fault {
