@@ -246,7 +246,7 @@ fn an_out_of_memory_keeps_the_text(rt: HostRuntime) -> Result<(), Fail> {
                 Outcome::Wrong => equal(&rt, &room, &0, &call),
             }
         }
-        let right = held.len() + wanted.len() <= outcomes.1 + 1 && outcomes.0 == 256;
+        let right = held.len() + wanted.len() <= outcomes.1.saturating_add(1) && outcomes.0 == 256;
         equal(&rt, &right, &true, &(call, outcomes));
     }
     Ok(())
