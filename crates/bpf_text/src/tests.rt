@@ -1,5 +1,6 @@
 //! Worked examples, faulty texts, and growths that are refused.
 
+mod largest;
 mod listings;
 mod memory;
 mod types;
