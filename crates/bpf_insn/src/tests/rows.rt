@@ -288,22 +288,12 @@ static GROUPS: [GroupsRow; 9] = [
     },
 ];
 
-const ALL_GROUPS: [Group; 7] = [
-    Group::Base32,
-    Group::Base64,
-    Group::Atomic32,
-    Group::Atomic64,
-    Group::Divmul32,
-    Group::Divmul64,
-    Group::Packet,
-];
-
 #[test]
 fn groups_of_files(rt: HostRuntime) -> Result<(), Fail> {
     for row in &GROUPS {
         let insns = decode_insns(rt.alloc(), Order::Little, row.little)?;
         let set = groups_of(&insns);
-        for group in ALL_GROUPS {
+        for group in Group::ALL {
             equal(
                 &rt,
                 &set.has(group),
