@@ -9,8 +9,7 @@ ghost use Rattle.std.specs.Prelude.{◌≡◌, IsTrue};
 ghost use Rattle.bpf_words.specs.Slots.{AreFields, Fields, spelled};
 ghost use Rattle.bpf_insn.specs.Plain.{IsPlain, registers_above, zero_bits_at};
 
-use crate::{Order, Slot};
-use bpf_words::slot_of;
+use crate::Order;
 
 /// An opcode that is left to be read. Bit 0 is set before a slot is judged.
 const NONE: u64 = 1;
@@ -150,8 +149,7 @@ fn registers_above_ten(registers: u8) -> u64
 pub(crate) fn is_plain(order: Order, bytes: &[u8; 8]) -> bool
     ensures { IsTrue result → (slot : Fields) × (AreFields slot × ((bytes.now ≡ spelled order slot) × IsPlain slot)) }
 {
-    let slot: Slot = slot_of(order, bytes);
     let word = u64::from_le_bytes(*bytes) | 1;
-    let set = word & zero_bits(order, slot.opcode);
+    let set = word & zero_bits(order, bytes[0]);
     (set | registers_above_ten(bytes[1])) == 0
 }

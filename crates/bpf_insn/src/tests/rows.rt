@@ -288,22 +288,12 @@ static GROUPS: [GroupsRow; 9] = [
     },
 ];
 
-const ALL_GROUPS: [Group; 7] = [
-    Group::Base32,
-    Group::Base64,
-    Group::Atomic32,
-    Group::Atomic64,
-    Group::Divmul32,
-    Group::Divmul64,
-    Group::Packet,
-];
-
 #[test]
 fn groups_of_files(rt: HostRuntime) -> Result<(), Fail> {
     for row in &GROUPS {
         let insns = decode_insns(rt.alloc(), Order::Little, row.little)?;
         let set = groups_of(&insns);
-        for group in ALL_GROUPS {
+        for group in Group::ALL {
             equal(
                 &rt,
                 &set.has(group),
@@ -324,23 +314,60 @@ fn registers_have_the_numbers_up_to_ten(rt: HostRuntime) {
     }
 }
 
-/// The causes by their numbers, and their names.
-const CAUSES: [(SlotCause, &str); 8] = [
-    (SlotCause::Truncated, "Truncated"),
-    (SlotCause::Opcode, "Opcode"),
-    (SlotCause::Dst, "Dst"),
-    (SlotCause::Src, "Src"),
-    (SlotCause::Offset, "Offset"),
-    (SlotCause::Imm, "Imm"),
-    (SlotCause::Reserved, "Reserved"),
-    (SlotCause::NextImm, "NextImm"),
+/// The causes by their numbers, their names, and their sentences.
+const CAUSES: [(SlotCause, &str, &str); 8] = [
+    (
+        SlotCause::Truncated,
+        "Truncated",
+        "the input ends inside an instruction",
+    ),
+    (
+        SlotCause::Opcode,
+        "Opcode",
+        "no instruction has this opcode",
+    ),
+    (
+        SlotCause::Dst,
+        "Dst",
+        "no instruction with this opcode has this destination register",
+    ),
+    (
+        SlotCause::Src,
+        "Src",
+        "no instruction with this opcode has this source register",
+    ),
+    (
+        SlotCause::Offset,
+        "Offset",
+        "no instruction with this opcode and these registers has this offset",
+    ),
+    (
+        SlotCause::Imm,
+        "Imm",
+        "no instruction with this opcode, these registers and this offset has this immediate",
+    ),
+    (
+        SlotCause::Reserved,
+        "Reserved",
+        "the second slot of a wide load has an opcode, a register or an offset that is not zero",
+    ),
+    (
+        SlotCause::NextImm,
+        "NextImm",
+        "the immediate of the second slot is not zero, and this kind of wide load has one number only",
+    ),
 ];
 
 #[test]
-fn causes_and_errors_are_shown_by_their_names(rt: HostRuntime) -> Result<(), Fail> {
-    for (index, (cause, name)) in CAUSES.iter().enumerate() {
-        let shown = format!(in rt.alloc(); "{} {} {cause}", *cause as usize, cause.name())?;
-        let wanted = format!(in rt.alloc(); "{} {name} {name}", index + 1)?;
+fn causes_and_errors_have_these_texts(rt: HostRuntime) -> Result<(), Fail> {
+    for (index, (cause, name, sentence)) in CAUSES.iter().enumerate() {
+        let shown = format!(in rt.alloc();
+            "{} {} {cause} {}",
+            *cause as usize,
+            cause.name(),
+            cause.describe()
+        )?;
+        let wanted = format!(in rt.alloc(); "{} {name} {name} {sentence}", index + 1)?;
         equal(&rt, &shown, &wanted, cause);
     }
     let fault = InsnError::Fault(SlotFault {
