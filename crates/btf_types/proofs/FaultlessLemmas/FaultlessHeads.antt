@@ -5,11 +5,11 @@ use Rattle.std.specs.List.{All}
 use Rattle.std.proofs.lemmas.Bool.{eqb-true}
 use Rattle.std.proofs.lemmas.List.Elements.{All-nil, All-cons}
 use Rattle.btf_raw.specs.declared.kinds.TheConstants.{INT, ARRAY, FUNC, VAR, DECL_TAG, FWD}
-use Rattle.btf_raw.specs.Kinds.{one_of, has_flag, has_vlen, fixed_words, item_words}
+use Rattle.btf_raw.specs.Kinds.{one_of, has_flag, has_vlen, fixed_words, item_words, has_target, has_no_name}
 use Rattle.btf_types.specs.Values.{TypeItem}
 use Rattle.btf_types.specs.Names.{head_name}
 use Rattle.btf_types.specs.Spelling.{kind_number, head_third, bit, FlagSpells, linkage_number, encoding_number, component_word, record_vlen, head_tail}
-use Rattle.btf_types.specs.judge.Checks.{TypeFacts, has_target, has_no_name, size_fits, bits_fit, component_fits}
+use Rattle.btf_types.specs.judge.Checks.{TypeFacts, size_fits, bits_fit, component_fits}
 use Rattle.btf_types.specs.Good.{HeadInRange, HeadIsGood, head_targets}
 use Rattle.btf_types.specs.Good as good
 use Rattle.btf_types.specs.judge.FieldFaults.{int_unused, int_encoding, int_offset, int_bits}
