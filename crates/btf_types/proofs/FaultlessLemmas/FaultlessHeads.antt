@@ -162,12 +162,12 @@ size_of_count IsEnum64 size vlen count is fits = rw is fits
 size_of_count known size vlen count is fits = fits
 
 -- what other records ask of it
-pub offset_of_head : {k : ℕ} → KindIs k → (name : List ℕ) (third flag vlen next fourth fifth : ℕ) → good.int_offset (head_from name k third flag vlen next fourth fifth) ≡ (if k == INT then int_offset next else 0)
+pub offset_of_head : {k : ℕ} → KindIs k → (name : List ℕ) (third flag vlen next fourth fifth : ℕ) → good.head_int_offset (head_from name k third flag vlen next fourth fifth) ≡ (if k == INT then int_offset next else 0)
 unfolding head_from
 offset_of_head IsInt name third flag vlen next fourth fifth = refl
 offset_of_head known name third flag vlen next fourth fifth = refl
 
-pub bits_of_head : {k : ℕ} → KindIs k → (name : List ℕ) (third flag vlen next fourth fifth : ℕ) → good.int_bits (head_from name k third flag vlen next fourth fifth) ≡ (if k == INT then int_bits next else 0)
+pub bits_of_head : {k : ℕ} → KindIs k → (name : List ℕ) (third flag vlen next fourth fifth : ℕ) → good.head_int_bits (head_from name k third flag vlen next fourth fifth) ≡ (if k == INT then int_bits next else 0)
 unfolding head_from
 bits_of_head IsInt name third flag vlen next fourth fifth = refl
 bits_of_head known name third flag vlen next fourth fifth = refl
