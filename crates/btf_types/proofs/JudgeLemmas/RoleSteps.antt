@@ -5,12 +5,12 @@ use Rattle.std.proofs.lemmas.Bool.{cases_lt, eqb-true}
 use Rattle.btf_raw.specs.declared.cause.BtfCause.{BtfCause}
 use Rattle.btf_raw.specs.declared.cause.BtfCause.TheVariants.{NameRange, NameUtf8, NameMissing, NameUnwanted, NotZero, Size, Reference, TargetKind, IntWord, MemberInt, MemberPlace, Linkage, Component}
 use Rattle.btf_raw.specs.declared.kinds.TheConstants.{INT, ARRAY, STRUCT, UNION, ENUM, FUNC_PROTO, VAR, DATASEC, DECL_TAG, ENUM64}
-use Rattle.btf_raw.specs.Kinds.{one_of, tail_words, fixed_words, item_words}
+use Rattle.btf_raw.specs.Kinds.{one_of, tail_words, fixed_words, item_words, has_target, has_item_names, is_struct}
 use Rattle.btf_raw.specs.Names.{TextAt}
 use Rattle.btf_raw.specs.Frames.{IsFrame, name_word, third_word, kind, vlen, flag}
 use Rattle.btf_types.specs.declared.judge.roles.Role.{Role}
 use Rattle.btf_types.specs.declared.judge.roles.Role.TheVariants as roles
-use Rattle.btf_types.specs.judge.Checks.{has_target, has_item_names, is_struct, size_fits, bits_fit, target_fits, component_fits, TypeFacts, type_at, NoCause, LeastCause}
+use Rattle.btf_types.specs.judge.Checks.{size_fits, bits_fit, target_fits, component_fits, TypeFacts, type_at, NoCause, LeastCause}
 use Rattle.btf_types.specs.judge.FieldFaults.{WordFault, offset_in, width_in, int_unused, int_encoding, int_bits, IsTypeField, IsNameField, IsMemberWord, IsItemWord}
 use Rattle.btf_types.specs.judge.Roles.{part, PartIs, RoleIs, RoleTells}
 use Rattle.btf_types.specs.declared.judge.fields.Record.{Record}

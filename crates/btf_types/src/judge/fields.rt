@@ -11,13 +11,13 @@ ghost use Rattle.btf_types.specs.judge.RecordFaults.{RecordIs, BitFieldsAre, Fau
 ghost use Rattle.btf_types.specs.Sections.{IsSection, StandsIn, frame_of, frames_in};
 
 use crate::judge::checks::{
-    bit_offset_of, int_fault, is_struct, linkage_fault, member_place_fault, second_fault, width_of,
+    bit_offset_of, int_fault, linkage_fault, member_place_fault, second_fault, width_of,
 };
 use crate::judge::names::{item_name_fault, name_fault};
 use crate::judge::roles::{Role, role_of};
 use crate::judge::types::{component_fault, member_type_fault, named_type_fault, third_fault};
 use crate::tables::section::Section;
-use btf_raw::info::{flag_of, kind_of, tail_words, vlen_of};
+use btf_raw::info::{flag_of, is_struct, kind_of, tail_words, vlen_of};
 use btf_raw::{BtfCause, BtfFault};
 
 /// A record of the section, and what its first words say.

@@ -8,8 +8,8 @@ ghost use Rattle.bpf_canon.specs.btf.write.KeptFrames.{frame_in, HasRecord};
 ghost use Rattle.bpf_canon.specs.btf.write.NameOffsets.{item_word, name_offsets, all_offsets, HasNamedItems};
 
 use crate::btf::strings::first_uses::FirstUses;
-use crate::btf::write::records::{has_item_names, word};
-use btf_raw::info::{item_words, kind_of, vlen_of};
+use crate::btf::write::records::word;
+use btf_raw::info::{has_item_names, item_words, kind_of, vlen_of};
 use btf_types::FileSections;
 use std::alloc::{AllocError, Allocator};
 

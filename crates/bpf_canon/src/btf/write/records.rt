@@ -2,7 +2,7 @@
 ghost use Rattle.std.specs.Prelude.{◌≡◌, ◌≢◌, ◌+◌, ◌*◌, ◌/◌, ◌<◌, ◌≤◌, ◌^◌, ◌∷◌, [], ◌++◌, IsTrue, IsFalse, OnOk, length, drop, map, slice_index};
 ghost use Rattle.std.specs.List.{All, Contains};
 ghost use Rattle.btf_raw.specs.Frames.{bytes_of, section_of, kind, vlen, flag, info_word, third_word};
-ghost use Rattle.btf_types.specs.judge.Checks as checks;
+ghost use Rattle.btf_raw.specs.Kinds.{is_struct};
 ghost use Rattle.btf_types.specs.Good.{has_bit_fields};
 ghost use Rattle.btf_types.specs.strings.SharedNames.{shared_place};
 ghost use Rattle.btf_types.specs.tables.TableInvariant.{IsTable};
@@ -14,26 +14,10 @@ ghost use Rattle.bpf_canon.specs.btf.strings.NamesByPlace.{placed_texts};
 
 use crate::btf::strings::places::SharedPlaces;
 use bpf_words::{Order, get32, push32};
-use btf_raw::info::{flag_of, item_words, kind_of, tail_words, vlen_of};
-use btf_raw::{ENUM, ENUM64, FUNC_PROTO, STRUCT, UNION};
+use btf_raw::info::{flag_of, has_item_names, is_struct, item_words, kind_of, tail_words, vlen_of};
 use btf_types::FileSections;
 use byteorder::{BigEndian, ByteOrder, LittleEndian};
 use std::alloc::{AllocError, Allocator};
-
-// Whether the items of a record of this kind have names.
-#[tactic(auto, unfolding(btf_types::specs::judge::Checks::has_item_names))]
-pub(crate) fn has_item_names(kind: u8) -> bool
-    ensures { result ≡ checks.has_item_names kind }
-{
-    matches!(kind, STRUCT | UNION | ENUM | FUNC_PROTO | ENUM64)
-}
-
-// Whether the items of a record of this kind are members.
-fn is_struct(kind: u8) -> bool
-    ensures { result ≡ checks.is_struct kind }
-{
-    matches!(kind, STRUCT | UNION)
-}
 
 // Word `j` of the frame at `pos` of the types.
 pub(crate) fn word(sections: &FileSections<'_>, pos: usize, j: usize) -> u32
@@ -79,7 +63,7 @@ fn push_two<A: Allocator>(
 // Whether a member of a STRUCT or UNION whose kind_flag is 1 has a width.
 fn has_widths(sections: &FileSections<'_>, pos: usize, count: u16) -> bool
     requires record { HasRecord sections.now pos }
-    requires members { IsTrue (checks.is_struct (kind (frame_in sections.now pos))) }
+    requires members { IsTrue (is_struct (kind (frame_in sections.now pos))) }
     requires marked { flag (frame_in sections.now pos) ≢ 0 }
     requires all { count ≡ vlen (frame_in sections.now pos) }
     ensures { result ≡ has_bit_fields (record_in sections.now pos) }

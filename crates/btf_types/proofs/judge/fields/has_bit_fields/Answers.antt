@@ -1,7 +1,7 @@
 use Rattle.std.proofs.Common.{◌≢◌, ◌+◌, ◌*◌, ◌/◌, ◌^◌, ◌<◌, arith}
 use Rattle.std.specs.Prelude.{IsTrue, slice_index}
 use Rattle.btf_raw.specs.Frames.{kind, vlen, flag}
-use Rattle.btf_types.specs.judge.Checks.{is_struct}
+use Rattle.btf_raw.specs.Kinds.{is_struct}
 use Rattle.btf_types.specs.Reading.{frame_at}
 use Rattle.btf_types.proofs.JudgeLemmas.BitSteps.{member_there, some_width, no_width}
 use Rattle.btf_types.proofs.judge.fields.has_bit_fields.Goals as goal

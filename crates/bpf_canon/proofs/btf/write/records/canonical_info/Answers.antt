@@ -1,8 +1,7 @@
 use Rattle.std.proofs.Common.{◌≡◌, ◌≢◌, ◌%◌, ◌^◌, ℕ, true, false, sym, ap, ◌∙◌, bit_and}
 use Rattle.std.proofs.lemmas.Nat.{and_mask}
-use Rattle.btf_raw.specs.Kinds.{kind_of, flag_of}
+use Rattle.btf_raw.specs.Kinds.{kind_of, flag_of, is_struct}
 use Rattle.btf_raw.specs.Frames.{kind, flag}
-use Rattle.btf_types.specs.judge.Checks.{is_struct}
 use Rattle.btf_types.specs.Good.{has_bit_fields}
 use Rattle.bpf_canon.specs.btf.write.KeptFrames.{frame_in, record_in}
 use Rattle.bpf_canon.proofs.BtfLemmas.Write.RecordWords.{items_few, unmarked_record, info_of_others, info_unmarked, info_wide, info_cleared}
