@@ -341,18 +341,18 @@ module _ (strings : List ℕ) (types : List TypeFacts) (frame : List ℕ) (b : B
       (role_holds role is) (role_says strings types frame b j role bits tells) judged
 
 abbrev pub HeldFault : Section → Record → ℕ → Role → BtfCause → Type 0
-HeldFault s r word role c = RoleFault s.strings.now (facts_in s) r.kind r.vlen r.flag r.third r.bit_fields word role c
+HeldFault s r word role c = RoleFault s.file.strings.now (facts_in s) r.kind r.vlen r.flag r.third r.bit_fields word role c
 
 -- the same on the numbers that are kept of a record
 pub judged : {s : Section} {r : Record} {j word : ℕ} (role : Role) (result : Option BtfCause) → RecordIs s r → j < r.words
-    → word ≡ slice_index (frame_at s.order s.types.now r.pos) j → RoleIs r.kind j role → RoleTells r.kind j role
+    → word ≡ slice_index (frame_at s.file.order s.file.types.now r.pos) j → RoleIs r.kind j role → RoleTells r.kind j role
     → MatchOption result (NoCause (HeldFault s r word role)) (λ c. LeastCause (HeldFault s r word role) c)
-    → MatchOption result (NoCause (WordFault s.strings.now (facts_in s) (frame_at s.order s.types.now r.pos) j)) (λ c. LeastCause (WordFault s.strings.now (facts_in s) (frame_at s.order s.types.now r.pos) j) c)
+    → MatchOption result (NoCause (WordFault s.file.strings.now (facts_in s) (frame_at s.file.order s.file.types.now r.pos) j)) (λ c. LeastCause (WordFault s.file.strings.now (facts_in s) (frame_at s.file.order s.file.types.now r.pos) j) c)
 judged {s} {r} {j} {word} role result is there word-is role-is tells held =
-    let f = frame_at s.order s.types.now r.pos in
-    word_judged s.strings.now (facts_in s) f r.bit_fields j is.stands.frame is.bit_fields_are (rw (← is.words_are) there) role result
+    let f = frame_at s.file.order s.file.types.now r.pos in
+    word_judged s.file.strings.now (facts_in s) f r.bit_fields j is.stands.frame is.bit_fields_are (rw (← is.words_are) there) role result
     (rw (← is.kind_is) role-is) (rw (← is.kind_is) tells)
-    (judged_same (HeldFault s r word role) (WordRoleFault s.strings.now (facts_in s) f r.bit_fields j role) result
+    (judged_same (HeldFault s r word role) (WordRoleFault s.file.strings.now (facts_in s) f r.bit_fields j role) result
     (λ d h. rw (← is.kind_is, ← is.vlen_is, ← is.flag_is, ← is.third_is, ← word-is) h)
     (λ d h. rw (is.kind_is, is.vlen_is, is.flag_is, is.third_is, word-is) h) held)
 

@@ -1,6 +1,6 @@
 use Rattle.std.proofs.Common.{sym, ◌∙◌, arith}
 use Rattle.btf_types.proofs.JudgeLemmas.FramingSteps.{frame_word, length-frame_at}
-use Rattle.btf_types.proofs.tables.section.Section.word.Goals as goal
+use Rattle.btf_types.proofs.tables.table.FileSections.word.Goals as goal
 
 pub returns : goal.returns
 returns c =
