@@ -1,4 +1,4 @@
-//! What each call answers: to the bytes of every form of instruction, to faulty bytes, and to files.
+//! What each call returns: for the bytes of every form of instruction, for faulty bytes, and for files.
 
 use super::equal;
 use crate::{
@@ -37,8 +37,7 @@ mod faults;
 mod jumps;
 mod load_store;
 
-/// The same bytes in another order: in big-endian ones the halves of the register byte and the bytes of each number have
-/// changed places.
+/// The same bytes in the other order: the halves of the register byte and the bytes of each number are exchanged.
 fn in_order(alloc: Global, order: Order, little: &[u8]) -> Result<Vec<u8>, AllocError> {
     let mut bytes = little.to_vec(alloc)?;
     if order == Order::Little {
@@ -55,7 +54,7 @@ fn in_order(alloc: Global, order: Order, little: &[u8]) -> Result<Vec<u8>, Alloc
     Ok(bytes)
 }
 
-/// Tells whether each call answers to the bytes of an instruction what the row says.
+/// Whether each call returns what the row says of its bytes.
 fn is_right(alloc: Global, order: Order, row: &InsnRow) -> Result<bool, Fail> {
     let bytes = in_order(alloc, order, row.little)?;
     let (insn, len) = read_insn(order, &bytes).map_err(InsnError::Fault)?;
@@ -133,7 +132,7 @@ fn files_of_one_instruction_in_both_orders(rt: HostRuntime) -> Result<(), Fail> 
     Ok(())
 }
 
-/// Tells whether both calls find the fault of a row.
+/// Whether both calls find the fault of a row.
 fn has_fault(alloc: Global, order: Order, row: &FaultRow) -> Result<bool, AllocError> {
     let fault = SlotFault {
         pos: row.pos,
@@ -163,7 +162,7 @@ const FILE: &[u8; 40] = b"\
     \x37\x01\x01\0\x03\0\0\0\xdb\x21\xf8\xff\xf1\0\0\0\x95\0\0\0\0\0\0\0\
     \x18\x01\0\0\x88\x77\x66\x55\0\0\0\0\x44\x33\x22\x11";
 
-/// How many instructions the first bytes of the file have, if they are whole.
+/// The number of instructions in the first bytes of the file, if the last one is whole.
 fn whole_insns(len: usize) -> Option<usize> {
     match len {
         40 => Some(4),
