@@ -18,7 +18,7 @@ pub use device::memory::{MemSink, MemSource};
 pub use device::sink::{ByteSink, put_all};
 pub use device::source::{ByteSource, ReadError, read_all};
 pub use device::standard::{ReaderSource, WriterSink};
-pub use insn::canon::canon_insns;
+pub use insn::canon::{canon_insns, recode_insns};
 pub use insn::feed::InsnFeed;
 pub use insn::laws;
 pub use insn::run::{INSN_LIMIT, RunCause, RunError, run_insns};
