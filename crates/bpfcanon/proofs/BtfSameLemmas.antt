@@ -2,7 +2,7 @@
 use Rattle.std.proofs.Common.{◌≡◌, ◌≤◌, ◌-◌, ◌++◌, ℕ, true, false, List, [], drop, length, take, refl, codes}
 use Rattle.btf_raw.specs.declared.cause.BtfFault.{BtfFault}
 use Rattle.bpf_canon.specs.btf.SameBtf.{ComparesBtf, NamesBtfSide}
-use Rattle.bpf_canon.specs.declared.insn.same.SideError.TheVariants as side
+use Rattle.bpf_canon.specs.declared.engine.SideError.TheVariants as side
 use Rattle.bpfcanon.specs.declared.outcome.Outcome.TheVariants.{Done, Different, SecondBtf}
 use Rattle.bpfcanon.specs.Outcome.{newline}
 use Rattle.bpfcanon.specs.BtfReply.{IsBtfSameReply, different, same, second_at_fault}
