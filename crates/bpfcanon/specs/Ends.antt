@@ -5,7 +5,7 @@ use Rattle.bpfcanon.specs.declared.job.Job.{Job}
 use Rattle.bpfcanon.specs.declared.outcome.Outcome.{Outcome}
 use Rattle.bpfcanon.specs.declared.outcome.Outcome.TheVariants.{Usage, Memory}
 use Rattle.bpfcanon.specs.JobEnds.{Change, EndsJob, IsUnused}
-use Rattle.bpfcanon.specs.Line.{Asks, IsRefused}
+use Rattle.bpfcanon.specs.line.Parse.{Asks, IsRefused}
 
 -- how a command on these words ends
 pub data Ends (words : List Text) (source sink : Change) : Outcome → Type 0 where

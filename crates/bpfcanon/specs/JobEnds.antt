@@ -6,7 +6,7 @@ use Rattle.bpf_canon.specs.declared.insn.run.RunCause.TheVariants as cause
 use Rattle.bpfcanon.specs.declared.job.Job.{Job}
 use Rattle.bpfcanon.specs.declared.outcome.Outcome.{Outcome}
 use Rattle.bpfcanon.specs.declared.outcome.Outcome.TheVariants.{TooLong, ReadFailed, WriteFailed, Memory}
-use Rattle.bpfcanon.specs.Reply.{IsEarly, IsReply, in_pieces, limit_of, streams}
+use Rattle.bpfcanon.specs.commands.Reply.{IsEarly, IsReply, in_pieces, limit_of, streams}
 
 -- what a device has before and after: the bytes that it tells, and how often it failed
 pub record Change : Type 0 where

@@ -6,9 +6,9 @@ ghost use Rattle.bpfcanon.specs.JobEnds.{change};
 ghost use Rattle.bpfcanon.specs.Outcome.{Tells, line_of, status_of};
 ghost use Rattle.bpfcanon.specs.Ends.{Ends};
 
-use crate::command_line::{LineError, parse_line};
-use crate::job_run::run_job;
+use crate::line::parse::{LineError, parse_line};
 use crate::outcome::{Outcome, put_line};
+use crate::run::run_job;
 use bpf_canon::{ByteSink, ByteSource};
 use std::alloc::Global;
 

@@ -9,14 +9,11 @@ ghost use Rattle.bpfcanon.specs.Outcome.{Tells, line_of, newline, status_of};
 ghost use Rattle.bpfcanon.specs.Ends.{Ends};
 
 mod command;
-mod command_line;
-mod engines;
+mod commands;
 mod job;
-mod job_run;
-mod options;
+mod line;
 mod outcome;
-mod pieces;
-mod reply;
+mod run;
 #[cfg(test)]
 mod tests;
 mod verb;

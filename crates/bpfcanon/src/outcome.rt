@@ -2,9 +2,10 @@
 
 ghost use Rattle.std.specs.Prelude.{◌≡◌, ◌<◌};
 ghost use Rattle.std.specs.List.{flat_map};
+ghost use Rattle.bpfcanon.specs.JobEnds.{end_of_stop};
 ghost use Rattle.bpfcanon.specs.Outcome.{Tells, btf_fault_line, fault_line, faulty_line, line_of, slot_fault_line, status_of};
 
-use bpf_canon::{ByteSink, put_all};
+use bpf_canon::{ByteSink, RunCause, put_all};
 use bpf_insn::SlotFault;
 use bpf_text::LineFault;
 use btf_raw::BtfFault;
@@ -65,6 +66,19 @@ impl Outcome {
             Outcome::Usage => 2,
             Outcome::ReadFailed | Outcome::WriteFailed | Outcome::Memory => 3,
         }
+    }
+}
+
+/// How a job ends whose engine stopped, or the fault that its input has.
+pub fn end_of_stop<F>(cause: RunCause<F>) -> Result<Outcome, F>
+    ensures { result ≡ end_of_stop cause }
+{
+    match cause {
+        RunCause::Fault(fault) => Err(fault),
+        RunCause::TooLong => Ok(Outcome::TooLong),
+        RunCause::ReadFailed => Ok(Outcome::ReadFailed),
+        RunCause::WriteFailed => Ok(Outcome::WriteFailed),
+        RunCause::Memory => Ok(Outcome::Memory),
     }
 }
 

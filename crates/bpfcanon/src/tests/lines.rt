@@ -2,8 +2,8 @@
 
 use super::expect::{equal, equal_bytes};
 use super::runner::words_of;
-use crate::command_line::{LineError, parse_line};
 use crate::job::Job;
+use crate::line::parse::{LineError, parse_line};
 use crate::verb::Verb;
 use bpf_words::Order;
 use std::alloc::Global;
