@@ -12,3 +12,4 @@ pub(crate) mod insn_show;
 pub(crate) mod long_names;
 pub(crate) mod pieces;
 pub(crate) mod reply;
+pub(crate) mod two_files;

@@ -1,14 +1,15 @@
 //! Runs a job from a source to a sink.
 
 ghost use Rattle.std.specs.Prelude.{◌≡◌, ◌<◌, ◌≤◌, length, false};
-ghost use Rattle.bpfcanon.specs.JobEnds.{EndsJob, change};
+ghost use Rattle.bpfcanon.specs.Devices.{sink_change, source_change};
+ghost use Rattle.bpfcanon.specs.JobEnds.{EndsJob};
 ghost use Rattle.bpfcanon.specs.commands.Pieces.{Answers};
 ghost use Rattle.bpfcanon.specs.commands.Reply.{has_engine, in_pieces, limit_of};
 
 use crate::commands::btf_canon::run_btf_canon;
-use crate::commands::btf_show::put_btf_shown;
-use crate::commands::insn_canon::run_canon;
-use crate::commands::insn_show::put_shown;
+use crate::commands::btf_show::put_btf_show;
+use crate::commands::insn_canon::run_insn_canon;
+use crate::commands::insn_show::put_insn_show;
 use crate::commands::reply::reply_to;
 use crate::job::Job;
 use crate::outcome::Outcome;
@@ -16,7 +17,7 @@ use crate::verb::Verb;
 use bpf_canon::{ByteSink, ByteSource, ReadError, put_all, read_all};
 use std::alloc::{AllocError, Allocator};
 
-/// Writes the reply of a command that writes it whole.
+/// Makes the reply of a command that writes it whole, and writes it.
 fn put_reply<A: Allocator + Copy, W: ByteSink>(
     alloc: A,
     job: Job,
@@ -27,8 +28,7 @@ fn put_reply<A: Allocator + Copy, W: ByteSink>(
     requires once { in_pieces job.verb ≡ false }
     requires within { length input.now ≤ limit_of job.verb }
     requires sink { W.failures sink.old < u64.MAX }
-    ensures { Answers job input.now
-        (change (W.contents sink.old) (W.contents sink.new) (W.failures sink.old) (W.failures sink.new)) result }
+    ensures { Answers job input.now (sink_change W.ByteSink sink.old sink.new) result }
 {
     let reply = match reply_to(alloc, job, input) {
         Ok(reply) => reply,
@@ -40,7 +40,7 @@ fn put_reply<A: Allocator + Copy, W: ByteSink>(
     }
 }
 
-/// Answers the input of a command that no engine runs.
+/// Answers the whole input of a command that has no engine.
 fn answer<A: Allocator + Copy, W: ByteSink>(
     alloc: A,
     job: Job,
@@ -50,12 +50,11 @@ fn answer<A: Allocator + Copy, W: ByteSink>(
     requires whole { has_engine job.verb ≡ false }
     requires within { length input.now ≤ limit_of job.verb }
     requires sink { W.failures sink.old < u64.MAX }
-    ensures { Answers job input.now
-        (change (W.contents sink.old) (W.contents sink.new) (W.failures sink.old) (W.failures sink.new)) result }
+    ensures { Answers job input.now (sink_change W.ByteSink sink.old sink.new) result }
 {
     match job.verb {
-        Verb::InsnShow => put_shown(alloc, job, input, sink),
-        Verb::BtfShow => put_btf_shown(alloc, job, input, sink),
+        Verb::InsnShow => put_insn_show(alloc, job, input, sink),
+        Verb::BtfShow => put_btf_show(alloc, job, input, sink),
         Verb::InsnCanon
         | Verb::InsnRead
         | Verb::InsnGroups
@@ -66,7 +65,7 @@ fn answer<A: Allocator + Copy, W: ByteSink>(
     }
 }
 
-/// Runs a command that no engine runs: it reads its input whole, and answers then.
+/// Runs a command that has no engine: it reads its whole input, and then answers.
 fn run_whole<A: Allocator + Copy, S: ByteSource, W: ByteSink>(
     alloc: A,
     job: Job,
@@ -76,8 +75,7 @@ fn run_whole<A: Allocator + Copy, S: ByteSource, W: ByteSink>(
     requires whole { has_engine job.verb ≡ false }
     requires source { S.failures source.old < u64.MAX }
     requires sink { W.failures sink.old < u64.MAX }
-    ensures { EndsJob job (change (S.remaining source.old) (S.remaining source.new) (S.failures source.old) (S.failures source.new))
-        (change (W.contents sink.old) (W.contents sink.new) (W.failures sink.old) (W.failures sink.new)) result }
+    ensures { EndsJob job (source_change S.ByteSource source.old source.new) (sink_change W.ByteSink sink.old sink.new) result }
 {
     match read_all(alloc, source, job.verb.limit()) {
         Ok(input) => answer(alloc, job, input.as_slice(), sink),
@@ -96,11 +94,10 @@ pub fn run_job<A: Allocator + Copy, S: ByteSource, W: ByteSink>(
 ) -> Outcome
     requires source { S.failures source.old < u64.MAX }
     requires sink { W.failures sink.old < u64.MAX }
-    ensures { EndsJob job (change (S.remaining source.old) (S.remaining source.new) (S.failures source.old) (S.failures source.new))
-        (change (W.contents sink.old) (W.contents sink.new) (W.failures sink.old) (W.failures sink.new)) result }
+    ensures { EndsJob job (source_change S.ByteSource source.old source.new) (sink_change W.ByteSink sink.old sink.new) result }
 {
     match job.verb {
-        Verb::InsnCanon => run_canon(alloc, job, source, sink),
+        Verb::InsnCanon => run_insn_canon(alloc, job, source, sink),
         Verb::BtfCanon => run_btf_canon(alloc, job, source, sink),
         Verb::InsnShow
         | Verb::InsnRead

@@ -13,7 +13,8 @@ use Rattle.bpfcanon.specs.declared.outcome.Outcome.TheVariants as ends
 use Rattle.bpfcanon.specs.declared.outcome.Outcome.TheVariants.{Done, TooLong, ReadFailed, WriteFailed, Memory}
 use Rattle.bpfcanon.specs.declared.verb.Verb.TheVariants.{BtfCanon}
 use Rattle.bpfcanon.specs.commands.BtfReply.{canon_too_long, unwritten, written}
-use Rattle.bpfcanon.specs.JobEnds.{Change, EndsJob, end_of_stop, no_memory, read_failed, replied, write_failed}
+use Rattle.bpfcanon.specs.Devices.{Change}
+use Rattle.bpfcanon.specs.JobEnds.{EndsJob, end_of_stop, no_memory, read_failed, replied, write_failed}
 use Rattle.bpfcanon.proofs.CommandsLemmas.InsnCanonLemmas.{devices_of}
 
 pub btf_canon_done : (j : Job) (source sink : Change) (n : ℕ) → j.verb ≡ BtfCanon → RanBtf (devices_of source sink) j.to n

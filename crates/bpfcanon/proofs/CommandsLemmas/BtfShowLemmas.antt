@@ -16,9 +16,9 @@ use Rattle.bpfcanon.specs.declared.job.Job.{Job}
 use Rattle.bpfcanon.specs.declared.outcome.Outcome.TheVariants as ends
 use Rattle.bpfcanon.specs.declared.commands.pieces.PutError.{PutError}
 use Rattle.bpfcanon.specs.declared.verb.Verb.TheVariants.{BtfShow}
-use Rattle.bpfcanon.specs.JobEnds.{Change, change}
+use Rattle.bpfcanon.specs.Devices.{Change, change}
 use Rattle.bpfcanon.specs.commands.BtfReply.{shown, unshown}
-use Rattle.bpfcanon.specs.commands.Pieces.{Answers, Gathered, Gathers, Puts, answered, end_of_pieces}
+use Rattle.bpfcanon.specs.commands.Pieces.{Answers, Gathered, Gathers, TookText, answered, end_of_pieces}
 use Rattle.bpfcanon.specs.commands.Reply.{limit_of}
 use Rattle.bpfcanon.proofs.CommandsLemmas.PiecesLemmas.{gathered_more, gathers_front, gathers_then, pieces_end, puts_stopped, puts_then}
 
@@ -108,7 +108,7 @@ module _ (a b c : Option (List ℕ)) (f g h : ℕ) (held kept : List ℕ) (v : L
 
   -- the last one that could be written
   pub types_stopped : (e : PutError) → Gathers (change b c g h) kept (held ++ record_text (i + 1) (record_at v (i + 1))) (Err e)
-      → Puts (change a c f h) (text_of v) (Err e)
+      → TookText (change a c f h) (text_of v) (Err e)
   types_stopped e q =
       let line : Gathers (change a c f h) kept (text_of (take i v) ++ record_text (i + 1) (record_at v (i + 1))) (Err e) =
       gathers_then a b c f g h held kept _ _ (Err e) p q in
@@ -118,14 +118,14 @@ module _ (a b c : Option (List ℕ)) (f g h : ℕ) (held kept : List ℕ) (v : L
 
 -- the sink took the last piece, or a part of it
 pub types_put : (a b c : Option (List ℕ)) (f g h : ℕ) (held : List ℕ) (v : List TypeRecord) (i : ℕ) (r : Result (Unit {0}) PutError) → length v ≤ i
-    → Gathered (change a b f g) held (text_of (take i v)) → Puts (change b c g h) held r → Puts (change a c f h) (text_of v) r
+    → Gathered (change a b f g) held (text_of (take i v)) → TookText (change b c g h) held r → TookText (change a c f h) (text_of v) r
 types_put a b c f g h held v i r done p q =
-    subst (λ (w : List TypeRecord). Puts (change a c f h) (text_of w) r) (take_all i v done) (puts_then a b c f g h held (text_of (take i v)) r p q)
+    subst (λ (w : List TypeRecord). TookText (change a c f h) (text_of w) r) (take_all i v done) (puts_then a b c f g h held (text_of (take i v)) r p q)
 
 -- ---- how btf-show ends
 
 pub btf_ended : (j : Job) (input : List ℕ) (sink : Change) (v : List TypeRecord) (r : Result (Unit {0}) PutError) → j.verb ≡ BtfShow → length input ≤ limit_of BtfShow
-    → Denotes input v → Puts sink (text_of v) r → Answers j input sink (end_of_pieces r)
+    → Denotes input v → TookText sink (text_of v) r → Answers j input sink (end_of_pieces r)
 btf_ended j input sink v r show within types put = pieces_end j input (text_of v) sink r (rw show refl) (rw show (shown v within types)) put
 
 pub btf_fault : (j : Job) (input : List ℕ) (a : Option (List ℕ)) (f : ℕ) (fault : BtfFault) → j.verb ≡ BtfShow → length input ≤ limit_of BtfShow

@@ -19,7 +19,8 @@ use Rattle.bpfcanon.specs.declared.outcome.Outcome.{Outcome}
 use Rattle.bpfcanon.specs.declared.outcome.Outcome.TheVariants.{Done, Fault, TooLong, ReadFailed, WriteFailed, Memory}
 use Rattle.bpfcanon.specs.declared.verb.Verb.TheVariants.{InsnCanon}
 use Rattle.bpfcanon.specs.commands.Reply.{HasLastingFault, IsCanonReply, canonical, canonical_to_fault, canonical_to_limit}
-use Rattle.bpfcanon.specs.JobEnds.{Change, EndsJob, TookAll, end_of_stop, TookPrefix, no_memory_amid, read_failed_amid, replied, write_failed_amid}
+use Rattle.bpfcanon.specs.Devices.{Change}
+use Rattle.bpfcanon.specs.JobEnds.{EndsJob, TookAll, end_of_stop, TookPrefix, no_memory_amid, read_failed_amid, replied, write_failed_amid}
 
 -- what the devices have, without their counts of failures
 abbrev pub devices_of : Change → Change → Devices

@@ -20,8 +20,8 @@ use Rattle.bpfcanon.specs.declared.outcome.Outcome.TheVariants.{Fault}
 use Rattle.bpfcanon.specs.declared.commands.pieces.PutError.{PutError}
 use Rattle.bpfcanon.specs.declared.commands.pieces.PutError.TheVariants.{Memory}
 use Rattle.bpfcanon.specs.declared.verb.Verb.TheVariants.{InsnShow}
-use Rattle.bpfcanon.specs.JobEnds.{Change, change}
-use Rattle.bpfcanon.specs.commands.Pieces.{Answers, Gathered, Gathers, Puts, TookFront, answered, end_of_pieces}
+use Rattle.bpfcanon.specs.Devices.{Change, change}
+use Rattle.bpfcanon.specs.commands.Pieces.{Answers, Gathered, Gathers, TookText, TookFront, answered, end_of_pieces}
 use Rattle.bpfcanon.specs.commands.Reply.{limit_of, shown, unshown}
 use Rattle.bpfcanon.proofs.CommandsLemmas.PiecesLemmas.{front_more, gathered_more, gathered_none, gathers_front, gathers_then, pieces_end, puts_handed, puts_stopped, puts_then}
 
@@ -111,7 +111,7 @@ module _ (order : Order) (input : List ℕ) (at : ℕ) (a b : Option (List ℕ))
 
   -- the piece with one line more couldn't be written
   pub listed_stopped : (c : Option (List ℕ)) (h : ℕ) (pushed kept : List ℕ) (i : Insn) (e : PutError) → at < length input → BeginsWith order i (take (length input - at) (drop at input))
-      → pushed ≡ piece ++ line i → Gathers (change b c g h) kept pushed (Err e) → (l : List Insn) × (InsnFile order input l × Puts (change a c f h) (listing_of l) (Err e))
+      → pushed ≡ piece ++ line i → Gathers (change b c g h) kept pushed (Err e) → (l : List Insn) × (InsnFile order input l × TookText (change a c f h) (listing_of l) (Err e))
   listed_stopped c h pushed kept i e more found grown q =
       let n = next order input at p.after p.each p.rest more in
       let same : i ≡ n.insn = begins_once order i n.insn _ found n.begins in
@@ -125,7 +125,7 @@ module _ (order : Order) (input : List ℕ) (at : ℕ) (a b : Option (List ℕ))
       (p.before ++ p.after, (p.file, puts_stopped _ kept _ e whole))
 
   -- memory ran out for the next line
-  pub listed_front : at < length input → (l : List Insn) × (InsnFile order input l × Puts (change a b f g) (listing_of l) (Err Memory))
+  pub listed_front : at < length input → (l : List Insn) × (InsnFile order input l × TookText (change a b f g) (listing_of l) (Err Memory))
   listed_front more =
       let n = next order input at p.after p.each p.rest more in
       let text : listing_of (p.before ++ p.after) ≡ listing_of p.before ++ listing_of p.after = flat_map-append line p.before p.after in
@@ -142,14 +142,14 @@ module _ (order : Order) (input : List ℕ) (at : ℕ) (a b : Option (List ℕ))
       none (x ∷ xs) e = absurd (omega (arith, e, length-append (spelling order x) (file_of order xs), at_least_a_slot order x))
 
   -- the sink took the last piece, or a part of it
-  pub listed_put : (c : Option (List ℕ)) (h : ℕ) (r : Result (Unit {0}) PutError) → length input ≤ at → Puts (change b c g h) piece r
-      → (l : List Insn) × (InsnFile order input l × Puts (change a c f h) (listing_of l) r)
+  pub listed_put : (c : Option (List ℕ)) (h : ℕ) (r : Result (Unit {0}) PutError) → length input ≤ at → TookText (change b c g h) piece r
+      → (l : List Insn) × (InsnFile order input l × TookText (change a c f h) (listing_of l) r)
   listed_put c h r done q =
       (p.before, (subst (InsnFile order input) (nothing_left done) p.file, puts_then a b c f g h piece (listing_of p.before) r p.gathered q))
 
 -- a call hands on how one that it made ended
 pub listed_handed : (order : Order) (input : List ℕ) (sink : Change) (e : PutError) (r : Result (Unit {0}) PutError) → IsErrAnd r (λ x. x ≡ e)
-    → (l : List Insn) × (InsnFile order input l × Puts sink (listing_of l) (Err e)) → (l : List Insn) × (InsnFile order input l × Puts sink (listing_of l) r)
+    → (l : List Insn) × (InsnFile order input l × TookText sink (listing_of l) (Err e)) → (l : List Insn) × (InsnFile order input l × TookText sink (listing_of l) r)
 listed_handed order input sink e r same put = (put.0, (put.1.0, puts_handed sink (listing_of put.0) e r same put.1.1))
 
 -- ---- how insn-show ends
@@ -159,6 +159,6 @@ pub show_fault : (j : Job) (input : List ℕ) (a : Option (List ℕ)) (f : ℕ) 
 show_fault j input a f fault show within at_fault = answered (Fault fault) [] (rw show (unshown fault within at_fault)) (Appends-nil a) refl
 
 pub show_ended : (j : Job) (input : List ℕ) (sink : Change) (r : Result (Unit {0}) PutError) → j.verb ≡ InsnShow → length input ≤ limit_of InsnShow
-    → (l : List Insn) × (InsnFile j.order input l × Puts sink (listing_of l) r) → Answers j input sink (end_of_pieces r)
+    → (l : List Insn) × (InsnFile j.order input l × TookText sink (listing_of l) r) → Answers j input sink (end_of_pieces r)
 show_ended j input sink r show within put =
     pieces_end j input (listing_of put.0) sink r (rw show refl) (rw show (shown put.0 within put.1.0)) put.1.1

@@ -8,7 +8,7 @@ use Rattle.std.proofs.lemmas.List.Concat.{flat_map-append}
 use Rattle.std.proofs.Math.Seq.{take-add}
 use Rattle.bpf_text.specs.btf.BtfText.{fields_text, head_line, is_control, item_line, item_text, kind_word, needs_backslash, quoted_byte}
 use Rattle.bpfcanon.specs.declared.commands.pieces.PutError.{PutError}
-use Rattle.bpfcanon.specs.JobEnds.{Change, change}
+use Rattle.bpfcanon.specs.Devices.{Change, change}
 use Rattle.bpfcanon.specs.commands.Pieces.{Gathered, Gathers, TookFront}
 use Rattle.bpfcanon.proofs.CommandsLemmas.PiecesLemmas.{front_more, gathered_more, gathers_front, gathers_then}
 

@@ -10,8 +10,8 @@ use Rattle.bpfcanon.specs.declared.job.Job.{Job}
 use Rattle.bpfcanon.specs.declared.outcome.Outcome.TheVariants.{Done}
 use Rattle.bpfcanon.specs.declared.commands.pieces.PutError.{PutError}
 use Rattle.bpfcanon.specs.declared.commands.pieces.PutError.TheVariants.{WriteFailed, Memory}
-use Rattle.bpfcanon.specs.JobEnds.{Change, change}
-use Rattle.bpfcanon.specs.commands.Pieces.{Answers, Gathered, Gathers, Puts, TookFront, TookPart, answered, end_of_pieces, refused_amid, unwritten}
+use Rattle.bpfcanon.specs.Devices.{Change, change}
+use Rattle.bpfcanon.specs.commands.Pieces.{Answers, Gathered, Gathers, TookText, TookFront, TookPart, answered, end_of_pieces, refused_amid, unwritten}
 use Rattle.bpfcanon.specs.commands.Reply.{IsReply, in_pieces}
 
 module _ (a b c : Option (List ℕ)) (f g h : ℕ) where
@@ -72,8 +72,8 @@ module _ (a b c : Option (List ℕ)) (f g h : ℕ) where
       subst (TookPart (change a c f h)) text_is (part_more held text [] [] p (subst (TookPart (change b c g h)) held_is q))
 
   -- the sink took the rest, or a part of it
-  pub puts_then : (held text : List ℕ) (r : Result (Unit {0}) PutError) → Gathered (change a b f g) held text → Puts (change b c g h) held r
-      → Puts (change a c f h) text r
+  pub puts_then : (held text : List ℕ) (r : Result (Unit {0}) PutError) → Gathered (change a b f g) held text → TookText (change b c g h) held r
+      → TookText (change a c f h) text r
   puts_then held text (Ok done) p q = gathered_all held text p q.0 q.1
   puts_then held text (Err WriteFailed) p q = part_last held text p q
   puts_then held text (Err Memory) p q =
@@ -106,7 +106,7 @@ gathers_front sink kept text more Memory p =
       healthy = p.healthy;
     }
 
-pub puts_stopped : (sink : Change) (kept text : List ℕ) (e : PutError) → Gathers sink kept text (Err e) → Puts sink text (Err e)
+pub puts_stopped : (sink : Change) (kept text : List ℕ) (e : PutError) → Gathers sink kept text (Err e) → TookText sink text (Err e)
 puts_stopped sink kept text WriteFailed p = p
 puts_stopped sink kept text Memory p = p
 
@@ -116,9 +116,9 @@ pub gathers_handed : (sink : Change) (kept text : List ℕ) (e : PutError) (r : 
 gathers_handed sink kept text e (Ok done) same p = absurd same
 gathers_handed sink kept text e (Err other) same p = subst (λ (x : PutError). Gathers sink kept text (Err x)) (sym same) p
 
-pub puts_handed : (sink : Change) (text : List ℕ) (e : PutError) (r : Result (Unit {0}) PutError) → IsErrAnd r (λ x. x ≡ e) → Puts sink text (Err e) → Puts sink text r
+pub puts_handed : (sink : Change) (text : List ℕ) (e : PutError) (r : Result (Unit {0}) PutError) → IsErrAnd r (λ x. x ≡ e) → TookText sink text (Err e) → TookText sink text r
 puts_handed sink text e (Ok done) same p = absurd same
-puts_handed sink text e (Err other) same p = subst (λ (x : PutError). Puts sink text (Err x)) (sym same) p
+puts_handed sink text e (Err other) same p = subst (λ (x : PutError). TookText sink text (Err x)) (sym same) p
 
 -- memory ran out before anything was written of a text that isn't empty
 pub gathers_none : (a : Option (List ℕ)) (f : ℕ) (kept old more : List ℕ) (r : Result (Unit {0}) PutError) → 0 < length more → IsErrAnd r (λ x. x ≡ Memory)
@@ -150,7 +150,7 @@ front_more a b f g held text more some p =
 
 -- the job of a command that wrote its output in pieces ends with it
 pub pieces_end : (j : Job) (input output : List ℕ) (sink : Change) (r : Result (Unit {0}) PutError) → in_pieces j.verb ≡ true → IsReply j.verb j input Done output
-    → Puts sink output r → Answers j input sink (end_of_pieces r)
+    → TookText sink output r → Answers j input sink (end_of_pieces r)
 pieces_end j input output sink (Ok done) pieces reply put = answered Done output reply put.0 put.1
 pieces_end j input output sink (Err WriteFailed) pieces reply put = unwritten Done output reply put
 pieces_end j input output sink (Err Memory) pieces reply put = refused_amid Done output pieces reply put

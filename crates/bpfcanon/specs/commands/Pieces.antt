@@ -6,7 +6,7 @@ use Rattle.bpfcanon.specs.declared.outcome.Outcome.{Outcome}
 use Rattle.bpfcanon.specs.declared.outcome.Outcome.TheVariants as ends
 use Rattle.bpfcanon.specs.declared.commands.pieces.PutError.{PutError}
 use Rattle.bpfcanon.specs.declared.commands.pieces.PutError.TheVariants.{WriteFailed, Memory}
-use Rattle.bpfcanon.specs.JobEnds.{Change, HasFailed, IsHealthy, IsUnused}
+use Rattle.bpfcanon.specs.Devices.{Change, HasFailed, IsHealthy, IsUnused}
 use Rattle.bpfcanon.specs.commands.Reply.{IsReply, in_pieces}
 
 -- what the sink took, and the piece that is held behind it, are the text
@@ -31,10 +31,10 @@ pub record TookFront (sink : Change) (text : List ℕ) : Type 0 where
   pub healthy : IsHealthy sink
 
 -- what the sink took of a text, by how writing it ended
-abbrev pub Puts : Change → List ℕ → Result (Unit {0}) PutError → Type 0
-Puts sink text (Ok done) = Appends sink.old sink.new text × IsHealthy sink
-Puts sink text (Err WriteFailed) = TookPart sink text
-Puts sink text (Err Memory) = TookFront sink text
+abbrev pub TookText : Change → List ℕ → Result (Unit {0}) PutError → Type 0
+TookText sink text (Ok done) = Appends sink.old sink.new text × IsHealthy sink
+TookText sink text (Err WriteFailed) = TookPart sink text
+TookText sink text (Err Memory) = TookFront sink text
 
 -- what the sink took of a text that a call adds to, and the piece that is held behind it, by how the call ended
 abbrev pub Gathers : Change → List ℕ → List ℕ → Result (Unit {0}) PutError → Type 0

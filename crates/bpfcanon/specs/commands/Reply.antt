@@ -1,5 +1,5 @@
 -- What a command answers to an input, as if no device failed.
-use Rattle.std.specs.Prelude.{◌≡◌, ◌<◌, ◌≤◌, ◌++◌, ◌↔◌, ℕ, Bool, true, false, List, [], ◌∷◌, IsTrue, codes, drop, filter, length, take}
+use Rattle.std.specs.Prelude.{◌≡◌, ◌<◌, ◌≤◌, ◌++◌, ◌*◌, ◌↔◌, ℕ, Bool, true, false, List, [], ◌∷◌, IsTrue, codes, drop, filter, length, take}
 use Rattle.std.specs.List.{flat_map}
 use Rattle.bpf_words.specs.declared.Order.{Order}
 use Rattle.bpf_insn.specs.declared.insn.Insn.{Insn}
@@ -23,17 +23,17 @@ use Rattle.bpfcanon.specs.declared.verb.Verb.TheVariants.{InsnCanon, InsnShow, I
 use Rattle.bpfcanon.specs.Outcome.{newline}
 use Rattle.bpfcanon.specs.commands.BtfReply.{IsBtfCanonReply, IsBtfShowReply, IsBtfCheckReply, IsBtfSameReply}
 
--- how many bytes a command takes; insn-canon and btf-canon as many as their engines
+-- how many bytes a command takes: what an engine takes, and twice that for two files
 abbrev pub limit_of : Verb → ℕ
 limit_of InsnCanon = engine.limit
-limit_of InsnShow = 67108864
-limit_of InsnRead = 67108864
-limit_of InsnGroups = 67108864
-limit_of InsnSame = 134217728
+limit_of InsnShow = engine.limit
+limit_of InsnRead = engine.limit
+limit_of InsnGroups = engine.limit
+limit_of InsnSame = 2 * engine.limit
 limit_of BtfCanon = btf_limit
-limit_of BtfShow = 50335744
-limit_of BtfCheck = 50335744
-limit_of BtfSame = 100671488
+limit_of BtfShow = btf_limit
+limit_of BtfCheck = btf_limit
+limit_of BtfSame = 2 * btf_limit
 
 -- whether a command writes as it reads; the others read their input whole
 abbrev pub streams : Verb → Bool
@@ -111,6 +111,15 @@ pub data IsGroupsReply (limit : ℕ) (order : Order) (input : List ℕ) : Outcom
   groups_too_long : limit < length input → IsGroupsReply limit order input TooLong []
 
 -- ---- insn-same
+
+-- how a comparison of two files without a fault ends, and its line
+abbrev pub verdict_outcome : Bool → Outcome
+verdict_outcome true = Done
+verdict_outcome false = Different
+
+abbrev pub verdict_line : Bool → List ℕ
+verdict_line true = codes "same" ++ newline
+verdict_line false = codes "different" ++ newline
 
 -- the first file is the input's first bytes, as many as `split`, and the second the rest; each has its own order
 pub data IsSameReply (limit : ℕ) (order other : Order) (split : ℕ) (input : List ℕ) : Outcome → List ℕ → Type 0 where

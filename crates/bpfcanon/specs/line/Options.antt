@@ -8,6 +8,8 @@ use Rattle.clap.specs.declared.builder.value_parser.ValueParser.TheVariants as p
 use Rattle.bpfcanon.specs.declared.verb.Verb.{Verb}
 use Rattle.bpfcanon.specs.declared.verb.Setting.{Setting}
 use Rattle.bpfcanon.specs.declared.verb.Setting.TheVariants.{Order, To, Other, Split}
+use Rattle.bpfcanon.specs.declared.verb.Verb.TheVariants.{InsnSame}
+use Rattle.bpfcanon.specs.commands.Reply.{limit_of}
 use Rattle.bpfcanon.specs.Verbs.{all_verbs, name_of, setting_name, settings_of}
 
 -- clap keeps the words that an option takes behind a reference
@@ -26,11 +28,11 @@ order_option names name = record (new_rule name) {
   defaults = codes "little" ∷ [];
 }
 
--- the option that takes the length of the first file, which must be given
+-- the option that takes the length of the first file, which must be given; it isn't beyond the longest input
 abbrev pub split_option : Rule
 split_option = record (new_rule (codes "split")) {
   long = Some (codes "split");
-  parser = Some (parser.Unsigned 0 134217728);
+  parser = Some (parser.Unsigned 0 (limit_of InsnSame));
   required = true;
 }
 

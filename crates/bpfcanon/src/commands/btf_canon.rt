@@ -2,14 +2,15 @@
 
 ghost use Rattle.std.specs.Prelude.{◌≡◌, ◌<◌};
 ghost use Rattle.bpfcanon.specs.declared.verb.Verb.TheVariants.{BtfCanon};
-ghost use Rattle.bpfcanon.specs.JobEnds.{EndsJob, change};
+ghost use Rattle.bpfcanon.specs.Devices.{sink_change, source_change};
+ghost use Rattle.bpfcanon.specs.JobEnds.{EndsJob};
 
 use crate::job::Job;
 use crate::outcome::{Outcome, end_of_stop};
 use bpf_canon::{ByteSink, ByteSource, run_btf};
 use std::alloc::Allocator;
 
-/// Runs `btf-canon`, which writes once it has read its input whole.
+/// Runs `btf-canon`. Nothing is written if the input has a fault.
 pub fn run_btf_canon<A: Allocator + Copy, S: ByteSource, W: ByteSink>(
     alloc: A,
     job: Job,
@@ -19,8 +20,7 @@ pub fn run_btf_canon<A: Allocator + Copy, S: ByteSource, W: ByteSink>(
     requires canon { job.verb ≡ BtfCanon }
     requires source { S.failures source.old < u64.MAX }
     requires sink { W.failures sink.old < u64.MAX }
-    ensures { EndsJob job (change (S.remaining source.old) (S.remaining source.new) (S.failures source.old) (S.failures source.new))
-        (change (W.contents sink.old) (W.contents sink.new) (W.failures sink.old) (W.failures sink.new)) result }
+    ensures { EndsJob job (source_change S.ByteSource source.old source.new) (sink_change W.ByteSink sink.old sink.new) result }
 {
     match run_btf(alloc, source, sink, job.to) {
         Ok(_) => Outcome::Done,

@@ -1,4 +1,4 @@
-//! The command `btf-show`: the input is judged first, and then the text of its types is written in pieces.
+//! `btf-show`: the input is judged first, and then the text of its types is written in pieces.
 
 ghost use Rattle.std.specs.Prelude.{◌≡◌, ◌<◌, ◌≤◌, ◌++◌, length, OnOk};
 ghost use Rattle.std.specs.List.{flat_map};
@@ -7,8 +7,8 @@ ghost use Rattle.btf_types.specs.tables.TableWords.{record_at};
 ghost use Rattle.bpf_text.specs.btf.BtfText.{head_line, item_line, record_text, text_of};
 ghost use Rattle.bpfcanon.specs.declared.verb.Verb.TheVariants.{BtfShow};
 ghost use Rattle.bpfcanon.specs.declared.commands.pieces.TheConstants.{PIECE};
-ghost use Rattle.bpfcanon.specs.JobEnds.{change};
-ghost use Rattle.bpfcanon.specs.commands.Pieces.{Answers, Gathers, Puts};
+ghost use Rattle.bpfcanon.specs.Devices.{sink_change};
+ghost use Rattle.bpfcanon.specs.commands.Pieces.{Answers, Gathers, TookText};
 ghost use Rattle.bpfcanon.specs.commands.Reply.{limit_of};
 
 use crate::commands::long_names::{is_long, put_long_head, put_long_item};
@@ -20,7 +20,7 @@ use bpf_text::{append_head, append_item, head_name, is_signed, item_name};
 use btf_types::{BtfError, BtfView, Head, Item, TypeTable};
 use std::alloc::Allocator;
 
-/// Appends the line of a type with so many items to a piece, which is written once it is long enough.
+/// Appends the line of a type with `items` items to a piece, and writes a long piece.
 fn put_head<A: Allocator, W: ByteSink>(
     sink: &mut W,
     piece: &mut Vec<u8, A>,
@@ -29,8 +29,7 @@ fn put_head<A: Allocator, W: ByteSink>(
     items: u32,
 ) -> Result<(), PutError>
     requires { W.failures sink.old < u64.MAX }
-    ensures gathered { Gathers (change (W.contents sink.old) (W.contents sink.new) (W.failures sink.old) (W.failures sink.new))
-        piece.new.items (piece.old.items ++ head_line id (head_value head.entry) items) result }
+    ensures gathered { Gathers (sink_change W.ByteSink sink.old sink.new) piece.new.items (piece.old.items ++ head_line id (head_value head.entry) items) result }
     ensures short { OnOk result (length piece.new.items < PIECE) }
 {
     if is_long(head_name(head)) {
@@ -40,7 +39,7 @@ fn put_head<A: Allocator, W: ByteSink>(
     put_long_piece(sink, piece)
 }
 
-/// Appends the line of an item to a piece, which is written once it is long enough.
+/// Appends the line of an item to a piece, and writes a long piece.
 fn put_item<A: Allocator, W: ByteSink>(
     sink: &mut W,
     piece: &mut Vec<u8, A>,
@@ -48,8 +47,7 @@ fn put_item<A: Allocator, W: ByteSink>(
     signed: bool,
 ) -> Result<(), PutError>
     requires { W.failures sink.old < u64.MAX }
-    ensures gathered { Gathers (change (W.contents sink.old) (W.contents sink.new) (W.failures sink.old) (W.failures sink.new))
-        piece.new.items (piece.old.items ++ item_line signed (item_value item.entry)) result }
+    ensures gathered { Gathers (sink_change W.ByteSink sink.old sink.new) piece.new.items (piece.old.items ++ item_line signed (item_value item.entry)) result }
     ensures short { OnOk result (length piece.new.items < PIECE) }
 {
     if is_long(item_name(item)) {
@@ -59,7 +57,7 @@ fn put_item<A: Allocator, W: ByteSink>(
     put_long_piece(sink, piece)
 }
 
-/// Gathers the lines of a type's items, and writes each piece that is long enough.
+/// Appends the lines of a type's items, and writes each long piece.
 fn put_items<A: Allocator, W: ByteSink, T: TypeTable>(
     sink: &mut W,
     piece: &mut Vec<u8, A>,
@@ -70,8 +68,7 @@ fn put_items<A: Allocator, W: ByteSink, T: TypeTable>(
     requires first { 0 < id }
     requires last { id ≤ length (T.meaning table.now) }
     requires sink { W.failures sink.old < u64.MAX }
-    ensures { Gathers (change (W.contents sink.old) (W.contents sink.new) (W.failures sink.old) (W.failures sink.new))
-        piece.new.items (piece.old.items ++ flat_map (item_line signed) (record_at (T.meaning table.now) id).items) result }
+    ensures { Gathers (sink_change W.ByteSink sink.old sink.new) piece.new.items (piece.old.items ++ flat_map (item_line signed) (record_at (T.meaning table.now) id).items) result }
 {
     for k in 0..table.item_count(id) {
         put_item(sink, piece, table.item(id, k), signed)?;
@@ -79,7 +76,7 @@ fn put_items<A: Allocator, W: ByteSink, T: TypeTable>(
     Ok(())
 }
 
-/// Gathers the lines of a type, and writes each piece that is long enough.
+/// Appends the lines of a type and its items, and writes each long piece.
 fn put_record<A: Allocator, W: ByteSink, T: TypeTable>(
     sink: &mut W,
     piece: &mut Vec<u8, A>,
@@ -89,8 +86,7 @@ fn put_record<A: Allocator, W: ByteSink, T: TypeTable>(
     requires first { 0 < id }
     requires last { id ≤ length (T.meaning table.now) }
     requires sink { W.failures sink.old < u64.MAX }
-    ensures { Gathers (change (W.contents sink.old) (W.contents sink.new) (W.failures sink.old) (W.failures sink.new))
-        piece.new.items (piece.old.items ++ record_text id (record_at (T.meaning table.now) id)) result }
+    ensures { Gathers (sink_change W.ByteSink sink.old sink.new) piece.new.items (piece.old.items ++ record_text id (record_at (T.meaning table.now) id)) result }
 {
     let head = table.head(id);
     put_head(sink, piece, id, head, table.item_count(id))?;
@@ -104,7 +100,7 @@ fn put_types<A: Allocator, W: ByteSink, T: TypeTable>(
     sink: &mut W,
 ) -> Result<(), PutError>
     requires { W.failures sink.old < u64.MAX }
-    ensures { Puts (change (W.contents sink.old) (W.contents sink.new) (W.failures sink.old) (W.failures sink.new)) (text_of (T.meaning table.now)) result }
+    ensures { TookText (sink_change W.ByteSink sink.old sink.new) (text_of (T.meaning table.now)) result }
 {
     let mut piece = Vec::new(alloc);
     for index in 0..table.count() {
@@ -113,8 +109,8 @@ fn put_types<A: Allocator, W: ByteSink, T: TypeTable>(
     put_piece(sink, &mut piece)
 }
 
-/// Runs `btf-show` on its input. Nothing is written where the input has a fault.
-pub fn put_btf_shown<A: Allocator + Copy, W: ByteSink>(
+/// Runs `btf-show` on its input. Nothing is written if the input has a fault.
+pub fn put_btf_show<A: Allocator + Copy, W: ByteSink>(
     alloc: A,
     job: Job,
     input: &[u8],
@@ -123,8 +119,7 @@ pub fn put_btf_shown<A: Allocator + Copy, W: ByteSink>(
     requires show { job.verb ≡ BtfShow }
     requires within { length input.now ≤ limit_of BtfShow }
     requires sink { W.failures sink.old < u64.MAX }
-    ensures { Answers job input.now
-        (change (W.contents sink.old) (W.contents sink.new) (W.failures sink.old) (W.failures sink.new)) result }
+    ensures { Answers job input.now (sink_change W.ByteSink sink.old sink.new) result }
 {
     match BtfView::parse(alloc, input) {
         Ok(table) => end_of_pieces(put_types(alloc, &table, sink)),

@@ -1,4 +1,4 @@
-//! The command `insn-groups`.
+//! `insn-groups`: the conformance groups that the instructions of a file need.
 
 ghost use Rattle.std.specs.Prelude.{◌≡◌, ◌≤◌, length, IfOk};
 ghost use Rattle.bpf_insn.specs.Groups.{holds};
@@ -49,8 +49,8 @@ fn group_lines<A: Allocator>(alloc: A, set: GroupSet) -> Result<Vec<u8, A>, Allo
     Ok(lines)
 }
 
-/// The groups of the instructions of a file.
-pub fn groups_reply<A: Allocator + Copy>(
+/// The reply of `insn-groups`.
+pub fn insn_groups_reply<A: Allocator + Copy>(
     alloc: A,
     order: Order,
     input: &[u8],

@@ -1,4 +1,4 @@
-//! The command `insn-read`.
+//! `insn-read`: the instructions of a listing.
 
 ghost use Rattle.std.specs.Prelude.{◌≤◌, length, IfOk};
 ghost use Rattle.bpfcanon.specs.declared.verb.Verb.TheVariants.{InsnRead};
@@ -10,8 +10,8 @@ use bpf_insn::Order;
 use bpf_text::{ListError, read_listing_bytes};
 use std::alloc::{AllocError, Allocator};
 
-/// The instructions that a text lists, in the order `to`.
-pub fn read_reply<A: Allocator + Copy>(
+/// The reply of `insn-read`: the bytes of the instructions that a text lists, in the order `to`.
+pub fn insn_read_reply<A: Allocator + Copy>(
     alloc: A,
     to: Order,
     input: &[u8],

@@ -1,4 +1,4 @@
-//! The command `insn-show`: the input is judged first, and then its listing is written in pieces.
+//! `insn-show`: the input is judged first, and then its listing is written in pieces.
 
 ghost use Rattle.std.specs.Prelude.{◌≡◌, ◌<◌, ◌≤◌, List, Some, None, length};
 ghost use Rattle.bpf_insn.specs.declared.fault.SlotFault.{SlotFault};
@@ -7,8 +7,8 @@ ghost use Rattle.bpf_insn.specs.Spelling.{InsnFile};
 ghost use Rattle.bpf_insn.specs.Faults.{IsInsnFault};
 ghost use Rattle.bpf_text.specs.insn.Lines.{listing_of};
 ghost use Rattle.bpfcanon.specs.declared.verb.Verb.TheVariants.{InsnShow};
-ghost use Rattle.bpfcanon.specs.JobEnds.{change};
-ghost use Rattle.bpfcanon.specs.commands.Pieces.{Answers, Puts};
+ghost use Rattle.bpfcanon.specs.Devices.{sink_change};
+ghost use Rattle.bpfcanon.specs.commands.Pieces.{Answers, TookText};
 ghost use Rattle.bpfcanon.specs.commands.Reply.{limit_of};
 
 use crate::commands::pieces::{PutError, end_of_pieces, put_long_piece, put_piece};
@@ -19,7 +19,7 @@ use bpf_insn::{Order, SlotFault, insn_len, read_insn};
 use bpf_text::push_line;
 use std::alloc::Allocator;
 
-/// The first fault of a file, counted from its first byte, or `None` where it is an instruction file.
+/// The first fault of a file, counted from its first byte, or `None` if it is an instruction file.
 fn first_fault(order: Order, input: &[u8]) -> Option<SlotFault>
     ensures file { result ≡ None → (l : List Insn) × InsnFile order input.now l }
     ensures fault { (f : SlotFault) → result ≡ Some f → IsInsnFault order input.now f }
@@ -49,7 +49,7 @@ fn put_listing<A: Allocator, W: ByteSink>(
     requires file { (l : List Insn) × InsnFile order input.now l }
     requires sink { W.failures sink.old < u64.MAX }
     ensures { (l : List Insn) × (InsnFile order input.now l
-        × Puts (change (W.contents sink.old) (W.contents sink.new) (W.failures sink.old) (W.failures sink.new)) (listing_of l) result) }
+        × TookText (sink_change W.ByteSink sink.old sink.new) (listing_of l) result) }
 {
     let mut piece = Vec::new(alloc);
     let mut pos = 0;
@@ -67,8 +67,8 @@ fn put_listing<A: Allocator, W: ByteSink>(
     put_piece(sink, &mut piece)
 }
 
-/// Runs `insn-show` on its input. Nothing is written where the input has a fault.
-pub fn put_shown<A: Allocator, W: ByteSink>(
+/// Runs `insn-show` on its input. Nothing is written if the input has a fault.
+pub fn put_insn_show<A: Allocator, W: ByteSink>(
     alloc: A,
     job: Job,
     input: &[u8],
@@ -77,8 +77,7 @@ pub fn put_shown<A: Allocator, W: ByteSink>(
     requires show { job.verb ≡ InsnShow }
     requires within { length input.now ≤ limit_of InsnShow }
     requires sink { W.failures sink.old < u64.MAX }
-    ensures { Answers job input.now
-        (change (W.contents sink.old) (W.contents sink.new) (W.failures sink.old) (W.failures sink.new)) result }
+    ensures { Answers job input.now (sink_change W.ByteSink sink.old sink.new) result }
 {
     match first_fault(job.order, input) {
         Some(fault) => Outcome::Fault(fault),

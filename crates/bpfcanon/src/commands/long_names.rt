@@ -1,11 +1,12 @@
-//! Lines of BTF text with long names: the bytes of a name are quoted and written chunk by chunk, so that no line is held whole.
+//! Lines of BTF text with long names. A name may be as long as the string section, and quoting
+//! makes it longer, so it is quoted and written in chunks.
 
 ghost use Rattle.std.specs.Prelude.{◌≡◌, ◌<◌, ◌++◌, length, nat_lt, OnOk};
 ghost use Rattle.std.specs.List.{flat_map};
 ghost use Rattle.btf_types.specs.Values.{head_value, item_value};
 ghost use Rattle.bpf_text.specs.btf.BtfText.{head_line, item_line, quoted_byte};
 ghost use Rattle.bpfcanon.specs.declared.commands.pieces.TheConstants.{PIECE};
-ghost use Rattle.bpfcanon.specs.JobEnds.{change};
+ghost use Rattle.bpfcanon.specs.Devices.{sink_change};
 ghost use Rattle.bpfcanon.specs.commands.Pieces.{Gathers};
 
 use crate::commands::pieces::{PutError, put_long_piece};
@@ -17,7 +18,7 @@ use bpf_text::{
 use btf_types::{Head, Item};
 use std::alloc::Allocator;
 
-/// How many bytes of a name are quoted at a time. A longer name is a long one.
+/// The longest chunk of a name that is quoted at once, in bytes. A longer name is a long name.
 const CHUNK: usize = 2048;
 
 /// Whether a name is written chunk by chunk.
@@ -27,7 +28,7 @@ pub fn is_long(name: &str) -> bool
     name.len() > CHUNK
 }
 
-/// Appends bytes of a name as they stand between its quotes to a piece, which is written once it is long enough.
+/// Appends a chunk of a name to a piece, quoted, and writes a long piece.
 fn put_chunk<A: Allocator, W: ByteSink>(
     sink: &mut W,
     piece: &mut Vec<u8, A>,
@@ -35,23 +36,21 @@ fn put_chunk<A: Allocator, W: ByteSink>(
 ) -> Result<(), PutError>
     requires some { 0 < length chunk.now }
     requires sink { W.failures sink.old < u64.MAX }
-    ensures gathered { Gathers (change (W.contents sink.old) (W.contents sink.new) (W.failures sink.old) (W.failures sink.new))
-        piece.new.items (piece.old.items ++ flat_map quoted_byte chunk.now) result }
+    ensures gathered { Gathers (sink_change W.ByteSink sink.old sink.new) piece.new.items (piece.old.items ++ flat_map quoted_byte chunk.now) result }
     ensures short { OnOk result (length piece.new.items < PIECE) }
 {
     append_quoted_part(piece, chunk)?;
     put_long_piece(sink, piece)
 }
 
-/// Gathers the bytes of a name as they stand between its quotes, and writes each piece that is long enough.
+/// Appends the bytes of a name, quoted, and writes each long piece.
 fn put_name<A: Allocator, W: ByteSink>(
     sink: &mut W,
     piece: &mut Vec<u8, A>,
     name: &[u8],
 ) -> Result<(), PutError>
     requires { W.failures sink.old < u64.MAX }
-    ensures { Gathers (change (W.contents sink.old) (W.contents sink.new) (W.failures sink.old) (W.failures sink.new))
-        piece.new.items (piece.old.items ++ flat_map quoted_byte name.now) result }
+    ensures { Gathers (sink_change W.ByteSink sink.old sink.new) piece.new.items (piece.old.items ++ flat_map quoted_byte name.now) result }
 {
     let mut start = 0;
     while start < name.len() {
@@ -62,7 +61,7 @@ fn put_name<A: Allocator, W: ByteSink>(
     Ok(())
 }
 
-/// Gathers the line of a type with so many items, and writes each piece that is long enough.
+/// Appends the line of a type with `items` items, and writes each long piece.
 pub fn put_long_head<A: Allocator, W: ByteSink>(
     sink: &mut W,
     piece: &mut Vec<u8, A>,
@@ -71,8 +70,7 @@ pub fn put_long_head<A: Allocator, W: ByteSink>(
     items: u32,
 ) -> Result<(), PutError>
     requires { W.failures sink.old < u64.MAX }
-    ensures gathered { Gathers (change (W.contents sink.old) (W.contents sink.new) (W.failures sink.old) (W.failures sink.new))
-        piece.new.items (piece.old.items ++ head_line id (head_value head.entry) items) result }
+    ensures gathered { Gathers (sink_change W.ByteSink sink.old sink.new) piece.new.items (piece.old.items ++ head_line id (head_value head.entry) items) result }
     ensures short { OnOk result (length piece.new.items < PIECE) }
 {
     append_head_start(piece, id, head)?;
@@ -81,7 +79,7 @@ pub fn put_long_head<A: Allocator, W: ByteSink>(
     put_long_piece(sink, piece)
 }
 
-/// Gathers the line of an item, and writes each piece that is long enough.
+/// Appends the line of an item, and writes each long piece.
 pub fn put_long_item<A: Allocator, W: ByteSink>(
     sink: &mut W,
     piece: &mut Vec<u8, A>,
@@ -89,8 +87,7 @@ pub fn put_long_item<A: Allocator, W: ByteSink>(
     signed: bool,
 ) -> Result<(), PutError>
     requires { W.failures sink.old < u64.MAX }
-    ensures gathered { Gathers (change (W.contents sink.old) (W.contents sink.new) (W.failures sink.old) (W.failures sink.new))
-        piece.new.items (piece.old.items ++ item_line signed (item_value item.entry)) result }
+    ensures gathered { Gathers (sink_change W.ByteSink sink.old sink.new) piece.new.items (piece.old.items ++ item_line signed (item_value item.entry)) result }
     ensures short { OnOk result (length piece.new.items < PIECE) }
 {
     append_item_start(piece, item)?;

@@ -1,20 +1,20 @@
-//! Text that is written in pieces, as it is made.
+//! Text that is written piece by piece, so that no more than a piece is held in memory.
 
 ghost use Rattle.std.specs.Prelude.{◌≡◌, ◌<◌, [], length, IfErr, OnOk};
 ghost use Rattle.bpfcanon.specs.declared.commands.pieces.PutError.TheVariants.{Memory, WriteFailed};
-ghost use Rattle.bpfcanon.specs.JobEnds.{change};
-ghost use Rattle.bpfcanon.specs.commands.Pieces.{Gathers, Puts, end_of_pieces};
+ghost use Rattle.bpfcanon.specs.Devices.{sink_change};
+ghost use Rattle.bpfcanon.specs.commands.Pieces.{Gathers, TookText, end_of_pieces};
 
 use crate::outcome::Outcome;
 use bpf_canon::{ByteSink, put_all};
 use std::alloc::{AllocError, Allocator};
 
-/// Why a text wasn't written whole.
+/// Why a text wasn't written to its end.
 #[derive(Clone, Copy, Debug, PartialEq, Eq)]
 pub enum PutError {
     /// A write failed.
     WriteFailed,
-    /// Memory was refused.
+    /// Out of memory.
     Memory,
 }
 
@@ -26,7 +26,7 @@ impl From<AllocError> for PutError {
     }
 }
 
-/// How a command ends that wrote its output in pieces.
+/// The outcome of a command that wrote its output in pieces.
 pub fn end_of_pieces(put: Result<(), PutError>) -> Outcome
     ensures { result ≡ end_of_pieces put }
 {
@@ -37,20 +37,20 @@ pub fn end_of_pieces(put: Result<(), PutError>) -> Outcome
     }
 }
 
-/// How many bytes a piece gathers before it is written.
+/// The length in bytes at which a piece is written.
 const PIECE: usize = 8192;
 
-/// Writes a piece, and empties it. Its room is kept.
+/// Writes a piece, and empties it. It keeps its memory for the next one.
 ///
 /// # Errors
 ///
-/// `WriteFailed` at the first write that fails, where the sink has taken a part of the piece.
+/// `WriteFailed` at the first write that fails. The sink has taken a part of the piece, or nothing.
 pub fn put_piece<W: ByteSink, A: Allocator>(
     sink: &mut W,
     piece: &mut Vec<u8, A>,
 ) -> Result<(), PutError>
     requires { W.failures sink.old < u64.MAX }
-    ensures put { Puts (change (W.contents sink.old) (W.contents sink.new) (W.failures sink.old) (W.failures sink.new)) piece.old.items result }
+    ensures put { TookText (sink_change W.ByteSink sink.old sink.new) piece.old.items result }
     ensures empty { OnOk result (piece.new.items ≡ []) }
     ensures failed { IfErr result (λ e. e ≡ WriteFailed) }
 {
@@ -63,17 +63,17 @@ pub fn put_piece<W: ByteSink, A: Allocator>(
     }
 }
 
-/// Writes a piece that is long enough, and empties it.
+/// Writes a piece and empties it, if it is at least [`PIECE`] bytes long.
 ///
 /// # Errors
 ///
-/// `WriteFailed` at the first write that fails, where the sink has taken a part of the piece.
+/// `WriteFailed` at the first write that fails. The sink has taken a part of the piece, or nothing.
 pub fn put_long_piece<W: ByteSink, A: Allocator>(
     sink: &mut W,
     piece: &mut Vec<u8, A>,
 ) -> Result<(), PutError>
     requires { W.failures sink.old < u64.MAX }
-    ensures gathered { Gathers (change (W.contents sink.old) (W.contents sink.new) (W.failures sink.old) (W.failures sink.new)) piece.new.items piece.old.items result }
+    ensures gathered { Gathers (sink_change W.ByteSink sink.old sink.new) piece.new.items piece.old.items result }
     ensures short { OnOk result (length piece.new.items < PIECE) }
     ensures failed { IfErr result (λ e. e ≡ WriteFailed) }
 {

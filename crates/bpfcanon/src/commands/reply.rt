@@ -1,13 +1,13 @@
-//! What a command answers that reads its input whole and writes its output whole.
+//! Replies: output that is made whole, and then written.
 
 ghost use Rattle.std.specs.Prelude.{◌≡◌, ◌≤◌, [], false, length, IfOk};
 ghost use Rattle.bpfcanon.specs.commands.Reply.{IsReply, has_engine, in_pieces, limit_of};
 
-use crate::commands::btf_check::check_reply;
+use crate::commands::btf_check::btf_check_reply;
 use crate::commands::btf_same::btf_same_reply;
-use crate::commands::insn_groups::groups_reply;
-use crate::commands::insn_read::read_reply;
-use crate::commands::insn_same::same_reply;
+use crate::commands::insn_groups::insn_groups_reply;
+use crate::commands::insn_read::insn_read_reply;
+use crate::commands::insn_same::insn_same_reply;
 use crate::job::Job;
 use crate::outcome::Outcome;
 use crate::verb::Verb;
@@ -34,7 +34,7 @@ impl<A: Allocator> Reply<A> {
         }
     }
 
-    /// A reply with these bytes.
+    /// A reply whose output is a copy of some bytes.
     pub fn with_bytes(alloc: A, outcome: Outcome, bytes: &[u8]) -> Result<Reply<A>, AllocError>
         ensures outcome { IfOk result (λ r. r.outcome ≡ outcome) }
         ensures output { IfOk result (λ r. r.output.items ≡ bytes.now) }
@@ -46,7 +46,7 @@ impl<A: Allocator> Reply<A> {
     }
 }
 
-/// The reply to its whole input of a command that no engine runs and that doesn't write in pieces.
+/// The reply of a command to its whole input.
 pub fn reply_to<A: Allocator + Copy>(
     alloc: A,
     job: Job,
@@ -59,10 +59,10 @@ pub fn reply_to<A: Allocator + Copy>(
 {
     match job.verb {
         Verb::InsnCanon | Verb::InsnShow | Verb::BtfCanon | Verb::BtfShow => unreachable!(),
-        Verb::InsnRead => read_reply(alloc, job.to, input),
-        Verb::InsnGroups => groups_reply(alloc, job.order, input),
-        Verb::InsnSame => same_reply(alloc, job, input),
-        Verb::BtfCheck => check_reply(alloc, input),
+        Verb::InsnRead => insn_read_reply(alloc, job.to, input),
+        Verb::InsnGroups => insn_groups_reply(alloc, job.order, input),
+        Verb::InsnSame => insn_same_reply(alloc, job, input),
+        Verb::BtfCheck => btf_check_reply(alloc, input),
         Verb::BtfSame => btf_same_reply(alloc, job.split, input),
     }
 }

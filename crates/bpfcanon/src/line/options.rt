@@ -14,7 +14,7 @@ use std::alloc::{AllocError, Global};
 /// The names of the byte orders.
 static ORDERS: [&str; 2] = ["little", "big"];
 
-/// The words that an option for a byte order takes. clap keeps them behind a reference.
+/// The values of an option for a byte order. clap keeps a reference to them.
 #[derive(Clone, Copy)]
 pub struct OrderNames<'a> {
     words: &'a [&'a str],
@@ -31,7 +31,7 @@ impl OrderNames<'static> {
     }
 }
 
-/// An option that takes a byte order, `little` where it isn't given.
+/// An option for a byte order, by default `little`.
 fn order_arg<'a>(alloc: Global, name: &'a str, orders: OrderNames<'a>) -> Arg<'a>
     ensures rule { rule_of result ≡ order_option orders.entry.words name.entry.now }
     ensures local { result.global ≡ false }
@@ -42,14 +42,15 @@ fn order_arg<'a>(alloc: Global, name: &'a str, orders: OrderNames<'a>) -> Arg<'a
         .default_value("little")
 }
 
-/// The option that takes the length of the first file, which must be given.
+/// The option `--split`: the length of the first file. It is required, and not beyond the longest
+/// input.
 fn split_arg<'a>(alloc: Global) -> Arg<'a>
     ensures rule { rule_of result ≡ split_option }
     ensures local { result.global ≡ false }
 {
     Arg::new(alloc, "split")
         .long("split")
-        .value_parser(value_parser!(u64).range(0..=134_217_728))
+        .value_parser(value_parser!(u64).range(0..=Verb::InsnSame.limit() as i64))
         .required(true)
 }
 
@@ -63,7 +64,7 @@ fn setting_arg<'a>(alloc: Global, setting: Setting, orders: OrderNames<'a>) -> A
     order_arg(alloc, setting.name(), orders)
 }
 
-/// A command of this name with the options that a verb takes.
+/// Adds the options of a verb to its command.
 fn with_options<'a>(
     alloc: Global,
     mut command: Command<'a>,
@@ -95,7 +96,7 @@ fn verb_command<'a>(
     with_options(alloc, Command::new(alloc, verb.name()), verb, orders)
 }
 
-/// The program with no command yet. It has no help: that is refused as any other word.
+/// The program without its commands. It has no help: asking for it is refused like any other word.
 fn bare_command<'a>(alloc: Global) -> Command<'a>
     ensures { app_of result ≡ bare_program }
 {
@@ -104,7 +105,7 @@ fn bare_command<'a>(alloc: Global) -> Command<'a>
         .disable_help_subcommand(true)
 }
 
-/// The program with its commands, where the orders have these names.
+/// The program with all its commands.
 pub fn program_command<'a>(alloc: Global, orders: OrderNames<'a>) -> Result<Command<'a>, AllocError>
     ensures { IfOk result (λ c. app_of c ≡ program orders.entry.words) }
 {

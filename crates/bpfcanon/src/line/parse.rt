@@ -1,4 +1,4 @@
-//! From the words of a command line to the job that they ask for.
+//! From the words of a command line to its job.
 
 ghost use Rattle.std.specs.Prelude.{◌≡◌, ◌<◌, length, map, string_bytes, IfOk, IfSome, IsErrOf};
 ghost use Rattle.clap.specs.Words.{subcommand_rows_of, rows_of, found_of};
@@ -19,7 +19,7 @@ use thiserror::Error;
 /// Why a command line has no job.
 #[derive(Clone, Copy, Debug, PartialEq, Eq, Error)]
 pub enum LineError {
-    /// The words aren't those of a command with its options, or they ask for help.
+    /// The words aren't a command with its options, or they ask for help.
     #[error("Usage")]
     Usage,
     /// Out of memory.
@@ -45,7 +45,7 @@ fn order_named(name: &str) -> Order
     }
 }
 
-/// The order of an option that the command takes.
+/// The byte order that an option names, and `Little` if the command doesn't take the option.
 fn order_at(verb: Verb, setting: Setting, matches: &ArgMatches<'_>) -> Order
     ensures { result ≡ spec.order_at verb setting (rows_of (found_of matches.now)) }
 {
@@ -58,7 +58,7 @@ fn order_at(verb: Verb, setting: Setting, matches: &ArgMatches<'_>) -> Order
     }
 }
 
-/// The length of the first file, where the command takes it.
+/// The length of the first file, and 0 if the command takes one file.
 fn split_at(verb: Verb, matches: &ArgMatches<'_>) -> u64
     ensures { result ≡ spec.split_at verb (rows_of (found_of matches.now)) }
 {
@@ -80,7 +80,7 @@ fn job_at(verb: Verb, matches: &ArgMatches<'_>) -> Job
     }
 }
 
-/// The job of a line that clap takes.
+/// The job of a line that clap takes. A line without a command is `insn-canon`.
 fn job_of(matches: &ArgMatches<'_>) -> Job
     requires { IfSome (subcommand_rows_of matches.now) (λ p. IsVerbName p.0) }
     ensures { IsJobOf (subcommand_rows_of matches.now) result }
@@ -100,7 +100,7 @@ fn job_of(matches: &ArgMatches<'_>) -> Job
     }
 }
 
-/// Out of memory where clap reports that, and a refused line otherwise.
+/// `Memory` if clap ran out of memory. Every other error is about the words.
 fn line_error(kind: ErrorKind) -> LineError
     ensures memory { result ≡ LineError.Memory → kind ≡ ErrorKind.OutOfMemory }
     ensures usage { result ≡ LineError.Usage → kind ≡ ErrorKind.OutOfMemory → ⊥ }

@@ -1,5 +1,5 @@
 use Rattle.std.proofs.Common.{◌-◌, length}
-use Rattle.bpfcanon.specs.JobEnds.{change}
+use Rattle.bpfcanon.specs.Devices.{change}
 use Rattle.bpfcanon.proofs.CommandsLemmas.InsnShowLemmas.{Listed}
 use Rattle.bpfcanon.proofs.commands.insn_show.put_listing.Given as goal
 

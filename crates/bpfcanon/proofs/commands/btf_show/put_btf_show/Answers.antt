@@ -1,7 +1,7 @@
 use Rattle.std.proofs.Common.{refl}
 use Rattle.bpfcanon.specs.commands.Pieces.{refused}
 use Rattle.bpfcanon.proofs.CommandsLemmas.BtfShowLemmas.{btf_ended, btf_fault}
-use Rattle.bpfcanon.proofs.commands.btf_show.put_btf_shown.Goals as goal
+use Rattle.bpfcanon.proofs.commands.btf_show.put_btf_show.Goals as goal
 
 pub returns-in-Ok : goal.returns-in-Ok
 returns-in-Ok g c =

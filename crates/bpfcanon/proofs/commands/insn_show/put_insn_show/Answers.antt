@@ -1,5 +1,5 @@
 use Rattle.bpfcanon.proofs.CommandsLemmas.InsnShowLemmas.{show_ended, show_fault}
-use Rattle.bpfcanon.proofs.commands.insn_show.put_shown.Goals as goal
+use Rattle.bpfcanon.proofs.commands.insn_show.put_insn_show.Goals as goal
 
 pub returns-in-Some : goal.returns-in-Some
 returns-in-Some g c =

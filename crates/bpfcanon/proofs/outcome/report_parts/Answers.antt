@@ -4,7 +4,7 @@ use Rattle.std.specs.Borrow.{Bor}
 use Rattle.std.specs.Io.KnownBytes.{Appends}
 use Rattle.std.proofs.lemmas.List.{take_all}
 use Rattle.bpfcanon.proofs.OutcomeLemmas.{tells_part, tells_whole}
-use Rattle.bpfcanon.proofs.outcome.put_parts.Goals as goal
+use Rattle.bpfcanon.proofs.outcome.report_parts.Goals as goal
 
 pub returns-then-is_err : goal.returns-then-is_err
 returns-then-is_err g c =

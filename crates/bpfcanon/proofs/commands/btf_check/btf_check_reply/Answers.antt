@@ -1,5 +1,5 @@
 use Rattle.bpfcanon.specs.commands.BtfReply.{checked, unchecked}
-use Rattle.bpfcanon.proofs.commands.btf_check.check_reply.Goals as goal
+use Rattle.bpfcanon.proofs.commands.btf_check.btf_check_reply.Goals as goal
 
 pub returns-in_ok-count_line-in-Ok : goal.returns-in_ok-count_line-in-Ok
 returns-in_ok-count_line-in-Ok g c =

@@ -1,6 +1,6 @@
 use Rattle.std.proofs.Common.{◌∙◌, sym}
 use Rattle.bpfcanon.proofs.CommandsLemmas.InsnCanonLemmas.{canon_done, canon_stopped}
-use Rattle.bpfcanon.proofs.commands.insn_canon.run_canon.Goals as goal
+use Rattle.bpfcanon.proofs.commands.insn_canon.run_insn_canon.Goals as goal
 
 pub returns-in-Ok : goal.returns-in-Ok
 returns-in-Ok g c = canon_done c.args.job _ _ _ c.requires.canon c.in-Ok.ensures.ok c.in-Ok.ensures.healthy.0 c.in-Ok.ensures.healthy.1

@@ -1,7 +1,7 @@
 use Rattle.std.proofs.Common.{◌∙◌, Err, ap}
 use Rattle.bpf_insn.specs.Groups.{holds}
 use Rattle.bpfcanon.specs.commands.Reply.{grouped, ungrouped}
-use Rattle.bpfcanon.proofs.commands.insn_groups.groups_reply.Goals as goal
+use Rattle.bpfcanon.proofs.commands.insn_groups.insn_groups_reply.Goals as goal
 
 pub returns-in_ok-group_lines-in-Ok : goal.returns-in_ok-group_lines-in-Ok
 returns-in_ok-group_lines-in-Ok g c =

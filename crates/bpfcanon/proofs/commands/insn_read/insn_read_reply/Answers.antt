@@ -1,6 +1,6 @@
 use Rattle.std.proofs.Common.{◌∙◌, Err, ap}
 use Rattle.bpfcanon.specs.commands.Reply.{read_back, unread}
-use Rattle.bpfcanon.proofs.commands.insn_read.read_reply.Goals as goal
+use Rattle.bpfcanon.proofs.commands.insn_read.insn_read_reply.Goals as goal
 
 pub returns-in-Ok : goal.returns-in-Ok
 returns-in-Ok g c =
