@@ -235,9 +235,9 @@ typedef struct bpfcanon_front {
 } bpfcanon_front;
 
 /*
- * Writes the whole instructions at the front of some bytes in the byte order `to`, for a stream that
- * comes in pieces. At BPFCANON_DONE the bytes after `read`, fewer than 16, may begin an instruction:
- * give them again, in front of the next piece. At the end of the stream give them to
+ * Writes the whole instructions at the front of some bytes in the byte order `to`, for a stream
+ * that comes in pieces. At BPFCANON_DONE the bytes after `read`, fewer than 16, may begin an
+ * instruction: give them again, in front of the next piece. At the end of the stream give them to
  * bpfcanon_insn_canon, which reports that they are cut, if there are any. At BPFCANON_FAULT no more
  * bytes can mend the fault, and the instructions before it are written. Room of `len` bytes is
  * always enough.
