@@ -14,10 +14,10 @@ void *__wrap_malloc(size_t size);
 void *__wrap_realloc(void *block, size_t size);
 void __wrap_free(void *block);
 
-static long allowed = -1; /* how many allocations succeed before one is refused; none is where it is negative */
-static int refuses_one;   /* whether the allocations after the refused one succeed; else they are refused, too */
-static long refused;      /* how many were refused, without the next */
-static long shrinks;      /* how many were refused that would make a block smaller, which a call can do without */
+static long allowed = -1; /* the number of allocations before one is refused; if negative, none is */
+static int refuses_one;   /* whether the allocations after the refused one succeed; else all of them are refused */
+static long refused;      /* the number of refused allocations, without those of `shrinks` */
+static long shrinks;      /* the number of refused ones that would make a block smaller, which a call can do without */
 static long live;         /* blocks that weren't freed */
 
 /* The live blocks with the sizes that were asked for. */

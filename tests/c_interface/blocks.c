@@ -105,7 +105,7 @@ static int is_count(long before, int call, size_t len, bpfcanon_answer answer)
 	return before < 0 || proved_calls_so_far() - before == (call == BTF_SHOW && answer.written > 4 * len ? 2 : 1);
 }
 
-/* A call with ample memory: the answer of the call with room, and a block of its own where it is done. */
+/* A call with ample memory: the answer of the call with room, and a block of its own if that is done. */
 static void compare(int call, uint32_t order, uint32_t to, const uint8_t *bytes, size_t len, bpfcanon_answer right)
 {
 	uint8_t *block = &marker, *other = &marker;
@@ -155,7 +155,7 @@ static void refuse_each(int call, uint32_t order, uint32_t to, const uint8_t *by
 	CHECK(!"10,000 allocations are enough for a call");
 }
 
-/* One input in each order. Memory is refused where it is asked for, and where a cause comes for the first time. */
+/* One input in one order. Memory is refused if `refuses`, and when a cause comes for the first time. */
 static void try_in(int call, uint32_t order, uint32_t to, const uint8_t *bytes, size_t len, int refuses)
 {
 	bpfcanon_answer right = calls[call].write(order, to, bytes, len, wanted, ROOM);

@@ -79,6 +79,8 @@ def check_files(report, root):
     report.expect_that(targets == links, "the links", f"these are there: {targets}")
     for name, source in ("include/bpfcanon.h", CAPI / "bpfcanon.h"), ("share/man/man3/bpfcanon.3", TOP / "man" / "bpfcanon.3"):
         report.expect_that((root / name).read_bytes() == source.read_bytes(), name, f"it isn't a copy of {source}")
+    first = (root / "lib" / "pkgconfig" / "bpfcanon.pc").read_text().splitlines()[0]
+    report.expect_that(first == f"prefix={PREFIX}", "bpfcanon.pc", f"its first line is {first}")
     closed = [str(path) for path in root.rglob("*") if path.is_dir() and path.stat().st_mode & 0o777 != 0o755]
     report.expect_that(not closed, "the folders", f"these don't have the mode 755: {closed}")
 

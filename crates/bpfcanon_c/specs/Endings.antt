@@ -27,7 +27,7 @@ pub record IsAnswerOf (Holds : Ending → Type 0) (a : Answer) : Type 0 where
 abbrev pub IsNoOrder : ℕ → Type 0
 IsNoOrder n = (o : Order) → n ≡ order_number o → ⊥
 
--- How the call on canonical BTF ends. The room is as before unless bytes were written. Room for as many bytes as the file has is enough.
+-- How the call on canonical BTF ends. The room is as before unless bytes were written. Room of the length of the file is enough.
 abbrev pub EndsBtfIn : Order → List ℕ → List ℕ → List ℕ → Ending → Type 0
 EndsBtfIn to bytes old new (Written n) = (v : List TypeRecord) × (Denotes bytes v × FillsRoom (canonical to v) old new (Written n))
 EndsBtfIn to bytes old new (Room n) = (v : List TypeRecord) × (Denotes bytes v × (FillsRoom (canonical to v) old new (Room n) × (length old < length bytes)))
