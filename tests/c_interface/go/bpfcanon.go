@@ -70,7 +70,7 @@ func size(b []byte) C.size_t {
 }
 
 func answer(a C.bpfcanon_answer) Answer {
-	return Answer{Status(a.status), uint32(a.cause), uint64(a.pos + a.line), int(a.written + a.needed) + int(a.types+a.groups)}
+	return Answer{Status(a.status), uint32(a.cause), uint64(a.pos + a.line), int(a.written+a.needed) + int(a.types+a.groups)}
 }
 
 func BTFCanon(to Order, file, out []byte) Answer {
