@@ -113,7 +113,7 @@ def check_every_value(report, library):
 
 
 def check_two_bytes(report, library):
-    """The places and values are drawn anew from the same seed at each run."""
+    """The places and values are drawn again from the same seed at each run."""
     draw = random.Random(9669)
     with report.group("two bytes changed"):
         for file in worked_files():

@@ -70,7 +70,7 @@ func size(b []byte) C.size_t {
 }
 
 func answer(a C.bpfcanon_answer) Answer {
-	return Answer{Status(a.status), uint32(a.cause), uint64(a.pos), int(a.len)}
+	return Answer{Status(a.status), uint32(a.cause), uint64(a.pos + a.line), int(a.written+a.needed) + int(a.types+a.groups)}
 }
 
 func BTFCanon(to Order, file, out []byte) Answer {
@@ -86,7 +86,7 @@ func BTFSame(first, second []byte) Answer {
 }
 
 func BTFShow(file, out []byte) Answer {
-	return answer(C.bpfcanon_btf_show(start(file), size(file), start(out), size(out)))
+	return answer(C.bpfcanon_btf_show(start(file), size(file), (*C.char)(unsafe.Pointer(start(out))), size(out)))
 }
 
 func InsnCanon(order, to Order, file, out []byte) Answer {
@@ -103,37 +103,37 @@ func InsnSame(firstOrder Order, first []byte, secondOrder Order, second []byte) 
 }
 
 func InsnShow(order Order, file, out []byte) Answer {
-	return answer(C.bpfcanon_insn_show(C.uint32_t(order), start(file), size(file), start(out), size(out)))
+	return answer(C.bpfcanon_insn_show(C.uint32_t(order), start(file), size(file), (*C.char)(unsafe.Pointer(start(out))), size(out)))
 }
 
 func InsnRead(to Order, text, out []byte) Answer {
-	return answer(C.bpfcanon_insn_read(C.uint32_t(to), start(text), size(text), start(out), size(out)))
+	return answer(C.bpfcanon_insn_read(C.uint32_t(to), (*C.char)(unsafe.Pointer(start(text))), size(text), start(out), size(out)))
 }
 
 func InsnFront(order, to Order, piece, out []byte) Front {
 	f := C.bpfcanon_insn_front(C.uint32_t(order), C.uint32_t(to), start(piece), size(piece), start(out), size(out))
-	return Front{Status(f.status), uint32(f.cause), uint64(f.pos), int(f.read), int(f.written)}
+	return Front{Status(f.status), uint32(f.cause), uint64(f.pos), int(f.read), int(f.written + f.needed)}
 }
 
 // BTFCanonNew returns the canonical bytes of a file from a block that C has allocated, and whether there was a block.
 func BTFCanonNew(to Order, file []byte) (Answer, []byte, bool) {
 	var block *C.uint8_t
 	a := answer(C.bpfcanon_btf_canon_new(C.uint32_t(to), start(file), size(file), &block))
-	defer C.bpfcanon_free(block)
+	defer C.bpfcanon_free(unsafe.Pointer(block))
 	return a, C.GoBytes(unsafe.Pointer(block), C.int(a.Len)), block != nil
 }
 
 // InsnCause returns the name of a cause of instruction faults, and "" for a number that is no cause.
 func InsnCause(cause uint32) string {
-	return C.GoString(C.bpfcanon_insn_cause(C.uint32_t(cause)))
+	return C.GoString(C.bpfcanon_insn_cause_name(C.uint32_t(cause)))
 }
 
 // BTFCause returns the name of a cause of BTF faults, and "" for a number that is no cause.
 func BTFCause(cause uint32) string {
-	return C.GoString(C.bpfcanon_btf_cause(C.uint32_t(cause)))
+	return C.GoString(C.bpfcanon_btf_cause_name(C.uint32_t(cause)))
 }
 
 // LineCause returns the name of a cause of listing faults, and "" for a number that is no cause.
 func LineCause(cause uint32) string {
-	return C.GoString(C.bpfcanon_line_cause(C.uint32_t(cause)))
+	return C.GoString(C.bpfcanon_line_cause_name(C.uint32_t(cause)))
 }
