@@ -78,8 +78,8 @@ class Faults(unittest.TestCase):
         self.assertEqual((fault.cause, fault.pos, fault.line, fault.second), (BtfCause.VLEN, 40, 0, True))
 
     def test_exceptions_have_the_built_in_bases(self) -> None:
-        self.assertTrue(issubclass(Fault, (bpfcanon.BpfcanonError, ValueError)))
-        self.assertTrue(issubclass(Fault, ValueError) and issubclass(OutOfMemory, MemoryError))
+        for error, base in [(Fault, ValueError), (OrderError, ValueError), (OutOfMemory, MemoryError)]:
+            self.assertTrue(issubclass(error, base) and issubclass(error, bpfcanon.BpfcanonError), error)
 
     def test_causes_have_the_names_and_sentences_of_the_formats(self) -> None:
         page = (TOP / "docs" / "FORMATS.md").read_text()
@@ -103,10 +103,9 @@ class Library(unittest.TestCase):
 
     def test_the_library_has_the_version_of_the_package(self) -> None:
         self.assertEqual(bpfcanon.library_version(), bpfcanon.__version__)
-        project = (PACKAGE / "pyproject.toml").read_text()
-        self.assertIn(f'\nversion = "{bpfcanon.__version__}"\n', project)
-        header = (TOP / "capi" / "bpfcanon.h").read_text()
-        self.assertIn(f'#define BPFCANON_VERSION "{bpfcanon.__version__}"\n', header)
+        project = re.findall(r'^version = "(.*)"$', (PACKAGE / "pyproject.toml").read_text(), re.MULTILINE)
+        header = re.findall(r'^#define BPFCANON_VERSION "(.*)"$', (TOP / "capi" / "bpfcanon.h").read_text(), re.MULTILINE)
+        self.assertEqual(project + header, 2 * [bpfcanon.__version__])
 
     def test_a_library_that_is_missing_is_named(self) -> None:
         with tempfile.TemporaryDirectory() as folder:
