@@ -92,12 +92,6 @@ func TestAnOrderThatIsNoneIsRefused(t *testing.T) {
 	}
 }
 
-func TestTheLibraryHasTheVersionOfItsHeader(t *testing.T) {
-	if got := bpfcanon.LibraryVersion(); got != "0.1.0" {
-		t.Errorf("version %q", got)
-	}
-}
-
 func TestResultsAreAppended(t *testing.T) {
 	exit, out := unhex(t, "95 00 0000 00000000"), append(make([]byte, 0, 64), "before: "...)
 	for name, call := range map[string]func(dst []byte) ([]byte, error){

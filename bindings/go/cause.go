@@ -39,42 +39,42 @@ const (
 	LineRange                      // a number is out of the range of its field
 )
 
-// A BTFCause is the cause of a fault of BTF.
+// A BTFCause is the cause of a fault of BTF. The names of fields are those of btf.rst.
 type BTFCause uint32
 
 const (
-	BTFShortHeader BTFCause = iota + 1
-	BTFMagic
-	BTFVersion
-	BTFFlags
-	BTFHeaderLength
-	BTFHeaderTail
-	BTFTypeLength
-	BTFStringLength
-	BTFSections
-	BTFFileLength
-	BTFFirstString
-	BTFLastString
-	BTFRecordCut
-	BTFInfoBits
-	BTFKindNumber
-	BTFFlagSet
-	BTFVlen
-	BTFTailCut
-	BTFNameRange
-	BTFNameUTF8
-	BTFNameMissing
-	BTFNameUnwanted
-	BTFTextsTooLong // never reported: the number is kept
-	BTFNotZero
-	BTFSize
-	BTFReference
-	BTFTargetKind
-	BTFIntWord
-	BTFMemberInt
-	BTFMemberPlace
-	BTFLinkage
-	BTFComponent
+	BTFShortHeader  BTFCause = iota + 1 // fewer than 24 bytes
+	BTFMagic                            // neither magic number
+	BTFVersion                          // not 1
+	BTFFlags                            // not 0
+	BTFHeaderLength                     // hdr_len is under 24, over 4,096 or over the length of the input
+	BTFHeaderTail                       // the header after its first 24 bytes
+	BTFTypeLength                       // type_len is over 33,554,432
+	BTFStringLength                     // str_len is 0 or over 16,777,216
+	BTFSections                         // the sections don't follow the header and each other
+	BTFFileLength                       // the lengths don't add up to that of the input
+	BTFFirstString                      // the first byte of the string section is not NUL
+	BTFLastString                       // its last byte is not NUL
+	BTFRecordCut                        // the types end inside the first three words of a record
+	BTFInfoBits                         // an unused bit of info is set
+	BTFKindNumber                       // the kind is 0 or over 19
+	BTFFlagSet                          // kind_flag of a kind that has none
+	BTFVlen                             // vlen of a kind without items
+	BTFTailCut                          // the types end inside the data of a record
+	BTFNameRange                        // name_off is outside the string section
+	BTFNameUTF8                         // the name is not UTF-8
+	BTFNameMissing                      // the kind needs a name
+	BTFNameUnwanted                     // the kind has no name
+	BTFTextsTooLong                     // never reported: the number is kept
+	BTFNotZero                          // the third word of an ARRAY or FWD
+	BTFSize                             // the kind has no such size
+	BTFReference                        // a type ID over the number of types
+	BTFTargetKind                       // a reference to a type of the wrong kind
+	BTFIntWord                          // the encoding, offset and bits of an INT
+	BTFMemberInt                        // the INT of a member, in a record with bit-fields
+	BTFMemberPlace                      // a member ends after the end of its record
+	BTFLinkage                          // over 2
+	BTFComponent                        // component_idx is no member or parameter
 )
 
 // String returns the name of the cause, as "Opcode", or "InsnCause(9)" for a number without one.

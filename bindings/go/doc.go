@@ -7,10 +7,10 @@
 // equal. Every other input is refused with a *FaultError, which has the offset and the cause of its
 // first fault.
 //
-// The package calls the C library libbpfcanon, whose calls are proved to meet their contracts; Go
-// has no part in the results but the memory that they are written to. cgo finds the library by
-// pkg-config. Inputs are not copied and nothing is kept of them, but another goroutine must not
-// write to an input during a call. Calls may run at the same time.
+// The work is done by code in the C library libbpfcanon that is proved to meet its contracts. What
+// is between the two, a few lines of C and this package, is tested. cgo finds the library by
+// pkg-config. Inputs are not copied, and nothing is kept of them after a call. Calls may run at the
+// same time, but no goroutine may write to an input during a call.
 package bpfcanon
 
 import (

@@ -10,9 +10,9 @@ func InsnCanon(order, to Order, program []byte) ([]byte, error) {
 	return AppendInsnCanon(nil, order, to, program)
 }
 
-// AppendInsnCanon is like InsnCanon, but appends the bytes to dst and returns the longer slice. On
-// an error it returns dst as it was. dst[:0] of an earlier result is used again without allocating,
-// if its capacity is enough.
+// AppendInsnCanon is like InsnCanon, but appends the bytes to dst and returns the longer slice. It
+// allocates only if the capacity of dst isn't enough, or is memory of the program, which stays as
+// it is. On an error it returns dst as it was.
 func AppendInsnCanon(dst []byte, order, to Order, program []byte) ([]byte, error) {
 	return appendOutput(dst, program, len(program), insnCause, func(out []byte) capi.Answer {
 		return capi.InsnCanon(capi.Order(order), capi.Order(to), program, out)
@@ -51,7 +51,7 @@ func AppendInsnRead(dst []byte, to Order, listing []byte) ([]byte, error) {
 	})
 }
 
-// InsnGroups returns the conformance groups that a program needs, with those that they include.
+// InsnGroups returns the conformance groups that a program needs, and the groups that these include.
 //
 // Errors: a *FaultError with an InsnCause, ErrMemory, ErrOrder.
 func InsnGroups(order Order, program []byte) (Groups, error) {

@@ -48,8 +48,8 @@ func (w *InsnWriter) Write(p []byte) (int, error) {
 	return taken, w.err
 }
 
-// complete takes as many bytes as the longest instruction needs, and writes the instruction that
-// was held. It returns how many bytes of p it took, or holds.
+// complete adds bytes of p to those that are held, up to the length of the longest instruction, and
+// writes the instruction that they complete. It returns how many bytes of p it wrote or holds.
 func (w *InsnWriter) complete(p []byte) int {
 	before := len(w.held)
 	w.held = append(w.held, p[:least(longestInsn-before, len(p))]...)
@@ -65,7 +65,7 @@ func (w *InsnWriter) complete(p []byte) int {
 }
 
 // writeFront writes the instructions at the front of p, and holds the start of one that is left at
-// its end. It returns how many bytes of p it took, or holds.
+// its end. It returns how many bytes of p it wrote or holds.
 func (w *InsnWriter) writeFront(p []byte) int {
 	piece := p[:least(len(p), pieceSize)]
 	read := w.put(piece)

@@ -4,8 +4,9 @@ A program, or a list of types, can be written in either byte order, and types wi
 their strings. Two inputs that are accepted mean the same exactly if their canonical bytes are
 equal. Every other input raises a Fault with the offset and the cause of its first fault.
 
-The package calls the C library libbpfcanon, whose calls are proved to meet their contracts. It is
-loaded at the first call, as libbpfcanon.so.0 or from the file that BPFCANON_LIBRARY names.
+The work is done by code in the C library libbpfcanon that is proved to meet its contracts. What is
+between the two, a few lines of C and this package, is tested. The library is loaded at the first
+call, as libbpfcanon.so.0 or from the file that BPFCANON_LIBRARY names.
 
 Inputs are bytes, bytearray, memoryview or mmap. bytes and writable buffers are read where they
 are; other read-only ones are copied. Calls release the interpreter's lock, so threads run at the

@@ -44,7 +44,7 @@ def insn_read(listing: Union[str, Buffer], *, to: Order = Order.LITTLE) -> bytes
 
 
 def insn_groups(program: Buffer, *, order: Order = Order.LITTLE) -> Group:
-    """The conformance groups that a program needs, with those that they include.
+    """The conformance groups that a program needs, and the groups that these include.
 
     Raises Fault with an InsnCause, OutOfMemory.
     """

@@ -12,9 +12,11 @@ import sys
 import tempfile
 import unittest
 from typing import Any
+from unittest import mock
 
 import bpfcanon
-from bpfcanon import BtfCause, Fault, InsnCause, LineCause, Order, OrderError, OutOfMemory
+from bpfcanon import BtfCause, Fault, InsnCause, LineCause, Order, OrderError, OutOfMemory, _library
+from bpfcanon.errors import error_of
 
 from .samples import INSNS, TESTDATA, TOP, load, unhex
 
@@ -81,6 +83,12 @@ class Faults(unittest.TestCase):
         for error, base in [(Fault, ValueError), (OrderError, ValueError), (OutOfMemory, MemoryError)]:
             self.assertTrue(issubclass(error, base) and issubclass(error, bpfcanon.BpfcanonError), error)
 
+    def test_statuses_become_exceptions(self) -> None:
+        for status, error in [(_library.DONE, None), (_library.DIFFERENT, None), (_library.MEMORY, OutOfMemory)]:
+            raised = error_of(_library.Answer(status), InsnCause)
+            self.assertEqual(type(raised), error or type(None))
+        self.assertIsNotNone(error_of(_library.Answer(99), InsnCause))
+
     def test_causes_have_the_names_and_sentences_of_the_formats(self) -> None:
         page = (TOP / "docs" / "FORMATS.md").read_text()
         for section, causes in [
@@ -113,6 +121,12 @@ class Library(unittest.TestCase):
         self.assertNotEqual(done.returncode, 0)
         self.assertIn("none.so", done.stderr)
         self.assertIn("BPFCANON_LIBRARY", done.stderr)
+
+    def test_a_library_of_another_version_is_refused(self) -> None:
+        _library.library.cache_clear()
+        with mock.patch.object(_library, "VERSION", "9."), self.assertRaisesRegex(OSError, "version 0.1.0"):
+            bpfcanon.library_version()
+        self.assertEqual(bpfcanon.library_version(), "0.1.0")
 
     def test_each_exported_name_is_there(self) -> None:
         for name in bpfcanon.__all__:

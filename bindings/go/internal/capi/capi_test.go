@@ -91,6 +91,23 @@ func TestANumberThatIsNoOrderIsRefused(t *testing.T) {
 	wantUntouched(t, "no order", out)
 }
 
+func TestTheLibraryHasTheVersionOfItsHeader(t *testing.T) {
+	if Version() != HeaderVersion {
+		t.Errorf("version %q, and the header has %q", Version(), HeaderVersion)
+	}
+}
+
+func TestStatusesHaveNamesAndSentences(t *testing.T) {
+	for status := Done; status <= BadOrder; status++ {
+		if name, text := StatusName(status), StatusText(status); name == "" || !strings.Contains(text, " ") {
+			t.Errorf("status %d is %q, %q", status, name, text)
+		}
+	}
+	if StatusName(BadOrder+1) != "" || StatusText(BadOrder+1) != "" {
+		t.Errorf("a number that is no status is %q, %q", StatusName(BadOrder+1), StatusText(BadOrder+1))
+	}
+}
+
 func TestThreadsCallAtTheSameTime(t *testing.T) {
 	compiled := room(1 << 10)
 	compiled = compiled[:BTFCanon(Little, load(t, "flow_table.big.btf"), compiled).Written]
