@@ -1,3 +1,3 @@
 module bpfcanon
 
-go 1.16
+go 1.19

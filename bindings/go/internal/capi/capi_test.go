@@ -1,4 +1,4 @@
-package bpfcanon
+package capi
 
 import (
 	"bytes"
@@ -23,14 +23,14 @@ func unhex(t *testing.T, text string) []byte {
 
 func load(t *testing.T, name string) []byte {
 	t.Helper()
-	b, err := os.ReadFile(filepath.Join("..", "..", "..", "testdata", name))
+	b, err := os.ReadFile(filepath.Join("..", "..", "..", "..", "testdata", name))
 	if err != nil {
 		t.Fatal(err)
 	}
 	return b
 }
 
-// Room of so many bytes that no call has written yet.
+// Room of a size that no call has written to.
 func room(size int) []byte {
 	return bytes.Repeat([]byte{0xaa}, size)
 }
@@ -42,10 +42,10 @@ func wantAnswer(t *testing.T, what string, got, want Answer) {
 	}
 }
 
-// Checks that a call wrote these bytes to the front of its room, and nothing behind them.
+// Checks that a call wrote these bytes to the front of its room, and nothing after them.
 func wantWritten(t *testing.T, what string, got Answer, out, want []byte) {
 	t.Helper()
-	wantAnswer(t, what, got, Answer{Status: Done, Len: len(want)})
+	wantAnswer(t, what, got, Answer{Status: Done, Written: len(want)})
 	if whole := append(append([]byte{}, want...), room(len(out)-len(want))...); !bytes.Equal(out, whole) {
 		t.Errorf("%s: wrote\n%x, want\n%x", what, out, whole)
 	}
@@ -58,7 +58,8 @@ func wantUntouched(t *testing.T, what string, out []byte) {
 	}
 }
 
-// Checks that a call writes these bytes in each room that is long enough, and in a shorter one says how long they are.
+// Checks that a call writes these bytes to each room that is long enough, and otherwise gives their
+// length. A room of 0 bytes is a null pointer in C.
 func wantInEachRoom(t *testing.T, what string, call func(out []byte) Answer, want []byte) {
 	t.Helper()
 	for size := 0; size < len(want)+3; size++ {
@@ -68,7 +69,7 @@ func wantInEachRoom(t *testing.T, what string, call func(out []byte) Answer, wan
 			wantWritten(t, what, got, out, want)
 			continue
 		}
-		wantAnswer(t, what, got, Answer{Status: Room, Len: len(want)})
+		wantAnswer(t, what, got, Answer{Status: Room, Needed: len(want)})
 		wantUntouched(t, what, out)
 	}
 }
@@ -82,15 +83,34 @@ func TestANumberThatIsNoOrderIsRefused(t *testing.T) {
 	wantAnswer(t, "InsnSame", InsnSame(Little, file, 2, file), want)
 	wantAnswer(t, "InsnShow", InsnShow(2, file, out), want)
 	wantAnswer(t, "InsnRead", InsnRead(2, []byte("exit"), out), want)
-	if got := InsnFront(2, Little, file, out); got.Status != BadOrder {
-		t.Errorf("InsnFront: %+v", got)
+	for _, got := range []Front{InsnFront(2, Little, file, out), InsnFront(Little, 2, file, out)} {
+		if got != (Front{Status: BadOrder}) {
+			t.Errorf("InsnFront: %+v", got)
+		}
 	}
 	wantUntouched(t, "no order", out)
 }
 
+func TestTheLibraryHasTheVersionOfItsHeader(t *testing.T) {
+	if Version() != HeaderVersion {
+		t.Errorf("version %q, and the header has %q", Version(), HeaderVersion)
+	}
+}
+
+func TestStatusesHaveNamesAndSentences(t *testing.T) {
+	for status := Done; status <= BadOrder; status++ {
+		if name, text := StatusName(status), StatusText(status); name == "" || !strings.Contains(text, " ") {
+			t.Errorf("status %d is %q, %q", status, name, text)
+		}
+	}
+	if StatusName(BadOrder+1) != "" || StatusText(BadOrder+1) != "" {
+		t.Errorf("a number that is no status is %q, %q", StatusName(BadOrder+1), StatusText(BadOrder+1))
+	}
+}
+
 func TestThreadsCallAtTheSameTime(t *testing.T) {
 	compiled := room(1 << 10)
-	compiled = compiled[:BTFCanon(Little, load(t, "flow_table.big.btf"), compiled).Len]
+	compiled = compiled[:BTFCanon(Little, load(t, "flow_table.big.btf"), compiled).Written]
 	inputs := []struct{ file, want, program, wantProgram []byte }{
 		{load(t, "flow_table.big.btf"), compiled, load(t, "packet_filter.big.bin"), load(t, "packet_filter.little.bin")},
 		{
@@ -107,7 +127,7 @@ func TestThreadsCallAtTheSameTime(t *testing.T) {
 			for k := 0; k < 1000; k++ {
 				out, program := room(len(input.file)), room(len(input.program))
 				got, gotProgram := BTFCanon(Little, input.file, out), InsnCanon(Big, Little, input.program, program)
-				if got.Status != Done || !bytes.Equal(out[:got.Len], input.want) {
+				if got.Status != Done || !bytes.Equal(out[:got.Written], input.want) {
 					t.Errorf("a thread got %+v of types", got)
 					return
 				}
@@ -121,7 +141,7 @@ func TestThreadsCallAtTheSameTime(t *testing.T) {
 					t.Errorf("a thread got %+v of a listing", shown)
 					return
 				}
-				read := InsnRead(Little, listing[:shown.Len], again)
+				read := InsnRead(Little, listing[:shown.Written], again)
 				if read.Status != Done || !bytes.Equal(again, input.wantProgram) {
 					t.Errorf("a thread got %+v of a listing that it read", read)
 					return

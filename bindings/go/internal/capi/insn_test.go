@@ -1,4 +1,4 @@
-package bpfcanon
+package capi
 
 import (
 	"bytes"
@@ -64,12 +64,12 @@ func TestFirstFaultOfInstructionsHasPlaceAndCause(t *testing.T) {
 		want.Status = FaultSecond
 		wantAnswer(t, fault.name+" of the second", InsnSame(Little, nil, Little, file), want)
 		wantUntouched(t, fault.name, out)
-		if got := InsnCause(fault.cause); got != fault.name {
+		if got := InsnCauseName(fault.cause); got != fault.name {
 			t.Errorf("cause %d is %q, want %q", fault.cause, got, fault.name)
 		}
 	}
-	if InsnCause(0) != "" || InsnCause(9) != "" {
-		t.Errorf("numbers that are no cause have the names %q and %q", InsnCause(0), InsnCause(9))
+	if InsnCauseName(0) != "" || InsnCauseName(9) != "" {
+		t.Errorf("numbers that are no cause have the names %q and %q", InsnCauseName(0), InsnCauseName(9))
 	}
 }
 
@@ -83,7 +83,7 @@ func TestInstructionsAreCompared(t *testing.T) {
 func TestGroupsAreAMask(t *testing.T) {
 	for _, program := range []struct {
 		line, file string
-		want       int
+		want       uint32
 	}{
 		{"nothing", "", 0},
 		{"exit", "95 00 0000 00000000", Base32},
@@ -94,9 +94,9 @@ func TestGroupsAreAMask(t *testing.T) {
 		{"cmpxchg [r1-8], r2; exit", "db 21 f8ff f1000000 95 00 0000 00000000", Base32 | Atomic32 | Atomic64},
 		{"ldindh r3, 4", "48 30 0000 04000000", Packet},
 	} {
-		wantAnswer(t, program.line, InsnGroups(Little, unhex(t, program.file)), Answer{Status: Done, Len: program.want})
+		wantAnswer(t, program.line, InsnGroups(Little, unhex(t, program.file)), Answer{Status: Done, Groups: program.want})
 	}
-	wantAnswer(t, insns[2].line, InsnGroups(Big, unhex(t, insns[2].big)), Answer{Status: Done, Len: Base32})
+	wantAnswer(t, insns[2].line, InsnGroups(Big, unhex(t, insns[2].big)), Answer{Status: Done, Groups: Base32})
 }
 
 func TestListingsAreWrittenAndRead(t *testing.T) {
@@ -109,16 +109,17 @@ func TestListingsAreWrittenAndRead(t *testing.T) {
 		if text == "" {
 			continue
 		}
-		out, want := room(16), Answer{Status: Fault, Cause: uint32(cause), Pos: 2}
+		out, want := room(16), Answer{Status: Fault, Cause: uint32(cause), Line: 2}
 		wantAnswer(t, text, InsnRead(Little, []byte("exit\n"+text), out), want)
 		wantUntouched(t, text, out)
 	}
-	if LineCause(1) != "Char" || LineCause(4) != "Range" || LineCause(0) != "" || LineCause(5) != "" {
-		t.Errorf("causes of listings: %q, %q, %q, %q", LineCause(1), LineCause(4), LineCause(0), LineCause(5))
+	if LineCauseName(1) != "Char" || LineCauseName(4) != "Range" || LineCauseName(0) != "" || LineCauseName(5) != "" {
+		t.Errorf("causes of listings: %q, %q, %q, %q", LineCauseName(1), LineCauseName(4), LineCauseName(0), LineCauseName(5))
 	}
 }
 
-// Gives a stream in pieces of one length, what was left in front of the next piece, and returns what came out and what is left.
+// Gives a stream in pieces of one length, each after what was left of the one before, and returns
+// what was written and what is left.
 func inPieces(t *testing.T, piece int, big []byte) (written, left []byte) {
 	t.Helper()
 	for len(big) > 0 {
@@ -150,7 +151,7 @@ func TestStreamsMayBeCutAnywhere(t *testing.T) {
 	}
 	_, left := inPieces(t, 5, unhex(t, insns[5].big+insns[1].big)[:20])
 	if len(left) != 12 {
-		t.Errorf("of a wide load 12 bytes came, and %d are left", len(left))
+		t.Errorf("12 bytes of a wide load were given, and %d are left", len(left))
 	}
 	wantAnswer(t, "what is left", InsnCanon(Big, Little, left, room(16)), Answer{Status: Fault, Cause: 1, Pos: 8})
 }
@@ -162,8 +163,8 @@ func TestInstructionsBeforeAFaultComeOut(t *testing.T) {
 		t.Errorf("front %+v, want %+v; wrote %x", got, want, out)
 	}
 	file, out = unhex(t, insns[0].little+insns[2].little), room(15)
-	if got := InsnFront(Little, Big, file, out); got.Status != Room || got.Written != 16 {
-		t.Errorf("front %+v, want status %d and 16 bytes to write", got, Room)
+	if got := InsnFront(Little, Big, file, out); got != (Front{Status: Room, Needed: 16}) {
+		t.Errorf("front %+v, want status %d and 16 needed bytes", got, Room)
 	}
 	wantUntouched(t, "a room of 15 bytes", out)
 	out = room(16)

@@ -1,4 +1,4 @@
-package bpfcanon
+package capi
 
 import (
 	"bytes"
@@ -6,7 +6,7 @@ import (
 	"testing"
 )
 
-// The file of btf.rst whose records are these words, and whose strings are these.
+// BTF with a header of 24 bytes, these words as its records and this string section.
 func btf(order binary.ByteOrder, words []uint32, names string) []byte {
 	var file bytes.Buffer
 	for _, part := range []interface{}{
@@ -22,10 +22,10 @@ func btf(order binary.ByteOrder, words []uint32, names string) []byte {
 }
 
 var (
-	// int and a typedef of it, whose names stand in the order of their use
+	// int and a typedef of it, with their names in the order of their use
 	loose      = []uint32{1, 0x01000000, 4, 0x01000020, 5, 0x08000000, 1}
 	looseNames = "\x00int\x00foo_int\x00"
-	// the same with int in the tail of foo_int
+	// the same with int as the suffix of foo_int
 	canonical      = []uint32{5, 0x01000000, 4, 0x01000020, 1, 0x08000000, 1}
 	canonicalNames = "\x00foo_int\x00"
 )
@@ -40,9 +40,9 @@ func TestTypesHaveOneFormInEachOrder(t *testing.T) {
 			out := room(len(want))
 			wantWritten(t, "canonical types", BTFCanon(to, btf(from, canonical, canonicalNames), out), out, want)
 			wantAnswer(t, "both", BTFSame(file, want), Answer{Status: Done})
-			wantAnswer(t, "count", BTFCheck(file), Answer{Status: Done, Len: 2})
+			wantAnswer(t, "count", BTFCheck(file), Answer{Status: Done, Types: 2})
 			got, block, is := BTFCanonNew(to, file)
-			if (got != Answer{Status: Done, Len: len(want)}) || !is || !bytes.Equal(block, want) {
+			if (got != Answer{Status: Done, Written: len(want)}) || !is || !bytes.Equal(block, want) {
 				t.Errorf("a block: answer %+v, %x, want %x", got, block, want)
 			}
 		}
@@ -56,8 +56,8 @@ func TestCompiledTypesHaveOneForm(t *testing.T) {
 		for _, to := range []Order{Little, Big} {
 			out := room(len(file))
 			got := BTFCanon(to, file, out)
-			wantAnswer(t, "compiled types", got, Answer{Status: Done, Len: got.Len})
-			of = append(of, out[:got.Len])
+			wantAnswer(t, "compiled types", got, Answer{Status: Done, Written: got.Written})
+			of = append(of, out[:got.Written])
 		}
 	}
 	if !bytes.Equal(of[0], of[2]) || !bytes.Equal(of[1], of[3]) || !bytes.HasPrefix(of[0], unhex(t, "9feb0100 18000000 00000000")) ||
@@ -112,11 +112,11 @@ func TestFirstFaultOfTypesHasPlaceAndCause(t *testing.T) {
 		}
 		want.Status = FaultSecond
 		wantAnswer(t, fault.name+" of the second", BTFSame(good, fault.file), want)
-		if got := BTFCause(fault.cause); got != fault.name {
+		if got := BTFCauseName(fault.cause); got != fault.name {
 			t.Errorf("cause %d is %q, want %q", fault.cause, got, fault.name)
 		}
 	}
-	if BTFCause(0) != "" || BTFCause(33) != "" {
-		t.Errorf("numbers that are no cause have the names %q and %q", BTFCause(0), BTFCause(33))
+	if BTFCauseName(0) != "" || BTFCauseName(33) != "" {
+		t.Errorf("numbers that are no cause have the names %q and %q", BTFCauseName(0), BTFCauseName(33))
 	}
 }
