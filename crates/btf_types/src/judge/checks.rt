@@ -7,6 +7,7 @@ ghost use Rattle.btf_types.specs.judge.FieldFaults as words;
 ghost use Rattle.btf_raw.specs.Kinds.{one_of};
 ghost use Rattle.btf_types.specs.judge.NameFaults.{IntFault, LinkageFault, MemberPlaceFault};
 
+use crate::values::{Encoding, Linkage};
 use btf_raw::{
     BtfCause, DATASEC, DECL_TAG, ENUM, ENUM64, FLOAT, FUNC, FUNC_PROTO, STRUCT, TYPEDEF, UNION, VAR,
 };
@@ -40,7 +41,7 @@ pub fn target_fits(kind: u8, target: u8) -> bool
 pub fn second_fault(kind: u8, vlen: u16) -> Option<BtfCause>
     ensures { spec.IsLeastOf (spec.SecondFault kind vlen) result }
 {
-    if kind == FUNC && vlen > 2 {
+    if kind == FUNC && Linkage::from_number(u32::from(vlen)).is_none() {
         Some(BtfCause::Linkage)
     } else {
         None
@@ -93,7 +94,7 @@ fn int_unused(word: u32) -> u32
 fn is_encoding(encoding: u32) -> bool
     ensures { result ≡ one_of (0 ∷ 1 ∷ 2 ∷ 4 ∷ []) encoding }
 {
-    matches!(encoding, 0 | 1 | 2 | 4)
+    Encoding::from_number(encoding).is_some()
 }
 
 /// The bit offset in a member's offset word, in a record with this kind_flag.
@@ -125,7 +126,7 @@ pub fn member_place_fault(size: u32, bit_offset: u32, width: u8) -> Option<BtfCa
 pub fn linkage_fault(word: u32) -> Option<BtfCause>
     ensures { spec.IsLeastOf (LinkageFault word) result }
 {
-    if word > 2 {
+    if Linkage::from_number(word).is_none() {
         Some(BtfCause::Linkage)
     } else {
         None
