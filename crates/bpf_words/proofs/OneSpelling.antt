@@ -1,4 +1,4 @@
--- A word and a slot are told by their bytes.
+-- The bytes of a word or a slot determine it.
 use Rattle.std.proofs.Common.{◌≡◌, ℕ, ◌<◌, ◌^◌, ℤ, refl, ap, sym, ◌∙◌, slice_index, slice_range, arith, FitsSigned}
 use Rattle.std.specs.Int.{w16, w32, cast_unsigned, cast_signed, from_le_bytes, from_be_bytes}
 use Rattle.std.proofs.lemmas.Nat.{from_le_bytes-to_le_bytes_2, from_be_bytes-to_be_bytes_2, from_le_bytes-to_le_bytes_4, from_be_bytes-to_be_bytes_4}
@@ -28,10 +28,10 @@ pattern_fits_16 z p = omega (arith, ints)
 pub pattern_fits_32 : (z : ℤ) → FitsSigned w32 z → cast_unsigned w32 z < 2 ^ 32
 pattern_fits_32 z p = omega (arith, ints)
 
-pub registers_told : (order : Order) (d s d' s' : ℕ) → d < 16 → s < 16 → d' < 16 → s' < 16
+pub registers_apart : (order : Order) (d s d' s' : ℕ) → d < 16 → s < 16 → d' < 16 → s' < 16
     → register_byte order d s ≡ register_byte order d' s' → (d ≡ d') × (s ≡ s')
-registers_told Little d s d' s' a b a' b' e = (omega arith, omega arith)
-registers_told Big d s d' s' a b a' b' e = (omega arith, omega arith)
+registers_apart Little d s d' s' a b a' b' e = (omega arith, omega arith)
+registers_apart Big d s d' s' a b a' b' e = (omega arith, omega arith)
 
 -- the two words of a slot
 off_bytes : (order : Order) (f : Fields) → slice_range (spelled order f) 2 4 ≡ word16 order (cast_unsigned w16 f.off)
@@ -52,7 +52,7 @@ pub spelled-injective : (order : Order) (f g : Fields) → AreFields f → AreFi
 spelled-injective order f g p q e =
     let opcode : f.opcode ≡ g.opcode = ap (λ xs. slice_index xs 0) e in
     let byte : register_byte order f.dst f.src ≡ register_byte order g.dst g.src = ap (λ xs. slice_index xs 1) e in
-    let regs = registers_told order f.dst f.src g.dst g.src p.dst p.src q.dst q.src byte in
+    let regs = registers_apart order f.dst f.src g.dst g.src p.dst p.src q.dst q.src byte in
     let off = signed_16 f.off g.off p.off q.off (word-injective_16 order _ _ (pattern_fits_16 f.off p.off) (pattern_fits_16 g.off q.off) (sym (off_bytes order f) ∙ ap (λ xs. slice_range xs 2 4) e ∙ off_bytes order g)) in
     let imm = signed_32 f.imm g.imm p.imm q.imm (word-injective_32 order _ _ (pattern_fits_32 f.imm p.imm) (pattern_fits_32 g.imm q.imm) (sym (imm_bytes order f) ∙ ap (λ xs. slice_range xs 4 8) e ∙ imm_bytes order g)) in
     same_fields f g opcode regs.0 regs.1 off imm

@@ -25,7 +25,7 @@ pub length-word16 : (o : Order) (w : ℕ) → length (word16 o w) ≡ 2
 length-word16 Little w = refl
 length-word16 Big w = refl
 
--- the word that reads at i, in bytes that stand behind others
+-- the word that reads at i, in bytes that come after others
 pub word32_at-drop : (o : Order) (b : List ℕ) (n i : ℕ) → word32_at o (drop n b) i ≡ word32_at o b (n + i)
 word32_at-drop Little b n i = simp (get_or-drop, add_assoc)
 word32_at-drop Big b n i = simp (get_or-drop, add_assoc)

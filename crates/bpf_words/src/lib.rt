@@ -1,5 +1,5 @@
-//! Words of 16 and 32 bits in both byte orders, and the slots of 8 bytes of which eBPF
-//! instructions are made (RFC 9669 section 3; btf.rst section 2).
+//! Words of 16 and 32 bits in both byte orders, and the slots of 8 bytes that eBPF instructions
+//! consist of (RFC 9669 section 3; btf.rst section 2).
 #![tactic(auto)]
 
 pub mod laws;
@@ -13,10 +13,10 @@ pub use slot::Slot;
 pub use spelling::{slot_bytes, slot_of};
 pub use words::{get16, get32, push16, push32};
 
-/// The byte order of a file: where in a word its least significant byte stands.
+/// The byte order of a file: whether the least significant byte of a word is its first or its last.
 ///
-/// An instruction file doesn't tell its order, so it is handed in (RFC 9669 section 3). A BTF
-/// file tells it by its magic (btf.rst section 2).
+/// An instruction file doesn't say its order, so the caller gives it (RFC 9669 section 3). A BTF
+/// file has it in its magic (btf.rst section 2).
 #[derive(Clone, Copy, Debug, PartialEq, Eq)]
 pub enum Order {
     /// The least significant byte comes first.

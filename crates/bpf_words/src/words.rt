@@ -7,7 +7,7 @@ use crate::Order;
 use byteorder::{BigEndian, ByteOrder, LittleEndian};
 use std::alloc::{AllocError, Allocator};
 
-/// The word of 16 bits whose first byte stands at `pos` of `bytes`.
+/// The word of 16 bits whose first byte is at `pos` of `bytes`.
 ///
 /// The word has to lie in the slice.
 pub fn get16(order: Order, bytes: &[u8], pos: usize) -> u16
@@ -22,7 +22,7 @@ pub fn get16(order: Order, bytes: &[u8], pos: usize) -> u16
     }
 }
 
-/// The word of 32 bits whose first byte stands at `pos` of `bytes`.
+/// The word of 32 bits whose first byte is at `pos` of `bytes`.
 ///
 /// The word has to lie in the slice.
 pub fn get32(order: Order, bytes: &[u8], pos: usize) -> u32

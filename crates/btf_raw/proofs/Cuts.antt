@@ -1,4 +1,4 @@
--- A file is cut in at most one way: its bytes tell the order, the lengths and the places of the sections.
+-- A file is cut in at most one way: its bytes determine the order, the lengths and the places of the sections.
 use Rattle.std.proofs.Common.{◌≡◌, ℕ, zero, suc, ◌+◌, ◌-◌, ◌*◌, ◌^◌, ◌<◌, ◌≤◌, List, [], ◌∷◌, ◌++◌, length, take, replicate, refl, sym, ap, subst, ◌∙◌, inl, inr, append_assoc, append-nil, length-append, lit<, arith}
 use Rattle.std.specs.Prelude.{slice_index}
 use Rattle.std.proofs.lemmas.List.{drop_at, take_at, length-replicate}
@@ -10,7 +10,7 @@ use Rattle.btf_raw.specs.Frames.{bytes_of}
 use Rattle.btf_raw.proofs.Frames.{IsWords, word32_at-bytes_of, length-bytes_of}
 use Rattle.btf_raw.specs.Header.{Cut, header, part, types_at, strings_at, TYPES_LIMIT, STRINGS_LIMIT}
 
--- the header's words behind its first four bytes, and what follows
+-- the header's words after its first four bytes, and what follows
 abbrev pub header_words : ℕ → ℕ → ℕ → ℕ → ℕ → List ℕ
 header_words n a t c s = n ∷ a ∷ t ∷ c ∷ s ∷ []
 
@@ -51,8 +51,8 @@ pub record CutReads (b : List ℕ) (o : Order) (types strings : List ℕ) : Type
   pub types_are : types ≡ part b (types_at o b) (length types)
   pub strings_are : strings ≡ part b (strings_at o b) (length strings)
 
-part_behind : (b front x rest : List ℕ) (k : ℕ) → b ≡ front ++ (x ++ rest) → length front ≡ k → x ≡ part b k (length x)
-part_behind b front x rest k is len =
+part_after : (b front x rest : List ℕ) (k : ℕ) → b ≡ front ++ (x ++ rest) → length front ≡ k → x ≡ part b k (length x)
+part_after b front x rest k is len =
     rw is (sym (ap (λ (t : List ℕ). take (length x) t) (drop_at front (x ++ rest) k len) ∙ take_at x rest (length x) refl))
 
 cut_reads_first : (b : List ℕ) (o : Order) (n : ℕ) (types strings : List ℕ) → 24 ≤ n → n ≤ 4096 → length types ≤ TYPES_LIMIT → length strings ≤ STRINGS_LIMIT
@@ -70,8 +70,8 @@ cut_reads_first b o n types strings low high t-fits s-fits is =
     record {
       types_len = reads 2 (lit< tt);
       str_len = reads 4 (lit< tt);
-      types_are = part_behind b h types strings (types_at o b) whole (omega arith);
-      strings_are = part_behind b (h ++ types) strings [] (strings_at o b) (is ∙ rw append-nil refl) (omega (arith, length-append h types));
+      types_are = part_after b h types strings (types_at o b) whole (omega arith);
+      strings_are = part_after b (h ++ types) strings [] (strings_at o b) (is ∙ rw append-nil refl) (omega (arith, length-append h types));
     }
 
 cut_reads_second : (b : List ℕ) (o : Order) (n : ℕ) (types strings : List ℕ) → 24 ≤ n → n ≤ 4096 → length types ≤ TYPES_LIMIT → length strings ≤ STRINGS_LIMIT
@@ -89,8 +89,8 @@ cut_reads_second b o n types strings low high t-fits s-fits is =
     record {
       types_len = reads 2 (lit< tt);
       str_len = reads 4 (lit< tt);
-      types_are = part_behind b (h ++ strings) types [] (types_at o b) (is ∙ rw append-nil refl) (omega (arith, length-append h strings));
-      strings_are = part_behind b h strings types (strings_at o b) whole (omega arith);
+      types_are = part_after b (h ++ strings) types [] (types_at o b) (is ∙ rw append-nil refl) (omega (arith, length-append h strings));
+      strings_are = part_after b h strings types (strings_at o b) whole (omega arith);
     }
 
 pub cut_reads : (b : List ℕ) (o : Order) (types strings : List ℕ) → Cut b o types strings → CutReads b o types strings
@@ -99,7 +99,7 @@ cut_reads b o types strings cut = elim cut.parts [
   | inr is ↦ cut_reads_second b o cut.header_len types strings cut.at_least cut.at_most cut.types_fit cut.strings_fit is
 ]
 
--- the first byte tells the order
+-- the first byte determines the order
 abbrev first_byte : Order → ℕ
 first_byte Little = 0x9f
 first_byte Big = 0xeb

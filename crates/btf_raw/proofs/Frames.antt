@@ -1,4 +1,4 @@
--- Frames are told apart by their bytes: at most one list of frames is a front of a section up to what is no frame.
+-- Frames differ in their bytes: at most one list of frames is a prefix of a section up to what is no frame.
 use Rattle.std.proofs.Common.{◌≡◌, ◌≢◌, ℕ, zero, suc, ◌+◌, ◌*◌, ◌^◌, ◌<◌, ◌≤◌, List, [], ◌∷◌, ◌++◌, length, drop, refl, sym, ap, subst, ◌∙◌, append_assoc, length-append, arith}
 use Rattle.std.specs.Prelude.{slice_index}
 use Rattle.std.specs.List.{All}
@@ -81,7 +81,7 @@ pub record SameFrames (fs gs : List (List ℕ)) (x y : List ℕ) : Type 0 where
   pub frames : fs ≡ gs
   pub rest : x ≡ y
 
--- the bytes are no frame with more behind it
+-- the bytes are no frame with more after it
 abbrev pub IsNoFrame : Order → List ℕ → Type 0
 IsNoFrame o x = (f rest : List ℕ) → IsFrame f → x ≢ bytes_of o f ++ rest
 

@@ -165,13 +165,13 @@ header_zeros : (b : List ℕ) (o : Order) (n a t c s : ℕ) (rest : List ℕ) �
 header_zeros b o n a t c s rest is q low high =
     let words = bytes_of o (header_words n a t c s) in
     let front = first_four o ++ words in
-    let behind = replicate (n - 24) 0 ++ rest in
-    let whole : b ≡ front ++ behind = is ∙ header_regrouped o n a t c s rest ∙ sym (append_assoc (first_four o) words behind) in
+    let after = replicate (n - 24) 0 ++ rest in
+    let whole : b ≡ front ++ after = is ∙ header_regrouped o n a t c s rest ∙ sym (append_assoc (first_four o) words after) in
     let len : length front ≡ 24 = omega (arith, length-append (first_four o) words, length-first_four o, length-bytes_of o (header_words n a t c s)) in
     let at : q ≡ 24 + (q - 24) = omega arith in
     let inside : q - 24 < length (replicate {A = ℕ} (n - 24) 0) = omega (arith, length-replicate {A = ℕ} (n - 24) 0) in
     ap (λ (k : ℕ). slice_index b k) at ∙ sym (get_or-drop 24 b (q - 24) 0)
-    ∙ ap (λ (x : List ℕ). get_or (drop 24 x) (q - 24) 0) whole ∙ ap (λ (x : List ℕ). get_or x (q - 24) 0) (drop_at front behind 24 len)
+    ∙ ap (λ (x : List ℕ). get_or (drop 24 x) (q - 24) 0) whole ∙ ap (λ (x : List ℕ). get_or x (q - 24) 0) (drop_at front after 24 len)
     ∙ get_or-append (replicate (n - 24) 0) rest 0 (q - 24) inside ∙ zeros_at (n - 24) (q - 24) (omega arith)
 
 header_length : (b : List ℕ) (o : Order) (n a t c s : ℕ) (rest : List ℕ) → 24 ≤ n → n ≤ 4096 → n < 2 ^ 32 → a < 2 ^ 32 → t < 2 ^ 32 → c < 2 ^ 32 → s < 2 ^ 32 → b ≡ header o n a t c s ++ rest
@@ -188,7 +188,7 @@ header_length b o n a t c s rest low high hn ha ht hc hs is =
       zeros = header_zeros b o n a t c s rest is;
     }
 
--- the numbers that a header tells, where the sections behind it fill the file in one of the two orders
+-- the numbers of a header, where the sections after it fill the file in one of the two orders
 cut_at : (b : List ℕ) (o : Order) (n a t c s : ℕ) (rest : List ℕ) → 24 ≤ n → n ≤ 4096 → t ≤ TYPES_LIMIT → 0 < s → s ≤ STRINGS_LIMIT
     → ((a ≡ 0) × (c ≡ t)) ⊎ ((c ≡ 0) × (a ≡ s)) → length rest ≡ t + s → b ≡ header o n a t c s ++ rest → (h : Header) × SectionsAreRight b h
 cut_at b o n a t c s rest low high t-fits some s-fits places fill is =
@@ -216,7 +216,7 @@ cut_at b o n a t c s rest low high t-fits some s-fits places fill is =
       },
     )
 
--- the numbers that a cut tells
+-- the numbers of a cut
 cut_right : (b : List ℕ) (o : Order) (types strings : List ℕ) → Cut b o types strings → (h : Header) × SectionsAreRight b h
 cut_right b o types strings cut =
     let n = cut.header_len in

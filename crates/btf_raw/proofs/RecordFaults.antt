@@ -46,7 +46,7 @@ of_info o types pos RecordCut there fault = absurd fault
 of_info o types pos TailCut there fault = absurd fault
 of_info o types pos cause there fault = (info_at o types pos, has_info o types pos there, fault, refl)
 
--- no cause speaks against what is allowed
+-- no cause holds for what is allowed
 pub allowed_has_none : (info : ℕ) (cause : BtfCause) → IsAllowed info → ¬ InfoFault info cause
 allowed_has_none info InfoBits allowed fault = fault allowed.unused
 allowed_has_none info KindNumber allowed fault = let kind = allowed.kind in absurd cc

@@ -1,4 +1,4 @@
--- Records as they stand in the type section, each a list of words of 32 bits: name_off, info, size or type, and what follows.
+-- Records as they are stored in the type section, each a list of words of 32 bits: name_off, info, size or type, and what follows.
 use Rattle.std.specs.Prelude.{◌≡◌, ◌≢◌, ◌⊎◌, ℕ, ◌+◌, ◌*◌, ◌<◌, ◌≤◌, ◌^◌, IsTrue, IsFalse, List, ◌++◌, length, slice_index}
 use Rattle.std.specs.List.{All, flat_map}
 use Rattle.bpf_words.specs.declared.Order.{Order}
@@ -63,7 +63,7 @@ InfoFault info FlagSet = IsTrue (is_kind (kind_of info)) × (flag_of info ≢ 0)
 InfoFault info Vlen = IsTrue (is_kind (kind_of info)) × (vlen_of info ≢ 0) × IsFalse (has_vlen (kind_of info))
 InfoFault info _ = ⊥
 
--- What a cause from RecordCut to TailCut says of the bytes from a record's place on, and where it stands from there.
+-- What a cause from RecordCut to TailCut says of the bytes from a record's place on, and at which place from there.
 abbrev pub RecordFault : Order → List ℕ → ℕ → BtfCause → Type 0
 RecordFault o rest p RecordCut = (0 < length rest) × (length rest < 12) × (p ≡ 0)
 RecordFault o rest p TailCut =
@@ -71,7 +71,7 @@ RecordFault o rest p TailCut =
     × (length rest < 12 + 4 * tail_words (kind_of info) (vlen_of info)) × (p ≡ 12)
 RecordFault o rest p cause = (info : ℕ) × HasInfo o rest info × InfoFault info cause × (p ≡ 4)
 
--- The first record that isn't a frame has this fault, at this place of the section: frames stand before it, and it is the first of the rest.
+-- The first record that isn't a frame has this fault, at this place of the section: the records before it are frames.
 pub record FramingFault (o : Order) (types : List ℕ) (place : ℕ) (cause : BtfCause) : Type 0 where
   pub frames : List (List ℕ)
   pub rest : List ℕ

@@ -1,4 +1,4 @@
--- What the frame of a record at a place of the section tells.
+-- The record header at a place of the type section.
 use Rattle.std.specs.Prelude.{◌≡◌, ℕ, ◌+◌, ◌*◌, ◌≤◌, Bool, true, false, List, length, drop}
 use Rattle.bpf_words.specs.declared.Order.{Order}
 use Rattle.bpf_words.specs.Words.{word32_at}
@@ -17,7 +17,7 @@ pub record LeastOfInfo (info : ℕ) (cause : BtfCause) : Type 0 where
   pub holds : InfoFault info cause
   pub least : (other : BtfCause) → InfoFault info other → number_of cause ≤ number_of other
 
--- A whole frame whose info is allowed stands at pos, and these are its words, and where what follows the first three begins and ends.
+-- At pos is a whole frame whose info is allowed. These are its words, and where the data after the first three begins and ends.
 pub record HeadAt (o : Order) (types : List ℕ) (pos : ℕ) (head : RawHead) : Type 0 where
   pub name_off : head.name_off ≡ word32_at o types pos
   pub allowed : IsAllowed (word32_at o types (pos + 4))

@@ -17,18 +17,18 @@ ghost use Rattle.btf_raw.specs.Cause.{LeastByCause, HasNone};
 use crate::cause::{BtfCause, BtfFault};
 use bpf_words::{Order, get16, get32};
 
-/// The byte order of a file, and where its two sections stand, in bytes from the file's first.
+/// The byte order of a file, and where its two sections are, in bytes from the first byte of the file.
 #[derive(Clone, Copy, Debug, PartialEq, Eq)]
 pub struct Header {
-    /// The order that the magic tells.
+    /// The order in which the first two bytes are the magic.
     pub order: Order,
     /// Where the types begin.
     pub types_pos: usize,
-    /// How many bytes they take, at most 33,554,432.
+    /// Their length in bytes, at most 33,554,432.
     pub types_len: usize,
     /// Where the strings begin.
     pub str_pos: usize,
-    /// How many bytes they take, 1 to 16,777,216.
+    /// Their length in bytes, 1 to 16,777,216.
     pub str_len: usize,
 }
 
@@ -75,7 +75,7 @@ pub fn check_strings(strings: &[u8]) -> Result<(), BtfFault>
     Ok(())
 }
 
-/// The order that the magic tells.
+/// The order in which the first two bytes are the magic.
 fn order_of(bytes: &[u8]) -> Option<Order>
     requires { 2 ≤ length bytes.now }
     ensures { MatchOption result

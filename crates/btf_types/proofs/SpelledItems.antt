@@ -39,7 +39,7 @@ piece_word strings flag h (x ∷ xs) (ws ∷ wss) (suc i) m of z low word =
     rw at (sym (get_or-drop (length ws) (ws ++ concat wss) (item_words (kind_number h) * i + m) 0)
     ∙ ap (λ (t : List ℕ). get_or t (item_words (kind_number h) * i + m) 0) (drop_at ws (concat wss) (length ws) refl) ∙ rest)
 
--- a head whose record has items has no words of its own behind the third, and vlen counts its items
+-- a head whose record has items has no words of its own after the third, and vlen counts its items
 no_tail : (h : TypeHead) → 0 < item_words (kind_number h) → head_tail h ≡ []
 unfolding item_words
 no_tail (KInt name size encoding offset bits) some = absurd (omega arith)
@@ -54,15 +54,15 @@ counted (KFunc name linkage target) xs some = absurd (omega arith)
 counted h xs some = refl
 
 -- item i: its words, and what a good record says of it
-pub record ItemStands (strings : List ℕ) (r : TypeRecord) (f : List ℕ) (i : ℕ) (ws : List ℕ) : Type 0 where
+pub record ItemFits (strings : List ℕ) (r : TypeRecord) (f : List ℕ) (i : ℕ) (ws : List ℕ) : Type 0 where
   pub inside : i < length r.items
   pub of : ItemOf r.head (get_or r.items i nothing)
   pub spells : ItemSpells strings (flag f) (get_or r.items i nothing) ws
   pub words : (m : ℕ) → m < item_words (kind f) → slice_index f (3 + item_words (kind f) * i + m) ≡ get_or ws m 0
 
-pub item_stands : (strings : List ℕ) (types : List TypeFacts) (r : TypeRecord) (f : List ℕ) (good : IsGoodRecord types r) (s : Spells strings r f) (i : ℕ) → 0 < item_words (kind f) → i < vlen f
-    → ItemStands strings r f i (get_or s.item_words i [])
-item_stands strings types r f good s i some low =
+pub item_fits : (strings : List ℕ) (types : List TypeFacts) (r : TypeRecord) (f : List ℕ) (good : IsGoodRecord types r) (s : Spells strings r f) (i : ℕ) → 0 < item_words (kind f) → i < vlen f
+    → ItemFits strings r f i (get_or s.item_words i [])
+item_fits strings types r f good s i some low =
     let n = numbers strings types r f good s in
     let its : item_words (kind f) ≡ item_words (kind_number r.head) = ap item_words n.kind in
     let count : vlen f ≡ length r.items = n.vlen ∙ counted r.head r.items (omega arith) in
@@ -74,7 +74,7 @@ item_stands strings types r f good s i some low =
       words = λ m word.
           let j = item_words (kind_number r.head) * i + m in
           let at : 3 + item_words (kind f) * i + m ≡ suc (suc (suc j)) = rw its (omega arith) in
-          let behind : head_tail r.head ++ concat s.item_words ≡ concat s.item_words = rw (no_tail r.head (omega arith)) refl in
-          rw at (ap (λ (t : List ℕ). get_or t (suc (suc (suc j))) 0) s.whole ∙ ap (λ (t : List ℕ). get_or t j 0) behind
+          let rest : head_tail r.head ++ concat s.item_words ≡ concat s.item_words = rw (no_tail r.head (omega arith)) refl in
+          rw at (ap (λ (t : List ℕ). get_or t (suc (suc (suc j))) 0) s.whole ∙ ap (λ (t : List ℕ). get_or t j 0) rest
           ∙ piece_word strings s.flag r.head r.items s.item_words i m good.items_of s.items inside (omega arith));
     }

@@ -82,14 +82,14 @@ first_three (a ∷ []) h = absurd (omega arith)
 first_three (a ∷ b ∷ []) h = absurd (omega arith)
 first_three (a ∷ b ∷ c ∷ f) h = refl
 
-pub none_behind : (f : List ℕ) → length f ≡ 3 → drop 3 f ≡ []
-none_behind f e = drop_all 3 f (omega arith)
+pub none_after : (f : List ℕ) → length f ≡ 3 → drop 3 f ≡ []
+none_after f e = drop_all 3 f (omega arith)
 
-pub one_behind : (f : List ℕ) → length f ≡ 4 → drop 3 f ≡ get_or f 3 0 ∷ []
-one_behind f e =
+pub one_after : (f : List ℕ) → length f ≡ 4 → drop 3 f ≡ get_or f 3 0 ∷ []
+one_after f e =
     let one : drop 3 f ≡ get_or f 3 0 ∷ drop 4 f = drop-cons f 3 0 (omega arith) in
     let rest : drop 4 f ≡ [] = drop_all 4 f (omega arith) in
     one ∙ rw rest refl
 
-pub three_behind : (f : List ℕ) → length f ≡ 6 → drop 3 f ≡ get_or f 3 0 ∷ get_or f 4 0 ∷ get_or f 5 0 ∷ []
-three_behind f e = sym (take_all 3 (drop 3 f) (omega (arith, length-drop 3 f))) ∙ three_at f 3 (omega arith)
+pub three_after : (f : List ℕ) → length f ≡ 6 → drop 3 f ≡ get_or f 3 0 ∷ get_or f 4 0 ∷ get_or f 5 0 ∷ []
+three_after f e = sym (take_all 3 (drop 3 f) (omega (arith, length-drop 3 f))) ∙ three_at f 3 (omega arith)

@@ -34,7 +34,7 @@ encoding_of n = if n == 0 then Plain else if n == 1 then Signed else if n == 2 t
 abbrev pub component_of : ℕ → Option ℕ
 component_of n = if n == 0xffffffff then None else Some n
 
--- the head that these numbers tell: the kind, the third word, kind_flag, vlen, and the three words after the third
+-- the head with these numbers: the kind, the third word, kind_flag, vlen, and the three words after the third
 unfoldable pub head_from : List ℕ → ℕ → ℕ → ℕ → ℕ → ℕ → ℕ → ℕ → TypeHead
 head_from name k third flag vlen next fourth fifth =
     if k == INT then KInt name third (encoding_of (int_encoding next)) (int_offset next) (int_bits next)
@@ -62,7 +62,7 @@ abbrev pub head_of : List ℕ → List ℕ → TypeHead
 head_of frame name =
     head_from name (kind frame) (third_word frame) (flag frame) (vlen frame) (slice_index frame 3) (slice_index frame 4) (slice_index frame 5)
 
--- the item that these numbers tell: its name, the kind and kind_flag of its record, and its words, of which the third may not be its own
+-- the item with these numbers: its name, the kind and kind_flag of its record, and its words; the third isn't used where it has two
 unfoldable pub item_from : List ℕ → ℕ → ℕ → ℕ → ℕ → ℕ → TypeItem
 item_from name k flag first second third =
     if one_of (STRUCT ∷ UNION ∷ []) k then Member name second (offset_in flag third) (width_in flag third)

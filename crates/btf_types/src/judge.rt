@@ -5,6 +5,6 @@ pub(crate) mod fields;
 pub(crate) mod framing;
 pub(crate) mod names;
 pub(crate) mod phases;
+pub(crate) mod references;
 pub(crate) mod roles;
-pub(crate) mod types;
 pub(crate) mod utf8;

@@ -1,4 +1,4 @@
-//! Files that both parsers accept or refuse, and the tables of those that they accept.
+//! Files that both parsers accept or refuse, and the tables of the accepted ones.
 
 mod accepted;
 mod examples;

@@ -15,7 +15,8 @@ use Rattle.btf_types.specs.declared.values.Linkage.TheVariants.{LStatic, LGlobal
 use Rattle.btf_types.specs.Values.{TypeHead, KInt, KPtr, KArray, KStruct, KUnion, KEnum, KFuncProto, KVar, KDatasec, KDeclTag, KEnum64, TypeItem, Member, EnumValue, Value64, Param, Entry, TypeRecord}
 use Rattle.btf_types.specs.Names.{IsName, head_name, item_name, record_names, names}
 use Rattle.btf_types.specs.strings.StringTable.{string_table, place_of}
-use Rattle.btf_types.specs.Spelling.{kind_number, head_third, bit, FlagSpells, linkage_number, encoding_number, component_word, record_vlen, info, head_tail, MemberWord, ItemSpells, Spells}
+use Rattle.btf_raw.specs.Heads.{bit}
+use Rattle.btf_types.specs.Spelling.{kind_number, head_third, FlagSpells, linkage_number, encoding_number, component_word, record_vlen, info, head_tail, MemberWord, ItemSpells, Spells}
 use Rattle.btf_types.specs.judge.Checks.{TypeFacts}
 use Rattle.btf_types.specs.Good.{HeadInRange, ItemInRange, ItemOf, has_width, has_bit_fields, MemberIsGood, IsGoodRecord, IsGood, facts}
 use Rattle.btf_types.proofs.Spelled.{kind_below, vlen_below, flag_below}

@@ -5,7 +5,7 @@ use Rattle.std.proofs.lemmas.Bool.{cases_Bool}
 use Rattle.btf_types.specs.Names.{distinct, is_some_text, kept, table_of}
 use Rattle.btf_types.specs.strings.SharedNames.{is_proper_suffix, hosts_of, hosts}
 use Rattle.btf_types.proofs.Members.{Has, Has-from_filter, Has_from_any}
-use Rattle.btf_types.proofs.StringLemmas.Hosts.{host_tells, host_member}
+use Rattle.btf_types.proofs.StringLemmas.Hosts.{host_ends_none, host_member}
 use Rattle.btf_types.proofs.StringLemmas.Distinct.{NoRepeats-filter, NoRepeats-kept}
 use Rattle.btf_types.proofs.StringLemmas.TableLaws.{shared_is_shortest}
 use Rattle.bpf_canon.specs.btf.BtfLaws.{HostsFitSections}
@@ -23,7 +23,7 @@ ends_none : (ks : List (List ℕ)) (h : List ℕ) → Has (hosts_of ks) h → ke
 ends_none ks h i = elim (cases_Bool (list_any (is_proper_suffix h) (hosts_of ks))) [
   | inl t ↦
       let other = Has_from_any (is_proper_suffix h) (hosts_of ks) t in
-      absurd (host_tells ks h other.0 i (host_member ks other.0 other.1) other.2)
+      absurd (host_ends_none ks h other.0 i (host_member ks other.0 other.1) other.2)
   | inr f ↦ ap not f
 ]
 

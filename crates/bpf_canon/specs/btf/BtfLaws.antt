@@ -8,7 +8,7 @@ use Rattle.btf_types.specs.Values.{TypeRecord}
 use Rattle.btf_types.specs.strings.SharedNames.{hosts, shared_table}
 use Rattle.btf_types.specs.Good.{IsGood}
 use Rattle.btf_types.specs.Denotes.{Denotes}
-use Rattle.btf_types.specs.strings.TableLaws.{StandsIn}
+use Rattle.btf_types.specs.strings.TableLaws.{HasName}
 use Rattle.bpf_canon.specs.btf.CanonicalBtf.{canonical}
 
 -- The file denotes some records, and these are their canonical bytes in little-endian order. They are a file of the same records,
@@ -34,4 +34,4 @@ CanonicalBtfIsShortest = (o : Order) (b : List ℕ) (v : List TypeRecord) → De
 
 -- a section in which all hosts stand is at least as long as their table
 abbrev pub HostsFitSections : Type 0
-HostsFitSections = (xs : List (List ℕ)) (section : List ℕ) → HasNulEnds section → All (StandsIn section) (hosts xs) → length (shared_table xs) ≤ length section
+HostsFitSections = (xs : List (List ℕ)) (section : List ℕ) → HasNulEnds section → All (HasName section) (hosts xs) → length (shared_table xs) ≤ length section

@@ -8,7 +8,8 @@ use Rattle.btf_raw.specs.Frames.{section_of}
 use Rattle.btf_types.specs.Values.{TypeHead, KStruct, KUnion, KEnum, KFwd, KDeclTag, KTypeTag, KEnum64, TypeItem, Member, EnumValue, Value64, Param, Entry, TypeRecord}
 use Rattle.btf_types.specs.Names.{head_name}
 use Rattle.btf_types.specs.strings.StringTable.{string_table, place_of}
-use Rattle.btf_types.specs.Spelling.{kind_number, head_third, bit, record_vlen, head_tail, info}
+use Rattle.btf_raw.specs.Heads.{bit}
+use Rattle.btf_types.specs.Spelling.{kind_number, head_third, record_vlen, head_tail, info}
 use Rattle.btf_types.specs.Good.{has_bit_fields}
 
 -- kind_flag: of a STRUCT or UNION 0 exactly where all widths are 0; of a kind whose value it is part of as the value has it; else 0

@@ -2,7 +2,7 @@
 //!
 //! Each function does nothing. Its contract is the law, for all lists of bytes and of records.
 ghost use Rattle.std.specs.Prelude.{ℕ, List};
-ghost use Rattle.btf_types.specs.strings.TableLaws.{SectionsAreCut, NamesEndStrings, HostsEndApart, NextTellsHost};
+ghost use Rattle.btf_types.specs.strings.TableLaws.{SectionsAreCut, NamesEndStrings, HostsEndApart, NextHasHost};
 ghost use Rattle.bpf_canon.specs.btf.BtfLaws.{CanonicalBtfIsAccepted, CanonicalBtfTellsApart, CanonicalBtfIsShortest, HostsFitSections};
 
 /// The canonical bytes of good records, in either order, are a file that denotes these records.
@@ -33,5 +33,5 @@ pub fn hosts_end_different_strings()
 
 /// With the kept names ordered by their bytes from the end, a name that ends any other name ends the next one, and has its host.
 pub fn next_name_tells_host()
-    ensures { (xs sorted : List (List ℕ)) → NextTellsHost xs sorted }
+    ensures { (xs sorted : List (List ℕ)) → NextHasHost xs sorted }
 {}

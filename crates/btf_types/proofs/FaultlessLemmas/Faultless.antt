@@ -122,9 +122,9 @@ module _ (strings : List ℕ) (frames : List (List ℕ)) (ends : HasNulEnds stri
   its_target t of e =
       let g = of.frame in
       let is : IsFrame g = subst (λ (h : List ℕ). IsFrame h) of.there (each of.index g of.inside) in
-      let stands : slice_get frames of.index ≡ Some g = get_is frames of.index g of.inside ∙ ap (λ (h : List ℕ). Some h) of.there in
+      let is_there : slice_get frames of.index ≡ Some g = get_is frames of.index g of.inside ∙ ap (λ (h : List ℕ). Some h) of.there in
       let func : kind g ≡ FUNC = ap (λ (u : TypeFacts). u.kind) (sym of.is) ∙ e in
-      let good = type_is strings types g ends is (faultless of.index g stands) 2 (omega (arith, is.size)) (inl (func_has_target (kind g) func, refl)) in
+      let good = type_is strings types g ends is (faultless of.index g is_there) 2 (omega (arith, is.size)) (inl (func_has_target (kind g) func, refl)) in
       ap (λ (u : TypeFacts). (type_at types u.target).kind) of.is ∙ func_fits (kind g) _ func good.fits
 
   func_names : (id : ℕ) → (type_at types id).kind ≡ FUNC → (type_at types (type_at types id).target).kind ≡ FUNC_PROTO

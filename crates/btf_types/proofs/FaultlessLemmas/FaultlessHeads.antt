@@ -1,4 +1,4 @@
--- The head that a record's numbers tell, kind by kind: what it must be so that the numbers spell it and it is good.
+-- The head that is read from a record's numbers, kind by kind: what it must be so that the numbers spell it and it is good.
 use Rattle.std.proofs.Common.{◌≡◌, ◌⊎◌, ℕ, zero, suc, ◌+◌, ◌*◌, ◌^◌, ◌<◌, ◌≤◌, Bool, true, false, List, [], ◌∷◌, length, refl, sym, ap, ◌∙◌, inl, inr, lit<, arith}
 use Rattle.std.specs.Prelude.{IsTrue, IfSome, ◌==◌, if◌then◌else◌}
 use Rattle.std.specs.List.{All}
@@ -8,7 +8,8 @@ use Rattle.btf_raw.specs.declared.kinds.TheConstants.{INT, ARRAY, FUNC, VAR, DEC
 use Rattle.btf_raw.specs.Kinds.{one_of, has_flag, has_vlen, fixed_words, item_words, has_target, has_no_name}
 use Rattle.btf_types.specs.Values.{TypeItem}
 use Rattle.btf_types.specs.Names.{head_name}
-use Rattle.btf_types.specs.Spelling.{kind_number, head_third, bit, FlagSpells, linkage_number, encoding_number, component_word, record_vlen, head_tail}
+use Rattle.btf_raw.specs.Heads.{bit}
+use Rattle.btf_types.specs.Spelling.{kind_number, head_third, FlagSpells, linkage_number, encoding_number, component_word, record_vlen, head_tail}
 use Rattle.btf_types.specs.judge.Checks.{TypeFacts, size_fits, bits_fit, component_fits}
 use Rattle.btf_types.specs.Good.{HeadInRange, HeadIsGood, head_targets}
 use Rattle.btf_types.specs.Good as good
@@ -58,7 +59,7 @@ flag_of_head IsTypeTag name third flag vlen next fourth fifth bound allowed = se
 flag_of_head IsEnum64 name third flag vlen next fourth fifth bound allowed = set_bit flag bound
 flag_of_head known name third flag vlen next fourth fifth bound allowed = unset flag allowed
 
--- vlen, and the words behind the third
+-- vlen, and the words after the third
 linkage_there : (n : ℕ) → n ≤ 2 → linkage_number (linkage_of n) ≡ n
 linkage_there zero h = refl
 linkage_there (suc zero) h = refl
@@ -86,13 +87,13 @@ int_there size word right =
     let unused = right.unused in
     rw (encoding_there (int_encoding word) right.encoding) (omega arith)
 
--- the first n of the words behind the third
-abbrev pub words_behind : ℕ → ℕ → ℕ → ℕ → List ℕ
-words_behind zero next fourth fifth = []
-words_behind (suc zero) next fourth fifth = next ∷ []
-words_behind (suc (suc n)) next fourth fifth = next ∷ fourth ∷ fifth ∷ []
+-- the first n of the words after the third
+abbrev pub words_after : ℕ → ℕ → ℕ → ℕ → List ℕ
+words_after zero next fourth fifth = []
+words_after (suc zero) next fourth fifth = next ∷ []
+words_after (suc (suc n)) next fourth fifth = next ∷ fourth ∷ fifth ∷ []
 
-pub tail_of_head : {k : ℕ} → KindIs k → (name : List ℕ) (third flag vlen next fourth fifth : ℕ) → (k ≡ INT → IntIsRight third next) → (k ≡ VAR → next ≤ 2) → head_tail (head_from name k third flag vlen next fourth fifth) ≡ words_behind (fixed_words k) next fourth fifth
+pub tail_of_head : {k : ℕ} → KindIs k → (name : List ℕ) (third flag vlen next fourth fifth : ℕ) → (k ≡ INT → IntIsRight third next) → (k ≡ VAR → next ≤ 2) → head_tail (head_from name k third flag vlen next fourth fifth) ≡ words_after (fixed_words k) next fourth fifth
 unfolding head_from fixed_words
 tail_of_head IsInt name third flag vlen next fourth fifth int var = ap (λ (w : ℕ). w ∷ []) (int_there third next (int refl))
 tail_of_head IsVar name third flag vlen next fourth fifth int var = ap (λ (w : ℕ). w ∷ []) (linkage_there next (var refl))

@@ -157,7 +157,7 @@ module _ (strings : List ℕ) (types : List TypeFacts) (frame : List ℕ) (ends 
           member = tt;
         }
 
-    -- the words of item i, as they stand in the frame
+    -- the words of item i, as they are in the frame
     two_words : (i : ℕ) → item_words (kind frame) ≡ 2 → i < vlen frame → take (item_words (kind frame)) (drop (3 + item_words (kind frame) * i) frame)
         ≡ slice_index frame (3 + item_words (kind frame) * i) ∷ slice_index frame (3 + item_words (kind frame) * i + 1) ∷ []
     two_words i words low =

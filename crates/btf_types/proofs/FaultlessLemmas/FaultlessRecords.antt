@@ -18,30 +18,30 @@ use Rattle.btf_types.specs.Reading.{text_from, component_of, head_of, item_from,
 use Rattle.btf_types.specs.judge.RecordFaults.{IsFaultless}
 use Rattle.btf_types.proofs.Lists.{length-tabulate}
 use Rattle.btf_types.proofs.KindCases.{KindIs, IsInt, IsArray, IsVar, IsDeclTag, IsStruct, IsUnion, IsEnum, IsFuncProto, IsDatasec, IsEnum64}
-use Rattle.btf_types.proofs.FaultlessLemmas.FaultlessHeads.{IntIsRight, words_behind, count_of, kind_of_head, name_of_head, third_of_head, flag_of_head, tail_of_head, vlen_of_head, range_of_head, targets_of_head, good_head, size_of_count, offset_of_head, bits_of_head, count_is, room_of_items}
+use Rattle.btf_types.proofs.FaultlessLemmas.FaultlessHeads.{IntIsRight, words_after, count_of, kind_of_head, name_of_head, third_of_head, flag_of_head, tail_of_head, vlen_of_head, range_of_head, targets_of_head, good_head, size_of_count, offset_of_head, bits_of_head, count_is, room_of_items}
 use Rattle.btf_types.proofs.FaultlessLemmas.FaultlessWords.{known, room, info_is, flag_low, vlen_low, name_is, needed, unwanted, zeroed, size_is, type_is, int_is, func_linkage, var_linkage, component_is}
-use Rattle.btf_types.proofs.StringLemmas.SpelledNames.{record_names_stand}
+use Rattle.btf_types.proofs.StringLemmas.SpelledNames.{record_names_there}
 use Rattle.btf_types.proofs.FaultlessLemmas.FaultlessItems.{ItemIsRight, item_right}
-use Rattle.btf_types.proofs.TabulateSteps.{All-tabulate, AllZip-tabulate, any-tabulate, pieces, first_three, none_behind, one_behind, three_behind}
+use Rattle.btf_types.proofs.TabulateSteps.{All-tabulate, AllZip-tabulate, any-tabulate, pieces, first_three, none_after, one_after, three_after}
 
-all_behind : (f : List ℕ) (n : ℕ) → length f ≡ 3 + n → drop 3 f ≡ take n (drop 3 f)
-all_behind f n e = sym (take_all n (drop 3 f) (omega (arith, length-drop 3 f)))
+all_after : (f : List ℕ) (n : ℕ) → length f ≡ 3 + n → drop 3 f ≡ take n (drop 3 f)
+all_after f n e = sym (take_all n (drop 3 f) (omega (arith, length-drop 3 f)))
 
--- the words behind the first three: those of the head, and those of the items
+-- the words after the first three: the head's, and then the items'
 whole_tail : {k : ℕ} → KindIs k → (f : List ℕ) (v : ℕ) → length f ≡ 3 + (fixed_words k + item_words k * v)
-    → drop 3 f ≡ words_behind (fixed_words k) (slice_index f 3) (slice_index f 4) (slice_index f 5) ++ take (item_words k * count_of k v) (drop 3 f)
+    → drop 3 f ≡ words_after (fixed_words k) (slice_index f 3) (slice_index f 4) (slice_index f 5) ++ take (item_words k * count_of k v) (drop 3 f)
 unfolding fixed_words item_words
-whole_tail IsInt f v e = one_behind f (omega arith)
-whole_tail IsArray f v e = three_behind f (omega arith)
-whole_tail IsVar f v e = one_behind f (omega arith)
-whole_tail IsDeclTag f v e = one_behind f (omega arith)
-whole_tail IsStruct f v e = all_behind f (3 * v) (omega arith)
-whole_tail IsUnion f v e = all_behind f (3 * v) (omega arith)
-whole_tail IsEnum f v e = all_behind f (2 * v) (omega arith)
-whole_tail IsFuncProto f v e = all_behind f (2 * v) (omega arith)
-whole_tail IsDatasec f v e = all_behind f (3 * v) (omega arith)
-whole_tail IsEnum64 f v e = all_behind f (3 * v) (omega arith)
-whole_tail known f v e = none_behind f (omega arith)
+whole_tail IsInt f v e = one_after f (omega arith)
+whole_tail IsArray f v e = three_after f (omega arith)
+whole_tail IsVar f v e = one_after f (omega arith)
+whole_tail IsDeclTag f v e = one_after f (omega arith)
+whole_tail IsStruct f v e = all_after f (3 * v) (omega arith)
+whole_tail IsUnion f v e = all_after f (3 * v) (omega arith)
+whole_tail IsEnum f v e = all_after f (2 * v) (omega arith)
+whole_tail IsFuncProto f v e = all_after f (2 * v) (omega arith)
+whole_tail IsDatasec f v e = all_after f (3 * v) (omega arith)
+whole_tail IsEnum64 f v e = all_after f (3 * v) (omega arith)
+whole_tail known f v e = none_after f (omega arith)
 
 count_low : (k v : ℕ) → count_of k v ≤ v
 count_low k v = split (item_words k == 0)
@@ -111,7 +111,7 @@ module _ (strings : List ℕ) (types : List TypeFacts) (frame : List ℕ) (ends 
   third_same : head_third (head_of frame name) ≡ third_word frame
   third_same = third_of_head (known frame is_frame) name (third_word frame) (flag frame) (vlen frame) (slice_index frame 3) (slice_index frame 4) (slice_index frame 5) (zeroed strings types frame ends is_frame none)
 
-  tail_same : head_tail (head_of frame name) ≡ words_behind (fixed_words (kind frame)) (slice_index frame 3) (slice_index frame 4) (slice_index frame 5)
+  tail_same : head_tail (head_of frame name) ≡ words_after (fixed_words (kind frame)) (slice_index frame 3) (slice_index frame 4) (slice_index frame 5)
   tail_same = tail_of_head (known frame is_frame) name (third_word frame) (flag frame) (vlen frame) (slice_index frame 3) (slice_index frame 4) (slice_index frame 5) int_right
       (λ e. var_linkage strings types frame ends is_frame none e (var_room e))
 
@@ -132,8 +132,8 @@ module _ (strings : List ℕ) (types : List TypeFacts) (frame : List ℕ) (ends 
   vlen_same = vlen_of_head (known frame is_frame) name (third_word frame) (flag frame) (vlen frame) (slice_index frame 3) (slice_index frame 4) (slice_index frame 5)
       (tabulate item_at count) length_items is_frame.info.vlen (func_linkage strings types frame ends is_frame none)
 
-  behind : drop 3 frame ≡ head_tail (head_of frame name) ++ concat (tabulate words_at count)
-  behind =
+  after_three : drop 3 frame ≡ head_tail (head_of frame name) ++ concat (tabulate words_at count)
+  after_three =
       whole_tail (known frame is_frame) frame (vlen frame) (room frame is_frame)
       ∙ rw (tail_same, pieces (item_words (kind frame)) count 3 frame) refl
 
@@ -141,7 +141,7 @@ module _ (strings : List ℕ) (types : List TypeFacts) (frame : List ℕ) (ends 
   all_words =
       let second : info_word frame ≡ info (kind_number (head_of frame name)) (record_vlen (record_of strings frame)) (flag frame) = rw (kind_same, vlen_same) (info_is frame is_frame) in
       let third : third_word frame ≡ head_third (head_of frame name) = sym third_same in
-      let rest = behind in
+      let rest = after_three in
       first_three frame three ∙ cc
 
   pub frame_spells : Spells strings (record_of strings frame) frame
@@ -159,8 +159,8 @@ module _ (strings : List ℕ) (types : List TypeFacts) (frame : List ℕ) (ends 
   -- and that record is good
   names_good : All IsName (record_names (record_of strings frame))
   names_good i d low =
-      let stands = record_names_stand strings (record_of strings frame) frame ends frame_spells i d low in
-      record { utf8 = stands.1.utf8; without_nul = stands.1.text.without_nul }
+      let is_there = record_names_there strings (record_of strings frame) frame ends frame_spells i d low in
+      record { utf8 = is_there.1.utf8; without_nul = is_there.1.text.without_nul }
 
   size_good : IsTrue (size_fits (kind_number (head_of frame name)) (head_third (head_of frame name)) (length (tabulate item_at count)))
   size_good = rw (kind_same, third_same) (size_of_count (known frame is_frame) (third_word frame) (vlen frame) (length (tabulate item_at count)) length_items (size_is strings types frame ends is_frame none))
@@ -178,7 +178,7 @@ module _ (strings : List ℕ) (types : List TypeFacts) (frame : List ℕ) (ends 
   members_good : All (MemberIsGood types (head_third (head_of frame name)) (has_bit_fields (record_of strings frame))) (tabulate item_at count)
   members_good = rw third_same (All-tabulate (MemberIsGood types (third_word frame) (has_bit_fields (record_of strings frame))) item_at count (λ i low. (right i low).member))
 
-  -- the component of a DECL_TAG is told by other records to be a 16-bit number
+  -- the counts of other records make the component of a DECL_TAG a 16-bit number
   pub frame_good : (kind frame ≡ DECL_TAG → IfSome (component_of (slice_index frame 3)) (λ c. c < 2 ^ 16)) → IsGoodRecord types (record_of strings frame)
   frame_good component = record {
     head_in_range = range_of_head (known frame is_frame) name (third_word frame) (flag frame) (vlen frame) (slice_index frame 3) (slice_index frame 4) (slice_index frame 5)

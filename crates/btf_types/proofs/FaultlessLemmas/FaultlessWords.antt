@@ -18,7 +18,7 @@ use Rattle.btf_types.proofs.KindCases.{KindIs, kind_is}
 use Rattle.btf_types.proofs.TableLemmas.TextSteps.{decided, empty_or_not, name_there}
 use Rattle.btf_types.proofs.FaultlessLemmas.FaultlessHeads.{IntIsRight}
 
--- info is told by its parts
+-- the parts of info determine it
 pub info_whole : (w : ℕ) → w < 2 ^ 32 → unused_of w ≡ 0 → w ≡ info (kind_of w) (vlen_of w) (flag_of w)
 info_whole w h e = omega arith
 
@@ -54,9 +54,9 @@ module _ (frame : List ℕ) (is_frame : IsFrame frame) where
   pub vlen_low : vlen frame < 2 ^ 16
   vlen_low = omega arith
 
-  pub one_behind : kind frame ≡ INT → 3 < length frame
+  pub one_after : kind frame ≡ INT → 3 < length frame
   unfolding fixed_words
-  one_behind e = let long = rw e at room in omega arith
+  one_after e = let long = rw e at room in omega arith
 
 module _ (strings : List ℕ) (types : List TypeFacts) (frame : List ℕ) (ends : HasNulEnds strings) (is_frame : IsFrame frame) (none : IsFaultless strings types frame) where
   three : 2 < length frame

@@ -24,15 +24,15 @@ some_words IsFuncProto h = lit< tt
 some_words IsEnum64 h = lit< tt
 some_words other h = absurd cc
 
-pub item_names_stand : (strings : List ℕ) (types : List TypeFacts) (frame : List ℕ) → HasNulEnds strings → IsFrame frame → IsFaultless strings types frame
+pub item_names_there : (strings : List ℕ) (types : List TypeFacts) (frame : List ℕ) → HasNulEnds strings → IsFrame frame → IsFaultless strings types frame
     → (k : ℕ) → k < item_total frame → IsTrue (has_item_names (kind frame))
     → NameAt strings (slice_index frame (3 + item_words (kind frame) * k)) (text_from strings (slice_index frame (3 + item_words (kind frame) * k)))
-item_names_stand strings types frame ends is none k low has =
+item_names_there strings types frame ends is none k low has =
     let inside = listed (kind frame) k (vlen frame) low in
     let end = item_ends (item_words (kind frame)) k (vlen frame) 0 inside (some_words (known frame is) has) in
     item_name_is strings types frame ends is none k has inside (omega (arith, room frame is, end))
 
--- an item of a kind whose items have no names tells none
+-- an item of a kind whose items have no names is read without one
 pub nameless : {k : ℕ} → KindIs k → (a b : List ℕ) (flag first second third : ℕ) → has_item_names k ≡ false → item_from a k flag first second third ≡ item_from b k flag first second third
 unfolding has_item_names item_from
 nameless IsStruct a b flag first second third none = absurd cc
@@ -45,7 +45,7 @@ nameless other a b flag first second third none = refl
 pub item_there : (strings frame : List ℕ) (k : ℕ) → k < item_total frame → slice_get (record_of strings frame).items k ≡ Some (item_of strings frame (3 + item_words (kind frame) * k))
 item_there strings frame k low = get-tabulate (λ i. item_of strings frame (3 + item_words (kind frame) * i)) (item_total frame) k low
 
--- the numbers of an item's words tell it
+-- an item is read from the numbers of its words
 pub item_read : (strings frame : List ℕ) → IsFrame frame → (k j : ℕ) → k < item_total frame → j ≡ 3 + item_words (kind frame) * k
     → (name : List ℕ) (its_kind its_flag first second third : ℕ) → its_kind ≡ kind frame → its_flag ≡ flag frame
     → first ≡ slice_index frame j → second ≡ slice_index frame (j + 1) → third ≡ slice_index frame (j + 2)

@@ -26,7 +26,7 @@ use Rattle.btf_types.proofs.KindCases.{one_among}
 use Rattle.btf_types.proofs.Members.{Has-get_or, any_from_Has}
 use Rattle.btf_types.proofs.Spelled.{vlen_from, no_items}
 use Rattle.btf_types.proofs.Denoting.{IsNumbers, numbers, tail_word}
-use Rattle.btf_types.proofs.SpelledItems.{nothing, ItemStands, item_stands}
+use Rattle.btf_types.proofs.SpelledItems.{nothing, ItemFits, item_fits}
 
 -- ---- what a head says of its numbers
 
@@ -82,7 +82,7 @@ linkage_named LGlobal = lit≤ tt
 linkage_named LExtern = lit≤ tt
 
 -- an INT's word
-pub record IntStands (h : TypeHead) (w : ℕ) : Type 0 where
+pub record IntFits (h : TypeHead) (w : ℕ) : Type 0 where
   pub inside : 0 < length (head_tail h)
   pub unused : int_unused w ≡ 0
   pub encoding : IsTrue (one_of (0 ∷ 1 ∷ 2 ∷ 4 ∷ []) (int_encoding w))
@@ -90,8 +90,8 @@ pub record IntStands (h : TypeHead) (w : ℕ) : Type 0 where
   pub offset_is : int_offset w ≡ good.head_int_offset h
   pub bits_is : int_bits w ≡ good.head_int_bits h
 
-int_stands : (types : List TypeFacts) (h : TypeHead) → kind_number h ≡ INT → HeadInRange h → HeadIsGood types h → IntStands h (get_or (head_tail h) 0 0)
-int_stands types (KInt name size encoding offset bits) is range right =
+int_fits : (types : List TypeFacts) (h : TypeHead) → kind_number h ≡ INT → HeadInRange h → HeadIsGood types h → IntFits h (get_or (head_tail h) 0 0)
+int_fits types (KInt name size encoding offset bits) is range right =
     let e = encoding_named encoding in
     let w = bits + 2 ^ 16 * offset + 2 ^ 24 * encoding_number encoding in
     let enc : int_encoding w ≡ encoding_number encoding = omega (arith, e.0, range.1, range.2) in
@@ -105,8 +105,8 @@ int_stands types (KInt name size encoding offset bits) is range right =
       offset_is = off;
       bits_is = bit;
     }
-int_stands types (KPtr target) is range right = absurd (omega arith)
-int_stands types h is range right = absurd (omega arith)
+int_fits types (KPtr target) is range right = absurd (omega arith)
+int_fits types h is range right = absurd (omega arith)
 
 func_vlen : (h : TypeHead) (xs : List TypeItem) → kind_number h ≡ FUNC → vlen_from h xs ≤ 2
 func_vlen (KFunc name linkage target) xs is = linkage_named linkage
@@ -223,7 +223,7 @@ words_of_section : (k : ℕ) → k ≡ DATASEC → 0 < item_words k
 unfolding item_words
 words_of_section k e = rw e (lit< tt)
 
--- a name that stands at an offset: no fault of a name's range or text
+-- a name at an offset: no fault of a name's range or text
 name_inside : (strings : List ℕ) (offset : ℕ) (x : List ℕ) → NameAt strings offset x → ¬ (length strings ≤ offset)
 name_inside strings offset x at past = let low = TextAt-inside strings offset x at.text in omega arith
 
@@ -237,15 +237,15 @@ module _ (strings : List ℕ) (types : List TypeFacts) (r : TypeRecord) (f : Lis
   own_name : NameAt strings (name_word f) (head_name r.head)
   own_name = rw n.name s.name
 
-  stands : (i : ℕ) → 0 < item_words (kind f) → i < vlen f → ItemStands strings r f i (get_or s.item_words i [])
-  stands i some low = item_stands strings types r f right s i some low
+  is_there : (i : ℕ) → 0 < item_words (kind f) → i < vlen f → ItemFits strings r f i (get_or s.item_words i [])
+  is_there i some low = item_fits strings types r f right s i some low
 
   -- the name at each name field
   field_name : (m j : ℕ) → IsNameField f m j → (x : List ℕ) × NameAt strings (slice_index f j) x
   field_name zero j at = (head_name r.head, subst (λ (k : ℕ). NameAt strings (slice_index f k) (head_name r.head)) (sym at) own_name)
   field_name (suc i) j at =
       let some = words_of_named (kind f) at.0 in
-      let it = stands i some at.1.0 in
+      let it = is_there i some at.1.0 in
       let word : slice_index f j ≡ get_or (get_or s.item_words i []) 0 0 = ap (λ (k : ℕ). slice_index f k) at.1.1 ∙ it.words 0 some in
       (item_name (get_or r.items i nothing), rw word (item_named strings (flag f) r.head (get_or r.items i nothing) (get_or s.item_words i []) it.of it.spells (rw n.kind at at.0)))
 
@@ -266,12 +266,12 @@ module _ (strings : List ℕ) (types : List TypeFacts) (r : TypeRecord) (f : Lis
       ]
   field_type j (inr (inr (inl item))) =
       let some = words_of_typed (kind f) item.0 in
-      let it = stands item.1 (omega arith) item.2.0 in
+      let it = is_there item.1 (omega arith) item.2.0 in
       let word : slice_index f j ≡ get_or (get_or s.item_words item.1 []) 1 0 = ap (λ (k : ℕ). slice_index f k) item.2.1 ∙ it.words 1 some in
       rw word (item_typed Target strings (flag f) r.head (get_or r.items item.1 nothing) (get_or s.item_words item.1 []) it.of it.spells (rw n.kind at item.0) (right.item_targets item.1 nothing it.inside))
   field_type j (inr (inr (inr entry))) =
       let some = words_of_section (kind f) entry.0 in
-      let it = stands entry.1 some entry.2.0 in
+      let it = is_there entry.1 some entry.2.0 in
       let word : slice_index f j ≡ get_or (get_or s.item_words entry.1 []) 0 0 = ap (λ (k : ℕ). slice_index f k) entry.2.1 ∙ it.words 0 some in
       rw word (entry_typed Target strings (flag f) r.head (get_or r.items entry.1 nothing) (get_or s.item_words entry.1 []) it.of it.spells (sym n.kind ∙ entry.0) (right.item_targets entry.1 nothing it.inside))
 
@@ -279,20 +279,20 @@ module _ (strings : List ℕ) (types : List TypeFacts) (r : TypeRecord) (f : Lis
   member_at : (m j : ℕ) (at : IsMemberWord f m j) → MemberSays types (head_third r.head) (has_bit_fields r) (flag f) (get_or r.items at.1 nothing) (get_or s.item_words at.1 [])
   member_at m j at =
       let some = words_of_struct (kind f) at.0 in
-      let it = stands at.1 (omega arith) at.2.0 in
+      let it = is_there at.1 (omega arith) at.2.0 in
       member_says types (head_third r.head) (has_bit_fields r) strings (flag f) r.head (get_or r.items at.1 nothing) (get_or s.item_words at.1 []) it.of it.spells (rw n.kind at at.0) (right.members at.1 nothing it.inside)
 
   member_word_is : (m j : ℕ) (at : IsMemberWord f m j) → m < 3 → slice_index f j ≡ get_or (get_or s.item_words at.1 []) m 0
   member_word_is m j at low =
       let some = words_of_struct (kind f) at.0 in
-      let it = stands at.1 (omega arith) at.2.0 in
+      let it = is_there at.1 (omega arith) at.2.0 in
       ap (λ (k : ℕ). slice_index f k) at.2.1 ∙ it.words m (omega arith)
 
   bit_fields_are : HasBitFields f → IsTrue (has_bit_fields r)
   bit_fields_are has =
       let says = member_at 2 has.0 has.1 in
       let word = member_word_is 2 has.0 has.1 (lit< tt) in
-      let it = stands has.1.1 (let some = words_of_struct (kind f) has.1.0 in omega arith) has.1.2.0 in
+      let it = is_there has.1.1 (let some = words_of_struct (kind f) has.1.0 in omega arith) has.1.2.0 in
       any_from_Has has_width r.items (get_or r.items has.1.1 nothing) (Has-get_or r.items has.1.1 nothing it.inside) (says.wide (λ e. has.2 (rw word e)))
 
   pub spelled_faultless : (j : ℕ) (c : BtfCause) → ¬ WordFault strings types f j c
@@ -312,7 +312,7 @@ module _ (strings : List ℕ) (types : List TypeFacts) (r : TypeRecord) (f : Lis
       let fails = rw n.kind at fault.2 in
       absurd cc
   spelled_faultless j IntWord fault =
-      let int = int_stands types r.head (sym n.kind ∙ fault.1) right.head_in_range right.head in
+      let int = int_fits types r.head (sym n.kind ∙ fault.1) right.head_in_range right.head in
       let word : slice_index f 3 ≡ get_or (head_tail r.head) 0 0 = tail_word strings r f s 0 int.inside in
       elim fault.2 [
         | inl some ↦ some (ap (λ (w : ℕ). int_unused w) word ∙ int.unused)
@@ -342,13 +342,13 @@ module _ (strings : List ℕ) (types : List TypeFacts) (r : TypeRecord) (f : Lis
       ]
   spelled_faultless j c fault = absurd fault
 
-  -- what other records ask of it stands in its words
+  -- the facts that other records need are in its words
   pub spelled_facts : facts_of r ≡ frame_facts f
   spelled_facts =
       let its_kind : kind_number r.head ≡ kind f = sym n.kind in
       let its_count : length r.items ≡ (if kind f == FUNC then 0 else vlen f) = rw (n.kind, n.vlen) (count_facts r.head r.items right.items_of) in
       let its_third : head_third r.head ≡ third_word f = sym n.third in
-      let int : kind_number r.head ≡ INT → IntStands r.head (get_or (head_tail r.head) 0 0) = λ is. int_stands types r.head is right.head_in_range right.head in
+      let int : kind_number r.head ≡ INT → IntFits r.head (get_or (head_tail r.head) 0 0) = λ is. int_fits types r.head is right.head_in_range right.head in
       let word : kind_number r.head ≡ INT → slice_index f 3 ≡ get_or (head_tail r.head) 0 0 = λ is. tail_word strings r f s 0 (int is).inside in
       let its_offset : good.head_int_offset r.head ≡ (if kind f == INT then int_offset (slice_index f 3) else 0) =
       rw n.kind (offset_facts r.head (int_offset (slice_index f 3)) (λ is. ap (λ (w : ℕ). int_offset w) (word is) ∙ (int is).offset_is)) in

@@ -1,4 +1,4 @@
--- The first fault of the fields: behind records without one, the first of a record.
+-- The first fault of the fields: after records without one, the first of a record.
 use Rattle.std.proofs.Common.{◌≡◌, ◌⊎◌, ℕ, zero, suc, ◌+◌, ◌*◌, ◌<◌, ◌≤◌, Option, Some, None, List, [], ◌∷◌, length, take, map, refl, ap, subst, ◌∙◌, inl, inr, length-append, arith}
 use Rattle.std.specs.Prelude.{slice_get, slice_index}
 use Rattle.std.specs.List.{concat}
@@ -12,7 +12,7 @@ use Rattle.btf_types.specs.judge.FieldFaults.{WordFault, FieldFault, frame_facts
 use Rattle.btf_types.specs.Reading.{frame_at}
 use Rattle.btf_types.specs.judge.RecordFaults.{IsFaultless, LeastOfRecord}
 use Rattle.btf_types.specs.Sections.{IsSection, nth_frame, frames_in, facts_in}
-use Rattle.btf_types.proofs.TableLemmas.SectionSteps.{frame_get, starts_in, stands_in}
+use Rattle.btf_types.proofs.TableLemmas.SectionSteps.{frame_get, starts_in, has_frame}
 
 -- where the i-th list begins among the lists, and where it ends
 abbrev start : List (List ℕ) → ℕ → ℕ
@@ -101,13 +101,13 @@ module _ (s : Section) (good : IsSection s) where
     | inr le ↦ subst (λ (n : ℕ). IsFaultless s.file.strings.now (facts_in s) (nth_frame s n)) (omega arith) here
   ]
 
-  -- a fault stands within the section
+  -- a fault is within the section
   pub fault_inside : (p : ℕ) (c : BtfCause) → FieldFault s.file.strings.now (frames_in s) p c → p < length s.file.types.now
   fault_inside p c fault =
       let there = get_inside fault.index fault.frame fault.frame_is in
       let same = some_is (nth_frame s fault.index) fault.frame (slice_get (frames_in s) fault.index) (frame_get s good fault.index there) fault.frame_is in
       let word : fault.word < length (nth_frame s fault.index) = rw same fault.inside in
-      let room = (stands_in s good fault.index there).inside in
+      let room = (has_frame s good fault.index there).inside in
       let start = starts_in s good fault.index there in
       let place = fault.place_is in
       omega arith

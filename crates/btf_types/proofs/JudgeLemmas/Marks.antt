@@ -1,4 +1,4 @@
--- Marks of texts that are UTF-8, told from the end of a section.
+-- Marks of texts that are UTF-8, made from the end of a section.
 use Rattle.std.proofs.Common.{◌≡◌, ℕ, ◌-◌, ◌<◌, ◌≤◌, Bool, true, false, List, length, get_or, set, inl, inr, arith}
 use Rattle.std.specs.Prelude.{◌↔◌, IsUtf8, slice_index}
 use Rattle.std.proofs.lemmas.Bool.{cases_lt, cases_eq}
@@ -8,7 +8,7 @@ use Rattle.btf_raw.specs.Names.{TextAt}
 use Rattle.btf_types.specs.judge.Texts.{BeginsChar, AreMarks}
 use Rattle.btf_types.proofs.JudgeLemmas.Utf8Steps.{begins_with_char}
 
--- the marks from this place on are told, and no other is set
+-- the marks from this place on are made, and no other is set
 pub record AreMarksFrom (s : List ℕ) (at next : ℕ) (rest : Bool) (marks : List Bool) : Type 0 where
   pub size : length marks ≡ length s
   pub low : at ≤ next
@@ -23,7 +23,7 @@ pub record AreMarksFrom (s : List ℕ) (at next : ℕ) (rest : Bool) (marks : Li
 -- one more mark, where a character may begin
 pub char_marked : (s : List ℕ) (n next : ℕ) (rest mark : Bool) (marks : List Bool) → AreMarksFrom s n next rest marks → 0 < n → BeginsChar (slice_index s (n - 1))
     → ((text : List ℕ) → TextAt s (n - 1) text → (mark ≡ true) ↔ IsUtf8 text) → AreMarksFrom s (n - 1) (n - 1) mark (set marks (n - 1) mark)
-char_marked s n next rest mark marks so some begins told =
+char_marked s n next rest mark marks so some begins known =
     let low = so.low in
     let inside = so.inside in
     let here : n - 1 < length marks = omega (arith, so.size) in
@@ -34,9 +34,9 @@ char_marked s n next rest mark marks so some begins told =
       there = λ lt. lt;
       begins = λ lt. begins;
       between = λ i past below. absurd (omega arith);
-      rest_is = told;
+      rest_is = known;
       right = λ o text past t. elim (cases_eq o (n - 1)) [
-        | inl same ↦ rw (same, get_or-set_same marks (n - 1) mark false here) (told text (rw same at t))
+        | inl same ↦ rw (same, get_or-set_same marks (n - 1) mark false here) (known text (rw same at t))
         | inr other ↦ rw (get_or-set_other marks (n - 1) o mark false other) (so.right o text (omega (arith, other)) t)
       ];
       before = λ o below. rw (get_or-set_other marks (n - 1) o mark false (λ e. absurd (omega arith))) (so.before o (omega arith));

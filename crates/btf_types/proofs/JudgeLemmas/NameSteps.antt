@@ -10,7 +10,7 @@ use Rattle.btf_raw.specs.Names.{TextAt}
 use Rattle.btf_types.specs.judge.Checks.{NoCause, LeastCause}
 use Rattle.btf_types.specs.judge.NameFaults.{NameFault, OwnNameFault, ItemNameFault}
 use Rattle.btf_types.specs.Reading.{text_from}
-use Rattle.btf_types.proofs.TableLemmas.TextSteps.{text_stands}
+use Rattle.btf_types.proofs.TableLemmas.TextSteps.{text_there}
 use Rattle.btf_types.proofs.JudgeLemmas.Utf8Steps.{empty_byte, empty_text}
 
 -- an item's name: where its text isn't UTF-8, and where it is
@@ -18,7 +18,7 @@ pub utf8_fault : (strings : List ℕ) (offset : ℕ) → HasNulEnds strings → 
     → ((text : List ℕ) → TextAt strings offset text → (false ≡ true) ↔ IsUtf8 text) → LeastCause (ItemNameFault strings offset) NameUtf8
 utf8_fault strings offset ends low judged =
     let text = text_from strings offset in
-    let there = text_stands strings offset ends low in
+    let there = text_there strings offset ends low in
     record { holds = (text, there, λ utf8. false_is_no ((judged text there).1 utf8)); least = least }
   where
     false_is_no : false ≡ true → ⊥
@@ -59,10 +59,10 @@ item_to_name strings kind offset c least = record { holds = up c least.holds; le
 module _ (strings : List ℕ) (kind offset : ℕ) (ends : HasNulEnds strings) (none : NoCause (ItemNameFault strings offset)) where
   pub own_to_name : (c : BtfCause) → offset < length strings → OwnNameFault kind (slice_index strings offset == 0) c → NameFault strings kind offset c
   own_to_name NameMissing low fault =
-      let there = text_stands strings offset ends low in
+      let there = text_there strings offset ends low in
       (fault.0, subst (λ (x : List ℕ). TextAt strings offset x) (empty_text strings offset (text_from strings offset) there (eqb-true (slice_index strings offset) 0 fault.1)) there)
   own_to_name NameUnwanted low fault =
-      let there = text_stands strings offset ends low in
+      let there = text_there strings offset ends low in
       (fault.0, text_from strings offset, there, λ e. eqb-false (slice_index strings offset) 0 fault.1 (empty_byte strings offset (subst (λ (x : List ℕ). TextAt strings offset x) e there)))
   own_to_name c low fault = absurd fault
 

@@ -12,7 +12,7 @@ use Rattle.btf_types.specs.declared.judge.roles.Role.{Role}
 use Rattle.btf_types.specs.declared.judge.roles.Role.TheVariants as roles
 use Rattle.btf_types.specs.judge.Checks.{size_fits, bits_fit, target_fits, component_fits, TypeFacts, type_at, NoCause, LeastCause}
 use Rattle.btf_types.specs.judge.FieldFaults.{WordFault, offset_in, width_in, int_unused, int_encoding, int_bits, IsTypeField, IsNameField, IsMemberWord, IsItemWord}
-use Rattle.btf_types.specs.judge.Roles.{part, PartIs, RoleIs, RoleTells}
+use Rattle.btf_types.specs.judge.Roles.{word_in_item, PartIs, RoleIs, HasRole}
 use Rattle.btf_types.specs.declared.judge.fields.Record.{Record}
 use Rattle.btf_types.specs.declared.tables.section.Section.{Section}
 use Rattle.btf_types.specs.Reading.{frame_at}
@@ -92,7 +92,7 @@ unfolding item_words
 array_size κ e = rw e refl
 
 -- word m of an item, from the place in the record, and back
-part_is : (κ k m j : ℕ) → TwoOrThree (item_words κ) → m < item_words κ → j ≡ 3 + item_words κ * k + m → part κ j ≡ m
+part_is : (κ k m j : ℕ) → TwoOrThree (item_words κ) → m < item_words κ → j ≡ 3 + item_words κ * k + m → word_in_item κ j ≡ m
 part_is κ k m j (inl two) low at = rw two (let there : j ≡ 3 + 2 * k + m = rw two at at in let less : m < 2 = rw two at low in omega arith)
 part_is κ k m j (inr three) low at = rw three (let there : j ≡ 3 + 3 * k + m = rw three at at in let less : m < 3 = rw three at low in omega arith)
 
@@ -101,7 +101,7 @@ record ItemWord (κ v m j : ℕ) : Type 0 where
   low : k < v
   at : j ≡ 3 + item_words κ * k + m
 
-item_word : (κ v m j : ℕ) → TwoOrThree (item_words κ) → 3 ≤ j → j < 3 + item_words κ * v → part κ j ≡ m → ItemWord κ v m j
+item_word : (κ v m j : ℕ) → TwoOrThree (item_words κ) → 3 ≤ j → j < 3 + item_words κ * v → word_in_item κ j ≡ m → ItemWord κ v m j
 item_word κ v m j (inl two) past inside is =
     let there : (j - 3) % 2 ≡ m = rw two at is in
     let room : j < 3 + 2 * v = rw two at inside in
@@ -118,44 +118,44 @@ WordRoleFault strings types frame b j role c =
 
 -- ---- from a cause to the role
 
-module _ (frame : List ℕ) (j : ℕ) (role : Role) (tells : RoleTells (kind frame) j role) where
+module _ (frame : List ℕ) (j : ℕ) (role : Role) (each : HasRole (kind frame) j role) where
   past_head : (w k m : ℕ) → j ≡ 3 + w * k + m → 3 ≤ j
   past_head w k m at = omega arith
 
   name_role : (n : ℕ) → IsNameField frame n j → (role ≡ roles.OwnName) ⊎ (role ≡ roles.ItemName)
-  name_role zero field = inl (tells.name field)
+  name_role zero field = inl (each.name field)
   name_role (suc k) field =
       let size = item_size (kind frame) field.0 in
       let first = part_is (kind frame) k 0 j size (elim size [ inl two ↦ rw two (lit< tt) | inr three ↦ rw three (lit< tt) ]) field.1.1 in
-      inr ((tells.tail (past_head (item_words (kind frame)) k 0 field.1.1)).name field.0 first)
+      inr ((each.tail (past_head (item_words (kind frame)) k 0 field.1.1)).name field.0 first)
 
-  member_part : (m : ℕ) → m < 3 → (at : IsMemberWord frame m j) → (3 ≤ j) × (part (kind frame) j ≡ m)
+  member_part : (m : ℕ) → m < 3 → (at : IsMemberWord frame m j) → (3 ≤ j) × (word_in_item (kind frame) j ≡ m)
   member_part m low at =
       let three = struct_size (kind frame) at.0 in
       (past_head (item_words (kind frame)) at.1 m at.2.1, part_is (kind frame) at.1 m j (inr three) (rw three low) at.2.1)
 
   member_role : IsMemberWord frame 1 j → role ≡ roles.MemberType
-  member_role at = let is = member_part 1 (lit< tt) at in (tells.tail is.0).member at.0 is.1
+  member_role at = let is = member_part 1 (lit< tt) at in (each.tail is.0).member at.0 is.1
 
   place_role : IsMemberWord frame 2 j → role ≡ roles.MemberPlace
-  place_role at = let is = member_part 2 (lit< tt) at in (tells.tail is.0).place at.0 is.1
+  place_role at = let is = member_part 2 (lit< tt) at in (each.tail is.0).place at.0 is.1
 
   array_role : kind frame ≡ ARRAY → (j ≡ 3) ⊎ (j ≡ 4) → role ≡ roles.NamedType
   array_role array at =
       let none = array_size (kind frame) array in
       let low : 3 ≤ j = omega arith in
-      let is : part (kind frame) j < 2 = rw none (omega arith) in
-      (tells.tail low).array array is
+      let is : word_in_item (kind frame) j < 2 = rw none (omega arith) in
+      (each.tail low).array array is
 
   entry_role : kind frame ≡ DATASEC → (k : ℕ) → IsItemWord frame k 0 j → role ≡ roles.NamedType
   entry_role datasec k at =
       let three = datasec_size (kind frame) datasec in
-      (tells.tail (past_head (item_words (kind frame)) k 0 at.1)).entry datasec (part_is (kind frame) k 0 j (inr three) (rw three (lit< tt)) at.1)
+      (each.tail (past_head (item_words (kind frame)) k 0 at.1)).entry datasec (part_is (kind frame) k 0 j (inr three) (rw three (lit< tt)) at.1)
 
   param_role : kind frame ≡ FUNC_PROTO → (k : ℕ) → IsItemWord frame k 1 j → role ≡ roles.NamedType
   param_role proto k at =
       let two = proto_size (kind frame) proto in
-      (tells.tail (past_head (item_words (kind frame)) k 1 at.1)).param proto (part_is (kind frame) k 1 j (inl two) (rw two (lit< tt)) at.1)
+      (each.tail (past_head (item_words (kind frame)) k 1 at.1)).param proto (part_is (kind frame) k 1 j (inl two) (rw two (lit< tt)) at.1)
 
   struct_or_proto : (κ : ℕ) → IsTrue (one_of (STRUCT ∷ UNION ∷ FUNC_PROTO ∷ []) κ) → IsTrue (is_struct κ) ⊎ (κ ≡ FUNC_PROTO)
   struct_or_proto κ h = elim (one_or_more STRUCT κ (UNION ∷ FUNC_PROTO ∷ []) h) [
@@ -167,7 +167,7 @@ module _ (frame : List ℕ) (j : ℕ) (role : Role) (tells : RoleTells (kind fra
   ]
 
   type_role : IsTypeField frame j → (IsTrue (has_target (kind frame)) × (role ≡ roles.Third)) ⊎ (role ≡ roles.NamedType) ⊎ (IsTrue (is_struct (kind frame)) × (role ≡ roles.MemberType))
-  type_role (inl third) = inl (third.0, tells.third third.1)
+  type_role (inl third) = inl (third.0, each.third third.1)
   type_role (inr (inl array)) = inr (inl (array_role array.0 array.1))
   type_role (inr (inr (inl item))) = elim (struct_or_proto (kind frame) item.0) [
     | inl s ↦ inr (inr (s, member_role (s, item.1, item.2)))
@@ -195,28 +195,28 @@ module _ (strings : List ℕ) (types : List TypeFacts) (frame : List ℕ) (b : B
   at_fourth : (P : ℕ → Type 0) → j ≡ 3 → P (slice_index frame 3) → P (slice_index frame j)
   at_fourth P fourth h = subst (λ (i : ℕ). P (slice_index frame i)) (sym fourth) h
 
-  role_says : BitFieldsAre frame b → RoleTells (kind frame) j role → (c : BtfCause) → WordFault strings types frame j c → WordRoleFault strings types frame b j role c
-  role_says bits tells NameRange fault = elim (name_role frame j role tells fault.0 fault.1) [
+  role_says : BitFieldsAre frame b → HasRole (kind frame) j role → (c : BtfCause) → WordFault strings types frame j c → WordRoleFault strings types frame b j role c
+  role_says bits each NameRange fault = elim (name_role frame j role each fault.0 fault.1) [
     | inl own ↦ is_role roles.OwnName NameRange own fault.2
     | inr item ↦ is_role roles.ItemName NameRange item fault.2
   ]
-  role_says bits tells NameUtf8 fault = elim (name_role frame j role tells fault.0 fault.1) [
+  role_says bits each NameUtf8 fault = elim (name_role frame j role each fault.0 fault.1) [
     | inl own ↦ is_role roles.OwnName NameUtf8 own (fault.2, fault.3, fault.4)
     | inr item ↦ is_role roles.ItemName NameUtf8 item (fault.2, fault.3, fault.4)
   ]
-  role_says bits tells NameMissing fault =
-      is_role roles.OwnName NameMissing (tells.name fault.0) (fault.1, at_name (λ i. TextAt strings i []) fault.0 fault.2)
-  role_says bits tells NameUnwanted fault =
-      is_role roles.OwnName NameUnwanted (tells.name fault.0) (fault.1, fault.2, at_name (λ i. TextAt strings i fault.2) fault.0 fault.3, fault.4)
-  role_says bits tells NotZero fault = is_role roles.Third NotZero (tells.third fault.0) (fault.1, at_third (λ i. i ≢ 0) fault.0 fault.2)
-  role_says bits tells Size fault =
-      is_role roles.Third Size (tells.third fault.0) (at_third (λ i. IsFalse (size_fits (kind frame) i (vlen frame))) fault.0 fault.1)
-  role_says bits tells Reference fault = elim (type_role frame j role tells fault.0) [
+  role_says bits each NameMissing fault =
+      is_role roles.OwnName NameMissing (each.name fault.0) (fault.1, at_name (λ i. TextAt strings i []) fault.0 fault.2)
+  role_says bits each NameUnwanted fault =
+      is_role roles.OwnName NameUnwanted (each.name fault.0) (fault.1, fault.2, at_name (λ i. TextAt strings i fault.2) fault.0 fault.3, fault.4)
+  role_says bits each NotZero fault = is_role roles.Third NotZero (each.third fault.0) (fault.1, at_third (λ i. i ≢ 0) fault.0 fault.2)
+  role_says bits each Size fault =
+      is_role roles.Third Size (each.third fault.0) (at_third (λ i. IsFalse (size_fits (kind frame) i (vlen frame))) fault.0 fault.1)
+  role_says bits each Reference fault = elim (type_role frame j role each fault.0) [
     | inl third ↦ is_role roles.Third Reference third.1 (third.0, fault.1)
     | inr (inl named) ↦ is_role roles.NamedType Reference named fault.1
     | inr (inr member) ↦ is_role roles.MemberType Reference member.1 fault.1
   ]
-  role_says bits tells TargetKind fault = elim (type_role frame j role tells fault.0) [
+  role_says bits each TargetKind fault = elim (type_role frame j role each fault.0) [
     | inl third ↦ is_role roles.Third TargetKind third.1 (third.0, fault.1, fault.2)
     | inr (inl named) ↦ is_role roles.NamedType TargetKind named (fault.1, fault.2)
     | inr (inr member) ↦
@@ -224,22 +224,22 @@ module _ (strings : List ℕ) (types : List TypeFacts) (frame : List ℕ) (b : B
         let not = fault.2 in
         absurd cc
   ]
-  role_says bits tells IntWord fault =
+  role_says bits each IntWord fault =
       let low : 3 ≤ j = omega (arith, fault.0) in
-      is_role roles.IntWord IntWord ((tells.tail low).int fault.1)
+      is_role roles.IntWord IntWord ((each.tail low).int fault.1)
       (at_fourth (λ i. (int_unused i ≢ 0) ⊎ IsFalse (one_of (0 ∷ 1 ∷ 2 ∷ 4 ∷ []) (int_encoding i)) ⊎ IsFalse (bits_fit (third_word frame) (int_bits i))) fault.0 fault.2)
-  role_says bits tells MemberInt fault = is_role roles.MemberType MemberInt (member_role frame j role tells fault.0) (bits.none fault.1, fault.2)
-  role_says bits tells MemberPlace fault = is_role roles.MemberPlace MemberPlace (place_role frame j role tells fault.0) fault.1
-  role_says bits tells Linkage (inl func) = is_role roles.Info Linkage (tells.info func.1) (func.0, func.2)
-  role_says bits tells Linkage (inr var) =
+  role_says bits each MemberInt fault = is_role roles.MemberType MemberInt (member_role frame j role each fault.0) (bits.none fault.1, fault.2)
+  role_says bits each MemberPlace fault = is_role roles.MemberPlace MemberPlace (place_role frame j role each fault.0) fault.1
+  role_says bits each Linkage (inl func) = is_role roles.Info Linkage (each.info func.1) (func.0, func.2)
+  role_says bits each Linkage (inr var) =
       let at = var.1 in
       let low : 3 ≤ j = omega arith in
-      is_role roles.Linkage Linkage ((tells.tail low).var var.0) (at_fourth (λ i. 2 < i) var.1 var.2)
-  role_says bits tells Component fault =
+      is_role roles.Linkage Linkage ((each.tail low).var var.0) (at_fourth (λ i. 2 < i) var.1 var.2)
+  role_says bits each Component fault =
       let low : 3 ≤ j = omega (arith, fault.1) in
-      is_role roles.Component Component ((tells.tail low).tag fault.0)
+      is_role roles.Component Component ((each.tail low).tag fault.0)
       (at_fourth (λ i. i ≢ 0xffffffff) fault.1 fault.2, at_fourth (λ i. IsFalse (component_fits types (third_word frame) i)) fault.1 fault.3)
-  role_says bits tells c fault = absurd fault
+  role_says bits each c fault = absurd fault
 
 -- ---- and back
 
@@ -248,17 +248,17 @@ module _ (strings : List ℕ) (types : List TypeFacts) (frame : List ℕ) (b : B
   unfolding tail_words
   room none = let size = is_frame.size in omega arith
 
-  item_name_field : IsTrue (has_item_names (kind frame)) → 3 ≤ j → part (kind frame) j ≡ 0 → (n : ℕ) × IsNameField frame n j
+  item_name_field : IsTrue (has_item_names (kind frame)) → 3 ≤ j → word_in_item (kind frame) j ≡ 0 → (n : ℕ) × IsNameField frame n j
   item_name_field named past first =
       let at = item_word (kind frame) (vlen frame) 0 j (item_size (kind frame) named) past (room (named_fixed (kind frame) named)) first in
       (suc at.k, (named, (at.low, at.at)))
 
-  member_field : (m : ℕ) → IsTrue (is_struct (kind frame)) → 3 ≤ j → part (kind frame) j ≡ m → IsMemberWord frame m j
+  member_field : (m : ℕ) → IsTrue (is_struct (kind frame)) → 3 ≤ j → word_in_item (kind frame) j ≡ m → IsMemberWord frame m j
   member_field m struct past is =
       let at = item_word (kind frame) (vlen frame) m j (inr (struct_size (kind frame) struct)) past (room (struct_fixed (kind frame) struct)) is in
       (struct, at.k, (at.low, at.at))
 
-  place_part : IsTrue (is_struct (kind frame)) → 1 < part (kind frame) j → part (kind frame) j ≡ 2
+  place_part : IsTrue (is_struct (kind frame)) → 1 < word_in_item (kind frame) j → word_in_item (kind frame) j ≡ 2
   place_part struct past = let three = struct_size (kind frame) struct in rw three (let more : 1 < (j - 3) % 3 = rw three at past in omega arith)
 
   fourth : (κ : ℕ) → kind frame ≡ κ → 3 + tail_words κ (vlen frame) ≡ 4 → 3 ≤ j → j ≡ 3
@@ -270,7 +270,7 @@ module _ (strings : List ℕ) (types : List TypeFacts) (frame : List ℕ) (b : B
   one_word κ (inr (inl e)) = rw e (omega arith)
   one_word κ (inr (inr e)) = rw e (omega arith)
 
-  named_field : 3 ≤ j → PartIs (kind frame) (part (kind frame) j) roles.NamedType → IsTypeField frame j
+  named_field : 3 ≤ j → PartIs (kind frame) (word_in_item (kind frame) j) roles.NamedType → IsTypeField frame j
   unfolding fixed_words
   named_field past (inl array) =
       let none = array_size (kind frame) array.0 in
@@ -278,7 +278,7 @@ module _ (strings : List ℕ) (types : List TypeFacts) (frame : List ℕ) (b : B
       inr (inl (array.0, elim (cases_lt j 4) [ inl lt ↦ inl (omega arith) | inr le ↦ inr (omega arith) ]))
   named_field past (inr (inl param)) =
       let two = proto_size (kind frame) param.0 in
-      let first : part (kind frame) j ≡ 1 = rw two (let more : 0 < (j - 3) % 2 = rw two at param.1 in omega arith) in
+      let first : word_in_item (kind frame) j ≡ 1 = rw two (let more : 0 < (j - 3) % 2 = rw two at param.1 in omega arith) in
       let at = item_word (kind frame) (vlen frame) 1 j (inl two) past (room (rw param.0 refl)) first in
       inr (inr (inl (rw param.0 refl, at.k, (at.low, at.at))))
   named_field past (inr (inr entry)) =
@@ -333,25 +333,25 @@ module _ (strings : List ℕ) (types : List TypeFacts) (frame : List ℕ) (b : B
   role_holds role is c fault = absurd fault
 
   -- a role's judge is the word's
-  word_judged : (role : Role) (r : Option BtfCause) → RoleIs (kind frame) j role → RoleTells (kind frame) j role
+  word_judged : (role : Role) (r : Option BtfCause) → RoleIs (kind frame) j role → HasRole (kind frame) j role
       → MatchOption r (NoCause (WordRoleFault strings types frame b j role)) (λ c. LeastCause (WordRoleFault strings types frame b j role) c)
       → MatchOption r (NoCause (WordFault strings types frame j)) (λ c. LeastCause (WordFault strings types frame j) c)
-  word_judged role r is tells judged =
+  word_judged role r is each judged =
       judged_same (WordRoleFault strings types frame b j role) (WordFault strings types frame j) r
-      (role_holds role is) (role_says strings types frame b j role bits tells) judged
+      (role_holds role is) (role_says strings types frame b j role bits each) judged
 
 abbrev pub HeldFault : Section → Record → ℕ → Role → BtfCause → Type 0
 HeldFault s r word role c = RoleFault s.file.strings.now (facts_in s) r.kind r.vlen r.flag r.third r.bit_fields word role c
 
 -- the same on the numbers that are kept of a record
 pub judged : {s : Section} {r : Record} {j word : ℕ} (role : Role) (result : Option BtfCause) → RecordIs s r → j < r.words
-    → word ≡ slice_index (frame_at s.file.order s.file.types.now r.pos) j → RoleIs r.kind j role → RoleTells r.kind j role
+    → word ≡ slice_index (frame_at s.file.order s.file.types.now r.pos) j → RoleIs r.kind j role → HasRole r.kind j role
     → MatchOption result (NoCause (HeldFault s r word role)) (λ c. LeastCause (HeldFault s r word role) c)
     → MatchOption result (NoCause (WordFault s.file.strings.now (facts_in s) (frame_at s.file.order s.file.types.now r.pos) j)) (λ c. LeastCause (WordFault s.file.strings.now (facts_in s) (frame_at s.file.order s.file.types.now r.pos) j) c)
-judged {s} {r} {j} {word} role result is there word-is role-is tells held =
+judged {s} {r} {j} {word} role result is there word-is role-is each held =
     let f = frame_at s.file.order s.file.types.now r.pos in
-    word_judged s.file.strings.now (facts_in s) f r.bit_fields j is.stands.frame is.bit_fields_are (rw (← is.words_are) there) role result
-    (rw (← is.kind_is) role-is) (rw (← is.kind_is) tells)
+    word_judged s.file.strings.now (facts_in s) f r.bit_fields j is.is_there.frame is.bit_fields_are (rw (← is.words_are) there) role result
+    (rw (← is.kind_is) role-is) (rw (← is.kind_is) each)
     (judged_same (HeldFault s r word role) (WordRoleFault s.file.strings.now (facts_in s) f r.bit_fields j role) result
     (λ d h. rw (← is.kind_is, ← is.vlen_is, ← is.flag_is, ← is.third_is, ← word-is) h)
     (λ d h. rw (is.kind_is, is.vlen_is, is.flag_is, is.third_is, word-is) h) held)

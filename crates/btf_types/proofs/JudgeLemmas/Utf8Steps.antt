@@ -5,14 +5,14 @@ use Rattle.std.proofs.lemmas.Bool.{cases_lt}
 use Rattle.std.proofs.lemmas.List.{length-drop, length-take-le, get_or-drop, get_or_append_left, take-append-le}
 use Rattle.std.proofs.lemmas.Str.{IsUtf8-append, IsUtf8-take, IsUtf8-drop, IsUtf8-between, IsCharBoundary-start, IsCharBoundary-before_ascii}
 use Rattle.btf_raw.specs.Names.{TextAt}
-use Rattle.btf_raw.proofs.Texts.{text_behind}
+use Rattle.btf_raw.proofs.Texts.{text_after}
 use Rattle.btf_types.specs.judge.Texts.{BeginsChar, IsNextChar}
 
 -- ---- a text in its section
 
 pub text_end : (s : List ℕ) (at : ℕ) (text : List ℕ) → TextAt s at text → at + length text < length s
 text_end s at text t =
-    omega (arith, t.place, ap length t.stands, length-append (t.before ++ text) (0 ∷ t.after), length-append t.before text)
+    omega (arith, t.place, ap length t.is_there, length-append (t.before ++ text) (0 ∷ t.after), length-append t.before text)
 
 -- from a place inside it on it is a text too
 pub tail_text : (s : List ℕ) (at o : ℕ) (text : List ℕ) → TextAt s at text → o ≤ length text → TextAt s (at + o) (drop o text)
@@ -21,11 +21,11 @@ tail_text s at o text t low = record {
   before = t.before ++ take o text;
   after = t.after;
   place = omega (arith, t.place, length-append t.before (take o text), length-take-le o text low);
-  stands = t.stands ∙ ap (λ (x : List ℕ). (t.before ++ x) ++ 0 ∷ t.after) (sym (take-append-drop o text)) ∙ ap (λ (x : List ℕ). x ++ 0 ∷ t.after) (sym (append_assoc t.before (take o text) (drop o text)));
+  is_there = t.is_there ∙ ap (λ (x : List ℕ). (t.before ++ x) ++ 0 ∷ t.after) (sym (take-append-drop o text)) ∙ ap (λ (x : List ℕ). x ++ 0 ∷ t.after) (sym (append_assoc t.before (take o text) (drop o text)));
 }
 
 pub byte_of_text : (s : List ℕ) (at : ℕ) (text : List ℕ) (t : TextAt s at text) (i : ℕ) → get_or s (at + i) 0 ≡ get_or (text ++ 0 ∷ t.after) i 0
-byte_of_text s at text t i = sym (get_or-drop at s i 0) ∙ ap (λ (x : List ℕ). get_or x i 0) (text_behind s at text t)
+byte_of_text s at text t i = sym (get_or-drop at s i 0) ∙ ap (λ (x : List ℕ). get_or x i 0) (text_after s at text t)
 
 end_of_text : (s : List ℕ) (at : ℕ) (text : List ℕ) → TextAt s at text → get_or s (at + length text) 0 ≡ 0
 end_of_text s at text t = byte_of_text s at text t (length text) ∙ seam text
@@ -63,7 +63,7 @@ begins_with_char s at text t utf8 high = elim (cases_lt 0 (length text)) [
 -- ---- a section that is UTF-8 as a whole
 
 text_is_part : (s : List ℕ) (at : ℕ) (text : List ℕ) → TextAt s at text → take (length text) (drop at s) ≡ text
-text_is_part s at text t = ap (λ (x : List ℕ). take (length text) x) (text_behind s at text t) ∙ front text
+text_is_part s at text t = ap (λ (x : List ℕ). take (length text) x) (text_after s at text t) ∙ front text
   where
     front : (x : List ℕ) → take (length x) (x ++ 0 ∷ t.after) ≡ x
     front [] = refl
@@ -104,9 +104,9 @@ reaches s at next rest text is some t = elim (cases_lt (length text) (next - at)
       ]
 ]
 
--- what stands before the next place is the front of the text
+-- the bytes before the next place are the front of the text
 front_of_text : (s : List ℕ) (at n : ℕ) (text : List ℕ) → TextAt s at text → n ≤ length text → take n (drop at s) ≡ take n text
-front_of_text s at n text t low = ap (λ (x : List ℕ). take n x) (text_behind s at text t) ∙ take-append-le n text (0 ∷ t.after) low
+front_of_text s at n text t low = ap (λ (x : List ℕ). take n x) (text_after s at text t) ∙ take-append-le n text (0 ∷ t.after) low
 
 -- the text may be cut there
 edge_of_text : (s : List ℕ) (at next : ℕ) (rest : Bool) (text : List ℕ) → IsNextChar s at next rest → next < length s → TextAt s at text → next - at ≤ length text → IsCharBoundary text (next - at)
@@ -130,14 +130,14 @@ front_and_rest s at next rest text is inside some t =
     let edge = edge_of_text s at next rest text is inside t low in
     let front = front_of_text s at n text t low in
     let sum : at + n ≡ next = omega arith in
-    let behind : TextAt s next (drop n text) = subst (λ (i : ℕ). TextAt s i (drop n text)) sum (tail_text s at n text t low) in
-    let goes_on = is.rest_is (drop n text) behind in (
+    let rest : TextAt s next (drop n text) = subst (λ (i : ℕ). TextAt s i (drop n text)) sum (tail_text s at n text t low) in
+    let goes_on = is.rest_is (drop n text) rest in (
       λ both. subst (λ (x : List ℕ). IsUtf8 x) (take-append-drop n text)
           (IsUtf8-append (take n text) (drop n text) (subst (λ (x : List ℕ). IsUtf8 x) front both.0) (goes_on.0 both.1)),
       λ utf8. (subst (λ (x : List ℕ). IsUtf8 x) (sym front) (IsUtf8-take text n utf8 edge), goes_on.1 (IsUtf8-drop text n utf8 edge)),
     )
 
--- a call that tells whether bytes are UTF-8
-pub ok_tells : {X E P : Type 0} (A : X → Type 0) (r : Result X E) → MatchResult r (λ x. A x × P) (λ _. ¬ P) → (is_ok r ≡ true) ↔ P
-ok_tells A (Ok x) told = (λ ok. told.1, λ p. refl)
-ok_tells A (Err e) told = (λ ok. absurd cc, λ p. absurd (told p))
+-- a call that is Ok exactly where bytes are UTF-8
+pub ok_where : {X E P : Type 0} (A : X → Type 0) (r : Result X E) → MatchResult r (λ x. A x × P) (λ _. ¬ P) → (is_ok r ≡ true) ↔ P
+ok_where A (Ok x) known = (λ ok. known.1, λ p. refl)
+ok_where A (Err e) known = (λ ok. absurd cc, λ p. absurd (known p))

@@ -1,4 +1,4 @@
--- The first word of a record with a fault, behind words without one.
+-- The first word of a record with a fault, after words without one.
 use Rattle.std.proofs.Common.{◌≡◌, ℕ, ◌+◌, ◌<◌, List, length, sym, subst, inl, inr, arith}
 use Rattle.std.proofs.lemmas.Bool.{cases_lt}
 use Rattle.btf_raw.specs.declared.cause.BtfCause.{BtfCause}
@@ -6,7 +6,7 @@ use Rattle.btf_types.specs.judge.Checks.{TypeFacts, LeastCause, NoCause}
 use Rattle.btf_types.specs.judge.RecordFaults.{LeastOfRecord}
 use Rattle.btf_types.specs.judge.FieldFaults.{WordFault}
 
--- the first word with a fault, behind words that have none
+-- the first word with a fault, after words that have none
 pub least_at_word : (strings : List ℕ) (types : List TypeFacts) (frame : List ℕ) (word : ℕ) (c : BtfCause) → word < length frame
     → ((j : ℕ) (d : BtfCause) → j < word → ¬ WordFault strings types frame j d)
     → LeastCause (WordFault strings types frame word) c → LeastOfRecord strings types frame word c

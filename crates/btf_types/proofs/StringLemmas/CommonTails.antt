@@ -1,4 +1,4 @@
--- Common tails tell which texts end with which, and so the hosts among texts in the order of their tails.
+-- Common suffixes determine which texts end with which, and so the hosts among texts sorted by reversed bytes.
 use Rattle.std.proofs.Common.{◌≡◌, ℕ, zero, suc, ◌+◌, ◌-◌, ◌<◌, ◌≤◌, true, false, eqb, inl, inr, List, [], ◌∷◌, ◌++◌, length, get_or, refl, sym, ap, ◌∙◌, subst, arith}
 use Rattle.std.specs.Prelude.{reverse}
 use Rattle.std.specs.Ordering.{is_lt}
@@ -10,11 +10,11 @@ use Rattle.std.proofs.lemmas.Cmp.{tied_itself}
 use Rattle.std.proofs.lemmas.List.{reverse-append, reverse-reverse, length-reverse, get_or_default}
 use Rattle.std.proofs.lemmas.List.Sorted.{sorted_far}
 use Rattle.btf_types.specs.strings.SharedNames.{is_suffix, tail_cmp, hosts_of, host_in, least_by_tail}
-use Rattle.btf_types.specs.strings.CommonTails.{common_front, common_tail, SuffixByTail, AreInTailOrder, RanksAreTogether, IsFirstRank, IsNextHost, FirstRankEnds, RankTellsHost}
+use Rattle.btf_types.specs.strings.CommonTails.{common_front, common_tail, SuffixByTail, AreInTailOrder, RanksAreTogether, IsFirstRank, IsNextHost, FirstRankEnds, RankHasHost}
 use Rattle.btf_types.proofs.Members.{Has, Has-get_or, Has-filter, Has-from_filter, Has-from_Contains, Contains-from_Has}
 use Rattle.btf_types.proofs.StringLemmas.Texts.{same_text, bytes_eq-same}
 use Rattle.btf_types.proofs.StringLemmas.Suffixes.{Ends, Ends-refl, Ends-trans, Ends-same_length, Ends-from_suffix, suffix_from_Ends, Ends-from_proper, proper_from_Ends}
-use Rattle.btf_types.proofs.StringLemmas.Hosts.{tail_lt, tail_ranks, tail_total, least_is, host_tells, host_member}
+use Rattle.btf_types.proofs.StringLemmas.Hosts.{tail_lt, tail_ranks, tail_total, least_is, host_ends_none, host_member}
 use Rattle.btf_types.proofs.StringLemmas.TailOrder.{Ends-between, Ends-below, tail_tie}
 use Rattle.btf_types.proofs.StringLemmas.Longest.{host_from}
 
@@ -37,7 +37,7 @@ front_turned (a ∷ x) (b ∷ y) = elim (cases_eq a b) [
   | inr n ↦ front_other a b x y n ∙ sym (front_other b a y x (λ e. n (sym e)))
 ]
 
--- what begins a list begins those that have as much in common with it
+-- a prefix of a list is one of each list that has that many elements in common with it
 begins_through : (p n z : List ℕ) → length p ≤ common_front (p ++ n) z → Begins p z
 begins_through [] n z h = (z, refl)
 begins_through (a ∷ p) n [] h = absurd (omega (arith, h))
@@ -139,7 +139,7 @@ module _ (sorted : List (List ℕ)) (in_order : IsSorted tail_cmp sorted) where
   passed_end (suc n) j l r e low p =
       Ends-trans (at j) (at (j + 1)) (at r) (Ends-from_suffix _ _ (p j low (omega (arith, e)))) (passed_end n (j + 1) l r (omega (arith, e)) (omega (arith, low)) p)
 
-  -- what ends longer texts stands before them
+  -- a text comes before the longer texts that it ends
   later : (k j : ℕ) → k < length sorted → Ends (at k) (at j) → length (at k) < length (at j) → k < j
   later k j h e l = elim (cases_lt k j) [
     | inl m ↦ m
@@ -185,7 +185,7 @@ module _ (ks sorted : List (List ℕ)) (order : AreInTailOrder ks sorted) where
             let ends : Ends h g = subst (λ (t : List ℕ). Ends t g) at_h.2 (to_g at_h.0 from (omega (arith, before))) in
             elim (cases_Bool (bytes_eq h g)) [
               | inl t ↦ same_text h g t
-              | inr f ↦ absurd (host_tells ks h g parts.0 (member r next.inside) (proper_from_Ends h g ends (λ q. both_ways (bytes_eq h g) f (ap (bytes_eq h) (sym q) ∙ bytes_eq-same h))))
+              | inr f ↦ absurd (host_ends_none ks h g parts.0 (member r next.inside) (proper_from_Ends h g ends (λ q. both_ways (bytes_eq h g) f (ap (bytes_eq h) (sym q) ∙ bytes_eq-same h))))
             ]
       ]
 
@@ -199,5 +199,5 @@ first_rank_ends sorted up x l k inside t f = record {
   first = λ j h u. first_of sorted up x l k inside (Ends-from_suffix x _ t) f j (Ends-from_suffix x _ u);
 }
 
-pub rank_tells_host : (ks sorted : List (List ℕ)) → RankTellsHost ks sorted
-rank_tells_host ks sorted order x l k r inside t first next = rank_host ks sorted order x l k r inside (Ends-from_suffix x _ t) first next
+pub rank_has_host : (ks sorted : List (List ℕ)) → RankHasHost ks sorted
+rank_has_host ks sorted order x l k r inside t first next = rank_host ks sorted order x l k r inside (Ends-from_suffix x _ t) first next

@@ -29,7 +29,7 @@ NoRepeats-distinct (x ∷ xs) =
 pub NoRepeats-kept : (xs : List (List ℕ)) → NoRepeats (kept xs)
 NoRepeats-kept xs = NoRepeats-filter is_some_text (distinct xs) (NoRepeats-distinct xs)
 
--- how often x stands in a list: once in one without repeats, and as often after a permutation
+-- how often x is in a list: once in one without repeats, and equally often after a permutation
 abbrev here : List ℕ → List ℕ → ℕ
 here x y = cond (bytes_eq x y) 1 0
 

@@ -25,8 +25,8 @@ pub tail_ranks : IsStrictWeakOrder tail_lt
 tail_ranks = ranks_by tail_total (λ x. x)
 
 -- a host is a text that no other text ends with
-pub host_tells : (ks : List (List ℕ)) (h z : List ℕ) → Has (hosts_of ks) h → Has ks z → is_proper_suffix h z ≡ true → ⊥
-host_tells ks h z i k t =
+pub host_ends_none : (ks : List (List ℕ)) (h z : List ℕ) → Has (hosts_of ks) h → Has ks z → is_proper_suffix h z ≡ true → ⊥
+host_ends_none ks h z i k t =
     let passes = (Has-from_filter (λ x. not (list_any (is_proper_suffix x) ks)) ks h i).1 in
     both_ways (list_any (is_proper_suffix h) ks) (not-true _ passes) (any_from_Has (is_proper_suffix h) ks z k t)
 
@@ -36,9 +36,9 @@ host_member ks h i = (Has-from_filter (λ x. not (list_any (is_proper_suffix x) 
 -- two hosts that end one text are one
 pub hosts_apart : (ks : List (List ℕ)) (h g s : List ℕ) → Has (hosts_of ks) h → Has (hosts_of ks) g → Ends h s → Ends g s → h ≡ g
 hosts_apart ks h g s i j e f = elim (cases_lt (length h) (length g)) [
-  | inl l ↦ absurd (host_tells ks h g i (host_member ks g j) (proper_from_Ends h g (Ends-shorter h g s e f (omega (arith, l))) (λ q. omega (arith, l, ap length q))))
+  | inl l ↦ absurd (host_ends_none ks h g i (host_member ks g j) (proper_from_Ends h g (Ends-shorter h g s e f (omega (arith, l))) (λ q. omega (arith, l, ap length q))))
   | inr l ↦ elim (cases_lt (length g) (length h)) [
-    | inl m ↦ absurd (host_tells ks g h j (host_member ks h i) (proper_from_Ends g h (Ends-shorter g h s f e l) (λ q. omega (arith, m, ap length q))))
+    | inl m ↦ absurd (host_ends_none ks g h j (host_member ks h i) (proper_from_Ends g h (Ends-shorter g h s f e l) (λ q. omega (arith, m, ap length q))))
     | inr m ↦ Ends-same_length g h (Ends-shorter g h s f e l) m
   ]
 ]

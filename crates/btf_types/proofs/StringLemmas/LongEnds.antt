@@ -66,7 +66,7 @@ rising_more strings ends at end are le j k jk h =
 among_more : (ends : List ℕ) (end x : ℕ) → IsAmong ends x → IsAmong (ends ++ end ∷ []) x
 among_more ends end x (k, lt, e) = (k, omega (arith, length-append ends (end ∷ [])), get_or-append ends (end ∷ []) 0 k lt ∙ e)
 
--- the next NUL behind a place is one end more
+-- the next NUL after a place is one end more
 pub one_end_more : (strings ends : List ℕ) (at end : ℕ) → AreLongEndsTo strings ends at → HasNulNear strings at → IsEnd strings at end → AreLongEndsTo strings (ends ++ end ∷ []) (end + 1)
 one_end_more strings ends at end are gap is = record {
   inside = one_more ends end (λ x. x < end + 1) (λ k h. let i = are.inside k h in omega (arith, is.from)) (omega arith);
@@ -84,8 +84,8 @@ one_end_more strings ends at end are gap is = record {
       ];
 }
 
-pub nul_behind : (strings : List ℕ) (at end : ℕ) → IsEnd strings at end → HasNulNear strings (end + 1)
-nul_behind strings at end is = inr (end, omega arith, omega arith, is.nul)
+pub nul_after : (strings : List ℕ) (at end : ℕ) → IsEnd strings at end → HasNulNear strings (end + 1)
+nul_after strings at end is = inr (end, omega arith, omega arith, is.nul)
 
 -- where the next bytes have no NUL, the first of the ends from the offset on is the end
 pub end_among : (strings ends : List ℕ) (offset end k : ℕ) → AreLongEnds strings ends → IsEnd strings offset end → offset + 128 ≤ end
@@ -183,6 +183,6 @@ ends_part strings ends offset i j d are low high h =
     let below = ltb-true _ _ h in
     lt-ltb _ _ (omega arith)
 
--- what stands up to the end is the text
+-- the bytes up to the end are the text
 pub text_to_end : (strings : List ℕ) (offset end : ℕ) (text : List ℕ) → TextAt strings offset text → IsEnd strings offset end → take (end - offset) (drop offset strings) ≡ text
 text_to_end strings offset end text there is = TextAt-unique strings offset (take (end - offset) (drop offset strings)) text (TextAt-end strings offset end is) there

@@ -1,15 +1,15 @@
--- The hosts of texts are those of the longest of them, of which each text ends one.
+-- The hosts of texts are those of the longest of them: each text ends one of these.
 use Rattle.std.proofs.Common.{◌≡◌, ℕ, ◌<◌, Bool, true, false, not, inl, inr, List, [], ◌∷◌, length, refl, sym, ap, ◌∙◌, subst, arith}
 use Rattle.std.specs.List.{filter, list_any}
 use Rattle.std.specs.Str.{bytes_eq}
 use Rattle.std.proofs.lemmas.Bool.{both_ways, cases_Bool, false_from_ne_true}
 use Rattle.btf_types.specs.Names.{kept, is_some_text, distinct}
 use Rattle.btf_types.specs.strings.SharedNames.{is_suffix, is_proper_suffix, hosts_of, hosts, host_in, least_by_tail}
-use Rattle.btf_types.specs.strings.LongestTexts.{AreLongest, LongestTellHosts, HostsByFirstUse, LongestTellHost}
+use Rattle.btf_types.specs.strings.LongestTexts.{AreLongest, LongestHaveHosts, HostsByFirstUse, LongestHaveHost}
 use Rattle.btf_types.proofs.Members.{Has, Has-filter, Has-from_filter, any_from_Has, Has_from_any, Has-from_Contains, Contains-from_Has}
 use Rattle.btf_types.proofs.StringLemmas.Texts.{same_text, bytes_eq-same, Has-kept, Has-from_kept}
 use Rattle.btf_types.proofs.StringLemmas.Suffixes.{Ends, Ends-length, Ends-from_suffix, Ends-trans, Ends-from_proper, proper_from_Ends}
-use Rattle.btf_types.proofs.StringLemmas.Hosts.{least_is, host_tells, host_member}
+use Rattle.btf_types.proofs.StringLemmas.Hosts.{least_is, host_ends_none, host_member}
 use Rattle.btf_types.proofs.StringLemmas.TailOrder.{tail_tie}
 
 pub Has-kept_some : (xs : List (List ℕ)) (x : List ℕ) → Has xs x → 0 < length x → Has (kept xs) x
@@ -73,15 +73,15 @@ module _ (xs longest : List (List ℕ)) (are : AreLongest xs longest) where
       let e = kept_each h (host_member (kept xs) h i) in
       let same : h ≡ e.0 = elim (cases_Bool (bytes_eq h e.0)) [
         | inl t ↦ same_text h e.0 t
-        | inr f ↦ absurd (host_tells (kept xs) h e.0 i (kept_among e.0 e.1) (proper_from_Ends h e.0 e.2 (λ q. both_ways (bytes_eq h e.0) f (ap (bytes_eq h) (sym q) ∙ bytes_eq-same h))))
+        | inr f ↦ absurd (host_ends_none (kept xs) h e.0 i (kept_among e.0 e.1) (proper_from_Ends h e.0 e.2 (λ q. both_ways (bytes_eq h e.0) f (ap (bytes_eq h) (sym q) ∙ bytes_eq-same h))))
       ] in
-      host_from (kept longest) h (subst (Has (kept longest)) (sym same) e.1) (λ z k t. host_tells (kept xs) h z i (kept_among z k) t)
+      host_from (kept longest) h (subst (Has (kept longest)) (sym same) e.1) (λ z k t. host_ends_none (kept xs) h z i (kept_among z k) t)
 
   pub host_here : (h : List ℕ) → Has (hosts longest) h → Has (hosts xs) h
   host_here h i = host_from (kept xs) h (kept_among h (host_member (kept longest) h i)) (λ z k t.
       let e = kept_each z k in
       let p = Ends-from_proper h z t in
-      host_tells (kept longest) h e.0 i e.1 (proper_from_Ends h e.0 (Ends-trans h z e.0 p.0 e.2) (λ q. omega (arith, p.1, Ends-length z e.0 e.2, ap length q))))
+      host_ends_none (kept longest) h e.0 i e.1 (proper_from_Ends h e.0 (Ends-trans h z e.0 p.0 e.2) (λ q. omega (arith, p.1, Ends-length z e.0 e.2, ap length q))))
 
   pub hosts_by_use : hosts xs ≡ filter (λ x. list_any (bytes_eq x) (hosts longest)) (kept xs)
   hosts_by_use = filter_same (λ x. not (list_any (is_proper_suffix x) (kept xs))) (λ x. list_any (bytes_eq x) (hosts longest)) (kept xs) (λ x i. same_tests _ _
@@ -90,8 +90,8 @@ module _ (xs longest : List (List ℕ)) (are : AreLongest xs longest) where
       let h = Has_from_any (bytes_eq x) (hosts longest) t in
       (Has-from_filter (λ y. not (list_any (is_proper_suffix y) (kept xs))) (kept xs) x (host_here x (subst (Has (hosts longest)) (sym (same_text x h.0 h.2)) h.1))).1))
 
-pub longest_tell_hosts : (xs longest : List (List ℕ)) → LongestTellHosts xs longest
-longest_tell_hosts xs longest are = record {
+pub longest_have_hosts : (xs longest : List (List ℕ)) → LongestHaveHosts xs longest
+longest_have_hosts xs longest are = record {
   here = λ z c. Contains-from_Has (hosts longest) z (host_there xs longest are z (Has-from_Contains (hosts xs) z c));
   there = λ z c. Contains-from_Has (hosts xs) z (host_here xs longest are z (Has-from_Contains (hosts longest) z c));
 }
@@ -99,5 +99,5 @@ longest_tell_hosts xs longest are = record {
 pub hosts_by_first_use : (xs longest : List (List ℕ)) → HostsByFirstUse xs longest
 hosts_by_first_use xs longest are = hosts_by_use xs longest are
 
-pub longest_tell_host : (xs longest : List (List ℕ)) → LongestTellHost xs longest
-longest_tell_host xs longest are x = host_in_same (hosts xs) (hosts longest) x (host_there xs longest are) (host_here xs longest are)
+pub longest_have_host : (xs longest : List (List ℕ)) → LongestHaveHost xs longest
+longest_have_host xs longest are x = host_in_same (hosts xs) (hosts longest) x (host_there xs longest are) (host_here xs longest are)

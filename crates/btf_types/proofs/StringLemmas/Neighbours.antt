@@ -1,4 +1,4 @@
--- The texts in order from the end: a text that another ends with tells it by the next one alone.
+-- The texts sorted by reversed bytes: whether a text ends another depends on the next one alone.
 use Rattle.std.proofs.Common.{◌≡◌, ◌≢◌, ℕ, ◌+◌, ◌<◌, true, false, inl, inr, List, length, get_or, sym, ap, ◌∙◌, subst, arith}
 use Rattle.std.specs.List.{list_any}
 use Rattle.std.specs.List.Sorted.{IsPermutation, IsSorted}
@@ -8,12 +8,12 @@ use Rattle.std.proofs.lemmas.List.Sorted.{sorted_far, Contains-permutation, IsPe
 use Rattle.btf_types.specs.strings.SharedNames.{is_proper_suffix, tail_cmp, hosts_of, host_in}
 use Rattle.btf_types.proofs.Members.{Has, Has-get_or, Has-from_Contains, Contains-from_Has, Has_from_any}
 use Rattle.btf_types.proofs.StringLemmas.Suffixes.{Ends, Ends-trans, Ends-from_proper, proper_from_Ends}
-use Rattle.btf_types.proofs.StringLemmas.Hosts.{tail_lt, tail_ranks, host_is, host_tells, host_member, own_host_of}
+use Rattle.btf_types.proofs.StringLemmas.Hosts.{tail_lt, tail_ranks, host_is, host_ends_none, host_member, own_host_of}
 use Rattle.btf_types.proofs.StringLemmas.TailOrder.{Ends-between, Ends-below, tail_tie}
 use Rattle.btf_types.proofs.StringLemmas.Distinct.{NoRepeats, apart_after}
 
 module _ (ks sorted : List (List ℕ)) (distinct : NoRepeats ks) (perm : IsPermutation ks sorted) (in_order : IsSorted tail_cmp sorted) where
-  -- where a kept name stands in the sorted ones
+  -- where a kept name is among the sorted ones
   place_of : (z d : List ℕ) → Has ks z → (j : ℕ) × (j < length sorted) × (get_or sorted j d ≡ z)
   place_of z d h =
       let c = Contains-permutation ks sorted z perm (Contains-from_Has ks z h) in
@@ -22,7 +22,7 @@ module _ (ks sorted : List (List ℕ)) (distinct : NoRepeats ks) (perm : IsPermu
   member : (k : ℕ) (d : List ℕ) → k < length sorted → Has ks (get_or sorted k d)
   member k d h = Has-from_Contains ks _ (Contains-permutation sorted ks _ (IsPermutation-sym ks sorted perm) (Contains-from_Has sorted _ (Has-get_or sorted k d h)))
 
-  -- what a text ends properly stands after it
+  -- the texts that a text ends properly come after it
   later : (k j : ℕ) (d : List ℕ) → k < length sorted → Ends (get_or sorted k d) (get_or sorted j d) → length (get_or sorted k d) < length (get_or sorted j d) → k < j
   later k j d h e l = elim (cases_lt k j) [
     | inl m ↦ m
@@ -53,7 +53,7 @@ module _ (ks sorted : List (List ℕ)) (distinct : NoRepeats ks) (perm : IsPermu
       let g = host_in (hosts_of ks) w in
       let xw = Ends-from_proper x w proper in
       let at = place_of h d (host_member ks h mine.host) in
-      let other : x ≢ h = λ q. host_tells ks h w mine.host has_w (subst (λ (t : List ℕ). is_proper_suffix t w ≡ true) q proper) in
+      let other : x ≢ h = λ q. host_ends_none ks h w mine.host has_w (subst (λ (t : List ℕ). is_proper_suffix t w ≡ true) q proper) in
       let at_h : Ends x (get_or sorted at.0 d) = subst (Ends x) (sym at.2) mine.ends in
       let longer : length x < length h = (Ends-from_proper x h (proper_from_Ends x h mine.ends other)).1 in
       let l : k < at.0 = later k at.0 d (omega (arith, next)) at_h (omega (arith, longer, ap length at.2)) in

@@ -11,7 +11,7 @@ use Rattle.btf_raw.specs.Names.{IsWithoutNul, TextAt}
 use Rattle.btf_types.specs.Names.{IsName, with_nul, place_in, kept}
 use Rattle.btf_raw.specs.Header.{HasNulEnds}
 use Rattle.btf_types.specs.strings.SharedNames.{hosts, host, shared_table, shared_place}
-use Rattle.btf_types.specs.strings.TableLaws.{SharedPlacesStand, IsCutInto, StandsIn, SectionsAreCut, NamesEndStrings, HostsEndApart, SharedIsShortest, NextTellsHost, TableLength, HostIsLeast, HostIsOne}
+use Rattle.btf_types.specs.strings.TableLaws.{SharedPlacesHold, IsCutInto, HasName, SectionsAreCut, NamesEndStrings, HostsEndApart, SharedIsShortest, NextHasHost, TableLength, HostIsLeast, HostIsOne}
 use Rattle.btf_types.proofs.Members.{Has, Has-get_or, Has-from_Contains, Contains-from_Has}
 use Rattle.btf_types.proofs.StringLemmas.Texts.{text_at_place, empty_at_zero, tail_at, Has-kept, Has-from_kept}
 use Rattle.btf_types.proofs.StringLemmas.Suffixes.{Ends, Ends-length, Ends-from_suffix, suffix_from_Ends}
@@ -23,9 +23,9 @@ use Rattle.btf_types.proofs.StringLemmas.Neighbours.{next_ends, next_host}
 use Rattle.btf_types.proofs.StringLemmas.Sections.{texts, ends_string, cut, fits}
 
 -- the place of a text at the end of its host
-shared_place_stands : (xs : List (List ℕ)) (x : List ℕ) → ((z : List ℕ) → Has xs z → IsWithoutNul z) → Has xs x → TextAt (shared_table xs) (shared_place xs x) x
-shared_place_stands xs [] n h = empty_at_zero (hosts xs)
-shared_place_stands xs (b ∷ bytes) n h =
+shared_place_holds : (xs : List (List ℕ)) (x : List ℕ) → ((z : List ℕ) → Has xs z → IsWithoutNul z) → Has xs x → TextAt (shared_table xs) (shared_place xs x) x
+shared_place_holds xs [] n h = empty_at_zero (hosts xs)
+shared_place_holds xs (b ∷ bytes) n h =
     let x : List ℕ = b ∷ bytes in
     let its = host_is (kept xs) x (Has-kept xs b bytes h) in
     let y = host xs x in
@@ -36,9 +36,9 @@ shared_place_stands xs (b ∷ bytes) n h =
     let same : length front ≡ length y - length x = omega (arith, length-append front x, ap length its.ends.1) in
     subst (λ (m : ℕ). TextAt (shared_table xs) (place_in (hosts xs) y + m) x) same at_end
 
-pub shared_places : (xs : List (List ℕ)) → SharedPlacesStand xs
+pub shared_places : (xs : List (List ℕ)) → SharedPlacesHold xs
 shared_places xs good = λ k d h. record {
-  text = shared_place_stands xs (get_or xs k d) (λ z i. (All-contains IsName xs z good (Contains-from_Has xs z i)).without_nul) (Has-get_or xs k d h);
+  text = shared_place_holds xs (get_or xs k d) (λ z i. (All-contains IsName xs z good (Contains-from_Has xs z i)).without_nul) (Has-get_or xs k d h);
   utf8 = (good k d h).utf8;
 }
 
@@ -67,29 +67,29 @@ sections_are_cut section ends =
       },
     )
 
-names_end : (section : List ℕ) (strings : List (List ℕ)) → IsCutInto section strings → (x : List ℕ) → StandsIn section x → (s : List ℕ) × Has strings s × Ends x s
-names_end section strings into x (offset, at) = ends_string strings at.text.before x at.text.after into.without_nul at.text.without_nul (sym at.text.stands ∙ into.whole)
+names_end : (section : List ℕ) (strings : List (List ℕ)) → IsCutInto section strings → (x : List ℕ) → HasName section x → (s : List ℕ) × Has strings s × Ends x s
+names_end section strings into x (offset, at) = ends_string strings at.text.before x at.text.after into.without_nul at.text.without_nul (sym at.text.is_there ∙ into.whole)
 
 pub names_end_strings : (section : List ℕ) (strings : List (List ℕ)) → NamesEndStrings section strings
-names_end_strings section strings into x stands =
-    let e = names_end section strings into x stands in
+names_end_strings section strings into x is_there =
+    let e = names_end section strings into x is_there in
     let c = Contains-from_Has strings e.0 e.1 in
     (c.0, e.0, c.1, c.2, suffix_from_Ends x e.0 e.2)
 
 pub hosts_end_apart : (xs : List (List ℕ)) → HostsEndApart xs
 hosts_end_apart xs s h g i j e f = hosts_apart (kept xs) h g s (Has-from_Contains (hosts xs) h i) (Has-from_Contains (hosts xs) g j) (Ends-from_suffix h s e) (Ends-from_suffix g s f)
 
-shortest : (xs : List (List ℕ)) (section : List ℕ) (strings : List (List ℕ)) → IsCutInto section strings → slice_get section 0 ≡ Some 0 → All (StandsIn section) xs → length (shared_table xs) ≤ length section
-shortest xs section [] into first stand = absurd (let e = ap (λ (s : List ℕ). slice_get s 0) into.whole in cc)
-shortest xs section ((b ∷ s) ∷ ss) into first stand =
+shortest : (xs : List (List ℕ)) (section : List ℕ) (strings : List (List ℕ)) → IsCutInto section strings → slice_get section 0 ≡ Some 0 → All (HasName section) xs → length (shared_table xs) ≤ length section
+shortest xs section [] into first there = absurd (let e = ap (λ (s : List ℕ). slice_get s 0) into.whole in cc)
+shortest xs section ((b ∷ s) ∷ ss) into first there =
     let e = ap (λ (t : List ℕ). slice_get t 0) into.whole in
     let zero_first : b ≡ 0 = cc in
     absurd (All-head IsWithoutNul (b ∷ s) ss into.without_nul zero (omega arith) zero_first)
-shortest xs section ([] ∷ ss) into first stand =
+shortest xs section ([] ∷ ss) into first there =
     let in_kept = host_member (kept xs) in
     let room : length (texts (hosts xs)) ≤ length (texts ss) =
     fits ss (hosts xs) (NoRepeats-filter _ (kept xs) (NoRepeats-kept xs)) (hosts_apart (kept xs)) (λ h i.
-    let e = names_end section ([] ∷ ss) into h (All-contains (StandsIn section) xs h stand (Contains-from_Has xs h (Has-from_kept xs h (in_kept h i)))) in
+    let e = names_end section ([] ∷ ss) into h (All-contains (HasName section) xs h there (Contains-from_Has xs h (Has-from_kept xs h (in_kept h i)))) in
     elim e.1 [
       | inl same ↦ absurd (omega (arith, kept_some xs h (in_kept h i), Ends-length h e.0 e.2, ap length same))
       | inr has ↦ (e.0, has, e.2)
@@ -97,11 +97,11 @@ shortest xs section ([] ∷ ss) into first stand =
     omega (arith, room, ap length into.whole)
 
 pub shared_is_shortest : (xs : List (List ℕ)) (section : List ℕ) → SharedIsShortest xs section
-shared_is_shortest xs section ends stand =
+shared_is_shortest xs section ends there =
     let c = sections_are_cut section ends in
-    shortest xs section c.0 c.1 (first_is section ends) stand
+    shortest xs section c.0 c.1 (first_is section ends) there
 
-pub next_tells_host : (xs sorted : List (List ℕ)) → NextTellsHost xs sorted
+pub next_tells_host : (xs sorted : List (List ℕ)) → NextHasHost xs sorted
 next_tells_host xs sorted order k d z inside has proper =
     let n = NoRepeats-kept xs in
     let e = next_ends (kept xs) sorted n order.permutation order.in_order k d z inside (Has-from_Contains (kept xs) z has) proper in

@@ -32,7 +32,7 @@ table_middle hs y ts =
     ∙ ap (λ (t : List ℕ). flat_map with_nul hs ++ t) (append_assoc y (0 ∷ []) (flat_map with_nul ts))
     ∙ sym (append_assoc (flat_map with_nul hs) y (0 ∷ flat_map with_nul ts)))
 
--- a text of the list stands in its table, behind the table of the texts before it
+-- a text of the list is in its table, after the table of the texts before it
 pub table_split : (ks : List (List ℕ)) (x : List ℕ) → Has ks x → table_of ks ≡ table_of (before_first (bytes_eq x) ks) ++ x ++ 0 ∷ flat_map with_nul (after_first (bytes_eq x) ks)
 table_split ks x h =
     let p = bytes_eq x in
@@ -48,12 +48,12 @@ text_at_place ks x h n = record {
   before = table_of (before_first (bytes_eq x) ks);
   after = flat_map with_nul (after_first (bytes_eq x) ks);
   place = refl;
-  stands = table_split ks x h;
+  is_there = table_split ks x h;
 }
 
--- the empty text stands at the table's first byte
+-- the empty text is at the table's first byte
 pub empty_at_zero : (ks : List (List ℕ)) → TextAt (table_of ks) 0 []
-empty_at_zero ks = record { without_nul = λ i h e. omega (arith, h); before = []; after = flat_map with_nul ks; place = refl; stands = refl }
+empty_at_zero ks = record { without_nul = λ i h e. omega (arith, h); before = []; after = flat_map with_nul ks; place = refl; is_there = refl }
 
 pub IsWithoutNul-suffix : (front x : List ℕ) → IsWithoutNul (front ++ x) → IsWithoutNul x
 IsWithoutNul-suffix [] x n = n
@@ -66,7 +66,7 @@ tail_at section offset front x t = record {
   before = t.before ++ front;
   after = t.after;
   place = length-append t.before front ∙ ap (λ (n : ℕ). n + length front) t.place;
-  stands = t.stands ∙ ap (λ (s : List ℕ). s ++ 0 ∷ t.after) (sym (append_assoc t.before front x));
+  is_there = t.is_there ∙ ap (λ (s : List ℕ). s ++ 0 ∷ t.after) (sym (append_assoc t.before front x));
 }
 
 -- the distinct ones have the same members

@@ -39,9 +39,9 @@ module _ (s : Section) (good : IsSection s) (i : ℕ) (there : i < length s.file
   frame_is : get_or (frames_in s) i [] ≡ nth_frame s i
   frame_is = get_or-map (frame_at s.file.order s.file.types.now) s.file.places.now i 0 [] there
 
-  -- it stands there, four bytes a word behind the words of those before it
-  pub stands_in : HasFrame s.file (slice_index s.file.places.now i)
-  stands_in =
+  -- it is there, after the words of the records before it, four bytes each
+  pub has_frame : HasFrame s.file (slice_index s.file.places.now i)
+  has_frame =
       let start = good.framed.starts i there in
       let whole : length s.file.types.now ≡ length (section_of s.file.order (frames_in s)) = ap length good.framed.frames.whole in
       let room : length (section_of s.file.order (take i (frames_in s))) + 4 * length (nth_frame s i) ≤ length (section_of s.file.order (frames_in s)) =

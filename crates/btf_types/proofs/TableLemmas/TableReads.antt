@@ -19,11 +19,11 @@ use Rattle.btf_types.proofs.Lists.{length-tabulate, get-map, get_or-map}
 use Rattle.btf_types.proofs.TableLemmas.SectionSteps.{ends_inside}
 use Rattle.btf_types.specs.Reading.{text_from, frame_at, frames_at, record_of, records_at, item_of, item_total, head_from, head_of, component_of}
 use Rattle.btf_types.specs.tables.TableInvariant.{IsTable}
-use Rattle.btf_types.specs.tables.PlaceWords.{StandsAt}
+use Rattle.btf_types.specs.tables.PlaceWords.{HasRecordAt}
 use Rattle.btf_types.specs.judge.FieldFaults.{frame_facts}
 use Rattle.btf_types.proofs.FaultlessLemmas.Faultless.{get_is, faultless}
-use Rattle.btf_types.proofs.FaultlessLemmas.ItemReads.{item_names_stand}
-use Rattle.btf_types.proofs.TableLemmas.TextSteps.{text_stands}
+use Rattle.btf_types.proofs.FaultlessLemmas.ItemReads.{item_names_there}
+use Rattle.btf_types.proofs.TableLemmas.TextSteps.{text_there}
 
 zip_at : {A B : Type 0} (R : A → B → Type 0) (f : B → A) (ys : List B) (i : ℕ) (d : B) → AllZip R (map f ys) ys → i < length ys → R (f (get_or ys i d)) (get_or ys i d)
 zip_at R f [] i d all h = absurd (omega arith)
@@ -33,7 +33,7 @@ zip_at R f (y ∷ ys) (suc i) d all h = zip_at R f ys i d all.1 (omega arith)
 name_at_word : (strings : List ℕ) (r : TypeRecord) (f : List ℕ) → HasNulEnds strings → Spells strings r f → NameAt strings (name_word f) (text_from strings (name_word f))
 name_at_word strings r f ends s =
     let offset : name_word f ≡ s.name_offset = ap (λ (t : List ℕ). slice_index t 0) s.whole in
-    let text = text_stands strings s.name_offset ends (TextAt-inside strings s.name_offset _ s.name.text) in
+    let text = text_there strings s.name_offset ends (TextAt-inside strings s.name_offset _ s.name.text) in
     let same = TextAt-unique strings s.name_offset _ (text_from strings s.name_offset) s.name.text text in
     rw offset (subst (λ (x : List ℕ). NameAt strings s.name_offset x) same s.name)
 
@@ -48,8 +48,8 @@ tag_in_range : (name frame : List ℕ) → kind frame ≡ DECL_TAG → HeadInRan
 unfolding head_from
 tag_in_range name frame tag range = let opened = rw tag at range in opened.1
 
-pub stands_at : (o : Order) (types strings places : List ℕ) (i : ℕ) → IsTable o types strings places → i < length places → StandsAt o types strings (get_or places i 0)
-stands_at o types strings places i table h =
+pub has_record_at : (o : Order) (types strings places : List ℕ) (i : ℕ) → IsTable o types strings places → i < length places → HasRecordAt o types strings (get_or places i 0)
+has_record_at o types strings places i table h =
     let frames = frames_at o types places in
     let pos = get_or places i 0 in
     let f = frame_at o types pos in
@@ -69,7 +69,7 @@ stands_at o types strings places i table h =
       item_names =
           let frame_there : slice_get frames i ≡ Some f = get_is frames i [] inside ∙ ap (λ (g : List ℕ). Some g) frame-is in
           let is : IsFrame f = subst (λ (g : List ℕ). IsFrame g) frame-is (table.framed.frames.each i [] inside) in
-          item_names_stand strings (map frame_facts frames) f table.ends is (faultless strings frames table.ends table.framed.frames.each table.none i f frame_there);
+          item_names_there strings (map frame_facts frames) f table.ends is (faultless strings frames table.ends table.framed.frames.each table.none i f frame_there);
       component = λ tag.
           let here : get_or (records_at o types strings places) i (record_of strings f) ≡ record_of strings f =
           get_or-map (record_of strings) frames i [] (record_of strings f) inside ∙ ap (λ (g : List ℕ). record_of strings g) frame-is in
@@ -85,7 +85,7 @@ record_is o types strings places i h =
 pub length-records_at : (o : Order) (types strings places : List ℕ) → length (records_at o types strings places) ≡ length places
 length-records_at o types strings places = length-map (frames_at o types places) (record_of strings) ∙ length-map places (frame_at o types)
 
--- where a record of a table stands, from its number
+-- the place of a record of a table, from its number
 pub place_inside : (o : Order) (types strings places : List ℕ) (v : List TypeRecord) (id : ℕ) → records_at o types strings places ≡ v → 0 < id → id ≤ length v → id - 1 < length places
 place_inside o types strings places v id is some low = omega (arith, ap length (sym is), length-records_at o types strings places)
 

@@ -30,8 +30,8 @@ first_nul (suc x ∷ xs) (suc k) h e =
       before = after_first x (before_nul xs) more.before;
     }
 
-pub text_stands : (strings : List ℕ) (offset : ℕ) → HasNulEnds strings → offset < length strings → TextAt strings offset (text_from strings offset)
-text_stands strings offset ends h =
+pub text_there : (strings : List ℕ) (offset : ℕ) → HasNulEnds strings → offset < length strings → TextAt strings offset (text_from strings offset)
+text_there strings offset ends h =
     let last : get_or (drop offset strings) (length strings - 1 - offset) 0 ≡ 0 =
     get_or-drop offset strings (length strings - 1 - offset) 0 ∙ subst (λ (i : ℕ). get_or strings i 0 ≡ 0) (omega arith) ends.last in
     let nul = first_nul (drop offset strings) (length strings - 1 - offset) (omega (arith, length-drop offset strings)) last in
@@ -40,7 +40,7 @@ text_stands strings offset ends h =
       before = take offset strings;
       after = nul.rest;
       place = length-take-le offset strings (omega arith);
-      stands =
+      is_there =
           sym (take-append-drop offset strings) ∙ ap (λ (t : List ℕ). take offset strings ++ t) nul.parts
           ∙ sym (append_assoc (take offset strings) (text_from strings offset) (0 ∷ nul.rest));
     }
@@ -53,14 +53,14 @@ pub empty_or_not : (x : List ℕ) → (x ≡ []) ⊎ (x ≢ [])
 empty_or_not [] = inl refl
 empty_or_not (c ∷ x) = inr (λ e. absurd cc)
 
--- an offset within the section, at which no text stands that isn't UTF-8, has a name
+-- an offset within the section has a name if no text there fails to be UTF-8
 pub name_there : (strings : List ℕ) (offset : ℕ) → HasNulEnds strings → ¬ (length strings ≤ offset) → ((text : List ℕ) → TextAt strings offset text → ¬ ¬ IsUtf8 text)
     → NameAt strings offset (text_from strings offset)
 name_there strings offset ends inside utf8 =
     elim (cases_lt offset (length strings)) [
       | inl lt ↦
           let x = text_from strings offset in
-          let text = text_stands strings offset ends lt in
+          let text = text_there strings offset ends lt in
           record {
             text = text;
             utf8 = elim (decided (is_utf8 x)) [

@@ -63,7 +63,7 @@ int_offset w = w / 2 ^ 16 % 2 ^ 8
 abbrev pub int_bits : ℕ → ℕ
 int_bits w = w % 2 ^ 8
 
--- what other records ask of this one
+-- the facts that the checks of other records need of this one
 abbrev pub frame_facts : List ℕ → TypeFacts
 frame_facts frame = record {
   kind = kind frame;

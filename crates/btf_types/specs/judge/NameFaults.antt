@@ -14,7 +14,7 @@ NameFault strings kind offset NameMissing = IsTrue (needs_name kind) × TextAt s
 NameFault strings kind offset NameUnwanted = IsTrue (has_no_name kind) × (text : List ℕ) × TextAt strings offset text × (text ≢ [])
 NameFault strings kind offset _ = ⊥
 
--- the same of a name that stands there, empty or not
+-- the same of a name that is there, empty or not
 abbrev pub OwnNameFault : ℕ → Bool → BtfCause → Type 0
 OwnNameFault kind empty NameMissing = IsTrue (needs_name kind) × IsTrue empty
 OwnNameFault kind empty NameUnwanted = IsTrue (has_no_name kind) × IsFalse empty

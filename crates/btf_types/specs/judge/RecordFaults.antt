@@ -39,7 +39,7 @@ pub record BitFieldsAre (frame : List ℕ) (bit_fields : Bool) : Type 0 where
 
 -- what is kept of a record while its words are judged
 pub record RecordIs (s : Section) (r : Record) : Type 0 where
-  pub stands : HasFrame s.file r.pos
+  pub is_there : HasFrame s.file r.pos
   pub kind_is : r.kind ≡ kind (frame_of s.file r.pos)
   pub vlen_is : r.vlen ≡ vlen (frame_of s.file r.pos)
   pub flag_is : r.flag ≡ flag (frame_of s.file r.pos)

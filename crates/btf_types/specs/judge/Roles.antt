@@ -6,8 +6,8 @@ use Rattle.btf_types.specs.declared.judge.roles.Role.{Role}
 use Rattle.btf_types.specs.declared.judge.roles.Role.TheVariants.{OwnName, Info, Third, IntWord, Linkage, Component, ItemName, NamedType, MemberType, MemberPlace, Free}
 
 -- which word of its item word j is, or of what follows the first three where there are no items
-abbrev pub part : ℕ → ℕ → ℕ
-part kind j = if item_words kind == 0 then j - 3 else (j - 3) % item_words kind
+abbrev pub word_in_item : ℕ → ℕ → ℕ
+word_in_item kind j = if item_words kind == 0 then j - 3 else (j - 3) % item_words kind
 
 -- what word m of an item, or of a tail without items, is known to be
 abbrev pub PartIs : ℕ → ℕ → Role → Type 0
@@ -24,7 +24,7 @@ PartIs kind m MemberPlace = IsTrue (is_struct kind) × (1 < m)
 PartIs kind m Free = Unit {0}
 
 -- the role that each field has
-pub record PartTells (kind m : ℕ) (role : Role) : Type 0 where
+pub record PartHasRole (kind m : ℕ) (role : Role) : Type 0 where
   pub int : kind ≡ INT → role ≡ IntWord
   pub var : kind ≡ VAR → role ≡ Linkage
   pub tag : kind ≡ DECL_TAG → role ≡ Component
@@ -40,10 +40,10 @@ abbrev pub RoleIs : ℕ → ℕ → Role → Type 0
 RoleIs kind j OwnName = j ≡ 0
 RoleIs kind j Info = j ≡ 1
 RoleIs kind j Third = j ≡ 2
-RoleIs kind j role = (3 ≤ j) × PartIs kind (part kind j) role
+RoleIs kind j role = (3 ≤ j) × PartIs kind (word_in_item kind j) role
 
-pub record RoleTells (kind j : ℕ) (role : Role) : Type 0 where
+pub record HasRole (kind j : ℕ) (role : Role) : Type 0 where
   pub name : j ≡ 0 → role ≡ OwnName
   pub info : j ≡ 1 → role ≡ Info
   pub third : j ≡ 2 → role ≡ Third
-  pub tail : 3 ≤ j → PartTells kind (part kind j) role
+  pub tail : 3 ≤ j → PartHasRole kind (word_in_item kind j) role

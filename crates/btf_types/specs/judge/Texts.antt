@@ -17,7 +17,7 @@ abbrev pub TextsAre : List ℕ → Texts → Type 0
 TextsAre strings texts.Utf8 = IsUtf8 strings
 TextsAre strings (texts.Marked marks) = AreMarks strings marks.now
 
--- behind this place, a character may begin at the next one first, if it isn't the end; and whether the text there is UTF-8
+-- the next place after this one where a character may begin, or the end; and whether the text there is UTF-8
 pub record IsNextChar (strings : List ℕ) (at next : ℕ) (rest : Bool) : Type 0 where
   pub past : at < next
   pub inside : next ≤ length strings

@@ -1,4 +1,4 @@
--- How many bytes two texts have in common at their ends, and laws by which sorted texts tell hosts by these numbers.
+-- The number of bytes that two texts have in common at their ends, and laws by which these numbers determine the hosts of sorted texts.
 use Rattle.std.specs.Prelude.{◌≡◌, ℕ, ◌+◌, ◌-◌, ◌<◌, ◌≤◌, ◌==◌, true, false, List, [], ◌∷◌, length, reverse, slice_index_or, if◌then◌else◌}
 use Rattle.std.specs.List.Sorted.{IsSorted}
 use Rattle.btf_types.specs.strings.SharedNames.{is_suffix, tail_cmp, hosts_of, host_in}
@@ -18,7 +18,7 @@ pub record SuffixByTail (x y : List ℕ) : Type 0 where
   pub whole : is_suffix x y ≡ true → common_tail x y ≡ length x
   pub suffix : length x ≤ common_tail x y → is_suffix x y ≡ true
 
--- texts by their bytes from the end, which are these texts; some may stand there more than once
+-- these texts, sorted by reversed bytes; some may be there more than once
 pub record AreInTailOrder (ks sorted : List (List ℕ)) : Type 0 where
   pub members : SameMembers ks sorted
   pub in_order : IsSorted tail_cmp sorted
@@ -53,5 +53,5 @@ abbrev pub FirstRankEnds : List (List ℕ) → Type 0
 FirstRankEnds sorted = IsSorted tail_cmp sorted → (x : List ℕ) (l k : ℕ) → k < length sorted → is_suffix x (at_rank sorted k) ≡ true → IsFirstRank sorted (length x) l k → IsFirstEnding sorted x l
 
 -- and the next host from there on is the host of x
-abbrev pub RankTellsHost : List (List ℕ) → List (List ℕ) → Type 0
-RankTellsHost ks sorted = AreInTailOrder ks sorted → (x : List ℕ) (l k r : ℕ) → k < length sorted → is_suffix x (at_rank sorted k) ≡ true → IsFirstRank sorted (length x) l k → IsNextHost sorted l r → host_in (hosts_of ks) x ≡ at_rank sorted r
+abbrev pub RankHasHost : List (List ℕ) → List (List ℕ) → Type 0
+RankHasHost ks sorted = AreInTailOrder ks sorted → (x : List ℕ) (l k r : ℕ) → k < length sorted → is_suffix x (at_rank sorted k) ≡ true → IsFirstRank sorted (length x) l k → IsNextHost sorted l r → host_in (hosts_of ks) x ≡ at_rank sorted r

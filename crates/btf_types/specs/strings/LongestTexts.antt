@@ -16,13 +16,13 @@ pub record SameMembers (xs ys : List (List ℕ)) : Type 0 where
   pub there : (z : List ℕ) → Contains ys z → Contains xs z
 
 -- the hosts of the longest texts are the hosts, in whatever order
-abbrev pub LongestTellHosts : List (List ℕ) → List (List ℕ) → Type 0
-LongestTellHosts xs longest = AreLongest xs longest → SameMembers (hosts xs) (hosts longest)
+abbrev pub LongestHaveHosts : List (List ℕ) → List (List ℕ) → Type 0
+LongestHaveHosts xs longest = AreLongest xs longest → SameMembers (hosts xs) (hosts longest)
 
 -- and in the order of first use they are the kept names that are hosts of the longest texts
 abbrev pub HostsByFirstUse : List (List ℕ) → List (List ℕ) → Type 0
 HostsByFirstUse xs longest = AreLongest xs longest → hosts xs ≡ filter (λ x. list_any (bytes_eq x) (hosts longest)) (kept xs)
 
 -- so each text has one host by both
-abbrev pub LongestTellHost : List (List ℕ) → List (List ℕ) → Type 0
-LongestTellHost xs longest = AreLongest xs longest → (x : List ℕ) → host_in (hosts xs) x ≡ host_in (hosts longest) x
+abbrev pub LongestHaveHost : List (List ℕ) → List (List ℕ) → Type 0
+LongestHaveHost xs longest = AreLongest xs longest → (x : List ℕ) → host_in (hosts xs) x ≡ host_in (hosts longest) x

@@ -1,4 +1,4 @@
--- Laws of the string table in which names share tails, over the definitions alone.
+-- Laws of the string table in which names share suffixes, over the definitions alone.
 use Rattle.std.specs.Prelude.{◌≡◌, ℕ, ◌+◌, ◌<◌, ◌≤◌, true, false, List, length, slice_index_or}
 use Rattle.std.specs.List.{All, AllZip, Any, Contains, flat_map, sum_by}
 use Rattle.std.specs.Ordering.{is_lt}
@@ -12,26 +12,26 @@ use Rattle.btf_types.specs.strings.SharedNames.{is_suffix, is_proper_suffix, tai
 use Rattle.btf_types.specs.strings.StringTable.{string_table}
 use Rattle.btf_types.specs.Spelling.{IsRecord}
 
--- each name stands at its place in the table
-abbrev pub SharedPlacesStand : List (List ℕ) → Type 0
-SharedPlacesStand xs = All IsName xs → All (λ x. NameAt (shared_table xs) (shared_place xs x) x) xs
+-- each name is at its place in the table
+abbrev pub SharedPlacesHold : List (List ℕ) → Type 0
+SharedPlacesHold xs = All IsName xs → All (λ x. NameAt (shared_table xs) (shared_place xs x) x) xs
 
 -- the section is these strings, each followed by NUL: it is cut after each NUL
 pub record IsCutInto (section : List ℕ) (strings : List (List ℕ)) : Type 0 where
   pub without_nul : All IsWithoutNul strings
   pub whole : section ≡ flat_map with_nul strings
 
--- the name stands in the section, at some offset
-abbrev pub StandsIn : List ℕ → List ℕ → Type 0
-StandsIn section x = (offset : ℕ) × NameAt section offset x
+-- the name is in the section, at some offset
+abbrev pub HasName : List ℕ → List ℕ → Type 0
+HasName section x = (offset : ℕ) × NameAt section offset x
 
 -- a section that ends with NUL can be cut
 abbrev pub SectionsAreCut : List ℕ → Type 0
 SectionsAreCut section = HasNulEnds section → (strings : List (List ℕ)) × IsCutInto section strings
 
--- each name that stands in a section is a suffix of one of its strings
+-- each name in a section is a suffix of one of its strings
 abbrev pub NamesEndStrings : List ℕ → List (List ℕ) → Type 0
-NamesEndStrings section strings = IsCutInto section strings → (x : List ℕ) → StandsIn section x → Any (λ s. is_suffix x s ≡ true) strings
+NamesEndStrings section strings = IsCutInto section strings → (x : List ℕ) → HasName section x → Any (λ s. is_suffix x s ≡ true) strings
 
 -- no text ends with two different hosts
 abbrev pub HostsEndApart : List (List ℕ) → Type 0
@@ -39,7 +39,7 @@ HostsEndApart xs = (s h g : List ℕ) → Contains (hosts xs) h → Contains (ho
 
 -- a section that spells all names is at least as long as their shared table
 abbrev pub SharedIsShortest : List (List ℕ) → List ℕ → Type 0
-SharedIsShortest xs section = HasNulEnds section → All (StandsIn section) xs → length (shared_table xs) ≤ length section
+SharedIsShortest xs section = HasNulEnds section → All (HasName section) xs → length (shared_table xs) ≤ length section
 
 -- the kept names by their bytes from the end
 pub record IsTailSorted (xs sorted : List (List ℕ)) : Type 0 where
@@ -52,8 +52,8 @@ pub record NextSharesHost (xs sorted : List (List ℕ)) (k : ℕ) (x next : List
   pub suffix : is_proper_suffix x next ≡ true
   pub host : host xs x ≡ host xs next
 
-abbrev pub NextTellsHost : List (List ℕ) → List (List ℕ) → Type 0
-NextTellsHost xs sorted = IsTailSorted xs sorted → (k : ℕ) (d z : List ℕ) → k < length sorted → Contains (kept xs) z → is_proper_suffix (slice_index_or sorted k d) z ≡ true → NextSharesHost xs sorted k (slice_index_or sorted k d) (slice_index_or sorted (k + 1) d)
+abbrev pub NextHasHost : List (List ℕ) → List (List ℕ) → Type 0
+NextHasHost xs sorted = IsTailSorted xs sorted → (k : ℕ) (d z : List ℕ) → k < length sorted → Contains (kept xs) z → is_proper_suffix (slice_index_or sorted k d) z ≡ true → NextSharesHost xs sorted k (slice_index_or sorted k d) (slice_index_or sorted (k + 1) d)
 
 -- a table takes a byte, and for each name its bytes and a byte more
 abbrev pub TableLength : List (List ℕ) → Type 0

@@ -9,8 +9,8 @@ use Rattle.btf_types.specs.Spelling.{Spells}
 use Rattle.btf_types.specs.Reading.{frame_at, record_of, text_from, item_total}
 use Rattle.btf_raw.specs.Names.{NameAt}
 
--- a whole frame stands there and spells the record that it reads as
-pub record StandsAt (o : Order) (types strings : List ℕ) (pos : ℕ) : Type 0 where
+-- there is a whole frame, and it spells the record that it reads as
+pub record HasRecordAt (o : Order) (types strings : List ℕ) (pos : ℕ) : Type 0 where
   pub ends : HasNulEnds strings
   pub inside : pos + 4 * length (frame_at o types pos) ≤ length types
   pub frame : IsFrame (frame_at o types pos)

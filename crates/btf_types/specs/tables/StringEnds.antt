@@ -16,6 +16,6 @@ pub record AreLongEndsTo (strings ends : List ℕ) (at : ℕ) : Type 0 where
 abbrev pub AreLongEnds : List ℕ → List ℕ → Type 0
 AreLongEnds strings ends = AreLongEndsTo strings ends (length strings)
 
--- at most 64 bytes before a place is a NUL, or the section's begin
+-- at most 64 bytes before a place is a NUL, or the first byte of the section
 abbrev pub HasNulNear : List ℕ → ℕ → Type 0
 HasNulNear strings at = (at ≡ 0) ⊎ ((z : ℕ) × (z < at) × (at ≤ z + 64) × (slice_index strings z ≡ 0))

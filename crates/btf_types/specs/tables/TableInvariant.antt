@@ -42,7 +42,7 @@ pub record FieldsAreRight (o : Order) (types strings places : List ℕ) : Type 0
   pub spelled : AllZip (Spells strings) (records_at o types strings places) (frames_at o types places)
   pub good : IsGood (records_at o types strings places)
 
--- So many records of a table were given, and these are left.
+-- This number of records of a table was given, and these are left.
 pub record IsPartGiven (o : Order) (types strings places : List ℕ) (given : ℕ) : Type 0 where
   pub table : IsTable o types strings places
   pub inside : given ≤ length places

@@ -1,4 +1,4 @@
--- What a table keeps of where things stand in its two sections. The invariants of the tables cite it, and contracts of private functions.
+-- The places in its two sections that a table keeps. The invariants of the tables and contracts of private functions cite them.
 use Rattle.std.specs.Prelude.{ℕ, List}
 use Rattle.bpf_words.specs.declared.Order.{Order}
 use Rattle.btf_types.specs.tables.StringEnds.{AreLongEnds}
@@ -14,7 +14,7 @@ pub record IsPlacedTable (o : Order) (types strings : List ℕ) (places : TableP
   pub table : IsTable o types strings places.records
   pub ends : AreLongEnds strings places.ends
 
--- so many records of such a table were given
+-- this number of records of such a table was given
 pub record IsGivenTable (o : Order) (types strings places ends : List ℕ) (given : ℕ) : Type 0 where
   pub part : IsPartGiven o types strings places given
   pub long : AreLongEnds strings ends

@@ -7,7 +7,7 @@ use Rattle.btf_raw.specs.Cause.{LeastByPlace}
 use Rattle.btf_raw.specs.Frames.{FramingFault}
 use Rattle.btf_types.specs.Faults.{IsFirst, FramesFault, FieldsFault}
 
--- What an error of a parser says: the first fault, or that memory was refused.
+-- What an error of a parser says: the first fault, or out of memory.
 abbrev pub Fails : List ℕ → BtfError → Type 0
 Fails b (errors.Fault fault) = IsFirst b fault
 Fails b errors.Memory = ⊤
@@ -22,7 +22,7 @@ abbrev pub FailsFrames : List ℕ → BtfError → Type 0
 FailsFrames b (errors.Fault fault) = LeastByPlace (FramesFault b) fault.pos fault.cause
 FailsFrames b errors.Memory = ⊤
 
--- a fault stands within these bytes, or at their end
+-- a fault is within these bytes, or at their end
 abbrev pub FaultInside : {X : Type 0} → List ℕ → Result X BtfError → Type 0
 FaultInside types (Ok x) = ⊤
 FaultInside types (Err (errors.Fault fault)) = fault.pos ≤ length types

@@ -1,5 +1,5 @@
-//! What the fields of a record must be, on numbers alone (btf.rst section 2.2). Each `_fault` tells the least cause that
-//! speaks against a word, and None where none does.
+//! Checks of the fields of a record, on numbers alone (btf.rst section 2.2). Each `_fault` returns the least cause that holds
+//! for a word, or None.
 
 ghost use Rattle.std.specs.Prelude.{◌≡◌, ◌∷◌, []};
 ghost use Rattle.btf_types.specs.judge.Checks as spec;
@@ -7,11 +7,12 @@ ghost use Rattle.btf_types.specs.judge.FieldFaults as words;
 ghost use Rattle.btf_raw.specs.Kinds.{one_of};
 ghost use Rattle.btf_types.specs.judge.NameFaults.{IntFault, LinkageFault, MemberPlaceFault};
 
+use crate::values::{Encoding, Linkage};
 use btf_raw::{
     BtfCause, DATASEC, DECL_TAG, ENUM, ENUM64, FLOAT, FUNC, FUNC_PROTO, STRUCT, TYPEDEF, UNION, VAR,
 };
 
-/// Whether an ENUM or ENUM64 with so many values, or a FLOAT, may have this size in bytes.
+/// Whether an ENUM or ENUM64 with this number of values, or a FLOAT, may have this size in bytes.
 #[tactic(auto, unfolding(crate::specs::judge::Checks::size_fits))]
 pub fn size_fits(kind: u8, size: u32, count: u16) -> bool
     ensures { result ≡ spec.size_fits kind size count }
@@ -36,18 +37,18 @@ pub fn target_fits(kind: u8, target: u8) -> bool
     }
 }
 
-/// The cause that speaks against a second word, beside its framing.
+/// Checks the linkage of a FUNC, which is its vlen.
 pub fn second_fault(kind: u8, vlen: u16) -> Option<BtfCause>
-    ensures { spec.TellsLeast (spec.SecondFault kind vlen) result }
+    ensures { spec.IsLeastOf (spec.SecondFault kind vlen) result }
 {
-    if kind == FUNC && vlen > 2 {
+    if kind == FUNC && Linkage::from_number(u32::from(vlen)).is_none() {
         Some(BtfCause::Linkage)
     } else {
         None
     }
 }
 
-/// Whether an INT of this size in bytes may have so many bits.
+/// Whether an INT of this size in bytes may have this number of bits.
 #[tactic(auto, unfolding(crate::specs::judge::Checks::bits_fit))]
 fn bits_fit(size: u32, bits: u32) -> bool
     ensures { result ≡ spec.bits_fit size bits }
@@ -71,9 +72,9 @@ fn member_fits(bit_offset: u32, width: u8, size: u32) -> bool
     (u64::from(bit_offset) + u64::from(width) + 7) / 8 <= u64::from(size)
 }
 
-/// The cause that speaks against an INT's word.
+/// Checks an INT's word: its encoding, its bits, and that the other bits are 0.
 pub fn int_fault(size: u32, word: u32) -> Option<BtfCause>
-    ensures { spec.TellsLeast (IntFault size word) result }
+    ensures { spec.IsLeastOf (IntFault size word) result }
 {
     if int_unused(word) == 0 && is_encoding(word >> 24 & 0xf) && bits_fit(size, word & 0xff) {
         None
@@ -89,11 +90,11 @@ fn int_unused(word: u32) -> u32
     (word >> 28) + (word >> 8 & 0xff)
 }
 
-/// Whether an INT may be encoded so: plain, signed, char or bool.
+/// Whether this is an encoding: plain, signed, char or bool.
 fn is_encoding(encoding: u32) -> bool
     ensures { result ≡ one_of (0 ∷ 1 ∷ 2 ∷ 4 ∷ []) encoding }
 {
-    matches!(encoding, 0 | 1 | 2 | 4)
+    Encoding::from_number(encoding).is_some()
 }
 
 /// The bit offset in a member's offset word, in a record with this kind_flag.
@@ -110,9 +111,9 @@ pub fn width_of(flag: u32, word: u32) -> u8
     if flag == 0 { 0 } else { (word >> 24) as u8 }
 }
 
-/// The cause that speaks against a member's offset word.
+/// Checks a member's offset word.
 pub fn member_place_fault(size: u32, bit_offset: u32, width: u8) -> Option<BtfCause>
-    ensures { spec.TellsLeast (MemberPlaceFault size bit_offset width) result }
+    ensures { spec.IsLeastOf (MemberPlaceFault size bit_offset width) result }
 {
     if member_fits(bit_offset, width, size) {
         None
@@ -121,11 +122,11 @@ pub fn member_place_fault(size: u32, bit_offset: u32, width: u8) -> Option<BtfCa
     }
 }
 
-/// The cause that speaks against the linkage of a VAR.
+/// Checks the linkage of a VAR.
 pub fn linkage_fault(word: u32) -> Option<BtfCause>
-    ensures { spec.TellsLeast (LinkageFault word) result }
+    ensures { spec.IsLeastOf (LinkageFault word) result }
 {
-    if word > 2 {
+    if Linkage::from_number(word).is_none() {
         Some(BtfCause::Linkage)
     } else {
         None

@@ -1,10 +1,10 @@
 //! The fields of records (btf.rst section 2.2), judged in the order of their places: the first word that has a fault, and
 //! its least cause. It takes no memory, and time in proportion to the section: each word is read once, a STRUCT's offset
-//! words twice, and what a word asks of other records is read at their places.
+//! words twice, and the facts of other records are read at their places.
 
 ghost use Rattle.std.specs.Prelude.{◌≡◌, ◌<◌, MatchOption, length, slice_index};
 ghost use Rattle.btf_raw.specs.Cause.{HasNone, LeastByPlace};
-ghost use Rattle.btf_types.specs.judge.Checks.{TellsLeast};
+ghost use Rattle.btf_types.specs.judge.Checks.{IsLeastOf};
 ghost use Rattle.btf_types.specs.judge.FieldFaults.{FieldFault};
 ghost use Rattle.btf_types.specs.judge.RecordFaults.{RecordIs, FaultInWord, IsFaultlessAt, IsLeastAt};
 ghost use Rattle.btf_types.specs.Sections.{IsSection, frames_in};
@@ -13,13 +13,13 @@ use crate::judge::checks::{
     bit_offset_of, int_fault, linkage_fault, member_place_fault, second_fault, width_of,
 };
 use crate::judge::names::{item_name_fault, name_fault};
+use crate::judge::references::{component_fault, member_type_fault, named_type_fault, third_fault};
 use crate::judge::roles::{Role, role_of};
-use crate::judge::types::{component_fault, member_type_fault, named_type_fault, third_fault};
 use crate::tables::section::Section;
 use btf_raw::info::{flag_of, kind_of, tail_words, vlen_of};
 use btf_raw::{BtfCause, BtfFault};
 
-/// A record of the section, and what its first words say.
+/// A record of the section, with its decoded header.
 #[derive(Clone, Copy)]
 pub struct Record {
     /// Where it begins, in bytes from the first of the type section.
@@ -28,20 +28,20 @@ pub struct Record {
     pub vlen: u16,
     /// `kind_flag`, 0 or 1.
     pub flag: u32,
-    /// The word behind `info`: a size in bytes, a type, or 0.
+    /// The word after `info`: a size in bytes, a type, or 0.
     pub third: u32,
-    /// How many words of 32 bits it has.
+    /// The number of its words of 32 bits.
     pub words: usize,
-    /// Whether some member's width isn't 0. It is told once, before the members are judged.
+    /// Whether some member's width isn't 0. It is found once, before the members are judged.
     pub bit_fields: bool,
 }
 
-/// The least cause that speaks against word j of a record, if any does.
+/// The fault of word j of a record: its least cause, if it has one.
 fn word_fault(section: &Section, this: &Record, j: usize) -> Option<BtfCause>
     requires section { IsSection section.now }
     requires this { RecordIs section.now this.now }
     requires there { j < this.now.words }
-    ensures { TellsLeast (FaultInWord section.now this.now.pos j) result }
+    ensures { IsLeastOf (FaultInWord section.now this.now.pos j) result }
 {
     let word = section.file.word(this.pos, j);
     match role_of(this.kind, j) {
@@ -85,7 +85,7 @@ fn record_at(section: &Section, i: usize) -> Record
     }
 }
 
-/// The first word of a record that has a fault, and the least cause that speaks against it.
+/// The first word of a record that has a fault, and the least cause of that word.
 fn record_fault(section: &Section, this: &Record) -> Option<(usize, BtfCause)>
     requires section { IsSection section.now }
     requires this { RecordIs section.now this.now }

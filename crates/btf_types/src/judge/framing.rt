@@ -13,9 +13,8 @@ use std::alloc::Allocator;
 ///
 /// # Errors
 ///
-/// `Fault` with the first fault of the framing, whose place counts from the section's first byte; `Memory` where memory was
-/// refused.
-pub fn places_of<A: Allocator>(
+/// `Fault` with the first fault of the framing, whose place counts from the section's first byte; `Memory` when out of memory.
+pub fn record_places<A: Allocator>(
     alloc: A,
     order: Order,
     types: &[u8],

@@ -1,6 +1,5 @@
-//! The phases that judge a file: the header, the ends of the strings, the framing of records, and their fields. Each hands
-//! its product to the next, which is judged only where the earlier ones have no fault. Places count from the file's first
-//! byte.
+//! The phases that judge a file: the header, the ends of the strings, the framing of records, and their fields. A phase
+//! begins only where the earlier ones found no fault, and uses their results. Places count from the file's first byte.
 
 ghost use Rattle.std.specs.Prelude.{◌≡◌, ◌+◌, ◌<◌, ◌≤◌, ◌^◌, length, MatchOption, MatchResult};
 ghost use Rattle.btf_raw.specs.Cause.{HasNone, LeastByCause, LeastByPlace};
@@ -16,7 +15,7 @@ ghost use Rattle.btf_types.specs.tables.TableInvariant.{FieldsAreRight};
 
 use crate::error::BtfError;
 use crate::judge::fields::first_field_fault;
-use crate::judge::framing::places_of;
+use crate::judge::framing::record_places;
 use crate::judge::utf8::{Texts, marks_unless_utf8};
 use crate::tables::section::Section;
 use crate::tables::table::FileSections;
@@ -73,7 +72,7 @@ pub fn judge_strings(bytes: &[u8], header: Header) -> Result<(), BtfFault>
     }
 }
 
-/// Where each record begins in the type section, or the first fault of the framing, or `Memory` where memory was refused.
+/// Where each record begins in the type section, or the first fault of the framing, or `Memory` when out of memory.
 pub fn judge_framing<A: Allocator>(
     alloc: A,
     bytes: &[u8],
@@ -84,7 +83,7 @@ pub fn judge_framing<A: Allocator>(
         (λ places. HasFrames bytes.now header places.items)
         (λ e. FailsFrames bytes.now e) }
 {
-    match places_of(alloc, header.order, types_in(bytes, header)) {
+    match record_places(alloc, header.order, types_in(bytes, header)) {
         Ok(places) => Ok(places),
         Err(BtfError::Memory) => Err(BtfError::Memory),
         Err(BtfError::Fault(fault)) => Err(BtfError::Fault(moved(fault, header.types_pos))),
@@ -131,7 +130,7 @@ fn fields_fault(bytes: &[u8], header: Header, places: &[u32], texts: &Texts) -> 
     }
 }
 
-/// The first fault of the fields, if there is one, or `Memory` where memory was refused. Where there is none, the records
+/// The first fault of the fields, if there is one, or `Memory` when out of memory. Where there is none, the records
 /// are spelled at their places and are good.
 pub fn judge_fields<A: Allocator>(
     alloc: A,

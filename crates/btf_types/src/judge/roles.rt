@@ -1,20 +1,20 @@
-//! What each word of a record is to the judge of fields (btf.rst section 2.2): a name, a type, a place, or a word that any
-//! value fits.
+//! The role of each word of a record in the judge of fields (btf.rst section 2.2): a name, a type, a place, or a word that
+//! may have any value.
 
 ghost use Rattle.std.specs.Prelude.{◌≡◌, ◌≤◌};
-ghost use Rattle.btf_types.specs.judge.Roles.{part, RoleIs, RoleTells, PartIs, PartTells};
+ghost use Rattle.btf_types.specs.judge.Roles.{word_in_item, RoleIs, HasRole, PartIs, PartHasRole};
 
 use btf_raw::info::item_words;
 use btf_raw::{ARRAY, DATASEC, DECL_TAG, ENUM, ENUM64, FUNC_PROTO, INT, STRUCT, UNION, VAR};
 
-/// What a word of a record is to the judge of fields.
+/// The role of a word of a record in the judge of fields.
 #[derive(Clone, Copy)]
 pub enum Role {
     /// The record's own `name_off`.
     OwnName,
     /// `info`: kind, `vlen` and `kind_flag`.
     Info,
-    /// The size or the type behind `info`.
+    /// The size or the type after `info`.
     Third,
     /// An INT's encoding, offset and bits.
     IntWord,
@@ -30,15 +30,15 @@ pub enum Role {
     MemberType,
     /// A member's offset, with its width where `kind_flag` is 1.
     MemberPlace,
-    /// A word that any value fits.
+    /// A word that may have any value.
     Free,
 }
 
-/// What word m of a tail without items, or of an item, is.
+/// The role of word m of an item, or of the words after the third where there are no items.
 #[tactic(auto, unfolding(btf_raw::specs::Kinds::has_item_names))]
 fn part_role(kind: u8, m: usize) -> Role
     ensures is { PartIs kind m result }
-    ensures tells { PartTells kind m result }
+    ensures each { PartHasRole kind m result }
 {
     match kind {
         INT => Role::IntWord,
@@ -66,9 +66,9 @@ fn part_role(kind: u8, m: usize) -> Role
 /// Which word of its item word j is.
 fn part_of(kind: u8, j: usize) -> usize
     requires { 3 ≤ j }
-    ensures { result ≡ part kind j }
+    ensures { result ≡ word_in_item kind j }
 {
-    // By a number that is known when this is compiled, since dividing by another one takes longer than all else here.
+    // Division by a constant is compiled to a multiplication. By a variable it takes longer than all else here.
     match item_words(kind) {
         0 => j - 3,
         2 => (j - 3) % 2,
@@ -77,10 +77,10 @@ fn part_of(kind: u8, j: usize) -> usize
     }
 }
 
-/// What word j of a record is.
+/// The role of word j of a record.
 pub fn role_of(kind: u8, j: usize) -> Role
     ensures is { RoleIs kind j result }
-    ensures tells { RoleTells kind j result }
+    ensures each { HasRole kind j result }
 {
     match j {
         0 => Role::OwnName,

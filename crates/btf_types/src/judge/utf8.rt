@@ -1,4 +1,4 @@
-//! Which texts of a string section are UTF-8. A text runs from an offset, which may stand inside a string, to the next NUL.
+//! Which texts of a string section are UTF-8. A text runs from an offset, which may be inside a string, to the next NUL.
 //!
 //! The section is judged once, in time in proportion to its length, and then each offset at once: any number of name fields
 //! may point into one long string. Where the section is UTF-8 as a whole, a text is UTF-8 exactly where a character begins.
@@ -28,8 +28,8 @@ fn begins_char(byte: u8) -> bool
     !matches!(byte, 0x80..=0xbf)
 }
 
-/// Whether the text at a place is UTF-8. Behind its first byte, the next place where a character may begin is `next`, and
-/// `rest` tells whether the text there is UTF-8.
+/// Whether the text at a place is UTF-8. `next` is the next place after it where a character may begin, and `rest` is whether
+/// the text there is UTF-8.
 fn is_utf8_with(strings: &[u8], at: usize, next: usize, rest: bool) -> bool
     requires there { at < length strings.now }
     requires next { IsNextChar strings.now at next rest }
@@ -42,7 +42,7 @@ fn is_utf8_with(strings: &[u8], at: usize, next: usize, rest: bool) -> bool
     rest && from_utf8(&strings[at..next]).is_ok()
 }
 
-/// The marks of a whole section, told from its end: a text is UTF-8 where it begins with a character and goes on as UTF-8.
+/// The marks of a whole section, made from its end: a text is UTF-8 if it begins with a character and the rest is UTF-8.
 fn marks_of<A: Allocator>(alloc: A, strings: &[u8]) -> Result<Vec<bool, A>, AllocError>
     requires { HasNulEnds strings.now }
     ensures { IfOk result (λ marks. AreMarks strings.now marks.items) }
@@ -66,7 +66,7 @@ fn marks_of<A: Allocator>(alloc: A, strings: &[u8]) -> Result<Vec<bool, A>, Allo
 ///
 /// # Errors
 ///
-/// `AllocError` where memory was refused. None is taken where the section is UTF-8 as a whole, else a byte for each byte.
+/// `AllocError` when out of memory. A section that is UTF-8 as a whole takes none, another a byte for each of its bytes.
 pub fn marks_unless_utf8<A: Allocator>(
     alloc: A,
     strings: &[u8],

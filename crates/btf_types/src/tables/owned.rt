@@ -19,8 +19,8 @@ use std::marker::Model;
 
 /// The types of a BTF file (btf.rst section 2), kept apart from the file.
 ///
-/// It keeps a copy of the two sections and a list of the places of the records, so each name stands once, and names share their tails
-/// as they did in the file.
+/// It keeps a copy of the two sections and a list of the places of the records, so each name is stored once, and names share
+/// suffixes as they did in the file.
 #[derive(Drop)]
 pub struct Btf<A: Allocator = Global> {
     order: Order,
@@ -48,7 +48,7 @@ impl<A: Allocator + Clone> Btf<A> {
     /// # Errors
     ///
     /// `Fault` with the first fault of the file: one of the header or of the ends of the strings by its cause, then one of the
-    /// framing or of the fields by its place and cause. `Memory` where memory was refused.
+    /// framing or of the fields by its place and cause. `Memory` when out of memory.
     pub fn parse(alloc: A, bytes: &[u8]) -> Result<Btf<A>, BtfError>
         ensures { MatchResult result (λ v. Denotes bytes.now v) (λ e. Fails bytes.now e) }
     {

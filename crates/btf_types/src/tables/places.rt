@@ -1,4 +1,4 @@
-//! Where the records of a table begin, and where its long strings end. Both stand in one vector, as a table has one allocator.
+//! Where the records of a table begin, and where its long strings end. Both are in one vector, since a table has one allocator.
 
 ghost use Rattle.std.specs.Prelude.{◌≡◌, ◌-◌, ◌<◌, ◌≤◌, ◌^◌, IfOk, length, slice_index};
 ghost use Rattle.btf_raw.specs.Header.{HasNulEnds};
@@ -13,7 +13,7 @@ use std::marker::Model;
 pub struct Places<A: Allocator> {
     /// The places of the records, then the ends of the strings.
     index: Vec<u32, A>,
-    /// How many records there are.
+    /// The number of records.
     count: usize,
 }
 

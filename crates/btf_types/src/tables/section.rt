@@ -1,5 +1,5 @@
-//! The sections of a file whose records are framed, and what a record asks of another: it is read at that one's place,
-//! wherever it stands, so a reference may point forward.
+//! The sections of a file whose records are framed, and what the checks of one record need of another. It is read at that
+//! record's place, so a reference may point forward.
 
 ghost use Rattle.std.specs.Prelude.{◌≡◌, length};
 ghost use Rattle.btf_types.specs.judge.Checks.{type_at};
@@ -11,7 +11,7 @@ use crate::tables::table::FileSections;
 use btf_raw::info::{kind_of, vlen_of};
 use btf_raw::{FUNC, INT};
 
-/// What is known of void, and of a type that isn't there.
+/// The facts of void, and of a type that isn't there.
 const NO_TYPE: Facts = Facts {
     kind: 0,
     count: 0,
@@ -28,12 +28,12 @@ pub struct Section<'a> {
     pub texts: &'a Texts<'a>,
 }
 
-/// What other records ask of a type.
+/// What the checks of other records need of a type.
 #[derive(Clone, Copy)]
 pub struct Facts {
     /// Its kind, 0 of void and of a type that isn't there.
     pub kind: u8,
-    /// How many items it has.
+    /// The number of its items.
     pub count: u16,
     /// Its third word, a type where its kind names one.
     pub target: u32,
@@ -43,7 +43,7 @@ pub struct Facts {
 }
 
 impl<'a> Section<'a> {
-    /// What other records ask of the record at `pos`.
+    /// The facts of the record at `pos` of the types.
     fn record_facts(&self, pos: usize) -> Facts
         requires { HasFrame self.now.file pos }
         ensures { FactsAre result (frame_facts (frame_of self.now.file pos)) }
@@ -64,7 +64,7 @@ impl<'a> Section<'a> {
         }
     }
 
-    /// What other records ask of the type with this id.
+    /// The facts of the type with this id.
     pub fn facts(&self, id: u32) -> Facts
         requires { IsSection self.now }
         ensures { FactsAre result (type_at (facts_in self.now) id) }
@@ -75,7 +75,7 @@ impl<'a> Section<'a> {
         self.record_facts(self.file.places[id as usize - 1] as usize)
     }
 
-    /// How many types there are.
+    /// The number of types.
     pub fn count(&self) -> u32
         requires { IsSection self.now }
         ensures { result ≡ length (facts_in self.now) }

@@ -1,8 +1,8 @@
-//! Where the texts of a string section end (btf.rst section 2.1): a text runs from an offset, which may stand inside a string, to
+//! Where the texts of a string section end (btf.rst section 2.1): a text runs from an offset, which may be inside a string, to
 //! the next NUL.
 //!
-//! Most strings are short, so an end is looked for in the next few bytes. The ends of long strings are kept, as many names may end
-//! in one of them: no name takes time by its length.
+//! Most strings are short, so an end is looked for in the next few bytes. The ends of long strings are kept, since any number of
+//! names may end in one of them: then no name takes time in proportion to its length.
 
 ghost use Rattle.std.specs.Prelude.{◌≡◌, ◌≢◌, ◌<◌, ◌^◌, ◌≤◌, ◌+◌, ◌++◌, ℕ, nat_lt, MatchOption, OnOk, length, take, drop, slice_index};
 ghost use Rattle.btf_raw.specs.Header.{HasNulEnds};
@@ -13,10 +13,10 @@ use btf_raw::text_end;
 use memchr::memchr;
 use std::alloc::{AllocError, Allocator};
 
-/// How many bytes are looked through at once for strings that are long. A long string fills such a block.
+/// The bytes that are searched at once for long strings. A string of 128 bytes fills such a block.
 const BLOCK: usize = 64;
 
-/// How many bytes behind an offset are looked through for the end.
+/// The bytes after an offset that are searched for the end.
 const NEAR: usize = 128;
 
 /// The first NUL from an offset on, if it comes before another.
@@ -53,7 +53,7 @@ pub fn push_long_ends<A: Allocator>(out: &mut Vec<u32, A>, strings: &[u8]) -> Re
 }
 
 /// Where the text at an offset ends. `ends` are the ends of the long strings.
-pub fn end_of(strings: &[u8], ends: &[u32], off: usize) -> usize
+pub fn text_end_with(strings: &[u8], ends: &[u32], off: usize) -> usize
     requires nuls { HasNulEnds strings.now }
     requires ends { AreLongEnds strings.now ends.now }
     requires inside { off < length strings.now }

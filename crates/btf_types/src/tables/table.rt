@@ -15,12 +15,12 @@ use btf_raw::info::{flag_of, is_struct, kind_of, vlen_of};
 
 /// A list of records, each a head with its items. The records are numbered from 1, as btf.rst section 2.2 numbers types.
 ///
-/// What a table means is good: items fit their heads, names are there or absent as their kinds demand, each type that is named is
-/// one that may be, and the records and their string table keep to the limits of a file.
+/// What a table means is good: items fit their heads, names are there or absent as their kinds demand, each type that is referred
+/// to has a fitting kind, and the records and their string table keep to the limits of a file.
 pub trait TypeTable {
     ghost meaning: { Self → List TypeRecord };
 
-    /// How many records there are.
+    /// The number of records.
     fn count(&self) -> u32
         ensures count { result ≡ length (meaning self.now) }
         ensures good { IsGood (meaning self.now) };
@@ -31,7 +31,7 @@ pub trait TypeTable {
         requires last { id ≤ length (meaning self.now) }
         ensures { head_value result ≡ (record_at (meaning self.now) id).head };
 
-    /// How many items record `id` has, which is 1 to [`TypeTable::count`].
+    /// The number of items of record `id`, which is 1 to [`TypeTable::count`].
     fn item_count(&self, id: u32) -> u32
         requires first { 0 < id }
         requires last { id ≤ length (meaning self.now) }

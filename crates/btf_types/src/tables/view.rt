@@ -49,7 +49,7 @@ impl<'a, A: Allocator> BtfView<'a, A> {
     /// # Errors
     ///
     /// `Fault` with the first fault of the file: one of the header or of the ends of the strings by its cause, then one of the
-    /// framing or of the fields by its place and cause. `Memory` where memory was refused.
+    /// framing or of the fields by its place and cause. `Memory` when out of memory.
     pub fn parse(alloc: A, bytes: &'a [u8]) -> Result<BtfView<'a, A>, BtfError>
         ensures { MatchResult result (λ v. Denotes bytes.now v) (λ e. Fails bytes.now e) }
     {

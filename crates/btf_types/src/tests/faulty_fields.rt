@@ -193,7 +193,7 @@ const FAULTY: &[Faulty] = &[
         Cause::MemberInt,
     ),
     Faulty(
-        "a member behind the end",
+        "a member after the end",
         "00000000 04000001 00000004 00000000 00000000 00000021",
         b"\0",
         44,

@@ -18,7 +18,7 @@ const FAULTY: &[Faulty] = &[
         Cause::RecordCut,
     ),
     Faulty(
-        "4 bytes left behind a record",
+        "4 bytes left after a record",
         "00000001 01000000 00000004 01000020 00000000",
         b"\0a\0",
         40,

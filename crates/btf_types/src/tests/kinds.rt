@@ -197,7 +197,7 @@ const KINDS: &[Kind] = &[
         ],
     },
     Kind {
-        name: "a member behind 2 MB",
+        name: "a member after 2 MB",
         words: "00000000 04000001 00400000 00000000 00000000 01000000",
         strings: b"\0",
         walk: &[

@@ -155,7 +155,7 @@ fn longest_type_sections(rt: HostRuntime) -> Result<(), Fail> {
     Ok(())
 }
 
-/// ENUMs with as many values as one can have, all of the same name.
+/// ENUMs with the largest number of values, 65,535, all of the same name.
 fn full_enums(alloc: Global, count: u32) -> Result<Vec<u8>, AllocError> {
     let mut records = Vec::new(alloc);
     for _ in 0..count {

@@ -35,7 +35,7 @@ pub(crate) fn both_shown(alloc: Global, bytes: &[u8]) -> Result<String, Fail> {
     Ok(text)
 }
 
-/// Ends the test if the heads and items aren't those that are wanted.
+/// Ends the test if the heads and items differ from the wanted ones.
 pub(crate) fn equal_walk(rt: &impl Abort, shown: &str, walk: &[&str], case: &impl Debug) {
     equal(rt, &shown.lines().count(), &walk.len(), case);
     for (line, wanted) in shown.lines().zip(walk) {

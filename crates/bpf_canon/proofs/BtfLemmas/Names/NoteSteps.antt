@@ -7,7 +7,7 @@ use Rattle.bpf_words.specs.declared.Order.{Order}
 use Rattle.btf_raw.specs.Frames.{name_word, kind, vlen}
 use Rattle.btf_raw.proofs.Texts.{TextAt-inside}
 use Rattle.btf_raw.specs.Kinds.{has_item_names}
-use Rattle.btf_types.specs.tables.PlaceWords.{StandsAt}
+use Rattle.btf_types.specs.tables.PlaceWords.{HasRecordAt}
 use Rattle.btf_types.specs.Reading.{text_from, frame_at, frames_at, item_total, tabulate}
 use Rattle.bpf_canon.specs.btf.strings.FirstUses.{noted, noted_all}
 use Rattle.bpf_canon.specs.btf.write.NameOffsets.{item_word, name_offsets, all_offsets}
@@ -34,14 +34,14 @@ record_noted o types places i low =
     sym (ap (noted_all []) all ∙ noted_all-append [] (all_offsets front) (name_offsets (frame_at o types pos)))
 
 -- the names lie in the strings, and the first words of items in their frame
-pub item_within : (o : Order) (types strings : List ℕ) (pos k : ℕ) → StandsAt o types strings pos → has_item_names (kind (frame_at o types pos)) ≡ true → k < vlen (frame_at o types pos)
+pub item_within : (o : Order) (types strings : List ℕ) (pos k : ℕ) → HasRecordAt o types strings pos → has_item_names (kind (frame_at o types pos)) ≡ true → k < vlen (frame_at o types pos)
     → item_word (frame_at o types pos) k < length strings
 item_within o types strings pos k at has low =
     let f = frame_at o types pos in
     let total : k < item_total f = omega (arith, named_total f at.frame has, low) in
     TextAt-inside strings (item_word f k) (text_from strings (item_word f k)) (at.item_names k total has).text
 
-pub own_within : (o : Order) (types strings : List ℕ) (pos : ℕ) → StandsAt o types strings pos → name_word (frame_at o types pos) < length strings
+pub own_within : (o : Order) (types strings : List ℕ) (pos : ℕ) → HasRecordAt o types strings pos → name_word (frame_at o types pos) < length strings
 own_within o types strings pos at =
     let f = frame_at o types pos in
     TextAt-inside strings (name_word f) (text_from strings (name_word f)) at.name.text

@@ -14,7 +14,7 @@ use Rattle.btf_types.specs.strings.LongestTexts.{AreLongest}
 use Rattle.btf_types.specs.strings.CommonTails.{at_rank, AreInTailOrder}
 use Rattle.btf_types.proofs.Members.{Has, Has-from_Contains, Contains-from_Has}
 use Rattle.btf_types.proofs.StringLemmas.Texts.{table_split}
-use Rattle.btf_types.proofs.StringLemmas.Longest.{longest_tell_host}
+use Rattle.btf_types.proofs.StringLemmas.Longest.{longest_have_host}
 use Rattle.bpf_canon.specs.btf.strings.FirstUses.{AreMarked}
 use Rattle.bpf_canon.specs.btf.strings.UsedOffsets.{number_of}
 use Rattle.bpf_canon.specs.btf.strings.Longest.{IsUsed, IsWithin, AreLongestOf}
@@ -77,7 +77,7 @@ module _ (section slots offsets : List ℕ) (texts tails : List Tail) (found : L
           numbered = h.numbered;
           inside = h.inside;
           last = h.last;
-          is_host = longest_tell_host xs (map (tail_text section) texts) are (text_from section off) ∙ h.host (kept (map (tail_text section) texts)) order;
+          is_host = longest_have_host xs (map (tail_text section) texts) are (text_from section off) ∙ h.host (kept (map (tail_text section) texts)) order;
           before = h.before;
           long = h.long;
         };

@@ -7,7 +7,7 @@ use Rattle.btf_types.specs.Reading.{text_from}
 use Rattle.btf_types.specs.strings.SharedNames.{is_suffix}
 use Rattle.btf_types.specs.strings.CommonTails.{at_rank, IsFirstRank, IsNextHost}
 use Rattle.btf_types.proofs.StringLemmas.Suffixes.{Ends, Ends-refl, Ends-trans, Ends-length, Ends-from_suffix, suffix_from_Ends}
-use Rattle.btf_types.proofs.StringLemmas.CommonTails.{first_ends, rank_tells_host}
+use Rattle.btf_types.proofs.StringLemmas.CommonTails.{first_ends, rank_has_host}
 use Rattle.bpf_canon.specs.btf.strings.Tails.{tail_text}
 use Rattle.bpf_canon.specs.btf.strings.Longest.{IsUsed, IsWithin, AreLongestOf}
 use Rattle.bpf_canon.specs.btf.strings.Ranks.{AreRanked}
@@ -82,7 +82,7 @@ module _ (section slots : List ℕ) (ts : List Tail) (common hosts : List ℕ) (
         numbered = host_is;
         inside = n.inside;
         last = n.stops;
-        host = λ ks order. rank_tells_host ks texts order (text_from section off) l rank (get_or hosts l 0) (omega (arith, inside, length-map ts (tail_text section))) (suffix_from_Ends _ _ (ends_rank rank off inside within)) is n;
+        host = λ ks order. rank_has_host ks texts order (text_from section off) l rank (get_or hosts l 0) (omega (arith, inside, length-map ts (tail_text section))) (suffix_from_Ends _ _ (ends_rank rank off inside within)) is n;
         before = omega (arith, before_is, within_length section slots (get_or ts rank no_tail) off (used rank no_tail inside) within, length_of_rank (get_or hosts l 0) (next_inside rank l inside below));
         long = len_is ∙ sym (length_of_rank (get_or hosts l 0) (next_inside rank l inside below));
       }

@@ -7,7 +7,7 @@ use Rattle.std.proofs.lemmas.List.Concat.{flat_map-append}
 use Rattle.btf_raw.specs.Header.{HasNulEnds}
 use Rattle.btf_types.specs.Names.{with_nul}
 use Rattle.btf_types.specs.Reading.{text_from}
-use Rattle.btf_types.proofs.TableLemmas.TextSteps.{text_stands}
+use Rattle.btf_types.proofs.TableLemmas.TextSteps.{text_there}
 use Rattle.bpf_canon.specs.btf.strings.HostLayout.{span_bytes, IsSpan}
 use Rattle.bpf_canon.specs.declared.btf.strings.host_layout.Span.{Span}
 
@@ -19,9 +19,9 @@ pub record SpanOf (section : List ℕ) (off : ℕ) (s : Span) : Type 0 where
 pub span_of : (section : List ℕ) (off n : ℕ) → HasNulEnds section → off < length section → n ≡ length (text_from section off) → SpanOf section off (record { start = off; end = off + n })
 span_of section off n ends inside n_is =
     let x = text_from section off in
-    let text = text_stands section off ends inside in
+    let text = text_there section off ends inside in
     let rest : drop off section ≡ x ++ 0 ∷ text.after =
-    ap (drop off) (text.stands ∙ append_assoc text.before x (0 ∷ text.after)) ∙ ap (λ (k : ℕ). drop k (text.before ++ (x ++ 0 ∷ text.after))) (sym text.place) ∙ drop-append_seam text.before (x ++ 0 ∷ text.after) in
+    ap (drop off) (text.is_there ∙ append_assoc text.before x (0 ∷ text.after)) ∙ ap (λ (k : ℕ). drop k (text.before ++ (x ++ 0 ∷ text.after))) (sym text.place) ∙ drop-append_seam text.before (x ++ 0 ∷ text.after) in
     let long : length x + suc (length text.after) ≡ length section - off = sym (length-append x (0 ∷ text.after)) ∙ ap (λ (l : List ℕ). length l) (sym rest) ∙ length-drop off section in
     record {
       span = record { up = omega arith; inside = omega (arith, n_is, long, inside) };

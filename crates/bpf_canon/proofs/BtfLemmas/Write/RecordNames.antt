@@ -17,7 +17,7 @@ use Rattle.btf_types.specs.Reading.{text_from, item_from, item_of, item_total, r
 use Rattle.btf_types.proofs.KindCases.{KindIs, IsStruct, IsUnion, IsEnum, IsFuncProto, IsEnum64}
 use Rattle.btf_types.proofs.FaultlessLemmas.FaultlessWords.{known}
 use Rattle.btf_types.proofs.Lists.{length-tabulate, get_or-tabulate}
-use Rattle.btf_types.proofs.TableLemmas.TextSteps.{text_stands, decided}
+use Rattle.btf_types.proofs.TableLemmas.TextSteps.{text_there, decided}
 use Rattle.bpf_canon.specs.btf.write.KeptFrames.{frame_in}
 use Rattle.bpf_canon.specs.btf.write.NameOffsets.{item_word, name_offsets, all_offsets, HasNamedItems, HasNotedNames}
 use Rattle.bpf_canon.specs.btf.strings.NamesByPlace.{NamesByPlace}
@@ -100,7 +100,7 @@ named_total f is has = rw (named_words (known f is) has) refl
 pub head_name_is : (strings : List ℕ) (r : TypeRecord) (f : List ℕ) → HasNulEnds strings → Spells strings r f → head_name r.head ≡ text_from strings (name_word f)
 head_name_is strings r f ends s =
     let offset : name_word f ≡ s.name_offset = ap (λ (t : List ℕ). slice_index t 0) s.whole in
-    let text = text_stands strings s.name_offset ends (TextAt-inside strings s.name_offset _ s.name.text) in
+    let text = text_there strings s.name_offset ends (TextAt-inside strings s.name_offset _ s.name.text) in
     rw offset (TextAt-unique strings s.name_offset _ (text_from strings s.name_offset) s.name.text text)
 
 item_names_are : (strings f : List ℕ) → IsFrame f → has_item_names (kind f) ≡ true

@@ -15,7 +15,8 @@ use Rattle.btf_raw.specs.Kinds.{item_words, kind_of, flag_of, has_item_names, is
 use Rattle.btf_raw.specs.Frames.{IsFrame, info_word, third_word, name_word, kind, vlen, flag, bytes_of, section_of}
 use Rattle.btf_types.specs.Values.{TypeHead, KStruct, KUnion, TypeItem, Entry, TypeRecord}
 use Rattle.btf_types.specs.Names.{head_name}
-use Rattle.btf_types.specs.Spelling.{kind_number, head_third, head_tail, bit, FlagSpells, record_vlen, info, ItemSpells, Spells}
+use Rattle.btf_raw.specs.Heads.{bit}
+use Rattle.btf_types.specs.Spelling.{kind_number, head_third, head_tail, FlagSpells, record_vlen, info, ItemSpells, Spells}
 use Rattle.btf_types.specs.Good.{has_width, has_bit_fields}
 use Rattle.btf_types.specs.Reading.{text_from, head_from, item_from, item_of, item_total, record_of, frame_at, records_at, tabulate}
 use Rattle.btf_types.proofs.KindCases.{KindIs, IsStruct, IsUnion, IsEnum, IsFuncProto, IsEnum64}

@@ -6,7 +6,7 @@ use Rattle.btf_types.specs.Values.{TypeRecord}
 use Rattle.btf_types.specs.Spelling.{kind_number, head_tail, record_vlen, info}
 use Rattle.btf_types.specs.Good.{has_bit_fields}
 use Rattle.btf_types.specs.Reading.{frame_at, record_of}
-use Rattle.btf_types.specs.tables.PlaceWords.{StandsAt}
+use Rattle.btf_types.specs.tables.PlaceWords.{HasRecordAt}
 use Rattle.bpf_canon.specs.btf.CanonicalBtf.{canonical_flag, item_words}
 
 -- the frame at a place, and its record
@@ -18,7 +18,7 @@ record_in s pos = record_of s.strings.now (frame_in s pos)
 
 -- a record stands at this place
 abbrev pub HasRecord : FileSections → ℕ → Type 0
-HasRecord s pos = StandsAt s.order s.types.now s.strings.now pos
+HasRecord s pos = HasRecordAt s.order s.types.now s.strings.now pos
 
 -- info of a record, with its canonical kind_flag
 abbrev pub record_info : TypeRecord → ℕ

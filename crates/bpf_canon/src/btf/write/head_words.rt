@@ -1,4 +1,4 @@
-//! The numbers of a record's head, as they stand in its words (btf.rst section 2.2).
+//! The numbers of a head, as they are in its words (btf.rst section 2.2).
 ghost use Rattle.std.specs.Prelude.{◌≡◌, ◌+◌, ◌*◌, ◌<◌, ◌^◌};
 ghost use Rattle.btf_types.specs.Spelling as spec;
 ghost use Rattle.btf_types.specs.Values.{head_value};
@@ -9,7 +9,7 @@ use btf_raw::{
     ARRAY, CONST, DATASEC, DECL_TAG, ENUM, ENUM64, FLOAT, FUNC, FUNC_PROTO, FWD, INT, PTR,
     RESTRICT, STRUCT, TYPE_TAG, TYPEDEF, UNION, VAR, VOLATILE,
 };
-use btf_types::{Encoding, Head, Linkage};
+use btf_types::{Encoding, Head};
 
 // The number of the head's kind.
 pub(crate) fn kind_number(head: Head<'_>) -> u8
@@ -78,18 +78,6 @@ fn kind_flag(head: Head<'_>, bit_fields: bool) -> u32
     })
 }
 
-// The number of a linkage.
-pub(crate) fn linkage_number(linkage: Linkage) -> u32
-    ensures is { result ≡ spec.linkage_number linkage }
-    ensures few { result < 3 }
-{
-    match linkage {
-        Linkage::LStatic => 0,
-        Linkage::LGlobal => 1,
-        Linkage::LExtern => 2,
-    }
-}
-
 // vlen: the linkage of a FUNC, else the number of items.
 fn head_vlen(head: Head<'_>, count: u32) -> u32
     requires { count < 2 ^ 16 }
@@ -97,12 +85,12 @@ fn head_vlen(head: Head<'_>, count: u32) -> u32
     ensures fits { result < 2 ^ 16 }
 {
     match head {
-        Head::KFunc { linkage, .. } => linkage_number(linkage),
+        Head::KFunc { linkage, .. } => linkage.number(),
         _ => count,
     }
 }
 
-// The word info of a head with so many items.
+// The word info of a head with this number of items.
 pub(crate) fn info_word(head: Head<'_>, count: u32, bit_fields: bool) -> u32
     requires { count < 2 ^ 16 }
     ensures { result ≡ spec.info (spec.kind_number (head_value head.entry)) (words.head_vlen (head_value head.entry) count) (canonical_flag (head_value head.entry) bit_fields) }
@@ -112,24 +100,11 @@ pub(crate) fn info_word(head: Head<'_>, count: u32, bit_fields: bool) -> u32
         + (kind_flag(head, bit_fields) << 31)
 }
 
-// The number of an encoding.
-pub(crate) fn encoding_number(encoding: Encoding) -> u32
-    ensures is { result ≡ spec.encoding_number encoding }
-    ensures few { result < 5 }
-{
-    match encoding {
-        Encoding::Plain => 0,
-        Encoding::Signed => 1,
-        Encoding::Char => 2,
-        Encoding::Bool => 4,
-    }
-}
-
 // The word of an INT: its bits, its offset and its encoding.
 pub(crate) fn int_word(encoding: Encoding, offset: u8, bits: u8) -> u32
     ensures { result ≡ bits + 2 ^ 16 * offset + 2 ^ 24 * spec.encoding_number encoding }
 {
-    u32::from(bits) + (u32::from(offset) << 16) + (encoding_number(encoding) << 24)
+    u32::from(bits) + (u32::from(offset) << 16) + (encoding.number() << 24)
 }
 
 // The word of a component, -1 where there is none.

@@ -16,9 +16,7 @@ ghost use Rattle.bpf_canon.specs.btf.CanonicalBtf.{canonical, item_words, record
 
 use crate::btf::names::kept::kept_names;
 use crate::btf::names::shared::SharedNames;
-use crate::btf::write::head_words::{
-    component_word, head_third, info_word, int_word, linkage_number,
-};
+use crate::btf::write::head_words::{component_word, head_third, info_word, int_word};
 use crate::btf::write::header::{push_header, push_words};
 use crate::btf::write::sections::write_sections;
 use bpf_words::Order;
@@ -45,7 +43,7 @@ fn push_tail<A: Allocator>(
             index,
             count,
         } => push_words(out, order, &[target, index, count]),
-        Head::KVar { linkage, .. } => push_words(out, order, &[linkage_number(linkage)]),
+        Head::KVar { linkage, .. } => push_words(out, order, &[linkage.number()]),
         Head::KDeclTag { component, .. } => push_words(out, order, &[component_word(component)]),
         _ => Ok(()),
     }

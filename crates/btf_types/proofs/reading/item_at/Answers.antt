@@ -7,14 +7,14 @@ use Rattle.btf_types.proofs.FaultlessLemmas.ItemReads.{item_read}
 use Rattle.btf_types.proofs.reading.item_at.Goals.{then-has_item_names, else-has_item_names}
 use Rattle.btf_types.proofs.reading.item_at.Goals as goal
 
-pub lent_name-name-requires-clause-stands : goal.lent_name-name-requires-clause-stands
-lent_name-name-requires-clause-stands c =
+pub lent_name-name-requires-clause-is_there : goal.lent_name-name-requires-clause-is_there
+lent_name-name-requires-clause-is_there c =
     let f = frame_at c.args.order c.args.types.now c.args.pos in
     let its_kind : c.kind_of-kind.result ≡ kind f = cc in
     let words : c.item_words.result ≡ item_words (kind f) = cc in
     let first : c.word_at-first.result ≡ slice_index f (3 + item_words (kind f) * c.args.k) = c.word_at-first.ensures ∙ ap (λ (w : ℕ). slice_index f (3 + w * c.args.k)) words in
     let has : has_item_names (kind f) ≡ true = cc in
-    rw first (c.requires.stands.item_names c.args.k c.requires.inside has)
+    rw first (c.requires.is_there.item_names c.args.k c.requires.inside has)
 
 pub returns : goal.returns
 returns c =
@@ -23,7 +23,7 @@ returns c =
     let words : 3 + c.item_words.result * c.args.k ≡ 3 + item_words (kind f) * c.args.k = ap (λ (w : ℕ). 3 + w * c.args.k) (cc) in
     let its_flag : c.flag_of.result ≡ flag f = cc in
     rw c.item_from.ensures
-    (item_read c.args.strings.now f c.requires.stands.frame c.args.k (3 + c.item_words.result * c.args.k) c.requires.inside words
+    (item_read c.args.strings.now f c.requires.is_there.frame c.args.k (3 + c.item_words.result * c.args.k) c.requires.inside words
     c.if-has_item_names.name.now c.kind_of-kind.result c.flag_of.result c.word_at-first.result c.word_at.result c.word_at-2.result
     its_kind its_flag c.word_at-first.ensures c.word_at.ensures c.word_at-2.ensures
     (λ has. elim c.if-has_item_names.branch [

@@ -1,8 +1,8 @@
--- Block by block: a block with a NUL ends no long text; in another block stands one, whose end is noted.
+-- Block by block: a block with a NUL ends no long text; another block is inside one, whose end is noted.
 use Rattle.std.proofs.Common.{◌+◌, [], ◌∷◌, length, ◌∙◌, inl, inr, refl, arith}
 use Rattle.std.proofs.Math.Seq.{drop-length, take-length}
 use Rattle.std.proofs.lemmas.List.{drop-append-le, take-append-le, length-append}
-use Rattle.btf_types.proofs.StringLemmas.LongEnds.{none_yet, more_bytes, one_end_more, nul_behind}
+use Rattle.btf_types.proofs.StringLemmas.LongEnds.{none_yet, more_bytes, one_end_more, nul_after}
 use Rattle.btf_types.proofs.tables.string_ends.push_long_ends.Goals as goal
 
 pub blocks-2-init : goal.blocks-2-init
@@ -37,7 +37,7 @@ blocks-2-preserved g c =
       kept = take-append-le (length old) c.blocks-2.out.items (end ∷ []) i.long ∙ i.kept;
       long = omega (arith, length-append c.blocks-2.out.items (end ∷ []));
       ends = rw (drop-append-le (length old) c.blocks-2.out.items (end ∷ []) i.long) (one_end_more c.args.strings.now _ c.blocks-2.at end i.ends i.gap is);
-      gap = nul_behind c.args.strings.now c.blocks-2.at end is;
+      gap = nul_after c.args.strings.now c.blocks-2.at end is;
       inside = let inside = is.inside in omega arith;
     })
 

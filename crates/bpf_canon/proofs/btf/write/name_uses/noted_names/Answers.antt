@@ -1,7 +1,7 @@
 use Rattle.std.proofs.Common.{◌<◌, ℕ, List, [], length, get_or, ap, ◌∙◌, arith}
 use Rattle.std.proofs.lemmas.List.{take_all}
 use Rattle.btf_types.specs.Reading.{frame_at, frames_at}
-use Rattle.btf_types.proofs.TableLemmas.TableReads.{stands_at}
+use Rattle.btf_types.proofs.TableLemmas.TableReads.{has_record_at}
 use Rattle.bpf_canon.specs.btf.strings.FirstUses.{noted_all}
 use Rattle.bpf_canon.specs.btf.write.NameOffsets.{name_offsets, all_offsets}
 use Rattle.bpf_canon.proofs.BtfLemmas.Names.NoteSteps.{record_noted}
@@ -11,7 +11,7 @@ pub note_record-requires-clause-record : goal.note_record-requires-clause-record
 note_record-requires-clause-record g c =
     let s = c.args.sections.now in
     let low : c.loop-pos.pos-index < length s.places.now = omega arith in
-    stands_at s.order s.types.now s.strings.now s.places.now c.loop-pos.pos-index c.requires low
+    has_record_at s.order s.types.now s.strings.now s.places.now c.loop-pos.pos-index c.requires low
 
 pub loop-pos-preserved : goal.loop-pos-preserved
 loop-pos-preserved g c =

@@ -4,7 +4,7 @@ use Rattle.std.proofs.lemmas.List.{take_all}
 use Rattle.btf_raw.specs.Frames.{bytes_of, section_of}
 use Rattle.btf_types.specs.strings.SharedNames.{shared_place}
 use Rattle.btf_types.specs.Reading.{records_at}
-use Rattle.btf_types.proofs.TableLemmas.TableReads.{stands_at}
+use Rattle.btf_types.proofs.TableLemmas.TableReads.{has_record_at}
 use Rattle.bpf_canon.specs.btf.CanonicalBtf.{record_words}
 use Rattle.bpf_canon.specs.btf.write.KeptFrames.{record_in}
 use Rattle.bpf_canon.specs.btf.strings.NamesByPlace.{placed_texts}
@@ -16,7 +16,7 @@ pub push_record-requires-clause-record : goal.push_record-requires-clause-record
 push_record-requires-clause-record g c =
     let s = c.args.sections.now in
     let low : c.loop-pos.pos-index < length s.places.now = omega arith in
-    stands_at s.order s.types.now s.strings.now s.places.now c.loop-pos.pos-index c.requires.table low
+    has_record_at s.order s.types.now s.strings.now s.places.now c.loop-pos.pos-index c.requires.table low
 
 pub push_record-requires-clause-noted : goal.push_record-requires-clause-noted
 push_record-requires-clause-noted g c =

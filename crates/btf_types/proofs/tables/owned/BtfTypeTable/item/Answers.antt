@@ -1,13 +1,13 @@
 use Rattle.std.proofs.Common.{◌≡◌, ◌-◌, ◌<◌, length, get_or}
-use Rattle.btf_types.proofs.TableLemmas.TableReads.{stands_at, place_inside, record_there, item_inside}
+use Rattle.btf_types.proofs.TableLemmas.TableReads.{has_record_at, place_inside, record_there, item_inside}
 use Rattle.btf_types.proofs.tables.owned.BtfTypeTable.item.Goals as goal
 
-pub item_at-requires-clause-stands : goal.item_at-requires-clause-stands
-item_at-requires-clause-stands g c =
+pub item_at-requires-clause-is_there : goal.item_at-requires-clause-is_there
+item_at-requires-clause-is_there g c =
     let t = c.self.inside in
     let low : c.args.id - 1 < length t.places.records = place_inside t.order t.types.items t.strings.items t.places.records c.args.self.now c.args.id c.self.view_is c.requires.first c.requires.last in
     let at : c.record.result ≡ get_or t.places.records (c.args.id - 1) 0 = c.record.ensures in
-    rw (c.deref.ensures.value, c.deref-2.ensures.value, at) (stands_at t.order t.types.items t.strings.items t.places.records (c.args.id - 1) c.self.invariant.table low)
+    rw (c.deref.ensures.value, c.deref-2.ensures.value, at) (has_record_at t.order t.types.items t.strings.items t.places.records (c.args.id - 1) c.self.invariant.table low)
 
 pub item_at-requires-clause-inside : goal.item_at-requires-clause-inside
 item_at-requires-clause-inside g c =

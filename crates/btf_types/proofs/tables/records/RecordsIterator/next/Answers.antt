@@ -1,15 +1,15 @@
 use Rattle.std.proofs.Common.{◌+◌, ◌∷◌, length, ap, sym, ◌∙◌, arith}
 use Rattle.btf_types.specs.Values.{TypeHead}
 use Rattle.btf_types.specs.tables.TableInvariant.{records_left}
-use Rattle.btf_types.proofs.TableLemmas.TableReads.{stands_at}
+use Rattle.btf_types.proofs.TableLemmas.TableReads.{has_record_at}
 use Rattle.btf_types.proofs.TableLemmas.RecordSteps.{one_given}
 use Rattle.btf_types.proofs.tables.records.RecordsIterator.next.Goals as goal
 
-pub head_at-requires-clause-stands : goal.head_at-requires-clause-stands
-head_at-requires-clause-stands c =
+pub head_at-requires-clause-is_there : goal.head_at-requires-clause-is_there
+head_at-requires-clause-is_there c =
     let t = c.self.inside in
     let found = c.in_ok-pos.ensures.lookup.3 in
-    rw (found.1 0) (stands_at t.order t.types.now t.strings.now t.places.now t.given c.self.invariant.part.table found.0)
+    rw (found.1 0) (has_record_at t.order t.types.now t.strings.now t.places.now t.given c.self.invariant.part.table found.0)
 
 pub returns-clause-steps : goal.returns-clause-steps
 returns-clause-steps c =

@@ -1,5 +1,5 @@
-//! What a record asks of the types that it names: they are there, and of a kind and size that fit. A type is read at its place
-//! only where something is asked of it.
+//! Checks of the types that a record refers to: they are there, and their kinds and sizes fit. A type is read at its place
+//! only where its kind or size matters.
 
 ghost use Rattle.std.specs.Prelude.{◌≡◌, length};
 ghost use Rattle.btf_types.specs.judge.Checks as spec;
@@ -14,7 +14,7 @@ use btf_raw::{
     ARRAY, BtfCause, DATASEC, DECL_TAG, FUNC, FUNC_PROTO, FWD, INT, STRUCT, TYPEDEF, UNION, VAR,
 };
 
-/// Whether a type is of a kind that a record of this kind may name.
+/// Whether a record of this kind may refer to a type of the target's kind.
 #[tactic(auto, unfolding(crate::specs::judge::Checks::target_fits))]
 fn named_kind_fits(section: &Section, kind: u8, target: u32) -> bool
     requires { IsSection section.now }
@@ -23,10 +23,10 @@ fn named_kind_fits(section: &Section, kind: u8, target: u32) -> bool
     !matches!(kind, FUNC | DATASEC | DECL_TAG) || target_fits(kind, section.facts(target).kind)
 }
 
-/// The least cause that a third word has against it.
+/// Checks a third word: a size, a type, or 0.
 pub fn third_fault(section: &Section, kind: u8, third: u32, vlen: u16) -> Option<BtfCause>
     requires { IsSection section.now }
-    ensures { spec.TellsLeast (spec.ThirdFault kind third vlen (length (facts_in section.now)) (type_at (facts_in section.now) third).kind) result }
+    ensures { spec.IsLeastOf (spec.ThirdFault kind third vlen (length (facts_in section.now)) (type_at (facts_in section.now) third).kind) result }
 {
     if matches!(kind, ARRAY | FWD) && third != 0 {
         return Some(BtfCause::NotZero);
@@ -46,10 +46,10 @@ pub fn third_fault(section: &Section, kind: u8, third: u32, vlen: u16) -> Option
     None
 }
 
-/// The least cause that speaks against a type that a record of this kind names, beside its third word.
+/// Checks a type that a record of this kind refers to, other than by its third word.
 pub fn named_type_fault(section: &Section, kind: u8, target: u32) -> Option<BtfCause>
     requires { IsSection section.now }
-    ensures { spec.TellsLeast (NamedTypeFault (facts_in section.now) kind target) result }
+    ensures { spec.IsLeastOf (NamedTypeFault (facts_in section.now) kind target) result }
 {
     if target > section.count() {
         return Some(BtfCause::Reference);
@@ -71,10 +71,10 @@ fn member_int_fits(section: &Section, target: u32) -> bool
     facts.kind != INT || is_plain_int(facts.offset, facts.bits)
 }
 
-/// The least cause that speaks against a member's type, in a record with bit-fields or without.
+/// Checks a member's type, in a record with bit-fields or without.
 pub fn member_type_fault(section: &Section, bit_fields: bool, target: u32) -> Option<BtfCause>
     requires { IsSection section.now }
-    ensures { spec.TellsLeast (MemberTypeFault (facts_in section.now) bit_fields target) result }
+    ensures { spec.IsLeastOf (MemberTypeFault (facts_in section.now) bit_fields target) result }
 {
     if target > section.count() {
         return Some(BtfCause::Reference);
@@ -104,11 +104,10 @@ fn component_fits(section: &Section, target: u32, component: u32) -> bool
     }
 }
 
-/// The cause that speaks against the component of a DECL_TAG that names this type. The word is read unsigned, and -1 is no
-/// component.
+/// Checks the component of a DECL_TAG of this type. The word is read unsigned, and -1 is no component.
 pub fn component_fault(section: &Section, target: u32, word: u32) -> Option<BtfCause>
     requires { IsSection section.now }
-    ensures { spec.TellsLeast (ComponentFault (facts_in section.now) target word) result }
+    ensures { spec.IsLeastOf (ComponentFault (facts_in section.now) target word) result }
 {
     if word == u32::MAX || component_fits(section, target, word) {
         None

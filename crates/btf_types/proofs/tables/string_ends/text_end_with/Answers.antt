@@ -1,8 +1,8 @@
--- No NUL is near, so the text is long and its end is one of those that are kept.
+-- No NUL is near, so the text is long and its end is one of the kept ones.
 use Rattle.std.proofs.Common.{rules, of_calls, ℕ, nat_lt}
 use Rattle.std.proofs.lemmas.Fn.{always_returns_same}
 use Rattle.btf_types.proofs.StringLemmas.LongEnds.{found_among, ends_part}
-use Rattle.btf_types.proofs.tables.string_ends.end_of.Goals as goal
+use Rattle.btf_types.proofs.tables.string_ends.text_end_with.Goals as goal
 
 pub bounds-ends-passed : goal.bounds-ends-passed
 bounds-ends-passed c =

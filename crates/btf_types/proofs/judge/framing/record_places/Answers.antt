@@ -1,7 +1,7 @@
 use Rattle.std.proofs.Common.{arith}
 use Rattle.std.proofs.lemmas.Result.{err_from_is_err_and}
 use Rattle.btf_types.proofs.JudgeLemmas.FramingSteps.{framed_more, first_framing_fault}
-use Rattle.btf_types.proofs.judge.framing.places_of.Goals as goal
+use Rattle.btf_types.proofs.judge.framing.record_places.Goals as goal
 
 pub loop-pos-preserved : goal.loop-pos-preserved
 loop-pos-preserved g c =
