@@ -67,7 +67,7 @@ fn texts(alloc: Global, table: &BtfView<'_>) -> Result<(Vec<u8>, Vec<u8>), Alloc
     Ok((parts, whole))
 }
 
-/// Tells whether a file has a text by every call.
+/// Whether a file has a text by every call.
 fn is_shown(alloc: Global, bytes: &[u8], text: &[u8]) -> Result<bool, Fail> {
     let owned = Btf::parse(alloc, bytes)?;
     let lent = BtfView::parse(alloc, bytes)?;
