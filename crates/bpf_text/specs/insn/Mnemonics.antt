@@ -20,7 +20,7 @@ wide_kind_mnemonic kind.CodeAddr = codes "lddw_code"
 wide_kind_mnemonic kind.MapIdx = codes "lddw_idx"
 wide_kind_mnemonic kind.MapValueIdx = codes "lddw_idx_value"
 
--- the word of a mnemonic
+-- the text of a mnemonic
 abbrev pub text_of_mnemonic : Mnemonic → List ℕ
 text_of_mnemonic (Alu width op) = alu_mnemonic op ++ width_suffix width
 text_of_mnemonic (Movsx form) = movsx_mnemonic form
