@@ -14,7 +14,7 @@ next_only bytes token rest (u ∷ us) s h =
     let same = one_start bytes token rest u h.0 s h.1 in
     (us, ap (λ x. x ∷ us) (sym same.0), subst (λ r. AreTokens r us) (sym same.1) h.2)
 
--- one more token of those that the bytes have
+-- one more token of the bytes
 pub only_more : (rest token after : List ℕ) (tokens ts more : List (List ℕ)) → StartsWithToken rest token after → ts ≡ tokens ++ more → AreTokens rest more
     → (following : List (List ℕ)) × (ts ≡ (tokens ++ token ∷ []) ++ following) × AreTokens after following
 only_more rest token after tokens ts more s e h =
