@@ -1,4 +1,4 @@
-pub mod Arguments
+pub mod Operands
 pub mod Table
 pub mod Tokens
 pub mod Lines
@@ -7,6 +7,6 @@ pub mod LineCauseNames
 pub mod Written
 pub mod Numbers
 pub mod Mnemonics
-pub mod WordHash
-pub mod Forms
+pub mod MnemonicHash
+pub mod OperandFields
 pub mod Reading

@@ -1,4 +1,4 @@
-//! Worked examples, faulty texts, and growths that are refused.
+//! Worked examples, faulty texts, and allocations that are refused.
 
 mod largest;
 mod listings;
@@ -8,7 +8,7 @@ mod types;
 use std::fmt::Debug;
 use std::process::Abort;
 
-/// Ends the test where a value isn't the one that is wanted, and says in which case.
+/// Ends the test if a value isn't the one that is wanted, with the case in the message.
 fn equal<T: PartialEq + Debug>(rt: &impl Abort, value: &T, wanted: &T, case: &impl Debug) {
     assert_eq!(rt; value, wanted, "{case:?}");
 }

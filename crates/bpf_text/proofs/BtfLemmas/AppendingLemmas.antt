@@ -1,9 +1,9 @@
--- What a text held before stays in front of it, over calls that append.
+-- A text keeps its beginning over calls that append.
 use Rattle.std.proofs.Common.{◌≡◌, ℕ, List, ◌++◌, ap, ◌∙◌, append_assoc}
 use Rattle.std.specs.Prelude.{Result, Ok, Err, OnOk, is_ok, cond}
 use Rattle.bpf_text.specs.btf.Appending.{Appends}
 
--- more after a text that has the earlier one in front
+-- more after a text that begins with the earlier one
 pub kept_more : (before mid after more : List ℕ) → ((rest : List ℕ) × (mid ≡ before ++ rest)) → after ≡ mid ++ more → (rest : List ℕ) × (after ≡ before ++ rest)
 kept_more before mid after more kept e = (kept.0 ++ more, e ∙ ap (λ (t : List ℕ). t ++ more) kept.1 ∙ append_assoc before kept.0 more)
 

@@ -12,7 +12,7 @@ use Rattle.bpf_text.proofs.BtfLemmas.AppendingLemmas.{kept_more}
 ended : (a n x z : List ℕ) → a ++ n ++ (x ++ z) ≡ (a ++ n ++ x) ++ z
 ended a n x z = search (rules, append_assoc)
 
--- what stands behind the word of a type
+-- the text after the kind of a type
 head_text : (head : TypeHead) (items : ℕ) → opening head ++ flat_map quoted_byte (head_name head) ++ head_fields head items ≡ fields_text head items
 head_text (KInt n s e o b) items = search (rules, append_assoc)
 head_text (KPtr t) items = refl
@@ -35,7 +35,7 @@ head_text (KDeclTag n f t c) items = search (rules, append_assoc)
 head_text (KTypeTag n f t) items = search (rules, append_assoc)
 head_text (KEnum64 n g s) items = search (rules, append_assoc)
 
--- the number and the word before, and the end of the line behind
+-- the ID and the kind before, and the end of the line after
 around : (a b c k o n x z : List ℕ) → (a ++ b ++ c ++ k ++ o) ++ n ++ (x ++ z) ≡ a ++ b ++ c ++ k ++ (o ++ n ++ x) ++ z
 around a b c k o n x z = search (rules, append_assoc)
 
@@ -45,7 +45,7 @@ head_parts id head items =
     around (codes "[") (decimal id) (codes "] ") (kind_word head) (opening head) (flat_map quoted_byte (head_name head)) (head_fields head items) (codes "\n")
     ∙ ap (λ (t : List ℕ). codes "[" ++ decimal id ++ codes "] " ++ kind_word head ++ t ++ codes "\n") (head_text head items)
 
--- what stands behind the two spaces of an item
+-- the text after the two spaces of an item
 shown : (signed : Bool) (item : TypeItem) → item_start item ++ flat_map quoted_byte (item_name item) ++ item_fields signed item ≡ item_text signed item
 shown signed (Member n t b w) = search (rules, append_assoc)
 shown signed (EnumValue n v) = search (rules, append_assoc)

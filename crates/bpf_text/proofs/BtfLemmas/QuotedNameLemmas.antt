@@ -1,11 +1,11 @@
--- Names that are appended by runs of plain bytes.
+-- Names that are appended by runs of unescaped bytes.
 use Rattle.std.proofs.Common.{◌≡◌, ℕ, suc, ◌+◌, ◌-◌, ◌<◌, ◌≤◌, List, [], ◌∷◌, ◌++◌, length, take, drop, get_or, sym, ap, ◌∙◌, arith, append_assoc, append-nil, length-take}
 use Rattle.std.specs.List.{flat_map}
 use Rattle.std.proofs.lemmas.List.{flat_map_more, drop-append-le, drop-take, drop_all}
 use Rattle.std.proofs.Math.Seq.{take-suc}
 use Rattle.bpf_text.specs.btf.BtfText.{quoted_byte}
 
--- one byte more, as it stands between quotes
+-- one byte more, as it is written between quotes
 byte_more : (base bytes : List ℕ) (at : ℕ) → at < length bytes
     → (base ++ flat_map quoted_byte (take at bytes)) ++ quoted_byte (get_or bytes at 0) ≡ base ++ flat_map quoted_byte (take (at + 1) bytes)
 byte_more base bytes at h =
@@ -13,7 +13,7 @@ byte_more base bytes at h =
     let more : take (at + 1) bytes ≡ take at bytes ++ get_or bytes at 0 ∷ [] = rw next (take-suc bytes at 0 h) in
     flat_map_more quoted_byte base (take at bytes) (get_or bytes at 0) ∙ ap (λ (t : List ℕ). base ++ flat_map quoted_byte t) (sym more)
 
--- a plain byte makes the run longer
+-- an unescaped byte makes the run longer
 pub run_longer : (base text bytes : List ℕ) (start at : ℕ) → start ≤ at → at < length bytes → quoted_byte (get_or bytes at 0) ≡ get_or bytes at 0 ∷ []
     → text ++ drop start (take at bytes) ≡ base ++ flat_map quoted_byte (take at bytes)
     → text ++ drop start (take (at + 1) bytes) ≡ base ++ flat_map quoted_byte (take (at + 1) bytes)

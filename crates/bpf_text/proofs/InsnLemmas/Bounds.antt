@@ -1,12 +1,12 @@
--- How many tokens and arguments a line can have.
+-- The largest numbers of tokens and operands of a line.
 use Rattle.std.proofs.Common.{◌≡◌, ℕ, suc, ◌+◌, ◌*◌, ◌<◌, ◌≤◌, Bool, true, false, cond, List, [], ◌∷◌, length, refl, sym, ap, ◌∙◌, arith}
 use Rattle.std.proofs.lemmas.List.{length-map}
 use Rattle.std.specs.List.{AllZip, slice_split, onto_first}
 use Rattle.bpf_insn.specs.declared.insn.WideOf.TheVariants.{Number}
 use Rattle.bpf_insn.specs.declared.insn.Insn.{Insn}
 use Rattle.bpf_insn.specs.declared.insn.Insn.TheVariants.{Wide}
-use Rattle.bpf_text.specs.insn.Arguments.{Argument, register, number, signed, memory, kind_of, SpellsArgument, SpellsArguments, is_comma}
-use Rattle.bpf_text.specs.insn.Table.{arguments_of}
+use Rattle.bpf_text.specs.insn.Operands.{LineOperand, register, number, signed, memory, operand_kind, SpellsOperand, SpellsOperands, is_comma}
+use Rattle.bpf_text.specs.insn.Table.{operands_of}
 use Rattle.bpf_text.specs.insn.Listing.{IsForm}
 
 -- the number of elements of all parts
@@ -15,7 +15,7 @@ total [] = 0
 total (x ∷ xs) = length x + total xs
 
 -- a part has at most five tokens
-part_bound : (ts : List (List ℕ)) (a : Argument) → SpellsArgument ts a → length ts ≤ 5
+part_bound : (ts : List (List ℕ)) (a : LineOperand) → SpellsOperand ts a → length ts ≤ 5
 part_bound [] a h = omega arith
 part_bound (t ∷ []) a h = omega arith
 part_bound (t ∷ u ∷ []) a h = omega arith
@@ -27,7 +27,7 @@ part_bound (t ∷ u ∷ v ∷ w ∷ x ∷ y ∷ more) (number z) h = absurd h
 part_bound (t ∷ u ∷ v ∷ w ∷ x ∷ y ∷ more) (signed z) h = absurd h
 part_bound (t ∷ u ∷ v ∷ w ∷ x ∷ y ∷ more) (memory r z) h = absurd h
 
-parts_bound : (parts : List (List (List ℕ))) (xs : List Argument) → AllZip SpellsArgument parts xs → total parts ≤ 5 * length xs
+parts_bound : (parts : List (List (List ℕ))) (xs : List LineOperand) → AllZip SpellsOperand parts xs → total parts ≤ 5 * length xs
 parts_bound [] [] h = omega arith
 parts_bound [] (x ∷ xs) h = absurd h
 parts_bound (p ∷ parts) [] h = absurd h
@@ -57,18 +57,18 @@ split_total : {X : Type 0} (p : X → Bool) (xs : List X) → Counts xs (slice_s
 split_total p [] = (omega arith, omega arith)
 split_total p (x ∷ xs) = by_test x xs (slice_split p xs) (split_total p xs) (p x)
 
--- three arguments have at most 17 tokens
-pub tokens_bound : (ts : List (List ℕ)) (xs : List Argument) → length xs ≤ 3 → SpellsArguments ts xs → length ts ≤ 17
+-- three operands have at most 17 tokens
+pub tokens_bound : (ts : List (List ℕ)) (xs : List LineOperand) → length xs ≤ 3 → SpellsOperands ts xs → length ts ≤ 17
 tokens_bound ts [] l h = omega (arith, ap length h)
 tokens_bound ts (x ∷ xs) l h =
-    omega (arith, (split_total is_comma ts).0, parts_bound (slice_split is_comma ts) (x ∷ xs) h, zip_length SpellsArgument (slice_split is_comma ts) (x ∷ xs) h)
+    omega (arith, (split_total is_comma ts).0, parts_bound (slice_split is_comma ts) (x ∷ xs) h, zip_length SpellsOperand (slice_split is_comma ts) (x ∷ xs) h)
 
--- an instruction has at most three arguments
-arguments_bound : (i : Insn) → length (arguments_of i) ≤ 3
-arguments_bound (Wide d (Number n)) = omega arith
-arguments_bound _ = omega arith
+-- an instruction has at most three operands
+operands_bound : (i : Insn) → length (operands_of i) ≤ 3
+operands_bound (Wide d (Number n)) = omega arith
+operands_bound _ = omega arith
 
--- so does what has the form of a word
+-- so have tokens that match a mnemonic
 pub form_bound : (word : List ℕ) (ts : List (List ℕ)) (form : IsForm word ts) → length form.2.0 ≤ 3
 form_bound word ts form =
-    omega (arith, arguments_bound form.0, sym (length-map form.2.0 kind_of) ∙ ap length form.2.1 ∙ length-map (arguments_of form.0) kind_of)
+    omega (arith, operands_bound form.0, sym (length-map form.2.0 operand_kind) ∙ ap length form.2.1 ∙ length-map (operands_of form.0) operand_kind)

@@ -1,8 +1,8 @@
--- A table of 256 truth values is held against a test.
+-- A table of 256 truth values agrees with a test.
 use Rattle.std.proofs.Common.{◌≡◌, ℕ, zero, suc, ◌<◌, Bool, false, List, [], ◌∷◌, inl, inr, get_or, drop, ap, arith}
 use Rattle.std.proofs.lemmas.Bool.{cases_eq}
 
--- the answers at those below n
+-- the results at the numbers below n
 abbrev pub answers : (ℕ → Bool) → ℕ → List Bool
 answers f zero = []
 answers f (suc n) = f n ∷ answers f n
@@ -14,5 +14,5 @@ same_at f g (suc n) e k h = elim (cases_eq k n) [
   | inr other ↦ same_at f g n (ap (λ (xs : List Bool). drop 1 xs) e) k (omega arith)
 ]
 
-pub table_told : (f g : ℕ → Bool) → answers f 256 ≡ answers g 256 → (n : ℕ) → n < 256 → f n ≡ g n
-table_told f g e n h = same_at f g 256 e n h
+pub same_table : (f g : ℕ → Bool) → answers f 256 ≡ answers g 256 → (n : ℕ) → n < 256 → f n ≡ g n
+same_table f g e n h = same_at f g 256 e n h

@@ -9,10 +9,10 @@ use Rattle.bpf_text.specs.declared.insn.fault.LineCause.TheVariants.{Char, Word,
 use Rattle.bpf_text.specs.declared.insn.fault.ListError.{ListError}
 use Rattle.bpf_text.specs.declared.insn.fault.ListError.TheVariants.{Fault, Memory}
 use Rattle.bpf_text.specs.declared.insn.fault.LineFault.{LineFault}
-use Rattle.bpf_text.specs.insn.Table.{arguments_of}
+use Rattle.bpf_text.specs.insn.Table.{operands_of}
 use Rattle.bpf_text.specs.insn.Tokens.{code_of, is_blank, is_word_byte, is_symbol, is_stray, IsTokenBefore, AreTokens}
 use Rattle.bpf_text.specs.insn.Listing.{IsTokenForm, ListsLine, IsCause, Lists, IsListFault}
-use Rattle.bpf_text.specs.insn.Reading.{Refuses}
+use Rattle.bpf_text.specs.insn.Reading.{RefusesText}
 use Rattle.bpf_text.proofs.InsnLemmas.OneReading.{one_tokens}
 use Rattle.bpf_text.proofs.InsnLemmas.OneInsn.{one_listing}
 
@@ -41,14 +41,14 @@ none_of p each (x ∷ xs) h = neither (is_stray x) (list_any is_stray xs) (each 
 blank_known : (b : ℕ) → is_blank b ≡ true → is_stray b ≡ false
 blank_known b h = known (is_blank b) (is_word_byte b) (is_symbol b) (inl h)
 
-word_known : (b : ℕ) → is_word_byte b ≡ true → is_stray b ≡ false
-word_known b h = known (is_blank b) (is_word_byte b) (is_symbol b) (inr (inl h))
+mnemonic_known : (b : ℕ) → is_word_byte b ≡ true → is_stray b ≡ false
+mnemonic_known b h = known (is_blank b) (is_word_byte b) (is_symbol b) (inr (inl h))
 
 symbol_known : (b : ℕ) → is_symbol b ≡ true → is_stray b ≡ false
 symbol_known b h = known (is_blank b) (is_word_byte b) (is_symbol b) (inr (inr h))
 
 token_known : (token rest : List ℕ) → IsTokenBefore token rest → list_any is_stray token ≡ false
-token_known token rest (inl h) = none_of is_word_byte word_known token h.1
+token_known token rest (inl h) = none_of is_word_byte mnemonic_known token h.1
 token_known token rest (inr h) = rw h.1 (neither (is_stray h.0) false (symbol_known h.0 h.2) refl)
 
 pub no_stray : (bytes : List ℕ) (ts : List (List ℕ)) → AreTokens bytes ts → list_any is_stray bytes ≡ false
@@ -78,7 +78,7 @@ excludes line Word [] c h = none_there line c.0 c.1 c.2 h
 excludes line Word (i ∷ []) c h = let form = form_of line c.0 c.1 i c.2 h in c.3 (i, form.0)
 excludes line Word (i ∷ j ∷ more) c h = h
 excludes line Shape [] c h = none_there line c.0 c.1 c.2 h
-excludes line Shape (i ∷ []) c h = let form = form_of line c.0 c.1 i c.2 h in c.4 (i, form.0, (arguments_of i, refl, form.1))
+excludes line Shape (i ∷ []) c h = let form = form_of line c.0 c.1 i c.2 h in c.4 (i, form.0, (operands_of i, refl, form.1))
 excludes line Shape (i ∷ j ∷ more) c h = h
 excludes line Range [] c h = none_there line c.0 c.1 c.2 h
 excludes line Range (i ∷ []) c h = c.4 i h.0 (form_of line c.0 c.1 i c.2 h)
@@ -95,18 +95,18 @@ no_listing text fault l h k =
     let w = at_line h.front h.line h.back k.listed (rw h.lines at k.each) in
     excludes h.line fault.cause w.0 h.cause w.1
 
--- ---- what an answer says
+-- ---- what a result says
 
 module _ {A : Type 0} (text : List ℕ) where
-  -- what is listed is what is read, unless memory was refused
-  pub all_read : (r : Result (Vec Insn A) ListError) → MatchResult r (λ v. Lists text v.items) (Refuses text) → (l : List Insn) → Lists text l → MatchResult r (λ v. v.items ≡ l) (λ e. e ≡ Memory)
+  -- what is listed is what is read, unless memory runs out
+  pub all_read : (r : Result (Vec Insn A) ListError) → MatchResult r (λ v. Lists text v.items) (RefusesText text) → (l : List Insn) → Lists text l → MatchResult r (λ v. v.items ≡ l) (λ e. e ≡ Memory)
   all_read (Ok v) h l k = one_listing text v.items l h k
   all_read (Err (Fault fault)) h l k = absurd (no_listing text fault l h k)
   all_read (Err Memory) h l k = refl
 
-  pub found_listed : (r : Result (Vec Insn A) ListError) → MatchResult r (λ v. Lists text v.items) (Refuses text) → IfOk r (λ v. Lists text v.items)
+  pub found_listed : (r : Result (Vec Insn A) ListError) → MatchResult r (λ v. Lists text v.items) (RefusesText text) → IfOk r (λ v. Lists text v.items)
   found_listed (Ok v) h = h
   found_listed (Err e) h = tt
 
-  pub fault_told : (r : Result (Vec Insn A) ListError) → MatchResult r (λ v. Lists text v.items) (Refuses text) → (f : LineFault) → r ≡ Err (Fault f) → IsListFault text f
-  fault_told r h f e = rw e at h
+  pub fault_returned : (r : Result (Vec Insn A) ListError) → MatchResult r (λ v. Lists text v.items) (RefusesText text) → (f : LineFault) → r ≡ Err (Fault f) → IsListFault text f
+  fault_returned r h f e = rw e at h

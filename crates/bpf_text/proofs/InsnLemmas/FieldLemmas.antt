@@ -1,4 +1,4 @@
--- What reading one field answers.
+-- What reading one field returns.
 use Rattle.std.proofs.Common.{◌≡◌, ◌≢◌, ◌^◌, ◌<◌, ℕ, ℤ, pos, refl, sym, ap, ◌∙◌, subst, Ok, Err, FitsSigned}
 use Rattle.std.specs.Int.{Width, w16, w32}
 use Rattle.bpf_insn.specs.declared.insn.Reg.{Reg as Register}
@@ -6,24 +6,24 @@ use Rattle.bpf_insn.specs.declared.insn.Operand.{Operand}
 use Rattle.bpf_insn.specs.declared.insn.Operand.TheVariants.{Imm, Reg}
 use Rattle.bpf_insn.specs.Table.{IsOperand}
 use Rattle.bpf_text.specs.declared.insn.number.Number.{Number}
-use Rattle.bpf_text.specs.declared.insn.spelled.Spelled.TheVariants.{Literal, Memory}
+use Rattle.bpf_text.specs.declared.insn.read_operand.ReadOperand.TheVariants.{Literal, Memory}
 use Rattle.bpf_text.specs.declared.insn.fault.LineCause.TheVariants.{Range}
-use Rattle.bpf_text.specs.insn.Arguments.{Argument, register, number, signed, memory, kind_of, a_number}
-use Rattle.bpf_text.specs.insn.Table.{operand_argument}
-use Rattle.bpf_text.specs.insn.Numbers.{IsNumber, IsArgument}
-use Rattle.bpf_text.specs.insn.Forms.{Field, address_field, operand_field, wide_number_field, ReadsField}
+use Rattle.bpf_text.specs.insn.Operands.{LineOperand, register, number, signed, memory, operand_kind, a_number}
+use Rattle.bpf_text.specs.insn.Table.{source_operand}
+use Rattle.bpf_text.specs.insn.Numbers.{IsNumber, IsReadAs}
+use Rattle.bpf_text.specs.insn.OperandFields.{Field, address_field, source_field, imm64_field, ReadsField}
 
 -- a number that the field holds
 pub count_some : {X : Type 0} (field : Field X) (x : X) (n : Number) (v : ℤ) → field.valid x → field.written x ≡ number v → ((z : ℤ) → IsNumber n z → v ≡ z)
-    → (a : Argument) → IsArgument (Literal n) a → ReadsField field a (Ok x)
+    → (a : LineOperand) → IsReadAs (Literal n) a → ReadsField field a (Ok x)
 count_some field x n v ok e cases (register r) h = absurd h
 count_some field x n v ok e cases (number z) h = (ok, ap number (sym (cases z h)) ∙ sym e)
 count_some field x n v ok e cases (signed z) h = (ok, ap number (sym (cases z h)) ∙ sym e)
 count_some field x n v ok e cases (memory r z) h = absurd h
 
 -- a number that the field doesn't hold
-pub count_none : {X : Type 0} (field : Field X) (P : ℤ → Type 0) (n : Number) → ((z : ℤ) → IsNumber n z → ¬ P z) → (x : X) → kind_of (field.written x) ≡ a_number
-    → ((y : X) (z : ℤ) → field.valid y → number z ≡ field.written y → P z) → (a : Argument) → IsArgument (Literal n) a → ReadsField field a (Err Range)
+pub count_none : {X : Type 0} (field : Field X) (P : ℤ → Type 0) (n : Number) → ((z : ℤ) → IsNumber n z → ¬ P z) → (x : X) → operand_kind (field.written x) ≡ a_number
+    → ((y : X) (z : ℤ) → field.valid y → number z ≡ field.written y → P z) → (a : LineOperand) → IsReadAs (Literal n) a → ReadsField field a (Err Range)
 count_none field P n none x k held (register r) h = absurd h
 count_none field P n none x k held (number z) h = ((x, sym k), (λ y v e. none z h (held y z v e)))
 count_none field P n none x k held (signed z) h = ((x, sym k), (λ y v e. none z h (held y z v e)))
@@ -35,29 +35,29 @@ fits_by w y z f e = subst (λ k. FitsSigned w k) e f
 pub number_fits : (w : Width) (y z : ℤ) → FitsSigned w y → number z ≡ number y → FitsSigned w z
 number_fits w y z f e = let same : y ≡ z = cc in fits_by w y z f same
 
-pub operand_fits : (y : Operand) (z : ℤ) → IsOperand y → number z ≡ operand_argument y → FitsSigned w32 z
-operand_fits (Imm k) z f e = number_fits w32 k z f e
-operand_fits (Reg r) z f e = cc
+pub source_fits : (y : Operand) (z : ℤ) → IsOperand y → number z ≡ source_operand y → FitsSigned w32 z
+source_fits (Imm k) z f e = number_fits w32 k z f e
+source_fits (Reg r) z f e = cc
 
-pub address_some : (base : Register) (n : Number) (u v : ℤ) → FitsSigned w16 v → u ≡ v → ((z : ℤ) → IsNumber n z → v ≡ z) → (a : Argument) → IsArgument (Memory base n) a
+pub address_some : (base : Register) (n : Number) (u v : ℤ) → FitsSigned w16 v → u ≡ v → ((z : ℤ) → IsNumber n z → v ≡ z) → (a : LineOperand) → IsReadAs (Memory base n) a
     → ReadsField address_field a (Ok (base, u))
 address_some base n u v ok e cases (register s) h = absurd h
 address_some base n u v ok e cases (number z) h = absurd h
 address_some base n u v ok e cases (signed z) h = absurd h
 address_some base n u v ok e cases (memory s z) h = (fits_by w16 v u ok (sym e), (let b : base ≡ s = h.0 in let o : v ≡ z = cases z h.1 in cc))
 
-pub address_none : (base : Register) (n : Number) → ((z : ℤ) → IsNumber n z → ¬ FitsSigned w16 z) → (a : Argument) → IsArgument (Memory base n) a → ReadsField address_field a (Err Range)
+pub address_none : (base : Register) (n : Number) → ((z : ℤ) → IsNumber n z → ¬ FitsSigned w16 z) → (a : LineOperand) → IsReadAs (Memory base n) a → ReadsField address_field a (Err Range)
 address_none base n none (register s) h = absurd h
 address_none base n none (number z) h = absurd h
 address_none base n none (signed z) h = absurd h
 address_none base n none (memory s z) h = (((base, pos 0), refl), (λ y v e. let same : y.1 ≡ z = cc in none z h.1 (fits_by w16 y.1 z v same)))
 
-pub operand_some : (n : Number) (u v : ℤ) → FitsSigned w32 v → u ≡ v → ((z : ℤ) → IsNumber n z → v ≡ z) → (a : Argument) → IsArgument (Literal n) a → ReadsField operand_field a (Ok (Imm u))
-operand_some n u v ok e cases a h = count_some operand_field (Imm u) n u (fits_by w32 v u ok (sym e)) refl (λ z k. e ∙ cases z k) a h
+pub source_some : (n : Number) (u v : ℤ) → FitsSigned w32 v → u ≡ v → ((z : ℤ) → IsNumber n z → v ≡ z) → (a : LineOperand) → IsReadAs (Literal n) a → ReadsField source_field a (Ok (Imm u))
+source_some n u v ok e cases a h = count_some source_field (Imm u) n u (fits_by w32 v u ok (sym e)) refl (λ z k. e ∙ cases z k) a h
 
 -- the number of a wide load has 64 bits, without a sign
-pub wide_some : (n : Number) (x : ℕ) → x < 2 ^ 64 → ((z : ℤ) → IsNumber n z → z ≡ pos x) → (a : Argument) → IsArgument (Literal n) a → ReadsField wide_number_field a (Ok x)
-wide_some n x ok cases a h = count_some wide_number_field x n (pos x) ok refl (λ z k. sym (cases z k)) a h
+pub wide_some : (n : Number) (x : ℕ) → x < 2 ^ 64 → ((z : ℤ) → IsNumber n z → z ≡ pos x) → (a : LineOperand) → IsReadAs (Literal n) a → ReadsField imm64_field a (Ok x)
+wide_some n x ok cases a h = count_some imm64_field x n (pos x) ok refl (λ z k. sym (cases z k)) a h
 
-pub wide_none : (n : Number) → ((z : ℤ) → IsNumber n z → (m : ℕ) → m < 2 ^ 64 → z ≢ pos m) → (a : Argument) → IsArgument (Literal n) a → ReadsField wide_number_field a (Err Range)
-wide_none n none a h = count_none wide_number_field (λ z. (m : ℕ) × (m < 2 ^ 64) × (z ≡ pos m)) n (λ z k w. none z k w.0 w.1 w.2) 0 refl (λ y z v e. (y, v, (cc))) a h
+pub wide_none : (n : Number) → ((z : ℤ) → IsNumber n z → (m : ℕ) → m < 2 ^ 64 → z ≢ pos m) → (a : LineOperand) → IsReadAs (Literal n) a → ReadsField imm64_field a (Err Range)
+wide_none n none a h = count_none imm64_field (λ z. (m : ℕ) × (m < 2 ^ 64) × (z ≡ pos m)) n (λ z k w. none z k w.0 w.1 w.2) 0 refl (λ y z v e. (y, v, (cc))) a h

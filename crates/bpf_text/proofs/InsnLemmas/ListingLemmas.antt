@@ -9,7 +9,7 @@ use Rattle.memchr.specs.Find.{Nowhere, NoneBefore, Passes, is_byte}
 use Rattle.bpf_insn.specs.declared.insn.Insn.{Insn}
 use Rattle.bpf_text.specs.insn.Tokens.{is_newline}
 use Rattle.bpf_text.specs.insn.Listing.{lines_of, ListsLine, Lists}
-use Rattle.bpf_text.specs.insn.Reading.{Refuses, RefusesLine}
+use Rattle.bpf_text.specs.insn.Reading.{RefusesText, RefusesLine}
 use Rattle.bpf_text.specs.declared.insn.fault.ListError.{ListError}
 use Rattle.bpf_text.specs.declared.insn.fault.ListError.TheVariants.{Fault, Memory}
 use Rattle.std.proofs.lemmas.List.Concat.{flat_map-append}
@@ -25,7 +25,7 @@ pub record ReadSoFar (text rest : List ℕ) (insns : List Insn) (n : ℕ) : Type
   pub whole : insns ≡ flat_map (λ found. found) listed
   pub place : n ≡ length front + 1
 
--- a text whose first newline stands at a place
+-- a text whose first newline is at this index
 pub ends_at : (text : List ℕ) (end : ℕ) → NoneBefore (Passes (is_byte 10) text) 0 (length text) end × Passes (is_byte 10) text end → lines_of text ≡ take end text ∷ lines_of (drop (end + 1) text)
 ends_at text end h =
     let place : end ≡ position_or_len is_newline text = run_found (λ b. not (is_newline b)) text end h.0.high (λ k l. not_from_false (is_newline (get_or text k 0)) (false_from_ne_true (is_newline (get_or text k 0)) (h.0.before k (omega arith) l))) (ap not h.1) in
@@ -36,8 +36,8 @@ ends_at text end h =
 pub ends_nowhere : (text : List ℕ) → Nowhere (Passes (is_byte 10) text) 0 (length text) → lines_of text ≡ text ∷ []
 ends_nowhere text h = slice_split_none is_newline text (λ k d l. ap is_newline (get_or_default_zero text k d l) ∙ false_from_ne_true (is_newline (get_or text k 0)) (h k (omega arith) l))
 
--- in both cases a line stands first
-pub line_first : (text line : List ℕ) (behind : Option (Bor (List ℕ))) → MatchOption behind (lines_of text ≡ line ∷ []) (λ b. lines_of text ≡ line ∷ lines_of b.now) → (back : List (List ℕ)) × (lines_of text ≡ line ∷ back)
+-- in both cases a line comes first
+pub line_first : (text line : List ℕ) (following : Option (Bor (List ℕ))) → MatchOption following (lines_of text ≡ line ∷ []) (λ b. lines_of text ≡ line ∷ lines_of b.now) → (back : List (List ℕ)) × (lines_of text ≡ line ∷ back)
 line_first text line None h = ([], h)
 line_first text line (Some b) h = (lines_of b.now, h)
 
@@ -73,17 +73,17 @@ at_the_end text rest line insns more found n s e h f =
       whole = f ∙ ap (λ x. x ++ found) s.whole ∙ sym (joined s.listed found);
     }
 
-pub at_a_fault : {T : Type 0} (P : T → Type 0) (text rest line : List ℕ) (behind : Option (Bor (List ℕ))) (insns : List Insn) (n : ℕ) (e : ListError) (r : Result T ListError)
-    → ReadSoFar text rest insns n → MatchOption behind (lines_of rest ≡ line ∷ []) (λ b. lines_of rest ≡ line ∷ lines_of b.now) → RefusesLine line n e
-    → IsErrAnd r (λ x. x ≡ e) → MatchResult r P (Refuses text)
-at_a_fault P text rest line behind insns n e (Ok x) s m refuses same = absurd same
-at_a_fault P text rest line behind insns n (Fault fault) (Err told) s m refuses same = rw same (record {
+pub at_a_fault : {T : Type 0} (P : T → Type 0) (text rest line : List ℕ) (following : Option (Bor (List ℕ))) (insns : List Insn) (n : ℕ) (e : ListError) (r : Result T ListError)
+    → ReadSoFar text rest insns n → MatchOption following (lines_of rest ≡ line ∷ []) (λ b. lines_of rest ≡ line ∷ lines_of b.now) → RefusesLine line n e
+    → IsErrAnd r (λ x. x ≡ e) → MatchResult r P (RefusesText text)
+at_a_fault P text rest line following insns n e (Ok x) s m refuses same = absurd same
+at_a_fault P text rest line following insns n (Fault fault) (Err reported) s m refuses same = rw same (record {
   front = s.front;
   line = line;
-  back = (line_first rest line behind m).0;
-  lines = s.lines ∙ ap (λ x. s.front ++ x) (line_first rest line behind m).1;
+  back = (line_first rest line following m).0;
+  lines = s.lines ∙ ap (λ x. s.front ++ x) (line_first rest line following m).1;
   before = (s.listed, s.each);
   place = refuses.0 ∙ s.place;
   cause = refuses.1;
 })
-at_a_fault P text rest line behind insns n Memory (Err told) s m refuses same = absurd refuses
+at_a_fault P text rest line following insns n Memory (Err reported) s m refuses same = absurd refuses

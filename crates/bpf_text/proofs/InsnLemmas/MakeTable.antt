@@ -20,163 +20,163 @@ use Rattle.bpf_insn.specs.Table.{IsInsn}
 use Rattle.bpf_text.specs.declared.insn.mnemonic.WideKind.TheVariants as kind
 use Rattle.bpf_text.specs.declared.insn.mnemonic.Mnemonic.{Mnemonic}
 use Rattle.bpf_text.specs.declared.insn.mnemonic.Mnemonic.TheVariants.{Alu, Movsx, Neg, Swap, Jump, JumpLong, Branch, CallHelper, CallLocal, CallBtf, Exit, Load, LoadSigned, StoreImm, StoreReg, Atomic, Wide, PacketAbs, PacketInd}
-use Rattle.bpf_text.specs.insn.Arguments.{register, number}
-use Rattle.bpf_text.specs.insn.Table.{operand_argument, arguments_of}
+use Rattle.bpf_text.specs.insn.Operands.{register, number}
+use Rattle.bpf_text.specs.insn.Table.{source_operand, operands_of}
 use Rattle.bpf_text.specs.insn.Mnemonics.{mnemonic_of}
-use Rattle.bpf_text.specs.insn.Forms.{plain, Form, register_field, imm_field, offset_field, wide_number_field, operand_field, address_field, last, before}
-use Rattle.bpf_text.proofs.InsnLemmas.FormLemmas.{Makes}
+use Rattle.bpf_text.specs.insn.OperandFields.{plain, FieldList, register_field, imm_field, offset_field, imm64_field, source_field, address_field, last_field, field_then}
+use Rattle.bpf_text.proofs.InsnLemmas.OperandFieldsLemmas.{Makes}
 
-operand_plain : (arg : Operand) → plain (operand_argument arg) ≡ operand_argument arg
+operand_plain : (arg : Operand) → plain (source_operand arg) ≡ source_operand arg
 operand_plain (operand.Imm k) = refl
 operand_plain (operand.Reg r) = refl
 
-abbrev pub alu_form : Form (Reg × Operand)
-alu_form = before register_field (last operand_field)
+abbrev pub alu_form : FieldList (Reg × Operand)
+alu_form = field_then register_field (last_field source_field)
 
 abbrev pub alu_insn : (width : Width) (op : AluOp) → (Reg × Operand) → Insn
 alu_insn width op x = insn.Alu width op x.0 x.1
 
-abbrev pub movsx_form : Form (Reg × Reg)
-movsx_form = before register_field (last register_field)
+abbrev pub movsx_form : FieldList (Reg × Reg)
+movsx_form = field_then register_field (last_field register_field)
 
 abbrev pub movsx_insn : (form : MovsxForm) → (Reg × Reg) → Insn
 movsx_insn form x = insn.Movsx form x.0 x.1
 
-abbrev pub neg_form : Form (Reg)
-neg_form = last register_field
+abbrev pub neg_form : FieldList (Reg)
+neg_form = last_field register_field
 
 abbrev pub neg_insn : (width : Width) → (Reg) → Insn
 neg_insn width x = insn.Neg width x
 
-abbrev pub swap_form : Form (Reg)
-swap_form = last register_field
+abbrev pub swap_form : FieldList (Reg)
+swap_form = last_field register_field
 
 abbrev pub swap_insn : (kind : SwapKind) (bits : SwapBits) → (Reg) → Insn
 swap_insn kind bits x = insn.Swap kind bits x
 
-abbrev pub jump_form : Form (ℤ)
-jump_form = last offset_field
+abbrev pub jump_form : FieldList (ℤ)
+jump_form = last_field offset_field
 
 abbrev pub jump_insn : (ℤ) → Insn
 jump_insn x = insn.Jump x
 
-abbrev pub jump_long_form : Form (ℤ)
-jump_long_form = last imm_field
+abbrev pub jump_long_form : FieldList (ℤ)
+jump_long_form = last_field imm_field
 
 abbrev pub jump_long_insn : (ℤ) → Insn
 jump_long_insn x = insn.JumpLong x
 
-abbrev pub branch_form : Form (Reg × (Operand × ℤ))
-branch_form = before register_field (before operand_field (last offset_field))
+abbrev pub branch_form : FieldList (Reg × (Operand × ℤ))
+branch_form = field_then register_field (field_then source_field (last_field offset_field))
 
 abbrev pub branch_insn : (width : Width) (op : BranchOp) → (Reg × (Operand × ℤ)) → Insn
 branch_insn width op x = insn.Branch width op x.0 x.1.0 x.1.1
 
-abbrev pub call_helper_form : Form (ℤ)
-call_helper_form = last imm_field
+abbrev pub call_helper_form : FieldList (ℤ)
+call_helper_form = last_field imm_field
 
 abbrev pub call_helper_insn : (ℤ) → Insn
 call_helper_insn x = insn.CallHelper x
 
-abbrev pub call_local_form : Form (ℤ)
-call_local_form = last imm_field
+abbrev pub call_local_form : FieldList (ℤ)
+call_local_form = last_field imm_field
 
 abbrev pub call_local_insn : (ℤ) → Insn
 call_local_insn x = insn.CallLocal x
 
-abbrev pub call_btf_form : Form (ℤ × ℤ)
-call_btf_form = before imm_field (last offset_field)
+abbrev pub call_btf_form : FieldList (ℤ × ℤ)
+call_btf_form = field_then imm_field (last_field offset_field)
 
 abbrev pub call_btf_insn : (ℤ × ℤ) → Insn
 call_btf_insn x = insn.CallBtf x.0 x.1
 
-abbrev pub load_form : Form (Reg × (Reg × ℤ))
-load_form = before register_field (last address_field)
+abbrev pub load_form : FieldList (Reg × (Reg × ℤ))
+load_form = field_then register_field (last_field address_field)
 
 abbrev pub load_insn : (size : Size) → (Reg × (Reg × ℤ)) → Insn
 load_insn size x = insn.Load size x.0 x.1.0 x.1.1
 
-abbrev pub load_signed_form : Form (Reg × (Reg × ℤ))
-load_signed_form = before register_field (last address_field)
+abbrev pub load_signed_form : FieldList (Reg × (Reg × ℤ))
+load_signed_form = field_then register_field (last_field address_field)
 
 abbrev pub load_signed_insn : (size : SmallSize) → (Reg × (Reg × ℤ)) → Insn
 load_signed_insn size x = insn.LoadSigned size x.0 x.1.0 x.1.1
 
-abbrev pub store_imm_form : Form ((Reg × ℤ) × ℤ)
-store_imm_form = before address_field (last imm_field)
+abbrev pub store_imm_form : FieldList ((Reg × ℤ) × ℤ)
+store_imm_form = field_then address_field (last_field imm_field)
 
 abbrev pub store_imm_insn : (size : Size) → ((Reg × ℤ) × ℤ) → Insn
 store_imm_insn size x = insn.StoreImm size x.0.0 x.0.1 x.1
 
-abbrev pub store_register_form : Form ((Reg × ℤ) × Reg)
-store_register_form = before address_field (last register_field)
+abbrev pub store_register_form : FieldList ((Reg × ℤ) × Reg)
+store_register_form = field_then address_field (last_field register_field)
 
 abbrev pub store_register_insn : (size : Size) → ((Reg × ℤ) × Reg) → Insn
 store_register_insn size x = insn.StoreReg size x.0.0 x.1 x.0.1
 
-abbrev pub atomic_form : Form ((Reg × ℤ) × Reg)
-atomic_form = before address_field (last register_field)
+abbrev pub atomic_form : FieldList ((Reg × ℤ) × Reg)
+atomic_form = field_then address_field (last_field register_field)
 
 abbrev pub atomic_insn : (width : Width) (op : AtomicOp) → ((Reg × ℤ) × Reg) → Insn
 atomic_insn width op x = insn.Atomic width op x.0.0 x.1 x.0.1
 
-abbrev pub wide_number_form : Form (Reg × ℕ)
-wide_number_form = before register_field (last wide_number_field)
+abbrev pub wide_number_form : FieldList (Reg × ℕ)
+wide_number_form = field_then register_field (last_field imm64_field)
 
 abbrev pub wide_number_insn : (Reg × ℕ) → Insn
 wide_number_insn x = insn.Wide x.0 (of.Number x.1)
 
-abbrev pub map_fd_form : Form (Reg × ℤ)
-map_fd_form = before register_field (last imm_field)
+abbrev pub map_fd_form : FieldList (Reg × ℤ)
+map_fd_form = field_then register_field (last_field imm_field)
 
 abbrev pub map_fd_insn : (Reg × ℤ) → Insn
 map_fd_insn x = insn.Wide x.0 (of.MapFd x.1)
 
-abbrev pub map_value_fd_form : Form (Reg × (ℤ × ℤ))
-map_value_fd_form = before register_field (before imm_field (last imm_field))
+abbrev pub map_value_fd_form : FieldList (Reg × (ℤ × ℤ))
+map_value_fd_form = field_then register_field (field_then imm_field (last_field imm_field))
 
 abbrev pub map_value_fd_insn : (Reg × (ℤ × ℤ)) → Insn
 map_value_fd_insn x = insn.Wide x.0 (of.MapValueFd x.1.0 x.1.1)
 
-abbrev pub var_addr_form : Form (Reg × (ℤ × ℤ))
-var_addr_form = before register_field (before imm_field (last imm_field))
+abbrev pub var_addr_form : FieldList (Reg × (ℤ × ℤ))
+var_addr_form = field_then register_field (field_then imm_field (last_field imm_field))
 
 abbrev pub var_addr_insn : (Reg × (ℤ × ℤ)) → Insn
 var_addr_insn x = insn.Wide x.0 (of.VarAddr x.1.0 x.1.1)
 
-abbrev pub code_addr_form : Form (Reg × ℤ)
-code_addr_form = before register_field (last imm_field)
+abbrev pub code_addr_form : FieldList (Reg × ℤ)
+code_addr_form = field_then register_field (last_field imm_field)
 
 abbrev pub code_addr_insn : (Reg × ℤ) → Insn
 code_addr_insn x = insn.Wide x.0 (of.CodeAddr x.1)
 
-abbrev pub map_idx_form : Form (Reg × ℤ)
-map_idx_form = before register_field (last imm_field)
+abbrev pub map_idx_form : FieldList (Reg × ℤ)
+map_idx_form = field_then register_field (last_field imm_field)
 
 abbrev pub map_idx_insn : (Reg × ℤ) → Insn
 map_idx_insn x = insn.Wide x.0 (of.MapIdx x.1)
 
-abbrev pub map_value_idx_form : Form (Reg × (ℤ × ℤ))
-map_value_idx_form = before register_field (before imm_field (last imm_field))
+abbrev pub map_value_idx_form : FieldList (Reg × (ℤ × ℤ))
+map_value_idx_form = field_then register_field (field_then imm_field (last_field imm_field))
 
 abbrev pub map_value_idx_insn : (Reg × (ℤ × ℤ)) → Insn
 map_value_idx_insn x = insn.Wide x.0 (of.MapValueIdx x.1.0 x.1.1)
 
-abbrev pub packet_abs_form : Form (ℤ)
-packet_abs_form = last imm_field
+abbrev pub packet_abs_form : FieldList (ℤ)
+packet_abs_form = last_field imm_field
 
 abbrev pub packet_abs_insn : (size : SmallSize) → (ℤ) → Insn
 packet_abs_insn size x = insn.PacketAbs size x
 
-abbrev pub packet_ind_form : Form (Reg × ℤ)
-packet_ind_form = before register_field (last imm_field)
+abbrev pub packet_ind_form : FieldList (Reg × ℤ)
+packet_ind_form = field_then register_field (last_field imm_field)
 
 abbrev pub packet_ind_insn : (size : SmallSize) → (Reg × ℤ) → Insn
 packet_ind_insn size x = insn.PacketInd size x.0 x.1
 
 -- an instruction is made of some fields of the form
-abbrev MadeIn : {X : Type 0} → Form X → Insn → Type 0
-MadeIn {X} form i = (x : X) × (map plain (arguments_of i) ≡ form.written x) × (IsInsn i → form.valid x)
+abbrev MadeIn : {X : Type 0} → FieldList X → Insn → Type 0
+MadeIn {X} form i = (x : X) × (map plain (operands_of i) ≡ form.written x) × (IsInsn i → form.valid x)
 
 -- the same of the form that a mnemonic has
 abbrev Made : Mnemonic → Insn → Type 0
@@ -206,7 +206,7 @@ Made (PacketAbs size) i = MadeIn packet_abs_form i
 Made (PacketInd size) i = MadeIn packet_ind_form i
 Made Exit i = ⊤
 
--- each instruction is made so of its own mnemonic's form
+-- each instruction is made by the form of its own mnemonic
 made : (i : Insn) → Made (mnemonic_of i) i
 made (insn.Alu w o d arg) = ((d, arg), ap (λ a. register d ∷ a ∷ []) (operand_plain arg), (λ v. (tt, v)))
 made (insn.Movsx f d s) = ((d, s), refl, (λ v. (tt, tt)))
@@ -234,7 +234,7 @@ made (insn.PacketAbs z k) = (k, refl, (λ v. v))
 made (insn.PacketInd z s k) = ((s, k), refl, (λ v. (tt, v)))
 made insn.Exit = tt
 
--- and so each of the same mnemonic is
+-- and so is each with the same mnemonic
 only_made : (m : Mnemonic) (i : Insn) → mnemonic_of i ≡ m → Made m i
 only_made m i e = subst (λ n. Made n i) e (made i)
 

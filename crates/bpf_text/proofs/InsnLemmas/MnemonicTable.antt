@@ -1,4 +1,4 @@
--- A mnemonic is found by the hash of its word.
+-- A mnemonic is found by the hash of its text.
 use Rattle.std.proofs.Common.{◌≡◌, ◌≢◌, ℕ, List, get_or, refl, sym, ap, ◌∙◌}
 use Rattle.bpf_insn.specs.declared.insn.Width.TheVariants.{W32, W64}
 use Rattle.bpf_insn.specs.declared.insn.Size.TheVariants as size
@@ -13,13 +13,13 @@ use Rattle.bpf_text.specs.declared.insn.mnemonic.WideKind.TheVariants as kind
 use Rattle.bpf_text.specs.declared.insn.mnemonic.Mnemonic.{Mnemonic}
 use Rattle.bpf_text.specs.declared.insn.mnemonic.Mnemonic.TheVariants.{Alu, Movsx, Neg, Swap, Jump, JumpLong, Branch, CallHelper, CallLocal, CallBtf, Exit, Load, LoadSigned, StoreImm, StoreReg, Atomic, Wide, PacketAbs, PacketInd}
 use Rattle.bpf_text.specs.declared.insn.mnemonic.TheConstants.{ALL}
-use Rattle.bpf_text.specs.declared.insn.word_hash.TheConstants.{PLACES}
-use Rattle.bpf_text.specs.insn.Mnemonics.{word_of_mnemonic}
-use Rattle.bpf_text.specs.insn.WordHash.{hash_of}
-use Rattle.bpf_text.proofs.InsnLemmas.MnemonicPlaces.{place, stands}
+use Rattle.bpf_text.specs.declared.insn.mnemonic_hash.TheConstants.{PLACES}
+use Rattle.bpf_text.specs.insn.Mnemonics.{text_of_mnemonic}
+use Rattle.bpf_text.specs.insn.MnemonicHash.{hash_of}
+use Rattle.bpf_text.proofs.InsnLemmas.MnemonicPlaces.{place, is_in_place}
 
--- the hash of its word leads to its place
-placed : (m : Mnemonic) → get_or PLACES (hash_of (word_of_mnemonic m)) 0 ≡ place m
+-- the hash of its text leads to its index
+placed : (m : Mnemonic) → get_or PLACES (hash_of (text_of_mnemonic m)) 0 ≡ place m
 placed (Alu W32 alu.Add) = refl
 placed (Alu W64 alu.Add) = refl
 placed (Alu W32 alu.Sub) = refl
@@ -141,8 +141,8 @@ placed (PacketInd small.B) = refl
 placed (PacketInd small.H) = refl
 placed (PacketInd small.W) = refl
 
--- a token that is not the word to whose place its hash leads, is no word
-pub none_of_hash : (token : List ℕ) (hash k : ℕ) (m d : Mnemonic) → hash ≡ hash_of token → k ≡ get_or PLACES hash 0 → token ≢ word_of_mnemonic (get_or ALL k d) → token ≢ word_of_mnemonic m
+-- a token is no mnemonic if it differs from the one at its hash
+pub none_of_hash : (token : List ℕ) (hash k : ℕ) (m d : Mnemonic) → hash ≡ hash_of token → k ≡ get_or PLACES hash 0 → token ≢ text_of_mnemonic (get_or ALL k d) → token ≢ text_of_mnemonic m
 none_of_hash token hash k m d h p other same =
     let led : k ≡ place m = p ∙ ap (λ n. get_or PLACES n 0) (h ∙ ap hash_of same) ∙ placed m in
-    other (same ∙ ap word_of_mnemonic (sym (ap (λ n. get_or ALL n d) led ∙ (stands m d).1)))
+    other (same ∙ ap text_of_mnemonic (sym (ap (λ n. get_or ALL n d) led ∙ (is_in_place m d).1)))

@@ -1,8 +1,8 @@
--- What the digits of a token say.
+-- The number that the digits of a token spell.
 use Rattle.std.proofs.Common.{◌≡◌, ℕ, zero, suc, ◌<◌, List, [], ◌∷◌, ◌++◌, ◌⊎◌, inl, inr, length, get_or, drop, refl, sym, ap, ◌∙◌, codes, arith, Bool, true, false, MatchBool, ℤ, pos, neg_ℤ, FitsSigned}
 use Rattle.std.specs.Char.{digit_value}
 use Rattle.std.specs.Str.Parse.{AllDigits, IsNumeral, digits_value}
-use Rattle.bpf_text.specs.insn.Arguments.{SpellsMagnitude}
+use Rattle.bpf_text.specs.insn.Operands.{SpellsMagnitude}
 use Rattle.bpf_text.specs.insn.Numbers.{signed_by, IsFar}
 use Rattle.std.specs.Int.{w16, w32}
 use Rattle.std.proofs.lemmas.Int.{ints}

@@ -7,7 +7,7 @@ use Rattle.bpf_text.specs.declared.insn.fault.LineCause.{LineCause}
 use Rattle.bpf_text.specs.declared.insn.fault.LineCause.TheVariants.{Char, Word, Shape, Range}
 use Rattle.bpf_text.specs.declared.insn.fault.LineFault.{LineFault}
 use Rattle.bpf_text.specs.insn.Tokens.{code_of, is_stray, AreTokens}
-use Rattle.bpf_text.specs.insn.Listing.{IsWord, IsForm, IsCause, ListsLine, IsListFault}
+use Rattle.bpf_text.specs.insn.Listing.{IsMnemonic, IsForm, IsCause, ListsLine, IsListFault}
 use Rattle.bpf_text.proofs.InsnLemmas.OneReading.{one_tokens}
 use Rattle.bpf_text.proofs.InsnLemmas.Excludes.{no_stray, excludes}
 
@@ -16,23 +16,23 @@ use Rattle.bpf_text.proofs.InsnLemmas.Excludes.{no_stray, excludes}
 tokens_or_stray : (line : List ℕ) (ts : List (List ℕ)) → list_any is_stray (code_of line) ≡ true → AreTokens (code_of line) ts → ⊥
 tokens_or_stray line ts stray h = false≢true (sym (no_stray (code_of line) ts h) ∙ stray)
 
--- a line has one word, and one list of tokens behind it
+-- a line has one first token, and one list of tokens after it
 module _ (line word word' : List ℕ) (ts ts' : List (List ℕ)) (h : AreTokens (code_of line) (word ∷ ts)) (k : AreTokens (code_of line) (word' ∷ ts')) where
-  same_word : word ≡ word'
-  same_word = let same : word ∷ ts ≡ word' ∷ ts' = one_tokens (code_of line) (word ∷ ts) (word' ∷ ts') h k in cc
+  same_mnemonic : word ≡ word'
+  same_mnemonic = let same : word ∷ ts ≡ word' ∷ ts' = one_tokens (code_of line) (word ∷ ts) (word' ∷ ts') h k in cc
 
   same_tokens : ts ≡ ts'
   same_tokens = let same : word ∷ ts ≡ word' ∷ ts' = one_tokens (code_of line) (word ∷ ts) (word' ∷ ts') h k in cc
 
-  pub word_or_none : ¬ IsWord word → IsWord word' → ⊥
-  word_or_none none w = none (subst (λ (x : List ℕ). IsWord x) (sym same_word) w)
+  pub mnemonic_or_none : ¬ IsMnemonic word → IsMnemonic word' → ⊥
+  mnemonic_or_none none w = none (subst (λ (x : List ℕ). IsMnemonic x) (sym same_mnemonic) w)
 
   pub form_or_none : ¬ IsForm word ts → IsForm word' ts' → ⊥
   form_or_none none w =
-      none (subst (λ (x : List ℕ). IsForm x ts) (sym same_word) (subst (λ (x : List (List ℕ)). IsForm word' x) (sym same_tokens) w))
+      none (subst (λ (x : List ℕ). IsForm x ts) (sym same_mnemonic) (subst (λ (x : List (List ℕ)). IsForm word' x) (sym same_tokens) w))
 
-word_of_form : (word : List ℕ) (ts : List (List ℕ)) → IsForm word ts → IsWord word
-word_of_form word ts form = (form.0, form.1)
+mnemonic_of_form : (word : List ℕ) (ts : List (List ℕ)) → IsForm word ts → IsMnemonic word
+mnemonic_of_form word ts form = (form.0, form.1)
 
 one_cause : (line : List ℕ) (c d : LineCause) → IsCause line c → IsCause line d → c ≡ d
 one_cause line Char Char h k = refl
@@ -41,14 +41,14 @@ one_cause line Char Shape h k = absurd (tokens_or_stray line (k.0 ∷ k.1) h k.2
 one_cause line Char Range h k = absurd (tokens_or_stray line (k.0 ∷ k.1) h k.2)
 one_cause line Word Char h k = absurd (tokens_or_stray line (h.0 ∷ h.1) k h.2)
 one_cause line Word Word h k = refl
-one_cause line Word Shape h k = absurd (word_or_none line h.0 k.0 h.1 k.1 h.2 k.2 h.3 k.3)
-one_cause line Word Range h k = absurd (word_or_none line h.0 k.0 h.1 k.1 h.2 k.2 h.3 (word_of_form k.0 k.1 k.3))
+one_cause line Word Shape h k = absurd (mnemonic_or_none line h.0 k.0 h.1 k.1 h.2 k.2 h.3 k.3)
+one_cause line Word Range h k = absurd (mnemonic_or_none line h.0 k.0 h.1 k.1 h.2 k.2 h.3 (mnemonic_of_form k.0 k.1 k.3))
 one_cause line Shape Char h k = absurd (tokens_or_stray line (h.0 ∷ h.1) k h.2)
-one_cause line Shape Word h k = absurd (word_or_none line k.0 h.0 k.1 h.1 k.2 h.2 k.3 h.3)
+one_cause line Shape Word h k = absurd (mnemonic_or_none line k.0 h.0 k.1 h.1 k.2 h.2 k.3 h.3)
 one_cause line Shape Shape h k = refl
 one_cause line Shape Range h k = absurd (form_or_none line h.0 k.0 h.1 k.1 h.2 k.2 h.4 k.3)
 one_cause line Range Char h k = absurd (tokens_or_stray line (h.0 ∷ h.1) k h.2)
-one_cause line Range Word h k = absurd (word_or_none line k.0 h.0 k.1 h.1 k.2 h.2 k.3 (word_of_form h.0 h.1 h.3))
+one_cause line Range Word h k = absurd (mnemonic_or_none line k.0 h.0 k.1 h.1 k.2 h.2 k.3 (mnemonic_of_form h.0 h.1 h.3))
 one_cause line Range Shape h k = absurd (form_or_none line k.0 h.0 k.1 h.1 k.2 h.2 k.4 h.3)
 one_cause line Range Range h k = refl
 
@@ -73,8 +73,8 @@ one_place (x ∷ front) [] back back' line line' listed listed' e h k none none'
 one_place (x ∷ front) (y ∷ front') back back' line line' [] listed' e h k none none' = absurd h
 one_place (x ∷ front) (y ∷ front') back back' line line' (f ∷ listed) [] e h k none none' = absurd k
 one_place (x ∷ front) (y ∷ front') back back' line line' (f ∷ listed) (g ∷ listed') e h k none none' =
-    let behind : front ++ line ∷ back ≡ front' ++ line' ∷ back' = cc in
-    let more = one_place front front' back back' line line' listed listed' behind h.1 k.1 none none' in
+    let following : front ++ line ∷ back ≡ front' ++ line' ∷ back' = cc in
+    let more = one_place front front' back back' line line' listed listed' following h.1 k.1 none none' in
     (ap suc more.0, more.1)
 
 abbrev fault_at : ℕ → LineCause → LineFault

@@ -5,25 +5,25 @@ use Rattle.bpf_insn.specs.declared.insn.Operand.TheVariants.{Imm, Reg}
 use Rattle.bpf_insn.specs.declared.insn.WideOf.TheVariants.{Number, MapFd, MapValueFd, VarAddr, CodeAddr, MapIdx, MapValueIdx}
 use Rattle.bpf_insn.specs.declared.insn.Insn.{Insn}
 use Rattle.bpf_insn.specs.declared.insn.Insn.TheVariants.{Alu, Movsx, Neg, Swap, Jump, JumpLong, Branch, CallHelper, CallLocal, CallBtf, Exit, Load, LoadSigned, StoreImm, StoreReg, Atomic, Wide, PacketAbs, PacketInd}
-use Rattle.bpf_text.specs.insn.Table.{word_of, arguments_of}
+use Rattle.bpf_text.specs.insn.Table.{mnemonic_text, operands_of}
 use Rattle.bpf_text.specs.insn.Tokens.{code_of, AreTokens}
-use Rattle.bpf_text.specs.insn.Mnemonics.{mnemonic_of, word_of_mnemonic}
-use Rattle.bpf_text.specs.insn.Forms.{plain}
+use Rattle.bpf_text.specs.insn.Mnemonics.{mnemonic_of, text_of_mnemonic}
+use Rattle.bpf_text.specs.insn.OperandFields.{plain}
 use Rattle.bpf_text.specs.insn.Listing.{lines_of, IsTokenForm, ListsInsn, ListsLine, Lists}
-use Rattle.bpf_text.proofs.InsnLemmas.OneWord.{one_word}
-use Rattle.bpf_text.proofs.InsnLemmas.OneArgument.{one_arguments}
+use Rattle.bpf_text.proofs.InsnLemmas.OneMnemonic.{one_mnemonic}
+use Rattle.bpf_text.proofs.InsnLemmas.OneOperand.{one_operands}
 use Rattle.bpf_text.proofs.InsnLemmas.OneReading.{one_tokens}
 
-pub word_is : (i : Insn) → word_of i ≡ word_of_mnemonic (mnemonic_of i)
-word_is (Alu width op d (Imm k)) = refl
-word_is (Alu width op d (Reg r)) = refl
-word_is (Branch width op d (Imm k) o) = refl
-word_is (Branch width op d (Reg r) o) = refl
-word_is (Wide d (Number n)) = refl
-word_is _ = refl
+pub mnemonic_text_is : (i : Insn) → mnemonic_text i ≡ text_of_mnemonic (mnemonic_of i)
+mnemonic_text_is (Alu width op d (Imm k)) = refl
+mnemonic_text_is (Alu width op d (Reg r)) = refl
+mnemonic_text_is (Branch width op d (Imm k) o) = refl
+mnemonic_text_is (Branch width op d (Reg r) o) = refl
+mnemonic_text_is (Wide d (Number n)) = refl
+mnemonic_text_is _ = refl
 
--- the mnemonic and the arguments make the instruction
-same_insn : (i j : Insn) → mnemonic_of i ≡ mnemonic_of j → map plain (arguments_of i) ≡ map plain (arguments_of j) → i ≡ j
+-- the mnemonic and the operands make the instruction
+same_insn : (i j : Insn) → mnemonic_of i ≡ mnemonic_of j → map plain (operands_of i) ≡ map plain (operands_of j) → i ≡ j
 same_insn (Alu width op d (Imm k)) (Alu width' op' d' (Imm k')) names fields = cc
 same_insn (Alu width op d (Reg r)) (Alu width' op' d' (Reg r')) names fields = cc
 same_insn (Movsx form d s) (Movsx form' d' s') names fields = cc
@@ -56,7 +56,7 @@ same_insn _ _ names fields = cc
 pub one_form : (ts : List (List ℕ)) (i j : Insn) → IsTokenForm ts i → IsTokenForm ts j → i ≡ j
 one_form [] i j h k = absurd h
 one_form (word ∷ ts) i j h k =
-    same_insn i j (one_word (mnemonic_of i) (mnemonic_of j) (sym (word_is i) ∙ sym h.0 ∙ k.0 ∙ word_is j)) (one_arguments ts (arguments_of i) (arguments_of j) h.1 k.1)
+    same_insn i j (one_mnemonic (mnemonic_of i) (mnemonic_of j) (sym (mnemonic_text_is i) ∙ sym h.0 ∙ k.0 ∙ mnemonic_text_is j)) (one_operands ts (operands_of i) (operands_of j) h.1 k.1)
 
 one_insn : (line : List ℕ) (i j : Insn) → ListsInsn line i → ListsInsn line j → i ≡ j
 one_insn line i j h k =

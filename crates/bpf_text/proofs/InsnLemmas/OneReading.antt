@@ -24,12 +24,12 @@ both_right : (a b : Bool) → (a && b) ≡ true → b ≡ true
 both_right true b e = e
 both_right false b e = absurd (false≢true e)
 
--- the test fails at the first element, where there is one
+-- the test fails at the first element, if there is one
 abbrev FailsFirst : (ℕ → Bool) → List ℕ → Type 0
 FailsFirst p [] = Unit {0}
 FailsFirst p (x ∷ xs) = p x ≡ true → ⊥
 
--- a front that passes, before an element that fails, is the longest
+-- a prefix that passes, before an element that fails, is the longest
 front_len : (p : ℕ → Bool) (xs ys : List ℕ) → list_all p xs ≡ true → FailsFirst p ys → prefix_len p (xs ++ ys) ≡ length xs
 front_len p [] [] h f = refl
 front_len p [] (y ∷ ys) h f = at_test (p y) refl
@@ -82,15 +82,15 @@ one_start bytes t r u s h k =
     let f : bytes ≡ k.blanks ++ (u ++ s) = k.whole ∙ append_assoc k.blanks u s in
     let l : length h.blanks ≡ length k.blanks =
     sym (front_len is_blank h.blanks (t ++ r) h.blank (token_no_blank t r h.longest)) ∙ ap (prefix_len is_blank) (sym e ∙ f) ∙ front_len is_blank k.blanks (u ++ s) k.blank (token_no_blank u s k.longest) in
-    let behind : t ++ r ≡ u ++ s = (same_fronts h.blanks k.blanks (t ++ r) (u ++ s) (sym e ∙ f) l).1 in
-    same_fronts t u r s behind (same_length t u r s behind h.longest k.longest)
+    let following : t ++ r ≡ u ++ s = (same_fronts h.blanks k.blanks (t ++ r) (u ++ s) (sym e ∙ f) l).1 in
+    same_fronts t u r s following (same_length t u r s following h.longest k.longest)
 
 -- bytes that are all blank have no token
 pub none_or_some : (bytes t r : List ℕ) → list_all is_blank bytes ≡ true → StartsWithToken bytes t r → ⊥
-none_or_some bytes t r all s = first_fails (t ++ r) (has_bytes t r s.longest) (token_no_blank t r s.longest) behind
+none_or_some bytes t r all s = first_fails (t ++ r) (has_bytes t r s.longest) (token_no_blank t r s.longest) following
   where
-    behind : list_all is_blank (t ++ r) ≡ true
-    behind = both_right (list_all is_blank s.blanks) (list_all is_blank (t ++ r)) (sym (list_all-append is_blank s.blanks (t ++ r)) ∙ ap (list_all is_blank) (sym (s.whole ∙ append_assoc s.blanks t r)) ∙ all)
+    following : list_all is_blank (t ++ r) ≡ true
+    following = both_right (list_all is_blank s.blanks) (list_all is_blank (t ++ r)) (sym (list_all-append is_blank s.blanks (t ++ r)) ∙ ap (list_all is_blank) (sym (s.whole ∙ append_assoc s.blanks t r)) ∙ all)
 
     first_fails : (xs : List ℕ) → 0 < length xs → FailsFirst is_blank xs → list_all is_blank xs ≡ true → ⊥
     first_fails [] h f e = omega arith

@@ -1,4 +1,4 @@
--- From a mnemonic and arguments to what the tokens list.
+-- From a mnemonic and operands to what the tokens list.
 use Rattle.std.proofs.Common.{◌≡◌, ◌≢◌, ℕ, pos, List, [], ◌∷◌, map, refl, sym, ap, ◌∙◌, subst, Result, Ok, Err, ◌<◌, ◌≤◌, false, length, arith}
 use Rattle.bpf_text.specs.insn.Tokens.{code_of, is_stray, StartsWithToken, AreTokens}
 use Rattle.std.specs.List.{AllZip, slice_split, list_any}
@@ -12,18 +12,18 @@ use Rattle.bpf_text.specs.declared.insn.fault.LineCause.TheVariants.{Char, Word,
 use Rattle.bpf_text.specs.declared.insn.mnemonic.WideKind.TheVariants as kind
 use Rattle.bpf_text.specs.declared.insn.mnemonic.Mnemonic.{Mnemonic}
 use Rattle.bpf_text.specs.declared.insn.mnemonic.Mnemonic.TheVariants.{Alu, Movsx, Neg, Swap, Jump, JumpLong, Branch, CallHelper, CallLocal, CallBtf, Exit, Load, LoadSigned, StoreImm, StoreReg, Atomic, Wide, PacketAbs, PacketInd}
-use Rattle.bpf_text.specs.insn.Arguments.{Argument, register, number, signed, memory, kind_of, SpellsArgument, SpellsArguments, is_comma}
-use Rattle.bpf_text.specs.insn.Table.{word_of, arguments_of}
-use Rattle.bpf_text.specs.insn.Mnemonics.{mnemonic_of, word_of_mnemonic}
-use Rattle.bpf_text.specs.insn.Forms.{plain, ReadsInsn}
-use Rattle.bpf_text.specs.insn.Listing.{IsWord, IsForm, ListsInsn, IsCause}
+use Rattle.bpf_text.specs.insn.Operands.{LineOperand, register, number, signed, memory, operand_kind, SpellsOperand, SpellsOperands, is_comma}
+use Rattle.bpf_text.specs.insn.Table.{mnemonic_text, operands_of}
+use Rattle.bpf_text.specs.insn.Mnemonics.{mnemonic_of, text_of_mnemonic}
+use Rattle.bpf_text.specs.insn.OperandFields.{plain, ReadsInsn}
+use Rattle.bpf_text.specs.insn.Listing.{IsMnemonic, IsForm, ListsInsn, IsCause}
 use Rattle.bpf_text.specs.insn.Reading.{ReadsTokens}
 use Rattle.bpf_text.proofs.InsnLemmas.Bounds.{tokens_bound, form_bound}
 use Rattle.bpf_text.proofs.InsnLemmas.TokensExist.{tokens_exist}
-use Rattle.bpf_text.proofs.InsnLemmas.OneWord.{one_word}
-use Rattle.bpf_text.proofs.InsnLemmas.OneArgument.{one_arguments}
-use Rattle.bpf_text.proofs.InsnLemmas.OneInsn.{word_is}
-use Rattle.bpf_text.proofs.InsnLemmas.FormLemmas.{plain_kinds}
+use Rattle.bpf_text.proofs.InsnLemmas.OneMnemonic.{one_mnemonic}
+use Rattle.bpf_text.proofs.InsnLemmas.OneOperand.{one_operands}
+use Rattle.bpf_text.proofs.InsnLemmas.OneInsn.{mnemonic_text_is}
+use Rattle.bpf_text.proofs.InsnLemmas.OperandFieldsLemmas.{plain_kinds}
 
 zero_register : Reg
 zero_register = record { number = 0; in_range = omega arith }
@@ -57,22 +57,22 @@ some_insn (PacketAbs z) = (insn.PacketAbs z (pos 0), refl)
 some_insn (PacketInd z) = (insn.PacketInd z zero_register (pos 0), refl)
 
 -- what tokens spell, they spell however its sign is written
-to_plain : (ts : List (List ℕ)) (a : Argument) → SpellsArgument ts a → SpellsArgument ts (plain a)
+to_plain : (ts : List (List ℕ)) (a : LineOperand) → SpellsOperand ts a → SpellsOperand ts (plain a)
 to_plain ts (register r) h = h
 to_plain ts (number z) h = h
 to_plain ts (signed z) h = h
 to_plain ts (memory r z) h = h
 
-from_plain : (ts : List (List ℕ)) (a : Argument) → SpellsArgument ts (plain a) → SpellsArgument ts a
+from_plain : (ts : List (List ℕ)) (a : LineOperand) → SpellsOperand ts (plain a) → SpellsOperand ts a
 from_plain ts (register r) h = h
 from_plain ts (number z) h = h
 from_plain ts (signed z) h = h
 from_plain ts (memory r z) h = h
 
-respell : (ts : List (List ℕ)) (a b : Argument) → plain a ≡ plain b → SpellsArgument ts b → SpellsArgument ts a
-respell ts a b e h = from_plain ts a (subst (SpellsArgument ts) (sym e) (to_plain ts b h))
+respell : (ts : List (List ℕ)) (a b : LineOperand) → plain a ≡ plain b → SpellsOperand ts b → SpellsOperand ts a
+respell ts a b e h = from_plain ts a (subst (SpellsOperand ts) (sym e) (to_plain ts b h))
 
-respell_zip : (tss : List (List (List ℕ))) (xs ys : List Argument) → map plain xs ≡ map plain ys → AllZip SpellsArgument tss ys → AllZip SpellsArgument tss xs
+respell_zip : (tss : List (List (List ℕ))) (xs ys : List LineOperand) → map plain xs ≡ map plain ys → AllZip SpellsOperand tss ys → AllZip SpellsOperand tss xs
 respell_zip [] [] [] e h = tt
 respell_zip [] [] (y ∷ ys) e h = absurd h
 respell_zip [] (x ∷ xs) [] e h = cc
@@ -85,50 +85,50 @@ respell_zip (t ∷ ts) (x ∷ xs) (y ∷ ys) e h =
     let more : map plain xs ≡ map plain ys = cc in
     (respell t x y first h.0, respell_zip ts xs ys more h.1)
 
-respell_all : (ts : List (List ℕ)) (xs ys : List Argument) → map plain xs ≡ map plain ys → SpellsArguments ts ys → SpellsArguments ts xs
+respell_all : (ts : List (List ℕ)) (xs ys : List LineOperand) → map plain xs ≡ map plain ys → SpellsOperands ts ys → SpellsOperands ts xs
 respell_all ts [] [] e h = h
 respell_all ts [] (y ∷ ys) e h = cc
 respell_all ts (x ∷ xs) [] e h = cc
 respell_all ts (x ∷ xs) (y ∷ ys) e h = respell_zip (slice_split is_comma ts) (x ∷ xs) (y ∷ ys) e h
 
-kinds_of : (xs ys : List Argument) → map plain xs ≡ map plain ys → map kind_of xs ≡ map kind_of ys
-kinds_of xs ys e = plain_kinds xs ∙ ap (map kind_of) e ∙ sym (plain_kinds ys)
+kinds_of : (xs ys : List LineOperand) → map plain xs ≡ map plain ys → map operand_kind xs ≡ map operand_kind ys
+kinds_of xs ys e = plain_kinds xs ∙ ap (map operand_kind) e ∙ sym (plain_kinds ys)
 
-named : (word : List ℕ) (m : Mnemonic) (i : Insn) → word ≡ word_of_mnemonic m → word ≡ word_of i → mnemonic_of i ≡ m
-named word m i e f = one_word (mnemonic_of i) m (sym (word_is i) ∙ sym f ∙ e)
+named : (word : List ℕ) (m : Mnemonic) (i : Insn) → word ≡ text_of_mnemonic m → word ≡ mnemonic_text i → mnemonic_of i ≡ m
+named word m i e f = one_mnemonic (mnemonic_of i) m (sym (mnemonic_text_is i) ∙ sym f ∙ e)
 
-worded : (word : List ℕ) (m : Mnemonic) (i : Insn) → word ≡ word_of_mnemonic m → mnemonic_of i ≡ m → word ≡ word_of i
-worded word m i e f = e ∙ ap word_of_mnemonic (sym f) ∙ sym (word_is i)
+worded : (word : List ℕ) (m : Mnemonic) (i : Insn) → word ≡ text_of_mnemonic m → mnemonic_of i ≡ m → word ≡ mnemonic_text i
+worded word m i e f = e ∙ ap text_of_mnemonic (sym f) ∙ sym (mnemonic_text_is i)
 
-pub is_word : (word : List ℕ) (m : Mnemonic) → word ≡ word_of_mnemonic m → IsWord word
-is_word word m e = let w = some_insn m in (w.0, worded word m w.0 e w.1)
+pub is_mnemonic : (word : List ℕ) (m : Mnemonic) → word ≡ text_of_mnemonic m → IsMnemonic word
+is_mnemonic word m e = let w = some_insn m in (w.0, worded word m w.0 e w.1)
 
-pub no_word : (word : List ℕ) → ((m : Mnemonic) → word ≢ word_of_mnemonic m) → ¬ IsWord word
-no_word word none = λ w. none (mnemonic_of w.0) (w.1 ∙ word_is w.0)
+pub no_mnemonic : (word : List ℕ) → ((m : Mnemonic) → word ≢ text_of_mnemonic m) → ¬ IsMnemonic word
+no_mnemonic word none = λ w. none (mnemonic_of w.0) (w.1 ∙ mnemonic_text_is w.0)
 
 -- too many tokens
 pub no_form_of_many : (word : List ℕ) (ts : List (List ℕ)) → 17 < length ts → ¬ IsForm word ts
 no_form_of_many word ts many = λ w. omega (arith, tokens_bound ts w.2.0 (form_bound word ts w) w.2.2)
 
--- no arguments of an instruction
-pub no_form : (word : List ℕ) (ts : List (List ℕ)) → ((spelled : List Argument) → length spelled ≤ 3 → ¬ SpellsArguments ts spelled) → ¬ IsForm word ts
+-- no operands of an instruction
+pub no_form : (word : List ℕ) (ts : List (List ℕ)) → ((spelled : List LineOperand) → length spelled ≤ 3 → ¬ SpellsOperands ts spelled) → ¬ IsForm word ts
 no_form word ts none = λ w. none w.2.0 (form_bound word ts w) w.2.2
 
-module _ (word : List ℕ) (ts : List (List ℕ)) (m : Mnemonic) (e : word ≡ word_of_mnemonic m) (spelled : List Argument) (spells : SpellsArguments ts spelled) where
+module _ (word : List ℕ) (ts : List (List ℕ)) (m : Mnemonic) (e : word ≡ text_of_mnemonic m) (spelled : List LineOperand) (spells : SpellsOperands ts spelled) where
   pub tokens_read : (r : Result Insn LineCause) → ReadsInsn m spelled r → ReadsTokens word ts r
-  tokens_read (Ok i) h = (h.0, (worded word m i e h.1, respell_all ts (arguments_of i) spelled (sym h.2) spells))
+  tokens_read (Ok i) h = (h.0, (worded word m i e h.1, respell_all ts (operands_of i) spelled (sym h.2) spells))
   tokens_read (Err Char) h = absurd h
   tokens_read (Err Word) h = absurd h
   tokens_read (Err Shape) h = (
-    is_word word m e,
-    (λ w. h w.0 (named word m w.0 e w.1) (kinds_of spelled w.2.0 (one_arguments ts spelled w.2.0 spells w.2.2) ∙ w.2.1)),
+    is_mnemonic word m e,
+    (λ w. h w.0 (named word m w.0 e w.1) (kinds_of spelled w.2.0 (one_operands ts spelled w.2.0 spells w.2.2) ∙ w.2.1)),
   )
   tokens_read (Err Range) h = (
     (h.0.0, worded word m h.0.0 e h.0.1, (spelled, h.0.2, spells)),
-    (λ i v f. h.1 i v (named word m i e f.0) (one_arguments ts spelled (arguments_of i) spells f.1)),
+    (λ i v f. h.1 i v (named word m i e f.0) (one_operands ts spelled (operands_of i) spells f.1)),
   )
 
--- what is read of a word and the tokens behind it, is read of the line
+-- the result for the first token and the others is the result for the line
 module _ (line word rest : List ℕ) (starts : StartsWithToken (code_of line) word rest) where
   pub line_cause : (cause : LineCause) → ((ts : List (List ℕ)) → AreTokens rest ts → ReadsTokens word ts (Err cause)) → list_any is_stray rest ≡ false → IsCause line cause
   line_cause cause reads none = let more = tokens_exist rest none in holds cause more.0 more.1 (reads more.0 more.1)

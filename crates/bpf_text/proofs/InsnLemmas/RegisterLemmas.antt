@@ -6,7 +6,7 @@ use Rattle.std.proofs.lemmas.Bool.{cases_lt, false≢true}
 use Rattle.std.proofs.lemmas.Bool.Decides.{Decides-eqb}
 use Rattle.std.proofs.lemmas.Slice.Eq.{slice_eq-Decides}
 use Rattle.bpf_insn.specs.declared.insn.Reg.{Reg}
-use Rattle.bpf_text.specs.insn.Arguments.{SpellsRegister}
+use Rattle.bpf_text.specs.insn.Operands.{SpellsRegister}
 
 -- a number from k on is k, or from k + 1 on
 from : (P : ℕ → Type 0) (k n : ℕ) → k ≤ n → P k → (k + 1 ≤ n → P n) → P n
@@ -24,7 +24,7 @@ pub last_register_text : codes "r" ++ decimal 10 ≡ codes "r10"
 unfolding digits
 last_register_text = refl
 
--- what `Reg::new` answers for the register that the token spells
+-- what `Reg::new` returns for the register that the token spells
 pub spelled_by_new : (token : List ℕ) (n : ℕ) (r : Option Reg) → token ≡ codes "r" ++ decimal n → MatchOption r (10 < n) (λ k. k.number ≡ n) → IfSome r (SpellsRegister token)
 spelled_by_new token n None e h = tt
 spelled_by_new token n (Some k) e h = e ∙ ap (λ x. codes "r" ++ decimal x) (sym h)
@@ -46,9 +46,9 @@ last_spelled token b r e f h = spelled_by_new token 10 r ((slice_eq-Decides Deci
 
 -- ---- ready texts
 
--- the text of a register of known number, behind other text
-pub small_register_told : (lead : List ℕ) (d n : ℕ) → d ≤ 9 → d ≡ n → lead ++ (114 ∷ (48 + d) ∷ []) ≡ lead ++ (codes "r" ++ decimal n)
-small_register_told lead d n small e = ap (λ (x : List ℕ). lead ++ x) (sym (small_register_text d small)) ∙ ap (λ (m : ℕ). lead ++ (codes "r" ++ decimal m)) e
+-- the text of a register of known number, after other text
+pub small_register_is : (lead : List ℕ) (d n : ℕ) → d ≤ 9 → d ≡ n → lead ++ (114 ∷ (48 + d) ∷ []) ≡ lead ++ (codes "r" ++ decimal n)
+small_register_is lead d n small e = ap (λ (x : List ℕ). lead ++ x) (sym (small_register_text d small)) ∙ ap (λ (m : ℕ). lead ++ (codes "r" ++ decimal m)) e
 
-pub last_register_told : (lead : List ℕ) (n : ℕ) → 10 ≡ n → lead ++ codes "r10" ≡ lead ++ (codes "r" ++ decimal n)
-last_register_told lead n e = ap (λ (x : List ℕ). lead ++ x) (sym last_register_text) ∙ ap (λ (m : ℕ). lead ++ (codes "r" ++ decimal m)) e
+pub last_register_is : (lead : List ℕ) (n : ℕ) → 10 ≡ n → lead ++ codes "r10" ≡ lead ++ (codes "r" ++ decimal n)
+last_register_is lead n e = ap (λ (x : List ℕ). lead ++ x) (sym last_register_text) ∙ ap (λ (m : ℕ). lead ++ (codes "r" ++ decimal m)) e

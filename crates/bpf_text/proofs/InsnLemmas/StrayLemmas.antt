@@ -8,7 +8,7 @@ use Rattle.std.proofs.lemmas.List.Folds.{list_any_at}
 use Rattle.bpf_text.specs.insn.Tokens.{is_comment_mark, is_stray, code_of}
 use Rattle.bpf_text.proofs.InsnLemmas.TokenLemmas.{run_found, run_whole, run_passes}
 
--- the marks of comments are stray
+-- the bytes that begin a comment are stray
 mark_is_stray : (b : ℕ) → is_stray b ≡ false → is_comment_mark b ≡ false
 mark_is_stray b h = from_tests (eqb b 59) (eqb b 35) refl refl
   where
@@ -32,7 +32,7 @@ none_before line end e = rw e (none_passes is_stray (take (position_or_len is_st
 no_mark : (line : List ℕ) (end k : ℕ) → end ≡ position_or_len is_stray line → k < end → is_comment_mark (get_or line k 0) ≡ false
 no_mark line end k e l = mark_is_stray (get_or line k 0) (fails_before_first is_stray line k 0 (omega (arith, e)))
 
--- a mark there begins the comment
+-- such a byte there begins the comment
 pub mark_ends : (line : List ℕ) (end : ℕ) → end ≡ position_or_len is_stray line → end < length line → is_comment_mark (get_or line end 0) ≡ true → take end line ≡ code_of line
 mark_ends line end e l h =
     ap (λ n. take n line) (run_found (λ b. not (is_comment_mark b)) line end l (λ k m. ap not (no_mark line end k e m)) (ap not h))

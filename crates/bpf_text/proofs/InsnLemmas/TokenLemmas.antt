@@ -1,4 +1,4 @@
--- What the lengths of runs say of the tokens of a line.
+-- The tokens of a line by the lengths of its runs.
 use Rattle.std.proofs.Common.{◌≡◌, ℕ, ◌<◌, ◌≤◌, Bool, true, false, eqb, not, ◌||◌, List, [], ◌∷◌, ◌++◌, inl, inr, length, get_or, take, drop, refl, sym, ap, add-zero, ◌∙◌, arith}
 use Rattle.std.specs.List.{list_any, list_all, prefix_len}
 use Rattle.std.proofs.lemmas.List.{get_or-take, take-append-drop, length-append, length-drop, length-take, length-take-le, get_or-drop, take_all, append_assoc}
@@ -47,7 +47,7 @@ one_cell (x ∷ xs) h = refl
 is_empty_list : (xs : List ℕ) → xs ≡ [] → length xs ≡ 0
 is_empty_list xs e = ap length e
 
--- nothing stands behind the blanks
+-- nothing comes after the blanks
 pub all_blank : (bytes rest : List ℕ) (n : ℕ) → n ≡ prefix_len is_blank bytes → rest ≡ drop n bytes → length rest ≡ 0 → list_all is_blank bytes ≡ true
 all_blank bytes rest n e f h =
     let all : take (prefix_len is_blank bytes) bytes ≡ bytes = take_all (prefix_len is_blank bytes) bytes (omega (arith, length-drop n bytes, ap length f)) in
@@ -61,7 +61,7 @@ joined bytes rest token after n len e f g =
 blanks_before : (bytes : List ℕ) (n : ℕ) → n ≡ prefix_len is_blank bytes → list_all is_blank (take n bytes) ≡ true
 blanks_before bytes n e = rw e (run_passes is_blank bytes)
 
--- a word stands behind the blanks
+-- a run of word bytes comes after the blanks
 pub word_starts : (bytes rest token after : List ℕ) (n run len : ℕ) → n ≡ prefix_len is_blank bytes → rest ≡ drop n bytes
     → run ≡ prefix_len is_word_byte rest → 0 < run → len ≡ run → token ≡ take len rest → after ≡ drop len rest → StartsWithToken bytes token after
 word_starts bytes rest token after n run len e f r h l t a =
@@ -78,7 +78,7 @@ word_starts bytes rest token after n run len e f r h l t a =
       longest = inl ((λ z. absurd (omega (arith, is_empty_list token z))), all, ends);
     }
 
--- a symbol stands behind the blanks
+-- a symbol comes after the blanks
 pub symbol_starts : (bytes rest token after : List ℕ) (n run len : ℕ) → list_any is_stray bytes ≡ false → n ≡ prefix_len is_blank bytes → rest ≡ drop n bytes
     → 0 < length rest → run ≡ prefix_len is_word_byte rest → run ≡ 0 → len ≡ 1 → token ≡ take len rest → after ≡ drop len rest → StartsWithToken bytes token after
 symbol_starts bytes rest token after n run len none e f h r z l t a =
@@ -90,8 +90,8 @@ symbol_starts bytes rest token after n run len none e f h r z l t a =
     rw (at_n, e) (prefix_len_stops is_blank bytes 0 (omega arith)) in
     let run_none : prefix_len is_word_byte rest ≡ 0 = sym r ∙ z in
     let stops : is_word_byte (get_or rest (prefix_len is_word_byte rest) 0) ≡ false = prefix_len_stops is_word_byte rest 0 (omega arith) in
-    let not_word : is_word_byte (get_or rest 0 0) ≡ false = rw run_none at stops in
-    let symbol : is_symbol (get_or rest 0 0) ≡ true = third (is_blank (get_or rest 0 0)) (is_word_byte (get_or rest 0 0)) (is_symbol (get_or rest 0 0)) not_stray not_blank not_word in
+    let not_mnemonic : is_word_byte (get_or rest 0 0) ≡ false = rw run_none at stops in
+    let symbol : is_symbol (get_or rest 0 0) ≡ true = third (is_blank (get_or rest 0 0)) (is_word_byte (get_or rest 0 0)) (is_symbol (get_or rest 0 0)) not_stray not_blank not_mnemonic in
     record {
       blanks = take n bytes;
       whole = joined bytes rest token after n len f t a;
@@ -99,7 +99,7 @@ symbol_starts bytes rest token after n run len none e f h r z l t a =
       longest = inr (get_or rest 0 0, rw (t, l) (one_cell rest h), symbol);
     }
 
--- the length of what a test says isn't empty
+-- the length of a list that isn't empty by a test
 pub some_length : {n : ℕ} (b : Bool) → b ≡ eqb n 0 → b ≡ false → 0 < n
 some_length b e t = grind (arith, nat_tests)
 
@@ -110,8 +110,8 @@ pub some_from_test : (xs : List ℕ) (b : Bool) → b ≡ eqb (length xs) 0 → 
 some_from_test xs b e t = grind (arith, nat_tests)
 
 -- what follows a token has no stray byte either, and is shorter
-pub none_stray_behind : (bytes token rest : List ℕ) → StartsWithToken bytes token rest → list_any is_stray bytes ≡ false → list_any is_stray rest ≡ false
-none_stray_behind bytes token rest s none =
+pub none_stray_following : (bytes token rest : List ℕ) → StartsWithToken bytes token rest → list_any is_stray bytes ≡ false → list_any is_stray rest ≡ false
+none_stray_following bytes token rest s none =
     second_none (list_any is_stray (s.blanks ++ token)) (list_any is_stray rest)
     (sym (list_any-append is_stray (s.blanks ++ token) rest) ∙ ap (list_any is_stray) (sym s.whole) ∙ none)
   where
@@ -124,8 +124,8 @@ token_has_bytes [] rest (inl w) = absurd (w.0 refl)
 token_has_bytes [] rest (inr w) = cc
 token_has_bytes (b ∷ token) rest w = omega arith
 
-pub shorter_behind : (bytes token rest : List ℕ) → StartsWithToken bytes token rest → length rest < length bytes
-shorter_behind bytes token rest s =
+pub shorter_following : (bytes token rest : List ℕ) → StartsWithToken bytes token rest → length rest < length bytes
+shorter_following bytes token rest s =
     omega (arith, token_has_bytes token rest s.longest, ap length s.whole, length-append (s.blanks ++ token) rest, length-append s.blanks token)
 
 -- one more token at the end of those so far

@@ -15,14 +15,14 @@ use Rattle.bpf_insn.specs.declared.insn.WideOf.TheVariants.{Number, MapFd, MapVa
 use Rattle.bpf_insn.specs.declared.insn.Insn.{Insn}
 use Rattle.bpf_insn.specs.declared.insn.Insn.TheVariants.{Alu, Movsx, Neg, Swap, Jump, JumpLong, Branch, CallHelper, CallLocal, CallBtf, Exit, Load, LoadSigned, StoreImm, StoreReg, Atomic, Wide, PacketAbs, PacketInd}
 use Rattle.bpf_insn.specs.Table.{IsInsn, IsOperand}
-use Rattle.bpf_text.specs.insn.Table.{word_of, operand_argument, arguments_of}
+use Rattle.bpf_text.specs.insn.Table.{mnemonic_text, source_operand, operands_of}
 use Rattle.bpf_text.specs.insn.Lines.{spaced, line_of, listing_of}
 use Rattle.bpf_text.specs.insn.Tokens.{is_newline, is_comment_mark, is_stray, code_of, AreTokens}
 use Rattle.bpf_text.specs.insn.Listing.{lines_of, ListsInsn, ListsLine, Lists}
 use Rattle.bpf_text.proofs.InsnLemmas.Excludes.{no_stray}
-use Rattle.bpf_text.proofs.InsnLemmas.WordTokens.{word_is_token}
-use Rattle.bpf_text.proofs.InsnLemmas.WrittenTokens.{IsNear, IsWritable, AreWritable, arguments_tokens, word_then, spaced_then}
-use Rattle.bpf_text.proofs.InsnLemmas.WrittenSpells.{none_passes, arguments_spell}
+use Rattle.bpf_text.proofs.InsnLemmas.MnemonicTokens.{mnemonic_is_token}
+use Rattle.bpf_text.proofs.InsnLemmas.WrittenTokens.{IsNear, IsWritable, AreWritable, operands_tokens, word_then, spaced_then}
+use Rattle.bpf_text.proofs.InsnLemmas.WrittenSpells.{none_passes, operands_spell}
 
 -- ---- the fields of an instruction are in range
 
@@ -34,11 +34,11 @@ near_imm : (z : ℤ) → FitsSigned w32 z → IsNear z
 near_imm (pos n) h = omega (arith, ints)
 near_imm (negsuc n) h = omega (arith, ints)
 
-operand_writable : (arg : Operand) → IsOperand arg → IsWritable (operand_argument arg)
+operand_writable : (arg : Operand) → IsOperand arg → IsWritable (source_operand arg)
 operand_writable (Imm k) h = near_imm k h
 operand_writable (Reg r) h = tt
 
-writable : (i : Insn) → IsInsn i → AreWritable (arguments_of i)
+writable : (i : Insn) → IsInsn i → AreWritable (operands_of i)
 writable (Alu width op d arg) h = (tt, (operand_writable arg h, tt))
 writable (Movsx form d s) h = (tt, (tt, tt))
 writable (Neg width d) h = (tt, tt)
@@ -67,11 +67,11 @@ writable (PacketInd z s k) h = (tt, (near_imm k h, tt))
 
 -- ---- one line
 
-line_tokens : (i : Insn) → IsInsn i → AreTokens (line_of i) (word_of i ∷ arguments_tokens (arguments_of i))
+line_tokens : (i : Insn) → IsInsn i → AreTokens (line_of i) (mnemonic_text i ∷ operands_tokens (operands_of i))
 line_tokens i h =
-    let word = word_is_token i in
-    let behind = spaced_then (arguments_of i) (writable i h) in
-    word_then (word_of i) (spaced (arguments_of i)) (arguments_tokens (arguments_of i)) word.0 word.1 behind.1 behind.0
+    let word = mnemonic_is_token i in
+    let following = spaced_then (operands_of i) (writable i h) in
+    word_then (mnemonic_text i) (spaced (operands_of i)) (operands_tokens (operands_of i)) word.0 word.1 following.1 following.0
 
 newline_is_stray : (b : ℕ) → is_newline b ≡ true → is_stray b ≡ true
 newline_is_stray b h = grind (arith, nat_tests)
@@ -79,7 +79,7 @@ newline_is_stray b h = grind (arith, nat_tests)
 mark_is_stray : (b : ℕ) → is_comment_mark b ≡ true → is_stray b ≡ true
 mark_is_stray b h = grind (arith, nat_tests)
 
--- no stray byte passes a test that only stray bytes pass
+-- no byte passes a test that only stray bytes pass
 none_of_strays : (p : ℕ → Bool) → ((b : ℕ) → p b ≡ true → is_stray b ≡ true) → (xs : List ℕ) → list_any is_stray xs ≡ false → All (λ b. p b ≡ false) xs
 none_of_strays p strays xs none k d h = by_test (p (get_or xs k d)) refl
   where
@@ -96,10 +96,10 @@ all_code line none =
 line_lists : (i : Insn) → IsInsn i → ListsInsn (line_of i) i
 line_lists i h =
     let tokens = line_tokens i h in
-    let none = no_stray (line_of i) (word_of i ∷ arguments_tokens (arguments_of i)) tokens in
-    let code : AreTokens (code_of (line_of i)) (word_of i ∷ arguments_tokens (arguments_of i)) =
-    subst (λ (x : List ℕ). AreTokens x (word_of i ∷ arguments_tokens (arguments_of i))) (sym (all_code (line_of i) none)) tokens in
-    (h, (word_of i ∷ arguments_tokens (arguments_of i), code, (refl, arguments_spell (arguments_of i) (writable i h))))
+    let none = no_stray (line_of i) (mnemonic_text i ∷ operands_tokens (operands_of i)) tokens in
+    let code : AreTokens (code_of (line_of i)) (mnemonic_text i ∷ operands_tokens (operands_of i)) =
+    subst (λ (x : List ℕ). AreTokens x (mnemonic_text i ∷ operands_tokens (operands_of i))) (sym (all_code (line_of i) none)) tokens in
+    (h, (mnemonic_text i ∷ operands_tokens (operands_of i), code, (refl, operands_spell (operands_of i) (writable i h))))
 
 -- ---- a listing
 
@@ -111,7 +111,7 @@ all_insns : (l : List Insn) → All IsInsn l → AllInsns l
 all_insns [] h = tt
 all_insns (i ∷ more) h = (h 0 i (omega arith), all_insns more (λ k d g. h (suc k) d (omega arith)))
 
--- what the lines list: one each, and nothing behind the last newline
+-- what the lines list: one each, and nothing after the last newline
 abbrev found_of : List Insn → List (List Insn)
 found_of [] = [] ∷ []
 found_of (i ∷ more) = (i ∷ []) ∷ found_of more
@@ -122,7 +122,7 @@ found_whole (i ∷ more) = ap (λ x. i ∷ x) (found_whole more)
 
 lines : (i : Insn) (more : List Insn) → IsInsn i → lines_of (listing_of (i ∷ more)) ≡ line_of i ∷ lines_of (listing_of more)
 lines i more h =
-    let none = no_stray (line_of i) (word_of i ∷ arguments_tokens (arguments_of i)) (line_tokens i h) in
+    let none = no_stray (line_of i) (mnemonic_text i ∷ operands_tokens (operands_of i)) (line_tokens i h) in
     ap lines_of (append_assoc (line_of i) (codes "\n") (listing_of more))
     ∙ slice_split_at is_newline (line_of i) 10 (listing_of more) (none_of_strays is_newline newline_is_stray (line_of i) none) refl
 

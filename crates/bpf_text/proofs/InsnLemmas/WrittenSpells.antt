@@ -1,4 +1,4 @@
--- What is written spells its arguments.
+-- What is written spells its operands.
 use Rattle.std.proofs.Common.{◌≡◌, ◌≢◌, ℕ, suc, ◌^◌, ◌<◌, ℤ, pos, negsuc, Bool, true, false, ◌||◌, List, [], ◌∷◌, ◌++◌, inl, inr, get_or, map, refl, sym, ap, ◌∙◌, subst, arith, codes}
 use Rattle.std.specs.Fmt.{decimal}
 use Rattle.std.specs.List.{AllZip, All, list_any, slice_split}
@@ -10,31 +10,31 @@ use Rattle.std.proofs.lemmas.List.Folds.{list_any_at, list_any-append}
 use Rattle.std.proofs.lemmas.List.Splits.{slice_split_none, slice_split_at}
 use Rattle.std.proofs.lemmas.Fmt.{decimal_is_IsNumeral}
 use Rattle.bpf_insn.specs.declared.insn.Reg.{Reg}
-use Rattle.bpf_text.specs.insn.Arguments.{Argument, register, number, signed, memory, register_text, SpellsMagnitude, SpellsArgument, SpellsArguments, is_comma}
-use Rattle.bpf_text.proofs.InsnLemmas.WrittenTokens.{IsNear, numeral, number_tokens, signed_tokens, IsWritable, AreWritable, argument_tokens, arguments_tokens}
+use Rattle.bpf_text.specs.insn.Operands.{LineOperand, register, number, signed, memory, register_text, SpellsMagnitude, SpellsOperand, SpellsOperands, is_comma}
+use Rattle.bpf_text.proofs.InsnLemmas.WrittenTokens.{IsNear, numeral, number_tokens, signed_tokens, IsWritable, AreWritable, operand_tokens, operands_tokens}
 
--- ---- one argument
+-- ---- one operand
 
 magnitude : (n : ℕ) → n < 2 ^ 64 → SpellsMagnitude (decimal n) n
 magnitude n near = let d = decimal_is_IsNumeral n near in inl (d.0, sym d.1)
 
-signed_spells : (z : ℤ) → IsNear z → SpellsArgument (signed_tokens z) (signed z)
+signed_spells : (z : ℤ) → IsNear z → SpellsOperand (signed_tokens z) (signed z)
 signed_spells (pos n) near = (n, magnitude n near, inl (refl, refl))
 signed_spells (negsuc n) near = (suc n, magnitude (suc n) near, inr (refl, refl))
 
-number_spells : (z : ℤ) → IsNear z → SpellsArgument (number_tokens z) (number z)
+number_spells : (z : ℤ) → IsNear z → SpellsOperand (number_tokens z) (number z)
 number_spells (pos n) near = (n, magnitude n near, refl)
 number_spells (negsuc n) near = (suc n, magnitude (suc n) near, inr (refl, refl))
 
-memory_spells : (r : Reg) (z : ℤ) → IsNear z → SpellsArgument (argument_tokens (memory r z)) (memory r z)
+memory_spells : (r : Reg) (z : ℤ) → IsNear z → SpellsOperand (operand_tokens (memory r z)) (memory r z)
 memory_spells r (pos n) near = (refl, refl, (n, magnitude n near, inl (refl, refl)), refl)
 memory_spells r (negsuc n) near = (refl, refl, (suc n, magnitude (suc n) near, inr (refl, refl)), refl)
 
-argument_spells : (a : Argument) → IsWritable a → SpellsArgument (argument_tokens a) a
-argument_spells (register r) near = refl
-argument_spells (number z) near = number_spells z near
-argument_spells (signed z) near = signed_spells z near
-argument_spells (memory r z) near = memory_spells r z near
+operand_spells : (a : LineOperand) → IsWritable a → SpellsOperand (operand_tokens a) a
+operand_spells (register r) near = refl
+operand_spells (number z) near = number_spells z near
+operand_spells (signed z) near = signed_spells z near
+operand_spells (memory r z) near = memory_spells r z near
 
 -- ---- commas
 
@@ -60,11 +60,11 @@ number_no_comma : (z : ℤ) → IsNear z → list_any is_comma (number_tokens z)
 number_no_comma (pos n) near = none_then (decimal n) [] (numeral_no_comma (decimal n) (numeral n near)) refl
 number_no_comma (negsuc n) near = none_then (codes "-") (decimal (suc n) ∷ []) refl (none_then (decimal (suc n)) [] (numeral_no_comma (decimal (suc n)) (numeral (suc n) near)) refl)
 
-argument_no_comma : (a : Argument) → IsWritable a → list_any is_comma (argument_tokens a) ≡ false
-argument_no_comma (register r) near = none_then (register_text r) [] (word_no_comma 114 (decimal r.number) (λ e. omega arith)) refl
-argument_no_comma (number z) near = number_no_comma z near
-argument_no_comma (signed z) near = signed_no_comma z near
-argument_no_comma (memory r z) near =
+operand_no_comma : (a : LineOperand) → IsWritable a → list_any is_comma (operand_tokens a) ≡ false
+operand_no_comma (register r) near = none_then (register_text r) [] (word_no_comma 114 (decimal r.number) (λ e. omega arith)) refl
+operand_no_comma (number z) near = number_no_comma z near
+operand_no_comma (signed z) near = signed_no_comma z near
+operand_no_comma (memory r z) near =
     none_then (codes "[") (register_text r ∷ (signed_tokens z ++ codes "]" ∷ [])) refl
     (none_then (register_text r) (signed_tokens z ++ codes "]" ∷ []) (word_no_comma 114 (decimal r.number) (λ e. omega arith))
     (list_any-append is_comma (signed_tokens z) (codes "]" ∷ []) ∙ neither (list_any is_comma (signed_tokens z)) (list_any is_comma (codes "]" ∷ [])) (signed_no_comma z near) refl))
@@ -77,18 +77,18 @@ none_passes p xs none k d h = by_test (p (get_or xs k d)) refl
     by_test true e = absurd (false≢true (sym none ∙ list_any_at p xs k d h e))
     by_test false e = e
 
--- ---- several arguments
+-- ---- several operands
 
-split : (a : Argument) (more : List Argument) → AreWritable (a ∷ more) → slice_split is_comma (arguments_tokens (a ∷ more)) ≡ map argument_tokens (a ∷ more)
-split a [] near = slice_split_none is_comma (argument_tokens a) (none_passes is_comma (argument_tokens a) (argument_no_comma a near.0))
+split : (a : LineOperand) (more : List LineOperand) → AreWritable (a ∷ more) → slice_split is_comma (operands_tokens (a ∷ more)) ≡ map operand_tokens (a ∷ more)
+split a [] near = slice_split_none is_comma (operand_tokens a) (none_passes is_comma (operand_tokens a) (operand_no_comma a near.0))
 split a (b ∷ more) near =
-    slice_split_at is_comma (argument_tokens a) (codes ",") (arguments_tokens (b ∷ more)) (none_passes is_comma (argument_tokens a) (argument_no_comma a near.0)) refl
-    ∙ ap (λ parts. argument_tokens a ∷ parts) (split b more near.1)
+    slice_split_at is_comma (operand_tokens a) (codes ",") (operands_tokens (b ∷ more)) (none_passes is_comma (operand_tokens a) (operand_no_comma a near.0)) refl
+    ∙ ap (λ parts. operand_tokens a ∷ parts) (split b more near.1)
 
-each_spells : (xs : List Argument) → AreWritable xs → AllZip SpellsArgument (map argument_tokens xs) xs
+each_spells : (xs : List LineOperand) → AreWritable xs → AllZip SpellsOperand (map operand_tokens xs) xs
 each_spells [] near = tt
-each_spells (a ∷ more) near = (argument_spells a near.0, each_spells more near.1)
+each_spells (a ∷ more) near = (operand_spells a near.0, each_spells more near.1)
 
-pub arguments_spell : (xs : List Argument) → AreWritable xs → SpellsArguments (arguments_tokens xs) xs
-arguments_spell [] near = refl
-arguments_spell (a ∷ more) near = subst (λ (parts : List (List (List ℕ))). AllZip SpellsArgument parts (a ∷ more)) (sym (split a more near)) (each_spells (a ∷ more) near)
+pub operands_spell : (xs : List LineOperand) → AreWritable xs → SpellsOperands (operands_tokens xs) xs
+operands_spell [] near = refl
+operands_spell (a ∷ more) near = subst (λ (parts : List (List (List ℕ))). AllZip SpellsOperand parts (a ∷ more)) (sym (split a more near)) (each_spells (a ∷ more) near)

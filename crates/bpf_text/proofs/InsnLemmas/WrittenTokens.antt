@@ -8,7 +8,7 @@ use Rattle.std.proofs.lemmas.Bool.{false≢true}
 use Rattle.std.proofs.lemmas.Bool.Decides.{nat_tests}
 use Rattle.std.proofs.lemmas.Fmt.{decimal_is_IsNumeral}
 use Rattle.bpf_insn.specs.declared.insn.Reg.{Reg}
-use Rattle.bpf_text.specs.insn.Arguments.{Argument, register, number, signed, memory, register_text, signed_text, argument_text, arguments_text}
+use Rattle.bpf_text.specs.insn.Operands.{LineOperand, register, number, signed, memory, register_text, signed_text, operand_text, operands_text}
 use Rattle.bpf_text.specs.insn.Lines.{spaced}
 use Rattle.bpf_text.specs.insn.Tokens.{is_blank, is_word_byte, is_symbol, BeginsWithWordByte, AreTokens}
 
@@ -82,28 +82,28 @@ register_numeral r = numeral r.number (omega (arith, r.in_range))
 register_then : (r : Reg) (rest : List ℕ) (ts : List (List ℕ)) → ¬ BeginsWithWordByte rest → AreTokens rest ts → AreTokens (register_text r ++ rest) (register_text r ∷ ts)
 register_then r rest ts ends h = letter_then 114 (decimal r.number) rest ts refl (register_numeral r) ends h
 
--- ---- arguments
+-- ---- operands
 
-abbrev pub IsWritable : Argument → Type 0
+abbrev pub IsWritable : LineOperand → Type 0
 IsWritable (register r) = Unit {0}
 IsWritable (number z) = IsNear z
 IsWritable (signed z) = IsNear z
 IsWritable (memory r z) = IsNear z
 
-abbrev pub AreWritable : List Argument → Type 0
+abbrev pub AreWritable : List LineOperand → Type 0
 AreWritable [] = Unit {0}
 AreWritable (a ∷ more) = IsWritable a × AreWritable more
 
-abbrev pub argument_tokens : Argument → List (List ℕ)
-argument_tokens (register r) = register_text r ∷ []
-argument_tokens (number z) = number_tokens z
-argument_tokens (signed z) = signed_tokens z
-argument_tokens (memory r z) = codes "[" ∷ register_text r ∷ (signed_tokens z ++ codes "]" ∷ [])
+abbrev pub operand_tokens : LineOperand → List (List ℕ)
+operand_tokens (register r) = register_text r ∷ []
+operand_tokens (number z) = number_tokens z
+operand_tokens (signed z) = signed_tokens z
+operand_tokens (memory r z) = codes "[" ∷ register_text r ∷ (signed_tokens z ++ codes "]" ∷ [])
 
-abbrev pub arguments_tokens : List Argument → List (List ℕ)
-arguments_tokens [] = []
-arguments_tokens (a ∷ []) = argument_tokens a
-arguments_tokens (a ∷ b ∷ more) = argument_tokens a ++ codes "," ∷ arguments_tokens (b ∷ more)
+abbrev pub operands_tokens : List LineOperand → List (List ℕ)
+operands_tokens [] = []
+operands_tokens (a ∷ []) = operand_tokens a
+operands_tokens (a ∷ b ∷ more) = operand_tokens a ++ codes "," ∷ operands_tokens (b ∷ more)
 
 four_parts : (a b c d e : List ℕ) → (((a ++ b) ++ c) ++ d) ++ e ≡ a ++ (b ++ (c ++ (d ++ e)))
 four_parts a b c d e = simp append_assoc
@@ -114,44 +114,44 @@ two_parts a b c = append_assoc a b c
 two_token_parts : (a b c : List (List ℕ)) → a ++ (b ++ c) ≡ (a ++ b) ++ c
 two_token_parts a b c = sym (append_assoc a b c)
 
-no_word : (b : ℕ) (rest : List ℕ) → is_word_byte b ≡ false → ¬ BeginsWithWordByte (b ∷ rest)
-no_word b rest e = λ h. false≢true (sym e ∙ h)
+no_mnemonic : (b : ℕ) (rest : List ℕ) → is_word_byte b ≡ false → ¬ BeginsWithWordByte (b ∷ rest)
+no_mnemonic b rest e = λ h. false≢true (sym e ∙ h)
 
 memory_then : (r : Reg) (z : ℤ) (rest : List ℕ) (ts : List (List ℕ)) → IsNear z → AreTokens rest ts
     → AreTokens (codes "[" ++ (register_text r ++ (signed_text z ++ (codes "]" ++ rest)))) (codes "[" ∷ register_text r ∷ (signed_tokens z ++ (codes "]" ∷ ts)))
 memory_then r z rest ts near h =
     symbol_then 91 (register_text r ++ (signed_text z ++ (codes "]" ++ rest))) (register_text r ∷ (signed_tokens z ++ (codes "]" ∷ ts))) refl
     (register_then r (signed_text z ++ (codes "]" ++ rest)) (signed_tokens z ++ (codes "]" ∷ ts)) (sign_first z (codes "]" ++ rest))
-    (signed_then z (codes "]" ++ rest) (codes "]" ∷ ts) near (no_word 93 rest refl) (symbol_then 93 rest ts refl h)))
+    (signed_then z (codes "]" ++ rest) (codes "]" ∷ ts) near (no_mnemonic 93 rest refl) (symbol_then 93 rest ts refl h)))
   where
     sign_first : (z : ℤ) (more : List ℕ) → ¬ BeginsWithWordByte (signed_text z ++ more)
-    sign_first (pos n) more = no_word 43 (decimal n ++ more) refl
-    sign_first (negsuc n) more = no_word 45 (decimal (suc n) ++ more) refl
+    sign_first (pos n) more = no_mnemonic 43 (decimal n ++ more) refl
+    sign_first (negsuc n) more = no_mnemonic 45 (decimal (suc n) ++ more) refl
 
-argument_then : (a : Argument) (rest : List ℕ) (ts : List (List ℕ)) → IsWritable a → ¬ BeginsWithWordByte rest → AreTokens rest ts → AreTokens (argument_text a ++ rest) (argument_tokens a ++ ts)
-argument_then (register r) rest ts near ends h = register_then r rest ts ends h
-argument_then (number z) rest ts near ends h = number_then z rest ts near ends h
-argument_then (signed z) rest ts near ends h = signed_then z rest ts near ends h
-argument_then (memory r z) rest ts near ends h =
-    subst (λ (x : List ℕ). AreTokens x (argument_tokens (memory r z) ++ ts)) (sym (four_parts (codes "[") (register_text r) (signed_text z) (codes "]") rest))
+operand_then : (a : LineOperand) (rest : List ℕ) (ts : List (List ℕ)) → IsWritable a → ¬ BeginsWithWordByte rest → AreTokens rest ts → AreTokens (operand_text a ++ rest) (operand_tokens a ++ ts)
+operand_then (register r) rest ts near ends h = register_then r rest ts ends h
+operand_then (number z) rest ts near ends h = number_then z rest ts near ends h
+operand_then (signed z) rest ts near ends h = signed_then z rest ts near ends h
+operand_then (memory r z) rest ts near ends h =
+    subst (λ (x : List ℕ). AreTokens x (operand_tokens (memory r z) ++ ts)) (sym (four_parts (codes "[") (register_text r) (signed_text z) (codes "]") rest))
     (subst (λ (x : List (List ℕ)). AreTokens (codes "[" ++ (register_text r ++ (signed_text z ++ (codes "]" ++ rest)))) (codes "[" ∷ register_text r ∷ x))
     (two_token_parts (signed_tokens z) (codes "]" ∷ []) ts) (memory_then r z rest ts near h))
 
-pub arguments_then : (xs : List Argument) → AreWritable xs → AreTokens (arguments_text xs) (arguments_tokens xs)
-arguments_then [] near = refl
-arguments_then (a ∷ []) near =
-    subst (λ (x : List ℕ). AreTokens x (argument_tokens a)) (append-nil (argument_text a))
-    (subst (λ (x : List (List ℕ)). AreTokens (argument_text a ++ []) x) (append-nil (argument_tokens a)) (argument_then a [] [] near.0 (λ h. h) refl))
-arguments_then (a ∷ b ∷ more) near =
-    let rest = arguments_text (b ∷ more) in
-    let ts = arguments_tokens (b ∷ more) in
-    let behind : AreTokens (44 ∷ 32 ∷ rest) (codes "," ∷ ts) = symbol_then 44 (32 ∷ rest) ts refl (blank_then 32 rest ts refl (arguments_then (b ∷ more) near.1)) in
-    subst (λ (x : List ℕ). AreTokens x (argument_tokens a ++ codes "," ∷ ts)) (sym (two_parts (argument_text a) (codes ", ") rest))
-    (argument_then a (44 ∷ 32 ∷ rest) (codes "," ∷ ts) near.0 (no_word 44 (32 ∷ rest) refl) behind)
+pub operands_then : (xs : List LineOperand) → AreWritable xs → AreTokens (operands_text xs) (operands_tokens xs)
+operands_then [] near = refl
+operands_then (a ∷ []) near =
+    subst (λ (x : List ℕ). AreTokens x (operand_tokens a)) (append-nil (operand_text a))
+    (subst (λ (x : List (List ℕ)). AreTokens (operand_text a ++ []) x) (append-nil (operand_tokens a)) (operand_then a [] [] near.0 (λ h. h) refl))
+operands_then (a ∷ b ∷ more) near =
+    let rest = operands_text (b ∷ more) in
+    let ts = operands_tokens (b ∷ more) in
+    let following : AreTokens (44 ∷ 32 ∷ rest) (codes "," ∷ ts) = symbol_then 44 (32 ∷ rest) ts refl (blank_then 32 rest ts refl (operands_then (b ∷ more) near.1)) in
+    subst (λ (x : List ℕ). AreTokens x (operand_tokens a ++ codes "," ∷ ts)) (sym (two_parts (operand_text a) (codes ", ") rest))
+    (operand_then a (44 ∷ 32 ∷ rest) (codes "," ∷ ts) near.0 (no_mnemonic 44 (32 ∷ rest) refl) following)
 
-pub spaced_then : (xs : List Argument) → AreWritable xs → AreTokens (spaced xs) (arguments_tokens xs) × ¬ BeginsWithWordByte (spaced xs)
+pub spaced_then : (xs : List LineOperand) → AreWritable xs → AreTokens (spaced xs) (operands_tokens xs) × ¬ BeginsWithWordByte (spaced xs)
 spaced_then [] near = (refl, (λ h. h))
 spaced_then (a ∷ more) near = (
-  blank_then 32 (arguments_text (a ∷ more)) (arguments_tokens (a ∷ more)) refl (arguments_then (a ∷ more) near),
-  no_word 32 (arguments_text (a ∷ more)) refl,
+  blank_then 32 (operands_text (a ∷ more)) (operands_tokens (a ∷ more)) refl (operands_then (a ∷ more) near),
+  no_mnemonic 32 (operands_text (a ∷ more)) refl,
 )

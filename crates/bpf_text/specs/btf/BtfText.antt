@@ -1,4 +1,4 @@
--- The text of BTF types: a line for each type, and behind it a line for each of its items. It is meant for values in the
+-- The text of BTF types: a line for each type, followed by a line for each of its items. It is meant for values in the
 -- ranges of their types: std writes numbers of up to 64 digits.
 use Rattle.std.specs.Prelude.{ℕ, ◌/◌, ◌%◌, Bool, false, List, [], ◌∷◌, ◌++◌, Option, Some, None, codes, decimal, length, nat_lt, if◌then◌else◌, ◌==◌, ◌||◌}
 use Rattle.std.specs.Char.{digit_char}
@@ -21,7 +21,7 @@ needs_backslash b = b == 0x22 || b == 0x5c
 abbrev pub is_control : ℕ → Bool
 is_control b = nat_lt b 0x20 || b == 0x7f
 
--- a byte of a name as it stands between the quotes
+-- a byte of a name as it is written between the quotes
 abbrev pub quoted_byte : ℕ → List ℕ
 quoted_byte b =
     if needs_backslash b then codes "\\" ++ b ∷ [] else
@@ -31,7 +31,7 @@ quoted_byte b =
 abbrev pub quoted : List ℕ → List ℕ
 quoted name = codes "\"" ++ flat_map quoted_byte name ++ codes "\""
 
--- ---- words
+-- ---- texts of single values
 
 abbrev pub encoding_name : Encoding → List ℕ
 encoding_name encoding.Plain = codes "plain"
@@ -58,7 +58,7 @@ component_text (Some component) = decimal component
 
 -- ---- types
 
--- the word of a kind
+-- the text of a kind
 abbrev pub kind_word : TypeHead → List ℕ
 kind_word (KInt name size encoding offset bits) = codes "int"
 kind_word (KPtr target) = codes "ptr"
@@ -80,7 +80,7 @@ kind_word (KDeclTag name flag target component) = codes "decl_tag"
 kind_word (KTypeTag name flag target) = codes "type_tag"
 kind_word (KEnum64 name signed size) = codes "enum64"
 
--- what stands behind the word, of a type with so many items
+-- the text after the kind, of a type with this number of items
 abbrev pub fields_text : TypeHead → ℕ → List ℕ
 fields_text (KInt name size encoding offset bits) items =
     codes " " ++ quoted name ++ codes " size=" ++ decimal size ++ codes " encoding=" ++ encoding_name encoding
@@ -116,7 +116,7 @@ fields_text (KTypeTag name flag target) items =
 fields_text (KEnum64 name signed size) items =
     codes " " ++ quoted name ++ codes " " ++ sign_name signed ++ codes " size=" ++ decimal size ++ codes " items=" ++ decimal items
 
--- the line of type number id, with so many items
+-- the line of the type with this ID and number of items
 abbrev pub head_line : ℕ → TypeHead → ℕ → List ℕ
 head_line id head items = codes "[" ++ decimal id ++ codes "] " ++ kind_word head ++ fields_text head items ++ codes "\n"
 
@@ -148,7 +148,7 @@ item_line signed item = item_text signed item ++ codes "\n"
 
 -- ---- the whole
 
--- the lines of type number id
+-- the lines of the type with this ID
 abbrev pub record_text : ℕ → TypeRecord → List ℕ
 record_text id r = head_line id r.head (length r.items) ++ flat_map (item_line (is_signed r.head)) r.items
 

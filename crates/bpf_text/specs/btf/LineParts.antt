@@ -1,5 +1,5 @@
--- The line of a type or an item in three parts: what stands before its name, the bytes of the name, and what stands behind
--- them. A line without a name is cut behind its word.
+-- The line of a type or an item in three parts: the text before its name, the bytes of the name, and the text after it. A
+-- line without a name is cut after its kind.
 use Rattle.std.specs.Prelude.{ℕ, Bool, true, false, List, [], ◌++◌, codes, decimal, if◌then◌else◌}
 use Rattle.std.specs.Int.{w32, w64}
 use Rattle.btf_types.specs.Values.{TypeHead, KInt, KPtr, KArray, KStruct, KUnion, KEnum, KFwd, KTypedef, KVolatile, KConst, KRestrict, KFunc, KFuncProto, KVar, KDatasec, KFloat, KDeclTag, KTypeTag, KEnum64, TypeItem, Member, EnumValue, Value64, Param, Entry}
@@ -7,7 +7,7 @@ use Rattle.bpf_text.specs.btf.BtfText.{encoding_name, linkage_name, sign_name, f
 
 -- ---- types
 
--- what stands between the word and the name
+-- the text between the kind and the name
 abbrev pub opening : TypeHead → List ℕ
 opening (KPtr target) = []
 opening (KArray target index count) = []
@@ -17,11 +17,11 @@ opening (KRestrict target) = []
 opening (KFuncProto target) = []
 opening head = codes " \""
 
--- the line of type number id, up to its name
+-- the line of the type with this ID, up to its name
 abbrev pub head_start : ℕ → TypeHead → List ℕ
 head_start id head = codes "[" ++ decimal id ++ codes "] " ++ kind_word head ++ opening head
 
--- what stands behind the name, of a type with so many items
+-- the text after the name, of a type with this number of items
 abbrev pub head_fields : TypeHead → ℕ → List ℕ
 head_fields (KInt name size encoding offset bits) items =
     codes "\" size=" ++ decimal size ++ codes " encoding=" ++ encoding_name encoding
@@ -67,7 +67,7 @@ is_declaration (KDeclTag name flag target component) = true
 is_declaration (KTypeTag name flag target) = true
 is_declaration head = false
 
--- the line of a type with so many items, from behind its name
+-- the line of a type with this number of items, from the end of its name
 abbrev pub head_end : TypeHead → ℕ → List ℕ
 head_end head items = head_fields head items ++ codes "\n"
 
@@ -81,7 +81,7 @@ item_start (Value64 name value) = codes "  value \""
 item_start (Param name target) = codes "  param \""
 item_start (Entry target offset size) = codes "  entry"
 
--- what stands behind the name of an item of a type whose values are signed or not
+-- the text after the name of an item of a type whose values are signed or not
 abbrev pub item_fields : Bool → TypeItem → List ℕ
 item_fields signed (Member name target bit_offset width) =
     codes "\" type=" ++ decimal target ++ codes " offset=" ++ decimal bit_offset
@@ -92,6 +92,6 @@ item_fields signed (Param name target) = codes "\" type=" ++ decimal target
 item_fields signed (Entry target offset size) =
     codes " type=" ++ decimal target ++ codes " offset=" ++ decimal offset ++ codes " size=" ++ decimal size
 
--- the line of an item, from behind its name
+-- the line of an item, from the end of its name
 abbrev pub item_end : Bool → TypeItem → List ℕ
 item_end signed item = item_fields signed item ++ codes "\n"

@@ -3,17 +3,17 @@
 use Rattle.std.specs.Prelude.{ℕ, List, [], ◌∷◌, ◌++◌, codes}
 use Rattle.std.specs.List.{flat_map}
 use Rattle.bpf_insn.specs.declared.insn.Insn.{Insn}
-use Rattle.bpf_text.specs.insn.Arguments.{Argument, arguments_text}
-use Rattle.bpf_text.specs.insn.Table.{word_of, arguments_of}
+use Rattle.bpf_text.specs.insn.Operands.{LineOperand, operands_text}
+use Rattle.bpf_text.specs.insn.Table.{mnemonic_text, operands_of}
 
--- a space before the arguments, where there are any
-abbrev pub spaced : List Argument → List ℕ
+-- a space before the operands, if there are any
+abbrev pub spaced : List LineOperand → List ℕ
 spaced [] = []
-spaced (a ∷ more) = codes " " ++ arguments_text (a ∷ more)
+spaced (a ∷ more) = codes " " ++ operands_text (a ∷ more)
 
--- the word, then the arguments
+-- the mnemonic, then the operands
 abbrev pub line_of : Insn → List ℕ
-line_of i = word_of i ++ spaced (arguments_of i)
+line_of i = mnemonic_text i ++ spaced (operands_of i)
 
 -- a line for each instruction
 abbrev pub listing_of : List Insn → List ℕ

@@ -1,4 +1,4 @@
--- Which text lists which instructions, and why a text lists none.
+-- Which instructions a text lists, and the fault of a text that is no listing.
 use Rattle.std.specs.Prelude.{◌≡◌, ℕ, ◌+◌, List, [], ◌∷◌, ◌++◌, length, map, IsTrue}
 use Rattle.std.specs.List.{slice_split, AllZip, flat_map, list_any}
 use Rattle.bpf_insn.specs.declared.insn.Insn.{Insn}
@@ -6,20 +6,20 @@ use Rattle.bpf_insn.specs.Table.{IsInsn}
 use Rattle.bpf_text.specs.declared.insn.fault.LineCause.{LineCause}
 use Rattle.bpf_text.specs.declared.insn.fault.LineCause.TheVariants.{Char, Word, Shape, Range}
 use Rattle.bpf_text.specs.declared.insn.fault.LineFault.{LineFault}
-use Rattle.bpf_text.specs.insn.Arguments.{Argument, kind_of, SpellsArguments}
-use Rattle.bpf_text.specs.insn.Table.{word_of, arguments_of}
+use Rattle.bpf_text.specs.insn.Operands.{LineOperand, operand_kind, SpellsOperands}
+use Rattle.bpf_text.specs.insn.Table.{mnemonic_text, operands_of}
 use Rattle.bpf_text.specs.insn.Tokens.{is_newline, code_of, AreTokens, is_stray}
 
--- what stands before, between and behind the newlines
+-- the lines: the text before, between and after the newlines
 abbrev pub lines_of : List ℕ → List (List ℕ)
 lines_of text = slice_split is_newline text
 
 -- ---- one line
 
--- the instruction's word, and its arguments in any spelling
+-- the instruction's mnemonic, and its operands in any spelling
 abbrev pub IsTokenForm : List (List ℕ) → Insn → Type 0
 IsTokenForm [] i = ⊥
-IsTokenForm (word ∷ tokens) i = (word ≡ word_of i) × SpellsArguments tokens (arguments_of i)
+IsTokenForm (first_token ∷ tokens) i = (first_token ≡ mnemonic_text i) × SpellsOperands tokens (operands_of i)
 
 -- the code of the line is a token form of an instruction whose fields are in range
 abbrev pub ListsInsn : List ℕ → Insn → Type 0
@@ -33,25 +33,25 @@ ListsLine line _ = ⊥
 
 -- ---- the fault of one line
 
--- some instruction has this word
-abbrev pub IsWord : List ℕ → Type 0
-IsWord word = (i : Insn) × (word ≡ word_of i)
+-- some instruction has this mnemonic
+abbrev pub IsMnemonic : List ℕ → Type 0
+IsMnemonic first_token = (i : Insn) × (first_token ≡ mnemonic_text i)
 
--- the tokens spell arguments of the kinds that some instruction of this word has
+-- the tokens spell operands of the kinds that some instruction with this mnemonic has
 abbrev pub IsForm : List ℕ → List (List ℕ) → Type 0
-IsForm word tokens =
-    (i : Insn) × (word ≡ word_of i) × ((arguments : List Argument) × (map kind_of arguments ≡ map kind_of (arguments_of i)) × SpellsArguments tokens arguments)
+IsForm first_token tokens =
+    (i : Insn) × (first_token ≡ mnemonic_text i) × ((operands : List LineOperand) × (map operand_kind operands ≡ map operand_kind (operands_of i)) × SpellsOperands tokens operands)
 
 -- the first of the four causes that holds
 abbrev pub IsCause : List ℕ → LineCause → Type 0
 IsCause line Char = IsTrue (list_any is_stray (code_of line))
 IsCause line Word =
-    (word : List ℕ) × (tokens : List (List ℕ)) × AreTokens (code_of line) (word ∷ tokens) × ¬ IsWord word
+    (first_token : List ℕ) × (tokens : List (List ℕ)) × AreTokens (code_of line) (first_token ∷ tokens) × ¬ IsMnemonic first_token
 IsCause line Shape =
-    (word : List ℕ) × (tokens : List (List ℕ)) × AreTokens (code_of line) (word ∷ tokens) × IsWord word × ¬ IsForm word tokens
+    (first_token : List ℕ) × (tokens : List (List ℕ)) × AreTokens (code_of line) (first_token ∷ tokens) × IsMnemonic first_token × ¬ IsForm first_token tokens
 IsCause line Range =
-    (word : List ℕ) × (tokens : List (List ℕ)) × AreTokens (code_of line) (word ∷ tokens) × IsForm word tokens
-    × ((i : Insn) → IsInsn i → ¬ IsTokenForm (word ∷ tokens) i)
+    (first_token : List ℕ) × (tokens : List (List ℕ)) × AreTokens (code_of line) (first_token ∷ tokens) × IsForm first_token tokens
+    × ((i : Insn) → IsInsn i → ¬ IsTokenForm (first_token ∷ tokens) i)
 
 -- ---- a text
 

@@ -1,4 +1,4 @@
--- The words of the table, by mnemonics. The reader and the writer cite them; no public clause does.
+-- The text of each mnemonic, and the mnemonic of each instruction. No public clause cites them.
 use Rattle.std.specs.Prelude.{ℕ, List, ◌++◌, codes}
 use Rattle.bpf_insn.specs.declared.insn.Insn.{Insn}
 use Rattle.bpf_insn.specs.declared.insn.Insn.TheVariants as insn
@@ -8,39 +8,39 @@ use Rattle.bpf_text.specs.declared.insn.mnemonic.WideKind.{WideKind}
 use Rattle.bpf_text.specs.declared.insn.mnemonic.WideKind.TheVariants as kind
 use Rattle.bpf_text.specs.declared.insn.mnemonic.Mnemonic.{Mnemonic}
 use Rattle.bpf_text.specs.declared.insn.mnemonic.Mnemonic.TheVariants.{Alu, Movsx, Neg, Swap, Jump, JumpLong, Branch, CallHelper, CallLocal, CallBtf, Exit, Load, LoadSigned, StoreImm, StoreReg, Atomic, Wide, PacketAbs, PacketInd}
-use Rattle.bpf_text.specs.insn.Table.{width_suffix, alu_word, branch_word, movsx_word, swap_word, bits_suffix, size_suffix, small_size_suffix, atomic_word}
+use Rattle.bpf_text.specs.insn.Table.{width_suffix, alu_mnemonic, branch_mnemonic, movsx_mnemonic, swap_mnemonic, bits_suffix, size_suffix, small_size_suffix, atomic_mnemonic}
 
--- the word of a wide load
-abbrev pub kind_word : WideKind → List ℕ
-kind_word kind.Number = codes "lddw"
-kind_word kind.MapFd = codes "lddw_map"
-kind_word kind.MapValueFd = codes "lddw_map_value"
-kind_word kind.VarAddr = codes "lddw_var"
-kind_word kind.CodeAddr = codes "lddw_code"
-kind_word kind.MapIdx = codes "lddw_idx"
-kind_word kind.MapValueIdx = codes "lddw_idx_value"
+-- the text of the mnemonic of a wide load
+abbrev pub wide_kind_mnemonic : WideKind → List ℕ
+wide_kind_mnemonic kind.Number = codes "lddw"
+wide_kind_mnemonic kind.MapFd = codes "lddw_map"
+wide_kind_mnemonic kind.MapValueFd = codes "lddw_map_value"
+wide_kind_mnemonic kind.VarAddr = codes "lddw_var"
+wide_kind_mnemonic kind.CodeAddr = codes "lddw_code"
+wide_kind_mnemonic kind.MapIdx = codes "lddw_idx"
+wide_kind_mnemonic kind.MapValueIdx = codes "lddw_idx_value"
 
--- the word of a mnemonic
-abbrev pub word_of_mnemonic : Mnemonic → List ℕ
-word_of_mnemonic (Alu width op) = alu_word op ++ width_suffix width
-word_of_mnemonic (Movsx form) = movsx_word form
-word_of_mnemonic (Neg width) = codes "neg" ++ width_suffix width
-word_of_mnemonic (Swap k bits) = swap_word k ++ bits_suffix bits
-word_of_mnemonic Jump = codes "ja"
-word_of_mnemonic JumpLong = codes "ja32"
-word_of_mnemonic (Branch width op) = branch_word op ++ width_suffix width
-word_of_mnemonic CallHelper = codes "call"
-word_of_mnemonic CallLocal = codes "call_local"
-word_of_mnemonic CallBtf = codes "call_btf"
-word_of_mnemonic Exit = codes "exit"
-word_of_mnemonic (Load z) = codes "ldx" ++ size_suffix z
-word_of_mnemonic (LoadSigned z) = codes "ldxs" ++ small_size_suffix z
-word_of_mnemonic (StoreImm z) = codes "st" ++ size_suffix z
-word_of_mnemonic (StoreReg z) = codes "stx" ++ size_suffix z
-word_of_mnemonic (Atomic width op) = atomic_word op ++ width_suffix width
-word_of_mnemonic (Wide k) = kind_word k
-word_of_mnemonic (PacketAbs z) = codes "ldabs" ++ small_size_suffix z
-word_of_mnemonic (PacketInd z) = codes "ldind" ++ small_size_suffix z
+-- the text of a mnemonic
+abbrev pub text_of_mnemonic : Mnemonic → List ℕ
+text_of_mnemonic (Alu width op) = alu_mnemonic op ++ width_suffix width
+text_of_mnemonic (Movsx form) = movsx_mnemonic form
+text_of_mnemonic (Neg width) = codes "neg" ++ width_suffix width
+text_of_mnemonic (Swap k bits) = swap_mnemonic k ++ bits_suffix bits
+text_of_mnemonic Jump = codes "ja"
+text_of_mnemonic JumpLong = codes "ja32"
+text_of_mnemonic (Branch width op) = branch_mnemonic op ++ width_suffix width
+text_of_mnemonic CallHelper = codes "call"
+text_of_mnemonic CallLocal = codes "call_local"
+text_of_mnemonic CallBtf = codes "call_btf"
+text_of_mnemonic Exit = codes "exit"
+text_of_mnemonic (Load z) = codes "ldx" ++ size_suffix z
+text_of_mnemonic (LoadSigned z) = codes "ldxs" ++ small_size_suffix z
+text_of_mnemonic (StoreImm z) = codes "st" ++ size_suffix z
+text_of_mnemonic (StoreReg z) = codes "stx" ++ size_suffix z
+text_of_mnemonic (Atomic width op) = atomic_mnemonic op ++ width_suffix width
+text_of_mnemonic (Wide k) = wide_kind_mnemonic k
+text_of_mnemonic (PacketAbs z) = codes "ldabs" ++ small_size_suffix z
+text_of_mnemonic (PacketInd z) = codes "ldind" ++ small_size_suffix z
 
 -- what the wide load loads
 abbrev pub kind_of_wide : WideOf → WideKind

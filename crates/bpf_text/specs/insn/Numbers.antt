@@ -1,11 +1,11 @@
--- What a number that was read says of the number that a token spells.
+-- What a number and an operand that were read mean.
 use Rattle.std.specs.Prelude.{◌≡◌, ℕ, ◌^◌, ◌≤◌, ℤ, pos, neg_ℤ, ◌≤ℤ◌, Bool, true, false, ◌⊎◌, List}
 use Rattle.bpf_text.specs.declared.insn.number.Magnitude.{Magnitude}
 use Rattle.bpf_text.specs.declared.insn.number.Magnitude.TheVariants.{Small, Large}
 use Rattle.bpf_text.specs.declared.insn.number.Number.{Number}
-use Rattle.bpf_text.specs.declared.insn.spelled.Spelled.{Spelled}
-use Rattle.bpf_text.specs.declared.insn.spelled.Spelled.TheVariants.{Register, Literal, Memory}
-use Rattle.bpf_text.specs.insn.Arguments.{Argument, register, number, signed, memory, SpellsArgument}
+use Rattle.bpf_text.specs.declared.insn.read_operand.ReadOperand.{ReadOperand}
+use Rattle.bpf_text.specs.declared.insn.read_operand.ReadOperand.TheVariants.{Register, Literal, Memory}
+use Rattle.bpf_text.specs.insn.Operands.{LineOperand, register, number, signed, memory, SpellsOperand}
 
 -- the magnitude, or that it has more than 64 bits
 abbrev pub IsMagnitude : Magnitude → ℕ → Type 0
@@ -21,21 +21,21 @@ signed_by true m = neg_ℤ (pos m)
 abbrev pub IsNumber : Number → ℤ → Type 0
 IsNumber n z = (m : ℕ) × IsMagnitude n.magnitude m × (z ≡ signed_by n.negative m)
 
--- the argument that was read
-abbrev pub IsArgument : Spelled → Argument → Type 0
-IsArgument (Register r) (register s) = r ≡ s
-IsArgument (Literal n) (number z) = IsNumber n z
-IsArgument (Literal n) (signed z) = IsNumber n z
-IsArgument (Memory r n) (memory s z) = (r ≡ s) × IsNumber n z
-IsArgument _ _ = ⊥
+-- the operand that was read
+abbrev pub IsReadAs : ReadOperand → LineOperand → Type 0
+IsReadAs (Register r) (register s) = r ≡ s
+IsReadAs (Literal n) (number z) = IsNumber n z
+IsReadAs (Literal n) (signed z) = IsNumber n z
+IsReadAs (Memory r n) (memory s z) = (r ≡ s) × IsNumber n z
+IsReadAs _ _ = ⊥
 
--- the tokens spell no argument
-abbrev pub SpellsNoArgument : List (List ℕ) → Type 0
-SpellsNoArgument tokens = (a : Argument) → ¬ SpellsArgument tokens a
+-- the tokens spell no operand
+abbrev pub SpellsNoOperand : List (List ℕ) → Type 0
+SpellsNoOperand tokens = (a : LineOperand) → ¬ SpellsOperand tokens a
 
--- the tokens spell the argument that was read
-abbrev pub IsSpelledBy : List (List ℕ) → Spelled → Type 0
-IsSpelledBy tokens s = (a : Argument) × SpellsArgument tokens a × IsArgument s a
+-- the tokens spell the operand that was read
+abbrev pub IsSpelledBy : List (List ℕ) → ReadOperand → Type 0
+IsSpelledBy tokens s = (a : LineOperand) × SpellsOperand tokens a × IsReadAs s a
 
 -- no number of 64 bits, with or without a sign
 abbrev pub IsFar : ℤ → Type 0

@@ -1,13 +1,13 @@
--- What an argument of the code means.
+-- What an operand of the code means.
 use Rattle.std.specs.Prelude.{pos}
-use Rattle.bpf_text.specs.declared.insn.argument.Argument.{Argument as Written}
-use Rattle.bpf_text.specs.declared.insn.argument.Argument.TheVariants.{Register, Number, Unsigned, Signed, Memory}
-use Rattle.bpf_text.specs.insn.Arguments.{Argument, register, number, signed, memory}
+use Rattle.bpf_text.specs.declared.insn.written_operand.WrittenOperand.{WrittenOperand as Written}
+use Rattle.bpf_text.specs.declared.insn.written_operand.WrittenOperand.TheVariants.{Register, Number, Unsigned, Signed, Memory}
+use Rattle.bpf_text.specs.insn.Operands.{LineOperand, register, number, signed, memory}
 
--- the argument that the writer appends
-abbrev pub argument_of : Written → Argument
-argument_of (Register r) = register r
-argument_of (Number k) = number k
-argument_of (Unsigned n) = number (pos n)
-argument_of (Signed k) = signed k
-argument_of (Memory r o) = memory r o
+-- the operand that the writer writes
+abbrev pub operand_written : Written → LineOperand
+operand_written (Register r) = register r
+operand_written (Number k) = number k
+operand_written (Unsigned n) = number (pos n)
+operand_written (Signed k) = signed k
+operand_written (Memory r o) = memory r o

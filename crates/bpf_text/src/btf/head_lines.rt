@@ -1,4 +1,4 @@
-//! The line of a BTF type: its number, the word of its kind, and its fields.
+//! The line of a BTF type: its ID, its kind, its name, and its fields.
 
 ghost use Rattle.std.specs.Prelude.{◌≡◌, [], ◌++◌, codes, decimal, IsTrue};
 ghost use Rattle.btf_types.specs.Values as values;
@@ -14,6 +14,7 @@ use btf_types::{Encoding, Head, Linkage};
 use itoa::Buffer;
 use std::alloc::{AllocError, Allocator};
 
+/// The text of an INT's encoding (btf.rst section 2.2.1).
 fn encoding_name(encoding: Encoding) -> &'static str
     ensures { result.now ≡ spec.encoding_name encoding }
 {
@@ -25,6 +26,7 @@ fn encoding_name(encoding: Encoding) -> &'static str
     }
 }
 
+/// The text of the linkage of a FUNC or VAR (btf.rst sections 2.2.12 and 2.2.14).
 fn linkage_name(linkage: Linkage) -> &'static str
     ensures { result.now ≡ spec.linkage_name linkage }
 {
@@ -35,18 +37,21 @@ fn linkage_name(linkage: Linkage) -> &'static str
     }
 }
 
+/// The text of the signedness of an ENUM or ENUM64.
 fn sign_name(signed: bool) -> &'static str
     ensures { result.now ≡ spec.sign_name signed }
 {
     if signed { "signed" } else { "unsigned" }
 }
 
+/// The text of kind_flag.
 fn flag_text(flag: bool) -> &'static str
     ensures { result.now ≡ spec.flag_text flag }
 {
     if flag { "1" } else { "0" }
 }
 
+/// The text of a kind.
 fn kind_word(head: Head<'_>) -> &'static str
     ensures { result.now ≡ spec.kind_word (head_value head.entry) }
 {
@@ -73,6 +78,7 @@ fn kind_word(head: Head<'_>) -> &'static str
     }
 }
 
+/// Appends the encoding of an INT.
 fn append_encoding<A: Allocator>(
     text: &mut Vec<u8, A>,
     encoding: Encoding,
@@ -83,6 +89,7 @@ fn append_encoding<A: Allocator>(
     append(text, encoding_name(encoding))
 }
 
+/// Appends the fields of an INT.
 fn append_int<A: Allocator>(
     text: &mut Vec<u8, A>,
     size: u32,
@@ -98,6 +105,7 @@ fn append_int<A: Allocator>(
     append_number(text, " bits=", u32::from(bits))
 }
 
+/// Appends the fields of an ARRAY.
 fn append_array<A: Allocator>(
     text: &mut Vec<u8, A>,
     target: u32,
@@ -111,7 +119,7 @@ fn append_array<A: Allocator>(
     append_number(text, " count=", count)
 }
 
-// Appends a label and a number, and how many items there are.
+/// Appends a label, a number, and the number of items.
 fn append_counted<A: Allocator>(
     text: &mut Vec<u8, A>,
     label: &str,
@@ -124,6 +132,7 @@ fn append_counted<A: Allocator>(
     append_number(text, " items=", items)
 }
 
+/// Appends the fields of an ENUM or ENUM64.
 fn append_enum<A: Allocator>(
     text: &mut Vec<u8, A>,
     signed: bool,
@@ -137,7 +146,7 @@ fn append_enum<A: Allocator>(
     append_counted(text, " size=", size, items)
 }
 
-// Appends a label and a word, and the number of a type.
+/// Appends a label and a word, and the ID of the type that is referred to.
 fn append_with_type<A: Allocator>(
     text: &mut Vec<u8, A>,
     label: &str,
@@ -151,6 +160,7 @@ fn append_with_type<A: Allocator>(
     append_number(text, " type=", target)
 }
 
+/// Appends a component_idx. `None` is -1, the whole target (btf.rst section 2.2.17).
 fn append_component<A: Allocator>(
     text: &mut Vec<u8, A>,
     component: Option<u16>,
@@ -163,6 +173,7 @@ fn append_component<A: Allocator>(
     }
 }
 
+/// Appends the fields of a DECL_TAG.
 fn append_decl_tag<A: Allocator>(
     text: &mut Vec<u8, A>,
     flag: bool,
@@ -176,7 +187,7 @@ fn append_decl_tag<A: Allocator>(
     append_component(text, component)
 }
 
-// Appends what stands behind the name of a declaration: a type that is declared by its name alone, or is linked or a tag.
+/// Appends the fields after the name of a FWD, TYPEDEF, FUNC, VAR, DECL_TAG or TYPE_TAG.
 fn append_declaration<A: Allocator>(text: &mut Vec<u8, A>, head: Head<'_>) -> Result<(), AllocError>
     requires { IsTrue (parts.is_declaration (head_value head)) }
     ensures { Appends result text.old.items (parts.head_fields (head_value head.entry) 0) text.new.items }
@@ -210,7 +221,7 @@ fn append_declaration<A: Allocator>(text: &mut Vec<u8, A>, head: Head<'_>) -> Re
     }
 }
 
-// Appends what stands behind the name of a type with so many items.
+/// Appends the fields after the name of a type. `items` is the number of its items.
 fn append_fields<A: Allocator>(
     text: &mut Vec<u8, A>,
     head: Head<'_>,
@@ -247,14 +258,15 @@ fn append_fields<A: Allocator>(
     }
 }
 
-/// The name of a type, which is empty where its kind has none.
+/// The name of a type, as [`Head::name`] returns it, for callers that append a line in parts. It is empty if the kind has
+/// no name.
 pub fn head_name<'a>(head: Head<'a>) -> &'a str
     ensures { result.now ≡ names.head_name (head_value head.entry) }
 {
     head.name()
 }
 
-/// What stands between the word of a kind and the first byte of its name.
+/// The text between the kind and the first byte of the name. Without a name it is empty.
 fn opening(head: Head<'_>) -> &'static str
     ensures { result.now ≡ parts.opening (head_value head.entry) }
 {
@@ -269,13 +281,12 @@ fn opening(head: Head<'_>) -> &'static str
     }
 }
 
-/// Appends the line of a type with its number up to the first byte of its name. Behind it come the bytes of the name, by
-/// `append_quoted_part`, and `append_head_end`.
+/// Appends the line of a type up to the first byte of its name. The ID is its first number. The bytes of the name follow,
+/// by [`append_quoted_part`], and then [`append_head_end`].
 ///
 /// # Errors
 ///
-/// `AllocError` where the vector couldn't grow. What it held before is then still in front, and the first bytes of the
-/// line may follow.
+/// `AllocError` if the vector couldn't grow. It then keeps what it held, and the first bytes of the line may follow.
 pub fn append_head_start<A: Allocator>(
     text: &mut Vec<u8, A>,
     id: u32,
@@ -289,12 +300,12 @@ pub fn append_head_start<A: Allocator>(
     append(text, opening(head))
 }
 
-/// Appends the line of a type with so many items from behind the last byte of its name.
+/// Appends the line of a type from the end of its name. `items` is the number of its items.
 ///
 /// # Errors
 ///
-/// `AllocError` where the vector couldn't grow. What it held before is then still in front, and the first bytes of what
-/// was to come may follow.
+/// `AllocError` if the vector couldn't grow. It then keeps what it held, and the first bytes of the rest of the line may
+/// follow.
 pub fn append_head_end<A: Allocator>(
     text: &mut Vec<u8, A>,
     head: Head<'_>,
@@ -306,12 +317,11 @@ pub fn append_head_end<A: Allocator>(
     append(text, "\n")
 }
 
-/// Appends the line of a type with its number and so many items.
+/// Appends the line of the type with this ID. `items` is the number of its items.
 ///
 /// # Errors
 ///
-/// `AllocError` where the vector couldn't grow. What it held before is then still in front, and the first bytes of the
-/// line may follow.
+/// `AllocError` if the vector couldn't grow. It then keeps what it held, and the first bytes of the line may follow.
 pub fn append_head<A: Allocator>(
     text: &mut Vec<u8, A>,
     id: u32,
@@ -325,7 +335,7 @@ pub fn append_head<A: Allocator>(
     append_head_end(text, head, items)
 }
 
-/// Whether the values of a type are read as signed.
+/// Whether the values of a type are signed: kind_flag of an ENUM or ENUM64 (btf.rst sections 2.2.6 and 2.2.19).
 pub fn is_signed(head: Head<'_>) -> bool
     ensures { result ≡ spec.is_signed (head_value head.entry) }
 {

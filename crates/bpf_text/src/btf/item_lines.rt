@@ -1,4 +1,4 @@
-//! The lines of the items of BTF types: members, values, parameters and entries.
+//! The lines of the items of BTF types: members, enum values, parameters and the entries of a DATASEC.
 
 ghost use Rattle.std.specs.Prelude.{◌≡◌, [], ◌++◌, false};
 ghost use Rattle.std.specs.Int.{w32, w64};
@@ -15,6 +15,7 @@ use btf_types::Item;
 use itoa::Buffer;
 use std::alloc::{AllocError, Allocator};
 
+/// Appends a value of an ENUM.
 fn append_value32<A: Allocator>(
     text: &mut Vec<u8, A>,
     value: u32,
@@ -29,6 +30,7 @@ fn append_value32<A: Allocator>(
     }
 }
 
+/// Appends a value of an ENUM64.
 fn append_value64<A: Allocator>(
     text: &mut Vec<u8, A>,
     value: u64,
@@ -43,7 +45,7 @@ fn append_value64<A: Allocator>(
     }
 }
 
-/// Appends what stands behind the name of a member.
+/// Appends the fields after the name of a member. Offset and width are in bits.
 fn append_place<A: Allocator>(
     text: &mut Vec<u8, A>,
     target: u32,
@@ -57,6 +59,7 @@ fn append_place<A: Allocator>(
     append_number(text, " width=", u32::from(width))
 }
 
+/// Appends the fields of an entry of a DATASEC. Offset and size are in bytes.
 fn append_entry<A: Allocator>(
     text: &mut Vec<u8, A>,
     target: u32,
@@ -70,7 +73,7 @@ fn append_entry<A: Allocator>(
     append_number(text, " size=", size)
 }
 
-/// Appends what stands behind the name of an item.
+/// Appends the fields after the name of an item. `signed` is whether the values of its type are signed.
 fn append_item_fields<A: Allocator>(
     text: &mut Vec<u8, A>,
     item: Item<'_>,
@@ -102,20 +105,20 @@ fn append_item_fields<A: Allocator>(
     }
 }
 
-/// The name of an item, which is empty where it has none.
+/// The name of an item, as [`Item::name`] returns it, for callers that append a line in parts. It is empty if the item has
+/// no name.
 pub fn item_name<'a>(item: Item<'a>) -> &'a str
     ensures { result.now ≡ names.item_name (item_value item.entry) }
 {
     item.name()
 }
 
-/// Appends the line of an item up to the first byte of its name. Behind it come the bytes of the name, by
-/// `append_quoted_part`, and `append_item_end`.
+/// Appends the line of an item up to the first byte of its name. The bytes of the name follow, by [`append_quoted_part`],
+/// and then [`append_item_end`].
 ///
 /// # Errors
 ///
-/// `AllocError` where the vector couldn't grow. What it held before is then still in front, and the first bytes of the
-/// line may follow.
+/// `AllocError` if the vector couldn't grow. It then keeps what it held, and the first bytes of the line may follow.
 pub fn append_item_start<A: Allocator>(
     text: &mut Vec<u8, A>,
     item: Item<'_>,
@@ -130,12 +133,12 @@ pub fn append_item_start<A: Allocator>(
     }
 }
 
-/// Appends the line of an item from behind the last byte of its name, of a type whose values are read as signed or not.
+/// Appends the line of an item from the end of its name. `signed` is whether the values of its type are signed.
 ///
 /// # Errors
 ///
-/// `AllocError` where the vector couldn't grow. What it held before is then still in front, and the first bytes of what
-/// was to come may follow.
+/// `AllocError` if the vector couldn't grow. It then keeps what it held, and the first bytes of the rest of the line may
+/// follow.
 pub fn append_item_end<A: Allocator>(
     text: &mut Vec<u8, A>,
     item: Item<'_>,
@@ -147,12 +150,11 @@ pub fn append_item_end<A: Allocator>(
     append(text, "\n")
 }
 
-/// Appends the line of an item of a type whose values are read as signed or not.
+/// Appends the line of an item. `signed` is whether the values of its type are signed.
 ///
 /// # Errors
 ///
-/// `AllocError` where the vector couldn't grow. What it held before is then still in front, and the first bytes of the
-/// line may follow.
+/// `AllocError` if the vector couldn't grow. It then keeps what it held, and the first bytes of the line may follow.
 pub fn append_item<A: Allocator>(
     text: &mut Vec<u8, A>,
     item: Item<'_>,

@@ -1,4 +1,4 @@
-//! The bytes of names between quotes, with what a reader couldn't see or would take for a quote written otherwise.
+//! Names in quotes. Quotes, backslashes and control characters in them are escaped.
 
 ghost use Rattle.std.specs.Prelude.{◌≡◌, ◌/◌, ◌%◌, ◌∷◌, [], ◌++◌, ◌<◌, true, codes};
 ghost use Rattle.std.specs.Char.{digit_char};
@@ -8,15 +8,17 @@ ghost use Rattle.bpf_text.specs.btf.Appending.{Appends};
 
 use std::alloc::{AllocError, Allocator};
 
-/// The digits of a number in hexadecimal.
+/// The hexadecimal digits.
 const HEX_DIGITS: [u8; 16] = *b"0123456789abcdef";
 
+/// Whether a byte is escaped by a backslash.
 fn needs_backslash(byte: u8) -> bool
     ensures { result ≡ spec.needs_backslash byte }
 {
     byte == b'"' || byte == b'\\'
 }
 
+/// Whether a byte is a control character of ASCII.
 fn is_control(byte: u8) -> bool
     ensures { result ≡ spec.is_control byte }
 {
@@ -38,8 +40,8 @@ fn append_control<A: Allocator>(text: &mut Vec<u8, A>, byte: u8) -> Result<(), A
     text.extend_from_slice(&[b'\\', b'x', hex_digit(byte / 16), hex_digit(byte % 16)])
 }
 
-/// Whether a byte stands for itself between the quotes.
-fn is_plain(byte: u8) -> bool
+/// Whether a byte is written as it is between the quotes.
+fn is_unescaped(byte: u8) -> bool
     ensures { result ≡ true → spec.quoted_byte byte ≡ byte ∷ [] }
 {
     !needs_backslash(byte) && !is_control(byte)
@@ -58,24 +60,23 @@ fn append_byte<A: Allocator>(text: &mut Vec<u8, A>, byte: u8) -> Result<(), Allo
     }
 }
 
-/// Appends bytes of a name as they stand between its quotes: `"` and `\` behind a backslash, control characters of ASCII as
-/// `\x` and two hexadecimal digits, and all other bytes as they are. A name may be cut anywhere: what its parts append is what
-/// the whole name does.
+/// Appends bytes of a name as they are written between its quotes: a backslash before `"` and `\`, `\x` and two hexadecimal
+/// digits for control characters of ASCII, and all other bytes as they are. A name may be cut anywhere: its parts append
+/// the same as the whole name.
 ///
 /// # Errors
 ///
-/// `AllocError` where the vector couldn't grow. What it held before is then still in front, and the first bytes of what
-/// was to come may follow.
+/// `AllocError` if the vector couldn't grow. It then keeps what it held, and the first bytes of the part may follow.
 pub fn append_quoted_part<A: Allocator>(
     text: &mut Vec<u8, A>,
     part: &[u8],
 ) -> Result<(), AllocError>
     ensures { Appends result text.old.items (flat_map spec.quoted_byte part.now) text.new.items }
 {
-    // Plain bytes are appended by whole runs; those from here on are still to come.
+    // Unescaped bytes are appended in whole runs. The current run begins here.
     let mut start = 0;
     for (at, byte) in part.iter().enumerate() {
-        if !is_plain(*byte) {
+        if !is_unescaped(*byte) {
             text.extend_from_slice(&part[start..at])?;
             append_byte(text, *byte)?;
             start = at + 1;

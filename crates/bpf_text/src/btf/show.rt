@@ -43,12 +43,12 @@ fn append_record<T: TypeTable, A: Allocator>(
     append_items(text, table, id, is_signed(head))
 }
 
-/// The text of a table of types: a line for each type, which begins with its number in brackets, and behind it a line for each
-/// of its items, which begins with two spaces. The text of no types is empty.
+/// The text of a table of types: a line for each type, which begins with its ID in brackets, followed by a line for each of
+/// its items, which begins with two spaces. The text of no types is empty.
 ///
 /// # Errors
 ///
-/// `AllocError` where the allocator refuses room for the text.
+/// `AllocError` if the text couldn't grow.
 pub fn show_btf<T: TypeTable, A: Allocator>(alloc: A, table: &T) -> Result<Vec<u8, A>, AllocError>
     ensures { IfOk result (λ text. text.items ≡ text_of (T.meaning table.now)) }
 {

@@ -1,4 +1,4 @@
-//! The parts that lines are put together from: words and numbers.
+//! The parts of lines: texts and numbers.
 
 ghost use Rattle.std.specs.Prelude.{◌≡◌, ◌++◌, decimal};
 ghost use Rattle.bpf_text.specs.btf.Appending.{Appends};

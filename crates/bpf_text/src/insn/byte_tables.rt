@@ -1,4 +1,4 @@
-//! Which bytes are what in a line, by tables.
+//! Tables of the classes of bytes.
 
 /// Whether each byte is `a` to `z`, `0` to `9` or `_`.
 pub(crate) static WORD_BYTES: [bool; 256] = [

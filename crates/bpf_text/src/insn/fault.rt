@@ -1,4 +1,4 @@
-//! Why a text is no listing.
+//! Faults: why a text is no listing.
 
 ghost use Rattle.std.specs.Prelude.{◌≡◌};
 ghost use Rattle.bpf_text.specs.declared.insn.fault.ListError.TheVariants.{Memory};
@@ -8,16 +8,16 @@ use std::alloc::AllocError;
 use std::fmt;
 use thiserror::Error;
 
-/// Why a line lists nothing: the first of these that holds.
+/// Why a line is faulty: the first of these that holds.
 #[derive(Clone, Copy, Debug, PartialEq, Eq)]
 pub enum LineCause {
     /// A byte before the comment is neither blank nor part of a token.
     Char = 1,
-    /// The first token is no word of an instruction.
+    /// The first token is no mnemonic.
     Word = 2,
-    /// What stands behind the word hasn't its form.
+    /// The operands don't match the mnemonic: another number of them, or other kinds.
     Shape = 3,
-    /// Some number isn't in the range of its field.
+    /// A number is out of the range of its field.
     Range = 4,
 }
 
@@ -58,17 +58,17 @@ impl fmt::Display for LineCause {
 pub struct LineFault {
     /// The line, counted from 1.
     pub line: u64,
-    /// Why it lists nothing.
+    /// Why it is faulty.
     pub cause: LineCause,
 }
 
-/// Why no list was read. Its text is the variant's name.
+/// Why a call returns no instructions. Its text is the variant's name.
 #[derive(Clone, Copy, Debug, PartialEq, Eq, Error)]
 pub enum ListError {
     /// The text is no listing.
     #[error("Fault")]
     Fault(LineFault),
-    /// Memory was refused.
+    /// Out of memory.
     #[error("Memory")]
     Memory,
 }

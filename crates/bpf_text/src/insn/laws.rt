@@ -12,7 +12,7 @@ pub fn text_has_one_list()
     ensures { (text : List ℕ) (l m : List Insn) → Lists text l → Lists text m → l ≡ m }
 {}
 
-/// The lines of a list, each with a newline, list it.
+/// The listing of a list of instructions lists it.
 pub fn lines_list_themselves()
     ensures { (l : List Insn) → All IsInsn l → Lists (listing_of l) l }
 {}

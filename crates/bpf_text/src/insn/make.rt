@@ -1,66 +1,73 @@
-//! Instructions, made of a mnemonic and arguments.
+//! From a mnemonic and operands to the instruction.
+//!
+//! There is one function for each mnemonic, or family of them. The errors are those of `operand_fields`.
 
-ghost use Rattle.bpf_text.specs.insn.Forms.{InsnIsRead};
+ghost use Rattle.bpf_text.specs.insn.OperandFields.{InsnIsRead};
 ghost use Rattle.bpf_text.specs.declared.insn.mnemonic.Mnemonic.{Mnemonic};
 ghost use Rattle.bpf_text.specs.declared.insn.mnemonic.WideKind.{WideKind};
 
 use crate::insn::fault::LineCause;
-use crate::insn::form::{
-    address_and_imm, address_and_register, imm_and_offset, only_imm, only_offset, only_register,
-    register_and_address, register_and_imm, register_and_operand, register_and_two_imms,
-    register_and_wide_number, register_operand_and_offset, two_registers,
-};
 use crate::insn::mnemonic::{Mnemonic, WideKind};
-use crate::insn::spelled::Spelled;
+use crate::insn::operand_fields::{
+    address_and_imm, address_and_register, imm_and_offset, only_imm, only_offset, only_register,
+    register_and_address, register_and_imm, register_and_imm64, register_and_source,
+    register_and_two_imms, register_source_and_offset, two_registers,
+};
+use crate::insn::read_operand::ReadOperand;
 use bpf_insn::{
     AluOp, AtomicOp, BranchOp, Insn, MovsxForm, Size, SmallSize, SwapBits, SwapKind, WideOf, Width,
 };
 
-/// The instruction of a mnemonic and arguments.
-pub(crate) fn insn_of(mnemonic: Mnemonic, arguments: &[Spelled]) -> Result<Insn, LineCause>
-    ensures { InsnIsRead mnemonic arguments.now result }
+/// The instruction with this mnemonic and these operands.
+pub(crate) fn insn_from_operands(
+    mnemonic: Mnemonic,
+    operands: &[ReadOperand],
+) -> Result<Insn, LineCause>
+    ensures { InsnIsRead mnemonic operands.now result }
 {
     match mnemonic {
-        Mnemonic::Alu(width, op) => alu(width, op, arguments),
-        Mnemonic::Movsx(form) => movsx(form, arguments),
-        Mnemonic::Neg(width) => neg(width, arguments),
-        Mnemonic::Swap(kind, bits) => swap(kind, bits, arguments),
-        Mnemonic::Jump => jump(arguments),
-        Mnemonic::JumpLong => jump_long(arguments),
-        Mnemonic::Branch(width, op) => branch(width, op, arguments),
-        Mnemonic::CallHelper => call_helper(arguments),
-        Mnemonic::CallLocal => call_local(arguments),
-        Mnemonic::CallBtf => call_btf(arguments),
-        Mnemonic::Exit => exit(arguments),
-        Mnemonic::Load(size) => load(size, arguments),
-        Mnemonic::LoadSigned(size) => load_signed(size, arguments),
-        Mnemonic::StoreImm(size) => store_imm(size, arguments),
-        Mnemonic::StoreReg(size) => store_register(size, arguments),
-        Mnemonic::Atomic(width, op) => atomic(width, op, arguments),
-        Mnemonic::Wide(kind) => wide(kind, arguments),
-        Mnemonic::PacketAbs(size) => packet_abs(size, arguments),
-        Mnemonic::PacketInd(size) => packet_ind(size, arguments),
+        Mnemonic::Alu(width, op) => alu(width, op, operands),
+        Mnemonic::Movsx(form) => movsx(form, operands),
+        Mnemonic::Neg(width) => neg(width, operands),
+        Mnemonic::Swap(kind, bits) => swap(kind, bits, operands),
+        Mnemonic::Jump => jump(operands),
+        Mnemonic::JumpLong => jump_long(operands),
+        Mnemonic::Branch(width, op) => branch(width, op, operands),
+        Mnemonic::CallHelper => call_helper(operands),
+        Mnemonic::CallLocal => call_local(operands),
+        Mnemonic::CallBtf => call_btf(operands),
+        Mnemonic::Exit => exit(operands),
+        Mnemonic::Load(size) => load(size, operands),
+        Mnemonic::LoadSigned(size) => load_signed(size, operands),
+        Mnemonic::StoreImm(size) => store_imm(size, operands),
+        Mnemonic::StoreReg(size) => store_register(size, operands),
+        Mnemonic::Atomic(width, op) => atomic(width, op, operands),
+        Mnemonic::Wide(kind) => wide(kind, operands),
+        Mnemonic::PacketAbs(size) => packet_abs(size, operands),
+        Mnemonic::PacketInd(size) => packet_ind(size, operands),
     }
 }
 
-fn wide(kind: WideKind, arguments: &[Spelled]) -> Result<Insn, LineCause>
-    ensures { InsnIsRead (Mnemonic.Wide kind) arguments.now result }
+/// A wide load.
+fn wide(kind: WideKind, operands: &[ReadOperand]) -> Result<Insn, LineCause>
+    ensures { InsnIsRead (Mnemonic.Wide kind) operands.now result }
 {
     match kind {
-        WideKind::Number => wide_number(arguments),
-        WideKind::MapFd => map_fd(arguments),
-        WideKind::MapValueFd => map_value_fd(arguments),
-        WideKind::VarAddr => var_addr(arguments),
-        WideKind::CodeAddr => code_addr(arguments),
-        WideKind::MapIdx => map_idx(arguments),
-        WideKind::MapValueIdx => map_value_idx(arguments),
+        WideKind::Number => wide_number(operands),
+        WideKind::MapFd => map_fd(operands),
+        WideKind::MapValueFd => map_value_fd(operands),
+        WideKind::VarAddr => var_addr(operands),
+        WideKind::CodeAddr => code_addr(operands),
+        WideKind::MapIdx => map_idx(operands),
+        WideKind::MapValueIdx => map_value_idx(operands),
     }
 }
 
-fn alu(width: Width, op: AluOp, arguments: &[Spelled]) -> Result<Insn, LineCause>
-    ensures { InsnIsRead (Mnemonic.Alu width op) arguments.now result }
+/// An arithmetic operation.
+fn alu(width: Width, op: AluOp, operands: &[ReadOperand]) -> Result<Insn, LineCause>
+    ensures { InsnIsRead (Mnemonic.Alu width op) operands.now result }
 {
-    let fields = register_and_operand(arguments)?;
+    let fields = register_and_source(operands)?;
     Ok(Insn::Alu {
         width,
         op,
@@ -69,10 +76,11 @@ fn alu(width: Width, op: AluOp, arguments: &[Spelled]) -> Result<Insn, LineCause
     })
 }
 
-fn movsx(form: MovsxForm, arguments: &[Spelled]) -> Result<Insn, LineCause>
-    ensures { InsnIsRead (Mnemonic.Movsx form) arguments.now result }
+/// A move that extends the sign.
+fn movsx(form: MovsxForm, operands: &[ReadOperand]) -> Result<Insn, LineCause>
+    ensures { InsnIsRead (Mnemonic.Movsx form) operands.now result }
 {
-    let fields = two_registers(arguments)?;
+    let fields = two_registers(operands)?;
     Ok(Insn::Movsx {
         form,
         dst: fields.0,
@@ -80,38 +88,43 @@ fn movsx(form: MovsxForm, arguments: &[Spelled]) -> Result<Insn, LineCause>
     })
 }
 
-fn neg(width: Width, arguments: &[Spelled]) -> Result<Insn, LineCause>
-    ensures { InsnIsRead (Mnemonic.Neg width) arguments.now result }
+/// A negation.
+fn neg(width: Width, operands: &[ReadOperand]) -> Result<Insn, LineCause>
+    ensures { InsnIsRead (Mnemonic.Neg width) operands.now result }
 {
-    let dst = only_register(arguments)?;
+    let dst = only_register(operands)?;
     Ok(Insn::Neg { width, dst })
 }
 
-fn swap(kind: SwapKind, bits: SwapBits, arguments: &[Spelled]) -> Result<Insn, LineCause>
-    ensures { InsnIsRead (Mnemonic.Swap kind bits) arguments.now result }
+/// A byte swap.
+fn swap(kind: SwapKind, bits: SwapBits, operands: &[ReadOperand]) -> Result<Insn, LineCause>
+    ensures { InsnIsRead (Mnemonic.Swap kind bits) operands.now result }
 {
-    let dst = only_register(arguments)?;
+    let dst = only_register(operands)?;
     Ok(Insn::Swap { kind, bits, dst })
 }
 
-fn jump(arguments: &[Spelled]) -> Result<Insn, LineCause>
-    ensures { InsnIsRead Mnemonic.Jump arguments.now result }
+/// `ja`, with an offset of 16 bits.
+fn jump(operands: &[ReadOperand]) -> Result<Insn, LineCause>
+    ensures { InsnIsRead Mnemonic.Jump operands.now result }
 {
-    let off = only_offset(arguments)?;
+    let off = only_offset(operands)?;
     Ok(Insn::Jump { off })
 }
 
-fn jump_long(arguments: &[Spelled]) -> Result<Insn, LineCause>
-    ensures { InsnIsRead Mnemonic.JumpLong arguments.now result }
+/// `ja32`, with an offset of 32 bits.
+fn jump_long(operands: &[ReadOperand]) -> Result<Insn, LineCause>
+    ensures { InsnIsRead Mnemonic.JumpLong operands.now result }
 {
-    let imm = only_imm(arguments)?;
+    let imm = only_imm(operands)?;
     Ok(Insn::JumpLong { imm })
 }
 
-fn branch(width: Width, op: BranchOp, arguments: &[Spelled]) -> Result<Insn, LineCause>
-    ensures { InsnIsRead (Mnemonic.Branch width op) arguments.now result }
+/// A conditional jump.
+fn branch(width: Width, op: BranchOp, operands: &[ReadOperand]) -> Result<Insn, LineCause>
+    ensures { InsnIsRead (Mnemonic.Branch width op) operands.now result }
 {
-    let fields = register_operand_and_offset(arguments)?;
+    let fields = register_source_and_offset(operands)?;
     Ok(Insn::Branch {
         width,
         op,
@@ -121,34 +134,38 @@ fn branch(width: Width, op: BranchOp, arguments: &[Spelled]) -> Result<Insn, Lin
     })
 }
 
-fn call_helper(arguments: &[Spelled]) -> Result<Insn, LineCause>
-    ensures { InsnIsRead Mnemonic.CallHelper arguments.now result }
+/// A call of a helper function by its number.
+fn call_helper(operands: &[ReadOperand]) -> Result<Insn, LineCause>
+    ensures { InsnIsRead Mnemonic.CallHelper operands.now result }
 {
-    let id = only_imm(arguments)?;
+    let id = only_imm(operands)?;
     Ok(Insn::CallHelper { id })
 }
 
-fn call_local(arguments: &[Spelled]) -> Result<Insn, LineCause>
-    ensures { InsnIsRead Mnemonic.CallLocal arguments.now result }
+/// A call of a function of the program.
+fn call_local(operands: &[ReadOperand]) -> Result<Insn, LineCause>
+    ensures { InsnIsRead Mnemonic.CallLocal operands.now result }
 {
-    let imm = only_imm(arguments)?;
+    let imm = only_imm(operands)?;
     Ok(Insn::CallLocal { imm })
 }
 
-fn call_btf(arguments: &[Spelled]) -> Result<Insn, LineCause>
-    ensures { InsnIsRead Mnemonic.CallBtf arguments.now result }
+/// A call of a helper function by its BTF type ID.
+fn call_btf(operands: &[ReadOperand]) -> Result<Insn, LineCause>
+    ensures { InsnIsRead Mnemonic.CallBtf operands.now result }
 {
-    let fields = imm_and_offset(arguments)?;
+    let fields = imm_and_offset(operands)?;
     Ok(Insn::CallBtf {
         id: fields.0,
         off: fields.1,
     })
 }
 
-fn load(size: Size, arguments: &[Spelled]) -> Result<Insn, LineCause>
-    ensures { InsnIsRead (Mnemonic.Load size) arguments.now result }
+/// A load.
+fn load(size: Size, operands: &[ReadOperand]) -> Result<Insn, LineCause>
+    ensures { InsnIsRead (Mnemonic.Load size) operands.now result }
 {
-    let fields = register_and_address(arguments)?;
+    let fields = register_and_address(operands)?;
     Ok(Insn::Load {
         size,
         dst: fields.0,
@@ -157,10 +174,11 @@ fn load(size: Size, arguments: &[Spelled]) -> Result<Insn, LineCause>
     })
 }
 
-fn load_signed(size: SmallSize, arguments: &[Spelled]) -> Result<Insn, LineCause>
-    ensures { InsnIsRead (Mnemonic.LoadSigned size) arguments.now result }
+/// A load that extends the sign.
+fn load_signed(size: SmallSize, operands: &[ReadOperand]) -> Result<Insn, LineCause>
+    ensures { InsnIsRead (Mnemonic.LoadSigned size) operands.now result }
 {
-    let fields = register_and_address(arguments)?;
+    let fields = register_and_address(operands)?;
     Ok(Insn::LoadSigned {
         size,
         dst: fields.0,
@@ -169,10 +187,11 @@ fn load_signed(size: SmallSize, arguments: &[Spelled]) -> Result<Insn, LineCause
     })
 }
 
-fn store_imm(size: Size, arguments: &[Spelled]) -> Result<Insn, LineCause>
-    ensures { InsnIsRead (Mnemonic.StoreImm size) arguments.now result }
+/// A store of an immediate.
+fn store_imm(size: Size, operands: &[ReadOperand]) -> Result<Insn, LineCause>
+    ensures { InsnIsRead (Mnemonic.StoreImm size) operands.now result }
 {
-    let fields = address_and_imm(arguments)?;
+    let fields = address_and_imm(operands)?;
     Ok(Insn::StoreImm {
         size,
         dst: fields.0.0,
@@ -181,10 +200,11 @@ fn store_imm(size: Size, arguments: &[Spelled]) -> Result<Insn, LineCause>
     })
 }
 
-fn store_register(size: Size, arguments: &[Spelled]) -> Result<Insn, LineCause>
-    ensures { InsnIsRead (Mnemonic.StoreReg size) arguments.now result }
+/// A store of a register.
+fn store_register(size: Size, operands: &[ReadOperand]) -> Result<Insn, LineCause>
+    ensures { InsnIsRead (Mnemonic.StoreReg size) operands.now result }
 {
-    let fields = address_and_register(arguments)?;
+    let fields = address_and_register(operands)?;
     Ok(Insn::StoreReg {
         size,
         dst: fields.0.0,
@@ -193,10 +213,11 @@ fn store_register(size: Size, arguments: &[Spelled]) -> Result<Insn, LineCause>
     })
 }
 
-fn atomic(width: Width, op: AtomicOp, arguments: &[Spelled]) -> Result<Insn, LineCause>
-    ensures { InsnIsRead (Mnemonic.Atomic width op) arguments.now result }
+/// An atomic operation.
+fn atomic(width: Width, op: AtomicOp, operands: &[ReadOperand]) -> Result<Insn, LineCause>
+    ensures { InsnIsRead (Mnemonic.Atomic width op) operands.now result }
 {
-    let fields = address_and_register(arguments)?;
+    let fields = address_and_register(operands)?;
     Ok(Insn::Atomic {
         width,
         op,
@@ -206,87 +227,96 @@ fn atomic(width: Width, op: AtomicOp, arguments: &[Spelled]) -> Result<Insn, Lin
     })
 }
 
-fn wide_number(arguments: &[Spelled]) -> Result<Insn, LineCause>
-    ensures { InsnIsRead (Mnemonic.Wide WideKind.Number) arguments.now result }
+/// A wide load of a number of 64 bits.
+fn wide_number(operands: &[ReadOperand]) -> Result<Insn, LineCause>
+    ensures { InsnIsRead (Mnemonic.Wide WideKind.Number) operands.now result }
 {
-    let fields = register_and_wide_number(arguments)?;
+    let fields = register_and_imm64(operands)?;
     Ok(Insn::Wide {
         dst: fields.0,
         what: WideOf::Number(fields.1),
     })
 }
 
-fn map_fd(arguments: &[Spelled]) -> Result<Insn, LineCause>
-    ensures { InsnIsRead (Mnemonic.Wide WideKind.MapFd) arguments.now result }
+/// A wide load of a map by its file descriptor.
+fn map_fd(operands: &[ReadOperand]) -> Result<Insn, LineCause>
+    ensures { InsnIsRead (Mnemonic.Wide WideKind.MapFd) operands.now result }
 {
-    let fields = register_and_imm(arguments)?;
+    let fields = register_and_imm(operands)?;
     Ok(Insn::Wide {
         dst: fields.0,
         what: WideOf::MapFd(fields.1),
     })
 }
 
-fn map_value_fd(arguments: &[Spelled]) -> Result<Insn, LineCause>
-    ensures { InsnIsRead (Mnemonic.Wide WideKind.MapValueFd) arguments.now result }
+/// A wide load of an address in the value of a map by its file descriptor.
+fn map_value_fd(operands: &[ReadOperand]) -> Result<Insn, LineCause>
+    ensures { InsnIsRead (Mnemonic.Wide WideKind.MapValueFd) operands.now result }
 {
-    let fields = register_and_two_imms(arguments)?;
+    let fields = register_and_two_imms(operands)?;
     Ok(Insn::Wide {
         dst: fields.0,
         what: WideOf::MapValueFd(fields.1.0, fields.1.1),
     })
 }
 
-fn var_addr(arguments: &[Spelled]) -> Result<Insn, LineCause>
-    ensures { InsnIsRead (Mnemonic.Wide WideKind.VarAddr) arguments.now result }
+/// A wide load of the address of a variable.
+fn var_addr(operands: &[ReadOperand]) -> Result<Insn, LineCause>
+    ensures { InsnIsRead (Mnemonic.Wide WideKind.VarAddr) operands.now result }
 {
-    let fields = register_and_two_imms(arguments)?;
+    let fields = register_and_two_imms(operands)?;
     Ok(Insn::Wide {
         dst: fields.0,
         what: WideOf::VarAddr(fields.1.0, fields.1.1),
     })
 }
 
-fn code_addr(arguments: &[Spelled]) -> Result<Insn, LineCause>
-    ensures { InsnIsRead (Mnemonic.Wide WideKind.CodeAddr) arguments.now result }
+/// A wide load of the address of code.
+fn code_addr(operands: &[ReadOperand]) -> Result<Insn, LineCause>
+    ensures { InsnIsRead (Mnemonic.Wide WideKind.CodeAddr) operands.now result }
 {
-    let fields = register_and_imm(arguments)?;
+    let fields = register_and_imm(operands)?;
     Ok(Insn::Wide {
         dst: fields.0,
         what: WideOf::CodeAddr(fields.1),
     })
 }
 
-fn map_idx(arguments: &[Spelled]) -> Result<Insn, LineCause>
-    ensures { InsnIsRead (Mnemonic.Wide WideKind.MapIdx) arguments.now result }
+/// A wide load of a map by its index.
+fn map_idx(operands: &[ReadOperand]) -> Result<Insn, LineCause>
+    ensures { InsnIsRead (Mnemonic.Wide WideKind.MapIdx) operands.now result }
 {
-    let fields = register_and_imm(arguments)?;
+    let fields = register_and_imm(operands)?;
     Ok(Insn::Wide {
         dst: fields.0,
         what: WideOf::MapIdx(fields.1),
     })
 }
 
-fn map_value_idx(arguments: &[Spelled]) -> Result<Insn, LineCause>
-    ensures { InsnIsRead (Mnemonic.Wide WideKind.MapValueIdx) arguments.now result }
+/// A wide load of an address in the value of a map by its index.
+fn map_value_idx(operands: &[ReadOperand]) -> Result<Insn, LineCause>
+    ensures { InsnIsRead (Mnemonic.Wide WideKind.MapValueIdx) operands.now result }
 {
-    let fields = register_and_two_imms(arguments)?;
+    let fields = register_and_two_imms(operands)?;
     Ok(Insn::Wide {
         dst: fields.0,
         what: WideOf::MapValueIdx(fields.1.0, fields.1.1),
     })
 }
 
-fn packet_abs(size: SmallSize, arguments: &[Spelled]) -> Result<Insn, LineCause>
-    ensures { InsnIsRead (Mnemonic.PacketAbs size) arguments.now result }
+/// A load from the packet at the immediate.
+fn packet_abs(size: SmallSize, operands: &[ReadOperand]) -> Result<Insn, LineCause>
+    ensures { InsnIsRead (Mnemonic.PacketAbs size) operands.now result }
 {
-    let imm = only_imm(arguments)?;
+    let imm = only_imm(operands)?;
     Ok(Insn::PacketAbs { size, imm })
 }
 
-fn packet_ind(size: SmallSize, arguments: &[Spelled]) -> Result<Insn, LineCause>
-    ensures { InsnIsRead (Mnemonic.PacketInd size) arguments.now result }
+/// A load from the packet at a register and the immediate.
+fn packet_ind(size: SmallSize, operands: &[ReadOperand]) -> Result<Insn, LineCause>
+    ensures { InsnIsRead (Mnemonic.PacketInd size) operands.now result }
 {
-    let fields = register_and_imm(arguments)?;
+    let fields = register_and_imm(operands)?;
     Ok(Insn::PacketInd {
         size,
         src: fields.0,
@@ -294,10 +324,11 @@ fn packet_ind(size: SmallSize, arguments: &[Spelled]) -> Result<Insn, LineCause>
     })
 }
 
-fn exit(arguments: &[Spelled]) -> Result<Insn, LineCause>
-    ensures { InsnIsRead Mnemonic.Exit arguments.now result }
+/// `exit`, which has no operands.
+fn exit(operands: &[ReadOperand]) -> Result<Insn, LineCause>
+    ensures { InsnIsRead Mnemonic.Exit operands.now result }
 {
-    if arguments.is_empty() {
+    if operands.is_empty() {
         Ok(Insn::Exit)
     } else {
         Err(LineCause::Shape)

@@ -1,15 +1,16 @@
-//! The words of the table, as values.
+//! Mnemonics, as values.
 
 ghost use Rattle.std.specs.Prelude.{◌≡◌, ◌≢◌, ◌↔◌, IsTrue, IfSome, IfNone};
 ghost use Rattle.bpf_text.specs.declared.insn.mnemonic.Mnemonic.{Mnemonic};
-ghost use Rattle.bpf_text.specs.insn.Mnemonics.{word_of_mnemonic, kind_word, kind_of_wide, mnemonic_of};
+ghost use Rattle.bpf_text.specs.insn.Mnemonics.{text_of_mnemonic, wide_kind_mnemonic, kind_of_wide, mnemonic_of};
 
-use crate::insn::word::{
-    alu_word, alu32_word, atomic_word, atomic32_word, be_word, branch_word, branch32_word, le_word,
-    load_signed_word, load_word, movsx_word, packet_abs_word, packet_ind_word, store_imm_word,
-    store_register_word, swap_word,
+use crate::insn::mnemonic_hash::{hash_of, place_of};
+use crate::insn::mnemonic_text::{
+    alu_mnemonic, alu32_mnemonic, atomic_mnemonic, atomic32_mnemonic, be_mnemonic, branch_mnemonic,
+    branch32_mnemonic, le_mnemonic, load_mnemonic, load_signed_mnemonic, movsx_mnemonic,
+    packet_abs_mnemonic, packet_ind_mnemonic, store_imm_mnemonic, store_register_mnemonic,
+    swap_mnemonic,
 };
-use crate::insn::word_hash::{hash_of, place_of};
 use bpf_insn::{
     AluOp, AtomicOp, BranchOp, Insn, MovsxForm, Size, SmallSize, SwapBits, SwapKind, WideOf, Width,
 };
@@ -26,7 +27,7 @@ pub(crate) enum WideKind {
     MapValueIdx,
 }
 
-/// A word of the table.
+/// A mnemonic: what an instruction is without its operands.
 #[derive(Clone, Copy)]
 pub(crate) enum Mnemonic {
     Alu(Width, AluOp),
@@ -50,7 +51,7 @@ pub(crate) enum Mnemonic {
     PacketInd(SmallSize),
 }
 
-/// All mnemonics, by the first byte of their words.
+/// All mnemonics. `mnemonic_hash` has their indices.
 static ALL: [Mnemonic; 120] = [
     Mnemonic::Alu(Width::W64, AluOp::Add),
     Mnemonic::Alu(Width::W64, AluOp::And),
@@ -174,8 +175,9 @@ static ALL: [Mnemonic; 120] = [
     Mnemonic::Atomic(Width::W64, AtomicOp::Xchg),
 ];
 
-fn kind_word(kind: WideKind) -> &'static str
-    ensures { result.now ≡ kind_word kind }
+/// The text of the mnemonic of a wide load.
+fn wide_kind_mnemonic(kind: WideKind) -> &'static str
+    ensures { result.now ≡ wide_kind_mnemonic kind }
 {
     match kind {
         WideKind::Number => "lddw",
@@ -189,6 +191,7 @@ fn kind_word(kind: WideKind) -> &'static str
 }
 
 impl WideKind {
+    /// What a wide load loads, without the values.
     fn of(what: WideOf) -> WideKind
         ensures { result ≡ kind_of_wide what }
     {
@@ -233,50 +236,51 @@ impl Mnemonic {
         }
     }
 
-    /// The word.
-    #[tactic(auto, using(crate::proofs::InsnLemmas::WordLemmas::without_suffix))]
-    pub(crate) fn word(self) -> &'static str
-        ensures { result.now ≡ word_of_mnemonic self }
+    /// The text of the mnemonic.
+    #[tactic(auto, using(crate::proofs::InsnLemmas::MnemonicLemmas::without_suffix))]
+    pub(crate) fn text(self) -> &'static str
+        ensures { result.now ≡ text_of_mnemonic self }
     {
         match self {
-            Mnemonic::Alu(Width::W32, op) => alu32_word(op),
-            Mnemonic::Alu(Width::W64, op) => alu_word(op),
-            Mnemonic::Movsx(form) => movsx_word(form),
+            Mnemonic::Alu(Width::W32, op) => alu32_mnemonic(op),
+            Mnemonic::Alu(Width::W64, op) => alu_mnemonic(op),
+            Mnemonic::Movsx(form) => movsx_mnemonic(form),
             Mnemonic::Neg(Width::W32) => "neg32",
             Mnemonic::Neg(Width::W64) => "neg",
-            Mnemonic::Swap(SwapKind::Le, bits) => le_word(bits),
-            Mnemonic::Swap(SwapKind::Be, bits) => be_word(bits),
-            Mnemonic::Swap(SwapKind::Swap, bits) => swap_word(bits),
+            Mnemonic::Swap(SwapKind::Le, bits) => le_mnemonic(bits),
+            Mnemonic::Swap(SwapKind::Be, bits) => be_mnemonic(bits),
+            Mnemonic::Swap(SwapKind::Swap, bits) => swap_mnemonic(bits),
             Mnemonic::Jump => "ja",
             Mnemonic::JumpLong => "ja32",
-            Mnemonic::Branch(Width::W32, op) => branch32_word(op),
-            Mnemonic::Branch(Width::W64, op) => branch_word(op),
+            Mnemonic::Branch(Width::W32, op) => branch32_mnemonic(op),
+            Mnemonic::Branch(Width::W64, op) => branch_mnemonic(op),
             Mnemonic::CallHelper => "call",
             Mnemonic::CallLocal => "call_local",
             Mnemonic::CallBtf => "call_btf",
             Mnemonic::Exit => "exit",
-            Mnemonic::Load(size) => load_word(size),
-            Mnemonic::LoadSigned(size) => load_signed_word(size),
-            Mnemonic::StoreImm(size) => store_imm_word(size),
-            Mnemonic::StoreReg(size) => store_register_word(size),
-            Mnemonic::Atomic(Width::W32, op) => atomic32_word(op),
-            Mnemonic::Atomic(Width::W64, op) => atomic_word(op),
-            Mnemonic::Wide(kind) => kind_word(kind),
-            Mnemonic::PacketAbs(size) => packet_abs_word(size),
-            Mnemonic::PacketInd(size) => packet_ind_word(size),
+            Mnemonic::Load(size) => load_mnemonic(size),
+            Mnemonic::LoadSigned(size) => load_signed_mnemonic(size),
+            Mnemonic::StoreImm(size) => store_imm_mnemonic(size),
+            Mnemonic::StoreReg(size) => store_register_mnemonic(size),
+            Mnemonic::Atomic(Width::W32, op) => atomic32_mnemonic(op),
+            Mnemonic::Atomic(Width::W64, op) => atomic_mnemonic(op),
+            Mnemonic::Wide(kind) => wide_kind_mnemonic(kind),
+            Mnemonic::PacketAbs(size) => packet_abs_mnemonic(size),
+            Mnemonic::PacketInd(size) => packet_ind_mnemonic(size),
         }
     }
 
+    /// Whether a token is the text of the mnemonic.
     fn is_spelled(self, token: &[u8]) -> bool
-        ensures { IsTrue result ↔ (token.now ≡ word_of_mnemonic self) }
+        ensures { IsTrue result ↔ (token.now ≡ text_of_mnemonic self) }
     {
-        token == self.word().as_bytes()
+        token == self.text().as_bytes()
     }
 
     /// The mnemonic that a token is.
     pub(crate) fn read(token: &[u8]) -> Option<Mnemonic>
-        ensures none { IfNone result ((m : Mnemonic) → token.now ≢ word_of_mnemonic m) }
-        ensures some { IfSome result (λ m. token.now ≡ word_of_mnemonic m) }
+        ensures none { IfNone result ((m : Mnemonic) → token.now ≢ text_of_mnemonic m) }
+        ensures some { IfSome result (λ m. token.now ≡ text_of_mnemonic m) }
     {
         let mnemonic = ALL[place_of(hash_of(token))];
         if mnemonic.is_spelled(token) {

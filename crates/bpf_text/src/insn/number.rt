@@ -2,11 +2,11 @@
 
 ghost use Rattle.std.specs.Prelude.{◌≡◌, ◌≢◌, ℕ, ◌+◌, ◌*◌, ◌^◌, ◌<◌, ◌≤◌, ℤ, pos, codes, MatchBool, MatchOption, IfSome, IfNone, FitsSigned};
 ghost use Rattle.std.specs.Str.Parse.{IsNumeral, digits_value};
-ghost use Rattle.bpf_text.specs.insn.Arguments.{SpellsMagnitude, SpellsSigned};
+ghost use Rattle.bpf_text.specs.insn.Operands.{SpellsMagnitude, SpellsSigned};
 ghost use Rattle.bpf_text.specs.insn.Numbers.{IsMagnitude, IsNumber, IsFar};
 ghost use Rattle.std.specs.Int.{w16, w32, w128};
 
-/// A number below 2^64, or that it is larger.
+/// A number below 2^64, or `Large` for all others.
 #[derive(Clone, Copy)]
 pub(crate) enum Magnitude {
     Small(u64),
@@ -37,7 +37,7 @@ fn with_digit(number: Magnitude, radix: u32, digit: u32) -> Magnitude
     }
 }
 
-/// What the digits write, where they are digits and there are some.
+/// The number that the digits spell, if there are any and all of them are digits.
 fn digits_magnitude(radix: u32, digits: &[u8]) -> Option<Magnitude>
     requires low { 2 ≤ radix }
     requires high { radix ≤ 36 }
@@ -68,7 +68,7 @@ pub(crate) fn magnitude_of(token: &[u8]) -> Option<Magnitude>
     }
 }
 
-/// Whether the sign is a minus, where it is a sign.
+/// Whether a token is a minus. `None` if it is no sign.
 fn is_minus(sign: &[u8]) -> Option<bool>
     ensures none { IfNone result ((sign.now ≢ codes "+") × (sign.now ≢ codes "-")) }
     ensures some { IfSome result (λ b. MatchBool b (sign.now ≡ codes "-") (sign.now ≡ codes "+")) }
@@ -108,6 +108,7 @@ pub(crate) fn signed_number(sign: &[u8], token: &[u8]) -> Option<Number>
 }
 
 impl Number {
+    /// The value, if it has 64 bits.
     fn value(self) -> Option<i128>
         ensures cases { (z : ℤ) → IsNumber self z → MatchOption result (IsFar z) (λ v. v ≡ z) }
         ensures fits { IfSome result (λ v. FitsSigned w128 v) }
@@ -124,6 +125,7 @@ impl Number {
         }
     }
 
+    /// The value, if it is an i32.
     pub(crate) fn as_i32(self) -> Option<i32>
         ensures cases { (z : ℤ) → IsNumber self z → MatchOption result (¬ FitsSigned w32 z) (λ v. v ≡ z) }
         ensures fits { IfSome result (λ v. FitsSigned w32 v) }
@@ -137,6 +139,7 @@ impl Number {
         }
     }
 
+    /// The value, if it is an i16.
     pub(crate) fn as_i16(self) -> Option<i16>
         ensures cases { (z : ℤ) → IsNumber self z → MatchOption result (¬ FitsSigned w16 z) (λ v. v ≡ z) }
         ensures fits { IfSome result (λ v. FitsSigned w16 v) }
@@ -150,6 +153,7 @@ impl Number {
         }
     }
 
+    /// The value, if it is a u64.
     pub(crate) fn as_u64(self) -> Option<u64>
         ensures cases { (z : ℤ) → IsNumber self z →
             MatchOption result ((m : ℕ) → m < 2 ^ 64 → z ≢ pos m) (λ n. z ≡ pos n) }

@@ -2,7 +2,7 @@
 
 ghost use Rattle.std.specs.Prelude.{◌≡◌, ℕ, ◌+◌, ◌≤◌, [], ◌∷◌, IfSome, IfNone};
 ghost use Rattle.bpf_insn.specs.declared.insn.Reg.{Reg};
-ghost use Rattle.bpf_text.specs.insn.Arguments.{SpellsRegister};
+ghost use Rattle.bpf_text.specs.insn.Operands.{SpellsRegister};
 
 use bpf_insn::Reg;
 

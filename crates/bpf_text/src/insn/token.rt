@@ -7,24 +7,27 @@ ghost use Rattle.bpf_text.specs.insn.Tokens.{is_comment_mark, is_blank, is_word_
 use crate::insn::byte_tables::{STRAY_BYTES, WORD_BYTES};
 use arrayvec::ArrayVec;
 
-/// The most tokens that the arguments of a line have: 5 for each of 3, and 2 commas.
+/// The largest number of tokens that the operands of a line have: 5 for each of 3 operands, and 2 commas.
 pub(crate) const MOST_TOKENS: usize = 17;
 
-/// The tokens behind a word. They take no memory of an allocator.
+/// The tokens after a mnemonic. They are on the stack.
 pub(crate) type Tokens<'a> = ArrayVec<&'a [u8], MOST_TOKENS>;
 
+/// Whether a byte begins a comment.
 fn is_comment_mark(b: u8) -> bool
     ensures { result ≡ is_comment_mark b }
 {
     b == b';' || b == b'#'
 }
 
+/// Whether a byte is a space, a tab or a carriage return.
 fn is_blank(b: u8) -> bool
     ensures { result ≡ is_blank b }
 {
     b == b' ' || b == b'\t' || b == b'\r'
 }
 
+/// Whether a byte is `a` to `z`, `0` to `9` or `_`.
 #[inline(always)]
 fn is_word_byte(b: u8) -> bool
     ensures { result ≡ is_word_byte b }
@@ -32,6 +35,7 @@ fn is_word_byte(b: u8) -> bool
     WORD_BYTES[b as usize]
 }
 
+/// Whether a byte is neither blank nor part of a token.
 #[inline(always)]
 fn is_stray(b: u8) -> bool
     ensures { result ≡ is_stray b }
@@ -39,7 +43,7 @@ fn is_stray(b: u8) -> bool
     STRAY_BYTES[b as usize]
 }
 
-/// The length of what stands before the first stray byte.
+/// The number of bytes before the first stray byte.
 fn known_len(bytes: &[u8]) -> usize
     ensures value { result ≡ position_or_len is_stray bytes.now }
     ensures within { result ≤ length bytes.now }
@@ -52,8 +56,8 @@ fn known_len(bytes: &[u8]) -> usize
     bytes.len()
 }
 
-/// What a line has before its comment, where each byte of that is blank or part of a token. The marks of comments are
-/// stray bytes themselves, so the first stray byte ends it.
+/// A line without its comment, if each of these bytes is blank or part of a token. The characters that begin a comment
+/// are stray bytes too, so the first stray byte is the end.
 pub(crate) fn known_code(line: &[u8]) -> Option<&[u8]>
     ensures none { IfNone result (IsTrue (list_any is_stray (code_of line.now))) }
     ensures some { IfSome result (λ code. (code.now ≡ code_of line.now) × (list_any is_stray code.now ≡ false)) }
@@ -65,6 +69,7 @@ pub(crate) fn known_code(line: &[u8]) -> Option<&[u8]>
     Some(&line[..end])
 }
 
+/// The number of blanks at the start.
 fn blank_len(bytes: &[u8]) -> usize
     ensures value { result ≡ prefix_len is_blank bytes.now }
     ensures within { result ≤ length bytes.now }
@@ -77,6 +82,7 @@ fn blank_len(bytes: &[u8]) -> usize
     bytes.len()
 }
 
+/// The number of word bytes at the start.
 fn word_len(bytes: &[u8]) -> usize
     ensures value { result ≡ prefix_len is_word_byte bytes.now }
     ensures within { result ≤ length bytes.now }
@@ -89,7 +95,7 @@ fn word_len(bytes: &[u8]) -> usize
     bytes.len()
 }
 
-/// The first token, and what stands behind it.
+/// The first token, and the bytes after it.
 pub(crate) fn next_token(bytes: &[u8]) -> Option<(&[u8], &[u8])>
     requires { list_any is_stray bytes.now ≡ false }
     ensures none { IfNone result (IsTrue (list_all is_blank bytes.now)) }
@@ -103,8 +109,7 @@ pub(crate) fn next_token(bytes: &[u8]) -> Option<(&[u8], &[u8])>
     Some(rest.split_at(if run == 0 { 1 } else { run }))
 }
 
-/// Puts the tokens of a line without its comment in the place of those that were there, and tells whether there was
-/// room for them.
+/// Replaces the tokens by those of a line without its comment. It returns whether there was room for them.
 pub(crate) fn read_tokens<'a>(tokens: &mut Tokens<'a>, code: &'a [u8]) -> bool
     requires { list_any is_stray code.now ≡ false }
     ensures { MatchBool result (AreTokens code.now (map (λ t. t.now) tokens.new.items))

@@ -1,30 +1,31 @@
-//! Lines and listings, written.
+//! From instructions to their lines.
 
 ghost use Rattle.std.specs.Prelude.{◌≡◌, ◌+◌, ◌<◌, ◌≤◌, [], ◌∷◌, ◌++◌, length, drop, codes, decimal, OnOk, OnErr, IfOk};
 ghost use Rattle.std.specs.Fmt.{signed_decimal};
 ghost use Rattle.bpf_insn.specs.Table.{IsInsn};
-ghost use Rattle.bpf_text.specs.insn.Arguments.{signed_text, register_text, argument_text};
-ghost use Rattle.bpf_text.specs.insn.Table.{word_of, operand_argument, arguments_of};
+ghost use Rattle.bpf_text.specs.insn.Operands.{signed_text, register_text, operand_text};
+ghost use Rattle.bpf_text.specs.insn.Table.{mnemonic_text, source_operand, operands_of};
 ghost use Rattle.bpf_text.specs.insn.Lines.{spaced, line_of, listing_of};
 ghost use Rattle.bpf_text.specs.insn.Listing.{Lists};
-ghost use Rattle.bpf_text.specs.insn.Written.{argument_of};
+ghost use Rattle.bpf_text.specs.insn.Written.{operand_written};
 
-use crate::insn::argument::Argument;
-use crate::insn::argument::Argument::{Memory, Number, Register, Signed, Unsigned};
 use crate::insn::mnemonic::Mnemonic;
+use crate::insn::written_operand::WrittenOperand;
+use crate::insn::written_operand::WrittenOperand::{Memory, Number, Register, Signed, Unsigned};
 use bpf_insn::{Insn, Operand, Reg, WideOf};
 use itoa::write_digits;
 use std::alloc::{AllocError, Allocator};
 
-/// Room for a line: a word of at most 14 bytes, three arguments of at most 28 with what stands before each, a newline.
+/// The size of the buffer for a line. A mnemonic has at most 14 bytes, the operands have at most 83 with their separators,
+/// and a newline follows.
 const LINE_ROOM: usize = 112;
 
-/// A line, which is put together from its end to its start, as the digits of a number are.
+/// A buffer that is filled from its end to its start, as the digits of a number are found.
 type Line = [u8; LINE_ROOM];
 
-/// Puts a byte before `end`, and returns where it stands.
+/// Writes a byte before `end`, and returns its index.
 #[inline(always)]
-fn put_byte(line: &mut Line, end: usize, byte: u8) -> usize
+fn prepend_byte(line: &mut Line, end: usize, byte: u8) -> usize
     requires { (0 < end) × (end ≤ LINE_ROOM) }
     ensures start { result + 1 ≡ end }
     ensures text { drop result line.new ≡ byte ∷ drop end line.old }
@@ -33,9 +34,9 @@ fn put_byte(line: &mut Line, end: usize, byte: u8) -> usize
     end - 1
 }
 
-/// Puts a text before `end`, and returns where it starts.
+/// Writes a text before `end`, and returns its start. So do the functions below.
 #[inline(always)]
-fn put_text(line: &mut Line, end: usize, text: &str) -> usize
+fn prepend_text(line: &mut Line, end: usize, text: &str) -> usize
     requires { (length text.now ≤ end) × (end ≤ LINE_ROOM) }
     ensures start { result + length text.now ≡ end }
     ensures text { drop result line.new ≡ text.now ++ drop end line.old }
@@ -45,7 +46,8 @@ fn put_text(line: &mut Line, end: usize, text: &str) -> usize
     start
 }
 
-fn put_digits(line: &mut Line, end: usize, number: u64) -> usize
+/// Writes the decimal digits of a number.
+fn prepend_digits(line: &mut Line, end: usize, number: u64) -> usize
     requires { (20 ≤ end) × (end ≤ LINE_ROOM) }
     ensures start { (end ≤ result + 20) × (result ≤ end) }
     ensures text { drop result line.new ≡ decimal number ++ drop end line.old }
@@ -53,129 +55,134 @@ fn put_digits(line: &mut Line, end: usize, number: u64) -> usize
     write_digits(number, line, end)
 }
 
+/// Writes a register.
 #[inline(always)]
-fn put_register(line: &mut Line, end: usize, register: Reg) -> usize
+fn prepend_register(line: &mut Line, end: usize, register: Reg) -> usize
     requires { (3 ≤ end) × (end ≤ LINE_ROOM) }
     ensures start { (end ≤ result + 3) × (result ≤ end) }
     ensures text { drop result line.new ≡ register_text register ++ drop end line.old }
 {
     let number = register.number();
     if number < 10 {
-        let last = put_byte(line, end, b'0' + number);
-        return put_byte(line, last, b'r');
+        let last = prepend_byte(line, end, b'0' + number);
+        return prepend_byte(line, last, b'r');
     }
-    put_text(line, end, "r10")
+    prepend_text(line, end, "r10")
 }
 
-/// Puts a number with its sign, where it has one.
+/// Writes a number, with a sign if it is negative.
 #[inline(always)]
-fn put_number(line: &mut Line, end: usize, number: i32) -> usize
+fn prepend_number(line: &mut Line, end: usize, number: i32) -> usize
     requires { (21 ≤ end) × (end ≤ LINE_ROOM) }
     ensures start { (end ≤ result + 21) × (result ≤ end) }
     ensures text { drop result line.new ≡ signed_decimal number ++ drop end line.old }
 {
-    let start = put_digits(line, end, u64::from(number.unsigned_abs()));
+    let start = prepend_digits(line, end, u64::from(number.unsigned_abs()));
     if number < 0 {
-        return put_byte(line, start, b'-');
+        return prepend_byte(line, start, b'-');
     }
     start
 }
 
-/// Puts a number with its sign.
+/// Writes a number, always with a sign.
 #[inline(always)]
-fn put_signed(line: &mut Line, end: usize, number: i32) -> usize
+fn prepend_signed(line: &mut Line, end: usize, number: i32) -> usize
     requires { (21 ≤ end) × (end ≤ LINE_ROOM) }
     ensures start { (end ≤ result + 21) × (result ≤ end) }
     ensures text { drop result line.new ≡ signed_text number ++ drop end line.old }
 {
-    let start = put_digits(line, end, u64::from(number.unsigned_abs()));
-    put_byte(line, start, if number < 0 { b'-' } else { b'+' })
+    let start = prepend_digits(line, end, u64::from(number.unsigned_abs()));
+    prepend_byte(line, start, if number < 0 { b'-' } else { b'+' })
 }
 
-/// Puts an address in brackets.
+/// Writes a base register and an offset in brackets.
 #[inline(always)]
-fn put_memory(line: &mut Line, end: usize, base: Reg, offset: i16) -> usize
+fn prepend_memory(line: &mut Line, end: usize, base: Reg, offset: i16) -> usize
     requires { (26 ≤ end) × (end ≤ LINE_ROOM) }
     ensures start { (end ≤ result + 26) × (result ≤ end) }
     ensures text { drop result line.new
         ≡ codes "[" ++ register_text base ++ signed_text offset ++ codes "]" ++ drop end line.old }
 {
-    let close = put_byte(line, end, b']');
-    let sign = put_signed(line, close, i32::from(offset));
-    let register = put_register(line, sign, base);
-    put_byte(line, register, b'[')
+    let close = prepend_byte(line, end, b']');
+    let sign = prepend_signed(line, close, i32::from(offset));
+    let register = prepend_register(line, sign, base);
+    prepend_byte(line, register, b'[')
 }
 
+/// Writes an operand.
 #[inline(always)]
-fn put_argument(line: &mut Line, end: usize, argument: Argument) -> usize
+fn prepend_operand(line: &mut Line, end: usize, operand: WrittenOperand) -> usize
     requires { (26 ≤ end) × (end ≤ LINE_ROOM) }
     ensures start { (end ≤ result + 26) × (result ≤ end) }
-    ensures text { drop result line.new ≡ argument_text (argument_of argument) ++ drop end line.old }
+    ensures text { drop result line.new ≡ operand_text (operand_written operand) ++ drop end line.old }
 {
-    match argument {
-        Register(register) => put_register(line, end, register),
-        Number(number) => put_number(line, end, number),
-        Unsigned(number) => put_digits(line, end, number),
-        Signed(number) => put_signed(line, end, number),
-        Memory(base, offset) => put_memory(line, end, base, offset),
+    match operand {
+        Register(register) => prepend_register(line, end, register),
+        Number(number) => prepend_number(line, end, number),
+        Unsigned(number) => prepend_digits(line, end, number),
+        Signed(number) => prepend_signed(line, end, number),
+        Memory(base, offset) => prepend_memory(line, end, base, offset),
     }
 }
 
-/// Puts a space and an argument.
+/// Writes a space and an operand.
 #[inline(always)]
-fn put_one(line: &mut Line, end: usize, first: Argument) -> usize
+fn prepend_one(line: &mut Line, end: usize, first: WrittenOperand) -> usize
     requires { (27 ≤ end) × (end ≤ LINE_ROOM) }
     ensures start { (end ≤ result + 27) × (result ≤ end) }
-    ensures text { drop result line.new ≡ spaced (argument_of first ∷ []) ++ drop end line.old }
+    ensures text { drop result line.new ≡ spaced (operand_written first ∷ []) ++ drop end line.old }
 {
-    let start = put_argument(line, end, first);
-    put_byte(line, start, b' ')
+    let start = prepend_operand(line, end, first);
+    prepend_byte(line, start, b' ')
 }
 
-/// Puts a comma, a space and an argument.
+/// Writes a comma, a space and an operand.
 #[inline(always)]
-fn put_next(line: &mut Line, end: usize, next: Argument) -> usize
+fn prepend_next(line: &mut Line, end: usize, next: WrittenOperand) -> usize
     requires { (28 ≤ end) × (end ≤ LINE_ROOM) }
     ensures start { (end ≤ result + 28) × (result ≤ end) }
     ensures text { drop result line.new
-        ≡ codes ", " ++ argument_text (argument_of next) ++ drop end line.old }
+        ≡ codes ", " ++ operand_text (operand_written next) ++ drop end line.old }
 {
-    let start = put_argument(line, end, next);
-    let space = put_byte(line, start, b' ');
-    put_byte(line, space, b',')
+    let start = prepend_operand(line, end, next);
+    let space = prepend_byte(line, start, b' ');
+    prepend_byte(line, space, b',')
 }
 
+/// Writes two operands.
 #[inline(always)]
-fn put_two(line: &mut Line, end: usize, first: Argument, second: Argument) -> usize
+fn prepend_two(line: &mut Line, end: usize, first: WrittenOperand, second: WrittenOperand) -> usize
     requires { (55 ≤ end) × (end ≤ LINE_ROOM) }
     ensures start { (end ≤ result + 55) × (result ≤ end) }
     ensures text { drop result line.new
-        ≡ spaced (argument_of first ∷ argument_of second ∷ []) ++ drop end line.old }
+        ≡ spaced (operand_written first ∷ operand_written second ∷ []) ++ drop end line.old }
 {
-    let comma = put_next(line, end, second);
-    put_one(line, comma, first)
+    let comma = prepend_next(line, end, second);
+    prepend_one(line, comma, first)
 }
 
+/// Writes three operands.
 #[inline(always)]
-fn put_three(
+fn prepend_three(
     line: &mut Line,
     end: usize,
-    first: Argument,
-    second: Argument,
-    third: Argument,
+    first: WrittenOperand,
+    second: WrittenOperand,
+    third: WrittenOperand,
 ) -> usize
     requires { (83 ≤ end) × (end ≤ LINE_ROOM) }
     ensures start { (end ≤ result + 83) × (result ≤ end) }
     ensures text { drop result line.new
-        ≡ spaced (argument_of first ∷ argument_of second ∷ argument_of third ∷ []) ++ drop end line.old }
+        ≡ spaced (operand_written first ∷ operand_written second ∷ operand_written third ∷ []) ++ drop end line.old }
 {
-    let comma = put_next(line, end, third);
-    put_two(line, comma, first, second)
+    let comma = prepend_next(line, end, third);
+    prepend_two(line, comma, first, second)
 }
 
+/// The second operand of arithmetic and branches, as it is written.
 #[inline(always)]
-fn operand_argument(operand: Operand) -> Argument
-    ensures { argument_of result ≡ operand_argument operand }
+fn source_operand(operand: Operand) -> WrittenOperand
+    ensures { operand_written result ≡ source_operand operand }
 {
     match operand {
         Operand::Imm(number) => Number(number),
@@ -183,82 +190,100 @@ fn operand_argument(operand: Operand) -> Argument
     }
 }
 
-fn put_wide(line: &mut Line, end: usize, dst: Reg, what: WideOf) -> usize
+/// Writes the operands of a wide load.
+fn prepend_wide(line: &mut Line, end: usize, dst: Reg, what: WideOf) -> usize
     requires { (83 ≤ end) × (end ≤ LINE_ROOM) }
     ensures start { (end ≤ result + 83) × (result ≤ end) }
-    ensures text { drop result line.new ≡ spaced (arguments_of (Insn.Wide dst what)) ++ drop end line.old }
+    ensures text { drop result line.new ≡ spaced (operands_of (Insn.Wide dst what)) ++ drop end line.old }
 {
     let dst = Register(dst);
     match what {
-        WideOf::Number(number) => put_two(line, end, dst, Unsigned(number)),
-        WideOf::MapFd(imm) => put_two(line, end, dst, Number(imm)),
-        WideOf::MapValueFd(imm, next) => put_three(line, end, dst, Number(imm), Number(next)),
-        WideOf::VarAddr(imm, next) => put_three(line, end, dst, Number(imm), Number(next)),
-        WideOf::CodeAddr(imm) => put_two(line, end, dst, Number(imm)),
-        WideOf::MapIdx(imm) => put_two(line, end, dst, Number(imm)),
-        WideOf::MapValueIdx(imm, next) => put_three(line, end, dst, Number(imm), Number(next)),
+        WideOf::Number(number) => prepend_two(line, end, dst, Unsigned(number)),
+        WideOf::MapFd(imm) => prepend_two(line, end, dst, Number(imm)),
+        WideOf::MapValueFd(imm, next) => prepend_three(line, end, dst, Number(imm), Number(next)),
+        WideOf::VarAddr(imm, next) => prepend_three(line, end, dst, Number(imm), Number(next)),
+        WideOf::CodeAddr(imm) => prepend_two(line, end, dst, Number(imm)),
+        WideOf::MapIdx(imm) => prepend_two(line, end, dst, Number(imm)),
+        WideOf::MapValueIdx(imm, next) => prepend_three(line, end, dst, Number(imm), Number(next)),
     }
 }
 
+/// Writes the operands of an instruction.
 #[inline(always)]
-fn put_arguments(line: &mut Line, end: usize, insn: &Insn) -> usize
+fn prepend_operands(line: &mut Line, end: usize, insn: &Insn) -> usize
     requires { (83 ≤ end) × (end ≤ LINE_ROOM) }
     ensures start { (end ≤ result + 83) × (result ≤ end) }
-    ensures text { drop result line.new ≡ spaced (arguments_of insn.now) ++ drop end line.old }
+    ensures text { drop result line.new ≡ spaced (operands_of insn.now) ++ drop end line.old }
 {
     match *insn {
-        Insn::Alu { dst, arg, .. } => put_two(line, end, Register(dst), operand_argument(arg)),
-        Insn::Movsx { dst, src, .. } => put_two(line, end, Register(dst), Register(src)),
-        Insn::Neg { dst, .. } => put_one(line, end, Register(dst)),
-        Insn::Swap { dst, .. } => put_one(line, end, Register(dst)),
-        Insn::Jump { off } => put_one(line, end, Signed(i32::from(off))),
-        Insn::JumpLong { imm } => put_one(line, end, Signed(imm)),
+        Insn::Alu { dst, arg, .. } => prepend_two(line, end, Register(dst), source_operand(arg)),
+        Insn::Movsx { dst, src, .. } => prepend_two(line, end, Register(dst), Register(src)),
+        Insn::Neg { dst, .. } => prepend_one(line, end, Register(dst)),
+        Insn::Swap { dst, .. } => prepend_one(line, end, Register(dst)),
+        Insn::Jump { off } => prepend_one(line, end, Signed(i32::from(off))),
+        Insn::JumpLong { imm } => prepend_one(line, end, Signed(imm)),
         Insn::Branch { dst, arg, off, .. } => {
             let distance = Signed(i32::from(off));
-            put_three(line, end, Register(dst), operand_argument(arg), distance)
+            prepend_three(line, end, Register(dst), source_operand(arg), distance)
         }
-        Insn::CallHelper { id } => put_one(line, end, Number(id)),
-        Insn::CallLocal { imm } => put_one(line, end, Signed(imm)),
-        Insn::CallBtf { id, off } => put_two(line, end, Number(id), Number(i32::from(off))),
+        Insn::CallHelper { id } => prepend_one(line, end, Number(id)),
+        Insn::CallLocal { imm } => prepend_one(line, end, Signed(imm)),
+        Insn::CallBtf { id, off } => prepend_two(line, end, Number(id), Number(i32::from(off))),
         Insn::Exit => end,
-        Insn::Load { dst, src, off, .. } => put_two(line, end, Register(dst), Memory(src, off)),
+        Insn::Load { dst, src, off, .. } => prepend_two(line, end, Register(dst), Memory(src, off)),
         Insn::LoadSigned { dst, src, off, .. } => {
-            put_two(line, end, Register(dst), Memory(src, off))
+            prepend_two(line, end, Register(dst), Memory(src, off))
         }
-        Insn::StoreImm { dst, off, imm, .. } => put_two(line, end, Memory(dst, off), Number(imm)),
-        Insn::StoreReg { dst, src, off, .. } => put_two(line, end, Memory(dst, off), Register(src)),
-        Insn::Atomic { dst, src, off, .. } => put_two(line, end, Memory(dst, off), Register(src)),
-        Insn::Wide { dst, what } => put_wide(line, end, dst, what),
-        Insn::PacketAbs { imm, .. } => put_one(line, end, Number(imm)),
-        Insn::PacketInd { src, imm, .. } => put_two(line, end, Register(src), Number(imm)),
+        Insn::StoreImm { dst, off, imm, .. } => prepend_two(
+            line,
+            end,
+            Memory(dst, off),
+            Number(imm),
+        ),
+        Insn::StoreReg { dst, src, off, .. } => prepend_two(
+            line,
+            end,
+            Memory(dst, off),
+            Register(src),
+        ),
+        Insn::Atomic { dst, src, off, .. } => prepend_two(
+            line,
+            end,
+            Memory(dst, off),
+            Register(src),
+        ),
+        Insn::Wide { dst, what } => prepend_wide(line, end, dst, what),
+        Insn::PacketAbs { imm, .. } => prepend_one(line, end, Number(imm)),
+        Insn::PacketInd { src, imm, .. } => prepend_two(line, end, Register(src), Number(imm)),
     }
 }
 
-#[tactic(auto, using(crate::proofs::InsnLemmas::WordTokens::word_is_short))]
+/// Writes the mnemonic of an instruction.
+#[tactic(auto, using(crate::proofs::InsnLemmas::MnemonicTokens::mnemonic_is_short))]
 #[inline(always)]
-fn put_word(line: &mut Line, end: usize, insn: &Insn) -> usize
+fn prepend_mnemonic(line: &mut Line, end: usize, insn: &Insn) -> usize
     requires { (14 ≤ end) × (end ≤ LINE_ROOM) }
     ensures start { result ≤ end }
-    ensures text { drop result line.new ≡ word_of insn.now ++ drop end line.old }
+    ensures text { drop result line.new ≡ mnemonic_text insn.now ++ drop end line.old }
 {
-    put_text(line, end, Mnemonic::of(insn).word())
+    prepend_text(line, end, Mnemonic::of(insn).text())
 }
 
-/// Puts the line of an instruction and a newline at the end, and returns where it starts.
-fn put_line(line: &mut Line, insn: &Insn) -> usize
+/// Writes the line of an instruction and a newline to the end of the buffer, and returns its start.
+fn fill_line(line: &mut Line, insn: &Insn) -> usize
     ensures start { result ≤ LINE_ROOM }
     ensures text { drop result line.new ≡ line_of insn.now ++ codes "\n" }
 {
-    let newline = put_byte(line, LINE_ROOM, b'\n');
-    let arguments = put_arguments(line, newline, insn);
-    put_word(line, arguments, insn)
+    let newline = prepend_byte(line, LINE_ROOM, b'\n');
+    let operands = prepend_operands(line, newline, insn);
+    prepend_mnemonic(line, operands, insn)
 }
 
 /// Appends the line of an instruction and a newline.
 ///
 /// # Errors
 ///
-/// `AllocError` where the vector couldn't grow. It is then as before.
+/// `AllocError` if the vector couldn't grow. It is then unchanged.
 pub fn push_line<A: Allocator>(out: &mut Vec<u8, A>, insn: Insn) -> Result<(), AllocError>
     ensures ok { OnOk result (out.new.items ≡ out.old.items ++ line_of insn ++ codes "\n") }
     ensures err { OnErr result (out.new.items ≡ out.old.items) }
@@ -267,7 +292,7 @@ pub fn push_line<A: Allocator>(out: &mut Vec<u8, A>, insn: Insn) -> Result<(), A
     ensures in_range { IsInsn insn }
 {
     let mut line = [0; LINE_ROOM];
-    let start = put_line(&mut line, &insn);
+    let start = fill_line(&mut line, &insn);
     out.extend_from_slice(&line[start..])
 }
 
@@ -275,11 +300,11 @@ pub fn push_line<A: Allocator>(out: &mut Vec<u8, A>, insn: Insn) -> Result<(), A
 ///
 /// # Errors
 ///
-/// `AllocError` where the text couldn't grow.
+/// `AllocError` if the text couldn't grow.
 pub fn listing<A: Allocator>(alloc: A, insns: &[Insn]) -> Result<Vec<u8, A>, AllocError>
     ensures text { IfOk result (λ text. text.items ≡ listing_of insns.now) }
 
-    // So reading it answers the instructions.
+    // So the reader returns the same instructions.
     ensures listed { IfOk result (λ text. Lists text.items insns.now) }
 {
     let mut text = Vec::new(alloc);

@@ -1,4 +1,4 @@
-//! What each call answers to lines and to instructions.
+//! What each call returns for lines and for instructions.
 
 use super::equal;
 use crate::{
@@ -10,7 +10,7 @@ use std::test::Fail;
 
 mod faults;
 mod forms;
-mod words;
+mod mnemonics;
 
 /// A line as it is written, with its newline, and the little-endian bytes of its instruction.
 #[derive(Clone, Copy, Debug)]
@@ -56,7 +56,7 @@ fn pushed(alloc: Global, insns: &[Insn]) -> Result<Vec<u8>, AllocError> {
 
 const COMMENT: &[u8] = b"; lines\n";
 
-/// Tells whether a text has these lines and bytes by every call.
+/// Whether a text has these lines and bytes by every call.
 fn is_listed(alloc: Global, text: &[u8], lines: &[u8], bytes: &[u8]) -> Result<bool, Fail> {
     let insns = read_listing(alloc, text)?;
     let appended = pushed(alloc, &insns)?;
@@ -71,11 +71,11 @@ fn is_listed(alloc: Global, text: &[u8], lines: &[u8], bytes: &[u8]) -> Result<b
 }
 
 #[test]
-fn each_word_is_read_and_written(rt: HostRuntime) -> Result<(), Fail> {
-    let rows = words::ARITHMETIC
+fn each_mnemonic_is_read_and_written(rt: HostRuntime) -> Result<(), Fail> {
+    let rows = mnemonics::ARITHMETIC
         .iter()
-        .chain(words::JUMPS)
-        .chain(words::LOAD_STORE);
+        .chain(mnemonics::JUMPS)
+        .chain(mnemonics::LOAD_STORE);
     for row in rows {
         let is_listed = is_listed(rt.alloc(), row.line, row.line, row.bytes)?;
         equal(&rt, &is_listed, &true, row);
@@ -112,7 +112,7 @@ fn bytes_are_read_in_both_orders(rt: HostRuntime) -> Result<(), Fail> {
     Ok(())
 }
 
-/// What both calls that read answer to a faulty text.
+/// What both calls that read return for a faulty text.
 fn both_faults(alloc: Global, text: &[u8]) -> (Option<ListError>, Option<ListError>) {
     (
         read_listing(alloc, text).err(),

@@ -1,4 +1,4 @@
-//! Small inputs with each growth refused in turn.
+//! Small inputs with each allocation refused in turn.
 
 use super::equal;
 use super::types::{KindRow, file};
@@ -16,10 +16,10 @@ use std::test::Fail;
 /// Nine lines, and a faulty one. A list of instructions grows for its first, its fifth and its ninth.
 const LINES: &[u8; 50] = b"exit\nexit\nexit\nexit\nexit\nexit\nexit\nexit\nexit\nleav\n";
 
-/// How many bytes an arena has, before any are given away.
+/// The size of an arena in bytes.
 const ROOM: usize = 1984;
 
-/// An arena with `room` bytes left, which gets no more.
+/// An arena with `room` bytes left, which can't grow.
 fn arena(alloc: Global, room: usize) -> Result<Bump<Global>, AllocError> {
     let taken = [0u8; ROOM];
     let bump = Bump::try_with_capacity(alloc, ROOM)?;
@@ -28,10 +28,10 @@ fn arena(alloc: Global, room: usize) -> Result<Bump<Global>, AllocError> {
     Ok(bump)
 }
 
-/// What a call gives in a room.
+/// What a call returns in a room.
 #[derive(Clone, Copy, Debug, PartialEq, Eq)]
 enum Outcome {
-    /// What it gives with ample memory.
+    /// What it returns with ample memory.
     Whole,
     /// Out of memory.
     Refused,
@@ -55,7 +55,7 @@ fn listed(bump: &Bump<Global>, lines: usize) -> Outcome {
     }
 }
 
-/// The outcome of a call that reads `lines` lines, by how many it found.
+/// The outcome of a call that reads `lines` lines, by the number that it found.
 fn found(lines: usize, read: Result<usize, ListError>) -> Outcome {
     let fault = LineFault {
         line: 10,
@@ -84,7 +84,7 @@ fn outcome_of(bump: &Bump<Global>, call: Call, lines: usize) -> Outcome {
     }
 }
 
-/// The first room in which a call isn't refused. Each smaller one is refused, and none gives another answer.
+/// The smallest room that a call needs. In each smaller one it runs out of memory, and never returns anything else.
 fn least_room(alloc: Global, call: Call, lines: usize) -> Result<Option<usize>, AllocError> {
     let mut least = None;
     for room in 0..=ROOM {
@@ -214,8 +214,8 @@ fn append_by<A: Allocator>(text: &mut Vec<u8, A>, call: Append) -> Result<(), Al
     }
 }
 
-/// Tells whether a call in a room leaves what the text held in front, and after it what it appends with ample memory.
-/// An out of memory may leave the first bytes of that, and of a line of an instruction none.
+/// Whether a call in a room keeps what the text held, and appends the same as with ample memory. If it runs out of memory,
+/// it may append the first bytes, but none of the line of an instruction.
 fn keeps_the_text(bump: &Bump<Global>, held: &[u8], call: Append, wanted: &[u8]) -> Outcome {
     let Ok(mut text) = Vec::from_slice(bump, held) else {
         return Outcome::Refused;

@@ -5,7 +5,7 @@ use Rattle.std.specs.Result.{is_ok}
 use Rattle.bpf_insn.specs.Spelling.{spelling, file_of}
 use Rattle.bpf_text.proofs.insn.listing_bytes.append_found.Goals as goal
 
--- what is so of each outcome, of the good one
+-- what holds of each outcome holds of `Ok`
 of_ok : {X E : Type 0} (r : Result X E) (new more old : List ℕ) → new ≡ cond (is_ok r) more old → OnOk r (new ≡ more)
 of_ok (Ok x) new more old e = e
 of_ok (Err x) new more old e = tt

@@ -3,15 +3,15 @@ use Rattle.std.specs.Int.{w32}
 use Rattle.std.proofs.lemmas.Int.{to_z-of_z}
 use Rattle.bpf_insn.specs.declared.insn.Insn.TheVariants as insn
 use Rattle.bpf_text.specs.declared.insn.mnemonic.Mnemonic.TheVariants.{CallLocal}
-use Rattle.bpf_text.proofs.InsnLemmas.FormLemmas.{made_ok, made_err}
+use Rattle.bpf_text.proofs.InsnLemmas.OperandFieldsLemmas.{made_ok, made_err}
 use Rattle.bpf_text.proofs.InsnLemmas.MakeTable.{call_local_form, call_local_insn, call_local_makes}
 use Rattle.bpf_text.proofs.insn.make.call_local.Goals as goal
 
 pub returns : goal.returns
 returns c =
-    made_ok call_local_form call_local_insn CallLocal call_local_makes c.args.arguments.now c.only_imm.result c.in_ok-imm.imm
+    made_ok call_local_form call_local_insn CallLocal call_local_makes c.args.operands.now c.only_imm.result c.in_ok-imm.imm
     (insn.CallLocal (to_z w32 (of_z w32 c.in_ok-imm.imm)))
     (λ v. rw (to_z-of_z w32 c.in_ok-imm.imm v) refl) c.in_ok-imm.was c.only_imm.ensures
 
 pub returns-in_err-imm : goal.returns-in_err-imm
-returns-in_err-imm c = made_err call_local_form call_local_insn CallLocal call_local_makes c.args.arguments.now c.only_imm.result c.in_err-imm.field-0.0 c.from_residual.result c.from_residual.ensures.1 c.in_err-imm.was c.only_imm.ensures
+returns-in_err-imm c = made_err call_local_form call_local_insn CallLocal call_local_makes c.args.operands.now c.only_imm.result c.in_err-imm.field-0.0 c.from_residual.result c.from_residual.ensures.1 c.in_err-imm.was c.only_imm.ensures

@@ -5,15 +5,15 @@ use Rattle.bpf_insn.specs.declared.insn.WideOf.TheVariants as of
 use Rattle.bpf_insn.specs.declared.insn.Insn.TheVariants as insn
 use Rattle.bpf_text.specs.declared.insn.mnemonic.WideKind.TheVariants as kind
 use Rattle.bpf_text.specs.declared.insn.mnemonic.Mnemonic.TheVariants.{Wide}
-use Rattle.bpf_text.proofs.InsnLemmas.FormLemmas.{made_ok, made_err}
+use Rattle.bpf_text.proofs.InsnLemmas.OperandFieldsLemmas.{made_ok, made_err}
 use Rattle.bpf_text.proofs.InsnLemmas.MakeTable.{code_addr_form, code_addr_insn, code_addr_makes}
 use Rattle.bpf_text.proofs.insn.make.code_addr.Goals as goal
 
 pub returns : goal.returns
 returns c =
-    made_ok code_addr_form code_addr_insn (Wide kind.CodeAddr) code_addr_makes c.args.arguments.now c.register_and_imm.result c.in_ok-fields.fields
+    made_ok code_addr_form code_addr_insn (Wide kind.CodeAddr) code_addr_makes c.args.operands.now c.register_and_imm.result c.in_ok-fields.fields
     (insn.Wide c.in_ok-fields.fields.0 (of.CodeAddr (to_z w32 (of_z w32 c.in_ok-fields.fields.1))))
     (λ v. rw (to_z-of_z w32 c.in_ok-fields.fields.1 v.1) refl) c.in_ok-fields.was c.register_and_imm.ensures
 
 pub returns-in_err-fields : goal.returns-in_err-fields
-returns-in_err-fields c = made_err code_addr_form code_addr_insn (Wide kind.CodeAddr) code_addr_makes c.args.arguments.now c.register_and_imm.result c.in_err-fields.field-0.0 c.from_residual.result c.from_residual.ensures.1 c.in_err-fields.was c.register_and_imm.ensures
+returns-in_err-fields c = made_err code_addr_form code_addr_insn (Wide kind.CodeAddr) code_addr_makes c.args.operands.now c.register_and_imm.result c.in_err-fields.field-0.0 c.from_residual.result c.from_residual.ensures.1 c.in_err-fields.was c.register_and_imm.ensures

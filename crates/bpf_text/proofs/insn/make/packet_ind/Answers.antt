@@ -3,15 +3,15 @@ use Rattle.std.specs.Int.{w32}
 use Rattle.std.proofs.lemmas.Int.{to_z-of_z}
 use Rattle.bpf_insn.specs.declared.insn.Insn.TheVariants as insn
 use Rattle.bpf_text.specs.declared.insn.mnemonic.Mnemonic.TheVariants.{PacketInd}
-use Rattle.bpf_text.proofs.InsnLemmas.FormLemmas.{made_ok, made_err}
+use Rattle.bpf_text.proofs.InsnLemmas.OperandFieldsLemmas.{made_ok, made_err}
 use Rattle.bpf_text.proofs.InsnLemmas.MakeTable.{packet_ind_form, packet_ind_insn, packet_ind_makes}
 use Rattle.bpf_text.proofs.insn.make.packet_ind.Goals as goal
 
 pub returns : goal.returns
 returns c =
-    made_ok packet_ind_form (packet_ind_insn c.args.size) (PacketInd c.args.size) (packet_ind_makes c.args.size) c.args.arguments.now c.register_and_imm.result c.in_ok-fields.fields
+    made_ok packet_ind_form (packet_ind_insn c.args.size) (PacketInd c.args.size) (packet_ind_makes c.args.size) c.args.operands.now c.register_and_imm.result c.in_ok-fields.fields
     (insn.PacketInd c.args.size c.in_ok-fields.fields.0 (to_z w32 (of_z w32 c.in_ok-fields.fields.1)))
     (λ v. rw (to_z-of_z w32 c.in_ok-fields.fields.1 v.1) refl) c.in_ok-fields.was c.register_and_imm.ensures
 
 pub returns-in_err-fields : goal.returns-in_err-fields
-returns-in_err-fields c = made_err packet_ind_form (packet_ind_insn c.args.size) (PacketInd c.args.size) (packet_ind_makes c.args.size) c.args.arguments.now c.register_and_imm.result c.in_err-fields.field-0.0 c.from_residual.result c.from_residual.ensures.1 c.in_err-fields.was c.register_and_imm.ensures
+returns-in_err-fields c = made_err packet_ind_form (packet_ind_insn c.args.size) (PacketInd c.args.size) (packet_ind_makes c.args.size) c.args.operands.now c.register_and_imm.result c.in_err-fields.field-0.0 c.from_residual.result c.from_residual.ensures.1 c.in_err-fields.was c.register_and_imm.ensures

@@ -20,10 +20,10 @@ returns-in_default g c =
 
 pub lines-preserved : goal.lines-preserved
 lines-preserved g c =
-    let line : lines_of c.lines.rest.now ≡ c.first_line.result.0.now ∷ lines_of c.in-Some.behind.now = rw c.in-Some.is at c.first_line.ensures.lines in
+    let line : lines_of c.lines.rest.now ≡ c.first_line.result.0.now ∷ lines_of c.in-Some.following.now = rw c.in-Some.is at c.first_line.ensures.lines in
     let shorter = rw c.in-Some.is at c.first_line.ensures.shorter in
     let pushed = c.in_ok-push_found.ensures in
     record {
-      so_far = one_more c.args.text.now c.lines.rest.now c.first_line.result.0.now c.in-Some.behind.now c.lines.insns.items c.push_found.new.insns.items (option_to_list c.in_ok-found.found) c.lines.number c.lines.invariant.so_far line c.in_ok-found.ensures pushed;
+      so_far = one_more c.args.text.now c.lines.rest.now c.first_line.result.0.now c.in-Some.following.now c.lines.insns.items c.push_found.new.insns.items (option_to_list c.in_ok-found.found) c.lines.number c.lines.invariant.so_far line c.in_ok-found.ensures pushed;
       bound = omega (arith, c.lines.invariant.bound, shorter);
     }

@@ -2,7 +2,7 @@ use Rattle.std.proofs.Common.{◌≡◌, ℕ, List, [], ◌∷◌, ◌++◌, map
 use Rattle.std.specs.Borrow.{Bor}
 use Rattle.std.proofs.lemmas.List.{map-append, length-map}
 use Rattle.bpf_text.specs.insn.Tokens.{StartsWithToken}
-use Rattle.bpf_text.proofs.InsnLemmas.TokenLemmas.{none_stray_behind, token_more}
+use Rattle.bpf_text.proofs.InsnLemmas.TokenLemmas.{none_stray_following, token_more}
 use Rattle.bpf_text.proofs.InsnLemmas.Outcomes.{on_ok, on_err}
 use Rattle.bpf_text.proofs.InsnLemmas.TokensExist.{only_more, one_too_many}
 use Rattle.bpf_text.proofs.insn.token.read_tokens.Goals as goal
@@ -16,7 +16,7 @@ loop-token-preserved c =
     let pushed : map bytes_of c.try_push.new.self.items ≡ map bytes_of c.loop-token.tokens.items ++ c.in-Some.token.now ∷ [] =
     ap (map bytes_of) (on_ok _ c.try_push.result c.is_err.result c.is_err.ensures.value c.if-is_err.false c.try_push.ensures.ok) ∙ map-append bytes_of c.loop-token.tokens.items (c.in-Some.token ∷ []) in
     record {
-      none = none_stray_behind c.loop-token.rest.now c.in-Some.token.now c.in-Some.after.now starts c.loop-token.invariant.none;
+      none = none_stray_following c.loop-token.rest.now c.in-Some.token.now c.in-Some.after.now starts c.loop-token.invariant.none;
       so_far = λ more h. rw pushed (token_more c.args.code.now c.loop-token.rest.now c.in-Some.token.now c.in-Some.after.now (map bytes_of c.loop-token.tokens.items) starts c.loop-token.invariant.so_far more h);
       only = λ ts h.
           let w = c.loop-token.invariant.only ts h in

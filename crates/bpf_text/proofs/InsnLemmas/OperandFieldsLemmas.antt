@@ -1,0 +1,176 @@
+-- What reading several fields returns, and which instruction they make.
+use Rattle.std.proofs.Common.{◌≡◌, ◌≢◌, ℕ, suc, ◌<◌, List, [], ◌∷◌, map, length, get_or, refl, sym, ap, ◌∙◌, subst, Result, Ok, Err, IsErrAnd, arith}
+use Rattle.std.proofs.lemmas.List.{length-map}
+use Rattle.std.specs.List.{AllZip}
+use Rattle.bpf_insn.specs.declared.insn.Insn.{Insn}
+use Rattle.bpf_insn.specs.declared.insn.Insn.TheVariants as insn
+use Rattle.bpf_insn.specs.Table.{IsInsn}
+use Rattle.bpf_text.specs.declared.insn.fault.LineCause.{LineCause}
+use Rattle.bpf_text.specs.declared.insn.fault.LineCause.TheVariants.{Char, Word, Shape, Range}
+use Rattle.bpf_text.specs.declared.insn.mnemonic.Mnemonic.{Mnemonic}
+use Rattle.bpf_text.specs.declared.insn.mnemonic.Mnemonic.TheVariants.{Exit}
+use Rattle.bpf_text.specs.declared.insn.read_operand.ReadOperand.{ReadOperand}
+use Rattle.bpf_text.specs.insn.Operands.{LineOperand, register, number, signed, memory, operand_kind}
+use Rattle.bpf_text.specs.insn.Table.{operands_of}
+use Rattle.bpf_text.specs.insn.Mnemonics.{mnemonic_of}
+use Rattle.bpf_text.specs.insn.Numbers.{IsReadAs}
+use Rattle.bpf_text.specs.insn.OperandFields.{plain, Field, FieldList, last_field, field_then, ReadsField, ReadsFields, FieldIsRead, FieldsAreRead, ReadsInsn, both_read}
+
+pub plain_kind : (a : LineOperand) → operand_kind a ≡ operand_kind (plain a)
+plain_kind (register r) = refl
+plain_kind (number z) = refl
+plain_kind (signed z) = refl
+plain_kind (memory r z) = refl
+
+pub plain_kinds : (xs : List LineOperand) → map operand_kind xs ≡ map operand_kind (map plain xs)
+plain_kinds [] = refl
+plain_kinds (x ∷ xs) =
+    let first : operand_kind x ≡ operand_kind (plain x) = plain_kind x in
+    let more : map operand_kind xs ≡ map operand_kind (map plain xs) = plain_kinds xs in cc
+
+cons_same : {X : Type 0} (x y : X) (xs ys : List X) → x ≡ y → xs ≡ ys → x ∷ xs ≡ y ∷ ys
+cons_same x y xs ys e f = cc
+
+head_same : {X : Type 0} (x y : X) (xs ys : List X) → x ∷ xs ≡ y ∷ ys → x ≡ y
+head_same x y xs ys e = cc
+
+tail_same : {X : Type 0} (x y : X) (xs ys : List X) → x ∷ xs ≡ y ∷ ys → xs ≡ ys
+tail_same x y xs ys e = cc
+
+-- one field alone
+pub last_reads : {X : Type 0} (field : Field X) (a : LineOperand) (r : Result X LineCause) → ReadsField field a r → ReadsFields (last_field field) (a ∷ []) r
+last_reads field a (Ok x) h = (h.0, cons_same (plain a) (field.written x) [] [] h.1 refl)
+last_reads field a (Err Char) h = absurd h
+last_reads field a (Err Word) h = absurd h
+last_reads field a (Err Shape) h = λ x e. h x (head_same (operand_kind a) (operand_kind (field.written x)) [] [] e)
+last_reads field a (Err Range) h = (
+  (h.0.0, cons_same (operand_kind a) (operand_kind (field.written h.0.0)) [] [] h.0.1 refl),
+  (λ x v e. h.1 x v (head_same (plain a) (field.written x) [] [] e)),
+)
+
+-- one field before others
+module _ {X Y : Type 0} (field : Field X) (form : FieldList Y) (a : LineOperand) (more : List LineOperand) where
+  kinds_of_first : (x : X) → field.valid x × (plain a ≡ field.written x) → operand_kind a ≡ operand_kind (field.written x)
+  kinds_of_first x h = plain_kind a ∙ ap operand_kind h.1
+
+  kinds_of_more : (y : Y) → form.valid y × (map plain more ≡ form.written y) → map operand_kind more ≡ map operand_kind (form.written y)
+  kinds_of_more y h = plain_kinds more ∙ ap (map operand_kind) h.1
+
+  kinds : (x : X) (y : Y) → operand_kind a ≡ operand_kind (field.written x) → map operand_kind more ≡ map operand_kind (form.written y) → map operand_kind (a ∷ more) ≡ map operand_kind (field.written x ∷ form.written y)
+  kinds x y e f = cons_same (operand_kind a) (operand_kind (field.written x)) (map operand_kind more) (map operand_kind (form.written y)) e f
+
+  first_kind : (z : X × Y) → map operand_kind (a ∷ more) ≡ map operand_kind (field.written z.0 ∷ form.written z.1) → operand_kind a ≡ operand_kind (field.written z.0)
+  first_kind z e = head_same (operand_kind a) (operand_kind (field.written z.0)) (map operand_kind more) (map operand_kind (form.written z.1)) e
+
+  more_kinds : (z : X × Y) → map operand_kind (a ∷ more) ≡ map operand_kind (field.written z.0 ∷ form.written z.1) → map operand_kind more ≡ map operand_kind (form.written z.1)
+  more_kinds z e = tail_same (operand_kind a) (operand_kind (field.written z.0)) (map operand_kind more) (map operand_kind (form.written z.1)) e
+
+  first_plain : (z : X × Y) → map plain (a ∷ more) ≡ field.written z.0 ∷ form.written z.1 → plain a ≡ field.written z.0
+  first_plain z e = head_same (plain a) (field.written z.0) (map plain more) (form.written z.1) e
+
+  more_plain : (z : X × Y) → map plain (a ∷ more) ≡ field.written z.0 ∷ form.written z.1 → map plain more ≡ form.written z.1
+  more_plain z e = tail_same (plain a) (field.written z.0) (map plain more) (form.written z.1) e
+
+  pub before_reads : (r : Result X LineCause) (s : Result Y LineCause) → ReadsField field a r → ReadsFields form more s → ReadsFields (field_then field form) (a ∷ more) (both_read r s)
+  before_reads (Ok x) (Ok y) h k = ((h.0, k.0), cons_same (plain a) (field.written x) (map plain more) (form.written y) h.1 k.1)
+  before_reads (Ok x) (Err Char) h k = absurd k
+  before_reads (Ok x) (Err Word) h k = absurd k
+  before_reads (Ok x) (Err Shape) h k = λ z e. k z.1 (more_kinds z e)
+  before_reads (Ok x) (Err Range) h k = (((x, k.0.0), kinds x k.0.0 (kinds_of_first x h) k.0.1), (λ z v e. k.1 z.1 v.1 (more_plain z e)))
+  before_reads (Err Char) s h k = absurd h
+  before_reads (Err Word) s h k = absurd h
+  before_reads (Err Shape) s h k = λ z e. h z.0 (first_kind z e)
+  before_reads (Err Range) (Ok y) h k = (((h.0.0, y), kinds h.0.0 y h.0.1 (kinds_of_more y k)), (λ z v e. h.1 z.0 v.0 (first_plain z e)))
+  before_reads (Err Range) (Err Char) h k = absurd k
+  before_reads (Err Range) (Err Word) h k = absurd k
+  before_reads (Err Range) (Err Shape) h k = λ z e. k z.1 (more_kinds z e)
+  before_reads (Err Range) (Err Range) h k = (((h.0.0, k.0.0), kinds h.0.0 k.0.0 h.0.1 k.0.1), (λ z v e. h.1 z.0 v.0 (first_plain z e)))
+
+pub one_read : {X : Type 0} (field : Field X) (s : ReadOperand) (r : Result X LineCause) → FieldIsRead field s r → FieldsAreRead (last_field field) (s ∷ []) r
+one_read field s r reads [] h = absurd h
+one_read field s r reads (a ∷ []) h = last_reads field a r (reads a h.0)
+one_read field s r reads (a ∷ b ∷ more) h = absurd h.1
+
+pub more_read : {X Y : Type 0} (field : Field X) (form : FieldList Y) (s : ReadOperand) (xs : List ReadOperand) (r : Result X LineCause) (t : Result Y LineCause)
+    → FieldIsRead field s r → FieldsAreRead form xs t → FieldsAreRead (field_then field form) (s ∷ xs) (both_read r t)
+more_read field form s xs r t first rest [] h = absurd h
+more_read field form s xs r t first rest (a ∷ more) h = before_reads field form a more r t (first a h.0) (rest more h.1)
+
+length_zip : (xs : List ReadOperand) (ys : List LineOperand) → AllZip IsReadAs xs ys → length ys ≡ length xs
+length_zip [] [] h = refl
+length_zip [] (y ∷ ys) h = absurd h
+length_zip (x ∷ xs) [] h = absurd h
+length_zip (x ∷ xs) (y ∷ ys) h = ap suc (length_zip xs ys h.1)
+
+-- another number of operands
+pub other_length : {X : Type 0} (form : FieldList X) (n : ℕ) → ((x : X) → length (form.written x) ≡ n) → (xs : List ReadOperand) → length xs ≢ n → FieldsAreRead form xs (Err Shape)
+other_length form n size xs other spelled h = λ x e.
+    let same : length spelled ≡ length (form.written x) = sym (length-map spelled operand_kind) ∙ ap length e ∙ length-map (form.written x) operand_kind in
+    other (sym (length_zip xs spelled h) ∙ same ∙ size x)
+
+-- a list of one, two or three, by its elements
+pub one_cell : (x : ReadOperand) (xs : List ReadOperand) → x ≡ get_or xs 0 x → length xs ≡ 1 → xs ≡ x ∷ []
+one_cell x [] e l = absurd (omega arith)
+one_cell x (u ∷ []) e l = cc
+one_cell x (u ∷ v ∷ more) e l = absurd (omega arith)
+
+pub two_cells : (x y : ReadOperand) (xs : List ReadOperand) → x ≡ get_or xs 0 x → y ≡ get_or xs 1 y → length xs ≡ 2 → xs ≡ x ∷ y ∷ []
+two_cells x y [] e f l = absurd (omega arith)
+two_cells x y (u ∷ []) e f l = absurd (omega arith)
+two_cells x y (u ∷ v ∷ []) e f l = cc
+two_cells x y (u ∷ v ∷ w ∷ more) e f l = absurd (omega arith)
+
+pub three_cells : (x y z : ReadOperand) (xs : List ReadOperand) → x ≡ get_or xs 0 x → y ≡ get_or xs 1 y → z ≡ get_or xs 2 z → length xs ≡ 3 → xs ≡ x ∷ y ∷ z ∷ []
+three_cells x y z [] e f g l = absurd (omega arith)
+three_cells x y z (u ∷ []) e f g l = absurd (omega arith)
+three_cells x y z (u ∷ v ∷ []) e f g l = absurd (omega arith)
+three_cells x y z (u ∷ v ∷ w ∷ []) e f g l = cc
+three_cells x y z (u ∷ v ∷ w ∷ more ∷ most) e f g l = absurd (omega arith)
+
+-- what the instructions of a mnemonic are made of
+pub record Makes {X : Type 0} (form : FieldList X) (make : X → Insn) (m : Mnemonic) : Type 0 where
+  pub spelled : (x : X) → map plain (operands_of (make x)) ≡ form.written x
+  pub named : (x : X) → mnemonic_of (make x) ≡ m
+  pub sound : (x : X) → form.valid x → IsInsn (make x)
+  pub only : (i : Insn) → mnemonic_of i ≡ m → (x : X) × (map plain (operands_of i) ≡ form.written x) × (IsInsn i → form.valid x)
+
+-- the same result, as an instruction
+abbrev made_of : {X : Type 0} → (X → Insn) → Result X LineCause → Result Insn LineCause
+made_of make (Ok x) = Ok (make x)
+made_of make (Err cause) = Err cause
+
+module _ {X : Type 0} (form : FieldList X) (make : X → Insn) (m : Mnemonic) (makes : Makes form make m) where
+  kinds_are : (i : Insn) (x : X) → map plain (operands_of i) ≡ form.written x → map operand_kind (operands_of i) ≡ map operand_kind (form.written x)
+  kinds_are i x e = plain_kinds (operands_of i) ∙ ap (map operand_kind) e
+
+  insn_reads : (spelled : List LineOperand) (r : Result X LineCause) → ReadsFields form spelled r → ReadsInsn m spelled (made_of make r)
+  insn_reads spelled (Ok x) h = (makes.sound x h.0, makes.named x, h.1 ∙ sym (makes.spelled x))
+  insn_reads spelled (Err Char) h = absurd h
+  insn_reads spelled (Err Word) h = absurd h
+  insn_reads spelled (Err Shape) h = λ i e f. let w = makes.only i e in h w.0 (f ∙ kinds_are i w.0 w.1)
+  insn_reads spelled (Err Range) h = (
+    (make h.0.0, makes.named h.0.0, h.0.1 ∙ sym (kinds_are (make h.0.0) h.0.0 (makes.spelled h.0.0))),
+    (λ i v e s. let w = makes.only i e in h.1 w.0 (w.2 v) (s ∙ w.1)),
+  )
+
+  pub made_ok : (xs : List ReadOperand) (r : Result X LineCause) (x : X) (i : Insn) → (form.valid x → i ≡ make x) → r ≡ Ok x → FieldsAreRead form xs r
+      → (spelled : List LineOperand) → AllZip IsReadAs xs spelled → ReadsInsn m spelled (Ok i)
+  made_ok xs r x i same e reads spelled h =
+      let read = rw e at (reads spelled h) in
+      subst (λ (j : Insn). ReadsInsn m spelled (Ok j)) (sym (same read.0)) (insn_reads spelled (Ok x) read)
+
+  pub made_err : (xs : List ReadOperand) (r : Result X LineCause) (cause : LineCause) (s : Result Insn LineCause) → IsErrAnd s (λ e. e ≡ cause) → r ≡ Err cause → FieldsAreRead form xs r
+      → (spelled : List LineOperand) → AllZip IsReadAs xs spelled → ReadsInsn m spelled s
+  made_err xs r cause (Ok i) same e reads spelled h = absurd same
+  made_err xs r cause (Err other) same e reads spelled h =
+      subst (λ (c : LineCause). ReadsInsn m spelled (Err c)) (sym same) (insn_reads spelled (Err cause) (rw e at (reads spelled h)))
+
+exit_alone : (i : Insn) → mnemonic_of i ≡ Exit → operands_of i ≡ []
+exit_alone insn.Exit e = refl
+exit_alone _ e = cc
+
+-- exit has no operands
+pub exit_shape : (xs : List ReadOperand) → 0 < length xs → (spelled : List LineOperand) → AllZip IsReadAs xs spelled → ReadsInsn Exit spelled (Err Shape)
+exit_shape xs some spelled h = λ i e f.
+    let same : length spelled ≡ 0 = sym (length-map spelled operand_kind) ∙ ap length f ∙ ap (λ a. length (map operand_kind a)) (exit_alone i e) in
+    omega (arith, length_zip xs spelled h)

@@ -1,0 +1,15 @@
+use Rattle.std.proofs.Common.{◌≡◌, List, [], ◌∷◌, refl, sym, subst, arith}
+use Rattle.bpf_text.specs.declared.insn.read_operand.ReadOperand.{ReadOperand}
+use Rattle.bpf_text.specs.insn.OperandFields.{FieldsAreRead, source_field, register_field, last_field, field_then, both_read}
+use Rattle.bpf_text.proofs.InsnLemmas.OperandFieldsLemmas.{other_length, one_read, two_cells, more_read}
+use Rattle.bpf_text.proofs.insn.operand_fields.register_and_source.Goals as goal
+
+pub returns-then-operands-ne2 : goal.returns-then-operands-ne2
+returns-then-operands-ne2 c = other_length (field_then register_field (last_field source_field)) 2 (λ x. refl) c.args.operands.now c.if-operands-ne2.true
+
+pub returns : goal.returns
+returns c =
+    let cells : c.args.operands.now ≡ c.index-operands-0.result ∷ c.index-operands-1.result ∷ [] = two_cells c.index-operands-0.result c.index-operands-1.result c.args.operands.now c.index-operands-0.is c.index-operands-1.is (omega arith) in
+    rw c.both.ensures
+    (subst (λ (xs : List ReadOperand). FieldsAreRead (field_then register_field (last_field source_field)) xs (both_read c.register.result c.source.result)) (sym cells)
+    (more_read register_field (last_field source_field) c.index-operands-0.result (c.index-operands-1.result ∷ []) c.register.result c.source.result c.register.ensures (one_read source_field c.index-operands-1.result c.source.result c.source.ensures)))

@@ -1,9 +1,0 @@
-use Rattle.std.proofs.Common.{◌≡◌, ◌<◌, drop}
-use Rattle.bpf_text.specs.insn.WordHash.{hash_from}
-use Rattle.bpf_text.proofs.insn.word_hash.hash_of.Given as goal
-
-abbrev pub invariant-loop-b : goal.invariant-loop-b
-invariant-loop-b l = record {
-  below : l.hash < 65536;
-  rest : hash_from l.hash (drop l.b-index l.token) ≡ hash_from 0 l.token;
-}

@@ -1,8 +1,0 @@
-use Rattle.std.proofs.Common.{refl, arith}
-use Rattle.bpf_text.specs.declared.insn.word_hash.TheConstants.{PLACES}
-use Rattle.bpf_text.proofs.InsnLemmas.WordPlaces.{all_within}
-use Rattle.bpf_text.proofs.insn.word_hash.place_of.Goals as goal
-
--- each of the 1,024 places is compared, by computing
-pub returns-clause-within : goal.returns-clause-within
-returns-clause-within c = omega (arith, all_within PLACES 119 refl c.args.hash)

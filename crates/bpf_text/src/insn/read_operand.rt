@@ -1,0 +1,159 @@
+//! The operands of a line, as they are read from tokens.
+
+ghost use Rattle.std.specs.Prelude.{◌≡◌, ◌∷◌, [], List, codes, map, length, IsTrue, ◌↔◌, ◌+◌, ◌≤◌, drop, IfSome, IfNone};
+ghost use Rattle.bpf_text.specs.insn.Operands.{LineOperand, SpellsOperands, is_comma};
+ghost use Rattle.bpf_text.specs.insn.Numbers.{IsReadAs, SpellsNoOperand, IsSpelledBy};
+ghost use Rattle.std.specs.List.{AllZip, position_or_len};
+
+use crate::insn::number::{Number, signed_number, unsigned_number};
+use crate::insn::register::register_of;
+use arrayvec::ArrayVec;
+use bpf_insn::Reg;
+
+/// An operand that tokens spell.
+#[derive(Clone, Copy)]
+pub(crate) enum ReadOperand {
+    Register(Reg),
+    Literal(Number),
+    Memory(Reg, Number),
+}
+
+/// The largest number of operands of an instruction.
+pub(crate) const MOST_OPERANDS: usize = 3;
+
+/// The operands of a line. They are on the stack.
+pub(crate) type Operands = ArrayVec<ReadOperand, MOST_OPERANDS>;
+
+impl Default for ReadOperand {
+    fn default() -> ReadOperand {
+        ReadOperand::Literal(ZERO)
+    }
+}
+
+/// A register, or a number without a sign.
+fn of_one(token: &[u8]) -> Option<ReadOperand>
+    ensures none { IfNone result (SpellsNoOperand (token.now ∷ [])) }
+    ensures some { IfSome result (IsSpelledBy (token.now ∷ [])) }
+{
+    if let Some(register) = register_of(token) {
+        return Some(ReadOperand::Register(register));
+    }
+    let number = unsigned_number(token)?;
+    Some(ReadOperand::Literal(number))
+}
+
+/// A number with a sign.
+fn of_two(sign: &[u8], token: &[u8]) -> Option<ReadOperand>
+    ensures none { IfNone result (SpellsNoOperand (sign.now ∷ token.now ∷ [])) }
+    ensures some { IfSome result (IsSpelledBy (sign.now ∷ token.now ∷ [])) }
+{
+    let number = signed_number(sign, token)?;
+    Some(ReadOperand::Literal(number))
+}
+
+/// Whether two tokens are an opening and a closing bracket.
+fn is_bracketed(opening: &[u8], closing: &[u8]) -> bool
+    ensures { IsTrue result ↔ ((opening.now ≡ codes "[") × (closing.now ≡ codes "]")) }
+{
+    opening == b"[".as_slice() && closing == b"]".as_slice()
+}
+
+/// The number 0.
+const ZERO: Number = Number {
+    negative: false,
+    magnitude: crate::insn::number::Magnitude::Small(0),
+};
+
+/// An address without an offset.
+fn of_three(opening: &[u8], base: &[u8], closing: &[u8]) -> Option<ReadOperand>
+    ensures none { IfNone result (SpellsNoOperand (opening.now ∷ base.now ∷ closing.now ∷ [])) }
+    ensures some { IfSome result (IsSpelledBy (opening.now ∷ base.now ∷ closing.now ∷ [])) }
+{
+    if !is_bracketed(opening, closing) {
+        return None;
+    }
+    let base = register_of(base)?;
+    Some(ReadOperand::Memory(base, ZERO))
+}
+
+/// An address with an offset.
+fn of_five(
+    opening: &[u8],
+    base: &[u8],
+    sign: &[u8],
+    token: &[u8],
+    closing: &[u8],
+) -> Option<ReadOperand>
+    ensures none { IfNone result
+        (SpellsNoOperand (opening.now ∷ base.now ∷ sign.now ∷ token.now ∷ closing.now ∷ [])) }
+    ensures some { IfSome result
+        (IsSpelledBy (opening.now ∷ base.now ∷ sign.now ∷ token.now ∷ closing.now ∷ [])) }
+{
+    if !is_bracketed(opening, closing) {
+        return None;
+    }
+    let base = register_of(base)?;
+    let number = signed_number(sign, token)?;
+    Some(ReadOperand::Memory(base, number))
+}
+
+/// The operand that the tokens between two commas spell.
+pub(crate) fn operand_from_tokens(tokens: &[&[u8]]) -> Option<ReadOperand>
+    ensures none { IfNone result (SpellsNoOperand (map (λ t. t.now) tokens.now)) }
+    ensures some { IfSome result (IsSpelledBy (map (λ t. t.now) tokens.now)) }
+{
+    match tokens {
+        [token] => of_one(token),
+        [sign, token] => of_two(sign, token),
+        [opening, base, closing] => of_three(opening, base, closing),
+        [opening, base, sign, token, closing] => of_five(opening, base, sign, token, closing),
+        _ => None,
+    }
+}
+
+/// Whether a token is a comma.
+fn is_comma(token: &[u8]) -> bool
+    ensures { result ≡ is_comma token.now }
+{
+    token == b",".as_slice()
+}
+
+/// The end of the part that starts at an index: the next comma, or the end of the tokens.
+fn part_end(tokens: &[&[u8]], start: usize) -> usize
+    requires { start ≤ length tokens.now }
+    ensures value { result ≡ start + position_or_len (λ t. is_comma t.now) (drop start tokens.now) }
+    ensures within { result ≤ length tokens.now }
+    ensures from { start ≤ result }
+{
+    for i in start..tokens.len() {
+        if is_comma(tokens[i]) {
+            return i;
+        }
+    }
+    tokens.len()
+}
+
+/// The operands that the tokens after a mnemonic spell, if they are at most three.
+pub(crate) fn operands_from_tokens(tokens: &[&[u8]]) -> Option<Operands>
+    ensures none { IfNone result ((spelled : List LineOperand) → length spelled ≤ MOST_OPERANDS →
+        ¬ SpellsOperands (map (λ t. t.now) tokens.now) spelled) }
+    ensures some { IfSome result (λ found. (spelled : List LineOperand)
+        × SpellsOperands (map (λ t. t.now) tokens.now) spelled × AllZip IsReadAs found.items spelled) }
+{
+    let mut operands = ArrayVec::new();
+    if tokens.is_empty() {
+        return Some(operands);
+    }
+    let mut start: usize = 0;
+    'parts: loop {
+        let end = part_end(tokens, start);
+        let operand = operand_from_tokens(&tokens[start..end])?;
+        if operands.try_push(operand).is_err() {
+            return None;
+        }
+        if end == tokens.len() {
+            return Some(operands);
+        }
+        start = end + 1;
+    }
+}
