@@ -12,7 +12,7 @@ use btf_raw::BtfFault;
 use btf_types::BtfError;
 use std::alloc::Allocator;
 
-/// How many bytes of BTF an engine takes from a source: the longest header, record section and string section that a file can have.
+/// The most bytes of BTF that an engine takes from a source: the longest header, record section and string section that a file can have.
 pub const BTF_LIMIT: u64 = 50_335_744;
 
 /// Reads a BTF file to the source's end, and writes its canonical bytes in the order `to` (btf.rst section 2), all that are left at

@@ -3,7 +3,7 @@ ghost use Rattle.std.specs.Prelude.{◌≡◌, ◌<◌, ◌≤◌, ◌+◌, ◌-
 ghost use Rattle.bpf_words.specs.declared.Order.{Order};
 ghost use Rattle.bpf_insn.specs.declared.fault.SlotFault.{SlotFault};
 ghost use Rattle.bpf_canon.specs.insn.FeedState.{FeedState, IsBetween, missing_place};
-ghost use Rattle.bpf_canon.specs.insn.Stands.{AnswersFor, Feeds, Finishes, Stands, end_of};
+ghost use Rattle.bpf_canon.specs.insn.FeedStream.{AnswersFor, Feeds, Finishes, Represents, end_of_feed};
 ghost use Rattle.bpf_canon.specs.insn.FrontReads.{Advances};
 
 use crate::insn::front::read_front_across;
@@ -43,7 +43,7 @@ impl Model for InsnFeed {
 impl InsnFeed {
     /// A feed of the empty stream, which reads in the order `order` and writes in the order `to`.
     pub fn new(order: Order, to: Order) -> InsnFeed
-        ensures stands { Stands result order to [] }
+        ensures represents { Represents result order to [] }
         ensures sound { result.fault ≡ None }
     {
         InsnFeed {
@@ -98,7 +98,7 @@ impl InsnFeed {
         // If no fault is kept, the feed and the output move on with each stream that the feed represents, and the
         // answer is that of the longer stream.
         ensures moves { IsNone self.old.fault → Feeds self.old self.new piece.now out.old.items out.new.items result }
-        ensures answer { (o to : Order) (b : List ℕ) → IsNone self.old.fault → Stands self.old o to b
+        ensures answer { (o to : Order) (b : List ℕ) → IsNone self.old.fault → Represents self.old o to b
             → AnswersFor o (b ++ piece.now) result }
 
         // A fault that is kept is reported again, and nothing changes.
@@ -134,8 +134,8 @@ impl InsnFeed {
     ///
     /// The fault of the stream: the one that was reported before, or `Truncated` at the slot whose bytes are missing.
     pub fn finish(self) -> Result<u64, SlotFault>
-        ensures end { result ≡ end_of self }
-        ensures answer { (o to : Order) (b : List ℕ) → Stands self o to b → Finishes o b result }
+        ensures end { result ≡ end_of_feed self }
+        ensures answer { (o to : Order) (b : List ℕ) → Represents self o to b → Finishes o b result }
     {
         match self.fault {
             Some(fault) => Err(fault),

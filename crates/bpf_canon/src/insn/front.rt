@@ -13,7 +13,7 @@ use std::alloc::Allocator;
 pub(crate) struct FrontRead {
     // the bytes of the whole instructions
     pub(crate) len: usize,
-    // how many they are
+    // the number of these instructions
     pub(crate) count: u64,
     // the fault of what follows them, counted from its first byte, where anything does
     pub(crate) stop: Option<SlotFault>,
@@ -99,7 +99,7 @@ pub(crate) fn read_front_across<A: Allocator>(
     }
 }
 
-/// The instruction that some held bytes begin and a piece completes, and how many bytes of the piece it takes.
+/// The instruction that some held bytes begin and a piece completes, and the number of bytes of the piece that it takes.
 fn complete(order: Order, held: &[u8], piece: &[u8]) -> Result<(Insn, usize), SlotFault>
     requires short { length held.now < 16 }
     requires unspelled { BeginsNone order held.now }

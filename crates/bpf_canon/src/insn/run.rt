@@ -12,7 +12,7 @@ use crate::insn::feed::InsnFeed;
 use bpf_insn::{InsnError, Order, SlotFault};
 use std::alloc::Allocator;
 
-/// How many bytes of instructions an engine takes from a source: 64 MiB.
+/// The most bytes of instructions that an engine takes from a source: 64 MiB.
 pub const INSN_LIMIT: u64 = 67_108_864;
 
 /// Reads instructions in one order to the source's end, and writes them in another as they come. It returns the number of

@@ -40,16 +40,16 @@ text_some section off inside b z =
     first_some (get_or section off 0) (drop (suc off) section) b (sym (ap (λ (l : List ℕ). length (before_nul l)) first) ∙ z)
 
 pub longest_are : (section slots offsets : List ℕ) (ts : List SectionText) → AreLongestOf section slots ts → AreMarked offsets slots → All (λ off. off < length section) offsets → AreLongest (map (text_from section) offsets) (map (text_in section) ts)
-longest_are section slots offsets ts are tell inside = record {
+longest_are section slots offsets ts are are_used inside = record {
   among = λ z c.
       let t = from_map none (text_in section) ts z c in
       let used = subst (IsUsed section slots) t.1.2 (are.used t.1.0 t.0 t.1.1) in
-      subst (Contains (map (text_from section) offsets)) (sym (used_text section slots t.0 used) ∙ t.2) (in_map (text_from section) offsets t.0.start (tell.only t.0.start used.slot));
+      subst (Contains (map (text_from section) offsets)) (sym (used_text section slots t.0 used) ∙ t.2) (in_map (text_from section) offsets t.0.start (are_used.only t.0.start used.slot));
   each = λ x c some.
       let o = from_map 0 (text_from section) offsets x c in
       let below : o.0 < length section = subst (λ (n : ℕ). n < length section) o.1.2 (inside o.1.0 o.0 o.1.1) in
       let byte : get_or section o.0 0 ≢ 0 = λ nul. omega (arith, some, no_text section o.0 below nul, ap (λ (t : List ℕ). length t) o.2) in
-      let a = are.each o.0 below (tell.marked o.0 o.1) byte in
+      let a = are.each o.0 below (are_used.marked o.0 o.1) byte in
       let used = subst (IsUsed section slots) a.3 (are.used a.0 a.1 a.2) in
       let at = in_map (text_in section) ts a.1 (a.0, a.2, a.3) in
       let ends = suffix_from_Ends (text_from section o.0) (text_in section a.1) (within_ends section slots a.1 o.0 used a.4) in

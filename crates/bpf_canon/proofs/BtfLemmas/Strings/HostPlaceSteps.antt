@@ -1,4 +1,4 @@
--- Steps of the loop that lays out hosts in the order of first use.
+-- Steps of the loop that gives places to hosts in the order of first use.
 use Rattle.std.proofs.Common.{◌≡◌, ◌≢◌, ℕ, ◌+◌, ◌<◌, ◌≤◌, true, false, not, inl, inr, List, [], ◌∷◌, ◌++◌, length, map, get_or, set, take, drop, sym, ap, ◌∙◌, subst, arith, take-append-drop}
 use Rattle.std.specs.List.{flat_map, list_any, All}
 use Rattle.std.specs.List.Sorted.{IsSorted}
@@ -49,7 +49,7 @@ rank_same sorted r s up a b e = elim (cases_eq r s) [
   ]
 ]
 
--- laid out so far
+-- placed so far
 pub record LaidTo (section : List ℕ) (sorted out : List (List ℕ)) (by_rank : List ℕ) (spans : List Span) (len : ℕ) : Type 0 where
   pub are_spans : All (IsSpan section) spans
   pub texts : flat_map (span_bytes section) spans ≡ flat_map with_nul out
@@ -204,7 +204,7 @@ module _ (section slots offsets : List ℕ) (sorted : List (List ℕ)) (in_hosts
       let there : Has (host_places names (taken k)) (at_rank sorted a.rank) = to.there a.rank (host_last sorted names own here a has (some_here h)) (λ z. p (ap (λ (j : ℕ). get_or by_rank j 0) a.numbered ∙ z)) in
       sym (more ∙ laid_known names (taken k) own (subst (Has (host_places names (taken k))) (own_text sorted names own here a has (some_here h) b) there))
 
-  -- the table with the text of a host that isn't there yet, and what is laid out then
+  -- the table with the text of a host that isn't there yet, and the places then
   pub record LaysText (by_rank : List ℕ) (spans : List Span) (len v : ℕ) (s : Span) : Type 0 where
     pub span : IsSpan section s
     pub whole : len + (v + 1) ≡ length (table_of (host_places names (taken (k + 1))))

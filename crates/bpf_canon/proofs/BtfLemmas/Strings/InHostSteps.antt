@@ -15,7 +15,7 @@ use Rattle.bpf_canon.specs.btf.strings.UsedOffsets.{number_of}
 use Rattle.bpf_canon.specs.btf.strings.InHost.{IsInHost, no_host, host_at, FindsWithin, AreInHosts, IsAlone, AreAlone}
 use Rattle.bpf_canon.specs.declared.btf.strings.section_texts.SectionText.{SectionText}
 use Rattle.bpf_canon.specs.declared.btf.strings.hosts_by_rank.InHost.{InHost}
-use Rattle.bpf_canon.proofs.BtfLemmas.Strings.UsedSteps.{number_tells, number_inside, used_inside}
+use Rattle.bpf_canon.proofs.BtfLemmas.Strings.UsedSteps.{number_injective, number_inside, used_inside}
 use Rattle.bpf_canon.proofs.BtfLemmas.Strings.LongestSteps.{used_length, within_length, within_ends}
 use Rattle.bpf_canon.proofs.BtfLemmas.Strings.RankSteps.{first_rank_is}
 
@@ -175,7 +175,7 @@ module _ (section slots : List ℕ) (sorted : List (List ℕ)) (common : List �
       → ((j : ℕ) → next < j → j ≤ from → t.end - off ≤ get_or common j 0) → IsInHost sorted (text_from section off) h → WithinTo section slots sorted common t rank old (set in_hosts (number_of slots off) h) next (off + 1)
   within_finds in_hosts from off next h to long low s back more is =
       let here : host_at slots (set in_hosts (number_of slots off) h) off ≡ h = get_or-set_same in_hosts (number_of slots off) h no_host (omega (arith, number_inside slots off s, long, to.whole)) in
-      let there = λ (o : ℕ) (u : get_or slots o 0 ≢ 0) (n : o ≢ off). get_or-set_other in_hosts (number_of slots off) (number_of slots o) h no_host (λ e. n (number_tells slots o off u s e)) in
+      let there = λ (o : ℕ) (u : get_or slots o 0 ≢ 0) (n : o ≢ off). get_or-set_other in_hosts (number_of slots off) (number_of slots o) h no_host (λ e. n (number_injective slots o off u s e)) in
       record {
         whole = length-set in_hosts (number_of slots off) h ∙ to.whole;
         below = omega (arith, back, to.below);
@@ -212,7 +212,7 @@ finds_alone section slots sorted t old h used alone long is =
           let e : o ≡ t.start = elim (cases_eq o t.start) [ inl q ↦ q | inr n ↦ absurd (s (alone o (omega (arith, w.from, n)) w.before)) ] in
           subst (λ (k : ℕ). IsInHost sorted (text_from section k) (host_at slots (set old number h) k)) (sym e) (subst (IsInHost sorted (text_from section t.start)) (sym here) is);
       there = λ o s n. get_or-set_other old number (number_of slots o) h no_host (λ e.
-          let same : o ≡ t.start = number_tells slots o t.start s used.slot e in
+          let same : o ≡ t.start = number_injective slots o t.start s used.slot e in
           n (record { from = omega (arith, same); before = omega (arith, same, used.some) }));
     }
 

@@ -66,7 +66,7 @@ module _ (x y : List ℕ) (p : (i : ℕ) → get_or x i 0 < 256) (q : (i : ℕ) 
             omega (arith, h, ends, long_x, long_y)
       ]
 
--- what stands behind the last eight bytes, from the end
+-- what comes before the last eight bytes
 front_byte : (x : List ℕ) (j : ℕ) → 8 ≤ length x → get_or (reverse (text_before x)) j 0 ≡ get_or (reverse x) (8 + j) 0
 front_byte x j long =
     let few : length (text_before x) ≡ length x - 8 = length-take-le (length x - 8) x (omega arith) in

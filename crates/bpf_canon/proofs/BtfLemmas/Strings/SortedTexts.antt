@@ -1,4 +1,4 @@
--- Tails that are sorted by keys and texts are sorted as texts.
+-- Texts of a section that are sorted by keys and bytes are sorted by their bytes from the end.
 use Rattle.std.proofs.Common.{◌≡◌, ◌≢◌, ℕ, zero, suc, ◌+◌, ◌*◌, ◌-◌, ◌^◌, ◌<◌, inl, inr, List, [], ◌∷◌, length, map, get_or, take, drop, refl, sym, ap, ◌∙◌, arith}
 use Rattle.std.specs.List.{All}
 use Rattle.std.specs.List.Sorted.{IsSorted, IsSortedBy}
@@ -74,7 +74,7 @@ before_apart x y p q e n = elim (cases_lt (length x) 8) [
 tied_then : (a b : ℕ) (s : Ordering) → a ≡ b → ordering_then (nat_cmp a b) s ≡ s
 tied_then a b s e = ap (λ (o : Ordering). ordering_then o s) (ap (nat_cmp a) (sym e) ∙ tied_itself nat_cmp_total a)
 
--- Two numbers below 2 ^ 64 behind two others, each pair as one number.
+-- Two numbers below 2 ^ 64 after two others, each pair as one number.
 pair_less : (a b c d : ℕ) → b < 2 ^ 64 → d < 2 ^ 64 → a * 2 ^ 64 + b < c * 2 ^ 64 + d → (s : Ordering) → ordering_then (nat_cmp a c) (ordering_then (nat_cmp b d) s) ≡ Less
 pair_less a b c d p q h s = elim (cases_lt a c) [
   | inl l ↦ ap (λ (o : Ordering). ordering_then o (ordering_then (nat_cmp b d) s)) (less a c l)

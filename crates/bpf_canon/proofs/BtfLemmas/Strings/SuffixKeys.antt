@@ -1,4 +1,4 @@
--- Keys of texts compare as their tails.
+-- Keys of texts compare as their suffixes.
 use Rattle.std.proofs.Common.{◌≡◌, ◌≢◌, ℕ, zero, suc, ◌+◌, ◌*◌, ◌^◌, ◌<◌, ◌≤◌, ◌⊎◌, inl, inr, List, [], ◌∷◌, ◌++◌, length, get_or, take, drop, refl, sym, ap, ◌∙◌, subst, arith, take-append-drop, replicate}
 use Rattle.std.specs.Prelude.{reverse, nat_lt, ◌==◌}
 use Rattle.std.specs.Int.{w64, from_le_bytes}
@@ -83,7 +83,7 @@ parts_same n a b x y p q h = elim (cases_order a b) [
   ]
 ]
 
--- the same key, of as many bytes: the rest decides
+-- the same key, of the same number of bytes: the rest decides
 key_same : (n : ℕ) (s x t y : List ℕ) → length s ≡ n → length t ≡ n → Bytes (s ++ x) → Bytes (t ++ y) → front_key n (s ++ x) ≡ front_key n (t ++ y) → slice_cmp nat_cmp (s ++ x) (t ++ y) ≡ slice_cmp nat_cmp x y
 key_same n [] x [] y l m p q h = refl
 key_same n [] x (b ∷ t) y l m p q h = absurd (omega (arith, l, m))
@@ -199,7 +199,7 @@ unfolding suffix_key
 key_of_none [] e = refl
 key_of_none (b ∷ x) e = absurd (omega (arith, e))
 
--- the key of the bytes that stand from the end, one by one
+-- the key of the bytes from the end, one by one
 pub key_by_bytes : (y : List ℕ) → get_or y 7 0 + get_or y 6 0 * 256 + get_or y 5 0 * 65536 + get_or y 4 0 * 16777216 + get_or y 3 0 * 4294967296 + get_or y 2 0 * 1099511627776 + get_or y 1 0 * 281474976710656 + get_or y 0 0 * 72057594037927936 ≡ front_key 8 y
 key_by_bytes [] = omega arith
 key_by_bytes (a ∷ []) = omega arith

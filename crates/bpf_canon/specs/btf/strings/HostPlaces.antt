@@ -1,4 +1,4 @@
--- The table of hosts, laid out in the order of first use.
+-- The table of hosts, in the order of first use.
 use Rattle.std.specs.Prelude.{◌≡◌, ◌≢◌, ℕ, ◌+◌, ◌-◌, ◌^◌, ◌<◌, ◌≤◌, false, List, ◌++◌, length, map, take, drop, slice_index}
 use Rattle.std.specs.List.{All, Contains, flat_map}
 use Rattle.btf_types.specs.Names.{with_nul, place_in}
@@ -19,7 +19,7 @@ pub record IsSpan (section : List ℕ) (s : Span) : Type 0 where
   pub up : s.start ≤ s.end
   pub inside : s.end < length section
 
--- behind the bytes of old spans, new ones have those of a text
+-- new spans have the bytes of old ones, then the bytes of a text
 pub record HasText (section : List ℕ) (old new : List Span) (text : Span) : Type 0 where
   pub are_spans : All (IsSpan section) new
   pub bytes : flat_map (span_bytes section) new ≡ flat_map (span_bytes section) old ++ span_bytes section text
@@ -41,7 +41,7 @@ pub record HasHost (section slots : List ℕ) (sorted xs : List (List ℕ)) (in_
   pub empty : slice_index section off ≡ 0 → host_at slots in_hosts off ≡ no_host
   pub some : slice_index section off ≢ 0 → IsAtHost sorted xs (text_from section off) (host_at slots in_hosts off)
 
--- The hosts stand in spans of the section, and of the text of each rank that is a host it is known where it stands.
+-- The hosts are spans of the section, and the text of each rank that is a host has its place.
 pub record AreHostPlaces (section : List ℕ) (sorted xs : List (List ℕ)) (by_rank : List ℕ) (spans : List Span) (len : ℕ) : Type 0 where
   pub are_spans : All (IsSpan section) spans
   pub texts : flat_map (span_bytes section) spans ≡ flat_map with_nul (hosts xs)
@@ -59,7 +59,7 @@ pub record ArePlaced (section offsets slots places : List ℕ) (spans : List Spa
   pub texts : flat_map (span_bytes section) spans ≡ flat_map with_nul (hosts (map (text_from section) offsets))
   pub whole : len ≡ length (shared_table (map (text_from section) offsets))
 
--- What is found of used offsets and the layout of the hosts give the place of each name: that of its host, and what comes before it there.
+-- The hosts of used offsets and the places of hosts give the place of each name: the place of its host plus the bytes of the host before it.
 pub record GivePlaces (section offsets slots : List ℕ) (in_hosts : List InHost) (by_rank : List ℕ) (spans : List Span) (len : ℕ) : Type 0 where
   pub ranked : All (λ at. at.host < length by_rank) in_hosts
   pub fits : All (λ at. slice_index by_rank at.host + at.before < 2 ^ 32) in_hosts

@@ -1,4 +1,4 @@
--- Where names stand in their hosts.
+-- The places of names in their hosts.
 use Rattle.std.specs.Prelude.{◌≡◌, ◌≢◌, ℕ, ◌+◌, ◌-◌, ◌^◌, ◌<◌, ◌≤◌, false, List, length, map, slice_index, slice_index_or}
 use Rattle.btf_types.specs.Reading.{text_from}
 use Rattle.btf_types.specs.strings.SharedNames.{is_suffix, hosts_of, host_in}
@@ -23,7 +23,7 @@ pub record IsInHost (sorted : List (List ℕ)) (x : List ℕ) (h : InHost) : Typ
 abbrev pub no_host : InHost
 no_host = record { host = 0; before = 0; len = 0 }
 
--- what is found of a used offset
+-- the host of a used offset
 abbrev pub host_at : List ℕ → List InHost → ℕ → InHost
 host_at slots in_hosts off = slice_index_or in_hosts (number_of slots off) no_host
 
@@ -39,7 +39,7 @@ pub record AreInHosts (section slots : List ℕ) (sorted : List (List ℕ)) (in_
   pub empty : (off : ℕ) → slice_index slots off ≢ 0 → slice_index section off ≡ 0 → host_at slots in_hosts off ≡ no_host
   pub some : (off : ℕ) → slice_index slots off ≢ 0 → slice_index section off ≢ 0 → IsInHost sorted (text_from section off) (host_at slots in_hosts off)
 
--- The text of a rank has less in common with that before it than it is long, and no name begins behind its first byte.
+-- The text of a rank isn't a suffix of the text before it, and no name begins after its first byte.
 pub record IsAlone (slots common : List ℕ) (rank : ℕ) (t : SectionText) : Type 0 where
   pub less : slice_index common rank < t.end - t.start
   pub unused : (off : ℕ) → t.start + 1 ≤ off → off < t.end → slice_index slots off ≡ 0

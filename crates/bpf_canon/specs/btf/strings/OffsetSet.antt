@@ -1,4 +1,4 @@
--- Marks of offsets, a bit each in words of 64. Only private contracts speak of them.
+-- A set of offsets, a bit each in words of 64. Contracts of private functions cite it.
 use Rattle.std.specs.Prelude.{ℕ, zero, suc, ◌/◌, ◌%◌, List, [], ◌∷◌, ◌++◌, slice_index}
 use Rattle.std.specs.Int.{bit_at}
 

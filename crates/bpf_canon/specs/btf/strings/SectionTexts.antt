@@ -6,7 +6,7 @@ use Rattle.btf_types.specs.strings.SharedNames.{tail_cmp}
 use Rattle.bpf_canon.specs.btf.strings.SuffixKeys.{suffix_key}
 use Rattle.bpf_canon.specs.declared.btf.strings.section_texts.SectionText.{SectionText}
 
--- what stands between the ends of a tail, as far as the section reaches
+-- the bytes between the ends of a text, as far as the section reaches
 abbrev pub end_in : List ℕ → SectionText → ℕ
 end_in section t = min t.end (length section)
 

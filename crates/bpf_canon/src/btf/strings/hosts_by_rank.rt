@@ -18,7 +18,7 @@ use std::alloc::{AllocError, Allocator};
 pub(crate) struct InHost {
     /// The rank of the host plus 1, and 0 for the empty name.
     pub(crate) host: u32,
-    /// How many bytes of the host come before the name.
+    /// The number of bytes of the host before the name.
     pub(crate) before: u32,
     /// The length of the host in bytes.
     pub(crate) len: u32,

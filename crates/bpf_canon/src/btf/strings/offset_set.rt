@@ -62,7 +62,7 @@ impl<A: Allocator> OffsetSet<A> {
         (self.words[off / 64] >> (off % 64)) & 1 != 0
     }
 
-    /// How many offsets of a whole word the set has.
+    /// The number of offsets that the set has in a whole word.
     pub(crate) fn count_in(&self, word: usize) -> u32
         requires { word < length self.now / 64 }
         ensures { number_of self.now (64 * word + 64) ≡ number_of self.now (64 * word) + result }
@@ -71,7 +71,7 @@ impl<A: Allocator> OffsetSet<A> {
         bits.count_ones()
     }
 
-    /// How many offsets the set has in the word of this offset, before it.
+    /// The number of offsets that the set has in the word of this offset, before it.
     pub(crate) fn count_before(&self, off: usize) -> u32
         requires { off ≤ length self.now }
         ensures { number_of self.now off ≡ number_of self.now (64 * (off / 64)) + result }

@@ -65,7 +65,7 @@ impl<A: Allocator> UsedOffsets<A> {
         self.used_before(start) == self.used_before(end)
     }
 
-    /// How many used offsets come before this one.
+    /// The number of used offsets before this one.
     fn used_before(&self, off: usize) -> usize
         requires { off ≤ length self.now }
         ensures { result ≡ spec.number_of self.now off }
@@ -73,7 +73,7 @@ impl<A: Allocator> UsedOffsets<A> {
         self.before[off / 64] as usize + self.marks.count_before(off) as usize
     }
 
-    /// How many used offsets come before a used one.
+    /// The number of a used offset: how many used ones come before it.
     pub(crate) fn number(&self, off: usize) -> usize
         requires { slice_index self.now off ≢ 0 }
         ensures number { result ≡ spec.number_of self.now off }
@@ -82,7 +82,7 @@ impl<A: Allocator> UsedOffsets<A> {
         self.used_before(off)
     }
 
-    /// How many offsets are used.
+    /// The number of used offsets.
     pub(crate) fn count(&self) -> usize
         ensures { result ≡ spec.number_of self.now (length self.now) }
     {

@@ -231,6 +231,7 @@ pub fn write_btf<T: TypeTable, A: Allocator + Copy>(
     ensures form { IfOk result (λ bytes. bytes.items ≡ canonical order (T.meaning table.now)) }
     ensures accepted { IfOk result (λ bytes. Denotes bytes.items (T.meaning table.now)) }
 {
+    // The contract of this call says that the records are good.
     let _count = table.count();
     match table.sections() {
         Some(sections) => write_sections(alloc, order, &sections),

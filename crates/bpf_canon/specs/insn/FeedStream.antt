@@ -1,4 +1,4 @@
--- What a feed stands for: the stream of bytes that came so far.
+-- What a feed represents: the stream of bytes that came so far.
 use Rattle.std.specs.Prelude.{◌≡◌, ◌++◌, ◌+◌, ◌-◌, ℕ, List, [], ◌∷◌, Option, Some, None, Result, Ok, Err, length, MatchResult}
 use Rattle.bpf_words.specs.declared.Order.{Order}
 use Rattle.bpf_insn.specs.declared.insn.Insn.{Insn}
@@ -24,8 +24,8 @@ abbrev pub Keeps : Order → List ℕ → List ℕ → List ℕ → Option SlotF
 Keeps o b rest held None = IsSound o b × (held ≡ rest)
 Keeps o b rest held (Some f) = HasFault o b f × (held ≡ [])
 
--- the feed stands for the stream b, read in one order and written in another
-pub record Stands (s : FeedState) (o to : Order) (b : List ℕ) : Type 0 where
+-- the feed represents the stream b, read in one order and written in another
+pub record Represents (s : FeedState) (o to : Order) (b : List ℕ) : Type 0 where
   pub reads : s.order ≡ o
   pub writes : s.to ≡ to
   pub fed : s.fed ≡ length b
@@ -45,19 +45,19 @@ pub record Gains (o to : Order) (b more old new : List ℕ) : Type 0 where
   pub longer : IsFront o (b ++ more) (before ++ gained) left
   pub grows : new ≡ old ++ file_of to gained
 
--- a feed that stood for a stream stands for it with the piece, and the output has what its front gained
+-- a feed that represented a stream represents it with the piece, and the output has what its front gained
 pub record Moves (s t : FeedState) (piece old new : List ℕ) : Type 0 where
-  pub stands : (o to : Order) (b : List ℕ) → Stands s o to b → Stands t o to (b ++ piece)
-  pub gains : (o to : Order) (b : List ℕ) → Stands s o to b → Gains o to b piece old new
+  pub represents : (o to : Order) (b : List ℕ) → Represents s o to b → Represents t o to (b ++ piece)
+  pub gains : (o to : Order) (b : List ℕ) → Represents s o to b → Gains o to b piece old new
 
 -- the fault that an error names is a lasting one of the stream
-abbrev pub IsFaultOf : Order → List ℕ → InsnError → Type 0
-IsFaultOf o b (error.Fault f) = HasFault o b f
-IsFaultOf o b error.Memory = Unit {0}
+abbrev pub IsLastingFaultOf : Order → List ℕ → InsnError → Type 0
+IsLastingFaultOf o b (error.Fault f) = HasFault o b f
+IsLastingFaultOf o b error.Memory = Unit {0}
 
 -- a call that succeeds where the stream b has no lasting fault, and else names that fault
 abbrev pub AnswersFor : {T : Type 0} → Order → List ℕ → Result T InsnError → Type 0
-AnswersFor o b r = MatchResult r (λ _. IsSound o b) (IsFaultOf o b)
+AnswersFor o b r = MatchResult r (λ _. IsSound o b) (IsLastingFaultOf o b)
 
 -- what a piece does to a feed that keeps no fault, by the answer: the feed and the output move on, or nothing changes
 abbrev pub Feeds : FeedState → FeedState → List ℕ → List ℕ → List ℕ → Result (Unit {0}) InsnError → Type 0
@@ -70,7 +70,7 @@ Feeds s t piece old new (Err error.Memory) = (t ≡ s) × (new ≡ old)
 abbrev pub Finishes : Order → List ℕ → Result ℕ SlotFault → Type 0
 Finishes o b r = MatchResult r (λ n. (l : List Insn) × (InsnFile o b l × (n ≡ length l))) (IsInsnFault o b)
 
--- how a stream ends of which so many bytes and instructions came: with the fault that is kept, with the count, or with
+-- how a stream ends after `fed` bytes and `count` instructions: with the fault that is kept, with the count, or with
 -- the place of the slot whose bytes are missing
 abbrev pub end_after : ℕ → ℕ → List ℕ → Option SlotFault → Result ℕ SlotFault
 end_after fed count held (Some f) = Err f
@@ -79,5 +79,5 @@ end_after fed count (x ∷ xs) None =
     Err (record { pos = fed - length (x ∷ xs) + missing_place (length (x ∷ xs)); cause = Truncated })
 
 -- how the stream of a feed ends
-abbrev pub end_of : FeedState → Result ℕ SlotFault
-end_of s = end_after s.fed s.count s.held s.fault
+abbrev pub end_of_feed : FeedState → Result ℕ SlotFault
+end_of_feed s = end_after s.fed s.count s.held s.fault
