@@ -1,4 +1,4 @@
--- The canonical bytes of a list of BTF records: a header, the records, and the string table in which names share their tails
+-- The canonical bytes of a list of BTF records: a header, the records, and the string table in which names share suffixes
 -- (btf.rst section 2).
 use Rattle.std.specs.Prelude.{ℕ, ◌+◌, ◌*◌, ◌/◌, ◌%◌, ◌^◌, Bool, List, [], ◌∷◌, ◌++◌, length, map}
 use Rattle.std.specs.List.{flat_map}

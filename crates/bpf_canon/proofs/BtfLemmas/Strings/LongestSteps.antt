@@ -40,7 +40,7 @@ text_in_is section t low high =
     let s : start_in section t ≡ t.start = omega arith in
     ap (λ (n : ℕ). take (n - start_in section t) (drop (start_in section t) section)) e ∙ ap (λ (n : ℕ). take (t.end - n) (drop n section)) s
 
--- the text of a used tail, and those from within it
+-- a used text, and the texts that begin within it
 pub used_text : (section slots : List ℕ) (t : SectionText) → IsUsed section slots t → text_in section t ≡ text_from section t.start
 used_text section slots t used =
     text_in_is section t (omega (arith, used.some)) (omega (arith, used.inside))

@@ -113,7 +113,7 @@ first_rank_is ms common n r k are inside before f less = record {
   less = λ some. omega (arith, less, are.each r (omega (arith, before, inside)), common_at ms r some);
 }
 
--- sorted texts of a list are in order by their tails
+-- sorted texts of a list are in order by their bytes from the end
 pub in_tail_order : (texts ms : List (List ℕ)) → IsPermutation texts ms → IsSorted tail_cmp ms → All (λ t. 0 < length t) texts → AreInTailOrder (kept texts) ms
 in_tail_order texts ms perm up some = record {
   members = record {
