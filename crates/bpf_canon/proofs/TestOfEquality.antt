@@ -1,6 +1,6 @@
--- What a test has told of a proposition.
+-- A test that decides a proposition.
 use Rattle.std.proofs.Common.{◌↔◌, IsTrue, Bool, true, false, MatchBool, refl}
 
-pub told : (P : Type 0) (r : Bool) → MatchBool r P (P → ⊥) → IsTrue r ↔ P
-told P true h = (λ t. h, λ p. refl)
-told P false h = (λ t. cc, λ p. absurd (h p))
+pub test_decides : (P : Type 0) (r : Bool) → MatchBool r P (P → ⊥) → IsTrue r ↔ P
+test_decides P true h = (λ t. h, λ p. refl)
+test_decides P false h = (λ t. cc, λ p. absurd (h p))

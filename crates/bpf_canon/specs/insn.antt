@@ -1,6 +1,6 @@
 -- Streams of instructions, engines on them, and their canonical bytes.
 pub mod FeedState
-pub mod Stands
+pub mod FeedStream
 pub mod FrontReads
 pub mod Run
 pub mod Passed

@@ -1,4 +1,4 @@
-//! What a source and a sink have in common.
+//! Sources and sinks of bytes.
 
 pub(crate) mod memory;
 pub(crate) mod sink;
@@ -7,7 +7,7 @@ pub(crate) mod standard;
 
 use thiserror::Error;
 
-/// A device's call failed. It says nothing of why.
+/// A device's call failed, for whatever reason.
 #[derive(Clone, Copy, Debug, PartialEq, Eq, Error)]
 #[error("DeviceFailed")]
 pub struct DeviceFailed;

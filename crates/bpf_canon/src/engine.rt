@@ -32,7 +32,7 @@ pub enum RunCause<F> {
 pub struct RunError<F> {
     /// Why it stopped.
     pub cause: RunCause<F>,
-    /// How many bytes the sink took.
+    /// The number of bytes that the sink took.
     pub written: u64,
 }
 

@@ -1,4 +1,4 @@
-//! Tests of the calls of this crate: worked examples, devices in pieces and failing, refused allocations, and the largest inputs.
+//! Tests of the calls of this crate: worked examples, devices in pieces and failing, failing allocations, and the largest inputs.
 
 mod arena;
 mod btf;

@@ -28,7 +28,7 @@ use Rattle.bpf_canon.proofs.BtfLemmas.CanonicalSpells.{frames_spell}
 
 -- ---- sizes
 
--- what spells a good record takes as many bytes as the record
+-- what spells a good record has the length of the record
 frame_size : (strings : List ℕ) (types : List TypeFacts) (r : TypeRecord) (f : List ℕ) → IsGoodRecord types r → Spells strings r f → 4 * length f ≡ record_size r
 frame_size strings types r f good s =
     omega (

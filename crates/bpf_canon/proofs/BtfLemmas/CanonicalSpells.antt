@@ -113,8 +113,8 @@ pub member_fits : (flag o w word : ℕ) → MemberWord flag o w word → o < 2 ^
 member_fits flag o w word (inl plain) wide narrow = omega (arith, plain.2, wide)
 member_fits flag o w word (inr field) wide narrow = omega (arith, field.1, field.2, narrow)
 
--- an item of a good record, whose name stands at its place
-pub record ItemStands (strings : List ℕ) (place : List ℕ → ℕ) (flag : ℕ) (x : TypeItem) : Type 0 where
+-- an item of a good record, whose name is at its place
+pub record IsItemSpelled (strings : List ℕ) (place : List ℕ → ℕ) (flag : ℕ) (x : TypeItem) : Type 0 where
   pub spells : ItemSpells strings flag x (item_words place x)
   pub fits : IsWords (item_words place x)
 
@@ -125,59 +125,59 @@ module _ (strings : List ℕ) (place : List ℕ → ℕ) (types : List TypeFacts
   two_words : (name : List ℕ) (value : ℕ) → NameAt strings (place name) name → value < 2 ^ 32 → IsWords (place name ∷ value ∷ [])
   two_words name value at low = fits_two (place name) value (place_below name at) low
 
-  member_stands : (n : List ℕ) (t o w : ℕ) → ItemInRange (Member n t o w) → MemberWord (bit b) o w (o + 2 ^ 24 * w) → NameAt strings (place n) n → ItemStands strings place (bit b) (Member n t o w)
-  member_stands n t o w range word at = record {
+  member_is_spelled : (n : List ℕ) (t o w : ℕ) → ItemInRange (Member n t o w) → MemberWord (bit b) o w (o + 2 ^ 24 * w) → NameAt strings (place n) n → IsItemSpelled strings place (bit b) (Member n t o w)
+  member_is_spelled n t o w range word at = record {
     spells = (place n, o + 2 ^ 24 * w, at, word, refl);
     fits = fits_three (place n) t (o + 2 ^ 24 * w) (place_below n at) range.0 (member_fits (bit b) o w (o + 2 ^ 24 * w) word range.1 range.2);
   }
 
-item_stands : (strings : List ℕ) (place : List ℕ → ℕ) (types : List TypeFacts) (h : TypeHead) (size : ℕ) (b : Bool) → length strings ≤ STRINGS_LIMIT
+item_is_spelled : (strings : List ℕ) (place : List ℕ → ℕ) (types : List TypeFacts) (h : TypeHead) (size : ℕ) (b : Bool) → length strings ≤ STRINGS_LIMIT
     → (x : TypeItem) → ItemOf h x → ItemInRange x → MemberIsGood types size b x → (has_width x ≡ true → b ≡ true) → NameAt strings (place (item_name x)) (item_name x)
-    → ItemStands strings place (canonical_flag h b) x
-item_stands strings place types (KStruct name size') size b short (Member n t o w) of range good some at =
-    member_stands strings place types (KStruct name size') size b short n t o w range (member_word b o w some (λ i. (good.1 i).0)) at
-item_stands strings place types (KUnion name size') size b short (Member n t o w) of range good some at =
-    member_stands strings place types (KUnion name size') size b short n t o w range (member_word b o w some (λ i. (good.1 i).0)) at
-item_stands strings place types (KEnum name signed size') size b short (EnumValue n v) of range good some at =
+    → IsItemSpelled strings place (canonical_flag h b) x
+item_is_spelled strings place types (KStruct name size') size b short (Member n t o w) of range good some at =
+    member_is_spelled strings place types (KStruct name size') size b short n t o w range (member_word b o w some (λ i. (good.1 i).0)) at
+item_is_spelled strings place types (KUnion name size') size b short (Member n t o w) of range good some at =
+    member_is_spelled strings place types (KUnion name size') size b short n t o w range (member_word b o w some (λ i. (good.1 i).0)) at
+item_is_spelled strings place types (KEnum name signed size') size b short (EnumValue n v) of range good some at =
     record { spells = (place n, at, refl); fits = two_words strings place types (KPtr 0) size b short n v at range }
-item_stands strings place types (KFuncProto target) size b short (Param n t) of range good some at =
+item_is_spelled strings place types (KFuncProto target) size b short (Param n t) of range good some at =
     record { spells = (place n, at, refl); fits = two_words strings place types (KPtr 0) size b short n t at range }
-item_stands strings place types (KDatasec name size') size b short (Entry a c d) of range good some at =
+item_is_spelled strings place types (KDatasec name size') size b short (Entry a c d) of range good some at =
     record { spells = refl; fits = fits_three a c d range.0 range.1 range.2 }
-item_stands strings place types (KEnum64 name signed size') size b short (Value64 n v) of range good some at =
+item_is_spelled strings place types (KEnum64 name signed size') size b short (Value64 n v) of range good some at =
     record {
       spells = (place n, at, refl);
       fits = fits_three (place n) (v % 2 ^ 32) (v / 2 ^ 32) (place_below strings place types (KPtr 0) size b short n at) (omega arith) (omega (arith, range));
     }
-item_stands strings place types h size b short x of range good some at = absurd of
+item_is_spelled strings place types h size b short x of range good some at = absurd of
 
 -- ---- the items of a record
 
-record ItemsStand (strings : List ℕ) (place : List ℕ → ℕ) (flag : ℕ) (xs : List TypeItem) : Type 0 where
+record AreItemsSpelled (strings : List ℕ) (place : List ℕ → ℕ) (flag : ℕ) (xs : List TypeItem) : Type 0 where
   spells : AllZip (ItemSpells strings flag) xs (map (item_words place) xs)
   fits : IsWords (flat_map (item_words place) xs)
 
-items_stand : (strings : List ℕ) (place : List ℕ → ℕ) (types : List TypeFacts) (h : TypeHead) (size : ℕ) (b : Bool) → length strings ≤ STRINGS_LIMIT
+items_are_spelled : (strings : List ℕ) (place : List ℕ → ℕ) (types : List TypeFacts) (h : TypeHead) (size : ℕ) (b : Bool) → length strings ≤ STRINGS_LIMIT
     → (xs : List TypeItem) → All (ItemOf h) xs → All ItemInRange xs → All (MemberIsGood types size b) xs → (list_any has_width xs ≡ true → b ≡ true)
-    → All (λ n. NameAt strings (place n) n) (map item_name xs) → ItemsStand strings place (canonical_flag h b) xs
-items_stand strings place types h size b short [] of range good some at = record { spells = tt; fits = IsWords-nil }
-items_stand strings place types h size b short (x ∷ xs) of range good some at =
-    let one = item_stands strings place types h size b short x (All-head (ItemOf h) x xs of) (All-head ItemInRange x xs range) (All-head (MemberIsGood types size b) x xs good)
+    → All (λ n. NameAt strings (place n) n) (map item_name xs) → AreItemsSpelled strings place (canonical_flag h b) xs
+items_are_spelled strings place types h size b short [] of range good some at = record { spells = tt; fits = IsWords-nil }
+items_are_spelled strings place types h size b short (x ∷ xs) of range good some at =
+    let one = item_is_spelled strings place types h size b short x (All-head (ItemOf h) x xs of) (All-head ItemInRange x xs range) (All-head (MemberIsGood types size b) x xs good)
     (λ e. some (or_left _ _ e)) (All-head (λ n. NameAt strings (place n) n) (item_name x) (map item_name xs) at) in
-    let rest = items_stand strings place types h size b short xs (All-tail (ItemOf h) x xs of) (All-tail ItemInRange x xs range) (All-tail (MemberIsGood types size b) x xs good)
+    let rest = items_are_spelled strings place types h size b short xs (All-tail (ItemOf h) x xs of) (All-tail ItemInRange x xs range) (All-tail (MemberIsGood types size b) x xs good)
     (λ e. some (or_right _ _ e)) (All-tail (λ n. NameAt strings (place n) n) (item_name x) (map item_name xs) at) in
     record { spells = (one.spells, rest.spells); fits = IsWords-append (item_words place x) (flat_map (item_words place) xs) one.fits rest.fits }
 
 -- ---- records
 
--- the words of a good record whose names stand at their places
+-- the words of a good record whose names are at their places
 pub record_spells : (strings : List ℕ) (place : List ℕ → ℕ) (types : List TypeFacts) (r : TypeRecord) → length strings ≤ STRINGS_LIMIT → IsGoodRecord types r
     → All (λ n. NameAt strings (place n) n) (record_names r) → Spells strings r (record_words place r)
 record_spells strings place types r short good at =
     let name = All-head (λ n. NameAt strings (place n) n) (head_name r.head) (map item_name r.items) at in
     let b = has_bit_fields r in
     let flag = canonical_flag r.head b in
-    let items = items_stand strings place types r.head (head_third r.head) b short r.items good.items_of good.items_in_range good.members (λ e. e)
+    let items = items_are_spelled strings place types r.head (head_third r.head) b short r.items good.items_of good.items_in_range good.members (λ e. e)
     (All-tail (λ n. NameAt strings (place n) n) (head_name r.head) (map item_name r.items) at) in
     let low = flag_below r.head flag (flag_spells r.head b) in
     let word : info (kind_number r.head) (record_vlen r) flag < 2 ^ 32 = omega (arith, kind_below r.head, vlen_below r.head r.items good.items_fit, low) in

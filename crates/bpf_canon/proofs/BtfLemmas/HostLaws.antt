@@ -1,4 +1,4 @@
--- The hosts of names are their own hosts, so a section in which they stand is at least as long as their table.
+-- The hosts of names are their own hosts, so a section that has them all is at least as long as their table.
 use Rattle.std.proofs.Common.{◌≡◌, true, not, inl, inr, List, ℕ, ◌≤◌, length, ap, ◌∙◌, subst}
 use Rattle.std.specs.List.{filter, list_any}
 use Rattle.std.proofs.lemmas.Bool.{cases_Bool}
@@ -31,4 +31,4 @@ hosts_again : (xs : List (List ℕ)) → hosts (hosts xs) ≡ hosts xs
 hosts_again xs = ap hosts_of (hosts_kept xs) ∙ filter_all (keeps (hosts xs)) (hosts xs) (ends_none (kept xs))
 
 pub hosts_fit : HostsFitSections
-hosts_fit xs section ends stand = subst (λ (hs : List (List ℕ)). length (table_of hs) ≤ length section) (hosts_again xs) (shared_is_shortest (hosts xs) section ends stand)
+hosts_fit xs section ends has_all = subst (λ (hs : List (List ℕ)). length (table_of hs) ≤ length section) (hosts_again xs) (shared_is_shortest (hosts xs) section ends has_all)

@@ -1,7 +1,7 @@
 -- Lemmas on the string table from the offsets of names.
 pub mod FirstUseSteps
-pub mod TailKeys
-pub mod SortedTails
+pub mod SuffixKeys
+pub mod SortedTexts
 pub mod TextLemmas
 pub mod RankSteps
 pub mod CommonBits
@@ -9,10 +9,10 @@ pub mod KeyBytes
 pub mod LongestSteps
 pub mod FoundHosts
 pub mod UsedSteps
-pub mod OffsetMarkSteps
+pub mod OffsetSetSteps
 pub mod InHostSteps
-pub mod LaidNames
-pub mod LayoutSteps
+pub mod PlacedHosts
+pub mod HostPlaceSteps
 pub mod FoundPlaces
 pub mod SpanSteps
 pub mod TableSpans

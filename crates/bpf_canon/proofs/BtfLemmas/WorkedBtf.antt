@@ -24,7 +24,7 @@ pub int_big : canonical Big (int_record ∷ []) ≡
     ∷ 0 ∷ 0x69 ∷ 0x6e ∷ 0x74 ∷ 0 ∷ []
 int_big = refl
 
--- three TYPEDEFs of void named `dbc`, `c` and `abc`: `c` stands at the end of `abc`, though `dbc` comes first
+-- three TYPEDEFs of void named `dbc`, `c` and `abc`: `c` is placed at the end of `abc`, though `dbc` comes first
 abbrev three_typedefs : List TypeRecord
 three_typedefs =
     record { head = KTypedef (0x64 ∷ 0x62 ∷ 0x63 ∷ []) 0; items = [] } ∷ record { head = KTypedef (0x63 ∷ []) 0; items = [] }

@@ -11,12 +11,12 @@ use Rattle.bpf_insn.specs.Spelling.{InsnFile, file_of}
 use Rattle.bpf_insn.proofs.FileLaws.{one_list}
 use Rattle.bpf_insn.proofs.FrontLemmas.{one_front}
 use Rattle.bpf_canon.specs.insn.FeedState.{FeedState}
-use Rattle.bpf_canon.specs.insn.Stands.{IsFaultOf, Moves, Stands}
+use Rattle.bpf_canon.specs.insn.FeedStream.{IsLastingFaultOf, Moves, Represents}
 use Rattle.bpf_canon.specs.insn.Canonical.{CanonicalBytesAreAccepted, CanonicalBytesAreTheirOwn, CanonicalBytesTellFilesApart, Compares, IsCanonical, NamesFault}
 use Rattle.bpf_canon.proofs.InsnLemmas.FrontLaws.{file_front, front-nil}
 
 -- a feed of a whole file gave its instructions in the order `to`
-pub recoded_of : (s t : FeedState) (o to : Order) (bytes written : List ℕ) (l : List Insn) → Stands s o to [] → Moves s t bytes [] written → InsnFile o bytes l
+pub recoded_of : (s t : FeedState) (o to : Order) (bytes written : List ℕ) (l : List Insn) → Represents s o to [] → Moves s t bytes [] written → InsnFile o bytes l
     → written ≡ file_of to l
 recoded_of s t o to bytes written l h m file =
     let g = m.gains o to [] h in
@@ -67,6 +67,6 @@ names_no_file o b (error.Fault f) l n file = absurd (n.no_file l file)
 names_no_file o b error.Memory l n file = refl
 
 -- what a feed of the whole bytes names
-pub names_of_feed : (o : Order) (b : List ℕ) (e : InsnError) → IsFaultOf o b e → NamesFault o b e
+pub names_of_feed : (o : Order) (b : List ℕ) (e : InsnError) → IsLastingFaultOf o b e → NamesFault o b e
 names_of_feed o b (error.Fault f) h = h.fault
 names_of_feed o b error.Memory h = tt

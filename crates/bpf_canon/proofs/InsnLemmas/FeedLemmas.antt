@@ -16,7 +16,7 @@ use Rattle.bpf_insn.proofs.FileLaws.{fault_within}
 use Rattle.bpf_canon.specs.declared.insn.front.FrontRead.{FrontRead}
 use Rattle.bpf_canon.specs.insn.FeedState.{FeedState, IsCut, missing_place}
 use Rattle.bpf_canon.specs.insn.FrontReads.{Advances, BeginsNone, Leaves, ReadsFront, StopsAt}
-use Rattle.bpf_canon.specs.insn.Stands.{AnswersFor, Feeds, Finishes, Gains, HasFault, IsSound, Keeps, Moves, Stands, end_after, end_of}
+use Rattle.bpf_canon.specs.insn.FeedStream.{AnswersFor, Feeds, Finishes, Gains, HasFault, IsSound, Keeps, Moves, Represents, end_after, end_of_feed}
 use Rattle.bpf_canon.proofs.InsnLemmas.FrontLaws.{cut_length, empty_begins_none, front-nil, front_counts, front_fits, front_fault, front_joins, lasting_length, sound_cut, sound_file}
 
 -- ---- what is held
@@ -34,7 +34,7 @@ missing_at o s at t = elim t [
   | inr h ↦ h.3 ∙ grind (arith, h.0)
 ]
 
--- a fault of bytes that are too few tells where they are
+-- a fault of missing bytes gives their place
 pub cut_of_fault : (o : Order) (s : List ℕ) (at : ℕ) (cause : SlotCause) → cause ≡ Truncated → IsSlotFault o s (record { pos = at; cause = cause }) → IsCut o s
 cut_of_fault o s at cause t f =
     let P : SlotCause → Type 0 = λ x. IsSlotFault o s (record { pos = at; cause = x }) in
@@ -155,7 +155,7 @@ keeps_none : (o : Order) (b rest held : List ℕ) (fault : Option SlotFault) →
 keeps_none o b rest held fault e k = let P : Option SlotFault → Type 0 = λ x. Keeps o b rest held x in subst P e k
 
 -- the front of the longer stream
-joined_front : (s t : FeedState) (o to : Order) (b piece old new : List ℕ) → s.fault ≡ None → (a : Advances s t piece old new) → (h : Stands s o to b)
+joined_front : (s t : FeedState) (o to : Order) (b piece old new : List ℕ) → s.fault ≡ None → (a : Advances s t piece old new) → (h : Represents s o to b)
     → IsFront o (b ++ piece) (h.insns ++ a.gained) a.left
 joined_front s t o to b piece old new e a h =
     let k = keeps_none o b h.rest s.held s.fault e h.keeps in
@@ -183,9 +183,9 @@ keeps_of o b l left held fed (Some g) f e k =
       k.0,
     )
 
-advanced_stands : (s t : FeedState) (o to : Order) (b piece old new : List ℕ) → s.fault ≡ None → Advances s t piece old new → Stands s o to b
-    → Stands t o to (b ++ piece)
-advanced_stands s t o to b piece old new e a h =
+advanced_represents : (s t : FeedState) (o to : Order) (b piece old new : List ℕ) → s.fault ≡ None → Advances s t piece old new → Represents s o to b
+    → Represents t o to (b ++ piece)
+advanced_represents s t o to b piece old new e a h =
     let front = joined_front s t o to b piece old new e a h in
     let fed : t.fed ≡ length (b ++ piece) = omega (arith, a.fed, h.fed, length-append b piece) in
     let P : Order → Type 0 = λ p. Leaves p t.fed a.left t.held t.fault in
@@ -200,7 +200,7 @@ advanced_stands s t o to b piece old new e a h =
       keeps = keeps_of o (b ++ piece) (h.insns ++ a.gained) a.left t.held t.fed t.fault front fed (subst P h.reads a.leaves);
     }
 
-advanced_gains : (s t : FeedState) (o to : Order) (b piece old new : List ℕ) → s.fault ≡ None → Advances s t piece old new → Stands s o to b
+advanced_gains : (s t : FeedState) (o to : Order) (b piece old new : List ℕ) → s.fault ≡ None → Advances s t piece old new → Represents s o to b
     → Gains o to b piece old new
 advanced_gains s t o to b piece old new e a h = record {
   before = h.insns;
@@ -214,14 +214,14 @@ advanced_gains s t o to b piece old new e a h = record {
 
 pub advanced_moves : (s t : FeedState) (piece old new : List ℕ) → s.fault ≡ None → Advances s t piece old new → Moves s t piece old new
 advanced_moves s t piece old new e a = record {
-  stands = λ o to b h. advanced_stands s t o to b piece old new e a h;
+  represents = λ o to b h. advanced_represents s t o to b piece old new e a h;
   gains = λ o to b h. advanced_gains s t o to b piece old new e a h;
 }
 
 -- an empty piece changes nothing
 pub moves_none : (s : FeedState) (piece out : List ℕ) → length piece ≡ 0 → Moves s s piece out out
 moves_none s piece out zero = record {
-  stands = λ o to b h. let P : List ℕ → Type 0 = λ x. Stands s o to x in subst P (sym (same b)) h;
+  represents = λ o to b h. let P : List ℕ → Type 0 = λ x. Represents s o to x in subst P (sym (same b)) h;
   gains = λ o to b h.
       let P : List ℕ → Type 0 = λ x. IsFront o x h.insns h.rest in
       let Q : List Insn → Type 0 = λ l. IsFront o (b ++ piece) l h.rest in
@@ -243,9 +243,9 @@ moves_none s piece out zero = record {
     same : (b : List ℕ) → b ++ piece ≡ b
     same b = ap (λ x. b ++ x) (empty piece zero) ∙ append-nil b
 
--- a new feed stands for the empty stream
-pub new_stands : (o to : Order) → Stands (record { order = o; to = to; held = []; fed = 0; count = 0; fault = None }) o to []
-new_stands o to = record {
+-- a new feed represents the empty stream
+pub new_represents : (o to : Order) → Represents (record { order = o; to = to; held = []; fed = 0; count = 0; fault = None }) o to []
+new_represents o to = record {
   reads = refl;
   writes = refl;
   fed = refl;
@@ -257,17 +257,17 @@ new_stands o to = record {
 }
 
 -- what a feed keeps says what the stream has
-pub keeps_answer : (s : FeedState) (o to : Order) (b : List ℕ) → Stands s o to b → s.fault ≡ None → IsSound o b
+pub keeps_answer : (s : FeedState) (o to : Order) (b : List ℕ) → Represents s o to b → s.fault ≡ None → IsSound o b
 keeps_answer s o to b h e = (keeps_none o b h.rest s.held s.fault e h.keeps).0
 
-pub keeps_fault : (s : FeedState) (o to : Order) (b : List ℕ) (f : SlotFault) → Stands s o to b → s.fault ≡ Some f → HasFault o b f
+pub keeps_fault : (s : FeedState) (o to : Order) (b : List ℕ) (f : SlotFault) → Represents s o to b → s.fault ≡ Some f → HasFault o b f
 keeps_fault s o to b f h e = let P : Option SlotFault → Type 0 = λ x. Keeps o b h.rest s.held x in (subst P e h.keeps).0
 
 -- the answer is that of the longer stream
-pub feeds_answers : (s t : FeedState) (o to : Order) (b piece old new : List ℕ) (r : Result (Unit {0}) InsnError) → Feeds s t piece old new r → Stands s o to b
+pub feeds_answers : (s t : FeedState) (o to : Order) (b piece old new : List ℕ) (r : Result (Unit {0}) InsnError) → Feeds s t piece old new r → Represents s o to b
     → AnswersFor o (b ++ piece) r
-feeds_answers s t o to b piece old new (Ok done) f h = keeps_answer t o to (b ++ piece) (f.0.stands o to b h) f.1.0
-feeds_answers s t o to b piece old new (Err (error.Fault g)) f h = keeps_fault t o to (b ++ piece) g (f.0.stands o to b h) f.1.0
+feeds_answers s t o to b piece old new (Ok done) f h = keeps_answer t o to (b ++ piece) (f.0.represents o to b h) f.1.0
+feeds_answers s t o to b piece old new (Err (error.Fault g)) f h = keeps_fault t o to (b ++ piece) g (f.0.represents o to b h) f.1.0
 feeds_answers s t o to b piece old new (Err error.Memory) f h = tt
 
 -- with a fault nothing is held
@@ -290,7 +290,7 @@ advanced_bound s t piece old new a =
 -- ---- the end of a stream
 
 -- a feed that holds nothing has read a file
-ends_whole : (s : FeedState) (o to : Order) (b : List ℕ) → s.fault ≡ None → s.held ≡ [] → Stands s o to b
+ends_whole : (s : FeedState) (o to : Order) (b : List ℕ) → s.fault ≡ None → s.held ≡ [] → Represents s o to b
     → (l : List Insn) × (InsnFile o b l × (s.count ≡ length l))
 ends_whole s o to b e none h =
     let k = keeps_none o b h.rest s.held s.fault e h.keeps in
@@ -298,7 +298,7 @@ ends_whole s o to b e none h =
     (h.insns, ((h.front.each, h.front.front ∙ ap (λ r. file_of o h.insns ++ r) rest ∙ append-nil (file_of o h.insns)), h.count))
 
 -- the fault of what is held is that of the stream
-ends_cut : (s : FeedState) (o to : Order) (b : List ℕ) → s.fault ≡ None → 0 < length s.held → length s.held ≤ s.fed → IsCut s.order s.held → Stands s o to b
+ends_cut : (s : FeedState) (o to : Order) (b : List ℕ) → s.fault ≡ None → 0 < length s.held → length s.held ≤ s.fed → IsCut s.order s.held → Represents s o to b
     → IsInsnFault o b (record { pos = s.fed - length s.held + missing_place (length s.held); cause = Truncated })
 ends_cut s o to b e some small cut h =
     let k = keeps_none o b h.rest s.held s.fault e h.keeps in
@@ -310,7 +310,7 @@ ends_cut s o to b e some small cut h =
     front_fault o b h.insns h.rest F (record { pos = s.fed - length s.held + missing_place (length s.held); cause = Truncated }) h.front
     (omega (arith, some, ap length k.1)) (subst Q k.1 f) (omega (arith, h.fed, small, ap length k.1)) refl
 
-pub ends : (s : FeedState) (o to : Order) (b : List ℕ) → length s.held ≤ s.fed → IsCut s.order s.held → Stands s o to b → Finishes o b (end_of s)
+pub ends : (s : FeedState) (o to : Order) (b : List ℕ) → length s.held ≤ s.fed → IsCut s.order s.held → Represents s o to b → Finishes o b (end_of_feed s)
 ends s o to b small cut h = by_cases s.fault s.held refl refl
   where
     by_cases : (fault : Option SlotFault) (held : List ℕ) → s.fault ≡ fault → s.held ≡ held → Finishes o b (end_after s.fed s.count held fault)

@@ -18,7 +18,7 @@ use Rattle.bpf_insn.proofs.FileLaws.{at_least_a_slot, begins_once, file_fault, l
 use Rattle.bpf_insn.proofs.FrontLemmas.{one_front}
 use Rattle.bpf_insn.proofs.UniqueLemmas.{one_fault}
 use Rattle.bpf_canon.specs.insn.FrontReads.{BeginsNone}
-use Rattle.bpf_canon.specs.insn.Stands.{IsSound}
+use Rattle.bpf_canon.specs.insn.FeedStream.{IsSound}
 
 -- ---- lengths
 
@@ -163,7 +163,7 @@ cut_length o s at NextImm t f = cc
 pub sound_file : (o : Order) (b : List ℕ) (l : List Insn) → IsFront o b l [] → IsSound o b
 sound_file o b l front f fault = absurd (fault.no_file l (front.each, front.front ∙ append-nil (file_of o l)))
 
--- bytes of which the last instruction is cut have no other fault
+-- bytes whose last instruction is cut have no other fault
 pub sound_cut : (o : Order) (b : List ℕ) (l : List Insn) (rest : List ℕ) (e : SlotFault) → IsFront o b l rest → IsSlotFault o rest e → e.cause ≡ Truncated
     → IsSound o b
 sound_cut o b l rest e front slot same f fault =

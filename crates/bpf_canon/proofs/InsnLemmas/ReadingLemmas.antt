@@ -40,7 +40,7 @@ reading_none o to bytes old = record {
   grows = sym (append-nil old);
 }
 
--- so many instructions are no more than the bytes before the place
+-- the number of instructions is no more than the bytes before the place
 pub reading_count : (o to : Order) (bytes : List ℕ) (at n : ℕ) (old new : List ℕ) → ReadTo o to bytes at n old new → n ≤ at
 reading_count o to bytes at n old new w = omega (arith, w.size, w.counted, length-at_most_file o w.insns)
 
@@ -60,7 +60,7 @@ reading_more o to bytes at n old new i len w h =
           ∙ ap (λ x. old ++ x) (sym (file-push to w.insns i));
     }
 
--- the same, of the instructions in the order in which they stand
+-- the same, of the instructions in the order of the file
 pub reading_same : (o to : Order) (bytes : List ℕ) (at n : ℕ) (old new : List ℕ) → ReadTo o to bytes at n old new
     → ReadTo o o bytes at n [] (take at bytes)
 reading_same o to bytes at n old new w =

@@ -1,4 +1,4 @@
--- The slots of a file, written anew in the other order, are the file in that order.
+-- The slots of a file, written in the other order, are the file in that order.
 use Rattle.std.proofs.Common.{◌≡◌, ℕ, ◌<◌, ℤ, pos, List, [], ◌∷◌, ◌++◌, Option, Some, None, length, take, drop, All, refl, sym, ap, ◌∙◌, append_assoc, append-nil, arith, length-append, lit<}
 use Rattle.std.specs.List.{flat_map}
 use Rattle.std.proofs.lemmas.List.Elements.{All-head, All-tail, All-cons, All-append}
@@ -61,7 +61,7 @@ file_in_range [] h = no_slots_in_range
 file_in_range (i ∷ insns) h =
     All-append AreFields (slots_of_insn i) (slots_of_file insns) (insn_in_range i (All-head IsInsn i insns h)) (file_in_range insns (All-tail IsInsn i insns h))
 
--- the slots that bytes spell, but for fewer than 8 at their end, are told by the bytes
+-- bytes determine the slots that they spell, up to fewer than 8 bytes at their end
 one_list_of_slots : (order : Order) (fs gs : List Fields) (rest : List ℕ) → All AreFields fs → All AreFields gs
     → length rest < 8 → flat_map (spelled order) fs ++ rest ≡ flat_map (spelled order) gs → fs ≡ gs
 one_list_of_slots order [] [] rest hf hg short e = refl
@@ -87,21 +87,21 @@ one_list_of_slots order (f ∷ fs) (g ∷ gs) rest hf hg short e =
     let tail : fs ≡ gs = one_list_of_slots order fs gs rest (All-tail AreFields f fs hf) (All-tail AreFields g gs hg) short right in
     cc
 
--- the slots up to here were written anew behind what was there
+-- the slots up to here were appended in the other order
 pub record Rewrites (order to : Order) (bytes rest old new : List ℕ) : Type 0 where
   pub slots : List Fields
   pub each : All AreFields slots
   pub read : bytes ≡ flat_map (spelled order) slots ++ rest
   pub written : new ≡ old ++ flat_map (spelled to) slots
 
-pub one_rewritten : (order to : Order) (bytes rest behind old new : List ℕ) (slot : Fields) → Rewrites order to bytes rest old new
-    → rest ≡ spelled order slot ++ behind → AreFields slot → Rewrites order to bytes behind old (new ++ spelled to slot)
-one_rewritten order to bytes rest behind old new slot so_far e fit = record {
+pub one_rewritten : (order to : Order) (bytes rest following old new : List ℕ) (slot : Fields) → Rewrites order to bytes rest old new
+    → rest ≡ spelled order slot ++ following → AreFields slot → Rewrites order to bytes following old (new ++ spelled to slot)
+one_rewritten order to bytes rest following old new slot so_far e fit = record {
   slots = so_far.slots ++ slot ∷ [];
   each = All-append AreFields so_far.slots (slot ∷ []) so_far.each (All-cons AreFields slot [] fit no_slots_in_range);
   read = so_far.read ∙ ap (λ xs. flat_map (spelled order) so_far.slots ++ xs) e
-      ∙ sym (append_assoc (flat_map (spelled order) so_far.slots) (spelled order slot) behind)
-      ∙ ap (λ xs. xs ++ behind) (sym (flat_map-push order so_far.slots slot));
+      ∙ sym (append_assoc (flat_map (spelled order) so_far.slots) (spelled order slot) following)
+      ∙ ap (λ xs. xs ++ following) (sym (flat_map-push order so_far.slots slot));
   written = ap (λ xs. xs ++ spelled to slot) so_far.written
       ∙ append_assoc old (flat_map (spelled to) so_far.slots) (spelled to slot)
       ∙ ap (λ xs. old ++ xs) (sym (flat_map-push to so_far.slots slot));

@@ -15,7 +15,7 @@ use Rattle.bpf_insn.proofs.FrontLemmas.{one_front}
 use Rattle.bpf_canon.specs.declared.engine.RunCause.{RunCause}
 use Rattle.bpf_canon.specs.declared.engine.RunCause.TheVariants as cause
 use Rattle.bpf_canon.specs.insn.FeedState.{FeedState}
-use Rattle.bpf_canon.specs.insn.Stands.{IsSound, Moves, Stands}
+use Rattle.bpf_canon.specs.insn.FeedStream.{IsSound, Moves, Represents}
 use Rattle.bpf_canon.specs.insn.Passed.{Passed, PassStops}
 use Rattle.bpf_canon.specs.device.Reads.{read_room}
 use Rattle.bpf_canon.specs.Engine.{Devices, devices}
@@ -23,7 +23,7 @@ use Rattle.bpf_canon.specs.insn.Run.{RanWhole, StopsAtFault, StopsTooLong, Stops
 use Rattle.bpf_canon.proofs.InsnLemmas.FeedLemmas.{keeps_answer, keeps_fault}
 use Rattle.bpf_canon.proofs.InsnLemmas.FrontLaws.{file_front, front_fits, front_grows}
 
--- the engine so far: the feed stands for what was read, and the sink took all that was whole
+-- the engine so far: the feed represents what was read, and the sink took all that was whole
 pub record Running (d : Devices) (o to : Order) (s : FeedState) (written : ℕ) : Type 0 where
   pub read : List ℕ
   pub came : Consumes d.source d.source_after read
@@ -31,7 +31,7 @@ pub record Running (d : Devices) (o to : Order) (s : FeedState) (written : ℕ) 
   pub insns : List Insn
   pub rest : List ℕ
   pub front : IsFront o read insns rest
-  pub stands : Stands s o to read
+  pub represents : Represents s o to read
   pub sound : s.fault ≡ None
   pub took : Appends d.sink d.sink_after (file_of to insns)
   pub all : written ≡ length (file_of to insns)
@@ -40,7 +40,7 @@ front_within : (o to : Order) (b : List ℕ) (l : List Insn) (rest : List ℕ) �
 front_within o to b l rest f = omega (arith, front_fits o to b l rest f)
 
 pub running_within : (d : Devices) (o to : Order) (s : FeedState) (n : ℕ) → Running d o to s n → s.fed ≤ limit
-running_within d o to s n r = omega (arith, r.stands.fed, r.within)
+running_within d o to s n r = omega (arith, r.represents.fed, r.within)
 
 -- what came before the source failed or ended
 wrote_read : (a b c p q : Option (List ℕ)) (o to : Order) (s : FeedState) (n : ℕ) (r : Running (devices a b p q) o to s n) → Consumes a c r.read
@@ -65,7 +65,7 @@ run_unread a b c p q o to s n r k =
     record {
       read = r.read;
       wrote = wrote_read a b c p q o to s n r (Consumes-kept a b c r.read r.came k);
-      sound = subst Q (sym (take_all limit r.read r.within)) (keeps_answer s o to r.read r.stands r.sound);
+      sound = subst Q (sym (take_all limit r.read r.within)) (keeps_answer s o to r.read r.represents r.sound);
       within = r.within;
     }
 
@@ -74,10 +74,10 @@ same_at_end a b c read h k = let P : List ℕ → Type 0 = λ x. Consumes a c x 
 
 -- the source ended
 pub run_whole : (a b c p q : Option (List ℕ)) (o to : Order) (s : FeedState) (n : ℕ) → Running (devices a b p q) o to s n → Consumes b c [] → IsAtEnd c
-    → ((read : List ℕ) → Stands s o to read → (l : List Insn) × InsnFile o read l)
+    → ((read : List ℕ) → Represents s o to read → (l : List Insn) × InsnFile o read l)
     → RanWhole (devices a c p q) o to n
 run_whole a b c p q o to s n r k end whole =
-    let w = whole r.read r.stands in
+    let w = whole r.read r.represents in
     let once = one_front o r.read w.0 r.insns [] r.rest (file_front o r.read w.0 w.1) r.front in
     let P : List Insn → Type 0 = λ l. Appends p q (file_of to l) in
     record {
@@ -92,14 +92,14 @@ run_whole a b c p q o to s n r k end whole =
     }
 
 pub run_cut : (a b c p q : Option (List ℕ)) (o to : Order) (s : FeedState) (n : ℕ) (f : SlotFault) → Running (devices a b p q) o to s n → Consumes b c [] → IsAtEnd c
-    → ((read : List ℕ) → Stands s o to read → IsInsnFault o read f)
+    → ((read : List ℕ) → Represents s o to read → IsInsnFault o read f)
     → StopsAtFault (devices a c p q) o to n f
 run_cut a b c p q o to s n f r k end fault =
     let Q : List ℕ → Type 0 = λ x. IsInsnFault o x f in
     record {
       read = r.read;
       wrote = wrote_read a b c p q o to s n r (same_at_end a b c r.read r.came k);
-      fault = subst Q (sym (take_all limit r.read r.within)) (fault r.read r.stands);
+      fault = subst Q (sym (take_all limit r.read r.within)) (fault r.read r.represents);
       ended = λ _. (end, r.within);
     }
 
@@ -109,15 +109,15 @@ record Adds (o to : Order) (t : FeedState) (read piece : List ℕ) (before : Lis
   left : List ℕ
   front : IsFront o (read ++ piece) (before ++ gained) left
   made : out ≡ file_of to gained
-  stands : Stands t o to (read ++ piece)
+  represents : Represents t o to (read ++ piece)
 
 adds_of : (o to : Order) (s t : FeedState) (read piece : List ℕ) (before : List Insn) (rest out : List ℕ) → IsFront o read before rest
-    → Stands s o to read → Moves s t piece [] out → Adds o to t read piece before out
+    → Represents s o to read → Moves s t piece [] out → Adds o to t read piece before out
 adds_of o to s t read piece before rest out front h m =
     let g = m.gains o to read h in
     let once = one_front o read g.before before g.rest rest g.front front in
     let P : List Insn → Type 0 = λ l. IsFront o (read ++ piece) (l ++ g.gained) g.left in
-    record { gained = g.gained; left = g.left; front = subst P once.0 g.longer; made = g.grows; stands = m.stands o to read h }
+    record { gained = g.gained; left = g.left; front = subst P once.0 g.longer; made = g.grows; represents = m.represents o to read h }
 
 wrote_more : (p q r : Option (List ℕ)) (to : Order) (before gained : List Insn) (out : List ℕ) → Appends p q (file_of to before) → Appends q r out
     → out ≡ file_of to gained → Appends p r (file_of to (before ++ gained))
@@ -134,21 +134,21 @@ size_more to before gained out n k h j e =
 pub run_more : (a b c p q r : Option (List ℕ)) (o to : Order) (s t : FeedState) (n k : ℕ) (piece : List ℕ) → Running (devices a b p q) o to s n
     → Consumes b c piece → Passed s t piece q r k → s.fed + length piece ≤ limit → Running (devices a c p r) o to t (n + k)
 run_more a b c p q r o to s t n k piece h came x fits =
-    let adds = adds_of o to s t h.read piece h.insns h.rest x.out h.front h.stands x.moves in
+    let adds = adds_of o to s t h.read piece h.insns h.rest x.out h.front h.represents x.moves in
     record {
       read = h.read ++ piece;
       came = Consumes-trans a b c h.read piece h.came came;
-      within = omega (arith, fits, h.stands.fed, length-append h.read piece);
+      within = omega (arith, fits, h.represents.fed, length-append h.read piece);
       insns = h.insns ++ adds.gained;
       rest = adds.left;
       front = adds.front;
-      stands = adds.stands;
+      represents = adds.represents;
       sound = x.sound;
       took = wrote_more p q r to h.insns adds.gained x.out h.took x.took adds.made;
       all = size_more to h.insns adds.gained x.out n k h.all x.all adds.made;
     }
 
--- what came with a chunk, of which a piece is within the limit, where the sink took what became whole
+-- what came with a chunk; a piece of it is within the limit, and the sink took what became whole
 wrote_chunk : (a b c p q r : Option (List ℕ)) (o to : Order) (s t : FeedState) (n k : ℕ) (chunk piece out : List ℕ) → (h : Running (devices a b p q) o to s n)
     → Consumes b c chunk → Adds o to t h.read piece h.insns out → Appends q r out → k ≡ length out → take limit (h.read ++ chunk) ≡ h.read ++ piece
     → length chunk ≤ read_room → WroteAll (devices a c p r) o to (h.read ++ chunk) (n + k)
@@ -169,13 +169,13 @@ pub run_too_long : (a b c p q r : Option (List ℕ)) (o to : Order) (s t : FeedS
     → Consumes b c chunk → Passed s t piece q r k → take limit (h.read ++ chunk) ≡ h.read ++ piece → limit < s.fed + length chunk
     → length chunk ≤ read_room → StopsTooLong (devices a c p r) o to (n + k)
 run_too_long a b c p q r o to s t n k chunk piece h came x cut beyond small =
-    let adds = adds_of o to s t h.read piece h.insns h.rest x.out h.front h.stands x.moves in
+    let adds = adds_of o to s t h.read piece h.insns h.rest x.out h.front h.represents x.moves in
     let Q : List ℕ → Type 0 = λ b. IsSound o b in
     record {
       read = h.read ++ chunk;
       wrote = wrote_chunk a b c p q r o to s t n k chunk piece x.out h came adds x.took x.all cut small;
-      sound = subst Q (sym cut) (keeps_answer t o to _ adds.stands x.sound);
-      beyond = omega (arith, beyond, h.stands.fed, length-append h.read chunk);
+      sound = subst Q (sym cut) (keeps_answer t o to _ adds.represents x.sound);
+      beyond = omega (arith, beyond, h.represents.fed, length-append h.read chunk);
     }
 
 -- the piece stops the engine
@@ -183,8 +183,8 @@ pub run_stops : (a b c p q r : Option (List ℕ)) (o to : Order) (s t : FeedStat
     → Consumes b c chunk → PassStops s t piece q r k why → take limit (h.read ++ chunk) ≡ h.read ++ piece
     → length chunk ≤ read_room → Stops (devices a c p r) o to (n + k) why
 run_stops a b c p q r o to s t n k chunk piece (cause.Fault f) h came x cut small =
-    let adds = adds_of o to s t h.read piece h.insns h.rest x.out h.front h.stands x.moves in
-    let has = keeps_fault t o to _ f adds.stands x.faulty in
+    let adds = adds_of o to s t h.read piece h.insns h.rest x.out h.front h.represents x.moves in
+    let has = keeps_fault t o to _ f adds.represents x.faulty in
     let Q : List ℕ → Type 0 = λ b. IsInsnFault o b f in
     record {
       read = h.read ++ chunk;
@@ -195,7 +195,7 @@ run_stops a b c p q r o to s t n k chunk piece (cause.Fault f) h came x cut smal
 run_stops a b c p q r o to s t n k chunk piece cause.TooLong h came x cut small = absurd x
 run_stops a b c p q r o to s t n k chunk piece cause.ReadFailed h came x cut small = absurd x
 run_stops a b c p q r o to s t n k chunk piece cause.WriteFailed h came x cut small =
-    let adds = adds_of o to s t h.read piece h.insns h.rest x.out h.front h.stands x.moves in
+    let adds = adds_of o to s t h.read piece h.insns h.rest x.out h.front h.represents x.moves in
     let P : List ℕ → Type 0 = λ b. IsFront o b (h.insns ++ adds.gained) adds.left in
     record {
       read = h.read ++ chunk;
@@ -256,11 +256,11 @@ cut_chunk read buffer fed n within e h l w =
 out_within : (a b p q : Option (List ℕ)) (o to : Order) (s t : FeedState) (n : ℕ) (piece out : List ℕ)
     → Running (devices a b p q) o to s n → Moves s t piece [] out → s.fed + length piece ≤ limit → n + length out ≤ limit
 out_within a b p q o to s t n piece out h moves fits =
-    let adds = adds_of o to s t h.read piece h.insns h.rest out h.front h.stands moves in
+    let adds = adds_of o to s t h.read piece h.insns h.rest out h.front h.represents moves in
     omega (
       arith,
       fits,
-      h.stands.fed,
+      h.represents.fed,
       length-append h.read piece,
       front_within o to _ _ _ adds.front,
       size_more to h.insns adds.gained out n (length out) h.all refl adds.made,

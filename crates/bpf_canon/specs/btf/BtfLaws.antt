@@ -32,6 +32,6 @@ CanonicalBtfTellsApart = (o : Order) (v w : List TypeRecord) → IsGood v → Is
 abbrev pub CanonicalBtfIsShortest : Type 0
 CanonicalBtfIsShortest = (o : Order) (b : List ℕ) (v : List TypeRecord) → Denotes b v → length (canonical o v) ≤ length b
 
--- a section in which all hosts stand is at least as long as their table
+-- a section that has all hosts is at least as long as their table
 abbrev pub HostsFitSections : Type 0
 HostsFitSections = (xs : List (List ℕ)) (section : List ℕ) → HasNulEnds section → All (HasName section) (hosts xs) → length (shared_table xs) ≤ length section

@@ -1,4 +1,4 @@
--- The canonical bytes of a list of BTF records: a header, the records, and the string table in which names share their tails
+-- The canonical bytes of a list of BTF records: a header, the records, and the string table in which names share suffixes
 -- (btf.rst section 2).
 use Rattle.std.specs.Prelude.{ℕ, ◌+◌, ◌*◌, ◌/◌, ◌%◌, ◌^◌, Bool, List, [], ◌∷◌, ◌++◌, length, map}
 use Rattle.std.specs.List.{flat_map}
@@ -23,7 +23,7 @@ canonical_flag (KTypeTag name flag target) bit_fields = bit flag
 canonical_flag (KEnum64 name signed size) bit_fields = bit signed
 canonical_flag _ bit_fields = 0
 
--- the words of an item, whose name stands at its place; a width stands in the high 8 bits, and a 64-bit value has its low word first
+-- the words of an item, whose name is at its place; a width is in the high 8 bits, and a 64-bit value has its low word first
 abbrev pub item_words : (List ℕ → ℕ) → TypeItem → List ℕ
 item_words place (Member name target bit_offset width) = place name ∷ target ∷ (bit_offset + 2 ^ 24 * width) ∷ []
 item_words place (EnumValue name value) = place name ∷ value ∷ []

@@ -67,7 +67,7 @@ pub record StopsBtfUnwritten (d : Devices) (to : Order) (written : ℕ) : Type 0
   pub took : Appends d.sink d.sink_after (take written (canonical to records))
   pub part : written < length (canonical to records)
 
--- memory was refused
+-- the allocator is out of memory
 pub record StopsBtfRefused (d : Devices) (written : ℕ) : Type 0 where
   pub read : List ℕ
   pub came : Consumes d.source d.source_after read

@@ -1,11 +1,11 @@
 -- The string table from the offsets of names.
 pub mod FirstUses
 pub mod NamesByPlace
-pub mod TailKeys
-pub mod Tails
+pub mod SuffixKeys
+pub mod SectionTexts
 pub mod UsedOffsets
-pub mod OffsetMarks
+pub mod OffsetSet
 pub mod Ranks
 pub mod Longest
 pub mod InHost
-pub mod HostLayout
+pub mod HostPlaces

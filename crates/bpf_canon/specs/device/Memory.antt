@@ -28,7 +28,7 @@ source_failures s = s.failed_reads
 abbrev pub source_pace : MemSource → Pace
 source_pace s = record { piece = s.piece; good_calls = s.good_reads }
 
--- the bytes that the vector behind a sink has
+-- the bytes in the vector of a sink
 abbrev pub sink_bytes : {A : Type 0} → MemSink A → List ℕ
 sink_bytes s = s.out.now.items
 
@@ -40,6 +40,6 @@ sink_failures s = s.failed_writes
 abbrev pub sink_pace : {A : Type 0} → MemSink A → Pace
 sink_pace s = record { piece = s.piece; good_calls = s.good_writes }
 
--- whether the vector behind a sink has room for so many bytes more
+-- whether the vector of a sink has room for n more bytes
 abbrev pub HasRoom : {A : Type 0} → MemSink A → ℕ → Type 0
 HasRoom s n = vec_len s.out.now + n ≤ vec_capacity s.out.now

@@ -6,7 +6,7 @@ use Rattle.bpf_insn.specs.declared.fault.SlotCause.TheVariants.{Truncated}
 use Rattle.bpf_insn.specs.Faults.{IsSlotFault}
 
 pub record FeedState : Type 0 where
-  -- the order of the bytes that come, and of those that go
+  -- the order of the bytes that come, and the order of the bytes that go
   pub order : Order
   pub to : Order
   -- the bytes of an instruction that hasn't come whole

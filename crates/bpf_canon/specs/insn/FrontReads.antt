@@ -35,7 +35,7 @@ pub record BeginsAcross (o : Order) (i : Insn) (held piece : List ℕ) (used : �
   pub whole : held ++ piece ≡ spelling o i ++ drop used piece
   pub size : length (spelling o i) ≡ length held + used
 
--- what is held, and which fault is kept, by what is left of a stream of which `fed` bytes came
+-- what is held, and which fault is kept, by what is left of a stream after `fed` bytes
 abbrev pub Leaves : Order → ℕ → List ℕ → List ℕ → Option SlotFault → Type 0
 Leaves o fed left held None = (held ≡ left) × IsCut o left
 Leaves o fed left held (Some f) = (held ≡ []) × ((e : SlotFault) × (IsSlotFault o left e × ((e.cause ≡ Truncated → ⊥) × ((f.pos + length left ≡ fed + e.pos) × (f.cause ≡ e.cause)))))

@@ -3,7 +3,7 @@ use Rattle.std.specs.Prelude.{◌≡◌, ◌≤◌, ℕ, List, [], Option, Some,
 use Rattle.std.specs.Io.KnownBytes.{Appends}
 use Rattle.bpf_insn.specs.declared.fault.SlotFault.{SlotFault}
 use Rattle.bpf_canon.specs.insn.FeedState.{FeedState}
-use Rattle.bpf_canon.specs.insn.Stands.{Moves}
+use Rattle.bpf_canon.specs.insn.FeedStream.{Moves}
 use Rattle.bpf_canon.specs.declared.engine.RunCause.{RunCause}
 use Rattle.bpf_canon.specs.declared.engine.RunCause.TheVariants as cause
 
@@ -30,7 +30,7 @@ pub record PassedPart (s t : FeedState) (piece : List ℕ) (sink sink_after : Op
   pub took : Appends sink sink_after (take written out)
   pub prefix : written ≤ length out
 
--- how a piece stops the engine, by the cause that is told
+-- how a piece stops the engine, by the cause that is reported
 abbrev pub PassStops : FeedState → FeedState → List ℕ → Option (List ℕ) → Option (List ℕ) → ℕ → RunCause SlotFault → Type 0
 PassStops s t piece sink sink_after written (cause.Fault f) = PassedFault s t piece sink sink_after written f
 PassStops s t piece sink sink_after written cause.WriteFailed = PassedPart s t piece sink sink_after written

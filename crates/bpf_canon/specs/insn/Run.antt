@@ -1,5 +1,5 @@
 -- What an engine on instructions did.
-use Rattle.std.specs.Prelude.{◌≡◌, ◌<◌, ◌≤◌, ◌+◌, ℕ, List, Option, length, take}
+use Rattle.std.specs.Prelude.{◌≡◌, ◌<◌, ◌≤◌, ◌+◌, ℕ, List, length, take}
 use Rattle.std.specs.Io.KnownBytes.{Appends, Consumes, IsAtEnd}
 use Rattle.bpf_words.specs.declared.Order.{Order}
 use Rattle.bpf_insn.specs.declared.insn.Insn.{Insn}
@@ -9,7 +9,7 @@ use Rattle.bpf_insn.specs.Spelling.{file_of, InsnFile}
 use Rattle.bpf_insn.specs.Faults.{IsFront, IsInsnFault}
 use Rattle.bpf_canon.specs.Engine.{Devices}
 use Rattle.bpf_canon.specs.device.Reads.{read_room}
-use Rattle.bpf_canon.specs.insn.Stands.{IsSound}
+use Rattle.bpf_canon.specs.insn.FeedStream.{IsSound}
 use Rattle.bpf_canon.specs.declared.engine.RunCause.{RunCause}
 use Rattle.bpf_canon.specs.declared.engine.RunCause.TheVariants as cause
 
@@ -67,7 +67,7 @@ pub record StopsUnread (d : Devices) (o to : Order) (written : ℕ) : Type 0 whe
   pub sound : IsSound o (take limit read)
   pub within : length read ≤ limit
 
--- a write failed, or memory was refused
+-- a write failed, or the allocator is out of memory
 pub record StopsUnwritten (d : Devices) (o to : Order) (written : ℕ) : Type 0 where
   pub read : List ℕ
   pub wrote : Wrote d o to read written

@@ -22,8 +22,8 @@ pub fn canonical_btf_is_shortest()
 
 /// The hosts, which are the names of the string table, end different strings of a section that spells them.
 ///
-/// A section that begins and ends with NUL is cut after each NUL. Each name that stands in it is a suffix of one of these
-/// strings, and no string ends with two different hosts. So a section in which all hosts stand is at least as long as their table.
+/// A section that begins and ends with NUL is cut after each NUL. Each name in it is a suffix of one of these strings, and no
+/// string ends with two different hosts. So a section that has all hosts is at least as long as their table.
 pub fn hosts_end_different_strings()
     ensures cut { (section : List ℕ) → SectionsAreCut section }
     ensures ends { (section : List ℕ) (strings : List (List ℕ)) → NamesEndStrings section strings }
@@ -31,7 +31,8 @@ pub fn hosts_end_different_strings()
     ensures fit { HostsFitSections }
 {}
 
-/// With the kept names ordered by their bytes from the end, a name that ends any other name ends the next one, and has its host.
+/// With the kept names sorted by their bytes from the end, a name that is a suffix of any other name is a suffix of the next one, and
+/// has its host.
 pub fn next_name_tells_host()
     ensures { (xs sorted : List (List ℕ)) → NextHasHost xs sorted }
 {}

@@ -18,7 +18,7 @@ use std::alloc::Allocator;
 ///
 /// # Errors
 ///
-/// `Fault` with the first fault of the file; its place counts from the file's first byte. `Memory` where memory was refused.
+/// `Fault` with the first fault of the file; its place counts from the file's first byte. `Memory` if the allocator is out of memory.
 pub fn canon_btf<A: Allocator + Copy>(alloc: A, bytes: &[u8]) -> Result<Vec<u8, A>, BtfError>
     ensures found { IfOk result (λ canon. IsCanonicalBtf bytes.now canon.items) }
     ensures all { (v : List TypeRecord) → Denotes bytes.now v
@@ -30,12 +30,12 @@ pub fn canon_btf<A: Allocator + Copy>(alloc: A, bytes: &[u8]) -> Result<Vec<u8, 
 
 /// The canonical bytes of a BTF file (btf.rst section 2) in the order `to`.
 ///
-/// In little-endian order they are the answer of [`canon_btf`]. In big-endian order they are what [`write_btf`] writes of the
-/// file's records in that order.
+/// In little-endian order they are the answer of [`canon_btf`]. In either order they are what [`write_btf`] writes of the file's
+/// records.
 ///
 /// # Errors
 ///
-/// `Fault` with the first fault of the file; its place counts from the file's first byte. `Memory` where memory was refused.
+/// `Fault` with the first fault of the file; its place counts from the file's first byte. `Memory` if the allocator is out of memory.
 pub fn canonical_in<A: Allocator + Copy>(
     alloc: A,
     to: Order,

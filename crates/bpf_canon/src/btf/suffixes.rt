@@ -1,18 +1,18 @@
 //! Texts by their bytes from the end.
 ghost use Rattle.std.specs.Prelude.{◌≡◌, ◌<◌, ℕ, slice_index_or, reverse};
 ghost use Rattle.btf_types.specs.strings.SharedNames.{tail_cmp};
-ghost use Rattle.bpf_canon.specs.btf.strings.TailKeys as spec;
+ghost use Rattle.bpf_canon.specs.btf.strings.SuffixKeys as spec;
 
 use std::cmp::Ordering;
 
-/// The byte `behind` places from the end, or 0 where the text is shorter.
-fn byte_before(text: &[u8], behind: usize) -> u8
-    requires { behind < 8 }
-    ensures byte { result ≡ slice_index_or (reverse text.now) behind 0 }
+/// The byte `back` places before the last one, or 0 if the text is shorter.
+fn byte_before(text: &[u8], back: usize) -> u8
+    requires { back < 8 }
+    ensures byte { result ≡ slice_index_or (reverse text.now) back 0 }
     ensures bytes { (i : ℕ) → slice_index_or text.now i 0 < 256 }
 {
-    if behind < text.len() {
-        text[text.len() - 1 - behind]
+    if back < text.len() {
+        text[text.len() - 1 - back]
     } else {
         0
     }
@@ -20,7 +20,7 @@ fn byte_before(text: &[u8], behind: usize) -> u8
 
 /// The last eight bytes as a number, the last byte the most significant. Missing bytes count as 0.
 pub(crate) fn suffix_key(text: &[u8]) -> u64
-    ensures key { result ≡ spec.tail_key text.now }
+    ensures key { result ≡ spec.suffix_key text.now }
     ensures bytes { (i : ℕ) → slice_index_or text.now i 0 < 256 }
 {
     if text.is_empty() {

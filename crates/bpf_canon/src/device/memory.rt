@@ -1,4 +1,4 @@
-//! Devices over memory, which give and take in pieces and fail when they are told to.
+//! Devices over memory, which give and take in pieces and fail from a chosen call on.
 ghost use Rattle.std.specs.Prelude.{◌≡◌, ◌<◌, Option, Some, length, min, Result, Ok, Err, IsErr, IsOk, IfOk, ◌≢◌, ◌↔◌};
 ghost use Rattle.std.specs.Io.{ReadsAtMost, WritesAtMost};
 ghost use Rattle.std.specs.Io.KnownBytes.{ReadConsumes, WriteAppends};
@@ -14,7 +14,7 @@ use std::alloc::{Allocator, Global};
 pub struct MemSource<'a> {
     rest: &'a [u8],
     piece: usize,
-    // how many reads still succeed, where not all do
+    // the number of reads that still succeed, if not all do
     good_reads: Option<u64>,
     failed_reads: u64,
     ghost positive: { 0 < piece },
@@ -74,7 +74,7 @@ impl ByteSource for MemSource<'_> {
 pub struct MemSink<'a, A: Allocator = Global> {
     out: &'a mut Vec<u8, A>,
     piece: usize,
-    // how many writes still succeed, where not all do
+    // the number of writes that still succeed, if not all do
     good_writes: Option<u64>,
     failed_writes: u64,
     ghost positive: { 0 < piece },

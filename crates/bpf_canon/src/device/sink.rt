@@ -6,20 +6,20 @@ ghost use Rattle.bpf_canon.specs.device.Device.{CountsFailure};
 
 use crate::device::DeviceFailed;
 
-/// A sink of bytes, which takes as many at each write as it can.
+/// A sink of bytes, which takes at each write what it has room for.
 pub trait ByteSink {
-    /// The bytes that the sink has taken, where it tells them.
+    /// The bytes that the sink has taken, if it knows them.
     ghost contents: { Self → Option (List ℕ) };
 
-    /// How many writes have failed since the sink was made.
+    /// The number of writes that have failed since the sink was made.
     ghost failures: { Self → ℕ };
 
-    /// Writes bytes from the front of the slice. `Ok(n)` says that the first `n` of them were taken, at least one
-    /// where there is any.
+    /// Writes bytes from the front of the slice. `Ok(n)` says that the first `n` of them were taken, at least one unless the
+    /// slice is empty.
     ///
     /// # Errors
     ///
-    /// `DeviceFailed` where the write failed; nothing was taken then.
+    /// `DeviceFailed` if the write failed; nothing was taken then.
     fn write(&mut self, bytes: &[u8]) -> Result<usize, DeviceFailed>
         requires { failures self.old < u64.MAX }
         ensures bound { WritesAtMost result bytes.now }

@@ -10,12 +10,12 @@ use crate::device::DeviceFailed;
 use std::alloc::{AllocError, Allocator};
 use thiserror::Error;
 
-/// A source of bytes, which gives as many at each read as it has at hand.
+/// A source of bytes, which gives at each read what it has at hand.
 pub trait ByteSource {
-    /// The bytes that are still to come, where the source tells them.
+    /// The bytes that are still to come, if the source knows them.
     ghost remaining: { Self → Option (List ℕ) };
 
-    /// How many reads have failed since the source was made.
+    /// The number of reads that have failed since the source was made.
     ghost failures: { Self → ℕ };
 
     /// Reads into the front of the buffer. `Ok(n)` says that the buffer's first `n` bytes were read; `n` is 0 for a
@@ -23,7 +23,7 @@ pub trait ByteSource {
     ///
     /// # Errors
     ///
-    /// `DeviceFailed` where the read failed; no byte came then.
+    /// `DeviceFailed` if the read failed; no byte came then.
     fn read(&mut self, buffer: &mut [u8]) -> Result<usize, DeviceFailed>
         requires { failures self.old < u64.MAX }
         ensures bound { ReadsAtMost result buffer.new }
@@ -40,7 +40,7 @@ pub enum ReadError {
     /// A read of the source failed.
     #[error("ReadFailed")]
     ReadFailed,
-    /// The allocator refused memory.
+    /// The allocator is out of memory.
     #[error("Memory")]
     Memory,
 }
@@ -57,8 +57,8 @@ impl From<AllocError> for ReadError {
 ///
 /// # Errors
 ///
-/// `TooLong` as soon as more than `limit` bytes came, `ReadFailed` at the first read that fails, and `Memory` where
-/// the allocator refuses room for the bytes.
+/// `TooLong` as soon as more than `limit` bytes came, `ReadFailed` at the first read that fails, and `Memory` if the
+/// allocator is out of memory.
 pub fn read_all<S: ByteSource, A: Allocator>(
     alloc: A,
     source: &mut S,

@@ -13,8 +13,8 @@ use std::alloc::Allocator;
 ///
 /// # Errors
 ///
-/// `Fault` where the bytes are no file of instructions: their first fault, with its place counted from the first byte.
-/// `Memory` where the allocator refuses room for the canonical bytes.
+/// `Fault` if the bytes are no file of instructions: their first fault, with its place counted from the first byte.
+/// `Memory` if the allocator is out of memory.
 pub fn canon_insns<A: Allocator>(
     alloc: A,
     order: Order,
@@ -30,7 +30,7 @@ pub fn canon_insns<A: Allocator>(
 
 /// The instructions of a file in the order `to` (RFC 9669 section 3).
 ///
-/// The bytes are as many as the file's. In little-endian order they are canonical, the answer of [`canon_insns`].
+/// The result has the length of the file. In little-endian order it is canonical, the answer of [`canon_insns`].
 ///
 /// # Errors
 ///

@@ -3,7 +3,7 @@ ghost use Rattle.std.specs.Prelude.{◌≡◌, ◌<◌, ◌≤◌, ◌+◌, ◌-
 ghost use Rattle.bpf_words.specs.declared.Order.{Order};
 ghost use Rattle.bpf_insn.specs.declared.fault.SlotFault.{SlotFault};
 ghost use Rattle.bpf_canon.specs.insn.FeedState.{FeedState, IsBetween, missing_place};
-ghost use Rattle.bpf_canon.specs.insn.Stands.{AnswersFor, Feeds, Finishes, Stands, end_of};
+ghost use Rattle.bpf_canon.specs.insn.FeedStream.{AnswersFor, Feeds, Finishes, Represents, end_of_feed};
 ghost use Rattle.bpf_canon.specs.insn.FrontReads.{Advances};
 
 use crate::insn::front::read_front_across;
@@ -17,7 +17,7 @@ use std::marker::Model;
 pub struct InsnFeed {
     order: Order,
     to: Order,
-    // the bytes of an instruction that hasn't come whole stand in front
+    // begins with the bytes of an instruction that hasn't come whole
     held: [u8; 16],
     held_len: usize,
     fed: u64,
@@ -43,7 +43,7 @@ impl Model for InsnFeed {
 impl InsnFeed {
     /// A feed of the empty stream, which reads in the order `order` and writes in the order `to`.
     pub fn new(order: Order, to: Order) -> InsnFeed
-        ensures stands { Stands result order to [] }
+        ensures represents { Represents result order to [] }
         ensures sound { result.fault ≡ None }
     {
         InsnFeed {
@@ -57,7 +57,7 @@ impl InsnFeed {
         }
     }
 
-    /// How many bytes of the stream are held, since they begin an instruction that hasn't come whole.
+    /// The number of bytes of the stream that are held. They begin an instruction that hasn't come whole.
     pub fn held(&self) -> usize
         ensures held { result ≡ length self.now.held }
         ensures bound { result < 16 }
@@ -65,14 +65,14 @@ impl InsnFeed {
         self.held_len
     }
 
-    /// How many bytes of the stream came, through the end of the last piece that was taken.
+    /// The number of bytes of the stream that came, through the end of the last piece that was taken.
     pub fn fed(&self) -> u64
         ensures { result ≡ self.now.fed }
     {
         self.fed
     }
 
-    /// How many instructions of the stream were whole.
+    /// The number of instructions of the stream that were whole.
     pub fn count(&self) -> u64
         ensures { result ≡ self.now.count }
     {
@@ -84,9 +84,9 @@ impl InsnFeed {
     ///
     /// # Errors
     ///
-    /// `Fault` where the stream has a fault that no more bytes can mend, with its place counted from the stream's first
-    /// byte. `out` has then gained the instructions before it, and every later call answers this fault and changes
-    /// nothing. `Memory` where the allocator refuses room; nothing has changed then, and the piece may be fed again. An empty
+    /// `Fault` if the stream has a fault that no more bytes can mend, with its place counted from the stream's first
+    /// byte. `out` has then gained the instructions before it, and every later call returns this fault and changes
+    /// nothing. `Memory` if the allocator is out of memory; nothing has changed then, and the piece may be fed again. An empty
     /// piece takes no memory, and neither does a piece after a fault.
     pub fn feed<A: Allocator>(
         &mut self,
@@ -95,13 +95,13 @@ impl InsnFeed {
     ) -> Result<(), InsnError>
         requires { self.old.fed + length piece.now ≤ u64.MAX }
 
-        // Where no fault is kept: the feed and the output move on with each stream that the feed stands for, and the
+        // If no fault is kept, the feed and the output move on with each stream that the feed represents, and the
         // answer is that of the longer stream.
         ensures moves { IsNone self.old.fault → Feeds self.old self.new piece.now out.old.items out.new.items result }
-        ensures answer { (o to : Order) (b : List ℕ) → IsNone self.old.fault → Stands self.old o to b
+        ensures answer { (o to : Order) (b : List ℕ) → IsNone self.old.fault → Represents self.old o to b
             → AnswersFor o (b ++ piece.now) result }
 
-        // A fault that is kept is told again, and nothing changes.
+        // A fault that is kept is reported again, and nothing changes.
         ensures kept { IfSome self.old.fault (λ f. IsErrOf result (InsnError.Fault f)
             × ((self.new ≡ self.old) × (out.new.items ≡ out.old.items))) }
 
@@ -132,10 +132,10 @@ impl InsnFeed {
     ///
     /// # Errors
     ///
-    /// The fault of the stream: the one that was told before, or `Truncated` at the slot whose bytes are missing.
+    /// The fault of the stream: the one that was reported before, or `Truncated` at the slot whose bytes are missing.
     pub fn finish(self) -> Result<u64, SlotFault>
-        ensures end { result ≡ end_of self }
-        ensures answer { (o to : Order) (b : List ℕ) → Stands self o to b → Finishes o b result }
+        ensures end { result ≡ end_of_feed self }
+        ensures answer { (o to : Order) (b : List ℕ) → Represents self o to b → Finishes o b result }
     {
         match self.fault {
             Some(fault) => Err(fault),
@@ -147,7 +147,7 @@ impl InsnFeed {
         }
     }
 
-    // Reads the whole instructions of what is held and the piece, for which there is room.
+    /// Reads the whole instructions of what is held and the piece, for which there is room.
     fn advance<A: Allocator>(&mut self, piece: &[u8], out: &mut Vec<u8, A>)
         requires fits { self.old.fed + length piece.now ≤ u64.MAX }
         requires sound { self.old.fault ≡ None }
@@ -176,14 +176,14 @@ impl InsnFeed {
     }
 }
 
-// Where the slot begins whose bytes are missing, where so many are held.
+/// The start of the slot whose bytes are missing, counted from the first of the `held_len` bytes that are held.
 fn missing_slot(held_len: usize) -> u64
     ensures { result ≡ missing_place held_len }
 {
     if held_len < 8 { 0 } else { 8 }
 }
 
-// Puts some bytes behind the first ones of an array, and tells how many stand there now.
+/// Copies bytes after the first `kept` ones of an array, and returns the number of bytes there now.
 fn hold(held: &mut [u8; 16], kept: usize, more: &[u8]) -> usize
     requires { kept + length more.now ≤ 16 }
     ensures len { result ≡ kept + length more.now }

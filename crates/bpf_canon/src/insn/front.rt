@@ -8,18 +8,18 @@ use crate::insn::write::append_insn;
 use bpf_insn::{Insn, Order, SlotFault, insn_len, read_insn};
 use std::alloc::Allocator;
 
-// How far the whole instructions go.
+/// How far the whole instructions go.
 #[derive(Clone, Copy)]
 pub(crate) struct FrontRead {
     // the bytes of the whole instructions
     pub(crate) len: usize,
-    // how many they are
+    // the number of these instructions
     pub(crate) count: u64,
     // the fault of what follows them, counted from its first byte, where anything does
     pub(crate) stop: Option<SlotFault>,
 }
 
-// Judges the whole instructions at the front of some bytes.
+/// Judges the whole instructions at the front of some bytes.
 fn judge_front(order: Order, bytes: &[u8]) -> FrontRead
     ensures { ReadsFront order order bytes.now result [] (take result.len bytes.now) }
 {
@@ -47,7 +47,7 @@ fn judge_front(order: Order, bytes: &[u8]) -> FrontRead
     }
 }
 
-// Reads the whole instructions at the front of some bytes, and appends each in the order `to`.
+/// Reads the whole instructions at the front of some bytes, and appends each in the order `to`.
 pub(crate) fn read_front<A: Allocator>(
     order: Order,
     to: Order,
@@ -63,7 +63,7 @@ pub(crate) fn read_front<A: Allocator>(
     read
 }
 
-// Does the same for some bytes that were held and the piece that follows them.
+/// Does the same for some bytes that were held and the piece that follows them.
 pub(crate) fn read_front_across<A: Allocator>(
     order: Order,
     to: Order,
@@ -99,7 +99,7 @@ pub(crate) fn read_front_across<A: Allocator>(
     }
 }
 
-// The instruction that some held bytes begin and a piece completes, and how many bytes of the piece it takes.
+/// The instruction that some held bytes begin and a piece completes, and the number of bytes of the piece that it takes.
 fn complete(order: Order, held: &[u8], piece: &[u8]) -> Result<(Insn, usize), SlotFault>
     requires short { length held.now < 16 }
     requires unspelled { BeginsNone order held.now }
@@ -117,7 +117,7 @@ fn complete(order: Order, held: &[u8], piece: &[u8]) -> Result<(Insn, usize), Sl
     }
 }
 
-// Two slices, one after the other, and zeros.
+/// Two slices, one after the other, and zeros.
 fn join(first: &[u8], second: &[u8]) -> [u8; 16]
     requires { length first.now + length second.now ≤ 16 }
     ensures { take (length first.now + length second.now) result ≡ first.now ++ second.now }

@@ -1,7 +1,7 @@
-//! Instructions written anew in another order, without reading them again.
+//! Instructions written in another order, without reading them again (RFC 9669 sections 3 and 4).
 //!
-//! The two orders differ in the register byte and in the order of the bytes of words, and a wide load's second slot
-//! holds zeros where a first slot has its opcode, registers and offset. So each 8 bytes are written anew alike.
+//! The two orders differ in the register byte and in the order of the bytes of words. The second slot of a wide load has
+//! zeros for opcode, registers and offset. So every slot of 8 bytes is recoded in the same way.
 ghost use Rattle.std.specs.Prelude.{◌≡◌, ◌≢◌, ◌≤◌, ◌+◌, ◌++◌, List, length, vec_len, vec_capacity};
 ghost use Rattle.bpf_words.specs.declared.Order.{Order};
 ghost use Rattle.bpf_words.specs.Slots.{AreFields, Fields, spelled};
@@ -12,7 +12,7 @@ use bpf_insn::Order;
 use bpf_words::slot_of;
 use std::alloc::Allocator;
 
-// Appends the bytes of instructions, which some bytes spell in one order, in the order `to`. There is room for them.
+/// Appends the instructions that the bytes spell in the order `order`, in the order `to`. There is room for them.
 pub(crate) fn append_recoded<A: Allocator>(
     order: Order,
     to: Order,
@@ -29,21 +29,21 @@ pub(crate) fn append_recoded<A: Allocator>(
     }
 }
 
-// Appends each slot in the order `to`, which is the other one.
+/// Appends each slot in the order `to`, which is the other one.
 fn append_swapped<A: Allocator>(order: Order, to: Order, bytes: &[u8], out: &mut Vec<u8, A>)
     requires other { order ≢ to }
     requires room { vec_len out.old + length bytes.now ≤ vec_capacity out.old }
     ensures { (insns : List Insn) → InsnFile order bytes.now insns → out.new.items ≡ out.old.items ++ file_of to insns }
 {
     let mut rest = bytes;
-    'slots: while let Some((slot, behind)) = rest.split_first_chunk::<8>() {
+    'slots: while let Some((slot, following)) = rest.split_first_chunk::<8>() {
         append_bytes(out, swapped(order, slot));
-        rest = behind;
+        rest = following;
     }
 }
 
-// The bytes of a slot in the other order: the halves of the register byte, the two bytes of the offset and the four of
-// the immediate stand the other way round.
+/// The bytes of a slot in the other order. The halves of the register byte, the two bytes of the offset and the four bytes
+/// of the immediate are reversed.
 #[inline(always)]
 fn swapped(order: Order, slot: &[u8; 8]) -> [u8; 8]
     ensures { (slot_fields : Fields) × (AreFields slot_fields × ((slot.now ≡ spelled order slot_fields)
@@ -61,7 +61,7 @@ fn swapped(order: Order, slot: &[u8; 8]) -> [u8; 8]
     word.to_le_bytes()
 }
 
-// Appends the bytes of a slot, for which there is room.
+/// Appends the bytes of a slot, for which there is room.
 #[inline(always)]
 fn append_bytes<A: Allocator>(out: &mut Vec<u8, A>, bytes: [u8; 8])
     requires { vec_len out.old + 8 ≤ vec_capacity out.old }

@@ -12,24 +12,24 @@ use crate::insn::feed::InsnFeed;
 use bpf_insn::{InsnError, Order, SlotFault};
 use std::alloc::Allocator;
 
-/// How many bytes of instructions an engine takes from a source: 64 MiB.
+/// The most bytes of instructions that an engine takes from a source: 64 MiB.
 pub const INSN_LIMIT: u64 = 67_108_864;
 
-/// Reads instructions in one order to the source's end, and writes them in another as they come. The answer is how many
-/// bytes were written. Each read offers 4,096 bytes of room, and the input isn't kept.
+/// Reads instructions in one order to the source's end, and writes them in another as they come. It returns the number of
+/// bytes written. Each read offers 4,096 bytes of room, and the input isn't kept.
 ///
 /// # Errors
 ///
-/// In each, `written` is how many bytes the sink took.
+/// In each, `written` is the number of bytes that the sink took.
 ///
-/// - `Fault` where the input is no file of instructions: its first fault, with its place counted from the first byte.
-///   A fault in a complete slot comes before `ReadFailed` and `TooLong`; `Truncated` is told only where the source ended.
-/// - `TooLong` where more than [`INSN_LIMIT`] bytes came.
-/// - `ReadFailed` and `WriteFailed` where that device failed.
-/// - `Memory` where the allocator refuses room for a piece.
+/// - `Fault` if the input is no file of instructions: its first fault, with its place counted from the first byte.
+///   A fault in a complete slot comes before `ReadFailed` and `TooLong`; `Truncated` is reported only once the source ended.
+/// - `TooLong` if more than [`INSN_LIMIT`] bytes came.
+/// - `ReadFailed` and `WriteFailed` if that device failed.
+/// - `Memory` if the allocator is out of memory.
 ///
 /// At `Fault`, `TooLong` and `ReadFailed` the sink has taken the bytes of each whole instruction before the fault or the
-/// end of what was read within the limit. At `WriteFailed` and `Memory` it has taken a prefix of these.
+/// end of what was read within the limit. At `WriteFailed` and `Memory` it has taken a prefix of them.
 pub fn run_insns<A: Allocator, S: ByteSource, W: ByteSink>(
     alloc: A,
     source: &mut S,
@@ -43,7 +43,7 @@ pub fn run_insns<A: Allocator, S: ByteSource, W: ByteSink>(
     ensures ok { IfOk result (RanWhole (devices (S.remaining source.old) (S.remaining source.new) (W.contents sink.old) (W.contents sink.new)) order to) }
     ensures err { IfErr result (λ e. Stops (devices (S.remaining source.old) (S.remaining source.new) (W.contents sink.old) (W.contents sink.new)) order to e.written e.cause) }
 
-    // Each failure of a device is told, and none is told that wasn't.
+    // Each failure of a device is reported, and nothing else is reported as one.
     ensures healthy { OnOk result ((S.failures source.new ≡ S.failures source.old) × (W.failures sink.new ≡ W.failures sink.old)) }
     ensures reads { IfErr result (λ e. S.failures source.new ≡ S.failures source.old + counts_read e.cause) }
     ensures writes { IfErr result (λ e. W.failures sink.new ≡ W.failures sink.old + counts_write e.cause) }
@@ -73,7 +73,7 @@ pub fn run_insns<A: Allocator, S: ByteSource, W: ByteSink>(
     }
 }
 
-// How many of n bytes are within the limit, where some came before.
+/// How many of n bytes are within the limit, if `before` bytes came before them.
 fn within_limit(n: usize, before: u64) -> usize
     requires { before ≤ INSN_LIMIT }
     ensures { result ≡ min n (INSN_LIMIT - before) }
@@ -81,7 +81,7 @@ fn within_limit(n: usize, before: u64) -> usize
     n.min((INSN_LIMIT - before) as usize)
 }
 
-// Feeds a piece, and writes what became whole. The vector is used over again.
+/// Feeds a piece, and writes what became whole. The vector is used again for each piece.
 fn pass_on<A: Allocator, W: ByteSink>(
     feed: &mut InsnFeed,
     piece: &[u8],

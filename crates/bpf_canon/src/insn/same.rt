@@ -12,8 +12,8 @@ use std::alloc::Allocator;
 ///
 /// # Errors
 ///
-/// `First` and `Second` where that file is no file of instructions: its first fault, with its place counted from the
-/// file's first byte. `Second` is told only where the first file has no fault. `Memory` where the allocator refuses room.
+/// `First` and `Second` if that file is no file of instructions: its first fault, with its place counted from the
+/// file's first byte. `Second` is reported only if the first file has no fault. `Memory` if the allocator is out of memory.
 pub fn same_insns<A: Allocator>(
     alloc: A,
     order_a: Order,

@@ -10,7 +10,7 @@ use std::alloc::{AllocError, Allocator};
 ///
 /// # Errors
 ///
-/// `AllocError` where the allocator refuses room for the bytes.
+/// `AllocError` if the allocator is out of memory.
 pub fn write_insns<A: Allocator>(
     alloc: A,
     order: Order,
@@ -25,7 +25,7 @@ pub fn write_insns<A: Allocator>(
     Ok(bytes)
 }
 
-// Appends the bytes of an instruction.
+/// Appends the bytes of an instruction.
 fn push_insn<A: Allocator>(out: &mut Vec<u8, A>, order: Order, insn: Insn) -> Result<(), AllocError>
     ensures ok { OnOk result (out.new.items ≡ out.old.items ++ spelling order insn) }
     ensures in_range { IsInsn insn }
@@ -34,7 +34,7 @@ fn push_insn<A: Allocator>(out: &mut Vec<u8, A>, order: Order, insn: Insn) -> Re
     out.extend_from_slice(&spelled.0[..spelled.1])
 }
 
-// Appends the bytes of an instruction, for which there is room.
+/// Appends the bytes of an instruction, for which there is room.
 pub(crate) fn append_insn<A: Allocator>(out: &mut Vec<u8, A>, order: Order, insn: Insn)
     requires { vec_len out.old + length (spelling order insn) ≤ vec_capacity out.old }
     ensures items { out.new.items ≡ out.old.items ++ spelling order insn }

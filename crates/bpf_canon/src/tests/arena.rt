@@ -1,6 +1,6 @@
 //! Arenas of one chunk with a given number of free bytes, and what calls over them returned.
 //!
-//! A test gives a call 0 bytes, 1 byte, and so on. So each growth is refused that takes a byte more than the ones before it.
+//! A test gives a call 0 bytes, 1 byte, and so on. So each growth that takes more than the ones before it fails once.
 use bumpalo::Bump;
 use std::alloc::Global;
 use std::process::Abort;
@@ -27,7 +27,7 @@ pub(crate) fn leave(rt: &impl Abort, bump: &Bump<Global>, room: usize) {
 pub(crate) struct Tally {
     /// How many rooms were too small, from 0 bytes on.
     pub(crate) refused: usize,
-    /// At how many places of the call growths were refused, as far as the call can tell them apart.
+    /// The number of places of the call at which growths failed, as far as the call distinguishes them.
     pub(crate) places: usize,
     /// How many rooms were enough.
     pub(crate) done: usize,
@@ -44,7 +44,7 @@ impl Tally {
         }
     }
 
-    /// Makes a call with ever more room, which returns the place where it was refused memory.
+    /// Makes a call with ever more room. The call returns the place where it ran out of memory.
     pub(crate) fn of<Call: FnMut(&Bump<Global>) -> Option<usize>>(
         rt: &impl Abort,
         alloc: Global,
@@ -72,9 +72,9 @@ impl Tally {
         self.done = self.done.saturating_add(1);
     }
 
-    /// Counts a call that was refused memory, when it had come so far. With more room it comes no less far.
+    /// Counts a call that ran out of memory at a place. With more room it gets at least as far.
     pub(crate) fn refuse(&mut self, rt: &impl Abort, place: usize) {
-        assert!(rt; self.done == 0, "a call with more room is refused memory");
+        assert!(rt; self.done == 0, "a call with more room runs out of memory");
         assert!(rt;
             self.last_place <= Some(place),
             "a call with more room comes less far"

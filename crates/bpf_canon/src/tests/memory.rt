@@ -1,4 +1,4 @@
-//! Each growth of the calls on instructions is refused in turn.
+//! Each growth of the calls on instructions fails in turn.
 use super::arena::Tally;
 use super::expect::{equal, equal_bytes};
 use crate::{
@@ -22,7 +22,7 @@ const FAULT: SlotFault = SlotFault {
 
 /// The vector grows for the first piece, and more than once after it.
 #[test]
-fn of_reading_whole(rt: HostRuntime) -> Result<(), Fail> {
+fn read_all_runs_out_of_memory(rt: HostRuntime) -> Result<(), Fail> {
     let tally = Tally::of(&rt, rt.alloc(), |bump| {
         let mut source = MemSource::new(FILE, 5, None);
         match read_all(bump, &mut source, 100) {
@@ -42,7 +42,7 @@ fn of_reading_whole(rt: HostRuntime) -> Result<(), Fail> {
 }
 
 #[test]
-fn of_writing_instructions(rt: HostRuntime) -> Result<(), Fail> {
+fn write_insns_runs_out_of_memory(rt: HostRuntime) -> Result<(), Fail> {
     let insns = [Insn::Exit; 7];
     let tally = Tally::of(&rt, rt.alloc(), |bump| {
         match write_insns(bump, Order::Little, &insns) {
@@ -58,7 +58,7 @@ fn of_writing_instructions(rt: HostRuntime) -> Result<(), Fail> {
 }
 
 #[test]
-fn of_canonical_bytes(rt: HostRuntime) -> Result<(), Fail> {
+fn canon_insns_runs_out_of_memory(rt: HostRuntime) -> Result<(), Fail> {
     let tally = Tally::of(&rt, rt.alloc(), |bump| {
         match canon_insns(bump, Order::Little, &FILE[..56]) {
             Ok(canon) => {
@@ -74,7 +74,7 @@ fn of_canonical_bytes(rt: HostRuntime) -> Result<(), Fail> {
 }
 
 #[test]
-fn of_recoding(rt: HostRuntime) -> Result<(), Fail> {
+fn recode_insns_runs_out_of_memory(rt: HostRuntime) -> Result<(), Fail> {
     let tally = Tally::of(&rt, rt.alloc(), |bump| {
         match recode_insns(bump, Order::Little, Order::Big, &FILE[..56]) {
             Ok(written) => {
@@ -92,7 +92,7 @@ fn of_recoding(rt: HostRuntime) -> Result<(), Fail> {
 
 /// The fault of a faulty file is never another.
 #[test]
-fn of_canonical_bytes_of_a_faulty_file(rt: HostRuntime) -> Result<(), Fail> {
+fn canon_insns_of_a_faulty_file_runs_out_of_memory(rt: HostRuntime) -> Result<(), Fail> {
     let tally = Tally::of(&rt, rt.alloc(), |bump| {
         match canon_insns(bump, Order::Little, FILE) {
             Ok(_) => panic!(rt; "a faulty file is accepted"),
@@ -126,9 +126,9 @@ fn refused_comparing(
     Ok(tally.refused)
 }
 
-/// An empty file takes no memory. So the rooms that are too small only for two files are refused while the second is read.
+/// An empty file takes no memory. So a room that is too small only for two files runs out while the second is read.
 #[test]
-fn of_comparison(rt: HostRuntime) -> Result<(), Fail> {
+fn same_insns_runs_out_of_memory(rt: HostRuntime) -> Result<(), Fail> {
     let first = refused_comparing(&rt, rt.alloc(), b"", Ok(false))?;
     let both = refused_comparing(&rt, rt.alloc(), &FILE[..56], Ok(true))?;
     let faulty = refused_comparing(&rt, rt.alloc(), FILE, Err(SideError::Second(FAULT)))?;
@@ -136,7 +136,7 @@ fn of_comparison(rt: HostRuntime) -> Result<(), Fail> {
     Ok(())
 }
 
-/// Feeds exits in pieces of 14 bytes. The answer is how many bytes came before a growth was refused.
+/// Feeds exits in pieces of 14 bytes. It returns the number of bytes that came before a growth failed.
 fn feed_pieces<A: Allocator>(rt: &impl Abort, out: &mut Vec<u8, A>) -> usize {
     let mut feed = InsnFeed::new(Order::Little, Order::Little);
     let mut at = 0;
@@ -164,7 +164,7 @@ fn feed_pieces<A: Allocator>(rt: &impl Abort, out: &mut Vec<u8, A>) -> usize {
 
 /// The vector grows for the first piece, and for later ones.
 #[test]
-fn of_the_feed(rt: HostRuntime) -> Result<(), Fail> {
+fn a_feed_runs_out_of_memory(rt: HostRuntime) -> Result<(), Fail> {
     let tally = Tally::of(&rt, rt.alloc(), |bump| {
         let mut out = Vec::new(bump);
         let at = feed_pieces(&rt, &mut out);
@@ -176,9 +176,9 @@ fn of_the_feed(rt: HostRuntime) -> Result<(), Fail> {
     Ok(())
 }
 
-/// Where the engine is refused room for a piece, it has written the instructions before it.
+/// An engine that has no room for a piece has written the instructions before it.
 #[test]
-fn of_the_engine(rt: HostRuntime) -> Result<(), Fail> {
+fn run_insns_runs_out_of_memory(rt: HostRuntime) -> Result<(), Fail> {
     let faulty = RunError {
         cause: RunCause::Fault(FAULT),
         written: 56,
@@ -205,9 +205,9 @@ fn of_the_engine(rt: HostRuntime) -> Result<(), Fail> {
     Ok(())
 }
 
-/// A growth of the sink's vector that is refused is a failed write, the first growth and each later one.
+/// A growth of the sink's vector that fails is a failed write, the first growth and each later one.
 #[test]
-fn of_a_sink(rt: HostRuntime) -> Result<(), Fail> {
+fn a_sink_runs_out_of_memory(rt: HostRuntime) -> Result<(), Fail> {
     let tally = Tally::of(&rt, rt.alloc(), |bump| {
         let mut source = MemSource::new(&FILE[..56], 24, None);
         let mut out = Vec::new(bump);

@@ -1,4 +1,4 @@
-//! Each growth of the calls on BTF is refused in turn. The files have 26 types with 28 names, more than are sorted in place.
+//! Each growth of the calls on BTF fails in turn. The files have 26 types with 28 names, more than are sorted in place.
 use super::arena::Tally;
 use super::btf_files::{BIG_INT, LOOSE_INT};
 use super::compiled_types::{FLOW_TABLE_BIG, FLOW_TABLE_LITTLE};
@@ -18,7 +18,7 @@ use std::test::Fail;
 const CANONICAL_LEN: usize = 751;
 
 #[test]
-fn of_writing_btf(rt: HostRuntime) -> Result<(), Fail> {
+fn write_btf_runs_out_of_memory(rt: HostRuntime) -> Result<(), Fail> {
     let view = BtfView::parse(rt.alloc(), FLOW_TABLE_LITTLE)?;
     let ample = write_btf(rt.alloc(), Order::Big, &view)?;
     equal(&rt, &ample.len(), &CANONICAL_LEN, &"the length");
@@ -48,7 +48,7 @@ fn refused_reading(rt: &impl Abort, alloc: Global, file: &[u8]) -> Result<usize,
 }
 
 #[test]
-fn of_canonical_btf(rt: HostRuntime) -> Result<(), Fail> {
+fn canon_btf_runs_out_of_memory(rt: HostRuntime) -> Result<(), Fail> {
     let ample = canon_btf(rt.alloc(), FLOW_TABLE_BIG)?;
     equal(&rt, &ample.len(), &CANONICAL_LEN, &"the length");
     let tally = Tally::of(&rt, rt.alloc(), |bump| {
@@ -61,7 +61,7 @@ fn of_canonical_btf(rt: HostRuntime) -> Result<(), Fail> {
             Err(BtfError::Fault(_)) => panic!(rt; "a fault of a good file"),
         }
     })?;
-    // Rooms are refused in which the file is read.
+    // Some rooms are enough to read the file, but not to write it.
     let reading = refused_reading(&rt, rt.alloc(), FLOW_TABLE_BIG)?;
     assert!(rt; tally.refused >= CANONICAL_LEN && tally.refused > reading);
     Ok(())
@@ -86,10 +86,9 @@ fn refused_comparing(
     Ok(tally.refused)
 }
 
-/// The fault of a header takes no memory. So the rooms that are too small only for two good files are refused while the second is
-/// read.
+/// The fault of a header takes no memory. So a room that is too small only for two good files runs out while the second is read.
 #[test]
-fn of_comparing_btf(rt: HostRuntime) -> Result<(), Fail> {
+fn same_btf_runs_out_of_memory(rt: HostRuntime) -> Result<(), Fail> {
     let short = BtfFault {
         pos: 0,
         cause: BtfCause::ShortHeader,
@@ -113,7 +112,7 @@ fn of_comparing_btf(rt: HostRuntime) -> Result<(), Fail> {
 }
 
 #[test]
-fn of_running_btf(rt: HostRuntime) -> Result<(), Fail> {
+fn run_btf_runs_out_of_memory(rt: HostRuntime) -> Result<(), Fail> {
     let ample = canon_btf(rt.alloc(), FLOW_TABLE_BIG)?;
     let mut after_reading = 0_usize;
     let tally = Tally::of(&rt, rt.alloc(), |bump| {
@@ -141,9 +140,9 @@ fn of_running_btf(rt: HostRuntime) -> Result<(), Fail> {
     Ok(())
 }
 
-/// A growth of the sink's vector that is refused is a failed write, the first growth and each later one.
+/// A growth of the sink's vector that fails is a failed write, the first growth and each later one.
 #[test]
-fn of_a_sink_of_btf(rt: HostRuntime) -> Result<(), Fail> {
+fn a_sink_of_btf_runs_out_of_memory(rt: HostRuntime) -> Result<(), Fail> {
     let tally = Tally::of(&rt, rt.alloc(), |bump| {
         let mut source = MemSource::new(LOOSE_INT, 5, None);
         let mut out = Vec::new(bump);

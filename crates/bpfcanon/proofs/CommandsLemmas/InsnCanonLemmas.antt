@@ -13,7 +13,7 @@ use Rattle.bpf_canon.specs.declared.engine.RunCause.{RunCause}
 use Rattle.bpf_canon.specs.declared.engine.RunCause.TheVariants as cause
 use Rattle.bpf_canon.specs.Engine.{Devices, counts_read, counts_write}
 use Rattle.bpf_canon.specs.insn.Run.{RanWhole, Stops, StopsAtFault, StopsTooLong, StopsUnread, StopsUnwritten, Wrote, WroteAll, limit}
-use Rattle.bpf_canon.specs.insn.Stands.{IsSound}
+use Rattle.bpf_canon.specs.insn.FeedStream.{IsSound}
 use Rattle.bpf_canon.proofs.InsnLemmas.FrontLaws.{file_front, truncated_or_not}
 use Rattle.bpfcanon.specs.declared.job.Job.{Job}
 use Rattle.bpfcanon.specs.declared.outcome.Outcome.{Outcome}

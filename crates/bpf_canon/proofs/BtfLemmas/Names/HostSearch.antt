@@ -11,7 +11,7 @@ use Rattle.btf_types.proofs.StringLemmas.Distinct.{NoRepeats-kept}
 use Rattle.btf_types.proofs.StringLemmas.Neighbours.{next_host, own_host}
 use Rattle.btf_types.specs.Names.{kept}
 
--- The hosts of the names from k on are found, and each name before k stands for its own.
+-- The hosts of the names from k on are found, and each name before k is its own host so far.
 pub record HostsFrom (sorted hosts : List (Bor (List ℕ))) (k : ℕ) : Type 0 where
   pub as_long : length hosts ≡ length sorted
   pub before : (j : ℕ) (d : Bor (List ℕ)) → j < k → get_or hosts j d ≡ get_or sorted j d

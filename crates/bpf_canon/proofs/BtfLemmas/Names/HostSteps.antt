@@ -23,14 +23,14 @@ use Rattle.bpf_canon.proofs.BtfLemmas.Names.PlaceSteps.{text_eq}
 use Rattle.bpf_canon.proofs.BtfLemmas.Names.HostSearch.{text_at, texts_length}
 
 -- whether a set of lent texts has a text
-set_tells : (k : Bor (List ℕ)) (ks : List (Bor (List ℕ))) → list_any (text_eq k) ks ≡ list_any (bytes_eq k.now) (lent_texts ks)
-set_tells k [] = refl
-set_tells k (y ∷ ys) = ap (λ (b : Bool). bytes_eq k.now y.now || b) (set_tells k ys)
+set_iff_any : (k : Bor (List ℕ)) (ks : List (Bor (List ℕ))) → list_any (text_eq k) ks ≡ list_any (bytes_eq k.now) (lent_texts ks)
+set_iff_any k [] = refl
+set_iff_any k (y ∷ ys) = ap (λ (b : Bool). bytes_eq k.now y.now || b) (set_iff_any k ys)
 
 -- which of the texts a text is
 pub index_found : (ks : List (Bor (List ℕ))) (now : List (List ℕ)) (x : Bor (List ℕ)) (r : Option ℕ) → lent_texts ks ≡ now → Contains now x.now → is_some r ≡ list_any (text_eq x) ks → IsSome r
-index_found ks now x r same c tells =
-    tells ∙ set_tells x ks ∙ ap (list_any (bytes_eq x.now)) same ∙ test_from_Has now x.now (Has-from_Contains now x.now c)
+index_found ks now x r same c is_in =
+    is_in ∙ set_iff_any x ks ∙ ap (list_any (bytes_eq x.now)) same ∙ test_from_Has now x.now (Has-from_Contains now x.now c)
 
 pub index_text : (ks : List (Bor (List ℕ))) (now : List (List ℕ)) (x : Bor (List ℕ)) (i : ℕ) → lent_texts ks ≡ now → position (text_eq x) ks ≡ Some i → (d : List ℕ) → get_or now i d ≡ x.now
 index_text ks now x i same found d =
@@ -43,12 +43,12 @@ texts_push ks k = map-append (λ (n : Bor (List ℕ)). n.now) ks (k ∷ [])
 
 -- what an insert makes of the texts
 pub set_known : (ks : List (Bor (List ℕ))) (k : Bor (List ℕ)) → Has (lent_texts ks) k.now → insert_key text_eq ks k ≡ ks
-set_known ks k h = cond-true (list_any (text_eq k) ks) ks (ks ++ k ∷ []) (set_tells k ks ∙ test_from_Has (lent_texts ks) k.now h)
+set_known ks k h = cond-true (list_any (text_eq k) ks) ks (ks ++ k ∷ []) (set_iff_any k ks ∙ test_from_Has (lent_texts ks) k.now h)
 
 pub set_new : (ks : List (Bor (List ℕ))) (k : Bor (List ℕ)) → ¬ Has (lent_texts ks) k.now → lent_texts (insert_key text_eq ks k) ≡ lent_texts ks ++ k.now ∷ []
 set_new ks k n =
     let none : list_any (text_eq k) ks ≡ false = elim (cases_Bool (list_any (text_eq k) ks)) [
-      | inl t ↦ absurd (n (Has_from_test (lent_texts ks) k.now (sym (set_tells k ks) ∙ t)))
+      | inl t ↦ absurd (n (Has_from_test (lent_texts ks) k.now (sym (set_iff_any k ks) ∙ t)))
       | inr f ↦ f
     ] in
     ap lent_texts (cond-false (list_any (text_eq k) ks) ks (ks ++ k ∷ []) none) ∙ texts_push ks k
@@ -108,12 +108,12 @@ MapsTo-push es f ks k v m e x c = elim (cases_Bool (bytes_eq x k.now)) [
 ]
 
 -- what a look-up gives
-pub told_some : (x y : List ℕ) (es : List (Bor (List ℕ) × Bor (List ℕ))) (r : Option (Bor (Bor (List ℕ)))) → option_copied r ≡ lookup (λ (k : Bor (List ℕ)). bytes_eq x k.now) es → looked_up x es ≡ Some y → IsSome r
-told_some x y es None e told = absurd (let n : None ≡ Some y = ap (option_map (λ (b : Bor (List ℕ)). b.now)) e ∙ told in cc)
-told_some x y es (Some b) e told = refl
+pub looked_up_some : (x y : List ℕ) (es : List (Bor (List ℕ) × Bor (List ℕ))) (r : Option (Bor (Bor (List ℕ)))) → option_copied r ≡ lookup (λ (k : Bor (List ℕ)). bytes_eq x k.now) es → looked_up x es ≡ Some y → IsSome r
+looked_up_some x y es None e looked = absurd (let n : None ≡ Some y = ap (option_map (λ (b : Bor (List ℕ)). b.now)) e ∙ looked in cc)
+looked_up_some x y es (Some b) e looked = refl
 
-pub told_text : (x y : List ℕ) (es : List (Bor (List ℕ) × Bor (List ℕ))) (v : Bor (Bor (List ℕ))) → option_copied (Some v) ≡ lookup (λ (k : Bor (List ℕ)). bytes_eq x k.now) es → looked_up x es ≡ Some y → v.now.now ≡ y
-told_text x y es v e told = let both : Some v.now.now ≡ Some y = ap (option_map (λ (b : Bor (List ℕ)). b.now)) e ∙ told in cc
+pub looked_up_text : (x y : List ℕ) (es : List (Bor (List ℕ) × Bor (List ℕ))) (v : Bor (Bor (List ℕ))) → option_copied (Some v) ≡ lookup (λ (k : Bor (List ℕ)). bytes_eq x k.now) es → looked_up x es ≡ Some y → v.now.now ≡ y
+looked_up_text x y es v e looked = let both : Some v.now.now ≡ Some y = ap (option_map (λ (b : Bor (List ℕ)). b.now)) e ∙ looked in cc
 
 pub filter_all : (p : List ℕ → Bool) (xs : List (List ℕ)) → ((y : List ℕ) → Has xs y → p y ≡ true) → filter p xs ≡ xs
 filter_all p [] h = refl

@@ -20,11 +20,11 @@ Entries = List (Bor (List ℕ) × ℕ)
 abbrev pub found : List ℕ → Entries → Option ℕ
 found q es = lookup (λ (k : Bor (List ℕ)). bytes_eq q k.now) es
 
-pub found_tells : (q : List ℕ) (es : Entries) → is_some (found q es) ≡ list_any (bytes_eq q) (texts_of es)
-found_tells q [] = refl
-found_tells q (e ∷ es) = elim (cases_Bool (bytes_eq q e.0.now)) [
+pub found_iff_any : (q : List ℕ) (es : Entries) → is_some (found q es) ≡ list_any (bytes_eq q) (texts_of es)
+found_iff_any q [] = refl
+found_iff_any q (e ∷ es) = elim (cases_Bool (bytes_eq q e.0.now)) [
   | inl t ↦ rw t
-  | inr f ↦ rw f (found_tells q es)
+  | inr f ↦ rw f (found_iff_any q es)
 ]
 
 pub found_value : (f : List ℕ → ℕ) (q : List ℕ) (es : Entries) (v : ℕ) → map (λ e. e.1) es ≡ map f (texts_of es) → found q es ≡ Some v → v ≡ f q
@@ -70,7 +70,7 @@ inserted_new (e ∷ es) k v n = elim (cases_Bool (bytes_eq k.now e.0.now)) [
 ]
 
 pub absent : (es : Entries) (x : List ℕ) → is_some (found x es) ≡ false → ¬ Has (texts_of es) x
-absent es x n h = both_ways (is_some (found x es)) n (found_tells x es ∙ test_from_Has (texts_of es) x h)
+absent es x n h = both_ways (is_some (found x es)) n (found_iff_any x es ∙ test_from_Has (texts_of es) x h)
 
 pub empty_adds : (ks : List (List ℕ)) (x : List ℕ) → eqb (length x) 0 ≡ true → AddsName ks ks x
 empty_adds ks x t xs e =
@@ -79,7 +79,7 @@ empty_adds ks x t xs e =
 
 pub known_adds : (es : Entries) (ks : List (List ℕ)) (x : List ℕ) → texts_of es ≡ ks → is_some (found x es) ≡ true → AddsName ks ks x
 known_adds es ks x same t xs e =
-    let there : Has (kept xs) x = subst (λ (l : List (List ℕ)). Has l x) (same ∙ e) (Has_from_test (texts_of es) x (sym (found_tells x es) ∙ t)) in
+    let there : Has (kept xs) x = subst (λ (l : List (List ℕ)). Has l x) (same ∙ e) (Has_from_test (texts_of es) x (sym (found_iff_any x es) ∙ t)) in
     e ∙ sym (kept_known xs x there)
 
 pub new_adds : (es fs : Entries) (ks : List (List ℕ)) (k : Bor (List ℕ)) (len : ℕ) → texts_of es ≡ ks → eqb (length k.now) 0 ≡ false → is_some (found k.now es) ≡ false → fs ≡ insert_entry text_eq es k len → AddsName ks (texts_of fs) k.now
@@ -94,7 +94,7 @@ new_places es fs k len a n f = subst (λ (l : Entries). ArePlaces l (len + (leng
 
 -- what is there has its place
 pub there : (es : Entries) (ks : List (List ℕ)) (x : List ℕ) → texts_of es ≡ ks → Has ks x → is_some (found x es) ≡ true
-there es ks x same h = found_tells x es ∙ test_from_Has (texts_of es) x (subst (λ (l : List (List ℕ)). Has l x) (sym same) h)
+there es ks x same h = found_iff_any x es ∙ test_from_Has (texts_of es) x (subst (λ (l : List (List ℕ)). Has l x) (sym same) h)
 
 pub its_place : (es : Entries) (ks : List (List ℕ)) (len : ℕ) (x : List ℕ) (v : ℕ) → texts_of es ≡ ks → ArePlaces es len → eqb (length x) 0 ≡ false → found x es ≡ Some v → v ≡ place_among ks x
 its_place es ks len [] v same a some f = absurd (both_ways (eqb 0 0) some refl)

@@ -1,4 +1,4 @@
--- What the parts of the shared names say together: the host of each name, and where the name stands.
+-- What the parts of the shared names say together: the host of each name, and its place.
 use Rattle.std.proofs.Common.{◌≡◌, ℕ, ◌+◌, ◌-◌, ◌<◌, ◌≤◌, ◌^◌, true, ◌⊎◌, inr, List, [], ◌∷◌, ◌++◌, length, map, take, get_or, sym, ap, ◌∙◌, subst, arith, Bor, Some}
 use Rattle.std.specs.List.{Contains, flat_map, before_first, after_first}
 use Rattle.std.specs.Str.{bytes_eq}

@@ -1,4 +1,4 @@
--- What one offset more does to those that are noted, and to the names that are kept of them.
+-- What one more offset does to the noted offsets, and to the names that are kept of them.
 use Rattle.std.proofs.Common.{◌≡◌, ◌≢◌, ℕ, ◌<◌, ◌⊎◌, true, inl, inr, List, [], ◌∷◌, ◌++◌, length, map, get_or, set, refl, sym, ap, ◌∙◌, subst, arith, append_assoc}
 use Rattle.std.specs.Prelude.{nat_eq}
 use Rattle.std.specs.List.{list_any, Contains}
@@ -97,7 +97,7 @@ kept_all text offs xs (o ∷ more) e =
     kept_all text (noted offs o) (xs ++ o ∷ []) more (kept_noted text offs xs o e)
     ∙ ap (λ (l : List ℕ). kept (map text l)) (append_assoc xs (o ∷ []) more)
 
--- The names that are kept of all offsets are those that are kept of the noted ones, whatever their texts are.
+-- The names kept of all offsets are the names kept of the noted ones, whatever their texts are.
 pub kept_first_uses : (text : ℕ → List ℕ) (uses : List ℕ) → kept (map text (noted_all [] uses)) ≡ kept (map text uses)
 kept_first_uses text uses = kept_all text [] [] uses refl
 

@@ -6,14 +6,14 @@ use Rattle.std.proofs.Math.Seq.{drop-cons}
 use Rattle.btf_types.specs.strings.SharedNames.{is_suffix}
 use Rattle.btf_types.specs.Reading.{before_nul, text_from}
 use Rattle.btf_types.specs.strings.LongestTexts.{AreLongest}
-use Rattle.bpf_canon.specs.btf.strings.Tails.{tail_text}
+use Rattle.bpf_canon.specs.btf.strings.SectionTexts.{text_in}
 use Rattle.bpf_canon.specs.btf.strings.Longest.{IsUsed, AreLongestOf}
 use Rattle.bpf_canon.specs.btf.strings.FirstUses.{AreMarked}
-use Rattle.bpf_canon.specs.declared.btf.strings.tails.Tail.{Tail}
+use Rattle.bpf_canon.specs.declared.btf.strings.section_texts.SectionText.{SectionText}
 use Rattle.btf_types.proofs.StringLemmas.Suffixes.{suffix_from_Ends}
 use Rattle.bpf_canon.proofs.BtfLemmas.Strings.LongestSteps.{used_text, within_ends}
 
-abbrev none : Tail
+abbrev none : SectionText
 none = record { key = 0; before = 0; start = 0; end = 0 }
 
 -- members of a list that is mapped
@@ -39,19 +39,19 @@ text_some section off inside b z =
     let first : drop off section ≡ get_or section off 0 ∷ drop (suc off) section = drop-cons section off 0 inside in
     first_some (get_or section off 0) (drop (suc off) section) b (sym (ap (λ (l : List ℕ). length (before_nul l)) first) ∙ z)
 
-pub longest_are : (section slots offsets : List ℕ) (ts : List Tail) → AreLongestOf section slots ts → AreMarked offsets slots → All (λ off. off < length section) offsets → AreLongest (map (text_from section) offsets) (map (tail_text section) ts)
-longest_are section slots offsets ts are tell inside = record {
+pub longest_are : (section slots offsets : List ℕ) (ts : List SectionText) → AreLongestOf section slots ts → AreMarked offsets slots → All (λ off. off < length section) offsets → AreLongest (map (text_from section) offsets) (map (text_in section) ts)
+longest_are section slots offsets ts are are_used inside = record {
   among = λ z c.
-      let t = from_map none (tail_text section) ts z c in
+      let t = from_map none (text_in section) ts z c in
       let used = subst (IsUsed section slots) t.1.2 (are.used t.1.0 t.0 t.1.1) in
-      subst (Contains (map (text_from section) offsets)) (sym (used_text section slots t.0 used) ∙ t.2) (in_map (text_from section) offsets t.0.start (tell.only t.0.start used.slot));
+      subst (Contains (map (text_from section) offsets)) (sym (used_text section slots t.0 used) ∙ t.2) (in_map (text_from section) offsets t.0.start (are_used.only t.0.start used.slot));
   each = λ x c some.
       let o = from_map 0 (text_from section) offsets x c in
       let below : o.0 < length section = subst (λ (n : ℕ). n < length section) o.1.2 (inside o.1.0 o.0 o.1.1) in
       let byte : get_or section o.0 0 ≢ 0 = λ nul. omega (arith, some, no_text section o.0 below nul, ap (λ (t : List ℕ). length t) o.2) in
-      let a = are.each o.0 below (tell.marked o.0 o.1) byte in
+      let a = are.each o.0 below (are_used.marked o.0 o.1) byte in
       let used = subst (IsUsed section slots) a.3 (are.used a.0 a.1 a.2) in
-      let at = in_map (tail_text section) ts a.1 (a.0, a.2, a.3) in
-      let ends = suffix_from_Ends (text_from section o.0) (tail_text section a.1) (within_ends section slots a.1 o.0 used a.4) in
-      (at.0, tail_text section a.1, at.1, at.2, subst (λ (y : List ℕ). is_suffix y (tail_text section a.1) ≡ true) o.2 ends);
+      let at = in_map (text_in section) ts a.1 (a.0, a.2, a.3) in
+      let ends = suffix_from_Ends (text_from section o.0) (text_in section a.1) (within_ends section slots a.1 o.0 used a.4) in
+      (at.0, text_in section a.1, at.1, at.2, subst (λ (y : List ℕ). is_suffix y (text_in section a.1) ≡ true) o.2 ends);
 }

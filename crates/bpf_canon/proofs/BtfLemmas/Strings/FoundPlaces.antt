@@ -18,37 +18,37 @@ use Rattle.btf_types.proofs.StringLemmas.Longest.{longest_have_host}
 use Rattle.bpf_canon.specs.btf.strings.FirstUses.{AreMarked}
 use Rattle.bpf_canon.specs.btf.strings.UsedOffsets.{number_of}
 use Rattle.bpf_canon.specs.btf.strings.Longest.{IsUsed, IsWithin, AreLongestOf}
-use Rattle.bpf_canon.specs.btf.strings.Tails.{tail_text, HasKey}
-use Rattle.bpf_canon.specs.btf.strings.InHost.{no_host, found_of, AreInHosts}
-use Rattle.bpf_canon.specs.btf.strings.HostLayout.{IsFound, AreLaidOut, ArePlaced, GivePlaces}
-use Rattle.bpf_canon.specs.declared.btf.strings.tails.Tail.{Tail}
+use Rattle.bpf_canon.specs.btf.strings.SectionTexts.{text_in, HasKey}
+use Rattle.bpf_canon.specs.btf.strings.InHost.{no_host, host_at, AreInHosts}
+use Rattle.bpf_canon.specs.btf.strings.HostPlaces.{HasHost, AreHostPlaces, ArePlaced, GivePlaces}
+use Rattle.bpf_canon.specs.declared.btf.strings.section_texts.SectionText.{SectionText}
 use Rattle.bpf_canon.specs.declared.btf.strings.hosts_by_rank.InHost.{InHost}
-use Rattle.bpf_canon.specs.declared.btf.strings.host_layout.Span.{Span}
+use Rattle.bpf_canon.specs.declared.btf.strings.host_places.Span.{Span}
 use Rattle.bpf_canon.proofs.BtfLemmas.Strings.UsedSteps.{used_inside, used_at, number_inside}
 use Rattle.bpf_canon.proofs.BtfLemmas.Strings.LongestSteps.{used_length}
 use Rattle.bpf_canon.proofs.BtfLemmas.Strings.RankSteps.{in_tail_order}
 use Rattle.bpf_canon.proofs.BtfLemmas.Strings.FoundHosts.{longest_are, in_map, no_text, text_some}
-use Rattle.bpf_canon.proofs.BtfLemmas.Strings.LayoutSteps.{host_there}
+use Rattle.bpf_canon.proofs.BtfLemmas.Strings.HostPlaceSteps.{host_there}
 
 -- the longest texts in another order
-any_permuted : (P : Tail → Type 0) (xs ys : List Tail) → IsPermutation xs ys → Any P xs → Any P ys
+any_permuted : (P : SectionText → Type 0) (xs ys : List SectionText) → IsPermutation xs ys → Any P xs → Any P ys
 any_permuted P xs ys perm (k, t, inside, is, p) = let c = Contains-permutation xs ys t perm (k, inside, is) in (c.0, t, c.1, c.2, p)
 
-pub longest_permuted : (section slots : List ℕ) (texts tails : List Tail) → AreLongestOf section slots texts → IsPermutation texts tails → AreLongestOf section slots tails
-longest_permuted section slots texts tails are perm = record {
-  few = omega (arith, are.few, length_permutation texts tails perm);
-  keys = All-permutation (HasKey section) texts tails perm are.keys;
-  used = All-permutation (IsUsed section slots) texts tails perm are.used;
-  each = λ off h s b. any_permuted (IsWithin off) texts tails perm (are.each off h s b);
+pub longest_permuted : (section slots : List ℕ) (texts ordered : List SectionText) → AreLongestOf section slots texts → IsPermutation texts ordered → AreLongestOf section slots ordered
+longest_permuted section slots texts ordered are perm = record {
+  few = omega (arith, are.few, length_permutation texts ordered perm);
+  keys = All-permutation (HasKey section) texts ordered perm are.keys;
+  used = All-permutation (IsUsed section slots) texts ordered perm are.used;
+  each = λ off h s b. any_permuted (IsWithin off) texts ordered perm (are.each off h s b);
 }
 
-module _ (section slots offsets : List ℕ) (texts tails : List Tail) (found : List InHost) (marked : AreMarked offsets slots) (long : length slots ≡ length section) (longest : AreLongestOf section slots texts)
-    (perm : IsPermutation texts tails) (up : IsSorted tail_cmp (map (tail_text section) tails)) (hosts_are : AreInHosts section slots (map (tail_text section) tails) found) where
+module _ (section slots offsets : List ℕ) (texts ordered : List SectionText) (in_hosts : List InHost) (marked : AreMarked offsets slots) (long : length slots ≡ length section) (longest : AreLongestOf section slots texts)
+    (perm : IsPermutation texts ordered) (up : IsSorted tail_cmp (map (text_in section) ordered)) (hosts_are : AreInHosts section slots (map (text_in section) ordered) in_hosts) where
   abbrev xs : List (List ℕ)
   xs = map (text_from section) offsets
 
   abbrev sorted : List (List ℕ)
-  sorted = map (tail_text section) tails
+  sorted = map (text_in section) ordered
 
   inside : (off : ℕ) → Contains offsets off → off < length section
   inside off c = omega (arith, used_inside slots off (marked.marked off c), long)
@@ -56,16 +56,16 @@ module _ (section slots offsets : List ℕ) (texts tails : List Tail) (found : L
   all_inside : All (λ off. off < length section) offsets
   all_inside k d h = inside (get_or offsets k d) (k, h, get_or_default offsets k (get_or offsets k d) d h)
 
-  are : AreLongest xs (map (tail_text section) texts)
+  are : AreLongest xs (map (text_in section) texts)
   are = longest_are section slots offsets texts longest marked all_inside
 
-  some_text : All (λ (t : List ℕ). 0 < length t) (map (tail_text section) texts)
-  some_text = All-map (λ (t : List ℕ). 0 < length t) (tail_text section) texts (λ k d h. let u = longest.used k d h in omega (arith, used_length section slots (get_or texts k d) u, u.some))
+  some_text : All (λ (t : List ℕ). 0 < length t) (map (text_in section) texts)
+  some_text = All-map (λ (t : List ℕ). 0 < length t) (text_in section) texts (λ k d h. let u = longest.used k d h in omega (arith, used_length section slots (get_or texts k d) u, u.some))
 
-  order : AreInTailOrder (kept (map (tail_text section) texts)) sorted
-  order = in_tail_order (map (tail_text section) texts) sorted (IsPermutation-map (tail_text section) texts tails perm) up some_text
+  order : AreInTailOrder (kept (map (text_in section) texts)) sorted
+  order = in_tail_order (map (text_in section) texts) sorted (IsPermutation-map (text_in section) texts ordered perm) up some_text
 
-  pub is_found : (off : ℕ) → Contains offsets off → IsFound section slots sorted xs found off
+  pub is_found : (off : ℕ) → Contains offsets off → HasHost section slots sorted xs in_hosts off
   is_found off c = record {
     inside = inside off c;
     used = marked.marked off c;
@@ -77,13 +77,13 @@ module _ (section slots offsets : List ℕ) (texts tails : List Tail) (found : L
           numbered = h.numbered;
           inside = h.inside;
           last = h.last;
-          is_host = longest_have_host xs (map (tail_text section) texts) are (text_from section off) ∙ h.host (kept (map (tail_text section) texts)) order;
+          is_host = longest_have_host xs (map (text_in section) texts) are (text_from section off) ∙ h.host (kept (map (text_in section) texts)) order;
           before = h.before;
           long = h.long;
         };
   }
 
-  pub all_found : All (IsFound section slots sorted xs found) offsets
+  pub all_found : All (HasHost section slots sorted xs in_hosts) offsets
   all_found k d h = is_found (get_or offsets k d) (k, h, get_or_default offsets k (get_or offsets k d) d h)
 
 -- a place in a table leaves room for the text and its NUL
@@ -105,8 +105,8 @@ place_at_host ks (c ∷ bytes) h n b some is place before =
 no_place : (ks : List (List ℕ)) (x : List ℕ) → x ≡ [] → 0 ≡ shared_among ks x
 no_place ks x e = sym (ap (shared_among ks) e)
 
-module _ (section slots offsets placed : List ℕ) (sorted : List (List ℕ)) (found : List InHost) (spans : List Span) (len : ℕ) (laid : AreLaidOut section sorted (map (text_from section) offsets) placed spans len)
-    (off : ℕ) (c : Contains offsets off) (is : IsFound section slots sorted (map (text_from section) offsets) found off) where
+module _ (section slots offsets by_rank : List ℕ) (sorted : List (List ℕ)) (in_hosts : List InHost) (spans : List Span) (len : ℕ) (host_places : AreHostPlaces section sorted (map (text_from section) offsets) by_rank spans len)
+    (off : ℕ) (c : Contains offsets off) (is : HasHost section slots sorted (map (text_from section) offsets) in_hosts off) where
   abbrev names : List (List ℕ)
   names = map (text_from section) offsets
 
@@ -114,7 +114,7 @@ module _ (section slots offsets placed : List ℕ) (sorted : List (List ℕ)) (f
   x = text_from section off
 
   abbrev h : InHost
-  h = found_of slots found off
+  h = host_at slots in_hosts off
 
   has : Has names x
   has = Has-from_Contains names x (in_map (text_from section) offsets off c)
@@ -128,40 +128,40 @@ module _ (section slots offsets placed : List ℕ) (sorted : List (List ℕ)) (f
   there : (b : get_or section off 0 ≢ 0) → Has (hosts names) (at_rank sorted (is.some b).rank)
   there b = host_there sorted names x h (is.some b) has (some b)
 
-  place_is : (b : get_or section off 0 ≢ 0) → get_or placed h.host 0 ≡ place_in (hosts names) (at_rank sorted (is.some b).rank)
+  place_is : (b : get_or section off 0 ≢ 0) → get_or by_rank h.host 0 ≡ place_in (hosts names) (at_rank sorted (is.some b).rank)
   place_is b =
       let a = is.some b in
-      ap (λ (k : ℕ). get_or placed k 0) a.numbered ∙ laid.place a.rank a.inside a.last (Contains-from_Has (hosts names) (at_rank sorted a.rank) (there b))
+      ap (λ (k : ℕ). get_or by_rank k 0) a.numbered ∙ host_places.place a.rank a.inside a.last (Contains-from_Has (hosts names) (at_rank sorted a.rank) (there b))
 
-  pub host_ranked : h.host < length placed
+  pub host_ranked : h.host < length by_rank
   host_ranked = elim (cases_eq (get_or section off 0) 0) [
-    | inl z ↦ omega (arith, ap (λ (i : InHost). i.host) (is.empty z), laid.ranks)
-    | inr b ↦ let a = is.some b in omega (arith, a.numbered, a.inside, laid.ranks)
+    | inl z ↦ omega (arith, ap (λ (i : InHost). i.host) (is.empty z), host_places.ranks)
+    | inr b ↦ let a = is.some b in omega (arith, a.numbered, a.inside, host_places.ranks)
   ]
 
-  pub place_fits : length (shared_table names) < 2 ^ 32 → get_or placed h.host 0 + h.before < 2 ^ 32
+  pub place_fits : length (shared_table names) < 2 ^ 32 → get_or by_rank h.host 0 + h.before < 2 ^ 32
   place_fits room = elim (cases_eq (get_or section off 0) 0) [
-    | inl z ↦ omega (arith, ap (λ (i : InHost). i.before) (is.empty z), ap (λ (i : InHost). get_or placed i.host 0) (is.empty z), laid.none)
+    | inl z ↦ omega (arith, ap (λ (i : InHost). i.before) (is.empty z), ap (λ (i : InHost). get_or by_rank i.host 0) (is.empty z), host_places.none)
     | inr b ↦ let a = is.some b in omega (arith, place_is b, a.before, place_room (hosts names) (at_rank sorted a.rank) (there b), room)
   ]
 
-  pub place_found : get_or placed h.host 0 + h.before ≡ shared_place names x
+  pub place_found : get_or by_rank h.host 0 + h.before ≡ shared_place names x
   place_found = elim (cases_eq (get_or section off 0) 0) [
     | inl z ↦
-        let none : get_or placed h.host 0 + h.before ≡ 0 = omega (arith, ap (λ (i : InHost). i.before) (is.empty z), ap (λ (i : InHost). get_or placed i.host 0) (is.empty z), laid.none) in
+        let none : get_or by_rank h.host 0 + h.before ≡ 0 = omega (arith, ap (λ (i : InHost). i.before) (is.empty z), ap (λ (i : InHost). get_or by_rank i.host 0) (is.empty z), host_places.none) in
         none ∙ no_place (kept names) x (nil_from_length x (no_text section off is.inside z))
-    | inr b ↦ let a = is.some b in place_at_host (kept names) x (at_rank sorted a.rank) (get_or placed h.host 0) h.before (some b) a.is_host (place_is b) a.before
+    | inr b ↦ let a = is.some b in place_at_host (kept names) x (at_rank sorted a.rank) (get_or by_rank h.host 0) h.before (some b) a.is_host (place_is b) a.before
   ]
 
 -- all of it together
-module _ (section slots offsets placed : List ℕ) (texts tails : List Tail) (found : List InHost) (spans : List Span) (len : ℕ) (marked : AreMarked offsets slots) (long : length slots ≡ length section)
-    (longest : AreLongestOf section slots texts) (perm : IsPermutation texts tails) (up : IsSorted tail_cmp (map (tail_text section) tails)) (hosts_are : AreInHosts section slots (map (tail_text section) tails) found)
-    (laid : AreLaidOut section (map (tail_text section) tails) (map (text_from section) offsets) placed spans len) where
+module _ (section slots offsets by_rank : List ℕ) (texts ordered : List SectionText) (in_hosts : List InHost) (spans : List Span) (len : ℕ) (marked : AreMarked offsets slots) (long : length slots ≡ length section)
+    (longest : AreLongestOf section slots texts) (perm : IsPermutation texts ordered) (up : IsSorted tail_cmp (map (text_in section) ordered)) (hosts_are : AreInHosts section slots (map (text_in section) ordered) in_hosts)
+    (host_places : AreHostPlaces section (map (text_in section) ordered) (map (text_from section) offsets) by_rank spans len) where
   abbrev in_order : List (List ℕ)
-  in_order = map (tail_text section) tails
+  in_order = map (text_in section) ordered
 
-  at : (off : ℕ) → Contains offsets off → IsFound section slots in_order (map (text_from section) offsets) found off
-  at off c = is_found section slots offsets texts tails found marked long longest perm up hosts_are off c
+  at : (off : ℕ) → Contains offsets off → HasHost section slots in_order (map (text_from section) offsets) in_hosts off
+  at off c = is_found section slots offsets texts ordered in_hosts marked long longest perm up hosts_are off c
 
   -- each number is that of a name
   record Named (k : ℕ) : Type 0 where
@@ -169,34 +169,34 @@ module _ (section slots offsets placed : List ℕ) (texts tails : List Tail) (fo
     named : Contains offsets off
     number : number_of slots off ≡ k
 
-  named : (k : ℕ) → k < length found → Named k
+  named : (k : ℕ) → k < length in_hosts → Named k
   named k h = let u = used_at slots (length slots) k (omega (arith, h, hosts_are.whole)) in record { off = u.0; named = marked.only u.0 u.2; number = u.3 }
 
-  same_found : (k : ℕ) (d : InHost) (h : k < length found) → get_or found k d ≡ found_of slots found (named k h).off
-  same_found k d h = get_or_default found k d no_host h ∙ ap (λ (j : ℕ). get_or found j no_host) (sym (named k h).number)
+  same_found : (k : ℕ) (d : InHost) (h : k < length in_hosts) → get_or in_hosts k d ≡ host_at slots in_hosts (named k h).off
+  same_found k d h = get_or_default in_hosts k d no_host h ∙ ap (λ (j : ℕ). get_or in_hosts j no_host) (sym (named k h).number)
 
-  all_ranked : All (λ (i : InHost). i.host < length placed) found
+  all_ranked : All (λ (i : InHost). i.host < length by_rank) in_hosts
   all_ranked k d h =
       let n = named k h in
-      subst (λ (i : InHost). i.host < length placed) (sym (same_found k d h)) (host_ranked section slots offsets placed in_order found spans len laid n.off n.named (at n.off n.named))
+      subst (λ (i : InHost). i.host < length by_rank) (sym (same_found k d h)) (host_ranked section slots offsets by_rank in_order in_hosts spans len host_places n.off n.named (at n.off n.named))
 
-  all_fit : length (shared_table (map (text_from section) offsets)) < 2 ^ 32 → All (λ (i : InHost). get_or placed i.host 0 + i.before < 2 ^ 32) found
+  all_fit : length (shared_table (map (text_from section) offsets)) < 2 ^ 32 → All (λ (i : InHost). get_or by_rank i.host 0 + i.before < 2 ^ 32) in_hosts
   all_fit room k d h =
       let n = named k h in
-      subst (λ (i : InHost). get_or placed i.host 0 + i.before < 2 ^ 32) (sym (same_found k d h)) (place_fits section slots offsets placed in_order found spans len laid n.off n.named (at n.off n.named) room)
+      subst (λ (i : InHost). get_or by_rank i.host 0 + i.before < 2 ^ 32) (sym (same_found k d h)) (place_fits section slots offsets by_rank in_order in_hosts spans len host_places n.off n.named (at n.off n.named) room)
 
-  all_placed : ArePlaced section offsets slots (map (λ (i : InHost). get_or placed i.host 0 + i.before) found) spans len
+  all_placed : ArePlaced section offsets slots (map (λ (i : InHost). get_or by_rank i.host 0 + i.before) in_hosts) spans len
   all_placed = record {
     used = marked.marked;
-    numbers = length-map found (λ (i : InHost). get_or placed i.host 0 + i.before) ∙ hosts_are.whole;
+    numbers = length-map in_hosts (λ (i : InHost). get_or by_rank i.host 0 + i.before) ∙ hosts_are.whole;
     place = λ off c.
-        let inside : number_of slots off < length found = omega (arith, number_inside slots off (marked.marked off c), hosts_are.whole) in
-        get_or-map (λ (i : InHost). get_or placed i.host 0 + i.before) found (number_of slots off) no_host 0 inside
-        ∙ place_found section slots offsets placed in_order found spans len laid off c (at off c);
-    are_spans = laid.are_spans;
-    texts = laid.texts;
-    whole = laid.whole;
+        let inside : number_of slots off < length in_hosts = omega (arith, number_inside slots off (marked.marked off c), hosts_are.whole) in
+        get_or-map (λ (i : InHost). get_or by_rank i.host 0 + i.before) in_hosts (number_of slots off) no_host 0 inside
+        ∙ place_found section slots offsets by_rank in_order in_hosts spans len host_places off c (at off c);
+    are_spans = host_places.are_spans;
+    texts = host_places.texts;
+    whole = host_places.whole;
   }
 
-  pub give_places : length (shared_table (map (text_from section) offsets)) < 2 ^ 32 → GivePlaces section offsets slots found placed spans len
+  pub give_places : length (shared_table (map (text_from section) offsets)) < 2 ^ 32 → GivePlaces section offsets slots in_hosts by_rank spans len
   give_places room = record { ranked = all_ranked; fits = all_fit room; are_placed = all_placed }

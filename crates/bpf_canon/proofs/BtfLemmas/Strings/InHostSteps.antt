@@ -8,19 +8,19 @@ use Rattle.btf_types.specs.strings.SharedNames.{is_suffix}
 use Rattle.btf_types.specs.strings.CommonTails.{at_rank, IsFirstRank, IsNextHost}
 use Rattle.btf_types.proofs.StringLemmas.Suffixes.{Ends, Ends-refl, Ends-trans, Ends-length, Ends-from_suffix, suffix_from_Ends}
 use Rattle.btf_types.proofs.StringLemmas.CommonTails.{first_ends, rank_has_host}
-use Rattle.bpf_canon.specs.btf.strings.Tails.{tail_text}
+use Rattle.bpf_canon.specs.btf.strings.SectionTexts.{text_in}
 use Rattle.bpf_canon.specs.btf.strings.Longest.{IsUsed, IsWithin, AreLongestOf}
 use Rattle.bpf_canon.specs.btf.strings.Ranks.{AreRanked}
 use Rattle.bpf_canon.specs.btf.strings.UsedOffsets.{number_of}
-use Rattle.bpf_canon.specs.btf.strings.InHost.{IsInHost, no_host, found_of, FindsWithin, AreInHosts, IsAlone, AreAlone}
-use Rattle.bpf_canon.specs.declared.btf.strings.tails.Tail.{Tail}
+use Rattle.bpf_canon.specs.btf.strings.InHost.{IsInHost, no_host, host_at, FindsWithin, AreInHosts, IsAlone, AreAlone}
+use Rattle.bpf_canon.specs.declared.btf.strings.section_texts.SectionText.{SectionText}
 use Rattle.bpf_canon.specs.declared.btf.strings.hosts_by_rank.InHost.{InHost}
-use Rattle.bpf_canon.proofs.BtfLemmas.Strings.UsedSteps.{number_tells, number_inside, used_inside}
+use Rattle.bpf_canon.proofs.BtfLemmas.Strings.UsedSteps.{number_injective, number_inside, used_inside}
 use Rattle.bpf_canon.proofs.BtfLemmas.Strings.LongestSteps.{used_length, within_length, within_ends}
 use Rattle.bpf_canon.proofs.BtfLemmas.Strings.RankSteps.{first_rank_is}
 
-abbrev pub no_tail : Tail
-no_tail = record { key = 0; before = 0; start = 0; end = 0 }
+abbrev pub no_text : SectionText
+no_text = record { key = 0; before = 0; start = 0; end = 0 }
 
 -- the texts that are passed on the way to the next host all end it
 passed_end : (ms : List (List ℕ)) (n j l r : ℕ) → n + j ≡ r → l ≤ j → ((i : ℕ) → l ≤ i → i < r → is_suffix (at_rank ms i) (at_rank ms (i + 1)) ≡ true) → Ends (at_rank ms j) (at_rank ms r)
@@ -28,52 +28,52 @@ passed_end ms zero j l r e low p = subst (λ (m : ℕ). Ends (at_rank ms j) (at_
 passed_end ms (suc n) j l r e low p =
     Ends-trans (at_rank ms j) (at_rank ms (j + 1)) (at_rank ms r) (Ends-from_suffix _ _ (p j low (omega (arith, e)))) (passed_end ms n (j + 1) l r (omega (arith, e)) (omega (arith, low)) p)
 
-module _ (section slots : List ℕ) (ts : List Tail) (common hosts : List ℕ) (ranked : AreRanked (map (tail_text section) ts) common hosts) (used : All (IsUsed section slots) ts) where
+module _ (section slots : List ℕ) (ts : List SectionText) (common hosts : List ℕ) (ranked : AreRanked (map (text_in section) ts) common hosts) (used : All (IsUsed section slots) ts) where
   abbrev texts : List (List ℕ)
-  texts = map (tail_text section) ts
+  texts = map (text_in section) ts
 
-  pub text_of_rank : (k : ℕ) → k < length ts → at_rank texts k ≡ tail_text section (get_or ts k no_tail)
-  text_of_rank k inside = get_or-map (tail_text section) ts k no_tail [] inside
+  pub text_of_rank : (k : ℕ) → k < length ts → at_rank texts k ≡ text_in section (get_or ts k no_text)
+  text_of_rank k inside = get_or-map (text_in section) ts k no_text [] inside
 
-  pub length_of_rank : (k : ℕ) → k < length ts → length (at_rank texts k) ≡ (get_or ts k no_tail).end - (get_or ts k no_tail).start
-  length_of_rank k inside = ap (λ (l : List ℕ). length l) (text_of_rank k inside) ∙ used_length section slots (get_or ts k no_tail) (used k no_tail inside)
+  pub length_of_rank : (k : ℕ) → k < length ts → length (at_rank texts k) ≡ (get_or ts k no_text).end - (get_or ts k no_text).start
+  length_of_rank k inside = ap (λ (l : List ℕ). length l) (text_of_rank k inside) ∙ used_length section slots (get_or ts k no_text) (used k no_text inside)
 
-  first : (rank off l : ℕ) → rank < length ts → IsWithin off (get_or ts rank no_tail) → l ≤ rank → ((j : ℕ) → l < j → j ≤ rank → (get_or ts rank no_tail).end - off ≤ get_or common j 0) → get_or common l 0 < (get_or ts rank no_tail).end - off → IsFirstRank texts (length (text_from section off)) l rank
+  first : (rank off l : ℕ) → rank < length ts → IsWithin off (get_or ts rank no_text) → l ≤ rank → ((j : ℕ) → l < j → j ≤ rank → (get_or ts rank no_text).end - off ≤ get_or common j 0) → get_or common l 0 < (get_or ts rank no_text).end - off → IsFirstRank texts (length (text_from section off)) l rank
   first rank off l inside within below before less =
-      let long = within_length section slots (get_or ts rank no_tail) off (used rank no_tail inside) within in
-      subst (λ (n : ℕ). IsFirstRank texts n l rank) (sym long) (first_rank_is texts common ((get_or ts rank no_tail).end - off) l rank ranked.are_common (omega (arith, inside, length-map ts (tail_text section))) below before less)
+      let long = within_length section slots (get_or ts rank no_text) off (used rank no_text inside) within in
+      subst (λ (n : ℕ). IsFirstRank texts n l rank) (sym long) (first_rank_is texts common ((get_or ts rank no_text).end - off) l rank ranked.are_common (omega (arith, inside, length-map ts (text_in section))) below before less)
 
-  ends_rank : (rank off : ℕ) → rank < length ts → IsWithin off (get_or ts rank no_tail) → Ends (text_from section off) (at_rank texts rank)
+  ends_rank : (rank off : ℕ) → rank < length ts → IsWithin off (get_or ts rank no_text) → Ends (text_from section off) (at_rank texts rank)
   ends_rank rank off inside within =
-      subst (Ends (text_from section off)) (sym (text_of_rank rank inside)) (within_ends section slots (get_or ts rank no_tail) off (used rank no_tail inside) within)
+      subst (Ends (text_from section off)) (sym (text_of_rank rank inside)) (within_ends section slots (get_or ts rank no_text) off (used rank no_text inside) within)
 
   next : (rank l : ℕ) → rank < length ts → l ≤ rank → IsNextHost texts l (get_or hosts l 0)
-  next rank l inside below = ranked.are_hosts.each l (omega (arith, inside, below, length-map ts (tail_text section)))
+  next rank l inside below = ranked.are_hosts.each l (omega (arith, inside, below, length-map ts (text_in section)))
 
   pub next_inside : (rank l : ℕ) → rank < length ts → l ≤ rank → get_or hosts l 0 < length ts
-  next_inside rank l inside below = let n = next rank l inside below in omega (arith, n.inside, length-map ts (tail_text section))
+  next_inside rank l inside below = let n = next rank l inside below in omega (arith, n.inside, length-map ts (text_in section))
 
-  ends_host : (rank off l : ℕ) → rank < length ts → IsWithin off (get_or ts rank no_tail) → l ≤ rank → IsFirstRank texts (length (text_from section off)) l rank → Ends (text_from section off) (at_rank texts (get_or hosts l 0))
+  ends_host : (rank off l : ℕ) → rank < length ts → IsWithin off (get_or ts rank no_text) → l ≤ rank → IsFirstRank texts (length (text_from section off)) l rank → Ends (text_from section off) (at_rank texts (get_or hosts l 0))
   ends_host rank off l inside within below is =
       let n = next rank l inside below in
       Ends-trans (text_from section off) (at_rank texts l) (at_rank texts (get_or hosts l 0))
-      (first_ends texts ranked.in_order (text_from section off) l rank (omega (arith, inside, length-map ts (tail_text section))) (ends_rank rank off inside within) is)
+      (first_ends texts ranked.in_order (text_from section off) l rank (omega (arith, inside, length-map ts (text_in section))) (ends_rank rank off inside within) is)
       (passed_end texts (get_or hosts l 0 - l) l l (get_or hosts l 0) (omega (arith, n.from)) (omega arith) n.passed)
 
-  pub no_longer : (rank off l : ℕ) → rank < length ts → IsWithin off (get_or ts rank no_tail) → l ≤ rank → ((j : ℕ) → l < j → j ≤ rank → (get_or ts rank no_tail).end - off ≤ get_or common j 0) → get_or common l 0 < (get_or ts rank no_tail).end - off → (get_or ts rank no_tail).end - off ≤ (get_or ts (get_or hosts l 0) no_tail).end - (get_or ts (get_or hosts l 0) no_tail).start
+  pub no_longer : (rank off l : ℕ) → rank < length ts → IsWithin off (get_or ts rank no_text) → l ≤ rank → ((j : ℕ) → l < j → j ≤ rank → (get_or ts rank no_text).end - off ≤ get_or common j 0) → get_or common l 0 < (get_or ts rank no_text).end - off → (get_or ts rank no_text).end - off ≤ (get_or ts (get_or hosts l 0) no_text).end - (get_or ts (get_or hosts l 0) no_text).start
   no_longer rank off l inside within below before less =
       let is = first rank off l inside within below before less in
       let ends = ends_host rank off l inside within below is in
       omega (
         arith,
         Ends-length (text_from section off) (at_rank texts (get_or hosts l 0)) ends,
-        within_length section slots (get_or ts rank no_tail) off (used rank no_tail inside) within,
+        within_length section slots (get_or ts rank no_text) off (used rank no_text inside) within,
         length_of_rank (get_or hosts l 0) (next_inside rank l inside below),
       )
 
-  pub in_host : (rank off l : ℕ) → rank < length ts → IsWithin off (get_or ts rank no_tail) → l ≤ rank → ((j : ℕ) → l < j → j ≤ rank → (get_or ts rank no_tail).end - off ≤ get_or common j 0) → get_or common l 0 < (get_or ts rank no_tail).end - off
-      → (h : InHost) → h.host ≡ get_or hosts l 0 + 1 → h.before + ((get_or ts rank no_tail).end - off) ≡ (get_or ts (get_or hosts l 0) no_tail).end - (get_or ts (get_or hosts l 0) no_tail).start
-      → h.len ≡ (get_or ts (get_or hosts l 0) no_tail).end - (get_or ts (get_or hosts l 0) no_tail).start → IsInHost texts (text_from section off) h
+  pub in_host : (rank off l : ℕ) → rank < length ts → IsWithin off (get_or ts rank no_text) → l ≤ rank → ((j : ℕ) → l < j → j ≤ rank → (get_or ts rank no_text).end - off ≤ get_or common j 0) → get_or common l 0 < (get_or ts rank no_text).end - off
+      → (h : InHost) → h.host ≡ get_or hosts l 0 + 1 → h.before + ((get_or ts rank no_text).end - off) ≡ (get_or ts (get_or hosts l 0) no_text).end - (get_or ts (get_or hosts l 0) no_text).start
+      → h.len ≡ (get_or ts (get_or hosts l 0) no_text).end - (get_or ts (get_or hosts l 0) no_text).start → IsInHost texts (text_from section off) h
   in_host rank off l inside within below before less h host_is before_is len_is =
       let is = first rank off l inside within below before less in
       let n = next rank l inside below in
@@ -82,27 +82,27 @@ module _ (section slots : List ℕ) (ts : List Tail) (common hosts : List ℕ) (
         numbered = host_is;
         inside = n.inside;
         last = n.stops;
-        host = λ ks order. rank_has_host ks texts order (text_from section off) l rank (get_or hosts l 0) (omega (arith, inside, length-map ts (tail_text section))) (suffix_from_Ends _ _ (ends_rank rank off inside within)) is n;
-        before = omega (arith, before_is, within_length section slots (get_or ts rank no_tail) off (used rank no_tail inside) within, length_of_rank (get_or hosts l 0) (next_inside rank l inside below));
+        host = λ ks order. rank_has_host ks texts order (text_from section off) l rank (get_or hosts l 0) (omega (arith, inside, length-map ts (text_in section))) (suffix_from_Ends _ _ (ends_rank rank off inside within)) is n;
+        before = omega (arith, before_is, within_length section slots (get_or ts rank no_text) off (used rank no_text inside) within, length_of_rank (get_or hosts l 0) (next_inside rank l inside below));
         long = len_is ∙ sym (length_of_rank (get_or hosts l 0) (next_inside rank l inside below));
       }
 
   -- the step from what was read: the text of the rank, the first rank, its host, and the host's text
-  pub record StepsBack (rank off from l v : ℕ) (t u : Tail) : Type 0 where
-    pub low : (get_or ts rank no_tail).start ≤ off
+  pub record StepsBack (rank off from l v : ℕ) (t u : SectionText) : Type 0 where
+    pub low : (get_or ts rank no_text).start ≤ off
     pub shorter : t.end - off ≤ u.end - u.start
-    pub back : (j : ℕ) → l < j → j ≤ from → (get_or ts rank no_tail).end - off ≤ get_or common j 0
-    pub found : (h : InHost) → h.host ≡ v + 1 → h.before + (t.end - off) ≡ u.end - u.start → h.len ≡ u.end - u.start → IsInHost texts (text_from section off) h
+    pub back : (j : ℕ) → l < j → j ≤ from → (get_or ts rank no_text).end - off ≤ get_or common j 0
+    pub in_hosts : (h : InHost) → h.host ≡ v + 1 → h.before + (t.end - off) ≡ u.end - u.start → h.len ≡ u.end - u.start → IsInHost texts (text_from section off) h
 
-  pub steps_back : (rank off from l v : ℕ) (s t u : Tail) (numbers : List ℕ) → rank < length ts → s ≡ get_or ts rank s → t ≡ get_or ts rank t → s.start ≤ off → off < t.end → from ≤ rank
-      → ((j : ℕ) → from < j → j ≤ rank → (get_or ts rank no_tail).end - off ≤ get_or common j 0) → numbers ≡ common → l ≤ from → ((j : ℕ) → l < j → j ≤ from → t.end - off ≤ get_or numbers j 0) → get_or numbers l 0 < t.end - off
+  pub steps_back : (rank off from l v : ℕ) (s t u : SectionText) (numbers : List ℕ) → rank < length ts → s ≡ get_or ts rank s → t ≡ get_or ts rank t → s.start ≤ off → off < t.end → from ≤ rank
+      → ((j : ℕ) → from < j → j ≤ rank → (get_or ts rank no_text).end - off ≤ get_or common j 0) → numbers ≡ common → l ≤ from → ((j : ℕ) → l < j → j ≤ from → t.end - off ≤ get_or numbers j 0) → get_or numbers l 0 < t.end - off
       → v ≡ get_or hosts l v → u ≡ get_or ts v u → StepsBack rank off from l v t u
   steps_back rank off from l v s t u numbers inside s_is t_is low high below before same back more less v_is u_is =
-      let d = get_or ts rank no_tail in
-      let s_end : s ≡ d = s_is ∙ get_or_default ts rank s no_tail inside in
-      let t_end : t ≡ d = t_is ∙ get_or_default ts rank t no_tail inside in
-      let from_start : d.start ≤ off = omega (arith, low, ap (λ (k : Tail). k.start) s_end) in
-      let ends : t.end ≡ d.end = ap (λ (k : Tail). k.end) t_end in
+      let d = get_or ts rank no_text in
+      let s_end : s ≡ d = s_is ∙ get_or_default ts rank s no_text inside in
+      let t_end : t ≡ d = t_is ∙ get_or_default ts rank t no_text inside in
+      let from_start : d.start ≤ off = omega (arith, low, ap (λ (k : SectionText). k.start) s_end) in
+      let ends : t.end ≡ d.end = ap (λ (k : SectionText). k.end) t_end in
       let within : IsWithin off d = record { from = from_start; before = omega (arith, high, ends) } in
       let back_here : (j : ℕ) → l < j → j ≤ from → d.end - off ≤ get_or common j 0 = λ j a b. omega (arith, more j a b, ends, ap (λ (k : List ℕ). get_or k j 0) same) in
       let all : (j : ℕ) → l < j → j ≤ rank → d.end - off ≤ get_or common j 0 = λ j a b. elim (cases_lt from j) [
@@ -111,20 +111,20 @@ module _ (section slots : List ℕ) (ts : List Tail) (common hosts : List ℕ) (
       ] in
       let less_here : get_or common l 0 < d.end - off = omega (arith, less, ends, ap (λ (k : List ℕ). get_or k l 0) same) in
       let low_enough : l ≤ rank = omega (arith, back, below) in
-      let l_inside : l < length hosts = omega (arith, low_enough, inside, ranked.are_hosts.whole, length-map ts (tail_text section)) in
+      let l_inside : l < length hosts = omega (arith, low_enough, inside, ranked.are_hosts.whole, length-map ts (text_in section)) in
       let host_is : v ≡ get_or hosts l 0 = get_or_read hosts l v l_inside v_is 0 in
       let v_inside : v < length ts = omega (arith, host_is, next_inside rank l inside low_enough) in
-      let u_end : u ≡ get_or ts (get_or hosts l 0) no_tail = u_is ∙ get_or_default ts v u no_tail v_inside ∙ ap (λ (k : ℕ). get_or ts k no_tail) host_is in
-      let u_len : u.end - u.start ≡ (get_or ts (get_or hosts l 0) no_tail).end - (get_or ts (get_or hosts l 0) no_tail).start = ap (λ (k : Tail). k.end - k.start) u_end in
+      let u_end : u ≡ get_or ts (get_or hosts l 0) no_text = u_is ∙ get_or_default ts v u no_text v_inside ∙ ap (λ (k : ℕ). get_or ts k no_text) host_is in
+      let u_len : u.end - u.start ≡ (get_or ts (get_or hosts l 0) no_text).end - (get_or ts (get_or hosts l 0) no_text).start = ap (λ (k : SectionText). k.end - k.start) u_end in
       record {
         low = from_start;
         shorter = omega (arith, no_longer rank off l inside within low_enough all less_here, u_len, ends);
         back = back_here;
-        found = λ h a b e. in_host rank off l inside within low_enough all less_here h (omega (arith, a, host_is)) (omega (arith, b, u_len, ends)) (e ∙ u_len);
+        in_hosts = λ h a b e. in_host rank off l inside within low_enough all less_here h (omega (arith, a, host_is)) (omega (arith, b, u_len, ends)) (e ∙ u_len);
       }
 
   -- the same for a text that is alone, from its rank on
-  pub steps_alone : (rank v : ℕ) (t u : Tail) → rank < length ts → t ≡ get_or ts rank t → AreAlone slots common ts (length ts) → v ≡ get_or hosts rank v → u ≡ get_or ts v u → StepsBack rank t.start rank rank v t u
+  pub steps_alone : (rank v : ℕ) (t u : SectionText) → rank < length ts → t ≡ get_or ts rank t → AreAlone slots common ts (length ts) → v ≡ get_or hosts rank v → u ≡ get_or ts v u → StepsBack rank t.start rank rank v t u
   steps_alone rank v t u inside t_is alone v_is u_is =
       let at : IsAlone slots common rank t = subst (IsAlone slots common rank) (sym t_is) (alone rank t inside inside) in
       let high : t.start < t.end = omega (arith, at.less) in
@@ -132,24 +132,24 @@ module _ (section slots : List ℕ) (ts : List Tail) (common hosts : List ℕ) (
 
   pub host_inside : (rank l v : ℕ) → rank < length ts → l ≤ rank → v ≡ get_or hosts l v → v < length ts
   host_inside rank l v inside low v_is =
-      let l_inside : l < length hosts = omega (arith, low, inside, ranked.are_hosts.whole, length-map ts (tail_text section)) in
+      let l_inside : l < length hosts = omega (arith, low, inside, ranked.are_hosts.whole, length-map ts (text_in section)) in
       omega (arith, get_or_read hosts l v l_inside v_is 0, next_inside rank l inside low)
 
-  pub tail_up : (v : ℕ) (u : Tail) → v < length ts → u ≡ get_or ts v u → u.start ≤ u.end
-  tail_up v u inside u_is =
-      let u_end : u ≡ get_or ts v no_tail = u_is ∙ get_or_default ts v u no_tail inside in
-      let some = (used v no_tail inside).some in
-      omega (arith, some, ap (λ (k : Tail). k.start) u_end, ap (λ (k : Tail). k.end) u_end)
+  pub text_up : (v : ℕ) (u : SectionText) → v < length ts → u ≡ get_or ts v u → u.start ≤ u.end
+  text_up v u inside u_is =
+      let u_end : u ≡ get_or ts v no_text = u_is ∙ get_or_default ts v u no_text inside in
+      let some = (used v no_text inside).some in
+      omega (arith, some, ap (λ (k : SectionText). k.start) u_end, ap (λ (k : SectionText). k.end) u_end)
 
 -- the loop over the offsets within a text
-pub record WithinTo (section slots : List ℕ) (sorted : List (List ℕ)) (common : List ℕ) (t : Tail) (rank : ℕ) (old found : List InHost) (from off : ℕ) : Type 0 where
-  pub whole : length found ≡ length old
+pub record WithinTo (section slots : List ℕ) (sorted : List (List ℕ)) (common : List ℕ) (t : SectionText) (rank : ℕ) (old in_hosts : List InHost) (from off : ℕ) : Type 0 where
+  pub whole : length in_hosts ≡ length old
   pub below : from ≤ rank
   pub before : (j : ℕ) → from < j → j ≤ rank → t.end - off ≤ get_or common j 0
-  pub here : (o : ℕ) → get_or slots o 0 ≢ 0 → t.start ≤ o → o < off → IsInHost sorted (text_from section o) (found_of slots found o)
-  pub there : (o : ℕ) → get_or slots o 0 ≢ 0 → ¬ ((t.start ≤ o) × (o < off)) → found_of slots found o ≡ found_of slots old o
+  pub here : (o : ℕ) → get_or slots o 0 ≢ 0 → t.start ≤ o → o < off → IsInHost sorted (text_from section o) (host_at slots in_hosts o)
+  pub there : (o : ℕ) → get_or slots o 0 ≢ 0 → ¬ ((t.start ≤ o) × (o < off)) → host_at slots in_hosts o ≡ host_at slots old o
 
-module _ (section slots : List ℕ) (sorted : List (List ℕ)) (common : List ℕ) (t : Tail) (rank : ℕ) (old : List InHost) where
+module _ (section slots : List ℕ) (sorted : List (List ℕ)) (common : List ℕ) (t : SectionText) (rank : ℕ) (old : List InHost) where
   pub within_none : (off : ℕ) → off ≡ t.start → WithinTo section slots sorted common t rank old old rank off
   within_none off e = record {
     whole = refl;
@@ -159,8 +159,8 @@ module _ (section slots : List ℕ) (sorted : List (List ℕ)) (common : List �
     there = λ o s n. refl;
   }
 
-  pub within_skips : (found : List InHost) (from off : ℕ) → WithinTo section slots sorted common t rank old found from off → get_or slots off 0 ≡ 0 → WithinTo section slots sorted common t rank old found from (off + 1)
-  within_skips found from off to z = record {
+  pub within_skips : (in_hosts : List InHost) (from off : ℕ) → WithinTo section slots sorted common t rank old in_hosts from off → get_or slots off 0 ≡ 0 → WithinTo section slots sorted common t rank old in_hosts from (off + 1)
+  within_skips in_hosts from off to z = record {
     whole = to.whole;
     below = to.below;
     before = λ j l h. omega (arith, to.before j l h);
@@ -171,20 +171,20 @@ module _ (section slots : List ℕ) (sorted : List (List ℕ)) (common : List �
     there = λ o s n. to.there o s (λ (a, b). n (a, omega (arith, b)));
   }
 
-  pub within_finds : (found : List InHost) (from off next : ℕ) (h : InHost) → WithinTo section slots sorted common t rank old found from off → length old ≡ number_of slots (length slots) → t.start ≤ off → get_or slots off 0 ≢ 0 → next ≤ from
-      → ((j : ℕ) → next < j → j ≤ from → t.end - off ≤ get_or common j 0) → IsInHost sorted (text_from section off) h → WithinTo section slots sorted common t rank old (set found (number_of slots off) h) next (off + 1)
-  within_finds found from off next h to long low s back more is =
-      let here : found_of slots (set found (number_of slots off) h) off ≡ h = get_or-set_same found (number_of slots off) h no_host (omega (arith, number_inside slots off s, long, to.whole)) in
-      let there = λ (o : ℕ) (u : get_or slots o 0 ≢ 0) (n : o ≢ off). get_or-set_other found (number_of slots off) (number_of slots o) h no_host (λ e. n (number_tells slots o off u s e)) in
+  pub within_finds : (in_hosts : List InHost) (from off next : ℕ) (h : InHost) → WithinTo section slots sorted common t rank old in_hosts from off → length old ≡ number_of slots (length slots) → t.start ≤ off → get_or slots off 0 ≢ 0 → next ≤ from
+      → ((j : ℕ) → next < j → j ≤ from → t.end - off ≤ get_or common j 0) → IsInHost sorted (text_from section off) h → WithinTo section slots sorted common t rank old (set in_hosts (number_of slots off) h) next (off + 1)
+  within_finds in_hosts from off next h to long low s back more is =
+      let here : host_at slots (set in_hosts (number_of slots off) h) off ≡ h = get_or-set_same in_hosts (number_of slots off) h no_host (omega (arith, number_inside slots off s, long, to.whole)) in
+      let there = λ (o : ℕ) (u : get_or slots o 0 ≢ 0) (n : o ≢ off). get_or-set_other in_hosts (number_of slots off) (number_of slots o) h no_host (λ e. n (number_injective slots o off u s e)) in
       record {
-        whole = length-set found (number_of slots off) h ∙ to.whole;
+        whole = length-set in_hosts (number_of slots off) h ∙ to.whole;
         below = omega (arith, back, to.below);
         before = λ j l m. elim (cases_lt from j) [
           | inl a ↦ omega (arith, to.before j a m)
           | inr b ↦ omega (arith, more j l b)
         ];
         here = λ o u l m. elim (cases_eq o off) [
-          | inl e ↦ subst (λ (k : ℕ). IsInHost sorted (text_from section k) (found_of slots (set found (number_of slots off) h) k)) (sym e) (subst (IsInHost sorted (text_from section off)) (sym here) is)
+          | inl e ↦ subst (λ (k : ℕ). IsInHost sorted (text_from section k) (host_at slots (set in_hosts (number_of slots off) h) k)) (sym e) (subst (IsInHost sorted (text_from section off)) (sym here) is)
           | inr n ↦ subst (IsInHost sorted (text_from section o)) (sym (there o u n)) (to.here o u l (omega (arith, m, n)))
         ];
         there = λ o u n. elim (cases_eq o off) [
@@ -193,43 +193,43 @@ module _ (section slots : List ℕ) (sorted : List (List ℕ)) (common : List �
         ];
       }
 
-  pub within_all : (found : List InHost) (from : ℕ) → WithinTo section slots sorted common t rank old found from t.end → FindsWithin section slots sorted t old found
-  within_all found from to = record {
+  pub within_all : (in_hosts : List InHost) (from : ℕ) → WithinTo section slots sorted common t rank old in_hosts from t.end → FindsWithin section slots sorted t old in_hosts
+  within_all in_hosts from to = record {
     whole = to.whole;
     here = λ o s w. to.here o s w.from w.before;
     there = λ o s n. to.there o s (λ (a, b). n (record { from = a; before = b }));
   }
 
 -- the host of a text that is alone
-pub finds_alone : (section slots : List ℕ) (sorted : List (List ℕ)) (t : Tail) (old : List InHost) (h : InHost) → IsUsed section slots t → ((k : ℕ) → t.start + 1 ≤ k → k < t.end → get_or slots k 0 ≡ 0) → length old ≡ number_of slots (length slots) → IsInHost sorted (text_from section t.start) h
+pub finds_alone : (section slots : List ℕ) (sorted : List (List ℕ)) (t : SectionText) (old : List InHost) (h : InHost) → IsUsed section slots t → ((k : ℕ) → t.start + 1 ≤ k → k < t.end → get_or slots k 0 ≡ 0) → length old ≡ number_of slots (length slots) → IsInHost sorted (text_from section t.start) h
     → FindsWithin section slots sorted t old (set old (number_of slots t.start) h)
 finds_alone section slots sorted t old h used alone long is =
     let number = number_of slots t.start in
-    let here : found_of slots (set old number h) t.start ≡ h = get_or-set_same old number h no_host (omega (arith, number_inside slots t.start used.slot, long)) in
+    let here : host_at slots (set old number h) t.start ≡ h = get_or-set_same old number h no_host (omega (arith, number_inside slots t.start used.slot, long)) in
     record {
       whole = length-set old number h;
       here = λ o s w.
           let e : o ≡ t.start = elim (cases_eq o t.start) [ inl q ↦ q | inr n ↦ absurd (s (alone o (omega (arith, w.from, n)) w.before)) ] in
-          subst (λ (k : ℕ). IsInHost sorted (text_from section k) (found_of slots (set old number h) k)) (sym e) (subst (IsInHost sorted (text_from section t.start)) (sym here) is);
+          subst (λ (k : ℕ). IsInHost sorted (text_from section k) (host_at slots (set old number h) k)) (sym e) (subst (IsInHost sorted (text_from section t.start)) (sym here) is);
       there = λ o s n. get_or-set_other old number (number_of slots o) h no_host (λ e.
-          let same : o ≡ t.start = number_tells slots o t.start s used.slot e in
+          let same : o ≡ t.start = number_injective slots o t.start s used.slot e in
           n (record { from = omega (arith, same); before = omega (arith, same, used.some) }));
     }
 
 -- the same of a text that was read
-module _ (section slots : List ℕ) (ts : List Tail) (longest : AreLongestOf section slots ts) (rank : ℕ) (t : Tail) (inside : rank < length ts) (t_is : t ≡ get_or ts rank t) where
-  t_end : t ≡ get_or ts rank no_tail
-  t_end = t_is ∙ get_or_default ts rank t no_tail inside
+module _ (section slots : List ℕ) (ts : List SectionText) (longest : AreLongestOf section slots ts) (rank : ℕ) (t : SectionText) (inside : rank < length ts) (t_is : t ≡ get_or ts rank t) where
+  t_end : t ≡ get_or ts rank no_text
+  t_end = t_is ∙ get_or_default ts rank t no_text inside
 
   pub used_read : IsUsed section slots t
-  used_read = subst (IsUsed section slots) (sym t_end) (longest.used rank no_tail inside)
+  used_read = subst (IsUsed section slots) (sym t_end) (longest.used rank no_text inside)
 
   pub finds_read : (sorted : List (List ℕ)) (old : List InHost) (h : InHost) → ((k : ℕ) → t.start + 1 ≤ k → k < t.end → get_or slots k 0 ≡ 0) → length old ≡ number_of slots (length slots) → IsInHost sorted (text_from section t.start) h
-      → FindsWithin section slots sorted (get_or ts rank no_tail) old (set old (number_of slots t.start) h)
+      → FindsWithin section slots sorted (get_or ts rank no_text) old (set old (number_of slots t.start) h)
   finds_read sorted old h alone long is =
-      subst (λ (k : Tail). FindsWithin section slots sorted k old (set old (number_of slots t.start) h)) t_end (finds_alone section slots sorted t old h used_read alone long is)
+      subst (λ (k : SectionText). FindsWithin section slots sorted k old (set old (number_of slots t.start) h)) t_end (finds_alone section slots sorted t old h used_read alone long is)
 
-cases_within : (off : ℕ) (t : Tail) → IsWithin off t ⊎ (¬ IsWithin off t)
+cases_within : (off : ℕ) (t : SectionText) → IsWithin off t ⊎ (¬ IsWithin off t)
 cases_within off t = elim (cases_lt off t.start) [
   | inl a ↦ inr (λ w. omega (arith, a, w.from))
   | inr b ↦ elim (cases_lt off t.end) [
@@ -239,39 +239,39 @@ cases_within off t = elim (cases_lt off t.start) [
 ]
 
 -- the loop over ranks
-pub record HostsTo (section slots : List ℕ) (ts : List Tail) (sorted : List (List ℕ)) (found : List InHost) (k : ℕ) : Type 0 where
-  pub whole : length found ≡ number_of slots (length slots)
-  pub empty : (off : ℕ) → get_or slots off 0 ≢ 0 → get_or section off 0 ≡ 0 → found_of slots found off ≡ no_host
-  pub here : (j off : ℕ) → j < k → get_or slots off 0 ≢ 0 → IsWithin off (get_or ts j no_tail) → IsInHost sorted (text_from section off) (found_of slots found off)
+pub record HostsTo (section slots : List ℕ) (ts : List SectionText) (sorted : List (List ℕ)) (in_hosts : List InHost) (k : ℕ) : Type 0 where
+  pub whole : length in_hosts ≡ number_of slots (length slots)
+  pub empty : (off : ℕ) → get_or slots off 0 ≢ 0 → get_or section off 0 ≡ 0 → host_at slots in_hosts off ≡ no_host
+  pub here : (j off : ℕ) → j < k → get_or slots off 0 ≢ 0 → IsWithin off (get_or ts j no_text) → IsInHost sorted (text_from section off) (host_at slots in_hosts off)
 
-module _ (section slots : List ℕ) (ts : List Tail) (sorted : List (List ℕ)) (longest : AreLongestOf section slots ts) where
-  pub hosts_none : (found : List InHost) → found ≡ replicate (number_of slots (length slots)) no_host → HostsTo section slots ts sorted found 0
-  hosts_none found e = record {
+module _ (section slots : List ℕ) (ts : List SectionText) (sorted : List (List ℕ)) (longest : AreLongestOf section slots ts) where
+  pub hosts_none : (in_hosts : List InHost) → in_hosts ≡ replicate (number_of slots (length slots)) no_host → HostsTo section slots ts sorted in_hosts 0
+  hosts_none in_hosts e = record {
     whole = ap (λ (l : List InHost). length l) e ∙ length-replicate (number_of slots (length slots)) no_host;
-    empty = λ off s z. ap (λ (l : List InHost). found_of slots l off) e ∙ get_or-replicate (number_of slots (length slots)) (number_of slots off) no_host no_host (number_inside slots off s);
+    empty = λ off s z. ap (λ (l : List InHost). host_at slots l off) e ∙ get_or-replicate (number_of slots (length slots)) (number_of slots off) no_host no_host (number_inside slots off s);
     here = λ j off h. absurd (omega (arith, h));
   }
 
-  pub hosts_more : (old new : List InHost) (k : ℕ) → HostsTo section slots ts sorted old k → k < length ts → FindsWithin section slots sorted (get_or ts k no_tail) old new → HostsTo section slots ts sorted new (k + 1)
+  pub hosts_more : (old new : List InHost) (k : ℕ) → HostsTo section slots ts sorted old k → k < length ts → FindsWithin section slots sorted (get_or ts k no_text) old new → HostsTo section slots ts sorted new (k + 1)
   hosts_more old new k to inside finds =
-      let used = longest.used k no_tail inside in
+      let used = longest.used k no_text inside in
       record {
         whole = finds.whole ∙ to.whole;
         empty = λ off s z. finds.there off s (λ w. used.before off w.from w.before z) ∙ to.empty off s z;
         here = λ j off h s w. elim (cases_eq j k) [
-          | inl e ↦ finds.here off s (subst (λ (m : ℕ). IsWithin off (get_or ts m no_tail)) e w)
-          | inr n ↦ elim (cases_within off (get_or ts k no_tail)) [
+          | inl e ↦ finds.here off s (subst (λ (m : ℕ). IsWithin off (get_or ts m no_text)) e w)
+          | inr n ↦ elim (cases_within off (get_or ts k no_text)) [
             | inl v ↦ finds.here off s v
             | inr v ↦ subst (IsInHost sorted (text_from section off)) (sym (finds.there off s v)) (to.here j off (omega (arith, h, n)) s w)
           ]
         ];
       }
 
-  pub hosts_all : (found : List InHost) → HostsTo section slots ts sorted found (length ts) → length slots ≡ length section → AreInHosts section slots sorted found
-  hosts_all found to long = record {
+  pub hosts_all : (in_hosts : List InHost) → HostsTo section slots ts sorted in_hosts (length ts) → length slots ≡ length section → AreInHosts section slots sorted in_hosts
+  hosts_all in_hosts to long = record {
     whole = to.whole;
     empty = to.empty;
     some = λ off s b.
         let a = longest.each off (omega (arith, used_inside slots off s, long)) s b in
-        to.here a.0 off a.2 s (subst (IsWithin off) (sym (get_or_default ts a.0 no_tail a.1 a.2 ∙ a.3)) a.4);
+        to.here a.0 off a.2 s (subst (IsWithin off) (sym (get_or_default ts a.0 no_text a.1 a.2 ∙ a.3)) a.4);
   }

@@ -6,23 +6,23 @@ use Rattle.std.proofs.lemmas.Bool.{cases_lt}
 use Rattle.std.proofs.lemmas.List.{get_or-reverse, get_or-drop, get_or-replicate, get_or_append_left, get_or-append_right, get_or_past, length-append, length-drop, length-replicate, length-reverse, length-take-le, get_or-take}
 use Rattle.std.proofs.lemmas.Nat.{le_bytes_8}
 use Rattle.btf_types.specs.strings.CommonTails.{common_tail}
-use Rattle.bpf_canon.specs.btf.strings.TailKeys.{tail_key}
-use Rattle.bpf_canon.specs.btf.strings.Tails.{text_before}
-use Rattle.bpf_canon.proofs.BtfLemmas.Strings.TailKeys.{key_of_long, key_of_short}
+use Rattle.bpf_canon.specs.btf.strings.SuffixKeys.{suffix_key}
+use Rattle.bpf_canon.specs.btf.strings.SectionTexts.{text_before}
+use Rattle.bpf_canon.proofs.BtfLemmas.Strings.SuffixKeys.{key_of_long, key_of_short}
 use Rattle.bpf_canon.proofs.BtfLemmas.Strings.RankSteps.{front_stops, front_ends}
 
 module _ (x : List ℕ) (p : (i : ℕ) → get_or x i 0 < 256) (j : ℕ) (h : j < 8) where
-  byte_of_long : 8 ≤ length x → get_or (to_le_bytes w64 (tail_key x)) (7 - j) 0 ≡ get_or (reverse x) j 0
+  byte_of_long : 8 ≤ length x → get_or (to_le_bytes w64 (suffix_key x)) (7 - j) 0 ≡ get_or (reverse x) j 0
   byte_of_long l =
       let n = length x - 8 in
       let long : length (drop n x) ≡ 8 = omega (arith, l, length-drop n x) in
       let bytes : (i : ℕ) → get_or (drop n x) i 0 < 256 = λ i. omega (arith, get_or-drop n x i 0, p (n + i)) in
-      ap (λ (t : List ℕ). get_or t (7 - j) 0) (le_bytes_8 (drop n x) (tail_key x) long bytes (sym (key_of_long x n (omega (arith, l)))))
+      ap (λ (t : List ℕ). get_or t (7 - j) 0) (le_bytes_8 (drop n x) (suffix_key x) long bytes (sym (key_of_long x n (omega (arith, l)))))
       ∙ get_or-drop n x (7 - j) 0
       ∙ ap (λ (k : ℕ). get_or x k 0) (let e : n + (7 - j) ≡ length x - 1 - j = omega (arith, l, h) in e)
       ∙ sym (get_or-reverse x j 0 (omega (arith, l, h)))
 
-  byte_of_short : length x < 8 → get_or (to_le_bytes w64 (tail_key x)) (7 - j) 0 ≡ get_or (reverse x) j 0
+  byte_of_short : length x < 8 → get_or (to_le_bytes w64 (suffix_key x)) (7 - j) 0 ≡ get_or (reverse x) j 0
   byte_of_short l =
       let n = 8 - length x in
       let zeros : List ℕ = replicate n 0 in
@@ -31,7 +31,7 @@ module _ (x : List ℕ) (p : (i : ℕ) → get_or x i 0 < 256) (j : ℕ) (h : j 
       let low : (i : ℕ) → i < n → get_or (zeros ++ x) i 0 ≡ 0 = λ i k. get_or_append_left zeros x 0 i (omega (arith, few, k)) ∙ get_or-replicate n i 0 0 k in
       let high : (i : ℕ) → n ≤ i → get_or (zeros ++ x) i 0 ≡ get_or x (i - n) 0 = λ i k. get_or-append_right zeros x n i 0 few k in
       let bytes : (i : ℕ) → get_or (zeros ++ x) i 0 < 256 = λ i. elim (cases_lt i n) [ inl k ↦ omega (arith, low i k) | inr k ↦ omega (arith, high i k, p (i - n)) ] in
-      ap (λ (t : List ℕ). get_or t (7 - j) 0) (le_bytes_8 (zeros ++ x) (tail_key x) long bytes (sym (key_of_short x n (omega (arith, l)))))
+      ap (λ (t : List ℕ). get_or t (7 - j) 0) (le_bytes_8 (zeros ++ x) (suffix_key x) long bytes (sym (key_of_short x n (omega (arith, l)))))
       ∙ elim (cases_lt j (length x)) [
         | inl k ↦
             high (7 - j) (omega (arith, k, l))
@@ -40,10 +40,10 @@ module _ (x : List ℕ) (p : (i : ℕ) → get_or x i 0 < 256) (j : ℕ) (h : j 
         | inr k ↦ low (7 - j) (omega (arith, k, l, h)) ∙ sym (get_or_past (reverse x) j 0 (omega (arith, k, length-reverse x)))
       ]
 
-  pub key_byte : get_or (to_le_bytes w64 (tail_key x)) (7 - j) 0 ≡ get_or (reverse x) j 0
+  pub key_byte : get_or (to_le_bytes w64 (suffix_key x)) (7 - j) 0 ≡ get_or (reverse x) j 0
   key_byte = elim (cases_lt (length x) 8) [ inl l ↦ byte_of_short l | inr l ↦ byte_of_long l ]
 
-module _ (x y : List ℕ) (p : (i : ℕ) → get_or x i 0 < 256) (q : (i : ℕ) → get_or y i 0 < 256) (k m n : ℕ) (first : k ≡ tail_key x) (second : m ≡ tail_key y) where
+module _ (x y : List ℕ) (p : (i : ℕ) → get_or x i 0 < 256) (q : (i : ℕ) → get_or y i 0 < 256) (k m n : ℕ) (first : k ≡ suffix_key x) (second : m ≡ suffix_key y) where
   of_first : (j : ℕ) → j < 8 → get_or (to_le_bytes w64 k) (7 - j) 0 ≡ get_or (reverse x) j 0
   of_first j h = ap (λ (t : ℕ). get_or (to_le_bytes w64 t) (7 - j) 0) first ∙ key_byte x p j h
 
@@ -66,7 +66,7 @@ module _ (x y : List ℕ) (p : (i : ℕ) → get_or x i 0 < 256) (q : (i : ℕ) 
             omega (arith, h, ends, long_x, long_y)
       ]
 
--- what stands behind the last eight bytes, from the end
+-- what comes before the last eight bytes
 front_byte : (x : List ℕ) (j : ℕ) → 8 ≤ length x → get_or (reverse (text_before x)) j 0 ≡ get_or (reverse x) (8 + j) 0
 front_byte x j long =
     let few : length (text_before x) ≡ length x - 8 = length-take-le (length x - 8) x (omega arith) in
@@ -81,9 +81,9 @@ front_byte x j long =
           ∙ sym (get_or_past (reverse x) (8 + j) 0 (omega (arith, h, long, length-reverse x)))
     ]
 
-module _ (x y : List ℕ) (p : (i : ℕ) → get_or x i 0 < 256) (q : (i : ℕ) → get_or y i 0 < 256) (long_x : 8 ≤ length x) (long_y : 8 ≤ length y) (k m n : ℕ) (first : k ≡ tail_key x) (second : m ≡ tail_key y)
+module _ (x y : List ℕ) (p : (i : ℕ) → get_or x i 0 < 256) (q : (i : ℕ) → get_or y i 0 < 256) (long_x : 8 ≤ length x) (long_y : 8 ≤ length y) (k m n : ℕ) (first : k ≡ suffix_key x) (second : m ≡ suffix_key y)
     (same : (j : ℕ) → j < n → get_or (to_le_bytes w64 k) (7 - j) 0 ≡ get_or (to_le_bytes w64 m) (7 - j) 0) (all : 8 ≤ n)
-    (fp : (i : ℕ) → get_or (text_before x) i 0 < 256) (fq : (i : ℕ) → get_or (text_before y) i 0 < 256) (b d r : ℕ) (first_before : b ≡ tail_key (text_before x)) (second_before : d ≡ tail_key (text_before y))
+    (fp : (i : ℕ) → get_or (text_before x) i 0 < 256) (fq : (i : ℕ) → get_or (text_before y) i 0 < 256) (b d r : ℕ) (first_before : b ≡ suffix_key (text_before x)) (second_before : d ≡ suffix_key (text_before y))
     (few : r ≤ 8) (same_before : (j : ℕ) → j < r → get_or (to_le_bytes w64 b) (7 - j) 0 ≡ get_or (to_le_bytes w64 d) (7 - j) 0) where
   alike_last : (j : ℕ) → j < 8 → get_or (reverse x) j 0 ≡ get_or (reverse y) j 0
   alike_last j h = sym (of_first x y p q k m n first second j h) ∙ same j (omega (arith, h, all)) ∙ of_second x y p q k m n first second j h

@@ -7,10 +7,10 @@ use Rattle.std.proofs.lemmas.List.{get_or-drop, length-drop, get_or_append_left,
 use Rattle.std.proofs.lemmas.List.Elements.{All-nil, All-cons, All-append}
 use Rattle.btf_types.specs.Reading.{before_nul, text_from}
 use Rattle.btf_types.proofs.StringLemmas.Suffixes.{Ends, Ends-refl}
-use Rattle.bpf_canon.specs.btf.strings.TailKeys.{tail_key}
-use Rattle.bpf_canon.specs.btf.strings.Tails.{end_in, start_in, tail_text, text_before, HasKey}
+use Rattle.bpf_canon.specs.btf.strings.SuffixKeys.{suffix_key}
+use Rattle.bpf_canon.specs.btf.strings.SectionTexts.{end_in, start_in, text_in, text_before, HasKey}
 use Rattle.bpf_canon.specs.btf.strings.Longest.{IsUsed, IsWithin}
-use Rattle.bpf_canon.specs.declared.btf.strings.tails.Tail.{Tail}
+use Rattle.bpf_canon.specs.declared.btf.strings.section_texts.SectionText.{SectionText}
 use Rattle.bpf_canon.proofs.BtfLemmas.Strings.TextLemmas.{text_is}
 
 before_from : (n : ℕ) (xs : List ℕ) → n ≤ length xs → ((k : ℕ) → k < n → get_or xs k 0 ≢ 0) → Ends (before_nul (drop n xs)) (before_nul xs)
@@ -34,51 +34,51 @@ text_ends section start off low high f =
     subst (λ (t : List ℕ). Ends (before_nul t) (text_from section start))
     (drop_more start (off - start) section ∙ ap (λ (n : ℕ). drop n section) (let e : start + (off - start) ≡ off = omega arith in e)) rest
 
-pub tail_text_is : (section : List ℕ) (t : Tail) → t.start ≤ t.end → t.end ≤ length section → tail_text section t ≡ take (t.end - t.start) (drop t.start section)
-tail_text_is section t low high =
+pub text_in_is : (section : List ℕ) (t : SectionText) → t.start ≤ t.end → t.end ≤ length section → text_in section t ≡ take (t.end - t.start) (drop t.start section)
+text_in_is section t low high =
     let e : end_in section t ≡ t.end = omega arith in
     let s : start_in section t ≡ t.start = omega arith in
     ap (λ (n : ℕ). take (n - start_in section t) (drop (start_in section t) section)) e ∙ ap (λ (n : ℕ). take (t.end - n) (drop n section)) s
 
--- the text of a used tail, and those from within it
-pub used_text : (section slots : List ℕ) (t : Tail) → IsUsed section slots t → tail_text section t ≡ text_from section t.start
+-- a used text, and the texts that begin within it
+pub used_text : (section slots : List ℕ) (t : SectionText) → IsUsed section slots t → text_in section t ≡ text_from section t.start
 used_text section slots t used =
-    tail_text_is section t (omega (arith, used.some)) (omega (arith, used.inside))
+    text_in_is section t (omega (arith, used.some)) (omega (arith, used.inside))
     ∙ text_is section t.start t.end (omega (arith, used.some)) used.inside used.nul used.before
 
-pub used_length : (section slots : List ℕ) (t : Tail) → IsUsed section slots t → length (tail_text section t) ≡ t.end - t.start
+pub used_length : (section slots : List ℕ) (t : SectionText) → IsUsed section slots t → length (text_in section t) ≡ t.end - t.start
 used_length section slots t used =
-    ap (λ (l : List ℕ). length l) (tail_text_is section t (omega (arith, used.some)) (omega (arith, used.inside)))
+    ap (λ (l : List ℕ). length l) (text_in_is section t (omega (arith, used.some)) (omega (arith, used.inside)))
     ∙ length-take-le (t.end - t.start) (drop t.start section) (let rest = length-drop t.start section in omega (arith, rest, used.inside))
 
-pub within_length : (section slots : List ℕ) (t : Tail) (off : ℕ) → IsUsed section slots t → IsWithin off t → length (text_from section off) ≡ t.end - off
+pub within_length : (section slots : List ℕ) (t : SectionText) (off : ℕ) → IsUsed section slots t → IsWithin off t → length (text_from section off) ≡ t.end - off
 within_length section slots t off used within =
     ap (λ (l : List ℕ). length l) (sym (text_is section off t.end (omega (arith, within.before)) used.inside used.nul (λ k low high. used.before k (omega (arith, low, within.from)) high)))
     ∙ length-take-le (t.end - off) (drop off section) (let rest = length-drop off section in omega (arith, rest, used.inside))
 
-pub within_ends : (section slots : List ℕ) (t : Tail) (off : ℕ) → IsUsed section slots t → IsWithin off t → Ends (text_from section off) (tail_text section t)
+pub within_ends : (section slots : List ℕ) (t : SectionText) (off : ℕ) → IsUsed section slots t → IsWithin off t → Ends (text_from section off) (text_in section t)
 within_ends section slots t off used within =
     subst (Ends (text_from section off)) (sym (used_text section slots t used))
     (text_ends section t.start off within.from (omega (arith, within.before, used.inside)) (λ k low high. used.before k low (omega (arith, high, within.before))))
 
 -- found up to an offset
-pub record LongestTo (section slots : List ℕ) (ts : List Tail) (off : ℕ) : Type 0 where
+pub record LongestTo (section slots : List ℕ) (ts : List SectionText) (off : ℕ) : Type 0 where
   pub few : length ts ≤ off
   pub inside : off ≤ length section
   pub keys : All (HasKey section) ts
   pub used : All (IsUsed section slots) ts
   pub each : (o : ℕ) → o < off → get_or slots o 0 ≢ 0 → get_or section o 0 ≢ 0 → Any (IsWithin o) ts
 
-any_more : (P : Tail → Type 0) (ts : List Tail) (t : Tail) → Any P ts → Any P (ts ++ t ∷ [])
+any_more : (P : SectionText → Type 0) (ts : List SectionText) (t : SectionText) → Any P ts → Any P (ts ++ t ∷ [])
 any_more P ts t (k, x, inside, is, p) = (k, x, omega (arith, inside, length-append ts (t ∷ [])), get_or_append_left ts (t ∷ []) x k inside ∙ is, p)
 
-any_last : (P : Tail → Type 0) (ts : List Tail) (t : Tail) → P t → Any P (ts ++ t ∷ [])
+any_last : (P : SectionText → Type 0) (ts : List SectionText) (t : SectionText) → P t → Any P (ts ++ t ∷ [])
 any_last P ts t p = (length ts, t, omega (arith, length-append ts (t ∷ [])), get_or_at ts t [] t (length ts) refl, p)
 
-pub longest_push : (section slots : List ℕ) (ts : List Tail) (off : ℕ) (t : Tail) → LongestTo section slots ts off → get_or section off 0 ≢ 0 → get_or slots off 0 ≢ 0 → t.start ≡ off → off ≤ t.end → t.end < length section → get_or section t.end 0 ≡ 0 → ((k : ℕ) → off ≤ k → k < t.end → get_or section k 0 ≢ 0) → t.key ≡ tail_key (take (t.end - off) (drop off section)) → t.before ≡ tail_key (text_before (take (t.end - off) (drop off section))) → LongestTo section slots (ts ++ t ∷ []) (t.end + 1)
+pub longest_push : (section slots : List ℕ) (ts : List SectionText) (off : ℕ) (t : SectionText) → LongestTo section slots ts off → get_or section off 0 ≢ 0 → get_or slots off 0 ≢ 0 → t.start ≡ off → off ≤ t.end → t.end < length section → get_or section t.end 0 ≡ 0 → ((k : ℕ) → off ≤ k → k < t.end → get_or section k 0 ≢ 0) → t.key ≡ suffix_key (take (t.end - off) (drop off section)) → t.before ≡ suffix_key (text_before (take (t.end - off) (drop off section))) → LongestTo section slots (ts ++ t ∷ []) (t.end + 1)
 longest_push section slots ts off t to some slot start low high nul before key rest =
-    let cut : tail_text section t ≡ take (t.end - off) (drop off section) =
-    tail_text_is section t (omega (arith, start, low)) (omega (arith, high)) ∙ ap (λ (n : ℕ). take (t.end - n) (drop n section)) start in
+    let cut : text_in section t ≡ take (t.end - off) (drop off section) =
+    text_in_is section t (omega (arith, start, low)) (omega (arith, high)) ∙ ap (λ (n : ℕ). take (t.end - n) (drop n section)) start in
     let more : off < t.end = elim (cases_eq off t.end) [
       | inl e ↦ absurd (some (ap (λ (k : ℕ). get_or section k 0) e ∙ nul))
       | inr n ↦ omega (arith, low, n)
@@ -86,7 +86,7 @@ longest_push section slots ts off t to some slot start low high nul before key r
     record {
       few = omega (arith, to.few, more, length-append ts (t ∷ []));
       inside = omega (arith, high);
-      keys = All-append (HasKey section) ts (t ∷ []) to.keys (All-cons (HasKey section) t [] (record { last = key ∙ ap tail_key (sym cut); before = rest ∙ ap (λ (l : List ℕ). tail_key (text_before l)) (sym cut) }) (All-nil (HasKey section)));
+      keys = All-append (HasKey section) ts (t ∷ []) to.keys (All-cons (HasKey section) t [] (record { last = key ∙ ap suffix_key (sym cut); before = rest ∙ ap (λ (l : List ℕ). suffix_key (text_before l)) (sym cut) }) (All-nil (HasKey section)));
       used = All-append (IsUsed section slots) ts (t ∷ []) to.used (All-cons (IsUsed section slots) t [] (record {
         slot = subst (λ (k : ℕ). get_or slots k 0 ≢ 0) (sym start) slot;
         some = omega (arith, start, more);

@@ -15,7 +15,7 @@ use Rattle.btf_types.proofs.StringLemmas.Longest.{Has-kept_some}
 use Rattle.btf_types.specs.strings.CommonTails.{common_front, common_tail, at_rank, IsNextHost, IsFirstRank, AreInTailOrder}
 use Rattle.btf_types.proofs.StringLemmas.CommonTails.{suffix_by_tail}
 use Rattle.bpf_canon.specs.btf.strings.Ranks.{common_before, AreCommon}
-use Rattle.bpf_canon.specs.declared.btf.strings.tails.Tail.{Tail}
+use Rattle.bpf_canon.specs.declared.btf.strings.section_texts.SectionText.{SectionText}
 
 front_same : (a b : ℕ) (x y : List ℕ) → a ≡ b → common_front (a ∷ x) (b ∷ y) ≡ 1 + common_front x y
 front_same a b x y e = cond-true (eqb a b) (1 + common_front x y) 0 (eq-eqb a b e)
@@ -41,13 +41,13 @@ module _ (a b : List ℕ) where
   turned : (n : ℕ) → n ≤ length a → n ≤ length b → ((j : ℕ) → j < n → get_or a (length a - 1 - j) 0 ≡ get_or b (length b - 1 - j) 0) → (j : ℕ) → j < n → get_or (reverse a) j 0 ≡ get_or (reverse b) j 0
   turned n h l f j k = get_or-reverse a j 0 (omega (arith, h, k)) ∙ f j k ∙ sym (get_or-reverse b j 0 (omega (arith, l, k)))
 
-  pub tail_stops : (n : ℕ) → n < length a → n < length b → ((j : ℕ) → j < n → get_or a (length a - 1 - j) 0 ≡ get_or b (length b - 1 - j) 0) → (get_or a (length a - 1 - n) 0 ≡ get_or b (length b - 1 - n) 0 → ⊥) → n ≡ common_tail a b
-  tail_stops n h l f o = sym (front_stops n (reverse a) (reverse b) (omega (arith, h, length-reverse a)) (omega (arith, l, length-reverse b))
+  pub common_stops : (n : ℕ) → n < length a → n < length b → ((j : ℕ) → j < n → get_or a (length a - 1 - j) 0 ≡ get_or b (length b - 1 - j) 0) → (get_or a (length a - 1 - n) 0 ≡ get_or b (length b - 1 - n) 0 → ⊥) → n ≡ common_tail a b
+  common_stops n h l f o = sym (front_stops n (reverse a) (reverse b) (omega (arith, h, length-reverse a)) (omega (arith, l, length-reverse b))
       (turned n (omega (arith, h)) (omega (arith, l)) f)
       (λ e. o (sym (get_or-reverse a n 0 h) ∙ e ∙ get_or-reverse b n 0 l)))
 
-  pub tail_ends : ((j : ℕ) → j < min (length a) (length b) → get_or a (length a - 1 - j) 0 ≡ get_or b (length b - 1 - j) 0) → min (length a) (length b) ≡ common_tail a b
-  tail_ends f =
+  pub common_ends : ((j : ℕ) → j < min (length a) (length b) → get_or a (length a - 1 - j) 0 ≡ get_or b (length b - 1 - j) 0) → min (length a) (length b) ≡ common_tail a b
+  common_ends f =
       let same : min (length (reverse a)) (length (reverse b)) ≡ min (length a) (length b) = omega (arith, length-reverse a, length-reverse b) in
       sym (front_ends (reverse a) (reverse b) (λ j h. turned (min (length a) (length b)) (omega arith) (omega arith) f j (omega (arith, h, same))) ∙ same)
 
@@ -58,7 +58,7 @@ common_next ms k = subst (λ (m : ℕ). common_before ms m ≡ common_tail (at_r
 pub common_first : (ms : List (List ℕ)) (k n : ℕ) → k ≡ 0 → n ≡ 0 → n ≡ common_before ms k
 common_first ms k n e z = z ∙ ap (common_before ms) (sym e)
 
-pub common_here : (f : Tail → List ℕ) (ts : List Tail) (k n : ℕ) (e : Tail) → k < length ts → k ≢ 0 → n ≡ common_tail (f (get_or ts (k - 1) e)) (f (get_or ts k e)) → n ≡ common_before (map f ts) k
+pub common_here : (f : SectionText → List ℕ) (ts : List SectionText) (k n : ℕ) (e : SectionText) → k < length ts → k ≢ 0 → n ≡ common_tail (f (get_or ts (k - 1) e)) (f (get_or ts k e)) → n ≡ common_before (map f ts) k
 common_here f ts zero n e h some same = absurd (some refl)
 common_here f ts (suc k) n e h some same =
     let back : suc k - 1 ≡ k = omega arith in
@@ -113,7 +113,7 @@ first_rank_is ms common n r k are inside before f less = record {
   less = λ some. omega (arith, less, are.each r (omega (arith, before, inside)), common_at ms r some);
 }
 
--- sorted texts of a list are in order by their tails
+-- sorted texts of a list are in order by their bytes from the end
 pub in_tail_order : (texts ms : List (List ℕ)) → IsPermutation texts ms → IsSorted tail_cmp ms → All (λ t. 0 < length t) texts → AreInTailOrder (kept texts) ms
 in_tail_order texts ms perm up some = record {
   members = record {

@@ -5,8 +5,8 @@ use Rattle.std.proofs.Math.Seq.{take-add}
 use Rattle.std.proofs.lemmas.List.{append-nil}
 use Rattle.std.proofs.lemmas.List.Concat.{flat_map-append}
 use Rattle.std.proofs.lemmas.List.Elements.{All-append, All-cons, All-nil, All-set}
-use Rattle.bpf_canon.specs.btf.strings.HostLayout.{span_bytes, IsSpan, HasText}
-use Rattle.bpf_canon.specs.declared.btf.strings.host_layout.Span.{Span}
+use Rattle.bpf_canon.specs.btf.strings.HostPlaces.{span_bytes, IsSpan, HasText}
+use Rattle.bpf_canon.specs.declared.btf.strings.host_places.Span.{Span}
 use Rattle.bpf_canon.proofs.BtfLemmas.Strings.LongestSteps.{drop_more}
 
 -- a span more

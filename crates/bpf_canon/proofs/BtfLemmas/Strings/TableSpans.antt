@@ -8,8 +8,8 @@ use Rattle.btf_raw.specs.Header.{HasNulEnds}
 use Rattle.btf_types.specs.Names.{with_nul}
 use Rattle.btf_types.specs.Reading.{text_from}
 use Rattle.btf_types.proofs.TableLemmas.TextSteps.{text_there}
-use Rattle.bpf_canon.specs.btf.strings.HostLayout.{span_bytes, IsSpan}
-use Rattle.bpf_canon.specs.declared.btf.strings.host_layout.Span.{Span}
+use Rattle.bpf_canon.specs.btf.strings.HostPlaces.{span_bytes, IsSpan}
+use Rattle.bpf_canon.specs.declared.btf.strings.host_places.Span.{Span}
 
 -- the span of the text at an offset
 pub record SpanOf (section : List ℕ) (off : ℕ) (s : Span) : Type 0 where

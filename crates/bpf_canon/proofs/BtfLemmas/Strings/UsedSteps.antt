@@ -26,7 +26,7 @@ number_at_most slots (suc n) = elim (cases_eq (get_or slots n 0) 0) [
   | inr s ↦ let e = ap (λ (l : List ℕ). length l) (below_used slots n s) in omega (arith, e, length_push (used_below slots n) n, number_at_most slots n)
 ]
 
--- the number of a used offset tells which it is
+-- used offsets with the same number are the same
 pub number_below : (slots : List ℕ) (o n : ℕ) → o < n → get_or slots o 0 ≢ 0 → number_of slots o < number_of slots n
 number_below slots o zero h s = absurd (omega (arith, h))
 number_below slots o (suc n) h s = elim (cases_eq (get_or slots n 0) 0) [
@@ -63,7 +63,7 @@ unused_between slots start end off e low high = elim (cases_eq (get_or slots off
   | inr s ↦ absurd (omega (arith, e, number_grows slots start off low, number_below slots off end high s))
 ]
 
--- as many come before two offsets between which none is used
+-- two offsets with no used one between them have the same number of used ones before them
 pub number_kept : (slots : List ℕ) (start end : ℕ) → start ≤ end → ((off : ℕ) → start ≤ off → off < end → get_or slots off 0 ≡ 0) → number_of slots start ≡ number_of slots end
 number_kept slots start zero h none = ap (number_of slots) (let e : start ≡ 0 = omega (arith, h) in e)
 number_kept slots start (suc n) h none = elim (cases_eq start (suc n)) [
@@ -73,8 +73,8 @@ number_kept slots start (suc n) h none = elim (cases_eq start (suc n)) [
       ∙ sym (ap (λ (l : List ℕ). length l) (below_unused slots n (none n (omega (arith, h, q)) (omega arith))))
 ]
 
-pub number_tells : (slots : List ℕ) (o p : ℕ) → get_or slots o 0 ≢ 0 → get_or slots p 0 ≢ 0 → number_of slots o ≡ number_of slots p → o ≡ p
-number_tells slots o p s t e = elim (cases_eq o p) [
+pub number_injective : (slots : List ℕ) (o p : ℕ) → get_or slots o 0 ≢ 0 → get_or slots p 0 ≢ 0 → number_of slots o ≡ number_of slots p → o ≡ p
+number_injective slots o p s t e = elim (cases_eq o p) [
   | inl q ↦ q
   | inr n ↦ elim (cases_lt o p) [
     | inl l ↦ absurd (omega (arith, e, number_below slots o p l s))

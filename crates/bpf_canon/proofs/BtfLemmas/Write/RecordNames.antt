@@ -66,7 +66,7 @@ none_kept : (n : ℕ) → filter is_some_text (tabulate (λ k. []) n) ≡ []
 none_kept zero = refl
 none_kept (suc n) = filter-append is_some_text (tabulate (λ k. []) n) ([] ∷ []) ∙ rw (none_kept n) refl
 
--- an item's name is the text at its first word, where its kind has names; a list of these kinds has as many items as vlen says
+-- an item's name is the text at its first word, where its kind has names; a list of these kinds has vlen items
 item_named : {k : ℕ} → KindIs k → (name : List ℕ) (flag a b c : ℕ) → has_item_names k ≡ true → item_name (item_from name k flag a b c) ≡ name
 unfolding has_item_names item_from
 item_named IsStruct name flag a b c has = refl

@@ -32,13 +32,13 @@ module _ (o : Order) (types strings places : List ℕ) (table : IsTable o types 
   abbrev pub its : List TypeRecord
   its = records_at o types strings places
 
-  -- the noted offsets tell the kept names
+  -- the noted offsets determine the kept names
   pub kept_uses : kept (map (text_from strings) (noted_all [] (all_offsets (frames_at o types places)))) ≡ kept (names its)
   kept_uses =
       let frames = frames_at o types places in
       kept_first_uses (text_from strings) (all_offsets frames) ∙ kept_at_offsets strings frames table.ends table.framed.frames.each table.spelled
 
-  -- canonical records take as many bytes
+  -- canonical records have the same length
   pub types_same : (to : Order) → length types ≡ length (canonical_types to its)
   types_same to =
       let frames = frames_at o types places in

@@ -29,7 +29,7 @@ AddsName old new x = (xs : List (List ℕ)) → old ≡ kept xs → new ≡ kept
 abbrev pub AddsNames : List (List ℕ) → List (List ℕ) → List (List ℕ) → Type 0
 AddsNames old new names = (xs : List (List ℕ)) → old ≡ kept xs → new ≡ kept (xs ++ names)
 
--- the name is empty, or one of those that are kept
+-- the name is empty, or one of the kept names
 abbrev pub IsPlaced : List (List ℕ) → List ℕ → Type 0
 IsPlaced names x = (x ≡ []) ⊎ Contains names x
 
@@ -44,7 +44,7 @@ MapsTo entries f ks = (x : List ℕ) → Contains ks x → looked_up x entries �
 abbrev pub AreHostsOf : List (List ℕ) → List (List ℕ) → Type 0
 AreHostsOf ks named = named ≡ map (host_in (hosts_of ks)) ks
 
--- What stands for the kept names: their hosts, and the place of each name.
+-- What the kept names are stored as: their hosts, and the place of each name.
 pub record AreShared (ks hosts : List (List ℕ)) (places : List ℕ) : Type 0 where
   pub hosts_are : hosts ≡ hosts_of ks
   pub places_are : places ≡ map (shared_among ks) ks

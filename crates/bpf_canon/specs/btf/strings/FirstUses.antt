@@ -11,7 +11,7 @@ abbrev pub noted_all : List ℕ → List ℕ → List ℕ
 noted_all offsets [] = offsets
 noted_all offsets (off ∷ offs) = noted_all (noted offsets off) offs
 
--- what is noted of a section of so many bytes
+-- the noted offsets of a section of this length
 pub record Noted : Type 0 where
   pub section_len : ℕ
   pub offsets : List ℕ

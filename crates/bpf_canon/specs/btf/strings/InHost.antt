@@ -1,13 +1,13 @@
--- Where names stand in their hosts.
+-- The places of names in their hosts.
 use Rattle.std.specs.Prelude.{◌≡◌, ◌≢◌, ℕ, ◌+◌, ◌-◌, ◌^◌, ◌<◌, ◌≤◌, false, List, length, map, slice_index, slice_index_or}
 use Rattle.btf_types.specs.Reading.{text_from}
 use Rattle.btf_types.specs.strings.SharedNames.{is_suffix, hosts_of, host_in}
 use Rattle.btf_types.specs.strings.CommonTails.{at_rank, AreInTailOrder}
 use Rattle.bpf_canon.specs.btf.strings.UsedOffsets.{number_of}
-use Rattle.bpf_canon.specs.btf.strings.Tails.{tail_text}
+use Rattle.bpf_canon.specs.btf.strings.SectionTexts.{text_in}
 use Rattle.bpf_canon.specs.btf.strings.Ranks.{AreRanked}
 use Rattle.bpf_canon.specs.btf.strings.Longest.{IsWithin, AreLongestOf}
-use Rattle.bpf_canon.specs.declared.btf.strings.tails.Tail.{Tail}
+use Rattle.bpf_canon.specs.declared.btf.strings.section_texts.SectionText.{SectionText}
 use Rattle.bpf_canon.specs.declared.btf.strings.hosts_by_rank.InHost.{InHost}
 
 -- Of sorted texts, the one of this rank is the host of x, whatever texts they sort, and it doesn't end the next one.
@@ -23,34 +23,34 @@ pub record IsInHost (sorted : List (List ℕ)) (x : List ℕ) (h : InHost) : Typ
 abbrev pub no_host : InHost
 no_host = record { host = 0; before = 0; len = 0 }
 
--- what is found of a used offset
-abbrev pub found_of : List ℕ → List InHost → ℕ → InHost
-found_of slots found off = slice_index_or found (number_of slots off) no_host
+-- the host of a used offset
+abbrev pub host_at : List ℕ → List InHost → ℕ → InHost
+host_at slots in_hosts off = slice_index_or in_hosts (number_of slots off) no_host
 
 -- The used offsets within a text were given their hosts, and the others stayed as they were.
-pub record FindsWithin (section slots : List ℕ) (sorted : List (List ℕ)) (t : Tail) (old new : List InHost) : Type 0 where
+pub record FindsWithin (section slots : List ℕ) (sorted : List (List ℕ)) (t : SectionText) (old new : List InHost) : Type 0 where
   pub whole : length new ≡ length old
-  pub here : (off : ℕ) → slice_index slots off ≢ 0 → IsWithin off t → IsInHost sorted (text_from section off) (found_of slots new off)
-  pub there : (off : ℕ) → slice_index slots off ≢ 0 → ¬ IsWithin off t → found_of slots new off ≡ found_of slots old off
+  pub here : (off : ℕ) → slice_index slots off ≢ 0 → IsWithin off t → IsInHost sorted (text_from section off) (host_at slots new off)
+  pub there : (off : ℕ) → slice_index slots off ≢ 0 → ¬ IsWithin off t → host_at slots new off ≡ host_at slots old off
 
 -- Each used offset has its host, but where its text is empty.
-pub record AreInHosts (section slots : List ℕ) (sorted : List (List ℕ)) (found : List InHost) : Type 0 where
-  pub whole : length found ≡ number_of slots (length slots)
-  pub empty : (off : ℕ) → slice_index slots off ≢ 0 → slice_index section off ≡ 0 → found_of slots found off ≡ no_host
-  pub some : (off : ℕ) → slice_index slots off ≢ 0 → slice_index section off ≢ 0 → IsInHost sorted (text_from section off) (found_of slots found off)
+pub record AreInHosts (section slots : List ℕ) (sorted : List (List ℕ)) (in_hosts : List InHost) : Type 0 where
+  pub whole : length in_hosts ≡ number_of slots (length slots)
+  pub empty : (off : ℕ) → slice_index slots off ≢ 0 → slice_index section off ≡ 0 → host_at slots in_hosts off ≡ no_host
+  pub some : (off : ℕ) → slice_index slots off ≢ 0 → slice_index section off ≢ 0 → IsInHost sorted (text_from section off) (host_at slots in_hosts off)
 
--- The text of a rank has less in common with that before it than it is long, and no name begins behind its first byte.
-pub record IsAlone (slots common : List ℕ) (rank : ℕ) (t : Tail) : Type 0 where
+-- The text of a rank isn't a suffix of the text before it, and no name begins after its first byte.
+pub record IsAlone (slots common : List ℕ) (rank : ℕ) (t : SectionText) : Type 0 where
   pub less : slice_index common rank < t.end - t.start
   pub unused : (off : ℕ) → t.start + 1 ≤ off → off < t.end → slice_index slots off ≡ 0
 
 -- the texts of all ranks below n are alone
-abbrev pub AreAlone : List ℕ → List ℕ → List Tail → ℕ → Type 0
-AreAlone slots common ts n = (rank : ℕ) (d : Tail) → rank < n → rank < length ts → IsAlone slots common rank (slice_index_or ts rank d)
+abbrev pub AreAlone : List ℕ → List ℕ → List SectionText → ℕ → Type 0
+AreAlone slots common ts n = (rank : ℕ) (d : SectionText) → rank < n → rank < length ts → IsAlone slots common rank (slice_index_or ts rank d)
 
 -- The longest used texts of a section, sorted, with their numbers.
-pub record AreRankedTexts (section slots : List ℕ) (ts : List Tail) (common hosts : List ℕ) : Type 0 where
-  pub ranked : AreRanked (map (tail_text section) ts) common hosts
+pub record AreRankedTexts (section slots : List ℕ) (ts : List SectionText) (common hosts : List ℕ) : Type 0 where
+  pub ranked : AreRanked (map (text_in section) ts) common hosts
   pub longest : AreLongestOf section slots ts
   pub whole : length slots ≡ length section
   pub few : length section < 2 ^ 32

@@ -1,10 +1,10 @@
--- Numbers of sorted texts: the common tails of neighbours, and the ranks that follow from them.
+-- Numbers of sorted texts: the common suffixes of neighbours, and the ranks that follow from them.
 use Rattle.std.specs.Prelude.{◌≡◌, ℕ, zero, suc, ◌<◌, ◌≤◌, List, length, slice_index}
 use Rattle.btf_types.specs.strings.CommonTails.{common_tail, at_rank, IsNextHost}
 use Rattle.std.specs.List.Sorted.{IsSorted}
 use Rattle.btf_types.specs.strings.SharedNames.{tail_cmp}
 
--- how much the text of a rank has in common with that before it
+-- the length of the common suffix of the text of a rank and the text before it
 abbrev pub common_before : List (List ℕ) → ℕ → ℕ
 common_before sorted zero = 0
 common_before sorted (suc k) = common_tail (at_rank sorted k) (at_rank sorted (suc k))
@@ -30,7 +30,7 @@ pub record AreLower (common lower : List ℕ) : Type 0 where
   pub first : slice_index common 0 ≡ 0
   pub each : (k : ℕ) → k < length common → 0 < slice_index common k → IsLower common (slice_index lower k) k
 
--- texts in the order of their tails, with these numbers of each
+-- texts sorted by their bytes from the end, with these numbers of each
 pub record AreRanked (sorted : List (List ℕ)) (common hosts : List ℕ) : Type 0 where
   pub in_order : IsSorted tail_cmp sorted
   pub are_common : AreCommon sorted common

@@ -5,7 +5,7 @@ use Rattle.btf_types.specs.Names.{head_name}
 use Rattle.btf_types.specs.Spelling.{kind_number, head_third, linkage_number, head_tail, info}
 use Rattle.bpf_canon.specs.btf.CanonicalBtf.{canonical_flag}
 
--- vlen of a head with so many items
+-- vlen of the header of a record with n items
 abbrev pub head_vlen : TypeHead → ℕ → ℕ
 head_vlen head count = elim head [ KFunc name linkage target ↦ linkage_number linkage | _ ↦ count ]
 

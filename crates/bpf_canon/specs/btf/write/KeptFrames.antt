@@ -16,7 +16,7 @@ frame_in s pos = frame_at s.order s.types.now pos
 abbrev pub record_in : FileSections → ℕ → TypeRecord
 record_in s pos = record_of s.strings.now (frame_in s pos)
 
--- a record stands at this place
+-- a record is at this place
 abbrev pub HasRecord : FileSections → ℕ → Type 0
 HasRecord s pos = HasRecordAt s.order s.types.now s.strings.now pos
 
@@ -24,7 +24,7 @@ HasRecord s pos = HasRecordAt s.order s.types.now s.strings.now pos
 abbrev pub record_info : TypeRecord → ℕ
 record_info r = info (kind_number r.head) (record_vlen r) (canonical_flag r.head (has_bit_fields r))
 
--- the words of a record's items, and all behind the third
+-- the words of a record's items, and all words after the third
 abbrev pub record_items : (List ℕ → ℕ) → TypeRecord → List ℕ
 record_items place r = flat_map (item_words place) r.items
 

@@ -19,13 +19,13 @@ name_offsets frame = name_word frame ∷ (if has_item_names (kind frame) then ta
 abbrev pub all_offsets : List (List ℕ) → List ℕ
 all_offsets frames = flat_map name_offsets frames
 
--- the record has so many items, each with a name and of so many words
+-- the record has `count` items, each with a name and of `size` words
 pub record HasNamedItems (frame : List ℕ) (size count : ℕ) : Type 0 where
   pub named : IsTrue (has_item_names (kind frame))
   pub words : item_words (kind frame) ≡ size
   pub all : count ≡ vlen frame
 
--- the offsets of the names of the record at a place are among those that are noted
+-- the offsets of the names of the record at a place are among the noted offsets
 pub record HasNotedNames (names : NamesByPlace) (s : FileSections) (pos : ℕ) : Type 0 where
   pub strings : names.strings ≡ s.strings.now
   pub offsets : All (Contains names.offsets) (name_offsets (frame_in s pos))

@@ -1,7 +1,7 @@
-//! The host of each name: the name at whose end it stands in the string table.
+//! The host of each name: the name that it is the end of in the string table.
 //!
-//! The kept names are sorted by their bytes from the end. Then a name that ends any other name ends the next one, and has
-//! its host, so each is tested against its next neighbour alone.
+//! The kept names are sorted by their bytes from the end. Then a name that is a suffix of any other name is a suffix of the next one,
+//! and has its host. So each is compared with the next one alone.
 ghost use Rattle.std.specs.Prelude.{◌≡◌, ◌<◌, ◌^◌, ℕ, List, IfOk, length, map};
 ghost use Rattle.btf_types.specs.Names.{kept, table_of};
 ghost use Rattle.btf_types.specs.strings.SharedNames.{is_suffix, is_proper_suffix, tail_cmp, host, hosts_of, host_in, shared_among};
@@ -25,21 +25,21 @@ fn compare_names(a: &str, b: &str) -> Ordering
     compare_from_end(a.as_bytes(), b.as_bytes())
 }
 
-// Whether the text ends with the tail.
-fn ends_with_tail(text: &str, tail: &str) -> bool
-    ensures { result ≡ is_suffix tail.now text.now }
+/// Whether the text ends with the suffix.
+fn ends_with_suffix(text: &str, suffix: &str) -> bool
+    ensures { result ≡ is_suffix suffix.now text.now }
 {
-    text.as_bytes().ends_with(tail.as_bytes())
+    text.as_bytes().ends_with(suffix.as_bytes())
 }
 
-// Whether the text ends with the tail and isn't the tail.
-fn ends_properly(text: &str, tail: &str) -> bool
-    ensures { result ≡ is_proper_suffix tail.now text.now }
+/// Whether the text ends with the suffix and is longer.
+fn ends_properly(text: &str, suffix: &str) -> bool
+    ensures { result ≡ is_proper_suffix suffix.now text.now }
 {
-    ends_with_tail(text, tail) && tail != text
+    ends_with_suffix(text, suffix) && suffix != text
 }
 
-// The host of each of the kept names, which are sorted by their bytes from the end.
+/// The host of each kept name. The names are sorted by their bytes from the end.
 pub(crate) fn hosts_of_sorted<'a, A: Allocator>(
     alloc: A,
     sorted: &[&'a str],
@@ -55,8 +55,8 @@ pub(crate) fn hosts_of_sorted<'a, A: Allocator>(
     Ok(hosts)
 }
 
-// The kept names by their bytes from the end.
-pub(crate) fn sorted_by_tails<'a, A: Allocator>(
+/// The kept names, sorted by their bytes from the end.
+pub(crate) fn sorted_from_end<'a, A: Allocator>(
     alloc: A,
     names: &[&'a str],
 ) -> Result<Vec<&'a str, A>, AllocError>
@@ -67,7 +67,7 @@ pub(crate) fn sorted_by_tails<'a, A: Allocator>(
     Ok(sorted)
 }
 
-// The host of each name, by name.
+/// The host of each name, by name.
 pub(crate) fn host_map<'a, A: Allocator + Copy>(
     alloc: A,
     sorted: &[&'a str],
@@ -83,7 +83,7 @@ pub(crate) fn host_map<'a, A: Allocator + Copy>(
     Ok(host_of)
 }
 
-// The host of each of the names.
+/// The host of each name, in the order of the names.
 pub(crate) fn named_hosts<'a, A: Allocator>(
     alloc: A,
     names: &[&'a str],
@@ -99,7 +99,7 @@ pub(crate) fn named_hosts<'a, A: Allocator>(
     Ok(hosts)
 }
 
-// The hosts among the names, with their places. Each of the names comes with its host.
+/// The hosts among the names, with their places. `named` has the host of each name.
 pub(crate) fn host_table<'a, A: Allocator + Copy>(
     alloc: A,
     names: &[&'a str],
@@ -119,7 +119,7 @@ pub(crate) fn host_table<'a, A: Allocator + Copy>(
     Ok(hosts)
 }
 
-// The place of each of the names, at the end of its host.
+/// The place of each name, at the end of its host.
 pub(crate) fn shared_places<'a, A: Allocator + Copy>(
     alloc: A,
     names: &[&'a str],

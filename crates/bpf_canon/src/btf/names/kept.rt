@@ -30,7 +30,7 @@ impl<'a, A: Allocator> Model for KeptNames<'a, A> {
 }
 
 impl<'a, A: Allocator + Copy> KeptNames<'a, A> {
-    // No names.
+    /// No names.
     pub(crate) fn new(alloc: A) -> Self
         ensures { result ≡ [] }
     {
@@ -39,7 +39,7 @@ impl<'a, A: Allocator + Copy> KeptNames<'a, A> {
         }
     }
 
-    // The names.
+    /// The names.
     pub(crate) fn as_slice(&self) -> &[&'a str]
         ensures names { lent_texts result.now ≡ self.now }
         ensures own { kept self.now ≡ self.now }
@@ -47,7 +47,7 @@ impl<'a, A: Allocator + Copy> KeptNames<'a, A> {
         self.names.as_slice()
     }
 
-    // Which of the names this one is.
+    /// The index of a name.
     pub(crate) fn index_of(&self, name: &str) -> usize
         requires { Contains self.now name.now }
         ensures inside { result < length self.now }
@@ -56,7 +56,7 @@ impl<'a, A: Allocator + Copy> KeptNames<'a, A> {
         self.names.get_index_of(name).unwrap()
     }
 
-    // Notes a name.
+    /// Adds a name, unless it is empty or there already.
     fn add(&mut self, name: &'a str) -> Result<(), AllocError>
         ensures ok { OnOk result (AddsName self.old self.new name.now) }
         ensures err { OnErr result (self.new ≡ self.old) }
@@ -68,7 +68,7 @@ impl<'a, A: Allocator + Copy> KeptNames<'a, A> {
     }
 }
 
-// Notes the names of one record: its own, then those of its items.
+/// Adds the names of one record: its own, then the names of its items.
 fn add_record_names<'t, T: TypeTable, A: Allocator + Copy>(
     names: &mut KeptNames<'t, A>,
     table: &'t T,
@@ -85,7 +85,7 @@ fn add_record_names<'t, T: TypeTable, A: Allocator + Copy>(
     Ok(())
 }
 
-// The kept names of a table.
+/// The kept names of a table.
 pub(crate) fn kept_names<'t, T: TypeTable, A: Allocator + Copy>(
     alloc: A,
     table: &'t T,

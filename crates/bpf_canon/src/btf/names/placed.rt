@@ -8,11 +8,11 @@ use std::alloc::{AllocError, Allocator};
 use std::hash::{BuildHasherDefault, FoldHasher};
 use std::marker::Model;
 
-/// Names, each once, and where each stands in the table of them all.
+/// Names, each once, with the place of each in the table of them all.
 #[derive(Drop)]
 pub(crate) struct PlacedNames<'a, A: Allocator> {
     places: IndexMap<&'a str, u32, BuildHasherDefault<FoldHasher>, A>,
-    // how long the table is
+    // the length of the table
     len: u32,
 }
 
@@ -28,7 +28,7 @@ impl<'a, A: Allocator> Model for PlacedNames<'a, A> {
 }
 
 impl<'a, A: Allocator + Copy> PlacedNames<'a, A> {
-    // No names. The table of none is a NUL.
+    /// No names. The table of none is a NUL.
     pub(crate) fn new(alloc: A) -> Self
         ensures { result ≡ [] }
     {
@@ -38,7 +38,7 @@ impl<'a, A: Allocator + Copy> PlacedNames<'a, A> {
         }
     }
 
-    // Notes a name.
+    /// Adds a name at the end of the table, unless it is empty or there already.
     pub(crate) fn add(&mut self, name: &'a str) -> Result<(), AllocError>
         requires { length (table_of self.old) + length name.now + 1 < 2 ^ 32 }
         ensures ok { OnOk result (AddsName self.old self.new name.now) }
@@ -52,7 +52,7 @@ impl<'a, A: Allocator + Copy> PlacedNames<'a, A> {
         Ok(())
     }
 
-    // Where a noted name stands; the empty one stands at the table's first NUL.
+    /// The place of a name; the empty one is at the table's first NUL.
     pub(crate) fn place(&self, name: &str) -> u32
         requires { IsPlaced self.now name.now }
         ensures { result ≡ place_among self.now name.now }
@@ -63,7 +63,7 @@ impl<'a, A: Allocator + Copy> PlacedNames<'a, A> {
         *self.places.get(name).unwrap()
     }
 
-    // Appends the table: NUL, then each name with its NUL.
+    /// Appends the table: NUL, then each name with its NUL.
     pub(crate) fn push_table<B: Allocator>(&self, out: &mut Vec<u8, B>) -> Result<(), AllocError>
         ensures { OnOk result (out.new.items ≡ out.old.items ++ table_of self.now) }
     {
@@ -75,7 +75,7 @@ impl<'a, A: Allocator + Copy> PlacedNames<'a, A> {
         Ok(())
     }
 
-    // How long the table is.
+    /// The length of the table.
     pub(crate) fn table_len(&self) -> u32
         ensures { result ≡ length (table_of self.now) }
     {

@@ -2,7 +2,7 @@
 ghost use Rattle.std.specs.Prelude.{◌≡◌, ◌<◌, IfOk, OnOk};
 ghost use Rattle.bpf_canon.specs.btf.strings.FirstUses as spec;
 
-use crate::btf::strings::offset_marks::OffsetMarks;
+use crate::btf::strings::offset_set::OffsetSet;
 use std::alloc::{AllocError, Allocator};
 use std::marker::Model;
 
@@ -10,7 +10,7 @@ use std::marker::Model;
 #[derive(Drop)]
 pub(crate) struct FirstUses<A: Allocator> {
     // the offsets where names begin
-    pub(crate) marks: OffsetMarks<A>,
+    pub(crate) marks: OffsetSet<A>,
     pub(crate) offsets: Vec<u32, A>,
 }
 
@@ -26,25 +26,25 @@ impl<A: Allocator> Model for FirstUses<A> {
 }
 
 impl<A: Allocator + Copy> FirstUses<A> {
-    // Nothing is noted yet of a section of so many bytes.
+    /// No offset of a section of `section_len` bytes is used yet.
     pub(crate) fn new(alloc: A, section_len: usize) -> Result<FirstUses<A>, AllocError>
         ensures { IfOk result (λ f. f ≡ spec.nothing_noted section_len) }
     {
         Ok(FirstUses {
-            marks: OffsetMarks::new(alloc, section_len)?,
+            marks: OffsetSet::new(alloc, section_len)?,
             offsets: Vec::new(alloc),
         })
     }
 
-    // Notes the offset of a name. Nothing is said of what is noted where memory was refused.
+    /// Notes the offset of a name. At an error the contract says nothing of the noted offsets.
     pub(crate) fn note(&mut self, off: u32) -> Result<(), AllocError>
         requires { off < self.old.section_len }
         ensures section { self.new.section_len ≡ self.old.section_len }
         ensures offsets { OnOk result (self.new.offsets ≡ spec.noted self.old.offsets off) }
     {
-        if !self.marks.is_marked(off as usize) {
+        if !self.marks.contains(off as usize) {
             self.offsets.push(off)?;
-            self.marks.mark(off as usize);
+            self.marks.insert(off as usize);
         }
         Ok(())
     }

@@ -4,28 +4,28 @@ ghost use Rattle.std.specs.List.{All, Any};
 ghost use Rattle.std.specs.List.Sorted.{IsPermutation};
 ghost use Rattle.bpf_canon.specs.btf.strings.Ranks.{AreLower, AreRanked};
 ghost use Rattle.bpf_canon.specs.btf.strings.Longest.{IsUsed, AreLongestOf};
-ghost use Rattle.bpf_canon.specs.btf.strings.Tails.{tail_text};
+ghost use Rattle.bpf_canon.specs.btf.strings.SectionTexts.{text_in};
 ghost use Rattle.bpf_canon.specs.btf.strings.UsedOffsets.{number_of};
 ghost use Rattle.bpf_canon.specs.btf.strings.InHost as spec;
 
-use crate::btf::strings::ranked_tails::RankedTails;
+use crate::btf::strings::ranked_texts::RankedTexts;
 use crate::btf::strings::ranks::{first_rank, lower_ranks};
 use crate::btf::strings::used_offsets::UsedOffsets;
 use std::alloc::{AllocError, Allocator};
 
-/// Where a name stands in its host.
+/// The place of a name in its host.
 #[derive(Clone, Copy)]
 pub(crate) struct InHost {
-    /// Which of the sorted texts is the host, from 1 on, and 0 for the empty name.
+    /// The rank of the host plus 1, and 0 for the empty name.
     pub(crate) host: u32,
-    /// How many bytes of the host come before the name.
+    /// The number of bytes of the host before the name.
     pub(crate) before: u32,
-    /// How many bytes the host has.
+    /// The length of the host in bytes.
     pub(crate) len: u32,
 }
 
 impl InHost {
-    // Nothing is found yet, or the name is empty.
+    /// Not found yet, or the name is empty.
     const NONE: InHost = InHost {
         host: 0,
         before: 0,
@@ -33,33 +33,33 @@ impl InHost {
     };
 }
 
-// Finds the hosts of the used offsets within the text of a rank. Their texts get shorter, so the first rank that ends with one is
-// sought from that of the one before.
+/// Finds the hosts of the used offsets within the text of a rank. Their texts get shorter, so the search for the first rank that ends
+/// with a text begins at the rank found for the offset before.
 fn find_within<A: Allocator>(
     uses: &UsedOffsets<A>,
-    ranked: &RankedTails<'_, A>,
+    ranked: &RankedTexts<'_, A>,
     lower: &[u32],
     rank: usize,
-    found: &mut [InHost],
+    in_hosts: &mut [InHost],
 )
-    requires ranked { AreRanked (map (tail_text ranked.now.section.now) ranked.now.tails.items) ranked.now.common.items ranked.now.hosts.items }
+    requires ranked { AreRanked (map (text_in ranked.now.section.now) ranked.now.texts.items) ranked.now.common.items ranked.now.hosts.items }
     requires lower { AreLower ranked.now.common.items lower.now }
-    requires few { length ranked.now.tails.items < 2 ^ 32 }
-    requires used { All (IsUsed ranked.now.section.now uses.now) ranked.now.tails.items }
+    requires few { length ranked.now.texts.items < 2 ^ 32 }
+    requires used { All (IsUsed ranked.now.section.now uses.now) ranked.now.texts.items }
     requires slots { length uses.now ≡ length ranked.now.section.now }
     requires section { length ranked.now.section.now < 2 ^ 32 }
-    requires inside { rank < length ranked.now.tails.items }
-    requires whole { length found.old ≡ number_of uses.now (length uses.now) }
-    ensures { spec.FindsWithin ranked.now.section.now uses.now (map (tail_text ranked.now.section.now) ranked.now.tails.items) (slice_index_or ranked.now.tails.items rank (record { key = 0; before = 0; start = 0; end = 0 })) found.old found.new }
+    requires inside { rank < length ranked.now.texts.items }
+    requires whole { length in_hosts.old ≡ number_of uses.now (length uses.now) }
+    ensures { spec.FindsWithin ranked.now.section.now uses.now (map (text_in ranked.now.section.now) ranked.now.texts.items) (slice_index_or ranked.now.texts.items rank (record { key = 0; before = 0; start = 0; end = 0 })) in_hosts.old in_hosts.new }
 {
-    let end = ranked.tails[rank].end;
+    let end = ranked.texts[rank].end;
     let mut from = rank;
-    for off in ranked.tails[rank].start..end {
+    for off in ranked.texts[rank].start..end {
         if uses.is_used(off as usize) {
             from = first_rank(&ranked.common, lower, from, end - off);
             let host = ranked.hosts[from];
-            let len = ranked.tails[host as usize].len();
-            found[uses.number(off as usize)] = InHost {
+            let len = ranked.texts[host as usize].len();
+            in_hosts[uses.number(off as usize)] = InHost {
                 host: host + 1,
                 before: len - (end - off),
                 len,
@@ -68,14 +68,14 @@ fn find_within<A: Allocator>(
     }
 }
 
-// Whether no two texts are the same and none has a name behind its first byte, as in most files.
-fn are_alone<A: Allocator>(uses: &UsedOffsets<A>, ranked: &RankedTails<'_, A>) -> bool
-    requires { spec.AreRankedTexts ranked.now.section.now uses.now ranked.now.tails.items ranked.now.common.items ranked.now.hosts.items }
-    ensures yes { result ≡ true → spec.AreAlone uses.now ranked.now.common.items ranked.now.tails.items (length ranked.now.tails.items) }
-    ensures no { result ≡ false → ¬ spec.AreAlone uses.now ranked.now.common.items ranked.now.tails.items (length ranked.now.tails.items) }
+/// Whether all texts are different and no name begins inside one, as in most files.
+fn are_alone<A: Allocator>(uses: &UsedOffsets<A>, ranked: &RankedTexts<'_, A>) -> bool
+    requires { spec.AreRankedTexts ranked.now.section.now uses.now ranked.now.texts.items ranked.now.common.items ranked.now.hosts.items }
+    ensures yes { result ≡ true → spec.AreAlone uses.now ranked.now.common.items ranked.now.texts.items (length ranked.now.texts.items) }
+    ensures no { result ≡ false → ¬ spec.AreAlone uses.now ranked.now.common.items ranked.now.texts.items (length ranked.now.texts.items) }
 {
-    for rank in 0..ranked.tails.len() {
-        let text = ranked.tails[rank];
+    for rank in 0..ranked.texts.len() {
+        let text = ranked.texts[rank];
         let is_alone = ranked.common[rank] < text.len()
             && uses.are_unused(text.start as usize + 1, text.end as usize);
         if !is_alone {
@@ -85,55 +85,55 @@ fn are_alone<A: Allocator>(uses: &UsedOffsets<A>, ranked: &RankedTails<'_, A>) -
     true
 }
 
-// The host of each used offset, by its number, where each text is alone: that of a rank is the next host from there on.
+/// The host of each used offset, by its number, if each text is alone: the host of a rank is the next host from that rank on.
 fn find_alone<A: Allocator + Copy>(
     alloc: A,
     uses: &UsedOffsets<A>,
-    ranked: &RankedTails<'_, A>,
+    ranked: &RankedTexts<'_, A>,
 ) -> Result<Vec<InHost, A>, AllocError>
-    requires texts { spec.AreRankedTexts ranked.now.section.now uses.now ranked.now.tails.items ranked.now.common.items ranked.now.hosts.items }
-    requires alone { spec.AreAlone uses.now ranked.now.common.items ranked.now.tails.items (length ranked.now.tails.items) }
-    ensures { IfOk result (λ found. spec.AreInHosts ranked.now.section.now uses.now (map (tail_text ranked.now.section.now) ranked.now.tails.items) found.items) }
+    requires texts { spec.AreRankedTexts ranked.now.section.now uses.now ranked.now.texts.items ranked.now.common.items ranked.now.hosts.items }
+    requires alone { spec.AreAlone uses.now ranked.now.common.items ranked.now.texts.items (length ranked.now.texts.items) }
+    ensures { IfOk result (λ in_hosts. spec.AreInHosts ranked.now.section.now uses.now (map (text_in ranked.now.section.now) ranked.now.texts.items) in_hosts.items) }
 {
-    let mut found = vec![in alloc; InHost::NONE; uses.count()]?;
-    for rank in 0..ranked.tails.len() {
-        let text = ranked.tails[rank];
+    let mut in_hosts = vec![in alloc; InHost::NONE; uses.count()]?;
+    for rank in 0..ranked.texts.len() {
+        let text = ranked.texts[rank];
         let host = ranked.hosts[rank];
-        let len = ranked.tails[host as usize].len();
-        found[uses.number(text.start as usize)] = InHost {
+        let len = ranked.texts[host as usize].len();
+        in_hosts[uses.number(text.start as usize)] = InHost {
             host: host + 1,
             before: len - text.len(),
             len,
         };
     }
-    Ok(found)
+    Ok(in_hosts)
 }
 
-// The host of each used offset, by its number, where texts may be the same, and names may stand within one.
+/// The host of each used offset, by its number, also if texts are the same or names begin inside one.
 fn find_shared<A: Allocator + Copy>(
     alloc: A,
     uses: &UsedOffsets<A>,
-    ranked: &RankedTails<'_, A>,
+    ranked: &RankedTexts<'_, A>,
 ) -> Result<Vec<InHost, A>, AllocError>
-    requires { spec.AreRankedTexts ranked.now.section.now uses.now ranked.now.tails.items ranked.now.common.items ranked.now.hosts.items }
-    ensures { IfOk result (λ found. spec.AreInHosts ranked.now.section.now uses.now (map (tail_text ranked.now.section.now) ranked.now.tails.items) found.items) }
+    requires { spec.AreRankedTexts ranked.now.section.now uses.now ranked.now.texts.items ranked.now.common.items ranked.now.hosts.items }
+    ensures { IfOk result (λ in_hosts. spec.AreInHosts ranked.now.section.now uses.now (map (text_in ranked.now.section.now) ranked.now.texts.items) in_hosts.items) }
 {
     let lower = lower_ranks(alloc, &ranked.common)?;
-    let mut found = vec![in alloc; InHost::NONE; uses.count()]?;
-    for rank in 0..ranked.tails.len() {
-        find_within(uses, ranked, &lower, rank, &mut found);
+    let mut in_hosts = vec![in alloc; InHost::NONE; uses.count()]?;
+    for rank in 0..ranked.texts.len() {
+        find_within(uses, ranked, &lower, rank, &mut in_hosts);
     }
-    Ok(found)
+    Ok(in_hosts)
 }
 
-// The host of each used offset, by its number.
+/// The host of each used offset, by its number.
 pub(crate) fn find_hosts<A: Allocator + Copy>(
     alloc: A,
     uses: &UsedOffsets<A>,
-    ranked: &RankedTails<'_, A>,
+    ranked: &RankedTexts<'_, A>,
 ) -> Result<Vec<InHost, A>, AllocError>
-    requires { spec.AreRankedTexts ranked.now.section.now uses.now ranked.now.tails.items ranked.now.common.items ranked.now.hosts.items }
-    ensures { IfOk result (λ found. spec.AreInHosts ranked.now.section.now uses.now (map (tail_text ranked.now.section.now) ranked.now.tails.items) found.items) }
+    requires { spec.AreRankedTexts ranked.now.section.now uses.now ranked.now.texts.items ranked.now.common.items ranked.now.hosts.items }
+    ensures { IfOk result (λ in_hosts. spec.AreInHosts ranked.now.section.now uses.now (map (text_in ranked.now.section.now) ranked.now.texts.items) in_hosts.items) }
 {
     if are_alone(uses, ranked) {
         find_alone(alloc, uses, ranked)

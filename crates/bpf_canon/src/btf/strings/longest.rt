@@ -3,18 +3,18 @@ ghost use Rattle.std.specs.Prelude.{◌≡◌, ◌<◌, ◌^◌, IfOk, length};
 ghost use Rattle.btf_raw.specs.Header.{HasNulEnds};
 ghost use Rattle.bpf_canon.specs.btf.strings.Longest.{AreLongestOf};
 
-use crate::btf::strings::tails::Tail;
-use crate::btf::strings::texts::end_of;
+use crate::btf::strings::section_texts::SectionText;
+use crate::btf::strings::texts::text_end;
 use crate::btf::strings::used_offsets::UsedOffsets;
 use crate::btf::suffixes::suffix_key;
 use std::alloc::{AllocError, Allocator};
 
-// The longest used text of each string of the section. Those at further offsets of the string are its suffixes.
+/// The longest used text of each string of the section. The texts at further offsets of that string are its suffixes.
 pub(crate) fn longest_texts<A: Allocator>(
     alloc: A,
     section: &[u8],
     uses: &UsedOffsets<A>,
-) -> Result<Vec<Tail, A>, AllocError>
+) -> Result<Vec<SectionText, A>, AllocError>
     requires ends { HasNulEnds section.now }
     requires few { length section.now < 2 ^ 32 }
     requires whole { length uses.now ≡ length section.now }
@@ -27,10 +27,10 @@ pub(crate) fn longest_texts<A: Allocator>(
             off += 1;
             continue;
         }
-        let end = end_of(section, off);
+        let end = text_end(section, off);
         let text = &section[off..end];
         let before = &text[..text.len().saturating_sub(8)];
-        longest.push(Tail {
+        longest.push(SectionText {
             key: suffix_key(text),
             before: suffix_key(before),
             start: off as u32,

@@ -1,29 +1,29 @@
-//! Where names stand in the string table in which they share tails (btf.rst section 2.1).
+//! The places of names in the string table in which they share suffixes (btf.rst section 2.1).
 ghost use Rattle.std.specs.Prelude.{◌≡◌, ◌+◌, ◌<◌, ◌^◌, ◌++◌, length, map, slice_index, IfOk, OnOk};
 ghost use Rattle.std.specs.List.{All, Contains};
 ghost use Rattle.btf_raw.specs.Header.{HasNulEnds};
 ghost use Rattle.btf_types.specs.Reading.{text_from};
 ghost use Rattle.btf_types.specs.strings.SharedNames.{shared_table, shared_place};
 ghost use Rattle.bpf_canon.specs.btf.strings.FirstUses.{AreMarked};
-ghost use Rattle.bpf_canon.specs.btf.strings.HostLayout.{GivePlaces};
+ghost use Rattle.bpf_canon.specs.btf.strings.HostPlaces.{GivePlaces};
 ghost use Rattle.bpf_canon.specs.btf.strings.NamesByPlace.{placed_texts};
 
 use crate::btf::strings::first_uses::FirstUses;
-use crate::btf::strings::host_layout::{HostLayout, Span, lay_out};
+use crate::btf::strings::host_places::{HostPlaces, Span, place_hosts};
 use crate::btf::strings::hosts_by_rank::{InHost, find_hosts};
 use crate::btf::strings::longest::longest_texts;
-use crate::btf::strings::ranked_tails::RankedTails;
+use crate::btf::strings::ranked_texts::RankedTexts;
 use crate::btf::strings::used_offsets::UsedOffsets;
 use std::alloc::{AllocError, Allocator};
 use std::marker::Model;
 
-/// The places of the names at offsets of a string section, in the table in which they share tails.
+/// The places of the names at offsets of a string section, in the table in which they share suffixes.
 #[derive(Drop)]
 pub(crate) struct SharedPlaces<'a, A: Allocator> {
     strings: &'a [u8],
     offsets: Vec<u32, A>,
     used: UsedOffsets<A>,
-    // where the name at each used offset stands, by the offset's number
+    // the place of the name at each used offset, by the offset's number
     places: Vec<u32, A>,
     // the hosts in the order of the table
     spans: Vec<Span, A>,
@@ -32,7 +32,7 @@ pub(crate) struct SharedPlaces<'a, A: Allocator> {
 
 impl<'a, A: Allocator> Model for SharedPlaces<'a, A> {
     ghost use Rattle.bpf_canon.specs.btf.strings.NamesByPlace.{NamesByPlace};
-    ghost use Rattle.bpf_canon.specs.btf.strings.HostLayout.{ArePlaced};
+    ghost use Rattle.bpf_canon.specs.btf.strings.HostPlaces.{ArePlaced};
 
     ghost Value = { NamesByPlace };
 
@@ -41,46 +41,46 @@ impl<'a, A: Allocator> Model for SharedPlaces<'a, A> {
     ghost invariant = { λ p. ArePlaced p.strings.now p.offsets.items p.used p.places.items p.spans.items p.table_len };
 }
 
-// The place of each used offset: that of its host, and what comes before it there.
-fn places_of<A: Allocator>(
+/// The place of each used offset: the place of its host plus the bytes of the host before it.
+fn name_places<A: Allocator>(
     alloc: A,
-    found: &[InHost],
-    placed: &[u32],
+    in_hosts: &[InHost],
+    by_rank: &[u32],
 ) -> Result<Vec<u32, A>, AllocError>
-    requires ranked { All (λ at. at.host < length placed.now) found.now }
-    requires fits { All (λ at. slice_index placed.now at.host + at.before < 2 ^ 32) found.now }
-    ensures { IfOk result (λ places. places.items ≡ map (λ at. slice_index placed.now at.host + at.before) found.now) }
+    requires ranked { All (λ at. at.host < length by_rank.now) in_hosts.now }
+    requires fits { All (λ at. slice_index by_rank.now at.host + at.before < 2 ^ 32) in_hosts.now }
+    ensures { IfOk result (λ places. places.items ≡ map (λ at. slice_index by_rank.now at.host + at.before) in_hosts.now) }
 {
-    let mut places = Vec::with_capacity(alloc, found.len())?;
-    for at in found {
-        places.push(placed[at.host as usize] + at.before)?;
+    let mut places = Vec::with_capacity(alloc, in_hosts.len())?;
+    for at in in_hosts {
+        places.push(by_rank[at.host as usize] + at.before)?;
     }
     Ok(places)
 }
 
-// The hosts of the names at these offsets, and the table in which they stand.
-fn found_and_laid<A: Allocator + Copy>(
+/// The hosts of the names at these offsets, and the places of these hosts.
+fn hosts_and_places<A: Allocator + Copy>(
     alloc: A,
     strings: &[u8],
     offsets: &[u32],
     used: &UsedOffsets<A>,
-) -> Result<(Vec<InHost, A>, HostLayout<A>), AllocError>
+) -> Result<(Vec<InHost, A>, HostPlaces<A>), AllocError>
     requires ends { HasNulEnds strings.now }
     requires few { length strings.now < 2 ^ 32 }
     requires slots { length used.now ≡ length strings.now }
     requires marked { AreMarked offsets.now used.now }
     requires room { length (shared_table (map (text_from strings.now) offsets.now)) < 2 ^ 32 }
-    ensures { IfOk result (λ (found, layout). GivePlaces strings.now offsets.now used.now found.items layout.placed.items layout.spans.items layout.len) }
+    ensures { IfOk result (λ (in_hosts, host_places). GivePlaces strings.now offsets.now used.now in_hosts.items host_places.by_rank.items host_places.spans.items host_places.len) }
 {
     let texts = longest_texts(alloc, strings, used)?;
-    let ranked = RankedTails::new(alloc, strings, texts)?;
-    let found = find_hosts(alloc, used, &ranked)?;
-    let layout = lay_out(alloc, offsets, used, &found, &ranked)?;
-    Ok((found, layout))
+    let ranked = RankedTexts::new(alloc, strings, texts)?;
+    let in_hosts = find_hosts(alloc, used, &ranked)?;
+    let host_places = place_hosts(alloc, offsets, used, &in_hosts, &ranked)?;
+    Ok((in_hosts, host_places))
 }
 
 impl<'a, A: Allocator + Copy> SharedPlaces<'a, A> {
-    // Finds the places of the names that are noted of this section.
+    /// Finds the places of the names that are used in this section.
     pub(crate) fn find(
         alloc: A,
         strings: &'a [u8],
@@ -95,9 +95,13 @@ impl<'a, A: Allocator + Copy> SharedPlaces<'a, A> {
     {
         let FirstUses { marks, offsets } = uses;
         let used = UsedOffsets::new(alloc, marks)?;
-        let (found, layout) = found_and_laid(alloc, strings, &offsets, &used)?;
-        let HostLayout { placed, spans, len } = layout;
-        let places = places_of(alloc, &found, &placed)?;
+        let (in_hosts, host_places) = hosts_and_places(alloc, strings, &offsets, &used)?;
+        let HostPlaces {
+            by_rank,
+            spans,
+            len,
+        } = host_places;
+        let places = name_places(alloc, &in_hosts, &by_rank)?;
         Ok(SharedPlaces {
             strings,
             offsets,
@@ -110,7 +114,7 @@ impl<'a, A: Allocator + Copy> SharedPlaces<'a, A> {
 }
 
 impl<A: Allocator> SharedPlaces<'_, A> {
-    // Where the name at a noted offset stands in the table.
+    /// The place of the name at a used offset.
     pub(crate) fn place(&self, off: u32) -> u32
         requires { Contains self.now.offsets off }
         ensures { result ≡ shared_place (placed_texts self.now) (text_from self.now.strings off) }
@@ -118,14 +122,14 @@ impl<A: Allocator> SharedPlaces<'_, A> {
         self.places[self.used.number(off as usize)]
     }
 
-    // How long the table is.
+    /// The length of the table.
     pub(crate) fn table_len(&self) -> u32
         ensures { result ≡ length (shared_table (placed_texts self.now)) }
     {
         self.table_len
     }
 
-    // Appends the table: NUL, then each host with its NUL.
+    /// Appends the table: NUL, then each host with its NUL.
     pub(crate) fn push_table<B: Allocator>(&self, out: &mut Vec<u8, B>) -> Result<(), AllocError>
         ensures { OnOk result (out.new.items ≡ out.old.items ++ shared_table (placed_texts self.now)) }
     {

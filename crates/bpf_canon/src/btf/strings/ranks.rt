@@ -4,13 +4,13 @@ ghost use Rattle.std.specs.Int.{w64, to_le_bytes};
 ghost use Rattle.std.specs.List.{All};
 ghost use Rattle.btf_types.specs.strings.CommonTails as spec;
 ghost use Rattle.bpf_canon.specs.btf.strings.Ranks.{AreCommon, AreNextHosts, AreLower};
-ghost use Rattle.bpf_canon.specs.btf.strings.Tails.{tail_text, HasKey};
+ghost use Rattle.bpf_canon.specs.btf.strings.SectionTexts.{text_in, HasKey};
 
-use crate::btf::strings::tails::{Tail, text_of};
+use crate::btf::strings::section_texts::{SectionText, text_of};
 use std::alloc::{AllocError, Allocator};
 
-// How many bytes two texts have in common at their ends.
-pub(crate) fn common_tail(a: &[u8], b: &[u8]) -> usize
+/// The length of the longest common suffix of two texts.
+pub(crate) fn common_suffix(a: &[u8], b: &[u8]) -> usize
     ensures common { result ≡ spec.common_tail a.now b.now }
     ensures first { result ≤ length a.now }
 {
@@ -23,7 +23,7 @@ pub(crate) fn common_tail(a: &[u8], b: &[u8]) -> usize
     most
 }
 
-// How many of their last eight bytes two keys have in common.
+/// The length of the common suffix of the eight bytes that two keys spell.
 fn common_bytes(a: u64, b: u64) -> usize
     ensures few { result ≤ 8 }
     ensures same { (j : ℕ) → j < result → slice_index (to_le_bytes w64 a) (7 - j) ≡ slice_index (to_le_bytes w64 b) (7 - j) }
@@ -32,12 +32,12 @@ fn common_bytes(a: u64, b: u64) -> usize
     (a ^ b).leading_zeros() as usize / 8
 }
 
-// How many bytes the texts of two tails have in common at their ends. Mostly their keys tell, and the section isn't read.
-fn common_of(section: &[u8], a: &Tail, b: &Tail) -> usize
+/// The length of the longest common suffix of two texts of a section. Mostly it follows from their keys, and the section isn't read.
+fn common_of(section: &[u8], a: &SectionText, b: &SectionText) -> usize
     requires first { HasKey section.now a.now }
     requires second { HasKey section.now b.now }
-    ensures common { result ≡ spec.common_tail (tail_text section.now a.now) (tail_text section.now b.now) }
-    ensures inside { result ≤ length (tail_text section.now a.now) }
+    ensures common { result ≡ spec.common_tail (text_in section.now a.now) (text_in section.now b.now) }
+    ensures inside { result ≤ length (text_in section.now a.now) }
 {
     let (first, second) = (text_of(section, a), text_of(section, b));
     let common = common_bytes(a.key, b.key)
@@ -52,18 +52,18 @@ fn common_of(section: &[u8], a: &Tail, b: &Tail) -> usize
     if before < 8 {
         return 8 + before;
     }
-    common_tail(first, second)
+    common_suffix(first, second)
 }
 
-// How much each text has in common with the one before it.
-pub(crate) fn common_tails<A: Allocator>(
+/// The length of the suffix that each text has in common with the one before it.
+pub(crate) fn common_suffixes<A: Allocator>(
     alloc: A,
     section: &[u8],
-    sorted: &[Tail],
+    sorted: &[SectionText],
 ) -> Result<Vec<u32, A>, AllocError>
     requires section { length section.now < 2 ^ 32 }
     requires keys { All (HasKey section.now) sorted.now }
-    ensures { IfOk result (λ common. AreCommon (map (tail_text section.now) sorted.now) common.items) }
+    ensures { IfOk result (λ common. AreCommon (map (text_in section.now) sorted.now) common.items) }
 {
     let mut common = Vec::with_capacity(alloc, sorted.len())?;
     for k in 0..sorted.len() {
@@ -77,16 +77,16 @@ pub(crate) fn common_tails<A: Allocator>(
     Ok(common)
 }
 
-// The next host of each rank.
+/// The next host of each rank.
 pub(crate) fn next_hosts<A: Allocator>(
     alloc: A,
     section: &[u8],
-    sorted: &[Tail],
+    sorted: &[SectionText],
     common: &[u32],
 ) -> Result<Vec<u32, A>, AllocError>
-    requires common { AreCommon (map (tail_text section.now) sorted.now) common.now }
+    requires common { AreCommon (map (text_in section.now) sorted.now) common.now }
     requires few { length sorted.now < 2 ^ 32 }
-    ensures { IfOk result (λ hosts. AreNextHosts (map (tail_text section.now) sorted.now) hosts.items) }
+    ensures { IfOk result (λ hosts. AreNextHosts (map (text_in section.now) sorted.now) hosts.items) }
 {
     let mut hosts = vec![in alloc; 0; sorted.len()]?;
     for k in (0..sorted.len()).rev() {
@@ -102,7 +102,7 @@ pub(crate) fn next_hosts<A: Allocator>(
     Ok(hosts)
 }
 
-// The last rank before each with less in common.
+/// For each rank the last rank before it with a shorter common suffix.
 pub(crate) fn lower_ranks<A: Allocator>(alloc: A, common: &[u32]) -> Result<Vec<u32, A>, AllocError>
     requires first { slice_index common.now 0 ≡ 0 }
     requires few { length common.now < 2 ^ 32 }
@@ -122,7 +122,7 @@ pub(crate) fn lower_ranks<A: Allocator>(alloc: A, common: &[u32]) -> Result<Vec<
     Ok(lower)
 }
 
-// From a rank back to the first of those from which on so much is common.
+/// From the rank `from` back to the first rank after which all texts up to `from` have a common suffix of `len` bytes.
 pub(crate) fn first_rank(common: &[u32], lower: &[u32], from: usize, len: u32) -> usize
     requires lower { AreLower common.now lower.now }
     requires inside { from < length common.now }

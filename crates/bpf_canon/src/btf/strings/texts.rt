@@ -4,8 +4,8 @@ ghost use Rattle.btf_raw.specs.Header.{HasNulEnds};
 
 use memchr::memchr;
 
-// Where the text at an offset ends: the next NUL.
-pub(crate) fn end_of(section: &[u8], start: usize) -> usize
+/// The end of the text at an offset: the next NUL.
+pub(crate) fn text_end(section: &[u8], start: usize) -> usize
     requires ends { HasNulEnds section.now }
     requires inside { start < length section.now }
     ensures from { start ≤ result }

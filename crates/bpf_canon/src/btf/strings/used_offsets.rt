@@ -2,7 +2,7 @@
 ghost use Rattle.std.specs.Prelude.{◌≡◌, ◌≢◌, ◌<◌, ◌≤◌, ◌^◌, ℕ, true, false, length, slice_index, IfOk};
 ghost use Rattle.bpf_canon.specs.btf.strings.UsedOffsets as spec;
 
-use crate::btf::strings::offset_marks::OffsetMarks;
+use crate::btf::strings::offset_set::OffsetSet;
 use std::alloc::{AllocError, Allocator};
 use std::marker::Model;
 
@@ -11,8 +11,8 @@ use std::marker::Model;
 /// This takes a bit for each byte of the section, and four bytes for each 64 of them: little memory is touched.
 #[derive(Drop)]
 pub(crate) struct UsedOffsets<A: Allocator> {
-    marks: OffsetMarks<A>,
-    // for each word of marks, how many used offsets come before it
+    marks: OffsetSet<A>,
+    // for each word of the set, how many used offsets come before it
     before: Vec<u32, A>,
 }
 
@@ -28,8 +28,8 @@ impl<A: Allocator> Model for UsedOffsets<A> {
 }
 
 impl<A: Allocator + Copy> UsedOffsets<A> {
-    // Numbers the marked offsets.
-    pub(crate) fn new(alloc: A, marks: OffsetMarks<A>) -> Result<UsedOffsets<A>, AllocError>
+    /// Numbers the offsets of a set.
+    pub(crate) fn new(alloc: A, marks: OffsetSet<A>) -> Result<UsedOffsets<A>, AllocError>
         requires { length marks < 2 ^ 32 }
         ensures { IfOk result (λ u. u ≡ marks) }
     {
@@ -38,7 +38,7 @@ impl<A: Allocator + Copy> UsedOffsets<A> {
         let mut count = 0u32;
         before.push(count)?;
         for word in 0..words {
-            count += marks.marked_in(word);
+            count += marks.count_in(word);
             before.push(count)?;
         }
         Ok(UsedOffsets { marks, before })
@@ -46,16 +46,16 @@ impl<A: Allocator + Copy> UsedOffsets<A> {
 }
 
 impl<A: Allocator> UsedOffsets<A> {
-    // Whether an offset is used.
+    /// Whether an offset is used.
     pub(crate) fn is_used(&self, off: usize) -> bool
         requires { off < length self.now }
         ensures yes { result ≡ true → slice_index self.now off ≢ 0 }
         ensures no { result ≡ false → slice_index self.now off ≡ 0 }
     {
-        self.marks.is_marked(off)
+        self.marks.contains(off)
     }
 
-    // Whether none of the offsets from `start` up to `end` is used: as many come before the one as before the other.
+    /// Whether none of the offsets from `start` up to `end` is used: the number of used offsets before both is the same.
     pub(crate) fn are_unused(&self, start: usize, end: usize) -> bool
         requires order { start ≤ end }
         requires inside { end ≤ length self.now }
@@ -65,15 +65,15 @@ impl<A: Allocator> UsedOffsets<A> {
         self.used_before(start) == self.used_before(end)
     }
 
-    // How many used offsets come before this one.
+    /// The number of used offsets before this one.
     fn used_before(&self, off: usize) -> usize
         requires { off ≤ length self.now }
         ensures { result ≡ spec.number_of self.now off }
     {
-        self.before[off / 64] as usize + self.marks.marked_before(off) as usize
+        self.before[off / 64] as usize + self.marks.count_before(off) as usize
     }
 
-    // How many used offsets come before a used one.
+    /// The number of a used offset: how many used ones come before it.
     pub(crate) fn number(&self, off: usize) -> usize
         requires { slice_index self.now off ≢ 0 }
         ensures number { result ≡ spec.number_of self.now off }
@@ -82,7 +82,7 @@ impl<A: Allocator> UsedOffsets<A> {
         self.used_before(off)
     }
 
-    // How many offsets are used.
+    /// The number of used offsets.
     pub(crate) fn count(&self) -> usize
         ensures { result ≡ spec.number_of self.now (length self.now) }
     {

@@ -23,8 +23,8 @@ use bpf_words::Order;
 use btf_types::{Head, Item, TypeTable};
 use std::alloc::{AllocError, Allocator};
 
-// Appends the words behind the third that a head has of its own.
-fn push_tail<A: Allocator>(
+/// Appends the words after the third that a record header has of its own kind.
+fn push_further_words<A: Allocator>(
     out: &mut Vec<u8, A>,
     order: Order,
     head: Head<'_>,
@@ -49,7 +49,7 @@ fn push_tail<A: Allocator>(
     }
 }
 
-// Appends the words of a head with so many items.
+/// Appends the words of the header of a record with `count` items.
 fn push_head<A: Allocator, B: Allocator + Copy>(
     out: &mut Vec<u8, A>,
     order: Order,
@@ -65,10 +65,10 @@ fn push_head<A: Allocator, B: Allocator + Copy>(
     let name_off = names.place(head.name());
     let info = info_word(head, count, bit_fields);
     push_words(out, order, &[name_off, info, head_third(head)])?;
-    push_tail(out, order, head)
+    push_further_words(out, order, head)
 }
 
-// Appends the words of an item.
+/// Appends the words of an item.
 fn push_item<A: Allocator, B: Allocator + Copy>(
     out: &mut Vec<u8, A>,
     order: Order,
@@ -104,7 +104,7 @@ fn push_item<A: Allocator, B: Allocator + Copy>(
     }
 }
 
-// Whether the item is a bit-field.
+/// Whether the item is a bit-field.
 fn has_width(item: Item<'_>) -> bool
     ensures { result ≡ good.has_width (item_value item.entry) }
 {
@@ -114,7 +114,7 @@ fn has_width(item: Item<'_>) -> bool
     }
 }
 
-// Whether the record has bit-fields.
+/// Whether the record has bit-fields.
 fn has_bit_fields<T: TypeTable>(table: &T, id: u32) -> bool
     requires first { 0 < id }
     requires last { id ≤ length (T.meaning table.now) }
@@ -128,8 +128,8 @@ fn has_bit_fields<T: TypeTable>(table: &T, id: u32) -> bool
     false
 }
 
-// Appends the words of a record.
-fn push_record<T: TypeTable, A: Allocator, B: Allocator + Copy>(
+/// Appends the words of a record.
+fn push_table_record<T: TypeTable, A: Allocator, B: Allocator + Copy>(
     out: &mut Vec<u8, A>,
     order: Order,
     names: &SharedNames<'_, B>,
@@ -151,7 +151,7 @@ fn push_record<T: TypeTable, A: Allocator, B: Allocator + Copy>(
     Ok(())
 }
 
-// The bytes of all records.
+/// The bytes of all records.
 fn write_types<T: TypeTable, A: Allocator + Copy>(
     alloc: A,
     order: Order,
@@ -163,12 +163,12 @@ fn write_types<T: TypeTable, A: Allocator + Copy>(
 {
     let mut types = Vec::new(alloc);
     for index in 0..table.count() {
-        push_record(&mut types, order, names, table, index + 1)?;
+        push_table_record(&mut types, order, names, table, index + 1)?;
     }
     Ok(types)
 }
 
-// The names of a table with their places.
+/// The names of a table with their places.
 fn shared_names<'t, T: TypeTable, A: Allocator + Copy>(
     alloc: A,
     table: &'t T,
@@ -180,7 +180,7 @@ fn shared_names<'t, T: TypeTable, A: Allocator + Copy>(
     SharedNames::new(alloc, kept)
 }
 
-// The canonical bytes of a table whose names these are.
+/// The canonical bytes of a table whose names these are.
 fn write_named<T: TypeTable, A: Allocator + Copy>(
     alloc: A,
     order: Order,
@@ -199,7 +199,7 @@ fn write_named<T: TypeTable, A: Allocator + Copy>(
     Ok(bytes)
 }
 
-// The canonical bytes of a table that lends no sections: its names are read as texts.
+/// The canonical bytes of a table that lends no sections: its names are read as texts.
 fn write_table<T: TypeTable, A: Allocator + Copy>(
     alloc: A,
     order: Order,
@@ -215,12 +215,12 @@ fn write_table<T: TypeTable, A: Allocator + Copy>(
 /// The canonical bytes of a table of types in the given order (btf.rst section 2): a header of 24 bytes, the records, and the
 /// string table.
 ///
-/// In the string table each name stands once, in the order of first use; a name that ends another one stands at its end.
-/// A STRUCT or UNION has kind_flag 0 exactly where no member has a width.
+/// The string table has each name once, in the order of first use; a name that is a suffix of another one is at its end.
+/// A STRUCT or UNION has kind_flag 0 exactly if no member has a width.
 ///
 /// # Errors
 ///
-/// `AllocError` where the allocator refuses room.
+/// `AllocError` if the allocator is out of memory.
 pub fn write_btf<T: TypeTable, A: Allocator + Copy>(
     alloc: A,
     order: Order,
@@ -229,6 +229,7 @@ pub fn write_btf<T: TypeTable, A: Allocator + Copy>(
     ensures form { IfOk result (λ bytes. bytes.items ≡ canonical order (T.meaning table.now)) }
     ensures accepted { IfOk result (λ bytes. Denotes bytes.items (T.meaning table.now)) }
 {
+    // The contract of this call says that the records are good.
     let _count = table.count();
     match table.sections() {
         Some(sections) => write_sections(alloc, order, &sections),

@@ -1,6 +1,6 @@
 use Rattle.std.proofs.Common.{rules, sym, ◌≡◌, ◌+◌, ◌-◌, length, drop, arith, ap, ◌∙◌, w64}
 use Rattle.std.specs.Int.{from_le_bytes}
-use Rattle.bpf_canon.proofs.BtfLemmas.Strings.TailKeys.{key_of_none, key_of_long, key_from_bytes}
+use Rattle.bpf_canon.proofs.BtfLemmas.Strings.SuffixKeys.{key_of_none, key_of_long, key_from_bytes}
 use Rattle.bpf_canon.proofs.btf.suffixes.suffix_key.Goals as goal
 
 pub returns-then-is_empty-clause-key : goal.returns-then-is_empty-clause-key

@@ -7,7 +7,7 @@ use Rattle.bpf_canon.specs.declared.device.source.ReadError.{ReadError}
 use Rattle.bpf_canon.specs.declared.device.source.ReadError.TheVariants.{Memory}
 use Rattle.bpf_canon.proofs.device.source.read_all.Goals as goal
 
--- what `?` makes of a refused growth
+-- what `?` makes of a failed growth
 refused : {T : Type 0} (P : ReadError → Type 0) (r : Result T ReadError) → IsErrAnd r (λ e. e ≡ Memory) → P Memory → IfErr r P
 refused P (Ok x) e p = tt
 refused P (Err x) e p = rw e p

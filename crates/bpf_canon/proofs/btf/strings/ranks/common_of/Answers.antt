@@ -1,14 +1,14 @@
 use Rattle.std.proofs.Common.{rules, ◌≡◌, ℕ, ◌<◌, ◌≤◌, ◌+◌, ◌-◌, min, List, length, get_or, ap, ◌∙◌, arith}
-use Rattle.bpf_canon.specs.btf.strings.Tails.{tail_text}
-use Rattle.bpf_canon.proofs.BtfLemmas.Strings.SortedTails.{text_bytes, front_bytes}
+use Rattle.bpf_canon.specs.btf.strings.SectionTexts.{text_in}
+use Rattle.bpf_canon.proofs.BtfLemmas.Strings.SortedTexts.{text_bytes, front_bytes}
 use Rattle.bpf_canon.proofs.BtfLemmas.Strings.KeyBytes.{common_by_keys, common_by_both_keys}
 use Rattle.bpf_canon.proofs.btf.strings.ranks.common_of.Goals as goal
 
 pub returns-then-common-lt8-clause-common : goal.returns-then-common-lt8-clause-common
 returns-then-common-lt8-clause-common c =
     let section = c.args.section.now in
-    let x = tail_text section c.args.a.now in
-    let y = tail_text section c.args.b.now in
+    let x = text_in section c.args.a.now in
+    let y = text_in section c.args.b.now in
     let n = c.common_bytes.result in
     let bytes : (i : ℕ) → get_or section i 0 < 256 = search rules in
     let first : length c.text_of-first.result.now ≡ length x = ap (λ (l : List ℕ). length l) c.text_of-first.ensures in
@@ -19,8 +19,8 @@ returns-then-common-lt8-clause-common c =
 pub returns-then-before-lt8-clause-common : goal.returns-then-before-lt8-clause-common
 returns-then-before-lt8-clause-common c =
     let section = c.args.section.now in
-    let x = tail_text section c.args.a.now in
-    let y = tail_text section c.args.b.now in
+    let x = text_in section c.args.a.now in
+    let y = text_in section c.args.b.now in
     let n = c.common_bytes.result in
     let r = c.common_bytes-2.result in
     let bytes : (i : ℕ) → get_or section i 0 < 256 = search rules in

@@ -11,6 +11,6 @@ loop-index-preserved g c =
     let v = g.T.TypeTable.meaning c.args.table.now in
     let place = shared_among c.args.names.now in
     let inside : c.loop-index.index < length v = omega (arith, c.loop-index-test.true, c.count-index-end.ensures.count) in
-    c.in_ok-push_record.ensures
+    c.in_ok-push_table_record.ensures
     ∙ ap (λ (t : List ℕ). t ++ bytes_of c.args.order (record_words place (record_at v (c.loop-index.index + 1)))) c.loop-index.invariant
     ∙ section_pushed c.args.order place v c.loop-index.index inside

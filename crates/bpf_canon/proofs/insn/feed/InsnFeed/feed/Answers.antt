@@ -15,7 +15,7 @@ returns-then-is_empty-clause-answer g c = λ o to b sound h.
     let zero : length c.args.piece.now ≡ 0 = search rules in
     let fault : c.args.self.now.fault ≡ None = ap (λ (s : FeedState). s.fault) (sym c.self.view_is) ∙ c.in-None.is in
     let moves = moves_none c.args.self.now c.args.piece.now c.args.out.now.items zero in
-    keeps_answer c.args.self.now o to _ (moves.stands o to b h) fault
+    keeps_answer c.args.self.now o to _ (moves.represents o to b h) fault
 
 pub returns-clause-moves : goal.returns-clause-moves
 returns-clause-moves g c = λ sound.

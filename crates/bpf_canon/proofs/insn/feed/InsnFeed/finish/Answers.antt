@@ -2,7 +2,7 @@ use Rattle.std.proofs.Common.{arith, ◌≡◌, ◌∙◌, ◌+◌, ◌-◌, ℕ
 use Rattle.std.proofs.lemmas.List.{length-take-le}
 use Rattle.bpf_insn.specs.declared.fault.SlotFault.{SlotFault}
 use Rattle.bpf_canon.specs.insn.FeedState.{FeedState, missing_place}
-use Rattle.bpf_canon.specs.insn.Stands.{Finishes, Stands}
+use Rattle.bpf_canon.specs.insn.FeedStream.{Finishes, Represents}
 use Rattle.bpf_canon.proofs.InsnLemmas.FeedLemmas.{ends, end-cut}
 use Rattle.bpf_canon.specs.contracts.insn.feed.InsnFeed.{the_view}
 use Rattle.bpf_canon.proofs.insn.feed.InsnFeed.finish.Goals as goal
@@ -10,7 +10,7 @@ use Rattle.bpf_canon.proofs.insn.feed.InsnFeed.finish.Goals as goal
 pub returns-in-None-2-clause-answer : goal.returns-in-None-2-clause-answer
 returns-in-None-2-clause-answer c = λ o to b h.
     let s = the_view c.self.inside in
-    let P : FeedState → Type 0 = λ x. Stands x o to b in
+    let P : FeedState → Type 0 = λ x. Represents x o to b in
     let size : length s.held ≡ c.self.inside.held_len = length-take-le c.self.inside.held_len c.self.inside.held (omega (arith, c.self.invariant.short)) in
     let place : c.self.inside.fed - c.self.inside.held_len + c.missing_slot.result ≡ s.fed - length s.held + missing_place (length s.held) =
     ap (λ n. c.self.inside.fed - c.self.inside.held_len + n) c.missing_slot.ensures

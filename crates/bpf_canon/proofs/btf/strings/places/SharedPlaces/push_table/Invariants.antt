@@ -1,6 +1,6 @@
 use Rattle.std.proofs.Common.{◌≡◌, ◌∷◌, ◌++◌, take}
 use Rattle.std.specs.List.{flat_map}
-use Rattle.bpf_canon.specs.btf.strings.HostLayout.{span_bytes}
+use Rattle.bpf_canon.specs.btf.strings.HostPlaces.{span_bytes}
 use Rattle.bpf_canon.proofs.btf.strings.places.SharedPlaces.push_table.Given as goal
 
 abbrev pub invariant-loop-span : goal.invariant-loop-span

@@ -1,0 +1,177 @@
+-- A set of offsets as bits in words of 64, and the number of its offsets.
+use Rattle.std.proofs.Common.{◌≡◌, ◌≢◌, ℕ, zero, suc, ◌+◌, ◌*◌, ◌/◌, ◌%◌, ◌^◌, ◌<◌, ◌≤◌, max, inl, inr, List, [], ◌∷◌, length, get_or, set, replicate, bit_and, bit_or, ◌-◌, count_ones, refl, sym, ap, ◌∙◌, subst, arith}
+use Rattle.std.specs.Int.{bit_at}
+use lib.Count.{ones_step}
+use Rattle.std.proofs.lemmas.Bool.{cases_eq, cases_lt}
+use Rattle.std.proofs.Math.Arith.{mod-mul}
+use Rattle.std.proofs.Math.Nat.{pow-suc, max-zero, mod-eq_of_lt}
+use Rattle.std.proofs.lemmas.Nat.{ones_le_self, pow_pos, pow_below, and_mask}
+use Rattle.std.proofs.lemmas.Nat.Bits.{shr_and_one, bit_at_lowest, bit_at-zero, bit_at-lt, bit_at-suc, bit_at_or, bit_at-pow_same, bit_at-pow_other}
+use Rattle.std.proofs.lemmas.List.{length_push, length-set, length-replicate, get_or-replicate, get_or-set_same, get_or-set_other, get_or_append_left, get_or_push, get_or_past, get_or_read, ext_get_or}
+use Rattle.bpf_canon.specs.btf.strings.UsedOffsets.{number_of}
+use Rattle.bpf_canon.specs.btf.strings.OffsetSet.{mark_of, slots_of}
+use Rattle.bpf_canon.proofs.BtfLemmas.Strings.UsedSteps.{number_used, number_unused}
+
+-- one word
+zero_ones : (n : ℕ) → n ≡ 0 → count_ones n ≡ 0
+zero_ones n e = ap count_ones e ∙ omega (arith, ones_le_self 0)
+
+low_step : (k w : ℕ) → count_ones (w % 2 ^ suc k) ≡ w % 2 + count_ones (w / 2 % 2 ^ k)
+low_step k w =
+    let split : w % 2 ^ suc k ≡ (w / 2 % 2 ^ k) * 2 + w % 2 = ap (λ (d : ℕ). w % d) (pow-suc 2 k) ∙ mod-mul w {m = 2 ^ k} {c = 2} (pow_pos k) (omega arith) in
+    let low : w % 2 ^ suc k % 2 ≡ w % 2 = omega (arith, split) in
+    let high : w % 2 ^ suc k / 2 ≡ w / 2 % 2 ^ k = omega (arith, split) in
+    ones_step (w % 2 ^ suc k) ∙ ap (λ (n : ℕ). n + count_ones (w % 2 ^ suc k / 2)) low ∙ ap (λ (n : ℕ). w % 2 + count_ones n) high
+
+sums : (a b c d e f g : ℕ) → a ≡ d + b → b ≡ c + e → f ≡ d + c → g ≡ e → a ≡ f + g
+sums a b c d e f g p q r s = omega (arith, p, q, r, s)
+
+-- One bit more of a word counts where it is set.
+pub ones_more : (k w : ℕ) → count_ones (w % 2 ^ suc k) ≡ count_ones (w % 2 ^ k) + bit_at w k
+ones_more zero w =
+    sums (count_ones (w % 2 ^ 1)) (count_ones (w / 2 % 2 ^ 0)) 0 (w % 2) 0 (w % 2) 0 (low_step 0 w) (zero_ones (w / 2 % 2 ^ 0) (omega arith)) (omega arith) refl
+    ∙ ap (λ (n : ℕ). n + 0) (sym (bit_at_lowest w))
+    ∙ (let z = zero_ones (w % 2 ^ 0) (omega arith) in omega (arith, z))
+ones_more (suc k) w =
+    sums (count_ones (w % 2 ^ suc (suc k))) (count_ones (w / 2 % 2 ^ suc k)) (count_ones (w / 2 % 2 ^ k)) (w % 2) (bit_at (w / 2) k) (count_ones (w % 2 ^ suc k)) (bit_at w (suc k))
+    (low_step (suc k) w) (ones_more k (w / 2)) (low_step k w) (bit_at-suc w k)
+
+max_one : (n : ℕ) → n < 2 → max n 1 ≡ 1
+max_one n h = elim (cases_eq n 0) [ inl z ↦ ap (λ (m : ℕ). max m 1) z | inr s ↦ ap (λ (m : ℕ). max m 1) (let e : n ≡ 1 = omega (arith, h, s) in e) ]
+
+max_zero : (n : ℕ) → max n 0 ≡ n
+max_zero n = max-zero n
+
+plus_none : (a b c : ℕ) → a ≡ b → c ≡ 0 → a ≡ b + c
+plus_none a b c e z = omega (arith, e, z)
+
+plus_one : (a b c : ℕ) → a ≡ b + 1 → c ≢ 0 → c < 2 → a ≡ b + c
+plus_one a b c e s h = omega (arith, e, s, h)
+
+sums_more : (a b c d e f : ℕ) → a ≡ b + c → b ≡ d + e → f ≡ e + c → a ≡ d + f
+sums_more a b c d e f p q r = omega (arith, p, q, r)
+
+-- the list of the marks
+pub slots_len : (words : List ℕ) (n : ℕ) → length (slots_of words n) ≡ n
+slots_len words zero = refl
+slots_len words (suc n) = length_push (slots_of words n) (mark_of words n) ∙ (let e = slots_len words n in omega (arith, e))
+
+pub slot_at : (words : List ℕ) (n off : ℕ) → off < n → get_or (slots_of words n) off 0 ≡ mark_of words off
+slot_at words zero off h = absurd (omega (arith, h))
+slot_at words (suc n) off h = elim (cases_eq off n) [
+  | inl e ↦ get_or_push (slots_of words n) (mark_of words n) 0 off (omega (arith, e, slots_len words n)) ∙ ap (mark_of words) (sym e)
+  | inr d ↦ get_or_append_left (slots_of words n) (mark_of words n ∷ []) 0 off (omega (arith, h, d, slots_len words n)) ∙ slot_at words n off (omega (arith, h, d))
+]
+
+read_none : (k i : ℕ) → ◌≡◌ {A = ℕ} (get_or (replicate k 0) i 0) 0
+read_none k i = elim (cases_lt i k) [
+  | inl h ↦ get_or-replicate {A = ℕ} k i 0 0 h
+  | inr g ↦ get_or_past {X = ℕ} (replicate k 0) i 0 (omega (arith, g, length-replicate {A = ℕ} k 0))
+]
+
+pub slots_none : (n k : ℕ) → slots_of (replicate k 0) n ≡ replicate n 0
+slots_none n k =
+    ext_get_or 0 (slots_of (replicate k 0) n) (replicate n 0) (slots_len (replicate k 0) n ∙ sym (length-replicate {A = ℕ} n 0)) (λ i h.
+    slot_at (replicate k 0) n i (omega (arith, h, slots_len (replicate k 0) n))
+    ∙ ap (λ (w : ℕ). bit_at w (i % 64)) (read_none k (i / 64)) ∙ bit_at-zero (i % 64) ∙ sym (read_none n i))
+
+-- a bit more in a word
+bit_set : (w r : ℕ) → bit_at (bit_or w (2 ^ r)) r ≡ 1
+bit_set w r = bit_at_or w (2 ^ r) r ∙ ap (max (bit_at w r)) (bit_at-pow_same r) ∙ max_one (bit_at w r) (bit_at-lt w r)
+
+bit_stays : (w r i : ℕ) → i ≢ r → bit_at (bit_or w (2 ^ r)) i ≡ bit_at w i
+bit_stays w r i n = bit_at_or w (2 ^ r) i ∙ ap (max (bit_at w i)) (bit_at-pow_other r i n) ∙ max_zero (bit_at w i)
+
+module _ (words : List ℕ) (n off w : ℕ) (len : length words ≡ n / 64 + 1) (inside : off < n) (is : w ≡ get_or words (off / 64) 0) where
+  abbrev more : List ℕ
+  more = set words (off / 64) (bit_or w (2 ^ (off % 64)))
+
+  word_set : get_or more (off / 64) 0 ≡ bit_or w (2 ^ (off % 64))
+  word_set = get_or-set_same words (off / 64) (bit_or w (2 ^ (off % 64))) 0 (omega (arith, len, inside))
+
+  mark_set : mark_of more off ≡ 1
+  mark_set = ap (λ (v : ℕ). bit_at v (off % 64)) word_set ∙ bit_set w (off % 64)
+
+  mark_stays : (i : ℕ) → i ≢ off → mark_of more i ≡ mark_of words i
+  mark_stays i d = elim (cases_eq (i / 64) (off / 64)) [
+    | inl e ↦
+        ap (λ (q : ℕ). bit_at (get_or more q 0) (i % 64)) e ∙ ap (λ (v : ℕ). bit_at v (i % 64)) word_set
+        ∙ bit_stays w (off % 64) (i % 64) (λ r. d (omega (arith, e, r))) ∙ ap (λ (v : ℕ). bit_at v (i % 64)) is
+        ∙ ap (λ (q : ℕ). bit_at (get_or words q 0) (i % 64)) (sym e)
+    | inr o ↦ ap (λ (v : ℕ). bit_at v (i % 64)) (get_or-set_other words (off / 64) (i / 64) (bit_or w (2 ^ (off % 64))) 0 o)
+  ]
+
+  pub slots_marked : slots_of more n ≡ set (slots_of words n) off 1
+  slots_marked =
+      ext_get_or 0 (slots_of more n) (set (slots_of words n) off 1) (slots_len more n ∙ sym (length-set (slots_of words n) off 1 ∙ slots_len words n)) (λ i h.
+      let below : i < n = omega (arith, h, slots_len more n) in
+      slot_at more n i below ∙ elim (cases_eq i off) [
+        | inl e ↦
+            ap (mark_of more) e ∙ mark_set
+            ∙ sym (ap (λ (k : ℕ). get_or (set (slots_of words n) off 1) k 0) e ∙ get_or-set_same (slots_of words n) off 1 0 (omega (arith, inside, slots_len words n)))
+        | inr d ↦ mark_stays i d ∙ sym (get_or-set_other (slots_of words n) off i 1 0 d ∙ slot_at words n i below)
+      ])
+
+-- How many are marked before an offset: those before its word, and the lower bits of the word.
+module _ (words : List ℕ) (n word : ℕ) where
+  abbrev w : ℕ
+  w = get_or words word 0
+
+  abbrev slots : List ℕ
+  slots = slots_of words n
+
+  slot_is : (k : ℕ) → k < 64 → 64 * word + k < n → get_or slots (64 * word + k) 0 ≡ bit_at w k
+  slot_is k b h =
+      let q : (64 * word + k) / 64 ≡ word = omega (arith, b) in
+      let r : (64 * word + k) % 64 ≡ k = omega (arith, b) in
+      slot_at words n (64 * word + k) h ∙ ap (λ (i : ℕ). bit_at (get_or words i 0) ((64 * word + k) % 64)) q ∙ ap (bit_at w) r
+
+  number_more : (k : ℕ) → k < 64 → 64 * word + k < n → number_of slots (64 * word + k + 1) ≡ number_of slots (64 * word + k) + bit_at w k
+  number_more k b h = elim (cases_eq (bit_at w k) 0) [
+    | inl z ↦ plus_none (number_of slots (64 * word + k + 1)) (number_of slots (64 * word + k)) (bit_at w k) (number_unused slots (64 * word + k) (slot_is k b h ∙ z)) z
+    | inr s ↦ plus_one (number_of slots (64 * word + k + 1)) (number_of slots (64 * word + k)) (bit_at w k) (number_used slots (64 * word + k) (λ z. s (sym (slot_is k b h) ∙ z))) s (bit_at-lt w k)
+  ]
+
+  pub number_in_word : (k : ℕ) → k ≤ 64 → 64 * word + k ≤ n → number_of slots (64 * word + k) ≡ number_of slots (64 * word) + count_ones (w % 2 ^ k)
+  number_in_word zero b h =
+      ap (number_of slots) (let e : 64 * word + 0 ≡ 64 * word = omega arith in e)
+      ∙ sym (plus_none (number_of slots (64 * word) + count_ones (w % 2 ^ 0)) (number_of slots (64 * word)) 0 (ap (λ (m : ℕ). number_of slots (64 * word) + m) (zero_ones (w % 2 ^ 0) (omega arith)) ∙ omega arith) refl ∙ omega arith)
+  number_in_word (suc k) b h =
+      ap (number_of slots) (let e : 64 * word + suc k ≡ 64 * word + k + 1 = omega arith in e)
+      ∙ sums_more (number_of slots (64 * word + k + 1)) (number_of slots (64 * word + k)) (bit_at w k) (number_of slots (64 * word)) (count_ones (w % 2 ^ k)) (count_ones (w % 2 ^ suc k))
+      (number_more k (omega (arith, b)) (omega (arith, h))) (number_in_word k (omega (arith, b)) (omega (arith, h))) (ones_more k w)
+
+-- what is read of a mark
+pub mark_read : (words slots : List ℕ) (n off w : ℕ) → slots_of words n ≡ slots → length words ≡ n / 64 + 1 → off < n → w ≡ get_or words (off / 64) w → bit_and (w / 2 ^ (off % 64)) 1 ≡ get_or slots off 0
+mark_read words slots n off w view len h is =
+    shr_and_one w (off % 64) ∙ ap (λ (v : ℕ). bit_at v (off % 64)) (get_or_read words (off / 64) w (omega (arith, len, h)) is 0)
+    ∙ sym (slot_at words n off h) ∙ ap (λ (l : List ℕ). get_or l off 0) view
+
+-- the bit of an offset
+pub one_bit : (r : ℕ) → r < 64 → 1 * 2 ^ r % 2 ^ 64 ≡ 2 ^ r
+one_bit r h = ap (λ (n : ℕ). n % 2 ^ 64) (let e : 1 * 2 ^ r ≡ 2 ^ r = omega arith in e) ∙ mod-eq_of_lt (pow_below r 64 h)
+
+-- and the bits below it
+pub lower_bits : (w r : ℕ) → r < 64 → bit_and w (1 * 2 ^ r % 2 ^ 64 - 1) ≡ w % 2 ^ r
+lower_bits w r h = ap (λ (m : ℕ). bit_and w (m - 1)) (one_bit r h) ∙ and_mask w r
+
+-- what is counted in one word
+pub number_before : (words slots : List ℕ) (n off w : ℕ) → slots_of words n ≡ slots → length words ≡ n / 64 + 1 → off ≤ n → w ≡ get_or words (off / 64) w →
+    number_of slots off ≡ number_of slots (64 * (off / 64)) + count_ones (bit_and w (1 * 2 ^ (off % 64) % 2 ^ 64 - 1))
+number_before words slots n off w view len h is =
+    let read : w ≡ get_or words (off / 64) 0 = get_or_read words (off / 64) w (omega (arith, len, h)) is 0 in
+    let split : 64 * (off / 64) + off % 64 ≡ off = omega arith in
+    subst (λ (l : List ℕ). number_of l off ≡ number_of l (64 * (off / 64)) + count_ones (bit_and w (1 * 2 ^ (off % 64) % 2 ^ 64 - 1))) view
+    (ap (number_of (slots_of words n)) (sym split)
+    ∙ number_in_word words n (off / 64) (off % 64) (omega arith) (omega (arith, h))
+    ∙ ap (λ (m : ℕ). number_of (slots_of words n) (64 * (off / 64)) + count_ones m)
+    (ap (λ (v : ℕ). v % 2 ^ (off % 64)) (sym read) ∙ sym (lower_bits w (off % 64) (omega arith))))
+
+pub number_whole : (words slots : List ℕ) (n word w : ℕ) → slots_of words n ≡ slots → length words ≡ n / 64 + 1 → word < n / 64 → w ≡ get_or words word w → w < 2 ^ 64 →
+    number_of slots (64 * word + 64) ≡ number_of slots (64 * word) + count_ones w
+number_whole words slots n word w view len h is fits =
+    let read : w ≡ get_or words word 0 = get_or_read words word w (omega (arith, len, h)) is 0 in
+    subst (λ (l : List ℕ). number_of l (64 * word + 64) ≡ number_of l (64 * word) + count_ones w) view
+    (number_in_word words n word 64 (omega arith) (omega (arith, h))
+    ∙ ap (λ (m : ℕ). number_of (slots_of words n) (64 * word) + count_ones m)
+    (ap (λ (v : ℕ). v % 2 ^ 64) (sym read) ∙ mod-eq_of_lt fits))

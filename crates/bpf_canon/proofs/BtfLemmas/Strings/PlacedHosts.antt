@@ -1,0 +1,79 @@
+-- Which hosts have places once some of the names have.
+use Rattle.std.proofs.Common.{◌≡◌, ◌≢◌, ℕ, ◌≤◌, Bool, true, false, not, ◌⊎◌, inl, inr, List, [], ◌∷◌, ◌++◌, length, refl, ap, ◌∙◌, arith, append_assoc}
+use Rattle.std.specs.List.{filter, list_any}
+use Rattle.std.proofs.lemmas.Bool.{cases_Bool, cond-true, cond-false}
+use Rattle.std.proofs.lemmas.List.{append-nil}
+use Rattle.std.proofs.lemmas.List.Elements.{filter-append}
+use Rattle.btf_types.specs.Names.{kept, table_of}
+use Rattle.btf_types.specs.strings.SharedNames.{is_proper_suffix}
+use Rattle.btf_types.proofs.Members.{Has, Has-filter, Has-from_filter}
+use Rattle.bpf_canon.proofs.BtfLemmas.Names.KeptSteps.{Has_cases, kept_empty, kept_known, kept_new, length-table_push}
+
+-- no other of the names properly ends with x
+abbrev pub is_own : List (List ℕ) → List ℕ → Bool
+is_own xs x = not (list_any (is_proper_suffix x) (kept xs))
+
+-- those hosts among the names xs that some of the names, ys, use
+abbrev pub host_places : List (List ℕ) → List (List ℕ) → List (List ℕ)
+host_places xs ys = filter (is_own xs) (kept ys)
+
+kept_cases : (ys : List (List ℕ)) (x : List ℕ) → (kept (ys ++ x ∷ []) ≡ kept ys) ⊎ ((kept (ys ++ x ∷ []) ≡ kept ys ++ x ∷ []) × (x ≢ []))
+kept_cases ys [] = inl (kept_empty ys)
+kept_cases ys (b ∷ x) = elim (Has_cases (kept ys) (b ∷ x)) [
+  | inl h ↦ inl (kept_known ys (b ∷ x) h)
+  | inr n ↦ inr (kept_new ys (b ∷ x) (λ q. absurd cc) n, λ q. absurd cc)
+]
+
+one_own : (xs ys : List (List ℕ)) (x : List ℕ) → is_own xs x ≡ true → filter (is_own xs) (kept ys ++ x ∷ []) ≡ host_places xs ys ++ x ∷ []
+one_own xs ys x t = filter-append (is_own xs) (kept ys) (x ∷ []) ∙ ap (λ (l : List (List ℕ)). host_places xs ys ++ l) (cond-true (is_own xs x) (x ∷ []) [] t)
+
+one_other : (xs ys : List (List ℕ)) (x : List ℕ) → is_own xs x ≡ false → filter (is_own xs) (kept ys ++ x ∷ []) ≡ host_places xs ys
+one_other xs ys x f =
+    filter-append (is_own xs) (kept ys) (x ∷ []) ∙ ap (λ (l : List (List ℕ)). host_places xs ys ++ l) (cond-false (is_own xs x) (x ∷ []) [] f) ∙ append-nil (host_places xs ys)
+
+pub laid_empty : (xs ys : List (List ℕ)) (x : List ℕ) → x ≡ [] → host_places xs (ys ++ x ∷ []) ≡ host_places xs ys
+laid_empty xs ys x e = ap (λ (t : List ℕ). host_places xs (ys ++ t ∷ [])) e ∙ ap (filter (is_own xs)) (kept_empty ys)
+
+pub laid_other : (xs ys : List (List ℕ)) (x : List ℕ) → is_own xs x ≡ false → host_places xs (ys ++ x ∷ []) ≡ host_places xs ys
+laid_other xs ys x f = elim (kept_cases ys x) [
+  | inl e ↦ ap (filter (is_own xs)) e
+  | inr n ↦ ap (filter (is_own xs)) n.0 ∙ one_other xs ys x f
+]
+
+pub laid_known : (xs ys : List (List ℕ)) (x : List ℕ) → Has (host_places xs ys) x → host_places xs (ys ++ x ∷ []) ≡ host_places xs ys
+laid_known xs ys x h = ap (filter (is_own xs)) (kept_known ys x (Has-from_filter (is_own xs) (kept ys) x h).0)
+
+pub laid_new : (xs ys : List (List ℕ)) (x : List ℕ) → x ≢ [] → is_own xs x ≡ true → ¬ Has (host_places xs ys) x → host_places xs (ys ++ x ∷ []) ≡ host_places xs ys ++ x ∷ []
+laid_new xs ys x some t n =
+    ap (filter (is_own xs)) (kept_new ys x some (λ h. n (Has-filter (is_own xs) (kept ys) x h t))) ∙ one_own xs ys x t
+
+laid_step : (xs ys : List (List ℕ)) (x : List ℕ) → length (table_of (host_places xs ys)) ≤ length (table_of (host_places xs (ys ++ x ∷ [])))
+laid_step xs ys x = elim (kept_cases ys x) [
+  | inl e ↦ let same = ap (λ (l : List (List ℕ)). length (table_of (filter (is_own xs) l))) e in omega (arith, same)
+  | inr n ↦ elim (cases_Bool (is_own xs x)) [
+    | inl t ↦ let more = ap (λ (l : List (List ℕ)). length (table_of l)) (ap (filter (is_own xs)) n.0 ∙ one_own xs ys x t) in omega (arith, more, length-table_push (host_places xs ys) x)
+    | inr f ↦ let same = ap (λ (l : List (List ℕ)). length (table_of l)) (ap (filter (is_own xs)) n.0 ∙ one_other xs ys x f) in omega (arith, same)
+  ]
+]
+
+pub laid_fits : (xs ys more : List (List ℕ)) → length (table_of (host_places xs ys)) ≤ length (table_of (host_places xs (ys ++ more)))
+laid_fits xs ys [] = let same = ap (λ (l : List (List ℕ)). length (table_of (host_places xs l))) (append-nil ys) in omega (arith, same)
+laid_fits xs ys (x ∷ more) =
+    let same = ap (λ (l : List (List ℕ)). length (table_of (host_places xs l))) (append_assoc ys (x ∷ []) more) in
+    omega (arith, laid_step xs ys x, laid_fits xs (ys ++ x ∷ []) more, same)
+
+-- members of a list that got one more
+pub has_push : (xs : List (List ℕ)) (y x : List ℕ) → Has (xs ++ y ∷ []) x → Has xs x ⊎ (y ≡ x)
+has_push [] y x h = elim h [ inl e ↦ inr e | inr n ↦ absurd n ]
+has_push (z ∷ xs) y x h = elim h [
+  | inl e ↦ inl (inl e)
+  | inr i ↦ elim (has_push xs y x i) [ inl j ↦ inl (inr j) | inr e ↦ inr e ]
+]
+
+pub has_more : (xs : List (List ℕ)) (y x : List ℕ) → Has xs x → Has (xs ++ y ∷ []) x
+has_more [] y x h = absurd h
+has_more (z ∷ xs) y x h = elim h [ inl e ↦ inl e | inr i ↦ inr (has_more xs y x i) ]
+
+pub has_last : (xs : List (List ℕ)) (y : List ℕ) → Has (xs ++ y ∷ []) y
+has_last [] y = inl refl
+has_last (z ∷ xs) y = inr (has_last xs y)

@@ -1,0 +1,142 @@
+-- Texts of a section that are sorted by keys and bytes are sorted by their bytes from the end.
+use Rattle.std.proofs.Common.{◌≡◌, ◌≢◌, ℕ, zero, suc, ◌+◌, ◌*◌, ◌-◌, ◌^◌, ◌<◌, inl, inr, List, [], ◌∷◌, length, map, get_or, take, drop, refl, sym, ap, ◌∙◌, arith}
+use Rattle.std.specs.List.{All}
+use Rattle.std.specs.List.Sorted.{IsSorted, IsSortedBy}
+use Rattle.std.specs.Ordering.{is_lt, nat_cmp, ordering_then}
+use Rattle.std.specs.Cmp.{IsTotalOrder}
+use Rattle.std.specs.declared.cmp.Ordering.{Ordering}
+use Rattle.std.specs.declared.cmp.Ordering.TheVariants.{Less, Equal, Greater}
+use Rattle.std.proofs.lemmas.Bool.{cases_eq, cases_lt}
+use Rattle.std.proofs.lemmas.Cmp.{nat_cmp_total, tied_itself, on_total, then_total, ranked}
+use Rattle.std.proofs.lemmas.List.{get_or-map, length-map}
+use Rattle.btf_types.specs.strings.SharedNames.{tail_cmp}
+use Rattle.btf_types.proofs.StringLemmas.Hosts.{tail_lt, tail_total}
+use Rattle.bpf_canon.specs.btf.strings.SuffixKeys.{suffix_key}
+use Rattle.bpf_canon.specs.btf.strings.SectionTexts.{start_in, text_in, text_before, HasKey, compared}
+use Rattle.bpf_canon.specs.declared.btf.strings.section_texts.SectionText.{SectionText}
+use Rattle.bpf_canon.proofs.BtfLemmas.Strings.SuffixKeys.{Bytes, bytes_from, less, greater, key_none, key_apart, key_alike, key_ends}
+
+bytes_at : (x : List ℕ) → Bytes x → (i : ℕ) → get_or x i 0 < 256
+bytes_at [] p i = omega arith
+bytes_at (b ∷ x) (h, p) zero = h
+bytes_at (b ∷ x) (h, p) (suc i) = bytes_at x p i
+
+bytes_drop : (n : ℕ) (x : List ℕ) → Bytes x → Bytes (drop n x)
+bytes_drop zero x p = p
+bytes_drop (suc n) [] p = tt
+bytes_drop (suc n) (b ∷ x) (h, p) = bytes_drop n x p
+
+bytes_take : (n : ℕ) (x : List ℕ) → Bytes x → Bytes (take n x)
+bytes_take zero x p = tt
+bytes_take (suc n) [] p = tt
+bytes_take (suc n) (b ∷ x) (h, p) = (h, bytes_take n x p)
+
+pub text_bytes : (section : List ℕ) (t : SectionText) → ((i : ℕ) → get_or section i 0 < 256) → (i : ℕ) → get_or (text_in section t) i 0 < 256
+text_bytes section t p = bytes_at (text_in section t) (bytes_take _ _ (bytes_drop (start_in section t) section (bytes_from section p)))
+
+apart_then : (o s : Ordering) → o ≢ Equal → ordering_then o s ≡ o
+apart_then Less s n = refl
+apart_then Equal s n = absurd (n refl)
+apart_then Greater s n = refl
+
+tied_same : (a b : ℕ) → nat_cmp a b ≡ Equal → a ≡ b
+tied_same a b e = ranked a b Equal (sym e)
+
+pub front_bytes : (n : ℕ) (x : List ℕ) → ((i : ℕ) → get_or x i 0 < 256) → (i : ℕ) → get_or (take n x) i 0 < 256
+front_bytes n x p = bytes_at (take n x) (bytes_take n x (bytes_from x p))
+
+-- texts with the same key, by the keys of what comes before: a text with nothing there is the shorter one
+short_first : (x y : List ℕ) → ((i : ℕ) → get_or x i 0 < 256) → ((i : ℕ) → get_or y i 0 < 256) → suffix_key x ≡ suffix_key y → length x < 8 → suffix_key (text_before x) ≢ suffix_key (text_before y) → nat_cmp (suffix_key (text_before x)) (suffix_key (text_before y)) ≡ tail_cmp x y
+short_first x y p q e s n =
+    let none : suffix_key (text_before x) ≡ 0 = key_none x (length x - 8) (omega (arith, s)) in
+    let some : 0 < suffix_key (text_before y) = elim (cases_lt 0 (suffix_key (text_before y))) [ inl l ↦ l | inr g ↦ absurd (n (omega (arith, none, g))) ] in
+    let long : 8 < length y = elim (cases_lt 8 (length y)) [ inl l ↦ l | inr g ↦ absurd (omega (arith, some, key_none y (length y - 8) (omega (arith, g)))) ] in
+    less (suffix_key (text_before x)) (suffix_key (text_before y)) (omega (arith, none, some)) ∙ sym (less (length x) (length y) (omega (arith, s, long))) ∙ key_ends x y p q e (inl s)
+
+short_second : (x y : List ℕ) → ((i : ℕ) → get_or x i 0 < 256) → ((i : ℕ) → get_or y i 0 < 256) → suffix_key x ≡ suffix_key y → length y < 8 → suffix_key (text_before x) ≢ suffix_key (text_before y) → nat_cmp (suffix_key (text_before x)) (suffix_key (text_before y)) ≡ tail_cmp x y
+short_second x y p q e s n =
+    let none : suffix_key (text_before y) ≡ 0 = key_none y (length y - 8) (omega (arith, s)) in
+    let some : 0 < suffix_key (text_before x) = elim (cases_lt 0 (suffix_key (text_before x))) [ inl l ↦ l | inr g ↦ absurd (n (omega (arith, none, g))) ] in
+    let long : 8 < length x = elim (cases_lt 8 (length x)) [ inl l ↦ l | inr g ↦ absurd (omega (arith, some, key_none x (length x - 8) (omega (arith, g)))) ] in
+    greater (suffix_key (text_before x)) (suffix_key (text_before y)) (omega (arith, none, some)) ∙ sym (greater (length x) (length y) (omega (arith, s, long))) ∙ key_ends x y p q e (inr s)
+
+before_apart : (x y : List ℕ) → ((i : ℕ) → get_or x i 0 < 256) → ((i : ℕ) → get_or y i 0 < 256) → suffix_key x ≡ suffix_key y → suffix_key (text_before x) ≢ suffix_key (text_before y) → nat_cmp (suffix_key (text_before x)) (suffix_key (text_before y)) ≡ tail_cmp x y
+before_apart x y p q e n = elim (cases_lt (length x) 8) [
+  | inl s ↦ short_first x y p q e s n
+  | inr l ↦ elim (cases_lt (length y) 8) [
+    | inl s ↦ short_second x y p q e s n
+    | inr m ↦
+        key_apart (text_before x) (text_before y) (front_bytes (length x - 8) x p) (front_bytes (length y - 8) y q) n
+        ∙ key_alike x y (length x - 8) (length y - 8) p q e (omega (arith, l)) (omega (arith, m))
+  ]
+]
+
+tied_then : (a b : ℕ) (s : Ordering) → a ≡ b → ordering_then (nat_cmp a b) s ≡ s
+tied_then a b s e = ap (λ (o : Ordering). ordering_then o s) (ap (nat_cmp a) (sym e) ∙ tied_itself nat_cmp_total a)
+
+-- Two numbers below 2 ^ 64 after two others, each pair as one number.
+pair_less : (a b c d : ℕ) → b < 2 ^ 64 → d < 2 ^ 64 → a * 2 ^ 64 + b < c * 2 ^ 64 + d → (s : Ordering) → ordering_then (nat_cmp a c) (ordering_then (nat_cmp b d) s) ≡ Less
+pair_less a b c d p q h s = elim (cases_lt a c) [
+  | inl l ↦ ap (λ (o : Ordering). ordering_then o (ordering_then (nat_cmp b d) s)) (less a c l)
+  | inr g ↦
+      let e : a ≡ c = omega (arith, g, h, p, q) in
+      tied_then a c (ordering_then (nat_cmp b d) s) e ∙ ap (λ (o : Ordering). ordering_then o s) (less b d (omega (arith, h, e)))
+]
+
+pair_greater : (a b c d : ℕ) → b < 2 ^ 64 → d < 2 ^ 64 → c * 2 ^ 64 + d < a * 2 ^ 64 + b → (s : Ordering) → ordering_then (nat_cmp a c) (ordering_then (nat_cmp b d) s) ≡ Greater
+pair_greater a b c d p q h s = elim (cases_lt c a) [
+  | inl l ↦ ap (λ (o : Ordering). ordering_then o (ordering_then (nat_cmp b d) s)) (greater a c l)
+  | inr g ↦
+      let e : a ≡ c = omega (arith, g, h, p, q) in
+      tied_then a c (ordering_then (nat_cmp b d) s) e ∙ ap (λ (o : Ordering). ordering_then o s) (greater b d (omega (arith, h, e)))
+]
+
+-- Keys that differ compare as one number, and of the same keys the texts decide.
+module _ (section : List ℕ) (a b : SectionText) (p : a.before < 2 ^ 64) (q : b.before < 2 ^ 64) where
+  abbrev texts_compared : Ordering
+  texts_compared = tail_cmp (text_in section a) (text_in section b)
+
+  pub keys_apart : a.key * 2 ^ 64 + a.before ≢ b.key * 2 ^ 64 + b.before → nat_cmp (a.key * 2 ^ 64 + a.before) (b.key * 2 ^ 64 + b.before) ≡ compared section a b
+  keys_apart n = elim (cases_lt (a.key * 2 ^ 64 + a.before) (b.key * 2 ^ 64 + b.before)) [
+    | inl l ↦ less _ _ l ∙ sym (pair_less a.key a.before b.key b.before p q l texts_compared)
+    | inr g ↦
+        let down : b.key * 2 ^ 64 + b.before < a.key * 2 ^ 64 + a.before = elim (cases_lt (b.key * 2 ^ 64 + b.before) (a.key * 2 ^ 64 + a.before)) [ inl l ↦ l | inr h ↦ absurd (n (omega (arith, g, h))) ] in
+        greater _ _ down ∙ sym (pair_greater a.key a.before b.key b.before p q down texts_compared)
+  ]
+
+  pub keys_alike : a.key * 2 ^ 64 + a.before ≡ b.key * 2 ^ 64 + b.before → texts_compared ≡ compared section a b
+  keys_alike e =
+      let last : a.key ≡ b.key = omega (arith, e, p, q) in
+      sym (tied_then a.key b.key (ordering_then (nat_cmp a.before b.before) texts_compared) last ∙ tied_then a.before b.before texts_compared (omega (arith, e, last)))
+
+compared_before : (section : List ℕ) (a b : SectionText) → ((i : ℕ) → get_or section i 0 < 256) → HasKey section a → HasKey section b → a.key ≡ b.key → ordering_then (nat_cmp a.before b.before) (tail_cmp (text_in section a) (text_in section b)) ≡ tail_cmp (text_in section a) (text_in section b)
+compared_before section a b p ka kb e = elim (cases_eq a.before b.before) [
+  | inl f ↦ tied_then a.before b.before (tail_cmp (text_in section a) (text_in section b)) f
+  | inr n ↦
+      apart_then (nat_cmp a.before b.before) (tail_cmp (text_in section a) (text_in section b)) (λ f. n (tied_same a.before b.before f))
+      ∙ ap (λ (k : ℕ). nat_cmp k b.before) ka.before ∙ ap (nat_cmp (suffix_key (text_before (text_in section a)))) kb.before
+      ∙ before_apart (text_in section a) (text_in section b) (text_bytes section a p) (text_bytes section b p) (sym ka.last ∙ e ∙ kb.last) (λ f. n (ka.before ∙ f ∙ sym kb.before))
+]
+
+pub compared_as_texts : (section : List ℕ) (a b : SectionText) → ((i : ℕ) → get_or section i 0 < 256) → HasKey section a → HasKey section b → compared section a b ≡ tail_cmp (text_in section a) (text_in section b)
+compared_as_texts section a b p ka kb = elim (cases_eq a.key b.key) [
+  | inl e ↦ tied_then a.key b.key (ordering_then (nat_cmp a.before b.before) (tail_cmp (text_in section a) (text_in section b))) e ∙ compared_before section a b p ka kb e
+  | inr n ↦
+      apart_then (nat_cmp a.key b.key) (ordering_then (nat_cmp a.before b.before) (tail_cmp (text_in section a) (text_in section b))) (λ e. n (tied_same a.key b.key e))
+      ∙ ap (λ (k : ℕ). nat_cmp k b.key) ka.last ∙ ap (nat_cmp (suffix_key (text_in section a))) kb.last
+      ∙ key_apart (text_in section a) (text_in section b) (text_bytes section a p) (text_bytes section b p) (λ e. n (ka.last ∙ e ∙ sym kb.last))
+]
+
+pub compared_total : (section : List ℕ) → IsTotalOrder (compared section)
+compared_total section = then_total (on_total (λ t. t.key) nat_cmp_total) (then_total (on_total (λ t. t.before) nat_cmp_total) (on_total (text_in section) tail_total))
+
+pub sorted_texts : (section : List ℕ) (ts : List SectionText) → ((i : ℕ) → get_or section i 0 < 256) → All (HasKey section) ts → IsSortedBy (λ x y. is_lt (compared section x y)) ts → IsSorted tail_cmp (map (text_in section) ts)
+sorted_texts section ts p keys up k d low h =
+    let e : SectionText = record { key = 0; before = 0; start = 0; end = 0 } in
+    let inside : k + 1 < length ts = omega (arith, h, length-map ts (text_in section)) in
+    let a = get_or ts k e in
+    let b = get_or ts (k + 1) e in
+    let same = compared_as_texts section b a p (keys (k + 1) e inside) (keys k e (omega (arith, inside))) in
+    ap (λ (t : List ℕ). tail_lt t (get_or (map (text_in section) ts) k d)) (get_or-map (text_in section) ts (k + 1) e d inside)
+    ∙ ap (tail_lt (text_in section b)) (get_or-map (text_in section) ts k e d (omega (arith, inside)))
+    ∙ ap is_lt (sym same) ∙ up k e low inside

@@ -1,0 +1,13 @@
+use Rattle.std.proofs.Common.{◌≡◌, List, ℕ, length, sym, ap, ◌∙◌, arith}
+use Rattle.bpf_canon.proofs.BtfLemmas.Strings.OffsetSetSteps.{slots_len, number_before}
+use Rattle.bpf_canon.proofs.btf.strings.offset_set.OffsetSet.count_before.Goals as goal
+
+pub index-requires : goal.index-requires
+index-requires g c =
+    let long : length c.args.self.now ≡ c.self.inside.section_len = ap (λ (l : List ℕ). length l) (sym c.self.view_is) ∙ slots_len c.self.inside.words.items c.self.inside.section_len in
+    omega (arith, long, c.requires, c.self.invariant, c.self.inside.words.ok.0)
+
+pub returns : goal.returns
+returns g c =
+    let long : length c.args.self.now ≡ c.self.inside.section_len = ap (λ (l : List ℕ). length l) (sym c.self.view_is) ∙ slots_len c.self.inside.words.items c.self.inside.section_len in
+    number_before c.self.inside.words.items c.args.self.now c.self.inside.section_len c.args.off c.index.result.now c.self.view_is c.self.invariant (omega (arith, long, c.requires)) c.index.ensures

@@ -1,5 +1,0 @@
-use Rattle.std.proofs.Common.{◌≡◌, ◌+◌, map, take, get_or}
-use Rattle.bpf_canon.proofs.btf.strings.places.places_of.Given as goal
-
-abbrev pub invariant-loop-at : goal.invariant-loop-at
-invariant-loop-at g l = l.places.items ≡ map (λ at. get_or l.placed at.host 0 + at.before) (take l.at-index l.found)

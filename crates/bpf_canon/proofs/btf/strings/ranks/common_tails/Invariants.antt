@@ -1,8 +1,0 @@
-use Rattle.std.proofs.Common.{◌≡◌, ℕ, ◌<◌, length, map}
-use Rattle.std.specs.Prelude.{slice_index}
-use Rattle.bpf_canon.specs.btf.strings.Ranks.{common_before}
-use Rattle.bpf_canon.specs.btf.strings.Tails.{tail_text}
-use Rattle.bpf_canon.proofs.btf.strings.ranks.common_tails.Given as goal
-
-abbrev pub invariant-loop-k : goal.invariant-loop-k
-invariant-loop-k g l = (length l.common.items ≡ l.k) × ((j : ℕ) → j < l.k → slice_index l.common.items j ≡ common_before (map (tail_text l.section) l.sorted) j)

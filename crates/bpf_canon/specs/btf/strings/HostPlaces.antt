@@ -1,0 +1,66 @@
+-- The table of hosts, in the order of first use.
+use Rattle.std.specs.Prelude.{◌≡◌, ◌≢◌, ℕ, ◌+◌, ◌-◌, ◌^◌, ◌<◌, ◌≤◌, false, List, ◌++◌, length, map, take, drop, slice_index}
+use Rattle.std.specs.List.{All, Contains, flat_map}
+use Rattle.btf_types.specs.Names.{with_nul, place_in}
+use Rattle.btf_types.specs.Reading.{text_from}
+use Rattle.btf_types.specs.strings.SharedNames.{is_suffix, hosts, host, shared_table, shared_place}
+use Rattle.btf_types.specs.strings.CommonTails.{at_rank}
+use Rattle.bpf_canon.specs.btf.strings.UsedOffsets.{number_of}
+use Rattle.bpf_canon.specs.btf.strings.InHost.{host_at, no_host}
+use Rattle.bpf_canon.specs.declared.btf.strings.hosts_by_rank.InHost.{InHost}
+use Rattle.bpf_canon.specs.declared.btf.strings.host_places.Span.{Span}
+
+-- the bytes of the section from the start of a span to the NUL at its end
+abbrev pub span_bytes : List ℕ → Span → List ℕ
+span_bytes section s = take (s.end + 1 - s.start) (drop s.start section)
+
+-- the span is part of the section
+pub record IsSpan (section : List ℕ) (s : Span) : Type 0 where
+  pub up : s.start ≤ s.end
+  pub inside : s.end < length section
+
+-- new spans have the bytes of old ones, then the bytes of a text
+pub record HasText (section : List ℕ) (old new : List Span) (text : Span) : Type 0 where
+  pub are_spans : All (IsSpan section) new
+  pub bytes : flat_map (span_bytes section) new ≡ flat_map (span_bytes section) old ++ span_bytes section text
+
+-- Among the names xs, x has the text of this rank as its host, which doesn't end the next one.
+pub record IsAtHost (sorted xs : List (List ℕ)) (x : List ℕ) (h : InHost) : Type 0 where
+  pub rank : ℕ
+  pub numbered : h.host ≡ rank + 1
+  pub inside : rank < length sorted
+  pub last : rank + 1 < length sorted → is_suffix (at_rank sorted rank) (at_rank sorted (rank + 1)) ≡ false
+  pub is_host : host xs x ≡ at_rank sorted rank
+  pub before : h.before + length x ≡ length (at_rank sorted rank)
+  pub long : h.len ≡ length (at_rank sorted rank)
+
+-- the name at an offset has its host, and the empty one has none
+pub record HasHost (section slots : List ℕ) (sorted xs : List (List ℕ)) (in_hosts : List InHost) (off : ℕ) : Type 0 where
+  pub inside : off < length section
+  pub used : slice_index slots off ≢ 0
+  pub empty : slice_index section off ≡ 0 → host_at slots in_hosts off ≡ no_host
+  pub some : slice_index section off ≢ 0 → IsAtHost sorted xs (text_from section off) (host_at slots in_hosts off)
+
+-- The hosts are spans of the section, and the text of each rank that is a host has its place.
+pub record AreHostPlaces (section : List ℕ) (sorted xs : List (List ℕ)) (by_rank : List ℕ) (spans : List Span) (len : ℕ) : Type 0 where
+  pub are_spans : All (IsSpan section) spans
+  pub texts : flat_map (span_bytes section) spans ≡ flat_map with_nul (hosts xs)
+  pub whole : len ≡ length (shared_table xs)
+  pub ranks : length by_rank ≡ length sorted + 1
+  pub none : slice_index by_rank 0 ≡ 0
+  pub place : (r : ℕ) → r < length sorted → (r + 1 < length sorted → is_suffix (at_rank sorted r) (at_rank sorted (r + 1)) ≡ false) → Contains (hosts xs) (at_rank sorted r) → slice_index by_rank (r + 1) ≡ place_in (hosts xs) (at_rank sorted r)
+
+-- Of names at offsets of a section, the place of each in the table that they share is known by its number, and the table by its hosts.
+pub record ArePlaced (section offsets slots places : List ℕ) (spans : List Span) (len : ℕ) : Type 0 where
+  pub used : (off : ℕ) → Contains offsets off → slice_index slots off ≢ 0
+  pub numbers : length places ≡ number_of slots (length slots)
+  pub place : (off : ℕ) → Contains offsets off → slice_index places (number_of slots off) ≡ shared_place (map (text_from section) offsets) (text_from section off)
+  pub are_spans : All (IsSpan section) spans
+  pub texts : flat_map (span_bytes section) spans ≡ flat_map with_nul (hosts (map (text_from section) offsets))
+  pub whole : len ≡ length (shared_table (map (text_from section) offsets))
+
+-- The hosts of used offsets and the places of hosts give the place of each name: the place of its host plus the bytes of the host before it.
+pub record GivePlaces (section offsets slots : List ℕ) (in_hosts : List InHost) (by_rank : List ℕ) (spans : List Span) (len : ℕ) : Type 0 where
+  pub ranked : All (λ at. at.host < length by_rank) in_hosts
+  pub fits : All (λ at. slice_index by_rank at.host + at.before < 2 ^ 32) in_hosts
+  pub are_placed : ArePlaced section offsets slots (map (λ at. slice_index by_rank at.host + at.before) in_hosts) spans len

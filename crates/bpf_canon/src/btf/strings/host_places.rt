@@ -1,0 +1,88 @@
+//! The places of hosts in the string table, in the order of first use.
+ghost use Rattle.std.specs.Prelude.{◌≡◌, ◌<◌, ◌^◌, ℕ, List, length, map, IfOk, OnOk};
+ghost use Rattle.std.specs.List.{All};
+ghost use Rattle.std.specs.List.Sorted.{IsSorted};
+ghost use Rattle.btf_raw.specs.Header.{HasNulEnds};
+ghost use Rattle.btf_types.specs.Reading.{text_from};
+ghost use Rattle.btf_types.specs.strings.SharedNames.{tail_cmp, shared_table};
+ghost use Rattle.bpf_canon.specs.btf.strings.SectionTexts.{text_in};
+ghost use Rattle.bpf_canon.specs.btf.strings.UsedOffsets.{number_of};
+ghost use Rattle.bpf_canon.specs.btf.strings.HostPlaces.{IsSpan, HasText, HasHost, AreHostPlaces};
+
+use crate::btf::strings::hosts_by_rank::InHost;
+use crate::btf::strings::ranked_texts::RankedTexts;
+use crate::btf::strings::used_offsets::UsedOffsets;
+use std::alloc::{AllocError, Allocator};
+
+/// Texts of a section that follow one another, each with its NUL: the start of the first, and the NUL of the last.
+#[derive(Clone, Copy)]
+pub(crate) struct Span {
+    pub(crate) start: u32,
+    pub(crate) end: u32,
+}
+
+/// The table of hosts: a NUL, then each host with its NUL.
+#[derive(Drop)]
+pub(crate) struct HostPlaces<A: Allocator> {
+    // the place of the text of each rank, by the rank plus 1, and 0 if it has none yet
+    pub(crate) by_rank: Vec<u32, A>,
+    // the hosts as parts of the section, in the order of the table
+    pub(crate) spans: Vec<Span, A>,
+    // the length of the table
+    pub(crate) len: u32,
+}
+
+/// Appends a text of the section. If it follows the last text there, both are one span.
+fn push_text<A: Allocator>(spans: &mut Vec<Span, A>, text: Span) -> Result<(), AllocError>
+    ensures { OnOk result ((section : List ℕ) → All (IsSpan section) spans.old.items → IsSpan section text → HasText section spans.old.items spans.new.items text) }
+{
+    if let Some(last) = spans.last_mut() {
+        if last.end < text.start && text.start - last.end == 1 {
+            last.end = text.end;
+            return Ok(());
+        }
+    }
+    spans.push(text)?;
+    Ok(())
+}
+
+/// Gives a place to each host among the names at these offsets. A name that is its own host goes last, unless it is there already.
+pub(crate) fn place_hosts<A: Allocator + Copy>(
+    alloc: A,
+    offsets: &[u32],
+    uses: &UsedOffsets<A>,
+    in_hosts: &[InHost],
+    ranked: &RankedTexts<'_, A>,
+) -> Result<HostPlaces<A>, AllocError>
+    requires order { IsSorted tail_cmp (map (text_in ranked.now.section.now) ranked.now.texts.items) }
+    requires ends { HasNulEnds ranked.now.section.now }
+    requires few { length ranked.now.section.now < 2 ^ 32 }
+    requires whole { length in_hosts.now ≡ number_of uses.now (length uses.now) }
+    requires in_hosts { All (HasHost ranked.now.section.now uses.now (map (text_in ranked.now.section.now) ranked.now.texts.items) (map (text_from ranked.now.section.now) offsets.now) in_hosts.now) offsets.now }
+    requires room { length (shared_table (map (text_from ranked.now.section.now) offsets.now)) < 2 ^ 32 }
+    ensures { IfOk result (λ h. AreHostPlaces ranked.now.section.now (map (text_in ranked.now.section.now) ranked.now.texts.items) (map (text_from ranked.now.section.now) offsets.now) h.by_rank.items h.spans.items h.len) }
+{
+    let mut by_rank = vec![in alloc; 0; ranked.texts.len() + 1]?;
+    let mut spans = Vec::new(alloc);
+    let mut len = 1;
+    for k in 0..offsets.len() {
+        let off = offsets[k];
+        let at = in_hosts[uses.number(off as usize)];
+        let host = at.host as usize;
+        if host == 0 || at.before != 0 || by_rank[host] != 0 {
+            continue;
+        }
+        let text = Span {
+            start: off,
+            end: off + at.len,
+        };
+        push_text(&mut spans, text)?;
+        by_rank[host] = len;
+        len += at.len + 1;
+    }
+    Ok(HostPlaces {
+        by_rank,
+        spans,
+        len,
+    })
+}

@@ -1,0 +1,75 @@
+//! Texts of a section, and their order by bytes from the end.
+ghost use Rattle.std.specs.Prelude.{◌≡◌, ◌+◌, ◌*◌, ◌^◌, ◌<◌, ◌≤◌, ◌-◌, map};
+ghost use Rattle.std.specs.List.{All};
+ghost use Rattle.std.specs.List.Sorted.{IsPermutation, IsSorted};
+ghost use Rattle.btf_types.specs.strings.SharedNames.{tail_cmp};
+ghost use Rattle.bpf_canon.specs.btf.strings.SectionTexts as texts;
+
+use crate::btf::suffixes::compare_from_end;
+use std::alloc::Allocator;
+use std::cmp::Ordering;
+
+/// A text of a section, with the keys of its last bytes.
+#[derive(Clone, Copy)]
+pub(crate) struct SectionText {
+    pub(crate) key: u64,
+    /// The key of the text without its last eight bytes.
+    pub(crate) before: u64,
+    pub(crate) start: u32,
+    pub(crate) end: u32,
+}
+
+impl SectionText {
+    /// The length of the text.
+    pub(crate) fn len(self) -> u32
+        requires { self.start ≤ self.end }
+        ensures { result ≡ self.end - self.start }
+    {
+        self.end - self.start
+    }
+
+    /// Both keys as one number, which is compared without a branch.
+    fn keys(&self) -> u128
+        ensures both { result ≡ self.now.key * 2 ^ 64 + self.now.before }
+        ensures low { self.now.before < 2 ^ 64 }
+    {
+        u128::from(self.key) * (1 << 64) + u128::from(self.before)
+    }
+}
+
+/// The bytes of a text.
+pub(crate) fn text_of<'a>(section: &'a [u8], text: &SectionText) -> &'a [u8]
+    ensures { result.now ≡ texts.text_in section.now text.now }
+{
+    let end = (text.end as usize).min(section.len());
+    let start = (text.start as usize).min(end);
+    &section[start..end]
+}
+
+/// Compares the bytes. This is a function of its own, so that the comparison of keys is inlined.
+#[inline(never)]
+fn compare_texts(section: &[u8], a: &SectionText, b: &SectionText) -> Ordering
+    ensures { result ≡ tail_cmp (texts.text_in section.now a.now) (texts.text_in section.now b.now) }
+{
+    compare_from_end(text_of(section, a), text_of(section, b))
+}
+
+/// Compares by keys, then by bytes.
+fn compare(section: &[u8], a: &SectionText, b: &SectionText) -> Ordering
+    ensures { result ≡ texts.compared section.now a.now b.now }
+{
+    let (first, second) = (a.keys(), b.keys());
+    if first != second {
+        return first.cmp(&second);
+    }
+    compare_texts(section, a, b)
+}
+
+/// Sorts texts by their bytes from the end.
+pub(crate) fn sort_texts<A: Allocator>(section: &[u8], list: &mut Vec<SectionText, A>)
+    requires { All (texts.HasKey section.now) list.old.items }
+    ensures permutation { IsPermutation list.old.items list.new.items }
+    ensures sorted { IsSorted tail_cmp (map (texts.text_in section.now) list.new.items) }
+{
+    list.sort_unstable_by(|a, b| compare(section, a, b));
+}
