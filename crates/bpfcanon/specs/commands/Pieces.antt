@@ -1,13 +1,20 @@
--- How the answer to an input is written, whole or in pieces.
-use Rattle.std.specs.Prelude.{◌≡◌, ◌<◌, ◌++◌, ℕ, List, Result, Ok, Err, true, length, take}
-use Rattle.std.specs.Io.KnownBytes.{Appends}
+-- How a whole input is answered, with output that is written whole or in pieces. Private contracts alone cite this.
+use Rattle.std.specs.Prelude.{◌≡◌, ◌<◌, ◌≤◌, ◌++◌, ℕ, List, Result, Ok, Err, true, length, take}
+use Rattle.std.specs.Io.KnownBytes.{Appends, Consumes, IsAtEnd}
 use Rattle.bpfcanon.specs.declared.job.Job.{Job}
 use Rattle.bpfcanon.specs.declared.outcome.Outcome.{Outcome}
 use Rattle.bpfcanon.specs.declared.outcome.Outcome.TheVariants as ends
 use Rattle.bpfcanon.specs.declared.commands.pieces.PutError.{PutError}
 use Rattle.bpfcanon.specs.declared.commands.pieces.PutError.TheVariants.{WriteFailed, Memory}
 use Rattle.bpfcanon.specs.Devices.{Change, HasFailed, IsHealthy, IsUnused}
-use Rattle.bpfcanon.specs.commands.Reply.{IsReply, in_pieces}
+use Rattle.bpfcanon.specs.commands.Reply.{IsReply, in_pieces, limit_of}
+
+-- the source was read to its end, and the input is all that came
+pub record IsInput (j : Job) (source : Change) (input : List ℕ) : Type 0 where
+  pub came : Consumes source.old source.new input
+  pub ended : IsAtEnd source.new
+  pub healthy : IsHealthy source
+  pub within : length input ≤ limit_of j.verb
 
 -- what the sink took, and the piece that is held behind it, are the text
 pub record Gathered (sink : Change) (held text : List ℕ) : Type 0 where

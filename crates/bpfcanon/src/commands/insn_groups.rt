@@ -1,12 +1,17 @@
 //! `insn-groups`: the conformance groups that the instructions of a file need.
 
-ghost use Rattle.std.specs.Prelude.{◌≡◌, ◌≤◌, length, IfOk};
+ghost use Rattle.std.specs.Prelude.{◌<◌, ◌≡◌, ◌≤◌, length, IfOk};
 ghost use Rattle.bpf_insn.specs.Groups.{holds};
 ghost use Rattle.bpfcanon.specs.declared.verb.Verb.TheVariants.{InsnGroups};
+ghost use Rattle.bpfcanon.specs.Devices.{sink_change, source_change};
+ghost use Rattle.bpfcanon.specs.JobEnds.{EndsJob};
 ghost use Rattle.bpfcanon.specs.commands.Reply.{IsGroupsReply, group_lines, group_name, limit_of};
 
-use crate::commands::reply::Reply;
+use crate::commands::input::read_input;
+use crate::commands::reply::{Reply, put_reply};
+use crate::job::Job;
 use crate::outcome::Outcome;
+use bpf_canon::{ByteSink, ByteSource};
 use bpf_insn::{Group, GroupSet, InsnError, Order, decode_insns, groups_of};
 use std::alloc::{AllocError, Allocator};
 
@@ -50,7 +55,7 @@ fn group_lines<A: Allocator>(alloc: A, set: GroupSet) -> Result<Vec<u8, A>, Allo
 }
 
 /// The reply of `insn-groups`.
-pub fn insn_groups_reply<A: Allocator + Copy>(
+fn insn_groups_reply<A: Allocator + Copy>(
     alloc: A,
     order: Order,
     input: &[u8],
@@ -65,5 +70,23 @@ pub fn insn_groups_reply<A: Allocator + Copy>(
         }),
         Err(InsnError::Fault(fault)) => Ok(Reply::bare(alloc, Outcome::Fault(fault))),
         Err(InsnError::Memory) => Err(AllocError),
+    }
+}
+
+/// Runs `insn-groups`.
+pub fn run_insn_groups<A: Allocator + Copy, S: ByteSource, W: ByteSink>(
+    alloc: A,
+    job: Job,
+    source: &mut S,
+    sink: &mut W,
+) -> Outcome
+    requires verb { job.verb ≡ InsnGroups }
+    requires source { S.failures source.old < u64.MAX }
+    requires sink { W.failures sink.old < u64.MAX }
+    ensures { EndsJob job (source_change S.ByteSource source.old source.new) (sink_change W.ByteSink sink.old sink.new) result }
+{
+    match read_input(alloc, job, source) {
+        Ok(input) => put_reply(insn_groups_reply(alloc, job.order, input.as_slice()), sink),
+        Err(outcome) => outcome,
     }
 }
