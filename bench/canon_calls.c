@@ -29,10 +29,10 @@ static int write_file(int is_btf, uint32_t order, uint32_t to)
 	else
 		answer = bpfcanon_insn_canon(order, to, bytes, len, out, len);
 	if (answer.status == BPFCANON_FAULT)
-		refuse(is_btf ? bpfcanon_btf_cause(answer.cause) : bpfcanon_insn_cause(answer.cause), answer.pos);
+		refuse(is_btf ? bpfcanon_btf_cause_name(answer.cause) : bpfcanon_insn_cause_name(answer.cause), answer.pos);
 	if (answer.status != BPFCANON_DONE)
 		return 3;
-	write_whole(out, answer.len);
+	write_whole(out, answer.written);
 	return 0;
 }
 
@@ -60,14 +60,14 @@ static int write_pieces(uint32_t order, uint32_t to)
 			return 3;
 		write_whole(room, front.written);
 		if (front.status == BPFCANON_FAULT)
-			refuse(bpfcanon_insn_cause(front.cause), done + front.pos);
+			refuse(bpfcanon_insn_cause_name(front.cause), done + front.pos);
 		done += front.read;
 		held -= front.read;
 		memmove(piece, piece + front.read, held);
 	}
 	rest = bpfcanon_insn_canon(order, to, piece, held, room, PIECE);
 	if (rest.status == BPFCANON_FAULT)
-		refuse(bpfcanon_insn_cause(rest.cause), done + rest.pos);
+		refuse(bpfcanon_insn_cause_name(rest.cause), done + rest.pos);
 	return rest.status == BPFCANON_DONE ? 0 : 3;
 }
 

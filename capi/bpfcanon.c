@@ -1,130 +1,335 @@
-/* The part of the C interface that is C: blocks for output, and names. It is tested and not proved. */
+/*
+ * The C part of the library: the public calls around the proved ones, blocks for output, names and
+ * the version. It is tested and not proved.
+ */
 #include "bpfcanon.h"
+#include "proved.h"
 
 #include <stdlib.h>
 
-/* A place for slices of 0 bytes, which may not be at null. */
+/* --- Calls on the caller's memory --- */
+
+/* An address in place of null: a slice of Rattle has one even if its length is 0. */
 static uint8_t nowhere;
 
-/* A block for output that is at most as long as the input. */
-static uint8_t *block_of(size_t len)
+static const uint8_t *input(const void *bytes)
 {
-	return malloc(len ? len : 1);
+	return bytes ? (const uint8_t *)bytes : &nowhere;
 }
 
-static bpfcanon_answer no_memory(void)
+static uint8_t *output(void *out)
 {
-	bpfcanon_answer answer = { BPFCANON_MEMORY, 0, 0, 0 };
-
-	return answer;
+	return out ? (uint8_t *)out : &nowhere;
 }
 
-/* Hands the block out where it was filled, and else frees it. */
-static bpfcanon_answer hand_out(bpfcanon_answer answer, uint8_t *block, uint8_t **out)
+bpfcanon_answer bpfcanon_btf_canon(uint32_t to, const uint8_t *bytes, size_t len, uint8_t *out,
+                                   size_t room)
 {
-	if (answer.status == BPFCANON_DONE)
-		*out = block;
-	else
+	return bpfcanon_proved_btf_canon(to, input(bytes), len, output(out), room);
+}
+
+bpfcanon_answer bpfcanon_insn_canon(uint32_t order, uint32_t to, const uint8_t *bytes, size_t len,
+                                    uint8_t *out, size_t room)
+{
+	return bpfcanon_proved_insn_canon(order, to, input(bytes), len, output(out), room);
+}
+
+bpfcanon_answer bpfcanon_btf_check(const uint8_t *bytes, size_t len)
+{
+	return bpfcanon_proved_btf_check(input(bytes), len);
+}
+
+bpfcanon_answer bpfcanon_insn_groups(uint32_t order, const uint8_t *bytes, size_t len)
+{
+	return bpfcanon_proved_insn_groups(order, input(bytes), len);
+}
+
+bpfcanon_answer bpfcanon_btf_same(const uint8_t *first, size_t first_len, const uint8_t *second,
+                                  size_t second_len)
+{
+	return bpfcanon_proved_btf_same(input(first), first_len, input(second), second_len);
+}
+
+bpfcanon_answer bpfcanon_insn_same(uint32_t first_order, const uint8_t *first, size_t first_len,
+                                   uint32_t second_order, const uint8_t *second, size_t second_len)
+{
+	return bpfcanon_proved_insn_same(first_order, input(first), first_len, second_order,
+	                                 input(second), second_len);
+}
+
+bpfcanon_answer bpfcanon_insn_show(uint32_t order, const uint8_t *bytes, size_t len, char *out,
+                                   size_t room)
+{
+	return bpfcanon_proved_insn_show(order, input(bytes), len, output(out), room);
+}
+
+bpfcanon_answer bpfcanon_insn_read(uint32_t to, const char *text, size_t len, uint8_t *out,
+                                   size_t room)
+{
+	return bpfcanon_proved_insn_read(to, input(text), len, output(out), room);
+}
+
+bpfcanon_answer bpfcanon_btf_show(const uint8_t *bytes, size_t len, char *out, size_t room)
+{
+	return bpfcanon_proved_btf_show(input(bytes), len, output(out), room);
+}
+
+bpfcanon_front bpfcanon_insn_front(uint32_t order, uint32_t to, const uint8_t *bytes, size_t len,
+                                   uint8_t *out, size_t room)
+{
+	return bpfcanon_proved_insn_front(order, to, input(bytes), len, output(out), room);
+}
+
+/* --- Calls that allocate --- */
+
+/* A call that writes, in a shape that fits all five, with what it is given besides its output. */
+struct request {
+	bpfcanon_answer (*write)(const struct request *request, uint8_t *out, size_t room);
+	uint32_t order, to;
+	const uint8_t *bytes;
+	size_t len;
+};
+
+static bpfcanon_answer write_btf(const struct request *request, uint8_t *out, size_t room)
+{
+	return bpfcanon_proved_btf_canon(request->to, request->bytes, request->len, out, room);
+}
+
+static bpfcanon_answer write_insns(const struct request *request, uint8_t *out, size_t room)
+{
+	return bpfcanon_proved_insn_canon(request->order, request->to, request->bytes, request->len,
+	                                  out, room);
+}
+
+static bpfcanon_answer write_listing(const struct request *request, uint8_t *out, size_t room)
+{
+	return bpfcanon_proved_insn_show(request->order, request->bytes, request->len, out, room);
+}
+
+static bpfcanon_answer write_listed(const struct request *request, uint8_t *out, size_t room)
+{
+	return bpfcanon_proved_insn_read(request->to, request->bytes, request->len, out, room);
+}
+
+static bpfcanon_answer write_types(const struct request *request, uint8_t *out, size_t room)
+{
+	return bpfcanon_proved_btf_show(request->bytes, request->len, out, room);
+}
+
+/* Writes into a block of this room, and of one byte more for a NUL. */
+static bpfcanon_answer write_block(const struct request *request, size_t room, uint8_t **out)
+{
+	bpfcanon_answer answer = { BPFCANON_MEMORY, 0, 0, 0, 0, 0, 0, 0 };
+	uint8_t *block = (uint8_t *)malloc(room + 1), *smaller;
+
+	*out = NULL;
+	if (!block)
+		return answer;
+	answer = request->write(request, block, room);
+	if (answer.status != BPFCANON_DONE) {
 		free(block);
+		return answer;
+	}
+	block[answer.written] = 0;
+	smaller = (uint8_t *)realloc(block, answer.written + 1);
+	*out = smaller ? smaller : block;
 	return answer;
 }
 
-bpfcanon_answer bpfcanon_btf_canon_new(uint32_t to, const uint8_t *bytes, size_t len, uint8_t **out)
+/* Writes into a block of `times` the length of the input, and if that is too short, once more. */
+static bpfcanon_answer write_new(const struct request *request, size_t times, uint8_t **out)
 {
-	uint8_t *block = block_of(len);
-
-	*out = NULL;
-	if (!block)
-		return no_memory();
-	return hand_out(bpfcanon_btf_canon(to, len ? bytes : &nowhere, len, block, len), block, out);
-}
-
-bpfcanon_answer bpfcanon_insn_canon_new(uint32_t order, uint32_t to, const uint8_t *bytes, size_t len, uint8_t **out)
-{
-	uint8_t *block = block_of(len);
-
-	*out = NULL;
-	if (!block)
-		return no_memory();
-	return hand_out(bpfcanon_insn_canon(order, to, len ? bytes : &nowhere, len, block, len), block, out);
-}
-
-/* A call that writes at most `room` bytes, in the order or from a file of the order `order`. */
-typedef bpfcanon_answer write_call(uint32_t order, const uint8_t *bytes, size_t len, uint8_t *out, size_t room);
-
-/* Calls with a block of so much room, and where that is too short, once more with as much as the answer says. */
-static bpfcanon_answer write_new(write_call *call, uint32_t order, const uint8_t *bytes, size_t len, size_t room, uint8_t **out)
-{
-	uint8_t *block = block_of(room);
+	const size_t most = (SIZE_MAX - 1) / times;
 	bpfcanon_answer answer;
 
-	*out = NULL;
-	if (!block)
-		return no_memory();
-	answer = call(order, len ? bytes : &nowhere, len, block, room);
-	if (answer.status != BPFCANON_ROOM)
-		return hand_out(answer, block, out);
+	answer = write_block(request, times * (request->len < most ? request->len : most), out);
+	return answer.status == BPFCANON_ROOM ? write_block(request, answer.needed, out) : answer;
+}
+
+bpfcanon_answer bpfcanon_btf_canon_new(uint32_t to, const uint8_t *bytes, size_t len,
+                                       uint8_t **out)
+{
+	const struct request request = { write_btf, 0, to, input(bytes), len };
+
+	return write_new(&request, 1, out);
+}
+
+bpfcanon_answer bpfcanon_insn_canon_new(uint32_t order, uint32_t to, const uint8_t *bytes,
+                                        size_t len, uint8_t **out)
+{
+	const struct request request = { write_insns, order, to, input(bytes), len };
+
+	return write_new(&request, 1, out);
+}
+
+/* No line is longer, for 8 bytes, than "jsgt32 r10, -2147483648, -32768\n" with its 32 characters. */
+bpfcanon_answer bpfcanon_insn_show_new(uint32_t order, const uint8_t *bytes, size_t len,
+                                       char **out)
+{
+	const struct request request = { write_listing, order, 0, input(bytes), len };
+	uint8_t *block;
+	bpfcanon_answer answer = write_new(&request, 4, &block);
+
+	*out = (char *)block;
+	return answer;
+}
+
+/* No line is shorter, for 8 bytes, than "exit" or "ja+1", and only the last may lack a newline. */
+bpfcanon_answer bpfcanon_insn_read_new(uint32_t to, const char *text, size_t len, uint8_t **out)
+{
+	const struct request request = { write_listed, 0, to, input(text), len };
+
+	return write_new(&request, 2, out);
+}
+
+/* TIMES */
+bpfcanon_answer bpfcanon_btf_show_new(const uint8_t *bytes, size_t len, char **out)
+{
+	const struct request request = { write_types, 0, 0, input(bytes), len };
+	uint8_t *block;
+	bpfcanon_answer answer = write_new(&request, 4, &block);
+
+	*out = (char *)block;
+	return answer;
+}
+
+void bpfcanon_free(void *block)
+{
 	free(block);
-	room = answer.len;
-	block = block_of(room);
-	if (!block)
-		return no_memory();
-	return hand_out(call(order, len ? bytes : &nowhere, len, block, room), block, out);
 }
 
-bpfcanon_answer bpfcanon_insn_show_new(uint32_t order, const uint8_t *bytes, size_t len, uint8_t **out)
+/* --- Names and the version --- */
+
+const char *bpfcanon_version(void)
 {
-	/* a line takes about three times as much as its instruction */
-	return write_new(bpfcanon_insn_show, order, bytes, len, 3 * len, out);
+	return BPFCANON_VERSION;
 }
 
-bpfcanon_answer bpfcanon_insn_read_new(uint32_t to, const uint8_t *text, size_t len, uint8_t **out)
-{
-	return write_new(bpfcanon_insn_read, to, text, len, len, out);
-}
-
-/* bpfcanon_btf_show as a call of the shape above: BTF has its own order. */
-static bpfcanon_answer btf_show(uint32_t order, const uint8_t *bytes, size_t len, uint8_t *out, size_t room)
-{
-	(void)order;
-	return bpfcanon_btf_show(bytes, len, out, room);
-}
-
-bpfcanon_answer bpfcanon_btf_show_new(const uint8_t *bytes, size_t len, uint8_t **out)
-{
-	/* the text of a kernel's types takes about twice as much as the types */
-	return write_new(btf_show, BPFCANON_LITTLE, bytes, len, 2 * len, out);
-}
-
-void bpfcanon_free(uint8_t *block)
-{
-	free(block);
-}
-
-static const char *const insn_causes[] = {
-	NULL, "Truncated", "Opcode", "Dst", "Src", "Offset", "Imm", "Reserved", "NextImm",
+struct meaning {
+	const char *name, *text;
 };
 
-static const char *const btf_causes[] = {
-	NULL, "ShortHeader", "Magic", "Version", "Flags", "HeaderLength", "HeaderTail", "TypeLength", "StringLength", "Sections",
-	"FileLength", "FirstString", "LastString", "RecordCut", "InfoBits", "KindNumber", "FlagSet", "Vlen", "TailCut",
-	"NameRange", "NameUtf8", "NameMissing", "NameUnwanted", "TextsTooLong", "NotZero", "Size", "Reference", "TargetKind",
-	"IntWord", "MemberInt", "MemberPlace", "Linkage", "Component",
+/* Each table has the number of a status or cause for an index. */
+static const struct meaning statuses[] = {
+	{ "Done", "the call is done, or the two inputs are the same" },
+	{ "Different", "the two inputs are different" },
+	{ "Fault", "the input, or the first of two, has a fault" },
+	{ "FaultSecond", "the second of two inputs has a fault, and the first has none" },
+	{ "Memory", "out of memory" },
+	{ "Room", "the output is longer than its room" },
+	{ "Order", "a number is not that of a byte order" },
 };
 
-static const char *const line_causes[] = { NULL, "Char", "Word", "Shape", "Range" };
+static const struct meaning insn_causes[] = {
+	{ NULL, NULL },
+	{ "Truncated", "the input ends inside an instruction" },
+	{ "Opcode", "no instruction has this opcode" },
+	{ "Dst", "no instruction with this opcode has this destination register" },
+	{ "Src", "no instruction with this opcode has this source register" },
+	{ "Offset", "no instruction with this opcode and these registers has this offset" },
+	{ "Imm",
+	  "no instruction with this opcode, these registers and this offset has this "
+	  "immediate" },
+	{ "Reserved",
+	  "the second slot of a wide load has an opcode, a register or an offset that is "
+	  "not zero" },
+	{ "NextImm",
+	  "the immediate of the second slot is not zero, and this kind of wide load has "
+	  "one number only" },
+};
 
-const char *bpfcanon_insn_cause(uint32_t cause)
+static const struct meaning line_causes[] = {
+	{ NULL, NULL },
+	{ "Char", "a character that is neither blank nor part of a token" },
+	{ "Word", "no instruction has this mnemonic" },
+	{ "Shape", "the operands are not those of the mnemonic" },
+	{ "Range", "a number is out of the range of its field" },
+};
+
+static const struct meaning btf_causes[] = {
+	{ NULL, NULL },
+	{ "ShortHeader", "the file has fewer than 24 bytes" },
+	{ "Magic", "the file does not begin with the BTF magic number in either byte order" },
+	{ "Version", "the version is not 1" },
+	{ "Flags", "the flags are not 0" },
+	{ "HeaderLength", "hdr_len is under 24, over 4,096 or over the length of the file" },
+	{ "HeaderTail", "a byte of the header after the first 24 is not 0" },
+	{ "TypeLength", "type_len is over 33,554,432" },
+	{ "StringLength", "str_len is 0 or over 16,777,216" },
+	{ "Sections",
+	  "the type and string sections do not follow the header one directly after the "
+	  "other" },
+	{ "FileLength", "hdr_len, type_len and str_len do not add up to the length of the file" },
+	{ "FirstString", "the first byte of the string section is not NUL" },
+	{ "LastString", "the last byte of the string section is not NUL" },
+	{ "RecordCut", "the type section ends inside the first three words of a record" },
+	{ "InfoBits", "an unused bit of info is set" },
+	{ "KindNumber", "the kind is 0 or over 19" },
+	{ "FlagSet", "kind_flag is set on a kind that has none" },
+	{ "Vlen", "vlen is not 0 on a kind without items" },
+	{ "TailCut",
+	  "the type section ends inside the data after the first three words of a record" },
+	{ "NameRange", "name_off is not inside the string section" },
+	{ "NameUtf8", "the name is not valid UTF-8" },
+	{ "NameMissing", "a type of this kind needs a name" },
+	{ "NameUnwanted", "a type of this kind has no name" },
+	{ "TextsTooLong", "never reported: the number is kept" },
+	{ "NotZero", "the third word of an ARRAY or FWD is not 0" },
+	{ "Size", "no type of this kind has this size" },
+	{ "Reference", "the type ID is over the number of types" },
+	{ "TargetKind", "the type that is referred to has the wrong kind" },
+	{ "IntWord", "the encoding, offset and bits of the INT are not valid" },
+	{ "MemberInt",
+	  "a record with bit-fields has a member whose INT has an offset, or a width "
+	  "other than 8, 16, 32, 64 or 128 bits" },
+	{ "MemberPlace", "the member ends after the end of its struct or union" },
+	{ "Linkage", "the linkage is over 2" },
+	{ "Component",
+	  "component_idx is neither -1 nor the index of a member or parameter of the "
+	  "tagged type" },
+};
+
+static const struct meaning no_meaning = { NULL, NULL };
+
+#define MEANING(table, number) \
+	((number) < sizeof(table) / sizeof *(table) ? &(table)[number] : &no_meaning)
+
+const char *bpfcanon_status_name(uint32_t status)
 {
-	return cause < sizeof insn_causes / sizeof *insn_causes ? insn_causes[cause] : NULL;
+	return MEANING(statuses, status)->name;
 }
 
-const char *bpfcanon_btf_cause(uint32_t cause)
+const char *bpfcanon_status_text(uint32_t status)
 {
-	return cause < sizeof btf_causes / sizeof *btf_causes ? btf_causes[cause] : NULL;
+	return MEANING(statuses, status)->text;
 }
 
-const char *bpfcanon_line_cause(uint32_t cause)
+const char *bpfcanon_insn_cause_name(uint32_t cause)
 {
-	return cause < sizeof line_causes / sizeof *line_causes ? line_causes[cause] : NULL;
+	return MEANING(insn_causes, cause)->name;
+}
+
+const char *bpfcanon_insn_cause_text(uint32_t cause)
+{
+	return MEANING(insn_causes, cause)->text;
+}
+
+const char *bpfcanon_line_cause_name(uint32_t cause)
+{
+	return MEANING(line_causes, cause)->name;
+}
+
+const char *bpfcanon_line_cause_text(uint32_t cause)
+{
+	return MEANING(line_causes, cause)->text;
+}
+
+const char *bpfcanon_btf_cause_name(uint32_t cause)
+{
+	return MEANING(btf_causes, cause)->name;
+}
+
+const char *bpfcanon_btf_cause_text(uint32_t cause)
+{
+	return MEANING(btf_causes, cause)->text;
 }

@@ -1,18 +1,26 @@
 /*
- * Canonical bytes of BPF instructions (RFC 9669) and of BTF (Linux Documentation/bpf/btf.rst), for C.
+ * bpfcanon: canonical bytes of BPF instructions (RFC 9669) and of BTF (Linux
+ * Documentation/bpf/btf.rst), their listings and comparison. The manual is bpfcanon(3).
  *
- * The calls under "Proved calls" are written in Rattle, and proved to meet the contracts in crates/bpfcanon_c. What a caller in C
- * owes isn't checked:
- *   - `bytes` points to `len` readable bytes, and `out` to `room` writable ones, for as long as the call runs; the output doesn't
- *     overlap an input, and no other thread writes to either meanwhile;
- *   - no pointer is null, even where its length is 0;
- *   - malloc, realloc and free are one allocator's, and malloc aligns to 16 bytes;
- *   - no call is made from a signal handler, or from the forked child of a process with threads.
- * Calls keep nothing between them, so threads may make them at the same time on memory of their own.
+ * What is proved. Each call under "Calls on the caller's memory" is a few lines of C (bpfcanon.c)
+ * around a call that is written in Rattle and proved to meet its contract (crates/bpfcanon_c). The
+ * C puts an address of its own in the place of a null pointer whose length is 0, and passes the
+ * rest on. The C is tested and not proved; so are the calls that allocate, the names and the
+ * version.
  *
- * The calls under "Calls that allocate" and "Names" are C over those: they are tested, not proved. They take null for 0 bytes.
+ * What a caller has to keep, which no call checks:
+ *   - An input points to `len` readable bytes and `out` to `room` writable ones, for as long as
+ *     the call runs. Either may be NULL if its length is 0.
+ *   - The output overlaps no input, and no other thread writes to either during the call.
+ *   - malloc, realloc and free belong to one allocator, and malloc aligns to 16 bytes.
+ *   - No call is made from a signal handler, or in the child of a fork of a process with threads.
  *
- * All lengths, places and room are in bytes. A place counts from the first byte of its input.
+ * Calls keep nothing between them, so any number of threads may make them at the same time.
+ *
+ * Limits. No call limits the length of instructions or of a listing: the limits of the command
+ * bpfcanon(1) are its own. BTF has the limits of its format, see BPFCANON_BTF_MAX.
+ *
+ * All lengths, offsets and room are in bytes. An offset counts from the first byte of its input.
  */
 #ifndef BPFCANON_H
 #define BPFCANON_H
@@ -24,30 +32,97 @@
 extern "C" {
 #endif
 
-/* A byte order. An instruction file doesn't state its own; BTF does. */
-enum { BPFCANON_LITTLE = 0, BPFCANON_BIG = 1 };
+/* The version of this header. bpfcanon_version() gives that of the library. */
+#define BPFCANON_VERSION_MAJOR 0
+#define BPFCANON_VERSION_MINOR 1
+#define BPFCANON_VERSION_PATCH 0
+#define BPFCANON_VERSION "0.1.0"
 
-/* How a call ended. */
-enum {
-	BPFCANON_DONE = 0,         /* done: `len` is what the call says; or two files are the same */
-	BPFCANON_DIFFERENT = 1,    /* two files are different */
-	BPFCANON_FAULT = 2,        /* the input, or the first of two, has the fault `cause` at byte `pos`, or on line `pos` of a listing */
-	BPFCANON_FAULT_SECOND = 3, /* the second of two has it, and the first has none */
-	BPFCANON_MEMORY = 4,       /* out of memory */
-	BPFCANON_ROOM = 5,         /* the output takes `len` bytes, which is more than its room; nothing was written */
-	BPFCANON_ORDER = 6         /* the number of a byte order is neither 0 nor 1 */
+/* The longest BTF without a fault: a header of 4,096 bytes, types of 32 MiB, strings of 16 MiB. */
+#define BPFCANON_BTF_MAX 50335744
+
+/* A byte order. Instructions don't state their own; BTF does. Little-endian is canonical. */
+enum bpfcanon_order {
+	BPFCANON_LITTLE = 0,
+	BPFCANON_BIG = 1
 };
 
-/* What a call returns. Fields that the status doesn't name are 0. */
-typedef struct bpfcanon_answer {
-	uint32_t status;
-	uint32_t cause; /* a number of docs/FORMATS.md, of instruction faults, of BTF faults or of listing faults */
-	uint64_t pos;
-	size_t len;
-} bpfcanon_answer;
+/* How a call ended. The comment says which fields of the answer are set; the others are 0. */
+enum bpfcanon_status {
+	/* done: the fields that the call sets; or two inputs are the same */
+	BPFCANON_DONE = 0,
+	/* two inputs are different */
+	BPFCANON_DIFFERENT = 1,
+	/* the input, or the first of two, has a fault: `cause`, with `pos`, or `line` in a listing */
+	BPFCANON_FAULT = 2,
+	/* the second of two inputs has a fault and the first has none: `cause` and `pos` */
+	BPFCANON_FAULT_SECOND = 3,
+	/* out of memory */
+	BPFCANON_MEMORY = 4,
+	/* the output is longer than its room, and nothing was written: `needed` */
+	BPFCANON_ROOM = 5,
+	/* a number is not that of a byte order */
+	BPFCANON_ORDER = 6
+};
+
+/* The causes of faults of instructions. */
+enum bpfcanon_insn_cause {
+	BPFCANON_INSN_TRUNCATED = 1,
+	BPFCANON_INSN_OPCODE = 2,
+	BPFCANON_INSN_DST = 3,
+	BPFCANON_INSN_SRC = 4,
+	BPFCANON_INSN_OFFSET = 5,
+	BPFCANON_INSN_IMM = 6,
+	BPFCANON_INSN_RESERVED = 7,
+	BPFCANON_INSN_NEXT_IMM = 8
+};
+
+/* The causes of faults of listings, which bpfcanon_insn_read reports. */
+enum bpfcanon_line_cause {
+	BPFCANON_LINE_CHAR = 1,
+	BPFCANON_LINE_WORD = 2,
+	BPFCANON_LINE_SHAPE = 3,
+	BPFCANON_LINE_RANGE = 4
+};
+
+/* The causes of faults of BTF. */
+enum bpfcanon_btf_cause {
+	BPFCANON_BTF_SHORT_HEADER = 1,
+	BPFCANON_BTF_MAGIC = 2,
+	BPFCANON_BTF_VERSION = 3,
+	BPFCANON_BTF_FLAGS = 4,
+	BPFCANON_BTF_HEADER_LENGTH = 5,
+	BPFCANON_BTF_HEADER_TAIL = 6,
+	BPFCANON_BTF_TYPE_LENGTH = 7,
+	BPFCANON_BTF_STRING_LENGTH = 8,
+	BPFCANON_BTF_SECTIONS = 9,
+	BPFCANON_BTF_FILE_LENGTH = 10,
+	BPFCANON_BTF_FIRST_STRING = 11,
+	BPFCANON_BTF_LAST_STRING = 12,
+	BPFCANON_BTF_RECORD_CUT = 13,
+	BPFCANON_BTF_INFO_BITS = 14,
+	BPFCANON_BTF_KIND_NUMBER = 15,
+	BPFCANON_BTF_FLAG_SET = 16,
+	BPFCANON_BTF_VLEN = 17,
+	BPFCANON_BTF_TAIL_CUT = 18,
+	BPFCANON_BTF_NAME_RANGE = 19,
+	BPFCANON_BTF_NAME_UTF8 = 20,
+	BPFCANON_BTF_NAME_MISSING = 21,
+	BPFCANON_BTF_NAME_UNWANTED = 22,
+	BPFCANON_BTF_TEXTS_TOO_LONG = 23, /* never reported */
+	BPFCANON_BTF_NOT_ZERO = 24,
+	BPFCANON_BTF_SIZE = 25,
+	BPFCANON_BTF_REFERENCE = 26,
+	BPFCANON_BTF_TARGET_KIND = 27,
+	BPFCANON_BTF_INT_WORD = 28,
+	BPFCANON_BTF_MEMBER_INT = 29,
+	BPFCANON_BTF_MEMBER_PLACE = 30,
+	BPFCANON_BTF_LINKAGE = 31,
+	BPFCANON_BTF_COMPONENT = 32
+};
 
 /* Conformance groups (RFC 9669 section 2.4), as bits of a mask. */
-enum {
+enum bpfcanon_group {
 	BPFCANON_BASE32 = 1,
 	BPFCANON_BASE64 = 2,
 	BPFCANON_ATOMIC32 = 4,
@@ -57,74 +132,159 @@ enum {
 	BPFCANON_PACKET = 64
 };
 
-/* --- Proved calls --- */
+/* What a call returns. A field that neither the status nor the call sets is 0. */
+typedef struct bpfcanon_answer {
+	uint32_t status; /* enum bpfcanon_status */
+	uint32_t cause;  /* of a fault: of enum bpfcanon_insn_cause, _line_cause or _btf_cause */
+	uint64_t pos;    /* the offset of a fault of instructions or of BTF */
+	uint64_t line;   /* the line of a fault of a listing, from 1 */
+	size_t written;  /* at BPFCANON_DONE: the length of the output */
+	size_t needed;   /* at BPFCANON_ROOM: the length of the output, which is more than its room */
+	uint32_t types;  /* of bpfcanon_btf_check: the number of types, void not counted */
+	uint32_t groups; /* of bpfcanon_insn_groups: a mask of enum bpfcanon_group */
+} bpfcanon_answer;
+
+/* --- Calls on the caller's memory --- */
 
 /*
- * Writes the canonical bytes of BTF, or the instructions of a file of the order `order`, in the order `to`: little-endian is
- * canonical. `len` of the answer is how many bytes were written. Room for as many bytes as the input has is always enough. Bytes of
- * `out` past the answer's `len` stay as they are; at each status but BPFCANON_DONE all do.
+ * Writes the canonical form of BTF in the byte order `to`. If `to` is BPFCANON_LITTLE these are the
+ * canonical bytes. Sets `written`. Room of `len` bytes is always enough.
+ *
+ * This call and the others that write leave the bytes of `out` after the output as they were; at
+ * each status but BPFCANON_DONE they leave all of `out`. With `out` NULL and `room` 0 the answer is
+ * BPFCANON_ROOM and `needed`, or BPFCANON_DONE if the output is empty.
+ *
+ * Statuses: BPFCANON_DONE, BPFCANON_FAULT, BPFCANON_MEMORY, BPFCANON_ROOM, BPFCANON_ORDER.
  */
-bpfcanon_answer bpfcanon_btf_canon(uint32_t to, const uint8_t *bytes, size_t len, uint8_t *out, size_t room);
-bpfcanon_answer bpfcanon_insn_canon(uint32_t order, uint32_t to, const uint8_t *bytes, size_t len, uint8_t *out, size_t room);
+bpfcanon_answer bpfcanon_btf_canon(uint32_t to, const uint8_t *bytes, size_t len, uint8_t *out,
+                                   size_t room);
 
-/* Counts the types of BTF: `len` of the answer. */
+/*
+ * Writes instructions that are in the byte order `order` in the byte order `to`. If `to` is
+ * BPFCANON_LITTLE these are the canonical bytes. Sets `written`, which is `len`.
+ *
+ * Statuses: BPFCANON_DONE, BPFCANON_FAULT, BPFCANON_MEMORY, BPFCANON_ROOM, BPFCANON_ORDER.
+ */
+bpfcanon_answer bpfcanon_insn_canon(uint32_t order, uint32_t to, const uint8_t *bytes, size_t len,
+                                    uint8_t *out, size_t room);
+
+/*
+ * Counts the types of BTF, or reports its first fault. Sets `types`.
+ *
+ * Statuses: BPFCANON_DONE, BPFCANON_FAULT, BPFCANON_MEMORY.
+ */
 bpfcanon_answer bpfcanon_btf_check(const uint8_t *bytes, size_t len);
 
-/* The conformance groups that the instructions need, and those that these bring: `len` of the answer is the mask. */
+/*
+ * Gives the conformance groups that instructions need, with the groups that these include. Sets
+ * `groups`.
+ *
+ * Statuses: BPFCANON_DONE, BPFCANON_FAULT, BPFCANON_MEMORY, BPFCANON_ORDER.
+ */
 bpfcanon_answer bpfcanon_insn_groups(uint32_t order, const uint8_t *bytes, size_t len);
 
-/* Whether two files mean the same: BPFCANON_DONE or BPFCANON_DIFFERENT. */
-bpfcanon_answer bpfcanon_btf_same(const uint8_t *first, size_t first_len, const uint8_t *second, size_t second_len);
-bpfcanon_answer bpfcanon_insn_same(uint32_t first_order, const uint8_t *first, size_t first_len, uint32_t second_order,
-                                   const uint8_t *second, size_t second_len);
+/*
+ * Compares two inputs: BPFCANON_DONE if they mean the same, that is if their canonical bytes are
+ * equal, and BPFCANON_DIFFERENT if they don't. Each program has its own byte order.
+ *
+ * Statuses: BPFCANON_DONE, BPFCANON_DIFFERENT, BPFCANON_FAULT, BPFCANON_FAULT_SECOND,
+ * BPFCANON_MEMORY, and of instructions BPFCANON_ORDER.
+ */
+bpfcanon_answer bpfcanon_btf_same(const uint8_t *first, size_t first_len, const uint8_t *second,
+                                  size_t second_len);
+bpfcanon_answer bpfcanon_insn_same(uint32_t first_order, const uint8_t *first, size_t first_len,
+                                   uint32_t second_order, const uint8_t *second,
+                                   size_t second_len);
 
 /*
- * bpfcanon_insn_show writes the listing of the instructions of a file: a line for each, with a newline, and no NUL at the end.
- * bpfcanon_insn_read writes the instructions that a listing has, in the order `to`; the place of a fault is its line, from 1 on.
- * `len` of the answer is how many bytes were written. The output may be longer than the input: at BPFCANON_ROOM `len` is the room
- * that it takes. At each status but BPFCANON_DONE all of `out` stays as it is.
+ * Writes the listing of instructions: a line for each, with a newline, and no NUL at the end. Sets
+ * `written`. Room of 4 * `len` bytes is always enough.
+ *
+ * Statuses: BPFCANON_DONE, BPFCANON_FAULT, BPFCANON_MEMORY, BPFCANON_ROOM, BPFCANON_ORDER.
  */
-bpfcanon_answer bpfcanon_insn_show(uint32_t order, const uint8_t *bytes, size_t len, uint8_t *out, size_t room);
-bpfcanon_answer bpfcanon_insn_read(uint32_t to, const uint8_t *text, size_t len, uint8_t *out, size_t room);
+bpfcanon_answer bpfcanon_insn_show(uint32_t order, const uint8_t *bytes, size_t len, char *out,
+                                   size_t room);
 
 /*
- * Writes the text of the types of BTF: a line for each type and for each of its items, with a newline, and no NUL at the end. `len`
- * and `out` are as with bpfcanon_insn_show.
+ * Writes the instructions of a listing in the byte order `to`. A fault sets `line` and not `pos`,
+ * and its cause is of enum bpfcanon_line_cause. Sets `written`. Room of 2 * `len` bytes is always
+ * enough.
+ *
+ * Statuses: BPFCANON_DONE, BPFCANON_FAULT, BPFCANON_MEMORY, BPFCANON_ROOM, BPFCANON_ORDER.
  */
-bpfcanon_answer bpfcanon_btf_show(const uint8_t *bytes, size_t len, uint8_t *out, size_t room);
+bpfcanon_answer bpfcanon_insn_read(uint32_t to, const char *text, size_t len, uint8_t *out,
+                                   size_t room);
 
-/* What bpfcanon_insn_front returns. `pos` counts from the first byte that this call was given. */
+/*
+ * Writes the text of the types of BTF: a line for each type and for each of its items, with a
+ * newline, and no NUL at the end. Sets `written`. The text may be many times as long as the input,
+ * since types can share names.
+ *
+ * Statuses: BPFCANON_DONE, BPFCANON_FAULT, BPFCANON_MEMORY, BPFCANON_ROOM.
+ */
+bpfcanon_answer bpfcanon_btf_show(const uint8_t *bytes, size_t len, char *out, size_t room);
+
+/* What bpfcanon_insn_front returns. A field that the status doesn't set is 0. */
 typedef struct bpfcanon_front {
-	uint32_t status; /* BPFCANON_DONE, BPFCANON_FAULT, BPFCANON_MEMORY, BPFCANON_ROOM or BPFCANON_ORDER */
-	uint32_t cause;
-	uint64_t pos;
-	size_t read;    /* how many bytes the whole instructions at the front are */
-	size_t written; /* how many bytes were written; at BPFCANON_ROOM how many are to be */
+	uint32_t status; /* enum bpfcanon_status */
+	uint32_t cause;  /* at BPFCANON_FAULT: of enum bpfcanon_insn_cause */
+	uint64_t pos;    /* at BPFCANON_FAULT: its offset in the bytes of this call */
+	size_t read;     /* at BPFCANON_DONE and BPFCANON_FAULT: the length of the whole instructions */
+	size_t written;  /* at BPFCANON_DONE and BPFCANON_FAULT: the length of the output */
+	size_t needed;   /* at BPFCANON_ROOM: the length of the output, which is more than its room */
 } bpfcanon_front;
 
 /*
- * Writes the whole instructions at the front of some bytes in the order `to`, also those before a fault. A caller that gets a stream
- * in pieces gives the bytes that were not read, fewer than 16, again in front of the next piece; what is left at the end goes to
- * bpfcanon_insn_canon, which reports that it is cut. Room for as many bytes as are given is always enough.
+ * Writes the whole instructions at the front of some bytes in the byte order `to`, for a stream
+ * that comes in pieces. At BPFCANON_DONE the bytes after `read`, fewer than 16, may begin an
+ * instruction: give them again, in front of the next piece. At the end of the stream give them to
+ * bpfcanon_insn_canon, which reports that they are cut, if there are any. At BPFCANON_FAULT no more
+ * bytes can mend the fault, and the instructions before it are written. Room of `len` bytes is
+ * always enough.
+ *
+ * Statuses: BPFCANON_DONE, BPFCANON_FAULT, BPFCANON_MEMORY, BPFCANON_ROOM, BPFCANON_ORDER.
  */
-bpfcanon_front bpfcanon_insn_front(uint32_t order, uint32_t to, const uint8_t *bytes, size_t len, uint8_t *out, size_t room);
+bpfcanon_front bpfcanon_insn_front(uint32_t order, uint32_t to, const uint8_t *bytes, size_t len,
+                                   uint8_t *out, size_t room);
 
-/* --- Calls that allocate (capi/bpfcanon.c) --- */
+/* --- Calls that allocate --- */
 
-/* As above, into a block of their own at `*out`, which the caller gives to bpfcanon_free; null at each status but BPFCANON_DONE. */
-bpfcanon_answer bpfcanon_btf_canon_new(uint32_t to, const uint8_t *bytes, size_t len, uint8_t **out);
-bpfcanon_answer bpfcanon_insn_canon_new(uint32_t order, uint32_t to, const uint8_t *bytes, size_t len, uint8_t **out);
-bpfcanon_answer bpfcanon_insn_show_new(uint32_t order, const uint8_t *bytes, size_t len, uint8_t **out);
-bpfcanon_answer bpfcanon_insn_read_new(uint32_t to, const uint8_t *text, size_t len, uint8_t **out);
-bpfcanon_answer bpfcanon_btf_show_new(const uint8_t *bytes, size_t len, uint8_t **out);
-void bpfcanon_free(uint8_t *block);
+/*
+ * The same output in a block from malloc, at `*out`: `written` bytes, and after a text a NUL, which
+ * `written` doesn't count. The caller gives the block to bpfcanon_free. At each status but
+ * BPFCANON_DONE `*out` is NULL. The statuses are those of the call without `_new`, but never
+ * BPFCANON_ROOM.
+ */
+bpfcanon_answer bpfcanon_btf_canon_new(uint32_t to, const uint8_t *bytes, size_t len,
+                                       uint8_t **out);
+bpfcanon_answer bpfcanon_insn_canon_new(uint32_t order, uint32_t to, const uint8_t *bytes,
+                                        size_t len, uint8_t **out);
+bpfcanon_answer bpfcanon_insn_show_new(uint32_t order, const uint8_t *bytes, size_t len,
+                                       char **out);
+bpfcanon_answer bpfcanon_insn_read_new(uint32_t to, const char *text, size_t len, uint8_t **out);
+bpfcanon_answer bpfcanon_btf_show_new(const uint8_t *bytes, size_t len, char **out);
 
-/* --- Names (capi/bpfcanon.c) --- */
+/* Frees a block of the calls above. NULL is allowed. */
+void bpfcanon_free(void *block);
 
-/* The name of a cause, as docs/FORMATS.md and the program have it; null for a number that is no cause. */
-const char *bpfcanon_insn_cause(uint32_t cause);
-const char *bpfcanon_btf_cause(uint32_t cause);
-const char *bpfcanon_line_cause(uint32_t cause);
+/* --- Names and the version --- */
+
+/* The version of the library, as "0.1.0". */
+const char *bpfcanon_version(void);
+
+/*
+ * The name of a status or cause, as "Truncated", and a sentence on what it means, without a full
+ * stop. The names and sentences of causes are those of docs/FORMATS.md. NULL for a number that is
+ * no status or cause. The strings are static.
+ */
+const char *bpfcanon_status_name(uint32_t status);
+const char *bpfcanon_status_text(uint32_t status);
+const char *bpfcanon_insn_cause_name(uint32_t cause);
+const char *bpfcanon_insn_cause_text(uint32_t cause);
+const char *bpfcanon_line_cause_name(uint32_t cause);
+const char *bpfcanon_line_cause_text(uint32_t cause);
+const char *bpfcanon_btf_cause_name(uint32_t cause);
+const char *bpfcanon_btf_cause_text(uint32_t cause);
 
 #ifdef __cplusplus
 }

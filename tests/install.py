@@ -17,6 +17,7 @@ from program import SECONDS, Program, Ran, Report
 
 TOP = pathlib.Path(__file__).resolve().parent.parent
 BUILT = TOP / "crates" / "bpfcanon" / "out" / "bpfcanon"
+HEADER = (TOP / "capi" / "bpfcanon.h").read_text()
 INSTALL = TOP / "install"
 EXIT = b"\x95" + bytes(7)
 PREFIX = "/opt/two words"
@@ -116,7 +117,7 @@ def check_refusals(report, folder):
         done = subprocess.run(words, stdout=subprocess.PIPE, stderr=subprocess.PIPE, timeout=SECONDS)
         refused(report, "no program", Ran(done.returncode, done.stdout, done.stderr), 1, b"is not built")
         helped = install("--help", stage)
-        is_help = helped.status == 0 and helped.output.startswith(b"usage: ./install") and not helped.told
+        is_help = helped.status == 0 and helped.output.startswith(b"usage: ./install") and not helped.message
         report.expect_that(is_help, "--help", f"it gave {helped}")
         for name in FILES:
             shown = name if not name.startswith("share/doc") else "share/doc/bpfcanon/"
@@ -125,26 +126,59 @@ def check_refusals(report, folder):
 
 def refused(report, what, ran, status, message):
     """The last line is the message of ./install; the lines before it are those of cp and its like."""
-    last = (ran.told.splitlines() or [b""])[-1]
+    last = (ran.message.splitlines() or [b""])[-1]
     is_right = ran.status == status and not ran.output and last.startswith(b"install: ") and message in last
     report.expect_that(is_right, what, f"it gave {ran}, and right is status {status} with {message!r}")
 
 
+def page_of(section):
+    return TOP / "man" / f"bpfcanon.{section}"
+
+
+def shown_page(page):
+    """What man prints of a page, and its warnings."""
+    how = {"stdout": subprocess.PIPE, "stderr": subprocess.PIPE, "timeout": SECONDS}
+    return subprocess.run(["man", "--warnings", "-l", page], env=os.environ | {"MANWIDTH": "100", "LC_ALL": "C"}, **how)
+
+
+def calls_of(text):
+    """The calls that a header or a page declares, each with a blank between its words."""
+    calls = re.findall(r"^ *((?:bpfcanon_\w+|void|const char) \*?bpfcanon_\w+\([^;]*;)", text, re.MULTILINE)
+    return sorted(" ".join(call.split()) for call in calls)
+
+
+def check_library_page(report):
+    """The page of section 3 declares the calls of the header and has the example of the README."""
+    with report.group("the manual page of the C library"):
+        if not shutil.which("man"):
+            report.skip("bpfcanon.3", "man is missing")
+            return
+        shown = shown_page(page_of(3)).stdout.decode()
+        calls = calls_of(shown.partition("DESCRIPTION")[0])
+        report.expect_that(len(calls) > 20 and calls == calls_of(HEADER), "the calls", f"they are {calls}")
+        example = re.search(r"^```c\n(.*?)^```$", (TOP / "README.md").read_text(), re.MULTILINE | re.DOTALL)[1]
+        has_example = " ".join(example.split()) in " ".join(shown.split())
+        report.expect_that(has_example, "the example", "it isn't that of README.md")
+
+
 def check_pages(report):
-    """Both pages are without warnings, and the one of section 5 has the sentences of docs/FORMATS.md."""
-    pages = [TOP / "man" / f"bpfcanon.{section}" for section in (1, 5)]
+    """The pages are without warnings and name one another, and the one of section 5 has the sentences of docs/FORMATS.md."""
+    pages = [page_of(section) for section in (1, 3, 5)]
     with report.group("the manual pages"):
         made = subprocess.run([TOP / "man" / "from_formats"], stdout=subprocess.PIPE, timeout=SECONDS).stdout
-        report.expect_that(made == pages[1].read_bytes(), "bpfcanon.5", "man/from_formats makes another page of docs/FORMATS.md")
-        for page, other in zip(pages, (b"bpfcanon(5)", b"bpfcanon(1)")):
+        report.expect_that(made == page_of(5).read_bytes(), "bpfcanon.5", "man/from_formats makes another page of docs/FORMATS.md")
+        for page in pages:
+            version = re.search(r'^\.TH BPFCANON \d "" "bpfcanon (.*?)"', page.read_text(), re.MULTILINE)
+            is_right = version is not None and f'#define BPFCANON_VERSION "{version[1]}"\n' in HEADER
+            report.expect_that(is_right, page.name, "its version isn't that of capi/bpfcanon.h")
             if not shutil.which("man"):
                 report.skip(page.name, "man is missing")
                 continue
-            how = {"stdout": subprocess.PIPE, "stderr": subprocess.PIPE, "timeout": SECONDS}
-            shown = subprocess.run(["man", "--warnings", "-l", page], env=os.environ | {"MANWIDTH": "100", "LC_ALL": "C"}, **how)
+            shown = shown_page(page)
             report.expect_that(shown.returncode == 0 and not shown.stderr, page.name, f"man prints {shown.stderr!r}")
-            _, _, last = shown.stdout.partition(b"SEE ALSO")
-            report.expect_that(other in last, page.name, f"SEE ALSO lacks {other}")
+            _, _, last = shown.stdout.decode().partition("SEE ALSO")
+            others = [f"bpfcanon({other.suffix[1:]})" for other in pages if other != page]
+            report.expect_that(all(other in last for other in others), page.name, f"SEE ALSO lacks one of {others}")
 
 
 def taken_options(program):
@@ -205,6 +239,7 @@ def main():
         sys.exit(__doc__)
     program, report = Program(pathlib.Path(sys.argv[1]).resolve()), Report()
     check_pages(report)
+    check_library_page(report)
     check_bash(program, report)
     check_zsh(program, report)
     if not BUILT.exists() or not program.path.samefile(BUILT):

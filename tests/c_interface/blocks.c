@@ -1,33 +1,20 @@
 /*
- * Compares each call that allocates with the proved call below it, over room that is ample: with every number of each order and one
+ * Compares each call that allocates with the call that takes room, over room that is ample: with every number of each order and one
  * that is none, each kind of fault, outputs that are longer than the first block, and each allocation refused in turn, alone and with
- * all that follow. `*out` holds a pointer beforehand, and the blocks are counted. No proved call gets a null pointer: it is linked
- * with --wrap for each, too. usage: blocks TESTDATA
+ * all that follow. `*out` holds a pointer beforehand, and the blocks are counted. With -DPROVED no proved call gets a null pointer,
+ * and each call that allocates makes one proved call, but for texts of types that are longer than four times their file.
+ * usage: blocks TESTDATA
  */
 #include "checks.h"
 #include "allocations.h"
+#ifdef PROVED
+#include "proved_pointers.h"
+#endif
 
 #define ROOM (4 << 20)
 
 typedef bpfcanon_answer room_call(uint32_t order, uint32_t to, const uint8_t *bytes, size_t len, uint8_t *out, size_t room);
 typedef bpfcanon_answer new_call(uint32_t order, uint32_t to, const uint8_t *bytes, size_t len, uint8_t **out);
-
-/* Defines a proved call that checks its pointers first. */
-#define NO_NULL(call, parameters, arguments)                         \
-	bpfcanon_answer __real_bpfcanon_##call parameters;           \
-	bpfcanon_answer __wrap_bpfcanon_##call parameters;           \
-	bpfcanon_answer __wrap_bpfcanon_##call parameters            \
-	{                                                            \
-		CHECK(bytes && out);                                 \
-		return __real_bpfcanon_##call arguments;             \
-	}
-
-NO_NULL(btf_canon, (uint32_t to, const uint8_t *bytes, size_t len, uint8_t *out, size_t room), (to, bytes, len, out, room))
-NO_NULL(insn_canon, (uint32_t order, uint32_t to, const uint8_t *bytes, size_t len, uint8_t *out, size_t room),
-        (order, to, bytes, len, out, room))
-NO_NULL(insn_show, (uint32_t order, const uint8_t *bytes, size_t len, uint8_t *out, size_t room), (order, bytes, len, out, room))
-NO_NULL(insn_read, (uint32_t to, const uint8_t *bytes, size_t len, uint8_t *out, size_t room), (to, bytes, len, out, room))
-NO_NULL(btf_show, (const uint8_t *bytes, size_t len, uint8_t *out, size_t room), (bytes, len, out, room))
 
 /* Each pair in one shape. The order or the two orders that a call doesn't have are 0. */
 static bpfcanon_answer btf_canon(uint32_t order, uint32_t to, const uint8_t *bytes, size_t len, uint8_t *out, size_t room)
@@ -42,32 +29,43 @@ static bpfcanon_answer btf_canon_new(uint32_t order, uint32_t to, const uint8_t 
 
 static bpfcanon_answer btf_show(uint32_t order, uint32_t to, const uint8_t *bytes, size_t len, uint8_t *out, size_t room)
 {
-	return (void)order, (void)to, bpfcanon_btf_show(bytes, len, out, room);
+	return (void)order, (void)to, bpfcanon_btf_show(bytes, len, (char *)out, room);
 }
 
 static bpfcanon_answer btf_show_new(uint32_t order, uint32_t to, const uint8_t *bytes, size_t len, uint8_t **out)
 {
-	return (void)order, (void)to, bpfcanon_btf_show_new(bytes, len, out);
+	char *text = (char *)*out;
+	bpfcanon_answer answer = bpfcanon_btf_show_new(bytes, len, &text);
+
+	(void)order;
+	(void)to;
+	*out = (uint8_t *)text;
+	return answer;
 }
 
 static bpfcanon_answer insn_show(uint32_t order, uint32_t to, const uint8_t *bytes, size_t len, uint8_t *out, size_t room)
 {
-	return (void)to, bpfcanon_insn_show(order, bytes, len, out, room);
+	return (void)to, bpfcanon_insn_show(order, bytes, len, (char *)out, room);
 }
 
 static bpfcanon_answer insn_show_new(uint32_t order, uint32_t to, const uint8_t *bytes, size_t len, uint8_t **out)
 {
-	return (void)to, bpfcanon_insn_show_new(order, bytes, len, out);
+	char *text = (char *)*out;
+	bpfcanon_answer answer = bpfcanon_insn_show_new(order, bytes, len, &text);
+
+	(void)to;
+	*out = (uint8_t *)text;
+	return answer;
 }
 
 static bpfcanon_answer insn_read(uint32_t order, uint32_t to, const uint8_t *bytes, size_t len, uint8_t *out, size_t room)
 {
-	return (void)order, bpfcanon_insn_read(to, bytes, len, out, room);
+	return (void)order, bpfcanon_insn_read(to, (const char *)bytes, len, out, room);
 }
 
 static bpfcanon_answer insn_read_new(uint32_t order, uint32_t to, const uint8_t *bytes, size_t len, uint8_t **out)
 {
-	return (void)order, bpfcanon_insn_read_new(to, bytes, len, out);
+	return (void)order, bpfcanon_insn_read_new(to, (const char *)bytes, len, out);
 }
 
 enum { BTF_CANON, BTF_SHOW, INSN_CANON, INSN_SHOW, INSN_READ, CALLS };
@@ -89,22 +87,36 @@ static const struct {
 static uint8_t wanted[ROOM], marker;
 static char seen[CALLS][33]; /* the causes that were reported */
 
+/* The output in a block of its own, with a NUL after it. */
 static int is_block_of(const uint8_t *block, bpfcanon_answer answer)
 {
-	return block && block != &marker && !memcmp(block, wanted, answer.len);
+	return block && block != &marker && !memcmp(block, wanted, answer.written) && !block[answer.written];
 }
 
-/* A call with ample memory: the answer of the proved call, and a block of its own where it is done. */
+#ifdef PROVED
+static long proved_calls_so_far(void) { return proved_calls; }
+#else
+static long proved_calls_so_far(void) { return -1; }
+#endif
+
+/* How many proved calls a call that allocates makes for this answer: a second one only for a long text of types. */
+static int is_count(long before, int call, size_t len, bpfcanon_answer answer)
+{
+	return before < 0 || proved_calls_so_far() - before == (call == BTF_SHOW && answer.written > 4 * len ? 2 : 1);
+}
+
+/* A call with ample memory: the answer of the call with room, and a block of its own if that is done. */
 static void compare(int call, uint32_t order, uint32_t to, const uint8_t *bytes, size_t len, bpfcanon_answer right)
 {
 	uint8_t *block = &marker, *other = &marker;
-	long blocks = live;
+	long blocks = live, before = proved_calls_so_far();
 	int is_done = right.status == BPFCANON_DONE;
 
-	CHECK(is_equal(calls[call].make(order, to, bytes, len, &block), right));
+	CHECK(is(calls[call].make(order, to, bytes, len, &block), right));
+	CHECK(is_count(before, call, len, right));
 	CHECK(is_done ? is_block_of(block, right) : !block);
 	CHECK(live == blocks + is_done);
-	CHECK(is_equal(calls[call].make(order, to, bytes, len, &other), right));
+	CHECK(is(calls[call].make(order, to, bytes, len, &other), right));
 	CHECK(is_done ? is_block_of(other, right) && is_block_of(block, right) && other != block : !other);
 	CHECK(live == blocks + 2 * is_done);
 	if (right.status != BPFCANON_DONE)
@@ -115,7 +127,7 @@ static void compare(int call, uint32_t order, uint32_t to, const uint8_t *bytes,
 	CHECK(live == blocks);
 }
 
-/* The call with 0, 1, 2 .. allocations, until it takes no more. */
+/* The call with 0, 1, 2 .. allocations, until that is enough. A block that can't be made smaller is handed out as it is. */
 static void refuse_each(int call, uint32_t order, uint32_t to, const uint8_t *bytes, size_t len, bpfcanon_answer right)
 {
 	for (long n = 0; n < 10000; n++) {
@@ -123,26 +135,30 @@ static void refuse_each(int call, uint32_t order, uint32_t to, const uint8_t *by
 		long blocks = live;
 		bpfcanon_answer answer;
 
-		refused = 0;
+		refused = shrinks = 0;
 		allowed = n;
 		answer = calls[call].make(order, to, bytes, len, &block);
 		allowed = -1;
 		if (!refused) {
-			CHECK(is_equal(answer, right));
-			if (answer.status == BPFCANON_DONE)
+			CHECK(is(answer, right));
+			if (answer.status == BPFCANON_DONE) {
+				CHECK(is_block_of(block, right));
 				bpfcanon_free(block);
+			}
 			CHECK(live == blocks && n > 0);
-			return;
+			if (!shrinks)
+				return;
+			continue;
 		}
-		CHECK(is(answer, BPFCANON_MEMORY, 0, 0, 0) && !block && live == blocks);
+		CHECK(is(answer, ended(BPFCANON_MEMORY)) && !block && live == blocks);
 	}
-	CHECK(!"a call takes no more than 10,000 allocations");
+	CHECK(!"10,000 allocations are enough for a call");
 }
 
-/* One input in each order. Memory is refused where it is asked for, and where a cause comes for the first time. */
+/* One input in one order. Memory is refused if `refuses`, and when a cause comes for the first time. */
 static void try_in(int call, uint32_t order, uint32_t to, const uint8_t *bytes, size_t len, int refuses)
 {
-	bpfcanon_answer right = calls[call].write(order, to, bytes ? bytes : &marker, len, wanted, ROOM);
+	bpfcanon_answer right = calls[call].write(order, to, bytes, len, wanted, ROOM);
 	int is_new = right.cause && !seen[call][right.cause];
 
 	seen[call][right.cause] = 1;

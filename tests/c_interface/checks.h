@@ -10,25 +10,63 @@
 
 #define CHECK(holds) (checks++, (holds) ? 0 : (failed++, printf("%s:%d: %s\n", __FILE__, __LINE__, #holds)))
 #define BYTES(text) (const uint8_t *)(text), sizeof(text) - 1
+#define TEXT(text) (text), sizeof(text) - 1
 #define COUNT(array) (sizeof(array) / sizeof *(array))
 
 static long checks, failed;
 
-static inline int is(bpfcanon_answer answer, uint32_t status, uint32_t cause, uint64_t pos, size_t len)
+/* What a call returns, by its status. A field that isn't named is 0. */
+static inline bpfcanon_answer ended(uint32_t status)
 {
-	return answer.status == status && answer.cause == cause && answer.pos == pos && answer.len == len;
+	return (bpfcanon_answer){ .status = status };
 }
 
-static inline int is_equal(bpfcanon_answer one, bpfcanon_answer other)
+static inline bpfcanon_answer written(size_t len)
 {
-	return is(one, other.status, other.cause, other.pos, other.len);
+	return (bpfcanon_answer){ .status = BPFCANON_DONE, .written = len };
+}
+
+static inline bpfcanon_answer with_types(uint32_t count)
+{
+	return (bpfcanon_answer){ .status = BPFCANON_DONE, .types = count };
+}
+
+static inline bpfcanon_answer with_groups(uint32_t mask)
+{
+	return (bpfcanon_answer){ .status = BPFCANON_DONE, .groups = mask };
+}
+
+static inline bpfcanon_answer fault(uint32_t cause, uint64_t pos)
+{
+	return (bpfcanon_answer){ .status = BPFCANON_FAULT, .cause = cause, .pos = pos };
+}
+
+static inline bpfcanon_answer second_fault(uint32_t cause, uint64_t pos)
+{
+	return (bpfcanon_answer){ .status = BPFCANON_FAULT_SECOND, .cause = cause, .pos = pos };
+}
+
+static inline bpfcanon_answer line_fault(uint32_t cause, uint64_t line)
+{
+	return (bpfcanon_answer){ .status = BPFCANON_FAULT, .cause = cause, .line = line };
+}
+
+static inline bpfcanon_answer needs(size_t len)
+{
+	return (bpfcanon_answer){ .status = BPFCANON_ROOM, .needed = len };
+}
+
+static inline int is(bpfcanon_answer one, bpfcanon_answer right)
+{
+	return one.status == right.status && one.cause == right.cause && one.pos == right.pos && one.line == right.line
+		&& one.written == right.written && one.needed == right.needed && one.types == right.types && one.groups == right.groups;
 }
 
 /* Whether all of some bytes are still 0xaa. */
-static inline int is_filled(const uint8_t *from, const uint8_t *to)
+static inline int is_filled(const void *from, const void *to)
 {
-	for (; from < to; from++)
-		if (*from != 0xaa)
+	for (const uint8_t *at = from; at < (const uint8_t *)to; at++)
+		if (*at != 0xaa)
 			return 0;
 	return 1;
 }

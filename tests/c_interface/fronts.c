@@ -29,12 +29,13 @@ static const struct {
 	{ "a wide load with a faulty second slot", BPFCANON_LITTLE, "\x18\x01\0\0\1\0\0\0\1\0\0\0\1\0\0\0", 16, BPFCANON_FAULT, 7, 8 },
 };
 
-static int is_front(bpfcanon_front front, uint32_t status, uint32_t cause, uint64_t pos, size_t read, size_t written)
+static int is_front(bpfcanon_front front, bpfcanon_front right)
 {
-	return front.status == status && front.cause == cause && front.pos == pos && front.read == read && front.written == written;
+	return front.status == right.status && front.cause == right.cause && front.pos == right.pos && front.read == right.read
+		&& front.written == right.written && front.needed == right.needed;
 }
 
-/* The call in some room: what it writes if that is enough, and else how much is. */
+/* The call in some room: what it writes if that is enough, and else the room that is needed. */
 static void try_room(size_t tail, uint32_t to, const uint8_t *bytes, const uint8_t *right, size_t room)
 {
 	size_t len = FRONT + tails[tail].len;
@@ -45,12 +46,12 @@ static void try_room(size_t tail, uint32_t to, const uint8_t *bytes, const uint8
 	memset(out, 0xaa, room);
 	front = bpfcanon_insn_front(tails[tail].order, to, bytes, len, out, room);
 	if (room < FRONT) {
-		CHECK(is_front(front, BPFCANON_ROOM, 0, 0, 0, FRONT));
+		CHECK(is_front(front, (bpfcanon_front){ .status = BPFCANON_ROOM, .needed = FRONT }));
 		CHECK(is_filled(out, out + room));
 	} else {
 		uint64_t pos = tails[tail].status == BPFCANON_FAULT ? FRONT + tails[tail].pos : 0;
 
-		CHECK(is_front(front, tails[tail].status, tails[tail].cause, pos, FRONT, FRONT));
+		CHECK(is_front(front, (bpfcanon_front){ tails[tail].status, tails[tail].cause, pos, FRONT, FRONT, 0 }));
 		CHECK(!memcmp(out, right, FRONT) && is_filled(out + FRONT, out + room));
 	}
 	if (failed != before)

@@ -48,7 +48,7 @@ def compare(report, library, file, origin):
     right = [(ended, little), (ended, big), (alike, 0, 0) if ended == NO_FAULT else ended]
     report.runs += 1
     if answers != right:
-        report.tell_wrong(f"{file.hex()}: it gave {answers}, and right is {right}")
+        report.report_wrong(f"{file.hex()}: it gave {answers}, and right is {right}")
 
 
 def same(library, first, second):
@@ -113,7 +113,7 @@ def check_every_value(report, library):
 
 
 def check_two_bytes(report, library):
-    """The places and values are drawn anew from the same seed at each run."""
+    """The places and values are drawn again from the same seed at each run."""
     draw = random.Random(9669)
     with report.group("two bytes changed"):
         for file in worked_files():

@@ -21,31 +21,33 @@ static int is_times(const uint8_t *block, size_t times, const void *bytes, size_
 static void repeat_insn(const char *little, const char *big, const char *line, size_t times, uint32_t groups)
 {
 	const size_t len = 8 * times, line_len = strlen(line), text_len = line_len * times;
-	uint8_t *bytes = repeat(little, 8, times), *text = repeat(line, line_len, times), *out = allocate(len), *block;
+	uint8_t *bytes = repeat(little, 8, times), *out = allocate(len), *block;
+	char *text = (char *)repeat(line, line_len, times), *shown;
 	bpfcanon_front front;
 
-	CHECK(is(bpfcanon_insn_canon(0, 1, bytes, len, out, len), BPFCANON_DONE, 0, 0, len) && is_times(out, times, big, 8));
-	CHECK(is(bpfcanon_insn_canon_new(1, 0, out, len, &block), BPFCANON_DONE, 0, 0, len) && !memcmp(block, bytes, len));
+	CHECK(is(bpfcanon_insn_canon(0, 1, bytes, len, out, len), written(len)) && is_times(out, times, big, 8));
+	CHECK(is(bpfcanon_insn_canon_new(1, 0, out, len, &block), written(len)) && !memcmp(block, bytes, len));
 	bpfcanon_free(block);
-	CHECK(is(bpfcanon_insn_same(0, bytes, len, 1, out, len), BPFCANON_DONE, 0, 0, 0));
-	CHECK(is(bpfcanon_insn_same(0, bytes, len, 1, out, len - 8), BPFCANON_DIFFERENT, 0, 0, 0));
-	CHECK(is(bpfcanon_insn_same(0, bytes, len, 1, out, len - 1), BPFCANON_FAULT_SECOND, 1, len - 8, 0));
-	CHECK(is(bpfcanon_insn_groups(0, bytes, len), BPFCANON_DONE, 0, 0, groups));
+	CHECK(is(bpfcanon_insn_same(0, bytes, len, 1, out, len), ended(BPFCANON_DONE)));
+	CHECK(is(bpfcanon_insn_same(0, bytes, len, 1, out, len - 8), ended(BPFCANON_DIFFERENT)));
+	CHECK(is(bpfcanon_insn_same(0, bytes, len, 1, out, len - 1), second_fault(1, len - 8)));
+	CHECK(is(bpfcanon_insn_groups(0, bytes, len), with_groups(groups)));
 	front = bpfcanon_insn_front(1, 1, out, len, out, 0);
-	CHECK(front.status == BPFCANON_ROOM && front.written == len);
+	CHECK(front.status == BPFCANON_ROOM && front.needed == len);
 	memset(out, 0, len);
 	front = bpfcanon_insn_front(0, 1, bytes, len, out, len);
 	CHECK(front.status == BPFCANON_DONE && front.read == len && front.written == len && is_times(out, times, big, 8));
 
-	CHECK(is(bpfcanon_insn_show_new(0, bytes, len, &block), BPFCANON_DONE, 0, 0, text_len) && !memcmp(block, text, text_len));
-	memset(block, 0, text_len);
-	CHECK(is(bpfcanon_insn_show(0, bytes, len, block, text_len), BPFCANON_DONE, 0, 0, text_len) && !memcmp(block, text, text_len));
+	CHECK(is(bpfcanon_insn_show_new(0, bytes, len, &shown), written(text_len)) && !memcmp(shown, text, text_len));
+	CHECK(!shown[text_len]);
+	memset(shown, 0, text_len);
+	CHECK(is(bpfcanon_insn_show(0, bytes, len, shown, text_len), written(text_len)) && !memcmp(shown, text, text_len));
+	bpfcanon_free(shown);
+	CHECK(is(bpfcanon_insn_read_new(1, text, text_len, &block), written(len)) && is_times(block, times, big, 8));
 	bpfcanon_free(block);
-	CHECK(is(bpfcanon_insn_read_new(1, text, text_len, &block), BPFCANON_DONE, 0, 0, len) && is_times(block, times, big, 8));
-	bpfcanon_free(block);
-	CHECK(is(bpfcanon_insn_read(0, text, text_len, out, len), BPFCANON_DONE, 0, 0, len) && !memcmp(out, bytes, len));
+	CHECK(is(bpfcanon_insn_read(0, text, text_len, out, len), written(len)) && !memcmp(out, bytes, len));
 	bytes[len - 8] = 0;
-	CHECK(is(bpfcanon_insn_show_new(0, bytes, len, &block), BPFCANON_FAULT, 2, len - 8, 0) && !block);
+	CHECK(is(bpfcanon_insn_show_new(0, bytes, len, &shown), fault(2, len - 8)) && !shown);
 	free(bytes);
 	free(text);
 	free(out);
@@ -54,9 +56,10 @@ static void repeat_insn(const char *little, const char *big, const char *line, s
 /* A listing of the limit's length. */
 static void read_spaced_lines(const char *exit_insn)
 {
-	uint8_t *text = repeat("exit   \n", 8, INSN_LIMIT / 8), *block;
+	char *text = (char *)repeat("exit   \n", 8, INSN_LIMIT / 8);
+	uint8_t *block;
 
-	CHECK(is(bpfcanon_insn_read_new(0, text, INSN_LIMIT, &block), BPFCANON_DONE, 0, 0, INSN_LIMIT));
+	CHECK(is(bpfcanon_insn_read_new(0, text, INSN_LIMIT, &block), written(INSN_LIMIT)));
 	CHECK(is_times(block, INSN_LIMIT / 8, exit_insn, 8));
 	bpfcanon_free(block);
 	free(text);
@@ -82,37 +85,38 @@ static void repeat_int(size_t header_len, size_t types, size_t strings_len)
 {
 	static const char line[] = "int \"aa\" size=4 encoding=signed offset=0 bits=32\n";
 	const size_t len = header_len + 16 * types + strings_len, right_len = 24 + 16 * types + 4;
-	uint8_t *strings = allocate(strings_len), *bytes, *right, *out = allocate(len), *block, *at;
+	uint8_t *strings = allocate(strings_len), *bytes, *right, *out = allocate(len), *block;
+	char *shown, *at;
 	bpfcanon_answer answer;
 
 	memset(strings, 'a', strings_len);
 	strings[0] = strings[strings_len - 1] = 0;
 	bytes = ints(header_len, types, strings_len - 3, strings, strings_len);
 	right = ints(24, types, 1, (const uint8_t *)"\0aa", 4);
-	CHECK(is(bpfcanon_btf_check(bytes, len), BPFCANON_DONE, 0, 0, types));
-	CHECK(is(bpfcanon_btf_check(bytes, len - 1), BPFCANON_FAULT, 10, len - 1, 0));
-	CHECK(is(bpfcanon_btf_canon(0, bytes, len, out, len), BPFCANON_DONE, 0, 0, right_len) && !memcmp(out, right, right_len));
-	CHECK(is(bpfcanon_btf_canon_new(1, bytes, len, &block), BPFCANON_DONE, 0, 0, right_len));
-	CHECK(is(bpfcanon_btf_same(bytes, len, block, right_len), BPFCANON_DONE, 0, 0, 0));
-	CHECK(is(bpfcanon_btf_canon(0, block, right_len, out, right_len), BPFCANON_DONE, 0, 0, right_len));
+	CHECK(is(bpfcanon_btf_check(bytes, len), with_types(types)));
+	CHECK(is(bpfcanon_btf_check(bytes, len - 1), fault(10, len - 1)));
+	CHECK(is(bpfcanon_btf_canon(0, bytes, len, out, len), written(right_len)) && !memcmp(out, right, right_len));
+	CHECK(is(bpfcanon_btf_canon_new(1, bytes, len, &block), written(right_len)));
+	CHECK(is(bpfcanon_btf_same(bytes, len, block, right_len), ended(BPFCANON_DONE)));
+	CHECK(is(bpfcanon_btf_canon(0, block, right_len, out, right_len), written(right_len)));
 	CHECK(!memcmp(out, right, right_len));
 	bpfcanon_free(block);
 
-	answer = bpfcanon_btf_show_new(bytes, len, &block);
+	answer = bpfcanon_btf_show_new(bytes, len, &shown);
 	CHECK(answer.status == BPFCANON_DONE);
-	at = block;
+	at = shown;
 	for (size_t number = 1; number <= types; number++) {
 		char wanted[128];
 		int wanted_len = snprintf(wanted, sizeof wanted, "[%zu] %s", number, line);
 
-		if (at + wanted_len > block + answer.len || memcmp(at, wanted, wanted_len))
+		if (at + wanted_len > shown + answer.written || memcmp(at, wanted, wanted_len))
 			break;
 		at += wanted_len;
 	}
-	CHECK(at == block + answer.len && at != block);
-	CHECK(is(bpfcanon_btf_show(bytes, len, block, answer.len - 1), BPFCANON_ROOM, 0, 0, answer.len));
-	CHECK(is_equal(bpfcanon_btf_show(bytes, len, block, answer.len), answer));
-	bpfcanon_free(block);
+	CHECK(at == shown + answer.written && at != shown && !*at);
+	CHECK(is(bpfcanon_btf_show(bytes, len, shown, answer.written - 1), needs(answer.written)));
+	CHECK(is(bpfcanon_btf_show(bytes, len, shown, answer.written), answer));
+	bpfcanon_free(shown);
 	free(strings);
 	free(bytes);
 	free(right);

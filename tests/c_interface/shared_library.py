@@ -11,7 +11,11 @@ class Answer(ctypes.Structure):
         ("status", ctypes.c_uint32),
         ("cause", ctypes.c_uint32),
         ("pos", ctypes.c_uint64),
-        ("len", ctypes.c_size_t),
+        ("line", ctypes.c_uint64),
+        ("written", ctypes.c_size_t),
+        ("needed", ctypes.c_size_t),
+        ("types", ctypes.c_uint32),
+        ("groups", ctypes.c_uint32),
     ]
 
 
@@ -26,7 +30,7 @@ def load(path):
     library.bpfcanon_insn_same.argtypes = [ctypes.c_uint32, *bytes_and_length] * 2
     library.bpfcanon_insn_show.restype = Answer
     library.bpfcanon_insn_show.argtypes = [ctypes.c_uint32, *bytes_and_length, *bytes_and_length]
-    for names in (library.bpfcanon_insn_cause, library.bpfcanon_btf_cause, library.bpfcanon_line_cause):
+    for names in (library.bpfcanon_insn_cause_name, library.bpfcanon_btf_cause_name, library.bpfcanon_line_cause_name):
         names.restype = ctypes.c_char_p
         names.argtypes = [ctypes.c_uint32]
     library.bpfcanon_btf_show.restype = Answer
@@ -37,27 +41,27 @@ def load(path):
 def canonical(library, file, to=0):
     room = ctypes.create_string_buffer(max(len(file), 1))
     answer = library.bpfcanon_btf_canon(to, file, len(file), room, len(file))
-    return (answer.status, answer.cause, answer.pos), room.raw[: answer.len]
+    return (answer.status, answer.cause, answer.pos), room.raw[: answer.written]
 
 
 def shown(library, file):
-    """The listing of a little-endian file, in as much room as the first answer asks for."""
-    needed = library.bpfcanon_insn_show(0, file, len(file), b"", 0)
-    room = ctypes.create_string_buffer(max(needed.len, 1))
-    answer = library.bpfcanon_insn_show(0, file, len(file), room, needed.len)
-    return (needed.status, answer.status), room.raw[: answer.len]
+    """The listing of a little-endian file, in the room that the first answer asks for."""
+    needed = library.bpfcanon_insn_show(0, file, len(file), None, 0)
+    room = ctypes.create_string_buffer(max(needed.needed, 1))
+    answer = library.bpfcanon_insn_show(0, file, len(file), room, needed.needed)
+    return (needed.status, answer.status), room.raw[: answer.written]
 
 
 def types_shown(library, file):
-    """The text of a file's types, in as much room as the first answer asks for."""
-    needed = library.bpfcanon_btf_show(file, len(file), b"", 0)
-    room = ctypes.create_string_buffer(max(needed.len, 1))
-    answer = library.bpfcanon_btf_show(file, len(file), room, needed.len)
-    return (needed.status, answer.status), room.raw[: answer.len]
+    """The text of a file's types, in the room that the first answer asks for."""
+    needed = library.bpfcanon_btf_show(file, len(file), None, 0)
+    room = ctypes.create_string_buffer(max(needed.needed, 1))
+    answer = library.bpfcanon_btf_show(file, len(file), room, needed.needed)
+    return (needed.status, answer.status), room.raw[: answer.written]
 
 
 def has_names_of(call, crate, enum):
-    """Whether a call gives the name of each variant of a crate's enum at its number, and no name at the numbers around them."""
+    """Whether a call gives the name of each variant of a crate's enum at its number, and no name at the numbers around these."""
     sources = "\n".join(path.read_text() for path in crate.glob("src/**/*.rt"))
     body = re.search(rf"pub enum {enum} \{{(.*?)\n\}}", sources, re.DOTALL)[1]
     names = {int(number): name for name, number in re.findall(r"^    (\w+) = (\d+),$", body, re.MULTILINE)}
@@ -80,9 +84,9 @@ def main():
         shown(library, mov) == ((5, 0), b"mov r1, r2\n"),
         types_shown(library, little)[0] == (5, 0),
         types_shown(library, little) == types_shown(library, big),
-        has_names_of(library.bpfcanon_insn_cause, crates / "bpf_insn", "SlotCause"),
-        has_names_of(library.bpfcanon_btf_cause, crates / "btf_raw", "BtfCause"),
-        has_names_of(library.bpfcanon_line_cause, crates / "bpf_text", "LineCause"),
+        has_names_of(library.bpfcanon_insn_cause_name, crates / "bpf_insn", "SlotCause"),
+        has_names_of(library.bpfcanon_btf_cause_name, crates / "btf_raw", "BtfCause"),
+        has_names_of(library.bpfcanon_line_cause_name, crates / "bpf_text", "LineCause"),
     ]
     print(f"C interface from Python: {len(checks)} checks, {checks.count(False)} failed")
     sys.exit(not all(checks))

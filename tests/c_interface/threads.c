@@ -12,14 +12,15 @@
 
 /* A block with what it has to hold, on its way to the thread that frees it. */
 struct made {
-	uint8_t *block;
-	const uint8_t *wanted;
+	void *block;
+	const void *wanted;
 	size_t len;
 };
 
 /* A file, and what each call makes of it. */
 struct file {
-	uint8_t *bytes, *canon, *text;
+	uint8_t *bytes, *canon;
+	char *text;
 	size_t len, canon_len, text_len;
 };
 
@@ -43,11 +44,11 @@ static void free_made(struct made *made)
 }
 
 /* Puts a block where the next thread takes it, and frees the one that is there. */
-static void pass_on(int thread, bpfcanon_answer answer, uint8_t *block, const uint8_t *wanted, size_t len)
+static void pass_on(int thread, bpfcanon_answer answer, void *block, const void *wanted, size_t len)
 {
 	struct made *made = (struct made *)allocate(sizeof *made), *taken;
 
-	expect(is(answer, BPFCANON_DONE, 0, 0, len));
+	expect(is(answer, written(len)));
 	made->block = block;
 	made->wanted = wanted;
 	made->len = len;
@@ -59,16 +60,17 @@ static void pass_on(int thread, bpfcanon_answer answer, uint8_t *block, const ui
 static void make_all(int thread, int order)
 {
 	uint8_t *block;
+	char *text;
 	bpfcanon_answer answer;
 
 	answer = bpfcanon_btf_canon_new(BPFCANON_LITTLE, types[order].bytes, types[order].len, &block);
 	pass_on(thread, answer, block, types[0].canon, types[0].canon_len);
-	answer = bpfcanon_btf_show_new(types[order].bytes, types[order].len, &block);
-	pass_on(thread, answer, block, types[0].text, types[0].text_len);
+	answer = bpfcanon_btf_show_new(types[order].bytes, types[order].len, &text);
+	pass_on(thread, answer, text, types[0].text, types[0].text_len);
 	answer = bpfcanon_insn_canon_new(order, BPFCANON_BIG, insns[order].bytes, insns[order].len, &block);
 	pass_on(thread, answer, block, insns[1].bytes, insns[1].len);
-	answer = bpfcanon_insn_show_new(order, insns[order].bytes, insns[order].len, &block);
-	pass_on(thread, answer, block, insns[0].text, insns[0].text_len);
+	answer = bpfcanon_insn_show_new(order, insns[order].bytes, insns[order].len, &text);
+	pass_on(thread, answer, text, insns[0].text, insns[0].text_len);
 	answer = bpfcanon_insn_read_new(order, insns[0].text, insns[0].text_len, &block);
 	pass_on(thread, answer, block, insns[order].bytes, insns[order].len);
 }
@@ -76,12 +78,13 @@ static void make_all(int thread, int order)
 static void fail_all(void)
 {
 	uint8_t *block;
+	char *text;
 
-	expect(is(bpfcanon_btf_canon_new(BPFCANON_BIG, types[0].bytes, 23, &block), BPFCANON_FAULT, 1, 23, 0) && !block);
-	expect(is(bpfcanon_btf_show_new(types[1].bytes, 0, &block), BPFCANON_FAULT, 1, 0, 0) && !block);
-	expect(is(bpfcanon_insn_show_new(0, insns[0].bytes, 7, &block), BPFCANON_FAULT, 1, 0, 0) && !block);
-	expect(is(bpfcanon_insn_canon_new(0, 2, insns[0].bytes, 8, &block), BPFCANON_ORDER, 0, 0, 0) && !block);
-	expect(is(bpfcanon_insn_read_new(2, insns[0].text, 8, &block), BPFCANON_ORDER, 0, 0, 0) && !block);
+	expect(is(bpfcanon_btf_canon_new(BPFCANON_BIG, types[0].bytes, 23, &block), fault(1, 23)) && !block);
+	expect(is(bpfcanon_btf_show_new(types[1].bytes, 0, &text), fault(1, 0)) && !text);
+	expect(is(bpfcanon_insn_show_new(0, insns[0].bytes, 7, &text), fault(1, 0)) && !text);
+	expect(is(bpfcanon_insn_canon_new(0, 2, insns[0].bytes, 8, &block), ended(BPFCANON_ORDER)) && !block);
+	expect(is(bpfcanon_insn_read_new(2, insns[0].text, 8, &block), ended(BPFCANON_ORDER)) && !block);
 }
 
 static void *work(void *number)
@@ -116,8 +119,8 @@ static void prepare(const char *folder)
 			text = bpfcanon_insn_show_new(k - 2, file->bytes, file->len, &file->text);
 		}
 		CHECK(canon.status == BPFCANON_DONE && text.status == BPFCANON_DONE);
-		file->canon_len = canon.len;
-		file->text_len = text.len;
+		file->canon_len = canon.written;
+		file->text_len = text.written;
 	}
 }
 

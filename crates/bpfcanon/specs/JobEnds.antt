@@ -1,8 +1,8 @@
 -- The ways in which a job ends.
 use Rattle.std.specs.Prelude.{◌≡◌, ◌⊎◌, ◌<◌, ◌≤◌, ℕ, List, Result, Ok, Err, true, false, length, take}
 use Rattle.std.specs.Io.KnownBytes.{Appends, Consumes, IsAtEnd}
-use Rattle.bpf_canon.specs.declared.insn.run.RunCause.{RunCause}
-use Rattle.bpf_canon.specs.declared.insn.run.RunCause.TheVariants as cause
+use Rattle.bpf_canon.specs.declared.engine.RunCause.{RunCause}
+use Rattle.bpf_canon.specs.declared.engine.RunCause.TheVariants as cause
 use Rattle.bpfcanon.specs.declared.job.Job.{Job}
 use Rattle.bpfcanon.specs.declared.outcome.Outcome.{Outcome}
 use Rattle.bpfcanon.specs.declared.outcome.Outcome.TheVariants.{TooLong, ReadFailed, WriteFailed, Memory}

@@ -1,4 +1,4 @@
--- The numbers by which C learns how a call ended.
+-- The answers to C, and the numbers in them.
 use Rattle.std.specs.Prelude.{◌≡◌, ◌<◌, ◌++◌, ℕ, List, Option, Some, None, length, drop}
 use Rattle.bpf_words.specs.declared.Order.{Order}
 use Rattle.bpf_words.specs.declared.Order.TheVariants.{Little, Big}
@@ -10,19 +10,27 @@ use Rattle.btf_raw.specs.Cause.{number_of}
 use Rattle.bpfcanon_c.specs.declared.answer.Answer.{Answer}
 use Rattle.bpfcanon_c.specs.declared.answer.FaultCode.{FaultCode}
 use Rattle.bpfcanon_c.specs.declared.answer.Ending.{Ending}
-use Rattle.bpfcanon_c.specs.declared.answer.Ending.TheVariants.{Written, Counted, Same, Different, First, Second, Memory, Room}
+use Rattle.bpfcanon_c.specs.declared.answer.Ending.TheVariants.{Written, Types, Groups, Same, Different, First, Second, Memory, Room}
 use Rattle.bpfcanon_c.specs.declared.answer.Ending.TheVariants as ending
 
+-- the answer that has a status alone
+abbrev pub bare_answer : ℕ → Answer
+bare_answer s = record { status = s; cause = 0; pos = 0; line = 0; written = 0; needed = 0; types = 0; groups = 0 }
+
+abbrev pub fault_answer : ℕ → FaultCode → Answer
+fault_answer s f = record { status = s; cause = f.cause; pos = f.pos; line = f.line; written = 0; needed = 0; types = 0; groups = 0 }
+
 abbrev pub answer_of : Ending → Answer
-answer_of (Written n) = record { status = 0; cause = 0; pos = 0; len = n }
-answer_of (Counted n) = record { status = 0; cause = 0; pos = 0; len = n }
-answer_of Same = record { status = 0; cause = 0; pos = 0; len = 0 }
-answer_of Different = record { status = 1; cause = 0; pos = 0; len = 0 }
-answer_of (First f) = record { status = 2; cause = f.cause; pos = f.pos; len = 0 }
-answer_of (Second f) = record { status = 3; cause = f.cause; pos = f.pos; len = 0 }
-answer_of Memory = record { status = 4; cause = 0; pos = 0; len = 0 }
-answer_of (Room n) = record { status = 5; cause = 0; pos = 0; len = n }
-answer_of ending.Order = record { status = 6; cause = 0; pos = 0; len = 0 }
+answer_of (Written n) = record { status = 0; cause = 0; pos = 0; line = 0; written = n; needed = 0; types = 0; groups = 0 }
+answer_of (Types n) = record { status = 0; cause = 0; pos = 0; line = 0; written = 0; needed = 0; types = n; groups = 0 }
+answer_of (Groups n) = record { status = 0; cause = 0; pos = 0; line = 0; written = 0; needed = 0; types = 0; groups = n }
+answer_of Same = bare_answer 0
+answer_of Different = bare_answer 1
+answer_of (First f) = fault_answer 2 f
+answer_of (Second f) = fault_answer 3 f
+answer_of Memory = bare_answer 4
+answer_of (Room n) = record { status = 5; cause = 0; pos = 0; line = 0; written = 0; needed = n; types = 0; groups = 0 }
+answer_of ending.Order = bare_answer 6
 
 abbrev pub slot_number : SlotCause → ℕ
 slot_number slot.Truncated = 1
@@ -35,10 +43,10 @@ slot_number slot.Reserved = 7
 slot_number slot.NextImm = 8
 
 abbrev pub code_of_slot : SlotFault → FaultCode
-code_of_slot f = record { pos = f.pos; cause = slot_number f.cause }
+code_of_slot f = record { cause = slot_number f.cause; pos = f.pos; line = 0 }
 
 abbrev pub code_of_btf : BtfFault → FaultCode
-code_of_btf f = record { pos = f.pos; cause = number_of f.cause }
+code_of_btf f = record { cause = number_of f.cause; pos = f.pos; line = 0 }
 
 abbrev pub order_number : Order → ℕ
 order_number Little = 0
@@ -49,8 +57,8 @@ abbrev pub names_order : ℕ → Option Order → Type 0
 names_order n (Some o) = n ≡ order_number o
 names_order n None = (o : Order) → n ≡ order_number o → ⊥
 
--- bytes stand at the front of some room, and the rest of it is as before; or the room is too short, and as before
-abbrev pub Puts : List ℕ → List ℕ → List ℕ → Ending → Type 0
-Puts bytes old new (Written n) = (n ≡ length bytes) × (new ≡ bytes ++ drop (length bytes) old)
-Puts bytes old new (Room n) = (n ≡ length bytes) × ((length old < n) × (new ≡ old))
-Puts bytes old new _ = ⊥
+-- bytes are at the front of some room, and the rest of it is as before; or the room is too short, and as before
+abbrev pub FillsRoom : List ℕ → List ℕ → List ℕ → Ending → Type 0
+FillsRoom bytes old new (Written n) = (n ≡ length bytes) × (new ≡ bytes ++ drop (length bytes) old)
+FillsRoom bytes old new (Room n) = (n ≡ length bytes) × ((length old < n) × (new ≡ old))
+FillsRoom bytes old new _ = ⊥

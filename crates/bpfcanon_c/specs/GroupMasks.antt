@@ -11,10 +11,10 @@ use Rattle.bpf_insn.specs.Spelling.{InsnFile}
 use Rattle.bpf_insn.specs.Faults.{IsInsnFault}
 use Rattle.bpfcanon_c.specs.declared.answer.Answer.{Answer}
 use Rattle.bpfcanon_c.specs.declared.answer.Ending.{Ending}
-use Rattle.bpfcanon_c.specs.declared.answer.Ending.TheVariants.{Counted, First, Memory}
+use Rattle.bpfcanon_c.specs.declared.answer.Ending.TheVariants.{Groups, First, Memory}
 use Rattle.bpfcanon_c.specs.declared.answer.Ending.TheVariants as ending
 use Rattle.bpfcanon_c.specs.Answers.{code_of_slot, order_number}
-use Rattle.bpfcanon_c.specs.Endings.{IsNoOrder, Tells}
+use Rattle.bpfcanon_c.specs.Endings.{IsNoOrder, IsAnswerOf}
 
 abbrev pub weighed : Bool → ℕ → ℕ
 weighed b weight = if b then weight else 0
@@ -32,7 +32,7 @@ pub record IsGroupMask (l : List Insn) (n : ℕ) : Type 0 where
   pub bits : n ≡ mask set
 
 abbrev pub EndsGroupsIn : Order → List ℕ → Ending → Type 0
-EndsGroupsIn o bytes (Counted n) = (l : List Insn) × (InsnFile o bytes l × IsGroupMask l n)
+EndsGroupsIn o bytes (Groups n) = (l : List Insn) × (InsnFile o bytes l × IsGroupMask l n)
 EndsGroupsIn o bytes (First code) = (fault : SlotFault) × (IsInsnFault o bytes fault × (code ≡ code_of_slot fault))
 EndsGroupsIn o bytes Memory = ⊤
 EndsGroupsIn o bytes _ = ⊥
@@ -42,4 +42,4 @@ EndsGroups n bytes ending.Order = IsNoOrder n
 EndsGroups n bytes e = (o : Order) × ((n ≡ order_number o) × EndsGroupsIn o bytes e)
 
 abbrev pub AnswersGroups : ℕ → List ℕ → Answer → Type 0
-AnswersGroups n bytes = Tells (EndsGroups n bytes)
+AnswersGroups n bytes = IsAnswerOf (EndsGroups n bytes)

@@ -1,29 +1,33 @@
-//! How a call ends, and the numbers by which C learns it.
+//! How a call ends, and the answer to C of each ending.
 ghost use Rattle.std.specs.Prelude.{◌≡◌};
-ghost use Rattle.bpfcanon_c.specs.Answers.{answer_of, code_of_btf, code_of_slot, names_order, Puts};
+ghost use Rattle.bpfcanon_c.specs.Answers.{answer_of, bare_answer, code_of_btf, code_of_slot, fault_answer, names_order, FillsRoom};
 
 use bpf_insn::{Order, SlotFault};
 use btf_raw::BtfFault;
 
-/// The place of a fault, and the number of its cause.
+/// A fault by its numbers: its place is an offset in bytes, or a line where the input is a listing.
 #[derive(Clone, Copy, Debug, PartialEq, Eq)]
 pub struct FaultCode {
-    /// The place in bytes.
-    pub pos: u64,
     /// The number of the cause.
     pub cause: u32,
+    /// The offset in bytes; 0 for a fault of a listing.
+    pub pos: u64,
+    /// The line, from 1; 0 for a fault of bytes.
+    pub line: u64,
 }
 
 /// How a call ended.
 #[derive(Clone, Copy, Debug, PartialEq, Eq)]
 pub enum Ending {
-    /// So many bytes were written at the front of the room.
+    /// The output has this length in bytes and is at the front of the room.
     Written(usize),
-    /// So many were counted, or the groups of this mask are needed.
-    Counted(usize),
-    /// Two files are the same.
+    /// The input has this number of types.
+    Types(u32),
+    /// The instructions need the groups of this mask.
+    Groups(u32),
+    /// Two inputs are the same.
     Same,
-    /// Two files are different.
+    /// Two inputs are different.
     Different,
     /// The input, or the first of two, has this fault.
     First(FaultCode),
@@ -31,25 +35,33 @@ pub enum Ending {
     Second(FaultCode),
     /// Out of memory.
     Memory,
-    /// The room is too short for so many bytes.
+    /// The output has this length in bytes, which is more than the room.
     Room(usize),
     /// The number of a byte order is neither 0, for little, nor 1, for big.
     Order,
 }
 
-/// What a call returns to C.
+/// What a call returns to C: `bpfcanon_answer` of `capi/bpfcanon.h`, field by field. A field that the ending does not set is 0.
 #[repr(C)]
 #[derive(Clone, Copy)]
 pub struct Answer {
     /// 0 done or the same, 1 different, 2 a fault of the input or of the first of two, 3 a fault of the second, 4 out of
     /// memory, 5 the room is too short, 6 there is no such byte order.
     pub status: u32,
-    /// The number of the fault's cause, or 0.
+    /// The number of the fault's cause.
     pub cause: u32,
-    /// The fault's place in bytes, or 0.
+    /// The offset of a fault of bytes.
     pub pos: u64,
-    /// How many bytes were written, how much room they take, or what was counted; else 0.
-    pub len: usize,
+    /// The line of a fault of a listing, from 1.
+    pub line: u64,
+    /// The length in bytes of the output that was written.
+    pub written: usize,
+    /// The length in bytes of an output that is longer than its room.
+    pub needed: usize,
+    /// The number of types.
+    pub types: u32,
+    /// The conformance groups, as a mask.
+    pub groups: u32,
 }
 
 /// The answer of an ending.
@@ -57,36 +69,54 @@ pub fn report(ending: Ending) -> Answer
     ensures { result ≡ answer_of ending }
 {
     match ending {
-        Ending::Written(len) | Ending::Counted(len) => with_length(0, len),
-        Ending::Same => with_length(0, 0),
-        Ending::Different => with_length(1, 0),
+        Ending::Written(written) => Answer {
+            written,
+            ..with_status(0)
+        },
+        Ending::Types(types) => Answer {
+            types,
+            ..with_status(0)
+        },
+        Ending::Groups(groups) => Answer {
+            groups,
+            ..with_status(0)
+        },
+        Ending::Same => with_status(0),
+        Ending::Different => with_status(1),
         Ending::First(fault) => with_fault(2, fault),
         Ending::Second(fault) => with_fault(3, fault),
-        Ending::Memory => with_length(4, 0),
-        Ending::Room(len) => with_length(5, len),
-        Ending::Order => with_length(6, 0),
+        Ending::Memory => with_status(4),
+        Ending::Room(needed) => Answer {
+            needed,
+            ..with_status(5)
+        },
+        Ending::Order => with_status(6),
     }
 }
 
-fn with_length(status: u32, len: usize) -> Answer
-    ensures { result ≡ record { status = status; cause = 0; pos = 0; len = len } }
+fn with_status(status: u32) -> Answer
+    ensures { result ≡ bare_answer status }
 {
     Answer {
         status,
         cause: 0,
         pos: 0,
-        len,
+        line: 0,
+        written: 0,
+        needed: 0,
+        types: 0,
+        groups: 0,
     }
 }
 
 fn with_fault(status: u32, fault: FaultCode) -> Answer
-    ensures { result ≡ record { status = status; cause = fault.cause; pos = fault.pos; len = 0 } }
+    ensures { result ≡ fault_answer status fault }
 {
     Answer {
-        status,
         cause: fault.cause,
         pos: fault.pos,
-        len: 0,
+        line: fault.line,
+        ..with_status(status)
     }
 }
 
@@ -95,8 +125,9 @@ pub fn btf_code(fault: BtfFault) -> FaultCode
     ensures { result ≡ code_of_btf fault }
 {
     FaultCode {
-        pos: fault.pos,
         cause: u32::from(fault.cause.number()),
+        pos: fault.pos,
+        line: 0,
     }
 }
 
@@ -105,8 +136,9 @@ pub fn slot_code(fault: SlotFault) -> FaultCode
     ensures { result ≡ code_of_slot fault }
 {
     FaultCode {
-        pos: fault.pos,
         cause: fault.cause as u32,
+        pos: fault.pos,
+        line: 0,
     }
 }
 
@@ -121,9 +153,9 @@ pub fn order_from(number: u32) -> Option<Order>
     }
 }
 
-/// Writes bytes at the front of some room.
+/// Copies an output to the front of some room, if the room is long enough.
 pub fn put(bytes: &[u8], room: &mut [u8]) -> Ending
-    ensures { Puts bytes.now room.old room.new result }
+    ensures { FillsRoom bytes.now room.old room.new result }
 {
     let len = bytes.len();
     if room.len() < len {

@@ -8,15 +8,20 @@ use bpf_insn::Order;
 use btf_types::{BtfError, BtfView, TypeTable};
 use std::alloc::Global;
 
-/// Writes the canonical bytes of a BTF file in the byte order `to` at the front of `out`. They are no longer than the file.
+/// Writes the canonical form of a BTF file in the byte order `to` at the front of `out`. It is no longer than the file.
 #[unsafe(no_mangle)]
-pub extern "C" fn bpfcanon_btf_canon(alloc: Global, to: u32, bytes: &[u8], out: &mut [u8]) -> Answer
+pub extern "C" fn bpfcanon_proved_btf_canon(
+    alloc: Global,
+    to: u32,
+    bytes: &[u8],
+    out: &mut [u8],
+) -> Answer
     ensures { AnswersBtf to bytes.now out.old out.new result }
 {
     report(btf_into(alloc, to, bytes, out))
 }
 
-/// The canonical bytes in the order of a number.
+/// The canonical form in the order that a number names.
 fn btf_into(alloc: Global, to: u32, bytes: &[u8], out: &mut [u8]) -> Ending
     ensures { EndsBtf to bytes.now out.old out.new result }
 {
@@ -26,7 +31,7 @@ fn btf_into(alloc: Global, to: u32, bytes: &[u8], out: &mut [u8]) -> Ending
     }
 }
 
-/// The canonical bytes in an order.
+/// The canonical form in a byte order.
 fn btf_in(alloc: Global, to: Order, bytes: &[u8], out: &mut [u8]) -> Ending
     ensures { EndsBtfIn to bytes.now out.old out.new result }
 {
@@ -42,18 +47,18 @@ fn btf_in(alloc: Global, to: Order, bytes: &[u8], out: &mut [u8]) -> Ending
 
 /// Counts the types of a BTF file, or reports its first fault.
 #[unsafe(no_mangle)]
-pub extern "C" fn bpfcanon_btf_check(alloc: Global, bytes: &[u8]) -> Answer
+pub extern "C" fn bpfcanon_proved_btf_check(alloc: Global, bytes: &[u8]) -> Answer
     ensures { AnswersBtfCheck bytes.now result }
 {
     report(btf_counted(alloc, bytes))
 }
 
-/// How many types there are.
+/// The number of types.
 fn btf_counted(alloc: Global, bytes: &[u8]) -> Ending
     ensures { EndsBtfCheck bytes.now result }
 {
     match BtfView::parse(alloc, bytes) {
-        Ok(table) => Ending::Counted(table.count() as usize),
+        Ok(table) => Ending::Types(table.count()),
         Err(BtfError::Fault(fault)) => Ending::First(btf_code(fault)),
         Err(BtfError::Memory) => Ending::Memory,
     }
@@ -61,7 +66,7 @@ fn btf_counted(alloc: Global, bytes: &[u8]) -> Ending
 
 /// Whether two BTF files have the same types.
 #[unsafe(no_mangle)]
-pub extern "C" fn bpfcanon_btf_same(alloc: Global, first: &[u8], second: &[u8]) -> Answer
+pub extern "C" fn bpfcanon_proved_btf_same(alloc: Global, first: &[u8], second: &[u8]) -> Answer
     ensures { AnswersSameBtf first.now second.now result }
 {
     report(btf_compared(alloc, first, second))

@@ -10,38 +10,40 @@ use std::alloc::Global;
 /// How the call ended.
 #[derive(Clone, Copy, Debug, PartialEq, Eq)]
 pub enum FrontEnding {
-    /// So many bytes were read and so many written, and what is left may begin an instruction.
+    /// The lengths in bytes of what was read and of what was written. The bytes that are left may begin an instruction.
     Sound(usize, usize),
-    /// So many bytes were read and so many written, and no more bytes can mend the fault.
+    /// The same lengths, of the instructions before a fault that no more bytes can mend.
     Faulty(usize, usize, FaultCode),
     /// Out of memory.
     Memory,
-    /// The room is too short for so many bytes.
+    /// The output has this length in bytes, which is more than the room.
     Room(usize),
-    /// There is no such byte order.
+    /// The number of a byte order is neither 0, for little, nor 1, for big.
     Order,
 }
 
-/// What the call returns to C.
+/// What the call returns to C: `bpfcanon_front` of `capi/bpfcanon.h`, field by field. A field that the ending does not set is 0.
 #[repr(C)]
 #[derive(Clone, Copy)]
 pub struct FrontAnswer {
     /// 0 done, 2 a fault that no more bytes can mend, 4 out of memory, 5 the room is too short, 6 there is no such byte order.
     pub status: u32,
-    /// The number of the fault's cause, or 0.
+    /// The number of the fault's cause.
     pub cause: u32,
-    /// The fault's place in bytes, or 0.
+    /// The offset of the fault in bytes.
     pub pos: u64,
-    /// How many bytes were read.
+    /// The length in bytes of the instructions that were read.
     pub read: usize,
-    /// How many bytes were written, or how much room they take.
+    /// The length in bytes of the output that was written.
     pub written: usize,
+    /// The length in bytes of an output that is longer than its room.
+    pub needed: usize,
 }
 
 /// Writes the whole instructions at the front of some bytes in the order `to`. A caller that gets a stream in pieces gives the
 /// bytes that were not read, fewer than 16, again in front of the next piece.
 #[unsafe(no_mangle)]
-pub extern "C" fn bpfcanon_insn_front(
+pub extern "C" fn bpfcanon_proved_insn_front(
     alloc: Global,
     order: u32,
     to: u32,
@@ -64,6 +66,7 @@ fn report_front(ending: FrontEnding) -> FrontAnswer
             pos: 0,
             read,
             written,
+            needed: 0,
         },
         FrontEnding::Faulty(read, written, fault) => FrontAnswer {
             status: 2,
@@ -71,27 +74,29 @@ fn report_front(ending: FrontEnding) -> FrontAnswer
             pos: fault.pos,
             read,
             written,
+            needed: 0,
         },
         FrontEnding::Memory => without_bytes(4, 0),
-        FrontEnding::Room(written) => without_bytes(5, written),
+        FrontEnding::Room(needed) => without_bytes(5, needed),
         FrontEnding::Order => without_bytes(6, 0),
     }
 }
 
 /// The answer where nothing was read.
-fn without_bytes(status: u32, written: usize) -> FrontAnswer
-    ensures { result ≡ record { status = status; cause = 0; pos = 0; read = 0; written = written } }
+fn without_bytes(status: u32, needed: usize) -> FrontAnswer
+    ensures { result ≡ record { status = status; cause = 0; pos = 0; read = 0; written = 0; needed = needed } }
 {
     FrontAnswer {
         status,
         cause: 0,
         pos: 0,
         read: 0,
-        written,
+        written: 0,
+        needed,
     }
 }
 
-/// The front in the orders of two numbers.
+/// The front, in the orders that two numbers name.
 fn front_into(alloc: Global, order: u32, to: u32, bytes: &[u8], out: &mut [u8]) -> FrontEnding
     ensures { EndsFront order to bytes.now out.old out.new result }
 {
@@ -104,7 +109,7 @@ fn front_into(alloc: Global, order: u32, to: u32, bytes: &[u8], out: &mut [u8]) 
     }
 }
 
-/// The front of some bytes.
+/// The front, in two byte orders.
 fn front_in(alloc: Global, order: Order, to: Order, bytes: &[u8], out: &mut [u8]) -> FrontEnding
     ensures { EndsFrontIn order to bytes.now out.old out.new result }
 {
@@ -115,7 +120,7 @@ fn front_in(alloc: Global, order: Order, to: Order, bytes: &[u8], out: &mut [u8]
             let read = bytes.len() - feed.held();
             match put(&front, out) {
                 Ending::Written(written) => FrontEnding::Sound(read, written),
-                Ending::Room(written) => FrontEnding::Room(written),
+                Ending::Room(needed) => FrontEnding::Room(needed),
                 _ => unreachable!(),
             }
         }
@@ -123,7 +128,7 @@ fn front_in(alloc: Global, order: Order, to: Order, bytes: &[u8], out: &mut [u8]
             let read = front.len();
             match put(&front, out) {
                 Ending::Written(written) => FrontEnding::Faulty(read, written, slot_code(fault)),
-                Ending::Room(written) => FrontEnding::Room(written),
+                Ending::Room(needed) => FrontEnding::Room(needed),
                 _ => unreachable!(),
             }
         }

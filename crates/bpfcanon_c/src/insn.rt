@@ -12,10 +12,10 @@ use bpf_canon::{InsnFeed, SideError, same_insns};
 use bpf_insn::{Group, GroupSet, InsnError, Order, decode_insns, groups_of};
 use std::alloc::Global;
 
-/// Writes the instructions of a file of the byte order `order` in the byte order `to` at the front of `out`. They are as many
-/// bytes as the file's. Little-endian bytes are canonical.
+/// Writes the instructions of a file of the byte order `order` in the byte order `to` at the front of `out`, in the length of
+/// the file. Little-endian bytes are canonical.
 #[unsafe(no_mangle)]
-pub extern "C" fn bpfcanon_insn_canon(
+pub extern "C" fn bpfcanon_proved_insn_canon(
     alloc: Global,
     order: u32,
     to: u32,
@@ -27,7 +27,7 @@ pub extern "C" fn bpfcanon_insn_canon(
     report(insns_into(alloc, order, to, bytes, out))
 }
 
-/// The instructions in the order of a number.
+/// The instructions, in the orders that two numbers name.
 fn insns_into(alloc: Global, order: u32, to: u32, bytes: &[u8], out: &mut [u8]) -> Ending
     ensures { EndsInsns order to bytes.now out.old out.new result }
 {
@@ -40,7 +40,7 @@ fn insns_into(alloc: Global, order: u32, to: u32, bytes: &[u8], out: &mut [u8]) 
     }
 }
 
-/// The instructions of a file in an order.
+/// The instructions of a file in two byte orders.
 fn insns_in(alloc: Global, order: Order, to: Order, bytes: &[u8], out: &mut [u8]) -> Ending
     ensures { EndsInsnsIn order to bytes.now out.old out.new result }
 {
@@ -67,16 +67,16 @@ fn recoded(alloc: Global, order: Order, to: Order, bytes: &[u8]) -> Result<Vec<u
     }
 }
 
-/// The conformance groups that the instructions of a file need, as a mask of 7 bits from the lowest: base32, base64, atomic32,
-/// atomic64, divmul32, divmul64, packet.
+/// The conformance groups (RFC 9669 section 2.4) that the instructions of a file need, as a mask of 7 bits from the lowest:
+/// base32, base64, atomic32, atomic64, divmul32, divmul64, packet.
 #[unsafe(no_mangle)]
-pub extern "C" fn bpfcanon_insn_groups(alloc: Global, order: u32, bytes: &[u8]) -> Answer
+pub extern "C" fn bpfcanon_proved_insn_groups(alloc: Global, order: u32, bytes: &[u8]) -> Answer
     ensures { AnswersGroups order bytes.now result }
 {
     report(groups_into(alloc, order, bytes))
 }
 
-/// The groups of a file in the order of a number.
+/// The groups of a file, in the order that a number names.
 fn groups_into(alloc: Global, order: u32, bytes: &[u8]) -> Ending
     ensures { EndsGroups order bytes.now result }
 {
@@ -91,21 +91,21 @@ fn groups_in(alloc: Global, order: Order, bytes: &[u8]) -> Ending
     ensures { EndsGroupsIn order bytes.now result }
 {
     match decode_insns(alloc, order, bytes) {
-        Ok(insns) => Ending::Counted(mask_of(&groups_of(&insns))),
+        Ok(insns) => Ending::Groups(mask_of(&groups_of(&insns))),
         Err(InsnError::Fault(fault)) => Ending::First(slot_code(fault)),
         Err(InsnError::Memory) => Ending::Memory,
     }
 }
 
-/// The bit of this weight, where the set has the group.
-fn bit(set: &GroupSet, group: Group, weight: usize) -> usize
+/// The bit of a group in a mask, or 0 if the set lacks the group.
+fn bit(set: &GroupSet, group: Group, weight: u32) -> u32
     ensures { result ≡ weighed (holds set.now group) weight }
 {
     if set.has(group) { weight } else { 0 }
 }
 
 /// The mask of a set of groups.
-fn mask_of(set: &GroupSet) -> usize
+fn mask_of(set: &GroupSet) -> u32
     ensures { result ≡ mask set.now }
 {
     let widths = bit(set, Group::Base32, 1) + bit(set, Group::Base64, 2);
@@ -116,7 +116,7 @@ fn mask_of(set: &GroupSet) -> usize
 
 /// Whether two instruction files, each in its own byte order, have the same instructions.
 #[unsafe(no_mangle)]
-pub extern "C" fn bpfcanon_insn_same(
+pub extern "C" fn bpfcanon_proved_insn_same(
     alloc: Global,
     order_first: u32,
     first: &[u8],

@@ -10,7 +10,7 @@ use std::alloc::Global;
 /// Writes the listing of the instructions of a file of the byte order `order` at the front of `out`: a line for each, with a
 /// newline. A listing is longer than its file.
 #[unsafe(no_mangle)]
-pub extern "C" fn bpfcanon_insn_show(
+pub extern "C" fn bpfcanon_proved_insn_show(
     alloc: Global,
     order: u32,
     bytes: &[u8],
@@ -21,7 +21,7 @@ pub extern "C" fn bpfcanon_insn_show(
     report(listing_into(alloc, order, bytes, out))
 }
 
-/// The listing of a file in the order of a number.
+/// The listing of a file, in the order that a number names.
 fn listing_into(alloc: Global, order: u32, bytes: &[u8], out: &mut [u8]) -> Ending
     ensures { EndsListing order bytes.now out.old out.new result }
 {
@@ -45,16 +45,20 @@ fn listing_in(alloc: Global, order: Order, bytes: &[u8], out: &mut [u8]) -> Endi
     }
 }
 
-/// Writes the instructions that a text lists in the byte order `to` at the front of `out`. The place of a fault is the number of
-/// its line, from 1 on.
+/// Writes the instructions of a listing in the byte order `to` at the front of `out`. A fault has the number of its line.
 #[unsafe(no_mangle)]
-pub extern "C" fn bpfcanon_insn_read(alloc: Global, to: u32, text: &[u8], out: &mut [u8]) -> Answer
+pub extern "C" fn bpfcanon_proved_insn_read(
+    alloc: Global,
+    to: u32,
+    text: &[u8],
+    out: &mut [u8],
+) -> Answer
     ensures { AnswersListed to text.now out.old out.new result }
 {
     report(listed_into(alloc, to, text, out))
 }
 
-/// The instructions of a text in the order of a number.
+/// The instructions of a listing, in the order that a number names.
 fn listed_into(alloc: Global, to: u32, text: &[u8], out: &mut [u8]) -> Ending
     ensures { EndsListed to text.now out.old out.new result }
 {
@@ -64,7 +68,7 @@ fn listed_into(alloc: Global, to: u32, text: &[u8], out: &mut [u8]) -> Ending
     }
 }
 
-/// The instructions of a text.
+/// The instructions of a listing in a byte order.
 fn listed_in(alloc: Global, to: Order, text: &[u8], out: &mut [u8]) -> Ending
     ensures { EndsListedIn to text.now out.old out.new result }
 {
@@ -80,7 +84,8 @@ fn line_code(fault: LineFault) -> FaultCode
     ensures { result ≡ code_of_line fault }
 {
     FaultCode {
-        pos: fault.line,
         cause: fault.cause as u32,
+        pos: 0,
+        line: fault.line,
     }
 }

@@ -4,9 +4,9 @@ use Rattle.std.specs.Prelude.{MatchResult}
 use Rattle.std.proofs.KnownBytes.{Appends-nil}
 use Rattle.btf_raw.specs.declared.cause.BtfFault.{BtfFault}
 use Rattle.bpf_canon.specs.btf.CanonicalBtf.{canonical}
-use Rattle.bpf_canon.specs.declared.insn.run.RunCause.{RunCause}
-use Rattle.bpf_canon.specs.declared.insn.run.RunCause.TheVariants as cause
-use Rattle.bpf_canon.specs.insn.Run.{counts_read, counts_write}
+use Rattle.bpf_canon.specs.declared.engine.RunCause.{RunCause}
+use Rattle.bpf_canon.specs.declared.engine.RunCause.TheVariants as cause
+use Rattle.bpf_canon.specs.Engine.{counts_read, counts_write}
 use Rattle.bpf_canon.specs.btf.RunBtf.{RanBtf, StopsBtf, StopsAtBtfFault, StopsBtfRefused, StopsBtfTooLong, StopsBtfUnread, StopsBtfUnwritten}
 use Rattle.bpfcanon.specs.declared.job.Job.{Job}
 use Rattle.bpfcanon.specs.declared.outcome.Outcome.TheVariants as ends

@@ -2,7 +2,7 @@
 use Rattle.std.proofs.Common.{◌≡◌, ◌≤◌, ℕ, Bool, true, false, List, [], drop, length, take, refl}
 use Rattle.btf_raw.specs.declared.cause.BtfFault.{BtfFault}
 use Rattle.bpf_canon.specs.btf.SameBtf.{ComparesBtf, NamesBtfSide}
-use Rattle.bpf_canon.specs.declared.insn.same.SideError.TheVariants as side
+use Rattle.bpf_canon.specs.declared.engine.SideError.TheVariants as side
 use Rattle.bpfcanon.specs.declared.outcome.Outcome.TheVariants.{SecondBtf}
 use Rattle.bpfcanon.specs.commands.BtfReply.{IsBtfSameReply, different, same, second_at_fault}
 use Rattle.bpfcanon.specs.commands.Reply.{verdict_line, verdict_outcome}

@@ -9,9 +9,10 @@ use Rattle.bpf_insn.specs.declared.fault.SlotFault.{SlotFault}
 use Rattle.bpf_insn.specs.Spelling.{file_of}
 use Rattle.bpf_insn.specs.Faults.{IsFront}
 use Rattle.bpf_insn.proofs.FrontLemmas.{one_front}
-use Rattle.bpf_canon.specs.declared.insn.run.RunCause.{RunCause}
-use Rattle.bpf_canon.specs.declared.insn.run.RunCause.TheVariants as cause
-use Rattle.bpf_canon.specs.insn.Run.{Devices, RanWhole, Stops, StopsAtFault, StopsTooLong, StopsUnread, StopsUnwritten, Wrote, WroteAll, counts_read, counts_write, limit}
+use Rattle.bpf_canon.specs.declared.engine.RunCause.{RunCause}
+use Rattle.bpf_canon.specs.declared.engine.RunCause.TheVariants as cause
+use Rattle.bpf_canon.specs.Engine.{Devices, counts_read, counts_write}
+use Rattle.bpf_canon.specs.insn.Run.{RanWhole, Stops, StopsAtFault, StopsTooLong, StopsUnread, StopsUnwritten, Wrote, WroteAll, limit}
 use Rattle.bpf_canon.specs.insn.Stands.{IsSound}
 use Rattle.bpf_canon.proofs.InsnLemmas.FrontLaws.{file_front, truncated_or_not}
 use Rattle.bpfcanon.specs.declared.job.Job.{Job}

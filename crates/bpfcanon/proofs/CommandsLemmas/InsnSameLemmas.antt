@@ -5,7 +5,7 @@ use Rattle.std.specs.declared.alloc.AllocError.{AllocError}
 use Rattle.bpf_words.specs.declared.Order.{Order}
 use Rattle.bpf_insn.specs.declared.fault.SlotFault.{SlotFault}
 use Rattle.bpf_canon.specs.insn.Canonical.{Compares, NamesSide}
-use Rattle.bpf_canon.specs.declared.insn.same.SideError.TheVariants as side
+use Rattle.bpf_canon.specs.declared.engine.SideError.TheVariants as side
 use Rattle.bpfcanon.specs.declared.outcome.Outcome.{Outcome}
 use Rattle.bpfcanon.specs.declared.outcome.Outcome.TheVariants.{Second}
 use Rattle.bpfcanon.specs.declared.commands.reply.Reply.{Reply}

@@ -1,0 +1,32 @@
+/*
+ * The calls that are written in Rattle (crates/bpfcanon_c), for bpfcanon.c alone: this header is
+ * not installed, and the library doesn't export them. They are those of bpfcanon.h with the same
+ * names, but no pointer is null, even if its length is 0.
+ */
+#ifndef BPFCANON_PROVED_H
+#define BPFCANON_PROVED_H
+
+#include "bpfcanon.h"
+
+bpfcanon_answer bpfcanon_proved_btf_canon(uint32_t to, const uint8_t *bytes, size_t len,
+                                          uint8_t *out, size_t room);
+bpfcanon_answer bpfcanon_proved_btf_check(const uint8_t *bytes, size_t len);
+bpfcanon_answer bpfcanon_proved_btf_same(const uint8_t *first, size_t first_len,
+                                         const uint8_t *second, size_t second_len);
+bpfcanon_answer bpfcanon_proved_btf_show(const uint8_t *bytes, size_t len, uint8_t *out,
+                                         size_t room);
+
+bpfcanon_answer bpfcanon_proved_insn_canon(uint32_t order, uint32_t to, const uint8_t *bytes,
+                                           size_t len, uint8_t *out, size_t room);
+bpfcanon_front bpfcanon_proved_insn_front(uint32_t order, uint32_t to, const uint8_t *bytes,
+                                          size_t len, uint8_t *out, size_t room);
+bpfcanon_answer bpfcanon_proved_insn_groups(uint32_t order, const uint8_t *bytes, size_t len);
+bpfcanon_answer bpfcanon_proved_insn_read(uint32_t to, const uint8_t *text, size_t len,
+                                          uint8_t *out, size_t room);
+bpfcanon_answer bpfcanon_proved_insn_same(uint32_t first_order, const uint8_t *first,
+                                          size_t first_len, uint32_t second_order,
+                                          const uint8_t *second, size_t second_len);
+bpfcanon_answer bpfcanon_proved_insn_show(uint32_t order, const uint8_t *bytes, size_t len,
+                                          uint8_t *out, size_t room);
+
+#endif

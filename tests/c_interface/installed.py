@@ -1,0 +1,249 @@
+"""Installs the C library into a folder of its own, and compares what is there with the header, the version script and the documents.
+
+    installed.py ARCHIVE
+
+ARCHIVE is what capi/archive made.
+"""
+
+import ctypes
+import os
+import pathlib
+import re
+import shutil
+import subprocess
+import sys
+import tempfile
+
+from program import SECONDS, Report
+
+TOP = pathlib.Path(__file__).resolve().parent.parent.parent
+CAPI = TOP / "capi"
+HEADER = (CAPI / "bpfcanon.h").read_text()
+PREFIX = "/opt/two words"
+VERSION = re.search(r'^#define BPFCANON_VERSION "(.*)"$', HEADER, re.MULTILINE)[1]
+MAJOR = VERSION.partition(".")[0]
+STANDARDS = {
+    "c": ["c89", "c99", "c11", "c17", "gnu17"],
+    "c++": ["c++98", "c++11", "c++14", "c++17", "c++20"],
+}
+# The tables of docs/FORMATS.md, the calls for its rows, and the prefix of the header's constants.
+CAUSES = {"instruction files": "insn", "listings": "line", "BTF files": "btf"}
+# Variables that are honoured aren't taken from whoever runs the test.
+CLEAN = {name: value for name, value in os.environ.items() if name not in "CC CFLAGS CPPFLAGS LDFLAGS AR NM OBJCOPY DESTDIR".split()}
+
+
+def ran(words, **variables):
+    how = {"stdout": subprocess.PIPE, "stderr": subprocess.PIPE, "text": True, "timeout": SECONDS}
+    return subprocess.run(words, env=CLEAN | {name: str(value) for name, value in variables.items()}, **how)
+
+
+def printed(words, **variables):
+    """The lines that a command prints; none if it fails."""
+    done = ran(words, **variables)
+    return done.stdout.splitlines() if done.returncode == 0 else []
+
+
+def declared():
+    """The calls that the header declares."""
+    return sorted(set(re.findall(r"\b(bpfcanon_\w+)\(", re.sub(r"/\*.*?\*/", "", HEADER, flags=re.DOTALL))))
+
+
+def built(report, archive, root, **variables):
+    """Whether capi/build installs into this prefix without a word, and with no command `rt`."""
+    folder = root / "no rt"
+    folder.mkdir(parents=True)
+    (folder / "rt").write_text("#!/bin/sh\necho rt was called >&2\nexit 1\n")
+    (folder / "rt").chmod(0o755)
+    path = f"{folder}:{os.environ['PATH']}"
+    done = ran([CAPI / "build", PREFIX, archive], DESTDIR=root, PATH=path, **variables)
+    is_quiet = done.returncode == 0 and not done.stdout and not done.stderr
+    report.expect_that(is_quiet, "capi/build", f"it gave {done}")
+    shutil.rmtree(folder)
+    return is_quiet
+
+
+def check_files(report, root):
+    """Each file with its mode, and the links; there is no other."""
+    wanted = {
+        "include/bpfcanon.h": 0o644,
+        "lib/libbpfcanon.a": 0o644,
+        f"lib/libbpfcanon.so.{VERSION}": 0o755,
+        "lib/pkgconfig/bpfcanon.pc": 0o644,
+        "share/man/man3/bpfcanon.3": 0o644,
+    }
+    links = {f"lib/libbpfcanon.so.{MAJOR}": f"libbpfcanon.so.{VERSION}", "lib/libbpfcanon.so": f"libbpfcanon.so.{MAJOR}"}
+    paths = {str(path.relative_to(root)): path for path in root.rglob("*") if path.is_symlink() or path.is_file()}
+    modes = {name: path.stat().st_mode & 0o777 for name, path in paths.items() if not path.is_symlink()}
+    report.expect_that(modes == wanted, "the files", f"these are there: {modes}")
+    targets = {name: os.readlink(path) for name, path in paths.items() if path.is_symlink()}
+    report.expect_that(targets == links, "the links", f"these are there: {targets}")
+    for name, source in ("include/bpfcanon.h", CAPI / "bpfcanon.h"), ("share/man/man3/bpfcanon.3", TOP / "man" / "bpfcanon.3"):
+        report.expect_that((root / name).read_bytes() == source.read_bytes(), name, f"it isn't a copy of {source}")
+    first = (root / "lib" / "pkgconfig" / "bpfcanon.pc").read_text().splitlines()[0]
+    report.expect_that(first == f"prefix={PREFIX}", "bpfcanon.pc", f"its first line is {first}")
+    closed = [str(path) for path in root.rglob("*") if path.is_dir() and path.stat().st_mode & 0o777 != 0o755]
+    report.expect_that(not closed, "the folders", f"these don't have the mode 755: {closed}")
+
+
+def check_symbols(report, root):
+    """The header, the version script and both libraries have the same calls, and the libraries no other symbol."""
+    script = (CAPI / "exports.map").read_text()
+    node = re.match(r"BPFCANON_[0-9.]+", script)[0]
+    listed = sorted(re.findall(r"^\t\t(bpfcanon_\w+);$", script, re.MULTILINE))
+    report.expect_that(listed == declared(), "exports.map", f"it lists {listed}")
+    shared, static = root / "lib" / f"libbpfcanon.so.{VERSION}", root / "lib" / "libbpfcanon.a"
+    rows = [line.split()[1:] for line in printed(["nm", "-D", "--defined-only", "--with-symbol-versions", shared])]
+    wanted = sorted([["A", node], *(["T", f"{name}@@{node}"] for name in listed)])
+    report.expect_that(sorted(rows) == wanted, "the shared library", f"it exports {rows}")
+    rows = [line.split()[1:] for line in printed(["nm", "-g", "--defined-only", static]) if len(line.split()) == 3]
+    report.expect_that(sorted(rows) == [["T", name] for name in listed], "the static library", f"its global symbols are {rows}")
+    needed = {line.split()[1] for line in printed(["nm", "-u", static]) if len(line.split()) == 2}
+    of_libc = {"malloc", "realloc", "free", "memcpy", "memmove", "memset", "memcmp"}
+    report.expect_that(needed <= of_libc, "the static library", f"it needs {needed}")
+    dynamic = "\n".join(printed(["readelf", "-dW", shared]))
+    soname = re.findall(r"\(SONAME\).*\[(.*)\]", dynamic)
+    report.expect_that(soname == [f"libbpfcanon.so.{MAJOR}"], "the soname", f"it is {soname}")
+    report.expect_that("TEXTREL" not in dynamic, "the shared library", "it has text relocations")
+
+
+def check_header(report, root):
+    """The header alone, in each standard that the compilers know."""
+    compilers = [it for it in ("gcc", "clang") if shutil.which(it)] or ["cc"]
+    for compiler in compilers:
+        for language, standards in STANDARDS.items():
+            for standard in standards:
+                flags = ["-Wall", "-Wextra", "-pedantic", "-Werror", "-fsyntax-only", f"-std={standard}", "-x", language]
+                done = ran([compiler, *flags, root / "include" / "bpfcanon.h"])
+                report.expect_that(done.returncode == 0, f"{compiler} -std={standard}", done.stderr)
+
+
+def check_programs(report, root, folder):
+    """A program that pkg-config gives the flags for, over the shared library and over the static one, from C and from C++."""
+    if not shutil.which("pkg-config"):
+        report.skip("programs by pkg-config", "pkg-config is missing")
+        return
+    library = root / "lib"
+    (folder / "program.c").write_text(
+        '#include <bpfcanon.h>\n#include <stdio.h>\n'
+        "int main(void)\n{\n"
+        '\tputs(bpfcanon_version());\n'
+        '\treturn (int)bpfcanon_insn_show(BPFCANON_LITTLE, NULL, 0, NULL, 0).status;\n}\n'
+    )
+    asked = 'pkg-config $1 --cflags --libs bpfcanon'
+    report.expect_that(
+        printed(["pkg-config", "--modversion", "bpfcanon"], PKG_CONFIG_PATH=library / "pkgconfig") == [VERSION], "the version", "other"
+    )
+    for language, how in ("c", ""), ("c", "--static"), ("c++", ""):
+        program = folder / f"program_{language}{how}"
+        link = "-Wl,-Bstatic $flags -Wl,-Bdynamic" if how else "$flags"
+        line = f'flags=$({asked}) && eval "cc -x {language} \\"$2\\" -x none {link} -o \\"$3\\""'
+        # The prefix in bpfcanon.pc is that of the installed system, and DESTDIR's is the sysroot of this one.
+        variables = {"PKG_CONFIG_PATH": library / "pkgconfig", "PKG_CONFIG_SYSROOT_DIR": root.parents[1]}
+        done = ran(["sh", "-euc", line, "sh", how, folder / "program.c", program], **variables)
+        report.expect_that(done.returncode == 0, f"a program in {language} {how}", done.stderr)
+        run = printed([program], LD_LIBRARY_PATH="" if how else library)
+        report.expect_that(run == [VERSION], f"a program in {language} {how}", f"it printed {run}")
+        needs = [line for line in printed(["readelf", "-dW", program]) if "libbpfcanon" in line]
+        report.expect_that(len(needs) == (0 if how else 1), f"a program in {language} {how}", f"it needs {needs}")
+
+
+def check_names(report, root):
+    """The numbers of the header have the names and sentences of docs/FORMATS.md."""
+    library = ctypes.CDLL(str(root / "lib" / "libbpfcanon.so"))
+    formats = (TOP / "docs" / "FORMATS.md").read_text()
+    for heading, kind in CAUSES.items():
+        part = re.search(rf"^### Causes of {heading}\n(.*?)(?=^##)", formats, re.MULTILINE | re.DOTALL)[1]
+        rows = re.findall(r"^\| (\w+) \| (.*?) \|", part, re.MULTILINE)[1:]
+        constants = dict(re.findall(rf"^\tBPFCANON_{kind.upper()}_(\w+) = (\d+)", HEADER, re.MULTILINE))
+        wanted = {re.sub(r"(?<=[a-z])(?=[A-Z])", "_", name).upper(): str(number) for number, (name, _) in enumerate(rows, 1)}
+        report.expect_that(constants == wanted, f"the constants of {heading}", f"they are {constants}")
+        texts = [(text_of(library, kind, "name", n), text_of(library, kind, "text", n)) for n in range(1, len(rows) + 1)]
+        report.expect_that(texts == rows, f"the causes of {heading}", f"they are {texts}")
+
+
+def text_of(library, kind, what, number):
+    call = library[f"bpfcanon_{kind}_cause_{what}"]
+    call.restype, call.argtypes = ctypes.c_char_p, [ctypes.c_uint32]
+    return (call(number) or b"").decode()
+
+
+def check_flags(report, archive, root):
+    """The variables that packagers set reach the compiler and the archiver."""
+    folder = root / "tools"
+    folder.mkdir(parents=True)
+    for tool in "cc", "ar":
+        (folder / f"my-{tool}").write_text(f'#!/bin/sh\necho "my-{tool} $*" >>"{folder}/calls"\nexec {tool} "$@"\n')
+        (folder / f"my-{tool}").chmod(0o755)
+    tools = {"CC": "my-cc", "AR": "my-ar", "CFLAGS": "-O1 -DOWN_CFLAG", "CPPFLAGS": "-DOWN_CPPFLAG", "LDFLAGS": "-Wl,-z,now"}
+    done = ran([CAPI / "build", PREFIX, archive], DESTDIR=root, PATH=f"{folder}:{os.environ['PATH']}", **tools)
+    report.expect_that(done.returncode == 0 and not done.stderr, "capi/build", f"it gave {done}")
+    calls = (folder / "calls").read_text() if done.returncode == 0 else ""
+    for part in r"my-cc .*-DOWN_CPPFLAG .*-O1 -DOWN_CFLAG .*-c ", r"my-cc .*-Wl,-z,now .*-shared", r"my-ar .*libbpfcanon\.a":
+        report.expect_that(re.search(part, calls), part, f"the calls are {calls}")
+
+
+def check_failures(report, archive, folder):
+    """Each failure has a message and a status, and leaves nothing that is half written."""
+    folder.mkdir()
+    (folder / "text.a").write_text("no archive")
+    (folder / "file").write_text("no folder")
+    (folder / "taken" / "lib" / f"libbpfcanon.so.{VERSION}").mkdir(parents=True)
+    ran(["ar", "rcs", folder / "empty.a"])
+    rows = [
+        ([], {}, 2, "no prefix"),
+        (["--prefix"], {}, 2, "unknown option --prefix"),
+        (["/a", "b", "c"], {}, 2, "too many words"),
+        (['/a"b', archive], {}, 2, "the prefix has a character"),
+        (["/usr", folder / "none.a"], {}, 1, "there is no archive"),
+        (["/usr", folder / "text.a"], {}, 1, "cannot link"),
+        (["/usr", folder / "empty.a"], {}, 1, "lacks bpfcanon_proved_"),
+        (["/usr", archive], {"CC": "false"}, 1, "cannot compile"),
+        (["/usr", archive], {"CC": "no-such-compiler"}, 1, "cannot compile"),
+        (["/usr", archive], {"OBJCOPY": "false"}, 1, "cannot hide"),
+        (["/usr", archive], {"AR": "false"}, 1, "cannot make libbpfcanon.a"),
+        (["/usr", archive], {"LDFLAGS": "-lno-such-library"}, 1, "cannot link libbpfcanon.so"),
+        (["/usr", archive], {"DESTDIR": folder / "file"}, 1, "cannot make the folder"),
+        ([folder / "taken", archive], {"DESTDIR": ""}, 1, "is a folder"),
+    ]
+    for words, variables, status, message in rows:
+        done = ran([CAPI / "build", *words], **({"DESTDIR": folder / "stage"} | variables))
+        last = (done.stderr.splitlines() or [""])[-1]
+        is_right = done.returncode == status and last.startswith("capi/build: ") and message in last
+        report.expect_that(is_right, message, f"status {done.returncode}, and {done.stderr!r}")
+    report.expect_that(not (folder / "stage").exists(), "failures", "something is installed")
+    helped = ran([CAPI / "build", "--help"])
+    is_help = helped.returncode == 0 and helped.stdout.startswith("usage: capi/build") and not helped.stderr
+    report.expect_that(is_help, "--help", f"it gave {helped}")
+
+
+def main():
+    if len(sys.argv) != 2:
+        sys.exit(__doc__)
+    archive, report = pathlib.Path(sys.argv[1]).resolve(), Report()
+    with tempfile.TemporaryDirectory() as name:
+        folder = pathlib.Path(name)
+        stage = folder / "a stage"
+        root = pathlib.Path(f"{stage}{PREFIX}")
+        with report.group("capi/build into DESTDIR, twice, without rt"):
+            for umask in 0o077, 0o022:
+                os.umask(umask)
+                is_built = built(report, archive, stage)
+            if is_built:
+                check_files(report, root)
+        if is_built:
+            with report.group("symbols, the soname and versions"):
+                check_symbols(report, root)
+            with report.group("the header alone, in each standard"):
+                check_header(report, root)
+            with report.group("programs by pkg-config"):
+                check_programs(report, root, folder)
+            with report.group("names and sentences of causes"):
+                check_names(report, root)
+        with report.group("variables, and failures"):
+            check_flags(report, archive, folder / "flags")
+            check_failures(report, archive, folder / "failures")
+    return report.end("installed C library")
+
+
+if __name__ == "__main__":
+    sys.exit(main())

@@ -1,0 +1,31 @@
+/* Makes each call with NULL for inputs and outputs of length 0, and checks that no proved call gets a null pointer. */
+#include "proved_pointers.h"
+
+int main(void)
+{
+	uint8_t *block;
+	char *text;
+
+	bpfcanon_btf_canon(BPFCANON_LITTLE, NULL, 0, NULL, 0);
+	bpfcanon_btf_check(NULL, 0);
+	bpfcanon_btf_same(NULL, 0, NULL, 0);
+	bpfcanon_btf_show(NULL, 0, NULL, 0);
+	bpfcanon_insn_canon(BPFCANON_LITTLE, BPFCANON_BIG, NULL, 0, NULL, 0);
+	bpfcanon_insn_front(BPFCANON_LITTLE, BPFCANON_BIG, NULL, 0, NULL, 0);
+	bpfcanon_insn_groups(BPFCANON_LITTLE, NULL, 0);
+	bpfcanon_insn_read(BPFCANON_LITTLE, NULL, 0, NULL, 0);
+	bpfcanon_insn_same(BPFCANON_LITTLE, NULL, 0, BPFCANON_BIG, NULL, 0);
+	bpfcanon_insn_show(BPFCANON_LITTLE, NULL, 0, NULL, 0);
+	CHECK(proved_calls == 10);
+
+	CHECK(is(bpfcanon_btf_canon_new(BPFCANON_LITTLE, NULL, 0, &block), fault(BPFCANON_BTF_SHORT_HEADER, 0)));
+	CHECK(is(bpfcanon_insn_canon_new(BPFCANON_LITTLE, BPFCANON_BIG, NULL, 0, &block), written(0)));
+	bpfcanon_free(block);
+	CHECK(is(bpfcanon_insn_show_new(BPFCANON_LITTLE, NULL, 0, &text), written(0)));
+	bpfcanon_free(text);
+	CHECK(is(bpfcanon_insn_read_new(BPFCANON_LITTLE, NULL, 0, &block), written(0)));
+	bpfcanon_free(block);
+	CHECK(is(bpfcanon_btf_show_new(NULL, 0, &text), fault(BPFCANON_BTF_SHORT_HEADER, 0)));
+	CHECK(proved_calls == 15);
+	return end("null pointers");
+}

@@ -1,0 +1,42 @@
+/*
+ * Checks that no proved call gets a null pointer. A test that includes this is linked with the sources of the C part and with
+ * -Wl,--wrap for each proved call.
+ */
+#ifndef PROVED_POINTERS_H
+#define PROVED_POINTERS_H
+
+#include "checks.h"
+#include "proved.h"
+
+static long proved_calls;
+
+/* Defines a proved call that checks its pointers first. */
+#define NO_NULL(answer, call, parameters, arguments, pointers) \
+	answer __real_bpfcanon_proved_##call parameters;        \
+	answer __wrap_bpfcanon_proved_##call parameters;        \
+	answer __wrap_bpfcanon_proved_##call parameters         \
+	{                                                       \
+		CHECK(pointers);                                \
+		proved_calls++;                                 \
+		return __real_bpfcanon_proved_##call arguments; \
+	}
+
+NO_NULL(bpfcanon_answer, btf_canon, (uint32_t to, const uint8_t *bytes, size_t len, uint8_t *out, size_t room),
+        (to, bytes, len, out, room), bytes && out)
+NO_NULL(bpfcanon_answer, btf_check, (const uint8_t *bytes, size_t len), (bytes, len), bytes)
+NO_NULL(bpfcanon_answer, btf_same, (const uint8_t *a, size_t a_len, const uint8_t *b, size_t b_len), (a, a_len, b, b_len), a && b)
+NO_NULL(bpfcanon_answer, btf_show, (const uint8_t *bytes, size_t len, uint8_t *out, size_t room), (bytes, len, out, room),
+        bytes && out)
+NO_NULL(bpfcanon_answer, insn_canon, (uint32_t order, uint32_t to, const uint8_t *bytes, size_t len, uint8_t *out, size_t room),
+        (order, to, bytes, len, out, room), bytes && out)
+NO_NULL(bpfcanon_front, insn_front, (uint32_t order, uint32_t to, const uint8_t *bytes, size_t len, uint8_t *out, size_t room),
+        (order, to, bytes, len, out, room), bytes && out)
+NO_NULL(bpfcanon_answer, insn_groups, (uint32_t order, const uint8_t *bytes, size_t len), (order, bytes, len), bytes)
+NO_NULL(bpfcanon_answer, insn_read, (uint32_t to, const uint8_t *bytes, size_t len, uint8_t *out, size_t room),
+        (to, bytes, len, out, room), bytes && out)
+NO_NULL(bpfcanon_answer, insn_same, (uint32_t order, const uint8_t *a, size_t a_len, uint32_t other, const uint8_t *b, size_t b_len),
+        (order, a, a_len, other, b, b_len), a && b)
+NO_NULL(bpfcanon_answer, insn_show, (uint32_t order, const uint8_t *bytes, size_t len, uint8_t *out, size_t room),
+        (order, bytes, len, out, room), bytes && out)
+
+#endif
