@@ -16,7 +16,7 @@ pub record IsInput (j : Job) (source : Change) (input : List ℕ) : Type 0 where
   pub healthy : IsHealthy source
   pub within : length input ≤ limit_of j.verb
 
--- what the sink took, and the piece that is held behind it, are the text
+-- what the sink took and the held piece together are the text
 pub record Gathered (sink : Change) (held text : List ℕ) : Type 0 where
   pub taken : List ℕ
   pub took : Appends sink.old sink.new taken
@@ -43,7 +43,7 @@ TookText sink text (Ok done) = Appends sink.old sink.new text × IsHealthy sink
 TookText sink text (Err WriteFailed) = TookPart sink text
 TookText sink text (Err Memory) = TookFront sink text
 
--- what the sink took of a text that a call adds to, and the piece that is held behind it, by how the call ended
+-- what the sink took of a text that a call adds to, with the held piece, by how the call ended
 abbrev pub Gathers : Change → List ℕ → List ℕ → Result (Unit {0}) PutError → Type 0
 Gathers sink held text (Ok done) = Gathered sink held text
 Gathers sink held text (Err WriteFailed) = TookPart sink text
@@ -63,7 +63,7 @@ pub data Answers (j : Job) (input : List ℕ) (sink : Change) : Outcome → Type
   -- a write failed once the sink had taken the first bytes of the output
   unwritten : (outcome : Outcome) (output : List ℕ) → IsReply j.verb j input outcome output
       → TookPart sink output → Answers j input sink ends.WriteFailed
-  -- memory was refused before anything was written
+  -- memory ran out before anything was written
   refused : IsUnused sink → Answers j input sink ends.Memory
   -- memory ran out between pieces, once the sink had taken the first bytes of the output
   refused_amid : (outcome : Outcome) (output : List ℕ) → in_pieces j.verb ≡ true → IsReply j.verb j input outcome output

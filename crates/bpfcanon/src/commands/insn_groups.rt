@@ -5,7 +5,7 @@ ghost use Rattle.bpf_insn.specs.Groups.{holds};
 ghost use Rattle.bpfcanon.specs.declared.verb.Verb.TheVariants.{InsnGroups};
 ghost use Rattle.bpfcanon.specs.Devices.{sink_change, source_change};
 ghost use Rattle.bpfcanon.specs.JobEnds.{EndsJob};
-ghost use Rattle.bpfcanon.specs.commands.Reply.{IsGroupsReply, group_lines, group_name, limit_of};
+ghost use Rattle.bpfcanon.specs.commands.Reply.{IsGroupsReply, group_lines, limit_of};
 
 use crate::commands::input::read_input;
 use crate::commands::reply::{Reply, put_reply};
@@ -15,39 +15,14 @@ use bpf_canon::{ByteSink, ByteSource};
 use bpf_insn::{Group, GroupSet, InsnError, Order, decode_insns, groups_of};
 use std::alloc::{AllocError, Allocator};
 
-/// All groups, in the order in which they are listed.
-const GROUPS: [Group; 7] = [
-    Group::Base32,
-    Group::Base64,
-    Group::Atomic32,
-    Group::Atomic64,
-    Group::Divmul32,
-    Group::Divmul64,
-    Group::Packet,
-];
-
-fn group_name(group: Group) -> &'static [u8]
-    ensures { result.now ≡ group_name group }
-{
-    match group {
-        Group::Base32 => b"base32",
-        Group::Base64 => b"base64",
-        Group::Atomic32 => b"atomic32",
-        Group::Atomic64 => b"atomic64",
-        Group::Divmul32 => b"divmul32",
-        Group::Divmul64 => b"divmul64",
-        Group::Packet => b"packet",
-    }
-}
-
 /// The names of the groups of a set, each on a line of its own.
 fn group_lines<A: Allocator>(alloc: A, set: GroupSet) -> Result<Vec<u8, A>, AllocError>
     ensures { IfOk result (λ lines. lines.items ≡ group_lines (holds set)) }
 {
     let mut lines = Vec::new(alloc);
-    for group in GROUPS {
+    for group in Group::ALL {
         if set.has(group) {
-            lines.extend_from_slice(group_name(group))?;
+            lines.extend_from_slice(group.name().as_bytes())?;
             lines.push(b'\n')?;
         }
     }
