@@ -1,6 +1,6 @@
 -- How a command ends that reads its input whole.
 use Rattle.std.proofs.Common.{◌≡◌, ◌<◌, false, List, [], ℕ, inl, inr, length, refl}
-use Rattle.std.specs.Io.KnownBytes.{Consumes, IsAtEnd}
+use Rattle.std.specs.Io.KnownBytes.{Consumes}
 use Rattle.std.proofs.KnownBytes.{Appends-nil}
 use Rattle.bpfcanon.specs.declared.job.Job.{Job}
 use Rattle.bpfcanon.specs.declared.outcome.Outcome.{Outcome}
@@ -11,7 +11,7 @@ use Rattle.bpfcanon.specs.commands.BtfReply as btf
 use Rattle.bpfcanon.specs.commands.Reply.{IsReply, files_too_long, groups_too_long, has_engine, limit_of, show_too_long, streams, text_too_long}
 use Rattle.bpfcanon.specs.Devices.{Change}
 use Rattle.bpfcanon.specs.JobEnds.{EndsJob, no_memory, no_memory_in_pieces, replied, write_failed}
-use Rattle.bpfcanon.specs.commands.Pieces.{Answers, answered, refused, refused_amid, unwritten}
+use Rattle.bpfcanon.specs.commands.Pieces.{Answers, IsInput, answered, refused, refused_amid, unwritten}
 
 -- only an engine writes as it reads
 pub whole_input : (v : Verb) → has_engine v ≡ false → streams v ≡ false
@@ -39,13 +39,12 @@ ends_too_long j source sink whole came healthy same unused =
 
 -- the input was read to its end, and answered
 pub ends_answered : (j : Job) (source sink : Change) (input : List ℕ) (outcome : Outcome) → has_engine j.verb ≡ false
-    → Consumes source.old source.new input → IsAtEnd source.new → source.failed_after ≡ source.failed
-    → Answers j input sink outcome → EndsJob j source sink outcome
-ends_answered j source sink input outcome whole came ended healthy (answered told output reply took unfailed) =
-    replied input told output healthy unfailed came (inr (inl ended)) reply took
-ends_answered j source sink input outcome whole came ended healthy (unwritten told output reply part) =
-    write_failed input told output part.count (whole_input j.verb whole) healthy part.failed came (inr (inl ended)) reply part.part part.took
-ends_answered j source sink input outcome whole came ended healthy (refused unused) =
-    no_memory input (whole_input j.verb whole) healthy unused came
-ends_answered j source sink input outcome whole came ended healthy (refused_amid told output pieces reply front) =
-    no_memory_in_pieces input told output front.count pieces healthy front.healthy came (inr (inl ended)) reply front.part front.took
+    → IsInput j source input → Answers j input sink outcome → EndsJob j source sink outcome
+ends_answered j source sink input outcome whole read (answered made output reply took unfailed) =
+    replied input made output read.healthy unfailed read.came (inr (inl read.ended)) reply took
+ends_answered j source sink input outcome whole read (unwritten made output reply part) =
+    write_failed input made output part.count (whole_input j.verb whole) read.healthy part.failed read.came (inr (inl read.ended)) reply part.part part.took
+ends_answered j source sink input outcome whole read (refused unused) =
+    no_memory input (whole_input j.verb whole) read.healthy unused read.came
+ends_answered j source sink input outcome whole read (refused_amid made output pieces reply front) =
+    no_memory_in_pieces input made output front.count pieces read.healthy front.healthy read.came (inr (inl read.ended)) reply front.part front.took

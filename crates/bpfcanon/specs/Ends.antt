@@ -13,9 +13,9 @@ use Rattle.bpfcanon.specs.line.Parse.{Asks, IsRefused}
 pub data Ends (words : List Text) (source sink : Change) : Outcome → Type 0 where
   -- clap doesn't take the words
   usage : IsRefused words → IsUnused source → IsUnused sink → Ends words source sink Usage
-  -- memory was refused as the line was read
+  -- memory ran out as the line was read
   no_memory_for_line : IsUnused source → IsUnused sink → Ends words source sink Memory
-  -- the line asks for a job, and the job ended so
+  -- the line asks for a job, and this is how the job ended
   ran : (j : Job) (outcome : Outcome) → Asks words j → EndsJob j source sink outcome → Ends words source sink outcome
 
 -- a command on these words ends with this status, and the fault sink took the line of its outcome

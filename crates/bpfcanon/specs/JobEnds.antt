@@ -1,5 +1,5 @@
 -- The ways in which a job ends.
-use Rattle.std.specs.Prelude.{◌≡◌, ◌⊎◌, ◌<◌, ◌≤◌, ℕ, List, Result, Ok, Err, true, false, length, take}
+use Rattle.std.specs.Prelude.{◌≡◌, ◌⊎◌, ◌<◌, ◌≤◌, ℕ, List, true, false, length, take}
 use Rattle.std.specs.Io.KnownBytes.{Appends, Consumes, IsAtEnd}
 use Rattle.bpf_canon.specs.declared.engine.RunCause.{RunCause}
 use Rattle.bpf_canon.specs.declared.engine.RunCause.TheVariants as cause
@@ -9,13 +9,13 @@ use Rattle.bpfcanon.specs.declared.outcome.Outcome.TheVariants.{TooLong, ReadFai
 use Rattle.bpfcanon.specs.Devices.{Change, HasFailed, IsHealthy, IsUnused}
 use Rattle.bpfcanon.specs.commands.Reply.{IsEarly, IsReply, in_pieces, limit_of, streams}
 
--- how a job ends whose engine stopped, where its input has no fault
-abbrev pub end_of_stop : {F : Type 0} → RunCause F → Result Outcome F
-end_of_stop (cause.Fault f) = Err f
-end_of_stop cause.TooLong = Ok TooLong
-end_of_stop cause.ReadFailed = Ok ReadFailed
-end_of_stop cause.WriteFailed = Ok WriteFailed
-end_of_stop cause.Memory = Ok Memory
+-- how a job ends whose engine stopped; `ends` says it of a fault of the input
+abbrev pub IsEndOfStop : {F : Type 0} → (F → Outcome → Type 0) → RunCause F → Outcome → Type 0
+IsEndOfStop ends (cause.Fault f) outcome = ends f outcome
+IsEndOfStop ends cause.TooLong outcome = outcome ≡ TooLong
+IsEndOfStop ends cause.ReadFailed outcome = outcome ≡ ReadFailed
+IsEndOfStop ends cause.WriteFailed outcome = outcome ≡ WriteFailed
+IsEndOfStop ends cause.Memory outcome = outcome ≡ Memory
 
 -- what came from the source is answered early, or it was read to its end or past the limit
 abbrev pub IsRead : Job → Change → List ℕ → Type 0
@@ -31,7 +31,7 @@ abbrev pub TookPrefix : Job → Change → List ℕ → Type 0
 TookPrefix j sink input = (outcome : Outcome) (output : List ℕ) → IsReply j.verb j (take (limit_of j.verb) input) outcome output
     → (n : ℕ) × Appends sink.old sink.new (take n output)
 
--- how a job ends, by what its source and its sink did; what ends it amid the input is for a command that writes as it reads
+-- how a job ends, by what its source and its sink did; the ends amid the input are those of a command that writes as it reads
 pub data EndsJob (j : Job) (source sink : Change) : Outcome → Type 0 where
   -- the sink took the output for what came from the source
   replied : (input : List ℕ) (outcome : Outcome) (output : List ℕ) → IsHealthy source → IsHealthy sink
@@ -50,7 +50,7 @@ pub data EndsJob (j : Job) (source sink : Change) : Outcome → Type 0 where
       → n < length output → Appends sink.old sink.new (take n output) → EndsJob j source sink WriteFailed
   write_failed_amid : (input : List ℕ) → streams j.verb ≡ true → IsHealthy source → HasFailed sink
       → Consumes source.old source.new input → TookPrefix j sink input → EndsJob j source sink WriteFailed
-  -- memory was refused before anything was written
+  -- memory ran out before anything was written
   no_memory : (input : List ℕ) → streams j.verb ≡ false → IsHealthy source → IsUnused sink
       → Consumes source.old source.new input → EndsJob j source sink Memory
   -- memory ran out once the first n bytes of the output were taken, which are not all

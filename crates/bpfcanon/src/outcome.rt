@@ -3,7 +3,7 @@
 ghost use Rattle.std.specs.Prelude.{◌≡◌, ◌<◌};
 ghost use Rattle.std.specs.List.{flat_map};
 ghost use Rattle.bpfcanon.specs.Devices.{sink_change};
-ghost use Rattle.bpfcanon.specs.JobEnds.{end_of_stop};
+ghost use Rattle.bpfcanon.specs.JobEnds.{IsEndOfStop};
 ghost use Rattle.bpfcanon.specs.Outcome.{TookLine, btf_fault_line, fault_line, faulty_line, report_of, slot_fault_line, status_of};
 
 use bpf_canon::{ByteSink, RunCause, put_all};
@@ -48,6 +48,20 @@ pub enum Outcome {
 }
 
 impl Outcome {
+    /// How a job ends whose engine stopped. `fault` makes the outcome of a fault of the input.
+    pub fn of_stop<F, M: FnOnce(F) -> Outcome + Drop>(cause: RunCause<F>, fault: M) -> Outcome
+        requires { M.IsAlwaysCallable fault }
+        ensures { IsEndOfStop (M.post fault) cause result }
+    {
+        match cause {
+            RunCause::Fault(found) => fault(found),
+            RunCause::TooLong => Outcome::TooLong,
+            RunCause::ReadFailed => Outcome::ReadFailed,
+            RunCause::WriteFailed => Outcome::WriteFailed,
+            RunCause::Memory => Outcome::Memory,
+        }
+    }
+
     /// The status of the program.
     pub fn status(self) -> u8
         ensures { result ≡ status_of self }
@@ -67,19 +81,6 @@ impl Outcome {
             Outcome::Usage => 2,
             Outcome::ReadFailed | Outcome::WriteFailed | Outcome::Memory => 3,
         }
-    }
-}
-
-/// How a job ends whose engine stopped, or the fault that its input has.
-pub fn end_of_stop<F>(cause: RunCause<F>) -> Result<Outcome, F>
-    ensures { result ≡ end_of_stop cause }
-{
-    match cause {
-        RunCause::Fault(fault) => Err(fault),
-        RunCause::TooLong => Ok(Outcome::TooLong),
-        RunCause::ReadFailed => Ok(Outcome::ReadFailed),
-        RunCause::WriteFailed => Ok(Outcome::WriteFailed),
-        RunCause::Memory => Ok(Outcome::Memory),
     }
 }
 

@@ -43,23 +43,20 @@ pub enum Setting {
     Split,
 }
 
-/// All commands.
-pub const VERBS: [Verb; 9] = [
-    Verb::InsnCanon,
-    Verb::InsnShow,
-    Verb::InsnRead,
-    Verb::InsnGroups,
-    Verb::InsnSame,
-    Verb::BtfCanon,
-    Verb::BtfShow,
-    Verb::BtfCheck,
-    Verb::BtfSame,
-];
-
-/// All options.
-pub const SETTINGS: [Setting; 4] = [Setting::Order, Setting::To, Setting::Other, Setting::Split];
-
 impl Verb {
+    /// All commands.
+    pub const ALL: [Verb; 9] = [
+        Verb::InsnCanon,
+        Verb::InsnShow,
+        Verb::InsnRead,
+        Verb::InsnGroups,
+        Verb::InsnSame,
+        Verb::BtfCanon,
+        Verb::BtfShow,
+        Verb::BtfCheck,
+        Verb::BtfSame,
+    ];
+
     /// The word that names the command.
     pub fn name<'a>(self) -> &'a str
         ensures { result.now ≡ name_of self }
@@ -124,6 +121,9 @@ impl Verb {
 }
 
 impl Setting {
+    /// All options.
+    pub const ALL: [Setting; 4] = [Setting::Order, Setting::To, Setting::Other, Setting::Split];
+
     /// The word that names the option, after two dashes.
     pub fn name<'a>(self) -> &'a str
         ensures { result.now ≡ setting_name self }

@@ -1,6 +1,5 @@
 -- How btf-canon ends, by what its engine did.
 use Rattle.std.proofs.Common.{◌≡◌, ◌∙◌, ◌+◌, ℕ, [], refl, inl, inr, add-zero}
-use Rattle.std.specs.Prelude.{MatchResult}
 use Rattle.std.proofs.KnownBytes.{Appends-nil}
 use Rattle.btf_raw.specs.declared.cause.BtfFault.{BtfFault}
 use Rattle.bpf_canon.specs.btf.CanonicalBtf.{canonical}
@@ -9,12 +8,13 @@ use Rattle.bpf_canon.specs.declared.engine.RunCause.TheVariants as cause
 use Rattle.bpf_canon.specs.Engine.{counts_read, counts_write}
 use Rattle.bpf_canon.specs.btf.RunBtf.{RanBtf, StopsBtf, StopsAtBtfFault, StopsBtfRefused, StopsBtfTooLong, StopsBtfUnread, StopsBtfUnwritten}
 use Rattle.bpfcanon.specs.declared.job.Job.{Job}
+use Rattle.bpfcanon.specs.declared.outcome.Outcome.{Outcome}
 use Rattle.bpfcanon.specs.declared.outcome.Outcome.TheVariants as ends
 use Rattle.bpfcanon.specs.declared.outcome.Outcome.TheVariants.{Done, TooLong, ReadFailed, WriteFailed, Memory}
 use Rattle.bpfcanon.specs.declared.verb.Verb.TheVariants.{BtfCanon}
 use Rattle.bpfcanon.specs.commands.BtfReply.{canon_too_long, unwritten, written}
 use Rattle.bpfcanon.specs.Devices.{Change}
-use Rattle.bpfcanon.specs.JobEnds.{EndsJob, end_of_stop, no_memory, read_failed, replied, write_failed}
+use Rattle.bpfcanon.specs.JobEnds.{EndsJob, IsEndOfStop, no_memory, read_failed, replied, write_failed}
 use Rattle.bpfcanon.proofs.CommandsLemmas.InsnCanonLemmas.{devices_of}
 
 pub btf_canon_done : (j : Job) (source sink : Change) (n : ℕ) → j.verb ≡ BtfCanon → RanBtf (devices_of source sink) j.to n
@@ -54,9 +54,9 @@ btf_canon_no_memory j source sink n canon stop healthy unfailed =
 -- where the engine stopped
 pub btf_canon_stopped : (j : Job) (source sink : Change) (n : ℕ) (stop : RunCause BtfFault) → j.verb ≡ BtfCanon → StopsBtf (devices_of source sink) j.to n stop
     → source.failed_after ≡ source.failed + counts_read stop → sink.failed_after ≡ sink.failed + counts_write stop
-    → MatchResult (end_of_stop stop) (EndsJob j source sink) (λ f. EndsJob j source sink (ends.BtfFault f))
-btf_canon_stopped j source sink n (cause.Fault f) canon stop reads writes = btf_canon_fault j source sink n f canon stop (reads ∙ add-zero _) (writes ∙ add-zero _)
-btf_canon_stopped j source sink n cause.TooLong canon stop reads writes = btf_canon_too_long j source sink n canon stop (reads ∙ add-zero _) (writes ∙ add-zero _)
-btf_canon_stopped j source sink n cause.ReadFailed canon stop reads writes = btf_canon_unread j source sink n canon stop reads (writes ∙ add-zero _)
-btf_canon_stopped j source sink n cause.WriteFailed canon stop reads writes = btf_canon_unwritten j source sink n canon stop (reads ∙ add-zero _) writes
-btf_canon_stopped j source sink n cause.Memory canon stop reads writes = btf_canon_no_memory j source sink n canon stop (reads ∙ add-zero _) (writes ∙ add-zero _)
+    → (outcome : Outcome) → IsEndOfStop (λ f o. o ≡ ends.BtfFault f) stop outcome → EndsJob j source sink outcome
+btf_canon_stopped j source sink n (cause.Fault f) canon stop reads writes outcome is = rw is (btf_canon_fault j source sink n f canon stop (reads ∙ add-zero _) (writes ∙ add-zero _))
+btf_canon_stopped j source sink n cause.TooLong canon stop reads writes outcome is = rw is (btf_canon_too_long j source sink n canon stop (reads ∙ add-zero _) (writes ∙ add-zero _))
+btf_canon_stopped j source sink n cause.ReadFailed canon stop reads writes outcome is = rw is (btf_canon_unread j source sink n canon stop reads (writes ∙ add-zero _))
+btf_canon_stopped j source sink n cause.WriteFailed canon stop reads writes outcome is = rw is (btf_canon_unwritten j source sink n canon stop (reads ∙ add-zero _) writes)
+btf_canon_stopped j source sink n cause.Memory canon stop reads writes outcome is = rw is (btf_canon_no_memory j source sink n canon stop (reads ∙ add-zero _) (writes ∙ add-zero _))

@@ -91,7 +91,7 @@ numbered-append n (r ∷ v) w =
 abbrev lines : ℕ × TypeRecord → List ℕ
 lines p = record_text p.0 p.1
 
--- the text of all types behind those of a number
+-- the text of the types after the first n
 abbrev rest_of : List TypeRecord → ℕ → List ℕ
 rest_of v n = flat_map lines (enumerate_from (1 + length (take n v)) (drop n v))
 

@@ -1,6 +1,5 @@
 -- How insn-canon ends, by what its engine did.
 use Rattle.std.proofs.Common.{◌≡◌, ◌∙◌, ◌+◌, ℕ, List, [], take, refl, subst, inl, inr, arith, add-zero}
-use Rattle.std.specs.Prelude.{MatchResult}
 use Rattle.std.specs.Io.KnownBytes.{Appends}
 use Rattle.std.proofs.lemmas.List.{take-take}
 use Rattle.bpf_words.specs.declared.Order.{Order}
@@ -21,7 +20,7 @@ use Rattle.bpfcanon.specs.declared.outcome.Outcome.TheVariants.{Done, Fault, Too
 use Rattle.bpfcanon.specs.declared.verb.Verb.TheVariants.{InsnCanon}
 use Rattle.bpfcanon.specs.commands.Reply.{HasLastingFault, IsCanonReply, canonical, canonical_to_fault, canonical_to_limit}
 use Rattle.bpfcanon.specs.Devices.{Change}
-use Rattle.bpfcanon.specs.JobEnds.{EndsJob, TookAll, end_of_stop, TookPrefix, no_memory_amid, read_failed_amid, replied, write_failed_amid}
+use Rattle.bpfcanon.specs.JobEnds.{EndsJob, TookAll, IsEndOfStop, TookPrefix, no_memory_amid, read_failed_amid, replied, write_failed_amid}
 
 -- what the devices have, without their counts of failures
 abbrev pub devices_of : Change → Change → Devices
@@ -95,9 +94,9 @@ canon_no_memory j source sink n canon stop healthy unfailed =
 -- where the engine stopped
 pub canon_stopped : (j : Job) (source sink : Change) (n : ℕ) (stop : RunCause SlotFault) → j.verb ≡ InsnCanon → Stops (devices_of source sink) j.order j.to n stop
     → source.failed_after ≡ source.failed + counts_read stop → sink.failed_after ≡ sink.failed + counts_write stop
-    → MatchResult (end_of_stop stop) (EndsJob j source sink) (λ f. EndsJob j source sink (Fault f))
-canon_stopped j source sink n (cause.Fault f) canon stop reads writes = canon_fault j source sink n f canon stop (reads ∙ add-zero _) (writes ∙ add-zero _)
-canon_stopped j source sink n cause.TooLong canon stop reads writes = canon_too_long j source sink n canon stop (reads ∙ add-zero _) (writes ∙ add-zero _)
-canon_stopped j source sink n cause.ReadFailed canon stop reads writes = canon_unread j source sink n canon stop reads (writes ∙ add-zero _)
-canon_stopped j source sink n cause.WriteFailed canon stop reads writes = canon_unwritten j source sink n canon stop (reads ∙ add-zero _) writes
-canon_stopped j source sink n cause.Memory canon stop reads writes = canon_no_memory j source sink n canon stop (reads ∙ add-zero _) (writes ∙ add-zero _)
+    → (outcome : Outcome) → IsEndOfStop (λ f o. o ≡ Fault f) stop outcome → EndsJob j source sink outcome
+canon_stopped j source sink n (cause.Fault f) canon stop reads writes outcome is = rw is (canon_fault j source sink n f canon stop (reads ∙ add-zero _) (writes ∙ add-zero _))
+canon_stopped j source sink n cause.TooLong canon stop reads writes outcome is = rw is (canon_too_long j source sink n canon stop (reads ∙ add-zero _) (writes ∙ add-zero _))
+canon_stopped j source sink n cause.ReadFailed canon stop reads writes outcome is = rw is (canon_unread j source sink n canon stop reads (writes ∙ add-zero _))
+canon_stopped j source sink n cause.WriteFailed canon stop reads writes outcome is = rw is (canon_unwritten j source sink n canon stop (reads ∙ add-zero _) writes)
+canon_stopped j source sink n cause.Memory canon stop reads writes outcome is = rw is (canon_no_memory j source sink n canon stop (reads ∙ add-zero _) (writes ∙ add-zero _))

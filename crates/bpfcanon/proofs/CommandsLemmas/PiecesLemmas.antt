@@ -15,7 +15,7 @@ use Rattle.bpfcanon.specs.commands.Pieces.{Answers, Gathered, Gathers, TookText,
 use Rattle.bpfcanon.specs.commands.Reply.{IsReply, in_pieces}
 
 module _ (a b c : Option (List ℕ)) (f g h : ℕ) where
-  -- more text, of which some went to the sink
+  -- more text; some of it went to the sink
   pub gathered_more : (held kept text line : List ℕ) → Gathered (change a b f g) held text → Gathered (change b c g h) kept (held ++ line)
       → Gathered (change a c f h) kept (text ++ line)
   gathered_more held kept text line p q = record {
@@ -49,7 +49,7 @@ module _ (a b c : Option (List ℕ)) (f g h : ℕ) where
         failed = q.failed ∙ ap (λ (n : ℕ). n + 1) p.healthy;
       }
 
-  -- memory was refused amid what was held and a line more
+  -- memory ran out amid what was held and a line more
   front_then : (held text line : List ℕ) → Gathered (change a b f g) held text → TookFront (change b c g h) (held ++ line)
       → TookFront (change a c f h) (text ++ line)
   front_then held text line p q =

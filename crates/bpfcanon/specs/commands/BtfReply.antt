@@ -30,7 +30,7 @@ pub data IsBtfShowReply (limit : ℕ) (input : List ℕ) : Outcome → List ℕ 
 
 -- ---- btf-check
 
--- the line of a file without a fault: how many types it has
+-- the line of a file without a fault: its number of types
 abbrev pub count_line : ℕ → List ℕ
 count_line count = codes "ok " ++ (decimal count ++ (codes " types" ++ newline))
 
@@ -41,7 +41,7 @@ pub data IsBtfCheckReply (limit : ℕ) (input : List ℕ) : Outcome → List ℕ
 
 -- ---- btf-same
 
--- the first file is the input's first bytes, as many as `split`, and the second the rest
+-- the first file is the first `split` bytes of the input, and the second the rest
 pub data IsBtfSameReply (limit split : ℕ) (input : List ℕ) : Outcome → List ℕ → Type 0 where
   same : (v : List TypeRecord) → length input ≤ limit → split ≤ length input → Denotes (take split input) v
       → Denotes (drop split input) v → IsBtfSameReply limit split input Done (codes "same" ++ newline)

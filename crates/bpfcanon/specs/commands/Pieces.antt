@@ -1,15 +1,22 @@
--- How the answer to an input is written, whole or in pieces.
-use Rattle.std.specs.Prelude.{◌≡◌, ◌<◌, ◌++◌, ℕ, List, Result, Ok, Err, true, length, take}
-use Rattle.std.specs.Io.KnownBytes.{Appends}
+-- How a whole input is answered, with output that is written whole or in pieces. Private contracts alone cite this.
+use Rattle.std.specs.Prelude.{◌≡◌, ◌<◌, ◌≤◌, ◌++◌, ℕ, List, Result, Ok, Err, true, length, take}
+use Rattle.std.specs.Io.KnownBytes.{Appends, Consumes, IsAtEnd}
 use Rattle.bpfcanon.specs.declared.job.Job.{Job}
 use Rattle.bpfcanon.specs.declared.outcome.Outcome.{Outcome}
 use Rattle.bpfcanon.specs.declared.outcome.Outcome.TheVariants as ends
 use Rattle.bpfcanon.specs.declared.commands.pieces.PutError.{PutError}
 use Rattle.bpfcanon.specs.declared.commands.pieces.PutError.TheVariants.{WriteFailed, Memory}
 use Rattle.bpfcanon.specs.Devices.{Change, HasFailed, IsHealthy, IsUnused}
-use Rattle.bpfcanon.specs.commands.Reply.{IsReply, in_pieces}
+use Rattle.bpfcanon.specs.commands.Reply.{IsReply, in_pieces, limit_of}
 
--- what the sink took, and the piece that is held behind it, are the text
+-- the source was read to its end, and the input is all that came
+pub record IsInput (j : Job) (source : Change) (input : List ℕ) : Type 0 where
+  pub came : Consumes source.old source.new input
+  pub ended : IsAtEnd source.new
+  pub healthy : IsHealthy source
+  pub within : length input ≤ limit_of j.verb
+
+-- what the sink took and the held piece together are the text
 pub record Gathered (sink : Change) (held text : List ℕ) : Type 0 where
   pub taken : List ℕ
   pub took : Appends sink.old sink.new taken
@@ -36,7 +43,7 @@ TookText sink text (Ok done) = Appends sink.old sink.new text × IsHealthy sink
 TookText sink text (Err WriteFailed) = TookPart sink text
 TookText sink text (Err Memory) = TookFront sink text
 
--- what the sink took of a text that a call adds to, and the piece that is held behind it, by how the call ended
+-- what the sink took of a text that a call adds to, with the held piece, by how the call ended
 abbrev pub Gathers : Change → List ℕ → List ℕ → Result (Unit {0}) PutError → Type 0
 Gathers sink held text (Ok done) = Gathered sink held text
 Gathers sink held text (Err WriteFailed) = TookPart sink text
@@ -56,7 +63,7 @@ pub data Answers (j : Job) (input : List ℕ) (sink : Change) : Outcome → Type
   -- a write failed once the sink had taken the first bytes of the output
   unwritten : (outcome : Outcome) (output : List ℕ) → IsReply j.verb j input outcome output
       → TookPart sink output → Answers j input sink ends.WriteFailed
-  -- memory was refused before anything was written
+  -- memory ran out before anything was written
   refused : IsUnused sink → Answers j input sink ends.Memory
   -- memory ran out between pieces, once the sink had taken the first bytes of the output
   refused_amid : (outcome : Outcome) (output : List ℕ) → in_pieces j.verb ≡ true → IsReply j.verb j input outcome output

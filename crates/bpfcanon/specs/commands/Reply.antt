@@ -6,10 +6,9 @@ use Rattle.bpf_insn.specs.declared.insn.Insn.{Insn}
 use Rattle.bpf_insn.specs.declared.fault.SlotFault.{SlotFault}
 use Rattle.bpf_insn.specs.declared.fault.SlotCause.TheVariants.{Truncated}
 use Rattle.bpf_insn.specs.declared.group.Group.{Group}
-use Rattle.bpf_insn.specs.declared.group.Group.TheVariants.{Base32, Base64, Atomic32, Atomic64, Divmul32, Divmul64, Packet}
 use Rattle.bpf_insn.specs.Spelling.{InsnFile, file_of}
 use Rattle.bpf_insn.specs.Faults.{IsFront, IsInsnFault}
-use Rattle.bpf_insn.specs.Groups.{InGroups}
+use Rattle.bpf_insn.specs.Groups.{InGroups, all_groups, group_name}
 use Rattle.bpf_canon.specs.insn.Run as engine
 use Rattle.bpf_canon.specs.btf.RunBtf.{btf_limit}
 use Rattle.bpf_text.specs.declared.insn.fault.LineFault.{LineFault}
@@ -23,7 +22,7 @@ use Rattle.bpfcanon.specs.declared.verb.Verb.TheVariants.{InsnCanon, InsnShow, I
 use Rattle.bpfcanon.specs.Outcome.{newline}
 use Rattle.bpfcanon.specs.commands.BtfReply.{IsBtfCanonReply, IsBtfShowReply, IsBtfCheckReply, IsBtfSameReply}
 
--- how many bytes a command takes: what an engine takes, and twice that for two files
+-- the longest input of a command: the limit of an engine, and twice that for two files
 abbrev pub limit_of : Verb → ℕ
 limit_of InsnCanon = engine.limit
 limit_of InsnShow = engine.limit
@@ -88,18 +87,6 @@ pub data IsReadReply (limit : ℕ) (to : Order) (input : List ℕ) : Outcome →
 
 -- ---- insn-groups
 
-abbrev pub all_groups : List Group
-all_groups = Base32 ∷ Base64 ∷ Atomic32 ∷ Atomic64 ∷ Divmul32 ∷ Divmul64 ∷ Packet ∷ []
-
-abbrev pub group_name : Group → List ℕ
-group_name Base32 = codes "base32"
-group_name Base64 = codes "base64"
-group_name Atomic32 = codes "atomic32"
-group_name Atomic64 = codes "atomic64"
-group_name Divmul32 = codes "divmul32"
-group_name Divmul64 = codes "divmul64"
-group_name Packet = codes "packet"
-
 -- the name of each group that the test finds, on a line of its own
 abbrev pub group_lines : (Group → Bool) → List ℕ
 group_lines has = flat_map (λ g. group_name g ++ newline) (filter has all_groups)
@@ -121,7 +108,7 @@ abbrev pub verdict_line : Bool → List ℕ
 verdict_line true = codes "same" ++ newline
 verdict_line false = codes "different" ++ newline
 
--- the first file is the input's first bytes, as many as `split`, and the second the rest; each has its own order
+-- the first file is the first `split` bytes of the input, and the second the rest; each has its own order
 pub data IsSameReply (limit : ℕ) (order other : Order) (split : ℕ) (input : List ℕ) : Outcome → List ℕ → Type 0 where
   same : (l : List Insn) → length input ≤ limit → split ≤ length input → InsnFile order (take split input) l
       → InsnFile other (drop split input) l → IsSameReply limit order other split input Done (codes "same" ++ newline)
@@ -136,7 +123,7 @@ pub data IsSameReply (limit : ℕ) (order other : Order) (split : ℕ) (input : 
 
 -- ---- each command
 
--- how the job ends, and its output
+-- how a job ends, and its output
 abbrev pub IsReply : Verb → Job → List ℕ → Outcome → List ℕ → Type 0
 IsReply InsnCanon j input outcome output = IsCanonReply (limit_of InsnCanon) j.order j.to input outcome output
 IsReply InsnShow j input outcome output = IsShowReply (limit_of InsnShow) j.order input outcome output

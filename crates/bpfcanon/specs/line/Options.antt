@@ -12,7 +12,7 @@ use Rattle.bpfcanon.specs.declared.verb.Verb.TheVariants.{InsnSame}
 use Rattle.bpfcanon.specs.commands.Reply.{limit_of}
 use Rattle.bpfcanon.specs.Verbs.{all_verbs, name_of, setting_name, settings_of}
 
--- clap keeps the words that an option takes behind a reference
+-- the values of an option, to which clap keeps a reference
 abbrev pub Names : Type 0
 Names = Bor (List (Bor Text))
 

@@ -6,7 +6,7 @@ ghost use Rattle.bpfcanon.specs.Devices.{sink_change, source_change};
 ghost use Rattle.bpfcanon.specs.JobEnds.{EndsJob};
 
 use crate::job::Job;
-use crate::outcome::{Outcome, end_of_stop};
+use crate::outcome::Outcome;
 use bpf_canon::{ByteSink, ByteSource, run_btf};
 use std::alloc::Allocator;
 
@@ -24,9 +24,6 @@ pub fn run_btf_canon<A: Allocator + Copy, S: ByteSource, W: ByteSink>(
 {
     match run_btf(alloc, source, sink, job.to) {
         Ok(_) => Outcome::Done,
-        Err(error) => match end_of_stop(error.cause) {
-            Ok(outcome) => outcome,
-            Err(fault) => Outcome::BtfFault(fault),
-        },
+        Err(error) => Outcome::of_stop(error.cause, Outcome::BtfFault),
     }
 }

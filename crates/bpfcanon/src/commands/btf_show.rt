@@ -7,15 +7,17 @@ ghost use Rattle.btf_types.specs.tables.TableWords.{record_at};
 ghost use Rattle.bpf_text.specs.btf.BtfText.{head_line, item_line, record_text, text_of};
 ghost use Rattle.bpfcanon.specs.declared.verb.Verb.TheVariants.{BtfShow};
 ghost use Rattle.bpfcanon.specs.declared.commands.pieces.TheConstants.{PIECE};
-ghost use Rattle.bpfcanon.specs.Devices.{sink_change};
+ghost use Rattle.bpfcanon.specs.Devices.{sink_change, source_change};
+ghost use Rattle.bpfcanon.specs.JobEnds.{EndsJob};
 ghost use Rattle.bpfcanon.specs.commands.Pieces.{Answers, Gathers, TookText};
 ghost use Rattle.bpfcanon.specs.commands.Reply.{limit_of};
 
+use crate::commands::input::read_input;
 use crate::commands::long_names::{is_long, put_long_head, put_long_item};
 use crate::commands::pieces::{PutError, end_of_pieces, put_long_piece, put_piece};
 use crate::job::Job;
 use crate::outcome::Outcome;
-use bpf_canon::ByteSink;
+use bpf_canon::{ByteSink, ByteSource};
 use bpf_text::{append_head, append_item, head_name, is_signed, item_name};
 use btf_types::{BtfError, BtfView, Head, Item, TypeTable};
 use std::alloc::Allocator;
@@ -110,7 +112,7 @@ fn put_types<A: Allocator, W: ByteSink, T: TypeTable>(
 }
 
 /// Runs `btf-show` on its input. Nothing is written if the input has a fault.
-pub fn put_btf_show<A: Allocator + Copy, W: ByteSink>(
+fn put_btf_show<A: Allocator + Copy, W: ByteSink>(
     alloc: A,
     job: Job,
     input: &[u8],
@@ -125,5 +127,23 @@ pub fn put_btf_show<A: Allocator + Copy, W: ByteSink>(
         Ok(table) => end_of_pieces(put_types(alloc, &table, sink)),
         Err(BtfError::Fault(fault)) => Outcome::BtfFault(fault),
         Err(BtfError::Memory) => Outcome::Memory,
+    }
+}
+
+/// Runs `btf-show`.
+pub fn run_btf_show<A: Allocator + Copy, S: ByteSource, W: ByteSink>(
+    alloc: A,
+    job: Job,
+    source: &mut S,
+    sink: &mut W,
+) -> Outcome
+    requires verb { job.verb ≡ BtfShow }
+    requires source { S.failures source.old < u64.MAX }
+    requires sink { W.failures sink.old < u64.MAX }
+    ensures { EndsJob job (source_change S.ByteSource source.old source.new) (sink_change W.ByteSink sink.old sink.new) result }
+{
+    match read_input(alloc, job, source) {
+        Ok(input) => put_btf_show(alloc, job, input.as_slice(), sink),
+        Err(outcome) => outcome,
     }
 }

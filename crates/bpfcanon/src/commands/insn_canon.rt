@@ -6,7 +6,7 @@ ghost use Rattle.bpfcanon.specs.Devices.{sink_change, source_change};
 ghost use Rattle.bpfcanon.specs.JobEnds.{EndsJob};
 
 use crate::job::Job;
-use crate::outcome::{Outcome, end_of_stop};
+use crate::outcome::Outcome;
 use bpf_canon::{ByteSink, ByteSource, run_insns};
 use std::alloc::Allocator;
 
@@ -24,9 +24,6 @@ pub fn run_insn_canon<A: Allocator + Copy, S: ByteSource, W: ByteSink>(
 {
     match run_insns(alloc, source, sink, job.order, job.to) {
         Ok(_) => Outcome::Done,
-        Err(error) => match end_of_stop(error.cause) {
-            Ok(outcome) => outcome,
-            Err(fault) => Outcome::Fault(fault),
-        },
+        Err(error) => Outcome::of_stop(error.cause, Outcome::Fault),
     }
 }

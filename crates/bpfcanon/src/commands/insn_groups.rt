@@ -1,48 +1,28 @@
 //! `insn-groups`: the conformance groups that the instructions of a file need.
 
-ghost use Rattle.std.specs.Prelude.{◌≡◌, ◌≤◌, length, IfOk};
+ghost use Rattle.std.specs.Prelude.{◌<◌, ◌≡◌, ◌≤◌, length, IfOk};
 ghost use Rattle.bpf_insn.specs.Groups.{holds};
 ghost use Rattle.bpfcanon.specs.declared.verb.Verb.TheVariants.{InsnGroups};
-ghost use Rattle.bpfcanon.specs.commands.Reply.{IsGroupsReply, group_lines, group_name, limit_of};
+ghost use Rattle.bpfcanon.specs.Devices.{sink_change, source_change};
+ghost use Rattle.bpfcanon.specs.JobEnds.{EndsJob};
+ghost use Rattle.bpfcanon.specs.commands.Reply.{IsGroupsReply, group_lines, limit_of};
 
-use crate::commands::reply::Reply;
+use crate::commands::input::read_input;
+use crate::commands::reply::{Reply, put_reply};
+use crate::job::Job;
 use crate::outcome::Outcome;
+use bpf_canon::{ByteSink, ByteSource};
 use bpf_insn::{Group, GroupSet, InsnError, Order, decode_insns, groups_of};
 use std::alloc::{AllocError, Allocator};
-
-/// All groups, in the order in which they are listed.
-const GROUPS: [Group; 7] = [
-    Group::Base32,
-    Group::Base64,
-    Group::Atomic32,
-    Group::Atomic64,
-    Group::Divmul32,
-    Group::Divmul64,
-    Group::Packet,
-];
-
-fn group_name(group: Group) -> &'static [u8]
-    ensures { result.now ≡ group_name group }
-{
-    match group {
-        Group::Base32 => b"base32",
-        Group::Base64 => b"base64",
-        Group::Atomic32 => b"atomic32",
-        Group::Atomic64 => b"atomic64",
-        Group::Divmul32 => b"divmul32",
-        Group::Divmul64 => b"divmul64",
-        Group::Packet => b"packet",
-    }
-}
 
 /// The names of the groups of a set, each on a line of its own.
 fn group_lines<A: Allocator>(alloc: A, set: GroupSet) -> Result<Vec<u8, A>, AllocError>
     ensures { IfOk result (λ lines. lines.items ≡ group_lines (holds set)) }
 {
     let mut lines = Vec::new(alloc);
-    for group in GROUPS {
+    for group in Group::ALL {
         if set.has(group) {
-            lines.extend_from_slice(group_name(group))?;
+            lines.extend_from_slice(group.name().as_bytes())?;
             lines.push(b'\n')?;
         }
     }
@@ -50,7 +30,7 @@ fn group_lines<A: Allocator>(alloc: A, set: GroupSet) -> Result<Vec<u8, A>, Allo
 }
 
 /// The reply of `insn-groups`.
-pub fn insn_groups_reply<A: Allocator + Copy>(
+fn insn_groups_reply<A: Allocator + Copy>(
     alloc: A,
     order: Order,
     input: &[u8],
@@ -65,5 +45,23 @@ pub fn insn_groups_reply<A: Allocator + Copy>(
         }),
         Err(InsnError::Fault(fault)) => Ok(Reply::bare(alloc, Outcome::Fault(fault))),
         Err(InsnError::Memory) => Err(AllocError),
+    }
+}
+
+/// Runs `insn-groups`.
+pub fn run_insn_groups<A: Allocator + Copy, S: ByteSource, W: ByteSink>(
+    alloc: A,
+    job: Job,
+    source: &mut S,
+    sink: &mut W,
+) -> Outcome
+    requires verb { job.verb ≡ InsnGroups }
+    requires source { S.failures source.old < u64.MAX }
+    requires sink { W.failures sink.old < u64.MAX }
+    ensures { EndsJob job (source_change S.ByteSource source.old source.new) (sink_change W.ByteSink sink.old sink.new) result }
+{
+    match read_input(alloc, job, source) {
+        Ok(input) => put_reply(insn_groups_reply(alloc, job.order, input.as_slice()), sink),
+        Err(outcome) => outcome,
     }
 }

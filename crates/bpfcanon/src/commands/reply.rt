@@ -1,16 +1,13 @@
 //! Replies: output that is made whole, and then written.
 
-ghost use Rattle.std.specs.Prelude.{◌≡◌, ◌≤◌, [], false, length, IfOk};
-ghost use Rattle.bpfcanon.specs.commands.Reply.{IsReply, has_engine, in_pieces, limit_of};
+ghost use Rattle.std.specs.Prelude.{◌≡◌, ◌<◌, ℕ, List, [], IfOk};
+ghost use Rattle.bpfcanon.specs.declared.job.Job.{Job};
+ghost use Rattle.bpfcanon.specs.Devices.{sink_change};
+ghost use Rattle.bpfcanon.specs.commands.Pieces.{Answers};
+ghost use Rattle.bpfcanon.specs.commands.Reply.{IsReply, verdict_line, verdict_outcome};
 
-use crate::commands::btf_check::btf_check_reply;
-use crate::commands::btf_same::btf_same_reply;
-use crate::commands::insn_groups::insn_groups_reply;
-use crate::commands::insn_read::insn_read_reply;
-use crate::commands::insn_same::insn_same_reply;
-use crate::job::Job;
 use crate::outcome::Outcome;
-use crate::verb::Verb;
+use bpf_canon::{ByteSink, put_all};
 use std::alloc::{AllocError, Allocator};
 
 /// How a command ends, and its output.
@@ -35,7 +32,7 @@ impl<A: Allocator> Reply<A> {
     }
 
     /// A reply whose output is a copy of some bytes.
-    pub fn with_bytes(alloc: A, outcome: Outcome, bytes: &[u8]) -> Result<Reply<A>, AllocError>
+    fn with_bytes(alloc: A, outcome: Outcome, bytes: &[u8]) -> Result<Reply<A>, AllocError>
         ensures outcome { IfOk result (λ r. r.outcome ≡ outcome) }
         ensures output { IfOk result (λ r. r.output.items ≡ bytes.now) }
     {
@@ -44,25 +41,34 @@ impl<A: Allocator> Reply<A> {
             output: Vec::from_slice(alloc, bytes)?,
         })
     }
+
+    /// The reply about two files without a fault: the line `same` or `different`.
+    pub fn of_comparison(alloc: A, same: bool) -> Result<Reply<A>, AllocError>
+        ensures outcome { IfOk result (λ r. r.outcome ≡ verdict_outcome same) }
+        ensures output { IfOk result (λ r. r.output.items ≡ verdict_line same) }
+    {
+        if same {
+            Reply::with_bytes(alloc, Outcome::Done, b"same\n")
+        } else {
+            Reply::with_bytes(alloc, Outcome::Different, b"different\n")
+        }
+    }
 }
 
-/// The reply of a command to its whole input.
-pub fn reply_to<A: Allocator + Copy>(
-    alloc: A,
-    job: Job,
-    input: &[u8],
-) -> Result<Reply<A>, AllocError>
-    requires whole { has_engine job.verb ≡ false }
-    requires once { in_pieces job.verb ≡ false }
-    requires within { length input.now ≤ limit_of job.verb }
-    ensures { IfOk result (λ r. IsReply job.verb job input.now r.outcome r.output.items) }
+/// Writes the output of a reply. If memory ran out as the reply was made, nothing is written.
+pub fn put_reply<A: Allocator, W: ByteSink>(
+    reply: Result<Reply<A>, AllocError>,
+    sink: &mut W,
+) -> Outcome
+    requires { W.failures sink.old < u64.MAX }
+    ensures { (job : Job) (input : List ℕ) → IfOk reply (λ r. IsReply job.verb job input r.outcome r.output.items)
+        → Answers job input (sink_change W.ByteSink sink.old sink.new) result }
 {
-    match job.verb {
-        Verb::InsnCanon | Verb::InsnShow | Verb::BtfCanon | Verb::BtfShow => unreachable!(),
-        Verb::InsnRead => insn_read_reply(alloc, job.to, input),
-        Verb::InsnGroups => insn_groups_reply(alloc, job.order, input),
-        Verb::InsnSame => insn_same_reply(alloc, job, input),
-        Verb::BtfCheck => btf_check_reply(alloc, input),
-        Verb::BtfSame => btf_same_reply(alloc, job.split, input),
+    match reply {
+        Ok(reply) => match put_all(sink, reply.output.as_slice()) {
+            Ok(()) => reply.outcome,
+            Err(_) => Outcome::WriteFailed,
+        },
+        Err(AllocError) => Outcome::Memory,
     }
 }

@@ -7,7 +7,7 @@ ghost use Rattle.clap.specs.Simple.{shape_of};
 ghost use Rattle.bpfcanon.specs.Verbs.{name_of};
 ghost use Rattle.bpfcanon.specs.line.Options.{IsOrderNames, bare_program, option_of, order_option, program, shape_for, split_option};
 
-use crate::verb::{SETTINGS, Setting, VERBS, Verb};
+use crate::verb::{Setting, Verb};
 use clap::{Arg, Command, value_parser};
 use std::alloc::{AllocError, Global};
 
@@ -76,7 +76,7 @@ fn with_options<'a>(
     ensures shape { IfOk result (λ c. shape_of c ≡ shape_for orders.entry.words verb) }
     ensures local { IfOk result (λ c. (out-Command c).has_globals ≡ false) }
 {
-    for setting in SETTINGS {
+    for setting in Setting::ALL {
         if verb.takes(setting) {
             command = command.arg(setting_arg(alloc, setting, orders))?;
         }
@@ -110,7 +110,7 @@ pub fn program_command<'a>(alloc: Global, orders: OrderNames<'a>) -> Result<Comm
     ensures { IfOk result (λ c. app_of c ≡ program orders.entry.words) }
 {
     let mut program = bare_command(alloc);
-    for verb in VERBS {
+    for verb in Verb::ALL {
         program = program.subcommand(verb_command(alloc, verb, orders)?)?;
     }
     Ok(program)

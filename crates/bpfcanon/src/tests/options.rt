@@ -2,7 +2,7 @@
 
 use super::lines::check_line;
 use crate::job::Job;
-use crate::verb::{Setting, VERBS, Verb};
+use crate::verb::{Setting, Verb};
 use bpf_words::Order;
 use std::alloc::{AllocError, Global};
 use std::process::Abort;
@@ -182,7 +182,7 @@ fn check_second_files(
 
 #[test]
 fn each_choice_of_options_asks_for_its_job(rt: HostRuntime) -> Result<(), Fail> {
-    for verb in VERBS {
+    for verb in Verb::ALL {
         for order in ORDERS {
             for to in OUTPUT_ORDERS {
                 if is_taken(verb, Setting::Order, order.words)

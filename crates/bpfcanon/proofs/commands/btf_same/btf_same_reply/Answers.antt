@@ -13,8 +13,8 @@ pub returns-in-Ok : goal.returns-in-Ok
 returns-in-Ok g c =
     let two = c.in-Some.ensures.files in
     let found = rw (two.1, two.2) at c.in-Ok.ensures.same in
-    reply_with (IsBtfSameReply (limit_of BtfSame) c.args.split c.args.input.now) c.verdict.result (verdict_outcome c.in-Ok.same) (verdict_line c.in-Ok.same)
-    c.verdict.ensures.outcome c.verdict.ensures.output (compared (limit_of BtfSame) c.args.split c.args.input.now c.requires two.0 c.in-Ok.same found)
+    reply_with (IsBtfSameReply (limit_of BtfSame) c.args.split c.args.input.now) c.of_comparison.result (verdict_outcome c.in-Ok.same) (verdict_line c.in-Ok.same)
+    c.of_comparison.ensures.outcome c.of_comparison.ensures.output (compared (limit_of BtfSame) c.args.split c.args.input.now c.requires two.0 c.in-Ok.same found)
 
 pub returns-in-Err-First : goal.returns-in-Err-First
 returns-in-Err-First g c =

@@ -1,0 +1,44 @@
+//! The whole input of a command, and its two files if the command compares.
+
+ghost use Rattle.std.specs.Prelude.{◌≡◌, ◌<◌, ◌≤◌, drop, length, take, false, IfErr, IfOk, IfSome, IsNone};
+ghost use Rattle.bpfcanon.specs.Devices.{Change, IsUnused, source_change};
+ghost use Rattle.bpfcanon.specs.JobEnds.{EndsJob};
+ghost use Rattle.bpfcanon.specs.commands.Pieces.{IsInput};
+ghost use Rattle.bpfcanon.specs.commands.Reply.{has_engine};
+
+use crate::job::Job;
+use crate::outcome::Outcome;
+use bpf_canon::{ByteSource, ReadError, read_all};
+use std::alloc::Allocator;
+
+/// Reads the whole input of a command that has no engine.
+///
+/// # Errors
+///
+/// `TooLong`, `ReadFailed` or `Memory`, with which the job ends before anything is written.
+pub fn read_input<A: Allocator, S: ByteSource>(
+    alloc: A,
+    job: Job,
+    source: &mut S,
+) -> Result<Vec<u8, A>, Outcome>
+    requires whole { has_engine job.verb ≡ false }
+    requires source { S.failures source.old < u64.MAX }
+    ensures input { IfOk result (λ input. IsInput job (source_change S.ByteSource source.old source.new) input.items) }
+    ensures stopped { IfErr result (λ outcome. (sink : Change) → IsUnused sink
+        → EndsJob job (source_change S.ByteSource source.old source.new) sink outcome) }
+{
+    match read_all(alloc, source, job.verb.limit()) {
+        Ok(input) => Ok(input),
+        Err(ReadError::TooLong) => Err(Outcome::TooLong),
+        Err(ReadError::ReadFailed) => Err(Outcome::ReadFailed),
+        Err(ReadError::Memory) => Err(Outcome::Memory),
+    }
+}
+
+/// Splits an input after the first file, which has `split` bytes. `None` if the input is shorter.
+pub fn two_files(input: &[u8], split: u64) -> Option<(&[u8], &[u8])>
+    ensures files { IfSome result (λ files. (split ≤ length input.now) × (files.0.now ≡ take split input.now) × (files.1.now ≡ drop split input.now)) }
+    ensures beyond { IsNone result → length input.now < split }
+{
+    input.split_at_checked(split as usize)
+}
