@@ -132,7 +132,7 @@ def scattered(count, length):
 
 
 def one_string(shuffled, scale=1):
-    """One string with as many names at distinct offsets as there is room for."""
+    """One string with the most names at distinct offsets that there is room for."""
     length = STRINGS_LIMIT // scale - 2
     count = min(length, MOST_VALUES // scale)
     offsets = scattered(count, count) if shuffled else range(count)

@@ -3,7 +3,7 @@
 The words are 32-bit numbers in hexadecimal, as btf.rst has them; the records begin at byte 24 of the file.
 """
 
-# Fields of the header that differ from those of a file without types, which has 25 bytes; bytes that come behind the
+# Fields of the header that differ from those of a file without types, which has 25 bytes; bytes that come after the
 # 24 of the header; and the strings.
 HEADERS = [
     ("another magic", {"magic": 0xEB9E}, b"", b"\0", 0, "Magic"),
@@ -24,7 +24,7 @@ HEADERS = [
     ("strings at the limit, cut", {"str_len": 16_777_216}, b"", b"\0", 25, "FileLength"),
     ("a gap before the types", {"type_off": 4}, b"", b"\0", 8, "Sections"),
     ("a gap before the strings", {"str_off": 1}, b"", b"\0", 8, "Sections"),
-    ("a byte behind the strings", {"str_len": 1}, b"", b"\0\0", 25, "FileLength"),
+    ("a byte after the strings", {"str_len": 1}, b"", b"\0\0", 25, "FileLength"),
     ("a header that takes the strings", {"hdr_len": 25}, b"", b"\0", 25, "FileLength"),
     ("strings that begin with a letter", {}, b"", b"a\0", 24, "FirstString"),
     ("strings that end with a letter", {}, b"", b"\0a", 25, "LastString"),
@@ -40,7 +40,7 @@ STRUCT = "00000000 04000001 00000004 00000000 00000000 00000000"
 RECORDS = [
     # framing
     ("8 bytes left", "00000000 02000000", b"\0", 24, "RecordCut"),
-    ("4 bytes left behind a record", INT + "00000000", b"\0a\0", 40, "RecordCut"),
+    ("4 bytes left after a record", INT + "00000000", b"\0a\0", 40, "RecordCut"),
     ("bit 16 of info", "00000000 02010000 00000000", b"\0", 28, "InfoBits"),
     ("bit 29 of info", "00000000 22000000 00000000", b"\0", 28, "InfoBits"),
     ("kind 0", "00000000 00000000 00000000", b"\0", 28, "KindNumber"),
@@ -135,7 +135,7 @@ RECORDS = [
         56,
         "MemberInt",
     ),
-    ("a member behind the end", "00000000 04000001 00000004 00000000 00000000 00000021", b"\0", 44, "MemberPlace"),
+    ("a member after the end", "00000000 04000001 00000004 00000000 00000000 00000021", b"\0", 44, "MemberPlace"),
     ("one bit in no byte", "00000000 04000001 00000000 00000000 00000000 00000001", b"\0", 44, "MemberPlace"),
     ("a bit-field over the end", "00000000 84000001 00000001 00000000 00000000 02000007", b"\0", 44, "MemberPlace"),
     ("a FUNC's linkage", FUNC_PROTO + "00000001 0c000003 00000001", b"\0f\0", 48, "Linkage"),

@@ -133,7 +133,7 @@ KINDS = [
         b'[1] typedef "\\x09\\x0b~" type=0\n[2] typedef "\\\\x01" type=0\n',
     ),
     (
-        "a member behind 2 MB",
+        "a member after 2 MB",
         "00000000 04000001 00400000 00000000 00000000 01000000",
         b"\0",
         b'[1] struct "" size=4194304 items=1\n  member "" type=0 offset=16777216 width=0\n',
@@ -185,10 +185,10 @@ KIND_FLAGS = [
 
 # A float of 8 bytes for each name offset, and the string section; then the offsets and strings of the canonical bytes.
 LOOSE_STRINGS = [
-    ("a name that stands twice", [1, 3], b"\0a\0a\0", [1, 1], b"\0a\0"),
+    ("a name that is stored twice", [1, 3], b"\0a\0a\0", [1, 1], b"\0a\0"),
     ("names that nobody uses", [5], b"\0xy\0\0a\0z\0", [1], b"\0a\0"),
     ("names in another order", [3, 1], b"\0a\0b\0", [1, 3], b"\0b\0a\0"),
-    ("a tail that stands before its name", [1, 5], b"\0int\0unsigned int\0", [10, 1], b"\0unsigned int\0"),
+    ("a suffix that is stored before its name", [1, 5], b"\0int\0unsigned int\0", [10, 1], b"\0unsigned int\0"),
     ("a tail of a tail", [1, 3, 6], b"\0c\0bc\0abc\0", [3, 2, 1], b"\0abc\0"),
     ("the least of two names has the tail", [1, 4, 7], b"\0ya\0xa\0a\0", [1, 4, 5], b"\0ya\0xa\0"),
     ("bytes are compared from the end", [1, 5, 9], b"\0axb\0bwb\0b\0", [1, 5, 7], b"\0axb\0bwb\0"),

@@ -37,9 +37,9 @@ def different(name, line, input):
     return Example(name, line, input, Ran(1, b"different\n", b""))
 
 
-def refused(name, line, input, told, output=b""):
-    """Status 1, this line on standard error, and no output but what stood before the fault."""
-    return Example(name, line, input, Ran(1, output, told.encode() + b"\n"))
+def refused(name, line, input, message, output=b""):
+    """Status 1, this line on standard error, and no output but that of what comes before the fault."""
+    return Example(name, line, input, Ran(1, output, message.encode() + b"\n"))
 
 
 def refused_line(line):
@@ -117,8 +117,8 @@ FAULTY_INSTRUCTIONS = [
     refused("no atomic operation", "insn-canon", NO_ATOMIC_OPERATION, "fault 4 Imm"),
     refused("a reserved word", "insn-canon", RESERVED_WORD_SET, "fault 8 Reserved"),
     refused("the second immediate", "insn-canon", NEXT_IMMEDIATE_OF_A_MAP, "fault 12 NextImm"),
-    refused("a fault behind an exit", "insn-canon", EXIT + SOURCE_BESIDE_IMMEDIATE, "fault 9 Src", EXIT),
-    refused("behind an exit to big", "insn-canon --to big", MOV + CALL_BY_REGISTER, "fault 8 Opcode", MOV_BIG),
+    refused("a fault after an exit", "insn-canon", EXIT + SOURCE_BESIDE_IMMEDIATE, "fault 9 Src", EXIT),
+    refused("after an exit to big", "insn-canon --to big", MOV + CALL_BY_REGISTER, "fault 8 Opcode", MOV_BIG),
     refused("nothing is listed before a fault", "insn-show", EXIT + SOURCE_BESIDE_IMMEDIATE, "fault 9 Src"),
     refused("no group is listed before a fault", "insn-groups", EXIT + CUT_WIDE, "fault 16 Truncated"),
     refused("a capital letter", "insn-read", b"Exit", "fault line 1 Char"),
@@ -135,7 +135,7 @@ TWO_INSTRUCTION_FILES = [
     different("one file is longer", "insn-same --split 8", EXIT + EXIT + EXIT),
     refused("the second is faulty", "insn-same --split 8", EXIT + REGISTER_ELEVEN, "second: fault 1 Dst"),
     refused("the first is faulty", "insn-same --split 8", REGISTER_ELEVEN + CUT_WIDE, "first: fault 1 Dst"),
-    refused("the split is behind the end", "insn-same --split 9", EXIT, "split beyond input"),
+    refused("the split is after the end", "insn-same --split 9", EXIT, "split beyond input"),
     refused("the split comes before a fault", "insn-same --split 9", REGISTER_ELEVEN, "split beyond input"),
 ]
 
@@ -150,13 +150,13 @@ INT = bytes_of(
     "9f eb 01 00 18 00 00 00 00 00 00 00 10 00 00 00 10 00 00 00 05 00 00 00"
     "01 00 00 00 00 00 00 01 04 00 00 00 20 00 00 01 00 69 6e 74 00"
 )
-# The header has 28 bytes, the strings stand first, and one of them is named by no type.
+# The header has 28 bytes, the strings come first, and no type names one of them.
 LOOSE_INT = bytes_of(
     "9f eb 01 00 1c 00 00 00 07 00 00 00 10 00 00 00 00 00 00 00 07 00 00 00 00 00 00 00"
     "00 78 00 69 6e 74 00 03 00 00 00 00 00 00 01 04 00 00 00 20 00 00 01"
 )
 HEADER_NOT_ZERO = LOOSE_INT[:26] + b"\x01" + LOOSE_INT[27:]
-# "int" stands again at the end of "unsigned int", and shares its bytes.
+# "int" is also at the end of "unsigned int", and shares its bytes.
 TWO_NAMES_WITH_ONE_TAIL = bytes_of(
     "9f eb 01 00 18 00 00 00 00 00 00 00 20 00 00 00 20 00 00 00 0e 00 00 00"
     "01 00 00 00 00 00 00 01 04 00 00 00 20 00 00 00 0a 00 00 00 00 00 00 01 04 00 00 00 20 00 00 01"
@@ -203,7 +203,7 @@ CUT_RECORD = bytes_of(
 # "No name" by an offset whose text is empty, beside a string that no type names.
 POINTER_BEHIND_THE_TEXT = bytes_of(POINTER_HEAD + "05 00 00 00 04 00 00 00 00 00 00 02 00 00 00 00 00 69 6e 74 00")
 POINTER = bytes_of(POINTER_HEAD + "01 00 00 00 00 00 00 00 00 00 00 02 00 00 00 00 00")
-NAME_BEHIND_THE_STRINGS = POINTER_BEHIND_THE_TEXT[:24] + b"\x05" + POINTER_BEHIND_THE_TEXT[25:]
+NAME_AFTER_THE_STRINGS = POINTER_BEHIND_THE_TEXT[:24] + b"\x05" + POINTER_BEHIND_THE_TEXT[25:]
 NAMED_POINTER = POINTER_BEHIND_THE_TEXT[:24] + b"\x01" + POINTER_BEHIND_THE_TEXT[25:]
 NAME_NOT_UTF8 = NAMED_POINTER[:37] + b"\xff" + NAMED_POINTER[38:]
 # The bit offset of a member is 2^24 without kind_flag; with it, this number is offset 0 and width 1.
@@ -280,7 +280,7 @@ FAULTY_BTF = [
     refused("a long header that isn't zero", "btf-check", HEADER_NOT_ZERO, "fault 26 HeaderTail"),
     refused("a type that isn't there", "btf-canon", POINTER_TO_NOTHING, "fault 32 Reference"),
     refused("a cut record", "btf-show", CUT_RECORD, "fault 36 RecordCut"),
-    refused("a name behind the strings", "btf-check", NAME_BEHIND_THE_STRINGS, "fault 24 NameRange"),
+    refused("a name after the strings", "btf-check", NAME_AFTER_THE_STRINGS, "fault 24 NameRange"),
     refused("a name of a pointer", "btf-canon", NAMED_POINTER, "fault 24 NameUnwanted"),
     refused("a name that isn't UTF-8", "btf-show", NAME_NOT_UTF8, "fault 24 NameUtf8"),
     refused("a tag on no member", "btf-check", TAG_OF_A_THIRD_MEMBER, "fault 88 Component"),
@@ -296,7 +296,7 @@ TWO_BTF_FILES = [
     refused("the second is faulty", "btf-same --split 25", NO_TYPES + POINTER_TO_NOTHING, "second: fault 32 Reference"),
     refused("the second is empty", "btf-same --split 25", NO_TYPES, "second: fault 0 ShortHeader"),
     refused("both are empty", "btf-same --split 0", b"", "first: fault 0 ShortHeader"),
-    refused("the split is behind the end", "btf-same --split 26", NO_TYPES, "split beyond input"),
+    refused("the split is after the end", "btf-same --split 26", NO_TYPES, "split beyond input"),
     refused("the split comes before a fault", "btf-same --split 38", POINTER_TO_NOTHING, "split beyond input"),
 ]
 

@@ -5,7 +5,7 @@
  *   MOVE_AT_MOST   how many bytes a call moves at most
  *   FAIL_READ      the number of the read of standard input that fails
  *   FAIL_WRITE     the number of the write to standard output that fails
- *   FAIL_TOLD      the number of the write to standard error that fails
+ *   FAIL_MESSAGE   the number of the write to standard error that fails
  *
  * A call that fails moves nothing. What isn't set leaves its calls as they are.
  */
@@ -20,7 +20,7 @@ static ssize_t (*next_read)(int, void *, size_t);
 static ssize_t (*next_write)(int, const void *, size_t);
 
 static size_t most = (size_t)-1;
-static const char *const names[] = { "FAIL_READ", "FAIL_WRITE", "FAIL_TOLD" };
+static const char *const names[] = { "FAIL_READ", "FAIL_WRITE", "FAIL_MESSAGE" };
 static unsigned long failing[3];
 static unsigned long calls[3];
 

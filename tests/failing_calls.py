@@ -47,7 +47,7 @@ class Paced:
         self.program, self.shared_object = Program(path), os.path.abspath(shared_object)
 
     def run(self, line, given, most, **failing):
-        """Calls move so many bytes at most; `read`, `write` or `told` is the number of the call that fails."""
+        """Calls move `most` bytes at most; `read`, `write` or `message` is the number of the call that fails."""
         settings = {"LD_PRELOAD": self.shared_object, "MOVE_AT_MOST": str(most)}
         settings |= {f"FAIL_{stream.upper()}": str(number) for stream, number in failing.items()}
         return self.program.run(line, given, env=settings)
@@ -64,7 +64,7 @@ def check_each_read(paced, report):
                 ran = paced.run(line, given, 1, read=number)
                 report.expect(f"{line}, read {number}", ran, Ran(3, written, b"read failed\n"))
             ran = paced.run(line, given, 1, read=len(given) + 2)
-            report.expect(f"{line}, behind the end", ran, Ran(0, output, b""))
+            report.expect(f"{line}, after the end", ran, Ran(0, output, b""))
 
 
 def check_each_write(paced, report):
@@ -75,7 +75,7 @@ def check_each_write(paced, report):
                 ran = paced.run(line, given, 1, write=number)
                 report.expect(f"{line}, write {number}", ran, Ran(3, output[: number - 1], b"write failed\n"))
             ran = paced.run(line, given, 1, write=len(output) + 1)
-            report.expect(f"{line}, behind the end", ran, Ran(0, output, b""))
+            report.expect(f"{line}, after the end", ran, Ran(0, output, b""))
 
 
 def check_pieces(paced, report, name, line, file_and_text, failing):
@@ -100,7 +100,7 @@ def check_writes_of_pieces(paced, report):
         failing += [(1_000, 16, 14_205), (1, 1, 0), (1, 8_205, 8_204), (1, 8_206, 8_205), (1, 8_207, 8_206)]
         failing += [(1, 15_192, 15_191), (4_096, 4, 8_205)]
         check_pieces(paced, report, "types", "btf-show", long_texts.nameless(0, 900), failing)
-        # 20,022 bytes: 13 before the name, 8,192 for each of two chunks, 3,616 for the third, and 9 behind it; in
+        # 20,022 bytes: 13 before the name, 8,192 for each of two chunks, 3,616 for the third, and 9 after it; in
         # pieces of 8,205, 8,192 and 3,625 bytes
         failing = [(1_000, 1, 0), (1_000, 9, 8_000), (1_000, 10, 8_205), (1_000, 18, 16_205), (1_000, 19, 16_397)]
         failing += [(1_000, 22, 19_397), (1, 8_206, 8_205), (1, 16_398, 16_397), (1, 20_014, 20_013)]
@@ -109,15 +109,15 @@ def check_writes_of_pieces(paced, report):
 
 
 def check_faults(paced, report):
-    """The whole input is judged before the first piece, and a fault in whole slots is told before a read that fails."""
+    """The whole input is judged before the first piece, and a fault in whole slots is reported before a read that fails."""
     file, _ = long_texts.nameless(0, 900)
     unknown_type = file[:-5] + b"\0\x10\0\0\0"
     with report.group("faults beside pieces and beside reads that fail"):
-        for line, given, told in [
+        for line, given, message in [
             ("insn-show", EXIT * 3_000 + SOURCE_BESIDE_IMMEDIATE, b"fault 24001 Src\n"),
             ("btf-show", unknown_type, b"fault 10820 Reference\n"),
         ]:
-            report.expect(f"{line}, a fault behind a piece", paced.run(line, given, 4_096), Ran(1, b"", told))
+            report.expect(f"{line}, a fault after a piece", paced.run(line, given, 4_096), Ran(1, b"", message))
         faulty = EXIT + SOURCE_BESIDE_IMMEDIATE
         for given, most, right in [
             (faulty, 16, Ran(1, EXIT, b"fault 9 Src\n")),
@@ -129,11 +129,11 @@ def check_faults(paced, report):
 
 def check_fault_lines(paced, report):
     """Where the line on standard error is cut off, the status and the output are as ever."""
-    told = b"fault 9 Src\n"
+    message = b"fault 9 Src\n"
     with report.group("each write of a fault line fails"):
-        for number in range(1, len(told) + 1):
-            ran = paced.run("insn-canon", EXIT + SOURCE_BESIDE_IMMEDIATE, 1, told=number)
-            report.expect(f"write {number}", ran, Ran(1, EXIT, told[: number - 1]))
+        for number in range(1, len(message) + 1):
+            ran = paced.run("insn-canon", EXIT + SOURCE_BESIDE_IMMEDIATE, 1, message=number)
+            report.expect(f"write {number}", ran, Ran(1, EXIT, message[: number - 1]))
 
 
 def check_long_names(paced, report):

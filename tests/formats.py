@@ -2,7 +2,7 @@
 
     formats.py PROGRAM
 
-The rows stand in instruction_rows.py, listing_rows.py, fault_rows.py, btf_rows.py and btf_fault_rows.py. Each is run
+The rows are in instruction_rows.py, listing_rows.py, fault_rows.py, btf_rows.py and btf_fault_rows.py. Each is run
 by every command that reads it, in both byte orders.
 """
 
@@ -37,8 +37,8 @@ def done(output):
     return Ran(0, output, b"")
 
 
-def refused(told, output=b""):
-    return Ran(1, output, told.encode() + b"\n")
+def refused(message, output=b""):
+    return Ran(1, output, message.encode() + b"\n")
 
 
 # ---- instructions
@@ -101,7 +101,7 @@ def check_loose_listings(program, report):
     with report.group("loose listings"):
         for name, text, lines in listing_rows.ROWS:
             read = program.run("insn-read", text)
-            report.expect_that(read.status == 0 and read.told == b"", name, f"it gave {read}")
+            report.expect_that(read.status == 0 and read.message == b"", name, f"it gave {read}")
             report.expect(f"{name}, shown", program.run("insn-show", read.output), done(lines))
             report.expect(f"{name}, read again", program.run("insn-read", lines), read)
 
@@ -110,18 +110,18 @@ def check_faulty_instructions(program, report):
     with report.group(f"{len(fault_rows.INSTRUCTIONS)} faulty instructions by each command"):
         for name, row, place, cause in fault_rows.INSTRUCTIONS:
             little = bytes.fromhex(row)
-            told = f"fault {place} {cause}"
+            message = f"fault {place} {cause}"
             size = len(little)
-            behind = f"fault {place + 8} {cause}"
+            after = f"fault {place + 8} {cause}"
             for command, given, right in [
-                ("insn-canon", little, refused(told)),
-                ("insn-canon --order big", turned(little), refused(told)),
-                ("insn-canon --to big", EXIT + little, refused(behind, EXIT)),
-                ("insn-show --order big", turned(little), refused(told)),
-                ("insn-show", EXIT + little, refused(behind)),
-                ("insn-groups", little, refused(told)),
-                (f"insn-same --split {size} --order big", turned(little) + little, refused(f"first: {told}")),
-                ("insn-same --split 8 --other big", EXIT + turned(little), refused(f"second: {told}")),
+                ("insn-canon", little, refused(message)),
+                ("insn-canon --order big", turned(little), refused(message)),
+                ("insn-canon --to big", EXIT + little, refused(after, EXIT)),
+                ("insn-show --order big", turned(little), refused(message)),
+                ("insn-show", EXIT + little, refused(after)),
+                ("insn-groups", little, refused(message)),
+                (f"insn-same --split {size} --order big", turned(little) + little, refused(f"first: {message}")),
+                ("insn-same --split 8 --other big", EXIT + turned(little), refused(f"second: {message}")),
             ]:
                 report.expect(f"{name} ({command})", program.run(command, given), right)
 
@@ -130,8 +130,8 @@ def check_faulty_listings(program, report):
     with report.group(f"{len(fault_rows.LISTINGS)} faulty listings"):
         for name, text, line, cause in fault_rows.LISTINGS:
             report.expect(name, program.run("insn-read", text), refused(f"fault line {line} {cause}"))
-            behind = program.run("insn-read --to big", b"exit\n; none\n" + text + b"\n")
-            report.expect(f"{name}, behind two lines", behind, refused(f"fault line {line + 2} {cause}"))
+            after = program.run("insn-read --to big", b"exit\n; none\n" + text + b"\n")
+            report.expect(f"{name}, after two lines", after, refused(f"fault line {line + 2} {cause}"))
 
 
 # ---- BTF
@@ -186,7 +186,7 @@ def floats(names):
 
 
 def laid_out(words, strings, tail=b"", strings_first=False):
-    """A big-endian file whose header has a tail, and whose strings may stand before its types."""
+    """A big-endian file whose header has a tail, and whose strings may come before its types."""
     fields = {"hdr_len": 24 + len(tail)}
     if not strings_first:
         return btf("big", words, strings, tail, **fields)
@@ -239,13 +239,13 @@ def check_compiled_files(program, report):
         report.expect_that(right, "flow_table, its strings", f"it gave {canonical.output[24 + 540 :]}")
 
 
-def check_refused_btf(program, report, name, order, given, told):
+def check_refused_btf(program, report, name, order, given, message):
     for command, input, right in [
-        ("btf-check", given, refused(told)),
-        ("btf-canon", given, refused(told)),
-        ("btf-show", given, refused(told)),
-        (f"btf-same --split {len(given)}", given + NO_TYPES[:20], refused(f"first: {told}")),
-        (f"btf-same --split {len(NO_TYPES)}", NO_TYPES + given, refused(f"second: {told}")),
+        ("btf-check", given, refused(message)),
+        ("btf-canon", given, refused(message)),
+        ("btf-show", given, refused(message)),
+        (f"btf-same --split {len(given)}", given + NO_TYPES[:20], refused(f"first: {message}")),
+        (f"btf-same --split {len(NO_TYPES)}", NO_TYPES + given, refused(f"second: {message}")),
     ]:
         report.expect(f"{name}, {order} ({command})", program.run(command, input), right)
 

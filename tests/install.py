@@ -117,7 +117,7 @@ def check_refusals(report, folder):
         done = subprocess.run(words, stdout=subprocess.PIPE, stderr=subprocess.PIPE, timeout=SECONDS)
         refused(report, "no program", Ran(done.returncode, done.stdout, done.stderr), 1, b"is not built")
         helped = install("--help", stage)
-        is_help = helped.status == 0 and helped.output.startswith(b"usage: ./install") and not helped.told
+        is_help = helped.status == 0 and helped.output.startswith(b"usage: ./install") and not helped.message
         report.expect_that(is_help, "--help", f"it gave {helped}")
         for name in FILES:
             shown = name if not name.startswith("share/doc") else "share/doc/bpfcanon/"
@@ -126,7 +126,7 @@ def check_refusals(report, folder):
 
 def refused(report, what, ran, status, message):
     """The last line is the message of ./install; the lines before it are those of cp and its like."""
-    last = (ran.told.splitlines() or [b""])[-1]
+    last = (ran.message.splitlines() or [b""])[-1]
     is_right = ran.status == status and not ran.output and last.startswith(b"install: ") and message in last
     report.expect_that(is_right, what, f"it gave {ran}, and right is status {status} with {message!r}")
 

@@ -2,7 +2,7 @@
 
     limits.py PROGRAM
 
-Instructions and listings have 67,108,864 bytes at most, BTF 50,335,744, and two files twice as many. All of these are
+Instructions and listings have 67,108,864 bytes at most, BTF 50,335,744, and two files twice that. All of these are
 small enough to be run as they are.
 """
 
@@ -109,23 +109,23 @@ def check_names_used_often(program, report):
 # ---- what else is wrong at the limit
 
 
-def refused(told, output=b""):
-    return Ran(1, output, told.encode() + b"\n")
+def refused(message, output=b""):
+    return Ran(1, output, message.encode() + b"\n")
 
 
 def check_faults_at_the_limit(program, report):
-    """insn-canon tells a fault within the limit as it reads; the others tell first that too much came."""
+    """insn-canon reports a fault within the limit as it reads; the others first report that too much came."""
     front = EXIT * (INSTRUCTIONS - 1)
     limit = len(front) + len(EXIT)
     with report.group("instructions that are faulty, cut or too many at the limit"):
         for name, given, right in [
             ("a fault in the last slot", CALL_BY_REGISTER, refused(f"fault {limit - 8} Opcode", front)),
             ("a fault before too much", CALL_BY_REGISTER + EXIT, refused(f"fault {limit - 8} Opcode", front)),
-            ("a fault behind the limit", EXIT + CALL_BY_REGISTER, refused("too long", front + EXIT)),
+            ("a fault after the limit", EXIT + CALL_BY_REGISTER, refused("too long", front + EXIT)),
             ("a cut slot", EXIT[:7], refused(f"fault {limit - 8} Truncated", front)),
             ("a cut wide load", WIDE[:8], refused(f"fault {limit} Truncated", front)),
             ("a wide load over the limit", WIDE, refused("too long", front)),
-            ("a wide load cut behind the limit", WIDE[:9], refused("too long", front)),
+            ("a wide load cut after the limit", WIDE[:9], refused("too long", front)),
         ]:
             report.expect(f"insn-canon, {name}", run(program, "insn-canon", front + given), right)
         for line in ["insn-show", "insn-groups"]:
@@ -165,9 +165,9 @@ def check_splits_at_the_limit(program, report):
         for name, line, given, right in [
             ("the second is empty", f"insn-same --split {both}", file + file, Ran(1, b"different\n", b"")),
             ("the first is empty", "insn-same --split 0", file + file, Ran(1, b"different\n", b"")),
-            ("behind a short input", f"insn-same --split {both}", EXIT, refused("split beyond input")),
-            ("behind the end", f"insn-same --split {both}", file + file[1:], refused("split beyond input")),
-            ("behind short BTF", f"btf-same --split {both}", EXIT, refused("split beyond input")),
+            ("after a short input", f"insn-same --split {both}", EXIT, refused("split beyond input")),
+            ("after the end", f"insn-same --split {both}", file + file[1:], refused("split beyond input")),
+            ("after short BTF", f"btf-same --split {both}", EXIT, refused("split beyond input")),
             ("too much comes first", f"insn-same --split {both}", CALL_BY_REGISTER + file + file, refused("too long")),
         ]:
             report.expect(name, run(program, line, given), right)
@@ -182,7 +182,7 @@ def check_faulty_btf_at_the_limit(program, report):
             report.expect(f"{line} of more", run(program, line, zeros + b"\0"), refused("too long"))
             cut = run(program, line, file[:-1])
             report.expect(f"{line}, cut", cut, refused(f"fault {BTF_LIMIT - 1} FileLength"))
-        for split, given, told in [
+        for split, given, message in [
             (BTF_LIMIT, file, "second: fault 0 ShortHeader"),
             (BTF_LIMIT + 1, file + b"\0" + file[1:], f"first: fault {BTF_LIMIT} FileLength"),
             (BTF_LIMIT - 1, file + file[1:], f"first: fault {BTF_LIMIT - 1} FileLength"),
@@ -190,7 +190,7 @@ def check_faulty_btf_at_the_limit(program, report):
             (0, zeros + zeros + b"\0", "too long"),
         ]:
             line = f"btf-same --split {split}"
-            report.expect(f"{line} of {len(given)} bytes", run(program, line, given), refused(told))
+            report.expect(f"{line} of {len(given)} bytes", run(program, line, given), refused(message))
 
 
 def main():

@@ -1,6 +1,6 @@
 """Inputs whose text is written in pieces: listings, and the text of BTF types with many names and with long ones.
 
-A piece is as many lines, or chunks of a long name, as make 8,192 bytes or more. A chunk of a name is 2,048 of its bytes.
+A piece is the fewest lines, or chunks of a long name, that make 8,192 bytes or more. A chunk of a name is 2,048 of its bytes.
 """
 
 from examples import EXIT
@@ -37,12 +37,12 @@ def typedefs(names, strings, shown):
 
 
 def controls(count):
-    """A name of so many control characters, each of which is shown by four."""
+    """A name of `count` control characters; each is shown by four."""
     return typedefs([1], b"\0" + b"\x01" * count + b"\0", [b"\\x01" * count])
 
 
 def letters_and_controls():
-    """The first piece is what stands before the name and four chunks of letters, 8,205 bytes; the second takes more room."""
+    """The first piece is what comes before the name and four chunks of letters, 8,205 bytes; the second takes more room."""
     return typedefs([1], b"\0" + b"n" * 14_336 + b"\x01" * 2_048 + b"\0", [b"n" * 14_336 + b"\\x01" * 2_048])
 
 
@@ -53,7 +53,7 @@ def ends_of_one_string():
 
 
 def value_of_cut_characters():
-    """A value's name of characters of two bytes behind one of one byte: each chunk ends amid a character."""
+    """A value's name of characters of two bytes after one of one byte: each chunk ends amid a character."""
     name = b"n" + b"\xc3\xa9" * 5_000
     text = b'[1] enum "" unsigned size=4 items=1\n  value "%s" 7\n' % name
     return btf("little", [0, 0x0600_0001, 4, 1, 7], b"\0" + name + b"\0"), text

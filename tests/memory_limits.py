@@ -56,10 +56,10 @@ def large_lines():
     ]
 
 
-def is_refusal(ran, line, right, told=(b"no memory\n",)):
-    """Whether the program told that it had no memory, and wrote nothing that it shouldn't."""
+def is_refusal(ran, line, right, messages=(b"no memory\n",)):
+    """Whether the program reported that it is out of memory, and wrote nothing that it shouldn't."""
     written = right.output if line == "" or line.startswith(("insn-canon", "insn-show", "btf-show")) else b""
-    return ran.status == 3 and ran.told in told and written.startswith(ran.output)
+    return ran.status == 3 and ran.message in messages and written.startswith(ran.output)
 
 
 # ---- limits from the start
@@ -71,8 +71,8 @@ def run_within(program, kind, limit, line, given):
 
 def is_unloaded(ran):
     """Whether the process ended before the program began: the kernel or the loader gave up."""
-    by_kernel = ran.status < 0 and ran.told == b""
-    by_loader = ran.status == 127 and LOADER.search(ran.told) is not None
+    by_kernel = ran.status < 0 and ran.message == b""
+    by_loader = ran.status == 127 and LOADER.search(ran.message) is not None
     return ran.output == b"" and (by_kernel or by_loader)
 
 
@@ -107,16 +107,16 @@ def check_limits_from_the_start(program, report):
                 ("btf-check", examples.INT, Ran(0, b"ok 1 types\n", b"")),
                 ("leave", EXIT, examples.USAGE),
             ]:
-                told = set()
+                messages = set()
                 for pages in range(high, high + 80):
                     ran = run_within(program, kind, pages * PAGE, line, given)
                     is_right = ran == right or is_refusal(ran, line, right, (b"no memory\n", b"no words\n"))
                     report.expect_that(is_right, f"{line}, {pages} pages", f"it gave {ran}, and right is {right}")
-                    told.add(ran.told)
+                    messages.add(ran.message)
                     if ran == right:
                         break
                 report.expect_that(ran == right, f"{line}, {pages} pages", f"it still gave {ran}")
-                report.expect_that(b"no words\n" in told, line, f"no limit gave `no words`, but {told}")
+                report.expect_that(b"no words\n" in messages, line, f"no limit gave `no words`, but {messages}")
 
 
 def check_large_inputs_from_the_start(program, report):
@@ -128,7 +128,7 @@ def check_large_inputs_from_the_start(program, report):
             for limit in limits:
                 ran = run_within(program, resource.RLIMIT_AS, limit, line, given)
                 refusal = is_refusal(ran, line, right, (b"no memory\n", b"no words\n"))
-                # a signal behind the loader's first line is the program's own
+                # a signal after the loader's first line is the program's own
                 unloaded = is_unloaded(ran) and not any(answers) and not (ran.status < 0 and loader_came)
                 loader_came |= ran.status == 127
                 is_right = ran == right or refusal or unloaded
@@ -147,7 +147,7 @@ def size_of(process):
 
 
 def run_limited_amid(program, kind, more, line, given, front):
-    """Feeds the front of an input, lets the process grow by so many bytes at most, and feeds the rest."""
+    """Feeds the front of an input, lets the process grow by this many bytes at most, and feeds the rest."""
     with Running(program, line) as running:
         process = running.process
         os.write(process.stdin.fileno(), given[:front])
@@ -190,7 +190,7 @@ def check_shows_names_in_little_memory(program, report):
     text = b"".join(b'[%d] float "%s" size=8\n' % (number, name[number - 1 :]) for number in range(1, count + 1))
     with report.group("btf-show of names that share their bytes, which may grow by 8 MB"):
         ran = run_limited_amid(program, resource.RLIMIT_AS, 8 * MEGABYTE, "btf-show", given, 16_384)
-        report.expect_that(ran == Ran(0, text, b""), "btf-show", f"it ended with {ran.status}, {ran.told}, {len(ran.output)} bytes")
+        report.expect_that(ran == Ran(0, text, b""), "btf-show", f"it ended with {ran.status}, {ran.message}, {len(ran.output)} bytes")
 
 
 def main():

@@ -89,7 +89,7 @@ class Running:
         return bytes(read)
 
     def unread_input(self):
-        """How many bytes stand in the pipe before the program."""
+        """How many bytes are in the pipe before the program."""
         return unread(self.process.stdin)
 
     def end(self, output=b""):
@@ -172,8 +172,8 @@ def check_endless_inputs(program, report):
             "btf-same --split 45",
         ]:
             report.expect(f"{line} of zero bytes", program.run(line, stdin=zeros), too_long)
-        told = Ran(1, b"", b"fault 0 Opcode\n")
-        report.expect("insn-canon of zero bytes", program.run("insn-canon", stdin=zeros), told)
+        message = Ran(1, b"", b"fault 0 Opcode\n")
+        report.expect("insn-canon of zero bytes", program.run("insn-canon", stdin=zeros), message)
         with Running(program, "insn-canon") as running:
             running.feed(endless(EXIT))
             read = running.read(INSTRUCTION_LIMIT + 1)
@@ -199,7 +199,7 @@ def give_bytes(stream, given, pause_after):
 
 
 def unread(stream):
-    """How many bytes stand in a pipe."""
+    """How many bytes are in a pipe."""
     return int.from_bytes(fcntl.ioctl(stream.fileno(), termios.FIONREAD, bytes(4)), sys.byteorder)
 
 
@@ -276,7 +276,7 @@ def check_slow_readers(program, report):
 
 
 def check_silence_before_the_end(program, report):
-    """All but insn-canon write when their input has ended, and tell no fault before."""
+    """All but insn-canon write when their input has ended, and report no fault before."""
     with report.group("nothing comes before the end of the input"):
         for line, given, right in lines_by_bytes():
             if line == "" or line.startswith("insn-canon"):

@@ -111,7 +111,7 @@ def input_that_fails_once(first):
     ours, theirs = socket.socketpair()
     theirs.send(b"unread")
     ours.send(first)
-    ours.close()  # with bytes that nobody read: the other side is told once that the connection was reset
+    ours.close()  # with bytes that nobody read: the other side learns once that the connection was reset
     return theirs
 
 
@@ -198,8 +198,8 @@ def check_answers_amid_the_input(program, report):
                     read = read_within(running.stdout, len(output))
                     report.expect_that(read == output, f"{line}, instruction {turn}", f"it gave {read}")
                 running.stdin.write(CALL_BY_REGISTER)
-                told = read_within(running.stderr, len(b"fault 24 Opcode\n"))
-                report.expect_that(told == b"fault 24 Opcode\n", line, f"it told {told}")
+                message = read_within(running.stderr, len(b"fault 24 Opcode\n"))
+                report.expect_that(message == b"fault 24 Opcode\n", line, f"it wrote {message}")
                 report.expect_that(running.wait(SECONDS) == 1, line, f"status {running.returncode}")
 
 

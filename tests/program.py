@@ -13,10 +13,10 @@ class Ran(NamedTuple):
 
     status: int
     output: bytes
-    told: bytes
+    message: bytes
 
     def __str__(self):
-        return f"status {self.status}, output {shortened(self.output)}, told {shortened(self.told)}"
+        return f"status {self.status}, output {shortened(self.output)}, message {shortened(self.message)}"
 
 
 def shortened(text):
@@ -27,7 +27,7 @@ def shortened(text):
 
 
 class Program:
-    """The executable, which is started anew for each run."""
+    """The executable; each run starts it again."""
 
     def __init__(self, path):
         self.path = path
@@ -53,12 +53,12 @@ class Report:
 
     @contextlib.contextmanager
     def group(self, name):
-        """Counts the runs that are compared inside a `with`, and prints their line behind it."""
+        """Counts the runs that are compared inside a `with`, and prints their line after it."""
         runs, wrong = self.runs, self.wrong
         try:
             yield
         except subprocess.TimeoutExpired as late:
-            self.tell_wrong(f"no answer within {late.timeout} seconds: {' '.join(late.cmd)}")
+            self.report_wrong(f"no answer within {late.timeout} seconds: {' '.join(late.cmd)}")
         runs, wrong = self.runs - runs, self.wrong - wrong
         print(f"{'WRONG' if wrong else 'ok'}: {name}: {runs} runs, {wrong} wrong", flush=True)
 
@@ -70,9 +70,9 @@ class Report:
         """Counts a run; where it isn't right, says so."""
         self.runs += 1
         if not is_right:
-            self.tell_wrong(f"{what}: {otherwise}")
+            self.report_wrong(f"{what}: {otherwise}")
 
-    def tell_wrong(self, text):
+    def report_wrong(self, text):
         self.wrong += 1
         print(f"  wrong: {text}", flush=True)
 

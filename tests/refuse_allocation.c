@@ -4,7 +4,7 @@
  *
  *   REFUSE_FROM   the number of the first call that is refused
  *   REFUSE_TO     the number of the last one
- *   REFUSE_TOLD   a file descriptor: a byte is written there at each refusal, so that the tests know of it
+ *   REFUSE_REPORT   a file descriptor: a byte is written there at each refusal
  *
  * Where REFUSE_FROM isn't set, nothing is refused.
  */
@@ -22,9 +22,9 @@ static void *(*next_realloc)(void *, size_t);
 static unsigned long calls;
 static unsigned long refuse_from = (unsigned long)-1;
 static unsigned long refuse_to;
-static int told = -1;
+static int report = -1;
 
-/* The loader may allocate before the functions behind these are known: such a call fails, and isn't counted. */
+/* The loader may allocate before the next functions are known: such a call fails, and isn't counted. */
 static void *none(void)
 {
     errno = ENOMEM;
@@ -43,7 +43,7 @@ __attribute__((constructor)) static void begin(void)
     next_malloc = dlsym(RTLD_NEXT, "malloc");
     next_calloc = dlsym(RTLD_NEXT, "calloc");
     next_realloc = dlsym(RTLD_NEXT, "realloc");
-    told = (int)number_in("REFUSE_TOLD", (unsigned long)-1);
+    report = (int)number_in("REFUSE_REPORT", (unsigned long)-1);
     refuse_from = number_in("REFUSE_FROM", (unsigned long)-1);
     refuse_to = number_in("REFUSE_TO", 0);
     calls = 0;
@@ -54,7 +54,7 @@ static int is_refused(void)
     calls += 1;
     if (calls < refuse_from || calls > refuse_to)
         return 0;
-    if (told >= 0 && write(told, "r", 1) < 0)
+    if (report >= 0 && write(report, "r", 1) < 0)
         _exit(99);
     return 1;
 }

@@ -18,7 +18,7 @@ import examples
 import long_texts
 from program import Program, Report
 
-# No line takes so many allocations: a loop that comes here has found no end.
+# No line takes that many allocations: a loop that comes here has found no end.
 MOST_ALLOCATIONS = 2_000
 
 # Lines of each command that succeed.
@@ -64,7 +64,7 @@ FAULTY = [
         examples.POINTER_TO_NOTHING,
         "first: fault 32 Reference",
     ),
-    examples.refused("a split behind the end", "btf-same --split 26", examples.NO_TYPES, "split beyond input"),
+    examples.refused("a split after the end", "btf-same --split 26", examples.NO_TYPES, "split beyond input"),
 ]
 
 NAMES = [bytes([letter]) for letter in b"abcdefghijklmnopqrstuvwx"]
@@ -94,49 +94,49 @@ REFUSED_LINES = [
 
 
 def run_refused(program, shared_object, example, first, last):
-    """Runs a line with these allocations refused, and tells whether any was."""
-    told, tell = os.pipe()
+    """Runs a line with these allocations refused, and returns whether any was."""
+    reading, writing = os.pipe()
     try:
         settings = {
             "LD_PRELOAD": shared_object,
             "REFUSE_FROM": str(first),
             "REFUSE_TO": str(last),
-            "REFUSE_TOLD": str(tell),
+            "REFUSE_REPORT": str(writing),
         }
-        ran = program.run(example.line, example.input, env=settings, pass_fds=[tell])
+        ran = program.run(example.line, example.input, env=settings, pass_fds=[writing])
     finally:
-        os.close(tell)
-        with os.fdopen(told, "rb") as reader:
+        os.close(writing)
+        with os.fdopen(reading, "rb") as reader:
             was_refused = reader.read(1) != b""
     return ran, was_refused
 
 
 def is_refusal(ran, example, first_piece):
-    """Whether the program told that it had no memory, and wrote nothing that it shouldn't."""
+    """Whether the program reported that it is out of memory, and wrote nothing that it shouldn't."""
     if example.line == "" or example.line.startswith("insn-canon"):
         is_written = example.right.output.startswith(ran.output)
     else:
         is_written = ran.output in (b"", example.right.output[:first_piece])
-    return ran.status == 3 and ran.told in (b"no memory\n", b"no words\n") and is_written
+    return ran.status == 3 and ran.message in (b"no memory\n", b"no words\n") and is_written
 
 
 def refuse_each(report, program, shared_object, example, only_one, first_piece=0):
-    """Refuses the first allocation, the second and so on, until the line ends before it; returns what was told and written."""
-    told = set()
+    """Refuses the first allocation, the second and so on, until the line ends before it; returns the messages and outputs."""
+    written = set()
     what = "alone" if only_one else "and all that follow"
     for number in range(1, MOST_ALLOCATIONS):
         last = number if only_one else MOST_ALLOCATIONS
         ran, was_refused = run_refused(program, shared_object, example, number, last)
         where = f"{example.name} ({example.line}), allocation {number} {what}"
         if not was_refused:
-            report.expect(f"{where}, which there isn't", ran, example.right)
-            return told
+            report.expect(f"{where}, which does not exist", ran, example.right)
+            return written
         right = f"right is {example.right} or status 3 with `no memory` or `no words`"
         is_right = ran == example.right or is_refusal(ran, example, first_piece)
         report.expect_that(is_right, where, f"it gave {ran}, and {right}")
-        told |= {ran.told, ran.output}
-    report.tell_wrong(f"{example.name} ({example.line}): more than {MOST_ALLOCATIONS} allocations")
-    return told
+        written |= {ran.message, ran.output}
+    report.report_wrong(f"{example.name} ({example.line}): more than {MOST_ALLOCATIONS} allocations")
+    return written
 
 
 def main():
@@ -154,16 +154,16 @@ def main():
         with report.group(f"memory is refused to {len(lines)} lines {name}"):
             for example in lines:
                 for only_one in (True, False):
-                    told = refuse_each(report, program, shared_object, example, only_one)
+                    written = refuse_each(report, program, shared_object, example, only_one)
                     # each line takes memory for the words of the process, and again for clap
-                    for line in {b"no words\n", b"no memory\n"} - told:
-                        report.tell_wrong(f"{example.name} ({example.line}): no run told {line!r}")
-    with report.group("memory is refused behind a piece"):
+                    for line in {b"no words\n", b"no memory\n"} - written:
+                        report.report_wrong(f"{example.name} ({example.line}): no run wrote {line!r}")
+    with report.group("memory is refused after a piece"):
         for example, first_piece in IN_PIECES:
             for only_one in (True, False):
-                told = refuse_each(report, program, shared_object, example, only_one, first_piece)
-                if example.right.output[:first_piece] not in told:
-                    report.tell_wrong(f"{example.name}: no run ended behind the first piece")
+                written = refuse_each(report, program, shared_object, example, only_one, first_piece)
+                if example.right.output[:first_piece] not in written:
+                    report.report_wrong(f"{example.name}: no run ended after the first piece")
     return report.end("refused memory")
 
 

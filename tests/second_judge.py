@@ -28,7 +28,7 @@ class Layout(NamedTuple):
     item: tuple = ()
 
     def size(self, vlen):
-        """How many words a record with so many items has."""
+        """The number of words of a record with this vlen."""
         return 3 + len(self.words) + vlen * len(self.item)
 
 
@@ -99,7 +99,7 @@ class Record(NamedTuple):
         return range(first, first + size * self.vlen, size) if size else ()
 
     def fields(self):
-        """The number of each word behind the info, and what it is."""
+        """The number of each word after the info, and what it is."""
         yield 2, self.layout.third
         yield from enumerate(self.layout.words, 3)
         for first in self.items():
@@ -170,7 +170,7 @@ def strings_fault(sections):
 
 
 def framing_faults(pos, info, left):
-    """The faults of a record's frame, where so many bytes are left. Its info is None where it is cut."""
+    """The faults of a record's frame, where `left` bytes are left. Its info is None where it is cut."""
     if left < 12:
         yield pos, "RecordCut"
     if info is None:

@@ -22,7 +22,7 @@ TOP = pathlib.Path(__file__).resolve().parent.parent
 BASE = "bash env cat cut dirname cmp grep ls mkdir mktemp nproc rm sed tail tee test touch true uname".split()
 # What verify and the scripts below it are made of, and the stand-ins with what each does.
 EXAMPLE = "crates/bpfcanon/src/tests/library_example.rt"
-COPIED = ["verify", "README.md", "docs/LIBRARY.md", EXAMPLE, "tests/run", "tests/c_interface/run"]
+COPIED = ["verify", "README.md", "docs/LIBRARY.md", EXAMPLE, "tests/run", "tests/c_interface/run", "tests/bindings"]
 PASS = "#!/usr/bin/env bash\n"
 STAND_INS = {
     "bin/rt": PASS + "echo '1 passed, 0 failed'\n",
@@ -39,20 +39,21 @@ ROWS = [
         "without python3 and cc",
         [],
         "verify: rt ci passed, process tests skipped (no python3), C archive skipped (no python3), "
-        "C interface skipped (no archive), recipes skipped (no python3)",
+        "C interface skipped (no archive), bindings skipped (no cc), recipes skipped (no python3)",
         0,
     ),
     (
         "without cc",
         ["python3"],
         "verify: rt ci passed, process tests passed, skipped (no cc), C archive passed, "
-        "C interface skipped (no cc), recipes passed, skipped (no bpftool)",
+        "C interface skipped (no cc), bindings skipped (no cc), recipes passed, skipped (no bpftool)",
         0,
     ),
     (
         "with both, where the library can't be built",
         ["python3", "cc"],
-        "verify: rt ci passed, process tests passed, C archive passed, C interface FAILED, recipes passed, skipped (no bpftool)",
+        "verify: rt ci passed, process tests passed, C archive passed, C interface FAILED, bindings FAILED, "
+        "recipes passed, skipped (no bpftool)",
         1,
     ),
 ]

@@ -10,7 +10,7 @@
 
 enum { INT = 1, ARRAY = 3, STRUCT = 4, UNION = 5, ENUM = 6, FUNC_PROTO = 13, VAR = 14, DATASEC = 15, DECL_TAG = 17, ENUM64 = 19 };
 
-/* words behind the third, and words of an item, by kind */
+/* words after the third, and words of an item, by kind */
 static const uint8_t tail_words[20] = { [INT] = 1, [ARRAY] = 3, [VAR] = 1, [DECL_TAG] = 1 };
 static const uint8_t item_words[20] = { [STRUCT] = 3, [UNION] = 3, [ENUM] = 2, [FUNC_PROTO] = 2, [DATASEC] = 3, [ENUM64] = 3 };
 /* kinds whose third word is a type: PTR, TYPEDEF to FUNC_PROTO, VAR, DECL_TAG, TYPE_TAG */
@@ -194,7 +194,7 @@ static void walk_records(const uint8_t *types, size_t types_len, uint32_t *words
 
 	for (size_t pos = 0; pos < types_len; ) {
 		uint32_t info, kind, third;
-		size_t behind, i = 0;
+		size_t after, i = 0;
 
 		if (types_len - pos < 12)
 			refuse("RecordCut", pos);
@@ -203,8 +203,8 @@ static void walk_records(const uint8_t *types, size_t types_len, uint32_t *words
 		third = word(types + pos + 8);
 		if (kind == 0 || kind > 19 || info & 0x60ff0000)
 			refuse("InfoBits", pos + 4);
-		behind = tail_words[kind] + (size_t)item_words[kind] * (info & 0xffff);
-		if ((types_len - pos - 12) / 4 < behind)
+		after = tail_words[kind] + (size_t)item_words[kind] * (info & 0xffff);
+		if ((types_len - pos - 12) / 4 < after)
 			refuse("TailCut", pos + 12);
 		*words++ = note_name(word(types + pos), pos);
 		*words++ = info;
@@ -214,14 +214,14 @@ static void walk_records(const uint8_t *types, size_t types_len, uint32_t *words
 		if (typed_kinds >> kind & 1 && third > top)
 			top = third;
 		if (item_words[kind] && kind != DATASEC)
-			for (; i < behind; i += item_words[kind], pos += 4 * item_words[kind]) {
+			for (; i < after; i += item_words[kind], pos += 4 * item_words[kind]) {
 				*words++ = note_name(word(types + pos), pos);
 				for (int j = 1; j < item_words[kind]; j++)
 					*words++ = word(types + pos + 4 * j);
 				if ((kind == STRUCT || kind == UNION || kind == FUNC_PROTO) && word(types + pos + 4) > top)
 					top = word(types + pos + 4);
 			}
-		for (; i < behind; i++, pos += 4)
+		for (; i < after; i++, pos += 4)
 			*words++ = word(types + pos);
 	}
 	if (top > count)

@@ -48,7 +48,7 @@ def compare(report, library, file, origin):
     right = [(ended, little), (ended, big), (alike, 0, 0) if ended == NO_FAULT else ended]
     report.runs += 1
     if answers != right:
-        report.tell_wrong(f"{file.hex()}: it gave {answers}, and right is {right}")
+        report.report_wrong(f"{file.hex()}: it gave {answers}, and right is {right}")
 
 
 def same(library, first, second):

@@ -3,7 +3,6 @@ pub mod ComparedFiles
 pub mod CanonicalSpells
 pub mod CanonicalFiles
 pub mod WorkedBtf
-pub mod TailSteps
 pub mod HostLaws
 pub mod BtfFiles
 pub mod Write

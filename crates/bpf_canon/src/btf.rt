@@ -6,4 +6,5 @@ pub(crate) mod names;
 pub(crate) mod run;
 pub(crate) mod same;
 pub(crate) mod strings;
+mod suffixes;
 pub(crate) mod write;

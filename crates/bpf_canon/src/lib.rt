@@ -3,6 +3,7 @@
 
 mod btf;
 mod device;
+mod engine;
 mod insn;
 #[cfg(test)]
 mod tests;
@@ -18,9 +19,10 @@ pub use device::memory::{MemSink, MemSource};
 pub use device::sink::{ByteSink, put_all};
 pub use device::source::{ByteSource, ReadError, read_all};
 pub use device::standard::{ReaderSource, WriterSink};
-pub use insn::canon::canon_insns;
+pub use engine::{RunCause, RunError, SideError};
+pub use insn::canon::{canon_insns, recode_insns};
 pub use insn::feed::InsnFeed;
 pub use insn::laws;
-pub use insn::run::{INSN_LIMIT, RunCause, RunError, run_insns};
-pub use insn::same::{SideError, same_insns};
+pub use insn::run::{INSN_LIMIT, run_insns};
+pub use insn::same::same_insns;
 pub use insn::write::write_insns;

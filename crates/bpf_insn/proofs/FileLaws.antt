@@ -126,7 +126,7 @@ cons_same e f = cc
 nothing_begins : (order : Order) (i : Insn) (r : List ℕ) → [] ≡ spelling order i ++ r → ⊥
 nothing_begins order i r e = omega (arith, ap length e, length-append (spelling order i) r, at_least_a_slot order i)
 
--- two sequences of spellings with which bytes begin: the one is a front of the other
+-- two sequences of spellings with which bytes begin: one is a prefix of the other
 -- (if what follows the first begins with no spelling, it is the longer)
 pub longest_front : (order : Order) (xs ys : List Insn) (r q : List ℕ) → All IsInsn xs → All IsInsn ys → file_of order xs ++ r ≡ file_of order ys ++ q
     → ((i : Insn) → ¬ BeginsWith order i r) → length ys ≤ length xs
@@ -168,9 +168,9 @@ rest_of_file order (i ∷ xs) (j ∷ ys) r hx hy e none =
     rest_of_file order xs ys r (All-tail IsInsn i xs hx) (All-tail IsInsn j ys hy) (rests_same order i j (file_of order xs ++ r) (file_of order ys) same whole) none
 
 -- what follows a sequence of spellings and begins with none, and isn't empty, is at fault
-pub file_fault : (order : Order) (bytes : List ℕ) (xs : List Insn) (rest : List ℕ) (fault told : SlotFault) → All IsInsn xs → bytes ≡ file_of order xs ++ rest → rest ≢ []
-    → IsSlotFault order rest fault → told.pos ≡ length (file_of order xs) + fault.pos → told.cause ≡ fault.cause → IsInsnFault order bytes told
-file_fault order bytes xs rest fault told h e ne f p c =
+pub file_fault : (order : Order) (bytes : List ℕ) (xs : List Insn) (rest : List ℕ) (fault reported : SlotFault) → All IsInsn xs → bytes ≡ file_of order xs ++ rest → rest ≢ []
+    → IsSlotFault order rest fault → reported.pos ≡ length (file_of order xs) + fault.pos → reported.cause ≡ fault.cause → IsInsnFault order bytes reported
+file_fault order bytes xs rest fault reported h e ne f p c =
     let longest : (others : List Insn) (more : List ℕ) → All IsInsn others → bytes ≡ file_of order others ++ more → length others ≤ length xs =
     λ others more ho eo. longest_front order xs others rest more h ho (sym e ∙ eo) f.unspelled in
     record {
@@ -184,7 +184,7 @@ file_fault order bytes xs rest fault told h e ne f p c =
       cause = c;
     }
 
--- a fault is told within the bytes
+-- the place of a fault is within the bytes
 pub fault_within : (order : Order) (s : List ℕ) (at : ℕ) (cause : SlotCause) → IsSlotFault order s (record { pos = at; cause = cause }) → at ≤ length s
 fault_within order s at Truncated f = elim f.first [ inl h ↦ omega (arith, h.1) | inr h ↦ omega (arith, h.0, h.3) ]
 fault_within order s at Opcode f = omega (arith, f.first.2)

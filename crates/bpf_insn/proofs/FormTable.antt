@@ -1,4 +1,4 @@
--- A table of the forms of 256 opcodes is held against the definition.
+-- A table of the forms of 256 opcodes agrees with the definition.
 use Rattle.std.proofs.Common.{◌≡◌, ℕ, zero, suc, ◌<◌, List, [], ◌∷◌, Option, None, inl, inr, get_or, drop, ap, arith}
 use Rattle.std.proofs.lemmas.Bool.{cases_eq}
 use Rattle.bpf_insn.specs.declared.form.Form.{Form}
@@ -15,5 +15,5 @@ same_at f g (suc n) e k h = elim (cases_eq k n) [
   | inr other ↦ same_at f g n (ap (λ (xs : List (Option Form)). drop 1 xs) e) k (omega arith)
 ]
 
-pub forms_told : (f g : ℕ → Option Form) → forms_below f 256 ≡ forms_below g 256 → (n : ℕ) → n < 256 → f n ≡ g n
-forms_told f g e n h = same_at f g 256 e n h
+pub same_forms : (f g : ℕ → Option Form) → forms_below f 256 ≡ forms_below g 256 → (n : ℕ) → n < 256 → f n ≡ g n
+same_forms f g e n h = same_at f g 256 e n h

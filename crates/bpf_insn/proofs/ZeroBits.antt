@@ -29,8 +29,8 @@ same_at f g (suc n) e k h = elim (cases_eq k n) [
   | inr other ↦ same_at f g n (ap (λ (xs : List ℕ). drop 1 xs) e) k (omega arith)
 ]
 
-pub table_told : (f g : ℕ → ℕ) → listed f 256 ≡ listed g 256 → (n : ℕ) → n < 256 → f n ≡ g n
-table_told f g e n h = same_at f g 256 e n h
+pub same_table : (f g : ℕ → ℕ) → listed f 256 ≡ listed g 256 → (n : ℕ) → n < 256 → f n ≡ g n
+same_table f g e n h = same_at f g 256 e n h
 
 -- ---- the number of a slot, by its fields
 
@@ -43,10 +43,10 @@ off_of order f = from_le_bytes w16 (word16 order (cast_unsigned w16 f.off))
 imm_of : Order → Fields → ℕ
 imm_of order f = from_le_bytes w32 (word32 order (cast_unsigned w32 f.imm))
 
-number_of : (order : Order) (f : Fields) → from_le_bytes w64 (spelled order f) ≡ joined f.opcode (register_byte order f.dst f.src) (off_of order f) (imm_of order f)
+number_by_fields : (order : Order) (f : Fields) → from_le_bytes w64 (spelled order f) ≡ joined f.opcode (register_byte order f.dst f.src) (off_of order f) (imm_of order f)
 unfolding off_of imm_of
-number_of Little f = omega arith
-number_of Big f = omega arith
+number_by_fields Little f = omega arith
+number_by_fields Big f = omega arith
 
 -- ---- each part by itself
 
@@ -150,7 +150,7 @@ within order f r a e above =
     let parts = joined_zero _ _ _ _ (
     sym (and_joined f.opcode (register_byte order f.dst f.src) (off_of order f) (imm_of order f) (register_byte order D S) (zero_unless r.any_off 0xffff) (zero_unless r.any_imm 0xffffffff)
     a.opcode (registers_below order f.dst f.src a.dst a.src) (registers_below order D S (below r.any_dst 15) (below r.any_src 15)) (off_below order f) (below r.any_off 0xffff))
-    ∙ sym (ap (λ (x : ℕ). bit_and x (joined 0 (register_byte order D S) (zero_unless r.any_off 0xffff) (zero_unless r.any_imm 0xffffffff))) (number_of order f))
+    ∙ sym (ap (λ (x : ℕ). bit_and x (joined 0 (register_byte order D S) (zero_unless r.any_off 0xffff) (zero_unless r.any_imm 0xffffffff))) (number_by_fields order f))
     ∙ sym (ap (λ (x : ℕ). bit_and (from_le_bytes w64 (spelled order f)) x) (rule_joined order r))
     ∙ e) in
     let regs = no_registers order _ _ (sym (and_registers order f.dst f.src D S a.dst a.src (below r.any_dst 15) (below r.any_src 15)) ∙ parts.0) in
@@ -179,11 +179,11 @@ second_byte Big f = refl
 is_zero : (n : ℕ) (b : Bool) → b ≡ (n == 0) → b ≡ true → n ≡ 0
 is_zero n b e t = grind (arith, nat_tests)
 
--- what is told of a slot by its bytes
-pub told_plain : (order : Order) (f : Fields) (bytes : List ℕ) (word bits above : ℕ) → AreFields f → bytes ≡ spelled order f → word ≡ from_le_bytes w64 bytes
+-- a slot is plain by its bits
+pub plain_by_bits : (order : Order) (f : Fields) (bytes : List ℕ) (word bits above : ℕ) → AreFields f → bytes ≡ spelled order f → word ≡ from_le_bytes w64 bytes
     → bits ≡ zero_bits_at order f.opcode → above ≡ registers_above (slice_index bytes 1) → IsTrue (bit_or (bit_and (bit_or word 1) bits) above == 0) → IsPlain f
-told_plain order f bytes word bits above a e hw hb ha told =
-    let h = is_zero (bit_or (bit_and (bit_or word 1) bits) above) _ refl told in
+plain_by_bits order f bytes word bits above a e hw hb ha reported =
+    let h = is_zero (bit_or (bit_and (bit_or word 1) bits) above) _ refl reported in
     let left : bit_and (bit_or word 1) bits ≡ 0 = omega (arith, h, le_or_l (bit_and (bit_or word 1) bits) above) in
     let right : above ≡ 0 = omega (arith, h, le_or_r (bit_and (bit_or word 1) bits) above) in
     let number : word ≡ from_le_bytes w64 (spelled order f) = hw ∙ ap (from_le_bytes w64) e in

@@ -1,4 +1,4 @@
--- The names of the causes of instructions' faults.
+-- The causes of instructions' faults: their names, and a sentence for each.
 use Rattle.std.specs.Prelude.{ℕ, List, codes}
 use Rattle.bpf_insn.specs.declared.fault.SlotCause.{SlotCause}
 use Rattle.bpf_insn.specs.declared.fault.SlotCause.TheVariants as cause
@@ -12,3 +12,14 @@ cause_name cause.Offset = codes "Offset"
 cause_name cause.Imm = codes "Imm"
 cause_name cause.Reserved = codes "Reserved"
 cause_name cause.NextImm = codes "NextImm"
+
+-- what is wrong, for people
+abbrev pub cause_sentence : SlotCause → List ℕ
+cause_sentence cause.Truncated = codes "the input ends inside an instruction"
+cause_sentence cause.Opcode = codes "no instruction has this opcode"
+cause_sentence cause.Dst = codes "no instruction with this opcode has this destination register"
+cause_sentence cause.Src = codes "no instruction with this opcode has this source register"
+cause_sentence cause.Offset = codes "no instruction with this opcode and these registers has this offset"
+cause_sentence cause.Imm = codes "no instruction with this opcode, these registers and this offset has this immediate"
+cause_sentence cause.Reserved = codes "the second slot of a wide load has an opcode, a register or an offset that is not zero"
+cause_sentence cause.NextImm = codes "the immediate of the second slot is not zero, and this kind of wide load has one number only"

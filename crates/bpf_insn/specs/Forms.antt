@@ -1,5 +1,5 @@
--- Forms: what an opcode alone says of an instruction, and which values each form allows in each field
--- after it. No contract of a public function cites this file.
+-- Forms: what an opcode alone determines, and which values each form allows in each field after it.
+-- No contract of a public function cites this file.
 use Rattle.std.specs.Prelude.{◌≡◌, ◌≢◌, ◌==◌, List, length, slice_range, ℕ, ◌/◌, ◌%◌, ◌<◌, ◌≤◌, ℤ, pos, Option, Some, None, if◌then◌else◌, ◌⊎◌, option_and_then}
 use Rattle.bpf_words.specs.declared.Order.{Order}
 use Rattle.bpf_words.specs.Words.{word32}
@@ -29,8 +29,8 @@ use Rattle.bpf_insn.specs.declared.form.AluCode.{AluCode}
 use Rattle.bpf_insn.specs.declared.form.AluCode.TheVariants as code
 use Rattle.bpf_insn.specs.declared.fault.SlotCause.{SlotCause}
 use Rattle.bpf_insn.specs.declared.fault.SlotCause.TheVariants.{Truncated, Opcode, Dst, Src, Offset, Imm, Reserved, NextImm}
-use Rattle.bpf_insn.specs.declared.form.Head.{Head}
-use Rattle.bpf_insn.specs.declared.form.Head.TheVariants.{Whole, WideHead}
+use Rattle.bpf_insn.specs.declared.first_slot.FirstSlot.{FirstSlot}
+use Rattle.bpf_insn.specs.declared.first_slot.FirstSlot.TheVariants.{Whole, OfWideLoad}
 use Rattle.bpf_insn.specs.declared.form.Form.{Form}
 use Rattle.bpf_insn.specs.declared.form.Form.TheVariants.{Alu, Neg, Swap, Jump, JumpLong, Branch, Call, Exit, Load, LoadSigned, StoreImm, StoreReg, Atomic, Wide, PacketAbs, PacketInd}
 
@@ -267,26 +267,26 @@ MakesOperand source s k (Some arg) =
 -- ---- the fault of a slot, by its fields
 
 -- which field after the opcode a form does not allow, the earlier ones being allowed
-abbrev pub Refuses : Form → Fields → SlotCause → Type 0
-Refuses f slot Dst = ¬ AllowsDst f slot.dst
-Refuses f slot Src = AllowsDst f slot.dst × ¬ AllowsSrc f slot.src
-Refuses f slot Offset = AllowsDst f slot.dst × AllowsSrc f slot.src × ¬ AllowsOff f slot.src slot.off
-Refuses f slot Imm =
+abbrev pub RejectsField : Form → Fields → SlotCause → Type 0
+RejectsField f slot Dst = ¬ AllowsDst f slot.dst
+RejectsField f slot Src = AllowsDst f slot.dst × ¬ AllowsSrc f slot.src
+RejectsField f slot Offset = AllowsDst f slot.dst × AllowsSrc f slot.src × ¬ AllowsOff f slot.src slot.off
+RejectsField f slot Imm =
     AllowsDst f slot.dst × AllowsSrc f slot.src × AllowsOff f slot.src slot.off × ¬ AllowsImm f slot.imm
-Refuses f slot _ = ⊥
+RejectsField f slot _ = ⊥
 
 abbrev pub IsFaultOf : Option Form → Fields → SlotCause → Type 0
 IsFaultOf None slot Opcode = Unit {0}
 IsFaultOf None slot _ = ⊥
-IsFaultOf (Some f) slot cause = Refuses f slot cause
+IsFaultOf (Some f) slot cause = RejectsField f slot cause
 
 abbrev pub IsFieldFault : Fields → SlotCause → Type 0
 IsFieldFault slot cause = IsFaultOf (form_at slot.opcode) slot cause
 
 -- a whole instruction, or the first slot of a wide one
-abbrev pub IsHead : Fields → Head → Type 0
-IsHead slot (Whole i) = IsInsn i × (fields_of i ≡ slot) × (next_imm_of i ≡ None)
-IsHead slot (WideHead d s k) = (s.number ≤ 6) × IsImm k × (slot ≡ fields 0x18 d.number s.number (pos 0) k)
+abbrev pub IsFirstSlot : Fields → FirstSlot → Type 0
+IsFirstSlot slot (Whole i) = IsInsn i × (fields_of i ≡ slot) × (next_imm_of i ≡ None)
+IsFirstSlot slot (OfWideLoad d s k) = (s.number ≤ 6) × IsImm k × (slot ≡ fields 0x18 d.number s.number (pos 0) k)
 
 -- ---- the second slot of a wide load
 
@@ -311,7 +311,7 @@ abbrev pub IsWideInsn : Order → Fields → List ℕ → Insn → Type 0
 IsWideInsn order slot rest i =
     IsInsn i × (fields_of i ≡ slot) × (8 ≤ length rest) × (slice_range rest 0 8 ≡ second_slot order (next_imm_of i))
 
--- where a fault of a second slot is told
+-- the place of a fault of a second slot
 abbrev pub wide_place : SlotCause → ℕ
 wide_place Truncated = 8
 wide_place cause = place cause

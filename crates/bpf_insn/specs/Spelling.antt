@@ -18,8 +18,8 @@ unfoldable pub spelling : Order → Insn → List ℕ
 spelling order i = spelled order (fields_of i) ++ second_slot order (next_imm_of i)
 
 -- the bytes are those of the instruction
-abbrev pub Spells : Order → Insn → List ℕ → Type 0
-Spells order i bytes = IsInsn i × (bytes ≡ spelling order i)
+abbrev pub SpellsInsn : Order → Insn → List ℕ → Type 0
+SpellsInsn order i bytes = IsInsn i × (bytes ≡ spelling order i)
 
 -- the spellings of instructions, one after another
 abbrev pub file_of : Order → List Insn → List ℕ

@@ -1,7 +1,7 @@
-//! Instructions by families, each read and written in one file.
+//! Families of instructions. Each is read and written in one file.
 //!
-//! Reading goes from the opcode to the form, and from the form and the other fields to the instruction;
-//! writing from the instruction to its slot.
+//! The reader goes from the opcode to the form, and from the form and the other fields to the
+//! instruction. The writer goes from the instruction to its slot.
 
 pub(crate) mod arithmetic;
 pub(crate) mod jump;

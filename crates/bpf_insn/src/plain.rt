@@ -1,21 +1,20 @@
-//! Instructions that are told by tables.
+//! Plain instructions, which two tables recognise.
 //!
-//! In most instructions each field after the opcode is judged by itself: it has to be 0, or it may have any value, but
-//! for a register above 10. So a slot is judged at once, as a number of 64 bits, by the bits that have to be 0 for its
-//! opcode, and by whether a register is above 10. The others are left to be read: wide loads, byte swaps, atomic
-//! operations, operations with an offset, and calls of anything but helpers.
+//! In a plain instruction, each field after the opcode is either 0 or free, and registers are at most r10. So the slot
+//! is judged at once, as a number of 64 bits: a table has the bits that must be 0 for each opcode, and another one the
+//! number of registers above r10. These are not plain: wide loads, byte swaps, atomic operations, operations with an
+//! offset, and calls of anything but helpers.
 
 ghost use Rattle.std.specs.Prelude.{◌≡◌, IsTrue};
 ghost use Rattle.bpf_words.specs.Slots.{AreFields, Fields, spelled};
 ghost use Rattle.bpf_insn.specs.Plain.{IsPlain, registers_above, zero_bits_at};
 
-use crate::{Order, Slot};
-use bpf_words::slot_of;
+use crate::Order;
 
-/// An opcode that is left to be read. Bit 0 is set before a slot is judged.
+/// An opcode without plain instructions. Bit 0 of a slot is set before it is judged, so this mask refuses all of them.
 const NONE: u64 = 1;
 
-/// A destination and an immediate.
+/// A destination and an immediate are free; all other bits after the opcode must be 0. So for each mask below.
 const IMM_LITTLE: u64 = 0x0000_0000_ffff_f000;
 
 const IMM_BIG: u64 = 0x0000_0000_ffff_0f00;
@@ -50,8 +49,8 @@ const ID: u64 = 0x0000_0000_ffff_ff00;
 /// No field but the opcode.
 const EXIT: u64 = 0xffff_ffff_ffff_ff00;
 
-/// The bits that have to be 0 for each opcode: a row for its five high bits, and in it a place for each class, LD, LDX,
-/// ST, STX, ALU, JMP, JMP32 and ALU64. Those of one register's half depend on the byte order.
+/// The bits that must be 0 for each opcode: a row for each value of its five high bits, with an entry for each class: LD,
+/// LDX, ST, STX, ALU, JMP, JMP32 and ALU64. The bits of a single register depend on the byte order.
 macro_rules! by_opcode {
     ($imm:expr, $imm_off:expr, $dst:expr, $src_imm:expr) => {
         [
@@ -99,7 +98,7 @@ static ZERO_LITTLE: [u64; 256] = by_opcode!(IMM_LITTLE, IMM_OFF_LITTLE, DST_LITT
 
 static ZERO_BIG: [u64; 256] = by_opcode!(IMM_BIG, IMM_OFF_BIG, DST_BIG, SRC_IMM_BIG);
 
-/// The bits that have to be 0 in a slot with this opcode.
+/// The bits that must be 0 in a slot with this opcode.
 #[inline(always)]
 fn zero_bits(order: Order, opcode: u8) -> u64
     ensures { result ≡ zero_bits_at order opcode }
@@ -110,7 +109,7 @@ fn zero_bits(order: Order, opcode: u8) -> u64
     }
 }
 
-/// A value for each register byte: a row for its high half, and in it a place for its low half.
+/// A value for each register byte: a row for each high half, with an entry for each low half.
 macro_rules! by_registers {
     ($none:expr, $one:expr, $both:expr) => {
         [
@@ -134,10 +133,10 @@ macro_rules! by_registers {
     };
 }
 
-/// How many of the two registers are above 10.
+/// The number of registers above 10 in each register byte.
 static ABOVE: [u64; 256] = by_registers!(0, 1, 2);
 
-/// How many registers of a register byte are above 10.
+/// The number of registers above 10 in a register byte.
 #[inline(always)]
 fn registers_above_ten(registers: u8) -> u64
     ensures { result ≡ registers_above registers }
@@ -145,13 +144,12 @@ fn registers_above_ten(registers: u8) -> u64
     ABOVE[registers as usize]
 }
 
-/// Tells whether 8 bytes are a plain instruction: the opcode has a rule, and the other fields are within it.
+/// Whether 8 bytes are a plain instruction.
 #[inline(always)]
 pub(crate) fn is_plain(order: Order, bytes: &[u8; 8]) -> bool
     ensures { IsTrue result → (slot : Fields) × (AreFields slot × ((bytes.now ≡ spelled order slot) × IsPlain slot)) }
 {
-    let slot: Slot = slot_of(order, bytes);
     let word = u64::from_le_bytes(*bytes) | 1;
-    let set = word & zero_bits(order, slot.opcode);
+    let set = word & zero_bits(order, bytes[0]);
     (set | registers_above_ten(bytes[1])) == 0
 }

@@ -7,10 +7,11 @@ use Rattle.bpfcanon.specs.declared.outcome.Outcome.{Outcome}
 use Rattle.bpfcanon.specs.declared.outcome.Outcome.TheVariants.{TooLong}
 use Rattle.bpfcanon.specs.declared.verb.Verb.{Verb}
 use Rattle.bpfcanon.specs.declared.verb.Verb.TheVariants.{InsnCanon, InsnShow, InsnRead, InsnGroups, InsnSame, BtfCanon, BtfShow, BtfCheck, BtfSame}
-use Rattle.bpfcanon.specs.BtfReply as btf
-use Rattle.bpfcanon.specs.Reply.{IsReply, files_too_long, groups_too_long, has_engine, limit_of, show_too_long, streams, text_too_long}
-use Rattle.bpfcanon.specs.JobEnds.{Change, EndsJob, no_memory, no_memory_in_pieces, replied, write_failed}
-use Rattle.bpfcanon.specs.Pieces.{Answers, answered, refused, refused_amid, unwritten}
+use Rattle.bpfcanon.specs.commands.BtfReply as btf
+use Rattle.bpfcanon.specs.commands.Reply.{IsReply, files_too_long, groups_too_long, has_engine, limit_of, show_too_long, streams, text_too_long}
+use Rattle.bpfcanon.specs.Devices.{Change}
+use Rattle.bpfcanon.specs.JobEnds.{EndsJob, no_memory, no_memory_in_pieces, replied, write_failed}
+use Rattle.bpfcanon.specs.commands.Pieces.{Answers, answered, refused, refused_amid, unwritten}
 
 -- only an engine writes as it reads
 pub whole_input : (v : Verb) → has_engine v ≡ false → streams v ≡ false

@@ -1,12 +1,4 @@
 pub mod LineLemmas
-pub mod OptionsLemmas
-pub mod BtfCanonLemmas
-pub mod BtfPieces
-pub mod BtfSameLemmas
-pub mod CanonLemmas
+pub mod CommandsLemmas
 pub mod JobLemmas
-pub mod ListingPieces
-pub mod LongNameLemmas
 pub mod OutcomeLemmas
-pub mod PiecesLemmas
-pub mod SameLemmas

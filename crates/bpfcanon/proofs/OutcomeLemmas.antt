@@ -10,16 +10,17 @@ use Rattle.std.proofs.lemmas.List.Concat.{flat_map-append}
 use Rattle.std.proofs.Math.Seq.{take-append-add, take-length}
 use Rattle.std.proofs.KnownBytes.{Appends-trans}
 use Rattle.bpf_canon.specs.device.Device.{CountsFailure}
-use Rattle.bpfcanon.specs.Outcome.{Tells}
+use Rattle.bpfcanon.specs.Devices.{change}
+use Rattle.bpfcanon.specs.Outcome.{TookLine}
 
-pub tells_whole : (a b : Option (List ℕ)) (f g : ℕ) (line : List ℕ) → Appends a b line → g ≡ f → Tells a b f g line
+pub tells_whole : (a b : Option (List ℕ)) (f g : ℕ) (line : List ℕ) → Appends a b line → g ≡ f → TookLine (change a b f g) line
 tells_whole a b f g line h e =
     let P : List ℕ → Type 0 = λ x. Appends a b x in
     record { n = length line; took = subst P (sym (take-length line)) h; whole = inl (omega arith, e) }
 
 -- a line that is put in one call
 pub tells : (a b : Option (List ℕ)) (f g : ℕ) (line : List ℕ) (r : Result (Unit {0}) ℕ) → OnOk r (Appends a b line)
-    → IfErr r (λ n. (n < length line) × Appends a b (take n line)) → CountsFailure f g r → Tells a b f g line
+    → IfErr r (λ n. (n < length line) × Appends a b (take n line)) → CountsFailure f g r → TookLine (change a b f g) line
 tells a b f g line (Ok u) h k e = tells_whole a b f g line h e
 tells a b f g line (Err n) h k e = record { n = n; took = k.1; whole = inr e }
 
@@ -30,7 +31,7 @@ joined parts = flat_map (λ (p : Bor (List ℕ)). p.now) parts
 pub tells_part : (a m b : Option (List ℕ)) (f h g : ℕ) (parts : List (Bor (List ℕ))) (i : ℕ) (d : Bor (List ℕ)) (r : Result (Unit {0}) ℕ) → i < length parts
     → Appends a m (joined (take i parts)) → h ≡ f → is_err r ≡ true
     → IfErr r (λ n. (n < length (get_or parts i d).now) × Appends m b (take n (get_or parts i d).now)) → CountsFailure h g r
-    → Tells a b f g (joined parts)
+    → TookLine (change a b f g) (joined parts)
 tells_part a m b f h g parts i d (Ok u) l p e bad t count = cc
 tells_part a m b f h g parts i d (Err n) l p e bad t count =
     let part = (get_or parts i d).now in

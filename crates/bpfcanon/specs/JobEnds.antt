@@ -1,34 +1,13 @@
 -- The ways in which a job ends.
-use Rattle.std.specs.Prelude.{◌≡◌, ◌⊎◌, ◌<◌, ◌≤◌, ◌+◌, ℕ, List, Option, Result, Ok, Err, true, false, length, take}
+use Rattle.std.specs.Prelude.{◌≡◌, ◌⊎◌, ◌<◌, ◌≤◌, ℕ, List, Result, Ok, Err, true, false, length, take}
 use Rattle.std.specs.Io.KnownBytes.{Appends, Consumes, IsAtEnd}
-use Rattle.bpf_canon.specs.declared.insn.run.RunCause.{RunCause}
-use Rattle.bpf_canon.specs.declared.insn.run.RunCause.TheVariants as cause
+use Rattle.bpf_canon.specs.declared.engine.RunCause.{RunCause}
+use Rattle.bpf_canon.specs.declared.engine.RunCause.TheVariants as cause
 use Rattle.bpfcanon.specs.declared.job.Job.{Job}
 use Rattle.bpfcanon.specs.declared.outcome.Outcome.{Outcome}
 use Rattle.bpfcanon.specs.declared.outcome.Outcome.TheVariants.{TooLong, ReadFailed, WriteFailed, Memory}
-use Rattle.bpfcanon.specs.Reply.{IsEarly, IsReply, in_pieces, limit_of, streams}
-
--- what a device has before and after: the bytes that it tells, and how often it failed
-pub record Change : Type 0 where
-  pub old : Option (List ℕ)
-  pub new : Option (List ℕ)
-  pub failed : ℕ
-  pub failed_after : ℕ
-
-abbrev pub change : Option (List ℕ) → Option (List ℕ) → ℕ → ℕ → Change
-change old new failed failed_after = record { old = old; new = new; failed = failed; failed_after = failed_after }
-
--- the device wasn't used
-abbrev pub IsUnused : Change → Type 0
-IsUnused c = (c.new ≡ c.old) × (c.failed_after ≡ c.failed)
-
--- no call of the device failed
-abbrev pub IsHealthy : Change → Type 0
-IsHealthy c = c.failed_after ≡ c.failed
-
--- one call of the device failed
-abbrev pub HasFailed : Change → Type 0
-HasFailed c = c.failed_after ≡ c.failed + 1
+use Rattle.bpfcanon.specs.Devices.{Change, HasFailed, IsHealthy, IsUnused}
+use Rattle.bpfcanon.specs.commands.Reply.{IsEarly, IsReply, in_pieces, limit_of, streams}
 
 -- how a job ends whose engine stopped, where its input has no fault
 abbrev pub end_of_stop : {F : Type 0} → RunCause F → Result Outcome F

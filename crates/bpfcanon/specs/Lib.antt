@@ -1,9 +1,7 @@
-pub mod Options
-pub mod Line
-pub mod Ends
+pub mod line
+pub mod commands
+pub mod Devices
 pub mod Verbs
 pub mod Outcome
-pub mod BtfReply
-pub mod Reply
 pub mod JobEnds
-pub mod Pieces
+pub mod Ends

@@ -1,5 +1,5 @@
--- What a command tells as it ends.
-use Rattle.std.specs.Prelude.{◌≡◌, ◌⊎◌, ◌≤◌, ◌+◌, ◌++◌, ℕ, List, [], ◌∷◌, Option, codes, decimal, length, take}
+-- What a command reports as it ends: a status, and a line on the fault sink.
+use Rattle.std.specs.Prelude.{◌⊎◌, ◌≤◌, ◌++◌, ℕ, List, [], ◌∷◌, codes, decimal, length, take}
 use Rattle.std.specs.Io.KnownBytes.{Appends}
 use Rattle.bpf_insn.specs.declared.fault.SlotFault.{SlotFault}
 use Rattle.bpf_text.specs.declared.insn.fault.LineFault.{LineFault}
@@ -10,6 +10,7 @@ use Rattle.bpfcanon.specs.declared.outcome.Outcome.TheVariants.{Done, Different,
 use Rattle.bpf_insn.specs.CauseNames.{cause_name}
 use Rattle.bpf_text.specs.insn.LineCauseNames.{line_cause_name}
 use Rattle.btf_raw.specs.BtfCauseNames.{btf_cause_name}
+use Rattle.bpfcanon.specs.Devices.{Change, HasFailed, IsHealthy}
 
 -- the status with which the program ends
 abbrev pub status_of : Outcome → ℕ
@@ -47,26 +48,26 @@ abbrev pub faulty_line : LineFault → List ℕ
 faulty_line f = codes "fault line " ++ (decimal f.line ++ (codes " " ++ (line_cause_name f.cause ++ newline)))
 
 -- the line that the fault sink is given, if any
-abbrev pub line_of : Outcome → List ℕ
-line_of Done = []
-line_of Different = []
-line_of (Fault f) = slot_fault_line [] f
-line_of (FaultyLine f) = faulty_line f
-line_of (First f) = slot_fault_line (codes "first: ") f
-line_of (Second f) = slot_fault_line (codes "second: ") f
-line_of (ends.BtfFault f) = btf_fault_line [] f
-line_of (FirstBtf f) = btf_fault_line (codes "first: ") f
-line_of (SecondBtf f) = btf_fault_line (codes "second: ") f
-line_of TooLong = codes "too long" ++ newline
-line_of SplitBeyond = codes "split beyond input" ++ newline
-line_of Usage =
+abbrev pub report_of : Outcome → List ℕ
+report_of Done = []
+report_of Different = []
+report_of (Fault f) = slot_fault_line [] f
+report_of (FaultyLine f) = faulty_line f
+report_of (First f) = slot_fault_line (codes "first: ") f
+report_of (Second f) = slot_fault_line (codes "second: ") f
+report_of (ends.BtfFault f) = btf_fault_line [] f
+report_of (FirstBtf f) = btf_fault_line (codes "first: ") f
+report_of (SecondBtf f) = btf_fault_line (codes "second: ") f
+report_of TooLong = codes "too long" ++ newline
+report_of SplitBeyond = codes "split beyond input" ++ newline
+report_of Usage =
     codes "usage: bpfcanon COMMAND [--order little|big] [--to little|big] [--other little|big] [--split N]" ++ newline
-line_of ReadFailed = codes "read failed" ++ newline
-line_of WriteFailed = codes "write failed" ++ newline
-line_of Memory = codes "no memory" ++ newline
+report_of ReadFailed = codes "read failed" ++ newline
+report_of WriteFailed = codes "write failed" ++ newline
+report_of Memory = codes "no memory" ++ newline
 
 -- the fault sink took the line, or its first n bytes where it failed
-pub record Tells (old new : Option (List ℕ)) (failed failed_after : ℕ) (line : List ℕ) : Type 0 where
+pub record TookLine (sink : Change) (line : List ℕ) : Type 0 where
   pub n : ℕ
-  pub took : Appends old new (take n line)
-  pub whole : (length line ≤ n) × (failed_after ≡ failed) ⊎ (failed_after ≡ failed + 1)
+  pub took : Appends sink.old sink.new (take n line)
+  pub whole : (length line ≤ n) × IsHealthy sink ⊎ HasFailed sink

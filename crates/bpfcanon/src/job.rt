@@ -1,9 +1,9 @@
-//! What a command is to do.
+//! A command with its options.
 
 use crate::verb::Verb;
 use bpf_words::Order;
 
-/// What a command line asks for. A setting that the command doesn't take is `Little` or 0.
+/// What a command line asks for. An option that the command doesn't take is `Little` or 0.
 #[derive(Clone, Copy, Debug, PartialEq, Eq)]
 pub struct Job {
     /// The command.

@@ -3,41 +3,37 @@
 
 ghost use Rattle.std.specs.Prelude.{◌≡◌, ◌<◌, ◌++◌, codes, length, map, string_bytes};
 ghost use Rattle.std.specs.Process.{exit_status};
-ghost use Rattle.bpfcanon.specs.declared.outcome.Outcome.{Outcome};
-ghost use Rattle.bpfcanon.specs.JobEnds.{change};
-ghost use Rattle.bpfcanon.specs.Outcome.{Tells, line_of, newline, status_of};
-ghost use Rattle.bpfcanon.specs.Ends.{Ends};
+ghost use Rattle.bpfcanon.specs.Devices.{sink_change, source_change};
+ghost use Rattle.bpfcanon.specs.Outcome.{TookLine, newline};
+ghost use Rattle.bpfcanon.specs.Ends.{EndsWith};
 
 mod command;
-mod command_line;
-mod engines;
+mod commands;
 mod job;
-mod job_run;
-mod options;
+mod line;
 mod outcome;
-mod pieces;
-mod reply;
+mod run;
 #[cfg(test)]
 mod tests;
 mod verb;
 
-use crate::outcome::put_text;
+use crate::outcome::report_line;
 use bpf_canon::{ByteSink, ByteSource, ReaderSource, WriterSink};
 use std::alloc::Global;
 use std::env;
 use std::process::ExitCode;
 
-/// Tells on standard error that the program's words couldn't be had, which ends the program with status 3.
+/// Reports that the words of the command line are missing: the line `no words`, and status 3.
 fn no_words<E: ByteSink>(faults: &mut E) -> ExitCode
     requires { E.failures faults.old < u64.MAX }
-    ensures line { Tells (E.contents faults.old) (E.contents faults.new) (E.failures faults.old) (E.failures faults.new) (codes "no words" ++ newline) }
+    ensures line { TookLine (sink_change E.ByteSink faults.old faults.new) (codes "no words" ++ newline) }
     ensures status { exit_status result ≡ 3 }
 {
-    put_text(faults, b"no words\n");
+    report_line(faults, b"no words\n");
     ExitCode::from(3)
 }
 
-/// Runs a command line, and gives the status with which the process ends.
+/// Runs a command line, and returns the status of the process.
 fn run_words<S: ByteSource, W: ByteSink, E: ByteSink>(
     alloc: Global,
     words: &[String],
@@ -49,17 +45,14 @@ fn run_words<S: ByteSource, W: ByteSink, E: ByteSink>(
     requires source { S.failures source.old < u64.MAX }
     requires sink { W.failures sink.old < u64.MAX }
     requires faults { E.failures faults.old < u64.MAX }
-    ensures { (outcome : Outcome) × ((exit_status result ≡ status_of outcome)
-        × Tells (E.contents faults.old) (E.contents faults.new) (E.failures faults.old) (E.failures faults.new) (line_of outcome)
-        × Ends (map string_bytes words.now)
-        (change (S.remaining source.old) (S.remaining source.new) (S.failures source.old) (S.failures source.new))
-        (change (W.contents sink.old) (W.contents sink.new) (W.failures sink.old) (W.failures sink.new)) outcome) }
+    ensures { EndsWith (map string_bytes words.now) (source_change S.ByteSource source.old source.new) (sink_change W.ByteSink sink.old sink.new)
+        (sink_change E.ByteSink faults.old faults.new) (exit_status result) }
 {
     ExitCode::from(command::command(alloc, words, source, sink, faults))
 }
 
-/// Runs the command line of the process. Where its words can't be had or there are none, it writes
-/// the line `no words` on standard error and ends with status 3.
+/// Runs the command line of the process. If its words can't be read, or there are none, the line
+/// `no words` goes to standard error and the status is 3.
 fn main(rt: HostRuntime) -> ExitCode {
     let alloc = rt.alloc();
     let mut faults = WriterSink::new(rt.stderr());

@@ -1,10 +1,12 @@
-//! How a command ends: its status, and the line that it writes on the fault sink.
+//! How a command ends: its status, and the line that it reports on the fault sink.
 
 ghost use Rattle.std.specs.Prelude.{◌≡◌, ◌<◌};
 ghost use Rattle.std.specs.List.{flat_map};
-ghost use Rattle.bpfcanon.specs.Outcome.{Tells, btf_fault_line, fault_line, faulty_line, line_of, slot_fault_line, status_of};
+ghost use Rattle.bpfcanon.specs.Devices.{sink_change};
+ghost use Rattle.bpfcanon.specs.JobEnds.{end_of_stop};
+ghost use Rattle.bpfcanon.specs.Outcome.{TookLine, btf_fault_line, fault_line, faulty_line, report_of, slot_fault_line, status_of};
 
-use bpf_canon::{ByteSink, put_all};
+use bpf_canon::{ByteSink, RunCause, put_all};
 use bpf_insn::SlotFault;
 use bpf_text::LineFault;
 use btf_raw::BtfFault;
@@ -19,7 +21,7 @@ pub enum Outcome {
     Different,
     /// The input has a fault.
     Fault(SlotFault),
-    /// The text has this faulty line.
+    /// The listing has a faulty line.
     FaultyLine(LineFault),
     /// The first of two files has a fault.
     First(SlotFault),
@@ -31,22 +33,22 @@ pub enum Outcome {
     FirstBtf(BtfFault),
     /// The second of two BTF files has a fault, and the first has none.
     SecondBtf(BtfFault),
-    /// More bytes came than the command takes.
+    /// The input is longer than the command takes.
     TooLong,
-    /// The first of two files is said to be longer than the input.
+    /// The first of two files would be longer than the input.
     SplitBeyond,
-    /// The line isn't one of the program's.
+    /// The command line isn't one of the program's.
     Usage,
     /// A read failed.
     ReadFailed,
     /// A write failed.
     WriteFailed,
-    /// Memory was refused.
+    /// Out of memory.
     Memory,
 }
 
 impl Outcome {
-    /// The status with which the program ends.
+    /// The status of the program.
     pub fn status(self) -> u8
         ensures { result ≡ status_of self }
     {
@@ -68,10 +70,23 @@ impl Outcome {
     }
 }
 
-/// Writes parts one after the other, until a write fails.
-fn put_parts<E: ByteSink>(faults: &mut E, parts: &[&[u8]])
+/// How a job ends whose engine stopped, or the fault that its input has.
+pub fn end_of_stop<F>(cause: RunCause<F>) -> Result<Outcome, F>
+    ensures { result ≡ end_of_stop cause }
+{
+    match cause {
+        RunCause::Fault(fault) => Err(fault),
+        RunCause::TooLong => Ok(Outcome::TooLong),
+        RunCause::ReadFailed => Ok(Outcome::ReadFailed),
+        RunCause::WriteFailed => Ok(Outcome::WriteFailed),
+        RunCause::Memory => Ok(Outcome::Memory),
+    }
+}
+
+/// Writes the parts of a line in order, until a write fails.
+fn report_parts<E: ByteSink>(faults: &mut E, parts: &[&[u8]])
     requires { E.failures faults.old < u64.MAX }
-    ensures { Tells (E.contents faults.old) (E.contents faults.new) (E.failures faults.old) (E.failures faults.new) (flat_map (λ p. p.now) parts.now) }
+    ensures { TookLine (sink_change E.ByteSink faults.old faults.new) (flat_map (λ p. p.now) parts.now) }
 {
     for part in parts {
         if put_all(faults, part).is_err() {
@@ -80,43 +95,43 @@ fn put_parts<E: ByteSink>(faults: &mut E, parts: &[&[u8]])
     }
 }
 
-/// Writes a line that is known, until a write fails.
-pub fn put_text<E: ByteSink>(faults: &mut E, line: &[u8])
+/// Writes a whole line, until a write fails.
+pub fn report_line<E: ByteSink>(faults: &mut E, line: &[u8])
     requires { E.failures faults.old < u64.MAX }
-    ensures { Tells (E.contents faults.old) (E.contents faults.new) (E.failures faults.old) (E.failures faults.new) line.now }
+    ensures { TookLine (sink_change E.ByteSink faults.old faults.new) line.now }
 {
     let _ = put_all(faults, line);
 }
 
-/// Writes the line of a fault, after the name of the file where there are two.
-fn put_fault<E: ByteSink>(faults: &mut E, file: &'static [u8], place: u64, cause: &'static [u8])
+/// Writes the line of a fault at a byte. `file` names the file where there are two.
+fn report_fault<E: ByteSink>(faults: &mut E, file: &'static [u8], place: u64, cause: &'static [u8])
     requires { E.failures faults.old < u64.MAX }
-    ensures { Tells (E.contents faults.old) (E.contents faults.new) (E.failures faults.old) (E.failures faults.new) (fault_line file.now place cause.now) }
+    ensures { TookLine (sink_change E.ByteSink faults.old faults.new) (fault_line file.now place cause.now) }
 {
     let mut buffer = Buffer::new();
     let digits = buffer.format(place).as_bytes();
     let parts: [&[u8]; 6] = [file, b"fault ", digits, b" ", cause, b"\n"];
-    put_parts(faults, parts.as_slice());
+    report_parts(faults, parts.as_slice());
 }
 
-fn put_slot_fault<E: ByteSink>(faults: &mut E, file: &'static [u8], fault: SlotFault)
+fn report_slot_fault<E: ByteSink>(faults: &mut E, file: &'static [u8], fault: SlotFault)
     requires { E.failures faults.old < u64.MAX }
-    ensures { Tells (E.contents faults.old) (E.contents faults.new) (E.failures faults.old) (E.failures faults.new) (slot_fault_line file.now fault) }
+    ensures { TookLine (sink_change E.ByteSink faults.old faults.new) (slot_fault_line file.now fault) }
 {
-    put_fault(faults, file, fault.pos, fault.cause.name().as_bytes());
+    report_fault(faults, file, fault.pos, fault.cause.name().as_bytes());
 }
 
-fn put_btf_fault<E: ByteSink>(faults: &mut E, file: &'static [u8], fault: BtfFault)
+fn report_btf_fault<E: ByteSink>(faults: &mut E, file: &'static [u8], fault: BtfFault)
     requires { E.failures faults.old < u64.MAX }
-    ensures { Tells (E.contents faults.old) (E.contents faults.new) (E.failures faults.old) (E.failures faults.new) (btf_fault_line file.now fault) }
+    ensures { TookLine (sink_change E.ByteSink faults.old faults.new) (btf_fault_line file.now fault) }
 {
-    put_fault(faults, file, fault.pos, fault.cause.name().as_bytes());
+    report_fault(faults, file, fault.pos, fault.cause.name().as_bytes());
 }
 
-/// Writes the line of a listing's fault.
-fn put_faulty_line<E: ByteSink>(faults: &mut E, fault: LineFault)
+/// Writes the line of a listing's fault, which counts lines from 1.
+fn report_faulty_line<E: ByteSink>(faults: &mut E, fault: LineFault)
     requires { E.failures faults.old < u64.MAX }
-    ensures { Tells (E.contents faults.old) (E.contents faults.new) (E.failures faults.old) (E.failures faults.new) (faulty_line fault) }
+    ensures { TookLine (sink_change E.ByteSink faults.old faults.new) (faulty_line fault) }
 {
     let mut buffer = Buffer::new();
     let line = buffer.format(fault.line).as_bytes();
@@ -127,32 +142,32 @@ fn put_faulty_line<E: ByteSink>(faults: &mut E, fault: LineFault)
         fault.cause.name().as_bytes(),
         b"\n",
     ];
-    put_parts(faults, parts.as_slice());
+    report_parts(faults, parts.as_slice());
 }
 
-/// Writes the line that a command ends with, if any. It takes no memory. Where a write fails, the
-/// rest of the line is left out, and nothing else changes.
-pub fn put_line<E: ByteSink>(faults: &mut E, outcome: Outcome)
+/// Writes the line of an outcome, if it has one. It allocates nothing, so it also reports that
+/// memory ran out. If a write fails, the rest of the line is left out.
+pub fn report_outcome<E: ByteSink>(faults: &mut E, outcome: Outcome)
     requires { E.failures faults.old < u64.MAX }
-    ensures { Tells (E.contents faults.old) (E.contents faults.new) (E.failures faults.old) (E.failures faults.new) (line_of outcome) }
+    ensures { TookLine (sink_change E.ByteSink faults.old faults.new) (report_of outcome) }
 {
     match outcome {
         Outcome::Done | Outcome::Different => {}
-        Outcome::Fault(fault) => put_slot_fault(faults, b"", fault),
-        Outcome::FaultyLine(fault) => put_faulty_line(faults, fault),
-        Outcome::First(fault) => put_slot_fault(faults, b"first: ", fault),
-        Outcome::Second(fault) => put_slot_fault(faults, b"second: ", fault),
-        Outcome::BtfFault(fault) => put_btf_fault(faults, b"", fault),
-        Outcome::FirstBtf(fault) => put_btf_fault(faults, b"first: ", fault),
-        Outcome::SecondBtf(fault) => put_btf_fault(faults, b"second: ", fault),
-        Outcome::TooLong => put_text(faults, b"too long\n"),
-        Outcome::SplitBeyond => put_text(faults, b"split beyond input\n"),
-        Outcome::Usage => put_text(
+        Outcome::Fault(fault) => report_slot_fault(faults, b"", fault),
+        Outcome::FaultyLine(fault) => report_faulty_line(faults, fault),
+        Outcome::First(fault) => report_slot_fault(faults, b"first: ", fault),
+        Outcome::Second(fault) => report_slot_fault(faults, b"second: ", fault),
+        Outcome::BtfFault(fault) => report_btf_fault(faults, b"", fault),
+        Outcome::FirstBtf(fault) => report_btf_fault(faults, b"first: ", fault),
+        Outcome::SecondBtf(fault) => report_btf_fault(faults, b"second: ", fault),
+        Outcome::TooLong => report_line(faults, b"too long\n"),
+        Outcome::SplitBeyond => report_line(faults, b"split beyond input\n"),
+        Outcome::Usage => report_line(
             faults,
             b"usage: bpfcanon COMMAND [--order little|big] [--to little|big] [--other little|big] [--split N]\n",
         ),
-        Outcome::ReadFailed => put_text(faults, b"read failed\n"),
-        Outcome::WriteFailed => put_text(faults, b"write failed\n"),
-        Outcome::Memory => put_text(faults, b"no memory\n"),
+        Outcome::ReadFailed => report_line(faults, b"read failed\n"),
+        Outcome::WriteFailed => report_line(faults, b"write failed\n"),
+        Outcome::Memory => report_line(faults, b"no memory\n"),
     }
 }

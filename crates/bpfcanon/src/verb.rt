@@ -1,8 +1,8 @@
-//! The commands of the program, and the options that each takes.
+//! The commands of the program, their options and their limits.
 
 ghost use Rattle.std.specs.Prelude.{◌≡◌, IfSome, IsNone};
 ghost use Rattle.bpfcanon.specs.declared.verb.Verb.{Verb};
-ghost use Rattle.bpfcanon.specs.Reply.{limit_of};
+ghost use Rattle.bpfcanon.specs.commands.Reply.{limit_of};
 ghost use Rattle.bpfcanon.specs.Verbs.{name_of, setting_name, takes_setting};
 
 use bpf_canon::{BTF_LIMIT, INSN_LIMIT};
@@ -10,7 +10,7 @@ use bpf_canon::{BTF_LIMIT, INSN_LIMIT};
 /// A command of the program.
 #[derive(Clone, Copy, Debug, PartialEq, Eq)]
 pub enum Verb {
-    /// `insn-canon`: writes instructions anew, in the order `--to`.
+    /// `insn-canon`: writes instructions again, in the order `--to`.
     InsnCanon,
     /// `insn-show`: lists instructions.
     InsnShow,
@@ -18,15 +18,15 @@ pub enum Verb {
     InsnRead,
     /// `insn-groups`: lists the conformance groups of instructions.
     InsnGroups,
-    /// `insn-same`: tells whether two files have the same instructions.
+    /// `insn-same`: compares the instructions of two files.
     InsnSame,
     /// `btf-canon`: writes the canonical bytes of BTF, in the order `--to`.
     BtfCanon,
     /// `btf-show`: lists the types of BTF.
     BtfShow,
-    /// `btf-check`: tells how many types BTF has.
+    /// `btf-check`: counts the types of BTF.
     BtfCheck,
-    /// `btf-same`: tells whether two BTF files have the same types.
+    /// `btf-same`: compares the types of two BTF files.
     BtfSame,
 }
 
@@ -110,7 +110,7 @@ impl Verb {
         }
     }
 
-    /// How many bytes the command takes at most: as many as the engines, and twice as many for two files.
+    /// The longest input of the command in bytes: the limit of the engines, and twice that for two files.
     pub fn limit(self) -> u64
         ensures { result ≡ limit_of self }
     {

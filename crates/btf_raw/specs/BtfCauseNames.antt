@@ -1,4 +1,4 @@
--- The names of the causes of BTF faults.
+-- The names of the causes of BTF faults, and a sentence for each.
 use Rattle.std.specs.Prelude.{ℕ, List, codes}
 use Rattle.btf_raw.specs.declared.cause.BtfCause.{BtfCause}
 use Rattle.btf_raw.specs.declared.cause.BtfCause.TheVariants as btf_cause
@@ -36,3 +36,37 @@ btf_cause_name btf_cause.MemberInt = codes "MemberInt"
 btf_cause_name btf_cause.MemberPlace = codes "MemberPlace"
 btf_cause_name btf_cause.Linkage = codes "Linkage"
 btf_cause_name btf_cause.Component = codes "Component"
+
+abbrev pub btf_cause_sentence : BtfCause → List ℕ
+btf_cause_sentence btf_cause.ShortHeader = codes "the file has fewer than 24 bytes"
+btf_cause_sentence btf_cause.Magic = codes "the file does not begin with the BTF magic number in either byte order"
+btf_cause_sentence btf_cause.Version = codes "the version is not 1"
+btf_cause_sentence btf_cause.Flags = codes "the flags are not 0"
+btf_cause_sentence btf_cause.HeaderLength = codes "hdr_len is under 24, over 4,096 or over the length of the file"
+btf_cause_sentence btf_cause.HeaderTail = codes "a byte of the header after the first 24 is not 0"
+btf_cause_sentence btf_cause.TypeLength = codes "type_len is over 33,554,432"
+btf_cause_sentence btf_cause.StringLength = codes "str_len is 0 or over 16,777,216"
+btf_cause_sentence btf_cause.Sections = codes "the type and string sections do not follow the header one directly after the other"
+btf_cause_sentence btf_cause.FileLength = codes "hdr_len, type_len and str_len do not add up to the length of the file"
+btf_cause_sentence btf_cause.FirstString = codes "the first byte of the string section is not NUL"
+btf_cause_sentence btf_cause.LastString = codes "the last byte of the string section is not NUL"
+btf_cause_sentence btf_cause.RecordCut = codes "the type section ends inside the first three words of a record"
+btf_cause_sentence btf_cause.InfoBits = codes "an unused bit of info is set"
+btf_cause_sentence btf_cause.KindNumber = codes "the kind is 0 or over 19"
+btf_cause_sentence btf_cause.FlagSet = codes "kind_flag is set on a kind that has none"
+btf_cause_sentence btf_cause.Vlen = codes "vlen is not 0 on a kind without items"
+btf_cause_sentence btf_cause.TailCut = codes "the type section ends inside the data after the first three words of a record"
+btf_cause_sentence btf_cause.NameRange = codes "name_off is not inside the string section"
+btf_cause_sentence btf_cause.NameUtf8 = codes "the name is not valid UTF-8"
+btf_cause_sentence btf_cause.NameMissing = codes "a type of this kind needs a name"
+btf_cause_sentence btf_cause.NameUnwanted = codes "a type of this kind has no name"
+btf_cause_sentence btf_cause.TextsTooLong = codes "never reported: the number is kept"
+btf_cause_sentence btf_cause.NotZero = codes "the third word of an ARRAY or FWD is not 0"
+btf_cause_sentence btf_cause.Size = codes "no type of this kind has this size"
+btf_cause_sentence btf_cause.Reference = codes "the type ID is over the number of types"
+btf_cause_sentence btf_cause.TargetKind = codes "the type that is referred to has the wrong kind"
+btf_cause_sentence btf_cause.IntWord = codes "the encoding, offset and bits of the INT are not valid"
+btf_cause_sentence btf_cause.MemberInt = codes "a record with bit-fields has a member whose INT has an offset, or a width other than 8, 16, 32, 64 or 128 bits"
+btf_cause_sentence btf_cause.MemberPlace = codes "the member ends after the end of its struct or union"
+btf_cause_sentence btf_cause.Linkage = codes "the linkage is over 2"
+btf_cause_sentence btf_cause.Component = codes "component_idx is neither -1 nor the index of a member or parameter of the tagged type"

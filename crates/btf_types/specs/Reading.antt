@@ -1,5 +1,5 @@
 -- The record that a frame reads as, whatever its words are: what the fields of a table mean.
-use Rattle.std.specs.Prelude.{ℕ, zero, suc, ◌+◌, ◌*◌, ◌/◌, ◌%◌, ◌^◌, Bool, not, ◌==◌, Option, Some, None, List, [], ◌∷◌, ◌++◌, map, drop, slice_index, if◌then◌else◌}
+use Rattle.std.specs.Prelude.{ℕ, zero, suc, ◌+◌, ◌*◌, ◌^◌, Bool, not, ◌==◌, Option, Some, None, List, [], ◌∷◌, ◌++◌, map, drop, slice_index, if◌then◌else◌}
 use Rattle.bpf_words.specs.declared.Order.{Order}
 use Rattle.bpf_words.specs.Words.{word32_at}
 use Rattle.btf_raw.specs.declared.kinds.TheConstants.{INT, PTR, ARRAY, STRUCT, UNION, ENUM, FWD, TYPEDEF, VOLATILE, CONST, RESTRICT, FUNC, FUNC_PROTO, VAR, DATASEC, FLOAT, DECL_TAG, TYPE_TAG, ENUM64}
@@ -10,7 +10,7 @@ use Rattle.btf_types.specs.declared.values.Encoding.TheVariants.{Plain, Signed, 
 use Rattle.btf_types.specs.declared.values.Linkage.{Linkage}
 use Rattle.btf_types.specs.declared.values.Linkage.TheVariants.{LStatic, LGlobal, LExtern}
 use Rattle.btf_types.specs.Values.{TypeHead, KInt, KPtr, KArray, KStruct, KUnion, KEnum, KFwd, KTypedef, KVolatile, KConst, KRestrict, KFunc, KFuncProto, KVar, KDatasec, KFloat, KDeclTag, KTypeTag, KEnum64, TypeItem, Member, EnumValue, Value64, Param, Entry, TypeRecord}
-use Rattle.btf_types.specs.judge.FieldFaults.{int_encoding, int_offset, int_bits}
+use Rattle.btf_types.specs.judge.FieldFaults.{int_encoding, int_offset, int_bits, offset_in, width_in}
 
 -- the bytes before the first NUL
 abbrev pub before_nul : List ℕ → List ℕ
@@ -65,7 +65,7 @@ head_of frame name =
 -- the item that these numbers tell: its name, the kind and kind_flag of its record, and its words, of which the third may not be its own
 unfoldable pub item_from : List ℕ → ℕ → ℕ → ℕ → ℕ → ℕ → TypeItem
 item_from name k flag first second third =
-    if one_of (STRUCT ∷ UNION ∷ []) k then Member name second (if flag == 0 then third else third % 2 ^ 24) (if flag == 0 then 0 else third / 2 ^ 24)
+    if one_of (STRUCT ∷ UNION ∷ []) k then Member name second (offset_in flag third) (width_in flag third)
     else if k == ENUM then EnumValue name second
     else if k == ENUM64 then Value64 name (second + 2 ^ 32 * third)
     else if k == FUNC_PROTO then Param name second

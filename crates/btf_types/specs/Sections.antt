@@ -3,6 +3,7 @@ use Rattle.std.specs.Prelude.{◌≡◌, ℕ, ◌+◌, ◌*◌, ◌^◌, ◌≤�
 use Rattle.btf_raw.specs.Header.{HasNulEnds}
 use Rattle.btf_raw.specs.Frames.{IsFrame}
 use Rattle.btf_types.specs.declared.tables.section.Section.{Section}
+use Rattle.btf_types.specs.declared.tables.table.FileSections.{FileSections}
 use Rattle.btf_types.specs.declared.tables.section.Facts.{Facts}
 use Rattle.btf_types.specs.judge.Checks.{TypeFacts}
 use Rattle.btf_types.specs.judge.FieldFaults.{frame_facts}
@@ -10,31 +11,31 @@ use Rattle.btf_types.specs.Reading.{frame_at, frames_at}
 use Rattle.btf_types.specs.tables.TableInvariant.{IsFramed}
 use Rattle.btf_types.specs.judge.Texts.{TextsAre}
 
--- the frame at a place
-abbrev pub frame_of : Section → ℕ → List ℕ
+-- the frame at a place of a file's sections
+abbrev pub frame_of : FileSections → ℕ → List ℕ
 frame_of s pos = frame_at s.order s.types.now pos
 
--- the frame of the i-th record, from 0, and those of all
-abbrev pub frame_in : Section → ℕ → List ℕ
-frame_in s i = frame_at s.order s.types.now (slice_index s.places.now i)
+-- there is a whole frame at this place
+pub record HasFrame (s : FileSections) (pos : ℕ) : Type 0 where
+  pub inside : pos + 4 * length (frame_of s pos) ≤ length s.types.now
+  pub frame : IsFrame (frame_of s pos)
+
+-- the frame of the i-th record, from 0, those of all, and what they are to other records
+abbrev pub nth_frame : Section → ℕ → List ℕ
+nth_frame s i = frame_of s.file (slice_index s.file.places.now i)
 
 abbrev pub frames_in : Section → List (List ℕ)
-frames_in s = frames_at s.order s.types.now s.places.now
+frames_in s = frames_at s.file.order s.file.types.now s.file.places.now
 
 abbrev pub facts_in : Section → List TypeFacts
 facts_in s = map frame_facts (frames_in s)
 
 -- the strings have their ends, the places are those of the frames, and the texts are judged
 pub record IsSection (s : Section) : Type 0 where
-  pub ends : HasNulEnds s.strings.now
-  pub few : length s.types.now ≤ 2 ^ 25
-  pub framed : IsFramed s.order s.types.now s.places.now
-  pub texts : TextsAre s.strings.now s.texts.now
-
--- a whole frame stands at this place
-pub record StandsIn (s : Section) (pos : ℕ) : Type 0 where
-  pub inside : pos + 4 * length (frame_of s pos) ≤ length s.types.now
-  pub frame : IsFrame (frame_of s pos)
+  pub ends : HasNulEnds s.file.strings.now
+  pub few : length s.file.types.now ≤ 2 ^ 25
+  pub framed : IsFramed s.file.order s.file.types.now s.file.places.now
+  pub texts : TextsAre s.file.strings.now s.texts.now
 
 pub record FactsAre (facts : Facts) (t : TypeFacts) : Type 0 where
   pub kind_is : facts.kind ≡ t.kind

@@ -1,5 +1,6 @@
 -- Canonical bytes and files.
-use Rattle.std.proofs.Common.{◌≡◌, ◌↔◌, ◌++◌, ◌∙◌, ℕ, Bool, List, [], refl, sym, ap, All, IsTrue}
+use Rattle.std.proofs.Common.{◌≡◌, ◌↔◌, ◌++◌, ◌∙◌, ℕ, Bool, List, [], Result, Ok, Err, refl, sym, ap, All, IsTrue}
+use Rattle.std.specs.Result.{IfOk}
 use Rattle.bpf_words.specs.declared.Order.{Order}
 use Rattle.bpf_words.specs.declared.Order.TheVariants.{Little}
 use Rattle.bpf_insn.specs.declared.insn.Insn.{Insn}
@@ -14,19 +15,26 @@ use Rattle.bpf_canon.specs.insn.Stands.{IsFaultOf, Moves, Stands}
 use Rattle.bpf_canon.specs.insn.Canonical.{CanonicalBytesAreAccepted, CanonicalBytesAreTheirOwn, CanonicalBytesTellFilesApart, Compares, IsCanonical, NamesFault}
 use Rattle.bpf_canon.proofs.InsnLemmas.FrontLaws.{file_front, front-nil}
 
--- a feed of a whole file gave its canonical bytes
-pub canonical_of : (s t : FeedState) (o : Order) (bytes canon : List ℕ) (l : List Insn) → Stands s o Little [] → Moves s t bytes [] canon → InsnFile o bytes l
-    → IsCanonical o bytes canon
-canonical_of s t o bytes canon l h m file =
-    let g = m.gains o Little [] h in
+-- a feed of a whole file gave its instructions in the order `to`
+pub recoded_of : (s t : FeedState) (o to : Order) (bytes written : List ℕ) (l : List Insn) → Stands s o to [] → Moves s t bytes [] written → InsnFile o bytes l
+    → written ≡ file_of to l
+recoded_of s t o to bytes written l h m file =
+    let g = m.gains o to [] h in
     let none = one_front o [] g.before [] g.rest [] g.front (front-nil o) in
     let whole = one_front o bytes l (g.before ++ g.gained) [] g.left (file_front o bytes l file) g.longer in
     let same : l ≡ g.gained = whole.0 ∙ ap (λ (x : List Insn). x ++ g.gained) none.0 in
-    record { insns = l; file = file; canonical = g.grows ∙ ap (file_of Little) (sym same) }
+    g.grows ∙ ap (file_of to) (sym same)
 
--- the canonical bytes of a file are those of its one list
-pub canonical_once : (o : Order) (bytes canon : List ℕ) (l : List Insn) → IsCanonical o bytes canon → InsnFile o bytes l → canon ≡ file_of Little l
-canonical_once o bytes canon l c file = c.canonical ∙ ap (file_of Little) (one_list o bytes c.insns l c.file file)
+-- what a file was recoded to is that of its one list
+pub recoded_once : (o to : Order) (bytes written : List ℕ) (l : List Insn) → (m : List Insn) × (InsnFile o bytes m × (written ≡ file_of to m)) → InsnFile o bytes l
+    → written ≡ file_of to l
+recoded_once o to bytes written l r file = r.1.1 ∙ ap (file_of to) (one_list o bytes r.0 l r.1.0 file)
+
+-- what a file was recoded to in little-endian order is canonical
+pub canonical_of : (o : Order) (bytes : List ℕ) {T E : Type 0} (items : T → List ℕ) (r : Result T E)
+    → IfOk r (λ written. (l : List Insn) × (InsnFile o bytes l × (items written ≡ file_of Little l))) → IfOk r (λ canon. IsCanonical o bytes (items canon))
+canonical_of o bytes items (Ok written) h = record { insns = h.0; file = h.1.0; canonical = h.1.1 }
+canonical_of o bytes items (Err e) h = tt
 
 pub accepted : CanonicalBytesAreAccepted
 accepted l h = (h, refl)

@@ -12,13 +12,14 @@ use Rattle.bpf_insn.specs.declared.fault.SlotFault.{SlotFault}
 use Rattle.bpf_insn.specs.Spelling.{InsnFile, file_of, spelling}
 use Rattle.bpf_insn.specs.Faults.{IsFront, IsInsnFault}
 use Rattle.bpf_insn.proofs.FrontLemmas.{one_front}
-use Rattle.bpf_canon.specs.declared.insn.run.RunCause.{RunCause}
-use Rattle.bpf_canon.specs.declared.insn.run.RunCause.TheVariants as cause
+use Rattle.bpf_canon.specs.declared.engine.RunCause.{RunCause}
+use Rattle.bpf_canon.specs.declared.engine.RunCause.TheVariants as cause
 use Rattle.bpf_canon.specs.insn.FeedState.{FeedState}
 use Rattle.bpf_canon.specs.insn.Stands.{IsSound, Moves, Stands}
 use Rattle.bpf_canon.specs.insn.Passed.{Passed, PassStops}
 use Rattle.bpf_canon.specs.device.Reads.{read_room}
-use Rattle.bpf_canon.specs.insn.Run.{Devices, RanWhole, StopsAtFault, StopsTooLong, StopsUnread, Stops, WroteAll, devices, limit}
+use Rattle.bpf_canon.specs.Engine.{Devices, devices}
+use Rattle.bpf_canon.specs.insn.Run.{RanWhole, StopsAtFault, StopsTooLong, StopsUnread, Stops, WroteAll, limit}
 use Rattle.bpf_canon.proofs.InsnLemmas.FeedLemmas.{keeps_answer, keeps_fault}
 use Rattle.bpf_canon.proofs.InsnLemmas.FrontLaws.{file_front, front_fits, front_grows}
 

@@ -8,9 +8,9 @@ use Rattle.btf_types.specs.Denotes.{Denotes}
 use Rattle.btf_types.specs.Faults.{IsFirst}
 use Rattle.bpf_canon.specs.btf.CanonicalBtf.{canonical}
 use Rattle.bpf_canon.specs.device.Reads.{read_room}
-use Rattle.bpf_canon.specs.insn.Run.{Devices}
-use Rattle.bpf_canon.specs.declared.insn.run.RunCause.{RunCause}
-use Rattle.bpf_canon.specs.declared.insn.run.RunCause.TheVariants as cause
+use Rattle.bpf_canon.specs.Engine.{Devices}
+use Rattle.bpf_canon.specs.declared.engine.RunCause.{RunCause}
+use Rattle.bpf_canon.specs.declared.engine.RunCause.TheVariants as cause
 
 -- how many bytes the engine takes
 abbrev pub btf_limit : ℕ

@@ -6,8 +6,8 @@ use Rattle.btf_types.specs.Values.{TypeRecord}
 use Rattle.btf_types.specs.Denotes.{Denotes}
 use Rattle.btf_types.specs.Faults.{IsFirst}
 use Rattle.bpf_canon.specs.btf.CanonicalBtf.{canonical}
-use Rattle.bpf_canon.specs.declared.insn.same.SideError.{SideError}
-use Rattle.bpf_canon.specs.declared.insn.same.SideError.TheVariants as side
+use Rattle.bpf_canon.specs.declared.engine.SideError.{SideError}
+use Rattle.bpf_canon.specs.declared.engine.SideError.TheVariants as side
 
 -- two files, and whether they denote the same records, which is whether their canonical bytes are the same
 pub record ComparesBtf (a b : List ℕ) (same : Bool) : Type 0 where

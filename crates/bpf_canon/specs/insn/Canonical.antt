@@ -9,8 +9,8 @@ use Rattle.bpf_insn.specs.declared.decode.InsnError.TheVariants as error
 use Rattle.bpf_insn.specs.Table.{IsInsn}
 use Rattle.bpf_insn.specs.Spelling.{InsnFile, file_of}
 use Rattle.bpf_insn.specs.Faults.{IsInsnFault}
-use Rattle.bpf_canon.specs.declared.insn.same.SideError.{SideError}
-use Rattle.bpf_canon.specs.declared.insn.same.SideError.TheVariants as side
+use Rattle.bpf_canon.specs.declared.engine.SideError.{SideError}
+use Rattle.bpf_canon.specs.declared.engine.SideError.TheVariants as side
 
 -- the bytes are a file of some instructions, whose bytes in little-endian order these are
 pub record IsCanonical (o : Order) (bytes canon : List ℕ) : Type 0 where

@@ -1,18 +1,11 @@
 -- What one piece of the input does. Private contracts alone cite it.
-use Rattle.std.specs.Prelude.{◌≡◌, ◌<◌, ◌≤◌, ℕ, List, [], Option, Some, None, length, take}
+use Rattle.std.specs.Prelude.{◌≡◌, ◌≤◌, ℕ, List, [], Option, Some, None, length, take}
 use Rattle.std.specs.Io.KnownBytes.{Appends}
 use Rattle.bpf_insn.specs.declared.fault.SlotFault.{SlotFault}
 use Rattle.bpf_canon.specs.insn.FeedState.{FeedState}
 use Rattle.bpf_canon.specs.insn.Stands.{Moves}
-use Rattle.bpf_canon.specs.declared.insn.run.RunCause.{RunCause}
-use Rattle.bpf_canon.specs.declared.insn.run.RunCause.TheVariants as cause
-use Rattle.bpf_canon.specs.declared.insn.run.RunError.{RunError}
-
--- a write failed when the sink had taken the first bytes
-pub record PutStops {F : Type 0} (sink sink_after : Option (List ℕ)) (bytes : List ℕ) (e : RunError F) : Type 0 where
-  pub why : e.cause ≡ cause.WriteFailed
-  pub took : Appends sink sink_after (take e.written bytes)
-  pub part : e.written < length bytes
+use Rattle.bpf_canon.specs.declared.engine.RunCause.{RunCause}
+use Rattle.bpf_canon.specs.declared.engine.RunCause.TheVariants as cause
 
 -- the feed took the piece, and the sink took what became whole
 pub record Passed (s t : FeedState) (piece : List ℕ) (sink sink_after : Option (List ℕ)) (written : ℕ) : Type 0 where

@@ -7,25 +7,15 @@ use Rattle.bpf_insn.specs.declared.fault.SlotFault.{SlotFault}
 use Rattle.bpf_insn.specs.declared.fault.SlotCause.TheVariants.{Truncated}
 use Rattle.bpf_insn.specs.Spelling.{file_of, InsnFile}
 use Rattle.bpf_insn.specs.Faults.{IsFront, IsInsnFault}
+use Rattle.bpf_canon.specs.Engine.{Devices}
 use Rattle.bpf_canon.specs.device.Reads.{read_room}
 use Rattle.bpf_canon.specs.insn.Stands.{IsSound}
-use Rattle.bpf_canon.specs.declared.insn.run.RunCause.{RunCause}
-use Rattle.bpf_canon.specs.declared.insn.run.RunCause.TheVariants as cause
+use Rattle.bpf_canon.specs.declared.engine.RunCause.{RunCause}
+use Rattle.bpf_canon.specs.declared.engine.RunCause.TheVariants as cause
 
 -- how many bytes an engine takes
 abbrev pub limit : ℕ
 limit = 67108864
-
--- what the devices have: the source before and after, and the sink before and after
-pub record Devices : Type 0 where
-  pub source : Option (List ℕ)
-  pub source_after : Option (List ℕ)
-  pub sink : Option (List ℕ)
-  pub sink_after : Option (List ℕ)
-
-abbrev pub devices : Option (List ℕ) → Option (List ℕ) → Option (List ℕ) → Option (List ℕ) → Devices
-devices source source_after sink sink_after =
-    record { source = source; source_after = source_after; sink = sink; sink_after = sink_after }
 
 -- the source ended, what it gave is the spellings of some instructions, and the sink took these in the order `to`
 pub record RanWhole (d : Devices) (o to : Order) (written : ℕ) : Type 0 where
@@ -89,13 +79,3 @@ Stops d o to written cause.TooLong = StopsTooLong d o to written
 Stops d o to written cause.ReadFailed = StopsUnread d o to written
 Stops d o to written cause.WriteFailed = StopsUnwritten d o to written
 Stops d o to written cause.Memory = StopsUnwritten d o to written
-
--- how many reads failed in a call that stopped
-abbrev pub counts_read : {F : Type 0} → RunCause F → ℕ
-counts_read cause.ReadFailed = 1
-counts_read _ = 0
-
--- how many writes failed in it
-abbrev pub counts_write : {F : Type 0} → RunCause F → ℕ
-counts_write cause.WriteFailed = 1
-counts_write _ = 0

@@ -1,12 +1,12 @@
 //! BTF from a source to a sink.
 ghost use Rattle.std.specs.Prelude.{◌≡◌, ◌<◌, ◌+◌, IfOk, IfErr, OnOk};
-ghost use Rattle.bpf_canon.specs.insn.Run.{devices, counts_read, counts_write};
+ghost use Rattle.bpf_canon.specs.Engine.{devices, counts_read, counts_write};
 ghost use Rattle.bpf_canon.specs.btf.RunBtf.{RanBtf, StopsBtf};
 
 use crate::btf::canon::canonical_in;
 use crate::device::sink::ByteSink;
 use crate::device::source::{ByteSource, ReadError, read_all};
-use crate::insn::run::{RunCause, RunError, put_whole, stopped};
+use crate::engine::{RunCause, RunError, put_whole, stopped};
 use bpf_words::Order;
 use btf_raw::BtfFault;
 use btf_types::BtfError;

@@ -3,7 +3,7 @@ ghost use Rattle.std.specs.Prelude.{IfOk, IfErr};
 ghost use Rattle.bpf_canon.specs.btf.SameBtf.{ComparesBtf, NamesBtfSide};
 
 use crate::btf::canon::canonical_in;
-use crate::insn::same::SideError;
+use crate::engine::SideError;
 use bpf_words::Order;
 use btf_raw::BtfFault;
 use btf_types::{BtfError, BtfView};

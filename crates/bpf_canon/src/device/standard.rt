@@ -1,5 +1,6 @@
 //! Devices over any reader and writer, as the standard streams are.
-ghost use Rattle.std.specs.Prelude.{◌≡◌};
+ghost use Rattle.std.specs.Prelude.{◌≡◌, ◌<◌};
+ghost use Rattle.bpf_canon.specs.device.Device.{AnswersRead, AnswersWrite};
 
 use crate::device::DeviceFailed;
 use crate::device::sink::ByteSink;
@@ -32,12 +33,24 @@ impl<R: Read> ByteSource for ReaderSource<R> {
     ghost failures = { λ s. s.failed_reads };
 
     fn read(&mut self, buffer: &mut [u8]) -> Result<usize, DeviceFailed> {
-        match self.reader.read(buffer) {
-            Ok(n) => Ok(n),
-            Err(_) => {
-                self.failed_reads += 1;
-                Err(DeviceFailed)
-            }
+        let answer = self.reader.read(buffer);
+        answer_read(answer, &mut self.failed_reads)
+    }
+}
+
+/// The answer of a source whose reader gave this one: an error of the reader is a failed read, and nothing else is.
+fn answer_read<E: Drop>(
+    answer: Result<usize, E>,
+    failed_reads: &mut u64,
+) -> Result<usize, DeviceFailed>
+    requires { failed_reads.old < u64.MAX }
+    ensures { AnswersRead answer failed_reads.old failed_reads.new result }
+{
+    match answer {
+        Ok(n) => Ok(n),
+        Err(_) => {
+            *failed_reads += 1;
+            Err(DeviceFailed)
         }
     }
 }
@@ -69,12 +82,26 @@ impl<W: Write> ByteSink for WriterSink<W> {
     ghost failures = { λ s. s.failed_writes };
 
     fn write(&mut self, bytes: &[u8]) -> Result<usize, DeviceFailed> {
-        match self.writer.write(bytes) {
-            Ok(n) if n > 0 || bytes.is_empty() => Ok(n),
-            _ => {
-                self.failed_writes += 1;
-                Err(DeviceFailed)
-            }
+        let answer = self.writer.write(bytes);
+        answer_write(answer, bytes.len(), &mut self.failed_writes)
+    }
+}
+
+/// The answer of a sink whose writer gave this one for `offered` bytes: an error of the writer is a failed write, and so is `Ok(0)`
+/// for one byte or more. `Ok(0)` for no bytes succeeds.
+fn answer_write<E: Drop>(
+    answer: Result<usize, E>,
+    offered: usize,
+    failed_writes: &mut u64,
+) -> Result<usize, DeviceFailed>
+    requires { failed_writes.old < u64.MAX }
+    ensures { AnswersWrite answer offered failed_writes.old failed_writes.new result }
+{
+    match answer {
+        Ok(n) if n > 0 || offered == 0 => Ok(n),
+        _ => {
+            *failed_writes += 1;
+            Err(DeviceFailed)
         }
     }
 }

@@ -25,11 +25,32 @@ pub fn canon_insns<A: Allocator>(
         → MatchResult result (λ canon. canon.items ≡ file_of Little l) (λ e. e ≡ InsnError.Memory) }
     ensures fault { IfErr result (NamesFault order bytes.now) }
 {
-    let mut feed = InsnFeed::new(order, Order::Little);
-    let mut canon = Vec::new(alloc);
-    match feed.feed(bytes, &mut canon) {
+    recode_insns(alloc, order, Order::Little, bytes)
+}
+
+/// The instructions of a file in the order `to` (RFC 9669 section 3).
+///
+/// The bytes are as many as the file's. In little-endian order they are canonical, the answer of [`canon_insns`].
+///
+/// # Errors
+///
+/// Those of [`canon_insns`].
+pub fn recode_insns<A: Allocator>(
+    alloc: A,
+    order: Order,
+    to: Order,
+    bytes: &[u8],
+) -> Result<Vec<u8, A>, InsnError>
+    ensures found { IfOk result (λ written. (l : List Insn) × (InsnFile order bytes.now l × (written.items ≡ file_of to l))) }
+    ensures all { (l : List Insn) → InsnFile order bytes.now l
+        → MatchResult result (λ written. written.items ≡ file_of to l) (λ e. e ≡ InsnError.Memory) }
+    ensures fault { IfErr result (NamesFault order bytes.now) }
+{
+    let mut feed = InsnFeed::new(order, to);
+    let mut written = Vec::new(alloc);
+    match feed.feed(bytes, &mut written) {
         Ok(()) => match feed.finish() {
-            Ok(_) => Ok(canon),
+            Ok(_) => Ok(written),
             Err(fault) => Err(InsnError::Fault(fault)),
         },
         Err(error) => Err(error),

@@ -1,49 +1,19 @@
 //! Instructions from a source to a sink.
 ghost use Rattle.std.specs.Prelude.{◌≡◌, ◌<◌, ◌≤◌, ◌+◌, ◌-◌, length, min, IfOk, IfErr, OnOk, IsNone};
-ghost use Rattle.std.specs.Io.KnownBytes.{Appends};
-ghost use Rattle.bpf_canon.specs.insn.Run.{RanWhole, Stops, devices, counts_read, counts_write};
-ghost use Rattle.bpf_canon.specs.insn.Passed.{Passed, PassStops, PutStops};
+ghost use Rattle.bpf_canon.specs.Engine.{devices, counts_read, counts_write};
+ghost use Rattle.bpf_canon.specs.insn.Run.{RanWhole, Stops};
+ghost use Rattle.bpf_canon.specs.insn.Passed.{Passed, PassStops};
 
 use crate::device::DeviceFailed;
-use crate::device::sink::{ByteSink, put_all};
+use crate::device::sink::ByteSink;
 use crate::device::source::ByteSource;
+use crate::engine::{RunCause, RunError, put_whole, stopped};
 use crate::insn::feed::InsnFeed;
 use bpf_insn::{InsnError, Order, SlotFault};
 use std::alloc::Allocator;
-use thiserror::Error;
 
 /// How many bytes of instructions an engine takes from a source: 64 MiB.
 pub const INSN_LIMIT: u64 = 67_108_864;
-
-/// Why an engine stopped. `F` is a fault of its input.
-#[derive(Clone, Copy, Debug, PartialEq, Eq, Error)]
-pub enum RunCause<F> {
-    /// The input has this fault.
-    #[error("Fault")]
-    Fault(F),
-    /// More bytes came than the limit allows.
-    #[error("TooLong")]
-    TooLong,
-    /// A read of the source failed.
-    #[error("ReadFailed")]
-    ReadFailed,
-    /// A write to the sink failed.
-    #[error("WriteFailed")]
-    WriteFailed,
-    /// The allocator refused memory.
-    #[error("Memory")]
-    Memory,
-}
-
-/// What an engine says that stopped.
-#[derive(Clone, Copy, Debug, PartialEq, Eq, Error)]
-#[error("{cause}")]
-pub struct RunError<F> {
-    /// Why it stopped.
-    pub cause: RunCause<F>,
-    /// How many bytes the sink took.
-    pub written: u64,
-}
 
 /// Reads instructions in one order to the source's end, and writes them in another as they come. The answer is how many
 /// bytes were written. Each read offers 4,096 bytes of room, and the input isn't kept.
@@ -103,14 +73,6 @@ pub fn run_insns<A: Allocator, S: ByteSource, W: ByteSink>(
     }
 }
 
-// What an engine says that stops for a cause when the sink has taken so many bytes.
-pub(crate) fn stopped<F>(cause: RunCause<F>, written: u64) -> RunError<F>
-    ensures cause { result.cause ≡ cause }
-    ensures written { result.written ≡ written }
-{
-    RunError { cause, written }
-}
-
 // How many of n bytes are within the limit, where some came before.
 fn within_limit(n: usize, before: u64) -> usize
     requires { before ≤ INSN_LIMIT }
@@ -143,19 +105,5 @@ fn pass_on<A: Allocator, W: ByteSink>(
             Err(stopped(RunCause::Fault(fault), written))
         }
         Err(InsnError::Memory) => Err(stopped(RunCause::Memory, 0)),
-    }
-}
-
-// Writes all the bytes, and tells how many they are.
-pub(crate) fn put_whole<F, W: ByteSink>(sink: &mut W, bytes: &[u8]) -> Result<u64, RunError<F>>
-    requires { W.failures sink.old < u64.MAX }
-    ensures ok { IfOk result (λ n. (n ≡ length bytes.now) × Appends (W.contents sink.old) (W.contents sink.new) bytes.now) }
-    ensures err { IfErr result (PutStops (W.contents sink.old) (W.contents sink.new) bytes.now) }
-    ensures healthy { OnOk result (W.failures sink.new ≡ W.failures sink.old) }
-    ensures count { IfErr result (λ e. W.failures sink.new ≡ W.failures sink.old + 1) }
-{
-    match put_all(sink, bytes) {
-        Ok(()) => Ok(bytes.len() as u64),
-        Err(written) => Err(stopped(RunCause::WriteFailed, written)),
     }
 }

@@ -2,24 +2,10 @@
 ghost use Rattle.std.specs.Prelude.{IfOk, IfErr};
 ghost use Rattle.bpf_canon.specs.insn.Canonical.{Compares, NamesSide};
 
+use crate::engine::SideError;
 use crate::insn::canon::canon_insns;
 use bpf_insn::{InsnError, Order, SlotFault};
 use std::alloc::Allocator;
-use thiserror::Error;
-
-/// Why two files couldn't be compared. `F` is a fault of a file.
-#[derive(Clone, Copy, Debug, PartialEq, Eq, Error)]
-pub enum SideError<F> {
-    /// The first file has this fault.
-    #[error("First")]
-    First(F),
-    /// The second file has this fault, and the first has none.
-    #[error("Second")]
-    Second(F),
-    /// The allocator refused memory.
-    #[error("Memory")]
-    Memory,
-}
 
 /// Whether two files have the same instructions. Each is read in its own order. That is so exactly where their canonical
 /// bytes are the same.

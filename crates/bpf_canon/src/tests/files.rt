@@ -1,7 +1,7 @@
 //! Canonical bytes and comparison of whole instruction files.
 use super::expect::{equal, equal_bytes, holds};
 use super::samples::{EXIT, INSN_FILES, InsnFile};
-use crate::{SideError, canon_insns, same_insns, write_insns};
+use crate::{SideError, canon_insns, recode_insns, same_insns, write_insns};
 use bpf_insn::{Insn, InsnError, Order, SlotCause, SlotFault, decode_insns};
 use std::alloc::Global;
 use std::process::Abort;
@@ -19,6 +19,30 @@ fn check_canonical(rt: &impl Abort, alloc: Global, file: &InsnFile) {
     }
 }
 
+/// Recodes a file of each order into each order.
+fn check_recoded(rt: &impl Abort, alloc: Global, little: &[u8], big: &[u8]) -> Result<(), Fail> {
+    let files = [(Order::Little, little), (Order::Big, big)];
+    for read in &files {
+        for wanted in &files {
+            let written = recode_insns(alloc, read.0, wanted.0, read.1)?;
+            equal_bytes(rt, written.as_slice(), wanted.1, &(read, wanted.0));
+        }
+    }
+    Ok(())
+}
+
+/// A file is recoded, or its fault is reported, in either order.
+fn check_recoded_file(rt: &impl Abort, alloc: Global, file: &InsnFile) {
+    for to in &[Order::Little, Order::Big] {
+        let fault = match recode_insns(alloc, file.order, *to, file.bytes) {
+            Ok(_) => None,
+            Err(InsnError::Fault(fault)) => Some(fault),
+            Err(InsnError::Memory) => None,
+        };
+        equal(rt, &fault, &file.slot_fault(), &file.bytes);
+    }
+}
+
 /// Writes the instructions of the file in both orders, and compares each with the file.
 fn check_written(rt: &impl Abort, alloc: Global, file: &InsnFile) -> Result<(), Fail> {
     let insns = decode_insns(alloc, file.order, file.bytes)?;
@@ -29,13 +53,14 @@ fn check_written(rt: &impl Abort, alloc: Global, file: &InsnFile) -> Result<(), 
     let big = write_insns(alloc, Order::Big, &insns)?;
     let same = same_insns(alloc, Order::Big, &big, file.order, file.bytes);
     equal(rt, &same, &Ok(true), &file.bytes);
-    Ok(())
+    check_recoded(rt, alloc, &little, &big)
 }
 
 #[test]
 fn files_have_their_canonical_bytes_or_their_first_fault(rt: HostRuntime) -> Result<(), Fail> {
     for file in &INSN_FILES {
         check_canonical(&rt, rt.alloc(), file);
+        check_recoded_file(&rt, rt.alloc(), file);
         if file.fault.is_none() {
             check_written(&rt, rt.alloc(), file)?;
         }

@@ -3,7 +3,7 @@ use super::arena::Tally;
 use super::expect::{equal, equal_bytes};
 use crate::{
     InsnFeed, MemSink, MemSource, ReadError, RunCause, RunError, SideError, canon_insns, read_all,
-    run_insns, same_insns, write_insns,
+    recode_insns, run_insns, same_insns, write_insns,
 };
 use bpf_insn::{Insn, InsnError, Order, SlotCause, SlotFault};
 use std::alloc::{Allocator, Global};
@@ -63,6 +63,23 @@ fn of_canonical_bytes(rt: HostRuntime) -> Result<(), Fail> {
         match canon_insns(bump, Order::Little, &FILE[..56]) {
             Ok(canon) => {
                 equal_bytes(&rt, canon.as_slice(), &FILE[..56], &"canonical bytes");
+                None
+            }
+            Err(InsnError::Memory) => Some(0),
+            Err(InsnError::Fault(_)) => panic!(rt; "a fault of a good file"),
+        }
+    })?;
+    assert!(rt; tally.refused >= 56);
+    Ok(())
+}
+
+#[test]
+fn of_recoding(rt: HostRuntime) -> Result<(), Fail> {
+    let tally = Tally::of(&rt, rt.alloc(), |bump| {
+        match recode_insns(bump, Order::Little, Order::Big, &FILE[..56]) {
+            Ok(written) => {
+                // An exit has the same bytes in both orders.
+                equal_bytes(&rt, written.as_slice(), &FILE[..56], &"recoded");
                 None
             }
             Err(InsnError::Memory) => Some(0),

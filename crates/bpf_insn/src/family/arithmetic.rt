@@ -1,7 +1,7 @@
 //! Arithmetic instructions, read and written (RFC 9669 section 4.1).
 //!
-//! The code names the operation, the source bit s tells a register from an immediate, and the class,
-//! ALU or ALU64, tells the width:
+//! The code is the operation. The source bit s selects a register or an immediate, and the class, ALU or
+//! ALU64, is the width:
 //!
 //! ```text
 //! +-+-+-+-+-+-+-+-+
@@ -80,7 +80,7 @@ fn alu_class_of(width: Width) -> u8
     }
 }
 
-/// Tells whether a move allows this offset: 0, or the bits of a move that extends the sign.
+/// Whether a move allows this offset: 0, or the bits of a move that extends the sign.
 fn allows_mov_off(width: Width, source: Source, off: i16) -> bool
     ensures { IsTrue result ↔ AllowsMovOff width source off }
 {
@@ -91,7 +91,7 @@ fn allows_mov_off(width: Width, source: Source, off: i16) -> bool
     }
 }
 
-/// Tells whether an arithmetic operation allows this offset.
+/// Whether an arithmetic operation allows this offset.
 pub(crate) fn allows_alu_off(code: AluCode, width: Width, source: Source, off: i16) -> bool
     ensures { IsTrue result ↔ AllowsAluOff code width source off }
 {
@@ -124,7 +124,7 @@ fn alu_op_of(code: AluCode, off: i16) -> AluOp
     }
 }
 
-/// The offset that tells signed division from unsigned.
+/// The offset of an operation: 1 for signed division and remainder.
 fn offset_of_alu_op(op: AluOp) -> i16
     ensures { result ≡ pos (alu_offset op) }
 {
@@ -134,7 +134,7 @@ fn offset_of_alu_op(op: AluOp) -> i16
     }
 }
 
-/// The move that extends the sign of so many bits.
+/// The move that extends the sign of this number of bits.
 fn movsx_form_of(width: Width, off: i16) -> MovsxForm
     requires allowed { AllowsMovOff width Source.X off }
     requires extends { off ≢ pos 0 }

@@ -1,7 +1,7 @@
 //! Jumps, branches, calls and exits, read and written (RFC 9669 section 4.3).
 //!
-//! The code names the comparison, or one of JA (0x0), CALL (0x8) and EXIT (0x9); the source bit s tells
-//! a register from an immediate, and the class, JMP (5) or JMP32 (6), tells the width:
+//! The code is the comparison, or one of JA (0x0), CALL (0x8) and EXIT (0x9). The source bit s selects a
+//! register or an immediate, and the class, JMP (5) or JMP32 (6), is the width:
 //!
 //! ```text
 //! +-+-+-+-+-+-+-+-+
@@ -165,7 +165,7 @@ pub(crate) fn jump_long_slot(imm: i32) -> Slot
     }
 }
 
-/// The slot of a call. The source field, 0 to 2, tells what is called.
+/// The slot of a call. The kind of call is in the src field: 0 to 2.
 #[inline]
 fn call_slot(src: u8, off: i16, imm: i32) -> Slot
     requires { src ≤ 2 }

@@ -1,6 +1,6 @@
 //! Loads, stores and atomic operations, read and written (RFC 9669 sections 5.1 to 5.3 and 5.5).
 //!
-//! The mode tells how memory is accessed, sz how much of it, and the class from where to where:
+//! The mode is how memory is addressed, sz the size of the access, and the class its direction:
 //!
 //! ```text
 //! +-+-+-+-+-+-+-+-+
@@ -71,7 +71,7 @@ fn number_of_size(size: Size) -> u8
     }
 }
 
-/// The number of a size that is no double word.
+/// The number of a size up to a word.
 fn number_of_small_size(size: SmallSize) -> u8
     ensures { result ≡ small_size_number size }
 {

@@ -1,7 +1,6 @@
 //! The second operand of arithmetic and branches, read and written.
 //!
-//! Source bit 0, K, says that the operand is the immediate; 1, X, that it is the source register (RFC
-//! 9669 section 4).
+//! With source bit 0, K, it is the immediate; with 1, X, it is the source register (RFC 9669 section 4).
 
 ghost use Rattle.std.specs.Prelude.{◌≡◌, ◌↔◌, IsTrue};
 ghost use Rattle.bpf_insn.specs.Table.{IsOperand, immediate, source, source_bit};
@@ -10,7 +9,7 @@ ghost use Rattle.bpf_insn.specs.Forms.{AllowsSource, MakesOperand};
 use crate::form::Source;
 use crate::{Operand, Reg};
 
-/// Tells whether a source bit allows this src field.
+/// Whether a source bit allows this src field.
 pub(crate) fn allows_source(source: Source, src: u8) -> bool
     ensures { IsTrue result ↔ AllowsSource source src }
 {
@@ -20,7 +19,7 @@ pub(crate) fn allows_source(source: Source, src: u8) -> bool
     }
 }
 
-/// The operand of these fields. A register leaves no use for the immediate.
+/// The operand of these fields. With a register, the immediate must be 0.
 pub(crate) fn operand_of(source: Source, src: Reg, imm: i32) -> Option<Operand>
     requires { AllowsSource source src.number }
     ensures { MakesOperand source src.number imm result }

@@ -1,6 +1,6 @@
 //! Wide loads, of two slots, read and written (RFC 9669 section 5.4).
 //!
-//! The opcode has mode IMM, sz DW and class LD; the source field tells what the immediates name:
+//! The opcode has mode IMM, sz DW and class LD. What the immediates name depends on the src field:
 //!
 //! ```text
 //! +-+-+-+-+-+-+-+-+
@@ -24,9 +24,9 @@ use byteorder::{BigEndian, ByteOrder, LittleEndian};
 /// The opcode of the first slot.
 pub(crate) const WIDE: u8 = 0x18;
 
-/// The number of these halves.
+/// The number that a load has in its two immediates: imm is the low half, next_imm the high half.
 #[inline(always)]
-fn number_of(low: i32, high: i32) -> u64
+fn imm64_of(low: i32, high: i32) -> u64
     ensures { result ≡ cast_unsigned w32 high * 2 ^ 32 + cast_unsigned w32 low }
 {
     u64::from(high.cast_unsigned()) * 0x1_0000_0000 + u64::from(low.cast_unsigned())
@@ -39,7 +39,7 @@ fn wide_of(src: Reg, imm: i32, next_imm: i32) -> Option<WideOf>
     ensures { MakesWide src.number imm next_imm result }
 {
     match src.number() {
-        0 => Some(WideOf::Number(number_of(imm, next_imm))),
+        0 => Some(WideOf::Number(imm64_of(imm, next_imm))),
         2 => Some(WideOf::MapValueFd(imm, next_imm)),
         3 => Some(WideOf::VarAddr(imm, next_imm)),
         6 => Some(WideOf::MapValueIdx(imm, next_imm)),
@@ -80,7 +80,7 @@ pub(crate) fn wide_second(what: WideOf) -> i32
     }
 }
 
-/// The wide load of which the first slot says this, from the bytes after that slot.
+/// The wide load with these fields in its first slot, from the bytes after that slot.
 #[inline(always)]
 pub(crate) fn read_wide(
     order: Order,

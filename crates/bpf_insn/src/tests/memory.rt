@@ -1,4 +1,4 @@
-//! Files that are decoded with each growth refused, and large ones with ample memory.
+//! Files that are decoded with each allocation refused in turn, and large ones with ample memory.
 
 use super::equal;
 use crate::{InsnError, Order, SlotCause, SlotFault, decode_insns};
@@ -13,10 +13,10 @@ const FILE: &[u8; 80] = b"\
     \x95\0\0\0\0\0\0\0\x95\0\0\0\0\0\0\0\x95\0\0\0\0\0\0\0\
     \x95\0\0\0\0\0\0\0\x95\0\0\0\0\0\0\0\x95\0\0\0\0\0\0\0\x04\x10\0\0\x05\0\0\0";
 
-/// How many bytes an arena has, before any are given away.
+/// The size of an arena in bytes.
 const ROOM: usize = 1984;
 
-/// An arena with `room` bytes left, which gets no more.
+/// An arena with `room` bytes left, which can't grow.
 fn arena(alloc: Global, room: usize) -> Result<Bump<Global>, AllocError> {
     let taken = [0u8; ROOM];
     let bump = Bump::try_with_capacity(alloc, ROOM)?;
@@ -25,12 +25,12 @@ fn arena(alloc: Global, room: usize) -> Result<Bump<Global>, AllocError> {
     Ok(bump)
 }
 
-/// What a file of `count` exits, of all nine and of the fault too gives in a room.
+/// What a file of `count` exits returns in a room, also one of all nine, and one with the fault too.
 #[derive(Clone, Copy, Debug, PartialEq, Eq)]
 enum Decoded {
     /// All of its instructions.
     Whole,
-    /// Its fault, by the right place and cause.
+    /// Its fault, with the right place and cause.
     Faulty,
     /// Out of memory.
     Refused,
@@ -51,7 +51,7 @@ fn outcome(bump: &Bump<Global>, bytes: &[u8]) -> Decoded {
     }
 }
 
-/// The first room in which the first bytes of the file aren't refused. Each smaller one is refused.
+/// The smallest room that the first bytes of the file need. In each smaller one they run out of memory.
 fn least_room(alloc: Global, bytes: &[u8], end: Decoded) -> Result<Option<usize>, AllocError> {
     let mut least = None;
     for room in 0..=ROOM {
@@ -133,10 +133,10 @@ fn each_growth_is_refused(rt: HostRuntime) -> Result<(), Fail> {
     Ok(())
 }
 
-/// How many slots the large files have: 4 MiB. The program decodes the largest, in `tests/limits.py`.
+/// The number of slots of the large files, which are 4 MiB. The program decodes the largest in `tests/limits.py`.
 const COUNT: usize = 524_288;
 
-/// A file of exits up to its last slot, and how many instructions or which fault it has.
+/// A file of exits up to its last slot, and the number of its instructions or its fault.
 #[derive(Clone, Copy, Debug)]
 struct LargeRow {
     last: &'static [u8],
@@ -167,7 +167,7 @@ fn large(alloc: Global, last: &[u8]) -> Result<Vec<u8>, AllocError> {
     Ok(bytes)
 }
 
-/// Tells whether a large file has the answer of its row.
+/// Whether the call returns what the row of a large file says.
 fn is_decoded(alloc: Global, row: &LargeRow) -> Result<bool, AllocError> {
     let bytes = large(alloc, row.last)?;
     Ok(match decode_insns(alloc, Order::Little, &bytes) {

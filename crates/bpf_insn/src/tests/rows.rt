@@ -1,4 +1,4 @@
-//! What each call answers: to the bytes of every form of instruction, to faulty bytes, and to files.
+//! What each call returns: for the bytes of every form of instruction, for faulty bytes, and for files.
 
 use super::equal;
 use crate::{
@@ -37,8 +37,7 @@ mod faults;
 mod jumps;
 mod load_store;
 
-/// The same bytes in another order: in big-endian ones the halves of the register byte and the bytes of each number have
-/// changed places.
+/// The same bytes in the other order: the halves of the register byte and the bytes of each number are exchanged.
 fn in_order(alloc: Global, order: Order, little: &[u8]) -> Result<Vec<u8>, AllocError> {
     let mut bytes = little.to_vec(alloc)?;
     if order == Order::Little {
@@ -55,7 +54,7 @@ fn in_order(alloc: Global, order: Order, little: &[u8]) -> Result<Vec<u8>, Alloc
     Ok(bytes)
 }
 
-/// Tells whether each call answers to the bytes of an instruction what the row says.
+/// Whether each call returns what the row says of its bytes.
 fn is_right(alloc: Global, order: Order, row: &InsnRow) -> Result<bool, Fail> {
     let bytes = in_order(alloc, order, row.little)?;
     let (insn, len) = read_insn(order, &bytes).map_err(InsnError::Fault)?;
@@ -133,7 +132,7 @@ fn files_of_one_instruction_in_both_orders(rt: HostRuntime) -> Result<(), Fail> 
     Ok(())
 }
 
-/// Tells whether both calls find the fault of a row.
+/// Whether both calls find the fault of a row.
 fn has_fault(alloc: Global, order: Order, row: &FaultRow) -> Result<bool, AllocError> {
     let fault = SlotFault {
         pos: row.pos,
@@ -163,7 +162,7 @@ const FILE: &[u8; 40] = b"\
     \x37\x01\x01\0\x03\0\0\0\xdb\x21\xf8\xff\xf1\0\0\0\x95\0\0\0\0\0\0\0\
     \x18\x01\0\0\x88\x77\x66\x55\0\0\0\0\x44\x33\x22\x11";
 
-/// How many instructions the first bytes of the file have, if they are whole.
+/// The number of instructions in the first bytes of the file, if the last one is whole.
 fn whole_insns(len: usize) -> Option<usize> {
     match len {
         40 => Some(4),
@@ -288,22 +287,12 @@ static GROUPS: [GroupsRow; 9] = [
     },
 ];
 
-const ALL_GROUPS: [Group; 7] = [
-    Group::Base32,
-    Group::Base64,
-    Group::Atomic32,
-    Group::Atomic64,
-    Group::Divmul32,
-    Group::Divmul64,
-    Group::Packet,
-];
-
 #[test]
 fn groups_of_files(rt: HostRuntime) -> Result<(), Fail> {
     for row in &GROUPS {
         let insns = decode_insns(rt.alloc(), Order::Little, row.little)?;
         let set = groups_of(&insns);
-        for group in ALL_GROUPS {
+        for group in Group::ALL {
             equal(
                 &rt,
                 &set.has(group),
@@ -324,23 +313,60 @@ fn registers_have_the_numbers_up_to_ten(rt: HostRuntime) {
     }
 }
 
-/// The causes by their numbers, and their names.
-const CAUSES: [(SlotCause, &str); 8] = [
-    (SlotCause::Truncated, "Truncated"),
-    (SlotCause::Opcode, "Opcode"),
-    (SlotCause::Dst, "Dst"),
-    (SlotCause::Src, "Src"),
-    (SlotCause::Offset, "Offset"),
-    (SlotCause::Imm, "Imm"),
-    (SlotCause::Reserved, "Reserved"),
-    (SlotCause::NextImm, "NextImm"),
+/// The causes by their numbers, their names, and their sentences.
+const CAUSES: [(SlotCause, &str, &str); 8] = [
+    (
+        SlotCause::Truncated,
+        "Truncated",
+        "the input ends inside an instruction",
+    ),
+    (
+        SlotCause::Opcode,
+        "Opcode",
+        "no instruction has this opcode",
+    ),
+    (
+        SlotCause::Dst,
+        "Dst",
+        "no instruction with this opcode has this destination register",
+    ),
+    (
+        SlotCause::Src,
+        "Src",
+        "no instruction with this opcode has this source register",
+    ),
+    (
+        SlotCause::Offset,
+        "Offset",
+        "no instruction with this opcode and these registers has this offset",
+    ),
+    (
+        SlotCause::Imm,
+        "Imm",
+        "no instruction with this opcode, these registers and this offset has this immediate",
+    ),
+    (
+        SlotCause::Reserved,
+        "Reserved",
+        "the second slot of a wide load has an opcode, a register or an offset that is not zero",
+    ),
+    (
+        SlotCause::NextImm,
+        "NextImm",
+        "the immediate of the second slot is not zero, and this kind of wide load has one number only",
+    ),
 ];
 
 #[test]
-fn causes_and_errors_are_shown_by_their_names(rt: HostRuntime) -> Result<(), Fail> {
-    for (index, (cause, name)) in CAUSES.iter().enumerate() {
-        let shown = format!(in rt.alloc(); "{} {} {cause}", *cause as usize, cause.name())?;
-        let wanted = format!(in rt.alloc(); "{} {name} {name}", index + 1)?;
+fn causes_and_errors_have_these_texts(rt: HostRuntime) -> Result<(), Fail> {
+    for (index, (cause, name, sentence)) in CAUSES.iter().enumerate() {
+        let shown = format!(in rt.alloc();
+            "{} {} {cause} {}",
+            *cause as usize,
+            cause.name(),
+            cause.describe()
+        )?;
+        let wanted = format!(in rt.alloc(); "{} {name} {name} {sentence}", index + 1)?;
         equal(&rt, &shown, &wanted, cause);
     }
     let fault = InsnError::Fault(SlotFault {

@@ -1,4 +1,4 @@
--- The names of the causes of listings' faults.
+-- The causes of listings' faults: their names, and a sentence for each.
 use Rattle.std.specs.Prelude.{ℕ, List, codes}
 use Rattle.bpf_text.specs.declared.insn.fault.LineCause.{LineCause}
 use Rattle.bpf_text.specs.declared.insn.fault.LineCause.TheVariants as line_cause
@@ -8,3 +8,10 @@ line_cause_name line_cause.Char = codes "Char"
 line_cause_name line_cause.Word = codes "Word"
 line_cause_name line_cause.Shape = codes "Shape"
 line_cause_name line_cause.Range = codes "Range"
+
+-- what is wrong, for people
+abbrev pub line_cause_sentence : LineCause → List ℕ
+line_cause_sentence line_cause.Char = codes "a character that is neither blank nor part of a token"
+line_cause_sentence line_cause.Word = codes "no instruction has this mnemonic"
+line_cause_sentence line_cause.Shape = codes "the operands are not those of the mnemonic"
+line_cause_sentence line_cause.Range = codes "a number is out of the range of its field"

@@ -2,7 +2,7 @@
 
 ghost use Rattle.std.specs.Prelude.{◌≡◌};
 ghost use Rattle.bpf_text.specs.declared.insn.fault.ListError.TheVariants.{Memory};
-ghost use Rattle.bpf_text.specs.insn.LineCauseNames.{line_cause_name};
+ghost use Rattle.bpf_text.specs.insn.LineCauseNames.{line_cause_name, line_cause_sentence};
 
 use std::alloc::AllocError;
 use std::fmt;
@@ -31,6 +31,18 @@ impl LineCause {
             LineCause::Word => "Word",
             LineCause::Shape => "Shape",
             LineCause::Range => "Range",
+        }
+    }
+
+    /// What is wrong, in one sentence without a full stop, for people.
+    pub fn describe(self) -> &'static str
+        ensures { result.now ≡ line_cause_sentence self }
+    {
+        match self {
+            LineCause::Char => "a character that is neither blank nor part of a token",
+            LineCause::Word => "no instruction has this mnemonic",
+            LineCause::Shape => "the operands are not those of the mnemonic",
+            LineCause::Range => "a number is out of the range of its field",
         }
     }
 }

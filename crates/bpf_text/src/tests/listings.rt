@@ -181,19 +181,36 @@ fn long_lines_are_faulty(rt: HostRuntime) -> Result<(), Fail> {
     Ok(())
 }
 
-/// The causes by their numbers, and their names.
-const CAUSES: [(LineCause, &str); 4] = [
-    (LineCause::Char, "Char"),
-    (LineCause::Word, "Word"),
-    (LineCause::Shape, "Shape"),
-    (LineCause::Range, "Range"),
+/// The causes by their numbers, their names, and their sentences.
+const CAUSES: [(LineCause, &str, &str); 4] = [
+    (
+        LineCause::Char,
+        "Char",
+        "a character that is neither blank nor part of a token",
+    ),
+    (LineCause::Word, "Word", "no instruction has this mnemonic"),
+    (
+        LineCause::Shape,
+        "Shape",
+        "the operands are not those of the mnemonic",
+    ),
+    (
+        LineCause::Range,
+        "Range",
+        "a number is out of the range of its field",
+    ),
 ];
 
 #[test]
-fn causes_and_errors_are_shown_by_their_names(rt: HostRuntime) -> Result<(), Fail> {
-    for (index, (cause, name)) in CAUSES.iter().enumerate() {
-        let shown = format!(in rt.alloc(); "{} {} {cause}", *cause as usize, cause.name())?;
-        let wanted = format!(in rt.alloc(); "{} {name} {name}", index + 1)?;
+fn causes_and_errors_have_these_texts(rt: HostRuntime) -> Result<(), Fail> {
+    for (index, (cause, name, sentence)) in CAUSES.iter().enumerate() {
+        let shown = format!(in rt.alloc();
+            "{} {} {cause} {}",
+            *cause as usize,
+            cause.name(),
+            cause.describe()
+        )?;
+        let wanted = format!(in rt.alloc(); "{} {name} {name} {sentence}", index + 1)?;
         equal(&rt, &shown, &wanted, cause);
     }
     let fault = ListError::Fault(LineFault {

@@ -15,7 +15,7 @@ struct Sample {
     output: &'static [u8],
 }
 
-/// A line of each command, and of those that write in another order.
+/// A line of each command. Where a command takes `--to`, one more writes in the other order.
 static SAMPLES: [Sample; 12] = [
     Sample {
         line: "insn-canon",

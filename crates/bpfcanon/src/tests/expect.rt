@@ -1,5 +1,5 @@
-//! Comparisons of tests. A call of these is proved in a fraction of the time of an `assert_eq!`, which brings its own text and its
-//! own ways to end at each place. Unlike it they leave no fact to the proof after them.
+//! Comparisons for tests. A call of one is proved in a fraction of the time of an `assert_eq!`, which brings its own text and its
+//! own ways to end at each place. Unlike `assert_eq!` it leaves no fact for the proof of what follows.
 
 use super::runner::Ran;
 use std::fmt::Debug;

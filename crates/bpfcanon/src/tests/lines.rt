@@ -1,16 +1,16 @@
-//! Command lines, and the jobs that they ask for.
+//! Command lines and their jobs.
 
 use super::expect::{equal, equal_bytes};
 use super::runner::words_of;
-use crate::command_line::{LineError, parse_line};
 use crate::job::Job;
+use crate::line::parse::{LineError, parse_line};
 use crate::verb::Verb;
 use bpf_words::Order;
 use std::alloc::Global;
 use std::process::Abort;
 use std::test::Fail;
 
-/// The words after the program's name, and the job that they ask for.
+/// The words after the program's name, and their job.
 #[derive(Clone, Copy)]
 struct Line {
     words: &'static str,
@@ -311,18 +311,18 @@ static REFUSED: [&str; 66] = [
     "insn-same --split 18446744073709551616",
 ];
 
-/// Compares what a line asks for.
+/// Compares the job of a line.
 pub fn check_line(
     rt: &impl Abort,
     alloc: Global,
     line: &str,
-    asked: Result<Job, LineError>,
+    job: Result<Job, LineError>,
 ) -> Result<(), Fail> {
     let words = words_of(alloc, line)?;
     if words.is_empty() {
         return Err("no words")?;
     }
-    equal(rt, &parse_line(alloc, words.as_slice()), &asked, &line);
+    equal(rt, &parse_line(alloc, words.as_slice()), &job, &line);
     Ok(())
 }
 

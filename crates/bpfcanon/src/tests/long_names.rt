@@ -39,8 +39,8 @@ fn suffixes_text(alloc: Global) -> Result<Vec<u8>, AllocError> {
     Ok(text)
 }
 
-/// A file of an ENUM with a value whose name is a character of one byte and 5,000 of two bytes: each chunk of an even number of bytes
-/// ends amid a character.
+/// A file of an ENUM with a value whose name is a character of one byte and 5,000 of two bytes: a chunk of an even number
+/// of bytes ends inside a character.
 fn cut_characters(alloc: Global) -> Result<Shown, AllocError> {
     let mut name = Vec::from_slice(alloc, b"n")?;
     name.extend_from_slice(&repeated(alloc, b"\xc3\xa9", 5000)?)?;

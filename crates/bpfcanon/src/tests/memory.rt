@@ -1,4 +1,4 @@
-//! Each growth is refused in turn, to every command: an arena has room for one byte more each time.
+//! Each allocation of each command is refused in turn: an arena has room for one byte more each time.
 
 use super::arena::arena;
 use super::btf_files::{Shown, named, nameless, repeated};
@@ -6,8 +6,8 @@ use super::expect::{equal, equal_bytes, holds};
 use super::memory_samples::{SAMPLES, Sample};
 use super::pieces::exits;
 use crate::job::Job;
-use crate::job_run::run_job;
 use crate::outcome::Outcome;
+use crate::run::run_job;
 use crate::verb::Verb;
 use bpf_canon::{MemSink, MemSource};
 use bpf_words::Order;
@@ -53,7 +53,7 @@ fn run_over(
     Ok(Ended { outcome, output })
 }
 
-/// How many bytes a job keeps at once at least: an instruction, or its input and its output.
+/// The number of bytes that a job keeps at once, at least: an instruction, or its input and its output.
 fn kept_at_least(sample: Sample) -> usize {
     if sample.verb == Verb::InsnCanon {
         8
@@ -62,7 +62,7 @@ fn kept_at_least(sample: Sample) -> usize {
     }
 }
 
-/// Runs a sample with more and more room until it isn't out of memory, which is after the least room that it can do with.
+/// Runs a sample with more and more room until it isn't out of memory. It needs at least the room of what it keeps.
 fn check_refusals(rt: &impl Abort, alloc: Global, sample: Sample) -> Result<(), Fail> {
     let job = job_of(sample);
     for room in 0..MOST_ROOM {

@@ -1,4 +1,4 @@
-//! Jobs whose growths are refused: each command, with its answer to inputs without a fault and with one.
+//! Jobs whose allocations are refused: each command, with its answer to inputs without a fault and with one.
 
 use super::btf_files::{BIG_INT, INT, STRUCT, STRUCT_TEXT, UNKNOWN_TYPE};
 use crate::outcome::Outcome;

@@ -122,7 +122,7 @@ fn is_taken(verb: Verb, setting: Setting, words: &str) -> bool {
     verb.takes(setting) || words.is_empty()
 }
 
-/// A command with these options in both orders asks for the job of these values.
+/// Checks that a command with these options, in both orders, has the job of these values.
 fn check_both_orders(
     rt: &impl Abort,
     alloc: Global,

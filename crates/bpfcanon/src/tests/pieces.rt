@@ -114,7 +114,7 @@ fn writes_fail_amid_a_name(rt: HostRuntime) -> Result<(), Fail> {
     )
 }
 
-/// Shows a file with writes of each of these sizes, none of which fails though the one after the last would.
+/// Shows a file with writes of each of these sizes. No write fails, but one more would.
 fn check_joined(rt: &impl Abort, alloc: Global, line: &str, shown: &Shown) -> Result<(), Fail> {
     for piece in [1, 1000, 4096] {
         let ran = run(alloc, line, &shown.file, steady(piece))?;

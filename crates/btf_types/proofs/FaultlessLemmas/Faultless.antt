@@ -10,11 +10,11 @@ use Rattle.bpf_words.specs.declared.Order.{Order}
 use Rattle.btf_raw.specs.declared.kinds.TheConstants.{STRUCT, UNION, FUNC, FUNC_PROTO, VAR, TYPEDEF, DECL_TAG}
 use Rattle.btf_raw.specs.Cause.{HasNone}
 use Rattle.btf_raw.specs.Header.{HasNulEnds, TYPES_LIMIT, STRINGS_LIMIT}
-use Rattle.btf_raw.specs.Kinds.{one_of}
+use Rattle.btf_raw.specs.Kinds.{one_of, has_target, is_struct}
 use Rattle.btf_raw.specs.Frames.{IsFrame, bytes_of, section_of, kind, vlen, third_word}
 use Rattle.btf_raw.proofs.Frames.{length-bytes_of}
 use Rattle.btf_types.specs.Spelling.{Spells}
-use Rattle.btf_types.specs.judge.Checks.{TypeFacts, type_at, no_type, has_target, target_fits, component_fits, is_struct}
+use Rattle.btf_types.specs.judge.Checks.{TypeFacts, type_at, no_type, target_fits, component_fits}
 use Rattle.btf_types.specs.Good.{facts, IsGoodRecord, IsGood, record_size}
 use Rattle.btf_types.specs.judge.FieldFaults.{FieldFault, frame_facts}
 use Rattle.btf_types.specs.Reading.{component_of, record_of, frames_at}

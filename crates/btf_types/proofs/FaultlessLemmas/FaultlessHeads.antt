@@ -5,11 +5,11 @@ use Rattle.std.specs.List.{All}
 use Rattle.std.proofs.lemmas.Bool.{eqb-true}
 use Rattle.std.proofs.lemmas.List.Elements.{All-nil, All-cons}
 use Rattle.btf_raw.specs.declared.kinds.TheConstants.{INT, ARRAY, FUNC, VAR, DECL_TAG, FWD}
-use Rattle.btf_raw.specs.Kinds.{one_of, has_flag, has_vlen, fixed_words, item_words}
+use Rattle.btf_raw.specs.Kinds.{one_of, has_flag, has_vlen, fixed_words, item_words, has_target, has_no_name}
 use Rattle.btf_types.specs.Values.{TypeItem}
 use Rattle.btf_types.specs.Names.{head_name}
 use Rattle.btf_types.specs.Spelling.{kind_number, head_third, bit, FlagSpells, linkage_number, encoding_number, component_word, record_vlen, head_tail}
-use Rattle.btf_types.specs.judge.Checks.{TypeFacts, has_target, has_no_name, size_fits, bits_fit, component_fits}
+use Rattle.btf_types.specs.judge.Checks.{TypeFacts, size_fits, bits_fit, component_fits}
 use Rattle.btf_types.specs.Good.{HeadInRange, HeadIsGood, head_targets}
 use Rattle.btf_types.specs.Good as good
 use Rattle.btf_types.specs.judge.FieldFaults.{int_unused, int_encoding, int_offset, int_bits}
@@ -162,12 +162,12 @@ size_of_count IsEnum64 size vlen count is fits = rw is fits
 size_of_count known size vlen count is fits = fits
 
 -- what other records ask of it
-pub offset_of_head : {k : ℕ} → KindIs k → (name : List ℕ) (third flag vlen next fourth fifth : ℕ) → good.int_offset (head_from name k third flag vlen next fourth fifth) ≡ (if k == INT then int_offset next else 0)
+pub offset_of_head : {k : ℕ} → KindIs k → (name : List ℕ) (third flag vlen next fourth fifth : ℕ) → good.head_int_offset (head_from name k third flag vlen next fourth fifth) ≡ (if k == INT then int_offset next else 0)
 unfolding head_from
 offset_of_head IsInt name third flag vlen next fourth fifth = refl
 offset_of_head known name third flag vlen next fourth fifth = refl
 
-pub bits_of_head : {k : ℕ} → KindIs k → (name : List ℕ) (third flag vlen next fourth fifth : ℕ) → good.int_bits (head_from name k third flag vlen next fourth fifth) ≡ (if k == INT then int_bits next else 0)
+pub bits_of_head : {k : ℕ} → KindIs k → (name : List ℕ) (third flag vlen next fourth fifth : ℕ) → good.head_int_bits (head_from name k third flag vlen next fourth fifth) ≡ (if k == INT then int_bits next else 0)
 unfolding head_from
 bits_of_head IsInt name third flag vlen next fourth fifth = refl
 bits_of_head known name third flag vlen next fourth fifth = refl

@@ -5,11 +5,11 @@ use Rattle.std.proofs.lemmas.Bool.{cases_lt, cases_eq}
 use Rattle.btf_raw.specs.declared.cause.BtfCause.TheVariants.{NameRange, NameUtf8, NameMissing, NameUnwanted, NotZero, Size, Reference, TargetKind, IntWord, MemberInt, MemberPlace, Linkage, Component}
 use Rattle.btf_raw.specs.declared.kinds.TheConstants.{INT, ARRAY, FWD, FUNC, VAR, DECL_TAG}
 use Rattle.btf_raw.specs.Header.{HasNulEnds}
-use Rattle.btf_raw.specs.Kinds.{one_of, kind_of, vlen_of, flag_of, unused_of, fixed_words, item_words, tail_words}
+use Rattle.btf_raw.specs.Kinds.{one_of, kind_of, vlen_of, flag_of, unused_of, fixed_words, item_words, tail_words, needs_name, has_no_name, has_item_names}
 use Rattle.btf_raw.specs.Names.{TextAt, NameAt}
 use Rattle.btf_raw.specs.Frames.{IsFrame, name_word, info_word, third_word, kind, vlen, flag}
 use Rattle.btf_types.specs.Spelling.{info}
-use Rattle.btf_types.specs.judge.Checks.{TypeFacts, type_at, needs_name, has_no_name, has_item_names, size_fits, bits_fit, target_fits, component_fits, member_fits, member_int_fits}
+use Rattle.btf_types.specs.judge.Checks.{TypeFacts, type_at, size_fits, bits_fit, target_fits, component_fits, member_fits, member_int_fits}
 use Rattle.btf_types.specs.Good.{TargetIsGood}
 use Rattle.btf_types.specs.judge.FieldFaults.{IsTypeField, IsMemberWord, HasBitFields, bit_offset, width, int_unused, int_encoding, int_bits}
 use Rattle.btf_types.specs.Reading.{text_from, component_of}

@@ -2,10 +2,10 @@
 use Rattle.std.proofs.Common.{◌≡◌, ℕ, ◌+◌, ◌*◌, ◌<◌, true, false, Some, List, refl, sym, ap, subst, ◌∙◌, inl, inr, lit<, arith}
 use Rattle.std.specs.Prelude.{IsTrue, slice_index, slice_get}
 use Rattle.btf_raw.specs.Header.{HasNulEnds}
-use Rattle.btf_raw.specs.Kinds.{item_words}
+use Rattle.btf_raw.specs.Kinds.{item_words, has_item_names}
 use Rattle.btf_raw.specs.Names.{NameAt}
 use Rattle.btf_raw.specs.Frames.{IsFrame, kind, vlen, flag}
-use Rattle.btf_types.specs.judge.Checks.{TypeFacts, has_item_names}
+use Rattle.btf_types.specs.judge.Checks.{TypeFacts}
 use Rattle.btf_types.specs.Values.{TypeItem}
 use Rattle.btf_types.specs.Reading.{text_from, item_from, item_of, item_total, record_of}
 use Rattle.btf_types.specs.judge.RecordFaults.{IsFaultless}

@@ -6,7 +6,7 @@ use Rattle.std.proofs.lemmas.List.Elements.{All-head, All-tail}
 use Rattle.btf_raw.specs.declared.cause.BtfCause.{BtfCause}
 use Rattle.btf_raw.specs.declared.cause.BtfCause.TheVariants.{NameRange, NameUtf8, NameMissing, NameUnwanted, NotZero, Size, Reference, TargetKind, IntWord, MemberInt, MemberPlace, Linkage, Component}
 use Rattle.btf_raw.specs.declared.kinds.TheConstants.{INT, ARRAY, STRUCT, UNION, ENUM, ENUM64, FWD, FUNC, FUNC_PROTO, VAR, DATASEC, DECL_TAG}
-use Rattle.btf_raw.specs.Kinds.{one_of, item_words}
+use Rattle.btf_raw.specs.Kinds.{one_of, item_words, has_no_name, has_target, has_item_names, is_struct}
 use Rattle.btf_raw.specs.Names.{TextAt, NameAt}
 use Rattle.btf_raw.specs.Frames.{kind, vlen, flag, name_word, third_word}
 use Rattle.btf_raw.proofs.Texts.{TextAt-unique, TextAt-inside}
@@ -17,7 +17,7 @@ use Rattle.btf_types.specs.declared.values.Linkage.TheVariants.{LStatic, LGlobal
 use Rattle.btf_types.specs.Values.{TypeHead, KInt, KPtr, KArray, KStruct, KUnion, KEnum, KFwd, KTypedef, KVolatile, KConst, KRestrict, KFunc, KFuncProto, KVar, KDatasec, KDeclTag, KTypeTag, KEnum64, TypeItem, Member, EnumValue, Value64, Param, Entry, TypeRecord}
 use Rattle.btf_types.specs.Names.{head_name, item_name}
 use Rattle.btf_types.specs.Spelling.{kind_number, head_third, head_tail, linkage_number, encoding_number, MemberWord, ItemSpells, Spells}
-use Rattle.btf_types.specs.judge.Checks.{TypeFacts, has_no_name, has_target, has_item_names, is_struct, size_fits, bits_fit, component_fits, member_fits, member_int_fits}
+use Rattle.btf_types.specs.judge.Checks.{TypeFacts, size_fits, bits_fit, component_fits, member_fits, member_int_fits}
 use Rattle.btf_types.specs.Good as good
 use Rattle.btf_types.specs.Good.{HeadInRange, HeadIsGood, ItemOf, head_targets, item_targets, has_width, has_bit_fields, TargetIsGood, MemberIsGood, IsGoodRecord, facts_of}
 use Rattle.btf_types.specs.judge.FieldFaults.{IsNameField, IsTypeField, IsMemberWord, HasBitFields, int_unused, int_encoding, int_offset, int_bits, frame_facts, WordFault}
@@ -87,8 +87,8 @@ pub record IntStands (h : TypeHead) (w : ℕ) : Type 0 where
   pub unused : int_unused w ≡ 0
   pub encoding : IsTrue (one_of (0 ∷ 1 ∷ 2 ∷ 4 ∷ []) (int_encoding w))
   pub bits : IsTrue (bits_fit (head_third h) (int_bits w))
-  pub offset_is : int_offset w ≡ good.int_offset h
-  pub bits_is : int_bits w ≡ good.int_bits h
+  pub offset_is : int_offset w ≡ good.head_int_offset h
+  pub bits_is : int_bits w ≡ good.head_int_bits h
 
 int_stands : (types : List TypeFacts) (h : TypeHead) → kind_number h ≡ INT → HeadInRange h → HeadIsGood types h → IntStands h (get_or (head_tail h) 0 0)
 int_stands types (KInt name size encoding offset bits) is range right =
@@ -129,11 +129,11 @@ count_facts : (h : TypeHead) (xs : List TypeItem) → All (ItemOf h) xs → leng
 count_facts (KFunc name linkage target) xs of = no_items (KFunc name linkage target) xs (λ x o. o) of
 count_facts h xs of = refl
 
-offset_facts : (h : TypeHead) (offset : ℕ) → (kind_number h ≡ INT → offset ≡ good.int_offset h) → good.int_offset h ≡ (if kind_number h == INT then offset else 0)
+offset_facts : (h : TypeHead) (offset : ℕ) → (kind_number h ≡ INT → offset ≡ good.head_int_offset h) → good.head_int_offset h ≡ (if kind_number h == INT then offset else 0)
 offset_facts (KInt name size encoding its_offset bits) offset is = sym (is refl)
 offset_facts h offset is = refl
 
-bits_facts : (h : TypeHead) (bits : ℕ) → (kind_number h ≡ INT → bits ≡ good.int_bits h) → good.int_bits h ≡ (if kind_number h == INT then bits else 0)
+bits_facts : (h : TypeHead) (bits : ℕ) → (kind_number h ≡ INT → bits ≡ good.head_int_bits h) → good.head_int_bits h ≡ (if kind_number h == INT then bits else 0)
 bits_facts (KInt name size encoding offset its_bits) bits is = sym (is refl)
 bits_facts h bits is = refl
 
@@ -350,8 +350,8 @@ module _ (strings : List ℕ) (types : List TypeFacts) (r : TypeRecord) (f : Lis
       let its_third : head_third r.head ≡ third_word f = sym n.third in
       let int : kind_number r.head ≡ INT → IntStands r.head (get_or (head_tail r.head) 0 0) = λ is. int_stands types r.head is right.head_in_range right.head in
       let word : kind_number r.head ≡ INT → slice_index f 3 ≡ get_or (head_tail r.head) 0 0 = λ is. tail_word strings r f s 0 (int is).inside in
-      let its_offset : good.int_offset r.head ≡ (if kind f == INT then int_offset (slice_index f 3) else 0) =
+      let its_offset : good.head_int_offset r.head ≡ (if kind f == INT then int_offset (slice_index f 3) else 0) =
       rw n.kind (offset_facts r.head (int_offset (slice_index f 3)) (λ is. ap (λ (w : ℕ). int_offset w) (word is) ∙ (int is).offset_is)) in
-      let its_bits : good.int_bits r.head ≡ (if kind f == INT then int_bits (slice_index f 3) else 0) =
+      let its_bits : good.head_int_bits r.head ≡ (if kind f == INT then int_bits (slice_index f 3) else 0) =
       rw n.kind (bits_facts r.head (int_bits (slice_index f 3)) (λ is. ap (λ (w : ℕ). int_bits w) (word is) ∙ (int is).bits_is)) in
       rw (its_kind, its_count, its_third, its_offset, its_bits) refl

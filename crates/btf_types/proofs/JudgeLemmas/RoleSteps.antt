@@ -5,12 +5,12 @@ use Rattle.std.proofs.lemmas.Bool.{cases_lt, eqb-true}
 use Rattle.btf_raw.specs.declared.cause.BtfCause.{BtfCause}
 use Rattle.btf_raw.specs.declared.cause.BtfCause.TheVariants.{NameRange, NameUtf8, NameMissing, NameUnwanted, NotZero, Size, Reference, TargetKind, IntWord, MemberInt, MemberPlace, Linkage, Component}
 use Rattle.btf_raw.specs.declared.kinds.TheConstants.{INT, ARRAY, STRUCT, UNION, ENUM, FUNC_PROTO, VAR, DATASEC, DECL_TAG, ENUM64}
-use Rattle.btf_raw.specs.Kinds.{one_of, tail_words, fixed_words, item_words}
+use Rattle.btf_raw.specs.Kinds.{one_of, tail_words, fixed_words, item_words, has_target, has_item_names, is_struct}
 use Rattle.btf_raw.specs.Names.{TextAt}
 use Rattle.btf_raw.specs.Frames.{IsFrame, name_word, third_word, kind, vlen, flag}
 use Rattle.btf_types.specs.declared.judge.roles.Role.{Role}
 use Rattle.btf_types.specs.declared.judge.roles.Role.TheVariants as roles
-use Rattle.btf_types.specs.judge.Checks.{has_target, has_item_names, is_struct, size_fits, bits_fit, target_fits, component_fits, TypeFacts, type_at, NoCause, LeastCause}
+use Rattle.btf_types.specs.judge.Checks.{size_fits, bits_fit, target_fits, component_fits, TypeFacts, type_at, NoCause, LeastCause}
 use Rattle.btf_types.specs.judge.FieldFaults.{WordFault, offset_in, width_in, int_unused, int_encoding, int_bits, IsTypeField, IsNameField, IsMemberWord, IsItemWord}
 use Rattle.btf_types.specs.judge.Roles.{part, PartIs, RoleIs, RoleTells}
 use Rattle.btf_types.specs.declared.judge.fields.Record.{Record}
@@ -341,18 +341,18 @@ module _ (strings : List ℕ) (types : List TypeFacts) (frame : List ℕ) (b : B
       (role_holds role is) (role_says strings types frame b j role bits tells) judged
 
 abbrev pub HeldFault : Section → Record → ℕ → Role → BtfCause → Type 0
-HeldFault s r word role c = RoleFault s.strings.now (facts_in s) r.kind r.vlen r.flag r.third r.bit_fields word role c
+HeldFault s r word role c = RoleFault s.file.strings.now (facts_in s) r.kind r.vlen r.flag r.third r.bit_fields word role c
 
 -- the same on the numbers that are kept of a record
 pub judged : {s : Section} {r : Record} {j word : ℕ} (role : Role) (result : Option BtfCause) → RecordIs s r → j < r.words
-    → word ≡ slice_index (frame_at s.order s.types.now r.pos) j → RoleIs r.kind j role → RoleTells r.kind j role
+    → word ≡ slice_index (frame_at s.file.order s.file.types.now r.pos) j → RoleIs r.kind j role → RoleTells r.kind j role
     → MatchOption result (NoCause (HeldFault s r word role)) (λ c. LeastCause (HeldFault s r word role) c)
-    → MatchOption result (NoCause (WordFault s.strings.now (facts_in s) (frame_at s.order s.types.now r.pos) j)) (λ c. LeastCause (WordFault s.strings.now (facts_in s) (frame_at s.order s.types.now r.pos) j) c)
+    → MatchOption result (NoCause (WordFault s.file.strings.now (facts_in s) (frame_at s.file.order s.file.types.now r.pos) j)) (λ c. LeastCause (WordFault s.file.strings.now (facts_in s) (frame_at s.file.order s.file.types.now r.pos) j) c)
 judged {s} {r} {j} {word} role result is there word-is role-is tells held =
-    let f = frame_at s.order s.types.now r.pos in
-    word_judged s.strings.now (facts_in s) f r.bit_fields j is.stands.frame is.bit_fields_are (rw (← is.words_are) there) role result
+    let f = frame_at s.file.order s.file.types.now r.pos in
+    word_judged s.file.strings.now (facts_in s) f r.bit_fields j is.stands.frame is.bit_fields_are (rw (← is.words_are) there) role result
     (rw (← is.kind_is) role-is) (rw (← is.kind_is) tells)
-    (judged_same (HeldFault s r word role) (WordRoleFault s.strings.now (facts_in s) f r.bit_fields j role) result
+    (judged_same (HeldFault s r word role) (WordRoleFault s.file.strings.now (facts_in s) f r.bit_fields j role) result
     (λ d h. rw (← is.kind_is, ← is.vlen_is, ← is.flag_is, ← is.third_is, ← word-is) h)
     (λ d h. rw (is.kind_is, is.vlen_is, is.flag_is, is.third_is, word-is) h) held)
 

@@ -8,9 +8,9 @@ use Rattle.std.proofs.lemmas.List.{get_or-take, get_or-drop, length-take, length
 use Rattle.std.proofs.Math.ListN.{get_or-append}
 use Rattle.std.proofs.Math.Seq.{get_or-append_seam}
 use Rattle.btf_raw.specs.Header.{HasNulEnds}
-use Rattle.btf_raw.specs.Names.{TextAt}
-use Rattle.btf_raw.proofs.Texts.{TextAt-first, TextAt-unique}
-use Rattle.btf_types.specs.tables.StringEnds.{IsEnd, IsAmong, AreLongEndsTo, AreLongEnds, HasNulNear}
+use Rattle.btf_raw.specs.Names.{IsEnd, TextAt}
+use Rattle.btf_raw.proofs.Texts.{TextAt-end, TextAt-unique}
+use Rattle.btf_types.specs.tables.StringEnds.{IsAmong, AreLongEndsTo, AreLongEnds, HasNulNear}
 
 pub none_yet : (strings : List ℕ) → AreLongEndsTo strings [] 0
 none_yet strings = record {
@@ -185,11 +185,4 @@ ends_part strings ends offset i j d are low high h =
 
 -- what stands up to the end is the text
 pub text_to_end : (strings : List ℕ) (offset end : ℕ) (text : List ℕ) → TextAt strings offset text → IsEnd strings offset end → take (end - offset) (drop offset strings) ≡ text
-text_to_end strings offset end text there is =
-    let low = is.from in
-    let inside = is.inside in
-    let nul : get_or (drop offset strings) (end - offset) 0 ≡ 0 =
-    get_or-drop offset strings (end - offset) 0 ∙ subst (λ (i : ℕ). get_or strings i 0 ≡ 0) (let e : end ≡ offset + (end - offset) = omega arith in e) is.nul in
-    let first = TextAt-first strings offset (end - offset) (omega arith) (omega (arith, length-drop offset strings)) nul
-    (λ i lt e. is.before (offset + i) (omega arith) (omega arith) (sym (get_or-drop offset strings i 0) ∙ e)) in
-    TextAt-unique strings offset (take (end - offset) (drop offset strings)) text first there
+text_to_end strings offset end text there is = TextAt-unique strings offset (take (end - offset) (drop offset strings)) text (TextAt-end strings offset end is) there

@@ -14,7 +14,7 @@ use Rattle.btf_types.specs.declared.tables.section.Section.{Section}
 use Rattle.btf_types.specs.judge.Checks.{type_at}
 use Rattle.btf_types.specs.judge.FieldFaults.{frame_facts}
 use Rattle.btf_types.specs.Reading.{frame_at}
-use Rattle.btf_types.specs.Sections.{IsSection, StandsIn, frame_in, frames_in, facts_in}
+use Rattle.btf_types.specs.Sections.{IsSection, HasFrame, nth_frame, frames_in, facts_in}
 
 -- bytes are four for each word
 pub length-section : (o : Order) (fs : List (List ℕ)) → length (section_of o fs) ≡ 4 * length (concat fs)
@@ -29,35 +29,35 @@ ends_inside o (f ∷ frames) (suc i) h =
     let rest = ends_inside o frames i (omega arith) in
     omega (arith, rest, length-append (bytes_of o f) (section_of o frames), length-append (bytes_of o f) (section_of o (take i frames)))
 
-module _ (s : Section) (good : IsSection s) (i : ℕ) (there : i < length s.places.now) where
+module _ (s : Section) (good : IsSection s) (i : ℕ) (there : i < length s.file.places.now) where
   pos : ℕ
-  pos = slice_index s.places.now i
+  pos = slice_index s.file.places.now i
 
   among : i < length (frames_in s)
-  among = omega (arith, length-map s.places.now (frame_at s.order s.types.now))
+  among = omega (arith, length-map s.file.places.now (frame_at s.file.order s.file.types.now))
 
-  frame_is : get_or (frames_in s) i [] ≡ frame_in s i
-  frame_is = get_or-map (frame_at s.order s.types.now) s.places.now i 0 [] there
+  frame_is : get_or (frames_in s) i [] ≡ nth_frame s i
+  frame_is = get_or-map (frame_at s.file.order s.file.types.now) s.file.places.now i 0 [] there
 
   -- it stands there, four bytes a word behind the words of those before it
-  pub stands_in : StandsIn s (slice_index s.places.now i)
+  pub stands_in : HasFrame s.file (slice_index s.file.places.now i)
   stands_in =
       let start = good.framed.starts i there in
-      let whole : length s.types.now ≡ length (section_of s.order (frames_in s)) = ap length good.framed.frames.whole in
-      let room : length (section_of s.order (take i (frames_in s))) + 4 * length (frame_in s i) ≤ length (section_of s.order (frames_in s)) =
-      rw frame_is at (ends_inside s.order (frames_in s) i among) in
+      let whole : length s.file.types.now ≡ length (section_of s.file.order (frames_in s)) = ap length good.framed.frames.whole in
+      let room : length (section_of s.file.order (take i (frames_in s))) + 4 * length (nth_frame s i) ≤ length (section_of s.file.order (frames_in s)) =
+      rw frame_is at (ends_inside s.file.order (frames_in s) i among) in
       record {
         inside = omega arith;
         frame = subst (λ (g : List ℕ). IsFrame g) frame_is (good.framed.frames.each i [] among);
       }
 
-  pub starts_in : slice_index s.places.now i ≡ 4 * length (concat (take i (frames_in s)))
-  starts_in = good.framed.starts i there ∙ length-section s.order (take i (frames_in s))
+  pub starts_in : slice_index s.file.places.now i ≡ 4 * length (concat (take i (frames_in s)))
+  starts_in = good.framed.starts i there ∙ length-section s.file.order (take i (frames_in s))
 
-  pub frame_get : slice_get (frames_in s) i ≡ Some (frame_in s i)
-  frame_get = get-map (frame_at s.order s.types.now) s.places.now i 0 there
+  pub frame_get : slice_get (frames_in s) i ≡ Some (nth_frame s i)
+  frame_get = get-map (frame_at s.file.order s.file.types.now) s.file.places.now i 0 there
 
-  pub facts_get : slice_get (facts_in s) i ≡ Some (frame_facts (frame_in s i))
+  pub facts_get : slice_get (facts_in s) i ≡ Some (frame_facts (nth_frame s i))
   facts_get = get-map frame_facts (frames_in s) i [] among ∙ ap (λ (f : List ℕ). Some (frame_facts f)) frame_is
 
 -- a frame has three words, and an INT has its own
@@ -68,7 +68,7 @@ pub int_has_word : (f : List ℕ) → IsFrame f → kind f ≡ INT → 3 < lengt
 unfolding tail_words fixed_words item_words
 int_has_word f frame int = let size : length f ≡ 4 = frame.size ∙ rw int (omega arith) in omega arith
 
-pub type_is : (s : Section) (id : ℕ) → IsSection s → 0 < id → id ≤ length s.places.now → type_at (facts_in s) id ≡ frame_facts (frame_in s (id - 1))
+pub type_is : (s : Section) (id : ℕ) → IsSection s → 0 < id → id ≤ length s.file.places.now → type_at (facts_in s) id ≡ frame_facts (nth_frame s (id - 1))
 type_is s zero good some few = absurd (omega arith)
 type_is s (suc i) good some few =
     let e : suc i - 1 ≡ i = omega arith in

@@ -5,9 +5,9 @@ use Rattle.btf_raw.specs.declared.cause.BtfCause.{BtfCause}
 use Rattle.btf_raw.specs.declared.cause.BtfCause.TheVariants.{NameRange, NameUtf8, NameMissing, NameUnwanted, NotZero, Size, Reference, TargetKind, IntWord, MemberInt, MemberPlace, Linkage, Component}
 use Rattle.btf_raw.specs.declared.kinds.TheConstants.{INT, ARRAY, STRUCT, UNION, FWD, FUNC, FUNC_PROTO, VAR, DATASEC, DECL_TAG}
 use Rattle.btf_raw.specs.Names.{TextAt}
-use Rattle.btf_raw.specs.Kinds.{one_of, item_words}
+use Rattle.btf_raw.specs.Kinds.{one_of, item_words, needs_name, has_no_name, has_target, has_item_names, is_struct}
 use Rattle.btf_raw.specs.Frames.{name_word, third_word, kind, vlen, flag}
-use Rattle.btf_types.specs.judge.Checks.{needs_name, has_no_name, has_target, has_item_names, is_struct, size_fits, bits_fit, member_fits, TypeFacts, type_at, target_fits, component_fits, member_int_fits}
+use Rattle.btf_types.specs.judge.Checks.{size_fits, bits_fit, member_fits, TypeFacts, type_at, target_fits, component_fits, member_int_fits}
 
 -- word j of the frame is word m of its item k
 abbrev pub IsItemWord : List ℕ → ℕ → ℕ → ℕ → Type 0

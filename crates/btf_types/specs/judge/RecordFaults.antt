@@ -10,7 +10,7 @@ use Rattle.btf_types.specs.declared.tables.section.Section.{Section}
 use Rattle.btf_types.specs.judge.Checks.{TypeFacts, type_at, SecondFault, ThirdFault}
 use Rattle.btf_types.specs.judge.FieldFaults.{WordFault, HasBitFields, offset_in, width_in}
 use Rattle.btf_types.specs.judge.NameFaults.{NameFault, IntFault, LinkageFault, ComponentFault, ItemNameFault, NamedTypeFault, MemberTypeFault, MemberPlaceFault}
-use Rattle.btf_types.specs.Sections.{StandsIn, frame_of, facts_in}
+use Rattle.btf_types.specs.Sections.{HasFrame, frame_of, facts_in}
 
 -- no word of the frame has a fault
 abbrev pub IsFaultless : List ℕ → List TypeFacts → List ℕ → Type 0
@@ -24,13 +24,13 @@ pub record LeastOfRecord (strings : List ℕ) (types : List TypeFacts) (frame : 
 
 -- the same of the words of the record at a place of a section
 abbrev pub FaultInWord : Section → ℕ → ℕ → BtfCause → Type 0
-FaultInWord s pos j cause = WordFault s.strings.now (facts_in s) (frame_of s pos) j cause
+FaultInWord s pos j cause = WordFault s.file.strings.now (facts_in s) (frame_of s.file pos) j cause
 
 abbrev pub IsFaultlessAt : Section → ℕ → Type 0
-IsFaultlessAt s pos = IsFaultless s.strings.now (facts_in s) (frame_of s pos)
+IsFaultlessAt s pos = IsFaultless s.file.strings.now (facts_in s) (frame_of s.file pos)
 
 abbrev pub IsLeastAt : Section → ℕ → ℕ → BtfCause → Type 0
-IsLeastAt s pos word cause = LeastOfRecord s.strings.now (facts_in s) (frame_of s pos) word cause
+IsLeastAt s pos word cause = LeastOfRecord s.file.strings.now (facts_in s) (frame_of s.file pos) word cause
 
 -- whether some width in this record isn't 0
 pub record BitFieldsAre (frame : List ℕ) (bit_fields : Bool) : Type 0 where
@@ -39,13 +39,13 @@ pub record BitFieldsAre (frame : List ℕ) (bit_fields : Bool) : Type 0 where
 
 -- what is kept of a record while its words are judged
 pub record RecordIs (s : Section) (r : Record) : Type 0 where
-  pub stands : StandsIn s r.pos
-  pub kind_is : r.kind ≡ kind (frame_of s r.pos)
-  pub vlen_is : r.vlen ≡ vlen (frame_of s r.pos)
-  pub flag_is : r.flag ≡ flag (frame_of s r.pos)
-  pub third_is : r.third ≡ third_word (frame_of s r.pos)
-  pub words_are : r.words ≡ length (frame_of s r.pos)
-  pub bit_fields_are : BitFieldsAre (frame_of s r.pos) r.bit_fields
+  pub stands : HasFrame s.file r.pos
+  pub kind_is : r.kind ≡ kind (frame_of s.file r.pos)
+  pub vlen_is : r.vlen ≡ vlen (frame_of s.file r.pos)
+  pub flag_is : r.flag ≡ flag (frame_of s.file r.pos)
+  pub third_is : r.third ≡ third_word (frame_of s.file r.pos)
+  pub words_are : r.words ≡ length (frame_of s.file r.pos)
+  pub bit_fields_are : BitFieldsAre (frame_of s.file r.pos) r.bit_fields
 
 -- what a cause says of a word that has this role, in a record of this kind with this vlen, kind_flag and third word
 abbrev pub RoleFault : List ℕ → List TypeFacts → ℕ → ℕ → ℕ → ℕ → Bool → ℕ → Role → BtfCause → Type 0

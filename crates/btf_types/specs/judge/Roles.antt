@@ -1,10 +1,9 @@
 -- What each word of a record is: a name, a type, a place, and so on.
 use Rattle.std.specs.Prelude.{◌≡◌, ◌⊎◌, ℕ, ◌-◌, ◌%◌, ◌<◌, ◌≤◌, ◌==◌, IsTrue, if◌then◌else◌}
 use Rattle.btf_raw.specs.declared.kinds.TheConstants.{INT, ARRAY, FUNC_PROTO, VAR, DATASEC, DECL_TAG}
-use Rattle.btf_raw.specs.Kinds.{item_words}
+use Rattle.btf_raw.specs.Kinds.{item_words, has_item_names, is_struct}
 use Rattle.btf_types.specs.declared.judge.roles.Role.{Role}
 use Rattle.btf_types.specs.declared.judge.roles.Role.TheVariants.{OwnName, Info, Third, IntWord, Linkage, Component, ItemName, NamedType, MemberType, MemberPlace, Free}
-use Rattle.btf_types.specs.judge.Checks.{has_item_names, is_struct}
 
 -- which word of its item word j is, or of what follows the first three where there are no items
 abbrev pub part : ℕ → ℕ → ℕ

@@ -3,9 +3,8 @@ use Rattle.std.specs.Prelude.{◌≡◌, ◌⊎◌, ℕ, ◌+◌, ◌*◌, ◌^�
 use Rattle.bpf_words.specs.declared.Order.{Order}
 use Rattle.btf_raw.specs.declared.kinds.TheConstants.{DECL_TAG}
 use Rattle.btf_raw.specs.Header.{HasNulEnds}
-use Rattle.btf_raw.specs.Kinds.{item_words}
+use Rattle.btf_raw.specs.Kinds.{item_words, has_item_names}
 use Rattle.btf_raw.specs.Frames.{IsFrame, kind, name_word}
-use Rattle.btf_types.specs.judge.Checks.{has_item_names}
 use Rattle.btf_types.specs.Spelling.{Spells}
 use Rattle.btf_types.specs.Reading.{frame_at, record_of, text_from, item_total}
 use Rattle.btf_raw.specs.Names.{NameAt}

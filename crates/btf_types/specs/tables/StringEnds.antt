@@ -1,12 +1,6 @@
 -- Where the texts of a string section end (btf.rst section 2.1). Contracts of private functions cite it.
-use Rattle.std.specs.Prelude.{◌≡◌, ◌≢◌, ◌⊎◌, ℕ, ◌+◌, ◌<◌, ◌≤◌, List, length, slice_index}
-
--- the first NUL from an offset on
-pub record IsEnd (strings : List ℕ) (offset end : ℕ) : Type 0 where
-  pub from : offset ≤ end
-  pub inside : end < length strings
-  pub nul : slice_index strings end ≡ 0
-  pub before : (i : ℕ) → offset ≤ i → i < end → slice_index strings i ≢ 0
+use Rattle.std.specs.Prelude.{◌≡◌, ◌⊎◌, ℕ, ◌+◌, ◌<◌, ◌≤◌, List, length, slice_index}
+use Rattle.btf_raw.specs.Names.{IsEnd}
 
 abbrev pub IsAmong : List ℕ → ℕ → Type 0
 IsAmong ends end = (k : ℕ) × (k < length ends) × (slice_index ends k ≡ end)

@@ -8,53 +8,8 @@ ghost use Rattle.btf_raw.specs.Kinds.{one_of};
 ghost use Rattle.btf_types.specs.judge.NameFaults.{IntFault, LinkageFault, MemberPlaceFault};
 
 use btf_raw::{
-    ARRAY, BtfCause, CONST, DATASEC, DECL_TAG, ENUM, ENUM64, FLOAT, FUNC, FUNC_PROTO, FWD, PTR,
-    RESTRICT, STRUCT, TYPE_TAG, TYPEDEF, UNION, VAR, VOLATILE,
+    BtfCause, DATASEC, DECL_TAG, ENUM, ENUM64, FLOAT, FUNC, FUNC_PROTO, STRUCT, TYPEDEF, UNION, VAR,
 };
-
-/// Whether a record of this kind has a name that isn't empty.
-#[tactic(auto, unfolding(crate::specs::judge::Checks::needs_name))]
-pub fn needs_name(kind: u8) -> bool
-    ensures { result ≡ spec.needs_name kind }
-{
-    matches!(
-        kind,
-        FWD | TYPEDEF | FUNC | VAR | DATASEC | DECL_TAG | TYPE_TAG
-    )
-}
-
-/// Whether a record of this kind has an empty name.
-#[tactic(auto, unfolding(crate::specs::judge::Checks::has_no_name))]
-pub fn has_no_name(kind: u8) -> bool
-    ensures { result ≡ spec.has_no_name kind }
-{
-    matches!(kind, PTR | ARRAY | VOLATILE | CONST | RESTRICT | FUNC_PROTO)
-}
-
-/// Whether the third word is a type.
-#[tactic(auto, unfolding(crate::specs::judge::Checks::has_target))]
-pub fn has_target(kind: u8) -> bool
-    ensures { result ≡ spec.has_target kind }
-{
-    matches!(
-        kind,
-        PTR | TYPEDEF | VOLATILE | CONST | RESTRICT | FUNC | FUNC_PROTO | VAR | DECL_TAG | TYPE_TAG
-    )
-}
-
-/// Whether the items are members.
-pub fn is_struct(kind: u8) -> bool
-    ensures { result ≡ spec.is_struct kind }
-{
-    matches!(kind, STRUCT | UNION)
-}
-
-#[tactic(auto, unfolding(crate::specs::judge::Checks::has_item_names))]
-pub fn has_item_names(kind: u8) -> bool
-    ensures { result ≡ spec.has_item_names kind }
-{
-    matches!(kind, STRUCT | UNION | ENUM | FUNC_PROTO | ENUM64)
-}
 
 /// Whether an ENUM or ENUM64 with so many values, or a FLOAT, may have this size in bytes.
 #[tactic(auto, unfolding(crate::specs::judge::Checks::size_fits))]

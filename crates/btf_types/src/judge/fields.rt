@@ -4,14 +4,13 @@
 
 ghost use Rattle.std.specs.Prelude.{◌≡◌, ◌<◌, MatchOption, length, slice_index};
 ghost use Rattle.btf_raw.specs.Cause.{HasNone, LeastByPlace};
-ghost use Rattle.btf_raw.specs.Frames as spec;
 ghost use Rattle.btf_types.specs.judge.Checks.{TellsLeast};
 ghost use Rattle.btf_types.specs.judge.FieldFaults.{FieldFault};
-ghost use Rattle.btf_types.specs.judge.RecordFaults.{RecordIs, BitFieldsAre, FaultInWord, IsFaultlessAt, IsLeastAt};
-ghost use Rattle.btf_types.specs.Sections.{IsSection, StandsIn, frame_of, frames_in};
+ghost use Rattle.btf_types.specs.judge.RecordFaults.{RecordIs, FaultInWord, IsFaultlessAt, IsLeastAt};
+ghost use Rattle.btf_types.specs.Sections.{IsSection, frames_in};
 
 use crate::judge::checks::{
-    bit_offset_of, int_fault, is_struct, linkage_fault, member_place_fault, second_fault, width_of,
+    bit_offset_of, int_fault, linkage_fault, member_place_fault, second_fault, width_of,
 };
 use crate::judge::names::{item_name_fault, name_fault};
 use crate::judge::roles::{Role, role_of};
@@ -44,15 +43,15 @@ fn word_fault(section: &Section, this: &Record, j: usize) -> Option<BtfCause>
     requires there { j < this.now.words }
     ensures { TellsLeast (FaultInWord section.now this.now.pos j) result }
 {
-    let word = section.word(this.pos, j);
+    let word = section.file.word(this.pos, j);
     match role_of(this.kind, j) {
-        Role::OwnName => name_fault(section.strings, section.texts, this.kind, word),
+        Role::OwnName => name_fault(section.file.strings, section.texts, this.kind, word),
         Role::Info => second_fault(this.kind, this.vlen),
         Role::Third => third_fault(section, this.kind, word, this.vlen),
         Role::IntWord => int_fault(this.third, word),
         Role::Linkage => linkage_fault(word),
         Role::Component => component_fault(section, this.third, word),
-        Role::ItemName => item_name_fault(section.strings, section.texts, word),
+        Role::ItemName => item_name_fault(section.file.strings, section.texts, word),
         Role::NamedType => named_type_fault(section, this.kind, word),
         Role::MemberType => member_type_fault(section, this.bit_fields, word),
         Role::MemberPlace => member_place_fault(
@@ -64,45 +63,25 @@ fn word_fault(section: &Section, this: &Record, j: usize) -> Option<BtfCause>
     }
 }
 
-/// Whether some width in the record at `pos` isn't 0.
-fn has_bit_fields(section: &Section, pos: usize, kind: u8, vlen: u16, flag: u32) -> bool
-    requires stands { StandsIn section.now pos }
-    requires kind { kind ≡ spec.kind (frame_of section.now pos) }
-    requires vlen { vlen ≡ spec.vlen (frame_of section.now pos) }
-    requires flag { flag ≡ spec.flag (frame_of section.now pos) }
-    ensures { BitFieldsAre (frame_of section.now pos) result }
-{
-    if !is_struct(kind) || flag == 0 {
-        return false;
-    }
-    for k in 0..usize::from(vlen) {
-        if section.word(pos, 5 + 3 * k) >> 24 != 0 {
-            return true;
-        }
-    }
-    false
-}
-
 /// The i-th record, from 0.
 fn record_at(section: &Section, i: usize) -> Record
     requires section { IsSection section.now }
-    requires there { i < length section.now.places.now }
+    requires there { i < length section.now.file.places.now }
     ensures is { RecordIs section.now result }
-    ensures pos { result.pos ≡ slice_index section.now.places.now i }
+    ensures pos { result.pos ≡ slice_index section.now.file.places.now i }
 {
-    let pos = section.places[i] as usize;
-    let info = section.word(pos, 1);
+    let pos = section.file.places[i] as usize;
+    let info = section.file.word(pos, 1);
     let kind = kind_of(info);
     let vlen = vlen_of(info);
-    let flag = flag_of(info);
     Record {
         pos,
         kind,
         vlen,
-        flag,
-        third: section.word(pos, 2),
+        flag: flag_of(info),
+        third: section.file.word(pos, 2),
         words: 3 + tail_words(kind, vlen),
-        bit_fields: has_bit_fields(section, pos, kind, vlen, flag),
+        bit_fields: section.file.has_bit_fields(pos, info),
     }
 }
 
@@ -126,10 +105,10 @@ fn record_fault(section: &Section, this: &Record) -> Option<(usize, BtfCause)>
 pub fn first_field_fault(section: &Section) -> Option<BtfFault>
     requires { IsSection section.now }
     ensures { MatchOption result
-        (HasNone (FieldFault section.now.strings.now (frames_in section.now)))
-        (λ fault. LeastByPlace (FieldFault section.now.strings.now (frames_in section.now)) fault.pos fault.cause) }
+        (HasNone (FieldFault section.now.file.strings.now (frames_in section.now)))
+        (λ fault. LeastByPlace (FieldFault section.now.file.strings.now (frames_in section.now)) fault.pos fault.cause) }
 {
-    for i in 0..section.places.len() {
+    for i in 0..section.file.places.len() {
         let this = record_at(section, i);
         if let Some((word, cause)) = record_fault(section, &this) {
             return Some(BtfFault {

@@ -6,9 +6,9 @@ ghost use Rattle.btf_types.specs.judge.Checks as spec;
 ghost use Rattle.btf_types.specs.judge.NameFaults.{NameFault, OwnNameFault, ItemNameFault};
 ghost use Rattle.btf_types.specs.judge.Texts.{TextsAre};
 
-use crate::judge::checks::{has_no_name, needs_name};
 use crate::judge::utf8::Texts;
 use btf_raw::BtfCause;
+use btf_raw::info::{has_no_name, needs_name};
 
 /// The least cause that speaks against an item's name field: an offset past the strings, or a text that isn't UTF-8.
 pub fn item_name_fault(strings: &[u8], texts: &Texts, off: u32) -> Option<BtfCause>

@@ -19,6 +19,7 @@ use crate::judge::fields::first_field_fault;
 use crate::judge::framing::places_of;
 use crate::judge::utf8::{Texts, marks_unless_utf8};
 use crate::tables::section::Section;
+use crate::tables::table::FileSections;
 use btf_raw::{BtfFault, Header, check_strings, read_header};
 use std::alloc::Allocator;
 
@@ -100,16 +101,18 @@ fn section_in<'a>(
     requires frames { HasFrames bytes.now header places.now }
     requires texts { TextsAre (strings_of bytes.now header) texts.now }
     ensures is { IsSection result }
-    ensures order { result.order ≡ header.order }
-    ensures types { result.types.now ≡ types_of bytes.now header }
-    ensures strings { result.strings.now ≡ strings_of bytes.now header }
-    ensures places { result.places.now ≡ places.now }
+    ensures order { result.file.order ≡ header.order }
+    ensures types { result.file.types.now ≡ types_of bytes.now header }
+    ensures strings { result.file.strings.now ≡ strings_of bytes.now header }
+    ensures places { result.file.places.now ≡ places.now }
 {
     Section {
-        order: header.order,
-        types: types_in(bytes, header),
-        strings: strings_in(bytes, header),
-        places,
+        file: FileSections {
+            order: header.order,
+            types: types_in(bytes, header),
+            strings: strings_in(bytes, header),
+            places,
+        },
         texts,
     }
 }

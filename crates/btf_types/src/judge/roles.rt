@@ -35,7 +35,7 @@ pub enum Role {
 }
 
 /// What word m of a tail without items, or of an item, is.
-#[tactic(auto, unfolding(crate::specs::judge::Checks::has_item_names))]
+#[tactic(auto, unfolding(btf_raw::specs::Kinds::has_item_names))]
 fn part_role(kind: u8, m: usize) -> Role
     ensures is { PartIs kind m result }
     ensures tells { PartTells kind m result }

@@ -7,8 +7,9 @@ ghost use Rattle.btf_types.specs.judge.Checks.{type_at};
 ghost use Rattle.btf_types.specs.judge.NameFaults.{NamedTypeFault, MemberTypeFault, ComponentFault};
 ghost use Rattle.btf_types.specs.Sections.{IsSection, facts_in};
 
-use crate::judge::checks::{has_target, is_plain_int, size_fits, target_fits};
+use crate::judge::checks::{is_plain_int, size_fits, target_fits};
 use crate::tables::section::Section;
+use btf_raw::info::has_target;
 use btf_raw::{
     ARRAY, BtfCause, DATASEC, DECL_TAG, FUNC, FUNC_PROTO, FWD, INT, STRUCT, TYPEDEF, UNION, VAR,
 };

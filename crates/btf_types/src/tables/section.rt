@@ -1,13 +1,13 @@
 //! The sections of a file whose records are framed, and what a record asks of another: it is read at that one's place,
 //! wherever it stands, so a reference may point forward.
 
-ghost use Rattle.std.specs.Prelude.{◌≡◌, ◌+◌, ◌*◌, ◌<◌, ◌≤◌, length, slice_index};
+ghost use Rattle.std.specs.Prelude.{◌≡◌, length};
 ghost use Rattle.btf_types.specs.judge.Checks.{type_at};
-ghost use Rattle.btf_types.specs.Sections.{IsSection, StandsIn, FactsAre, facts_in, frame_of};
+ghost use Rattle.btf_types.specs.Sections.{IsSection, HasFrame, FactsAre, facts_in, frame_of};
 ghost use Rattle.btf_types.specs.judge.FieldFaults.{frame_facts};
 
 use crate::judge::utf8::Texts;
-use bpf_words::{Order, get32};
+use crate::tables::table::FileSections;
 use btf_raw::info::{kind_of, vlen_of};
 use btf_raw::{FUNC, INT};
 
@@ -23,12 +23,8 @@ const NO_TYPE: Facts = Facts {
 /// The two sections of a file, and what is known of them before the fields are judged.
 #[derive(Clone, Copy)]
 pub struct Section<'a> {
-    pub order: Order,
-    pub types: &'a [u8],
-    pub strings: &'a [u8],
-    /// Where each record begins, in bytes from the first of `types`. Type id 1 is the first.
-    pub places: &'a [u32],
-    /// Which texts of `strings` are UTF-8.
+    pub file: FileSections<'a>,
+    /// Which texts of the string section are UTF-8.
     pub texts: &'a Texts<'a>,
 }
 
@@ -47,27 +43,22 @@ pub struct Facts {
 }
 
 impl<'a> Section<'a> {
-    /// Word j of the record at `pos`, from 0.
-    pub fn word(&self, pos: usize, j: usize) -> u32
-        requires inside { pos + 4 * length (frame_of self.now pos) ≤ length self.now.types.now }
-        requires there { j < length (frame_of self.now pos) }
-        ensures { result ≡ slice_index (frame_of self.now pos) j }
-    {
-        get32(self.order, self.types, pos + 4 * j)
-    }
-
     /// What other records ask of the record at `pos`.
     fn record_facts(&self, pos: usize) -> Facts
-        requires { StandsIn self.now pos }
-        ensures { FactsAre result (frame_facts (frame_of self.now pos)) }
+        requires { HasFrame self.now.file pos }
+        ensures { FactsAre result (frame_facts (frame_of self.now.file pos)) }
     {
-        let info = self.word(pos, 1);
+        let info = self.file.word(pos, 1);
         let kind = kind_of(info);
-        let int = if kind == INT { self.word(pos, 3) } else { 0 };
+        let int = if kind == INT {
+            self.file.word(pos, 3)
+        } else {
+            0
+        };
         Facts {
             kind,
             count: if kind == FUNC { 0 } else { vlen_of(info) },
-            target: self.word(pos, 2),
+            target: self.file.word(pos, 2),
             offset: (int >> 16 & 0xff) as u8,
             bits: (int & 0xff) as u8,
         }
@@ -78,10 +69,10 @@ impl<'a> Section<'a> {
         requires { IsSection self.now }
         ensures { FactsAre result (type_at (facts_in self.now) id) }
     {
-        if id == 0 || id as usize > self.places.len() {
+        if id == 0 || id as usize > self.file.places.len() {
             return NO_TYPE;
         }
-        self.record_facts(self.places[id as usize - 1] as usize)
+        self.record_facts(self.file.places[id as usize - 1] as usize)
     }
 
     /// How many types there are.
@@ -89,6 +80,6 @@ impl<'a> Section<'a> {
         requires { IsSection self.now }
         ensures { result ≡ length (facts_in self.now) }
     {
-        self.places.len() as u32
+        self.file.places.len() as u32
     }
 }

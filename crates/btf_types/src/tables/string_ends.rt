@@ -6,8 +6,10 @@
 
 ghost use Rattle.std.specs.Prelude.{◌≡◌, ◌≢◌, ◌<◌, ◌^◌, ◌≤◌, ◌+◌, ◌++◌, ℕ, nat_lt, MatchOption, OnOk, length, take, drop, slice_index};
 ghost use Rattle.btf_raw.specs.Header.{HasNulEnds};
-ghost use Rattle.btf_types.specs.tables.StringEnds.{IsEnd, AreLongEnds};
+ghost use Rattle.btf_raw.specs.Names.{IsEnd};
+ghost use Rattle.btf_types.specs.tables.StringEnds.{AreLongEnds};
 
+use btf_raw::text_end;
 use memchr::memchr;
 use std::alloc::{AllocError, Allocator};
 
@@ -29,18 +31,6 @@ fn nul_between(strings: &[u8], off: usize, to: usize) -> Option<usize>
     }
 }
 
-/// The first NUL from an offset on.
-fn next_nul(strings: &[u8], off: usize) -> usize
-    requires ends { HasNulEnds strings.now }
-    requires inside { off < length strings.now }
-    ensures { IsEnd strings.now off result }
-{
-    match nul_between(strings, off, strings.len()) {
-        Some(end) => end,
-        None => unreachable!(),
-    }
-}
-
 /// Appends the ends of all texts of 128 bytes and more.
 pub fn push_long_ends<A: Allocator>(out: &mut Vec<u32, A>, strings: &[u8]) -> Result<(), AllocError>
     requires ends { HasNulEnds strings.now }
@@ -53,7 +43,7 @@ pub fn push_long_ends<A: Allocator>(out: &mut Vec<u32, A>, strings: &[u8]) -> Re
         match nul_between(strings, at, at + BLOCK) {
             Some(_) => at += BLOCK,
             None => {
-                let end = next_nul(strings, at);
+                let end = text_end(strings, at);
                 out.push(end as u32)?;
                 at = end + 1;
             }

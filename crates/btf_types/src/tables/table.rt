@@ -1,13 +1,17 @@
 //! What every table of types offers.
 
-ghost use Rattle.std.specs.Prelude.{◌≡◌, ◌<◌, ◌≤◌, List, Some, IfSome, length, slice_get};
+ghost use Rattle.std.specs.Prelude.{◌≡◌, ◌+◌, ◌*◌, ◌<◌, ◌≤◌, List, Some, IfSome, length, slice_get, slice_index};
+ghost use Rattle.btf_raw.specs.Frames.{info_word};
 ghost use Rattle.btf_types.specs.Values.{TypeRecord, head_value, item_value};
 ghost use Rattle.btf_types.specs.Good.{IsGood};
 ghost use Rattle.btf_types.specs.tables.TableWords.{record_at};
 ghost use Rattle.btf_types.specs.tables.KeptSections.{AreSections};
+ghost use Rattle.btf_types.specs.Sections.{HasFrame, frame_of};
+ghost use Rattle.btf_types.specs.judge.RecordFaults.{BitFieldsAre};
 
 use crate::values::{Head, Item};
-use bpf_words::Order;
+use bpf_words::{Order, get32};
+use btf_raw::info::{flag_of, is_struct, kind_of, vlen_of};
 
 /// A list of records, each a head with its items. The records are numbered from 1, as btf.rst section 2.2 numbers types.
 ///
@@ -51,8 +55,41 @@ pub trait TypeTable {
 /// The two sections of a file, and the places of its records.
 #[derive(Clone, Copy)]
 pub struct FileSections<'a> {
+    /// The byte order of the file.
     pub order: Order,
+    /// The bytes of the type section.
     pub types: &'a [u8],
+    /// The bytes of the string section.
     pub strings: &'a [u8],
+    /// Where each record begins, in bytes from the first of `types`. Type 1 is the first.
     pub places: &'a [u32],
+}
+
+impl<'a> FileSections<'a> {
+    /// Word `j`, from 0, of the record at `pos` of the types.
+    pub fn word(&self, pos: usize, j: usize) -> u32
+        requires inside { pos + 4 * length (frame_of self.now pos) ≤ length self.now.types.now }
+        requires there { j < length (frame_of self.now pos) }
+        ensures { result ≡ slice_index (frame_of self.now pos) j }
+    {
+        get32(self.order, self.types, pos + 4 * j)
+    }
+
+    /// Whether the record at `pos` of the types, with this word info, has a bit-field (btf.rst section 2.2.4): it is a STRUCT or
+    /// UNION whose kind_flag is 1, and the high 8 bits of some member's offset word, its width, aren't 0.
+    pub fn has_bit_fields(&self, pos: usize, info: u32) -> bool
+        requires record { HasFrame self.now pos }
+        requires info { info ≡ info_word (frame_of self.now pos) }
+        ensures { BitFieldsAre (frame_of self.now pos) result }
+    {
+        if !is_struct(kind_of(info)) || flag_of(info) == 0 {
+            return false;
+        }
+        for k in 0..usize::from(vlen_of(info)) {
+            if self.word(pos, 5 + 3 * k) >> 24 != 0 {
+                return true;
+            }
+        }
+        false
+    }
 }

@@ -6,7 +6,7 @@ use Rattle.std.proofs.Math.Seq.{take-suc}
 use Rattle.bpf_words.specs.declared.Order.{Order}
 use Rattle.btf_raw.specs.Frames.{name_word, kind, vlen}
 use Rattle.btf_raw.proofs.Texts.{TextAt-inside}
-use Rattle.btf_types.specs.judge.Checks.{has_item_names}
+use Rattle.btf_raw.specs.Kinds.{has_item_names}
 use Rattle.btf_types.specs.tables.PlaceWords.{StandsAt}
 use Rattle.btf_types.specs.Reading.{text_from, frame_at, frames_at, item_total, tabulate}
 use Rattle.bpf_canon.specs.btf.strings.FirstUses.{noted, noted_all}

@@ -1,5 +1,5 @@
 -- The words of a record, from those of its frame.
-use Rattle.std.proofs.Common.{◌≡◌, ◌≢◌, ◌⊎◌, ℕ, zero, suc, ◌+◌, ◌*◌, ◌/◌, ◌%◌, ◌^◌, ◌<◌, ◌≤◌, Bool, true, false, not, List, [], ◌∷◌, ◌++◌, length, map, take, drop, get_or, refl, sym, ap, ◌∙◌, inl, inr, append-nil, lit≤, arith}
+use Rattle.std.proofs.Common.{◌≡◌, ◌≢◌, ◌⊎◌, ℕ, zero, suc, ◌+◌, ◌*◌, ◌/◌, ◌%◌, ◌^◌, ◌<◌, ◌≤◌, Bool, true, false, not, List, [], ◌∷◌, ◌++◌, length, map, take, drop, get_or, refl, sym, ap, subst, ◌∙◌, inl, inr, append-nil, lit≤, arith}
 use Rattle.std.specs.Prelude.{slice_index, ◌==◌, ◌||◌, if◌then◌else◌, ⊤}
 use Rattle.std.specs.List.{All, AllZip, concat, flat_map, list_any}
 use Rattle.std.proofs.lemmas.Bool.{cases_eq, ne_eqb, or_left, or_right}
@@ -11,15 +11,16 @@ use Rattle.std.proofs.lemmas.List.{get_or-drop, length-drop}
 use Rattle.bpf_words.specs.declared.Order.{Order}
 use Rattle.bpf_words.specs.Words.{word32}
 use Rattle.btf_raw.specs.Header.{HasNulEnds}
-use Rattle.btf_raw.specs.Kinds.{item_words, kind_of, flag_of}
+use Rattle.btf_raw.specs.Kinds.{item_words, kind_of, flag_of, has_item_names, is_struct}
 use Rattle.btf_raw.specs.Frames.{IsFrame, info_word, third_word, name_word, kind, vlen, flag, bytes_of, section_of}
 use Rattle.btf_types.specs.Values.{TypeHead, KStruct, KUnion, TypeItem, Entry, TypeRecord}
 use Rattle.btf_types.specs.Names.{head_name}
 use Rattle.btf_types.specs.Spelling.{kind_number, head_third, head_tail, bit, FlagSpells, record_vlen, info, ItemSpells, Spells}
-use Rattle.btf_types.specs.judge.Checks.{has_item_names, is_struct}
 use Rattle.btf_types.specs.Good.{has_width, has_bit_fields}
 use Rattle.btf_types.specs.Reading.{text_from, head_from, item_from, item_of, item_total, record_of, frame_at, records_at, tabulate}
 use Rattle.btf_types.proofs.KindCases.{KindIs, IsStruct, IsUnion, IsEnum, IsFuncProto, IsEnum64}
+use Rattle.btf_types.specs.judge.RecordFaults.{BitFieldsAre}
+use Rattle.btf_types.proofs.FaultlessLemmas.FaultlessRecords.{bit_fields_there}
 use Rattle.btf_types.proofs.FaultlessLemmas.FaultlessWords.{known, room}
 use Rattle.btf_types.proofs.Spelled.{info_parts, InfoParts, kind_below, vlen_below, flag_below}
 use Rattle.btf_types.proofs.TableLemmas.TableReads.{count_there}
@@ -49,11 +50,6 @@ any_here p f (suc n) k low h = any_later p f n ∙ elim (cases_eq k n) [
 none_here : {X : Type 0} (p : X → Bool) (f : ℕ → X) (n : ℕ) → ((k : ℕ) → p (f k) ≡ false) → list_any p (tabulate f n) ≡ false
 none_here p f zero each = refl
 none_here p f (suc n) each = any_later p f n ∙ rw (none_here p f n each, each n) refl
-
-none_more : {X : Type 0} (p : X → Bool) (f : ℕ → X) (k : ℕ) → list_any p (tabulate f k) ≡ false → p (f k) ≡ false → list_any p (tabulate f (k + 1)) ≡ false
-none_more p f k before here =
-    let next : k + 1 ≡ suc k = omega arith in
-    rw next (any_later p f k ∙ rw (before, here) refl)
 
 wide_member : {k : ℕ} → KindIs k → (name : List ℕ) (flag a b c : ℕ) → is_struct k ≡ true → flag ≢ 0 → has_width (item_from name k flag a b c) ≡ not (c / 2 ^ 24 == 0)
 unfolding item_from
@@ -85,9 +81,21 @@ module _ (strings f : List ℕ) (frame : IsFrame f) where
   pub width_found : (k n : ℕ) → is_struct (kind f) ≡ true → flag f ≢ 0 → k < n → slice_index f (5 + 3 * k) / 2 ^ 24 ≢ 0 → list_any has_width (tabulate (item_in strings f) n) ≡ true
   width_found k n is some low wide = any_here has_width (item_in strings f) n k low (width_at k is some ∙ ap not (ne_eqb (slice_index f (5 + 3 * k) / 2 ^ 24) 0 wide))
 
-  pub width_missed : (k : ℕ) → is_struct (kind f) ≡ true → flag f ≢ 0 → list_any has_width (tabulate (item_in strings f) k) ≡ false → slice_index f (5 + 3 * k) / 2 ^ 24 ≡ 0
-      → list_any has_width (tabulate (item_in strings f) (k + 1)) ≡ false
-  width_missed k is some before none = none_more has_width (item_in strings f) k before (width_at k is some ∙ rw none refl)
+struct_total : (f : List ℕ) → IsFrame f → is_struct (kind f) ≡ true → item_total f ≡ vlen f
+struct_total f frame is = rw (struct_words (known f frame) is) refl
+
+-- what is found in the frame is so of the record
+pub bit_fields_same : (strings f : List ℕ) (b : Bool) → IsFrame f → is_struct (kind f) ≡ true → flag f ≢ 0 → BitFieldsAre f b → has_bit_fields (record_of strings f) ≡ b
+bit_fields_same strings f true frame is some are =
+    let found = are.some refl in
+    let at : found.0 ≡ 5 + 3 * found.1.1 = found.1.2.1 ∙ rw (struct_words (known f frame) is) (omega arith) in
+    let wide : slice_index f found.0 / 2 ^ 24 ≢ 0 = rw (ne_eqb (flag f) 0 some) at found.2 in
+    ap (λ (n : ℕ). list_any has_width (tabulate (item_in strings f) n)) (struct_total f frame is)
+    ∙ width_found strings f frame found.1.1 (vlen f) is some found.1.2.0 (subst (λ (j : ℕ). slice_index f j / 2 ^ 24 ≢ 0) at wide)
+bit_fields_same strings f false frame is some are = elim (decided (has_bit_fields (record_of strings f))) [
+  | inl has ↦ let found = are.none (bit_fields_there strings f frame has) in absurd cc
+  | inr none ↦ none
+]
 
 -- ---- info
 
@@ -304,12 +312,6 @@ record_more from to place types strings places i low =
     last_record f g h (q ∷ ps) p = ap (λ t. f (g (h q)) ∷ t) (last_record f g h ps p)
 
 -- ---- room
-
-pub struct_room : (f : List ℕ) (k : ℕ) → IsFrame f → is_struct (kind f) ≡ true → k < vlen f → 5 + 3 * k < length f
-struct_room f k frame is low = let size = rw (struct_words (known f frame) is) at (room f frame) in omega arith
-
-pub struct_total : (f : List ℕ) → IsFrame f → is_struct (kind f) ≡ true → item_total f ≡ vlen f
-struct_total f frame is = rw (struct_words (known f frame) is) refl
 
 two_or_three_words : {k : ℕ} → KindIs k → has_item_names k ≡ true → (item_words k ≡ 2) ⊎ (item_words k ≡ 3)
 unfolding has_item_names item_words

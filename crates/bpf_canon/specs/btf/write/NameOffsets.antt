@@ -1,9 +1,8 @@
 -- The offsets of names in the frames of a section. Contracts of private functions cite it.
 use Rattle.std.specs.Prelude.{◌≡◌, ℕ, ◌+◌, ◌*◌, List, [], ◌∷◌, IsTrue, slice_index, if◌then◌else◌}
 use Rattle.std.specs.List.{All, Contains, flat_map}
-use Rattle.btf_raw.specs.Kinds.{item_words}
+use Rattle.btf_raw.specs.Kinds.{item_words, has_item_names}
 use Rattle.btf_raw.specs.Frames.{name_word, kind, vlen}
-use Rattle.btf_types.specs.judge.Checks.{has_item_names}
 use Rattle.btf_types.specs.declared.tables.table.FileSections.{FileSections}
 use Rattle.btf_types.specs.Reading.{tabulate}
 use Rattle.bpf_canon.specs.btf.write.KeptFrames.{frame_in}

@@ -9,6 +9,7 @@ ghost use Rattle.btf_types.specs.strings.TableLaws.{IsTailSorted};
 ghost use Rattle.bpf_canon.specs.btf.names.Interned.{lent_texts, MapsTo, AreHostsOf};
 
 use crate::btf::names::placed::PlacedNames;
+use crate::btf::suffixes::compare_from_end;
 use indexmap::IndexMap;
 use std::alloc::{AllocError, Allocator};
 use std::cmp::Ordering;
@@ -17,30 +18,11 @@ use std::hash::{BuildHasherDefault, FoldHasher};
 /// The host of each name, by name.
 pub(crate) type HostMap<'a, A> = IndexMap<&'a str, &'a str, BuildHasherDefault<FoldHasher>, A>;
 
-// How many bytes are compared at once. Few names are as long as this.
-const BLOCK: usize = 64;
-
-// Both texts without the blocks at their ends in which they agree.
-fn without_equal_ends<'a>(a: &'a [u8], b: &'a [u8]) -> (&'a [u8], &'a [u8])
-    ensures { tail_cmp result.0.now result.1.now ≡ tail_cmp a.now b.now }
-{
-    let (mut first, mut second) = (a, b);
-    'ends: while let Some((first_front, first_end)) = first.split_last_chunk::<BLOCK>()
-        && let Some((second_front, second_end)) = second.split_last_chunk::<BLOCK>()
-        && first_end == second_end
-    {
-        first = first_front;
-        second = second_front;
-    }
-    (first, second)
-}
-
-// Compares two texts by their bytes from the end.
-fn compare_tails(a: &str, b: &str) -> Ordering
+/// Compares two names by their bytes from the end.
+fn compare_names(a: &str, b: &str) -> Ordering
     ensures { result ≡ tail_cmp a.now b.now }
 {
-    let (a, b) = without_equal_ends(a.as_bytes(), b.as_bytes());
-    a.iter().rev().cmp(b.iter().rev())
+    compare_from_end(a.as_bytes(), b.as_bytes())
 }
 
 // Whether the text ends with the tail.
@@ -81,7 +63,7 @@ pub(crate) fn sorted_by_tails<'a, A: Allocator>(
     ensures { IfOk result (λ sorted. (xs : List (List ℕ)) → lent_texts names.now ≡ kept xs → IsTailSorted xs (lent_texts sorted.items)) }
 {
     let mut sorted = names.to_vec(alloc)?;
-    sorted.sort_by(|a, b| compare_tails(a, b))?;
+    sorted.sort_by(|a, b| compare_names(a, b))?;
     Ok(sorted)
 }
 

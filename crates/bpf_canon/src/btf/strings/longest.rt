@@ -3,9 +3,10 @@ ghost use Rattle.std.specs.Prelude.{◌≡◌, ◌<◌, ◌^◌, IfOk, length};
 ghost use Rattle.btf_raw.specs.Header.{HasNulEnds};
 ghost use Rattle.bpf_canon.specs.btf.strings.Longest.{AreLongestOf};
 
-use crate::btf::strings::tails::{Tail, tail_key};
+use crate::btf::strings::tails::Tail;
 use crate::btf::strings::texts::end_of;
 use crate::btf::strings::used_offsets::UsedOffsets;
+use crate::btf::suffixes::suffix_key;
 use std::alloc::{AllocError, Allocator};
 
 // The longest used text of each string of the section. Those at further offsets of the string are its suffixes.
@@ -30,8 +31,8 @@ pub(crate) fn longest_texts<A: Allocator>(
         let text = &section[off..end];
         let before = &text[..text.len().saturating_sub(8)];
         longest.push(Tail {
-            key: tail_key(text),
-            before: tail_key(before),
+            key: suffix_key(text),
+            before: suffix_key(before),
             start: off as u32,
             end: end as u32,
         })?;

@@ -1,11 +1,11 @@
 //! Tails of texts.
-ghost use Rattle.std.specs.Prelude.{◌≡◌, ◌+◌, ◌*◌, ◌^◌, ◌<◌, ◌≤◌, ◌-◌, ℕ, slice_index_or, reverse, map};
-ghost use Rattle.bpf_canon.specs.btf.strings.TailKeys as spec;
+ghost use Rattle.std.specs.Prelude.{◌≡◌, ◌+◌, ◌*◌, ◌^◌, ◌<◌, ◌≤◌, ◌-◌, map};
 ghost use Rattle.std.specs.List.{All};
 ghost use Rattle.std.specs.List.Sorted.{IsPermutation, IsSorted};
 ghost use Rattle.btf_types.specs.strings.SharedNames.{tail_cmp};
 ghost use Rattle.bpf_canon.specs.btf.strings.Tails as tails;
 
+use crate::btf::suffixes::compare_from_end;
 use std::alloc::Allocator;
 use std::cmp::Ordering;
 
@@ -37,62 +37,6 @@ impl Tail {
     }
 }
 
-// The byte with so many behind it, or 0 past the first.
-fn byte_before(text: &[u8], behind: usize) -> u8
-    requires { behind < 8 }
-    ensures byte { result ≡ slice_index_or (reverse text.now) behind 0 }
-    ensures bytes { (i : ℕ) → slice_index_or text.now i 0 < 256 }
-{
-    if behind < text.len() {
-        text[text.len() - 1 - behind]
-    } else {
-        0
-    }
-}
-
-// The last eight bytes as a number, the last the greatest.
-pub(crate) fn tail_key(text: &[u8]) -> u64
-    ensures key { result ≡ spec.tail_key text.now }
-    ensures bytes { (i : ℕ) → slice_index_or text.now i 0 < 256 }
-{
-    if text.is_empty() {
-        return 0;
-    }
-    if let Some((_, last)) = text.split_last_chunk::<8>() {
-        return u64::from_le_bytes(*last);
-    }
-    u64::from_le_bytes([
-        byte_before(text, 7),
-        byte_before(text, 6),
-        byte_before(text, 5),
-        byte_before(text, 4),
-        byte_before(text, 3),
-        byte_before(text, 2),
-        byte_before(text, 1),
-        byte_before(text, 0),
-    ])
-}
-
-// Compares two texts by their bytes from the end, eight at once.
-pub(crate) fn compare_tails(a: &[u8], b: &[u8]) -> Ordering
-    ensures { result ≡ tail_cmp a.now b.now }
-{
-    let (mut first, mut second) = (a, b);
-    'ends: while 8 <= first.len() && 8 <= second.len() {
-        let (x, y) = (tail_key(first), tail_key(second));
-        if x != y {
-            return x.cmp(&y);
-        }
-        first = &first[..first.len() - 8];
-        second = &second[..second.len() - 8];
-    }
-    let (x, y) = (tail_key(first), tail_key(second));
-    if x != y {
-        return x.cmp(&y);
-    }
-    first.len().cmp(&second.len())
-}
-
 // The text of a tail.
 pub(crate) fn text_of<'a>(section: &'a [u8], tail: &Tail) -> &'a [u8]
     ensures { result.now ≡ tails.tail_text section.now tail.now }
@@ -107,7 +51,7 @@ pub(crate) fn text_of<'a>(section: &'a [u8], tail: &Tail) -> &'a [u8]
 fn compare_texts(section: &[u8], a: &Tail, b: &Tail) -> Ordering
     ensures { result ≡ tail_cmp (tails.tail_text section.now a.now) (tails.tail_text section.now b.now) }
 {
-    compare_tails(text_of(section, a), text_of(section, b))
+    compare_from_end(text_of(section, a), text_of(section, b))
 }
 
 // Compares by keys, then by texts.

@@ -8,8 +8,7 @@ ghost use Rattle.bpf_canon.specs.btf.write.KeptFrames.{frame_in, HasRecord};
 ghost use Rattle.bpf_canon.specs.btf.write.NameOffsets.{item_word, name_offsets, all_offsets, HasNamedItems};
 
 use crate::btf::strings::first_uses::FirstUses;
-use crate::btf::write::records::{has_item_names, word};
-use btf_raw::info::{item_words, kind_of, vlen_of};
+use btf_raw::info::{has_item_names, item_words, kind_of, vlen_of};
 use btf_types::FileSections;
 use std::alloc::{AllocError, Allocator};
 
@@ -29,7 +28,7 @@ fn note_items<A: Allocator + Copy>(
     ensures offsets { OnOk result (uses.new.offsets ≡ noted_all uses.old.offsets (tabulate (item_word (frame_in sections.now pos)) (vlen (frame_in sections.now pos)))) }
 {
     for k in 0..usize::from(count) {
-        uses.note(word(sections, pos, 3 + size * k))?;
+        uses.note(sections.word(pos, 3 + size * k))?;
     }
     Ok(())
 }
@@ -45,8 +44,8 @@ fn note_record<A: Allocator + Copy>(
     ensures section { uses.new.section_len ≡ uses.old.section_len }
     ensures offsets { OnOk result (uses.new.offsets ≡ noted_all uses.old.offsets (name_offsets (frame_in sections.now pos))) }
 {
-    uses.note(word(sections, pos, 0))?;
-    let info = word(sections, pos, 1);
+    uses.note(sections.word(pos, 0))?;
+    let info = sections.word(pos, 1);
     let kind = kind_of(info);
     if has_item_names(kind) {
         note_items(uses, sections, pos, item_words(kind), vlen_of(info))?;

@@ -1,9 +1,7 @@
 //! The records of a section, copied word by word with their names at other places (btf.rst section 2.2).
-ghost use Rattle.std.specs.Prelude.{◌≡◌, ◌≢◌, ◌+◌, ◌*◌, ◌/◌, ◌<◌, ◌≤◌, ◌^◌, ◌∷◌, [], ◌++◌, IsTrue, IsFalse, OnOk, length, drop, map, slice_index};
+ghost use Rattle.std.specs.Prelude.{◌≡◌, ◌+◌, ◌++◌, OnOk, length, drop, map};
 ghost use Rattle.std.specs.List.{All, Contains};
-ghost use Rattle.btf_raw.specs.Frames.{bytes_of, section_of, kind, vlen, flag, info_word, third_word};
-ghost use Rattle.btf_types.specs.judge.Checks as checks;
-ghost use Rattle.btf_types.specs.Good.{has_bit_fields};
+ghost use Rattle.btf_raw.specs.Frames.{bytes_of, section_of, info_word};
 ghost use Rattle.btf_types.specs.strings.SharedNames.{shared_place};
 ghost use Rattle.btf_types.specs.tables.TableInvariant.{IsTable};
 ghost use Rattle.btf_types.specs.Reading.{frames_at, records_at};
@@ -13,36 +11,11 @@ ghost use Rattle.bpf_canon.specs.btf.write.NameOffsets.{HasNamedItems, HasNotedN
 ghost use Rattle.bpf_canon.specs.btf.strings.NamesByPlace.{placed_texts};
 
 use crate::btf::strings::places::SharedPlaces;
-use bpf_words::{Order, get32, push32};
-use btf_raw::info::{flag_of, item_words, kind_of, tail_words, vlen_of};
-use btf_raw::{ENUM, ENUM64, FUNC_PROTO, STRUCT, UNION};
+use bpf_words::{Order, push32};
+use btf_raw::info::{flag_of, has_item_names, is_struct, item_words, kind_of, tail_words, vlen_of};
 use btf_types::FileSections;
 use byteorder::{BigEndian, ByteOrder, LittleEndian};
 use std::alloc::{AllocError, Allocator};
-
-// Whether the items of a record of this kind have names.
-#[tactic(auto, unfolding(btf_types::specs::judge::Checks::has_item_names))]
-pub(crate) fn has_item_names(kind: u8) -> bool
-    ensures { result ≡ checks.has_item_names kind }
-{
-    matches!(kind, STRUCT | UNION | ENUM | FUNC_PROTO | ENUM64)
-}
-
-// Whether the items of a record of this kind are members.
-fn is_struct(kind: u8) -> bool
-    ensures { result ≡ checks.is_struct kind }
-{
-    matches!(kind, STRUCT | UNION)
-}
-
-// Word `j` of the frame at `pos` of the types.
-pub(crate) fn word(sections: &FileSections<'_>, pos: usize, j: usize) -> u32
-    requires record { HasRecord sections.now pos }
-    requires inside { j < length (frame_in sections.now pos) }
-    ensures { result ≡ slice_index (frame_in sections.now pos) j }
-{
-    get32(sections.order, sections.types, pos + 4 * j)
-}
 
 // Appends three words.
 fn push_three<A: Allocator>(
@@ -76,22 +49,6 @@ fn push_two<A: Allocator>(
     out.extend_from_slice(&bytes)
 }
 
-// Whether a member of a STRUCT or UNION whose kind_flag is 1 has a width.
-fn has_widths(sections: &FileSections<'_>, pos: usize, count: u16) -> bool
-    requires record { HasRecord sections.now pos }
-    requires members { IsTrue (checks.is_struct (kind (frame_in sections.now pos))) }
-    requires marked { flag (frame_in sections.now pos) ≢ 0 }
-    requires all { count ≡ vlen (frame_in sections.now pos) }
-    ensures { result ≡ has_bit_fields (record_in sections.now pos) }
-{
-    for k in 0..usize::from(count) {
-        if word(sections, pos, 5 + 3 * k) >> 24 != 0 {
-            return true;
-        }
-    }
-    false
-}
-
 // The word info of a record: kind_flag of a STRUCT or UNION is 0 where no member has a width.
 fn canonical_info(sections: &FileSections<'_>, pos: usize, info: u32) -> u32
     requires record { HasRecord sections.now pos }
@@ -101,7 +58,7 @@ fn canonical_info(sections: &FileSections<'_>, pos: usize, info: u32) -> u32
     if flag_of(info) == 0 || !is_struct(kind_of(info)) {
         return info;
     }
-    if has_widths(sections, pos, vlen_of(info)) {
+    if sections.has_bit_fields(pos, info) {
         info
     } else {
         info & 0x7fff_ffff
@@ -123,9 +80,9 @@ fn push_long_items<A: Allocator, B: Allocator + Copy>(
     ensures { OnOk result (out.new.items ≡ out.old.items ++ bytes_of to (record_items (shared_place (placed_texts names.now)) (record_in sections.now pos))) }
 {
     for k in 0..usize::from(count) {
-        let name = names.place(word(sections, pos, 3 + 3 * k));
-        let second = word(sections, pos, 4 + 3 * k);
-        let third = word(sections, pos, 5 + 3 * k);
+        let name = names.place(sections.word(pos, 3 + 3 * k));
+        let second = sections.word(pos, 4 + 3 * k);
+        let third = sections.word(pos, 5 + 3 * k);
         push_three(out, to, [name, second, third])?;
     }
     Ok(())
@@ -146,8 +103,8 @@ fn push_short_items<A: Allocator, B: Allocator + Copy>(
     ensures { OnOk result (out.new.items ≡ out.old.items ++ bytes_of to (record_items (shared_place (placed_texts names.now)) (record_in sections.now pos))) }
 {
     for k in 0..usize::from(count) {
-        let name = names.place(word(sections, pos, 3 + 2 * k));
-        let second = word(sections, pos, 4 + 2 * k);
+        let name = names.place(sections.word(pos, 3 + 2 * k));
+        let second = sections.word(pos, 4 + 2 * k);
         push_two(out, to, [name, second])?;
     }
     Ok(())
@@ -188,7 +145,7 @@ fn push_rest<A: Allocator>(
     ensures { OnOk result (out.new.items ≡ out.old.items ++ bytes_of to (drop 3 (frame_in sections.now pos))) }
 {
     for k in 0..count {
-        push32(out, to, word(sections, pos, 3 + k))?;
+        push32(out, to, sections.word(pos, 3 + k))?;
     }
     Ok(())
 }
@@ -228,9 +185,9 @@ fn push_record<A: Allocator, B: Allocator + Copy>(
     requires noted { HasNotedNames names.now sections.now pos }
     ensures { OnOk result (out.new.items ≡ out.old.items ++ bytes_of to (record_words (shared_place (placed_texts names.now)) (record_in sections.now pos))) }
 {
-    let name = names.place(word(sections, pos, 0));
-    let info = word(sections, pos, 1);
-    let third = word(sections, pos, 2);
+    let name = names.place(sections.word(pos, 0));
+    let info = sections.word(pos, 1);
+    let third = sections.word(pos, 2);
     let canonical = canonical_info(sections, pos, info);
     push_three(out, to, [name, canonical, third])?;
     push_tail(out, to, names, sections, pos, info)

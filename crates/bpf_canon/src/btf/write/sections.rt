@@ -9,9 +9,9 @@ ghost use Rattle.bpf_canon.specs.btf.write.NameOffsets.{all_offsets};
 ghost use Rattle.bpf_canon.specs.btf.strings.NamesByPlace.{placed_texts};
 
 use crate::btf::strings::places::SharedPlaces;
+use crate::btf::write::header::push_header;
 use crate::btf::write::name_uses::noted_names;
 use crate::btf::write::records::push_records;
-use crate::btf::write::table::push_header;
 use bpf_words::Order;
 use btf_types::FileSections;
 use std::alloc::{AllocError, Allocator};

@@ -1,6 +1,5 @@
 //! From a table of types to its canonical bytes (btf.rst section 2).
 ghost use Rattle.std.specs.Prelude.{◌≡◌, ◌<◌, ◌≤◌, ◌^◌, ◌++◌, IfOk, OnOk, length, map};
-ghost use Rattle.btf_raw.specs.Header.{header};
 ghost use Rattle.btf_raw.specs.Frames.{bytes_of, section_of};
 ghost use Rattle.btf_types.specs.Values.{head_value, item_value};
 ghost use Rattle.btf_types.specs.Names as spec;
@@ -20,38 +19,11 @@ use crate::btf::names::shared::SharedNames;
 use crate::btf::write::head_words::{
     component_word, head_third, info_word, int_word, linkage_number,
 };
+use crate::btf::write::header::{push_header, push_words};
 use crate::btf::write::sections::write_sections;
-use bpf_words::{Order, push16, push32};
+use bpf_words::Order;
 use btf_types::{Head, Item, TypeTable};
 use std::alloc::{AllocError, Allocator};
-
-// Appends words of 32 bits.
-fn push_words<A: Allocator>(
-    out: &mut Vec<u8, A>,
-    order: Order,
-    words: &[u32],
-) -> Result<(), AllocError>
-    ensures { OnOk result (out.new.items ≡ out.old.items ++ bytes_of order words.now) }
-{
-    for word in words {
-        push32(out, order, *word)?;
-    }
-    Ok(())
-}
-
-// Appends a header of 24 bytes, with type_off 0 and str_off = type_len.
-pub(crate) fn push_header<A: Allocator>(
-    out: &mut Vec<u8, A>,
-    order: Order,
-    types_len: u32,
-    strings_len: u32,
-) -> Result<(), AllocError>
-    ensures { OnOk result (out.new.items ≡ out.old.items ++ header order 24 0 types_len types_len strings_len) }
-{
-    push16(out, order, 0xeb9f)?;
-    out.extend_from_slice(&[1, 0])?;
-    push_words(out, order, &[24, 0, types_len, types_len, strings_len])
-}
 
 // Appends the words behind the third that a head has of its own.
 fn push_tail<A: Allocator>(

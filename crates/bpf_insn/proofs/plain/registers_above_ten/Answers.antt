@@ -1,9 +1,9 @@
 use Rattle.std.proofs.Common.{slice_index, refl, arith}
 use Rattle.bpf_insn.specs.declared.plain.TheConstants.{ABOVE}
 use Rattle.bpf_insn.specs.Plain.{registers_above}
-use Rattle.bpf_insn.proofs.ZeroBits.{table_told}
+use Rattle.bpf_insn.proofs.ZeroBits.{same_table}
 use Rattle.bpf_insn.proofs.plain.registers_above_ten.Goals as goal
 
--- the table is held against the definition at each of the 256 bytes, by computing
+-- the table agrees with the definition at each of the 256 bytes, by computing
 pub returns : goal.returns
-returns c = table_told (slice_index ABOVE) registers_above refl c.args.registers (omega arith)
+returns c = same_table (slice_index ABOVE) registers_above refl c.args.registers (omega arith)

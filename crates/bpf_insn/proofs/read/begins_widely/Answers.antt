@@ -6,7 +6,7 @@ use Rattle.bpf_insn.proofs.ReadLemmas.{read_two}
 use Rattle.bpf_insn.proofs.read.begins_widely.Goals as goal
 
 pub returns-in-Ok : goal.returns-in-Ok
-returns-in-Ok c = λ told.
+returns-in-Ok c = λ reported.
     let fit = rw (sym c.slot.view_is) at c.slot_of-slot.ensures.in_range in
     let dst = rw c.in-Some-Some.is-0 at c.new.ensures in
     let src = rw c.in-Some-Some.is-1 at c.new-2.ensures in

@@ -1,8 +1,7 @@
 use Rattle.std.proofs.Common.{◌≡◌, true, ◌+◌, ◌*◌, ℕ, ap, ◌∙◌}
 use Rattle.std.specs.Prelude.{slice_index}
-use Rattle.btf_raw.specs.Kinds.{item_words}
+use Rattle.btf_raw.specs.Kinds.{item_words, has_item_names}
 use Rattle.btf_raw.specs.Frames.{kind, flag}
-use Rattle.btf_types.specs.judge.Checks.{has_item_names}
 use Rattle.btf_types.specs.Reading.{frame_at}
 use Rattle.btf_types.proofs.FaultlessLemmas.ItemReads.{item_read}
 use Rattle.btf_types.proofs.reading.item_at.Goals.{then-has_item_names, else-has_item_names}

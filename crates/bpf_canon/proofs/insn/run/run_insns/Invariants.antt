@@ -1,5 +1,6 @@
 use Rattle.std.proofs.Common.{◌≡◌, ◌-◌}
-use Rattle.bpf_canon.specs.insn.Run.{devices, limit}
+use Rattle.bpf_canon.specs.Engine.{devices}
+use Rattle.bpf_canon.specs.insn.Run.{limit}
 use Rattle.bpf_canon.proofs.InsnLemmas.RunLemmas.{Running}
 use Rattle.bpf_canon.proofs.insn.run.run_insns.Given as goal
 

@@ -20,8 +20,8 @@ word-requires-clause-there c =
     let three = three_words _ stands.frame in
     omega (arith, three)
 
-pub has_bit_fields-requires-clause-stands : goal.has_bit_fields-requires-clause-stands
-has_bit_fields-requires-clause-stands c = stands_in c.args.section.now c.requires.section c.args.i c.requires.there
+pub has_bit_fields-requires-clause-record : goal.has_bit_fields-requires-clause-record
+has_bit_fields-requires-clause-record c = stands_in c.args.section.now c.requires.section c.args.i c.requires.there
 
 pub returns-clause-is : goal.returns-clause-is
 returns-clause-is c =

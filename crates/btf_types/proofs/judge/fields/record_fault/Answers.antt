@@ -7,11 +7,11 @@ use Rattle.btf_types.proofs.judge.fields.record_fault.Goals as goal
 pub returns-in-Some : goal.returns-in-Some
 returns-in-Some c =
     let s = c.args.section.now in
-    let f = frame_at s.order s.types.now c.args.this.now.pos in
+    let f = frame_at s.file.order s.file.types.now c.args.this.now.pos in
     let there : c.loop-j.j < length f = let words = c.requires.this.words_are in omega arith in
-    least_at_word s.strings.now (facts_in s) f c.loop-j.j c.in-Some.cause there c.loop-j.invariant c.in-Some.ensures
+    least_at_word s.file.strings.now (facts_in s) f c.loop-j.j c.in-Some.cause there c.loop-j.invariant c.in-Some.ensures
 
 pub loop-j-preserved : goal.loop-j-preserved
 loop-j-preserved c =
     let s = c.args.section.now in
-    none_more s.strings.now (facts_in s) (frame_at s.order s.types.now c.args.this.now.pos) c.loop-j.j c.loop-j.invariant c.in_default.ensures
+    none_more s.file.strings.now (facts_in s) (frame_at s.file.order s.file.types.now c.args.this.now.pos) c.loop-j.j c.loop-j.invariant c.in_default.ensures

@@ -6,4 +6,4 @@ use Rattle.btf_types.specs.judge.FieldFaults.{WordFault}
 use Rattle.btf_types.proofs.judge.fields.record_fault.Given as goal
 
 abbrev pub invariant-loop-j : goal.invariant-loop-j
-invariant-loop-j l = (i : ℕ) (c : BtfCause) → i < l.j → ¬ WordFault l.section.strings.now (facts_in l.section) (frame_at l.section.order l.section.types.now l.this.pos) i c
+invariant-loop-j l = (i : ℕ) (c : BtfCause) → i < l.j → ¬ WordFault l.section.file.strings.now (facts_in l.section) (frame_at l.section.file.order l.section.file.types.now l.this.pos) i c

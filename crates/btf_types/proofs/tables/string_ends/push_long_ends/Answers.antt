@@ -30,9 +30,9 @@ pub blocks-2-preserved : goal.blocks-2-preserved
 blocks-2-preserved g c =
     let i = c.blocks-2.invariant in
     let pushed = c.in_ok-push-in-None.ensures.items in
-    let is = c.next_nul-end.ensures in
+    let is = c.text_end-end.ensures in
     let old = c.args.out.now.items in
-    let end = c.next_nul-end.result in
+    let end = c.text_end-end.result in
     rw pushed (record {
       kept = take-append-le (length old) c.blocks-2.out.items (end ∷ []) i.long ∙ i.kept;
       long = omega (arith, length-append c.blocks-2.out.items (end ∷ []));

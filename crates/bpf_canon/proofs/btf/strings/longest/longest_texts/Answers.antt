@@ -11,9 +11,9 @@ texts-preserved g c =
     let slots = c.args.uses.now in
     let ts = c.texts.longest.items in
     let off = c.texts.off in
-    let t : Tail = record { key = c.tail_key.result; before = c.tail_key-in-texts.result; start = off; end = c.end_of-end.result } in
+    let t : Tail = record { key = c.suffix_key.result; before = c.suffix_key-in-texts.result; start = off; end = c.end_of-end.result } in
     let pushed : c.push.new.self.items ≡ ts ++ t ∷ [] = c.in_ok-push.ensures.items in
     let used : get_or slots off 0 ≢ 0 = search rules in
-    let rest : c.tail_key-in-texts.result ≡ tail_key (text_before (take (c.end_of-end.result - off) (drop off section))) = search rules in
+    let rest : c.suffix_key-in-texts.result ≡ tail_key (text_before (take (c.end_of-end.result - off) (drop off section))) = search rules in
     subst (λ (l : List Tail). LongestTo section slots l (c.end_of-end.result + 1)) (sym pushed)
-    (longest_push section slots ts off t c.texts.invariant c.if-section-off-eq0.false used refl c.end_of-end.ensures.from c.end_of-end.ensures.inside c.end_of-end.ensures.nul c.end_of-end.ensures.before c.tail_key.ensures.key rest)
+    (longest_push section slots ts off t c.texts.invariant c.if-section-off-eq0.false used refl c.end_of-end.ensures.from c.end_of-end.ensures.inside c.end_of-end.ensures.nul c.end_of-end.ensures.before c.suffix_key.ensures.key rest)

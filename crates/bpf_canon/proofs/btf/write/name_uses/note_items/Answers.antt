@@ -16,8 +16,8 @@ note-requires g c =
     let is : c.word.result ≡ item_word f c.loop-k.k = c.word.ensures ∙ ap (λ (w : ℕ). slice_index f (3 + w * c.loop-k.k)) (sym c.requires.items.words) in
     omega (arith, item_within s.order s.types.now s.strings.now c.args.pos c.loop-k.k c.requires.record c.requires.items.named low)
 
-pub word-requires-clause-inside : goal.word-requires-clause-inside
-word-requires-clause-inside g c =
+pub word-requires-clause-there : goal.word-requires-clause-there
+word-requires-clause-there g c =
     let room = item_room (frame_in c.args.sections.now c.args.pos) c.args.size c.args.count c.loop-k.k c.requires.record.frame c.requires.items (omega arith) in
     omega (arith, room.0, room.1)
 

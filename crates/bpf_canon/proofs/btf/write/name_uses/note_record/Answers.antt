@@ -1,7 +1,6 @@
 use Rattle.std.proofs.Common.{◌≡◌, sym, ap, ◌∙◌, arith}
-use Rattle.btf_raw.specs.Kinds.{item_words, kind_of, vlen_of}
+use Rattle.btf_raw.specs.Kinds.{item_words, kind_of, vlen_of, has_item_names}
 use Rattle.btf_raw.specs.Frames.{kind}
-use Rattle.btf_types.specs.judge.Checks.{has_item_names}
 use Rattle.bpf_canon.specs.btf.write.KeptFrames.{frame_in}
 use Rattle.bpf_canon.proofs.BtfLemmas.Names.NoteSteps.{own_within}
 use Rattle.bpf_canon.proofs.btf.write.name_uses.note_record.Goals as goal

@@ -8,8 +8,8 @@ use Rattle.bpf_canon.proofs.BtfLemmas.Write.RecordNames.{item_is_noted}
 use Rattle.bpf_canon.proofs.BtfLemmas.Write.RecordWords.{item_room, named_item_more}
 use Rattle.bpf_canon.proofs.btf.write.records.push_long_items.Goals as goal
 
-pub word-requires-clause-inside : goal.word-requires-clause-inside
-word-requires-clause-inside g c =
+pub word-requires-clause-there : goal.word-requires-clause-there
+word-requires-clause-there g c =
     let room = (item_room (frame_in c.args.sections.now c.args.pos) 3 c.args.count c.loop-k.k c.requires.record.frame c.requires.items (omega arith)).1 in
     omega arith
 
@@ -17,13 +17,13 @@ pub place-name-requires : goal.place-name-requires
 place-name-requires g c =
     item_is_noted c.args.names.now c.args.sections.now c.args.pos 3 c.args.count c.loop-k.k c.word.result c.requires.noted c.requires.items (omega arith) c.word.ensures
 
-pub word-second-requires-clause-inside : goal.word-second-requires-clause-inside
-word-second-requires-clause-inside g c =
+pub word-second-requires-clause-there : goal.word-second-requires-clause-there
+word-second-requires-clause-there g c =
     let room = (item_room (frame_in c.args.sections.now c.args.pos) 3 c.args.count c.loop-k.k c.requires.record.frame c.requires.items (omega arith)).1 in
     omega arith
 
-pub word-third-requires-clause-inside : goal.word-third-requires-clause-inside
-word-third-requires-clause-inside g c =
+pub word-third-requires-clause-there : goal.word-third-requires-clause-there
+word-third-requires-clause-there g c =
     let room = (item_room (frame_in c.args.sections.now c.args.pos) 3 c.args.count c.loop-k.k c.requires.record.frame c.requires.items (omega arith)).1 in
     omega arith
 

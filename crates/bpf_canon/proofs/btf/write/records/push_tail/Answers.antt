@@ -1,8 +1,7 @@
 use Rattle.std.proofs.Common.{◌≡◌, ◌+◌, ◌++◌, ℕ, List, true, false, sym, ap, ◌∙◌}
 use Rattle.std.proofs.lemmas.Result.{on_ok_weaker}
-use Rattle.btf_raw.specs.Kinds.{item_words, tail_words, kind_of, vlen_of}
+use Rattle.btf_raw.specs.Kinds.{item_words, tail_words, kind_of, vlen_of, has_item_names}
 use Rattle.btf_raw.specs.Frames.{bytes_of, kind, vlen}
-use Rattle.btf_types.specs.judge.Checks.{has_item_names}
 use Rattle.btf_types.specs.strings.SharedNames.{shared_place}
 use Rattle.bpf_canon.specs.btf.write.KeptFrames.{frame_in}
 use Rattle.bpf_canon.specs.btf.strings.NamesByPlace.{placed_texts}

@@ -7,6 +7,6 @@ use Rattle.btf_types.proofs.tables.section.Section.record_facts.Goals as goal
 
 pub word-int-requires-clause-there : goal.word-int-requires-clause-there
 word-int-requires-clause-there c =
-    let f = frame_at c.args.self.now.order c.args.self.now.types.now c.args.pos in
+    let f = frame_at c.args.self.now.file.order c.args.self.now.file.types.now c.args.pos in
     let int : kind f ≡ INT = cc in
     int_has_word f c.requires.frame int

@@ -1,0 +1,135 @@
+package bpfcanon_test
+
+import (
+	"bytes"
+	"encoding/binary"
+	"encoding/hex"
+	"errors"
+	"os"
+	"path/filepath"
+	"strings"
+	"testing"
+
+	"bpfcanon"
+)
+
+var orders = []bpfcanon.Order{bpfcanon.Little, bpfcanon.Big}
+
+// The bytes that are written in hexadecimal, with blanks between them.
+func unhex(t testing.TB, text string) []byte {
+	t.Helper()
+	b, err := hex.DecodeString(strings.ReplaceAll(text, " ", ""))
+	if err != nil {
+		t.Fatal(err)
+	}
+	return b
+}
+
+func load(t testing.TB, name string) []byte {
+	t.Helper()
+	b, err := os.ReadFile(filepath.Join("..", "..", "testdata", name))
+	if err != nil {
+		t.Fatal(err)
+	}
+	return b
+}
+
+// BTF with a header of 24 bytes, these words as its records and this string section.
+func btf(order binary.ByteOrder, words []uint32, names string) []byte {
+	file := new(bytes.Buffer)
+	for _, part := range []interface{}{
+		uint16(0xeb9f), uint8(1), uint8(0), uint32(24),
+		uint32(0), uint32(4 * len(words)), uint32(4 * len(words)), uint32(len(names)),
+		words, []byte(names),
+	} {
+		if err := binary.Write(file, order, part); err != nil {
+			panic(err)
+		}
+	}
+	return file.Bytes()
+}
+
+// Checks that a call returned these bytes and no error.
+func wantBytes(t *testing.T, what string, got []byte, err error, want []byte) {
+	t.Helper()
+	if err != nil || !bytes.Equal(got, want) {
+		t.Errorf("%s: %x, %v; want %x", what, got, err, want)
+	}
+}
+
+// Checks that a call returned this fault, which errors.As finds and errors.Is compares by its cause.
+func wantFault(t *testing.T, what string, err error, want bpfcanon.FaultError) {
+	t.Helper()
+	var fault *bpfcanon.FaultError
+	if !errors.As(err, &fault) || *fault != want || !errors.Is(err, want.Cause) {
+		t.Errorf("%s: %+v, want %+v", what, err, want)
+	}
+}
+
+func TestAnOrderThatIsNoneIsRefused(t *testing.T) {
+	const none = bpfcanon.Order(2)
+	exit := unhex(t, "95 00 0000 00000000")
+	for name, call := range map[string]func() error{
+		"BTFCanon":        func() error { _, err := bpfcanon.BTFCanon(none, btf(binary.LittleEndian, nil, "\x00")); return err },
+		"InsnCanon":       func() error { _, err := bpfcanon.InsnCanon(none, bpfcanon.Little, exit); return err },
+		"InsnCanon to":    func() error { _, err := bpfcanon.InsnCanon(bpfcanon.Little, none, exit); return err },
+		"InsnShow":        func() error { _, err := bpfcanon.InsnShow(none, exit); return err },
+		"InsnRead":        func() error { _, err := bpfcanon.InsnRead(none, []byte("exit")); return err },
+		"InsnGroups":      func() error { _, err := bpfcanon.InsnGroups(none, exit); return err },
+		"InsnSame":        func() error { _, err := bpfcanon.InsnSame(none, exit, bpfcanon.Little, exit); return err },
+		"InsnSame second": func() error { _, err := bpfcanon.InsnSame(bpfcanon.Little, exit, none, exit); return err },
+		"InsnWriter": func() error {
+			_, err := bpfcanon.NewInsnWriter(new(bytes.Buffer), bpfcanon.Little, none).Write(exit)
+			return err
+		},
+	} {
+		if err := call(); !errors.Is(err, bpfcanon.ErrOrder) {
+			t.Errorf("%s: %v", name, err)
+		}
+	}
+	if got := none.String(); got != "Order(2)" {
+		t.Errorf("an order that is none is %q", got)
+	}
+}
+
+func TestResultsAreAppended(t *testing.T) {
+	exit, out := unhex(t, "95 00 0000 00000000"), append(make([]byte, 0, 64), "before: "...)
+	for name, call := range map[string]func(dst []byte) ([]byte, error){
+		"InsnCanon": func(dst []byte) ([]byte, error) {
+			return bpfcanon.AppendInsnCanon(dst, bpfcanon.Little, bpfcanon.Big, exit)
+		},
+		"InsnShow": func(dst []byte) ([]byte, error) { return bpfcanon.AppendInsnShow(dst, bpfcanon.Little, exit) },
+		"InsnRead": func(dst []byte) ([]byte, error) {
+			return bpfcanon.AppendInsnRead(dst, bpfcanon.Little, []byte("exit"))
+		},
+	} {
+		got, err := call(out)
+		if err != nil || !bytes.HasPrefix(got, out) || len(got) <= len(out) || &got[0] != &out[0] {
+			t.Errorf("%s: %q, %v, or in another array", name, got, err)
+		}
+		if small, err := call(out[:8:8]); err != nil || !bytes.Equal(small, got) || &small[0] == &out[0] {
+			t.Errorf("%s: without spare capacity %q, %v", name, small, err)
+		}
+	}
+	kept, err := bpfcanon.AppendInsnCanon(out, bpfcanon.Little, bpfcanon.Little, unhex(t, "ff"))
+	if err == nil || string(kept) != "before: " {
+		t.Errorf("after a fault %q, %v", kept, err)
+	}
+}
+
+// A program may be replaced by its canonical bytes: the library never writes where it reads.
+func TestOutputMayReplaceTheInput(t *testing.T) {
+	program, want := load(t, "packet_filter.big.bin"), load(t, "packet_filter.little.bin")
+	got, err := bpfcanon.AppendInsnCanon(program[:0], bpfcanon.Big, bpfcanon.Little, program)
+	wantBytes(t, "in place", got, err, want)
+	if !bytes.Equal(program, load(t, "packet_filter.big.bin")) {
+		t.Errorf("the input was written to: %x", program)
+	}
+	types := load(t, "flow_table.big.btf")
+	canonical, err := bpfcanon.BTFCanon(bpfcanon.Little, types)
+	if err != nil {
+		t.Fatal(err)
+	}
+	got, err = bpfcanon.AppendBTFCanon(types[:4], bpfcanon.Little, types)
+	wantBytes(t, "after four bytes", got, err, append(types[:4:4], canonical...))
+}

@@ -1,0 +1,67 @@
+package bpfcanon
+
+import (
+	"errors"
+	"fmt"
+
+	"bpfcanon/internal/capi"
+)
+
+// ErrMemory is returned if the library is out of memory.
+var ErrMemory = errors.New("bpfcanon: out of memory")
+
+// ErrOrder is returned if an Order is neither Little nor Big.
+var ErrOrder = errors.New("bpfcanon: no such byte order")
+
+// ErrClosed is returned by a write to an InsnWriter that was closed.
+var ErrClosed = errors.New("bpfcanon: the writer is closed")
+
+// A FaultError is the first fault of an input. errors.Is compares it with a cause, and errors.As
+// finds its place.
+type FaultError struct {
+	// Cause is an InsnCause, a LineCause or a BTFCause.
+	Cause Cause
+	// Pos is the offset of the fault in bytes. It is 0 for a fault of a listing, which has a line.
+	Pos uint64
+	// Line is the line of a fault of a listing, counted from 1, and 0 for other faults.
+	Line uint64
+	// Second is set if the fault is in the second of two inputs, and the first has none.
+	Second bool
+}
+
+// Error returns the place, the name of the cause and its sentence.
+func (e *FaultError) Error() string {
+	input, place := "", fmt.Sprintf("byte %d", e.Pos)
+	if e.Second {
+		input = "second input: "
+	}
+	if e.Line > 0 {
+		place = fmt.Sprintf("line %d", e.Line)
+	}
+	return fmt.Sprintf("bpfcanon: %s%s: %s: %s", input, place, e.Cause.String(), e.Cause.Error())
+}
+
+// Unwrap returns the cause.
+func (e *FaultError) Unwrap() error {
+	return e.Cause
+}
+
+// The causes of each kind of input, by their numbers.
+func insnCause(number uint32) Cause { return InsnCause(number) }
+func lineCause(number uint32) Cause { return LineCause(number) }
+func btfCause(number uint32) Cause  { return BTFCause(number) }
+
+// errorOf returns the error of an answer, and nil for one without.
+func errorOf(a capi.Answer, cause func(uint32) Cause) error {
+	switch a.Status {
+	case capi.Done, capi.Different:
+		return nil
+	case capi.Fault, capi.FaultSecond:
+		return &FaultError{Cause: cause(a.Cause), Pos: a.Pos, Line: a.Line, Second: a.Status == capi.FaultSecond}
+	case capi.Memory:
+		return ErrMemory
+	case capi.BadOrder:
+		return ErrOrder
+	}
+	return fmt.Errorf("bpfcanon: unexpected status %d", a.Status)
+}

@@ -1,0 +1,3 @@
+module bpfcanon
+
+go 1.19

@@ -1,0 +1,70 @@
+package bpfcanon
+
+import "bpfcanon/internal/capi"
+
+// InsnCanon returns the instructions of a program that is in one byte order in another. With
+// to == Little these are its canonical bytes. They are as long as the program.
+//
+// Errors: a *FaultError with an InsnCause, ErrMemory, ErrOrder.
+func InsnCanon(order, to Order, program []byte) ([]byte, error) {
+	return AppendInsnCanon(nil, order, to, program)
+}
+
+// AppendInsnCanon is like InsnCanon, but appends the bytes to dst and returns the longer slice. It
+// allocates only if the capacity of dst isn't enough, or is memory of the program, which stays as
+// it is. On an error it returns dst as it was.
+func AppendInsnCanon(dst []byte, order, to Order, program []byte) ([]byte, error) {
+	return appendOutput(dst, program, len(program), insnCause, func(out []byte) capi.Answer {
+		return capi.InsnCanon(capi.Order(order), capi.Order(to), program, out)
+	})
+}
+
+// InsnShow returns the listing of a program: a line for each instruction, with a newline.
+// docs/FORMATS.md has the form of the lines.
+//
+// Errors: a *FaultError with an InsnCause, ErrMemory, ErrOrder.
+func InsnShow(order Order, program []byte) ([]byte, error) {
+	return AppendInsnShow(nil, order, program)
+}
+
+// AppendInsnShow is like InsnShow, but appends the listing to dst, as AppendInsnCanon does.
+func AppendInsnShow(dst []byte, order Order, program []byte) ([]byte, error) {
+	// The longest line is 4 times as long as its instruction.
+	return appendOutput(dst, program, 4*len(program), insnCause, func(out []byte) capi.Answer {
+		return capi.InsnShow(capi.Order(order), program, out)
+	})
+}
+
+// InsnRead returns the instructions of a listing in a byte order. Comments, blank lines and
+// hexadecimal numbers are allowed.
+//
+// Errors: a *FaultError with a LineCause and the line, ErrMemory, ErrOrder.
+func InsnRead(to Order, listing []byte) ([]byte, error) {
+	return AppendInsnRead(nil, to, listing)
+}
+
+// AppendInsnRead is like InsnRead, but appends the instructions to dst, as AppendInsnCanon does.
+func AppendInsnRead(dst []byte, to Order, listing []byte) ([]byte, error) {
+	// Most lines are longer than their instruction. "exit" with its newline is not: 5 bytes for 8.
+	return appendOutput(dst, listing, len(listing), lineCause, func(out []byte) capi.Answer {
+		return capi.InsnRead(capi.Order(to), listing, out)
+	})
+}
+
+// InsnGroups returns the conformance groups that a program needs, and the groups that these include.
+//
+// Errors: a *FaultError with an InsnCause, ErrMemory, ErrOrder.
+func InsnGroups(order Order, program []byte) (Groups, error) {
+	got := capi.InsnGroups(capi.Order(order), program)
+	return Groups(got.Groups), errorOf(got, insnCause)
+}
+
+// InsnSame reports whether two programs, each in a byte order of its own, have the same
+// instructions.
+//
+// Errors: a *FaultError with an InsnCause, whose Second is set if it is in the second program;
+// ErrMemory; ErrOrder.
+func InsnSame(firstOrder Order, first []byte, secondOrder Order, second []byte) (bool, error) {
+	got := capi.InsnSame(capi.Order(firstOrder), first, capi.Order(secondOrder), second)
+	return got.Status == capi.Done, errorOf(got, insnCause)
+}

@@ -1,0 +1,137 @@
+// Package capi makes the calls of bpfcanon.h: inputs and room for output are slices of the caller,
+// which no call copies. The comments of the header describe each call.
+package capi
+
+// #cgo pkg-config: bpfcanon
+// #include <bpfcanon.h>
+import "C"
+
+import "unsafe"
+
+// An Order is the number of a byte order.
+type Order uint32
+
+const (
+	Little Order = C.BPFCANON_LITTLE
+	Big    Order = C.BPFCANON_BIG
+)
+
+// A Status is how a call ended.
+type Status uint32
+
+const (
+	Done        Status = C.BPFCANON_DONE
+	Different   Status = C.BPFCANON_DIFFERENT
+	Fault       Status = C.BPFCANON_FAULT
+	FaultSecond Status = C.BPFCANON_FAULT_SECOND
+	Memory      Status = C.BPFCANON_MEMORY
+	Room        Status = C.BPFCANON_ROOM
+	BadOrder    Status = C.BPFCANON_ORDER
+)
+
+// Conformance groups, as bits of a mask.
+const (
+	Base32   = C.BPFCANON_BASE32
+	Base64   = C.BPFCANON_BASE64
+	Atomic32 = C.BPFCANON_ATOMIC32
+	Atomic64 = C.BPFCANON_ATOMIC64
+	Divmul32 = C.BPFCANON_DIVMUL32
+	Divmul64 = C.BPFCANON_DIVMUL64
+	Packet   = C.BPFCANON_PACKET
+)
+
+// BTFMax is the length of the longest BTF without a fault.
+const BTFMax = C.BPFCANON_BTF_MAX
+
+// HeaderVersion is the version of the header that this package was compiled with.
+const HeaderVersion = C.BPFCANON_VERSION
+
+// An Answer is what a call returns. A field that the status doesn't set is 0.
+type Answer struct {
+	Status  Status
+	Cause   uint32
+	Pos     uint64
+	Line    uint64
+	Written int
+	Needed  int
+	Types   uint32
+	Groups  uint32
+}
+
+// A Front is what InsnFront returns. A field that the status doesn't set is 0.
+type Front struct {
+	Status  Status
+	Cause   uint32
+	Pos     uint64
+	Read    int
+	Written int
+	Needed  int
+}
+
+// start returns where a slice begins, and nil if it is empty, which each call takes.
+func start(b []byte) *C.uint8_t {
+	if len(b) == 0 {
+		return nil
+	}
+	return (*C.uint8_t)(unsafe.Pointer(&b[0]))
+}
+
+func textStart(b []byte) *C.char {
+	return (*C.char)(unsafe.Pointer(start(b)))
+}
+
+func size(b []byte) C.size_t {
+	return C.size_t(len(b))
+}
+
+func answer(a C.bpfcanon_answer) Answer {
+	return Answer{
+		Status(a.status), uint32(a.cause), uint64(a.pos), uint64(a.line),
+		int(a.written), int(a.needed), uint32(a.types), uint32(a.groups),
+	}
+}
+
+func BTFCanon(to Order, types, out []byte) Answer {
+	return answer(C.bpfcanon_btf_canon(C.uint32_t(to), start(types), size(types), start(out), size(out)))
+}
+
+func BTFCheck(types []byte) Answer {
+	return answer(C.bpfcanon_btf_check(start(types), size(types)))
+}
+
+func BTFSame(first, second []byte) Answer {
+	return answer(C.bpfcanon_btf_same(start(first), size(first), start(second), size(second)))
+}
+
+func BTFShow(types, out []byte) Answer {
+	return answer(C.bpfcanon_btf_show(start(types), size(types), textStart(out), size(out)))
+}
+
+func InsnCanon(order, to Order, program, out []byte) Answer {
+	return answer(C.bpfcanon_insn_canon(C.uint32_t(order), C.uint32_t(to),
+		start(program), size(program), start(out), size(out)))
+}
+
+func InsnGroups(order Order, program []byte) Answer {
+	return answer(C.bpfcanon_insn_groups(C.uint32_t(order), start(program), size(program)))
+}
+
+func InsnSame(firstOrder Order, first []byte, secondOrder Order, second []byte) Answer {
+	return answer(C.bpfcanon_insn_same(C.uint32_t(firstOrder), start(first), size(first),
+		C.uint32_t(secondOrder), start(second), size(second)))
+}
+
+func InsnShow(order Order, program, out []byte) Answer {
+	return answer(C.bpfcanon_insn_show(C.uint32_t(order), start(program), size(program), textStart(out), size(out)))
+}
+
+func InsnRead(to Order, listing, out []byte) Answer {
+	return answer(C.bpfcanon_insn_read(C.uint32_t(to), textStart(listing), size(listing), start(out), size(out)))
+}
+
+func InsnFront(order, to Order, piece, out []byte) Front {
+	f := C.bpfcanon_insn_front(C.uint32_t(order), C.uint32_t(to), start(piece), size(piece), start(out), size(out))
+	return Front{
+		Status(f.status), uint32(f.cause), uint64(f.pos), int(f.read), int(f.written), int(f.needed),
+	}
+}

@@ -1,0 +1,44 @@
+package capi
+
+// #include <bpfcanon.h>
+import "C"
+
+// Version returns the version of the library, as "0.1.0".
+func Version() string {
+	return C.GoString(C.bpfcanon_version())
+}
+
+// The calls below return the name of a number, as "Truncated", and a sentence on what it means.
+// Both are "" for a number that is no status or cause.
+
+func StatusName(status Status) string {
+	return C.GoString(C.bpfcanon_status_name(C.uint32_t(status)))
+}
+
+func StatusText(status Status) string {
+	return C.GoString(C.bpfcanon_status_text(C.uint32_t(status)))
+}
+
+func InsnCauseName(cause uint32) string {
+	return C.GoString(C.bpfcanon_insn_cause_name(C.uint32_t(cause)))
+}
+
+func InsnCauseText(cause uint32) string {
+	return C.GoString(C.bpfcanon_insn_cause_text(C.uint32_t(cause)))
+}
+
+func LineCauseName(cause uint32) string {
+	return C.GoString(C.bpfcanon_line_cause_name(C.uint32_t(cause)))
+}
+
+func LineCauseText(cause uint32) string {
+	return C.GoString(C.bpfcanon_line_cause_text(C.uint32_t(cause)))
+}
+
+func BTFCauseName(cause uint32) string {
+	return C.GoString(C.bpfcanon_btf_cause_name(C.uint32_t(cause)))
+}
+
+func BTFCauseText(cause uint32) string {
+	return C.GoString(C.bpfcanon_btf_cause_text(C.uint32_t(cause)))
+}

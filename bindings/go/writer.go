@@ -1,0 +1,141 @@
+package bpfcanon
+
+import (
+	"errors"
+	"io"
+
+	"bpfcanon/internal/capi"
+)
+
+// The longest instruction, a wide load.
+const longestInsn = 16
+
+// The bytes that an InsnWriter gives to the library at a time.
+const pieceSize = 64 << 10
+
+// An InsnWriter writes the instructions of a stream in a byte order. The stream may be cut anywhere
+// between two calls of Write: an instruction is written as soon as it is complete, and fewer than
+// 16 bytes are kept for later.
+type InsnWriter struct {
+	dst       io.Writer
+	order, to Order
+	held      []byte // the start of an instruction that isn't complete
+	out       []byte
+	done      uint64 // the length of the instructions that were read
+	err       error
+}
+
+// NewInsnWriter returns a writer of the instructions in the byte order `order` that are written to
+// it. They are written to dst in the byte order `to`; with Little these are canonical bytes.
+func NewInsnWriter(dst io.Writer, order, to Order) *InsnWriter {
+	return &InsnWriter{dst: dst, order: order, to: to, held: make([]byte, 0, longestInsn)}
+}
+
+// Write writes the instructions that are complete with the bytes of p. At a fault, the instructions
+// before it have been written, and the error is a *FaultError with the offset in the stream. The
+// number of bytes that Write returns is then that of the bytes of p before the instruction with the
+// fault. Other errors are those of the underlying writer, ErrMemory, ErrOrder and ErrClosed.
+// Once a call has failed, all further ones return the same error.
+func (w *InsnWriter) Write(p []byte) (int, error) {
+	taken := 0
+	for taken < len(p) && w.err == nil {
+		if len(w.held) > 0 {
+			taken += w.complete(p[taken:])
+		} else {
+			taken += w.writeFront(p[taken:])
+		}
+	}
+	return taken, w.err
+}
+
+// complete adds bytes of p to those that are held, up to the length of the longest instruction, and
+// writes the instruction that they complete. It returns how many bytes of p it wrote or holds.
+func (w *InsnWriter) complete(p []byte) int {
+	before := len(w.held)
+	w.held = append(w.held, p[:least(longestInsn-before, len(p))]...)
+	read := w.put(w.held)
+	if w.err == nil && read == 0 {
+		return len(w.held) - before
+	}
+	w.held = w.held[:0]
+	if read < before {
+		return 0
+	}
+	return read - before
+}
+
+// writeFront writes the instructions at the front of p, and holds the start of one that is left at
+// its end. It returns how many bytes of p it wrote or holds.
+func (w *InsnWriter) writeFront(p []byte) int {
+	piece := p[:least(len(p), pieceSize)]
+	read := w.put(piece)
+	if w.err == nil && read == 0 {
+		w.held = append(w.held, piece...)
+		return len(piece)
+	}
+	return read
+}
+
+// put writes the whole instructions at the front of some bytes, and returns their length.
+func (w *InsnWriter) put(piece []byte) int {
+	if cap(w.out) < len(piece) {
+		w.out = make([]byte, len(piece))
+	}
+	front := capi.InsnFront(capi.Order(w.order), capi.Order(w.to), piece, w.out[:len(piece)])
+	if front.Written > 0 {
+		if w.err = writeWhole(w.dst, w.out[:front.Written]); w.err != nil {
+			return 0
+		}
+	}
+	w.err = w.errorOf(front)
+	w.done += uint64(front.Read)
+	return front.Read
+}
+
+// errorOf returns the error of an answer whose bytes begin where the instructions that were read
+// end.
+func (w *InsnWriter) errorOf(front capi.Front) error {
+	err := errorOf(capi.Answer{Status: front.Status, Cause: front.Cause, Pos: front.Pos}, insnCause)
+	var fault *FaultError
+	if errors.As(err, &fault) {
+		fault.Pos += w.done
+	}
+	return err
+}
+
+// Close reports an instruction that is cut: a *FaultError with InsnTruncated. It doesn't close the
+// underlying writer. It returns an earlier error again, and nil if the writer is closed already.
+func (w *InsnWriter) Close() error {
+	if w.err == ErrClosed {
+		return nil
+	}
+	if w.err != nil {
+		return w.err
+	}
+	_, err := InsnCanon(w.order, w.to, w.held)
+	var fault *FaultError
+	if errors.As(err, &fault) {
+		fault.Pos += w.done
+	}
+	w.err = err
+	if err == nil {
+		w.err = ErrClosed
+	}
+	return err
+}
+
+// writeWhole writes all of p, or returns an error.
+func writeWhole(dst io.Writer, p []byte) error {
+	n, err := dst.Write(p)
+	if err == nil && n < len(p) {
+		return io.ErrShortWrite
+	}
+	return err
+}
+
+func least(a, b int) int {
+	if a < b {
+		return a
+	}
+	return b
+}

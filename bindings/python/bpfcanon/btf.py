@@ -1,0 +1,41 @@
+"""Calls on BTF, the types of BPF programs (Linux Documentation/bpf/btf.rst)."""
+
+from . import _library
+from ._library import Buffer
+from .causes import BtfCause, Order
+from .errors import check
+
+
+def btf_canon(types: Buffer, *, to: Order = Order.LITTLE) -> bytes:
+    """The canonical form of BTF in the byte order `to`.
+
+    With `to` little these are its canonical bytes. They are never longer than the input.
+    Raises Fault with a BtfCause, OutOfMemory.
+    """
+    answer, out = _library.write("btf_canon", _library.size_of(types), to, types)
+    check(answer, BtfCause)
+    return bytes(out)
+
+
+def btf_show(types: Buffer) -> str:
+    """The types as text: a line for each type and for each of its items, with a newline.
+
+    docs/FORMATS.md has the form of the lines. Raises Fault with a BtfCause, OutOfMemory.
+    """
+    # The text of a kernel's types is about twice as long as they are.
+    answer, out = _library.write("btf_show", 3 * _library.size_of(types), types)
+    check(answer, BtfCause)
+    return out.decode()
+
+
+def btf_check(types: Buffer) -> int:
+    """The number of types. Type 0, void, is not counted. Raises Fault with a BtfCause, OutOfMemory."""
+    return int(check(_library.ask("btf_check", types), BtfCause).types)
+
+
+def btf_same(first: Buffer, second: Buffer) -> bool:
+    """Whether two BTF inputs, in any byte order, have the same types.
+
+    Raises Fault with a BtfCause, OutOfMemory.
+    """
+    return bool(check(_library.ask("btf_same", first, second), BtfCause).status == _library.DONE)

@@ -1,0 +1,117 @@
+"""The numbers of the library: byte orders, conformance groups and the causes of faults."""
+
+import enum
+from typing import Union
+
+from . import _library
+
+
+class Order(enum.IntEnum):
+    """A byte order. Instructions don't state theirs, so the caller gives it; BTF does."""
+
+    LITTLE = 0  # the order of canonical bytes
+    BIG = 1
+
+
+class Group(enum.IntFlag):
+    """Conformance groups (RFC 9669 section 2.4): instructions that a runtime supports together."""
+
+    BASE32 = 1
+    BASE64 = 2  # includes BASE32
+    ATOMIC32 = 4
+    ATOMIC64 = 8  # includes ATOMIC32
+    DIVMUL32 = 16
+    DIVMUL64 = 32  # includes DIVMUL32
+    PACKET = 64  # legacy packet access
+
+
+class InsnCause(enum.IntEnum):
+    """The cause of a fault of instructions: the first field that no instruction has beside the fields before it."""
+
+    TRUNCATED = 1
+    OPCODE = 2
+    DST = 3
+    SRC = 4
+    OFFSET = 5
+    IMM = 6
+    RESERVED = 7
+    NEXT_IMM = 8
+
+    @property
+    def label(self) -> str:
+        """The name in docs/FORMATS.md, as "NextImm"."""
+        return _library.string("insn_cause_name", self)
+
+    @property
+    def text(self) -> str:
+        """A sentence, as "no instruction has this opcode"."""
+        return _library.string("insn_cause_text", self)
+
+
+class LineCause(enum.IntEnum):
+    """The cause of a fault of a listing."""
+
+    CHAR = 1
+    WORD = 2
+    SHAPE = 3
+    RANGE = 4
+
+    @property
+    def label(self) -> str:
+        """The name in docs/FORMATS.md, as "Shape"."""
+        return _library.string("line_cause_name", self)
+
+    @property
+    def text(self) -> str:
+        """A sentence, as "no instruction has this mnemonic"."""
+        return _library.string("line_cause_text", self)
+
+
+class BtfCause(enum.IntEnum):
+    """The cause of a fault of BTF."""
+
+    SHORT_HEADER = 1
+    MAGIC = 2
+    VERSION = 3
+    FLAGS = 4
+    HEADER_LENGTH = 5
+    HEADER_TAIL = 6
+    TYPE_LENGTH = 7
+    STRING_LENGTH = 8
+    SECTIONS = 9
+    FILE_LENGTH = 10
+    FIRST_STRING = 11
+    LAST_STRING = 12
+    RECORD_CUT = 13
+    INFO_BITS = 14
+    KIND_NUMBER = 15
+    FLAG_SET = 16
+    VLEN = 17
+    TAIL_CUT = 18
+    NAME_RANGE = 19
+    NAME_UTF8 = 20
+    NAME_MISSING = 21
+    NAME_UNWANTED = 22
+    TEXTS_TOO_LONG = 23  # never reported: the number is kept
+    NOT_ZERO = 24
+    SIZE = 25
+    REFERENCE = 26
+    TARGET_KIND = 27
+    INT_WORD = 28
+    MEMBER_INT = 29
+    MEMBER_PLACE = 30
+    LINKAGE = 31
+    COMPONENT = 32
+
+    @property
+    def label(self) -> str:
+        """The name in docs/FORMATS.md, as "ShortHeader"."""
+        return _library.string("btf_cause_name", self)
+
+    @property
+    def text(self) -> str:
+        """A sentence, as "the version is not 1"."""
+        return _library.string("btf_cause_text", self)
+
+
+Cause = Union[InsnCause, LineCause, BtfCause]

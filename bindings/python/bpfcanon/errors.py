@@ -1,0 +1,61 @@
+"""The exceptions of the package, and how an answer of the library becomes one."""
+
+from typing import Any, Callable, Optional
+
+from . import _library
+from .causes import Cause
+
+
+class BpfcanonError(Exception):
+    """What the calls of this package raise, but for TypeError and an OSError if there is no library."""
+
+
+class Fault(BpfcanonError, ValueError):
+    """The first fault of an input.
+
+    cause   an InsnCause, a LineCause or a BtfCause
+    pos     the offset of the fault in bytes; 0 in a listing
+    line    the line of the fault in a listing, from 1; 0 in other inputs
+    second  whether it is in the second of two inputs, and the first has none
+    """
+
+    def __init__(self, cause: Cause, pos: int = 0, line: int = 0, second: bool = False) -> None:
+        super().__init__(cause, pos, line, second)
+        self.cause = cause
+        self.pos = pos
+        self.line = line
+        self.second = second
+
+    def __str__(self) -> str:
+        place = f"line {self.line}" if self.line else f"byte {self.pos}"
+        return f"{'second input: ' if self.second else ''}{place}: {self.cause.label}: {self.cause.text}"
+
+
+class OutOfMemory(BpfcanonError, MemoryError):
+    """The library was out of memory."""
+
+
+class OrderError(BpfcanonError, ValueError):
+    """A number is not that of a byte order."""
+
+
+def error_of(answer: Any, cause: Callable[[int], Cause]) -> Optional[BpfcanonError]:
+    """The exception of an answer, and None for one without."""
+    if answer.status in (_library.DONE, _library.DIFFERENT):
+        return None
+    if answer.status in (_library.FAULT, _library.FAULT_SECOND):
+        second = answer.status == _library.FAULT_SECOND
+        return Fault(cause(answer.cause), answer.pos, getattr(answer, "line", 0), second)
+    if answer.status == _library.MEMORY:
+        return OutOfMemory("out of memory")
+    if answer.status == _library.ORDER:
+        return OrderError("no such byte order")
+    return BpfcanonError(f"unexpected status {answer.status}")
+
+
+def check(answer: Any, cause: Callable[[int], Cause]) -> Any:
+    """The answer, if it is one of a call that has done its work."""
+    error = error_of(answer, cause)
+    if error is not None:
+        raise error
+    return answer

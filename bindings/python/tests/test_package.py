@@ -1,0 +1,152 @@
+"""Inputs of each kind, exceptions, names of causes and the library that is loaded."""
+
+import array
+import doctest
+import mmap
+import os
+import pathlib
+import pickle
+import re
+import subprocess
+import sys
+import tempfile
+import unittest
+from typing import Any
+from unittest import mock
+
+import bpfcanon
+from bpfcanon import BtfCause, Fault, InsnCause, LineCause, Order, OrderError, OutOfMemory, _library
+from bpfcanon.errors import error_of
+
+from .samples import INSNS, TESTDATA, TOP, load, unhex
+
+PACKAGE = pathlib.Path(bpfcanon.__file__).resolve().parent.parent
+
+
+class Inputs(unittest.TestCase):
+    def test_each_kind_of_buffer_is_taken(self) -> None:
+        program = unhex(INSNS[1][1])
+        spread = memoryview(bytes(2 * len(program))).cast("B")[::2]
+        buffers: list[Any] = [program, bytearray(program), memoryview(program), memoryview(bytearray(program))]
+        buffers += [memoryview(b"....." + program)[5:], array.array("I", program), memoryview(array.array("I", program))]
+        for buffer in buffers:
+            self.assertEqual(bpfcanon.insn_canon(buffer), program)
+        with self.assertRaises(Fault):
+            bpfcanon.insn_canon(spread)
+        for empty in b"", bytearray(), memoryview(b""), memoryview(bytearray()):
+            self.assertEqual(bpfcanon.insn_canon(empty), b"")
+
+    def test_files_may_be_mapped(self) -> None:
+        want = bpfcanon.btf_canon(load("flow_table.big.btf"))
+        for access in mmap.ACCESS_READ, mmap.ACCESS_COPY:
+            with open(TESTDATA / "flow_table.little.btf", "rb") as file, mmap.mmap(file.fileno(), 0, access=access) as mapped:
+                self.assertEqual(bpfcanon.btf_canon(mapped), want)
+
+    def test_an_input_can_be_changed_after_a_fault(self) -> None:
+        program = bytearray(unhex("ff 00 0000 00000000"))
+        try:
+            bpfcanon.insn_canon(program)
+        except Fault as fault:
+            program += b"more"
+            self.assertEqual(fault.cause, InsnCause.OPCODE)
+        self.assertEqual(len(program), 12)
+
+    def test_what_is_no_buffer_is_refused(self) -> None:
+        for value in "exit", None, 8, [1, 2]:
+            for call in bpfcanon.insn_canon, bpfcanon.insn_groups, bpfcanon.btf_check, bpfcanon.btf_canon:
+                with self.assertRaises(TypeError):
+                    call(value)  # type: ignore[operator]
+
+    def test_a_number_that_is_no_order_is_refused(self) -> None:
+        for order in 2, -1, 1 << 31:
+            number: Any = order
+            with self.assertRaises(OrderError):
+                bpfcanon.insn_canon(b"", order=number)
+            with self.assertRaises(OrderError):
+                bpfcanon.btf_canon(load("flow_table.big.btf"), to=number)
+
+
+class Faults(unittest.TestCase):
+    def test_a_fault_is_a_sentence(self) -> None:
+        for fault, text in [
+            (Fault(InsnCause.OPCODE, 9), "byte 9: Opcode: no instruction has this opcode"),
+            (Fault(LineCause.WORD, line=2), "line 2: Word: no instruction has this mnemonic"),
+            (Fault(BtfCause.VERSION, 2, second=True), "second input: byte 2: Version: the version is not 1"),
+        ]:
+            self.assertEqual(str(fault), text)
+
+    def test_a_fault_can_be_pickled(self) -> None:
+        fault = pickle.loads(pickle.dumps(Fault(BtfCause.VLEN, 40, second=True)))
+        self.assertEqual((fault.cause, fault.pos, fault.line, fault.second), (BtfCause.VLEN, 40, 0, True))
+
+    def test_exceptions_have_the_built_in_bases(self) -> None:
+        for error, base in [(Fault, ValueError), (OrderError, ValueError), (OutOfMemory, MemoryError)]:
+            self.assertTrue(issubclass(error, base) and issubclass(error, bpfcanon.BpfcanonError), error)
+
+    def test_statuses_become_exceptions(self) -> None:
+        for status, error in [(_library.DONE, None), (_library.DIFFERENT, None), (_library.MEMORY, OutOfMemory)]:
+            raised = error_of(_library.Answer(status), InsnCause)
+            self.assertEqual(type(raised), error or type(None))
+        self.assertIsNotNone(error_of(_library.Answer(99), InsnCause))
+
+    def test_causes_have_the_names_and_sentences_of_the_formats(self) -> None:
+        page = (TOP / "docs" / "FORMATS.md").read_text()
+        for section, causes in [
+            ("Causes of instruction files", InsnCause),
+            ("Causes of listings", LineCause),
+            ("Causes of BTF files", BtfCause),
+        ]:
+            table = page.split(f"\n### {section}\n")[1].split("\n#")[0]
+            rows = re.findall(r"^\| ([A-Z]\w+) \| ([^|]+) \|", table, re.MULTILINE)[1:]
+            members: list[Any] = list(causes)
+            self.assertEqual([(cause.label, cause.text) for cause in members], rows)
+            self.assertEqual([cause.name.replace("_", "").lower() for cause in members], [name.lower() for name, _ in rows])
+
+
+class Library(unittest.TestCase):
+    def load_with(self, path: str) -> "subprocess.CompletedProcess[str]":
+        environment = {**os.environ, "BPFCANON_LIBRARY": path, "PYTHONPATH": str(PACKAGE)}
+        words = [sys.executable, "-c", "import bpfcanon; print(bpfcanon.library_version())"]
+        return subprocess.run(words, env=environment, capture_output=True, text=True, check=False)
+
+    def test_the_library_has_the_version_of_the_package(self) -> None:
+        self.assertEqual(bpfcanon.library_version(), bpfcanon.__version__)
+        project = re.findall(r'^version = "(.*)"$', (PACKAGE / "pyproject.toml").read_text(), re.MULTILINE)
+        header = re.findall(r'^#define BPFCANON_VERSION "(.*)"$', (TOP / "capi" / "bpfcanon.h").read_text(), re.MULTILINE)
+        self.assertEqual(project + header, 2 * [bpfcanon.__version__])
+
+    def test_a_library_that_is_missing_is_named(self) -> None:
+        with tempfile.TemporaryDirectory() as folder:
+            done = self.load_with(f"{folder}/none.so")
+        self.assertNotEqual(done.returncode, 0)
+        self.assertIn("none.so", done.stderr)
+        self.assertIn("BPFCANON_LIBRARY", done.stderr)
+
+    def test_a_library_of_another_version_is_refused(self) -> None:
+        _library.library.cache_clear()
+        with mock.patch.object(_library, "VERSION", "9."), self.assertRaisesRegex(OSError, "version 0.1.0"):
+            bpfcanon.library_version()
+        self.assertEqual(bpfcanon.library_version(), "0.1.0")
+
+    def test_each_exported_name_is_there(self) -> None:
+        for name in bpfcanon.__all__:
+            self.assertTrue(hasattr(bpfcanon, name), name)
+
+    def test_numbers_are_those_of_the_header(self) -> None:
+        header = (TOP / "capi" / "bpfcanon.h").read_text()
+        numbers = {name: int(number) for name, number in re.findall(r"^\tBPFCANON_(\w+) = (\d+)", header, re.MULTILINE)}
+        kinds: list[tuple[str, Any]] = [("", Order), ("", bpfcanon.Group), ("INSN_", InsnCause), ("LINE_", LineCause), ("BTF_", BtfCause)]
+        ours = {prefix + member.name: int(member) for prefix, kind in kinds for member in kind}
+        statuses = ["DONE", "DIFFERENT", "FAULT", "FAULT_SECOND", "MEMORY", "ROOM", "ORDER"]
+        self.assertEqual(ours | {name: k for k, name in enumerate(statuses)}, numbers)
+
+
+class Readme(unittest.TestCase):
+    def test_the_examples_print_what_the_readme_shows(self) -> None:
+        ran = doctest.testfile(str(PACKAGE / "README.md"), module_relative=False)
+        self.assertGreater(ran.attempted, 5)
+        self.assertEqual(ran.failed, 0)
+
+
+if __name__ == "__main__":
+    unittest.main()

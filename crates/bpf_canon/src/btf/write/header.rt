@@ -1,0 +1,36 @@
+//! The header of a file, and words of 32 bits.
+ghost use Rattle.std.specs.Prelude.{◌≡◌, ◌++◌, OnOk};
+ghost use Rattle.btf_raw.specs.Header.{header};
+ghost use Rattle.btf_raw.specs.Frames.{bytes_of};
+
+use bpf_words::{Order, push16, push32};
+use std::alloc::{AllocError, Allocator};
+
+/// Appends words of 32 bits.
+pub(crate) fn push_words<A: Allocator>(
+    out: &mut Vec<u8, A>,
+    order: Order,
+    words: &[u32],
+) -> Result<(), AllocError>
+    ensures { OnOk result (out.new.items ≡ out.old.items ++ bytes_of order words.now) }
+{
+    for word in words {
+        push32(out, order, *word)?;
+    }
+    Ok(())
+}
+
+/// Appends the header of 24 bytes (btf.rst section 2): magic, version 1, flags 0, hdr_len, type_off 0, type_len, str_off = type_len
+/// and str_len.
+pub(crate) fn push_header<A: Allocator>(
+    out: &mut Vec<u8, A>,
+    order: Order,
+    types_len: u32,
+    strings_len: u32,
+) -> Result<(), AllocError>
+    ensures { OnOk result (out.new.items ≡ out.old.items ++ header order 24 0 types_len types_len strings_len) }
+{
+    push16(out, order, 0xeb9f)?;
+    out.extend_from_slice(&[1, 0])?;
+    push_words(out, order, &[24, 0, types_len, types_len, strings_len])
+}

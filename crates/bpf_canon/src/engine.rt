@@ -1,0 +1,73 @@
+//! What the engines on instructions and on BTF share: how they stop, and how they write.
+ghost use Rattle.std.specs.Prelude.{◌≡◌, ◌<◌, ◌+◌, length, IfOk, IfErr, OnOk};
+ghost use Rattle.std.specs.Io.KnownBytes.{Appends};
+ghost use Rattle.bpf_canon.specs.Engine.{PutStops};
+
+use crate::device::sink::{ByteSink, put_all};
+use thiserror::Error;
+
+/// Why an engine stopped. `F` is a fault of its input.
+#[derive(Clone, Copy, Debug, PartialEq, Eq, Error)]
+pub enum RunCause<F> {
+    /// The input has this fault.
+    #[error("Fault")]
+    Fault(F),
+    /// More bytes came than the limit allows.
+    #[error("TooLong")]
+    TooLong,
+    /// A read of the source failed.
+    #[error("ReadFailed")]
+    ReadFailed,
+    /// A write to the sink failed.
+    #[error("WriteFailed")]
+    WriteFailed,
+    /// The allocator is out of memory.
+    #[error("Memory")]
+    Memory,
+}
+
+/// How an engine stopped.
+#[derive(Clone, Copy, Debug, PartialEq, Eq, Error)]
+#[error("{cause}")]
+pub struct RunError<F> {
+    /// Why it stopped.
+    pub cause: RunCause<F>,
+    /// How many bytes the sink took.
+    pub written: u64,
+}
+
+/// Why two files couldn't be compared. `F` is a fault of a file.
+#[derive(Clone, Copy, Debug, PartialEq, Eq, Error)]
+pub enum SideError<F> {
+    /// The first file has this fault.
+    #[error("First")]
+    First(F),
+    /// The second file has this fault, and the first has none.
+    #[error("Second")]
+    Second(F),
+    /// The allocator is out of memory.
+    #[error("Memory")]
+    Memory,
+}
+
+/// The error of an engine that stops for a cause when the sink has taken `written` bytes.
+pub(crate) fn stopped<F>(cause: RunCause<F>, written: u64) -> RunError<F>
+    ensures cause { result.cause ≡ cause }
+    ensures written { result.written ≡ written }
+{
+    RunError { cause, written }
+}
+
+/// Writes all the bytes, and returns their number.
+pub(crate) fn put_whole<F, W: ByteSink>(sink: &mut W, bytes: &[u8]) -> Result<u64, RunError<F>>
+    requires { W.failures sink.old < u64.MAX }
+    ensures ok { IfOk result (λ n. (n ≡ length bytes.now) × Appends (W.contents sink.old) (W.contents sink.new) bytes.now) }
+    ensures err { IfErr result (PutStops (W.contents sink.old) (W.contents sink.new) bytes.now) }
+    ensures healthy { OnOk result (W.failures sink.new ≡ W.failures sink.old) }
+    ensures count { IfErr result (λ e. W.failures sink.new ≡ W.failures sink.old + 1) }
+{
+    match put_all(sink, bytes) {
+        Ok(()) => Ok(bytes.len() as u64),
+        Err(written) => Err(stopped(RunCause::WriteFailed, written)),
+    }
+}

@@ -1,0 +1,9 @@
+-- Lemmas on what each command answers.
+pub mod PiecesLemmas
+pub mod LongNameLemmas
+pub mod InsnCanonLemmas
+pub mod InsnShowLemmas
+pub mod InsnSameLemmas
+pub mod BtfCanonLemmas
+pub mod BtfShowLemmas
+pub mod BtfSameLemmas

@@ -1,0 +1,31 @@
+-- What insn-same answers, by what the comparison of two files found.
+use Rattle.std.proofs.Common.{◌≡◌, ◌≤◌, ℕ, Bool, true, false, List, [], drop, length, take, refl}
+use Rattle.std.specs.Prelude.{IfOk, Result, Ok, Err}
+use Rattle.std.specs.declared.alloc.AllocError.{AllocError}
+use Rattle.bpf_words.specs.declared.Order.{Order}
+use Rattle.bpf_insn.specs.declared.fault.SlotFault.{SlotFault}
+use Rattle.bpf_canon.specs.insn.Canonical.{Compares, NamesSide}
+use Rattle.bpf_canon.specs.declared.engine.SideError.TheVariants as side
+use Rattle.bpfcanon.specs.declared.outcome.Outcome.{Outcome}
+use Rattle.bpfcanon.specs.declared.outcome.Outcome.TheVariants.{Second}
+use Rattle.bpfcanon.specs.declared.commands.reply.Reply.{Reply}
+use Rattle.bpfcanon.specs.commands.Reply.{IsSameReply, different, same, second_at_fault, verdict_line, verdict_outcome}
+
+-- a reply that was made of an outcome and some bytes
+pub reply_with : {A : Type 0} (P : Outcome → List ℕ → Type 0) (r : Result (Reply A) AllocError) (outcome : Outcome) (bytes : List ℕ)
+    → IfOk r (λ x. x.outcome ≡ outcome) → IfOk r (λ x. x.output.items ≡ bytes) → P outcome bytes → IfOk r (λ x. P x.outcome x.output.items)
+reply_with P (Ok x) outcome bytes e f p = rw (e, f) p
+reply_with P (Err x) outcome bytes e f p = tt
+
+-- the answer about two files without a fault
+pub compared : (limit : ℕ) (order other : Order) (split : ℕ) (input : List ℕ) → length input ≤ limit → split ≤ length input
+    → (s : Bool) → Compares order (take split input) other (drop split input) s
+    → IsSameReply limit order other split input (verdict_outcome s) (verdict_line s)
+compared limit order other split input within inside true found =
+    let one = found.lists.0 refl in same found.first within inside found.first_file (rw one found.second_file)
+compared limit order other split input within inside false found =
+    different found.first found.second within inside found.first_file found.second_file (λ e. let bad : false ≡ true = found.lists.1 e in cc)
+
+pub second_faulty : (limit : ℕ) (order other : Order) (split : ℕ) (input : List ℕ) (f : SlotFault) → length input ≤ limit → split ≤ length input
+    → NamesSide order (take split input) other (drop split input) (side.Second f) → IsSameReply limit order other split input (Second f) []
+second_faulty limit order other split input f within inside found = second_at_fault found.0.0 f within inside found.0.1 found.1

@@ -1,0 +1,160 @@
+-- Text that is written in pieces.
+use Rattle.std.proofs.Common.{◌≡◌, ◌<◌, ◌+◌, ◌++◌, ◌∙◌, ℕ, List, [], Option, length, take, refl, sym, ap, subst, arith, append_assoc, length-append}
+use Rattle.std.specs.Prelude.{Result, Ok, Err, true}
+use Rattle.std.specs.Result.{IsErrAnd}
+use Rattle.std.proofs.lemmas.List.{append-nil, take-append-le}
+use Rattle.std.proofs.Math.Seq.{take-append-add, take-append_seam}
+use Rattle.std.proofs.KnownBytes.{Appends-nil, Appends-trans}
+use Rattle.std.specs.Io.KnownBytes.{Appends}
+use Rattle.bpfcanon.specs.declared.job.Job.{Job}
+use Rattle.bpfcanon.specs.declared.outcome.Outcome.TheVariants.{Done}
+use Rattle.bpfcanon.specs.declared.commands.pieces.PutError.{PutError}
+use Rattle.bpfcanon.specs.declared.commands.pieces.PutError.TheVariants.{WriteFailed, Memory}
+use Rattle.bpfcanon.specs.Devices.{Change, change}
+use Rattle.bpfcanon.specs.commands.Pieces.{Answers, Gathered, Gathers, TookText, TookFront, TookPart, answered, end_of_pieces, refused_amid, unwritten}
+use Rattle.bpfcanon.specs.commands.Reply.{IsReply, in_pieces}
+
+module _ (a b c : Option (List ℕ)) (f g h : ℕ) where
+  -- more text, of which some went to the sink
+  pub gathered_more : (held kept text line : List ℕ) → Gathered (change a b f g) held text → Gathered (change b c g h) kept (held ++ line)
+      → Gathered (change a c f h) kept (text ++ line)
+  gathered_more held kept text line p q = record {
+    taken = p.taken ++ q.taken;
+    took = Appends-trans a b c p.taken q.taken p.took q.took;
+    whole = ap (λ (x : List ℕ). x ++ line) p.whole ∙ append_assoc p.taken held line ∙ ap (λ (x : List ℕ). p.taken ++ x) q.whole
+        ∙ sym (append_assoc p.taken q.taken kept);
+    healthy = q.healthy ∙ p.healthy;
+  }
+
+  -- the sink took the rest
+  gathered_all : (held text : List ℕ) → Gathered (change a b f g) held text → Appends b c held → h ≡ g → Appends a c text × (h ≡ f)
+  gathered_all held text p took healthy =
+      let whole : Appends a c (p.taken ++ held) = Appends-trans a b c p.taken held p.took took in
+      (subst (λ (x : List ℕ). Appends a c x) (sym p.whole) whole, healthy ∙ p.healthy)
+
+  -- a write failed amid what was held and a line more
+  part_more : (held text line more : List ℕ) → Gathered (change a b f g) held text → TookPart (change b c g h) (held ++ line)
+      → TookPart (change a c f h) (text ++ line ++ more)
+  part_more held text line more p q =
+      let whole : text ++ line ++ more ≡ p.taken ++ ((held ++ line) ++ more) =
+      ap (λ (x : List ℕ). x ++ line ++ more) p.whole ∙ ap (λ (x : List ℕ). x ++ more) (append_assoc p.taken held line) ∙ append_assoc p.taken (held ++ line) more in
+      let front : take (length p.taken + q.count) (text ++ line ++ more) ≡ p.taken ++ take q.count (held ++ line) =
+      ap (take (length p.taken + q.count)) whole ∙ take-append-add p.taken ((held ++ line) ++ more) q.count
+      ∙ ap (λ (x : List ℕ). p.taken ++ x) (take-append-le q.count (held ++ line) more (omega (arith, q.part))) in
+      let took : Appends a c (p.taken ++ take q.count (held ++ line)) = Appends-trans a b c p.taken (take q.count (held ++ line)) p.took q.took in
+      record {
+        count = length p.taken + q.count;
+        part = omega (arith, q.part, ap length whole, length-append p.taken ((held ++ line) ++ more), length-append (held ++ line) more);
+        took = subst (λ (x : List ℕ). Appends a c x) (sym front) took;
+        failed = q.failed ∙ ap (λ (n : ℕ). n + 1) p.healthy;
+      }
+
+  -- memory was refused amid what was held and a line more
+  front_then : (held text line : List ℕ) → Gathered (change a b f g) held text → TookFront (change b c g h) (held ++ line)
+      → TookFront (change a c f h) (text ++ line)
+  front_then held text line p q =
+      let whole : text ++ line ≡ p.taken ++ (held ++ line) = ap (λ (x : List ℕ). x ++ line) p.whole ∙ append_assoc p.taken held line in
+      let front : take (length p.taken + q.count) (text ++ line) ≡ p.taken ++ take q.count (held ++ line) =
+      ap (take (length p.taken + q.count)) whole ∙ take-append-add p.taken (held ++ line) q.count in
+      let took : Appends a c (p.taken ++ take q.count (held ++ line)) = Appends-trans a b c p.taken (take q.count (held ++ line)) p.took q.took in
+      record {
+        count = length p.taken + q.count;
+        part = omega (arith, q.part, ap length whole, length-append p.taken (held ++ line));
+        took = subst (λ (x : List ℕ). Appends a c x) (sym front) took;
+        healthy = q.healthy ∙ p.healthy;
+      }
+
+  -- a write failed amid what was held
+  part_last : (held text : List ℕ) → Gathered (change a b f g) held text → TookPart (change b c g h) held → TookPart (change a c f h) text
+  part_last held text p q =
+      let held_is : held ≡ held ++ [] = sym (append-nil held) in
+      let text_is : text ++ [] ++ [] ≡ text = append-nil (text ++ []) ∙ append-nil text in
+      subst (TookPart (change a c f h)) text_is (part_more held text [] [] p (subst (TookPart (change b c g h)) held_is q))
+
+  -- the sink took the rest, or a part of it
+  pub puts_then : (held text : List ℕ) (r : Result (Unit {0}) PutError) → Gathered (change a b f g) held text → TookText (change b c g h) held r
+      → TookText (change a c f h) text r
+  puts_then held text (Ok done) p q = gathered_all held text p q.0 q.1
+  puts_then held text (Err WriteFailed) p q = part_last held text p q
+  puts_then held text (Err Memory) p q =
+      subst (TookFront (change a c f h)) (append-nil text) (front_then held text [] p (subst (TookFront (change b c g h)) (sym (append-nil held)) q))
+
+  -- a call added a line to what was gathered
+  pub gathers_then : (held kept text line : List ℕ) (r : Result (Unit {0}) PutError) → Gathered (change a b f g) held text
+      → Gathers (change b c g h) kept (held ++ line) r → Gathers (change a c f h) kept (text ++ line) r
+  gathers_then held kept text line (Ok done) p q = gathered_more held kept text line p q
+  gathers_then held kept text line (Err WriteFailed) p q =
+      subst (TookPart (change a c f h)) (append-nil (text ++ line)) (part_more held text line [] p q)
+  gathers_then held kept text line (Err Memory) p q = front_then held text line p q
+
+-- a text that wasn't written whole, and what follows it
+pub gathers_front : (sink : Change) (kept text more : List ℕ) (e : PutError) → Gathers sink kept text (Err e) → Gathers sink kept (text ++ more) (Err e)
+gathers_front sink kept text more WriteFailed p =
+    let front : take p.count (text ++ more) ≡ take p.count text = take-append-le p.count text more (omega (arith, p.part)) in
+    record {
+      count = p.count;
+      part = omega (arith, p.part, length-append text more);
+      took = subst (λ (x : List ℕ). Appends sink.old sink.new x) (sym front) p.took;
+      failed = p.failed;
+    }
+gathers_front sink kept text more Memory p =
+    let front : take p.count (text ++ more) ≡ take p.count text = take-append-le p.count text more (omega (arith, p.part)) in
+    record {
+      count = p.count;
+      part = omega (arith, p.part, length-append text more);
+      took = subst (λ (x : List ℕ). Appends sink.old sink.new x) (sym front) p.took;
+      healthy = p.healthy;
+    }
+
+pub puts_stopped : (sink : Change) (kept text : List ℕ) (e : PutError) → Gathers sink kept text (Err e) → TookText sink text (Err e)
+puts_stopped sink kept text WriteFailed p = p
+puts_stopped sink kept text Memory p = p
+
+-- a call hands on how one that it made ended
+pub gathers_handed : (sink : Change) (kept text : List ℕ) (e : PutError) (r : Result (Unit {0}) PutError) → IsErrAnd r (λ x. x ≡ e) → Gathers sink kept text (Err e)
+    → Gathers sink kept text r
+gathers_handed sink kept text e (Ok done) same p = absurd same
+gathers_handed sink kept text e (Err other) same p = subst (λ (x : PutError). Gathers sink kept text (Err x)) (sym same) p
+
+pub puts_handed : (sink : Change) (text : List ℕ) (e : PutError) (r : Result (Unit {0}) PutError) → IsErrAnd r (λ x. x ≡ e) → TookText sink text (Err e) → TookText sink text r
+puts_handed sink text e (Ok done) same p = absurd same
+puts_handed sink text e (Err other) same p = subst (λ (x : PutError). TookText sink text (Err x)) (sym same) p
+
+-- memory ran out before anything was written of a text that isn't empty
+pub gathers_none : (a : Option (List ℕ)) (f : ℕ) (kept old more : List ℕ) (r : Result (Unit {0}) PutError) → 0 < length more → IsErrAnd r (λ x. x ≡ Memory)
+    → Gathers (change a a f f) kept (old ++ more) r
+gathers_none a f kept old more r some same =
+    let front : TookFront (change a a f f) (old ++ more) =
+    record { count = 0; part = omega (arith, some, length-append old more); took = Appends-nil a; healthy = refl } in
+    gathers_handed (change a a f f) kept (old ++ more) Memory r same front
+
+-- nothing is gathered yet
+pub gathered_none : (a : Option (List ℕ)) (f : ℕ) → Gathered (change a a f f) [] []
+gathered_none a f = record { taken = []; took = Appends-nil a; whole = refl; healthy = refl }
+
+-- what is held is all of the text
+pub gathered_held : (a : Option (List ℕ)) (f : ℕ) (held : List ℕ) → Gathered (change a a f f) held (held ++ [])
+gathered_held a f held = record { taken = []; took = Appends-nil a; whole = append-nil held; healthy = refl }
+
+-- memory ran out for what follows the text
+pub front_more : (a b : Option (List ℕ)) (f g : ℕ) (held text more : List ℕ) → 0 < length more → Gathered (change a b f g) held text → TookFront (change a b f g) (text ++ more)
+front_more a b f g held text more some p =
+    let whole : text ++ more ≡ p.taken ++ (held ++ more) = ap (λ (x : List ℕ). x ++ more) p.whole ∙ append_assoc p.taken held more in
+    let front : take (length p.taken) (text ++ more) ≡ p.taken = ap (take (length p.taken)) whole ∙ take-append_seam p.taken (held ++ more) in
+    record {
+      count = length p.taken;
+      part = omega (arith, some, ap length whole, length-append p.taken (held ++ more), length-append held more);
+      took = subst (λ (x : List ℕ). Appends a b x) (sym front) p.took;
+      healthy = p.healthy;
+    }
+
+-- the job of a command that wrote its output in pieces ends with it
+pub pieces_end : (j : Job) (input output : List ℕ) (sink : Change) (r : Result (Unit {0}) PutError) → in_pieces j.verb ≡ true → IsReply j.verb j input Done output
+    → TookText sink output r → Answers j input sink (end_of_pieces r)
+pieces_end j input output sink (Ok done) pieces reply put = answered Done output reply put.0 put.1
+pieces_end j input output sink (Err WriteFailed) pieces reply put = unwritten Done output reply put
+pieces_end j input output sink (Err Memory) pieces reply put = refused_amid Done output pieces reply put
+
+-- fewer calls have failed than can be counted
+pub still_under : (f g most : ℕ) → g ≡ f → f < most → g < most
+still_under f g most e h = omega (arith, e, h)

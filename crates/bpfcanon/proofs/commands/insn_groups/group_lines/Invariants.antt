@@ -1,0 +1,10 @@
+use Rattle.std.proofs.Common.{◌≡◌, ◌++◌, filter, take}
+use Rattle.std.specs.List.{flat_map}
+use Rattle.bpf_insn.specs.Groups.{holds}
+use Rattle.bpfcanon.specs.Outcome.{newline}
+use Rattle.bpfcanon.specs.commands.Reply.{all_groups, group_name}
+use Rattle.bpfcanon.proofs.commands.insn_groups.group_lines.Given as goal
+
+abbrev pub invariant-loop-group : goal.invariant-loop-group
+invariant-loop-group g l =
+    l.lines.items ≡ flat_map (λ g. group_name g ++ newline) (filter (holds l.set) (take l.group-index all_groups))

@@ -1,0 +1,11 @@
+use Rattle.std.proofs.Common.{◌≡◌, false}
+use Rattle.clap.specs.Words.{app_of}
+use Rattle.clap.specs.declared.builder.command.Command.TheViews.{out-Command}
+use Rattle.bpfcanon.proofs.LineLemmas.OptionsLemmas.{app_up_to}
+use Rattle.bpfcanon.proofs.line.options.with_options.Given as goal
+
+abbrev pub invariant-loop-setting : goal.invariant-loop-setting
+invariant-loop-setting l = record {
+  shape : app_of l.command ≡ app_up_to l.orders.words l.verb l.setting-index;
+  local : (out-Command l.command).has_globals ≡ false;
+}

@@ -1,0 +1,3 @@
+-- The command line.
+pub mod Options
+pub mod Parse

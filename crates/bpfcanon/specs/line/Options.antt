@@ -1,0 +1,61 @@
+-- The program's command line, as clap's words describe one.
+use Rattle.std.specs.Prelude.{◌≡◌, true, false, List, [], ◌∷◌, Some, codes, map}
+use Rattle.std.specs.Borrow.{Bor}
+use Rattle.clap.specs.Words.{App, Rule, Shape, Text, new_rule}
+use Rattle.clap.specs.Simple.{new_shape}
+use Rattle.clap.specs.Walk.{texts}
+use Rattle.clap.specs.declared.builder.value_parser.ValueParser.TheVariants as parser
+use Rattle.bpfcanon.specs.declared.verb.Verb.{Verb}
+use Rattle.bpfcanon.specs.declared.verb.Setting.{Setting}
+use Rattle.bpfcanon.specs.declared.verb.Setting.TheVariants.{Order, To, Other, Split}
+use Rattle.bpfcanon.specs.declared.verb.Verb.TheVariants.{InsnSame}
+use Rattle.bpfcanon.specs.commands.Reply.{limit_of}
+use Rattle.bpfcanon.specs.Verbs.{all_verbs, name_of, setting_name, settings_of}
+
+-- clap keeps the words that an option takes behind a reference
+abbrev pub Names : Type 0
+Names = Bor (List (Bor Text))
+
+-- the names of the byte orders
+abbrev pub IsOrderNames : Names → Type 0
+IsOrderNames names = texts names.now ≡ codes "little" ∷ codes "big" ∷ []
+
+-- an option that takes a byte order, `little` where it isn't given
+abbrev pub order_option : Names → Text → Rule
+order_option names name = record (new_rule name) {
+  long = Some name;
+  parser = Some (parser.Names names);
+  defaults = codes "little" ∷ [];
+}
+
+-- the option that takes the length of the first file, which must be given; it isn't beyond the longest input
+abbrev pub split_option : Rule
+split_option = record (new_rule (codes "split")) {
+  long = Some (codes "split");
+  parser = Some (parser.Unsigned 0 (limit_of InsnSame));
+  required = true;
+}
+
+abbrev pub option_of : Names → Setting → Rule
+option_of names Order = order_option names (setting_name Order)
+option_of names To = order_option names (setting_name To)
+option_of names Other = order_option names (setting_name Other)
+option_of names Split = split_option
+
+-- a command with its options
+abbrev pub shape_for : Names → Verb → Shape
+shape_for names verb = record (new_shape (name_of verb)) { rules = map (option_of names) (settings_of verb) }
+
+-- the program with no command yet; it has no option of its own, and no help
+abbrev pub bare_program : App
+bare_program = record {
+  top = record (new_shape (codes "bpfcanon")) { disable_help_flag = true; disable_help_subcommand = true };
+  subs = [];
+}
+
+-- the program with its commands
+abbrev pub program : Names → App
+program names = record {
+  top = record bare_program.top { is_leaf = false };
+  subs = map (shape_for names) all_verbs;
+}

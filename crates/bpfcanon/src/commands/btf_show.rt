@@ -1,0 +1,129 @@
+//! `btf-show`: the input is judged first, and then the text of its types is written in pieces.
+
+ghost use Rattle.std.specs.Prelude.{◌≡◌, ◌<◌, ◌≤◌, ◌++◌, length, OnOk};
+ghost use Rattle.std.specs.List.{flat_map};
+ghost use Rattle.btf_types.specs.Values.{head_value, item_value};
+ghost use Rattle.btf_types.specs.tables.TableWords.{record_at};
+ghost use Rattle.bpf_text.specs.btf.BtfText.{head_line, item_line, record_text, text_of};
+ghost use Rattle.bpfcanon.specs.declared.verb.Verb.TheVariants.{BtfShow};
+ghost use Rattle.bpfcanon.specs.declared.commands.pieces.TheConstants.{PIECE};
+ghost use Rattle.bpfcanon.specs.Devices.{sink_change};
+ghost use Rattle.bpfcanon.specs.commands.Pieces.{Answers, Gathers, TookText};
+ghost use Rattle.bpfcanon.specs.commands.Reply.{limit_of};
+
+use crate::commands::long_names::{is_long, put_long_head, put_long_item};
+use crate::commands::pieces::{PutError, end_of_pieces, put_long_piece, put_piece};
+use crate::job::Job;
+use crate::outcome::Outcome;
+use bpf_canon::ByteSink;
+use bpf_text::{append_head, append_item, head_name, is_signed, item_name};
+use btf_types::{BtfError, BtfView, Head, Item, TypeTable};
+use std::alloc::Allocator;
+
+/// Appends the line of a type with `items` items to a piece, and writes a long piece.
+fn put_head<A: Allocator, W: ByteSink>(
+    sink: &mut W,
+    piece: &mut Vec<u8, A>,
+    id: u32,
+    head: Head<'_>,
+    items: u32,
+) -> Result<(), PutError>
+    requires { W.failures sink.old < u64.MAX }
+    ensures gathered { Gathers (sink_change W.ByteSink sink.old sink.new) piece.new.items (piece.old.items ++ head_line id (head_value head.entry) items) result }
+    ensures short { OnOk result (length piece.new.items < PIECE) }
+{
+    if is_long(head_name(head)) {
+        return put_long_head(sink, piece, id, head, items);
+    }
+    append_head(piece, id, head, items)?;
+    put_long_piece(sink, piece)
+}
+
+/// Appends the line of an item to a piece, and writes a long piece.
+fn put_item<A: Allocator, W: ByteSink>(
+    sink: &mut W,
+    piece: &mut Vec<u8, A>,
+    item: Item<'_>,
+    signed: bool,
+) -> Result<(), PutError>
+    requires { W.failures sink.old < u64.MAX }
+    ensures gathered { Gathers (sink_change W.ByteSink sink.old sink.new) piece.new.items (piece.old.items ++ item_line signed (item_value item.entry)) result }
+    ensures short { OnOk result (length piece.new.items < PIECE) }
+{
+    if is_long(item_name(item)) {
+        return put_long_item(sink, piece, item, signed);
+    }
+    append_item(piece, item, signed)?;
+    put_long_piece(sink, piece)
+}
+
+/// Appends the lines of a type's items, and writes each long piece.
+fn put_items<A: Allocator, W: ByteSink, T: TypeTable>(
+    sink: &mut W,
+    piece: &mut Vec<u8, A>,
+    table: &T,
+    id: u32,
+    signed: bool,
+) -> Result<(), PutError>
+    requires first { 0 < id }
+    requires last { id ≤ length (T.meaning table.now) }
+    requires sink { W.failures sink.old < u64.MAX }
+    ensures { Gathers (sink_change W.ByteSink sink.old sink.new) piece.new.items (piece.old.items ++ flat_map (item_line signed) (record_at (T.meaning table.now) id).items) result }
+{
+    for k in 0..table.item_count(id) {
+        put_item(sink, piece, table.item(id, k), signed)?;
+    }
+    Ok(())
+}
+
+/// Appends the lines of a type and its items, and writes each long piece.
+fn put_record<A: Allocator, W: ByteSink, T: TypeTable>(
+    sink: &mut W,
+    piece: &mut Vec<u8, A>,
+    table: &T,
+    id: u32,
+) -> Result<(), PutError>
+    requires first { 0 < id }
+    requires last { id ≤ length (T.meaning table.now) }
+    requires sink { W.failures sink.old < u64.MAX }
+    ensures { Gathers (sink_change W.ByteSink sink.old sink.new) piece.new.items (piece.old.items ++ record_text id (record_at (T.meaning table.now) id)) result }
+{
+    let head = table.head(id);
+    put_head(sink, piece, id, head, table.item_count(id))?;
+    put_items(sink, piece, table, id, is_signed(head))
+}
+
+/// Writes the text of a table of types in pieces.
+fn put_types<A: Allocator, W: ByteSink, T: TypeTable>(
+    alloc: A,
+    table: &T,
+    sink: &mut W,
+) -> Result<(), PutError>
+    requires { W.failures sink.old < u64.MAX }
+    ensures { TookText (sink_change W.ByteSink sink.old sink.new) (text_of (T.meaning table.now)) result }
+{
+    let mut piece = Vec::new(alloc);
+    for index in 0..table.count() {
+        put_record(sink, &mut piece, table, index + 1)?;
+    }
+    put_piece(sink, &mut piece)
+}
+
+/// Runs `btf-show` on its input. Nothing is written if the input has a fault.
+pub fn put_btf_show<A: Allocator + Copy, W: ByteSink>(
+    alloc: A,
+    job: Job,
+    input: &[u8],
+    sink: &mut W,
+) -> Outcome
+    requires show { job.verb ≡ BtfShow }
+    requires within { length input.now ≤ limit_of BtfShow }
+    requires sink { W.failures sink.old < u64.MAX }
+    ensures { Answers job input.now (sink_change W.ByteSink sink.old sink.new) result }
+{
+    match BtfView::parse(alloc, input) {
+        Ok(table) => end_of_pieces(put_types(alloc, &table, sink)),
+        Err(BtfError::Fault(fault)) => Outcome::BtfFault(fault),
+        Err(BtfError::Memory) => Outcome::Memory,
+    }
+}

@@ -1,0 +1,32 @@
+//! `insn-same`: whether two files have the same instructions.
+
+ghost use Rattle.std.specs.Prelude.{◌≤◌, length, IfOk};
+ghost use Rattle.bpfcanon.specs.declared.verb.Verb.TheVariants.{InsnSame};
+ghost use Rattle.bpfcanon.specs.commands.Reply.{IsSameReply, limit_of};
+
+use crate::commands::reply::Reply;
+use crate::commands::two_files::{two_files, verdict};
+use crate::job::Job;
+use crate::outcome::Outcome;
+use bpf_canon::{SideError, same_insns};
+use std::alloc::{AllocError, Allocator};
+
+/// The reply of `insn-same`. Each file has its own byte order.
+pub fn insn_same_reply<A: Allocator + Copy>(
+    alloc: A,
+    job: Job,
+    input: &[u8],
+) -> Result<Reply<A>, AllocError>
+    requires { length input.now ≤ limit_of InsnSame }
+    ensures { IfOk result (λ r. IsSameReply (limit_of InsnSame) job.order job.other job.split input.now r.outcome r.output.items) }
+{
+    let Some((first, second)) = two_files(input, job.split) else {
+        return Ok(Reply::bare(alloc, Outcome::SplitBeyond));
+    };
+    match same_insns(alloc, job.order, first, job.other, second) {
+        Ok(same) => verdict(alloc, same),
+        Err(SideError::First(fault)) => Ok(Reply::bare(alloc, Outcome::First(fault))),
+        Err(SideError::Second(fault)) => Ok(Reply::bare(alloc, Outcome::Second(fault))),
+        Err(SideError::Memory) => Err(AllocError),
+    }
+}

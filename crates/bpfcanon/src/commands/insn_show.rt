@@ -1,0 +1,86 @@
+//! `insn-show`: the input is judged first, and then its listing is written in pieces.
+
+ghost use Rattle.std.specs.Prelude.{◌≡◌, ◌<◌, ◌≤◌, List, Some, None, length};
+ghost use Rattle.bpf_insn.specs.declared.fault.SlotFault.{SlotFault};
+ghost use Rattle.bpf_insn.specs.declared.insn.Insn.{Insn};
+ghost use Rattle.bpf_insn.specs.Spelling.{InsnFile};
+ghost use Rattle.bpf_insn.specs.Faults.{IsInsnFault};
+ghost use Rattle.bpf_text.specs.insn.Lines.{listing_of};
+ghost use Rattle.bpfcanon.specs.declared.verb.Verb.TheVariants.{InsnShow};
+ghost use Rattle.bpfcanon.specs.Devices.{sink_change};
+ghost use Rattle.bpfcanon.specs.commands.Pieces.{Answers, TookText};
+ghost use Rattle.bpfcanon.specs.commands.Reply.{limit_of};
+
+use crate::commands::pieces::{PutError, end_of_pieces, put_long_piece, put_piece};
+use crate::job::Job;
+use crate::outcome::Outcome;
+use bpf_canon::ByteSink;
+use bpf_insn::{Order, SlotFault, insn_len, read_insn};
+use bpf_text::push_line;
+use std::alloc::Allocator;
+
+/// The first fault of a file, counted from its first byte, or `None` if it is an instruction file.
+fn first_fault(order: Order, input: &[u8]) -> Option<SlotFault>
+    ensures file { result ≡ None → (l : List Insn) × InsnFile order input.now l }
+    ensures fault { (f : SlotFault) → result ≡ Some f → IsInsnFault order input.now f }
+{
+    let mut pos = 0;
+    while pos < input.len() {
+        match insn_len(order, &input[pos..]) {
+            Ok(len) => pos += len,
+            Err(fault) => {
+                return Some(SlotFault {
+                    pos: pos as u64 + fault.pos,
+                    cause: fault.cause,
+                });
+            }
+        }
+    }
+    None
+}
+
+/// Writes the listing of an instruction file in pieces.
+fn put_listing<A: Allocator, W: ByteSink>(
+    alloc: A,
+    order: Order,
+    input: &[u8],
+    sink: &mut W,
+) -> Result<(), PutError>
+    requires file { (l : List Insn) × InsnFile order input.now l }
+    requires sink { W.failures sink.old < u64.MAX }
+    ensures { (l : List Insn) × (InsnFile order input.now l
+        × TookText (sink_change W.ByteSink sink.old sink.new) (listing_of l) result) }
+{
+    let mut piece = Vec::new(alloc);
+    let mut pos = 0;
+    while pos < input.len() {
+        match read_insn(order, &input[pos..]) {
+            Ok(found) => {
+                let (insn, len) = found;
+                push_line(&mut piece, insn)?;
+                put_long_piece(sink, &mut piece)?;
+                pos += len;
+            }
+            Err(_) => unreachable!(),
+        }
+    }
+    put_piece(sink, &mut piece)
+}
+
+/// Runs `insn-show` on its input. Nothing is written if the input has a fault.
+pub fn put_insn_show<A: Allocator, W: ByteSink>(
+    alloc: A,
+    job: Job,
+    input: &[u8],
+    sink: &mut W,
+) -> Outcome
+    requires show { job.verb ≡ InsnShow }
+    requires within { length input.now ≤ limit_of InsnShow }
+    requires sink { W.failures sink.old < u64.MAX }
+    ensures { Answers job input.now (sink_change W.ByteSink sink.old sink.new) result }
+{
+    match first_fault(job.order, input) {
+        Some(fault) => Outcome::Fault(fault),
+        None => end_of_pieces(put_listing(alloc, job.order, input, sink)),
+    }
+}

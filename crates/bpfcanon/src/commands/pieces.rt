@@ -1,0 +1,84 @@
+//! Text that is written piece by piece, so that no more than a piece is held in memory.
+
+ghost use Rattle.std.specs.Prelude.{◌≡◌, ◌<◌, [], length, IfErr, OnOk};
+ghost use Rattle.bpfcanon.specs.declared.commands.pieces.PutError.TheVariants.{Memory, WriteFailed};
+ghost use Rattle.bpfcanon.specs.Devices.{sink_change};
+ghost use Rattle.bpfcanon.specs.commands.Pieces.{Gathers, TookText, end_of_pieces};
+
+use crate::outcome::Outcome;
+use bpf_canon::{ByteSink, put_all};
+use std::alloc::{AllocError, Allocator};
+
+/// Why a text wasn't written to its end.
+#[derive(Clone, Copy, Debug, PartialEq, Eq)]
+pub enum PutError {
+    /// A write failed.
+    WriteFailed,
+    /// Out of memory.
+    Memory,
+}
+
+impl From<AllocError> for PutError {
+    ghost from_gives = { λ _ made. made ≡ Memory };
+
+    fn from(_error: AllocError) -> PutError {
+        PutError::Memory
+    }
+}
+
+/// The outcome of a command that wrote its output in pieces.
+pub fn end_of_pieces(put: Result<(), PutError>) -> Outcome
+    ensures { result ≡ end_of_pieces put }
+{
+    match put {
+        Ok(()) => Outcome::Done,
+        Err(PutError::WriteFailed) => Outcome::WriteFailed,
+        Err(PutError::Memory) => Outcome::Memory,
+    }
+}
+
+/// The length in bytes at which a piece is written.
+const PIECE: usize = 8192;
+
+/// Writes a piece, and empties it. It keeps its memory for the next one.
+///
+/// # Errors
+///
+/// `WriteFailed` at the first write that fails. The sink has taken a part of the piece, or nothing.
+pub fn put_piece<W: ByteSink, A: Allocator>(
+    sink: &mut W,
+    piece: &mut Vec<u8, A>,
+) -> Result<(), PutError>
+    requires { W.failures sink.old < u64.MAX }
+    ensures put { TookText (sink_change W.ByteSink sink.old sink.new) piece.old.items result }
+    ensures empty { OnOk result (piece.new.items ≡ []) }
+    ensures failed { IfErr result (λ e. e ≡ WriteFailed) }
+{
+    match put_all(sink, piece.as_slice()) {
+        Ok(()) => {
+            piece.clear();
+            Ok(())
+        }
+        Err(_) => Err(PutError::WriteFailed),
+    }
+}
+
+/// Writes a piece and empties it, if it is at least [`PIECE`] bytes long.
+///
+/// # Errors
+///
+/// `WriteFailed` at the first write that fails. The sink has taken a part of the piece, or nothing.
+pub fn put_long_piece<W: ByteSink, A: Allocator>(
+    sink: &mut W,
+    piece: &mut Vec<u8, A>,
+) -> Result<(), PutError>
+    requires { W.failures sink.old < u64.MAX }
+    ensures gathered { Gathers (sink_change W.ByteSink sink.old sink.new) piece.new.items piece.old.items result }
+    ensures short { OnOk result (length piece.new.items < PIECE) }
+    ensures failed { IfErr result (λ e. e ≡ WriteFailed) }
+{
+    if piece.len() < PIECE {
+        return Ok(());
+    }
+    put_piece(sink, piece)
+}

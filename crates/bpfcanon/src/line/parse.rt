@@ -1,0 +1,130 @@
+//! From the words of a command line to its job.
+
+ghost use Rattle.std.specs.Prelude.{◌≡◌, ◌<◌, length, map, string_bytes, IfOk, IfSome, IsErrOf};
+ghost use Rattle.clap.specs.Words.{subcommand_rows_of, rows_of, found_of};
+ghost use Rattle.bpfcanon.specs.declared.line.parse.LineError.TheVariants.{Memory};
+ghost use Rattle.bpfcanon.specs.Verbs.{IsVerbName};
+ghost use Rattle.bpfcanon.specs.line.Parse as spec;
+ghost use Rattle.bpfcanon.specs.line.Parse.{Asks, IsRefused, IsJobOf};
+
+use crate::job::Job;
+use crate::line::options::{OrderNames, program_command};
+use crate::verb::{Setting, Verb};
+use bpf_words::Order;
+use clap::ArgMatches;
+use clap::error::ErrorKind;
+use std::alloc::{AllocError, Global};
+use thiserror::Error;
+
+/// Why a command line has no job.
+#[derive(Clone, Copy, Debug, PartialEq, Eq, Error)]
+pub enum LineError {
+    /// The words aren't a command with its options, or they ask for help.
+    #[error("Usage")]
+    Usage,
+    /// Out of memory.
+    #[error("Memory")]
+    Memory,
+}
+
+impl From<AllocError> for LineError {
+    ghost from_gives = { λ _ made. made ≡ Memory };
+
+    fn from(_error: AllocError) -> LineError {
+        LineError::Memory
+    }
+}
+
+fn order_named(name: &str) -> Order
+    ensures { result ≡ spec.order_named name.now }
+{
+    if name == "big" {
+        Order::Big
+    } else {
+        Order::Little
+    }
+}
+
+/// The byte order that an option names, and `Little` if the command doesn't take the option.
+fn order_at(verb: Verb, setting: Setting, matches: &ArgMatches<'_>) -> Order
+    ensures { result ≡ spec.order_at verb setting (rows_of (found_of matches.now)) }
+{
+    if !verb.takes(setting) {
+        return Order::Little;
+    }
+    match matches.get_str(setting.name()) {
+        Some(name) => order_named(name),
+        None => Order::Little,
+    }
+}
+
+/// The length of the first file, and 0 if the command takes one file.
+fn split_at(verb: Verb, matches: &ArgMatches<'_>) -> u64
+    ensures { result ≡ spec.split_at verb (rows_of (found_of matches.now)) }
+{
+    if !verb.takes(Setting::Split) {
+        return 0;
+    }
+    matches.get_one::<u64>("split").unwrap_or(0)
+}
+
+fn job_at(verb: Verb, matches: &ArgMatches<'_>) -> Job
+    ensures { result ≡ spec.job_at verb (rows_of (found_of matches.now)) }
+{
+    Job {
+        verb,
+        order: order_at(verb, Setting::Order, matches),
+        to: order_at(verb, Setting::To, matches),
+        other: order_at(verb, Setting::Other, matches),
+        split: split_at(verb, matches),
+    }
+}
+
+/// The job of a line that clap takes. A line without a command is `insn-canon`.
+fn job_of(matches: &ArgMatches<'_>) -> Job
+    requires { IfSome (subcommand_rows_of matches.now) (λ p. IsVerbName p.0) }
+    ensures { IsJobOf (subcommand_rows_of matches.now) result }
+{
+    match matches.subcommand() {
+        None => Job {
+            verb: Verb::InsnCanon,
+            order: Order::Little,
+            to: Order::Little,
+            other: Order::Little,
+            split: 0,
+        },
+        Some((name, inner)) => match Verb::named(name) {
+            Some(verb) => job_at(verb, inner),
+            None => unreachable!(),
+        },
+    }
+}
+
+/// `Memory` if clap ran out of memory. Every other error is about the words.
+fn line_error(kind: ErrorKind) -> LineError
+    ensures memory { result ≡ LineError.Memory → kind ≡ ErrorKind.OutOfMemory }
+    ensures usage { result ≡ LineError.Usage → kind ≡ ErrorKind.OutOfMemory → ⊥ }
+{
+    match kind {
+        ErrorKind::OutOfMemory => LineError::Memory,
+        _ => LineError::Usage,
+    }
+}
+
+/// The job that a command line asks for. The first word is the program's name, and there has to
+/// be one. A line of that word alone asks for `insn-canon` with little-endian input and output.
+///
+/// # Errors
+///
+/// `Usage` if clap doesn't take the words, and `Memory` if memory ran out.
+pub fn parse_line(alloc: Global, words: &[String]) -> Result<Job, LineError>
+    requires { 0 < length words.now }
+    ensures asks { IfOk result (Asks (map string_bytes words.now)) }
+    ensures refused { IsErrOf result LineError.Usage → IsRefused (map string_bytes words.now) }
+{
+    let command = program_command(alloc, OrderNames::new())?;
+    match command.try_get_matches_from(words) {
+        Ok(matches) => Ok(job_of(&matches)),
+        Err(error) => Err(line_error(error.kind())),
+    }
+}

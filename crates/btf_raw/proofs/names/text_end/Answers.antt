@@ -1,0 +1,11 @@
+-- The first NUL of the rest ends the text.
+use Rattle.std.proofs.Common.{arith}
+use Rattle.std.proofs.lemmas.Bool.{eqb-true, eq-eqb}
+use Rattle.std.proofs.lemmas.List.{take_rest}
+use Rattle.btf_raw.proofs.Texts.{IsEnd-first}
+use Rattle.btf_raw.proofs.names.text_end.Goals as goal
+
+pub returns : goal.returns
+returns c =
+    let found = rw take_rest at c.in-Some.ensures in
+    IsEnd-first c.args.strings.now c.args.off _ found.0.high (eqb-true _ _ found.1) (λ i lt is. found.0.before i (omega arith) lt (eq-eqb _ _ is))

@@ -1,3 +1,0 @@
-module bpfcanon
-
-go 1.16
