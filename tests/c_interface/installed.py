@@ -29,7 +29,8 @@ STANDARDS = {
 # The tables of docs/FORMATS.md, the calls for its rows, and the prefix of the header's constants.
 CAUSES = {"instruction files": "insn", "listings": "line", "BTF files": "btf"}
 # Variables that are honoured aren't taken from whoever runs the test.
-CLEAN = {name: value for name, value in os.environ.items() if name not in "CC CFLAGS CPPFLAGS LDFLAGS AR NM OBJCOPY DESTDIR".split()}
+UNSET = "CC CFLAGS CPPFLAGS LDFLAGS LIBDIR AR NM OBJCOPY DESTDIR".split()
+CLEAN = {name: value for name, value in os.environ.items() if name not in UNSET}
 
 
 def ran(words, **variables):
@@ -175,11 +176,18 @@ def check_flags(report, archive, root):
         (folder / f"my-{tool}").write_text(f'#!/bin/sh\necho "my-{tool} $*" >>"{folder}/calls"\nexec {tool} "$@"\n')
         (folder / f"my-{tool}").chmod(0o755)
     tools = {"CC": "my-cc", "AR": "my-ar", "CFLAGS": "-O1 -DOWN_CFLAG", "CPPFLAGS": "-DOWN_CPPFLAG", "LDFLAGS": "-Wl,-z,now"}
+    tools["LIBDIR"] = "lib/some-target"
     done = ran([CAPI / "build", PREFIX, archive], DESTDIR=root, PATH=f"{folder}:{os.environ['PATH']}", **tools)
     report.expect_that(done.returncode == 0 and not done.stderr, "capi/build", f"it gave {done}")
     calls = (folder / "calls").read_text() if done.returncode == 0 else ""
     for part in r"my-cc .*-DOWN_CPPFLAG .*-O1 -DOWN_CFLAG .*-c ", r"my-cc .*-Wl,-z,now .*-shared", r"my-ar .*libbpfcanon\.a":
         report.expect_that(re.search(part, calls), part, f"the calls are {calls}")
+    folder = pathlib.Path(f"{root}{PREFIX}") / "lib" / "some-target"
+    links = {path.name for path in folder.glob("libbpfcanon.*") if path.resolve().parent == folder.resolve()}
+    wanted = {"libbpfcanon.a", "libbpfcanon.so", f"libbpfcanon.so.{MAJOR}", f"libbpfcanon.so.{VERSION}"}
+    report.expect_that(links == wanted, "LIBDIR", f"these are there: {links}")
+    given = printed(["pkg-config", "--variable=libdir", "bpfcanon"], PKG_CONFIG_PATH=folder / "pkgconfig")
+    report.expect_that(given in ([f"{PREFIX}/lib/some-target"], []), "LIBDIR", f"bpfcanon.pc has {given}")
 
 
 def check_failures(report, archive, folder):
@@ -193,7 +201,7 @@ def check_failures(report, archive, folder):
         ([], {}, 2, "no prefix"),
         (["--prefix"], {}, 2, "unknown option --prefix"),
         (["/a", "b", "c"], {}, 2, "too many words"),
-        (['/a"b', archive], {}, 2, "the prefix has a character"),
+        (['/a"b', archive], {}, 2, "PREFIX or LIBDIR has a character"),
         (["/usr", folder / "none.a"], {}, 1, "there is no archive"),
         (["/usr", folder / "text.a"], {}, 1, "cannot link"),
         (["/usr", folder / "empty.a"], {}, 1, "lacks bpfcanon_proved_"),
