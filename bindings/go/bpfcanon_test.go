@@ -87,8 +87,10 @@ func TestAnOrderThatIsNoneIsRefused(t *testing.T) {
 			t.Errorf("%s: %v", name, err)
 		}
 	}
-	if got := none.String(); got != "Order(2)" {
-		t.Errorf("an order that is none is %q", got)
+	for order, want := range map[bpfcanon.Order]string{bpfcanon.Little: "little", bpfcanon.Big: "big", none: "Order(2)"} {
+		if got := order.String(); got != want {
+			t.Errorf("%q, want %q", got, want)
+		}
 	}
 }
 

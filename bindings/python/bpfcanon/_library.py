@@ -125,7 +125,7 @@ def pointer_to(data: Buffer) -> Any:
     view = memoryview(data)
     if view.readonly or not view.c_contiguous:
         return view.tobytes()
-    return (ctypes.c_char * view.nbytes).from_buffer(view) if view.nbytes else None
+    return (ctypes.c_char * view.nbytes).from_buffer(view)
 
 
 def size_of(data: Buffer) -> int:

@@ -1,4 +1,7 @@
-"""The numbers of the library: byte orders, conformance groups and the causes of faults."""
+"""The numbers of the library: byte orders, conformance groups and the causes of faults.
+
+Causes are no ints, so that causes of different inputs are different though their numbers are equal.
+"""
 
 import enum
 from typing import Union
@@ -25,7 +28,7 @@ class Group(enum.IntFlag):
     PACKET = 64  # legacy packet access
 
 
-class InsnCause(enum.IntEnum):
+class InsnCause(enum.Enum):
     """The cause of a fault of instructions: the first field that no instruction has beside the fields before it."""
 
     TRUNCATED = 1
@@ -40,15 +43,15 @@ class InsnCause(enum.IntEnum):
     @property
     def label(self) -> str:
         """The name in docs/FORMATS.md, as "NextImm"."""
-        return _library.string("insn_cause_name", self)
+        return _library.string("insn_cause_name", self.value)
 
     @property
     def text(self) -> str:
         """A sentence, as "no instruction has this opcode"."""
-        return _library.string("insn_cause_text", self)
+        return _library.string("insn_cause_text", self.value)
 
 
-class LineCause(enum.IntEnum):
+class LineCause(enum.Enum):
     """The cause of a fault of a listing."""
 
     CHAR = 1
@@ -59,15 +62,15 @@ class LineCause(enum.IntEnum):
     @property
     def label(self) -> str:
         """The name in docs/FORMATS.md, as "Shape"."""
-        return _library.string("line_cause_name", self)
+        return _library.string("line_cause_name", self.value)
 
     @property
     def text(self) -> str:
         """A sentence, as "no instruction has this mnemonic"."""
-        return _library.string("line_cause_text", self)
+        return _library.string("line_cause_text", self.value)
 
 
-class BtfCause(enum.IntEnum):
+class BtfCause(enum.Enum):
     """The cause of a fault of BTF."""
 
     SHORT_HEADER = 1
@@ -106,12 +109,12 @@ class BtfCause(enum.IntEnum):
     @property
     def label(self) -> str:
         """The name in docs/FORMATS.md, as "ShortHeader"."""
-        return _library.string("btf_cause_name", self)
+        return _library.string("btf_cause_name", self.value)
 
     @property
     def text(self) -> str:
         """A sentence, as "the version is not 1"."""
-        return _library.string("btf_cause_text", self)
+        return _library.string("btf_cause_text", self.value)
 
 
 Cause = Union[InsnCause, LineCause, BtfCause]
