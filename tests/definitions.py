@@ -74,7 +74,7 @@ def clauses(crate, file):
         kinds = IMPL.findall(source, 0, found.start()) if found[1] else []
         in_trait = bool(found[1]) and (not kinds or source.rfind("\n}", 0, found.start()) > source.rfind("\nimpl", 0, found.start()))
         kind = TRAIT.findall(source, 0, found.start())[-1:] if in_trait else kinds[-1:]
-        if not (found[2] or in_trait) or not is_public(crate, file, "".join(kind), found[3]):
+        if not (found[2] == "pub " or in_trait) or not is_public(crate, file, "".join(kind), found[3]):
             continue
         end = re.compile(rf"^{found[1]}\{{$|;$", re.MULTILINE).search(source, found.end())
         contract = source[found.end() : end.start() if end else len(source)]
