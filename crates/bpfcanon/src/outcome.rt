@@ -115,6 +115,7 @@ fn report_fault<E: ByteSink>(faults: &mut E, file: &'static [u8], place: u64, ca
     report_parts(faults, parts.as_slice());
 }
 
+/// Writes the line of a fault of instructions.
 fn report_slot_fault<E: ByteSink>(faults: &mut E, file: &'static [u8], fault: SlotFault)
     requires { E.failures faults.old < u64.MAX }
     ensures { TookLine (sink_change E.ByteSink faults.old faults.new) (slot_fault_line file.now fault) }
@@ -122,6 +123,7 @@ fn report_slot_fault<E: ByteSink>(faults: &mut E, file: &'static [u8], fault: Sl
     report_fault(faults, file, fault.pos, fault.cause.name().as_bytes());
 }
 
+/// Writes the line of a fault of BTF.
 fn report_btf_fault<E: ByteSink>(faults: &mut E, file: &'static [u8], fault: BtfFault)
     requires { E.failures faults.old < u64.MAX }
     ensures { TookLine (sink_change E.ByteSink faults.old faults.new) (btf_fault_line file.now fault) }

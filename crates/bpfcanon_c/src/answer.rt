@@ -94,6 +94,7 @@ pub fn report(ending: Ending) -> Answer
     }
 }
 
+/// An answer with this status, and 0 in each other field.
 fn with_status(status: u32) -> Answer
     ensures { result ≡ bare_answer status }
 {
@@ -109,6 +110,7 @@ fn with_status(status: u32) -> Answer
     }
 }
 
+/// An answer with this status, and the cause and place of a fault.
 fn with_fault(status: u32, fault: FaultCode) -> Answer
     ensures { result ≡ fault_answer status fault }
 {

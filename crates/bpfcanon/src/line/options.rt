@@ -54,6 +54,7 @@ fn split_arg<'a>(alloc: Global) -> Arg<'a>
         .required(true)
 }
 
+/// The rule of an option, as `clap` takes it.
 fn setting_arg<'a>(alloc: Global, setting: Setting, orders: OrderNames<'a>) -> Arg<'a>
     ensures rule { rule_of result ≡ option_of orders.entry.words setting }
     ensures local { result.global ≡ false }

@@ -35,6 +35,7 @@ impl From<AllocError> for LineError {
     }
 }
 
+/// The byte order of a word that `clap` has accepted: it takes `little` and `big` only.
 fn order_named(name: &str) -> Order
     ensures { result ≡ spec.order_named name.now }
 {
@@ -68,6 +69,7 @@ fn split_at(verb: Verb, matches: &ArgMatches<'_>) -> u64
     matches.get_one::<u64>("split").unwrap_or(0)
 }
 
+/// The job of a command whose options `clap` has matched.
 fn job_at(verb: Verb, matches: &ArgMatches<'_>) -> Job
     ensures { result ≡ spec.job_at verb (rows_of (found_of matches.now)) }
 {

@@ -11,7 +11,7 @@ use btf_raw::{
 };
 use btf_types::{Encoding, Head};
 
-// The number of the head's kind.
+/// The number of a record's kind (btf.rst section 2.2).
 pub(crate) fn kind_number(head: Head<'_>) -> u8
     ensures { result ≡ spec.kind_number (head_value head.entry) }
 {
@@ -38,7 +38,7 @@ pub(crate) fn kind_number(head: Head<'_>) -> u8
     }
 }
 
-// The third word: a size, a type or 0.
+/// The third word of a record: a size, a type or 0.
 pub(crate) fn head_third(head: Head<'_>) -> u32
     ensures { result ≡ spec.head_third (head_value head.entry) }
 {
@@ -64,7 +64,7 @@ pub(crate) fn head_third(head: Head<'_>) -> u32
     }
 }
 
-// kind_flag: of a STRUCT or UNION 1 exactly where it has bit-fields, of a kind whose value it is part of as the value has it.
+/// kind_flag: of a STRUCT or UNION 1 exactly if it has bit-fields, and of an ENUM, ENUM64, FWD or tag what its value says.
 fn kind_flag(head: Head<'_>, bit_fields: bool) -> u32
     ensures is { result ≡ canonical_flag (head_value head.entry) bit_fields }
     ensures bit { result < 2 }
@@ -78,7 +78,7 @@ fn kind_flag(head: Head<'_>, bit_fields: bool) -> u32
     })
 }
 
-// vlen: the linkage of a FUNC, else the number of items.
+/// vlen: the linkage of a FUNC, and of other kinds the number of items.
 fn head_vlen(head: Head<'_>, count: u32) -> u32
     requires { count < 2 ^ 16 }
     ensures is { result ≡ words.head_vlen (head_value head.entry) count }
@@ -90,7 +90,7 @@ fn head_vlen(head: Head<'_>, count: u32) -> u32
     }
 }
 
-// The word info of a head with this number of items.
+/// The word info of a record with `count` items: kind_flag, kind and vlen.
 pub(crate) fn info_word(head: Head<'_>, count: u32, bit_fields: bool) -> u32
     requires { count < 2 ^ 16 }
     ensures { result ≡ spec.info (spec.kind_number (head_value head.entry)) (words.head_vlen (head_value head.entry) count) (canonical_flag (head_value head.entry) bit_fields) }
@@ -100,14 +100,14 @@ pub(crate) fn info_word(head: Head<'_>, count: u32, bit_fields: bool) -> u32
         + (kind_flag(head, bit_fields) << 31)
 }
 
-// The word of an INT: its bits, its offset and its encoding.
+/// The word after the third of an INT: its bits, its offset and its encoding.
 pub(crate) fn int_word(encoding: Encoding, offset: u8, bits: u8) -> u32
     ensures { result ≡ bits + 2 ^ 16 * offset + 2 ^ 24 * spec.encoding_number encoding }
 {
     u32::from(bits) + (u32::from(offset) << 16) + (encoding.number() << 24)
 }
 
-// The word of a component, -1 where there is none.
+/// The word component_idx of a DECL_TAG: -1 for the type as a whole.
 pub(crate) fn component_word(component: Option<u16>) -> u32
     ensures { result ≡ spec.component_word component }
 {

@@ -12,7 +12,7 @@ use btf_raw::info::{has_item_names, item_words, kind_of, vlen_of};
 use btf_types::FileSections;
 use std::alloc::{AllocError, Allocator};
 
-// Notes the names of a record's items, each of so many words.
+/// Notes the names of a record's items. Each item has `size` words, and the first is its name_off.
 fn note_items<A: Allocator + Copy>(
     uses: &mut FirstUses<A>,
     sections: &FileSections<'_>,
@@ -33,7 +33,7 @@ fn note_items<A: Allocator + Copy>(
     Ok(())
 }
 
-// Notes the names of the record at `pos` of the types: its own, then those of its items.
+/// Notes the names of the record at `pos` of the types: its own, then those of its items.
 fn note_record<A: Allocator + Copy>(
     uses: &mut FirstUses<A>,
     sections: &FileSections<'_>,
@@ -53,7 +53,7 @@ fn note_record<A: Allocator + Copy>(
     Ok(())
 }
 
-// The offsets of the names of all records, in the order of first use.
+/// The offsets of the names of all records, in the order of first use.
 pub(crate) fn noted_names<A: Allocator + Copy>(
     alloc: A,
     sections: &FileSections<'_>,

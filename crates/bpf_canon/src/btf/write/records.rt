@@ -17,7 +17,7 @@ use btf_types::FileSections;
 use byteorder::{BigEndian, ByteOrder, LittleEndian};
 use std::alloc::{AllocError, Allocator};
 
-// Appends three words.
+/// Appends three words.
 fn push_three<A: Allocator>(
     out: &mut Vec<u8, A>,
     order: Order,
@@ -33,7 +33,7 @@ fn push_three<A: Allocator>(
     out.extend_from_slice(&bytes)
 }
 
-// Appends two words.
+/// Appends two words.
 fn push_two<A: Allocator>(
     out: &mut Vec<u8, A>,
     order: Order,
@@ -49,7 +49,7 @@ fn push_two<A: Allocator>(
     out.extend_from_slice(&bytes)
 }
 
-// The word info of a record: kind_flag of a STRUCT or UNION is 0 where no member has a width.
+/// The canonical word info of a record: kind_flag of a STRUCT or UNION is 0 if no member has a width.
 fn canonical_info(sections: &FileSections<'_>, pos: usize, info: u32) -> u32
     requires record { HasRecord sections.now pos }
     requires own { info ≡ info_word (frame_in sections.now pos) }
@@ -65,7 +65,7 @@ fn canonical_info(sections: &FileSections<'_>, pos: usize, info: u32) -> u32
     }
 }
 
-// Appends the items of a record whose items have a name and two words more.
+/// Appends the items of a record whose items have a name_off and two more words.
 fn push_long_items<A: Allocator, B: Allocator + Copy>(
     out: &mut Vec<u8, A>,
     to: Order,
@@ -88,7 +88,7 @@ fn push_long_items<A: Allocator, B: Allocator + Copy>(
     Ok(())
 }
 
-// Appends the items of a record whose items have a name and one word more.
+/// Appends the items of a record whose items have a name_off and one more word.
 fn push_short_items<A: Allocator, B: Allocator + Copy>(
     out: &mut Vec<u8, A>,
     to: Order,
@@ -110,7 +110,7 @@ fn push_short_items<A: Allocator, B: Allocator + Copy>(
     Ok(())
 }
 
-// Appends the items of a record, each with a name and of so many words.
+/// Appends the items of a record. Each item has `size` words, and the first is its name_off.
 fn push_items<A: Allocator, B: Allocator + Copy>(
     out: &mut Vec<u8, A>,
     to: Order,
@@ -132,7 +132,7 @@ fn push_items<A: Allocator, B: Allocator + Copy>(
     }
 }
 
-// Appends the words behind the third of a record whose items have no names.
+/// Appends the words after the third of a record whose items have no names.
 fn push_rest<A: Allocator>(
     out: &mut Vec<u8, A>,
     to: Order,
@@ -150,7 +150,7 @@ fn push_rest<A: Allocator>(
     Ok(())
 }
 
-// Appends the words behind the third of the record at `pos` of the types.
+/// Appends the words after the third of the record at `pos` of the types.
 fn push_tail<A: Allocator, B: Allocator + Copy>(
     out: &mut Vec<u8, A>,
     to: Order,
@@ -173,7 +173,7 @@ fn push_tail<A: Allocator, B: Allocator + Copy>(
     }
 }
 
-// Appends the words of the record at `pos` of the types.
+/// Appends the words of the record at `pos` of the types.
 fn push_record<A: Allocator, B: Allocator + Copy>(
     out: &mut Vec<u8, A>,
     to: Order,
@@ -193,7 +193,7 @@ fn push_record<A: Allocator, B: Allocator + Copy>(
     push_tail(out, to, names, sections, pos, info)
 }
 
-// Appends the words of all records.
+/// Appends the words of all records.
 pub(crate) fn push_records<A: Allocator, B: Allocator + Copy>(
     out: &mut Vec<u8, A>,
     to: Order,
