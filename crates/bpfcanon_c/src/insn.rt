@@ -1,14 +1,11 @@
 //! The calls on instruction files.
-ghost use Rattle.std.specs.Prelude.{◌≡◌, List, IfErr, IfOk};
-ghost use Rattle.bpf_insn.specs.declared.insn.Insn.{Insn};
-ghost use Rattle.bpf_insn.specs.Spelling.{InsnFile, file_of};
+ghost use Rattle.std.specs.Prelude.{◌≡◌};
 ghost use Rattle.bpf_insn.specs.Groups.{holds};
-ghost use Rattle.bpf_canon.specs.insn.Canonical.{NamesFault};
 ghost use Rattle.bpfcanon_c.specs.Endings.{EndsInsns, EndsInsnsIn, AnswersInsns, EndsSameInsns, AnswersSameInsns};
 ghost use Rattle.bpfcanon_c.specs.GroupMasks.{weighed, mask, EndsGroups, EndsGroupsIn, AnswersGroups};
 
 use crate::answer::{Answer, Ending, order_from, put, report, slot_code};
-use bpf_canon::{InsnFeed, SideError, same_insns};
+use bpf_canon::{SideError, recode_insns, same_insns};
 use bpf_insn::{Group, GroupSet, InsnError, Order, decode_insns, groups_of};
 use std::alloc::Global;
 
@@ -44,26 +41,10 @@ fn insns_into(alloc: Global, order: u32, to: u32, bytes: &[u8], out: &mut [u8]) 
 fn insns_in(alloc: Global, order: Order, to: Order, bytes: &[u8], out: &mut [u8]) -> Ending
     ensures { EndsInsnsIn order to bytes.now out.old out.new result }
 {
-    match recoded(alloc, order, to, bytes) {
+    match recode_insns(alloc, order, to, bytes) {
         Ok(written) => put(&written, out),
         Err(InsnError::Fault(fault)) => Ending::First(slot_code(fault)),
         Err(InsnError::Memory) => Ending::Memory,
-    }
-}
-
-/// The bytes of a file's instructions in an order.
-fn recoded(alloc: Global, order: Order, to: Order, bytes: &[u8]) -> Result<Vec<u8>, InsnError>
-    ensures found { IfOk result (λ written. (l : List Insn) × (InsnFile order bytes.now l × (written.items ≡ file_of to l))) }
-    ensures fault { IfErr result (NamesFault order bytes.now) }
-{
-    let mut feed = InsnFeed::new(order, to);
-    let mut written = Vec::new(alloc);
-    match feed.feed(bytes, &mut written) {
-        Ok(()) => match feed.finish() {
-            Ok(_) => Ok(written),
-            Err(fault) => Err(InsnError::Fault(fault)),
-        },
-        Err(error) => Err(error),
     }
 }
 
