@@ -124,7 +124,7 @@ MOST_VALUES = TYPES_LIMIT // 8 - 128
 
 
 def scattered(count, length):
-    """So many distinct numbers below a length, in an order without locality."""
+    """`count` distinct numbers below a length, in an order without locality."""
     step = 2654435761 % length
     while math.gcd(step, length) != 1:
         step += 1
@@ -168,7 +168,7 @@ def common_tail():
 
 
 def short_texts(count):
-    """So many distinct texts of 5 bytes."""
+    """`count` distinct texts of 5 bytes."""
     digits = [bytes([c]) for c in b"abcdefghijklmnopqrstuvwxyz012345"]
     pairs = [a + b for a in digits for b in digits]
     triples = [a + b for a in pairs for b in digits]

@@ -112,7 +112,7 @@ INSTRUCTIONS = [
     ("a map's index with a second immediate", "18 51 00 00 00 00 00 00 00 00 00 00 01 00 00 00", 12, "NextImm"),
 ]
 
-# So many bytes make a line of 8 MB.
+# The length of a line of 8 MB.
 LONG = 8 << 20
 
 LISTINGS = [

@@ -81,7 +81,7 @@ def check_largest_btf_files(program, report):
 
 
 def names_in_one_string(count, letters):
-    """So many typedefs of void, named from each of the first letters of one string on, which are their own canonical bytes."""
+    """Typedefs of void, named from each of the first letters of one string on, which are their own canonical bytes."""
     types = b"".join(struct.pack("<III", name, 0x0800_0000, 0) for name in range(1, count + 1))
     return btf_header(24, len(types), letters + 2) + types + b"\0" + b"a" * letters + b"\0"
 

@@ -11,7 +11,7 @@ TYPEDEF, PTR, CONST = 0x0800_0000, 0x0200_0000, 0x0A00_0000
 
 
 def exits(count):
-    """So many instructions `exit`, and their listing."""
+    """`count` instructions `exit`, and their listing."""
     return EXIT * count, b"exit\n" * count
 
 
@@ -21,7 +21,7 @@ def negations_and_exits():
 
 
 def nameless(consts, count):
-    """So many types without names, and their text: the first are CONSTs of void, and the others PTRs to void."""
+    """`count` types without names, and their text: the first are CONSTs of void, and the others PTRs to void."""
     infos = [CONST] * consts + [PTR] * (count - consts)
     words = [word for info in infos for word in (0, info, 0)]
     kinds = {CONST: b"const", PTR: b"ptr"}

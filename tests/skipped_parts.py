@@ -3,7 +3,7 @@
     skipped_parts.py
 
 `verify` and the scripts that it calls are copied, and run with a PATH that has only the tools of the row. The prover and the maker of
-the archive are stand-ins that end at once; so are the tests, since what they find isn't of interest here.
+the archive are replaced by scripts that end at once; so are the tests, since their results don't matter here.
 """
 
 import os
@@ -20,11 +20,11 @@ from program import Report
 TOP = pathlib.Path(__file__).resolve().parent.parent
 # What the scripts need in any case.
 BASE = "bash env cat cut dirname cmp grep ls mkdir mktemp nproc rm sed tail tee test touch true uname".split()
-# What verify and the scripts below it are made of, and the stand-ins with what each does.
+# What verify and the scripts below it are made of, and the scripts that replace its parts.
 EXAMPLE = "crates/bpfcanon/src/tests/library_example.rt"
 COPIED = ["verify", "README.md", "docs/LIBRARY.md", EXAMPLE, "tests/run", "tests/c_interface/run", "tests/bindings"]
 PASS = "#!/usr/bin/env bash\n"
-STAND_INS = {
+REPLACEMENTS = {
     "bin/rt": PASS + "echo '1 passed, 0 failed'\n",
     "capi/archive": PASS + "touch crates/bpfcanon_c/out/libbpfcanon_c.a\n",
     "capi/build": PASS + "exit 1\n",
@@ -66,11 +66,11 @@ def write_script(path, text):
 
 
 def make_tree(folder, tools):
-    """The copied scripts and the stand-ins, and a folder `bin` with the tools."""
+    """The copied scripts and the replacements, and a folder `bin` with the tools."""
     for name in COPIED:
         (folder / name).parent.mkdir(parents=True, exist_ok=True)
         shutil.copy(TOP / name, folder / name)
-    for name, text in STAND_INS.items():
+    for name, text in REPLACEMENTS.items():
         write_script(folder / name, text)
     for path in (TOP / "tests").iterdir():
         if path.suffix in (".py", ".c"):
