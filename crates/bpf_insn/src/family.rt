@@ -7,5 +7,6 @@ pub(crate) mod arithmetic;
 pub(crate) mod jump;
 pub(crate) mod load_store;
 pub(crate) mod operand;
+pub(crate) mod slot;
 pub(crate) mod swap;
 pub(crate) mod wide;

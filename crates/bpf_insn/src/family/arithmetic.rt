@@ -14,7 +14,8 @@ ghost use Rattle.std.specs.Prelude.{◌≡◌, ◌≢◌, ◌↔◌, IsTrue, pos
 ghost use Rattle.bpf_insn.specs.Table.{IsOperand, alu_class, alu_code, alu_offset, code_opcode, fields_of, movsx_bits, movsx_width};
 ghost use Rattle.bpf_insn.specs.Forms.{AllowsAluOff, AllowsMovOff, AllowsOpOff, AllowsSource, Makes, alu_code_number};
 
-use crate::family::operand::{fields_of_operand, operand_of};
+use crate::family::operand::operand_of;
+use crate::family::slot::{operand_slot, slot_without_src};
 use crate::form::{AluCode, Form, Source};
 use crate::opcode::{ALU, ALU64};
 use crate::{AluOp, Insn, MovsxForm, Operand, Reg, Slot, Width};
@@ -206,14 +207,13 @@ pub(crate) fn alu_slot(width: Width, op: AluOp, dst: Reg, arg: Operand) -> Slot
     ensures fields { result ≡ fields_of (Insn.Alu width op dst arg) }
     ensures in_range { IsOperand arg }
 {
-    let (bit, src, imm) = fields_of_operand(arg);
-    Slot {
-        opcode: 16 * number_of_alu_op(op) + 8 * bit + alu_class_of(width),
-        dst: dst.number(),
-        src,
-        off: offset_of_alu_op(op),
-        imm,
-    }
+    operand_slot(
+        number_of_alu_op(op),
+        alu_class_of(width),
+        dst,
+        arg,
+        offset_of_alu_op(op),
+    )
 }
 
 /// The slot of a move that extends the sign: that of a move from a register, but for the offset.
@@ -222,10 +222,7 @@ pub(crate) fn movsx_slot(form: MovsxForm, dst: Reg, src: Reg) -> Slot
     ensures { result ≡ fields_of (Insn.Movsx form dst src) }
 {
     let (width, bits) = width_and_bits_of(form);
-    Slot {
-        off: bits,
-        ..alu_slot(width, AluOp::Mov, dst, Operand::Reg(src))
-    }
+    operand_slot(MOV, alu_class_of(width), dst, Operand::Reg(src), bits)
 }
 
 /// The opcode of a negation.
@@ -243,11 +240,5 @@ fn opcode_of_neg(width: Width) -> u8
 pub(crate) fn neg_slot(width: Width, dst: Reg) -> Slot
     ensures { result ≡ fields_of (Insn.Neg width dst) }
 {
-    Slot {
-        opcode: opcode_of_neg(width),
-        dst: dst.number(),
-        src: 0,
-        off: 0,
-        imm: 0,
-    }
+    slot_without_src(opcode_of_neg(width), dst, 0, 0)
 }

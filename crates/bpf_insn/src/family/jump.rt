@@ -11,11 +11,11 @@
 //! ```
 
 ghost use Rattle.std.specs.Prelude.{◌≡◌, ◌⊎◌, ◌≤◌, pos, Some};
-ghost use Rattle.bpf_words.specs.Slots.{fields};
 ghost use Rattle.bpf_insn.specs.Table.{IsOperand, branch_class, branch_code, fields_of};
 ghost use Rattle.bpf_insn.specs.Forms.{AllowsSource, Makes};
 
-use crate::family::operand::{fields_of_operand, operand_of};
+use crate::family::operand::operand_of;
+use crate::family::slot::{operand_slot, slot_without_dst};
 use crate::form::{Form, Source};
 use crate::opcode::{JMP, JMP32};
 use crate::{BranchOp, Insn, Operand, Reg, Slot, Width};
@@ -127,14 +127,13 @@ pub(crate) fn branch_slot(width: Width, op: BranchOp, dst: Reg, arg: Operand, of
     ensures fields { result ≡ fields_of (Insn.Branch width op dst arg off) }
     ensures in_range { IsOperand arg }
 {
-    let (bit, src, imm) = fields_of_operand(arg);
-    Slot {
-        opcode: 16 * number_of_branch_op(op) + 8 * bit + branch_class_of(width),
-        dst: dst.number(),
-        src,
+    operand_slot(
+        number_of_branch_op(op),
+        branch_class_of(width),
+        dst,
+        arg,
         off,
-        imm,
-    }
+    )
 }
 
 /// The slot of a jump by the offset: JA of class JMP.
@@ -142,13 +141,7 @@ pub(crate) fn branch_slot(width: Width, op: BranchOp, dst: Reg, arg: Operand, of
 pub(crate) fn jump_slot(off: i16) -> Slot
     ensures { result ≡ fields_of (Insn.Jump off) }
 {
-    Slot {
-        opcode: JUMP,
-        dst: 0,
-        src: 0,
-        off,
-        imm: 0,
-    }
+    slot_without_dst(JUMP, 0, off, 0)
 }
 
 /// The slot of a jump by the immediate: JA of class JMP32.
@@ -156,28 +149,7 @@ pub(crate) fn jump_slot(off: i16) -> Slot
 pub(crate) fn jump_long_slot(imm: i32) -> Slot
     ensures { result ≡ fields_of (Insn.JumpLong imm) }
 {
-    Slot {
-        opcode: JUMP_LONG,
-        dst: 0,
-        src: 0,
-        off: 0,
-        imm,
-    }
-}
-
-/// The slot of a call. The kind of call is in the src field: 0 to 2.
-#[inline]
-fn call_slot(src: u8, off: i16, imm: i32) -> Slot
-    requires { src ≤ 2 }
-    ensures { result ≡ fields 0x85 0 src off imm }
-{
-    Slot {
-        opcode: CALL,
-        dst: 0,
-        src,
-        off,
-        imm,
-    }
+    slot_without_dst(JUMP_LONG, 0, 0, imm)
 }
 
 /// The slot of a call of a helper function by its number.
@@ -185,7 +157,7 @@ fn call_slot(src: u8, off: i16, imm: i32) -> Slot
 pub(crate) fn call_helper_slot(id: i32) -> Slot
     ensures { result ≡ fields_of (Insn.CallHelper id) }
 {
-    call_slot(0, 0, id)
+    slot_without_dst(CALL, 0, 0, id)
 }
 
 /// The slot of a call of a function of the program.
@@ -193,7 +165,7 @@ pub(crate) fn call_helper_slot(id: i32) -> Slot
 pub(crate) fn call_local_slot(imm: i32) -> Slot
     ensures { result ≡ fields_of (Insn.CallLocal imm) }
 {
-    call_slot(1, 0, imm)
+    slot_without_dst(CALL, 1, 0, imm)
 }
 
 /// The slot of a call of a helper function by the number of its BTF type.
@@ -201,7 +173,7 @@ pub(crate) fn call_local_slot(imm: i32) -> Slot
 pub(crate) fn call_btf_slot(id: i32, off: i16) -> Slot
     ensures { result ≡ fields_of (Insn.CallBtf id off) }
 {
-    call_slot(2, off, id)
+    slot_without_dst(CALL, 2, off, id)
 }
 
 /// The slot of an exit.
@@ -209,11 +181,5 @@ pub(crate) fn call_btf_slot(id: i32, off: i16) -> Slot
 pub(crate) fn exit_slot() -> Slot
     ensures { result ≡ fields_of Insn.Exit }
 {
-    Slot {
-        opcode: EXIT,
-        dst: 0,
-        src: 0,
-        off: 0,
-        imm: 0,
-    }
+    slot_without_dst(EXIT, 0, 0, 0)
 }

@@ -14,6 +14,7 @@ ghost use Rattle.bpf_insn.specs.declared.insn.AtomicOp.{AtomicOp};
 ghost use Rattle.bpf_insn.specs.Table.{atomic_number, atomic_size, fields_of, size_number, small_size_number};
 ghost use Rattle.bpf_insn.specs.Forms.{Makes};
 
+use crate::family::slot::{memory_opcode, register_slot, slot_without_dst, slot_without_src};
 use crate::form::Form;
 use crate::opcode::{LD, LDX, ST, STX};
 use crate::{AtomicOp, Insn, Reg, Size, Slot, SmallSize, Width};
@@ -139,13 +140,7 @@ pub(crate) fn atomic_of(width: Width, dst: Reg, src: Reg, off: i16, imm: i32) ->
 pub(crate) fn load_slot(size: Size, dst: Reg, src: Reg, off: i16) -> Slot
     ensures { result ≡ fields_of (Insn.Load size dst src off) }
 {
-    Slot {
-        opcode: 32 * MEM + 8 * number_of_size(size) + LDX,
-        dst: dst.number(),
-        src: src.number(),
-        off,
-        imm: 0,
-    }
+    register_slot(memory_opcode(MEM, number_of_size(size), LDX), dst, src, off)
 }
 
 /// The slot of a load that extends the sign.
@@ -153,13 +148,12 @@ pub(crate) fn load_slot(size: Size, dst: Reg, src: Reg, off: i16) -> Slot
 pub(crate) fn load_signed_slot(size: SmallSize, dst: Reg, src: Reg, off: i16) -> Slot
     ensures { result ≡ fields_of (Insn.LoadSigned size dst src off) }
 {
-    Slot {
-        opcode: 32 * MEMSX + 8 * number_of_small_size(size) + LDX,
-        dst: dst.number(),
-        src: src.number(),
+    register_slot(
+        memory_opcode(MEMSX, number_of_small_size(size), LDX),
+        dst,
+        src,
         off,
-        imm: 0,
-    }
+    )
 }
 
 /// The slot of a store of an immediate.
@@ -167,13 +161,7 @@ pub(crate) fn load_signed_slot(size: SmallSize, dst: Reg, src: Reg, off: i16) ->
 pub(crate) fn store_imm_slot(size: Size, dst: Reg, off: i16, imm: i32) -> Slot
     ensures { result ≡ fields_of (Insn.StoreImm size dst off imm) }
 {
-    Slot {
-        opcode: 32 * MEM + 8 * number_of_size(size) + ST,
-        dst: dst.number(),
-        src: 0,
-        off,
-        imm,
-    }
+    slot_without_src(memory_opcode(MEM, number_of_size(size), ST), dst, off, imm)
 }
 
 /// The slot of a store of a register.
@@ -181,13 +169,7 @@ pub(crate) fn store_imm_slot(size: Size, dst: Reg, off: i16, imm: i32) -> Slot
 pub(crate) fn store_reg_slot(size: Size, dst: Reg, src: Reg, off: i16) -> Slot
     ensures { result ≡ fields_of (Insn.StoreReg size dst src off) }
 {
-    Slot {
-        opcode: 32 * MEM + 8 * number_of_size(size) + STX,
-        dst: dst.number(),
-        src: src.number(),
-        off,
-        imm: 0,
-    }
+    register_slot(memory_opcode(MEM, number_of_size(size), STX), dst, src, off)
 }
 
 /// The number of the size of an atomic operation.
@@ -205,12 +187,10 @@ fn atomic_size_of(width: Width) -> u8
 pub(crate) fn atomic_slot(width: Width, op: AtomicOp, dst: Reg, src: Reg, off: i16) -> Slot
     ensures { result ≡ fields_of (Insn.Atomic width op dst src off) }
 {
+    let opcode = memory_opcode(ATOMIC, atomic_size_of(width), STX);
     Slot {
-        opcode: 32 * ATOMIC + 8 * atomic_size_of(width) + STX,
-        dst: dst.number(),
-        src: src.number(),
-        off,
         imm: number_of_atomic_op(op),
+        ..register_slot(opcode, dst, src, off)
     }
 }
 
@@ -219,13 +199,12 @@ pub(crate) fn atomic_slot(width: Width, op: AtomicOp, dst: Reg, src: Reg, off: i
 pub(crate) fn packet_abs_slot(size: SmallSize, imm: i32) -> Slot
     ensures { result ≡ fields_of (Insn.PacketAbs size imm) }
 {
-    Slot {
-        opcode: 32 * ABS + 8 * number_of_small_size(size) + LD,
-        dst: 0,
-        src: 0,
-        off: 0,
+    slot_without_dst(
+        memory_opcode(ABS, number_of_small_size(size), LD),
+        0,
+        0,
         imm,
-    }
+    )
 }
 
 /// The slot of a load from the packet at a register and the immediate.
@@ -233,11 +212,10 @@ pub(crate) fn packet_abs_slot(size: SmallSize, imm: i32) -> Slot
 pub(crate) fn packet_ind_slot(size: SmallSize, src: Reg, imm: i32) -> Slot
     ensures { result ≡ fields_of (Insn.PacketInd size src imm) }
 {
-    Slot {
-        opcode: 32 * IND + 8 * number_of_small_size(size) + LD,
-        dst: 0,
-        src: src.number(),
-        off: 0,
+    slot_without_dst(
+        memory_opcode(IND, number_of_small_size(size), LD),
+        src.number(),
+        0,
         imm,
-    }
+    )
 }

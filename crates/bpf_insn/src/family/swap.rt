@@ -8,6 +8,7 @@ ghost use Rattle.bpf_insn.specs.declared.insn.SwapBits.{SwapBits};
 ghost use Rattle.bpf_insn.specs.Table.{fields_of, swap_bits, swap_opcode};
 ghost use Rattle.bpf_insn.specs.Forms.{Makes};
 
+use crate::family::slot::slot_without_src;
 use crate::form::Form;
 use crate::{Insn, Reg, Slot, SwapBits, SwapKind};
 
@@ -66,11 +67,5 @@ pub(crate) fn swap_of(kind: SwapKind, dst: Reg, imm: i32) -> Option<Insn>
 pub(crate) fn swap_slot(kind: SwapKind, bits: SwapBits, dst: Reg) -> Slot
     ensures { result ≡ fields_of (Insn.Swap kind bits dst) }
 {
-    Slot {
-        opcode: opcode_of_swap(kind),
-        dst: dst.number(),
-        src: 0,
-        off: 0,
-        imm: number_of_swap_bits(bits),
-    }
+    slot_without_src(opcode_of_swap(kind), dst, 0, number_of_swap_bits(bits))
 }

@@ -158,7 +158,7 @@ static LARGE: [LargeRow; 2] = [
 ];
 
 /// The bytes of a large file.
-fn large(alloc: Global, last: &[u8]) -> Result<Vec<u8>, AllocError> {
+pub(super) fn large(alloc: Global, last: &[u8]) -> Result<Vec<u8>, AllocError> {
     let mut bytes = Vec::new(alloc);
     for _ in 1..COUNT {
         bytes.extend_from_slice(b"\x95\0\0\0\0\0\0\0")?;

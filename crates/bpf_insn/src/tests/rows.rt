@@ -2,8 +2,8 @@
 
 use super::equal;
 use crate::{
-    Group, InsnError, Order, Reg, SlotCause, SlotFault, decode_insns, group_of, groups_of,
-    insn_bytes, insn_len, read_insn,
+    Group, InsnError, Order, Reg, SlotCause, SlotFault, decode_insns, group_of, insn_bytes,
+    insn_len, read_insn,
 };
 use std::alloc::{AllocError, Global};
 use std::test::Fail;
@@ -38,7 +38,7 @@ mod jumps;
 mod load_store;
 
 /// The same bytes in the other order: the halves of the register byte and the bytes of each number are exchanged.
-fn in_order(alloc: Global, order: Order, little: &[u8]) -> Result<Vec<u8>, AllocError> {
+pub(super) fn in_order(alloc: Global, order: Order, little: &[u8]) -> Result<Vec<u8>, AllocError> {
     let mut bytes = little.to_vec(alloc)?;
     if order == Order::Little {
         return Ok(bytes);
@@ -225,83 +225,6 @@ fn faults_of_files_count_from_the_first_byte(rt: HostRuntime) {
         };
         equal(&rt, &found, &Some(InsnError::Fault(fault)), row);
     }
-}
-
-/// A file, and all groups of its instructions.
-#[derive(Clone, Copy, Debug)]
-struct GroupsRow {
-    little: &'static [u8],
-    groups: &'static [Group],
-}
-
-static GROUPS: [GroupsRow; 9] = [
-    GroupsRow {
-        little: b"",
-        groups: &[],
-    },
-    // the file above
-    GroupsRow {
-        little: b"\x37\x01\x01\0\x03\0\0\0\xdb\x21\xf8\xff\xf1\0\0\0\x95\0\0\0\0\0\0\0",
-        groups: &[
-            Group::Base32,
-            Group::Atomic32,
-            Group::Atomic64,
-            Group::Divmul32,
-            Group::Divmul64,
-        ],
-    },
-    // exit
-    GroupsRow {
-        little: b"\x95\0\0\0\0\0\0\0",
-        groups: &[Group::Base32],
-    },
-    // mov r1, r2
-    GroupsRow {
-        little: b"\xbf\x21\0\0\0\0\0\0",
-        groups: &[Group::Base32, Group::Base64],
-    },
-    // atomic_add32 [r1+0], r4
-    GroupsRow {
-        little: b"\xc3\x41\0\0\0\0\0\0",
-        groups: &[Group::Atomic32],
-    },
-    // atomic_add [r0-2], r1
-    GroupsRow {
-        little: b"\xdb\x10\xfe\xff\0\0\0\0",
-        groups: &[Group::Atomic32, Group::Atomic64],
-    },
-    // mul32 r1, r4
-    GroupsRow {
-        little: b"\x2c\x41\0\0\0\0\0\0",
-        groups: &[Group::Divmul32],
-    },
-    // mul r10, r9
-    GroupsRow {
-        little: b"\x2f\x9a\0\0\0\0\0\0",
-        groups: &[Group::Divmul32, Group::Divmul64],
-    },
-    // ldindh r3, 4
-    GroupsRow {
-        little: b"\x48\x30\0\0\x04\0\0\0",
-        groups: &[Group::Packet],
-    },
-];
-
-#[test]
-fn groups_of_files(rt: HostRuntime) -> Result<(), Fail> {
-    for row in &GROUPS {
-        let insns = decode_insns(rt.alloc(), Order::Little, row.little)?;
-        let set = groups_of(&insns);
-        for group in Group::ALL {
-            equal(
-                &rt,
-                &set.has(group),
-                &row.groups.contains(&group),
-                &(group, row),
-            );
-        }
-    }
-    Ok(())
 }
 
 #[test]

@@ -1,0 +1,52 @@
+-- One step of finding the groups of a file.
+use Rattle.std.proofs.Common.{◌≡◌, ◌↔◌, ℕ, ◌+◌, ◌-◌, ◌<◌, ◌≤◌, List, [], ◌∷◌, ◌++◌, length, drop, ◌⊎◌, IsTrue, All, refl, arith}
+use Rattle.std.proofs.lemmas.List.Elements.{All-nil}
+use Rattle.bpf_words.specs.declared.Order.{Order}
+use Rattle.bpf_insn.specs.Table.{IsInsn}
+use Rattle.bpf_insn.specs.Spelling.{spelling, file_of}
+use Rattle.bpf_insn.specs.Faults.{IsInsnFault}
+use Rattle.bpf_insn.specs.FileSteps.{BeginsAt, IsFaultAt}
+use Rattle.bpf_insn.specs.Groups.{AreGroupsOf, Brings, InGroups, group_of, holds}
+use Rattle.bpf_insn.proofs.DecodeLemmas as one
+use Rattle.bpf_insn.proofs.GroupLemmas.{one_group_more}
+use Rattle.bpf_insn.specs.declared.fault.SlotFault.{SlotFault}
+use Rattle.bpf_insn.specs.declared.group.Group.{Group}
+use Rattle.bpf_insn.specs.declared.group.GroupSet.{GroupSet}
+use Rattle.bpf_insn.specs.declared.insn.Insn.{Insn}
+
+-- the bytes before a place are those of these instructions
+abbrev pub Kept : Order → List ℕ → List Insn → ℕ → Type 0
+Kept order bytes xs at = (at ≤ length bytes) × All IsInsn xs × (bytes ≡ file_of order xs ++ drop at bytes) × (at ≡ length (file_of order xs))
+
+-- the set has the groups of the instructions before a place
+pub record HasGroups (order : Order) (bytes : List ℕ) (at : ℕ) (set : GroupSet) : Type 0 where
+  pub insns : List Insn
+  pub kept : Kept order bytes insns at
+  pub groups : (g : Group) → IsTrue (holds set g) ↔ InGroups insns g
+
+pub at_start : (order : Order) (bytes : List ℕ) (set : GroupSet) → ((g : Group) → ¬ IsTrue (holds set g)) → HasGroups order bytes 0 set
+at_start order bytes set none = record {
+  insns = [];
+  kept = (omega arith, All-nil IsInsn, refl, refl);
+  groups = λ g. (λ t. absurd (none g t), λ a. absurd (omega (arith, a.2)));
+}
+
+pub step : (order : Order) (bytes : List ℕ) (at : ℕ) (before after : GroupSet) (i : Insn) (len : ℕ) → HasGroups order bytes at before
+    → BeginsAt order bytes at i × (len ≡ length (spelling order i)) → ((g : Group) → IsTrue (holds after g) ↔ (IsTrue (holds before g) ⊎ Brings (group_of i) g))
+    → HasGroups order bytes (at + len) after
+step order bytes at before after i len h found more = record {
+  insns = h.insns ++ i ∷ [];
+  kept = one.step order bytes h.insns at h.kept i len found;
+  groups = λ g. one_group_more (holds before g) (holds after g) h.insns i g (h.groups g) (more g);
+}
+
+pub moved_on : (order : Order) (bytes : List ℕ) (at : ℕ) (set : GroupSet) (i : Insn) (len : ℕ) → HasGroups order bytes at set
+    → BeginsAt order bytes at i × (len ≡ length (spelling order i)) → length bytes - (at + len) < length bytes - at
+moved_on order bytes at set i len h found = one.moved_on order bytes h.insns at h.kept i len found
+
+pub fault_here : (order : Order) (bytes : List ℕ) (at : ℕ) (set : GroupSet) (fault : SlotFault) → HasGroups order bytes at set → at < length bytes
+    → IsFaultAt order bytes at fault → IsInsnFault order bytes fault
+fault_here order bytes at set fault h more f = one.fault_here order bytes h.insns at h.kept f.0 fault more f.1 f.2
+
+pub whole_file : (order : Order) (bytes : List ℕ) (at : ℕ) (set : GroupSet) → HasGroups order bytes at set → length bytes ≤ at → AreGroupsOf order bytes set
+whole_file order bytes at set h done = (h.insns, one.whole_file order bytes h.insns at h.kept done, h.groups)

@@ -1,0 +1,25 @@
+use Rattle.std.proofs.Common.{rules}
+use Rattle.bpf_insn.proofs.FileGroups.{at_start, step, moved_on, fault_here, whole_file}
+use Rattle.bpf_insn.proofs.file_groups.groups_in.Goals as goal
+
+pub loop-pos-init : goal.loop-pos-init
+loop-pos-init c = at_start _ _ _ c.empty-set.ensures
+
+pub loop-pos-smaller : goal.loop-pos-smaller
+loop-pos-smaller c = moved_on _ _ _ _ _ _ c.loop-pos.invariant c.in_ok-insn.ensures.found
+
+pub loop-pos-preserved : goal.loop-pos-preserved
+loop-pos-preserved c = step _ _ _ _ _ _ _ c.loop-pos.invariant c.in_ok-insn.ensures.found (rw c.group_of.ensures at c.add.ensures)
+
+pub returns-in_err-insn-clause-fault : goal.returns-in_err-insn-clause-fault
+returns-in_err-insn-clause-fault c =
+    let here = fault_here _ _ _ _ _ c.loop-pos.invariant c.loop-pos-test.true c.in_err-insn.ensures.fault in
+    search rules
+
+pub returns-in_err-insn-clause-all : goal.returns-in_err-insn-clause-all
+returns-in_err-insn-clause-all c =
+    let here = fault_here _ _ _ _ _ c.loop-pos.invariant c.loop-pos-test.true c.in_err-insn.ensures.fault in
+    λ l file. absurd (here.no_file l file)
+
+pub returns-clause-found : goal.returns-clause-found
+returns-clause-found c = whole_file _ _ _ _ c.loop-pos.invariant c.loop-pos-test.false
