@@ -18,7 +18,6 @@ pub mod OneOperand
 pub mod OneInsn
 pub mod ReadingLemmas
 pub mod Excludes
-pub mod BytesRead
 pub mod MakeTable
 pub mod TokensExist
 pub mod Bounds
@@ -28,3 +27,4 @@ pub mod WrittenSpells
 pub mod MnemonicTokens
 pub mod WrittenLines
 pub mod OneFault
+pub mod TakenLines

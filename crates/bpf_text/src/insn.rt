@@ -2,6 +2,7 @@
 
 pub(crate) mod byte_tables;
 pub mod fault;
+pub(crate) mod insn_sink;
 pub mod laws;
 pub(crate) mod listing_bytes;
 pub(crate) mod make;

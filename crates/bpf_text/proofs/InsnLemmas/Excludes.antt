@@ -1,5 +1,6 @@
 -- A faulty line lists nothing.
 use Rattle.std.proofs.Common.{◌≡◌, ℕ, Bool, true, false, not, ◌||◌, ◌&&◌, List, [], ◌∷◌, ◌++◌, ◌⊎◌, inl, inr, refl, sym, ap, ◌∙◌, Result, Ok, Err, MatchResult, IfOk, Vec}
+use Rattle.std.specs.Result.{IsErrAnd}
 use Rattle.std.specs.List.{AllZip, list_any, list_all}
 use Rattle.std.proofs.lemmas.Bool.{false≢true}
 use Rattle.std.proofs.lemmas.List.Folds.{list_any-append}
@@ -95,18 +96,11 @@ no_listing text fault l h k =
     let w = at_line h.front h.line h.back k.listed (rw h.lines at k.each) in
     excludes h.line fault.cause w.0 h.cause w.1
 
--- ---- what a result says
+-- ---- what an error says
 
-module _ {A : Type 0} (text : List ℕ) where
-  -- what is listed is what is read, unless memory runs out
-  pub all_read : (r : Result (Vec Insn A) ListError) → MatchResult r (λ v. Lists text v.items) (RefusesText text) → (l : List Insn) → Lists text l → MatchResult r (λ v. v.items ≡ l) (λ e. e ≡ Memory)
-  all_read (Ok v) h l k = one_listing text v.items l h k
-  all_read (Err (Fault fault)) h l k = absurd (no_listing text fault l h k)
-  all_read (Err Memory) h l k = refl
-
-  pub found_listed : (r : Result (Vec Insn A) ListError) → MatchResult r (λ v. Lists text v.items) (RefusesText text) → IfOk r (λ v. Lists text v.items)
-  found_listed (Ok v) h = h
-  found_listed (Err e) h = tt
-
-  pub fault_returned : (r : Result (Vec Insn A) ListError) → MatchResult r (λ v. Lists text v.items) (RefusesText text) → (f : LineFault) → r ≡ Err (Fault f) → IsListFault text f
-  fault_returned r h f e = rw e at h
+-- a text that lists instructions is refused only if memory runs out
+pub only_memory : {T : Type 0} (P : T → Type 0) (text : List ℕ) (e : ListError) (r : Result T ListError) → IsErrAnd r (λ x. x ≡ e) → RefusesText text e → (l : List Insn) → Lists text l
+    → MatchResult r P (λ x. x ≡ Memory)
+only_memory P text e (Ok v) same h l k = absurd same
+only_memory P text (Fault fault) (Err reported) same h l k = absurd (no_listing text fault l h k)
+only_memory P text Memory (Err reported) same h l k = same

@@ -4,7 +4,7 @@ ghost use Rattle.std.specs.Prelude.{◌≡◌, ◌≢◌, ◌↔◌, IsTrue, IfS
 ghost use Rattle.bpf_text.specs.declared.insn.mnemonic.Mnemonic.{Mnemonic};
 ghost use Rattle.bpf_text.specs.insn.Mnemonics.{text_of_mnemonic, wide_kind_mnemonic, kind_of_wide, mnemonic_of};
 
-use crate::insn::mnemonic_hash::{hash_of, place_of};
+use crate::insn::mnemonic_hash::{hash_of, index_of};
 use crate::insn::mnemonic_text::{
     alu_mnemonic, alu32_mnemonic, atomic_mnemonic, atomic32_mnemonic, be_mnemonic, branch_mnemonic,
     branch32_mnemonic, le_mnemonic, load_mnemonic, load_signed_mnemonic, movsx_mnemonic,
@@ -282,7 +282,7 @@ impl Mnemonic {
         ensures none { IfNone result ((m : Mnemonic) → token.now ≢ text_of_mnemonic m) }
         ensures some { IfSome result (λ m. token.now ≡ text_of_mnemonic m) }
     {
-        let mnemonic = ALL[place_of(hash_of(token))];
+        let mnemonic = ALL[index_of(hash_of(token))];
         if mnemonic.is_spelled(token) {
             return Some(mnemonic);
         }

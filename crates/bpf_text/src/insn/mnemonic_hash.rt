@@ -54,7 +54,7 @@ pub(crate) fn hash_of(token: &[u8]) -> usize
 }
 
 /// The index in `ALL` of the mnemonic with this hash, or of any other mnemonic if none has this hash.
-pub(crate) fn place_of(hash: usize) -> usize
+pub(crate) fn index_of(hash: usize) -> usize
     requires { hash < 1024 }
     ensures value { result ≡ get_or PLACES hash 0 }
     ensures within { result < 120 }

@@ -1,6 +1,6 @@
 //! From a listing to its instructions.
 
-ghost use Rattle.std.specs.Prelude.{◌≡◌, ℕ, ◌<◌, [], ◌∷◌, ◌++◌, List, length, false, Err, IfOk, IfSome, OnOk, MatchOption, MatchResult};
+ghost use Rattle.std.specs.Prelude.{◌≡◌, ℕ, ◌<◌, [], ◌∷◌, List, length, false, Err, IfOk, IfSome, MatchOption, MatchResult};
 ghost use Rattle.std.specs.Option.{option_to_list};
 ghost use Rattle.std.specs.List.{list_any};
 ghost use Rattle.bpf_insn.specs.declared.insn.Insn.{Insn};
@@ -11,6 +11,7 @@ ghost use Rattle.bpf_text.specs.insn.Listing.{lines_of, Lists, IsListFault, IsCa
 ghost use Rattle.bpf_text.specs.insn.Reading.{ReadsTokens, RefusesText, RefusesLine};
 
 use crate::insn::fault::{LineCause, LineFault, ListError};
+use crate::insn::insn_sink::{InsnSink, take_found};
 use crate::insn::make::insn_from_operands;
 use crate::insn::mnemonic::Mnemonic;
 use crate::insn::read_operand::operands_from_tokens;
@@ -18,7 +19,7 @@ use crate::insn::token::{Tokens, known_code, next_token, read_tokens};
 use arrayvec::ArrayVec;
 use bpf_insn::Insn;
 use memchr::memchr;
-use std::alloc::{AllocError, Allocator};
+use std::alloc::Allocator;
 
 /// The instruction whose mnemonic is the first token, with the operands in the rest of the line. The caller passes the
 /// tokens of the line before, whose room is used again: a new array for each line takes longer than reading its tokens.
@@ -43,7 +44,7 @@ fn insn_from_tokens<'a>(
 }
 
 /// The first line of a text, and the bytes after its newline, if it has one.
-pub(crate) fn first_line(text: &[u8]) -> (&[u8], Option<&[u8]>)
+fn first_line(text: &[u8]) -> (&[u8], Option<&[u8]>)
     ensures lines { MatchOption result.1 (lines_of text.now ≡ result.0.now ∷ [])
         (λ following. lines_of text.now ≡ result.0.now ∷ lines_of following.now) }
     ensures shorter { IfSome result.1 (λ following. length following.now < length text.now) }
@@ -71,7 +72,7 @@ fn read_line<'a>(tokens: &mut Tokens<'a>, line: &'a [u8]) -> Result<Option<Insn>
 }
 
 /// The instruction of the line with this number, or none if it has no tokens.
-pub(crate) fn read_numbered<'a>(
+fn read_numbered<'a>(
     tokens: &mut Tokens<'a>,
     line: &'a [u8],
     number: u64,
@@ -87,30 +88,20 @@ pub(crate) fn read_numbered<'a>(
     }
 }
 
-/// Adds the instruction of a line, if it has one.
-fn push_found<A: Allocator>(insns: &mut Vec<Insn, A>, found: Option<Insn>) -> Result<(), AllocError>
-    ensures { OnOk result (insns.new.items ≡ insns.old.items ++ option_to_list found) }
+/// The sink takes the instructions of all lines, in order. At an error it may have taken those of the first lines.
+pub(crate) fn read_lines<S: InsnSink>(sink: &mut S, text: &[u8]) -> Result<(), ListError>
+    ensures { MatchResult result
+        (λ _. (insns : List Insn) × Lists text.now insns × S.takes sink.old insns sink.new) (RefusesText text.now) }
 {
-    if let Some(insn) = found {
-        insns.push(insn)?;
-    }
-    Ok(())
-}
-
-/// The instructions of all lines. [`read_listing`] adds to this contract that a text lists no other list.
-fn read_lines<A: Allocator>(alloc: A, text: &[u8]) -> Result<Vec<Insn, A>, ListError>
-    ensures { MatchResult result (λ insns. Lists text.now insns.items) (RefusesText text.now) }
-{
-    let mut insns = Vec::new(alloc);
     let mut tokens = ArrayVec::new();
     let mut rest = text;
     let mut number: u64 = 1;
     'lines: loop {
         let (line, following) = first_line(rest);
         let found = read_numbered(&mut tokens, line, number)?;
-        push_found(&mut insns, found)?;
+        take_found(sink, found)?;
         let Some(following) = following else {
-            return Ok(insns);
+            return Ok(());
         };
         rest = following;
         number += 1;
@@ -131,5 +122,7 @@ pub fn read_listing<A: Allocator>(alloc: A, text: &[u8]) -> Result<Vec<Insn, A>,
         MatchResult result (λ insns. insns.items ≡ l) (λ e. e ≡ ListError.Memory) }
     ensures fault { (f : LineFault) → result ≡ Err (ListError.Fault f) → IsListFault text.now f }
 {
-    read_lines(alloc, text)
+    let mut insns = Vec::new(alloc);
+    read_lines(&mut insns, text)?;
+    Ok(insns)
 }

@@ -1,10 +1,10 @@
 use Rattle.std.proofs.Common.{◌+◌, ◌≤◌, length}
-use Rattle.bpf_text.proofs.InsnLemmas.ListingLemmas.{ReadSoFar}
+use Rattle.bpf_text.proofs.InsnLemmas.TakenLines.{TakenSoFar}
 use Rattle.bpf_text.proofs.insn.read.read_lines.Given as goal
 
 abbrev pub invariant-lines : goal.invariant-lines
 invariant-lines g l = record {
-  so_far : ReadSoFar l.text l.rest l.insns.items l.number;
+  so_far : TakenSoFar g.S.InsnSink.takes l.text l.rest l.fn.sink l.sink l.number;
   bound : l.number + length l.rest ≤ length l.text + 1;
 }
 

@@ -1,9 +1,15 @@
-use Rattle.bpf_text.proofs.InsnLemmas.Excludes.{all_read, found_listed, fault_returned}
+use Rattle.bpf_text.proofs.InsnLemmas.Excludes.{only_memory}
+use Rattle.bpf_text.proofs.InsnLemmas.OneInsn.{one_listing}
+use Rattle.bpf_text.proofs.InsnLemmas.TakenLines.{listed_from_none}
 use Rattle.bpf_text.proofs.insn.read.read_listing.Goals as goal
 
-pub returns : goal.returns
-returns g c = record {
-  found = found_listed c.args.text.now c.read_lines.result c.read_lines.ensures;
-  all = all_read c.args.text.now c.read_lines.result c.read_lines.ensures;
-  fault = fault_returned c.args.text.now c.read_lines.result c.read_lines.ensures;
-}
+pub returns-in_err-read_lines-clause-all : goal.returns-in_err-read_lines-clause-all
+returns-in_err-read_lines-clause-all g c = λ l k.
+    only_memory _ c.args.text.now c.in_err-read_lines.field-0.0 c.from_residual.result c.from_residual.ensures.1 c.in_err-read_lines.ensures l k
+
+pub returns-clause-found : goal.returns-clause-found
+returns-clause-found g c = listed_from_none c.args.text.now _ _ c.new-insns.ensures.items c.in_ok-read_lines.ensures
+
+pub returns-clause-all : goal.returns-clause-all
+returns-clause-all g c = λ l k.
+    one_listing c.args.text.now _ l (listed_from_none c.args.text.now _ _ c.new-insns.ensures.items c.in_ok-read_lines.ensures) k

@@ -1,7 +1,7 @@
 use Rattle.std.proofs.Common.{refl, arith}
 use Rattle.bpf_text.specs.declared.insn.mnemonic_hash.TheConstants.{PLACES}
 use Rattle.bpf_text.proofs.InsnLemmas.HashPlaces.{all_within}
-use Rattle.bpf_text.proofs.insn.mnemonic_hash.place_of.Goals as goal
+use Rattle.bpf_text.proofs.insn.mnemonic_hash.index_of.Goals as goal
 
 -- each of the 1,024 places is compared, by computing
 pub returns-clause-within : goal.returns-clause-within
