@@ -13,7 +13,7 @@ use Rattle.btf_types.specs.declared.judge.roles.Role.TheVariants as roles
 use Rattle.btf_types.specs.judge.Checks.{size_fits, bits_fit, target_fits, component_fits, TypeFacts, type_at, NoCause, LeastCause}
 use Rattle.btf_types.specs.judge.FieldFaults.{WordFault, offset_in, width_in, int_unused, int_encoding, int_bits, IsTypeField, IsNameField, IsMemberWord, IsItemWord}
 use Rattle.btf_types.specs.judge.Roles.{word_in_item, PartIs, RoleIs, HasRole}
-use Rattle.btf_types.specs.declared.judge.fields.Record.{Record}
+use Rattle.btf_types.specs.declared.judge.fields.JudgedRecord.{JudgedRecord}
 use Rattle.btf_types.specs.declared.tables.section.Section.{Section}
 use Rattle.btf_types.specs.Reading.{frame_at}
 use Rattle.btf_types.specs.Sections.{facts_in}
@@ -340,21 +340,22 @@ module _ (strings : List ℕ) (types : List TypeFacts) (frame : List ℕ) (b : B
       judged_same (WordRoleFault strings types frame b j role) (WordFault strings types frame j) r
       (role_holds role is) (role_says strings types frame b j role bits each) judged
 
-abbrev pub HeldFault : Section → Record → ℕ → Role → BtfCause → Type 0
-HeldFault s r word role c = RoleFault s.file.strings.now (facts_in s) r.kind r.vlen r.flag r.third r.bit_fields word role c
+abbrev pub HeldFault : Section → JudgedRecord → ℕ → Role → BtfCause → Type 0
+HeldFault s r word role c = RoleFault s.file.strings.now (facts_in s) r.header.kind r.header.vlen r.header.kind_flag r.header.size_or_type r.bit_fields word role c
 
 -- the same on the numbers that are kept of a record
-pub judged : {s : Section} {r : Record} {j word : ℕ} (role : Role) (result : Option BtfCause) → RecordIs s r → j < r.words
-    → word ≡ slice_index (frame_at s.file.order s.file.types.now r.pos) j → RoleIs r.kind j role → HasRole r.kind j role
+pub judged : {s : Section} {r : JudgedRecord} {j word : ℕ} (role : Role) (result : Option BtfCause) → RecordIs s r → j < r.words
+    → word ≡ slice_index (frame_at s.file.order s.file.types.now r.pos) j → RoleIs r.header.kind j role → HasRole r.header.kind j role
     → MatchOption result (NoCause (HeldFault s r word role)) (λ c. LeastCause (HeldFault s r word role) c)
     → MatchOption result (NoCause (WordFault s.file.strings.now (facts_in s) (frame_at s.file.order s.file.types.now r.pos) j)) (λ c. LeastCause (WordFault s.file.strings.now (facts_in s) (frame_at s.file.order s.file.types.now r.pos) j) c)
 judged {s} {r} {j} {word} role result is there word-is role-is each held =
     let f = frame_at s.file.order s.file.types.now r.pos in
+    let header = is.header_is in
     word_judged s.file.strings.now (facts_in s) f r.bit_fields j is.is_there.frame is.bit_fields_are (rw (← is.words_are) there) role result
-    (rw (← is.kind_is) role-is) (rw (← is.kind_is) each)
+    (rw (← header.kind_is) role-is) (rw (← header.kind_is) each)
     (judged_same (HeldFault s r word role) (WordRoleFault s.file.strings.now (facts_in s) f r.bit_fields j role) result
-    (λ d h. rw (← is.kind_is, ← is.vlen_is, ← is.flag_is, ← is.third_is, ← word-is) h)
-    (λ d h. rw (is.kind_is, is.vlen_is, is.flag_is, is.third_is, word-is) h) held)
+    (λ d h. rw (← header.kind_is, ← header.vlen_is, ← header.kind_flag_is, ← header.size_or_type_is, ← word-is) h)
+    (λ d h. rw (header.kind_is, header.vlen_is, header.kind_flag_is, header.size_or_type_is, word-is) h) held)
 
 -- the numbers that a member's offset word is judged by
 pub place_judged : (third flag word at wide : ℕ) (result : Option BtfCause) → at ≡ offset_in flag word → wide ≡ width_in flag word

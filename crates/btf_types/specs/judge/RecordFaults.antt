@@ -2,14 +2,14 @@
 use Rattle.std.specs.Prelude.{◌≡◌, ◌⊎◌, ℕ, ◌<◌, ◌≤◌, Bool, IsTrue, List, length}
 use Rattle.btf_raw.specs.declared.cause.BtfCause.{BtfCause}
 use Rattle.btf_raw.specs.Cause.{number_of}
-use Rattle.btf_raw.specs.Frames.{third_word, kind, vlen, flag}
-use Rattle.btf_types.specs.declared.judge.fields.Record.{Record}
+use Rattle.btf_types.specs.declared.judge.fields.JudgedRecord.{JudgedRecord}
 use Rattle.btf_types.specs.declared.judge.roles.Role.{Role}
 use Rattle.btf_types.specs.declared.judge.roles.Role.TheVariants.{OwnName, Info, Third, IntWord, Linkage, Component, ItemName, NamedType, MemberType, MemberPlace, Free}
 use Rattle.btf_types.specs.declared.tables.section.Section.{Section}
 use Rattle.btf_types.specs.judge.Checks.{TypeFacts, type_at, SecondFault, ThirdFault}
 use Rattle.btf_types.specs.judge.FieldFaults.{WordFault, HasBitFields, offset_in, width_in}
 use Rattle.btf_types.specs.judge.NameFaults.{NameFault, IntFault, LinkageFault, ComponentFault, ItemNameFault, NamedTypeFault, MemberTypeFault, MemberPlaceFault}
+use Rattle.btf_types.specs.RecordHeaders.{HeaderIs}
 use Rattle.btf_types.specs.Sections.{HasFrame, frame_of, facts_in}
 
 -- no word of the frame has a fault
@@ -38,12 +38,9 @@ pub record BitFieldsAre (frame : List ℕ) (bit_fields : Bool) : Type 0 where
   pub none : HasBitFields frame → IsTrue bit_fields
 
 -- what is kept of a record while its words are judged
-pub record RecordIs (s : Section) (r : Record) : Type 0 where
+pub record RecordIs (s : Section) (r : JudgedRecord) : Type 0 where
   pub is_there : HasFrame s.file r.pos
-  pub kind_is : r.kind ≡ kind (frame_of s.file r.pos)
-  pub vlen_is : r.vlen ≡ vlen (frame_of s.file r.pos)
-  pub flag_is : r.flag ≡ flag (frame_of s.file r.pos)
-  pub third_is : r.third ≡ third_word (frame_of s.file r.pos)
+  pub header_is : HeaderIs (frame_of s.file r.pos) r.header
   pub words_are : r.words ≡ length (frame_of s.file r.pos)
   pub bit_fields_are : BitFieldsAre (frame_of s.file r.pos) r.bit_fields
 

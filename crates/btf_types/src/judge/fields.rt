@@ -15,21 +15,16 @@ use crate::judge::checks::{
 use crate::judge::names::{item_name_fault, name_fault};
 use crate::judge::references::{component_fault, member_type_fault, named_type_fault, third_fault};
 use crate::judge::roles::{Role, role_of};
+use crate::record_header::{RecordHeader, header_at};
 use crate::tables::section::Section;
-use btf_raw::info::{flag_of, kind_of, tail_words, vlen_of};
 use btf_raw::{BtfCause, BtfFault};
 
-/// A record of the section, with its decoded header.
+/// What is kept of a record while its words are judged.
 #[derive(Clone, Copy)]
-pub struct Record {
+pub struct JudgedRecord {
     /// Where it begins, in bytes from the first of the type section.
     pub pos: usize,
-    pub kind: u8,
-    pub vlen: u16,
-    /// `kind_flag`, 0 or 1.
-    pub flag: u32,
-    /// The word after `info`: a size in bytes, a type, or 0.
-    pub third: u32,
+    pub header: RecordHeader,
     /// The number of its words of 32 bits.
     pub words: usize,
     /// Whether some member's width isn't 0. It is found once, before the members are judged.
@@ -37,56 +32,54 @@ pub struct Record {
 }
 
 /// The fault of word j of a record: its least cause, if it has one.
-fn word_fault(section: &Section, this: &Record, j: usize) -> Option<BtfCause>
+fn word_fault(section: &Section, this: &JudgedRecord, j: usize) -> Option<BtfCause>
     requires section { IsSection section.now }
     requires this { RecordIs section.now this.now }
     requires there { j < this.now.words }
     ensures { IsLeastOf (FaultInWord section.now this.now.pos j) result }
 {
     let word = section.file.word(this.pos, j);
-    match role_of(this.kind, j) {
-        Role::OwnName => name_fault(section.file.strings, section.texts, this.kind, word),
-        Role::Info => second_fault(this.kind, this.vlen),
-        Role::Third => third_fault(section, this.kind, word, this.vlen),
-        Role::IntWord => int_fault(this.third, word),
+    let header = &this.header;
+    match role_of(header.kind, j) {
+        Role::OwnName => name_fault(section.file.strings, section.texts, header.kind, word),
+        Role::Info => second_fault(header.kind, header.vlen),
+        Role::Third => third_fault(section, header.kind, word, header.vlen),
+        Role::IntWord => int_fault(header.size_or_type, word),
         Role::Linkage => linkage_fault(word),
-        Role::Component => component_fault(section, this.third, word),
+        Role::Component => component_fault(section, header.size_or_type, word),
         Role::ItemName => item_name_fault(section.file.strings, section.texts, word),
-        Role::NamedType => named_type_fault(section, this.kind, word),
+        Role::NamedType => named_type_fault(section, header.kind, word),
         Role::MemberType => member_type_fault(section, this.bit_fields, word),
         Role::MemberPlace => member_place_fault(
-            this.third,
-            bit_offset_of(this.flag, word),
-            width_of(this.flag, word),
+            header.size_or_type,
+            bit_offset_of(header.kind_flag, word),
+            width_of(header.kind_flag, word),
         ),
         Role::Free => None,
     }
 }
 
-/// The i-th record, from 0.
-fn record_at(section: &Section, i: usize) -> Record
+/// The i-th record, from 0, before its words are judged.
+fn record_to_judge(section: &Section, i: usize) -> JudgedRecord
     requires section { IsSection section.now }
     requires there { i < length section.now.file.places.now }
     ensures is { RecordIs section.now result }
     ensures pos { result.pos ≡ slice_index section.now.file.places.now i }
 {
     let pos = section.file.places[i] as usize;
-    let info = section.file.word(pos, 1);
-    let kind = kind_of(info);
-    let vlen = vlen_of(info);
-    Record {
+    let header = header_at(section.file.order, section.file.types, pos);
+    JudgedRecord {
         pos,
-        kind,
-        vlen,
-        flag: flag_of(info),
-        third: section.file.word(pos, 2),
-        words: 3 + tail_words(kind, vlen),
-        bit_fields: section.file.has_bit_fields(pos, info),
+        header,
+        words: header.words(),
+        bit_fields: section
+            .file
+            .has_widths(pos, header.kind, header.kind_flag, header.vlen),
     }
 }
 
 /// The first word of a record that has a fault, and the least cause of that word.
-fn record_fault(section: &Section, this: &Record) -> Option<(usize, BtfCause)>
+fn record_fault(section: &Section, this: &JudgedRecord) -> Option<(usize, BtfCause)>
     requires section { IsSection section.now }
     requires this { RecordIs section.now this.now }
     ensures { MatchOption result
@@ -109,7 +102,7 @@ pub fn first_field_fault(section: &Section) -> Option<BtfFault>
         (λ fault. LeastByPlace (FieldFault section.now.file.strings.now (frames_in section.now)) fault.pos fault.cause) }
 {
     for i in 0..section.file.places.len() {
-        let this = record_at(section, i);
+        let this = record_to_judge(section, i);
         if let Some((word, cause)) = record_fault(section, &this) {
             return Some(BtfFault {
                 pos: (this.pos + 4 * word) as u64,

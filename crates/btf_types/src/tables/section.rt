@@ -7,8 +7,8 @@ ghost use Rattle.btf_types.specs.Sections.{IsSection, HasFrame, FactsAre, facts_
 ghost use Rattle.btf_types.specs.judge.FieldFaults.{frame_facts};
 
 use crate::judge::utf8::Texts;
+use crate::record_header::header_at;
 use crate::tables::table::FileSections;
-use btf_raw::info::{kind_of, vlen_of};
 use btf_raw::{FUNC, INT};
 
 /// The facts of void, and of a type that isn't there.
@@ -48,17 +48,16 @@ impl<'a> Section<'a> {
         requires { HasFrame self.now.file pos }
         ensures { FactsAre result (frame_facts (frame_of self.now.file pos)) }
     {
-        let info = self.file.word(pos, 1);
-        let kind = kind_of(info);
-        let int = if kind == INT {
+        let header = header_at(self.file.order, self.file.types, pos);
+        let int = if header.kind == INT {
             self.file.word(pos, 3)
         } else {
             0
         };
         Facts {
-            kind,
-            count: if kind == FUNC { 0 } else { vlen_of(info) },
-            target: self.file.word(pos, 2),
+            kind: header.kind,
+            count: if header.kind == FUNC { 0 } else { header.vlen },
+            target: header.size_or_type,
             offset: (int >> 16 & 0xff) as u8,
             bits: (int & 0xff) as u8,
         }

@@ -2,6 +2,7 @@
 
 ghost use Rattle.std.specs.Prelude.{◌≡◌, ◌+◌, ◌*◌, ◌<◌, ◌≤◌, List, Some, IfSome, length, slice_get, slice_index};
 ghost use Rattle.btf_raw.specs.Frames.{info_word};
+ghost use Rattle.btf_raw.specs.Frames as frames;
 ghost use Rattle.btf_types.specs.Values.{TypeRecord, head_value, item_value};
 ghost use Rattle.btf_types.specs.Good.{IsGood};
 ghost use Rattle.btf_types.specs.tables.TableWords.{record_at};
@@ -82,10 +83,21 @@ impl<'a> FileSections<'a> {
         requires info { info ≡ info_word (frame_of self.now pos) }
         ensures { BitFieldsAre (frame_of self.now pos) result }
     {
-        if !is_struct(kind_of(info)) || flag_of(info) == 0 {
+        self.has_widths(pos, kind_of(info), flag_of(info), vlen_of(info))
+    }
+
+    /// The same of a record of this kind, with this kind_flag and vlen.
+    pub(crate) fn has_widths(&self, pos: usize, kind: u8, kind_flag: u32, vlen: u16) -> bool
+        requires record { HasFrame self.now pos }
+        requires kind { kind ≡ frames.kind (frame_of self.now pos) }
+        requires kind_flag { kind_flag ≡ frames.flag (frame_of self.now pos) }
+        requires vlen { vlen ≡ frames.vlen (frame_of self.now pos) }
+        ensures { BitFieldsAre (frame_of self.now pos) result }
+    {
+        if !is_struct(kind) || kind_flag == 0 {
             return false;
         }
-        for k in 0..usize::from(vlen_of(info)) {
+        for k in 0..usize::from(vlen) {
             if self.word(pos, 5 + 3 * k) >> 24 != 0 {
                 return true;
             }

@@ -42,7 +42,7 @@ returns-in-MemberType c =
 pub returns-in-MemberPlace : goal.returns-in-MemberPlace
 returns-in-MemberPlace c =
     judged roles.MemberPlace c.member_place_fault.result c.requires.this c.requires.there c.word-word.ensures
-    c.in-MemberPlace.ensures.is c.in-MemberPlace.ensures.each (place_judged c.args.this.now.third c.args.this.now.flag c.word-word.result _ _ c.member_place_fault.result c.bit_offset_of.ensures c.width_of.ensures c.member_place_fault.ensures)
+    c.in-MemberPlace.ensures.is c.in-MemberPlace.ensures.each (place_judged c.args.this.now.header.size_or_type c.args.this.now.header.kind_flag c.word-word.result _ _ c.member_place_fault.result c.bit_offset_of.ensures c.width_of.ensures c.member_place_fault.ensures)
 
 pub returns-in-Free : goal.returns-in-Free
 returns-in-Free c =

@@ -4,7 +4,7 @@ use Rattle.btf_raw.specs.Frames.{kind, vlen, flag}
 use Rattle.btf_raw.specs.Kinds.{is_struct}
 use Rattle.btf_types.specs.Reading.{frame_at}
 use Rattle.btf_types.proofs.JudgeLemmas.BitSteps.{member_there, some_width, no_width}
-use Rattle.btf_types.proofs.tables.table.FileSections.has_bit_fields.Goals as goal
+use Rattle.btf_types.proofs.tables.table.FileSections.has_widths.Goals as goal
 
 pub word-requires-clause-there : goal.word-requires-clause-there
 word-requires-clause-there c =

@@ -1,0 +1,12 @@
+-- The fields of the three words that each record begins with (btf.rst section 2.2). Contracts of private functions cite them.
+use Rattle.std.specs.Prelude.{◌≡◌, ℕ, List}
+use Rattle.btf_raw.specs.Frames.{name_word, third_word, kind, vlen, flag}
+use Rattle.btf_types.specs.declared.record_header.RecordHeader.{RecordHeader}
+
+-- these are the fields of the frame's header
+pub record HeaderIs (frame : List ℕ) (header : RecordHeader) : Type 0 where
+  pub name_off_is : header.name_off ≡ name_word frame
+  pub kind_is : header.kind ≡ kind frame
+  pub vlen_is : header.vlen ≡ vlen frame
+  pub kind_flag_is : header.kind_flag ≡ flag frame
+  pub size_or_type_is : header.size_or_type ≡ third_word frame
