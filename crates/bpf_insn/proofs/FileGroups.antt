@@ -1,12 +1,12 @@
 -- One step of finding the groups of a file.
-use Rattle.std.proofs.Common.{◌≡◌, ◌↔◌, ℕ, ◌+◌, ◌-◌, ◌<◌, ◌≤◌, List, [], ◌∷◌, ◌++◌, length, drop, ◌⊎◌, IsTrue, All, refl, arith}
+use Rattle.std.proofs.Common.{Bool, ◌≡◌, ◌↔◌, ℕ, ◌+◌, ◌-◌, ◌<◌, ◌≤◌, List, [], ◌∷◌, ◌++◌, length, drop, IsTrue, All, refl, arith}
 use Rattle.std.proofs.lemmas.List.Elements.{All-nil}
 use Rattle.bpf_words.specs.declared.Order.{Order}
 use Rattle.bpf_insn.specs.Table.{IsInsn}
-use Rattle.bpf_insn.specs.Spelling.{spelling, file_of}
+use Rattle.bpf_insn.specs.Spelling.{file_of}
 use Rattle.bpf_insn.specs.Faults.{IsInsnFault}
-use Rattle.bpf_insn.specs.FileSteps.{BeginsAt, IsFaultAt}
-use Rattle.bpf_insn.specs.Groups.{AreGroupsOf, Brings, InGroups, group_of, holds}
+use Rattle.bpf_insn.specs.FileSteps.{AddsInsnAt, AreSettled, IsFaultAt}
+use Rattle.bpf_insn.specs.Groups.{AreGroupsOf, InGroups, holds}
 use Rattle.bpf_insn.proofs.DecodeLemmas as one
 use Rattle.bpf_insn.proofs.GroupLemmas.{one_group_more}
 use Rattle.bpf_insn.specs.declared.fault.SlotFault.{SlotFault}
@@ -24,6 +24,11 @@ pub record HasGroups (order : Order) (bytes : List ℕ) (at : ℕ) (set : GroupS
   pub kept : Kept order bytes insns at
   pub groups : (g : Group) → IsTrue (holds set g) ↔ InGroups insns g
 
+-- and the marked opcodes are settled
+pub record HasSettledGroups (order : Order) (bytes : List ℕ) (at : ℕ) (marks : List Bool) (set : GroupSet) : Type 0 where
+  pub groups : HasGroups order bytes at set
+  pub settled : AreSettled marks set
+
 pub at_start : (order : Order) (bytes : List ℕ) (set : GroupSet) → ((g : Group) → ¬ IsTrue (holds set g)) → HasGroups order bytes 0 set
 at_start order bytes set none = record {
   insns = [];
@@ -31,18 +36,17 @@ at_start order bytes set none = record {
   groups = λ g. (λ t. absurd (none g t), λ a. absurd (omega (arith, a.2)));
 }
 
-pub step : (order : Order) (bytes : List ℕ) (at : ℕ) (before after : GroupSet) (i : Insn) (len : ℕ) → HasGroups order bytes at before
-    → BeginsAt order bytes at i × (len ≡ length (spelling order i)) → ((g : Group) → IsTrue (holds after g) ↔ (IsTrue (holds before g) ⊎ Brings (group_of i) g))
+pub step : (order : Order) (bytes : List ℕ) (at : ℕ) (before after : GroupSet) (len : ℕ) → HasGroups order bytes at before → AddsInsnAt order bytes at before after len
     → HasGroups order bytes (at + len) after
-step order bytes at before after i len h found more = record {
-  insns = h.insns ++ i ∷ [];
-  kept = one.step order bytes h.insns at h.kept i len found;
-  groups = λ g. one_group_more (holds before g) (holds after g) h.insns i g (h.groups g) (more g);
+step order bytes at before after len h more = record {
+  insns = h.insns ++ more.0 ∷ [];
+  kept = one.step order bytes h.insns at h.kept more.0 len (more.1, more.2);
+  groups = λ g. one_group_more (holds before g) (holds after g) h.insns more.0 g (h.groups g) (more.3 g);
 }
 
-pub moved_on : (order : Order) (bytes : List ℕ) (at : ℕ) (set : GroupSet) (i : Insn) (len : ℕ) → HasGroups order bytes at set
-    → BeginsAt order bytes at i × (len ≡ length (spelling order i)) → length bytes - (at + len) < length bytes - at
-moved_on order bytes at set i len h found = one.moved_on order bytes h.insns at h.kept i len found
+pub moved_on : (order : Order) (bytes : List ℕ) (at : ℕ) (before after : GroupSet) (len : ℕ) → HasGroups order bytes at before → AddsInsnAt order bytes at before after len
+    → length bytes - (at + len) < length bytes - at
+moved_on order bytes at before after len h more = one.moved_on order bytes h.insns at h.kept more.0 len (more.1, more.2)
 
 pub fault_here : (order : Order) (bytes : List ℕ) (at : ℕ) (set : GroupSet) (fault : SlotFault) → HasGroups order bytes at set → at < length bytes
     → IsFaultAt order bytes at fault → IsInsnFault order bytes fault

@@ -1,10 +1,16 @@
--- What an instruction file has at a place: an instruction or a fault.
+-- What an instruction file has at a place: an instruction, whose group is added to a set, or a fault.
 -- No contract of a public function cites this file.
-use Rattle.std.specs.Prelude.{◌≡◌, ℕ, ◌+◌, List, length, slice_range}
+use Rattle.std.specs.Prelude.{◌≡◌, ◌↔◌, ◌⊎◌, ℕ, ◌+◌, Bool, true, false, List, length, slice_range, slice_index_or, IsTrue}
 use Rattle.bpf_words.specs.declared.Order.{Order}
 use Rattle.bpf_insn.specs.declared.insn.Insn.{Insn}
 use Rattle.bpf_insn.specs.declared.fault.SlotFault.{SlotFault}
+use Rattle.bpf_insn.specs.declared.insn.Insn.TheVariants.{Swap}
+use Rattle.bpf_insn.specs.declared.group.Group.{Group}
+use Rattle.bpf_insn.specs.declared.group.GroupSet.{GroupSet}
+use Rattle.bpf_insn.specs.Table.{fields_of}
+use Rattle.bpf_insn.specs.Spelling.{spelling}
 use Rattle.bpf_insn.specs.Faults.{BeginsWith, IsSlotFault}
+use Rattle.bpf_insn.specs.Groups.{Brings, group_of, holds}
 
 -- the bytes from a place on begin with the spelling of an instruction
 abbrev pub BeginsAt : Order → List ℕ → ℕ → Insn → Type 0
@@ -14,3 +20,19 @@ BeginsAt order bytes at i = BeginsWith order i (slice_range bytes at (length byt
 abbrev pub IsFaultAt : Order → List ℕ → ℕ → SlotFault → Type 0
 IsFaultAt order bytes at fault =
     (slot : SlotFault) × IsSlotFault order (slice_range bytes at (length bytes)) slot × (fault ≡ record { pos = at + slot.pos; cause = slot.cause })
+
+-- the second set has the groups of the first, and those of the instruction of this length at a place
+abbrev pub AddsInsnAt : Order → List ℕ → ℕ → GroupSet → GroupSet → ℕ → Type 0
+AddsInsnAt order bytes at before after len =
+    (i : Insn) × BeginsAt order bytes at i × (len ≡ length (spelling order i))
+    × ((g : Group) → IsTrue (holds after g) ↔ (IsTrue (holds before g) ⊎ Brings (group_of i) g))
+
+-- the opcode alone determines the group; that of a byte swap depends on the immediate too
+abbrev pub opcode_has_group : Insn → Bool
+opcode_has_group (Swap kind bits dst) = false
+opcode_has_group _ = true
+
+-- of the marked opcodes, a set has the groups of all instructions
+abbrev pub AreSettled : List Bool → GroupSet → Type 0
+AreSettled marks set =
+    (i : Insn) (g : Group) → IsTrue (slice_index_or marks (fields_of i).opcode false) → Brings (group_of i) g → IsTrue (holds set g)

@@ -1,13 +1,92 @@
 //! The conformance groups of a file, without a list of its instructions.
+//!
+//! An opcode alone determines the group of an instruction, but for byte swaps, whose group depends on
+//! the immediate too (RFC 9669 section 2.4). So an instruction whose opcode is settled is judged
+//! without making its value.
 
-ghost use Rattle.std.specs.Prelude.{List, IfErr, IfOk, IsOk};
+ghost use Rattle.std.specs.Prelude.{◌≡◌, ◌<◌, ◌≤◌, ◌↔◌, ◌⊎◌, List, length, slice_index, IfErr, IfOk, IsOk, IsTrue};
+ghost use Rattle.bpf_insn.specs.declared.group.Group.{Group};
 ghost use Rattle.bpf_insn.specs.declared.insn.Insn.{Insn};
-ghost use Rattle.bpf_insn.specs.Spelling.{InsnFile};
+ghost use Rattle.bpf_insn.specs.Table.{fields_of};
+ghost use Rattle.bpf_insn.specs.Spelling.{InsnFile, spelling};
 ghost use Rattle.bpf_insn.specs.Faults.{IsInsnFault};
-ghost use Rattle.bpf_insn.specs.Groups.{AreGroupsOf};
+ghost use Rattle.bpf_insn.specs.FileSteps.{AddsInsnAt, AreSettled, BeginsAt, IsFaultAt, opcode_has_group};
+ghost use Rattle.bpf_insn.specs.Groups.{AreGroupsOf, Brings, group_of, holds};
 
-use crate::decode::read_at;
-use crate::{GroupSet, Order, SlotFault, group_of};
+use crate::decode::{len_at, read_at};
+use crate::{GroupSet, Insn, Order, SlotFault, group_of};
+
+/// Whether all instructions with the opcode of this one are in its group. Only the group of a byte swap
+/// depends on the immediate too.
+fn opcode_has_group(insn: Insn) -> bool
+    ensures { result ≡ opcode_has_group insn }
+{
+    match insn {
+        Insn::Swap { .. } => false,
+        _ => true,
+    }
+}
+
+/// The groups that were found, and which opcodes are settled: they have one group, and the set has it.
+#[derive(Drop)]
+struct FoundGroups {
+    set: GroupSet,
+    settled: [bool; 256],
+}
+
+impl FoundGroups {
+    /// No group, and no settled opcode.
+    fn none() -> FoundGroups
+        ensures set { (g : Group) → ¬ IsTrue (holds result.set g) }
+        ensures settled { AreSettled result.settled result.set }
+    {
+        FoundGroups {
+            set: GroupSet::empty(),
+            settled: [false; 256],
+        }
+    }
+
+    /// Adds the group of an instruction with this opcode.
+    fn add(&mut self, opcode: u8, insn: Insn)
+        requires opcode { opcode ≡ (fields_of insn).opcode }
+        requires settled { AreSettled self.old.settled self.old.set }
+        ensures added { (g : Group) → IsTrue (holds self.new.set g) ↔ (IsTrue (holds self.old.set g) ⊎ Brings (group_of insn) g) }
+        ensures settled { AreSettled self.new.settled self.new.set }
+    {
+        self.set.add(group_of(insn));
+        self.settled[opcode as usize] = opcode_has_group(insn);
+    }
+
+    /// Adds the group of the instruction at a place of a file by reading it, and returns its length.
+    #[inline(never)]
+    fn read_at(&mut self, order: Order, bytes: &[u8], pos: usize) -> Result<usize, SlotFault>
+        requires pos { pos < length bytes.now }
+        requires settled { AreSettled self.old.settled self.old.set }
+        ensures found { IfOk result (λ len. AddsInsnAt order bytes.now pos self.old.set self.new.set len) }
+        ensures settled { AreSettled self.new.settled self.new.set }
+        ensures fault { IfErr result (IsFaultAt order bytes.now pos) }
+    {
+        let (insn, len) = read_at(order, bytes, pos)?;
+        self.add(bytes[pos], insn);
+        Ok(len)
+    }
+
+    /// Adds the group of the instruction at a place of a file, and returns its length.
+    #[inline(always)]
+    fn add_at(&mut self, order: Order, bytes: &[u8], pos: usize) -> Result<usize, SlotFault>
+        requires pos { pos < length bytes.now }
+        requires settled { AreSettled self.old.settled self.old.set }
+        ensures found { IfOk result (λ len. AddsInsnAt order bytes.now pos self.old.set self.new.set len) }
+        ensures settled { AreSettled self.new.settled self.new.set }
+        ensures fault { IfErr result (IsFaultAt order bytes.now pos) }
+    {
+        if self.settled[bytes[pos] as usize] {
+            len_at(order, bytes, pos)
+        } else {
+            self.read_at(order, bytes, pos)
+        }
+    }
+}
 
 /// The conformance groups of an instruction file (RFC 9669 section 2.4), as [`groups_of`] gives them
 /// for its instructions. It takes no memory.
@@ -23,12 +102,10 @@ pub fn groups_in(order: Order, bytes: &[u8]) -> Result<GroupSet, SlotFault>
     ensures all { (l : List Insn) → InsnFile order bytes.now l → IsOk result }
     ensures fault { IfErr result (IsInsnFault order bytes.now) }
 {
-    let mut set = GroupSet::empty();
+    let mut found = FoundGroups::none();
     let mut pos = 0;
     while pos < bytes.len() {
-        let (insn, len) = read_at(order, bytes, pos)?;
-        set.add(group_of(insn));
-        pos += len;
+        pos += found.add_at(order, bytes, pos)?;
     }
-    Ok(set)
+    Ok(found.set)
 }
