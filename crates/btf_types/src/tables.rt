@@ -1,5 +1,6 @@
 //! Both tables of types, and what they keep.
 
+pub(crate) mod keeps_sections;
 pub(crate) mod owned;
 pub(crate) mod places;
 pub(crate) mod records;

@@ -7,6 +7,7 @@ ghost use Rattle.btf_types.specs.tables.Tables.{Fails};
 ghost use Rattle.btf_types.specs.tables.TableWords.{numbered};
 
 use crate::error::BtfError;
+use crate::tables::keeps_sections::KeepsSections;
 use crate::tables::places::Places;
 use crate::tables::records::Records;
 use crate::tables::section_table::SectionTable;
@@ -71,13 +72,6 @@ impl<A: Allocator + Clone> Btf<A> {
 }
 
 impl<A: Allocator> Btf<A> {
-    /// The table in the kept sections.
-    fn table(&self) -> SectionTable<'_>
-        ensures { result ≡ self.now }
-    {
-        SectionTable::new(self.order, &self.types, &self.strings, &self.places)
-    }
-
     /// The heads of the records with their numbers, from 1 to [`TypeTable::count`], in order.
     pub fn records(&self) -> Records<'_>
         ensures { result ≡ numbered 1 self.now }
@@ -86,29 +80,10 @@ impl<A: Allocator> Btf<A> {
     }
 }
 
-impl<A: Allocator> TypeTable for Btf<A> {
-    ghost meaning = { λ t. t };
+impl<A: Allocator> KeepsSections for Btf<A> {
+    ghost kept = { λ t. t };
 
-    fn count(&self) -> u32 {
-        self.table().count()
-    }
-
-    fn head(&self, id: u32) -> Head<'_> {
-        self.table().head(id)
-    }
-
-    fn item_count(&self, id: u32) -> u32 {
-        self.table().item_count(id)
-    }
-
-    fn item(&self, id: u32, k: u32) -> Item<'_> {
-        self.table().item(id, k)
-    }
-
-    fn sections(&self) -> Option<FileSections<'_>>
-        ensures kept { IsSome result }
-        ensures sections { IfSome result (λ s. AreSections self.now s.order s.types.now s.strings.now s.places.now) }
-    {
-        Some(self.table().sections())
+    fn table(&self) -> SectionTable<'_> {
+        SectionTable::new(self.order, &self.types, &self.strings, &self.places)
     }
 }

@@ -10,6 +10,7 @@ use crate::error::BtfError;
 use crate::judge::phases::{
     header_of, judge_fields, judge_framing, judge_strings, strings_in, types_in,
 };
+use crate::tables::keeps_sections::KeepsSections;
 use crate::tables::places::Places;
 use crate::tables::records::Records;
 use crate::tables::section_table::SectionTable;
@@ -66,13 +67,6 @@ impl<'a, A: Allocator> BtfView<'a, A> {
         })
     }
 
-    /// The table in the kept sections.
-    fn table(&self) -> SectionTable<'_>
-        ensures { result ≡ self.now }
-    {
-        SectionTable::new(self.order, self.types, self.strings, &self.places)
-    }
-
     /// The heads of the records with their numbers, from 1 to [`TypeTable::count`], in order.
     pub fn records(&self) -> Records<'_>
         ensures { result ≡ numbered 1 self.now }
@@ -81,29 +75,10 @@ impl<'a, A: Allocator> BtfView<'a, A> {
     }
 }
 
-impl<'a, A: Allocator> TypeTable for BtfView<'a, A> {
-    ghost meaning = { λ t. t };
+impl<'a, A: Allocator> KeepsSections for BtfView<'a, A> {
+    ghost kept = { λ t. t };
 
-    fn count(&self) -> u32 {
-        self.table().count()
-    }
-
-    fn head(&self, id: u32) -> Head<'_> {
-        self.table().head(id)
-    }
-
-    fn item_count(&self, id: u32) -> u32 {
-        self.table().item_count(id)
-    }
-
-    fn item(&self, id: u32, k: u32) -> Item<'_> {
-        self.table().item(id, k)
-    }
-
-    fn sections(&self) -> Option<FileSections<'_>>
-        ensures kept { IsSome result }
-        ensures sections { IfSome result (λ s. AreSections self.now s.order s.types.now s.strings.now s.places.now) }
-    {
-        Some(self.table().sections())
+    fn table(&self) -> SectionTable<'_> {
+        SectionTable::new(self.order, self.types, self.strings, &self.places)
     }
 }
