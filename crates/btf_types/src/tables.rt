@@ -1,9 +1,11 @@
 //! Both tables of types, and what they keep.
 
+pub(crate) mod keeps_sections;
 pub(crate) mod owned;
 pub(crate) mod places;
 pub(crate) mod records;
 pub(crate) mod section;
+pub(crate) mod section_table;
 pub(crate) mod string_ends;
 pub(crate) mod table;
 pub(crate) mod view;

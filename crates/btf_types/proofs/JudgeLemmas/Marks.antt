@@ -18,7 +18,7 @@ pub record AreMarksFrom (s : List ℕ) (at next : ℕ) (rest : Bool) (marks : Li
   pub between : (i : ℕ) → at ≤ i → i < next → 128 ≤ slice_index s i
   pub rest_is : (text : List ℕ) → TextAt s next text → (rest ≡ true) ↔ IsUtf8 text
   pub right : (o : ℕ) (text : List ℕ) → at ≤ o → TextAt s o text → (get_or marks o false ≡ true) ↔ IsUtf8 text
-  pub before : (o : ℕ) → o < at → get_or marks o false ≡ false
+  pub none_below : (o : ℕ) → o < at → get_or marks o false ≡ false
 
 -- one more mark, where a character may begin
 pub char_marked : (s : List ℕ) (n next : ℕ) (rest mark : Bool) (marks : List Bool) → AreMarksFrom s n next rest marks → 0 < n → BeginsChar (slice_index s (n - 1))
@@ -39,7 +39,7 @@ char_marked s n next rest mark marks so some begins known =
         | inl same ↦ rw (same, get_or-set_same marks (n - 1) mark false here) (known text (rw same at t))
         | inr other ↦ rw (get_or-set_other marks (n - 1) o mark false other) (so.right o text (omega (arith, other)) t)
       ];
-      before = λ o below. rw (get_or-set_other marks (n - 1) o mark false (λ e. absurd (omega arith))) (so.before o (omega arith));
+      none_below = λ o below. rw (get_or-set_other marks (n - 1) o mark false (λ e. absurd (omega arith))) (so.none_below o (omega arith));
     }
 
 -- and where none may begin
@@ -70,11 +70,11 @@ no_char_marked s n next rest marks ends so some goes_on =
       rest_is = so.rest_is;
       right = λ o text past t. elim (cases_eq o (n - 1)) [
         | inl same ↦
-            let none : get_or marks o false ≡ false = so.before o (omega arith) in
+            let none : get_or marks o false ≡ false = so.none_below o (omega arith) in
             rw none (λ e. absurd cc, λ utf8. absurd (goes_on (begins_with_char s (n - 1) text (rw same at t) utf8)))
         | inr other ↦ so.right o text (omega (arith, other)) t
       ];
-      before = λ o below. so.before o (omega arith);
+      none_below = λ o below. so.none_below o (omega arith);
     }
 
 pub all_marked : (s : List ℕ) (next : ℕ) (rest : Bool) (marks : List Bool) → AreMarksFrom s 0 next rest marks → AreMarks s marks

@@ -65,7 +65,7 @@ frames_have_none o types frames p c framed fault =
 
 pub framing_judged : (b : List ℕ) (h : Header) (places : List ℕ) → HasStrings b h → IsFramed h.order (types_of b h) places → HasFrames b h places
 framing_judged b h places has framed = record {
-  before = has;
+  has_strings = has;
   framed = framed;
   none = λ p c fault.
       let same = same_cut b h fault.order fault.types fault.strings has.header fault.cut in
@@ -106,12 +106,12 @@ same_frames o types fs gs one other =
 pub first_fields_fault : (b : List ℕ) (h : Header) (places : List ℕ) (p q : ℕ) (c : BtfCause) → HasFrames b h places
     → LeastByPlace (FieldFault (strings_of b h) (frames_at h.order (types_of b h) places)) q c → p ≡ h.types_pos + q → LeastByPlace (FieldsFault b) p c
 first_fields_fault b h places p q c has least is =
-    let reads = has.before.header.reads in
+    let reads = has.has_strings.header.reads in
     let frames = frames_at h.order (types_of b h) places in
     record {
       holds = record {
-        header = has.before.header.none;
-        ends = has.before.none;
+        header = has.has_strings.header.none;
+        ends = has.has_strings.none;
         framing = has.none;
         order = h.order;
         types = types_of b h;
@@ -124,7 +124,7 @@ first_fields_fault b h places p q c has least is =
         place_is = is ∙ ap (λ (k : ℕ). k + q) reads.types_pos;
       };
       least = λ r d other.
-          let same = same_cut b h other.order other.types other.strings has.before.header other.cut in
+          let same = same_cut b h other.order other.types other.strings has.has_strings.header other.cut in
           let framed = subst (λ (o : Order). Frames o (types_of b h) other.frames) same.order (subst (λ (t : List ℕ). Frames other.order t other.frames) same.types other.framed) in
           let these = same_frames h.order (types_of b h) other.frames frames framed has.framed.frames in
           let fault = subst (λ (f : List (List ℕ)). FieldFault (strings_of b h) f other.offset d) these (subst (λ (s : List ℕ). FieldFault s other.frames other.offset d) same.strings other.fault) in

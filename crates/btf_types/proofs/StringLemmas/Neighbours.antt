@@ -14,8 +14,8 @@ use Rattle.btf_types.proofs.StringLemmas.Distinct.{NoRepeats, apart_after}
 
 module _ (ks sorted : List (List ℕ)) (distinct : NoRepeats ks) (perm : IsPermutation ks sorted) (in_order : IsSorted tail_cmp sorted) where
   -- where a kept name is among the sorted ones
-  place_of : (z d : List ℕ) → Has ks z → (j : ℕ) × (j < length sorted) × (get_or sorted j d ≡ z)
-  place_of z d h =
+  sorted_rank : (z d : List ℕ) → Has ks z → (j : ℕ) × (j < length sorted) × (get_or sorted j d ≡ z)
+  sorted_rank z d h =
       let c = Contains-permutation ks sorted z perm (Contains-from_Has ks z h) in
       (c.0, c.1, get_or_default sorted c.0 d z c.1 ∙ c.2)
 
@@ -32,7 +32,7 @@ module _ (ks sorted : List (List ℕ)) (distinct : NoRepeats ks) (perm : IsPermu
   -- a text that some text has as a proper suffix is a proper suffix of the next
   pub next_ends : (k : ℕ) (d z : List ℕ) → k < length sorted → Has ks z → is_proper_suffix (get_or sorted k d) z ≡ true → (k + 1 < length sorted) × (is_proper_suffix (get_or sorted k d) (get_or sorted (k + 1) d) ≡ true)
   next_ends k d z inside has proper =
-      let at = place_of z d has in
+      let at = sorted_rank z d has in
       let x = get_or sorted k d in
       let e = Ends-from_proper x z proper in
       let at_z : Ends x (get_or sorted at.0 d) = subst (Ends x) (sym at.2) e.0 in
@@ -52,7 +52,7 @@ module _ (ks sorted : List (List ℕ)) (distinct : NoRepeats ks) (perm : IsPermu
       let h = host_in (hosts_of ks) x in
       let g = host_in (hosts_of ks) w in
       let xw = Ends-from_proper x w proper in
-      let at = place_of h d (host_member ks h mine.host) in
+      let at = sorted_rank h d (host_member ks h mine.host) in
       let other : x ≢ h = λ q. host_ends_none ks h w mine.host has_w (subst (λ (t : List ℕ). is_proper_suffix t w ≡ true) q proper) in
       let at_h : Ends x (get_or sorted at.0 d) = subst (Ends x) (sym at.2) mine.ends in
       let longer : length x < length h = (Ends-from_proper x h (proper_from_Ends x h mine.ends other)).1 in

@@ -54,10 +54,10 @@ cons_text b x n o zero h = n
 cons_text b x n o (suc i) h = o i (omega (arith, h))
 
 before_last : (b : ℕ) (s : List ℕ) → b ≢ 0 → Cut s → Cut (b ∷ s)
-before_last b s n c = before c.strings c.last c.all c.last_all c.whole where
-  before : (ss : List (List ℕ)) (last : List ℕ) → All IsWithoutNul ss → IsWithoutNul last → s ≡ texts ss ++ last → Cut (b ∷ s)
-  before [] last all last_all whole = record { strings = []; last = b ∷ last; all = all; last_all = cons_text b last n last_all; whole = ap (λ (t : List ℕ). b ∷ t) whole }
-  before (t ∷ ss) last all last_all whole = record {
+before_last b s n c = cut_from c.strings c.last c.all c.last_all c.whole where
+  cut_from : (ss : List (List ℕ)) (last : List ℕ) → All IsWithoutNul ss → IsWithoutNul last → s ≡ texts ss ++ last → Cut (b ∷ s)
+  cut_from [] last all last_all whole = record { strings = []; last = b ∷ last; all = all; last_all = cons_text b last n last_all; whole = ap (λ (t : List ℕ). b ∷ t) whole }
+  cut_from (t ∷ ss) last all last_all whole = record {
     strings = (b ∷ t) ∷ ss;
     last = last;
     all = All-cons IsWithoutNul (b ∷ t) ss (cons_text b t n (All-head IsWithoutNul t ss all)) (All-tail IsWithoutNul t ss all);

@@ -33,8 +33,8 @@ table_denotes b h places has right =
       types = types_of b h;
       strings = strings_of b h;
       spellings = map (bytes_of h.order) frames;
-      cut = has.before.header.reads.cut;
-      nul_ends = has.before.ends;
+      cut = has.has_strings.header.reads.cut;
+      nul_ends = has.has_strings.ends;
       spelled = spelled_bytes h.order (strings_of b h) (records_at h.order (types_of b h) (strings_of b h) places) frames right.spelled;
       whole = has.framed.frames.whole ∙ sym (concat-map h.order frames);
       good = right.good;
@@ -50,9 +50,9 @@ fails_fields b errors.Memory least = tt
 
 pub is_table : (b : List ℕ) (h : Header) (places : List ℕ) → HasFrames b h places → FieldsAreRight h.order (types_of b h) (strings_of b h) places → IsTable h.order (types_of b h) (strings_of b h) places
 is_table b h places has right = record {
-  few = omega (arith, has.framed.count, has.before.header.reads.cut.types_fit);
-  short = has.before.header.reads.cut.strings_fit;
-  ends = has.before.ends;
+  few = omega (arith, has.framed.count, has.has_strings.header.reads.cut.types_fit);
+  short = has.has_strings.header.reads.cut.strings_fit;
+  ends = has.has_strings.ends;
   framed = has.framed;
   none = right.none;
   spelled = right.spelled;

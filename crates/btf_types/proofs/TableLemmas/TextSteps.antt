@@ -12,7 +12,7 @@ use Rattle.btf_types.specs.Reading.{before_nul, text_from}
 record FirstNul (xs : List ℕ) : Type 0 where
   rest : List ℕ
   parts : xs ≡ before_nul xs ++ 0 ∷ rest
-  before : IsWithoutNul (before_nul xs)
+  no_nul : IsWithoutNul (before_nul xs)
 
 after_first : (x : ℕ) (text : List ℕ) → IsWithoutNul text → IsWithoutNul (suc x ∷ text)
 after_first x text h zero lt e = absurd (omega arith)
@@ -20,14 +20,14 @@ after_first x text h (suc i) lt e = h i (omega arith) e
 
 first_nul : (xs : List ℕ) (k : ℕ) → k < length xs → get_or xs k 0 ≡ 0 → FirstNul xs
 first_nul [] k h e = absurd (omega arith)
-first_nul (zero ∷ xs) k h e = record { rest = xs; parts = refl; before = λ i lt. absurd (omega arith) }
+first_nul (zero ∷ xs) k h e = record { rest = xs; parts = refl; no_nul = λ i lt. absurd (omega arith) }
 first_nul (suc x ∷ xs) zero h e = absurd (omega arith)
 first_nul (suc x ∷ xs) (suc k) h e =
     let more = first_nul xs k (omega arith) e in
     record {
       rest = more.rest;
       parts = ap (λ (t : List ℕ). suc x ∷ t) more.parts;
-      before = after_first x (before_nul xs) more.before;
+      no_nul = after_first x (before_nul xs) more.no_nul;
     }
 
 pub text_there : (strings : List ℕ) (offset : ℕ) → HasNulEnds strings → offset < length strings → TextAt strings offset (text_from strings offset)
@@ -36,7 +36,7 @@ text_there strings offset ends h =
     get_or-drop offset strings (length strings - 1 - offset) 0 ∙ subst (λ (i : ℕ). get_or strings i 0 ≡ 0) (omega arith) ends.last in
     let nul = first_nul (drop offset strings) (length strings - 1 - offset) (omega (arith, length-drop offset strings)) last in
     record {
-      without_nul = nul.before;
+      without_nul = nul.no_nul;
       before = take offset strings;
       after = nul.rest;
       place = length-take-le offset strings (omega arith);

@@ -23,6 +23,6 @@ pub record HasStrings (b : List ℕ) (h : Header) : Type 0 where
   pub none : HasNone (StringsFault b)
 
 pub record HasFrames (b : List ℕ) (h : Header) (places : List ℕ) : Type 0 where
-  pub before : HasStrings b h
+  pub has_strings : HasStrings b h
   pub framed : IsFramed h.order (types_of b h) places
   pub none : HasNone (FramesFault b)

@@ -1,14 +1,12 @@
 -- When a section with the places of its records is a table.
-use Rattle.std.specs.Prelude.{◌≡◌, ℕ, ◌+◌, ◌^◌, ◌<◌, ◌≤◌, List, length, take, drop, slice_index}
+use Rattle.std.specs.Prelude.{◌≡◌, ℕ, ◌^◌, ◌<◌, ◌≤◌, List, length, take, slice_index}
 use Rattle.std.specs.List.{All, AllZip}
 use Rattle.bpf_words.specs.declared.Order.{Order}
 use Rattle.btf_raw.specs.Header.{HasNulEnds, STRINGS_LIMIT}
 use Rattle.btf_raw.specs.Frames.{Frames, IsFrame, section_of}
-use Rattle.btf_types.specs.Values.{TypeHead}
 use Rattle.btf_types.specs.Spelling.{Spells}
 use Rattle.btf_raw.specs.Cause.{HasNone}
 use Rattle.btf_types.specs.judge.FieldFaults.{FieldFault}
-use Rattle.btf_types.specs.tables.TableWords.{numbered}
 use Rattle.btf_types.specs.Good.{IsGood}
 use Rattle.btf_types.specs.Reading.{frames_at, records_at}
 
@@ -41,11 +39,3 @@ pub record FieldsAreRight (o : Order) (types strings places : List ℕ) : Type 0
   pub none : HasNone (FieldFault strings (frames_at o types places))
   pub spelled : AllZip (Spells strings) (records_at o types strings places) (frames_at o types places)
   pub good : IsGood (records_at o types strings places)
-
--- This number of records of a table was given, and these are left.
-pub record IsPartGiven (o : Order) (types strings places : List ℕ) (given : ℕ) : Type 0 where
-  pub table : IsTable o types strings places
-  pub inside : given ≤ length places
-
-abbrev pub records_left : Order → List ℕ → List ℕ → List ℕ → ℕ → List (ℕ × TypeHead)
-records_left o types strings places given = numbered (given + 1) (drop given (records_at o types strings places))

@@ -2,7 +2,7 @@
 use Rattle.std.specs.Prelude.{ℕ, List}
 use Rattle.bpf_words.specs.declared.Order.{Order}
 use Rattle.btf_types.specs.tables.StringEnds.{AreLongEnds}
-use Rattle.btf_types.specs.tables.TableInvariant.{IsTable, IsPartGiven}
+use Rattle.btf_types.specs.tables.TableInvariant.{IsTable}
 
 -- the places of the records in the types, and the ends of the long strings
 pub record TablePlaces : Type 0 where
@@ -13,8 +13,3 @@ pub record TablePlaces : Type 0 where
 pub record IsPlacedTable (o : Order) (types strings : List ℕ) (places : TablePlaces) : Type 0 where
   pub table : IsTable o types strings places.records
   pub ends : AreLongEnds strings places.ends
-
--- this number of records of such a table was given
-pub record IsGivenTable (o : Order) (types strings places ends : List ℕ) (given : ℕ) : Type 0 where
-  pub part : IsPartGiven o types strings places given
-  pub long : AreLongEnds strings ends

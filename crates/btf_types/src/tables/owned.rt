@@ -1,15 +1,16 @@
 //! A table that owns its bytes.
 
-ghost use Rattle.std.specs.Prelude.{◌≡◌, IfSome, IsSome, length, MatchResult};
+ghost use Rattle.std.specs.Prelude.{◌≡◌, IfSome, IsSome, MatchResult};
 ghost use Rattle.btf_types.specs.Denotes.{Denotes};
 ghost use Rattle.btf_types.specs.tables.KeptSections.{AreSections};
 ghost use Rattle.btf_types.specs.tables.Tables.{Fails};
 ghost use Rattle.btf_types.specs.tables.TableWords.{numbered};
 
 use crate::error::BtfError;
-use crate::reading::{head_at, item_at, item_count_at};
+use crate::tables::keeps_sections::KeepsSections;
 use crate::tables::places::Places;
 use crate::tables::records::Records;
+use crate::tables::section_table::SectionTable;
 use crate::tables::table::{FileSections, TypeTable};
 use crate::tables::view::BtfView;
 use crate::values::{Head, Item};
@@ -75,59 +76,14 @@ impl<A: Allocator> Btf<A> {
     pub fn records(&self) -> Records<'_>
         ensures { result ≡ numbered 1 self.now }
     {
-        Records {
-            order: self.order,
-            types: &self.types,
-            strings: &self.strings,
-            places: self.places.records(),
-            ends: self.places.ends(),
-            given: 0,
-        }
+        self.table().records()
     }
 }
 
-impl<A: Allocator> TypeTable for Btf<A> {
-    ghost meaning = { λ t. t };
+impl<A: Allocator> KeepsSections for Btf<A> {
+    ghost kept = { λ t. t };
 
-    fn count(&self) -> u32 {
-        self.places.records().len() as u32
-    }
-
-    fn head(&self, id: u32) -> Head<'_> {
-        head_at(
-            self.order,
-            &self.types,
-            &self.strings,
-            self.places.ends(),
-            self.places.record(id),
-        )
-    }
-
-    fn item_count(&self, id: u32) -> u32 {
-        item_count_at(self.order, &self.types, self.places.record(id))
-    }
-
-    fn item(&self, id: u32, k: u32) -> Item<'_> {
-        item_at(
-            self.order,
-            &self.types,
-            &self.strings,
-            self.places.ends(),
-            self.places.record(id),
-            k as usize,
-        )
-    }
-
-    fn sections(&self) -> Option<FileSections<'_>>
-        ensures kept { IsSome result }
-        ensures sections { IfSome result (λ s. AreSections self.now s.order s.types.now s.strings.now s.places.now) }
-    {
-        let sections = FileSections {
-            order: self.order,
-            types: &self.types,
-            strings: &self.strings,
-            places: self.places.records(),
-        };
-        Some(sections)
+    fn table(&self) -> SectionTable<'_> {
+        SectionTable::new(self.order, &self.types, &self.strings, &self.places)
     }
 }

@@ -3,9 +3,8 @@
 ghost use Rattle.std.specs.Iterator.{YieldsFirstBy, item_count};
 ghost use Rattle.btf_types.specs.tables.TableWords.{numbered_value};
 
-use crate::reading::head_at;
+use crate::tables::section_table::SectionTable;
 use crate::values::Head;
-use bpf_words::Order;
 use std::marker::Model;
 
 /// The heads of a table's records with their numbers, in order, from [`crate::BtfView::records`] or [`crate::Btf::records`].
@@ -13,25 +12,21 @@ use std::marker::Model;
 /// After the last record it gives `None`, and goes on to do so. No step takes memory.
 #[derive(Drop)]
 pub struct Records<'a> {
-    pub(crate) order: Order,
-    pub(crate) types: &'a [u8],
-    pub(crate) strings: &'a [u8],
-    pub(crate) places: &'a [u32],
-    pub(crate) ends: &'a [u32],
+    pub(crate) table: SectionTable<'a>,
+    /// The number of records that were given.
     pub(crate) given: u32,
 }
 
 impl<'a> Model for Records<'a> {
-    ghost use Rattle.std.specs.Prelude.{ℕ, List};
+    ghost use Rattle.std.specs.Prelude.{ℕ, List, ◌≤◌, length};
     ghost use Rattle.btf_types.specs.Values.{TypeHead};
-    ghost use Rattle.btf_types.specs.tables.TableInvariant.{records_left};
-    ghost use Rattle.btf_types.specs.tables.TablePlaces.{IsGivenTable};
+    ghost use Rattle.btf_types.specs.tables.TableWords.{records_left};
 
     ghost Value = { List (ℕ × TypeHead) };
 
-    ghost view = { λ t. records_left t.order t.types.now t.strings.now t.places.now t.given };
+    ghost view = { λ t. records_left t.table t.given };
 
-    ghost invariant = { λ t. IsGivenTable t.order t.types.now t.strings.now t.places.now t.ends.now t.given };
+    ghost invariant = { λ t. t.given ≤ length t.table };
 }
 
 impl<'a> Iterator for Records<'a> {
@@ -42,17 +37,10 @@ impl<'a> Iterator for Records<'a> {
     ghost remaining = { item_count (λ left. left) };
 
     fn next(&mut self) -> Option<(u32, Head<'a>)> {
-        let pos = *self.places.get(self.given as usize)?;
+        if self.given == self.table.count() {
+            return None;
+        }
         self.given += 1;
-        Some((
-            self.given,
-            head_at(
-                self.order,
-                self.types,
-                self.strings,
-                self.ends,
-                pos as usize,
-            ),
-        ))
+        Some((self.given, self.table.head(self.given)))
     }
 }

@@ -1,6 +1,6 @@
 //! A table that lends its names from the file it was read from.
 
-ghost use Rattle.std.specs.Prelude.{◌≡◌, IfSome, IsSome, length, MatchResult};
+ghost use Rattle.std.specs.Prelude.{◌≡◌, IfSome, IsSome, MatchResult};
 ghost use Rattle.btf_types.specs.Denotes.{Denotes};
 ghost use Rattle.btf_types.specs.tables.KeptSections.{AreSections};
 ghost use Rattle.btf_types.specs.tables.Tables.{Fails};
@@ -10,9 +10,10 @@ use crate::error::BtfError;
 use crate::judge::phases::{
     header_of, judge_fields, judge_framing, judge_strings, strings_in, types_in,
 };
-use crate::reading::{head_at, item_at, item_count_at};
+use crate::tables::keeps_sections::KeepsSections;
 use crate::tables::places::Places;
 use crate::tables::records::Records;
+use crate::tables::section_table::SectionTable;
 use crate::tables::table::{FileSections, TypeTable};
 use crate::values::{Head, Item};
 use bpf_words::Order;
@@ -70,59 +71,14 @@ impl<'a, A: Allocator> BtfView<'a, A> {
     pub fn records(&self) -> Records<'_>
         ensures { result ≡ numbered 1 self.now }
     {
-        Records {
-            order: self.order,
-            types: self.types,
-            strings: self.strings,
-            places: self.places.records(),
-            ends: self.places.ends(),
-            given: 0,
-        }
+        self.table().records()
     }
 }
 
-impl<'a, A: Allocator> TypeTable for BtfView<'a, A> {
-    ghost meaning = { λ t. t };
+impl<'a, A: Allocator> KeepsSections for BtfView<'a, A> {
+    ghost kept = { λ t. t };
 
-    fn count(&self) -> u32 {
-        self.places.records().len() as u32
-    }
-
-    fn head(&self, id: u32) -> Head<'_> {
-        head_at(
-            self.order,
-            self.types,
-            self.strings,
-            self.places.ends(),
-            self.places.record(id),
-        )
-    }
-
-    fn item_count(&self, id: u32) -> u32 {
-        item_count_at(self.order, self.types, self.places.record(id))
-    }
-
-    fn item(&self, id: u32, k: u32) -> Item<'_> {
-        item_at(
-            self.order,
-            self.types,
-            self.strings,
-            self.places.ends(),
-            self.places.record(id),
-            k as usize,
-        )
-    }
-
-    fn sections(&self) -> Option<FileSections<'_>>
-        ensures kept { IsSome result }
-        ensures sections { IfSome result (λ s. AreSections self.now s.order s.types.now s.strings.now s.places.now) }
-    {
-        let sections = FileSections {
-            order: self.order,
-            types: self.types,
-            strings: self.strings,
-            places: self.places.records(),
-        };
-        Some(sections)
+    fn table(&self) -> SectionTable<'_> {
+        SectionTable::new(self.order, self.types, self.strings, &self.places)
     }
 }

@@ -7,7 +7,7 @@ pub moved-requires : goal.moved-requires
 moved-requires c =
     let low = fault_inside c.section_in.result c.section_in.ensures.is c.in-Some.fault.pos c.in-Some.fault.cause c.in-Some.ensures.holds in
     let few = c.section_in.ensures.is.few in
-    let there = c.requires.frames.before.header.reads.types_there in
+    let there = c.requires.frames.has_strings.header.reads.types_there in
     omega arith
 
 pub returns-in-Some : goal.returns-in-Some

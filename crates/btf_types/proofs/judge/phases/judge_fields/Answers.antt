@@ -6,5 +6,5 @@ pub returns : goal.returns
 returns g c =
     let b = c.args.bytes.now in
     let h = c.args.header in
-    let cut = c.requires.before.header.reads.cut in
-    fields_are_right h.order (types_of b h) (strings_of b h) c.args.places.now c.requires.framed c.requires.before.ends cut.strings_fit cut.types_fit c.in-None.ensures
+    let cut = c.requires.has_strings.header.reads.cut in
+    fields_are_right h.order (types_of b h) (strings_of b h) c.args.places.now c.requires.framed c.requires.has_strings.ends cut.strings_fit cut.types_fit c.in-None.ensures

@@ -33,7 +33,7 @@ invariant_of-result g c =
     }
 
 pub new-requires-clause-nuls : goal.new-requires-clause-nuls
-new-requires-clause-nuls g c = rw c.strings_in-strings.ensures c.in_ok-places.ensures.before.ends
+new-requires-clause-nuls g c = rw c.strings_in-strings.ensures c.in_ok-places.ensures.has_strings.ends
 
 pub new-requires-clause-room : goal.new-requires-clause-room
 new-requires-clause-room g c =

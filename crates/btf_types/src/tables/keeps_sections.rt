@@ -1,0 +1,45 @@
+//! Tables that keep the two sections of a file. Each is a table of types in the same way: it lends a table in its sections.
+
+ghost use Rattle.std.specs.Prelude.{◌≡◌, List, IfSome, IsSome};
+ghost use Rattle.btf_types.specs.Values.{TypeRecord};
+ghost use Rattle.btf_types.specs.tables.KeptSections.{AreSections};
+
+use crate::tables::section_table::SectionTable;
+use crate::tables::table::{FileSections, TypeTable};
+use crate::values::{Head, Item};
+
+/// A table that keeps the two sections of a file.
+pub trait KeepsSections {
+    ghost kept: { Self → List TypeRecord };
+
+    /// The table in the kept sections.
+    fn table(&self) -> SectionTable<'_>
+        ensures { result ≡ kept self.now };
+}
+
+impl<T: KeepsSections> TypeTable for T {
+    ghost meaning = { T.kept };
+
+    fn count(&self) -> u32 {
+        self.table().count()
+    }
+
+    fn head(&self, id: u32) -> Head<'_> {
+        self.table().head(id)
+    }
+
+    fn item_count(&self, id: u32) -> u32 {
+        self.table().item_count(id)
+    }
+
+    fn item(&self, id: u32, k: u32) -> Item<'_> {
+        self.table().item(id, k)
+    }
+
+    fn sections(&self) -> Option<FileSections<'_>>
+        ensures kept { IsSome result }
+        ensures sections { IfSome result (λ s. AreSections (T.kept self.now) s.order s.types.now s.strings.now s.places.now) }
+    {
+        Some(self.table().sections())
+    }
+}

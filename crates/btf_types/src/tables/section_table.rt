@@ -1,0 +1,119 @@
+//! A table of types in the two sections of a file (btf.rst section 2). Whoever keeps the sections lends one, and each record is
+//! read at its place.
+
+ghost use Rattle.std.specs.Prelude.{◌≡◌, ◌<◌, ◌≤◌, Some, length, slice_get};
+ghost use Rattle.btf_types.specs.Values.{head_value, item_value};
+ghost use Rattle.btf_types.specs.Good.{IsGood};
+ghost use Rattle.btf_types.specs.Reading.{records_at};
+ghost use Rattle.btf_types.specs.tables.TableWords.{record_at, numbered};
+ghost use Rattle.btf_types.specs.tables.TablePlaces.{IsPlacedTable};
+ghost use Rattle.btf_types.specs.tables.KeptSections.{AreSections};
+
+use crate::reading::{head_at, item_at, item_count_at};
+use crate::tables::places::Places;
+use crate::tables::records::Records;
+use crate::tables::table::FileSections;
+use crate::values::{Head, Item};
+use bpf_words::Order;
+use std::alloc::Allocator;
+use std::marker::Model;
+
+/// The types in two sections that are kept elsewhere.
+#[derive(Drop)]
+pub struct SectionTable<'a> {
+    file: FileSections<'a>,
+    /// The ends of the long strings, in bytes from the first of the strings, ascending.
+    ends: &'a [u32],
+}
+
+impl<'a> Model for SectionTable<'a> {
+    ghost use Rattle.std.specs.Prelude.{List};
+    ghost use Rattle.btf_types.specs.Values.{TypeRecord};
+    ghost use Rattle.btf_types.specs.Reading.{records_at};
+    ghost use Rattle.btf_types.specs.tables.TablePlaces.{IsPlacedTable};
+
+    ghost Value = { List TypeRecord };
+
+    ghost view = { λ t. records_at t.file.order t.file.types.now t.file.strings.now t.file.places.now };
+
+    ghost invariant = { λ t. IsPlacedTable t.file.order t.file.types.now t.file.strings.now (record { records = t.file.places.now; ends = t.ends.now }) };
+}
+
+impl<'a> SectionTable<'a> {
+    /// The table in these sections, with its records at these places.
+    pub fn new<A: Allocator>(
+        order: Order,
+        types: &'a [u8],
+        strings: &'a [u8],
+        places: &'a Places<A>,
+    ) -> SectionTable<'a>
+        requires { IsPlacedTable order types.now strings.now places.now }
+        ensures { result ≡ records_at order types.now strings.now places.now.records }
+    {
+        SectionTable {
+            file: FileSections {
+                order,
+                types,
+                strings,
+                places: places.records(),
+            },
+            ends: places.ends(),
+        }
+    }
+
+    /// The number of records.
+    pub fn count(&self) -> u32
+        ensures count { result ≡ length self.now }
+        ensures good { IsGood self.now }
+    {
+        self.file.places.len() as u32
+    }
+
+    /// The head of record `id`, from 1.
+    pub fn head(&self, id: u32) -> Head<'a>
+        requires first { 0 < id }
+        requires last { id ≤ length self.now }
+        ensures { head_value result ≡ (record_at self.now id).head }
+    {
+        let pos = self.file.places[id as usize - 1] as usize;
+        head_at(&self.file, self.ends, pos)
+    }
+
+    /// The number of items of record `id`, from 1.
+    pub fn item_count(&self, id: u32) -> u32
+        requires first { 0 < id }
+        requires last { id ≤ length self.now }
+        ensures { result ≡ length (record_at self.now id).items }
+    {
+        let pos = self.file.places[id as usize - 1] as usize;
+        item_count_at(&self.file, pos)
+    }
+
+    /// Item `k`, from 0, of record `id`, from 1.
+    pub fn item(&self, id: u32, k: u32) -> Item<'a>
+        requires first { 0 < id }
+        requires last { id ≤ length self.now }
+        requires inside { k < length (record_at self.now id).items }
+        ensures { slice_get (record_at self.now id).items k ≡ Some (item_value result) }
+    {
+        let pos = self.file.places[id as usize - 1] as usize;
+        item_at(&self.file, self.ends, pos, k as usize)
+    }
+
+    /// The sections.
+    pub fn sections(&self) -> FileSections<'a>
+        ensures { AreSections self.now result.order result.types.now result.strings.now result.places.now }
+    {
+        self.file
+    }
+
+    /// The heads of the records with their numbers, from 1, in order.
+    pub fn records(self) -> Records<'a>
+        ensures { result ≡ numbered 1 self.entry }
+    {
+        Records {
+            given: 0,
+            table: self,
+        }
+    }
+}
