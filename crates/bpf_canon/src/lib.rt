@@ -22,6 +22,7 @@ pub use device::standard::{ReaderSource, WriterSink};
 pub use engine::{RunCause, RunError, SideError};
 pub use insn::canon::{canon_insns, recode_insns};
 pub use insn::feed::InsnFeed;
+pub use insn::front::first_fault;
 pub use insn::laws;
 pub use insn::run::{INSN_LIMIT, run_insns};
 pub use insn::same::same_insns;

@@ -1,5 +1,5 @@
 -- Reading one whole instruction after the other.
-use Rattle.std.proofs.Common.{◌≡◌, ◌<◌, ◌≤◌, ◌+◌, ◌-◌, ◌++◌, ◌∙◌, ℕ, List, [], ◌∷◌, Some, None, length, take, drop, min, refl, sym, ap, subst, inl, inr, arith, append_assoc, length-append, length-drop, All}
+use Rattle.std.proofs.Common.{◌≡◌, ◌<◌, ◌≤◌, ◌+◌, ◌-◌, ◌++◌, ◌∙◌, ℕ, List, [], ◌∷◌, Option, Some, None, length, take, drop, min, refl, sym, ap, subst, inl, inr, arith, append_assoc, length-append, length-drop, All}
 use Rattle.std.proofs.lemmas.Bool.{cases_lt}
 use Rattle.std.proofs.lemmas.List.{append-nil, length-take, take_all, take-append-drop, take-append-le}
 use Rattle.std.proofs.lemmas.List.Elements.{All-cons, All-nil}
@@ -12,12 +12,12 @@ use Rattle.bpf_insn.specs.declared.fault.SlotCause.{SlotCause}
 use Rattle.bpf_insn.specs.declared.fault.SlotFault.{SlotFault}
 use Rattle.bpf_insn.specs.Table.{IsInsn}
 use Rattle.bpf_insn.specs.Spelling.{file_of, spelling, InsnFile}
-use Rattle.bpf_insn.specs.Faults.{BeginsWith, IsSlotFault}
+use Rattle.bpf_insn.specs.Faults.{BeginsWith, IsInsnFault, IsSlotFault}
 use Rattle.bpf_insn.proofs.DecodeLemmas.{step}
 use Rattle.bpf_insn.proofs.StayLemmas.{slot_fault_stays}
 use Rattle.bpf_canon.specs.declared.insn.front.FrontRead.{FrontRead}
 use Rattle.bpf_canon.specs.insn.FrontReads.{BeginsAcross, BeginsNone, StopsAt, ReadsFront}
-use Rattle.bpf_canon.proofs.InsnLemmas.FrontLaws.{cut_length, empty_begins_none, file-push, front_begins_none, front_of, length-at_most_file, truncated_or_not}
+use Rattle.bpf_canon.proofs.InsnLemmas.FrontLaws.{cut_length, empty_begins_none, file-push, front_begins_none, front_fault, front_of, length-at_most_file, truncated_or_not}
 
 -- the whole instructions before a place, and what became of them
 pub record ReadTo (o to : Order) (bytes : List ℕ) (at n : ℕ) (old new : List ℕ) : Type 0 where
@@ -108,6 +108,18 @@ reading_ends o to bytes at n old new w h =
     empty : (ys : List ℕ) → length ys ≡ 0 → ys ≡ []
     empty [] e = refl
     empty (y ∷ ys) e = absurd (omega arith)
+
+-- ---- the fault of a file
+
+-- the fault that stopped the reading, at its place in the bytes
+pub read_fault : (o to : Order) (bytes : List ℕ) (read : FrontRead) (old new : List ℕ) (f : SlotFault) → ReadsFront o to bytes read old new → read.stop ≡ Some f
+    → read.len < length bytes → IsInsnFault o bytes (record { pos = read.len + f.pos; cause = f.cause })
+read_fault o to bytes read old new f r e some =
+    let P : Option SlotFault → Type 0 = λ x. StopsAt o (drop read.len bytes) x in
+    let slot : IsSlotFault o (drop read.len bytes) f = subst P e r.stops in
+    let size = length-drop read.len bytes in
+    front_fault o bytes r.insns (drop read.len bytes) f (record { pos = read.len + f.pos; cause = f.cause }) r.front
+    (omega (arith, size, some)) slot (omega (arith, size, r.within)) refl
 
 -- ---- an instruction that begins in what is held
 

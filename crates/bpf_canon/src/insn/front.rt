@@ -1,6 +1,9 @@
 //! Whole instructions at the front of some bytes, read in one order and written in another.
-ghost use Rattle.std.specs.Prelude.{◌≡◌, ◌<◌, ◌≤◌, ◌+◌, ◌-◌, ◌++◌, [], length, take, vec_len, vec_capacity, IfOk, IfErr};
-ghost use Rattle.bpf_insn.specs.Faults.{IsSlotFault};
+ghost use Rattle.std.specs.Prelude.{◌≡◌, ◌<◌, ◌≤◌, ◌+◌, ◌-◌, ◌++◌, List, [], Some, None, length, take, vec_len, vec_capacity, IfOk, IfErr, IfSome};
+ghost use Rattle.bpf_insn.specs.declared.fault.SlotFault.{SlotFault};
+ghost use Rattle.bpf_insn.specs.declared.insn.Insn.{Insn};
+ghost use Rattle.bpf_insn.specs.Spelling.{InsnFile};
+ghost use Rattle.bpf_insn.specs.Faults.{IsInsnFault, IsSlotFault};
 ghost use Rattle.bpf_canon.specs.insn.FrontReads.{BeginsAcross, BeginsNone, ReadsFront};
 
 use crate::insn::recode::append_recoded;
@@ -19,9 +22,23 @@ pub(crate) struct FrontRead {
     pub(crate) stop: Option<SlotFault>,
 }
 
+/// The first fault of an instruction file, counted from its first byte, or `None` if it is one (RFC 9669 section 3).
+pub fn first_fault(order: Order, bytes: &[u8]) -> Option<SlotFault>
+    ensures file { result ≡ None → (l : List Insn) × InsnFile order bytes.now l }
+    ensures fault { (f : SlotFault) → result ≡ Some f → IsInsnFault order bytes.now f }
+{
+    let front = judge_front(order, bytes);
+    let fault = front.stop?;
+    Some(SlotFault {
+        pos: front.len as u64 + fault.pos,
+        cause: fault.cause,
+    })
+}
+
 /// Judges the whole instructions at the front of some bytes.
 fn judge_front(order: Order, bytes: &[u8]) -> FrontRead
-    ensures { ReadsFront order order bytes.now result [] (take result.len bytes.now) }
+    ensures front { ReadsFront order order bytes.now result [] (take result.len bytes.now) }
+    ensures stop { IfSome result.stop (λ f. result.len < length bytes.now) }
 {
     let mut len = 0;
     let mut count = 0;

@@ -1,10 +1,8 @@
 //! `insn-show`: the input is judged first, and then its listing is written in pieces.
 
-ghost use Rattle.std.specs.Prelude.{◌≡◌, ◌<◌, ◌≤◌, List, Some, None, length};
-ghost use Rattle.bpf_insn.specs.declared.fault.SlotFault.{SlotFault};
+ghost use Rattle.std.specs.Prelude.{◌≡◌, ◌<◌, ◌≤◌, List, length};
 ghost use Rattle.bpf_insn.specs.declared.insn.Insn.{Insn};
 ghost use Rattle.bpf_insn.specs.Spelling.{InsnFile};
-ghost use Rattle.bpf_insn.specs.Faults.{IsInsnFault};
 ghost use Rattle.bpf_text.specs.insn.Lines.{listing_of};
 ghost use Rattle.bpfcanon.specs.declared.verb.Verb.TheVariants.{InsnShow};
 ghost use Rattle.bpfcanon.specs.Devices.{sink_change, source_change};
@@ -16,30 +14,10 @@ use crate::commands::input::read_input;
 use crate::commands::pieces::{PutError, end_of_pieces, put_long_piece, put_piece};
 use crate::job::Job;
 use crate::outcome::Outcome;
-use bpf_canon::{ByteSink, ByteSource};
-use bpf_insn::{Order, SlotFault, insn_len, read_insn};
+use bpf_canon::{ByteSink, ByteSource, first_fault};
+use bpf_insn::{Order, read_insn};
 use bpf_text::push_line;
 use std::alloc::Allocator;
-
-/// The first fault of a file, counted from its first byte, or `None` if it is an instruction file.
-fn first_fault(order: Order, input: &[u8]) -> Option<SlotFault>
-    ensures file { result ≡ None → (l : List Insn) × InsnFile order input.now l }
-    ensures fault { (f : SlotFault) → result ≡ Some f → IsInsnFault order input.now f }
-{
-    let mut pos = 0;
-    while pos < input.len() {
-        match insn_len(order, &input[pos..]) {
-            Ok(len) => pos += len,
-            Err(fault) => {
-                return Some(SlotFault {
-                    pos: pos as u64 + fault.pos,
-                    cause: fault.cause,
-                });
-            }
-        }
-    }
-    None
-}
 
 /// Writes the listing of an instruction file in pieces.
 fn put_listing<A: Allocator, W: ByteSink>(

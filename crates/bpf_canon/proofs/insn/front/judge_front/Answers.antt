@@ -15,8 +15,8 @@ loop-len-preserved c = reading_same _ _ _ _ _ _ _ (reading_more _ _ _ _ _ _ _ _ 
 pub loop-len-smaller : goal.loop-len-smaller
 loop-len-smaller c = omega (arith, c.in-Ok.ensures.found.1.1, at_least_a_slot c.args.order c.in-Ok.ensures.found.0, c.loop-len-test.true)
 
-pub returns-in-Err : goal.returns-in-Err
-returns-in-Err c = reading_stops _ _ _ _ _ _ _ _ c.loop-len.invariant c.in-Err.ensures.fault
+pub returns-in-Err-clause-front : goal.returns-in-Err-clause-front
+returns-in-Err-clause-front c = reading_stops _ _ _ _ _ _ _ _ c.loop-len.invariant c.in-Err.ensures.fault
 
-pub returns : goal.returns
-returns c = reading_ends _ _ _ _ _ _ _ c.loop-len.invariant c.loop-len-test.false
+pub returns-clause-front : goal.returns-clause-front
+returns-clause-front c = reading_ends _ _ _ _ _ _ _ c.loop-len.invariant c.loop-len-test.false
