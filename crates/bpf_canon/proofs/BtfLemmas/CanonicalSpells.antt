@@ -21,7 +21,7 @@ use Rattle.btf_types.specs.judge.Checks.{TypeFacts}
 use Rattle.btf_types.specs.Good.{HeadInRange, ItemInRange, ItemOf, has_width, has_bit_fields, MemberIsGood, IsGoodRecord, IsGood, facts}
 use Rattle.btf_types.proofs.Spelled.{kind_below, vlen_below, flag_below}
 use Rattle.btf_types.proofs.StringLemmas.TableLaws.{shared_places}
-use Rattle.bpf_canon.specs.btf.CanonicalBtf.{canonical_flag, item_words, record_words, canonical_frames}
+use Rattle.bpf_canon.specs.btf.CanonicalBtf.{canonical_flag, words_of_item, record_words, canonical_frames}
 
 -- ---- lists
 
@@ -115,8 +115,8 @@ member_fits flag o w word (inr field) wide narrow = omega (arith, field.1, field
 
 -- an item of a good record, whose name is at its place
 pub record IsItemSpelled (strings : List ℕ) (place : List ℕ → ℕ) (flag : ℕ) (x : TypeItem) : Type 0 where
-  pub spells : ItemSpells strings flag x (item_words place x)
-  pub fits : IsWords (item_words place x)
+  pub spells : ItemSpells strings flag x (words_of_item place x)
+  pub fits : IsWords (words_of_item place x)
 
 module _ (strings : List ℕ) (place : List ℕ → ℕ) (types : List TypeFacts) (h : TypeHead) (size : ℕ) (b : Bool) (short : length strings ≤ STRINGS_LIMIT) where
   place_below : (x : List ℕ) → NameAt strings (place x) x → place x < 2 ^ 32
@@ -154,8 +154,8 @@ item_is_spelled strings place types h size b short x of range good some at = abs
 -- ---- the items of a record
 
 record AreItemsSpelled (strings : List ℕ) (place : List ℕ → ℕ) (flag : ℕ) (xs : List TypeItem) : Type 0 where
-  spells : AllZip (ItemSpells strings flag) xs (map (item_words place) xs)
-  fits : IsWords (flat_map (item_words place) xs)
+  spells : AllZip (ItemSpells strings flag) xs (map (words_of_item place) xs)
+  fits : IsWords (flat_map (words_of_item place) xs)
 
 items_are_spelled : (strings : List ℕ) (place : List ℕ → ℕ) (types : List TypeFacts) (h : TypeHead) (size : ℕ) (b : Bool) → length strings ≤ STRINGS_LIMIT
     → (xs : List TypeItem) → All (ItemOf h) xs → All ItemInRange xs → All (MemberIsGood types size b) xs → (list_any has_width xs ≡ true → b ≡ true)
@@ -166,7 +166,7 @@ items_are_spelled strings place types h size b short (x ∷ xs) of range good so
     (λ e. some (or_left _ _ e)) (All-head (λ n. NameAt strings (place n) n) (item_name x) (map item_name xs) at) in
     let rest = items_are_spelled strings place types h size b short xs (All-tail (ItemOf h) x xs of) (All-tail ItemInRange x xs range) (All-tail (MemberIsGood types size b) x xs good)
     (λ e. some (or_right _ _ e)) (All-tail (λ n. NameAt strings (place n) n) (item_name x) (map item_name xs) at) in
-    record { spells = (one.spells, rest.spells); fits = IsWords-append (item_words place x) (flat_map (item_words place) xs) one.fits rest.fits }
+    record { spells = (one.spells, rest.spells); fits = IsWords-append (words_of_item place x) (flat_map (words_of_item place) xs) one.fits rest.fits }
 
 -- ---- records
 
@@ -184,18 +184,18 @@ record_spells strings place types r short good at =
     record {
       name_offset = place (head_name r.head);
       flag = flag;
-      item_words = map (item_words place) r.items;
+      item_words = map (words_of_item place) r.items;
       name = name;
       flag_spells = flag_spells r.head b;
       items = items.spells;
-      whole = rw (concat-map (item_words place) r.items) refl;
+      whole = rw (concat-map (words_of_item place) r.items) refl;
       fit =
           IsWords-append
           (place (head_name r.head) ∷ info (kind_number r.head) (record_vlen r) flag ∷ head_third r.head ∷ [])
-          (head_tail r.head ++ flat_map (item_words place) r.items)
+          (head_tail r.head ++ flat_map (words_of_item place) r.items)
           (fits_three (place (head_name r.head)) (info (kind_number r.head) (record_vlen r) flag) (head_third r.head)
           (place_below strings place types r.head 0 b short (head_name r.head) name) word (third_below r.head good.head_in_range))
-          (IsWords-append (head_tail r.head) (flat_map (item_words place) r.items) (tail_fits r.head good.head_in_range) items.fits);
+          (IsWords-append (head_tail r.head) (flat_map (words_of_item place) r.items) (tail_fits r.head good.head_in_range) items.fits);
     }
 
 records_spell : (strings : List ℕ) (place : List ℕ → ℕ) (types : List TypeFacts) (v : List TypeRecord) → length strings ≤ STRINGS_LIMIT → All (IsGoodRecord types) v

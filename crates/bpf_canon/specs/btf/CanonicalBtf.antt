@@ -24,18 +24,18 @@ canonical_flag (KEnum64 name signed size) bit_fields = bit signed
 canonical_flag _ bit_fields = 0
 
 -- the words of an item, whose name is at its place; a width is in the high 8 bits, and a 64-bit value has its low word first
-abbrev pub item_words : (List ℕ → ℕ) → TypeItem → List ℕ
-item_words place (Member name target bit_offset width) = place name ∷ target ∷ (bit_offset + 2 ^ 24 * width) ∷ []
-item_words place (EnumValue name value) = place name ∷ value ∷ []
-item_words place (Value64 name value) = place name ∷ value % 2 ^ 32 ∷ value / 2 ^ 32 ∷ []
-item_words place (Param name target) = place name ∷ target ∷ []
-item_words place (Entry target offset size) = target ∷ offset ∷ size ∷ []
+abbrev pub words_of_item : (List ℕ → ℕ) → TypeItem → List ℕ
+words_of_item place (Member name target bit_offset width) = place name ∷ target ∷ (bit_offset + 2 ^ 24 * width) ∷ []
+words_of_item place (EnumValue name value) = place name ∷ value ∷ []
+words_of_item place (Value64 name value) = place name ∷ value % 2 ^ 32 ∷ value / 2 ^ 32 ∷ []
+words_of_item place (Param name target) = place name ∷ target ∷ []
+words_of_item place (Entry target offset size) = target ∷ offset ∷ size ∷ []
 
 -- the words of a record: its name at its place, info, the third word, and what follows
 abbrev pub record_words : (List ℕ → ℕ) → TypeRecord → List ℕ
 record_words place r =
     place (head_name r.head) ∷ info (kind_number r.head) (record_vlen r) (canonical_flag r.head (has_bit_fields r)) ∷ head_third r.head
-    ∷ (head_tail r.head ++ flat_map (item_words place) r.items)
+    ∷ (head_tail r.head ++ flat_map (words_of_item place) r.items)
 
 -- the words of each record, with names at their places in the string table
 abbrev pub canonical_frames : List TypeRecord → List (List ℕ)

@@ -12,5 +12,4 @@ pub(crate) mod places;
 mod ranked_texts;
 mod ranks;
 mod section_texts;
-mod texts;
 mod used_offsets;

@@ -16,7 +16,7 @@ use Rattle.btf_types.proofs.Members.{Has, Has-from_Contains, Contains-from_Has}
 use Rattle.btf_types.proofs.StringLemmas.Texts.{table_split}
 use Rattle.btf_types.proofs.StringLemmas.Longest.{longest_have_host}
 use Rattle.bpf_canon.specs.btf.strings.FirstUses.{AreMarked}
-use Rattle.bpf_canon.specs.btf.strings.UsedOffsets.{number_of}
+use Rattle.bpf_canon.specs.btf.strings.UsedOffsets.{offset_number}
 use Rattle.bpf_canon.specs.btf.strings.Longest.{IsUsed, IsWithin, AreLongestOf}
 use Rattle.bpf_canon.specs.btf.strings.SectionTexts.{text_in, HasKey}
 use Rattle.bpf_canon.specs.btf.strings.InHost.{no_host, host_at, AreInHosts}
@@ -167,7 +167,7 @@ module _ (section slots offsets by_rank : List ℕ) (texts ordered : List Sectio
   record Named (k : ℕ) : Type 0 where
     off : ℕ
     named : Contains offsets off
-    number : number_of slots off ≡ k
+    number : offset_number slots off ≡ k
 
   named : (k : ℕ) → k < length in_hosts → Named k
   named k h = let u = used_at slots (length slots) k (omega (arith, h, hosts_are.whole)) in record { off = u.0; named = marked.only u.0 u.2; number = u.3 }
@@ -190,8 +190,8 @@ module _ (section slots offsets by_rank : List ℕ) (texts ordered : List Sectio
     used = marked.marked;
     numbers = length-map in_hosts (λ (i : InHost). get_or by_rank i.host 0 + i.before) ∙ hosts_are.whole;
     place = λ off c.
-        let inside : number_of slots off < length in_hosts = omega (arith, number_inside slots off (marked.marked off c), hosts_are.whole) in
-        get_or-map (λ (i : InHost). get_or by_rank i.host 0 + i.before) in_hosts (number_of slots off) no_host 0 inside
+        let inside : offset_number slots off < length in_hosts = omega (arith, number_inside slots off (marked.marked off c), hosts_are.whole) in
+        get_or-map (λ (i : InHost). get_or by_rank i.host 0 + i.before) in_hosts (offset_number slots off) no_host 0 inside
         ∙ place_found section slots offsets by_rank in_order in_hosts spans len host_places off c (at off c);
     are_spans = host_places.are_spans;
     texts = host_places.texts;

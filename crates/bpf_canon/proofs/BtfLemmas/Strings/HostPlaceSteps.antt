@@ -16,7 +16,7 @@ use Rattle.btf_types.proofs.StringLemmas.Hosts.{host_is, own_host_of, host_diffe
 use Rattle.btf_types.proofs.StringLemmas.CommonTails.{ranks_are_together}
 use Rattle.btf_types.proofs.StringLemmas.Longest.{Has-kept_some}
 use Rattle.bpf_canon.specs.btf.strings.InHost.{host_at, no_host}
-use Rattle.bpf_canon.specs.btf.strings.UsedOffsets.{number_of}
+use Rattle.bpf_canon.specs.btf.strings.UsedOffsets.{offset_number}
 use Rattle.bpf_canon.specs.btf.strings.SectionTexts.{text_in}
 use Rattle.bpf_canon.specs.declared.btf.strings.section_texts.SectionText.{SectionText}
 use Rattle.bpf_canon.specs.btf.strings.HostPlaces.{span_bytes, IsSpan, HasText, IsAtHost, HasHost, AreHostPlaces}
@@ -144,7 +144,7 @@ module _ (sorted xs : List (List ℕ)) (x : List ℕ) (h : InHost) (a : IsAtHost
   host_there = subst (Has (hosts xs)) a.is_host (host_is (kept xs) x in_kept).host
 
 -- the step of one offset, whose number is n
-module _ (section slots offsets : List ℕ) (sorted : List (List ℕ)) (in_hosts : List InHost) (k n : ℕ) (inside : k < length offsets) (n_is : n ≡ number_of slots (get_or offsets k 0))
+module _ (section slots offsets : List ℕ) (sorted : List (List ℕ)) (in_hosts : List InHost) (k n : ℕ) (inside : k < length offsets) (n_is : n ≡ offset_number slots (get_or offsets k 0))
     (all : All (HasHost section slots sorted (map (text_from section) offsets) in_hosts) offsets) where
   abbrev names : List (List ℕ)
   names = map (text_from section) offsets
@@ -233,7 +233,7 @@ module _ (section slots offsets : List ℕ) (sorted : List (List ℕ)) (in_hosts
       }
 
 -- the same from what was read: whether the host is placed
-pub lays_read : (section slots offsets : List ℕ) (ts : List SectionText) (in_hosts : List InHost) (k n : ℕ) (inside : k < length offsets) (n_is : n ≡ number_of slots (get_or offsets k 0)) (all : All (HasHost section slots (map (text_in section) ts) (map (text_from section) offsets) in_hosts) offsets)
+pub lays_read : (section slots offsets : List ℕ) (ts : List SectionText) (in_hosts : List InHost) (k n : ℕ) (inside : k < length offsets) (n_is : n ≡ offset_number slots (get_or offsets k 0)) (all : All (HasHost section slots (map (text_in section) ts) (map (text_from section) offsets) in_hosts) offsets)
     → (by_rank : List ℕ) (spans : List Span) (len there : ℕ) → LaidTo section (map (text_in section) ts) (host_places (map (text_from section) offsets) (map (text_from section) (take k offsets))) by_rank spans len → IsSorted tail_cmp (map (text_in section) ts) → HasNulEnds section
     → (get_or in_hosts n no_host).host ≢ 0 → (get_or in_hosts n no_host).before ≡ 0 → there ≡ get_or by_rank (get_or in_hosts n no_host).host there → there ≡ 0
     → LaysText section slots offsets (map (text_in section) ts) in_hosts k n inside n_is all by_rank spans len (get_or in_hosts n no_host).len (record { start = get_or offsets k 0; end = get_or offsets k 0 + (get_or in_hosts n no_host).len })

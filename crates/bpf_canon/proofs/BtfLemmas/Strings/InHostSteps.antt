@@ -11,8 +11,8 @@ use Rattle.btf_types.proofs.StringLemmas.CommonTails.{first_ends, rank_has_host}
 use Rattle.bpf_canon.specs.btf.strings.SectionTexts.{text_in}
 use Rattle.bpf_canon.specs.btf.strings.Longest.{IsUsed, IsWithin, AreLongestOf}
 use Rattle.bpf_canon.specs.btf.strings.Ranks.{AreRanked}
-use Rattle.bpf_canon.specs.btf.strings.UsedOffsets.{number_of}
-use Rattle.bpf_canon.specs.btf.strings.InHost.{IsInHost, no_host, host_at, FindsWithin, AreInHosts, IsAlone, AreAlone}
+use Rattle.bpf_canon.specs.btf.strings.UsedOffsets.{offset_number}
+use Rattle.bpf_canon.specs.btf.strings.InHost.{IsInHost, no_host, host_at, FindsWithin, AreInHosts, IsAlone}
 use Rattle.bpf_canon.specs.declared.btf.strings.section_texts.SectionText.{SectionText}
 use Rattle.bpf_canon.specs.declared.btf.strings.hosts_by_rank.InHost.{InHost}
 use Rattle.bpf_canon.proofs.BtfLemmas.Strings.UsedSteps.{number_injective, number_inside, used_inside}
@@ -123,23 +123,17 @@ module _ (section slots : List ℕ) (ts : List SectionText) (common hosts : List
         in_hosts = λ h a b e. in_host rank off l inside within low_enough all less_here h (omega (arith, a, host_is)) (omega (arith, b, u_len, ends)) (e ∙ u_len);
       }
 
+  -- a text is alone by the length that was read for its rank
+  pub alone_read : (rank n : ℕ) (t : SectionText) → rank < length ts → n ≡ get_or common rank n → n < t.end - t.start → ((off : ℕ) → t.start + 1 ≤ off → off < t.end → get_or slots off 0 ≡ 0) → IsAlone slots common rank t
+  alone_read rank n t inside n_is less unused =
+      let in_common : rank < length common = omega (arith, inside, ranked.are_common.whole, length-map ts (text_in section)) in
+      record { less = omega (arith, less, get_or_read common rank n in_common n_is 0); unused = unused }
+
   -- the same for a text that is alone, from its rank on
-  pub steps_alone : (rank v : ℕ) (t u : SectionText) → rank < length ts → t ≡ get_or ts rank t → AreAlone slots common ts (length ts) → v ≡ get_or hosts rank v → u ≡ get_or ts v u → StepsBack rank t.start rank rank v t u
+  pub steps_alone : (rank v : ℕ) (t u : SectionText) → rank < length ts → t ≡ get_or ts rank t → IsAlone slots common rank t → v ≡ get_or hosts rank v → u ≡ get_or ts v u → StepsBack rank t.start rank rank v t u
   steps_alone rank v t u inside t_is alone v_is u_is =
-      let at : IsAlone slots common rank t = subst (IsAlone slots common rank) (sym t_is) (alone rank t inside inside) in
-      let high : t.start < t.end = omega (arith, at.less) in
-      steps_back rank t.start rank rank v t t u common inside t_is t_is (omega arith) high (omega arith) (λ j a b. absurd (omega (arith, a, b))) refl (omega arith) (λ j a b. absurd (omega (arith, a, b))) at.less v_is u_is
-
-  pub host_inside : (rank l v : ℕ) → rank < length ts → l ≤ rank → v ≡ get_or hosts l v → v < length ts
-  host_inside rank l v inside low v_is =
-      let l_inside : l < length hosts = omega (arith, low, inside, ranked.are_hosts.whole, length-map ts (text_in section)) in
-      omega (arith, get_or_read hosts l v l_inside v_is 0, next_inside rank l inside low)
-
-  pub text_up : (v : ℕ) (u : SectionText) → v < length ts → u ≡ get_or ts v u → u.start ≤ u.end
-  text_up v u inside u_is =
-      let u_end : u ≡ get_or ts v no_text = u_is ∙ get_or_default ts v u no_text inside in
-      let some = (used v no_text inside).some in
-      omega (arith, some, ap (λ (k : SectionText). k.start) u_end, ap (λ (k : SectionText). k.end) u_end)
+      let high : t.start < t.end = omega (arith, alone.less) in
+      steps_back rank t.start rank rank v t t u common inside t_is t_is (omega arith) high (omega arith) (λ j a b. absurd (omega (arith, a, b))) refl (omega arith) (λ j a b. absurd (omega (arith, a, b))) alone.less v_is u_is
 
 -- the loop over the offsets within a text
 pub record WithinTo (section slots : List ℕ) (sorted : List (List ℕ)) (common : List ℕ) (t : SectionText) (rank : ℕ) (old in_hosts : List InHost) (from off : ℕ) : Type 0 where
@@ -171,20 +165,20 @@ module _ (section slots : List ℕ) (sorted : List (List ℕ)) (common : List �
     there = λ o s n. to.there o s (λ (a, b). n (a, omega (arith, b)));
   }
 
-  pub within_finds : (in_hosts : List InHost) (from off next : ℕ) (h : InHost) → WithinTo section slots sorted common t rank old in_hosts from off → length old ≡ number_of slots (length slots) → t.start ≤ off → get_or slots off 0 ≢ 0 → next ≤ from
-      → ((j : ℕ) → next < j → j ≤ from → t.end - off ≤ get_or common j 0) → IsInHost sorted (text_from section off) h → WithinTo section slots sorted common t rank old (set in_hosts (number_of slots off) h) next (off + 1)
+  pub within_finds : (in_hosts : List InHost) (from off next : ℕ) (h : InHost) → WithinTo section slots sorted common t rank old in_hosts from off → length old ≡ offset_number slots (length slots) → t.start ≤ off → get_or slots off 0 ≢ 0 → next ≤ from
+      → ((j : ℕ) → next < j → j ≤ from → t.end - off ≤ get_or common j 0) → IsInHost sorted (text_from section off) h → WithinTo section slots sorted common t rank old (set in_hosts (offset_number slots off) h) next (off + 1)
   within_finds in_hosts from off next h to long low s back more is =
-      let here : host_at slots (set in_hosts (number_of slots off) h) off ≡ h = get_or-set_same in_hosts (number_of slots off) h no_host (omega (arith, number_inside slots off s, long, to.whole)) in
-      let there = λ (o : ℕ) (u : get_or slots o 0 ≢ 0) (n : o ≢ off). get_or-set_other in_hosts (number_of slots off) (number_of slots o) h no_host (λ e. n (number_injective slots o off u s e)) in
+      let here : host_at slots (set in_hosts (offset_number slots off) h) off ≡ h = get_or-set_same in_hosts (offset_number slots off) h no_host (omega (arith, number_inside slots off s, long, to.whole)) in
+      let there = λ (o : ℕ) (u : get_or slots o 0 ≢ 0) (n : o ≢ off). get_or-set_other in_hosts (offset_number slots off) (offset_number slots o) h no_host (λ e. n (number_injective slots o off u s e)) in
       record {
-        whole = length-set in_hosts (number_of slots off) h ∙ to.whole;
+        whole = length-set in_hosts (offset_number slots off) h ∙ to.whole;
         below = omega (arith, back, to.below);
         before = λ j l m. elim (cases_lt from j) [
           | inl a ↦ omega (arith, to.before j a m)
           | inr b ↦ omega (arith, more j l b)
         ];
         here = λ o u l m. elim (cases_eq o off) [
-          | inl e ↦ subst (λ (k : ℕ). IsInHost sorted (text_from section k) (host_at slots (set in_hosts (number_of slots off) h) k)) (sym e) (subst (IsInHost sorted (text_from section off)) (sym here) is)
+          | inl e ↦ subst (λ (k : ℕ). IsInHost sorted (text_from section k) (host_at slots (set in_hosts (offset_number slots off) h) k)) (sym e) (subst (IsInHost sorted (text_from section off)) (sym here) is)
           | inr n ↦ subst (IsInHost sorted (text_from section o)) (sym (there o u n)) (to.here o u l (omega (arith, m, n)))
         ];
         there = λ o u n. elim (cases_eq o off) [
@@ -201,17 +195,17 @@ module _ (section slots : List ℕ) (sorted : List (List ℕ)) (common : List �
   }
 
 -- the host of a text that is alone
-pub finds_alone : (section slots : List ℕ) (sorted : List (List ℕ)) (t : SectionText) (old : List InHost) (h : InHost) → IsUsed section slots t → ((k : ℕ) → t.start + 1 ≤ k → k < t.end → get_or slots k 0 ≡ 0) → length old ≡ number_of slots (length slots) → IsInHost sorted (text_from section t.start) h
-    → FindsWithin section slots sorted t old (set old (number_of slots t.start) h)
+pub finds_alone : (section slots : List ℕ) (sorted : List (List ℕ)) (t : SectionText) (old : List InHost) (h : InHost) → IsUsed section slots t → ((k : ℕ) → t.start + 1 ≤ k → k < t.end → get_or slots k 0 ≡ 0) → length old ≡ offset_number slots (length slots) → IsInHost sorted (text_from section t.start) h
+    → FindsWithin section slots sorted t old (set old (offset_number slots t.start) h)
 finds_alone section slots sorted t old h used alone long is =
-    let number = number_of slots t.start in
+    let number = offset_number slots t.start in
     let here : host_at slots (set old number h) t.start ≡ h = get_or-set_same old number h no_host (omega (arith, number_inside slots t.start used.slot, long)) in
     record {
       whole = length-set old number h;
       here = λ o s w.
           let e : o ≡ t.start = elim (cases_eq o t.start) [ inl q ↦ q | inr n ↦ absurd (s (alone o (omega (arith, w.from, n)) w.before)) ] in
           subst (λ (k : ℕ). IsInHost sorted (text_from section k) (host_at slots (set old number h) k)) (sym e) (subst (IsInHost sorted (text_from section t.start)) (sym here) is);
-      there = λ o s n. get_or-set_other old number (number_of slots o) h no_host (λ e.
+      there = λ o s n. get_or-set_other old number (offset_number slots o) h no_host (λ e.
           let same : o ≡ t.start = number_injective slots o t.start s used.slot e in
           n (record { from = omega (arith, same); before = omega (arith, same, used.some) }));
     }
@@ -224,10 +218,10 @@ module _ (section slots : List ℕ) (ts : List SectionText) (longest : AreLonges
   pub used_read : IsUsed section slots t
   used_read = subst (IsUsed section slots) (sym t_end) (longest.used rank no_text inside)
 
-  pub finds_read : (sorted : List (List ℕ)) (old : List InHost) (h : InHost) → ((k : ℕ) → t.start + 1 ≤ k → k < t.end → get_or slots k 0 ≡ 0) → length old ≡ number_of slots (length slots) → IsInHost sorted (text_from section t.start) h
-      → FindsWithin section slots sorted (get_or ts rank no_text) old (set old (number_of slots t.start) h)
+  pub finds_read : (sorted : List (List ℕ)) (old : List InHost) (h : InHost) → ((k : ℕ) → t.start + 1 ≤ k → k < t.end → get_or slots k 0 ≡ 0) → length old ≡ offset_number slots (length slots) → IsInHost sorted (text_from section t.start) h
+      → FindsWithin section slots sorted (get_or ts rank no_text) old (set old (offset_number slots t.start) h)
   finds_read sorted old h alone long is =
-      subst (λ (k : SectionText). FindsWithin section slots sorted k old (set old (number_of slots t.start) h)) t_end (finds_alone section slots sorted t old h used_read alone long is)
+      subst (λ (k : SectionText). FindsWithin section slots sorted k old (set old (offset_number slots t.start) h)) t_end (finds_alone section slots sorted t old h used_read alone long is)
 
 cases_within : (off : ℕ) (t : SectionText) → IsWithin off t ⊎ (¬ IsWithin off t)
 cases_within off t = elim (cases_lt off t.start) [
@@ -240,15 +234,15 @@ cases_within off t = elim (cases_lt off t.start) [
 
 -- the loop over ranks
 pub record HostsTo (section slots : List ℕ) (ts : List SectionText) (sorted : List (List ℕ)) (in_hosts : List InHost) (k : ℕ) : Type 0 where
-  pub whole : length in_hosts ≡ number_of slots (length slots)
+  pub whole : length in_hosts ≡ offset_number slots (length slots)
   pub empty : (off : ℕ) → get_or slots off 0 ≢ 0 → get_or section off 0 ≡ 0 → host_at slots in_hosts off ≡ no_host
   pub here : (j off : ℕ) → j < k → get_or slots off 0 ≢ 0 → IsWithin off (get_or ts j no_text) → IsInHost sorted (text_from section off) (host_at slots in_hosts off)
 
 module _ (section slots : List ℕ) (ts : List SectionText) (sorted : List (List ℕ)) (longest : AreLongestOf section slots ts) where
-  pub hosts_none : (in_hosts : List InHost) → in_hosts ≡ replicate (number_of slots (length slots)) no_host → HostsTo section slots ts sorted in_hosts 0
+  pub hosts_none : (in_hosts : List InHost) → in_hosts ≡ replicate (offset_number slots (length slots)) no_host → HostsTo section slots ts sorted in_hosts 0
   hosts_none in_hosts e = record {
-    whole = ap (λ (l : List InHost). length l) e ∙ length-replicate (number_of slots (length slots)) no_host;
-    empty = λ off s z. ap (λ (l : List InHost). host_at slots l off) e ∙ get_or-replicate (number_of slots (length slots)) (number_of slots off) no_host no_host (number_inside slots off s);
+    whole = ap (λ (l : List InHost). length l) e ∙ length-replicate (offset_number slots (length slots)) no_host;
+    empty = λ off s z. ap (λ (l : List InHost). host_at slots l off) e ∙ get_or-replicate (offset_number slots (length slots)) (offset_number slots off) no_host no_host (number_inside slots off s);
     here = λ j off h. absurd (omega (arith, h));
   }
 

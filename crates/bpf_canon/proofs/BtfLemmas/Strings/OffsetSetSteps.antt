@@ -8,7 +8,7 @@ use Rattle.std.proofs.Math.Nat.{pow-suc, max-zero, mod-eq_of_lt}
 use Rattle.std.proofs.lemmas.Nat.{ones_le_self, pow_pos, pow_below, and_mask}
 use Rattle.std.proofs.lemmas.Nat.Bits.{shr_and_one, bit_at_lowest, bit_at-zero, bit_at-lt, bit_at-suc, bit_at_or, bit_at-pow_same, bit_at-pow_other}
 use Rattle.std.proofs.lemmas.List.{length_push, length-set, length-replicate, get_or-replicate, get_or-set_same, get_or-set_other, get_or_append_left, get_or_push, get_or_past, get_or_read, ext_get_or}
-use Rattle.bpf_canon.specs.btf.strings.UsedOffsets.{number_of}
+use Rattle.bpf_canon.specs.btf.strings.UsedOffsets.{offset_number}
 use Rattle.bpf_canon.specs.btf.strings.OffsetSet.{mark_of, slots_of}
 use Rattle.bpf_canon.proofs.BtfLemmas.Strings.UsedSteps.{number_used, number_unused}
 
@@ -126,19 +126,19 @@ module _ (words : List ℕ) (n word : ℕ) where
       let r : (64 * word + k) % 64 ≡ k = omega (arith, b) in
       slot_at words n (64 * word + k) h ∙ ap (λ (i : ℕ). bit_at (get_or words i 0) ((64 * word + k) % 64)) q ∙ ap (bit_at w) r
 
-  number_more : (k : ℕ) → k < 64 → 64 * word + k < n → number_of slots (64 * word + k + 1) ≡ number_of slots (64 * word + k) + bit_at w k
+  number_more : (k : ℕ) → k < 64 → 64 * word + k < n → offset_number slots (64 * word + k + 1) ≡ offset_number slots (64 * word + k) + bit_at w k
   number_more k b h = elim (cases_eq (bit_at w k) 0) [
-    | inl z ↦ plus_none (number_of slots (64 * word + k + 1)) (number_of slots (64 * word + k)) (bit_at w k) (number_unused slots (64 * word + k) (slot_is k b h ∙ z)) z
-    | inr s ↦ plus_one (number_of slots (64 * word + k + 1)) (number_of slots (64 * word + k)) (bit_at w k) (number_used slots (64 * word + k) (λ z. s (sym (slot_is k b h) ∙ z))) s (bit_at-lt w k)
+    | inl z ↦ plus_none (offset_number slots (64 * word + k + 1)) (offset_number slots (64 * word + k)) (bit_at w k) (number_unused slots (64 * word + k) (slot_is k b h ∙ z)) z
+    | inr s ↦ plus_one (offset_number slots (64 * word + k + 1)) (offset_number slots (64 * word + k)) (bit_at w k) (number_used slots (64 * word + k) (λ z. s (sym (slot_is k b h) ∙ z))) s (bit_at-lt w k)
   ]
 
-  pub number_in_word : (k : ℕ) → k ≤ 64 → 64 * word + k ≤ n → number_of slots (64 * word + k) ≡ number_of slots (64 * word) + count_ones (w % 2 ^ k)
+  pub number_in_word : (k : ℕ) → k ≤ 64 → 64 * word + k ≤ n → offset_number slots (64 * word + k) ≡ offset_number slots (64 * word) + count_ones (w % 2 ^ k)
   number_in_word zero b h =
-      ap (number_of slots) (let e : 64 * word + 0 ≡ 64 * word = omega arith in e)
-      ∙ sym (plus_none (number_of slots (64 * word) + count_ones (w % 2 ^ 0)) (number_of slots (64 * word)) 0 (ap (λ (m : ℕ). number_of slots (64 * word) + m) (zero_ones (w % 2 ^ 0) (omega arith)) ∙ omega arith) refl ∙ omega arith)
+      ap (offset_number slots) (let e : 64 * word + 0 ≡ 64 * word = omega arith in e)
+      ∙ sym (plus_none (offset_number slots (64 * word) + count_ones (w % 2 ^ 0)) (offset_number slots (64 * word)) 0 (ap (λ (m : ℕ). offset_number slots (64 * word) + m) (zero_ones (w % 2 ^ 0) (omega arith)) ∙ omega arith) refl ∙ omega arith)
   number_in_word (suc k) b h =
-      ap (number_of slots) (let e : 64 * word + suc k ≡ 64 * word + k + 1 = omega arith in e)
-      ∙ sums_more (number_of slots (64 * word + k + 1)) (number_of slots (64 * word + k)) (bit_at w k) (number_of slots (64 * word)) (count_ones (w % 2 ^ k)) (count_ones (w % 2 ^ suc k))
+      ap (offset_number slots) (let e : 64 * word + suc k ≡ 64 * word + k + 1 = omega arith in e)
+      ∙ sums_more (offset_number slots (64 * word + k + 1)) (offset_number slots (64 * word + k)) (bit_at w k) (offset_number slots (64 * word)) (count_ones (w % 2 ^ k)) (count_ones (w % 2 ^ suc k))
       (number_more k (omega (arith, b)) (omega (arith, h))) (number_in_word k (omega (arith, b)) (omega (arith, h))) (ones_more k w)
 
 -- what is read of a mark
@@ -157,21 +157,21 @@ lower_bits w r h = ap (λ (m : ℕ). bit_and w (m - 1)) (one_bit r h) ∙ and_ma
 
 -- what is counted in one word
 pub number_before : (words slots : List ℕ) (n off w : ℕ) → slots_of words n ≡ slots → length words ≡ n / 64 + 1 → off ≤ n → w ≡ get_or words (off / 64) w →
-    number_of slots off ≡ number_of slots (64 * (off / 64)) + count_ones (bit_and w (1 * 2 ^ (off % 64) % 2 ^ 64 - 1))
+    offset_number slots off ≡ offset_number slots (64 * (off / 64)) + count_ones (bit_and w (1 * 2 ^ (off % 64) % 2 ^ 64 - 1))
 number_before words slots n off w view len h is =
     let read : w ≡ get_or words (off / 64) 0 = get_or_read words (off / 64) w (omega (arith, len, h)) is 0 in
     let split : 64 * (off / 64) + off % 64 ≡ off = omega arith in
-    subst (λ (l : List ℕ). number_of l off ≡ number_of l (64 * (off / 64)) + count_ones (bit_and w (1 * 2 ^ (off % 64) % 2 ^ 64 - 1))) view
-    (ap (number_of (slots_of words n)) (sym split)
+    subst (λ (l : List ℕ). offset_number l off ≡ offset_number l (64 * (off / 64)) + count_ones (bit_and w (1 * 2 ^ (off % 64) % 2 ^ 64 - 1))) view
+    (ap (offset_number (slots_of words n)) (sym split)
     ∙ number_in_word words n (off / 64) (off % 64) (omega arith) (omega (arith, h))
-    ∙ ap (λ (m : ℕ). number_of (slots_of words n) (64 * (off / 64)) + count_ones m)
+    ∙ ap (λ (m : ℕ). offset_number (slots_of words n) (64 * (off / 64)) + count_ones m)
     (ap (λ (v : ℕ). v % 2 ^ (off % 64)) (sym read) ∙ sym (lower_bits w (off % 64) (omega arith))))
 
 pub number_whole : (words slots : List ℕ) (n word w : ℕ) → slots_of words n ≡ slots → length words ≡ n / 64 + 1 → word < n / 64 → w ≡ get_or words word w → w < 2 ^ 64 →
-    number_of slots (64 * word + 64) ≡ number_of slots (64 * word) + count_ones w
+    offset_number slots (64 * word + 64) ≡ offset_number slots (64 * word) + count_ones w
 number_whole words slots n word w view len h is fits =
     let read : w ≡ get_or words word 0 = get_or_read words word w (omega (arith, len, h)) is 0 in
-    subst (λ (l : List ℕ). number_of l (64 * word + 64) ≡ number_of l (64 * word) + count_ones w) view
+    subst (λ (l : List ℕ). offset_number l (64 * word + 64) ≡ offset_number l (64 * word) + count_ones w) view
     (number_in_word words n word 64 (omega arith) (omega (arith, h))
-    ∙ ap (λ (m : ℕ). number_of (slots_of words n) (64 * word) + count_ones m)
+    ∙ ap (λ (m : ℕ). offset_number (slots_of words n) (64 * word) + count_ones m)
     (ap (λ (v : ℕ). v % 2 ^ 64) (sym read) ∙ mod-eq_of_lt fits))

@@ -27,7 +27,7 @@ use Rattle.btf_types.proofs.Spelled.{info_parts, InfoParts, kind_below, vlen_bel
 use Rattle.btf_types.proofs.TableLemmas.TableReads.{count_there}
 use Rattle.btf_types.proofs.TabulateSteps.{All-tabulate}
 use Rattle.btf_types.proofs.TableLemmas.TextSteps.{decided}
-use Rattle.bpf_canon.specs.btf.CanonicalBtf.{canonical_flag, item_words as words_of, record_words}
+use Rattle.bpf_canon.specs.btf.CanonicalBtf.{canonical_flag, words_of_item as words_of, record_words}
 use Rattle.bpf_canon.specs.btf.write.KeptFrames.{record_info, record_items, record_tail}
 use Rattle.bpf_canon.specs.btf.write.NameOffsets.{HasNamedItems}
 use Rattle.bpf_canon.proofs.BtfLemmas.Write.RecordNames.{head_name_is}
@@ -325,6 +325,14 @@ two_or_three_words other has = absurd cc
 
 pub two_or_three : (f : List ℕ) → IsFrame f → has_item_names (kind f) ≡ true → (item_words (kind f) ≡ 2) ⊎ (item_words (kind f) ≡ 3)
 two_or_three f frame has = two_or_three_words (known f frame) has
+
+pub item_size : (f : List ℕ) (size count : ℕ) → IsFrame f → HasNamedItems f size count → (size ≡ 2) ⊎ (size ≡ 3)
+item_size f size count frame items = elim (two_or_three f frame items.named) [ inl two ↦ inl (sym items.words ∙ two) | inr three ↦ inr (sym items.words ∙ three) ]
+
+-- items are few and short, so that each begins at a small number
+pub item_begins : (size k : ℕ) → (size ≡ 2) ⊎ (size ≡ 3) → k < 2 ^ 16 → 3 + size * k < 2 ^ 20
+item_begins size k (inl two) low = rw two (omega arith)
+item_begins size k (inr three) low = rw three (omega arith)
 
 pub item_room : (f : List ℕ) (size count k : ℕ) → IsFrame f → HasNamedItems f size count → k < count → (2 ≤ size) × (3 + size * k + size ≤ length f)
 item_room f size count k frame items low =

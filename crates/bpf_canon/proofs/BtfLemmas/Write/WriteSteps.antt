@@ -20,7 +20,7 @@ use Rattle.btf_types.specs.Good.{has_width, has_bit_fields, MemberIsGood, IsGood
 use Rattle.btf_types.specs.tables.TableWords.{record_at, no_record}
 use Rattle.btf_types.proofs.Members.{Has, any_from_Has}
 use Rattle.bpf_canon.specs.btf.write.BtfWords.{head_vlen, head_words, MemberFits}
-use Rattle.bpf_canon.specs.btf.CanonicalBtf.{canonical, canonical_types, item_words, record_words}
+use Rattle.bpf_canon.specs.btf.CanonicalBtf.{canonical, canonical_types, words_of_item, record_words}
 use Rattle.bpf_canon.proofs.BtfLemmas.CanonicalFiles.{canonical_size}
 use Rattle.btf_types.proofs.TableLemmas.TableWalk.{take_more, get_is, get_or_is, records_more}
 
@@ -36,9 +36,9 @@ header_words Big t s = refl
 -- ---- records
 
 pub item_pushed : (o : Order) (old : List ℕ) (place : List ℕ → ℕ) (xs : List TypeItem) (k : ℕ) (x : TypeItem) → slice_get xs k ≡ Some x
-    → (old ++ bytes_of o (flat_map (item_words place) (take k xs))) ++ bytes_of o (item_words place x) ≡ old ++ bytes_of o (flat_map (item_words place) (take (k + 1) xs))
+    → (old ++ bytes_of o (flat_map (words_of_item place) (take k xs))) ++ bytes_of o (words_of_item place x) ≡ old ++ bytes_of o (flat_map (words_of_item place) (take (k + 1) xs))
 item_pushed o old place xs k x e =
-    let f = item_words place in
+    let f = words_of_item place in
     let next : k + 1 ≡ suc k = omega arith in
     let more : take (k + 1) xs ≡ take k xs ++ x ∷ [] = rw next (take_more xs k x e) in
     let words : flat_map f (take (k + 1) xs) ≡ flat_map f (take k xs) ++ f x =
@@ -50,9 +50,9 @@ vlen_is (KFunc name linkage target) xs = refl
 vlen_is h xs = refl
 
 pub record_pushed : (o : Order) (old : List ℕ) (place : List ℕ → ℕ) (r : TypeRecord) (count : ℕ) → count ≡ length r.items
-    → (old ++ bytes_of o (head_words place r.head count (has_bit_fields r))) ++ bytes_of o (flat_map (item_words place) r.items) ≡ old ++ bytes_of o (record_words place r)
+    → (old ++ bytes_of o (head_words place r.head count (has_bit_fields r))) ++ bytes_of o (flat_map (words_of_item place) r.items) ≡ old ++ bytes_of o (record_words place r)
 record_pushed o old place r count e =
-    pushed_two o old (head_words place r.head count (has_bit_fields r)) (flat_map (item_words place) r.items)
+    pushed_two o old (head_words place r.head count (has_bit_fields r)) (flat_map (words_of_item place) r.items)
     ∙ rw (e, vlen_is r.head r.items) refl
 
 pub section_pushed : (o : Order) (place : List ℕ → ℕ) (v : List TypeRecord) (i : ℕ) → i < length v

@@ -5,7 +5,7 @@ use Rattle.btf_types.specs.Names.{with_nul, place_in}
 use Rattle.btf_types.specs.Reading.{text_from}
 use Rattle.btf_types.specs.strings.SharedNames.{is_suffix, hosts, host, shared_table, shared_place}
 use Rattle.btf_types.specs.strings.CommonTails.{at_rank}
-use Rattle.bpf_canon.specs.btf.strings.UsedOffsets.{number_of}
+use Rattle.bpf_canon.specs.btf.strings.UsedOffsets.{offset_number}
 use Rattle.bpf_canon.specs.btf.strings.InHost.{host_at, no_host}
 use Rattle.bpf_canon.specs.declared.btf.strings.hosts_by_rank.InHost.{InHost}
 use Rattle.bpf_canon.specs.declared.btf.strings.host_places.Span.{Span}
@@ -53,8 +53,8 @@ pub record AreHostPlaces (section : List ℕ) (sorted xs : List (List ℕ)) (by_
 -- Of names at offsets of a section, the place of each in the table that they share is known by its number, and the table by its hosts.
 pub record ArePlaced (section offsets slots places : List ℕ) (spans : List Span) (len : ℕ) : Type 0 where
   pub used : (off : ℕ) → Contains offsets off → slice_index slots off ≢ 0
-  pub numbers : length places ≡ number_of slots (length slots)
-  pub place : (off : ℕ) → Contains offsets off → slice_index places (number_of slots off) ≡ shared_place (map (text_from section) offsets) (text_from section off)
+  pub numbers : length places ≡ offset_number slots (length slots)
+  pub place : (off : ℕ) → Contains offsets off → slice_index places (offset_number slots off) ≡ shared_place (map (text_from section) offsets) (text_from section off)
   pub are_spans : All (IsSpan section) spans
   pub texts : flat_map (span_bytes section) spans ≡ flat_map with_nul (hosts (map (text_from section) offsets))
   pub whole : len ≡ length (shared_table (map (text_from section) offsets))

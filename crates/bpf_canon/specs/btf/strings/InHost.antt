@@ -3,7 +3,7 @@ use Rattle.std.specs.Prelude.{◌≡◌, ◌≢◌, ℕ, ◌+◌, ◌-◌, ◌^�
 use Rattle.btf_types.specs.Reading.{text_from}
 use Rattle.btf_types.specs.strings.SharedNames.{is_suffix, hosts_of, host_in}
 use Rattle.btf_types.specs.strings.CommonTails.{at_rank, AreInTailOrder}
-use Rattle.bpf_canon.specs.btf.strings.UsedOffsets.{number_of}
+use Rattle.bpf_canon.specs.btf.strings.UsedOffsets.{offset_number}
 use Rattle.bpf_canon.specs.btf.strings.SectionTexts.{text_in}
 use Rattle.bpf_canon.specs.btf.strings.Ranks.{AreRanked}
 use Rattle.bpf_canon.specs.btf.strings.Longest.{IsWithin, AreLongestOf}
@@ -25,7 +25,7 @@ no_host = record { host = 0; before = 0; len = 0 }
 
 -- the host of a used offset
 abbrev pub host_at : List ℕ → List InHost → ℕ → InHost
-host_at slots in_hosts off = slice_index_or in_hosts (number_of slots off) no_host
+host_at slots in_hosts off = slice_index_or in_hosts (offset_number slots off) no_host
 
 -- The used offsets within a text were given their hosts, and the others stayed as they were.
 pub record FindsWithin (section slots : List ℕ) (sorted : List (List ℕ)) (t : SectionText) (old new : List InHost) : Type 0 where
@@ -35,7 +35,7 @@ pub record FindsWithin (section slots : List ℕ) (sorted : List (List ℕ)) (t 
 
 -- Each used offset has its host, but where its text is empty.
 pub record AreInHosts (section slots : List ℕ) (sorted : List (List ℕ)) (in_hosts : List InHost) : Type 0 where
-  pub whole : length in_hosts ≡ number_of slots (length slots)
+  pub whole : length in_hosts ≡ offset_number slots (length slots)
   pub empty : (off : ℕ) → slice_index slots off ≢ 0 → slice_index section off ≡ 0 → host_at slots in_hosts off ≡ no_host
   pub some : (off : ℕ) → slice_index slots off ≢ 0 → slice_index section off ≢ 0 → IsInHost sorted (text_from section off) (host_at slots in_hosts off)
 
@@ -43,10 +43,6 @@ pub record AreInHosts (section slots : List ℕ) (sorted : List (List ℕ)) (in_
 pub record IsAlone (slots common : List ℕ) (rank : ℕ) (t : SectionText) : Type 0 where
   pub less : slice_index common rank < t.end - t.start
   pub unused : (off : ℕ) → t.start + 1 ≤ off → off < t.end → slice_index slots off ≡ 0
-
--- the texts of all ranks below n are alone
-abbrev pub AreAlone : List ℕ → List ℕ → List SectionText → ℕ → Type 0
-AreAlone slots common ts n = (rank : ℕ) (d : SectionText) → rank < n → rank < length ts → IsAlone slots common rank (slice_index_or ts rank d)
 
 -- The longest used texts of a section, sorted, with their numbers.
 pub record AreRankedTexts (section slots : List ℕ) (ts : List SectionText) (common hosts : List ℕ) : Type 0 where

@@ -7,10 +7,10 @@ used_below slots zero = []
 used_below slots (suc n) = if slice_index slots n == 0 then used_below slots n else used_below slots n ++ n ∷ []
 
 -- the number of an offset: how many used ones come before it
-abbrev pub number_of : List ℕ → ℕ → ℕ
-number_of slots off = length (used_below slots off)
+abbrev pub offset_number : List ℕ → ℕ → ℕ
+offset_number slots off = length (used_below slots off)
 
 -- For each 64 offsets, how many used ones come before them.
 pub record AreCounted (slots before : List ℕ) : Type 0 where
   pub words : length before ≡ length slots / 64 + 1
-  pub counts : (word : ℕ) → word < length before → slice_index before word ≡ number_of slots (64 * word)
+  pub counts : (word : ℕ) → word < length before → slice_index before word ≡ offset_number slots (64 * word)

@@ -7,7 +7,7 @@ use Rattle.btf_types.specs.Spelling.{kind_number, head_tail, record_vlen, info}
 use Rattle.btf_types.specs.Good.{has_bit_fields}
 use Rattle.btf_types.specs.Reading.{frame_at, record_of}
 use Rattle.btf_types.specs.tables.PlaceWords.{HasRecordAt}
-use Rattle.bpf_canon.specs.btf.CanonicalBtf.{canonical_flag, item_words}
+use Rattle.bpf_canon.specs.btf.CanonicalBtf.{canonical_flag, words_of_item}
 
 -- the frame at a place, and its record
 abbrev pub frame_in : FileSections → ℕ → List ℕ
@@ -26,7 +26,7 @@ record_info r = info (kind_number r.head) (record_vlen r) (canonical_flag r.head
 
 -- the words of a record's items, and all words after the third
 abbrev pub record_items : (List ℕ → ℕ) → TypeRecord → List ℕ
-record_items place r = flat_map (item_words place) r.items
+record_items place r = flat_map (words_of_item place) r.items
 
 abbrev pub record_tail : (List ℕ → ℕ) → TypeRecord → List ℕ
 record_tail place r = head_tail r.head ++ record_items place r

@@ -6,7 +6,7 @@ ghost use Rattle.btf_raw.specs.Header.{HasNulEnds};
 ghost use Rattle.btf_types.specs.Reading.{text_from};
 ghost use Rattle.btf_types.specs.strings.SharedNames.{tail_cmp, shared_table};
 ghost use Rattle.bpf_canon.specs.btf.strings.SectionTexts.{text_in};
-ghost use Rattle.bpf_canon.specs.btf.strings.UsedOffsets.{number_of};
+ghost use Rattle.bpf_canon.specs.btf.strings.UsedOffsets.{offset_number};
 ghost use Rattle.bpf_canon.specs.btf.strings.HostPlaces.{IsSpan, HasText, HasHost, AreHostPlaces};
 
 use crate::btf::strings::hosts_by_rank::InHost;
@@ -57,7 +57,7 @@ pub(crate) fn place_hosts<A: Allocator + Copy>(
     requires order { IsSorted tail_cmp (map (text_in ranked.now.section.now) ranked.now.texts.items) }
     requires ends { HasNulEnds ranked.now.section.now }
     requires few { length ranked.now.section.now < 2 ^ 32 }
-    requires whole { length in_hosts.now ≡ number_of uses.now (length uses.now) }
+    requires whole { length in_hosts.now ≡ offset_number uses.now (length uses.now) }
     requires in_hosts { All (HasHost ranked.now.section.now uses.now (map (text_in ranked.now.section.now) ranked.now.texts.items) (map (text_from ranked.now.section.now) offsets.now) in_hosts.now) offsets.now }
     requires room { length (shared_table (map (text_from ranked.now.section.now) offsets.now)) < 2 ^ 32 }
     ensures { IfOk result (λ h. AreHostPlaces ranked.now.section.now (map (text_in ranked.now.section.now) ranked.now.texts.items) (map (text_from ranked.now.section.now) offsets.now) h.by_rank.items h.spans.items h.len) }

@@ -1,11 +1,10 @@
 //! The host of each name, by the ranks of the longest texts.
-ghost use Rattle.std.specs.Prelude.{◌≡◌, ◌<◌, ◌^◌, true, false, length, map, slice_index_or, IfOk};
-ghost use Rattle.std.specs.List.{All, Any};
-ghost use Rattle.std.specs.List.Sorted.{IsPermutation};
+ghost use Rattle.std.specs.Prelude.{◌≡◌, ◌<◌, ◌^◌, length, map, slice_index_or, IfOk, IfSome};
+ghost use Rattle.std.specs.List.{All};
 ghost use Rattle.bpf_canon.specs.btf.strings.Ranks.{AreLower, AreRanked};
-ghost use Rattle.bpf_canon.specs.btf.strings.Longest.{IsUsed, AreLongestOf};
+ghost use Rattle.bpf_canon.specs.btf.strings.Longest.{IsUsed};
 ghost use Rattle.bpf_canon.specs.btf.strings.SectionTexts.{text_in};
-ghost use Rattle.bpf_canon.specs.btf.strings.UsedOffsets.{number_of};
+ghost use Rattle.bpf_canon.specs.btf.strings.UsedOffsets.{offset_number};
 ghost use Rattle.bpf_canon.specs.btf.strings.InHost as spec;
 
 use crate::btf::strings::ranked_texts::RankedTexts;
@@ -49,7 +48,7 @@ fn find_within<A: Allocator>(
     requires slots { length uses.now ≡ length ranked.now.section.now }
     requires section { length ranked.now.section.now < 2 ^ 32 }
     requires inside { rank < length ranked.now.texts.items }
-    requires whole { length in_hosts.old ≡ number_of uses.now (length uses.now) }
+    requires whole { length in_hosts.old ≡ offset_number uses.now (length uses.now) }
     ensures { spec.FindsWithin ranked.now.section.now uses.now (map (text_in ranked.now.section.now) ranked.now.texts.items) (slice_index_or ranked.now.texts.items rank (record { key = 0; before = 0; start = 0; end = 0 })) in_hosts.old in_hosts.new }
 {
     let end = ranked.texts[rank].end;
@@ -68,36 +67,24 @@ fn find_within<A: Allocator>(
     }
 }
 
-/// Whether all texts are different and no name begins inside one, as in most files.
-fn are_alone<A: Allocator>(uses: &UsedOffsets<A>, ranked: &RankedTexts<'_, A>) -> bool
-    requires { spec.AreRankedTexts ranked.now.section.now uses.now ranked.now.texts.items ranked.now.common.items ranked.now.hosts.items }
-    ensures yes { result ≡ true → spec.AreAlone uses.now ranked.now.common.items ranked.now.texts.items (length ranked.now.texts.items) }
-    ensures no { result ≡ false → ¬ spec.AreAlone uses.now ranked.now.common.items ranked.now.texts.items (length ranked.now.texts.items) }
-{
-    for rank in 0..ranked.texts.len() {
-        let text = ranked.texts[rank];
-        let is_alone = ranked.common[rank] < text.len()
-            && uses.are_unused(text.start as usize + 1, text.end as usize);
-        if !is_alone {
-            return false;
-        }
-    }
-    true
-}
-
-/// The host of each used offset, by its number, if each text is alone: the host of a rank is the next host from that rank on.
+/// The host of each used offset, by its number, if all texts are different and no name begins inside one, as in most files: the host
+/// of a rank is the next host from that rank on. Otherwise none.
 fn find_alone<A: Allocator + Copy>(
     alloc: A,
     uses: &UsedOffsets<A>,
     ranked: &RankedTexts<'_, A>,
-) -> Result<Vec<InHost, A>, AllocError>
-    requires texts { spec.AreRankedTexts ranked.now.section.now uses.now ranked.now.texts.items ranked.now.common.items ranked.now.hosts.items }
-    requires alone { spec.AreAlone uses.now ranked.now.common.items ranked.now.texts.items (length ranked.now.texts.items) }
-    ensures { IfOk result (λ in_hosts. spec.AreInHosts ranked.now.section.now uses.now (map (text_in ranked.now.section.now) ranked.now.texts.items) in_hosts.items) }
+) -> Result<Option<Vec<InHost, A>>, AllocError>
+    requires { spec.AreRankedTexts ranked.now.section.now uses.now ranked.now.texts.items ranked.now.common.items ranked.now.hosts.items }
+    ensures { IfOk result (λ found. IfSome found (λ in_hosts. spec.AreInHosts ranked.now.section.now uses.now (map (text_in ranked.now.section.now) ranked.now.texts.items) in_hosts.items)) }
 {
     let mut in_hosts = vec![in alloc; InHost::NONE; uses.count()]?;
     for rank in 0..ranked.texts.len() {
         let text = ranked.texts[rank];
+        if ranked.common[rank] >= text.len()
+            || !uses.are_unused(text.start as usize + 1, text.end as usize)
+        {
+            return Ok(None);
+        }
         let host = ranked.hosts[rank];
         let len = ranked.texts[host as usize].len();
         in_hosts[uses.number(text.start as usize)] = InHost {
@@ -106,7 +93,7 @@ fn find_alone<A: Allocator + Copy>(
             len,
         };
     }
-    Ok(in_hosts)
+    Ok(Some(in_hosts))
 }
 
 /// The host of each used offset, by its number, also if texts are the same or names begin inside one.
@@ -135,9 +122,8 @@ pub(crate) fn find_hosts<A: Allocator + Copy>(
     requires { spec.AreRankedTexts ranked.now.section.now uses.now ranked.now.texts.items ranked.now.common.items ranked.now.hosts.items }
     ensures { IfOk result (λ in_hosts. spec.AreInHosts ranked.now.section.now uses.now (map (text_in ranked.now.section.now) ranked.now.texts.items) in_hosts.items) }
 {
-    if are_alone(uses, ranked) {
-        find_alone(alloc, uses, ranked)
-    } else {
-        find_shared(alloc, uses, ranked)
+    match find_alone(alloc, uses, ranked)? {
+        Some(in_hosts) => Ok(in_hosts),
+        None => find_shared(alloc, uses, ranked),
     }
 }

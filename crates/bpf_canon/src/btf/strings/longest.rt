@@ -4,9 +4,9 @@ ghost use Rattle.btf_raw.specs.Header.{HasNulEnds};
 ghost use Rattle.bpf_canon.specs.btf.strings.Longest.{AreLongestOf};
 
 use crate::btf::strings::section_texts::SectionText;
-use crate::btf::strings::texts::text_end;
 use crate::btf::strings::used_offsets::UsedOffsets;
 use crate::btf::suffixes::suffix_key;
+use btf_raw::text_end;
 use std::alloc::{AllocError, Allocator};
 
 /// The longest used text of each string of the section. The texts at further offsets of that string are its suffixes.

@@ -1,6 +1,6 @@
 //! A set of offsets of a string section.
 ghost use Rattle.std.specs.Prelude.{◌≡◌, ◌≢◌, ◌+◌, ◌*◌, ◌/◌, ◌<◌, ◌≤◌, true, false, length, replicate, set, slice_index, IfOk};
-ghost use Rattle.bpf_canon.specs.btf.strings.UsedOffsets.{number_of};
+ghost use Rattle.bpf_canon.specs.btf.strings.UsedOffsets.{offset_number};
 
 use std::alloc::{AllocError, Allocator};
 use std::marker::Model;
@@ -65,7 +65,7 @@ impl<A: Allocator> OffsetSet<A> {
     /// The number of offsets that the set has in a whole word.
     pub(crate) fn count_in(&self, word: usize) -> u32
         requires { word < length self.now / 64 }
-        ensures { number_of self.now (64 * word + 64) ≡ number_of self.now (64 * word) + result }
+        ensures { offset_number self.now (64 * word + 64) ≡ offset_number self.now (64 * word) + result }
     {
         let bits = self.words[word];
         bits.count_ones()
@@ -74,7 +74,7 @@ impl<A: Allocator> OffsetSet<A> {
     /// The number of offsets that the set has in the word of this offset, before it.
     pub(crate) fn count_before(&self, off: usize) -> u32
         requires { off ≤ length self.now }
-        ensures { number_of self.now off ≡ number_of self.now (64 * (off / 64)) + result }
+        ensures { offset_number self.now off ≡ offset_number self.now (64 * (off / 64)) + result }
     {
         (self.words[off / 64] & ((1u64 << (off % 64)) - 1)).count_ones()
     }

@@ -68,7 +68,7 @@ impl<A: Allocator> UsedOffsets<A> {
     /// The number of used offsets before this one.
     fn used_before(&self, off: usize) -> usize
         requires { off ≤ length self.now }
-        ensures { result ≡ spec.number_of self.now off }
+        ensures { result ≡ spec.offset_number self.now off }
     {
         self.before[off / 64] as usize + self.marks.count_before(off) as usize
     }
@@ -76,15 +76,15 @@ impl<A: Allocator> UsedOffsets<A> {
     /// The number of a used offset: how many used ones come before it.
     pub(crate) fn number(&self, off: usize) -> usize
         requires { slice_index self.now off ≢ 0 }
-        ensures number { result ≡ spec.number_of self.now off }
-        ensures below { result < spec.number_of self.now (length self.now) }
+        ensures number { result ≡ spec.offset_number self.now off }
+        ensures below { result < spec.offset_number self.now (length self.now) }
     {
         self.used_before(off)
     }
 
     /// The number of used offsets.
     pub(crate) fn count(&self) -> usize
-        ensures { result ≡ spec.number_of self.now (length self.now) }
+        ensures { result ≡ spec.offset_number self.now (length self.now) }
     {
         self.used_before(self.marks.section_len())
     }

@@ -1,5 +1,5 @@
 //! The records of a section, copied word by word with their names at other places (btf.rst section 2.2).
-ghost use Rattle.std.specs.Prelude.{◌≡◌, ◌+◌, ◌++◌, OnOk, length, drop, map};
+ghost use Rattle.std.specs.Prelude.{◌≡◌, ◌+◌, ◌≤◌, ◌⊎◌, [], ◌∷◌, ◌++◌, OnOk, length, slice_index, take, drop, map};
 ghost use Rattle.std.specs.List.{All, Contains};
 ghost use Rattle.btf_raw.specs.Frames.{bytes_of, section_of, info_word};
 ghost use Rattle.btf_types.specs.strings.SharedNames.{shared_place};
@@ -65,49 +65,27 @@ fn canonical_info(sections: &FileSections<'_>, pos: usize, info: u32) -> u32
     }
 }
 
-/// Appends the items of a record whose items have a name_off and two more words.
-fn push_long_items<A: Allocator, B: Allocator + Copy>(
+/// Appends an item of `size` words, which begins at word `at` of its record: its name, and its other words.
+fn push_item<A: Allocator>(
     out: &mut Vec<u8, A>,
     to: Order,
-    names: &SharedPlaces<'_, B>,
     sections: &FileSections<'_>,
     pos: usize,
-    count: u16,
+    at: usize,
+    size: usize,
+    name: u32,
 ) -> Result<(), AllocError>
     requires record { HasRecord sections.now pos }
-    requires noted { HasNotedNames names.now sections.now pos }
-    requires items { HasNamedItems (frame_in sections.now pos) 3 count }
-    ensures { OnOk result (out.new.items ≡ out.old.items ++ bytes_of to (record_items (shared_place (placed_texts names.now)) (record_in sections.now pos))) }
+    requires there { at + size ≤ length (frame_in sections.now pos) }
+    requires size { (size ≡ 2) ⊎ (size ≡ 3) }
+    ensures { let word = slice_index (frame_in sections.now pos) in
+        OnOk result (out.new.items ≡ out.old.items ++ bytes_of to (take size (name ∷ word (at + 1) ∷ word (at + 2) ∷ []))) }
 {
-    for k in 0..usize::from(count) {
-        let name = names.place(sections.word(pos, 3 + 3 * k));
-        let second = sections.word(pos, 4 + 3 * k);
-        let third = sections.word(pos, 5 + 3 * k);
-        push_three(out, to, [name, second, third])?;
+    let second = sections.word(pos, at + 1);
+    if size == 2 {
+        return push_two(out, to, [name, second]);
     }
-    Ok(())
-}
-
-/// Appends the items of a record whose items have a name_off and one more word.
-fn push_short_items<A: Allocator, B: Allocator + Copy>(
-    out: &mut Vec<u8, A>,
-    to: Order,
-    names: &SharedPlaces<'_, B>,
-    sections: &FileSections<'_>,
-    pos: usize,
-    count: u16,
-) -> Result<(), AllocError>
-    requires record { HasRecord sections.now pos }
-    requires noted { HasNotedNames names.now sections.now pos }
-    requires items { HasNamedItems (frame_in sections.now pos) 2 count }
-    ensures { OnOk result (out.new.items ≡ out.old.items ++ bytes_of to (record_items (shared_place (placed_texts names.now)) (record_in sections.now pos))) }
-{
-    for k in 0..usize::from(count) {
-        let name = names.place(sections.word(pos, 3 + 2 * k));
-        let second = sections.word(pos, 4 + 2 * k);
-        push_two(out, to, [name, second])?;
-    }
-    Ok(())
+    push_three(out, to, [name, second, sections.word(pos, at + 2)])
 }
 
 /// Appends the items of a record. Each item has `size` words, and the first is its name_off.
@@ -125,11 +103,12 @@ fn push_items<A: Allocator, B: Allocator + Copy>(
     requires items { HasNamedItems (frame_in sections.now pos) size count }
     ensures { OnOk result (out.new.items ≡ out.old.items ++ bytes_of to (record_items (shared_place (placed_texts names.now)) (record_in sections.now pos))) }
 {
-    if size == 2 {
-        push_short_items(out, to, names, sections, pos, count)
-    } else {
-        push_long_items(out, to, names, sections, pos, count)
+    for k in 0..usize::from(count) {
+        let at = 3 + size * k;
+        let name = names.place(sections.word(pos, at));
+        push_item(out, to, sections, pos, at, size, name)?;
     }
+    Ok(())
 }
 
 /// Appends the words after the third of a record whose items have no names.

@@ -12,7 +12,7 @@ ghost use Rattle.btf_types.specs.Denotes.{Denotes};
 ghost use Rattle.btf_types.specs.tables.TableWords.{record_at};
 ghost use Rattle.bpf_canon.specs.btf.names.Interned.{IsPlaced};
 ghost use Rattle.bpf_canon.specs.btf.write.BtfWords.{head_words, MemberFits};
-ghost use Rattle.bpf_canon.specs.btf.CanonicalBtf.{canonical, item_words, record_words};
+ghost use Rattle.bpf_canon.specs.btf.CanonicalBtf.{canonical, words_of_item, record_words};
 
 use crate::btf::names::kept::kept_names;
 use crate::btf::names::shared::SharedNames;
@@ -77,7 +77,7 @@ fn push_item<A: Allocator, B: Allocator + Copy>(
 ) -> Result<(), AllocError>
     requires fits { MemberFits (item_value item) }
     requires placed { IsPlaced names.now (spec.item_name (item_value item)) }
-    ensures { OnOk result (out.new.items ≡ out.old.items ++ bytes_of order (item_words (shared_among names.now) (item_value item.entry))) }
+    ensures { OnOk result (out.new.items ≡ out.old.items ++ bytes_of order (words_of_item (shared_among names.now) (item_value item.entry))) }
 {
     match item {
         Item::Member {

@@ -1,6 +1,6 @@
 use Rattle.std.proofs.Common.{◌≡◌, ◌≢◌, ℕ, refl, ◌+◌, ◌-◌, List, map, get_or, set, arith, subst, sym, ap, ◌∙◌}
 use Rattle.bpf_canon.specs.btf.strings.SectionTexts.{text_in}
-use Rattle.bpf_canon.specs.btf.strings.UsedOffsets.{number_of}
+use Rattle.bpf_canon.specs.btf.strings.UsedOffsets.{offset_number}
 use Rattle.bpf_canon.specs.declared.btf.strings.hosts_by_rank.InHost.{InHost}
 use Rattle.bpf_canon.proofs.BtfLemmas.Strings.InHostSteps.{WithinTo, steps_back, within_skips, within_finds, no_text}
 use Rattle.bpf_canon.proofs.btf.strings.hosts_by_rank.find_within.Goals as goal
@@ -32,9 +32,9 @@ loop-off-preserved g c =
           let h : InHost = record { host = w.index-host.result.now + 1; before = w.len-len.result - (c.index.result.now.end - off); len = w.len-len.result } in
           let before : h.before + (c.index.result.now.end - off) ≡ w.index-then-is_used.result.now.end - w.index-then-is_used.result.now.start = omega (arith, step.shorter, w.len-len.ensures) in
           let used : get_or slots off 0 ≢ 0 = c.is_used.ensures.yes w.if-is_used.true in
-          let put : c.if-is_used.in_hosts ≡ set in_hosts (number_of slots off) h = w.in_hosts-is ∙ ap (λ (n : ℕ). set in_hosts n h) w.number.ensures.number in
+          let put : c.if-is_used.in_hosts ≡ set in_hosts (offset_number slots off) h = w.in_hosts-is ∙ ap (λ (n : ℕ). set in_hosts n h) w.number.ensures.number in
           subst (λ (l : List InHost). WithinTo section slots sorted r.common.items t c.args.rank old l c.if-is_used.from (off + 1)) (sym put)
-          (subst (λ (n : ℕ). WithinTo section slots sorted r.common.items t c.args.rank old (set in_hosts (number_of slots off) h) n (off + 1)) (sym w.from-is)
+          (subst (λ (n : ℕ). WithinTo section slots sorted r.common.items t c.args.rank old (set in_hosts (offset_number slots off) h) n (off + 1)) (sym w.from-is)
           (within_finds section slots sorted r.common.items t c.args.rank old in_hosts c.loop-off.from off w.first_rank-from.result h c.loop-off.invariant c.requires.whole step.low used w.first_rank-from.ensures.before step.back (step.in_hosts h refl before w.len-len.ensures)))
       | else-is_used w ↦
           let unused : get_or slots off 0 ≡ 0 = c.is_used.ensures.no w.if-is_used.false in

@@ -9,7 +9,7 @@ use Rattle.btf_types.specs.Good.{has_bit_fields}
 use Rattle.btf_types.specs.tables.TableWords.{record_at}
 use Rattle.bpf_canon.specs.btf.names.Interned.{IsPlaced}
 use Rattle.bpf_canon.specs.btf.write.BtfWords.{head_words}
-use Rattle.bpf_canon.specs.btf.CanonicalBtf.{item_words}
+use Rattle.bpf_canon.specs.btf.CanonicalBtf.{words_of_item}
 use Rattle.bpf_canon.proofs.BtfLemmas.Names.Gathering.{head_placed, item_placed}
 use Rattle.bpf_canon.proofs.BtfLemmas.Write.WriteSteps.{item_fits, item_pushed, record_pushed}
 use Rattle.bpf_canon.proofs.btf.write.table.push_table_record.Goals as goal
@@ -33,7 +33,7 @@ loop-k-preserved g c =
     let r = record_at (g.T.TypeTable.meaning c.args.table.now) c.args.id in
     let front : List ℕ = c.args.out.now.items ++ bytes_of c.args.order (head_words place r.head (length r.items) (has_bit_fields r)) in
     c.in_ok-push_item.ensures
-    ∙ ap (λ (t : List ℕ). t ++ bytes_of c.args.order (item_words place (item_value c.item.result))) c.loop-k.invariant
+    ∙ ap (λ (t : List ℕ). t ++ bytes_of c.args.order (words_of_item place (item_value c.item.result))) c.loop-k.invariant
     ∙ item_pushed c.args.order front place r.items c.loop-k.k (item_value c.item.result) c.item.ensures
 
 pub returns : goal.returns
@@ -42,5 +42,5 @@ returns g c =
     let r = record_at (g.T.TypeTable.meaning c.args.table.now) c.args.id in
     let front : List ℕ = c.args.out.now.items ++ bytes_of c.args.order (head_words place r.head (length r.items) (has_bit_fields r)) in
     c.loop-k.invariant
-    ∙ ap (λ (xs : List TypeItem). front ++ bytes_of c.args.order (flat_map (item_words place) xs)) (take_all c.loop-k.k r.items (omega arith))
+    ∙ ap (λ (xs : List TypeItem). front ++ bytes_of c.args.order (flat_map (words_of_item place) xs)) (take_all c.loop-k.k r.items (omega arith))
     ∙ record_pushed c.args.order c.args.out.now.items place r (length r.items) refl

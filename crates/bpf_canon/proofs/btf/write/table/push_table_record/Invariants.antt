@@ -5,7 +5,7 @@ use Rattle.btf_types.specs.strings.SharedNames.{shared_among}
 use Rattle.btf_types.specs.Good.{has_bit_fields}
 use Rattle.btf_types.specs.tables.TableWords.{record_at}
 use Rattle.bpf_canon.specs.btf.write.BtfWords.{head_words}
-use Rattle.bpf_canon.specs.btf.CanonicalBtf.{item_words}
+use Rattle.bpf_canon.specs.btf.CanonicalBtf.{words_of_item}
 use Rattle.bpf_canon.proofs.btf.write.table.push_table_record.Given as goal
 
 -- the head, and the items so far
@@ -13,4 +13,4 @@ abbrev pub invariant-loop-k : goal.invariant-loop-k
 invariant-loop-k g l =
     let place = shared_among l.names in
     let r = record_at (g.T.TypeTable.meaning l.table) l.id in
-    l.out.items ≡ (l.fn.out.items ++ bytes_of l.order (head_words place r.head (length r.items) (has_bit_fields r))) ++ bytes_of l.order (flat_map (item_words place) (take l.k r.items))
+    l.out.items ≡ (l.fn.out.items ++ bytes_of l.order (head_words place r.head (length r.items) (has_bit_fields r))) ++ bytes_of l.order (flat_map (words_of_item place) (take l.k r.items))

@@ -4,7 +4,7 @@ use Rattle.btf_types.specs.strings.SharedNames.{shared_place}
 use Rattle.bpf_canon.specs.btf.write.KeptFrames.{frame_in}
 use Rattle.bpf_canon.specs.btf.strings.NamesByPlace.{placed_texts}
 use Rattle.bpf_canon.proofs.BtfLemmas.Write.RecordWords.{items_to}
-use Rattle.bpf_canon.proofs.btf.write.records.push_short_items.Given as goal
+use Rattle.bpf_canon.proofs.btf.write.records.push_items.Given as goal
 
 -- the items so far
 abbrev pub invariant-loop-k : goal.invariant-loop-k
