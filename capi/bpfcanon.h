@@ -177,9 +177,9 @@ bpfcanon_answer bpfcanon_btf_check(const uint8_t *bytes, size_t len);
 
 /*
  * Gives the conformance groups that instructions need, with the groups that these include. Sets
- * `groups`.
+ * `groups`. It takes no memory.
  *
- * Statuses: BPFCANON_DONE, BPFCANON_FAULT, BPFCANON_MEMORY, BPFCANON_ORDER.
+ * Statuses: BPFCANON_DONE, BPFCANON_FAULT, BPFCANON_ORDER.
  */
 bpfcanon_answer bpfcanon_insn_groups(uint32_t order, const uint8_t *bytes, size_t len);
 

@@ -79,18 +79,12 @@ impl Verb {
         ensures some { IfSome result (λ verb. name.now ≡ name_of verb) }
         ensures none { IsNone result → (verb : Verb) → name.now ≡ name_of verb → ⊥ }
     {
-        match name {
-            "insn-canon" => Some(Verb::InsnCanon),
-            "insn-show" => Some(Verb::InsnShow),
-            "insn-read" => Some(Verb::InsnRead),
-            "insn-groups" => Some(Verb::InsnGroups),
-            "insn-same" => Some(Verb::InsnSame),
-            "btf-canon" => Some(Verb::BtfCanon),
-            "btf-show" => Some(Verb::BtfShow),
-            "btf-check" => Some(Verb::BtfCheck),
-            "btf-same" => Some(Verb::BtfSame),
-            _ => None,
+        for verb in Verb::ALL {
+            if verb.name() == name {
+                return Some(verb);
+            }
         }
+        None
     }
 
     /// Whether the command takes an option.

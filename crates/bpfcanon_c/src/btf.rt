@@ -3,7 +3,7 @@ ghost use Rattle.std.specs.Prelude.{◌≡◌};
 ghost use Rattle.bpfcanon_c.specs.Endings.{EndsBtf, EndsBtfIn, AnswersBtf, EndsBtfCheck, AnswersBtfCheck, EndsSameBtf, AnswersSameBtf};
 
 use crate::answer::{Answer, Ending, btf_code, order_from, put, report};
-use bpf_canon::{SideError, same_btf, write_btf};
+use bpf_canon::{SideError, canonical_in, same_btf};
 use bpf_insn::Order;
 use btf_types::{BtfError, BtfView, TypeTable};
 use std::alloc::Global;
@@ -35,11 +35,8 @@ fn btf_into(alloc: Global, to: u32, bytes: &[u8], out: &mut [u8]) -> Ending
 fn btf_in(alloc: Global, to: Order, bytes: &[u8], out: &mut [u8]) -> Ending
     ensures { EndsBtfIn to bytes.now out.old out.new result }
 {
-    match BtfView::parse(alloc, bytes) {
-        Ok(table) => match write_btf(alloc, to, &table) {
-            Ok(canon) => put(&canon, out),
-            Err(_) => Ending::Memory,
-        },
+    match canonical_in(alloc, to, bytes) {
+        Ok(canon) => put(&canon, out),
         Err(BtfError::Fault(fault)) => Ending::First(btf_code(fault)),
         Err(BtfError::Memory) => Ending::Memory,
     }

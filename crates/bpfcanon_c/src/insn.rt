@@ -6,7 +6,7 @@ ghost use Rattle.bpfcanon_c.specs.GroupMasks.{weighed, mask, EndsGroups, EndsGro
 
 use crate::answer::{Answer, Ending, order_from, put, report, slot_code};
 use bpf_canon::{SideError, recode_insns, same_insns};
-use bpf_insn::{Group, GroupSet, InsnError, Order, decode_insns, groups_of};
+use bpf_insn::{Group, GroupSet, InsnError, Order, groups_in};
 use std::alloc::Global;
 
 /// Writes the instructions of a file of the byte order `order` in the byte order `to` at the front of `out`, in the length of
@@ -49,32 +49,31 @@ fn insns_in(alloc: Global, order: Order, to: Order, bytes: &[u8], out: &mut [u8]
 }
 
 /// The conformance groups (RFC 9669 section 2.4) that the instructions of a file need, as a mask of 7 bits from the lowest:
-/// base32, base64, atomic32, atomic64, divmul32, divmul64, packet.
+/// base32, base64, atomic32, atomic64, divmul32, divmul64, packet. It takes no memory.
 #[unsafe(no_mangle)]
-pub extern "C" fn bpfcanon_proved_insn_groups(alloc: Global, order: u32, bytes: &[u8]) -> Answer
+pub extern "C" fn bpfcanon_proved_insn_groups(order: u32, bytes: &[u8]) -> Answer
     ensures { AnswersGroups order bytes.now result }
 {
-    report(groups_into(alloc, order, bytes))
+    report(groups_into(order, bytes))
 }
 
 /// The groups of a file, in the order that a number names.
-fn groups_into(alloc: Global, order: u32, bytes: &[u8]) -> Ending
+fn groups_into(order: u32, bytes: &[u8]) -> Ending
     ensures { EndsGroups order bytes.now result }
 {
     match order_from(order) {
-        Some(order) => groups_in(alloc, order, bytes),
+        Some(order) => groups_reported(order, bytes),
         None => Ending::Order,
     }
 }
 
 /// The groups of a file.
-fn groups_in(alloc: Global, order: Order, bytes: &[u8]) -> Ending
+fn groups_reported(order: Order, bytes: &[u8]) -> Ending
     ensures { EndsGroupsIn order bytes.now result }
 {
-    match decode_insns(alloc, order, bytes) {
-        Ok(insns) => Ending::Groups(mask_of(&groups_of(&insns))),
-        Err(InsnError::Fault(fault)) => Ending::First(slot_code(fault)),
-        Err(InsnError::Memory) => Ending::Memory,
+    match groups_in(order, bytes) {
+        Ok(groups) => Ending::Groups(mask_of(&groups)),
+        Err(fault) => Ending::First(slot_code(fault)),
     }
 }
 

@@ -12,7 +12,7 @@ use crate::commands::reply::{Reply, put_reply};
 use crate::job::Job;
 use crate::outcome::Outcome;
 use bpf_canon::{ByteSink, ByteSource};
-use bpf_insn::{Group, GroupSet, InsnError, Order, decode_insns, groups_of};
+use bpf_insn::{Group, GroupSet, Order, groups_in};
 use std::alloc::{AllocError, Allocator};
 
 /// The names of the groups of a set, each on a line of its own.
@@ -38,13 +38,12 @@ fn insn_groups_reply<A: Allocator + Copy>(
     requires { length input.now ≤ limit_of InsnGroups }
     ensures { IfOk result (λ r. IsGroupsReply (limit_of InsnGroups) order input.now r.outcome r.output.items) }
 {
-    match decode_insns(alloc, order, input) {
-        Ok(insns) => Ok(Reply {
+    match groups_in(order, input) {
+        Ok(groups) => Ok(Reply {
             outcome: Outcome::Done,
-            output: group_lines(alloc, groups_of(insns.as_slice()))?,
+            output: group_lines(alloc, groups)?,
         }),
-        Err(InsnError::Fault(fault)) => Ok(Reply::bare(alloc, Outcome::Fault(fault))),
-        Err(InsnError::Memory) => Err(AllocError),
+        Err(fault) => Ok(Reply::bare(alloc, Outcome::Fault(fault))),
     }
 }
 

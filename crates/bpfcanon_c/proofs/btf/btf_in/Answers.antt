@@ -4,8 +4,8 @@ use Rattle.bpfcanon_c.specs.Answers.{FillsRoom}
 use Rattle.bpfcanon_c.proofs.Rooms.{ends_btf}
 use Rattle.bpfcanon_c.proofs.btf.btf_in.Goals as goal
 
-pub returns-in-Ok-write_btf : goal.returns-in-Ok-write_btf
-returns-in-Ok-write_btf c =
-    let form = c.deref.ensures.value ∙ c.in-Ok-write_btf.ensures.form in
-    ends_btf c.args.to c.args.bytes.now c.args.out.now c.put.new.room c.in-Ok.table c.put.result c.in-Ok.ensures
-    (subst (λ (x : List ℕ). FillsRoom x c.args.out.now c.put.new.room c.put.result) form c.put.ensures)
+pub returns-in-Ok : goal.returns-in-Ok
+returns-in-Ok c =
+    let written = c.in-Ok.ensures.ok in
+    ends_btf c.args.to c.args.bytes.now c.args.out.now c.put.new.room written.0 c.put.result written.1.0
+    (subst (λ (x : List ℕ). FillsRoom x c.args.out.now c.put.new.room c.put.result) (c.deref.ensures.value ∙ written.1.1) c.put.ensures)
