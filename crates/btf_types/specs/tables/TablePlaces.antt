@@ -1,6 +1,8 @@
 -- The places in its two sections that a table keeps. The invariants of the tables and contracts of private functions cite them.
 use Rattle.std.specs.Prelude.{ℕ, List}
 use Rattle.bpf_words.specs.declared.Order.{Order}
+use Rattle.btf_types.specs.Values.{TypeRecord}
+use Rattle.btf_types.specs.Reading.{records_at}
 use Rattle.btf_types.specs.tables.StringEnds.{AreLongEnds}
 use Rattle.btf_types.specs.tables.TableInvariant.{IsTable}
 
@@ -8,6 +10,13 @@ use Rattle.btf_types.specs.tables.TableInvariant.{IsTable}
 pub record TablePlaces : Type 0 where
   pub records : List ℕ
   pub ends : List ℕ
+
+-- what a table means: records, and those that are read at its places
+abbrev pub TypeRecords : Type 0
+TypeRecords = List TypeRecord
+
+abbrev pub placed_records : Order → List ℕ → List ℕ → TablePlaces → TypeRecords
+placed_records o types strings places = records_at o types strings places.records
 
 -- the records at their places are a table, and the ends are those of the long strings
 pub record IsPlacedTable (o : Order) (types strings : List ℕ) (places : TablePlaces) : Type 0 where

@@ -32,14 +32,11 @@ pub struct BtfView<'a, A: Allocator = Global> {
 }
 
 impl<'a, A: Allocator> Model for BtfView<'a, A> {
-    ghost use Rattle.std.specs.Prelude.{List};
-    ghost use Rattle.btf_types.specs.Values.{TypeRecord};
-    ghost use Rattle.btf_types.specs.Reading.{records_at};
-    ghost use Rattle.btf_types.specs.tables.TablePlaces.{IsPlacedTable};
+    ghost use Rattle.btf_types.specs.tables.TablePlaces.{TypeRecords, placed_records, IsPlacedTable};
 
-    ghost Value = { List TypeRecord };
+    ghost Value = { TypeRecords };
 
-    ghost view = { λ t. records_at t.order t.types.now t.strings.now t.places.records };
+    ghost view = { λ t. placed_records t.order t.types.now t.strings.now t.places };
 
     ghost invariant = { λ t. IsPlacedTable t.order t.types.now t.strings.now t.places };
 }
