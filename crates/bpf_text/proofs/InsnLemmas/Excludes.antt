@@ -1,5 +1,5 @@
 -- A faulty line lists nothing.
-use Rattle.std.proofs.Common.{◌≡◌, ℕ, Bool, true, false, not, ◌||◌, ◌&&◌, List, [], ◌∷◌, ◌++◌, ◌⊎◌, inl, inr, refl, sym, ap, ◌∙◌, Result, Ok, Err, MatchResult, IfOk, Vec}
+use Rattle.std.proofs.Common.{◌≡◌, ℕ, Bool, true, false, not, ◌||◌, ◌&&◌, List, [], ◌∷◌, ◌++◌, ◌⊎◌, inl, inr, refl, sym, ap, ◌∙◌, Result, Ok, Err, MatchResult}
 use Rattle.std.specs.Result.{IsErrAnd}
 use Rattle.std.specs.List.{AllZip, list_any, list_all}
 use Rattle.std.proofs.lemmas.Bool.{false≢true}
@@ -15,7 +15,6 @@ use Rattle.bpf_text.specs.insn.Tokens.{code_of, is_blank, is_word_byte, is_symbo
 use Rattle.bpf_text.specs.insn.Listing.{IsTokenForm, ListsLine, IsCause, Lists, IsListFault}
 use Rattle.bpf_text.specs.insn.Reading.{RefusesText}
 use Rattle.bpf_text.proofs.InsnLemmas.OneReading.{one_tokens}
-use Rattle.bpf_text.proofs.InsnLemmas.OneInsn.{one_listing}
 
 known : (a b c : Bool) → (a ≡ true) ⊎ (b ≡ true) ⊎ (c ≡ true) → not (a || b || c) ≡ false
 known true b c h = refl

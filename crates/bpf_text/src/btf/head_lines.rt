@@ -3,7 +3,6 @@
 ghost use Rattle.std.specs.Prelude.{◌≡◌, [], ◌++◌, codes, decimal, IsTrue};
 ghost use Rattle.btf_types.specs.Values as values;
 ghost use Rattle.btf_types.specs.Values.{head_value};
-ghost use Rattle.btf_types.specs.Names as names;
 ghost use Rattle.bpf_text.specs.btf.BtfText as spec;
 ghost use Rattle.bpf_text.specs.btf.LineParts as parts;
 ghost use Rattle.bpf_text.specs.btf.Appending.{Appends};
@@ -258,14 +257,6 @@ fn append_fields<A: Allocator>(
     }
 }
 
-/// The name of a type, as [`Head::name`] returns it, for callers that append a line in parts. It is empty if the kind has
-/// no name.
-pub fn head_name<'a>(head: Head<'a>) -> &'a str
-    ensures { result.now ≡ names.head_name (head_value head.entry) }
-{
-    head.name()
-}
-
 /// The text between the kind and the first byte of the name. Without a name it is empty.
 fn opening(head: Head<'_>) -> &'static str
     ensures { result.now ≡ parts.opening (head_value head.entry) }
@@ -331,7 +322,7 @@ pub fn append_head<A: Allocator>(
     ensures { Appends result text.old.items (spec.head_line id (head_value head.entry) items) text.new.items }
 {
     append_head_start(text, id, head)?;
-    append_quoted_part(text, head_name(head).as_bytes())?;
+    append_quoted_part(text, head.name().as_bytes())?;
     append_head_end(text, head, items)
 }
 

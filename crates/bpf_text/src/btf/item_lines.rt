@@ -4,7 +4,6 @@ ghost use Rattle.std.specs.Prelude.{◌≡◌, [], ◌++◌, false};
 ghost use Rattle.std.specs.Int.{w32, w64};
 ghost use Rattle.btf_types.specs.Values as values;
 ghost use Rattle.btf_types.specs.Values.{item_value};
-ghost use Rattle.btf_types.specs.Names as names;
 ghost use Rattle.bpf_text.specs.btf.BtfText as spec;
 ghost use Rattle.bpf_text.specs.btf.LineParts as parts;
 ghost use Rattle.bpf_text.specs.btf.Appending.{Appends};
@@ -105,14 +104,6 @@ fn append_item_fields<A: Allocator>(
     }
 }
 
-/// The name of an item, as [`Item::name`] returns it, for callers that append a line in parts. It is empty if the item has
-/// no name.
-pub fn item_name<'a>(item: Item<'a>) -> &'a str
-    ensures { result.now ≡ names.item_name (item_value item.entry) }
-{
-    item.name()
-}
-
 /// Appends the line of an item up to the first byte of its name. The bytes of the name follow, by [`append_quoted_part`],
 /// and then [`append_item_end`].
 ///
@@ -163,6 +154,6 @@ pub fn append_item<A: Allocator>(
     ensures { Appends result text.old.items (spec.item_line signed (item_value item.entry)) text.new.items }
 {
     append_item_start(text, item)?;
-    append_quoted_part(text, item_name(item).as_bytes())?;
+    append_quoted_part(text, item.name().as_bytes())?;
     append_item_end(text, item, signed)
 }

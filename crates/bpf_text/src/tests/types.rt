@@ -3,7 +3,7 @@
 use super::equal;
 use crate::{
     append_head, append_head_end, append_head_start, append_item, append_item_end,
-    append_item_start, append_quoted_part, head_name, is_signed, item_name, show_btf,
+    append_item_start, append_quoted_part, is_signed, show_btf,
 };
 use bpf_words::{Order, push16, push32};
 use btf_types::{Btf, BtfView, TypeTable};
@@ -54,13 +54,13 @@ fn texts(alloc: Global, table: &BtfView<'_>) -> Result<(Vec<u8>, Vec<u8>), Alloc
         let (head, count) = (table.head(id), table.item_count(id));
         append_head(&mut whole, id, head, count)?;
         append_head_start(&mut parts, id, head)?;
-        append_name(&mut parts, head_name(head))?;
+        append_name(&mut parts, head.name())?;
         append_head_end(&mut parts, head, count)?;
         for k in 0..count {
             let item = table.item(id, k);
             append_item(&mut whole, item, is_signed(head))?;
             append_item_start(&mut parts, item)?;
-            append_name(&mut parts, item_name(item))?;
+            append_name(&mut parts, item.name())?;
             append_item_end(&mut parts, item, is_signed(head))?;
         }
     }

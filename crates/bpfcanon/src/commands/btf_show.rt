@@ -18,7 +18,7 @@ use crate::commands::pieces::{PutError, end_of_pieces, put_long_piece, put_piece
 use crate::job::Job;
 use crate::outcome::Outcome;
 use bpf_canon::{ByteSink, ByteSource};
-use bpf_text::{append_head, append_item, head_name, is_signed, item_name};
+use bpf_text::{append_head, append_item, is_signed};
 use btf_types::{BtfError, BtfView, Head, Item, TypeTable};
 use std::alloc::Allocator;
 
@@ -34,7 +34,7 @@ fn put_head<A: Allocator, W: ByteSink>(
     ensures gathered { Gathers (sink_change W.ByteSink sink.old sink.new) piece.new.items (piece.old.items ++ head_line id (head_value head.entry) items) result }
     ensures short { OnOk result (length piece.new.items < PIECE) }
 {
-    if is_long(head_name(head)) {
+    if is_long(head.name()) {
         return put_long_head(sink, piece, id, head, items);
     }
     append_head(piece, id, head, items)?;
@@ -52,7 +52,7 @@ fn put_item<A: Allocator, W: ByteSink>(
     ensures gathered { Gathers (sink_change W.ByteSink sink.old sink.new) piece.new.items (piece.old.items ++ item_line signed (item_value item.entry)) result }
     ensures short { OnOk result (length piece.new.items < PIECE) }
 {
-    if is_long(item_name(item)) {
+    if is_long(item.name()) {
         return put_long_item(sink, piece, item, signed);
     }
     append_item(piece, item, signed)?;

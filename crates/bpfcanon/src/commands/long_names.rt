@@ -13,7 +13,6 @@ use crate::commands::pieces::{PutError, put_long_piece};
 use bpf_canon::ByteSink;
 use bpf_text::{
     append_head_end, append_head_start, append_item_end, append_item_start, append_quoted_part,
-    head_name, item_name,
 };
 use btf_types::{Head, Item};
 use std::alloc::Allocator;
@@ -74,7 +73,7 @@ pub fn put_long_head<A: Allocator, W: ByteSink>(
     ensures short { OnOk result (length piece.new.items < PIECE) }
 {
     append_head_start(piece, id, head)?;
-    put_name(sink, piece, head_name(head).as_bytes())?;
+    put_name(sink, piece, head.name().as_bytes())?;
     append_head_end(piece, head, items)?;
     put_long_piece(sink, piece)
 }
@@ -91,7 +90,7 @@ pub fn put_long_item<A: Allocator, W: ByteSink>(
     ensures short { OnOk result (length piece.new.items < PIECE) }
 {
     append_item_start(piece, item)?;
-    put_name(sink, piece, item_name(item).as_bytes())?;
+    put_name(sink, piece, item.name().as_bytes())?;
     append_item_end(piece, item, signed)?;
     put_long_piece(sink, piece)
 }

@@ -1,4 +1,4 @@
-use Rattle.std.proofs.Common.{◌≡◌, ◌++◌, ◌∙◌, ap}
+use Rattle.std.proofs.Common.{◌++◌, ◌∙◌, ap}
 use Rattle.bpf_insn.specs.Spelling.{file_of}
 use Rattle.bpf_text.proofs.InsnLemmas.Excludes.{only_memory}
 use Rattle.bpf_text.proofs.InsnLemmas.OneInsn.{one_listing}

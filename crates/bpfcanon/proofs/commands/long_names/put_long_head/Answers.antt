@@ -16,7 +16,7 @@ returns-in_err-append_head_start-clause-gathered g c =
 pub returns-in_err-put_name-clause-gathered : goal.returns-in_err-put_name-clause-gathered
 returns-in_err-put_name-clause-gathered g c =
     let opened : c.append_head_start.new.text.items ≡ c.args.piece.now.items ++ head_start c.args.id (head_value c.args.head) = c.in_ok-append_head_start.ensures in
-    let same : c.as_bytes.result.now ≡ head_name (head_value c.args.head) = c.as_bytes.ensures.value ∙ c.head_name.ensures in
+    let same : c.as_bytes.result.now ≡ head_name (head_value c.args.head) = c.as_bytes.ensures.value ∙ c.name.ensures in
     gathers_handed _ _ _ c.in_err-put_name.field-0.0 c.from_residual-in_err-put_name.result c.from_residual-in_err-put_name.ensures.1
     (name_unwritten c.args.piece.now.items (head_start c.args.id (head_value c.args.head)) (flat_map quoted_byte (head_name (head_value c.args.head))) (head_end (head_value c.args.head) c.args.items) _ (head_parts c.args.id (head_value c.args.head) c.args.items) _ c.append_head_start.new.text.items (flat_map quoted_byte c.as_bytes.result.now) c.put_name.new.piece.items c.in_err-put_name.field-0.0 opened
     (ap (flat_map quoted_byte) same) c.in_err-put_name.ensures)
@@ -24,7 +24,7 @@ returns-in_err-put_name-clause-gathered g c =
 pub returns-in_err-append_head_end-clause-gathered : goal.returns-in_err-append_head_end-clause-gathered
 returns-in_err-append_head_end-clause-gathered g c =
     let opened : c.append_head_start.new.text.items ≡ c.args.piece.now.items ++ head_start c.args.id (head_value c.args.head) = c.in_ok-append_head_start.ensures in
-    let same : c.as_bytes.result.now ≡ head_name (head_value c.args.head) = c.as_bytes.ensures.value ∙ c.head_name.ensures in
+    let same : c.as_bytes.result.now ≡ head_name (head_value c.args.head) = c.as_bytes.ensures.value ∙ c.name.ensures in
     let gathered = rw same at (rw opened at c.in_ok-put_name.ensures) in
     gathers_handed _ _ _ _ c.from_residual-in_err-append_head_end.result c.from_residual-in_err-append_head_end.ensures.1
     (last_refused c.args.piece.now.items (head_start c.args.id (head_value c.args.head)) (flat_map quoted_byte (head_name (head_value c.args.head))) (head_end (head_value c.args.head) c.args.items) _ (head_parts c.args.id (head_value c.args.head) c.args.items) _ _ _ _ _ (some_end (head_fields (head_value c.args.head) c.args.items)) gathered)
@@ -32,7 +32,7 @@ returns-in_err-append_head_end-clause-gathered g c =
 pub returns-clause-gathered : goal.returns-clause-gathered
 returns-clause-gathered g c =
     let opened : c.append_head_start.new.text.items ≡ c.args.piece.now.items ++ head_start c.args.id (head_value c.args.head) = c.in_ok-append_head_start.ensures in
-    let same : c.as_bytes.result.now ≡ head_name (head_value c.args.head) = c.as_bytes.ensures.value ∙ c.head_name.ensures in
+    let same : c.as_bytes.result.now ≡ head_name (head_value c.args.head) = c.as_bytes.ensures.value ∙ c.name.ensures in
     let closed : c.append_head_end.new.text.items ≡ c.put_name.new.piece.items ++ head_end (head_value c.args.head) c.args.items = c.in_ok-append_head_end.ensures in
     let gathered = rw same at (rw opened at c.in_ok-put_name.ensures) in
     last_gathers c.args.piece.now.items (head_start c.args.id (head_value c.args.head)) (flat_map quoted_byte (head_name (head_value c.args.head))) (head_end (head_value c.args.head) c.args.items) _ (head_parts c.args.id (head_value c.args.head) c.args.items) _ _ _ _ _ _ _ _ gathered c.put_long_piece.result (rw closed at c.put_long_piece.ensures.gathered)
