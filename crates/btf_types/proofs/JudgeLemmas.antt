@@ -13,3 +13,4 @@ pub mod Utf8Steps
 pub mod Marks
 pub mod FaultLaws
 pub mod BitSteps
+pub mod HeaderRoles

@@ -2,7 +2,7 @@
 //! its least cause. It takes no memory, and time in proportion to the section: each word is read once, a STRUCT's offset
 //! words twice, and the facts of other records are read at their places.
 
-ghost use Rattle.std.specs.Prelude.{◌≡◌, ◌<◌, MatchOption, length, slice_index};
+ghost use Rattle.std.specs.Prelude.{◌≡◌, ◌<◌, ℕ, MatchOption, length, slice_index};
 ghost use Rattle.btf_raw.specs.Cause.{HasNone, LeastByPlace};
 ghost use Rattle.btf_types.specs.judge.Checks.{IsLeastOf};
 ghost use Rattle.btf_types.specs.judge.FieldFaults.{FieldFault};
@@ -78,6 +78,29 @@ fn record_to_judge(section: &Section, i: usize) -> JudgedRecord
     }
 }
 
+/// The first word of a record's header that has a fault, and the least cause of that word.
+fn header_fault(section: &Section, this: &JudgedRecord) -> Option<(usize, BtfCause)>
+    requires section { IsSection section.now }
+    requires this { RecordIs section.now this.now }
+    ensures { MatchOption result
+        ((j : ℕ) (cause : BtfCause) → j < 3 → ¬ FaultInWord section.now this.now.pos j cause)
+        (λ found. IsLeastAt section.now this.now.pos found.0 found.1) }
+{
+    let header = &this.header;
+    let strings = section.file.strings;
+    if let Some(cause) = name_fault(strings, section.texts, header.kind, header.name_off) {
+        return Some((0, cause));
+    }
+    if let Some(cause) = second_fault(header.kind, header.vlen) {
+        return Some((1, cause));
+    }
+    let third = third_fault(section, header.kind, header.size_or_type, header.vlen);
+    match third {
+        Some(cause) => Some((2, cause)),
+        None => None,
+    }
+}
+
 /// The first word of a record that has a fault, and the least cause of that word.
 fn record_fault(section: &Section, this: &JudgedRecord) -> Option<(usize, BtfCause)>
     requires section { IsSection section.now }
@@ -86,7 +109,10 @@ fn record_fault(section: &Section, this: &JudgedRecord) -> Option<(usize, BtfCau
         (IsFaultlessAt section.now this.now.pos)
         (λ found. IsLeastAt section.now this.now.pos found.0 found.1) }
 {
-    for j in 0..this.words {
+    if let Some(found) = header_fault(section, this) {
+        return Some(found);
+    }
+    for j in 3..this.words {
         if let Some(cause) = word_fault(section, this, j) {
             return Some((j, cause));
         }
