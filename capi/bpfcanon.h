@@ -185,9 +185,10 @@ bpfcanon_answer bpfcanon_insn_groups(uint32_t order, const uint8_t *bytes, size_
 
 /*
  * Compares two inputs: BPFCANON_DONE if they mean the same, that is if their canonical bytes are
- * equal, and BPFCANON_DIFFERENT if they don't. Each program has its own byte order.
+ * equal, and BPFCANON_DIFFERENT if they don't. Each program has its own byte order. To compare
+ * instructions takes no memory.
  *
- * Statuses: BPFCANON_DONE, BPFCANON_DIFFERENT, BPFCANON_FAULT, BPFCANON_FAULT_SECOND,
+ * Statuses: BPFCANON_DONE, BPFCANON_DIFFERENT, BPFCANON_FAULT, BPFCANON_FAULT_SECOND, of BTF
  * BPFCANON_MEMORY, and of instructions BPFCANON_ORDER.
  */
 bpfcanon_answer bpfcanon_btf_same(const uint8_t *first, size_t first_len, const uint8_t *second,

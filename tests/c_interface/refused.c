@@ -1,6 +1,6 @@
 /*
  * Refuses each allocation of each proved call in turn: the call then reports that it is out of memory and leaves its room as it was,
- * and it frees what it took. usage: refused FILE, a BTF file
+ * and it frees what it took. The comparison of instructions takes nothing. usage: refused FILE, a BTF file
  */
 #include "checks.h"
 #include "allocations.h"
@@ -81,8 +81,8 @@ static void refuse_each(size_t call)
 		CHECK(live == blocks);
 		if (!refused) {
 			CHECK(answer.status == calls[call].status);
-			/* groups are found without memory */
-			CHECK(n > 0 || calls[call].call == insn_same || calls[call].call == insn_groups);
+			/* these two take no memory */
+			CHECK((n > 0) == (calls[call].call != insn_same && calls[call].call != insn_groups));
 			return;
 		}
 		if (!is(answer, ended(BPFCANON_MEMORY)) || memcmp(out, before, sizeof out)) {

@@ -49,15 +49,18 @@ same_list l m hl hm e = one_list Little (file_of Little l) l m (hl, refl) (hm, e
 pub apart : CanonicalBytesTellFilesApart
 apart o p a b l m f g = (λ e. ap (file_of Little) e, λ e. same_list l m f.0 g.0 e)
 
-pub compares : (o p : Order) (a b c d : List ℕ) (same : Bool) → IsCanonical o a c → IsCanonical p b d → (IsTrue same ↔ (c ≡ d)) → Compares o a p b same
-compares o p a b c d same x y r = record {
-  first = x.insns;
-  second = y.insns;
-  first_file = x.file;
-  second_file = y.file;
-  lists = (λ t. same_list x.insns y.insns x.file.0 y.file.0 (sym x.canonical ∙ r.0 t ∙ y.canonical), λ e. r.1 (x.canonical ∙ ap (file_of Little) e ∙ sym y.canonical));
-  canonical = (λ t. sym x.canonical ∙ r.0 t ∙ y.canonical, λ e. r.1 (x.canonical ∙ e ∙ sym y.canonical));
-}
+-- two files compare as the second and the instructions of the first, in the order of the second
+pub compares : (o p : Order) (a b : List ℕ) (same : Bool) (l m : List Insn) → InsnFile o a l → InsnFile p b m → (IsTrue same ↔ (b ≡ file_of p l)) → Compares o a p b same
+compares o p a b same l m f g r =
+    let lists : IsTrue same ↔ (l ≡ m) = (λ t. one_list p b l m (f.0, r.0 t) g, λ e. r.1 (g.1 ∙ ap (file_of p) (sym e))) in
+    record {
+      first = l;
+      second = m;
+      first_file = f;
+      second_file = g;
+      lists = lists;
+      canonical = (λ t. ap (file_of Little) (lists.0 t), λ e. lists.1 (same_list l m f.0 g.0 e));
+    }
 
 -- ---- errors
 

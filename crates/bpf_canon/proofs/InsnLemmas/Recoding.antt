@@ -1,5 +1,5 @@
 -- The slots of a file, written in the other order, are the file in that order.
-use Rattle.std.proofs.Common.{◌≡◌, ℕ, ◌<◌, ℤ, pos, List, [], ◌∷◌, ◌++◌, Option, Some, None, length, take, drop, All, refl, sym, ap, ◌∙◌, append_assoc, append-nil, arith, length-append, lit<}
+use Rattle.std.proofs.Common.{◌≡◌, ℕ, ◌<◌, ℤ, pos, List, [], ◌∷◌, ◌++◌, Option, Some, None, length, take, drop, All, refl, sym, ap, ◌∙◌, append_assoc, append-nil, arith, length-append, take-append-drop, lit<}
 use Rattle.std.specs.List.{flat_map}
 use Rattle.std.proofs.lemmas.List.Elements.{All-head, All-tail, All-cons, All-append}
 use Rattle.std.proofs.lemmas.Int.{ints}
@@ -61,15 +61,13 @@ file_in_range [] h = no_slots_in_range
 file_in_range (i ∷ insns) h =
     All-append AreFields (slots_of_insn i) (slots_of_file insns) (insn_in_range i (All-head IsInsn i insns h)) (file_in_range insns (All-tail IsInsn i insns h))
 
--- bytes determine the slots that they spell, up to fewer than 8 bytes at their end
-one_list_of_slots : (order : Order) (fs gs : List Fields) (rest : List ℕ) → All AreFields fs → All AreFields gs
-    → length rest < 8 → flat_map (spelled order) fs ++ rest ≡ flat_map (spelled order) gs → fs ≡ gs
-one_list_of_slots order [] [] rest hf hg short e = refl
-one_list_of_slots order [] (g ∷ gs) rest hf hg short e =
-    absurd (omega (arith, ap length e, length-append (spelled order g) (flat_map (spelled order) gs), slot_length order g))
-one_list_of_slots order (f ∷ fs) [] rest hf hg short e =
+-- slots whose bytes begin those of other slots begin these slots
+slots_begin : (order : Order) (fs gs : List Fields) (rest : List ℕ) → All AreFields fs → All AreFields gs
+    → flat_map (spelled order) fs ++ rest ≡ flat_map (spelled order) gs → (hs : List Fields) × ((gs ≡ fs ++ hs) × (rest ≡ flat_map (spelled order) hs))
+slots_begin order [] gs rest hf hg e = (gs, (refl, e))
+slots_begin order (f ∷ fs) [] rest hf hg e =
     absurd (omega (arith, ap length e, length-append (spelled order f ++ flat_map (spelled order) fs) rest, length-append (spelled order f) (flat_map (spelled order) fs), slot_length order f))
-one_list_of_slots order (f ∷ fs) (g ∷ gs) rest hf hg short e =
+slots_begin order (f ∷ fs) (g ∷ gs) rest hf hg e =
     let whole : spelled order f ++ (flat_map (spelled order) fs ++ rest) ≡ spelled order g ++ flat_map (spelled order) gs =
     sym (append_assoc (spelled order f) (flat_map (spelled order) fs) rest) ∙ e in
     let long : length (spelled order f) ≡ length (spelled order g) = slot_length order f ∙ sym (slot_length order g) in
@@ -84,8 +82,13 @@ one_list_of_slots order (f ∷ fs) (g ∷ gs) rest hf hg short e =
     ∙ ap (drop (length (spelled order g))) whole
     ∙ drop-append_seam (spelled order g) (flat_map (spelled order) gs) in
     let head : f ≡ g = spelled-injective order f g (All-head AreFields f fs hf) (All-head AreFields g gs hg) left in
-    let tail : fs ≡ gs = one_list_of_slots order fs gs rest (All-tail AreFields f fs hf) (All-tail AreFields g gs hg) short right in
-    cc
+    let more = slots_begin order fs gs rest (All-tail AreFields f fs hf) (All-tail AreFields g gs hg) right in
+    (more.0, (ap (λ (x : Fields). x ∷ gs) (sym head) ∙ ap (λ (xs : List Fields). f ∷ xs) more.1.0, more.1.1))
+
+-- no slot has fewer than 8 bytes
+no_slot : (order : Order) (fs : List Fields) → length (flat_map (spelled order) fs) < 8 → fs ≡ []
+no_slot order [] short = refl
+no_slot order (f ∷ fs) short = absurd (omega (arith, short, length-append (spelled order f) (flat_map (spelled order) fs), slot_length order f))
 
 -- the slots up to here were appended in the other order
 pub record Rewrites (order to : Order) (bytes rest old new : List ℕ) : Type 0 where
@@ -93,6 +96,15 @@ pub record Rewrites (order to : Order) (bytes rest old new : List ℕ) : Type 0 
   pub each : All AreFields slots
   pub read : bytes ≡ flat_map (spelled order) slots ++ rest
   pub written : new ≡ old ++ flat_map (spelled to) slots
+
+pub none_rewritten : (order to : Order) (bytes old : List ℕ) → Rewrites order to bytes bytes old old
+none_rewritten order to bytes old = record { slots = []; each = no_slots_in_range; read = refl; written = sym (append-nil old) }
+
+-- a slot and what follows it
+pub slot_first : (order : Order) (rest slot following : List ℕ) (f : Fields) → slot ≡ take 8 rest → following ≡ drop 8 rest → slot ≡ spelled order f
+    → rest ≡ spelled order f ++ following
+slot_first order rest slot following f first left is =
+    sym (take-append-drop 8 rest) ∙ ap (λ (xs : List ℕ). xs ++ drop 8 rest) (sym first ∙ is) ∙ ap (λ (xs : List ℕ). spelled order f ++ xs) (sym left)
 
 pub one_rewritten : (order to : Order) (bytes rest following old new : List ℕ) (slot : Fields) → Rewrites order to bytes rest old new
     → rest ≡ spelled order slot ++ following → AreFields slot → Rewrites order to bytes following old (new ++ spelled to slot)
@@ -110,11 +122,27 @@ one_rewritten order to bytes rest following old new slot so_far e fit = record {
     flat_map-push : (o : Order) (fs : List Fields) (f : Fields) → flat_map (spelled o) (fs ++ f ∷ []) ≡ flat_map (spelled o) fs ++ spelled o f
     flat_map-push o fs f = flat_map-append (spelled o) fs (f ∷ []) ∙ ap (λ xs. flat_map (spelled o) fs ++ xs) (append-nil (spelled o f))
 
+-- where the bytes are a file, the slots that are left complete that file
+pub rewritten_rest : (order to : Order) (bytes rest old new : List ℕ) → Rewrites order to bytes rest old new
+    → (insns : List Insn) → InsnFile order bytes insns
+    → (left : List Fields) × ((rest ≡ flat_map (spelled order) left) × (old ++ file_of to insns ≡ new ++ flat_map (spelled to) left))
+rewritten_rest order to bytes rest old new so_far insns file =
+    let slots = so_far.slots in
+    let left = slots_begin order slots (slots_of_file insns) rest so_far.each (file_in_range insns file.0) (sym so_far.read ∙ file.1 ∙ file_spelled order insns) in
+    let whole : file_of to insns ≡ flat_map (spelled to) slots ++ flat_map (spelled to) left.0 =
+    file_spelled to insns ∙ ap (flat_map (spelled to)) left.1.0 ∙ flat_map-append (spelled to) slots left.0 in (
+      left.0,
+      (
+        left.1.1,
+        ap (λ xs. old ++ xs) whole ∙ sym (append_assoc old (flat_map (spelled to) slots) (flat_map (spelled to) left.0))
+            ∙ ap (λ xs. xs ++ flat_map (spelled to) left.0) (sym so_far.written),
+      ),
+    )
+
 -- where the bytes are a file, and less than a slot of them is left, what was written is that file
 pub file_rewritten : (order to : Order) (bytes rest old new : List ℕ) → Rewrites order to bytes rest old new → length rest < 8
     → (insns : List Insn) → InsnFile order bytes insns → new ≡ old ++ file_of to insns
-file_rewritten order to bytes rest old new all short insns file =
-    let same : all.slots ≡ slots_of_file insns =
-    one_list_of_slots order all.slots (slots_of_file insns) rest all.each (file_in_range insns file.0) short
-    (sym all.read ∙ file.1 ∙ file_spelled order insns) in
-    all.written ∙ ap (λ xs. old ++ flat_map (spelled to) xs) same ∙ ap (λ xs. old ++ xs) (sym (file_spelled to insns))
+file_rewritten order to bytes rest old new so_far short insns file =
+    let left = rewritten_rest order to bytes rest old new so_far insns file in
+    let none : left.0 ≡ [] = no_slot order left.0 (omega (arith, short, ap length left.1.0)) in
+    sym (left.1.1 ∙ ap (λ (fs : List Fields). new ++ flat_map (spelled to) fs) none ∙ append-nil new)

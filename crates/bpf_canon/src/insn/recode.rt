@@ -9,7 +9,6 @@ ghost use Rattle.bpf_insn.specs.declared.insn.Insn.{Insn};
 ghost use Rattle.bpf_insn.specs.Spelling.{InsnFile, file_of};
 
 use bpf_insn::Order;
-use bpf_words::slot_of;
 use std::alloc::Allocator;
 
 /// Appends the instructions that the bytes spell in the order `order`, in the order `to`. There is room for them.
@@ -25,19 +24,19 @@ pub(crate) fn append_recoded<A: Allocator>(
     if order == to {
         let _ = out.extend_from_slice(bytes);
     } else {
-        append_swapped(order, to, bytes, out);
+        append_swapped(bytes, out);
     }
 }
 
-/// Appends each slot in the order `to`, which is the other one.
-fn append_swapped<A: Allocator>(order: Order, to: Order, bytes: &[u8], out: &mut Vec<u8, A>)
-    requires other { order ≢ to }
-    requires room { vec_len out.old + length bytes.now ≤ vec_capacity out.old }
-    ensures { (insns : List Insn) → InsnFile order bytes.now insns → out.new.items ≡ out.old.items ++ file_of to insns }
+/// Appends each slot in the other order.
+fn append_swapped<A: Allocator>(bytes: &[u8], out: &mut Vec<u8, A>)
+    requires { vec_len out.old + length bytes.now ≤ vec_capacity out.old }
+    ensures { (order to : Order) (insns : List Insn) → order ≢ to → InsnFile order bytes.now insns
+        → out.new.items ≡ out.old.items ++ file_of to insns }
 {
     let mut rest = bytes;
     'slots: while let Some((slot, following)) = rest.split_first_chunk::<8>() {
-        append_bytes(out, swapped(order, slot));
+        append_bytes(out, swapped(slot));
         rest = following;
     }
 }
@@ -45,16 +44,15 @@ fn append_swapped<A: Allocator>(order: Order, to: Order, bytes: &[u8], out: &mut
 /// The bytes of a slot in the other order. The halves of the register byte, the two bytes of the offset and the four bytes
 /// of the immediate are reversed.
 #[inline(always)]
-fn swapped(order: Order, slot: &[u8; 8]) -> [u8; 8]
-    ensures { (slot_fields : Fields) × (AreFields slot_fields × ((slot.now ≡ spelled order slot_fields)
-        × ((to : Order) → order ≢ to → result ≡ spelled to slot_fields))) }
+pub(crate) fn swapped(slot: &[u8; 8]) -> [u8; 8]
+    ensures { (order to : Order) → order ≢ to → (slot_fields : Fields) × (AreFields slot_fields
+        × ((slot.now ≡ spelled order slot_fields) × (result ≡ spelled to slot_fields))) }
 {
-    let fields = slot_of(order, slot);
     let registers = slot[1] % 16 * 16 + slot[1] / 16;
     let offset = u16::from_be_bytes([slot[2], slot[3]]);
     let imm = u32::from_be_bytes([slot[4], slot[5], slot[6], slot[7]]);
     // one number, so that the bytes are stored at once
-    let word = u64::from(fields.opcode)
+    let word = u64::from(slot[0])
         + u64::from(registers) * 0x100
         + u64::from(offset) * 0x1_0000
         + u64::from(imm) * 0x1_0000_0000;

@@ -1,12 +1,13 @@
 //! Each growth of the calls on instructions fails in turn.
-use super::arena::Tally;
+use super::arena::{ROOM, Tally, leave};
 use super::expect::{equal, equal_bytes};
 use crate::{
     InsnFeed, MemSink, MemSource, ReadError, RunCause, RunError, SideError, canon_insns, read_all,
     recode_insns, run_insns, same_insns, write_insns,
 };
 use bpf_insn::{Insn, InsnError, Order, SlotCause, SlotFault};
-use std::alloc::{Allocator, Global};
+use bumpalo::Bump;
+use std::alloc::Allocator;
 use std::process::Abort;
 use std::test::Fail;
 
@@ -107,32 +108,21 @@ fn canon_insns_of_a_faulty_file_runs_out_of_memory(rt: HostRuntime) -> Result<()
     Ok(())
 }
 
-/// How many rooms are too small to compare the good file with another one, with this answer.
-fn refused_comparing(
-    rt: &impl Abort,
-    alloc: Global,
-    second: &[u8],
-    answer: Result<bool, SideError<SlotFault>>,
-) -> Result<usize, Fail> {
-    let tally = Tally::of(rt, alloc, |bump| {
-        match same_insns(bump, Order::Little, &FILE[..56], Order::Little, second) {
-            Err(SideError::Memory) => Some(0),
-            reported => {
-                equal(rt, &reported, &answer, &"a comparison");
-                None
-            }
-        }
-    })?;
-    Ok(tally.refused)
-}
-
-/// An empty file takes no memory. So a room that is too small only for two files runs out while the second is read.
+/// Files are compared where they are, so an arena without room is enough.
 #[test]
-fn same_insns_runs_out_of_memory(rt: HostRuntime) -> Result<(), Fail> {
-    let first = refused_comparing(&rt, rt.alloc(), b"", Ok(false))?;
-    let both = refused_comparing(&rt, rt.alloc(), &FILE[..56], Ok(true))?;
-    let faulty = refused_comparing(&rt, rt.alloc(), FILE, Err(SideError::Second(FAULT)))?;
-    assert!(rt; first > 0 && both > first && faulty > first);
+fn same_insns_takes_no_memory(rt: HostRuntime) -> Result<(), Fail> {
+    let bump = Bump::try_with_capacity(rt.alloc(), ROOM)?;
+    leave(&rt, &bump, 0);
+    let order = Order::Little;
+    let good = &FILE[..56];
+    // An exit has the same bytes in both orders.
+    let same = same_insns(&bump, order, good, Order::Big, good);
+    equal(&rt, &same, &Ok(true), &"the file in the other order");
+    let same = same_insns(&bump, order, good, order, b"");
+    equal(&rt, &same, &Ok(false), &"an empty file");
+    let same = same_insns(&bump, order, good, order, FILE);
+    let faulty = Err(SideError::Second(FAULT));
+    equal(&rt, &same, &faulty, &"a faulty file");
     Ok(())
 }
 

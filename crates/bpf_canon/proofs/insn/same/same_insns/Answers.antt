@@ -1,11 +1,15 @@
-use Rattle.std.proofs.Common.{◌≡◌}
-use Rattle.std.specs.Cmp.Lexicographic.{told_text}
-use Rattle.bpf_canon.proofs.TestOfEquality.{test_decides}
 use Rattle.bpf_canon.proofs.InsnLemmas.CanonLemmas.{compares}
 use Rattle.bpf_canon.proofs.insn.same.same_insns.Goals as goal
 
+pub returns-in-Some-clause-fault : goal.returns-in-Some-clause-fault
+returns-in-Some-clause-fault g c = c.first_fault.ensures.fault c.in-Some.fault c.in-Some.is
+
+pub returns-in-Some-first_fault-clause-fault : goal.returns-in-Some-first_fault-clause-fault
+returns-in-Some-first_fault-clause-fault g c =
+    (c.first_fault.ensures.file c.in_default.is, c.first_fault-2.ensures.fault c.in-Some-first_fault.fault c.in-Some-first_fault.is)
+
 pub returns-clause-same : goal.returns-clause-same
 returns-clause-same g c =
-    let test = rw (c.as_slice.ensures.value, c.as_slice-2.ensures.value) at c.eq.ensures in
-    let same = test_decides (c.in-Ok.canon.items ≡ c.in-Ok-canon_insns.canon.items) c.eq.result (told_text _ _ c.eq.result test) in
-    compares c.args.order_a c.args.order_b c.args.a.now c.args.b.now _ _ c.eq.result c.in-Ok.ensures.found c.in-Ok-canon_insns.ensures.found same
+    let first = c.first_fault.ensures.file c.in_default.is in
+    let second = c.first_fault-2.ensures.file c.in_default-first_fault.is in
+    compares c.args.order_a c.args.order_b c.args.a.now c.args.b.now c.is_recoded.result first.0 second.0 first.1 second.1 (c.is_recoded.ensures first.0 first.1)

@@ -1,0 +1,64 @@
+-- A file that is compared with another one in the other order, slot by slot.
+use Rattle.std.proofs.Common.{◌≡◌, ◌≢◌, ◌↔◌, ◌<◌, ◌++◌, ◌∙◌, ℕ, Bool, List, [], ◌∷◌, true, false, length, take, drop, refl, sym, ap, arith, append_assoc, IsTrue, nat_eq, take-append-drop}
+use Rattle.std.specs.List.{flat_map}
+use Rattle.std.specs.Cmp.Lexicographic.{other_text, pointwise, same_text}
+use Rattle.std.proofs.lemmas.Bool.{eqb-true}
+use Rattle.std.proofs.lemmas.List.{append-nil, append_cancel_left}
+use Rattle.std.proofs.Math.Seq.{take-append_seam}
+use Rattle.bpf_words.specs.declared.Order.{Order}
+use Rattle.bpf_words.specs.Slots.{AreFields, Fields, spelled}
+use Rattle.bpf_insn.specs.declared.insn.Insn.{Insn}
+use Rattle.bpf_insn.specs.Spelling.{InsnFile, file_of}
+use Rattle.bpf_canon.proofs.InsnLemmas.Recoding.{Rewrites, file_rewritten, none_rewritten, one_rewritten, rewritten_rest}
+
+-- the slots of `a` before `left` are in the other order at the front of `b`, and `right` follows them
+pub record SwappedFront (order to : Order) (a left b right : List ℕ) : Type 0 where
+  pub written : List ℕ
+  pub rewrites : Rewrites order to a left [] written
+  pub front : b ≡ written ++ right
+
+pub swapped_none : (order to : Order) (a b : List ℕ) → SwappedFront order to a a b b
+swapped_none order to a b = record { written = []; rewrites = none_rewritten order to a []; front = refl }
+
+-- what a test for a prefix found
+pub prefix_found : (xs prefix rest : List ℕ) → pointwise nat_eq (take (length prefix) xs) prefix ≡ true → rest ≡ drop (length prefix) xs → xs ≡ prefix ++ rest
+prefix_found xs prefix rest t e =
+    sym (take-append-drop (length prefix) xs) ∙ ap (λ (x : List ℕ). x ++ drop (length prefix) xs) (same_text (take (length prefix) xs) prefix (sym t))
+    ∙ ap (λ (x : List ℕ). prefix ++ x) (sym e)
+
+module _ (order to : Order) (a left following b right : List ℕ) (slot : Fields) (so_far : SwappedFront order to a left b right) (first : left ≡ spelled order slot ++ following) (fit : AreFields slot) where
+  longer : Rewrites order to a following [] (so_far.written ++ spelled to slot)
+  longer = one_rewritten order to a left following [] so_far.written slot so_far.rewrites first fit
+
+  -- the next slots agree
+  pub swapped_more : (others : List ℕ) → right ≡ spelled to slot ++ others → SwappedFront order to a following b others
+  swapped_more others e = record {
+    written = so_far.written ++ spelled to slot;
+    rewrites = longer;
+    front = so_far.front ∙ ap (λ xs. so_far.written ++ xs) e ∙ sym (append_assoc so_far.written (spelled to slot) others);
+  }
+
+  -- the next slots differ
+  pub swapped_apart : (bytes : List ℕ) → bytes ≡ spelled to slot → pointwise nat_eq (take (length bytes) right) bytes ≡ false → (insns : List Insn) → InsnFile order a insns → b ≢ file_of to insns
+  swapped_apart bytes is differ insns file same =
+      let left_over = rewritten_rest order to a following [] (so_far.written ++ spelled to slot) longer insns file in
+      let tail = flat_map (spelled to) left_over.0 in
+      let next : right ≡ spelled to slot ++ tail =
+      append_cancel_left so_far.written right (spelled to slot ++ tail) (sym so_far.front ∙ same ∙ left_over.1.1 ∙ append_assoc so_far.written (spelled to slot) tail) in
+      let found : right ≡ bytes ++ tail = next ∙ ap (λ xs. xs ++ tail) (sym is) in
+      other_text (take (length bytes) right) bytes (sym differ) (ap (take (length bytes)) found ∙ take-append_seam bytes tail)
+
+-- a test for no bytes
+none_left : (is_empty : Bool) (xs : List ℕ) → is_empty ≡ nat_eq (length xs) 0 → IsTrue is_empty ↔ (xs ≡ [])
+none_left is_empty [] e = (λ _. refl, λ _. e)
+none_left is_empty (x ∷ xs) e = (λ t. absurd (omega (arith, eqb-true (length (x ∷ xs)) 0 (sym e ∙ t))), λ p. cc)
+
+-- all slots agree, and the files are the same if nothing follows
+pub swapped_end : (order to : Order) (a left b right : List ℕ) (is_empty : Bool) → SwappedFront order to a left b right → length left < 8 → is_empty ≡ nat_eq (length right) 0
+    → (insns : List Insn) → InsnFile order a insns → IsTrue is_empty ↔ (b ≡ file_of to insns)
+swapped_end order to a left b right is_empty so_far short empty insns file =
+    let whole : so_far.written ≡ file_of to insns = file_rewritten order to a left [] so_far.written so_far.rewrites short insns file in
+    let decides = none_left is_empty right empty in (
+      λ t. so_far.front ∙ ap (λ xs. so_far.written ++ xs) (decides.0 t) ∙ append-nil so_far.written ∙ whole,
+      λ e. decides.1 (append_cancel_left so_far.written right [] (sym so_far.front ∙ e ∙ sym whole ∙ sym (append-nil so_far.written))),
+    )
