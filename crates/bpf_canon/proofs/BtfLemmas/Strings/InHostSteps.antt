@@ -12,15 +12,12 @@ use Rattle.bpf_canon.specs.btf.strings.SectionTexts.{text_in}
 use Rattle.bpf_canon.specs.btf.strings.Longest.{IsUsed, IsWithin, AreLongestOf}
 use Rattle.bpf_canon.specs.btf.strings.Ranks.{AreRanked}
 use Rattle.bpf_canon.specs.btf.strings.UsedOffsets.{offset_number}
-use Rattle.bpf_canon.specs.btf.strings.InHost.{IsInHost, no_host, host_at, FindsWithin, AreInHosts, IsAlone}
+use Rattle.bpf_canon.specs.btf.strings.InHost.{IsInHost, no_host, no_text, host_at, FindsWithin, AreInHosts, IsAlone, HostsTo}
 use Rattle.bpf_canon.specs.declared.btf.strings.section_texts.SectionText.{SectionText}
 use Rattle.bpf_canon.specs.declared.btf.strings.hosts_by_rank.InHost.{InHost}
 use Rattle.bpf_canon.proofs.BtfLemmas.Strings.UsedSteps.{number_injective, number_inside, used_inside}
 use Rattle.bpf_canon.proofs.BtfLemmas.Strings.LongestSteps.{used_length, within_length, within_ends}
 use Rattle.bpf_canon.proofs.BtfLemmas.Strings.RankSteps.{first_rank_is}
-
-abbrev pub no_text : SectionText
-no_text = record { key = 0; before = 0; start = 0; end = 0 }
 
 -- the texts that are passed on the way to the next host all end it
 passed_end : (ms : List (List ℕ)) (n j l r : ℕ) → n + j ≡ r → l ≤ j → ((i : ℕ) → l ≤ i → i < r → is_suffix (at_rank ms i) (at_rank ms (i + 1)) ≡ true) → Ends (at_rank ms j) (at_rank ms r)
@@ -231,12 +228,6 @@ cases_within off t = elim (cases_lt off t.start) [
     | inr d ↦ inr (λ w. omega (arith, d, w.before))
   ]
 ]
-
--- the loop over ranks
-pub record HostsTo (section slots : List ℕ) (ts : List SectionText) (sorted : List (List ℕ)) (in_hosts : List InHost) (k : ℕ) : Type 0 where
-  pub whole : length in_hosts ≡ offset_number slots (length slots)
-  pub empty : (off : ℕ) → get_or slots off 0 ≢ 0 → get_or section off 0 ≡ 0 → host_at slots in_hosts off ≡ no_host
-  pub here : (j off : ℕ) → j < k → get_or slots off 0 ≢ 0 → IsWithin off (get_or ts j no_text) → IsInHost sorted (text_from section off) (host_at slots in_hosts off)
 
 module _ (section slots : List ℕ) (ts : List SectionText) (sorted : List (List ℕ)) (longest : AreLongestOf section slots ts) where
   pub hosts_none : (in_hosts : List InHost) → in_hosts ≡ replicate (offset_number slots (length slots)) no_host → HostsTo section slots ts sorted in_hosts 0

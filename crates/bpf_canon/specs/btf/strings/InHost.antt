@@ -23,6 +23,9 @@ pub record IsInHost (sorted : List (List ℕ)) (x : List ℕ) (h : InHost) : Typ
 abbrev pub no_host : InHost
 no_host = record { host = 0; before = 0; len = 0 }
 
+abbrev pub no_text : SectionText
+no_text = record { key = 0; before = 0; start = 0; end = 0 }
+
 -- the host of a used offset
 abbrev pub host_at : List ℕ → List InHost → ℕ → InHost
 host_at slots in_hosts off = slice_index_or in_hosts (offset_number slots off) no_host
@@ -38,6 +41,12 @@ pub record AreInHosts (section slots : List ℕ) (sorted : List (List ℕ)) (in_
   pub whole : length in_hosts ≡ offset_number slots (length slots)
   pub empty : (off : ℕ) → slice_index slots off ≢ 0 → slice_index section off ≡ 0 → host_at slots in_hosts off ≡ no_host
   pub some : (off : ℕ) → slice_index slots off ≢ 0 → slice_index section off ≢ 0 → IsInHost sorted (text_from section off) (host_at slots in_hosts off)
+
+-- Each used offset within the texts of the first k ranks has its host, and that of an empty text has none.
+pub record HostsTo (section slots : List ℕ) (ts : List SectionText) (sorted : List (List ℕ)) (in_hosts : List InHost) (k : ℕ) : Type 0 where
+  pub whole : length in_hosts ≡ offset_number slots (length slots)
+  pub empty : (off : ℕ) → slice_index slots off ≢ 0 → slice_index section off ≡ 0 → host_at slots in_hosts off ≡ no_host
+  pub here : (j off : ℕ) → j < k → slice_index slots off ≢ 0 → IsWithin off (slice_index_or ts j no_text) → IsInHost sorted (text_from section off) (host_at slots in_hosts off)
 
 -- The text of a rank isn't a suffix of the text before it, and no name begins after its first byte.
 pub record IsAlone (slots common : List ℕ) (rank : ℕ) (t : SectionText) : Type 0 where

@@ -1,5 +1,5 @@
 //! The host of each name, by the ranks of the longest texts.
-ghost use Rattle.std.specs.Prelude.{◌≡◌, ◌<◌, ◌^◌, length, map, slice_index_or, IfOk, IfSome};
+ghost use Rattle.std.specs.Prelude.{◌≡◌, ◌<◌, ◌≤◌, ◌^◌, length, map, slice_index_or, IfOk, OnOk};
 ghost use Rattle.std.specs.List.{All};
 ghost use Rattle.bpf_canon.specs.btf.strings.Ranks.{AreLower, AreRanked};
 ghost use Rattle.bpf_canon.specs.btf.strings.Longest.{IsUsed};
@@ -67,23 +67,24 @@ fn find_within<A: Allocator>(
     }
 }
 
-/// The host of each used offset, by its number, if all texts are different and no name begins inside one, as in most files: the host
-/// of a rank is the next host from that rank on. Otherwise none.
-fn find_alone<A: Allocator + Copy>(
-    alloc: A,
+/// Finds the hosts of the first ranks up to one whose text is the same as another, or has a name that begins inside it. In most files
+/// there is none. The host of a text that is alone is the next host from its rank on. The result is the number of these ranks.
+fn find_alone<A: Allocator>(
     uses: &UsedOffsets<A>,
     ranked: &RankedTexts<'_, A>,
-) -> Result<Option<Vec<InHost, A>>, AllocError>
-    requires { spec.AreRankedTexts ranked.now.section.now uses.now ranked.now.texts.items ranked.now.common.items ranked.now.hosts.items }
-    ensures { IfOk result (λ found. IfSome found (λ in_hosts. spec.AreInHosts ranked.now.section.now uses.now (map (text_in ranked.now.section.now) ranked.now.texts.items) in_hosts.items)) }
+    in_hosts: &mut [InHost],
+) -> usize
+    requires texts { spec.AreRankedTexts ranked.now.section.now uses.now ranked.now.texts.items ranked.now.common.items ranked.now.hosts.items }
+    requires none { spec.HostsTo ranked.now.section.now uses.now ranked.now.texts.items (map (text_in ranked.now.section.now) ranked.now.texts.items) in_hosts.old 0 }
+    ensures found { spec.HostsTo ranked.now.section.now uses.now ranked.now.texts.items (map (text_in ranked.now.section.now) ranked.now.texts.items) in_hosts.new result }
+    ensures most { result ≤ length ranked.now.texts.items }
 {
-    let mut in_hosts = vec![in alloc; InHost::NONE; uses.count()]?;
     for rank in 0..ranked.texts.len() {
         let text = ranked.texts[rank];
         if ranked.common[rank] >= text.len()
             || !uses.are_unused(text.start as usize + 1, text.end as usize)
         {
-            return Ok(None);
+            return rank;
         }
         let host = ranked.hosts[rank];
         let len = ranked.texts[host as usize].len();
@@ -93,24 +94,46 @@ fn find_alone<A: Allocator + Copy>(
             len,
         };
     }
-    Ok(Some(in_hosts))
+    ranked.texts.len()
 }
 
-/// The host of each used offset, by its number, also if texts are the same or names begin inside one.
-fn find_shared<A: Allocator + Copy>(
+/// Finds the hosts of the other ranks, also if texts are the same or names begin inside one.
+fn find_shared<A: Allocator>(
+    uses: &UsedOffsets<A>,
+    ranked: &RankedTexts<'_, A>,
+    lower: &[u32],
+    first: usize,
+    in_hosts: &mut [InHost],
+)
+    requires texts { spec.AreRankedTexts ranked.now.section.now uses.now ranked.now.texts.items ranked.now.common.items ranked.now.hosts.items }
+    requires lower { AreLower ranked.now.common.items lower.now }
+    requires most { first ≤ length ranked.now.texts.items }
+    requires found { spec.HostsTo ranked.now.section.now uses.now ranked.now.texts.items (map (text_in ranked.now.section.now) ranked.now.texts.items) in_hosts.old first }
+    ensures { spec.HostsTo ranked.now.section.now uses.now ranked.now.texts.items (map (text_in ranked.now.section.now) ranked.now.texts.items) in_hosts.new (length ranked.now.texts.items) }
+{
+    for rank in first..ranked.texts.len() {
+        find_within(uses, ranked, lower, rank, in_hosts);
+    }
+}
+
+/// Finds the hosts of all ranks. At an error those of the first ranks were found.
+fn find_all<A: Allocator + Copy>(
     alloc: A,
     uses: &UsedOffsets<A>,
     ranked: &RankedTexts<'_, A>,
-) -> Result<Vec<InHost, A>, AllocError>
-    requires { spec.AreRankedTexts ranked.now.section.now uses.now ranked.now.texts.items ranked.now.common.items ranked.now.hosts.items }
-    ensures { IfOk result (λ in_hosts. spec.AreInHosts ranked.now.section.now uses.now (map (text_in ranked.now.section.now) ranked.now.texts.items) in_hosts.items) }
+    in_hosts: &mut [InHost],
+) -> Result<(), AllocError>
+    requires texts { spec.AreRankedTexts ranked.now.section.now uses.now ranked.now.texts.items ranked.now.common.items ranked.now.hosts.items }
+    requires none { spec.HostsTo ranked.now.section.now uses.now ranked.now.texts.items (map (text_in ranked.now.section.now) ranked.now.texts.items) in_hosts.old 0 }
+    ensures { OnOk result (spec.HostsTo ranked.now.section.now uses.now ranked.now.texts.items (map (text_in ranked.now.section.now) ranked.now.texts.items) in_hosts.new (length ranked.now.texts.items)) }
 {
-    let lower = lower_ranks(alloc, &ranked.common)?;
-    let mut in_hosts = vec![in alloc; InHost::NONE; uses.count()]?;
-    for rank in 0..ranked.texts.len() {
-        find_within(uses, ranked, &lower, rank, &mut in_hosts);
+    let alone = find_alone(uses, ranked, in_hosts);
+    if alone == ranked.texts.len() {
+        return Ok(());
     }
-    Ok(in_hosts)
+    let lower = lower_ranks(alloc, &ranked.common)?;
+    find_shared(uses, ranked, &lower, alone, in_hosts);
+    Ok(())
 }
 
 /// The host of each used offset, by its number.
@@ -122,8 +145,7 @@ pub(crate) fn find_hosts<A: Allocator + Copy>(
     requires { spec.AreRankedTexts ranked.now.section.now uses.now ranked.now.texts.items ranked.now.common.items ranked.now.hosts.items }
     ensures { IfOk result (λ in_hosts. spec.AreInHosts ranked.now.section.now uses.now (map (text_in ranked.now.section.now) ranked.now.texts.items) in_hosts.items) }
 {
-    match find_alone(alloc, uses, ranked)? {
-        Some(in_hosts) => Ok(in_hosts),
-        None => find_shared(alloc, uses, ranked),
-    }
+    let mut in_hosts = vec![in alloc; InHost::NONE; uses.count()]?;
+    find_all(alloc, uses, ranked, &mut in_hosts)?;
+    Ok(in_hosts)
 }
