@@ -25,8 +25,8 @@ from_map e f xs z (k, inside, is) =
     let low : k < length xs = omega (arith, inside, length-map xs f) in
     (get_or xs k e, (k, low, get_or_default xs k (get_or xs k e) e low), sym (get_or-map f xs k e z low) ∙ is)
 
-pub no_text : (section : List ℕ) (off : ℕ) → off < length section → get_or section off 0 ≡ 0 → length (text_from section off) ≡ 0
-no_text section off inside nul =
+pub empty_at_nul : (section : List ℕ) (off : ℕ) → off < length section → get_or section off 0 ≡ 0 → length (text_from section off) ≡ 0
+empty_at_nul section off inside nul =
     let first : drop off section ≡ 0 ∷ drop (suc off) section = drop-cons section off 0 inside ∙ ap (λ (b : ℕ). b ∷ drop (suc off) section) nul in
     ap (λ (t : List ℕ). length (before_nul t)) first
 
@@ -48,7 +48,7 @@ longest_are section slots offsets ts are are_used inside = record {
   each = λ x c some.
       let o = from_map 0 (text_from section) offsets x c in
       let below : o.0 < length section = subst (λ (n : ℕ). n < length section) o.1.2 (inside o.1.0 o.0 o.1.1) in
-      let byte : get_or section o.0 0 ≢ 0 = λ nul. omega (arith, some, no_text section o.0 below nul, ap (λ (t : List ℕ). length t) o.2) in
+      let byte : get_or section o.0 0 ≢ 0 = λ nul. omega (arith, some, empty_at_nul section o.0 below nul, ap (λ (t : List ℕ). length t) o.2) in
       let a = are.each o.0 below (are_used.marked o.0 o.1) byte in
       let used = subst (IsUsed section slots) a.3 (are.used a.0 a.1 a.2) in
       let at = in_map (text_in section) ts a.1 (a.0, a.2, a.3) in

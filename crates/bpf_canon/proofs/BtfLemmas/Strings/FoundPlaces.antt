@@ -27,7 +27,7 @@ use Rattle.bpf_canon.specs.declared.btf.strings.host_places.Span.{Span}
 use Rattle.bpf_canon.proofs.BtfLemmas.Strings.UsedSteps.{used_inside, used_at, number_inside}
 use Rattle.bpf_canon.proofs.BtfLemmas.Strings.LongestSteps.{used_length}
 use Rattle.bpf_canon.proofs.BtfLemmas.Strings.RankSteps.{in_tail_order}
-use Rattle.bpf_canon.proofs.BtfLemmas.Strings.FoundHosts.{longest_are, in_map, no_text, text_some}
+use Rattle.bpf_canon.proofs.BtfLemmas.Strings.FoundHosts.{longest_are, in_map, empty_at_nul, text_some}
 use Rattle.bpf_canon.proofs.BtfLemmas.Strings.HostPlaceSteps.{host_there}
 
 -- the longest texts in another order
@@ -149,7 +149,7 @@ module _ (section slots offsets by_rank : List ℕ) (sorted : List (List ℕ)) (
   place_found = elim (cases_eq (get_or section off 0) 0) [
     | inl z ↦
         let none : get_or by_rank h.host 0 + h.before ≡ 0 = omega (arith, ap (λ (i : InHost). i.before) (is.empty z), ap (λ (i : InHost). get_or by_rank i.host 0) (is.empty z), host_places.none) in
-        none ∙ no_place (kept names) x (nil_from_length x (no_text section off is.inside z))
+        none ∙ no_place (kept names) x (nil_from_length x (empty_at_nul section off is.inside z))
     | inr b ↦ let a = is.some b in place_at_host (kept names) x (at_rank sorted a.rank) (get_or by_rank h.host 0) h.before (some b) a.is_host (place_is b) a.before
   ]
 

@@ -23,7 +23,7 @@ use Rattle.bpf_canon.specs.btf.strings.HostPlaces.{span_bytes, IsSpan, HasText, 
 use Rattle.bpf_canon.specs.declared.btf.strings.hosts_by_rank.InHost.{InHost}
 use Rattle.bpf_canon.specs.declared.btf.strings.host_places.Span.{Span}
 use Rattle.bpf_canon.proofs.BtfLemmas.Names.KeptSteps.{place_stays, place_last, length-table_push}
-use Rattle.bpf_canon.proofs.BtfLemmas.Strings.FoundHosts.{no_text, text_some, in_map}
+use Rattle.bpf_canon.proofs.BtfLemmas.Strings.FoundHosts.{empty_at_nul, text_some, in_map}
 use Rattle.bpf_canon.proofs.BtfLemmas.Strings.TableSpans.{span_of}
 use Rattle.bpf_canon.proofs.BtfLemmas.Strings.PlacedHosts.{is_own, host_places, laid_empty, laid_other, laid_known, laid_new, laid_fits, has_push, has_more, has_last}
 
@@ -108,7 +108,7 @@ module _ (section slots : List ℕ) (sorted xs : List (List ℕ)) (in_hosts : Li
 
   pub no_host_empty : h.host ≡ 0 → x ≡ []
   no_host_empty z = elim (cases_eq (get_or section off 0) 0) [
-    | inl e ↦ nil_from_length x (no_text section off is.inside e)
+    | inl e ↦ nil_from_length x (empty_at_nul section off is.inside e)
     | inr n ↦ let a = is.some n in absurd (omega (arith, z, a.numbered))
   ]
 
