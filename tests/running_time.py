@@ -1,10 +1,12 @@
-"""Limits the time and the memory of the BTF commands on large inputs that are hard for them.
+"""Limits the time and the memory of the BTF commands on large inputs that are hard for them, and the memory of two commands for
+instructions on the largest programs.
 
     running_time.py PROGRAM [--measure]
 
-Each input goes through btf-check, btf-canon and btf-same. A run may take twenty times the processor time that was measured, and an
-address space of eight times its input; valid text of the longest string section may take four times. The margins are wide, so that
-a slower machine passes and another order of growth doesn't: a search that is quadratic takes hundreds of times as long here.
+Each BTF file goes through btf-check, btf-canon and btf-same. A run may take twenty times the processor time that was measured, and
+an address space of eight times its input; valid text of the longest string section may take four times. The margins are wide, so
+that a slower machine passes and another order of growth doesn't: a search that is quadratic takes hundreds of times as long here.
+insn-groups and insn-same keep their input and nothing else that grows with it, so they may take 1.1 times its length.
 
 --measure prints the processor time and the least address space of each run, from which the constants below come.
 """
@@ -17,6 +19,7 @@ import sys
 import tempfile
 from typing import Callable, NamedTuple
 
+from examples import EXIT, MOV, MOV_BIG, WIDE, WIDE_BIG
 from formats import btf
 from program import Report
 
@@ -24,6 +27,8 @@ MEGABYTE = 1 << 20
 STRINGS = 16 * MEGABYTE
 TIMES_THE_TIME = 20
 TIMES_THE_INPUT = 8
+TIMES_THE_PROGRAM = 1.1
+LARGEST_PROGRAM = 64 * MEGABYTE
 ENUM_VALUES = 65_535
 # A run that takes longer is ended.
 MOST_SECONDS = 100
@@ -175,12 +180,29 @@ def least_memory(program, line, given):
     return high
 
 
+def measure_run(program, name, line, given):
+    seconds = min(run(program, line, given, 1 << 40).seconds for _ in range(3))
+    least = least_memory(program, line, given)
+    print(f"{name}: {line}: {seconds:.2f} s, {least} MB, {least * MEGABYTE / len(given):.2f} times the input", flush=True)
+
+
 def measure(program):
     for name, input in INPUTS.items():
         for line, given in lines_of(input.make()):
-            seconds = min(run(program, line, given, 1 << 40).seconds for _ in range(3))
-            least = least_memory(program, line, given)
-            print(f"{name}: {line}: {seconds:.2f} s, {least} MB, {least * MEGABYTE / len(given):.2f} times the input", flush=True)
+            measure_run(program, name, line, given)
+    for line, given, _, _ in largest_programs():
+        measure_run(program, "the largest programs", line, given)
+
+
+def largest_programs():
+    """The lines for the largest programs of moves, wide loads and exits: each with its input, output and measured processor time."""
+    little, big = (code * (LARGEST_PROGRAM // len(code)) for code in (MOV + WIDE + EXIT, MOV_BIG + WIDE_BIG + EXIT))
+    return [
+        ("insn-groups", little, b"base32\nbase64\n", 0.10),
+        ("insn-groups --order big", big, b"base32\nbase64\n", 0.10),
+        (f"insn-same --split {len(little)}", little + little, b"same\n", 0.15),
+        (f"insn-same --split {len(little)} --other big", little + big, b"same\n", 0.15),
+    ]
 
 
 # ---- checks
@@ -203,6 +225,16 @@ def check(program, report, name, input):
         report.expect_that(ran.seconds <= limit, f"{line}, {name}", f"it took {ran.seconds:.2f} s, and {limit:.2f} s are the limit")
 
 
+def check_programs(program, report):
+    with report.group("time and memory with the largest programs"):
+        for line, given, output, seconds in largest_programs():
+            ran = run(program, line, given, int(TIMES_THE_PROGRAM * len(given)))
+            is_right = (ran.status, ran.output) == (0, output)
+            report.expect_that(is_right, line, f"within {TIMES_THE_PROGRAM} times its input it gave {ran.status}, {ran.output[:40]}")
+            limit = TIMES_THE_TIME * seconds
+            report.expect_that(ran.seconds <= limit, line, f"it took {ran.seconds:.2f} s, and {limit:.2f} s are the limit")
+
+
 def main():
     if len(sys.argv) < 2:
         sys.exit(__doc__)
@@ -212,6 +244,7 @@ def main():
     for name, input in INPUTS.items():
         with report.group(f"time and memory with {name}"):
             check(program, report, name, input)
+    check_programs(program, report)
     return report.end("running time")
 
 
