@@ -53,7 +53,7 @@ func AppendInsnRead(dst []byte, to Order, listing []byte) ([]byte, error) {
 
 // InsnGroups returns the conformance groups that a program needs, and the groups that these include.
 //
-// Errors: a *FaultError with an InsnCause, ErrMemory, ErrOrder.
+// Errors: a *FaultError with an InsnCause, ErrOrder.
 func InsnGroups(order Order, program []byte) (Groups, error) {
 	got := capi.InsnGroups(capi.Order(order), program)
 	return Groups(got.Groups), errorOf(got, insnCause)
@@ -63,7 +63,7 @@ func InsnGroups(order Order, program []byte) (Groups, error) {
 // instructions.
 //
 // Errors: a *FaultError with an InsnCause, whose Second is set if it is in the second program;
-// ErrMemory; ErrOrder.
+// ErrOrder.
 func InsnSame(firstOrder Order, first []byte, secondOrder Order, second []byte) (bool, error) {
 	got := capi.InsnSame(capi.Order(firstOrder), first, capi.Order(secondOrder), second)
 	return got.Status == capi.Done, errorOf(got, insnCause)

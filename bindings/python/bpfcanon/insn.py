@@ -46,7 +46,7 @@ def insn_read(listing: Union[str, Buffer], *, to: Order = Order.LITTLE) -> bytes
 def insn_groups(program: Buffer, *, order: Order = Order.LITTLE) -> Group:
     """The conformance groups that a program needs, and the groups that these include.
 
-    Raises Fault with an InsnCause, OutOfMemory.
+    Raises Fault with an InsnCause.
     """
     return Group(check(_library.ask("insn_groups", order, program), InsnCause).groups)
 
@@ -56,7 +56,7 @@ def insn_same(
 ) -> bool:
     """Whether two programs, each in a byte order of its own, have the same instructions.
 
-    Raises Fault with an InsnCause, OutOfMemory.
+    Raises Fault with an InsnCause.
     """
     answer = _library.ask("insn_same", first_order, first, second_order, second)
     return bool(check(answer, InsnCause).status == _library.DONE)
