@@ -1,56 +1,44 @@
 -- One step of finding the groups of a file.
-use Rattle.std.proofs.Common.{Bool, ◌≡◌, ◌↔◌, ℕ, ◌+◌, ◌-◌, ◌<◌, ◌≤◌, List, [], ◌∷◌, ◌++◌, length, drop, IsTrue, All, refl, arith}
+use Rattle.std.proofs.Common.{Bool, ℕ, ◌+◌, ◌-◌, ◌<◌, ◌≤◌, List, [], ◌∷◌, ◌++◌, length, IsTrue, refl, arith}
 use Rattle.std.proofs.lemmas.List.Elements.{All-nil}
 use Rattle.bpf_words.specs.declared.Order.{Order}
 use Rattle.bpf_insn.specs.Table.{IsInsn}
-use Rattle.bpf_insn.specs.Spelling.{file_of}
 use Rattle.bpf_insn.specs.Faults.{IsInsnFault}
-use Rattle.bpf_insn.specs.FileSteps.{AddsInsnAt, AreSettled, IsFaultAt}
-use Rattle.bpf_insn.specs.Groups.{AreGroupsOf, InGroups, holds}
+use Rattle.bpf_insn.specs.FileSteps.{AddsInsnAt, AreSettled, HasGroupsBefore, IsFaultAt}
+use Rattle.bpf_insn.specs.Groups.{AreGroupsOf, holds}
 use Rattle.bpf_insn.proofs.DecodeLemmas as one
 use Rattle.bpf_insn.proofs.GroupLemmas.{one_group_more}
 use Rattle.bpf_insn.specs.declared.fault.SlotFault.{SlotFault}
 use Rattle.bpf_insn.specs.declared.group.Group.{Group}
 use Rattle.bpf_insn.specs.declared.group.GroupSet.{GroupSet}
-use Rattle.bpf_insn.specs.declared.insn.Insn.{Insn}
 
--- the bytes before a place are those of these instructions
-abbrev pub Kept : Order → List ℕ → List Insn → ℕ → Type 0
-Kept order bytes xs at = (at ≤ length bytes) × All IsInsn xs × (bytes ≡ file_of order xs ++ drop at bytes) × (at ≡ length (file_of order xs))
-
--- the set has the groups of the instructions before a place
-pub record HasGroups (order : Order) (bytes : List ℕ) (at : ℕ) (set : GroupSet) : Type 0 where
-  pub insns : List Insn
-  pub kept : Kept order bytes insns at
-  pub groups : (g : Group) → IsTrue (holds set g) ↔ InGroups insns g
-
--- and the marked opcodes are settled
+-- the set has the groups of the instructions before a place, and the marked opcodes are settled
 pub record HasSettledGroups (order : Order) (bytes : List ℕ) (at : ℕ) (marks : List Bool) (set : GroupSet) : Type 0 where
-  pub groups : HasGroups order bytes at set
+  pub groups : HasGroupsBefore order bytes at set
   pub settled : AreSettled marks set
 
-pub at_start : (order : Order) (bytes : List ℕ) (set : GroupSet) → ((g : Group) → ¬ IsTrue (holds set g)) → HasGroups order bytes 0 set
+pub at_start : (order : Order) (bytes : List ℕ) (set : GroupSet) → ((g : Group) → ¬ IsTrue (holds set g)) → HasGroupsBefore order bytes 0 set
 at_start order bytes set none = record {
   insns = [];
-  kept = (omega arith, All-nil IsInsn, refl, refl);
+  spelled = (omega arith, All-nil IsInsn, refl, refl);
   groups = λ g. (λ t. absurd (none g t), λ a. absurd (omega (arith, a.2)));
 }
 
-pub step : (order : Order) (bytes : List ℕ) (at : ℕ) (before after : GroupSet) (len : ℕ) → HasGroups order bytes at before → AddsInsnAt order bytes at before after len
-    → HasGroups order bytes (at + len) after
+pub step : (order : Order) (bytes : List ℕ) (at : ℕ) (before after : GroupSet) (len : ℕ) → HasGroupsBefore order bytes at before → AddsInsnAt order bytes at before after len
+    → HasGroupsBefore order bytes (at + len) after
 step order bytes at before after len h more = record {
   insns = h.insns ++ more.0 ∷ [];
-  kept = one.step order bytes h.insns at h.kept more.0 len (more.1, more.2);
+  spelled = one.step order bytes h.insns at h.spelled more.0 len (more.1, more.2);
   groups = λ g. one_group_more (holds before g) (holds after g) h.insns more.0 g (h.groups g) (more.3 g);
 }
 
-pub moved_on : (order : Order) (bytes : List ℕ) (at : ℕ) (before after : GroupSet) (len : ℕ) → HasGroups order bytes at before → AddsInsnAt order bytes at before after len
+pub moved_on : (order : Order) (bytes : List ℕ) (at : ℕ) (before after : GroupSet) (len : ℕ) → HasGroupsBefore order bytes at before → AddsInsnAt order bytes at before after len
     → length bytes - (at + len) < length bytes - at
-moved_on order bytes at before after len h more = one.moved_on order bytes h.insns at h.kept more.0 len (more.1, more.2)
+moved_on order bytes at before after len h more = one.moved_on order bytes h.insns at h.spelled more.0 len (more.1, more.2)
 
-pub fault_here : (order : Order) (bytes : List ℕ) (at : ℕ) (set : GroupSet) (fault : SlotFault) → HasGroups order bytes at set → at < length bytes
+pub fault_here : (order : Order) (bytes : List ℕ) (at : ℕ) (set : GroupSet) (fault : SlotFault) → HasGroupsBefore order bytes at set → at < length bytes
     → IsFaultAt order bytes at fault → IsInsnFault order bytes fault
-fault_here order bytes at set fault h more f = one.fault_here order bytes h.insns at h.kept f.0 fault more f.1 f.2
+fault_here order bytes at set fault h more f = one.fault_here order bytes h.insns at h.spelled f.0 fault more f.1 f.2
 
-pub whole_file : (order : Order) (bytes : List ℕ) (at : ℕ) (set : GroupSet) → HasGroups order bytes at set → length bytes ≤ at → AreGroupsOf order bytes set
-whole_file order bytes at set h done = (h.insns, one.whole_file order bytes h.insns at h.kept done, h.groups)
+pub whole_file : (order : Order) (bytes : List ℕ) (at : ℕ) (set : GroupSet) → HasGroupsBefore order bytes at set → length bytes ≤ at → AreGroupsOf order bytes set
+whole_file order bytes at set h done = (h.insns, one.whole_file order bytes h.insns at h.spelled done, h.groups)

@@ -113,7 +113,7 @@ opcode_at order bytes at i h =
     sym (get_or-drop at bytes 0 0 ∙ ap (λ (n : ℕ). get_or bytes n 0) (omega arith)) ∙ first
 
 -- the group of an instruction whose opcode is settled is there
-already_there : (order : Order) (bytes : List ℕ) (at : ℕ) (marks : List Bool) (set : GroupSet) (len : ℕ) → AreSettled marks set → IsTrue (get_or marks (get_or bytes at 0) false)
+pub already_there : (order : Order) (bytes : List ℕ) (at : ℕ) (marks : List Bool) (set : GroupSet) (len : ℕ) → AreSettled marks set → IsTrue (get_or marks (get_or bytes at 0) false)
     → (i : Insn) × BeginsAt order bytes at i × (len ≡ length (spelling order i)) → AddsInsnAt order bytes at set set len
 already_there order bytes at marks set len h marked found =
     let here : IsTrue (get_or marks (fields_of found.0).opcode false) = rw (sym (opcode_at order bytes at found.0 found.1)) marked in

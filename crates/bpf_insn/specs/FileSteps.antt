@@ -1,16 +1,16 @@
 -- What an instruction file has at a place: an instruction, whose group is added to a set, or a fault.
 -- No contract of a public function cites this file.
-use Rattle.std.specs.Prelude.{◌≡◌, ◌↔◌, ◌⊎◌, ℕ, ◌+◌, Bool, true, false, List, length, slice_range, slice_index_or, IsTrue}
+use Rattle.std.specs.Prelude.{◌≡◌, ◌↔◌, ◌⊎◌, ℕ, ◌+◌, ◌≤◌, ◌++◌, Bool, true, false, List, All, drop, length, slice_range, slice_index_or, IsTrue}
 use Rattle.bpf_words.specs.declared.Order.{Order}
 use Rattle.bpf_insn.specs.declared.insn.Insn.{Insn}
 use Rattle.bpf_insn.specs.declared.fault.SlotFault.{SlotFault}
 use Rattle.bpf_insn.specs.declared.insn.Insn.TheVariants.{Swap}
 use Rattle.bpf_insn.specs.declared.group.Group.{Group}
 use Rattle.bpf_insn.specs.declared.group.GroupSet.{GroupSet}
-use Rattle.bpf_insn.specs.Table.{fields_of}
-use Rattle.bpf_insn.specs.Spelling.{spelling}
+use Rattle.bpf_insn.specs.Table.{IsInsn, fields_of}
+use Rattle.bpf_insn.specs.Spelling.{file_of, spelling}
 use Rattle.bpf_insn.specs.Faults.{BeginsWith, IsSlotFault}
-use Rattle.bpf_insn.specs.Groups.{Brings, group_of, holds}
+use Rattle.bpf_insn.specs.Groups.{Brings, InGroups, group_of, holds}
 
 -- the bytes from a place on begin with the spelling of an instruction
 abbrev pub BeginsAt : Order → List ℕ → ℕ → Insn → Type 0
@@ -36,3 +36,14 @@ opcode_has_group _ = true
 abbrev pub AreSettled : List Bool → GroupSet → Type 0
 AreSettled marks set =
     (i : Insn) (g : Group) → IsTrue (slice_index_or marks (fields_of i).opcode false) → Brings (group_of i) g → IsTrue (holds set g)
+
+-- the bytes before a place are those of these instructions
+abbrev pub SpellsBefore : Order → List ℕ → List Insn → ℕ → Type 0
+SpellsBefore order bytes insns at =
+    (at ≤ length bytes) × All IsInsn insns × (bytes ≡ file_of order insns ++ drop at bytes) × (at ≡ length (file_of order insns))
+
+-- the set has the groups of the instructions before a place, and no other
+pub record HasGroupsBefore (order : Order) (bytes : List ℕ) (at : ℕ) (set : GroupSet) : Type 0 where
+  pub insns : List Insn
+  pub spelled : SpellsBefore order bytes insns at
+  pub groups : (g : Group) → IsTrue (holds set g) ↔ InGroups insns g

@@ -10,10 +10,11 @@ ghost use Rattle.bpf_insn.specs.declared.insn.Insn.{Insn};
 ghost use Rattle.bpf_insn.specs.Table.{fields_of};
 ghost use Rattle.bpf_insn.specs.Spelling.{InsnFile, spelling};
 ghost use Rattle.bpf_insn.specs.Faults.{IsInsnFault};
-ghost use Rattle.bpf_insn.specs.FileSteps.{AddsInsnAt, AreSettled, BeginsAt, IsFaultAt, opcode_has_group};
+ghost use Rattle.bpf_insn.specs.FileSteps.{AddsInsnAt, AreSettled, BeginsAt, HasGroupsBefore, IsFaultAt, opcode_has_group};
 ghost use Rattle.bpf_insn.specs.Groups.{AreGroupsOf, Brings, group_of, holds};
 
 use crate::decode::{len_at, read_at};
+use crate::read::begins_plainly;
 use crate::{GroupSet, Insn, Order, SlotFault, group_of};
 
 /// Whether all instructions with the opcode of this one are in its group. Only the group of a byte swap
@@ -71,6 +72,33 @@ impl FoundGroups {
         Ok(len)
     }
 
+    /// Whether a plain instruction with a settled opcode is at a place of a file. Its group is there.
+    #[inline(always)]
+    fn has_plain_at(&self, order: Order, bytes: &[u8], pos: usize) -> bool
+        requires pos { pos < length bytes.now }
+        requires settled { AreSettled self.now.settled self.now.set }
+        ensures { IsTrue result → AddsInsnAt order bytes.now pos self.now.set self.now.set 8 }
+    {
+        self.settled[bytes[pos] as usize] && begins_plainly(order, &bytes[pos..])
+    }
+
+    /// The end of the longest run of such instructions from `pos` on. Most instructions are in such runs,
+    /// and a loop of their own is the fastest.
+    #[inline(always)]
+    fn plain_end(&self, order: Order, bytes: &[u8], pos: usize) -> usize
+        requires pos { pos ≤ length bytes.now }
+        requires groups { HasGroupsBefore order bytes.now pos self.now.set }
+        requires settled { AreSettled self.now.settled self.now.set }
+        ensures forward { pos ≤ result }
+        ensures groups { HasGroupsBefore order bytes.now result self.now.set }
+    {
+        let mut end = pos;
+        while end < bytes.len() && self.has_plain_at(order, bytes, end) {
+            end += 8;
+        }
+        end
+    }
+
     /// Adds the group of the instruction at a place of a file, and returns its length.
     #[inline(always)]
     fn add_at(&mut self, order: Order, bytes: &[u8], pos: usize) -> Result<usize, SlotFault>
@@ -105,7 +133,8 @@ pub fn groups_in(order: Order, bytes: &[u8]) -> Result<GroupSet, SlotFault>
     let mut found = FoundGroups::none();
     let mut pos = 0;
     while pos < bytes.len() {
-        pos += found.add_at(order, bytes, pos)?;
+        let next = pos + found.add_at(order, bytes, pos)?;
+        pos = found.plain_end(order, bytes, next);
     }
     Ok(found.set)
 }
