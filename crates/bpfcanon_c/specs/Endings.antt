@@ -84,7 +84,6 @@ EndsSameInsnsIn o a p b Same = Compares o a p b true
 EndsSameInsnsIn o a p b Different = Compares o a p b false
 EndsSameInsnsIn o a p b (First code) = (fault : SlotFault) × (IsInsnFault o a fault × (code ≡ code_of_slot fault))
 EndsSameInsnsIn o a p b (Second code) = (fault : SlotFault) × (((l : List Insn) × InsnFile o a l) × (IsInsnFault p b fault × (code ≡ code_of_slot fault)))
-EndsSameInsnsIn o a p b Memory = ⊤
 EndsSameInsnsIn o a p b _ = ⊥
 
 abbrev pub EndsSameInsns : ℕ → List ℕ → ℕ → List ℕ → Ending → Type 0
