@@ -3,6 +3,5 @@ pub mod Checks
 pub mod FieldFaults
 pub mod NameFaults
 pub mod RecordFaults
-pub mod Roles
 pub mod Phases
 pub mod Texts

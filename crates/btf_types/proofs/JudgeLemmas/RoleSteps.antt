@@ -8,18 +8,16 @@ use Rattle.btf_raw.specs.declared.kinds.TheConstants.{INT, ARRAY, STRUCT, UNION,
 use Rattle.btf_raw.specs.Kinds.{one_of, tail_words, fixed_words, item_words, has_target, has_item_names, is_struct}
 use Rattle.btf_raw.specs.Names.{TextAt}
 use Rattle.btf_raw.specs.Frames.{IsFrame, name_word, third_word, kind, vlen, flag}
-use Rattle.btf_types.specs.declared.judge.roles.Role.{Role}
-use Rattle.btf_types.specs.declared.judge.roles.Role.TheVariants as roles
 use Rattle.btf_types.specs.judge.Checks.{size_fits, bits_fit, target_fits, component_fits, TypeFacts, type_at, NoCause, LeastCause}
 use Rattle.btf_types.specs.judge.FieldFaults.{WordFault, offset_in, width_in, int_unused, int_encoding, int_bits, IsTypeField, IsNameField, IsMemberWord, IsItemWord}
-use Rattle.btf_types.specs.judge.Roles.{word_in_item, PartIs, RoleIs, HasRole}
-use Rattle.btf_types.specs.declared.judge.fields.JudgedRecord.{JudgedRecord}
+use Rattle.btf_types.specs.declared.judge.judged_record.JudgedRecord.{JudgedRecord}
 use Rattle.btf_types.specs.declared.tables.section.Section.{Section}
-use Rattle.btf_types.specs.Reading.{frame_at}
-use Rattle.btf_types.specs.Sections.{facts_in}
-use Rattle.btf_types.specs.judge.RecordFaults.{BitFieldsAre, RecordIs, RoleFault}
-use Rattle.btf_types.specs.judge.NameFaults.{MemberPlaceFault}
+use Rattle.btf_types.specs.Sections.{frame_of, facts_in}
+use Rattle.btf_types.specs.judge.RecordFaults.{FaultInWord, BitFieldsAre, RecordIs}
+use Rattle.btf_types.specs.judge.NameFaults.{MemberPlaceFault, MemberTypeFault}
 use Rattle.btf_types.proofs.JudgeLemmas.Judging.{judged_same}
+use Rattle.btf_types.proofs.JudgeLemmas.Roles as roles
+use Rattle.btf_types.proofs.JudgeLemmas.Roles.{Role, word_in_item, PartIs, RoleIs, HasRole, TypeOfMemberFault, RoleFault}
 
 -- ---- the sizes of items
 
@@ -30,7 +28,7 @@ one_or_more k κ ks h = split (κ == k) refl h
     split true e h = inl (eqb-true κ k e)
     split false e h = inr (rw e at h)
 
-abbrev TwoOrThree : ℕ → Type 0
+abbrev pub TwoOrThree : ℕ → Type 0
 TwoOrThree w = (w ≡ 2) ⊎ (w ≡ 3)
 
 pub struct_size : (κ : ℕ) → IsTrue (is_struct κ) → item_words κ ≡ 3
@@ -79,11 +77,11 @@ named_fixed κ h = elim (one_or_more STRUCT κ (UNION ∷ ENUM ∷ FUNC_PROTO �
   ]
 ]
 
-proto_size : (κ : ℕ) → κ ≡ FUNC_PROTO → item_words κ ≡ 2
+pub proto_size : (κ : ℕ) → κ ≡ FUNC_PROTO → item_words κ ≡ 2
 unfolding item_words
 proto_size κ e = rw e refl
 
-datasec_size : (κ : ℕ) → κ ≡ DATASEC → item_words κ ≡ 3
+pub datasec_size : (κ : ℕ) → κ ≡ DATASEC → item_words κ ≡ 3
 unfolding item_words
 datasec_size κ e = rw e refl
 
@@ -91,8 +89,14 @@ array_size : (κ : ℕ) → κ ≡ ARRAY → item_words κ ≡ 0
 unfolding item_words
 array_size κ e = rw e refl
 
+pub one_word : (κ v : ℕ) → (κ ≡ INT) ⊎ (κ ≡ VAR) ⊎ (κ ≡ DECL_TAG) → 3 + tail_words κ v ≡ 4
+unfolding tail_words fixed_words item_words
+one_word κ v (inl e) = rw e (omega arith)
+one_word κ v (inr (inl e)) = rw e (omega arith)
+one_word κ v (inr (inr e)) = rw e (omega arith)
+
 -- word m of an item, from the place in the record, and back
-part_is : (κ k m j : ℕ) → TwoOrThree (item_words κ) → m < item_words κ → j ≡ 3 + item_words κ * k + m → word_in_item κ j ≡ m
+pub part_is : (κ k m j : ℕ) → TwoOrThree (item_words κ) → m < item_words κ → j ≡ 3 + item_words κ * k + m → word_in_item κ j ≡ m
 part_is κ k m j (inl two) low at = rw two (let there : j ≡ 3 + 2 * k + m = rw two at at in let less : m < 2 = rw two at low in omega arith)
 part_is κ k m j (inr three) low at = rw three (let there : j ≡ 3 + 3 * k + m = rw three at at in let less : m < 3 = rw three at low in omega arith)
 
@@ -112,9 +116,9 @@ item_word κ v m j (inr three) past inside is =
     record { k = (j - 3) / 3; low = omega arith; at = rw three (omega arith) }
 
 -- a role's faults on the numbers of a frame
-abbrev WordRoleFault : List ℕ → List TypeFacts → List ℕ → Bool → ℕ → Role → BtfCause → Type 0
-WordRoleFault strings types frame b j role c =
-    RoleFault strings types (kind frame) (vlen frame) (flag frame) (third_word frame) b (slice_index frame j) role c
+abbrev WordRoleFault : List ℕ → List TypeFacts → List ℕ → ℕ → Role → BtfCause → Type 0
+WordRoleFault strings types frame j role c =
+    RoleFault strings types frame (kind frame) (vlen frame) (flag frame) (third_word frame) (slice_index frame j) role c
 
 -- ---- from a cause to the role
 
@@ -175,9 +179,9 @@ module _ (frame : List ℕ) (j : ℕ) (role : Role) (each : HasRole (kind frame)
   ]
   type_role (inr (inr (inr entry))) = inr (inl (entry_role entry.0 entry.1 entry.2))
 
-module _ (strings : List ℕ) (types : List TypeFacts) (frame : List ℕ) (b : Bool) (j : ℕ) (role : Role) where
-  is_role : (r : Role) (c : BtfCause) → role ≡ r → WordRoleFault strings types frame b j r c → WordRoleFault strings types frame b j role c
-  is_role r c e fault = subst (λ (x : Role). WordRoleFault strings types frame b j x c) (sym e) fault
+module _ (strings : List ℕ) (types : List TypeFacts) (frame : List ℕ) (j : ℕ) (role : Role) where
+  is_role : (r : Role) (c : BtfCause) → role ≡ r → WordRoleFault strings types frame j r c → WordRoleFault strings types frame j role c
+  is_role r c e fault = subst (λ (x : Role). WordRoleFault strings types frame j x c) (sym e) fault
 
   struct_fits_any : (κ target : ℕ) → IsTrue (is_struct κ) → target_fits κ target ≡ true
   unfolding target_fits
@@ -195,28 +199,28 @@ module _ (strings : List ℕ) (types : List TypeFacts) (frame : List ℕ) (b : B
   at_fourth : (P : ℕ → Type 0) → j ≡ 3 → P (slice_index frame 3) → P (slice_index frame j)
   at_fourth P fourth h = subst (λ (i : ℕ). P (slice_index frame i)) (sym fourth) h
 
-  role_says : BitFieldsAre frame b → HasRole (kind frame) j role → (c : BtfCause) → WordFault strings types frame j c → WordRoleFault strings types frame b j role c
-  role_says bits each NameRange fault = elim (name_role frame j role each fault.0 fault.1) [
+  role_says : HasRole (kind frame) j role → (c : BtfCause) → WordFault strings types frame j c → WordRoleFault strings types frame j role c
+  role_says each NameRange fault = elim (name_role frame j role each fault.0 fault.1) [
     | inl own ↦ is_role roles.OwnName NameRange own fault.2
     | inr item ↦ is_role roles.ItemName NameRange item fault.2
   ]
-  role_says bits each NameUtf8 fault = elim (name_role frame j role each fault.0 fault.1) [
+  role_says each NameUtf8 fault = elim (name_role frame j role each fault.0 fault.1) [
     | inl own ↦ is_role roles.OwnName NameUtf8 own (fault.2, fault.3, fault.4)
     | inr item ↦ is_role roles.ItemName NameUtf8 item (fault.2, fault.3, fault.4)
   ]
-  role_says bits each NameMissing fault =
+  role_says each NameMissing fault =
       is_role roles.OwnName NameMissing (each.name fault.0) (fault.1, at_name (λ i. TextAt strings i []) fault.0 fault.2)
-  role_says bits each NameUnwanted fault =
+  role_says each NameUnwanted fault =
       is_role roles.OwnName NameUnwanted (each.name fault.0) (fault.1, fault.2, at_name (λ i. TextAt strings i fault.2) fault.0 fault.3, fault.4)
-  role_says bits each NotZero fault = is_role roles.Third NotZero (each.third fault.0) (fault.1, at_third (λ i. i ≢ 0) fault.0 fault.2)
-  role_says bits each Size fault =
+  role_says each NotZero fault = is_role roles.Third NotZero (each.third fault.0) (fault.1, at_third (λ i. i ≢ 0) fault.0 fault.2)
+  role_says each Size fault =
       is_role roles.Third Size (each.third fault.0) (at_third (λ i. IsFalse (size_fits (kind frame) i (vlen frame))) fault.0 fault.1)
-  role_says bits each Reference fault = elim (type_role frame j role each fault.0) [
+  role_says each Reference fault = elim (type_role frame j role each fault.0) [
     | inl third ↦ is_role roles.Third Reference third.1 (third.0, fault.1)
     | inr (inl named) ↦ is_role roles.NamedType Reference named fault.1
     | inr (inr member) ↦ is_role roles.MemberType Reference member.1 fault.1
   ]
-  role_says bits each TargetKind fault = elim (type_role frame j role each fault.0) [
+  role_says each TargetKind fault = elim (type_role frame j role each fault.0) [
     | inl third ↦ is_role roles.Third TargetKind third.1 (third.0, fault.1, fault.2)
     | inr (inl named) ↦ is_role roles.NamedType TargetKind named (fault.1, fault.2)
     | inr (inr member) ↦
@@ -224,26 +228,26 @@ module _ (strings : List ℕ) (types : List TypeFacts) (frame : List ℕ) (b : B
         let not = fault.2 in
         absurd cc
   ]
-  role_says bits each IntWord fault =
+  role_says each IntWord fault =
       let low : 3 ≤ j = omega (arith, fault.0) in
       is_role roles.IntWord IntWord ((each.tail low).int fault.1)
       (at_fourth (λ i. (int_unused i ≢ 0) ⊎ IsFalse (one_of (0 ∷ 1 ∷ 2 ∷ 4 ∷ []) (int_encoding i)) ⊎ IsFalse (bits_fit (third_word frame) (int_bits i))) fault.0 fault.2)
-  role_says bits each MemberInt fault = is_role roles.MemberType MemberInt (member_role frame j role each fault.0) (bits.none fault.1, fault.2)
-  role_says bits each MemberPlace fault = is_role roles.MemberPlace MemberPlace (place_role frame j role each fault.0) fault.1
-  role_says bits each Linkage (inl func) = is_role roles.Info Linkage (each.info func.1) (func.0, func.2)
-  role_says bits each Linkage (inr var) =
+  role_says each MemberInt fault = is_role roles.MemberType MemberInt (member_role frame j role each fault.0) (fault.1, fault.2)
+  role_says each MemberPlace fault = is_role roles.MemberPlace MemberPlace (place_role frame j role each fault.0) fault.1
+  role_says each Linkage (inl func) = is_role roles.Info Linkage (each.info func.1) (func.0, func.2)
+  role_says each Linkage (inr var) =
       let at = var.1 in
       let low : 3 ≤ j = omega arith in
       is_role roles.Linkage Linkage ((each.tail low).var var.0) (at_fourth (λ i. 2 < i) var.1 var.2)
-  role_says bits each Component fault =
+  role_says each Component fault =
       let low : 3 ≤ j = omega (arith, fault.1) in
       is_role roles.Component Component ((each.tail low).tag fault.0)
       (at_fourth (λ i. i ≢ 0xffffffff) fault.1 fault.2, at_fourth (λ i. IsFalse (component_fits types (third_word frame) i)) fault.1 fault.3)
-  role_says bits each c fault = absurd fault
+  role_says each c fault = absurd fault
 
 -- ---- and back
 
-module _ (strings : List ℕ) (types : List TypeFacts) (frame : List ℕ) (b : Bool) (j : ℕ) (is_frame : IsFrame frame) (bits : BitFieldsAre frame b) (there : j < length frame) where
+module _ (strings : List ℕ) (types : List TypeFacts) (frame : List ℕ) (j : ℕ) (is_frame : IsFrame frame) (there : j < length frame) where
   room : fixed_words (kind frame) ≡ 0 → j < 3 + item_words (kind frame) * vlen frame
   unfolding tail_words
   room none = let size = is_frame.size in omega arith
@@ -263,12 +267,6 @@ module _ (strings : List ℕ) (types : List TypeFacts) (frame : List ℕ) (b : B
 
   fourth : (κ : ℕ) → kind frame ≡ κ → 3 + tail_words κ (vlen frame) ≡ 4 → 3 ≤ j → j ≡ 3
   fourth κ is four past = let size : length frame ≡ 4 = is_frame.size ∙ rw is four in omega arith
-
-  one_word : (κ : ℕ) → (κ ≡ INT) ⊎ (κ ≡ VAR) ⊎ (κ ≡ DECL_TAG) → 3 + tail_words κ (vlen frame) ≡ 4
-  unfolding tail_words fixed_words item_words
-  one_word κ (inl e) = rw e (omega arith)
-  one_word κ (inr (inl e)) = rw e (omega arith)
-  one_word κ (inr (inr e)) = rw e (omega arith)
 
   named_field : 3 ≤ j → PartIs (kind frame) (word_in_item (kind frame) j) roles.NamedType → IsTypeField frame j
   unfolding fixed_words
@@ -304,7 +302,7 @@ module _ (strings : List ℕ) (types : List TypeFacts) (frame : List ℕ) (b : B
   back_fourth : (P : ℕ → Type 0) → j ≡ 3 → P (slice_index frame j) → P (slice_index frame 3)
   back_fourth P is h = subst (λ (i : ℕ). P (slice_index frame i)) is h
 
-  role_holds : (role : Role) → RoleIs (kind frame) j role → (c : BtfCause) → WordRoleFault strings types frame b j role c → WordFault strings types frame j c
+  role_holds : (role : Role) → RoleIs (kind frame) j role → (c : BtfCause) → WordRoleFault strings types frame j role c → WordFault strings types frame j c
   role_holds roles.OwnName is NameRange fault = (0, is, fault)
   role_holds roles.OwnName is NameUtf8 fault = (0, is, fault.0, fault.1, fault.2)
   role_holds roles.OwnName is NameMissing fault = (is, fault.0, back_name (λ i. TextAt strings i []) is fault.1)
@@ -315,47 +313,64 @@ module _ (strings : List ℕ) (types : List TypeFacts) (frame : List ℕ) (b : B
   role_holds roles.Third is Reference fault = (inl (fault.0, is), fault.1)
   role_holds roles.Third is TargetKind fault = (inl (fault.0, is), fault.1, fault.2)
   role_holds roles.IntWord is IntWord fault =
-      let at = fourth INT is.1 (one_word INT (inl refl)) is.0 in
+      let at = fourth INT is.1 (one_word INT (vlen frame) (inl refl)) is.0 in
       (at, is.1, back_fourth (λ i. (int_unused i ≢ 0) ⊎ IsFalse (one_of (0 ∷ 1 ∷ 2 ∷ 4 ∷ []) (int_encoding i)) ⊎ IsFalse (bits_fit (third_word frame) (int_bits i))) at fault)
   role_holds roles.Linkage is Linkage fault =
-      let at = fourth VAR is.1 (one_word VAR (inr (inl refl))) is.0 in
+      let at = fourth VAR is.1 (one_word VAR (vlen frame) (inr (inl refl))) is.0 in
       inr (is.1, at, back_fourth (λ i. 2 < i) at fault)
   role_holds roles.Component is Component fault =
-      let at = fourth DECL_TAG is.1 (one_word DECL_TAG (inr (inr refl))) is.0 in
+      let at = fourth DECL_TAG is.1 (one_word DECL_TAG (vlen frame) (inr (inr refl))) is.0 in
       (is.1, at, back_fourth (λ i. i ≢ 0xffffffff) at fault.0, back_fourth (λ i. IsFalse (component_fits types (third_word frame) i)) at fault.1)
   role_holds roles.ItemName is NameRange fault = let field = item_name_field is.1.0 is.0 is.1.1 in (field.0, field.1, fault)
   role_holds roles.ItemName is NameUtf8 fault = let field = item_name_field is.1.0 is.0 is.1.1 in (field.0, field.1, fault.0, fault.1, fault.2)
   role_holds roles.NamedType is Reference fault = (named_field is.0 is.1, fault)
   role_holds roles.NamedType is TargetKind fault = (named_field is.0 is.1, fault.0, fault.1)
   role_holds roles.MemberType is Reference fault = (member_type_field (member_field 1 is.1.0 is.0 is.1.1), fault)
-  role_holds roles.MemberType is MemberInt fault = (member_field 1 is.1.0 is.0 is.1.1, bits.some fault.0, fault.1)
+  role_holds roles.MemberType is MemberInt fault = (member_field 1 is.1.0 is.0 is.1.1, fault.0, fault.1)
   role_holds roles.MemberPlace is MemberPlace fault = (member_field 2 is.1.0 is.0 (place_part is.1.0 is.1.1), fault)
   role_holds role is c fault = absurd fault
 
   -- a role's judge is the word's
-  word_judged : (role : Role) (r : Option BtfCause) → RoleIs (kind frame) j role → HasRole (kind frame) j role
-      → MatchOption r (NoCause (WordRoleFault strings types frame b j role)) (λ c. LeastCause (WordRoleFault strings types frame b j role) c)
+  word_judged : (role : Role) (r : Option BtfCause) → HasRole (kind frame) j role
+      → MatchOption r (NoCause (WordRoleFault strings types frame j role)) (λ c. LeastCause (WordRoleFault strings types frame j role) c)
       → MatchOption r (NoCause (WordFault strings types frame j)) (λ c. LeastCause (WordFault strings types frame j) c)
-  word_judged role r is each judged =
-      judged_same (WordRoleFault strings types frame b j role) (WordFault strings types frame j) r
-      (role_holds role is) (role_says strings types frame b j role bits each) judged
+  word_judged role r has judged =
+      judged_same (WordRoleFault strings types frame j role) (WordFault strings types frame j) r
+      (role_holds role has.is) (role_says strings types frame j role has) judged
 
 abbrev pub HeldFault : Section → JudgedRecord → ℕ → Role → BtfCause → Type 0
-HeldFault s r word role c = RoleFault s.file.strings.now (facts_in s) r.header.kind r.header.vlen r.header.kind_flag r.header.size_or_type r.bit_fields word role c
+HeldFault s r word role c =
+    RoleFault s.file.strings.now (facts_in s) (frame_of s.file r.pos) r.header.kind r.header.vlen r.header.kind_flag r.header.size_or_type word role c
 
 -- the same on the numbers that are kept of a record
-pub judged : {s : Section} {r : JudgedRecord} {j word : ℕ} (role : Role) (result : Option BtfCause) → RecordIs s r → j < r.words
-    → word ≡ slice_index (frame_at s.file.order s.file.types.now r.pos) j → RoleIs r.header.kind j role → HasRole r.header.kind j role
+pub judged : {s : Section} {r : JudgedRecord} {j word : ℕ} (role : Role) (result : Option BtfCause) → RecordIs s r → j < length (frame_of s.file r.pos)
+    → word ≡ slice_index (frame_of s.file r.pos) j → HasRole r.header.kind j role
     → MatchOption result (NoCause (HeldFault s r word role)) (λ c. LeastCause (HeldFault s r word role) c)
-    → MatchOption result (NoCause (WordFault s.file.strings.now (facts_in s) (frame_at s.file.order s.file.types.now r.pos) j)) (λ c. LeastCause (WordFault s.file.strings.now (facts_in s) (frame_at s.file.order s.file.types.now r.pos) j) c)
-judged {s} {r} {j} {word} role result is there word-is role-is each held =
-    let f = frame_at s.file.order s.file.types.now r.pos in
+    → MatchOption result (NoCause (FaultInWord s r.pos j)) (λ c. LeastCause (FaultInWord s r.pos j) c)
+judged {s} {r} {j} {word} role result is there word-is has held =
+    let f = frame_of s.file r.pos in
     let header = is.header_is in
-    word_judged s.file.strings.now (facts_in s) f r.bit_fields j is.is_there.frame is.bit_fields_are (rw (← is.words_are) there) role result
-    (rw (← header.kind_is) role-is) (rw (← header.kind_is) each)
-    (judged_same (HeldFault s r word role) (WordRoleFault s.file.strings.now (facts_in s) f r.bit_fields j role) result
+    word_judged s.file.strings.now (facts_in s) f j is.is_there.frame there role result (rw (← header.kind_is) has)
+    (judged_same (HeldFault s r word role) (WordRoleFault s.file.strings.now (facts_in s) f j role) result
     (λ d h. rw (← header.kind_is, ← header.vlen_is, ← header.kind_flag_is, ← header.size_or_type_is, ← word-is) h)
     (λ d h. rw (header.kind_is, header.vlen_is, header.kind_flag_is, header.size_or_type_is, word-is) h) held)
+
+-- the answer by which a member's type is judged
+pub type_judged : (types : List TypeFacts) (frame : List ℕ) (bit_fields : Bool) (word : ℕ) (result : Option BtfCause) → BitFieldsAre frame bit_fields
+    → MatchOption result (NoCause (MemberTypeFault types bit_fields word)) (λ c. LeastCause (MemberTypeFault types bit_fields word) c)
+    → MatchOption result (NoCause (TypeOfMemberFault types frame word)) (λ c. LeastCause (TypeOfMemberFault types frame word) c)
+type_judged types frame bit_fields word result bits held =
+    judged_same (MemberTypeFault types bit_fields word) (TypeOfMemberFault types frame word) result there back held
+  where
+    there : (c : BtfCause) → MemberTypeFault types bit_fields word c → TypeOfMemberFault types frame word c
+    there Reference h = h
+    there MemberInt h = (bits.some h.0, h.1)
+    there c h = absurd h
+
+    back : (c : BtfCause) → TypeOfMemberFault types frame word c → MemberTypeFault types bit_fields word c
+    back Reference h = h
+    back MemberInt h = (bits.none h.0, h.1)
+    back c h = absurd h
 
 -- the numbers that a member's offset word is judged by
 pub place_judged : (third flag word at wide : ℕ) (result : Option BtfCause) → at ≡ offset_in flag word → wide ≡ width_in flag word

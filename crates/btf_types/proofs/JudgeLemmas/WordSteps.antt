@@ -1,34 +1,50 @@
 -- The first word of a record with a fault, after words without one.
-use Rattle.std.proofs.Common.{◌≡◌, ℕ, ◌+◌, ◌<◌, List, length, sym, subst, inl, inr, arith}
+use Rattle.std.proofs.Common.{◌≡◌, ℕ, ◌≤◌, Option, None, Some, length, sym, subst, inl, inr, arith}
+use Rattle.std.specs.Prelude.{MatchOption}
 use Rattle.std.proofs.lemmas.Bool.{cases_lt}
 use Rattle.btf_raw.specs.declared.cause.BtfCause.{BtfCause}
-use Rattle.btf_types.specs.judge.Checks.{TypeFacts, LeastCause, NoCause}
-use Rattle.btf_types.specs.judge.RecordFaults.{LeastOfRecord}
-use Rattle.btf_types.specs.judge.FieldFaults.{WordFault}
+use Rattle.btf_types.specs.declared.tables.section.Section.{Section}
+use Rattle.btf_types.specs.judge.RecordFaults.{FaultInWord, NoneWithin, IsFirstWithin, FirstWithin, IsFaultlessAt, IsLeastAt}
+use Rattle.btf_types.specs.Sections.{frame_of}
 
--- the first word with a fault, after words that have none
-pub least_at_word : (strings : List ℕ) (types : List TypeFacts) (frame : List ℕ) (word : ℕ) (c : BtfCause) → word < length frame
-    → ((j : ℕ) (d : BtfCause) → j < word → ¬ WordFault strings types frame j d)
-    → LeastCause (WordFault strings types frame word) c → LeastOfRecord strings types frame word c
-least_at_word strings types frame word c inside before least = record {
-  inside = inside;
-  holds = least.holds;
-  least = λ j d h fault. elim (cases_lt word j) [
-    | inl later ↦ inl later
-    | inr le ↦ elim (cases_lt j word) [
-      | inl earlier ↦ absurd (before j d earlier fault)
-      | inr same ↦
-          let is : word ≡ j = omega arith in
-          inr (is, least.least d (subst (λ (i : ℕ). WordFault strings types frame i d) (sym is) fault))
-    ]
-  ];
-}
+module _ (s : Section) (pos : ℕ) where
+  -- words in a row
+  pub none_through : (from mid to : ℕ) → NoneWithin s pos from mid → NoneWithin s pos mid to → NoneWithin s pos from to
+  none_through from mid to before after j d past low fault = elim (cases_lt j mid) [
+    | inl lt ↦ before j d past lt fault
+    | inr le ↦ after j d le low fault
+  ]
 
--- one more word without a fault
-pub none_more : (strings : List ℕ) (types : List TypeFacts) (frame : List ℕ) (word : ℕ)
-    → ((j : ℕ) (d : BtfCause) → j < word → ¬ WordFault strings types frame j d)
-    → NoCause (WordFault strings types frame word) → (j : ℕ) (d : BtfCause) → j < word + 1 → ¬ WordFault strings types frame j d
-none_more strings types frame word before none j d low fault = elim (cases_lt j word) [
-  | inl lt ↦ before j d lt fault
-  | inr le ↦ none d (subst (λ (i : ℕ). WordFault strings types frame i d) (omega arith) fault)
-]
+  -- the first word with a fault, where the words before have none
+  pub first_after : (from mid end to word : ℕ) (c : BtfCause) → from ≤ mid → end ≤ to → NoneWithin s pos from mid
+      → IsFirstWithin s pos mid end word c → IsFirstWithin s pos from to word c
+  first_after from mid end to word c low room before first = record {
+    past = let past = first.past in omega arith;
+    inside = let inside = first.inside in omega arith;
+    before = none_through from mid word before first.before;
+    least = first.least;
+  }
+
+  -- the first of all words is the record's
+  pub first_of_record : (word : ℕ) (c : BtfCause) → IsFirstWithin s pos 0 (length (frame_of s.file pos)) word c → IsLeastAt s pos word c
+  first_of_record word c first = record {
+    inside = first.inside;
+    holds = first.least.holds;
+    least = λ j d h fault. elim (cases_lt word j) [
+      | inl later ↦ inl later
+      | inr le ↦ elim (cases_lt j word) [
+        | inl earlier ↦ absurd (first.before j d (omega arith) earlier fault)
+        | inr same ↦
+            let is : word ≡ j = omega arith in
+            inr (is, first.least.least d (subst (λ (i : ℕ). FaultInWord s pos i d) (sym is) fault))
+      ]
+    ];
+  }
+
+  -- the header has no fault: the first after it is the record's
+  pub tail_of_record : (answer : Option (ℕ × BtfCause)) → NoneWithin s pos 0 3 → FirstWithin s pos 3 (length (frame_of s.file pos)) answer
+      → MatchOption answer (IsFaultlessAt s pos) (λ found. IsLeastAt s pos found.0 found.1)
+  tail_of_record None header tail = λ j d low. none_through 0 3 (length (frame_of s.file pos)) header tail j d (omega arith) low
+  tail_of_record (Some found) header tail =
+      let end = length (frame_of s.file pos) in
+      first_of_record found.0 found.1 (first_after 0 3 end end found.0 found.1 (omega arith) (omega arith) header tail)

@@ -11,6 +11,7 @@ use btf_raw::BtfCause;
 use btf_raw::info::{has_no_name, needs_name};
 
 /// Checks an item's name field: the offset is inside the strings, and the text there is UTF-8.
+#[inline(always)]
 pub fn item_name_fault(strings: &[u8], texts: &Texts, off: u32) -> Option<BtfCause>
     requires ends { HasNulEnds strings.now }
     requires texts { TextsAre strings.now texts.now }

@@ -16,6 +16,7 @@ use btf_raw::{
 
 /// Whether a record of this kind may refer to a type of the target's kind.
 #[tactic(auto, unfolding(crate::specs::judge::Checks::target_fits))]
+#[inline(always)]
 fn named_kind_fits(section: &Section, kind: u8, target: u32) -> bool
     requires { IsSection section.now }
     ensures { result ≡ spec.target_fits kind (type_at (facts_in section.now) target).kind }
@@ -47,6 +48,7 @@ pub fn third_fault(section: &Section, kind: u8, third: u32, vlen: u16) -> Option
 }
 
 /// Checks a type that a record of this kind refers to, other than by its third word.
+#[inline(always)]
 pub fn named_type_fault(section: &Section, kind: u8, target: u32) -> Option<BtfCause>
     requires { IsSection section.now }
     ensures { spec.IsLeastOf (NamedTypeFault (facts_in section.now) kind target) result }
