@@ -1,14 +1,14 @@
--- What an instruction file has at a place: an instruction, whose group is added to a set, or a fault.
+-- What an instruction file has before a place, and at it: an instruction, whose group is added to a set, or a fault.
 -- No contract of a public function cites this file.
-use Rattle.std.specs.Prelude.{◌≡◌, ◌↔◌, ◌⊎◌, ℕ, ◌+◌, Bool, true, false, List, length, slice_range, slice_index_or, IsTrue}
+use Rattle.std.specs.Prelude.{◌≡◌, ◌↔◌, ◌⊎◌, ◌≤◌, ℕ, ◌+◌, ◌++◌, Bool, true, false, List, length, drop, slice_range, slice_index_or, All, IsTrue}
 use Rattle.bpf_words.specs.declared.Order.{Order}
 use Rattle.bpf_insn.specs.declared.insn.Insn.{Insn}
 use Rattle.bpf_insn.specs.declared.fault.SlotFault.{SlotFault}
 use Rattle.bpf_insn.specs.declared.insn.Insn.TheVariants.{Swap}
 use Rattle.bpf_insn.specs.declared.group.Group.{Group}
 use Rattle.bpf_insn.specs.declared.group.GroupSet.{GroupSet}
-use Rattle.bpf_insn.specs.Table.{fields_of}
-use Rattle.bpf_insn.specs.Spelling.{spelling}
+use Rattle.bpf_insn.specs.Table.{IsInsn, fields_of}
+use Rattle.bpf_insn.specs.Spelling.{file_of, spelling}
 use Rattle.bpf_insn.specs.Faults.{BeginsWith, IsSlotFault}
 use Rattle.bpf_insn.specs.Groups.{Brings, group_of, holds}
 
@@ -20,6 +20,15 @@ BeginsAt order bytes at i = BeginsWith order i (slice_range bytes at (length byt
 abbrev pub IsFaultAt : Order → List ℕ → ℕ → SlotFault → Type 0
 IsFaultAt order bytes at fault =
     (slot : SlotFault) × IsSlotFault order (slice_range bytes at (length bytes)) slot × (fault ≡ record { pos = at + slot.pos; cause = slot.cause })
+
+-- the bytes before a place are those of this many instructions
+pub record ReadsTo (order : Order) (bytes : List ℕ) (at count : ℕ) : Type 0 where
+  pub insns : List Insn
+  pub each : All IsInsn insns
+  pub whole : bytes ≡ file_of order insns ++ drop at bytes
+  pub size : at ≡ length (file_of order insns)
+  pub counted : count ≡ length insns
+  pub within : at ≤ length bytes
 
 -- the second set has the groups of the first, and those of the instruction of this length at a place
 abbrev pub AddsInsnAt : Order → List ℕ → ℕ → GroupSet → GroupSet → ℕ → Type 0
