@@ -1,6 +1,6 @@
--- What an instruction file has at a place: an instruction, whose group is added to a set, or a fault.
+-- What an instruction file has before a place, and at it: an instruction, whose group is added to a set, or a fault.
 -- No contract of a public function cites this file.
-use Rattle.std.specs.Prelude.{◌≡◌, ◌↔◌, ◌⊎◌, ℕ, ◌+◌, ◌≤◌, ◌++◌, Bool, true, false, List, All, drop, length, slice_range, slice_index_or, IsTrue}
+use Rattle.std.specs.Prelude.{◌≡◌, ◌↔◌, ◌⊎◌, ◌≤◌, ℕ, ◌+◌, ◌++◌, Bool, true, false, List, length, drop, slice_range, slice_index_or, All, IsTrue}
 use Rattle.bpf_words.specs.declared.Order.{Order}
 use Rattle.bpf_insn.specs.declared.insn.Insn.{Insn}
 use Rattle.bpf_insn.specs.declared.fault.SlotFault.{SlotFault}
@@ -21,6 +21,17 @@ abbrev pub IsFaultAt : Order → List ℕ → ℕ → SlotFault → Type 0
 IsFaultAt order bytes at fault =
     (slot : SlotFault) × IsSlotFault order (slice_range bytes at (length bytes)) slot × (fault ≡ record { pos = at + slot.pos; cause = slot.cause })
 
+-- the bytes before a place are those of these instructions
+abbrev pub SpellsBefore : Order → List ℕ → List Insn → ℕ → Type 0
+SpellsBefore order bytes insns at =
+    (at ≤ length bytes) × All IsInsn insns × (bytes ≡ file_of order insns ++ drop at bytes) × (at ≡ length (file_of order insns))
+
+-- the bytes before a place are those of this many instructions
+pub record ReadsTo (order : Order) (bytes : List ℕ) (at count : ℕ) : Type 0 where
+  pub insns : List Insn
+  pub spelled : SpellsBefore order bytes insns at
+  pub counted : count ≡ length insns
+
 -- the second set has the groups of the first, and those of the instruction of this length at a place
 abbrev pub AddsInsnAt : Order → List ℕ → ℕ → GroupSet → GroupSet → ℕ → Type 0
 AddsInsnAt order bytes at before after len =
@@ -36,11 +47,6 @@ opcode_has_group _ = true
 abbrev pub AreSettled : List Bool → GroupSet → Type 0
 AreSettled marks set =
     (i : Insn) (g : Group) → IsTrue (slice_index_or marks (fields_of i).opcode false) → Brings (group_of i) g → IsTrue (holds set g)
-
--- the bytes before a place are those of these instructions
-abbrev pub SpellsBefore : Order → List ℕ → List Insn → ℕ → Type 0
-SpellsBefore order bytes insns at =
-    (at ≤ length bytes) × All IsInsn insns × (bytes ≡ file_of order insns ++ drop at bytes) × (at ≡ length (file_of order insns))
 
 -- the set has the groups of the instructions before a place, and no other
 pub record HasGroupsBefore (order : Order) (bytes : List ℕ) (at : ℕ) (set : GroupSet) : Type 0 where

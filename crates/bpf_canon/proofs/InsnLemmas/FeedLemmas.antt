@@ -8,16 +8,18 @@ use Rattle.bpf_insn.specs.declared.insn.Insn.{Insn}
 use Rattle.bpf_insn.specs.declared.fault.SlotFault.{SlotFault}
 use Rattle.bpf_insn.specs.declared.fault.SlotCause.{SlotCause}
 use Rattle.bpf_insn.specs.declared.fault.SlotCause.TheVariants.{Truncated}
+use Rattle.bpf_insn.specs.declared.whole_insns.InsnFront.{InsnFront}
 use Rattle.bpf_insn.specs.declared.decode.InsnError.{InsnError}
 use Rattle.bpf_insn.specs.declared.decode.InsnError.TheVariants as error
 use Rattle.bpf_insn.specs.Spelling.{InsnFile, file_of}
 use Rattle.bpf_insn.specs.Faults.{IsFront, IsInsnFault, IsSlotFault, IsTruncated}
+use Rattle.bpf_insn.specs.Fronts.{StopsAt}
 use Rattle.bpf_insn.proofs.FileLaws.{fault_within}
-use Rattle.bpf_canon.specs.declared.insn.front.FrontRead.{FrontRead}
+use Rattle.bpf_insn.proofs.FrontLemmas.{empty_begins_none}
 use Rattle.bpf_canon.specs.insn.FeedState.{FeedState, IsCut, missing_place}
-use Rattle.bpf_canon.specs.insn.FrontReads.{Advances, BeginsNone, Leaves, ReadsFront, StopsAt}
+use Rattle.bpf_canon.specs.insn.FrontReads.{Advances, BeginsNone, Leaves, ReadsFront}
 use Rattle.bpf_canon.specs.insn.FeedStream.{AnswersFor, Feeds, Finishes, Gains, HasFault, IsSound, Keeps, Moves, Represents, end_after, end_of_feed}
-use Rattle.bpf_canon.proofs.InsnLemmas.FrontLaws.{cut_length, empty_begins_none, front-nil, front_counts, front_fits, front_fault, front_joins, lasting_length, sound_cut, sound_file}
+use Rattle.bpf_canon.proofs.InsnLemmas.FrontLaws.{cut_length, front-nil, front_counts, front_fits, front_fault, front_joins, lasting_length, sound_cut, sound_file}
 
 -- ---- what is held
 
@@ -75,7 +77,7 @@ held_left_size array piece kept used left fits e =
     omega (arith, ap length e, length-take-le kept array fits, length-append (take kept array) (take (length piece - used) (drop used piece)))
 
 -- where no instruction was whole nothing was read
-pub none_or_all : (o to : Order) (bytes old new : List ℕ) (read : FrontRead) (held_len : ℕ) → ReadsFront o to bytes read old new → (0 < read.count → held_len ≤ read.len)
+pub none_or_all : (o to : Order) (bytes old new : List ℕ) (read : InsnFront) (held_len : ℕ) → ReadsFront o to bytes read old new → (0 < read.count → held_len ≤ read.len)
     → (read.len ≡ 0) ⊎ (held_len ≤ read.len)
 none_or_all o to bytes old new read held_len r h = elim (cases_lt 0 read.count) [
   | inl some ↦ inr (h some)
@@ -88,7 +90,7 @@ none_or_all o to bytes old new read held_len r h = elim (cases_lt 0 read.count) 
 
 -- ---- what is read of what is held and a piece
 
-module _ (s : FeedState) (piece old new : List ℕ) (read : FrontRead) (reads : ReadsFront s.order s.to (s.held ++ piece) read old new) where
+module _ (s : FeedState) (piece old new : List ℕ) (read : InsnFront) (reads : ReadsFront s.order s.to (s.held ++ piece) read old new) where
   left_size : length (drop read.len (s.held ++ piece)) + read.len ≡ length s.held + length piece
   left_size = omega (arith, length-drop read.len (s.held ++ piece), reads.within, length-append s.held piece)
 

@@ -14,8 +14,8 @@ use Rattle.bpf_insn.specs.Spelling.{InsnFile, file_of, second_slot, spelling}
 use Rattle.bpf_insn.specs.Faults.{IsFront, IsInsnFault, IsSlotFault}
 use Rattle.bpf_insn.proofs.FaultLemmas.{slot_length}
 use Rattle.bpf_insn.proofs.WideLemmas.{second_length}
-use Rattle.bpf_insn.proofs.FileLaws.{at_least_a_slot, begins_once, file_fault, longest_front, rests_same}
-use Rattle.bpf_insn.proofs.FrontLemmas.{one_front}
+use Rattle.bpf_insn.proofs.FileLaws.{begins_once, file_fault, rests_same}
+use Rattle.bpf_insn.proofs.FrontLemmas.{empty_begins_none, front_of, length-at_most_file, one_front}
 use Rattle.bpf_insn.proofs.UniqueLemmas.{one_fault}
 use Rattle.bpf_canon.specs.insn.FrontReads.{BeginsNone}
 use Rattle.bpf_canon.specs.insn.FeedStream.{IsSound}
@@ -51,12 +51,6 @@ length-file_same o p (i ∷ l) =
       length-file_same o p l,
     )
 
--- each instruction takes at least a slot
-pub length-at_most_file : (o : Order) (l : List Insn) → 8 * length l ≤ length (file_of o l)
-length-at_most_file o [] = omega arith
-length-at_most_file o (i ∷ l) =
-    omega (arith, length-append (spelling o i) (file_of o l), at_least_a_slot o i, length-at_most_file o l)
-
 -- what is read is no more than what there is, in either order
 pub front_fits : (o to : Order) (b : List ℕ) (l : List Insn) (rest : List ℕ) → IsFront o b l rest
     → length (file_of to l) + length rest ≡ length b
@@ -66,16 +60,6 @@ pub front_counts : (o : Order) (b : List ℕ) (l : List Insn) (rest : List ℕ) 
 front_counts o b l rest f = omega (arith, length-at_most_file o l, front_fits o o b l rest f)
 
 -- ---- what follows a front begins with no instruction
-
-pub empty_begins_none : (o : Order) → BeginsNone o []
-empty_begins_none o i b = omega (arith, ap length b.1.1, length-append (spelling o i) b.1.0, at_least_a_slot o i)
-
-pub front_of : (o : Order) (b : List ℕ) (l : List Insn) (rest : List ℕ) → All IsInsn l → b ≡ file_of o l ++ rest → BeginsNone o rest → IsFront o b l rest
-front_of o b l rest each whole none = record {
-  each = each;
-  front = whole;
-  longest = λ others more h e. longest_front o l others rest more each h (sym whole ∙ e) none;
-}
 
 -- the bytes of one instruction more
 pub file-push : (o : Order) (l : List Insn) (i : Insn) → file_of o (l ++ i ∷ []) ≡ file_of o l ++ spelling o i

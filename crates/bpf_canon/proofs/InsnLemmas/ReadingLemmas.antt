@@ -1,5 +1,5 @@
--- Reading one whole instruction after the other.
-use Rattle.std.proofs.Common.{◌≡◌, ◌<◌, ◌≤◌, ◌+◌, ◌-◌, ◌++◌, ◌∙◌, ℕ, List, [], ◌∷◌, Option, Some, None, length, take, drop, min, refl, sym, ap, subst, inl, inr, arith, append_assoc, length-append, length-drop, All}
+-- Reading the whole instructions at the front of some bytes, also across what is held and a piece.
+use Rattle.std.proofs.Common.{◌≡◌, ◌<◌, ◌≤◌, ◌+◌, ◌-◌, ◌++◌, ◌∙◌, ℕ, List, [], ◌∷◌, Option, Some, length, take, drop, min, refl, sym, ap, subst, inl, inr, arith, append_assoc, length-append, length-drop}
 use Rattle.std.proofs.lemmas.Bool.{cases_lt}
 use Rattle.std.proofs.lemmas.List.{append-nil, length-take, take_all, take-append-drop, take-append-le}
 use Rattle.std.proofs.lemmas.List.Elements.{All-cons, All-nil}
@@ -10,115 +10,24 @@ use Rattle.bpf_words.specs.declared.Order.{Order}
 use Rattle.bpf_insn.specs.declared.insn.Insn.{Insn}
 use Rattle.bpf_insn.specs.declared.fault.SlotCause.{SlotCause}
 use Rattle.bpf_insn.specs.declared.fault.SlotFault.{SlotFault}
+use Rattle.bpf_insn.specs.declared.whole_insns.InsnFront.{InsnFront}
 use Rattle.bpf_insn.specs.Table.{IsInsn}
 use Rattle.bpf_insn.specs.Spelling.{file_of, spelling, InsnFile}
 use Rattle.bpf_insn.specs.Faults.{BeginsWith, IsInsnFault, IsSlotFault}
-use Rattle.bpf_insn.proofs.DecodeLemmas.{step}
+use Rattle.bpf_insn.specs.Fronts.{IsInsnFront, StopsAt}
+use Rattle.bpf_insn.proofs.FrontLemmas.{front_of}
 use Rattle.bpf_insn.proofs.StayLemmas.{slot_fault_stays}
-use Rattle.bpf_canon.specs.declared.insn.front.FrontRead.{FrontRead}
-use Rattle.bpf_canon.specs.insn.FrontReads.{BeginsAcross, BeginsNone, StopsAt, ReadsFront}
-use Rattle.bpf_canon.proofs.InsnLemmas.FrontLaws.{cut_length, empty_begins_none, file-push, front_begins_none, front_fault, front_of, length-at_most_file, truncated_or_not}
-
--- the whole instructions before a place, and what became of them
-pub record ReadTo (o to : Order) (bytes : List ℕ) (at n : ℕ) (old new : List ℕ) : Type 0 where
-  pub insns : List Insn
-  pub each : All IsInsn insns
-  pub whole : bytes ≡ file_of o insns ++ drop at bytes
-  pub size : at ≡ length (file_of o insns)
-  pub counted : n ≡ length insns
-  pub within : at ≤ length bytes
-  pub grows : new ≡ old ++ file_of to insns
-
-pub reading_none : (o to : Order) (bytes old : List ℕ) → ReadTo o to bytes 0 0 old old
-reading_none o to bytes old = record {
-  insns = [];
-  each = All-nil IsInsn;
-  whole = refl;
-  size = refl;
-  counted = refl;
-  within = omega arith;
-  grows = sym (append-nil old);
-}
-
--- the number of instructions is no more than the bytes before the place
-pub reading_count : (o to : Order) (bytes : List ℕ) (at n : ℕ) (old new : List ℕ) → ReadTo o to bytes at n old new → n ≤ at
-reading_count o to bytes at n old new w = omega (arith, w.size, w.counted, length-at_most_file o w.insns)
-
-pub reading_more : (o to : Order) (bytes : List ℕ) (at n : ℕ) (old new : List ℕ) (i : Insn) (len : ℕ) → ReadTo o to bytes at n old new
-    → BeginsWith o i (take (length bytes - at) (drop at bytes)) × (len ≡ length (spelling o i))
-    → ReadTo o to bytes (at + len) (n + 1) old (new ++ spelling to i)
-reading_more o to bytes at n old new i len w h =
-    let s = step o bytes w.insns at (w.within, w.each, w.whole, w.size) i len h in
-    record {
-      insns = w.insns ++ i ∷ [];
-      each = s.1;
-      whole = s.2;
-      size = s.3;
-      counted = omega (arith, w.counted, length-append w.insns (i ∷ []));
-      within = s.0;
-      grows = ap (λ x. x ++ spelling to i) w.grows ∙ append_assoc old (file_of to w.insns) (spelling to i)
-          ∙ ap (λ x. old ++ x) (sym (file-push to w.insns i));
-    }
-
--- the same, of the instructions in the order of the file
-pub reading_same : (o to : Order) (bytes : List ℕ) (at n : ℕ) (old new : List ℕ) → ReadTo o to bytes at n old new
-    → ReadTo o o bytes at n [] (take at bytes)
-reading_same o to bytes at n old new w =
-    record {
-      insns = w.insns;
-      each = w.each;
-      whole = w.whole;
-      size = w.size;
-      counted = w.counted;
-      within = w.within;
-      grows = ap (take at) w.whole ∙ ap (λ (m : ℕ). take m (file_of o w.insns ++ drop at bytes)) w.size
-          ∙ take-append_seam (file_of o w.insns) (drop at bytes);
-    }
-
-pub reading_stops : (o to : Order) (bytes : List ℕ) (at n : ℕ) (old new : List ℕ) (f : SlotFault) → ReadTo o to bytes at n old new
-    → IsSlotFault o (take (length bytes - at) (drop at bytes)) f
-    → ReadsFront o to bytes (record { len = at; count = n; stop = Some f }) old new
-reading_stops o to bytes at n old new f w h =
-    let rest = take_all (length bytes - at) (drop at bytes) (omega (arith, length-drop at bytes)) in
-    let P : List ℕ → Type 0 = λ s. IsSlotFault o s f in
-    let slot : IsSlotFault o (drop at bytes) f = subst P rest h in
-    record {
-      insns = w.insns;
-      front = front_of o bytes w.insns (drop at bytes) w.each w.whole slot.unspelled;
-      stops = slot;
-      counted = w.counted;
-      within = w.within;
-      grows = w.grows;
-    }
-
-pub reading_ends : (o to : Order) (bytes : List ℕ) (at n : ℕ) (old new : List ℕ) → ReadTo o to bytes at n old new → length bytes ≤ at
-    → ReadsFront o to bytes (record { len = at; count = n; stop = None }) old new
-reading_ends o to bytes at n old new w h =
-    let none : drop at bytes ≡ [] = empty (drop at bytes) (omega (arith, length-drop at bytes)) in
-    let P : List ℕ → Type 0 = λ s. BeginsNone o s in
-    record {
-      insns = w.insns;
-      front = front_of o bytes w.insns (drop at bytes) w.each w.whole (subst P (sym none) (empty_begins_none o));
-      stops = none;
-      counted = w.counted;
-      within = w.within;
-      grows = w.grows;
-    }
-  where
-    empty : (ys : List ℕ) → length ys ≡ 0 → ys ≡ []
-    empty [] e = refl
-    empty (y ∷ ys) e = absurd (omega arith)
-
--- ---- the fault of a file
+use Rattle.bpf_canon.specs.insn.FrontReads.{BeginsAcross, BeginsNone, ReadsFront}
+use Rattle.bpf_canon.proofs.InsnLemmas.FrontLaws.{cut_length, front_begins_none, front_fault, truncated_or_not}
 
 -- the fault that stopped the reading, at its place in the bytes
-pub read_fault : (o to : Order) (bytes : List ℕ) (read : FrontRead) (old new : List ℕ) (f : SlotFault) → ReadsFront o to bytes read old new → read.stop ≡ Some f
+pub read_fault : (o : Order) (bytes : List ℕ) (read : InsnFront) (f : SlotFault) → IsInsnFront o bytes read → read.stop ≡ Some f
     → read.len < length bytes → IsInsnFault o bytes (record { pos = read.len + f.pos; cause = f.cause })
-read_fault o to bytes read old new f r e some =
+read_fault o bytes read f r e some =
     let P : Option SlotFault → Type 0 = λ x. StopsAt o (drop read.len bytes) x in
     let slot : IsSlotFault o (drop read.len bytes) f = subst P e r.stops in
     let size = length-drop read.len bytes in
-    front_fault o bytes r.insns (drop read.len bytes) f (record { pos = read.len + f.pos; cause = f.cause }) r.front
+    front_fault o bytes r.insns (drop read.len bytes) f (record { pos = read.len + f.pos; cause = f.cause }) r.is
     (omega (arith, size, some)) slot (omega (arith, size, r.within)) refl
 
 -- ---- an instruction that begins in what is held
@@ -181,7 +90,7 @@ across_fault o held piece used at cause fits short f = elim (truncated_or_not ca
 ]
 
 -- an instruction across, and the front of what follows it
-pub across_more : (o to : Order) (held piece : List ℕ) (i : Insn) (used : ℕ) (rest : FrontRead) (old middle new : List ℕ) → BeginsAcross o i held piece used
+pub across_more : (o to : Order) (held piece : List ℕ) (i : Insn) (used : ℕ) (rest : InsnFront) (old middle new : List ℕ) → BeginsAcross o i held piece used
     → middle ≡ old ++ spelling to i → ReadsFront o to (drop used piece) rest middle new
     → ReadsFront o to (held ++ piece) (record { len = length held + used + rest.len; count = 1 + rest.count; stop = rest.stop }) old new
 across_more o to held piece i used rest old middle new a e r =
@@ -216,15 +125,21 @@ across_stops o to bytes old f h = record {
   grows = sym (append-nil old);
 }
 
--- a front that was read in its own order, and its instructions appended in another
-pub reading_recoded : (o to : Order) (bytes : List ℕ) (read : FrontRead) (old new : List ℕ) → ReadsFront o o bytes read [] (take read.len bytes)
+-- the instructions of a front, appended in another order
+pub front_recoded : (o to : Order) (bytes : List ℕ) (read : InsnFront) (old new : List ℕ) → IsInsnFront o bytes read
     → ((insns : List Insn) → InsnFile o (take read.len bytes) insns → new ≡ old ++ file_of to insns)
     → ReadsFront o to bytes read old new
-reading_recoded o to bytes read old new r written = record {
-  insns = r.insns;
-  front = r.front;
-  stops = r.stops;
-  counted = r.counted;
-  within = r.within;
-  grows = written r.insns (r.front.each, r.grows);
-}
+front_recoded o to bytes read old new r written =
+    let size : read.len ≡ length (file_of o r.insns) =
+    omega (arith, ap length r.is.front, length-append (file_of o r.insns) (drop read.len bytes), length-drop read.len bytes, r.within) in
+    let file : take read.len bytes ≡ file_of o r.insns =
+    ap (take read.len) r.is.front ∙ ap (λ (n : ℕ). take n (file_of o r.insns ++ drop read.len bytes)) size
+    ∙ take-append_seam (file_of o r.insns) (drop read.len bytes) in
+    record {
+      insns = r.insns;
+      front = r.is;
+      stops = r.stops;
+      counted = r.counted;
+      within = r.within;
+      grows = written r.insns (r.is.each, file);
+    }

@@ -3,24 +3,20 @@ use Rattle.std.specs.Prelude.{◌≡◌, ◌≤◌, ◌+◌, ◌++◌, ℕ, List
 use Rattle.bpf_words.specs.declared.Order.{Order}
 use Rattle.bpf_insn.specs.declared.insn.Insn.{Insn}
 use Rattle.bpf_insn.specs.declared.fault.SlotFault.{SlotFault}
+use Rattle.bpf_insn.specs.declared.whole_insns.InsnFront.{InsnFront}
 use Rattle.bpf_insn.specs.declared.fault.SlotCause.TheVariants.{Truncated}
 use Rattle.bpf_insn.specs.Table.{IsInsn}
 use Rattle.bpf_insn.specs.Spelling.{file_of, spelling}
 use Rattle.bpf_insn.specs.Faults.{BeginsWith, IsFront, IsSlotFault}
-use Rattle.bpf_canon.specs.declared.insn.front.FrontRead.{FrontRead}
+use Rattle.bpf_insn.specs.Fronts.{StopsAt}
 use Rattle.bpf_canon.specs.insn.FeedState.{FeedState, IsCut}
 
 -- the bytes begin with no instruction
 abbrev pub BeginsNone : Order → List ℕ → Type 0
 BeginsNone o s = (i : Insn) → BeginsWith o i s → ⊥
 
--- why the reading stopped: the bytes ended, or what is left has this fault
-abbrev pub StopsAt : Order → List ℕ → Option SlotFault → Type 0
-StopsAt o left None = left ≡ []
-StopsAt o left (Some f) = IsSlotFault o left f
-
 -- the front of the bytes was read, and the bytes of its instructions were appended in the order `to`
-pub record ReadsFront (o to : Order) (bytes : List ℕ) (read : FrontRead) (old new : List ℕ) : Type 0 where
+pub record ReadsFront (o to : Order) (bytes : List ℕ) (read : InsnFront) (old new : List ℕ) : Type 0 where
   pub insns : List Insn
   pub front : IsFront o bytes insns (drop read.len bytes)
   pub stops : StopsAt o (drop read.len bytes) read.stop

@@ -1,5 +1,5 @@
 //! Whole instructions at the front of some bytes, read in one order and written in another.
-ghost use Rattle.std.specs.Prelude.{◌≡◌, ◌<◌, ◌≤◌, ◌+◌, ◌-◌, ◌++◌, List, [], Some, None, length, take, vec_len, vec_capacity, IfOk, IfErr, IfSome};
+ghost use Rattle.std.specs.Prelude.{◌≡◌, ◌<◌, ◌≤◌, ◌+◌, ◌-◌, ◌++◌, List, Some, None, length, take, vec_len, vec_capacity, IfOk, IfErr};
 ghost use Rattle.bpf_insn.specs.declared.fault.SlotFault.{SlotFault};
 ghost use Rattle.bpf_insn.specs.declared.insn.Insn.{Insn};
 ghost use Rattle.bpf_insn.specs.Spelling.{InsnFile};
@@ -8,60 +8,20 @@ ghost use Rattle.bpf_canon.specs.insn.FrontReads.{BeginsAcross, BeginsNone, Read
 
 use crate::insn::recode::append_recoded;
 use crate::insn::write::append_insn;
-use bpf_insn::{Insn, Order, SlotFault, insn_len, read_insn};
+use bpf_insn::{Insn, InsnFront, Order, SlotFault, insn_front, read_insn};
 use std::alloc::Allocator;
-
-/// How far the whole instructions go.
-#[derive(Clone, Copy)]
-pub(crate) struct FrontRead {
-    // the bytes of the whole instructions
-    pub(crate) len: usize,
-    // the number of these instructions
-    pub(crate) count: u64,
-    // the fault of what follows them, counted from its first byte, where anything does
-    pub(crate) stop: Option<SlotFault>,
-}
 
 /// The first fault of an instruction file, counted from its first byte, or `None` if it is one (RFC 9669 section 3).
 pub fn first_fault(order: Order, bytes: &[u8]) -> Option<SlotFault>
     ensures file { result ≡ None → (l : List Insn) × InsnFile order bytes.now l }
     ensures fault { (f : SlotFault) → result ≡ Some f → IsInsnFault order bytes.now f }
 {
-    let front = judge_front(order, bytes);
+    let front = insn_front(order, bytes);
     let fault = front.stop?;
     Some(SlotFault {
         pos: front.len as u64 + fault.pos,
         cause: fault.cause,
     })
-}
-
-/// Judges the whole instructions at the front of some bytes.
-fn judge_front(order: Order, bytes: &[u8]) -> FrontRead
-    ensures front { ReadsFront order order bytes.now result [] (take result.len bytes.now) }
-    ensures stop { IfSome result.stop (λ f. result.len < length bytes.now) }
-{
-    let mut len = 0;
-    let mut count = 0;
-    while len < bytes.len() {
-        match insn_len(order, &bytes[len..]) {
-            Ok(size) => {
-                len += size;
-                count += 1;
-            }
-            Err(fault) => {
-                return FrontRead {
-                    len,
-                    count,
-                    stop: Some(fault),
-                };
-            }
-        }
-    }
-    FrontRead {
-        len,
-        count,
-        stop: None,
-    }
 }
 
 /// Reads the whole instructions at the front of some bytes, and appends each in the order `to`.
@@ -70,11 +30,11 @@ pub(crate) fn read_front<A: Allocator>(
     to: Order,
     bytes: &[u8],
     out: &mut Vec<u8, A>,
-) -> FrontRead
+) -> InsnFront
     requires { vec_len out.old + length bytes.now ≤ vec_capacity out.old }
     ensures { ReadsFront order to bytes.now result out.old.items out.new.items }
 {
-    let read = judge_front(order, bytes);
+    let read = insn_front(order, bytes);
     let (front, _) = bytes.split_at(read.len);
     append_recoded(order, to, front, out);
     read
@@ -87,7 +47,7 @@ pub(crate) fn read_front_across<A: Allocator>(
     held: &[u8],
     piece: &[u8],
     out: &mut Vec<u8, A>,
-) -> FrontRead
+) -> InsnFront
     requires short { length held.now < 16 }
     requires unspelled { BeginsNone order held.now }
     requires room { vec_len out.old + length held.now + length piece.now ≤ vec_capacity out.old }
@@ -102,13 +62,13 @@ pub(crate) fn read_front_across<A: Allocator>(
             let (insn, used) = found;
             append_insn(out, to, insn);
             let rest = read_front(order, to, &piece[used..], out);
-            FrontRead {
+            InsnFront {
                 len: held.len() + used + rest.len,
                 count: 1 + rest.count,
                 stop: rest.stop,
             }
         }
-        Err(fault) => FrontRead {
+        Err(fault) => InsnFront {
             len: 0,
             count: 0,
             stop: Some(fault),

@@ -2,8 +2,8 @@
 
 use super::equal;
 use crate::{
-    Group, InsnError, Order, Reg, SlotCause, SlotFault, decode_insns, group_of, insn_bytes,
-    insn_len, read_insn,
+    Group, InsnError, InsnFront, Order, Reg, SlotCause, SlotFault, decode_insns, group_of,
+    insn_bytes, insn_front, insn_len, read_insn,
 };
 use std::alloc::{AllocError, Global};
 use std::test::Fail;
@@ -168,6 +168,27 @@ fn whole_insns(len: usize) -> Option<usize> {
         40 => Some(4),
         0 | 8 | 16 | 24 => Some(len / 8),
         _ => None,
+    }
+}
+
+#[test]
+fn fronts_of_a_file_that_is_cut_anywhere(rt: HostRuntime) {
+    for len in 0..=FILE.len() {
+        let (whole, count) = match len {
+            40 => (40, 4),
+            24..=39 => (24, 3),
+            _ => (len / 8 * 8, len as u64 / 8),
+        };
+        let truncated = SlotFault {
+            pos: if len < 32 { 0 } else { 8 },
+            cause: SlotCause::Truncated,
+        };
+        let front = InsnFront {
+            len: whole,
+            count,
+            stop: if len == whole { None } else { Some(truncated) },
+        };
+        equal(&rt, &insn_front(Order::Little, &FILE[..len]), &front, &len);
     }
 }
 

@@ -6,8 +6,3 @@ pub returns-then-begins_plainly-clause-all : goal.returns-then-begins_plainly-cl
 returns-then-begins_plainly-clause-all c =
     let one = c.begins_plainly.ensures (search rules) in
     len_answered c.args.order c.args.bytes.now (Ok 8) (one.0, (one.1.0, sym one.1.1)) tt
-
-pub returns-then-begins_widely-clause-all : goal.returns-then-begins_widely-clause-all
-returns-then-begins_widely-clause-all c =
-    let one = c.begins_widely.ensures (search rules) in
-    len_answered c.args.order c.args.bytes.now (Ok 16) (one.0, (one.1.0, sym one.1.1)) tt

@@ -6,9 +6,9 @@ use Rattle.bpf_canon.proofs.insn.front.first_fault.Goals as goal
 
 pub returns-clause-fault : goal.returns-clause-fault
 returns-clause-fault c = λ f e.
-    let front = c.judge_front-front in
+    let front = c.insn_front-front in
     let stop : front.result.stop ≡ Some c.in_ok-fault.fault = cc in
     let before : Option SlotFault → Type 0 = λ x. IfSome x (λ _. front.result.len < length c.args.bytes.now) in
     let fault : record { pos = front.result.len + c.in_ok-fault.fault.pos; cause = c.in_ok-fault.fault.cause } ≡ f = cc in
     let at : SlotFault → Type 0 = λ x. IsInsnFault c.args.order c.args.bytes.now x in
-    subst at fault (read_fault _ _ _ _ _ _ c.in_ok-fault.fault front.ensures.front stop (subst before stop front.ensures.stop))
+    subst at fault (read_fault _ _ _ c.in_ok-fault.fault front.ensures.front stop (subst before stop front.ensures.stop))

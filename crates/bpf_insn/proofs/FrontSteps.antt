@@ -1,0 +1,104 @@
+-- Reading whole instructions from the front of some bytes, one after the other.
+use Rattle.std.proofs.Common.{◌≡◌, ◌≤◌, ◌+◌, ◌-◌, ◌*◌, ◌/◌, ◌++◌, ◌∙◌, ℕ, List, [], ◌∷◌, Some, None, length, take, drop, refl, sym, ap, subst, arith, append_assoc, length-append, length-drop}
+use Rattle.std.proofs.lemmas.List.{drop-drop, take_all}
+use Rattle.std.proofs.lemmas.List.Concat.{flat_map-append}
+use Rattle.std.proofs.lemmas.List.Elements.{All-append, All-nil}
+use Rattle.bpf_words.specs.declared.Order.{Order}
+use Rattle.bpf_insn.specs.declared.fault.SlotFault.{SlotFault}
+use Rattle.bpf_insn.specs.declared.insn.Insn.{Insn}
+use Rattle.bpf_insn.specs.Table.{IsInsn}
+use Rattle.bpf_insn.specs.Spelling.{file_of, spelling}
+use Rattle.bpf_insn.specs.Faults.{BeginsWith, IsSlotFault}
+use Rattle.bpf_insn.specs.FileSteps.{ReadsTo}
+use Rattle.bpf_insn.specs.Fronts.{IsInsnFront}
+use Rattle.bpf_insn.proofs.DecodeLemmas.{step}
+use Rattle.bpf_insn.proofs.FrontLemmas.{empty_begins_none, front_of, length-at_most_file}
+
+pub reads_none : (order : Order) (bytes : List ℕ) → ReadsTo order bytes 0 0
+reads_none order bytes = record { insns = []; spelled = (omega arith, All-nil IsInsn, refl, refl); counted = refl }
+
+module _ (order : Order) (bytes : List ℕ) (at n : ℕ) (read : ReadsTo order bytes at n) where
+  -- what the bytes from the place on are
+  rest_is : take (length bytes - at) (drop at bytes) ≡ drop at bytes
+  rest_is = take_all (length bytes - at) (drop at bytes) (omega (arith, length-drop at bytes))
+
+  -- the number of instructions is no more than the bytes before the place
+  pub count_below : 8 * n ≤ at
+  count_below = omega (arith, read.spelled.3, read.counted, length-at_most_file order read.insns)
+
+  -- one instruction more
+  pub reads_one_more : (i : Insn) (len : ℕ) → BeginsWith order i (take (length bytes - at) (drop at bytes)) × (len ≡ length (spelling order i)) → ReadsTo order bytes (at + len) (n + 1)
+  reads_one_more i len h =
+      record {
+        insns = read.insns ++ i ∷ [];
+        spelled = step order bytes read.insns at read.spelled i len h;
+        counted = omega (arith, read.counted, length-append read.insns (i ∷ []));
+      }
+
+  -- the instructions that follow the place
+  pub reads_run_more : (len m : ℕ) → ReadsTo order (take (length bytes - at) (drop at bytes)) len m → ReadsTo order bytes (at + len) (n + m)
+  reads_run_more len m h =
+      let P : List ℕ → Type 0 = λ s. ReadsTo order s len m in
+      let run : ReadsTo order (drop at bytes) len m = subst P rest_is h in
+      let file : file_of order (read.insns ++ run.insns) ≡ file_of order read.insns ++ file_of order run.insns =
+      flat_map-append (spelling order) read.insns run.insns in
+      record {
+        insns = read.insns ++ run.insns;
+        spelled = (
+          omega (arith, read.spelled.0, run.spelled.0, length-drop at bytes),
+          All-append IsInsn read.insns run.insns read.spelled.1 run.spelled.1,
+          read.spelled.2 ∙ ap (λ s. file_of order read.insns ++ s) run.spelled.2
+              ∙ sym (append_assoc (file_of order read.insns) (file_of order run.insns) (drop len (drop at bytes)))
+              ∙ ap (λ s. s ++ drop len (drop at bytes)) (sym file)
+              ∙ ap (λ s. file_of order (read.insns ++ run.insns) ++ s) (drop-drop len at bytes),
+          omega (arith, read.spelled.3, run.spelled.3, ap length file, length-append (file_of order read.insns) (file_of order run.insns)),
+        );
+        counted = omega (arith, read.counted, run.counted, length-append read.insns run.insns);
+      }
+
+  -- a plain instruction more
+  pub reads_plain_more : (i : Insn) → BeginsWith order i (take (length bytes - at) (drop at bytes)) × (length (spelling order i) ≡ 8) → n ≡ at / 8 → ReadsTo order bytes (at + 8) ((at + 8) / 8)
+  reads_plain_more i h e =
+      let P : ℕ → Type 0 = λ m. ReadsTo order bytes (at + 8) m in
+      subst P (omega (arith, e)) (reads_one_more i 8 (h.0, sym h.1))
+
+  -- the reading stopped at a fault
+  pub stops_at_fault : (fault : SlotFault) → IsSlotFault order (take (length bytes - at) (drop at bytes)) fault → IsInsnFront order bytes (record { len = at; count = n; stop = Some fault })
+  stops_at_fault fault h =
+      let P : List ℕ → Type 0 = λ s. IsSlotFault order s fault in
+      let there : IsSlotFault order (drop at bytes) fault = subst P rest_is h in
+      record {
+        insns = read.insns;
+        is = front_of order bytes read.insns (drop at bytes) read.spelled.1 read.spelled.2 there.unspelled;
+        within = read.spelled.0;
+        counted = read.counted;
+        stops = there;
+      }
+
+  -- the reading stopped at the end
+  pub stops_at_end : length bytes ≤ at → IsInsnFront order bytes (record { len = at; count = n; stop = None })
+  stops_at_end h =
+      let none : drop at bytes ≡ [] = empty (drop at bytes) (omega (arith, length-drop at bytes)) in
+      let P : List ℕ → Type 0 = λ s. (i : Insn) → ¬ BeginsWith order i s in
+      record {
+        insns = read.insns;
+        is = front_of order bytes read.insns (drop at bytes) read.spelled.1 read.spelled.2 (subst P (sym none) (empty_begins_none order));
+        within = read.spelled.0;
+        counted = read.counted;
+        stops = none;
+      }
+    where
+      empty : (ys : List ℕ) → length ys ≡ 0 → ys ≡ []
+      empty [] e = refl
+      empty (y ∷ ys) e = absurd (omega arith)
+
+-- an instruction that is not plain, and the plain ones that follow it
+pub reads_other_and_plain : (order : Order) (bytes : List ℕ) (at n : ℕ) (i : Insn) (len plain : ℕ) → ReadsTo order bytes at n
+    → BeginsWith order i (take (length bytes - at) (drop at bytes)) × (len ≡ length (spelling order i))
+    → ReadsTo order (take (length bytes - (at + len)) (drop (at + len) bytes)) plain (plain / 8)
+    → ReadsTo order bytes (at + (len + plain)) (n + (1 + plain / 8))
+reads_other_and_plain order bytes at n i len plain read one run =
+    let all = reads_run_more order bytes (at + len) (n + 1) (reads_one_more order bytes at n read i len one) plain (plain / 8) run in
+    let P : ℕ → Type 0 = λ to. ReadsTo order bytes to (n + (1 + plain / 8)) in
+    let Q : ℕ → Type 0 = λ m. ReadsTo order bytes (at + len + plain) m in
+    subst P (omega arith) (subst Q (omega arith) all)
