@@ -1,10 +1,13 @@
 -- The slots of a file, written in the other order, are the file in that order.
-use Rattle.std.proofs.Common.{◌≡◌, ℕ, ◌<◌, ℤ, pos, List, [], ◌∷◌, ◌++◌, Option, Some, None, length, take, drop, All, refl, sym, ap, ◌∙◌, append_assoc, append-nil, arith, length-append, take-append-drop, lit<}
+use Rattle.std.proofs.Common.{◌≡◌, ℕ, ◌<◌, ◌≤◌, ◌+◌, ◌-◌, ℤ, pos, List, [], ◌∷◌, ◌++◌, Option, Some, None, length, take, drop, All, refl, sym, ap, ◌∙◌, append_assoc, append-nil, arith, length-append, length-drop, take-append-drop, subst, lit<}
 use Rattle.std.specs.List.{flat_map}
+use Rattle.std.proofs.lemmas.List.{drop-drop, length-take, take_all}
 use Rattle.std.proofs.lemmas.List.Elements.{All-head, All-tail, All-cons, All-append}
 use Rattle.std.proofs.lemmas.Int.{ints}
 use Rattle.std.proofs.lemmas.Grind.{flat_map-append}
-use Rattle.std.proofs.Math.Seq.{drop-append_seam, take-append_seam}
+use Rattle.std.proofs.lemmas.Slice.{drop-put_mid, take-put_mid}
+use Rattle.std.proofs.Math.Seq.{drop-append_seam, drop-length, take-append_seam}
+use borrow.Rule.Slice.PartMut.{Post-is, mid_of, post_of, put_mid}
 use Rattle.bpf_words.specs.declared.Order.{Order}
 use Rattle.bpf_words.specs.declared.Order.TheVariants.{Little, Big}
 use Rattle.bpf_words.specs.Slots.{Fields, AreFields, fields, spelled}
@@ -146,3 +149,57 @@ file_rewritten order to bytes rest old new so_far short insns file =
     let left = rewritten_rest order to bytes rest old new so_far insns file in
     let none : left.0 ≡ [] = no_slot order left.0 (omega (arith, short, ap length left.1.0)) in
     sym (left.1.1 ∙ ap (λ (fs : List Fields). new ++ flat_map (spelled to) fs) none ∙ append-nil new)
+
+-- ---- in place
+
+-- a slot, in the bytes from a place on
+slot_at : (order : Order) (xs slot : List ℕ) (at : ℕ) (f : Fields) → slot ≡ take 8 (take (length xs - at) (drop at xs)) → slot ≡ spelled order f
+    → drop at xs ≡ spelled order f ++ drop (at + 8) xs
+slot_at order xs slot at f first is =
+    let rest : take (length xs - at) (drop at xs) ≡ drop at xs = take_all (length xs - at) (drop at xs) (omega (arith, length-drop at xs)) in
+    slot_first order (drop at xs) slot (drop (at + 8) xs) f (first ∙ ap (take 8) rest) (sym (drop-drop 8 at xs)) is
+
+-- one slot more was overwritten by its bytes in the other order
+pub one_swapped : (order to : Order) (bytes xs other slot : List ℕ) (at : ℕ) (f : Fields) → Rewrites order to bytes (drop at xs) [] (take at xs)
+    → at + 8 ≤ length xs → slot ≡ take 8 (take (length xs - at) (drop at xs)) → slot ≡ spelled order f → AreFields f → other ≡ spelled to f
+    → Rewrites order to bytes (drop (at + 8) (put_mid at (at + 8 - at) xs other)) [] (take (at + 8) (put_mid at (at + 8 - at) xs other))
+one_swapped order to bytes xs other slot at f so_far within first is fit swapped =
+    let long : length other ≡ 8 = ap length swapped ∙ slot_length to f in
+    let left : drop (at + 8) (put_mid at (at + 8 - at) xs other) ≡ drop (at + 8) xs =
+    drop-put_mid at (at + 8 - at) xs other (at + 8) (omega arith) (omega (arith, within)) (omega (arith, long)) in
+    let written : take (at + 8) (put_mid at (at + 8 - at) xs other) ≡ take at xs ++ spelled to f =
+    take-put_mid at (at + 8 - at) xs other (at + 8) (omega (arith, long)) (omega (arith, within)) ∙ ap (λ (x : List ℕ). take at xs ++ x) swapped in
+    let more = one_rewritten order to bytes (drop at xs) (drop (at + 8) xs) [] (take at xs) f so_far (slot_at order xs slot at f first is) fit in
+    let P : List ℕ → Type 0 = λ x. Rewrites order to bytes x [] (take at xs ++ spelled to f) in
+    let Q : List ℕ → Type 0 = λ x. Rewrites order to bytes (drop (at + 8) (put_mid at (at + 8 - at) xs other)) [] x in
+    subst Q (sym written) (subst P (sym left) more)
+
+-- less than a slot is left, so all of the file was overwritten
+pub none_left : (order to : Order) (bytes xs : List ℕ) (at : ℕ) → Rewrites order to bytes (drop at xs) [] (take at xs)
+    → length (take (length xs - at) (drop at xs)) < 8 → (insns : List Insn) → InsnFile order bytes insns → xs ≡ file_of to insns
+none_left order to bytes xs at so_far short insns file =
+    let few : length (drop at xs) < 8 = omega (arith, short, length-take (length xs - at) (drop at xs), length-drop at xs) in
+    let front : take at xs ≡ file_of to insns = file_rewritten order to bytes (drop at xs) [] (take at xs) so_far few insns file in
+    let left = rewritten_rest order to bytes (drop at xs) [] (take at xs) so_far insns file in
+    let none : left.0 ≡ [] = no_slot order left.0 (omega (arith, few, ap length left.1.0)) in
+    let empty : drop at xs ≡ [] = left.1.0 ∙ ap (flat_map (spelled order)) none in
+    sym (take-append-drop at xs) ∙ ap (λ (x : List ℕ). take at xs ++ x) empty ∙ append-nil (take at xs) ∙ front
+
+-- the bytes that follow some others
+pub appended_part : (old bytes all : List ℕ) (start : ℕ) → all ≡ old ++ bytes → start ≡ length old → mid_of start (length all - start) all ≡ bytes
+appended_part old bytes all start is at =
+    let after : drop start all ≡ bytes = ap (drop start) is ∙ ap (λ (n : ℕ). drop n (old ++ bytes)) at ∙ drop-append_seam old bytes in
+    ap (take (length all - start)) after ∙ take_all (length all - start) bytes (omega (arith, at, ap length is, length-append old bytes))
+
+-- the bytes that follow some others, overwritten by as many
+pub appended_in_place : (old bytes all written rest : List ℕ) (start n : ℕ) → all ≡ old ++ bytes → start ≡ length old → n ≡ length all → length written ≡ length bytes
+    → take n (put_mid start (length all - start) all written ++ rest) ≡ old ++ written
+appended_in_place old bytes all written rest start n is at count same =
+    let long : length all ≡ length old + length bytes = ap length is ∙ length-append old bytes in
+    let front : take start all ≡ old = ap (take start) is ∙ ap (λ (m : ℕ). take m (old ++ bytes)) at ∙ take-append_seam old bytes in
+    let none : post_of start (length all - start) all ≡ [] = Post-is start (length all) all (omega (arith, long, at)) ∙ drop-length all in
+    let whole : put_mid start (length all - start) all written ≡ old ++ written =
+    ap (λ (x : List ℕ). x ++ (written ++ post_of start (length all - start) all)) front
+    ∙ ap (λ (x : List ℕ). old ++ (written ++ x)) none ∙ ap (λ (x : List ℕ). old ++ x) (append-nil written) in
+    let end : n ≡ length (old ++ written) = omega (arith, count, same, long, length-append old written) in
+    ap (λ (x : List ℕ). take n (x ++ rest)) whole ∙ ap (λ (m : ℕ). take m ((old ++ written) ++ rest)) end ∙ take-append_seam (old ++ written) rest

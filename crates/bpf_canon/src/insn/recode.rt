@@ -2,7 +2,7 @@
 //!
 //! The two orders differ in the register byte and in the order of the bytes of words. The second slot of a wide load has
 //! zeros for opcode, registers and offset. So every slot of 8 bytes is recoded in the same way.
-ghost use Rattle.std.specs.Prelude.{◌≡◌, ◌≢◌, ◌≤◌, ◌+◌, ◌++◌, List, length, vec_len, vec_capacity};
+ghost use Rattle.std.specs.Prelude.{◌≡◌, ◌≢◌, ◌≤◌, ◌+◌, ◌*◌, ◌/◌, ◌%◌, ◌++◌, List, length, vec_len, vec_capacity};
 ghost use Rattle.bpf_words.specs.declared.Order.{Order};
 ghost use Rattle.bpf_words.specs.Slots.{AreFields, Fields, spelled};
 ghost use Rattle.bpf_insn.specs.declared.insn.Insn.{Insn};
@@ -10,6 +10,9 @@ ghost use Rattle.bpf_insn.specs.Spelling.{InsnFile, file_of};
 
 use bpf_insn::Order;
 use std::alloc::Allocator;
+
+/// The low byte of each halfword but the lowest one.
+const LOW_BYTES: u64 = 0x00ff_00ff_00ff_0000;
 
 /// Appends the instructions that the bytes spell in the order `order`, in the order `to`. There is room for them.
 pub(crate) fn append_recoded<A: Allocator>(
@@ -28,44 +31,65 @@ pub(crate) fn append_recoded<A: Allocator>(
     }
 }
 
-/// Appends each slot in the other order.
+/// Appends each slot in the other order. All slots are copied at once, and then rewritten in place.
 fn append_swapped<A: Allocator>(bytes: &[u8], out: &mut Vec<u8, A>)
     requires { vec_len out.old + length bytes.now ≤ vec_capacity out.old }
     ensures { (order to : Order) (insns : List Insn) → order ≢ to → InsnFile order bytes.now insns
         → out.new.items ≡ out.old.items ++ file_of to insns }
 {
-    let mut rest = bytes;
-    'slots: while let Some((slot, following)) = rest.split_first_chunk::<8>() {
-        append_bytes(out, swapped(slot));
-        rest = following;
+    let start = out.len();
+    let _ = out.extend_from_slice(bytes);
+    swap_slots(&mut out[start..]);
+}
+
+/// Rewrites each slot in the other order.
+fn swap_slots(bytes: &mut [u8])
+    ensures { (order to : Order) (insns : List Insn) → order ≢ to → InsnFile order bytes.old insns → bytes.new ≡ file_of to insns }
+{
+    let mut pos = 0;
+    'slots: while let Some(slot) = bytes[pos..].first_chunk::<8>() {
+        let other = swapped(slot);
+        bytes[pos..pos + 8].copy_from_slice(&other);
+        pos += 8;
     }
 }
 
 /// The bytes of a slot in the other order. The halves of the register byte, the two bytes of the offset and the four bytes
 /// of the immediate are reversed.
+///
+/// The slot is read as one number, and its parts are moved by masks and shifts:
+///
+/// ```text
+/// bit  0        8          12         16       32                   64
+///      | opcode | register | register | offset | imm                |
+///                                     | half-  | half-    | half-   |
+///                                     | word   | word     | word    |
+/// ```
+///
+/// So the compiler makes vector instructions of a loop over slots, which it doesn't if single bytes are read.
 #[inline(always)]
 pub(crate) fn swapped(slot: &[u8; 8]) -> [u8; 8]
     ensures { (order to : Order) → order ≢ to → (slot_fields : Fields) × (AreFields slot_fields
         × ((slot.now ≡ spelled order slot_fields) × (result ≡ spelled to slot_fields))) }
 {
-    let registers = slot[1] % 16 * 16 + slot[1] / 16;
-    let offset = u16::from_be_bytes([slot[2], slot[3]]);
-    let imm = u32::from_be_bytes([slot[4], slot[5], slot[6], slot[7]]);
-    // one number, so that the bytes are stored at once
-    let word = u64::from(slot[0])
-        + u64::from(registers) * 0x100
-        + u64::from(offset) * 0x1_0000
-        + u64::from(imm) * 0x1_0000_0000;
-    word.to_le_bytes()
+    let word = u64::from_le_bytes(*slot);
+    let opcode = word % 0x100;
+    let registers = word / 0x100 % 0x10 * 0x1000 + word / 0x1000 % 0x10 * 0x100;
+    let halfwords = swap_halfwords(word);
+    let offset = halfwords % 0x1_0000_0000;
+    let imm = halfwords / 0x1_0000_0000 % 0x1_0000 * 0x1_0000_0000_0000
+        + halfwords / 0x1_0000_0000_0000 * 0x1_0000_0000;
+    (opcode + registers + offset + imm).to_le_bytes()
 }
 
-/// Appends the bytes of a slot, for which there is room.
+/// The three upper halfwords, each with its two bytes exchanged, and 0 for the lowest one.
 #[inline(always)]
-fn append_bytes<A: Allocator>(out: &mut Vec<u8, A>, bytes: [u8; 8])
-    requires { vec_len out.old + 8 ≤ vec_capacity out.old }
-    ensures items { out.new.items ≡ out.old.items ++ bytes }
-    ensures len { vec_len out.new ≡ vec_len out.old + 8 }
-    ensures capacity { vec_capacity out.old ≤ vec_capacity out.new }
+fn swap_halfwords(word: u64) -> u64
+    ensures { result ≡ word / 0x1_0000 % 0x100 * 0x100_0000 + word / 0x100_0000 % 0x100 * 0x1_0000
+        + word / 0x1_0000_0000 % 0x100 * 0x100_0000_0000 + word / 0x100_0000_0000 % 0x100 * 0x1_0000_0000
+        + word / 0x1_0000_0000_0000 % 0x100 * 0x100_0000_0000_0000 + word / 0x100_0000_0000_0000 % 0x100 * 0x1_0000_0000_0000 }
 {
-    let _ = out.extend_from_slice(&bytes);
+    let low_bytes = word & LOW_BYTES;
+    let high_bytes = word / 0x100 & LOW_BYTES;
+    low_bytes * 0x100 + high_bytes
 }

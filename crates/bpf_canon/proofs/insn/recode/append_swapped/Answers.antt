@@ -1,26 +1,18 @@
-use Rattle.std.proofs.Common.{◌∙◌, ◌++◌, List, ℕ, arith, ap}
-use Rattle.bpf_canon.proofs.InsnLemmas.Recoding.{file_rewritten, none_rewritten, one_rewritten, slot_first}
+use Rattle.std.proofs.Common.{rules, ◌≡◌, ◌++◌, ◌∙◌, List, ℕ, length, sym, ap, arith}
+use Rattle.std.proofs.lemmas.Grind.{common_steps}
+use Rattle.bpf_insn.specs.Spelling.{file_of}
+use Rattle.bpf_canon.proofs.InsnLemmas.FrontLaws.{length-file_same}
+use Rattle.bpf_canon.proofs.InsnLemmas.Recoding.{appended_in_place, appended_part}
 use Rattle.bpf_canon.proofs.insn.recode.append_swapped.Goals as goal
-
-pub slots-init : goal.slots-init
-slots-init g c = (λ order to other. none_rewritten order to c.args.bytes.now c.args.out.now.items, c.requires)
-
-pub slots-preserved : goal.slots-preserved
-slots-preserved g c = (
-  λ order to other.
-      let slot = c.swapped.ensures order to other in
-      let cases = c.in-Some.ensures.cases in
-      let first = slot_first order c.slots.rest.now c.in-Some.slot.now c.in-Some.following.now slot.0 cases.0 cases.1 slot.1.1.0 in
-      let grown = one_rewritten order to c.args.bytes.now c.slots.rest.now c.in-Some.following.now c.args.out.now.items c.slots.out.items
-      slot.0 (c.slots.invariant.0 order to other) first slot.1.0 in
-      let written = c.append_bytes.ensures.items ∙ ap (λ (xs : List ℕ). c.slots.out.items ++ xs) slot.1.1.1 in
-      rw written grown,
-  omega (arith, c.slots.invariant.1, c.in-Some.ensures.cases.2, c.append_bytes.ensures.len, c.append_bytes.ensures.capacity),
-)
-
-pub append_bytes-requires : goal.append_bytes-requires
-append_bytes-requires g c = omega (arith, c.slots.invariant.1, c.in-Some.ensures.cases.2)
 
 pub returns : goal.returns
 returns g c = λ order to insns other file.
-    file_rewritten order to c.args.bytes.now c.slots.rest.now c.args.out.now.items c.slots.out.items (c.slots.invariant.0 order to other) c.in_default.ensures.cases insns file
+    let old = c.args.out.now.items in
+    let all = c.deref_mut.result.now in
+    let items : all ≡ old ++ c.args.bytes.now = grind (arith, common_steps) in
+    let start : c.len-start.result ≡ length old = search rules in
+    let part = appended_part old c.args.bytes.now all c.len-start.result items start in
+    let written : c.swap_slots.new.bytes ≡ file_of to insns = c.swap_slots.ensures order to insns other (file.0, part ∙ file.1) in
+    appended_in_place old c.args.bytes.now all c.swap_slots.new.bytes _ c.len-start.result _ items start (sym c.deref_mut.ensures.len)
+    (omega (arith, ap length written, ap length file.1, length-file_same order to insns))
+    ∙ ap (λ (x : List ℕ). old ++ x) written

@@ -1,6 +1,6 @@
-use Rattle.std.proofs.Common.{arith}
-use Rattle.std.proofs.lemmas.Grind.{common_steps}
+use Rattle.std.proofs.Common.{◌∙◌, refl}
 use Rattle.bpf_insn.proofs.SlotLemmas.{any_slot}
+use Rattle.bpf_canon.proofs.InsnLemmas.SwappedBytes.{slot_swapped}
 use Rattle.bpf_canon.proofs.insn.recode.swapped.Goals as goal
 
 pub returns : goal.returns
@@ -8,4 +8,6 @@ returns c = λ order to other.
     let slot = any_slot order c.args.slot.now c.told-slot c.fits-slot in
     let fit = slot.1.0 in
     let read = slot.1.1 in
-    (slot.0, (fit, (read, grind (arith, common_steps))))
+    let written = slot_swapped order to other c.args.slot.now c.from_le_bytes-word.result c.swap_halfwords-halfwords.result _ c.told-slot c.fits-slot
+    c.from_le_bytes-word.ensures c.swap_halfwords-halfwords.ensures refl slot.0 fit read in
+    (slot.0, (fit, (read, c.to_le_bytes.ensures ∙ written)))
