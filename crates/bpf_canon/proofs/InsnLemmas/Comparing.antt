@@ -9,16 +9,13 @@ use Rattle.bpf_words.specs.declared.Order.{Order}
 use Rattle.bpf_words.specs.Slots.{AreFields, Fields, spelled}
 use Rattle.bpf_insn.specs.declared.insn.Insn.{Insn}
 use Rattle.bpf_insn.specs.Spelling.{InsnFile, file_of}
-use Rattle.bpf_canon.proofs.InsnLemmas.Recoding.{Rewrites, file_rewritten, none_rewritten, one_rewritten, rewritten_rest}
+use Rattle.bpf_canon.proofs.InsnLemmas.Recoding.{Rewrites, file_rewritten, one_rewritten, rewritten_rest}
 
 -- the slots of `a` before `left` are in the other order at the front of `b`, and `right` follows them
 pub record SwappedFront (order to : Order) (a left b right : List ℕ) : Type 0 where
   pub written : List ℕ
   pub rewrites : Rewrites order to a left [] written
   pub front : b ≡ written ++ right
-
-pub swapped_none : (order to : Order) (a b : List ℕ) → SwappedFront order to a a b b
-swapped_none order to a b = record { written = []; rewrites = none_rewritten order to a []; front = refl }
 
 -- what a test for a prefix found
 pub prefix_found : (xs prefix rest : List ℕ) → pointwise nat_eq (take (length prefix) xs) prefix ≡ true → rest ≡ drop (length prefix) xs → xs ≡ prefix ++ rest

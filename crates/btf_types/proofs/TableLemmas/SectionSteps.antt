@@ -30,9 +30,6 @@ ends_inside o (f ∷ frames) (suc i) h =
     omega (arith, rest, length-append (bytes_of o f) (section_of o frames), length-append (bytes_of o f) (section_of o (take i frames)))
 
 module _ (s : Section) (good : IsSection s) (i : ℕ) (there : i < length s.file.places.now) where
-  pos : ℕ
-  pos = slice_index s.file.places.now i
-
   among : i < length (frames_in s)
   among = omega (arith, length-map s.file.places.now (frame_at s.file.order s.file.types.now))
 

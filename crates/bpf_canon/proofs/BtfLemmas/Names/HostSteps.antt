@@ -241,22 +241,3 @@ module _ (names : List (Bor (List ℕ))) (i : ℕ) (e : Bor (List ℕ)) (inside 
 
   pub table_same : (old : List (List ℕ)) → keeps (lent_texts names) (get_or (lent_texts names) i e.now) ≡ false → old ≡ hosts_among (lent_texts names) i → old ≡ hosts_among (lent_texts names) (i + 1)
   table_same old f o = o ∙ sym (hosts_among_same (lent_texts names) i e.now (omega (arith, inside, texts_length names)) f)
-
-any_text : (p : List ℕ → Bool) (ns : List (Bor (List ℕ))) → list_any (λ (n : Bor (List ℕ)). p n.now) ns ≡ list_any p (lent_texts ns)
-any_text p [] = refl
-any_text p (n ∷ ns) = ap (λ (b : Bool). p n.now || b) (any_text p ns)
-
--- the plain search's step: `tail` says whether another name ends with this one
-module _ (names : List (Bor (List ℕ))) (i : ℕ) (e : Bor (List ℕ)) (inside : i < length names) (tail : Bool)
-    (says : tail ≡ list_any (λ (other : Bor (List ℕ)). is_proper_suffix ((get_or names i e).now) other.now) names) where
-  keeps_is : keeps (lent_texts names) (get_or (lent_texts names) i e.now) ≡ not tail
-  keeps_is = ap (keeps (lent_texts names)) (text_at names i e inside) ∙ ap not (sym (any_text (is_proper_suffix ((get_or names i e).now)) names) ∙ sym says)
-
-  pub slow_more : (old new : List (Bor (List ℕ))) → tail ≡ false → lent_texts old ≡ hosts_among (lent_texts names) i → new ≡ old ++ get_or names i e ∷ [] → lent_texts new ≡ hosts_among (lent_texts names) (i + 1)
-  slow_more old new f o n =
-      ap lent_texts n ∙ texts_push old (get_or names i e) ∙ ap (λ (l : List (List ℕ)). l ++ (get_or names i e).now ∷ []) o
-      ∙ ap (λ (x : List ℕ). hosts_among (lent_texts names) i ++ x ∷ []) (sym (text_at names i e inside))
-      ∙ sym (hosts_among_more (lent_texts names) i e.now (omega (arith, inside, texts_length names)) (keeps_is ∙ ap not f))
-
-  pub slow_same : (old : List (Bor (List ℕ))) → tail ≡ true → lent_texts old ≡ hosts_among (lent_texts names) i → lent_texts old ≡ hosts_among (lent_texts names) (i + 1)
-  slow_same old t o = o ∙ sym (hosts_among_same (lent_texts names) i e.now (omega (arith, inside, texts_length names)) (keeps_is ∙ ap not t))

@@ -3,7 +3,7 @@ use Rattle.std.proofs.Common.{◌≡◌, ℕ, ◌+◌, ◌-◌, ◌<◌, ◌≤�
 use Rattle.std.specs.List.{Contains, flat_map, before_first, after_first}
 use Rattle.std.specs.Str.{bytes_eq}
 use Rattle.std.proofs.lemmas.Bool.{false≢true}
-use Rattle.std.proofs.lemmas.List.{length-map, length-append, map-append, map_more}
+use Rattle.std.proofs.lemmas.List.{length-append, map-append, map_more}
 use Rattle.std.proofs.lemmas.List.Sorted.{Contains-permutation}
 use Rattle.btf_types.specs.Names.{distinct, is_some_text, kept, with_nul, table_of, place_in, place_among}
 use Rattle.btf_types.specs.strings.SharedNames.{hosts_of, host_in, host, shared_among}
@@ -13,7 +13,6 @@ use Rattle.btf_types.proofs.Members.{Has, Has-from_filter, Has-from_Contains, Co
 use Rattle.btf_types.proofs.StringLemmas.Texts.{table_split}
 use Rattle.btf_types.proofs.StringLemmas.Suffixes.{Ends-length}
 use Rattle.btf_types.proofs.StringLemmas.Hosts.{IsHostOf, host_is}
-use Rattle.bpf_canon.proofs.BtfLemmas.Names.HostSearch.{texts_length}
 use Rattle.bpf_canon.proofs.BtfLemmas.Names.HostSteps.{contains_text, named_at}
 
 -- sorted names, and what was found for each of them
@@ -22,11 +21,6 @@ module _ (names sorted found : List (Bor (List ℕ))) (own : kept (lent_texts na
     (finds : (xs : List (List ℕ)) → IsTailSorted xs (lent_texts sorted) → lent_texts found ≡ map (host xs) (lent_texts sorted)) where
   order : IsTailSorted (lent_texts names) (lent_texts sorted)
   order = sorts (lent_texts names) (sym own)
-
-  pub found_length : length found ≡ length sorted
-  found_length =
-      sym (texts_length found) ∙ ap (λ (l : List (List ℕ)). length l) (finds (lent_texts names) order)
-      ∙ length-map (lent_texts sorted) (host (lent_texts names)) ∙ texts_length sorted
 
   pub found_maps : (es : List (Bor (List ℕ) × Bor (List ℕ))) → ((f : List ℕ → List ℕ) → lent_texts found ≡ map f (lent_texts sorted) → MapsTo es f (lent_texts sorted)) → MapsTo es (host_in (hosts_of (lent_texts names))) (lent_texts names)
   found_maps es maps x c =

@@ -141,15 +141,6 @@ pub record WithinTo (section slots : List ℕ) (sorted : List (List ℕ)) (commo
   pub there : (o : ℕ) → get_or slots o 0 ≢ 0 → ¬ ((t.start ≤ o) × (o < off)) → host_at slots in_hosts o ≡ host_at slots old o
 
 module _ (section slots : List ℕ) (sorted : List (List ℕ)) (common : List ℕ) (t : SectionText) (rank : ℕ) (old : List InHost) where
-  pub within_none : (off : ℕ) → off ≡ t.start → WithinTo section slots sorted common t rank old old rank off
-  within_none off e = record {
-    whole = refl;
-    below = omega arith;
-    before = λ j l h. absurd (omega (arith, l, h));
-    here = λ o s l h. absurd (omega (arith, l, h, e));
-    there = λ o s n. refl;
-  }
-
   pub within_skips : (in_hosts : List InHost) (from off : ℕ) → WithinTo section slots sorted common t rank old in_hosts from off → get_or slots off 0 ≡ 0 → WithinTo section slots sorted common t rank old in_hosts from (off + 1)
   within_skips in_hosts from off to z = record {
     whole = to.whole;
@@ -183,13 +174,6 @@ module _ (section slots : List ℕ) (sorted : List (List ℕ)) (common : List �
           | inr d ↦ there o u d ∙ to.there o u (λ (a, b). n (a, omega (arith, b)))
         ];
       }
-
-  pub within_all : (in_hosts : List InHost) (from : ℕ) → WithinTo section slots sorted common t rank old in_hosts from t.end → FindsWithin section slots sorted t old in_hosts
-  within_all in_hosts from to = record {
-    whole = to.whole;
-    here = λ o s w. to.here o s w.from w.before;
-    there = λ o s n. to.there o s (λ (a, b). n (record { from = a; before = b }));
-  }
 
 -- the host of a text that is alone
 pub finds_alone : (section slots : List ℕ) (sorted : List (List ℕ)) (t : SectionText) (old : List InHost) (h : InHost) → IsUsed section slots t → ((k : ℕ) → t.start + 1 ≤ k → k < t.end → get_or slots k 0 ≡ 0) → length old ≡ offset_number slots (length slots) → IsInHost sorted (text_from section t.start) h

@@ -7,8 +7,7 @@ use Rattle.std.proofs.lemmas.List.{map-append, append-nil}
 use Rattle.std.proofs.lemmas.List.Concat.{flat_map-append}
 use Rattle.std.proofs.lemmas.List.Folds.{list_any-append}
 use Rattle.bpf_words.specs.declared.Order.{Order}
-use Rattle.bpf_words.specs.declared.Order.TheVariants.{Little, Big}
-use Rattle.bpf_words.specs.Words.{word16, word32}
+use Rattle.bpf_words.specs.Words.{word32}
 use Rattle.btf_raw.specs.Header.{header, TYPES_LIMIT}
 use Rattle.btf_raw.specs.Frames.{bytes_of, section_of}
 use Rattle.btf_types.specs.Values.{TypeHead, KFunc, TypeItem, Member, EnumValue, Value64, Param, Entry, TypeRecord}
@@ -28,10 +27,6 @@ use Rattle.btf_types.proofs.TableLemmas.TableWalk.{take_more, get_is, get_or_is,
 
 pub pushed_two : (o : Order) (old xs ys : List ℕ) → (old ++ bytes_of o xs) ++ bytes_of o ys ≡ old ++ bytes_of o (xs ++ ys)
 pushed_two o old xs ys = append_assoc old (bytes_of o xs) (bytes_of o ys) ∙ ap (λ (t : List ℕ). old ++ t) (sym (flat_map-append (word32 o) xs ys))
-
-header_words : (o : Order) (t s : ℕ) → word16 o 0xeb9f ++ ((1 ∷ 0 ∷ []) ++ bytes_of o (24 ∷ 0 ∷ t ∷ t ∷ s ∷ [])) ≡ header o 24 0 t t s
-header_words Little t s = refl
-header_words Big t s = refl
 
 -- ---- records
 
