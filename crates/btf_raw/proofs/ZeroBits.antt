@@ -1,8 +1,9 @@
--- A word info whose bits are 0 where its kind has them 0 is allowed.
+-- A word info is allowed exactly where its bits are 0 where its kind has them 0.
 use Rattle.std.proofs.Common.{◌≡◌, ◌⊎◌, ℕ, zero, suc, ◌+◌, ◌-◌, ◌/◌, ◌%◌, ◌^◌, ◌<◌, List, [], ◌∷◌, Bool, true, false, refl, ap, sym, ◌∙◌, inl, inr, arith, drop, slice_index, bit_and}
 use Rattle.std.specs.Prelude.{IsTrue, if◌then◌else◌}
 use Rattle.std.proofs.lemmas.Bool.{cases_eq}
-use Rattle.std.proofs.lemmas.Nat.{and_mask, and_shr, and_mod}
+use Rattle.std.specs.Int.Bits.{and_zero_l, and_zero_r}
+use Rattle.std.proofs.lemmas.Nat.{and_mask, and_shr, and_mod, shr_split}
 use Rattle.btf_raw.specs.Kinds.{is_kind, has_flag, has_vlen, kind_of, vlen_of, flag_of, unused_of}
 use Rattle.btf_raw.specs.Frames.{IsAllowed}
 use Rattle.btf_raw.specs.ZeroBits.{zero_bits_of}
@@ -99,3 +100,87 @@ by_tests info true flag vlen low kind_is flag_is vlen_is e = record {
 pub allowed_by_bits : (info : ℕ) → info < 2 ^ 32 → bit_and (info + 2 ^ 32) (zero_bits_of (kind_of info)) ≡ 0 → IsAllowed info
 unfolding zero_bits_of
 allowed_by_bits info low e = by_tests info _ _ _ low refl refl refl e
+
+-- ---- the bits of an allowed info
+
+-- two numbers have no bit in common, where neither their low bits do nor those above
+no_common : (n m k : ℕ) → bit_and (n % 2 ^ k) (m % 2 ^ k) ≡ 0 → bit_and (n / 2 ^ k) (m / 2 ^ k) ≡ 0 → bit_and n m ≡ 0
+no_common n m k low high =
+    let above : bit_and n m / 2 ^ k ≡ 0 = and_shr n m k ∙ high in
+    let below : bit_and n m % 2 ^ k ≡ 0 = and_mod n m k ∙ low in
+    sym (shr_split (bit_and n m) k) ∙ rw (above, below) (omega arith)
+
+none_left : (n m : ℕ) → n ≡ 0 → bit_and n m ≡ 0
+none_left n m e = ap (λ (x : ℕ). bit_and x m) e ∙ and_zero_l m
+
+none_right : (n m : ℕ) → m ≡ 0 → bit_and n m ≡ 0
+none_right n m e = ap (λ (x : ℕ). bit_and n x) e ∙ and_zero_r n
+
+-- vlen, the unused bits 16 to 23, the kind, the unused bits 29 and 30, and kind_flag, from the lowest bit on
+bits_zero : (info : ℕ) (flag vlen : Bool) → info < 2 ^ 32 → unused_of info ≡ 0 → (flag_of info ≡ 0) ⊎ IsTrue flag → (vlen_of info ≡ 0) ⊎ IsTrue vlen
+    → bit_and (info + 2 ^ 32) (bits_by true flag vlen) ≡ 0
+bits_zero info flag vlen below unused flag_is vlen_is =
+    no_common n0 m0 16 (vlen_none vlen vlen_is)
+    (no_common n1 m1 8 (none_left (n1 % 2 ^ 8) (m1 % 2 ^ 8) (omega arith))
+    (no_common n2 m2 5 (none_right (n2 % 2 ^ 5) (m2 % 2 ^ 5) (kind_none flag vlen))
+    (no_common n3 m3 2 (none_left (n3 % 2 ^ 2) (m3 % 2 ^ 2) (omega arith))
+    (flag_none flag vlen flag_is))))
+  where
+    n0 : ℕ
+    n0 = info + 2 ^ 32
+
+    m0 : ℕ
+    m0 = bits_by true flag vlen
+
+    n1 : ℕ
+    n1 = n0 / 2 ^ 16
+
+    m1 : ℕ
+    m1 = m0 / 2 ^ 16
+
+    n2 : ℕ
+    n2 = n1 / 2 ^ 8
+
+    m2 : ℕ
+    m2 = m1 / 2 ^ 8
+
+    n3 : ℕ
+    n3 = n2 / 2 ^ 5
+
+    m3 : ℕ
+    m3 = m2 / 2 ^ 5
+
+    vlen_free : (f : Bool) → bits_by true f true % 2 ^ 16 ≡ 0
+    vlen_free true = refl
+    vlen_free false = refl
+
+    vlen_none : (v : Bool) → (vlen_of info ≡ 0) ⊎ IsTrue v → bit_and (n0 % 2 ^ 16) (bits_by true flag v % 2 ^ 16) ≡ 0
+    vlen_none v (inl none) = none_left (n0 % 2 ^ 16) (bits_by true flag v % 2 ^ 16) (omega arith)
+    vlen_none true (inr free) = none_right (n0 % 2 ^ 16) (bits_by true flag true % 2 ^ 16) (vlen_free flag)
+    vlen_none false (inr taken) = absurd cc
+
+    kind_none : (f v : Bool) → bits_by true f v / 2 ^ 16 / 2 ^ 8 % 2 ^ 5 ≡ 0
+    kind_none true true = refl
+    kind_none true false = refl
+    kind_none false true = refl
+    kind_none false false = refl
+
+    flag_free : (v : Bool) → bits_by true true v / 2 ^ 16 / 2 ^ 8 / 2 ^ 5 / 2 ^ 2 ≡ 0
+    flag_free true = refl
+    flag_free false = refl
+
+    two_and_one : (v : Bool) → bit_and 2 (bits_by true false v / 2 ^ 16 / 2 ^ 8 / 2 ^ 5 / 2 ^ 2) ≡ 0
+    two_and_one true = refl
+    two_and_one false = refl
+
+    flag_none : (f v : Bool) → (flag_of info ≡ 0) ⊎ IsTrue f → bit_and (n3 / 2 ^ 2) (bits_by true f v / 2 ^ 16 / 2 ^ 8 / 2 ^ 5 / 2 ^ 2) ≡ 0
+    flag_none true v free = none_right (n3 / 2 ^ 2) (bits_by true true v / 2 ^ 16 / 2 ^ 8 / 2 ^ 5 / 2 ^ 2) (flag_free v)
+    flag_none false v (inl none) =
+        let two : n3 / 2 ^ 2 ≡ 2 = omega arith in
+        ap (λ (x : ℕ). bit_and x (bits_by true false v / 2 ^ 16 / 2 ^ 8 / 2 ^ 5 / 2 ^ 2)) two ∙ two_and_one v
+    flag_none false v (inr taken) = absurd cc
+
+pub bits_by_allowed : (info : ℕ) → info < 2 ^ 32 → IsAllowed info → bit_and (info + 2 ^ 32) (zero_bits_of (kind_of info)) ≡ 0
+unfolding zero_bits_of
+bits_by_allowed info low h =
+    rw h.kind (bits_zero info (has_flag (kind_of info)) (has_vlen (kind_of info)) low h.unused h.flag h.vlen)

@@ -1,7 +1,7 @@
 //! The bits of the word info that must be 0 (btf.rst section 2.2): a table has them for each kind, so that one look judges
 //! the whole word.
 
-ghost use Rattle.std.specs.Prelude.{◌≡◌, ◌^◌, ◌<◌, IsTrue};
+ghost use Rattle.std.specs.Prelude.{◌≡◌, ◌↔◌, ◌^◌, ◌<◌, IsTrue};
 ghost use Rattle.btf_raw.specs.Frames.{IsAllowed};
 ghost use Rattle.btf_raw.specs.ZeroBits.{zero_bits_of};
 
@@ -61,7 +61,7 @@ fn zero_bits(kind: u8) -> u64
 /// Whether a word info is one that the table of kinds allows, the linkage of a FUNC aside.
 #[inline(always)]
 pub fn is_allowed(info: u32) -> bool
-    ensures { IsTrue result → IsAllowed info }
+    ensures { IsTrue result ↔ IsAllowed info }
 {
     (u64::from(info) + NO_KIND) & zero_bits(kind_of(info)) == 0
 }
