@@ -35,10 +35,14 @@ pub fn same_insns<A: Allocator>(
     if let Some(fault) = first_fault(order_a, a) {
         return Err(SideError::First(fault));
     }
-    if let Some(fault) = first_fault(order_b, b) {
-        return Err(SideError::Second(fault));
+    // what has the instructions of a file is one, and isn't judged again
+    if is_recoded(order_a, a, order_b, b) {
+        return Ok(true);
     }
-    Ok(is_recoded(order_a, a, order_b, b))
+    match first_fault(order_b, b) {
+        Some(fault) => Err(SideError::Second(fault)),
+        None => Ok(false),
+    }
 }
 
 /// Whether `b` has, in the order `order_b`, the instructions that `a` has in the order `order_a`.

@@ -1,3 +1,4 @@
+use Rattle.std.proofs.Common.{false, sym}
 use Rattle.bpf_canon.proofs.InsnLemmas.CanonLemmas.{compares}
 use Rattle.bpf_canon.proofs.insn.same.same_insns.Goals as goal
 
@@ -11,5 +12,6 @@ returns-in-Some-first_fault-clause-fault g c =
 pub returns-clause-same : goal.returns-clause-same
 returns-clause-same g c =
     let first = c.first_fault.ensures.file c.in_default.is in
-    let second = c.first_fault-2.ensures.file c.in_default-first_fault.is in
-    compares c.args.order_a c.args.order_b c.args.a.now c.args.b.now c.is_recoded.result first.0 second.0 first.1 second.1 (c.is_recoded.ensures first.0 first.1)
+    let second = c.first_fault-2.ensures.file c.in-None.is in
+    let recoded = c.is_recoded.ensures first.0 first.1 in
+    compares c.args.order_a c.args.order_b c.args.a.now c.args.b.now false first.0 second.0 first.1 second.1 (λ t. cc, λ e. sym (rw (recoded.1 e) at c.if-is_recoded.false))
