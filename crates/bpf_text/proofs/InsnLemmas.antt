@@ -7,11 +7,7 @@ pub mod OneReading
 pub mod ListingLemmas
 pub mod FieldLemmas
 pub mod OperandFieldsLemmas
-pub mod OneMnemonic
 pub mod HashPlaces
-pub mod MnemonicPlaces
-pub mod MnemonicTable
-pub mod MnemonicLemmas
 pub mod ReadOperandLemmas
 pub mod RegisterLemmas
 pub mod OneOperand
@@ -24,6 +20,7 @@ pub mod Bounds
 pub mod Outcomes
 pub mod WrittenTokens
 pub mod WrittenSpells
+pub mod EachMnemonic
 pub mod MnemonicTokens
 pub mod WrittenLines
 pub mod OneFault

@@ -1,6 +1,5 @@
 //! Listings: instructions as text, written and read.
 
-pub(crate) mod byte_tables;
 pub mod fault;
 pub(crate) mod insn_sink;
 pub mod laws;
@@ -8,7 +7,6 @@ pub(crate) mod listing_bytes;
 pub(crate) mod make;
 pub(crate) mod mnemonic;
 pub(crate) mod mnemonic_hash;
-pub(crate) mod mnemonic_text;
 pub(crate) mod number;
 pub(crate) mod operand_fields;
 pub(crate) mod read;

@@ -10,7 +10,7 @@ use Rattle.bpf_text.specs.insn.Tokens.{code_of, AreTokens}
 use Rattle.bpf_text.specs.insn.Mnemonics.{mnemonic_of, text_of_mnemonic}
 use Rattle.bpf_text.specs.insn.OperandFields.{plain}
 use Rattle.bpf_text.specs.insn.Listing.{lines_of, IsTokenForm, ListsInsn, ListsLine, Lists}
-use Rattle.bpf_text.proofs.InsnLemmas.OneMnemonic.{one_mnemonic}
+use Rattle.bpf_text.proofs.InsnLemmas.EachMnemonic.{one_mnemonic}
 use Rattle.bpf_text.proofs.InsnLemmas.OneOperand.{one_operands}
 use Rattle.bpf_text.proofs.InsnLemmas.OneReading.{one_tokens}
 

@@ -2,6 +2,7 @@
 use Rattle.std.proofs.Common.{◌≡◌, ◌≢◌, ℕ, suc, ◌<◌, List, [], ◌∷◌, map, length, get_or, refl, sym, ap, ◌∙◌, subst, Result, Ok, Err, IsErrAnd, arith}
 use Rattle.std.proofs.lemmas.List.{length-map}
 use Rattle.std.specs.List.{AllZip}
+use Rattle.bpf_insn.specs.declared.insn.WideOf.TheVariants as of
 use Rattle.bpf_insn.specs.declared.insn.Insn.{Insn}
 use Rattle.bpf_insn.specs.declared.insn.Insn.TheVariants as insn
 use Rattle.bpf_insn.specs.Table.{IsInsn}
@@ -14,7 +15,7 @@ use Rattle.bpf_text.specs.insn.Operands.{LineOperand, register, number, signed, 
 use Rattle.bpf_text.specs.insn.Table.{operands_of}
 use Rattle.bpf_text.specs.insn.Mnemonics.{mnemonic_of}
 use Rattle.bpf_text.specs.insn.Numbers.{IsReadAs}
-use Rattle.bpf_text.specs.insn.OperandFields.{plain, Field, FieldList, last_field, field_then, ReadsField, ReadsFields, FieldIsRead, FieldsAreRead, ReadsInsn, both_read}
+use Rattle.bpf_text.specs.insn.OperandFields.{operand_count, plain, Field, FieldList, last_field, field_then, ReadsField, ReadsFields, FieldIsRead, FieldsAreRead, ReadsInsn, both_read}
 
 pub plain_kind : (a : LineOperand) → operand_kind a ≡ operand_kind (plain a)
 plain_kind (register r) = refl
@@ -120,6 +121,14 @@ two_cells x y (u ∷ []) e f l = absurd (omega arith)
 two_cells x y (u ∷ v ∷ []) e f l = cc
 two_cells x y (u ∷ v ∷ w ∷ more) e f l = absurd (omega arith)
 
+-- two fields, read one after the other
+pub two_read : {X Y : Type 0} (f : Field X) (g : Field Y) (a b : ReadOperand) (xs : List ReadOperand) (r : Result X LineCause) (s : Result Y LineCause) (t : Result (X × Y) LineCause)
+    → a ≡ get_or xs 0 a → b ≡ get_or xs 1 b → length xs ≡ 2 → FieldIsRead f a r → FieldIsRead g b s → t ≡ both_read r s → FieldsAreRead (field_then f (last_field g)) xs t
+two_read f g a b xs r s t e k l p q u =
+    subst (λ (v : Result _ LineCause). FieldsAreRead (field_then f (last_field g)) xs v) (sym u)
+    (subst (λ (ys : List ReadOperand). FieldsAreRead (field_then f (last_field g)) ys (both_read r s)) (sym (two_cells a b xs e k l))
+    (more_read f (last_field g) a (b ∷ []) r s p (one_read g b s q)))
+
 pub three_cells : (x y z : ReadOperand) (xs : List ReadOperand) → x ≡ get_or xs 0 x → y ≡ get_or xs 1 y → z ≡ get_or xs 2 z → length xs ≡ 3 → xs ≡ x ∷ y ∷ z ∷ []
 three_cells x y z [] e f g l = absurd (omega arith)
 three_cells x y z (u ∷ []) e f g l = absurd (omega arith)
@@ -165,12 +174,26 @@ module _ {X : Type 0} (form : FieldList X) (make : X → Insn) (m : Mnemonic) (m
   made_err xs r cause (Err other) same e reads spelled h =
       subst (λ (c : LineCause). ReadsInsn m spelled (Err c)) (sym same) (insn_reads spelled (Err cause) (rw e at (reads spelled h)))
 
-exit_alone : (i : Insn) → mnemonic_of i ≡ Exit → operands_of i ≡ []
-exit_alone insn.Exit e = refl
-exit_alone _ e = cc
+pub only_read : {X : Type 0} (f : Field X) (a : ReadOperand) (xs : List ReadOperand) (r : Result X LineCause)
+    → a ≡ get_or xs 0 a → length xs ≡ 1 → FieldIsRead f a r → FieldsAreRead (last_field f) xs r
+only_read f a xs r e l p = subst (λ (ys : List ReadOperand). FieldsAreRead (last_field f) ys r) (sym (one_cell a xs e l)) (one_read f a r p)
 
--- exit has no operands
-pub exit_shape : (xs : List ReadOperand) → 0 < length xs → (spelled : List LineOperand) → AllZip IsReadAs xs spelled → ReadsInsn Exit spelled (Err Shape)
-exit_shape xs some spelled h = λ i e f.
-    let same : length spelled ≡ 0 = sym (length-map spelled operand_kind) ∙ ap length f ∙ ap (λ a. length (map operand_kind a)) (exit_alone i e) in
-    omega (arith, length_zip xs spelled h)
+pub three_read : {X Y Z : Type 0} (f : Field X) (g : Field Y) (h : Field Z) (a b d : ReadOperand) (xs : List ReadOperand)
+    (r : Result X LineCause) (s : Result Y LineCause) (t : Result Z LineCause) (v : Result (Y × Z) LineCause) (w : Result (X × (Y × Z)) LineCause)
+    → a ≡ get_or xs 0 a → b ≡ get_or xs 1 b → d ≡ get_or xs 2 d → length xs ≡ 3 → FieldIsRead f a r → FieldIsRead g b s → FieldIsRead h d t
+    → v ≡ both_read s t → w ≡ both_read r v → FieldsAreRead (field_then f (field_then g (last_field h))) xs w
+three_read f g h a b d xs r s t v w e k m l p q o i j =
+    subst (λ (u : Result _ LineCause). FieldsAreRead (field_then f (field_then g (last_field h))) xs u) (sym (j ∙ ap (both_read r) i))
+    (subst (λ (ys : List ReadOperand). FieldsAreRead (field_then f (field_then g (last_field h))) ys (both_read r (both_read s t))) (sym (three_cells a b d xs e k m l))
+    (more_read f (field_then g (last_field h)) a (b ∷ d ∷ []) r (both_read s t) p (more_read g (last_field h) b (d ∷ []) s t q (one_read h d t o))))
+
+counted : (i : Insn) → length (operands_of i) ≡ operand_count (mnemonic_of i)
+counted (insn.Wide d (of.Number n)) = refl
+counted (insn.Wide d _) = refl
+counted _ = refl
+
+-- another number of operands than the mnemonic has
+pub miscounted : (m : Mnemonic) (xs : List ReadOperand) → length xs ≢ operand_count m → (spelled : List LineOperand) → AllZip IsReadAs xs spelled → ReadsInsn m spelled (Err Shape)
+miscounted m xs other spelled h = λ i e f.
+    let same : length spelled ≡ length (operands_of i) = sym (length-map spelled operand_kind) ∙ ap length f ∙ length-map (operands_of i) operand_kind in
+    other (sym (length_zip xs spelled h) ∙ same ∙ counted i ∙ ap operand_count e)

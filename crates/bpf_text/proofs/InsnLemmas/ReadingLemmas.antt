@@ -20,7 +20,7 @@ use Rattle.bpf_text.specs.insn.Listing.{IsMnemonic, IsForm, ListsInsn, IsCause}
 use Rattle.bpf_text.specs.insn.Reading.{ReadsTokens}
 use Rattle.bpf_text.proofs.InsnLemmas.Bounds.{tokens_bound, form_bound}
 use Rattle.bpf_text.proofs.InsnLemmas.TokensExist.{tokens_exist}
-use Rattle.bpf_text.proofs.InsnLemmas.OneMnemonic.{one_mnemonic}
+use Rattle.bpf_text.proofs.InsnLemmas.EachMnemonic.{one_mnemonic}
 use Rattle.bpf_text.proofs.InsnLemmas.OneOperand.{one_operands}
 use Rattle.bpf_text.proofs.InsnLemmas.OneInsn.{mnemonic_text_is}
 use Rattle.bpf_text.proofs.InsnLemmas.OperandFieldsLemmas.{plain_kinds}

@@ -8,6 +8,8 @@ use Rattle.bpf_insn.specs.Table.{IsOffset, IsImm, IsOperand, IsInsn}
 use Rattle.bpf_text.specs.declared.insn.fault.LineCause.{LineCause}
 use Rattle.bpf_text.specs.declared.insn.fault.LineCause.TheVariants.{Shape, Range}
 use Rattle.bpf_text.specs.declared.insn.mnemonic.Mnemonic.{Mnemonic}
+use Rattle.bpf_text.specs.declared.insn.mnemonic.Mnemonic.TheVariants.{Neg, Swap, Jump, JumpLong, Branch, CallHelper, CallLocal, Exit, Wide, PacketAbs}
+use Rattle.bpf_text.specs.declared.insn.mnemonic.WideKind.TheVariants as kind
 use Rattle.bpf_text.specs.declared.insn.read_operand.ReadOperand.{ReadOperand}
 use Rattle.bpf_text.specs.insn.Operands.{LineOperand, register, number, signed, memory, operand_kind}
 use Rattle.bpf_text.specs.insn.Table.{source_operand, operands_of}
@@ -99,3 +101,19 @@ both_read (Err cause) _ = Err cause
 
 abbrev pub BothRead : {X Y : Type 0} → Result X LineCause → Result Y LineCause → Result (X × Y) LineCause → Type 0
 BothRead first second result = result ≡ both_read first second
+
+-- the number of operands of a mnemonic
+abbrev pub operand_count : Mnemonic → ℕ
+operand_count Exit = 0
+operand_count (Neg width) = 1
+operand_count (Swap k bits) = 1
+operand_count Jump = 1
+operand_count JumpLong = 1
+operand_count CallHelper = 1
+operand_count CallLocal = 1
+operand_count (PacketAbs z) = 1
+operand_count (Branch width op) = 3
+operand_count (Wide kind.MapValueFd) = 3
+operand_count (Wide kind.VarAddr) = 3
+operand_count (Wide kind.MapValueIdx) = 3
+operand_count _ = 2

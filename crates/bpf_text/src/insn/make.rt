@@ -1,336 +1,218 @@
 //! From a mnemonic and operands to the instruction.
-//!
-//! There is one function for each mnemonic, or family of them. The errors are those of `operand_fields`.
 
-ghost use Rattle.bpf_text.specs.insn.OperandFields.{InsnIsRead};
+ghost use Rattle.std.specs.Prelude.{◌≡◌, length};
+ghost use Rattle.bpf_text.specs.insn.OperandFields.{InsnIsRead, operand_count};
 ghost use Rattle.bpf_text.specs.declared.insn.mnemonic.Mnemonic.{Mnemonic};
-ghost use Rattle.bpf_text.specs.declared.insn.mnemonic.WideKind.{WideKind};
 
 use crate::insn::fault::LineCause;
 use crate::insn::mnemonic::{Mnemonic, WideKind};
-use crate::insn::operand_fields::{
-    address_and_imm, address_and_register, imm_and_offset, only_imm, only_offset, only_register,
-    register_and_address, register_and_imm, register_and_imm64, register_and_source,
-    register_and_two_imms, register_source_and_offset, two_registers,
-};
+use crate::insn::operand_fields::{address, both, imm, imm64, offset, register, source};
 use crate::insn::read_operand::ReadOperand;
-use bpf_insn::{
-    AluOp, AtomicOp, BranchOp, Insn, MovsxForm, Size, SmallSize, SwapBits, SwapKind, WideOf, Width,
-};
+use bpf_insn::{Insn, WideOf};
 
-/// The instruction with this mnemonic and these operands.
+/// The number of operands of a mnemonic.
+fn operand_count(mnemonic: Mnemonic) -> usize
+    ensures { result ≡ operand_count mnemonic }
+{
+    match mnemonic {
+        Mnemonic::Exit => 0,
+        Mnemonic::Neg(_)
+        | Mnemonic::Swap(_, _)
+        | Mnemonic::Jump
+        | Mnemonic::JumpLong
+        | Mnemonic::CallHelper
+        | Mnemonic::CallLocal
+        | Mnemonic::PacketAbs(_) => 1,
+        Mnemonic::Branch(_, _)
+        | Mnemonic::Wide(WideKind::MapValueFd | WideKind::VarAddr | WideKind::MapValueIdx) => 3,
+        _ => 2,
+    }
+}
+
+/// The wide load of this kind with these operands.
+fn wide_from_operands(kind: WideKind, operands: &[ReadOperand]) -> Result<Insn, LineCause>
+    requires { length operands.now ≡ operand_count (Mnemonic.Wide kind) }
+    ensures { InsnIsRead (Mnemonic.Wide kind) operands.now result }
+{
+    match kind {
+        WideKind::Number => {
+            let (dst, number) = both(register(operands[0]), imm64(operands[1]))?;
+            Ok(Insn::Wide {
+                dst,
+                what: WideOf::Number(number),
+            })
+        }
+        WideKind::MapFd => {
+            let (dst, fd) = both(register(operands[0]), imm(operands[1]))?;
+            Ok(Insn::Wide {
+                dst,
+                what: WideOf::MapFd(fd),
+            })
+        }
+        WideKind::MapValueFd => {
+            let (dst, (fd, off)) = both(
+                register(operands[0]),
+                both(imm(operands[1]), imm(operands[2])),
+            )?;
+            Ok(Insn::Wide {
+                dst,
+                what: WideOf::MapValueFd(fd, off),
+            })
+        }
+        WideKind::VarAddr => {
+            let (dst, (id, next)) = both(
+                register(operands[0]),
+                both(imm(operands[1]), imm(operands[2])),
+            )?;
+            Ok(Insn::Wide {
+                dst,
+                what: WideOf::VarAddr(id, next),
+            })
+        }
+        WideKind::CodeAddr => {
+            let (dst, off) = both(register(operands[0]), imm(operands[1]))?;
+            Ok(Insn::Wide {
+                dst,
+                what: WideOf::CodeAddr(off),
+            })
+        }
+        WideKind::MapIdx => {
+            let (dst, index) = both(register(operands[0]), imm(operands[1]))?;
+            Ok(Insn::Wide {
+                dst,
+                what: WideOf::MapIdx(index),
+            })
+        }
+        WideKind::MapValueIdx => {
+            let (dst, (index, off)) = both(
+                register(operands[0]),
+                both(imm(operands[1]), imm(operands[2])),
+            )?;
+            Ok(Insn::Wide {
+                dst,
+                what: WideOf::MapValueIdx(index, off),
+            })
+        }
+    }
+}
+
+/// The instruction with this mnemonic and these operands. `Shape` comes before `Range`, whichever operand comes first.
 pub(crate) fn insn_from_operands(
     mnemonic: Mnemonic,
     operands: &[ReadOperand],
 ) -> Result<Insn, LineCause>
     ensures { InsnIsRead mnemonic operands.now result }
 {
+    if operands.len() != operand_count(mnemonic) {
+        return Err(LineCause::Shape);
+    }
     match mnemonic {
-        Mnemonic::Alu(width, op) => alu(width, op, operands),
-        Mnemonic::Movsx(form) => movsx(form, operands),
-        Mnemonic::Neg(width) => neg(width, operands),
-        Mnemonic::Swap(kind, bits) => swap(kind, bits, operands),
-        Mnemonic::Jump => jump(operands),
-        Mnemonic::JumpLong => jump_long(operands),
-        Mnemonic::Branch(width, op) => branch(width, op, operands),
-        Mnemonic::CallHelper => call_helper(operands),
-        Mnemonic::CallLocal => call_local(operands),
-        Mnemonic::CallBtf => call_btf(operands),
-        Mnemonic::Exit => exit(operands),
-        Mnemonic::Load(size) => load(size, operands),
-        Mnemonic::LoadSigned(size) => load_signed(size, operands),
-        Mnemonic::StoreImm(size) => store_imm(size, operands),
-        Mnemonic::StoreReg(size) => store_register(size, operands),
-        Mnemonic::Atomic(width, op) => atomic(width, op, operands),
-        Mnemonic::Wide(kind) => wide(kind, operands),
-        Mnemonic::PacketAbs(size) => packet_abs(size, operands),
-        Mnemonic::PacketInd(size) => packet_ind(size, operands),
-    }
-}
-
-/// A wide load.
-fn wide(kind: WideKind, operands: &[ReadOperand]) -> Result<Insn, LineCause>
-    ensures { InsnIsRead (Mnemonic.Wide kind) operands.now result }
-{
-    match kind {
-        WideKind::Number => wide_number(operands),
-        WideKind::MapFd => map_fd(operands),
-        WideKind::MapValueFd => map_value_fd(operands),
-        WideKind::VarAddr => var_addr(operands),
-        WideKind::CodeAddr => code_addr(operands),
-        WideKind::MapIdx => map_idx(operands),
-        WideKind::MapValueIdx => map_value_idx(operands),
-    }
-}
-
-/// An arithmetic operation.
-fn alu(width: Width, op: AluOp, operands: &[ReadOperand]) -> Result<Insn, LineCause>
-    ensures { InsnIsRead (Mnemonic.Alu width op) operands.now result }
-{
-    let fields = register_and_source(operands)?;
-    Ok(Insn::Alu {
-        width,
-        op,
-        dst: fields.0,
-        arg: fields.1,
-    })
-}
-
-/// A move that extends the sign.
-fn movsx(form: MovsxForm, operands: &[ReadOperand]) -> Result<Insn, LineCause>
-    ensures { InsnIsRead (Mnemonic.Movsx form) operands.now result }
-{
-    let fields = two_registers(operands)?;
-    Ok(Insn::Movsx {
-        form,
-        dst: fields.0,
-        src: fields.1,
-    })
-}
-
-/// A negation.
-fn neg(width: Width, operands: &[ReadOperand]) -> Result<Insn, LineCause>
-    ensures { InsnIsRead (Mnemonic.Neg width) operands.now result }
-{
-    let dst = only_register(operands)?;
-    Ok(Insn::Neg { width, dst })
-}
-
-/// A byte swap.
-fn swap(kind: SwapKind, bits: SwapBits, operands: &[ReadOperand]) -> Result<Insn, LineCause>
-    ensures { InsnIsRead (Mnemonic.Swap kind bits) operands.now result }
-{
-    let dst = only_register(operands)?;
-    Ok(Insn::Swap { kind, bits, dst })
-}
-
-/// `ja`, with an offset of 16 bits.
-fn jump(operands: &[ReadOperand]) -> Result<Insn, LineCause>
-    ensures { InsnIsRead Mnemonic.Jump operands.now result }
-{
-    let off = only_offset(operands)?;
-    Ok(Insn::Jump { off })
-}
-
-/// `ja32`, with an offset of 32 bits.
-fn jump_long(operands: &[ReadOperand]) -> Result<Insn, LineCause>
-    ensures { InsnIsRead Mnemonic.JumpLong operands.now result }
-{
-    let imm = only_imm(operands)?;
-    Ok(Insn::JumpLong { imm })
-}
-
-/// A conditional jump.
-fn branch(width: Width, op: BranchOp, operands: &[ReadOperand]) -> Result<Insn, LineCause>
-    ensures { InsnIsRead (Mnemonic.Branch width op) operands.now result }
-{
-    let fields = register_source_and_offset(operands)?;
-    Ok(Insn::Branch {
-        width,
-        op,
-        dst: fields.0,
-        arg: fields.1.0,
-        off: fields.1.1,
-    })
-}
-
-/// A call of a helper function by its number.
-fn call_helper(operands: &[ReadOperand]) -> Result<Insn, LineCause>
-    ensures { InsnIsRead Mnemonic.CallHelper operands.now result }
-{
-    let id = only_imm(operands)?;
-    Ok(Insn::CallHelper { id })
-}
-
-/// A call of a function of the program.
-fn call_local(operands: &[ReadOperand]) -> Result<Insn, LineCause>
-    ensures { InsnIsRead Mnemonic.CallLocal operands.now result }
-{
-    let imm = only_imm(operands)?;
-    Ok(Insn::CallLocal { imm })
-}
-
-/// A call of a helper function by its BTF type ID.
-fn call_btf(operands: &[ReadOperand]) -> Result<Insn, LineCause>
-    ensures { InsnIsRead Mnemonic.CallBtf operands.now result }
-{
-    let fields = imm_and_offset(operands)?;
-    Ok(Insn::CallBtf {
-        id: fields.0,
-        off: fields.1,
-    })
-}
-
-/// A load.
-fn load(size: Size, operands: &[ReadOperand]) -> Result<Insn, LineCause>
-    ensures { InsnIsRead (Mnemonic.Load size) operands.now result }
-{
-    let fields = register_and_address(operands)?;
-    Ok(Insn::Load {
-        size,
-        dst: fields.0,
-        src: fields.1.0,
-        off: fields.1.1,
-    })
-}
-
-/// A load that extends the sign.
-fn load_signed(size: SmallSize, operands: &[ReadOperand]) -> Result<Insn, LineCause>
-    ensures { InsnIsRead (Mnemonic.LoadSigned size) operands.now result }
-{
-    let fields = register_and_address(operands)?;
-    Ok(Insn::LoadSigned {
-        size,
-        dst: fields.0,
-        src: fields.1.0,
-        off: fields.1.1,
-    })
-}
-
-/// A store of an immediate.
-fn store_imm(size: Size, operands: &[ReadOperand]) -> Result<Insn, LineCause>
-    ensures { InsnIsRead (Mnemonic.StoreImm size) operands.now result }
-{
-    let fields = address_and_imm(operands)?;
-    Ok(Insn::StoreImm {
-        size,
-        dst: fields.0.0,
-        off: fields.0.1,
-        imm: fields.1,
-    })
-}
-
-/// A store of a register.
-fn store_register(size: Size, operands: &[ReadOperand]) -> Result<Insn, LineCause>
-    ensures { InsnIsRead (Mnemonic.StoreReg size) operands.now result }
-{
-    let fields = address_and_register(operands)?;
-    Ok(Insn::StoreReg {
-        size,
-        dst: fields.0.0,
-        src: fields.1,
-        off: fields.0.1,
-    })
-}
-
-/// An atomic operation.
-fn atomic(width: Width, op: AtomicOp, operands: &[ReadOperand]) -> Result<Insn, LineCause>
-    ensures { InsnIsRead (Mnemonic.Atomic width op) operands.now result }
-{
-    let fields = address_and_register(operands)?;
-    Ok(Insn::Atomic {
-        width,
-        op,
-        dst: fields.0.0,
-        src: fields.1,
-        off: fields.0.1,
-    })
-}
-
-/// A wide load of a number of 64 bits.
-fn wide_number(operands: &[ReadOperand]) -> Result<Insn, LineCause>
-    ensures { InsnIsRead (Mnemonic.Wide WideKind.Number) operands.now result }
-{
-    let fields = register_and_imm64(operands)?;
-    Ok(Insn::Wide {
-        dst: fields.0,
-        what: WideOf::Number(fields.1),
-    })
-}
-
-/// A wide load of a map by its file descriptor.
-fn map_fd(operands: &[ReadOperand]) -> Result<Insn, LineCause>
-    ensures { InsnIsRead (Mnemonic.Wide WideKind.MapFd) operands.now result }
-{
-    let fields = register_and_imm(operands)?;
-    Ok(Insn::Wide {
-        dst: fields.0,
-        what: WideOf::MapFd(fields.1),
-    })
-}
-
-/// A wide load of an address in the value of a map by its file descriptor.
-fn map_value_fd(operands: &[ReadOperand]) -> Result<Insn, LineCause>
-    ensures { InsnIsRead (Mnemonic.Wide WideKind.MapValueFd) operands.now result }
-{
-    let fields = register_and_two_imms(operands)?;
-    Ok(Insn::Wide {
-        dst: fields.0,
-        what: WideOf::MapValueFd(fields.1.0, fields.1.1),
-    })
-}
-
-/// A wide load of the address of a variable.
-fn var_addr(operands: &[ReadOperand]) -> Result<Insn, LineCause>
-    ensures { InsnIsRead (Mnemonic.Wide WideKind.VarAddr) operands.now result }
-{
-    let fields = register_and_two_imms(operands)?;
-    Ok(Insn::Wide {
-        dst: fields.0,
-        what: WideOf::VarAddr(fields.1.0, fields.1.1),
-    })
-}
-
-/// A wide load of the address of code.
-fn code_addr(operands: &[ReadOperand]) -> Result<Insn, LineCause>
-    ensures { InsnIsRead (Mnemonic.Wide WideKind.CodeAddr) operands.now result }
-{
-    let fields = register_and_imm(operands)?;
-    Ok(Insn::Wide {
-        dst: fields.0,
-        what: WideOf::CodeAddr(fields.1),
-    })
-}
-
-/// A wide load of a map by its index.
-fn map_idx(operands: &[ReadOperand]) -> Result<Insn, LineCause>
-    ensures { InsnIsRead (Mnemonic.Wide WideKind.MapIdx) operands.now result }
-{
-    let fields = register_and_imm(operands)?;
-    Ok(Insn::Wide {
-        dst: fields.0,
-        what: WideOf::MapIdx(fields.1),
-    })
-}
-
-/// A wide load of an address in the value of a map by its index.
-fn map_value_idx(operands: &[ReadOperand]) -> Result<Insn, LineCause>
-    ensures { InsnIsRead (Mnemonic.Wide WideKind.MapValueIdx) operands.now result }
-{
-    let fields = register_and_two_imms(operands)?;
-    Ok(Insn::Wide {
-        dst: fields.0,
-        what: WideOf::MapValueIdx(fields.1.0, fields.1.1),
-    })
-}
-
-/// A load from the packet at the immediate.
-fn packet_abs(size: SmallSize, operands: &[ReadOperand]) -> Result<Insn, LineCause>
-    ensures { InsnIsRead (Mnemonic.PacketAbs size) operands.now result }
-{
-    let imm = only_imm(operands)?;
-    Ok(Insn::PacketAbs { size, imm })
-}
-
-/// A load from the packet at a register and the immediate.
-fn packet_ind(size: SmallSize, operands: &[ReadOperand]) -> Result<Insn, LineCause>
-    ensures { InsnIsRead (Mnemonic.PacketInd size) operands.now result }
-{
-    let fields = register_and_imm(operands)?;
-    Ok(Insn::PacketInd {
-        size,
-        src: fields.0,
-        imm: fields.1,
-    })
-}
-
-/// `exit`, which has no operands.
-fn exit(operands: &[ReadOperand]) -> Result<Insn, LineCause>
-    ensures { InsnIsRead Mnemonic.Exit operands.now result }
-{
-    if operands.is_empty() {
-        Ok(Insn::Exit)
-    } else {
-        Err(LineCause::Shape)
+        Mnemonic::Alu(width, op) => {
+            let (dst, arg) = both(register(operands[0]), source(operands[1]))?;
+            Ok(Insn::Alu {
+                width,
+                op,
+                dst,
+                arg,
+            })
+        }
+        Mnemonic::Movsx(form) => {
+            let (dst, src) = both(register(operands[0]), register(operands[1]))?;
+            Ok(Insn::Movsx { form, dst, src })
+        }
+        Mnemonic::Neg(width) => Ok(Insn::Neg {
+            width,
+            dst: register(operands[0])?,
+        }),
+        Mnemonic::Swap(kind, bits) => Ok(Insn::Swap {
+            kind,
+            bits,
+            dst: register(operands[0])?,
+        }),
+        Mnemonic::Jump => Ok(Insn::Jump {
+            off: offset(operands[0])?,
+        }),
+        Mnemonic::JumpLong => Ok(Insn::JumpLong {
+            imm: imm(operands[0])?,
+        }),
+        Mnemonic::Branch(width, op) => {
+            let (dst, (arg, off)) = both(
+                register(operands[0]),
+                both(source(operands[1]), offset(operands[2])),
+            )?;
+            Ok(Insn::Branch {
+                width,
+                op,
+                dst,
+                arg,
+                off,
+            })
+        }
+        Mnemonic::CallHelper => Ok(Insn::CallHelper {
+            id: imm(operands[0])?,
+        }),
+        Mnemonic::CallLocal => Ok(Insn::CallLocal {
+            imm: imm(operands[0])?,
+        }),
+        Mnemonic::CallBtf => {
+            let (id, off) = both(imm(operands[0]), offset(operands[1]))?;
+            Ok(Insn::CallBtf { id, off })
+        }
+        Mnemonic::Exit => Ok(Insn::Exit),
+        Mnemonic::Load(size) => {
+            let (dst, (src, off)) = both(register(operands[0]), address(operands[1]))?;
+            Ok(Insn::Load {
+                size,
+                dst,
+                src,
+                off,
+            })
+        }
+        Mnemonic::LoadSigned(size) => {
+            let (dst, (src, off)) = both(register(operands[0]), address(operands[1]))?;
+            Ok(Insn::LoadSigned {
+                size,
+                dst,
+                src,
+                off,
+            })
+        }
+        Mnemonic::StoreImm(size) => {
+            let ((dst, off), imm) = both(address(operands[0]), imm(operands[1]))?;
+            Ok(Insn::StoreImm {
+                size,
+                dst,
+                off,
+                imm,
+            })
+        }
+        Mnemonic::StoreReg(size) => {
+            let ((dst, off), src) = both(address(operands[0]), register(operands[1]))?;
+            Ok(Insn::StoreReg {
+                size,
+                dst,
+                src,
+                off,
+            })
+        }
+        Mnemonic::Atomic(width, op) => {
+            let ((dst, off), src) = both(address(operands[0]), register(operands[1]))?;
+            Ok(Insn::Atomic {
+                width,
+                op,
+                dst,
+                src,
+                off,
+            })
+        }
+        Mnemonic::Wide(kind) => wide_from_operands(kind, operands),
+        Mnemonic::PacketAbs(size) => Ok(Insn::PacketAbs {
+            size,
+            imm: imm(operands[0])?,
+        }),
+        Mnemonic::PacketInd(size) => {
+            let (src, imm) = both(register(operands[0]), imm(operands[1]))?;
+            Ok(Insn::PacketInd { size, src, imm })
+        }
     }
 }

@@ -4,7 +4,6 @@ ghost use Rattle.std.specs.Prelude.{◌≡◌, ℕ, ◌<◌, ◌≤◌, false, L
 ghost use Rattle.std.specs.List.{list_any, list_all, prefix_len, position_or_len};
 ghost use Rattle.bpf_text.specs.insn.Tokens.{is_comment_mark, is_blank, is_word_byte, is_stray, code_of, StartsWithToken, AreTokens};
 
-use crate::insn::byte_tables::{STRAY_BYTES, WORD_BYTES};
 use arrayvec::ArrayVec;
 
 /// The largest number of tokens that the operands of a line have: 5 for each of 3 operands, and 2 commas.
@@ -12,6 +11,17 @@ pub(crate) const MOST_TOKENS: usize = 17;
 
 /// The tokens after a mnemonic. They are on the stack.
 pub(crate) type Tokens<'a> = ArrayVec<&'a [u8], MOST_TOKENS>;
+
+/// The class of each byte: blank, part of a word, a symbol, or none of these.
+static CLASSES: [u8; 256] = *b"\
+    .........b...b..................\
+    b..........sss..wwwwwwwwww......\
+    ...........................s.s.w\
+    .wwwwwwwwwwwwwwwwwwwwwwwwww.....\
+    ................................\
+    ................................\
+    ................................\
+    ................................";
 
 /// Whether a byte begins a comment.
 fn is_comment_mark(b: u8) -> bool
@@ -32,7 +42,7 @@ fn is_blank(b: u8) -> bool
 fn is_word_byte(b: u8) -> bool
     ensures { result ≡ is_word_byte b }
 {
-    WORD_BYTES[b as usize]
+    CLASSES[b as usize] == b'w'
 }
 
 /// Whether a byte is neither blank nor part of a token.
@@ -40,7 +50,7 @@ fn is_word_byte(b: u8) -> bool
 fn is_stray(b: u8) -> bool
     ensures { result ≡ is_stray b }
 {
-    STRAY_BYTES[b as usize]
+    CLASSES[b as usize] == b'.'
 }
 
 /// The number of bytes before the first stray byte.

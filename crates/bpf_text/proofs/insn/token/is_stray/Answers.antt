@@ -1,9 +1,9 @@
-use Rattle.std.proofs.Common.{false, get_or, refl, arith}
-use Rattle.bpf_text.specs.declared.insn.byte_tables.TheConstants.{STRAY_BYTES}
+use Rattle.std.proofs.Common.{nat_eq, get_or, refl, arith}
+use Rattle.bpf_text.specs.declared.insn.token.TheConstants.{CLASSES}
 use Rattle.bpf_text.specs.insn.Tokens.{is_stray}
 use Rattle.bpf_text.proofs.InsnLemmas.ByteTables.{same_table}
 use Rattle.bpf_text.proofs.insn.token.is_stray.Goals as goal
 
 -- the table agrees with the definition at each of the 256 bytes, by computing
 pub returns : goal.returns
-returns c = same_table (λ b. get_or STRAY_BYTES b false) is_stray refl c.args.b (omega arith)
+returns c = same_table (λ b. nat_eq (get_or CLASSES b 0) 46) is_stray refl c.args.b (omega arith)

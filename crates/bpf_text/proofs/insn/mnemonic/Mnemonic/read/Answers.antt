@@ -1,5 +1,5 @@
 use Rattle.std.proofs.lemmas.Bool.{false≢true}
-use Rattle.bpf_text.proofs.InsnLemmas.MnemonicTable.{none_of_hash}
+use Rattle.bpf_text.proofs.InsnLemmas.EachMnemonic.{none_of_hash}
 use Rattle.bpf_text.proofs.insn.mnemonic.Mnemonic.read.Goals as goal
 
 pub returns-clause-none : goal.returns-clause-none

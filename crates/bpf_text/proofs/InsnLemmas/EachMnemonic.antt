@@ -1,0 +1,98 @@
+-- Each mnemonic stands in the table where the hash of its text leads. So what is tested at all entries holds of all
+-- mnemonics.
+use Rattle.std.proofs.Common.{◌≡◌, ◌≢◌, ℕ, zero, suc, Bool, true, List, [], ◌∷◌, get_or, refl, sym, ap, ◌∙◌, subst}
+use Rattle.std.specs.List.{list_all}
+use Rattle.bpf_insn.specs.declared.insn.Width.TheVariants.{W32, W64}
+use Rattle.bpf_insn.specs.declared.insn.Size.{Size}
+use Rattle.bpf_insn.specs.declared.insn.Size.TheVariants as size
+use Rattle.bpf_insn.specs.declared.insn.SmallSize.{SmallSize}
+use Rattle.bpf_insn.specs.declared.insn.SmallSize.TheVariants as small
+use Rattle.bpf_insn.specs.declared.insn.AluOp.{AluOp}
+use Rattle.bpf_insn.specs.declared.insn.AluOp.TheVariants as alu
+use Rattle.bpf_insn.specs.declared.insn.BranchOp.{BranchOp}
+use Rattle.bpf_insn.specs.declared.insn.BranchOp.TheVariants as branch
+use Rattle.bpf_insn.specs.declared.insn.MovsxForm.{MovsxForm}
+use Rattle.bpf_insn.specs.declared.insn.MovsxForm.TheVariants as movsx
+use Rattle.bpf_insn.specs.declared.insn.SwapKind.{SwapKind}
+use Rattle.bpf_insn.specs.declared.insn.SwapKind.TheVariants as swap
+use Rattle.bpf_insn.specs.declared.insn.SwapBits.{SwapBits}
+use Rattle.bpf_insn.specs.declared.insn.SwapBits.TheVariants.{B16, B32, B64}
+use Rattle.bpf_insn.specs.declared.insn.AtomicOp.{AtomicOp}
+use Rattle.bpf_insn.specs.declared.insn.AtomicOp.TheVariants as atomic
+use Rattle.bpf_text.specs.declared.insn.mnemonic.WideKind.{WideKind}
+use Rattle.bpf_text.specs.declared.insn.mnemonic.WideKind.TheVariants as kind
+use Rattle.bpf_text.specs.declared.insn.mnemonic.Mnemonic.{Mnemonic}
+use Rattle.bpf_text.specs.declared.insn.mnemonic.Mnemonic.TheVariants.{Alu, Movsx, Neg, Swap, Jump, JumpLong, Branch, CallHelper, CallLocal, CallBtf, Exit, Load, LoadSigned, StoreImm, StoreReg, Atomic, Wide, PacketAbs, PacketInd}
+use Rattle.bpf_text.specs.declared.insn.mnemonic.TheConstants.{ALL}
+use Rattle.bpf_text.specs.declared.insn.mnemonic_hash.TheConstants.{PLACES}
+use Rattle.bpf_text.specs.insn.Mnemonics.{text_of_mnemonic}
+use Rattle.bpf_text.specs.insn.MnemonicHash.{hash_of}
+use Rattle.bpf_text.proofs.InsnLemmas.HashPlaces.{first, second}
+
+-- the entry to which a text leads
+abbrev pub entry : List ℕ → Mnemonic → Mnemonic
+entry text other = get_or ALL (get_or PLACES (hash_of text) 0) other
+
+pub stands : (m d : Mnemonic) → entry (text_of_mnemonic m) d ≡ m
+stands (Alu W32 alu.Add) d = refl
+stands (Alu W32 _) d = refl
+stands (Alu W64 alu.Add) d = refl
+stands (Alu W64 _) d = refl
+stands (Movsx movsx.W32From8) d = refl
+stands (Movsx _) d = refl
+stands (Neg W32) d = refl
+stands (Neg W64) d = refl
+stands (Swap swap.Le B16) d = refl
+stands (Swap swap.Le _) d = refl
+stands (Swap swap.Be B16) d = refl
+stands (Swap swap.Be _) d = refl
+stands (Swap swap.Swap B16) d = refl
+stands (Swap swap.Swap _) d = refl
+stands Jump d = refl
+stands JumpLong d = refl
+stands (Branch W32 branch.Eq) d = refl
+stands (Branch W32 _) d = refl
+stands (Branch W64 branch.Eq) d = refl
+stands (Branch W64 _) d = refl
+stands CallHelper d = refl
+stands CallLocal d = refl
+stands CallBtf d = refl
+stands Exit d = refl
+stands (Load size.B) d = refl
+stands (Load _) d = refl
+stands (LoadSigned small.B) d = refl
+stands (LoadSigned _) d = refl
+stands (StoreImm size.B) d = refl
+stands (StoreImm _) d = refl
+stands (StoreReg size.B) d = refl
+stands (StoreReg _) d = refl
+stands (Atomic W32 atomic.Add) d = refl
+stands (Atomic W32 _) d = refl
+stands (Atomic W64 atomic.Add) d = refl
+stands (Atomic W64 _) d = refl
+stands (Wide kind.Number) d = refl
+stands (Wide _) d = refl
+stands (PacketAbs small.B) d = refl
+stands (PacketAbs _) d = refl
+stands (PacketInd small.B) d = refl
+stands (PacketInd _) d = refl
+
+pub one_mnemonic : (m n : Mnemonic) → text_of_mnemonic m ≡ text_of_mnemonic n → m ≡ n
+one_mnemonic m n e = sym (stands m Exit) ∙ ap (λ w. entry w Exit) e ∙ stands n Exit
+
+-- a token is no mnemonic if it differs from the one at its hash
+pub none_of_hash : (token : List ℕ) (hash k : ℕ) (m d : Mnemonic) → hash ≡ hash_of token → k ≡ get_or PLACES hash 0
+    → token ≢ text_of_mnemonic (get_or ALL k d) → token ≢ text_of_mnemonic m
+none_of_hash token hash k m d h p other same =
+    let led : k ≡ get_or PLACES (hash_of (text_of_mnemonic m)) 0 = p ∙ ap (λ n. get_or PLACES n 0) (h ∙ ap hash_of same) in
+    other (same ∙ ap text_of_mnemonic (sym (ap (λ n. get_or ALL n d) led ∙ stands m d)))
+
+at_entry : (test : Mnemonic → Bool) (ms : List Mnemonic) (k : ℕ) (d : Mnemonic) → list_all test ms ≡ true → test d ≡ true → test (get_or ms k d) ≡ true
+at_entry test [] k d h e = e
+at_entry test (m ∷ ms) zero d h e = first (test m) (list_all test ms) h
+at_entry test (m ∷ ms) (suc k) d h e = at_entry test ms k d (second (test m) (list_all test ms) h) e
+
+-- what all entries pass, each mnemonic passes
+pub each_passes : (test : Mnemonic → Bool) → list_all test ALL ≡ true → test Exit ≡ true → (m : Mnemonic) → test m ≡ true
+each_passes test h e m =
+    subst (λ (x : Mnemonic). test x ≡ true) (stands m Exit) (at_entry test ALL (get_or PLACES (hash_of (text_of_mnemonic m)) 0) Exit h e)
