@@ -3,6 +3,9 @@ pub mod KeptSteps
 pub mod PlaceSteps
 pub mod HostSearch
 pub mod HostSteps
+pub mod HostIndices
+pub mod IndexedNames
+pub mod HostTable
 pub mod SharedSteps
 pub mod Gathering
 pub mod NoteSteps

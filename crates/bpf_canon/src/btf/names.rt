@@ -1,6 +1,4 @@
 //! The string table of a table that lends no sections, from the texts of its names.
 
-pub(crate) mod hosts;
 pub(crate) mod kept;
-pub(crate) mod placed;
 pub(crate) mod shared;

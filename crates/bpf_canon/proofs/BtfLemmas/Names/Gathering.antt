@@ -14,12 +14,12 @@ use Rattle.bpf_canon.specs.btf.names.Interned.{IsPlaced}
 
 -- ---- the names of a table
 
-Has-front : (xs ys : List (List ℕ)) (x : List ℕ) → Has xs x → Has (xs ++ ys) x
+pub Has-front : (xs ys : List (List ℕ)) (x : List ℕ) → Has xs x → Has (xs ++ ys) x
 Has-front [] ys x h = absurd h
 Has-front (y ∷ xs) ys x (inl e) = inl e
 Has-front (y ∷ xs) ys x (inr h) = inr (Has-front xs ys x h)
 
-Has-back : (xs ys : List (List ℕ)) (x : List ℕ) → Has ys x → Has (xs ++ ys) x
+pub Has-back : (xs ys : List (List ℕ)) (x : List ℕ) → Has ys x → Has (xs ++ ys) x
 Has-back [] ys x h = h
 Has-back (y ∷ xs) ys x h = inr (Has-back xs ys x h)
 

@@ -1,25 +1,14 @@
 -- What maps and sets of lent texts hold. Contracts of private functions cite it.
-use Rattle.std.specs.Prelude.{◌≡◌, ◌⊎◌, ℕ, Option, Some, List, [], ◌∷◌, ◌++◌, length, map}
+use Rattle.std.specs.Prelude.{◌≡◌, ◌⊎◌, ◌<◌, ◌^◌, ℕ, List, [], ◌∷◌, ◌++◌, length, map, slice_index, slice_index_or}
 use Rattle.std.specs.Borrow.{Bor}
-use Rattle.std.specs.List.{Contains}
-use Rattle.std.specs.Map.{lookup}
-use Rattle.std.specs.Option.{option_map}
-use Rattle.std.specs.Str.{bytes_eq}
+use Rattle.std.specs.List.{All, Contains}
+use Rattle.std.specs.List.Sorted.{IsPermutation, IsSorted}
 use Rattle.btf_types.specs.Names.{kept, table_of, place_in}
-use Rattle.btf_types.specs.strings.SharedNames.{hosts_of, host_in, shared_among}
+use Rattle.btf_types.specs.strings.SharedNames.{tail_cmp, hosts_of, host_in}
 
 -- the texts that are lent
 abbrev pub lent_texts : List (Bor (List ℕ)) → List (List ℕ)
 lent_texts names = map (λ name. name.now) names
-
--- the texts of the keys, in order
-abbrev pub texts_of : List (Bor (List ℕ) × ℕ) → List (List ℕ)
-texts_of entries = map (λ e. e.0.now) entries
-
--- each text's value is its place in the table of these texts, and the table has this length
-pub record ArePlaces (entries : List (Bor (List ℕ) × ℕ)) (len : ℕ) : Type 0 where
-  pub places : map (λ e. e.1) entries ≡ map (place_in (texts_of entries)) (texts_of entries)
-  pub whole : len ≡ length (table_of (texts_of entries))
 
 -- new holds the kept names of one name more than old
 abbrev pub AddsName : List (List ℕ) → List (List ℕ) → List ℕ → Type 0
@@ -33,18 +22,32 @@ AddsNames old new names = (xs : List (List ℕ)) → old ≡ kept xs → new ≡
 abbrev pub IsPlaced : List (List ℕ) → List ℕ → Type 0
 IsPlaced names x = (x ≡ []) ⊎ Contains names x
 
--- each of the texts is looked up as what f makes of it
-abbrev pub looked_up : List ℕ → List (Bor (List ℕ) × Bor (List ℕ)) → Option (List ℕ)
-looked_up x entries = option_map (λ (b : Bor (List ℕ)). b.now) (lookup (λ (k : Bor (List ℕ)). bytes_eq x k.now) entries)
+-- the name of an index
+abbrev pub name_at : List (List ℕ) → ℕ → List ℕ
+name_at ks i = slice_index_or ks i []
 
-abbrev pub MapsTo : List (Bor (List ℕ) × Bor (List ℕ)) → (List ℕ → List ℕ) → List (List ℕ) → Type 0
-MapsTo entries f ks = (x : List ℕ) → Contains ks x → looked_up x entries ≡ Some (f x)
+-- The names with their indices, sorted by their bytes from the end.
+pub record AreIndexed (ks : List (List ℕ)) (sorted : List (Bor (List ℕ) × ℕ)) : Type 0 where
+  pub permutation : IsPermutation ks (map (λ s. s.0.now) sorted)
+  pub in_order : IsSorted tail_cmp (map (λ s. s.0.now) sorted)
+  pub inside : All (λ s. s.1 < length ks) sorted
+  pub names : All (λ s. name_at ks s.1 ≡ s.0.now) sorted
+  pub each : (i : ℕ) → i < length ks → Contains (map (λ s. s.1) sorted) i
 
--- each of the names has its host, in the same order
-abbrev pub AreHostsOf : List (List ℕ) → List (List ℕ) → Type 0
-AreHostsOf ks named = named ≡ map (host_in (hosts_of ks)) ks
+-- each name has the index of its host
+pub record HaveHosts (ks : List (List ℕ)) (hosts : List ℕ) : Type 0 where
+  pub whole : length hosts ≡ length ks
+  pub inside : (i : ℕ) → i < length ks → slice_index hosts i < length ks
+  pub each : (i : ℕ) → i < length ks → name_at ks (slice_index hosts i) ≡ host_in (hosts_of ks) (name_at ks i)
 
--- What the kept names are stored as: their hosts, and the place of each name.
-pub record AreShared (ks hosts : List (List ℕ)) (places : List ℕ) : Type 0 where
-  pub hosts_are : hosts ≡ hosts_of ks
-  pub places_are : places ≡ map (shared_among ks) ks
+-- each name that is its own host has its place in their table, which has this length
+pub record ArePlacedHosts (ks : List (List ℕ)) (hosts places : List ℕ) (table_len : ℕ) : Type 0 where
+  pub whole : length places ≡ length ks
+  pub each : (i : ℕ) → i < length ks → slice_index hosts i ≡ i → slice_index places i ≡ place_in (hosts_of ks) (name_at ks i)
+  pub long : table_len ≡ length (table_of (hosts_of ks))
+
+-- What the kept names are stored with: their hosts, and the place of each host.
+pub record AreShared (ks : List (List ℕ)) (hosts places : List ℕ) (table_len : ℕ) : Type 0 where
+  pub have_hosts : HaveHosts ks hosts
+  pub are_placed : ArePlacedHosts ks hosts places table_len
+  pub room : table_len < 2 ^ 32

@@ -6,9 +6,11 @@ use Rattle.btf_types.specs.Reading.{text_from}
 use Rattle.btf_types.specs.strings.SharedNames.{is_suffix, hosts, host, shared_table, shared_place}
 use Rattle.btf_types.specs.strings.CommonTails.{at_rank}
 use Rattle.bpf_canon.specs.btf.strings.UsedOffsets.{offset_number}
-use Rattle.bpf_canon.specs.btf.strings.InHost.{host_at, no_host}
+use Rattle.bpf_canon.specs.btf.strings.InHost.{host_at, no_host, sorted_in}
 use Rattle.bpf_canon.specs.declared.btf.strings.hosts_by_rank.InHost.{InHost}
 use Rattle.bpf_canon.specs.declared.btf.strings.host_places.Span.{Span}
+use Rattle.bpf_canon.specs.declared.btf.strings.host_places.HostPlaces.{HostPlaces}
+use Rattle.bpf_canon.specs.declared.btf.strings.ranked_texts.RankedTexts.{RankedTexts}
 
 -- the bytes of the section from the start of a span to the NUL at its end
 abbrev pub span_bytes : List ℕ → Span → List ℕ
@@ -49,6 +51,16 @@ pub record AreHostPlaces (section : List ℕ) (sorted xs : List (List ℕ)) (by_
   pub ranks : length by_rank ≡ length sorted + 1
   pub none : slice_index by_rank 0 ≡ 0
   pub place : (r : ℕ) → r < length sorted → (r + 1 < length sorted → is_suffix (at_rank sorted r) (at_rank sorted (r + 1)) ≡ false) → Contains (hosts xs) (at_rank sorted r) → slice_index by_rank (r + 1) ≡ place_in (hosts xs) (at_rank sorted r)
+
+-- The same in the words of the structs: of names at these offsets each has its host, and the hosts have their places.
+abbrev pub texts_at : {A : Type 0} → RankedTexts A → List ℕ → List (List ℕ)
+texts_at r offsets = map (text_from r.section.now) offsets
+
+abbrev pub HaveTheirHosts : {A : Type 0} → List ℕ → RankedTexts A → List ℕ → List InHost → Type 0
+HaveTheirHosts slots r offsets in_hosts = All (HasHost r.section.now slots (sorted_in r) (texts_at r offsets) in_hosts) offsets
+
+abbrev pub ArePlacesOf : {A : Type 0} → RankedTexts A → List ℕ → HostPlaces A → Type 0
+ArePlacesOf r offsets h = AreHostPlaces r.section.now (sorted_in r) (texts_at r offsets) h.by_rank.items h.spans.items h.len
 
 -- Of names at offsets of a section, the place of each in the table that they share is known by its number, and the table by its hosts.
 pub record ArePlaced (section offsets slots places : List ℕ) (spans : List Span) (len : ℕ) : Type 0 where

@@ -9,6 +9,7 @@ use Rattle.bpf_canon.specs.btf.strings.Ranks.{AreRanked}
 use Rattle.bpf_canon.specs.btf.strings.Longest.{IsWithin, AreLongestOf}
 use Rattle.bpf_canon.specs.declared.btf.strings.section_texts.SectionText.{SectionText}
 use Rattle.bpf_canon.specs.declared.btf.strings.hosts_by_rank.InHost.{InHost}
+use Rattle.bpf_canon.specs.declared.btf.strings.ranked_texts.RankedTexts.{RankedTexts}
 
 -- Of sorted texts, the one of this rank is the host of x, whatever texts they sort, and it doesn't end the next one.
 pub record IsInHost (sorted : List (List ℕ)) (x : List ℕ) (h : InHost) : Type 0 where
@@ -48,14 +49,25 @@ pub record HostsTo (section slots : List ℕ) (ts : List SectionText) (sorted : 
   pub empty : (off : ℕ) → slice_index slots off ≢ 0 → slice_index section off ≡ 0 → host_at slots in_hosts off ≡ no_host
   pub here : (j off : ℕ) → j < k → slice_index slots off ≢ 0 → IsWithin off (slice_index_or ts j no_text) → IsInHost sorted (text_from section off) (host_at slots in_hosts off)
 
--- The text of a rank isn't a suffix of the text before it, and no name begins after its first byte.
-pub record IsAlone (slots common : List ℕ) (rank : ℕ) (t : SectionText) : Type 0 where
-  pub less : slice_index common rank < t.end - t.start
-  pub unused : (off : ℕ) → t.start + 1 ≤ off → off < t.end → slice_index slots off ≡ 0
-
 -- The longest used texts of a section, sorted, with their numbers.
 pub record AreRankedTexts (section slots : List ℕ) (ts : List SectionText) (common hosts : List ℕ) : Type 0 where
   pub ranked : AreRanked (map (text_in section) ts) common hosts
   pub longest : AreLongestOf section slots ts
   pub whole : length slots ≡ length section
   pub few : length section < 2 ^ 32
+
+-- The same in the words of the struct that has them: the texts by rank, and what is found for their first ranks.
+abbrev pub sorted_in : {A : Type 0} → RankedTexts A → List (List ℕ)
+sorted_in r = map (text_in r.section.now) r.texts.items
+
+abbrev pub IsRankedFor : {A : Type 0} → List ℕ → RankedTexts A → Type 0
+IsRankedFor slots r = AreRankedTexts r.section.now slots r.texts.items r.common.items r.hosts.items
+
+abbrev pub FindsWithinRank : {A : Type 0} → List ℕ → RankedTexts A → ℕ → List InHost → List InHost → Type 0
+FindsWithinRank slots r rank old new = FindsWithin r.section.now slots (sorted_in r) (slice_index_or r.texts.items rank no_text) old new
+
+abbrev pub FindsRanks : {A : Type 0} → List ℕ → RankedTexts A → List InHost → ℕ → Type 0
+FindsRanks slots r in_hosts k = HostsTo r.section.now slots r.texts.items (sorted_in r) in_hosts k
+
+abbrev pub FindsHosts : {A : Type 0} → List ℕ → RankedTexts A → List InHost → Type 0
+FindsHosts slots r in_hosts = AreInHosts r.section.now slots (sorted_in r) in_hosts

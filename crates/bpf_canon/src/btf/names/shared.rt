@@ -1,39 +1,86 @@
-//! The names of a file with their places in its string table, in which names share suffixes: each name is the end of its host.
+//! The names of a table with their places in its string table, in which names share suffixes: each name is the end of its host.
+//!
+//! With the names sorted by their bytes from the end, a name that is a suffix of any other name is a suffix of the next one, and has
+//! its host. So each is compared with the next one alone.
 ghost use Rattle.std.specs.Prelude.{◌≡◌, ◌<◌, ◌^◌, ◌++◌, IfOk, OnOk, length};
 ghost use Rattle.btf_types.specs.Names.{kept, table_of};
 ghost use Rattle.btf_types.specs.strings.SharedNames.{hosts_of, shared_among};
-ghost use Rattle.bpf_canon.specs.btf.names.Interned.{lent_texts, AreHostsOf, IsPlaced};
+ghost use Rattle.bpf_canon.specs.btf.names.Interned.{lent_texts, AreIndexed, HaveHosts, ArePlacedHosts, IsPlaced};
 
-use crate::btf::names::hosts::{
-    host_map, host_table, hosts_of_sorted, named_hosts, shared_places, sorted_from_end,
-};
 use crate::btf::names::kept::KeptNames;
-use crate::btf::names::placed::PlacedNames;
+use crate::btf::suffixes::compare_from_end;
 use std::alloc::{AllocError, Allocator};
 use std::marker::Model;
 
-/// The host of each name. What the search needs is freed here.
+/// The names with their indices, sorted by their bytes from the end.
+fn sorted_from_end<'a, A: Allocator>(
+    alloc: A,
+    names: &[&'a str],
+) -> Result<Vec<(&'a str, usize), A>, AllocError>
+    ensures { IfOk result (λ sorted. AreIndexed (lent_texts names.now) sorted.items) }
+{
+    let mut sorted = Vec::with_capacity(alloc, names.len())?;
+    for index in 0..names.len() {
+        sorted.push((names[index], index))?;
+    }
+    sorted.sort_by(|a, b| compare_from_end(a.0.as_bytes(), b.0.as_bytes()))?;
+    Ok(sorted)
+}
+
+/// The index of the host of each name.
 fn found_hosts<'a, A: Allocator + Copy>(
     alloc: A,
     names: &[&'a str],
-) -> Result<Vec<&'a str, A>, AllocError>
+) -> Result<Vec<usize, A>, AllocError>
     requires { kept (lent_texts names.now) ≡ lent_texts names.now }
-    ensures { IfOk result (λ hosts. AreHostsOf (lent_texts names.now) (lent_texts hosts.items)) }
+    ensures { IfOk result (λ hosts. HaveHosts (lent_texts names.now) hosts.items) }
 {
     let sorted = sorted_from_end(alloc, names)?;
-    let sorted = sorted.as_slice();
-    let found = hosts_of_sorted(alloc, sorted)?;
-    let host_of = host_map(alloc, sorted, found.as_slice())?;
-    named_hosts(alloc, names, &host_of)
+    let mut hosts = vec![in alloc; 0; names.len()]?;
+    for rank in (0..sorted.len()).rev() {
+        let (name, index) = sorted[rank];
+        let mut host = index;
+        if rank + 1 < sorted.len() {
+            let (next, next_index) = sorted[rank + 1];
+            if next.as_bytes().ends_with(name.as_bytes()) {
+                host = hosts[next_index];
+            }
+        }
+        hosts[index] = host;
+    }
+    Ok(hosts)
+}
+
+/// The place of each host in their table, by index, and the length of the table.
+fn placed_hosts<A: Allocator>(
+    alloc: A,
+    names: &[&str],
+    hosts: &[usize],
+) -> Result<(Vec<u32, A>, u32), AllocError>
+    requires own { kept (lent_texts names.now) ≡ lent_texts names.now }
+    requires hosts { HaveHosts (lent_texts names.now) hosts.now }
+    requires room { length (table_of (hosts_of (lent_texts names.now))) < 2 ^ 32 }
+    ensures { IfOk result (λ (places, len). ArePlacedHosts (lent_texts names.now) hosts.now places.items len) }
+{
+    let mut places = vec![in alloc; 0; names.len()]?;
+    let mut len = 1;
+    for index in 0..names.len() {
+        if hosts[index] == index {
+            places[index] = len;
+            len += names[index].len() as u32 + 1;
+        }
+    }
+    Ok((places, len))
 }
 
 /// Kept names that share suffixes.
 #[derive(Drop)]
 pub(crate) struct SharedNames<'a, A: Allocator> {
     kept: KeptNames<'a, A>,
-    hosts: PlacedNames<'a, A>,
-    // the place of each kept name
+    // the index of the host of each name, and the place of each host
+    hosts: Vec<usize, A>,
     places: Vec<u32, A>,
+    table_len: u32,
 }
 
 impl<'a, A: Allocator> Model for SharedNames<'a, A> {
@@ -44,7 +91,7 @@ impl<'a, A: Allocator> Model for SharedNames<'a, A> {
 
     ghost view = { λ n. n.kept };
 
-    ghost invariant = { λ n. AreShared n.kept n.hosts n.places.items };
+    ghost invariant = { λ n. AreShared n.kept n.hosts.items n.places.items n.table_len };
 }
 
 impl<'a, A: Allocator + Copy> SharedNames<'a, A> {
@@ -54,18 +101,17 @@ impl<'a, A: Allocator + Copy> SharedNames<'a, A> {
         ensures { IfOk result (λ n. n ≡ kept.entry) }
     {
         let names = kept.as_slice();
-        let named = found_hosts(alloc, names)?;
-        let named = named.as_slice();
-        let hosts = host_table(alloc, names, named)?;
-        let places = shared_places(alloc, names, named, &hosts)?;
+        let hosts = found_hosts(alloc, names)?;
+        let (places, table_len) = placed_hosts(alloc, names, &hosts)?;
         Ok(SharedNames {
             kept,
             hosts,
             places,
+            table_len,
         })
     }
 
-    /// The place of a kept name; the empty one is at the table's first NUL.
+    /// The place of a kept name, at the end of its host; the empty one is at the table's first NUL.
     pub(crate) fn place(&self, name: &str) -> u32
         requires { IsPlaced self.now name.now }
         ensures { result ≡ shared_among self.now name.now }
@@ -73,20 +119,30 @@ impl<'a, A: Allocator + Copy> SharedNames<'a, A> {
         if name.is_empty() {
             return 0;
         }
-        self.places[self.kept.index_of(name)]
+        let host = self.hosts[self.kept.index_of(name)];
+        let before = self.kept.as_slice()[host].len() - name.len();
+        self.places[host] + before as u32
     }
 
-    /// Appends the string table.
+    /// Appends the string table: NUL, then each host with its NUL.
     pub(crate) fn push_table<B: Allocator>(&self, out: &mut Vec<u8, B>) -> Result<(), AllocError>
         ensures { OnOk result (out.new.items ≡ out.old.items ++ table_of (hosts_of self.now)) }
     {
-        self.hosts.push_table(out)
+        let names = self.kept.as_slice();
+        out.push(0)?;
+        for index in 0..names.len() {
+            if self.hosts[index] == index {
+                out.extend_from_slice(names[index].as_bytes())?;
+                out.push(0)?;
+            }
+        }
+        Ok(())
     }
 
     /// The length of the string table.
     pub(crate) fn table_len(&self) -> u32
         ensures { result ≡ length (table_of (hosts_of self.now)) }
     {
-        self.hosts.table_len()
+        self.table_len
     }
 }

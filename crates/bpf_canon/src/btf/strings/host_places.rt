@@ -1,13 +1,12 @@
 //! The places of hosts in the string table, in the order of first use.
-ghost use Rattle.std.specs.Prelude.{◌≡◌, ◌<◌, ◌^◌, ℕ, List, length, map, IfOk, OnOk};
+ghost use Rattle.std.specs.Prelude.{◌≡◌, ◌<◌, ◌^◌, ℕ, List, length, IfOk, OnOk};
 ghost use Rattle.std.specs.List.{All};
 ghost use Rattle.std.specs.List.Sorted.{IsSorted};
 ghost use Rattle.btf_raw.specs.Header.{HasNulEnds};
-ghost use Rattle.btf_types.specs.Reading.{text_from};
 ghost use Rattle.btf_types.specs.strings.SharedNames.{tail_cmp, shared_table};
-ghost use Rattle.bpf_canon.specs.btf.strings.SectionTexts.{text_in};
+ghost use Rattle.bpf_canon.specs.btf.strings.InHost.{sorted_in};
 ghost use Rattle.bpf_canon.specs.btf.strings.UsedOffsets.{offset_number};
-ghost use Rattle.bpf_canon.specs.btf.strings.HostPlaces.{IsSpan, HasText, HasHost, AreHostPlaces};
+ghost use Rattle.bpf_canon.specs.btf.strings.HostPlaces as spec;
 
 use crate::btf::strings::hosts_by_rank::InHost;
 use crate::btf::strings::ranked_texts::RankedTexts;
@@ -34,7 +33,7 @@ pub(crate) struct HostPlaces<A: Allocator> {
 
 /// Appends a text of the section. If it follows the last text there, both are one span.
 fn push_text<A: Allocator>(spans: &mut Vec<Span, A>, text: Span) -> Result<(), AllocError>
-    ensures { OnOk result ((section : List ℕ) → All (IsSpan section) spans.old.items → IsSpan section text → HasText section spans.old.items spans.new.items text) }
+    ensures { OnOk result ((section : List ℕ) → All (spec.IsSpan section) spans.old.items → spec.IsSpan section text → spec.HasText section spans.old.items spans.new.items text) }
 {
     if let Some(last) = spans.last_mut() {
         if last.end < text.start && text.start - last.end == 1 {
@@ -54,13 +53,13 @@ pub(crate) fn place_hosts<A: Allocator + Copy>(
     in_hosts: &[InHost],
     ranked: &RankedTexts<'_, A>,
 ) -> Result<HostPlaces<A>, AllocError>
-    requires order { IsSorted tail_cmp (map (text_in ranked.now.section.now) ranked.now.texts.items) }
+    requires order { IsSorted tail_cmp (sorted_in ranked.now) }
     requires ends { HasNulEnds ranked.now.section.now }
     requires few { length ranked.now.section.now < 2 ^ 32 }
     requires whole { length in_hosts.now ≡ offset_number uses.now (length uses.now) }
-    requires in_hosts { All (HasHost ranked.now.section.now uses.now (map (text_in ranked.now.section.now) ranked.now.texts.items) (map (text_from ranked.now.section.now) offsets.now) in_hosts.now) offsets.now }
-    requires room { length (shared_table (map (text_from ranked.now.section.now) offsets.now)) < 2 ^ 32 }
-    ensures { IfOk result (λ h. AreHostPlaces ranked.now.section.now (map (text_in ranked.now.section.now) ranked.now.texts.items) (map (text_from ranked.now.section.now) offsets.now) h.by_rank.items h.spans.items h.len) }
+    requires in_hosts { spec.HaveTheirHosts uses.now ranked.now offsets.now in_hosts.now }
+    requires room { length (shared_table (spec.texts_at ranked.now offsets.now)) < 2 ^ 32 }
+    ensures { IfOk result (spec.ArePlacesOf ranked.now offsets.now) }
 {
     let mut by_rank = vec![in alloc; 0; ranked.texts.len() + 1]?;
     let mut spans = Vec::new(alloc);

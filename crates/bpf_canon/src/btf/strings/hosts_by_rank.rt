@@ -1,9 +1,6 @@
 //! The host of each name, by the ranks of the longest texts.
-ghost use Rattle.std.specs.Prelude.{◌≡◌, ◌<◌, ◌≤◌, ◌^◌, length, map, slice_index_or, IfOk, OnOk};
-ghost use Rattle.std.specs.List.{All};
-ghost use Rattle.bpf_canon.specs.btf.strings.Ranks.{AreLower, AreRanked};
-ghost use Rattle.bpf_canon.specs.btf.strings.Longest.{IsUsed};
-ghost use Rattle.bpf_canon.specs.btf.strings.SectionTexts.{text_in};
+ghost use Rattle.std.specs.Prelude.{◌≡◌, ◌<◌, length, IfOk};
+ghost use Rattle.bpf_canon.specs.btf.strings.Ranks.{AreLower};
 ghost use Rattle.bpf_canon.specs.btf.strings.UsedOffsets.{offset_number};
 ghost use Rattle.bpf_canon.specs.btf.strings.InHost as spec;
 
@@ -41,15 +38,11 @@ fn find_within<A: Allocator>(
     rank: usize,
     in_hosts: &mut [InHost],
 )
-    requires ranked { AreRanked (map (text_in ranked.now.section.now) ranked.now.texts.items) ranked.now.common.items ranked.now.hosts.items }
+    requires texts { spec.IsRankedFor uses.now ranked.now }
     requires lower { AreLower ranked.now.common.items lower.now }
-    requires few { length ranked.now.texts.items < 2 ^ 32 }
-    requires used { All (IsUsed ranked.now.section.now uses.now) ranked.now.texts.items }
-    requires slots { length uses.now ≡ length ranked.now.section.now }
-    requires section { length ranked.now.section.now < 2 ^ 32 }
     requires inside { rank < length ranked.now.texts.items }
     requires whole { length in_hosts.old ≡ offset_number uses.now (length uses.now) }
-    ensures { spec.FindsWithin ranked.now.section.now uses.now (map (text_in ranked.now.section.now) ranked.now.texts.items) (slice_index_or ranked.now.texts.items rank (record { key = 0; before = 0; start = 0; end = 0 })) in_hosts.old in_hosts.new }
+    ensures { spec.FindsWithinRank uses.now ranked.now rank in_hosts.old in_hosts.new }
 {
     let end = ranked.texts[rank].end;
     let mut from = rank;
@@ -63,77 +56,28 @@ fn find_within<A: Allocator>(
                 before: len - (end - off),
                 len,
             };
+            if uses.are_unused(off as usize + 1, end as usize) {
+                return;
+            }
         }
     }
 }
 
-/// Finds the hosts of the first ranks up to one whose text is the same as another, or has a name that begins inside it. In most files
-/// there is none. The host of a text that is alone is the next host from its rank on. The result is the number of these ranks.
-fn find_alone<A: Allocator>(
-    uses: &UsedOffsets<A>,
-    ranked: &RankedTexts<'_, A>,
-    in_hosts: &mut [InHost],
-) -> usize
-    requires texts { spec.AreRankedTexts ranked.now.section.now uses.now ranked.now.texts.items ranked.now.common.items ranked.now.hosts.items }
-    requires none { spec.HostsTo ranked.now.section.now uses.now ranked.now.texts.items (map (text_in ranked.now.section.now) ranked.now.texts.items) in_hosts.old 0 }
-    ensures found { spec.HostsTo ranked.now.section.now uses.now ranked.now.texts.items (map (text_in ranked.now.section.now) ranked.now.texts.items) in_hosts.new result }
-    ensures most { result ≤ length ranked.now.texts.items }
-{
-    for rank in 0..ranked.texts.len() {
-        let text = ranked.texts[rank];
-        if ranked.common[rank] >= text.len()
-            || !uses.are_unused(text.start as usize + 1, text.end as usize)
-        {
-            return rank;
-        }
-        let host = ranked.hosts[rank];
-        let len = ranked.texts[host as usize].len();
-        in_hosts[uses.number(text.start as usize)] = InHost {
-            host: host + 1,
-            before: len - text.len(),
-            len,
-        };
-    }
-    ranked.texts.len()
-}
-
-/// Finds the hosts of the other ranks, also if texts are the same or names begin inside one.
-fn find_shared<A: Allocator>(
+/// Finds the hosts of all ranks.
+fn find_all<A: Allocator>(
     uses: &UsedOffsets<A>,
     ranked: &RankedTexts<'_, A>,
     lower: &[u32],
-    first: usize,
     in_hosts: &mut [InHost],
 )
-    requires texts { spec.AreRankedTexts ranked.now.section.now uses.now ranked.now.texts.items ranked.now.common.items ranked.now.hosts.items }
+    requires texts { spec.IsRankedFor uses.now ranked.now }
     requires lower { AreLower ranked.now.common.items lower.now }
-    requires most { first ≤ length ranked.now.texts.items }
-    requires found { spec.HostsTo ranked.now.section.now uses.now ranked.now.texts.items (map (text_in ranked.now.section.now) ranked.now.texts.items) in_hosts.old first }
-    ensures { spec.HostsTo ranked.now.section.now uses.now ranked.now.texts.items (map (text_in ranked.now.section.now) ranked.now.texts.items) in_hosts.new (length ranked.now.texts.items) }
+    requires none { spec.FindsRanks uses.now ranked.now in_hosts.old 0 }
+    ensures { spec.FindsRanks uses.now ranked.now in_hosts.new (length ranked.now.texts.items) }
 {
-    for rank in first..ranked.texts.len() {
+    for rank in 0..ranked.texts.len() {
         find_within(uses, ranked, lower, rank, in_hosts);
     }
-}
-
-/// Finds the hosts of all ranks. At an error those of the first ranks were found.
-fn find_all<A: Allocator + Copy>(
-    alloc: A,
-    uses: &UsedOffsets<A>,
-    ranked: &RankedTexts<'_, A>,
-    in_hosts: &mut [InHost],
-) -> Result<(), AllocError>
-    requires texts { spec.AreRankedTexts ranked.now.section.now uses.now ranked.now.texts.items ranked.now.common.items ranked.now.hosts.items }
-    requires none { spec.HostsTo ranked.now.section.now uses.now ranked.now.texts.items (map (text_in ranked.now.section.now) ranked.now.texts.items) in_hosts.old 0 }
-    ensures { OnOk result (spec.HostsTo ranked.now.section.now uses.now ranked.now.texts.items (map (text_in ranked.now.section.now) ranked.now.texts.items) in_hosts.new (length ranked.now.texts.items)) }
-{
-    let alone = find_alone(uses, ranked, in_hosts);
-    if alone == ranked.texts.len() {
-        return Ok(());
-    }
-    let lower = lower_ranks(alloc, &ranked.common)?;
-    find_shared(uses, ranked, &lower, alone, in_hosts);
-    Ok(())
 }
 
 /// The host of each used offset, by its number.
@@ -142,10 +86,11 @@ pub(crate) fn find_hosts<A: Allocator + Copy>(
     uses: &UsedOffsets<A>,
     ranked: &RankedTexts<'_, A>,
 ) -> Result<Vec<InHost, A>, AllocError>
-    requires { spec.AreRankedTexts ranked.now.section.now uses.now ranked.now.texts.items ranked.now.common.items ranked.now.hosts.items }
-    ensures { IfOk result (λ in_hosts. spec.AreInHosts ranked.now.section.now uses.now (map (text_in ranked.now.section.now) ranked.now.texts.items) in_hosts.items) }
+    requires { spec.IsRankedFor uses.now ranked.now }
+    ensures { IfOk result (λ in_hosts. spec.FindsHosts uses.now ranked.now in_hosts.items) }
 {
+    let lower = lower_ranks(alloc, &ranked.common)?;
     let mut in_hosts = vec![in alloc; InHost::NONE; uses.count()]?;
-    find_all(alloc, uses, ranked, &mut in_hosts)?;
+    find_all(uses, ranked, &lower, &mut in_hosts);
     Ok(in_hosts)
 }

@@ -11,56 +11,31 @@ use btf_raw::{
 };
 use btf_types::{Encoding, Head};
 
-/// The number of a record's kind (btf.rst section 2.2).
-pub(crate) fn kind_number(head: Head<'_>) -> u8
-    ensures { result ≡ spec.kind_number (head_value head.entry) }
+/// The number of a record's kind, and its third word: a size, a type or 0 (btf.rst section 2.2).
+pub(crate) fn kind_and_third(head: Head<'_>) -> (u8, u32)
+    ensures kind { result.0 ≡ spec.kind_number (head_value head.entry) }
+    ensures third { result.1 ≡ spec.head_third (head_value head.entry) }
 {
     match head {
-        Head::KInt { .. } => INT,
-        Head::KPtr { .. } => PTR,
-        Head::KArray { .. } => ARRAY,
-        Head::KStruct { .. } => STRUCT,
-        Head::KUnion { .. } => UNION,
-        Head::KEnum { .. } => ENUM,
-        Head::KFwd { .. } => FWD,
-        Head::KTypedef { .. } => TYPEDEF,
-        Head::KVolatile { .. } => VOLATILE,
-        Head::KConst { .. } => CONST,
-        Head::KRestrict { .. } => RESTRICT,
-        Head::KFunc { .. } => FUNC,
-        Head::KFuncProto { .. } => FUNC_PROTO,
-        Head::KVar { .. } => VAR,
-        Head::KDatasec { .. } => DATASEC,
-        Head::KFloat { .. } => FLOAT,
-        Head::KDeclTag { .. } => DECL_TAG,
-        Head::KTypeTag { .. } => TYPE_TAG,
-        Head::KEnum64 { .. } => ENUM64,
-    }
-}
-
-/// The third word of a record: a size, a type or 0.
-pub(crate) fn head_third(head: Head<'_>) -> u32
-    ensures { result ≡ spec.head_third (head_value head.entry) }
-{
-    match head {
-        Head::KArray { .. } | Head::KFwd { .. } => 0,
-        Head::KInt { size, .. }
-        | Head::KStruct { size, .. }
-        | Head::KUnion { size, .. }
-        | Head::KEnum { size, .. }
-        | Head::KDatasec { size, .. }
-        | Head::KFloat { size, .. }
-        | Head::KEnum64 { size, .. } => size,
-        Head::KPtr { target }
-        | Head::KTypedef { target, .. }
-        | Head::KVolatile { target }
-        | Head::KConst { target }
-        | Head::KRestrict { target }
-        | Head::KFunc { target, .. }
-        | Head::KFuncProto { target }
-        | Head::KVar { target, .. }
-        | Head::KDeclTag { target, .. }
-        | Head::KTypeTag { target, .. } => target,
+        Head::KInt { size, .. } => (INT, size),
+        Head::KPtr { target } => (PTR, target),
+        Head::KArray { .. } => (ARRAY, 0),
+        Head::KStruct { size, .. } => (STRUCT, size),
+        Head::KUnion { size, .. } => (UNION, size),
+        Head::KEnum { size, .. } => (ENUM, size),
+        Head::KFwd { .. } => (FWD, 0),
+        Head::KTypedef { target, .. } => (TYPEDEF, target),
+        Head::KVolatile { target } => (VOLATILE, target),
+        Head::KConst { target } => (CONST, target),
+        Head::KRestrict { target } => (RESTRICT, target),
+        Head::KFunc { target, .. } => (FUNC, target),
+        Head::KFuncProto { target } => (FUNC_PROTO, target),
+        Head::KVar { target, .. } => (VAR, target),
+        Head::KDatasec { size, .. } => (DATASEC, size),
+        Head::KFloat { size, .. } => (FLOAT, size),
+        Head::KDeclTag { target, .. } => (DECL_TAG, target),
+        Head::KTypeTag { target, .. } => (TYPE_TAG, target),
+        Head::KEnum64 { size, .. } => (ENUM64, size),
     }
 }
 
@@ -90,14 +65,17 @@ fn head_vlen(head: Head<'_>, count: u32) -> u32
     }
 }
 
-/// The word info of a record with `count` items: kind_flag, kind and vlen.
-pub(crate) fn info_word(head: Head<'_>, count: u32, bit_fields: bool) -> u32
+/// The words info and third of a record with `count` items: kind_flag, kind and vlen, and a size, a type or 0.
+pub(crate) fn info_and_third(head: Head<'_>, count: u32, bit_fields: bool) -> (u32, u32)
     requires { count < 2 ^ 16 }
-    ensures { result ≡ spec.info (spec.kind_number (head_value head.entry)) (words.head_vlen (head_value head.entry) count) (canonical_flag (head_value head.entry) bit_fields) }
+    ensures info { result.0 ≡ spec.info (spec.kind_number (head_value head.entry)) (words.head_vlen (head_value head.entry) count) (canonical_flag (head_value head.entry) bit_fields) }
+    ensures third { result.1 ≡ spec.head_third (head_value head.entry) }
 {
-    head_vlen(head, count)
-        + (u32::from(kind_number(head)) << 24)
-        + (kind_flag(head, bit_fields) << 31)
+    let (kind, third) = kind_and_third(head);
+    let info = head_vlen(head, count)
+        + (u32::from(kind) << 24)
+        + (kind_flag(head, bit_fields) << 31);
+    (info, third)
 }
 
 /// The word after the third of an INT: its bits, its offset and its encoding.

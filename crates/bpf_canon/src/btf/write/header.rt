@@ -1,23 +1,29 @@
 //! The header of a file, and words of 32 bits.
-ghost use Rattle.std.specs.Prelude.{◌≡◌, ◌++◌, OnOk};
+ghost use Rattle.std.specs.Prelude.{◌≡◌, ◌≤◌, ◌++◌, OnOk, length};
 ghost use Rattle.btf_raw.specs.Header.{header};
 ghost use Rattle.btf_raw.specs.Frames.{bytes_of};
 
-use bpf_words::{Order, push16, push32};
+use bpf_words::{Order, push16};
+use byteorder::{BigEndian, ByteOrder, LittleEndian};
 use std::alloc::{AllocError, Allocator};
 
-/// Appends words of 32 bits.
+/// Appends at most six words of 32 bits, at once.
+#[inline(always)]
 pub(crate) fn push_words<A: Allocator>(
     out: &mut Vec<u8, A>,
     order: Order,
     words: &[u32],
 ) -> Result<(), AllocError>
+    requires { length words.now ≤ 6 }
     ensures { OnOk result (out.new.items ≡ out.old.items ++ bytes_of order words.now) }
 {
-    for word in words {
-        push32(out, order, *word)?;
+    let mut room = [0; 24];
+    let bytes = &mut room[..4 * words.len()];
+    match order {
+        Order::Little => LittleEndian::write_u32_into(words, bytes),
+        Order::Big => BigEndian::write_u32_into(words, bytes),
     }
-    Ok(())
+    out.extend_from_slice(bytes)
 }
 
 /// Appends the header of 24 bytes (btf.rst section 2): magic, version 1, flags 0, hdr_len, type_off 0, type_len, str_off = type_len

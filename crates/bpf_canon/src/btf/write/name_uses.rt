@@ -1,10 +1,9 @@
 //! The names of a section, noted by their offsets alone: no text is read (btf.rst section 2.2).
 ghost use Rattle.std.specs.Prelude.{◌≡◌, ◌≤◌, [], IfOk, OnOk, length};
 ghost use Rattle.btf_raw.specs.Frames.{vlen};
-ghost use Rattle.btf_types.specs.Reading.{frames_at, tabulate};
-ghost use Rattle.btf_types.specs.tables.TableInvariant.{IsTable};
+ghost use Rattle.btf_types.specs.Reading.{tabulate};
 ghost use Rattle.bpf_canon.specs.btf.strings.FirstUses.{noted_all};
-ghost use Rattle.bpf_canon.specs.btf.write.KeptFrames.{frame_in, HasRecord};
+ghost use Rattle.bpf_canon.specs.btf.write.KeptFrames.{AreTable, frames_of, frame_in, HasRecord};
 ghost use Rattle.bpf_canon.specs.btf.write.NameOffsets.{item_word, name_offsets, all_offsets, HasNamedItems};
 
 use crate::btf::strings::first_uses::FirstUses;
@@ -58,9 +57,9 @@ pub(crate) fn noted_names<A: Allocator + Copy>(
     alloc: A,
     sections: &FileSections<'_>,
 ) -> Result<FirstUses<A>, AllocError>
-    requires { IsTable sections.now.order sections.now.types.now sections.now.strings.now sections.now.places.now }
+    requires { AreTable sections.now }
     ensures section { IfOk result (λ uses. uses.section_len ≡ length sections.now.strings.now) }
-    ensures offsets { IfOk result (λ uses. uses.offsets ≡ noted_all [] (all_offsets (frames_at sections.now.order sections.now.types.now sections.now.places.now))) }
+    ensures offsets { IfOk result (λ uses. uses.offsets ≡ noted_all [] (all_offsets (frames_of sections.now))) }
 {
     let mut uses = FirstUses::new(alloc, sections.strings.len())?;
     for pos in sections.places {

@@ -3,51 +3,17 @@ ghost use Rattle.std.specs.Prelude.{◌≡◌, ◌+◌, ◌≤◌, ◌⊎◌, []
 ghost use Rattle.std.specs.List.{All, Contains};
 ghost use Rattle.btf_raw.specs.Frames.{bytes_of, section_of, info_word};
 ghost use Rattle.btf_types.specs.strings.SharedNames.{shared_place};
-ghost use Rattle.btf_types.specs.tables.TableInvariant.{IsTable};
-ghost use Rattle.btf_types.specs.Reading.{frames_at, records_at};
 ghost use Rattle.bpf_canon.specs.btf.CanonicalBtf.{record_words};
-ghost use Rattle.bpf_canon.specs.btf.write.KeptFrames.{frame_in, record_in, HasRecord, record_info, record_items, record_tail};
+ghost use Rattle.bpf_canon.specs.btf.write.KeptFrames.{AreTable, frames_of, records_of, frame_in, record_in, HasRecord, record_info, record_items, record_tail};
 ghost use Rattle.bpf_canon.specs.btf.write.NameOffsets.{HasNamedItems, HasNotedNames, all_offsets};
 ghost use Rattle.bpf_canon.specs.btf.strings.NamesByPlace.{placed_texts};
 
 use crate::btf::strings::places::SharedPlaces;
+use crate::btf::write::header::push_words;
 use bpf_words::{Order, push32};
 use btf_raw::info::{flag_of, has_item_names, is_struct, item_words, kind_of, tail_words, vlen_of};
 use btf_types::FileSections;
-use byteorder::{BigEndian, ByteOrder, LittleEndian};
 use std::alloc::{AllocError, Allocator};
-
-/// Appends three words.
-fn push_three<A: Allocator>(
-    out: &mut Vec<u8, A>,
-    order: Order,
-    words: [u32; 3],
-) -> Result<(), AllocError>
-    ensures { OnOk result (out.new.items ≡ out.old.items ++ bytes_of order words) }
-{
-    let mut bytes = [0; 12];
-    match order {
-        Order::Little => LittleEndian::write_u32_into(&words, &mut bytes),
-        Order::Big => BigEndian::write_u32_into(&words, &mut bytes),
-    }
-    out.extend_from_slice(&bytes)
-}
-
-/// Appends two words.
-fn push_two<A: Allocator>(
-    out: &mut Vec<u8, A>,
-    order: Order,
-    words: [u32; 2],
-) -> Result<(), AllocError>
-    ensures { OnOk result (out.new.items ≡ out.old.items ++ bytes_of order words) }
-{
-    let mut bytes = [0; 8];
-    match order {
-        Order::Little => LittleEndian::write_u32_into(&words, &mut bytes),
-        Order::Big => BigEndian::write_u32_into(&words, &mut bytes),
-    }
-    out.extend_from_slice(&bytes)
-}
 
 /// The canonical word info of a record: kind_flag of a STRUCT or UNION is 0 if no member has a width.
 fn canonical_info(sections: &FileSections<'_>, pos: usize, info: u32) -> u32
@@ -83,9 +49,9 @@ fn push_item<A: Allocator>(
 {
     let second = sections.word(pos, at + 1);
     if size == 2 {
-        return push_two(out, to, [name, second]);
+        return push_words(out, to, &[name, second]);
     }
-    push_three(out, to, [name, second, sections.word(pos, at + 2)])
+    push_words(out, to, &[name, second, sections.word(pos, at + 2)])
 }
 
 /// Appends the items of a record. Each item has `size` words, and the first is its name_off.
@@ -168,7 +134,7 @@ fn push_record<A: Allocator, B: Allocator + Copy>(
     let info = sections.word(pos, 1);
     let third = sections.word(pos, 2);
     let canonical = canonical_info(sections, pos, info);
-    push_three(out, to, [name, canonical, third])?;
+    push_words(out, to, &[name, canonical, third])?;
     push_tail(out, to, names, sections, pos, info)
 }
 
@@ -179,11 +145,11 @@ pub(crate) fn push_records<A: Allocator, B: Allocator + Copy>(
     names: &SharedPlaces<'_, B>,
     sections: &FileSections<'_>,
 ) -> Result<(), AllocError>
-    requires table { IsTable sections.now.order sections.now.types.now sections.now.strings.now sections.now.places.now }
+    requires table { AreTable sections.now }
     requires strings { names.now.strings ≡ sections.now.strings.now }
-    requires noted { All (Contains names.now.offsets) (all_offsets (frames_at sections.now.order sections.now.types.now sections.now.places.now)) }
+    requires noted { All (Contains names.now.offsets) (all_offsets (frames_of sections.now)) }
     ensures { OnOk result (out.new.items ≡ out.old.items ++ section_of to (map (record_words (shared_place (placed_texts names.now)))
-        (records_at sections.now.order sections.now.types.now sections.now.strings.now sections.now.places.now))) }
+        (records_of sections.now))) }
 {
     for pos in sections.places {
         push_record(out, to, names, sections, *pos as usize)?;

@@ -2,9 +2,8 @@
 ghost use Rattle.std.specs.Prelude.{◌≡◌, IfOk, map};
 ghost use Rattle.std.specs.List.{All, Contains};
 ghost use Rattle.btf_types.specs.Names.{kept, names};
-ghost use Rattle.btf_types.specs.tables.TableInvariant.{IsTable};
-ghost use Rattle.btf_types.specs.Reading.{frames_at, records_at};
 ghost use Rattle.bpf_canon.specs.btf.CanonicalBtf.{canonical};
+ghost use Rattle.bpf_canon.specs.btf.write.KeptFrames.{AreTable, frames_of, records_of};
 ghost use Rattle.bpf_canon.specs.btf.write.NameOffsets.{all_offsets};
 ghost use Rattle.bpf_canon.specs.btf.strings.NamesByPlace.{placed_texts};
 
@@ -23,11 +22,11 @@ fn write_placed<A: Allocator + Copy>(
     placed: &SharedPlaces<'_, A>,
     sections: &FileSections<'_>,
 ) -> Result<Vec<u8, A>, AllocError>
-    requires table { IsTable sections.now.order sections.now.types.now sections.now.strings.now sections.now.places.now }
+    requires table { AreTable sections.now }
     requires strings { placed.now.strings ≡ sections.now.strings.now }
-    requires noted { All (Contains placed.now.offsets) (all_offsets (frames_at sections.now.order sections.now.types.now sections.now.places.now)) }
-    requires kept { kept (placed_texts placed.now) ≡ kept (names (records_at sections.now.order sections.now.types.now sections.now.strings.now sections.now.places.now)) }
-    ensures { IfOk result (λ bytes. bytes.items ≡ canonical to (records_at sections.now.order sections.now.types.now sections.now.strings.now sections.now.places.now)) }
+    requires noted { All (Contains placed.now.offsets) (all_offsets (frames_of sections.now)) }
+    requires kept { kept (placed_texts placed.now) ≡ kept (names (records_of sections.now)) }
+    ensures { IfOk result (λ bytes. bytes.items ≡ canonical to (records_of sections.now)) }
 {
     let types_len = sections.types.len();
     let table_len = placed.table_len();
@@ -44,8 +43,8 @@ pub(crate) fn write_sections<A: Allocator + Copy>(
     to: Order,
     sections: &FileSections<'_>,
 ) -> Result<Vec<u8, A>, AllocError>
-    requires { IsTable sections.now.order sections.now.types.now sections.now.strings.now sections.now.places.now }
-    ensures { IfOk result (λ bytes. bytes.items ≡ canonical to (records_at sections.now.order sections.now.types.now sections.now.strings.now sections.now.places.now)) }
+    requires { AreTable sections.now }
+    ensures { IfOk result (λ bytes. bytes.items ≡ canonical to (records_of sections.now)) }
 {
     let uses = noted_names(alloc, sections)?;
     let placed = SharedPlaces::find(alloc, sections.strings, uses)?;

@@ -16,7 +16,7 @@ ghost use Rattle.bpf_canon.specs.btf.CanonicalBtf.{canonical, words_of_item, rec
 
 use crate::btf::names::kept::kept_names;
 use crate::btf::names::shared::SharedNames;
-use crate::btf::write::head_words::{component_word, head_third, info_word, int_word};
+use crate::btf::write::head_words::{component_word, info_and_third, int_word};
 use crate::btf::write::header::{push_header, push_words};
 use crate::btf::write::sections::write_sections;
 use bpf_words::Order;
@@ -62,9 +62,8 @@ fn push_head<A: Allocator, B: Allocator + Copy>(
     requires placed { IsPlaced names.now (spec.head_name (head_value head)) }
     ensures { OnOk result (out.new.items ≡ out.old.items ++ bytes_of order (head_words (shared_among names.now) (head_value head.entry) count bit_fields)) }
 {
-    let name_off = names.place(head.name());
-    let info = info_word(head, count, bit_fields);
-    push_words(out, order, &[name_off, info, head_third(head)])?;
+    let (info, third) = info_and_third(head, count, bit_fields);
+    push_words(out, order, &[names.place(head.name()), info, third])?;
     push_further_words(out, order, head)
 }
 
@@ -168,37 +167,6 @@ fn write_types<T: TypeTable, A: Allocator + Copy>(
     Ok(types)
 }
 
-/// The names of a table with their places.
-fn shared_names<'t, T: TypeTable, A: Allocator + Copy>(
-    alloc: A,
-    table: &'t T,
-) -> Result<SharedNames<'t, A>, AllocError>
-    requires { IsGood (T.meaning table.now) }
-    ensures { IfOk result (λ found. found ≡ kept (spec.names (T.meaning table.now))) }
-{
-    let kept = kept_names(alloc, table)?;
-    SharedNames::new(alloc, kept)
-}
-
-/// The canonical bytes of a table whose names these are.
-fn write_named<T: TypeTable, A: Allocator + Copy>(
-    alloc: A,
-    order: Order,
-    names: &SharedNames<'_, A>,
-    table: &T,
-) -> Result<Vec<u8, A>, AllocError>
-    requires good { IsGood (T.meaning table.now) }
-    requires kept { names.now ≡ kept (spec.names (T.meaning table.now)) }
-    ensures { IfOk result (λ bytes. bytes.items ≡ canonical order (T.meaning table.now)) }
-{
-    let types = write_types(alloc, order, names, table)?;
-    let mut bytes = Vec::new(alloc);
-    push_header(&mut bytes, order, types.len() as u32, names.table_len())?;
-    bytes.extend_from_slice(types.as_slice())?;
-    names.push_table(&mut bytes)?;
-    Ok(bytes)
-}
-
 /// The canonical bytes of a table that lends no sections: its names are read as texts.
 fn write_table<T: TypeTable, A: Allocator + Copy>(
     alloc: A,
@@ -208,8 +176,14 @@ fn write_table<T: TypeTable, A: Allocator + Copy>(
     requires { IsGood (T.meaning table.now) }
     ensures { IfOk result (λ bytes. bytes.items ≡ canonical order (T.meaning table.now)) }
 {
-    let names = shared_names(alloc, table)?;
-    write_named(alloc, order, &names, table)
+    let kept = kept_names(alloc, table)?;
+    let names = SharedNames::new(alloc, kept)?;
+    let types = write_types(alloc, order, &names, table)?;
+    let mut bytes = Vec::new(alloc);
+    push_header(&mut bytes, order, types.len() as u32, names.table_len())?;
+    bytes.extend_from_slice(types.as_slice())?;
+    names.push_table(&mut bytes)?;
+    Ok(bytes)
 }
 
 /// The canonical bytes of a table of types in the given order (btf.rst section 2): a header of 24 bytes, the records, and the

@@ -23,7 +23,7 @@ returns g c =
     let at : c.place-name.result ≡ place (text_from s.strings.now (name_word f)) =
     c.place-name.ensures ∙ ap (λ (t : List ℕ). place (text_from t c.word.result)) c.requires.noted.strings ∙ ap (λ (w : ℕ). place (text_from s.strings.now w)) c.word.ensures in
     on_ok_weaker c.push_tail.result
-    (λ e. e ∙ ap (λ (t : List ℕ). t ++ bytes_of c.args.to (record_tail place (record_in s c.args.pos))) c.in_ok-push_three.ensures
+    (λ e. e ∙ ap (λ (t : List ℕ). t ++ bytes_of c.args.to (record_tail place (record_in s c.args.pos))) c.in_ok-push_words.ensures
     ∙ record_pushed c.args.to c.args.out.now.items place s.strings.now f c.place-name.result c.canonical_info-canonical.result c.word-third.result
     c.requires.record.ends c.requires.record.spelled at c.canonical_info-canonical.ensures c.word-third.ensures)
     c.push_tail.ensures

@@ -1,0 +1,121 @@
+-- The search for the host of each name by its index, over the sorted names from the last one back.
+use Rattle.std.proofs.Common.{◌≡◌, ◌≢◌, ℕ, ◌+◌, ◌<◌, ◌≤◌, ◌&&◌, Bool, true, false, inl, inr, List, [], length, map, get_or, set, refl, sym, ap, ◌∙◌, subst, arith, Bor}
+use Rattle.std.proofs.lemmas.Bool.{cases_eq}
+use Rattle.std.proofs.lemmas.List.{get_or-set_same, get_or-set_other, length-set, length-map, get_or-map, get_or_default, get_or_read}
+use Rattle.btf_types.specs.Names.{is_other}
+use Rattle.btf_types.specs.strings.SharedNames.{is_suffix, is_proper_suffix, hosts_of, host_in}
+use Rattle.btf_types.proofs.StringLemmas.Suffixes.{Ends-from_suffix, proper_from_Ends}
+use Rattle.btf_types.proofs.StringLemmas.Distinct.{NoRepeats, apart_after}
+use Rattle.btf_types.proofs.StringLemmas.Neighbours.{next_host, own_host}
+use Rattle.bpf_canon.specs.btf.names.Interned.{AreIndexed, HaveHosts, name_at}
+
+abbrev pub Named : Type 0
+Named = Bor (List ℕ) × ℕ
+
+abbrev pub texts : List Named → List (List ℕ)
+texts sorted = map (λ (s : Named). s.0.now) sorted
+
+-- the name of this index has its host
+pub record IsHostAt (ks : List (List ℕ)) (hosts : List ℕ) (i : ℕ) : Type 0 where
+  pub inside : get_or hosts i 0 < length ks
+  pub host : name_at ks (get_or hosts i 0) ≡ host_in (hosts_of ks) (name_at ks i)
+
+-- so have the names from this rank on
+pub record HostsFrom (ks : List (List ℕ)) (sorted : List Named) (hosts : List ℕ) (k : ℕ) : Type 0 where
+  pub whole : length hosts ≡ length ks
+  pub after : (j : ℕ) (d : Named) → k ≤ j → j < length sorted → IsHostAt ks hosts ((get_or sorted j d).1)
+
+pub hosts_none : (ks : List (List ℕ)) (sorted : List Named) (hosts : List ℕ) → length hosts ≡ length ks → HostsFrom ks sorted hosts (length sorted)
+hosts_none ks sorted hosts long = record { whole = long; after = λ j d h l. absurd (omega (arith, h, l)) }
+
+module _ (ks : List (List ℕ)) (sorted : List Named) (apart : NoRepeats ks) (are : AreIndexed ks sorted) where
+  text_at : (k : ℕ) (e : Named) → k < length sorted → get_or (texts sorted) k e.0.now ≡ (get_or sorted k e).0.now
+  text_at k e h = get_or-map (λ (s : Named). s.0.now) sorted k e e.0.now h
+
+  long : length (texts sorted) ≡ length sorted
+  long = length-map sorted (λ (s : Named). s.0.now)
+
+  pub name_is : (k : ℕ) (e : Named) → k < length sorted → name_at ks ((get_or sorted k e).1) ≡ (get_or sorted k e).0.now
+  name_is k e h = are.names k e h
+
+  pub index_inside : (k : ℕ) (e : Named) → k < length sorted → (get_or sorted k e).1 < length ks
+  index_inside k e h = are.inside k e h
+
+  -- one name more
+  pub host_put : (hosts : List ℕ) (k h : ℕ) (e : Named) → HostsFrom ks sorted hosts (k + 1) → k < length sorted → h < length ks → name_at ks h ≡ host_in (hosts_of ks) (name_at ks ((get_or sorted k e).1)) → HostsFrom ks sorted (set hosts ((get_or sorted k e).1) h) k
+  host_put hosts k h e f low inside is =
+      let index = (get_or sorted k e).1 in
+      let here : get_or (set hosts index h) index 0 ≡ h = get_or-set_same hosts index h 0 (omega (arith, index_inside k e low, f.whole)) in
+      let mine : IsHostAt ks (set hosts index h) index = record { inside = subst (λ (n : ℕ). n < length ks) (sym here) inside; host = ap (name_at ks) here ∙ is } in
+      record {
+        whole = length-set hosts index h ∙ f.whole;
+        after = λ j d a b. elim (cases_eq ((get_or sorted j d).1) index) [
+          | inl q ↦ subst (IsHostAt ks (set hosts index h)) (sym q) mine
+          | inr n ↦
+              let later : k + 1 ≤ j = elim (cases_eq j k) [
+                | inl s ↦ absurd (n (ap (λ (m : ℕ). (get_or sorted m d).1) s ∙ ap (λ (p : Named). p.1) (get_or_default sorted k d e low)))
+                | inr s ↦ omega (arith, a, s)
+              ] in
+              let old = f.after j d later b in
+              let same : get_or (set hosts index h) ((get_or sorted j d).1) 0 ≡ get_or hosts ((get_or sorted j d).1) 0 = get_or-set_other hosts index ((get_or sorted j d).1) h 0 n in
+              record { inside = subst (λ (m : ℕ). m < length ks) (sym same) old.inside; host = ap (name_at ks) same ∙ old.host }
+        ];
+      }
+
+  proper : (k : ℕ) (e : Named) → k + 1 < length sorted → is_suffix ((get_or sorted k e).0.now) ((get_or sorted (k + 1) e).0.now) ≡ true → is_proper_suffix (get_or (texts sorted) k e.0.now) (get_or (texts sorted) (k + 1) e.0.now) ≡ true
+  proper k e low t =
+      let this = text_at k e (omega (arith, low)) in
+      let next = text_at (k + 1) e low in
+      let ends : is_suffix (get_or (texts sorted) k e.0.now) (get_or (texts sorted) (k + 1) e.0.now) ≡ true = ap (λ (x : List ℕ). is_suffix x (get_or (texts sorted) (k + 1) e.0.now)) this ∙ ap (is_suffix ((get_or sorted k e).0.now)) next ∙ t in
+      proper_from_Ends _ _ (Ends-from_suffix _ _ ends) (apart_after ks (texts sorted) apart are.permutation k (k + 1) e.0.now (omega arith) (omega (arith, low, long)))
+
+  -- a name that ends the next one has its host, and another name is its own
+  pub host_next : (hosts : List ℕ) (k : ℕ) (e : Named) → HostsFrom ks sorted hosts (k + 1) → k + 1 < length sorted → is_suffix ((get_or sorted k e).0.now) ((get_or sorted (k + 1) e).0.now) ≡ true
+      → HostsFrom ks sorted (set hosts ((get_or sorted k e).1) (get_or hosts ((get_or sorted (k + 1) e).1) 0)) k
+  host_next hosts k e f low t =
+      let low_here : k < length sorted = omega (arith, low) in
+      let next = f.after (k + 1) e (omega arith) low in
+      let shared = next_host ks (texts sorted) apart are.permutation are.in_order k e.0.now (omega (arith, low, long)) (proper k e low t) in
+      host_put hosts k (get_or hosts ((get_or sorted (k + 1) e).1) 0) e f low_here next.inside
+      (next.host ∙ ap (host_in (hosts_of ks)) (name_is (k + 1) e low ∙ sym (text_at (k + 1) e low)) ∙ sym shared ∙ ap (host_in (hosts_of ks)) (text_at k e low_here ∙ sym (name_is k e low_here)))
+
+  pub host_own : (hosts : List ℕ) (k : ℕ) (e : Named) → HostsFrom ks sorted hosts (k + 1) → k < length sorted → (k + 1 < length sorted → is_suffix ((get_or sorted k e).0.now) ((get_or sorted (k + 1) e).0.now) ≡ false)
+      → HostsFrom ks sorted (set hosts ((get_or sorted k e).1) ((get_or sorted k e).1)) k
+  host_own hosts k e f low differs =
+      let none : k + 1 < length (texts sorted) → is_proper_suffix (get_or (texts sorted) k e.0.now) (get_or (texts sorted) (k + 1) e.0.now) ≡ false = λ m.
+      let more : k + 1 < length sorted = omega (arith, m, long) in
+      let here : is_suffix (get_or (texts sorted) k e.0.now) (get_or (texts sorted) (k + 1) e.0.now) ≡ false = ap (λ (x : List ℕ). is_suffix x (get_or (texts sorted) (k + 1) e.0.now)) (text_at k e low) ∙ ap (is_suffix ((get_or sorted k e).0.now)) (text_at (k + 1) e more) ∙ differs more in
+      ap (λ (b : Bool). b && is_other (get_or (texts sorted) k e.0.now) (get_or (texts sorted) (k + 1) e.0.now)) here in
+      let own = own_host ks (texts sorted) apart are.permutation are.in_order k e.0.now (omega (arith, low, long)) none in
+      host_put hosts k ((get_or sorted k e).1) e f low (index_inside k e low)
+      (name_is k e low ∙ sym (text_at k e low) ∙ sym own ∙ ap (host_in (hosts_of ks)) (text_at k e low ∙ sym (name_is k e low)))
+
+  -- the same in the form that the code gives it: what was read of the sorted names and of the hosts
+  pub host_next_read : (hosts : List ℕ) (k h : ℕ) (p q : Named) → HostsFrom ks sorted hosts (k + 1) → k + 1 < length sorted → p ≡ get_or sorted k p → q ≡ get_or sorted (k + 1) q → is_suffix p.0.now q.0.now ≡ true → h ≡ get_or hosts q.1 h
+      → HostsFrom ks sorted (set hosts p.1 h) k
+  host_next_read hosts k h p q f low p_is q_is t h_is =
+      let next : get_or sorted (k + 1) p ≡ q = get_or_default sorted (k + 1) p q low ∙ sym q_is in
+      let inside : q.1 < length hosts = omega (arith, index_inside (k + 1) q low, f.whole, ap (λ (s : Named). s.1) q_is) in
+      let value : get_or hosts ((get_or sorted (k + 1) p).1) 0 ≡ h = ap (λ (s : Named). get_or hosts s.1 0) next ∙ sym (get_or_read hosts q.1 h inside h_is 0) in
+      let ends : is_suffix ((get_or sorted k p).0.now) ((get_or sorted (k + 1) p).0.now) ≡ true = ap (λ (s : Named). is_suffix s.0.now ((get_or sorted (k + 1) p).0.now)) (sym p_is) ∙ ap (λ (s : Named). is_suffix p.0.now s.0.now) next ∙ t in
+      subst (λ (s : Named). HostsFrom ks sorted (set hosts s.1 h) k) (sym p_is) (subst (λ (n : ℕ). HostsFrom ks sorted (set hosts ((get_or sorted k p).1) n) k) value (host_next hosts k p f low ends))
+
+  pub host_own_read : (hosts : List ℕ) (k h : ℕ) (p : Named) → HostsFrom ks sorted hosts (k + 1) → k < length sorted → p ≡ get_or sorted k p → ((q : Named) → k + 1 < length sorted → q ≡ get_or sorted (k + 1) q → is_suffix p.0.now q.0.now ≡ false) → h ≡ p.1
+      → HostsFrom ks sorted (set hosts p.1 h) k
+  host_own_read hosts k h p f low p_is differs h_is =
+      let none : k + 1 < length sorted → is_suffix ((get_or sorted k p).0.now) ((get_or sorted (k + 1) p).0.now) ≡ false = λ m.
+      ap (λ (s : Named). is_suffix s.0.now ((get_or sorted (k + 1) p).0.now)) (sym p_is) ∙ differs (get_or sorted (k + 1) p) m (get_or_default sorted (k + 1) p (get_or sorted (k + 1) p) m) in
+      subst (λ (n : ℕ). HostsFrom ks sorted (set hosts p.1 n) k) (sym h_is) (subst (λ (s : Named). HostsFrom ks sorted (set hosts s.1 s.1) k) (sym p_is) (host_own hosts k p f low none))
+
+  pub hosts_all : (hosts : List ℕ) → HostsFrom ks sorted hosts 0 → HaveHosts ks hosts
+  hosts_all hosts f = record {
+    whole = f.whole;
+    inside = λ i h. (its i h).inside;
+    each = λ i h. (its i h).host;
+  } where
+    its : (i : ℕ) → i < length ks → IsHostAt ks hosts i
+    its i h =
+        let e : Named = (record { ref_ptr = (0, 0); now = [] }, 0) in
+        let at = are.each i h in
+        let low : at.0 < length sorted = omega (arith, at.1, length-map sorted (λ (s : Named). s.1)) in
+        subst (IsHostAt ks hosts) (sym (get_or-map (λ (s : Named). s.1) sorted at.0 e i low) ∙ at.2) (f.after at.0 e (omega arith) low)

@@ -1,0 +1,176 @@
+-- The places of hosts in their table, in the order of the names, and the place of each name.
+use Rattle.std.proofs.Common.{Bor, ◌≡◌, ◌≢◌, ℕ, zero, suc, ◌+◌, ◌-◌, ◌<◌, ◌≤◌, ◌^◌, Bool, true, false, inl, inr, List, [], ◌∷◌, ◌++◌, length, get_or, set, take, drop, refl, sym, ap, ◌∙◌, subst, arith, append_assoc, append-nil}
+use Rattle.std.specs.List.{filter, flat_map}
+use Rattle.std.proofs.lemmas.List.Concat.{flat_map-append}
+use Rattle.std.specs.Str.{bytes_eq}
+use Rattle.std.proofs.lemmas.Bool.{cases_eq, cases_lt, false_from_ne_true, not-true}
+use Rattle.std.proofs.lemmas.List.{get_or-set_same, get_or-set_other, length-set, take-append-drop, take_all, get_or_read, get_or_default}
+use Rattle.std.proofs.lemmas.List.Elements.{filter-append}
+use Rattle.std.proofs.lemmas.List.Sorted.{IsPermutation-refl}
+use Rattle.btf_types.specs.Names.{with_nul, table_of, place_in}
+use Rattle.btf_types.specs.strings.SharedNames.{hosts_of, host_in, shared_among}
+use Rattle.btf_types.proofs.Members.{Has, Has-get_or, Has-from_filter}
+use Rattle.btf_types.proofs.StringLemmas.Texts.{same_text, bytes_eq-same}
+use Rattle.btf_types.proofs.StringLemmas.Suffixes.{Ends-length}
+use Rattle.btf_types.proofs.StringLemmas.Hosts.{host_is, own_host_of}
+use Rattle.btf_types.proofs.StringLemmas.Distinct.{NoRepeats, apart_after}
+use Rattle.bpf_canon.specs.btf.names.Interned.{lent_texts, HaveHosts, ArePlacedHosts, AreShared, name_at}
+use Rattle.bpf_canon.proofs.BtfLemmas.Names.KeptSteps.{place_stays, place_last, length-table_push}
+use Rattle.bpf_canon.proofs.BtfLemmas.Names.HostSearch.{text_at, texts_length}
+use Rattle.bpf_canon.proofs.BtfLemmas.Names.SharedSteps.{place_room}
+use Rattle.bpf_canon.proofs.BtfLemmas.Names.Gathering.{Has-front, Has-back}
+use Rattle.bpf_canon.proofs.BtfLemmas.Names.HostSteps.{keeps, own_host_test, hosts_among, hosts_among_more, hosts_among_same, hosts_among_room}
+
+-- names that are apart have one index each
+pub index_is : (ks : List (List ℕ)) → NoRepeats ks → (i j : ℕ) → i < length ks → j < length ks → name_at ks i ≡ name_at ks j → i ≡ j
+index_is ks apart i j a b e = elim (cases_eq i j) [
+  | inl q ↦ q
+  | inr n ↦ elim (cases_lt i j) [
+    | inl l ↦ absurd (apart_after ks ks apart (IsPermutation-refl ks) i j [] l b e)
+    | inr m ↦ absurd (apart_after ks ks apart (IsPermutation-refl ks) j i [] (omega (arith, m, n)) a (sym e))
+  ]
+]
+
+not_before : (ks : List (List ℕ)) (k : ℕ) → NoRepeats ks → k < length ks → ¬ Has (take k ks) (name_at ks k)
+not_before [] k n h = absurd (omega (arith, h))
+not_before (x ∷ xs) zero n h = λ i. i
+not_before (x ∷ xs) (suc k) (n, ns) h = λ i. elim i [
+  | inl e ↦ n (subst (Has xs) (sym e) (Has-get_or xs k [] (omega (arith, h))))
+  | inr r ↦ not_before xs k ns (omega (arith, h)) r
+]
+
+place_stays_all : (rest ks : List (List ℕ)) (y : List ℕ) → Has ks y → place_in (ks ++ rest) y ≡ place_in ks y
+place_stays_all [] ks y h = ap (λ (l : List (List ℕ)). place_in l y) (append-nil ks)
+place_stays_all (r ∷ rest) ks y h =
+    ap (λ (l : List (List ℕ)). place_in l y) (sym (append_assoc ks (r ∷ []) rest)) ∙ place_stays_all rest (ks ++ r ∷ []) y (Has-front ks (r ∷ []) y h) ∙ place_stays ks r y h
+
+-- the hosts among the first k names have their places, and their table has this length
+pub record PlacedTo (ks : List (List ℕ)) (hosts places : List ℕ) (table_len k : ℕ) : Type 0 where
+  pub whole : length places ≡ length ks
+  pub each : (i : ℕ) → i < k → get_or hosts i 0 ≡ i → get_or places i 0 ≡ length (table_of (hosts_among ks i))
+  pub long : table_len ≡ length (table_of (hosts_among ks k))
+
+module _ (ks : List (List ℕ)) (hosts : List ℕ) (apart : NoRepeats ks) (have : HaveHosts ks hosts) where
+  pub keeps_own : (i : ℕ) → i < length ks → get_or hosts i 0 ≡ i → keeps ks (name_at ks i) ≡ true
+  keeps_own i h e =
+      let x = name_at ks i in
+      let same : host_in (hosts_of ks) x ≡ x = sym (have.each i h) ∙ ap (name_at ks) e in
+      sym (own_host_test ks x (Has-get_or ks i [] h)) ∙ ap (λ (y : List ℕ). bytes_eq y x) same ∙ bytes_eq-same x
+
+  pub keeps_other : (i : ℕ) → i < length ks → get_or hosts i 0 ≢ i → keeps ks (name_at ks i) ≡ false
+  keeps_other i h n =
+      let x = name_at ks i in
+      sym (own_host_test ks x (Has-get_or ks i [] h))
+      ∙ false_from_ne_true (bytes_eq (host_in (hosts_of ks) x) x) (λ t. n (index_is ks apart (get_or hosts i 0) i (have.inside i h) h (have.each i h ∙ same_text _ x t)))
+
+  pub placed_own : (places : List ℕ) (len k : ℕ) → PlacedTo ks hosts places len k → k < length ks → get_or hosts k 0 ≡ k → PlacedTo ks hosts (set places k len) (len + (length (name_at ks k) + 1)) (k + 1)
+  placed_own places len k to low e = record {
+    whole = length-set places k len ∙ to.whole;
+    each = λ i h o. elim (cases_eq i k) [
+      | inl q ↦ ap (λ (m : ℕ). get_or (set places k len) m 0) q ∙ get_or-set_same places k len 0 (omega (arith, low, to.whole)) ∙ to.long ∙ ap (λ (m : ℕ). length (table_of (hosts_among ks m))) (sym q)
+      | inr n ↦ get_or-set_other places k i len 0 n ∙ to.each i (omega (arith, h, n)) o
+    ];
+    long = ap (λ (m : ℕ). m + (length (name_at ks k) + 1)) to.long ∙ sym (length-table_push (hosts_among ks k) (name_at ks k)) ∙ ap (λ (l : List (List ℕ)). length (table_of l)) (sym (hosts_among_more ks k [] low (keeps_own k low e)));
+  }
+
+  pub placed_room : (places : List ℕ) (len k : ℕ) → PlacedTo ks hosts places len k → k < length ks → get_or hosts k 0 ≡ k → len + (length (name_at ks k) + 1) ≤ length (table_of (hosts_of ks))
+  placed_room places len k to low e = let more = (placed_own places len k to low e).long in omega (arith, more, hosts_among_room ks (k + 1))
+
+  pub placed_other : (places : List ℕ) (len k : ℕ) → PlacedTo ks hosts places len k → k < length ks → get_or hosts k 0 ≢ k → PlacedTo ks hosts places len (k + 1)
+  placed_other places len k to low n = record {
+    whole = to.whole;
+    each = λ i h o. elim (cases_eq i k) [
+      | inl q ↦ absurd (n (subst (λ (m : ℕ). get_or hosts m 0 ≡ m) q o))
+      | inr d ↦ to.each i (omega (arith, h, d)) o
+    ];
+    long = to.long ∙ ap (λ (l : List (List ℕ)). length (table_of l)) (sym (hosts_among_same ks k [] low (keeps_other k low n)));
+  }
+
+  all_among : hosts_among ks (length ks) ≡ hosts_of ks
+  all_among = ap (filter (keeps ks)) (take_all (length ks) ks (omega arith))
+
+  pub placed_all : (places : List ℕ) (len : ℕ) → PlacedTo ks hosts places len (length ks) → ArePlacedHosts ks hosts places len
+  placed_all places len to = record {
+    whole = to.whole;
+    each = λ i h o.
+        let x = name_at ks i in
+        let rest = filter (keeps ks) (drop (i + 1) ks) in
+        let front = hosts_among ks i in
+        let more : hosts_among ks (i + 1) ≡ front ++ x ∷ [] = hosts_among_more ks i [] h (keeps_own i h o) in
+        let split : hosts_of ks ≡ (front ++ x ∷ []) ++ rest = ap (filter (keeps ks)) (sym (take-append-drop (i + 1) ks)) ∙ filter-append (keeps ks) (take (i + 1) ks) (drop (i + 1) ks) ∙ ap (λ (l : List (List ℕ)). l ++ rest) more in
+        let none : ¬ Has front x = λ y. not_before ks i apart h ((Has-from_filter (keeps ks) (take i ks) x y).0) in
+        to.each i h o ∙ sym (ap (λ (l : List (List ℕ)). place_in l x) split ∙ place_stays_all rest (front ++ x ∷ []) x (Has-back front (x ∷ []) x (inl refl)) ∙ place_last front x none);
+    long = to.long ∙ ap (λ (l : List (List ℕ)). length (table_of l)) all_among;
+  }
+
+-- one name more in a table
+pub table_more : (out old : List ℕ) (hs : List (List ℕ)) (x : List ℕ) → out ≡ old ++ table_of hs → (out ++ x) ++ 0 ∷ [] ≡ old ++ table_of (hs ++ x ∷ [])
+table_more out old hs x e =
+    ap (λ (l : List ℕ). (l ++ x) ++ 0 ∷ []) e
+    ∙ append_assoc (old ++ table_of hs) x (0 ∷ [])
+    ∙ append_assoc old (table_of hs) (x ++ 0 ∷ [])
+    ∙ ap (λ (t : List ℕ). old ++ 0 ∷ t) (sym (flat_map-append with_nul hs (x ∷ []) ∙ ap (λ (t : List ℕ). flat_map with_nul hs ++ t) (append-nil (with_nul x))))
+
+-- a name that isn't empty, the index of its host, and the place of the host
+pub record HasPlace (ks : List (List ℕ)) (hosts places : List ℕ) (x : List ℕ) (i : ℕ) : Type 0 where
+  pub inside : get_or hosts i 0 < length ks
+  pub shorter : length x ≤ length (name_at ks (get_or hosts i 0))
+  pub fits : get_or places (get_or hosts i 0) 0 + length (name_at ks (get_or hosts i 0)) < length (table_of (hosts_of ks))
+  pub place : get_or places (get_or hosts i 0) 0 + (length (name_at ks (get_or hosts i 0)) - length x) ≡ shared_among ks x
+
+in_shared : (ks : List (List ℕ)) (x h : List ℕ) (n : ℕ) → 0 < length x → h ≡ host_in (hosts_of ks) x → n ≡ place_in (hosts_of ks) h → n + (length h - length x) ≡ shared_among ks x
+in_shared ks [] h n some is place = absurd (omega (arith, some))
+in_shared ks (b ∷ bytes) h n some is place =
+    let x : List ℕ = b ∷ bytes in
+    ap (λ (m : ℕ). m + (length h - length x)) place ∙ ap (λ (g : List ℕ). place_in (hosts_of ks) g + (length g - length x)) is
+
+pub has_place : (ks : List (List ℕ)) (hosts places : List ℕ) (table_len : ℕ) → NoRepeats ks → AreShared ks hosts places table_len → (x : List ℕ) (i : ℕ) → i < length ks → name_at ks i ≡ x → 0 < length x → HasPlace ks hosts places x i
+has_place ks hosts places table_len apart are x i low is some =
+    let h = get_or hosts i 0 in
+    let name = name_at ks h in
+    let have = are.have_hosts in
+    let inside = have.inside i low in
+    let has_x : Has ks x = subst (Has ks) is (Has-get_or ks i [] low) in
+    let host : name ≡ host_in (hosts_of ks) x = have.each i low ∙ ap (host_in (hosts_of ks)) is in
+    let its = host_is ks x has_x in
+    let in_hosts : Has (hosts_of ks) name = subst (Has (hosts_of ks)) (sym host) its.host in
+    let alone = not-true _ ((Has-from_filter (keeps ks) ks name in_hosts).1) in
+    let own : get_or hosts h 0 ≡ h = index_is ks apart (get_or hosts h 0) h (have.inside h inside) inside (have.each h inside ∙ own_host_of ks name (Has-get_or ks h [] inside) alone) in
+    let place = are.are_placed.each h inside own in
+    record {
+      inside = inside;
+      shorter = omega (arith, Ends-length x (host_in (hosts_of ks) x) its.ends, ap (λ (t : List ℕ). length t) host);
+      fits = omega (arith, place, place_room (hosts_of ks) name in_hosts);
+      place = in_shared ks x name (get_or places h 0) some host place;
+    }
+
+-- the same in the form that the code gives it: the names that are lent, and what was read of the hosts and of their places
+pub record ReadsPlace (ks : List (List ℕ)) (names : List (Bor (List ℕ))) (x : List ℕ) (h n : ℕ) (d : Bor (List ℕ)) : Type 0 where
+  pub shorter : length x ≤ length ((get_or names h d).now)
+  pub fits : n + length ((get_or names h d).now) < 2 ^ 32
+  pub place : n + (length ((get_or names h d).now) - length x) ≡ shared_among ks x
+
+pub reads_place : (ks : List (List ℕ)) (names : List (Bor (List ℕ))) (hosts places : List ℕ) (table_len i h n : ℕ) (x : List ℕ) (d : Bor (List ℕ)) → d.now ≡ [] → lent_texts names ≡ ks → NoRepeats ks → AreShared ks hosts places table_len
+    → i < length ks → name_at ks i ≡ x → 0 < length x → h ≡ get_or hosts i h → n ≡ get_or places h n → ReadsPlace ks names x h n d
+reads_place ks names hosts places table_len i h n x d none same apart are low is some h_is n_is =
+    let p = has_place ks hosts places table_len apart are x i low is some in
+    let host : h ≡ get_or hosts i 0 = get_or_read hosts i h (omega (arith, low, are.have_hosts.whole)) h_is 0 in
+    let inside : h < length ks = omega (arith, host, p.inside) in
+    let place : n ≡ get_or places (get_or hosts i 0) 0 = get_or_read places h n (omega (arith, inside, are.are_placed.whole)) n_is 0 ∙ ap (λ (m : ℕ). get_or places m 0) host in
+    let text : (get_or names h d).now ≡ name_at ks (get_or hosts i 0) =
+    sym (text_at names h d (omega (arith, inside, texts_length names, ap (λ (l : List (List ℕ)). length l) same))) ∙ ap (λ (l : List (List ℕ)). get_or l h d.now) same ∙ ap (λ (t : List ℕ). get_or ks h t) none ∙ ap (name_at ks) host in
+    let long = ap (λ (t : List ℕ). length t) text in
+    record {
+      shorter = omega (arith, long, p.shorter);
+      fits = omega (arith, long, place, p.fits, are.are_placed.long, are.room);
+      place = ap (λ (m : ℕ). m + (length ((get_or names h d).now) - length x)) place ∙ ap (λ (m : ℕ). get_or places (get_or hosts i 0) 0 + (m - length x)) long ∙ p.place;
+    }
+
+-- before the place of the host is read
+pub reads_shorter : (ks : List (List ℕ)) (names : List (Bor (List ℕ))) (hosts places : List ℕ) (table_len i h : ℕ) (x : List ℕ) (d : Bor (List ℕ)) → d.now ≡ [] → lent_texts names ≡ ks → NoRepeats ks → AreShared ks hosts places table_len
+    → i < length ks → name_at ks i ≡ x → 0 < length x → h ≡ get_or hosts i h → length x ≤ length ((get_or names h d).now)
+reads_shorter ks names hosts places table_len i h x d none same apart are low is some h_is =
+    let p = has_place ks hosts places table_len apart are x i low is some in
+    let host : h ≡ get_or hosts i 0 = get_or_read hosts i h (omega (arith, low, are.have_hosts.whole)) h_is 0 in
+    let there : get_or places h 0 ≡ get_or places h (get_or places h 0) = get_or_default places h 0 (get_or places h 0) (omega (arith, host, p.inside, are.are_placed.whole)) in
+    (reads_place ks names hosts places table_len i h (get_or places h 0) x d none same apart are low is some h_is there).shorter

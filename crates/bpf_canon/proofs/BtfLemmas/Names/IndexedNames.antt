@@ -1,0 +1,71 @@
+-- Names with their indices, before and after they are sorted.
+use Rattle.std.proofs.Common.{◌≡◌, ℕ, ◌+◌, ◌<◌, Bool, inl, inr, List, [], ◌∷◌, ◌++◌, length, map, get_or, refl, sym, ap, ◌∙◌, subst, arith, Bor}
+use Rattle.std.specs.List.{All, Contains}
+use Rattle.std.specs.List.Sorted.{IsPermutation, IsSorted, IsSortedBy}
+use Rattle.std.proofs.lemmas.Bool.{cases_eq}
+use Rattle.std.proofs.Math.Seq.{get_or-append_seam}
+use Rattle.std.proofs.Math.ListN.{get_or-append}
+use Rattle.std.proofs.lemmas.List.{length-append, length-map, get_or-map, get_or_default, same_lists}
+use Rattle.std.proofs.lemmas.List.Sorted.{All-permutation, Contains-permutation, IsPermutation-map}
+use Rattle.btf_types.specs.strings.SharedNames.{tail_cmp}
+use Rattle.btf_types.proofs.StringLemmas.Hosts.{tail_lt}
+use Rattle.bpf_canon.specs.btf.names.Interned.{lent_texts, AreIndexed, name_at}
+use Rattle.bpf_canon.proofs.BtfLemmas.Names.HostSearch.{text_at, texts_length}
+use Rattle.bpf_canon.proofs.BtfLemmas.Names.HostIndices.{Named, texts}
+
+-- the first k names with their indices
+pub record IndexedTo (names : List (Bor (List ℕ))) (sorted : List Named) (k : ℕ) : Type 0 where
+  pub long : length sorted ≡ k
+  pub each : (j : ℕ) (d : Named) → j < k → get_or sorted j d ≡ (get_or names j d.0, j)
+
+pub indexed_none : (names : List (Bor (List ℕ))) → IndexedTo names [] 0
+indexed_none names = record { long = refl; each = λ j d h. absurd (omega (arith, h)) }
+
+pub indexed_more : (names : List (Bor (List ℕ))) (sorted : List Named) (k : ℕ) (n : Bor (List ℕ)) → IndexedTo names sorted k → k < length names → n ≡ get_or names k n → IndexedTo names (sorted ++ (n, k) ∷ []) (k + 1)
+indexed_more names sorted k n to inside is = record {
+  long = length-append sorted ((n, k) ∷ []) ∙ ap (λ (m : ℕ). m + 1) to.long;
+  each = λ j d h. elim (cases_eq j k) [
+    | inl q ↦
+        let seam : get_or (sorted ++ (n, k) ∷ []) (length sorted) d ≡ (n, k) = get_or-append_seam sorted (n, k) [] d in
+        let at : length sorted ≡ j = to.long ∙ sym q in
+        ap (λ (m : ℕ). get_or (sorted ++ (n, k) ∷ []) m d) (sym at) ∙ seam ∙ ap (λ (b : Bor (List ℕ)). (b, k)) (is ∙ get_or_default names k n d.0 inside) ∙ ap (λ (m : ℕ). (get_or names m d.0, m)) (sym q)
+    | inr r ↦ get_or-append sorted ((n, k) ∷ []) d j (omega (arith, h, r, to.long)) ∙ to.each j d (omega (arith, h, r))
+  ];
+}
+
+-- sorted as they are compared, they are sorted as texts
+sorted_named : (sorted : List Named) → IsSortedBy (λ x y. tail_lt x.0.now y.0.now) sorted → IsSorted tail_cmp (texts sorted)
+sorted_named sorted up k d low h =
+    let e : Named = (record { ref_ptr = (0, 0); now = d }, 0) in
+    let inside : k + 1 < length sorted = omega (arith, h, length-map sorted (λ (s : Named). s.0.now)) in
+    ap (λ (t : List ℕ). tail_lt t (get_or (texts sorted) k d)) (get_or-map (λ (s : Named). s.0.now) sorted (k + 1) e d inside)
+    ∙ ap (λ (t : List ℕ). tail_lt ((get_or sorted (k + 1) e).0.now) t) (get_or-map (λ (s : Named). s.0.now) sorted k e d (omega (arith, inside)))
+    ∙ up k e low inside
+
+module _ (names : List (Bor (List ℕ))) (before after : List Named) (to : IndexedTo names before (length names)) (perm : IsPermutation before after) where
+  nobody : Named
+  nobody = (record { ref_ptr = (0, 0); now = [] }, 0)
+
+  texts_are : texts before ≡ lent_texts names
+  texts_are = same_lists (texts before) (lent_texts names) (length-map before (λ (s : Named). s.0.now) ∙ to.long ∙ sym (texts_length names)) (λ k d h.
+      let e : Named = (record { ref_ptr = (0, 0); now = d }, 0) in
+      let inside : k < length before = omega (arith, h, length-map before (λ (s : Named). s.0.now)) in
+      get_or-map (λ (s : Named). s.0.now) before k e d inside ∙ ap (λ (s : Named). s.0.now) (to.each k e (omega (arith, inside, to.long))) ∙ sym (text_at names k e.0 (omega (arith, inside, to.long))))
+
+  pub indexed_sorted : IsSortedBy (λ x y. tail_lt x.0.now y.0.now) after → AreIndexed (lent_texts names) after
+  indexed_sorted up = record {
+    permutation = subst (λ (l : List (List ℕ)). IsPermutation l (texts after)) texts_are (IsPermutation-map (λ (s : Named). s.0.now) before after perm);
+    in_order = sorted_named after up;
+    inside = All-permutation (λ s. s.1 < length (lent_texts names)) before after perm (λ j d h.
+        let e = to.each j d (omega (arith, h, to.long)) in
+        omega (arith, h, to.long, texts_length names, ap (λ (s : Named). s.1) e));
+    names = All-permutation (λ s. name_at (lent_texts names) s.1 ≡ s.0.now) before after perm (λ j d h.
+        let low : j < length names = omega (arith, h, to.long) in
+        let e : get_or before j d ≡ (get_or names j d.0, j) = to.each j d low in
+        let same : get_or (lent_texts names) j [] ≡ (get_or names j d.0).now = text_at names j (record { ref_ptr = (0, 0); now = [] }) low ∙ ap (λ (b : Bor (List ℕ)). b.now) (get_or_default names j (record { ref_ptr = (0, 0); now = [] }) d.0 low) in
+        subst (λ (s : Named). name_at (lent_texts names) s.1 ≡ s.0.now) (sym e) same);
+    each = λ i h.
+        let low : i < length names = omega (arith, h, texts_length names) in
+        let there : Contains (map (λ (s : Named). s.1) before) i = (i, omega (arith, low, to.long, length-map before (λ (s : Named). s.1)), get_or-map (λ (s : Named). s.1) before i nobody i (omega (arith, low, to.long)) ∙ ap (λ (s : Named). s.1) (to.each i nobody low)) in
+        Contains-permutation (map (λ (s : Named). s.1) before) (map (λ (s : Named). s.1) after) i (IsPermutation-map (λ (s : Named). s.1) before after perm) there;
+  }
