@@ -9,7 +9,7 @@ import os
 import sys
 
 import long_texts
-from examples import (
+from samples import (
     EXIT,
     INT,
     INT_BIG,

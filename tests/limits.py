@@ -10,12 +10,14 @@ import struct
 import sys
 import tempfile
 
-from examples import CALL_BY_REGISTER, EXIT, WIDE
+from samples import CALL_BY_REGISTER, EXIT, WIDE
 from program import Program, Ran, Report
 
 INSTRUCTIONS = 67_108_864 // len(EXIT)
 INT_RECORDS = 33_554_432 // 16
 STRINGS = 16_777_216
+# The length of a line of 8 MB.
+LONG = 8 << 20
 HEADER = 4_096
 BTF_LIMIT = HEADER + 16 * INT_RECORDS + STRINGS
 
@@ -144,6 +146,9 @@ def check_listings_at_the_limit(program, report):
         check_limit(program, report, "insn-read", comment, EXIT)
         check_limit(program, report, "insn-read", lines + b"exit\n", EXIT)
         check_limit(program, report, "insn-read", digits, bytes.fromhex("b7 01 00 00 07 00 00 00"))
+        for text, cause in (b"exit " + b"\0" * LONG, "Char"), (b"exit " + b"," * LONG, "Shape"), (b"mov r1, 9" + b"a" * LONG, "Shape"):
+            report.expect("a long line", run(program, "insn-read", text), refused(f"fault line 1 {cause}"))
+        report.expect("many nines", run(program, "insn-read", b"mov r1, " + b"9" * LONG), refused("fault line 1 Range"))
         faulty = run(program, "insn-read", lines + b"leave")
         report.expect("a fault in the last line", faulty, refused(f"fault line {limit - 4} Word"))
         report.expect("a fault and too much", run(program, "insn-read", b"leave\n" + lines), refused("too long"))

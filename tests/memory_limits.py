@@ -16,9 +16,8 @@ import re
 import resource
 import sys
 
-import examples
-from examples import EXIT
-from formats import btf, floats
+import samples
+from samples import EXIT, btf, floats
 from pipes import Running
 from program import Program, Ran, Report
 
@@ -34,8 +33,8 @@ TYPES = 50_000
 
 def large_lines():
     """A line of each command with an input of some megabytes, and the right answer."""
-    insns = (examples.MOV + examples.WIDE + EXIT) * (INSNS // 4)
-    big = (examples.MOV_BIG + examples.WIDE_BIG + EXIT) * (INSNS // 4)
+    insns = (samples.MOV + samples.WIDE + EXIT) * (INSNS // 4)
+    big = (samples.MOV_BIG + samples.WIDE_BIG + EXIT) * (INSNS // 4)
     text = b"mov r1, r2\nlddw r1, 1234605616436508552\nexit\n" * (INSNS // 4)
     words = floats([1] * TYPES)
     btf_little, btf_big = (btf(order, words, b"\0d\0") for order in ("little", "big"))
@@ -104,8 +103,8 @@ def check_limits_from_the_start(program, report):
             for line, given, right in [
                 ("insn-canon", EXIT, Ran(0, EXIT, b"")),
                 ("insn-show", EXIT, Ran(0, b"exit\n", b"")),
-                ("btf-check", examples.INT, Ran(0, b"ok 1 types\n", b"")),
-                ("leave", EXIT, examples.USAGE),
+                ("btf-check", samples.INT, Ran(0, b"ok 1 types\n", b"")),
+                ("leave", EXIT, samples.USAGE),
             ]:
                 messages = set()
                 for pages in range(high, high + 80):

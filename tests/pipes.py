@@ -16,11 +16,9 @@ import termios
 import threading
 import time
 
-import btf_rows
-import examples
-import instruction_rows
-from examples import EXIT
-from formats import GROUPS, btf, floats, turned, words_of
+import samples
+import vectors
+from samples import EXIT, btf, floats
 from program import SECONDS, Program, Ran, Report
 
 # The least room that Linux gives a pipe: a page.
@@ -121,7 +119,7 @@ def endless(piece):
 
 def check_cut_amid_an_endless_input(program, report):
     with report.group("the reader goes away, and the input never ends"):
-        for line, piece, output in [("", EXIT, EXIT), ("insn-canon --order big", examples.MOV_BIG, examples.MOV)]:
+        for line, piece, output in [("", EXIT, EXIT), ("insn-canon --order big", samples.MOV_BIG, samples.MOV)]:
             with Running(program, line) as running:
                 running.feed(endless(piece))
                 read = running.read(1_000)
@@ -134,10 +132,10 @@ def check_cut_amid_an_endless_input(program, report):
 def check_fault_lines_to_a_cut_pipe(program, report):
     with report.group("nobody reads standard error"):
         for line, given, status, output in [
-            ("insn-canon", EXIT + examples.REGISTER_ELEVEN, 1, EXIT),
-            ("insn-show", examples.REGISTER_ELEVEN, 1, b""),
+            ("insn-canon", EXIT + samples.REGISTER_ELEVEN, 1, EXIT),
+            ("insn-show", samples.REGISTER_ELEVEN, 1, b""),
             ("insn-read", b"leave", 1, b""),
-            ("insn-groups", examples.REGISTER_ELEVEN, 1, b""),
+            ("insn-groups", samples.REGISTER_ELEVEN, 1, b""),
             ("insn-same --split 9", EXIT, 1, b""),
             ("btf-canon", b"", 1, b""),
             ("btf-show", b"", 1, b""),
@@ -226,25 +224,24 @@ def run_by_bytes(program, line, given, pause_after):
 
 def lines_by_bytes():
     """A line of each command, good and faulty, with some hundred bytes of input."""
-    rows = instruction_rows.ROWS[::9]
-    insns = b"".join(bytes.fromhex(row) for _, row, _ in rows)
-    text = b"".join(line.encode() + b"\n" for line, _, _ in rows)
-    _, row, strings, shown = max(btf_rows.KINDS, key=lambda kind: len(kind[1]))
-    little, big = (btf(order, words_of(row), strings) for order in ("little", "big"))
-    count = sum(line.startswith(b"[") for line in shown.splitlines())
-    groups = set(b"".join(GROUPS[group] for _, _, group in rows).split())
-    listed = b"".join(group.encode() + b"\n" for group in GROUPS if group.encode() in groups)
+    rows = vectors.rows("insn")[::9]
+    insns, turned = (b"".join(vectors.data(row[at]) for row in rows) for at in (1, 2))
+    text = b"".join(row[0].encode() + b"\n" for row in rows)
+    _, _, little, big, count, shown = max(vectors.rows("btf"), key=lambda row: len(row[2]))
+    little, big, shown, count = vectors.data(little), vectors.data(big), vectors.text(shown), int(count)
+    groups = {brought for row in rows for brought in vectors.BRINGS.get(row[3], [row[3]])}
+    listed = b"".join(group.encode() + b"\n" for group in vectors.GROUPS if group in groups)
     at_fault = f"fault {len(insns) + 8} Truncated\n".encode()
     return [
         ("", insns, Ran(0, insns, b"")),
-        ("insn-canon --to big", insns, Ran(0, turned(insns), b"")),
+        ("insn-canon --to big", insns, Ran(0, turned, b"")),
         ("insn-canon", insns + EXIT + EXIT[:7], Ran(1, insns + EXIT, at_fault)),
         ("insn-show", insns, Ran(0, text, b"")),
         ("insn-show", insns + EXIT + EXIT[:7], Ran(1, b"", at_fault)),
         ("insn-read", text, Ran(0, insns, b"")),
         ("insn-read", text + b"leave", Ran(1, b"", f"fault line {len(rows) + 1} Word\n".encode())),
         ("insn-groups", insns, Ran(0, listed, b"")),
-        (f"insn-same --split {len(insns)} --other big", insns + turned(insns), Ran(0, b"same\n", b"")),
+        (f"insn-same --split {len(insns)} --other big", insns + turned, Ran(0, b"same\n", b"")),
         ("btf-canon", big, Ran(0, little, b"")),
         ("btf-canon", big[:-1], Ran(1, b"", f"fault {len(big) - 1} FileLength\n".encode())),
         ("btf-show", big, Ran(0, shown, b"")),

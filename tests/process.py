@@ -13,8 +13,7 @@ import socket
 import subprocess
 import sys
 
-import examples
-from examples import CALL_BY_REGISTER, EXIT, INT_BIG, LOOSE_INT, MOV, MOV_BIG, SOURCE_BESIDE_IMMEDIATE
+from samples import CALL_BY_REGISTER, EXIT, INT_BIG, LOOSE_INT, MOV, MOV_BIG, SOURCE_BESIDE_IMMEDIATE
 from program import SECONDS, Program, Ran, Report
 
 READ_FAILED = Ran(3, b"", b"read failed\n")
@@ -35,12 +34,6 @@ EACH_COMMAND = [
 ]
 
 
-def check_examples(program, report):
-    for name, group in examples.ALL.items():
-        with report.group(f"worked examples: {name}"):
-            for example in group:
-                ran = program.run(example.line, example.input)
-                report.expect(f"{example.name} ({example.line})", ran, example.right)
 
 
 # ---- streams that fail
@@ -208,7 +201,6 @@ def main():
         sys.exit(__doc__)
     program, report = Program(sys.argv[1]), Report()
     for check in [
-        check_examples,
         check_failing_reads,
         check_failing_writes,
         check_failing_fault_lines,

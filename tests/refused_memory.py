@@ -14,7 +14,7 @@ first piece or nothing.
 import os
 import sys
 
-import examples
+import samples
 import long_texts
 from program import Program, Report
 
@@ -23,48 +23,48 @@ MOST_ALLOCATIONS = 2_000
 
 # Lines of each command that succeed.
 GOOD = [
-    examples.done("no word", "", examples.EXIT, examples.EXIT),
-    examples.done("canonical bytes", "insn-canon --order big", examples.WIDE_BIG, examples.WIDE),
-    examples.done("a listing", "insn-show", examples.THREE_INSTRUCTIONS, examples.THREE_LINES),
-    examples.done("a listing read", "insn-read", examples.LOOSE_LISTING, examples.LISTED),
-    examples.done("groups", "insn-groups --order big", examples.MOV_BIG, b"base32\nbase64\n"),
-    examples.done("the same", "insn-same --split 8 --order big", examples.MOV_BIG + examples.MOV, b"same\n"),
-    examples.different("different", "insn-same --split 8", examples.MOV_BIG + examples.MOV),
-    examples.done("canonical BTF", "btf-canon", examples.TAGGED_MEMBER, examples.TAIL_OF_TAG),
-    examples.done("big-endian BTF", "btf-canon --to big", examples.INT, examples.INT_BIG),
-    examples.done("BTF shown", "btf-show", examples.INT_BIG, examples.INT_TEXT),
-    examples.done("BTF checked", "btf-check", examples.TAGGED_MEMBER, b"ok 3 types\n"),
-    examples.done("the same BTF", "btf-same --split 45", examples.INT_BIG + examples.LOOSE_INT, b"same\n"),
-    examples.different("different BTF", "btf-same --split 45", examples.INT_BIG + examples.ENUM64_BIG),
+    samples.done("no word", "", samples.EXIT, samples.EXIT),
+    samples.done("canonical bytes", "insn-canon --order big", samples.WIDE_BIG, samples.WIDE),
+    samples.done("a listing", "insn-show", samples.THREE_INSTRUCTIONS, samples.THREE_LINES),
+    samples.done("a listing read", "insn-read", samples.LOOSE_LISTING, samples.LISTED),
+    samples.done("groups", "insn-groups --order big", samples.MOV_BIG, b"base32\nbase64\n"),
+    samples.done("the same", "insn-same --split 8 --order big", samples.MOV_BIG + samples.MOV, b"same\n"),
+    samples.different("different", "insn-same --split 8", samples.MOV_BIG + samples.MOV),
+    samples.done("canonical BTF", "btf-canon", samples.TAGGED_MEMBER, samples.TAIL_OF_TAG),
+    samples.done("big-endian BTF", "btf-canon --to big", samples.INT, samples.INT_BIG),
+    samples.done("BTF shown", "btf-show", samples.INT_BIG, samples.INT_TEXT),
+    samples.done("BTF checked", "btf-check", samples.TAGGED_MEMBER, b"ok 3 types\n"),
+    samples.done("the same BTF", "btf-same --split 45", samples.INT_BIG + samples.LOOSE_INT, b"same\n"),
+    samples.different("different BTF", "btf-same --split 45", samples.INT_BIG + samples.ENUM64_BIG),
 ]
 
 FAULTY = [
-    examples.refused(
+    samples.refused(
         "instructions",
         "insn-canon",
-        examples.EXIT + examples.SOURCE_BESIDE_IMMEDIATE,
+        samples.EXIT + samples.SOURCE_BESIDE_IMMEDIATE,
         "fault 9 Src",
-        examples.EXIT,
+        samples.EXIT,
     ),
-    examples.refused("instructions to list", "insn-show", examples.CUT_WIDE, "fault 8 Truncated"),
-    examples.refused("a listing", "insn-read", b"exit\nleave", "fault line 2 Word"),
-    examples.refused("instructions of groups", "insn-groups", examples.REGISTER_ELEVEN, "fault 1 Dst"),
-    examples.refused(
+    samples.refused("instructions to list", "insn-show", samples.CUT_WIDE, "fault 8 Truncated"),
+    samples.refused("a listing", "insn-read", b"exit\nleave", "fault line 2 Word"),
+    samples.refused("instructions of groups", "insn-groups", samples.REGISTER_ELEVEN, "fault 1 Dst"),
+    samples.refused(
         "the second of two files",
         "insn-same --split 8",
-        examples.EXIT + examples.CUT_WIDE,
+        samples.EXIT + samples.CUT_WIDE,
         "second: fault 8 Truncated",
     ),
-    examples.refused("BTF", "btf-canon", examples.POINTER_TO_NOTHING, "fault 32 Reference"),
-    examples.refused("BTF to show", "btf-show", examples.NAME_NOT_UTF8, "fault 24 NameUtf8"),
-    examples.refused("BTF to check", "btf-check", examples.TAG_OF_A_THIRD_MEMBER, "fault 88 Component"),
-    examples.refused(
+    samples.refused("BTF", "btf-canon", samples.POINTER_TO_NOTHING, "fault 32 Reference"),
+    samples.refused("BTF to show", "btf-show", samples.NAME_NOT_UTF8, "fault 24 NameUtf8"),
+    samples.refused("BTF to check", "btf-check", samples.TAG_OF_A_THIRD_MEMBER, "fault 88 Component"),
+    samples.refused(
         "the first of two BTF files",
         "btf-same --split 37",
-        examples.POINTER_TO_NOTHING,
+        samples.POINTER_TO_NOTHING,
         "first: fault 32 Reference",
     ),
-    examples.refused("a split after the end", "btf-same --split 26", examples.NO_TYPES, "split beyond input"),
+    samples.refused("a split after the end", "btf-same --split 26", samples.NO_TYPES, "split beyond input"),
 ]
 
 NAMES = [bytes([letter]) for letter in b"abcdefghijklmnopqrstuvwx"]
@@ -72,24 +72,24 @@ NAMES = [bytes([letter]) for letter in b"abcdefghijklmnopqrstuvwx"]
 MANY_NAMES, MANY_LINES = long_texts.typedefs(range(1, 48, 2), b"\0" + b"\0".join(NAMES) + b"\0", NAMES)
 
 WITH_MANY_NAMES = [
-    examples.done("canonical names", "btf-canon", MANY_NAMES, MANY_NAMES),
-    examples.done("names shown", "btf-show", MANY_NAMES, MANY_LINES),
-    examples.done("names checked", "btf-check", MANY_NAMES, b"ok 24 types\n"),
-    examples.done("the same names", f"btf-same --split {len(MANY_NAMES)}", MANY_NAMES * 2, b"same\n"),
+    samples.done("canonical names", "btf-canon", MANY_NAMES, MANY_NAMES),
+    samples.done("names shown", "btf-show", MANY_NAMES, MANY_LINES),
+    samples.done("names checked", "btf-check", MANY_NAMES, b"ok 24 types\n"),
+    samples.done("the same names", f"btf-same --split {len(MANY_NAMES)}", MANY_NAMES * 2, b"same\n"),
 ]
 
 # Lines whose output goes in two pieces, and how many bytes the first has. The second takes more memory.
 IN_PIECES = [
-    (examples.done("a listing in pieces", "insn-show", *long_texts.negations_and_exits()), 8_192),
-    (examples.done("types in pieces", "btf-show", *long_texts.nameless(2, 1_000)), 8_192),
-    (examples.done("a long name in pieces", "btf-show", *long_texts.letters_and_controls()), 8_205),
+    (samples.done("a listing in pieces", "insn-show", *long_texts.negations_and_exits()), 8_192),
+    (samples.done("types in pieces", "btf-show", *long_texts.nameless(2, 1_000)), 8_192),
+    (samples.done("a long name in pieces", "btf-show", *long_texts.letters_and_controls()), 8_205),
 ]
 
 REFUSED_LINES = [
-    examples.refused_line("insn-same"),
-    examples.refused_line("insn-canon --order middle"),
-    examples.refused_line("insn-canon --help"),
-    examples.refused_line("leave"),
+    samples.refused_line("insn-same"),
+    samples.refused_line("insn-canon --order middle"),
+    samples.refused_line("insn-canon --help"),
+    samples.refused_line("leave"),
 ]
 
 

@@ -19,8 +19,8 @@ import sys
 import tempfile
 from typing import Callable, NamedTuple
 
-from examples import EXIT, MOV, MOV_BIG, WIDE, WIDE_BIG
-from formats import btf
+from samples import EXIT, MOV, MOV_BIG, WIDE, WIDE_BIG
+from samples import btf
 from program import Report
 
 MEGABYTE = 1 << 20

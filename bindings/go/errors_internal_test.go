@@ -20,3 +20,9 @@ func TestErrorsOfStatuses(t *testing.T) {
 		t.Error("an unknown status is no error")
 	}
 }
+
+func TestTheLibraryHasTheVersionOfItsHeader(t *testing.T) {
+	if capi.Version() != capi.HeaderVersion {
+		t.Errorf("version %q, and the header has %q", capi.Version(), capi.HeaderVersion)
+	}
+}

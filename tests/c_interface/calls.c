@@ -5,7 +5,6 @@
 static const char INT_BIG[] = "\xeb\x9f\x01\0\0\0\0\x18\0\0\0\0\0\0\0\x10\0\0\0\x10\0\0\0\x05\0\0\0\x01\x01\0\0\0\0\0\0\x04\x01\0\0 \0int\0";
 static const char INT[] = "\x9f\xeb\x01\0\x18\0\0\0\0\0\0\0\x10\0\0\0\x10\0\0\0\x05\0\0\0\x01\0\0\0\0\0\0\x01\x04\0\0\0 \0\0\x01\0int\0";
 static const char INT_LOOSE[] = "\x9f\xeb\x01\0\x1c\0\0\0\x07\0\0\0\x10\0\0\0\0\0\0\0\x07\0\0\0\0\0\0\0\0x\0int\0\x03\0\0\0\0\0\0\x01\x04\0\0\0 \0\0\x01";
-static const char NO_TYPES[] = "\x9f\xeb\x01\0\x18\0\0\0\0\0\0\0\0\0\0\0\0\0\0\0\x01\0\0\0\0";
 static const char MOV_BIG[] = "\xbf\x12\0\0\0\0\0\0", MOV[] = "\xbf\x21\0\0\0\0\0\0", EXIT[] = "\x95\0\0\0\0\0\0\0";
 static const char EXIT_AND_FAULT[] = "\x95\0\0\0\0\0\0\0\x04\x10\0\0\x05\0\0\0";
 
@@ -40,17 +39,6 @@ static void btf_goes_into_blocks(void)
 	CHECK(is(bpfcanon_btf_canon_new(BPFCANON_LITTLE, NULL, 0, &block), fault(1, 0)) && !block);
 }
 
-static void btf_is_checked_and_compared(void)
-{
-	CHECK(is(bpfcanon_btf_check(BYTES(INT_BIG)), with_types(1)));
-	CHECK(is(bpfcanon_btf_check(BYTES(NO_TYPES)), with_types(0)));
-	CHECK(is(bpfcanon_btf_check((const uint8_t *)NO_TYPES, 24), fault(10, 24)));
-	CHECK(is(bpfcanon_btf_same(BYTES(INT_BIG), BYTES(INT_LOOSE)), ended(BPFCANON_DONE)));
-	CHECK(is(bpfcanon_btf_same(BYTES(INT_BIG), BYTES(NO_TYPES)), ended(BPFCANON_DIFFERENT)));
-	CHECK(is(bpfcanon_btf_same(BYTES("\x9f\xea"), BYTES("")), fault(1, 2)));
-	CHECK(is(bpfcanon_btf_same(BYTES(INT_BIG), BYTES("\x9f\xeb\x01")), second_fault(1, 3)));
-}
-
 static void instructions_change_order(void)
 {
 	static const char wide_big[] = "\x18\x10\0\0\x55\x66\x77\x88\0\0\0\0\x11\x22\x33\x44";
@@ -70,109 +58,6 @@ static void instructions_change_order(void)
 	CHECK(is_filled(out, out + sizeof out));
 	CHECK(is(bpfcanon_insn_canon_new(0, 0, NULL, 0, &block), written(0)) && block);
 	bpfcanon_free(block);
-}
-
-static void instructions_are_compared(void)
-{
-	CHECK(is(bpfcanon_insn_same(BPFCANON_BIG, BYTES(MOV_BIG), BPFCANON_LITTLE, BYTES(MOV)), ended(BPFCANON_DONE)));
-	CHECK(is(bpfcanon_insn_same(BPFCANON_LITTLE, BYTES(MOV_BIG), BPFCANON_LITTLE, BYTES(MOV)), ended(BPFCANON_DIFFERENT)));
-	CHECK(is(bpfcanon_insn_same(0, BYTES(EXIT), 0, BYTES("\xbf\x2b\0\0\0\0\0\0")), second_fault(3, 1)));
-	CHECK(is(bpfcanon_insn_same(7, BYTES(""), 0, BYTES("")), ended(BPFCANON_ORDER)));
-}
-
-static void groups_are_a_mask(void)
-{
-	/* sdiv r1, 3; cmpxchg [r1-8], r2; exit */
-	static const char program[] = "\x37\x01\x01\0\x03\0\0\0\xdb\x21\xf8\xff\xf1\0\0\0\x95\0\0\0\0\0\0\0";
-	const uint32_t wanted = BPFCANON_BASE32 | BPFCANON_ATOMIC32 | BPFCANON_ATOMIC64 | BPFCANON_DIVMUL32 | BPFCANON_DIVMUL64;
-
-	CHECK(is(bpfcanon_insn_groups(0, BYTES(program)), with_groups(wanted)));
-	CHECK(is(bpfcanon_insn_groups(0, BYTES(MOV)), with_groups(BPFCANON_BASE32 | BPFCANON_BASE64)));
-	CHECK(is(bpfcanon_insn_groups(0, BYTES("\x48\x30\0\0\x04\0\0\0")), with_groups(BPFCANON_PACKET)));
-	CHECK(is(bpfcanon_insn_groups(0, BYTES("")), with_groups(0)));
-	CHECK(is(bpfcanon_insn_groups(0, BYTES(EXIT_AND_FAULT)), fault(4, 9)));
-}
-
-static void instructions_are_listed(void)
-{
-	/* lddw r1, 1234605616436508552 in big-endian bytes */
-	static const char wide_big[] = "\x18\x10\0\0\x55\x66\x77\x88\0\0\0\0\x11\x22\x33\x44";
-	static const char wide_line[] = "lddw r1, 1234605616436508552\n";
-	char out[256], *block;
-
-	memset(out, 0xaa, sizeof out);
-	CHECK(is(bpfcanon_insn_show(BPFCANON_BIG, BYTES(wide_big), out, sizeof out), written(sizeof wide_line - 1)));
-	CHECK(!memcmp(out, wide_line, sizeof wide_line - 1) && is_filled(out + sizeof wide_line - 1, out + sizeof out));
-	memset(out, 0xaa, sizeof out);
-	CHECK(is(bpfcanon_insn_show(BPFCANON_BIG, BYTES(wide_big), out, sizeof wide_line - 2), needs(sizeof wide_line - 1)));
-	CHECK(is(bpfcanon_insn_show(BPFCANON_LITTLE, BYTES(EXIT_AND_FAULT), out, sizeof out), fault(4, 9)));
-	CHECK(is(bpfcanon_insn_show(2, BYTES(EXIT), out, sizeof out), ended(BPFCANON_ORDER)));
-	CHECK(is_filled(out, out + sizeof out));
-	CHECK(is(bpfcanon_insn_show(BPFCANON_LITTLE, BYTES(""), out, 0), written(0)));
-	CHECK(is(bpfcanon_insn_show_new(BPFCANON_LITTLE, BYTES(EXIT), &block), written(5)) && !strcmp(block, "exit\n"));
-	bpfcanon_free(block);
-	CHECK(is(bpfcanon_insn_show_new(BPFCANON_LITTLE, NULL, 0, &block), written(0)) && block && !*block);
-	bpfcanon_free(block);
-	CHECK(is(bpfcanon_insn_show_new(BPFCANON_LITTLE, BYTES(EXIT_AND_FAULT), &block), fault(4, 9)) && !block);
-}
-
-static void listings_are_read(void)
-{
-	uint8_t out[256], *block;
-
-	memset(out, 0xaa, sizeof out);
-	CHECK(is(bpfcanon_insn_read(BPFCANON_BIG, TEXT("mov r1, r2"), out, sizeof out), written(8)));
-	CHECK(!memcmp(out, MOV_BIG, 8) && is_filled(out + 8, out + sizeof out));
-	memset(out, 0xaa, sizeof out);
-	CHECK(is(bpfcanon_insn_read(BPFCANON_LITTLE, TEXT("exit"), out, 7), needs(8)));
-	CHECK(is(bpfcanon_insn_read(BPFCANON_LITTLE, TEXT("Exit"), out, sizeof out), line_fault(1, 1)));
-	CHECK(is(bpfcanon_insn_read(BPFCANON_LITTLE, TEXT("exit\nleave"), out, sizeof out), line_fault(2, 2)));
-	CHECK(is(bpfcanon_insn_read(BPFCANON_LITTLE, TEXT("mov r1, r11"), out, sizeof out), line_fault(3, 1)));
-	CHECK(is(bpfcanon_insn_read(BPFCANON_LITTLE, TEXT("stb [r1+32768], 0"), out, sizeof out), line_fault(4, 1)));
-	CHECK(is(bpfcanon_insn_read(2, TEXT("exit"), out, sizeof out), ended(BPFCANON_ORDER)));
-	CHECK(is_filled(out, out + sizeof out));
-	CHECK(is(bpfcanon_insn_read_new(BPFCANON_LITTLE, TEXT("exit"), &block), written(8)) && !memcmp(block, EXIT, 8));
-	bpfcanon_free(block);
-	CHECK(is(bpfcanon_insn_read_new(BPFCANON_LITTLE, NULL, 0, &block), written(0)) && block);
-	bpfcanon_free(block);
-	CHECK(is(bpfcanon_insn_read_new(BPFCANON_LITTLE, TEXT("Exit"), &block), line_fault(1, 1)) && !block);
-}
-
-static void types_are_shown(void)
-{
-	/* an ENUM64 with one value, in a big-endian file of 53 bytes */
-	static const char enum64[] = "\xeb\x9f\x01\0\0\0\0\x18\0\0\0\0\0\0\0\x18\0\0\0\x18\0\0\0\x05"
-		"\0\0\0\x01\x93\0\0\x01\0\0\0\x08\0\0\0\x03\xff\xff\xff\xfe\xff\xff\xff\xff\0e\0m\0";
-	static const char text[] = "[1] enum64 \"e\" signed size=8 items=1\n  value \"m\" -2\n";
-	char out[256], *block;
-
-	memset(out, 0xaa, sizeof out);
-	CHECK(is(bpfcanon_btf_show(BYTES(enum64), out, sizeof out), written(sizeof text - 1)));
-	CHECK(!memcmp(out, text, sizeof text - 1) && is_filled(out + sizeof text - 1, out + sizeof out));
-	memset(out, 0xaa, sizeof out);
-	CHECK(is(bpfcanon_btf_show(BYTES(enum64), out, sizeof text - 2), needs(sizeof text - 1)));
-	CHECK(is(bpfcanon_btf_show((const uint8_t *)enum64, 23, out, sizeof out), fault(1, 23)));
-	CHECK(is_filled(out, out + sizeof out));
-	CHECK(is(bpfcanon_btf_show_new(BYTES(enum64), &block), written(sizeof text - 1)) && !strcmp(block, text));
-	bpfcanon_free(block);
-	CHECK(is(bpfcanon_btf_show_new((const uint8_t *)enum64, 23, &block), fault(1, 23)) && !block);
-	CHECK(is(bpfcanon_btf_show_new(NULL, 0, &block), fault(1, 0)) && !block);
-}
-
-/* A listing of a compiled program, read, is the program. */
-static void compiled_programs_come_back(const char *folder)
-{
-	size_t len;
-	uint8_t *bytes, *little = load(folder, "packet_filter.little.bin", &len);
-	char *text;
-	bpfcanon_answer answer = bpfcanon_insn_show_new(BPFCANON_LITTLE, little, len, &text);
-
-	CHECK(answer.status == BPFCANON_DONE && answer.written > len);
-	CHECK(is(bpfcanon_insn_read_new(BPFCANON_LITTLE, text, answer.written, &bytes), written(len)));
-	CHECK(!memcmp(bytes, little, len));
-	bpfcanon_free(bytes);
-	bpfcanon_free(text);
-	free(little);
 }
 
 /* A stream in pieces of one length, with what is left kept in front of the next. */
@@ -210,31 +95,6 @@ static void streams_may_be_cut_anywhere(const char *folder)
 	CHECK(front.status == BPFCANON_ROOM && front.written == 0 && front.needed == 8);
 	front = bpfcanon_insn_front(0, 2, BYTES(EXIT), out, sizeof out);
 	CHECK(front.status == BPFCANON_ORDER);
-	free(big);
-	free(little);
-}
-
-static void compiled_files_have_one_form(const char *folder)
-{
-	size_t len, little_len;
-	uint8_t *block, *other, *big = load(folder, "hash_words.big.bin", &len);
-	uint8_t *little = load(folder, "hash_words.little.bin", &little_len);
-	bpfcanon_answer answer = bpfcanon_insn_canon_new(BPFCANON_BIG, BPFCANON_LITTLE, big, len, &block);
-
-	CHECK(is(answer, written(little_len)) && !memcmp(block, little, little_len));
-	bpfcanon_free(block);
-	free(big);
-	free(little);
-
-	big = load(folder, "flow_table.big.btf", &len);
-	little = load(folder, "flow_table.little.btf", &little_len);
-	answer = bpfcanon_btf_canon_new(BPFCANON_LITTLE, big, len, &block);
-	CHECK(answer.status == BPFCANON_DONE);
-	CHECK(bpfcanon_btf_canon_new(BPFCANON_LITTLE, little, little_len, &other).written == answer.written);
-	CHECK(!memcmp(block, other, answer.written));
-	CHECK(is(bpfcanon_btf_same(big, len, little, little_len), ended(BPFCANON_DONE)));
-	bpfcanon_free(block);
-	bpfcanon_free(other);
 	free(big);
 	free(little);
 }
@@ -328,16 +188,8 @@ int main(int argc, char **argv)
 		return 2;
 	btf_goes_into_the_callers_room();
 	btf_goes_into_blocks();
-	btf_is_checked_and_compared();
 	instructions_change_order();
-	instructions_are_compared();
-	groups_are_a_mask();
-	instructions_are_listed();
-	listings_are_read();
-	types_are_shown();
-	compiled_programs_come_back(argv[1]);
 	streams_may_be_cut_anywhere(argv[1]);
-	compiled_files_have_one_form(argv[1]);
 	numbers_have_names();
 	versions_agree();
 	null_is_an_empty_input_or_output();

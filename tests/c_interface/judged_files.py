@@ -6,19 +6,20 @@ For each file: the first fault, or the canonical bytes in both orders and whethe
 """
 
 import itertools
+import os
+import pathlib
 import random
 import sys
 
-import btf_fault_rows
-import btf_rows
 import second_judge
-from formats import NO_TYPES, btf, floats, laid_out, words_of
 from program import Report
-from shared_library import canonical, load
+from samples import NO_TYPES, btf, floats
+from vectors import data, rows
 
-DONE, DIFFERENT, FAULT = 0, 1, 2
-BIG = 1
-NO_FAULT = (DONE, 0, 0)
+TOP = pathlib.Path(__file__).resolve().parents[2]
+sys.path.insert(0, str(TOP / "bindings" / "python"))
+os.environ["BPFCANON_LIBRARY"] = sys.argv[1]
+import bpfcanon  # noqa: E402
 
 # Names, and texts that are none, from each of their bytes on.
 TEXTS = [
@@ -31,40 +32,28 @@ TEXTS = [
 ]
 
 
-def judged(file):
-    """What the second judge answers: the status, the cause's number and its place; and the canonical bytes in both orders."""
-    fault = second_judge.first_fault(file)
-    if fault:
-        place, cause = fault
-        return (FAULT, second_judge.NUMBERS[cause], place), b"", b""
-    return NO_FAULT, second_judge.canonical(file), second_judge.canonical(file, ">")
+def answer(call, *given, **orders):
+    """What a call of the library returns, or the place and the name of the first fault."""
+    try:
+        return call(*given, **orders)
+    except bpfcanon.Fault as fault:
+        return fault.pos, fault.cause.label
 
 
-def compare(report, library, file, origin):
+def compare(report, file, origin):
     """Compares what both say of a file, and of it beside the one it was made of, whose canonical bytes these are."""
-    ended, little, big = judged(file)
-    answers = [canonical(library, file), canonical(library, file, BIG), same(library, file, origin)]
-    alike = DONE if little == origin else DIFFERENT
-    right = [(ended, little), (ended, big), (alike, 0, 0) if ended == NO_FAULT else ended]
+    fault = second_judge.first_fault(file)
+    little, big = (fault, fault) if fault else (second_judge.canonical(file), second_judge.canonical(file, ">"))
+    answers = [answer(bpfcanon.btf_canon, file), answer(bpfcanon.btf_canon, file, to=bpfcanon.Order.BIG)]
+    answers.append(answer(bpfcanon.btf_same, file, origin))
     report.runs += 1
-    if answers != right:
-        report.report_wrong(f"{file.hex()}: it gave {answers}, and right is {right}")
-
-
-def same(library, first, second):
-    answer = library.bpfcanon_btf_same(first, len(first), second, len(second))
-    return answer.status, answer.cause, answer.pos
+    if answers != [little, big, fault or little == origin]:
+        report.report_wrong(f"{file.hex()}: it gave {answers}, and right is {little}")
 
 
 def worked_files():
-    """Each kind of type in both orders, and names and sections laid out in another way."""
-    for _, row, strings, _ in btf_rows.KINDS:
-        yield btf("little", words_of(row), strings)
-        yield btf("big", words_of(row), strings)
-    for _, names, strings, _, _ in btf_rows.LOOSE_STRINGS:
-        yield laid_out(floats(names), strings, bytes(4), strings_first=True)
-    for _, row, _, strings in btf_rows.KIND_FLAGS:
-        yield btf("big", words_of(row), strings)
+    """Each file of the vectors, but for the one with a header of 4,096 bytes, in the orders and layouts that they have."""
+    return [file for row in rows("btf") for file in {*map(data, row[1:4])} if len(file) < 1000]
 
 
 def changed(file, changes):
@@ -76,43 +65,35 @@ def changed(file, changes):
 
 
 def check_judge(report):
-    with report.group("the second judge on the faults and the canonical bytes of the other tests"):
-        for name, fields, tail, strings, place, cause in btf_fault_rows.HEADERS:
-            fault = second_judge.first_fault(btf("big", [], strings, tail, **fields))
-            report.expect_that(fault == (place, cause), name, f"it gave {fault}")
-        for name, row, strings, place, cause in btf_fault_rows.RECORDS:
-            fault = second_judge.first_fault(btf("big", words_of(row), strings))
-            report.expect_that(fault == (place, cause), name, f"it gave {fault}")
-        for name, row, strings, _ in btf_rows.KINDS:
-            little, big = btf("little", words_of(row), strings), btf("big", words_of(row), strings)
-            report.expect_that(judged(big) == (NO_FAULT, little, big), name, "it gave other bytes")
-        for name, names, strings, right_names, right_strings in btf_rows.LOOSE_STRINGS:
-            right = (btf(order, floats(right_names), right_strings) for order in ("little", "big"))
-            report.expect_that(judged(laid_out(floats(names), strings)) == (NO_FAULT, *right), name, "it gave other bytes")
-        for name, row, right_row, strings in btf_rows.KIND_FLAGS:
-            right = (btf(order, words_of(right_row), strings) for order in ("little", "big"))
-            report.expect_that(judged(btf("big", words_of(row), strings)) == (NO_FAULT, *right), name, "it gave other bytes")
+    with report.group("the second judge on the vectors"):
+        for name, *files, place, cause in rows("btf-fault"):
+            for file in map(data, files):
+                fault = second_judge.first_fault(file)
+                report.expect_that(fault == (int(place), cause), name, f"it gave {fault}")
+        for name, file, little, big, _, _ in rows("btf"):
+            judged = [second_judge.canonical(data(file), mark) for mark in "<>"]
+            report.expect_that(judged == [data(little), data(big)], name, "it gave other bytes")
 
 
-def check_changed_bytes(report, library):
+def check_changed_bytes(report):
     with report.group("each byte changed in ten ways"):
         for file in worked_files():
             origin = second_judge.canonical(file)
             for place, old in enumerate(file):
                 for value in {old ^ 1 << bit for bit in range(8)} | {0, 255}:
-                    compare(report, library, changed(file, [(place, value)]), origin)
+                    compare(report, changed(file, [(place, value)]), origin)
 
 
-def check_every_value(report, library):
+def check_every_value(report):
     with report.group("each byte of two files as each value"):
-        for _, row, strings, _ in btf_rows.KINDS[3], btf_rows.KINDS[6]:
-            file = btf("big", words_of(row), strings)
+        for row in rows("btf")[3], rows("btf")[6]:
+            file = data(row[3])
             origin = second_judge.canonical(file)
             for place, value in itertools.product(range(len(file)), range(256)):
-                compare(report, library, changed(file, [(place, value)]), origin)
+                compare(report, changed(file, [(place, value)]), origin)
 
 
-def check_two_bytes(report, library):
+def check_two_bytes(report):
     """The places and values are drawn again from the same seed at each run."""
     draw = random.Random(9669)
     with report.group("two bytes changed"):
@@ -120,26 +101,26 @@ def check_two_bytes(report, library):
             origin = second_judge.canonical(file)
             for _ in range(500):
                 changes = [(draw.randrange(4, len(file)), draw.choice([0, 1, 2, 3, 5, 8, draw.randrange(256)])) for _ in "ab"]
-                compare(report, library, changed(file, changes), origin)
+                compare(report, changed(file, changes), origin)
 
 
-def check_lengths(report, library):
+def check_lengths(report):
     with report.group("files cut at each length, and a byte longer"):
         for file in worked_files():
             origin = second_judge.canonical(file)
             for length in range(len(file) + 1):
-                compare(report, library, file[:length], origin)
-            compare(report, library, file + b"\0", origin)
+                compare(report, file[:length], origin)
+            compare(report, file + b"\0", origin)
 
 
-def check_shared_tails(report, library):
+def check_shared_tails(report):
     """Three names from each byte on, in each section of at most four bytes between its NULs."""
     with report.group("names that share their tails"):
         for length in range(5):
             for letters in itertools.product(b"\0ab", repeat=length):
                 strings = bytes([0, *letters, 0])
                 for names in itertools.product(range(len(strings)), repeat=3):
-                    compare(report, library, btf("big", words_with(names), strings), NO_TYPES)
+                    compare(report, btf("big", words_with(names), strings), NO_TYPES)
 
 
 def words_with(names):
@@ -149,17 +130,17 @@ def words_with(names):
     return [first, 0x0400_0002, 0, second, 0, 0, third, 0, 0, third, 0x0600_0001, 4, first, 7]
 
 
-def check_texts(report, library):
+def check_texts(report):
     with report.group("texts that are UTF-8 and that aren't, from each byte on"):
         for strings in TEXTS:
             for offset in range(len(strings) + 1):
-                compare(report, library, btf("little", floats([offset]), strings), NO_TYPES)
+                compare(report, btf("little", floats([offset]), strings), NO_TYPES)
 
 
 def main():
     if len(sys.argv) != 2:
         sys.exit(__doc__)
-    library, report = load(sys.argv[1]), Report()
+    report = Report()
     check_judge(report)
     for check in [
         check_texts,
@@ -169,7 +150,7 @@ def main():
         check_every_value,
         check_two_bytes,
     ]:
-        check(report, library)
+        check(report)
     return report.end("judged files")
 
 

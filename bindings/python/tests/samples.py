@@ -16,11 +16,6 @@ INSNS = [
     ("exit", "95 00 0000 00000000", "95 00 0000 00000000"),
 ]
 
-# int and a typedef of it, with their names in the order of their use, and with int as the suffix of foo_int.
-LOOSE = [1, 0x01000000, 4, 0x01000020, 5, 0x08000000, 1], b"\0int\0foo_int\0"
-CANONICAL = [5, 0x01000000, 4, 0x01000020, 1, 0x08000000, 1], b"\0foo_int\0"
-TEXT = '[1] int "int" size=4 encoding=signed offset=0 bits=32\n[2] typedef "foo_int" type=1\n'
-
 
 def unhex(text: str) -> bytes:
     return bytes.fromhex(text)

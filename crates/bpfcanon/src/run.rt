@@ -1,23 +1,49 @@
 //! Runs a job from a source to a sink.
 
-ghost use Rattle.std.specs.Prelude.{◌<◌};
+ghost use Rattle.std.specs.Prelude.{◌≡◌, ◌<◌, ◌≤◌, length, false};
 ghost use Rattle.bpfcanon.specs.Devices.{sink_change, source_change};
 ghost use Rattle.bpfcanon.specs.JobEnds.{EndsJob};
+ghost use Rattle.bpfcanon.specs.commands.Pieces.{Answers};
+ghost use Rattle.bpfcanon.specs.commands.Reply.{has_engine, limit_of};
 
-use crate::commands::btf_canon::run_btf_canon;
-use crate::commands::btf_check::run_btf_check;
-use crate::commands::btf_same::run_btf_same;
-use crate::commands::btf_show::run_btf_show;
-use crate::commands::insn_canon::run_insn_canon;
-use crate::commands::insn_groups::run_insn_groups;
-use crate::commands::insn_read::run_insn_read;
-use crate::commands::insn_same::run_insn_same;
-use crate::commands::insn_show::run_insn_show;
+use crate::commands::btf_check::btf_check_reply;
+use crate::commands::btf_same::btf_same_reply;
+use crate::commands::btf_show::put_btf_show;
+use crate::commands::input::read_input;
+use crate::commands::insn_groups::insn_groups_reply;
+use crate::commands::insn_read::insn_read_reply;
+use crate::commands::insn_same::insn_same_reply;
+use crate::commands::insn_show::put_insn_show;
+use crate::commands::reply::put_reply;
 use crate::job::Job;
 use crate::outcome::Outcome;
 use crate::verb::Verb;
-use bpf_canon::{ByteSink, ByteSource};
+use bpf_canon::{ByteSink, ByteSource, run_btf, run_insns};
 use std::alloc::Allocator;
+
+/// Answers an input that was read whole.
+fn answer<A: Allocator + Copy, W: ByteSink>(
+    alloc: A,
+    job: Job,
+    input: &[u8],
+    sink: &mut W,
+) -> Outcome
+    requires whole { has_engine job.verb ≡ false }
+    requires within { length input.now ≤ limit_of job.verb }
+    requires sink { W.failures sink.old < u64.MAX }
+    ensures { Answers job input.now (sink_change W.ByteSink sink.old sink.new) result }
+{
+    match job.verb {
+        Verb::InsnShow => put_insn_show(alloc, job, input, sink),
+        Verb::InsnRead => put_reply(insn_read_reply(alloc, job.to, input), sink),
+        Verb::InsnGroups => put_reply(insn_groups_reply(alloc, job.order, input), sink),
+        Verb::InsnSame => put_reply(insn_same_reply(alloc, job, input), sink),
+        Verb::BtfShow => put_btf_show(alloc, job, input, sink),
+        Verb::BtfCheck => put_reply(btf_check_reply(alloc, input), sink),
+        Verb::BtfSame => put_reply(btf_same_reply(alloc, job.split, input), sink),
+        Verb::InsnCanon | Verb::BtfCanon => unreachable!(),
+    }
+}
 
 /// Runs a job from a source to a sink.
 pub fn run_job<A: Allocator + Copy, S: ByteSource, W: ByteSink>(
@@ -31,14 +57,17 @@ pub fn run_job<A: Allocator + Copy, S: ByteSource, W: ByteSink>(
     ensures { EndsJob job (source_change S.ByteSource source.old source.new) (sink_change W.ByteSink sink.old sink.new) result }
 {
     match job.verb {
-        Verb::InsnCanon => run_insn_canon(alloc, job, source, sink),
-        Verb::InsnShow => run_insn_show(alloc, job, source, sink),
-        Verb::InsnRead => run_insn_read(alloc, job, source, sink),
-        Verb::InsnGroups => run_insn_groups(alloc, job, source, sink),
-        Verb::InsnSame => run_insn_same(alloc, job, source, sink),
-        Verb::BtfCanon => run_btf_canon(alloc, job, source, sink),
-        Verb::BtfShow => run_btf_show(alloc, job, source, sink),
-        Verb::BtfCheck => run_btf_check(alloc, job, source, sink),
-        Verb::BtfSame => run_btf_same(alloc, job, source, sink),
+        Verb::InsnCanon => match run_insns(alloc, source, sink, job.order, job.to) {
+            Ok(_) => Outcome::Done,
+            Err(error) => Outcome::of_stop(error.cause, Outcome::Fault),
+        },
+        Verb::BtfCanon => match run_btf(alloc, source, sink, job.to) {
+            Ok(_) => Outcome::Done,
+            Err(error) => Outcome::of_stop(error.cause, Outcome::BtfFault),
+        },
+        _ => match read_input(alloc, job, source) {
+            Ok(input) => answer(alloc, job, input.as_slice(), sink),
+            Err(outcome) => outcome,
+        },
     }
 }

@@ -18,17 +18,10 @@ pub extern "C" fn bpfcanon_proved_btf_canon(
 ) -> Answer
     ensures { AnswersBtf to bytes.now out.old out.new result }
 {
-    report(btf_into(alloc, to, bytes, out))
-}
-
-/// The canonical form in the order that a number names.
-fn btf_into(alloc: Global, to: u32, bytes: &[u8], out: &mut [u8]) -> Ending
-    ensures { EndsBtf to bytes.now out.old out.new result }
-{
-    match order_from(to) {
+    report(match order_from(to) {
         Some(to) => btf_in(alloc, to, bytes, out),
         None => Ending::Order,
-    }
+    })
 }
 
 /// The canonical form in a byte order.
@@ -47,18 +40,11 @@ fn btf_in(alloc: Global, to: Order, bytes: &[u8], out: &mut [u8]) -> Ending
 pub extern "C" fn bpfcanon_proved_btf_check(alloc: Global, bytes: &[u8]) -> Answer
     ensures { AnswersBtfCheck bytes.now result }
 {
-    report(btf_counted(alloc, bytes))
-}
-
-/// The number of types.
-fn btf_counted(alloc: Global, bytes: &[u8]) -> Ending
-    ensures { EndsBtfCheck bytes.now result }
-{
-    match BtfView::parse(alloc, bytes) {
+    report(match BtfView::parse(alloc, bytes) {
         Ok(table) => Ending::Types(table.count()),
         Err(BtfError::Fault(fault)) => Ending::First(btf_code(fault)),
         Err(BtfError::Memory) => Ending::Memory,
-    }
+    })
 }
 
 /// Whether two BTF files have the same types.
@@ -66,18 +52,11 @@ fn btf_counted(alloc: Global, bytes: &[u8]) -> Ending
 pub extern "C" fn bpfcanon_proved_btf_same(alloc: Global, first: &[u8], second: &[u8]) -> Answer
     ensures { AnswersSameBtf first.now second.now result }
 {
-    report(btf_compared(alloc, first, second))
-}
-
-/// How the comparison ends.
-fn btf_compared(alloc: Global, first: &[u8], second: &[u8]) -> Ending
-    ensures { EndsSameBtf first.now second.now result }
-{
-    match same_btf(alloc, first, second) {
+    report(match same_btf(alloc, first, second) {
         Ok(true) => Ending::Same,
         Ok(false) => Ending::Different,
         Err(SideError::First(fault)) => Ending::First(btf_code(fault)),
         Err(SideError::Second(fault)) => Ending::Second(btf_code(fault)),
         Err(SideError::Memory) => Ending::Memory,
-    }
+    })
 }

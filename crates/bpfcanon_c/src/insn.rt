@@ -1,7 +1,7 @@
 //! The calls on instruction files.
 ghost use Rattle.std.specs.Prelude.{◌≡◌};
 ghost use Rattle.bpf_insn.specs.Groups.{holds};
-ghost use Rattle.bpfcanon_c.specs.Endings.{EndsInsns, EndsInsnsIn, AnswersInsns, EndsSameInsns, AnswersSameInsns};
+ghost use Rattle.bpfcanon_c.specs.Endings.{EndsInsns, EndsInsnsIn, AnswersInsns, EndsSameInsnsIn, AnswersSameInsns};
 ghost use Rattle.bpfcanon_c.specs.GroupMasks.{weighed, mask, EndsGroups, EndsGroupsIn, AnswersGroups};
 
 use crate::answer::{Answer, Ending, order_from, put, report, slot_code};
@@ -21,20 +21,13 @@ pub extern "C" fn bpfcanon_proved_insn_canon(
 ) -> Answer
     ensures { AnswersInsns order to bytes.now out.old out.new result }
 {
-    report(insns_into(alloc, order, to, bytes, out))
-}
-
-/// The instructions, in the orders that two numbers name.
-fn insns_into(alloc: Global, order: u32, to: u32, bytes: &[u8], out: &mut [u8]) -> Ending
-    ensures { EndsInsns order to bytes.now out.old out.new result }
-{
-    match order_from(order) {
+    report(match order_from(order) {
         Some(order) => match order_from(to) {
             Some(to) => insns_in(alloc, order, to, bytes, out),
             None => Ending::Order,
         },
         None => Ending::Order,
-    }
+    })
 }
 
 /// The instructions of a file in two byte orders.
@@ -54,17 +47,10 @@ fn insns_in(alloc: Global, order: Order, to: Order, bytes: &[u8], out: &mut [u8]
 pub extern "C" fn bpfcanon_proved_insn_groups(order: u32, bytes: &[u8]) -> Answer
     ensures { AnswersGroups order bytes.now result }
 {
-    report(groups_into(order, bytes))
-}
-
-/// The groups of a file, in the order that a number names.
-fn groups_into(order: u32, bytes: &[u8]) -> Ending
-    ensures { EndsGroups order bytes.now result }
-{
-    match order_from(order) {
+    report(match order_from(order) {
         Some(order) => groups_reported(order, bytes),
         None => Ending::Order,
-    }
+    })
 }
 
 /// The groups of a file.
@@ -105,28 +91,20 @@ pub extern "C" fn bpfcanon_proved_insn_same(
 ) -> Answer
     ensures { AnswersSameInsns order_first first.now order_second second.now result }
 {
-    report(insns_compared(alloc, order_first, first, order_second, second))
+    report(match order_from(order_first) {
+        Some(order_first) => match order_from(order_second) {
+            Some(order_second) => compare(alloc, order_first, first, order_second, second),
+            None => Ending::Order,
+        },
+        None => Ending::Order,
+    })
 }
 
-/// How the comparison ends.
-fn insns_compared(
-    alloc: Global,
-    order_first: u32,
-    first: &[u8],
-    order_second: u32,
-    second: &[u8],
-) -> Ending
-    ensures { EndsSameInsns order_first first.now order_second second.now result }
+/// Whether two files in two byte orders have the same instructions.
+fn compare(alloc: Global, a: Order, first: &[u8], b: Order, second: &[u8]) -> Ending
+    ensures { EndsSameInsnsIn a first.now b second.now result }
 {
-    let order_a = match order_from(order_first) {
-        Some(order) => order,
-        None => return Ending::Order,
-    };
-    let order_b = match order_from(order_second) {
-        Some(order) => order,
-        None => return Ending::Order,
-    };
-    match same_insns(alloc, order_a, first, order_b, second) {
+    match same_insns(alloc, a, first, b, second) {
         Ok(true) => Ending::Same,
         Ok(false) => Ending::Different,
         Err(SideError::First(fault)) => Ending::First(slot_code(fault)),

@@ -18,17 +18,10 @@ pub extern "C" fn bpfcanon_proved_insn_show(
 ) -> Answer
     ensures { AnswersListing order bytes.now out.old out.new result }
 {
-    report(listing_into(alloc, order, bytes, out))
-}
-
-/// The listing of a file, in the order that a number names.
-fn listing_into(alloc: Global, order: u32, bytes: &[u8], out: &mut [u8]) -> Ending
-    ensures { EndsListing order bytes.now out.old out.new result }
-{
-    match order_from(order) {
+    report(match order_from(order) {
         Some(order) => listing_in(alloc, order, bytes, out),
         None => Ending::Order,
-    }
+    })
 }
 
 /// The listing of a file.
@@ -55,17 +48,10 @@ pub extern "C" fn bpfcanon_proved_insn_read(
 ) -> Answer
     ensures { AnswersListed to text.now out.old out.new result }
 {
-    report(listed_into(alloc, to, text, out))
-}
-
-/// The instructions of a listing, in the order that a number names.
-fn listed_into(alloc: Global, to: u32, text: &[u8], out: &mut [u8]) -> Ending
-    ensures { EndsListed to text.now out.old out.new result }
-{
-    match order_from(to) {
+    report(match order_from(to) {
         Some(to) => listed_in(alloc, to, text, out),
         None => Ending::Order,
-    }
+    })
 }
 
 /// The instructions of a listing in a byte order.

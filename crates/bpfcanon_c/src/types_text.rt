@@ -12,19 +12,12 @@ use std::alloc::Global;
 pub extern "C" fn bpfcanon_proved_btf_show(alloc: Global, bytes: &[u8], out: &mut [u8]) -> Answer
     ensures { AnswersBtfShow bytes.now out.old out.new result }
 {
-    report(shown_into(alloc, bytes, out))
-}
-
-/// The text of the types of a file.
-fn shown_into(alloc: Global, bytes: &[u8], out: &mut [u8]) -> Ending
-    ensures { EndsBtfShow bytes.now out.old out.new result }
-{
-    match BtfView::parse(alloc, bytes) {
+    report(match BtfView::parse(alloc, bytes) {
         Ok(table) => match show_btf(alloc, &table) {
             Ok(text) => put(&text, out),
             Err(_) => Ending::Memory,
         },
         Err(BtfError::Fault(fault)) => Ending::First(btf_code(fault)),
         Err(BtfError::Memory) => Ending::Memory,
-    }
+    })
 }

@@ -1,17 +1,12 @@
 //! `btf-check`: how many types a BTF file has, or its first fault.
 
-ghost use Rattle.std.specs.Prelude.{◌<◌, ◌≡◌, ◌≤◌, length, IfOk};
+ghost use Rattle.std.specs.Prelude.{◌≡◌, ◌≤◌, length, IfOk};
 ghost use Rattle.bpfcanon.specs.declared.verb.Verb.TheVariants.{BtfCheck};
-ghost use Rattle.bpfcanon.specs.Devices.{sink_change, source_change};
-ghost use Rattle.bpfcanon.specs.JobEnds.{EndsJob};
 ghost use Rattle.bpfcanon.specs.commands.BtfReply.{IsBtfCheckReply, count_line};
 ghost use Rattle.bpfcanon.specs.commands.Reply.{limit_of};
 
-use crate::commands::input::read_input;
-use crate::commands::reply::{Reply, put_reply};
-use crate::job::Job;
+use crate::commands::reply::Reply;
 use crate::outcome::Outcome;
-use bpf_canon::{ByteSink, ByteSource};
 use btf_types::{BtfError, BtfView, TypeTable};
 use itoa::Buffer;
 use std::alloc::{AllocError, Allocator};
@@ -28,7 +23,7 @@ fn count_line<A: Allocator>(alloc: A, count: u32) -> Result<Vec<u8, A>, AllocErr
 }
 
 /// The reply of `btf-check`. The types are counted without `void`.
-fn btf_check_reply<A: Allocator + Copy>(alloc: A, input: &[u8]) -> Result<Reply<A>, AllocError>
+pub fn btf_check_reply<A: Allocator + Copy>(alloc: A, input: &[u8]) -> Result<Reply<A>, AllocError>
     requires { length input.now ≤ limit_of BtfCheck }
     ensures { IfOk result (λ r. IsBtfCheckReply (limit_of BtfCheck) input.now r.outcome r.output.items) }
 {
@@ -39,23 +34,5 @@ fn btf_check_reply<A: Allocator + Copy>(alloc: A, input: &[u8]) -> Result<Reply<
         }),
         Err(BtfError::Fault(fault)) => Ok(Reply::bare(alloc, Outcome::BtfFault(fault))),
         Err(BtfError::Memory) => Err(AllocError),
-    }
-}
-
-/// Runs `btf-check`.
-pub fn run_btf_check<A: Allocator + Copy, S: ByteSource, W: ByteSink>(
-    alloc: A,
-    job: Job,
-    source: &mut S,
-    sink: &mut W,
-) -> Outcome
-    requires verb { job.verb ≡ BtfCheck }
-    requires source { S.failures source.old < u64.MAX }
-    requires sink { W.failures sink.old < u64.MAX }
-    ensures { EndsJob job (source_change S.ByteSource source.old source.new) (sink_change W.ByteSink sink.old sink.new) result }
-{
-    match read_input(alloc, job, source) {
-        Ok(input) => put_reply(btf_check_reply(alloc, input.as_slice()), sink),
-        Err(outcome) => outcome,
     }
 }

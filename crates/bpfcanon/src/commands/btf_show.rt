@@ -7,57 +7,18 @@ ghost use Rattle.btf_types.specs.tables.TableWords.{record_at};
 ghost use Rattle.bpf_text.specs.btf.BtfText.{head_line, item_line, record_text, text_of};
 ghost use Rattle.bpfcanon.specs.declared.verb.Verb.TheVariants.{BtfShow};
 ghost use Rattle.bpfcanon.specs.declared.commands.pieces.TheConstants.{PIECE};
-ghost use Rattle.bpfcanon.specs.Devices.{sink_change, source_change};
-ghost use Rattle.bpfcanon.specs.JobEnds.{EndsJob};
+ghost use Rattle.bpfcanon.specs.Devices.{sink_change};
 ghost use Rattle.bpfcanon.specs.commands.Pieces.{Answers, Gathers, TookText};
 ghost use Rattle.bpfcanon.specs.commands.Reply.{limit_of};
 
-use crate::commands::input::read_input;
-use crate::commands::long_names::{is_long, put_long_head, put_long_item};
-use crate::commands::pieces::{PutError, end_of_pieces, put_long_piece, put_piece};
+use crate::commands::lines::{put_head, put_item};
+use crate::commands::pieces::{PutError, end_of_pieces, put_piece};
 use crate::job::Job;
 use crate::outcome::Outcome;
-use bpf_canon::{ByteSink, ByteSource};
-use bpf_text::{append_head, append_item, is_signed};
-use btf_types::{BtfError, BtfView, Head, Item, TypeTable};
+use bpf_canon::ByteSink;
+use bpf_text::is_signed;
+use btf_types::{BtfError, BtfView, TypeTable};
 use std::alloc::Allocator;
-
-/// Appends the line of a type with `items` items to a piece, and writes a long piece.
-fn put_head<A: Allocator, W: ByteSink>(
-    sink: &mut W,
-    piece: &mut Vec<u8, A>,
-    id: u32,
-    head: Head<'_>,
-    items: u32,
-) -> Result<(), PutError>
-    requires { W.failures sink.old < u64.MAX }
-    ensures gathered { Gathers (sink_change W.ByteSink sink.old sink.new) piece.new.items (piece.old.items ++ head_line id (head_value head.entry) items) result }
-    ensures short { OnOk result (length piece.new.items < PIECE) }
-{
-    if is_long(head.name()) {
-        return put_long_head(sink, piece, id, head, items);
-    }
-    append_head(piece, id, head, items)?;
-    put_long_piece(sink, piece)
-}
-
-/// Appends the line of an item to a piece, and writes a long piece.
-fn put_item<A: Allocator, W: ByteSink>(
-    sink: &mut W,
-    piece: &mut Vec<u8, A>,
-    item: Item<'_>,
-    signed: bool,
-) -> Result<(), PutError>
-    requires { W.failures sink.old < u64.MAX }
-    ensures gathered { Gathers (sink_change W.ByteSink sink.old sink.new) piece.new.items (piece.old.items ++ item_line signed (item_value item.entry)) result }
-    ensures short { OnOk result (length piece.new.items < PIECE) }
-{
-    if is_long(item.name()) {
-        return put_long_item(sink, piece, item, signed);
-    }
-    append_item(piece, item, signed)?;
-    put_long_piece(sink, piece)
-}
 
 /// Appends the lines of a type's items, and writes each long piece.
 fn put_items<A: Allocator, W: ByteSink, T: TypeTable>(
@@ -112,7 +73,7 @@ fn put_types<A: Allocator, W: ByteSink, T: TypeTable>(
 }
 
 /// Runs `btf-show` on its input. Nothing is written if the input has a fault.
-fn put_btf_show<A: Allocator + Copy, W: ByteSink>(
+pub fn put_btf_show<A: Allocator + Copy, W: ByteSink>(
     alloc: A,
     job: Job,
     input: &[u8],
@@ -127,23 +88,5 @@ fn put_btf_show<A: Allocator + Copy, W: ByteSink>(
         Ok(table) => end_of_pieces(put_types(alloc, &table, sink)),
         Err(BtfError::Fault(fault)) => Outcome::BtfFault(fault),
         Err(BtfError::Memory) => Outcome::Memory,
-    }
-}
-
-/// Runs `btf-show`.
-pub fn run_btf_show<A: Allocator + Copy, S: ByteSource, W: ByteSink>(
-    alloc: A,
-    job: Job,
-    source: &mut S,
-    sink: &mut W,
-) -> Outcome
-    requires verb { job.verb ≡ BtfShow }
-    requires source { S.failures source.old < u64.MAX }
-    requires sink { W.failures sink.old < u64.MAX }
-    ensures { EndsJob job (source_change S.ByteSource source.old source.new) (sink_change W.ByteSink sink.old sink.new) result }
-{
-    match read_input(alloc, job, source) {
-        Ok(input) => put_btf_show(alloc, job, input.as_slice(), sink),
-        Err(outcome) => outcome,
     }
 }

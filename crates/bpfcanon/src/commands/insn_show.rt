@@ -5,16 +5,14 @@ ghost use Rattle.bpf_insn.specs.declared.insn.Insn.{Insn};
 ghost use Rattle.bpf_insn.specs.Spelling.{InsnFile};
 ghost use Rattle.bpf_text.specs.insn.Lines.{listing_of};
 ghost use Rattle.bpfcanon.specs.declared.verb.Verb.TheVariants.{InsnShow};
-ghost use Rattle.bpfcanon.specs.Devices.{sink_change, source_change};
-ghost use Rattle.bpfcanon.specs.JobEnds.{EndsJob};
+ghost use Rattle.bpfcanon.specs.Devices.{sink_change};
 ghost use Rattle.bpfcanon.specs.commands.Pieces.{Answers, TookText};
 ghost use Rattle.bpfcanon.specs.commands.Reply.{limit_of};
 
-use crate::commands::input::read_input;
 use crate::commands::pieces::{PutError, end_of_pieces, put_long_piece, put_piece};
 use crate::job::Job;
 use crate::outcome::Outcome;
-use bpf_canon::{ByteSink, ByteSource, first_fault};
+use bpf_canon::{ByteSink, first_fault};
 use bpf_insn::{Order, read_insn};
 use bpf_text::push_line;
 use std::alloc::Allocator;
@@ -48,7 +46,7 @@ fn put_listing<A: Allocator, W: ByteSink>(
 }
 
 /// Runs `insn-show` on its input. Nothing is written if the input has a fault.
-fn put_insn_show<A: Allocator, W: ByteSink>(
+pub fn put_insn_show<A: Allocator, W: ByteSink>(
     alloc: A,
     job: Job,
     input: &[u8],
@@ -62,23 +60,5 @@ fn put_insn_show<A: Allocator, W: ByteSink>(
     match first_fault(job.order, input) {
         Some(fault) => Outcome::Fault(fault),
         None => end_of_pieces(put_listing(alloc, job.order, input, sink)),
-    }
-}
-
-/// Runs `insn-show`.
-pub fn run_insn_show<A: Allocator + Copy, S: ByteSource, W: ByteSink>(
-    alloc: A,
-    job: Job,
-    source: &mut S,
-    sink: &mut W,
-) -> Outcome
-    requires verb { job.verb ≡ InsnShow }
-    requires source { S.failures source.old < u64.MAX }
-    requires sink { W.failures sink.old < u64.MAX }
-    ensures { EndsJob job (source_change S.ByteSource source.old source.new) (sink_change W.ByteSink sink.old sink.new) result }
-{
-    match read_input(alloc, job, source) {
-        Ok(input) => put_insn_show(alloc, job, input.as_slice(), sink),
-        Err(outcome) => outcome,
     }
 }

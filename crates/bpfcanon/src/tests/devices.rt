@@ -16,68 +16,20 @@ struct Sample {
 }
 
 /// A line of each command. Where a command takes `--to`, one more writes in the other order.
+#[rattlefmt::skip]
 static SAMPLES: [Sample; 12] = [
-    Sample {
-        line: "insn-canon",
-        input: b"\x37\x01\x01\0\x03\0\0\0\xdb\x21\xf8\xff\xf1\0\0\0\x95\0\0\0\0\0\0\0",
-        output: b"\x37\x01\x01\0\x03\0\0\0\xdb\x21\xf8\xff\xf1\0\0\0\x95\0\0\0\0\0\0\0",
-    },
-    Sample {
-        line: "insn-canon --order big",
-        input: b"\xbf\x12\0\0\0\0\0\0",
-        output: b"\xbf\x21\0\0\0\0\0\0",
-    },
-    Sample {
-        line: "insn-show",
-        input: b"\x37\x01\x01\0\x03\0\0\0\xdb\x21\xf8\xff\xf1\0\0\0\x95\0\0\0\0\0\0\0",
-        output: b"sdiv r1, 3\ncmpxchg [r1-8], r2\nexit\n",
-    },
-    Sample {
-        line: "insn-show --order big",
-        input: b"\xbf\x12\0\0\0\0\0\0",
-        output: b"mov r1, r2\n",
-    },
-    Sample {
-        line: "insn-read",
-        input: b"sdiv r1, 3\ncmpxchg [r1-8], r2\nexit\n",
-        output: b"\x37\x01\x01\0\x03\0\0\0\xdb\x21\xf8\xff\xf1\0\0\0\x95\0\0\0\0\0\0\0",
-    },
-    Sample {
-        line: "insn-groups",
-        input: b"\x37\x01\x01\0\x03\0\0\0\xdb\x21\xf8\xff\xf1\0\0\0\x95\0\0\0\0\0\0\0",
-        output: b"base32\natomic32\natomic64\ndivmul32\ndivmul64\n",
-    },
-    Sample {
-        line: "insn-same --split 0",
-        input: b"",
-        output: b"same\n",
-    },
-    Sample {
-        line: "btf-canon",
-        input: BIG_INT,
-        output: INT,
-    },
-    Sample {
-        line: "btf-canon --to big",
-        input: INT,
-        output: BIG_INT,
-    },
-    Sample {
-        line: "btf-show",
-        input: STRUCT,
-        output: STRUCT_TEXT,
-    },
-    Sample {
-        line: "btf-check",
-        input: NO_TYPES,
-        output: b"ok 0 types\n",
-    },
-    Sample {
-        line: "btf-same --split 25",
-        input: b"\x9f\xeb\x01\0\x18\0\0\0\0\0\0\0\0\0\0\0\0\0\0\0\x01\0\0\0\0\
-            \x9f\xeb\x01\0\x18\0\0\0\0\0\0\0\0\0\0\0\0\0\0\0\x01\0\0\0\0",
-        output: b"same\n",
-    },
+    Sample { line: "insn-canon", input: b"\x37\x01\x01\0\x03\0\0\0\xdb\x21\xf8\xff\xf1\0\0\0\x95\0\0\0\0\0\0\0", output: b"\x37\x01\x01\0\x03\0\0\0\xdb\x21\xf8\xff\xf1\0\0\0\x95\0\0\0\0\0\0\0" },
+    Sample { line: "insn-canon --order big", input: b"\xbf\x12\0\0\0\0\0\0", output: b"\xbf\x21\0\0\0\0\0\0" },
+    Sample { line: "insn-show", input: b"\x37\x01\x01\0\x03\0\0\0\xdb\x21\xf8\xff\xf1\0\0\0\x95\0\0\0\0\0\0\0", output: b"sdiv r1, 3\ncmpxchg [r1-8], r2\nexit\n" },
+    Sample { line: "insn-show --order big", input: b"\xbf\x12\0\0\0\0\0\0", output: b"mov r1, r2\n" },
+    Sample { line: "insn-read", input: b"sdiv r1, 3\ncmpxchg [r1-8], r2\nexit\n", output: b"\x37\x01\x01\0\x03\0\0\0\xdb\x21\xf8\xff\xf1\0\0\0\x95\0\0\0\0\0\0\0" },
+    Sample { line: "insn-groups", input: b"\x37\x01\x01\0\x03\0\0\0\xdb\x21\xf8\xff\xf1\0\0\0\x95\0\0\0\0\0\0\0", output: b"base32\natomic32\natomic64\ndivmul32\ndivmul64\n" },
+    Sample { line: "insn-same --split 0", input: b"", output: b"same\n" },
+    Sample { line: "btf-canon", input: BIG_INT, output: INT },
+    Sample { line: "btf-canon --to big", input: INT, output: BIG_INT },
+    Sample { line: "btf-show", input: STRUCT, output: STRUCT_TEXT },
+    Sample { line: "btf-check", input: NO_TYPES, output: b"ok 0 types\n" },
+    Sample { line: "btf-same --split 25", input: b"\x9f\xeb\x01\0\x18\0\0\0\0\0\0\0\0\0\0\0\0\0\0\0\x01\0\0\0\0\x9f\xeb\x01\0\x18\0\0\0\0\0\0\0\0\0\0\0\0\0\0\0\x01\0\0\0\0", output: b"same\n" },
 ];
 
 /// How much of the output is written before read number `fuse` fails, where one byte comes at a time.
@@ -170,25 +122,11 @@ struct SecondRead {
 }
 
 /// A fault in a slot that came whole is reported before a read that fails, and missing bytes are not.
+#[rattlefmt::skip]
 static SECOND_READS: [SecondRead; 3] = [
-    SecondRead {
-        input: b"\x95\0\0\0\0\0\0\0\x04\x10\0\0\x05\0\0\0",
-        piece: 16,
-        status: 1,
-        fault: b"fault 9 Src\n",
-    },
-    SecondRead {
-        input: b"\x95\0\0\0\0\0\0\0\x04\x10\0\0\x05\0\0\0",
-        piece: 8,
-        status: 3,
-        fault: b"read failed\n",
-    },
-    SecondRead {
-        input: b"\x18\x01\0\0\x88\x77\x66\x55",
-        piece: 8,
-        status: 3,
-        fault: b"read failed\n",
-    },
+    SecondRead { input: b"\x95\0\0\0\0\0\0\0\x04\x10\0\0\x05\0\0\0", piece: 16, status: 1, fault: b"fault 9 Src\n" },
+    SecondRead { input: b"\x95\0\0\0\0\0\0\0\x04\x10\0\0\x05\0\0\0", piece: 8, status: 3, fault: b"read failed\n" },
+    SecondRead { input: b"\x18\x01\0\0\x88\x77\x66\x55", piece: 8, status: 3, fault: b"read failed\n" },
 ];
 
 #[test]

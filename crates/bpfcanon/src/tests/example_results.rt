@@ -29,20 +29,10 @@ const CANONICAL_POINT: &[u8] = b"\xeb\x9f\x01\0\0\0\0\x18\0\0\0\0\0\0\0\x34\0\0\
     \0point\0x\0y\0";
 
 /// The second file has union { int a; }, enum e { one = 1 } and typedef int t, in little-endian order.
+#[rattlefmt::skip]
 static MEMBERS: [Members; 2] = [
-    Members {
-        file: POINT,
-        names: b"x\ny\n",
-    },
-    Members {
-        file: b"\x9f\xeb\x01\0\x18\0\0\0\0\0\0\0\x48\0\0\0\x48\0\0\0\x0f\0\0\0\
-            \x01\0\0\0\0\0\0\x01\x04\0\0\0\x20\0\0\x01\
-            \0\0\0\0\x01\0\0\x05\x04\0\0\0\x05\0\0\0\x01\0\0\0\0\0\0\0\
-            \x07\0\0\0\x01\0\0\x06\x04\0\0\0\x09\0\0\0\x01\0\0\0\
-            \x0d\0\0\0\0\0\0\x08\x01\0\0\0\
-            \0int\0a\0e\0one\0t\0",
-        names: b"a\n",
-    },
+    Members { file: POINT, names: b"x\ny\n" },
+    Members { file: b"\x9f\xeb\x01\0\x18\0\0\0\0\0\0\0\x48\0\0\0\x48\0\0\0\x0f\0\0\0\x01\0\0\0\0\0\0\x01\x04\0\0\0\x20\0\0\x01\0\0\0\0\x01\0\0\x05\x04\0\0\0\x05\0\0\0\x01\0\0\0\0\0\0\0\x07\0\0\0\x01\0\0\x06\x04\0\0\0\x09\0\0\0\x01\0\0\0\x0d\0\0\0\0\0\0\x08\x01\0\0\0\0int\0a\0e\0one\0t\0", names: b"a\n" },
 ];
 
 #[test]

@@ -24,97 +24,41 @@ struct Choices {
     split: Choice<u64>,
 }
 
+#[rattlefmt::skip]
 static ORDERS: [Choice<Order>; 5] = [
-    Choice {
-        words: "",
-        value: Order::Little,
-    },
-    Choice {
-        words: "--order little",
-        value: Order::Little,
-    },
-    Choice {
-        words: "--order=little",
-        value: Order::Little,
-    },
-    Choice {
-        words: "--order big",
-        value: Order::Big,
-    },
-    Choice {
-        words: "--order=big",
-        value: Order::Big,
-    },
+    Choice { words: "", value: Order::Little },
+    Choice { words: "--order little", value: Order::Little },
+    Choice { words: "--order=little", value: Order::Little },
+    Choice { words: "--order big", value: Order::Big },
+    Choice { words: "--order=big", value: Order::Big },
 ];
 
+#[rattlefmt::skip]
 static OUTPUT_ORDERS: [Choice<Order>; 5] = [
-    Choice {
-        words: "",
-        value: Order::Little,
-    },
-    Choice {
-        words: "--to little",
-        value: Order::Little,
-    },
-    Choice {
-        words: "--to=little",
-        value: Order::Little,
-    },
-    Choice {
-        words: "--to big",
-        value: Order::Big,
-    },
-    Choice {
-        words: "--to=big",
-        value: Order::Big,
-    },
+    Choice { words: "", value: Order::Little },
+    Choice { words: "--to little", value: Order::Little },
+    Choice { words: "--to=little", value: Order::Little },
+    Choice { words: "--to big", value: Order::Big },
+    Choice { words: "--to=big", value: Order::Big },
 ];
 
+#[rattlefmt::skip]
 static SECOND_ORDERS: [Choice<Order>; 5] = [
-    Choice {
-        words: "",
-        value: Order::Little,
-    },
-    Choice {
-        words: "--other little",
-        value: Order::Little,
-    },
-    Choice {
-        words: "--other=little",
-        value: Order::Little,
-    },
-    Choice {
-        words: "--other big",
-        value: Order::Big,
-    },
-    Choice {
-        words: "--other=big",
-        value: Order::Big,
-    },
+    Choice { words: "", value: Order::Little },
+    Choice { words: "--other little", value: Order::Little },
+    Choice { words: "--other=little", value: Order::Little },
+    Choice { words: "--other big", value: Order::Big },
+    Choice { words: "--other=big", value: Order::Big },
 ];
 
 /// The last two are the greatest length.
+#[rattlefmt::skip]
 static SPLITS: [Choice<u64>; 5] = [
-    Choice {
-        words: "",
-        value: 0,
-    },
-    Choice {
-        words: "--split 0",
-        value: 0,
-    },
-    Choice {
-        words: "--split=16",
-        value: 16,
-    },
-    Choice {
-        words: "--split 134217728",
-        value: 134_217_728,
-    },
-    Choice {
-        words: "--split=134217728",
-        value: 134_217_728,
-    },
+    Choice { words: "", value: 0 },
+    Choice { words: "--split 0", value: 0 },
+    Choice { words: "--split=16", value: 16 },
+    Choice { words: "--split 134217728", value: 134_217_728 },
+    Choice { words: "--split=134217728", value: 134_217_728 },
 ];
 
 /// Whether a command takes the option, or it isn't given.

@@ -1,30 +1,16 @@
 //! All rows, each with pieces of one byte, of three and of the largest that a read offers.
 
-use super::btf_header_fault_rows::FAULTY_BTF_HEADERS;
-use super::btf_record_fault_rows::FAULTY_BTF_RECORDS;
-use super::btf_rows::BTF;
-use super::btf_same_rows::TWO_BTF_FILES;
-use super::btf_text_rows::BTF_TEXTS;
 use super::expect::answered;
-use super::insn_fault_rows::FAULTY_INSTRUCTIONS;
-use super::insn_rows::INSTRUCTIONS;
-use super::listing_rows::LISTINGS;
 use super::runner::{Row, check_row, run, steady};
+use super::vectors::{RUNS_1, RUNS_2, RUNS_3, RUNS_4, RUNS_5, RUNS_6, RUNS_7};
 use std::alloc::Global;
 use std::process::Abort;
 use std::test::Fail;
 
 #[test]
 fn commands_answer_as_their_rows_say(rt: HostRuntime) -> Result<(), Fail> {
-    let tables: [&[Row]; 8] = [
-        &INSTRUCTIONS,
-        &FAULTY_INSTRUCTIONS,
-        &LISTINGS,
-        &BTF,
-        &BTF_TEXTS,
-        &FAULTY_BTF_HEADERS,
-        &FAULTY_BTF_RECORDS,
-        &TWO_BTF_FILES,
+    let tables: [&[Row]; 7] = [
+        &RUNS_1, &RUNS_2, &RUNS_3, &RUNS_4, &RUNS_5, &RUNS_6, &RUNS_7,
     ];
     for row in tables.into_iter().flatten() {
         for piece in [1, 3, 4096] {
@@ -42,21 +28,10 @@ struct CutFile {
 }
 
 /// A struct with a tag on a member, and a file with a header of 28 bytes.
+#[rattlefmt::skip]
 static CUT_FILES: [CutFile; 2] = [
-    CutFile {
-        file: b"\x9f\xeb\x01\0\x18\0\0\0\0\0\0\0\x44\0\0\0\x44\0\0\0\x0d\0\0\0\
-            \x01\0\0\0\0\0\0\x01\x04\0\0\0\x20\0\0\x01\
-            \x05\0\0\0\x02\0\0\x04\x08\0\0\0\
-            \x07\0\0\0\x01\0\0\0\0\0\0\0\x09\0\0\0\x01\0\0\0\x20\0\0\0\
-            \x0b\0\0\0\0\0\0\x11\x02\0\0\0\x01\0\0\0\
-            \0int\0s\0a\0b\0t\0",
-        shorter_than_its_header: 24,
-    },
-    CutFile {
-        file: b"\x9f\xeb\x01\0\x1c\0\0\0\x07\0\0\0\x10\0\0\0\0\0\0\0\x07\0\0\0\0\0\0\0\
-            \0x\0int\0\x03\0\0\0\0\0\0\x01\x04\0\0\0\x20\0\0\x01",
-        shorter_than_its_header: 28,
-    },
+    CutFile { file: b"\x9f\xeb\x01\0\x18\0\0\0\0\0\0\0\x44\0\0\0\x44\0\0\0\x0d\0\0\0\x01\0\0\0\0\0\0\x01\x04\0\0\0\x20\0\0\x01\x05\0\0\0\x02\0\0\x04\x08\0\0\0\x07\0\0\0\x01\0\0\0\0\0\0\0\x09\0\0\0\x01\0\0\0\x20\0\0\0\x0b\0\0\0\0\0\0\x11\x02\0\0\0\x01\0\0\0\0int\0s\0a\0b\0t\0", shorter_than_its_header: 24 },
+    CutFile { file: b"\x9f\xeb\x01\0\x1c\0\0\0\x07\0\0\0\x10\0\0\0\0\0\0\0\x07\0\0\0\0\0\0\0\0x\0int\0\x03\0\0\0\0\0\0\x01\x04\0\0\0\x20\0\0\x01", shorter_than_its_header: 28 },
 ];
 
 /// Cuts a file off after each of its bytes but the last.

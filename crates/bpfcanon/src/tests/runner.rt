@@ -1,6 +1,6 @@
 //! Runs the command over memory.
 
-use super::expect::{answered, failed};
+use super::expect::answered;
 use crate::command::command;
 use bpf_canon::{MemSink, MemSource};
 use std::alloc::{AllocError, Global};
@@ -90,34 +90,5 @@ pub fn check_row(rt: &impl Abort, alloc: Global, row: &Row, pace: Pace) -> Resul
     let case = (row.name, row.line, pace.piece);
     let fault = row.fault.as_bytes();
     answered(rt, &ran, row.status, row.output, fault, &case);
-    Ok(())
-}
-
-/// A write that fails: how many bytes go at a time, the number of the write, and how many bytes went before it.
-#[derive(Clone, Copy)]
-pub struct FailedWrite {
-    pub piece: usize,
-    pub fuse: u64,
-    pub taken: usize,
-}
-
-/// If a write fails, the sink has taken a prefix of the whole output.
-pub fn check_failed_writes(
-    rt: &impl Abort,
-    alloc: Global,
-    line: &str,
-    input: &[u8],
-    whole: &[u8],
-    writes: &[FailedWrite],
-) -> Result<(), Fail> {
-    for write in writes {
-        let pace = Pace {
-            write_fuse: Some(write.fuse),
-            ..steady(write.piece)
-        };
-        let ran = run(alloc, line, input, pace)?;
-        let case = (line, write.piece, write.fuse);
-        failed(rt, &ran, b"write failed\n", whole, write.taken, &case);
-    }
     Ok(())
 }

@@ -1,0 +1,181 @@
+package bpfcanon_test
+
+import (
+	"encoding/hex"
+	"os"
+	"path/filepath"
+	"strconv"
+	"strings"
+	"testing"
+
+	"bpfcanon"
+)
+
+// The fields of each row of a kind in testdata/vectors.tsv, without the kind. testdata/README.md has
+// the columns.
+func vectors(t *testing.T, kind string) (rows [][]string) {
+	t.Helper()
+	file, err := os.ReadFile(filepath.Join("..", "..", "testdata", "vectors.tsv"))
+	if err != nil {
+		t.Fatal(err)
+	}
+	for _, line := range strings.Split(string(file), "\n") {
+		if fields := strings.Split(line, "\t"); fields[0] == kind {
+			rows = append(rows, fields[1:])
+		}
+	}
+	if len(rows) == 0 {
+		t.Fatalf("no rows of %s", kind)
+	}
+	return rows
+}
+
+// The bytes of a field of hexadecimal digits.
+func data(t *testing.T, field string) []byte {
+	t.Helper()
+	b, err := hex.DecodeString(strings.TrimSuffix(field, "-"))
+	if err != nil {
+		t.Fatal(err)
+	}
+	return b
+}
+
+// The bytes of a field of text.
+func text(t *testing.T, field string) []byte {
+	t.Helper()
+	if field == "-" {
+		return nil
+	}
+	s, err := strconv.Unquote(`"` + field + `"`)
+	if err != nil {
+		t.Fatal(field, err)
+	}
+	return []byte(s)
+}
+
+// The cause of this name, and the place or line of a row.
+func fault[C bpfcanon.Cause](t *testing.T, cause func(uint32) C, place, name string) bpfcanon.FaultError {
+	t.Helper()
+	at, err := strconv.ParseUint(place, 10, 64)
+	if err != nil {
+		t.Fatal(err)
+	}
+	for number := uint32(1); number <= 32; number++ {
+		if c := cause(number); c.String() == name {
+			return bpfcanon.FaultError{Cause: c, Pos: at}
+		}
+	}
+	t.Fatalf("no cause has the name %s", name)
+	return bpfcanon.FaultError{}
+}
+
+func insnCause(n uint32) bpfcanon.InsnCause { return bpfcanon.InsnCause(n) }
+func lineCause(n uint32) bpfcanon.LineCause { return bpfcanon.LineCause(n) }
+func btfCause(n uint32) bpfcanon.BTFCause   { return bpfcanon.BTFCause(n) }
+
+var brings = map[string]bpfcanon.Groups{
+	"base32": bpfcanon.Base32, "base64": bpfcanon.Base64 | bpfcanon.Base32, "atomic32": bpfcanon.Atomic32,
+	"atomic64": bpfcanon.Atomic64 | bpfcanon.Atomic32, "divmul32": bpfcanon.Divmul32,
+	"divmul64": bpfcanon.Divmul64 | bpfcanon.Divmul32, "packet": bpfcanon.Packet,
+}
+
+func TestInstructions(t *testing.T) {
+	for _, row := range vectors(t, "insn") {
+		line, programs := row[0], [][]byte{data(t, row[1]), data(t, row[2])}
+		for _, order := range orders {
+			for _, to := range orders {
+				got, err := bpfcanon.InsnCanon(order, to, programs[order])
+				wantBytes(t, line, got, err, programs[to])
+				if same, err := bpfcanon.InsnSame(order, programs[order], to, programs[to]); !same || err != nil {
+					t.Errorf("%s, compared: %v, %v", line, same, err)
+				}
+			}
+			got, err := bpfcanon.InsnShow(order, programs[order])
+			wantBytes(t, line, got, err, []byte(line+"\n"))
+			got, err = bpfcanon.InsnRead(order, []byte(line))
+			wantBytes(t, line, got, err, programs[order])
+			if groups, err := bpfcanon.InsnGroups(order, programs[order]); groups != brings[row[3]] || err != nil {
+				t.Errorf("%s: groups %v, %v", line, groups, err)
+			}
+		}
+	}
+}
+
+func TestFaultyInstructions(t *testing.T) {
+	for _, row := range vectors(t, "insn-fault") {
+		want := fault(t, insnCause, row[3], row[4])
+		for _, order := range orders {
+			program := data(t, row[1+order])
+			_, err := bpfcanon.InsnCanon(order, bpfcanon.Little, program)
+			wantFault(t, row[0], err, want)
+			_, err = bpfcanon.InsnShow(order, program)
+			wantFault(t, row[0], err, want)
+			_, err = bpfcanon.InsnGroups(order, program)
+			wantFault(t, row[0], err, want)
+			_, err = bpfcanon.InsnSame(order, program, order, nil)
+			wantFault(t, row[0], err, want)
+			second := want
+			second.Second = true
+			_, err = bpfcanon.InsnSame(order, nil, order, program)
+			wantFault(t, row[0], err, second)
+		}
+	}
+}
+
+func TestListings(t *testing.T) {
+	for _, row := range vectors(t, "listing") {
+		program, err := bpfcanon.InsnRead(bpfcanon.Little, text(t, row[1]))
+		if err != nil {
+			t.Errorf("%s: %v", row[0], err)
+		}
+		got, err := bpfcanon.InsnShow(bpfcanon.Little, program)
+		wantBytes(t, row[0], got, err, text(t, row[2]))
+	}
+	for _, row := range vectors(t, "listing-fault") {
+		want := fault(t, lineCause, row[2], row[3])
+		want.Line, want.Pos = want.Pos, 0
+		_, err := bpfcanon.InsnRead(bpfcanon.Little, text(t, row[1]))
+		wantFault(t, row[0], err, want)
+	}
+}
+
+func TestTypes(t *testing.T) {
+	for _, row := range vectors(t, "btf") {
+		canonical := [][]byte{data(t, row[2]), data(t, row[3])}
+		for _, given := range [][]byte{data(t, row[1]), canonical[0], canonical[1]} {
+			for _, to := range orders {
+				got, err := bpfcanon.BTFCanon(to, given)
+				wantBytes(t, row[0], got, err, canonical[to])
+			}
+			got, err := bpfcanon.BTFShow(given)
+			wantBytes(t, row[0], got, err, text(t, row[5]))
+			if count, err := bpfcanon.BTFCheck(given); strconv.Itoa(count) != row[4] || err != nil {
+				t.Errorf("%s: %d types, %v", row[0], count, err)
+			}
+			if same, err := bpfcanon.BTFSame(given, canonical[0]); !same || err != nil {
+				t.Errorf("%s, compared: %v, %v", row[0], same, err)
+			}
+		}
+	}
+}
+
+func TestFaultyTypes(t *testing.T) {
+	good := data(t, vectors(t, "btf")[0][1])
+	for _, row := range vectors(t, "btf-fault") {
+		want := fault(t, btfCause, row[3], row[4])
+		for _, given := range [][]byte{data(t, row[1]), data(t, row[2])} {
+			_, err := bpfcanon.BTFCanon(bpfcanon.Little, given)
+			wantFault(t, row[0], err, want)
+			_, err = bpfcanon.BTFShow(given)
+			wantFault(t, row[0], err, want)
+			_, err = bpfcanon.BTFCheck(given)
+			wantFault(t, row[0], err, want)
+			_, err = bpfcanon.BTFSame(given, good)
+			wantFault(t, row[0], err, want)
+			second := want
+			second.Second = true
+			_, err = bpfcanon.BTFSame(good, given)
+			wantFault(t, row[0], err, second)
+		}
+	}
+}

@@ -1,0 +1,27 @@
+use Rattle.std.proofs.Common.{rules}
+use Rattle.bpfcanon.proofs.JobLemmas.{ends_answered}
+use Rattle.bpfcanon.proofs.CommandsLemmas.BtfCanonLemmas.{btf_canon_done, btf_canon_stopped}
+use Rattle.bpfcanon.proofs.CommandsLemmas.InsnCanonLemmas.{canon_done, canon_stopped}
+use Rattle.bpfcanon.proofs.run.run_job.Goals as goal
+
+pub returns-in-Ok : goal.returns-in-Ok
+returns-in-Ok g c = canon_done c.args.job _ _ _ c.in-InsnCanon.is c.in-Ok.ensures.ok c.in-Ok.ensures.healthy.0 c.in-Ok.ensures.healthy.1
+
+pub returns-in-Err : goal.returns-in-Err
+returns-in-Err g c =
+    canon_stopped c.args.job _ _ _ c.in-Err.error.cause c.in-InsnCanon.is c.in-Err.ensures.err c.in-Err.ensures.reads c.in-Err.ensures.writes
+    c.of_stop.result c.of_stop.ensures
+
+pub returns-in-Ok-run_btf : goal.returns-in-Ok-run_btf
+returns-in-Ok-run_btf g c =
+    btf_canon_done c.args.job _ _ _ c.in-BtfCanon.is c.in-Ok-run_btf.ensures.ok c.in-Ok-run_btf.ensures.healthy.0 c.in-Ok-run_btf.ensures.healthy.1
+
+pub returns-in-Err-run_btf : goal.returns-in-Err-run_btf
+returns-in-Err-run_btf g c =
+    btf_canon_stopped c.args.job _ _ _ c.in-Err-run_btf.error.cause c.in-BtfCanon.is c.in-Err-run_btf.ensures.err c.in-Err-run_btf.ensures.reads
+    c.in-Err-run_btf.ensures.writes c.of_stop-in-Err-run_btf.result c.of_stop-in-Err-run_btf.ensures
+
+pub returns-in-Ok-read_input : goal.returns-in-Ok-read_input
+returns-in-Ok-read_input g c =
+    let read = rw c.as_slice.ensures.value at c.answer.ensures in
+    ends_answered c.args.job _ _ c.in-Ok-read_input.input.items c.answer.result (search rules) c.in-Ok-read_input.ensures.input read
