@@ -1,6 +1,6 @@
 -- Names with their indices, before and after they are sorted.
-use Rattle.std.proofs.Common.{◌≡◌, ℕ, ◌+◌, ◌<◌, Bool, inl, inr, List, [], ◌∷◌, ◌++◌, length, map, get_or, refl, sym, ap, ◌∙◌, subst, arith, Bor}
-use Rattle.std.specs.List.{All, Contains}
+use Rattle.std.proofs.Common.{◌≡◌, ℕ, ◌+◌, ◌<◌, inl, inr, List, [], ◌∷◌, ◌++◌, length, map, get_or, refl, sym, ap, ◌∙◌, subst, arith, Bor}
+use Rattle.std.specs.List.{Contains}
 use Rattle.std.specs.List.Sorted.{IsPermutation, IsSorted, IsSortedBy}
 use Rattle.std.proofs.lemmas.Bool.{cases_eq}
 use Rattle.std.proofs.Math.Seq.{get_or-append_seam}

@@ -29,8 +29,9 @@ impl InHost {
     };
 }
 
-/// Finds the hosts of the used offsets within the text of a rank. Their texts get shorter, so the search for the first rank that ends
-/// with a text begins at the rank found for the offset before.
+/// Finds the hosts of the used offsets within the text of a rank, up to the last of them. Their texts
+/// get shorter, so the search for the first rank that ends with a text begins at the rank found for
+/// the offset before.
 fn find_within<A: Allocator>(
     uses: &UsedOffsets<A>,
     ranked: &RankedTexts<'_, A>,
@@ -45,18 +46,20 @@ fn find_within<A: Allocator>(
     ensures { spec.FindsWithinRank uses.now ranked.now rank in_hosts.old in_hosts.new }
 {
     let end = ranked.texts[rank].end;
+    let used = uses.used_before(end as usize);
     let mut from = rank;
     for off in ranked.texts[rank].start..end {
         if uses.is_used(off as usize) {
             from = first_rank(&ranked.common, lower, from, end - off);
             let host = ranked.hosts[from];
             let len = ranked.texts[host as usize].len();
-            in_hosts[uses.number(off as usize)] = InHost {
+            let number = uses.number(off as usize);
+            in_hosts[number] = InHost {
                 host: host + 1,
                 before: len - (end - off),
                 len,
             };
-            if uses.are_unused(off as usize + 1, end as usize) {
+            if number + 1 == used {
                 return;
             }
         }

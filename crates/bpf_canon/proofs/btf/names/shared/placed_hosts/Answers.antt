@@ -5,7 +5,6 @@ use Rattle.bpf_canon.specs.btf.names.Interned.{lent_texts}
 use Rattle.bpf_canon.proofs.BtfLemmas.Names.HostSearch.{text_at, texts_length}
 use Rattle.bpf_canon.proofs.BtfLemmas.Names.HostSteps.{kept_apart}
 use Rattle.bpf_canon.proofs.BtfLemmas.Names.HostTable.{PlacedTo, placed_own, placed_other, placed_room, placed_all}
-use Rattle.bpf_canon.proofs.btf.names.shared.placed_hosts.Given.{Over}
 use Rattle.bpf_canon.proofs.btf.names.shared.placed_hosts.Goals as goal
 use Rattle.bpf_canon.proofs.btf.names.shared.placed_hosts.Goals.{then-hosts-index, else-hosts-index}
 

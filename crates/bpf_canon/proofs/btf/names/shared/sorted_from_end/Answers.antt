@@ -1,4 +1,4 @@
-use Rattle.std.proofs.Common.{◌≡◌, ℕ, List, length, subst, ap, rules, arith, Bor}
+use Rattle.std.proofs.Common.{◌≡◌, length, subst, ap, rules, arith}
 use Rattle.std.specs.Ordering.{is_lt}
 use Rattle.std.proofs.lemmas.List.Sorted.{answers_always, ranks_by}
 use Rattle.btf_types.specs.strings.SharedNames.{tail_cmp}

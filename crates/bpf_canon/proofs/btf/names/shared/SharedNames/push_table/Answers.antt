@@ -1,4 +1,4 @@
-use Rattle.std.proofs.Common.{◌≡◌, ℕ, ◌+◌, ◌<◌, List, [], ◌∷◌, ◌++◌, length, get_or, sym, ap, ◌∙◌, subst, arith, Bor}
+use Rattle.std.proofs.Common.{◌≡◌, ℕ, ◌<◌, List, [], ◌∷◌, ◌++◌, length, get_or, sym, ap, ◌∙◌, subst, arith, Bor}
 use Rattle.std.proofs.lemmas.List.{get_or_read}
 use Rattle.btf_types.specs.Names.{kept, table_of}
 use Rattle.bpf_canon.specs.btf.names.Interned.{lent_texts, HaveHosts}
