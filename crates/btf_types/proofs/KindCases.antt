@@ -2,7 +2,7 @@
 use Rattle.std.proofs.Common.{◌≡◌, ℕ, true, List, [], ◌∷◌, inl, inr, sym, subst}
 use Rattle.std.specs.Prelude.{IsTrue, ◌==◌, ⊤}
 use Rattle.std.proofs.lemmas.Bool.{or_cases, eqb-true}
-use Rattle.btf_raw.specs.declared.kinds.TheConstants.{INT, PTR, ARRAY, STRUCT, UNION, ENUM, FWD, TYPEDEF, VOLATILE, CONST, RESTRICT, FUNC, FUNC_PROTO, VAR, DATASEC, FLOAT, DECL_TAG, TYPE_TAG, ENUM64}
+use Rattle.btf_raw.specs.KindNumbers.{INT, PTR, ARRAY, STRUCT, UNION, ENUM, FWD, TYPEDEF, VOLATILE, CONST, RESTRICT, FUNC, FUNC_PROTO, VAR, DATASEC, FLOAT, DECL_TAG, TYPE_TAG, ENUM64}
 use Rattle.btf_raw.specs.Kinds.{one_of, is_kind}
 
 pub data KindIs : ℕ → Type 0 where

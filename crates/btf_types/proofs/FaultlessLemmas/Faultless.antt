@@ -7,7 +7,7 @@ use Rattle.std.proofs.lemmas.List.{length-append}
 use Rattle.std.proofs.lemmas.List.Elements.{All-nil, All-cons, All-head, All-tail}
 use Rattle.std.proofs.lemmas.List.Sums.{sum_by-cons}
 use Rattle.bpf_words.specs.declared.Order.{Order}
-use Rattle.btf_raw.specs.declared.kinds.TheConstants.{STRUCT, UNION, FUNC, FUNC_PROTO, VAR, TYPEDEF, DECL_TAG}
+use Rattle.btf_raw.specs.KindNumbers.{STRUCT, UNION, FUNC, FUNC_PROTO, VAR, TYPEDEF, DECL_TAG}
 use Rattle.btf_raw.specs.Cause.{HasNone}
 use Rattle.btf_raw.specs.Header.{HasNulEnds, TYPES_LIMIT, STRINGS_LIMIT}
 use Rattle.btf_raw.specs.Kinds.{one_of, has_target, is_struct}

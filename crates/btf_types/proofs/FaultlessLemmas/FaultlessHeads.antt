@@ -4,7 +4,7 @@ use Rattle.std.specs.Prelude.{IsTrue, IfSome, ◌==◌, if◌then◌else◌}
 use Rattle.std.specs.List.{All}
 use Rattle.std.proofs.lemmas.Bool.{eqb-true}
 use Rattle.std.proofs.lemmas.List.Elements.{All-nil, All-cons}
-use Rattle.btf_raw.specs.declared.kinds.TheConstants.{INT, ARRAY, FUNC, VAR, DECL_TAG, FWD}
+use Rattle.btf_raw.specs.KindNumbers.{INT, ARRAY, FUNC, VAR, DECL_TAG, FWD}
 use Rattle.btf_raw.specs.Kinds.{one_of, has_flag, has_vlen, fixed_words, item_words, has_target, has_no_name}
 use Rattle.btf_types.specs.Values.{TypeItem}
 use Rattle.btf_types.specs.Names.{head_name}

@@ -3,7 +3,7 @@ use Rattle.std.proofs.Common.{◌≡◌, ◌≢◌, ◌⊎◌, ℕ, zero, suc, �
 use Rattle.std.specs.Prelude.{IsTrue, slice_index, ◌==◌, if◌then◌else◌}
 use Rattle.std.specs.List.{All}
 use Rattle.std.proofs.lemmas.List.Elements.{All-nil, All-cons}
-use Rattle.btf_raw.specs.declared.kinds.TheConstants.{STRUCT, UNION, ENUM, FUNC_PROTO, DATASEC, ENUM64}
+use Rattle.btf_raw.specs.KindNumbers.{STRUCT, UNION, ENUM, FUNC_PROTO, DATASEC, ENUM64}
 use Rattle.btf_raw.specs.Header.{HasNulEnds}
 use Rattle.btf_raw.specs.Kinds.{item_words, one_of, is_struct, has_item_names}
 use Rattle.btf_raw.specs.Names.{NameAt}

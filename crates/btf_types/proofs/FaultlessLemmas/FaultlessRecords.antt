@@ -3,7 +3,7 @@ use Rattle.std.proofs.Common.{◌≡◌, ◌≢◌, ℕ, zero, suc, ◌+◌, ◌
 use Rattle.std.specs.Prelude.{IsTrue, IfSome, slice_index, ◌==◌, not, if◌then◌else◌}
 use Rattle.std.specs.List.{All, concat}
 use Rattle.std.proofs.lemmas.List.{take_all, length-drop}
-use Rattle.btf_raw.specs.declared.kinds.TheConstants.{INT, ARRAY, FUNC, VAR, DECL_TAG}
+use Rattle.btf_raw.specs.KindNumbers.{INT, ARRAY, FUNC, VAR, DECL_TAG}
 use Rattle.btf_raw.specs.Header.{HasNulEnds}
 use Rattle.btf_raw.specs.Kinds.{fixed_words, item_words}
 use Rattle.btf_raw.specs.Names.{NameAt}

@@ -3,7 +3,7 @@ use Rattle.std.proofs.Common.{◌≡◌, ◌≢◌, ◌⊎◌, ℕ, suc, ◌+◌
 use Rattle.std.specs.Prelude.{IsTrue, IfSome, slice_index, ◌==◌}
 use Rattle.std.proofs.lemmas.Bool.{cases_lt, cases_eq}
 use Rattle.btf_raw.specs.declared.cause.BtfCause.TheVariants.{NameRange, NameUtf8, NameMissing, NameUnwanted, NotZero, Size, Reference, TargetKind, IntWord, MemberInt, MemberPlace, Linkage, Component}
-use Rattle.btf_raw.specs.declared.kinds.TheConstants.{INT, ARRAY, FWD, FUNC, VAR, DECL_TAG}
+use Rattle.btf_raw.specs.KindNumbers.{INT, ARRAY, FWD, FUNC, VAR, DECL_TAG}
 use Rattle.btf_raw.specs.Header.{HasNulEnds}
 use Rattle.btf_raw.specs.Kinds.{one_of, kind_of, vlen_of, flag_of, unused_of, fixed_words, item_words, tail_words, needs_name, has_no_name, has_item_names}
 use Rattle.btf_raw.specs.Names.{TextAt, NameAt}

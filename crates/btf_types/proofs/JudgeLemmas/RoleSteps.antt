@@ -4,7 +4,7 @@ use Rattle.std.specs.Prelude.{IsTrue, IsFalse, MatchOption, slice_index, â—Œ==â—
 use Rattle.std.proofs.lemmas.Bool.{cases_lt, eqb-true}
 use Rattle.btf_raw.specs.declared.cause.BtfCause.{BtfCause}
 use Rattle.btf_raw.specs.declared.cause.BtfCause.TheVariants.{NameRange, NameUtf8, NameMissing, NameUnwanted, NotZero, Size, Reference, TargetKind, IntWord, MemberInt, MemberPlace, Linkage, Component}
-use Rattle.btf_raw.specs.declared.kinds.TheConstants.{INT, ARRAY, STRUCT, UNION, ENUM, FUNC_PROTO, VAR, DATASEC, DECL_TAG, ENUM64}
+use Rattle.btf_raw.specs.KindNumbers.{INT, ARRAY, STRUCT, UNION, ENUM, FUNC_PROTO, VAR, DATASEC, DECL_TAG, ENUM64}
 use Rattle.btf_raw.specs.Kinds.{one_of, tail_words, fixed_words, item_words, has_target, has_item_names, is_struct}
 use Rattle.btf_raw.specs.Names.{TextAt}
 use Rattle.btf_raw.specs.Frames.{IsFrame, name_word, third_word, kind, vlen, flag}

@@ -3,7 +3,7 @@ use Rattle.std.proofs.Common.{◌≡◌, ◌⊎◌, ℕ, ◌-◌, ◌%◌, ◌<�
 use Rattle.std.specs.Prelude.{◌==◌, IsTrue, IsFalse}
 use Rattle.btf_raw.specs.declared.cause.BtfCause.{BtfCause}
 use Rattle.btf_raw.specs.declared.cause.BtfCause.TheVariants.{Reference, MemberInt}
-use Rattle.btf_raw.specs.declared.kinds.TheConstants.{INT, ARRAY, FUNC_PROTO, VAR, DATASEC, DECL_TAG}
+use Rattle.btf_raw.specs.KindNumbers.{INT, ARRAY, FUNC_PROTO, VAR, DATASEC, DECL_TAG}
 use Rattle.btf_raw.specs.Kinds.{item_words, has_item_names, is_struct}
 use Rattle.btf_types.specs.judge.Checks.{TypeFacts, type_at, member_int_fits, SecondFault, ThirdFault}
 use Rattle.btf_types.specs.judge.FieldFaults.{HasBitFields, offset_in, width_in}

@@ -1,7 +1,7 @@
 -- The roles of the words of a record's header, and of those after it by its kind.
 use Rattle.std.proofs.Common.{rules, ◌≡◌, ◌⊎◌, ℕ, ◌+◌, ◌-◌, ◌*◌, ◌<◌, ◌≤◌, [], ◌∷◌, inl, inr, refl, sym, subst, lit<, arith}
 use Rattle.std.specs.Prelude.{IsTrue}
-use Rattle.btf_raw.specs.declared.kinds.TheConstants.{INT, ARRAY, STRUCT, UNION, ENUM, FUNC_PROTO, VAR, DATASEC, DECL_TAG, ENUM64}
+use Rattle.btf_raw.specs.KindNumbers.{INT, ARRAY, STRUCT, UNION, ENUM, FUNC_PROTO, VAR, DATASEC, DECL_TAG, ENUM64}
 use Rattle.btf_raw.specs.Kinds.{one_of, fixed_words, item_words, has_item_names, is_struct}
 use Rattle.btf_types.proofs.JudgeLemmas.Roles.{Role, OwnName, Info, Third, IntWord, Linkage, Component, ItemName, NamedType, MemberType, MemberPlace, Free, word_in_item, PartHasRole, HasRole}
 use Rattle.btf_types.proofs.JudgeLemmas.RoleSteps.{TwoOrThree, one_or_more, part_is, struct_size, proto_size, datasec_size}

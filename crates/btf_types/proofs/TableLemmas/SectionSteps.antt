@@ -5,7 +5,7 @@ use Rattle.std.specs.List.{concat}
 use Rattle.std.proofs.Math.Dec.{eqb-suc-zero}
 use Rattle.std.proofs.lemmas.List.{length-map}
 use Rattle.bpf_words.specs.declared.Order.{Order}
-use Rattle.btf_raw.specs.declared.kinds.TheConstants.{INT}
+use Rattle.btf_raw.specs.KindNumbers.{INT}
 use Rattle.btf_raw.specs.Kinds.{tail_words, fixed_words, item_words}
 use Rattle.btf_raw.specs.Frames.{IsFrame, bytes_of, section_of, kind}
 use Rattle.btf_raw.proofs.Frames.{length-bytes_of}

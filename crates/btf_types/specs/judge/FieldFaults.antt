@@ -3,7 +3,7 @@ use Rattle.std.specs.Prelude.{◌≡◌, ◌≢◌, ◌⊎◌, ℕ, zero, suc, �
 use Rattle.std.specs.List.{concat}
 use Rattle.btf_raw.specs.declared.cause.BtfCause.{BtfCause}
 use Rattle.btf_raw.specs.declared.cause.BtfCause.TheVariants.{NameRange, NameUtf8, NameMissing, NameUnwanted, NotZero, Size, Reference, TargetKind, IntWord, MemberInt, MemberPlace, Linkage, Component}
-use Rattle.btf_raw.specs.declared.kinds.TheConstants.{INT, ARRAY, STRUCT, UNION, FWD, FUNC, FUNC_PROTO, VAR, DATASEC, DECL_TAG}
+use Rattle.btf_raw.specs.KindNumbers.{INT, ARRAY, STRUCT, UNION, FWD, FUNC, FUNC_PROTO, VAR, DATASEC, DECL_TAG}
 use Rattle.btf_raw.specs.Names.{TextAt}
 use Rattle.btf_raw.specs.Kinds.{one_of, item_words, needs_name, has_no_name, has_target, has_item_names, is_struct}
 use Rattle.btf_raw.specs.Frames.{name_word, third_word, kind, vlen, flag}

@@ -1,7 +1,7 @@
 -- A record at one place of a section.
 use Rattle.std.specs.Prelude.{◌≡◌, ◌⊎◌, ℕ, ◌+◌, ◌*◌, ◌^◌, ◌<◌, ◌≤◌, IsTrue, List, length, slice_index}
 use Rattle.bpf_words.specs.declared.Order.{Order}
-use Rattle.btf_raw.specs.declared.kinds.TheConstants.{DECL_TAG}
+use Rattle.btf_raw.specs.KindNumbers.{DECL_TAG}
 use Rattle.btf_raw.specs.Header.{HasNulEnds}
 use Rattle.btf_raw.specs.Kinds.{item_words, has_item_names}
 use Rattle.btf_raw.specs.Frames.{IsFrame, kind, name_word}

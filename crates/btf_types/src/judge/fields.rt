@@ -5,7 +5,7 @@
 ghost use Rattle.std.specs.Prelude.{◌≡◌, ◌<◌, ℕ, IsTrue, [], ◌∷◌, MatchOption, length, slice_index};
 ghost use Rattle.btf_raw.specs.Cause.{HasNone, LeastByPlace};
 ghost use Rattle.btf_raw.specs.Kinds.{one_of};
-ghost use Rattle.btf_raw.specs.declared.kinds.TheConstants as kinds;
+ghost use Rattle.btf_raw.specs.KindNumbers as kinds;
 ghost use Rattle.btf_types.specs.judge.Checks.{IsLeastOf};
 ghost use Rattle.btf_types.specs.judge.FieldFaults.{FieldFault};
 ghost use Rattle.btf_types.specs.judge.RecordFaults.{RecordIs, FaultInWord, FirstWithin, IsFaultlessAt, IsLeastAt};

@@ -2,7 +2,7 @@
 //! the words of all items in the order of their places, in a loop of its own, so that no word asks for the kind again.
 
 ghost use Rattle.std.specs.Prelude.{◌≡◌, ◌+◌, ◌*◌, ◌<◌, IsTrue, [], ◌∷◌, length};
-ghost use Rattle.btf_raw.specs.declared.kinds.TheConstants as kinds;
+ghost use Rattle.btf_raw.specs.KindNumbers as kinds;
 ghost use Rattle.btf_raw.specs.Kinds.{one_of, item_words, is_struct};
 ghost use Rattle.btf_types.specs.judge.RecordFaults.{RecordIs, BitFieldsAre, FirstWithin};
 ghost use Rattle.btf_types.specs.Sections.{IsSection, frame_of};

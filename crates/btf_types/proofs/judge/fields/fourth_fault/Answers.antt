@@ -1,5 +1,5 @@
 use Rattle.std.proofs.Common.{◌≡◌, inl, inr, arith}
-use Rattle.btf_raw.specs.declared.kinds.TheConstants.{DECL_TAG}
+use Rattle.btf_raw.specs.KindNumbers.{DECL_TAG}
 use Rattle.btf_types.proofs.JudgeLemmas.RecordSteps.{fourth_end}
 use Rattle.btf_types.proofs.JudgeLemmas.Roles.{IntWord, Linkage, Component}
 use Rattle.btf_types.proofs.JudgeLemmas.RoleSteps.{judged}

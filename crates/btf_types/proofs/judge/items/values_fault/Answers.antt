@@ -1,6 +1,6 @@
 use Rattle.std.proofs.Common.{◌≡◌, ◌⊎◌, ℕ, ◌+◌, ◌*◌, ◌^◌, ◌<◌, ◌≤◌, [], ◌∷◌, inl, inr, length, subst, sym, ◌∙◌, arith}
 use Rattle.std.specs.Prelude.{IsTrue}
-use Rattle.btf_raw.specs.declared.kinds.TheConstants.{ENUM, ENUM64}
+use Rattle.btf_raw.specs.KindNumbers.{ENUM, ENUM64}
 use Rattle.btf_raw.specs.Kinds.{one_of, item_words}
 use Rattle.btf_types.specs.declared.judge.judged_record.JudgedRecord.{JudgedRecord}
 use Rattle.btf_types.specs.declared.tables.section.Section.{Section}

@@ -1,6 +1,6 @@
 use Rattle.std.proofs.Common.{◌≡◌}
 use Rattle.btf_types.specs.Reading.{frame_at}
-use Rattle.btf_raw.specs.declared.kinds.TheConstants.{INT}
+use Rattle.btf_raw.specs.KindNumbers.{INT}
 use Rattle.btf_raw.specs.Frames.{kind}
 use Rattle.btf_types.proofs.TableLemmas.SectionSteps.{int_has_word}
 use Rattle.btf_types.proofs.tables.section.Section.record_facts.Goals as goal
