@@ -1,5 +1,5 @@
 -- A section whose records are framed, in the words of its frames.
-use Rattle.std.specs.Prelude.{◌≡◌, ℕ, ◌+◌, ◌*◌, ◌^◌, ◌≤◌, List, length, map, slice_index}
+use Rattle.std.specs.Prelude.{◌≡◌, ℕ, ◌+◌, ◌*◌, ◌^◌, ◌≤◌, List, length, map}
 use Rattle.btf_raw.specs.Header.{HasNulEnds}
 use Rattle.btf_raw.specs.Frames.{IsFrame}
 use Rattle.btf_types.specs.declared.tables.section.Section.{Section}
@@ -20,10 +20,7 @@ pub record HasFrame (s : FileSections) (pos : ℕ) : Type 0 where
   pub inside : pos + 4 * length (frame_of s pos) ≤ length s.types.now
   pub frame : IsFrame (frame_of s pos)
 
--- the frame of the i-th record, from 0, those of all, and what they are to other records
-abbrev pub nth_frame : Section → ℕ → List ℕ
-nth_frame s i = frame_of s.file (slice_index s.file.places.now i)
-
+-- the frames of all records, and what they are to other records
 abbrev pub frames_in : Section → List (List ℕ)
 frames_in s = frames_at s.file.order s.file.types.now s.file.places.now
 

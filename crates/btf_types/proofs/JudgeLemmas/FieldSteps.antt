@@ -11,8 +11,8 @@ use Rattle.btf_types.specs.declared.tables.section.Section.{Section}
 use Rattle.btf_types.specs.judge.FieldFaults.{WordFault, FieldFault, frame_facts}
 use Rattle.btf_types.specs.Reading.{frame_at}
 use Rattle.btf_types.specs.judge.RecordFaults.{IsFaultless, LeastOfRecord}
-use Rattle.btf_types.specs.Sections.{IsSection, nth_frame, frames_in, facts_in}
-use Rattle.btf_types.proofs.TableLemmas.SectionSteps.{frame_get, starts_in, has_frame}
+use Rattle.btf_types.specs.Sections.{IsSection, frames_in, facts_in}
+use Rattle.btf_types.proofs.TableLemmas.SectionSteps.{nth_frame, frame_get, starts_in, has_frame}
 
 -- where the i-th list begins among the lists, and where it ends
 abbrev start : List (List ℕ) → ℕ → ℕ

@@ -1,6 +1,7 @@
 -- One more frame.
 use Rattle.std.proofs.Common.{◌≡◌, ℕ, zero, suc, ◌+◌, ◌*◌, ◌<◌, ◌≤◌, List, [], ◌∷◌, ◌++◌, length, take, drop, refl, sym, ap, subst, ◌∙◌, inl, inr, length-append, append-nil, lit<, arith}
 use Rattle.std.specs.Prelude.{slice_index}
+use Rattle.std.specs.List.{All}
 use Rattle.std.proofs.lemmas.Grind.{flat_map-append}
 use Rattle.std.proofs.lemmas.Bool.{cases_lt}
 use Rattle.std.proofs.lemmas.List.{map_push, drop-drop, take-append-drop, take-append-le, length-take-le, length-map, take_at, get_or_past}
@@ -15,11 +16,18 @@ use Rattle.btf_raw.specs.Kinds.{kind_of, vlen_of, tail_words}
 use Rattle.btf_raw.specs.Frames.{IsFrame, IsAllowed, RecordFault, FramingFault, bytes_of, section_of, info_word}
 use Rattle.btf_raw.specs.Heads.{HeadAt, HeadFault}
 use Rattle.btf_types.specs.Reading.{tabulate, info_at, frame_at, frames_at}
-use Rattle.btf_types.specs.tables.TableInvariant.{IsFramedTo}
 use Rattle.btf_raw.specs.declared.cause.BtfCause.{BtfCause}
 use Rattle.btf_raw.specs.Cause.{LeastByPlace}
 use Rattle.btf_raw.proofs.Frames.{IsNoFrame, frame_has_none, frames_cancel}
 use Rattle.btf_types.proofs.Lists.{length-tabulate, get_or-tabulate}
+
+-- The places are those of the frames of the section up to a place, in order.
+pub record IsFramedTo (o : Order) (types places : List ℕ) (pos : ℕ) : Type 0 where
+  pub each : All IsFrame (frames_at o types places)
+  pub whole : section_of o (frames_at o types places) ≡ take pos types
+  pub inside : pos ≤ length types
+  pub count : length places ≤ pos
+  pub starts : (i : ℕ) → i < length places → slice_index places i ≡ length (section_of o (take i (frames_at o types places)))
 
 -- the words that are read from a place on are those bytes
 bytes_of-tabulate : (o : Order) (types : List ℕ) (pos n : ℕ) → IsBytes types → pos + 4 * n ≤ length types → bytes_of o (tabulate (λ j. word32_at o types (pos + 4 * j)) n) ≡ take (4 * n) (drop pos types)

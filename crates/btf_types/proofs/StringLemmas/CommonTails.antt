@@ -10,7 +10,7 @@ use Rattle.std.proofs.lemmas.Cmp.{tied_itself}
 use Rattle.std.proofs.lemmas.List.{reverse-append, reverse-reverse, length-reverse, get_or_default}
 use Rattle.std.proofs.lemmas.List.Sorted.{sorted_far}
 use Rattle.btf_types.specs.strings.SharedNames.{is_suffix, tail_cmp, hosts_of, host_in, least_by_tail}
-use Rattle.btf_types.specs.strings.CommonTails.{common_front, common_tail, SuffixByTail, AreInTailOrder, RanksAreTogether, IsFirstRank, IsNextHost, FirstRankEnds, RankHasHost}
+use Rattle.btf_types.specs.strings.CommonTails.{common_front, common_tail, AreInTailOrder, RanksAreTogether, IsFirstRank, IsNextHost, FirstRankEnds, RankHasHost}
 use Rattle.btf_types.proofs.Members.{Has, Has-get_or, Has-filter, Has-from_filter, Has-from_Contains, Contains-from_Has}
 use Rattle.btf_types.proofs.StringLemmas.Texts.{same_text, bytes_eq-same}
 use Rattle.btf_types.proofs.StringLemmas.Suffixes.{Ends, Ends-refl, Ends-trans, Ends-same_length, Ends-from_suffix, suffix_from_Ends, Ends-from_proper, proper_from_Ends}
@@ -86,6 +86,11 @@ Ends-common x y z e f =
     let same : common_tail y z ≡ common_front (reverse x ++ b.0) (reverse x ++ c.0) =
     ap (λ (t : List ℕ). common_front t (reverse z)) b.1 ∙ ap (common_front (reverse x ++ b.0)) c.1 in
     omega (arith, begins_common (reverse x) b.0 c.0, length-reverse x, same)
+
+-- a text ends another exactly where all of it is common to both
+pub record SuffixByTail (x y : List ℕ) : Type 0 where
+  pub whole : is_suffix x y ≡ true → common_tail x y ≡ length x
+  pub suffix : length x ≤ common_tail x y → is_suffix x y ≡ true
 
 pub suffix_by_tail : (x y : List ℕ) → SuffixByTail x y
 suffix_by_tail x y = record {

@@ -1,7 +1,7 @@
 -- The ends of long texts are found block by block, and each end is found among them.
 use Rattle.std.proofs.Common.{◌≡◌, ◌≢◌, ℕ, zero, suc, ◌+◌, ◌-◌, ◌<◌, ◌≤◌, true, false, List, [], ◌∷◌, ◌++◌, length, get_or, take, drop, sym, ap, subst, ◌∙◌, inl, inr, arith, length-append}
 use Rattle.std.specs.List.{AllWithin}
-use Rattle.std.specs.Prelude.{nat_lt, min}
+use Rattle.std.specs.Prelude.{◌⊎◌, nat_lt, min, slice_index}
 use Rattle.std.proofs.lemmas.Grind.{get_or_default_zero}
 use Rattle.std.proofs.lemmas.Bool.{cases_lt, ltb-true, ltb-false, lt-ltb}
 use Rattle.std.proofs.lemmas.List.{get_or-take, get_or-drop, length-take, length-drop}
@@ -10,7 +10,11 @@ use Rattle.std.proofs.Math.Seq.{get_or-append_seam}
 use Rattle.btf_raw.specs.Header.{HasNulEnds}
 use Rattle.btf_raw.specs.Names.{IsEnd, TextAt}
 use Rattle.btf_raw.proofs.Texts.{TextAt-end, TextAt-unique}
-use Rattle.btf_types.specs.tables.StringEnds.{IsAmong, AreLongEndsTo, AreLongEnds, HasNulNear}
+use Rattle.btf_types.specs.tables.StringEnds.{IsAmong, AreLongEndsTo, AreLongEnds}
+
+-- at most 64 bytes before a place is a NUL, or the first byte of the section
+abbrev pub HasNulNear : List ℕ → ℕ → Type 0
+HasNulNear strings at = (at ≡ 0) ⊎ ((z : ℕ) × (z < at) × (at ≤ z + 64) × (slice_index strings z ≡ 0))
 
 pub none_yet : (strings : List ℕ) → AreLongEndsTo strings [] 0
 none_yet strings = record {

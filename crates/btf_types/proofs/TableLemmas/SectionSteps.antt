@@ -14,7 +14,11 @@ use Rattle.btf_types.specs.declared.tables.section.Section.{Section}
 use Rattle.btf_types.specs.judge.Checks.{type_at}
 use Rattle.btf_types.specs.judge.FieldFaults.{frame_facts}
 use Rattle.btf_types.specs.Reading.{frame_at}
-use Rattle.btf_types.specs.Sections.{IsSection, HasFrame, nth_frame, frames_in, facts_in}
+use Rattle.btf_types.specs.Sections.{IsSection, HasFrame, frame_of, frames_in, facts_in}
+
+-- the frame of the i-th record, from 0
+abbrev pub nth_frame : Section → ℕ → List ℕ
+nth_frame s i = frame_of s.file (slice_index s.file.places.now i)
 
 -- bytes are four for each word
 pub length-section : (o : Order) (fs : List (List ℕ)) → length (section_of o fs) ≡ 4 * length (concat fs)

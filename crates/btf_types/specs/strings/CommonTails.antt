@@ -13,11 +13,6 @@ common_front (a ∷ x) (b ∷ y) = if a == b then 1 + common_front x y else 0
 abbrev pub common_tail : List ℕ → List ℕ → ℕ
 common_tail x y = common_front (reverse x) (reverse y)
 
--- a text ends another exactly where all of it is common to both
-pub record SuffixByTail (x y : List ℕ) : Type 0 where
-  pub whole : is_suffix x y ≡ true → common_tail x y ≡ length x
-  pub suffix : length x ≤ common_tail x y → is_suffix x y ≡ true
-
 -- these texts, sorted by reversed bytes; some may be there more than once
 pub record AreInTailOrder (ks sorted : List (List ℕ)) : Type 0 where
   pub members : SameMembers ks sorted

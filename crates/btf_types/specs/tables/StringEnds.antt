@@ -1,5 +1,5 @@
 -- Where the texts of a string section end (btf.rst section 2.1). Contracts of private functions cite it.
-use Rattle.std.specs.Prelude.{◌≡◌, ◌⊎◌, ℕ, ◌+◌, ◌<◌, ◌≤◌, List, length, slice_index}
+use Rattle.std.specs.Prelude.{◌≡◌, ℕ, ◌+◌, ◌<◌, ◌≤◌, List, length, slice_index}
 use Rattle.btf_raw.specs.Names.{IsEnd}
 
 abbrev pub IsAmong : List ℕ → ℕ → Type 0
@@ -15,7 +15,3 @@ pub record AreLongEndsTo (strings ends : List ℕ) (at : ℕ) : Type 0 where
 -- the same of the whole section
 abbrev pub AreLongEnds : List ℕ → List ℕ → Type 0
 AreLongEnds strings ends = AreLongEndsTo strings ends (length strings)
-
--- at most 64 bytes before a place is a NUL, or the first byte of the section
-abbrev pub HasNulNear : List ℕ → ℕ → Type 0
-HasNulNear strings at = (at ≡ 0) ⊎ ((z : ℕ) × (z < at) × (at ≤ z + 64) × (slice_index strings z ≡ 0))

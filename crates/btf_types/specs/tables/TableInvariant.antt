@@ -1,9 +1,9 @@
 -- When a section with the places of its records is a table.
 use Rattle.std.specs.Prelude.{◌≡◌, ℕ, ◌^◌, ◌<◌, ◌≤◌, List, length, take, slice_index}
-use Rattle.std.specs.List.{All, AllZip}
+use Rattle.std.specs.List.{AllZip}
 use Rattle.bpf_words.specs.declared.Order.{Order}
 use Rattle.btf_raw.specs.Header.{HasNulEnds, STRINGS_LIMIT}
-use Rattle.btf_raw.specs.Frames.{Frames, IsFrame, section_of}
+use Rattle.btf_raw.specs.Frames.{Frames, section_of}
 use Rattle.btf_types.specs.Spelling.{Spells}
 use Rattle.btf_raw.specs.Cause.{HasNone}
 use Rattle.btf_types.specs.judge.FieldFaults.{FieldFault}
@@ -14,14 +14,6 @@ use Rattle.btf_types.specs.Reading.{frames_at, records_at}
 pub record IsFramed (o : Order) (types places : List ℕ) : Type 0 where
   pub frames : Frames o types (frames_at o types places)
   pub count : length places ≤ length types
-  pub starts : (i : ℕ) → i < length places → slice_index places i ≡ length (section_of o (take i (frames_at o types places)))
-
--- The same, up to a place of the section.
-pub record IsFramedTo (o : Order) (types places : List ℕ) (pos : ℕ) : Type 0 where
-  pub each : All IsFrame (frames_at o types places)
-  pub whole : section_of o (frames_at o types places) ≡ take pos types
-  pub inside : pos ≤ length types
-  pub count : length places ≤ pos
   pub starts : (i : ℕ) → i < length places → slice_index places i ≡ length (section_of o (take i (frames_at o types places)))
 
 -- The records at the places are spelled there, without a fault, and are good.

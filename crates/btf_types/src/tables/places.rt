@@ -1,6 +1,6 @@
 //! Where the records of a table begin, and where its long strings end. Both are in one vector, since a table has one allocator.
 
-ghost use Rattle.std.specs.Prelude.{◌≡◌, ◌-◌, ◌<◌, ◌≤◌, ◌^◌, IfOk, length, slice_index};
+ghost use Rattle.std.specs.Prelude.{◌≡◌, ◌<◌, ◌^◌, IfOk, length};
 ghost use Rattle.btf_raw.specs.Header.{HasNulEnds};
 ghost use Rattle.btf_types.specs.tables.StringEnds.{AreLongEnds};
 
@@ -54,14 +54,5 @@ impl<A: Allocator> Places<A> {
         ensures { result.now ≡ self.now.ends }
     {
         &self.index[self.count..]
-    }
-
-    /// The place of record `id`.
-    pub fn record(&self, id: u32) -> usize
-        requires first { 0 < id }
-        requires last { id ≤ length self.now.records }
-        ensures { result ≡ slice_index self.now.records (id - 1) }
-    {
-        self.records()[id as usize - 1] as usize
     }
 }

@@ -1,5 +1,6 @@
 use Rattle.std.proofs.Common.{◌≡◌, ◌+◌, ◌-◌, ◌≤◌, length, take, drop, List, ℕ}
-use Rattle.btf_types.specs.tables.StringEnds.{AreLongEndsTo, HasNulNear}
+use Rattle.btf_types.specs.tables.StringEnds.{AreLongEndsTo}
+use Rattle.btf_types.proofs.StringLemmas.LongEnds.{HasNulNear}
 use Rattle.btf_types.proofs.tables.string_ends.push_long_ends.Given as goal
 
 pub record Found (old new strings : List ℕ) (at : ℕ) : Type 0 where
