@@ -16,9 +16,9 @@ use Rattle.btf_types.specs.Values.{TypeHead, KInt, KPtr, KArray, KStruct, KUnion
 use Rattle.btf_types.specs.Names.{IsName, head_name, item_name, record_names, names}
 use Rattle.btf_types.specs.strings.StringTable.{string_table, place_of}
 use Rattle.btf_raw.specs.Heads.{bit}
-use Rattle.btf_types.specs.Spelling.{kind_number, head_third, FlagSpells, linkage_number, encoding_number, component_word, record_vlen, info, head_tail, MemberWord, ItemSpells, Spells}
+use Rattle.btf_types.specs.Spelling.{kind_number, head_third, FlagSpells, linkage_number, encoding_number, component_word, record_vlen, info, head_tail, MemberWord, ItemSpells, Spells, HeadInRange, ItemInRange}
 use Rattle.btf_types.specs.judge.Checks.{TypeFacts}
-use Rattle.btf_types.specs.Good.{HeadInRange, ItemInRange, ItemOf, has_width, has_bit_fields, MemberIsGood, IsGoodRecord, IsGood, facts}
+use Rattle.btf_types.specs.Good.{ItemOf, has_width, has_bit_fields, MemberIsGood, IsGoodRecord, IsGood, facts}
 use Rattle.btf_types.proofs.Spelled.{kind_below, vlen_below, flag_below}
 use Rattle.btf_types.proofs.StringLemmas.TableLaws.{shared_places}
 use Rattle.bpf_canon.specs.btf.CanonicalBtf.{canonical_flag, words_of_item, record_words, canonical_frames}
@@ -182,6 +182,9 @@ record_spells strings place types r short good at =
     let low = flag_below r.head flag (flag_spells r.head b) in
     let word : info (kind_number r.head) (record_vlen r) flag < 2 ^ 32 = omega (arith, kind_below r.head, vlen_below r.head r.items good.items_fit, low) in
     record {
+      head_in_range = good.head_in_range;
+      items_in_range = good.items_in_range;
+      items_fit = good.items_fit;
       name_offset = place (head_name r.head);
       flag = flag;
       item_words = map (words_of_item place) r.items;

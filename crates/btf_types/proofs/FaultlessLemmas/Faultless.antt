@@ -180,7 +180,7 @@ module _ (strings : List ℕ) (frames : List (List ℕ)) (ends : HasNulEnds stri
   spelled_right [] all = tt
   spelled_right (f ∷ fs) all =
       let one = All-head IsRight f fs all in
-      (frame_spells strings types f ends one.is_frame one.no_fault, spelled_right fs (All-tail IsRight f fs all))
+      (frame_spells strings types f ends one.is_frame one.no_fault one.component, spelled_right fs (All-tail IsRight f fs all))
 
   good_right : (fs : List (List ℕ)) → All IsRight fs → All (IsGoodRecord types) (map (record_of strings) fs)
   good_right [] all = All-nil (IsGoodRecord types)

@@ -9,9 +9,9 @@ use Rattle.btf_raw.specs.Kinds.{one_of, has_flag, has_vlen, fixed_words, item_wo
 use Rattle.btf_types.specs.Values.{TypeItem}
 use Rattle.btf_types.specs.Names.{head_name}
 use Rattle.btf_raw.specs.Heads.{bit}
-use Rattle.btf_types.specs.Spelling.{kind_number, head_third, FlagSpells, linkage_number, encoding_number, component_word, record_vlen, head_tail}
+use Rattle.btf_types.specs.Spelling.{kind_number, head_third, FlagSpells, linkage_number, encoding_number, component_word, record_vlen, head_tail, HeadInRange}
 use Rattle.btf_types.specs.judge.Checks.{TypeFacts, size_fits, bits_fit, component_fits}
-use Rattle.btf_types.specs.Good.{HeadInRange, HeadIsGood, head_targets}
+use Rattle.btf_types.specs.Good.{HeadIsGood, head_targets}
 use Rattle.btf_types.specs.Good as good
 use Rattle.btf_types.specs.judge.FieldFaults.{int_unused, int_encoding, int_offset, int_bits}
 use Rattle.btf_types.specs.Reading.{head_from, linkage_of, encoding_of, component_of, is_set}

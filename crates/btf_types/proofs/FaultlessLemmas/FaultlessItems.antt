@@ -9,9 +9,9 @@ use Rattle.btf_raw.specs.Kinds.{item_words, one_of, is_struct, has_item_names}
 use Rattle.btf_raw.specs.Names.{NameAt}
 use Rattle.btf_raw.specs.Frames.{IsFrame, third_word, kind, vlen, flag}
 use Rattle.btf_types.specs.Values.{TypeHead, TypeItem, Member, EnumValue, Value64, Param, Entry}
-use Rattle.btf_types.specs.Spelling.{MemberWord, ItemSpells}
+use Rattle.btf_types.specs.Spelling.{MemberWord, ItemSpells, ItemInRange}
 use Rattle.btf_types.specs.judge.Checks.{TypeFacts}
-use Rattle.btf_types.specs.Good.{ItemInRange, ItemOf, item_targets, TargetIsGood, MemberIsGood}
+use Rattle.btf_types.specs.Good.{ItemOf, item_targets, TargetIsGood, MemberIsGood}
 use Rattle.btf_types.specs.judge.FieldFaults.{IsTypeField, HasBitFields, bit_offset, width}
 use Rattle.btf_types.specs.Reading.{text_from, head_from, head_of, item_from, item_of}
 use Rattle.btf_types.specs.judge.RecordFaults.{IsFaultless}

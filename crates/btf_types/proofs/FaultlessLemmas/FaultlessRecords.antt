@@ -10,9 +10,9 @@ use Rattle.btf_raw.specs.Names.{NameAt}
 use Rattle.btf_raw.specs.Frames.{IsFrame, name_word, info_word, third_word, kind, vlen, flag}
 use Rattle.btf_types.specs.Values.{TypeItem}
 use Rattle.btf_types.specs.Names.{IsName, head_name, record_names}
-use Rattle.btf_types.specs.Spelling.{kind_number, head_third, record_vlen, head_tail, info, ItemSpells, Spells}
+use Rattle.btf_types.specs.Spelling.{kind_number, head_third, record_vlen, head_tail, info, ItemSpells, Spells, HeadInRange, ItemInRange}
 use Rattle.btf_types.specs.judge.Checks.{TypeFacts, size_fits}
-use Rattle.btf_types.specs.Good.{TargetIsGood, MemberIsGood, ItemInRange, ItemOf, item_targets, head_targets, has_bit_fields, has_width, facts_of, IsGoodRecord, record_size}
+use Rattle.btf_types.specs.Good.{TargetIsGood, MemberIsGood, ItemOf, item_targets, head_targets, has_bit_fields, has_width, facts_of, IsGoodRecord, record_size}
 use Rattle.btf_types.specs.judge.FieldFaults.{HasBitFields, frame_facts, width}
 use Rattle.btf_types.specs.Reading.{text_from, component_of, head_of, item_from, item_of, item_total, record_of, tabulate}
 use Rattle.btf_types.specs.judge.RecordFaults.{IsFaultless}
@@ -144,8 +144,23 @@ module _ (strings : List ℕ) (types : List TypeFacts) (frame : List ℕ) (ends 
       let rest = after_three in
       first_three frame three ∙ cc
 
-  pub frame_spells : Spells strings (record_of strings frame) frame
-  frame_spells = record {
+  -- the counts of other records make the component of a DECL_TAG a 16-bit number
+  head_low : (kind frame ≡ DECL_TAG → IfSome (component_of (slice_index frame 3)) (λ c. c < 2 ^ 16)) → HeadInRange (head_of frame name)
+  head_low component =
+      range_of_head (known frame is_frame) name (third_word frame) (flag frame) (vlen frame) (slice_index frame 3) (slice_index frame 4) (slice_index frame 5)
+      (is_frame.words 2) (is_frame.words 3) (is_frame.words 4) (is_frame.words 5) component
+
+  items_low : All ItemInRange (tabulate item_at count)
+  items_low = All-tabulate ItemInRange item_at count (λ i low. (right i low).range)
+
+  few_items : length (tabulate item_at count) < 2 ^ 16
+  few_items = omega (arith, length_items, count_low (kind frame) (vlen frame), vlen_low frame is_frame)
+
+  pub frame_spells : (kind frame ≡ DECL_TAG → IfSome (component_of (slice_index frame 3)) (λ c. c < 2 ^ 16)) → Spells strings (record_of strings frame) frame
+  frame_spells component = record {
+    head_in_range = head_low component;
+    items_in_range = items_low;
+    items_fit = few_items;
     name_offset = name_word frame;
     flag = flag frame;
     item_words = tabulate words_at count;
@@ -157,9 +172,9 @@ module _ (strings : List ℕ) (types : List TypeFacts) (frame : List ℕ) (ends 
   }
 
   -- and that record is good
-  names_good : All IsName (record_names (record_of strings frame))
-  names_good i d low =
-      let is_there = record_names_there strings (record_of strings frame) frame ends frame_spells i d low in
+  names_good : (kind frame ≡ DECL_TAG → IfSome (component_of (slice_index frame 3)) (λ c. c < 2 ^ 16)) → All IsName (record_names (record_of strings frame))
+  names_good component i d low =
+      let is_there = record_names_there strings (record_of strings frame) frame ends (frame_spells component) i d low in
       record { utf8 = is_there.1.utf8; without_nul = is_there.1.text.without_nul }
 
   size_good : IsTrue (size_fits (kind_number (head_of frame name)) (head_third (head_of frame name)) (length (tabulate item_at count)))
@@ -178,15 +193,13 @@ module _ (strings : List ℕ) (types : List TypeFacts) (frame : List ℕ) (ends 
   members_good : All (MemberIsGood types (head_third (head_of frame name)) (has_bit_fields (record_of strings frame))) (tabulate item_at count)
   members_good = rw third_same (All-tabulate (MemberIsGood types (third_word frame) (has_bit_fields (record_of strings frame))) item_at count (λ i low. (right i low).member))
 
-  -- the counts of other records make the component of a DECL_TAG a 16-bit number
   pub frame_good : (kind frame ≡ DECL_TAG → IfSome (component_of (slice_index frame 3)) (λ c. c < 2 ^ 16)) → IsGoodRecord types (record_of strings frame)
   frame_good component = record {
-    head_in_range = range_of_head (known frame is_frame) name (third_word frame) (flag frame) (vlen frame) (slice_index frame 3) (slice_index frame 4) (slice_index frame 5)
-        (is_frame.words 2) (is_frame.words 3) (is_frame.words 4) (is_frame.words 5) component;
-    items_in_range = All-tabulate ItemInRange item_at count (λ i low. (right i low).range);
+    head_in_range = head_low component;
+    items_in_range = items_low;
     items_of = All-tabulate (ItemOf (head_of frame name)) item_at count (λ i low. (right i low).of);
-    items_fit = omega (arith, length_items, count_low (kind frame) (vlen frame), vlen_low frame is_frame);
-    names = names_good;
+    items_fit = few_items;
+    names = names_good component;
     named = λ needs e. needed strings types frame ends is_frame none (rw kind_same at needs) (sym name_same ∙ e);
     size = size_good;
     head_targets = targets_good;

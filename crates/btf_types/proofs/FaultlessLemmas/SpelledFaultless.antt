@@ -16,10 +16,10 @@ use Rattle.btf_types.specs.declared.values.Linkage.{Linkage as ItsLinkage}
 use Rattle.btf_types.specs.declared.values.Linkage.TheVariants.{LStatic, LGlobal, LExtern}
 use Rattle.btf_types.specs.Values.{TypeHead, KInt, KPtr, KArray, KStruct, KUnion, KEnum, KFwd, KTypedef, KVolatile, KConst, KRestrict, KFunc, KFuncProto, KVar, KDatasec, KDeclTag, KTypeTag, KEnum64, TypeItem, Member, EnumValue, Value64, Param, Entry, TypeRecord}
 use Rattle.btf_types.specs.Names.{head_name, item_name}
-use Rattle.btf_types.specs.Spelling.{kind_number, head_third, head_tail, linkage_number, encoding_number, MemberWord, ItemSpells, Spells}
+use Rattle.btf_types.specs.Spelling.{kind_number, head_third, head_tail, linkage_number, encoding_number, MemberWord, ItemSpells, Spells, HeadInRange}
 use Rattle.btf_types.specs.judge.Checks.{TypeFacts, size_fits, bits_fit, component_fits, member_fits, member_int_fits}
 use Rattle.btf_types.specs.Good as good
-use Rattle.btf_types.specs.Good.{HeadInRange, HeadIsGood, ItemOf, head_targets, item_targets, has_width, has_bit_fields, TargetIsGood, MemberIsGood, IsGoodRecord, facts_of}
+use Rattle.btf_types.specs.Good.{HeadIsGood, ItemOf, head_targets, item_targets, has_width, has_bit_fields, TargetIsGood, MemberIsGood, IsGoodRecord, facts_of}
 use Rattle.btf_types.specs.judge.FieldFaults.{IsNameField, IsTypeField, IsMemberWord, HasBitFields, int_unused, int_encoding, int_offset, int_bits, frame_facts, WordFault}
 use Rattle.std.proofs.lemmas.Bool.Decides.{eqb_tells}
 use Rattle.btf_types.proofs.KindCases.{one_among}

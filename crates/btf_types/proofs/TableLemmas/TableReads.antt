@@ -11,8 +11,7 @@ use Rattle.btf_raw.specs.Names.{NameAt}
 use Rattle.btf_raw.specs.Frames.{IsFrame, section_of, kind, name_word}
 use Rattle.btf_raw.proofs.Texts.{TextAt-unique, TextAt-inside}
 use Rattle.btf_types.specs.Values.{TypeRecord}
-use Rattle.btf_types.specs.Spelling.{Spells}
-use Rattle.btf_types.specs.Good.{HeadInRange}
+use Rattle.btf_types.specs.Spelling.{Spells, HeadInRange}
 use Rattle.btf_types.specs.tables.TableWords.{record_at}
 use Rattle.btf_raw.specs.Kinds.{item_words}
 use Rattle.btf_types.proofs.Lists.{length-tabulate, get-map, get_or-map}
