@@ -1,4 +1,4 @@
-"""Runs the console blocks of README.md as they are, and compares the causes with the docs.
+"""Runs the console blocks of README.md as they are.
 
     readme.py PROGRAM
 
@@ -19,7 +19,6 @@ from program import SECONDS, Program, Report
 TOP = pathlib.Path(__file__).resolve().parent.parent
 BLOCK = re.compile(r"```console\n(.*?)```", re.DOTALL)
 SHELLS = ["sh", "bash", "dash", "ksh", "zsh"]
-CAUSES = [("bpf_insn", "fault.rt"), ("bpf_text", "insn/fault.rt"), ("btf_raw", "cause.rt")]
 
 
 def typed_lines(block):
@@ -45,35 +44,6 @@ def check_blocks(program, report, folder):
                 report.expect_that(done.stdout == printed, line, f"it printed {done.stdout!r}, and the README has {printed!r}")
 
 
-def sources():
-    """The files of three crates that declare the causes, each with the calls `name` and `describe` of one enum."""
-    return "".join((TOP / "crates" / crate / "src" / file).read_text() for crate, file in CAUSES)
-
-
-def check_sentences(report):
-    """The sentence that `describe` gives for each cause is that of the docs."""
-    sentences = re.findall(r'Cause::(\w+) =>\s*(?:\{\s*)?"([^ "]+ [^"]*)"', sources())
-    table = (TOP / "docs" / "FORMATS.md").read_text().partition("## What to do about a fault")[2]
-    meanings = dict(re.findall(r"^\| (\w+) \| ([^|]*) \|", table, re.MULTILINE))
-    page = (TOP / "man" / "bpfcanon.5").read_text().replace(r"\-", "-").replace(r"\(aq", "'")
-    with report.group(f"{len(sentences)} sentences on causes"):
-        report.expect_that(len(sentences) == 44, "the sentences", f"{len(sentences)} were found, and there are 8, 4 and 32")
-        for cause, sentence in sentences:
-            report.expect_that(meanings.get(cause) == sentence, cause, f"docs/FORMATS.md has {meanings.get(cause)!r}, not {sentence!r}")
-            report.expect_that(f"\n{sentence}.\n" in page, cause, f"man/bpfcanon.5 doesn't have {sentence!r}")
-
-
-def check_causes(report):
-    """Each cause is there by its name where a user looks it up."""
-    named = re.findall(r'Cause::\w+ => "(\w+)"', sources())
-    report.expect_that(len(named) == 44, "the causes", f"{len(named)} were found, and there are 8, 4 and 32")
-    for file in "docs/FORMATS.md", "man/bpfcanon.1", "man/bpfcanon.5":
-        words = set(re.findall(r"\w+", (TOP / file).read_text()))
-        with report.group(f"{len(named)} causes in {file}"):
-            for cause in named:
-                report.expect_that(cause in words, cause, f"{file} doesn't name it")
-
-
 def main():
     if len(sys.argv) != 2:
         sys.exit(__doc__)
@@ -81,8 +51,6 @@ def main():
     with tempfile.TemporaryDirectory() as name:
         folder = pathlib.Path(name)
         check_blocks(program, report, folder)
-        check_causes(report)
-        check_sentences(report)
     return report.end("README")
 
 

@@ -20,21 +20,21 @@ type InsnCause uint32
 
 const (
 	InsnTruncated InsnCause = iota + 1 // the input ends inside an instruction
-	InsnOpcode                         // the opcode is that of no instruction
-	InsnDst                            // the destination register
-	InsnSrc                            // the source register
-	InsnOffset                         // the offset
-	InsnImm                            // the immediate
-	InsnReserved                       // the first half of the second slot of a wide load
-	InsnNextImm                        // the immediate of the second slot of a wide load
+	InsnOpcode                         // no instruction has this opcode
+	InsnDst                            // no instruction with this opcode has this destination register
+	InsnSrc                            // no instruction with this opcode has this source register
+	InsnOffset                         // no instruction with this opcode and these registers has this offset
+	InsnImm                            // no instruction with this opcode, these registers and this offset has this immediate
+	InsnReserved                       // the second slot of a wide load has an opcode, a register or an offset that is not zero
+	InsnNextImm                        // the immediate of the second slot is not zero, and this kind of wide load has one number only
 )
 
 // A LineCause is the cause of a fault of a listing.
 type LineCause uint32
 
 const (
-	LineChar  LineCause = iota + 1 // a character that no line has
-	LineWord                       // no instruction has the mnemonic
+	LineChar  LineCause = iota + 1 // a character that is neither blank nor part of a token
+	LineWord                       // no instruction has this mnemonic
 	LineShape                      // the operands are not those of the mnemonic
 	LineRange                      // a number is out of the range of its field
 )
@@ -43,38 +43,38 @@ const (
 type BTFCause uint32
 
 const (
-	BTFShortHeader  BTFCause = iota + 1 // fewer than 24 bytes
-	BTFMagic                            // neither magic number
-	BTFVersion                          // not 1
-	BTFFlags                            // not 0
-	BTFHeaderLength                     // hdr_len is under 24, over 4,096 or over the length of the input
-	BTFHeaderTail                       // the header after its first 24 bytes
+	BTFShortHeader  BTFCause = iota + 1 // the file has fewer than 24 bytes
+	BTFMagic                            // the file does not begin with the BTF magic number in either byte order
+	BTFVersion                          // the version is not 1
+	BTFFlags                            // the flags are not 0
+	BTFHeaderLength                     // hdr_len is under 24, over 4,096 or over the length of the file
+	BTFHeaderTail                       // a byte of the header after the first 24 is not 0
 	BTFTypeLength                       // type_len is over 33,554,432
 	BTFStringLength                     // str_len is 0 or over 16,777,216
-	BTFSections                         // the sections don't follow the header and each other
-	BTFFileLength                       // the lengths don't add up to that of the input
+	BTFSections                         // the type and string sections do not follow the header one directly after the other
+	BTFFileLength                       // hdr_len, type_len and str_len do not add up to the length of the file
 	BTFFirstString                      // the first byte of the string section is not NUL
-	BTFLastString                       // its last byte is not NUL
-	BTFRecordCut                        // the types end inside the first three words of a record
+	BTFLastString                       // the last byte of the string section is not NUL
+	BTFRecordCut                        // the type section ends inside the first three words of a record
 	BTFInfoBits                         // an unused bit of info is set
 	BTFKindNumber                       // the kind is 0 or over 19
-	BTFFlagSet                          // kind_flag of a kind that has none
-	BTFVlen                             // vlen of a kind without items
-	BTFTailCut                          // the types end inside the data of a record
-	BTFNameRange                        // name_off is outside the string section
-	BTFNameUTF8                         // the name is not UTF-8
-	BTFNameMissing                      // the kind needs a name
-	BTFNameUnwanted                     // the kind has no name
+	BTFFlagSet                          // kind_flag is set on a kind that has none
+	BTFVlen                             // vlen is not 0 on a kind without items
+	BTFTailCut                          // the type section ends inside the data after the first three words of a record
+	BTFNameRange                        // name_off is not inside the string section
+	BTFNameUTF8                         // the name is not valid UTF-8
+	BTFNameMissing                      // a type of this kind needs a name
+	BTFNameUnwanted                     // a type of this kind has no name
 	BTFTextsTooLong                     // never reported: the number is kept
-	BTFNotZero                          // the third word of an ARRAY or FWD
-	BTFSize                             // the kind has no such size
-	BTFReference                        // a type ID over the number of types
-	BTFTargetKind                       // a reference to a type of the wrong kind
-	BTFIntWord                          // the encoding, offset and bits of an INT
-	BTFMemberInt                        // the INT of a member, in a record with bit-fields
-	BTFMemberPlace                      // a member ends after the end of its record
-	BTFLinkage                          // over 2
-	BTFComponent                        // component_idx is no member or parameter
+	BTFNotZero                          // the third word of an ARRAY or FWD is not 0
+	BTFSize                             // no type of this kind has this size
+	BTFReference                        // the type ID is over the number of types
+	BTFTargetKind                       // the type that is referred to has the wrong kind
+	BTFIntWord                          // the encoding, offset and bits of the INT are not valid
+	BTFMemberInt                        // a record with bit-fields has a member whose INT has an offset, or a width other than 8, 16, 32, 64 or 128 bits
+	BTFMemberPlace                      // the member ends after the end of its struct or union
+	BTFLinkage                          // the linkage is over 2
+	BTFComponent                        // component_idx is neither -1 nor the index of a member or parameter of the tagged type
 )
 
 // String returns the name of the cause, as "Opcode", or "InsnCause(9)" for a number without one.
