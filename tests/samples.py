@@ -3,6 +3,7 @@
 import struct
 from typing import NamedTuple
 
+import btf_page as page
 from program import Ran
 
 USAGE = Ran(
@@ -99,20 +100,23 @@ INT_TEXT = b'[1] int "int" size=4 encoding=signed offset=0 bits=32\n'
 
 
 def btf(order, words, strings, tail=b"", **fields):
-    """A file of these words and strings; `fields` are those of the header that differ from the right ones."""
+    """A file of these words and strings, with the header of docs/FORMATS.md; `fields` are those of the header that differ from the right ones."""
     right = {
-        "magic": 0xEB9F,
-        "version": 1,
-        "flags": 0,
-        "hdr_len": 24,
+        "magic": int(page.MAGIC, 16),
+        "version": page.VERSION,
+        "flags": page.FLAGS,
+        "hdr_len": page.SHORTEST,
         "type_off": 0,
         "type_len": 4 * len(words),
         "str_off": 4 * len(words),
         "str_len": len(strings),
     }
+    header = bytearray(page.SHORTEST)
+    for name, value in (right | fields).items():
+        where = page.BYTES[name]
+        header[where] = value.to_bytes(where.stop - where.start, order)
     mark = {"little": "<", "big": ">"}[order]
-    header = struct.pack(f"{mark}HBBIIIII", *(right | fields).values())
-    return header + tail + struct.pack(f"{mark}{len(words)}I", *words) + strings
+    return bytes(header) + tail + struct.pack(f"{mark}{len(words)}I", *words) + strings
 
 
 def floats(names):

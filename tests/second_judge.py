@@ -1,61 +1,29 @@
-"""What docs/FORMATS.md says of BTF, said a second time: the first fault of a file, and its canonical bytes.
+"""What docs/FORMATS.md says of BTF, said a second time: the first fault of a file, its canonical bytes and its text.
 
-Each fault that holds is listed, and the first of them is taken. Nothing is done early or fast here.
+The kinds, causes, places and limits are those of the page itself (btf_page.py). Each fault that holds is listed, and the first of them
+is taken. Nothing is done early or fast here.
 """
 
+import re
 import struct
 from typing import NamedTuple
 
-CAUSES = [
-    *("ShortHeader", "Magic", "Version", "Flags", "HeaderLength", "HeaderTail", "TypeLength", "StringLength"),
-    *("Sections", "FileLength", "FirstString", "LastString", "RecordCut", "InfoBits", "KindNumber", "FlagSet"),
-    *("Vlen", "TailCut", "NameRange", "NameUtf8", "NameMissing", "NameUnwanted", "TextsTooLong", "NotZero"),
-    *("Size", "Reference", "TargetKind", "IntWord", "MemberInt", "MemberPlace", "Linkage", "Component"),
-]
-NUMBERS = {name: number for number, name in enumerate(CAUSES, 1)}
+import btf_page as page
+from btf_page import CODES, LAYOUTS, NUMBERS
 
-INT, PTR, ARRAY, STRUCT, UNION, ENUM, FWD, TYPEDEF, VOLATILE, CONST = range(1, 11)
-RESTRICT, FUNC, FUNC_PROTO, VAR, DATASEC, FLOAT, DECL_TAG, TYPE_TAG, ENUM64 = range(11, 20)
+# What a word of the page's layouts is, where a judge asks for all of one sort.
+SORTS = {"name_off": "name", "index_type": "type"}
 
 
-class Layout(NamedTuple):
-    """What a kind's record has: its name, its third word, whether it has a kind_flag, the words after it, and each item's."""
+def placed(cause, record=None, **known):
+    """A fault at the place that the page has: a number, an offset from the record, or one that is known by the page's words."""
+    place = page.place_of(cause)
+    if isinstance(place, dict):
+        place = record.pos + place[None if None in place else record.layout.word]
+    elif isinstance(place, str):
+        place = known[re.sub(r"\W+", "_", place)]
+    return place, cause
 
-    name: str
-    third: str
-    flag: bool = False
-    words: tuple = ()
-    item: tuple = ()
-
-    def size(self, vlen):
-        """The number of words of a record with this vlen."""
-        return 3 + len(self.words) + vlen * len(self.item)
-
-
-MEMBER = ("name", "type", "offset")
-LAYOUTS = {
-    INT: Layout("free", "size", words=("int",)),
-    PTR: Layout("none", "type"),
-    ARRAY: Layout("none", "zero", words=("type", "type", "count")),
-    STRUCT: Layout("free", "size", flag=True, item=MEMBER),
-    UNION: Layout("free", "size", flag=True, item=MEMBER),
-    ENUM: Layout("free", "size", flag=True, item=("name", "value")),
-    FWD: Layout("needed", "zero", flag=True),
-    TYPEDEF: Layout("needed", "type"),
-    VOLATILE: Layout("none", "type"),
-    CONST: Layout("none", "type"),
-    RESTRICT: Layout("none", "type"),
-    FUNC: Layout("needed", "type"),
-    FUNC_PROTO: Layout("none", "type", item=("name", "type")),
-    VAR: Layout("needed", "type", words=("linkage",)),
-    DATASEC: Layout("needed", "size", item=("type", "offset", "size")),
-    FLOAT: Layout("free", "size"),
-    DECL_TAG: Layout("needed", "type", flag=True, words=("component",)),
-    TYPE_TAG: Layout("needed", "type", flag=True),
-    ENUM64: Layout("free", "size", flag=True, item=("name", "low", "high")),
-}
-TARGETS = {FUNC: {FUNC_PROTO}, DATASEC: {VAR, FUNC}, DECL_TAG: {STRUCT, UNION, FUNC, VAR, TYPEDEF}}
-SIZES = {ENUM: {1, 2, 4, 8}, ENUM64: {1, 2, 4, 8}, FLOAT: {2, 4, 8, 12, 16}}
 
 
 class Sections(NamedTuple):
@@ -76,15 +44,15 @@ class Record(NamedTuple):
 
     @property
     def kind(self):
-        return self.words[1] >> 24 & 31
+        return page.KIND_BITS.of(self.words[1])
 
     @property
     def flag(self):
-        return self.words[1] >> 31
+        return page.FLAG_BIT.of(self.words[1])
 
     @property
     def vlen(self):
-        return self.words[1] & 0xFFFF
+        return page.VLEN_BITS.of(self.words[1])
 
     @property
     def layout(self):
@@ -99,36 +67,46 @@ class Record(NamedTuple):
         return range(first, first + size * self.vlen, size) if size else ()
 
     def fields(self):
-        """The number of each word after the info, and what it is."""
+        """The number of each word after the info, and its sort."""
         yield 2, self.layout.third
-        yield from enumerate(self.layout.words, 3)
+        yield from ((at, SORTS.get(name, name)) for at, name in enumerate(self.layout.words, 3))
         for first in self.items():
-            yield from enumerate(self.layout.item, first)
+            yield from ((at, SORTS.get(name, name)) for at, name in enumerate(self.layout.item, first))
 
     def names(self):
         """The numbers of the words that are names, the record's own first."""
         return [0] + [word for word, field in self.fields() if field == "name"]
 
+    def of_item(self, item, name):
+        """The number of a word of an item, by its name."""
+        return item + self.layout.item.index(name)
+
     def width(self, item):
-        return self.words[item + 2] >> 24 if self.flag else 0
+        return self.words[self.of_item(item, "offset")] >> page.OFFSET_BITS if self.flag else 0
 
     def bit_offset(self, item):
-        return self.words[item + 2] & 0xFFFFFF if self.flag else self.words[item + 2]
+        word = self.words[self.of_item(item, "offset")]
+        return word & (1 << page.OFFSET_BITS) - 1 if self.flag else word
 
     def has_members(self):
-        return self.kind in (STRUCT, UNION)
+        return self.layout.word in ("STRUCT", "UNION")
 
     def has_bit_fields(self):
         return self.has_members() and any(self.width(item) for item in self.items())
 
 
+def header_of(file):
+    """The fields of a header by their names. The magic states the byte order."""
+    order = {"<": "little", ">": "big"}[page.MARKS[file[page.BYTES["magic"]]]]
+    return {name: int.from_bytes(file[where], order) for name, where in page.BYTES.items()}
+
+
 def sections_of(file):
     """The sections of a file whose header has no fault."""
-    mark = ">" if file[0] == 0xEB else "<"
-    header, type_off, type_len, str_off, str_len = struct.unpack_from(f"{mark}5I", file, 4)
-    types_pos, strings_pos = header + type_off, header + str_off
-    types, strings = file[types_pos : types_pos + type_len], file[strings_pos : strings_pos + str_len]
-    return Sections(mark, types_pos, types, strings_pos, strings)
+    header = header_of(file)
+    types_pos, strings_pos = header["hdr_len"] + header["type_off"], header["hdr_len"] + header["str_off"]
+    types, strings = file[types_pos : types_pos + header["type_len"]], file[strings_pos : strings_pos + header["str_len"]]
+    return Sections(page.MARKS[file[page.BYTES["magic"]]], types_pos, types, strings_pos, strings)
 
 
 def first_by_cause(faults):
@@ -140,54 +118,53 @@ def first_by_place(faults):
 
 
 def header_fault(file):
-    if len(file) < 24:
-        return len(file), "ShortHeader"
-    mark = {b"\x9f\xeb": "<", b"\xeb\x9f": ">"}.get(file[:2])
-    if not mark:
-        return 0, "Magic"
-    header, type_off, type_len, str_off, str_len = struct.unpack_from(f"{mark}5I", file, 4)
-    end = header + type_len + str_len
-    tail = next((pos for pos in range(24, min(header, len(file))) if file[pos]), None)
-    types_first, strings_first = (type_off, str_off) == (0, type_len), (str_off, type_off) == (0, str_len)
+    if len(file) < page.SHORTEST:
+        return placed("ShortHeader", the_file_s_length=len(file))
+    if file[page.BYTES["magic"]] not in page.MARKS:
+        return placed("Magic")
+    header = header_of(file)
+    length, types, strings = header["hdr_len"], header["type_len"], header["str_len"]
+    end = length + types + strings
+    tail = next((pos for pos in range(page.SHORTEST, min(length, len(file))) if file[pos]), None)
+    types_first = (header["type_off"], header["str_off"]) == (0, types)
+    strings_first = (header["str_off"], header["type_off"]) == (0, strings)
     return first_by_cause([
-        file[2] != 1 and (2, "Version"),
-        file[3] != 0 and (3, "Flags"),
-        not 24 <= header <= min(4096, len(file)) and (4, "HeaderLength"),
-        tail is not None and (tail, "HeaderTail"),
-        type_len > 33_554_432 and (12, "TypeLength"),
-        not 1 <= str_len <= 16_777_216 and (20, "StringLength"),
-        not (types_first or strings_first) and (8, "Sections"),
-        end != len(file) and (min(end, len(file)), "FileLength"),
+        header["version"] != page.VERSION and placed("Version"),
+        header["flags"] != page.FLAGS and placed("Flags"),
+        not page.SHORTEST <= length <= min(page.LONGEST, len(file)) and placed("HeaderLength"),
+        tail is not None and placed("HeaderTail", the_first_such_byte=tail),
+        types > page.TYPES and placed("TypeLength"),
+        not page.STRINGS[0] <= strings <= page.STRINGS[1] and placed("StringLength"),
+        not (types_first or strings_first) and placed("Sections"),
+        end != len(file) and placed("FileLength", the_smaller_of_both=min(end, len(file))),
     ])
 
 
 def strings_fault(sections):
     pos, strings = sections.strings_pos, sections.strings
     return first_by_cause([
-        strings[0] != 0 and (pos, "FirstString"),
-        strings[-1] != 0 and (pos + len(strings) - 1, "LastString"),
+        strings[0] != 0 and placed("FirstString", that_byte=pos),
+        strings[-1] != 0 and placed("LastString", that_byte=pos + len(strings) - 1),
     ])
 
 
-def framing_faults(pos, info, left):
-    """The faults of a record's frame, where `left` bytes are left. Its info is None where it is cut."""
+def framing_faults(record, left):
+    """The faults of a record's frame, where `left` bytes are left. It has the words of its head that are there."""
     if left < 12:
-        yield pos, "RecordCut"
-    if info is None:
+        yield placed("RecordCut", record)
+    if len(record.words) < 2:
         return
-    kind = info >> 24 & 31
-    if info & 0x60FF_0000:
-        yield pos + 4, "InfoBits"
-    if kind not in LAYOUTS:
-        yield pos + 4, "KindNumber"
+    if record.words[1] & page.UNUSED:
+        yield placed("InfoBits", record)
+    if record.kind not in LAYOUTS:
+        yield placed("KindNumber", record)
         return
-    layout, vlen = LAYOUTS[kind], info & 0xFFFF
-    if info >> 31 and not layout.flag:
-        yield pos + 4, "FlagSet"
-    if vlen and not layout.item and kind != FUNC:
-        yield pos + 4, "Vlen"
-    if 12 <= left < 4 * layout.size(vlen):
-        yield pos + 12, "TailCut"
+    if record.flag and not record.layout.has_flag:
+        yield placed("FlagSet", record)
+    if record.vlen and not record.layout.item and record.layout.word != "FUNC":
+        yield placed("Vlen", record)
+    if 12 <= left < 4 * record.layout.size(record.vlen):
+        yield placed("TailCut", record)
 
 
 def framed(sections):
@@ -195,13 +172,12 @@ def framed(sections):
     records, at = [], 0
     while at < len(sections.types):
         left = len(sections.types) - at
-        info = struct.unpack_from(f"{sections.mark}I", sections.types, at + 4)[0] if left >= 8 else None
-        fault = first_by_place(framing_faults(sections.types_pos + at, info, left))
+        head = Record(sections.types_pos + at, struct.unpack_from(f"{sections.mark}{min(left // 4, 3)}I", sections.types, at))
+        fault = first_by_place(framing_faults(head, left))
         if fault:
             return records, fault
-        size = LAYOUTS[info >> 24 & 31].size(info & 0xFFFF)
-        words = struct.unpack_from(f"{sections.mark}{size}I", sections.types, at)
-        records.append(Record(sections.types_pos + at, words))
+        size = head.layout.size(head.vlen)
+        records.append(Record(head.pos, struct.unpack_from(f"{sections.mark}{size}I", sections.types, at)))
         at += 4 * size
     return records, None
 
@@ -221,15 +197,15 @@ def is_utf8(text):
 def name_faults(record, word, strings):
     offset, place = record.words[word], record.place(word)
     if offset >= len(strings):
-        yield place, "NameRange"
+        yield placed("NameRange", the_name_field=place)
         return
     text = text_at(strings, offset)
     if not is_utf8(text):
-        yield place, "NameUtf8"
+        yield placed("NameUtf8", the_name_field=place)
     if word == 0 and record.layout.name == "needed" and not text:
-        yield place, "NameMissing"
+        yield placed("NameMissing", the_name_field=place)
     if word == 0 and record.layout.name == "none" and text:
-        yield place, "NameUnwanted"
+        yield placed("NameUnwanted", the_name_field=place)
 
 
 def target_of(records, number):
@@ -237,58 +213,59 @@ def target_of(records, number):
 
 
 def type_faults(record, word, records):
-    number, wanted = record.words[word], TARGETS.get(record.kind)
+    number, wanted = record.words[word], page.TARGETS.get(record.layout.word)
     target = target_of(records, number)
     if number > len(records):
-        yield record.place(word), "Reference"
-    elif wanted and (target is None or target.kind not in wanted):
-        yield record.place(word), "TargetKind"
+        yield placed("Reference", the_id_field=record.place(word))
+    elif wanted and (target is None or target.layout.word not in wanted):
+        yield placed("TargetKind", the_id_field=record.place(word))
 
 
 def int_is_wrong(record):
-    word = record.words[3]
-    bits = word & 0xFF
-    return word & 0xF000_FF00 or word >> 24 not in (0, 1, 2, 4) or bits > min(128, 8 * record.words[2])
+    word, most = record.words[3], min(page.INT_MOST, page.INT_TIMES * record.words[2])
+    return word & page.INT_UNUSED or page.ENCODING_BITS.of(word) not in page.ENCODINGS or page.SIZE_IN_INT.of(word) > most
 
 
 def component_is_wrong(record, records):
     target, component = target_of(records, record.words[2]), record.words[3]
-    if target is None or component == 0xFFFF_FFFF:
+    if target is None or component == page.NO_COMPONENT:
         return False
-    if target.kind == FUNC:
+    if target.layout.word == "FUNC":
         target = target_of(records, target.words[2])
-        return target is not None and target.kind == FUNC_PROTO and component >= target.vlen
-    return target.kind in (VAR, TYPEDEF) or target.has_members() and component >= target.vlen
+        return target is not None and target.layout.word == "FUNC_PROTO" and component >= target.vlen
+    return target.layout.word in page.WITHOUT_PARTS or target.layout.word in page.WITH_PARTS and component >= target.vlen
 
 
 def head_faults(record, records):
-    kind, size = record.kind, record.words[2]
-    if record.layout.third == "zero" and size:
-        yield record.place(2), "NotZero"
-    if kind in SIZES and size not in SIZES[kind] and not (size == 0 and record.layout.item and not record.vlen):
-        yield record.place(2), "Size"
-    if kind == INT and int_is_wrong(record):
-        yield record.place(3), "IntWord"
-    if kind == FUNC and record.vlen > 2:
-        yield record.place(1), "Linkage"
-    if kind == VAR and record.words[3] > 2:
-        yield record.place(3), "Linkage"
-    if kind == DECL_TAG and component_is_wrong(record, records):
-        yield record.place(3), "Component"
+    word, size = record.layout.word, record.words[2]
+    if record.layout.third == "0" and size:
+        yield placed("NotZero", record)
+    if word in page.SIZES and size not in page.SIZES[word] and not (size == 0 and record.layout.item and not record.vlen):
+        yield placed("Size", record)
+    if word == "INT" and int_is_wrong(record):
+        yield placed("IntWord", record)
+    if word == "FUNC" and record.vlen > page.MOST_LINKAGE:
+        yield placed("Linkage", record)
+    if word == "VAR" and record.words[3] > page.MOST_LINKAGE:
+        yield placed("Linkage", record)
+    if word == "DECL_TAG" and component_is_wrong(record, records):
+        yield placed("Component", record)
 
 
 def is_odd_int(target):
-    if target is None or target.kind != INT:
+    if target is None or target.layout.word != "INT":
         return False
-    return target.words[3] >> 16 & 0xFF or target.words[3] & 0xFF not in (8, 16, 32, 64, 128)
+    return page.OFFSET_IN_INT.of(target.words[3]) or page.SIZE_IN_INT.of(target.words[3]) not in page.MEMBER_BITS
 
 
 def member_faults(record, records):
+    has_bit_fields = record.has_bit_fields()
     for item in record.items():
-        if record.has_bit_fields() and is_odd_int(target_of(records, record.words[item + 1])):
-            yield record.place(item + 1), "MemberInt"
+        typed, offset = record.of_item(item, "type"), record.of_item(item, "offset")
+        if has_bit_fields and is_odd_int(target_of(records, record.words[typed])):
+            yield placed("MemberInt", the_member_s_type_field=record.place(typed))
         if record.bit_offset(item) + record.width(item) > 8 * record.words[2]:
-            yield record.place(item + 2), "MemberPlace"
+            yield placed("MemberPlace", the_member_s_offset_field=record.place(offset))
 
 
 def field_faults(sections, records):
@@ -340,9 +317,9 @@ def canonical_words(record, strings, places):
         words[word] = places[text_at(strings, words[word])]
     if record.has_members():
         flag = record.has_bit_fields()
-        words[1] = words[1] & 0x7FFF_FFFF | flag << 31
+        words[1] = words[1] & ~page.FLAG_BIT.mask | flag << page.FLAG_BIT.low
         for item in record.items():
-            words[item + 2] = record.width(item) << 24 | record.bit_offset(item)
+            words[record.of_item(item, "offset")] = record.width(item) << page.OFFSET_BITS | record.bit_offset(item)
     return words
 
 
@@ -354,5 +331,81 @@ def canonical(file, mark="<"):
     table, places = string_table(names)
     words = [word for record in records for word in canonical_words(record, sections.strings, places)]
     size = 4 * len(words)
-    header = struct.pack(f"{mark}HBBIIIII", 0xEB9F, 1, 0, 24, 0, size, size, len(table))
+    start = int(page.MAGIC, 16), page.VERSION, page.FLAGS, page.SHORTEST
+    header = struct.pack(f"{mark}HBBIIIII", *start, 0, size, size, len(table))
     return header + struct.pack(f"{mark}{len(words)}I", *words) + table
+
+
+# ---- the text of types
+
+
+def quoted(name):
+    """A name in double quotes, with the escapes of the page."""
+    marks = {0x22: b'\\"', 0x5C: b"\\\\"} | {byte: b"\\x%02x" % byte for byte in [*range(0x20), 0x7F]}
+    return b'"' + b"".join(marks.get(byte, bytes([byte])) for byte in name) + b'"'
+
+
+def value_of(record, item):
+    """The value of an enum's item: its words are those that the page names, the low one first."""
+    places = [at for at, name in enumerate(record.layout.item) if name.startswith("val")]
+    names = [record.layout.item[at] for at in places]
+    low_first = sorted(places, key=lambda at: names[at - places[0]] == "val_hi32")
+    value = sum(record.words[item + at] << 32 * number for number, at in enumerate(low_first))
+    width = page.WIDTHS[record.layout.word]
+    return value - (1 << width) if record.flag and value >> width - 1 else value
+
+
+def words_of_item(record, item, strings):
+    """The words that the line of an item has, by the names of the page."""
+    known = {name: record.words[item + at] for at, name in enumerate(record.layout.item)}
+    if record.has_members():
+        known |= {"offset": record.bit_offset(item), "width": record.width(item)}
+    if record.layout.word in page.WIDTHS:
+        known["V"] = value_of(record, item)
+    return known | {"NAME": quoted(text_at(strings, known["name_off"])) if "name_off" in known else None}
+
+
+def words_of_head(record, strings):
+    known = dict(zip(record.layout.words, record.words[3:]))
+    known = {"size": record.words[2], "type": record.words[2], "items": record.vlen, "flag": record.flag} | known
+    known |= {"index": known.get("index_type"), "count": known.get("nelems"), "NAME": quoted(text_at(strings, record.words[0]))}
+    if record.layout.word == "INT":
+        word = record.words[3]
+        known |= {"encoding": page.ENCODINGS[page.ENCODING_BITS.of(word)]}
+        known |= {"offset": page.OFFSET_IN_INT.of(word), "bits": page.SIZE_IN_INT.of(word)}
+    if record.kind in page.SIGNED:
+        known["S"] = page.SIGN[not record.flag]
+    if record.layout.word == "FWD":
+        known["F"] = page.FORWARD[record.flag]
+    if record.layout.word in ("FUNC", "VAR"):
+        known["L"] = page.LINKAGES[record.vlen if record.layout.word == "FUNC" else record.words[3]]
+    if "component_idx" in known:
+        known["component"] = -1 if known["component_idx"] == page.NO_COMPONENT else known["component_idx"]
+    return known
+
+
+def line(template, known):
+    """A line of the page's table, with each capital replaced by its word; after `=` it is that of the key."""
+    parts = []
+    for part in template.split(" "):
+        key, _, value = part.partition("=")
+        filled = known[key] if value else known[part] if part.isupper() else part
+        text = filled if isinstance(filled, bytes) else str(filled).encode()
+        parts.append(key.encode() + b"=" + text if value else text)
+    return b" ".join(parts)
+
+
+def lines(file):
+    """The text of the types of a file without a fault."""
+    sections = sections_of(file)
+    text = []
+    for number, record in enumerate(framed(sections)[0], 1):
+        head, item = page.LINES[record.kind]
+        text.append(b"[%d] " % number + line(head.removeprefix("[ID] "), words_of_head(record, sections.strings)))
+        text += [b"  " + line(item, words_of_item(record, at, sections.strings)) for at in record.items()]
+    return b"".join(it + b"\n" for it in text)
+
+
+def count(file):
+    """The number of types of a file without a fault."""
+    return len(framed(sections_of(file))[0])

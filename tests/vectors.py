@@ -6,15 +6,17 @@ testdata/README.md has the columns. Expected answers are in the file, or are tho
 """
 
 import pathlib
+import subprocess
 import sys
 
-from program import Program, Ran, Report
+import insn_judge
+from program import SECONDS, Program, Ran, Report
 
 TESTDATA = pathlib.Path(__file__).resolve().parent.parent / "testdata"
+TABLE = TESTDATA.parent / "crates" / "bpfcanon" / "src" / "tests" / "vectors.rt"
 EXIT = bytes.fromhex("9500000000000000")
 NO_TYPES = bytes.fromhex("9feb01001800000000000000000000000000000001000000" "00")
-# What each group brings, in the order in which groups are listed.
-BRINGS = {"base64": ["base32", "base64"], "atomic64": ["atomic32", "atomic64"], "divmul64": ["divmul32", "divmul64"]}
+# The groups in the order in which they are listed.
 GROUPS = ["base32", "base64", "atomic32", "atomic64", "divmul32", "divmul64", "packet"]
 
 
@@ -43,9 +45,10 @@ def refused(message, output=b""):
 
 
 def runs_of_insns():
+    brings = insn_judge.brings()
     for line, little, big, group in rows("insn"):
         shown, little, big = line.encode() + b"\n", data(little), data(big)
-        groups = "".join(f"{it}\n" for it in BRINGS.get(group, [group])).encode()
+        groups = "".join(f"{it}\n" for it in brings[group]).encode()
         yield line, "insn-canon", little, done(little)
         yield line, "insn-canon --order big", big, done(little)
         yield line, "insn-canon --to big", little, done(big)
@@ -138,10 +141,18 @@ def runs_of_compiled_files():
         yield name, f"insn-same --split {len(big)} --order big", big + little, done(b"same\n")
 
 
+def check_table(report):
+    """The tests of the crate bpfcanon have the rows `run` as testdata/to_rows makes them."""
+    with report.group("the rows of the crate's tests"):
+        made = subprocess.run([TESTDATA / "to_rows"], stdout=subprocess.PIPE, timeout=SECONDS)
+        report.expect_that(made.returncode == 0 and made.stdout == TABLE.read_bytes(), TABLE.name, "testdata/to_rows makes another one")
+
+
 def main():
     if len(sys.argv) != 2:
         sys.exit(__doc__)
     program, report = Program(sys.argv[1]), Report()
+    check_table(report)
     for name, runs in [
         ("instructions", runs_of_insns()),
         ("these instructions in one file", runs_of_all_insns()),

@@ -1,0 +1,38 @@
+"""The commands of the program, their options and limits, as crates/bpfcanon/src/verb.rt declares them."""
+
+import pathlib
+import re
+
+TOP = pathlib.Path(__file__).resolve().parent.parent
+VERB = (TOP / "crates" / "bpfcanon" / "src" / "verb.rt").read_text()
+ENGINES = [TOP / "crates" / "bpf_canon" / "src" / name / "run.rt" for name in ("insn", "btf")]
+
+
+def arms(call, kind):
+    """The arms of a call of an enum: its variants, and the text of each."""
+    body = re.search(rf"^impl {kind} \{{.*?^    pub fn {call}\b.*?\{{\n        match self \{{\n(.*?)^        \}}", VERB, re.MULTILINE | re.DOTALL)[1]
+    found = {}
+    for variants, text in re.findall(r"^ *((?:\w+::\w+(?: \| )?)+) => (.*?),?$", body, re.MULTILINE):
+        found |= dict.fromkeys(re.findall(r"::(\w+)", variants), text)
+    return found
+
+
+def constants():
+    """The limits of the engines in bytes."""
+    text = "".join(path.read_text() for path in ENGINES)
+    return {name: int(value) for name, value in re.findall(r"^pub const (\w+_LIMIT): u64 = ([\d_]+);$", text, re.MULTILINE)}
+
+
+def limit(text):
+    """A limit such as `2 * INSN_LIMIT`."""
+    times, _, name = text.rpartition(" * ")
+    return int(times or 1) * constants()[name]
+
+
+NAMES = {variant: name.strip('"') for variant, name in arms("name", "Verb").items()}
+SETTINGS = {variant: name.strip('"') for variant, name in arms("name", "Setting").items()}
+# Each command, in the order in which they are declared, with its options and its limit in bytes.
+OPTIONS = {NAMES[verb]: [f"--{SETTINGS[it]}" for it in re.findall(r"Setting::(\w+)", text)] for verb, text in arms("takes", "Verb").items()}
+LIMITS = {NAMES[verb]: limit(text) for verb, text in arms("limit", "Verb").items()}
+COMMANDS = list(NAMES.values())
+ALL_OPTIONS = [f"--{name}" for name in SETTINGS.values()]

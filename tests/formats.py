@@ -1,0 +1,144 @@
+"""Compares docs/FORMATS.md with the vectors and with the built program: the page itself is read, and judges.
+
+    formats.py PROGRAM
+
+insn_judge.py and second_judge.py say of bytes what the tables of the page say. Here they judge each vector, and each instruction of the
+vectors again with one of its fields changed, which the program is given too.
+"""
+
+import re
+import sys
+
+import insn_judge
+import second_judge
+from formats_page import fitted, numbers, table
+from program import Program, Ran, Report
+from vectors import data, rows, text
+
+# What a field of an instruction is changed to.
+REGISTERS = [*range(8), 10, 11, 15]
+OFFSETS = [0, 1, -1, 8, 16, 32]
+IMMEDIATES = [0, 1, -1, 16, 32, 64, 0x40, 0xE0, 0xE1, 0xF0, 0xF1, 0x1_0000]
+
+
+# ---- instructions
+
+
+def check_insns(report):
+    with report.group("the tables of instructions on the vectors"):
+        for line, little, big, group in rows("insn"):
+            for order, code in ("little", data(little)), ("big", data(big)):
+                read, fault = insn_judge.judged(code, order)
+                said = (insn_judge.line_of(*read), insn_judge.group_of(read[0])) if read else fault
+                report.expect_that(said == (line, group), f"{line} in {order}-endian order", f"the page says {said}")
+            other = insn_judge.bytes_of(read[1], read[0].is_wide, "little") if read else None
+            report.expect_that(other == data(little), f"{line}, turned", f"the page says {other}")
+        for name, little, big, place, cause in rows("insn-fault"):
+            for order, code in ("little", data(little)), ("big", data(big)):
+                fault = insn_judge.judged(code, order)[1]
+                report.expect_that(fault == (int(place), cause), f"{name} in {order}-endian order", f"the page says {fault}")
+    with report.group("the words of the table of lines"):
+        words = {insn_judge.word_of(form) for form in insn_judge.forms()}
+        named = {word: name for word, (name, _) in insn_judge.templates().items()}
+        report.expect_that(words == set(named), "the words", f"these differ: {sorted(words ^ set(named))}")
+        for form in insn_judge.forms():
+            name = named.get(insn_judge.word_of(form), "")
+            report.expect_that(form.name in name.split(", "), insn_judge.word_of(form), f"it is in the row {name}, and not {form.name}")
+
+
+def changed_insns():
+    """Each instruction of the vectors, and that with one field changed."""
+    found = {}
+    for _, little, _, _ in rows("insn"):
+        form, insn = insn_judge.judged(data(little), "little")[0]
+        changes = [("opcode", insn.opcode ^ 1 << bit) for bit in range(8)]
+        changes += [(field, value) for field in ("dst", "src") for value in REGISTERS]
+        changes += [("offset", value) for value in OFFSETS] + [("imm", value) for value in IMMEDIATES]
+        changes += [(field, value) for field in ("reserved", "next_imm") for value in (0, 1, -1) if form.is_wide]
+        for field, value in changes:
+            code = insn_judge.bytes_of(insn._replace(**{field: value}), form.is_wide, "little")
+            found.setdefault(code)
+    return list(found)
+
+
+def check_changed_insns(program, report):
+    accepted, shown = [], []
+    with report.group("instructions with a field changed, by the page and by the program"):
+        for code in changed_insns():
+            read, fault = insn_judge.judged(code, "little")
+            # what was a wide load may be an instruction and its neighbour: the page judges the first
+            if read and read[0].is_wide == (len(code) == 16):
+                accepted.append(code)
+                shown.append(insn_judge.line_of(*read) + "\n")
+            elif fault:
+                right = Ran(1, b"", f"fault {fault[0]} {fault[1]}\n".encode())
+                report.expect(code.hex(), program.run("insn-groups", code), right)
+        ran = program.run("insn-show", b"".join(accepted))
+        lines = ran.output.decode().splitlines(keepends=True)
+        report.expect_that(ran.status == 0 and len(lines) == len(shown), "insn-show", f"it gave {ran}")
+        for code, got, right in zip(accepted, lines, shown):
+            report.expect_that(got == right, code.hex(), f"it is shown as {got!r}, and the page says {right!r}")
+
+
+def check_groups(program, report):
+    """Each form alone, so that the groups it brings are seen."""
+    with report.group("the groups of the page and of the program"):
+        brings = insn_judge.brings()
+        for _, little, _, _ in rows("insn"):
+            form, _ = insn_judge.judged(data(little), "little")[0]
+            right = sorted(brings[insn_judge.group_of(form)])
+            ran = program.run("insn-groups", data(little))
+            report.expect_that(sorted(ran.output.decode().split()) == right, little, f"it needs {ran.output}, and the page says {right}")
+
+
+def check_not_covered(program, report):
+    """The rows of "Not covered" on instructions: their opcodes, immediates and offsets are in brackets."""
+    with report.group("instructions that aren't covered"):
+        for what, refusal in table("Not covered", "Input", "Refusal"):
+            found = re.search(r"\((?:(imm) )?((?:[0-9a-f]{2,3}(?:, )?)+)(?: with offset (\d+))?\)", what)
+            codes = found[2].split(", ") if found else re.findall(r"\(([0-9a-f]{2})\)", what)
+            codes = re.findall(r"\(([0-9a-f]{2})\)", what) if found and not found[1] and not found[3] and ", " not in found[2] else codes
+            for code in codes:
+                opcode, imm = (0xDB, int(code, 16)) if found[1] else (int(code, 16), 0)
+                insn = insn_judge.Insn(opcode, 1, 1, int(found[3] or 0), imm)
+                given = insn_judge.bytes_of(insn, False, "little")
+                cause = fitted(refusal, r"`(\w+)`")[0]
+                fault = insn_judge.judged(given, "little")[1]
+                report.expect_that(fault is not None and fault[1] == cause, f"{what}: {code}", f"the tables say {fault}")
+                message = f"fault {fault[0]} {cause}\n".encode() if fault else b""
+                report.expect(f"{what}: {code}", program.run("insn-canon", given), Ran(1, b"", message))
+
+
+# ---- BTF
+
+
+def check_btf(report):
+    with report.group("the tables of BTF on the vectors"):
+        for name, file, little, big, count, shown in rows("btf"):
+            for given in {*map(data, (file, little, big))}:
+                fault = second_judge.first_fault(given)
+                said = fault or (second_judge.canonical(given), second_judge.canonical(given, ">"))
+                report.expect_that(said == (data(little), data(big)), name, f"the page says {said}")
+                lines = None if fault else second_judge.lines(given)
+                report.expect_that(lines == text(shown), f"{name}, its text", f"the page says {lines}")
+                types = None if fault else second_judge.count(given)
+                report.expect_that(types == int(count), f"{name}, its types", f"the page says {types}")
+        for name, little, big, place, cause in rows("btf-fault"):
+            for given in data(little), data(big):
+                fault = second_judge.first_fault(given)
+                report.expect_that(fault == (int(place), cause), name, f"the page says {fault}")
+
+
+def main():
+    if len(sys.argv) != 2:
+        sys.exit(__doc__)
+    program, report = Program(sys.argv[1]), Report()
+    check_insns(report)
+    check_btf(report)
+    for check in check_groups, check_changed_insns, check_not_covered:
+        check(program, report)
+    return report.end("formats")
+
+
+if __name__ == "__main__":
+    sys.exit(main())

@@ -1,0 +1,79 @@
+"""Reads docs/FORMATS.md: its tables, and the sentences whose numbers other tests take from it.
+
+The page is read strictly. Where a table or a sentence has another wording than is expected, the reader fails, so that a page which
+was changed is never half read.
+"""
+
+import pathlib
+import re
+
+PAGE = pathlib.Path(__file__).resolve().parent.parent / "docs" / "FORMATS.md"
+
+
+class PageError(Exception):
+    """The page has something that its reader doesn't expect."""
+
+
+def section(heading):
+    """The text below a heading up to the next one, whatever its level."""
+    parts = re.split(r"^#+ (.*)\n", PAGE.read_text(), flags=re.MULTILINE)
+    found = [text for name, text in zip(parts[1::2], parts[2::2]) if name == heading]
+    if len(found) != 1:
+        raise PageError(f"{len(found)} sections have the heading {heading!r}")
+    return found[0]
+
+
+def cells(line):
+    return [cell.strip().replace(r"\|", "|") for cell in re.split(r"(?<!\\)\|", line.strip())[1:-1]]
+
+
+def table(heading, *columns):
+    """The rows of the one table of a section that has these columns."""
+    lines = section(heading).splitlines()
+    starts = [at for at, line in enumerate(lines) if line.startswith("|") and cells(line) == list(columns)]
+    if len(starts) != 1:
+        raise PageError(f"{heading}: {len(starts)} tables have the columns {columns}")
+    rows = []
+    for line in lines[starts[0] + 2 :]:
+        if not line.startswith("|"):
+            break
+        rows.append(cells(line))
+        if len(rows[-1]) != len(columns):
+            raise PageError(f"{heading}: {line!r} hasn't {len(columns)} cells")
+    return rows
+
+
+def said(heading, pattern):
+    """The groups of the one place of a section's sentences that a pattern fits, lines joined."""
+    text = " ".join(section(heading).split())
+    found = list(re.finditer(pattern, text))
+    if len(found) != 1:
+        raise PageError(f"{heading}: {len(found)} places are like {pattern!r}")
+    return found[0].groups()
+
+
+def fitted(text, pattern):
+    """The groups of a pattern that fits the whole text."""
+    found = re.fullmatch(pattern, text)
+    if not found:
+        raise PageError(f"{text!r} isn't like {pattern!r}")
+    return found.groups()
+
+
+def number(text):
+    """A decimal number, with or without commas."""
+    return int(text.replace(",", ""))
+
+
+def numbers(text):
+    """The numbers of a list such as "8, 16 or 32"."""
+    return [number(it) for it in fitted(text, r"(\d[\d,]*(?:(?:, | or | and )\d[\d,]*)*)")[0].replace(" or ", ", ").replace(" and ", ", ").split(", ")]
+
+
+def coded(text):
+    """The names of a list such as "Or 4, Div and Sdiv 3", each with its number, which is hexadecimal."""
+    found = {}
+    for part in text.split(", "):
+        names, code = fitted(part, r"([A-Z]\w*(?: and [A-Z]\w*)*) ([0-9a-f]+)")
+        found |= dict.fromkeys(names.split(" and "), int(code, 16))
+    return found
