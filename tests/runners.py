@@ -1,0 +1,407 @@
+"""Shows that the runners of the tests fail where a part of theirs fails, and that their last lines name what was skipped.
+
+    runners.py
+
+`verify`, `tests/run`, `tests/c_interface/run` and `tests/bindings` are copied and run with a PATH on which stand-ins are in the place of
+the prover, the compilers and the other tools. A stand-in notes its call and passes. Then each call that was noted fails, one at a time:
+the runner has to fail each time, unless the call only asks what is there. `tests/recipes` and the modules that count are tried with
+inputs for which they have to fail.
+"""
+
+import concurrent.futures
+import contextlib
+import io
+import os
+import pathlib
+import re
+import shutil
+import stat
+import subprocess
+import sys
+import tempfile
+
+import out_of_memory
+import running_time
+import vectors
+from program import Ran, Report
+
+TOP = pathlib.Path(__file__).resolve().parent.parent
+# The real tools that the runners and the stand-ins need.
+BASE = "bash cat cmp cp cut diff dirname env grep ln ls mkdir mktemp nproc rm sed sh sleep tail tee test touch true uname wc".split()
+TOOLS = "cc gofmt go mypy pkg-config python3 valgrind".split()
+EXAMPLE = "crates/bpfcanon/src/tests/library_example.rt"
+COPIED = ["verify", "README.md", "docs/LIBRARY.md", EXAMPLE, "tests/run", "tests/c_interface/run", "tests/bindings"]
+
+# A stand-in. It fails where its call is the one with the number FAIL_AT, or where its name is FAIL.
+STAND_IN = r"""#!/bin/sh
+set -f
+name=${0##*/}
+echo "$name" $* >>"$CALLS"
+if [ "$(wc -l <"$CALLS")" -eq "$FAIL_AT" ]; then exit 1; fi
+case /$0 in */"$FAIL") exit 1 ;; esac
+case $name in
+archive) touch crates/bpfcanon_c/out/libbpfcanon_c.a ;;
+build) mkdir -p "$1/include" "$1/lib/pkgconfig" && touch "$1/lib/pkgconfig/bpfcanon.pc" ;;
+key)
+    case $KEY in
+    none) ;;
+    other) wc -l <"$CALLS" ;;
+    *) echo "$KEY" ;;
+    esac
+    exit 0
+    ;;
+gofmt) if [ -n "$UNFORMATTED" ]; then echo insn.go; fi ;;
+recipes) echo "recipes: 1 passed, 0 failed, 1 skipped (no bpftool)" ;;
+run | bindings) echo "stand-in: passed" ;;
+rt) echo "1 passed, 0 failed" ;;
+esac
+before=
+for word; do
+    if [ "$before" = -o ]; then cp "$0" "$word"; fi
+    if [ "$before" = --target ]; then mkdir -p "$word/bpfcanon" && touch "$word/bpfcanon/py.typed"; fi
+    before=$word
+done
+"""
+KEY_README = "```go\nprogram\n```\n```console\n$ ./key\nmade\n```\n"
+# Calls that ask what is there: what they ask for is skipped, or done in another way.
+PROBES = ["go version", r"python3 -c from importlib\.util import find_spec .*", r"cc -fsanitize=\S+ .*/empty\.c .*", "empty"]
+
+
+def write(path, text):
+    path.parent.mkdir(parents=True, exist_ok=True)
+    path.write_text(text)
+    path.chmod(path.stat().st_mode | stat.S_IXUSR)
+
+
+class Tree:
+    """A folder with the copied runners and a folder `bin` with the tools. The other parts are stand-ins."""
+
+    def __init__(self, folder, tools, replaced=()):
+        self.folder = folder
+        for name in COPIED:
+            (folder / name).parent.mkdir(parents=True, exist_ok=True)
+            shutil.copy(TOP / name, folder / name)
+        for name in ["bin/rt", "capi/archive", "capi/build", "crates/bpfcanon/out/bpfcanon", "tests/recipes", *replaced]:
+            write(folder / name, STAND_IN)
+        for path in (TOP / "tests").iterdir():
+            if path.suffix in (".py", ".c"):
+                (folder / "tests" / path.name).touch()
+        for name in ["testdata/flow_table.little.btf", "testdata/flow_table.big.btf", "bindings/python/pyproject.toml", "proved"]:
+            write(folder / name, "")
+        write(folder / "bindings" / "go" / "README.md", KEY_README)
+        write(folder / "crates" / "bpfcanon_c" / "out" / "libbpfcanon_c.a", "")
+        for tool in BASE:
+            (folder / "bin" / tool).symlink_to(shutil.which(tool))
+        for tool in tools:
+            write(folder / "bin" / tool, STAND_IN)
+
+    def run(self, runner, number=0, **environment):
+        """The status of a runner, its last line and the calls of the stand-ins, with one that fails."""
+        with tempfile.TemporaryDirectory() as room:
+            calls = pathlib.Path(room, "calls")
+            calls.touch()
+            own = {"PATH": str(self.folder / "bin"), "HOME": "/", "TMPDIR": room, "CALLS": str(calls), "FAIL_AT": str(number)}
+            own |= {"KEY": "made", "FAIL": "none", "UNFORMATTED": ""} | environment
+            done = subprocess.run(["bash", self.folder / runner], env=own, capture_output=True, text=True, timeout=120)
+            lines = done.stdout.splitlines() or [done.stderr]
+            return done.returncode, re.sub(r" in \d+ s", "", lines[-1]), calls.read_text().splitlines()
+
+
+@contextlib.contextmanager
+def tree(tools=TOOLS, replaced=()):
+    with tempfile.TemporaryDirectory() as folder:
+        yield Tree(pathlib.Path(folder), tools, replaced)
+
+
+def is_probe(call):
+    return any(re.fullmatch(probe, call) for probe in PROBES)
+
+
+# ---- a call that fails
+
+# What the README's example prints: nothing, or something else for each input. A file that gofmt would change.
+WRONG_ANSWERS = [("tests/c_interface/run", "KEY", "none"), ("tests/c_interface/run", "KEY", "other")]
+WRONG_ANSWERS += [("tests/bindings", "KEY", "other"), ("tests/bindings", "UNFORMATTED", "insn.go")]
+
+
+def check_calls(report, runner, least):
+    """Each call of a runner fails once. A runner has at least so many calls."""
+    with report.group(f"{runner}: each call fails once"), tree() as made, concurrent.futures.ThreadPoolExecutor() as pool:
+        status, last, calls = made.run(runner)
+        report.expect_that(status == 0 and last.endswith("passed"), "no call fails", f"it ended with {status}: {last}")
+        report.expect_that(len(calls) >= least, "the calls", f"they are {len(calls)}, and {least} were there once")
+        ended = pool.map(lambda number: made.run(runner, number), range(1, len(calls) + 1))
+        for call, (status, last, _) in zip(calls, ended):
+            if not is_probe(call):
+                report.expect_that(status != 0 and "FAILED" in last, call, f"it failed, and the runner ended with {status}: {last}")
+
+
+def check_answers(report):
+    """What no status says: an output that differs, a file that gofmt would change, an example that isn't the one that is run."""
+    with report.group("runners whose parts pass and answer wrongly"):
+        with tree() as made:
+            for runner, name, value in WRONG_ANSWERS:
+                status, last, _ = made.run(runner, **{name: value})
+                report.expect_that(status != 0 and "FAILED" in last, f"{runner}, {name}={value}", f"it ended with {status}: {last}")
+        for page in "README.md", "docs/LIBRARY.md":
+            with tree() as made:
+                text = (made.folder / page).read_text()
+                (made.folder / page).write_text(text.replace("String::new(alloc)", "String::new(other)"))
+                status, last, _ = made.run("tests/run")
+                report.expect_that(status != 0 and page in last, f"another example in {page}", f"it ended with {status}: {last}")
+        with tree() as made:
+            (made.folder / "crates/bpfcanon/out/bpfcanon").unlink()
+            status, last, _ = made.run("tests/run")
+            report.expect_that(status != 0, "no program", f"it ended with {status}: {last}")
+
+
+# ---- verify
+
+PARTS = {
+    "bin/rt": "rt ci",
+    "tests/run": "process tests",
+    "capi/archive": "C archive",
+    "tests/c_interface/run": "C interface",
+    "tests/bindings": "bindings",
+    "tests/recipes": "recipes",
+}
+RUNNERS = ["tests/run", "tests/c_interface/run", "tests/bindings"]
+# The tools that are there, and how each part ended.
+SKIPPED = [
+    (
+        "without any tool",
+        [],
+        "verify: rt ci passed, process tests skipped (no python3), C archive skipped (no python3), "
+        "C interface skipped (no archive), bindings skipped (no cc), recipes skipped (no python3)",
+    ),
+    (
+        "without cc",
+        ["python3"],
+        "verify: rt ci passed, process tests passed, skipped (no cc), C archive passed, "
+        "C interface skipped (no cc), bindings skipped (no cc), recipes passed, skipped (no bpftool)",
+    ),
+    (
+        "with cc and python3",
+        ["python3", "cc"],
+        "verify: rt ci passed, process tests passed, C archive passed, "
+        "C interface passed, skipped (no valgrind, no programs by pkg-config), "
+        "bindings passed, skipped (no go, no mypy), recipes passed, skipped (no bpftool)",
+    ),
+]
+# What a runner says by itself where several tools are missing.
+MISSING = [
+    ("tests/c_interface/run", ["cc"], "C interface: passed, skipped (no valgrind, no python3)"),
+    ("tests/c_interface/run", ["cc", "python3"], "C interface: passed, skipped (no valgrind, no pkg-config)"),
+    ("tests/bindings", ["cc"], "bindings: skipped (no go, no python3)"),
+    ("tests/bindings", ["cc", "python3", "go", "gofmt"], "bindings: passed, skipped (no pkg-config, no mypy)"),
+    ("tests/run", ["python3"], "process tests: passed, skipped (no cc)"),
+]
+
+
+def check_verify(report):
+    with report.group("verify: each part fails once"), tree(replaced=RUNNERS) as made:
+        right = "verify: rt ci passed, process tests passed, C archive passed, C interface passed, bindings passed, recipes passed"
+        status, last, _ = made.run("verify")
+        report.expect_that((status, last) == (0, f"{right}, skipped (no bpftool)"), "no part fails", f"it ended with {status}: {last}")
+        for part, name in PARTS.items():
+            (made.folder / "crates/bpfcanon_c/out/libbpfcanon_c.a").touch()
+            status, last, _ = made.run("verify", FAIL=part)
+            is_named = f" {name} FAILED" in last and last.count("FAILED") == 1
+            report.expect_that(status != 0 and is_named, name, f"it failed, and verify ended with {status}: {last}")
+
+
+def check_missing(report):
+    with report.group("last lines where tools are missing"):
+        for name, tools, right in SKIPPED:
+            with tree(tools) as made:
+                (made.folder / "crates/bpfcanon_c/out/libbpfcanon_c.a").unlink()
+                status, last, _ = made.run("verify")
+                right = right.replace("no programs by pkg-config", "no pkg-config")
+                report.expect_that((status, last) == (0, right), name, f"verify ended with {status}: {last}")
+        for runner, tools, right in MISSING:
+            with tree(tools) as made:
+                status, last, _ = made.run(runner)
+                report.expect_that((status, last) == (0, right), f"{runner} with {tools}", f"it ended with {status}: {last}")
+
+
+# ---- tests/recipes
+
+RECIPE = "```sh\necho same\n```\n```text\nsame\n```\n"
+NOTATION = "### Notation of llvm-objdump\n\n| `exit` | `exit` |\n\nSo llvm-objdump\n\n### Reading a listing\n"
+# The page of recipes, what the program answers to a listing, and whether the runner passes.
+RECIPES = [
+    ("a recipe that passes", RECIPE, "cat", True),
+    ("a recipe that prints something else", RECIPE.replace("echo same", "echo other"), "cat", False),
+    ("a recipe that fails after it printed", RECIPE.replace("echo same", "echo same; false"), "cat", False),
+    ("a listing that comes back otherwise", RECIPE, "echo other", False),
+]
+
+
+def check_recipes(report):
+    with report.group("tests/recipes"):
+        for name, page, answer, passes in RECIPES:
+            with tempfile.TemporaryDirectory() as folder:
+                root = pathlib.Path(folder)
+                for tool in [*BASE, "python3"]:
+                    (root / "bin").mkdir(exist_ok=True)
+                    (root / "bin" / tool).symlink_to(sys.executable if tool == "python3" else shutil.which(tool))
+                write(root / "docs" / "RECIPES.md", page)
+                write(root / "docs" / "FORMATS.md", NOTATION)
+                write(root / "bin" / "bpfcanon", f"#!/bin/sh\n{answer}\n")
+                (root / "testdata").mkdir()
+                (root / "tests").mkdir()
+                shutil.copy(TOP / "tests" / "recipes", root / "tests" / "recipes")
+                words = [sys.executable, root / "tests" / "recipes", root / "bin" / "bpfcanon"]
+                done = subprocess.run(words, env={"PATH": str(root / "bin")}, capture_output=True, text=True, timeout=60)
+                ended = f"it ended with {done.returncode}: {done.stdout[-200:]}{done.stderr[-200:]}"
+                report.expect_that((done.returncode == 0) == passes and "passed" in done.stdout, name, ended)
+
+
+# ---- the modules that count
+
+
+def silently(call, *words):
+    """What a call returns, without what it prints."""
+    with contextlib.redirect_stdout(io.StringIO()):
+        return call(*words)
+
+
+RIGHT = Ran(1, b"output", b"message")
+COUNTED = [
+    ("the same", lambda it: it.expect("", RIGHT, RIGHT), 0),
+    ("another status", lambda it: it.expect("", RIGHT._replace(status=0), RIGHT), 1),
+    ("another output", lambda it: it.expect("", RIGHT._replace(output=b""), RIGHT), 1),
+    ("another message", lambda it: it.expect("", RIGHT._replace(message=b""), RIGHT), 1),
+    ("what isn't right", lambda it: it.expect_that(False, "", ""), 1),
+    ("nothing", lambda it: None, 1),
+    ("only a skip", lambda it: it.skip("", ""), 1),
+]
+
+
+def late(report):
+    with report.group("late"):
+        report.runs += 1
+        raise subprocess.TimeoutExpired(["program"], 60)
+
+
+def check_report(report):
+    with report.group("how answers are counted"):
+        for name, count, status in [*COUNTED, ("a program that hangs", late, 1)]:
+            own = Report()
+            silently(count, own)
+            ended = silently(own.end, name)
+            report.expect_that(ended == status, name, f"it ended with {ended}")
+        with tempfile.TemporaryDirectory() as folder:
+            path = pathlib.Path(folder, "program")
+            write(path, "#!/bin/sh\necho out\necho err >&2\nexit 3\n")
+            ran = vectors.Program(path).run("word")
+            report.expect_that(ran == Ran(3, b"out\n", b"err\n"), "a run", f"it is {ran}")
+
+
+class Answering:
+    """A program that has the right answer to each run of the vectors, except that one part of one answer is another."""
+
+    wrong_at, part = None, None
+
+    def __init__(self, path):
+        self.runs = 0
+
+    def run(self, line, given):
+        self.runs += 1
+        right = Answering.rights[line, given]
+        return right._replace(**self.part) if self.runs == self.wrong_at else right
+
+
+def check_vectors(report):
+    """Every run of vectors.py counts: with one other part of an answer it fails."""
+    makers = [vectors.runs_of_insns, vectors.runs_of_faulty_insns, vectors.runs_of_btf, vectors.runs_of_faulty_btf, vectors.runs_of_lines]
+    makers += [vectors.runs_of_all_insns, vectors.runs_of_compiled_files]
+    Answering.rights = {(line, given): right for make in makers for _, line, given, right in make()}
+    for _, given, shown in vectors.rows("listing"):
+        # where no vector has the code of the lines, they are in its place
+        lines = vectors.text(shown)
+        code = Answering.rights.get(("insn-read", lines), vectors.done(lines))
+        Answering.rights |= {("insn-read", vectors.text(given)): code, ("insn-read", lines): code, ("insn-show", code.output): vectors.done(lines)}
+    own, words = vectors.Program, sys.argv
+    vectors.Program, sys.argv = Answering, ["vectors.py", "program"]
+    with report.group("a wrong answer to a run of the vectors"):
+        for _, given, line, cause in vectors.rows("listing-fault"):
+            later = vectors.refused(f"fault line {int(line) + 2} {cause}")
+            Answering.rights[("insn-read", vectors.text(given))] = vectors.refused(f"fault line {line} {cause}")
+            Answering.rights[("insn-read --to big", b"exit\n; none\n" + vectors.text(given) + b"\n")] = later
+        parts = [{"status": 9}, {"output": b"x"}, {"message": b"x"}]
+        for at, part in [(None, {}), *((at, part) for at in (5, 2_000, 3_000, 4_000) for part in parts)]:
+            Answering.wrong_at, Answering.part = at, part
+            ended = silently(vectors.main)
+            report.expect_that(ended == (1 if at else 0), f"{part or 'nothing'} at run {at}", f"it ended with {ended}")
+    vectors.Program, sys.argv = own, words
+
+
+# ---- running_time.py
+
+SPEND = "#!/bin/sh\nnumber=0\nwhile [ $number -lt 100000 ]; do number=$((number + 1)); done\n"
+TAKE = f"#!{sys.executable}\nimport sys\nbytearray(400 << 20)\nprint('taken')\n"
+
+
+def check_running_time(report):
+    with report.group("the limits of time and memory"), tempfile.TemporaryDirectory() as folder:
+        path = pathlib.Path(folder, "program")
+        write(path, SPEND)
+        ran = running_time.run(path, "", b"", 1 << 40)
+        report.expect_that(ran.status == 0 and ran.seconds > 0.01, "a run that takes time", f"it is {ran}")
+        write(path, TAKE)
+        for memory, passes in (1 << 40, True), (300 << 20, False):
+            ran = running_time.run(path, "", b"", memory)
+            report.expect_that((ran.status == 0) == passes, f"400 MB within {memory >> 20} MB", f"it is {ran}")
+        file = running_time.named([b"name"])
+        tried = running_time.Input(lambda: file, 8, True, (1, 1, 1))
+        answers = {"btf-check": b"ok 1 types\n", "btf-canon": file, f"btf-same --split {len(file)}": b"same\n"}
+        limit = running_time.TIMES_THE_TIME
+        rows = [("nothing", "", 0, None, 0), ("its time", "btf-check", 0, None, limit + 1), ("its status", "btf-canon", 1, None, 0)]
+        rows += [("its output", line, 0, b"x", 0) for line in answers] + [("its time", line, 0, None, limit + 1) for line in answers]
+        real = running_time.run
+        for what, wrong, status, output, seconds in rows:
+
+            def answered(program, line, given, memory):
+                is_wrong = line == wrong
+                return running_time.Ran(status if is_wrong else 0, output if is_wrong and output else answers[line], seconds if is_wrong else 0.5)
+
+            own, running_time.run = Report(), answered
+            silently(running_time.check, "", own, "", tried)
+            running_time.run = real
+            report.expect_that(own.wrong == bool(wrong), f"{what} {wrong}", f"{own.wrong} were wrong")
+
+
+# ---- out_of_memory.py
+
+INVENTED = ["        return Err(BtfError::Memory);", "    None => Err(AllocError),", "    Err(_) => Err(RunCause::Memory),"]
+PASSED_ON = ["    Err(AllocError) => Err(BtfError::Memory),", "/// Out of memory: `AllocError`.", "    Memory,"]
+
+
+def check_out_of_memory(report):
+    with report.group("lines that name out of memory"):
+        for line in INVENTED + PASSED_ON:
+            wrong = list(out_of_memory.wrong_lines(f"fn body()\n{line}\n"))
+            report.expect_that(bool(wrong) == (line in INVENTED), line.strip(), f"it is {'refused' if wrong else 'taken'}")
+
+
+def main():
+    report = Report()
+    for runner, least in ("tests/run", 18), ("tests/c_interface/run", 45), ("tests/bindings", 15):
+        check_calls(report, runner, least)
+    for check in [
+        check_answers,
+        check_verify,
+        check_missing,
+        check_recipes,
+        check_report,
+        check_vectors,
+        check_running_time,
+        check_out_of_memory,
+    ]:
+        check(report)
+    return report.end("runners")
+
+
+if __name__ == "__main__":
+    sys.exit(main())
