@@ -23,6 +23,7 @@ from samples import (
     WIDE,
 )
 from program import Program, Ran, Report
+from refused_memory import FAULTY
 
 # A line of each command, and of those that write in another order; with its input and its output.
 LINES = [
@@ -127,6 +128,12 @@ def check_faults(paced, report):
             report.expect(f"insn-canon by {most} bytes", paced.run("insn-canon", given, most, read=2), right)
 
 
+def check_faults_by_single_bytes(paced, report):
+    with report.group("faults of inputs that come byte by byte"):
+        for name, line, given, right in FAULTY:
+            report.expect(f"{line}, {name}", paced.run(line, given, 1), right)
+
+
 def check_fault_lines(paced, report):
     """Where the line on standard error is cut off, the status and the output are as ever."""
     message = b"fault 9 Src\n"
@@ -158,6 +165,7 @@ def main():
         check_each_write,
         check_writes_of_pieces,
         check_faults,
+        check_faults_by_single_bytes,
         check_fault_lines,
         check_long_names,
     ]:

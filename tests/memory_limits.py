@@ -8,7 +8,8 @@ it reads, and insn-show and btf-show, which write in pieces: there it is the beg
 low that the system can't load the program, the end is the system's: the kernel's signal, and then the loader's line with
 status 127.
 
-refused_memory.py refuses the allocations of small inputs one by one; here the inputs are large and the C library's own.
+Then two commands may grow by little memory while they run: insn-canon on the largest input, and btf-show on names that share their
+bytes. refused_memory.py refuses the allocations of each command one by one.
 """
 
 import os
@@ -26,34 +27,6 @@ MEGABYTE = 1 << 20
 LIMITS = {"address space": resource.RLIMIT_AS, "data": resource.RLIMIT_DATA}
 # What the loader says where it can't map the C library, or has no memory for itself.
 LOADER = re.compile(rb"error while loading shared libraries|cannot allocate TLS|cannot create|out of memory|cannot map")
-
-INSNS = 200_000
-TYPES = 50_000
-
-
-def large_lines():
-    """A line of each command with an input of some megabytes, and the right answer."""
-    insns = (samples.MOV + samples.WIDE + EXIT) * (INSNS // 4)
-    big = (samples.MOV_BIG + samples.WIDE_BIG + EXIT) * (INSNS // 4)
-    text = b"mov r1, r2\nlddw r1, 1234605616436508552\nexit\n" * (INSNS // 4)
-    words = floats([1] * TYPES)
-    btf_little, btf_big = (btf(order, words, b"\0d\0") for order in ("little", "big"))
-    shown = b"".join(b'[%d] float "d" size=8\n' % number for number in range(1, TYPES + 1))
-    return [
-        ("insn-canon --order big", big, Ran(0, insns, b"")),
-        ("insn-canon", insns + EXIT[:3], Ran(1, insns, f"fault {len(insns)} Truncated\n".encode())),
-        ("insn-show", insns, Ran(0, text, b"")),
-        ("insn-read", text, Ran(0, insns, b"")),
-        ("insn-read", text + b"leave", Ran(1, b"", f"fault line {INSNS // 4 * 3 + 1} Word\n".encode())),
-        ("insn-groups", insns, Ran(0, b"base32\nbase64\n", b"")),
-        (f"insn-same --split {len(insns)} --other big", insns + big, Ran(0, b"same\n", b"")),
-        ("btf-canon", btf_big, Ran(0, btf_little, b"")),
-        ("btf-canon", btf_big[:-1], Ran(1, b"", f"fault {len(btf_big) - 1} FileLength\n".encode())),
-        ("btf-show", btf_big, Ran(0, shown, b"")),
-        ("btf-check", btf_big, Ran(0, b"ok %d types\n" % TYPES, b"")),
-        (f"btf-same --split {len(btf_big)}", btf_big + btf_little, Ran(0, b"same\n", b"")),
-    ]
-
 
 def is_refusal(ran, line, right, messages=(b"no memory\n",)):
     """Whether the program reported that it is out of memory, and wrote nothing that it shouldn't."""
@@ -118,24 +91,6 @@ def check_limits_from_the_start(program, report):
                 report.expect_that(b"no words\n" in messages, line, f"no limit gave `no words`, but {messages}")
 
 
-def check_large_inputs_from_the_start(program, report):
-    limits = [pages * PAGE for pages in range(0, 1024, 64)]
-    limits += [size * MEGABYTE for size in [*range(5, 20), *range(20, 60, 4), 1_024]]
-    with report.group(f"large inputs within {len(limits)} limits of address space"):
-        for line, given, right in large_lines():
-            answers, loader_came = [], False
-            for limit in limits:
-                ran = run_within(program, resource.RLIMIT_AS, limit, line, given)
-                refusal = is_refusal(ran, line, right, (b"no memory\n", b"no words\n"))
-                # a signal after the loader's first line is the program's own
-                unloaded = is_unloaded(ran) and not any(answers) and not (ran.status < 0 and loader_came)
-                loader_came |= ran.status == 127
-                is_right = ran == right or refusal or unloaded
-                report.expect_that(is_right, f"{line}, {limit} bytes", f"it gave {ran}, and right is {right}")
-                answers.append(ran == right or refusal)
-            report.expect_that(ran == right, f"{line}, {limits[-1]} bytes", f"it gave {ran}, and right is {right}")
-
-
 # ---- limits that come while the program runs
 
 
@@ -157,21 +112,6 @@ def run_limited_amid(program, kind, more, line, given, front):
         running.feed([given[front:]])
         output = running.read(1 << 30)
         return running.end(output)
-
-
-def check_limits_amid_the_input(program, report):
-    mores = [0, PAGE, 64 << 10, 256 << 10, 512 << 10] + [MEGABYTE * size for size in (1, 2, 3, 4, 6, 8, 12, 16, 32)]
-    with report.group(f"large inputs that {len(mores)} limits of address space meet when they began"):
-        for line, given, right in large_lines():
-            seen = []
-            for more in mores + [1 << 30]:
-                ran = run_limited_amid(program, resource.RLIMIT_AS, more, line, given, 5_000)
-                is_right = ran == right or is_refusal(ran, line, right)
-                report.expect_that(is_right, f"{line}, {more} bytes more", f"it gave {ran}, and right is {right}")
-                seen.append(ran == right)
-            report.expect_that(seen[-1], line, "with ample memory it wasn't right")
-            if not line.startswith("insn-canon"):
-                report.expect_that(not seen[0], line, "its input needs memory, and no limit refused it")
 
 
 def check_streams_in_little_memory(program, report):
@@ -198,8 +138,6 @@ def main():
     program, report = Program(sys.argv[1]), Report()
     for check in [
         check_limits_from_the_start,
-        check_large_inputs_from_the_start,
-        check_limits_amid_the_input,
         check_streams_in_little_memory,
         check_shows_names_in_little_memory,
     ]:

@@ -1,9 +1,9 @@
-"""Runs the built program between pipes: cut off, endless, of one byte at a time, and slow.
+"""Runs the built program between pipes: cut off, endless, and silent before their end.
 
     pipes.py PROGRAM
 
-process.py has streams that fail from the start. Here a reader goes away amid the output, a writer never ends, and
-both give and take single bytes, so that each read and each write of the program moves as little as it can.
+process.py has streams that fail from the start, and failing_calls.py reads and writes that move single bytes. Here a reader goes away
+amid the output, and a writer never ends or waits before its end.
 """
 
 import contextlib
@@ -14,15 +14,13 @@ import subprocess
 import sys
 import termios
 import threading
-import time
 
+import insn_judge
 import samples
 import vectors
 from samples import EXIT, btf, floats
 from program import SECONDS, Program, Ran, Report
 
-# The least room that Linux gives a pipe: a page.
-PIPE_ROOM = 4_096
 # So much output doesn't fit into a pipe, not even of the usual 65,536 bytes.
 EXITS = 100_000
 FLOATS = 20_000
@@ -180,20 +178,7 @@ def check_endless_inputs(program, report):
             report.expect_that(running.cut.wait(SECONDS), "insn-canon of exits", "its writer was not cut off")
 
 
-# ---- one byte at a time
-
-
-def give_bytes(stream, given, pause_after):
-    """Writes a byte, and the next one when that one was read; now and then it rests a while."""
-    with contextlib.suppress(OSError, ValueError):  # where the program ended before its input
-        for at, byte in enumerate(given):
-            os.write(stream.fileno(), bytes([byte]))
-            late = time.monotonic() + SECONDS
-            while unread(stream) and time.monotonic() < late:
-                os.sched_yield()
-            if at % pause_after == pause_after - 1:
-                time.sleep(0.003)
-        stream.close()
+# ---- an input that isn't finished
 
 
 def unread(stream):
@@ -201,35 +186,14 @@ def unread(stream):
     return int.from_bytes(fcntl.ioctl(stream.fileno(), termios.FIONREAD, bytes(4)), sys.byteorder)
 
 
-def take_bytes(stream, pause_after):
-    """Reads a byte at a time to the end; now and then it rests a while."""
-    taken = bytearray()
-    while select.select([stream], [], [], SECONDS)[0]:
-        byte = os.read(stream.fileno(), 1)
-        if not byte:
-            break
-        taken += byte
-        if len(taken) % pause_after == 0:
-            time.sleep(0.003)
-    return bytes(taken)
-
-
-def run_by_bytes(program, line, given, pause_after):
-    with Running(program, line) as running:
-        fcntl.fcntl(running.process.stdout.fileno(), fcntl.F_SETPIPE_SZ, PIPE_ROOM)
-        writing = threading.Thread(target=give_bytes, args=[running.process.stdin, given, pause_after], daemon=True)
-        writing.start()
-        return running.end(take_bytes(running.process.stdout, pause_after))
-
-
-def lines_by_bytes():
+def lines_of_commands():
     """A line of each command, good and faulty, with some hundred bytes of input."""
     rows = vectors.rows("insn")[::9]
     insns, turned = (b"".join(vectors.data(row[at]) for row in rows) for at in (1, 2))
     text = b"".join(row[0].encode() + b"\n" for row in rows)
     _, _, little, big, count, shown = max(vectors.rows("btf"), key=lambda row: len(row[2]))
     little, big, shown, count = vectors.data(little), vectors.data(big), vectors.text(shown), int(count)
-    groups = {brought for row in rows for brought in vectors.BRINGS.get(row[3], [row[3]])}
+    groups = {brought for row in rows for brought in insn_judge.brings()[row[3]]}
     listed = b"".join(group.encode() + b"\n" for group in vectors.GROUPS if group in groups)
     at_fault = f"fault {len(insns) + 8} Truncated\n".encode()
     return [
@@ -250,32 +214,10 @@ def lines_by_bytes():
     ]
 
 
-def check_single_bytes(program, report):
-    with report.group("input and output of one byte at a time"):
-        for line, given, right in lines_by_bytes():
-            report.expect(line, run_by_bytes(program, line, given, pause_after=97), right)
-
-
-def check_slow_readers(program, report):
-    """The output is longer than the pipe, so the program has to wait, and a write moves only a part."""
-    with report.group("an output that is read byte by byte out of a small pipe"):
-        for line, given, output in large_outputs():
-            with Running(program, line) as running:
-                fcntl.fcntl(running.process.stdout.fileno(), fcntl.F_SETPIPE_SZ, PIPE_ROOM)
-                running.feed([given])
-                first = b"".join(running.read(1) for _ in range(5_000))
-                time.sleep(0.01)
-                rest = running.read(len(output))
-                report.expect(line, running.end(first + rest), Ran(0, output, b""))
-
-
-# ---- an input that isn't finished
-
-
 def check_silence_before_the_end(program, report):
     """All but insn-canon write when their input has ended, and report no fault before."""
     with report.group("nothing comes before the end of the input"):
-        for line, given, right in lines_by_bytes():
+        for line, given, right in lines_of_commands():
             if line == "" or line.startswith("insn-canon"):
                 continue
             with Running(program, line) as running:
@@ -298,8 +240,6 @@ def main():
         check_cut_amid_an_endless_input,
         check_fault_lines_to_a_cut_pipe,
         check_endless_inputs,
-        check_single_bytes,
-        check_slow_readers,
         check_silence_before_the_end,
     ]:
         check(program, report)

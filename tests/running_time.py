@@ -1,14 +1,14 @@
 """Limits the time and the memory of the BTF commands on large inputs that are hard for them, and the memory of two commands for
 instructions on the largest programs.
 
-    running_time.py PROGRAM [--measure]
+    running_time.py PROGRAM
 
 Each BTF file goes through btf-check, btf-canon and btf-same. A run may take twenty times the processor time that was measured, and
 an address space of eight times its input; valid text of the longest string section may take four times. The margins are wide, so
 that a slower machine passes and another order of growth doesn't: a search that is quadratic takes hundreds of times as long here.
 insn-groups and insn-same keep their input and nothing else that grows with it, so they may take 1.1 times its length.
 
---measure prints the processor time and the least address space of each run, from which the constants below come.
+bench/hard_inputs measures the processor time and the least address space of each run, from which the constants below come.
 """
 
 import os
@@ -29,7 +29,9 @@ TIMES_THE_TIME = 20
 TIMES_THE_INPUT = 8
 TIMES_THE_PROGRAM = 1.1
 LARGEST_PROGRAM = 64 * MEGABYTE
-ENUM_VALUES = 65_535
+ENUM_VALUES = MEMBERS = 65_535
+# So many structs and as many unions fill a file.
+RECORDS_OF_MEMBERS = 20
 # A run that takes longer is ended.
 MOST_SECONDS = 100
 
@@ -141,6 +143,15 @@ def valid_utf8():
     return file_of([1], b"\0" + text + b"a" * (STRINGS - 2 - len(text)) + b"\0")
 
 
+def members(flag, last_width):
+    """Structs and unions of as many members as a record can have. Only the last member of each has a width, if any has one."""
+    words = [0, 0x0100_0000, 4, 32]
+    for kind in [0x0400_0000, 0x0500_0000] * RECORDS_OF_MEMBERS:
+        words += [0, flag << 31 | kind | MEMBERS, 4]
+        words += [0, 1, 0] * (MEMBERS - 1) + [0, 1, last_width << 24]
+    return btf("little", words, b"\0")
+
+
 class Input(NamedTuple):
     """A file, how many times its length its address space may be, and the seconds of each command (below)."""
 
@@ -160,38 +171,15 @@ INPUTS = {
     "a million nested suffixes of one string": Input(one_long_suffix, TIMES_THE_INPUT, True, (0.03, 0.07, 0.04)),
     "a name of a million bytes, used two million times": Input(one_name, TIMES_THE_INPUT, True, (0.04, 0.07, 0.06)),
     "16 MB of valid UTF-8": Input(valid_utf8, 4, True, (0.05, 0.10, 0.06)),
+    "members without widths": Input(lambda: members(0, 0), TIMES_THE_INPUT, True, (0.04, 0.10, 0.08)),
+    "members whose widths are all 0": Input(lambda: members(1, 0), TIMES_THE_INPUT, False, (0.05, 0.11, 0.10)),
+    "members of which the last has a width": Input(lambda: members(1, 1), TIMES_THE_INPUT, True, (0.06, 0.12, 0.13)),
 }
 
 
 def lines_of(file):
     """Each command with its input."""
     return [("btf-check", file), ("btf-canon", file), (f"btf-same --split {len(file)}", file + file)]
-
-
-def least_memory(program, line, given):
-    """The least address space, in megabytes, within which a run ends as with ample memory."""
-    low, high = 0, 4096
-    while high - low > 1:
-        middle = (low + high) // 2
-        if run(program, line, given, middle * MEGABYTE).status == 0:
-            high = middle
-        else:
-            low = middle
-    return high
-
-
-def measure_run(program, name, line, given):
-    seconds = min(run(program, line, given, 1 << 40).seconds for _ in range(3))
-    least = least_memory(program, line, given)
-    print(f"{name}: {line}: {seconds:.2f} s, {least} MB, {least * MEGABYTE / len(given):.2f} times the input", flush=True)
-
-
-def measure(program):
-    for name, input in INPUTS.items():
-        for line, given in lines_of(input.make()):
-            measure_run(program, name, line, given)
-    for line, given, _, _ in largest_programs():
-        measure_run(program, "the largest programs", line, given)
 
 
 def largest_programs():
@@ -236,11 +224,9 @@ def check_programs(program, report):
 
 
 def main():
-    if len(sys.argv) < 2:
+    if len(sys.argv) != 2:
         sys.exit(__doc__)
     program, report = sys.argv[1], Report()
-    if sys.argv[2:] == ["--measure"]:
-        return measure(program)
     for name, input in INPUTS.items():
         with report.group(f"time and memory with {name}"):
             check(program, report, name, input)
