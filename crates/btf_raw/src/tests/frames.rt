@@ -154,14 +154,12 @@ const REFUSED: &[Refused] = &[
 #[test]
 fn frames(rt: HostRuntime) {
     for Accepted(order, types, pos, head) in ACCEPTED {
-        if *pos < types.len() {
-            equal(&rt, &next_head(*order, types, *pos), &Ok(*head), types);
-        }
+        assert!(rt; *pos < types.len());
+        equal(&rt, &next_head(*order, types, *pos), &Ok(*head), types);
     }
     for Refused(name, types, pos, at, cause) in REFUSED {
-        if *pos < types.len() {
-            let found = next_head(Order::Little, types, *pos);
-            equal(&rt, &found, &Err(fault(*at, *cause)), name);
-        }
+        assert!(rt; *pos < types.len());
+        let found = next_head(Order::Little, types, *pos);
+        equal(&rt, &found, &Err(fault(*at, *cause)), name);
     }
 }

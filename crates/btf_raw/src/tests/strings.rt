@@ -16,11 +16,10 @@ const ENDS: &[(&[u8], Option<(u64, BtfCause)>)] = &[
 #[test]
 fn ends_of_strings(rt: HostRuntime) {
     for (strings, wanted) in ENDS {
-        if !strings.is_empty() {
-            let found = check_strings(strings).err();
-            let wanted = wanted.map(|(pos, cause)| fault(pos, cause));
-            equal(&rt, &found, &wanted, strings);
-        }
+        assert!(rt; !strings.is_empty());
+        let found = check_strings(strings).err();
+        let wanted = wanted.map(|(pos, cause)| fault(pos, cause));
+        equal(&rt, &found, &wanted, strings);
     }
 }
 
@@ -43,14 +42,12 @@ const NAMES: &[Name] = &[
 #[test]
 fn names_end_at_the_next_nul(rt: HostRuntime) {
     for Name(strings, off, wanted) in NAMES {
-        if strings.ends_with(b"\0") {
-            equal(&rt, &name_at(strings, *off), wanted, &(strings, off));
-        }
-        if let (true, Ok(name)) = (strings.ends_with(b"\0"), wanted) {
-            if (*off as usize) < strings.len() {
-                let text = text_at(strings, *off as usize);
-                equal(&rt, &text, &name.as_bytes(), &(strings, off));
-            }
+        assert!(rt; strings.ends_with(b"\0"));
+        equal(&rt, &name_at(strings, *off), wanted, &(strings, off));
+        if let Ok(name) = wanted {
+            assert!(rt; (*off as usize) < strings.len());
+            let text = text_at(strings, *off as usize);
+            equal(&rt, &text, &name.as_bytes(), &(strings, off));
         }
     }
 }
