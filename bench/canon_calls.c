@@ -48,7 +48,7 @@ static int write_pieces(uint32_t order, uint32_t to)
 
 	for (;;) {
 		ssize_t n = read(0, piece + held, PIECE - held);
-		bpfcanon_front front;
+		bpfcanon_answer front;
 
 		if (n < 0)
 			return 3;

@@ -9,75 +9,78 @@
 
 /* --- Calls on the caller's memory --- */
 
-/* An address in place of null: a slice of Rattle has one even if its length is 0. */
+/*
+ * An address in place of a null pointer whose length is 0, since a slice of Rattle has one. A null
+ * pointer with a length is passed on, so that the call faults and touches no memory of this library.
+ */
 static uint8_t nowhere;
 
-static const uint8_t *input(const void *bytes)
+static const uint8_t *input(const void *bytes, size_t len)
 {
-	return bytes ? (const uint8_t *)bytes : &nowhere;
+	return bytes || len ? (const uint8_t *)bytes : &nowhere;
 }
 
-static uint8_t *output(void *out)
+static uint8_t *output(void *out, size_t room)
 {
-	return out ? (uint8_t *)out : &nowhere;
+	return out || room ? (uint8_t *)out : &nowhere;
 }
 
 bpfcanon_answer bpfcanon_btf_canon(uint32_t to, const uint8_t *bytes, size_t len, uint8_t *out,
                                    size_t room)
 {
-	return bpfcanon_proved_btf_canon(to, input(bytes), len, output(out), room);
+	return bpfcanon_proved_btf_canon(to, input(bytes, len), len, output(out, room), room);
 }
 
 bpfcanon_answer bpfcanon_insn_canon(uint32_t order, uint32_t to, const uint8_t *bytes, size_t len,
                                     uint8_t *out, size_t room)
 {
-	return bpfcanon_proved_insn_canon(order, to, input(bytes), len, output(out), room);
+	return bpfcanon_proved_insn_canon(order, to, input(bytes, len), len, output(out, room), room);
 }
 
 bpfcanon_answer bpfcanon_btf_check(const uint8_t *bytes, size_t len)
 {
-	return bpfcanon_proved_btf_check(input(bytes), len);
+	return bpfcanon_proved_btf_check(input(bytes, len), len);
 }
 
 bpfcanon_answer bpfcanon_insn_groups(uint32_t order, const uint8_t *bytes, size_t len)
 {
-	return bpfcanon_proved_insn_groups(order, input(bytes), len);
+	return bpfcanon_proved_insn_groups(order, input(bytes, len), len);
 }
 
 bpfcanon_answer bpfcanon_btf_same(const uint8_t *first, size_t first_len, const uint8_t *second,
                                   size_t second_len)
 {
-	return bpfcanon_proved_btf_same(input(first), first_len, input(second), second_len);
+	return bpfcanon_proved_btf_same(input(first, first_len), first_len, input(second, second_len), second_len);
 }
 
 bpfcanon_answer bpfcanon_insn_same(uint32_t first_order, const uint8_t *first, size_t first_len,
                                    uint32_t second_order, const uint8_t *second, size_t second_len)
 {
-	return bpfcanon_proved_insn_same(first_order, input(first), first_len, second_order,
-	                                 input(second), second_len);
+	return bpfcanon_proved_insn_same(first_order, input(first, first_len), first_len, second_order,
+	                                 input(second, second_len), second_len);
 }
 
 bpfcanon_answer bpfcanon_insn_show(uint32_t order, const uint8_t *bytes, size_t len, char *out,
                                    size_t room)
 {
-	return bpfcanon_proved_insn_show(order, input(bytes), len, output(out), room);
+	return bpfcanon_proved_insn_show(order, input(bytes, len), len, output(out, room), room);
 }
 
 bpfcanon_answer bpfcanon_insn_read(uint32_t to, const char *text, size_t len, uint8_t *out,
                                    size_t room)
 {
-	return bpfcanon_proved_insn_read(to, input(text), len, output(out), room);
+	return bpfcanon_proved_insn_read(to, input(text, len), len, output(out, room), room);
 }
 
 bpfcanon_answer bpfcanon_btf_show(const uint8_t *bytes, size_t len, char *out, size_t room)
 {
-	return bpfcanon_proved_btf_show(input(bytes), len, output(out), room);
+	return bpfcanon_proved_btf_show(input(bytes, len), len, output(out, room), room);
 }
 
-bpfcanon_front bpfcanon_insn_front(uint32_t order, uint32_t to, const uint8_t *bytes, size_t len,
+bpfcanon_answer bpfcanon_insn_front(uint32_t order, uint32_t to, const uint8_t *bytes, size_t len,
                                    uint8_t *out, size_t room)
 {
-	return bpfcanon_proved_insn_front(order, to, input(bytes), len, output(out), room);
+	return bpfcanon_proved_insn_front(order, to, input(bytes, len), len, output(out, room), room);
 }
 
 /* --- Calls that allocate --- */
@@ -119,7 +122,7 @@ static bpfcanon_answer write_types(const struct request *request, uint8_t *out, 
 /* Writes into a block of this room, and of one byte more for a NUL. */
 static bpfcanon_answer write_block(const struct request *request, size_t room, uint8_t **out)
 {
-	bpfcanon_answer answer = { BPFCANON_MEMORY, 0, 0, 0, 0, 0, 0, 0 };
+	bpfcanon_answer answer = { BPFCANON_MEMORY, 0, 0, 0, 0, 0, 0, 0, 0 };
 	uint8_t *block = (uint8_t *)malloc(room + 1), *smaller;
 
 	*out = NULL;
@@ -149,7 +152,7 @@ static bpfcanon_answer write_new(const struct request *request, size_t times, ui
 bpfcanon_answer bpfcanon_btf_canon_new(uint32_t to, const uint8_t *bytes, size_t len,
                                        uint8_t **out)
 {
-	const struct request request = { write_btf, 0, to, input(bytes), len };
+	const struct request request = { write_btf, 0, to, input(bytes, len), len };
 
 	return write_new(&request, 1, out);
 }
@@ -157,7 +160,7 @@ bpfcanon_answer bpfcanon_btf_canon_new(uint32_t to, const uint8_t *bytes, size_t
 bpfcanon_answer bpfcanon_insn_canon_new(uint32_t order, uint32_t to, const uint8_t *bytes,
                                         size_t len, uint8_t **out)
 {
-	const struct request request = { write_insns, order, to, input(bytes), len };
+	const struct request request = { write_insns, order, to, input(bytes, len), len };
 
 	return write_new(&request, 1, out);
 }
@@ -166,7 +169,7 @@ bpfcanon_answer bpfcanon_insn_canon_new(uint32_t order, uint32_t to, const uint8
 bpfcanon_answer bpfcanon_insn_show_new(uint32_t order, const uint8_t *bytes, size_t len,
                                        char **out)
 {
-	const struct request request = { write_listing, order, 0, input(bytes), len };
+	const struct request request = { write_listing, order, 0, input(bytes, len), len };
 	uint8_t *block;
 	bpfcanon_answer answer = write_new(&request, 4, &block);
 
@@ -177,7 +180,7 @@ bpfcanon_answer bpfcanon_insn_show_new(uint32_t order, const uint8_t *bytes, siz
 /* No line is shorter, for 8 bytes, than "exit" or "ja+1", and only the last may lack a newline. */
 bpfcanon_answer bpfcanon_insn_read_new(uint32_t to, const char *text, size_t len, uint8_t **out)
 {
-	const struct request request = { write_listed, 0, to, input(text), len };
+	const struct request request = { write_listed, 0, to, input(text, len), len };
 
 	return write_new(&request, 2, out);
 }
@@ -188,7 +191,7 @@ bpfcanon_answer bpfcanon_insn_read_new(uint32_t to, const char *text, size_t len
  */
 bpfcanon_answer bpfcanon_btf_show_new(const uint8_t *bytes, size_t len, char **out)
 {
-	const struct request request = { write_types, 0, 0, input(bytes), len };
+	const struct request request = { write_types, 0, 0, input(bytes, len), len };
 	uint8_t *block;
 	bpfcanon_answer answer = write_new(&request, 4, &block);
 

@@ -4,18 +4,22 @@
  *
  * What is proved. Each call under "Calls on the caller's memory" is a few lines of C (bpfcanon.c)
  * around a call that is written in Rattle and proved to meet its contract (crates/bpfcanon_c). The
- * C puts an address of its own in the place of a null pointer whose length is 0, and passes the
- * rest on. The C is tested and not proved; so are the calls that allocate, the names and the
+ * C puts an address of its own in the place of a null pointer whose length is 0, and passes
+ * everything else on. The C is tested and not proved; so are the calls that allocate, the names and the
  * version.
  *
  * What a caller has to keep, which no call checks:
  *   - An input points to `len` readable bytes and `out` to `room` writable ones, for as long as
- *     the call runs. Either may be NULL if its length is 0.
- *   - The output overlaps no input, and no other thread writes to either during the call.
- *   - malloc, realloc and free belong to one allocator, and malloc aligns to 16 bytes.
+ *     the call runs. Either may be NULL if its length is 0. NULL with a length is an access to
+ *     address 0.
+ *   - The output overlaps no input.
+ *   - While a call runs, no other thread writes to its inputs, and none reads or writes its `out`.
+ *   - malloc, realloc and free belong to one allocator, any thread may call them, and malloc aligns
+ *     to 16 bytes.
  *   - No call is made from a signal handler, or in the child of a fork of a process with threads.
  *
- * Calls keep nothing between them, so any number of threads may make them at the same time.
+ * Calls keep nothing between them. Any number of threads may make them at the same time, also with
+ * the same inputs, and a thread may free a block that another one got.
  *
  * Limits. No call limits the length of instructions or of a listing: the limits of the command
  * bpfcanon(1) are its own. BTF has the limits of its format, see BPFCANON_BTF_MAX.
@@ -138,7 +142,8 @@ typedef struct bpfcanon_answer {
 	uint32_t cause;  /* of a fault: of enum bpfcanon_insn_cause, _line_cause or _btf_cause */
 	uint64_t pos;    /* the offset of a fault of instructions or of BTF */
 	uint64_t line;   /* the line of a fault of a listing, from 1 */
-	size_t written;  /* at BPFCANON_DONE: the length of the output */
+	size_t read;     /* of bpfcanon_insn_front: the length of the whole instructions */
+	size_t written;  /* of a call that writes: the length of the output */
 	size_t needed;   /* at BPFCANON_ROOM: the length of the output, which is more than its room */
 	uint32_t types;  /* of bpfcanon_btf_check: the number of types, void not counted */
 	uint32_t groups; /* of bpfcanon_insn_groups: a mask of enum bpfcanon_group */
@@ -150,9 +155,10 @@ typedef struct bpfcanon_answer {
  * Writes the canonical form of BTF in the byte order `to`. If `to` is BPFCANON_LITTLE these are the
  * canonical bytes. Sets `written`. Room of `len` bytes is always enough.
  *
- * This call and the others that write leave the bytes of `out` after the output as they were; at
- * each status but BPFCANON_DONE they leave all of `out`. With `out` NULL and `room` 0 the answer is
- * BPFCANON_ROOM and `needed`, or BPFCANON_DONE if the output is empty.
+ * This call and the others that write have an output at BPFCANON_DONE, and bpfcanon_insn_front also
+ * has one at BPFCANON_FAULT. They leave the bytes of `out` after the output as they were; at the
+ * other statuses they leave all of `out`. With `out` NULL and `room` 0 an output that isn't empty
+ * gives BPFCANON_ROOM and its length in `needed`; each other answer is that of a call with room.
  *
  * Statuses: BPFCANON_DONE, BPFCANON_FAULT, BPFCANON_MEMORY, BPFCANON_ROOM, BPFCANON_ORDER.
  */
@@ -225,28 +231,19 @@ bpfcanon_answer bpfcanon_insn_read(uint32_t to, const char *text, size_t len, ui
  */
 bpfcanon_answer bpfcanon_btf_show(const uint8_t *bytes, size_t len, char *out, size_t room);
 
-/* What bpfcanon_insn_front returns. A field that the status doesn't set is 0. */
-typedef struct bpfcanon_front {
-	uint32_t status; /* enum bpfcanon_status */
-	uint32_t cause;  /* at BPFCANON_FAULT: of enum bpfcanon_insn_cause */
-	uint64_t pos;    /* at BPFCANON_FAULT: its offset in the bytes of this call */
-	size_t read;     /* at BPFCANON_DONE and BPFCANON_FAULT: the length of the whole instructions */
-	size_t written;  /* at BPFCANON_DONE and BPFCANON_FAULT: the length of the output */
-	size_t needed;   /* at BPFCANON_ROOM: the length of the output, which is more than its room */
-} bpfcanon_front;
-
 /*
  * Writes the whole instructions at the front of some bytes in the byte order `to`, for a stream
- * that comes in pieces. At BPFCANON_DONE the bytes after `read`, fewer than 16, may begin an
- * instruction: give them again, in front of the next piece. At the end of the stream give them to
- * bpfcanon_insn_canon, which reports that they are cut, if there are any. At BPFCANON_FAULT no more
- * bytes can mend the fault, and the instructions before it are written. Room of `len` bytes is
- * always enough.
+ * that comes in pieces. Sets `read` and `written`, which are equal. At BPFCANON_DONE the bytes
+ * after `read`, fewer than 16, may begin an instruction: give them again, in front of the next
+ * piece. At the end of the stream give them to bpfcanon_insn_canon, which reports that they are
+ * cut, if there are any. At BPFCANON_FAULT the fault remains whatever bytes follow, `pos` is its
+ * offset in the bytes of this call, and the instructions before it are written. Room of `len`
+ * bytes is always enough.
  *
  * Statuses: BPFCANON_DONE, BPFCANON_FAULT, BPFCANON_MEMORY, BPFCANON_ROOM, BPFCANON_ORDER.
  */
-bpfcanon_front bpfcanon_insn_front(uint32_t order, uint32_t to, const uint8_t *bytes, size_t len,
-                                   uint8_t *out, size_t room);
+bpfcanon_answer bpfcanon_insn_front(uint32_t order, uint32_t to, const uint8_t *bytes, size_t len,
+                                    uint8_t *out, size_t room);
 
 /* --- Calls that allocate --- */
 

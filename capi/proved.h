@@ -18,8 +18,8 @@ bpfcanon_answer bpfcanon_proved_btf_show(const uint8_t *bytes, size_t len, uint8
 
 bpfcanon_answer bpfcanon_proved_insn_canon(uint32_t order, uint32_t to, const uint8_t *bytes,
                                            size_t len, uint8_t *out, size_t room);
-bpfcanon_front bpfcanon_proved_insn_front(uint32_t order, uint32_t to, const uint8_t *bytes,
-                                          size_t len, uint8_t *out, size_t room);
+bpfcanon_answer bpfcanon_proved_insn_front(uint32_t order, uint32_t to, const uint8_t *bytes,
+                                           size_t len, uint8_t *out, size_t room);
 bpfcanon_answer bpfcanon_proved_insn_groups(uint32_t order, const uint8_t *bytes, size_t len);
 bpfcanon_answer bpfcanon_proved_insn_read(uint32_t to, const uint8_t *text, size_t len,
                                           uint8_t *out, size_t room);

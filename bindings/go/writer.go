@@ -94,8 +94,8 @@ func (w *InsnWriter) put(piece []byte) int {
 
 // errorOf returns the error of an answer whose bytes begin where the instructions that were read
 // end.
-func (w *InsnWriter) errorOf(front capi.Front) error {
-	err := errorOf(capi.Answer{Status: front.Status, Cause: front.Cause, Pos: front.Pos}, insnCause)
+func (w *InsnWriter) errorOf(front capi.Answer) error {
+	err := errorOf(front, insnCause)
 	var fault *FaultError
 	if errors.As(err, &fault) {
 		fault.Pos += w.done

@@ -68,11 +68,11 @@ static void stream_in_pieces_of(size_t piece, const uint8_t *big, size_t len, co
 
 	for (size_t i = 0; i < len; i += piece) {
 		size_t more = len - i < piece ? len - i : piece;
-		bpfcanon_front front;
+		bpfcanon_answer front;
 
 		memcpy(held + kept, big + i, more);
 		front = bpfcanon_insn_front(BPFCANON_BIG, BPFCANON_LITTLE, held, kept + more, whole + done, sizeof whole - done);
-		CHECK(front.status == BPFCANON_DONE && front.read == front.written && kept + more - front.read < 16);
+		CHECK(is(front, front_of(front.read)) && kept + more - front.read < 16);
 		kept += more - front.read;
 		memmove(held, held + front.read, kept);
 		done += front.written;
@@ -85,39 +85,43 @@ static void streams_may_be_cut_anywhere(const char *folder)
 	size_t len, little_len;
 	uint8_t out[64], *big = load(folder, "packet_filter.big.bin", &len);
 	uint8_t *little = load(folder, "packet_filter.little.bin", &little_len);
-	bpfcanon_front front;
 
 	for (size_t piece = 1; piece < 60; piece++)
 		stream_in_pieces_of(piece, big, len, little, little_len);
-	front = bpfcanon_insn_front(BPFCANON_LITTLE, BPFCANON_BIG, BYTES(EXIT_AND_FAULT), out, sizeof out);
-	CHECK(front.status == BPFCANON_FAULT && front.cause == 4 && front.pos == 9 && front.read == 8 && front.written == 8);
-	front = bpfcanon_insn_front(0, 0, BYTES("\x95\0\0\0\0\0\0\0\x04"), out, 7);
-	CHECK(front.status == BPFCANON_ROOM && front.written == 0 && front.needed == 8);
-	front = bpfcanon_insn_front(0, 2, BYTES(EXIT), out, sizeof out);
-	CHECK(front.status == BPFCANON_ORDER);
+	CHECK(is(bpfcanon_insn_front(BPFCANON_LITTLE, BPFCANON_BIG, BYTES(EXIT_AND_FAULT), out, sizeof out), front_before(8, 4, 9)));
+	CHECK(is(bpfcanon_insn_front(0, 0, BYTES("\x95\0\0\0\0\0\0\0\x04"), out, 7), needs(8)));
+	CHECK(is(bpfcanon_insn_front(0, 2, BYTES(EXIT), out, sizeof out), ended(BPFCANON_ORDER)));
 	free(big);
 	free(little);
 }
 
 typedef const char *name_call(uint32_t number);
 
+#define NUMBERS 301
+
 /*
- * The names of the numbers from the first on, each with a sentence, and neither for the numbers around them. Python compares the
- * sentences (installed.py).
+ * The names of the numbers from the first on, each with a sentence, and neither for the numbers around them. They are compared after
+ * all of them were asked for, since the strings are static. Python compares the sentences (installed.py).
  */
-static void has_names(name_call *name_of, name_call *text_of, const char *const *names, uint32_t first, uint32_t count)
+static void has_names(name_call *name_of, name_call *text_of, const char *const *right, uint32_t first, uint32_t count)
 {
 	static const uint32_t far[] = { 0x7fffffff, 0x80000000, 0x80000001, 0xfffffffe, 0xffffffff };
+	const char *names[NUMBERS], *texts[NUMBERS];
 
-	for (uint32_t number = 0; number <= 300; number++) {
-		const char *name = name_of(number), *text = text_of(number);
-		int has_one = number >= first && number < first + count;
-
-		CHECK(has_one ? name && !strcmp(name, names[number - first]) : !name);
-		CHECK(has_one ? text && strlen(text) > 10 : !text);
+	for (uint32_t number = 0; number < NUMBERS; number++) {
+		names[number] = name_of(number);
+		texts[number] = text_of(number);
 	}
 	for (size_t k = 0; k < COUNT(far); k++)
 		CHECK(!name_of(far[k]) && !text_of(far[k]));
+	for (uint32_t number = 0; number < NUMBERS; number++) {
+		int has_one = number >= first && number < first + count;
+
+		CHECK(has_one ? names[number] && !strcmp(names[number], right[number - first]) : !names[number]);
+		CHECK(has_one ? texts[number] && strlen(texts[number]) > 10 : !texts[number]);
+		for (uint32_t other = first; has_one && other < number; other++)
+			CHECK(strcmp(texts[other], texts[number]));
+	}
 }
 
 static void numbers_have_names(void)
@@ -149,8 +153,6 @@ static void versions_agree(void)
 /* NULL with the length 0, for inputs and for outputs: the size of an output that no room was given for. */
 static void null_is_an_empty_input_or_output(void)
 {
-	bpfcanon_front front = bpfcanon_insn_front(0, 0, NULL, 0, NULL, 0);
-
 	CHECK(is(bpfcanon_btf_canon(BPFCANON_BIG, NULL, 0, NULL, 0), fault(BPFCANON_BTF_SHORT_HEADER, 0)));
 	CHECK(is(bpfcanon_btf_check(NULL, 0), fault(BPFCANON_BTF_SHORT_HEADER, 0)));
 	CHECK(is(bpfcanon_btf_show(NULL, 0, NULL, 0), fault(BPFCANON_BTF_SHORT_HEADER, 0)));
@@ -162,15 +164,15 @@ static void null_is_an_empty_input_or_output(void)
 	CHECK(is(bpfcanon_insn_same(0, BYTES(EXIT), 1, NULL, 0), ended(BPFCANON_DIFFERENT)));
 	CHECK(is(bpfcanon_insn_show(0, NULL, 0, NULL, 0), written(0)));
 	CHECK(is(bpfcanon_insn_read(0, NULL, 0, NULL, 0), written(0)));
-	CHECK(front.status == BPFCANON_DONE && !front.read && !front.written && !front.needed);
+	CHECK(is(bpfcanon_insn_front(0, 0, NULL, 0, NULL, 0), front_of(0)));
 
 	CHECK(is(bpfcanon_btf_canon(BPFCANON_LITTLE, BYTES(INT_LOOSE), NULL, 0), needs(sizeof INT - 1)));
 	CHECK(is(bpfcanon_insn_canon(0, 1, BYTES(EXIT), NULL, 0), needs(8)));
 	CHECK(is(bpfcanon_insn_show(0, BYTES(EXIT), NULL, 0), needs(5)));
 	CHECK(is(bpfcanon_insn_read(0, TEXT("exit"), NULL, 0), needs(8)));
 	CHECK(is(bpfcanon_btf_show(BYTES(INT), NULL, 0), needs(strlen("[1] int \"int\" size=4 encoding=signed offset=0 bits=32\n"))));
-	front = bpfcanon_insn_front(0, 0, BYTES(EXIT), NULL, 0);
-	CHECK(front.status == BPFCANON_ROOM && !front.read && !front.written && front.needed == 8);
+	CHECK(is(bpfcanon_insn_front(0, 0, BYTES(EXIT_AND_FAULT), NULL, 0), needs(8)));
+	CHECK(is(bpfcanon_insn_front(0, 0, (const uint8_t *)EXIT_AND_FAULT + 8, 8, NULL, 0), front_before(0, 4, 1)));
 	bpfcanon_free(NULL);
 }
 

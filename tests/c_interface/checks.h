@@ -56,10 +56,23 @@ static inline bpfcanon_answer needs(size_t len)
 	return (bpfcanon_answer){ .status = BPFCANON_ROOM, .needed = len };
 }
 
+/* What the call on the front of a stream returns for whole instructions of this length. */
+static inline bpfcanon_answer front_of(size_t len)
+{
+	return (bpfcanon_answer){ .status = BPFCANON_DONE, .read = len, .written = len };
+}
+
+/* The same where a fault follows them. */
+static inline bpfcanon_answer front_before(size_t len, uint32_t cause, uint64_t pos)
+{
+	return (bpfcanon_answer){ .status = BPFCANON_FAULT, .cause = cause, .pos = pos, .read = len, .written = len };
+}
+
 static inline int is(bpfcanon_answer one, bpfcanon_answer right)
 {
 	return one.status == right.status && one.cause == right.cause && one.pos == right.pos && one.line == right.line
-		&& one.written == right.written && one.needed == right.needed && one.types == right.types && one.groups == right.groups;
+		&& one.read == right.read && one.written == right.written && one.needed == right.needed && one.types == right.types
+		&& one.groups == right.groups;
 }
 
 /* Whether all of some bytes are still 0xaa. */

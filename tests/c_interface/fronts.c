@@ -13,27 +13,21 @@ static const struct {
 	uint32_t order;
 	const char *bytes;
 	size_t len;
-	uint32_t status, cause;
-	uint64_t pos; /* from the end of the front */
+	uint32_t cause; /* of a fault, or 0 */
+	uint64_t pos;   /* from the end of the front */
 } tails[] = {
-	{ "nothing", BPFCANON_LITTLE, "", 0, BPFCANON_DONE, 0, 0 },
-	{ "half a slot", BPFCANON_BIG, "\x95\0\0\0", 4, BPFCANON_DONE, 0, 0 },
-	{ "half a wide load", BPFCANON_LITTLE, "\x18\x01\0\0\1\0\0\0", 8, BPFCANON_DONE, 0, 0 },
-	{ "half a wide load", BPFCANON_BIG, "\x18\x10\0\0\0\0\0\1", 8, BPFCANON_DONE, 0, 0 },
-	{ "a wide load but for a byte", BPFCANON_LITTLE, "\x18\x01\0\0\1\0\0\0\0\0\0\0\1\0\0", 15, BPFCANON_DONE, 0, 0 },
-	{ "an unknown opcode", BPFCANON_LITTLE, "\0\0\0\0\0\0\0\0", 8, BPFCANON_FAULT, 2, 0 },
-	{ "register 11", BPFCANON_LITTLE, "\xbf\x1b\0\0\0\0\0\0", 8, BPFCANON_FAULT, 3, 1 },
-	{ "register 11", BPFCANON_BIG, "\xbf\xb1\0\0\0\0\0\0", 8, BPFCANON_FAULT, 3, 1 },
-	{ "a source beside an immediate", BPFCANON_BIG, "\x04\x01\0\0\0\0\0\5", 8, BPFCANON_FAULT, 4, 1 },
-	{ "a wide load with a faulty first slot", BPFCANON_BIG, "\x18\xb0\0\0\0\0\0\1", 8, BPFCANON_FAULT, 3, 1 },
-	{ "a wide load with a faulty second slot", BPFCANON_LITTLE, "\x18\x01\0\0\1\0\0\0\1\0\0\0\1\0\0\0", 16, BPFCANON_FAULT, 7, 8 },
+	{ "nothing", BPFCANON_LITTLE, "", 0, 0, 0 },
+	{ "half a slot", BPFCANON_BIG, "\x95\0\0\0", 4, 0, 0 },
+	{ "half a wide load", BPFCANON_LITTLE, "\x18\x01\0\0\1\0\0\0", 8, 0, 0 },
+	{ "half a wide load", BPFCANON_BIG, "\x18\x10\0\0\0\0\0\1", 8, 0, 0 },
+	{ "a wide load but for a byte", BPFCANON_LITTLE, "\x18\x01\0\0\1\0\0\0\0\0\0\0\1\0\0", 15, 0, 0 },
+	{ "an unknown opcode", BPFCANON_LITTLE, "\0\0\0\0\0\0\0\0", 8, 2, 0 },
+	{ "register 11", BPFCANON_LITTLE, "\xbf\x1b\0\0\0\0\0\0", 8, 3, 1 },
+	{ "register 11", BPFCANON_BIG, "\xbf\xb1\0\0\0\0\0\0", 8, 3, 1 },
+	{ "a source beside an immediate", BPFCANON_BIG, "\x04\x01\0\0\0\0\0\5", 8, 4, 1 },
+	{ "a wide load with a faulty first slot", BPFCANON_BIG, "\x18\xb0\0\0\0\0\0\1", 8, 3, 1 },
+	{ "a wide load with a faulty second slot", BPFCANON_LITTLE, "\x18\x01\0\0\1\0\0\0\1\0\0\0\1\0\0\0", 16, 7, 8 },
 };
-
-static int is_front(bpfcanon_front front, bpfcanon_front right)
-{
-	return front.status == right.status && front.cause == right.cause && front.pos == right.pos && front.read == right.read
-		&& front.written == right.written && front.needed == right.needed;
-}
 
 /* The call in some room: what it writes if that is enough, and else the room that is needed. */
 static void try_room(size_t tail, uint32_t to, const uint8_t *bytes, const uint8_t *right, size_t room)
@@ -41,17 +35,15 @@ static void try_room(size_t tail, uint32_t to, const uint8_t *bytes, const uint8
 	size_t len = FRONT + tails[tail].len;
 	uint8_t *out = allocate(room);
 	long before = failed;
-	bpfcanon_front front;
+	bpfcanon_answer front;
 
 	memset(out, 0xaa, room);
 	front = bpfcanon_insn_front(tails[tail].order, to, bytes, len, out, room);
 	if (room < FRONT) {
-		CHECK(is_front(front, (bpfcanon_front){ .status = BPFCANON_ROOM, .needed = FRONT }));
+		CHECK(is(front, needs(FRONT)));
 		CHECK(is_filled(out, out + room));
 	} else {
-		uint64_t pos = tails[tail].status == BPFCANON_FAULT ? FRONT + tails[tail].pos : 0;
-
-		CHECK(is_front(front, (bpfcanon_front){ tails[tail].status, tails[tail].cause, pos, FRONT, FRONT, 0 }));
+		CHECK(is(front, tails[tail].cause ? front_before(FRONT, tails[tail].cause, FRONT + tails[tail].pos) : front_of(FRONT)));
 		CHECK(!memcmp(out, right, FRONT) && is_filled(out + FRONT, out + room));
 	}
 	if (failed != before)

@@ -23,7 +23,6 @@ static void repeat_insn(const char *little, const char *big, const char *line, s
 	const size_t len = 8 * times, line_len = strlen(line), text_len = line_len * times;
 	uint8_t *bytes = repeat(little, 8, times), *out = allocate(len), *block;
 	char *text = (char *)repeat(line, line_len, times), *shown;
-	bpfcanon_front front;
 
 	CHECK(is(bpfcanon_insn_canon(0, 1, bytes, len, out, len), written(len)) && is_times(out, times, big, 8));
 	CHECK(is(bpfcanon_insn_canon_new(1, 0, out, len, &block), written(len)) && !memcmp(block, bytes, len));
@@ -32,11 +31,9 @@ static void repeat_insn(const char *little, const char *big, const char *line, s
 	CHECK(is(bpfcanon_insn_same(0, bytes, len, 1, out, len - 8), ended(BPFCANON_DIFFERENT)));
 	CHECK(is(bpfcanon_insn_same(0, bytes, len, 1, out, len - 1), second_fault(1, len - 8)));
 	CHECK(is(bpfcanon_insn_groups(0, bytes, len), with_groups(groups)));
-	front = bpfcanon_insn_front(1, 1, out, len, out, 0);
-	CHECK(front.status == BPFCANON_ROOM && front.needed == len);
+	CHECK(is(bpfcanon_insn_front(1, 1, out, len, NULL, 0), needs(len)));
 	memset(out, 0, len);
-	front = bpfcanon_insn_front(0, 1, bytes, len, out, len);
-	CHECK(front.status == BPFCANON_DONE && front.read == len && front.written == len && is_times(out, times, big, 8));
+	CHECK(is(bpfcanon_insn_front(0, 1, bytes, len, out, len), front_of(len)) && is_times(out, times, big, 8));
 
 	CHECK(is(bpfcanon_insn_show_new(0, bytes, len, &shown), written(text_len)) && !memcmp(shown, text, text_len));
 	CHECK(!shown[text_len]);
@@ -123,6 +120,29 @@ static void repeat_int(size_t header_len, size_t types, size_t strings_len)
 	free(out);
 }
 
+/* The fault of a file of INTs that is longer than BTF_MAX, in one of its three parts. */
+static void exceed(size_t header_len, size_t types, size_t strings_len, uint32_t cause, uint64_t pos)
+{
+	uint8_t *strings = allocate(strings_len), *bytes;
+	const size_t len = header_len + 16 * types + strings_len;
+
+	memset(strings, 'a', strings_len);
+	strings[0] = strings[strings_len - 1] = 0;
+	bytes = ints(header_len, types, strings_len - 3, strings, strings_len);
+	CHECK(len > BPFCANON_BTF_MAX && is(bpfcanon_btf_check(bytes, len), fault(cause, pos)));
+	free(strings);
+	free(bytes);
+}
+
+/* The longest file without a fault, which repeat_int made, has BPFCANON_BTF_MAX bytes: each of its parts is at its limit. */
+static void limit_btf(void)
+{
+	_Static_assert(BTF_HEADER + 16 * BTF_TYPES + BTF_STRINGS == BPFCANON_BTF_MAX, "the limits of the parts");
+	exceed(BTF_HEADER + 4, BTF_TYPES, BTF_STRINGS, BPFCANON_BTF_HEADER_LENGTH, 4);
+	exceed(BTF_HEADER, BTF_TYPES + 1, BTF_STRINGS, BPFCANON_BTF_TYPE_LENGTH, 12);
+	exceed(BTF_HEADER, BTF_TYPES, BTF_STRINGS + 1, BPFCANON_BTF_STRING_LENGTH, 20);
+}
+
 int main(int argc, char **argv)
 {
 	const int is_at_limits = argc != 2 || strcmp(argv[1], "several");
@@ -136,6 +156,7 @@ int main(int argc, char **argv)
 		repeat_insn(exit_insn, exit_insn, "exit\n", INSN_LIMIT / 8, BPFCANON_BASE32);
 		read_spaced_lines(exit_insn);
 		repeat_int(BTF_HEADER, BTF_TYPES, BTF_STRINGS);
+		limit_btf();
 	}
 	return end(is_at_limits ? "megabytes and the limits" : "megabytes");
 }

@@ -29,7 +29,7 @@ NO_NULL(bpfcanon_answer, btf_show, (const uint8_t *bytes, size_t len, uint8_t *o
         bytes && out)
 NO_NULL(bpfcanon_answer, insn_canon, (uint32_t order, uint32_t to, const uint8_t *bytes, size_t len, uint8_t *out, size_t room),
         (order, to, bytes, len, out, room), bytes && out)
-NO_NULL(bpfcanon_front, insn_front, (uint32_t order, uint32_t to, const uint8_t *bytes, size_t len, uint8_t *out, size_t room),
+NO_NULL(bpfcanon_answer, insn_front, (uint32_t order, uint32_t to, const uint8_t *bytes, size_t len, uint8_t *out, size_t room),
         (order, to, bytes, len, out, room), bytes && out)
 NO_NULL(bpfcanon_answer, insn_groups, (uint32_t order, const uint8_t *bytes, size_t len), (order, bytes, len), bytes)
 NO_NULL(bpfcanon_answer, insn_read, (uint32_t to, const uint8_t *bytes, size_t len, uint8_t *out, size_t room),

@@ -30,17 +30,10 @@ static bpfcanon_answer insn_groups(void) { return bpfcanon_insn_groups(BPFCANON_
 
 static bpfcanon_answer insn_same(void) { return bpfcanon_insn_same(BPFCANON_LITTLE, before, 80, BPFCANON_LITTLE, before, 80); }
 
-/* The answer of a front in the shape of the others. */
-static bpfcanon_answer front_of(size_t given)
+static bpfcanon_answer insn_front(void)
 {
-	bpfcanon_front front = bpfcanon_insn_front(BPFCANON_LITTLE, BPFCANON_BIG, before, given, out, sizeof out);
-	bpfcanon_answer answer = { .status = front.status, .cause = front.cause, .pos = front.pos, .written = front.written };
-
-	CHECK(front.read == front.written && !front.needed);
-	return answer;
+	return bpfcanon_insn_front(BPFCANON_LITTLE, BPFCANON_BIG, before, 83, out, sizeof out);
 }
-
-static bpfcanon_answer insn_front(void) { return front_of(83); }
 
 /* The same with a fault in the last slot. */
 static bpfcanon_answer faulty_front(void)
@@ -48,7 +41,7 @@ static bpfcanon_answer faulty_front(void)
 	bpfcanon_answer answer;
 
 	before[80] = 0;
-	answer = front_of(88);
+	answer = bpfcanon_insn_front(BPFCANON_LITTLE, BPFCANON_BIG, before, 88, out, sizeof out);
 	before[80] = 0x95;
 	return answer;
 }

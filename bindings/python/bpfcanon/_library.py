@@ -24,6 +24,7 @@ class Answer(ctypes.Structure):
     cause: int
     pos: int
     line: int
+    read: int
     written: int
     needed: int
     types: int
@@ -33,29 +34,11 @@ class Answer(ctypes.Structure):
         ("cause", ctypes.c_uint32),
         ("pos", ctypes.c_uint64),
         ("line", ctypes.c_uint64),
+        ("read", ctypes.c_size_t),
         ("written", ctypes.c_size_t),
         ("needed", ctypes.c_size_t),
         ("types", ctypes.c_uint32),
         ("groups", ctypes.c_uint32),
-    ]
-
-
-class FrontAnswer(ctypes.Structure):
-    """struct bpfcanon_front."""
-
-    status: int
-    cause: int
-    pos: int
-    read: int
-    written: int
-    needed: int
-    _fields_ = [
-        ("status", ctypes.c_uint32),
-        ("cause", ctypes.c_uint32),
-        ("pos", ctypes.c_uint64),
-        ("read", ctypes.c_size_t),
-        ("written", ctypes.c_size_t),
-        ("needed", ctypes.c_size_t),
     ]
 
 
@@ -67,6 +50,7 @@ _CALLS = {
     "btf_same": [*_BYTES, *_BYTES],
     "btf_show": [*_BYTES, *_BYTES],
     "insn_canon": [*_ORDER, *_ORDER, *_BYTES, *_BYTES],
+    "insn_front": [*_ORDER, *_ORDER, *_BYTES, *_BYTES],
     "insn_groups": [*_ORDER, *_BYTES],
     "insn_read": [*_ORDER, *_BYTES, *_BYTES],
     "insn_same": [*_ORDER, *_BYTES, *_ORDER, *_BYTES],
@@ -83,15 +67,14 @@ def library() -> ctypes.CDLL:
         loaded = ctypes.CDLL(path)
     except OSError as error:
         raise OSError(f"bpfcanon's C library can't be loaded ({error}); BPFCANON_LIBRARY can name its file") from error
-    for name, arguments in _CALLS.items():
-        _declare(loaded, name, arguments, Answer)
-    _declare(loaded, "insn_front", _CALLS["insn_canon"], FrontAnswer)
-    for name in _NAMES:
-        _declare(loaded, name, _ORDER, ctypes.c_char_p)
     _declare(loaded, "version", [], ctypes.c_char_p)
     version: bytes = loaded.bpfcanon_version()
     if not version.startswith(VERSION.encode()):
         raise OSError(f"{path} has version {version.decode()}, and this package needs {VERSION}x")
+    for name, arguments in _CALLS.items():
+        _declare(loaded, name, arguments, Answer)
+    for name in _NAMES:
+        _declare(loaded, name, _ORDER, ctypes.c_char_p)
     return loaded
 
 

@@ -45,7 +45,7 @@ def error_of(answer: Any, cause: Callable[[int], Cause]) -> Optional[BpfcanonErr
         return None
     if answer.status in (_library.FAULT, _library.FAULT_SECOND):
         second = answer.status == _library.FAULT_SECOND
-        return Fault(cause(answer.cause), answer.pos, getattr(answer, "line", 0), second)
+        return Fault(cause(answer.cause), answer.pos, answer.line, second)
     if answer.status == _library.MEMORY:
         return OutOfMemory("out of memory")
     if answer.status == _library.ORDER:

@@ -67,8 +67,8 @@ class Front(NamedTuple):
 
     output  the instructions, in the order that was asked for
     read    how many bytes of the input they are
-    error   why the instructions end there, if that is not the end of the input: a Fault that no
-            more bytes can mend, or OutOfMemory; None if fewer than 16 bytes are left, which may
+    error   why the instructions end there, if that is not the end of the input: a Fault that remains
+            whatever bytes follow, or OutOfMemory; None if fewer than 16 bytes are left, which may
             begin an instruction
     """
 

@@ -1,39 +1,43 @@
--- Canonical bytes in some room: they are no longer than the file.
+-- What was put into some room is the output of a call.
 use Rattle.std.proofs.Common.{◌≡◌, ℕ, List, length, ap, arith}
 use Rattle.bpf_words.specs.declared.Order.{Order}
 use Rattle.bpf_insn.specs.declared.insn.Insn.{Insn}
 use Rattle.bpf_insn.specs.Spelling.{InsnFile, file_of}
-use Rattle.btf_types.specs.Values.{TypeRecord}
-use Rattle.btf_types.specs.Denotes.{Denotes}
-use Rattle.bpf_canon.specs.btf.CanonicalBtf.{canonical}
-use Rattle.bpf_canon.proofs.BtfLemmas.CanonicalFiles.{canonical_shortest}
 use Rattle.bpf_canon.proofs.InsnLemmas.FrontLaws.{length-file_same}
+use Rattle.bpfcanon_c.specs.declared.answer.FaultCode.{FaultCode}
 use Rattle.bpfcanon_c.specs.declared.answer.Ending.{Ending}
 use Rattle.bpfcanon_c.specs.declared.answer.Ending.TheVariants.{Written, Types, Groups, Same, Different, First, Second, Memory, Room}
 use Rattle.bpfcanon_c.specs.declared.answer.Ending.TheVariants as ending
-use Rattle.bpfcanon_c.specs.Answers.{FillsRoom}
-use Rattle.bpfcanon_c.specs.Endings.{EndsBtfIn, EndsInsnsIn}
+use Rattle.bpfcanon_c.specs.Answers.{order_number, FillsRoom}
+use Rattle.bpfcanon_c.specs.Outputs.{EndsOutput, EndsInOrder}
 
-pub ends_btf : (to : Order) (bytes old new : List ℕ) (v : List TypeRecord) (e : Ending) → Denotes bytes v → FillsRoom (canonical to v) old new e → EndsBtfIn to bytes old new e
-ends_btf to bytes old new v (Written n) d p = (v, (d, p))
-ends_btf to bytes old new v (Room n) d p = (v, (d, (p, omega (arith, p.0, p.1.0, canonical_shortest to bytes v d))))
-ends_btf to bytes old new v (Types n) d p = absurd p
-ends_btf to bytes old new v (Groups n) d p = absurd p
-ends_btf to bytes old new v Same d p = absurd p
-ends_btf to bytes old new v Different d p = absurd p
-ends_btf to bytes old new v (First f) d p = absurd p
-ends_btf to bytes old new v (Second f) d p = absurd p
-ends_btf to bytes old new v Memory d p = absurd p
-ends_btf to bytes old new v ending.Order d p = absurd p
+pub ends_output : (IsOutput : List ℕ → Type 0) (IsFault : FaultCode → Type 0) (old new out : List ℕ) (e : Ending) → IsOutput out → FillsRoom out old new e
+    → EndsOutput IsOutput IsFault old new e
+ends_output IsOutput IsFault old new out (Written n) h p = (out, (h, p))
+ends_output IsOutput IsFault old new out (Room n) h p = (out, (h, p))
+ends_output IsOutput IsFault old new out (Types n) h p = absurd p
+ends_output IsOutput IsFault old new out (Groups n) h p = absurd p
+ends_output IsOutput IsFault old new out Same h p = absurd p
+ends_output IsOutput IsFault old new out Different h p = absurd p
+ends_output IsOutput IsFault old new out (First f) h p = absurd p
+ends_output IsOutput IsFault old new out (Second f) h p = absurd p
+ends_output IsOutput IsFault old new out Memory h p = absurd p
+ends_output IsOutput IsFault old new out ending.Order h p = absurd p
 
-pub ends_insns : (o to : Order) (bytes old new : List ℕ) (l : List Insn) (e : Ending) → InsnFile o bytes l → FillsRoom (file_of to l) old new e → EndsInsnsIn o to bytes old new e
-ends_insns o to bytes old new l (Written n) f p = (l, (f, p))
-ends_insns o to bytes old new l (Room n) f p = (l, (f, (p, omega (arith, p.0, p.1.0, ap length f.1, length-file_same to o l))))
-ends_insns o to bytes old new l (Types n) f p = absurd p
-ends_insns o to bytes old new l (Groups n) f p = absurd p
-ends_insns o to bytes old new l Same f p = absurd p
-ends_insns o to bytes old new l Different f p = absurd p
-ends_insns o to bytes old new l (First g) f p = absurd p
-ends_insns o to bytes old new l (Second g) f p = absurd p
-ends_insns o to bytes old new l Memory f p = absurd p
-ends_insns o to bytes old new l ending.Order f p = absurd p
+-- how a call ends in the byte order of a number
+pub ends_in_order : (n : ℕ) (o : Order) (Ends : Order → Ending → Type 0) (old new : List ℕ) (e : Ending) → n ≡ order_number o → Ends o e
+    → (Ends o ending.Order → ⊥) → EndsInOrder n Ends old new e
+ends_in_order n o Ends old new (Written k) named ends none = (o, (named, ends))
+ends_in_order n o Ends old new (Room k) named ends none = (o, (named, ends))
+ends_in_order n o Ends old new (Types k) named ends none = (o, (named, ends))
+ends_in_order n o Ends old new (Groups k) named ends none = (o, (named, ends))
+ends_in_order n o Ends old new Same named ends none = (o, (named, ends))
+ends_in_order n o Ends old new Different named ends none = (o, (named, ends))
+ends_in_order n o Ends old new (First f) named ends none = (o, (named, ends))
+ends_in_order n o Ends old new (Second f) named ends none = (o, (named, ends))
+ends_in_order n o Ends old new Memory named ends none = (o, (named, ends))
+ends_in_order n o Ends old new ending.Order named ends none = absurd (none ends)
+
+-- the instructions of a file are as long as it in the other order
+pub recoded_length : (o to : Order) (bytes : List ℕ) (l : List Insn) → InsnFile o bytes l → length (file_of to l) ≡ length bytes
+recoded_length o to bytes l f = omega (arith, ap length f.1, length-file_same to o l)

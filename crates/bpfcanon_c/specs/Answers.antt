@@ -15,21 +15,21 @@ use Rattle.bpfcanon_c.specs.declared.answer.Ending.TheVariants as ending
 
 -- the answer that has a status alone
 abbrev pub bare_answer : ℕ → Answer
-bare_answer s = record { status = s; cause = 0; pos = 0; line = 0; written = 0; needed = 0; types = 0; groups = 0 }
+bare_answer s = record { status = s; cause = 0; pos = 0; line = 0; read = 0; written = 0; needed = 0; types = 0; groups = 0 }
 
 abbrev pub fault_answer : ℕ → FaultCode → Answer
-fault_answer s f = record { status = s; cause = f.cause; pos = f.pos; line = f.line; written = 0; needed = 0; types = 0; groups = 0 }
+fault_answer s f = record { status = s; cause = f.cause; pos = f.pos; line = f.line; read = 0; written = 0; needed = 0; types = 0; groups = 0 }
 
 abbrev pub answer_of : Ending → Answer
-answer_of (Written n) = record { status = 0; cause = 0; pos = 0; line = 0; written = n; needed = 0; types = 0; groups = 0 }
-answer_of (Types n) = record { status = 0; cause = 0; pos = 0; line = 0; written = 0; needed = 0; types = n; groups = 0 }
-answer_of (Groups n) = record { status = 0; cause = 0; pos = 0; line = 0; written = 0; needed = 0; types = 0; groups = n }
+answer_of (Written n) = record { status = 0; cause = 0; pos = 0; line = 0; read = 0; written = n; needed = 0; types = 0; groups = 0 }
+answer_of (Types n) = record { status = 0; cause = 0; pos = 0; line = 0; read = 0; written = 0; needed = 0; types = n; groups = 0 }
+answer_of (Groups n) = record { status = 0; cause = 0; pos = 0; line = 0; read = 0; written = 0; needed = 0; types = 0; groups = n }
 answer_of Same = bare_answer 0
 answer_of Different = bare_answer 1
 answer_of (First f) = fault_answer 2 f
 answer_of (Second f) = fault_answer 3 f
 answer_of Memory = bare_answer 4
-answer_of (Room n) = record { status = 5; cause = 0; pos = 0; line = 0; written = 0; needed = n; types = 0; groups = 0 }
+answer_of (Room n) = record { status = 5; cause = 0; pos = 0; line = 0; read = 0; written = 0; needed = n; types = 0; groups = 0 }
 answer_of ending.Order = bare_answer 6
 
 abbrev pub slot_number : SlotCause → ℕ

@@ -1,20 +1,18 @@
 -- The groups of instructions as a mask.
 use Rattle.std.specs.Prelude.{◌≡◌, ◌↔◌, ℕ, ◌+◌, Bool, List, IsTrue, if◌then◌else◌}
 use Rattle.bpf_words.specs.declared.Order.{Order}
-use Rattle.bpf_insn.specs.declared.fault.SlotFault.{SlotFault}
 use Rattle.bpf_insn.specs.declared.insn.Insn.{Insn}
 use Rattle.bpf_insn.specs.declared.group.Group.{Group}
 use Rattle.bpf_insn.specs.declared.group.Group.TheVariants.{Base32, Base64, Atomic32, Atomic64, Divmul32, Divmul64, Packet}
 use Rattle.bpf_insn.specs.declared.group.GroupSet.{GroupSet}
 use Rattle.bpf_insn.specs.Groups.{InGroups, holds}
 use Rattle.bpf_insn.specs.Spelling.{InsnFile}
-use Rattle.bpf_insn.specs.Faults.{IsInsnFault}
 use Rattle.bpfcanon_c.specs.declared.answer.Answer.{Answer}
 use Rattle.bpfcanon_c.specs.declared.answer.Ending.{Ending}
 use Rattle.bpfcanon_c.specs.declared.answer.Ending.TheVariants.{Groups, First}
 use Rattle.bpfcanon_c.specs.declared.answer.Ending.TheVariants as ending
-use Rattle.bpfcanon_c.specs.Answers.{code_of_slot, order_number}
-use Rattle.bpfcanon_c.specs.Endings.{IsNoOrder, IsAnswerOf}
+use Rattle.bpfcanon_c.specs.Answers.{order_number}
+use Rattle.bpfcanon_c.specs.Outputs.{IsNoOrder, IsAnswerOf, IsInsnCode}
 
 abbrev pub weighed : Bool → ℕ → ℕ
 weighed b weight = if b then weight else 0
@@ -33,7 +31,7 @@ pub record IsGroupMask (l : List Insn) (n : ℕ) : Type 0 where
 
 abbrev pub EndsGroupsIn : Order → List ℕ → Ending → Type 0
 EndsGroupsIn o bytes (Groups n) = (l : List Insn) × (InsnFile o bytes l × IsGroupMask l n)
-EndsGroupsIn o bytes (First code) = (fault : SlotFault) × (IsInsnFault o bytes fault × (code ≡ code_of_slot fault))
+EndsGroupsIn o bytes (First code) = IsInsnCode o bytes code
 EndsGroupsIn o bytes _ = ⊥
 
 abbrev pub EndsGroups : ℕ → List ℕ → Ending → Type 0

@@ -1,10 +1,8 @@
 -- What the calls on listings return to C.
 use Rattle.std.specs.Prelude.{◌≡◌, ℕ, List}
 use Rattle.bpf_words.specs.declared.Order.{Order}
-use Rattle.bpf_insn.specs.declared.fault.SlotFault.{SlotFault}
 use Rattle.bpf_insn.specs.declared.insn.Insn.{Insn}
 use Rattle.bpf_insn.specs.Spelling.{InsnFile, file_of}
-use Rattle.bpf_insn.specs.Faults.{IsInsnFault}
 use Rattle.bpf_text.specs.declared.insn.fault.LineCause.{LineCause}
 use Rattle.bpf_text.specs.declared.insn.fault.LineCause.TheVariants as line
 use Rattle.bpf_text.specs.declared.insn.fault.LineFault.{LineFault}
@@ -13,10 +11,7 @@ use Rattle.bpf_text.specs.insn.Listing.{Lists, IsListFault}
 use Rattle.bpfcanon_c.specs.declared.answer.Answer.{Answer}
 use Rattle.bpfcanon_c.specs.declared.answer.FaultCode.{FaultCode}
 use Rattle.bpfcanon_c.specs.declared.answer.Ending.{Ending}
-use Rattle.bpfcanon_c.specs.declared.answer.Ending.TheVariants.{Written, First, Memory, Room}
-use Rattle.bpfcanon_c.specs.declared.answer.Ending.TheVariants as ending
-use Rattle.bpfcanon_c.specs.Answers.{code_of_slot, order_number, FillsRoom}
-use Rattle.bpfcanon_c.specs.Endings.{IsAnswerOf, IsNoOrder}
+use Rattle.bpfcanon_c.specs.Outputs.{IsAnswerOf, IsInsnCode, EndsOutput, EndsInOrder}
 
 abbrev pub line_number : LineCause → ℕ
 line_number line.Char = 1
@@ -28,32 +23,32 @@ line_number line.Range = 4
 abbrev pub code_of_line : LineFault → FaultCode
 code_of_line f = record { cause = line_number f.cause; pos = 0; line = f.line }
 
--- How the call that lists a file ends. The room is as before unless bytes were written.
-abbrev pub EndsListingIn : Order → List ℕ → List ℕ → List ℕ → Ending → Type 0
-EndsListingIn o bytes old new (Written n) = (l : List Insn) × (InsnFile o bytes l × FillsRoom (listing_of l) old new (Written n))
-EndsListingIn o bytes old new (Room n) = (l : List Insn) × (InsnFile o bytes l × FillsRoom (listing_of l) old new (Room n))
-EndsListingIn o bytes old new (First code) = (fault : SlotFault) × (IsInsnFault o bytes fault × ((code ≡ code_of_slot fault) × (new ≡ old)))
-EndsListingIn o bytes old new Memory = new ≡ old
-EndsListingIn o bytes old new _ = ⊥
+-- the listing of the instructions of a file
+pub record IsListing (o : Order) (bytes out : List ℕ) : Type 0 where
+  pub insns : List Insn
+  pub file : InsnFile o bytes insns
+  pub form : out ≡ listing_of insns
 
 abbrev pub EndsListing : ℕ → List ℕ → List ℕ → List ℕ → Ending → Type 0
-EndsListing n bytes old new ending.Order = IsNoOrder n × (new ≡ old)
-EndsListing n bytes old new e = (o : Order) × ((n ≡ order_number o) × EndsListingIn o bytes old new e)
+EndsListing n bytes old new = EndsInOrder n (λ o. EndsOutput (IsListing o bytes) (IsInsnCode o bytes) old new) old new
 
 abbrev pub AnswersListing : ℕ → List ℕ → List ℕ → List ℕ → Answer → Type 0
 AnswersListing n bytes old new = IsAnswerOf (EndsListing n bytes old new)
 
--- How the call that reads a listing ends.
-abbrev pub EndsListedIn : Order → List ℕ → List ℕ → List ℕ → Ending → Type 0
-EndsListedIn to text old new (Written n) = (l : List Insn) × (Lists text l × FillsRoom (file_of to l) old new (Written n))
-EndsListedIn to text old new (Room n) = (l : List Insn) × (Lists text l × FillsRoom (file_of to l) old new (Room n))
-EndsListedIn to text old new (First code) = (fault : LineFault) × (IsListFault text fault × ((code ≡ code_of_line fault) × (new ≡ old)))
-EndsListedIn to text old new Memory = new ≡ old
-EndsListedIn to text old new _ = ⊥
+-- the instructions that a text lists, in a byte order
+pub record IsListed (to : Order) (text out : List ℕ) : Type 0 where
+  pub insns : List Insn
+  pub lists : Lists text insns
+  pub form : out ≡ file_of to insns
+
+-- the numbers of the fault of a text that is no listing
+pub record IsLineCode (text : List ℕ) (code : FaultCode) : Type 0 where
+  pub fault : LineFault
+  pub first : IsListFault text fault
+  pub numbers : code ≡ code_of_line fault
 
 abbrev pub EndsListed : ℕ → List ℕ → List ℕ → List ℕ → Ending → Type 0
-EndsListed n text old new ending.Order = IsNoOrder n × (new ≡ old)
-EndsListed n text old new e = (to : Order) × ((n ≡ order_number to) × EndsListedIn to text old new e)
+EndsListed n text old new = EndsInOrder n (λ to. EndsOutput (IsListed to text) (IsLineCode text) old new) old new
 
 abbrev pub AnswersListed : ℕ → List ℕ → List ℕ → List ℕ → Answer → Type 0
 AnswersListed n text old new = IsAnswerOf (EndsListed n text old new)

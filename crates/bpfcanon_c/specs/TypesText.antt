@@ -1,23 +1,16 @@
 -- What the call on the text of BTF types returns to C.
 use Rattle.std.specs.Prelude.{◌≡◌, ℕ, List}
-use Rattle.btf_raw.specs.declared.cause.BtfFault.{BtfFault}
 use Rattle.btf_types.specs.Values.{TypeRecord}
 use Rattle.btf_types.specs.Denotes.{Denotes}
-use Rattle.btf_types.specs.Faults.{IsFirst}
 use Rattle.bpf_text.specs.btf.BtfText.{text_of}
 use Rattle.bpfcanon_c.specs.declared.answer.Answer.{Answer}
-use Rattle.bpfcanon_c.specs.declared.answer.Ending.{Ending}
-use Rattle.bpfcanon_c.specs.declared.answer.Ending.TheVariants.{Written, First, Memory, Room}
-use Rattle.bpfcanon_c.specs.Answers.{code_of_btf, FillsRoom}
-use Rattle.bpfcanon_c.specs.Endings.{IsAnswerOf}
+use Rattle.bpfcanon_c.specs.Outputs.{IsAnswerOf, IsBtfCode, EndsOutput}
 
--- How the call that shows the types of a file ends. The room is as before unless the text was written.
-abbrev pub EndsBtfShow : List ℕ → List ℕ → List ℕ → Ending → Type 0
-EndsBtfShow bytes old new (Written n) = (v : List TypeRecord) × (Denotes bytes v × FillsRoom (text_of v) old new (Written n))
-EndsBtfShow bytes old new (Room n) = (v : List TypeRecord) × (Denotes bytes v × FillsRoom (text_of v) old new (Room n))
-EndsBtfShow bytes old new (First code) = (fault : BtfFault) × (IsFirst bytes fault × ((code ≡ code_of_btf fault) × (new ≡ old)))
-EndsBtfShow bytes old new Memory = new ≡ old
-EndsBtfShow bytes old new _ = ⊥
+-- the text of the types of a file
+pub record IsTypesText (bytes out : List ℕ) : Type 0 where
+  pub types : List TypeRecord
+  pub denotes : Denotes bytes types
+  pub form : out ≡ text_of types
 
 abbrev pub AnswersBtfShow : List ℕ → List ℕ → List ℕ → Answer → Type 0
-AnswersBtfShow bytes old new = IsAnswerOf (EndsBtfShow bytes old new)
+AnswersBtfShow bytes old new = IsAnswerOf (EndsOutput (IsTypesText bytes) (IsBtfCode bytes) old new)

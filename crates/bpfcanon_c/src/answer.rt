@@ -54,6 +54,8 @@ pub struct Answer {
     pub pos: u64,
     /// The line of a fault of a listing, from 1.
     pub line: u64,
+    /// The length in bytes of the whole instructions that were read, of the call on the front of a stream alone.
+    pub read: usize,
     /// The length in bytes of the output that was written.
     pub written: usize,
     /// The length in bytes of an output that is longer than its room.
@@ -95,7 +97,7 @@ pub fn report(ending: Ending) -> Answer
 }
 
 /// An answer with this status, and 0 in each other field.
-fn with_status(status: u32) -> Answer
+pub fn with_status(status: u32) -> Answer
     ensures { result ≡ bare_answer status }
 {
     Answer {
@@ -103,6 +105,7 @@ fn with_status(status: u32) -> Answer
         cause: 0,
         pos: 0,
         line: 0,
+        read: 0,
         written: 0,
         needed: 0,
         types: 0,
@@ -111,7 +114,7 @@ fn with_status(status: u32) -> Answer
 }
 
 /// An answer with this status, and the cause and place of a fault.
-fn with_fault(status: u32, fault: FaultCode) -> Answer
+pub fn with_fault(status: u32, fault: FaultCode) -> Answer
     ensures { result ≡ fault_answer status fault }
 {
     Answer {

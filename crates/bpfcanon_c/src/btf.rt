@@ -1,6 +1,7 @@
 //! The calls on BTF.
 ghost use Rattle.std.specs.Prelude.{◌≡◌};
-ghost use Rattle.bpfcanon_c.specs.Endings.{EndsBtf, EndsBtfIn, AnswersBtf, EndsBtfCheck, AnswersBtfCheck, EndsSameBtf, AnswersSameBtf};
+ghost use Rattle.bpfcanon_c.specs.Endings.{IsCanonicalBtf, EndsBtf, AnswersBtf, EndsBtfCheck, AnswersBtfCheck, EndsSameBtf, AnswersSameBtf};
+ghost use Rattle.bpfcanon_c.specs.Outputs.{IsBtfCode, EndsOutput};
 
 use crate::answer::{Answer, Ending, btf_code, order_from, put, report};
 use bpf_canon::{SideError, canonical_in, same_btf};
@@ -26,7 +27,7 @@ pub extern "C" fn bpfcanon_proved_btf_canon(
 
 /// The canonical form in a byte order.
 fn btf_in(alloc: Global, to: Order, bytes: &[u8], out: &mut [u8]) -> Ending
-    ensures { EndsBtfIn to bytes.now out.old out.new result }
+    ensures { EndsOutput (IsCanonicalBtf to bytes.now) (IsBtfCode bytes.now) out.old out.new result }
 {
     match canonical_in(alloc, to, bytes) {
         Ok(canon) => put(&canon, out),

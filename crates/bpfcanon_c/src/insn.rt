@@ -1,8 +1,9 @@
 //! The calls on instruction files.
 ghost use Rattle.std.specs.Prelude.{◌≡◌};
 ghost use Rattle.bpf_insn.specs.Groups.{holds};
-ghost use Rattle.bpfcanon_c.specs.Endings.{EndsInsns, EndsInsnsIn, AnswersInsns, EndsSameInsnsIn, AnswersSameInsns};
+ghost use Rattle.bpfcanon_c.specs.Endings.{IsRecoded, EndsInsns, AnswersInsns, EndsSameInsnsIn, AnswersSameInsns};
 ghost use Rattle.bpfcanon_c.specs.GroupMasks.{weighed, mask, EndsGroups, EndsGroupsIn, AnswersGroups};
+ghost use Rattle.bpfcanon_c.specs.Outputs.{IsInsnCode, EndsOutput};
 
 use crate::answer::{Answer, Ending, order_from, put, report, slot_code};
 use bpf_canon::{SideError, recode_insns, same_insns};
@@ -32,7 +33,7 @@ pub extern "C" fn bpfcanon_proved_insn_canon(
 
 /// The instructions of a file in two byte orders.
 fn insns_in(alloc: Global, order: Order, to: Order, bytes: &[u8], out: &mut [u8]) -> Ending
-    ensures { EndsInsnsIn order to bytes.now out.old out.new result }
+    ensures { EndsOutput (IsRecoded order to bytes.now) (IsInsnCode order bytes.now) out.old out.new result }
 {
     match recode_insns(alloc, order, to, bytes) {
         Ok(written) => put(&written, out),

@@ -13,4 +13,4 @@ mod listing;
 mod types_text;
 
 pub use answer::{Answer, Ending, FaultCode};
-pub use front::{FrontAnswer, FrontEnding};
+pub use front::FrontEnding;

@@ -1,6 +1,7 @@
 //! The calls on listings of instructions.
 ghost use Rattle.std.specs.Prelude.{◌≡◌};
-ghost use Rattle.bpfcanon_c.specs.Listings.{code_of_line, EndsListing, EndsListingIn, AnswersListing, EndsListed, EndsListedIn, AnswersListed};
+ghost use Rattle.bpfcanon_c.specs.Listings.{code_of_line, IsLineCode, IsListing, EndsListing, AnswersListing, IsListed, EndsListed, AnswersListed};
+ghost use Rattle.bpfcanon_c.specs.Outputs.{IsInsnCode, EndsOutput};
 
 use crate::answer::{Answer, Ending, FaultCode, order_from, put, report, slot_code};
 use bpf_insn::{InsnError, Order, decode_insns};
@@ -26,7 +27,7 @@ pub extern "C" fn bpfcanon_proved_insn_show(
 
 /// The listing of a file.
 fn listing_in(alloc: Global, order: Order, bytes: &[u8], out: &mut [u8]) -> Ending
-    ensures { EndsListingIn order bytes.now out.old out.new result }
+    ensures { EndsOutput (IsListing order bytes.now) (IsInsnCode order bytes.now) out.old out.new result }
 {
     match decode_insns(alloc, order, bytes) {
         Ok(insns) => match listing(alloc, &insns) {
@@ -56,7 +57,7 @@ pub extern "C" fn bpfcanon_proved_insn_read(
 
 /// The instructions of a listing in a byte order.
 fn listed_in(alloc: Global, to: Order, text: &[u8], out: &mut [u8]) -> Ending
-    ensures { EndsListedIn to text.now out.old out.new result }
+    ensures { EndsOutput (IsListed to text.now) (IsLineCode text.now) out.old out.new result }
 {
     match read_listing_bytes(alloc, to, text) {
         Ok(written) => put(&written, out),

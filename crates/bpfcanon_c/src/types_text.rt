@@ -1,5 +1,5 @@
 //! The call on the text of BTF types.
-ghost use Rattle.bpfcanon_c.specs.TypesText.{EndsBtfShow, AnswersBtfShow};
+ghost use Rattle.bpfcanon_c.specs.TypesText.{AnswersBtfShow};
 
 use crate::answer::{Answer, Ending, btf_code, put, report};
 use bpf_text::show_btf;

@@ -52,20 +52,11 @@ type Answer struct {
 	Cause   uint32
 	Pos     uint64
 	Line    uint64
+	Read    int
 	Written int
 	Needed  int
 	Types   uint32
 	Groups  uint32
-}
-
-// A Front is what InsnFront returns. A field that the status doesn't set is 0.
-type Front struct {
-	Status  Status
-	Cause   uint32
-	Pos     uint64
-	Read    int
-	Written int
-	Needed  int
 }
 
 // start returns where a slice begins, and nil if it is empty, which each call takes.
@@ -87,7 +78,7 @@ func size(b []byte) C.size_t {
 func answer(a C.bpfcanon_answer) Answer {
 	return Answer{
 		Status(a.status), uint32(a.cause), uint64(a.pos), uint64(a.line),
-		int(a.written), int(a.needed), uint32(a.types), uint32(a.groups),
+		int(a.read), int(a.written), int(a.needed), uint32(a.types), uint32(a.groups),
 	}
 }
 
@@ -129,9 +120,7 @@ func InsnRead(to Order, listing, out []byte) Answer {
 	return answer(C.bpfcanon_insn_read(C.uint32_t(to), textStart(listing), size(listing), start(out), size(out)))
 }
 
-func InsnFront(order, to Order, piece, out []byte) Front {
-	f := C.bpfcanon_insn_front(C.uint32_t(order), C.uint32_t(to), start(piece), size(piece), start(out), size(out))
-	return Front{
-		Status(f.status), uint32(f.cause), uint64(f.pos), int(f.read), int(f.written), int(f.needed),
-	}
+func InsnFront(order, to Order, piece, out []byte) Answer {
+	return answer(C.bpfcanon_insn_front(C.uint32_t(order), C.uint32_t(to),
+		start(piece), size(piece), start(out), size(out)))
 }

@@ -1,11 +1,14 @@
 -- What was written is the instructions of the file in the other order.
-use Rattle.std.proofs.Common.{List, ℕ, subst, ◌∙◌}
-use Rattle.bpfcanon_c.specs.Answers.{FillsRoom}
-use Rattle.bpfcanon_c.proofs.Rooms.{ends_insns}
+use Rattle.std.proofs.Common.{ap, length, ◌∙◌}
+use Rattle.bpfcanon_c.specs.Endings.{IsRecoded}
+use Rattle.bpfcanon_c.specs.Outputs.{IsInsnCode}
+use Rattle.bpfcanon_c.proofs.Rooms.{ends_output, recoded_length}
 use Rattle.bpfcanon_c.proofs.insn.insns_in.Goals as goal
 
 pub returns-in-Ok : goal.returns-in-Ok
 returns-in-Ok c =
     let found = c.in-Ok.ensures.found in
-    ends_insns c.args.order c.args.to c.args.bytes.now c.args.out.now c.put.new.room found.0 c.put.result found.1.0
-    (subst (λ (x : List ℕ). FillsRoom x c.args.out.now c.put.new.room c.put.result) (c.deref.ensures.value ∙ found.1.1) c.put.ensures)
+    let form = c.deref.ensures.value ∙ found.1.1 in
+    ends_output (IsRecoded c.args.order c.args.to c.args.bytes.now) (IsInsnCode c.args.order c.args.bytes.now) c.args.out.now c.put.new.room c.deref.result.now c.put.result
+    (record { insns = found.0; file = found.1.0; form = form; fits = ap length form ∙ recoded_length c.args.order c.args.to c.args.bytes.now found.0 found.1.0 })
+    c.put.ensures
