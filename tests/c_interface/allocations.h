@@ -37,6 +37,12 @@ static size_t place_of(const void *block)
 	return at;
 }
 
+/* The size that a live block was asked for with. */
+static inline size_t size_of(const void *block)
+{
+	return sizes[place_of(block)].size;
+}
+
 static void keep(size_t place, void *block, size_t size)
 {
 	sizes[place].block = block;

@@ -11,7 +11,7 @@
 #include "proved_pointers.h"
 #endif
 
-#define ROOM (4 << 20)
+#define ROOM (8 << 20)
 
 typedef bpfcanon_answer room_call(uint32_t order, uint32_t to, const uint8_t *bytes, size_t len, uint8_t *out, size_t room);
 typedef bpfcanon_answer new_call(uint32_t order, uint32_t to, const uint8_t *bytes, size_t len, uint8_t **out);
@@ -87,10 +87,11 @@ static const struct {
 static uint8_t wanted[ROOM], marker;
 static char seen[CALLS][33]; /* the causes that were reported */
 
-/* The output in a block of its own, with a NUL after it. */
+/* The whole output in a block of its own, with a NUL after it. */
 static int is_block_of(const uint8_t *block, bpfcanon_answer answer)
 {
-	return block && block != &marker && !memcmp(block, wanted, answer.written) && !block[answer.written];
+	return block && block != &marker && size_of(block) > answer.written && !memcmp(block, wanted, answer.written)
+		&& !block[answer.written];
 }
 
 #ifdef PROVED
@@ -114,7 +115,7 @@ static void compare(int call, uint32_t order, uint32_t to, const uint8_t *bytes,
 
 	CHECK(is(calls[call].make(order, to, bytes, len, &block), right));
 	CHECK(is_count(before, call, len, right));
-	CHECK(is_done ? is_block_of(block, right) : !block);
+	CHECK(is_done ? is_block_of(block, right) && size_of(block) == right.written + 1 : !block);
 	CHECK(live == blocks + is_done);
 	CHECK(is(calls[call].make(order, to, bytes, len, &other), right));
 	CHECK(is_done ? is_block_of(other, right) && is_block_of(block, right) && other != block : !other);
@@ -241,10 +242,10 @@ static void try_long_outputs(void)
 	free(lines);
 }
 
-/* Eight FLOATs with one name of 100,000 bytes, so that the text is eight times as long as the file. */
-static void try_long_names(void)
+/* FLOATs with one name of 100,000 bytes, so that the text is about as many times as long as the file as there are types. */
+static void try_long_names(size_t count)
 {
-	const size_t types = 8 * 12, letters = 100000, len = 24 + types + letters + 2;
+	const size_t types = count * 12, letters = 100000, len = 24 + types + letters + 2;
 	const uint32_t header[] = { 0x0001eb9f, 24, 0, types, types, letters + 2 }, record[] = { 1, 0x10000000, 8 };
 	uint8_t *file = allocate(len);
 
@@ -280,7 +281,8 @@ int main(int argc, char **argv)
 	try_files(argv[1]);
 	try_listings();
 	try_long_outputs();
-	try_long_names();
+	try_long_names(8);
+	try_long_names(40);
 	check_causes();
 	return end("blocks");
 }

@@ -1,6 +1,6 @@
 /*
  * Eight threads make each call that allocates, compare its block, and free the blocks that another thread made. Half of them give
- * faulty inputs in between, and numbers that are no order. usage: threads TESTDATA
+ * faulty inputs in between, and numbers that are no order. All of them ask for each name. usage: threads TESTDATA
  */
 #include "checks.h"
 
@@ -9,6 +9,8 @@
 
 #define THREADS 8
 #define ROUNDS 1000
+/* more than the number of names in any table */
+#define NAMES 40
 
 /* A block with what it has to hold, on its way to the thread that frees it. */
 struct made {
@@ -87,12 +89,36 @@ static void fail_all(void)
 	expect(is(bpfcanon_insn_read_new(2, insns[0].text, 8, &block), ended(BPFCANON_ORDER)) && !block);
 }
 
+/* A call that gives strings, and copies of what it gave to one thread. */
+static struct {
+	const char *(*call)(uint32_t number);
+	char copies[NAMES][256];
+} strings[] = {
+	{ .call = bpfcanon_status_name },     { .call = bpfcanon_status_text },     { .call = bpfcanon_insn_cause_name },
+	{ .call = bpfcanon_insn_cause_text }, { .call = bpfcanon_line_cause_name }, { .call = bpfcanon_line_cause_text },
+	{ .call = bpfcanon_btf_cause_name },  { .call = bpfcanon_btf_cause_text },
+};
+
+/* Asks for the string of each number, and compares it after the next ones. NULL is an empty copy. */
+static void ask_names(void)
+{
+	for (size_t k = 0; k < COUNT(strings); k++) {
+		const char *given[NAMES];
+
+		for (uint32_t number = 0; number < NAMES; number++)
+			given[number] = strings[k].call(number);
+		for (uint32_t number = 0; number < NAMES; number++)
+			expect(!strcmp(given[number] ? given[number] : "", strings[k].copies[number]));
+	}
+}
+
 static void *work(void *number)
 {
 	int thread = (int)(size_t)number;
 
 	for (int round = 0; round < ROUNDS; round++) {
 		make_all(thread, (thread + round) % 2);
+		ask_names();
 		if (thread % 2)
 			fail_all();
 	}
@@ -122,6 +148,12 @@ static void prepare(const char *folder)
 		file->canon_len = canon.written;
 		file->text_len = text.written;
 	}
+	for (size_t k = 0; k < COUNT(strings); k++)
+		for (uint32_t number = 0; number < NAMES; number++) {
+			const char *name = strings[k].call(number);
+
+			snprintf(strings[k].copies[number], sizeof strings[k].copies[number], "%s", name ? name : "");
+		}
 }
 
 int main(int argc, char **argv)

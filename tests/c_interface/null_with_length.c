@@ -1,0 +1,110 @@
+/*
+ * Makes each call with NULL and a length, for each input and for the output. The call has to die at address 0, in a process of its
+ * own: it may neither write to the memory of the library nor go on.
+ */
+#define _POSIX_C_SOURCE 200809L
+
+#include "checks.h"
+
+#include <signal.h>
+#include <sys/resource.h>
+#include <sys/wait.h>
+#include <unistd.h>
+
+#define LONG 4096
+
+static const uint8_t exits[] = "\x95\0\0\0\0\0\0\0\x95\0\0\0\0\0\0";
+static const uint8_t no_types[] = "\x9f\xeb\x01\0\x18\0\0\0" "\0\0\0\0\0\0\0\0\0\0\0\0" "\1\0\0\0";
+static uint8_t out[LONG], *block;
+static char shown[LONG], *text;
+
+static void btf_canon(void) { bpfcanon_btf_canon(0, NULL, LONG, out, sizeof out); }
+static void btf_canon_out(void) { bpfcanon_btf_canon(0, no_types, sizeof no_types, NULL, LONG); }
+static void btf_check(void) { bpfcanon_btf_check(NULL, LONG); }
+static void btf_same_first(void) { bpfcanon_btf_same(NULL, LONG, no_types, sizeof no_types); }
+static void btf_same_second(void) { bpfcanon_btf_same(no_types, sizeof no_types, NULL, LONG); }
+static void btf_show(void) { bpfcanon_btf_show(NULL, LONG, shown, sizeof shown); }
+static void insn_canon(void) { bpfcanon_insn_canon(0, 1, NULL, LONG, out, sizeof out); }
+static void insn_canon_out(void) { bpfcanon_insn_canon(0, 1, exits, sizeof exits, NULL, LONG); }
+static void insn_front(void) { bpfcanon_insn_front(0, 1, NULL, LONG, out, sizeof out); }
+static void insn_front_out(void) { bpfcanon_insn_front(0, 1, exits, sizeof exits, NULL, LONG); }
+static void insn_groups(void) { bpfcanon_insn_groups(0, NULL, LONG); }
+static void insn_read(void) { bpfcanon_insn_read(0, NULL, LONG, out, sizeof out); }
+static void insn_read_out(void) { bpfcanon_insn_read(0, TEXT("exit"), NULL, LONG); }
+static void insn_same_first(void) { bpfcanon_insn_same(0, NULL, LONG, 0, exits, sizeof exits); }
+static void insn_same_second(void) { bpfcanon_insn_same(0, exits, sizeof exits, 0, NULL, LONG); }
+static void insn_show(void) { bpfcanon_insn_show(0, NULL, LONG, shown, sizeof shown); }
+static void insn_show_out(void) { bpfcanon_insn_show(0, exits, sizeof exits, NULL, LONG); }
+static void btf_canon_new(void) { bpfcanon_btf_canon_new(0, NULL, LONG, &block); }
+static void btf_show_new(void) { bpfcanon_btf_show_new(NULL, LONG, &text); }
+static void insn_canon_new(void) { bpfcanon_insn_canon_new(0, 1, NULL, LONG, &block); }
+static void insn_read_new(void) { bpfcanon_insn_read_new(0, NULL, LONG, &block); }
+static void insn_show_new(void) { bpfcanon_insn_show_new(0, NULL, LONG, &text); }
+
+/* The text of a FLOAT goes to NULL. */
+static void btf_show_out(void)
+{
+	static const uint8_t types[] =
+		"\x9f\xeb\x01\0\x18\0\0\0\0\0\0\0\x0c\0\0\0\x0c\0\0\0\3\0\0\0\1\0\0\0\0\0\0\x10\x08\0\0\0\0f";
+
+	bpfcanon_btf_show(types, sizeof types, NULL, LONG);
+}
+
+static const struct {
+	const char *name;
+	void (*call)(void);
+} calls[] = {
+	{ "btf_canon", btf_canon },
+	{ "btf_canon, out", btf_canon_out },
+	{ "btf_check", btf_check },
+	{ "btf_same, first", btf_same_first },
+	{ "btf_same, second", btf_same_second },
+	{ "btf_show", btf_show },
+	{ "btf_show, out", btf_show_out },
+	{ "insn_canon", insn_canon },
+	{ "insn_canon, out", insn_canon_out },
+	{ "insn_front", insn_front },
+	{ "insn_front, out", insn_front_out },
+	{ "insn_groups", insn_groups },
+	{ "insn_read", insn_read },
+	{ "insn_read, out", insn_read_out },
+	{ "insn_same, first", insn_same_first },
+	{ "insn_same, second", insn_same_second },
+	{ "insn_show", insn_show },
+	{ "insn_show, out", insn_show_out },
+	{ "btf_canon_new", btf_canon_new },
+	{ "btf_show_new", btf_show_new },
+	{ "insn_canon_new", insn_canon_new },
+	{ "insn_read_new", insn_read_new },
+	{ "insn_show_new", insn_show_new },
+};
+
+/* A process that makes one call, without a handler of a sanitizer and without a core file. */
+static int dies_at_null(void (*call)(void))
+{
+	const struct rlimit no_core = { 0, 0 };
+	pid_t child;
+	int status;
+
+	fflush(stdout);
+	child = fork();
+	if (child == 0) {
+		signal(SIGSEGV, SIG_DFL);
+		setrlimit(RLIMIT_CORE, &no_core);
+		call();
+		_exit(0);
+	}
+	return child > 0 && waitpid(child, &status, 0) == child && WIFSIGNALED(status) && WTERMSIG(status) == SIGSEGV;
+}
+
+int main(void)
+{
+	for (size_t k = 0; k < COUNT(calls); k++) {
+		long before = failed;
+
+		CHECK(dies_at_null(calls[k].call));
+		if (failed != before)
+			printf("%s\n", calls[k].name);
+	}
+	return end("NULL with a length");
+}
