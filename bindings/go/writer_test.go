@@ -53,6 +53,13 @@ func TestStreamsMayBeCutAnywhere(t *testing.T) {
 	}
 }
 
+func max(a, b int) int {
+	if a > b {
+		return a
+	}
+	return b
+}
+
 func TestAFaultComesAfterTheInstructionsBeforeIt(t *testing.T) {
 	stream := unhex(t, insns[0].big+insns[1].big+"04 01 0000 00000005"+insns[5].big)
 	good := unhex(t, insns[0].little+insns[1].little)
@@ -68,10 +75,64 @@ func TestAFaultComesAfterTheInstructionsBeforeIt(t *testing.T) {
 		wantFault(t, "Write after a fault", err, want)
 		wantFault(t, "Close after a fault", w.Close(), want)
 	}
-	n, err := bpfcanon.NewInsnWriter(new(bytes.Buffer), bpfcanon.Big, bpfcanon.Little).Write(stream)
-	wantFault(t, "Write", err, want)
-	if n != 24 {
-		t.Errorf("%d bytes come before the instruction with the fault, and not %d", 24, n)
+}
+
+// Write returns how many of its bytes come before the instruction with the fault, also where some of
+// that instruction came with an earlier call.
+func TestWriteCountsTheBytesBeforeAFault(t *testing.T) {
+	for _, row := range []struct {
+		fault string
+		want  bpfcanon.FaultError
+	}{
+		{"04 01 0000 00000005", bpfcanon.FaultError{Cause: bpfcanon.InsnSrc, Pos: 25}},
+		{"18 10 0000 00000001 01 00 0000 00000000", bpfcanon.FaultError{Cause: bpfcanon.InsnReserved, Pos: 32}},
+	} {
+		good := len(unhex(t, insns[0].big+insns[1].big))
+		stream := unhex(t, insns[0].big+insns[1].big+row.fault+insns[5].big)
+		for cut := 0; cut < good+len(unhex(t, row.fault)); cut++ {
+			w := bpfcanon.NewInsnWriter(new(bytes.Buffer), bpfcanon.Big, bpfcanon.Little)
+			first, err := w.Write(stream[:cut])
+			if err == nil && first != cut {
+				t.Errorf("%d of %d bytes without an error", first, cut)
+			}
+			if err != nil {
+				t.Errorf("the fault came with %d bytes: %v", cut, err)
+				continue
+			}
+			n, err := w.Write(stream[cut:])
+			wantFault(t, "Write", err, row.want)
+			if want := max(good-cut, 0); n != want {
+				t.Errorf("cut at %d, Write returned %d, want %d", cut, n, want)
+			}
+		}
+	}
+}
+
+// An error is returned again by each later call.
+func wantKept(t *testing.T, what string, w *bpfcanon.InsnWriter, want error) {
+	t.Helper()
+	for k := 0; k < 3; k++ {
+		if err := w.Close(); err != want {
+			t.Errorf("%s: Close returned %v, want %v", what, err, want)
+		}
+		if n, err := w.Write(make([]byte, 8)); n != 0 || err != want {
+			t.Errorf("%s: Write returned %d, %v, want %v", what, n, err, want)
+		}
+	}
+}
+
+func TestAFaultIsKept(t *testing.T) {
+	for _, stream := range []string{"ff 00 0000 00000000", insns[5].big + "04 01 0000 00000005", "95", insns[5].big + "18 10 0000 55667788"} {
+		w := bpfcanon.NewInsnWriter(new(bytes.Buffer), bpfcanon.Big, bpfcanon.Little)
+		_, err := w.Write(unhex(t, stream))
+		if closed := w.Close(); err == nil {
+			err = closed
+		}
+		var fault *bpfcanon.FaultError
+		if !errors.As(err, &fault) {
+			t.Fatalf("%s: %v", stream, err)
+		}
+		wantKept(t, stream, w, err)
 	}
 }
 
@@ -84,6 +145,7 @@ func TestAnInstructionThatIsCutIsReportedByClose(t *testing.T) {
 		{insns[5].big + "95 00 0000 000000", 8},
 		{insns[5].big + "18 10 0000 55667788", 16},
 		{insns[5].big + "18 10 0000 55667788 00000000 112233", 16},
+		{insns[5].big + "18 a0 0000 55667788", 16}, // to register 10, which in little-endian order would be the source
 	} {
 		var out bytes.Buffer
 		w := bpfcanon.NewInsnWriter(&out, bpfcanon.Big, bpfcanon.Little)
@@ -125,12 +187,15 @@ func TestErrorsOfTheUnderlyingWriterAreReturned(t *testing.T) {
 		dst  failing
 		want error
 	}{{failing{broken, 0}, broken}, {failing{nil, 7}, io.ErrShortWrite}} {
-		w := bpfcanon.NewInsnWriter(row.dst, bpfcanon.Big, bpfcanon.Little)
-		if n, err := w.Write(exit); n != 0 || err != row.want {
-			t.Errorf("%d, %v; want %v", n, err, row.want)
-		}
-		if err := w.Close(); err != row.want {
-			t.Errorf("closed: %v, want %v", err, row.want)
+		for held := 0; held < len(exit); held++ {
+			w := bpfcanon.NewInsnWriter(row.dst, bpfcanon.Big, bpfcanon.Little)
+			if n, err := w.Write(exit[:held]); n != held || err != nil {
+				t.Errorf("%d of %d bytes, %v", n, held, err)
+			}
+			if n, err := w.Write(exit[held:]); n != 0 || err != row.want {
+				t.Errorf("after %d bytes: %d, %v; want %v", held, n, err, row.want)
+			}
+			wantKept(t, "a failed write", w, row.want)
 		}
 	}
 }

@@ -1,7 +1,6 @@
 """Types, with the bytes of btf.rst."""
 
 import unittest
-from concurrent.futures import ThreadPoolExecutor
 
 import bpfcanon
 from bpfcanon import Order
@@ -21,12 +20,6 @@ class Types(unittest.TestCase):
         words = [0, 0x04000000 + 100, 0] + [1, 0, 0] * 100
         text = '[1] struct "" size=0 items=100\n' + f'  member "{name}" type=0 offset=0 width=0\n' * 100
         self.assertEqual(bpfcanon.btf_show(btf("<", (words, b"\0" + name.encode() + b"\0"))), text)
-
-    def test_threads_call_at_the_same_time(self) -> None:
-        little, big = load("flow_table.little.btf"), load("flow_table.big.btf")
-        want = bpfcanon.btf_canon(little)
-        with ThreadPoolExecutor(8) as threads:
-            self.assertEqual(set(threads.map(bpfcanon.btf_canon, [little, big] * 200)), {want})
 
 
 if __name__ == "__main__":

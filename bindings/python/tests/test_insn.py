@@ -50,7 +50,10 @@ class Streams(unittest.TestCase):
             self.assertEqual((raised.exception.args, output), ((InsnCause.SRC, 25, 0, False), good))
 
     def test_the_end_of_a_stream_may_be_cut(self) -> None:
-        for end, pos in [("95", 8), ("18 10 0000 55667788", 16), ("18 10 0000 55667788 00000000 112233", 16)]:
+        ends = [("95", 8), ("18 10 0000 55667788", 16), ("18 10 0000 55667788 00000000 112233", 16)]
+        # Register 10 is the destination; in little-endian order it would be the source.
+        ends += [("18 a0 0000 55667788", 16)]
+        for end, pos in ends:
             with self.assertRaises(Fault) as raised:
                 list(bpfcanon.insn_stream([EXIT, unhex(end)], order=Order.BIG))
             self.assertEqual(raised.exception.args, (InsnCause.TRUNCATED, pos, 0, False))

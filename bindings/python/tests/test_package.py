@@ -110,6 +110,16 @@ class Faults(unittest.TestCase):
             self.assertEqual([cause.name.replace("_", "").lower() for cause in members], [name.lower() for name, _ in rows])
 
 
+class Calls:
+    """What ctypes makes of a library of some version: calls by their names."""
+
+    def __init__(self, version: str) -> None:
+        self.version = version
+
+    def __getitem__(self, name: str) -> mock.Mock:
+        return mock.Mock(return_value=self.version.encode())
+
+
 class Library(unittest.TestCase):
     def load_with(self, path: str) -> "subprocess.CompletedProcess[str]":
         environment = {**os.environ, "BPFCANON_LIBRARY": path, "PYTHONPATH": str(PACKAGE)}
@@ -130,10 +140,16 @@ class Library(unittest.TestCase):
         self.assertIn("BPFCANON_LIBRARY", done.stderr)
 
     def test_a_library_of_another_version_is_refused(self) -> None:
+        for version, is_taken in [("0.1.0", True), ("0.1.12", True), ("0.2.0", False), ("0.10.0", False), ("1.1.0", False)]:
+            _library.library.cache_clear()
+            with mock.patch("ctypes.CDLL", return_value=Calls(version)):
+                if is_taken:
+                    self.assertEqual(bpfcanon.library_version(), version)
+                else:
+                    with self.assertRaisesRegex(OSError, f"version {version}, .* needs 0.1.x"):
+                        bpfcanon.library_version()
         _library.library.cache_clear()
-        with mock.patch.object(_library, "VERSION", "9."), self.assertRaisesRegex(OSError, "version 0.1.0"):
-            bpfcanon.library_version()
-        self.assertEqual(bpfcanon.library_version(), "0.1.0")
+        self.assertEqual(bpfcanon.library_version(), bpfcanon.__version__)
 
     def test_each_exported_name_is_there(self) -> None:
         for name in bpfcanon.__all__:

@@ -1,0 +1,73 @@
+"""Calls by many threads, and what other threads do while a call runs."""
+
+import threading
+import time
+import unittest
+from concurrent.futures import ThreadPoolExecutor
+from typing import Any, Callable
+
+import bpfcanon
+from bpfcanon import BtfCause, InsnCause, LineCause
+
+from .samples import btf, load, unhex
+
+EXIT = unhex("95 00 0000 00000000")
+
+
+def ticks_during(call: Callable[[], object]) -> int:
+    """How often this thread runs while another one is in the middle half of a call."""
+    moments: list[float] = []
+    ends: list[float] = []
+
+    def timed() -> None:
+        ends.append(time.monotonic())
+        call()
+        ends.append(time.monotonic())
+
+    caller = threading.Thread(target=timed)
+    caller.start()
+    while caller.is_alive():
+        moments.append(time.monotonic())
+        time.sleep(0.0005)
+    caller.join()
+    quarter = (ends[1] - ends[0]) / 4
+    return sum(ends[0] + quarter < moment < ends[1] - quarter for moment in moments)
+
+
+class Threads(unittest.TestCase):
+    def test_threads_call_at_the_same_time(self) -> None:
+        little, big = load("flow_table.little.btf"), load("flow_table.big.btf")
+        want = bpfcanon.btf_canon(little)
+        with ThreadPoolExecutor(8) as threads:
+            self.assertEqual(set(threads.map(bpfcanon.btf_canon, [little, big] * 200)), {want})
+
+    def test_names_are_those_of_their_numbers_in_each_thread(self) -> None:
+        kinds: list[Any] = [InsnCause, LineCause, BtfCause]
+        causes = [cause for kind in kinds for cause in kind]
+        want = [(cause.label, cause.text) for cause in causes]
+        with ThreadPoolExecutor(8) as threads:
+            for _ in range(20):
+                self.assertEqual(list(threads.map(lambda cause: (cause.label, cause.text), causes)), want)
+
+    def test_other_threads_run_during_a_call(self) -> None:
+        program = EXIT * 4_000_000
+        listing = b"exit\n" * 1_000_000
+        types = btf("<", ([1, 0x10000000, 8] * 500_000, b"\0float\0"))
+        calls: dict[str, Callable[[], object]] = {
+            "insn_canon": lambda: bpfcanon.insn_canon(program),
+            "insn_front": lambda: bpfcanon.insn_front(program),
+            "insn_groups": lambda: bpfcanon.insn_groups(program),
+            "insn_read": lambda: bpfcanon.insn_read(listing),
+            "insn_same": lambda: bpfcanon.insn_same(program, program),
+            "insn_show": lambda: bpfcanon.insn_show(program),
+            "btf_canon": lambda: bpfcanon.btf_canon(types),
+            "btf_check": lambda: bpfcanon.btf_check(types),
+            "btf_same": lambda: bpfcanon.btf_same(types, types),
+            "btf_show": lambda: bpfcanon.btf_show(types),
+        }
+        for name, call in calls.items():
+            self.assertGreater(ticks_during(call), 0, name)
+
+
+if __name__ == "__main__":
+    unittest.main()
