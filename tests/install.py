@@ -87,9 +87,11 @@ def check_install(report, folder):
 
 
 def check_prefixes(report, folder):
-    """A prefix that isn't absolute is below the folder of the caller; without one it is /usr/local."""
-    for line, stage, root in ("own", "", folder / "own"), ("", folder / "stage", folder / "stage" / "usr" / "local"):
-        with report.group(f"./install {line} with DESTDIR={'DIR' if stage else ''}"):
+    """A prefix or DESTDIR that isn't absolute is below the folder of the caller; without a prefix it is /usr/local."""
+    rows = [("own", "", folder / "own"), ("", folder / "stage", folder / "stage" / "usr" / "local")]
+    rows += [("", "below", folder / "below" / "usr" / "local"), ("own", "two/below", pathlib.Path(f"{folder}/two/below{folder}/own"))]
+    for line, stage, root in rows:
+        with report.group(f"./install {line} with DESTDIR={'DIR' if stage == folder / 'stage' else stage}"):
             report.expect(f"./install {line}", install(line, stage, folder), Ran(0, b"", b""))
             check_files(report, root)
 

@@ -30,12 +30,13 @@ STANDARDS = {
 CAUSES = {"instruction files": "insn", "listings": "line", "BTF files": "btf"}
 # Variables that are honoured aren't taken from whoever runs the test.
 UNSET = "CC CFLAGS CPPFLAGS LDFLAGS LIBDIR AR NM OBJCOPY DESTDIR".split()
+OF_CAPI = sorted(path.name for path in CAPI.iterdir())
 CLEAN = {name: value for name, value in os.environ.items() if name not in UNSET}
 
 
-def ran(words, **variables):
+def ran(words, folder=None, **variables):
     how = {"stdout": subprocess.PIPE, "stderr": subprocess.PIPE, "text": True, "timeout": SECONDS}
-    return subprocess.run(words, env=CLEAN | {name: str(value) for name, value in variables.items()}, **how)
+    return subprocess.run(words, cwd=folder, env=CLEAN | {name: str(value) for name, value in variables.items()}, **how)
 
 
 def printed(words, **variables):
@@ -63,7 +64,7 @@ def built(report, archive, root, **variables):
     return is_quiet
 
 
-def check_files(report, root):
+def check_files(report, root, prefix=PREFIX):
     """Each file with its mode, and the links; there is no other."""
     wanted = {
         "include/bpfcanon.h": 0o644,
@@ -81,7 +82,7 @@ def check_files(report, root):
     for name, source in ("include/bpfcanon.h", CAPI / "bpfcanon.h"), ("share/man/man3/bpfcanon.3", TOP / "man" / "bpfcanon.3"):
         report.expect_that((root / name).read_bytes() == source.read_bytes(), name, f"it isn't a copy of {source}")
     first = (root / "lib" / "pkgconfig" / "bpfcanon.pc").read_text().splitlines()[0]
-    report.expect_that(first == f"prefix={PREFIX}", "bpfcanon.pc", f"its first line is {first}")
+    report.expect_that(first == f"prefix={prefix}", "bpfcanon.pc", f"its first line is {first}")
     closed = [str(path) for path in root.rglob("*") if path.is_dir() and path.stat().st_mode & 0o777 != 0o755]
     report.expect_that(not closed, "the folders", f"these don't have the mode 755: {closed}")
 
@@ -168,6 +169,39 @@ def text_of(library, kind, what, number):
     return (call(number) or b"").decode()
 
 
+def check_relative(report, archive, folder):
+    """A prefix, an archive and DESTDIR that aren't absolute are below the folder of the caller."""
+    folder.mkdir()
+    (folder / "given").mkdir()
+    shutil.copy(archive, folder / "given" / "proved.a")
+    for stage in "", "stage", "a stage/of two":
+        done = ran([CAPI / "build", "own", "given/proved.a"], folder, DESTDIR=stage)
+        is_quiet = done.returncode == 0 and not done.stdout and not done.stderr
+        report.expect_that(is_quiet, f"DESTDIR={stage}", f"it gave {done}")
+        root = pathlib.Path(f"{folder}/{stage}{folder}/own" if stage else f"{folder}/own")
+        check_files(report, root, prefix=f"{folder}/own")
+        report.expect_that(sorted(path.name for path in CAPI.iterdir()) == OF_CAPI, "capi", "something was installed there")
+    shutil.rmtree(folder)
+
+
+def check_replaced(report, archive, folder):
+    """Files that are in use are replaced: whoever has one open, or mapped, still has what it was."""
+    root = folder / "prefix"
+    names = ["include/bpfcanon.h", "lib/libbpfcanon.a", f"lib/libbpfcanon.so.{VERSION}", "lib/pkgconfig/bpfcanon.pc"]
+    for name in names:
+        (root / name).parent.mkdir(parents=True, exist_ok=True)
+        (root / name).write_text(f"old {name}")
+    opened = {name: open(root / name, encoding="utf-8") for name in names}
+    done = ran([CAPI / "build", root, archive])
+    report.expect_that(done.returncode == 0 and not done.stderr, "over older files", f"it gave {done}")
+    check_files(report, root, prefix=root)
+    for name, file in opened.items():
+        with file:
+            text = file.read()
+        report.expect_that(text == f"old {name}", name, f"who had opened it reads {text[:40]!r}")
+    shutil.rmtree(folder)
+
+
 def check_flags(report, archive, root):
     """The variables that packagers set reach the compiler and the archiver."""
     folder = root / "tools"
@@ -195,20 +229,28 @@ def check_failures(report, archive, folder):
     folder.mkdir()
     (folder / "text.a").write_text("no archive")
     (folder / "file").write_text("no folder")
+    (folder / "sources.sha256").write_text(ran([CAPI / "sources"]).stdout)
+    (folder / "ar").write_text('#!/bin/sh\n[ "$1" != rcs ] && exec ar "$@"\n')
+    (folder / "ar").chmod(0o755)
     (folder / "taken" / "lib" / f"libbpfcanon.so.{VERSION}").mkdir(parents=True)
-    ran(["ar", "rcs", folder / "empty.a"])
+    (folder / "cut.o").write_bytes(b"\x7fELF\2\1\1")
+    for name, members in ("empty.a", []), ("lacking.a", ["sources.sha256"]), ("cut.a", ["sources.sha256", "cut.o"]):
+        ran(["ar", "rcs", name, *members], folder)
     rows = [
         ([], {}, 2, "no prefix"),
         (["--prefix"], {}, 2, "unknown option --prefix"),
         (["/a", "b", "c"], {}, 2, "too many words"),
         (['/a"b', archive], {}, 2, "PREFIX or LIBDIR has a character"),
         (["/usr", folder / "none.a"], {}, 1, "there is no archive"),
-        (["/usr", folder / "text.a"], {}, 1, "cannot link"),
-        (["/usr", folder / "empty.a"], {}, 1, "lacks bpfcanon_proved_"),
+        (["/usr", folder / "text.a"], {}, 1, "cannot read"),
+        (["/usr", folder / "empty.a"], {}, 1, "is not made from these sources"),
+        (["/usr", folder / "lacking.a"], {}, 1, "lacks bpfcanon_proved_"),
+        (["/usr", folder / "cut.a"], {}, 1, "cannot link"),
         (["/usr", archive], {"CC": "false"}, 1, "cannot compile"),
         (["/usr", archive], {"CC": "no-such-compiler"}, 1, "cannot compile"),
         (["/usr", archive], {"OBJCOPY": "false"}, 1, "cannot hide"),
-        (["/usr", archive], {"AR": "false"}, 1, "cannot make libbpfcanon.a"),
+        (["/usr", archive], {"AR": "false"}, 1, "cannot read"),
+        (["/usr", archive], {"AR": folder / "ar"}, 1, "cannot make libbpfcanon.a"),
         (["/usr", archive], {"LDFLAGS": "-lno-such-library"}, 1, "cannot link libbpfcanon.so"),
         (["/usr", archive], {"DESTDIR": folder / "file"}, 1, "cannot make the folder"),
         ([folder / "taken", archive], {"DESTDIR": ""}, 1, "is a folder"),
@@ -247,6 +289,9 @@ def main():
                 check_programs(report, root, folder)
             with report.group("names and sentences of causes"):
                 check_names(report, root)
+        with report.group("relative paths, and files in use"):
+            check_relative(report, archive, folder / "relative")
+            check_replaced(report, archive, folder / "replaced")
         with report.group("variables, and failures"):
             check_flags(report, archive, folder / "flags")
             check_failures(report, archive, folder / "failures")

@@ -1,0 +1,121 @@
+"""An archive of the proved calls belongs to the sources that it was made from: capi/build refuses another one, and capi/archive --keep
+makes it again. Each is tried in a copy of the tree, without Rattle.
+
+    archive_sources.py ARCHIVE
+"""
+
+import os
+import pathlib
+import shutil
+import subprocess
+import sys
+import tempfile
+
+from program import SECONDS, Report
+
+TOP = pathlib.Path(__file__).resolve().parent.parent.parent
+HASH = "sources.sha256"
+OTHER = "0" * 64 + "\n"
+# A file, and whether the archive is made from it.
+FILES = [
+    ("crates.txt", True),
+    ("crates/bpfcanon_c/src/answer.rt", True),
+    ("crates/bpfcanon_c/specs/Answers.antt", True),
+    ("crates/bpfcanon_c/proofs/Lib.antt", True),
+    ("crates/bpf_words/src/lib.rt", True),
+    ("crates/bpf_canon/specs/Lib.antt", True),
+    ("crates/bpfcanon/src/main.rt", False),
+    ("capi/bpfcanon.c", False),
+    ("README.md", False),
+]
+
+
+def copy_tree(folder, archive):
+    """The files that the scripts of capi/ read, with the archive in its place, and a command rt that fails."""
+    for part in "src", "specs", "proofs":
+        for source in TOP.glob(f"crates/*/{part}"):
+            shutil.copytree(source, folder / source.relative_to(TOP))
+    for name in "capi", "man":
+        shutil.copytree(TOP / name, folder / name)
+    for name in "crates.txt", "README.md":
+        shutil.copy(TOP / name, folder / name)
+    out = folder / "crates" / "bpfcanon_c" / "out"
+    out.mkdir()
+    shutil.copy(archive, out / "libbpfcanon_c.a")
+    (folder / "bin").mkdir()
+    (folder / "bin" / "rt").write_text("#!/bin/sh\necho rt was called >&2\nexit 1\n")
+    (folder / "bin" / "rt").chmod(0o755)
+    return out / "libbpfcanon_c.a"
+
+
+def ran(folder, *words):
+    environment = os.environ | {"PATH": f"{folder / 'bin'}:{os.environ['PATH']}", "DESTDIR": ""}
+    return subprocess.run([folder / "capi" / words[0], *words[1:]], env=environment, capture_output=True, text=True, timeout=SECONDS)
+
+
+def refused(report, what, folder, archive):
+    done = ran(folder, "build", folder / "refused", archive)
+    last = (done.stderr.splitlines() or [""])[-1]
+    is_refused = done.returncode == 1 and last.startswith("capi/build: ") and "not made from these sources" in last
+    report.expect_that(is_refused and not (folder / "refused").exists(), what, f"status {done.returncode}, {done.stderr!r}")
+
+
+def with_hash(archive, name, text):
+    """A copy of the archive with another hash; with none if it is empty."""
+    other = archive.with_name(f"{name}.a")
+    shutil.copy(archive, other)
+    (archive.parent / HASH).write_text(text)
+    words = ["ar", "rcs" if text else "d", other, HASH]
+    subprocess.run(words, cwd=archive.parent, check=True)
+    return other
+
+
+def check_archives(report, folder, archive):
+    """The archive of these sources is taken, whatever its time is, and one with another hash or with none is refused."""
+    os.utime(archive, (0, 0))
+    before = archive.read_bytes()
+    done = ran(folder, "build", folder / "given", archive)
+    report.expect_that(done.returncode == 0 and not done.stderr, "the archive of these sources", f"it gave {done}")
+    done = ran(folder, "build", folder / "kept")
+    is_kept = done.returncode == 0 and not done.stderr and archive.read_bytes() == before
+    report.expect_that(is_kept, "without ARCHIVE", f"it gave {done}")
+    for name, text in ("another", OTHER), ("none", ""):
+        refused(report, f"{name} hash", folder, with_hash(archive, name, text))
+
+
+def check_changes(report, folder, archive):
+    """A byte that is added to a source changes the hash, and then the archive is refused and not kept."""
+    sources = ran(folder, "sources").stdout
+    report.expect_that(len(sources) == 65, "capi/sources", f"it printed {sources!r}")
+    for name, is_source in FILES:
+        file = folder / name
+        text = file.read_bytes()
+        file.write_bytes(text + b"\n")
+        os.utime(file, (0, 0))
+        report.expect_that((ran(folder, "sources").stdout != sources) == is_source, name, "the hash")
+        if is_source:
+            refused(report, name, folder, archive)
+            done = ran(folder, "archive", "--keep")
+            report.expect_that(done.returncode != 0 and "rt was called" in done.stderr, f"{name}, --keep", f"it gave {done}")
+        file.write_bytes(text)
+        report.expect_that(ran(folder, "sources").stdout == sources, f"{name} as before", "the hash is another")
+
+
+def main():
+    if len(sys.argv) != 2:
+        sys.exit(__doc__)
+    given, report = pathlib.Path(sys.argv[1]).resolve(), Report()
+    with tempfile.TemporaryDirectory() as name:
+        folder = pathlib.Path(name) / "a tree"
+        archive = copy_tree(folder, given)
+        kept = folder / "kept.a"
+        shutil.copy(archive, kept)
+        with report.group("archives with the hash of the sources, with another and with none"):
+            check_archives(report, folder, archive)
+        with report.group("sources that are changed"):
+            check_changes(report, folder, kept)
+    return report.end("archives and their sources")
+
+
+if __name__ == "__main__":
+    sys.exit(main())
