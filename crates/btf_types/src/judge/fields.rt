@@ -2,7 +2,7 @@
 //! its least cause. It takes no memory, and time in proportion to the section: each word is read at most once, a STRUCT's
 //! offset words twice, and the facts of other records are read at their places.
 
-ghost use Rattle.std.specs.Prelude.{◌≡◌, ◌<◌, ℕ, IsTrue, [], ◌∷◌, MatchOption, length, slice_index};
+ghost use Rattle.std.specs.Prelude.{◌≡◌, ◌<◌, IsTrue, [], ◌∷◌, MatchOption, length};
 ghost use Rattle.btf_raw.specs.Cause.{HasNone, LeastByPlace};
 ghost use Rattle.btf_raw.specs.Kinds.{one_of};
 ghost use Rattle.btf_raw.specs.KindNumbers as kinds;
