@@ -69,11 +69,7 @@ has_record_at o types strings places i table h =
           let frame_there : slice_get frames i ≡ Some f = get_is frames i [] inside ∙ ap (λ (g : List ℕ). Some g) frame-is in
           let is : IsFrame f = subst (λ (g : List ℕ). IsFrame g) frame-is (table.framed.frames.each i [] inside) in
           item_names_there strings (map frame_facts frames) f table.ends is (faultless strings frames table.ends table.framed.frames.each table.none i f frame_there);
-      component = λ tag.
-          let here : get_or (records_at o types strings places) i (record_of strings f) ≡ record_of strings f =
-          get_or-map (record_of strings) frames i [] (record_of strings f) inside ∙ ap (λ (g : List ℕ). record_of strings g) frame-is in
-          let good = table.good.each i (record_of strings f) (rw (length-map, length-map) h) in
-          component_fits_word (slice_index f 3) (tag_in_range (text_from strings (name_word f)) f tag (subst (λ (r : TypeRecord). HeadInRange r.head) here good.head_in_range));
+      component = λ tag. component_fits_word (slice_index f 3) (tag_in_range (text_from strings (name_word f)) f tag spelled.head_in_range);
     }
 
 pub record_is : (o : Order) (types strings places : List ℕ) (i : ℕ) → i < length places → slice_get (records_at o types strings places) i ≡ Some (record_of strings (frame_at o types (get_or places i 0)))
