@@ -61,7 +61,8 @@ pub(crate) fn stopped<F>(cause: RunCause<F>, written: u64) -> RunError<F>
 /// Writes all the bytes, and returns their number.
 pub(crate) fn put_whole<F, W: ByteSink>(sink: &mut W, bytes: &[u8]) -> Result<u64, RunError<F>>
     requires { W.failures sink.old < u64.MAX }
-    ensures ok { IfOk result (λ n. (n ≡ length bytes.now) × Appends (W.contents sink.old) (W.contents sink.new) bytes.now) }
+    ensures ok { IfOk result (λ n. (n ≡ length bytes.now)
+        × Appends (W.contents sink.old) (W.contents sink.new) bytes.now) }
     ensures err { IfErr result (PutStops (W.contents sink.old) (W.contents sink.new) bytes.now) }
     ensures healthy { OnOk result (W.failures sink.new ≡ W.failures sink.old) }
     ensures count { IfErr result (λ e. W.failures sink.new ≡ W.failures sink.old + 1) }

@@ -7,17 +7,20 @@
 //!
 //! The two offsets count from the end of the header, which is at hdr_len.
 
-ghost use Rattle.std.specs.Prelude.{◌≡◌, ◌+◌, ◌-◌, ◌<◌, ◌≤◌, length, take, drop, slice_index, slice_range, IfOk, IfErr, MatchResult, MatchOption, ◌≢◌, ℕ};
+ghost use Rattle.std.specs.Prelude.{◌≡◌, ◌+◌, ◌-◌, ◌<◌, ◌≤◌, length, take, drop, slice_index};
+ghost use Rattle.std.specs.Prelude.{slice_range, IfOk, IfErr, MatchResult, MatchOption, ◌≢◌, ℕ};
 ghost use Rattle.bpf_words.specs.Words.{word16_at};
 ghost use Rattle.bpf_words.specs.declared.Order.{Order as OrderValue};
 ghost use Rattle.btf_raw.specs.Header.{HeaderFault, StringFault, HasNulEnds};
-ghost use Rattle.btf_raw.specs.ReadHeader.{StartIsRight, LengthIsRight, SectionsAreRight, ReadsHeader};
+ghost use Rattle.btf_raw.specs.ReadHeader.{StartIsRight, LengthIsRight, SectionsAreRight};
+ghost use Rattle.btf_raw.specs.ReadHeader.{ReadsHeader};
 ghost use Rattle.btf_raw.specs.Cause.{LeastByCause, HasNone};
 
 use crate::cause::{BtfCause, BtfFault};
 use bpf_words::{Order, get16, get32};
 
-/// The byte order of a file, and where its two sections are, in bytes from the first byte of the file.
+/// The byte order of a file, and where its two sections are, in bytes from the first byte of the
+/// file.
 #[derive(Clone, Copy, Debug, PartialEq, Eq)]
 pub struct Header {
     /// The order in which the first two bytes are the magic.
@@ -56,8 +59,8 @@ pub(crate) fn fault(pos: usize, cause: BtfCause) -> BtfFault
 ///
 /// # Errors
 ///
-/// `FirstString` where the first byte isn't NUL; else `LastString` where the last isn't. Places count
-/// from the section's first byte.
+/// `FirstString` where the first byte isn't NUL; else `LastString` where the last isn't. Places
+/// count from the section's first byte.
 pub fn check_strings(strings: &[u8]) -> Result<(), BtfFault>
     requires { 0 < length strings.now }
     ensures cases { MatchResult result
@@ -118,7 +121,8 @@ fn tail_of(bytes: &[u8], end: usize) -> Option<usize>
     requires high { end ≤ length bytes.now }
     ensures { MatchOption result
         ((q : ℕ) → 24 ≤ q → q < end → slice_index bytes.now q ≡ 0)
-        (λ p. (24 ≤ p) × (p < end) × (slice_index bytes.now p ≢ 0) × ((q : ℕ) → 24 ≤ q → q < p → slice_index bytes.now q ≡ 0)) }
+        (λ p. (24 ≤ p) × (p < end) × (slice_index bytes.now p ≢ 0)
+        × ((q : ℕ) → 24 ≤ q → q < p → slice_index bytes.now q ≡ 0)) }
 {
     for pos in 24..end {
         if bytes[pos] != 0 {
@@ -180,8 +184,8 @@ fn sections_of(order: Order, bytes: &[u8], header_len: usize) -> Result<Header, 
 
 /// The numbers of a file's header, judged over the whole file (btf.rst section 2).
 ///
-/// Some of it is this project's profile: the flags are 0, hdr_len is 24 to 4096 with zeros past 24, and the two
-/// sections fill the rest of the file exactly, in either order.
+/// Some of it is this project's profile: the flags are 0, hdr_len is 24 to 4096 with zeros past 24,
+/// and the two sections fill the rest of the file exactly, in either order.
 ///
 /// # Errors
 ///

@@ -1,5 +1,5 @@
-//! The bits of the word info that must be 0 (btf.rst section 2.2): a table has them for each kind, so that one look judges
-//! the whole word.
+//! The bits of the word info that must be 0 (btf.rst section 2.2): a table has them for each kind,
+//! so that one look judges the whole word.
 
 ghost use Rattle.std.specs.Prelude.{◌≡◌, ◌↔◌, ◌^◌, ◌<◌, IsTrue};
 ghost use Rattle.btf_raw.specs.Frames.{IsAllowed};
@@ -7,7 +7,8 @@ ghost use Rattle.btf_raw.specs.ZeroBits.{zero_bits_of};
 
 use crate::info::kind_of;
 
-/// The bit above info, which is set before it is judged. So it refuses each word with a number that is no kind.
+/// The bit above info, which is set before it is judged. So it refuses each word with a number that
+/// is no kind.
 const NO_KIND: u64 = 0x1_0000_0000;
 
 /// The unused bits: `kind_flag` and `vlen` are free.

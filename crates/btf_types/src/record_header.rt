@@ -1,4 +1,5 @@
-//! The header of a record, which is the three words that each record begins with (btf.rst section 2.2).
+//! The header of a record, which is the three words that each record begins with (btf.rst section
+//! 2.2).
 
 ghost use Rattle.std.specs.Prelude.{◌≡◌, ◌+◌, ◌*◌, ◌≤◌, length};
 ghost use Rattle.btf_raw.specs.Kinds as kinds;
@@ -8,7 +9,8 @@ ghost use Rattle.btf_types.specs.RecordHeaders.{HeaderIs};
 use bpf_words::{Order, get32};
 use btf_raw::info::{flag_of, kind_of, tail_words, vlen_of};
 
-/// The decoded header of a record: the fields of its first three words, `name_off`, `info` and `size` or `type`.
+/// The decoded header of a record: the fields of its first three words, `name_off`, `info` and
+/// `size` or `type`.
 #[derive(Clone, Copy)]
 pub struct RecordHeader {
     /// Where its name begins, in bytes from the first of the string section.

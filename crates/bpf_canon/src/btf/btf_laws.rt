@@ -2,8 +2,10 @@
 //!
 //! Each function does nothing. Its contract is the law, for all lists of bytes and of records.
 ghost use Rattle.std.specs.Prelude.{ℕ, List};
-ghost use Rattle.btf_types.specs.strings.TableLaws.{SectionsAreCut, NamesEndStrings, HostsEndApart, NextHasHost};
-ghost use Rattle.bpf_canon.specs.btf.BtfLaws.{CanonicalBtfIsAccepted, CanonicalBtfTellsApart, CanonicalBtfIsShortest, HostsFitSections};
+ghost use Rattle.btf_types.specs.strings.TableLaws.{SectionsAreCut, NamesEndStrings, HostsEndApart};
+ghost use Rattle.btf_types.specs.strings.TableLaws.{NextHasHost};
+ghost use Rattle.bpf_canon.specs.btf.BtfLaws.{CanonicalBtfIsAccepted, CanonicalBtfTellsApart};
+ghost use Rattle.bpf_canon.specs.btf.BtfLaws.{CanonicalBtfIsShortest, HostsFitSections};
 
 /// The canonical bytes of good records, in either order, are a file that denotes these records.
 pub fn canonical_btf_is_accepted()
@@ -20,10 +22,12 @@ pub fn canonical_btf_is_shortest()
     ensures { CanonicalBtfIsShortest }
 {}
 
-/// The hosts, which are the names of the string table, end different strings of a section that spells them.
+/// The hosts, which are the names of the string table, end different strings of a section that
+/// spells them.
 ///
-/// A section that begins and ends with NUL is cut after each NUL. Each name in it is a suffix of one of these strings, and no
-/// string ends with two different hosts. So a section that has all hosts is at least as long as their table.
+/// A section that begins and ends with NUL is cut after each NUL. Each name in it is a suffix of
+/// one of these strings, and no string ends with two different hosts. So a section that has all
+/// hosts is at least as long as their table.
 pub fn hosts_end_different_strings()
     ensures cut { (section : List ℕ) → SectionsAreCut section }
     ensures ends { (section : List ℕ) (strings : List (List ℕ)) → NamesEndStrings section strings }
@@ -31,8 +35,8 @@ pub fn hosts_end_different_strings()
     ensures fit { HostsFitSections }
 {}
 
-/// With the kept names sorted by their bytes from the end, a name that is a suffix of any other name is a suffix of the next one, and
-/// has its host.
+/// With the kept names sorted by their bytes from the end, a name that is a suffix of any other
+/// name is a suffix of the next one, and has its host.
 pub fn next_name_tells_host()
     ensures { (xs sorted : List (List ℕ)) → NextHasHost xs sorted }
 {}

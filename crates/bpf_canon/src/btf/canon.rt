@@ -18,11 +18,13 @@ use std::alloc::Allocator;
 ///
 /// # Errors
 ///
-/// `Fault` with the first fault of the file; its place counts from the file's first byte. `Memory` if the allocator is out of memory.
+/// `Fault` with the first fault of the file; its place counts from the file's first byte. `Memory`
+/// if the allocator is out of memory.
 pub fn canon_btf<A: Allocator + Copy>(alloc: A, bytes: &[u8]) -> Result<Vec<u8, A>, BtfError>
     ensures found { IfOk result (λ canon. IsCanonicalBtf bytes.now canon.items) }
     ensures all { (v : List TypeRecord) → Denotes bytes.now v
-        → MatchResult result (λ canon. canon.items ≡ canonical Little v) (λ e. e ≡ BtfError.Memory) }
+        → MatchResult result (λ canon. canon.items ≡ canonical Little v) (λ e. e
+        ≡ BtfError.Memory) }
     ensures fault { IfErr result (Fails bytes.now) }
 {
     canonical_in(alloc, Order::Little, bytes)
@@ -30,18 +32,20 @@ pub fn canon_btf<A: Allocator + Copy>(alloc: A, bytes: &[u8]) -> Result<Vec<u8, 
 
 /// The canonical bytes of a BTF file (btf.rst section 2) in the order `to`.
 ///
-/// In little-endian order they are the answer of [`canon_btf`]. In either order they are what [`write_btf`] writes of the file's
-/// records.
+/// In little-endian order they are the answer of [`canon_btf`]. In either order they are what
+/// [`write_btf`] writes of the file's records.
 ///
 /// # Errors
 ///
-/// `Fault` with the first fault of the file; its place counts from the file's first byte. `Memory` if the allocator is out of memory.
+/// `Fault` with the first fault of the file; its place counts from the file's first byte. `Memory`
+/// if the allocator is out of memory.
 pub fn canonical_in<A: Allocator + Copy>(
     alloc: A,
     to: Order,
     bytes: &[u8],
 ) -> Result<Vec<u8, A>, BtfError>
-    ensures ok { IfOk result (λ canon. (v : List TypeRecord) × (Denotes bytes.now v × (canon.items ≡ canonical to v))) }
+    ensures ok { IfOk result (λ canon. (v : List TypeRecord)
+        × (Denotes bytes.now v × (canon.items ≡ canonical to v))) }
     ensures fault { IfErr result (Fails bytes.now) }
 {
     match BtfView::parse(alloc, bytes) {

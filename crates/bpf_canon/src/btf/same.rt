@@ -21,15 +21,18 @@ fn same_file<A: Allocator>(alloc: A, bytes: &[u8]) -> Result<bool, SideError<Btf
     }
 }
 
-/// Whether two BTF files denote the same records. That is so exactly where their canonical bytes are the same.
+/// Whether two BTF files denote the same records. That is so exactly where their canonical bytes
+/// are the same.
 ///
-/// The canonical bytes of both files are made and compared, so the call takes the time of the files, also where names are long and
-/// shared. If both files have the same bytes, one is judged, and nothing is made.
+/// The canonical bytes of both files are made and compared, so the call takes the time of the
+/// files, also where names are long and shared. If both files have the same bytes, one is judged,
+/// and nothing is made.
 ///
 /// # Errors
 ///
-/// `First` and `Second` with the first fault of that file; its place counts from the file's first byte. `Second` is reported only
-/// if the first file has no fault. `Memory` if the allocator is out of memory.
+/// `First` and `Second` with the first fault of that file; its place counts from the file's first
+/// byte. `Second` is reported only if the first file has no fault. `Memory` if the allocator is out
+/// of memory.
 pub fn same_btf<A: Allocator>(alloc: A, a: &[u8], b: &[u8]) -> Result<bool, SideError<BtfFault>>
     ensures same { IfOk result (ComparesBtf a.now b.now) }
     ensures fault { IfErr result (NamesBtfSide a.now b.now) }

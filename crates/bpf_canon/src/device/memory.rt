@@ -1,5 +1,6 @@
 //! Devices over memory, which give and take in pieces and fail from a chosen call on.
-ghost use Rattle.std.specs.Prelude.{◌≡◌, ◌<◌, Option, Some, length, min, Result, Ok, Err, IsErr, IsOk, IfOk, ◌≢◌, ◌↔◌};
+ghost use Rattle.std.specs.Prelude.{◌≡◌, ◌<◌, Option, Some, length, min, Result, Ok, Err, IsErr};
+ghost use Rattle.std.specs.Prelude.{IsOk, IfOk, ◌≢◌, ◌↔◌};
 ghost use Rattle.std.specs.Io.{ReadsAtMost, WritesAtMost};
 ghost use Rattle.std.specs.Io.KnownBytes.{ReadConsumes, WriteAppends};
 ghost use Rattle.bpf_canon.specs.device.Device.{CountsFailure};
@@ -21,10 +22,11 @@ pub struct MemSource<'a> {
 }
 
 impl<'a> MemSource<'a> {
-    ghost use Rattle.bpf_canon.specs.device.Memory.{source_bytes, source_failures, source_pace, new_pace};
+    ghost use Rattle.bpf_canon.specs.device.Memory.{source_bytes, source_failures, source_pace};
+    ghost use Rattle.bpf_canon.specs.device.Memory.{new_pace};
 
-    /// Gives `piece` bytes at each read, fewer only where the buffer or the rest is shorter. It fails from read number
-    /// `fuse` on, counted from 1.
+    /// Gives `piece` bytes at each read, fewer only where the buffer or the rest is shorter. It
+    /// fails from read number `fuse` on, counted from 1.
     pub fn new(bytes: &'a [u8], piece: usize, fuse: Option<u64>) -> MemSource<'a>
         requires { 0 < piece }
         ensures pace { source_pace result ≡ new_pace piece fuse }
@@ -41,7 +43,8 @@ impl<'a> MemSource<'a> {
 }
 
 impl ByteSource for MemSource<'_> {
-    ghost use Rattle.bpf_canon.specs.device.Memory.{source_bytes, source_failures, source_pace, next_pace};
+    ghost use Rattle.bpf_canon.specs.device.Memory.{source_bytes, source_failures, source_pace};
+    ghost use Rattle.bpf_canon.specs.device.Memory.{next_pace};
 
     ghost remaining = { λ s. Some (source_bytes s) };
 
@@ -50,11 +53,14 @@ impl ByteSource for MemSource<'_> {
     fn read(&mut self, buffer: &mut [u8]) -> Result<usize, DeviceFailed>
         requires { source_failures self.old < u64.MAX }
         ensures bound { ReadsAtMost result buffer.new }
-        ensures bytes { ReadConsumes (Some (source_bytes self.old)) (Some (source_bytes self.new)) result buffer.new }
+        ensures bytes { ReadConsumes (Some (source_bytes self.old))
+            (Some (source_bytes self.new)) result buffer.new }
         ensures count { CountsFailure (source_failures self.old) (source_failures self.new) result }
 
         ensures fails { IsErr result ↔ ((source_pace self.old).good_calls ≡ Some 0) }
-        ensures amount { IfOk result (λ n. n ≡ min (source_pace self.old).piece (min (length buffer.old) (length (source_bytes self.old)))) }
+        ensures amount { IfOk result (λ n. n
+            ≡ min (source_pace self.old).piece (min (length buffer.old)
+            (length (source_bytes self.old)))) }
         ensures pace { source_pace self.new ≡ next_pace (source_pace self.old) }
     {
         if self.good_reads == Some(0) {
@@ -83,8 +89,8 @@ pub struct MemSink<'a, A: Allocator = Global> {
 impl<'a, A: Allocator> MemSink<'a, A> {
     ghost use Rattle.bpf_canon.specs.device.Memory.{sink_bytes, sink_failures, sink_pace, new_pace};
 
-    /// Takes `piece` bytes at each write, fewer only where fewer are offered. It fails from write number `fuse` on,
-    /// counted from 1. A write for which the vector can't grow fails too.
+    /// Takes `piece` bytes at each write, fewer only where fewer are offered. It fails from write
+    /// number `fuse` on, counted from 1. A write for which the vector can't grow fails too.
     pub fn new(out: &'a mut Vec<u8, A>, piece: usize, fuse: Option<u64>) -> MemSink<'a, A>
         requires { 0 < piece }
         ensures pace { sink_pace result ≡ new_pace piece fuse }
@@ -101,7 +107,8 @@ impl<'a, A: Allocator> MemSink<'a, A> {
 }
 
 impl<A: Allocator> ByteSink for MemSink<'_, A> {
-    ghost use Rattle.bpf_canon.specs.device.Memory.{HasRoom, sink_bytes, sink_failures, sink_pace, next_pace};
+    ghost use Rattle.bpf_canon.specs.device.Memory.{HasRoom, sink_bytes, sink_failures, sink_pace};
+    ghost use Rattle.bpf_canon.specs.device.Memory.{next_pace};
 
     ghost contents = { λ s. Some (sink_bytes s) };
 
@@ -111,12 +118,14 @@ impl<A: Allocator> ByteSink for MemSink<'_, A> {
         requires { sink_failures self.old < u64.MAX }
         ensures bound { WritesAtMost result bytes.now }
         ensures progress { IfOk result (λ n. 0 < length bytes.now → 0 < n) }
-        ensures bytes { WriteAppends (Some (sink_bytes self.old)) (Some (sink_bytes self.new)) result bytes.now }
+        ensures bytes { WriteAppends (Some (sink_bytes self.old))
+            (Some (sink_bytes self.new)) result bytes.now }
         ensures count { CountsFailure (sink_failures self.old) (sink_failures self.new) result }
 
         // A write within the fuse fails only where the vector has to grow and can't.
         ensures fails { (sink_pace self.old).good_calls ≡ Some 0 → IsErr result }
-        ensures succeeds { (sink_pace self.old).good_calls ≢ Some 0 → HasRoom self.old (min (sink_pace self.old).piece (length bytes.now)) → IsOk result }
+        ensures succeeds { (sink_pace self.old).good_calls ≢ Some 0
+            → HasRoom self.old (min (sink_pace self.old).piece (length bytes.now)) → IsOk result }
         ensures amount { IfOk result (λ n. n ≡ min (sink_pace self.old).piece (length bytes.now)) }
         ensures pace { sink_pace self.new ≡ next_pace (sink_pace self.old) }
     {

@@ -14,8 +14,8 @@ pub trait ByteSink {
     /// The number of writes that have failed since the sink was made.
     ghost failures: { Self → ℕ };
 
-    /// Writes bytes from the front of the slice. `Ok(n)` says that the first `n` of them were taken, at least one unless the
-    /// slice is empty.
+    /// Writes bytes from the front of the slice. `Ok(n)` says that the first `n` of them were
+    /// taken, at least one unless the slice is empty.
     ///
     /// # Errors
     ///
@@ -32,7 +32,8 @@ pub trait ByteSink {
 ///
 /// # Errors
 ///
-/// `Err(n)` at the first write that fails, where the sink has taken the first `n` bytes, and no more.
+/// `Err(n)` at the first write that fails, where the sink has taken the first `n` bytes, and no
+/// more.
 pub fn put_all<W: ByteSink>(sink: &mut W, bytes: &[u8]) -> Result<(), u64>
     requires { W.failures sink.old < u64.MAX }
     ensures ok { OnOk result (Appends (W.contents sink.old) (W.contents sink.new) bytes.now) }

@@ -18,8 +18,8 @@ pub trait ByteSource {
     /// The number of reads that have failed since the source was made.
     ghost failures: { Self → ℕ };
 
-    /// Reads into the front of the buffer. `Ok(n)` says that the buffer's first `n` bytes were read; `n` is 0 for a
-    /// buffer with room only at the end.
+    /// Reads into the front of the buffer. `Ok(n)` says that the buffer's first `n` bytes were
+    /// read; `n` is 0 for a buffer with room only at the end.
     ///
     /// # Errors
     ///
@@ -53,24 +53,29 @@ impl From<AllocError> for ReadError {
     }
 }
 
-/// Reads to the source's end, and gives all the bytes that came. Each read offers 4,096 bytes of room.
+/// Reads to the source's end, and gives all the bytes that came. Each read offers 4,096 bytes of
+/// room.
 ///
 /// # Errors
 ///
-/// `TooLong` as soon as more than `limit` bytes came, `ReadFailed` at the first read that fails, and `Memory` if the
-/// allocator is out of memory.
+/// `TooLong` as soon as more than `limit` bytes came, `ReadFailed` at the first read that fails,
+/// and `Memory` if the allocator is out of memory.
 pub fn read_all<S: ByteSource, A: Allocator>(
     alloc: A,
     source: &mut S,
     limit: u64,
 ) -> Result<Vec<u8, A>, ReadError>
     requires { S.failures source.old < u64.MAX }
-    ensures came { IfOk result (λ bytes. Consumes (S.remaining source.old) (S.remaining source.new) bytes.items) }
+    ensures came { IfOk result (λ bytes.
+        Consumes (S.remaining source.old) (S.remaining source.new) bytes.items) }
     ensures end { OnOk result (IsAtEnd (S.remaining source.new)) }
     ensures within { IfOk result (λ bytes. length bytes.items ≤ limit) }
     ensures healthy { OnOk result (S.failures source.new ≡ S.failures source.old) }
-    ensures amid { IfErr result (λ e. (bytes : List ℕ) × (Consumes (S.remaining source.old) (S.remaining source.new) bytes × EndsAmid limit bytes e)) }
-    ensures count { IfErr result (λ e. S.failures source.new ≡ S.failures source.old + failed_reads e) }
+    ensures amid { IfErr result (λ e. (bytes : List ℕ)
+        × (Consumes (S.remaining source.old) (S.remaining source.new) bytes
+        × EndsAmid limit bytes e)) }
+    ensures count { IfErr result (λ e. S.failures source.new
+        ≡ S.failures source.old + failed_reads e) }
 {
     let mut bytes = Vec::new(alloc);
     let mut buffer = [0u8; 4096];

@@ -38,7 +38,8 @@ impl<R: Read> ByteSource for ReaderSource<R> {
     }
 }
 
-/// The answer of a source whose reader gave this one: an error of the reader is a failed read, and nothing else is.
+/// The answer of a source whose reader gave this one: an error of the reader is a failed read, and
+/// nothing else is.
 fn answer_read<E: Drop>(
     answer: Result<usize, E>,
     failed_reads: &mut u64,
@@ -55,8 +56,8 @@ fn answer_read<E: Drop>(
     }
 }
 
-/// A writer as a sink. Every error of the writer is a failed write, an interrupted one too, and so is a write that
-/// takes none of some bytes.
+/// A writer as a sink. Every error of the writer is a failed write, an interrupted one too, and so
+/// is a write that takes none of some bytes.
 #[derive(Drop)]
 pub struct WriterSink<W> {
     writer: W,
@@ -87,8 +88,8 @@ impl<W: Write> ByteSink for WriterSink<W> {
     }
 }
 
-/// The answer of a sink whose writer gave this one for `offered` bytes: an error of the writer is a failed write, and so is `Ok(0)`
-/// for one byte or more. `Ok(0)` for no bytes succeeds.
+/// The answer of a sink whose writer gave this one for `offered` bytes: an error of the writer is a
+/// failed write, and so is `Ok(0)` for one byte or more. `Ok(0)` for no bytes succeeds.
 fn answer_write<E: Drop>(
     answer: Result<usize, E>,
     offered: usize,

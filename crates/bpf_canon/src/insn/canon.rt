@@ -9,12 +9,13 @@ use crate::insn::feed::InsnFeed;
 use bpf_insn::{InsnError, Order};
 use std::alloc::Allocator;
 
-/// The canonical bytes of an instruction file: its instructions in little-endian order (RFC 9669 section 3).
+/// The canonical bytes of an instruction file: its instructions in little-endian order (RFC 9669
+/// section 3).
 ///
 /// # Errors
 ///
-/// `Fault` if the bytes are no file of instructions: their first fault, with its place counted from the first byte.
-/// `Memory` if the allocator is out of memory.
+/// `Fault` if the bytes are no file of instructions: their first fault, with its place counted from
+/// the first byte. `Memory` if the allocator is out of memory.
 pub fn canon_insns<A: Allocator>(
     alloc: A,
     order: Order,
@@ -30,7 +31,8 @@ pub fn canon_insns<A: Allocator>(
 
 /// The instructions of a file in the order `to` (RFC 9669 section 3).
 ///
-/// The result has the length of the file. In little-endian order it is canonical, the answer of [`canon_insns`].
+/// The result has the length of the file. In little-endian order it is canonical, the answer of
+/// [`canon_insns`].
 ///
 /// # Errors
 ///
@@ -41,7 +43,8 @@ pub fn recode_insns<A: Allocator>(
     to: Order,
     bytes: &[u8],
 ) -> Result<Vec<u8, A>, InsnError>
-    ensures found { IfOk result (λ written. (l : List Insn) × (InsnFile order bytes.now l × (written.items ≡ file_of to l))) }
+    ensures found { IfOk result (λ written. (l : List Insn)
+        × (InsnFile order bytes.now l × (written.items ≡ file_of to l))) }
     ensures all { (l : List Insn) → InsnFile order bytes.now l
         → MatchResult result (λ written. written.items ≡ file_of to l) (λ e. e ≡ InsnError.Memory) }
     ensures fault { IfErr result (NamesFault order bytes.now) }

@@ -1,9 +1,12 @@
 //! Instructions that come in pieces.
-ghost use Rattle.std.specs.Prelude.{◌≡◌, ◌<◌, ◌≤◌, ◌+◌, ◌-◌, ◌++◌, ℕ, List, [], Option, Some, None, length, take, vec_len, vec_capacity, IsErrOf, IsOk, IfSome, IsNone};
+ghost use Rattle.std.specs.Prelude.{◌≡◌, ◌<◌, ◌≤◌, ◌+◌, ◌-◌, ◌++◌, ℕ, List, [], Option, Some, None};
+ghost use Rattle.std.specs.Prelude.{length, take, vec_len, vec_capacity, IsErrOf, IsOk, IfSome};
+ghost use Rattle.std.specs.Prelude.{IsNone};
 ghost use Rattle.bpf_words.specs.declared.Order.{Order};
 ghost use Rattle.bpf_insn.specs.declared.fault.SlotFault.{SlotFault};
 ghost use Rattle.bpf_canon.specs.insn.FeedState.{FeedState, IsBetween, missing_place};
-ghost use Rattle.bpf_canon.specs.insn.FeedStream.{AnswersFor, Feeds, Finishes, Represents, end_of_feed};
+ghost use Rattle.bpf_canon.specs.insn.FeedStream.{AnswersFor, Feeds, Finishes, Represents};
+ghost use Rattle.bpf_canon.specs.insn.FeedStream.{end_of_feed};
 ghost use Rattle.bpf_canon.specs.insn.FrontReads.{Advances};
 
 use crate::insn::front::read_front_across;
@@ -11,8 +14,8 @@ use bpf_insn::{InsnError, Order, SlotCause, SlotFault};
 use std::alloc::{AllocError, Allocator};
 use std::marker::Model;
 
-/// Reads instructions from the pieces of a stream in one order, and writes them in another as soon as they are whole.
-/// It holds fewer than 16 bytes of the stream.
+/// Reads instructions from the pieces of a stream in one order, and writes them in another as soon
+/// as they are whole. It holds fewer than 16 bytes of the stream.
 #[derive(Drop)]
 pub struct InsnFeed {
     order: Order,
@@ -57,7 +60,8 @@ impl InsnFeed {
         }
     }
 
-    /// The number of bytes of the stream that are held. They begin an instruction that hasn't come whole.
+    /// The number of bytes of the stream that are held. They begin an instruction that hasn't come
+    /// whole.
     pub fn held(&self) -> usize
         ensures held { result ≡ length self.now.held }
         ensures bound { result < 16 }
@@ -65,7 +69,8 @@ impl InsnFeed {
         self.held_len
     }
 
-    /// The number of bytes of the stream that came, through the end of the last piece that was taken.
+    /// The number of bytes of the stream that came, through the end of the last piece that was
+    /// taken.
     pub fn fed(&self) -> u64
         ensures { result ≡ self.now.fed }
     {
@@ -79,15 +84,16 @@ impl InsnFeed {
         self.count
     }
 
-    /// Takes the next piece of the stream, and appends to `out` the bytes of each instruction that is whole now. The
-    /// room for them is made first, at once.
+    /// Takes the next piece of the stream, and appends to `out` the bytes of each instruction that
+    /// is whole now. The room for them is made first, at once.
     ///
     /// # Errors
     ///
-    /// `Fault` if the stream has a fault that no more bytes can mend, with its place counted from the stream's first
-    /// byte. `out` has then gained the instructions before it, and every later call returns this fault and changes
-    /// nothing. `Memory` if the allocator is out of memory; nothing has changed then, and the piece may be fed again. An empty
-    /// piece takes no memory, and neither does a piece after a fault.
+    /// `Fault` if the stream has a fault that no more bytes can mend, with its place counted from
+    /// the stream's first byte. `out` has then gained the instructions before it, and every later
+    /// call returns this fault and changes nothing. `Memory` if the allocator is out of memory;
+    /// nothing has changed then, and the piece may be fed again. An empty piece takes no memory,
+    /// and neither does a piece after a fault.
     pub fn feed<A: Allocator>(
         &mut self,
         piece: &[u8],
@@ -95,10 +101,12 @@ impl InsnFeed {
     ) -> Result<(), InsnError>
         requires { self.old.fed + length piece.now ≤ u64.MAX }
 
-        // If no fault is kept, the feed and the output move on with each stream that the feed represents, and the
-        // answer is that of the longer stream.
-        ensures moves { IsNone self.old.fault → Feeds self.old self.new piece.now out.old.items out.new.items result }
-        ensures answer { (o to : Order) (b : List ℕ) → IsNone self.old.fault → Represents self.old o to b
+        // If no fault is kept, the feed and the output move on with each stream that the feed
+        // represents, and the answer is that of the longer stream.
+        ensures moves { IsNone self.old.fault
+            → Feeds self.old self.new piece.now out.old.items out.new.items result }
+        ensures answer { (o to : Order) (b : List ℕ) → IsNone self.old.fault
+            → Represents self.old o to b
             → AnswersFor o (b ++ piece.now) result }
 
         // A fault that is kept is reported again, and nothing changes.
@@ -132,10 +140,12 @@ impl InsnFeed {
     ///
     /// # Errors
     ///
-    /// The fault of the stream: the one that was reported before, or `Truncated` at the slot whose bytes are missing.
+    /// The fault of the stream: the one that was reported before, or `Truncated` at the slot whose
+    /// bytes are missing.
     pub fn finish(self) -> Result<u64, SlotFault>
         ensures end { result ≡ end_of_feed self }
-        ensures answer { (o to : Order) (b : List ℕ) → Represents self o to b → Finishes o b result }
+        ensures answer { (o to : Order) (b : List ℕ) → Represents self o to b
+            → Finishes o b result }
     {
         match self.fault {
             Some(fault) => Err(fault),
@@ -176,7 +186,8 @@ impl InsnFeed {
     }
 }
 
-/// The start of the slot whose bytes are missing, counted from the first of the `held_len` bytes that are held.
+/// The start of the slot whose bytes are missing, counted from the first of the `held_len` bytes
+/// that are held.
 fn missing_slot(held_len: usize) -> u64
     ensures { result ≡ missing_place held_len }
 {

@@ -1,5 +1,6 @@
 //! Whole instructions at the front of some bytes, read in one order and written in another.
-ghost use Rattle.std.specs.Prelude.{◌≡◌, ◌<◌, ◌≤◌, ◌+◌, ◌-◌, ◌++◌, List, Some, None, length, take, vec_len, vec_capacity, IfOk, IfErr};
+ghost use Rattle.std.specs.Prelude.{◌≡◌, ◌<◌, ◌≤◌, ◌+◌, ◌-◌, ◌++◌, List, Some, None, length, take};
+ghost use Rattle.std.specs.Prelude.{vec_len, vec_capacity, IfOk, IfErr};
 ghost use Rattle.bpf_insn.specs.declared.fault.SlotFault.{SlotFault};
 ghost use Rattle.bpf_insn.specs.declared.insn.Insn.{Insn};
 ghost use Rattle.bpf_insn.specs.Spelling.{InsnFile};
@@ -11,7 +12,8 @@ use crate::insn::write::append_insn;
 use bpf_insn::{Insn, InsnFront, Order, SlotFault, insn_front, read_insn};
 use std::alloc::Allocator;
 
-/// The first fault of an instruction file, counted from its first byte, or `None` if it is one (RFC 9669 section 3).
+/// The first fault of an instruction file, counted from its first byte, or `None` if it is one (RFC
+/// 9669 section 3).
 pub fn first_fault(order: Order, bytes: &[u8]) -> Option<SlotFault>
     ensures file { result ≡ None → (l : List Insn) × InsnFile order bytes.now l }
     ensures fault { (f : SlotFault) → result ≡ Some f → IsInsnFault order bytes.now f }
@@ -76,7 +78,8 @@ pub(crate) fn read_front_across<A: Allocator>(
     }
 }
 
-/// The instruction that some held bytes begin and a piece completes, and the number of bytes of the piece that it takes.
+/// The instruction that some held bytes begin and a piece completes, and the number of bytes of the
+/// piece that it takes.
 fn complete(order: Order, held: &[u8], piece: &[u8]) -> Result<(Insn, usize), SlotFault>
     requires short { length held.now < 16 }
     requires unspelled { BeginsNone order held.now }

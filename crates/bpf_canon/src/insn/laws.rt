@@ -1,5 +1,7 @@
 //! Laws of canonical bytes.
-ghost use Rattle.bpf_canon.specs.insn.Canonical.{CanonicalBytesAreAccepted, CanonicalBytesAreTheirOwn, CanonicalBytesTellFilesApart};
+ghost use Rattle.bpf_canon.specs.insn.Canonical.{CanonicalBytesAreAccepted};
+ghost use Rattle.bpf_canon.specs.insn.Canonical.{CanonicalBytesAreTheirOwn};
+ghost use Rattle.bpf_canon.specs.insn.Canonical.{CanonicalBytesTellFilesApart};
 
 /// The canonical bytes of instructions are a file of these instructions.
 pub fn canonical_bytes_are_accepted()

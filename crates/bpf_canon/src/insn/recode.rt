@@ -1,8 +1,10 @@
 //! Instructions written in another order, without reading them again (RFC 9669 sections 3 and 4).
 //!
-//! The two orders differ in the register byte and in the order of the bytes of words. The second slot of a wide load has
-//! zeros for opcode, registers and offset. So every slot of 8 bytes is recoded in the same way.
-ghost use Rattle.std.specs.Prelude.{◌≡◌, ◌≢◌, ◌≤◌, ◌+◌, ◌*◌, ◌/◌, ◌%◌, ◌++◌, List, length, vec_len, vec_capacity};
+//! The two orders differ in the register byte and in the order of the bytes of words. The second
+//! slot of a wide load has zeros for opcode, registers and offset. So every slot of 8 bytes is
+//! recoded in the same way.
+ghost use Rattle.std.specs.Prelude.{◌≡◌, ◌≢◌, ◌≤◌, ◌+◌, ◌*◌, ◌/◌, ◌%◌, ◌++◌, List, length, vec_len};
+ghost use Rattle.std.specs.Prelude.{vec_capacity};
 ghost use Rattle.bpf_words.specs.declared.Order.{Order};
 ghost use Rattle.bpf_words.specs.Slots.{AreFields, Fields, spelled};
 ghost use Rattle.bpf_insn.specs.declared.insn.Insn.{Insn};
@@ -14,7 +16,8 @@ use std::alloc::Allocator;
 /// The low byte of each halfword but the lowest one.
 const LOW_BYTES: u64 = 0x00ff_00ff_00ff_0000;
 
-/// Appends the instructions that the bytes spell in the order `order`, in the order `to`. There is room for them.
+/// Appends the instructions that the bytes spell in the order `order`, in the order `to`. There is
+/// room for them.
 pub(crate) fn append_recoded<A: Allocator>(
     order: Order,
     to: Order,
@@ -22,7 +25,8 @@ pub(crate) fn append_recoded<A: Allocator>(
     out: &mut Vec<u8, A>,
 )
     requires { vec_len out.old + length bytes.now ≤ vec_capacity out.old }
-    ensures { (insns : List Insn) → InsnFile order bytes.now insns → out.new.items ≡ out.old.items ++ file_of to insns }
+    ensures { (insns : List Insn) → InsnFile order bytes.now insns
+        → out.new.items ≡ out.old.items ++ file_of to insns }
 {
     if order == to {
         let _ = out.extend_from_slice(bytes);
@@ -44,7 +48,8 @@ fn append_swapped<A: Allocator>(bytes: &[u8], out: &mut Vec<u8, A>)
 
 /// Rewrites each slot in the other order.
 fn swap_slots(bytes: &mut [u8])
-    ensures { (order to : Order) (insns : List Insn) → order ≢ to → InsnFile order bytes.old insns → bytes.new ≡ file_of to insns }
+    ensures { (order to : Order) (insns : List Insn) → order ≢ to → InsnFile order bytes.old insns
+        → bytes.new ≡ file_of to insns }
 {
     let mut pos = 0;
     'slots: while let Some(slot) = bytes[pos..].first_chunk::<8>() {
@@ -54,8 +59,8 @@ fn swap_slots(bytes: &mut [u8])
     }
 }
 
-/// The bytes of a slot in the other order. The halves of the register byte, the two bytes of the offset and the four bytes
-/// of the immediate are reversed.
+/// The bytes of a slot in the other order. The halves of the register byte, the two bytes of the
+/// offset and the four bytes of the immediate are reversed.
 ///
 /// The slot is read as one number, and its parts are moved by masks and shifts:
 ///
@@ -66,7 +71,8 @@ fn swap_slots(bytes: &mut [u8])
 ///                                     | word   | word     | word    |
 /// ```
 ///
-/// So the compiler makes vector instructions of a loop over slots, which it doesn't if single bytes are read.
+/// So the compiler makes vector instructions of a loop over slots, which it doesn't if single bytes
+/// are read.
 #[inline(always)]
 pub(crate) fn swapped(slot: &[u8; 8]) -> [u8; 8]
     ensures { (order to : Order) → order ≢ to → (slot_fields : Fields) × (AreFields slot_fields
@@ -86,8 +92,10 @@ pub(crate) fn swapped(slot: &[u8; 8]) -> [u8; 8]
 #[inline(always)]
 fn swap_halfwords(word: u64) -> u64
     ensures { result ≡ word / 0x1_0000 % 0x100 * 0x100_0000 + word / 0x100_0000 % 0x100 * 0x1_0000
-        + word / 0x1_0000_0000 % 0x100 * 0x100_0000_0000 + word / 0x100_0000_0000 % 0x100 * 0x1_0000_0000
-        + word / 0x1_0000_0000_0000 % 0x100 * 0x100_0000_0000_0000 + word / 0x100_0000_0000_0000 % 0x100 * 0x1_0000_0000_0000 }
+        + word / 0x1_0000_0000 % 0x100 * 0x100_0000_0000
+        + word / 0x100_0000_0000 % 0x100 * 0x1_0000_0000
+        + word / 0x1_0000_0000_0000 % 0x100 * 0x100_0000_0000_0000
+        + word / 0x100_0000_0000_0000 % 0x100 * 0x1_0000_0000_0000 }
 {
     let low_bytes = word & LOW_BYTES;
     let high_bytes = word / 0x100 & LOW_BYTES;

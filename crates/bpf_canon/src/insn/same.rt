@@ -11,16 +11,17 @@ use crate::insn::recode::swapped;
 use bpf_insn::{Order, SlotFault};
 use std::alloc::Allocator;
 
-/// Whether two files have the same instructions. Each is read in its own order. That is so exactly where their canonical
-/// bytes are the same.
+/// Whether two files have the same instructions. Each is read in its own order. That is so exactly
+/// where their canonical bytes are the same.
 ///
-/// The files are compared where they are, and `alloc` isn't used. It is taken so that this call is made like
-/// [`same_btf`](crate::same_btf).
+/// The files are compared where they are, and `alloc` isn't used. It is taken so that this call is
+/// made like [`same_btf`](crate::same_btf).
 ///
 /// # Errors
 ///
-/// `First` and `Second` if that file is no file of instructions: its first fault, with its place counted from the
-/// file's first byte. `Second` is reported only if the first file has no fault. `Memory` is never reported.
+/// `First` and `Second` if that file is no file of instructions: its first fault, with its place
+/// counted from the file's first byte. `Second` is reported only if the first file has no fault.
+/// `Memory` is never reported.
 pub fn same_insns<A: Allocator>(
     alloc: A,
     order_a: Order,
@@ -47,7 +48,8 @@ pub fn same_insns<A: Allocator>(
 
 /// Whether `b` has, in the order `order_b`, the instructions that `a` has in the order `order_a`.
 fn is_recoded(order_a: Order, a: &[u8], order_b: Order, b: &[u8]) -> bool
-    ensures { (insns : List Insn) → InsnFile order_a a.now insns → (IsTrue result ↔ (b.now ≡ file_of order_b insns)) }
+    ensures { (insns : List Insn) → InsnFile order_a a.now insns
+        → (IsTrue result ↔ (b.now ≡ file_of order_b insns)) }
 {
     if order_a == order_b {
         a == b

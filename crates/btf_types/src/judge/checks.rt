@@ -1,5 +1,5 @@
-//! Checks of the fields of a record, on numbers alone (btf.rst section 2.2). Each `_fault` returns the least cause that holds
-//! for a word, or None.
+//! Checks of the fields of a record, on numbers alone (btf.rst section 2.2). Each `_fault` returns
+//! the least cause that holds for a word, or None.
 
 ghost use Rattle.std.specs.Prelude.{◌≡◌, ◌∷◌, []};
 ghost use Rattle.btf_types.specs.judge.Checks as spec;

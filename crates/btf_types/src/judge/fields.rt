@@ -1,6 +1,7 @@
-//! The fields of records (btf.rst section 2.2), judged in the order of their places: the first word that has a fault, and
-//! its least cause. It takes no memory, and time in proportion to the section: each word is read at most once, a STRUCT's
-//! offset words twice, and the facts of other records are read at their places.
+//! The fields of records (btf.rst section 2.2), judged in the order of their places: the first word
+//! that has a fault, and its least cause. It takes no memory, and time in proportion to the
+//! section: each word is read at most once, a STRUCT's offset words twice, and the facts of other
+//! records are read at their places.
 
 ghost use Rattle.std.specs.Prelude.{◌≡◌, ◌<◌, IsTrue, [], ◌∷◌, MatchOption, length};
 ghost use Rattle.btf_raw.specs.Cause.{HasNone, LeastByPlace};
@@ -8,7 +9,8 @@ ghost use Rattle.btf_raw.specs.Kinds.{one_of};
 ghost use Rattle.btf_raw.specs.KindNumbers as kinds;
 ghost use Rattle.btf_types.specs.judge.Checks.{IsLeastOf};
 ghost use Rattle.btf_types.specs.judge.FieldFaults.{FieldFault};
-ghost use Rattle.btf_types.specs.judge.RecordFaults.{RecordIs, FaultInWord, FirstWithin, IsFaultlessAt, IsLeastAt};
+ghost use Rattle.btf_types.specs.judge.RecordFaults.{RecordIs, FaultInWord, FirstWithin};
+ghost use Rattle.btf_types.specs.judge.RecordFaults.{IsFaultlessAt, IsLeastAt};
 ghost use Rattle.btf_types.specs.Sections.{IsSection, frame_of, frames_in};
 
 use crate::judge::checks::{int_fault, linkage_fault, second_fault};
@@ -58,8 +60,8 @@ fn fourth_fault(section: &Section, this: &JudgedRecord) -> Option<BtfCause>
     }
 }
 
-/// The first type of an ARRAY that has a fault, and its least cause: that of its elements, and that of its index. The number
-/// of elements may be any.
+/// The first type of an ARRAY that has a fault, and its least cause: that of its elements, and that
+/// of its index. The number of elements may be any.
 fn array_fault(section: &Section, this: &JudgedRecord) -> Option<(usize, BtfCause)>
     requires section { IsSection section.now }
     requires this { RecordIs section.now this.now }
@@ -75,12 +77,14 @@ fn array_fault(section: &Section, this: &JudgedRecord) -> Option<(usize, BtfCaus
     }
 }
 
-/// The first word after a record's header that has a fault, and the least cause of that word. The kind is asked for once.
+/// The first word after a record's header that has a fault, and the least cause of that word. The
+/// kind is asked for once.
 #[tactic(auto, using(crate::proofs::JudgeLemmas::RecordSteps::rest_faultless), unfolding(btf_raw::specs::Kinds::item_words))]
 fn tail_fault(section: &Section, this: &JudgedRecord) -> Option<(usize, BtfCause)>
     requires section { IsSection section.now }
     requires this { RecordIs section.now this.now }
-    ensures { FirstWithin section.now this.now.pos 3 (length (frame_of section.now.file this.now.pos)) result }
+    ensures { FirstWithin section.now this.now.pos 3
+        (length (frame_of section.now.file this.now.pos)) result }
 {
     match this.header.kind {
         INT | VAR | DECL_TAG => match fourth_fault(section, this) {
@@ -111,12 +115,14 @@ fn record_fault(section: &Section, this: &JudgedRecord) -> Option<(usize, BtfCau
     }
 }
 
-/// The first fault of the fields of a section, by place and then by cause. Its place counts from the first byte of the types.
+/// The first fault of the fields of a section, by place and then by cause. Its place counts from
+/// the first byte of the types.
 pub fn first_field_fault(section: &Section) -> Option<BtfFault>
     requires { IsSection section.now }
     ensures { MatchOption result
         (HasNone (FieldFault section.now.file.strings.now (frames_in section.now)))
-        (λ fault. LeastByPlace (FieldFault section.now.file.strings.now (frames_in section.now)) fault.pos fault.cause) }
+        (λ fault. LeastByPlace (FieldFault section.now.file.strings.now (frames_in section.now))
+        fault.pos fault.cause) }
 {
     for i in 0..section.file.places.len() {
         let this = record_to_judge(section, i);

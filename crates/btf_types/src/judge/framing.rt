@@ -13,7 +13,8 @@ use std::alloc::Allocator;
 ///
 /// # Errors
 ///
-/// `Fault` with the first fault of the framing, whose place counts from the section's first byte; `Memory` when out of memory.
+/// `Fault` with the first fault of the framing, whose place counts from the section's first byte;
+/// `Memory` when out of memory.
 pub fn record_places<A: Allocator>(
     alloc: A,
     order: Order,
@@ -21,7 +22,8 @@ pub fn record_places<A: Allocator>(
 ) -> Result<Vec<u32, A>, BtfError>
     requires { length types.now ≤ 2 ^ 25 }
     ensures inside { FaultInside types.now result }
-    ensures cases { MatchResult result (λ places. IsFramed order types.now places.items) (λ e. FailsFraming order types.now e) }
+    ensures cases { MatchResult result (λ places. IsFramed order types.now places.items) (λ e.
+        FailsFraming order types.now e) }
 {
     let mut places = Vec::new(alloc);
     let mut pos = 0;

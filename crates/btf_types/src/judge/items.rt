@@ -1,5 +1,6 @@
-//! The items of a record (btf.rst section 2.2): members, parameters, values and entries. A function for each of them judges
-//! the words of all items in the order of their places, in a loop of its own, so that no word asks for the kind again.
+//! The items of a record (btf.rst section 2.2): members, parameters, values and entries. A function
+//! for each of them judges the words of all items in the order of their places, in a loop of its
+//! own, so that no word asks for the kind again.
 
 ghost use Rattle.std.specs.Prelude.{◌≡◌, ◌+◌, ◌*◌, ◌<◌, IsTrue, [], ◌∷◌, length};
 ghost use Rattle.btf_raw.specs.KindNumbers as kinds;
@@ -14,8 +15,8 @@ use crate::judge::references::{member_type_fault, named_type_fault};
 use crate::tables::section::Section;
 use btf_raw::{BtfCause, DATASEC, FUNC_PROTO};
 
-/// The first word with a fault of member k, from 0, of a STRUCT or UNION, and its least cause: the name, the type and the
-/// place are judged in turn.
+/// The first word with a fault of member k, from 0, of a STRUCT or UNION, and its least cause: the
+/// name, the type and the place are judged in turn.
 #[inline(always)]
 fn member_fault(
     section: &Section,
@@ -47,13 +48,14 @@ fn member_fault(
     }
 }
 
-/// The first word with a fault of the members of a STRUCT or UNION, and its least cause. Whether some member's width isn't 0
-/// is found once, before the members are judged.
+/// The first word with a fault of the members of a STRUCT or UNION, and its least cause. Whether
+/// some member's width isn't 0 is found once, before the members are judged.
 pub fn members_fault(section: &Section, this: &JudgedRecord) -> Option<(usize, BtfCause)>
     requires section { IsSection section.now }
     requires this { RecordIs section.now this.now }
     requires kind { IsTrue (is_struct this.now.header.kind) }
-    ensures { FirstWithin section.now this.now.pos 3 (length (frame_of section.now.file this.now.pos)) result }
+    ensures { FirstWithin section.now this.now.pos 3
+        (length (frame_of section.now.file this.now.pos)) result }
 {
     let header = &this.header;
     let bit_fields = section
@@ -67,8 +69,8 @@ pub fn members_fault(section: &Section, this: &JudgedRecord) -> Option<(usize, B
     None
 }
 
-/// The first word with a fault of parameter k, from 0, of a FUNC_PROTO, and its least cause: the name and the type are
-/// judged in turn.
+/// The first word with a fault of parameter k, from 0, of a FUNC_PROTO, and its least cause: the
+/// name and the type are judged in turn.
 #[inline(always)]
 fn param_fault(section: &Section, this: &JudgedRecord, k: usize) -> Option<(usize, BtfCause)>
     requires section { IsSection section.now }
@@ -93,7 +95,8 @@ pub fn params_fault(section: &Section, this: &JudgedRecord) -> Option<(usize, Bt
     requires section { IsSection section.now }
     requires this { RecordIs section.now this.now }
     requires kind { this.now.header.kind ≡ kinds.FUNC_PROTO }
-    ensures { FirstWithin section.now this.now.pos 3 (length (frame_of section.now.file this.now.pos)) result }
+    ensures { FirstWithin section.now this.now.pos 3
+        (length (frame_of section.now.file this.now.pos)) result }
 {
     for k in 0..usize::from(this.header.vlen) {
         if let Some(found) = param_fault(section, this, k) {
@@ -103,8 +106,8 @@ pub fn params_fault(section: &Section, this: &JudgedRecord) -> Option<(usize, Bt
     None
 }
 
-/// The first word with a fault of the values of an ENUM or ENUM64, and its least cause. Each value has a name, which is its
-/// first word; `step` is the number of its words.
+/// The first word with a fault of the values of an ENUM or ENUM64, and its least cause. Each value
+/// has a name, which is its first word; `step` is the number of its words.
 pub fn values_fault(
     section: &Section,
     this: &JudgedRecord,
@@ -114,7 +117,8 @@ pub fn values_fault(
     requires this { RecordIs section.now this.now }
     requires kind { IsTrue (one_of (kinds.ENUM ∷ kinds.ENUM64 ∷ []) this.now.header.kind) }
     requires step { step ≡ item_words this.now.header.kind }
-    ensures { FirstWithin section.now this.now.pos 3 (length (frame_of section.now.file this.now.pos)) result }
+    ensures { FirstWithin section.now this.now.pos 3
+        (length (frame_of section.now.file this.now.pos)) result }
 {
     for k in 0..usize::from(this.header.vlen) {
         let first = 3 + step * k;
@@ -126,13 +130,14 @@ pub fn values_fault(
     None
 }
 
-/// The first word with a fault of the entries of a DATASEC, and its least cause. Each entry has a type, which is its first
-/// word of three.
+/// The first word with a fault of the entries of a DATASEC, and its least cause. Each entry has a
+/// type, which is its first word of three.
 pub fn entries_fault(section: &Section, this: &JudgedRecord) -> Option<(usize, BtfCause)>
     requires section { IsSection section.now }
     requires this { RecordIs section.now this.now }
     requires kind { this.now.header.kind ≡ kinds.DATASEC }
-    ensures { FirstWithin section.now this.now.pos 3 (length (frame_of section.now.file this.now.pos)) result }
+    ensures { FirstWithin section.now this.now.pos 3
+        (length (frame_of section.now.file this.now.pos)) result }
 {
     for k in 0..usize::from(this.header.vlen) {
         let target = section.file.word(this.pos, 3 + 3 * k);

@@ -40,7 +40,8 @@ fn own_name_fault(kind: u8, empty: bool) -> Option<BtfCause>
     None
 }
 
-/// Checks a record's own name field: as an item's, and then whether the name is missing or unwanted.
+/// Checks a record's own name field: as an item's, and then whether the name is missing or
+/// unwanted.
 pub fn name_fault(strings: &[u8], texts: &Texts, kind: u8, off: u32) -> Option<BtfCause>
     requires ends { HasNulEnds strings.now }
     requires texts { TextsAre strings.now texts.now }

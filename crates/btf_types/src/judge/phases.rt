@@ -1,5 +1,6 @@
-//! The phases that judge a file: the header, the ends of the strings, the framing of records, and their fields. A phase
-//! begins only where the earlier ones found no fault, and uses their results. Places count from the file's first byte.
+//! The phases that judge a file: the header, the ends of the strings, the framing of records, and
+//! their fields. A phase begins only where the earlier ones found no fault, and uses their results.
+//! Places count from the file's first byte.
 
 ghost use Rattle.std.specs.Prelude.{◌≡◌, ◌+◌, ◌<◌, ◌≤◌, ◌^◌, length, MatchOption, MatchResult};
 ghost use Rattle.btf_raw.specs.Cause.{HasNone, LeastByCause, LeastByPlace};
@@ -9,7 +10,8 @@ ghost use Rattle.btf_types.specs.judge.FieldFaults.{FieldFault};
 ghost use Rattle.btf_types.specs.Reading.{frames_at};
 ghost use Rattle.btf_types.specs.Sections.{IsSection};
 ghost use Rattle.btf_types.specs.judge.Texts.{TextsAre};
-ghost use Rattle.btf_types.specs.judge.Phases.{HasHeader, HasStrings, HasFrames, types_of, strings_of};
+ghost use Rattle.btf_types.specs.judge.Phases.{HasHeader, HasStrings, HasFrames, types_of};
+ghost use Rattle.btf_types.specs.judge.Phases.{strings_of};
 ghost use Rattle.btf_types.specs.tables.Tables.{FailsFrames, FailsFileFields};
 ghost use Rattle.btf_types.specs.tables.TableInvariant.{FieldsAreRight};
 
@@ -72,7 +74,8 @@ pub fn judge_strings(bytes: &[u8], header: Header) -> Result<(), BtfFault>
     }
 }
 
-/// Where each record begins in the type section, or the first fault of the framing, or `Memory` when out of memory.
+/// Where each record begins in the type section, or the first fault of the framing, or `Memory`
+/// when out of memory.
 pub fn judge_framing<A: Allocator>(
     alloc: A,
     bytes: &[u8],
@@ -121,7 +124,8 @@ fn fields_fault(bytes: &[u8], header: Header, places: &[u32], texts: &Texts) -> 
     requires frames { HasFrames bytes.now header places.now }
     requires texts { TextsAre (strings_of bytes.now header) texts.now }
     ensures { MatchOption result
-        (HasNone (FieldFault (strings_of bytes.now header) (frames_at header.order (types_of bytes.now header) places.now)))
+        (HasNone (FieldFault (strings_of bytes.now header)
+        (frames_at header.order (types_of bytes.now header) places.now)))
         (λ fault. LeastByPlace (FieldsFault bytes.now) fault.pos fault.cause) }
 {
     match first_field_fault(&section_in(bytes, header, places, texts)) {
@@ -130,8 +134,8 @@ fn fields_fault(bytes: &[u8], header: Header, places: &[u32], texts: &Texts) -> 
     }
 }
 
-/// The first fault of the fields, if there is one, or `Memory` when out of memory. Where there is none, the records
-/// are spelled at their places and are good.
+/// The first fault of the fields, if there is one, or `Memory` when out of memory. Where there is
+/// none, the records are spelled at their places and are good.
 pub fn judge_fields<A: Allocator>(
     alloc: A,
     bytes: &[u8],
@@ -140,7 +144,8 @@ pub fn judge_fields<A: Allocator>(
 ) -> Result<(), BtfError>
     requires { HasFrames bytes.now header places.now }
     ensures { MatchResult result
-        (λ _. FieldsAreRight header.order (types_of bytes.now header) (strings_of bytes.now header) places.now)
+        (λ _. FieldsAreRight header.order (types_of bytes.now header) (strings_of bytes.now header)
+        places.now)
         (λ e. FailsFileFields bytes.now e) }
 {
     let marks = marks_unless_utf8(alloc, strings_in(bytes, header))?;

@@ -1,5 +1,5 @@
-//! Checks of the types that a record refers to: they are there, and their kinds and sizes fit. A type is read at its place
-//! only where its kind or size matters.
+//! Checks of the types that a record refers to: they are there, and their kinds and sizes fit. A
+//! type is read at its place only where its kind or size matters.
 
 ghost use Rattle.std.specs.Prelude.{◌≡◌, length};
 ghost use Rattle.btf_types.specs.judge.Checks as spec;
@@ -27,7 +27,8 @@ fn named_kind_fits(section: &Section, kind: u8, target: u32) -> bool
 /// Checks a third word: a size, a type, or 0.
 pub fn third_fault(section: &Section, kind: u8, third: u32, vlen: u16) -> Option<BtfCause>
     requires { IsSection section.now }
-    ensures { spec.IsLeastOf (spec.ThirdFault kind third vlen (length (facts_in section.now)) (type_at (facts_in section.now) third).kind) result }
+    ensures { spec.IsLeastOf (spec.ThirdFault kind third vlen (length (facts_in section.now))
+        (type_at (facts_in section.now) third).kind) result }
 {
     if matches!(kind, ARRAY | FWD) && third != 0 {
         return Some(BtfCause::NotZero);
@@ -63,7 +64,8 @@ pub fn named_type_fault(section: &Section, kind: u8, target: u32) -> Option<BtfC
     }
 }
 
-/// Whether a type may be that of a member beside bit-fields: no INT, or one with offset 0 and 8, 16, 32, 64 or 128 bits.
+/// Whether a type may be that of a member beside bit-fields: no INT, or one with offset 0 and 8,
+/// 16, 32, 64 or 128 bits.
 #[tactic(auto, unfolding(crate::specs::judge::Checks::member_int_fits))]
 fn member_int_fits(section: &Section, target: u32) -> bool
     requires { IsSection section.now }
@@ -88,7 +90,8 @@ pub fn member_type_fault(section: &Section, bit_fields: bool, target: u32) -> Op
     }
 }
 
-/// Whether a type has this component: a member of a STRUCT or UNION, or a parameter of a FUNC's FUNC_PROTO.
+/// Whether a type has this component: a member of a STRUCT or UNION, or a parameter of a FUNC's
+/// FUNC_PROTO.
 #[tactic(auto, unfolding(crate::specs::judge::Checks::component_fits))]
 fn component_fits(section: &Section, target: u32, component: u32) -> bool
     requires { IsSection section.now }
@@ -106,7 +109,8 @@ fn component_fits(section: &Section, target: u32, component: u32) -> bool
     }
 }
 
-/// Checks the component of a DECL_TAG of this type. The word is read unsigned, and -1 is no component.
+/// Checks the component of a DECL_TAG of this type. The word is read unsigned, and -1 is no
+/// component.
 pub fn component_fault(section: &Section, target: u32, word: u32) -> Option<BtfCause>
     requires { IsSection section.now }
     ensures { spec.IsLeastOf (ComponentFault (facts_in section.now) target word) result }

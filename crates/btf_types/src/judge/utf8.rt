@@ -1,10 +1,12 @@
-//! Which texts of a string section are UTF-8. A text runs from an offset, which may be inside a string, to the next NUL.
+//! Which texts of a string section are UTF-8. A text runs from an offset, which may be inside a
+//! string, to the next NUL.
 //!
-//! The section is judged once, in time in proportion to its length, and then each offset at once: any number of name fields
-//! may point into one long string. Where the section is UTF-8 as a whole, a text is UTF-8 exactly where a character begins.
-//! Else a mark is kept for each byte of it.
+//! The section is judged once, in time in proportion to its length, and then each offset at once:
+//! any number of name fields may point into one long string. Where the section is UTF-8 as a whole,
+//! a text is UTF-8 exactly where a character begins. Else a mark is kept for each byte of it.
 
-ghost use Rattle.std.specs.Prelude.{◌≡◌, ◌≢◌, ◌↔◌, ℕ, List, ◌<◌, length, slice_index, IfOk, IsTrue, IsUtf8, MatchOption};
+ghost use Rattle.std.specs.Prelude.{◌≡◌, ◌≢◌, ◌↔◌, ℕ, List, ◌<◌, length, slice_index, IfOk, IsTrue};
+ghost use Rattle.std.specs.Prelude.{IsUtf8, MatchOption};
 ghost use Rattle.btf_raw.specs.Header.{HasNulEnds};
 ghost use Rattle.btf_raw.specs.Names.{TextAt};
 ghost use Rattle.btf_types.specs.judge.Texts.{BeginsChar, TextsAre, AreMarks, IsNextChar};
@@ -28,8 +30,8 @@ fn begins_char(byte: u8) -> bool
     !matches!(byte, 0x80..=0xbf)
 }
 
-/// Whether the text at a place is UTF-8. `next` is the next place after it where a character may begin, and `rest` is whether
-/// the text there is UTF-8.
+/// Whether the text at a place is UTF-8. `next` is the next place after it where a character may
+/// begin, and `rest` is whether the text there is UTF-8.
 fn is_utf8_with(strings: &[u8], at: usize, next: usize, rest: bool) -> bool
     requires there { at < length strings.now }
     requires next { IsNextChar strings.now at next rest }
@@ -42,7 +44,8 @@ fn is_utf8_with(strings: &[u8], at: usize, next: usize, rest: bool) -> bool
     rest && from_utf8(&strings[at..next]).is_ok()
 }
 
-/// The marks of a whole section, made from its end: a text is UTF-8 if it begins with a character and the rest is UTF-8.
+/// The marks of a whole section, made from its end: a text is UTF-8 if it begins with a character
+/// and the rest is UTF-8.
 fn marks_of<A: Allocator>(alloc: A, strings: &[u8]) -> Result<Vec<bool, A>, AllocError>
     requires { HasNulEnds strings.now }
     ensures { IfOk result (λ marks. AreMarks strings.now marks.items) }
@@ -66,13 +69,15 @@ fn marks_of<A: Allocator>(alloc: A, strings: &[u8]) -> Result<Vec<bool, A>, Allo
 ///
 /// # Errors
 ///
-/// `AllocError` when out of memory. A section that is UTF-8 as a whole takes none, another a byte for each of its bytes.
+/// `AllocError` when out of memory. A section that is UTF-8 as a whole takes none, another a byte
+/// for each of its bytes.
 pub fn marks_unless_utf8<A: Allocator>(
     alloc: A,
     strings: &[u8],
 ) -> Result<Option<Vec<bool, A>>, AllocError>
     requires { HasNulEnds strings.now }
-    ensures { IfOk result (λ marks. MatchOption marks (IsUtf8 strings.now) (λ v. AreMarks strings.now v.items)) }
+    ensures { IfOk result (λ marks.
+        MatchOption marks (IsUtf8 strings.now) (λ v. AreMarks strings.now v.items)) }
 {
     if from_utf8(strings).is_ok() {
         Ok(None)
@@ -84,7 +89,9 @@ pub fn marks_unless_utf8<A: Allocator>(
 impl<'a> Texts<'a> {
     /// The texts of a string section with these marks.
     pub fn of<A: Allocator>(marks: &'a Option<Vec<bool, A>>) -> Texts<'a>
-        ensures { (strings : List ℕ) → MatchOption marks.now (IsUtf8 strings) (λ v. AreMarks strings v.items) → TextsAre strings result }
+        ensures { (strings : List ℕ)
+            → MatchOption marks.now (IsUtf8 strings) (λ v. AreMarks strings v.items)
+            → TextsAre strings result }
     {
         match marks {
             None => Texts::Utf8,

@@ -1,4 +1,5 @@
-//! Tables that keep the two sections of a file. Each is a table of types in the same way: it lends a table in its sections.
+//! Tables that keep the two sections of a file. Each is a table of types in the same way: it lends
+//! a table in its sections.
 
 ghost use Rattle.std.specs.Prelude.{◌≡◌, List, IfSome, IsSome};
 ghost use Rattle.btf_types.specs.Values.{TypeRecord};
@@ -38,7 +39,8 @@ impl<T: KeepsSections> TypeTable for T {
 
     fn sections(&self) -> Option<FileSections<'_>>
         ensures kept { IsSome result }
-        ensures sections { IfSome result (λ s. AreSections (T.kept self.now) s.order s.types.now s.strings.now s.places.now) }
+        ensures sections { IfSome result (λ s.
+            AreSections (T.kept self.now) s.order s.types.now s.strings.now s.places.now) }
     {
         Some(self.table().sections())
     }

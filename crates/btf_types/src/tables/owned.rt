@@ -20,8 +20,8 @@ use std::marker::Model;
 
 /// The types of a BTF file (btf.rst section 2), kept apart from the file.
 ///
-/// It keeps a copy of the two sections and a list of the places of the records, so each name is stored once, and names share
-/// suffixes as they did in the file.
+/// It keeps a copy of the two sections and a list of the places of the records, so each name is
+/// stored once, and names share suffixes as they did in the file.
 #[derive(Drop)]
 pub struct Btf<A: Allocator = Global> {
     order: Order,
@@ -31,7 +31,8 @@ pub struct Btf<A: Allocator = Global> {
 }
 
 impl<A: Allocator> Model for Btf<A> {
-    ghost use Rattle.btf_types.specs.tables.TablePlaces.{TypeRecords, placed_records, IsPlacedTable};
+    ghost use Rattle.btf_types.specs.tables.TablePlaces.{TypeRecords, placed_records};
+    ghost use Rattle.btf_types.specs.tables.TablePlaces.{IsPlacedTable};
 
     ghost Value = { TypeRecords };
 
@@ -45,8 +46,9 @@ impl<A: Allocator + Clone> Btf<A> {
     ///
     /// # Errors
     ///
-    /// `Fault` with the first fault of the file: one of the header or of the ends of the strings by its cause, then one of the
-    /// framing or of the fields by its place and cause. `Memory` when out of memory.
+    /// `Fault` with the first fault of the file: one of the header or of the ends of the strings by
+    /// its cause, then one of the framing or of the fields by its place and cause. `Memory` when
+    /// out of memory.
     pub fn parse(alloc: A, bytes: &[u8]) -> Result<Btf<A>, BtfError>
         ensures { MatchResult result (λ v. Denotes bytes.now v) (λ e. Fails bytes.now e) }
     {

@@ -1,4 +1,5 @@
-//! Where the records of a table begin, and where its long strings end. Both are in one vector, since a table has one allocator.
+//! Where the records of a table begin, and where its long strings end. Both are in one vector,
+//! since a table has one allocator.
 
 ghost use Rattle.std.specs.Prelude.{◌≡◌, ◌<◌, ◌^◌, IfOk, length};
 ghost use Rattle.btf_raw.specs.Header.{HasNulEnds};
@@ -8,7 +9,8 @@ use crate::tables::string_ends::push_long_ends;
 use std::alloc::{AllocError, Allocator};
 use std::marker::Model;
 
-/// The places of records in the types, and the ends of long strings in the strings, in bytes from the first of each section.
+/// The places of records in the types, and the ends of long strings in the strings, in bytes from
+/// the first of each section.
 #[derive(Drop)]
 pub struct Places<A: Allocator> {
     /// The places of the records, then the ends of the strings.
@@ -23,7 +25,8 @@ impl<A: Allocator> Model for Places<A> {
 
     ghost Value = { TablePlaces };
 
-    ghost view = { λ p. record { records = take p.count p.index.items; ends = drop p.count p.index.items } };
+    ghost view = { λ p.
+        record { records = take p.count p.index.items; ends = drop p.count p.index.items } };
 
     ghost invariant = { λ p. p.count ≤ length p.index.items };
 }

@@ -7,7 +7,8 @@ use crate::tables::section_table::SectionTable;
 use crate::values::Head;
 use std::marker::Model;
 
-/// The heads of a table's records with their numbers, in order, from [`crate::BtfView::records`] or [`crate::Btf::records`].
+/// The heads of a table's records with their numbers, in order, from [`crate::BtfView::records`] or
+/// [`crate::Btf::records`].
 ///
 /// After the last record it gives `None`, and goes on to do so. No step takes memory.
 #[derive(Drop)]

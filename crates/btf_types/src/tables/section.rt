@@ -1,5 +1,5 @@
-//! The sections of a file whose records are framed, and what the checks of one record need of another. It is read at that
-//! record's place, so a reference may point forward.
+//! The sections of a file whose records are framed, and what the checks of one record need of
+//! another. It is read at that record's place, so a reference may point forward.
 
 ghost use Rattle.std.specs.Prelude.{◌≡◌, length};
 ghost use Rattle.btf_types.specs.judge.Checks.{type_at};

@@ -1,5 +1,5 @@
-//! A table of types in the two sections of a file (btf.rst section 2). Whoever keeps the sections lends one, and each record is
-//! read at its place.
+//! A table of types in the two sections of a file (btf.rst section 2). Whoever keeps the sections
+//! lends one, and each record is read at its place.
 
 ghost use Rattle.std.specs.Prelude.{◌≡◌, ◌<◌, ◌≤◌, Some, length, slice_get};
 ghost use Rattle.btf_types.specs.Values.{head_value, item_value};
@@ -34,9 +34,11 @@ impl<'a> Model for SectionTable<'a> {
 
     ghost Value = { List TypeRecord };
 
-    ghost view = { λ t. records_at t.file.order t.file.types.now t.file.strings.now t.file.places.now };
+    ghost view = { λ t.
+        records_at t.file.order t.file.types.now t.file.strings.now t.file.places.now };
 
-    ghost invariant = { λ t. IsPlacedTable t.file.order t.file.types.now t.file.strings.now (record { records = t.file.places.now; ends = t.ends.now }) };
+    ghost invariant = { λ t. IsPlacedTable t.file.order t.file.types.now t.file.strings.now
+        (record { records = t.file.places.now; ends = t.ends.now }) };
 }
 
 impl<'a> SectionTable<'a> {
@@ -102,7 +104,8 @@ impl<'a> SectionTable<'a> {
 
     /// The sections.
     pub fn sections(&self) -> FileSections<'a>
-        ensures { AreSections self.now result.order result.types.now result.strings.now result.places.now }
+        ensures { AreSections self.now result.order result.types.now result.strings.now
+            result.places.now }
     {
         self.file
     }

@@ -1,10 +1,12 @@
-//! Where the texts of a string section end (btf.rst section 2.1): a text runs from an offset, which may be inside a string, to
-//! the next NUL.
+//! Where the texts of a string section end (btf.rst section 2.1): a text runs from an offset, which
+//! may be inside a string, to the next NUL.
 //!
-//! Most strings are short, so an end is looked for in the next few bytes. The ends of long strings are kept, since any number of
-//! names may end in one of them: then no name takes time in proportion to its length.
+//! Most strings are short, so an end is looked for in the next few bytes. The ends of long strings
+//! are kept, since any number of names may end in one of them: then no name takes time in
+//! proportion to its length.
 
-ghost use Rattle.std.specs.Prelude.{◌≡◌, ◌≢◌, ◌<◌, ◌^◌, ◌≤◌, ◌+◌, ◌++◌, ℕ, nat_lt, MatchOption, OnOk, length, take, drop, slice_index};
+ghost use Rattle.std.specs.Prelude.{◌≡◌, ◌≢◌, ◌<◌, ◌^◌, ◌≤◌, ◌+◌, ◌++◌, ℕ, nat_lt, MatchOption};
+ghost use Rattle.std.specs.Prelude.{OnOk, length, take, drop, slice_index};
 ghost use Rattle.btf_raw.specs.Header.{HasNulEnds};
 ghost use Rattle.btf_raw.specs.Names.{IsEnd};
 ghost use Rattle.btf_types.specs.tables.StringEnds.{AreLongEnds};
@@ -23,7 +25,8 @@ const NEAR: usize = 128;
 fn nul_between(strings: &[u8], off: usize, to: usize) -> Option<usize>
     requires order { off ≤ to }
     requires inside { to ≤ length strings.now }
-    ensures { MatchOption result ((i : ℕ) → off ≤ i → i < to → slice_index strings.now i ≢ 0) (λ end. IsEnd strings.now off end × (end < to)) }
+    ensures { MatchOption result ((i : ℕ) → off ≤ i → i < to
+        → slice_index strings.now i ≢ 0) (λ end. IsEnd strings.now off end × (end < to)) }
 {
     match memchr(0, &strings[off..to]) {
         Some(len) => Some(off + len),
@@ -36,7 +39,8 @@ pub fn push_long_ends<A: Allocator>(out: &mut Vec<u32, A>, strings: &[u8]) -> Re
     requires ends { HasNulEnds strings.now }
     requires room { length strings.now < 2 ^ 32 }
     ensures kept { OnOk result (take (length out.old.items) out.new.items ≡ out.old.items) }
-    ensures ends { OnOk result (AreLongEnds strings.now (drop (length out.old.items) out.new.items)) }
+    ensures ends { OnOk result (AreLongEnds strings.now (drop
+        (length out.old.items) out.new.items)) }
 {
     let mut at = 0;
     'blocks: while at + BLOCK <= strings.len() {

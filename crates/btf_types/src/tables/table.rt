@@ -1,6 +1,7 @@
 //! What every table of types offers.
 
-ghost use Rattle.std.specs.Prelude.{◌≡◌, ◌+◌, ◌*◌, ◌<◌, ◌≤◌, List, Some, IfSome, length, slice_get, slice_index};
+ghost use Rattle.std.specs.Prelude.{◌≡◌, ◌+◌, ◌*◌, ◌<◌, ◌≤◌, List, Some, IfSome, length, slice_get};
+ghost use Rattle.std.specs.Prelude.{slice_index};
 ghost use Rattle.btf_raw.specs.Frames.{info_word};
 ghost use Rattle.btf_raw.specs.Frames as frames;
 ghost use Rattle.btf_types.specs.Values.{TypeRecord, head_value, item_value};
@@ -14,10 +15,12 @@ use crate::values::{Head, Item};
 use bpf_words::{Order, get32};
 use btf_raw::info::{flag_of, is_struct, kind_of, vlen_of};
 
-/// A list of records, each a head with its items. The records are numbered from 1, as btf.rst section 2.2 numbers types.
+/// A list of records, each a head with its items. The records are numbered from 1, as btf.rst
+/// section 2.2 numbers types.
 ///
-/// What a table means is good: items fit their heads, names are there or absent as their kinds demand, each type that is referred
-/// to has a fitting kind, and the records and their string table keep to the limits of a file.
+/// What a table means is good: items fit their heads, names are there or absent as their kinds
+/// demand, each type that is referred to has a fitting kind, and the records and their string table
+/// keep to the limits of a file.
 pub trait TypeTable {
     ghost meaning: { Self → List TypeRecord };
 
@@ -38,7 +41,8 @@ pub trait TypeTable {
         requires last { id ≤ length (meaning self.now) }
         ensures { result ≡ length (record_at (meaning self.now) id).items };
 
-    /// Item `k` of record `id`: `id` is 1 to [`TypeTable::count`], and `k` is 0 or more and less than [`TypeTable::item_count`].
+    /// Item `k` of record `id`: `id` is 1 to [`TypeTable::count`], and `k` is 0 or more and less
+    /// than [`TypeTable::item_count`].
     fn item(&self, id: u32, k: u32) -> Item<'_>
         requires first { 0 < id }
         requires last { id ≤ length (meaning self.now) }
@@ -47,7 +51,8 @@ pub trait TypeTable {
 
     /// The sections of a file that the table keeps, if it keeps any.
     fn sections(&self) -> Option<FileSections<'_>>
-        ensures { IfSome result (λ s. AreSections (meaning self.now) s.order s.types.now s.strings.now s.places.now) }
+        ensures { IfSome result (λ s.
+            AreSections (meaning self.now) s.order s.types.now s.strings.now s.places.now) }
     {
         None
     }
@@ -76,8 +81,9 @@ impl<'a> FileSections<'a> {
         get32(self.order, self.types, pos + 4 * j)
     }
 
-    /// Whether the record at `pos` of the types, with this word info, has a bit-field (btf.rst section 2.2.4): it is a STRUCT or
-    /// UNION whose kind_flag is 1, and the high 8 bits of some member's offset word, its width, aren't 0.
+    /// Whether the record at `pos` of the types, with this word info, has a bit-field (btf.rst
+    /// section 2.2.4): it is a STRUCT or UNION whose kind_flag is 1, and the high 8 bits of some
+    /// member's offset word, its width, aren't 0.
     pub fn has_bit_fields(&self, pos: usize, info: u32) -> bool
         requires record { HasFrame self.now pos }
         requires info { info ≡ info_word (frame_of self.now pos) }

@@ -20,7 +20,8 @@ use bpf_words::Order;
 use std::alloc::{Allocator, Global};
 use std::marker::Model;
 
-/// The types of a BTF file (btf.rst section 2), read from the file's own bytes as they are asked for.
+/// The types of a BTF file (btf.rst section 2), read from the file's own bytes as they are asked
+/// for.
 ///
 /// It keeps the file, and a list of the places of its records: no name is copied.
 #[derive(Drop)]
@@ -32,7 +33,8 @@ pub struct BtfView<'a, A: Allocator = Global> {
 }
 
 impl<'a, A: Allocator> Model for BtfView<'a, A> {
-    ghost use Rattle.btf_types.specs.tables.TablePlaces.{TypeRecords, placed_records, IsPlacedTable};
+    ghost use Rattle.btf_types.specs.tables.TablePlaces.{TypeRecords, placed_records};
+    ghost use Rattle.btf_types.specs.tables.TablePlaces.{IsPlacedTable};
 
     ghost Value = { TypeRecords };
 
@@ -42,12 +44,14 @@ impl<'a, A: Allocator> Model for BtfView<'a, A> {
 }
 
 impl<'a, A: Allocator> BtfView<'a, A> {
-    /// Reads a whole BTF file (btf.rst section 2). No name is copied: the table keeps the input, and the places of its records.
+    /// Reads a whole BTF file (btf.rst section 2). No name is copied: the table keeps the input,
+    /// and the places of its records.
     ///
     /// # Errors
     ///
-    /// `Fault` with the first fault of the file: one of the header or of the ends of the strings by its cause, then one of the
-    /// framing or of the fields by its place and cause. `Memory` when out of memory.
+    /// `Fault` with the first fault of the file: one of the header or of the ends of the strings by
+    /// its cause, then one of the framing or of the fields by its place and cause. `Memory` when
+    /// out of memory.
     pub fn parse(alloc: A, bytes: &'a [u8]) -> Result<BtfView<'a, A>, BtfError>
         ensures { MatchResult result (λ v. Denotes bytes.now v) (λ e. Fails bytes.now e) }
     {

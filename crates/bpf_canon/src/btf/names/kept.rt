@@ -1,5 +1,6 @@
 //! The names of a table of types, each kept once, in the order of their first use.
-ghost use Rattle.std.specs.Prelude.{◌≡◌, ◌<◌, ◌≤◌, ℕ, List, [], IfOk, OnOk, OnErr, length, slice_index_or};
+ghost use Rattle.std.specs.Prelude.{◌≡◌, ◌<◌, ◌≤◌, ℕ, List, [], IfOk, OnOk, OnErr, length};
+ghost use Rattle.std.specs.Prelude.{slice_index_or};
 ghost use Rattle.std.specs.List.{Contains};
 ghost use Rattle.btf_types.specs.Names.{kept, names, record_names};
 ghost use Rattle.btf_types.specs.tables.TableWords.{record_at};
@@ -76,7 +77,8 @@ fn add_record_names<'t, T: TypeTable, A: Allocator + Copy>(
 ) -> Result<(), AllocError>
     requires first { 0 < id }
     requires last { id ≤ length (T.meaning table.now) }
-    ensures { OnOk result (AddsNames names.old names.new (record_names (record_at (T.meaning table.now) id))) }
+    ensures { OnOk result (AddsNames names.old names.new (record_names
+        (record_at (T.meaning table.now) id))) }
 {
     names.add(table.head(id).name())?;
     for k in 0..table.item_count(id) {

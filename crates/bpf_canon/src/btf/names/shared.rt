@@ -1,11 +1,13 @@
-//! The names of a table with their places in its string table, in which names share suffixes: each name is the end of its host.
+//! The names of a table with their places in its string table, in which names share suffixes: each
+//! name is the end of its host.
 //!
-//! With the names sorted by their bytes from the end, a name that is a suffix of any other name is a suffix of the next one, and has
-//! its host. So each is compared with the next one alone.
+//! With the names sorted by their bytes from the end, a name that is a suffix of any other name is
+//! a suffix of the next one, and has its host. So each is compared with the next one alone.
 ghost use Rattle.std.specs.Prelude.{◌≡◌, ◌<◌, ◌^◌, ◌++◌, IfOk, OnOk, length};
 ghost use Rattle.btf_types.specs.Names.{kept, table_of};
 ghost use Rattle.btf_types.specs.strings.SharedNames.{hosts_of, shared_among};
-ghost use Rattle.bpf_canon.specs.btf.names.Interned.{lent_texts, AreIndexed, HaveHosts, ArePlacedHosts, IsPlaced};
+ghost use Rattle.bpf_canon.specs.btf.names.Interned.{lent_texts, AreIndexed, HaveHosts};
+ghost use Rattle.bpf_canon.specs.btf.names.Interned.{ArePlacedHosts, IsPlaced};
 
 use crate::btf::names::kept::KeptNames;
 use crate::btf::suffixes::compare_from_end;
@@ -60,7 +62,8 @@ fn placed_hosts<A: Allocator>(
     requires own { kept (lent_texts names.now) ≡ lent_texts names.now }
     requires hosts { HaveHosts (lent_texts names.now) hosts.now }
     requires room { length (table_of (hosts_of (lent_texts names.now))) < 2 ^ 32 }
-    ensures { IfOk result (λ (places, len). ArePlacedHosts (lent_texts names.now) hosts.now places.items len) }
+    ensures { IfOk result (λ (places, len).
+        ArePlacedHosts (lent_texts names.now) hosts.now places.items len) }
 {
     let mut places = vec![in alloc; 0; names.len()]?;
     let mut len = 1;

@@ -13,7 +13,8 @@ use crate::btf::strings::ranked_texts::RankedTexts;
 use crate::btf::strings::used_offsets::UsedOffsets;
 use std::alloc::{AllocError, Allocator};
 
-/// Texts of a section that follow one another, each with its NUL: the start of the first, and the NUL of the last.
+/// Texts of a section that follow one another, each with its NUL: the start of the first, and the
+/// NUL of the last.
 #[derive(Clone, Copy)]
 pub(crate) struct Span {
     pub(crate) start: u32,
@@ -33,7 +34,8 @@ pub(crate) struct HostPlaces<A: Allocator> {
 
 /// Appends a text of the section. If it follows the last text there, both are one span.
 fn push_text<A: Allocator>(spans: &mut Vec<Span, A>, text: Span) -> Result<(), AllocError>
-    ensures { OnOk result ((section : List ℕ) → All (spec.IsSpan section) spans.old.items → spec.IsSpan section text → spec.HasText section spans.old.items spans.new.items text) }
+    ensures { OnOk result ((section : List ℕ) → All (spec.IsSpan section) spans.old.items
+        → spec.IsSpan section text → spec.HasText section spans.old.items spans.new.items text) }
 {
     if let Some(last) = spans.last_mut() {
         if last.end < text.start && text.start - last.end == 1 {
@@ -45,7 +47,8 @@ fn push_text<A: Allocator>(spans: &mut Vec<Span, A>, text: Span) -> Result<(), A
     Ok(())
 }
 
-/// Gives a place to each host among the names at these offsets. A name that is its own host goes last, unless it is there already.
+/// Gives a place to each host among the names at these offsets. A name that is its own host goes
+/// last, unless it is there already.
 pub(crate) fn place_hosts<A: Allocator + Copy>(
     alloc: A,
     offsets: &[u32],

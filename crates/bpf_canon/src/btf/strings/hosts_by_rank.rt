@@ -29,9 +29,9 @@ impl InHost {
     };
 }
 
-/// Finds the hosts of the used offsets within the text of a rank, up to the last of them. Their texts
-/// get shorter, so the search for the first rank that ends with a text begins at the rank found for
-/// the offset before.
+/// Finds the hosts of the used offsets within the text of a rank, up to the last of them. Their
+/// texts get shorter, so the search for the first rank that ends with a text begins at the rank
+/// found for the offset before.
 fn find_within<A: Allocator>(
     uses: &UsedOffsets<A>,
     ranked: &RankedTexts<'_, A>,

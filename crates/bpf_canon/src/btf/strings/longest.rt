@@ -9,7 +9,8 @@ use crate::btf::suffixes::suffix_key;
 use btf_raw::text_end;
 use std::alloc::{AllocError, Allocator};
 
-/// The longest used text of each string of the section. The texts at further offsets of that string are its suffixes.
+/// The longest used text of each string of the section. The texts at further offsets of that string
+/// are its suffixes.
 pub(crate) fn longest_texts<A: Allocator>(
     alloc: A,
     section: &[u8],

@@ -1,13 +1,16 @@
 //! A set of offsets of a string section.
-ghost use Rattle.std.specs.Prelude.{◌≡◌, ◌≢◌, ◌+◌, ◌*◌, ◌/◌, ◌<◌, ◌≤◌, true, false, length, replicate, set, slice_index, IfOk};
+ghost use Rattle.std.specs.Prelude.{◌≡◌, ◌≢◌, ◌+◌, ◌*◌, ◌/◌, ◌<◌, ◌≤◌, true, false, length};
+ghost use Rattle.std.specs.Prelude.{replicate, set, slice_index, IfOk};
 ghost use Rattle.bpf_canon.specs.btf.strings.UsedOffsets.{offset_number};
 
 use std::alloc::{AllocError, Allocator};
 use std::marker::Model;
 
-/// A set of offsets of a section. Its value has a 1 for each offset of the set, and a 0 for each other one.
+/// A set of offsets of a section. Its value has a 1 for each offset of the set, and a 0 for each
+/// other one.
 ///
-/// Words of 64 bits have a bit for each offset, the lowest bit first: little memory is cleared and touched.
+/// Words of 64 bits have a bit for each offset, the lowest bit first: little memory is cleared and
+/// touched.
 #[derive(Drop)]
 pub(crate) struct OffsetSet<A: Allocator> {
     words: Vec<u64, A>,
@@ -65,7 +68,8 @@ impl<A: Allocator> OffsetSet<A> {
     /// The number of offsets that the set has in a whole word.
     pub(crate) fn count_in(&self, word: usize) -> u32
         requires { word < length self.now / 64 }
-        ensures { offset_number self.now (64 * word + 64) ≡ offset_number self.now (64 * word) + result }
+        ensures { offset_number self.now (64 * word + 64)
+            ≡ offset_number self.now (64 * word) + result }
     {
         let bits = self.words[word];
         bits.count_ones()

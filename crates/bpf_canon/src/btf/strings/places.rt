@@ -17,7 +17,8 @@ use crate::btf::strings::used_offsets::UsedOffsets;
 use std::alloc::{AllocError, Allocator};
 use std::marker::Model;
 
-/// The places of the names at offsets of a string section, in the table in which they share suffixes.
+/// The places of the names at offsets of a string section, in the table in which they share
+/// suffixes.
 #[derive(Drop)]
 pub(crate) struct SharedPlaces<'a, A: Allocator> {
     strings: &'a [u8],
@@ -38,7 +39,8 @@ impl<'a, A: Allocator> Model for SharedPlaces<'a, A> {
 
     ghost view = { λ p. record { strings = p.strings.now; offsets = p.offsets.items } };
 
-    ghost invariant = { λ p. ArePlaced p.strings.now p.offsets.items p.used p.places.items p.spans.items p.table_len };
+    ghost invariant = { λ p. ArePlaced p.strings.now p.offsets.items p.used p.places.items
+        p.spans.items p.table_len };
 }
 
 /// The place of each used offset: the place of its host plus the bytes of the host before it.
@@ -49,7 +51,8 @@ fn name_places<A: Allocator>(
 ) -> Result<Vec<u32, A>, AllocError>
     requires ranked { All (λ at. at.host < length by_rank.now) in_hosts.now }
     requires fits { All (λ at. slice_index by_rank.now at.host + at.before < 2 ^ 32) in_hosts.now }
-    ensures { IfOk result (λ places. places.items ≡ map (λ at. slice_index by_rank.now at.host + at.before) in_hosts.now) }
+    ensures { IfOk result (λ places. places.items
+        ≡ map (λ at. slice_index by_rank.now at.host + at.before) in_hosts.now) }
 {
     let mut places = Vec::with_capacity(alloc, in_hosts.len())?;
     for at in in_hosts {
@@ -70,7 +73,9 @@ fn hosts_and_places<A: Allocator + Copy>(
     requires slots { length used.now ≡ length strings.now }
     requires marked { AreMarked offsets.now used.now }
     requires room { length (shared_table (map (text_from strings.now) offsets.now)) < 2 ^ 32 }
-    ensures { IfOk result (λ (in_hosts, host_places). GivePlaces strings.now offsets.now used.now in_hosts.items host_places.by_rank.items host_places.spans.items host_places.len) }
+    ensures { IfOk result (λ (in_hosts, host_places).
+        GivePlaces strings.now offsets.now used.now in_hosts.items host_places.by_rank.items
+        host_places.spans.items host_places.len) }
 {
     let texts = longest_texts(alloc, strings, used)?;
     let ranked = RankedTexts::new(alloc, strings, texts)?;
@@ -131,7 +136,8 @@ impl<A: Allocator> SharedPlaces<'_, A> {
 
     /// Appends the table: NUL, then each host with its NUL.
     pub(crate) fn push_table<B: Allocator>(&self, out: &mut Vec<u8, B>) -> Result<(), AllocError>
-        ensures { OnOk result (out.new.items ≡ out.old.items ++ shared_table (placed_texts self.now)) }
+        ensures { OnOk result (out.new.items
+            ≡ out.old.items ++ shared_table (placed_texts self.now)) }
     {
         out.push(0)?;
         for span in &self.spans {

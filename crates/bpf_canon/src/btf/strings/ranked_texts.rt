@@ -32,7 +32,8 @@ impl<'a, A: Allocator + Copy> RankedTexts<'a, A> {
         requires keys { All (HasKey section.now) texts.items }
         ensures section { IfOk result (λ r. r.section.now ≡ section.entry.now) }
         ensures permutation { IfOk result (λ r. IsPermutation texts.items r.texts.items) }
-        ensures ranked { IfOk result (λ r. AreRanked (map (text_in section.now) r.texts.items) r.common.items r.hosts.items) }
+        ensures ranked { IfOk result (λ r.
+            AreRanked (map (text_in section.now) r.texts.items) r.common.items r.hosts.items) }
     {
         let mut texts = texts;
         sort_texts(section, &mut texts);

@@ -49,7 +49,8 @@ pub(crate) fn text_of<'a>(section: &'a [u8], text: &SectionText) -> &'a [u8]
 /// Compares the bytes. This is a function of its own, so that the comparison of keys is inlined.
 #[inline(never)]
 fn compare_texts(section: &[u8], a: &SectionText, b: &SectionText) -> Ordering
-    ensures { result ≡ tail_cmp (texts.text_in section.now a.now) (texts.text_in section.now b.now) }
+    ensures { result ≡ tail_cmp (texts.text_in section.now a.now)
+        (texts.text_in section.now b.now) }
 {
     compare_from_end(text_of(section, a), text_of(section, b))
 }

@@ -1,5 +1,6 @@
 //! The used offsets of a string section, numbered in ascending order.
-ghost use Rattle.std.specs.Prelude.{◌≡◌, ◌≢◌, ◌<◌, ◌≤◌, ◌^◌, ℕ, true, false, length, slice_index, IfOk};
+ghost use Rattle.std.specs.Prelude.{◌≡◌, ◌≢◌, ◌<◌, ◌≤◌, ◌^◌, ℕ, true, false, length, slice_index};
+ghost use Rattle.std.specs.Prelude.{IfOk};
 ghost use Rattle.bpf_canon.specs.btf.strings.UsedOffsets as spec;
 
 use crate::btf::strings::offset_set::OffsetSet;
@@ -8,7 +9,8 @@ use std::marker::Model;
 
 /// Which offsets of a section are used, and the number of each in ascending order.
 ///
-/// This takes a bit for each byte of the section, and four bytes for each 64 of them: little memory is touched.
+/// This takes a bit for each byte of the section, and four bytes for each 64 of them: little memory
+/// is touched.
 #[derive(Drop)]
 pub(crate) struct UsedOffsets<A: Allocator> {
     marks: OffsetSet<A>,

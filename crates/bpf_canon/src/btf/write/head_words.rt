@@ -39,7 +39,8 @@ pub(crate) fn kind_and_third(head: Head<'_>) -> (u8, u32)
     }
 }
 
-/// kind_flag: of a STRUCT or UNION 1 exactly if it has bit-fields, and of an ENUM, ENUM64, FWD or tag what its value says.
+/// kind_flag: of a STRUCT or UNION 1 exactly if it has bit-fields, and of an ENUM, ENUM64, FWD or
+/// tag what its value says.
 fn kind_flag(head: Head<'_>, bit_fields: bool) -> u32
     ensures is { result ≡ canonical_flag (head_value head.entry) bit_fields }
     ensures bit { result < 2 }
@@ -65,10 +66,14 @@ fn head_vlen(head: Head<'_>, count: u32) -> u32
     }
 }
 
-/// The words info and third of a record with `count` items: kind_flag, kind and vlen, and a size, a type or 0.
+/// The words info and third of a record with `count` items: kind_flag, kind and vlen, and a size, a
+/// type or 0.
 pub(crate) fn info_and_third(head: Head<'_>, count: u32, bit_fields: bool) -> (u32, u32)
     requires { count < 2 ^ 16 }
-    ensures info { result.0 ≡ spec.info (spec.kind_number (head_value head.entry)) (words.head_vlen (head_value head.entry) count) (canonical_flag (head_value head.entry) bit_fields) }
+    ensures info { result.0
+        ≡ spec.info (spec.kind_number (head_value head.entry))
+        (words.head_vlen (head_value head.entry) count) (canonical_flag
+        (head_value head.entry) bit_fields) }
     ensures third { result.1 ≡ spec.head_third (head_value head.entry) }
 {
     let (kind, third) = kind_and_third(head);

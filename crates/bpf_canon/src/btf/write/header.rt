@@ -26,15 +26,16 @@ pub(crate) fn push_words<A: Allocator>(
     out.extend_from_slice(bytes)
 }
 
-/// Appends the header of 24 bytes (btf.rst section 2): magic, version 1, flags 0, hdr_len, type_off 0, type_len, str_off = type_len
-/// and str_len.
+/// Appends the header of 24 bytes (btf.rst section 2): magic, version 1, flags 0, hdr_len, type_off
+/// 0, type_len, str_off = type_len and str_len.
 pub(crate) fn push_header<A: Allocator>(
     out: &mut Vec<u8, A>,
     order: Order,
     types_len: u32,
     strings_len: u32,
 ) -> Result<(), AllocError>
-    ensures { OnOk result (out.new.items ≡ out.old.items ++ header order 24 0 types_len types_len strings_len) }
+    ensures { OnOk result (out.new.items
+        ≡ out.old.items ++ header order 24 0 types_len types_len strings_len) }
 {
     push16(out, order, 0xeb9f)?;
     out.extend_from_slice(&[1, 0])?;

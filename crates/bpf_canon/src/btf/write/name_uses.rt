@@ -4,7 +4,8 @@ ghost use Rattle.btf_raw.specs.Frames.{vlen};
 ghost use Rattle.btf_types.specs.Reading.{tabulate};
 ghost use Rattle.bpf_canon.specs.btf.strings.FirstUses.{noted_all};
 ghost use Rattle.bpf_canon.specs.btf.write.KeptFrames.{AreTable, frames_of, frame_in, HasRecord};
-ghost use Rattle.bpf_canon.specs.btf.write.NameOffsets.{item_word, name_offsets, all_offsets, HasNamedItems};
+ghost use Rattle.bpf_canon.specs.btf.write.NameOffsets.{item_word, name_offsets, all_offsets};
+ghost use Rattle.bpf_canon.specs.btf.write.NameOffsets.{HasNamedItems};
 
 use crate::btf::strings::first_uses::FirstUses;
 use btf_raw::info::{has_item_names, item_words, kind_of, vlen_of};
@@ -24,7 +25,9 @@ fn note_items<A: Allocator + Copy>(
     requires items { HasNamedItems (frame_in sections.now pos) size count }
     requires few { size ≤ 3 }
     ensures section { uses.new.section_len ≡ uses.old.section_len }
-    ensures offsets { OnOk result (uses.new.offsets ≡ noted_all uses.old.offsets (tabulate (item_word (frame_in sections.now pos)) (vlen (frame_in sections.now pos)))) }
+    ensures offsets { OnOk result (uses.new.offsets
+        ≡ noted_all uses.old.offsets (tabulate (item_word (frame_in sections.now pos))
+        (vlen (frame_in sections.now pos)))) }
 {
     for k in 0..usize::from(count) {
         uses.note(sections.word(pos, 3 + size * k))?;
@@ -41,7 +44,8 @@ fn note_record<A: Allocator + Copy>(
     requires record { HasRecord sections.now pos }
     requires whole { uses.old.section_len ≡ length sections.now.strings.now }
     ensures section { uses.new.section_len ≡ uses.old.section_len }
-    ensures offsets { OnOk result (uses.new.offsets ≡ noted_all uses.old.offsets (name_offsets (frame_in sections.now pos))) }
+    ensures offsets { OnOk result (uses.new.offsets
+        ≡ noted_all uses.old.offsets (name_offsets (frame_in sections.now pos))) }
 {
     uses.note(sections.word(pos, 0))?;
     let info = sections.word(pos, 1);
@@ -59,7 +63,8 @@ pub(crate) fn noted_names<A: Allocator + Copy>(
 ) -> Result<FirstUses<A>, AllocError>
     requires { AreTable sections.now }
     ensures section { IfOk result (λ uses. uses.section_len ≡ length sections.now.strings.now) }
-    ensures offsets { IfOk result (λ uses. uses.offsets ≡ noted_all [] (all_offsets (frames_of sections.now))) }
+    ensures offsets { IfOk result (λ uses. uses.offsets
+        ≡ noted_all [] (all_offsets (frames_of sections.now))) }
 {
     let mut uses = FirstUses::new(alloc, sections.strings.len())?;
     for pos in sections.places {

@@ -1,10 +1,14 @@
-//! The records of a section, copied word by word with their names at other places (btf.rst section 2.2).
-ghost use Rattle.std.specs.Prelude.{◌≡◌, ◌+◌, ◌≤◌, ◌⊎◌, [], ◌∷◌, ◌++◌, OnOk, length, slice_index, take, drop, map};
+//! The records of a section, copied word by word with their names at other places (btf.rst section
+//! 2.2).
+ghost use Rattle.std.specs.Prelude.{◌≡◌, ◌+◌, ◌≤◌, ◌⊎◌, [], ◌∷◌, ◌++◌, OnOk, length, slice_index};
+ghost use Rattle.std.specs.Prelude.{take, drop, map};
 ghost use Rattle.std.specs.List.{All, Contains};
 ghost use Rattle.btf_raw.specs.Frames.{bytes_of, section_of, info_word};
 ghost use Rattle.btf_types.specs.strings.SharedNames.{shared_place};
 ghost use Rattle.bpf_canon.specs.btf.CanonicalBtf.{record_words};
-ghost use Rattle.bpf_canon.specs.btf.write.KeptFrames.{AreTable, frames_of, records_of, frame_in, record_in, HasRecord, record_info, record_items, record_tail};
+ghost use Rattle.bpf_canon.specs.btf.write.KeptFrames.{AreTable, frames_of, records_of, frame_in};
+ghost use Rattle.bpf_canon.specs.btf.write.KeptFrames.{record_in, HasRecord, record_info};
+ghost use Rattle.bpf_canon.specs.btf.write.KeptFrames.{record_items, record_tail};
 ghost use Rattle.bpf_canon.specs.btf.write.NameOffsets.{HasNamedItems, HasNotedNames, all_offsets};
 ghost use Rattle.bpf_canon.specs.btf.strings.NamesByPlace.{placed_texts};
 
@@ -15,7 +19,8 @@ use btf_raw::info::{flag_of, has_item_names, is_struct, item_words, kind_of, tai
 use btf_types::FileSections;
 use std::alloc::{AllocError, Allocator};
 
-/// The canonical word info of a record: kind_flag of a STRUCT or UNION is 0 if no member has a width.
+/// The canonical word info of a record: kind_flag of a STRUCT or UNION is 0 if no member has a
+/// width.
 fn canonical_info(sections: &FileSections<'_>, pos: usize, info: u32) -> u32
     requires record { HasRecord sections.now pos }
     requires own { info ≡ info_word (frame_in sections.now pos) }
@@ -31,7 +36,8 @@ fn canonical_info(sections: &FileSections<'_>, pos: usize, info: u32) -> u32
     }
 }
 
-/// Appends an item of `size` words, which begins at word `at` of its record: its name, and its other words.
+/// Appends an item of `size` words, which begins at word `at` of its record: its name, and its
+/// other words.
 fn push_item<A: Allocator>(
     out: &mut Vec<u8, A>,
     to: Order,
@@ -45,7 +51,8 @@ fn push_item<A: Allocator>(
     requires there { at + size ≤ length (frame_in sections.now pos) }
     requires size { (size ≡ 2) ⊎ (size ≡ 3) }
     ensures { let word = slice_index (frame_in sections.now pos) in
-        OnOk result (out.new.items ≡ out.old.items ++ bytes_of to (take size (name ∷ word (at + 1) ∷ word (at + 2) ∷ []))) }
+        OnOk result (out.new.items
+        ≡ out.old.items ++ bytes_of to (take size (name ∷ word (at + 1) ∷ word (at + 2) ∷ []))) }
 {
     let second = sections.word(pos, at + 1);
     if size == 2 {
@@ -67,7 +74,9 @@ fn push_items<A: Allocator, B: Allocator + Copy>(
     requires record { HasRecord sections.now pos }
     requires noted { HasNotedNames names.now sections.now pos }
     requires items { HasNamedItems (frame_in sections.now pos) size count }
-    ensures { OnOk result (out.new.items ≡ out.old.items ++ bytes_of to (record_items (shared_place (placed_texts names.now)) (record_in sections.now pos))) }
+    ensures { OnOk result (out.new.items
+        ≡ out.old.items ++ bytes_of to (record_items (shared_place (placed_texts names.now))
+        (record_in sections.now pos))) }
 {
     for k in 0..usize::from(count) {
         let at = 3 + size * k;
@@ -87,7 +96,8 @@ fn push_rest<A: Allocator>(
 ) -> Result<(), AllocError>
     requires record { HasRecord sections.now pos }
     requires all { 3 + count ≡ length (frame_in sections.now pos) }
-    ensures { OnOk result (out.new.items ≡ out.old.items ++ bytes_of to (drop 3 (frame_in sections.now pos))) }
+    ensures { OnOk result (out.new.items
+        ≡ out.old.items ++ bytes_of to (drop 3 (frame_in sections.now pos))) }
 {
     for k in 0..count {
         push32(out, to, sections.word(pos, 3 + k))?;
@@ -107,7 +117,9 @@ fn push_tail<A: Allocator, B: Allocator + Copy>(
     requires record { HasRecord sections.now pos }
     requires noted { HasNotedNames names.now sections.now pos }
     requires own { info ≡ info_word (frame_in sections.now pos) }
-    ensures { OnOk result (out.new.items ≡ out.old.items ++ bytes_of to (record_tail (shared_place (placed_texts names.now)) (record_in sections.now pos))) }
+    ensures { OnOk result (out.new.items
+        ≡ out.old.items ++ bytes_of to (record_tail (shared_place (placed_texts names.now))
+        (record_in sections.now pos))) }
 {
     let kind = kind_of(info);
     let vlen = vlen_of(info);
@@ -128,7 +140,9 @@ fn push_record<A: Allocator, B: Allocator + Copy>(
 ) -> Result<(), AllocError>
     requires record { HasRecord sections.now pos }
     requires noted { HasNotedNames names.now sections.now pos }
-    ensures { OnOk result (out.new.items ≡ out.old.items ++ bytes_of to (record_words (shared_place (placed_texts names.now)) (record_in sections.now pos))) }
+    ensures { OnOk result (out.new.items
+        ≡ out.old.items ++ bytes_of to (record_words (shared_place (placed_texts names.now))
+        (record_in sections.now pos))) }
 {
     let name = names.place(sections.word(pos, 0));
     let info = sections.word(pos, 1);
@@ -148,7 +162,8 @@ pub(crate) fn push_records<A: Allocator, B: Allocator + Copy>(
     requires table { AreTable sections.now }
     requires strings { names.now.strings ≡ sections.now.strings.now }
     requires noted { All (Contains names.now.offsets) (all_offsets (frames_of sections.now)) }
-    ensures { OnOk result (out.new.items ≡ out.old.items ++ section_of to (map (record_words (shared_place (placed_texts names.now)))
+    ensures { OnOk result (out.new.items
+        ≡ out.old.items ++ section_of to (map (record_words (shared_place (placed_texts names.now)))
         (records_of sections.now))) }
 {
     for pos in sections.places {

@@ -1,4 +1,5 @@
-//! From the sections that a table keeps to canonical bytes (btf.rst section 2). String offsets become places in the new table.
+//! From the sections that a table keeps to canonical bytes (btf.rst section 2). String offsets
+//! become places in the new table.
 ghost use Rattle.std.specs.Prelude.{◌≡◌, IfOk, map};
 ghost use Rattle.std.specs.List.{All, Contains};
 ghost use Rattle.btf_types.specs.Names.{kept, names};

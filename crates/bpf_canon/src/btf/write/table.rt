@@ -29,7 +29,8 @@ fn push_further_words<A: Allocator>(
     order: Order,
     head: Head<'_>,
 ) -> Result<(), AllocError>
-    ensures { OnOk result (out.new.items ≡ out.old.items ++ bytes_of order (head_tail (head_value head.entry))) }
+    ensures { OnOk result (out.new.items
+        ≡ out.old.items ++ bytes_of order (head_tail (head_value head.entry))) }
 {
     match head {
         Head::KInt {
@@ -60,7 +61,9 @@ fn push_head<A: Allocator, B: Allocator + Copy>(
 ) -> Result<(), AllocError>
     requires few { count < 2 ^ 16 }
     requires placed { IsPlaced names.now (spec.head_name (head_value head)) }
-    ensures { OnOk result (out.new.items ≡ out.old.items ++ bytes_of order (head_words (shared_among names.now) (head_value head.entry) count bit_fields)) }
+    ensures { OnOk result (out.new.items
+        ≡ out.old.items ++ bytes_of order (head_words (shared_among names.now)
+        (head_value head.entry) count bit_fields)) }
 {
     let (info, third) = info_and_third(head, count, bit_fields);
     push_words(out, order, &[names.place(head.name()), info, third])?;
@@ -76,7 +79,9 @@ fn push_item<A: Allocator, B: Allocator + Copy>(
 ) -> Result<(), AllocError>
     requires fits { MemberFits (item_value item) }
     requires placed { IsPlaced names.now (spec.item_name (item_value item)) }
-    ensures { OnOk result (out.new.items ≡ out.old.items ++ bytes_of order (words_of_item (shared_among names.now) (item_value item.entry))) }
+    ensures { OnOk result (out.new.items
+        ≡ out.old.items ++ bytes_of order (words_of_item (shared_among names.now)
+        (item_value item.entry))) }
 {
     match item {
         Item::Member {
@@ -139,7 +144,9 @@ fn push_table_record<T: TypeTable, A: Allocator, B: Allocator + Copy>(
     requires last { id ≤ length (T.meaning table.now) }
     requires good { IsGood (T.meaning table.now) }
     requires kept { names.now ≡ kept (spec.names (T.meaning table.now)) }
-    ensures { OnOk result (out.new.items ≡ out.old.items ++ bytes_of order (record_words (shared_among names.now) (record_at (T.meaning table.now) id))) }
+    ensures { OnOk result (out.new.items
+        ≡ out.old.items ++ bytes_of order (record_words (shared_among names.now)
+        (record_at (T.meaning table.now) id))) }
 {
     let count = table.item_count(id);
     let bit_fields = has_bit_fields(table, id);
@@ -158,7 +165,8 @@ fn write_types<T: TypeTable, A: Allocator + Copy>(
     table: &T,
 ) -> Result<Vec<u8, A>, AllocError>
     requires kept { names.now ≡ kept (spec.names (T.meaning table.now)) }
-    ensures { IfOk result (λ types. types.items ≡ section_of order (map (record_words (shared_among names.now)) (T.meaning table.now))) }
+    ensures { IfOk result (λ types. types.items
+        ≡ section_of order (map (record_words (shared_among names.now)) (T.meaning table.now))) }
 {
     let mut types = Vec::new(alloc);
     for index in 0..table.count() {
@@ -186,11 +194,11 @@ fn write_table<T: TypeTable, A: Allocator + Copy>(
     Ok(bytes)
 }
 
-/// The canonical bytes of a table of types in the given order (btf.rst section 2): a header of 24 bytes, the records, and the
-/// string table.
+/// The canonical bytes of a table of types in the given order (btf.rst section 2): a header of 24
+/// bytes, the records, and the string table.
 ///
-/// The string table has each name once, in the order of first use; a name that is a suffix of another one is at its end.
-/// A STRUCT or UNION has kind_flag 0 exactly if no member has a width.
+/// The string table has each name once, in the order of first use; a name that is a suffix of
+/// another one is at its end. A STRUCT or UNION has kind_flag 0 exactly if no member has a width.
 ///
 /// # Errors
 ///
