@@ -17,10 +17,6 @@ second_slot order (Some k) = word32 order 0 ++ word32 order (cast_unsigned w32 k
 unfoldable pub spelling : Order → Insn → List ℕ
 spelling order i = spelled order (fields_of i) ++ second_slot order (next_imm_of i)
 
--- the bytes are those of the instruction
-abbrev pub SpellsInsn : Order → Insn → List ℕ → Type 0
-SpellsInsn order i bytes = IsInsn i × (bytes ≡ spelling order i)
-
 -- the spellings of instructions, one after another
 abbrev pub file_of : Order → List Insn → List ℕ
 file_of order insns = flat_map (spelling order) insns

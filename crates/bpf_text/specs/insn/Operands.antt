@@ -5,6 +5,7 @@ use Rattle.std.specs.List.{slice_split, AllZip}
 use Rattle.std.specs.Str.{bytes_eq}
 use Rattle.std.specs.Str.Parse.{IsNumeral, digits_value}
 use Rattle.bpf_insn.specs.declared.insn.Reg.{Reg}
+use Rattle.bpf_insn.specs.Table.{register_number}
 
 -- a register; a number; a number that is written with its sign; a register with an offset, in brackets
 pub data LineOperand : Type 0 where
@@ -17,7 +18,7 @@ pub data LineOperand : Type 0 where
 
 -- r0 to r10
 abbrev pub register_text : Reg → List ℕ
-register_text r = codes "r" ++ decimal r.number
+register_text r = codes "r" ++ decimal (register_number r)
 
 -- a sign always, then the magnitude
 abbrev pub signed_text : ℤ → List ℕ
