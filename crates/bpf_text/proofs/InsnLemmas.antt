@@ -6,6 +6,7 @@ pub mod OperandsLemmas
 pub mod OneReading
 pub mod ListingLemmas
 pub mod FieldLemmas
+pub mod FieldLists
 pub mod OperandFieldsLemmas
 pub mod HashPlaces
 pub mod ReadOperandLemmas

@@ -69,6 +69,6 @@ operands_bound (Wide d (Number n)) = omega arith
 operands_bound _ = omega arith
 
 -- so have tokens that match a mnemonic
-pub form_bound : (word : List ℕ) (ts : List (List ℕ)) (form : IsForm word ts) → length form.2.0 ≤ 3
+pub form_bound : (word : List ℕ) (ts : List (List ℕ)) (form : IsForm word ts) → length form.3.0 ≤ 3
 form_bound word ts form =
-    omega (arith, operands_bound form.0, sym (length-map form.2.0 operand_kind) ∙ ap length form.2.1 ∙ length-map (operands_of form.0) operand_kind)
+    omega (arith, operands_bound form.0, sym (length-map form.3.0 operand_kind) ∙ ap length form.3.1 ∙ length-map (operands_of form.0) operand_kind)

@@ -3,23 +3,14 @@
 use Rattle.std.proofs.Common.{◌≡◌, ◌≢◌, ℕ, zero, suc, Bool, true, List, [], ◌∷◌, get_or, refl, sym, ap, ◌∙◌, subst}
 use Rattle.std.specs.List.{list_all}
 use Rattle.bpf_insn.specs.declared.insn.Width.TheVariants.{W32, W64}
-use Rattle.bpf_insn.specs.declared.insn.Size.{Size}
 use Rattle.bpf_insn.specs.declared.insn.Size.TheVariants as size
-use Rattle.bpf_insn.specs.declared.insn.SmallSize.{SmallSize}
 use Rattle.bpf_insn.specs.declared.insn.SmallSize.TheVariants as small
-use Rattle.bpf_insn.specs.declared.insn.AluOp.{AluOp}
 use Rattle.bpf_insn.specs.declared.insn.AluOp.TheVariants as alu
-use Rattle.bpf_insn.specs.declared.insn.BranchOp.{BranchOp}
 use Rattle.bpf_insn.specs.declared.insn.BranchOp.TheVariants as branch
-use Rattle.bpf_insn.specs.declared.insn.MovsxForm.{MovsxForm}
 use Rattle.bpf_insn.specs.declared.insn.MovsxForm.TheVariants as movsx
-use Rattle.bpf_insn.specs.declared.insn.SwapKind.{SwapKind}
 use Rattle.bpf_insn.specs.declared.insn.SwapKind.TheVariants as swap
-use Rattle.bpf_insn.specs.declared.insn.SwapBits.{SwapBits}
-use Rattle.bpf_insn.specs.declared.insn.SwapBits.TheVariants.{B16, B32, B64}
-use Rattle.bpf_insn.specs.declared.insn.AtomicOp.{AtomicOp}
+use Rattle.bpf_insn.specs.declared.insn.SwapBits.TheVariants.{B16}
 use Rattle.bpf_insn.specs.declared.insn.AtomicOp.TheVariants as atomic
-use Rattle.bpf_text.specs.declared.insn.mnemonic.WideKind.{WideKind}
 use Rattle.bpf_text.specs.declared.insn.mnemonic.WideKind.TheVariants as kind
 use Rattle.bpf_text.specs.declared.insn.mnemonic.Mnemonic.{Mnemonic}
 use Rattle.bpf_text.specs.declared.insn.mnemonic.Mnemonic.TheVariants.{Alu, Movsx, Neg, Swap, Jump, JumpLong, Branch, CallHelper, CallLocal, CallBtf, Exit, Load, LoadSigned, StoreImm, StoreReg, Atomic, Wide, PacketAbs, PacketInd}

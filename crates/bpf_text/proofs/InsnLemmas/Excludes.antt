@@ -75,10 +75,10 @@ none_there line word ts t h =
 pub excludes : (line : List ℕ) (c : LineCause) (f : List Insn) → IsCause line c → ListsLine line f → ⊥
 excludes line Char f c h = let t = some_tokens line f h in false≢true (sym (no_stray (code_of line) t.0 t.1) ∙ c)
 excludes line Word [] c h = none_there line c.0 c.1 c.2 h
-excludes line Word (i ∷ []) c h = let form = form_of line c.0 c.1 i c.2 h in c.3 (i, form.0)
+excludes line Word (i ∷ []) c h = let form = form_of line c.0 c.1 i c.2 h in c.3 (i, h.0, form.0)
 excludes line Word (i ∷ j ∷ more) c h = h
 excludes line Shape [] c h = none_there line c.0 c.1 c.2 h
-excludes line Shape (i ∷ []) c h = let form = form_of line c.0 c.1 i c.2 h in c.4 (i, form.0, (operands_of i, refl, form.1))
+excludes line Shape (i ∷ []) c h = let form = form_of line c.0 c.1 i c.2 h in c.4 (i, h.0, form.0, (operands_of i, refl, form.1))
 excludes line Shape (i ∷ j ∷ more) c h = h
 excludes line Range [] c h = none_there line c.0 c.1 c.2 h
 excludes line Range (i ∷ []) c h = c.4 i h.0 (form_of line c.0 c.1 i c.2 h)

@@ -23,7 +23,8 @@ use Rattle.bpf_text.specs.declared.insn.mnemonic.Mnemonic.TheVariants.{Alu, Movs
 use Rattle.bpf_text.specs.insn.Operands.{register, number}
 use Rattle.bpf_text.specs.insn.Table.{source_operand, operands_of}
 use Rattle.bpf_text.specs.insn.Mnemonics.{mnemonic_of}
-use Rattle.bpf_text.specs.insn.OperandFields.{plain, FieldList, register_field, imm_field, offset_field, imm64_field, source_field, address_field, last_field, field_then}
+use Rattle.bpf_text.specs.insn.OperandFields.{plain, register_field, imm_field, offset_field, imm64_field, source_field, address_field}
+use Rattle.bpf_text.proofs.InsnLemmas.FieldLists.{FieldList, last_field, field_then}
 use Rattle.bpf_text.proofs.InsnLemmas.OperandFieldsLemmas.{Makes}
 
 operand_plain : (arg : Operand) → plain (source_operand arg) ≡ source_operand arg

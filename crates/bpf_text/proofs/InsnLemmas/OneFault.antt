@@ -32,7 +32,7 @@ module _ (line word word' : List ℕ) (ts ts' : List (List ℕ)) (h : AreTokens 
       none (subst (λ (x : List ℕ). IsForm x ts) (sym same_mnemonic) (subst (λ (x : List (List ℕ)). IsForm word' x) (sym same_tokens) w))
 
 mnemonic_of_form : (word : List ℕ) (ts : List (List ℕ)) → IsForm word ts → IsMnemonic word
-mnemonic_of_form word ts form = (form.0, form.1)
+mnemonic_of_form word ts form = (form.0, form.1, form.2)
 
 one_cause : (line : List ℕ) (c d : LineCause) → IsCause line c → IsCause line d → c ≡ d
 one_cause line Char Char h k = refl

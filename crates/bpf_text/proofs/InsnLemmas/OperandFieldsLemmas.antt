@@ -1,5 +1,5 @@
 -- What reading several fields returns, and which instruction they make.
-use Rattle.std.proofs.Common.{◌≡◌, ◌≢◌, ℕ, suc, ◌<◌, List, [], ◌∷◌, map, length, get_or, refl, sym, ap, ◌∙◌, subst, Result, Ok, Err, IsErrAnd, arith}
+use Rattle.std.proofs.Common.{◌≡◌, ◌≢◌, ℕ, suc, List, [], ◌∷◌, map, length, get_or, refl, sym, ap, ◌∙◌, subst, Result, Ok, Err, IsErrAnd, arith}
 use Rattle.std.proofs.lemmas.List.{length-map}
 use Rattle.std.specs.List.{AllZip}
 use Rattle.bpf_insn.specs.declared.insn.WideOf.TheVariants as of
@@ -9,13 +9,13 @@ use Rattle.bpf_insn.specs.Table.{IsInsn}
 use Rattle.bpf_text.specs.declared.insn.fault.LineCause.{LineCause}
 use Rattle.bpf_text.specs.declared.insn.fault.LineCause.TheVariants.{Char, Word, Shape, Range}
 use Rattle.bpf_text.specs.declared.insn.mnemonic.Mnemonic.{Mnemonic}
-use Rattle.bpf_text.specs.declared.insn.mnemonic.Mnemonic.TheVariants.{Exit}
 use Rattle.bpf_text.specs.declared.insn.read_operand.ReadOperand.{ReadOperand}
 use Rattle.bpf_text.specs.insn.Operands.{LineOperand, register, number, signed, memory, operand_kind}
 use Rattle.bpf_text.specs.insn.Table.{operands_of}
 use Rattle.bpf_text.specs.insn.Mnemonics.{mnemonic_of}
 use Rattle.bpf_text.specs.insn.Numbers.{IsReadAs}
-use Rattle.bpf_text.specs.insn.OperandFields.{operand_count, plain, Field, FieldList, last_field, field_then, ReadsField, ReadsFields, FieldIsRead, FieldsAreRead, ReadsInsn, both_read}
+use Rattle.bpf_text.specs.insn.OperandFields.{operand_count, plain, Field, ReadsField, FieldIsRead, ReadsInsn, both_read}
+use Rattle.bpf_text.proofs.InsnLemmas.FieldLists.{FieldList, last_field, field_then, ReadsFields, FieldsAreRead}
 
 pub plain_kind : (a : LineOperand) → operand_kind a ≡ operand_kind (plain a)
 plain_kind (register r) = refl

@@ -5,7 +5,8 @@ use Rattle.std.specs.List.{AllZip, slice_split, list_any}
 use Rattle.bpf_insn.specs.declared.insn.Reg.{Reg}
 use Rattle.bpf_insn.specs.declared.insn.Insn.{Insn}
 use Rattle.bpf_insn.specs.declared.insn.Insn.TheVariants as insn
-use Rattle.bpf_insn.specs.declared.insn.Operand.TheVariants.{Imm}
+use Rattle.bpf_insn.specs.declared.insn.Operand.TheVariants as arg
+use Rattle.bpf_insn.specs.Table.{IsImm, IsInsn, IsOffset}
 use Rattle.bpf_insn.specs.declared.insn.WideOf.TheVariants as of
 use Rattle.bpf_text.specs.declared.insn.fault.LineCause.{LineCause}
 use Rattle.bpf_text.specs.declared.insn.fault.LineCause.TheVariants.{Char, Word, Shape, Range}
@@ -25,18 +26,24 @@ use Rattle.bpf_text.proofs.InsnLemmas.OneOperand.{one_operands}
 use Rattle.bpf_text.proofs.InsnLemmas.OneInsn.{mnemonic_text_is}
 use Rattle.bpf_text.proofs.InsnLemmas.OperandFieldsLemmas.{plain_kinds}
 
+zero_imm : IsImm (pos 0)
+zero_imm = omega arith
+
+zero_offset : IsOffset (pos 0)
+zero_offset = omega arith
+
 zero_register : Reg
 zero_register = record { number = 0; in_range = omega arith }
 
 -- each mnemonic has an instruction
 some_insn : (m : Mnemonic) → (i : Insn) × (mnemonic_of i ≡ m)
-some_insn (Alu width op) = (insn.Alu width op zero_register (Imm (pos 0)), refl)
+some_insn (Alu width op) = (insn.Alu width op zero_register (arg.Imm (pos 0)), refl)
 some_insn (Movsx form) = (insn.Movsx form zero_register zero_register, refl)
 some_insn (Neg width) = (insn.Neg width zero_register, refl)
 some_insn (Swap k bits) = (insn.Swap k bits zero_register, refl)
 some_insn Jump = (insn.Jump (pos 0), refl)
 some_insn JumpLong = (insn.JumpLong (pos 0), refl)
-some_insn (Branch width op) = (insn.Branch width op zero_register (Imm (pos 0)) (pos 0), refl)
+some_insn (Branch width op) = (insn.Branch width op zero_register (arg.Imm (pos 0)) (pos 0), refl)
 some_insn CallHelper = (insn.CallHelper (pos 0), refl)
 some_insn CallLocal = (insn.CallLocal (pos 0), refl)
 some_insn CallBtf = (insn.CallBtf (pos 0) (pos 0), refl)
@@ -55,6 +62,40 @@ some_insn (Wide kind.MapIdx) = (insn.Wide zero_register (of.MapIdx (pos 0)), ref
 some_insn (Wide kind.MapValueIdx) = (insn.Wide zero_register (of.MapValueIdx (pos 0) (pos 0)), refl)
 some_insn (PacketAbs z) = (insn.PacketAbs z (pos 0), refl)
 some_insn (PacketInd z) = (insn.PacketInd z zero_register (pos 0), refl)
+
+-- an instruction in range that has the mnemonic and the kinds of operands of another one
+abbrev InRange : Insn → Type 0
+InRange i = (j : Insn) × IsInsn j × (mnemonic_text i ≡ mnemonic_text j) × (map operand_kind (operands_of i) ≡ map operand_kind (operands_of j))
+
+-- the same instruction with zeros for its numbers
+with_zeros : (i : Insn) → InRange i
+with_zeros (insn.Alu width op d (arg.Imm k)) = (insn.Alu width op d (arg.Imm (pos 0)), zero_imm, refl, refl)
+with_zeros (insn.Alu width op d (arg.Reg r)) = (insn.Alu width op d (arg.Reg r), tt, refl, refl)
+with_zeros (insn.Movsx form d s) = (insn.Movsx form d s, tt, refl, refl)
+with_zeros (insn.Neg width d) = (insn.Neg width d, tt, refl, refl)
+with_zeros (insn.Swap k bits d) = (insn.Swap k bits d, tt, refl, refl)
+with_zeros (insn.Jump o) = (insn.Jump (pos 0), zero_offset, refl, refl)
+with_zeros (insn.JumpLong k) = (insn.JumpLong (pos 0), zero_imm, refl, refl)
+with_zeros (insn.Branch width op d (arg.Imm k) o) = (insn.Branch width op d (arg.Imm (pos 0)) (pos 0), (zero_imm, zero_offset), refl, refl)
+with_zeros (insn.Branch width op d (arg.Reg r) o) = (insn.Branch width op d (arg.Reg r) (pos 0), (tt, zero_offset), refl, refl)
+with_zeros (insn.CallHelper k) = (insn.CallHelper (pos 0), zero_imm, refl, refl)
+with_zeros (insn.CallLocal k) = (insn.CallLocal (pos 0), zero_imm, refl, refl)
+with_zeros (insn.CallBtf k o) = (insn.CallBtf (pos 0) (pos 0), (zero_imm, zero_offset), refl, refl)
+with_zeros insn.Exit = (insn.Exit, tt, refl, refl)
+with_zeros (insn.Load z d s o) = (insn.Load z d s (pos 0), zero_offset, refl, refl)
+with_zeros (insn.LoadSigned z d s o) = (insn.LoadSigned z d s (pos 0), zero_offset, refl, refl)
+with_zeros (insn.StoreImm z d o k) = (insn.StoreImm z d (pos 0) (pos 0), (zero_offset, zero_imm), refl, refl)
+with_zeros (insn.StoreReg z d s o) = (insn.StoreReg z d s (pos 0), zero_offset, refl, refl)
+with_zeros (insn.Atomic width op d s o) = (insn.Atomic width op d s (pos 0), zero_offset, refl, refl)
+with_zeros (insn.Wide d (of.Number n)) = (insn.Wide d (of.Number 0), omega arith, refl, refl)
+with_zeros (insn.Wide d (of.MapFd k)) = (insn.Wide d (of.MapFd (pos 0)), zero_imm, refl, refl)
+with_zeros (insn.Wide d (of.MapValueFd k m)) = (insn.Wide d (of.MapValueFd (pos 0) (pos 0)), (zero_imm, zero_imm), refl, refl)
+with_zeros (insn.Wide d (of.VarAddr k m)) = (insn.Wide d (of.VarAddr (pos 0) (pos 0)), (zero_imm, zero_imm), refl, refl)
+with_zeros (insn.Wide d (of.CodeAddr k)) = (insn.Wide d (of.CodeAddr (pos 0)), zero_imm, refl, refl)
+with_zeros (insn.Wide d (of.MapIdx k)) = (insn.Wide d (of.MapIdx (pos 0)), zero_imm, refl, refl)
+with_zeros (insn.Wide d (of.MapValueIdx k m)) = (insn.Wide d (of.MapValueIdx (pos 0) (pos 0)), (zero_imm, zero_imm), refl, refl)
+with_zeros (insn.PacketAbs z k) = (insn.PacketAbs z (pos 0), zero_imm, refl, refl)
+with_zeros (insn.PacketInd z s k) = (insn.PacketInd z s (pos 0), zero_imm, refl, refl)
 
 -- what tokens spell, they spell however its sign is written
 to_plain : (ts : List (List ℕ)) (a : LineOperand) → SpellsOperand ts a → SpellsOperand ts (plain a)
@@ -101,18 +142,21 @@ worded : (word : List ℕ) (m : Mnemonic) (i : Insn) → word ≡ text_of_mnemon
 worded word m i e f = e ∙ ap text_of_mnemonic (sym f) ∙ sym (mnemonic_text_is i)
 
 pub is_mnemonic : (word : List ℕ) (m : Mnemonic) → word ≡ text_of_mnemonic m → IsMnemonic word
-is_mnemonic word m e = let w = some_insn m in (w.0, worded word m w.0 e w.1)
+is_mnemonic word m e =
+    let w = some_insn m in
+    let v = with_zeros w.0 in
+    (v.0, v.1, worded word m w.0 e w.1 ∙ v.2)
 
 pub no_mnemonic : (word : List ℕ) → ((m : Mnemonic) → word ≢ text_of_mnemonic m) → ¬ IsMnemonic word
-no_mnemonic word none = λ w. none (mnemonic_of w.0) (w.1 ∙ mnemonic_text_is w.0)
+no_mnemonic word none = λ w. none (mnemonic_of w.0) (w.2 ∙ mnemonic_text_is w.0)
 
 -- too many tokens
 pub no_form_of_many : (word : List ℕ) (ts : List (List ℕ)) → 17 < length ts → ¬ IsForm word ts
-no_form_of_many word ts many = λ w. omega (arith, tokens_bound ts w.2.0 (form_bound word ts w) w.2.2)
+no_form_of_many word ts many = λ w. omega (arith, tokens_bound ts w.3.0 (form_bound word ts w) w.3.2)
 
 -- no operands of an instruction
 pub no_form : (word : List ℕ) (ts : List (List ℕ)) → ((spelled : List LineOperand) → length spelled ≤ 3 → ¬ SpellsOperands ts spelled) → ¬ IsForm word ts
-no_form word ts none = λ w. none w.2.0 (form_bound word ts w) w.2.2
+no_form word ts none = λ w. none w.3.0 (form_bound word ts w) w.3.2
 
 module _ (word : List ℕ) (ts : List (List ℕ)) (m : Mnemonic) (e : word ≡ text_of_mnemonic m) (spelled : List LineOperand) (spells : SpellsOperands ts spelled) where
   pub tokens_read : (r : Result Insn LineCause) → ReadsInsn m spelled r → ReadsTokens word ts r
@@ -121,12 +165,13 @@ module _ (word : List ℕ) (ts : List (List ℕ)) (m : Mnemonic) (e : word ≡ t
   tokens_read (Err Word) h = absurd h
   tokens_read (Err Shape) h = (
     is_mnemonic word m e,
-    (λ w. h w.0 (named word m w.0 e w.1) (kinds_of spelled w.2.0 (one_operands ts spelled w.2.0 spells w.2.2) ∙ w.2.1)),
+    (λ w. h w.0 (named word m w.0 e w.2) (kinds_of spelled w.3.0 (one_operands ts spelled w.3.0 spells w.3.2) ∙ w.3.1)),
   )
-  tokens_read (Err Range) h = (
-    (h.0.0, worded word m h.0.0 e h.0.1, (spelled, h.0.2, spells)),
-    (λ i v f. h.1 i v (named word m i e f.0) (one_operands ts spelled (operands_of i) spells f.1)),
-  )
+  tokens_read (Err Range) h =
+      let v = with_zeros h.0.0 in (
+        (v.0, v.1, worded word m h.0.0 e h.0.1 ∙ v.2, (spelled, h.0.2 ∙ v.3, spells)),
+        (λ i valid f. h.1 i valid (named word m i e f.0) (one_operands ts spelled (operands_of i) spells f.1)),
+      )
 
 -- the result for the first token and the others is the result for the line
 module _ (line word rest : List ℕ) (starts : StartsWithToken (code_of line) word rest) where

@@ -35,12 +35,13 @@ ListsLine line _ = ⊥
 
 -- some instruction has this mnemonic
 abbrev pub IsMnemonic : List ℕ → Type 0
-IsMnemonic first_token = (i : Insn) × (first_token ≡ mnemonic_text i)
+IsMnemonic first_token = (i : Insn) × IsInsn i × (first_token ≡ mnemonic_text i)
 
--- the tokens spell operands of the kinds that some instruction with this mnemonic has
+-- the tokens spell operands of the kinds that some instruction with this mnemonic has; their numbers may be of any size
 abbrev pub IsForm : List ℕ → List (List ℕ) → Type 0
 IsForm first_token tokens =
-    (i : Insn) × (first_token ≡ mnemonic_text i) × ((operands : List LineOperand) × (map operand_kind operands ≡ map operand_kind (operands_of i)) × SpellsOperands tokens operands)
+    (i : Insn) × IsInsn i × (first_token ≡ mnemonic_text i)
+    × ((operands : List LineOperand) × (map operand_kind operands ≡ map operand_kind (operands_of i)) × SpellsOperands tokens operands)
 
 -- the first of the four causes that holds
 abbrev pub IsCause : List ℕ → LineCause → Type 0

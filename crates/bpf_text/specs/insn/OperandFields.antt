@@ -1,5 +1,5 @@
 -- What reading the fields of an instruction from its operands returns.
-use Rattle.std.specs.Prelude.{◌≡◌, ◌≢◌, ◌^◌, ◌<◌, ℕ, ℤ, pos, List, [], ◌∷◌, map, Result, Ok, Err}
+use Rattle.std.specs.Prelude.{◌≡◌, ◌≢◌, ◌^◌, ◌<◌, ℕ, ℤ, pos, List, map, Result, Ok, Err}
 use Rattle.std.specs.List.{AllZip}
 use Rattle.bpf_insn.specs.declared.insn.Reg.{Reg}
 use Rattle.bpf_insn.specs.declared.insn.Operand.{Operand}
@@ -46,31 +46,12 @@ source_field = record { valid = IsOperand; written = source_operand }
 abbrev pub address_field : Field (Reg × ℤ)
 address_field = record { valid = λ x. IsOffset x.1; written = λ x. memory x.0 x.1 }
 
--- the fields of an instruction, in the order of its line
-pub record FieldList (X : Type 0) : Type 1 where
-  pub valid : X → Type 0
-  pub written : X → List LineOperand
-
-abbrev pub last_field : {X : Type 0} → Field X → FieldList X
-last_field field = record { valid = field.valid; written = λ x. field.written x ∷ [] }
-
-abbrev pub field_then : {X Y : Type 0} → Field X → FieldList Y → FieldList (X × Y)
-field_then field form = record { valid = λ x. field.valid x.0 × form.valid x.1; written = λ x. field.written x.0 ∷ form.written x.1 }
-
 -- the result for one field
 abbrev pub ReadsField : {X : Type 0} → Field X → LineOperand → Result X LineCause → Type 0
 ReadsField field a (Ok x) = field.valid x × (plain a ≡ field.written x)
 ReadsField {X} field a (Err Shape) = (x : X) → operand_kind a ≢ operand_kind (field.written x)
 ReadsField {X} field a (Err Range) = ((x : X) × (operand_kind a ≡ operand_kind (field.written x))) × ((x : X) → field.valid x → plain a ≢ field.written x)
 ReadsField field a (Err _) = ⊥
-
--- the result for all fields
-abbrev pub ReadsFields : {X : Type 0} → FieldList X → List LineOperand → Result X LineCause → Type 0
-ReadsFields form spelled (Ok x) = form.valid x × (map plain spelled ≡ form.written x)
-ReadsFields {X} form spelled (Err Shape) = (x : X) → map operand_kind spelled ≢ map operand_kind (form.written x)
-ReadsFields {X} form spelled (Err Range) =
-    ((x : X) × (map operand_kind spelled ≡ map operand_kind (form.written x))) × ((x : X) → form.valid x → map plain spelled ≢ form.written x)
-ReadsFields form spelled (Err _) = ⊥
 
 -- the result for the instruction of a mnemonic
 abbrev pub ReadsInsn : Mnemonic → List LineOperand → Result Insn LineCause → Type 0
@@ -84,9 +65,6 @@ ReadsInsn m spelled (Err _) = ⊥
 -- the results for what was read, for every operand that it means
 abbrev pub FieldIsRead : {X : Type 0} → Field X → ReadOperand → Result X LineCause → Type 0
 FieldIsRead field operand result = (a : LineOperand) → IsReadAs operand a → ReadsField field a result
-
-abbrev pub FieldsAreRead : {X : Type 0} → FieldList X → List ReadOperand → Result X LineCause → Type 0
-FieldsAreRead form operands result = (spelled : List LineOperand) → AllZip IsReadAs operands spelled → ReadsFields form spelled result
 
 abbrev pub InsnIsRead : Mnemonic → List ReadOperand → Result Insn LineCause → Type 0
 InsnIsRead m operands result = (spelled : List LineOperand) → AllZip IsReadAs operands spelled → ReadsInsn m spelled result

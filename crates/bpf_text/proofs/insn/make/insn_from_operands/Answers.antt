@@ -1,11 +1,9 @@
 use Rattle.std.proofs.Common.{refl, ap, sym, ◌∙◌, to_z, of_z}
 use Rattle.std.specs.Int.{w16, w32}
 use Rattle.std.proofs.lemmas.Int.{to_z-of_z}
-use Rattle.bpf_insn.specs.declared.insn.WideOf.TheVariants as of
 use Rattle.bpf_insn.specs.declared.insn.Insn.TheVariants as insn
-use Rattle.bpf_text.specs.declared.insn.mnemonic.WideKind.TheVariants as kind
-use Rattle.bpf_text.specs.declared.insn.mnemonic.Mnemonic.TheVariants.{Alu, Movsx, Neg, Swap, Jump, JumpLong, Branch, CallHelper, CallLocal, CallBtf, Load, LoadSigned, StoreImm, StoreReg, Atomic, Wide, PacketAbs, PacketInd}
-use Rattle.bpf_text.specs.insn.OperandFields.{register_field, imm_field, imm64_field, offset_field, source_field, address_field, operand_count}
+use Rattle.bpf_text.specs.declared.insn.mnemonic.Mnemonic.TheVariants.{Alu, Movsx, Neg, Swap, Jump, JumpLong, Branch, CallHelper, CallLocal, CallBtf, Load, LoadSigned, StoreImm, StoreReg, Atomic, PacketAbs, PacketInd}
+use Rattle.bpf_text.specs.insn.OperandFields.{register_field, imm_field, offset_field, source_field, address_field, operand_count}
 use Rattle.bpf_text.proofs.InsnLemmas.OperandFieldsLemmas.{made_ok, made_err, miscounted, only_read, two_read, three_read}
 use Rattle.bpf_text.proofs.InsnLemmas.MakeTable.{alu_form, alu_insn, alu_makes, atomic_form, atomic_insn, atomic_makes, branch_form, branch_insn, branch_makes, call_btf_form, call_btf_insn, call_btf_makes, call_helper_form, call_helper_insn, call_helper_makes, call_local_form, call_local_insn, call_local_makes, jump_form, jump_insn, jump_long_form, jump_long_insn, jump_long_makes, jump_makes, load_form, load_insn, load_makes, load_signed_form, load_signed_insn, load_signed_makes, movsx_form, movsx_insn, movsx_makes, neg_form, neg_insn, neg_makes, packet_abs_form, packet_abs_insn, packet_abs_makes, packet_ind_form, packet_ind_insn, packet_ind_makes, store_imm_form, store_imm_insn, store_imm_makes, store_register_form, store_register_insn, store_register_makes, swap_form, swap_insn, swap_makes}
 use Rattle.bpf_text.proofs.insn.make.insn_from_operands.Goals as goal

@@ -1,12 +1,12 @@
-use Rattle.std.proofs.Common.{refl, ap, sym, ◌∙◌, to_z, of_z}
-use Rattle.std.specs.Int.{w16, w32}
+use Rattle.std.proofs.Common.{refl, to_z, of_z}
+use Rattle.std.specs.Int.{w32}
 use Rattle.std.proofs.lemmas.Int.{to_z-of_z}
 use Rattle.bpf_insn.specs.declared.insn.WideOf.TheVariants as of
 use Rattle.bpf_insn.specs.declared.insn.Insn.TheVariants as insn
 use Rattle.bpf_text.specs.declared.insn.mnemonic.WideKind.TheVariants as kind
-use Rattle.bpf_text.specs.declared.insn.mnemonic.Mnemonic.TheVariants.{Alu, Movsx, Neg, Swap, Jump, JumpLong, Branch, CallHelper, CallLocal, CallBtf, Load, LoadSigned, StoreImm, StoreReg, Atomic, Wide, PacketAbs, PacketInd}
-use Rattle.bpf_text.specs.insn.OperandFields.{register_field, imm_field, imm64_field, offset_field, source_field, address_field, operand_count}
-use Rattle.bpf_text.proofs.InsnLemmas.OperandFieldsLemmas.{made_ok, made_err, miscounted, only_read, two_read, three_read}
+use Rattle.bpf_text.specs.declared.insn.mnemonic.Mnemonic.TheVariants.{Wide}
+use Rattle.bpf_text.specs.insn.OperandFields.{register_field, imm_field, imm64_field}
+use Rattle.bpf_text.proofs.InsnLemmas.OperandFieldsLemmas.{made_ok, made_err, two_read, three_read}
 use Rattle.bpf_text.proofs.InsnLemmas.MakeTable.{code_addr_form, code_addr_insn, code_addr_makes, map_fd_form, map_fd_insn, map_fd_makes, map_idx_form, map_idx_insn, map_idx_makes, map_value_fd_form, map_value_fd_insn, map_value_fd_makes, map_value_idx_form, map_value_idx_insn, map_value_idx_makes, var_addr_form, var_addr_insn, var_addr_makes, wide_number_form, wide_number_insn, wide_number_makes}
 use Rattle.bpf_text.proofs.insn.make.wide_from_operands.Goals as goal
 
