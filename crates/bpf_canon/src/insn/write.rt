@@ -1,7 +1,7 @@
 //! From instructions to their bytes.
 ghost use Rattle.std.specs.Prelude.{◌≡◌, ◌≤◌, ◌+◌, ◌++◌, length, vec_len, vec_capacity, IfOk, OnOk};
 ghost use Rattle.bpf_insn.specs.Table.{IsInsn};
-ghost use Rattle.bpf_insn.specs.Spelling.{file_of, spelling};
+ghost use Rattle.bpf_insn.specs.Spelling.{InsnFile, spelling};
 
 use bpf_insn::{Insn, Order, insn_bytes};
 use std::alloc::{AllocError, Allocator};
@@ -16,7 +16,7 @@ pub fn write_insns<A: Allocator>(
     order: Order,
     insns: &[Insn],
 ) -> Result<Vec<u8, A>, AllocError>
-    ensures { IfOk result (λ bytes. bytes.items ≡ file_of order insns.now) }
+    ensures { IfOk result (λ bytes. InsnFile order bytes.items insns.now) }
 {
     let mut bytes = Vec::new(alloc);
     for insn in insns {
