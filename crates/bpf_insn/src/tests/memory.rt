@@ -1,17 +1,30 @@
 //! Files that are decoded with each allocation refused in turn, and large ones with ample memory.
 
 use super::equal;
-use crate::{InsnError, Order, SlotCause, SlotFault, decode_insns};
+use crate::{Insn, InsnError, Order, SlotCause, SlotFault, decode_insns};
 use bumpalo::Bump;
 use std::alloc::{AllocError, Global};
 use std::test::Fail;
 
-/// Nine exits, and an instruction whose src field is at fault. A list of instructions grows for its first, its fifth
+/// Nine jumps, and an instruction whose src field is at fault. A list of instructions grows for its first, its fifth
 /// and its ninth.
 const FILE: &[u8; 80] = b"\
-    \x95\0\0\0\0\0\0\0\x95\0\0\0\0\0\0\0\x95\0\0\0\0\0\0\0\
-    \x95\0\0\0\0\0\0\0\x95\0\0\0\0\0\0\0\x95\0\0\0\0\0\0\0\
-    \x95\0\0\0\0\0\0\0\x95\0\0\0\0\0\0\0\x95\0\0\0\0\0\0\0\x04\x10\0\0\x05\0\0\0";
+    \x05\0\x01\0\0\0\0\0\x05\0\x02\0\0\0\0\0\x05\0\x03\0\0\0\0\0\
+    \x05\0\x04\0\0\0\0\0\x05\0\x05\0\0\0\0\0\x05\0\x06\0\0\0\0\0\
+    \x05\0\x07\0\0\0\0\0\x05\0\x08\0\0\0\0\0\x05\0\x09\0\0\0\0\0\x04\x10\0\0\x05\0\0\0";
+
+/// The instructions of the file.
+const JUMPS: [Insn; 9] = [
+    Insn::Jump { off: 1 },
+    Insn::Jump { off: 2 },
+    Insn::Jump { off: 3 },
+    Insn::Jump { off: 4 },
+    Insn::Jump { off: 5 },
+    Insn::Jump { off: 6 },
+    Insn::Jump { off: 7 },
+    Insn::Jump { off: 8 },
+    Insn::Jump { off: 9 },
+];
 
 /// The size of an arena in bytes.
 const ROOM: usize = 1984;
@@ -25,7 +38,7 @@ fn arena(alloc: Global, room: usize) -> Result<Bump<Global>, AllocError> {
     Ok(bump)
 }
 
-/// What a file of `count` exits returns in a room, also one of all nine, and one with the fault too.
+/// What the first bytes of the file return in a room.
 #[derive(Clone, Copy, Debug, PartialEq, Eq)]
 enum Decoded {
     /// All of its instructions.
@@ -44,7 +57,7 @@ fn outcome(bump: &Bump<Global>, bytes: &[u8]) -> Decoded {
         cause: SlotCause::Src,
     };
     match decode_insns(bump, Order::Little, bytes) {
-        Ok(insns) if insns.len() == bytes.len() / 8 => Decoded::Whole,
+        Ok(insns) if Some(insns.as_slice()) == JUMPS.get(..bytes.len() / 8) => Decoded::Whole,
         Err(InsnError::Fault(found)) if found == fault => Decoded::Faulty,
         Err(InsnError::Memory) => Decoded::Refused,
         _ => Decoded::Wrong,
@@ -171,7 +184,9 @@ pub(super) fn large(alloc: Global, last: &[u8]) -> Result<Vec<u8>, AllocError> {
 fn is_decoded(alloc: Global, row: &LargeRow) -> Result<bool, AllocError> {
     let bytes = large(alloc, row.last)?;
     Ok(match decode_insns(alloc, Order::Little, &bytes) {
-        Ok(insns) => Ok(insns.len()) == row.answer,
+        Ok(insns) => {
+            Ok(insns.len()) == row.answer && insns.iter().all(|insn| *insn == Insn::Exit)
+        }
         Err(InsnError::Fault(fault)) => Err(fault) == row.answer,
         Err(InsnError::Memory) => false,
     })

@@ -82,52 +82,67 @@ fn instructions_in_both_orders(rt: HostRuntime) -> Result<(), Fail> {
     Ok(())
 }
 
-/// The bytes of one instruction in both orders.
+/// The bytes of one instruction in both orders, and the instruction by its `Debug` text.
 #[derive(Clone, Copy, Debug)]
 struct OrderRow {
     little: &'static [u8],
     big: &'static [u8],
+    insn: &'static str,
 }
 
 static ORDERS: [OrderRow; 7] = [
     OrderRow {
         little: b"\x95\0\0\0\0\0\0\0",
         big: b"\x95\0\0\0\0\0\0\0",
+        insn: "Exit",
     },
     OrderRow {
         little: b"\xbf\x21\0\0\0\0\0\0",
         big: b"\xbf\x12\0\0\0\0\0\0",
+        insn: "Alu { width: W64, op: Mov, dst: Reg { number: 1 }, arg: Reg(Reg { number: 2 }) }",
     },
     OrderRow {
         little: b"\xb7\0\0\0\xfe\xff\xff\xff",
         big: b"\xb7\0\0\0\xff\xff\xff\xfe",
+        insn: "Alu { width: W64, op: Mov, dst: Reg { number: 0 }, arg: Imm(-2) }",
     },
     OrderRow {
         little: b"\xb4\x01\0\0\x07\0\0\0",
         big: b"\xb4\x10\0\0\0\0\0\x07",
+        insn: "Alu { width: W32, op: Mov, dst: Reg { number: 1 }, arg: Imm(7) }",
     },
     OrderRow {
         little: b"\xdb\x21\xf8\xff\xf1\0\0\0",
         big: b"\xdb\x12\xff\xf8\0\0\0\xf1",
+        insn: "Atomic { width: W64, op: Cmpxchg, dst: Reg { number: 1 }, src: Reg { number: 2 }, off: -8 }",
     },
     OrderRow {
         little: b"\x18\x01\0\0\x88\x77\x66\x55\0\0\0\0\x44\x33\x22\x11",
         big: b"\x18\x10\0\0\x55\x66\x77\x88\0\0\0\0\x11\x22\x33\x44",
+        insn: "Wide { dst: Reg { number: 1 }, what: Number(1234605616436508552) }",
     },
     OrderRow {
         little: b"\x18\x31\0\0\x03\0\0\0\0\0\0\0\x01\0\0\0",
         big: b"\x18\x13\0\0\0\0\0\x03\0\0\0\0\0\0\0\x01",
+        insn: "Wide { dst: Reg { number: 1 }, what: VarAddr(3, 1) }",
     },
 ];
 
 #[test]
 fn files_of_one_instruction_in_both_orders(rt: HostRuntime) -> Result<(), Fail> {
     for row in &ORDERS {
-        let little = decode_insns(rt.alloc(), Order::Little, row.little)?;
-        let big = decode_insns(rt.alloc(), Order::Big, row.big)?;
-        let other = in_order(rt.alloc(), Order::Big, row.little)?;
-        let right = little.len() == 1 && little == big && other.as_slice() == row.big;
-        equal(&rt, &right, &true, row);
+        let shown = format!(in rt.alloc(); "[{}]", row.insn)?;
+        for (order, bytes) in [(Order::Little, row.little), (Order::Big, row.big)] {
+            let insns = decode_insns(rt.alloc(), order, bytes)?;
+            let found = format!(in rt.alloc(); "{:?}", insns.as_slice())?;
+            let is_turned = in_order(rt.alloc(), order, row.little)?.as_slice() == bytes;
+            equal(
+                &rt,
+                &(found == shown, is_turned),
+                &(true, true),
+                &(order, row),
+            );
+        }
     }
     Ok(())
 }
@@ -162,11 +177,24 @@ const FILE: &[u8; 40] = b"\
     \x37\x01\x01\0\x03\0\0\0\xdb\x21\xf8\xff\xf1\0\0\0\x95\0\0\0\0\0\0\0\
     \x18\x01\0\0\x88\x77\x66\x55\0\0\0\0\x44\x33\x22\x11";
 
-/// The number of instructions in the first bytes of the file, if the last one is whole.
-fn whole_insns(len: usize) -> Option<usize> {
+/// The instructions in the first bytes of the file by their `Debug` text, if the last one is whole.
+fn whole_insns(len: usize) -> Option<&'static str> {
     match len {
-        40 => Some(4),
-        0 | 8 | 16 | 24 => Some(len / 8),
+        0 => Some("[]"),
+        8 => Some("[Alu { width: W64, op: Sdiv, dst: Reg { number: 1 }, arg: Imm(3) }]"),
+        16 => Some(
+            "[Alu { width: W64, op: Sdiv, dst: Reg { number: 1 }, arg: Imm(3) }, \
+            Atomic { width: W64, op: Cmpxchg, dst: Reg { number: 1 }, src: Reg { number: 2 }, off: -8 }]",
+        ),
+        24 => Some(
+            "[Alu { width: W64, op: Sdiv, dst: Reg { number: 1 }, arg: Imm(3) }, \
+            Atomic { width: W64, op: Cmpxchg, dst: Reg { number: 1 }, src: Reg { number: 2 }, off: -8 }, Exit]",
+        ),
+        40 => Some(
+            "[Alu { width: W64, op: Sdiv, dst: Reg { number: 1 }, arg: Imm(3) }, \
+            Atomic { width: W64, op: Cmpxchg, dst: Reg { number: 1 }, src: Reg { number: 2 }, off: -8 }, Exit, \
+            Wide { dst: Reg { number: 1 }, what: Number(1234605616436508552) }]",
+        ),
         _ => None,
     }
 }
@@ -193,19 +221,22 @@ fn fronts_of_a_file_that_is_cut_anywhere(rt: HostRuntime) {
 }
 
 #[test]
-fn a_file_that_is_cut_anywhere(rt: HostRuntime) {
+fn a_file_that_is_cut_anywhere(rt: HostRuntime) -> Result<(), Fail> {
     for len in 0..=FILE.len() {
-        let found = match decode_insns(rt.alloc(), Order::Little, &FILE[..len]) {
-            Ok(insns) => Ok(insns.len()),
-            Err(error) => Err(error),
-        };
         let truncated = SlotFault {
             pos: (len - len % 8) as u64,
             cause: SlotCause::Truncated,
         };
-        let answer = whole_insns(len).ok_or(InsnError::Fault(truncated));
-        equal(&rt, &found, &answer, &len);
+        let right = match decode_insns(rt.alloc(), Order::Little, &FILE[..len]) {
+            Ok(insns) => {
+                let shown = format!(in rt.alloc(); "{:?}", insns.as_slice())?;
+                whole_insns(len) == Some(shown.as_str())
+            }
+            Err(error) => whole_insns(len).is_none() && error == InsnError::Fault(truncated),
+        };
+        equal(&rt, &right, &true, &len);
     }
+    Ok(())
 }
 
 /// A file, and the place and the cause of its first fault.

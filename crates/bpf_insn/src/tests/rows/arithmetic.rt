@@ -54,6 +54,7 @@ pub(super) static ARITHMETIC: &[InsnRow] = &[
     row!(b"\xac\x24\0\0\0\0\0\0" => "Alu { width: W32, op: Xor, dst: Reg { number: 4 }, arg: Reg(Reg { number: 2 }) }", Base32),
     row!(b"\xb7\x05\0\0\x05\0\0\0" => "Alu { width: W64, op: Mov, dst: Reg { number: 5 }, arg: Imm(5) }", Base64),
     row!(b"\xb7\0\0\0\xfe\xff\xff\xff" => "Alu { width: W64, op: Mov, dst: Reg { number: 0 }, arg: Imm(-2) }", Base64),
+    row!(b"\xb4\x03\0\0\0\0\0\x80" => "Alu { width: W32, op: Mov, dst: Reg { number: 3 }, arg: Imm(-2147483648) }", Base32),
     row!(b"\xbf\x86\0\0\0\0\0\0" => "Alu { width: W64, op: Mov, dst: Reg { number: 6 }, arg: Reg(Reg { number: 8 }) }", Base64),
     row!(b"\xb4\x07\0\0\xff\xff\xff\x7f" => "Alu { width: W32, op: Mov, dst: Reg { number: 7 }, arg: Imm(2147483647) }", Base32),
     row!(b"\xbc\x38\0\0\0\0\0\0" => "Alu { width: W32, op: Mov, dst: Reg { number: 8 }, arg: Reg(Reg { number: 3 }) }", Base32),

@@ -7,6 +7,7 @@ pub(super) static JUMPS: &[InsnRow] = &[
     row!(b"\x05\0\xff\x7f\0\0\0\0" => "Jump { off: 32767 }", Base32),
     row!(b"\x05\0\0\x80\0\0\0\0" => "Jump { off: -32768 }", Base32),
     row!(b"\x05\0\0\0\0\0\0\0" => "Jump { off: 0 }", Base32),
+    row!(b"\x05\0\x05\0\0\0\0\0" => "Jump { off: 5 }", Base32),
     row!(b"\x06\0\0\0\xff\xff\xff\x7f" => "JumpLong { imm: 2147483647 }", Base32),
     row!(b"\x06\0\0\0\0\0\0\x80" => "JumpLong { imm: -2147483648 }", Base32),
     row!(b"\x15\x07\xff\x7f\0\0\0\x80" => "Branch { width: W64, op: Eq, dst: Reg { number: 7 }, arg: Imm(-2147483648), off: 32767 }", Base64),
