@@ -1,5 +1,5 @@
 -- What the calls on listings return to C.
-use Rattle.std.specs.Prelude.{◌≡◌, ℕ, List}
+use Rattle.std.specs.Prelude.{◌≡◌, ◌≤◌, ◌*◌, ℕ, List, length}
 use Rattle.bpf_words.specs.declared.Order.{Order}
 use Rattle.bpf_insn.specs.declared.insn.Insn.{Insn}
 use Rattle.bpf_insn.specs.Spelling.{InsnFile, file_of}
@@ -23,11 +23,12 @@ line_number line.Range = 4
 abbrev pub code_of_line : LineFault → FaultCode
 code_of_line f = record { cause = line_number f.cause; pos = 0; line = f.line }
 
--- the listing of the instructions of a file
+-- the listing of the instructions of a file: room of four times the length of the file is enough
 pub record IsListing (o : Order) (bytes out : List ℕ) : Type 0 where
   pub insns : List Insn
   pub file : InsnFile o bytes insns
   pub form : out ≡ listing_of insns
+  pub fits : length out ≤ 4 * length bytes
 
 abbrev pub EndsListing : ℕ → List ℕ → List ℕ → List ℕ → Ending → Type 0
 EndsListing n bytes old new = EndsInOrder n (λ o. EndsOutput (IsListing o bytes) (IsInsnCode o bytes) old new) old new
