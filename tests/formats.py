@@ -6,6 +6,7 @@ insn_judge.py and second_judge.py say of bytes what the tables of the page say. 
 vectors again with one of its fields changed, which the program is given too.
 """
 
+import itertools
 import re
 import sys
 
@@ -13,8 +14,12 @@ import insn_judge
 import second_judge
 from formats_page import fitted, numbers, table
 from program import Program, Ran, Report
+from samples import btf
 from vectors import data, rows, text
 
+# How many words follow the head of a record, and how many each item has (btf.rst section 2.2), by the kind.
+WORDS = {1: 1, 3: 3, 14: 1, 17: 1}
+ITEMS = {4: 3, 5: 3, 6: 2, 13: 2, 15: 3, 19: 3}
 # What a field of an instruction is changed to.
 REGISTERS = [*range(8), 10, 11, 15]
 OFFSETS = [0, 1, -1, 8, 16, 32]
@@ -129,13 +134,37 @@ def check_btf(report):
                 report.expect_that(fault == (int(place), cause), name, f"the page says {fault}")
 
 
+# Types 1 to 6, one of each kind that another type may need: INT, FUNC_PROTO with a parameter, STRUCT with a member, FUNC, VAR, TYPEDEF.
+# The string section has the name "a" at 1.
+TARGETS = [1, 0x0100_0000, 4, 32, 0, 0x0D00_0001, 1, 1, 1, 1, 0x0400_0001, 4, 1, 1, 0]
+TARGETS += [1, 0x0C00_0000, 2, 1, 0x0E00_0000, 1, 0, 1, 0x0800_0000, 1]
+
+
+def tried_records():
+    """Records of each kind, and of a number below and above them: with a name and without, each third word and vlen, and kind_flag."""
+    for kind, name, vlen in itertools.product(range(21), range(2), range(3)):
+        heads = [(0, third) for third in range(9)] + [(1, 4)]
+        for flag, third in heads:
+            # words of 0 after it, as many as the program takes of a good record
+            yield [name, flag << 31 | kind << 24 | vlen, third] + [0] * (WORDS.get(kind, 0) + vlen * ITEMS.get(kind, 0))
+
+
+def check_tried_records(program, report):
+    with report.group("records of each kind, by the page and by the program"):
+        for words in tried_records():
+            given = btf("little", TARGETS + words, b"\0a\0")
+            fault = second_judge.first_fault(given)
+            right = Ran(1, b"", f"fault {fault[0]} {fault[1]}\n".encode()) if fault else Ran(0, second_judge.lines(given), b"")
+            report.expect(" ".join(f"{word:x}" for word in words), program.run("btf-show", given), right)
+
+
 def main():
     if len(sys.argv) != 2:
         sys.exit(__doc__)
     program, report = Program(sys.argv[1]), Report()
     check_insns(report)
     check_btf(report)
-    for check in check_groups, check_changed_insns, check_not_covered:
+    for check in check_groups, check_changed_insns, check_not_covered, check_tried_records:
         check(program, report)
     return report.end("formats")
 
