@@ -53,8 +53,17 @@ SHORTEST, LONGEST = same(
 same("the least header", SHORTEST, *holds("ShortHeader", "fewer than N bytes"), *holds("HeaderTail", "a byte from N to hdr_len - 1 isn't 0"))
 same("the least header", SHORTEST, int(said("Header", r"^(\d+) bytes, in the file's order:")[0]))
 TYPES = same("type_len", number(fitted(HEADER["type_len"][1], r"at most ([\d,]+); may be 0")[0]), *holds("TypeLength", "over N"))
+fitted(HEADER["type_off"][1], "where the types begin, counted from hdr_len")
+fitted(HEADER["str_off"][1], "where the strings begin, counted from hdr_len")
 STRINGS = tuple(map(number, fitted(HEADER["str_len"][1], r"([\d,]+) to ([\d,]+)")))
 same("str_len", (STRINGS[0] - 1, STRINGS[1]), tuple(holds("StringLength", "N or over N")))
+
+# The phases: the first and the last cause of the header, of the string section and of framing.
+PHASES = r"The causes (\d+) to (\d+) are of the header, (\d+) and (\d+) of the string section, (\d+) to (\d+) of the framing of records"
+ENDS = "ShortHeader", "FileLength", "FirstString", "LastString", "RecordCut", "TailCut"
+same("the phases", tuple(map(int, said("Faults of BTF files", PHASES))), tuple(NUMBERS[cause] for cause in ENDS))
+OWN_NAME = tuple(map(int, said("Faults of BTF files", r"(\d+) and (\d+) are of a record's own name only\.")))
+same("the causes of a record's own name", OWN_NAME, (NUMBERS["NameMissing"], NUMBERS["NameUnwanted"]))
 
 # ---- records
 
@@ -78,6 +87,8 @@ def named(text):
     return {int(code): name for code, name in (it.split(" ") for it in text.split(", "))}
 
 
+said("Records", r"Types are numbered from 1; id 0 is void\. A record begins with name_off, info, and a size or type, 32 bits each\.")
+said("Records", r"the others 0\. The bits may be 0\.")
 INFO = r"In info, bits (\d+) to (\d+) are vlen, (\d+) to (\d+) the kind, and (\d+) is kind_flag; the others are 0\."
 INFO = [*map(int, said("Records", INFO))]
 VLEN_BITS, KIND_BITS, FLAG_BIT = Bits(*INFO[:2]), Bits(*INFO[2:4]), Bits(INFO[4], INFO[4])
@@ -90,6 +101,7 @@ INT_UNUSED = 0xFFFF_FFFF & ~(ENCODING_BITS.mask | OFFSET_IN_INT.mask | SIZE_IN_I
 LINKAGES = named(said("Records", r"Linkage is (.*?)\.")[0])
 MEMBER = r"with kind_flag 0 all of it is the bit offset, and the width is 0; with kind_flag 1 the high (\d+) bits are the width and the low (\d+)"
 WIDTH_BITS, OFFSET_BITS = map(int, said("Records", MEMBER))
+same("the bits of a member's word", 32, WIDTH_BITS + OFFSET_BITS)
 same("the words of a record in bytes", 12, *holds("RecordCut", "fewer than N bytes are left"))
 
 
@@ -115,14 +127,19 @@ class Layout(NamedTuple):
 # The cells of the last column that aren't lists of words.
 AFTER = {"one word": "encoding", "(vlen is the linkage)": ""}
 NAMES, THIRDS = {"free", "none", "needed"}, {"size", "type", "0"}
+FIELDS = {"name_off", "type", "index_type", "nelems", "offset", "size", "val", "val_lo32", "val_hi32"}
+FIELDS |= {"encoding", "linkage", "component_idx"}
 
 
 def layout(word, name, third, flag, after):
     item = re.fullmatch(r"vlen of \((.*)\)", after)
     words = tuple(filter(None, AFTER.get(after, after).split(", "))) if not item else ()
-    if name not in NAMES or third not in THIRDS:
-        raise PageError(f"{word}: its name is {name}, its third word {third}")
-    return Layout(word, name, third, flag, words, tuple(item[1].split(", ")) if item else ())
+    item = tuple(item[1].split(", ")) if item else ()
+    if name not in NAMES or third not in THIRDS or not {*words, *item} <= FIELDS:
+        raise PageError(f"{word}: its name is {name}, its third word {third}, after it are {words} and {item}")
+    if flag not in ("0", "0 or 1") and not re.fullmatch(r"1 is \w+|0 \w+, 1 \w+", flag):
+        raise PageError(f"{word}: its kind_flag is {flag}")
+    return Layout(word, name, third, flag, words, item)
 
 
 def layouts():
@@ -197,3 +214,8 @@ same("the sign of an enum", *SIGNED.values(), SIGN[0])
 same("what a FWD is", tuple(FORWARD.values()), said("Text of BTF types", r"F is `(\w+)` or `(\w+)`\."))
 same("encodings", tuple(ENCODINGS.values()), said("Text of BTF types", r"- E is `(\w+)`, `(\w+)`, `(\w+)` or `(\w+)`\."))
 same("linkages", tuple(LINKAGES.values()), said("Text of BTF types", r"L is `(\w+)`, `(\w+)` or `(\w+)`\."))
+# What is written after `=`, by the key.
+MARKS_OF_KEYS = {"encoding": "E", "flag": "B", "component": "C"}
+for line in [it for pair in LINES.values() for it in pair]:
+    for key, mark in re.findall(r"(\w+)=(\w+)", line):
+        same(f"{key} in {line}", mark, MARKS_OF_KEYS.get(key, "N"))

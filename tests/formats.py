@@ -134,19 +134,24 @@ def check_btf(report):
                 report.expect_that(fault == (int(place), cause), name, f"the page says {fault}")
 
 
-# Types 1 to 6, one of each kind that another type may need: INT, FUNC_PROTO with a parameter, STRUCT with a member, FUNC, VAR, TYPEDEF.
-# The string section has the name "a" at 1.
+# Types 1 to 7, one of each kind that another type may need: INT, FUNC_PROTO with a parameter, STRUCT with a member, FUNC, VAR, TYPEDEF,
+# UNION with a member. The string section has the name "a" at 1.
 TARGETS = [1, 0x0100_0000, 4, 32, 0, 0x0D00_0001, 1, 1, 1, 1, 0x0400_0001, 4, 1, 1, 0]
-TARGETS += [1, 0x0C00_0000, 2, 1, 0x0E00_0000, 1, 0, 1, 0x0800_0000, 1]
+TARGETS += [1, 0x0C00_0000, 2, 1, 0x0E00_0000, 1, 0, 1, 0x0800_0000, 1, 1, 0x0500_0001, 4, 1, 1, 0]
 
 
 def tried_records():
     """Records of each kind, and of a number below and above them: with a name and without, each third word and vlen, and kind_flag."""
     for kind, name, vlen in itertools.product(range(21), range(2), range(3)):
-        heads = [(0, third) for third in range(9)] + [(1, 4)]
+        heads = [(0, third) for third in range(10)] + [(1, 4)]
         for flag, third in heads:
             # words of 0 after it, as many as the program takes of a good record
             yield [name, flag << 31 | kind << 24 | vlen, third] + [0] * (WORDS.get(kind, 0) + vlen * ITEMS.get(kind, 0))
+    # tags on parts of each type, words of INT with each bit and each encoding, and bit-fields of INTs with each number of bits
+    yield from ([1, 0x1100_0000, target, part] for target in range(10) for part in (0, 1, 2, 0xFFFF_FFFF))
+    yield from ([1, 0x0100_0000, 16, word] for word in [*(1 << bit for bit in range(32)), *(code << 24 for code in range(16)), 128, 129])
+    for word in [*range(130), 1 << 16 | 8]:
+        yield [1, 0x0100_0000, 16, word, 1, 0x8400_0001, 16, 0, 8, 1 << 24]
 
 
 def check_tried_records(program, report):

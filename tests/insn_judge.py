@@ -249,6 +249,7 @@ def places():
     """The place of each cause, and that of a second slot that is cut."""
     rows = table("Faults of instruction files", "Cause", "Number", "Place, from the slot's first byte")
     found = {cause: place for cause, _, place in rows}
+    said("Faults of instruction files", rf"Fewer than {SLOT} bytes at the end are Truncated, whatever they hold\.")
     first, cut = fitted(found["Truncated"], r"(\d+); (\d+) where a wide load's second slot is cut")
     return {cause: int(place) for cause, place in (found | {"Truncated": first}).items()}, int(cut)
 
@@ -288,6 +289,7 @@ def judged(code, order):
 # ---- lines
 
 SIZE_LETTERS = {"W": "w", "H": "h", "B": "b", "DW": "dw"}
+MOVED = "the bits that are moved, and `_32` where the destination has 32"
 PARTS = re.compile(r"((?:`[^`]*` ?)+)(\(32\))? ?(.*)")
 
 
@@ -295,9 +297,12 @@ PARTS = re.compile(r"((?:`[^`]*` ?)+)(\(32\))? ?(.*)")
 def templates():
     """The words of each row of the table of lines, and its operands: of wide loads and jumps, of each word."""
     found = {}
+    narrow, wide = said("Listings", r'- "\(32\)" is the suffix `32` for (\d+) bits and nothing for (\d+)\.')
     for name, line in table("Listings", "Instruction", "Line"):
         for part in line.split("; "):
             words, both, operands = PARTS.fullmatch(part).groups()
+            if (int(narrow), int(wide)) != (32, 64) or ": " in operands and operands.partition(": ")[2] != MOVED:
+                raise PageError(f"{name}: {part!r}, and the suffix is for {narrow} bits")
             for word in words.replace("`", "").split():
                 for suffix in ["", "32"] if both else [""]:
                     found[word + suffix] = (name, operands.partition(": ")[0])

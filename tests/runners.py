@@ -370,6 +370,12 @@ def check_running_time(report):
             silently(running_time.check, "", own, "", tried)
             running_time.run = real
             report.expect_that(own.wrong == bool(wrong), f"{what} {wrong}", f"{own.wrong} were wrong")
+        real_programs, running_time.largest_programs = running_time.largest_programs, lambda: [("insn-groups", b"", b"base32\n", 1)]
+        for ran, wrong in [((0, b"base32\n", 1), 0), ((0, b"base32\n", limit + 1), 1), ((1, b"base32\n", 1), 1), ((0, b"base64\n", 1), 1)]:
+            own, running_time.run = Report(), lambda *_, ran=ran: running_time.Ran(*ran)
+            silently(running_time.check_programs, "", own)
+            report.expect_that(own.wrong == wrong, f"the largest programs, {ran}", f"{own.wrong} were wrong")
+        running_time.run, running_time.largest_programs = real, real_programs
 
 
 # ---- out_of_memory.py
@@ -387,7 +393,7 @@ def check_out_of_memory(report):
 
 def main():
     report = Report()
-    for runner, least in ("tests/run", 18), ("tests/c_interface/run", 45), ("tests/bindings", 15):
+    for runner, least in ("tests/run", 19), ("tests/c_interface/run", 52), ("tests/bindings", 18):
         check_calls(report, runner, least)
     for check in [
         check_answers,
