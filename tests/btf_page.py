@@ -50,7 +50,8 @@ SHORTEST, LONGEST = same(
     tuple(map(int, fitted(HEADER["hdr_len"][1], r"(\d+) to (\d+); header bytes past \1 are 0"))),
     tuple(holds("HeaderLength", "hdr_len under N, over N, or over the file's length")),
 )
-same("the least header", SHORTEST, *holds("ShortHeader", "fewer than N bytes"), *holds("HeaderTail", "a byte from N to hdr_len - 1 isn't 0"))
+same("the least header", SHORTEST, *holds("ShortHeader", "fewer than N bytes"))
+same("the least header", SHORTEST, *holds("HeaderTail", "a byte from N to hdr_len - 1 isn't 0"))
 same("the least header", SHORTEST, int(said("Header", r"^(\d+) bytes, in the file's order:")[0]))
 TYPES = same("type_len", number(fitted(HEADER["type_len"][1], r"at most ([\d,]+); may be 0")[0]), *holds("TypeLength", "over N"))
 fitted(HEADER["type_off"][1], "where the types begin, counted from hdr_len")
@@ -97,9 +98,12 @@ INT_WORD = r"INT's word: bits (\d+) to (\d+) encoding \((.*?)\), (\d+) to (\d+) 
 INT_WORD = said("Records", INT_WORD)
 ENCODINGS = named(INT_WORD[2])
 ENCODING_BITS, OFFSET_IN_INT, SIZE_IN_INT = (Bits(int(INT_WORD[at]), int(INT_WORD[at + 1])) for at in (0, 3, 5))
+# The masks of btf.rst section 2.2.1. A field that is a bit longer would be refused as before, by its value.
+same("the fields of INT's word", (ENCODING_BITS.mask, OFFSET_IN_INT.mask, SIZE_IN_INT.mask), (0x0F00_0000, 0x00FF_0000, 0x0000_00FF))
 INT_UNUSED = 0xFFFF_FFFF & ~(ENCODING_BITS.mask | OFFSET_IN_INT.mask | SIZE_IN_INT.mask)
 LINKAGES = named(said("Records", r"Linkage is (.*?)\.")[0])
-MEMBER = r"with kind_flag 0 all of it is the bit offset, and the width is 0; with kind_flag 1 the high (\d+) bits are the width and the low (\d+)"
+said("Records", "with kind_flag 0 all of it is the bit offset, and the width is 0;")
+MEMBER = r"with kind_flag 1 the high (\d+) bits are the width and the low (\d+) the bit offset"
 WIDTH_BITS, OFFSET_BITS = map(int, said("Records", MEMBER))
 same("the bits of a member's word", 32, WIDTH_BITS + OFFSET_BITS)
 same("the words of a record in bytes", 12, *holds("RecordCut", "fewer than N bytes are left"))

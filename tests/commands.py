@@ -10,7 +10,8 @@ ENGINES = [TOP / "crates" / "bpf_canon" / "src" / name / "run.rt" for name in ("
 
 def arms(call, kind):
     """The arms of a call of an enum: its variants, and the text of each."""
-    body = re.search(rf"^impl {kind} \{{.*?^    pub fn {call}\b.*?\{{\n        match self \{{\n(.*?)^        \}}", VERB, re.MULTILINE | re.DOTALL)[1]
+    pattern = rf"^impl {kind} \{{.*?^    pub fn {call}\b.*?\{{\n        match self \{{\n(.*?)^        \}}"
+    body = re.search(pattern, VERB, re.MULTILINE | re.DOTALL)[1]
     found = {}
     for variants, text in re.findall(r"^ *((?:\w+::\w+(?: \| )?)+) => (.*?),?$", body, re.MULTILINE):
         found |= dict.fromkeys(re.findall(r"::(\w+)", variants), text)

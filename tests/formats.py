@@ -12,7 +12,7 @@ import sys
 
 import insn_judge
 import second_judge
-from formats_page import fitted, numbers, table
+from formats_page import fitted, table
 from program import Program, Ran, Report
 from samples import btf
 from vectors import data, rows, text

@@ -67,7 +67,8 @@ def number(text):
 
 def numbers(text):
     """The numbers of a list such as "8, 16 or 32"."""
-    return [number(it) for it in fitted(text, r"(\d[\d,]*(?:(?:, | or | and )\d[\d,]*)*)")[0].replace(" or ", ", ").replace(" and ", ", ").split(", ")]
+    (found,) = fitted(text, r"(\d[\d,]*(?:(?:, | or | and )\d[\d,]*)*)")
+    return [number(it) for it in re.split(", | or | and ", found)]
 
 
 def coded(text):

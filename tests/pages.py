@@ -182,15 +182,18 @@ def check_library(report):
         allocating, header, manual = rooms_of_source(), rooms_of_header(), rooms_of_page(page)
         report.expect_that(len(allocating) == 4, "capi/bpfcanon.c", f"its blocks are {allocating}")
         for call, times in allocating.items():
-            report.expect_that(header.get(call) == times, f"{call} in bpfcanon.h", f"it says {header.get(call)} times, and the block has {times}")
-            report.expect_that(manual.get(call) == times, f"{call} in bpfcanon.3", f"it says {manual.get(call)} times, and the block has {times}")
+            for page_name, rooms in ("bpfcanon.h", header), ("bpfcanon.3", manual):
+                otherwise = f"it says {rooms.get(call)} times, and the block has {times}"
+                report.expect_that(rooms.get(call) == times, f"{call} in {page_name}", otherwise)
         others = {call for call in [*header, *manual] if call not in allocating} - {"bpfcanon_insn_front"}
         report.expect_that(not others, "other calls", f"{others} have a room")
     with report.group("the constants and fields of bpfcanon.3"):
         for struct in re.findall(r"^typedef struct (\w+)", HEADER, re.MULTILINE):
             if f"typedef struct {struct}" in page:
-                report.expect_that(fields_of(page, struct) == fields_of(HEADER, struct), struct, f"its fields are {fields_of(page, struct)}")
-        report.expect_that(fields_of(HEADER, "bpfcanon_answer") and "typedef struct bpfcanon_answer" in page, "bpfcanon_answer", "it isn't there")
+                fields = fields_of(page, struct)
+                report.expect_that(fields == fields_of(HEADER, struct), struct, f"its fields are {fields}")
+        report.expect_that(fields_of(HEADER, "bpfcanon_answer"), "bpfcanon_answer in bpfcanon.h", "it isn't there")
+        report.expect_that(fields_of(page, "bpfcanon_answer"), "bpfcanon_answer in bpfcanon.3", "it isn't there")
         enum = re.search(r"^enum bpfcanon_status \{(.*?)^\}", HEADER, re.MULTILINE | re.DOTALL)[1]
         listed = page.partition(".SS Statuses")[2].partition(".SS")[0]
         shown, right = re.findall(r"^\.TP\n\.B (\w+)$", listed, re.MULTILINE), re.findall(r"^\t(\w+) = \d", enum, re.MULTILINE)
@@ -284,7 +287,8 @@ def check_bash(report):
         report.expect_that(done.stdout == "complete -F _bpfcanon bpfcanon\n", "complete -p", f"it printed {done.stdout!r}")
         rows = [("bpfcanon ''", sorted(COMMANDS)), ("bpfcanon insn-s", ["insn-same", "insn-show"]), ("bpfcanon x", [])]
         rows += [(f"bpfcanon {command} ''", sorted(OPTIONS[command])) for command in COMMANDS]
-        rows += [(f"bpfcanon {command} {option} ''", [] if option == "--split" else ORDERS) for command in COMMANDS for option in OPTIONS[command]]
+        words = {option: [] if option == "--split" else ORDERS for option in ALL_OPTIONS}
+        rows += [(f"bpfcanon {command} {option} ''", words[option]) for command in COMMANDS for option in OPTIONS[command]]
         rows += [("bpfcanon btf-canon --to b", ["big"]), ("bpfcanon insn-same --split 8 --o", ["--order", "--other"])]
         rows += [("bpfcanon insn-canon --order big ''", ["--to"])]
         for line, words in rows:

@@ -13,7 +13,6 @@ bench/hard_inputs measures the processor time and the least address space of eac
 
 import os
 import resource
-import struct
 import subprocess
 import sys
 import tempfile

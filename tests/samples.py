@@ -100,7 +100,7 @@ INT_TEXT = b'[1] int "int" size=4 encoding=signed offset=0 bits=32\n'
 
 
 def btf(order, words, strings, tail=b"", **fields):
-    """A file of these words and strings, with the header of docs/FORMATS.md; `fields` are those of the header that differ from the right ones."""
+    """A file of these words and strings, with the header of docs/FORMATS.md, except for the fields that are given."""
     right = {
         "magic": int(page.MAGIC, 16),
         "version": page.VERSION,

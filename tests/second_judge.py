@@ -9,7 +9,7 @@ import struct
 from typing import NamedTuple
 
 import btf_page as page
-from btf_page import CODES, LAYOUTS, NUMBERS
+from btf_page import LAYOUTS, NUMBERS
 
 # What a word of the page's layouts is, where a judge asks for all of one sort.
 SORTS = {"name_off": "name", "index_type": "type"}
@@ -36,27 +36,14 @@ class Sections(NamedTuple):
     strings: bytes
 
 
-class Record(NamedTuple):
-    """The words of a record, and where it begins in the file."""
+class Record:
+    """The words of a record, and where it begins in the file. If it is cut, it has no more than the first words."""
 
-    pos: int
-    words: tuple
-
-    @property
-    def kind(self):
-        return page.KIND_BITS.of(self.words[1])
-
-    @property
-    def flag(self):
-        return page.FLAG_BIT.of(self.words[1])
-
-    @property
-    def vlen(self):
-        return page.VLEN_BITS.of(self.words[1])
-
-    @property
-    def layout(self):
-        return LAYOUTS[self.kind]
+    def __init__(self, pos, words):
+        self.pos, self.words = pos, words
+        info = words[1] if len(words) > 1 else 0
+        self.kind, self.flag, self.vlen = (bits.of(info) for bits in (page.KIND_BITS, page.FLAG_BIT, page.VLEN_BITS))
+        self.layout = LAYOUTS.get(self.kind)
 
     def place(self, word):
         return self.pos + 4 * word
