@@ -116,10 +116,11 @@ fn long_names(alloc: Global) -> Result<Vec<u8>, AllocError> {
 
 /// Whether a table has this ENUM.
 fn has_long_names<T: TypeTable>(table: &T) -> bool {
-    if table.count() != 1 || table.item_count(1) != 9 {
+    if table.count() != 1 {
         return false;
     }
-    for (k, letter) in (0_u32..9).zip(b'a'..=b'i') {
+    for k in 0..table.item_count(1) {
+        let letter = b'a'.wrapping_add((k & 0xff) as u8);
         let is_right = match table.item(1, k) {
             Item::EnumValue { name, value } => {
                 name.as_bytes() == [letter; 128].as_slice() && value == k
@@ -130,10 +131,11 @@ fn has_long_names<T: TypeTable>(table: &T) -> bool {
             return false;
         }
     }
-    match table.head(1) {
+    let is_enum = match table.head(1) {
         Head::KEnum { name, signed, size } => name.is_empty() && !signed && size == 4,
         _ => false,
-    }
+    };
+    is_enum && table.item_count(1) == 9
 }
 
 /// Whether a table is the one that is wanted.
