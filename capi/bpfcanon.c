@@ -165,7 +165,7 @@ bpfcanon_answer bpfcanon_insn_canon_new(uint32_t order, uint32_t to, const uint8
 	return write_new(&request, 1, out);
 }
 
-/* No line is longer, for 8 bytes, than "jsgt32 r10, -2147483648, -32768\n" with its 32 characters. */
+/* A listing is at most 4 times as long: "jsgt32 r10, -2147483648, -32768\n" has 32 characters for 8 bytes. */
 bpfcanon_answer bpfcanon_insn_show_new(uint32_t order, const uint8_t *bytes, size_t len,
                                        char **out)
 {
@@ -177,7 +177,7 @@ bpfcanon_answer bpfcanon_insn_show_new(uint32_t order, const uint8_t *bytes, siz
 	return answer;
 }
 
-/* No line is shorter, for 8 bytes, than "exit" or "ja+1", and only the last may lack a newline. */
+/* Instructions are at most twice as long as their listing: "exit" has 4 characters for 8 bytes. */
 bpfcanon_answer bpfcanon_insn_read_new(uint32_t to, const char *text, size_t len, uint8_t **out)
 {
 	const struct request request = { write_listed, 0, to, input(text, len), len };

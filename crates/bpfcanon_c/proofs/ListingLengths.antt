@@ -38,7 +38,7 @@ use Rattle.bpf_insn.proofs.FaultLemmas.{slot_length}
 use Rattle.bpf_insn.proofs.FileLaws.{at_least_a_slot}
 use Rattle.bpf_insn.proofs.WideLemmas.{second_length}
 use Rattle.bpf_text.specs.insn.Operands.{LineOperand, register, number, signed, memory, register_text, signed_text, operand_text}
-use Rattle.bpf_text.specs.insn.Table.{width_suffix, alu_mnemonic, branch_mnemonic, movsx_mnemonic, swap_mnemonic, bits_suffix, size_suffix, small_size_suffix, atomic_mnemonic, mnemonic_text, source_operand, operands_of}
+use Rattle.bpf_text.specs.insn.Table.{width_suffix, alu_mnemonic, branch_mnemonic, movsx_mnemonic, swap_mnemonic, bits_suffix, size_suffix, small_size_suffix, atomic_mnemonic, mnemonic_text, source_operand}
 use Rattle.bpf_text.specs.insn.Lines.{spaced, line_of, listing_of}
 
 -- ---- numbers and registers

@@ -36,11 +36,12 @@ EndsListing n bytes old new = EndsInOrder n (λ o. EndsOutput (IsListing o bytes
 abbrev pub AnswersListing : ℕ → List ℕ → List ℕ → List ℕ → Answer → Type 0
 AnswersListing n bytes old new = IsAnswerOf (EndsListing n bytes old new)
 
--- the instructions that a text lists, in a byte order
+-- the instructions that a text lists, in a byte order: room of twice the length of the text is enough
 pub record IsListed (to : Order) (text out : List ℕ) : Type 0 where
   pub insns : List Insn
   pub lists : Lists text insns
   pub form : out ≡ file_of to insns
+  pub fits : length out ≤ 2 * length text
 
 -- the numbers of the fault of a text that is no listing
 pub record IsLineCode (text : List ℕ) (code : FaultCode) : Type 0 where

@@ -1,5 +1,5 @@
 -- What was written is the listing of the instructions of the file.
-use Rattle.std.proofs.Common.{List, ℕ, ap, arith, length, ◌∙◌}
+use Rattle.std.proofs.Common.{ap, arith, length, ◌∙◌}
 use Rattle.bpf_text.specs.insn.Lines.{listing_of}
 use Rattle.bpfcanon_c.specs.Listings.{IsListing}
 use Rattle.bpfcanon_c.specs.Outputs.{IsInsnCode}
