@@ -1,24 +1,26 @@
 //! The conformance groups of a file, without a list of its instructions.
 //!
-//! An opcode alone determines the group of an instruction, but for byte swaps, whose group depends on
-//! the immediate too (RFC 9669 section 2.4). So an instruction whose opcode is settled is judged
+//! An opcode alone determines the group of an instruction, but for byte swaps, whose group depends
+//! on the immediate too (RFC 9669 section 2.4). So an instruction whose opcode is settled is judged
 //! without making its value.
 
-ghost use Rattle.std.specs.Prelude.{◌≡◌, ◌<◌, ◌≤◌, ◌↔◌, ◌⊎◌, List, length, slice_index, IfErr, IfOk, IsOk, IsTrue};
+ghost use Rattle.std.specs.Prelude.{◌≡◌, ◌<◌, ◌≤◌, ◌↔◌, ◌⊎◌, List, length, slice_index, IfErr};
+ghost use Rattle.std.specs.Prelude.{IfOk, IsOk, IsTrue};
 ghost use Rattle.bpf_insn.specs.declared.group.Group.{Group};
 ghost use Rattle.bpf_insn.specs.declared.insn.Insn.{Insn};
 ghost use Rattle.bpf_insn.specs.Table.{fields_of};
 ghost use Rattle.bpf_insn.specs.Spelling.{InsnFile, spelling};
 ghost use Rattle.bpf_insn.specs.Faults.{IsInsnFault};
-ghost use Rattle.bpf_insn.specs.FileSteps.{AddsInsnAt, AreSettled, BeginsAt, HasGroupsBefore, IsFaultAt, opcode_has_group};
+ghost use Rattle.bpf_insn.specs.FileSteps.{AddsInsnAt, AreSettled, BeginsAt, HasGroupsBefore};
+ghost use Rattle.bpf_insn.specs.FileSteps.{IsFaultAt, opcode_has_group};
 ghost use Rattle.bpf_insn.specs.Groups.{AreGroupsOf, Brings, group_of, holds};
 
 use crate::decode::{len_at, read_at};
 use crate::read::begins_plainly;
 use crate::{GroupSet, Insn, Order, SlotFault, group_of};
 
-/// Whether all instructions with the opcode of this one are in its group. Only the group of a byte swap
-/// depends on the immediate too.
+/// Whether all instructions with the opcode of this one are in its group. Only the group of a byte
+/// swap depends on the immediate too.
 fn opcode_has_group(insn: Insn) -> bool
     ensures { result ≡ opcode_has_group insn }
 {
@@ -28,7 +30,8 @@ fn opcode_has_group(insn: Insn) -> bool
     }
 }
 
-/// The groups that were found, and which opcodes are settled: they have one group, and the set has it.
+/// The groups that were found, and which opcodes are settled: they have one group, and the set has
+/// it.
 #[derive(Drop)]
 struct FoundGroups {
     set: GroupSet,
@@ -51,19 +54,23 @@ impl FoundGroups {
     fn add(&mut self, opcode: u8, insn: Insn)
         requires opcode { opcode ≡ (fields_of insn).opcode }
         requires settled { AreSettled self.old.settled self.old.set }
-        ensures added { (g : Group) → IsTrue (holds self.new.set g) ↔ (IsTrue (holds self.old.set g) ⊎ Brings (group_of insn) g) }
+        ensures added { (g : Group)
+            → IsTrue (holds self.new.set g)
+            ↔ (IsTrue (holds self.old.set g) ⊎ Brings (group_of insn) g) }
         ensures settled { AreSettled self.new.settled self.new.set }
     {
         self.set.add(group_of(insn));
         self.settled[opcode as usize] = opcode_has_group(insn);
     }
 
-    /// Adds the group of the instruction at a place of a file by reading it, and returns its length.
+    /// Adds the group of the instruction at a place of a file by reading it, and returns its
+    /// length.
     #[inline(never)]
     fn read_at(&mut self, order: Order, bytes: &[u8], pos: usize) -> Result<usize, SlotFault>
         requires pos { pos < length bytes.now }
         requires settled { AreSettled self.old.settled self.old.set }
-        ensures found { IfOk result (λ len. AddsInsnAt order bytes.now pos self.old.set self.new.set len) }
+        ensures found { IfOk result (λ len.
+            AddsInsnAt order bytes.now pos self.old.set self.new.set len) }
         ensures settled { AreSettled self.new.settled self.new.set }
         ensures fault { IfErr result (IsFaultAt order bytes.now pos) }
     {
@@ -72,7 +79,8 @@ impl FoundGroups {
         Ok(len)
     }
 
-    /// Whether a plain instruction with a settled opcode is at a place of a file. Its group is there.
+    /// Whether a plain instruction with a settled opcode is at a place of a file. Its group is
+    /// there.
     #[inline(always)]
     fn has_plain_at(&self, order: Order, bytes: &[u8], pos: usize) -> bool
         requires pos { pos < length bytes.now }
@@ -82,8 +90,8 @@ impl FoundGroups {
         self.settled[bytes[pos] as usize] && begins_plainly(order, &bytes[pos..])
     }
 
-    /// The end of the longest run of such instructions from `pos` on. Most instructions are in such runs,
-    /// and a loop of their own is the fastest.
+    /// The end of the longest run of such instructions from `pos` on. Most instructions are in such
+    /// runs, and a loop of their own is the fastest.
     #[inline(always)]
     fn plain_end(&self, order: Order, bytes: &[u8], pos: usize) -> usize
         requires pos { pos ≤ length bytes.now }
@@ -104,7 +112,8 @@ impl FoundGroups {
     fn add_at(&mut self, order: Order, bytes: &[u8], pos: usize) -> Result<usize, SlotFault>
         requires pos { pos < length bytes.now }
         requires settled { AreSettled self.old.settled self.old.set }
-        ensures found { IfOk result (λ len. AddsInsnAt order bytes.now pos self.old.set self.new.set len) }
+        ensures found { IfOk result (λ len.
+            AddsInsnAt order bytes.now pos self.old.set self.new.set len) }
         ensures settled { AreSettled self.new.settled self.new.set }
         ensures fault { IfErr result (IsFaultAt order bytes.now pos) }
     {
@@ -116,13 +125,13 @@ impl FoundGroups {
     }
 }
 
-/// The conformance groups of an instruction file (RFC 9669 section 2.4), as [`groups_of`] gives them
-/// for its instructions. It takes no memory.
+/// The conformance groups of an instruction file (RFC 9669 section 2.4), as [`groups_of`] gives
+/// them for its instructions. It takes no memory.
 ///
 /// # Errors
 ///
-/// The fault of the bytes after the longest sequence of instructions at the start of the file, if the
-/// file isn't a concatenation of instructions. Its place is counted from the file's first byte.
+/// The fault of the bytes after the longest sequence of instructions at the start of the file, if
+/// the file isn't a concatenation of instructions. Its place is counted from the file's first byte.
 ///
 /// [`groups_of`]: crate::groups_of
 pub fn groups_in(order: Order, bytes: &[u8]) -> Result<GroupSet, SlotFault>

@@ -1,9 +1,10 @@
 //! Plain instructions, which two tables recognise.
 //!
-//! In a plain instruction, each field after the opcode is either 0 or free, and registers are at most r10. So the slot
-//! is judged at once, as a number of 64 bits: a table has the bits that must be 0 for each opcode, and another one the
-//! number of registers above r10. These are not plain: wide loads, byte swaps, atomic operations, operations with an
-//! offset, and calls of anything but helpers.
+//! In a plain instruction, each field after the opcode is either 0 or free, and registers are at
+//! most r10. So the slot is judged at once, as a number of 64 bits: a table has the bits that must
+//! be 0 for each opcode, and another one the number of registers above r10. These are not plain:
+//! wide loads, byte swaps, atomic operations, operations with an offset, and calls of anything but
+//! helpers.
 
 ghost use Rattle.std.specs.Prelude.{◌≡◌, IsTrue};
 ghost use Rattle.bpf_words.specs.Slots.{AreFields, Fields, spelled};
@@ -11,10 +12,12 @@ ghost use Rattle.bpf_insn.specs.Plain.{IsPlain, registers_above, zero_bits_at};
 
 use crate::Order;
 
-/// An opcode without plain instructions. Bit 0 of a slot is set before it is judged, so this mask refuses all of them.
+/// An opcode without plain instructions. Bit 0 of a slot is set before it is judged, so this mask
+/// refuses all of them.
 const NONE: u64 = 1;
 
-/// A destination and an immediate are free; all other bits after the opcode must be 0. So for each mask below.
+/// A destination and an immediate are free; all other bits after the opcode must be 0. So for each
+/// mask below.
 const IMM_LITTLE: u64 = 0x0000_0000_ffff_f000;
 
 const IMM_BIG: u64 = 0x0000_0000_ffff_0f00;
@@ -49,8 +52,9 @@ const ID: u64 = 0x0000_0000_ffff_ff00;
 /// No field but the opcode.
 const EXIT: u64 = 0xffff_ffff_ffff_ff00;
 
-/// The bits that must be 0 for each opcode: a row for each value of its five high bits, with an entry for each class: LD,
-/// LDX, ST, STX, ALU, JMP, JMP32 and ALU64. The bits of a single register depend on the byte order.
+/// The bits that must be 0 for each opcode: a row for each value of its five high bits, with an
+/// entry for each class: LD, LDX, ST, STX, ALU, JMP, JMP32 and ALU64. The bits of a single register
+/// depend on the byte order.
 macro_rules! by_opcode {
     ($imm:expr, $imm_off:expr, $dst:expr, $src_imm:expr) => {
         [
@@ -147,7 +151,8 @@ fn registers_above_ten(registers: u8) -> u64
 /// Whether 8 bytes are a plain instruction.
 #[inline(always)]
 pub(crate) fn is_plain(order: Order, bytes: &[u8; 8]) -> bool
-    ensures { IsTrue result → (slot : Fields) × (AreFields slot × ((bytes.now ≡ spelled order slot) × IsPlain slot)) }
+    ensures { IsTrue result
+        → (slot : Fields) × (AreFields slot × ((bytes.now ≡ spelled order slot) × IsPlain slot)) }
 {
     let word = u64::from_le_bytes(*bytes) | 1;
     let set = word & zero_bits(order, bytes[0]);

@@ -1,6 +1,7 @@
 //! The whole instructions at the front of some bytes, judged without making their values.
 //!
-//! Most instructions are plain. So a run of plain ones is judged in a loop of its own, which does nothing else.
+//! Most instructions are plain. So a run of plain ones is judged in a loop of its own, which does
+//! nothing else.
 
 ghost use Rattle.std.specs.Prelude.{◌<◌, ◌/◌, length, IfSome};
 ghost use Rattle.bpf_insn.specs.FileSteps.{ReadsTo};
@@ -32,8 +33,8 @@ fn plain_len(order: Order, bytes: &[u8]) -> usize
     len
 }
 
-/// The longest sequence of whole instructions with which the bytes begin (RFC 9669 section 3): their length, their number,
-/// and the fault of what follows them.
+/// The longest sequence of whole instructions with which the bytes begin (RFC 9669 section 3):
+/// their length, their number, and the fault of what follows them.
 pub fn insn_front(order: Order, bytes: &[u8]) -> InsnFront
     ensures front { IsInsnFront order bytes.now result }
     ensures stop { IfSome result.stop (λ f. result.len < length bytes.now) }

@@ -6,5 +6,6 @@ ghost use Rattle.bpf_words.specs.Slots.{AreFields, Fields, spelled};
 
 /// No two slots share their bytes.
 pub fn slots_share_no_bytes()
-    ensures { (order : Order) (f g : Fields) → AreFields f → AreFields g → spelled order f ≡ spelled order g → f ≡ g }
+    ensures { (order : Order) (f g : Fields) → AreFields f → AreFields g
+        → spelled order f ≡ spelled order g → f ≡ g }
 {}

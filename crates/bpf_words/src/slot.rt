@@ -31,9 +31,11 @@ impl Model for Slot {
 
     ghost Value = { Fields };
 
-    ghost view = { λ s. record { opcode = s.opcode; dst = s.dst; src = s.src; off = s.off; imm = s.imm } };
+    ghost view = { λ s.
+        record { opcode = s.opcode; dst = s.dst; src = s.src; off = s.off; imm = s.imm } };
 
     ghost invariant = { λ s. (s.dst < 16) × (s.src < 16) };
 
-    ghost inverse = { λ f. record { opcode = f.opcode; dst = f.dst; src = f.src; off = f.off; imm = f.imm } };
+    ghost inverse = { λ f.
+        record { opcode = f.opcode; dst = f.dst; src = f.src; off = f.off; imm = f.imm } };
 }

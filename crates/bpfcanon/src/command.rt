@@ -20,7 +20,8 @@ fn run_line<S: ByteSource, W: ByteSink>(
     requires words { 0 < length words.now }
     requires source { S.failures source.old < u64.MAX }
     requires sink { W.failures sink.old < u64.MAX }
-    ensures { Ends (map string_bytes words.now) (source_change S.ByteSource source.old source.new) (sink_change W.ByteSink sink.old sink.new) result }
+    ensures { Ends (map string_bytes words.now) (source_change S.ByteSource source.old source.new)
+        (sink_change W.ByteSink sink.old sink.new) result }
 {
     match parse_line(alloc, words) {
         Ok(job) => run_job(alloc, job, source, sink),
@@ -36,7 +37,8 @@ fn run_line<S: ByteSource, W: ByteSink>(
 /// |---|---|---|
 /// | 0 | done, or two files are the same | none |
 /// | 1 | two files are different | none |
-/// | 1 | the input has a fault | `fault POS CAUSE`, of two files after `first: ` or `second: `; of a listing `fault line N CAUSE` |
+/// | 1 | the input has a fault | `fault POS CAUSE`; of two, after `first: ` or `second: ` |
+/// | 1 | a listing has a fault | `fault line N CAUSE` |
 /// | 1 | the input is longer than the command takes | `too long` |
 /// | 1 | the first of two files is longer than the input | `split beyond input` |
 /// | 2 | the line isn't one of the program's, or asks for help | `usage: ..` |
@@ -55,7 +57,9 @@ pub fn command<S: ByteSource, W: ByteSink, E: ByteSink>(
     requires source { S.failures source.old < u64.MAX }
     requires sink { W.failures sink.old < u64.MAX }
     requires faults { E.failures faults.old < u64.MAX }
-    ensures { EndsWith (map string_bytes words.now) (source_change S.ByteSource source.old source.new) (sink_change W.ByteSink sink.old sink.new)
+    ensures { EndsWith (map string_bytes words.now)
+        (source_change S.ByteSource source.old source.new)
+        (sink_change W.ByteSink sink.old sink.new)
         (sink_change E.ByteSink faults.old faults.new) result }
 {
     let outcome = run_line(alloc, words, source, sink);

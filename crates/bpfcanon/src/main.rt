@@ -26,7 +26,8 @@ use std::process::ExitCode;
 /// Reports that the words of the command line are missing: the line `no words`, and status 3.
 fn no_words<E: ByteSink>(faults: &mut E) -> ExitCode
     requires { E.failures faults.old < u64.MAX }
-    ensures line { TookLine (sink_change E.ByteSink faults.old faults.new) (codes "no words" ++ newline) }
+    ensures line { TookLine (sink_change E.ByteSink faults.old faults.new) (codes "no words"
+        ++ newline) }
     ensures status { exit_status result ≡ 3 }
 {
     report_line(faults, b"no words\n");
@@ -45,7 +46,9 @@ fn run_words<S: ByteSource, W: ByteSink, E: ByteSink>(
     requires source { S.failures source.old < u64.MAX }
     requires sink { W.failures sink.old < u64.MAX }
     requires faults { E.failures faults.old < u64.MAX }
-    ensures { EndsWith (map string_bytes words.now) (source_change S.ByteSource source.old source.new) (sink_change W.ByteSink sink.old sink.new)
+    ensures { EndsWith (map string_bytes words.now)
+        (source_change S.ByteSource source.old source.new)
+        (sink_change W.ByteSink sink.old sink.new)
         (sink_change E.ByteSink faults.old faults.new) (exit_status result) }
 {
     ExitCode::from(command::command(alloc, words, source, sink, faults))

@@ -4,7 +4,8 @@ ghost use Rattle.std.specs.Prelude.{◌≡◌, ◌<◌};
 ghost use Rattle.std.specs.List.{flat_map};
 ghost use Rattle.bpfcanon.specs.Devices.{sink_change};
 ghost use Rattle.bpfcanon.specs.JobEnds.{IsEndOfStop};
-ghost use Rattle.bpfcanon.specs.Outcome.{TookLine, btf_fault_line, fault_line, faulty_line, report_of, slot_fault_line, status_of};
+ghost use Rattle.bpfcanon.specs.Outcome.{TookLine, btf_fault_line, fault_line, faulty_line};
+ghost use Rattle.bpfcanon.specs.Outcome.{report_of, slot_fault_line, status_of};
 
 use bpf_canon::{ByteSink, RunCause, put_all};
 use bpf_insn::SlotFault;
@@ -87,7 +88,8 @@ impl Outcome {
 /// Writes the parts of a line in order, until a write fails.
 fn report_parts<E: ByteSink>(faults: &mut E, parts: &[&[u8]])
     requires { E.failures faults.old < u64.MAX }
-    ensures { TookLine (sink_change E.ByteSink faults.old faults.new) (flat_map (λ p. p.now) parts.now) }
+    ensures { TookLine (sink_change E.ByteSink faults.old faults.new) (flat_map (λ p.
+        p.now) parts.now) }
 {
     for part in parts {
         if put_all(faults, part).is_err() {
@@ -107,7 +109,8 @@ pub fn report_line<E: ByteSink>(faults: &mut E, line: &[u8])
 /// Writes the line of a fault at a byte. `file` names the file where there are two.
 fn report_fault<E: ByteSink>(faults: &mut E, file: &'static [u8], place: u64, cause: &'static [u8])
     requires { E.failures faults.old < u64.MAX }
-    ensures { TookLine (sink_change E.ByteSink faults.old faults.new) (fault_line file.now place cause.now) }
+    ensures { TookLine (sink_change E.ByteSink faults.old faults.new)
+        (fault_line file.now place cause.now) }
 {
     let mut buffer = Buffer::new();
     let digits = buffer.format(place).as_bytes();
@@ -118,7 +121,8 @@ fn report_fault<E: ByteSink>(faults: &mut E, file: &'static [u8], place: u64, ca
 /// Writes the line of a fault of instructions.
 fn report_slot_fault<E: ByteSink>(faults: &mut E, file: &'static [u8], fault: SlotFault)
     requires { E.failures faults.old < u64.MAX }
-    ensures { TookLine (sink_change E.ByteSink faults.old faults.new) (slot_fault_line file.now fault) }
+    ensures { TookLine (sink_change E.ByteSink faults.old faults.new)
+        (slot_fault_line file.now fault) }
 {
     report_fault(faults, file, fault.pos, fault.cause.name().as_bytes());
 }
@@ -126,7 +130,8 @@ fn report_slot_fault<E: ByteSink>(faults: &mut E, file: &'static [u8], fault: Sl
 /// Writes the line of a fault of BTF.
 fn report_btf_fault<E: ByteSink>(faults: &mut E, file: &'static [u8], fault: BtfFault)
     requires { E.failures faults.old < u64.MAX }
-    ensures { TookLine (sink_change E.ByteSink faults.old faults.new) (btf_fault_line file.now fault) }
+    ensures { TookLine (sink_change E.ByteSink faults.old faults.new)
+        (btf_fault_line file.now fault) }
 {
     report_fault(faults, file, fault.pos, fault.cause.name().as_bytes());
 }

@@ -54,7 +54,8 @@ pub fn run_job<A: Allocator + Copy, S: ByteSource, W: ByteSink>(
 ) -> Outcome
     requires source { S.failures source.old < u64.MAX }
     requires sink { W.failures sink.old < u64.MAX }
-    ensures { EndsJob job (source_change S.ByteSource source.old source.new) (sink_change W.ByteSink sink.old sink.new) result }
+    ensures { EndsJob job (source_change S.ByteSource source.old source.new)
+        (sink_change W.ByteSink sink.old sink.new) result }
 {
     match job.verb {
         Verb::InsnCanon => match run_insns(alloc, source, sink, job.order, job.to) {

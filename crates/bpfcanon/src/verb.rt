@@ -101,7 +101,8 @@ impl Verb {
         }
     }
 
-    /// The longest input of the command in bytes: the limit of the engines, and twice that for two files.
+    /// The longest input of the command in bytes: the limit of the engines, and twice that for two
+    /// files.
     pub fn limit(self) -> u64
         ensures { result ≡ limit_of self }
     {

@@ -1,6 +1,7 @@
 //! How a call ends, and the answer to C of each ending.
 ghost use Rattle.std.specs.Prelude.{◌≡◌};
-ghost use Rattle.bpfcanon_c.specs.Answers.{answer_of, bare_answer, code_of_btf, code_of_slot, fault_answer, names_order, FillsRoom};
+ghost use Rattle.bpfcanon_c.specs.Answers.{answer_of, bare_answer, code_of_btf, code_of_slot};
+ghost use Rattle.bpfcanon_c.specs.Answers.{fault_answer, names_order, FillsRoom};
 
 use bpf_insn::{Order, SlotFault};
 use btf_raw::BtfFault;
@@ -41,12 +42,13 @@ pub enum Ending {
     Order,
 }
 
-/// What a call returns to C: `bpfcanon_answer` of `capi/bpfcanon.h`, field by field. A field that the ending does not set is 0.
+/// What a call returns to C: `bpfcanon_answer` of `capi/bpfcanon.h`, field by field. A field that
+/// the ending does not set is 0.
 #[repr(C)]
 #[derive(Clone, Copy)]
 pub struct Answer {
-    /// 0 done or the same, 1 different, 2 a fault of the input or of the first of two, 3 a fault of the second, 4 out of
-    /// memory, 5 the room is too short, 6 there is no such byte order.
+    /// 0 done or the same, 1 different, 2 a fault of the input or of the first of two, 3 a fault of
+    /// the second, 4 out of memory, 5 the room is too short, 6 there is no such byte order.
     pub status: u32,
     /// The number of the fault's cause.
     pub cause: u32,
@@ -54,7 +56,8 @@ pub struct Answer {
     pub pos: u64,
     /// The line of a fault of a listing, from 1.
     pub line: u64,
-    /// The length in bytes of the whole instructions that were read, of the call on the front of a stream alone.
+    /// The length in bytes of the whole instructions that were read, of the call on the front of a
+    /// stream alone.
     pub read: usize,
     /// The length in bytes of the output that was written.
     pub written: usize,

@@ -1,6 +1,7 @@
 //! The calls on BTF.
 ghost use Rattle.std.specs.Prelude.{◌≡◌};
-ghost use Rattle.bpfcanon_c.specs.Endings.{IsCanonicalBtf, EndsBtf, AnswersBtf, EndsBtfCheck, AnswersBtfCheck, EndsSameBtf, AnswersSameBtf};
+ghost use Rattle.bpfcanon_c.specs.Endings.{IsCanonicalBtf, EndsBtf, AnswersBtf, EndsBtfCheck};
+ghost use Rattle.bpfcanon_c.specs.Endings.{AnswersBtfCheck, EndsSameBtf, AnswersSameBtf};
 ghost use Rattle.bpfcanon_c.specs.Outputs.{IsBtfCode, EndsOutput};
 
 use crate::answer::{Answer, Ending, btf_code, order_from, put, report};
@@ -9,7 +10,8 @@ use bpf_insn::Order;
 use btf_types::{BtfError, BtfView, TypeTable};
 use std::alloc::Global;
 
-/// Writes the canonical form of a BTF file in the byte order `to` at the front of `out`. It is no longer than the file.
+/// Writes the canonical form of a BTF file in the byte order `to` at the front of `out`. It is no
+/// longer than the file.
 #[unsafe(no_mangle)]
 pub extern "C" fn bpfcanon_proved_btf_canon(
     alloc: Global,
@@ -27,7 +29,8 @@ pub extern "C" fn bpfcanon_proved_btf_canon(
 
 /// The canonical form in a byte order.
 fn btf_in(alloc: Global, to: Order, bytes: &[u8], out: &mut [u8]) -> Ending
-    ensures { EndsOutput (IsCanonicalBtf to bytes.now) (IsBtfCode bytes.now) out.old out.new result }
+    ensures { EndsOutput (IsCanonicalBtf to bytes.now) (IsBtfCode bytes.now)
+        out.old out.new result }
 {
     match canonical_in(alloc, to, bytes) {
         Ok(canon) => put(&canon, out),

@@ -12,9 +12,11 @@ use std::alloc::Global;
 /// How the call ended.
 #[derive(Clone, Copy, Debug, PartialEq, Eq)]
 pub enum FrontEnding {
-    /// The whole instructions have this length in bytes, and so has the output. The bytes after them may begin an instruction.
+    /// The whole instructions have this length in bytes, and so has the output. The bytes after
+    /// them may begin an instruction.
     Sound(usize),
-    /// The instructions before a fault that no more bytes can repair have this length in bytes, and so has the output.
+    /// The instructions before a fault that no more bytes can repair have this length in bytes, and
+    /// so has the output.
     Faulty(usize, FaultCode),
     /// Out of memory.
     Memory,
@@ -24,8 +26,9 @@ pub enum FrontEnding {
     Order,
 }
 
-/// Writes the whole instructions at the front of some bytes in the order `to`. A caller that gets a stream in pieces gives the
-/// bytes that were not read, fewer than 16, again in front of the next piece.
+/// Writes the whole instructions at the front of some bytes in the order `to`. A caller that gets a
+/// stream in pieces gives the bytes that were not read, fewer than 16, again in front of the next
+/// piece.
 #[unsafe(no_mangle)]
 pub extern "C" fn bpfcanon_proved_insn_front(
     alloc: Global,

@@ -1,8 +1,10 @@
 //! The calls on instruction files.
 ghost use Rattle.std.specs.Prelude.{◌≡◌};
 ghost use Rattle.bpf_insn.specs.Groups.{holds};
-ghost use Rattle.bpfcanon_c.specs.Endings.{IsRecoded, EndsInsns, AnswersInsns, EndsSameInsnsIn, AnswersSameInsns};
-ghost use Rattle.bpfcanon_c.specs.GroupMasks.{weighed, mask, EndsGroups, EndsGroupsIn, AnswersGroups};
+ghost use Rattle.bpfcanon_c.specs.Endings.{IsRecoded, EndsInsns, AnswersInsns, EndsSameInsnsIn};
+ghost use Rattle.bpfcanon_c.specs.Endings.{AnswersSameInsns};
+ghost use Rattle.bpfcanon_c.specs.GroupMasks.{weighed, mask, EndsGroups, EndsGroupsIn};
+ghost use Rattle.bpfcanon_c.specs.GroupMasks.{AnswersGroups};
 ghost use Rattle.bpfcanon_c.specs.Outputs.{IsInsnCode, EndsOutput};
 
 use crate::answer::{Answer, Ending, order_from, put, report, slot_code};
@@ -10,8 +12,8 @@ use bpf_canon::{SideError, recode_insns, same_insns};
 use bpf_insn::{Group, GroupSet, InsnError, Order, groups_in};
 use std::alloc::Global;
 
-/// Writes the instructions of a file of the byte order `order` in the byte order `to` at the front of `out`, in the length of
-/// the file. Little-endian bytes are canonical.
+/// Writes the instructions of a file of the byte order `order` in the byte order `to` at the front
+/// of `out`, in the length of the file. Little-endian bytes are canonical.
 #[unsafe(no_mangle)]
 pub extern "C" fn bpfcanon_proved_insn_canon(
     alloc: Global,
@@ -33,7 +35,8 @@ pub extern "C" fn bpfcanon_proved_insn_canon(
 
 /// The instructions of a file in two byte orders.
 fn insns_in(alloc: Global, order: Order, to: Order, bytes: &[u8], out: &mut [u8]) -> Ending
-    ensures { EndsOutput (IsRecoded order to bytes.now) (IsInsnCode order bytes.now) out.old out.new result }
+    ensures { EndsOutput (IsRecoded order to bytes.now) (IsInsnCode order bytes.now)
+        out.old out.new result }
 {
     match recode_insns(alloc, order, to, bytes) {
         Ok(written) => put(&written, out),
@@ -42,8 +45,9 @@ fn insns_in(alloc: Global, order: Order, to: Order, bytes: &[u8], out: &mut [u8]
     }
 }
 
-/// The conformance groups (RFC 9669 section 2.4) that the instructions of a file need, as a mask of 7 bits from the lowest:
-/// base32, base64, atomic32, atomic64, divmul32, divmul64, packet. It takes no memory.
+/// The conformance groups (RFC 9669 section 2.4) that the instructions of a file need, as a mask of
+/// 7 bits from the lowest: base32, base64, atomic32, atomic64, divmul32, divmul64, packet. It takes
+/// no memory.
 #[unsafe(no_mangle)]
 pub extern "C" fn bpfcanon_proved_insn_groups(order: u32, bytes: &[u8]) -> Answer
     ensures { AnswersGroups order bytes.now result }

@@ -1,6 +1,7 @@
 //! The calls on listings of instructions.
 ghost use Rattle.std.specs.Prelude.{◌≡◌};
-ghost use Rattle.bpfcanon_c.specs.Listings.{code_of_line, IsLineCode, IsListing, EndsListing, AnswersListing, IsListed, EndsListed, AnswersListed};
+ghost use Rattle.bpfcanon_c.specs.Listings.{code_of_line, IsLineCode, IsListing, EndsListing};
+ghost use Rattle.bpfcanon_c.specs.Listings.{AnswersListing, IsListed, EndsListed, AnswersListed};
 ghost use Rattle.bpfcanon_c.specs.Outputs.{IsInsnCode, EndsOutput};
 
 use crate::answer::{Answer, Ending, FaultCode, order_from, put, report, slot_code};
@@ -8,8 +9,8 @@ use bpf_insn::{InsnError, Order, decode_insns};
 use bpf_text::{LineFault, ListError, listing, read_listing_bytes};
 use std::alloc::Global;
 
-/// Writes the listing of the instructions of a file of the byte order `order` at the front of `out`: a line for each, with a
-/// newline. A listing is longer than its file.
+/// Writes the listing of the instructions of a file of the byte order `order` at the front of
+/// `out`: a line for each, with a newline. A listing is longer than its file.
 #[unsafe(no_mangle)]
 pub extern "C" fn bpfcanon_proved_insn_show(
     alloc: Global,
@@ -27,7 +28,8 @@ pub extern "C" fn bpfcanon_proved_insn_show(
 
 /// The listing of a file.
 fn listing_in(alloc: Global, order: Order, bytes: &[u8], out: &mut [u8]) -> Ending
-    ensures { EndsOutput (IsListing order bytes.now) (IsInsnCode order bytes.now) out.old out.new result }
+    ensures { EndsOutput (IsListing order bytes.now) (IsInsnCode order bytes.now)
+        out.old out.new result }
 {
     match decode_insns(alloc, order, bytes) {
         Ok(insns) => match listing(alloc, &insns) {
@@ -39,7 +41,8 @@ fn listing_in(alloc: Global, order: Order, bytes: &[u8], out: &mut [u8]) -> Endi
     }
 }
 
-/// Writes the instructions of a listing in the byte order `to` at the front of `out`. A fault has the number of its line.
+/// Writes the instructions of a listing in the byte order `to` at the front of `out`. A fault has
+/// the number of its line.
 #[unsafe(no_mangle)]
 pub extern "C" fn bpfcanon_proved_insn_read(
     alloc: Global,

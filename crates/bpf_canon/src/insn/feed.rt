@@ -116,7 +116,8 @@ impl InsnFeed {
         // An empty piece takes no memory.
         ensures empty { length piece.now ≡ 0 → IsNone self.old.fault → IsOk result }
 
-        ensures bound { vec_len out.new ≤ vec_len out.old + (length self.old.held + length piece.now) }
+        ensures bound { vec_len out.new
+            ≤ vec_len out.old + (length self.old.held + length piece.now) }
     {
         match self.fault {
             Some(fault) => return Err(InsnError::Fault(fault)),
@@ -161,7 +162,8 @@ impl InsnFeed {
     fn advance<A: Allocator>(&mut self, piece: &[u8], out: &mut Vec<u8, A>)
         requires fits { self.old.fed + length piece.now ≤ u64.MAX }
         requires sound { self.old.fault ≡ None }
-        requires room { vec_len out.old + length self.old.held + length piece.now ≤ vec_capacity out.old }
+        requires room { vec_len out.old + length self.old.held + length piece.now
+            ≤ vec_capacity out.old }
         ensures { Advances self.old self.new piece.now out.old.items out.new.items }
     {
         let held = &self.held[..self.held_len];

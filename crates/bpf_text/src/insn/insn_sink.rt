@@ -23,7 +23,8 @@ pub(crate) trait InsnSink {
 
     ghost takes_none: { (s : Self) → takes s [] s };
 
-    ghost takes_both: { (s t u : Self) (xs ys : List Insn) → takes s xs t → takes t ys u → takes s (xs ++ ys) u };
+    ghost takes_both: { (s t u : Self) (xs ys : List Insn) → takes s xs t → takes t ys u
+        → takes s (xs ++ ys) u };
 }
 
 impl<A: Allocator> InsnSink for Vec<Insn, A> {
@@ -36,7 +37,8 @@ impl<A: Allocator> InsnSink for Vec<Insn, A> {
 
     ghost takes_none = { λ s. sym (append-nil s.items) };
 
-    ghost takes_both = { λ s t u xs ys first second. second ∙ ap (λ items. items ++ ys) first ∙ append_assoc s.items xs ys };
+    ghost takes_both = { λ s t u xs ys first second.
+        second ∙ ap (λ items. items ++ ys) first ∙ append_assoc s.items xs ys };
 }
 
 /// Takes the instruction of a line, if it has one.

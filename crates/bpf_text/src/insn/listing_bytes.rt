@@ -23,7 +23,8 @@ struct InsnBytes<A: Allocator> {
 }
 
 impl<A: Allocator> InsnSink for InsnBytes<A> {
-    ghost takes = { λ s insns t. (t.to ≡ s.to) × (t.bytes.items ≡ s.bytes.items ++ file_of s.to insns) };
+    ghost takes = { λ s insns t. (t.to ≡ s.to)
+        × (t.bytes.items ≡ s.bytes.items ++ file_of s.to insns) };
 
     fn take(&mut self, insn: Insn) -> Result<(), AllocError> {
         // The pair isn't destructured, since that would copy the bytes once more.
@@ -47,13 +48,14 @@ impl<A: Allocator> InsnSink for InsnBytes<A> {
     ) };
 }
 
-/// The bytes of the instructions of a listing, one after the other, in the byte order `to` (RFC 9669 section 3). The
-/// instructions are those of [`crate::read_listing`], but they aren't kept: only the bytes that are returned take memory.
+/// The bytes of the instructions of a listing, one after the other, in the byte order `to` (RFC
+/// 9669 section 3). The instructions are those of [`crate::read_listing`], but they aren't kept:
+/// only the bytes that are returned take memory.
 ///
 /// # Errors
 ///
-/// `Fault` with the first faulty line, counted from 1, and the first cause that holds of it. `Memory` if the bytes couldn't
-/// grow.
+/// `Fault` with the first faulty line, counted from 1, and the first cause that holds of it.
+/// `Memory` if the bytes couldn't grow.
 pub fn read_listing_bytes<A: Allocator>(
     alloc: A,
     to: Order,

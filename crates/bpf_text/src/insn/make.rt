@@ -96,7 +96,8 @@ fn wide_from_operands(kind: WideKind, operands: &[ReadOperand]) -> Result<Insn, 
     }
 }
 
-/// The instruction with this mnemonic and these operands. `Shape` comes before `Range`, whichever operand comes first.
+/// The instruction with this mnemonic and these operands. `Shape` comes before `Range`, whichever
+/// operand comes first.
 pub(crate) fn insn_from_operands(
     mnemonic: Mnemonic,
     operands: &[ReadOperand],

@@ -41,7 +41,8 @@ static PLACES: [u8; 1024] = [
     0, 0, 0, 0, 0, 0, 0, 0, 43, 0, 0, 96, 0, 0, 0, 0, 0, 0, 0, 0, 0,
 ];
 
-/// The hash of a token. No two mnemonics have the same: 807 is the smallest factor without a collision.
+/// The hash of a token. No two mnemonics have the same: 807 is the smallest factor without a
+/// collision.
 pub(crate) fn hash_of(token: &[u8]) -> usize
     ensures value { result ≡ hash_of token.now }
     ensures within { result < 1024 }
@@ -53,7 +54,8 @@ pub(crate) fn hash_of(token: &[u8]) -> usize
     (hash / 64) as usize
 }
 
-/// The index in `ALL` of the mnemonic with this hash, or of any other mnemonic if none has this hash.
+/// The index in `ALL` of the mnemonic with this hash, or of any other mnemonic if none has this
+/// hash.
 pub(crate) fn index_of(hash: usize) -> usize
     requires { hash < 1024 }
     ensures value { result ≡ get_or PLACES hash 0 }

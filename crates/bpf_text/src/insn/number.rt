@@ -1,6 +1,7 @@
 //! Numbers in a listing.
 
-ghost use Rattle.std.specs.Prelude.{◌≡◌, ◌≢◌, ℕ, ◌+◌, ◌*◌, ◌^◌, ◌<◌, ◌≤◌, ℤ, pos, codes, MatchBool, MatchOption, IfSome, IfNone, FitsSigned};
+ghost use Rattle.std.specs.Prelude.{◌≡◌, ◌≢◌, ℕ, ◌+◌, ◌*◌, ◌^◌, ◌<◌, ◌≤◌, ℤ, pos, codes, MatchBool};
+ghost use Rattle.std.specs.Prelude.{MatchOption, IfSome, IfNone, FitsSigned};
 ghost use Rattle.std.specs.Str.Parse.{IsNumeral, digits_value};
 ghost use Rattle.bpf_text.specs.insn.Operands.{SpellsMagnitude, SpellsSigned};
 ghost use Rattle.bpf_text.specs.insn.Numbers.{IsMagnitude, IsNumber, IsFar};
@@ -127,7 +128,8 @@ impl Number {
 
     /// The value, if it is an i32.
     pub(crate) fn as_i32(self) -> Option<i32>
-        ensures cases { (z : ℤ) → IsNumber self z → MatchOption result (¬ FitsSigned w32 z) (λ v. v ≡ z) }
+        ensures cases { (z : ℤ) → IsNumber self z
+            → MatchOption result (¬ FitsSigned w32 z) (λ v. v ≡ z) }
         ensures fits { IfSome result (λ v. FitsSigned w32 v) }
     {
         match self.value() {
@@ -141,7 +143,8 @@ impl Number {
 
     /// The value, if it is an i16.
     pub(crate) fn as_i16(self) -> Option<i16>
-        ensures cases { (z : ℤ) → IsNumber self z → MatchOption result (¬ FitsSigned w16 z) (λ v. v ≡ z) }
+        ensures cases { (z : ℤ) → IsNumber self z
+            → MatchOption result (¬ FitsSigned w16 z) (λ v. v ≡ z) }
         ensures fits { IfSome result (λ v. FitsSigned w16 v) }
     {
         match self.value() {

@@ -1,9 +1,11 @@
 //! The fields of an instruction, read from the operands of a line.
 //!
-//! There is one function for each kind of field. It returns `Shape` if the operand is of another kind, else `Range` if its
-//! number is out of the range of the field.
+//! There is one function for each kind of field. It returns `Shape` if the operand is of another
+//! kind, else `Range` if its number is out of the range of the field.
 
-ghost use Rattle.bpf_text.specs.insn.OperandFields.{register_field, imm_field, offset_field, imm64_field, source_field, address_field, FieldIsRead, BothRead};
+ghost use Rattle.bpf_text.specs.insn.OperandFields.{register_field, imm_field, offset_field};
+ghost use Rattle.bpf_text.specs.insn.OperandFields.{imm64_field, source_field, address_field};
+ghost use Rattle.bpf_text.specs.insn.OperandFields.{FieldIsRead, BothRead};
 
 use crate::insn::fault::LineCause;
 use crate::insn::read_operand::ReadOperand;

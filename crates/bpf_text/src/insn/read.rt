@@ -1,6 +1,7 @@
 //! From a listing to its instructions.
 
-ghost use Rattle.std.specs.Prelude.{◌≡◌, ℕ, ◌<◌, [], ◌∷◌, List, length, false, Err, IfOk, IfSome, MatchOption, MatchResult};
+ghost use Rattle.std.specs.Prelude.{◌≡◌, ℕ, ◌<◌, [], ◌∷◌, List, length, false, Err, IfOk, IfSome};
+ghost use Rattle.std.specs.Prelude.{MatchOption, MatchResult};
 ghost use Rattle.std.specs.Option.{option_to_list};
 ghost use Rattle.std.specs.List.{list_any};
 ghost use Rattle.bpf_insn.specs.declared.insn.Insn.{Insn};
@@ -21,15 +22,17 @@ use bpf_insn::Insn;
 use memchr::memchr;
 use std::alloc::Allocator;
 
-/// The instruction whose mnemonic is the first token, with the operands in the rest of the line. The caller passes the
-/// tokens of the line before, whose room is used again: a new array for each line takes longer than reading its tokens.
+/// The instruction whose mnemonic is the first token, with the operands in the rest of the line.
+/// The caller passes the tokens of the line before, whose room is used again: a new array for each
+/// line takes longer than reading its tokens.
 fn insn_from_tokens<'a>(
     tokens: &mut Tokens<'a>,
     first_token: &[u8],
     following: &'a [u8],
 ) -> Result<Insn, LineCause>
     requires { list_any is_stray following.now ≡ false }
-    ensures { (tokens : List (List ℕ)) → AreTokens following.now tokens → ReadsTokens first_token.now tokens result }
+    ensures { (tokens : List (List ℕ)) → AreTokens following.now tokens
+        → ReadsTokens first_token.now tokens result }
 {
     let Some(mnemonic) = Mnemonic::read(first_token) else {
         return Err(LineCause::Word);
@@ -57,7 +60,8 @@ fn first_line(text: &[u8]) -> (&[u8], Option<&[u8]>)
 
 /// The instruction of a line, or none if it has no tokens.
 fn read_line<'a>(tokens: &mut Tokens<'a>, line: &'a [u8]) -> Result<Option<Insn>, LineCause>
-    ensures { MatchResult result (λ found. ListsLine line.now (option_to_list found)) (IsCause line.now) }
+    ensures { MatchResult result (λ found.
+        ListsLine line.now (option_to_list found)) (IsCause line.now) }
 {
     let Some(code) = known_code(line) else {
         return Err(LineCause::Char);
@@ -77,7 +81,8 @@ fn read_numbered<'a>(
     line: &'a [u8],
     number: u64,
 ) -> Result<Option<Insn>, ListError>
-    ensures { MatchResult result (λ found. ListsLine line.now (option_to_list found)) (RefusesLine line.now number) }
+    ensures { MatchResult result (λ found.
+        ListsLine line.now (option_to_list found)) (RefusesLine line.now number) }
 {
     match read_line(tokens, line) {
         Ok(found) => Ok(found),
@@ -88,10 +93,12 @@ fn read_numbered<'a>(
     }
 }
 
-/// The sink takes the instructions of all lines, in order. At an error it may have taken those of the first lines.
+/// The sink takes the instructions of all lines, in order. At an error it may have taken those of
+/// the first lines.
 pub(crate) fn read_lines<S: InsnSink>(sink: &mut S, text: &[u8]) -> Result<(), ListError>
     ensures { MatchResult result
-        (λ _. (insns : List Insn) × Lists text.now insns × S.takes sink.old insns sink.new) (RefusesText text.now) }
+        (λ _. (insns : List Insn) × Lists text.now insns × S.takes sink.old insns sink.new)
+        (RefusesText text.now) }
 {
     let mut tokens = ArrayVec::new();
     let mut rest = text;
@@ -108,12 +115,13 @@ pub(crate) fn read_lines<S: InsnSink>(sink: &mut S, text: &[u8]) -> Result<(), L
     }
 }
 
-/// The instructions of a listing, one for each line with tokens. Only the list that is returned takes memory.
+/// The instructions of a listing, one for each line with tokens. Only the list that is returned
+/// takes memory.
 ///
 /// # Errors
 ///
-/// `Fault` with the first faulty line, counted from 1, and the first cause that holds of it. `Memory` if the list couldn't
-/// grow.
+/// `Fault` with the first faulty line, counted from 1, and the first cause that holds of it.
+/// `Memory` if the list couldn't grow.
 pub fn read_listing<A: Allocator>(alloc: A, text: &[u8]) -> Result<Vec<Insn, A>, ListError>
     ensures found { IfOk result (λ insns. Lists text.now insns.items) }
 

@@ -1,6 +1,7 @@
 //! The operands of a line, as they are read from tokens.
 
-ghost use Rattle.std.specs.Prelude.{◌≡◌, ◌∷◌, [], List, codes, map, length, IsTrue, ◌↔◌, ◌+◌, ◌≤◌, drop, IfSome, IfNone};
+ghost use Rattle.std.specs.Prelude.{◌≡◌, ◌∷◌, [], List, codes, map, length, IsTrue, ◌↔◌, ◌+◌, ◌≤◌};
+ghost use Rattle.std.specs.Prelude.{drop, IfSome, IfNone};
 ghost use Rattle.bpf_text.specs.insn.Operands.{LineOperand, SpellsOperands, is_comma};
 ghost use Rattle.bpf_text.specs.insn.Numbers.{IsReadAs, SpellsNoOperand, IsSpelledBy};
 ghost use Rattle.std.specs.List.{AllZip, position_or_len};
@@ -138,7 +139,8 @@ pub(crate) fn operands_from_tokens(tokens: &[&[u8]]) -> Option<Operands>
     ensures none { IfNone result ((spelled : List LineOperand) → length spelled ≤ MOST_OPERANDS →
         ¬ SpellsOperands (map (λ t. t.now) tokens.now) spelled) }
     ensures some { IfSome result (λ found. (spelled : List LineOperand)
-        × SpellsOperands (map (λ t. t.now) tokens.now) spelled × AllZip IsReadAs found.items spelled) }
+        × SpellsOperands (map (λ t. t.now) tokens.now) spelled
+        × AllZip IsReadAs found.items spelled) }
 {
     let mut operands = ArrayVec::new();
     if tokens.is_empty() {

@@ -1,12 +1,15 @@
 //! The tokens of a line.
 
-ghost use Rattle.std.specs.Prelude.{◌≡◌, ℕ, ◌<◌, ◌≤◌, false, List, length, map, IsTrue, IfSome, IfNone, MatchBool};
+ghost use Rattle.std.specs.Prelude.{◌≡◌, ℕ, ◌<◌, ◌≤◌, false, List, length, map, IsTrue, IfSome};
+ghost use Rattle.std.specs.Prelude.{IfNone, MatchBool};
 ghost use Rattle.std.specs.List.{list_any, list_all, prefix_len, position_or_len};
-ghost use Rattle.bpf_text.specs.insn.Tokens.{is_comment_mark, is_blank, is_word_byte, is_stray, code_of, StartsWithToken, AreTokens};
+ghost use Rattle.bpf_text.specs.insn.Tokens.{is_comment_mark, is_blank, is_word_byte, is_stray};
+ghost use Rattle.bpf_text.specs.insn.Tokens.{code_of, StartsWithToken, AreTokens};
 
 use arrayvec::ArrayVec;
 
-/// The largest number of tokens that the operands of a line have: 5 for each of 3 operands, and 2 commas.
+/// The largest number of tokens that the operands of a line have: 5 for each of 3 operands, and 2
+/// commas.
 pub(crate) const MOST_TOKENS: usize = 17;
 
 /// The tokens after a mnemonic. They are on the stack.
@@ -66,11 +69,12 @@ fn known_len(bytes: &[u8]) -> usize
     bytes.len()
 }
 
-/// A line without its comment, if each of these bytes is blank or part of a token. The characters that begin a comment
-/// are stray bytes too, so the first stray byte is the end.
+/// A line without its comment, if each of these bytes is blank or part of a token. The characters
+/// that begin a comment are stray bytes too, so the first stray byte is the end.
 pub(crate) fn known_code(line: &[u8]) -> Option<&[u8]>
     ensures none { IfNone result (IsTrue (list_any is_stray (code_of line.now))) }
-    ensures some { IfSome result (λ code. (code.now ≡ code_of line.now) × (list_any is_stray code.now ≡ false)) }
+    ensures some { IfSome result (λ code. (code.now ≡ code_of line.now)
+        × (list_any is_stray code.now ≡ false)) }
 {
     let end = known_len(line);
     if end < line.len() && !is_comment_mark(line[end]) {
@@ -119,7 +123,8 @@ pub(crate) fn next_token(bytes: &[u8]) -> Option<(&[u8], &[u8])>
     Some(rest.split_at(if run == 0 { 1 } else { run }))
 }
 
-/// Replaces the tokens by those of a line without its comment. It returns whether there was room for them.
+/// Replaces the tokens by those of a line without its comment. It returns whether there was room
+/// for them.
 pub(crate) fn read_tokens<'a>(tokens: &mut Tokens<'a>, code: &'a [u8]) -> bool
     requires { list_any is_stray code.now ≡ false }
     ensures { MatchBool result (AreTokens code.now (map (λ t. t.now) tokens.new.items))

@@ -1,6 +1,7 @@
 //! From instructions to their lines.
 
-ghost use Rattle.std.specs.Prelude.{◌≡◌, ◌+◌, ◌<◌, ◌≤◌, [], ◌∷◌, ◌++◌, length, drop, codes, decimal, OnOk, OnErr, IfOk};
+ghost use Rattle.std.specs.Prelude.{◌≡◌, ◌+◌, ◌<◌, ◌≤◌, [], ◌∷◌, ◌++◌, length, drop, codes};
+ghost use Rattle.std.specs.Prelude.{decimal, OnOk, OnErr, IfOk};
 ghost use Rattle.std.specs.Fmt.{signed_decimal};
 ghost use Rattle.bpf_insn.specs.Table.{IsInsn};
 ghost use Rattle.bpf_text.specs.insn.Operands.{signed_text, register_text, operand_text};
@@ -16,8 +17,8 @@ use bpf_insn::{Insn, Operand, Reg, WideOf};
 use itoa::write_digits;
 use std::alloc::{AllocError, Allocator};
 
-/// The size of the buffer for a line. A mnemonic has at most 14 bytes, the operands have at most 83 with their separators,
-/// and a newline follows.
+/// The size of the buffer for a line. A mnemonic has at most 14 bytes, the operands have at most 83
+/// with their separators, and a newline follows.
 const LINE_ROOM: usize = 112;
 
 /// A buffer that is filled from its end to its start, as the digits of a number are found.
@@ -114,7 +115,8 @@ fn prepend_memory(line: &mut Line, end: usize, base: Reg, offset: i16) -> usize
 fn prepend_operand(line: &mut Line, end: usize, operand: WrittenOperand) -> usize
     requires { (26 ≤ end) × (end ≤ LINE_ROOM) }
     ensures start { (end ≤ result + 26) × (result ≤ end) }
-    ensures text { drop result line.new ≡ operand_text (operand_written operand) ++ drop end line.old }
+    ensures text { drop result line.new
+        ≡ operand_text (operand_written operand) ++ drop end line.old }
 {
     match operand {
         Register(register) => prepend_register(line, end, register),
@@ -173,7 +175,8 @@ fn prepend_three(
     requires { (83 ≤ end) × (end ≤ LINE_ROOM) }
     ensures start { (end ≤ result + 83) × (result ≤ end) }
     ensures text { drop result line.new
-        ≡ spaced (operand_written first ∷ operand_written second ∷ operand_written third ∷ []) ++ drop end line.old }
+        ≡ spaced (operand_written first ∷ operand_written second ∷ operand_written third ∷ [])
+        ++ drop end line.old }
 {
     let comma = prepend_next(line, end, third);
     prepend_two(line, comma, first, second)
@@ -194,7 +197,8 @@ fn source_operand(operand: Operand) -> WrittenOperand
 fn prepend_wide(line: &mut Line, end: usize, dst: Reg, what: WideOf) -> usize
     requires { (83 ≤ end) × (end ≤ LINE_ROOM) }
     ensures start { (end ≤ result + 83) × (result ≤ end) }
-    ensures text { drop result line.new ≡ spaced (operands_of (Insn.Wide dst what)) ++ drop end line.old }
+    ensures text { drop result line.new
+        ≡ spaced (operands_of (Insn.Wide dst what)) ++ drop end line.old }
 {
     let dst = Register(dst);
     match what {

@@ -25,7 +25,8 @@ fn count_line<A: Allocator>(alloc: A, count: u32) -> Result<Vec<u8, A>, AllocErr
 /// The reply of `btf-check`. The types are counted without `void`.
 pub fn btf_check_reply<A: Allocator + Copy>(alloc: A, input: &[u8]) -> Result<Reply<A>, AllocError>
     requires { length input.now ≤ limit_of BtfCheck }
-    ensures { IfOk result (λ r. IsBtfCheckReply (limit_of BtfCheck) input.now r.outcome r.output.items) }
+    ensures { IfOk result (λ r.
+        IsBtfCheckReply (limit_of BtfCheck) input.now r.outcome r.output.items) }
 {
     match BtfView::parse(alloc, input) {
         Ok(table) => Ok(Reply {

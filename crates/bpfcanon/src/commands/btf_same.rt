@@ -18,7 +18,8 @@ pub fn btf_same_reply<A: Allocator + Copy>(
     input: &[u8],
 ) -> Result<Reply<A>, AllocError>
     requires { length input.now ≤ limit_of BtfSame }
-    ensures { IfOk result (λ r. IsBtfSameReply (limit_of BtfSame) split input.now r.outcome r.output.items) }
+    ensures { IfOk result (λ r.
+        IsBtfSameReply (limit_of BtfSame) split input.now r.outcome r.output.items) }
 {
     let Some((first, second)) = two_files(input, split) else {
         return Ok(Reply::bare(alloc, Outcome::SplitBeyond));

@@ -31,7 +31,8 @@ fn put_items<A: Allocator, W: ByteSink, T: TypeTable>(
     requires first { 0 < id }
     requires last { id ≤ length (T.meaning table.now) }
     requires sink { W.failures sink.old < u64.MAX }
-    ensures { Gathers (sink_change W.ByteSink sink.old sink.new) piece.new.items (piece.old.items ++ flat_map (item_line signed) (record_at (T.meaning table.now) id).items) result }
+    ensures { Gathers (sink_change W.ByteSink sink.old sink.new) piece.new.items (piece.old.items
+        ++ flat_map (item_line signed) (record_at (T.meaning table.now) id).items) result }
 {
     for k in 0..table.item_count(id) {
         put_item(sink, piece, table.item(id, k), signed)?;
@@ -49,7 +50,8 @@ fn put_record<A: Allocator, W: ByteSink, T: TypeTable>(
     requires first { 0 < id }
     requires last { id ≤ length (T.meaning table.now) }
     requires sink { W.failures sink.old < u64.MAX }
-    ensures { Gathers (sink_change W.ByteSink sink.old sink.new) piece.new.items (piece.old.items ++ record_text id (record_at (T.meaning table.now) id)) result }
+    ensures { Gathers (sink_change W.ByteSink sink.old sink.new) piece.new.items (piece.old.items
+        ++ record_text id (record_at (T.meaning table.now) id)) result }
 {
     let head = table.head(id);
     put_head(sink, piece, id, head, table.item_count(id))?;
@@ -63,7 +65,8 @@ fn put_types<A: Allocator, W: ByteSink, T: TypeTable>(
     sink: &mut W,
 ) -> Result<(), PutError>
     requires { W.failures sink.old < u64.MAX }
-    ensures { TookText (sink_change W.ByteSink sink.old sink.new) (text_of (T.meaning table.now)) result }
+    ensures { TookText (sink_change W.ByteSink sink.old sink.new)
+        (text_of (T.meaning table.now)) result }
 {
     let mut piece = Vec::new(alloc);
     for index in 0..table.count() {

@@ -1,6 +1,7 @@
 //! The whole input of a command, and its two files if the command compares.
 
-ghost use Rattle.std.specs.Prelude.{◌≡◌, ◌<◌, ◌≤◌, drop, length, take, false, IfErr, IfOk, IfSome, IsNone};
+ghost use Rattle.std.specs.Prelude.{◌≡◌, ◌<◌, ◌≤◌, drop, length, take, false, IfErr, IfOk, IfSome};
+ghost use Rattle.std.specs.Prelude.{IsNone};
 ghost use Rattle.bpfcanon.specs.Devices.{Change, IsUnused, source_change};
 ghost use Rattle.bpfcanon.specs.JobEnds.{EndsJob};
 ghost use Rattle.bpfcanon.specs.commands.Pieces.{IsInput};
@@ -23,7 +24,8 @@ pub fn read_input<A: Allocator, S: ByteSource>(
 ) -> Result<Vec<u8, A>, Outcome>
     requires whole { has_engine job.verb ≡ false }
     requires source { S.failures source.old < u64.MAX }
-    ensures input { IfOk result (λ input. IsInput job (source_change S.ByteSource source.old source.new) input.items) }
+    ensures input { IfOk result (λ input.
+        IsInput job (source_change S.ByteSource source.old source.new) input.items) }
     ensures stopped { IfErr result (λ outcome. (sink : Change) → IsUnused sink
         → EndsJob job (source_change S.ByteSource source.old source.new) sink outcome) }
 {
@@ -37,7 +39,8 @@ pub fn read_input<A: Allocator, S: ByteSource>(
 
 /// Splits an input after the first file, which has `split` bytes. `None` if the input is shorter.
 pub fn two_files(input: &[u8], split: u64) -> Option<(&[u8], &[u8])>
-    ensures files { IfSome result (λ files. (split ≤ length input.now) × (files.0.now ≡ take split input.now) × (files.1.now ≡ drop split input.now)) }
+    ensures files { IfSome result (λ files. (split ≤ length input.now)
+        × (files.0.now ≡ take split input.now) × (files.1.now ≡ drop split input.now)) }
     ensures beyond { IsNone result → length input.now < split }
 {
     input.split_at_checked(split as usize)

@@ -31,7 +31,8 @@ pub fn insn_groups_reply<A: Allocator + Copy>(
     input: &[u8],
 ) -> Result<Reply<A>, AllocError>
     requires { length input.now ≤ limit_of InsnGroups }
-    ensures { IfOk result (λ r. IsGroupsReply (limit_of InsnGroups) order input.now r.outcome r.output.items) }
+    ensures { IfOk result (λ r.
+        IsGroupsReply (limit_of InsnGroups) order input.now r.outcome r.output.items) }
 {
     match groups_in(order, input) {
         Ok(groups) => Ok(Reply {

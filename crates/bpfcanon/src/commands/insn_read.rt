@@ -17,7 +17,8 @@ pub fn insn_read_reply<A: Allocator + Copy>(
     input: &[u8],
 ) -> Result<Reply<A>, AllocError>
     requires { length input.now ≤ limit_of InsnRead }
-    ensures { IfOk result (λ r. IsReadReply (limit_of InsnRead) to input.now r.outcome r.output.items) }
+    ensures { IfOk result (λ r.
+        IsReadReply (limit_of InsnRead) to input.now r.outcome r.output.items) }
 {
     match read_listing_bytes(alloc, to, input) {
         Ok(output) => Ok(Reply {

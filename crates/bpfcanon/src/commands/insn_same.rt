@@ -18,7 +18,9 @@ pub fn insn_same_reply<A: Allocator + Copy>(
     input: &[u8],
 ) -> Result<Reply<A>, AllocError>
     requires { length input.now ≤ limit_of InsnSame }
-    ensures { IfOk result (λ r. IsSameReply (limit_of InsnSame) job.order job.other job.split input.now r.outcome r.output.items) }
+    ensures { IfOk result (λ r.
+        IsSameReply (limit_of InsnSame) job.order job.other job.split input.now r.outcome
+        r.output.items) }
 {
     let Some((first, second)) = two_files(input, job.split) else {
         return Ok(Reply::bare(alloc, Outcome::SplitBeyond));

@@ -1,4 +1,5 @@
-//! Lines of BTF text. A name may be as long as the string section, and quoting makes it longer, so it is quoted and written in chunks.
+//! Lines of BTF text. A name may be as long as the string section, and quoting makes it longer, so
+//! it is quoted and written in chunks.
 
 ghost use Rattle.std.specs.Prelude.{◌≡◌, ◌<◌, ◌++◌, length, OnOk};
 ghost use Rattle.std.specs.List.{flat_map};
@@ -27,7 +28,8 @@ fn put_chunk<A: Allocator, W: ByteSink>(
 ) -> Result<(), PutError>
     requires some { 0 < length chunk.now }
     requires sink { W.failures sink.old < u64.MAX }
-    ensures gathered { Gathers (sink_change W.ByteSink sink.old sink.new) piece.new.items (piece.old.items ++ flat_map quoted_byte chunk.now) result }
+    ensures gathered { Gathers (sink_change W.ByteSink sink.old sink.new) piece.new.items
+        (piece.old.items ++ flat_map quoted_byte chunk.now) result }
     ensures short { OnOk result (length piece.new.items < PIECE) }
 {
     append_quoted_part(piece, chunk)?;
@@ -41,7 +43,8 @@ fn put_name<A: Allocator, W: ByteSink>(
     name: &[u8],
 ) -> Result<(), PutError>
     requires { W.failures sink.old < u64.MAX }
-    ensures { Gathers (sink_change W.ByteSink sink.old sink.new) piece.new.items (piece.old.items ++ flat_map quoted_byte name.now) result }
+    ensures { Gathers (sink_change W.ByteSink sink.old sink.new) piece.new.items (piece.old.items
+        ++ flat_map quoted_byte name.now) result }
 {
     let mut start = 0;
     while start < name.len() {
@@ -61,7 +64,8 @@ pub fn put_head<A: Allocator, W: ByteSink>(
     items: u32,
 ) -> Result<(), PutError>
     requires { W.failures sink.old < u64.MAX }
-    ensures gathered { Gathers (sink_change W.ByteSink sink.old sink.new) piece.new.items (piece.old.items ++ head_line id (head_value head.entry) items) result }
+    ensures gathered { Gathers (sink_change W.ByteSink sink.old sink.new) piece.new.items
+        (piece.old.items ++ head_line id (head_value head.entry) items) result }
     ensures short { OnOk result (length piece.new.items < PIECE) }
 {
     append_head_start(piece, id, head)?;
@@ -78,7 +82,8 @@ pub fn put_item<A: Allocator, W: ByteSink>(
     signed: bool,
 ) -> Result<(), PutError>
     requires { W.failures sink.old < u64.MAX }
-    ensures gathered { Gathers (sink_change W.ByteSink sink.old sink.new) piece.new.items (piece.old.items ++ item_line signed (item_value item.entry)) result }
+    ensures gathered { Gathers (sink_change W.ByteSink sink.old sink.new) piece.new.items
+        (piece.old.items ++ item_line signed (item_value item.entry)) result }
     ensures short { OnOk result (length piece.new.items < PIECE) }
 {
     append_item_start(piece, item)?;

@@ -73,7 +73,8 @@ pub fn put_long_piece<W: ByteSink, A: Allocator>(
     piece: &mut Vec<u8, A>,
 ) -> Result<(), PutError>
     requires { W.failures sink.old < u64.MAX }
-    ensures gathered { Gathers (sink_change W.ByteSink sink.old sink.new) piece.new.items piece.old.items result }
+    ensures gathered { Gathers (sink_change W.ByteSink sink.old sink.new) piece.new.items
+        piece.old.items result }
     ensures short { OnOk result (length piece.new.items < PIECE) }
     ensures failed { IfErr result (λ e. e ≡ WriteFailed) }
 {

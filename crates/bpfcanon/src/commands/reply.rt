@@ -61,7 +61,8 @@ pub fn put_reply<A: Allocator, W: ByteSink>(
     sink: &mut W,
 ) -> Outcome
     requires { W.failures sink.old < u64.MAX }
-    ensures { (job : Job) (input : List ℕ) → IfOk reply (λ r. IsReply job.verb job input r.outcome r.output.items)
+    ensures { (job : Job) (input : List ℕ)
+        → IfOk reply (λ r. IsReply job.verb job input r.outcome r.output.items)
         → Answers job input (sink_change W.ByteSink sink.old sink.new) result }
 {
     match reply {

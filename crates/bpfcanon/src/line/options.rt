@@ -5,7 +5,8 @@ ghost use Rattle.clap.specs.Words.{app_of, new_app, rule_of};
 ghost use Rattle.clap.specs.declared.builder.command.Command.TheViews.{out-Command};
 ghost use Rattle.clap.specs.Simple.{shape_of};
 ghost use Rattle.bpfcanon.specs.Verbs.{name_of};
-ghost use Rattle.bpfcanon.specs.line.Options.{IsOrderNames, bare_program, option_of, order_option, program, shape_for, split_option};
+ghost use Rattle.bpfcanon.specs.line.Options.{IsOrderNames, bare_program, option_of, order_option};
+ghost use Rattle.bpfcanon.specs.line.Options.{program, shape_for, split_option};
 
 use crate::verb::{Setting, Verb};
 use clap::{Arg, Command, value_parser};

@@ -48,7 +48,8 @@ fn header_fault(section: &Section, this: &JudgedRecord) -> Option<(usize, BtfCau
 fn fourth_fault(section: &Section, this: &JudgedRecord) -> Option<BtfCause>
     requires section { IsSection section.now }
     requires this { RecordIs section.now this.now }
-    requires kind { IsTrue (one_of (kinds.INT ∷ kinds.VAR ∷ kinds.DECL_TAG ∷ []) this.now.header.kind) }
+    requires kind { IsTrue (one_of (kinds.INT ∷ kinds.VAR ∷ kinds.DECL_TAG ∷ [])
+        this.now.header.kind) }
     ensures { IsLeastOf (FaultInWord section.now this.now.pos 3) result }
 {
     let header = &this.header;
