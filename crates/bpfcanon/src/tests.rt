@@ -5,6 +5,7 @@ mod btf_files;
 mod devices;
 mod example_results;
 mod expect;
+mod full_sinks;
 mod library_example;
 mod lines;
 mod memory;

@@ -9,15 +9,15 @@ use std::test::Fail;
 
 /// A command line that succeeds, its input and its output.
 #[derive(Clone, Copy)]
-struct Sample {
-    line: &'static str,
-    input: &'static [u8],
-    output: &'static [u8],
+pub struct Sample {
+    pub line: &'static str,
+    pub input: &'static [u8],
+    pub output: &'static [u8],
 }
 
 /// A line of each command. Where a command takes `--to`, one more writes in the other order.
 #[rattlefmt::skip]
-static SAMPLES: [Sample; 12] = [
+pub static SAMPLES: [Sample; 12] = [
     Sample { line: "insn-canon", input: b"\x37\x01\x01\0\x03\0\0\0\xdb\x21\xf8\xff\xf1\0\0\0\x95\0\0\0\0\0\0\0", output: b"\x37\x01\x01\0\x03\0\0\0\xdb\x21\xf8\xff\xf1\0\0\0\x95\0\0\0\0\0\0\0" },
     Sample { line: "insn-canon --order big", input: b"\xbf\x12\0\0\0\0\0\0", output: b"\xbf\x21\0\0\0\0\0\0" },
     Sample { line: "insn-show", input: b"\x37\x01\x01\0\x03\0\0\0\xdb\x21\xf8\xff\xf1\0\0\0\x95\0\0\0\0\0\0\0", output: b"sdiv r1, 3\ncmpxchg [r1-8], r2\nexit\n" },
