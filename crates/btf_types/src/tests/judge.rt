@@ -36,56 +36,27 @@ struct Layout(Naming, Word, bool, &'static [Word], &'static [Word]);
 const MEMBER: &[Word] = &[Word::Name, Word::Type, Word::Offset];
 
 /// The layouts of the kinds 1 to 19.
+#[rattlefmt::skip]
 const LAYOUTS: &[Layout] = &[
     Layout(Naming::Free, Word::Size, false, &[Word::Int], &[]),
     Layout(Naming::Unnamed, Word::Type, false, &[], &[]),
-    Layout(
-        Naming::Unnamed,
-        Word::Zero,
-        false,
-        &[Word::Type, Word::Type, Word::Any],
-        &[],
-    ),
+    Layout(Naming::Unnamed, Word::Zero, false, &[Word::Type, Word::Type, Word::Any], &[]),
     Layout(Naming::Free, Word::Size, true, &[], MEMBER),
     Layout(Naming::Free, Word::Size, true, &[], MEMBER),
-    Layout(
-        Naming::Free,
-        Word::Size,
-        true,
-        &[],
-        &[Word::Name, Word::Any],
-    ),
+    Layout(Naming::Free, Word::Size, true, &[], &[Word::Name, Word::Any]),
     Layout(Naming::Needed, Word::Zero, true, &[], &[]),
     Layout(Naming::Needed, Word::Type, false, &[], &[]),
     Layout(Naming::Unnamed, Word::Type, false, &[], &[]),
     Layout(Naming::Unnamed, Word::Type, false, &[], &[]),
     Layout(Naming::Unnamed, Word::Type, false, &[], &[]),
     Layout(Naming::Needed, Word::Type, false, &[], &[]),
-    Layout(
-        Naming::Unnamed,
-        Word::Type,
-        false,
-        &[],
-        &[Word::Name, Word::Type],
-    ),
+    Layout(Naming::Unnamed, Word::Type, false, &[], &[Word::Name, Word::Type]),
     Layout(Naming::Needed, Word::Type, false, &[Word::Linkage], &[]),
-    Layout(
-        Naming::Needed,
-        Word::Size,
-        false,
-        &[],
-        &[Word::Type, Word::Any, Word::Any],
-    ),
+    Layout(Naming::Needed, Word::Size, false, &[], &[Word::Type, Word::Any, Word::Any]),
     Layout(Naming::Free, Word::Size, false, &[], &[]),
     Layout(Naming::Needed, Word::Type, true, &[Word::Component], &[]),
     Layout(Naming::Needed, Word::Type, true, &[], &[]),
-    Layout(
-        Naming::Free,
-        Word::Size,
-        true,
-        &[],
-        &[Word::Name, Word::Any, Word::Any],
-    ),
+    Layout(Naming::Free, Word::Size, true, &[], &[Word::Name, Word::Any, Word::Any]),
 ];
 
 fn layout_of(kind: u32) -> Option<&'static Layout> {

@@ -29,18 +29,11 @@ fn typedefs(alloc: Global, count: u32) -> Result<Vec<u8>, AllocError> {
 /// A number of TYPEDEFs, the number of letters of the first name, the file's length, and its first fault.
 struct Nested(u32, usize, usize, Option<BtfFault>);
 
+#[rattlefmt::skip]
 const NESTED: &[Nested] = &[
     Nested(1, 16_777_214, 16_777_252, None),
     Nested(2, 16_777_214, 16_777_264, None),
-    Nested(
-        1,
-        16_777_215,
-        16_777_253,
-        Some(BtfFault {
-            pos: 20,
-            cause: BtfCause::StringLength,
-        }),
-    ),
+    Nested(1, 16_777_215, 16_777_253, Some(BtfFault { pos: 20, cause: BtfCause::StringLength })),
     Nested(5791, 5791, 75_309, None),
     Nested(5792, 5792, 75_322, None),
 ];
@@ -106,32 +99,15 @@ fn most_records(alloc: Global) -> Result<Vec<u8>, AllocError> {
 /// Bytes that are changed in that file beside the earlier ones, and the first fault.
 struct Longest(&'static [(usize, u8)], Option<BtfFault>);
 
+#[rattlefmt::skip]
 const LONGEST: &[Longest] = &[
     Longest(&[], None),
     // the type of the last PTR
-    Longest(
-        &[(33_554_452, 0xab), (33_554_453, 0xaa), (33_554_454, 0x2a)],
-        Some(BtfFault {
-            pos: 33_554_452,
-            cause: BtfCause::Reference,
-        }),
-    ),
+    Longest(&[(33_554_452, 0xab), (33_554_453, 0xaa), (33_554_454, 0x2a)], Some(BtfFault { pos: 33_554_452, cause: BtfCause::Reference })),
     // its kind
-    Longest(
-        &[(33_554_451, 20)],
-        Some(BtfFault {
-            pos: 33_554_448,
-            cause: BtfCause::KindNumber,
-        }),
-    ),
+    Longest(&[(33_554_451, 20)], Some(BtfFault { pos: 33_554_448, cause: BtfCause::KindNumber })),
     // a type section of a byte more, which takes the byte of the strings
-    Longest(
-        &[(12, 1)],
-        Some(BtfFault {
-            pos: 12,
-            cause: BtfCause::TypeLength,
-        }),
-    ),
+    Longest(&[(12, 1)], Some(BtfFault { pos: 12, cause: BtfCause::TypeLength })),
 ];
 
 /// How many records both tables of a file have.

@@ -44,25 +44,10 @@ pub(crate) fn equal_walk(rt: &impl Abort, shown: &str, walk: &[&str], case: &imp
 }
 
 /// Files, and what a walk over their records gives: each head, and then nothing, again and again.
+#[rattlefmt::skip]
 const WALKS: &[(&[u8], &[Option<&str>])] = &[
-    (
-        TAGGED,
-        &[
-            Some("1 KInt { name: \"int\", size: 4, encoding: Signed, offset: 0, bits: 32 }\n"),
-            Some("2 KStruct { name: \"s\", size: 8 }\n"),
-            Some("3 KDeclTag { name: \"t\", flag: false, target: 2, component: Some(1) }\n"),
-            None,
-            None,
-        ],
-    ),
-    (
-        BIG_INT,
-        &[
-            Some("1 KInt { name: \"int\", size: 4, encoding: Signed, offset: 0, bits: 32 }\n"),
-            None,
-            None,
-        ],
-    ),
+    (TAGGED, &[Some("1 KInt { name: \"int\", size: 4, encoding: Signed, offset: 0, bits: 32 }\n"), Some("2 KStruct { name: \"s\", size: 8 }\n"), Some("3 KDeclTag { name: \"t\", flag: false, target: 2, component: Some(1) }\n"), None, None]),
+    (BIG_INT, &[Some("1 KInt { name: \"int\", size: 4, encoding: Signed, offset: 0, bits: 32 }\n"), None, None]),
     (EMPTY, &[None, None]),
 ];
 
