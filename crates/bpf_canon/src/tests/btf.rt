@@ -88,57 +88,18 @@ const FAULT_OF_FAULTY: BtfFault = BtfFault {
     cause: BtfCause::Reference,
 };
 
+#[rattlefmt::skip]
 static COMPARISONS: [Comparison; 10] = [
-    Comparison {
-        first: FLOW_TABLE_BIG,
-        second: FLOW_TABLE_LITTLE,
-        answer: Ok(true),
-    },
-    Comparison {
-        first: EMPTY,
-        second: STRINGS_FIRST,
-        answer: Ok(true),
-    },
-    Comparison {
-        first: WIDE_OFFSET,
-        second: BIT_FIELD,
-        answer: Ok(false),
-    },
-    Comparison {
-        first: WIDE_OFFSET,
-        second: WIDE_OFFSET,
-        answer: Ok(true),
-    },
-    Comparison {
-        first: BIG_INT,
-        second: LOOSE_INT,
-        answer: Ok(true),
-    },
-    Comparison {
-        first: BIG_INT,
-        second: ENUM,
-        answer: Ok(false),
-    },
-    Comparison {
-        first: INT,
-        second: INT,
-        answer: Ok(true),
-    },
-    Comparison {
-        first: BIG_INT,
-        second: FAULTY,
-        answer: Err(SideError::Second(FAULT_OF_FAULTY)),
-    },
-    Comparison {
-        first: FAULTY,
-        second: BIG_INT,
-        answer: Err(SideError::First(FAULT_OF_FAULTY)),
-    },
-    Comparison {
-        first: FAULTY,
-        second: b"",
-        answer: Err(SideError::First(FAULT_OF_FAULTY)),
-    },
+    Comparison { first: FLOW_TABLE_BIG, second: FLOW_TABLE_LITTLE, answer: Ok(true) },
+    Comparison { first: EMPTY, second: STRINGS_FIRST, answer: Ok(true) },
+    Comparison { first: WIDE_OFFSET, second: BIT_FIELD, answer: Ok(false) },
+    Comparison { first: WIDE_OFFSET, second: WIDE_OFFSET, answer: Ok(true) },
+    Comparison { first: BIG_INT, second: LOOSE_INT, answer: Ok(true) },
+    Comparison { first: BIG_INT, second: ENUM, answer: Ok(false) },
+    Comparison { first: INT, second: INT, answer: Ok(true) },
+    Comparison { first: BIG_INT, second: FAULTY, answer: Err(SideError::Second(FAULT_OF_FAULTY)) },
+    Comparison { first: FAULTY, second: BIG_INT, answer: Err(SideError::First(FAULT_OF_FAULTY)) },
+    Comparison { first: FAULTY, second: b"", answer: Err(SideError::First(FAULT_OF_FAULTY)) },
 ];
 
 #[test]

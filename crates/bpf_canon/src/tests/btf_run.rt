@@ -67,171 +67,19 @@ struct RunRow {
     taken: &'static [u8],
 }
 
+#[rattlefmt::skip]
 static RUNS: [RunRow; 11] = [
-    RunRow {
-        name: "a little-endian file written in big-endian order",
-        to: Order::Big,
-        devices: FusedDevices {
-            bytes: INT,
-            read_piece: 7,
-            read_fuse: None,
-            write_piece: 7,
-            write_fuse: None,
-        },
-        ended: Ok(45),
-        taken: BIG_INT,
-    },
-    RunRow {
-        name: "a big-endian file written in its own order",
-        to: Order::Big,
-        devices: FusedDevices {
-            bytes: BIG_INT,
-            read_piece: 7,
-            read_fuse: None,
-            write_piece: 7,
-            write_fuse: None,
-        },
-        ended: Ok(45),
-        taken: BIG_INT,
-    },
-    RunRow {
-        name: "a sink that fails at its third write",
-        to: Order::Little,
-        devices: FusedDevices {
-            bytes: BIG_INT,
-            read_piece: 16,
-            read_fuse: None,
-            write_piece: 10,
-            write_fuse: Some(3),
-        },
-        ended: Err(RunError {
-            cause: RunCause::WriteFailed,
-            written: 20,
-        }),
-        taken: INT_FRONT,
-    },
-    RunRow {
-        name: "a sink that fails at once",
-        to: Order::Little,
-        devices: FusedDevices {
-            bytes: BIG_INT,
-            read_piece: 16,
-            read_fuse: None,
-            write_piece: 45,
-            write_fuse: Some(1),
-        },
-        ended: Err(RunError {
-            cause: RunCause::WriteFailed,
-            written: 0,
-        }),
-        taken: b"",
-    },
-    RunRow {
-        name: "a fuse beyond the last write",
-        to: Order::Little,
-        devices: FusedDevices {
-            bytes: BIG_INT,
-            read_piece: 16,
-            read_fuse: None,
-            write_piece: 45,
-            write_fuse: Some(2),
-        },
-        ended: Ok(45),
-        taken: INT,
-    },
-    RunRow {
-        name: "a source that fails at once",
-        to: Order::Little,
-        devices: FusedDevices {
-            bytes: BIG_INT,
-            read_piece: 45,
-            read_fuse: Some(1),
-            write_piece: 10,
-            write_fuse: None,
-        },
-        ended: Err(RunError {
-            cause: RunCause::ReadFailed,
-            written: 0,
-        }),
-        taken: b"",
-    },
-    RunRow {
-        name: "a fuse beyond the last read",
-        to: Order::Little,
-        devices: FusedDevices {
-            bytes: BIG_INT,
-            read_piece: 45,
-            read_fuse: Some(3),
-            write_piece: 10,
-            write_fuse: None,
-        },
-        ended: Ok(45),
-        taken: INT,
-    },
-    RunRow {
-        name: "a failed read, and a fault in what was read",
-        to: Order::Little,
-        devices: FusedDevices {
-            bytes: FAULTY,
-            read_piece: 37,
-            read_fuse: Some(2),
-            write_piece: 10,
-            write_fuse: None,
-        },
-        ended: Err(RunError {
-            cause: RunCause::ReadFailed,
-            written: 0,
-        }),
-        taken: b"",
-    },
-    RunRow {
-        name: "a fault where the source has ended",
-        to: Order::Little,
-        devices: FusedDevices {
-            bytes: FAULTY,
-            read_piece: 37,
-            read_fuse: Some(3),
-            write_piece: 10,
-            write_fuse: None,
-        },
-        ended: Err(RunError {
-            cause: RunCause::Fault(FAULT_OF_FAULTY),
-            written: 0,
-        }),
-        taken: b"",
-    },
-    RunRow {
-        name: "a fault before a write that would fail",
-        to: Order::Little,
-        devices: FusedDevices {
-            bytes: FAULTY,
-            read_piece: 16,
-            read_fuse: None,
-            write_piece: 10,
-            write_fuse: Some(1),
-        },
-        ended: Err(RunError {
-            cause: RunCause::Fault(FAULT_OF_FAULTY),
-            written: 0,
-        }),
-        taken: b"",
-    },
-    RunRow {
-        name: "an empty input",
-        to: Order::Little,
-        devices: FusedDevices {
-            bytes: b"",
-            read_piece: 16,
-            read_fuse: None,
-            write_piece: 1,
-            write_fuse: Some(1),
-        },
-        ended: Err(RunError {
-            cause: RunCause::Fault(SHORT_HEADER),
-            written: 0,
-        }),
-        taken: b"",
-    },
+    RunRow { name: "a little-endian file written in big-endian order", to: Order::Big, devices: FusedDevices { bytes: INT, read_piece: 7, read_fuse: None, write_piece: 7, write_fuse: None }, ended: Ok(45), taken: BIG_INT },
+    RunRow { name: "a big-endian file written in its own order", to: Order::Big, devices: FusedDevices { bytes: BIG_INT, read_piece: 7, read_fuse: None, write_piece: 7, write_fuse: None }, ended: Ok(45), taken: BIG_INT },
+    RunRow { name: "a sink that fails at its third write", to: Order::Little, devices: FusedDevices { bytes: BIG_INT, read_piece: 16, read_fuse: None, write_piece: 10, write_fuse: Some(3) }, ended: Err(RunError { cause: RunCause::WriteFailed, written: 20 }), taken: INT_FRONT },
+    RunRow { name: "a sink that fails at once", to: Order::Little, devices: FusedDevices { bytes: BIG_INT, read_piece: 16, read_fuse: None, write_piece: 45, write_fuse: Some(1) }, ended: Err(RunError { cause: RunCause::WriteFailed, written: 0 }), taken: b"" },
+    RunRow { name: "a fuse beyond the last write", to: Order::Little, devices: FusedDevices { bytes: BIG_INT, read_piece: 16, read_fuse: None, write_piece: 45, write_fuse: Some(2) }, ended: Ok(45), taken: INT },
+    RunRow { name: "a source that fails at once", to: Order::Little, devices: FusedDevices { bytes: BIG_INT, read_piece: 45, read_fuse: Some(1), write_piece: 10, write_fuse: None }, ended: Err(RunError { cause: RunCause::ReadFailed, written: 0 }), taken: b"" },
+    RunRow { name: "a fuse beyond the last read", to: Order::Little, devices: FusedDevices { bytes: BIG_INT, read_piece: 45, read_fuse: Some(3), write_piece: 10, write_fuse: None }, ended: Ok(45), taken: INT },
+    RunRow { name: "a failed read, and a fault in what was read", to: Order::Little, devices: FusedDevices { bytes: FAULTY, read_piece: 37, read_fuse: Some(2), write_piece: 10, write_fuse: None }, ended: Err(RunError { cause: RunCause::ReadFailed, written: 0 }), taken: b"" },
+    RunRow { name: "a fault where the source has ended", to: Order::Little, devices: FusedDevices { bytes: FAULTY, read_piece: 37, read_fuse: Some(3), write_piece: 10, write_fuse: None }, ended: Err(RunError { cause: RunCause::Fault(FAULT_OF_FAULTY), written: 0 }), taken: b"" },
+    RunRow { name: "a fault before a write that would fail", to: Order::Little, devices: FusedDevices { bytes: FAULTY, read_piece: 16, read_fuse: None, write_piece: 10, write_fuse: Some(1) }, ended: Err(RunError { cause: RunCause::Fault(FAULT_OF_FAULTY), written: 0 }), taken: b"" },
+    RunRow { name: "an empty input", to: Order::Little, devices: FusedDevices { bytes: b"", read_piece: 16, read_fuse: None, write_piece: 1, write_fuse: Some(1) }, ended: Err(RunError { cause: RunCause::Fault(SHORT_HEADER), written: 0 }), taken: b"" },
 ];
 
 #[test]

@@ -56,63 +56,16 @@ struct Reading {
     stop: Option<ReadError>,
 }
 
+#[rattlefmt::skip]
 static READINGS: [Reading; 8] = [
-    Reading {
-        bytes: b"abcdefgh",
-        piece: 3,
-        fuse: None,
-        limit: 8,
-        stop: None,
-    },
-    Reading {
-        bytes: b"abcdefgh",
-        piece: 1,
-        fuse: None,
-        limit: u64::MAX,
-        stop: None,
-    },
-    Reading {
-        bytes: b"abcdefgh",
-        piece: 5000,
-        fuse: None,
-        limit: 8,
-        stop: None,
-    },
-    Reading {
-        bytes: b"",
-        piece: 1,
-        fuse: None,
-        limit: 0,
-        stop: None,
-    },
-    Reading {
-        bytes: b"abcdefgh",
-        piece: 3,
-        fuse: None,
-        limit: 7,
-        stop: Some(ReadError::TooLong),
-    },
-    Reading {
-        bytes: b"abcdefgh",
-        piece: 3,
-        fuse: Some(1),
-        limit: 8,
-        stop: Some(ReadError::ReadFailed),
-    },
-    Reading {
-        bytes: b"abcdefgh",
-        piece: 3,
-        fuse: Some(4),
-        limit: 8,
-        stop: Some(ReadError::ReadFailed),
-    },
-    Reading {
-        bytes: b"abcdefgh",
-        piece: 3,
-        fuse: Some(5),
-        limit: 8,
-        stop: None,
-    },
+    Reading { bytes: b"abcdefgh", piece: 3, fuse: None, limit: 8, stop: None },
+    Reading { bytes: b"abcdefgh", piece: 1, fuse: None, limit: u64::MAX, stop: None },
+    Reading { bytes: b"abcdefgh", piece: 5000, fuse: None, limit: 8, stop: None },
+    Reading { bytes: b"", piece: 1, fuse: None, limit: 0, stop: None },
+    Reading { bytes: b"abcdefgh", piece: 3, fuse: None, limit: 7, stop: Some(ReadError::TooLong) },
+    Reading { bytes: b"abcdefgh", piece: 3, fuse: Some(1), limit: 8, stop: Some(ReadError::ReadFailed) },
+    Reading { bytes: b"abcdefgh", piece: 3, fuse: Some(4), limit: 8, stop: Some(ReadError::ReadFailed) },
+    Reading { bytes: b"abcdefgh", piece: 3, fuse: Some(5), limit: 8, stop: None },
 ];
 
 #[test]
@@ -153,37 +106,13 @@ struct Writing {
     taken: &'static [u8],
 }
 
+#[rattlefmt::skip]
 static WRITINGS: [Writing; 5] = [
-    Writing {
-        piece: 1,
-        fuse: Some(3),
-        ended: Err(2),
-        taken: b"ab",
-    },
-    Writing {
-        piece: 2,
-        fuse: Some(2),
-        ended: Err(2),
-        taken: b"ab",
-    },
-    Writing {
-        piece: 2,
-        fuse: Some(1),
-        ended: Err(0),
-        taken: b"",
-    },
-    Writing {
-        piece: 2,
-        fuse: Some(3),
-        ended: Ok(()),
-        taken: b"abc",
-    },
-    Writing {
-        piece: 9,
-        fuse: None,
-        ended: Ok(()),
-        taken: b"abc",
-    },
+    Writing { piece: 1, fuse: Some(3), ended: Err(2), taken: b"ab" },
+    Writing { piece: 2, fuse: Some(2), ended: Err(2), taken: b"ab" },
+    Writing { piece: 2, fuse: Some(1), ended: Err(0), taken: b"" },
+    Writing { piece: 2, fuse: Some(3), ended: Ok(()), taken: b"abc" },
+    Writing { piece: 9, fuse: None, ended: Ok(()), taken: b"abc" },
 ];
 
 #[test]

@@ -90,55 +90,16 @@ const FAULT: SlotFault = SlotFault {
     cause: SlotCause::Dst,
 };
 
+#[rattlefmt::skip]
 static COMPARISONS: [Comparison; 8] = [
-    Comparison {
-        order: Order::Big,
-        first: BIG_MOVE,
-        second: LITTLE_MOVE,
-        answer: Ok(true),
-    },
-    Comparison {
-        order: Order::Little,
-        first: BIG_MOVE,
-        second: LITTLE_MOVE,
-        answer: Ok(false),
-    },
-    Comparison {
-        order: Order::Little,
-        first: b"",
-        second: b"",
-        answer: Ok(true),
-    },
-    Comparison {
-        order: Order::Little,
-        first: EXIT,
-        second: b"",
-        answer: Ok(false),
-    },
-    Comparison {
-        order: Order::Little,
-        first: EXIT,
-        second: EXIT,
-        answer: Ok(true),
-    },
-    Comparison {
-        order: Order::Little,
-        first: EXIT,
-        second: FAULTY_MOVE,
-        answer: Err(SideError::Second(FAULT)),
-    },
-    Comparison {
-        order: Order::Little,
-        first: FAULTY_MOVE,
-        second: EXIT,
-        answer: Err(SideError::First(FAULT)),
-    },
-    Comparison {
-        order: Order::Little,
-        first: FAULTY_MOVE,
-        second: b"\0",
-        answer: Err(SideError::First(FAULT)),
-    },
+    Comparison { order: Order::Big, first: BIG_MOVE, second: LITTLE_MOVE, answer: Ok(true) },
+    Comparison { order: Order::Little, first: BIG_MOVE, second: LITTLE_MOVE, answer: Ok(false) },
+    Comparison { order: Order::Little, first: b"", second: b"", answer: Ok(true) },
+    Comparison { order: Order::Little, first: EXIT, second: b"", answer: Ok(false) },
+    Comparison { order: Order::Little, first: EXIT, second: EXIT, answer: Ok(true) },
+    Comparison { order: Order::Little, first: EXIT, second: FAULTY_MOVE, answer: Err(SideError::Second(FAULT)) },
+    Comparison { order: Order::Little, first: FAULTY_MOVE, second: EXIT, answer: Err(SideError::First(FAULT)) },
+    Comparison { order: Order::Little, first: FAULTY_MOVE, second: b"\0", answer: Err(SideError::First(FAULT)) },
 ];
 
 #[test]

@@ -33,28 +33,13 @@ struct Chain {
     len: usize,
 }
 
+#[rattlefmt::skip]
 static CHAINS: [Chain; 4] = [
-    Chain {
-        count: 5791,
-        letters: 5791,
-        len: 75_309,
-    },
-    Chain {
-        count: 5792,
-        letters: 5792,
-        len: 75_322,
-    },
+    Chain { count: 5791, letters: 5791, len: 75_309 },
+    Chain { count: 5792, letters: 5792, len: 75_322 },
     // the longest name that there is, alone and with the longest suffix of it
-    Chain {
-        count: 1,
-        letters: 16_777_214,
-        len: 16_777_252,
-    },
-    Chain {
-        count: 2,
-        letters: 16_777_214,
-        len: 16_777_264,
-    },
+    Chain { count: 1, letters: 16_777_214, len: 16_777_252 },
+    Chain { count: 2, letters: 16_777_214, len: 16_777_264 },
 ];
 
 #[test]

@@ -58,158 +58,18 @@ struct RunRow {
     taken: &'static [u8],
 }
 
+#[rattlefmt::skip]
 static RUNS: [RunRow; 10] = [
-    RunRow {
-        name: "written in big-endian order",
-        to: Order::Big,
-        devices: FusedDevices {
-            bytes: LITTLE_MOVE32,
-            read_piece: 5,
-            read_fuse: None,
-            write_piece: 5,
-            write_fuse: None,
-        },
-        ended: Ok(8),
-        taken: BIG_MOVE32,
-    },
-    RunRow {
-        name: "a sink that fails at its third byte",
-        to: Order::Little,
-        devices: FusedDevices {
-            bytes: EXIT,
-            read_piece: 16,
-            read_fuse: None,
-            write_piece: 1,
-            write_fuse: Some(3),
-        },
-        ended: Err(RunError {
-            cause: RunCause::WriteFailed,
-            written: 2,
-        }),
-        taken: b"\x95\0",
-    },
-    RunRow {
-        name: "a source that fails after an instruction",
-        to: Order::Little,
-        devices: FusedDevices {
-            bytes: TWO_EXITS,
-            read_piece: 8,
-            read_fuse: Some(2),
-            write_piece: 16,
-            write_fuse: None,
-        },
-        ended: Err(RunError {
-            cause: RunCause::ReadFailed,
-            written: 8,
-        }),
-        taken: EXIT,
-    },
-    RunRow {
-        name: "a source that fails at once",
-        to: Order::Little,
-        devices: FusedDevices {
-            bytes: TWO_EXITS,
-            read_piece: 8,
-            read_fuse: Some(1),
-            write_piece: 16,
-            write_fuse: None,
-        },
-        ended: Err(RunError {
-            cause: RunCause::ReadFailed,
-            written: 0,
-        }),
-        taken: b"",
-    },
-    RunRow {
-        name: "a fault before a failed read",
-        to: Order::Little,
-        devices: FusedDevices {
-            bytes: FAULTY,
-            read_piece: 16,
-            read_fuse: Some(2),
-            write_piece: 16,
-            write_fuse: None,
-        },
-        ended: Err(RunError {
-            cause: RunCause::Fault(FAULT_OF_FAULTY),
-            written: 8,
-        }),
-        taken: EXIT,
-    },
-    RunRow {
-        name: "a failed read before the faulty slot",
-        to: Order::Little,
-        devices: FusedDevices {
-            bytes: FAULTY,
-            read_piece: 8,
-            read_fuse: Some(2),
-            write_piece: 16,
-            write_fuse: None,
-        },
-        ended: Err(RunError {
-            cause: RunCause::ReadFailed,
-            written: 8,
-        }),
-        taken: EXIT,
-    },
-    RunRow {
-        name: "half a wide load before a failed read",
-        to: Order::Little,
-        devices: FusedDevices {
-            bytes: HALF,
-            read_piece: 8,
-            read_fuse: Some(2),
-            write_piece: 16,
-            write_fuse: None,
-        },
-        ended: Err(RunError {
-            cause: RunCause::ReadFailed,
-            written: 0,
-        }),
-        taken: b"",
-    },
-    RunRow {
-        name: "a fuse beyond the last read",
-        to: Order::Little,
-        devices: FusedDevices {
-            bytes: TWO_EXITS,
-            read_piece: 16,
-            read_fuse: Some(3),
-            write_piece: 16,
-            write_fuse: None,
-        },
-        ended: Ok(16),
-        taken: TWO_EXITS,
-    },
-    RunRow {
-        name: "a sink that fails at the instruction before a fault",
-        to: Order::Little,
-        devices: FusedDevices {
-            bytes: FAULTY,
-            read_piece: 16,
-            read_fuse: None,
-            write_piece: 16,
-            write_fuse: Some(1),
-        },
-        ended: Err(RunError {
-            cause: RunCause::WriteFailed,
-            written: 0,
-        }),
-        taken: b"",
-    },
-    RunRow {
-        name: "a fuse beyond the last write",
-        to: Order::Little,
-        devices: FusedDevices {
-            bytes: TWO_EXITS,
-            read_piece: 16,
-            read_fuse: None,
-            write_piece: 16,
-            write_fuse: Some(2),
-        },
-        ended: Ok(16),
-        taken: TWO_EXITS,
-    },
+    RunRow { name: "written in big-endian order", to: Order::Big, devices: FusedDevices { bytes: LITTLE_MOVE32, read_piece: 5, read_fuse: None, write_piece: 5, write_fuse: None }, ended: Ok(8), taken: BIG_MOVE32 },
+    RunRow { name: "a sink that fails at its third byte", to: Order::Little, devices: FusedDevices { bytes: EXIT, read_piece: 16, read_fuse: None, write_piece: 1, write_fuse: Some(3) }, ended: Err(RunError { cause: RunCause::WriteFailed, written: 2 }), taken: b"\x95\0" },
+    RunRow { name: "a source that fails after an instruction", to: Order::Little, devices: FusedDevices { bytes: TWO_EXITS, read_piece: 8, read_fuse: Some(2), write_piece: 16, write_fuse: None }, ended: Err(RunError { cause: RunCause::ReadFailed, written: 8 }), taken: EXIT },
+    RunRow { name: "a source that fails at once", to: Order::Little, devices: FusedDevices { bytes: TWO_EXITS, read_piece: 8, read_fuse: Some(1), write_piece: 16, write_fuse: None }, ended: Err(RunError { cause: RunCause::ReadFailed, written: 0 }), taken: b"" },
+    RunRow { name: "a fault before a failed read", to: Order::Little, devices: FusedDevices { bytes: FAULTY, read_piece: 16, read_fuse: Some(2), write_piece: 16, write_fuse: None }, ended: Err(RunError { cause: RunCause::Fault(FAULT_OF_FAULTY), written: 8 }), taken: EXIT },
+    RunRow { name: "a failed read before the faulty slot", to: Order::Little, devices: FusedDevices { bytes: FAULTY, read_piece: 8, read_fuse: Some(2), write_piece: 16, write_fuse: None }, ended: Err(RunError { cause: RunCause::ReadFailed, written: 8 }), taken: EXIT },
+    RunRow { name: "half a wide load before a failed read", to: Order::Little, devices: FusedDevices { bytes: HALF, read_piece: 8, read_fuse: Some(2), write_piece: 16, write_fuse: None }, ended: Err(RunError { cause: RunCause::ReadFailed, written: 0 }), taken: b"" },
+    RunRow { name: "a fuse beyond the last read", to: Order::Little, devices: FusedDevices { bytes: TWO_EXITS, read_piece: 16, read_fuse: Some(3), write_piece: 16, write_fuse: None }, ended: Ok(16), taken: TWO_EXITS },
+    RunRow { name: "a sink that fails at the instruction before a fault", to: Order::Little, devices: FusedDevices { bytes: FAULTY, read_piece: 16, read_fuse: None, write_piece: 16, write_fuse: Some(1) }, ended: Err(RunError { cause: RunCause::WriteFailed, written: 0 }), taken: b"" },
+    RunRow { name: "a fuse beyond the last write", to: Order::Little, devices: FusedDevices { bytes: TWO_EXITS, read_piece: 16, read_fuse: None, write_piece: 16, write_fuse: Some(2) }, ended: Ok(16), taken: TWO_EXITS },
 ];
 
 #[test]
@@ -234,25 +94,10 @@ struct Calls {
     writes: u64,
 }
 
+#[rattlefmt::skip]
 static CALLS: [Calls; 2] = [
-    Calls {
-        bytes: b"\x95\0\0\0\0\0\0\0\x95\0\0\0\0\0\0\0\x95\0\0\0\0\0\0\0",
-        canonical: b"\x95\0\0\0\0\0\0\0\x95\0\0\0\0\0\0\0\x95\0\0\0\0\0\0\0",
-        order: Order::Little,
-        read_piece: 5,
-        reads: 6,
-        write_piece: 1,
-        writes: 24,
-    },
-    Calls {
-        bytes: b"\xbf\x12\0\0\0\0\0\0",
-        canonical: b"\xbf\x21\0\0\0\0\0\0",
-        order: Order::Big,
-        read_piece: 1,
-        reads: 9,
-        write_piece: 1,
-        writes: 8,
-    },
+    Calls { bytes: b"\x95\0\0\0\0\0\0\0\x95\0\0\0\0\0\0\0\x95\0\0\0\0\0\0\0", canonical: b"\x95\0\0\0\0\0\0\0\x95\0\0\0\0\0\0\0\x95\0\0\0\0\0\0\0", order: Order::Little, read_piece: 5, reads: 6, write_piece: 1, writes: 24 },
+    Calls { bytes: b"\xbf\x12\0\0\0\0\0\0", canonical: b"\xbf\x21\0\0\0\0\0\0", order: Order::Big, read_piece: 1, reads: 9, write_piece: 1, writes: 8 },
 ];
 
 /// Runs the file with these fuses of the source and the sink, and compares.
