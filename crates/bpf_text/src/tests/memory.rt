@@ -13,8 +13,29 @@ use bumpalo::Bump;
 use std::alloc::{AllocError, Allocator, Global};
 use std::test::Fail;
 
-/// Nine lines, and a faulty one. A list of instructions grows for its first, its fifth and its ninth.
-const LINES: &[u8; 50] = b"exit\nexit\nexit\nexit\nexit\nexit\nexit\nexit\nexit\nleav\n";
+/// Nine lines of jumps, and a faulty one, each of 6 bytes. A list of instructions grows for its first, its fifth and its
+/// ninth.
+const LINES: &[u8; 60] = b"\
+    ja +1\nja +2\nja +3\nja +4\nja +5\nja +6\nja +7\nja +8\nja +9\nleave\n";
+
+/// The instructions of these lines.
+const JUMPS: [Insn; 9] = [
+    Insn::Jump { off: 1 },
+    Insn::Jump { off: 2 },
+    Insn::Jump { off: 3 },
+    Insn::Jump { off: 4 },
+    Insn::Jump { off: 5 },
+    Insn::Jump { off: 6 },
+    Insn::Jump { off: 7 },
+    Insn::Jump { off: 8 },
+    Insn::Jump { off: 9 },
+];
+
+/// Their bytes in little-endian order.
+const JUMP_BYTES: &[u8; 72] = b"\
+    \x05\0\x01\0\0\0\0\0\x05\0\x02\0\0\0\0\0\x05\0\x03\0\0\0\0\0\
+    \x05\0\x04\0\0\0\0\0\x05\0\x05\0\0\0\0\0\x05\0\x06\0\0\0\0\0\
+    \x05\0\x07\0\0\0\0\0\x05\0\x08\0\0\0\0\0\x05\0\x09\0\0\0\0\0";
 
 /// The size of an arena in bytes.
 const ROOM: usize = 1984;
@@ -47,52 +68,63 @@ enum Call {
     ReadBytes,
 }
 
-fn listed(bump: &Bump<Global>, lines: usize) -> Outcome {
-    match listing(bump, &[Insn::Exit; 9][..lines.min(9)]) {
-        Ok(text) if LINES.get(..5 * lines.min(9)) == Some(text.as_slice()) => Outcome::Whole,
-        Ok(_) => Outcome::Wrong,
-        Err(_) => Outcome::Refused,
+/// Adds what a call returns in a room to what it returned in all smaller ones: the smallest room in which it succeeded, if
+/// any, or the room of the first wrong answer. It is wrong to run out of memory in a room larger than that.
+fn after(
+    before: Result<Option<usize>, usize>,
+    room: usize,
+    outcome: Outcome,
+) -> Result<Option<usize>, usize> {
+    match (before, outcome) {
+        (Err(_), _) | (Ok(None), Outcome::Refused) | (Ok(Some(_)), Outcome::Whole) => before,
+        (Ok(None), Outcome::Whole) => Ok(Some(room)),
+        _ => Err(room),
     }
 }
 
-/// The outcome of a call that reads `lines` lines, by the number that it found.
-fn found(lines: usize, read: Result<usize, ListError>) -> Outcome {
+/// The outcome of a call that writes or reads `lines` lines, by what it returned and what is right.
+fn found<T: PartialEq>(returned: Result<&[T], ListError>, lines: usize, right: &[T]) -> Outcome {
     let fault = LineFault {
         line: 10,
         cause: LineCause::Word,
     };
-    match read {
-        Ok(count) if count == lines => Outcome::Whole,
-        Err(ListError::Fault(first)) if first == fault => Outcome::Whole,
+    match returned {
+        Ok(items) if lines <= 9 && items == right => Outcome::Whole,
+        Err(ListError::Fault(first)) if lines == 10 && first == fault => Outcome::Whole,
         Err(ListError::Memory) => Outcome::Refused,
         _ => Outcome::Wrong,
     }
 }
 
 fn outcome_of(bump: &Bump<Global>, call: Call, lines: usize) -> Outcome {
-    let text = &LINES[..5 * lines.min(10)];
+    let count = lines.min(9);
+    let text = &LINES[..6 * lines.min(10)];
     match call {
-        Call::Listing => listed(bump, lines),
+        Call::Listing => match listing(bump, &JUMPS[..count]) {
+            Ok(written) => found(Ok(written.as_slice()), lines, text),
+            Err(AllocError) => Outcome::Refused,
+        },
         Call::Read => match read_listing(bump, text) {
-            Ok(insns) => found(lines, Ok(insns.len())),
-            Err(error) => found(lines, Err(error)),
+            Ok(insns) => found(Ok(insns.as_slice()), lines, &JUMPS[..count]),
+            Err(error) => found(Err(error), lines, &JUMPS),
         },
         Call::ReadBytes => match read_listing_bytes(bump, Order::Little, text) {
-            Ok(bytes) => found(lines, Ok(bytes.len() / 8)),
-            Err(error) => found(lines, Err(error)),
+            Ok(bytes) => found(Ok(bytes.as_slice()), lines, &JUMP_BYTES[..8 * count]),
+            Err(error) => found(Err(error), lines, JUMP_BYTES),
         },
     }
 }
 
-/// The smallest room that a call needs. In each smaller one it runs out of memory, and never returns anything else.
-fn least_room(alloc: Global, call: Call, lines: usize) -> Result<Option<usize>, AllocError> {
-    let mut least = None;
+/// The smallest room that a call needs, or the room of its first wrong answer.
+fn least_room(
+    alloc: Global,
+    call: Call,
+    lines: usize,
+) -> Result<Result<Option<usize>, usize>, AllocError> {
+    let mut least = Ok(None);
     for room in 0..=ROOM {
-        match (outcome_of(&arena(alloc, room)?, call, lines), least) {
-            (Outcome::Whole, None) => least = Some(room),
-            (Outcome::Whole, Some(_)) | (Outcome::Refused, None) => {}
-            _ => return Ok(None),
-        }
+        let outcome = outcome_of(&arena(alloc, room)?, call, lines);
+        least = after(least, room, outcome);
     }
     Ok(least)
 }
@@ -114,8 +146,8 @@ macro_rules! row {
 
 static ROOMS: [RoomRow; 13] = [
     row!(Listing of 0 => 0, false),
-    row!(Listing of 1 => 5, true),
-    row!(Listing of 9 => 45, true),
+    row!(Listing of 1 => 6, true),
+    row!(Listing of 9 => 54, true),
     row!(ReadBytes of 0 => 0, false),
     row!(ReadBytes of 1 => 8, true),
     row!(ReadBytes of 9 => 72, true),
@@ -135,10 +167,13 @@ fn each_growth_is_refused(rt: HostRuntime) -> Result<(), Fail> {
         if row.lines == 0 {
             before = 0;
         }
-        let room = least_room(rt.alloc(), row.call, row.lines)?.unwrap_or(ROOM);
-        let right = row.bytes <= room && before <= room && row.grows == (before < room);
-        equal(&rt, &right, &true, &(row, room, before));
-        before = room;
+        let least = least_room(rt.alloc(), row.call, row.lines)?;
+        let right = match least {
+            Ok(Some(room)) => row.bytes <= room && before <= room && row.grows == (before < room),
+            _ => false,
+        };
+        equal(&rt, &right, &true, &(row, least, before));
+        before = least.ok().flatten().unwrap_or(before);
     }
     Ok(())
 }
@@ -156,16 +191,17 @@ const TYPES: KindRow = KindRow {
 fn each_growth_of_the_text_of_types_is_refused(rt: HostRuntime) -> Result<(), Fail> {
     let bytes = file(rt.alloc(), Order::Little, &TYPES)?;
     let table = BtfView::parse(rt.alloc(), &bytes)?;
-    let mut refused = 0;
+    let mut least = Ok(None);
     for room in 0..=ROOM {
-        let bump = arena(rt.alloc(), room)?;
-        match show_btf(&bump, &table) {
-            Ok(text) => equal(&rt, &text.as_slice(), &TYPES.text, &room),
-            Err(_) => refused = room + 1,
-        }
+        let outcome = match show_btf(&arena(rt.alloc(), room)?, &table) {
+            Ok(text) if text.as_slice() == TYPES.text => Outcome::Whole,
+            Ok(_) => Outcome::Wrong,
+            Err(AllocError) => Outcome::Refused,
+        };
+        least = after(least, room, outcome);
     }
-    let right = TYPES.text.len() <= refused && refused < ROOM;
-    equal(&rt, &right, &true, &refused);
+    let right = matches!(least, Ok(Some(room)) if TYPES.text.len() <= room);
+    equal(&rt, &right, &true, &least);
     Ok(())
 }
 
@@ -182,15 +218,16 @@ enum Append {
     QuotedPart,
 }
 
-const APPENDS: [Append; 8] = [
-    Append::Line,
-    Append::Head,
-    Append::HeadStart,
-    Append::HeadEnd,
-    Append::Item,
-    Append::ItemStart,
-    Append::ItemEnd,
-    Append::QuotedPart,
+/// The calls, and what each appends.
+static APPENDS: [(Append, &[u8]); 8] = [
+    (Append::Line, b"exit\n"),
+    (Append::Head, b"[1] struct \"a\\\"b\" size=4 items=2\n"),
+    (Append::HeadStart, b"[1] struct \""),
+    (Append::HeadEnd, b"\" size=4 items=2\n"),
+    (Append::Item, b"  param \"\\\\\" type=7\n"),
+    (Append::ItemStart, b"  param \""),
+    (Append::ItemEnd, b"\" type=7\n"),
+    (Append::QuotedPart, b"a\\\"b\\x01c"),
 ];
 
 fn append_by<A: Allocator>(text: &mut Vec<u8, A>, call: Append) -> Result<(), AllocError> {
@@ -214,8 +251,8 @@ fn append_by<A: Allocator>(text: &mut Vec<u8, A>, call: Append) -> Result<(), Al
     }
 }
 
-/// Whether a call in a room keeps what the text held, and appends the same as with ample memory. If it runs out of memory,
-/// it may append the first bytes, but none of the line of an instruction.
+/// Whether a call in a room keeps what the text held, and appends what is wanted. If it runs out of memory, it may append
+/// the first bytes of that, but none of the line of an instruction.
 fn keeps_the_text(bump: &Bump<Global>, held: &[u8], call: Append, wanted: &[u8]) -> Outcome {
     let Ok(mut text) = Vec::from_slice(bump, held) else {
         return Outcome::Refused;
@@ -235,19 +272,14 @@ fn keeps_the_text(bump: &Bump<Global>, held: &[u8], call: Append, wanted: &[u8])
 #[test]
 fn an_out_of_memory_keeps_the_text(rt: HostRuntime) -> Result<(), Fail> {
     let held = b"; text\n";
-    for call in APPENDS {
-        let mut wanted = Vec::new(rt.alloc());
-        append_by(&mut wanted, call)?;
-        let mut outcomes = (0, 0);
-        for room in 0..=256usize {
-            match keeps_the_text(&arena(rt.alloc(), room)?, held, call, &wanted) {
-                Outcome::Whole => outcomes.0 = room,
-                Outcome::Refused => outcomes.1 = room,
-                Outcome::Wrong => equal(&rt, &room, &0, &call),
-            }
+    for (call, wanted) in APPENDS {
+        let mut least = Ok(None);
+        for room in 0..=256 {
+            let outcome = keeps_the_text(&arena(rt.alloc(), room)?, held, call, wanted);
+            least = after(least, room, outcome);
         }
-        let right = held.len() + wanted.len() <= outcomes.1.saturating_add(1) && outcomes.0 == 256;
-        equal(&rt, &right, &true, &(call, outcomes));
+        let right = matches!(least, Ok(Some(room)) if held.len() + wanted.len() <= room);
+        equal(&rt, &right, &true, &(call, least));
     }
     Ok(())
 }
