@@ -65,8 +65,9 @@ class Threads(unittest.TestCase):
             "btf_same": lambda: bpfcanon.btf_same(types, types),
             "btf_show": lambda: bpfcanon.btf_show(types),
         }
+        # A busy machine may run no other thread during a short call. A call that keeps the lock never lets one run.
         for name, call in calls.items():
-            self.assertGreater(ticks_during(call), 0, name)
+            self.assertTrue(any(ticks_during(call) for _ in range(30)), name)
 
 
 if __name__ == "__main__":
