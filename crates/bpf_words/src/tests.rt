@@ -27,67 +27,20 @@ struct WordRow {
     bytes: &'static [u8],
 }
 
+#[rattlefmt::skip]
 const WORDS: [WordRow; 12] = [
-    WordRow {
-        order: Order::Big,
-        word: Word::Half(0x0203),
-        bytes: b"\x02\x03",
-    },
-    WordRow {
-        order: Order::Little,
-        word: Word::Half(0x0203),
-        bytes: b"\x03\x02",
-    },
-    WordRow {
-        order: Order::Big,
-        word: Word::Half(0xeb9f),
-        bytes: b"\xeb\x9f",
-    },
-    WordRow {
-        order: Order::Little,
-        word: Word::Half(0xeb9f),
-        bytes: b"\x9f\xeb",
-    },
-    WordRow {
-        order: Order::Little,
-        word: Word::Half(0),
-        bytes: b"\0\0",
-    },
-    WordRow {
-        order: Order::Big,
-        word: Word::Half(0xffff),
-        bytes: b"\xff\xff",
-    },
-    WordRow {
-        order: Order::Little,
-        word: Word::Whole(0x0405_0607),
-        bytes: b"\x07\x06\x05\x04",
-    },
-    WordRow {
-        order: Order::Big,
-        word: Word::Whole(0x0405_0607),
-        bytes: b"\x04\x05\x06\x07",
-    },
-    WordRow {
-        order: Order::Little,
-        word: Word::Whole(0x8000_0001),
-        bytes: b"\x01\0\0\x80",
-    },
-    WordRow {
-        order: Order::Big,
-        word: Word::Whole(0x8000_0001),
-        bytes: b"\x80\0\0\x01",
-    },
-    WordRow {
-        order: Order::Little,
-        word: Word::Whole(0),
-        bytes: b"\0\0\0\0",
-    },
-    WordRow {
-        order: Order::Big,
-        word: Word::Whole(0xffff_ffff),
-        bytes: b"\xff\xff\xff\xff",
-    },
+    WordRow { order: Order::Big, word: Word::Half(0x0203), bytes: b"\x02\x03" },
+    WordRow { order: Order::Little, word: Word::Half(0x0203), bytes: b"\x03\x02" },
+    WordRow { order: Order::Big, word: Word::Half(0xeb9f), bytes: b"\xeb\x9f" },
+    WordRow { order: Order::Little, word: Word::Half(0xeb9f), bytes: b"\x9f\xeb" },
+    WordRow { order: Order::Little, word: Word::Half(0), bytes: b"\0\0" },
+    WordRow { order: Order::Big, word: Word::Half(0xffff), bytes: b"\xff\xff" },
+    WordRow { order: Order::Little, word: Word::Whole(0x0405_0607), bytes: b"\x07\x06\x05\x04" },
+    WordRow { order: Order::Big, word: Word::Whole(0x0405_0607), bytes: b"\x04\x05\x06\x07" },
+    WordRow { order: Order::Little, word: Word::Whole(0x8000_0001), bytes: b"\x01\0\0\x80" },
+    WordRow { order: Order::Big, word: Word::Whole(0x8000_0001), bytes: b"\x80\0\0\x01" },
+    WordRow { order: Order::Little, word: Word::Whole(0), bytes: b"\0\0\0\0" },
+    WordRow { order: Order::Big, word: Word::Whole(0xffff_ffff), bytes: b"\xff\xff\xff\xff" },
 ];
 
 /// What the words are appended to, and where they are read from.
@@ -141,78 +94,19 @@ struct SlotRow {
     big: [u8; 8],
 }
 
+#[rattlefmt::skip]
 const SLOTS: [SlotRow; 6] = [
     // exit
-    SlotRow {
-        slot: Slot {
-            opcode: 0x95,
-            dst: 0,
-            src: 0,
-            off: 0,
-            imm: 0,
-        },
-        little: *b"\x95\0\0\0\0\0\0\0",
-        big: *b"\x95\0\0\0\0\0\0\0",
-    },
+    SlotRow { slot: Slot { opcode: 0x95, dst: 0, src: 0, off: 0, imm: 0 }, little: *b"\x95\0\0\0\0\0\0\0", big: *b"\x95\0\0\0\0\0\0\0" },
     // mov r1, r2
-    SlotRow {
-        slot: Slot {
-            opcode: 0xbf,
-            dst: 1,
-            src: 2,
-            off: 0,
-            imm: 0,
-        },
-        little: *b"\xbf\x21\0\0\0\0\0\0",
-        big: *b"\xbf\x12\0\0\0\0\0\0",
-    },
+    SlotRow { slot: Slot { opcode: 0xbf, dst: 1, src: 2, off: 0, imm: 0 }, little: *b"\xbf\x21\0\0\0\0\0\0", big: *b"\xbf\x12\0\0\0\0\0\0" },
     // mov r0, -2
-    SlotRow {
-        slot: Slot {
-            opcode: 0xb7,
-            dst: 0,
-            src: 0,
-            off: 0,
-            imm: -2,
-        },
-        little: *b"\xb7\0\0\0\xfe\xff\xff\xff",
-        big: *b"\xb7\0\0\0\xff\xff\xff\xfe",
-    },
+    SlotRow { slot: Slot { opcode: 0xb7, dst: 0, src: 0, off: 0, imm: -2 }, little: *b"\xb7\0\0\0\xfe\xff\xff\xff", big: *b"\xb7\0\0\0\xff\xff\xff\xfe" },
     // cmpxchg [r1-8], r2
-    SlotRow {
-        slot: Slot {
-            opcode: 0xdb,
-            dst: 1,
-            src: 2,
-            off: -8,
-            imm: 0xf1,
-        },
-        little: *b"\xdb\x21\xf8\xff\xf1\0\0\0",
-        big: *b"\xdb\x12\xff\xf8\0\0\0\xf1",
-    },
+    SlotRow { slot: Slot { opcode: 0xdb, dst: 1, src: 2, off: -8, imm: 0xf1 }, little: *b"\xdb\x21\xf8\xff\xf1\0\0\0", big: *b"\xdb\x12\xff\xf8\0\0\0\xf1" },
     // The greatest number in each field, and the least.
-    SlotRow {
-        slot: Slot {
-            opcode: 0xff,
-            dst: 15,
-            src: 0,
-            off: 0x7fff,
-            imm: 0x7fff_ffff,
-        },
-        little: *b"\xff\x0f\xff\x7f\xff\xff\xff\x7f",
-        big: *b"\xff\xf0\x7f\xff\x7f\xff\xff\xff",
-    },
-    SlotRow {
-        slot: Slot {
-            opcode: 0,
-            dst: 0,
-            src: 15,
-            off: -0x8000,
-            imm: -0x8000_0000,
-        },
-        little: *b"\0\xf0\0\x80\0\0\0\x80",
-        big: *b"\0\x0f\x80\0\x80\0\0\0",
-    },
+    SlotRow { slot: Slot { opcode: 0xff, dst: 15, src: 0, off: 0x7fff, imm: 0x7fff_ffff }, little: *b"\xff\x0f\xff\x7f\xff\xff\xff\x7f", big: *b"\xff\xf0\x7f\xff\x7f\xff\xff\xff" },
+    SlotRow { slot: Slot { opcode: 0, dst: 0, src: 15, off: -0x8000, imm: -0x8000_0000 }, little: *b"\0\xf0\0\x80\0\0\0\x80", big: *b"\0\x0f\x80\0\x80\0\0\0" },
 ];
 
 #[test]

@@ -87,47 +87,16 @@ struct RoomRow {
     end: Decoded,
 }
 
+#[rattlefmt::skip]
 const ROOMS: [RoomRow; 8] = [
-    RoomRow {
-        insns: 1,
-        grows: true,
-        end: Decoded::Whole,
-    },
-    RoomRow {
-        insns: 2,
-        grows: false,
-        end: Decoded::Whole,
-    },
-    RoomRow {
-        insns: 4,
-        grows: false,
-        end: Decoded::Whole,
-    },
-    RoomRow {
-        insns: 5,
-        grows: true,
-        end: Decoded::Whole,
-    },
-    RoomRow {
-        insns: 6,
-        grows: false,
-        end: Decoded::Whole,
-    },
-    RoomRow {
-        insns: 8,
-        grows: false,
-        end: Decoded::Whole,
-    },
-    RoomRow {
-        insns: 9,
-        grows: true,
-        end: Decoded::Whole,
-    },
-    RoomRow {
-        insns: 10,
-        grows: false,
-        end: Decoded::Faulty,
-    },
+    RoomRow { insns: 1, grows: true, end: Decoded::Whole },
+    RoomRow { insns: 2, grows: false, end: Decoded::Whole },
+    RoomRow { insns: 4, grows: false, end: Decoded::Whole },
+    RoomRow { insns: 5, grows: true, end: Decoded::Whole },
+    RoomRow { insns: 6, grows: false, end: Decoded::Whole },
+    RoomRow { insns: 8, grows: false, end: Decoded::Whole },
+    RoomRow { insns: 9, grows: true, end: Decoded::Whole },
+    RoomRow { insns: 10, grows: false, end: Decoded::Faulty },
 ];
 
 #[test]
@@ -156,18 +125,10 @@ struct LargeRow {
     answer: Result<usize, SlotFault>,
 }
 
+#[rattlefmt::skip]
 static LARGE: [LargeRow; 2] = [
-    LargeRow {
-        last: b"\x95\0\0\0\0\0\0\0",
-        answer: Ok(524_288),
-    },
-    LargeRow {
-        last: b"\x18\x01\0\0\0\0\0\0",
-        answer: Err(SlotFault {
-            pos: 4_194_304,
-            cause: SlotCause::Truncated,
-        }),
-    },
+    LargeRow { last: b"\x95\0\0\0\0\0\0\0", answer: Ok(524_288) },
+    LargeRow { last: b"\x18\x01\0\0\0\0\0\0", answer: Err(SlotFault { pos: 4_194_304, cause: SlotCause::Truncated }) },
 ];
 
 /// The bytes of a large file.

@@ -90,42 +90,15 @@ struct OrderRow {
     insn: &'static str,
 }
 
+#[rattlefmt::skip]
 static ORDERS: [OrderRow; 7] = [
-    OrderRow {
-        little: b"\x95\0\0\0\0\0\0\0",
-        big: b"\x95\0\0\0\0\0\0\0",
-        insn: "Exit",
-    },
-    OrderRow {
-        little: b"\xbf\x21\0\0\0\0\0\0",
-        big: b"\xbf\x12\0\0\0\0\0\0",
-        insn: "Alu { width: W64, op: Mov, dst: Reg { number: 1 }, arg: Reg(Reg { number: 2 }) }",
-    },
-    OrderRow {
-        little: b"\xb7\0\0\0\xfe\xff\xff\xff",
-        big: b"\xb7\0\0\0\xff\xff\xff\xfe",
-        insn: "Alu { width: W64, op: Mov, dst: Reg { number: 0 }, arg: Imm(-2) }",
-    },
-    OrderRow {
-        little: b"\xb4\x01\0\0\x07\0\0\0",
-        big: b"\xb4\x10\0\0\0\0\0\x07",
-        insn: "Alu { width: W32, op: Mov, dst: Reg { number: 1 }, arg: Imm(7) }",
-    },
-    OrderRow {
-        little: b"\xdb\x21\xf8\xff\xf1\0\0\0",
-        big: b"\xdb\x12\xff\xf8\0\0\0\xf1",
-        insn: "Atomic { width: W64, op: Cmpxchg, dst: Reg { number: 1 }, src: Reg { number: 2 }, off: -8 }",
-    },
-    OrderRow {
-        little: b"\x18\x01\0\0\x88\x77\x66\x55\0\0\0\0\x44\x33\x22\x11",
-        big: b"\x18\x10\0\0\x55\x66\x77\x88\0\0\0\0\x11\x22\x33\x44",
-        insn: "Wide { dst: Reg { number: 1 }, what: Number(1234605616436508552) }",
-    },
-    OrderRow {
-        little: b"\x18\x31\0\0\x03\0\0\0\0\0\0\0\x01\0\0\0",
-        big: b"\x18\x13\0\0\0\0\0\x03\0\0\0\0\0\0\0\x01",
-        insn: "Wide { dst: Reg { number: 1 }, what: VarAddr(3, 1) }",
-    },
+    OrderRow { little: b"\x95\0\0\0\0\0\0\0", big: b"\x95\0\0\0\0\0\0\0", insn: "Exit" },
+    OrderRow { little: b"\xbf\x21\0\0\0\0\0\0", big: b"\xbf\x12\0\0\0\0\0\0", insn: "Alu { width: W64, op: Mov, dst: Reg { number: 1 }, arg: Reg(Reg { number: 2 }) }" },
+    OrderRow { little: b"\xb7\0\0\0\xfe\xff\xff\xff", big: b"\xb7\0\0\0\xff\xff\xff\xfe", insn: "Alu { width: W64, op: Mov, dst: Reg { number: 0 }, arg: Imm(-2) }" },
+    OrderRow { little: b"\xb4\x01\0\0\x07\0\0\0", big: b"\xb4\x10\0\0\0\0\0\x07", insn: "Alu { width: W32, op: Mov, dst: Reg { number: 1 }, arg: Imm(7) }" },
+    OrderRow { little: b"\xdb\x21\xf8\xff\xf1\0\0\0", big: b"\xdb\x12\xff\xf8\0\0\0\xf1", insn: "Atomic { width: W64, op: Cmpxchg, dst: Reg { number: 1 }, src: Reg { number: 2 }, off: -8 }" },
+    OrderRow { little: b"\x18\x01\0\0\x88\x77\x66\x55\0\0\0\0\x44\x33\x22\x11", big: b"\x18\x10\0\0\x55\x66\x77\x88\0\0\0\0\x11\x22\x33\x44", insn: "Wide { dst: Reg { number: 1 }, what: Number(1234605616436508552) }" },
+    OrderRow { little: b"\x18\x31\0\0\x03\0\0\0\0\0\0\0\x01\0\0\0", big: b"\x18\x13\0\0\0\0\0\x03\0\0\0\0\0\0\0\x01", insn: "Wide { dst: Reg { number: 1 }, what: VarAddr(3, 1) }" },
 ];
 
 #[test]
@@ -240,31 +213,12 @@ fn a_file_that_is_cut_anywhere(rt: HostRuntime) -> Result<(), Fail> {
 }
 
 /// A file, and the place and the cause of its first fault.
+#[rattlefmt::skip]
 static FILE_FAULTS: [FaultRow; 4] = [
-    FaultRow {
-        what: "a source after an exit",
-        little: b"\x95\0\0\0\0\0\0\0\x04\x10\0\0\x05\0\0\0",
-        pos: 9,
-        cause: SlotCause::Src,
-    },
-    FaultRow {
-        what: "a reserved word after an exit",
-        little: b"\x95\0\0\0\0\0\0\0\x18\x01\0\0\0\0\0\0\0\0\0\x01\0\0\0\0",
-        pos: 16,
-        cause: SlotCause::Reserved,
-    },
-    FaultRow {
-        what: "an opcode after a wide load",
-        little: b"\x18\x01\0\0\0\0\0\0\0\0\0\0\0\0\0\0\xff\0\0\0\0\0\0\0",
-        pos: 16,
-        cause: SlotCause::Opcode,
-    },
-    FaultRow {
-        what: "the first of two",
-        little: b"\x95\0\0\0\x01\0\0\0\xff\0\0\0\0\0\0\0",
-        pos: 4,
-        cause: SlotCause::Imm,
-    },
+    FaultRow { what: "a source after an exit", little: b"\x95\0\0\0\0\0\0\0\x04\x10\0\0\x05\0\0\0", pos: 9, cause: SlotCause::Src },
+    FaultRow { what: "a reserved word after an exit", little: b"\x95\0\0\0\0\0\0\0\x18\x01\0\0\0\0\0\0\0\0\0\x01\0\0\0\0", pos: 16, cause: SlotCause::Reserved },
+    FaultRow { what: "an opcode after a wide load", little: b"\x18\x01\0\0\0\0\0\0\0\0\0\0\0\0\0\0\xff\0\0\0\0\0\0\0", pos: 16, cause: SlotCause::Opcode },
+    FaultRow { what: "the first of two", little: b"\x95\0\0\0\x01\0\0\0\xff\0\0\0\0\0\0\0", pos: 4, cause: SlotCause::Imm },
 ];
 
 #[test]
@@ -289,47 +243,16 @@ fn registers_have_the_numbers_up_to_ten(rt: HostRuntime) {
 }
 
 /// The causes by their numbers, their names, and their sentences.
+#[rattlefmt::skip]
 const CAUSES: [(SlotCause, &str, &str); 8] = [
-    (
-        SlotCause::Truncated,
-        "Truncated",
-        "the input ends inside an instruction",
-    ),
-    (
-        SlotCause::Opcode,
-        "Opcode",
-        "no instruction has this opcode",
-    ),
-    (
-        SlotCause::Dst,
-        "Dst",
-        "no instruction with this opcode has this destination register",
-    ),
-    (
-        SlotCause::Src,
-        "Src",
-        "no instruction with this opcode has this source register",
-    ),
-    (
-        SlotCause::Offset,
-        "Offset",
-        "no instruction with this opcode and these registers has this offset",
-    ),
-    (
-        SlotCause::Imm,
-        "Imm",
-        "no instruction with this opcode, these registers and this offset has this immediate",
-    ),
-    (
-        SlotCause::Reserved,
-        "Reserved",
-        "the second slot of a wide load has an opcode, a register or an offset that is not zero",
-    ),
-    (
-        SlotCause::NextImm,
-        "NextImm",
-        "the immediate of the second slot is not zero, and this kind of wide load has one number only",
-    ),
+    (SlotCause::Truncated, "Truncated", "the input ends inside an instruction"),
+    (SlotCause::Opcode, "Opcode", "no instruction has this opcode"),
+    (SlotCause::Dst, "Dst", "no instruction with this opcode has this destination register"),
+    (SlotCause::Src, "Src", "no instruction with this opcode has this source register"),
+    (SlotCause::Offset, "Offset", "no instruction with this opcode and these registers has this offset"),
+    (SlotCause::Imm, "Imm", "no instruction with this opcode, these registers and this offset has this immediate"),
+    (SlotCause::Reserved, "Reserved", "the second slot of a wide load has an opcode, a register or an offset that is not zero"),
+    (SlotCause::NextImm, "NextImm", "the immediate of the second slot is not zero, and this kind of wide load has one number only"),
 ];
 
 #[test]

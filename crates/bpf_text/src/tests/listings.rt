@@ -144,27 +144,12 @@ struct LongRow {
     cause: LineCause,
 }
 
+#[rattlefmt::skip]
 static LONG_LINES: [LongRow; 4] = [
-    LongRow {
-        start: b"exit ",
-        byte: b',',
-        cause: LineCause::Shape,
-    },
-    LongRow {
-        start: b"mov r1, ",
-        byte: b'9',
-        cause: LineCause::Range,
-    },
-    LongRow {
-        start: b"mov r1, 9",
-        byte: b'a',
-        cause: LineCause::Shape,
-    },
-    LongRow {
-        start: b"exit ",
-        byte: b'\0',
-        cause: LineCause::Char,
-    },
+    LongRow { start: b"exit ", byte: b',', cause: LineCause::Shape },
+    LongRow { start: b"mov r1, ", byte: b'9', cause: LineCause::Range },
+    LongRow { start: b"mov r1, 9", byte: b'a', cause: LineCause::Shape },
+    LongRow { start: b"exit ", byte: b'\0', cause: LineCause::Char },
 ];
 
 #[test]
@@ -182,23 +167,12 @@ fn long_lines_are_faulty(rt: HostRuntime) -> Result<(), Fail> {
 }
 
 /// The causes by their numbers, their names, and their sentences.
+#[rattlefmt::skip]
 const CAUSES: [(LineCause, &str, &str); 4] = [
-    (
-        LineCause::Char,
-        "Char",
-        "a character that is neither blank nor part of a token",
-    ),
+    (LineCause::Char, "Char", "a character that is neither blank nor part of a token"),
     (LineCause::Word, "Word", "no instruction has this mnemonic"),
-    (
-        LineCause::Shape,
-        "Shape",
-        "the operands are not those of the mnemonic",
-    ),
-    (
-        LineCause::Range,
-        "Range",
-        "a number is out of the range of its field",
-    ),
+    (LineCause::Shape, "Shape", "the operands are not those of the mnemonic"),
+    (LineCause::Range, "Range", "a number is out of the range of its field"),
 ];
 
 #[test]

@@ -100,32 +100,18 @@ struct FileRow {
     text: &'static [u8],
 }
 
+#[rattlefmt::skip]
 static FILES: [FileRow; 5] = [
     // no types
-    FileRow {
-        bytes: b"\x9f\xeb\x01\0\x18\0\0\0\0\0\0\0\0\0\0\0\0\0\0\0\x01\0\0\0\0",
-        text: b"",
-    },
+    FileRow { bytes: b"\x9f\xeb\x01\0\x18\0\0\0\0\0\0\0\0\0\0\0\0\0\0\0\x01\0\0\0\0", text: b"" },
     // an ENUM64 in a big-endian file
-    FileRow {
-        bytes: b"\xeb\x9f\x01\0\0\0\0\x18\0\0\0\0\0\0\0\x18\0\0\0\x18\0\0\0\x05\0\0\0\x01\x93\0\0\x01\0\0\0\x08\0\0\0\x03\xff\xff\xff\xfe\xff\xff\xff\xff\0e\0m\0",
-        text: b"[1] enum64 \"e\" signed size=8 items=1\n  value \"m\" -2\n",
-    },
+    FileRow { bytes: b"\xeb\x9f\x01\0\0\0\0\x18\0\0\0\0\0\0\0\x18\0\0\0\x18\0\0\0\x05\0\0\0\x01\x93\0\0\x01\0\0\0\x08\0\0\0\x03\xff\xff\xff\xfe\xff\xff\xff\xff\0e\0m\0", text: b"[1] enum64 \"e\" signed size=8 items=1\n  value \"m\" -2\n" },
     // a STRUCT with kind_flag 1 and without bit-fields
-    FileRow {
-        bytes: b"\x9f\xeb\x01\0\x18\0\0\0\0\0\0\0\x28\0\0\0\x28\0\0\0\x09\0\0\0\x01\0\0\0\0\0\0\x01\x04\0\0\0\x20\0\0\x01\x05\0\0\0\x01\0\0\x84\x04\0\0\0\x07\0\0\0\x01\0\0\0\0\0\0\0\0int\0s\0a\0",
-        text: b"[1] int \"int\" size=4 encoding=signed offset=0 bits=32\n[2] struct \"s\" size=4 items=1\n  member \"a\" type=1 offset=0 width=0\n",
-    },
+    FileRow { bytes: b"\x9f\xeb\x01\0\x18\0\0\0\0\0\0\0\x28\0\0\0\x28\0\0\0\x09\0\0\0\x01\0\0\0\0\0\0\x01\x04\0\0\0\x20\0\0\x01\x05\0\0\0\x01\0\0\x84\x04\0\0\0\x07\0\0\0\x01\0\0\0\0\0\0\0\0int\0s\0a\0", text: b"[1] int \"int\" size=4 encoding=signed offset=0 bits=32\n[2] struct \"s\" size=4 items=1\n  member \"a\" type=1 offset=0 width=0\n" },
     // a DECL_TAG of a member
-    FileRow {
-        bytes: b"\x9f\xeb\x01\0\x18\0\0\0\0\0\0\0\x44\0\0\0\x44\0\0\0\x0d\0\0\0\x01\0\0\0\0\0\0\x01\x04\0\0\0\x20\0\0\x01\x05\0\0\0\x02\0\0\x04\x08\0\0\0\x07\0\0\0\x01\0\0\0\0\0\0\0\x09\0\0\0\x01\0\0\0\x20\0\0\0\x0b\0\0\0\0\0\0\x11\x02\0\0\0\x01\0\0\0\0int\0s\0a\0b\0t\0",
-        text: b"[1] int \"int\" size=4 encoding=signed offset=0 bits=32\n[2] struct \"s\" size=8 items=2\n  member \"a\" type=1 offset=0 width=0\n  member \"b\" type=1 offset=32 width=0\n[3] decl_tag \"t\" flag=0 type=2 component=1\n",
-    },
+    FileRow { bytes: b"\x9f\xeb\x01\0\x18\0\0\0\0\0\0\0\x44\0\0\0\x44\0\0\0\x0d\0\0\0\x01\0\0\0\0\0\0\x01\x04\0\0\0\x20\0\0\x01\x05\0\0\0\x02\0\0\x04\x08\0\0\0\x07\0\0\0\x01\0\0\0\0\0\0\0\x09\0\0\0\x01\0\0\0\x20\0\0\0\x0b\0\0\0\0\0\0\x11\x02\0\0\0\x01\0\0\0\0int\0s\0a\0b\0t\0", text: b"[1] int \"int\" size=4 encoding=signed offset=0 bits=32\n[2] struct \"s\" size=8 items=2\n  member \"a\" type=1 offset=0 width=0\n  member \"b\" type=1 offset=32 width=0\n[3] decl_tag \"t\" flag=0 type=2 component=1\n" },
     // a name with mostly escaped bytes
-    FileRow {
-        bytes: b"\x9f\xeb\x01\0\x18\0\0\0\0\0\0\0\x0c\0\0\0\x0c\0\0\0\x07\0\0\0\x01\0\0\0\0\0\0\x08\0\0\0\0\0a\"\\\x01\x7f\0",
-        text: b"[1] typedef \"a\\\"\\\\\\x01\\x7f\" type=0\n",
-    },
+    FileRow { bytes: b"\x9f\xeb\x01\0\x18\0\0\0\0\0\0\0\x0c\0\0\0\x0c\0\0\0\x07\0\0\0\x01\0\0\0\0\0\0\x08\0\0\0\0\0a\"\\\x01\x7f\0", text: b"[1] typedef \"a\\\"\\\\\\x01\\x7f\" type=0\n" },
 ];
 
 #[test]
