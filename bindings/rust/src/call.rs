@@ -1,0 +1,118 @@
+//! What all calls share: room for output, names of causes and strings of the library.
+
+use crate::{sys, Error};
+use std::ffi::{c_char, CStr};
+use std::fmt;
+
+/// An enum of causes. The trait can't be named outside the crate, so no other type implements it.
+pub trait CauseNumber: Copy + fmt::Debug + fmt::Display + Send + Sync + 'static {
+    /// What a position counts, in messages.
+    const PLACE: &'static str;
+    /// The cause of a number.
+    fn of_number(number: u32) -> Self;
+}
+
+/// A static string of the library.
+pub(crate) fn text(string: *const c_char) -> Option<&'static str> {
+    if string.is_null() {
+        return None;
+    }
+    // SAFETY: the library's strings are static and end with a NUL.
+    unsafe { CStr::from_ptr(string) }.to_str().ok()
+}
+
+/// Makes a call with room of this many bytes, and once more if the output needs more.
+pub(crate) fn output<C: CauseNumber>(
+    room: usize,
+    place: impl Fn(&sys::Answer) -> u64,
+    call: impl Fn(*mut u8, usize) -> sys::Answer,
+) -> Result<Vec<u8>, Error<C>> {
+    let mut out = Vec::new();
+    let mut room = room;
+    loop {
+        out.try_reserve_exact(room).map_err(|_| Error::OutOfMemory)?;
+        let answer = call(out.as_mut_ptr(), out.capacity());
+        match answer.status {
+            sys::DONE => {
+                assert!(answer.written <= out.capacity());
+                // SAFETY: the call has written so many bytes.
+                unsafe { out.set_len(answer.written) };
+                return Ok(out);
+            }
+            sys::ROOM if answer.needed > out.capacity() => room = answer.needed,
+            _ => return Err(Error::of(&answer, place(&answer))),
+        }
+    }
+}
+
+/// Returns whether two inputs are the same, by the answer of a comparison.
+pub(crate) fn comparison<C: CauseNumber>(answer: &sys::Answer) -> Result<bool, Error<C>> {
+    match answer.status {
+        sys::DONE => Ok(true),
+        sys::DIFFERENT => Ok(false),
+        _ => Err(Error::of(answer, answer.pos)),
+    }
+}
+
+/// Declares an enum of causes by their names and numbers.
+macro_rules! causes {
+    ($(#[$about:meta])* $kind:ident, $place:literal, $name:path, $text:path;
+     $($(#[$doc:meta])* $variant:ident = $number:literal,)+) => {
+        $(#[$about])*
+        #[derive(Clone, Copy, Debug, PartialEq, Eq, Hash)]
+        #[non_exhaustive]
+        pub enum $kind {
+            $($(#[$doc])* $variant,)+
+            /// A cause that only a newer library has, by its number in `bpfcanon.h`.
+            Other(u32),
+        }
+
+        impl $kind {
+            /// All causes that this version of the crate knows.
+            pub const ALL: &'static [$kind] = &[$($kind::$variant),+];
+
+            /// Returns the number of the cause in `bpfcanon.h`.
+            pub fn number(self) -> u32 {
+                match self {
+                    $($kind::$variant => $number,)+
+                    $kind::Other(number) => number,
+                }
+            }
+
+            /// Returns the name of the cause, as in `docs/FORMATS.md` and the messages of the
+            /// command; none if the library doesn't know it.
+            pub fn name(self) -> Option<&'static str> {
+                // SAFETY: the call takes any number.
+                $crate::call::text(unsafe { $name(self.number()) })
+            }
+
+            /// Returns a sentence on what the cause means, without a full stop; none if the
+            /// library doesn't know it.
+            pub fn description(self) -> Option<&'static str> {
+                // SAFETY: the call takes any number.
+                $crate::call::text(unsafe { $text(self.number()) })
+            }
+        }
+
+        impl $crate::call::CauseNumber for $kind {
+            const PLACE: &'static str = $place;
+
+            fn of_number(number: u32) -> $kind {
+                match number {
+                    $($number => $kind::$variant,)+
+                    _ => $kind::Other(number),
+                }
+            }
+        }
+
+        impl std::fmt::Display for $kind {
+            fn fmt(&self, f: &mut std::fmt::Formatter<'_>) -> std::fmt::Result {
+                match self.description() {
+                    Some(sentence) => f.write_str(sentence),
+                    None => write!(f, "cause {}", self.number()),
+                }
+            }
+        }
+    };
+}
+pub(crate) use causes;

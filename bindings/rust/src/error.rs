@@ -1,0 +1,103 @@
+//! The errors of calls.
+
+use crate::{call::CauseNumber, sys};
+use std::{fmt, io};
+
+/// The first fault of an input.
+#[derive(Clone, Copy, Debug, PartialEq, Eq, Hash)]
+pub struct Fault<C> {
+    pub(crate) position: u64,
+    pub(crate) cause: C,
+    pub(crate) is_in_second: bool,
+}
+
+impl<C: Copy> Fault<C> {
+    /// Returns the offset of the fault in bytes, or in a listing its line, counted from 1.
+    pub fn position(&self) -> u64 {
+        self.position
+    }
+
+    /// Returns why the input was refused.
+    pub fn cause(&self) -> C {
+        self.cause
+    }
+
+    /// Returns whether the fault is in the second of two inputs. Then the first has none.
+    pub fn is_in_second(&self) -> bool {
+        self.is_in_second
+    }
+}
+
+impl<C: CauseNumber> fmt::Display for Fault<C> {
+    fn fmt(&self, f: &mut fmt::Formatter<'_>) -> fmt::Result {
+        let input = if self.is_in_second { "second input: " } else { "" };
+        write!(f, "{input}{} {}: {}", C::PLACE, self.position, self.cause)
+    }
+}
+
+impl<C: CauseNumber> std::error::Error for Fault<C> {}
+
+/// The error of a call, with the causes `C` of faults: [`insn::Error`](crate::insn::Error),
+/// [`insn::ListingError`](crate::insn::ListingError) or [`btf::Error`](crate::btf::Error).
+#[derive(Clone, Copy, Debug, PartialEq, Eq, Hash)]
+#[non_exhaustive]
+pub enum Error<C> {
+    /// The input is refused.
+    Fault(Fault<C>),
+    /// Out of memory.
+    OutOfMemory,
+    /// The library returned a status that this crate doesn't know.
+    Status(u32),
+}
+
+impl<C> Error<C> {
+    /// Returns the fault, if the input was refused.
+    pub fn fault(&self) -> Option<&Fault<C>> {
+        match self {
+            Error::Fault(fault) => Some(fault),
+            _ => None,
+        }
+    }
+}
+
+impl<C: CauseNumber> Error<C> {
+    /// The error of an answer whose status is not one of success.
+    pub(crate) fn of(answer: &sys::Answer, place: u64) -> Error<C> {
+        match answer.status {
+            sys::FAULT | sys::FAULT_SECOND => {
+                let is_in_second = answer.status == sys::FAULT_SECOND;
+                Error::Fault(Fault {
+                    position: place,
+                    cause: C::of_number(answer.cause),
+                    is_in_second,
+                })
+            }
+            sys::MEMORY => Error::OutOfMemory,
+            other => Error::Status(other),
+        }
+    }
+}
+
+impl<C: CauseNumber> fmt::Display for Error<C> {
+    fn fmt(&self, f: &mut fmt::Formatter<'_>) -> fmt::Result {
+        match self {
+            Error::Fault(fault) => fault.fmt(f),
+            Error::OutOfMemory => f.write_str("out of memory"),
+            Error::Status(status) => write!(f, "unknown status {status} of libbpfcanon"),
+        }
+    }
+}
+
+impl<C: CauseNumber> std::error::Error for Error<C> {}
+
+/// A fault is [`io::ErrorKind::InvalidData`]. To get it back, downcast [`io::Error::get_ref`].
+impl<C: CauseNumber> From<Error<C>> for io::Error {
+    fn from(error: Error<C>) -> io::Error {
+        let kind = match error {
+            Error::Fault(_) => io::ErrorKind::InvalidData,
+            Error::OutOfMemory => io::ErrorKind::OutOfMemory,
+            Error::Status(_) => io::ErrorKind::Other,
+        };
+        io::Error::new(kind, error)
+    }
+}

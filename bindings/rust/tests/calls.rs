@@ -1,0 +1,130 @@
+//! What the vectors don't show: compiled files, empty inputs, long output, errors and threads.
+
+use bpfcanon::{btf, insn, Order};
+use std::{error, fs, io};
+
+const EXIT: [u8; 8] = [0x95, 0, 0, 0, 0, 0, 0, 0];
+
+fn load(name: &str) -> Vec<u8> {
+    let path = format!("{}/../../testdata/{name}", env!("CARGO_MANIFEST_DIR"));
+    fs::read(&path).unwrap_or_else(|error| panic!("{path}: {error}"))
+}
+
+#[test]
+fn compiled_files_of_both_orders_have_the_same_canonical_bytes() {
+    for name in ["packet_filter", "hash_words"] {
+        let (little, big) = (load(&format!("{name}.little.bin")), load(&format!("{name}.big.bin")));
+        assert_eq!(insn::canon(Order::Little, Order::Little, &little).unwrap(), little);
+        assert_eq!(insn::canon(Order::Big, Order::Little, &big).unwrap(), little);
+        assert_eq!(insn::canon(Order::Little, Order::Big, &little).unwrap(), big);
+        assert_eq!(insn::same(Order::Little, &little, Order::Big, &big), Ok(true));
+        assert_eq!(insn::same(Order::Little, &little, Order::Little, &EXIT), Ok(false));
+        let listing = insn::show(Order::Big, &big).unwrap();
+        assert_eq!(insn::read(Order::Little, listing).unwrap(), little);
+    }
+    let (little, big) = (load("flow_table.little.btf"), load("flow_table.big.btf"));
+    let canonical = btf::canon(Order::Little, &little).unwrap();
+    assert_eq!(btf::canon(Order::Little, &big).unwrap(), canonical);
+    assert_eq!(btf::same(&little, &big), Ok(true));
+    let records = btf::show(&big).unwrap().lines().filter(|it| it.starts_with('[')).count();
+    assert_eq!(btf::check(&little).unwrap() as usize, records);
+}
+
+#[test]
+fn empty_inputs_are_inputs() {
+    assert_eq!(insn::canon(Order::Big, Order::Little, &[]).unwrap(), []);
+    assert_eq!(insn::show(Order::Big, &[]).unwrap(), "");
+    assert_eq!(insn::read(Order::Big, "").unwrap(), []);
+    assert_eq!(insn::groups(Order::Big, &[]).unwrap(), insn::Groups::empty());
+    assert_eq!(insn::same(Order::Big, &[], Order::Little, &[]), Ok(true));
+    let fault = *btf::check(&[]).unwrap_err().fault().unwrap();
+    assert_eq!((fault.position(), fault.cause()), (0, btf::Cause::ShortHeader));
+}
+
+/// 300 FWDs with one name of 2,000 letters: their text is many times as long as the file.
+#[test]
+fn a_name_that_types_share_is_written_for_each() {
+    let name = "a".repeat(2000);
+    let types = [1u32, 7 << 24, 0].map(u32::to_le_bytes).concat().repeat(300);
+    let strings = format!("\0{name}\0");
+    let lengths = [24, 0, types.len(), types.len(), strings.len()];
+    let lengths = lengths.map(|it| (it as u32).to_le_bytes()).concat();
+    let file = [&[0x9f, 0xeb, 1, 0], &lengths[..], &types, strings.as_bytes()].concat();
+    assert_eq!(btf::show(&file).unwrap().matches(&name).count(), 300);
+}
+
+#[test]
+fn a_listing_of_short_lines_is_read() {
+    let listing = "exit\n".repeat(1000);
+    assert_eq!(insn::read(Order::Little, listing).unwrap(), EXIT.repeat(1000));
+}
+
+#[test]
+fn errors_say_the_place_and_the_cause() {
+    let cut = &load("flow_table.little.btf")[..100];
+    let sum = "hdr_len, type_len and str_len do not add up to the length of the file";
+    assert_eq!(btf::check(cut).unwrap_err().to_string(), format!("byte 100: {sum}"));
+    let error = btf::same(&load("flow_table.big.btf"), cut).unwrap_err();
+    assert_eq!(error.to_string(), format!("second input: byte 100: {sum}"));
+    let error = insn::read(Order::Little, "exit\n\nleave\n").unwrap_err();
+    assert_eq!(error.to_string(), "line 3: no instruction has this mnemonic");
+}
+
+#[test]
+fn errors_go_through_dyn_error_and_io_error() {
+    fn run() -> Result<(), Box<dyn error::Error + Send + Sync>> {
+        insn::canon(Order::Little, Order::Little, &[0xff; 8])?;
+        Ok(())
+    }
+    let error = run().unwrap_err();
+    let fault = error.downcast_ref::<insn::Error>().unwrap().fault().unwrap();
+    assert_eq!(fault.cause(), insn::Cause::Opcode);
+    let error = io::Error::from(btf::check(b"no BTF").unwrap_err());
+    assert_eq!(error.kind(), io::ErrorKind::InvalidData);
+    assert!(error.get_ref().unwrap().is::<btf::Error>());
+    let error = io::Error::from(btf::Error::OutOfMemory);
+    assert_eq!(error.kind(), io::ErrorKind::OutOfMemory);
+}
+
+/// The variants are spelled as the library's names, and the library has no other cause.
+#[test]
+fn the_crate_has_every_cause_of_the_library() {
+    for (at, it) in insn::Cause::ALL.iter().enumerate() {
+        assert_eq!((it.number() as usize, it.name()), (at + 1, Some(&*format!("{it:?}"))));
+    }
+    for (at, it) in insn::ListingCause::ALL.iter().enumerate() {
+        assert_eq!((it.number() as usize, it.name()), (at + 1, Some(&*format!("{it:?}"))));
+    }
+    for (at, it) in btf::Cause::ALL.iter().enumerate() {
+        assert_eq!((it.number() as usize, it.name()), (at + 1, Some(&*format!("{it:?}"))));
+    }
+    assert_eq!(insn::Cause::Other(insn::Cause::ALL.len() as u32 + 1).name(), None);
+    assert_eq!(insn::ListingCause::Other(insn::ListingCause::ALL.len() as u32 + 1).name(), None);
+    let next = btf::Cause::Other(btf::Cause::ALL.len() as u32 + 1);
+    assert_eq!((next.name(), next.description()), (None, None));
+    assert_eq!(next.to_string(), format!("cause {}", next.number()));
+}
+
+#[test]
+fn the_library_has_the_version_of_the_crate() {
+    assert_eq!(bpfcanon::library_version(), env!("CARGO_PKG_VERSION"));
+}
+
+#[test]
+fn threads_may_call_at_the_same_time() {
+    fn is_thread_safe<T: Send + Sync + 'static>() {}
+    is_thread_safe::<insn::Error>();
+    is_thread_safe::<insn::InsnWriter<Vec<u8>>>();
+    let file = &load("flow_table.big.btf");
+    let canonical = &btf::canon(Order::Little, file).unwrap();
+    let repeat = || {
+        for _ in 0..500 {
+            assert_eq!(&btf::canon(Order::Little, file).unwrap(), canonical);
+        }
+    };
+    std::thread::scope(|scope| {
+        for _ in 0..4 {
+            scope.spawn(repeat);
+        }
+    });
+}

@@ -1,0 +1,151 @@
+//! The rows of testdata/vectors.tsv; testdata/README.md has the columns.
+
+use bpfcanon::insn::Groups;
+use bpfcanon::{btf, insn, Error, Order};
+use std::fmt::Debug;
+use std::fs;
+
+const ORDERS: [Order; 2] = [Order::Little, Order::Big];
+
+/// The fields of each row of a kind, without the kind.
+fn rows(kind: &str) -> Vec<Vec<String>> {
+    let path = concat!(env!("CARGO_MANIFEST_DIR"), "/../../testdata/vectors.tsv");
+    let file = fs::read_to_string(path).unwrap_or_else(|error| panic!("{path}: {error}"));
+    let lines = file.lines().map(|line| line.split('\t').map(String::from).collect::<Vec<_>>());
+    let found: Vec<_> = lines.filter(|row| row[0] == kind).map(|row| row[1..].to_vec()).collect();
+    assert!(!found.is_empty(), "no rows of {kind}");
+    found
+}
+
+/// The bytes of a field of hexadecimal digits.
+fn data(field: &str) -> Vec<u8> {
+    let digits = field.trim_end_matches('-');
+    let byte = |at| u8::from_str_radix(&digits[at..at + 2], 16).unwrap();
+    (0..digits.len()).step_by(2).map(byte).collect()
+}
+
+/// The bytes of a field of text.
+fn text(field: &str) -> Vec<u8> {
+    let mut found = Vec::new();
+    if field == "-" {
+        return found;
+    }
+    let mut rest = field.bytes();
+    while let Some(byte) = rest.next() {
+        let escape = if byte == b'\\' { rest.next() } else { None };
+        found.push(match escape {
+            None => byte,
+            Some(b'n') => b'\n',
+            Some(b't') => b'\t',
+            Some(b'r') => b'\r',
+            Some(b'x') => {
+                let mut digit = || char::from(rest.next().unwrap()).to_digit(16).unwrap() as u8;
+                digit() * 16 + digit()
+            }
+            Some(other) => other,
+        });
+    }
+    found
+}
+
+fn groups_of(name: &str) -> Groups {
+    match name {
+        "base32" => Groups::BASE32,
+        "base64" => Groups::BASE64 | Groups::BASE32,
+        "atomic32" => Groups::ATOMIC32,
+        "atomic64" => Groups::ATOMIC64 | Groups::ATOMIC32,
+        "divmul32" => Groups::DIVMUL32,
+        "divmul64" => Groups::DIVMUL64 | Groups::DIVMUL32,
+        "packet" => Groups::PACKET,
+        other => panic!("no group {other}"),
+    }
+}
+
+/// A fault as in a row: whether it is in the second of two inputs, its place and its cause.
+fn fault<T: Debug, C: Copy + Debug>(result: Result<T, Error<C>>) -> (bool, String, String) {
+    let fault = match result {
+        Err(Error::Fault(fault)) => fault,
+        other => panic!("no fault, but {other:?}"),
+    };
+    (fault.is_in_second(), fault.position().to_string(), format!("{:?}", fault.cause()))
+}
+
+#[test]
+fn instructions() {
+    for row in rows("insn") {
+        let (line, programs) = (&row[0], [data(&row[1]), data(&row[2])]);
+        for (from, program) in ORDERS.into_iter().zip(&programs) {
+            for (to, written) in ORDERS.into_iter().zip(&programs) {
+                assert_eq!(insn::canon(from, to, program).as_ref(), Ok(written), "{line}");
+                assert_eq!(insn::same(from, program, to, written), Ok(true), "{line}");
+            }
+            assert_eq!(insn::show(from, program), Ok(format!("{line}\n")));
+            assert_eq!(insn::read(from, line).as_ref(), Ok(program), "{line}");
+            assert_eq!(insn::groups(from, program), Ok(groups_of(&row[3])), "{line}");
+        }
+    }
+}
+
+#[test]
+fn faulty_instructions() {
+    for row in rows("insn-fault") {
+        let first = (false, row[3].clone(), row[4].clone());
+        let second = (true, row[3].clone(), row[4].clone());
+        for (order, field) in ORDERS.into_iter().zip(&row[1..3]) {
+            let program = data(field);
+            assert_eq!(fault(insn::canon(order, Order::Little, &program)), first, "{}", row[0]);
+            assert_eq!(fault(insn::show(order, &program)), first, "{}", row[0]);
+            assert_eq!(fault(insn::groups(order, &program)), first, "{}", row[0]);
+            assert_eq!(fault(insn::same(order, &program, order, &[])), first, "{}", row[0]);
+            assert_eq!(fault(insn::same(order, &[], order, &program)), second, "{}", row[0]);
+        }
+    }
+}
+
+#[test]
+fn listings() {
+    for row in rows("listing") {
+        let program = insn::read(Order::Little, text(&row[1])).unwrap();
+        let listing = insn::show(Order::Little, &program).unwrap();
+        assert_eq!(listing.as_bytes(), text(&row[2]), "{}", row[0]);
+    }
+}
+
+#[test]
+fn faulty_listings() {
+    for row in rows("listing-fault") {
+        let expected = (false, row[2].clone(), row[3].clone());
+        assert_eq!(fault(insn::read(Order::Big, text(&row[1]))), expected, "{}", row[0]);
+    }
+}
+
+#[test]
+fn types() {
+    for row in rows("btf") {
+        let (name, canonical) = (&row[0], [data(&row[2]), data(&row[3])]);
+        for file in [&data(&row[1]), &canonical[0], &canonical[1]] {
+            for (to, written) in ORDERS.into_iter().zip(&canonical) {
+                assert_eq!(btf::canon(to, file).as_ref(), Ok(written), "{name}");
+            }
+            assert_eq!(btf::show(file).unwrap().as_bytes(), text(&row[5]), "{name}");
+            assert_eq!(btf::check(file).unwrap().to_string(), row[4], "{name}");
+            assert_eq!(btf::same(file, &canonical[0]), Ok(true), "{name}");
+        }
+    }
+}
+
+#[test]
+fn faulty_types() {
+    let good = data(&rows("btf")[0][1]);
+    for row in rows("btf-fault") {
+        let first = (false, row[3].clone(), row[4].clone());
+        let second = (true, row[3].clone(), row[4].clone());
+        for file in [data(&row[1]), data(&row[2])] {
+            assert_eq!(fault(btf::canon(Order::Little, &file)), first, "{}", row[0]);
+            assert_eq!(fault(btf::show(&file)), first, "{}", row[0]);
+            assert_eq!(fault(btf::check(&file)), first, "{}", row[0]);
+            assert_eq!(fault(btf::same(&file, &good)), first, "{}", row[0]);
+            assert_eq!(fault(btf::same(&good, &file)), second, "{}", row[0]);
+        }
+    }
+}
