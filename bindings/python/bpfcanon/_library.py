@@ -4,14 +4,15 @@ import ctypes
 import functools
 import mmap
 import os
+import pathlib
 from typing import Any, Callable, Union
 
 # What is taken as bytes: see pointer_to.
 Buffer = Union[bytes, bytearray, memoryview, mmap.mmap]
 
 NAME = "libbpfcanon.so.0"
-# The versions whose calls are those below. Before 1.0 another minor version may have others.
-VERSION = "0.1."
+# The library's oldest version with the calls below. All later ones with this major number, which NAME has too, have them.
+OLDEST = (0, 1)
 
 # How a call ended (enum bpfcanon_status).
 DONE, DIFFERENT, FAULT, FAULT_SECOND, MEMORY, ROOM, ORDER = range(7)
@@ -61,21 +62,32 @@ _NAMES = ["insn_cause_name", "insn_cause_text", "line_cause_name", "line_cause_t
 
 @functools.lru_cache(maxsize=None)
 def library() -> ctypes.CDLL:
-    """The library, loaded at the first call: the file BPFCANON_LIBRARY, or else libbpfcanon.so.0."""
-    path = os.environ.get("BPFCANON_LIBRARY") or NAME
+    """The library, loaded at the first call.
+
+    It is the file BPFCANON_LIBRARY, or else libbpfcanon.so.0 in the folder of the package, where a wheel has it, or else that of
+    the system.
+    """
+    beside = pathlib.Path(__file__).with_name(NAME)
+    path = os.environ.get("BPFCANON_LIBRARY") or (str(beside) if beside.is_file() else NAME)
     try:
         loaded = ctypes.CDLL(path)
     except OSError as error:
         raise OSError(f"bpfcanon's C library can't be loaded ({error}); BPFCANON_LIBRARY can name its file") from error
     _declare(loaded, "version", [], ctypes.c_char_p)
     version: bytes = loaded.bpfcanon_version()
-    if not version.startswith(VERSION.encode()):
-        raise OSError(f"{path} has version {version.decode()}, and this package needs {VERSION}x")
+    if not has_all_calls(version.decode()):
+        raise OSError(f"{path} has version {version.decode()}, and this package needs {OLDEST[0]}.{OLDEST[1]} or a later {OLDEST[0]}.x")
     for name, arguments in _CALLS.items():
         _declare(loaded, name, arguments, Answer)
     for name in _NAMES:
         _declare(loaded, name, _ORDER, ctypes.c_char_p)
     return loaded
+
+
+def has_all_calls(version: str) -> bool:
+    """Whether the library of a version, as "0.1.0", has all calls of this package."""
+    major, minor = (int(number) for number in version.split(".")[:2])
+    return major == OLDEST[0] and minor >= OLDEST[1]
 
 
 def _declare(loaded: ctypes.CDLL, name: str, arguments: list[Any], result: Any) -> None:

@@ -45,7 +45,11 @@ def error_of(answer: Any, cause: Callable[[int], Cause]) -> Optional[BpfcanonErr
         return None
     if answer.status in (_library.FAULT, _library.FAULT_SECOND):
         second = answer.status == _library.FAULT_SECOND
-        return Fault(cause(answer.cause), answer.pos, answer.line, second)
+        try:
+            return Fault(cause(answer.cause), answer.pos, answer.line, second)
+        except ValueError:
+            place = f"line {answer.line}" if answer.line else f"byte {answer.pos}"
+            return BpfcanonError(f"{place}: cause {answer.cause}, which this version of the package doesn't know")
     if answer.status == _library.MEMORY:
         return OutOfMemory("out of memory")
     if answer.status == _library.ORDER:

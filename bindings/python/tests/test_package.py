@@ -96,6 +96,14 @@ class Faults(unittest.TestCase):
             self.assertEqual(type(raised), error or type(None))
         self.assertIsNotNone(error_of(_library.Answer(99), InsnCause))
 
+    def test_a_cause_of_a_newer_library_is_an_error_of_the_package(self) -> None:
+        for answer, text in [
+            (_library.Answer(_library.FAULT, cause=99, pos=8), "byte 8: cause 99, which this version of the package doesn't know"),
+            (_library.Answer(_library.FAULT, cause=99, line=8), "line 8: cause 99, which this version of the package doesn't know"),
+        ]:
+            error = error_of(answer, InsnCause)
+            self.assertEqual((type(error), str(error)), (bpfcanon.BpfcanonError, text))
+
     def test_causes_have_the_names_and_sentences_of_the_formats(self) -> None:
         page = (TOP / "docs" / "FORMATS.md").read_text()
         for section, causes in [
@@ -141,13 +149,14 @@ class Library(unittest.TestCase):
 
     def test_a_library_of_another_version_is_refused(self) -> None:
         self.addCleanup(_library.library.cache_clear)
-        for version, is_taken in [("0.1.0", True), ("0.1.12", True), ("0.2.0", False), ("0.10.0", False), ("1.1.0", False)]:
+        taken = [("0.0.9", False), ("0.1.0", True), ("0.1.12", True), ("0.2.0", True), ("0.10.0", True), ("1.0.0", False), ("1.1.0", False)]
+        for version, is_taken in taken:
             _library.library.cache_clear()
             with mock.patch("ctypes.CDLL", return_value=Calls(version)):
                 if is_taken:
                     self.assertEqual(bpfcanon.library_version(), version)
                 else:
-                    with self.assertRaisesRegex(OSError, f"version {version}, .* needs 0.1.x"):
+                    with self.assertRaisesRegex(OSError, f"version {version}, .* needs 0.1 or a later 0.x"):
                         bpfcanon.library_version()
 
     def test_each_exported_name_is_there(self) -> None:
