@@ -22,7 +22,7 @@ from program import Report
 TOP = pathlib.Path(__file__).resolve().parent.parent
 # The real tools that the runners and the stand-ins need.
 BASE = "bash cat cmp cp cut diff dirname env grep ln ls mkdir mktemp nproc rm sed sh sleep tail tee test touch true uname wc".split()
-TOOLS = "cc gofmt go mypy pkg-config python3 valgrind".split()
+TOOLS = "cargo cc gofmt go mypy pkg-config python3 valgrind".split()
 EXAMPLE = "crates/bpfcanon/src/tests/library_example.rt"
 COPIED = ["verify", "README.md", "docs/LIBRARY.md", EXAMPLE, "tests/run", "tests/c_interface/run", "tests/bindings"]
 
@@ -46,7 +46,7 @@ key)
     ;;
 gofmt) if [ -n "$UNFORMATTED" ]; then echo insn.go; fi ;;
 recipes) echo "recipes: 1 passed, 0 failed, 1 skipped (no bpftool)" ;;
-run | bindings) echo "stand-in: passed" ;;
+run | bindings | release) echo "stand-in: passed" ;;
 rt) echo "1 passed, 0 failed" ;;
 esac
 before=
@@ -58,7 +58,7 @@ done
 """
 KEY_README = "```go\nprogram\n```\n```console\n$ ./key\nmade\n```\n"
 # Calls that ask what is there: what they ask for is skipped, or done in another way.
-PROBES = ["go version", r"python3 -c from importlib\.util import find_spec .*", r"cc -fsanitize=\S+ .*/empty\.c .*", "empty"]
+PROBES = ["go version", "cargo fmt --version", "cargo clippy --version", r"python3 -c from importlib\.util import find_spec .*", r"cc -fsanitize=\S+ .*/empty\.c .*", "empty"]
 
 
 def write(path, text):
@@ -75,12 +75,13 @@ class Tree:
         for name in COPIED:
             (folder / name).parent.mkdir(parents=True, exist_ok=True)
             shutil.copy(TOP / name, folder / name)
-        for name in ["bin/rt", "capi/archive", "capi/build", "crates/bpfcanon/out/bpfcanon", "tests/recipes", *replaced]:
+        stand_ins = ["bin/rt", "capi/archive", "capi/build", "capi/sources", "crates/bpfcanon/out/bpfcanon", "tests/recipes", "tests/release"]
+        for name in [*stand_ins, *replaced]:
             write(folder / name, STAND_IN)
         for path in (TOP / "tests").iterdir():
             if path.suffix in (".py", ".c"):
                 (folder / "tests" / path.name).touch()
-        for name in ["testdata/flow_table.little.btf", "testdata/flow_table.big.btf", "bindings/python/pyproject.toml", "proved"]:
+        for name in ["testdata/flow_table.little.btf", "testdata/flow_table.big.btf", "bindings/python/pyproject.toml", "bindings/rust/Cargo.toml", "proved"]:
             write(folder / name, "")
         write(folder / "bindings" / "go" / "README.md", KEY_README)
         write(folder / "crates" / "bpfcanon_c" / "out" / "libbpfcanon_c.a", "")
@@ -158,6 +159,7 @@ PARTS = {
     "tests/c_interface/run": "C interface",
     "tests/bindings": "bindings",
     "tests/recipes": "recipes",
+    "tests/release": "release",
 }
 RUNNERS = ["tests/run", "tests/c_interface/run", "tests/bindings"]
 # The tools that are there, and how each part ended.
@@ -166,37 +168,37 @@ SKIPPED = [
         "without any tool",
         [],
         "verify: rt ci passed, process tests skipped (no python3), C archive skipped (no python3), "
-        "C interface skipped (no archive), bindings skipped (no cc), recipes skipped (no python3)",
+        "C interface skipped (no archive), bindings skipped (no cc), recipes skipped (no python3), release skipped (no archive)",
     ),
     (
         "without cc",
         ["python3"],
         "verify: rt ci passed, process tests passed, skipped (no cc), C archive passed, "
-        "C interface skipped (no cc), bindings skipped (no cc), recipes passed, skipped (no bpftool)",
+        "C interface skipped (no cc), bindings skipped (no cc), recipes passed, skipped (no bpftool), release passed",
     ),
     (
         "with cc and python3",
         ["python3", "cc"],
         "verify: rt ci passed, process tests passed, C archive passed, "
         "C interface passed, skipped (no valgrind, no programs by pkg-config), "
-        "bindings passed, skipped (no go, no mypy), recipes passed, skipped (no bpftool)",
+        "bindings passed, skipped (no go, no cargo, no mypy), recipes passed, skipped (no bpftool), release passed",
     ),
 ]
 # What a runner says by itself where several tools are missing.
 MISSING = [
     ("tests/c_interface/run", ["cc"], "C interface: passed, skipped (no valgrind, no python3)"),
     ("tests/c_interface/run", ["cc", "python3"], "C interface: passed, skipped (no valgrind, no pkg-config)"),
-    ("tests/bindings", ["cc"], "bindings: skipped (no go, no python3)"),
-    ("tests/bindings", ["cc", "python3", "go", "gofmt"], "bindings: passed, skipped (no pkg-config, no mypy)"),
+    ("tests/bindings", ["cc"], "bindings: skipped (no go, no cargo, no python3)"),
+    ("tests/bindings", ["cc", "python3", "go", "gofmt"], "bindings: passed, skipped (no pkg-config, no cargo, no mypy)"),
     ("tests/run", ["python3"], "process tests: passed, skipped (no cc)"),
 ]
 
 
 def check_verify(report):
     with report.group("verify: each part fails once"), tree(replaced=RUNNERS) as made:
-        right = "verify: rt ci passed, process tests passed, C archive passed, C interface passed, bindings passed, recipes passed"
+        right = "verify: rt ci passed, process tests passed, C archive passed, C interface passed, bindings passed, recipes passed, skipped (no bpftool), release passed"
         status, last, _ = made.run("verify")
-        report.expect_that((status, last) == (0, f"{right}, skipped (no bpftool)"), "no part fails", f"it ended with {status}: {last}")
+        report.expect_that((status, last) == (0, right), "no part fails", f"it ended with {status}: {last}")
         for part, name in PARTS.items():
             (made.folder / "crates/bpfcanon_c/out/libbpfcanon_c.a").touch()
             status, last, _ = made.run("verify", FAIL=part)

@@ -1,0 +1,26 @@
+"""The Rust crate: the files of `cargo package`, with the time of the release."""
+
+import gzip
+import os
+import tarfile
+
+from notices import licence_files
+from tree import VERSION, copy, copy_files, epoch, run
+
+
+def make_crate(out, work):
+    """Packs what Cargo packs, since Cargo's own archive has the time of the build."""
+    folder = work / "crate" / "bindings" / "rust"
+    copy_files(work / "crate", "bindings/rust/")
+    environment = os.environ | {"CARGO_TARGET_DIR": str(work / "target"), "CARGO_NET_OFFLINE": "true", "CARGO_HOME": str(work / "cargo")}
+    for licence in licence_files():
+        copy(licence, folder / licence.name, 0o644)
+    run(["cargo", "package", "--no-verify", "--allow-dirty", "--quiet"], cwd=folder, env=environment)
+    made = work / "target" / "package" / f"bpfcanon-{VERSION}.crate"
+    with tarfile.open(made) as found, (out / made.name).open("wb") as target:
+        with gzip.GzipFile(filename="", fileobj=target, mode="wb", mtime=0) as packed:
+            with tarfile.open(fileobj=packed, mode="w", format=tarfile.USTAR_FORMAT) as tar:
+                for old in sorted(found.getmembers(), key=lambda it: it.name):
+                    entry = tarfile.TarInfo(old.name)
+                    entry.size, entry.mtime, entry.mode = old.size, epoch(), 0o644
+                    tar.addfile(entry, found.extractfile(old))

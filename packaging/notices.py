@@ -1,0 +1,31 @@
+"""The licences of the crates of Rattle's kit whose code is in the program and in the library."""
+
+import pathlib
+import re
+
+from tree import TOP, run
+
+
+def find_kit():
+    return pathlib.Path(run(["rt", "doc"]).strip()).parent
+
+
+def crates_in(objects):
+    """The crates of crates.txt, whose code may be inlined, and all that have a symbol in some objects."""
+    symbols = "".join(run(["nm", it]) for it in objects)
+    named = re.findall(r"^[ 0-9a-f]{16} \w <?([a-z_0-9]+)::", symbols, re.MULTILINE)
+    return sorted({*named, *re.findall(r"[a-z_0-9]+", re.sub("#.*", "", (TOP / "crates.txt").read_text()))})
+
+
+def third_party(kit, objects):
+    """The text of THIRD-PARTY. Of two licences to choose from, it has the one that isn't Apache's."""
+    texts = []
+    for crate in crates_in(objects):
+        found = sorted(it for it in (kit / "rattle" / crate).glob("LICENSE*") if "APACHE" not in it.name)
+        texts += [f"== {crate} ({it.name})\n\n{it.read_text().strip()}\n" for it in found]
+    return "Code of these crates, ported to Rattle, is in the program and in the library.\n\n" + "\n".join(texts)
+
+
+def licence_files():
+    """The project's own licence, if it has one."""
+    return [it for it in sorted(TOP.glob("LICEN[CS]E*")) if it.is_file()]

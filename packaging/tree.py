@@ -1,0 +1,58 @@
+"""The tree that is released: its files, its version and its time. Also how other programs are run."""
+
+import functools
+import os
+import pathlib
+import re
+import shutil
+import subprocess
+
+TOP = pathlib.Path(__file__).resolve().parent.parent
+PROGRAM = TOP / "crates" / "bpfcanon" / "out" / "bpfcanon"
+ARCHIVE = TOP / "crates" / "bpfcanon_c" / "out" / "libbpfcanon_c.a"
+HEADER = (TOP / "capi" / "bpfcanon.h").read_text()
+VERSION = re.search(r'^#define BPFCANON_VERSION "(.*)"$', HEADER, re.MULTILINE)[1]
+SONAME = f"libbpfcanon.so.{VERSION.partition('.')[0]}"
+
+
+class Refused(Exception):
+    """Why no release is made: one sentence."""
+
+
+def run(words, **options):
+    """What a program prints. Its own errors end the release."""
+    words = [str(it) for it in words]
+    done = subprocess.run(words, stdout=subprocess.PIPE, stderr=subprocess.PIPE, text=True, **options)
+    if done.returncode != 0:
+        said = (done.stderr.strip() or done.stdout.strip() or "it says nothing").splitlines()[-1]
+        raise Refused(f"{words[0]} failed with status {done.returncode}: {said}")
+    return done.stdout
+
+
+@functools.lru_cache(maxsize=None)
+def files():
+    """The names of the files that git knows, in the order of their bytes."""
+    return sorted(run(["git", "-C", TOP, "ls-files"]).splitlines())
+
+
+@functools.lru_cache(maxsize=None)
+def epoch():
+    """The time of all that is made, in seconds: SOURCE_DATE_EPOCH, or that of the last commit."""
+    return int(os.environ.get("SOURCE_DATE_EPOCH") or run(["git", "-C", TOP, "log", "-1", "--format=%ct"]))
+
+
+def mode_of(path):
+    return 0o755 if os.access(path, os.X_OK) else 0o644
+
+
+def copy(source, target, mode=None):
+    target.parent.mkdir(parents=True, exist_ok=True)
+    shutil.copyfile(source, target)
+    target.chmod(mode or mode_of(source))
+
+
+def copy_files(target, *folders, without=()):
+    """Copies the files of some folders of the tree, or all, to a folder."""
+    for name in files():
+        if (not folders or name.startswith(folders)) and not name.startswith(tuple(without)):
+            copy(TOP / name, target / name)

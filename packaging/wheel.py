@@ -1,0 +1,67 @@
+"""The Python package as a wheel with the shared library in it."""
+
+import base64
+import hashlib
+import re
+import time
+import zipfile
+
+from notices import licence_files
+from tree import SONAME, TOP, VERSION, epoch, run
+
+PACKAGE = TOP / "bindings" / "python"
+# The glibc of the tag manylinux2014, which older versions of pip know too.
+OLDEST = (2, 17)
+
+
+def needed_glibc(file):
+    """The newest version of glibc's symbols that a file needs."""
+    found = re.findall(r"GLIBC_([0-9.]+)", run(["objdump", "-T", file]))
+    return max((tuple(map(int, it.split("."))) for it in found), default=(0,))
+
+
+def platforms(library):
+    need = needed_glibc(library)
+    if need <= OLDEST:
+        return ["manylinux2014_x86_64", "manylinux_2_17_x86_64"]
+    return [f"manylinux_{need[0]}_{need[1]}_x86_64"]
+
+
+def metadata():
+    project = (PACKAGE / "pyproject.toml").read_text()
+    value = {key: re.search(f'^{key} = "(.*)"$', project, re.MULTILINE)[1] for key in ("version", "description", "requires-python")}
+    head = f"Metadata-Version: 2.1\nName: bpfcanon\nVersion: {value['version']}\nSummary: {value['description']}\n"
+    head += f"Requires-Python: {value['requires-python']}\nDescription-Content-Type: text/markdown\n"
+    return f"{head}\n{(PACKAGE / 'README.md').read_text()}"
+
+
+def contents(library, papers):
+    """What each file of the wheel has, but its list."""
+    info = f"bpfcanon-{VERSION}.dist-info"
+    found = {f"bpfcanon/{it.name}": it.read_bytes() for it in sorted((PACKAGE / "bpfcanon").iterdir()) if it.is_file()}
+    found[f"bpfcanon/{SONAME}"] = library.read_bytes()
+    found |= {f"{info}/licenses/{name}": text.encode() for name, text in papers.items()}
+    found |= {f"{info}/licenses/{it.name}": it.read_bytes() for it in licence_files()}
+    found[f"{info}/METADATA"] = metadata().encode()
+    tags = "".join(f"Tag: py3-none-{it}\n" for it in platforms(library))
+    found[f"{info}/WHEEL"] = f"Wheel-Version: 1.0\nGenerator: bpfcanon release\nRoot-Is-Purelib: false\n{tags}".encode()
+    return found
+
+
+def row_of(name, content):
+    digest = base64.urlsafe_b64encode(hashlib.sha256(content).digest()).rstrip(b"=").decode()
+    return f"{name},sha256={digest},{len(content)}\n"
+
+
+def make_wheel(library, papers, out):
+    found = contents(library, papers)
+    record = f"bpfcanon-{VERSION}.dist-info/RECORD"
+    found[record] = ("".join(row_of(*it) for it in found.items()) + f"{record},,\n").encode()
+    name = f"bpfcanon-{VERSION}-py3-none-{'.'.join(platforms(library))}.whl"
+    with zipfile.ZipFile(out / name, "w", zipfile.ZIP_DEFLATED, compresslevel=9) as wheel:
+        for path, content in found.items():
+            entry = zipfile.ZipInfo(path, time.gmtime(epoch())[:6])
+            entry.create_system = 3
+            entry.external_attr = (0o100755 if path.endswith(SONAME) else 0o100644) << 16
+            entry.compress_type = zipfile.ZIP_DEFLATED
+            wheel.writestr(entry, content)
