@@ -1,17 +1,10 @@
 -- Names that are appended by runs of unescaped bytes.
 use Rattle.std.proofs.Common.{◌≡◌, ℕ, suc, ◌+◌, ◌-◌, ◌<◌, ◌≤◌, List, [], ◌∷◌, ◌++◌, length, take, drop, get_or, sym, ap, ◌∙◌, arith, append_assoc, append-nil, length-take}
 use Rattle.std.specs.List.{flat_map}
-use Rattle.std.proofs.lemmas.List.{flat_map_more, drop-append-le, drop-take, drop_all}
+use Rattle.std.proofs.lemmas.List.{drop-append-le, drop-take, drop_all}
 use Rattle.std.proofs.Math.Seq.{take-suc}
 use Rattle.bpf_text.specs.btf.BtfText.{quoted_byte}
-
--- one byte more, as it is written between quotes
-byte_more : (base bytes : List ℕ) (at : ℕ) → at < length bytes
-    → (base ++ flat_map quoted_byte (take at bytes)) ++ quoted_byte (get_or bytes at 0) ≡ base ++ flat_map quoted_byte (take (at + 1) bytes)
-byte_more base bytes at h =
-    let next : at + 1 ≡ suc at = omega arith in
-    let more : take (at + 1) bytes ≡ take at bytes ++ get_or bytes at 0 ∷ [] = rw next (take-suc bytes at 0 h) in
-    flat_map_more quoted_byte base (take at bytes) (get_or bytes at 0) ∙ ap (λ (t : List ℕ). base ++ flat_map quoted_byte t) (sym more)
+use Rattle.bpf_text.proofs.BtfLemmas.AppendingLemmas.{one_more}
 
 -- an unescaped byte makes the run longer
 pub run_longer : (base text bytes : List ℕ) (start at : ℕ) → start ≤ at → at < length bytes → quoted_byte (get_or bytes at 0) ≡ get_or bytes at 0 ∷ []
@@ -27,7 +20,7 @@ run_longer base text bytes start at low inside plain e =
     ∙ sym (append_assoc text (drop start (take at bytes)) (b ∷ []))
     ∙ ap (λ (t : List ℕ). t ++ b ∷ []) e
     ∙ ap (λ (t : List ℕ). (base ++ flat_map quoted_byte (take at bytes)) ++ t) (sym plain)
-    ∙ byte_more base bytes at inside
+    ∙ one_more quoted_byte base bytes at 0 inside
 
 -- another byte ends the run
 pub run_ended : (base text run mid out bytes : List ℕ) (start at : ℕ) → start ≤ at → at < length bytes
@@ -43,4 +36,4 @@ run_ended base text run mid out bytes start at low inside e re me oe =
     ∙ append-nil out
     ∙ oe
     ∙ ap (λ (t : List ℕ). t ++ quoted_byte b) (me ∙ ap (λ (t : List ℕ). text ++ t) same ∙ e)
-    ∙ byte_more base bytes at inside
+    ∙ one_more quoted_byte base bytes at 0 inside

@@ -1,6 +1,6 @@
 -- The text of BTF types: a line for each type, followed by a line for each of its items. It is meant for values in the
 -- ranges of their types: std writes numbers of up to 64 digits.
-use Rattle.std.specs.Prelude.{ℕ, ◌/◌, ◌%◌, Bool, false, List, [], ◌∷◌, ◌++◌, Option, Some, None, codes, decimal, length, nat_lt, if◌then◌else◌, ◌==◌, ◌||◌}
+use Rattle.std.specs.Prelude.{ℕ, ◌/◌, ◌%◌, Bool, true, false, List, [], ◌∷◌, ◌++◌, Option, Some, None, codes, decimal, length, nat_lt, if◌then◌else◌, ◌==◌, ◌||◌}
 use Rattle.std.specs.Char.{digit_char}
 use Rattle.std.specs.Fmt.{signed_decimal}
 use Rattle.std.specs.Int.{Width, w32, w64, cast_signed}
@@ -9,6 +9,7 @@ use Rattle.btf_types.specs.declared.values.Encoding.{Encoding}
 use Rattle.btf_types.specs.declared.values.Encoding.TheVariants as encoding
 use Rattle.btf_types.specs.declared.values.Linkage.{Linkage}
 use Rattle.btf_types.specs.declared.values.Linkage.TheVariants as linkage
+use Rattle.btf_types.specs.Names.{head_name}
 use Rattle.btf_types.specs.Values.{TypeHead, KInt, KPtr, KArray, KStruct, KUnion, KEnum, KFwd, KTypedef, KVolatile, KConst, KRestrict, KFunc, KFuncProto, KVar, KDatasec, KFloat, KDeclTag, KTypeTag, KEnum64, TypeItem, Member, EnumValue, Value64, Param, Entry, TypeRecord}
 
 -- ---- names
@@ -80,45 +81,52 @@ kind_word (KDeclTag name flag target component) = codes "decl_tag"
 kind_word (KTypeTag name flag target) = codes "type_tag"
 kind_word (KEnum64 name signed size) = codes "enum64"
 
--- the text after the kind, of a type with this number of items
+-- whether a type of this kind has a name, which may be empty
+abbrev pub has_name : TypeHead → Bool
+has_name (KPtr target) = false
+has_name (KArray target index count) = false
+has_name (KVolatile target) = false
+has_name (KConst target) = false
+has_name (KRestrict target) = false
+has_name (KFuncProto target) = false
+has_name head = true
+
+-- the text between the kind and the fields
+abbrev pub name_text : TypeHead → List ℕ
+name_text head = if has_name head then codes " " ++ quoted (head_name head) else []
+
+-- the fields, of a type with this number of items
 abbrev pub fields_text : TypeHead → ℕ → List ℕ
 fields_text (KInt name size encoding offset bits) items =
-    codes " " ++ quoted name ++ codes " size=" ++ decimal size ++ codes " encoding=" ++ encoding_name encoding
+    codes " size=" ++ decimal size ++ codes " encoding=" ++ encoding_name encoding
     ++ codes " offset=" ++ decimal offset ++ codes " bits=" ++ decimal bits
 fields_text (KPtr target) items = codes " type=" ++ decimal target
 fields_text (KArray target index count) items =
     codes " type=" ++ decimal target ++ codes " index=" ++ decimal index ++ codes " count=" ++ decimal count
-fields_text (KStruct name size) items =
-    codes " " ++ quoted name ++ codes " size=" ++ decimal size ++ codes " items=" ++ decimal items
-fields_text (KUnion name size) items =
-    codes " " ++ quoted name ++ codes " size=" ++ decimal size ++ codes " items=" ++ decimal items
+fields_text (KStruct name size) items = codes " size=" ++ decimal size ++ codes " items=" ++ decimal items
+fields_text (KUnion name size) items = codes " size=" ++ decimal size ++ codes " items=" ++ decimal items
 fields_text (KEnum name signed size) items =
-    codes " " ++ quoted name ++ codes " " ++ sign_name signed ++ codes " size=" ++ decimal size ++ codes " items=" ++ decimal items
-fields_text (KFwd name is_union) items =
-    codes " " ++ quoted name ++ (if is_union then codes " union" else codes " struct")
-fields_text (KTypedef name target) items = codes " " ++ quoted name ++ codes " type=" ++ decimal target
+    codes " " ++ sign_name signed ++ codes " size=" ++ decimal size ++ codes " items=" ++ decimal items
+fields_text (KFwd name is_union) items = if is_union then codes " union" else codes " struct"
+fields_text (KTypedef name target) items = codes " type=" ++ decimal target
 fields_text (KVolatile target) items = codes " type=" ++ decimal target
 fields_text (KConst target) items = codes " type=" ++ decimal target
 fields_text (KRestrict target) items = codes " type=" ++ decimal target
-fields_text (KFunc name linkage target) items =
-    codes " " ++ quoted name ++ codes " " ++ linkage_name linkage ++ codes " type=" ++ decimal target
+fields_text (KFunc name linkage target) items = codes " " ++ linkage_name linkage ++ codes " type=" ++ decimal target
 fields_text (KFuncProto target) items = codes " type=" ++ decimal target ++ codes " items=" ++ decimal items
-fields_text (KVar name target linkage) items =
-    codes " " ++ quoted name ++ codes " " ++ linkage_name linkage ++ codes " type=" ++ decimal target
-fields_text (KDatasec name size) items =
-    codes " " ++ quoted name ++ codes " size=" ++ decimal size ++ codes " items=" ++ decimal items
-fields_text (KFloat name size) items = codes " " ++ quoted name ++ codes " size=" ++ decimal size
+fields_text (KVar name target linkage) items = codes " " ++ linkage_name linkage ++ codes " type=" ++ decimal target
+fields_text (KDatasec name size) items = codes " size=" ++ decimal size ++ codes " items=" ++ decimal items
+fields_text (KFloat name size) items = codes " size=" ++ decimal size
 fields_text (KDeclTag name flag target component) items =
-    codes " " ++ quoted name ++ codes " flag=" ++ flag_text flag ++ codes " type=" ++ decimal target
-    ++ codes " component=" ++ component_text component
-fields_text (KTypeTag name flag target) items =
-    codes " " ++ quoted name ++ codes " flag=" ++ flag_text flag ++ codes " type=" ++ decimal target
+    codes " flag=" ++ flag_text flag ++ codes " type=" ++ decimal target ++ codes " component=" ++ component_text component
+fields_text (KTypeTag name flag target) items = codes " flag=" ++ flag_text flag ++ codes " type=" ++ decimal target
 fields_text (KEnum64 name signed size) items =
-    codes " " ++ quoted name ++ codes " " ++ sign_name signed ++ codes " size=" ++ decimal size ++ codes " items=" ++ decimal items
+    codes " " ++ sign_name signed ++ codes " size=" ++ decimal size ++ codes " items=" ++ decimal items
 
 -- the line of the type with this ID and number of items
 abbrev pub head_line : ℕ → TypeHead → ℕ → List ℕ
-head_line id head items = codes "[" ++ decimal id ++ codes "] " ++ kind_word head ++ fields_text head items ++ codes "\n"
+head_line id head items =
+    codes "[" ++ decimal id ++ codes "] " ++ kind_word head ++ name_text head ++ fields_text head items ++ codes "\n"
 
 -- ---- items
 

@@ -1,15 +1,14 @@
-//! The lines of the items of BTF types: members, enum values, parameters and the entries of a DATASEC.
+//! The lines of the items of BTF types: members, enum values, parameters and the entries of a
+//! DATASEC.
 
-ghost use Rattle.std.specs.Prelude.{◌≡◌, [], ◌++◌, false};
 ghost use Rattle.std.specs.Int.{w32, w64};
-ghost use Rattle.btf_types.specs.Values as values;
 ghost use Rattle.btf_types.specs.Values.{item_value};
 ghost use Rattle.bpf_text.specs.btf.BtfText as spec;
 ghost use Rattle.bpf_text.specs.btf.LineParts as parts;
 ghost use Rattle.bpf_text.specs.btf.Appending.{Appends};
 
 use crate::btf::quoted_name::append_quoted_part;
-use crate::btf::text_parts::{append, append_number};
+use crate::btf::text_parts::{append, append_number, append_numbers};
 use btf_types::Item;
 use itoa::Buffer;
 use std::alloc::{AllocError, Allocator};
@@ -20,7 +19,7 @@ fn append_value32<A: Allocator>(
     value: u32,
     signed: bool,
 ) -> Result<(), AllocError>
-    ensures { Appends result text.old.items (spec.value_text w32 signed value) text.new.items }
+    ensures { Appends result text.old (spec.value_text w32 signed value) text.new }
 {
     if signed {
         append(text, Buffer::new().format(value.cast_signed()))
@@ -35,7 +34,7 @@ fn append_value64<A: Allocator>(
     value: u64,
     signed: bool,
 ) -> Result<(), AllocError>
-    ensures { Appends result text.old.items (spec.value_text w64 signed value) text.new.items }
+    ensures { Appends result text.old (spec.value_text w64 signed value) text.new }
 {
     if signed {
         append(text, Buffer::new().format(value.cast_signed()))
@@ -44,41 +43,14 @@ fn append_value64<A: Allocator>(
     }
 }
 
-/// Appends the fields after the name of a member. Offset and width are in bits.
-fn append_place<A: Allocator>(
-    text: &mut Vec<u8, A>,
-    target: u32,
-    bit_offset: u32,
-    width: u8,
-) -> Result<(), AllocError>
-    ensures { Appends result text.old.items (parts.item_fields false (values.Member [] target bit_offset width)) text.new.items }
-{
-    append_number(text, "\" type=", target)?;
-    append_number(text, " offset=", bit_offset)?;
-    append_number(text, " width=", u32::from(width))
-}
-
-/// Appends the fields of an entry of a DATASEC. Offset and size are in bytes.
-fn append_entry<A: Allocator>(
-    text: &mut Vec<u8, A>,
-    target: u32,
-    offset: u32,
-    size: u32,
-) -> Result<(), AllocError>
-    ensures { Appends result text.old.items (parts.item_fields false (values.Entry target offset size)) text.new.items }
-{
-    append_number(text, " type=", target)?;
-    append_number(text, " offset=", offset)?;
-    append_number(text, " size=", size)
-}
-
-/// Appends the fields after the name of an item. `signed` is whether the values of its type are signed.
+/// Appends the fields after the name of an item. `signed` is whether the values of its type are
+/// signed.
 fn append_item_fields<A: Allocator>(
     text: &mut Vec<u8, A>,
     item: Item<'_>,
     signed: bool,
 ) -> Result<(), AllocError>
-    ensures { Appends result text.old.items (parts.item_fields signed (item_value item.entry)) text.new.items }
+    ensures { Appends result text.old (parts.item_fields signed (item_value item.entry)) text.new }
 {
     match item {
         Item::Member {
@@ -86,7 +58,14 @@ fn append_item_fields<A: Allocator>(
             bit_offset,
             width,
             ..
-        } => append_place(text, target, bit_offset, width),
+        } => append_numbers(
+            text,
+            &[
+                ("\" type=", target),
+                (" offset=", bit_offset),
+                (" width=", u32::from(width)),
+            ],
+        ),
         Item::EnumValue { value, .. } => {
             append(text, "\" ")?;
             append_value32(text, value, signed)
@@ -100,21 +79,25 @@ fn append_item_fields<A: Allocator>(
             target,
             offset,
             size,
-        } => append_entry(text, target, offset, size),
+        } => append_numbers(
+            text,
+            &[(" type=", target), (" offset=", offset), (" size=", size)],
+        ),
     }
 }
 
-/// Appends the line of an item up to the first byte of its name. The bytes of the name follow, by [`append_quoted_part`],
-/// and then [`append_item_end`].
+/// Appends the line of an item up to the first byte of its name. The bytes of the name follow, by
+/// [`append_quoted_part`], and then [`append_item_end`].
 ///
 /// # Errors
 ///
-/// `AllocError` if the vector couldn't grow. It then keeps what it held, and the first bytes of the line may follow.
+/// `AllocError` if the vector couldn't grow. It then keeps what it held, and the first bytes of the
+/// line may follow.
 pub fn append_item_start<A: Allocator>(
     text: &mut Vec<u8, A>,
     item: Item<'_>,
 ) -> Result<(), AllocError>
-    ensures { Appends result text.old.items (parts.item_start (item_value item.entry)) text.new.items }
+    ensures { Appends result text.old (parts.item_start (item_value item.entry)) text.new }
 {
     match item {
         Item::Member { .. } => append(text, "  member \""),
@@ -124,18 +107,19 @@ pub fn append_item_start<A: Allocator>(
     }
 }
 
-/// Appends the line of an item from the end of its name. `signed` is whether the values of its type are signed.
+/// Appends the line of an item from the end of its name. `signed` is whether the values of its type
+/// are signed.
 ///
 /// # Errors
 ///
-/// `AllocError` if the vector couldn't grow. It then keeps what it held, and the first bytes of the rest of the line may
-/// follow.
+/// `AllocError` if the vector couldn't grow. It then keeps what it held, and the first bytes of the
+/// rest of the line may follow.
 pub fn append_item_end<A: Allocator>(
     text: &mut Vec<u8, A>,
     item: Item<'_>,
     signed: bool,
 ) -> Result<(), AllocError>
-    ensures { Appends result text.old.items (parts.item_end signed (item_value item.entry)) text.new.items }
+    ensures { Appends result text.old (parts.item_end signed (item_value item.entry)) text.new }
 {
     append_item_fields(text, item, signed)?;
     append(text, "\n")
@@ -145,13 +129,14 @@ pub fn append_item_end<A: Allocator>(
 ///
 /// # Errors
 ///
-/// `AllocError` if the vector couldn't grow. It then keeps what it held, and the first bytes of the line may follow.
+/// `AllocError` if the vector couldn't grow. It then keeps what it held, and the first bytes of the
+/// line may follow.
 pub fn append_item<A: Allocator>(
     text: &mut Vec<u8, A>,
     item: Item<'_>,
     signed: bool,
 ) -> Result<(), AllocError>
-    ensures { Appends result text.old.items (spec.item_line signed (item_value item.entry)) text.new.items }
+    ensures { Appends result text.old (spec.item_line signed (item_value item.entry)) text.new }
 {
     append_item_start(text, item)?;
     append_quoted_part(text, item.name().as_bytes())?;

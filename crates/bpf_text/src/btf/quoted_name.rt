@@ -35,7 +35,8 @@ fn hex_digit(number: u8) -> u8
 
 /// Appends a control character as `\x` and two hexadecimal digits.
 fn append_control<A: Allocator>(text: &mut Vec<u8, A>, byte: u8) -> Result<(), AllocError>
-    ensures { Appends result text.old.items (codes "\\x" ++ digit_char (byte / 16) ∷ digit_char (byte % 16) ∷ []) text.new.items }
+    ensures { Appends result text.old
+        (codes "\\x" ++ digit_char (byte / 16) ∷ digit_char (byte % 16) ∷ []) text.new }
 {
     text.extend_from_slice(&[b'\\', b'x', hex_digit(byte / 16), hex_digit(byte % 16)])
 }
@@ -49,7 +50,7 @@ fn is_unescaped(byte: u8) -> bool
 
 /// Appends a byte of a name.
 fn append_byte<A: Allocator>(text: &mut Vec<u8, A>, byte: u8) -> Result<(), AllocError>
-    ensures { Appends result text.old.items (spec.quoted_byte byte) text.new.items }
+    ensures { Appends result text.old (spec.quoted_byte byte) text.new }
 {
     if needs_backslash(byte) {
         text.extend_from_slice(&[b'\\', byte])
@@ -60,18 +61,19 @@ fn append_byte<A: Allocator>(text: &mut Vec<u8, A>, byte: u8) -> Result<(), Allo
     }
 }
 
-/// Appends bytes of a name as they are written between its quotes: a backslash before `"` and `\`, `\x` and two hexadecimal
-/// digits for control characters of ASCII, and all other bytes as they are. A name may be cut anywhere: its parts append
-/// the same as the whole name.
+/// Appends bytes of a name as they are written between its quotes: a backslash before `"` and `\`,
+/// `\x` and two hexadecimal digits for control characters of ASCII, and all other bytes as they
+/// are. A name may be cut anywhere: its parts append the same as the whole name.
 ///
 /// # Errors
 ///
-/// `AllocError` if the vector couldn't grow. It then keeps what it held, and the first bytes of the part may follow.
+/// `AllocError` if the vector couldn't grow. It then keeps what it held, and the first bytes of the
+/// part may follow.
 pub fn append_quoted_part<A: Allocator>(
     text: &mut Vec<u8, A>,
     part: &[u8],
 ) -> Result<(), AllocError>
-    ensures { Appends result text.old.items (flat_map spec.quoted_byte part.now) text.new.items }
+    ensures { Appends result text.old (flat_map spec.quoted_byte part.now) text.new }
 {
     // Unescaped bytes are appended in whole runs. The current run begins here.
     let mut start = 0;

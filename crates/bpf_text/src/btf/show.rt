@@ -20,7 +20,8 @@ fn append_items<T: TypeTable, A: Allocator>(
 ) -> Result<(), AllocError>
     requires first { 0 < id }
     requires last { id ≤ length (T.meaning table.now) }
-    ensures { Appends result text.old.items (flat_map (item_line signed) (record_at (T.meaning table.now) id).items) text.new.items }
+    ensures { Appends result text.old
+        (flat_map (item_line signed) (record_at (T.meaning table.now) id).items) text.new }
 {
     for k in 0..table.item_count(id) {
         append_item(text, table.item(id, k), signed)?;
@@ -36,15 +37,17 @@ fn append_record<T: TypeTable, A: Allocator>(
 ) -> Result<(), AllocError>
     requires first { 0 < id }
     requires last { id ≤ length (T.meaning table.now) }
-    ensures { Appends result text.old.items (record_text id (record_at (T.meaning table.now) id)) text.new.items }
+    ensures { Appends result text.old
+        (record_text id (record_at (T.meaning table.now) id)) text.new }
 {
     let head = table.head(id);
     append_head(text, id, head, table.item_count(id))?;
     append_items(text, table, id, is_signed(head))
 }
 
-/// The text of a table of types: a line for each type, which begins with its ID in brackets, followed by a line for each of
-/// its items, which begins with two spaces. The text of no types is empty.
+/// The text of a table of types: a line for each type, which begins with its ID in brackets,
+/// followed by a line for each of its items, which begins with two spaces. The text of no types is
+/// empty.
 ///
 /// # Errors
 ///

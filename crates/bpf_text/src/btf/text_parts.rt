@@ -1,6 +1,7 @@
 //! The parts of lines: texts and numbers.
 
 ghost use Rattle.std.specs.Prelude.{◌≡◌, ◌++◌, decimal};
+ghost use Rattle.std.specs.List.{flat_map};
 ghost use Rattle.bpf_text.specs.btf.Appending.{Appends};
 
 use itoa::Buffer;
@@ -8,7 +9,7 @@ use std::alloc::{AllocError, Allocator};
 
 /// Appends a text.
 pub(crate) fn append<A: Allocator>(text: &mut Vec<u8, A>, more: &str) -> Result<(), AllocError>
-    ensures { Appends result text.old.items more.now text.new.items }
+    ensures { Appends result text.old more.now text.new }
 {
     text.extend_from_slice(more.as_bytes())
 }
@@ -19,8 +20,22 @@ pub(crate) fn append_number<A: Allocator>(
     label: &str,
     number: u32,
 ) -> Result<(), AllocError>
-    ensures { Appends result text.old.items (label.now ++ decimal number) text.new.items }
+    ensures { Appends result text.old (label.now ++ decimal number) text.new }
 {
     append(text, label)?;
     append(text, Buffer::new().format(number))
+}
+
+/// Appends numbers, each after its label.
+pub(crate) fn append_numbers<A: Allocator>(
+    text: &mut Vec<u8, A>,
+    numbers: &[(&str, u32)],
+) -> Result<(), AllocError>
+    ensures { Appends result text.old
+        (flat_map (λ n. n.0.now ++ decimal n.1) numbers.now) text.new }
+{
+    for (label, number) in numbers {
+        append_number(text, label, *number)?;
+    }
+    Ok(())
 }

@@ -6,7 +6,7 @@ use Rattle.std.specs.List.{flat_map}
 use Rattle.std.proofs.lemmas.List.{take-append-drop, take_all}
 use Rattle.std.proofs.lemmas.List.Concat.{flat_map-append}
 use Rattle.std.proofs.Math.Seq.{take-add}
-use Rattle.bpf_text.specs.btf.BtfText.{fields_text, head_line, is_control, item_line, item_text, kind_word, needs_backslash, quoted_byte}
+use Rattle.bpf_text.specs.btf.BtfText.{fields_text, head_line, is_control, item_line, item_text, kind_word, name_text, needs_backslash, quoted_byte}
 use Rattle.bpfcanon.specs.declared.commands.pieces.PutError.{PutError}
 use Rattle.bpfcanon.specs.Devices.{Change, change}
 use Rattle.bpfcanon.specs.commands.Pieces.{Gathered, Gathers, TookFront}
@@ -70,7 +70,7 @@ name_all sink held old name start done p =
 
 pub some_head : (id : ℕ) (head : TypeHead) (items : ℕ) → 0 < length (head_line id head items)
 some_head id head items =
-    omega (arith, length-append (codes "[") (decimal id ++ codes "] " ++ kind_word head ++ fields_text head items ++ codes "\n"))
+    omega (arith, length-append (codes "[") (decimal id ++ codes "] " ++ kind_word head ++ name_text head ++ fields_text head items ++ codes "\n"))
 
 pub some_item : (signed : Bool) (item : TypeItem) → 0 < length (item_line signed item)
 some_item signed item = omega (arith, length-append (item_text signed item) (codes "\n"))
