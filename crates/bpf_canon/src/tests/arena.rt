@@ -9,7 +9,7 @@ use std::test::Fail;
 /// How many bytes an arena has at least, before any are given away.
 pub(crate) const ROOM: usize = 16_384;
 
-/// A test ends after this number of calls with enough room.
+/// A test ends after this number of calls with enough room, and one more with all of the arena.
 const ENOUGH: usize = 16;
 
 /// Takes all of the arena but `room` bytes. It gets no other chunk.
@@ -53,14 +53,15 @@ impl Tally {
         requires { (f : _) (x : _) → Call.pre f x }
     {
         let mut tally = Tally::new();
-        for room in 0..ROOM {
+        for more in 0..=ROOM {
+            let room = if tally.done == ENOUGH { ROOM } else { more };
             let bump = Bump::try_with_capacity(alloc, ROOM)?;
             leave(rt, &bump, room);
             match call(&bump) {
                 None => tally.succeed(),
                 Some(place) => tally.refuse(rt, place),
             }
-            if tally.done == ENOUGH {
+            if tally.done > ENOUGH {
                 return Ok(tally);
             }
         }

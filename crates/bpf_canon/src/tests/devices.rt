@@ -57,7 +57,8 @@ struct Reading {
 }
 
 #[rattlefmt::skip]
-static READINGS: [Reading; 8] = [
+static READINGS: [Reading; 9] = [
+    Reading { bytes: b"\x37\x01\x01\0\x03\0\0\0\xdb\x21\xf8\xff\xf1\0\0\0\x95\0\0\0\0\0\0\0", piece: 1, fuse: None, limit: 67_108_864, stop: None },
     Reading { bytes: b"abcdefgh", piece: 3, fuse: None, limit: 8, stop: None },
     Reading { bytes: b"abcdefgh", piece: 1, fuse: None, limit: u64::MAX, stop: None },
     Reading { bytes: b"abcdefgh", piece: 5000, fuse: None, limit: 8, stop: None },

@@ -15,6 +15,13 @@ use std::test::Fail;
 const FILE: &[u8; 64] =
     b"\x95\0\0\0\0\0\0\0\x95\0\0\0\0\0\0\0\x95\0\0\0\0\0\0\0\x95\0\0\0\0\0\0\0\x95\0\0\0\0\0\0\0\x95\0\0\0\0\0\0\0\x95\0\0\0\0\0\0\0\x04\x10\0\0\x05\0\0\0";
 
+/// `mov r1, r2` seven times, and the same in big-endian order.
+const MOVES: &[u8; 56] =
+    b"\xbf\x21\0\0\0\0\0\0\xbf\x21\0\0\0\0\0\0\xbf\x21\0\0\0\0\0\0\xbf\x21\0\0\0\0\0\0\xbf\x21\0\0\0\0\0\0\xbf\x21\0\0\0\0\0\0\xbf\x21\0\0\0\0\0\0";
+
+const MOVES_BIG: &[u8; 56] =
+    b"\xbf\x12\0\0\0\0\0\0\xbf\x12\0\0\0\0\0\0\xbf\x12\0\0\0\0\0\0\xbf\x12\0\0\0\0\0\0\xbf\x12\0\0\0\0\0\0\xbf\x12\0\0\0\0\0\0\xbf\x12\0\0\0\0\0\0";
+
 /// The fault of the last instruction.
 const FAULT: SlotFault = SlotFault {
     pos: 57,
@@ -61,9 +68,9 @@ fn write_insns_runs_out_of_memory(rt: HostRuntime) -> Result<(), Fail> {
 #[test]
 fn canon_insns_runs_out_of_memory(rt: HostRuntime) -> Result<(), Fail> {
     let tally = Tally::of(&rt, rt.alloc(), |bump| {
-        match canon_insns(bump, Order::Little, &FILE[..56]) {
+        match canon_insns(bump, Order::Big, MOVES_BIG) {
             Ok(canon) => {
-                equal_bytes(&rt, canon.as_slice(), &FILE[..56], &"canonical bytes");
+                equal_bytes(&rt, canon.as_slice(), MOVES, &"canonical bytes");
                 None
             }
             Err(InsnError::Memory) => Some(0),
@@ -77,10 +84,9 @@ fn canon_insns_runs_out_of_memory(rt: HostRuntime) -> Result<(), Fail> {
 #[test]
 fn recode_insns_runs_out_of_memory(rt: HostRuntime) -> Result<(), Fail> {
     let tally = Tally::of(&rt, rt.alloc(), |bump| {
-        match recode_insns(bump, Order::Little, Order::Big, &FILE[..56]) {
+        match recode_insns(bump, Order::Little, Order::Big, MOVES) {
             Ok(written) => {
-                // An exit has the same bytes in both orders.
-                equal_bytes(&rt, written.as_slice(), &FILE[..56], &"recoded");
+                equal_bytes(&rt, written.as_slice(), MOVES_BIG, &"recoded");
                 None
             }
             Err(InsnError::Memory) => Some(0),
@@ -115,8 +121,7 @@ fn same_insns_takes_no_memory(rt: HostRuntime) -> Result<(), Fail> {
     leave(&rt, &bump, 0);
     let order = Order::Little;
     let good = &FILE[..56];
-    // An exit has the same bytes in both orders.
-    let same = same_insns(&bump, order, good, Order::Big, good);
+    let same = same_insns(&bump, order, MOVES, Order::Big, MOVES_BIG);
     equal(&rt, &same, &Ok(true), &"the file in the other order");
     let same = same_insns(&bump, order, good, order, b"");
     equal(&rt, &same, &Ok(false), &"an empty file");

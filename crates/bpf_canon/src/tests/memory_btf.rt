@@ -37,10 +37,19 @@ fn write_btf_runs_out_of_memory(rt: HostRuntime) -> Result<(), Fail> {
     Ok(())
 }
 
-/// How many rooms are too small to read a file.
-fn refused_reading(rt: &impl Abort, alloc: Global, file: &[u8]) -> Result<usize, Fail> {
+/// How many rooms are too small to read a file with these canonical bytes.
+fn refused_reading(
+    rt: &impl Abort,
+    alloc: Global,
+    file: &[u8],
+    canonical: &[u8],
+) -> Result<usize, Fail> {
     let tally = Tally::of(rt, alloc, |bump| match BtfView::parse(bump, file) {
-        Ok(_) => None,
+        Ok(table) => {
+            let written = write_btf(alloc, Order::Little, &table).expect(rt, "the bytes");
+            equal_bytes(rt, written.as_slice(), canonical, &"the table");
+            None
+        }
         Err(BtfError::Memory) => Some(0),
         Err(BtfError::Fault(_)) => panic!(rt; "a fault of a good file"),
     })?;
@@ -62,7 +71,7 @@ fn canon_btf_runs_out_of_memory(rt: HostRuntime) -> Result<(), Fail> {
         }
     })?;
     // Some rooms are enough to read the file, but not to write it.
-    let reading = refused_reading(&rt, rt.alloc(), FLOW_TABLE_BIG)?;
+    let reading = refused_reading(&rt, rt.alloc(), FLOW_TABLE_BIG, ample.as_slice())?;
     assert!(rt; tally.refused >= CANONICAL_LEN && tally.refused > reading);
     Ok(())
 }
@@ -150,7 +159,7 @@ fn a_sink_of_btf_runs_out_of_memory(rt: HostRuntime) -> Result<(), Fail> {
         let ran = run_btf(rt.alloc(), &mut source, &mut sink, Order::Big);
         assert!(rt; BIG_INT.starts_with(&out));
         let Err(stop) = ran else {
-            equal(&rt, &out.len(), &45, &"the length");
+            equal_bytes(&rt, out.as_slice(), BIG_INT, &"canonical bytes");
             return None;
         };
         equal(

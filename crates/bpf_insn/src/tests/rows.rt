@@ -214,7 +214,8 @@ fn a_file_that_is_cut_anywhere(rt: HostRuntime) -> Result<(), Fail> {
 
 /// A file, and the place and the cause of its first fault.
 #[rattlefmt::skip]
-static FILE_FAULTS: [FaultRow; 4] = [
+static FILE_FAULTS: [FaultRow; 5] = [
+    FaultRow { what: "a source of an immediate", little: b"\x04\x10\0\0\x05\0\0\0", pos: 1, cause: SlotCause::Src },
     FaultRow { what: "a source after an exit", little: b"\x95\0\0\0\0\0\0\0\x04\x10\0\0\x05\0\0\0", pos: 9, cause: SlotCause::Src },
     FaultRow { what: "a reserved word after an exit", little: b"\x95\0\0\0\0\0\0\0\x18\x01\0\0\0\0\0\0\0\0\0\x01\0\0\0\0", pos: 16, cause: SlotCause::Reserved },
     FaultRow { what: "an opcode after a wide load", little: b"\x18\x01\0\0\0\0\0\0\0\0\0\0\0\0\0\0\xff\0\0\0\0\0\0\0", pos: 16, cause: SlotCause::Opcode },

@@ -42,6 +42,9 @@ fn lines_ask_for_jobs(rt: HostRuntime) -> Result<(), Fail> {
         ("", Ok(little(Verb::InsnCanon, 0))),
         ("insn-same --split +8", Ok(little(Verb::InsnSame, 8))),
         ("insn-same", Err(LineError::Usage)),
+        ("insn-canon --order middle", Err(LineError::Usage)),
+        ("insn-same --split 8", Ok(little(Verb::InsnSame, 8))),
+        ("btf-same --split 45", Ok(little(Verb::BtfSame, 45))),
     ] {
         check_line(&rt, rt.alloc(), line, job)?;
     }

@@ -65,6 +65,7 @@ pub(super) static ARITHMETIC: &[InsnRow] = &[
     row!(b"\xbc\x72\x08\0\0\0\0\0" => "Movsx { form: W32From8, dst: Reg { number: 2 }, src: Reg { number: 7 } }", Base32),
     row!(b"\xbc\xa3\x10\0\0\0\0\0" => "Movsx { form: W32From16, dst: Reg { number: 3 }, src: Reg { number: 10 } }", Base32),
     row!(b"\xbf\x24\x08\0\0\0\0\0" => "Movsx { form: W64From8, dst: Reg { number: 4 }, src: Reg { number: 2 } }", Base64),
+    row!(b"\xbf\x12\x08\0\0\0\0\0" => "Movsx { form: W64From8, dst: Reg { number: 2 }, src: Reg { number: 1 } }", Base64),
     row!(b"\xbf\x55\x10\0\0\0\0\0" => "Movsx { form: W64From16, dst: Reg { number: 5 }, src: Reg { number: 5 } }", Base64),
     row!(b"\xbf\x86\x20\0\0\0\0\0" => "Movsx { form: W64From32, dst: Reg { number: 6 }, src: Reg { number: 8 } }", Base64),
     row!(b"\x87\x07\0\0\0\0\0\0" => "Neg { width: W64, dst: Reg { number: 7 } }", Base64),
@@ -78,4 +79,6 @@ pub(super) static ARITHMETIC: &[InsnRow] = &[
     row!(b"\xd7\x04\0\0\x10\0\0\0" => "Swap { kind: Swap, bits: B16, dst: Reg { number: 4 } }", Base32),
     row!(b"\xd7\x05\0\0\x20\0\0\0" => "Swap { kind: Swap, bits: B32, dst: Reg { number: 5 } }", Base32),
     row!(b"\xd7\x06\0\0\x40\0\0\0" => "Swap { kind: Swap, bits: B64, dst: Reg { number: 6 } }", Base64),
+    row!(b"\xd7\x01\0\0\x20\0\0\0" => "Swap { kind: Swap, bits: B32, dst: Reg { number: 1 } }", Base32),
+    row!(b"\xd7\x01\0\0\x40\0\0\0" => "Swap { kind: Swap, bits: B64, dst: Reg { number: 1 } }", Base64),
 ];

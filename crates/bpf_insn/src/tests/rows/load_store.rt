@@ -58,5 +58,6 @@ pub(super) static LOAD_STORE: &[InsnRow] = &[
     row!(b"\x20\0\0\0\x05\0\0\0" => "PacketAbs { size: W, imm: 5 }", Packet),
     row!(b"\x50\x10\0\0\xff\xff\xff\x7f" => "PacketInd { size: B, src: Reg { number: 1 }, imm: 2147483647 }", Packet),
     row!(b"\x48\x20\0\0\0\0\0\x80" => "PacketInd { size: H, src: Reg { number: 2 }, imm: -2147483648 }", Packet),
+    row!(b"\x48\x30\0\0\x04\0\0\0" => "PacketInd { size: H, src: Reg { number: 3 }, imm: 4 }", Packet),
     row!(b"\x40\x30\0\0\x03\x02\x01\0" => "PacketInd { size: W, src: Reg { number: 3 }, imm: 66051 }", Packet),
 ];
