@@ -11,6 +11,11 @@ import (
 	"bpfcanon"
 )
 
+// How many rows of each kind were there once.
+var least = map[string]int{
+	"insn": 182, "insn-fault": 100, "listing": 24, "listing-fault": 75, "btf": 56, "btf-fault": 117,
+}
+
 // The fields of each row of a kind in testdata/vectors.tsv, without the kind. testdata/README.md has
 // the columns.
 func vectors(t *testing.T, kind string) (rows [][]string) {
@@ -24,8 +29,8 @@ func vectors(t *testing.T, kind string) (rows [][]string) {
 			rows = append(rows, fields[1:])
 		}
 	}
-	if len(rows) == 0 {
-		t.Fatalf("no rows of %s", kind)
+	if len(rows) < least[kind] || len(rows) == 0 {
+		t.Fatalf("%d rows of %s", len(rows), kind)
 	}
 	return rows
 }

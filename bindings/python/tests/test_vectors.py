@@ -1,7 +1,7 @@
 """testdata/vectors.tsv by each call that reads a row. testdata/README.md has the columns."""
 
 import unittest
-from typing import Callable, Iterator
+from typing import Callable
 
 import bpfcanon
 from bpfcanon import BtfCause, Fault, Group, InsnCause, LineCause, Order
@@ -13,10 +13,15 @@ EXIT = bytes.fromhex("9500000000000000")
 BRINGS = {Group.BASE64: Group.BASE32, Group.ATOMIC64: Group.ATOMIC32, Group.DIVMUL64: Group.DIVMUL32}
 
 
-def rows(kind: str) -> Iterator[list[str]]:
-    for line in (TESTDATA / "vectors.tsv").read_text().splitlines():
-        if line.startswith(f"{kind}\t"):
-            yield line.split("\t")[1:]
+# How many rows of each kind were there once.
+LEAST = {"insn": 182, "insn-fault": 100, "listing": 24, "listing-fault": 75, "btf": 56, "btf-fault": 117}
+
+
+def rows(kind: str) -> list[list[str]]:
+    lines = (TESTDATA / "vectors.tsv").read_text().splitlines()
+    found = [line.split("\t")[1:] for line in lines if line.startswith(f"{kind}\t")]
+    assert len(found) >= LEAST[kind], f"{len(found)} rows of {kind}"
+    return found
 
 
 def text(field: str) -> bytes:
@@ -76,7 +81,7 @@ class Vectors(unittest.TestCase):
                 self.assertTrue(bpfcanon.btf_same(given, data(little)), name)
 
     def test_faulty_types(self) -> None:
-        good = data(next(rows("btf"))[1])
+        good = data(rows("btf")[0][1])
         for name, *files, place, cause in rows("btf-fault"):
             found = next(it for it in BtfCause if it.label == cause)
             for given in map(data, files):
