@@ -43,10 +43,10 @@ def pack(folder, out):
                 raise Refused(f"xz can't write {target.name}")
 
 
-def add_papers(folder, papers):
+def add_documents(folder, documents):
     """Adds THIRD-PARTY, PROVED.txt and the licence to a folder."""
     folder.mkdir(parents=True, exist_ok=True)
-    for name, text in papers.items():
+    for name, text in documents.items():
         (folder / name).write_text(text)
     for licence in licence_files():
         copy(licence, folder / licence.name, 0o644)
@@ -58,7 +58,7 @@ def link_program(kit, target):
     run(["cc", "-static-pie", *LDFLAGS.split(), "-Wl,--gc-sections", "-o", target, *parts])
 
 
-def stage_binary(kit, papers, work):
+def stage_binary(kit, documents, work):
     """The folder of the program and the C library, which runs where it lies."""
     root, tree = work / f"bpfcanon-{VERSION}-{TARGET}", work / "tree"
     copy_files(tree)
@@ -73,28 +73,28 @@ def stage_binary(kit, papers, work):
         copy(TOP / page, root / page, 0o644)
     copy(TOP / "packaging" / "install.sh", root / "install.sh", 0o755)
     (root / "README").write_text((TOP / "packaging" / "README.binary").read_text())
-    add_papers(root, papers)
+    add_documents(root, documents)
     return root
 
 
-def stage_source(papers, work):
+def stage_source(documents, work):
     """The folder of the sources with the proved archive, from which capi/build needs no Rattle."""
     root = work / f"bpfcanon-{VERSION}"
     copy_files(root)
     copy(ARCHIVE, root / ARCHIVE.relative_to(TOP), 0o644)
-    add_papers(root, papers)
+    add_documents(root, documents)
     return root
 
 
-def stage_vectors(papers, work):
+def stage_vectors(documents, work):
     root = work / f"bpfcanon-vectors-{VERSION}"
     copy_files(work / "vectors", "testdata/", without=["testdata/to_rows"])
     (work / "vectors" / "testdata").rename(root)
-    add_papers(root, {})
+    add_documents(root, {})
     return root
 
 
-def stage_go(binary, papers, work):
+def stage_go(binary, documents, work):
     """The Go module with the static library in it. The build tag bpfcanon_system asks pkg-config instead."""
     root = work / f"bpfcanon-go-{VERSION}"
     copy_files(work / "go", "bindings/go/")
@@ -117,5 +117,5 @@ def stage_go(binary, papers, work):
     (calls / "capi.go").write_text(text)
     copy(binary / "lib" / "libbpfcanon.a", calls / "libbpfcanon_linux_amd64.a", 0o644)
     copy(binary / "include" / "bpfcanon.h", calls / "bpfcanon.h", 0o644)
-    add_papers(root, papers)
+    add_documents(root, documents)
     return root

@@ -35,12 +35,12 @@ def metadata():
     return f"{head}\n{(PACKAGE / 'README.md').read_text()}"
 
 
-def contents(library, papers):
+def contents(library, documents):
     """What each file of the wheel has, but its list."""
     info = f"bpfcanon-{VERSION}.dist-info"
     found = {f"bpfcanon/{it.name}": it.read_bytes() for it in sorted((PACKAGE / "bpfcanon").iterdir()) if it.is_file()}
     found[f"bpfcanon/{SONAME}"] = library.read_bytes()
-    found |= {f"{info}/licenses/{name}": text.encode() for name, text in papers.items()}
+    found |= {f"{info}/licenses/{name}": text.encode() for name, text in documents.items()}
     found |= {f"{info}/licenses/{it.name}": it.read_bytes() for it in licence_files()}
     found[f"{info}/METADATA"] = metadata().encode()
     tags = "".join(f"Tag: py3-none-{it}\n" for it in platforms(library))
@@ -53,8 +53,8 @@ def row_of(name, content):
     return f"{name},sha256={digest},{len(content)}\n"
 
 
-def make_wheel(library, papers, out):
-    found = contents(library, papers)
+def make_wheel(library, documents, out):
+    found = contents(library, documents)
     record = f"bpfcanon-{VERSION}.dist-info/RECORD"
     found[record] = ("".join(row_of(*it) for it in found.items()) + f"{record},,\n").encode()
     name = f"bpfcanon-{VERSION}-py3-none-{'.'.join(platforms(library))}.whl"
