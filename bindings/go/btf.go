@@ -2,7 +2,7 @@ package bpfcanon
 
 import "bpfcanon/internal/capi"
 
-// BTFCanon returns the canonical form of BTF in a byte order. With to == Little these are its
+// BTFCanon returns the canonical form of BTF in the byte order `to`. With to == Little these are its
 // canonical bytes. They are never longer than the input.
 //
 // Errors: a *FaultError with a BTFCause, ErrMemory, ErrOrder.
@@ -17,8 +17,8 @@ func AppendBTFCanon(dst []byte, to Order, types []byte) ([]byte, error) {
 	})
 }
 
-// BTFShow returns the types of BTF as text: a line for each type and for each of its items, with a
-// newline. docs/FORMATS.md has the form of the lines. Names can be any UTF-8.
+// BTFShow returns the types of BTF as text: one line for each type and each of its items, with a
+// newline. docs/FORMATS.md describes the lines. Names can be any UTF-8.
 //
 // Errors: a *FaultError with a BTFCause, ErrMemory.
 func BTFShow(types []byte) ([]byte, error) {
@@ -41,7 +41,7 @@ func BTFCheck(types []byte) (int, error) {
 	return int(got.Types), errorOf(got, btfCause)
 }
 
-// BTFSame reports whether two BTF inputs, in any byte order, have the same types.
+// BTFSame reports whether two BTF inputs, in any byte order, have the same types in the same order.
 //
 // Errors: a *FaultError with a BTFCause, whose Second is set if it is in the second input;
 // ErrMemory.

@@ -7,15 +7,17 @@ import (
 )
 
 // A Cause is the cause of a fault: an InsnCause, a LineCause or a BTFCause. As an error it is a
-// sentence on what is wrong. Each cause is its own sentinel: errors.Is(err, bpfcanon.InsnOpcode).
+// sentence that says what is wrong. Each cause is its own sentinel:
+// errors.Is(err, bpfcanon.InsnOpcode).
 type Cause interface {
 	error
-	// String returns the name that docs/FORMATS.md has for the cause, as "Opcode".
+	// String returns the name of the cause in docs/FORMATS.md, for example "Opcode".
 	String() string
 }
 
-// An InsnCause is the cause of a fault of instructions: the first field that no instruction has
-// beside the fields before it. docs/FORMATS.md has the rules of each, and what to do about it.
+// An InsnCause is the cause of a fault in instructions: the first field whose value fits no
+// instruction with the fields before it. docs/FORMATS.md lists the rule of each cause and what to do
+// about it.
 type InsnCause uint32
 
 const (
@@ -29,7 +31,7 @@ const (
 	InsnNextImm                        // the immediate of the second slot is not zero, and this kind of wide load has one number only
 )
 
-// A LineCause is the cause of a fault of a listing.
+// A LineCause is the cause of a fault in a listing.
 type LineCause uint32
 
 const (
@@ -39,7 +41,7 @@ const (
 	LineRange                      // a number is out of the range of its field
 )
 
-// A BTFCause is the cause of a fault of BTF. The names of fields are those of btf.rst.
+// A BTFCause is the cause of a fault in BTF. The names of fields are those of btf.rst.
 type BTFCause uint32
 
 const (
@@ -77,32 +79,35 @@ const (
 	BTFComponent                        // component_idx is neither -1 nor the index of a member or parameter of the tagged type
 )
 
-// String returns the name of the cause, as "Opcode", or "InsnCause(9)" for a number without one.
+// String returns the name of the cause, for example "Opcode", or "InsnCause(9)" for a number without
+// a name.
 func (c InsnCause) String() string {
 	return nameOr(capi.InsnCauseName(uint32(c)), "InsnCause", uint32(c))
 }
 
-// Error returns a sentence on the cause, as "no instruction has this opcode".
+// Error returns a sentence that explains the cause, for example "no instruction has this opcode".
 func (c InsnCause) Error() string {
 	return nameOr(capi.InsnCauseText(uint32(c)), "InsnCause", uint32(c))
 }
 
-// String returns the name of the cause, as "Shape", or "LineCause(5)" for a number without one.
+// String returns the name of the cause, for example "Shape", or "LineCause(5)" for a number without
+// a name.
 func (c LineCause) String() string {
 	return nameOr(capi.LineCauseName(uint32(c)), "LineCause", uint32(c))
 }
 
-// Error returns a sentence on the cause, as "no instruction has this mnemonic".
+// Error returns a sentence that explains the cause, for example "no instruction has this mnemonic".
 func (c LineCause) Error() string {
 	return nameOr(capi.LineCauseText(uint32(c)), "LineCause", uint32(c))
 }
 
-// String returns the name of the cause, as "Magic", or "BTFCause(33)" for a number without one.
+// String returns the name of the cause, for example "Magic", or "BTFCause(33)" for a number without
+// a name.
 func (c BTFCause) String() string {
 	return nameOr(capi.BTFCauseName(uint32(c)), "BTFCause", uint32(c))
 }
 
-// Error returns a sentence on the cause, as "the version is not 1".
+// Error returns a sentence that explains the cause, for example "the version is not 1".
 func (c BTFCause) Error() string {
 	return nameOr(capi.BTFCauseText(uint32(c)), "BTFCause", uint32(c))
 }

@@ -7,7 +7,7 @@ import (
 	"bpfcanon/internal/capi"
 )
 
-// ErrMemory is returned if the library is out of memory.
+// ErrMemory is returned if the library runs out of memory.
 var ErrMemory = errors.New("bpfcanon: out of memory")
 
 // ErrOrder is returned if an Order is neither Little nor Big.
@@ -17,19 +17,19 @@ var ErrOrder = errors.New("bpfcanon: no such byte order")
 var ErrClosed = errors.New("bpfcanon: the writer is closed")
 
 // A FaultError is the first fault of an input. errors.Is compares it with a cause, and errors.As
-// finds its place.
+// finds its offset or line.
 type FaultError struct {
 	// Cause is an InsnCause, a LineCause or a BTFCause.
 	Cause Cause
-	// Pos is the offset of the fault in bytes. It is 0 for a fault of a listing, which has a line.
+	// Pos is the offset of the fault in bytes. It is 0 for a fault in a listing, which has a line.
 	Pos uint64
-	// Line is the line of a fault of a listing, counted from 1, and 0 for other faults.
+	// Line is the line of a fault in a listing, counted from 1, and 0 for other faults.
 	Line uint64
-	// Second is set if the fault is in the second of two inputs, and the first has none.
+	// Second is set if the fault is in the second of two inputs and the first is valid.
 	Second bool
 }
 
-// Error returns the place, the name of the cause and its sentence.
+// Error returns the offset or line of the fault, the name of the cause and its sentence.
 func (e *FaultError) Error() string {
 	input, place := "", fmt.Sprintf("byte %d", e.Pos)
 	if e.Second {
@@ -51,7 +51,7 @@ func insnCause(number uint32) Cause { return InsnCause(number) }
 func lineCause(number uint32) Cause { return LineCause(number) }
 func btfCause(number uint32) Cause  { return BTFCause(number) }
 
-// errorOf returns the error of an answer, and nil for one without.
+// errorOf returns the error that an answer stands for, or nil.
 func errorOf(a capi.Answer, cause func(uint32) Cause) error {
 	switch a.Status {
 	case capi.Done, capi.Different:

@@ -20,16 +20,16 @@ const (
 	Packet   Groups = capi.Packet   // legacy packet access
 )
 
-// groupNames has the name of each group, in the order of their bits.
+// groupNames lists the names of the groups in the order of their bits.
 var groupNames = [...]string{"base32", "base64", "atomic32", "atomic64", "divmul32", "divmul64", "packet"}
 
-// Has reports whether all of some groups are in the set.
+// Has reports whether the set contains all of the groups.
 func (g Groups) Has(groups Groups) bool {
 	return g&groups == groups
 }
 
-// String returns the names of the groups with a space between them, as "base32 base64". It is empty
-// for no groups.
+// String returns the names of the groups with spaces between them, for example "base32 base64". It
+// is empty for the empty set.
 func (g Groups) String() string {
 	var names []string
 	for bit, name := range groupNames {

@@ -2,25 +2,25 @@ package bpfcanon
 
 import "bpfcanon/internal/capi"
 
-// InsnCanon returns the instructions of a program that is in one byte order in another. With
-// to == Little these are its canonical bytes. They are as long as the program.
+// InsnCanon converts a program from the byte order `order` to the byte order `to`. With to == Little
+// the result is its canonical bytes. It is as long as the program.
 //
 // Errors: a *FaultError with an InsnCause, ErrMemory, ErrOrder.
 func InsnCanon(order, to Order, program []byte) ([]byte, error) {
 	return AppendInsnCanon(nil, order, to, program)
 }
 
-// AppendInsnCanon is like InsnCanon, but appends the bytes to dst and returns the longer slice. It
-// allocates only if the capacity of dst isn't enough, or is memory of the program, which stays as
-// it is. On an error it returns dst as it was.
+// AppendInsnCanon is like InsnCanon, but appends the bytes to dst and returns the extended slice. It
+// allocates only if the spare capacity of dst is too small or overlaps the program, which is never
+// changed. On an error it returns dst unchanged.
 func AppendInsnCanon(dst []byte, order, to Order, program []byte) ([]byte, error) {
 	return appendOutput(dst, program, len(program), insnCause, func(out []byte) capi.Answer {
 		return capi.InsnCanon(capi.Order(order), capi.Order(to), program, out)
 	})
 }
 
-// InsnShow returns the listing of a program: a line for each instruction, with a newline.
-// docs/FORMATS.md has the form of the lines.
+// InsnShow returns the listing of a program: one line for each instruction, with a newline.
+// docs/FORMATS.md describes the lines.
 //
 // Errors: a *FaultError with an InsnCause, ErrMemory, ErrOrder.
 func InsnShow(order Order, program []byte) ([]byte, error) {
@@ -35,7 +35,7 @@ func AppendInsnShow(dst []byte, order Order, program []byte) ([]byte, error) {
 	})
 }
 
-// InsnRead returns the instructions of a listing in a byte order. Comments, blank lines and
+// InsnRead returns the instructions of a listing in the byte order `to`. Comments, blank lines and
 // hexadecimal numbers are allowed.
 //
 // Errors: a *FaultError with a LineCause and the line, ErrMemory, ErrOrder.
@@ -59,8 +59,7 @@ func InsnGroups(order Order, program []byte) (Groups, error) {
 	return Groups(got.Groups), errorOf(got, insnCause)
 }
 
-// InsnSame reports whether two programs, each in a byte order of its own, have the same
-// instructions.
+// InsnSame reports whether two programs, each in its own byte order, have the same instructions.
 //
 // Errors: a *FaultError with an InsnCause, whose Second is set if it is in the second program;
 // ErrOrder.

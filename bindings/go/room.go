@@ -8,7 +8,7 @@ import (
 
 // appendOutput appends what a call writes to dst. The call gets the spare capacity of dst, which is
 // first made at least as large as the guess. If the output is longer, the call is made once more
-// with room for all of it. On an error dst is returned as it was.
+// with enough capacity for all of it. On an error dst is returned unchanged.
 func appendOutput(dst, input []byte, guess int, cause func(uint32) Cause, call func(out []byte) capi.Answer) ([]byte, error) {
 	grown := withRoom(dst, input, guess)
 	got := call(grown[len(grown):cap(grown)])

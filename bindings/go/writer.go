@@ -10,12 +10,12 @@ import (
 // The longest instruction, a wide load.
 const longestInsn = 16
 
-// The bytes that an InsnWriter gives to the library at a time.
+// The number of bytes that an InsnWriter passes to the library at a time.
 const pieceSize = 64 << 10
 
 // An InsnWriter writes the instructions of a stream in a byte order. The stream may be cut anywhere
 // between two calls of Write: an instruction is written as soon as it is complete, and fewer than
-// 16 bytes are kept for later.
+// 16 bytes are held back.
 type InsnWriter struct {
 	dst       io.Writer
 	order, to Order
@@ -25,17 +25,17 @@ type InsnWriter struct {
 	err       error
 }
 
-// NewInsnWriter returns a writer of the instructions in the byte order `order` that are written to
-// it. They are written to dst in the byte order `to`; with Little these are canonical bytes.
+// NewInsnWriter returns a writer that accepts instructions in the byte order `order` and writes them
+// to dst in the byte order `to`; with Little these are canonical bytes.
 func NewInsnWriter(dst io.Writer, order, to Order) *InsnWriter {
 	return &InsnWriter{dst: dst, order: order, to: to, held: make([]byte, 0, longestInsn)}
 }
 
-// Write writes the instructions that are complete with the bytes of p. At a fault, the instructions
-// before it have been written, and the error is a *FaultError with the offset in the stream. The
-// number of bytes that Write returns is then that of the bytes of p before the instruction with the
-// fault. Other errors are those of the underlying writer, ErrMemory, ErrOrder and ErrClosed.
-// Once a call has failed, all further ones return the same error.
+// Write writes the instructions that the bytes of p complete. On a fault, the instructions before it
+// have been written, and the error is a *FaultError with the offset in the stream; Write then
+// returns the number of bytes of p before the faulty instruction. Other errors are those of the
+// underlying writer, ErrMemory, ErrOrder and ErrClosed. Once a call has failed, all further calls
+// return the same error.
 func (w *InsnWriter) Write(p []byte) (int, error) {
 	taken := 0
 	for taken < len(p) && w.err == nil {
@@ -49,7 +49,7 @@ func (w *InsnWriter) Write(p []byte) (int, error) {
 }
 
 // complete adds bytes of p to those that are held, up to the length of the longest instruction, and
-// writes the instruction that they complete. It returns how many bytes of p it wrote or holds.
+// writes the instruction that they complete. It returns the number of bytes of p that it consumed.
 func (w *InsnWriter) complete(p []byte) int {
 	before := len(w.held)
 	w.held = append(w.held, p[:least(longestInsn-before, len(p))]...)
@@ -64,8 +64,8 @@ func (w *InsnWriter) complete(p []byte) int {
 	return read - before
 }
 
-// writeFront writes the instructions at the front of p, and holds the start of one that is left at
-// its end. It returns how many bytes of p it wrote or holds.
+// writeFront writes the complete instructions at the start of p, and holds the start of one that may
+// follow them. It returns the number of bytes of p that it consumed.
 func (w *InsnWriter) writeFront(p []byte) int {
 	piece := p[:least(len(p), pieceSize)]
 	read := w.put(piece)
@@ -76,7 +76,7 @@ func (w *InsnWriter) writeFront(p []byte) int {
 	return read
 }
 
-// put writes the whole instructions at the front of some bytes, and returns their length.
+// put writes the complete instructions at the start of piece, and returns their length.
 func (w *InsnWriter) put(piece []byte) int {
 	if cap(w.out) < len(piece) {
 		w.out = make([]byte, len(piece))
@@ -92,8 +92,7 @@ func (w *InsnWriter) put(piece []byte) int {
 	return front.Read
 }
 
-// errorOf returns the error of an answer whose bytes begin where the instructions that were read
-// end.
+// errorOf returns the error of an answer about bytes that follow the instructions read so far.
 func (w *InsnWriter) errorOf(front capi.Answer) error {
 	err := errorOf(front, insnCause)
 	var fault *FaultError
@@ -103,8 +102,9 @@ func (w *InsnWriter) errorOf(front capi.Answer) error {
 	return err
 }
 
-// Close reports an instruction that is cut: a *FaultError with InsnTruncated. It doesn't close the
-// underlying writer. It returns an earlier error again, and nil if the writer is closed already.
+// Close reports an incomplete instruction at the end: a *FaultError with InsnTruncated. It doesn't
+// close the underlying writer. It returns an earlier error again, and nil if the writer is already
+// closed.
 func (w *InsnWriter) Close() error {
 	if w.err == ErrClosed {
 		return nil

@@ -3,13 +3,13 @@ package capi
 // #include <bpfcanon.h>
 import "C"
 
-// Version returns the version of the library, as "0.1.0".
+// Version returns the version of the library, for example "0.1.0".
 func Version() string {
 	return C.GoString(C.bpfcanon_version())
 }
 
-// The calls below return the name of a number, as "Truncated", and a sentence on what it means.
-// Both are "" for a number that is no status or cause.
+// The calls below return the name of a number, for example "Truncated", or a sentence that explains
+// it. Both are "" for a number that isn't a status or cause.
 
 func StatusName(status Status) string {
 	return C.GoString(C.bpfcanon_status_name(C.uint32_t(status)))
