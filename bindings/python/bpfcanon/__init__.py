@@ -1,17 +1,17 @@
 """Canonical bytes of BPF instructions (RFC 9669) and of BTF (Linux Documentation/bpf/btf.rst).
 
-A program, or a list of types, can be written in either byte order, and types with any layout of
-their strings. Two inputs that are accepted hold the same instructions, or the same types in the
-same order, if and only if their canonical bytes are equal. Every other input raises a Fault with
-the offset and the cause of its first fault.
+Instructions and BTF can be encoded in either byte order, and BTF can lay out its strings in any
+way. Two inputs that are accepted hold the same instructions, or the same types in the same order,
+if and only if their canonical bytes are equal. Every other input raises a Fault with the offset and
+the cause of its first fault.
 
-The work is done by code in the C library libbpfcanon that is proved to meet its contracts. What is
-between the two, a few lines of C and this package, is tested. The library is loaded at the first
-call, as libbpfcanon.so.0 or from the file that BPFCANON_LIBRARY names.
+The work is done by the C library libbpfcanon, whose core is proved to meet its contracts. The few
+lines of C around that core and this package are tested. The library is loaded at the first call:
+libbpfcanon.so.0, or the file that BPFCANON_LIBRARY names.
 
-Inputs are bytes, bytearray, memoryview or mmap. bytes and writable buffers are read where they
-are, except by insn_stream, which copies each piece; other read-only ones are copied. Calls
-release the interpreter's lock, so threads run at the same time; no thread may write to an input
+Inputs are bytes, bytearray, memoryview or mmap. bytes and writable buffers are not copied, except
+that insn_stream copies each piece; other read-only buffers are copied. Calls release the
+interpreter lock, so several threads can run them at the same time. No thread may write to an input
 during a call.
 """
 
@@ -53,5 +53,5 @@ __all__ = [
 
 
 def library_version() -> str:
-    """The version of the C library, as "0.1.0"."""
+    """Return the version of the C library, for example "0.1.0"."""
     return _library.string("version")

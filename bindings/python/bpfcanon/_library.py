@@ -1,4 +1,4 @@
-"""The calls of bpfcanon.h by ctypes: loading the library, pointers to inputs, and room for output."""
+"""The calls of bpfcanon.h through ctypes: the library, pointers to inputs, output buffers."""
 
 import ctypes
 import functools
@@ -7,11 +7,12 @@ import os
 import pathlib
 from typing import Any, Callable, Union
 
-# What is taken as bytes: see pointer_to.
+# What calls accept as bytes: see pointer_to.
 Buffer = Union[bytes, bytearray, memoryview, mmap.mmap]
 
 NAME = "libbpfcanon.so.0"
-# The library's oldest version with the calls below. All later ones with this major number, which NAME has too, have them.
+# The oldest version of the library with the calls below. Later versions with the same major number, which is also in NAME, have
+# them too.
 OLDEST = (0, 1)
 
 # How a call ended (enum bpfcanon_status).
@@ -62,10 +63,10 @@ _NAMES = ["insn_cause_name", "insn_cause_text", "line_cause_name", "line_cause_t
 
 @functools.lru_cache(maxsize=None)
 def library() -> ctypes.CDLL:
-    """The library, loaded at the first call.
+    """Return the library, which is loaded at the first call.
 
-    It is the file BPFCANON_LIBRARY, or else libbpfcanon.so.0 in the folder of the package, where a wheel has it, or else that of
-    the system.
+    It is the file that BPFCANON_LIBRARY names, otherwise libbpfcanon.so.0 in the folder of the
+    package (where a wheel puts it), otherwise the one that the system's loader finds.
     """
     beside = pathlib.Path(__file__).with_name(NAME)
     path = os.environ.get("BPFCANON_LIBRARY") or (str(beside) if beside.is_file() else NAME)
@@ -85,7 +86,7 @@ def library() -> ctypes.CDLL:
 
 
 def has_all_calls(version: str) -> bool:
-    """Whether the library of a version, as "0.1.0", has all calls of this package."""
+    """Return whether a library of a version, for example "0.1.0", has all calls of this package."""
     major, minor = (int(number) for number in version.split(".")[:2])
     return major == OLDEST[0] and minor >= OLDEST[1]
 
@@ -97,23 +98,23 @@ def _declare(loaded: ctypes.CDLL, name: str, arguments: list[Any], result: Any) 
 
 
 def function(name: str) -> Callable[..., Any]:
-    """A call of the library by its name without `bpfcanon_`."""
+    """Return the call of the library whose name is `bpfcanon_` and this name."""
     found: Callable[..., Any] = getattr(library(), f"bpfcanon_{name}")
     return found
 
 
 def string(name: str, *number: int) -> str:
-    """The string that a call returns, and the empty one for NULL."""
+    """Return the string that a call returns, or "" for NULL."""
     found: Union[bytes, None] = function(name)(*number)
     return (found or b"").decode()
 
 
 def pointer_to(data: Buffer) -> Any:
-    """What ctypes takes as a pointer to the bytes.
+    """Return what ctypes accepts as a pointer to the bytes.
 
-    `bytes` and writable buffers are passed as they are. ctypes gives no address of other read-only
-    ones (a memoryview of bytes, a mapping with ACCESS_READ), so they are copied; so are buffers
-    whose bytes don't follow one another.
+    `bytes` and writable buffers are passed without a copy. ctypes can't take the address of other
+    read-only buffers (a memoryview of bytes, a mapping with ACCESS_READ), so they are copied, and
+    so are buffers that aren't contiguous.
     """
     if isinstance(data, bytes):
         return data
@@ -128,9 +129,10 @@ def size_of(data: Buffer) -> int:
 
 
 def ask(name: str, *arguments: Union[int, Buffer]) -> Any:
-    """Makes a call: each buffer gives a pointer and a length.
+    """Make a call, passing each buffer as a pointer and a length.
 
-    The pointers end with this frame. One that an exception kept would lock its bytearray or mapping.
+    The pointers live only in this frame. One that an exception kept alive would lock its bytearray
+    or mapping.
     """
     passed: list[Any] = []
     for argument in arguments:
@@ -142,9 +144,10 @@ def ask(name: str, *arguments: Union[int, Buffer]) -> Any:
 
 
 def write(name: str, room: int, *arguments: Union[int, Buffer]) -> tuple[Any, bytearray]:
-    """Makes a call that writes, with some room, and once more if the output needs more than that.
+    """Make a call that writes into a buffer of `room` bytes.
 
-    Returns the answer and the output.
+    If the output is longer, the call is made again with a larger buffer. Returns the answer and the
+    output.
     """
     out = bytearray(room)
     answer = ask(name, *arguments, out)

@@ -7,7 +7,7 @@ from .errors import check
 
 
 def btf_canon(types: Buffer, *, to: Order = Order.LITTLE) -> bytes:
-    """The canonical form of BTF in the byte order `to`.
+    """Return BTF in canonical form, in the byte order `to`.
 
     With `to` little these are its canonical bytes. They are never longer than the input.
     Raises Fault with a BtfCause, OutOfMemory.
@@ -18,9 +18,9 @@ def btf_canon(types: Buffer, *, to: Order = Order.LITTLE) -> bytes:
 
 
 def btf_show(types: Buffer) -> str:
-    """The types as text: a line for each type and for each of its items, with a newline.
+    """Return the types as text: one line for each type and each of its items, with a newline.
 
-    docs/FORMATS.md has the form of the lines. Raises Fault with a BtfCause, OutOfMemory.
+    docs/FORMATS.md describes the lines. Raises Fault with a BtfCause, OutOfMemory.
     """
     # The text of a kernel's types is about twice as long as they are.
     answer, out = _library.write("btf_show", 3 * _library.size_of(types), types)
@@ -29,12 +29,15 @@ def btf_show(types: Buffer) -> str:
 
 
 def btf_check(types: Buffer) -> int:
-    """The number of types. Type 0, void, is not counted. Raises Fault with a BtfCause, OutOfMemory."""
+    """Return the number of types, not counting type 0, void.
+
+    Raises Fault with a BtfCause, OutOfMemory.
+    """
     return int(check(_library.ask("btf_check", types), BtfCause).types)
 
 
 def btf_same(first: Buffer, second: Buffer) -> bool:
-    """Whether two BTF inputs, in any byte order, have the same types.
+    """Return whether two BTF inputs, in any byte order, have the same types in the same order.
 
     Raises Fault with a BtfCause, OutOfMemory.
     """

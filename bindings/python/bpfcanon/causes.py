@@ -1,6 +1,7 @@
 """The numbers of the library: byte orders, conformance groups and the causes of faults.
 
-Causes are no ints, so that causes of different inputs are different though their numbers are equal.
+Causes are plain enums, not ints, so that members of InsnCause, LineCause and BtfCause never compare
+equal.
 """
 
 import enum
@@ -10,7 +11,7 @@ from . import _library
 
 
 class Order(enum.IntEnum):
-    """A byte order. Instructions don't state theirs, so the caller gives it; BTF does."""
+    """A byte order. Instructions don't record theirs, so the caller passes it; BTF does."""
 
     LITTLE = 0  # the order of canonical bytes
     BIG = 1
@@ -29,7 +30,7 @@ class Group(enum.IntFlag):
 
 
 class InsnCause(enum.Enum):
-    """The cause of a fault of instructions: the first field that no instruction has beside the fields before it."""
+    """The cause of a fault in instructions: the first field whose value fits no instruction with the fields before it."""
 
     TRUNCATED = 1
     OPCODE = 2
@@ -42,17 +43,17 @@ class InsnCause(enum.Enum):
 
     @property
     def label(self) -> str:
-        """The name in docs/FORMATS.md, as "NextImm"."""
+        """The name in docs/FORMATS.md, for example "NextImm"."""
         return _library.string("insn_cause_name", self.value)
 
     @property
     def text(self) -> str:
-        """A sentence, as "no instruction has this opcode"."""
+        """A sentence that explains the cause, for example "no instruction has this opcode"."""
         return _library.string("insn_cause_text", self.value)
 
 
 class LineCause(enum.Enum):
-    """The cause of a fault of a listing."""
+    """The cause of a fault in a listing."""
 
     CHAR = 1
     WORD = 2
@@ -61,17 +62,17 @@ class LineCause(enum.Enum):
 
     @property
     def label(self) -> str:
-        """The name in docs/FORMATS.md, as "Shape"."""
+        """The name in docs/FORMATS.md, for example "Shape"."""
         return _library.string("line_cause_name", self.value)
 
     @property
     def text(self) -> str:
-        """A sentence, as "no instruction has this mnemonic"."""
+        """A sentence that explains the cause, for example "no instruction has this mnemonic"."""
         return _library.string("line_cause_text", self.value)
 
 
 class BtfCause(enum.Enum):
-    """The cause of a fault of BTF."""
+    """The cause of a fault in BTF."""
 
     SHORT_HEADER = 1
     MAGIC = 2
@@ -108,12 +109,12 @@ class BtfCause(enum.Enum):
 
     @property
     def label(self) -> str:
-        """The name in docs/FORMATS.md, as "ShortHeader"."""
+        """The name in docs/FORMATS.md, for example "ShortHeader"."""
         return _library.string("btf_cause_name", self.value)
 
     @property
     def text(self) -> str:
-        """A sentence, as "the version is not 1"."""
+        """A sentence that explains the cause, for example "the version is not 1"."""
         return _library.string("btf_cause_text", self.value)
 
 

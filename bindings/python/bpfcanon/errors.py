@@ -1,4 +1,4 @@
-"""The exceptions of the package, and how an answer of the library becomes one."""
+"""The exceptions of the package, and how an answer of the library turns into one."""
 
 from typing import Any, Callable, Optional
 
@@ -7,7 +7,10 @@ from .causes import Cause
 
 
 class BpfcanonError(Exception):
-    """What the calls of this package raise, but for TypeError and an OSError if there is no library."""
+    """Base class of the errors that the calls of this package raise.
+
+    The others are TypeError, and OSError if the library can't be loaded.
+    """
 
 
 class Fault(BpfcanonError, ValueError):
@@ -16,7 +19,7 @@ class Fault(BpfcanonError, ValueError):
     cause   an InsnCause, a LineCause or a BtfCause
     pos     the offset of the fault in bytes; 0 in a listing
     line    the line of the fault in a listing, from 1; 0 in other inputs
-    second  whether it is in the second of two inputs, and the first has none
+    second  whether the fault is in the second of two inputs and the first is valid
     """
 
     def __init__(self, cause: Cause, pos: int = 0, line: int = 0, second: bool = False) -> None:
@@ -32,15 +35,15 @@ class Fault(BpfcanonError, ValueError):
 
 
 class OutOfMemory(BpfcanonError, MemoryError):
-    """The library was out of memory."""
+    """The library ran out of memory."""
 
 
 class OrderError(BpfcanonError, ValueError):
-    """A number is not that of a byte order."""
+    """An argument is not a valid byte order."""
 
 
 def error_of(answer: Any, cause: Callable[[int], Cause]) -> Optional[BpfcanonError]:
-    """The exception of an answer, and None for one without."""
+    """Return the exception that an answer stands for, or None."""
     if answer.status in (_library.DONE, _library.DIFFERENT):
         return None
     if answer.status in (_library.FAULT, _library.FAULT_SECOND):
@@ -58,7 +61,7 @@ def error_of(answer: Any, cause: Callable[[int], Cause]) -> Optional[BpfcanonErr
 
 
 def check(answer: Any, cause: Callable[[int], Cause]) -> Any:
-    """The answer, if it is one of a call that has done its work."""
+    """Return the answer of a call that succeeded, or raise its exception."""
     error = error_of(answer, cause)
     if error is not None:
         raise error

@@ -9,9 +9,9 @@ from .errors import BpfcanonError, Fault, check, error_of
 
 
 def insn_canon(program: Buffer, *, order: Order = Order.LITTLE, to: Order = Order.LITTLE) -> bytes:
-    """The instructions of a program that is in the byte order `order`, in the order `to`.
+    """Convert a program from the byte order `order` to the byte order `to`.
 
-    With `to` little these are its canonical bytes. They are as long as the program.
+    With `to` little the result is its canonical bytes. It is as long as the program.
     Raises Fault with an InsnCause, OutOfMemory.
     """
     answer, out = _library.write("insn_canon", _library.size_of(program), order, to, program)
@@ -20,9 +20,9 @@ def insn_canon(program: Buffer, *, order: Order = Order.LITTLE, to: Order = Orde
 
 
 def insn_show(program: Buffer, *, order: Order = Order.LITTLE) -> str:
-    """The listing of a program: a line for each instruction, with a newline.
+    """Return the listing of a program: one line for each instruction, with a newline.
 
-    docs/FORMATS.md has the form of the lines. Raises Fault with an InsnCause, OutOfMemory.
+    docs/FORMATS.md describes the lines. Raises Fault with an InsnCause, OutOfMemory.
     """
     # The longest line is 4 times as long as its instruction.
     answer, out = _library.write("insn_show", 4 * _library.size_of(program), order, program)
@@ -31,7 +31,7 @@ def insn_show(program: Buffer, *, order: Order = Order.LITTLE) -> str:
 
 
 def insn_read(listing: Union[str, Buffer], *, to: Order = Order.LITTLE) -> bytes:
-    """The instructions of a listing, in the byte order `to`.
+    """Return the instructions of a listing, in the byte order `to`.
 
     Comments, blank lines and hexadecimal numbers are allowed. Raises Fault with a LineCause and the
     line, OutOfMemory.
@@ -44,7 +44,7 @@ def insn_read(listing: Union[str, Buffer], *, to: Order = Order.LITTLE) -> bytes
 
 
 def insn_groups(program: Buffer, *, order: Order = Order.LITTLE) -> Group:
-    """The conformance groups that a program needs, and the groups that these include.
+    """Return the conformance groups that a program needs, and the groups that these include.
 
     Raises Fault with an InsnCause.
     """
@@ -54,7 +54,7 @@ def insn_groups(program: Buffer, *, order: Order = Order.LITTLE) -> Group:
 def insn_same(
     first: Buffer, second: Buffer, *, first_order: Order = Order.LITTLE, second_order: Order = Order.LITTLE
 ) -> bool:
-    """Whether two programs, each in a byte order of its own, have the same instructions.
+    """Return whether two programs, each in its own byte order, have the same instructions.
 
     Raises Fault with an InsnCause.
     """
@@ -63,13 +63,12 @@ def insn_same(
 
 
 class Front(NamedTuple):
-    """The whole instructions at the front of some bytes.
+    """The complete instructions at the start of a buffer.
 
-    output  the instructions, in the order that was asked for
+    output  the instructions, in the byte order `to`
     read    how many bytes of the input they are
-    error   why the instructions end there, if that is not the end of the input: a Fault that remains
-            whatever bytes follow, or OutOfMemory; None if fewer than 16 bytes are left, which may
-            begin an instruction
+    error   why the call stopped there: a Fault, which remains whatever bytes follow, OutOfMemory or
+            OrderError; None if fewer than 16 bytes are left, which may begin an instruction
     """
 
     output: bytes
@@ -78,15 +77,18 @@ class Front(NamedTuple):
 
 
 def insn_front(piece: Buffer, *, order: Order = Order.LITTLE, to: Order = Order.LITTLE) -> Front:
-    """The whole instructions at the front of some bytes. It doesn't raise a fault, but returns it."""
+    """Convert the complete instructions at the start of a buffer.
+
+    A BpfcanonError is returned in the Front, not raised.
+    """
     answer, out = _library.write("insn_front", _library.size_of(piece), order, to, piece)
     return Front(bytes(out), answer.read, error_of(answer, InsnCause))
 
 
 def insn_stream(pieces: Iterable[Buffer], *, order: Order = Order.LITTLE, to: Order = Order.LITTLE) -> Iterator[bytes]:
-    """The instructions of a stream that comes in pieces, which may be cut anywhere.
+    """Convert a stream of instructions in pieces, which may be cut anywhere.
 
-    Yields the instructions that each piece completes, and keeps fewer than 16 bytes between pieces.
+    Yields the instructions that each piece completes, and holds fewer than 16 bytes between pieces.
     A fault is raised after the instructions before it, with its offset in the stream.
     Raises Fault with an InsnCause, OutOfMemory.
     """
@@ -106,7 +108,7 @@ def insn_stream(pieces: Iterable[Buffer], *, order: Order = Order.LITTLE, to: Or
 
 
 def moved(error: BpfcanonError, offset: int) -> BpfcanonError:
-    """The error with the offset of a fault counted from the first byte of the stream."""
+    """Return the error with its offset counted from the start of the stream."""
     if isinstance(error, Fault):
         return Fault(error.cause, offset + error.pos)
     return error
