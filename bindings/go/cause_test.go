@@ -51,7 +51,7 @@ func TestCausesHaveTheNamesAndSentencesOfTheFormats(t *testing.T) {
 	}
 }
 
-// The constants with the names that docs/FORMATS.md has for them.
+// The constants, by their names in docs/FORMATS.md.
 func TestConstantsHaveTheNumbersOfTheirNames(t *testing.T) {
 	for name, cause := range map[string]bpfcanon.Cause{
 		"Truncated": bpfcanon.InsnTruncated, "Opcode": bpfcanon.InsnOpcode, "Dst": bpfcanon.InsnDst, "Src": bpfcanon.InsnSrc,

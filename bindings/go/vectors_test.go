@@ -11,13 +11,13 @@ import (
 	"bpfcanon"
 )
 
-// How many rows of each kind were there once.
+// The least number of rows of each kind, so that a reader that skips rows is noticed.
 var least = map[string]int{
 	"insn": 182, "insn-fault": 100, "listing": 24, "listing-fault": 75, "btf": 56, "btf-fault": 117,
 }
 
-// The fields of each row of a kind in testdata/vectors.tsv, without the kind. testdata/README.md has
-// the columns.
+// The fields of each row of a kind in testdata/vectors.tsv, without the kind. testdata/README.md
+// describes the columns.
 func vectors(t *testing.T, kind string) (rows [][]string) {
 	t.Helper()
 	file, err := os.ReadFile(filepath.Join("..", "..", "testdata", "vectors.tsv"))

@@ -77,8 +77,8 @@ func TestAFaultComesAfterTheInstructionsBeforeIt(t *testing.T) {
 	}
 }
 
-// Write returns how many of its bytes come before the instruction with the fault, also where some of
-// that instruction came with an earlier call.
+// Write returns the number of its bytes before the faulty instruction, even if that instruction
+// began in an earlier call.
 func TestWriteCountsTheBytesBeforeAFault(t *testing.T) {
 	for _, row := range []struct {
 		fault string

@@ -1,4 +1,4 @@
-"""testdata/vectors.tsv by each call that reads a row. testdata/README.md has the columns."""
+"""Tests each call against its rows of testdata/vectors.tsv. testdata/README.md describes the columns."""
 
 import unittest
 from typing import Callable
@@ -13,7 +13,7 @@ EXIT = bytes.fromhex("9500000000000000")
 BRINGS = {Group.BASE64: Group.BASE32, Group.ATOMIC64: Group.ATOMIC32, Group.DIVMUL64: Group.DIVMUL32}
 
 
-# How many rows of each kind were there once.
+# The least number of rows of each kind, so that a reader that skips rows is noticed.
 LEAST = {"insn": 182, "insn-fault": 100, "listing": 24, "listing-fault": 75, "btf": 56, "btf-fault": 117}
 
 

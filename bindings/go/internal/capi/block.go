@@ -6,8 +6,8 @@ import "C"
 import "unsafe"
 
 // BTFCanonNew copies the canonical form out of a block that C allocates and this call frees. It
-// also returns whether there was a block. Package bpfcanon writes into slices instead; this is the
-// call by which the tests see from Go that blocks are handed out and freed.
+// also returns whether there was a block. Package bpfcanon writes into slices instead; this call
+// lets tests check from Go that blocks are allocated and freed.
 func BTFCanonNew(to Order, types []byte) (Answer, []byte, bool) {
 	var block *C.uint8_t
 	a := answer(C.bpfcanon_btf_canon_new(C.uint32_t(to), start(types), size(types), &block))

@@ -1,4 +1,4 @@
-// Package capi makes the calls of bpfcanon.h: inputs and room for output are slices of the caller,
+// Package capi makes the calls of bpfcanon.h. Inputs and output buffers are slices of the caller,
 // which no call copies. The comments of the header describe each call.
 package capi
 
@@ -40,7 +40,7 @@ const (
 	Packet   = C.BPFCANON_PACKET
 )
 
-// BTFMax is the length of the longest BTF without a fault.
+// BTFMax is the length of the longest BTF that can be valid.
 const BTFMax = C.BPFCANON_BTF_MAX
 
 // HeaderVersion is the version of the header that this package was compiled with.
@@ -59,7 +59,8 @@ type Answer struct {
 	Groups  uint32
 }
 
-// start returns where a slice begins, and nil if it is empty, which each call takes.
+// start returns the address of the first byte of a slice, or nil, which every call accepts, if the
+// slice is empty.
 func start(b []byte) *C.uint8_t {
 	if len(b) == 0 {
 		return nil
