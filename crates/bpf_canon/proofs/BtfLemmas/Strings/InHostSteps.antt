@@ -1,5 +1,5 @@
 -- The host of a text by ranks, and the steps of the loops that find the hosts of all.
-use Rattle.std.proofs.Common.{◌≡◌, ◌≢◌, ℕ, zero, suc, ◌+◌, ◌-◌, ◌<◌, ◌≤◌, true, ◌⊎◌, inl, inr, List, [], length, map, get_or, set, replicate, sym, ap, ◌∙◌, subst, arith}
+use Rattle.std.proofs.Common.{◌≡◌, ◌≢◌, ℕ, zero, suc, ◌+◌, ◌-◌, ◌<◌, ◌≤◌, true, ◌⊎◌, inl, inr, List, [], length, map, get_or, set, replicate, refl, sym, ap, ◌∙◌, subst, arith}
 use Rattle.std.specs.List.{All}
 use Rattle.std.proofs.lemmas.Bool.{cases_eq, cases_lt}
 use Rattle.std.proofs.lemmas.List.{get_or-map, length-map, length-set, get_or-set_same, get_or-set_other, get_or_default, get_or_read, get_or-replicate, length-replicate}
@@ -24,6 +24,11 @@ passed_end : (ms : List (List ℕ)) (n j l r : ℕ) → n + j ≡ r → l ≤ j 
 passed_end ms zero j l r e low p = subst (λ (m : ℕ). Ends (at_rank ms j) (at_rank ms m)) (let same : j ≡ r = omega (arith, e) in same) (Ends-refl (at_rank ms j))
 passed_end ms (suc n) j l r e low p =
     Ends-trans (at_rank ms j) (at_rank ms (j + 1)) (at_rank ms r) (Ends-from_suffix _ _ (p j low (omega (arith, e)))) (passed_end ms n (j + 1) l r (omega (arith, e)) (omega (arith, low)) p)
+
+-- The text of a rank isn't a suffix of the text before it, and no name begins after its first byte.
+pub record IsAlone (slots common : List ℕ) (rank : ℕ) (t : SectionText) : Type 0 where
+  pub less : get_or common rank 0 < t.end - t.start
+  pub unused : (off : ℕ) → t.start + 1 ≤ off → off < t.end → get_or slots off 0 ≡ 0
 
 module _ (section slots : List ℕ) (ts : List SectionText) (common hosts : List ℕ) (ranked : AreRanked (map (text_in section) ts) common hosts) (used : All (IsUsed section slots) ts) where
   abbrev texts : List (List ℕ)
@@ -120,6 +125,18 @@ module _ (section slots : List ℕ) (ts : List SectionText) (common hosts : List
         in_hosts = λ h a b e. in_host rank off l inside within low_enough all less_here h (omega (arith, a, host_is)) (omega (arith, b, u_len, ends)) (e ∙ u_len);
       }
 
+  -- a text is alone by the length that was read for its rank
+  pub alone_read : (rank n : ℕ) (t : SectionText) → rank < length ts → n ≡ get_or common rank n → n < t.end - t.start → ((off : ℕ) → t.start + 1 ≤ off → off < t.end → get_or slots off 0 ≡ 0) → IsAlone slots common rank t
+  alone_read rank n t inside n_is less unused =
+      let in_common : rank < length common = omega (arith, inside, ranked.are_common.whole, length-map ts (text_in section)) in
+      record { less = omega (arith, less, get_or_read common rank n in_common n_is 0); unused = unused }
+
+  -- the same for a text that is alone, from its rank on
+  pub steps_alone : (rank v : ℕ) (t u : SectionText) → rank < length ts → t ≡ get_or ts rank t → IsAlone slots common rank t → v ≡ get_or hosts rank v → u ≡ get_or ts v u → StepsBack rank t.start rank rank v t u
+  steps_alone rank v t u inside t_is alone v_is u_is =
+      let high : t.start < t.end = omega (arith, alone.less) in
+      steps_back rank t.start rank rank v t t u common inside t_is t_is (omega arith) high (omega arith) (λ j a b. absurd (omega (arith, a, b))) refl (omega arith) (λ j a b. absurd (omega (arith, a, b))) alone.less v_is u_is
+
 -- the loop over the offsets within a text
 pub record WithinTo (section slots : List ℕ) (sorted : List (List ℕ)) (common : List ℕ) (t : SectionText) (rank : ℕ) (old in_hosts : List InHost) (from off : ℕ) : Type 0 where
   pub whole : length in_hosts ≡ length old
@@ -163,17 +180,34 @@ module _ (section slots : List ℕ) (sorted : List (List ℕ)) (common : List �
         ];
       }
 
--- after the last used offset within a text its hosts are found
-pub within_last : (section slots : List ℕ) (sorted : List (List ℕ)) (common : List ℕ) (t : SectionText) (rank : ℕ) (old in_hosts : List InHost) (from off : ℕ) → WithinTo section slots sorted common t rank old in_hosts from (off + 1) → off < t.end
-    → ((k : ℕ) → off + 1 ≤ k → k < t.end → get_or slots k 0 ≡ 0) → FindsWithin section slots sorted t old in_hosts
-within_last section slots sorted common t rank old in_hosts from off to high none = record {
-  whole = to.whole;
-  here = λ o s w. elim (cases_lt o (off + 1)) [
-    | inl l ↦ to.here o s w.from l
-    | inr m ↦ absurd (s (none o m w.before))
-  ];
-  there = λ o s n. to.there o s (λ (a, b). n (record { from = a; before = omega (arith, b, high) }));
-}
+-- the host of a text that is alone
+pub finds_alone : (section slots : List ℕ) (sorted : List (List ℕ)) (t : SectionText) (old : List InHost) (h : InHost) → IsUsed section slots t → ((k : ℕ) → t.start + 1 ≤ k → k < t.end → get_or slots k 0 ≡ 0) → length old ≡ offset_number slots (length slots) → IsInHost sorted (text_from section t.start) h
+    → FindsWithin section slots sorted t old (set old (offset_number slots t.start) h)
+finds_alone section slots sorted t old h used alone long is =
+    let number = offset_number slots t.start in
+    let here : host_at slots (set old number h) t.start ≡ h = get_or-set_same old number h no_host (omega (arith, number_inside slots t.start used.slot, long)) in
+    record {
+      whole = length-set old number h;
+      here = λ o s w.
+          let e : o ≡ t.start = elim (cases_eq o t.start) [ inl q ↦ q | inr n ↦ absurd (s (alone o (omega (arith, w.from, n)) w.before)) ] in
+          subst (λ (k : ℕ). IsInHost sorted (text_from section k) (host_at slots (set old number h) k)) (sym e) (subst (IsInHost sorted (text_from section t.start)) (sym here) is);
+      there = λ o s n. get_or-set_other old number (offset_number slots o) h no_host (λ e.
+          let same : o ≡ t.start = number_injective slots o t.start s used.slot e in
+          n (record { from = omega (arith, same); before = omega (arith, same, used.some) }));
+    }
+
+-- the same of a text that was read
+module _ (section slots : List ℕ) (ts : List SectionText) (longest : AreLongestOf section slots ts) (rank : ℕ) (t : SectionText) (inside : rank < length ts) (t_is : t ≡ get_or ts rank t) where
+  t_end : t ≡ get_or ts rank no_text
+  t_end = t_is ∙ get_or_default ts rank t no_text inside
+
+  pub used_read : IsUsed section slots t
+  used_read = subst (IsUsed section slots) (sym t_end) (longest.used rank no_text inside)
+
+  pub finds_read : (sorted : List (List ℕ)) (old : List InHost) (h : InHost) → ((k : ℕ) → t.start + 1 ≤ k → k < t.end → get_or slots k 0 ≡ 0) → length old ≡ offset_number slots (length slots) → IsInHost sorted (text_from section t.start) h
+      → FindsWithin section slots sorted (get_or ts rank no_text) old (set old (offset_number slots t.start) h)
+  finds_read sorted old h alone long is =
+      subst (λ (k : SectionText). FindsWithin section slots sorted k old (set old (offset_number slots t.start) h)) t_end (finds_alone section slots sorted t old h used_read alone long is)
 
 cases_within : (off : ℕ) (t : SectionText) → IsWithin off t ⊎ (¬ IsWithin off t)
 cases_within off t = elim (cases_lt off t.start) [

@@ -63,6 +63,16 @@ unused_between slots start end off e low high = elim (cases_eq (get_or slots off
   | inr s ↦ absurd (omega (arith, e, number_grows slots start off low, number_below slots off end high s))
 ]
 
+-- two offsets with no used one between them have the same number of used ones before them
+pub number_kept : (slots : List ℕ) (start end : ℕ) → start ≤ end → ((off : ℕ) → start ≤ off → off < end → get_or slots off 0 ≡ 0) → offset_number slots start ≡ offset_number slots end
+number_kept slots start zero h none = ap (offset_number slots) (let e : start ≡ 0 = omega (arith, h) in e)
+number_kept slots start (suc n) h none = elim (cases_eq start (suc n)) [
+  | inl q ↦ ap (offset_number slots) q
+  | inr q ↦
+      number_kept slots start n (omega (arith, h, q)) (λ off low high. none off low (omega (arith, high)))
+      ∙ sym (ap (λ (l : List ℕ). length l) (below_unused slots n (none n (omega (arith, h, q)) (omega arith))))
+]
+
 pub number_injective : (slots : List ℕ) (o p : ℕ) → get_or slots o 0 ≢ 0 → get_or slots p 0 ≢ 0 → offset_number slots o ≡ offset_number slots p → o ≡ p
 number_injective slots o p s t e = elim (cases_eq o p) [
   | inl q ↦ q

@@ -1,5 +1,5 @@
 //! The host of each name, by the ranks of the longest texts.
-ghost use Rattle.std.specs.Prelude.{◌≡◌, ◌<◌, length, IfOk};
+ghost use Rattle.std.specs.Prelude.{◌≡◌, ◌<◌, ◌≤◌, length, IfOk, OnOk};
 ghost use Rattle.bpf_canon.specs.btf.strings.Ranks.{AreLower};
 ghost use Rattle.bpf_canon.specs.btf.strings.UsedOffsets.{offset_number};
 ghost use Rattle.bpf_canon.specs.btf.strings.InHost as spec;
@@ -29,9 +29,8 @@ impl InHost {
     };
 }
 
-/// Finds the hosts of the used offsets within the text of a rank, up to the last of them. Their
-/// texts get shorter, so the search for the first rank that ends with a text begins at the rank
-/// found for the offset before.
+/// Finds the hosts of the used offsets within the text of a rank. Their texts get shorter, so the
+/// search for the first rank that ends with a text begins at the rank found for the offset before.
 fn find_within<A: Allocator>(
     uses: &UsedOffsets<A>,
     ranked: &RankedTexts<'_, A>,
@@ -46,41 +45,90 @@ fn find_within<A: Allocator>(
     ensures { spec.FindsWithinRank uses.now ranked.now rank in_hosts.old in_hosts.new }
 {
     let end = ranked.texts[rank].end;
-    let used = uses.used_before(end as usize);
     let mut from = rank;
     for off in ranked.texts[rank].start..end {
         if uses.is_used(off as usize) {
             from = first_rank(&ranked.common, lower, from, end - off);
             let host = ranked.hosts[from];
             let len = ranked.texts[host as usize].len();
-            let number = uses.number(off as usize);
-            in_hosts[number] = InHost {
+            in_hosts[uses.number(off as usize)] = InHost {
                 host: host + 1,
                 before: len - (end - off),
                 len,
             };
-            if number + 1 == used {
-                return;
-            }
         }
     }
 }
 
-/// Finds the hosts of all ranks.
-fn find_all<A: Allocator>(
+/// Finds the hosts of the first ranks up to one whose text is the same as another, or has a name
+/// that begins inside it. In most files there is none. The host of a text that is alone is the next
+/// host from its rank on. The result is the number of these ranks.
+fn find_alone<A: Allocator>(
+    uses: &UsedOffsets<A>,
+    ranked: &RankedTexts<'_, A>,
+    in_hosts: &mut [InHost],
+) -> usize
+    requires texts { spec.IsRankedFor uses.now ranked.now }
+    requires none { spec.FindsRanks uses.now ranked.now in_hosts.old 0 }
+    ensures found { spec.FindsRanks uses.now ranked.now in_hosts.new result }
+    ensures most { result ≤ length ranked.now.texts.items }
+{
+    for rank in 0..ranked.texts.len() {
+        let text = ranked.texts[rank];
+        if ranked.common[rank] >= text.len()
+            || !uses.are_unused(text.start as usize + 1, text.end as usize)
+        {
+            return rank;
+        }
+        let host = ranked.hosts[rank];
+        let len = ranked.texts[host as usize].len();
+        in_hosts[uses.number(text.start as usize)] = InHost {
+            host: host + 1,
+            before: len - text.len(),
+            len,
+        };
+    }
+    ranked.texts.len()
+}
+
+/// Finds the hosts of the other ranks, also if texts are the same or names begin inside one.
+fn find_shared<A: Allocator>(
     uses: &UsedOffsets<A>,
     ranked: &RankedTexts<'_, A>,
     lower: &[u32],
+    first: usize,
     in_hosts: &mut [InHost],
 )
     requires texts { spec.IsRankedFor uses.now ranked.now }
     requires lower { AreLower ranked.now.common.items lower.now }
-    requires none { spec.FindsRanks uses.now ranked.now in_hosts.old 0 }
+    requires most { first ≤ length ranked.now.texts.items }
+    requires found { spec.FindsRanks uses.now ranked.now in_hosts.old first }
     ensures { spec.FindsRanks uses.now ranked.now in_hosts.new (length ranked.now.texts.items) }
 {
-    for rank in 0..ranked.texts.len() {
+    for rank in first..ranked.texts.len() {
         find_within(uses, ranked, lower, rank, in_hosts);
     }
+}
+
+/// Finds the hosts of all ranks. At an error those of the first ranks were found.
+fn find_all<A: Allocator + Copy>(
+    alloc: A,
+    uses: &UsedOffsets<A>,
+    ranked: &RankedTexts<'_, A>,
+    in_hosts: &mut [InHost],
+) -> Result<(), AllocError>
+    requires texts { spec.IsRankedFor uses.now ranked.now }
+    requires none { spec.FindsRanks uses.now ranked.now in_hosts.old 0 }
+    ensures { OnOk result (spec.FindsRanks uses.now ranked.now in_hosts.new
+        (length ranked.now.texts.items)) }
+{
+    let alone = find_alone(uses, ranked, in_hosts);
+    if alone == ranked.texts.len() {
+        return Ok(());
+    }
+    let lower = lower_ranks(alloc, &ranked.common)?;
+    find_shared(uses, ranked, &lower, alone, in_hosts);
+    Ok(())
 }
 
 /// The host of each used offset, by its number.
@@ -92,8 +140,7 @@ pub(crate) fn find_hosts<A: Allocator + Copy>(
     requires { spec.IsRankedFor uses.now ranked.now }
     ensures { IfOk result (λ in_hosts. spec.FindsHosts uses.now ranked.now in_hosts.items) }
 {
-    let lower = lower_ranks(alloc, &ranked.common)?;
     let mut in_hosts = vec![in alloc; InHost::NONE; uses.count()]?;
-    find_all(uses, ranked, &lower, &mut in_hosts);
+    find_all(alloc, uses, ranked, &mut in_hosts)?;
     Ok(in_hosts)
 }

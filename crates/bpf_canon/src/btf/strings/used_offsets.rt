@@ -57,8 +57,21 @@ impl<A: Allocator> UsedOffsets<A> {
         self.marks.contains(off)
     }
 
+    /// Whether none of the offsets from `start` up to `end` is used: the number of used offsets
+    /// before both is the same.
+    pub(crate) fn are_unused(&self, start: usize, end: usize) -> bool
+        requires order { start ≤ end }
+        requires inside { end ≤ length self.now }
+        ensures yes { result ≡ true → (off : ℕ) → start ≤ off → off < end
+            → slice_index self.now off ≡ 0 }
+        ensures no { result ≡ false
+            → ¬ ((off : ℕ) → start ≤ off → off < end → slice_index self.now off ≡ 0) }
+    {
+        self.used_before(start) == self.used_before(end)
+    }
+
     /// The number of used offsets before this one.
-    pub(crate) fn used_before(&self, off: usize) -> usize
+    fn used_before(&self, off: usize) -> usize
         requires { off ≤ length self.now }
         ensures { result ≡ spec.offset_number self.now off }
     {

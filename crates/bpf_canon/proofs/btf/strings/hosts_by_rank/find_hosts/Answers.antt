@@ -13,7 +13,7 @@ returns g c =
     let ts = r.texts.items in
     let sorted = map (text_in r.section.now) ts in
     let new = c.find_all.new.in_hosts in
-    let to = c.find_all.ensures in
+    let to = c.in_ok-find_all.ensures in
     let long : length new ≡ c.in_ok-in_hosts.in_hosts.len = omega (arith, to.whole, c.in_ok-in_hosts.ensures.len, c.count.ensures) in
     subst (λ (l : List InHost). AreInHosts r.section.now slots sorted l) (sym (take_at new (drop (length new) c.in_ok-in_hosts.in_hosts.items) c.in_ok-in_hosts.in_hosts.len long))
     (hosts_all r.section.now slots ts sorted c.requires.longest new to c.requires.whole)
