@@ -3,12 +3,14 @@
 #![tactic(auto)]
 
 pub mod laws;
+mod order_name;
 mod slot;
 mod spelling;
 #[cfg(test)]
 mod tests;
 mod words;
 
+pub use order_name::ParseOrderError;
 pub use slot::Slot;
 pub use spelling::{slot_bytes, slot_of};
 pub use words::{get16, get32, push16, push32};
@@ -17,7 +19,7 @@ pub use words::{get16, get32, push16, push32};
 ///
 /// An instruction file doesn't say its order, so the caller gives it (RFC 9669 section 3). A BTF
 /// file has it in its magic (btf.rst section 2).
-#[derive(Clone, Copy, Debug, PartialEq, Eq)]
+#[derive(Clone, Copy, Debug, PartialEq, Eq, PartialOrd, Ord, Hash)]
 pub enum Order {
     /// The least significant byte comes first.
     Little,

@@ -11,7 +11,7 @@ use std::marker::Model;
 ///
 /// The register byte has `src` in its high half and `dst` in its low half in little-endian
 /// files, and the other way round in big-endian files.
-#[derive(Clone, Copy, Debug, PartialEq, Eq)]
+#[derive(Clone, Copy, Debug, PartialEq, Eq, Hash)]
 pub struct Slot {
     /// The operation.
     pub opcode: u8,

@@ -1,6 +1,6 @@
 //! Words and slots in both orders, and growths that are refused.
 
-use crate::{Order, Slot, get16, get32, push16, push32, slot_bytes, slot_of};
+use crate::{Order, ParseOrderError, Slot, get16, get32, push16, push32, slot_bytes, slot_of};
 use bumpalo::Bump;
 use std::alloc::{AllocError, Allocator, Global};
 use std::fmt::Debug;
@@ -117,6 +117,33 @@ fn slots_in_both_orders(rt: HostRuntime) {
             equal(&rt, &found, &(row.slot, bytes), &(order, row));
         }
     }
+}
+
+#[test]
+fn orders_by_name(rt: HostRuntime) -> Result<(), Fail> {
+    for (order, name) in [(Order::Little, "little"), (Order::Big, "big")] {
+        equal(
+            &rt,
+            &format!(in rt.alloc(); "{order}")?.as_str(),
+            &name,
+            &order,
+        );
+        equal(&rt, &name.parse::<Order>(), &Ok(order), &order);
+    }
+    equal(
+        &rt,
+        &"Big".parse::<Order>(),
+        &Err(ParseOrderError),
+        &"a capital",
+    );
+    let text = format!(in rt.alloc(); "{ParseOrderError}")?;
+    equal(
+        &rt,
+        &text.as_str(),
+        &"the byte order is neither `little` nor `big`",
+        &"the error",
+    );
+    Ok(())
 }
 
 /// How many bytes an arena has, before any are given away.
