@@ -11,7 +11,7 @@ use crate::read::{begins_plainly, other_len};
 use crate::{Order, SlotFault};
 
 /// How far whole instructions go from the first of some bytes on.
-#[derive(Clone, Copy, Debug, PartialEq, Eq)]
+#[derive(Clone, Copy, Debug, PartialEq, Eq, Hash)]
 pub struct InsnFront {
     /// The number of bytes of these instructions.
     pub len: usize,

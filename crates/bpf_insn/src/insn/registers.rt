@@ -1,9 +1,11 @@
 //! Registers and their numbers.
 
-ghost use Rattle.std.specs.Prelude.{◌≡◌, ◌<◌, MatchOption};
+ghost use Rattle.std.specs.Prelude.{◌≡◌, ◌<◌, MatchOption, MatchResult};
 ghost use Rattle.bpf_insn.specs.Table.{register_number};
 
 use crate::Reg;
+use std::fmt;
+use thiserror::Error;
 
 impl Reg {
     /// The register of a number, or `None` where the number is above 10.
@@ -22,5 +24,29 @@ impl Reg {
         ensures { result ≡ register_number self }
     {
         self.number
+    }
+}
+
+/// Why a number names no register: it is above 10.
+#[derive(Clone, Copy, Debug, PartialEq, Eq, Hash, Error)]
+#[error("there is no register r{0}")]
+pub struct NoSuchReg(pub u8);
+
+/// The register of a number, which has to be 0 to 10.
+impl TryFrom<u8> for Reg {
+    type Error = NoSuchReg;
+
+    ghost try_from_gives = { λ number r.
+        MatchResult r (λ reg. register_number reg ≡ number) (λ _. 10 < number) };
+
+    fn try_from(number: u8) -> Result<Reg, NoSuchReg> {
+        Reg::new(number).ok_or(NoSuchReg(number))
+    }
+}
+
+/// `r0` to `r10`, as a listing has them.
+impl fmt::Display for Reg {
+    fn fmt<W: fmt::Write>(&self, f: &mut fmt::Formatter<W>) -> fmt::Result {
+        write!(f, "r{}", self.number)
     }
 }

@@ -1,0 +1,160 @@
+//! The groups of a set, one after the other, and sets that are made of groups.
+
+ghost use Rattle.std.specs.Prelude.{◌≡◌, ◌↔◌, IsTrue, [], length, filter, ⊤};
+ghost use Rattle.std.specs.Iterator.{YieldsFirst, item_count};
+ghost use Rattle.bpf_insn.specs.declared.group.Group.{Group};
+ghost use Rattle.bpf_insn.specs.Groups.{holds};
+ghost use Rattle.bpf_insn.specs.GroupSets.{IsSetOf, groups_held};
+
+use crate::group::{Group, GroupSet};
+use std::alloc::AllocError;
+use std::iter::FusedIterator;
+use std::marker::Model;
+
+/// The groups of a [`GroupSet`], in the order of [`Group::ALL`].
+#[derive(Debug, Drop)]
+pub struct Groups {
+    set: GroupSet,
+    // the groups that may still come
+    rest: &'static [Group],
+}
+
+impl Model for Groups {
+    ghost use Rattle.std.specs.Prelude.{List, filter};
+    ghost use Rattle.bpf_insn.specs.declared.group.Group.{Group};
+    ghost use Rattle.bpf_insn.specs.Groups.{holds};
+
+    ghost Value = { List Group };
+
+    ghost view = { λ g. filter (holds g.set) g.rest.now };
+}
+
+impl Iterator for Groups {
+    type Item = Group;
+
+    ghost next_gives = { YieldsFirst (λ left. left) };
+
+    ghost remaining = { item_count (λ left. left) };
+
+    fn next(&mut self) -> Option<Group> {
+        while let Some((group, rest)) = self.rest.split_first() {
+            self.rest = rest;
+            if self.set.has(*group) {
+                return Some(*group);
+            }
+        }
+        None
+    }
+
+    fn size_hint(&self) -> (usize, Option<usize>) {
+        let len = self.len();
+        (len, Some(len))
+    }
+}
+
+/// The number of these groups that are in a set.
+fn count_held(set: GroupSet, groups: &[Group]) -> usize
+    ensures { result ≡ length (filter (holds set) groups.now) }
+{
+    let mut count = 0;
+    for group in groups {
+        if set.has(*group) {
+            count += 1;
+        }
+    }
+    count
+}
+
+impl ExactSizeIterator for Groups {
+    fn len(&self) -> usize {
+        count_held(self.set, self.rest)
+    }
+}
+
+impl FusedIterator for Groups {}
+
+impl Clone for Groups {
+    ghost is_clone = { λ groups copy. copy ≡ groups };
+
+    ghost is_infallible = { λ _. ⊤ };
+
+    fn clone(&self) -> Result<Groups, AllocError> {
+        Ok(Groups {
+            set: self.set,
+            rest: self.rest,
+        })
+    }
+}
+
+impl GroupSet {
+    /// The groups of the set, in the order of [`Group::ALL`].
+    pub fn iter(&self) -> Groups
+        ensures { result ≡ groups_held self.now }
+    {
+        Groups {
+            set: *self,
+            rest: &Group::ALL,
+        }
+    }
+
+    /// The number of groups in the set.
+    pub fn len(&self) -> usize
+        ensures { result ≡ length (groups_held self.now) }
+    {
+        self.iter().len()
+    }
+
+    /// Whether no group is in the set.
+    pub fn is_empty(&self) -> bool
+        ensures { IsTrue result ↔ (groups_held self.now ≡ []) }
+    {
+        self.len() == 0
+    }
+}
+
+impl IntoIterator for GroupSet {
+    type Item = Group;
+
+    type IntoIter = Groups;
+
+    ghost into_iter_gives = { λ set groups. groups ≡ groups_held set };
+
+    fn into_iter(self) -> Groups {
+        self.iter()
+    }
+}
+
+impl IntoIterator for &GroupSet {
+    type Item = Group;
+
+    type IntoIter = Groups;
+
+    ghost into_iter_gives = { λ set groups. groups ≡ groups_held set.now };
+
+    fn into_iter(self) -> Groups {
+        self.iter()
+    }
+}
+
+/// The set of no group.
+impl Default for GroupSet {
+    ghost is_default = { λ set. (g : Group) → ¬ IsTrue (holds set g) };
+
+    fn default() -> GroupSet {
+        GroupSet::empty()
+    }
+}
+
+/// The set of these groups. With base64, atomic64 or divmul64 it has base32, atomic32 or divmul32
+/// too, as the set of a program has (RFC 9669 section 2.4).
+impl From<&[Group]> for GroupSet {
+    ghost from_gives = { λ groups set. IsSetOf groups.now set };
+
+    fn from(groups: &[Group]) -> GroupSet {
+        let mut set = GroupSet::empty();
+        for group in groups {
+            set.add(*group);
+        }
+        set
+    }
+}
