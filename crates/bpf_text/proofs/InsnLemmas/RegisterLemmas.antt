@@ -44,11 +44,9 @@ no_register token b small e f r h =
 pub last_spelled : (token : List ℕ) (b : Bool) (r : Option Reg) → b ≡ pointwise eqb token (codes "r10") → b ≡ true → MatchOption r (10 < 10) (λ k. k.number ≡ 10) → IfSome r (SpellsRegister token)
 last_spelled token b r e f h = spelled_by_new token 10 r ((slice_eq-Decides Decides-eqb token (codes "r10") b e).0 f ∙ sym last_register_text) h
 
--- ---- ready texts
+-- the text of a register of known number
+pub small_register_is : (d n : ℕ) → d ≤ 9 → d ≡ n → 114 ∷ (48 + d) ∷ [] ≡ codes "r" ++ decimal n
+small_register_is d n small e = sym (small_register_text d small) ∙ ap (λ (m : ℕ). codes "r" ++ decimal m) e
 
--- the text of a register of known number, after other text
-pub small_register_is : (lead : List ℕ) (d n : ℕ) → d ≤ 9 → d ≡ n → lead ++ (114 ∷ (48 + d) ∷ []) ≡ lead ++ (codes "r" ++ decimal n)
-small_register_is lead d n small e = ap (λ (x : List ℕ). lead ++ x) (sym (small_register_text d small)) ∙ ap (λ (m : ℕ). lead ++ (codes "r" ++ decimal m)) e
-
-pub last_register_is : (lead : List ℕ) (n : ℕ) → 10 ≡ n → lead ++ codes "r10" ≡ lead ++ (codes "r" ++ decimal n)
-last_register_is lead n e = ap (λ (x : List ℕ). lead ++ x) (sym last_register_text) ∙ ap (λ (m : ℕ). lead ++ (codes "r" ++ decimal m)) e
+pub last_register_is : (n : ℕ) → 10 ≡ n → codes "r10" ≡ codes "r" ++ decimal n
+last_register_is n e = sym last_register_text ∙ ap (λ (m : ℕ). codes "r" ++ decimal m) e
