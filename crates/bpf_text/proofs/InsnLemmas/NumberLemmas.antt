@@ -1,5 +1,6 @@
 -- The number that the digits of a token spell.
-use Rattle.std.proofs.Common.{◌≡◌, ℕ, zero, suc, ◌<◌, List, [], ◌∷◌, ◌++◌, ◌⊎◌, inl, inr, length, get_or, drop, refl, sym, ap, ◌∙◌, codes, arith, Bool, true, false, MatchBool, ℤ, pos, neg_ℤ, FitsSigned}
+use Rattle.std.proofs.Common.{◌≡◌, ℕ, zero, suc, ◌<◌, List, [], ◌∷◌, ◌++◌, ◌⊎◌, inl, inr, length, get_or, drop, refl, sym, ap, ◌∙◌, codes, arith, Bool, true, false, MatchBool, ℤ, pos, neg_ℤ, FitsSigned, subst, Result, Ok, Err, OkIff, MatchOption}
+use Rattle.std.specs.Result.{result_ok}
 use Rattle.std.specs.Char.{digit_value}
 use Rattle.std.specs.Str.Parse.{AllDigits, IsNumeral, digits_value}
 use Rattle.bpf_text.specs.insn.Operands.{SpellsMagnitude}
@@ -29,6 +30,11 @@ pub sign_spells : (b : Bool) (sign : List ℕ) (n : ℕ) → MatchBool b (sign �
     → ((sign ≡ codes "+") × (signed_by b n ≡ pos n)) ⊎ ((sign ≡ codes "-") × (signed_by b n ≡ neg_ℤ (pos n)))
 sign_spells true sign n e = inr (e, refl)
 sign_spells false sign n e = inl (e, refl)
+
+-- what a conversion to a narrower type returns, as an option
+pub narrowed : {E : Type 0} (P : ℤ → Type 0) (z u : ℤ) (r : Result ℤ E) → u ≡ z → OkIff r (P u) u → MatchOption (result_ok r) (¬ P z) (λ x. x ≡ z)
+narrowed P z u (Ok x) e h = h.1 ∙ e
+narrowed P z u (Err x) e h = λ f. h (subst P (sym e) f)
 
 pub far_not_32 : (z : ℤ) → IsFar z → ¬ FitsSigned w32 z
 far_not_32 z (inl h) = λ f. omega (arith, ints)

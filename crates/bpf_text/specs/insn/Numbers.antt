@@ -1,16 +1,14 @@
 -- What a number and an operand that were read mean.
-use Rattle.std.specs.Prelude.{◌≡◌, ℕ, ◌^◌, ◌≤◌, ℤ, pos, neg_ℤ, ◌≤ℤ◌, Bool, true, false, ◌⊎◌, List}
-use Rattle.bpf_text.specs.declared.insn.number.Magnitude.{Magnitude}
-use Rattle.bpf_text.specs.declared.insn.number.Magnitude.TheVariants.{Small, Large}
+use Rattle.std.specs.Prelude.{◌≡◌, ℕ, ◌^◌, ◌≤◌, ℤ, pos, neg_ℤ, ◌≤ℤ◌, Bool, true, false, ◌⊎◌, List, Option, Some, None}
 use Rattle.bpf_text.specs.declared.insn.number.Number.{Number}
 use Rattle.bpf_text.specs.declared.insn.read_operand.ReadOperand.{ReadOperand}
 use Rattle.bpf_text.specs.declared.insn.read_operand.ReadOperand.TheVariants.{Register, Literal, Memory}
 use Rattle.bpf_text.specs.insn.Operands.{LineOperand, register, number, signed, memory, SpellsOperand}
 
 -- the magnitude, or that it has more than 64 bits
-abbrev pub IsMagnitude : Magnitude → ℕ → Type 0
-IsMagnitude (Small n) m = n ≡ m
-IsMagnitude Large m = 2 ^ 64 ≤ m
+abbrev pub IsMagnitude : Option ℕ → ℕ → Type 0
+IsMagnitude (Some n) m = n ≡ m
+IsMagnitude None m = 2 ^ 64 ≤ m
 
 -- with or without a minus
 abbrev pub signed_by : Bool → ℕ → ℤ
@@ -29,13 +27,10 @@ IsReadAs (Literal n) (signed z) = IsNumber n z
 IsReadAs (Memory r n) (memory s z) = (r ≡ s) × IsNumber n z
 IsReadAs _ _ = ⊥
 
--- the tokens spell no operand
-abbrev pub SpellsNoOperand : List (List ℕ) → Type 0
-SpellsNoOperand tokens = (a : LineOperand) → ¬ SpellsOperand tokens a
-
--- the tokens spell the operand that was read
-abbrev pub IsSpelledBy : List (List ℕ) → ReadOperand → Type 0
-IsSpelledBy tokens s = (a : LineOperand) × SpellsOperand tokens a × IsReadAs s a
+-- none if the tokens spell no operand, else the one that they spell
+abbrev pub ReadsOperand : List (List ℕ) → Option ReadOperand → Type 0
+ReadsOperand tokens None = (a : LineOperand) → ¬ SpellsOperand tokens a
+ReadsOperand tokens (Some s) = (a : LineOperand) × SpellsOperand tokens a × IsReadAs s a
 
 -- no number of 64 bits, with or without a sign
 abbrev pub IsFar : ℤ → Type 0

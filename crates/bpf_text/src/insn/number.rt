@@ -7,12 +7,8 @@ ghost use Rattle.bpf_text.specs.insn.Operands.{SpellsMagnitude, SpellsSigned};
 ghost use Rattle.bpf_text.specs.insn.Numbers.{IsMagnitude, IsNumber, IsFar};
 ghost use Rattle.std.specs.Int.{w16, w32, w128};
 
-/// A number below 2^64, or `Large` for all others.
-#[derive(Clone, Copy)]
-pub(crate) enum Magnitude {
-    Small(u64),
-    Large,
-}
+/// A number below 2^64, or `None` for all others.
+pub(crate) type Magnitude = Option<u64>;
 
 /// A number with its sign.
 #[derive(Clone, Copy)]
@@ -26,16 +22,9 @@ fn with_digit(number: Magnitude, radix: u32, digit: u32) -> Magnitude
     requires { 0 < radix }
     ensures { (n : ℕ) → IsMagnitude number n → IsMagnitude result (n * radix + digit) }
 {
-    match number {
-        Magnitude::Large => Magnitude::Large,
-        Magnitude::Small(n) => match n.checked_mul(u64::from(radix)) {
-            None => Magnitude::Large,
-            Some(shifted) => match shifted.checked_add(u64::from(digit)) {
-                None => Magnitude::Large,
-                Some(sum) => Magnitude::Small(sum),
-            },
-        },
-    }
+    number?
+        .checked_mul(u64::from(radix))?
+        .checked_add(u64::from(digit))
 }
 
 /// The number that the digits spell, if there are any and all of them are digits.
@@ -49,7 +38,7 @@ fn digits_magnitude(radix: u32, digits: &[u8]) -> Option<Magnitude>
     if digits.is_empty() {
         return None;
     }
-    let mut number = Magnitude::Small(0);
+    let mut number = Some(0);
     for b in digits {
         let digit = char::from(*b).to_digit(radix)?;
         number = with_digit(number, radix, digit);
@@ -74,12 +63,10 @@ fn is_minus(sign: &[u8]) -> Option<bool>
     ensures none { IfNone result ((sign.now ≢ codes "+") × (sign.now ≢ codes "-")) }
     ensures some { IfSome result (λ b. MatchBool b (sign.now ≡ codes "-") (sign.now ≡ codes "+")) }
 {
-    if sign == b"-".as_slice() {
-        Some(true)
-    } else if sign == b"+".as_slice() {
-        Some(false)
-    } else {
-        None
+    match sign {
+        b"-" => Some(true),
+        b"+" => Some(false),
+        _ => None,
     }
 }
 
@@ -88,10 +75,9 @@ pub(crate) fn unsigned_number(token: &[u8]) -> Option<Number>
     ensures none { IfNone result ((n : ℕ) → ¬ SpellsMagnitude token.now n) }
     ensures some { IfSome result (λ k. (n : ℕ) × SpellsMagnitude token.now n × IsNumber k (pos n)) }
 {
-    let magnitude = magnitude_of(token)?;
     Some(Number {
         negative: false,
-        magnitude,
+        magnitude: magnitude_of(token)?,
     })
 }
 
@@ -100,11 +86,9 @@ pub(crate) fn signed_number(sign: &[u8], token: &[u8]) -> Option<Number>
     ensures none { IfNone result ((z : ℤ) → ¬ SpellsSigned sign.now token.now z) }
     ensures some { IfSome result (λ k. (z : ℤ) × SpellsSigned sign.now token.now z × IsNumber k z) }
 {
-    let negative = is_minus(sign)?;
-    let magnitude = magnitude_of(token)?;
     Some(Number {
-        negative,
-        magnitude,
+        negative: is_minus(sign)?,
+        magnitude: magnitude_of(token)?,
     })
 }
 
@@ -114,16 +98,8 @@ impl Number {
         ensures cases { (z : ℤ) → IsNumber self z → MatchOption result (IsFar z) (λ v. v ≡ z) }
         ensures fits { IfSome result (λ v. FitsSigned w128 v) }
     {
-        match self.magnitude {
-            Magnitude::Large => None,
-            Magnitude::Small(n) => {
-                if self.negative {
-                    Some(-i128::from(n))
-                } else {
-                    Some(i128::from(n))
-                }
-            }
-        }
+        let magnitude = i128::from(self.magnitude?);
+        Some(if self.negative { -magnitude } else { magnitude })
     }
 
     /// The value, if it is an i32.
@@ -132,13 +108,7 @@ impl Number {
             → MatchOption result (¬ FitsSigned w32 z) (λ v. v ≡ z) }
         ensures fits { IfSome result (λ v. FitsSigned w32 v) }
     {
-        match self.value() {
-            None => None,
-            Some(value) => match i32::try_from(value) {
-                Ok(value) => Some(value),
-                Err(_) => None,
-            },
-        }
+        i32::try_from(self.value()?).ok()
     }
 
     /// The value, if it is an i16.
@@ -147,13 +117,7 @@ impl Number {
             → MatchOption result (¬ FitsSigned w16 z) (λ v. v ≡ z) }
         ensures fits { IfSome result (λ v. FitsSigned w16 v) }
     {
-        match self.value() {
-            None => None,
-            Some(value) => match i16::try_from(value) {
-                Ok(value) => Some(value),
-                Err(_) => None,
-            },
-        }
+        i16::try_from(self.value()?).ok()
     }
 
     /// The value, if it is a u64.
@@ -162,15 +126,10 @@ impl Number {
             MatchOption result ((m : ℕ) → m < 2 ^ 64 → z ≢ pos m) (λ n. z ≡ pos n) }
         ensures fits { IfSome result (λ n. n < 2 ^ 64) }
     {
-        match self.magnitude {
-            Magnitude::Large => None,
-            Magnitude::Small(n) => {
-                if self.negative && n != 0 {
-                    None
-                } else {
-                    Some(n)
-                }
-            }
+        let magnitude = self.magnitude?;
+        if self.negative && magnitude != 0 {
+            return None;
         }
+        Some(magnitude)
     }
 }

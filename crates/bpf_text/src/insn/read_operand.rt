@@ -3,7 +3,7 @@
 ghost use Rattle.std.specs.Prelude.{◌≡◌, ◌∷◌, [], List, codes, map, length, IsTrue, ◌↔◌, ◌+◌, ◌≤◌};
 ghost use Rattle.std.specs.Prelude.{drop, IfSome, IfNone};
 ghost use Rattle.bpf_text.specs.insn.Operands.{LineOperand, SpellsOperands, is_comma};
-ghost use Rattle.bpf_text.specs.insn.Numbers.{IsReadAs, SpellsNoOperand, IsSpelledBy};
+ghost use Rattle.bpf_text.specs.insn.Numbers.{IsReadAs, ReadsOperand};
 ghost use Rattle.std.specs.List.{AllZip, position_or_len};
 
 use crate::insn::number::{Number, signed_number, unsigned_number};
@@ -33,81 +33,32 @@ impl Default for ReadOperand {
 
 /// A register, or a number without a sign.
 fn of_one(token: &[u8]) -> Option<ReadOperand>
-    ensures none { IfNone result (SpellsNoOperand (token.now ∷ [])) }
-    ensures some { IfSome result (IsSpelledBy (token.now ∷ [])) }
+    ensures { ReadsOperand (token.now ∷ []) result }
 {
     if let Some(register) = register_of(token) {
         return Some(ReadOperand::Register(register));
     }
-    let number = unsigned_number(token)?;
-    Some(ReadOperand::Literal(number))
-}
-
-/// A number with a sign.
-fn of_two(sign: &[u8], token: &[u8]) -> Option<ReadOperand>
-    ensures none { IfNone result (SpellsNoOperand (sign.now ∷ token.now ∷ [])) }
-    ensures some { IfSome result (IsSpelledBy (sign.now ∷ token.now ∷ [])) }
-{
-    let number = signed_number(sign, token)?;
-    Some(ReadOperand::Literal(number))
-}
-
-/// Whether two tokens are an opening and a closing bracket.
-fn is_bracketed(opening: &[u8], closing: &[u8]) -> bool
-    ensures { IsTrue result ↔ ((opening.now ≡ codes "[") × (closing.now ≡ codes "]")) }
-{
-    opening == b"[".as_slice() && closing == b"]".as_slice()
+    Some(ReadOperand::Literal(unsigned_number(token)?))
 }
 
 /// The number 0.
 const ZERO: Number = Number {
     negative: false,
-    magnitude: crate::insn::number::Magnitude::Small(0),
+    magnitude: Some(0),
 };
-
-/// An address without an offset.
-fn of_three(opening: &[u8], base: &[u8], closing: &[u8]) -> Option<ReadOperand>
-    ensures none { IfNone result (SpellsNoOperand (opening.now ∷ base.now ∷ closing.now ∷ [])) }
-    ensures some { IfSome result (IsSpelledBy (opening.now ∷ base.now ∷ closing.now ∷ [])) }
-{
-    if !is_bracketed(opening, closing) {
-        return None;
-    }
-    let base = register_of(base)?;
-    Some(ReadOperand::Memory(base, ZERO))
-}
-
-/// An address with an offset.
-fn of_five(
-    opening: &[u8],
-    base: &[u8],
-    sign: &[u8],
-    token: &[u8],
-    closing: &[u8],
-) -> Option<ReadOperand>
-    ensures none { IfNone result
-        (SpellsNoOperand (opening.now ∷ base.now ∷ sign.now ∷ token.now ∷ closing.now ∷ [])) }
-    ensures some { IfSome result
-        (IsSpelledBy (opening.now ∷ base.now ∷ sign.now ∷ token.now ∷ closing.now ∷ [])) }
-{
-    if !is_bracketed(opening, closing) {
-        return None;
-    }
-    let base = register_of(base)?;
-    let number = signed_number(sign, token)?;
-    Some(ReadOperand::Memory(base, number))
-}
 
 /// The operand that the tokens between two commas spell.
 pub(crate) fn operand_from_tokens(tokens: &[&[u8]]) -> Option<ReadOperand>
-    ensures none { IfNone result (SpellsNoOperand (map (λ t. t.now) tokens.now)) }
-    ensures some { IfSome result (IsSpelledBy (map (λ t. t.now) tokens.now)) }
+    ensures { ReadsOperand (map (λ t. t.now) tokens.now) result }
 {
     match tokens {
         [token] => of_one(token),
-        [sign, token] => of_two(sign, token),
-        [opening, base, closing] => of_three(opening, base, closing),
-        [opening, base, sign, token, closing] => of_five(opening, base, sign, token, closing),
+        [sign, token] => Some(ReadOperand::Literal(signed_number(sign, token)?)),
+        [b"[", base, b"]"] => Some(ReadOperand::Memory(register_of(base)?, ZERO)),
+        [b"[", base, sign, token, b"]"] => Some(ReadOperand::Memory(
+            register_of(base)?,
+            signed_number(sign, token)?,
+        )),
         _ => None,
     }
 }

@@ -13,7 +13,7 @@ returns-in_err-operand-clause-none c =
     let part = some_part xs c.parts.start c.part_end-end.result c.part_end-end.ensures.value c.part_end-end.ensures.within in
     when_none _ c.from_residual.result
     (λ spelled l. none_read (map bytes_of xs) (map bytes_of (drop c.parts.start xs)) (map bytes_of (take (c.part_end-end.result - c.parts.start) (drop c.parts.start xs))) part.0 c.parts.operands.items
-    (some_from_test xs c.is_empty.result c.is_empty.ensures c.if-is_empty.false) c.parts.invariant.so_far part.1 c.in_err-operand.ensures.none spelled)
+    (some_from_test xs c.is_empty.result c.is_empty.ensures c.if-is_empty.false) c.parts.invariant.so_far part.1 c.in_err-operand.ensures spelled)
 
 pub returns-then-is_err-clause-none : goal.returns-then-is_err-clause-none
 returns-then-is_err-clause-none c =
@@ -25,7 +25,7 @@ returns-then-is_err-clause-none c =
 pub returns-then-end-tokens-clause-some : goal.returns-then-end-tokens-clause-some
 returns-then-end-tokens-clause-some c =
     let xs = c.args.tokens.now in
-    let read = c.in_ok-operand.ensures.some in
+    let read = c.in_ok-operand.ensures in
     let pushed = on_ok _ c.try_push.result c.is_err.result c.is_err.ensures.value c.if-is_err.false c.try_push.ensures.ok in
     all_read (map bytes_of xs) (map bytes_of (drop c.parts.start xs)) (map bytes_of (take (c.part_end-end.result - c.parts.start) (drop c.parts.start xs))) c.parts.operands.items c.try_push.new.self.items c.in_ok-operand.operand read.0
     c.parts.invariant.so_far
@@ -35,7 +35,7 @@ returns-then-end-tokens-clause-some c =
 pub parts-preserved : goal.parts-preserved
 parts-preserved c =
     let xs = c.args.tokens.now in
-    let read = c.in_ok-operand.ensures.some in
+    let read = c.in_ok-operand.ensures in
     let pushed = on_ok _ c.try_push.result c.is_err.result c.is_err.ensures.value c.if-is_err.false c.try_push.ensures.ok in
     let inside : c.part_end-end.result < length xs = omega (arith, c.part_end-end.ensures.within) in
     record {

@@ -1,20 +1,13 @@
-use Rattle.std.proofs.Common.{◌≡◌, ◌∙◌, to_z, of_z, FitsSigned}
+use Rattle.std.proofs.Common.{◌∙◌, FitsSigned}
 use Rattle.std.specs.Int.{w32, w128}
 use Rattle.std.proofs.lemmas.Int.{to_z-of_z}
-use Rattle.bpf_text.proofs.InsnLemmas.NumberLemmas.{far_not_32}
+use Rattle.bpf_text.proofs.InsnLemmas.NumberLemmas.{narrowed, far_not_32}
 use Rattle.bpf_text.proofs.insn.number.Number.as_i32.Goals as goal
 
-pub returns-in-None-clause-cases : goal.returns-in-None-clause-cases
-returns-in-None-clause-cases c = λ z h. far_not_32 z (c.in-None.ensures.cases z h)
+pub returns-in_err-value-clause-cases : goal.returns-in_err-value-clause-cases
+returns-in_err-value-clause-cases c = λ z h. rw c.from_residual.ensures (far_not_32 z (c.in_err-value.ensures.cases z h))
 
-pub returns-in-Ok-clause-cases : goal.returns-in-Ok-clause-cases
-returns-in-Ok-clause-cases c = λ z h.
-    let same : to_z w128 (of_z w128 c.in-Some.value) ≡ c.in-Some.value = to_z-of_z w128 c.in-Some.value c.in-Some.ensures.fits in
-    let value : c.in-Ok.value ≡ c.in-Some.value = c.in-Ok.ensures.1 ∙ same in
-    let fits : FitsSigned w32 c.in-Ok.value = rw c.in-Ok.ensures.1 c.in-Ok.ensures.0 in
-    to_z-of_z w32 c.in-Ok.value fits ∙ value ∙ c.in-Some.ensures.cases z h
-
-pub returns-in-Err-clause-cases : goal.returns-in-Err-clause-cases
-returns-in-Err-clause-cases c = λ z h f.
-    let same : to_z w128 (of_z w128 c.in-Some.value) ≡ c.in-Some.value = to_z-of_z w128 c.in-Some.value c.in-Some.ensures.fits in
-    c.in-Err.ensures (rw (same, c.in-Some.ensures.cases z h) f)
+pub returns-clause-cases : goal.returns-clause-cases
+returns-clause-cases c = λ z h.
+    let same = to_z-of_z w128 c.in_ok-value.field-0 c.in_ok-value.ensures.fits ∙ c.in_ok-value.ensures.cases z h in
+    rw c.ok.ensures.value (narrowed (FitsSigned w32) z _ c.try_from.result same c.try_from.ensures)
