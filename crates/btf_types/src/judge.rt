@@ -4,7 +4,6 @@ pub(crate) mod checks;
 pub(crate) mod fields;
 pub(crate) mod framing;
 pub(crate) mod items;
-pub(crate) mod judged_record;
 pub(crate) mod names;
 pub(crate) mod phases;
 pub(crate) mod references;

@@ -10,10 +10,9 @@ use Rattle.btf_raw.specs.Names.{TextAt}
 use Rattle.btf_raw.specs.Frames.{IsFrame, name_word, third_word, kind, vlen, flag}
 use Rattle.btf_types.specs.judge.Checks.{size_fits, bits_fit, target_fits, component_fits, TypeFacts, type_at, NoCause, LeastCause}
 use Rattle.btf_types.specs.judge.FieldFaults.{WordFault, offset_in, width_in, int_unused, int_encoding, int_bits, IsTypeField, IsNameField, IsMemberWord, IsItemWord}
-use Rattle.btf_types.specs.declared.judge.judged_record.JudgedRecord.{JudgedRecord}
 use Rattle.btf_types.specs.declared.tables.section.Section.{Section}
-use Rattle.btf_types.specs.Sections.{frame_of, facts_in}
-use Rattle.btf_types.specs.judge.RecordFaults.{FaultInWord, BitFieldsAre, RecordIs}
+use Rattle.btf_types.specs.Sections.{facts_in}
+use Rattle.btf_types.specs.judge.RecordFaults.{FaultInWord, BitFieldsAre}
 use Rattle.btf_types.specs.judge.NameFaults.{MemberPlaceFault, MemberTypeFault}
 use Rattle.btf_types.proofs.JudgeLemmas.Judging.{judged_same}
 use Rattle.btf_types.proofs.JudgeLemmas.Roles as roles
@@ -338,22 +337,19 @@ module _ (strings : List ℕ) (types : List TypeFacts) (frame : List ℕ) (j : �
       judged_same (WordRoleFault strings types frame j role) (WordFault strings types frame j) r
       (role_holds role has.is) (role_says strings types frame j role has) judged
 
-abbrev pub HeldFault : Section → JudgedRecord → ℕ → Role → BtfCause → Type 0
-HeldFault s r word role c =
-    RoleFault s.file.strings.now (facts_in s) (frame_of s.file r.pos) r.header.kind r.header.vlen r.header.kind_flag r.header.size_or_type word role c
+-- what a cause says of a word of a frame that has this role
+abbrev pub HeldFault : Section → List ℕ → ℕ → Role → BtfCause → Type 0
+HeldFault s f word role c = RoleFault s.file.strings.now (facts_in s) f (kind f) (vlen f) (flag f) (third_word f) word role c
 
--- the same on the numbers that are kept of a record
-pub judged : {s : Section} {r : JudgedRecord} {j word : ℕ} (role : Role) (result : Option BtfCause) → RecordIs s r → j < length (frame_of s.file r.pos)
-    → word ≡ slice_index (frame_of s.file r.pos) j → HasRole r.header.kind j role
-    → MatchOption result (NoCause (HeldFault s r word role)) (λ c. LeastCause (HeldFault s r word role) c)
-    → MatchOption result (NoCause (FaultInWord s r.pos j)) (λ c. LeastCause (FaultInWord s r.pos j) c)
-judged {s} {r} {j} {word} role result is there word-is has held =
-    let f = frame_of s.file r.pos in
-    let header = is.header_is in
-    word_judged s.file.strings.now (facts_in s) f j is.is_there.frame there role result (rw (← header.kind_is) has)
-    (judged_same (HeldFault s r word role) (WordRoleFault s.file.strings.now (facts_in s) f j role) result
-    (λ d h. rw (← header.kind_is, ← header.vlen_is, ← header.kind_flag_is, ← header.size_or_type_is, ← word-is) h)
-    (λ d h. rw (header.kind_is, header.vlen_is, header.kind_flag_is, header.size_or_type_is, word-is) h) held)
+-- the same on the number that is read of the word
+pub judged : (s : Section) {f : List ℕ} {j word : ℕ} (role : Role) (result : Option BtfCause) → IsFrame f → j < length f
+    → word ≡ slice_index f j → HasRole (kind f) j role
+    → MatchOption result (NoCause (HeldFault s f word role)) (λ c. LeastCause (HeldFault s f word role) c)
+    → MatchOption result (NoCause (FaultInWord s f j)) (λ c. LeastCause (FaultInWord s f j) c)
+judged s {f} {j} {word} role result is there word-is has held =
+    word_judged s.file.strings.now (facts_in s) f j is there role result has
+    (judged_same (HeldFault s f word role) (WordRoleFault s.file.strings.now (facts_in s) f j role) result
+    (λ d h. rw (← word-is) h) (λ d h. rw word-is h) held)
 
 -- the answer by which a member's type is judged
 pub type_judged : (types : List TypeFacts) (frame : List ℕ) (bit_fields : Bool) (word : ℕ) (result : Option BtfCause) → BitFieldsAre frame bit_fields

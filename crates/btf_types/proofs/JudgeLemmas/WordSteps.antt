@@ -1,23 +1,22 @@
 -- The first word of a record with a fault, after words without one.
-use Rattle.std.proofs.Common.{◌≡◌, ℕ, ◌≤◌, Option, None, Some, length, sym, subst, inl, inr, arith}
+use Rattle.std.proofs.Common.{◌≡◌, ℕ, ◌≤◌, Option, None, Some, List, length, sym, subst, inl, inr, arith}
 use Rattle.std.specs.Prelude.{MatchOption}
 use Rattle.std.proofs.lemmas.Bool.{cases_lt}
 use Rattle.btf_raw.specs.declared.cause.BtfCause.{BtfCause}
 use Rattle.btf_types.specs.declared.tables.section.Section.{Section}
-use Rattle.btf_types.specs.judge.RecordFaults.{FaultInWord, NoneWithin, IsFirstWithin, FirstWithin, IsFaultlessAt, IsLeastAt}
-use Rattle.btf_types.specs.Sections.{frame_of}
+use Rattle.btf_types.specs.judge.RecordFaults.{FaultInWord, NoneWithin, IsFirstWithin, FirstWithin, IsFaultlessIn, IsLeastIn}
 
-module _ (s : Section) (pos : ℕ) where
+module _ (s : Section) (f : List ℕ) where
   -- words in a row
-  pub none_through : (from mid to : ℕ) → NoneWithin s pos from mid → NoneWithin s pos mid to → NoneWithin s pos from to
+  pub none_through : (from mid to : ℕ) → NoneWithin s f from mid → NoneWithin s f mid to → NoneWithin s f from to
   none_through from mid to before after j d past low fault = elim (cases_lt j mid) [
     | inl lt ↦ before j d past lt fault
     | inr le ↦ after j d le low fault
   ]
 
   -- the first word with a fault, where the words before have none
-  pub first_after : (from mid end to word : ℕ) (c : BtfCause) → from ≤ mid → end ≤ to → NoneWithin s pos from mid
-      → IsFirstWithin s pos mid end word c → IsFirstWithin s pos from to word c
+  pub first_after : (from mid end to word : ℕ) (c : BtfCause) → from ≤ mid → end ≤ to → NoneWithin s f from mid
+      → IsFirstWithin s f mid end word c → IsFirstWithin s f from to word c
   first_after from mid end to word c low room before first = record {
     past = let past = first.past in omega arith;
     inside = let inside = first.inside in omega arith;
@@ -26,7 +25,7 @@ module _ (s : Section) (pos : ℕ) where
   }
 
   -- the first of all words is the record's
-  pub first_of_record : (word : ℕ) (c : BtfCause) → IsFirstWithin s pos 0 (length (frame_of s.file pos)) word c → IsLeastAt s pos word c
+  pub first_of_record : (word : ℕ) (c : BtfCause) → IsFirstWithin s f 0 (length f) word c → IsLeastIn s f word c
   first_of_record word c first = record {
     inside = first.inside;
     holds = first.least.holds;
@@ -36,15 +35,15 @@ module _ (s : Section) (pos : ℕ) where
         | inl earlier ↦ absurd (first.before j d (omega arith) earlier fault)
         | inr same ↦
             let is : word ≡ j = omega arith in
-            inr (is, first.least.least d (subst (λ (i : ℕ). FaultInWord s pos i d) (sym is) fault))
+            inr (is, first.least.least d (subst (λ (i : ℕ). FaultInWord s f i d) (sym is) fault))
       ]
     ];
   }
 
   -- the header has no fault: the first after it is the record's
-  pub tail_of_record : (answer : Option (ℕ × BtfCause)) → NoneWithin s pos 0 3 → FirstWithin s pos 3 (length (frame_of s.file pos)) answer
-      → MatchOption answer (IsFaultlessAt s pos) (λ found. IsLeastAt s pos found.0 found.1)
-  tail_of_record None header tail = λ j d low. none_through 0 3 (length (frame_of s.file pos)) header tail j d (omega arith) low
+  pub tail_of_record : (answer : Option (ℕ × BtfCause)) → NoneWithin s f 0 3 → FirstWithin s f 3 (length f) answer
+      → MatchOption answer (IsFaultlessIn s f) (λ found. IsLeastIn s f found.0 found.1)
+  tail_of_record None header tail = λ j d low. none_through 0 3 (length f) header tail j d (omega arith) low
   tail_of_record (Some found) header tail =
-      let end = length (frame_of s.file pos) in
+      let end = length f in
       first_of_record found.0 found.1 (first_after 0 3 end end found.0 found.1 (omega arith) (omega arith) header tail)

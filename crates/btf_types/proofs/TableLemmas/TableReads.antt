@@ -19,6 +19,8 @@ use Rattle.btf_types.proofs.TableLemmas.SectionSteps.{ends_inside}
 use Rattle.btf_types.specs.Reading.{text_from, frame_at, frames_at, record_of, records_at, item_of, item_total, head_from, head_of, component_of}
 use Rattle.btf_types.specs.tables.TableInvariant.{IsTable}
 use Rattle.btf_types.specs.tables.PlaceWords.{HasRecordAt}
+use Rattle.btf_types.specs.declared.tables.table.FileSections.{FileSections}
+use Rattle.btf_types.specs.Sections.{frame_of}
 use Rattle.btf_types.specs.judge.FieldFaults.{frame_facts}
 use Rattle.btf_types.proofs.FaultlessLemmas.Faultless.{get_is, faultless}
 use Rattle.btf_types.proofs.FaultlessLemmas.ItemReads.{item_names_there}
@@ -59,17 +61,19 @@ has_record_at o types strings places i table h =
     let room : length (section_of o (take i frames)) + 4 * length f ≤ length (section_of o frames) = rw frame-is at (ends_inside o frames i inside) in
     let spelled : Spells strings (record_of strings f) f =
     subst (λ (g : List ℕ). Spells strings (record_of strings g) g) frame-is (zip_at (Spells strings) (record_of strings) frames i [] table.spelled inside) in
+    let is : IsFrame f = subst (λ (g : List ℕ). IsFrame g) frame-is (table.framed.frames.each i [] inside) in
     record {
-      ends = table.ends;
       inside = omega arith;
-      frame = subst (λ (g : List ℕ). IsFrame g) frame-is (table.framed.frames.each i [] inside);
-      spelled = spelled;
-      name = name_at_word strings (record_of strings f) f table.ends spelled;
-      item_names =
-          let frame_there : slice_get frames i ≡ Some f = get_is frames i [] inside ∙ ap (λ (g : List ℕ). Some g) frame-is in
-          let is : IsFrame f = subst (λ (g : List ℕ). IsFrame g) frame-is (table.framed.frames.each i [] inside) in
-          item_names_there strings (map frame_facts frames) f table.ends is (faultless strings frames table.ends table.framed.frames.each table.none i f frame_there);
-      component = λ tag. component_fits_word (slice_index f 3) (tag_in_range (text_from strings (name_word f)) f tag spelled.head_in_range);
+      reads = record {
+        ends = table.ends;
+        frame = is;
+        spelled = spelled;
+        name = name_at_word strings (record_of strings f) f table.ends spelled;
+        item_names =
+            let frame_there : slice_get frames i ≡ Some f = get_is frames i [] inside ∙ ap (λ (g : List ℕ). Some g) frame-is in
+            item_names_there strings (map frame_facts frames) f table.ends is (faultless strings frames table.ends table.framed.frames.each table.none i f frame_there);
+        component = λ tag. component_fits_word (slice_index f 3) (tag_in_range (text_from strings (name_word f)) f tag spelled.head_in_range);
+      };
     }
 
 pub record_is : (o : Order) (types strings places : List ℕ) (i : ℕ) → i < length places → slice_get (records_at o types strings places) i ≡ Some (record_of strings (frame_at o types (get_or places i 0)))
@@ -80,24 +84,17 @@ record_is o types strings places i h =
 pub length-records_at : (o : Order) (types strings places : List ℕ) → length (records_at o types strings places) ≡ length places
 length-records_at o types strings places = length-map (frames_at o types places) (record_of strings) ∙ length-map places (frame_at o types)
 
--- the place of a record of a table, from its number
-pub place_inside : (o : Order) (types strings places : List ℕ) (v : List TypeRecord) (id : ℕ) → records_at o types strings places ≡ v → 0 < id → id ≤ length v → id - 1 < length places
-place_inside o types strings places v id is some low = omega (arith, ap length (sym is), length-records_at o types strings places)
-
 pub count_there : (strings frame : List ℕ) → length (record_of strings frame).items ≡ item_total frame
 count_there strings frame = length-tabulate (λ i. item_of strings frame (3 + item_words (kind frame) * i)) (item_total frame)
 
--- the record of a table that has this number
-pub record_there : (o : Order) (types strings places : List ℕ) (v : List TypeRecord) (id : ℕ) → records_at o types strings places ≡ v → id - 1 < length places
-    → record_at v id ≡ record_of strings (frame_at o types (get_or places (id - 1) 0))
-record_there o types strings places v id is low =
-    let there : slice_get v (id - 1) ≡ Some (record_of strings (frame_at o types (get_or places (id - 1) 0))) = rw (← is) (record_is o types strings places (id - 1) low) in
-    rw there refl
+-- the record of a table that has this number: where it is, and what is read there
+pub record PlacedRecord (s : FileSections) (v : List TypeRecord) (id : ℕ) : Type 0 where
+  pub has : HasRecordAt s.order s.types.now s.strings.now (get_or s.places.now (id - 1) 0)
+  pub is : record_at v id ≡ record_of s.strings.now (frame_of s (get_or s.places.now (id - 1) 0))
 
--- an item that is one of the record's
-pub item_inside : (o : Order) (types strings places : List ℕ) (v : List TypeRecord) (id k : ℕ) → records_at o types strings places ≡ v → id - 1 < length places
-    → k < length (record_at v id).items → k < item_total (frame_at o types (get_or places (id - 1) 0))
-item_inside o types strings places v id k is low inside =
-    let f = frame_at o types (get_or places (id - 1) 0) in
-    let there = rw (record_there o types strings places v id is low) at inside in
-    omega (arith, there, count_there strings f)
+pub placed_record : (s : FileSections) (v : List TypeRecord) (id : ℕ) → IsTable s.order s.types.now s.strings.now s.places.now
+    → records_at s.order s.types.now s.strings.now s.places.now ≡ v → 0 < id → id ≤ length v → PlacedRecord s v id
+placed_record s v id table is some last =
+    let low : id - 1 < length s.places.now = omega (arith, ap length (sym is), length-records_at s.order s.types.now s.strings.now s.places.now) in
+    let there : slice_get v (id - 1) ≡ Some (record_of s.strings.now (frame_of s (get_or s.places.now (id - 1) 0))) = rw (← is) (record_is s.order s.types.now s.strings.now s.places.now (id - 1) low) in
+    record { has = has_record_at s.order s.types.now s.strings.now s.places.now (id - 1) table low; is = rw there refl }

@@ -9,13 +9,17 @@ use Rattle.btf_types.specs.Spelling.{Spells}
 use Rattle.btf_types.specs.Reading.{frame_at, record_of, text_from, item_total}
 use Rattle.btf_raw.specs.Names.{NameAt}
 
--- there is a whole frame, and it spells the record that it reads as
-pub record HasRecordAt (o : Order) (types strings : List ℕ) (pos : ℕ) : Type 0 where
+-- the words are those of a frame, and they spell the record that they read as
+pub record ReadsRecord (strings words : List ℕ) : Type 0 where
   pub ends : HasNulEnds strings
+  pub frame : IsFrame words
+  pub spelled : Spells strings (record_of strings words) words
+  pub name : NameAt strings (name_word words) (text_from strings (name_word words))
+  pub component : kind words ≡ DECL_TAG → (slice_index words 3 ≡ 0xffffffff) ⊎ (slice_index words 3 < 2 ^ 16)
+  pub item_names : (k : ℕ) → k < item_total words → IsTrue (has_item_names (kind words))
+      → NameAt strings (slice_index words (3 + item_words (kind words) * k)) (text_from strings (slice_index words (3 + item_words (kind words) * k)))
+
+-- there are such words at this place
+pub record HasRecordAt (o : Order) (types strings : List ℕ) (pos : ℕ) : Type 0 where
   pub inside : pos + 4 * length (frame_at o types pos) ≤ length types
-  pub frame : IsFrame (frame_at o types pos)
-  pub spelled : Spells strings (record_of strings (frame_at o types pos)) (frame_at o types pos)
-  pub name : NameAt strings (name_word (frame_at o types pos)) (text_from strings (name_word (frame_at o types pos)))
-  pub component : kind (frame_at o types pos) ≡ DECL_TAG → (slice_index (frame_at o types pos) 3 ≡ 0xffffffff) ⊎ (slice_index (frame_at o types pos) 3 < 2 ^ 16)
-  pub item_names : (k : ℕ) → k < item_total (frame_at o types pos) → IsTrue (has_item_names (kind (frame_at o types pos)))
-      → NameAt strings (slice_index (frame_at o types pos) (3 + item_words (kind (frame_at o types pos)) * k)) (text_from strings (slice_index (frame_at o types pos) (3 + item_words (kind (frame_at o types pos)) * k)))
+  pub reads : ReadsRecord strings (frame_at o types pos)

@@ -5,89 +5,90 @@
 
 ghost use Rattle.std.specs.Prelude.{◌≡◌, ◌<◌, IsTrue, [], ◌∷◌, MatchOption, length};
 ghost use Rattle.btf_raw.specs.Cause.{HasNone, LeastByPlace};
+ghost use Rattle.btf_raw.specs.Frames.{IsFrame, kind};
 ghost use Rattle.btf_raw.specs.Kinds.{one_of};
 ghost use Rattle.btf_raw.specs.KindNumbers as kinds;
 ghost use Rattle.btf_types.specs.judge.Checks.{IsLeastOf};
 ghost use Rattle.btf_types.specs.judge.FieldFaults.{FieldFault};
-ghost use Rattle.btf_types.specs.judge.RecordFaults.{RecordIs, FaultInWord, FirstWithin};
-ghost use Rattle.btf_types.specs.judge.RecordFaults.{IsFaultlessAt, IsLeastAt};
-ghost use Rattle.btf_types.specs.Sections.{IsSection, frame_of, frames_in};
+ghost use Rattle.btf_types.specs.judge.RecordFaults.{FaultInWord, FirstWithin};
+ghost use Rattle.btf_types.specs.judge.RecordFaults.{IsFaultlessIn, IsLeastIn};
+ghost use Rattle.btf_types.specs.Sections.{IsSection, frames_in};
 
 use crate::judge::checks::{int_fault, linkage_fault, second_fault};
 use crate::judge::items::{entries_fault, members_fault, params_fault, values_fault};
-use crate::judge::judged_record::{JudgedRecord, record_to_judge};
 use crate::judge::names::name_fault;
 use crate::judge::references::{component_fault, named_type_fault, third_fault};
+use crate::record_words::Record;
 use crate::tables::section::Section;
 use btf_raw::{
     ARRAY, BtfCause, BtfFault, DATASEC, DECL_TAG, ENUM, ENUM64, FUNC_PROTO, INT, STRUCT, UNION, VAR,
 };
 
-/// The first word of a record's header that has a fault, and the least cause of that word.
-fn header_fault(section: &Section, this: &JudgedRecord) -> Option<(usize, BtfCause)>
+/// The first of a record's first three words that has a fault, and the least cause of that word.
+fn first_words_fault(section: &Section, this: &Record) -> Option<(usize, BtfCause)>
     requires section { IsSection section.now }
-    requires this { RecordIs section.now this.now }
-    ensures { FirstWithin section.now this.now.pos 0 3 result }
+    requires frame { IsFrame this.now }
+    ensures { FirstWithin section.now this.now 0 3 result }
 {
-    let header = &this.header;
-    let strings = section.file.strings;
-    if let Some(cause) = name_fault(strings, section.texts, header.kind, header.name_off) {
+    let kind = this.kind();
+    let vlen = this.vlen();
+    let name = this.word(0);
+    if let Some(cause) = name_fault(section.file.strings, section.texts, kind, name) {
         return Some((0, cause));
     }
-    if let Some(cause) = second_fault(header.kind, header.vlen) {
+    if let Some(cause) = second_fault(kind, vlen) {
         return Some((1, cause));
     }
-    let third = third_fault(section, header.kind, header.size_or_type, header.vlen);
+    let size_or_type = this.word(2);
+    let third = third_fault(section, kind, size_or_type, vlen);
     match third {
         Some(cause) => Some((2, cause)),
         None => None,
     }
 }
 
-/// The least cause of the one word after the header of an INT, VAR or DECL_TAG.
-fn fourth_fault(section: &Section, this: &JudgedRecord) -> Option<BtfCause>
+/// The least cause of the one word after the first three of an INT, VAR or DECL_TAG.
+fn fourth_fault(section: &Section, this: &Record) -> Option<BtfCause>
     requires section { IsSection section.now }
-    requires this { RecordIs section.now this.now }
-    requires kind { IsTrue (one_of (kinds.INT ∷ kinds.VAR ∷ kinds.DECL_TAG ∷ [])
-        this.now.header.kind) }
-    ensures { IsLeastOf (FaultInWord section.now this.now.pos 3) result }
+    requires frame { IsFrame this.now }
+    requires kind { IsTrue (one_of (kinds.INT ∷ kinds.VAR ∷ kinds.DECL_TAG ∷ []) (kind this.now)) }
+    ensures { IsLeastOf (FaultInWord section.now this.now 3) result }
 {
-    let header = &this.header;
-    let word = section.file.word(this.pos, 3);
-    match header.kind {
-        INT => int_fault(header.size_or_type, word),
+    let size_or_type = this.word(2);
+    let word = this.word(3);
+    match this.kind() {
+        INT => int_fault(size_or_type, word),
         VAR => linkage_fault(word),
-        _ => component_fault(section, header.size_or_type, word),
+        _ => component_fault(section, size_or_type, word),
     }
 }
 
 /// The first type of an ARRAY that has a fault, and its least cause: that of its elements, and that
 /// of its index. The number of elements may be any.
-fn array_fault(section: &Section, this: &JudgedRecord) -> Option<(usize, BtfCause)>
+fn array_fault(section: &Section, this: &Record) -> Option<(usize, BtfCause)>
     requires section { IsSection section.now }
-    requires this { RecordIs section.now this.now }
-    requires kind { this.now.header.kind ≡ kinds.ARRAY }
-    ensures { FirstWithin section.now this.now.pos 3 6 result }
+    requires frame { IsFrame this.now }
+    requires kind { kind this.now ≡ kinds.ARRAY }
+    ensures { FirstWithin section.now this.now 3 6 result }
 {
-    if let Some(cause) = named_type_fault(section, ARRAY, section.file.word(this.pos, 3)) {
+    if let Some(cause) = named_type_fault(section, ARRAY, this.word(3)) {
         return Some((3, cause));
     }
-    match named_type_fault(section, ARRAY, section.file.word(this.pos, 4)) {
+    match named_type_fault(section, ARRAY, this.word(4)) {
         Some(cause) => Some((4, cause)),
         None => None,
     }
 }
 
-/// The first word after a record's header that has a fault, and the least cause of that word. The
+/// The first word after those three that has a fault, and the least cause of that word. The
 /// kind is asked for once.
 #[tactic(auto, using(crate::proofs::JudgeLemmas::RecordSteps::rest_faultless), unfolding(btf_raw::specs::Kinds::item_words))]
-fn tail_fault(section: &Section, this: &JudgedRecord) -> Option<(usize, BtfCause)>
+fn tail_fault(section: &Section, this: &Record) -> Option<(usize, BtfCause)>
     requires section { IsSection section.now }
-    requires this { RecordIs section.now this.now }
-    ensures { FirstWithin section.now this.now.pos 3
-        (length (frame_of section.now.file this.now.pos)) result }
+    requires frame { IsFrame this.now }
+    ensures { FirstWithin section.now this.now 3 (length this.now) result }
 {
-    match this.header.kind {
+    match this.kind() {
         INT | VAR | DECL_TAG => match fourth_fault(section, this) {
             Some(cause) => Some((3, cause)),
             None => None,
@@ -103,14 +104,14 @@ fn tail_fault(section: &Section, this: &JudgedRecord) -> Option<(usize, BtfCause
 }
 
 /// The first word of a record that has a fault, and the least cause of that word.
-fn record_fault(section: &Section, this: &JudgedRecord) -> Option<(usize, BtfCause)>
+fn record_fault(section: &Section, this: &Record) -> Option<(usize, BtfCause)>
     requires section { IsSection section.now }
-    requires this { RecordIs section.now this.now }
+    requires frame { IsFrame this.now }
     ensures { MatchOption result
-        (IsFaultlessAt section.now this.now.pos)
-        (λ found. IsLeastAt section.now this.now.pos found.0 found.1) }
+        (IsFaultlessIn section.now this.now)
+        (λ found. IsLeastIn section.now this.now found.0 found.1) }
 {
-    match header_fault(section, this) {
+    match first_words_fault(section, this) {
         Some(found) => Some(found),
         None => tail_fault(section, this),
     }
@@ -126,10 +127,11 @@ pub fn first_field_fault(section: &Section) -> Option<BtfFault>
         fault.pos fault.cause) }
 {
     for i in 0..section.file.places.len() {
-        let this = record_to_judge(section, i);
+        let pos = section.file.places[i] as usize;
+        let this = section.file.record_at(pos);
         if let Some((word, cause)) = record_fault(section, &this) {
             return Some(BtfFault {
-                pos: (this.pos + 4 * word) as u64,
+                pos: (pos + 4 * word) as u64,
                 cause,
             });
         }

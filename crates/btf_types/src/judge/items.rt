@@ -5,13 +5,14 @@
 ghost use Rattle.std.specs.Prelude.{◌≡◌, ◌+◌, ◌*◌, ◌<◌, IsTrue, [], ◌∷◌, length};
 ghost use Rattle.btf_raw.specs.KindNumbers as kinds;
 ghost use Rattle.btf_raw.specs.Kinds.{one_of, item_words, is_struct};
-ghost use Rattle.btf_types.specs.judge.RecordFaults.{RecordIs, BitFieldsAre, FirstWithin};
-ghost use Rattle.btf_types.specs.Sections.{IsSection, frame_of};
+ghost use Rattle.btf_raw.specs.Frames.{IsFrame, kind, vlen};
+ghost use Rattle.btf_types.specs.judge.RecordFaults.{BitFieldsAre, FirstWithin};
+ghost use Rattle.btf_types.specs.Sections.{IsSection};
 
 use crate::judge::checks::{bit_offset_of, member_place_fault, width_of};
-use crate::judge::judged_record::JudgedRecord;
 use crate::judge::names::item_name_fault;
 use crate::judge::references::{member_type_fault, named_type_fault};
+use crate::record_words::Record;
 use crate::tables::section::Section;
 use btf_raw::{BtfCause, DATASEC, FUNC_PROTO};
 
@@ -20,29 +21,30 @@ use btf_raw::{BtfCause, DATASEC, FUNC_PROTO};
 #[inline(always)]
 fn member_fault(
     section: &Section,
-    this: &JudgedRecord,
+    this: &Record,
     bit_fields: bool,
     k: usize,
 ) -> Option<(usize, BtfCause)>
     requires section { IsSection section.now }
-    requires this { RecordIs section.now this.now }
-    requires kind { IsTrue (is_struct this.now.header.kind) }
-    requires bit_fields { BitFieldsAre (frame_of section.now.file this.now.pos) bit_fields }
-    requires there { k < this.now.header.vlen }
-    ensures { FirstWithin section.now this.now.pos (3 + 3 * k) (6 + 3 * k) result }
+    requires frame { IsFrame this.now }
+    requires kind { IsTrue (is_struct (kind this.now)) }
+    requires bit_fields { BitFieldsAre this.now bit_fields }
+    requires there { k < vlen this.now }
+    ensures { FirstWithin section.now this.now (3 + 3 * k) (6 + 3 * k) result }
 {
-    let name = section.file.word(this.pos, 3 + 3 * k);
+    let name = this.word(3 + 3 * k);
     if let Some(cause) = item_name_fault(section.file.strings, section.texts, name) {
         return Some((3 + 3 * k, cause));
     }
-    let target = section.file.word(this.pos, 4 + 3 * k);
+    let target = this.word(4 + 3 * k);
     if let Some(cause) = member_type_fault(section, bit_fields, target) {
         return Some((4 + 3 * k, cause));
     }
-    let place = section.file.word(this.pos, 5 + 3 * k);
-    let bit_offset = bit_offset_of(this.header.kind_flag, place);
-    let width = width_of(this.header.kind_flag, place);
-    match member_place_fault(this.header.size_or_type, bit_offset, width) {
+    let place = this.word(5 + 3 * k);
+    let flag = this.kind_flag();
+    let bit_offset = bit_offset_of(flag, place);
+    let width = width_of(flag, place);
+    match member_place_fault(this.word(2), bit_offset, width) {
         Some(cause) => Some((5 + 3 * k, cause)),
         None => None,
     }
@@ -50,18 +52,15 @@ fn member_fault(
 
 /// The first word with a fault of the members of a STRUCT or UNION, and its least cause. Whether
 /// some member's width isn't 0 is found once, before the members are judged.
-pub fn members_fault(section: &Section, this: &JudgedRecord) -> Option<(usize, BtfCause)>
+pub fn members_fault(section: &Section, this: &Record) -> Option<(usize, BtfCause)>
     requires section { IsSection section.now }
-    requires this { RecordIs section.now this.now }
-    requires kind { IsTrue (is_struct this.now.header.kind) }
-    ensures { FirstWithin section.now this.now.pos 3
-        (length (frame_of section.now.file this.now.pos)) result }
+    requires frame { IsFrame this.now }
+    requires kind { IsTrue (is_struct (kind this.now)) }
+    ensures { FirstWithin section.now this.now 3 (length this.now) result }
 {
-    let header = &this.header;
-    let bit_fields = section
-        .file
-        .has_widths(this.pos, header.kind, header.kind_flag, header.vlen);
-    for k in 0..usize::from(header.vlen) {
+    let bit_fields = this.has_bit_fields();
+    let count = usize::from(this.vlen());
+    for k in 0..count {
         if let Some(found) = member_fault(section, this, bit_fields, k) {
             return Some(found);
         }
@@ -72,18 +71,18 @@ pub fn members_fault(section: &Section, this: &JudgedRecord) -> Option<(usize, B
 /// The first word with a fault of parameter k, from 0, of a FUNC_PROTO, and its least cause: the
 /// name and the type are judged in turn.
 #[inline(always)]
-fn param_fault(section: &Section, this: &JudgedRecord, k: usize) -> Option<(usize, BtfCause)>
+fn param_fault(section: &Section, this: &Record, k: usize) -> Option<(usize, BtfCause)>
     requires section { IsSection section.now }
-    requires this { RecordIs section.now this.now }
-    requires kind { this.now.header.kind ≡ kinds.FUNC_PROTO }
-    requires there { k < this.now.header.vlen }
-    ensures { FirstWithin section.now this.now.pos (3 + 2 * k) (5 + 2 * k) result }
+    requires frame { IsFrame this.now }
+    requires kind { kind this.now ≡ kinds.FUNC_PROTO }
+    requires there { k < vlen this.now }
+    ensures { FirstWithin section.now this.now (3 + 2 * k) (5 + 2 * k) result }
 {
-    let name = section.file.word(this.pos, 3 + 2 * k);
+    let name = this.word(3 + 2 * k);
     if let Some(cause) = item_name_fault(section.file.strings, section.texts, name) {
         return Some((3 + 2 * k, cause));
     }
-    let target = section.file.word(this.pos, 4 + 2 * k);
+    let target = this.word(4 + 2 * k);
     match named_type_fault(section, FUNC_PROTO, target) {
         Some(cause) => Some((4 + 2 * k, cause)),
         None => None,
@@ -91,14 +90,13 @@ fn param_fault(section: &Section, this: &JudgedRecord, k: usize) -> Option<(usiz
 }
 
 /// The first word with a fault of the parameters of a FUNC_PROTO, and its least cause.
-pub fn params_fault(section: &Section, this: &JudgedRecord) -> Option<(usize, BtfCause)>
+pub fn params_fault(section: &Section, this: &Record) -> Option<(usize, BtfCause)>
     requires section { IsSection section.now }
-    requires this { RecordIs section.now this.now }
-    requires kind { this.now.header.kind ≡ kinds.FUNC_PROTO }
-    ensures { FirstWithin section.now this.now.pos 3
-        (length (frame_of section.now.file this.now.pos)) result }
+    requires frame { IsFrame this.now }
+    requires kind { kind this.now ≡ kinds.FUNC_PROTO }
+    ensures { FirstWithin section.now this.now 3 (length this.now) result }
 {
-    for k in 0..usize::from(this.header.vlen) {
+    for k in 0..usize::from(this.vlen()) {
         if let Some(found) = param_fault(section, this, k) {
             return Some(found);
         }
@@ -108,21 +106,16 @@ pub fn params_fault(section: &Section, this: &JudgedRecord) -> Option<(usize, Bt
 
 /// The first word with a fault of the values of an ENUM or ENUM64, and its least cause. Each value
 /// has a name, which is its first word; `step` is the number of its words.
-pub fn values_fault(
-    section: &Section,
-    this: &JudgedRecord,
-    step: usize,
-) -> Option<(usize, BtfCause)>
+pub fn values_fault(section: &Section, this: &Record, step: usize) -> Option<(usize, BtfCause)>
     requires section { IsSection section.now }
-    requires this { RecordIs section.now this.now }
-    requires kind { IsTrue (one_of (kinds.ENUM ∷ kinds.ENUM64 ∷ []) this.now.header.kind) }
-    requires step { step ≡ item_words this.now.header.kind }
-    ensures { FirstWithin section.now this.now.pos 3
-        (length (frame_of section.now.file this.now.pos)) result }
+    requires frame { IsFrame this.now }
+    requires kind { IsTrue (one_of (kinds.ENUM ∷ kinds.ENUM64 ∷ []) (kind this.now)) }
+    requires step { step ≡ item_words (kind this.now) }
+    ensures { FirstWithin section.now this.now 3 (length this.now) result }
 {
-    for k in 0..usize::from(this.header.vlen) {
+    for k in 0..usize::from(this.vlen()) {
         let first = 3 + step * k;
-        let name = section.file.word(this.pos, first);
+        let name = this.word(first);
         if let Some(cause) = item_name_fault(section.file.strings, section.texts, name) {
             return Some((first, cause));
         }
@@ -132,15 +125,14 @@ pub fn values_fault(
 
 /// The first word with a fault of the entries of a DATASEC, and its least cause. Each entry has a
 /// type, which is its first word of three.
-pub fn entries_fault(section: &Section, this: &JudgedRecord) -> Option<(usize, BtfCause)>
+pub fn entries_fault(section: &Section, this: &Record) -> Option<(usize, BtfCause)>
     requires section { IsSection section.now }
-    requires this { RecordIs section.now this.now }
-    requires kind { this.now.header.kind ≡ kinds.DATASEC }
-    ensures { FirstWithin section.now this.now.pos 3
-        (length (frame_of section.now.file this.now.pos)) result }
+    requires frame { IsFrame this.now }
+    requires kind { kind this.now ≡ kinds.DATASEC }
+    ensures { FirstWithin section.now this.now 3 (length this.now) result }
 {
-    for k in 0..usize::from(this.header.vlen) {
-        let target = section.file.word(this.pos, 3 + 3 * k);
+    for k in 0..usize::from(this.vlen()) {
+        let target = this.word(3 + 3 * k);
         if let Some(cause) = named_type_fault(section, DATASEC, target) {
             return Some((3 + 3 * k, cause));
         }

@@ -2,12 +2,13 @@
 //! another. It is read at that record's place, so a reference may point forward.
 
 ghost use Rattle.std.specs.Prelude.{◌≡◌, length};
+ghost use Rattle.btf_raw.specs.Frames.{IsFrame};
 ghost use Rattle.btf_types.specs.judge.Checks.{type_at};
-ghost use Rattle.btf_types.specs.Sections.{IsSection, HasFrame, FactsAre, facts_in, frame_of};
+ghost use Rattle.btf_types.specs.Sections.{IsSection, FactsAre, facts_in};
 ghost use Rattle.btf_types.specs.judge.FieldFaults.{frame_facts};
 
 use crate::judge::utf8::Texts;
-use crate::record_header::header_at;
+use crate::record_words::Record;
 use crate::tables::table::FileSections;
 use btf_raw::{FUNC, INT};
 
@@ -42,27 +43,25 @@ pub struct Facts {
     pub bits: u8,
 }
 
-impl<'a> Section<'a> {
-    /// The facts of the record at `pos` of the types.
-    fn record_facts(&self, pos: usize) -> Facts
-        requires { HasFrame self.now.file pos }
-        ensures { FactsAre result (frame_facts (frame_of self.now.file pos)) }
+impl Facts {
+    /// The facts of a record.
+    fn of(this: &Record) -> Facts
+        requires { IsFrame this.now }
+        ensures { FactsAre result (frame_facts this.now) }
     {
-        let header = header_at(self.file.order, self.file.types, pos);
-        let int = if header.kind == INT {
-            self.file.word(pos, 3)
-        } else {
-            0
-        };
+        let kind = this.kind();
+        let int = if kind == INT { this.word(3) } else { 0 };
         Facts {
-            kind: header.kind,
-            count: if header.kind == FUNC { 0 } else { header.vlen },
-            target: header.size_or_type,
+            kind,
+            count: if kind == FUNC { 0 } else { this.vlen() },
+            target: this.word(2),
             offset: (int >> 16 & 0xff) as u8,
             bits: (int & 0xff) as u8,
         }
     }
+}
 
+impl<'a> Section<'a> {
     /// The facts of the type with this id.
     pub fn facts(&self, id: u32) -> Facts
         requires { IsSection self.now }
@@ -71,7 +70,8 @@ impl<'a> Section<'a> {
         if id == 0 || id as usize > self.file.places.len() {
             return NO_TYPE;
         }
-        self.record_facts(self.file.places[id as usize - 1] as usize)
+        let pos = self.file.places[id as usize - 1] as usize;
+        Facts::of(&self.file.record_at(pos))
     }
 
     /// The number of types.

@@ -9,7 +9,7 @@ ghost use Rattle.btf_types.specs.tables.TableWords.{record_at, numbered};
 ghost use Rattle.btf_types.specs.tables.TablePlaces.{IsPlacedTable};
 ghost use Rattle.btf_types.specs.tables.KeptSections.{AreSections};
 
-use crate::reading::{head_at, item_at, item_count_at};
+use crate::reading::{head_of, item_count_of, item_of};
 use crate::tables::places::Places;
 use crate::tables::records::Records;
 use crate::tables::table::FileSections;
@@ -78,7 +78,8 @@ impl<'a> SectionTable<'a> {
         ensures { head_value result ≡ (record_at self.now id).head }
     {
         let pos = self.file.places[id as usize - 1] as usize;
-        head_at(&self.file, self.ends, pos)
+        let this = self.file.record_at(pos);
+        head_of(self.file.strings, self.ends, &this)
     }
 
     /// The number of items of record `id`, from 1.
@@ -88,7 +89,7 @@ impl<'a> SectionTable<'a> {
         ensures { result ≡ length (record_at self.now id).items }
     {
         let pos = self.file.places[id as usize - 1] as usize;
-        item_count_at(&self.file, pos)
+        item_count_of(&self.file.record_at(pos))
     }
 
     /// Item `k`, from 0, of record `id`, from 1.
@@ -99,7 +100,8 @@ impl<'a> SectionTable<'a> {
         ensures { slice_get (record_at self.now id).items k ≡ Some (item_value result) }
     {
         let pos = self.file.places[id as usize - 1] as usize;
-        item_at(&self.file, self.ends, pos, k as usize)
+        let this = self.file.record_at(pos);
+        item_of(self.file.strings, self.ends, &this, k as usize)
     }
 
     /// The sections.

@@ -1,19 +1,15 @@
 //! What every table of types offers.
 
-ghost use Rattle.std.specs.Prelude.{◌≡◌, ◌+◌, ◌*◌, ◌<◌, ◌≤◌, List, Some, IfSome, length, slice_get};
-ghost use Rattle.std.specs.Prelude.{slice_index};
-ghost use Rattle.btf_raw.specs.Frames.{info_word};
-ghost use Rattle.btf_raw.specs.Frames as frames;
+ghost use Rattle.std.specs.Prelude.{◌≡◌, ◌<◌, ◌≤◌, List, Some, IfSome, length, slice_get};
 ghost use Rattle.btf_types.specs.Values.{TypeRecord, head_value, item_value};
 ghost use Rattle.btf_types.specs.Good.{IsGood};
 ghost use Rattle.btf_types.specs.tables.TableWords.{record_at};
 ghost use Rattle.btf_types.specs.tables.KeptSections.{AreSections};
 ghost use Rattle.btf_types.specs.Sections.{HasFrame, frame_of};
-ghost use Rattle.btf_types.specs.judge.RecordFaults.{BitFieldsAre};
 
+use crate::record_words::Record;
 use crate::values::{Head, Item};
-use bpf_words::{Order, get32};
-use btf_raw::info::{flag_of, is_struct, kind_of, vlen_of};
+use bpf_words::Order;
 
 /// A list of records, each a head with its items. The records are numbered from 1, as btf.rst
 /// section 2.2 numbers types.
@@ -72,42 +68,11 @@ pub struct FileSections<'a> {
 }
 
 impl<'a> FileSections<'a> {
-    /// Word `j`, from 0, of the record at `pos` of the types.
-    pub fn word(&self, pos: usize, j: usize) -> u32
-        requires inside { pos + 4 * length (frame_of self.now pos) ≤ length self.now.types.now }
-        requires there { j < length (frame_of self.now pos) }
-        ensures { result ≡ slice_index (frame_of self.now pos) j }
+    /// The record at `pos` of the types.
+    pub fn record_at(&self, pos: usize) -> Record<'a>
+        requires { HasFrame self.now pos }
+        ensures { result ≡ frame_of self.now pos }
     {
-        get32(self.order, self.types, pos + 4 * j)
-    }
-
-    /// Whether the record at `pos` of the types, with this word info, has a bit-field (btf.rst
-    /// section 2.2.4): it is a STRUCT or UNION whose kind_flag is 1, and the high 8 bits of some
-    /// member's offset word, its width, aren't 0.
-    pub fn has_bit_fields(&self, pos: usize, info: u32) -> bool
-        requires record { HasFrame self.now pos }
-        requires info { info ≡ info_word (frame_of self.now pos) }
-        ensures { BitFieldsAre (frame_of self.now pos) result }
-    {
-        self.has_widths(pos, kind_of(info), flag_of(info), vlen_of(info))
-    }
-
-    /// The same of a record of this kind, with this kind_flag and vlen.
-    pub(crate) fn has_widths(&self, pos: usize, kind: u8, kind_flag: u32, vlen: u16) -> bool
-        requires record { HasFrame self.now pos }
-        requires kind { kind ≡ frames.kind (frame_of self.now pos) }
-        requires kind_flag { kind_flag ≡ frames.flag (frame_of self.now pos) }
-        requires vlen { vlen ≡ frames.vlen (frame_of self.now pos) }
-        ensures { BitFieldsAre (frame_of self.now pos) result }
-    {
-        if !is_struct(kind) || kind_flag == 0 {
-            return false;
-        }
-        for k in 0..usize::from(vlen) {
-            if self.word(pos, 5 + 3 * k) >> 24 != 0 {
-                return true;
-            }
-        }
-        false
+        Record::at(self.order, self.types, pos)
     }
 }

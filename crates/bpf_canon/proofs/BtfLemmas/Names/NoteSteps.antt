@@ -1,16 +1,21 @@
 -- The names of one item and of one record more.
-use Rattle.std.proofs.Common.{◌≡◌, ℕ, suc, ◌+◌, ◌<◌, true, List, [], ◌∷◌, ◌++◌, length, take, get_or, sym, ap, ◌∙◌, append-nil, arith}
+use Rattle.std.proofs.Common.{◌≡◌, ℕ, suc, ◌+◌, ◌<◌, true, List, [], ◌∷◌, ◌++◌, inl, inr, length, take, get_or, sym, ap, ◌∙◌, append-nil, arith}
 use Rattle.std.proofs.lemmas.List.{map-append}
+use Rattle.std.specs.Prelude.{if◌then◌else◌}
+use Rattle.std.specs.List.{All}
+use Rattle.std.proofs.lemmas.List.Elements.{All-nil, All-cons}
 use Rattle.std.proofs.lemmas.List.Concat.{flat_map-append}
+use Rattle.btf_types.proofs.TabulateSteps.{All-tabulate}
+use Rattle.btf_types.proofs.TableLemmas.TextSteps.{decided}
 use Rattle.std.proofs.Math.Seq.{take-suc}
 use Rattle.bpf_words.specs.declared.Order.{Order}
 use Rattle.btf_raw.specs.Frames.{name_word, kind, vlen}
 use Rattle.btf_raw.proofs.Texts.{TextAt-inside}
 use Rattle.btf_raw.specs.Kinds.{has_item_names}
-use Rattle.btf_types.specs.tables.PlaceWords.{HasRecordAt}
+use Rattle.btf_types.specs.tables.PlaceWords.{ReadsRecord}
 use Rattle.btf_types.specs.Reading.{text_from, frame_at, frames_at, item_total, tabulate}
 use Rattle.bpf_canon.specs.btf.strings.FirstUses.{noted, noted_all}
-use Rattle.bpf_canon.specs.btf.write.NameOffsets.{item_word, name_offsets, all_offsets}
+use Rattle.bpf_canon.specs.btf.write.NameOffsets.{item_word, name_offsets, all_offsets, IsBelow}
 use Rattle.bpf_canon.proofs.BtfLemmas.Strings.FirstUseSteps.{noted_all-append}
 use Rattle.bpf_canon.proofs.BtfLemmas.Write.RecordNames.{named_total}
 
@@ -33,15 +38,14 @@ record_noted o types places i low =
     ∙ ap (λ (t : List ℕ). all_offsets front ++ t) (append-nil (name_offsets (frame_at o types pos))) in
     sym (ap (noted_all []) all ∙ noted_all-append [] (all_offsets front) (name_offsets (frame_at o types pos)))
 
--- the names lie in the strings, and the first words of items in their frame
-pub item_within : (o : Order) (types strings : List ℕ) (pos k : ℕ) → HasRecordAt o types strings pos → has_item_names (kind (frame_at o types pos)) ≡ true → k < vlen (frame_at o types pos)
-    → item_word (frame_at o types pos) k < length strings
-item_within o types strings pos k at has low =
-    let f = frame_at o types pos in
-    let total : k < item_total f = omega (arith, named_total f at.frame has, low) in
-    TextAt-inside strings (item_word f k) (text_from strings (item_word f k)) (at.item_names k total has).text
-
-pub own_within : (o : Order) (types strings : List ℕ) (pos : ℕ) → HasRecordAt o types strings pos → name_word (frame_at o types pos) < length strings
-own_within o types strings pos at =
-    let f = frame_at o types pos in
-    TextAt-inside strings (name_word f) (text_from strings (name_word f)) at.name.text
+-- the names of a record are inside the strings
+pub names_inside : (strings f : List ℕ) → ReadsRecord strings f → All (IsBelow (length strings)) (name_offsets f)
+names_inside strings f reads =
+    let own = TextAt-inside strings (name_word f) (text_from strings (name_word f)) reads.name.text in
+    All-cons (IsBelow (length strings)) (name_word f) (if has_item_names (kind f) then tabulate (item_word f) (vlen f) else []) own (
+    elim (decided (has_item_names (kind f))) [
+      | inl has ↦ rw has (All-tabulate (IsBelow (length strings)) (item_word f) (vlen f) (λ k low.
+          let total : k < item_total f = omega (arith, named_total f reads.frame has, low) in
+          TextAt-inside strings (item_word f k) (text_from strings (item_word f k)) (reads.item_names k total has).text))
+      | inr none ↦ rw none (All-nil (IsBelow (length strings)))
+    ])

@@ -9,7 +9,6 @@ use Rattle.btf_raw.specs.Header.{HasNulEnds}
 use Rattle.btf_raw.specs.Kinds.{item_words, has_item_names}
 use Rattle.btf_raw.specs.Frames.{IsFrame, name_word, kind, vlen, flag}
 use Rattle.btf_raw.proofs.Texts.{TextAt-unique, TextAt-inside}
-use Rattle.btf_types.specs.declared.tables.table.FileSections.{FileSections}
 use Rattle.btf_types.specs.Values.{TypeItem, TypeRecord}
 use Rattle.btf_types.specs.Names.{head_name, item_name, record_names, names, is_other, distinct, is_some_text, kept}
 use Rattle.btf_types.specs.Spelling.{Spells}
@@ -18,9 +17,7 @@ use Rattle.btf_types.proofs.KindCases.{KindIs, IsStruct, IsUnion, IsEnum, IsFunc
 use Rattle.btf_types.proofs.FaultlessLemmas.FaultlessWords.{known}
 use Rattle.btf_types.proofs.Lists.{length-tabulate, get_or-tabulate}
 use Rattle.btf_types.proofs.TableLemmas.TextSteps.{text_there, decided}
-use Rattle.bpf_canon.specs.btf.write.KeptFrames.{frame_in}
-use Rattle.bpf_canon.specs.btf.write.NameOffsets.{item_word, name_offsets, all_offsets, HasNamedItems, HasNotedNames}
-use Rattle.bpf_canon.specs.btf.strings.NamesByPlace.{NamesByPlace}
+use Rattle.bpf_canon.specs.btf.write.NameOffsets.{item_word, name_offsets, all_offsets, HasNamedItems}
 
 -- ---- empty names aren't kept
 
@@ -171,13 +168,12 @@ item_offset P f k has all low =
     let each : All P offsets = subst (All P) same (All-tail P (name_word f) (if has_item_names (kind f) then offsets else []) all) in
     subst P (get_or-tabulate (item_word f) (vlen f) k 0 low) (each k 0 (omega (arith, length-tabulate (item_word f) (vlen f))))
 
-pub item_is_noted : (names : NamesByPlace) (s : FileSections) (pos size count k offset : ℕ) → HasNotedNames names s pos → HasNamedItems (frame_in s pos) size count → k < count
-    → offset ≡ slice_index (frame_in s pos) (3 + size * k) → Contains names.offsets offset
-item_is_noted names s pos size count k offset noted items low is =
-    let f = frame_in s pos in
+pub item_is : (P : ℕ → Type 0) (f : List ℕ) (size count k offset : ℕ) → All P (name_offsets f) → HasNamedItems f size count → k < count
+    → offset ≡ slice_index f (3 + size * k) → P offset
+item_is P f size count k offset each items low is =
     let all = items.all in
     let at : item_word f k ≡ offset = ap (λ (w : ℕ). slice_index f (3 + w * k)) items.words ∙ sym is in
-    subst (Contains names.offsets) at (item_offset (Contains names.offsets) f k items.named noted.offsets (omega arith))
+    subst P at (item_offset P f k items.named each (omega arith))
 
 All-front : (P : ℕ → Type 0) (xs ys : List ℕ) → All P (xs ++ ys) → All P xs
 All-front P [] ys all = All-nil P

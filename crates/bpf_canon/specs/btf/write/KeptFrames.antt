@@ -5,17 +5,9 @@ use Rattle.btf_types.specs.declared.tables.table.FileSections.{FileSections}
 use Rattle.btf_types.specs.Values.{TypeRecord}
 use Rattle.btf_types.specs.Spelling.{kind_number, head_tail, record_vlen, info}
 use Rattle.btf_types.specs.Good.{has_bit_fields}
-use Rattle.btf_types.specs.Reading.{frame_at, frames_at, record_of, records_at}
-use Rattle.btf_types.specs.tables.PlaceWords.{HasRecordAt}
+use Rattle.btf_types.specs.Reading.{frames_at, records_at}
 use Rattle.btf_types.specs.tables.TableInvariant.{IsTable}
 use Rattle.bpf_canon.specs.btf.CanonicalBtf.{canonical_flag, words_of_item}
-
--- the frame at a place, and its record
-abbrev pub frame_in : FileSections → ℕ → List ℕ
-frame_in s pos = frame_at s.order s.types.now pos
-
-abbrev pub record_in : FileSections → ℕ → TypeRecord
-record_in s pos = record_of s.strings.now (frame_in s pos)
 
 -- all frames, and all records; and the sections are a table of these
 abbrev pub frames_of : FileSections → List (List ℕ)
@@ -26,10 +18,6 @@ records_of s = records_at s.order s.types.now s.strings.now s.places.now
 
 abbrev pub AreTable : FileSections → Type 0
 AreTable s = IsTable s.order s.types.now s.strings.now s.places.now
-
--- a record is at this place
-abbrev pub HasRecord : FileSections → ℕ → Type 0
-HasRecord s pos = HasRecordAt s.order s.types.now s.strings.now pos
 
 -- info of a record, with its canonical kind_flag
 abbrev pub record_info : TypeRecord → ℕ

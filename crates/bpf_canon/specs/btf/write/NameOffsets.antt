@@ -1,12 +1,11 @@
 -- The offsets of names in the frames of a section. Contracts of private functions cite it.
-use Rattle.std.specs.Prelude.{◌≡◌, ℕ, ◌+◌, ◌*◌, List, [], ◌∷◌, IsTrue, slice_index, if◌then◌else◌}
+use Rattle.std.specs.Prelude.{◌≡◌, ℕ, ◌+◌, ◌*◌, ◌<◌, List, [], ◌∷◌, IsTrue, slice_index, if◌then◌else◌}
 use Rattle.std.specs.List.{All, Contains, flat_map}
 use Rattle.btf_raw.specs.Kinds.{item_words, has_item_names}
 use Rattle.btf_raw.specs.Frames.{name_word, kind, vlen}
-use Rattle.btf_types.specs.declared.tables.table.FileSections.{FileSections}
 use Rattle.btf_types.specs.Reading.{tabulate}
-use Rattle.bpf_canon.specs.btf.write.KeptFrames.{frame_in}
-use Rattle.bpf_canon.specs.btf.strings.NamesByPlace.{NamesByPlace}
+use Rattle.btf_types.specs.strings.SharedNames.{shared_place}
+use Rattle.bpf_canon.specs.btf.strings.NamesByPlace.{NamesByPlace, placed_texts}
 
 -- the first word of item k
 abbrev pub item_word : List ℕ → ℕ → ℕ
@@ -25,7 +24,14 @@ pub record HasNamedItems (frame : List ℕ) (size count : ℕ) : Type 0 where
   pub words : item_words (kind frame) ≡ size
   pub all : count ≡ vlen frame
 
--- the offsets of the names of the record at a place are among the noted offsets
-pub record HasNotedNames (names : NamesByPlace) (s : FileSections) (pos : ℕ) : Type 0 where
-  pub strings : names.strings ≡ s.strings.now
-  pub offsets : All (Contains names.offsets) (name_offsets (frame_in s pos))
+-- the offsets of a record's names are among the noted offsets
+abbrev pub HasNotedNames : NamesByPlace → List ℕ → Type 0
+HasNotedNames names frame = All (Contains names.offsets) (name_offsets frame)
+
+-- an offset is inside a section of this length
+abbrev pub IsBelow : ℕ → ℕ → Type 0
+IsBelow len offset = offset < len
+
+-- the place of a name in the table of these names
+abbrev pub placed : NamesByPlace → List ℕ → ℕ
+placed names = shared_place (placed_texts names)

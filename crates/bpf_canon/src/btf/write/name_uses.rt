@@ -1,57 +1,54 @@
 //! The names of a section, noted by their offsets alone: no text is read (btf.rst section 2.2).
 ghost use Rattle.std.specs.Prelude.{◌≡◌, ◌≤◌, [], IfOk, OnOk, length};
-ghost use Rattle.btf_raw.specs.Frames.{vlen};
+ghost use Rattle.std.specs.List.{All};
+ghost use Rattle.btf_raw.specs.Frames.{IsFrame, vlen};
 ghost use Rattle.btf_types.specs.Reading.{tabulate};
 ghost use Rattle.bpf_canon.specs.btf.strings.FirstUses.{noted_all};
-ghost use Rattle.bpf_canon.specs.btf.write.KeptFrames.{AreTable, frames_of, frame_in, HasRecord};
+ghost use Rattle.bpf_canon.specs.btf.write.KeptFrames.{AreTable, frames_of};
 ghost use Rattle.bpf_canon.specs.btf.write.NameOffsets.{item_word, name_offsets, all_offsets};
-ghost use Rattle.bpf_canon.specs.btf.write.NameOffsets.{HasNamedItems};
+ghost use Rattle.bpf_canon.specs.btf.write.NameOffsets.{HasNamedItems, IsBelow};
 
 use crate::btf::strings::first_uses::FirstUses;
-use btf_raw::info::{has_item_names, item_words, kind_of, vlen_of};
-use btf_types::FileSections;
+use btf_raw::info::{has_item_names, item_words};
+use btf_types::{FileSections, Record};
 use std::alloc::{AllocError, Allocator};
 
 /// Notes the names of a record's items. Each item has `size` words, and the first is its name_off.
 fn note_items<A: Allocator + Copy>(
     uses: &mut FirstUses<A>,
-    sections: &FileSections<'_>,
-    pos: usize,
+    this: &Record,
     size: usize,
     count: u16,
 ) -> Result<(), AllocError>
-    requires record { HasRecord sections.now pos }
-    requires whole { uses.old.section_len ≡ length sections.now.strings.now }
-    requires items { HasNamedItems (frame_in sections.now pos) size count }
+    requires frame { IsFrame this.now }
+    requires inside { All (IsBelow uses.old.section_len) (name_offsets this.now) }
+    requires items { HasNamedItems this.now size count }
     requires few { size ≤ 3 }
     ensures section { uses.new.section_len ≡ uses.old.section_len }
     ensures offsets { OnOk result (uses.new.offsets
-        ≡ noted_all uses.old.offsets (tabulate (item_word (frame_in sections.now pos))
-        (vlen (frame_in sections.now pos)))) }
+        ≡ noted_all uses.old.offsets (tabulate (item_word this.now) (vlen this.now))) }
 {
     for k in 0..usize::from(count) {
-        uses.note(sections.word(pos, 3 + size * k))?;
+        uses.note(this.word(3 + size * k))?;
     }
     Ok(())
 }
 
-/// Notes the names of the record at `pos` of the types: its own, then those of its items.
+/// Notes the names of a record: its own, then those of its items.
 fn note_record<A: Allocator + Copy>(
     uses: &mut FirstUses<A>,
-    sections: &FileSections<'_>,
-    pos: usize,
+    this: &Record,
 ) -> Result<(), AllocError>
-    requires record { HasRecord sections.now pos }
-    requires whole { uses.old.section_len ≡ length sections.now.strings.now }
+    requires frame { IsFrame this.now }
+    requires inside { All (IsBelow uses.old.section_len) (name_offsets this.now) }
     ensures section { uses.new.section_len ≡ uses.old.section_len }
     ensures offsets { OnOk result (uses.new.offsets
-        ≡ noted_all uses.old.offsets (name_offsets (frame_in sections.now pos))) }
+        ≡ noted_all uses.old.offsets (name_offsets this.now)) }
 {
-    uses.note(sections.word(pos, 0))?;
-    let info = sections.word(pos, 1);
-    let kind = kind_of(info);
+    uses.note(this.word(0))?;
+    let kind = this.kind();
     if has_item_names(kind) {
-        note_items(uses, sections, pos, item_words(kind), vlen_of(info))?;
+        note_items(uses, this, item_words(kind), this.vlen())?;
     }
     Ok(())
 }
@@ -68,7 +65,8 @@ pub(crate) fn noted_names<A: Allocator + Copy>(
 {
     let mut uses = FirstUses::new(alloc, sections.strings.len())?;
     for pos in sections.places {
-        note_record(&mut uses, sections, *pos as usize)?;
+        let this = sections.record_at(*pos as usize);
+        note_record(&mut uses, &this)?;
     }
     Ok(uses)
 }

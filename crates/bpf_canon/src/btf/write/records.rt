@@ -1,35 +1,36 @@
 //! The records of a section, copied word by word with their names at other places (btf.rst section
 //! 2.2).
-ghost use Rattle.std.specs.Prelude.{◌≡◌, ◌+◌, ◌≤◌, ◌⊎◌, [], ◌∷◌, ◌++◌, OnOk, length, slice_index};
-ghost use Rattle.std.specs.Prelude.{take, drop, map};
+ghost use Rattle.std.specs.Prelude.{◌≡◌, ℕ, List, ◌+◌, ◌^◌, ◌<◌, ◌≤◌, ◌⊎◌, [], ◌∷◌, ◌++◌, OnOk};
+ghost use Rattle.std.specs.Prelude.{length, slice_index, take, drop, map};
 ghost use Rattle.std.specs.List.{All, Contains};
-ghost use Rattle.btf_raw.specs.Frames.{bytes_of, section_of, info_word};
-ghost use Rattle.btf_types.specs.strings.SharedNames.{shared_place};
+ghost use Rattle.btf_raw.specs.Frames.{bytes_of, section_of, IsFrame};
+ghost use Rattle.btf_types.specs.Reading.{record_of};
+ghost use Rattle.btf_types.specs.tables.PlaceWords.{ReadsRecord};
 ghost use Rattle.bpf_canon.specs.btf.CanonicalBtf.{record_words};
-ghost use Rattle.bpf_canon.specs.btf.write.KeptFrames.{AreTable, frames_of, records_of, frame_in};
-ghost use Rattle.bpf_canon.specs.btf.write.KeptFrames.{record_in, HasRecord, record_info};
-ghost use Rattle.bpf_canon.specs.btf.write.KeptFrames.{record_items, record_tail};
+ghost use Rattle.bpf_canon.specs.btf.write.KeptFrames.{AreTable, frames_of, records_of};
+ghost use Rattle.bpf_canon.specs.btf.write.KeptFrames.{record_info, record_items, record_tail};
 ghost use Rattle.bpf_canon.specs.btf.write.NameOffsets.{HasNamedItems, HasNotedNames, all_offsets};
-ghost use Rattle.bpf_canon.specs.btf.strings.NamesByPlace.{placed_texts};
+ghost use Rattle.bpf_canon.specs.btf.write.NameOffsets.{placed};
 
 use crate::btf::strings::places::SharedPlaces;
 use crate::btf::write::header::push_words;
 use bpf_words::{Order, push32};
-use btf_raw::info::{flag_of, has_item_names, is_struct, item_words, kind_of, tail_words, vlen_of};
-use btf_types::FileSections;
+use btf_raw::info::{flag_of, has_item_names, is_struct, item_words, tail_words};
+use btf_types::{FileSections, Record};
 use std::alloc::{AllocError, Allocator};
 
 /// The canonical word info of a record: kind_flag of a STRUCT or UNION is 0 if no member has a
 /// width.
-fn canonical_info(sections: &FileSections<'_>, pos: usize, info: u32) -> u32
-    requires record { HasRecord sections.now pos }
-    requires own { info ≡ info_word (frame_in sections.now pos) }
-    ensures { result ≡ record_info (record_in sections.now pos) }
+fn canonical_info(this: &Record) -> u32
+    requires { IsFrame this.now }
+    ensures { (strings : List ℕ) → ReadsRecord strings this.now
+        → result ≡ record_info (record_of strings this.now) }
 {
-    if flag_of(info) == 0 || !is_struct(kind_of(info)) {
+    let info = this.word(1);
+    if flag_of(info) == 0 || !is_struct(this.kind()) {
         return info;
     }
-    if sections.has_bit_fields(pos, info) {
+    if this.has_bit_fields() {
         info
     } else {
         info & 0x7fff_ffff
@@ -41,24 +42,22 @@ fn canonical_info(sections: &FileSections<'_>, pos: usize, info: u32) -> u32
 fn push_item<A: Allocator>(
     out: &mut Vec<u8, A>,
     to: Order,
-    sections: &FileSections<'_>,
-    pos: usize,
+    this: &Record,
     at: usize,
     size: usize,
     name: u32,
 ) -> Result<(), AllocError>
-    requires record { HasRecord sections.now pos }
-    requires there { at + size ≤ length (frame_in sections.now pos) }
+    requires there { at + size ≤ length this.now }
+    requires few { at < 2 ^ 20 }
     requires size { (size ≡ 2) ⊎ (size ≡ 3) }
-    ensures { let word = slice_index (frame_in sections.now pos) in
-        OnOk result (out.new.items
+    ensures { let word = slice_index this.now in OnOk result (out.new.items
         ≡ out.old.items ++ bytes_of to (take size (name ∷ word (at + 1) ∷ word (at + 2) ∷ []))) }
 {
-    let second = sections.word(pos, at + 1);
+    let second = this.word(at + 1);
     if size == 2 {
         return push_words(out, to, &[name, second]);
     }
-    push_words(out, to, &[name, second, sections.word(pos, at + 2)])
+    push_words(out, to, &[name, second, this.word(at + 2)])
 }
 
 /// Appends the items of a record. Each item has `size` words, and the first is its name_off.
@@ -66,22 +65,20 @@ fn push_items<A: Allocator, B: Allocator + Copy>(
     out: &mut Vec<u8, A>,
     to: Order,
     names: &SharedPlaces<'_, B>,
-    sections: &FileSections<'_>,
-    pos: usize,
+    this: &Record,
     size: usize,
     count: u16,
 ) -> Result<(), AllocError>
-    requires record { HasRecord sections.now pos }
-    requires noted { HasNotedNames names.now sections.now pos }
-    requires items { HasNamedItems (frame_in sections.now pos) size count }
-    ensures { OnOk result (out.new.items
-        ≡ out.old.items ++ bytes_of to (record_items (shared_place (placed_texts names.now))
-        (record_in sections.now pos))) }
+    requires reads { ReadsRecord names.now.strings this.now }
+    requires noted { HasNotedNames names.now this.now }
+    requires items { HasNamedItems this.now size count }
+    ensures { OnOk result (out.new.items ≡ out.old.items
+        ++ bytes_of to (record_items (placed names.now) (record_of names.now.strings this.now))) }
 {
     for k in 0..usize::from(count) {
         let at = 3 + size * k;
-        let name = names.place(sections.word(pos, at));
-        push_item(out, to, sections, pos, at, size, name)?;
+        let name = names.place(this.word(at));
+        push_item(out, to, this, at, size, name)?;
     }
     Ok(())
 }
@@ -90,66 +87,57 @@ fn push_items<A: Allocator, B: Allocator + Copy>(
 fn push_rest<A: Allocator>(
     out: &mut Vec<u8, A>,
     to: Order,
-    sections: &FileSections<'_>,
-    pos: usize,
+    this: &Record,
     count: usize,
 ) -> Result<(), AllocError>
-    requires record { HasRecord sections.now pos }
-    requires all { 3 + count ≡ length (frame_in sections.now pos) }
-    ensures { OnOk result (out.new.items
-        ≡ out.old.items ++ bytes_of to (drop 3 (frame_in sections.now pos))) }
+    requires all { 3 + count ≡ length this.now }
+    requires few { count < 2 ^ 20 }
+    ensures { OnOk result (out.new.items ≡ out.old.items ++ bytes_of to (drop 3 this.now)) }
 {
     for k in 0..count {
-        push32(out, to, sections.word(pos, 3 + k))?;
+        push32(out, to, this.word(3 + k))?;
     }
     Ok(())
 }
 
-/// Appends the words after the third of the record at `pos` of the types.
+/// Appends the words after the third of a record.
 fn push_tail<A: Allocator, B: Allocator + Copy>(
     out: &mut Vec<u8, A>,
     to: Order,
     names: &SharedPlaces<'_, B>,
-    sections: &FileSections<'_>,
-    pos: usize,
-    info: u32,
+    this: &Record,
 ) -> Result<(), AllocError>
-    requires record { HasRecord sections.now pos }
-    requires noted { HasNotedNames names.now sections.now pos }
-    requires own { info ≡ info_word (frame_in sections.now pos) }
-    ensures { OnOk result (out.new.items
-        ≡ out.old.items ++ bytes_of to (record_tail (shared_place (placed_texts names.now))
-        (record_in sections.now pos))) }
+    requires reads { ReadsRecord names.now.strings this.now }
+    requires noted { HasNotedNames names.now this.now }
+    ensures { OnOk result (out.new.items ≡ out.old.items
+        ++ bytes_of to (record_tail (placed names.now) (record_of names.now.strings this.now))) }
 {
-    let kind = kind_of(info);
-    let vlen = vlen_of(info);
+    let kind = this.kind();
+    let vlen = this.vlen();
     if has_item_names(kind) {
-        push_items(out, to, names, sections, pos, item_words(kind), vlen)
+        push_items(out, to, names, this, item_words(kind), vlen)
     } else {
-        push_rest(out, to, sections, pos, tail_words(kind, vlen))
+        push_rest(out, to, this, tail_words(kind, vlen))
     }
 }
 
-/// Appends the words of the record at `pos` of the types.
+/// Appends the words of a record.
 fn push_record<A: Allocator, B: Allocator + Copy>(
     out: &mut Vec<u8, A>,
     to: Order,
     names: &SharedPlaces<'_, B>,
-    sections: &FileSections<'_>,
-    pos: usize,
+    this: &Record,
 ) -> Result<(), AllocError>
-    requires record { HasRecord sections.now pos }
-    requires noted { HasNotedNames names.now sections.now pos }
-    ensures { OnOk result (out.new.items
-        ≡ out.old.items ++ bytes_of to (record_words (shared_place (placed_texts names.now))
-        (record_in sections.now pos))) }
+    requires reads { ReadsRecord names.now.strings this.now }
+    requires noted { HasNotedNames names.now this.now }
+    ensures { OnOk result (out.new.items ≡ out.old.items
+        ++ bytes_of to (record_words (placed names.now) (record_of names.now.strings this.now))) }
 {
-    let name = names.place(sections.word(pos, 0));
-    let info = sections.word(pos, 1);
-    let third = sections.word(pos, 2);
-    let canonical = canonical_info(sections, pos, info);
+    let name = names.place(this.word(0));
+    let third = this.word(2);
+    let canonical = canonical_info(this);
     push_words(out, to, &[name, canonical, third])?;
-    push_tail(out, to, names, sections, pos, info)
+    push_tail(out, to, names, this)
 }
 
 /// Appends the words of all records.
@@ -162,12 +150,12 @@ pub(crate) fn push_records<A: Allocator, B: Allocator + Copy>(
     requires table { AreTable sections.now }
     requires strings { names.now.strings ≡ sections.now.strings.now }
     requires noted { All (Contains names.now.offsets) (all_offsets (frames_of sections.now)) }
-    ensures { OnOk result (out.new.items
-        ≡ out.old.items ++ section_of to (map (record_words (shared_place (placed_texts names.now)))
-        (records_of sections.now))) }
+    ensures { OnOk result (out.new.items ≡ out.old.items
+        ++ section_of to (map (record_words (placed names.now)) (records_of sections.now))) }
 {
     for pos in sections.places {
-        push_record(out, to, names, sections, *pos as usize)?;
+        let this = sections.record_at(*pos as usize);
+        push_record(out, to, names, &this)?;
     }
     Ok(())
 }

@@ -1,85 +1,87 @@
-use Rattle.std.proofs.Common.{◌≡◌, ℕ, ◌+◌, ◌*◌, ◌<◌, Bool, None, Some, arith}
+use Rattle.std.proofs.Common.{◌≡◌, ℕ, ◌+◌, ◌*◌, ◌<◌, Bool, List, None, Some, arith}
 use Rattle.std.specs.Prelude.{IsTrue, slice_index}
 use Rattle.btf_raw.specs.Kinds.{is_struct}
-use Rattle.btf_types.specs.declared.judge.judged_record.JudgedRecord.{JudgedRecord}
+use Rattle.btf_raw.specs.Frames.{IsFrame, kind, vlen, flag}
 use Rattle.btf_types.specs.declared.tables.section.Section.{Section}
 use Rattle.btf_types.specs.judge.Checks.{NoCause}
 use Rattle.btf_types.specs.judge.NameFaults.{ItemNameFault, MemberTypeFault}
-use Rattle.btf_types.specs.judge.RecordFaults.{RecordIs, BitFieldsAre, NoneWithin}
-use Rattle.btf_types.specs.Sections.{facts_in, frame_of}
+use Rattle.btf_types.specs.judge.RecordFaults.{BitFieldsAre, NoneWithin}
+use Rattle.btf_types.specs.Sections.{facts_in}
 use Rattle.btf_types.proofs.JudgeLemmas.Roles.{ItemName, MemberType, MemberPlace}
 use Rattle.btf_types.proofs.JudgeLemmas.RecordSteps.{none_yet, first_at, none_at, members_end}
 use Rattle.btf_types.proofs.JudgeLemmas.RoleSteps.{place_judged, type_judged}
 use Rattle.btf_types.proofs.JudgeLemmas.WordRoles.{member_name_role, member_type_role, member_place_role}
 use Rattle.btf_types.proofs.judge.items.member_fault.Goals as goal
 
-pub word-name-requires-clause-there : goal.word-name-requires-clause-there
-word-name-requires-clause-there c = let end = members_end c.requires.this c.requires.kind in omega arith
+pub word-name-requires : goal.word-name-requires
+word-name-requires c = let end = members_end c.requires.frame c.requires.kind in omega arith
 
-pub word-target-requires-clause-there : goal.word-target-requires-clause-there
-word-target-requires-clause-there c = let end = members_end c.requires.this c.requires.kind in omega arith
+pub word-target-requires : goal.word-target-requires
+word-target-requires c = let end = members_end c.requires.frame c.requires.kind in omega arith
 
-pub word-place-requires-clause-there : goal.word-place-requires-clause-there
-word-place-requires-clause-there c = let end = members_end c.requires.this c.requires.kind in omega arith
+pub word-place-requires : goal.word-place-requires
+word-place-requires c = let end = members_end c.requires.frame c.requires.kind in omega arith
 
 pub returns-in-Some : goal.returns-in-Some
 returns-in-Some c =
-    let is = c.requires.this in
+    let is = c.requires.frame in
     let end = members_end is c.requires.kind in
     let k = c.args.k in
-    first_at is (3 + 3 * k) _ (3 + 3 * k) _ ItemName _ (omega arith) (omega arith) (omega arith) (none_yet is (3 + 3 * k)) c.word-name.ensures
+    first_at c.args.section.now is (3 + 3 * k) _ (3 + 3 * k) _ ItemName _ (omega arith) (omega arith) (omega arith) (none_yet c.args.section.now is (3 + 3 * k)) c.word-name.ensures
     (member_name_role _ k c.requires.kind) c.in-Some.ensures
 
 -- a member's name without a fault, and its type after that
-module _ {s : Section} {r : JudgedRecord} (is : RecordIs s r) (struct : IsTrue (is_struct r.header.kind)) (k : ℕ) (low : k < r.header.vlen) where
-  before_type : (name : ℕ) → name ≡ slice_index (frame_of s.file r.pos) (3 + 3 * k) → NoCause (ItemNameFault s.file.strings.now name)
-      → NoneWithin s r.pos (3 + 3 * k) (4 + 3 * k)
+module _ (s : Section) {f : List ℕ} (is : IsFrame f) (struct : IsTrue (is_struct (kind f))) (k : ℕ) (low : k < vlen f) where
+  before_type : (name : ℕ) → name ≡ slice_index f (3 + 3 * k) → NoCause (ItemNameFault s.file.strings.now name)
+      → NoneWithin s f (3 + 3 * k) (4 + 3 * k)
   before_type name name-is none =
       let end = members_end is struct in
-      none_at is (3 + 3 * k) (3 + 3 * k) (4 + 3 * k) name ItemName (omega arith) (omega arith) (none_yet is (3 + 3 * k)) name-is (member_name_role r.header.kind k struct) none
+      none_at s is (3 + 3 * k) (3 + 3 * k) (4 + 3 * k) name ItemName (omega arith) (omega arith) (none_yet s is (3 + 3 * k)) name-is (member_name_role (kind f) k struct) none
 
-  before_place : (target : ℕ) (bit_fields : Bool) → NoneWithin s r.pos (3 + 3 * k) (4 + 3 * k) → target ≡ slice_index (frame_of s.file r.pos) (4 + 3 * k)
-      → BitFieldsAre (frame_of s.file r.pos) bit_fields → NoCause (MemberTypeFault (facts_in s) bit_fields target) → NoneWithin s r.pos (3 + 3 * k) (5 + 3 * k)
+  before_place : (target : ℕ) (bit_fields : Bool) → NoneWithin s f (3 + 3 * k) (4 + 3 * k) → target ≡ slice_index f (4 + 3 * k)
+      → BitFieldsAre f bit_fields → NoCause (MemberTypeFault (facts_in s) bit_fields target) → NoneWithin s f (3 + 3 * k) (5 + 3 * k)
   before_place target bit_fields before target-is bits none =
       let end = members_end is struct in
-      none_at is (3 + 3 * k) (4 + 3 * k) (5 + 3 * k) target MemberType (omega arith) (omega arith) before target-is (member_type_role r.header.kind k struct)
-      (type_judged (facts_in s) (frame_of s.file r.pos) bit_fields target None bits none)
+      none_at s is (3 + 3 * k) (4 + 3 * k) (5 + 3 * k) target MemberType (omega arith) (omega arith) before target-is (member_type_role (kind f) k struct)
+      (type_judged (facts_in s) f bit_fields target None bits none)
 
 pub returns-in-Some-member_type_fault : goal.returns-in-Some-member_type_fault
 returns-in-Some-member_type_fault c =
-    let is = c.requires.this in
+    let is = c.requires.frame in
     let s = c.args.section.now in
     let end = members_end is c.requires.kind in
     let k = c.args.k in
     let cause = c.in-Some-member_type_fault.cause in
-    let before = before_type is c.requires.kind k c.requires.there c.word-name.result c.word-name.ensures c.in_default.ensures in
-    first_at is (3 + 3 * k) (6 + 3 * k) (4 + 3 * k) c.word-target.result MemberType cause (omega arith) (omega arith) (omega arith) before c.word-target.ensures
+    let before = before_type c.args.section.now is c.requires.kind k c.requires.there c.word-name.result c.word-name.ensures c.in_default.ensures in
+    first_at c.args.section.now is (3 + 3 * k) (6 + 3 * k) (4 + 3 * k) c.word-target.result MemberType cause (omega arith) (omega arith) (omega arith) before c.word-target.ensures
     (member_type_role _ k c.requires.kind)
-    (type_judged (facts_in s) (frame_of s.file c.args.this.now.pos) c.args.bit_fields c.word-target.result (Some cause) c.requires.bit_fields c.in-Some-member_type_fault.ensures)
+    (type_judged (facts_in s) c.args.this.now c.args.bit_fields c.word-target.result (Some cause) c.requires.bit_fields c.in-Some-member_type_fault.ensures)
 
 pub returns-in-Some-member_place_fault : goal.returns-in-Some-member_place_fault
 returns-in-Some-member_place_fault c =
-    let is = c.requires.this in
-    let header = c.args.this.now.header in
+    let is = c.requires.frame in
+    let f = c.args.this.now in
     let end = members_end is c.requires.kind in
     let k = c.args.k in
     let cause = c.in-Some-member_place_fault.cause in
     let place = c.word-place.result in
-    let before = before_type is c.requires.kind k c.requires.there c.word-name.result c.word-name.ensures c.in_default.ensures in
-    let before_this = before_place is c.requires.kind k c.requires.there c.word-target.result c.args.bit_fields before c.word-target.ensures c.requires.bit_fields c.in_default-member_type_fault.ensures in
-    first_at is (3 + 3 * k) (6 + 3 * k) (5 + 3 * k) place MemberPlace cause (omega arith) (omega arith) (omega arith) before_this c.word-place.ensures
+    let before = before_type c.args.section.now is c.requires.kind k c.requires.there c.word-name.result c.word-name.ensures c.in_default.ensures in
+    let before_this = before_place c.args.section.now is c.requires.kind k c.requires.there c.word-target.result c.args.bit_fields before c.word-target.ensures c.requires.bit_fields c.in_default-member_type_fault.ensures in
+    first_at c.args.section.now is (3 + 3 * k) (6 + 3 * k) (5 + 3 * k) place MemberPlace cause (omega arith) (omega arith) (omega arith) before_this c.word-place.ensures
     (member_place_role _ k c.requires.kind)
-    (place_judged header.size_or_type header.kind_flag place _ _ (Some cause) c.bit_offset_of-bit_offset.ensures c.width_of-width.ensures c.in-Some-member_place_fault.ensures)
+    (place_judged _ (flag f) place _ _ (Some cause) (rw c.kind_flag-flag.ensures at c.bit_offset_of-bit_offset.ensures) (rw c.kind_flag-flag.ensures at c.width_of-width.ensures)
+    (rw c.word.ensures at c.in-Some-member_place_fault.ensures))
 
 pub returns-in-None : goal.returns-in-None
 returns-in-None c =
-    let is = c.requires.this in
-    let header = c.args.this.now.header in
+    let is = c.requires.frame in
+    let f = c.args.this.now in
     let end = members_end is c.requires.kind in
     let k = c.args.k in
     let place = c.word-place.result in
-    let before = before_type is c.requires.kind k c.requires.there c.word-name.result c.word-name.ensures c.in_default.ensures in
-    let before_this = before_place is c.requires.kind k c.requires.there c.word-target.result c.args.bit_fields before c.word-target.ensures c.requires.bit_fields c.in_default-member_type_fault.ensures in
-    none_at is (3 + 3 * k) (5 + 3 * k) (6 + 3 * k) place MemberPlace (omega arith) (omega arith) before_this c.word-place.ensures
+    let before = before_type c.args.section.now is c.requires.kind k c.requires.there c.word-name.result c.word-name.ensures c.in_default.ensures in
+    let before_this = before_place c.args.section.now is c.requires.kind k c.requires.there c.word-target.result c.args.bit_fields before c.word-target.ensures c.requires.bit_fields c.in_default-member_type_fault.ensures in
+    none_at c.args.section.now is (3 + 3 * k) (5 + 3 * k) (6 + 3 * k) place MemberPlace (omega arith) (omega arith) before_this c.word-place.ensures
     (member_place_role _ k c.requires.kind)
-    (place_judged header.size_or_type header.kind_flag place _ _ None c.bit_offset_of-bit_offset.ensures c.width_of-width.ensures c.in-None.ensures)
+    (place_judged _ (flag f) place _ _ None (rw c.kind_flag-flag.ensures at c.bit_offset_of-bit_offset.ensures) (rw c.kind_flag-flag.ensures at c.width_of-width.ensures)
+    (rw c.word.ensures at c.in-None.ensures))

@@ -3,4 +3,4 @@ use Rattle.btf_types.specs.judge.RecordFaults.{NoneWithin}
 use Rattle.btf_types.proofs.judge.items.values_fault.Given as goal
 
 abbrev pub invariant-loop-k : goal.invariant-loop-k
-invariant-loop-k l = NoneWithin l.section l.this.pos 3 (3 + l.step * l.k)
+invariant-loop-k l = NoneWithin l.section l.this 3 (3 + l.step * l.k)

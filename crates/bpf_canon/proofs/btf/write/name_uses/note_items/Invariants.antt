@@ -1,7 +1,6 @@
 use Rattle.std.proofs.Common.{◌≡◌}
 use Rattle.btf_types.specs.Reading.{tabulate}
 use Rattle.bpf_canon.specs.btf.strings.FirstUses.{noted_all}
-use Rattle.bpf_canon.specs.btf.write.KeptFrames.{frame_in}
 use Rattle.bpf_canon.specs.btf.write.NameOffsets.{item_word}
 use Rattle.bpf_canon.proofs.btf.write.name_uses.note_items.Given as goal
 
@@ -9,5 +8,5 @@ use Rattle.bpf_canon.proofs.btf.write.name_uses.note_items.Given as goal
 abbrev pub invariant-loop-k : goal.invariant-loop-k
 invariant-loop-k g l = record {
   section : l.uses.section_len ≡ l.initial.uses.section_len;
-  offsets : l.uses.offsets ≡ noted_all l.initial.uses.offsets (tabulate (item_word (frame_in l.sections l.pos)) l.k);
+  offsets : l.uses.offsets ≡ noted_all l.initial.uses.offsets (tabulate (item_word l.this) l.k);
 }

@@ -1,20 +1,17 @@
-use Rattle.std.proofs.Common.{◌≡◌, sym, ap, ◌∙◌, arith}
-use Rattle.btf_raw.specs.Kinds.{item_words, kind_of, vlen_of, has_item_names}
-use Rattle.btf_raw.specs.Frames.{kind}
-use Rattle.bpf_canon.specs.btf.write.KeptFrames.{frame_in}
-use Rattle.bpf_canon.proofs.BtfLemmas.Names.NoteSteps.{own_within}
+use Rattle.std.proofs.Common.{sym, ap, ◌∙◌, subst, arith}
+use Rattle.btf_raw.specs.Kinds.{item_words, has_item_names}
+use Rattle.btf_raw.specs.Frames.{name_word}
+use Rattle.bpf_canon.specs.btf.write.NameOffsets.{IsBelow}
+use Rattle.bpf_canon.proofs.BtfLemmas.Write.RecordNames.{own_offset}
 use Rattle.bpf_canon.proofs.btf.write.name_uses.note_record.Goals as goal
 
 pub note-requires : goal.note-requires
 note-requires g c =
-    let s = c.args.sections.now in
-    omega (arith, c.word.ensures, own_within s.order s.types.now s.strings.now c.args.pos c.requires.record)
+    omega (arith, c.word.ensures, own_offset (IsBelow c.args.uses.now.section_len) c.args.this.now c.requires.inside)
 
 pub note_items-requires-clause-items : goal.note_items-requires-clause-items
-note_items-requires-clause-items g c =
-    let kind_is : c.kind_of-kind.result ≡ kind (frame_in c.args.sections.now c.args.pos) = c.kind_of-kind.ensures ∙ ap kind_of c.word-info.ensures in
-    record {
-      named = sym (c.has_item_names.ensures ∙ ap has_item_names kind_is) ∙ c.if-has_item_names.true;
-      words = sym (c.item_words.ensures.words ∙ ap item_words kind_is);
-      all = c.vlen_of.ensures ∙ ap vlen_of c.word-info.ensures;
-    }
+note_items-requires-clause-items g c = record {
+  named = sym (c.has_item_names.ensures ∙ ap has_item_names c.kind-kind.ensures) ∙ c.if-has_item_names.true;
+  words = sym (c.item_words.ensures.words ∙ ap item_words c.kind-kind.ensures);
+  all = c.vlen.ensures;
+}

@@ -1,13 +1,12 @@
 use Rattle.std.proofs.Common.{◌≡◌, ◌++◌, map, take}
 use Rattle.btf_raw.specs.Frames.{section_of}
-use Rattle.btf_types.specs.strings.SharedNames.{shared_place}
 use Rattle.btf_types.specs.Reading.{records_at}
 use Rattle.bpf_canon.specs.btf.CanonicalBtf.{record_words}
-use Rattle.bpf_canon.specs.btf.strings.NamesByPlace.{placed_texts}
+use Rattle.bpf_canon.specs.btf.write.NameOffsets.{placed}
 use Rattle.bpf_canon.proofs.btf.write.records.push_records.Given as goal
 
 -- the records so far
 abbrev pub invariant-loop-pos : goal.invariant-loop-pos
 invariant-loop-pos g l =
     l.out.items ≡ l.initial.out.items
-    ++ section_of l.to (map (record_words (shared_place (placed_texts l.names))) (records_at l.sections.order l.sections.types.now l.sections.strings.now (take l.pos-index l.sections.places.now)))
+    ++ section_of l.to (map (record_words (placed l.names)) (records_at l.sections.order l.sections.types.now l.sections.strings.now (take l.pos-index l.sections.places.now)))

@@ -2,18 +2,17 @@ use Rattle.std.proofs.Common.{◌++◌, List, ℕ, drop, ap, ◌∙◌, arith}
 use Rattle.std.proofs.lemmas.List.{take_all, length-drop}
 use Rattle.bpf_words.specs.Words.{word32}
 use Rattle.btf_raw.specs.Frames.{bytes_of}
-use Rattle.bpf_canon.specs.btf.write.KeptFrames.{frame_in}
 use Rattle.bpf_canon.proofs.BtfLemmas.Write.RecordWords.{rest_more}
 use Rattle.bpf_canon.proofs.btf.write.records.push_rest.Goals as goal
 
 pub loop-k-preserved : goal.loop-k-preserved
 loop-k-preserved g c =
-    let f = frame_in c.args.sections.now c.args.pos in
+    let f = c.args.this.now in
     c.in_ok-push32.ensures.ok
     ∙ ap (λ (t : List ℕ). t ++ word32 c.args.to c.word.result) c.loop-k.invariant
     ∙ rest_more c.args.to c.args.out.now.items f c.loop-k.k c.word.result (omega arith) c.word.ensures
 
 pub returns : goal.returns
 returns g c =
-    let f = frame_in c.args.sections.now c.args.pos in
+    let f = c.args.this.now in
     c.loop-k.invariant ∙ ap (λ (t : List ℕ). c.args.out.now.items ++ bytes_of c.args.to t) (take_all c.loop-k.k (drop 3 f) (omega (arith, length-drop 3 f)))

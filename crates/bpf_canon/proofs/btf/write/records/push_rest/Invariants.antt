@@ -1,8 +1,7 @@
 use Rattle.std.proofs.Common.{◌≡◌, ◌++◌, take, drop}
 use Rattle.btf_raw.specs.Frames.{bytes_of}
-use Rattle.bpf_canon.specs.btf.write.KeptFrames.{frame_in}
 use Rattle.bpf_canon.proofs.btf.write.records.push_rest.Given as goal
 
 -- the words so far
 abbrev pub invariant-loop-k : goal.invariant-loop-k
-invariant-loop-k g l = l.out.items ≡ l.initial.out.items ++ bytes_of l.to (take l.k (drop 3 (frame_in l.sections l.pos)))
+invariant-loop-k g l = l.out.items ≡ l.initial.out.items ++ bytes_of l.to (take l.k (drop 3 l.this))

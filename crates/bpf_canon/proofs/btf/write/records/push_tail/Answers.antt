@@ -1,48 +1,46 @@
 use Rattle.std.proofs.Common.{◌≡◌, ◌+◌, ◌++◌, ℕ, List, true, false, sym, ap, ◌∙◌}
 use Rattle.std.proofs.lemmas.Result.{on_ok_weaker}
-use Rattle.btf_raw.specs.Kinds.{item_words, tail_words, kind_of, vlen_of, has_item_names}
+use Rattle.btf_raw.specs.Kinds.{item_words, tail_words, has_item_names}
 use Rattle.btf_raw.specs.Frames.{bytes_of, kind, vlen}
-use Rattle.btf_types.specs.strings.SharedNames.{shared_place}
-use Rattle.bpf_canon.specs.btf.write.KeptFrames.{frame_in}
-use Rattle.bpf_canon.specs.btf.strings.NamesByPlace.{placed_texts}
+use Rattle.bpf_canon.specs.btf.write.NameOffsets.{placed}
 use Rattle.bpf_canon.proofs.BtfLemmas.Write.RecordWords.{rest_words, items_are_tail}
 use Rattle.bpf_canon.proofs.btf.write.records.push_tail.Goals as goal
 
 pub push_items-requires-clause-items : goal.push_items-requires-clause-items
 push_items-requires-clause-items g c =
-    let kind_is : c.kind_of-kind.result ≡ kind (frame_in c.args.sections.now c.args.pos) = c.kind_of-kind.ensures ∙ ap kind_of c.requires.own in
+    let kind_is : c.kind-kind.result ≡ kind c.args.this.now = c.kind-kind.ensures in
     record {
       named = sym (c.has_item_names.ensures ∙ ap has_item_names kind_is) ∙ c.if-has_item_names.true;
       words = sym (c.item_words.ensures.words ∙ ap item_words kind_is);
-      all = c.vlen_of-vlen.ensures ∙ ap vlen_of c.requires.own;
+      all = c.vlen-vlen.ensures;
     }
 
 pub push_rest-requires-clause-all : goal.push_rest-requires-clause-all
 push_rest-requires-clause-all g c =
-    let f = frame_in c.args.sections.now c.args.pos in
-    let kind_is : c.kind_of-kind.result ≡ kind f = c.kind_of-kind.ensures ∙ ap kind_of c.requires.own in
-    let vlen_is : c.vlen_of-vlen.result ≡ vlen f = c.vlen_of-vlen.ensures ∙ ap vlen_of c.requires.own in
-    let words : c.tail_words.result ≡ tail_words (kind f) (vlen f) = c.tail_words.ensures.words ∙ ap (λ (k : ℕ). tail_words k c.vlen_of-vlen.result) kind_is ∙ ap (tail_words (kind f)) vlen_is in
-    ap (λ (n : ℕ). 3 + n) words ∙ sym c.requires.record.frame.size
+    let f = c.args.this.now in
+    let kind_is : c.kind-kind.result ≡ kind f = c.kind-kind.ensures in
+    let vlen_is : c.vlen-vlen.result ≡ vlen f = c.vlen-vlen.ensures in
+    let words : c.tail_words.result ≡ tail_words (kind f) (vlen f) = c.tail_words.ensures.words ∙ ap (λ (k : ℕ). tail_words k c.vlen-vlen.result) kind_is ∙ ap (tail_words (kind f)) vlen_is in
+    ap (λ (n : ℕ). 3 + n) words ∙ sym c.requires.reads.frame.size
 
 pub returns-then-has_item_names : goal.returns-then-has_item_names
 returns-then-has_item_names g c =
-    let s = c.args.sections.now in
-    let f = frame_in s c.args.pos in
-    let place = shared_place (placed_texts c.args.names.now) in
-    let kind_is : c.kind_of-kind.result ≡ kind f = c.kind_of-kind.ensures ∙ ap kind_of c.requires.own in
+    let strings = c.args.names.now.strings in
+    let f = c.args.this.now in
+    let place = placed c.args.names.now in
+    let kind_is : c.kind-kind.result ≡ kind f = c.kind-kind.ensures in
     let has : has_item_names (kind f) ≡ true = sym (c.has_item_names.ensures ∙ ap has_item_names kind_is) ∙ c.if-has_item_names.true in
     on_ok_weaker c.push_items.result
-    (λ e. e ∙ ap (λ (t : List ℕ). c.args.out.now.items ++ bytes_of c.args.to t) (items_are_tail place s.strings.now f c.requires.record.frame has))
+    (λ e. e ∙ ap (λ (t : List ℕ). c.args.out.now.items ++ bytes_of c.args.to t) (items_are_tail place strings f c.requires.reads.frame has))
     c.push_items.ensures
 
 pub returns-else-has_item_names : goal.returns-else-has_item_names
 returns-else-has_item_names g c =
-    let s = c.args.sections.now in
-    let f = frame_in s c.args.pos in
-    let place = shared_place (placed_texts c.args.names.now) in
-    let kind_is : c.kind_of-kind.result ≡ kind f = c.kind_of-kind.ensures ∙ ap kind_of c.requires.own in
+    let strings = c.args.names.now.strings in
+    let f = c.args.this.now in
+    let place = placed c.args.names.now in
+    let kind_is : c.kind-kind.result ≡ kind f = c.kind-kind.ensures in
     let none : has_item_names (kind f) ≡ false = sym (c.has_item_names.ensures ∙ ap has_item_names kind_is) ∙ c.if-has_item_names.false in
     on_ok_weaker c.push_rest.result
-    (λ e. e ∙ ap (λ (t : List ℕ). c.args.out.now.items ++ bytes_of c.args.to t) (rest_words place s.strings.now f c.requires.record.frame c.requires.record.spelled none))
+    (λ e. e ∙ ap (λ (t : List ℕ). c.args.out.now.items ++ bytes_of c.args.to t) (rest_words place strings f c.requires.reads.frame c.requires.reads.spelled none))
     c.push_rest.ensures

@@ -1,15 +1,22 @@
-use Rattle.std.proofs.Common.{◌-◌, ◌<◌, length}
-use Rattle.btf_types.proofs.TableLemmas.TableReads.{has_record_at, place_inside, record_there}
+use Rattle.std.proofs.Common.{List, ℕ, subst, sym}
+use Rattle.btf_types.specs.tables.PlaceWords.{ReadsRecord}
+use Rattle.btf_types.proofs.TableLemmas.TableReads.{placed_record}
 use Rattle.btf_types.proofs.tables.section_table.SectionTable.head.Goals as goal
 
-pub head_at-requires-clause-is_there : goal.head_at-requires-clause-is_there
-head_at-requires-clause-is_there c =
+pub record_at-this-requires : goal.record_at-this-requires
+record_at-this-requires c =
     let s = c.self.inside.file in
-    let low : c.args.id - 1 < length s.places.now = place_inside s.order s.types.now s.strings.now s.places.now c.args.self.now c.args.id c.self.view_is c.requires.first c.requires.last in
-    has_record_at s.order s.types.now s.strings.now s.places.now (c.args.id - 1) c.self.invariant.table low
+    let placed = placed_record s c.args.self.now c.args.id c.self.invariant.table c.self.view_is c.requires.first c.requires.last in
+    record { inside = placed.has.inside; frame = placed.has.reads.frame }
+
+pub head_of-requires-clause-reads : goal.head_of-requires-clause-reads
+head_of-requires-clause-reads c =
+    let s = c.self.inside.file in
+    let placed = placed_record s c.args.self.now c.args.id c.self.invariant.table c.self.view_is c.requires.first c.requires.last in
+    subst (λ (f : List ℕ). ReadsRecord s.strings.now f) (sym c.record_at-this.ensures) placed.has.reads
 
 pub returns : goal.returns
 returns c =
     let s = c.self.inside.file in
-    let low : c.args.id - 1 < length s.places.now = place_inside s.order s.types.now s.strings.now s.places.now c.args.self.now c.args.id c.self.view_is c.requires.first c.requires.last in
-    rw (record_there s.order s.types.now s.strings.now s.places.now c.args.self.now c.args.id c.self.view_is low) c.head_at.ensures
+    let placed = placed_record s c.args.self.now c.args.id c.self.invariant.table c.self.view_is c.requires.first c.requires.last in
+    rw (placed.is, ← c.record_at-this.ensures) c.head_of.ensures

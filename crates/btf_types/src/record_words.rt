@@ -1,0 +1,113 @@
+//! The words of a record of the type section (btf.rst section 2.2).
+
+ghost use Rattle.std.specs.Prelude.{◌≡◌, ◌+◌, ◌*◌, ◌<◌, ◌≤◌, length, slice_index};
+ghost use Rattle.btf_raw.specs.Frames as frames;
+ghost use Rattle.btf_raw.specs.Frames.{IsFrame};
+ghost use Rattle.btf_types.specs.Reading.{frame_at};
+ghost use Rattle.btf_types.specs.judge.RecordFaults.{BitFieldsAre};
+
+use bpf_words::{Order, get32};
+use btf_raw::info::{flag_of, is_struct, kind_of, tail_words, vlen_of};
+use std::marker::Model;
+
+/// A complete record of a type section, as words of 32 bits. Each is read where it is.
+#[derive(Drop)]
+pub struct Record<'a> {
+    order: Order,
+    types: &'a [u8],
+    /// Where the record begins, in bytes from the first of `types`.
+    pos: usize,
+    /// Its second word.
+    info: u32,
+}
+
+impl<'a> Model for Record<'a> {
+    ghost use Rattle.std.specs.Prelude.{ℕ, List};
+    ghost use Rattle.btf_types.specs.Reading.{frame_at};
+    ghost use Rattle.btf_types.specs.RecordWords.{AreWordsAt};
+
+    ghost Value = { List ℕ };
+
+    ghost view = { λ r. frame_at r.order r.types.now r.pos };
+
+    ghost invariant = { λ r. AreWordsAt r.order r.types.now r.pos r.info };
+}
+
+impl<'a> Record<'a> {
+    /// The record at `pos` of the types.
+    pub(crate) fn at(order: Order, types: &'a [u8], pos: usize) -> Record<'a>
+        requires { pos + 4 * length (frame_at order types.now pos) ≤ length types.now }
+        ensures { result ≡ frame_at order types.now pos }
+    {
+        Record {
+            order,
+            types,
+            pos,
+            info: get32(order, types, pos + 4),
+        }
+    }
+
+    /// Word `j`, from 0.
+    #[inline(always)]
+    pub fn word(&self, j: usize) -> u32
+        requires { j < length self.now }
+        ensures { result ≡ slice_index self.now j }
+    {
+        get32(self.order, self.types, self.pos + 4 * j)
+    }
+
+    /// Word `j`, from 0, or 0 past the last word.
+    pub(crate) fn word_or_zero(&self, j: usize) -> u32
+        ensures { result ≡ slice_index self.now j }
+    {
+        if j < self.words() { self.word(j) } else { 0 }
+    }
+
+    /// The number of words.
+    pub(crate) fn words(&self) -> usize
+        ensures { result ≡ length self.now }
+    {
+        3 + tail_words(kind_of(self.info), vlen_of(self.info))
+    }
+
+    /// The kind: bits 24 to 28 of the second word.
+    #[inline(always)]
+    pub fn kind(&self) -> u8
+        ensures { result ≡ frames.kind self.now }
+    {
+        kind_of(self.info)
+    }
+
+    /// The number of items, or the linkage of a FUNC: bits 0 to 15 of the second word.
+    #[inline(always)]
+    pub fn vlen(&self) -> u16
+        ensures { result ≡ frames.vlen self.now }
+    {
+        vlen_of(self.info)
+    }
+
+    /// kind_flag: bit 31 of the second word, 0 or 1.
+    #[inline(always)]
+    pub(crate) fn kind_flag(&self) -> u32
+        ensures { result ≡ frames.flag self.now }
+    {
+        flag_of(self.info)
+    }
+
+    /// Whether the record has a bit-field (btf.rst section 2.2.4): it is a STRUCT or UNION whose
+    /// kind_flag is 1, and the high 8 bits of some member's offset word, its width, aren't 0.
+    pub fn has_bit_fields(&self) -> bool
+        requires { IsFrame self.now }
+        ensures { BitFieldsAre self.now result }
+    {
+        if !is_struct(self.kind()) || self.kind_flag() == 0 {
+            return false;
+        }
+        for k in 0..usize::from(self.vlen()) {
+            if self.word(5 + 3 * k) >> 24 != 0 {
+                return true;
+            }
+        }
+        false
+    }
+}
