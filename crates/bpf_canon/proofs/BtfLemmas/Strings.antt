@@ -9,7 +9,7 @@ pub mod KeyBytes
 pub mod LongestSteps
 pub mod FoundHosts
 pub mod UsedSteps
-pub mod OffsetSetSteps
+pub mod MarkSteps
 pub mod InHostSteps
 pub mod PlacedHosts
 pub mod HostPlaceSteps

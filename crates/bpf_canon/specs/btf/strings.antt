@@ -4,7 +4,6 @@ pub mod NamesByPlace
 pub mod SuffixKeys
 pub mod SectionTexts
 pub mod UsedOffsets
-pub mod OffsetSet
 pub mod Ranks
 pub mod Longest
 pub mod InHost

@@ -8,7 +8,6 @@ pub(crate) mod first_uses;
 mod host_places;
 mod hosts_by_rank;
 mod longest;
-pub(crate) mod offset_set;
 pub(crate) mod places;
 mod ranked_texts;
 mod ranks;

@@ -57,12 +57,6 @@ marked_more offs marks o are inside =
       ];
     }
 
-pub noted_marked : (offs marks : List ℕ) (o : ℕ) → AreMarked offs marks → get_or marks o 0 ≢ 0 → offs ≡ noted offs o
-noted_marked offs marks o are s = sym (noted_known offs o (are.only o s))
-
-pub noted_unmarked : (offs marks : List ℕ) (o : ℕ) → AreMarked offs marks → get_or marks o 0 ≡ 0 → offs ++ o ∷ [] ≡ noted offs o
-noted_unmarked offs marks o are z = sym (noted_new offs o (λ c. are.marked o c z))
-
 -- what is kept of the names
 known_push : (xs : List (List ℕ)) (x : List ℕ) → Has xs x → kept (xs ++ x ∷ []) ≡ kept xs
 known_push xs [] h = kept_empty xs

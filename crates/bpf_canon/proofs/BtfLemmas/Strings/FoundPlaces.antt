@@ -16,11 +16,11 @@ use Rattle.btf_types.proofs.Members.{Has, Has-from_Contains, Contains-from_Has}
 use Rattle.btf_types.proofs.StringLemmas.Texts.{table_split}
 use Rattle.btf_types.proofs.StringLemmas.Longest.{longest_have_host}
 use Rattle.bpf_canon.specs.btf.strings.FirstUses.{AreMarked}
-use Rattle.bpf_canon.specs.btf.strings.UsedOffsets.{offset_number}
+use Rattle.bpf_canon.specs.btf.strings.UsedOffsets.{Used, offset_number}
 use Rattle.bpf_canon.specs.btf.strings.Longest.{IsUsed, IsWithin, AreLongestOf}
 use Rattle.bpf_canon.specs.btf.strings.SectionTexts.{text_in, HasKey}
 use Rattle.bpf_canon.specs.btf.strings.InHost.{no_host, host_at, AreInHosts}
-use Rattle.bpf_canon.specs.btf.strings.HostPlaces.{HasHost, AreHostPlaces, ArePlaced, GivePlaces}
+use Rattle.bpf_canon.specs.btf.strings.HostPlaces.{HasHost, AreHostPlaces, ArePlaced, name_place}
 use Rattle.bpf_canon.specs.declared.btf.strings.section_texts.SectionText.{SectionText}
 use Rattle.bpf_canon.specs.declared.btf.strings.hosts_by_rank.InHost.{InHost}
 use Rattle.bpf_canon.specs.declared.btf.strings.host_places.Span.{Span}
@@ -154,49 +154,36 @@ module _ (section slots offsets by_rank : List ℕ) (sorted : List (List ℕ)) (
   ]
 
 -- all of it together
-module _ (section slots offsets by_rank : List ℕ) (texts ordered : List SectionText) (in_hosts : List InHost) (spans : List Span) (len : ℕ) (marked : AreMarked offsets slots) (long : length slots ≡ length section)
-    (longest : AreLongestOf section slots texts) (perm : IsPermutation texts ordered) (up : IsSorted tail_cmp (map (text_in section) ordered)) (hosts_are : AreInHosts section slots (map (text_in section) ordered) in_hosts)
-    (host_places : AreHostPlaces section (map (text_in section) ordered) (map (text_from section) offsets) by_rank spans len) where
+module _ (section by_rank : List ℕ) (used : Used) (texts ordered : List SectionText) (in_hosts : List InHost) (spans : List Span) (len : ℕ) (marked : AreMarked used.offsets used.slots) (long : length used.slots ≡ length section)
+    (longest : AreLongestOf section used.slots texts) (perm : IsPermutation texts ordered) (up : IsSorted tail_cmp (map (text_in section) ordered)) (hosts_are : AreInHosts section used.slots (map (text_in section) ordered) in_hosts)
+    (host_places : AreHostPlaces section (map (text_in section) ordered) (map (text_from section) used.offsets) by_rank spans len) where
   abbrev in_order : List (List ℕ)
   in_order = map (text_in section) ordered
 
-  at : (off : ℕ) → Contains offsets off → HasHost section slots in_order (map (text_from section) offsets) in_hosts off
-  at off c = is_found section slots offsets texts ordered in_hosts marked long longest perm up hosts_are off c
+  at : (off : ℕ) → Contains used.offsets off → HasHost section used.slots in_order (map (text_from section) used.offsets) in_hosts off
+  at off c = is_found section used.slots used.offsets texts ordered in_hosts marked long longest perm up hosts_are off c
 
   -- each number is that of a name
-  record Named (k : ℕ) : Type 0 where
-    off : ℕ
-    named : Contains offsets off
-    number : offset_number slots off ≡ k
+  each_number : (P : InHost → Type 0) → ((off : ℕ) → Contains used.offsets off → P (host_at used.slots in_hosts off)) → All P in_hosts
+  each_number P is k d h =
+      let u = used_at used.slots (length used.slots) k (omega (arith, h, hosts_are.whole)) in
+      subst P (sym (get_or_default in_hosts k d no_host h ∙ ap (λ (j : ℕ). get_or in_hosts j no_host) (sym u.3))) (is u.0 (marked.only u.0 u.2))
 
-  named : (k : ℕ) → k < length in_hosts → Named k
-  named k h = let u = used_at slots (length slots) k (omega (arith, h, hosts_are.whole)) in record { off = u.0; named = marked.only u.0 u.2; number = u.3 }
+  pub all_ranked : All (λ (i : InHost). i.host < length by_rank) in_hosts
+  all_ranked = each_number (λ (i : InHost). i.host < length by_rank) (λ off c. host_ranked section used.slots used.offsets by_rank in_order in_hosts spans len host_places off c (at off c))
 
-  same_found : (k : ℕ) (d : InHost) (h : k < length in_hosts) → get_or in_hosts k d ≡ host_at slots in_hosts (named k h).off
-  same_found k d h = get_or_default in_hosts k d no_host h ∙ ap (λ (j : ℕ). get_or in_hosts j no_host) (sym (named k h).number)
+  pub all_fit : length (shared_table (map (text_from section) used.offsets)) < 2 ^ 32 → All (λ (i : InHost). name_place by_rank i < 2 ^ 32) in_hosts
+  all_fit room = each_number (λ (i : InHost). name_place by_rank i < 2 ^ 32) (λ off c. place_fits section used.slots used.offsets by_rank in_order in_hosts spans len host_places off c (at off c) room)
 
-  all_ranked : All (λ (i : InHost). i.host < length by_rank) in_hosts
-  all_ranked k d h =
-      let n = named k h in
-      subst (λ (i : InHost). i.host < length by_rank) (sym (same_found k d h)) (host_ranked section slots offsets by_rank in_order in_hosts spans len host_places n.off n.named (at n.off n.named))
-
-  all_fit : length (shared_table (map (text_from section) offsets)) < 2 ^ 32 → All (λ (i : InHost). get_or by_rank i.host 0 + i.before < 2 ^ 32) in_hosts
-  all_fit room k d h =
-      let n = named k h in
-      subst (λ (i : InHost). get_or by_rank i.host 0 + i.before < 2 ^ 32) (sym (same_found k d h)) (place_fits section slots offsets by_rank in_order in_hosts spans len host_places n.off n.named (at n.off n.named) room)
-
-  all_placed : ArePlaced section offsets slots (map (λ (i : InHost). get_or by_rank i.host 0 + i.before) in_hosts) spans len
+  pub all_placed : ArePlaced section used (map (name_place by_rank) in_hosts) spans len
   all_placed = record {
-    used = marked.marked;
-    numbers = length-map in_hosts (λ (i : InHost). get_or by_rank i.host 0 + i.before) ∙ hosts_are.whole;
+    marked = marked.marked;
+    numbers = length-map in_hosts (name_place by_rank) ∙ hosts_are.whole;
     place = λ off c.
-        let inside : offset_number slots off < length in_hosts = omega (arith, number_inside slots off (marked.marked off c), hosts_are.whole) in
-        get_or-map (λ (i : InHost). get_or by_rank i.host 0 + i.before) in_hosts (offset_number slots off) no_host 0 inside
-        ∙ place_found section slots offsets by_rank in_order in_hosts spans len host_places off c (at off c);
+        let inside : offset_number used.slots off < length in_hosts = omega (arith, number_inside used.slots off (marked.marked off c), hosts_are.whole) in
+        get_or-map (name_place by_rank) in_hosts (offset_number used.slots off) no_host 0 inside
+        ∙ place_found section used.slots used.offsets by_rank in_order in_hosts spans len host_places off c (at off c);
     are_spans = host_places.are_spans;
     texts = host_places.texts;
     whole = host_places.whole;
   }
-
-  pub give_places : length (shared_table (map (text_from section) offsets)) < 2 ^ 32 → GivePlaces section offsets slots in_hosts by_rank spans len
-  give_places room = record { ranked = all_ranked; fits = all_fit room; are_placed = all_placed }

@@ -1,5 +1,6 @@
 -- The offsets of a string section at which names begin, each once, in the order of first use.
-use Rattle.std.specs.Prelude.{◌≢◌, ℕ, nat_eq, List, [], ◌∷◌, ◌++◌, slice_index, if◌then◌else◌}
+use Rattle.std.specs.Prelude.{◌≡◌, ◌≢◌, ℕ, zero, suc, ◌+◌, ◌/◌, ◌%◌, nat_eq, List, [], ◌∷◌, ◌++◌, length, slice_index, if◌then◌else◌}
+use Rattle.std.specs.Int.{bit_at}
 use Rattle.std.specs.List.{list_any, Contains}
 
 -- an offset more goes last, where it isn't there yet
@@ -19,7 +20,21 @@ pub record Noted : Type 0 where
 abbrev pub nothing_noted : ℕ → Noted
 nothing_noted section_len = record { section_len = section_len; offsets = [] }
 
+-- the bit of an offset in words of 64
+abbrev pub mark_of : List ℕ → ℕ → ℕ
+mark_of words off = bit_at (slice_index words (off / 64)) (off % 64)
+
+-- the bits of the first n offsets
+abbrev pub slots_of : List ℕ → ℕ → List ℕ
+slots_of words zero = []
+slots_of words (suc n) = slots_of words n ++ mark_of words n ∷ []
+
 -- a byte of the section is marked exactly where its offset is noted
 pub record AreMarked (offsets marks : List ℕ) : Type 0 where
   pub marked : (off : ℕ) → Contains offsets off → slice_index marks off ≢ 0
   pub only : (off : ℕ) → slice_index marks off ≢ 0 → Contains offsets off
+
+-- the words have a bit for each byte of the section, which is set for the noted offsets
+pub record HaveMarks (section_len : ℕ) (words offsets : List ℕ) : Type 0 where
+  pub whole : length words ≡ section_len / 64 + 1
+  pub are_marked : AreMarked offsets (slots_of words section_len)

@@ -1,11 +1,11 @@
 -- The table of hosts, in the order of first use.
-use Rattle.std.specs.Prelude.{◌≡◌, ◌≢◌, ℕ, ◌+◌, ◌-◌, ◌^◌, ◌<◌, ◌≤◌, false, List, ◌++◌, length, map, take, drop, slice_index}
+use Rattle.std.specs.Prelude.{◌≡◌, ◌≢◌, ℕ, ◌+◌, ◌-◌, ◌<◌, ◌≤◌, false, List, ◌++◌, length, map, take, drop, slice_index}
 use Rattle.std.specs.List.{All, Contains, flat_map}
 use Rattle.btf_types.specs.Names.{with_nul, place_in}
 use Rattle.btf_types.specs.Reading.{text_from}
 use Rattle.btf_types.specs.strings.SharedNames.{is_suffix, hosts, host, shared_table, shared_place}
 use Rattle.btf_types.specs.strings.CommonTails.{at_rank}
-use Rattle.bpf_canon.specs.btf.strings.UsedOffsets.{offset_number}
+use Rattle.bpf_canon.specs.btf.strings.UsedOffsets.{Used, number_of, used_count}
 use Rattle.bpf_canon.specs.btf.strings.InHost.{host_at, no_host, sorted_in}
 use Rattle.bpf_canon.specs.declared.btf.strings.hosts_by_rank.InHost.{InHost}
 use Rattle.bpf_canon.specs.declared.btf.strings.host_places.Span.{Span}
@@ -52,27 +52,25 @@ pub record AreHostPlaces (section : List ℕ) (sorted xs : List (List ℕ)) (by_
   pub none : slice_index by_rank 0 ≡ 0
   pub place : (r : ℕ) → r < length sorted → (r + 1 < length sorted → is_suffix (at_rank sorted r) (at_rank sorted (r + 1)) ≡ false) → Contains (hosts xs) (at_rank sorted r) → slice_index by_rank (r + 1) ≡ place_in (hosts xs) (at_rank sorted r)
 
--- The same in the words of the structs: of names at these offsets each has its host, and the hosts have their places.
-abbrev pub texts_at : {A : Type 0} → RankedTexts A → List ℕ → List (List ℕ)
-texts_at r offsets = map (text_from r.section.now) offsets
+-- The same in the words of the structs: of the used names each has its host, and the hosts have their places.
+abbrev pub names_in : {A : Type 0} → RankedTexts A → Used → List (List ℕ)
+names_in r used = map (text_from r.section.now) used.offsets
 
-abbrev pub HaveTheirHosts : {A : Type 0} → List ℕ → RankedTexts A → List ℕ → List InHost → Type 0
-HaveTheirHosts slots r offsets in_hosts = All (HasHost r.section.now slots (sorted_in r) (texts_at r offsets) in_hosts) offsets
+abbrev pub HaveTheirHosts : {A : Type 0} → Used → RankedTexts A → List InHost → Type 0
+HaveTheirHosts used r in_hosts = All (HasHost r.section.now used.slots (sorted_in r) (names_in r used) in_hosts) used.offsets
 
-abbrev pub ArePlacesOf : {A : Type 0} → RankedTexts A → List ℕ → HostPlaces A → Type 0
-ArePlacesOf r offsets h = AreHostPlaces r.section.now (sorted_in r) (texts_at r offsets) h.by_rank.items h.spans.items h.len
+abbrev pub ArePlacesOf : {A : Type 0} → Used → RankedTexts A → HostPlaces A → Type 0
+ArePlacesOf used r h = AreHostPlaces r.section.now (sorted_in r) (names_in r used) h.by_rank.items h.spans.items h.len
 
--- Of names at offsets of a section, the place of each in the table that they share is known by its number, and the table by its hosts.
-pub record ArePlaced (section offsets slots places : List ℕ) (spans : List Span) (len : ℕ) : Type 0 where
-  pub used : (off : ℕ) → Contains offsets off → slice_index slots off ≢ 0
-  pub numbers : length places ≡ offset_number slots (length slots)
-  pub place : (off : ℕ) → Contains offsets off → slice_index places (offset_number slots off) ≡ shared_place (map (text_from section) offsets) (text_from section off)
+-- the place of a name: that of its host plus the bytes of the host before it
+abbrev pub name_place : List ℕ → InHost → ℕ
+name_place by_rank at = slice_index by_rank at.host + at.before
+
+-- The place of each used name in the table that all share is known by its number, and the table by its hosts.
+pub record ArePlaced (section : List ℕ) (used : Used) (places : List ℕ) (spans : List Span) (len : ℕ) : Type 0 where
+  pub marked : (off : ℕ) → Contains used.offsets off → slice_index used.slots off ≢ 0
+  pub numbers : length places ≡ used_count used
+  pub place : (off : ℕ) → Contains used.offsets off → slice_index places (number_of used off) ≡ shared_place (map (text_from section) used.offsets) (text_from section off)
   pub are_spans : All (IsSpan section) spans
-  pub texts : flat_map (span_bytes section) spans ≡ flat_map with_nul (hosts (map (text_from section) offsets))
-  pub whole : len ≡ length (shared_table (map (text_from section) offsets))
-
--- The hosts of used offsets and the places of hosts give the place of each name: the place of its host plus the bytes of the host before it.
-pub record GivePlaces (section offsets slots : List ℕ) (in_hosts : List InHost) (by_rank : List ℕ) (spans : List Span) (len : ℕ) : Type 0 where
-  pub ranked : All (λ at. at.host < length by_rank) in_hosts
-  pub fits : All (λ at. slice_index by_rank at.host + at.before < 2 ^ 32) in_hosts
-  pub are_placed : ArePlaced section offsets slots (map (λ at. slice_index by_rank at.host + at.before) in_hosts) spans len
+  pub texts : flat_map (span_bytes section) spans ≡ flat_map with_nul (hosts (map (text_from section) used.offsets))
+  pub whole : len ≡ length (shared_table (map (text_from section) used.offsets))

@@ -3,7 +3,7 @@ use Rattle.std.specs.Prelude.{◌≡◌, ◌≢◌, ℕ, ◌+◌, ◌^◌, ◌<�
 use Rattle.btf_types.specs.Reading.{text_from}
 use Rattle.btf_types.specs.strings.SharedNames.{is_suffix, hosts_of, host_in}
 use Rattle.btf_types.specs.strings.CommonTails.{at_rank, AreInTailOrder}
-use Rattle.bpf_canon.specs.btf.strings.UsedOffsets.{offset_number}
+use Rattle.bpf_canon.specs.btf.strings.UsedOffsets.{Used, offset_number}
 use Rattle.bpf_canon.specs.btf.strings.SectionTexts.{text_in}
 use Rattle.bpf_canon.specs.btf.strings.Ranks.{AreRanked}
 use Rattle.bpf_canon.specs.btf.strings.Longest.{IsWithin, AreLongestOf}
@@ -60,14 +60,14 @@ pub record AreRankedTexts (section slots : List ℕ) (ts : List SectionText) (co
 abbrev pub sorted_in : {A : Type 0} → RankedTexts A → List (List ℕ)
 sorted_in r = map (text_in r.section.now) r.texts.items
 
-abbrev pub IsRankedFor : {A : Type 0} → List ℕ → RankedTexts A → Type 0
-IsRankedFor slots r = AreRankedTexts r.section.now slots r.texts.items r.common.items r.hosts.items
+abbrev pub IsRankedFor : {A : Type 0} → Used → RankedTexts A → Type 0
+IsRankedFor used r = AreRankedTexts r.section.now used.slots r.texts.items r.common.items r.hosts.items
 
-abbrev pub FindsWithinRank : {A : Type 0} → List ℕ → RankedTexts A → ℕ → List InHost → List InHost → Type 0
-FindsWithinRank slots r rank old new = FindsWithin r.section.now slots (sorted_in r) (slice_index_or r.texts.items rank no_text) old new
+abbrev pub FindsWithinRank : {A : Type 0} → Used → RankedTexts A → ℕ → List InHost → List InHost → Type 0
+FindsWithinRank used r rank old new = FindsWithin r.section.now used.slots (sorted_in r) (slice_index_or r.texts.items rank no_text) old new
 
-abbrev pub FindsRanks : {A : Type 0} → List ℕ → RankedTexts A → List InHost → ℕ → Type 0
-FindsRanks slots r in_hosts k = HostsTo r.section.now slots r.texts.items (sorted_in r) in_hosts k
+abbrev pub FindsRanks : {A : Type 0} → Used → RankedTexts A → List InHost → ℕ → Type 0
+FindsRanks used r in_hosts k = HostsTo r.section.now used.slots r.texts.items (sorted_in r) in_hosts k
 
-abbrev pub FindsHosts : {A : Type 0} → List ℕ → RankedTexts A → List InHost → Type 0
-FindsHosts slots r in_hosts = AreInHosts r.section.now slots (sorted_in r) in_hosts
+abbrev pub FindsHosts : {A : Type 0} → Used → RankedTexts A → List InHost → Type 0
+FindsHosts used r in_hosts = AreInHosts r.section.now used.slots (sorted_in r) in_hosts

@@ -1,28 +1,38 @@
 //! The offsets of names in a string section, each once, in the order of first use.
-ghost use Rattle.std.specs.Prelude.{◌≡◌, ◌<◌, IfOk, OnOk};
+ghost use Rattle.std.specs.Prelude.{◌≡◌, ◌≢◌, ◌/◌, ◌<◌, true, false, length, IfOk, OnOk};
 ghost use Rattle.bpf_canon.specs.btf.strings.FirstUses as spec;
 
-use crate::btf::strings::offset_set::OffsetSet;
 use std::alloc::{AllocError, Allocator};
 use std::marker::Model;
 
 /// Offsets of a string section at which names begin, each once, in the order of first use.
+///
+/// Words of 64 bits have a bit for each byte of the section, the lowest bit first: little memory is
+/// cleared and touched.
 #[derive(Drop)]
 pub(crate) struct FirstUses<A: Allocator> {
-    // the offsets where names begin
-    pub(crate) marks: OffsetSet<A>,
+    pub(crate) section_len: usize,
+    pub(crate) marks: Vec<u64, A>,
     pub(crate) offsets: Vec<u32, A>,
 }
 
 impl<A: Allocator> Model for FirstUses<A> {
-    ghost use Rattle.std.specs.Prelude.{length};
-    ghost use Rattle.bpf_canon.specs.btf.strings.FirstUses.{Noted, AreMarked};
+    ghost use Rattle.bpf_canon.specs.btf.strings.FirstUses.{Noted, HaveMarks};
 
     ghost Value = { Noted };
 
-    ghost view = { λ f. record { section_len = length f.marks; offsets = f.offsets.items } };
+    ghost view = { λ f. record { section_len = f.section_len; offsets = f.offsets.items } };
 
-    ghost invariant = { λ f. AreMarked f.offsets.items f.marks };
+    ghost invariant = { λ f. HaveMarks f.section_len f.marks.items f.offsets.items };
+}
+
+/// Whether an offset has its bit in these words.
+pub(crate) fn is_marked(marks: &[u64], off: usize) -> bool
+    requires { off / 64 < length marks.now }
+    ensures yes { result ≡ true → spec.mark_of marks.now off ≢ 0 }
+    ensures no { result ≡ false → spec.mark_of marks.now off ≡ 0 }
+{
+    (marks[off / 64] >> (off % 64)) & 1 != 0
 }
 
 impl<A: Allocator + Copy> FirstUses<A> {
@@ -31,7 +41,8 @@ impl<A: Allocator + Copy> FirstUses<A> {
         ensures { IfOk result (λ f. f ≡ spec.nothing_noted section_len) }
     {
         Ok(FirstUses {
-            marks: OffsetSet::new(alloc, section_len)?,
+            section_len,
+            marks: vec![in alloc; 0; section_len / 64 + 1]?,
             offsets: Vec::new(alloc),
         })
     }
@@ -42,9 +53,10 @@ impl<A: Allocator + Copy> FirstUses<A> {
         ensures section { self.new.section_len ≡ self.old.section_len }
         ensures offsets { OnOk result (self.new.offsets ≡ spec.noted self.old.offsets off) }
     {
-        if !self.marks.contains(off as usize) {
+        let at = off as usize;
+        if !is_marked(&self.marks, at) {
             self.offsets.push(off)?;
-            self.marks.insert(off as usize);
+            self.marks[at / 64] |= 1u64 << (at % 64);
         }
         Ok(())
     }

@@ -5,7 +5,7 @@ ghost use Rattle.std.specs.List.Sorted.{IsSorted};
 ghost use Rattle.btf_raw.specs.Header.{HasNulEnds};
 ghost use Rattle.btf_types.specs.strings.SharedNames.{tail_cmp, shared_table};
 ghost use Rattle.bpf_canon.specs.btf.strings.InHost.{sorted_in};
-ghost use Rattle.bpf_canon.specs.btf.strings.UsedOffsets.{offset_number};
+ghost use Rattle.bpf_canon.specs.btf.strings.UsedOffsets.{used_count};
 ghost use Rattle.bpf_canon.specs.btf.strings.HostPlaces as spec;
 
 use crate::btf::strings::hosts_by_rank::InHost;
@@ -47,11 +47,10 @@ fn push_text<A: Allocator>(spans: &mut Vec<Span, A>, text: Span) -> Result<(), A
     Ok(())
 }
 
-/// Gives a place to each host among the names at these offsets. A name that is its own host goes
+/// Gives a place to each host among the used names. A name that is its own host goes
 /// last, unless it is there already.
 pub(crate) fn place_hosts<A: Allocator + Copy>(
     alloc: A,
-    offsets: &[u32],
     uses: &UsedOffsets<A>,
     in_hosts: &[InHost],
     ranked: &RankedTexts<'_, A>,
@@ -59,11 +58,12 @@ pub(crate) fn place_hosts<A: Allocator + Copy>(
     requires order { IsSorted tail_cmp (sorted_in ranked.now) }
     requires ends { HasNulEnds ranked.now.section.now }
     requires few { length ranked.now.section.now < 2 ^ 32 }
-    requires whole { length in_hosts.now ≡ offset_number uses.now (length uses.now) }
-    requires in_hosts { spec.HaveTheirHosts uses.now ranked.now offsets.now in_hosts.now }
-    requires room { length (shared_table (spec.texts_at ranked.now offsets.now)) < 2 ^ 32 }
-    ensures { IfOk result (spec.ArePlacesOf ranked.now offsets.now) }
+    requires whole { length in_hosts.now ≡ used_count uses.now }
+    requires in_hosts { spec.HaveTheirHosts uses.now ranked.now in_hosts.now }
+    requires room { length (shared_table (spec.names_in ranked.now uses.now)) < 2 ^ 32 }
+    ensures { IfOk result (spec.ArePlacesOf uses.now ranked.now) }
 {
+    let offsets = uses.offsets();
     let mut by_rank = vec![in alloc; 0; ranked.texts.len() + 1]?;
     let mut spans = Vec::new(alloc);
     let mut len = 1;

@@ -1,7 +1,7 @@
 //! The host of each name, by the ranks of the longest texts.
 ghost use Rattle.std.specs.Prelude.{◌≡◌, ◌<◌, ◌≤◌, length, IfOk, OnOk};
 ghost use Rattle.bpf_canon.specs.btf.strings.Ranks.{AreLower};
-ghost use Rattle.bpf_canon.specs.btf.strings.UsedOffsets.{offset_number};
+ghost use Rattle.bpf_canon.specs.btf.strings.UsedOffsets.{used_count};
 ghost use Rattle.bpf_canon.specs.btf.strings.InHost as spec;
 
 use crate::btf::strings::ranked_texts::RankedTexts;
@@ -41,7 +41,7 @@ fn find_within<A: Allocator>(
     requires texts { spec.IsRankedFor uses.now ranked.now }
     requires lower { AreLower ranked.now.common.items lower.now }
     requires inside { rank < length ranked.now.texts.items }
-    requires whole { length in_hosts.old ≡ offset_number uses.now (length uses.now) }
+    requires whole { length in_hosts.old ≡ used_count uses.now }
     ensures { spec.FindsWithinRank uses.now ranked.now rank in_hosts.old in_hosts.new }
 {
     let end = ranked.texts[rank].end;

@@ -18,8 +18,8 @@ pub(crate) fn longest_texts<A: Allocator>(
 ) -> Result<Vec<SectionText, A>, AllocError>
     requires ends { HasNulEnds section.now }
     requires few { length section.now < 2 ^ 32 }
-    requires whole { length uses.now ≡ length section.now }
-    ensures { IfOk result (λ longest. AreLongestOf section.now uses.now longest.items) }
+    requires whole { length uses.now.slots ≡ length section.now }
+    ensures { IfOk result (λ longest. AreLongestOf section.now uses.now.slots longest.items) }
 {
     let mut longest = Vec::with_capacity(alloc, uses.count())?;
     let mut off = 0;

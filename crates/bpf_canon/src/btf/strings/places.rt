@@ -1,11 +1,10 @@
 //! The places of names in the string table in which they share suffixes (btf.rst section 2.1).
-ghost use Rattle.std.specs.Prelude.{◌≡◌, ◌+◌, ◌<◌, ◌^◌, ◌++◌, length, map, slice_index, IfOk, OnOk};
+ghost use Rattle.std.specs.Prelude.{◌≡◌, ◌<◌, ◌^◌, ◌++◌, length, map, IfOk, OnOk};
 ghost use Rattle.std.specs.List.{All, Contains};
 ghost use Rattle.btf_raw.specs.Header.{HasNulEnds};
 ghost use Rattle.btf_types.specs.Reading.{text_from};
 ghost use Rattle.btf_types.specs.strings.SharedNames.{shared_table, shared_place};
-ghost use Rattle.bpf_canon.specs.btf.strings.FirstUses.{AreMarked};
-ghost use Rattle.bpf_canon.specs.btf.strings.HostPlaces.{GivePlaces};
+ghost use Rattle.bpf_canon.specs.btf.strings.HostPlaces.{name_place};
 ghost use Rattle.bpf_canon.specs.btf.strings.NamesByPlace.{placed_texts};
 
 use crate::btf::strings::first_uses::FirstUses;
@@ -22,7 +21,6 @@ use std::marker::Model;
 #[derive(Drop)]
 pub(crate) struct SharedPlaces<'a, A: Allocator> {
     strings: &'a [u8],
-    offsets: Vec<u32, A>,
     used: UsedOffsets<A>,
     // the place of the name at each used offset, by the offset's number
     places: Vec<u32, A>,
@@ -37,10 +35,10 @@ impl<'a, A: Allocator> Model for SharedPlaces<'a, A> {
 
     ghost Value = { NamesByPlace };
 
-    ghost view = { λ p. record { strings = p.strings.now; offsets = p.offsets.items } };
+    ghost view = { λ p. record { strings = p.strings.now; offsets = p.used.offsets } };
 
-    ghost invariant = { λ p. ArePlaced p.strings.now p.offsets.items p.used p.places.items
-        p.spans.items p.table_len };
+    ghost invariant = { λ p. ArePlaced p.strings.now p.used p.places.items p.spans.items
+        p.table_len };
 }
 
 /// The place of each used offset: the place of its host plus the bytes of the host before it.
@@ -50,38 +48,14 @@ fn name_places<A: Allocator>(
     by_rank: &[u32],
 ) -> Result<Vec<u32, A>, AllocError>
     requires ranked { All (λ at. at.host < length by_rank.now) in_hosts.now }
-    requires fits { All (λ at. slice_index by_rank.now at.host + at.before < 2 ^ 32) in_hosts.now }
-    ensures { IfOk result (λ places. places.items
-        ≡ map (λ at. slice_index by_rank.now at.host + at.before) in_hosts.now) }
+    requires fits { All (λ at. name_place by_rank.now at < 2 ^ 32) in_hosts.now }
+    ensures { IfOk result (λ places. places.items ≡ map (name_place by_rank.now) in_hosts.now) }
 {
     let mut places = Vec::with_capacity(alloc, in_hosts.len())?;
     for at in in_hosts {
         places.push(by_rank[at.host as usize] + at.before)?;
     }
     Ok(places)
-}
-
-/// The hosts of the names at these offsets, and the places of these hosts.
-fn hosts_and_places<A: Allocator + Copy>(
-    alloc: A,
-    strings: &[u8],
-    offsets: &[u32],
-    used: &UsedOffsets<A>,
-) -> Result<(Vec<InHost, A>, HostPlaces<A>), AllocError>
-    requires ends { HasNulEnds strings.now }
-    requires few { length strings.now < 2 ^ 32 }
-    requires slots { length used.now ≡ length strings.now }
-    requires marked { AreMarked offsets.now used.now }
-    requires room { length (shared_table (map (text_from strings.now) offsets.now)) < 2 ^ 32 }
-    ensures { IfOk result (λ (in_hosts, host_places).
-        GivePlaces strings.now offsets.now used.now in_hosts.items host_places.by_rank.items
-        host_places.spans.items host_places.len) }
-{
-    let texts = longest_texts(alloc, strings, used)?;
-    let ranked = RankedTexts::new(alloc, strings, texts)?;
-    let in_hosts = find_hosts(alloc, used, &ranked)?;
-    let host_places = place_hosts(alloc, offsets, used, &in_hosts, &ranked)?;
-    Ok((in_hosts, host_places))
 }
 
 impl<'a, A: Allocator + Copy> SharedPlaces<'a, A> {
@@ -98,9 +72,12 @@ impl<'a, A: Allocator + Copy> SharedPlaces<'a, A> {
         ensures strings { IfOk result (λ p. p.strings ≡ strings.entry.now) }
         ensures offsets { IfOk result (λ p. p.offsets ≡ uses.offsets) }
     {
-        let FirstUses { marks, offsets } = uses;
-        let used = UsedOffsets::new(alloc, marks)?;
-        let (in_hosts, host_places) = hosts_and_places(alloc, strings, &offsets, &used)?;
+        let used = UsedOffsets::new(alloc, uses)?;
+        let texts = longest_texts(alloc, strings, &used)?;
+        let ranked = RankedTexts::new(alloc, strings, texts)?;
+        let in_hosts = find_hosts(alloc, &used, &ranked)?;
+        let host_places = place_hosts(alloc, &used, &in_hosts, &ranked)?;
+        drop(ranked);
         let HostPlaces {
             by_rank,
             spans,
@@ -109,7 +86,6 @@ impl<'a, A: Allocator + Copy> SharedPlaces<'a, A> {
         let places = name_places(alloc, &in_hosts, &by_rank)?;
         Ok(SharedPlaces {
             strings,
-            offsets,
             used,
             places,
             spans,

@@ -33,7 +33,7 @@ impl<'a, A: Allocator + Copy> RankedTexts<'a, A> {
         ensures section { IfOk result (λ r. r.section.now ≡ section.entry.now) }
         ensures permutation { IfOk result (λ r. IsPermutation texts.items r.texts.items) }
         ensures ranked { IfOk result (λ r.
-            AreRanked (map (text_in section.now) r.texts.items) r.common.items r.hosts.items) }
+            AreRanked (map (text_in r.section.now) r.texts.items) r.common.items r.hosts.items) }
     {
         let mut texts = texts;
         sort_texts(section, &mut texts);

@@ -9,7 +9,7 @@ use Rattle.bpf_canon.proofs.btf.strings.hosts_by_rank.find_hosts.Goals as goal
 pub returns : goal.returns
 returns g c =
     let r = c.args.ranked.now in
-    let slots = c.args.uses.now in
+    let slots = c.args.uses.now.slots in
     let ts = r.texts.items in
     let sorted = map (text_in r.section.now) ts in
     let new = c.find_all.new.in_hosts in

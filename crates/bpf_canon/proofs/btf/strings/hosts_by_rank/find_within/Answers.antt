@@ -10,7 +10,7 @@ use Rattle.bpf_canon.proofs.btf.strings.hosts_by_rank.find_within.Goals.{then-is
 pub overflow_sub-in_hosts-then-is_used : goal.overflow_sub-in_hosts-then-is_used
 overflow_sub-in_hosts-then-is_used g c =
     let r = c.args.ranked.now in
-    let step = steps_back r.section.now c.args.uses.now r.texts.items r.common.items r.hosts.items c.requires.texts.ranked c.requires.texts.longest.used c.args.rank c.loop-off.off c.loop-off.from c.first_rank-from.result c.index-host.result.now
+    let step = steps_back r.section.now c.args.uses.now.slots r.texts.items r.common.items r.hosts.items c.requires.texts.ranked c.requires.texts.longest.used c.args.rank c.loop-off.off c.loop-off.from c.first_rank-from.result c.index-host.result.now
     c.index-2.result.now c.index.result.now c.index-then-is_used.result.now c.deref.result.now c.requires.inside c.index-2.ensures c.index.ensures (omega arith) c.loop-off-test.true c.loop-off.invariant.below c.loop-off.invariant.before c.deref.ensures.value
     c.first_rank-from.ensures.before c.first_rank-from.ensures.common c.first_rank-from.ensures.less c.index-host.ensures c.index-then-is_used.ensures in
     omega (arith, step.shorter, c.len-len.ensures)
@@ -19,7 +19,7 @@ pub loop-off-preserved : goal.loop-off-preserved
 loop-off-preserved g c =
     let r = c.args.ranked.now in
     let section = r.section.now in
-    let slots = c.args.uses.now in
+    let slots = c.args.uses.now.slots in
     let sorted = map (text_in section) r.texts.items in
     let t = get_or r.texts.items c.args.rank no_text in
     let off = c.loop-off.off in

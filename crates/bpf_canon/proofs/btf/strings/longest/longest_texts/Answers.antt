@@ -8,7 +8,7 @@ use Rattle.bpf_canon.proofs.btf.strings.longest.longest_texts.Goals as goal
 pub texts-preserved : goal.texts-preserved
 texts-preserved g c =
     let section = c.args.section.now in
-    let slots = c.args.uses.now in
+    let slots = c.args.uses.now.slots in
     let ts = c.texts.longest.items in
     let off = c.texts.off in
     let t : SectionText = record { key = c.suffix_key.result; before = c.suffix_key-in-texts.result; start = off; end = c.text_end-end.result } in

@@ -1,27 +1,36 @@
-use Rattle.std.proofs.Common.{◌≡◌, ℕ, ◌+◌, ◌*◌, ◌/◌, ◌<◌, List, [], ◌∷◌, ◌++◌, length, arith, subst, sym, ap, ◌∙◌}
+use Rattle.std.proofs.Common.{◌+◌, ◌*◌, ◌∷◌, [], ◌++◌, List, ℕ, count_ones, arith, subst, sym, ap, ◌∙◌, rules}
+use Rattle.bpf_canon.specs.btf.strings.FirstUses.{Noted, slots_of}
+use Rattle.bpf_canon.proofs.BtfLemmas.Strings.MarkSteps.{slots_len, number_whole}
 use Rattle.bpf_canon.proofs.BtfLemmas.Strings.UsedSteps.{number_at_most, CountedTo, counted_none, counts_word, counted_all}
 use Rattle.bpf_canon.proofs.btf.strings.used_offsets.UsedOffsets.new.Goals as goal
 
 pub loop-word-init : goal.loop-word-init
 loop-word-init g c =
-    let first : c.push.new.self.items ≡ 0 ∷ [] = c.in_ok-push.ensures.items ∙ ap (λ (l : List ℕ). l ++ 0 ∷ []) c.in_ok-before.ensures.items in
-    subst (λ (l : List ℕ). CountedTo c.args.marks l 0 0) (sym first) (counted_none c.args.marks)
+    let slots = slots_of c.uses.inside.marks.items c.uses.inside.section_len in
+    subst (λ (l : List ℕ). CountedTo slots l 0 0) (sym (c.in_ok-push.ensures.items ∙ ap (λ (l : List ℕ). l ++ 0 ∷ []) c.in_ok-before.ensures.items)) (counted_none slots)
 
 pub overflow_add-count : goal.overflow_add-count
 overflow_add-count g c =
-    let most = number_at_most c.args.marks (64 * c.loop-word.word + 64) in
-    let below : c.loop-word.word < length c.args.marks / 64 = omega (arith, c.loop-word-test.true, c.section_len-words.ensures) in
-    omega (arith, most, below, c.loop-word.invariant.counted, c.count_in-count.ensures, c.requires)
+    let i = c.uses.inside in
+    let more = number_whole i.marks.items i.section_len c.loop-word.word c.index-bits.result.now c.uses.invariant.whole c.loop-word-test.true c.index-bits.ensures (search rules) in
+    let len = ap (λ (n : Noted). n.section_len) c.uses.view_is in
+    omega (arith, number_at_most (slots_of i.marks.items i.section_len) (64 * c.loop-word.word + 64), c.loop-word-test.true, c.loop-word.invariant.counted, more, len, c.requires)
 
 pub loop-word-preserved : goal.loop-word-preserved
 loop-word-preserved g c =
-    let marks = c.args.marks in
-    let before = c.loop-word.before.items in
-    let count = c.loop-word.count in
-    let more = c.count_in-count.result in
-    let pushed : c.push-in-loop-word.new.self.items ≡ before ++ (count + more) ∷ [] = c.in_ok-push-2.ensures.items in
-    subst (λ (l : List ℕ). CountedTo marks l (count + more) (c.loop-word.word + 1)) (sym pushed) (counts_word marks before count c.loop-word.word more c.loop-word.invariant c.count_in-count.ensures)
+    let i = c.uses.inside in
+    let slots = slots_of i.marks.items i.section_len in
+    let more = number_whole i.marks.items i.section_len c.loop-word.word c.index-bits.result.now c.uses.invariant.whole c.loop-word-test.true c.index-bits.ensures (search rules) in
+    subst (λ (l : List ℕ). CountedTo slots l (c.loop-word.count + count_ones c.index-bits.result.now) (c.loop-word.word + 1)) (sym c.in_ok-push-2.ensures.items) (counts_word slots c.loop-word.before.items c.loop-word.count c.loop-word.word (count_ones c.index-bits.result.now) c.loop-word.invariant more)
 
 pub invariant_of-result : goal.invariant_of-result
 invariant_of-result g c =
-    counted_all c.args.marks c.loop-word.before.items c.loop-word.count c.loop-word.word c.loop-word.invariant (omega (arith, c.loop-word-test.false, c.loop-word.auto.word-end, c.section_len-words.ensures))
+    let i = c.uses.inside in
+    let long = slots_len i.marks.items i.section_len in
+    record {
+      have_marks = c.uses.invariant;
+      are_counted = counted_all (slots_of i.marks.items i.section_len) c.loop-word.before.items c.loop-word.count c.loop-word.word c.loop-word.invariant (omega (arith, c.loop-word-test.false, c.loop-word.auto.word-end, long));
+    }
+
+pub returns-clause-section : goal.returns-clause-section
+returns-clause-section g c = slots_len c.uses.inside.marks.items c.uses.inside.section_len ∙ ap (λ (n : Noted). n.section_len) c.uses.view_is

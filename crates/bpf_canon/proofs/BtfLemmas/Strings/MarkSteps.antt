@@ -1,15 +1,16 @@
--- A set of offsets as bits in words of 64, and the number of its offsets.
-use Rattle.std.proofs.Common.{◌≡◌, ◌≢◌, ℕ, zero, suc, ◌+◌, ◌*◌, ◌/◌, ◌%◌, ◌^◌, ◌<◌, ◌≤◌, max, inl, inr, List, [], ◌∷◌, length, get_or, set, replicate, bit_and, bit_or, ◌-◌, count_ones, refl, sym, ap, ◌∙◌, subst, arith}
+-- Marks of offsets as bits in words of 64, and the number of those before an offset.
+use Rattle.std.proofs.Common.{◌≡◌, ◌≢◌, ℕ, zero, suc, ◌+◌, ◌*◌, ◌/◌, ◌%◌, ◌^◌, ◌<◌, ◌≤◌, max, inl, inr, List, [], ◌∷◌, ◌++◌, length, get_or, set, replicate, bit_and, bit_or, ◌-◌, count_ones, refl, sym, ap, ◌∙◌, subst, arith}
 use Rattle.std.specs.Int.{bit_at}
 use lib.Count.{ones_step}
 use Rattle.std.proofs.lemmas.Bool.{cases_eq, cases_lt}
 use Rattle.std.proofs.Math.Arith.{mod-mul}
 use Rattle.std.proofs.Math.Nat.{pow-suc, max-zero, mod-eq_of_lt}
 use Rattle.std.proofs.lemmas.Nat.{ones_le_self, pow_pos, pow_below, and_mask}
-use Rattle.std.proofs.lemmas.Nat.Bits.{shr_and_one, bit_at_lowest, bit_at-zero, bit_at-lt, bit_at-suc, bit_at_or, bit_at-pow_same, bit_at-pow_other}
+use Rattle.std.proofs.lemmas.Nat.Bits.{bit_at_lowest, bit_at-zero, bit_at-lt, bit_at-suc, bit_at_or, bit_at-pow_same, bit_at-pow_other}
 use Rattle.std.proofs.lemmas.List.{length_push, length-set, length-replicate, get_or-replicate, get_or-set_same, get_or-set_other, get_or_append_left, get_or_push, get_or_past, get_or_read, ext_get_or}
-use Rattle.bpf_canon.specs.btf.strings.UsedOffsets.{offset_number}
-use Rattle.bpf_canon.specs.btf.strings.OffsetSet.{mark_of, slots_of}
+use Rattle.bpf_canon.specs.btf.strings.FirstUses.{noted, mark_of, slots_of, AreMarked, HaveMarks}
+use Rattle.bpf_canon.specs.btf.strings.UsedOffsets.{offset_number, AreNumbered}
+use Rattle.bpf_canon.proofs.BtfLemmas.Strings.FirstUseSteps.{marked_more, noted_known, noted_new}
 use Rattle.bpf_canon.proofs.BtfLemmas.Strings.UsedSteps.{number_used, number_unused}
 
 -- one word
@@ -141,37 +142,71 @@ module _ (words : List ℕ) (n word : ℕ) where
       ∙ sums_more (offset_number slots (64 * word + k + 1)) (offset_number slots (64 * word + k)) (bit_at w k) (offset_number slots (64 * word)) (count_ones (w % 2 ^ k)) (count_ones (w % 2 ^ suc k))
       (number_more k (omega (arith, b)) (omega (arith, h))) (number_in_word k (omega (arith, b)) (omega (arith, h))) (ones_more k w)
 
--- what is read of a mark
-pub mark_read : (words slots : List ℕ) (n off w : ℕ) → slots_of words n ≡ slots → length words ≡ n / 64 + 1 → off < n → w ≡ get_or words (off / 64) w → bit_and (w / 2 ^ (off % 64)) 1 ≡ get_or slots off 0
-mark_read words slots n off w view len h is =
-    shr_and_one w (off % 64) ∙ ap (λ (v : ℕ). bit_at v (off % 64)) (get_or_read words (off / 64) w (omega (arith, len, h)) is 0)
-    ∙ sym (slot_at words n off h) ∙ ap (λ (l : List ℕ). get_or l off 0) view
-
 -- the bit of an offset
 pub one_bit : (r : ℕ) → r < 64 → 1 * 2 ^ r % 2 ^ 64 ≡ 2 ^ r
 one_bit r h = ap (λ (n : ℕ). n % 2 ^ 64) (let e : 1 * 2 ^ r ≡ 2 ^ r = omega arith in e) ∙ mod-eq_of_lt (pow_below r 64 h)
 
 -- and the bits below it
-pub lower_bits : (w r : ℕ) → r < 64 → bit_and w (1 * 2 ^ r % 2 ^ 64 - 1) ≡ w % 2 ^ r
+lower_bits : (w r : ℕ) → r < 64 → bit_and w (1 * 2 ^ r % 2 ^ 64 - 1) ≡ w % 2 ^ r
 lower_bits w r h = ap (λ (m : ℕ). bit_and w (m - 1)) (one_bit r h) ∙ and_mask w r
 
--- what is counted in one word
-pub number_before : (words slots : List ℕ) (n off w : ℕ) → slots_of words n ≡ slots → length words ≡ n / 64 + 1 → off ≤ n → w ≡ get_or words (off / 64) w →
-    offset_number slots off ≡ offset_number slots (64 * (off / 64)) + count_ones (bit_and w (1 * 2 ^ (off % 64) % 2 ^ 64 - 1))
-number_before words slots n off w view len h is =
-    let read : w ≡ get_or words (off / 64) 0 = get_or_read words (off / 64) w (omega (arith, len, h)) is 0 in
-    let split : 64 * (off / 64) + off % 64 ≡ off = omega arith in
-    subst (λ (l : List ℕ). offset_number l off ≡ offset_number l (64 * (off / 64)) + count_ones (bit_and w (1 * 2 ^ (off % 64) % 2 ^ 64 - 1))) view
-    (ap (offset_number (slots_of words n)) (sym split)
-    ∙ number_in_word words n (off / 64) (off % 64) (omega arith) (omega (arith, h))
-    ∙ ap (λ (m : ℕ). offset_number (slots_of words n) (64 * (off / 64)) + count_ones m)
-    (ap (λ (v : ℕ). v % 2 ^ (off % 64)) (sym read) ∙ sym (lower_bits w (off % 64) (omega arith))))
+-- no offset is marked, and one more is
+pub none_marked : (n : ℕ) → HaveMarks n (replicate (n / 64 + 1) 0) []
+none_marked n = record {
+  whole = length-replicate {A = ℕ} (n / 64 + 1) 0;
+  are_marked = record {
+    marked = λ off c. absurd (omega (arith, c.1));
+    only = λ off s. absurd (s (ap (λ (l : List ℕ). get_or l off 0) (slots_none n (n / 64 + 1)) ∙ read_none n off));
+  };
+}
 
-pub number_whole : (words slots : List ℕ) (n word w : ℕ) → slots_of words n ≡ slots → length words ≡ n / 64 + 1 → word < n / 64 → w ≡ get_or words word w → w < 2 ^ 64 →
-    offset_number slots (64 * word + 64) ≡ offset_number slots (64 * word) + count_ones w
-number_whole words slots n word w view len h is fits =
+pub marked_one : (n off w : ℕ) (words offs : List ℕ) → HaveMarks n words offs → off < n → w ≡ get_or words (off / 64) w → HaveMarks n (set words (off / 64) (bit_or w (1 * 2 ^ (off % 64) % 2 ^ 64))) (offs ++ off ∷ [])
+marked_one n off w words offs have inside is =
+    let read : w ≡ get_or words (off / 64) 0 = get_or_read words (off / 64) w (omega (arith, have.whole, inside)) is 0 in
+    subst (λ (b : ℕ). HaveMarks n (set words (off / 64) (bit_or w b)) (offs ++ off ∷ [])) (sym (one_bit (off % 64) (omega arith))) (record {
+      whole = length-set words (off / 64) (bit_or w (2 ^ (off % 64))) ∙ have.whole;
+      are_marked = subst (AreMarked (offs ++ off ∷ [])) (sym (slots_marked words n off w have.whole inside read)) (marked_more offs (slots_of words n) off have.are_marked (omega (arith, inside, slots_len words n)));
+    })
+
+-- what the mark of an offset says of what is noted
+module _ (n off : ℕ) (words offs : List ℕ) (have : HaveMarks n words offs) (inside : off < n) where
+  pub noted_here : mark_of words off ≢ 0 → noted offs off ≡ offs
+  noted_here s = noted_known offs off (have.are_marked.only off (λ z. s (sym (slot_at words n off inside) ∙ z)))
+
+  pub noted_more : mark_of words off ≡ 0 → noted offs off ≡ offs ++ off ∷ []
+  noted_more z = noted_new offs off (λ c. have.are_marked.marked off c (slot_at words n off inside ∙ z))
+
+-- the number of an offset from its word
+module _ {n : ℕ} {words offs before slots : List ℕ} (are : AreNumbered n words offs before) (view : slots_of words n ≡ slots) where
+  pub slots_long : length slots ≡ n
+  slots_long = ap (λ (l : List ℕ). length l) (sym view) ∙ slots_len words n
+
+  pub slot_is_mark : (off : ℕ) → off < length slots → get_or slots off 0 ≡ mark_of words off
+  slot_is_mark off h = ap (λ (l : List ℕ). get_or l off 0) (sym view) ∙ slot_at words n off (omega (arith, h, slots_long))
+
+  pub word_inside : (off : ℕ) → off ≤ length slots → off / 64 < length words
+  word_inside off h = omega (arith, h, slots_long, are.have_marks.whole)
+
+  pub before_inside : (off : ℕ) → off ≤ length slots → off / 64 < length before
+  before_inside off h = omega (arith, h, slots_long, are.are_counted.words, slots_len words n)
+
+  pub number_read : (off w b : ℕ) → off ≤ length slots → w ≡ get_or words (off / 64) w → b ≡ get_or before (off / 64) b → b + count_ones (bit_and w (1 * 2 ^ (off % 64) % 2 ^ 64 - 1)) ≡ offset_number slots off
+  number_read off w b h w_is b_is =
+      let read : w ≡ get_or words (off / 64) 0 = get_or_read words (off / 64) w (word_inside off h) w_is 0 in
+      let counted : b ≡ offset_number (slots_of words n) (64 * (off / 64)) = get_or_read before (off / 64) b (before_inside off h) b_is 0 ∙ are.are_counted.counts (off / 64) (before_inside off h) in
+      let split : 64 * (off / 64) + off % 64 ≡ off = omega arith in
+      subst (λ (l : List ℕ). b + count_ones (bit_and w (1 * 2 ^ (off % 64) % 2 ^ 64 - 1)) ≡ offset_number l off) view
+      (ap (λ (m : ℕ). m + count_ones (bit_and w (1 * 2 ^ (off % 64) % 2 ^ 64 - 1))) counted
+      ∙ ap (λ (m : ℕ). offset_number (slots_of words n) (64 * (off / 64)) + count_ones m)
+      (lower_bits w (off % 64) (omega arith) ∙ ap (λ (v : ℕ). v % 2 ^ (off % 64)) read)
+      ∙ sym (number_in_word words n (off / 64) (off % 64) (omega arith) (omega (arith, h, slots_long)))
+      ∙ ap (offset_number (slots_of words n)) split)
+
+-- what is counted in one word
+pub number_whole : (words : List ℕ) (n word w : ℕ) → length words ≡ n / 64 + 1 → word < n / 64 → w ≡ get_or words word w → w < 2 ^ 64 →
+    offset_number (slots_of words n) (64 * word + 64) ≡ offset_number (slots_of words n) (64 * word) + count_ones w
+number_whole words n word w len h is fits =
     let read : w ≡ get_or words word 0 = get_or_read words word w (omega (arith, len, h)) is 0 in
-    subst (λ (l : List ℕ). offset_number l (64 * word + 64) ≡ offset_number l (64 * word) + count_ones w) view
-    (number_in_word words n word 64 (omega arith) (omega (arith, h))
+    number_in_word words n word 64 (omega arith) (omega (arith, h))
     ∙ ap (λ (m : ℕ). offset_number (slots_of words n) (64 * word) + count_ones m)
-    (ap (λ (v : ℕ). v % 2 ^ 64) (sym read) ∙ mod-eq_of_lt fits))
+    (ap (λ (v : ℕ). v % 2 ^ 64) (sym read) ∙ mod-eq_of_lt fits)
