@@ -1,25 +1,26 @@
-"""Reads docs/FORMATS.md: its tables, and the sentences whose numbers other tests take from it.
+"""Reads docs/FORMATS.md and docs/FAULTS.md: their tables, and the sentences whose numbers other tests need.
 
-The page is read strictly. Where a table or a sentence has another wording than is expected, the reader fails, so that a page which
-was changed is never half read.
+The pages are read strictly. If a table or a sentence has another wording than expected, the reader fails, so that a page that was
+changed is never read in part.
 """
 
 import pathlib
 import re
 
-PAGE = pathlib.Path(__file__).resolve().parent.parent / "docs" / "FORMATS.md"
+DOCS = pathlib.Path(__file__).resolve().parent.parent / "docs"
+PAGES = [DOCS / "FORMATS.md", DOCS / "FAULTS.md"]
 
 
 class PageError(Exception):
-    """The page has something that its reader doesn't expect."""
+    """A page contains something that its reader doesn't expect."""
 
 
 def section(heading):
-    """The text below a heading up to the next one, whatever its level."""
-    parts = re.split(r"^#+ (.*)\n", PAGE.read_text(), flags=re.MULTILINE)
+    """The text of the pages below a heading up to the next one, whatever its level."""
+    parts = re.split(r"^#+ (.*)\n", "".join(page.read_text() for page in PAGES), flags=re.MULTILINE)
     found = [text for name, text in zip(parts[1::2], parts[2::2]) if name == heading]
     if len(found) != 1:
-        raise PageError(f"{len(found)} sections have the heading {heading!r}")
+        raise PageError(f"{len(found)} parts are headed {heading!r}")
     return found[0]
 
 
@@ -44,19 +45,19 @@ def table(heading, *columns):
 
 
 def said(heading, pattern):
-    """The groups of the one place of a section's sentences that a pattern fits, lines joined."""
+    """The groups of the only match of a pattern in the sentences of a section, with its lines joined."""
     text = " ".join(section(heading).split())
     found = list(re.finditer(pattern, text))
     if len(found) != 1:
-        raise PageError(f"{heading}: {len(found)} places are like {pattern!r}")
+        raise PageError(f"{heading}: {len(found)} sentences match {pattern!r}")
     return found[0].groups()
 
 
 def fitted(text, pattern):
-    """The groups of a pattern that fits the whole text."""
+    """The groups of a pattern that matches all of a text."""
     found = re.fullmatch(pattern, text)
     if not found:
-        raise PageError(f"{text!r} isn't like {pattern!r}")
+        raise PageError(f"{text!r} doesn't match {pattern!r}")
     return found.groups()
 
 

@@ -53,10 +53,10 @@ def bytes_of(insn, is_wide, order):
 @functools.cache
 def places():
     """The place of each cause, and that of a second slot that is cut."""
-    rows = table("Faults of instruction files", "Cause", "Number", "Place, from the slot's first byte")
+    rows = table("Faults in instructions", "Cause", "No.", "Offset")
     found = {cause: place for cause, _, place in rows}
-    said("Faults of instruction files", rf"Fewer than {SLOT} bytes at the end are Truncated, whatever they hold\.")
-    first, cut = fitted(found["Truncated"], r"(\d+); (\d+) where a wide load's second slot is cut")
+    said("Faults in instructions", rf"Fewer than {SLOT} bytes at the end are Truncated, whatever they contain\.")
+    first, cut = fitted(found["Truncated"], r"(\d+); (\d+) if a wide load's second slot is incomplete")
     return {cause: int(place) for cause, place in (found | {"Truncated": first}).items()}, int(cut)
 
 
@@ -95,7 +95,7 @@ def judged(code, order):
 # ---- lines
 
 SIZE_LETTERS = {"W": "w", "H": "h", "B": "b", "DW": "dw"}
-MOVED = "the bits that are moved, and `_32` where the destination has 32"
+MOVED = "the bits that are moved, and `_32` if the destination has 32"
 PARTS = re.compile(r"((?:`[^`]*` ?)+)(\(32\))? ?(.*)")
 
 
@@ -177,7 +177,7 @@ def line_of(form, insn):
 @functools.cache
 def groups():
     """The rows of the table of groups: the name of each with what it says of its instructions, and the group that it brings."""
-    return [(name, text.split("; "), brings) for name, text, brings in table("Conformance groups", "Group", "Instructions", "Brings")]
+    return [(name, text.split("; "), brings) for name, text, brings in table("Conformance groups", "Group", "Instructions", "Includes")]
 
 
 def brings():

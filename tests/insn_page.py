@@ -42,7 +42,7 @@ def codes():
     classes = re.search(r"^\| Classes \| (.*) \|$", text, re.MULTILINE)[1]
     sizes = re.search(r"^\| Sizes \| (.*) \|$", text, re.MULTILINE)[1]
     modes = re.search(r"^\| Modes \| (.*) \|$", text, re.MULTILINE)[1]
-    pattern = r"- Atomic operations: (.*?); the forms that fetch add (\w+); (.*?)\. The upper 24 bits of imm are 0\."
+    pattern = r"- Atomic operations: (.*?); with fetch (\w+) more; (.*?)\. The upper 24 bits of imm are 0\."
     plain, fetch, swap = said(INSNS, pattern)
     bytes_of = {name: int(size) for name, size in re.findall(r"(\w+) \d \((\d) bytes?\)", sizes)}
     wide = said(INSNS, r"W is (\d+) bits wide, DW (\d+)")

@@ -1,5 +1,5 @@
-"""Compares README.md, the manual pages, the limits of docs/FORMATS.md, the C header and the completions with the sources, and with one
-another: commands, options, limits, statuses, the room of calls, and the calls themselves.
+"""Compares README.md, the manual pages, the limits of docs/FAULTS.md, the C header and the completions with the sources and with each
+other: commands, options, limits, statuses, the buffer sizes of calls, and the calls themselves.
 
     pages.py PROGRAM
 """
@@ -44,14 +44,14 @@ def check_readme(report):
     with report.group("the tables of README.md"):
         commands = [row[0].strip("`") for row in readme_table("Command", "Writes")]
         report.expect_that(commands == COMMANDS, "the commands", f"they are {commands}")
-        options = {row[0].strip("`").split(" ")[0]: row[1:] for row in readme_table("Option", "Of", "Says")}
+        options = {row[0].strip("`").split(" ")[0]: row[1:] for row in readme_table("Option", "Of", "Meaning")}
         report.expect_that(list(options) == ALL_OPTIONS, "the options", f"they are {list(options)}")
         for option, (of, _) in options.items():
             right = [command for command in COMMANDS if option in OPTIONS[command]]
             report.expect_that(re.findall(r"`([\w-]+)`", of) == right, option, f"it is of {of}, and right is {right}")
         most = re.search(r"at most ([\d,]+)", options.get("--split", ["", ""])[1])
         report.expect_that(most and most[1] == number(LIMITS["insn-same"]), "--split", f"its limit isn't {LIMITS['insn-same']}")
-        rows = readme_table("Status", "When", "Line on standard error")
+        rows = readme_table("Status", "When", "Message on standard error")
         insns, btf = constants()["INSN_LIMIT"], constants()["BTF_LIMIT"]
         right = f"more than {number(insns)} bytes, or {number(btf)} of BTF; twice that for two"
         report.expect_that(right in [row[1] for row in rows], "too long", f"no row says {right!r}")
@@ -110,18 +110,20 @@ def check_manual(report):
 
 
 def check_limits(report):
-    with report.group("the limits of docs/FORMATS.md"):
+    with report.group("the limits of docs/FAULTS.md"):
         pattern = r"More than ([\d,]+) bytes of instructions or of a listing, or ([\d,]+) bytes of BTF, are `too long`"
         right = number(constants()["INSN_LIMIT"]), number(constants()["BTF_LIMIT"])
-        found = said("What to do about a fault", pattern)
+        found = said("Limits", pattern)
         report.expect_that(found == right, "the limits", f"they are {found}, and right is {right}")
-        said("What to do about a fault", "for two inputs together the limit is twice that")
+        said("Limits", "for two inputs together the limit is twice that")
         for first, second in ("insn-same", "insn-canon"), ("btf-same", "btf-canon"):
             report.expect_that(LIMITS[first] == 2 * LIMITS[second], first, f"its limit is {LIMITS[first]}")
-        (kernel,) = said("What to do about a fault", r"The kernel takes no more than ([\d,]+) bytes of BTF from a loader")
+        (kernel,) = said("Limits", r"The kernel accepts no more than ([\d,]+) bytes of BTF from a loader")
         report.expect_that(kernel == number(16 << 20), "the kernel's limit", f"it is {kernel}")
         most = btf_page.LONGEST + btf_page.TYPES + btf_page.STRINGS[1]
         report.expect_that(LIMITS["btf-canon"] == most, "BTF", f"the sections make {most}")
+        parts = said("Limits", r"([\d,]+) bytes of header, ([\d,]+) of types, ([\d,]+) of strings")
+        report.expect_that(parts == tuple(map(number, (btf_page.LONGEST, btf_page.TYPES, btf_page.STRINGS[1]))), "BTF", f"its parts are {parts}")
 
 
 # ---- the C library
@@ -223,7 +225,7 @@ def calls_of(text):
 
 
 def check_library_page(report):
-    """The page of section 3 declares the calls of the header and has the example of the README."""
+    """The page of section 3 declares the calls of the header and shows the example of docs/LIBRARY.md."""
     with report.group("the calls of bpfcanon.3"):
         if not shutil.which("man"):
             report.skip("bpfcanon.3", "man is missing")
@@ -231,13 +233,13 @@ def check_library_page(report):
         shown = shown_page(page_of(3)).stdout.decode()
         calls = calls_of(shown.partition("DESCRIPTION")[0])
         report.expect_that(len(calls) > 20 and calls == calls_of(HEADER), "the calls", f"they are {calls}")
-        example = re.search(r"^```c\n(.*?)^```$", README, re.MULTILINE | re.DOTALL)[1]
+        example = re.search(r"^```c\n(.*?)^```$", (TOP / "docs" / "LIBRARY.md").read_text(), re.MULTILINE | re.DOTALL)[1]
         has_example = " ".join(example.split()) in " ".join(shown.split())
-        report.expect_that(has_example, "the example", "it isn't that of README.md")
+        report.expect_that(has_example, "the example", "it isn't that of docs/LIBRARY.md")
 
 
 def check_pages(report):
-    """The pages are without warnings and name one another. causes.py sees that bpfcanon.5 is made of docs/FORMATS.md."""
+    """The pages are without warnings and name one another. causes.py compares bpfcanon.5 with the pages it is made from."""
     pages = [page_of(section) for section in (1, 3, 5)]
     with report.group("the manual pages"):
         for page in pages:

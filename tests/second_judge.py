@@ -17,7 +17,7 @@ SORTS = {"name_off": "name", "index_type": "type"}
 
 def placed(cause, record=None, **known):
     """A fault at the place that the page has: a number, an offset from the record, or one that is known by the page's words."""
-    place = page.place_of(cause)
+    place = page.offset_of(cause)
     if isinstance(place, dict):
         place = record.pos + place[None if None in place else record.layout.word]
     elif isinstance(place, str):
@@ -203,9 +203,9 @@ def type_faults(record, word, records):
     number, wanted = record.words[word], page.TARGETS.get(record.layout.word)
     target = target_of(records, number)
     if number > len(records):
-        yield placed("Reference", the_id_field=record.place(word))
+        yield placed("Reference", the_ID_field=record.place(word))
     elif wanted and (target is None or target.layout.word not in wanted):
-        yield placed("TargetKind", the_id_field=record.place(word))
+        yield placed("TargetKind", the_ID_field=record.place(word))
 
 
 def int_is_wrong(record):

@@ -12,10 +12,10 @@ import (
 	"bpfcanon"
 )
 
-// The rows "| Cause | Meaning | .." of a section of docs/FORMATS.md, in the order of their numbers.
+// The rows "| Cause | Meaning | .." of a part of docs/FAULTS.md, in the order of their numbers.
 func meanings(t *testing.T, section string) [][]string {
 	t.Helper()
-	page, err := os.ReadFile(filepath.Join("..", "..", "docs", "FORMATS.md"))
+	page, err := os.ReadFile(filepath.Join("..", "..", "docs", "FAULTS.md"))
 	if err != nil {
 		t.Fatal(err)
 	}
@@ -24,15 +24,15 @@ func meanings(t *testing.T, section string) [][]string {
 	return regexp.MustCompile(`(?m)^\| ([A-Z]\w+) \| ([^|]+) \|`).FindAllStringSubmatch(table, -1)[1:]
 }
 
-func TestCausesHaveTheNamesAndSentencesOfTheFormats(t *testing.T) {
+func TestCausesHaveTheNamesAndSentencesOfTheFaultsPage(t *testing.T) {
 	for _, kind := range []struct {
 		section string
 		count   int
 		cause   func(number int) bpfcanon.Cause
 	}{
-		{"Causes of instruction files", 8, func(n int) bpfcanon.Cause { return bpfcanon.InsnCause(n) }},
-		{"Causes of listings", 4, func(n int) bpfcanon.Cause { return bpfcanon.LineCause(n) }},
-		{"Causes of BTF files", 32, func(n int) bpfcanon.Cause { return bpfcanon.BTFCause(n) }},
+		{"Causes of instruction faults", 8, func(n int) bpfcanon.Cause { return bpfcanon.InsnCause(n) }},
+		{"Causes of listing faults", 4, func(n int) bpfcanon.Cause { return bpfcanon.LineCause(n) }},
+		{"Causes of BTF faults", 32, func(n int) bpfcanon.Cause { return bpfcanon.BTFCause(n) }},
 	} {
 		rows := meanings(t, kind.section)
 		if len(rows) != kind.count {
@@ -51,7 +51,7 @@ func TestCausesHaveTheNamesAndSentencesOfTheFormats(t *testing.T) {
 	}
 }
 
-// The constants, by their names in docs/FORMATS.md.
+// The constants, by their names in docs/FAULTS.md.
 func TestConstantsHaveTheNumbersOfTheirNames(t *testing.T) {
 	for name, cause := range map[string]bpfcanon.Cause{
 		"Truncated": bpfcanon.InsnTruncated, "Opcode": bpfcanon.InsnOpcode, "Dst": bpfcanon.InsnDst, "Src": bpfcanon.InsnSrc,

@@ -26,8 +26,8 @@ STANDARDS = {
     "c": ["c89", "c99", "c11", "c17", "gnu17"],
     "c++": ["c++98", "c++11", "c++14", "c++17", "c++20"],
 }
-# The tables of docs/FORMATS.md, the calls for its rows, and the prefix of the header's constants.
-CAUSES = {"instruction files": "insn", "listings": "line", "BTF files": "btf"}
+# The tables of docs/FAULTS.md, the calls for its rows, and the prefix of the header's constants.
+CAUSES = {"instruction": "insn", "listing": "line", "BTF": "btf"}
 # Variables that are honoured aren't taken from whoever runs the test.
 UNSET = "CC CFLAGS CPPFLAGS LDFLAGS LIBDIR AR NM OBJCOPY DESTDIR".split()
 OF_CAPI = sorted(path.name for path in CAPI.iterdir())
@@ -150,17 +150,17 @@ def check_programs(report, root, folder):
 
 
 def check_names(report, root):
-    """The numbers of the header have the names and sentences of docs/FORMATS.md."""
+    """The numbers of the header have the names and sentences of docs/FAULTS.md."""
     library = ctypes.CDLL(str(root / "lib" / "libbpfcanon.so"))
-    formats = (TOP / "docs" / "FORMATS.md").read_text()
+    page = (TOP / "docs" / "FAULTS.md").read_text()
     for heading, kind in CAUSES.items():
-        part = re.search(rf"^### Causes of {heading}\n(.*?)(?=^##)", formats, re.MULTILINE | re.DOTALL)[1]
+        part = re.search(rf"^### Causes of {heading} faults\n(.*?)(?=^##)", page, re.MULTILINE | re.DOTALL)[1]
         rows = re.findall(r"^\| (\w+) \| (.*?) \|", part, re.MULTILINE)[1:]
         constants = dict(re.findall(rf"^\tBPFCANON_{kind.upper()}_(\w+) = (\d+)", HEADER, re.MULTILINE))
         wanted = {re.sub(r"(?<=[a-z])(?=[A-Z])", "_", name).upper(): str(number) for number, (name, _) in enumerate(rows, 1)}
-        report.expect_that(constants == wanted, f"the constants of {heading}", f"they are {constants}")
+        report.expect_that(constants == wanted, f"the constants of {heading} faults", f"they are {constants}")
         texts = [(text_of(library, kind, "name", n), text_of(library, kind, "text", n)) for n in range(1, len(rows) + 1)]
-        report.expect_that(texts == rows, f"the causes of {heading}", f"they are {texts}")
+        report.expect_that(texts == rows, f"the causes of {heading} faults", f"they are {texts}")
 
 
 def text_of(library, kind, what, number):

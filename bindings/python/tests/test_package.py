@@ -104,12 +104,12 @@ class Faults(unittest.TestCase):
             error = error_of(answer, InsnCause)
             self.assertEqual((type(error), str(error)), (bpfcanon.BpfcanonError, text))
 
-    def test_causes_have_the_names_and_sentences_of_the_formats(self) -> None:
-        page = (TOP / "docs" / "FORMATS.md").read_text()
+    def test_causes_have_the_names_and_sentences_of_the_faults_page(self) -> None:
+        page = (TOP / "docs" / "FAULTS.md").read_text()
         for section, causes in [
-            ("Causes of instruction files", InsnCause),
-            ("Causes of listings", LineCause),
-            ("Causes of BTF files", BtfCause),
+            ("Causes of instruction faults", InsnCause),
+            ("Causes of listing faults", LineCause),
+            ("Causes of BTF faults", BtfCause),
         ]:
             table = page.split(f"\n### {section}\n")[1].split("\n#")[0]
             rows = re.findall(r"^\| ([A-Z]\w+) \| ([^|]+) \|", table, re.MULTILINE)[1:]
