@@ -2,8 +2,9 @@
 
     readme.py PROGRAM
 
-A block of lines after `$ ` is typed into each shell that is installed, one line after the other in one folder, with PROGRAM on
-the path as bpfcanon; the lines between are what it has to print on standard output and standard error.
+Each line after `$ ` is passed to each shell that is installed, one after another in one folder with testdata/pass.c and with PROGRAM on
+the path as bpfcanon. The lines between are what it has to print on standard output and standard error. A block that needs tools which
+aren't installed is skipped.
 """
 
 import os
@@ -17,31 +18,42 @@ import tempfile
 from program import SECONDS, Program, Report
 
 TOP = pathlib.Path(__file__).resolve().parent.parent
-BLOCK = re.compile(r"```console\n(.*?)```", re.DOTALL)
+BLOCK = re.compile(r"(?:<!-- needs: (?P<needs>.*?) -->\n)?```console\n(?P<lines>.*?)```", re.DOTALL)
 SHELLS = ["sh", "bash", "dash", "ksh", "zsh"]
+# The number of blocks and of their lines, so that none is lost unnoticed.
+BLOCKS, LINES = 2, 8
 
 
 def typed_lines(block):
     """Each line that a block types, with what it has to print."""
-    for part in block.split("$ ")[1:]:
+    for part in re.split(r"^\$ ", block, flags=re.MULTILINE)[1:]:
         line, _, printed = part.partition("\n")
         yield line, printed
 
 
+def check_block(report, shell, folder, block):
+    lines = list(typed_lines(block))
+    environment = os.environ | {"PATH": f"{folder}:{os.environ['PATH']}"}
+    with report.group(f"{len(lines)} lines of a console block of the README in {shell}"), tempfile.TemporaryDirectory() as work:
+        shutil.copy(TOP / "testdata" / "pass.c", work)
+        for line, printed in lines:
+            how = {"stdout": subprocess.PIPE, "stderr": subprocess.STDOUT, "timeout": SECONDS}
+            done = subprocess.run([shell, "-c", line], cwd=work, env=environment, text=True, **how)
+            report.expect_that(done.stdout == printed, line, f"it printed {done.stdout!r}, and the README says {printed!r}")
+
+
 def check_blocks(program, report, folder):
-    text = (TOP / "README.md").read_text()
-    lines = [row for block in BLOCK.findall(text) for row in typed_lines(block)]
-    if not shutil.which("xxd"):
-        report.skip("the README's console blocks", "xxd is missing")
-        return
+    blocks = list(BLOCK.finditer((TOP / "README.md").read_text()))
+    count = len(blocks), sum(len(list(typed_lines(block["lines"]))) for block in blocks)
+    report.expect_that(count == (BLOCKS, LINES), "the blocks and lines of the README", f"they are {count}")
     os.symlink(program.path, folder / "bpfcanon")
-    path = f"{folder}:{os.environ['PATH']}"
-    for shell in filter(shutil.which, SHELLS):
-        with report.group(f"{len(lines)} lines of the README's console blocks in {shell}"):
-            for line, printed in lines:
-                how = {"stdout": subprocess.PIPE, "stderr": subprocess.STDOUT, "timeout": SECONDS}
-                done = subprocess.run([shell, "-c", line], cwd=folder, env=os.environ | {"PATH": path}, text=True, **how)
-                report.expect_that(done.stdout == printed, line, f"it printed {done.stdout!r}, and the README has {printed!r}")
+    for block in blocks:
+        missing = [tool for tool in [*(block["needs"] or "").split(), "xxd"] if not shutil.which(tool)]
+        if missing:
+            report.skip("a console block of the README", f"{' and '.join(missing)} missing")
+            continue
+        for shell in filter(shutil.which, SHELLS):
+            check_block(report, shell, folder, block["lines"])
 
 
 def main():
@@ -49,8 +61,7 @@ def main():
         sys.exit(__doc__)
     program, report = Program(pathlib.Path(sys.argv[1]).resolve()), Report()
     with tempfile.TemporaryDirectory() as name:
-        folder = pathlib.Path(name)
-        check_blocks(program, report, folder)
+        check_blocks(program, report, pathlib.Path(name))
     return report.end("README")
 
 

@@ -1,4 +1,4 @@
-"""Runs the lines that the README has after key.c: they print a digest, and none for a file with a fault or without the library.
+"""Runs the lines after key.c in docs/LIBRARY.md: they print a digest, and none for a file with a fault or without the library.
 
     readme_key.py PREFIX
 
@@ -30,7 +30,7 @@ def copy_prefix(prefix, target):
 
 
 def printed(lines, folder):
-    """The status of lines of the README and what they print."""
+    """The status of these lines and what they print."""
     environment = {key: value for key, value in os.environ.items() if key != "LD_LIBRARY_PATH"}
     environment["PKG_CONFIG_PATH"] = str(folder / "lib" / "pkgconfig")
     done = subprocess.run(["sh", "-c", lines], cwd=folder, env=environment, capture_output=True, text=True, timeout=SECONDS)
@@ -39,7 +39,7 @@ def printed(lines, folder):
 
 def check(report, prefix, folder):
     copy_prefix(prefix, folder)
-    found = BLOCK.search((TOP / "README.md").read_text())
+    found = BLOCK.search((TOP / "docs" / "LIBRARY.md").read_text())
     lines = found["lines"]
     (folder / "key.c").write_text(found["program"])
     types, canonical = folder / "types.btf", folder / "canonical.btf"
@@ -70,9 +70,9 @@ def main():
     if len(sys.argv) != 2:
         sys.exit(__doc__)
     report = Report()
-    with report.group("the key of the README"), tempfile.TemporaryDirectory() as folder:
+    with report.group("the key of docs/LIBRARY.md"), tempfile.TemporaryDirectory() as folder:
         check(report, pathlib.Path(sys.argv[1]).resolve(), pathlib.Path(folder).resolve())
-    return report.end("the key of the README")
+    return report.end("the key of docs/LIBRARY.md")
 
 
 if __name__ == "__main__":
