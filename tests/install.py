@@ -31,7 +31,10 @@ FILES = {
     "share/doc/bpfcanon/recipes/object-key": TOP / "recipes" / "object-key",
     "share/doc/bpfcanon/recipes/count.c": TOP / "recipes" / "count.c",
 }
-FILES |= {f"share/doc/bpfcanon/docs/{page.name}": page for page in (TOP / "docs").glob("*.md")}
+# The pages for users, and the programs that the recipes compile.
+PAGES = ["FAULTS", "FORMATS", "LIBRARY", "RECIPES", "STABILITY"]
+FILES |= {f"share/doc/bpfcanon/docs/{page}.md": TOP / "docs" / f"{page}.md" for page in PAGES}
+FILES |= {f"share/doc/bpfcanon/testdata/{name}.c": TOP / "testdata" / f"{name}.c" for name in ("flow_table", "packet_filter")}
 EXECUTABLE = {"bin/bpfcanon", "share/doc/bpfcanon/recipes/object-key"}
 
 # A command line, its status, and a word of the message on standard error.

@@ -223,7 +223,7 @@ def check_missing(report):
 # ---- tests/recipes
 
 RECIPE = "```sh\necho same\n```\n```text\nsame\n```\n"
-NOTATION = "### Notation of llvm-objdump\n\n| `exit` | `exit` |\n\nSo llvm-objdump\n\n### Reading a listing\n"
+NOTATION = "### Notation of llvm-objdump\n\n| `exit` | `exit` |\n\nllvm-objdump therefore\n\n### Reading a listing\n"
 # The page of recipes, what the program answers to a listing, and whether the runner passes.
 RECIPES = [
     ("a recipe that passes", RECIPE, "cat", True),
