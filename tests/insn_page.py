@@ -13,7 +13,7 @@ ANY = {name: range(-(1 << bits - 1), 1 << bits - 1) for name, bits in (("offset"
 LAYOUT = r"byte (\d+) (\d+) (\d+) (\d+) (\d+) (\d+) (\d+) \| opcode \| dst and src \| offset \| imm \| reserved \| next_imm \|"
 STARTS = [*map(int, said(INSNS, LAYOUT))]
 BYTES = dict(zip(["opcode", "registers", "offset", "imm", "reserved", "next_imm"], map(slice, STARTS, STARTS[1:])))
-SLOT, TWO = int(said(INSNS, r"An instruction takes one slot of (\d+) bytes\. A wide load takes two\.")[0]), STARTS[-1]
+SLOT, TWO = int(said(INSNS, r"An instruction has one (\d+)-byte slot\. A wide load has two\.")[0]), STARTS[-1]
 RESERVED = int(said(INSNS, r"The reserved word is (\d+)\.")[0])
 
 

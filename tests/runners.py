@@ -255,7 +255,7 @@ def check_recipes(report):
 
 def main():
     report = Report()
-    for runner, least in ("tests/run", 21), ("tests/c_interface/run", 53), ("tests/bindings", 18):
+    for runner, least in ("tests/run", 23), ("tests/c_interface/run", 53), ("tests/bindings", 18):
         check_calls(report, runner, least)
     for check in check_answers, check_verify, check_missing, check_recipes:
         check(report)

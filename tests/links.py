@@ -1,0 +1,67 @@
+"""Checks what the pages refer to: each link leads to a file and a heading, each file named in code exists, and README names each page.
+
+    links.py
+"""
+
+import pathlib
+import re
+import sys
+
+from program import Report
+
+TOP = pathlib.Path(__file__).resolve().parent.parent
+PAGES = [TOP / name for name in ("README.md", "SECURITY.md", "CHANGELOG.md", "testdata/README.md", "bench/README.md")]
+PAGES += sorted([*TOP.glob("docs/*.md"), *TOP.glob("bindings/*/README.md")])
+BLOCK = re.compile(r"^```.*?^```$", re.MULTILINE | re.DOTALL)
+LINK = re.compile(r"\[[^\]]*\]\(([^)\s]+)\)")
+# A file in code: folders and a name with one of these endings. Capitals such as NAME stand for any name.
+FILE = re.compile(r"`([\w./*-]*\w\.(?:rt|antt|py|c|h|md|tsv|go|rs|map|toml|txt))`")
+STANDS_FOR = re.compile(r"(?:^|/)(?:NAME|MODULE|FUNCTION)\b")
+# Files that a reader makes, those of other trees, and those that the repository must not contain.
+MADE = {"key.c", "main.go", "canonical.bin", "out/PROVED.txt", "Cargo.toml", "btf.rst", "PROVED.txt"}
+
+
+def slug(heading):
+    """The anchor of a heading."""
+    return re.sub(r"[^\w\- ]", "", heading.replace("`", "").lower()).replace(" ", "-")
+
+
+def headings(path):
+    return {slug(name) for name in re.findall(r"^#+ (.*)$", BLOCK.sub("", path.read_text()), re.MULTILINE)}
+
+
+def check_links(report, page):
+    for target in LINK.findall(BLOCK.sub("", page.read_text())):
+        if "://" in target:
+            continue
+        name, _, anchor = target.partition("#")
+        path = page.parent / name if name else page
+        report.expect_that(path.exists(), target, "there is no such file")
+        if anchor and path.exists():
+            report.expect_that(anchor in headings(path), target, "the page has no such heading")
+
+
+def check_files(report, page, names):
+    """A name may leave out the first folders."""
+    for name in FILE.findall(BLOCK.sub("", page.read_text())):
+        if name in MADE or STANDS_FOR.search(name):
+            continue
+        pattern = re.compile(r"(?:.*/)?" + re.escape(name).replace(r"\*", r"[^/]*"))
+        report.expect_that(any(map(pattern.fullmatch, names)), f"`{name}`", "there is no such file")
+
+
+def main():
+    report = Report()
+    names = [str(path.relative_to(TOP)) for path in TOP.rglob("*") if path.is_file() and not {".git", "out"} & set(path.relative_to(TOP).parts)]
+    with report.group("the pages that README names"):
+        for page in TOP.glob("docs/*.md"):
+            report.expect_that(f"`docs/{page.name}`" in PAGES[0].read_text(), page.name, "README doesn't name it")
+    for page in PAGES:
+        with report.group(f"links and files of {page.relative_to(TOP)}"):
+            check_links(report, page)
+            check_files(report, page, names)
+    return report.end("links")
+
+
+if __name__ == "__main__":
+    sys.exit(main())

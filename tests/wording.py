@@ -1,0 +1,49 @@
+"""Checks the wording of the pages: phrases that readers stumble over, with what to write instead.
+
+    wording.py
+
+The index of docs/CONTRACTS.md is left out, since comments of the sources are in it.
+"""
+
+import pathlib
+import re
+import sys
+
+from program import Report
+
+TOP = pathlib.Path(__file__).resolve().parent.parent
+PAGES = [TOP / name for name in ("README.md", "SECURITY.md", "CHANGELOG.md", "testdata/README.md", "bench/README.md")]
+PAGES += sorted([*TOP.glob("docs/*.md"), *TOP.glob("bindings/*/README.md"), *TOP.glob("man/*.[135]")])
+LEFT_OUT = re.compile(r"^```.*?^```$|`[^`\n]*`|^## Index$.*", re.MULTILINE | re.DOTALL)
+PHRASES = [
+    (r"exactly (?:where|if)\b", "if and only if"),
+    (r"(?:only|fewer|none|refused|accepted|reported|missing|fails?) where\b", "if, when"),
+    (r"\balone\b", "only"),
+    (r"\bbut for\b|\baside\b", "except"),
+    (r"\bmostly\b", "usually"),
+    (r"\bone after the other\b", "concatenated, in order"),
+    (r"\bsome (?:bytes|room|input)\b", "the input, a buffer"),
+    (r"\bthe word info\b|\bword component_idx\b", "the info word"),
+    (r"\b(?:an|its|invents?) out of memory\b|\black of memory\b", "running out of memory"),
+    (r"\b(?:bytes?|what|that|much) (?:came|come)\b|\b(?:comes?|came) (?:in|out|whole|at once)\b", "arrive, were read"),
+    (r"\bat an? (?:faults?|errors?)\b", "on a fault"),
+    (r"\balso (?:if|where|when)\b", "even if"),
+    (r"\bfor ever\b|\bat hand\b|\bamid\b", "during, available"),
+    (r"\bmend\b|\bjudged?\b|\blends?\b|\blent\b", "repair, check, borrow"),
+    (r"\b(?:mean|means) the same\b", "hold the same instructions, or the same types in the same order"),
+]
+
+
+def main():
+    report = Report()
+    for page in PAGES:
+        text = " ".join(LEFT_OUT.sub("", page.read_text()).split())
+        with report.group(f"the wording of {page.relative_to(TOP)}"):
+            for pattern, instead in PHRASES:
+                found = re.search(rf".{{0,30}}(?:{pattern}).{{0,30}}", text, re.IGNORECASE)
+                report.expect_that(found is None, found and found[0], f"write: {instead}")
+    return report.end("wording")
+
+
+if __name__ == "__main__":
+    sys.exit(main())
