@@ -1,5 +1,5 @@
 /*
- * Canonical bytes by calls of the C interface: of BTF and of instructions as a whole, and of instructions in pieces of 1 MiB.
+ * Canonical bytes by calls of the C interface: of BTF and of instructions at once, and of instructions in pieces of 1 MiB.
  *
  * usage: canon_calls btf little|big < file > file
  *        canon_calls insn|front little|big little|big < program > program
@@ -15,7 +15,7 @@ static uint32_t order_of(const char *word)
 	return strcmp(word, "big") ? BPFCANON_LITTLE : BPFCANON_BIG;
 }
 
-/* Calls for a whole file, whose order BTF states itself. */
+/* Calls for an entire input, whose byte order BTF states itself. */
 static int write_file(int is_btf, uint32_t order, uint32_t to)
 {
 	size_t len;
@@ -39,7 +39,7 @@ static int write_file(int is_btf, uint32_t order, uint32_t to)
 #define PIECE (1 << 20)
 static uint8_t piece[PIECE], room[PIECE];
 
-/* Calls for each piece, with what was not read of the one before it in front. */
+/* Calls for each piece, with what was not read of the previous one prepended. */
 static int write_pieces(uint32_t order, uint32_t to)
 {
 	size_t held = 0;

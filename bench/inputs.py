@@ -95,7 +95,7 @@ def sections(file):
 
 
 def swapped_btf(file):
-    """The same types in the other byte order. All of a record is words of 32 bits."""
+    """The same types in the other byte order. A record consists of 32-bit words."""
     order, types, strings = sections(file)
     words = array.array("I", types)
     words.byteswap()
@@ -109,7 +109,7 @@ def repeated_types(file, length):
 
 
 def enums(offsets):
-    """Enums whose values have names at these offsets: the most names that a type section has room for."""
+    """Enums whose values have names at these offsets: the most names that fit into a type section."""
     types = bytearray()
     for start in range(0, len(offsets), 65535):
         part = offsets[start : start + 65535]
@@ -132,7 +132,7 @@ def scattered(count, length):
 
 
 def one_string(shuffled, scale=1):
-    """One string with the most names at distinct offsets that there is room for."""
+    """One string with as many names at distinct offsets as fit."""
     length = STRINGS_LIMIT // scale - 2
     count = min(length, MOST_VALUES // scale)
     offsets = scattered(count, count) if shuffled else range(count)
@@ -140,7 +140,7 @@ def one_string(shuffled, scale=1):
 
 
 def twin_strings():
-    """Two strings that differ in their first byte alone, with names at all offsets of both."""
+    """Two strings that differ only in their first byte, with names at all offsets of both."""
     length = MOST_VALUES // 2
     strings = b"\0x" + b"a" * length + b"\0y" + b"a" * length + b"\0"
     offsets = list(range(1, 1 + length)) + list(range(length + 3, length + 3 + length))
@@ -148,7 +148,7 @@ def twin_strings():
 
 
 def one_name(scale=1):
-    """One long name, used as often as there is room for."""
+    """One long name, used as often as fits."""
     length = STRINGS_LIMIT // scale - 2
     return btf(enums([1] * (MOST_VALUES // scale)), b"\0" + b"a" * length + b"\0")
 
@@ -168,7 +168,7 @@ def common_tail():
 
 
 def short_texts(count):
-    """`count` distinct texts of 5 bytes."""
+    """`count` distinct 5-byte strings."""
     digits = [bytes([c]) for c in b"abcdefghijklmnopqrstuvwxyz012345"]
     pairs = [a + b for a in digits for b in digits]
     triples = [a + b for a in pairs for b in digits]
@@ -176,7 +176,7 @@ def short_texts(count):
 
 
 def short_names():
-    """Millions of names of 5 bytes."""
+    """Millions of 5-byte names."""
     count = min(MOST_VALUES, (STRINGS_LIMIT - 1) // 6)
     strings = b"\0" + b"\0".join(short_texts(count)) + b"\0"
     return btf(enums(range(1, 1 + 6 * count, 6)), strings)
@@ -196,7 +196,7 @@ def nested_tails():
 
 
 def named_types():
-    """As many typedefs as there is room for, each with a name of its own."""
+    """As many typedefs as fit, each with a name of its own."""
     count = TYPES_LIMIT // 12
     strings = b"\0" + b"\0".join(short_texts(count)) + b"\0"
     types = b"".join(struct.pack("<III", 1 + 6 * k, TYPEDEF << 24, 0) for k in range(count))

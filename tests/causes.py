@@ -20,9 +20,9 @@ DECLARED = {
     "line": ("LineCause", "bpf_text/src/insn/fault.rt", "bpf_text/specs/insn/LineCauseNames.antt"),
     "btf": ("BtfCause", "btf_raw/src/cause.rt", "btf_raw/specs/BtfCauseNames.antt"),
 }
-# The definition of the numbers by which faults of one place are ordered.
+# The definition of the numbers by which faults at one offset are ordered.
 NUMBERS = "btf_raw/specs/Cause.antt"
-# Which kind of vector has the faults of a kind, where its cause is in such a row, and what no input has.
+# The kind of vector for the faults of each kind, the column of its cause, and the cause that no input has.
 VECTORS = {"insn": ("insn-fault", 4), "line": ("listing-fault", 3), "btf": ("btf-fault", 4)}
 NEVER = "TextsTooLong"
 
@@ -44,13 +44,13 @@ def in_enum(text, enum):
 
 
 def in_arms(text, enum, call):
-    """The text of each variant in the arms of a call."""
+    """The string of each variant in the arms of a call."""
     body = re.search(rf"^    pub fn {call}\(.*?^    \}}", text, re.MULTILINE | re.DOTALL)[0]
     return re.findall(rf'{enum}::(\w+) =>\s*"([^"]*)"', body)
 
 
 def in_definition(text, word):
-    """The text of each variant in a definition."""
+    """The string of each variant in a definition."""
     return re.findall(rf'^\w*{word} \w+\.(\w+) = codes "([^"]*)"', text, re.MULTILINE)
 
 

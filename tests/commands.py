@@ -9,7 +9,7 @@ ENGINES = [TOP / "crates" / "bpf_canon" / "src" / name / "run.rt" for name in ("
 
 
 def arms(call, kind):
-    """The arms of a call of an enum: its variants, and the text of each."""
+    """The arms of a call of an enum: its variants, each with its string."""
     pattern = rf"^impl {kind} \{{.*?^    pub fn {call}\b.*?\{{\n        match self \{{\n(.*?)^        \}}"
     body = re.search(pattern, VERB, re.MULTILINE | re.DOTALL)[1]
     found = {}

@@ -78,7 +78,7 @@ def check_vectors(report):
     makers += [vectors.runs_of_all_insns, vectors.runs_of_compiled_files]
     Answering.rights = {(line, given): right for make in makers for _, line, given, right in make()}
     for _, given, shown in vectors.rows("listing"):
-        # where no vector has the code of the lines, they are in its place
+        # without a vector that has the code of the lines, they stand for it
         lines = vectors.text(shown)
         code = Answering.rights.get(("insn-read", lines), vectors.done(lines))
         Answering.rights |= {("insn-read", vectors.text(given)): code, ("insn-read", lines): code}

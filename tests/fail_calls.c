@@ -7,7 +7,7 @@
  *   FAIL_WRITE     the number of the write to standard output that fails
  *   FAIL_MESSAGE   the number of the write to standard error that fails
  *
- * A call that fails moves nothing. What isn't set leaves its calls as they are.
+ * A call that fails moves nothing. Unset variables change nothing.
  */
 #define _GNU_SOURCE
 #include <dlfcn.h>
@@ -38,7 +38,7 @@ __attribute__((constructor)) static void begin(void)
     next_write = dlsym(RTLD_NEXT, "write");
 }
 
-/* How many bytes a call on a stream moves, or -1 where it fails. */
+/* How many bytes a call on a stream moves, or -1 if it fails. */
 static ssize_t moved(int stream, size_t count)
 {
     if (stream < 0 || stream > 2)

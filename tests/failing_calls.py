@@ -2,7 +2,7 @@
 
     failing_calls.py PROGRAM FAIL_CALLS
 
-The second word is the shared object that is built of fail_calls.c.
+The second argument is the shared object that is built from fail_calls.c.
 """
 
 import os
@@ -58,7 +58,7 @@ def check_each_read(paced, report):
     """One byte comes at a time, and one more read finds the end."""
     with report.group("each read fails"):
         for line, given, output in LINES:
-            # insn-canon has written the instructions that came, of 8 bytes each
+            # insn-canon has written the instructions that were read, 8 bytes each
             streams = line == "" or line.startswith("insn-canon")
             for number in range(1, len(given) + 2):
                 written = output[: (number - 1) // 8 * 8] if streams else b""
@@ -110,7 +110,7 @@ def check_writes_of_pieces(paced, report):
 
 
 def check_faults(paced, report):
-    """The whole input is judged before the first piece, and a fault in whole slots is reported before a read that fails."""
+    """The entire input is checked before the first piece, and a fault in complete slots is reported before a read that fails."""
     file, _ = long_texts.nameless(0, 900)
     unknown_type = file[:-5] + b"\0\x10\0\0\0"
     with report.group("faults beside pieces and beside reads that fail"):

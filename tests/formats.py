@@ -1,9 +1,9 @@
-"""Compares docs/FORMATS.md with the vectors and with the built program: the page itself is read, and judges.
+"""Compares docs/FORMATS.md and docs/FAULTS.md with the vectors and with the built command, by what the pages themselves say.
 
     formats.py PROGRAM
 
-insn_judge.py and second_judge.py say of bytes what the tables of the page say. Here they judge each vector, and each instruction of the
-vectors again with one of its fields changed, which the program is given too.
+insn_judge.py and second_judge.py check bytes by the tables of the pages. Here they check each vector, and each instruction of the
+vectors again with one of its fields changed, which is passed to the command too.
 """
 
 import itertools
@@ -17,7 +17,7 @@ from program import Program, Ran, Report
 from samples import btf
 from vectors import data, rows, text
 
-# How many words follow the head of a record, and how many each item has (btf.rst section 2.2), by the kind.
+# How many 32-bit words follow the head of a record, and how many each item has (btf.rst section 2.2), by kind.
 WORDS = {1: 1, 3: 3, 14: 1, 17: 1}
 ITEMS = {4: 3, 5: 3, 6: 2, 13: 2, 15: 3, 19: 3}
 # What a field of an instruction is changed to.
@@ -42,7 +42,7 @@ def check_insns(report):
             for order, code in ("little", data(little)), ("big", data(big)):
                 fault = insn_judge.judged(code, order)[1]
                 report.expect_that(fault == (int(place), cause), f"{name} in {order}-endian order", f"the page says {fault}")
-    with report.group("the words of the table of lines"):
+    with report.group("the mnemonics of the table of lines"):
         words = {insn_judge.word_of(form) for form in insn_judge.forms()}
         named = {word: name for word, (name, _) in insn_judge.templates().items()}
         report.expect_that(words == set(named), "the words", f"these differ: {sorted(words ^ set(named))}")
@@ -71,7 +71,7 @@ def check_changed_insns(program, report):
     with report.group("instructions with a field changed, by the page and by the program"):
         for code in changed_insns():
             read, fault = insn_judge.judged(code, "little")
-            # what was a wide load may be an instruction and its neighbour: the page judges the first
+            # a changed wide load may be two instructions: the page is asked about the first
             if read and read[0].is_wide == (len(code) == 16):
                 accepted.append(code)
                 shown.append(insn_judge.line_of(*read) + "\n")
@@ -86,7 +86,7 @@ def check_changed_insns(program, report):
 
 
 def check_groups(program, report):
-    """Each form alone, so that the groups it brings are seen."""
+    """Each form by itself, to see the groups that its group includes."""
     with report.group("the groups of the page and of the program"):
         brings = insn_judge.brings()
         for _, little, _, _ in rows("insn"):
@@ -135,19 +135,19 @@ def check_btf(report):
 
 
 # Types 1 to 7, one of each kind that another type may need: INT, FUNC_PROTO with a parameter, STRUCT with a member, FUNC, VAR, TYPEDEF,
-# UNION with a member. The string section has the name "a" at 1.
+# UNION with a member. The name "a" is at offset 1 of the string section.
 TARGETS = [1, 0x0100_0000, 4, 32, 0, 0x0D00_0001, 1, 1, 1, 1, 0x0400_0001, 4, 1, 1, 0]
 TARGETS += [1, 0x0C00_0000, 2, 1, 0x0E00_0000, 1, 0, 1, 0x0800_0000, 1, 1, 0x0500_0001, 4, 1, 1, 0]
 
 
 def tried_records():
-    """Records of each kind, and of a number below and above them: with a name and without, each third word and vlen, and kind_flag."""
+    """Records of each kind and of a number below and above them, with and without a name, kind_flag and items, and with each third word."""
     for kind, name, vlen in itertools.product(range(21), range(2), range(3)):
         heads = [(0, third) for third in range(10)] + [(1, 4)]
         for flag, third in heads:
-            # words of 0 after it, as many as the program takes of a good record
+            # zeros after it, as many as a good record has
             yield [name, flag << 31 | kind << 24 | vlen, third] + [0] * (WORDS.get(kind, 0) + vlen * ITEMS.get(kind, 0))
-    # tags on parts of each type, words of INT with each bit and each encoding, and bit-fields of INTs with each number of bits
+    # tags on parts of each type, INTs with each bit and each encoding, and bit-fields of INTs with each number of bits
     yield from ([1, 0x1100_0000, target, part] for target in range(10) for part in (0, 1, 2, 0xFFFF_FFFF))
     yield from ([1, 0x0100_0000, 16, word] for word in [*(1 << bit for bit in range(32)), *(code << 24 for code in range(16)), 128, 129])
     for word in [*range(130), 1 << 16 | 8]:

@@ -1,7 +1,7 @@
-"""What docs/FORMATS.md says of instructions, by its own tables: the first fault of some bytes, the line of an instruction, its group.
+"""What docs/FORMATS.md and docs/FAULTS.md say about instructions: the first fault of bytes, the line of an instruction, its group.
 
-All forms of instructions are made of the tables of the page (insn_page.py). An instruction is judged field by field: the forms that
-agree with its bytes so far are kept, and the field at which none is left is at fault.
+All forms of instructions come from the tables of FORMATS (insn_page.py). An instruction is checked field by field: the forms that match
+its bytes so far remain, and the field for which none remains is at fault.
 """
 
 import functools
@@ -15,7 +15,7 @@ FIELDS = ["Opcode", "Dst", "Src", "Offset", "Imm", "Reserved", "NextImm"]
 
 
 class Insn(NamedTuple):
-    """The fields of a slot, or of two of them, in the order in which they are judged."""
+    """The fields of one slot or two, in the sequence in which they are checked."""
 
     opcode: int
     dst: int
@@ -52,7 +52,7 @@ def bytes_of(insn, is_wide, order):
 
 @functools.cache
 def places():
-    """The place of each cause, and that of a second slot that is cut."""
+    """The offset of each cause, and that of an incomplete second slot."""
     rows = table("Faults in instructions", "Cause", "No.", "Offset")
     found = {cause: place for cause, _, place in rows}
     said("Faults in instructions", rf"Fewer than {SLOT} bytes at the end are Truncated, whatever they contain\.")
@@ -61,7 +61,7 @@ def places():
 
 
 def holds(form, field, value):
-    """Whether a form has this value in a field. The reserved word is 0 in all."""
+    """Whether a form allows this value in a field. The reserved field is 0 in all."""
     allowed = {"Opcode": {form.opcode}, "Dst": form.dst, "Src": form.src, "Offset": form.offset, "Imm": form.imm}
     return value in (allowed | {"Reserved": {RESERVED}, "NextImm": form.next_imm})[field]
 
@@ -76,7 +76,7 @@ def field_fault(insn, allowed, fields):
 
 
 def judged(code, order):
-    """The form and fields of the first instruction of some bytes, or the place and the cause of its fault."""
+    """The form and fields of the first instruction, or the offset and the cause of its fault."""
     place, cut = places()
     if len(code) < SLOT:
         return None, (place["Truncated"], "Truncated")
@@ -101,7 +101,7 @@ PARTS = re.compile(r"((?:`[^`]*` ?)+)(\(32\))? ?(.*)")
 
 @functools.cache
 def templates():
-    """The words of each row of the table of lines, and its operands: of wide loads and jumps, of each word."""
+    """The row and the operands of each mnemonic, from the table of lines."""
     found = {}
     narrow, wide = said("Listings", r'- "\(32\)" is the suffix `32` for (\d+) bits and nothing for (\d+)\.')
     for name, line in table("Listings", "Instruction", "Line"):
@@ -116,7 +116,7 @@ def templates():
 
 
 def word_of(form):
-    """The word of a form: the page has the words, and this rule is checked against them."""
+    """The mnemonic of a form. formats.py checks this rule against the page."""
     letter = SIZE_LETTERS.get(form.operation, "")
     suffix = "32" if form.bits == 32 else ""
     of_name = {
@@ -148,7 +148,7 @@ def word_of(form):
 
 
 def line_of(form, insn):
-    """The line of an instruction, by the operands that the page has for its word."""
+    """The line of an instruction, by the operands that the page lists for its mnemonic."""
     word = word_of(form)
     _, operands = templates()[word]
     signed = insn.offset if form.offset == ANY["offset"] else insn.imm
@@ -176,12 +176,12 @@ def line_of(form, insn):
 
 @functools.cache
 def groups():
-    """The rows of the table of groups: the name of each with what it says of its instructions, and the group that it brings."""
+    """The rows of the table of groups: the name of each, its instructions, and the group that it includes."""
     return [(name, text.split("; "), brings) for name, text, brings in table("Conformance groups", "Group", "Instructions", "Includes")]
 
 
 def brings():
-    """Each group with those that come with it, itself last."""
+    """Each group with those that it includes, itself last."""
     return {name: [*filter(None, [other]), name] for name, _, other in groups()}
 
 

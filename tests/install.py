@@ -1,4 +1,4 @@
-"""Installs the built program into a folder of its own, compares what is there, and removes it.
+"""Installs the built command into a folder of its own, compares the files, and removes them.
 
     install.py PROGRAM
 
@@ -37,7 +37,7 @@ FILES |= {f"share/doc/bpfcanon/docs/{page}.md": TOP / "docs" / f"{page}.md" for 
 FILES |= {f"share/doc/bpfcanon/testdata/{name}.c": TOP / "testdata" / f"{name}.c" for name in ("flow_table", "packet_filter")}
 EXECUTABLE = {"bin/bpfcanon", "share/doc/bpfcanon/recipes/object-key"}
 
-# A command line, its status, and a word of the message on standard error.
+# A command line, its status, and a part of the message on standard error.
 REFUSED = [
     ("--remove", 2, b"unknown option --remove"),
     ("/first /second", 2, b"more than one prefix"),
@@ -59,7 +59,7 @@ def files_below(folder):
 
 
 def check_files(report, root):
-    """Each file is there, is a copy, and has its mode; there is no other."""
+    """Each file exists, is a copy, and has its mode, and nothing else exists."""
     report.expect_that(files_below(root) == sorted(FILES), "the files", f"these are there: {files_below(root)}")
     for name, source in FILES.items():
         file = root / name

@@ -48,7 +48,7 @@ def largest_btf_text():
 
 
 def run(program, line, given):
-    """A run whose input is a file, which takes less time than a pipe."""
+    """A run whose input is a file, which is faster than a pipe."""
     with tempfile.TemporaryFile() as file:
         file.write(given)
         file.seek(0)
@@ -98,7 +98,7 @@ def check_longest_names(program, report):
 
 
 def check_names_used_often(program, report):
-    """Each of half a million values has the same name of a million bytes, beside a text that isn't UTF-8."""
+    """Half a million values have the same name of a million bytes, next to a string that isn't UTF-8."""
     enum = struct.pack("<III", 0, 0x0600_FFFF, 4) + struct.pack("<II", 1, 0) * 0xFFFF
     strings = b"\0" + b"a" * 1_000_000 + b"\0"
     canonical = btf_header(24, 8 * len(enum), len(strings)) + 8 * enum + strings
@@ -116,7 +116,7 @@ def refused(message, output=b""):
 
 
 def check_faults_at_the_limit(program, report):
-    """insn-canon reports a fault within the limit as it reads; the others first report that too much came."""
+    """insn-canon reports a fault within the limit as it reads; the others first report that the input is too long."""
     front = EXIT * (INSTRUCTIONS - 1)
     limit = len(front) + len(EXIT)
     with report.group("instructions that are faulty, cut or too many at the limit"):

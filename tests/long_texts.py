@@ -1,4 +1,4 @@
-"""Inputs whose text is written in pieces: listings, and the text of BTF types with many names and with long ones.
+"""Inputs whose listing is written in pieces: instructions, and BTF types with many names and with long ones.
 
 A piece is the fewest lines, or chunks of a long name, that make 8,192 bytes or more. A chunk of a name is 2,048 of its bytes.
 """
@@ -15,12 +15,12 @@ def exits(count):
 
 
 def negations_and_exits():
-    """The first piece is 1,024 lines of 8 bytes, and the second, of 8,195, takes more room than that."""
+    """The first piece is 1,024 lines of 8 bytes; the second has 8,195 bytes and needs a larger buffer."""
     return NEG * 1_024 + EXIT * 1_639, b"neg r10\n" * 1_024 + b"exit\n" * 1_639
 
 
 def nameless(consts, count):
-    """`count` types without names, and their text: the first are CONSTs of void, and the others PTRs to void."""
+    """`count` types without names, and their listing: first CONSTs of void, then PTRs to void."""
     infos = [CONST] * consts + [PTR] * (count - consts)
     words = [word for info in infos for word in (0, info, 0)]
     kinds = {CONST: b"const", PTR: b"ptr"}
@@ -29,7 +29,7 @@ def nameless(consts, count):
 
 
 def typedefs(names, strings, shown):
-    """A TYPEDEF of void for each offset of a name, and their text with these names."""
+    """A TYPEDEF of void for each offset of a name, and their listing with these names."""
     words = [word for name in names for word in (name, TYPEDEF, 0)]
     text = b"".join(b'[%d] typedef "%s" type=0\n' % (number, name) for number, name in enumerate(shown, 1))
     return btf("little", words, strings), text
@@ -41,7 +41,7 @@ def controls(count):
 
 
 def letters_and_controls():
-    """The first piece is what comes before the name and four chunks of letters, 8,205 bytes; the second takes more room."""
+    """The first piece is what precedes the name and four chunks of letters, 8,205 bytes; the second needs a larger buffer."""
     return typedefs([1], b"\0" + b"n" * 14_336 + b"\x01" * 2_048 + b"\0", [b"n" * 14_336 + b"\\x01" * 2_048])
 
 
@@ -52,7 +52,7 @@ def ends_of_one_string():
 
 
 def value_of_cut_characters():
-    """A value's name of characters of two bytes after one of one byte: each chunk ends amid a character."""
+    """A value's name of 2-byte characters after a 1-byte one: each chunk ends inside a character."""
     name = b"n" + b"\xc3\xa9" * 5_000
     text = b'[1] enum "" unsigned size=4 items=1\n  value "%s" 7\n' % name
     return btf("little", [0, 0x0600_0001, 4, 1, 7], b"\0" + name + b"\0"), text

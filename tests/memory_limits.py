@@ -1,12 +1,11 @@
-"""Runs the built program within limits of memory, from none that suffices to ample, which the system sets.
+"""Runs the built command within memory limits of the system, from too little to ample.
 
     memory_limits.py PROGRAM
 
-Two answers are right within any limit: the one with ample memory; status 3 with `no memory`, or `no words` where not
-even the words of the process could be kept. Of the output there is nothing then, but for insn-canon, which writes as
-it reads, and insn-show and btf-show, which write in pieces: there it is the beginning of the right output. Only where the limit is so
-low that the system can't load the program, the end is the system's: the kernel's signal, and then the loader's line with
-status 127.
+Two results are right within any limit: the one with ample memory; status 3 with `no memory`, or `no words` if not even the arguments
+of the process could be stored. There is no output then, except a prefix of it from insn-canon, which writes as it reads, and from
+insn-show and btf-show, which write in pieces. If the limit is so low that the system can't load the command, the system ends it: the
+kernel by a signal or, with more memory, the loader with a message and status 127.
 
 Then two commands may grow by little memory while they run: insn-canon on the largest input, and btf-show on names that share their
 bytes. refused_memory.py refuses the allocations of each command one by one.
@@ -25,11 +24,11 @@ from program import Program, Ran, Report
 PAGE = resource.getpagesize()
 MEGABYTE = 1 << 20
 LIMITS = {"address space": resource.RLIMIT_AS, "data": resource.RLIMIT_DATA}
-# What the loader says where it can't map the C library, or has no memory for itself.
+# What the loader says if it can't map the C library, or has no memory for itself.
 LOADER = re.compile(rb"error while loading shared libraries|cannot allocate TLS|cannot create|out of memory|cannot map")
 
 def is_refusal(ran, line, right, messages=(b"no memory\n",)):
-    """Whether the program reported that it is out of memory, and wrote nothing that it shouldn't."""
+    """Whether the command reported that it ran out of memory, and wrote nothing that it shouldn't."""
     written = right.output if line == "" or line.startswith(("insn-canon", "insn-show", "btf-show")) else b""
     return ran.status == 3 and ran.message in messages and written.startswith(ran.output)
 
@@ -71,7 +70,7 @@ def check_limits_from_the_start(program, report):
         low, high = loaded
         with report.group(f"a limit of {name} from the start, a page more each time"):
             by_loader = run_within(program, kind, low * PAGE, "leave", b"")
-            # where a signal comes last, the program itself could have been killed
+            # if the last one ended by a signal, the command itself could have been killed
             report.expect_that(by_loader.status == 127, "the greatest limit without a start", f"it gave {by_loader}")
             for line, given, right in [
                 ("insn-canon", EXIT, Ran(0, EXIT, b"")),
@@ -91,7 +90,7 @@ def check_limits_from_the_start(program, report):
                 report.expect_that(b"no words\n" in messages, line, f"no limit gave `no words`, but {messages}")
 
 
-# ---- limits that come while the program runs
+# ---- limits that are set while the command runs
 
 
 def size_of(process):
@@ -100,16 +99,16 @@ def size_of(process):
         return int(file.read().split()[0]) * PAGE
 
 
-def run_limited_amid(program, kind, more, line, given, front):
-    """Feeds the front of an input, lets the process grow by this many bytes at most, and feeds the rest."""
+def run_limited_amid(program, kind, more, line, given, first):
+    """Feeds the first bytes of an input, lets the process grow by this many bytes at most, and feeds the rest."""
     with Running(program, line) as running:
         process = running.process
-        os.write(process.stdin.fileno(), given[:front])
+        os.write(process.stdin.fileno(), given[:first])
         while running.unread_input():
             os.sched_yield()
         limit = more + (size_of(process) if kind == resource.RLIMIT_AS else 0)
         resource.prlimit(process.pid, kind, (limit, limit))
-        running.feed([given[front:]])
+        running.feed([given[first:]])
         output = running.read(1 << 30)
         return running.end(output)
 
@@ -123,7 +122,7 @@ def check_streams_in_little_memory(program, report):
 
 
 def check_shows_names_in_little_memory(program, report):
-    """All names end in one string of 1 MB, so the text is 64 times as long as the file: btf-show keeps no more of it than a line."""
+    """All names end in one 1 MB string, so the listing is 64 times as long as the file: btf-show stores no more of it than a line."""
     name, count = b"n" * MEGABYTE, 64
     given = btf("little", floats(range(1, count + 1)), b"\0" + name + b"\0")
     text = b"".join(b'[%d] float "%s" size=8\n' % (number, name[number - 1 :]) for number in range(1, count + 1))

@@ -2,7 +2,7 @@
 
     out_of_memory.py [FILE..]
 
-No contract can say that an allocator failed, so a body that gives up on some input would be proved. It would have to write the answer
+No contract can say that an allocator failed, so a body that gives up on an input would be proved. It would have to write the answer
 somewhere, though. rt ci refuses a file in another layout than rt fmt's, so each line of crates/*/src that names `AllocError`, or a
 variant whose name ends in `Memory`, has to be one of these lines: anything else is refused, right or not.
 """
@@ -18,7 +18,7 @@ NAME = re.compile(r"\bAllocError\b|\bAllocFailed\b|\b\w*Memory\b(?!\()")
 ANSWER = r"(?:\w+::)*\w*Memory(?:, 0)?|AllocError"
 IN_ARM = rf"(?:Err\()?(?:{ANSWER})\)?"
 LINES = [
-    # what isn't an expression: comments, imports, texts, definitions, types, and patterns alone
+    # what isn't an expression: comments, imports, strings, definitions, types, and lone patterns
     r" *(?://|ghost |use |#\[error).*",
     r" *\w+(?:, \w+)*,",
     r".*(?:\) -> |: )Result<.*, AllocError>(?: \{|,)?",
@@ -30,7 +30,7 @@ LINES = [
     # an answer that is passed on as one
     rf" *{IN_ARM} => (?:return )?(?:Err\()?(?:\w+\()?(?:{ANSWER})\)*,",
 ]
-# Of a call whose only error is `AllocError`, `Err(_)` is that one: how many such arms a file has.
+# `Err(_)` of a call whose only error is `AllocError` is that one: the number of such arms in each file.
 ONLY_ERROR = re.compile(r" *Err\(_\) => \w+::Memory,")
 ARMS = {"bpfcanon_c/src/listing.rt": 1, "bpfcanon_c/src/types_text.rt": 1}
 

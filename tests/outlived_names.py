@@ -2,7 +2,7 @@
 
     outlived_names.py
 
-A table of types lends its names. Each function below keeps one, and drops the table and the file. It is a crate of its own, in a
+The names of a table of types are borrowed. Each function below keeps one, and drops the table and the file. It is a crate of its own, in a
 copy of the libraries that it needs, and `rt try` compiles it without any proof.
 """
 
@@ -41,7 +41,7 @@ pub fn first_length(alloc: Global, file: Vec<u8>) -> usize {{
 fn compiles() {{}}
 """
 
-# Each order of the same three lines, and what the compiler says of it: nothing where the name is used first.
+# Each order of the same three lines, and what the compiler says about it: nothing if the name is used first.
 ORDERS = [
     ("the name is used first", ["let length = name.len();", "drop(table);", "drop(file);"], None),
     ("the name outlives the file", ["drop(file);", "let length = name.len();", "drop(table);"], "file"),
@@ -88,7 +88,7 @@ def compiled(crate, lines):
 
 
 def is_right(said, moved):
-    """Whether the one error is that this value is borrowed where it is moved, or there is none and the test ran."""
+    """Whether the only error is that this value is moved while it is borrowed, or the test ran without one."""
     errors = re.findall(r"error.*", said)
     if moved is None:
         return not errors and "1 passed" in said

@@ -22,7 +22,7 @@ README = (TOP / "README.md").read_text()
 HEADER = (TOP / "capi" / "bpfcanon.h").read_text()
 SOURCE = (TOP / "capi" / "bpfcanon.c").read_text()
 OUTCOME, MAIN = ((TOP / "crates" / "bpfcanon" / "src" / name).read_text() for name in ("outcome.rt", "main.rt"))
-# A value of each option. An order is one of two words.
+# A value of each option. A byte order has two names.
 VALUES = {"--order": "little", "--to": "little", "--other": "little", "--split": "0"}
 ORDERS = ["big", "little"]
 
@@ -62,14 +62,14 @@ def check_readme(report):
 
 
 def statuses():
-    """The lines on standard error of each status, without those that have a place or the usage."""
+    """The messages of each status, except faults and the usage."""
     line_of = dict(re.findall(r'Outcome::(\w+) => report_line\(faults, b"([a-z ]+)\\n"\)', OUTCOME))
     body = re.search(r"^    pub fn status\b.*?^    \}", OUTCOME, re.MULTILINE | re.DOTALL)[0]
     found = {}
     for variants, status in re.findall(r"((?:Outcome::\w+(?:\(.*?\))?\s*\|?\s*)+)=> (\d)", body):
         lines = {line_of[it] for it in re.findall(r"Outcome::(\w+)", variants) if it in line_of}
         found[status] = found.get(status, set()) | lines
-    # what the process says before there are words is in its main function
+    # the message about the argument vector is in the main function
     before = re.findall(r'b"(no [a-z]+)\\n"', MAIN)
     return found | {"3": found["3"] | set(before)}
 
@@ -130,7 +130,7 @@ def check_limits(report):
 
 
 def plain(page):
-    """The words of a manual page without its marks."""
+    """A manual page without its macros."""
     lines = []
     for line in page.replace(r"\-", "-").replace(r"\~", " ").splitlines():
         name, _, rest = line.partition(" ")
@@ -150,7 +150,7 @@ def fields_of(text, name):
 
 
 def rooms_of_header():
-    """How many times its input the room of a call is, where its comment says so."""
+    """How many times its input the buffer of a call has to be, if its comment says so."""
     found = {}
     for comment, calls in re.findall(r"^/\*\n((?: \*.*\n)*?) \*/\n((?:bpfcanon_(?:[^;]|\n)*?;\n)+)", HEADER, re.MULTILINE):
         text = re.sub(r"\n \* ?", " ", "\n" + comment)
@@ -173,7 +173,7 @@ def rooms_of_page(page):
 
 
 def rooms_of_source():
-    """How many times its input the first block of a call that allocates has. The text of types has no bound."""
+    """How many times its input the first block of a call that allocates has. Type listings have no bound."""
     calls = re.findall(r"^bpfcanon_answer (bpfcanon_\w+)_new\((?:.|\n)*?write_new\(&request, (\d), ", SOURCE, re.MULTILINE)
     return {name: int(times) for name, times in calls if name != "bpfcanon_btf_show"}
 
@@ -219,7 +219,7 @@ def shown_page(page):
 
 
 def calls_of(text):
-    """The calls that a header or a page declares, each with a blank between its words."""
+    """The calls that a header or a page declares, with single blanks."""
     calls = re.findall(r"^ *((?:bpfcanon_\w+|void|const char) \*?bpfcanon_\w+\([^;]*;)", text, re.MULTILINE)
     return sorted(" ".join(call.split()) for call in calls)
 
@@ -260,7 +260,7 @@ def check_pages(report):
 
 
 def check_program(program, report):
-    """A line with an option that its command doesn't take is refused with the status 2."""
+    """An option that a command doesn't accept is refused with status 2."""
     with report.group("the options that the program takes"):
         for command in COMMANDS:
             split = {"--split": "0"} if "--split" in OPTIONS[command] else {}
@@ -271,7 +271,7 @@ def check_program(program, report):
 
 
 def completed(line):
-    """What bash completes the last word of a line to."""
+    """What bash completes a line to."""
     script = f'. "$0"; COMP_WORDS=({line}); COMP_CWORD=$((${{#COMP_WORDS[@]}} - 1)); _bpfcanon; printf "%s\\n" "${{COMPREPLY[@]}}"'
     words = ["bash", "-euc", script, TOP / "completions" / "bash" / "bpfcanon"]
     done = subprocess.run(words, stdout=subprocess.PIPE, stderr=subprocess.STDOUT, text=True, timeout=SECONDS)
@@ -297,7 +297,7 @@ def check_bash(report):
             report.expect_that(completed(line) == words, line, f"it is completed to {completed(line)}, and right is {words}")
 
 
-# Runs the completion for zsh as its shell does, at the word CURRENT of a line. What it hands to the shell is printed.
+# Runs the completion for zsh as its shell does, at argument CURRENT of a line. What it passes to the shell is printed.
 IN_ZSH = """
 _arguments() { print -rl -- "$@" }
 _describe() { print -rl -- "${(@P)4}" }
@@ -308,14 +308,14 @@ source $1
 
 
 def handed_to_zsh(file, line, current):
-    """What the completion hands to the shell, a line for each."""
+    """What the completion passes to the shell, one line for each."""
     words = ["zsh", "-fc", IN_ZSH, "zsh", file, line, str(current)]
     done = subprocess.run(words, stdout=subprocess.PIPE, stderr=subprocess.STDOUT, text=True, timeout=SECONDS)
     return done.stdout.splitlines() if done.returncode == 0 else [f"status {done.returncode}", *done.stdout.splitlines()]
 
 
 def check_zsh(report):
-    """zsh runs the file; where it is missing, its text is read."""
+    """The file is read, and run by zsh if that is installed."""
     file = TOP / "completions" / "zsh" / "_bpfcanon"
     text = file.read_text()
     with report.group("the text of the completion for zsh"):

@@ -3,7 +3,7 @@
     pipes.py PROGRAM
 
 process.py has streams that fail from the start, and failing_calls.py reads and writes that move single bytes. Here a reader goes away
-amid the output, and a writer never ends or waits before its end.
+in the middle of the output, and a writer that never ends or pauses.
 """
 
 import contextlib
@@ -21,7 +21,7 @@ import vectors
 from samples import EXIT, btf, floats
 from program import SECONDS, Program, Ran, Report
 
-# So much output doesn't fit into a pipe, not even of the usual 65,536 bytes.
+# More output than a pipe holds, even at the default 65,536 bytes.
 EXITS = 100_000
 FLOATS = 20_000
 
@@ -60,7 +60,7 @@ class Running:
                 stream.close()
 
     def feed(self, pieces):
-        """Writes pieces from a thread of its own until they end, then closes the input. Ends where nobody reads it."""
+        """Writes pieces from a thread of its own until they end, then closes the input. Ends if nobody reads it."""
         self.cut = threading.Event()
         threading.Thread(target=self.feed_now, args=[pieces], daemon=True).start()
 
@@ -75,7 +75,7 @@ class Running:
             self.cut.set()
 
     def read(self, count):
-        """The next bytes of the output, fewer where they don't come in time or where it ends."""
+        """The next bytes of the output, fewer if they are late or if it ends."""
         output, read = self.process.stdout, bytearray()
         while len(read) < count and select.select([output], [], [], SECONDS)[0]:
             more = os.read(output.fileno(), min(count - len(read), 1 << 20))
@@ -89,7 +89,7 @@ class Running:
         return unread(self.process.stdin)
 
     def end(self, output=b""):
-        """How the program ended, with the output that was read before; where it hangs, `subprocess.TimeoutExpired`."""
+        """How the command ended, with the output that was read before. Raises `subprocess.TimeoutExpired` if it hangs."""
         self.process.wait(SECONDS)
         return Ran(self.process.returncode, output, self.process.stderr.read())
 

@@ -1,4 +1,4 @@
-"""Runs the built program as users do: its words, its streams, its exit status.
+"""Runs the built command as users do: its arguments, its streams, its exit status.
 
     process.py PROGRAM
 
@@ -100,7 +100,7 @@ def pipe():
 
 
 def input_that_fails_once(first):
-    """A socket that gives these bytes, then one error, and then its end."""
+    """A socket that delivers these bytes, then one error, and then its end."""
     ours, theirs = socket.socketpair()
     theirs.send(b"unread")
     ours.send(first)
@@ -109,7 +109,7 @@ def input_that_fails_once(first):
 
 
 def output_that_fails_once():
-    """A socket whose next write fails, and which takes all that follow."""
+    """A socket whose next write fails, and which accepts all that follow."""
     with socket.socket(socket.AF_INET, socket.SOCK_DGRAM) as taken:
         taken.bind(("127.0.0.1", 0))
         port = taken.getsockname()[1]
@@ -162,7 +162,7 @@ def check_writes_are_not_tried_again(program, report):
                 report.expect(f"{line}, to a failed write", program.run(line, given, stdout=failing), WRITE_FAILED)
 
 
-# ---- answers that come before the input's end
+# ---- answers before the input's end
 
 
 def start(program, line):
@@ -171,7 +171,7 @@ def start(program, line):
 
 
 def read_within(stream, count):
-    """The next bytes of a stream, fewer where they don't come in time or where it ends."""
+    """The next bytes of a stream, fewer if they are late or if it ends."""
     read = b""
     while len(read) < count and select.select([stream], [], [], SECONDS)[0]:
         more = os.read(stream.fileno(), count - len(read))

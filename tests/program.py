@@ -1,10 +1,10 @@
-"""Runs the built program as a process, and keeps count of what was right and wrong."""
+"""Runs the built command as a process, and counts what was right and wrong."""
 
 import contextlib
 import subprocess
 from typing import NamedTuple
 
-# A run that takes longer than this has hung.
+# A longer run has hung.
 SECONDS = 60
 
 
@@ -20,7 +20,7 @@ class Ran(NamedTuple):
 
 
 def shortened(text):
-    """The bytes as Python writes them; of many only the first, and how many there are."""
+    """The bytes as Python writes them; only the first of many, with their number."""
     if len(text) <= 80:
         return repr(text)
     return f"{text[:60]!r}.. ({len(text)} bytes)"
@@ -33,7 +33,7 @@ class Program:
         self.path = path
 
     def run(self, line, input=b"", **how):
-        """Runs the program with the words of a line; `how` is passed on to `subprocess.run`."""
+        """Runs the command with the arguments of a line; `how` is passed on to `subprocess.run`."""
         if "stdin" not in how:
             how["input"] = input
         how.setdefault("stdout", subprocess.PIPE)
@@ -67,7 +67,7 @@ class Report:
         self.expect_that(ran == expected, what, f"it gave {ran}, and right is {expected}")
 
     def expect_that(self, is_right, what, otherwise):
-        """Counts a run; where it isn't right, says so."""
+        """Counts a run, and prints what is wrong."""
         self.runs += 1
         if not is_right:
             self.report_wrong(f"{what}: {otherwise}")
@@ -81,7 +81,7 @@ class Report:
         print(f"skipped: {what}: {why}", flush=True)
 
     def end(self, name):
-        """Prints the last line, and gives the status for the process."""
+        """Prints the last line, and returns the exit status."""
         skipped = f", {self.skipped} skipped" if self.skipped else ""
         print(f"{name}: {self.runs} runs, {self.wrong} wrong{skipped}", flush=True)
         return 1 if self.wrong or not self.runs else 0

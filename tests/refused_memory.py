@@ -1,14 +1,13 @@
-"""Runs the built program with each of its allocations refused in turn, alone and with all that follow.
+"""Runs the built command with each of its allocations refused in turn, by itself and with all that follow.
 
     refused_memory.py PROGRAM REFUSE_ALLOCATION
 
-The second word is the shared object that is built of refuse_allocation.c. What the program takes for its words
+The second argument is the shared object that is built from refuse_allocation.c. What the command allocates for its arguments
 and for clap is refused too, which no test inside the crates can do.
 
-Whatever is refused, three answers are right: the one with ample memory; status 3 with `no memory`; status 3 with
-`no words`, as the program couldn't keep its own words. Of the output there is nothing then, but for insn-canon,
-which writes as it reads: there it is the beginning of the right output; and for a text in pieces: there it is the
-first piece or nothing.
+Whatever is refused, three results are right: the one with ample memory; status 3 with `no memory`; status 3 with
+`no words`, if the command couldn't store its own arguments. There is no output then, except a prefix of it from
+insn-canon, which writes as it reads, and the first piece or nothing from a command that writes in pieces.
 """
 
 import os
@@ -18,7 +17,7 @@ import samples
 import long_texts
 from program import Program, Report
 
-# No line takes that many allocations: a loop that comes here has found no end.
+# No line needs that many allocations: a loop that gets here would not end.
 MOST_ALLOCATIONS = 2_000
 
 # Lines of each command that succeed.
@@ -78,7 +77,7 @@ WITH_MANY_NAMES = [
     samples.done("the same names", f"btf-same --split {len(MANY_NAMES)}", MANY_NAMES * 2, b"same\n"),
 ]
 
-# Lines whose output goes in two pieces, and how many bytes the first has. The second takes more memory.
+# Lines whose output is written in two pieces, and the length of the first. The second needs more memory.
 IN_PIECES = [
     (samples.done("a listing in pieces", "insn-show", *long_texts.negations_and_exits()), 8_192),
     (samples.done("types in pieces", "btf-show", *long_texts.nameless(2, 1_000)), 8_192),
@@ -155,7 +154,7 @@ def main():
             for example in lines:
                 for only_one in (True, False):
                     written = refuse_each(report, program, shared_object, example, only_one)
-                    # each line takes memory for the words of the process, and again for clap
+                    # each line allocates for the arguments of the process, and again for clap
                     for line in {b"no words\n", b"no memory\n"} - written:
                         report.report_wrong(f"{example.name} ({example.line}): no run wrote {line!r}")
     with report.group("memory is refused after a piece"):

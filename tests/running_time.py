@@ -3,10 +3,10 @@ instructions on the largest programs.
 
     running_time.py PROGRAM
 
-Each BTF file goes through btf-check, btf-canon and btf-same. A run may take twenty times the processor time that was measured, and
-an address space of eight times its input; valid text of the longest string section may take four times. The margins are wide, so
-that a slower machine passes and another order of growth doesn't: a search that is quadratic takes hundreds of times as long here.
-insn-groups and insn-same keep their input and nothing else that grows with it, so they may take 1.1 times its length.
+Each BTF file goes through btf-check, btf-canon and btf-same. A run may need twenty times the processor time that was measured, and
+an address space of eight times its input; valid names in the longest string section may need four times. The margins are wide, so
+that a slower machine passes and another order of growth doesn't: a quadratic search needs hundreds of times as long here.
+insn-groups and insn-same store their input and nothing else that grows with it, so they may need 1.1 times its length.
 
 bench/hard_inputs measures the processor time and the least address space of each run, from which the constants below come.
 """
@@ -31,7 +31,7 @@ LARGEST_PROGRAM = 64 * MEGABYTE
 ENUM_VALUES = MEMBERS = 65_535
 # So many structs and as many unions fill a file.
 RECORDS_OF_MEMBERS = 20
-# A run that takes longer is ended.
+# A longer run is ended.
 MOST_SECONDS = 100
 
 
@@ -91,7 +91,7 @@ def file_of(offsets, strings):
 
 
 def letters(number, width, alphabet=b"abcdefghijklmnopqrstuvwxyz"):
-    """The name of a number, of a fixed width."""
+    """The name for a number, in a fixed width."""
     name = bytearray()
     for _ in range(width):
         number, digit = divmod(number, len(alphabet))
@@ -104,7 +104,7 @@ def common_suffix():
 
 
 def different_names():
-    """Three million names of four letters, which an alphabet of 94 has."""
+    """Three million 4-letter names, from an alphabet of 94."""
     alphabet = bytes(range(0x21, 0x7F))
     names = [letters(number, 4, alphabet) for number in range(3_000_000)]
     return named(names)

@@ -36,7 +36,7 @@ def different(name, line, input):
 
 
 def refused(name, line, input, message, output=b""):
-    """Status 1, this line on standard error, and no output but that of what comes before the fault."""
+    """Status 1, this message, and no output except what precedes the fault."""
     return Example(name, line, input, Ran(1, output, message.encode() + b"\n"))
 
 
@@ -69,7 +69,7 @@ INT = bytes_of(
     "9f eb 01 00 18 00 00 00 00 00 00 00 10 00 00 00 10 00 00 00 05 00 00 00"
     "01 00 00 00 00 00 00 01 04 00 00 00 20 00 00 01 00 69 6e 74 00"
 )
-# The header has 28 bytes, the strings come first, and no type names one of them.
+# The header is 28 bytes long, the strings precede the types, and no type uses one of them.
 LOOSE_INT = bytes_of(
     "9f eb 01 00 1c 00 00 00 07 00 00 00 10 00 00 00 00 00 00 00 07 00 00 00 00 00 00 00"
     "00 78 00 69 6e 74 00 03 00 00 00 00 00 00 01 04 00 00 00 20 00 00 01"
@@ -92,7 +92,7 @@ ENUM64_BIG = bytes_of(
 )
 POINTER_HEAD = "9f eb 01 00 18 00 00 00 00 00 00 00 0c 00 00 00 0c 00 00 00"
 POINTER_TO_NOTHING = bytes_of(POINTER_HEAD + "01 00 00 00 00 00 00 00 00 00 00 02 02 00 00 00 00")
-# "No name" by an offset whose text is empty, beside a string that no type names.
+# "No name" by an offset of an empty string, next to a string that no type uses.
 POINTER_BEHIND_THE_TEXT = bytes_of(POINTER_HEAD + "05 00 00 00 04 00 00 00 00 00 00 02 00 00 00 00 00 69 6e 74 00")
 NAMED_POINTER = POINTER_BEHIND_THE_TEXT[:24] + b"\x01" + POINTER_BEHIND_THE_TEXT[25:]
 NAME_NOT_UTF8 = NAMED_POINTER[:37] + b"\xff" + NAMED_POINTER[38:]
@@ -100,7 +100,7 @@ INT_TEXT = b'[1] int "int" size=4 encoding=signed offset=0 bits=32\n'
 
 
 def btf(order, words, strings, tail=b"", **fields):
-    """A file of these words and strings, with the header of docs/FORMATS.md, except for the fields that are given."""
+    """A file of these 32-bit words and strings, with the header of docs/FORMATS.md except for the given fields."""
     right = {
         "magic": int(page.MAGIC, 16),
         "version": page.VERSION,
@@ -120,5 +120,5 @@ def btf(order, words, strings, tail=b"", **fields):
 
 
 def floats(names):
-    """The words of a float of 8 bytes for each of these name offsets."""
+    """The records of 8-byte floats, one for each of these name offsets."""
     return [word for name in names for word in (name, 0x1000_0000, 8)]

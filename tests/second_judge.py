@@ -1,7 +1,7 @@
-"""What docs/FORMATS.md says of BTF, said a second time: the first fault of a file, its canonical bytes and its text.
+"""A reference for BTF, written from docs/FORMATS.md and docs/FAULTS.md: the first fault of a file, its canonical bytes and its listing.
 
-The kinds, causes, places and limits are those of the page itself (btf_page.py). Each fault that holds is listed, and the first of them
-is taken. Nothing is done early or fast here.
+The kinds, causes, offsets and limits are those of the pages themselves (btf_page.py). All faults are listed, and the first one is
+returned. Nothing is done early or fast here.
 """
 
 import re
@@ -11,12 +11,12 @@ from typing import NamedTuple
 import btf_page as page
 from btf_page import LAYOUTS, NUMBERS
 
-# What a word of the page's layouts is, where a judge asks for all of one sort.
+# The sort of a field of the page's layouts, for checks of all fields of one sort.
 SORTS = {"name_off": "name", "index_type": "type"}
 
 
 def placed(cause, record=None, **known):
-    """A fault at the place that the page has: a number, an offset from the record, or one that is known by the page's words."""
+    """A fault at the offset of the page: a number, an offset from the record, or one that is known by the page's phrase."""
     place = page.offset_of(cause)
     if isinstance(place, dict):
         place = record.pos + place[None if None in place else record.layout.word]
@@ -27,7 +27,7 @@ def placed(cause, record=None, **known):
 
 
 class Sections(NamedTuple):
-    """The two sections of a file, where they begin in it, and its byte order as `struct` writes it."""
+    """The two sections of a file with their offsets, and its byte order as `struct` writes it."""
 
     mark: str
     types_pos: int
@@ -37,7 +37,7 @@ class Sections(NamedTuple):
 
 
 class Record:
-    """The words of a record, and where it begins in the file. If it is cut, it has no more than the first words."""
+    """The 32-bit words of a record, and its offset in the file. If it is cut, only the first words."""
 
     def __init__(self, pos, words):
         self.pos, self.words = pos, words
@@ -49,23 +49,23 @@ class Record:
         return self.pos + 4 * word
 
     def items(self):
-        """Where each item's words begin."""
+        """The index of the first word of each item."""
         first, size = 3 + len(self.layout.words), len(self.layout.item)
         return range(first, first + size * self.vlen, size) if size else ()
 
     def fields(self):
-        """The number of each word after the info, and its sort."""
+        """The index of each field after the info, and its sort."""
         yield 2, self.layout.third
         yield from ((at, SORTS.get(name, name)) for at, name in enumerate(self.layout.words, 3))
         for first in self.items():
             yield from ((at, SORTS.get(name, name)) for at, name in enumerate(self.layout.item, first))
 
     def names(self):
-        """The numbers of the words that are names, the record's own first."""
+        """The indices of the fields that are names, the record's own first."""
         return [0] + [word for word, field in self.fields() if field == "name"]
 
     def of_item(self, item, name):
-        """The number of a word of an item, by its name."""
+        """The index of a field of an item, by its name."""
         return item + self.layout.item.index(name)
 
     def width(self, item):
@@ -89,7 +89,7 @@ def header_of(file):
 
 
 def sections_of(file):
-    """The sections of a file whose header has no fault."""
+    """The sections of a file with a valid header."""
     header = header_of(file)
     types_pos, strings_pos = header["hdr_len"] + header["type_off"], header["hdr_len"] + header["str_off"]
     types, strings = file[types_pos : types_pos + header["type_len"]], file[strings_pos : strings_pos + header["str_len"]]
@@ -136,7 +136,7 @@ def strings_fault(sections):
 
 
 def framing_faults(record, left):
-    """The faults of a record's frame, where `left` bytes are left. It has the words of its head that are there."""
+    """The faults of a record's frame, with `left` bytes from its start to the end of the section."""
     if left < 12:
         yield placed("RecordCut", record)
     if len(record.words) < 2:
@@ -268,7 +268,7 @@ def field_faults(sections, records):
 
 
 def first_fault(file):
-    """The place of a file's first fault and the name of its cause, or None."""
+    """The offset of a file's first fault and the name of its cause, or None."""
     fault = header_fault(file)
     if fault:
         return fault
@@ -284,7 +284,7 @@ def first_fault(file):
 
 
 def string_table(names):
-    """The string table of names in the order of their first use, and the place of each."""
+    """The string table of names in the order of their first use, and the offset of each."""
     used = list(dict.fromkeys(name for name in names if name))
     hosts = [name for name in used if not any(other != name and other.endswith(name) for other in used)]
     table, places = b"\0", {b"": 0}
@@ -311,7 +311,7 @@ def canonical_words(record, strings, places):
 
 
 def canonical(file, mark="<"):
-    """The canonical bytes of a file without a fault, in a byte order as `struct` writes it."""
+    """The canonical bytes of a valid file, in a byte order as `struct` writes it."""
     sections = sections_of(file)
     records, _ = framed(sections)
     names = [text_at(sections.strings, record.words[word]) for record in records for word in record.names()]
@@ -323,7 +323,7 @@ def canonical(file, mark="<"):
     return header + struct.pack(f"{mark}{len(words)}I", *words) + table
 
 
-# ---- the text of types
+# ---- type listings
 
 
 def quoted(name):
@@ -333,7 +333,7 @@ def quoted(name):
 
 
 def value_of(record, item):
-    """The value of an enum's item: its words are those that the page names, the low one first."""
+    """The value of an enum's item, from the fields that the page names, the low one first."""
     places = [at for at, name in enumerate(record.layout.item) if name.startswith("val")]
     names = [record.layout.item[at] for at in places]
     low_first = sorted(places, key=lambda at: names[at - places[0]] == "val_hi32")
@@ -343,7 +343,7 @@ def value_of(record, item):
 
 
 def words_of_item(record, item, strings):
-    """The words that the line of an item has, by the names of the page."""
+    """The values in the line of an item, by the names of the page."""
     known = {name: record.words[item + at] for at, name in enumerate(record.layout.item)}
     if record.has_members():
         known |= {"offset": record.bit_offset(item), "width": record.width(item)}
@@ -372,7 +372,7 @@ def words_of_head(record, strings):
 
 
 def line(template, known):
-    """A line of the page's table, with each capital replaced by its word; after `=` it is that of the key."""
+    """A line of the page's table, with each capital replaced by its value; after `=` it is that of the key."""
     parts = []
     for part in template.split(" "):
         key, _, value = part.partition("=")
@@ -383,7 +383,7 @@ def line(template, known):
 
 
 def lines(file):
-    """The text of the types of a file without a fault."""
+    """The type listing of a valid file."""
     sections = sections_of(file)
     text = []
     for number, record in enumerate(framed(sections)[0], 1):
@@ -394,5 +394,5 @@ def lines(file):
 
 
 def count(file):
-    """The number of types of a file without a fault."""
+    """The number of types of a valid file."""
     return len(framed(sections_of(file))[0])

@@ -1,9 +1,9 @@
-"""Refuses a definition that takes a number, a table or a text from the code.
+"""Refuses a definition that imports a number, a table or a string from the code.
 
     spec_imports.py
 
 What a file of crates/NAME/specs says must not change with the code. It may name the types that the code declares, with their
-variants, and no constant. A constant of `src` is in a module `TheConstants`, so a file of definitions doesn't have this word, even
+variants, and no constant. A constant of `src` is in a module `TheConstants`, so a file of definitions doesn't contain this name, even
 in a comment. Nor does it name proofs or contracts, since these may pass a constant on.
 """
 
@@ -48,7 +48,7 @@ ALLOWED = [
 
 
 def named(text):
-    """The first text by which a file of definitions names the code's constants, or what may pass them on; none if it doesn't."""
+    """The first phrase by which a file of definitions names the code's constants, or what may pass them on; none if it doesn't."""
     found = CONSTANTS.search(text) or PASSED_ON.search(text)
     return found and found[0]
 
@@ -71,7 +71,7 @@ def check_sources(report):
 
 
 def check_forms(report):
-    """Each form is refused where it is planted, and what is allowed is not."""
+    """Each form is refused when it is planted, and what is allowed is not."""
     with report.group(f"{len(REFUSED) + len(ALLOWED)} planted imports"):
         for forms, wanted in ((REFUSED, True), (ALLOWED, False)):
             for name, text in forms:

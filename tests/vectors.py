@@ -2,7 +2,7 @@
 
     vectors.py PROGRAM
 
-testdata/README.md has the columns. Expected answers are in the file, or are those of a row for a file that has it as a part.
+testdata/README.md describes the columns. Expected results are in the file, or are those of a row for a part of the input.
 """
 
 import collections
@@ -20,7 +20,7 @@ EXIT = bytes.fromhex("9500000000000000")
 NO_TYPES = bytes.fromhex("9feb01001800000000000000000000000000000001000000" "00")
 # The groups in the order in which they are listed.
 GROUPS = ["base32", "base64", "atomic32", "atomic64", "divmul32", "divmul64", "packet"]
-# How many rows the file has of each kind, so that none is left out or misspelt unnoticed.
+# The number of rows of each kind, so that none is omitted or misspelt unnoticed.
 ROWS = {"insn": 182, "insn-fault": 100, "listing": 24, "listing-fault": 75, "btf": 56, "btf-fault": 117, "run": 263}
 
 
@@ -31,7 +31,7 @@ def rows(kind):
 
 
 def text(field):
-    """The bytes of a field of text."""
+    """The bytes of a field that is a string."""
     return b"" if field == "-" else field.encode().decode("unicode_escape").encode("latin-1")
 
 
@@ -132,7 +132,7 @@ def runs_of_lines():
 
 
 def is_bytes(line):
-    """Whether the output of a command is bytes, and not text."""
+    """Whether the output of a command is bytes, and not a string."""
     return line == "-" or line.startswith(("insn-canon", "insn-read", "btf-canon"))
 
 

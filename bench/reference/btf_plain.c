@@ -2,7 +2,7 @@
  * What a C programmer would write by hand for btf-canon: read all, walk the records once (btf.rst section 2) and note each name in a
  * hash table, sort the names by their bytes from the end so that they share tails, and write little-endian.
  *
- * It judges the framing, the ranges of names and of type ids, and no more.
+ * It checks only the framing and the ranges of names and of type IDs.
  *
  * usage: btf_plain < file > file
  */
@@ -91,7 +91,7 @@ static uint32_t note_name(uint32_t off, size_t pos)
 	return name_at[off] = name_count;
 }
 
-/* a name to sort: its last 8 bytes as a number, the last one highest, with zeros where it is shorter */
+/* a name to sort: its last 8 bytes as a number, the last one highest, padded with zeros */
 struct tail { uint64_t key; uint32_t index; };
 
 static struct tail tail_of(uint32_t index)
@@ -121,7 +121,7 @@ static int compare_tails(const void *a, const void *b)
 	return i ? 1 : j ? -1 : 0;
 }
 
-/* three radix passes of 11 bits over the top of the keys, then qsort where the tops are equal */
+/* three radix passes of 11 bits over the top of the keys, then qsort if the tops are equal */
 static struct tail *sort_tails(struct tail *from, struct tail *to, uint32_t count)
 {
 	for (int shift = 31; shift < 64; shift += 11) {
@@ -156,7 +156,7 @@ static int ends_with(const struct name *name, const struct name *tail)
 		&& !memcmp(strings + name->off + name->len - tail->len, strings + tail->off, tail->len);
 }
 
-/* Lays the names out that end no other, and returns the place of each name by 1 + its index. */
+/* Lays out the names that end no other, and returns the offset of each name by 1 + its index. */
 static uint32_t *share_tails(uint8_t *table, uint32_t *table_len)
 {
 	struct tail *tails = malloc((name_count + 1) * sizeof *tails), *room = malloc((name_count + 1) * sizeof *room), *sorted;
@@ -187,7 +187,7 @@ static uint32_t *share_tails(uint8_t *table, uint32_t *table_len)
 	return place;
 }
 
-/* Copies the words of all records, with 1 + the index of a name in place of its offset. */
+/* Copies the words of all records, with 1 + the index of a name instead of its offset. */
 static void walk_records(const uint8_t *types, size_t types_len, uint32_t *words)
 {
 	uint32_t top = 0, count = 0;
@@ -228,7 +228,7 @@ static void walk_records(const uint8_t *types, size_t types_len, uint32_t *words
 		refuse("Reference", 0);
 }
 
-/* Puts the places of the names in, and drops the kind_flag of a STRUCT or UNION without bit-fields. */
+/* Inserts the offsets of the names, and clears the kind_flag of a STRUCT or UNION without bit-fields. */
 static void put_places(uint32_t *words, size_t count, const uint32_t *place)
 {
 	for (size_t k = 0; k < count; ) {

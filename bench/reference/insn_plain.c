@@ -1,12 +1,12 @@
 /*
- * What a C programmer would write by hand for insn-canon: read pieces of 1 MiB, judge each slot (RFC 9669 sections 3 to 5) by a
- * table of opcodes, swap it where the orders differ, and write.
+ * What a C programmer would write by hand for insn-canon: read pieces of 1 MiB, check each slot (RFC 9669 sections 3 to 5) by a
+ * table of opcodes, swap it if the byte orders differ, and write.
  *
  * usage: insn_plain little|big little|big < program > program
  */
 #include "whole_io.h"
 
-/* what an opcode leaves free; RULE: more is to be judged than this says */
+/* what an opcode leaves free; RULE: more has to be checked than this */
 enum { DST = 1, SRC = 2, OFFSET = 4, IMM = 8, RULE = 16, KNOWN = 128 };
 static uint8_t rules[256];
 

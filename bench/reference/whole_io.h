@@ -1,4 +1,4 @@
-/* Standard input read whole, and bytes written whole to standard output. */
+/* Reads all of standard input, and writes all bytes to standard output. */
 #include <errno.h>
 #include <stdint.h>
 #include <stdio.h>

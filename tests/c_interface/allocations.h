@@ -26,7 +26,7 @@ static struct {
 	size_t size;
 } sizes[64];
 
-/* The place of a block, or of none; a test with too many blocks ends here. */
+/* The index of a block, or of none; a test with too many blocks ends here. */
 static size_t place_of(const void *block)
 {
 	size_t at = 0;

@@ -1,8 +1,8 @@
 /*
  * Compares each call that allocates with the call that takes room, over room that is ample: with every number of each order and one
- * that is none, each kind of fault, outputs that are longer than the first block, and each allocation refused in turn, alone and with
+ * that is none, each kind of fault, outputs that are longer than the first block, and each allocation refused in turn, by itself and with
  * all that follow. `*out` holds a pointer beforehand, and the blocks are counted. With -DPROVED no proved call gets a null pointer,
- * and each call that allocates makes one proved call, but for texts of types that are longer than four times their file.
+ * and each call that allocates makes one proved call, except for type listings over four times as long as their file.
  * usage: blocks TESTDATA
  */
 #include "checks.h"
@@ -74,7 +74,7 @@ static const struct {
 	const char *name;
 	new_call *make;
 	room_call *write;
-	uint32_t orders, tos; /* how many numbers of orders are tried: 0, 1 and 2, or 0 alone where the call has none */
+	uint32_t orders, tos; /* how many numbers of byte orders are tried: 0, 1 and 2, or only 0 if the call has none */
 	uint32_t causes;      /* the greatest number of a cause */
 } calls[CALLS] = {
 	[BTF_CANON] = { "btf_canon_new", btf_canon_new, btf_canon, 1, 3, 32 },
@@ -87,7 +87,7 @@ static const struct {
 static uint8_t wanted[ROOM], marker;
 static char seen[CALLS][33]; /* the causes that were reported */
 
-/* The whole output in a block of its own, with a NUL after it. */
+/* The complete output in a block of its own, with a NUL after it. */
 static int is_block_of(const uint8_t *block, bpfcanon_answer answer)
 {
 	return block && block != &marker && size_of(block) > answer.written && !memcmp(block, wanted, answer.written)
@@ -100,13 +100,13 @@ static long proved_calls_so_far(void) { return proved_calls; }
 static long proved_calls_so_far(void) { return -1; }
 #endif
 
-/* How many proved calls a call that allocates makes for this answer: a second one only for a long text of types. */
+/* How many proved calls a call that allocates makes for this result: a second one only for a long type listing. */
 static int is_count(long before, int call, size_t len, bpfcanon_answer answer)
 {
 	return before < 0 || proved_calls_so_far() - before == (call == BTF_SHOW && answer.written > 4 * len ? 2 : 1);
 }
 
-/* A call with ample memory: the answer of the call with room, and a block of its own if that is done. */
+/* A call with ample memory: the result of the call with a buffer, and a block of its own if that is done. */
 static void compare(int call, uint32_t order, uint32_t to, const uint8_t *bytes, size_t len, bpfcanon_answer right)
 {
 	uint8_t *block = &marker, *other = &marker;
@@ -223,7 +223,7 @@ static void try_listings(void)
 	try_input(INSN_READ, BYTES(range), 1);
 }
 
-/* Outputs of more than 64 KB, also where the first block is too short for them. */
+/* Outputs of more than 64 KB, even if the first block is too short for them. */
 static void try_long_outputs(void)
 {
 	static const char jump[] = "\x66\x0a\0\x80\0\0\0\x80"; /* jsgt32 r10, -2147483648, -32768: 31 bytes for 8 */
@@ -242,7 +242,7 @@ static void try_long_outputs(void)
 	free(lines);
 }
 
-/* FLOATs with one name of 100,000 bytes, so that the text is about as many times as long as the file as there are types. */
+/* FLOATs with one 100,000-byte name, so that the listing is as many times as long as the file as it has types. */
 static void try_long_names(size_t count)
 {
 	const size_t types = count * 12, letters = 100000, len = 24 + types + letters + 2;
@@ -259,7 +259,7 @@ static void try_long_names(size_t count)
 	free(file);
 }
 
-/* Some file has each cause but 23, TextsTooLong, which never occurs. */
+/* Each cause except 23, TextsTooLong, which never occurs, has a file. */
 static void check_causes(void)
 {
 	for (int call = 0; call < CALLS; call++)

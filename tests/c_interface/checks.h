@@ -56,13 +56,13 @@ static inline bpfcanon_answer needs(size_t len)
 	return (bpfcanon_answer){ .status = BPFCANON_ROOM, .needed = len };
 }
 
-/* What the call on the front of a stream returns for whole instructions of this length. */
+/* What the call on the start of a stream returns for complete instructions of this length. */
 static inline bpfcanon_answer front_of(size_t len)
 {
 	return (bpfcanon_answer){ .status = BPFCANON_DONE, .read = len, .written = len };
 }
 
-/* The same where a fault follows them. */
+/* Likewise if a fault follows them. */
 static inline bpfcanon_answer front_before(size_t len, uint32_t cause, uint64_t pos)
 {
 	return (bpfcanon_answer){ .status = BPFCANON_FAULT, .cause = cause, .pos = pos, .read = len, .written = len };
@@ -75,7 +75,7 @@ static inline int is(bpfcanon_answer one, bpfcanon_answer right)
 		&& one.groups == right.groups;
 }
 
-/* Whether all of some bytes are still 0xaa. */
+/* Whether all of these bytes are still 0xaa. */
 static inline int is_filled(const void *from, const void *to)
 {
 	for (const uint8_t *at = from; at < (const uint8_t *)to; at++)
@@ -96,7 +96,7 @@ static inline uint8_t *allocate(size_t size)
 	return block;
 }
 
-/* Copies of a text or of bytes, one after another. */
+/* Concatenated copies of a string or of bytes. */
 static inline uint8_t *repeat(const void *bytes, size_t len, size_t times)
 {
 	uint8_t *all = allocate(len * times);
@@ -123,7 +123,7 @@ static inline uint8_t *load(const char *folder, const char *name, size_t *len)
 	return bytes;
 }
 
-/* Prints the last line of a test and gives the status of its process. */
+/* Prints the last line of a test and returns its exit status. */
 static inline int end(const char *name)
 {
 	printf("C interface, %s: %ld checks, %ld failed\n", name, checks, failed);

@@ -1,5 +1,5 @@
 /*
- * The front of a stream in room that is just enough, and in less, where whole instructions, a fault or a cut wide load follow it, from
+ * The start of a stream in a buffer that is just large enough, and in smaller ones, if complete instructions, a fault or a cut wide load follow, from
  * and to each order.
  */
 #include "checks.h"
@@ -7,7 +7,7 @@
 #define MOVES 5
 #define FRONT (8 * MOVES)
 
-/* What may follow the front, in the order of the row, and how the call ends in room that is enough. */
+/* What may follow it, in the byte order of the row, and how the call ends with a buffer that is large enough. */
 static const struct {
 	const char *what;
 	uint32_t order;
@@ -29,7 +29,7 @@ static const struct {
 	{ "a wide load with a faulty second slot", BPFCANON_LITTLE, "\x18\x01\0\0\1\0\0\0\1\0\0\0\1\0\0\0", 16, 7, 8 },
 };
 
-/* The call in some room: what it writes if that is enough, and else the room that is needed. */
+/* The call with a buffer: what it writes if that is large enough, and otherwise the size that is needed. */
 static void try_room(size_t tail, uint32_t to, const uint8_t *bytes, const uint8_t *right, size_t room)
 {
 	size_t len = FRONT + tails[tail].len;

@@ -1,4 +1,4 @@
-"""Compares the shared library with the second judge, on BTF that differs from worked files in a byte or two.
+"""Compares the shared library with the reference checker, on BTF that differs from worked files in a byte or two.
 
     judged_files.py LIBRARY
 
@@ -21,7 +21,7 @@ sys.path.insert(0, str(TOP / "bindings" / "python"))
 os.environ["BPFCANON_LIBRARY"] = sys.argv[1]
 import bpfcanon  # noqa: E402
 
-# Names, and texts that are none, from each of their bytes on.
+# Names, and strings that are none, from each of their bytes on.
 TEXTS = [
     b"\0\xc3\xa9\0\xe2\x82\xac\0\xf0\x9f\x98\x80b\0",
     b"\0a\xffb\0\xc3\xa9\0",
@@ -33,7 +33,7 @@ TEXTS = [
 
 
 def answer(call, *given, **orders):
-    """What a call of the library returns, or the place and the name of the first fault."""
+    """What a call of the library returns, or the offset and the name of the first fault."""
     try:
         return call(*given, **orders)
     except bpfcanon.Fault as fault:
@@ -41,7 +41,7 @@ def answer(call, *given, **orders):
 
 
 def compare(report, file, origin):
-    """Compares what both say of a file, and of it beside the one it was made of, whose canonical bytes these are."""
+    """Compares the library's and the reference's results for a changed file, by itself and against the original, whose canonical bytes are given."""
     fault = second_judge.first_fault(file)
     little, big = (fault, fault) if fault else (second_judge.canonical(file), second_judge.canonical(file, ">"))
     answers = [answer(bpfcanon.btf_canon, file), answer(bpfcanon.btf_canon, file, to=bpfcanon.Order.BIG)]
@@ -52,12 +52,12 @@ def compare(report, file, origin):
 
 
 def worked_files():
-    """Each file of the vectors, but for the one with a header of 4,096 bytes, in the orders and layouts that they have."""
+    """Each file of the vectors except the one with a 4,096-byte header, in each of its byte orders and layouts."""
     return [file for row in rows("btf") for file in {*map(data, row[1:4])} if len(file) < 1000]
 
 
 def changed(file, changes):
-    """The file with these values at these places."""
+    """The file with these values at these offsets."""
     copy = bytearray(file)
     for place, value in changes:
         copy[place] = value
@@ -94,7 +94,7 @@ def check_every_value(report):
 
 
 def check_two_bytes(report):
-    """The places and values are drawn again from the same seed at each run."""
+    """The offsets and values are drawn from the same seed in each run."""
     draw = random.Random(9669)
     with report.group("two bytes changed"):
         for file in worked_files():

@@ -77,7 +77,7 @@ static uint8_t *ints(size_t header_len, size_t types, uint32_t name, const uint8
 	return file;
 }
 
-/* The calls on INTs whose name is at the end of a string of many letters, so that the canonical file has two of these alone. */
+/* The calls on INTs whose name ends a string of many letters, so that the canonical file keeps only two of them. */
 static void repeat_int(size_t header_len, size_t types, size_t strings_len)
 {
 	static const char line[] = "int \"aa\" size=4 encoding=signed offset=0 bits=32\n";

@@ -41,7 +41,7 @@ static void insn_canon_new(void) { bpfcanon_insn_canon_new(0, 1, NULL, LONG, &bl
 static void insn_read_new(void) { bpfcanon_insn_read_new(0, NULL, LONG, &block); }
 static void insn_show_new(void) { bpfcanon_insn_show_new(0, NULL, LONG, &text); }
 
-/* The text of a FLOAT goes to NULL. */
+/* The listing of a FLOAT is written to NULL. */
 static void btf_show_out(void)
 {
 	static const uint8_t types[] =

@@ -1,6 +1,6 @@
 /*
- * Refuses each allocation of each proved call in turn: the call then reports that it is out of memory and leaves its room as it was,
- * and it frees what it took. The comparison of instructions takes nothing. usage: refused FILE, a BTF file
+ * Refuses each allocation of each proved call in turn: the call then reports that it ran out of memory and leaves its buffer as it was,
+ * and it frees what it allocated. The comparison of instructions allocates nothing. usage: refused FILE, a BTF file
  */
 #include "checks.h"
 #include "allocations.h"
@@ -74,7 +74,7 @@ static void refuse_each(size_t call)
 		CHECK(live == blocks);
 		if (!refused) {
 			CHECK(answer.status == calls[call].status);
-			/* these two take no memory */
+			/* these two allocate nothing */
 			CHECK((n > 0) == (calls[call].call != insn_same && calls[call].call != insn_groups));
 			return;
 		}

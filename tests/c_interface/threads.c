@@ -1,5 +1,5 @@
 /*
- * Eight threads make each call that allocates, compare its block, and free the blocks that another thread made. Half of them give
+ * Eight threads make each call that allocates, compare its block, and free the blocks that another thread made. Half of them pass
  * faulty inputs in between, and numbers that are no order. All of them ask for each name. usage: threads TESTDATA
  */
 #include "checks.h"
@@ -45,7 +45,7 @@ static void free_made(struct made *made)
 	free(made);
 }
 
-/* Puts a block where the next thread takes it, and frees the one that is there. */
+/* Passes a block to the next thread, and frees the one that was passed before. */
 static void pass_on(int thread, bpfcanon_answer answer, void *block, const void *wanted, size_t len)
 {
 	struct made *made = (struct made *)allocate(sizeof *made), *taken;
@@ -89,7 +89,7 @@ static void fail_all(void)
 	expect(is(bpfcanon_insn_read_new(2, insns[0].text, 8, &block), ended(BPFCANON_ORDER)) && !block);
 }
 
-/* A call that gives strings, and copies of what it gave to one thread. */
+/* A call that returns strings, and copies of what it returned to one thread. */
 static struct {
 	const char *(*call)(uint32_t number);
 	char copies[NAMES][256];
