@@ -1,4 +1,4 @@
-"""Checks the wording of the pages: phrases that readers stumble over, with what to write instead.
+"""Checks the wording of the pages, phrases that readers stumble over, and the names of the edits that the prover has to refuse.
 
     wording.py
 
@@ -34,6 +34,15 @@ PHRASES = [
 ]
 
 
+def check_edits(report):
+    """The name of an edit says what the wrong program does, verb first."""
+    edits = sorted(TOP.glob("crates/*/must-fail/*.edit"))
+    with report.group(f"the names of {len(edits)} edits"):
+        for path in edits:
+            verb = path.stem.partition("_")[0]
+            report.expect_that(verb.endswith("s") and "_" in path.stem, path.stem, "its name doesn't begin with a verb")
+
+
 def main():
     report = Report()
     for page in PAGES:
@@ -42,6 +51,7 @@ def main():
             for pattern, instead in PHRASES:
                 found = re.search(rf".{{0,30}}(?:{pattern}).{{0,30}}", text, re.IGNORECASE)
                 report.expect_that(found is None, found and found[0], f"write: {instead}")
+    check_edits(report)
     return report.end("wording")
 
 
