@@ -1,11 +1,10 @@
 -- What reading several fields returns, and which instruction they make.
-use Rattle.std.proofs.Common.{◌≡◌, ◌≢◌, ℕ, suc, List, [], ◌∷◌, map, length, get_or, refl, sym, ap, ◌∙◌, subst, Result, Ok, Err, IsErrAnd, arith}
+use Rattle.std.proofs.Common.{◌≡◌, ◌≢◌, ℕ, suc, List, [], ◌∷◌, map, length, get_or, refl, sym, ap, ◌∙◌, subst, Result, Ok, Err, arith}
 use Rattle.std.proofs.lemmas.List.{length-map}
 use Rattle.std.specs.List.{AllZip}
 use Rattle.bpf_insn.specs.declared.insn.WideOf.TheVariants as of
 use Rattle.bpf_insn.specs.declared.insn.Insn.{Insn}
 use Rattle.bpf_insn.specs.declared.insn.Insn.TheVariants as insn
-use Rattle.bpf_insn.specs.Table.{IsInsn}
 use Rattle.bpf_text.specs.declared.insn.fault.LineCause.{LineCause}
 use Rattle.bpf_text.specs.declared.insn.fault.LineCause.TheVariants.{Char, Word, Shape, Range}
 use Rattle.bpf_text.specs.declared.insn.mnemonic.Mnemonic.{Mnemonic}
@@ -135,44 +134,6 @@ three_cells x y z (u ∷ []) e f g l = absurd (omega arith)
 three_cells x y z (u ∷ v ∷ []) e f g l = absurd (omega arith)
 three_cells x y z (u ∷ v ∷ w ∷ []) e f g l = cc
 three_cells x y z (u ∷ v ∷ w ∷ more ∷ most) e f g l = absurd (omega arith)
-
--- what the instructions of a mnemonic are made of
-pub record Makes {X : Type 0} (form : FieldList X) (make : X → Insn) (m : Mnemonic) : Type 0 where
-  pub spelled : (x : X) → map plain (operands_of (make x)) ≡ form.written x
-  pub named : (x : X) → mnemonic_of (make x) ≡ m
-  pub sound : (x : X) → form.valid x → IsInsn (make x)
-  pub only : (i : Insn) → mnemonic_of i ≡ m → (x : X) × (map plain (operands_of i) ≡ form.written x) × (IsInsn i → form.valid x)
-
--- the same result, as an instruction
-abbrev made_of : {X : Type 0} → (X → Insn) → Result X LineCause → Result Insn LineCause
-made_of make (Ok x) = Ok (make x)
-made_of make (Err cause) = Err cause
-
-module _ {X : Type 0} (form : FieldList X) (make : X → Insn) (m : Mnemonic) (makes : Makes form make m) where
-  kinds_are : (i : Insn) (x : X) → map plain (operands_of i) ≡ form.written x → map operand_kind (operands_of i) ≡ map operand_kind (form.written x)
-  kinds_are i x e = plain_kinds (operands_of i) ∙ ap (map operand_kind) e
-
-  insn_reads : (spelled : List LineOperand) (r : Result X LineCause) → ReadsFields form spelled r → ReadsInsn m spelled (made_of make r)
-  insn_reads spelled (Ok x) h = (makes.sound x h.0, makes.named x, h.1 ∙ sym (makes.spelled x))
-  insn_reads spelled (Err Char) h = absurd h
-  insn_reads spelled (Err Word) h = absurd h
-  insn_reads spelled (Err Shape) h = λ i e f. let w = makes.only i e in h w.0 (f ∙ kinds_are i w.0 w.1)
-  insn_reads spelled (Err Range) h = (
-    (make h.0.0, makes.named h.0.0, h.0.1 ∙ sym (kinds_are (make h.0.0) h.0.0 (makes.spelled h.0.0))),
-    (λ i v e s. let w = makes.only i e in h.1 w.0 (w.2 v) (s ∙ w.1)),
-  )
-
-  pub made_ok : (xs : List ReadOperand) (r : Result X LineCause) (x : X) (i : Insn) → (form.valid x → i ≡ make x) → r ≡ Ok x → FieldsAreRead form xs r
-      → (spelled : List LineOperand) → AllZip IsReadAs xs spelled → ReadsInsn m spelled (Ok i)
-  made_ok xs r x i same e reads spelled h =
-      let read = rw e at (reads spelled h) in
-      subst (λ (j : Insn). ReadsInsn m spelled (Ok j)) (sym (same read.0)) (insn_reads spelled (Ok x) read)
-
-  pub made_err : (xs : List ReadOperand) (r : Result X LineCause) (cause : LineCause) (s : Result Insn LineCause) → IsErrAnd s (λ e. e ≡ cause) → r ≡ Err cause → FieldsAreRead form xs r
-      → (spelled : List LineOperand) → AllZip IsReadAs xs spelled → ReadsInsn m spelled s
-  made_err xs r cause (Ok i) same e reads spelled h = absurd same
-  made_err xs r cause (Err other) same e reads spelled h =
-      subst (λ (c : LineCause). ReadsInsn m spelled (Err c)) (sym same) (insn_reads spelled (Err cause) (rw e at (reads spelled h)))
 
 pub only_read : {X : Type 0} (f : Field X) (a : ReadOperand) (xs : List ReadOperand) (r : Result X LineCause)
     → a ≡ get_or xs 0 a → length xs ≡ 1 → FieldIsRead f a r → FieldsAreRead (last_field f) xs r

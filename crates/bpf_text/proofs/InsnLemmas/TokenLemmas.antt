@@ -15,6 +15,9 @@ run_found p xs i h below here = sym (prefix_len_is p xs i 0 (omega arith) below 
 pub run_whole : (p : ℕ → Bool) (xs : List ℕ) → ((k : ℕ) → k < length xs → p (get_or xs k 0) ≡ true) → length xs ≡ prefix_len p xs
 run_whole p xs below = sym (prefix_len_is p xs (length xs) 0 (omega arith) below (λ h. absurd (omega arith)))
 
+pub length_of_run : (p : ℕ → Bool) (xs : List ℕ) → length (take (prefix_len p xs) xs) ≡ prefix_len p xs
+length_of_run p xs = length-take-le (prefix_len p xs) xs (prefix_len-le-length p xs)
+
 -- each element of the run passes
 pub run_passes : (p : ℕ → Bool) (xs : List ℕ) → list_all p (take (prefix_len p xs) xs) ≡ true
 run_passes p xs =

@@ -1,7 +1,6 @@
 //! The operands of a line, as they are read from tokens.
 
-ghost use Rattle.std.specs.Prelude.{◌≡◌, ◌∷◌, [], List, codes, map, length, IsTrue, ◌↔◌, ◌+◌, ◌≤◌};
-ghost use Rattle.std.specs.Prelude.{drop, IfSome, IfNone};
+ghost use Rattle.std.specs.Prelude.{◌≡◌, ◌∷◌, [], List, map, length, ◌+◌, ◌≤◌, drop, IfSome, IfNone};
 ghost use Rattle.bpf_text.specs.insn.Operands.{LineOperand, SpellsOperands, is_comma};
 ghost use Rattle.bpf_text.specs.insn.Numbers.{IsReadAs, ReadsOperand};
 ghost use Rattle.std.specs.List.{AllZip, position_or_len};

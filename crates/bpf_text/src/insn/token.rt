@@ -57,16 +57,12 @@ fn is_stray(b: u8) -> bool
 }
 
 /// The number of bytes before the first stray byte.
+#[tactic(auto, using(crate::proofs::InsnLemmas::TokenLemmas::length_of_run))]
 fn known_len(bytes: &[u8]) -> usize
     ensures value { result ≡ position_or_len is_stray bytes.now }
     ensures within { result ≤ length bytes.now }
 {
-    for (i, b) in bytes.iter().enumerate() {
-        if is_stray(*b) {
-            return i;
-        }
-    }
-    bytes.len()
+    bytes.iter().take_while(|b| !is_stray(**b)).count()
 }
 
 /// A line without its comment, if each of these bytes is blank or part of a token. The characters
@@ -84,29 +80,21 @@ pub(crate) fn known_code(line: &[u8]) -> Option<&[u8]>
 }
 
 /// The number of blanks at the start.
+#[tactic(auto, using(crate::proofs::InsnLemmas::TokenLemmas::length_of_run))]
 fn blank_len(bytes: &[u8]) -> usize
     ensures value { result ≡ prefix_len is_blank bytes.now }
     ensures within { result ≤ length bytes.now }
 {
-    for (i, b) in bytes.iter().enumerate() {
-        if !is_blank(*b) {
-            return i;
-        }
-    }
-    bytes.len()
+    bytes.iter().take_while(|b| is_blank(**b)).count()
 }
 
 /// The number of word bytes at the start.
+#[tactic(auto, using(crate::proofs::InsnLemmas::TokenLemmas::length_of_run))]
 fn word_len(bytes: &[u8]) -> usize
     ensures value { result ≡ prefix_len is_word_byte bytes.now }
     ensures within { result ≤ length bytes.now }
 {
-    for (i, b) in bytes.iter().enumerate() {
-        if !is_word_byte(*b) {
-            return i;
-        }
-    }
-    bytes.len()
+    bytes.iter().take_while(|b| is_word_byte(**b)).count()
 }
 
 /// The first token, and the bytes after it.

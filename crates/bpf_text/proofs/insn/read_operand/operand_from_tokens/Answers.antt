@@ -1,4 +1,4 @@
-use Rattle.std.proofs.Common.{◌≡◌, [], ◌∷◌, pos, refl, rules, arith}
+use Rattle.std.proofs.Common.{◌≡◌, [], ◌∷◌, pos, refl, rules}
 use Rattle.bpf_text.specs.insn.Operands.{number, memory}
 use Rattle.bpf_text.proofs.InsnLemmas.ReadOperandLemmas.{token_at, two_cells, three_cells, five_cells, one_byte, none_of_two, none_of_five}
 use Rattle.bpf_text.proofs.insn.read_operand.operand_from_tokens.Goals as goal
