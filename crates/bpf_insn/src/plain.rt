@@ -113,32 +113,22 @@ fn zero_bits(order: Order, opcode: u8) -> u64
     }
 }
 
-/// A value for each register byte: a row for each high half, with an entry for each low half.
+/// A row for each high half of a register byte: a value for the 11 low halves up to 10, and one for
+/// the 5 above.
 macro_rules! by_registers {
-    ($none:expr, $one:expr, $both:expr) => {
-        [
-            $none, $none, $none, $none, $none, $none, $none, $none, $none, $none, $none, $one, $one, $one, $one, $one,
-            $none, $none, $none, $none, $none, $none, $none, $none, $none, $none, $none, $one, $one, $one, $one, $one,
-            $none, $none, $none, $none, $none, $none, $none, $none, $none, $none, $none, $one, $one, $one, $one, $one,
-            $none, $none, $none, $none, $none, $none, $none, $none, $none, $none, $none, $one, $one, $one, $one, $one,
-            $none, $none, $none, $none, $none, $none, $none, $none, $none, $none, $none, $one, $one, $one, $one, $one,
-            $none, $none, $none, $none, $none, $none, $none, $none, $none, $none, $none, $one, $one, $one, $one, $one,
-            $none, $none, $none, $none, $none, $none, $none, $none, $none, $none, $none, $one, $one, $one, $one, $one,
-            $none, $none, $none, $none, $none, $none, $none, $none, $none, $none, $none, $one, $one, $one, $one, $one,
-            $none, $none, $none, $none, $none, $none, $none, $none, $none, $none, $none, $one, $one, $one, $one, $one,
-            $none, $none, $none, $none, $none, $none, $none, $none, $none, $none, $none, $one, $one, $one, $one, $one,
-            $none, $none, $none, $none, $none, $none, $none, $none, $none, $none, $none, $one, $one, $one, $one, $one,
-            $one, $one, $one, $one, $one, $one, $one, $one, $one, $one, $one, $both, $both, $both, $both, $both,
-            $one, $one, $one, $one, $one, $one, $one, $one, $one, $one, $one, $both, $both, $both, $both, $both,
-            $one, $one, $one, $one, $one, $one, $one, $one, $one, $one, $one, $both, $both, $both, $both, $both,
-            $one, $one, $one, $one, $one, $one, $one, $one, $one, $one, $one, $both, $both, $both, $both, $both,
-            $one, $one, $one, $one, $one, $one, $one, $one, $one, $one, $one, $both, $both, $both, $both, $both,
-        ]
+    ($($low:literal $high:literal),*) => {
+        [$(
+            $low, $low, $low, $low, $low, $low, $low, $low, $low, $low, $low,
+            $high, $high, $high, $high, $high,
+        )*]
     };
 }
 
 /// The number of registers above 10 in each register byte.
-static ABOVE: [u64; 256] = by_registers!(0, 1, 2);
+static ABOVE: [u64; 256] = by_registers!(
+    0 1, 0 1, 0 1, 0 1, 0 1, 0 1, 0 1, 0 1, 0 1, 0 1, 0 1,
+    1 2, 1 2, 1 2, 1 2, 1 2
+);
 
 /// The number of registers above 10 in a register byte.
 #[inline(always)]
