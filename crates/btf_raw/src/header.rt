@@ -21,7 +21,7 @@ use bpf_words::{Order, get16, get32};
 
 /// The byte order of a file, and where its two sections are, in bytes from the first byte of the
 /// file.
-#[derive(Clone, Copy, Debug, PartialEq, Eq)]
+#[derive(Clone, Copy, Debug, PartialEq, Eq, Hash)]
 pub struct Header {
     /// The order in which the first two bytes are the magic.
     pub order: Order,

@@ -1,7 +1,7 @@
 //! The numbers, names and sentences of the causes.
 
-use crate::BtfCause as Cause;
 use crate::tests::equal;
+use crate::{BtfCause as Cause, BtfFault, NameCause};
 use std::alloc::AllocError;
 
 /// The causes from number 1 on, their names, and the sentences of docs/FORMATS.md.
@@ -54,5 +54,16 @@ fn causes_have_numbers_names_and_sentences(rt: HostRuntime) -> Result<(), AllocE
         );
         equal(&rt, &named, &(number, *name, *name, *sentence), cause);
     }
+    Ok(())
+}
+
+#[test]
+fn faults_are_shown(rt: HostRuntime) -> Result<(), AllocError> {
+    let fault = BtfFault {
+        pos: 36,
+        cause: Cause::MemberInt,
+    };
+    let text = format!(in rt.alloc(); "{fault}; {} {}", NameCause::Range, NameCause::Utf8)?;
+    equal(&rt, &text.as_str(), &"36 MemberInt; Range Utf8", &"faults");
     Ok(())
 }
