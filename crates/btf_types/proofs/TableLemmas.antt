@@ -1,7 +1,7 @@
 -- Lemmas on tables.
-pub mod RecordSteps
 pub mod SectionSteps
 pub mod TableReads
 pub mod TableSteps
 pub mod TableWalk
 pub mod TextSteps
+pub mod WindowSteps

@@ -6,3 +6,4 @@ pub mod TablePlaces
 pub mod PlaceWords
 pub mod KeptSections
 pub mod StringEnds
+pub mod Windows

@@ -1,5 +1,8 @@
 //! Both tables of types, and what they keep.
 
+mod file_names;
+pub(crate) mod items;
+mod iteration;
 pub(crate) mod keeps_sections;
 pub(crate) mod owned;
 pub(crate) mod places;

@@ -18,6 +18,15 @@ pub trait KeepsSections {
         ensures { result ≡ kept self.now };
 }
 
+/// A borrowed table keeps what the table keeps.
+impl<T: KeepsSections> KeepsSections for &T {
+    ghost kept = { λ t. T.kept t.now };
+
+    fn table(&self) -> SectionTable<'_> {
+        (**self).table()
+    }
+}
+
 impl<T: KeepsSections> TypeTable for T {
     ghost meaning = { T.kept };
 

@@ -1,33 +1,39 @@
 //! The records of a table, one after the other.
 
-ghost use Rattle.std.specs.Iterator.{YieldsFirstBy, item_count};
+ghost use Rattle.std.specs.Iterator.{YieldsFirstBy, YieldsLastBy, item_count};
 ghost use Rattle.btf_types.specs.tables.TableWords.{numbered_value};
 
 use crate::tables::section_table::SectionTable;
 use crate::values::Head;
+use std::fmt;
+use std::iter::FusedIterator;
 use std::marker::Model;
 
 /// The heads of a table's records with their numbers, in order, from [`crate::BtfView::records`] or
 /// [`crate::Btf::records`].
 ///
-/// After the last record it gives `None`, and goes on to do so. No step takes memory.
+/// It gives records from both ends. After the last one it gives `None`, and goes on to do so. No
+/// step takes memory.
 #[derive(Drop)]
 pub struct Records<'a> {
     pub(crate) table: SectionTable<'a>,
-    /// The number of records that were given.
+    /// The number of records that were given from the front.
     pub(crate) given: u32,
+    /// The number of the last record that wasn't given from the back.
+    pub(crate) last: u32,
 }
 
 impl<'a> Model for Records<'a> {
     ghost use Rattle.std.specs.Prelude.{ℕ, List, ◌≤◌, length};
     ghost use Rattle.btf_types.specs.Values.{TypeHead};
-    ghost use Rattle.btf_types.specs.tables.TableWords.{records_left};
+    ghost use Rattle.btf_types.specs.tables.TableWords.{numbered};
+    ghost use Rattle.btf_types.specs.tables.Windows.{window};
 
     ghost Value = { List (ℕ × TypeHead) };
 
-    ghost view = { λ t. records_left t.table t.given };
+    ghost view = { λ t. window t.given t.last (numbered 1 t.table) };
 
-    ghost invariant = { λ t. t.given ≤ length t.table };
+    ghost invariant = { λ t. (t.given ≤ t.last) × (t.last ≤ length t.table) };
 }
 
 impl<'a> Iterator for Records<'a> {
@@ -38,10 +44,45 @@ impl<'a> Iterator for Records<'a> {
     ghost remaining = { item_count (λ left. left) };
 
     fn next(&mut self) -> Option<(u32, Head<'a>)> {
-        if self.given == self.table.count() {
+        if self.given == self.last {
             return None;
         }
         self.given += 1;
         Some((self.given, self.table.head(self.given)))
+    }
+
+    fn size_hint(&self) -> (usize, Option<usize>) {
+        let len = self.len();
+        (len, Some(len))
+    }
+}
+
+impl<'a> DoubleEndedIterator for Records<'a> {
+    ghost next_back_gives = { YieldsLastBy numbered_value (λ left. left) };
+
+    fn next_back(&mut self) -> Option<(u32, Head<'a>)> {
+        if self.given == self.last {
+            return None;
+        }
+        let id = self.last;
+        self.last -= 1;
+        Some((id, self.table.head(id)))
+    }
+}
+
+impl ExactSizeIterator for Records<'_> {
+    fn len(&self) -> usize {
+        (self.last - self.given) as usize
+    }
+}
+
+impl FusedIterator for Records<'_> {}
+
+/// The number of records that are left.
+impl fmt::Debug for Records<'_> {
+    fn fmt<W: fmt::Write>(&self, f: &mut fmt::Formatter<W>) -> fmt::Result {
+        f.debug_struct("Records")
+            .field("left", &self.len())
+            .finish()
     }
 }

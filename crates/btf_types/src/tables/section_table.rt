@@ -10,6 +10,7 @@ ghost use Rattle.btf_types.specs.tables.TablePlaces.{IsPlacedTable};
 ghost use Rattle.btf_types.specs.tables.KeptSections.{AreSections};
 
 use crate::reading::{head_of, item_count_of, item_of};
+use crate::tables::items::Items;
 use crate::tables::places::Places;
 use crate::tables::records::Records;
 use crate::tables::table::FileSections;
@@ -118,6 +119,21 @@ impl<'a> SectionTable<'a> {
     {
         Records {
             given: 0,
+            last: self.count(),
+            table: self,
+        }
+    }
+
+    /// The items of record `id`, from 1, in order.
+    pub fn items(self, id: u32) -> Items<'a>
+        requires first { 0 < id }
+        requires last { id ≤ length self }
+        ensures { result ≡ (record_at self.entry id).items }
+    {
+        Items {
+            id,
+            given: 0,
+            end: self.item_count(id),
             table: self,
         }
     }

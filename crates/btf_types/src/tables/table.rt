@@ -55,7 +55,7 @@ pub trait TypeTable {
 }
 
 /// The two sections of a file, and the places of its records.
-#[derive(Clone, Copy)]
+#[derive(Clone, Copy, Debug, PartialEq, Eq)]
 pub struct FileSections<'a> {
     /// The byte order of the file.
     pub order: Order,

@@ -1,0 +1,79 @@
+-- Elements that are taken from both ends of a part of a list.
+use Rattle.std.proofs.Common.{◌≡◌, ℕ, zero, suc, ◌+◌, ◌-◌, ◌<◌, ◌≤◌, List, [], ◌∷◌, ◌++◌, length, take, drop, refl, ap, subst, ◌∙◌, arith, Some}
+use Rattle.std.specs.Prelude.{slice_get, unwrap_or}
+use Rattle.std.proofs.lemmas.List.{length-drop, length-take-le, get_or-take, take_all, drop-append-le, drop_more, drop_all, take_more}
+use Rattle.btf_types.specs.Values.{TypeRecord}
+use Rattle.btf_types.specs.tables.TableWords.{no_record, numbered, record_at}
+use Rattle.btf_types.specs.tables.Windows.{window}
+use Rattle.btf_types.proofs.TableLemmas.TableWalk.{get_or_is}
+
+-- one element from the front
+pub window_first : {X : Type 0} (from to : ℕ) (xs : List X) (x : X) → from < to → to ≤ length xs → slice_get xs from ≡ Some x → window from to xs ≡ x ∷ window (from + 1) to xs
+window_first from to xs x low high is =
+    let len = length-take-le to xs high in
+    let there = get_or_is xs from x x is in
+    drop_more (take to xs) from x (omega (arith, len))
+    ∙ ap (λ y. y ∷ window (from + 1) to xs) (get_or-take to xs from x low ∙ there.1)
+
+-- the element at an index, from the back
+pub window_last : {X : Type 0} (from to : ℕ) (xs : List X) (x : X) → from ≤ to → to < length xs → slice_get xs to ≡ Some x → window from (to + 1) xs ≡ window from to xs ++ x ∷ []
+window_last from to xs x low high is =
+    let len = length-take-le to xs (omega (arith, high)) in
+    let there = get_or_is xs to x x is in
+    ap (λ ys. drop from ys) (take_more xs to x high ∙ ap (λ y. take to xs ++ y ∷ []) there.1)
+    ∙ drop-append-le from (take to xs) (x ∷ []) (omega (arith, len))
+
+pub window_length : {X : Type 0} (from to : ℕ) (xs : List X) → to ≤ length xs → length (window from to xs) ≡ to - from
+window_length from to xs high = length-drop from (take to xs) ∙ ap (λ n. n - from) (length-take-le to xs high)
+
+pub window_empty : {X : Type 0} (from to : ℕ) (xs : List X) → to ≤ length xs → to ≤ from → window from to xs ≡ []
+window_empty from to xs high low = let len = length-take-le to xs high in drop_all from (take to xs) (omega (arith, len))
+
+pub window_whole : {X : Type 0} (to : ℕ) (xs : List X) → length xs ≤ to → window 0 to xs ≡ xs
+window_whole to xs high = take_all to xs high
+
+pub length-numbered : (id : ℕ) (v : List TypeRecord) → length (numbered id v) ≡ length v
+length-numbered id [] = refl
+length-numbered id (r ∷ v) = ap (λ n. suc n) (length-numbered (id + 1) v)
+
+-- one element from the back
+pub window_back : {X : Type 0} (from to : ℕ) (xs : List X) (x : X) → from < to → to ≤ length xs → slice_get xs (to - 1) ≡ Some x → window from to xs ≡ window from (to - 1) xs ++ x ∷ []
+window_back from to xs x low high is =
+    let e : to - 1 + 1 ≡ to = omega (arith, low) in
+    subst (λ (n : ℕ). window from n xs ≡ window from (to - 1) xs ++ x ∷ []) e (window_last from (to - 1) xs x (omega (arith, low)) (omega (arith, low, high)) is)
+
+numbered_get : (id : ℕ) (v : List TypeRecord) (i : ℕ) → i < length v → slice_get (numbered id v) i ≡ Some (id + i, (unwrap_or (slice_get v i) no_record).head)
+numbered_get id [] i h = absurd (omega (arith, h))
+numbered_get id (r ∷ v) zero h = let same : id ≡ id + zero = omega arith in ap (λ (n : ℕ). Some (n, r.head)) same
+numbered_get id (r ∷ v) (suc i) h =
+    let same : id + 1 + i ≡ id + suc i = omega arith in
+    numbered_get (id + 1) v i (omega (arith, h)) ∙ ap (λ (n : ℕ). Some (n, (unwrap_or (slice_get v i) no_record).head)) same
+
+-- the record of a number, with its number
+pub numbered_at : (v : List TypeRecord) (i : ℕ) → i < length v → slice_get (numbered 1 v) i ≡ Some (i + 1, (record_at v (i + 1)).head)
+numbered_at v i h =
+    let at : i + 1 - 1 ≡ i = omega arith in
+    let same : 1 + i ≡ i + 1 = omega arith in
+    rw (at, ← same) (numbered_get 1 v i h)
+
+-- one record of a table from the front, and one from the back
+pub first_numbered : (v : List TypeRecord) (from to : ℕ) → from < to → to ≤ length v
+    → window from to (numbered 1 v) ≡ (from + 1, (record_at v (from + 1)).head) ∷ window (from + 1) to (numbered 1 v)
+first_numbered v from to low high =
+    let len = length-numbered 1 v in
+    window_first from to (numbered 1 v) _ low (omega (arith, high, len)) (numbered_at v from (omega (arith, low, high)))
+
+pub last_numbered : (v : List TypeRecord) (from to : ℕ) → from < to → to ≤ length v
+    → window from to (numbered 1 v) ≡ window from (to - 1) (numbered 1 v) ++ (to, (record_at v to).head) ∷ []
+last_numbered v from to low high =
+    let len = length-numbered 1 v in
+    let e : to - 1 + 1 ≡ to = omega (arith, low) in
+    subst (λ (n : ℕ). window from n (numbered 1 v) ≡ window from (to - 1) (numbered 1 v) ++ (n, (record_at v n).head) ∷ []) e
+    (window_last from (to - 1) (numbered 1 v) _ (omega (arith, low)) (omega (arith, low, high, len)) (numbered_at v (to - 1) (omega (arith, low, high))))
+
+-- how many records are left
+pub numbered_left : (v : List TypeRecord) (from to : ℕ) → to ≤ length v → length (window from to (numbered 1 v)) ≡ to - from
+numbered_left v from to high = let len = length-numbered 1 v in window_length from to (numbered 1 v) (omega (arith, high, len))
+
+pub none_numbered : (v : List TypeRecord) (from to : ℕ) → to ≤ length v → to ≤ from → window from to (numbered 1 v) ≡ []
+none_numbered v from to high low = let len = length-numbered 1 v in window_empty from to (numbered 1 v) (omega (arith, high, len)) low

@@ -1,0 +1,38 @@
+//! Heads and items whose names live as long as the file.
+
+ghost use Rattle.std.specs.Prelude.{◌≡◌, ◌<◌, ◌≤◌, Some, length, slice_get};
+ghost use Rattle.btf_types.specs.Values.{head_value, item_value};
+ghost use Rattle.btf_types.specs.tables.TableWords.{record_at};
+
+use crate::reading::{head_of, item_of};
+use crate::record_words::Record;
+use crate::tables::view::BtfView;
+use crate::values::{Head, Item};
+use std::alloc::Allocator;
+
+impl<'a, A: Allocator> BtfView<'a, A> {
+    /// The head of record `id`, which is 1 to [`crate::TypeTable::count`]. Unlike that of
+    /// [`crate::TypeTable::head`], its name borrows the file and outlives the view.
+    pub fn file_head(&self, id: u32) -> Head<'a>
+        requires first { 0 < id }
+        requires last { id ≤ length self.now }
+        ensures { head_value result ≡ (record_at self.now id).head }
+    {
+        let pos = self.places.records()[id as usize - 1] as usize;
+        let this = Record::at(self.order, self.types, pos);
+        head_of(self.strings, self.places.ends(), &this)
+    }
+
+    /// Item `k`, from 0, of record `id`, which is 1 to [`crate::TypeTable::count`]. Unlike that of
+    /// [`crate::TypeTable::item`], its name borrows the file and outlives the view.
+    pub fn file_item(&self, id: u32, k: u32) -> Item<'a>
+        requires first { 0 < id }
+        requires last { id ≤ length self.now }
+        requires inside { k < length (record_at self.now id).items }
+        ensures { slice_get (record_at self.now id).items k ≡ Some (item_value result) }
+    {
+        let pos = self.places.records()[id as usize - 1] as usize;
+        let this = Record::at(self.order, self.types, pos);
+        item_of(self.strings, self.places.ends(), &this, k as usize)
+    }
+}

@@ -1,0 +1,88 @@
+//! The items of a record, one after the other.
+
+ghost use Rattle.std.specs.Iterator.{YieldsFirstBy, YieldsLastBy, item_count};
+ghost use Rattle.btf_types.specs.Values.{item_value};
+
+use crate::tables::section_table::SectionTable;
+use crate::values::Item;
+use std::fmt;
+use std::iter::FusedIterator;
+use std::marker::Model;
+
+/// The items of a record, in order, from [`crate::BtfView::items`] or [`crate::Btf::items`].
+///
+/// It gives items from both ends. After the last one it gives `None`, and goes on to do so. No step
+/// takes memory.
+#[derive(Drop)]
+pub struct Items<'a> {
+    pub(crate) table: SectionTable<'a>,
+    /// The record.
+    pub(crate) id: u32,
+    /// The number of items that were given from the front.
+    pub(crate) given: u32,
+    /// The number of items without those that were given from the back.
+    pub(crate) end: u32,
+}
+
+impl<'a> Model for Items<'a> {
+    ghost use Rattle.std.specs.Prelude.{List, ◌<◌, ◌≤◌, length};
+    ghost use Rattle.btf_types.specs.Values.{TypeItem};
+    ghost use Rattle.btf_types.specs.tables.TableWords.{record_at};
+    ghost use Rattle.btf_types.specs.tables.Windows.{window};
+
+    ghost Value = { List TypeItem };
+
+    ghost view = { λ t. window t.given t.end (record_at t.table t.id).items };
+
+    ghost invariant = { λ t. (0 < t.id) × (t.id ≤ length t.table) × (t.given ≤ t.end)
+        × (t.end ≤ length (record_at t.table t.id).items) };
+}
+
+impl<'a> Iterator for Items<'a> {
+    type Item = Item<'a>;
+
+    ghost next_gives = { YieldsFirstBy item_value (λ left. left) };
+
+    ghost remaining = { item_count (λ left. left) };
+
+    fn next(&mut self) -> Option<Item<'a>> {
+        if self.given == self.end {
+            return None;
+        }
+        let k = self.given;
+        self.given += 1;
+        Some(self.table.item(self.id, k))
+    }
+
+    fn size_hint(&self) -> (usize, Option<usize>) {
+        let len = self.len();
+        (len, Some(len))
+    }
+}
+
+impl<'a> DoubleEndedIterator for Items<'a> {
+    ghost next_back_gives = { YieldsLastBy item_value (λ left. left) };
+
+    fn next_back(&mut self) -> Option<Item<'a>> {
+        if self.given == self.end {
+            return None;
+        }
+        self.end -= 1;
+        Some(self.table.item(self.id, self.end))
+    }
+}
+
+impl ExactSizeIterator for Items<'_> {
+    fn len(&self) -> usize {
+        (self.end - self.given) as usize
+    }
+}
+
+impl FusedIterator for Items<'_> {}
+
+/// The number of items that are left.
+impl fmt::Debug for Items<'_> {
+    fn fmt<W: fmt::Write>(&self, f: &mut fmt::Formatter<W>) -> fmt::Result {
+        f.debug_struct("Items").field("left", &self.len()).finish()
+    }
+}

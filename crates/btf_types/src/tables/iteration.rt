@@ -1,0 +1,80 @@
+//! Both tables as collections: the items of a record, loops over the records, and `Debug`.
+
+ghost use Rattle.std.specs.Prelude.{◌≡◌, ◌<◌, ◌≤◌, length};
+ghost use Rattle.btf_types.specs.tables.TableWords.{numbered, record_at};
+
+use crate::tables::items::Items;
+use crate::tables::keeps_sections::KeepsSections;
+use crate::tables::owned::Btf;
+use crate::tables::records::Records;
+use crate::tables::table::TypeTable;
+use crate::tables::view::BtfView;
+use crate::values::Head;
+use std::alloc::Allocator;
+use std::fmt;
+
+impl<A: Allocator> BtfView<'_, A> {
+    /// The items of record `id`, which is 1 to [`TypeTable::count`], in order.
+    pub fn items(&self, id: u32) -> Items<'_>
+        requires first { 0 < id }
+        requires last { id ≤ length self.now }
+        ensures { result ≡ (record_at self.now id).items }
+    {
+        self.table().items(id)
+    }
+}
+
+impl<A: Allocator> Btf<A> {
+    /// The items of record `id`, which is 1 to [`TypeTable::count`], in order.
+    pub fn items(&self, id: u32) -> Items<'_>
+        requires first { 0 < id }
+        requires last { id ≤ length self.now }
+        ensures { result ≡ (record_at self.now id).items }
+    {
+        self.table().items(id)
+    }
+}
+
+/// The records, as [`BtfView::records`] gives them.
+impl<'t, A: Allocator> IntoIterator for &'t BtfView<'_, A> {
+    type Item = (u32, Head<'t>);
+
+    type IntoIter = Records<'t>;
+
+    ghost into_iter_gives = { λ table records. records ≡ numbered 1 table.now };
+
+    fn into_iter(self) -> Records<'t> {
+        self.records()
+    }
+}
+
+/// The records, as [`Btf::records`] gives them.
+impl<'t, A: Allocator> IntoIterator for &'t Btf<A> {
+    type Item = (u32, Head<'t>);
+
+    type IntoIter = Records<'t>;
+
+    ghost into_iter_gives = { λ table records. records ≡ numbered 1 table.now };
+
+    fn into_iter(self) -> Records<'t> {
+        self.records()
+    }
+}
+
+/// The number of records.
+impl<A: Allocator> fmt::Debug for BtfView<'_, A> {
+    fn fmt<W: fmt::Write>(&self, f: &mut fmt::Formatter<W>) -> fmt::Result {
+        f.debug_struct("BtfView")
+            .field("count", &self.count())
+            .finish_non_exhaustive()
+    }
+}
+
+/// The number of records.
+impl<A: Allocator> fmt::Debug for Btf<A> {
+    fn fmt<W: fmt::Write>(&self, f: &mut fmt::Formatter<W>) -> fmt::Result {
+        f.debug_struct("Btf")
+            .field("count", &self.count())
+            .finish_non_exhaustive()
+    }
+}
