@@ -4,7 +4,7 @@ use Rattle.std.specs.Prelude.{slice_get, unwrap_or}
 use Rattle.std.proofs.lemmas.List.{length-drop, length-take-le, get_or-take, take_all, drop-append-le, drop_more, drop_all, take_more}
 use Rattle.btf_types.specs.Values.{TypeRecord}
 use Rattle.btf_types.specs.tables.TableWords.{no_record, numbered, record_at}
-use Rattle.btf_types.specs.tables.Windows.{window}
+use Rattle.btf_types.specs.tables.Windows.{items_of, window}
 use Rattle.btf_types.proofs.TableLemmas.TableWalk.{get_or_is}
 
 -- one element from the front
@@ -77,3 +77,26 @@ numbered_left v from to high = let len = length-numbered 1 v in window_length fr
 
 pub none_numbered : (v : List TypeRecord) (from to : ℕ) → to ≤ length v → to ≤ from → window from to (numbered 1 v) ≡ []
 none_numbered v from to high low = let len = length-numbered 1 v in window_empty from to (numbered 1 v) (omega (arith, high, len)) low
+
+in_table : (v : List TypeRecord) (i k : ℕ) → k < length (unwrap_or (slice_get v i) no_record).items → i < length v
+in_table [] i k h = absurd (omega (arith, h))
+in_table (r ∷ v) zero k h = omega arith
+in_table (r ∷ v) (suc i) k h = let below = in_table v i k h in omega (arith, below)
+
+-- what has an item is a record of the table
+pub items_there : (v : List TypeRecord) (id k : ℕ) → k < length (items_of v id) → (0 < id) × (id ≤ length v)
+items_there v zero k h = absurd (omega (arith, h))
+items_there v (suc i) k h = let below = in_table v i k h in (omega arith, omega (arith, below))
+
+pub items_of_record : (v : List TypeRecord) (id : ℕ) → 0 < id → items_of v id ≡ (record_at v id).items
+items_of_record v zero h = absurd (omega (arith, h))
+items_of_record v (suc i) h = let at : suc i - 1 ≡ i = omega arith in rw at refl
+
+no_items : (v : List TypeRecord) (i : ℕ) → length v ≤ i → (unwrap_or (slice_get v i) no_record).items ≡ []
+no_items [] i h = refl
+no_items (r ∷ v) zero h = absurd (omega (arith, h))
+no_items (r ∷ v) (suc i) h = no_items v i (omega (arith, h))
+
+pub items_beyond : (v : List TypeRecord) (id : ℕ) → length v < id → items_of v id ≡ []
+items_beyond v zero h = refl
+items_beyond v (suc i) h = no_items v i (omega (arith, h))

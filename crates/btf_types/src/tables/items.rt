@@ -25,17 +25,16 @@ pub struct Items<'a> {
 }
 
 impl<'a> Model for Items<'a> {
-    ghost use Rattle.std.specs.Prelude.{List, ◌<◌, ◌≤◌, length};
+    ghost use Rattle.std.specs.Prelude.{List, ◌≤◌, length};
     ghost use Rattle.btf_types.specs.Values.{TypeItem};
-    ghost use Rattle.btf_types.specs.tables.TableWords.{record_at};
-    ghost use Rattle.btf_types.specs.tables.Windows.{window};
+    ghost use Rattle.btf_types.specs.tables.Windows.{items_of, window};
 
     ghost Value = { List TypeItem };
 
-    ghost view = { λ t. window t.given t.end (record_at t.table t.id).items };
+    ghost view = { λ t. window t.given t.end (items_of t.table t.id) };
 
-    ghost invariant = { λ t. (0 < t.id) × (t.id ≤ length t.table) × (t.given ≤ t.end)
-        × (t.end ≤ length (record_at t.table t.id).items) };
+    ghost invariant = { λ t. (t.given ≤ t.end)
+        × (t.end ≤ length (items_of t.table t.id)) };
 }
 
 impl<'a> Iterator for Items<'a> {

@@ -1,7 +1,8 @@
 //! Both tables as collections: the items of a record, loops over the records, and `Debug`.
 
-ghost use Rattle.std.specs.Prelude.{◌≡◌, ◌<◌, ◌≤◌, length};
-ghost use Rattle.btf_types.specs.tables.TableWords.{numbered, record_at};
+ghost use Rattle.std.specs.Prelude.{◌≡◌};
+ghost use Rattle.btf_types.specs.tables.TableWords.{numbered};
+ghost use Rattle.btf_types.specs.tables.Windows.{items_of};
 
 use crate::tables::items::Items;
 use crate::tables::keeps_sections::KeepsSections;
@@ -14,22 +15,18 @@ use std::alloc::Allocator;
 use std::fmt;
 
 impl<A: Allocator> BtfView<'_, A> {
-    /// The items of record `id`, which is 1 to [`TypeTable::count`], in order.
+    /// The items of type `id`, in order. Void, and an `id` above [`TypeTable::count`], have none.
     pub fn items(&self, id: u32) -> Items<'_>
-        requires first { 0 < id }
-        requires last { id ≤ length self.now }
-        ensures { result ≡ (record_at self.now id).items }
+        ensures { result ≡ items_of self.now id }
     {
         self.table().items(id)
     }
 }
 
 impl<A: Allocator> Btf<A> {
-    /// The items of record `id`, which is 1 to [`TypeTable::count`], in order.
+    /// The items of type `id`, in order. Void, and an `id` above [`TypeTable::count`], have none.
     pub fn items(&self, id: u32) -> Items<'_>
-        requires first { 0 < id }
-        requires last { id ≤ length self.now }
-        ensures { result ≡ (record_at self.now id).items }
+        ensures { result ≡ items_of self.now id }
     {
         self.table().items(id)
     }

@@ -6,6 +6,7 @@ ghost use Rattle.btf_types.specs.Values.{head_value, item_value};
 ghost use Rattle.btf_types.specs.Good.{IsGood};
 ghost use Rattle.btf_types.specs.Reading.{records_at};
 ghost use Rattle.btf_types.specs.tables.TableWords.{record_at, numbered};
+ghost use Rattle.btf_types.specs.tables.Windows.{items_of};
 ghost use Rattle.btf_types.specs.tables.TablePlaces.{IsPlacedTable};
 ghost use Rattle.btf_types.specs.tables.KeptSections.{AreSections};
 
@@ -124,16 +125,27 @@ impl<'a> SectionTable<'a> {
         }
     }
 
-    /// The items of record `id`, from 1, in order.
+    /// The number of items of type `id`, which has none if it isn't in the table.
+    fn item_total(&self, id: u32) -> u32
+        ensures { result ≡ length (items_of self.now id) }
+    {
+        if id == 0 {
+            return 0;
+        }
+        if id > self.count() {
+            return 0;
+        }
+        self.item_count(id)
+    }
+
+    /// The items of type `id`, in order. It has none if it isn't in the table.
     pub fn items(self, id: u32) -> Items<'a>
-        requires first { 0 < id }
-        requires last { id ≤ length self }
-        ensures { result ≡ (record_at self.entry id).items }
+        ensures { result ≡ items_of self.entry id }
     {
         Items {
             id,
             given: 0,
-            end: self.item_count(id),
+            end: self.item_total(id),
             table: self,
         }
     }
