@@ -3,5 +3,4 @@ pub mod Checks
 pub mod FieldFaults
 pub mod NameFaults
 pub mod RecordFaults
-pub mod Phases
 pub mod Texts

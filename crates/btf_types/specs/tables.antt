@@ -7,3 +7,4 @@ pub mod PlaceWords
 pub mod KeptSections
 pub mod StringEnds
 pub mod Windows
+pub mod SectionParts

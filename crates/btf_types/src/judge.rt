@@ -5,6 +5,5 @@ pub(crate) mod fields;
 pub(crate) mod framing;
 pub(crate) mod items;
 pub(crate) mod names;
-pub(crate) mod phases;
 pub(crate) mod references;
 pub(crate) mod utf8;

@@ -7,11 +7,12 @@ use Rattle.btf_raw.specs.declared.cause.BtfCause.{BtfCause}
 use Rattle.btf_raw.specs.Cause.{number_of, HasNone, LeastByPlace}
 use Rattle.std.proofs.lemmas.List.{length-map}
 use Rattle.std.proofs.lemmas.Option.{slice_get_past}
-use Rattle.btf_types.specs.declared.tables.section.Section.{Section}
+use Rattle.btf_types.specs.declared.tables.section.Section.TheInside.{Inside}
 use Rattle.btf_types.specs.judge.FieldFaults.{WordFault, FieldFault, frame_facts}
 use Rattle.btf_types.specs.Reading.{frame_at}
 use Rattle.btf_types.specs.judge.RecordFaults.{IsFaultless, LeastOfRecord}
-use Rattle.btf_types.specs.Sections.{IsSection, frames_in, facts_in}
+use Rattle.btf_types.specs.Sections.{facts_in}
+use Rattle.btf_types.specs.tables.SectionParts.{IsSection, words_in}
 use Rattle.btf_types.proofs.TableLemmas.SectionSteps.{nth_frame, frame_get, starts_in, has_frame}
 
 -- where the i-th list begins among the lists, and where it ends
@@ -63,49 +64,49 @@ module _ (strings : List ℕ) (fs : List (List ℕ)) where
   }
 
 -- the same of a framed section
-module _ (s : Section) (good : IsSection s) where
-  faultless_before : (n : ℕ) → ((k : ℕ) → k < n → IsFaultless s.file.strings.now (facts_in s) (nth_frame s k)) → (k : ℕ) (g : List ℕ) → k < length s.file.places.now → k < n → slice_get (frames_in s) k ≡ Some g → IsFaultless s.file.strings.now (facts_in s) g
+module _ (s : Inside) (good : IsSection s) where
+  faultless_before : (n : ℕ) → ((k : ℕ) → k < n → IsFaultless s.file.strings.now (facts_in (words_in s)) (nth_frame s k)) → (k : ℕ) (g : List ℕ) → k < length s.file.places.now → k < n → slice_get ((words_in s).frames) k ≡ Some g → IsFaultless s.file.strings.now (facts_in (words_in s)) g
   faultless_before n none k g there low is =
-      subst (λ (x : List ℕ). IsFaultless s.file.strings.now (facts_in s) x) (some_is (nth_frame s k) g (slice_get (frames_in s) k) (frame_get s good k there) is) (none k low)
+      subst (λ (x : List ℕ). IsFaultless s.file.strings.now (facts_in (words_in s)) x) (some_is (nth_frame s k) g (slice_get ((words_in s).frames) k) (frame_get s good k there) is) (none k low)
 
-  get_inside : (k : ℕ) (g : List ℕ) → slice_get (frames_in s) k ≡ Some g → k < length s.file.places.now
+  get_inside : (k : ℕ) (g : List ℕ) → slice_get ((words_in s).frames) k ≡ Some g → k < length s.file.places.now
   get_inside k g is = elim (cases_lt k (length s.file.places.now)) [
     | inl lt ↦ lt
-    | inr le ↦ absurd (none_is g (slice_get_past (frames_in s) k (omega (arith, length-map s.file.places.now (frame_at s.file.order s.file.types.now)))) is)
+    | inr le ↦ absurd (none_is g (slice_get_past ((words_in s).frames) k (omega (arith, length-map s.file.places.now (frame_at s.file.order s.file.types.now)))) is)
   ]
     where
       none_is : (x : List ℕ) {o : Option (List ℕ)} → o ≡ None → o ≡ Some x → ⊥
       none_is x p q = cc
 
-  pub no_field_fault : ((k : ℕ) → k < length s.file.places.now → IsFaultless s.file.strings.now (facts_in s) (nth_frame s k)) → HasNone (FieldFault s.file.strings.now (frames_in s))
+  pub no_field_fault : ((k : ℕ) → k < length s.file.places.now → IsFaultless s.file.strings.now (facts_in (words_in s)) (nth_frame s k)) → HasNone (FieldFault s.file.strings.now ((words_in s).frames))
   no_field_fault none p c fault =
       let there = get_inside fault.index fault.frame fault.frame_is in
       faultless_before (length s.file.places.now) none fault.index fault.frame there there fault.frame_is fault.word c fault.inside fault.fault
 
   pub first_in_section : (i word : ℕ) (c : BtfCause) → i < length s.file.places.now
-      → ((k : ℕ) → k < i → IsFaultless s.file.strings.now (facts_in s) (nth_frame s k))
-      → LeastOfRecord s.file.strings.now (facts_in s) (nth_frame s i) word c
-      → LeastByPlace (FieldFault s.file.strings.now (frames_in s)) (slice_index s.file.places.now i + 4 * word) c
+      → ((k : ℕ) → k < i → IsFaultless s.file.strings.now (facts_in (words_in s)) (nth_frame s k))
+      → LeastOfRecord s.file.strings.now (facts_in (words_in s)) (nth_frame s i) word c
+      → LeastByPlace (FieldFault s.file.strings.now ((words_in s).frames)) (slice_index s.file.places.now i + 4 * word) c
   first_in_section i word c there none least =
-      let place : slice_index s.file.places.now i + 4 * word ≡ 4 * (length (concat (take i (frames_in s))) + word) = omega (arith, starts_in s good i there) in
+      let place : slice_index s.file.places.now i + 4 * word ≡ 4 * (length (concat (take i ((words_in s).frames))) + word) = omega (arith, starts_in s good i there) in
       rw place
-      (first_field_fault s.file.strings.now (frames_in s) i (nth_frame s i) word c (frame_get s good i there)
+      (first_field_fault s.file.strings.now ((words_in s).frames) i (nth_frame s i) word c (frame_get s good i there)
       (λ k g low is j d inside fault. faultless_before i none k g (get_inside k g is) low is j d inside fault)
       least.inside least.holds least.least)
 
   -- one more record without a fault
-  pub faultless_more : (i : ℕ) → ((k : ℕ) → k < i → IsFaultless s.file.strings.now (facts_in s) (nth_frame s k)) → IsFaultless s.file.strings.now (facts_in s) (nth_frame s i)
-      → (k : ℕ) → k < i + 1 → IsFaultless s.file.strings.now (facts_in s) (nth_frame s k)
+  pub faultless_more : (i : ℕ) → ((k : ℕ) → k < i → IsFaultless s.file.strings.now (facts_in (words_in s)) (nth_frame s k)) → IsFaultless s.file.strings.now (facts_in (words_in s)) (nth_frame s i)
+      → (k : ℕ) → k < i + 1 → IsFaultless s.file.strings.now (facts_in (words_in s)) (nth_frame s k)
   faultless_more i before here k low = elim (cases_lt k i) [
     | inl lt ↦ before k lt
-    | inr le ↦ subst (λ (n : ℕ). IsFaultless s.file.strings.now (facts_in s) (nth_frame s n)) (omega arith) here
+    | inr le ↦ subst (λ (n : ℕ). IsFaultless s.file.strings.now (facts_in (words_in s)) (nth_frame s n)) (omega arith) here
   ]
 
   -- a fault is within the section
-  pub fault_inside : (p : ℕ) (c : BtfCause) → FieldFault s.file.strings.now (frames_in s) p c → p < length s.file.types.now
+  pub fault_inside : (p : ℕ) (c : BtfCause) → FieldFault s.file.strings.now ((words_in s).frames) p c → p < length s.file.types.now
   fault_inside p c fault =
       let there = get_inside fault.index fault.frame fault.frame_is in
-      let same = some_is (nth_frame s fault.index) fault.frame (slice_get (frames_in s) fault.index) (frame_get s good fault.index there) fault.frame_is in
+      let same = some_is (nth_frame s fault.index) fault.frame (slice_get ((words_in s).frames) fault.index) (frame_get s good fault.index there) fault.frame_is in
       let word : fault.word < length (nth_frame s fault.index) = rw same fault.inside in
       let room = (has_frame s good fault.index there).inside in
       let start = starts_in s good fault.index there in

@@ -1,11 +1,13 @@
 -- From the faults of a section to those of the file.
-use Rattle.std.proofs.Common.{◌≡◌, ℕ, ◌+◌, ◌-◌, List, [], ◌++◌, length, get_or, sym, ap, subst, ◌∙◌, inl, inr, append-nil, arith}
+use Rattle.std.proofs.Common.{◌≡◌, ℕ, ◌+◌, ◌-◌, List, [], ◌++◌, length, get_or, refl, sym, ap, subst, ◌∙◌, inl, inr, append-nil, arith}
 use Rattle.bpf_words.specs.declared.Order.{Order}
 use Rattle.btf_raw.specs.declared.header.Header.{Header}
 use Rattle.btf_raw.specs.declared.cause.BtfCause.{BtfCause}
 use Rattle.btf_raw.specs.declared.cause.BtfCause.TheVariants.{FirstString, LastString, RecordCut, TailCut}
-use Rattle.btf_raw.specs.Cause.{LeastByCause, LeastByPlace}
-use Rattle.btf_raw.specs.Header.{Cut, HasNulEnds, StringFault, types_at}
+use Rattle.btf_raw.specs.declared.cause.BtfFault.{BtfFault}
+use Rattle.btf_raw.specs.Cause.{HasNone, LeastByCause, LeastByPlace}
+use Rattle.btf_raw.specs.Header.{Cut, HasNulEnds, HeaderFault, StringFault, part, types_at}
+use Rattle.btf_raw.specs.ReadHeader.{ReadsHeader}
 use Rattle.btf_raw.specs.Frames.{Frames, FramingFault, RecordFault, section_of}
 use Rattle.btf_raw.proofs.Frames.{IsNoFrame, frame_has_none, frames_cancel}
 use Rattle.btf_raw.proofs.Cuts.{cut_unique, SameCut}
@@ -14,7 +16,34 @@ use Rattle.btf_types.specs.Faults.{StringsFault, FramesFault, FieldsFault}
 use Rattle.btf_types.specs.judge.FieldFaults.{FieldFault}
 use Rattle.btf_types.specs.Reading.{frames_at}
 use Rattle.btf_types.specs.tables.TableInvariant.{IsFramed}
-use Rattle.btf_types.specs.judge.Phases.{HasHeader, HasStrings, HasFrames, types_of, strings_of}
+use Rattle.btf_types.specs.declared.error.BtfError.{BtfError}
+use Rattle.btf_types.specs.declared.error.BtfError.TheVariants as errors
+use Rattle.btf_types.specs.tables.Tables.{Fails, FailsFraming, FailsFields, moved}
+use Rattle.btf_types.proofs.JudgeLemmas.Firsts.{first_of_strings, first_of_frames, first_of_fields}
+
+-- ---- what the first phases leave of a file: a header, strings with their ends, and frames
+
+pub record HasHeader (b : List ℕ) (h : Header) : Type 0 where
+  pub reads : ReadsHeader b h
+  pub none : HasNone (HeaderFault b)
+
+abbrev pub types_of : List ℕ → Header → List ℕ
+types_of b h = part b h.types_pos h.types_len
+
+abbrev pub strings_of : List ℕ → Header → List ℕ
+strings_of b h = part b h.str_pos h.str_len
+
+pub record HasStrings (b : List ℕ) (h : Header) : Type 0 where
+  pub header : HasHeader b h
+  pub ends : HasNulEnds (strings_of b h)
+  pub none : HasNone (StringsFault b)
+
+pub record HasFrames (b : List ℕ) (h : Header) (places : List ℕ) : Type 0 where
+  pub has_strings : HasStrings b h
+  pub framed : IsFramed h.order (types_of b h) places
+  pub none : HasNone (FramesFault b)
+
+-- ---- from one phase to the next
 
 pub no_string_fault : (strings : List ℕ) (p : ℕ) (c : BtfCause) → HasNulEnds strings → ¬ StringFault strings p c
 no_string_fault strings p FirstString ends fault = fault.2 (subst (λ (i : ℕ). get_or strings i 0 ≡ 0) (sym fault.0) ends.first)
@@ -135,3 +164,21 @@ first_fields_fault b h places p q c has least is =
             | inr here ↦ inr (omega (arith, here.0), here.1)
           ];
     }
+
+-- ---- the fault of a section is the first of the file
+
+pub fails_strings : (b : List ℕ) (h : Header) (fault : BtfFault) → HasHeader b h → LeastByCause (StringFault (strings_of b h)) fault.pos fault.cause
+    → Fails b (moved h.str_pos (errors.Fault fault))
+fails_strings b h fault has least =
+    first_of_strings b (h.str_pos + fault.pos) fault.cause (first_string_fault b h (h.str_pos + fault.pos) fault.pos fault.cause has least refl)
+
+pub fails_framing : (b : List ℕ) (h : Header) (e : BtfError) → HasStrings b h → FailsFraming h.order (types_of b h) e → Fails b (moved h.types_pos e)
+fails_framing b h (errors.Fault fault) has least =
+    first_of_frames b (h.types_pos + fault.pos) fault.cause (first_frames_fault b h (h.types_pos + fault.pos) fault.pos fault.cause has least refl)
+fails_framing b h errors.Memory has least = tt
+
+pub fails_fields : (b : List ℕ) (h : Header) (places : List ℕ) (e : BtfError) → HasFrames b h places → FailsFields h.order (types_of b h) (strings_of b h) places e
+    → Fails b (moved h.types_pos e)
+fails_fields b h places (errors.Fault fault) has least =
+    first_of_fields b (h.types_pos + fault.pos) fault.cause (first_fields_fault b h places (h.types_pos + fault.pos) fault.pos fault.cause has least refl)
+fails_fields b h places errors.Memory has least = tt

@@ -6,7 +6,7 @@ use Rattle.btf_raw.specs.declared.cause.BtfCause.{BtfCause}
 use Rattle.btf_raw.specs.KindNumbers.{INT, ARRAY, STRUCT, UNION, ENUM, FUNC_PROTO, VAR, DATASEC, DECL_TAG, ENUM64}
 use Rattle.btf_raw.specs.Frames.{IsFrame, kind, vlen}
 use Rattle.btf_raw.specs.Kinds.{is_struct, tail_words, fixed_words, item_words}
-use Rattle.btf_types.specs.declared.tables.section.Section.{Section}
+use Rattle.btf_types.specs.Sections.{SectionWords}
 use Rattle.btf_types.specs.judge.Checks.{TypeFacts, LeastCause, NoCause}
 use Rattle.btf_types.specs.judge.NameFaults.{NamedTypeFault}
 use Rattle.btf_types.specs.judge.RecordFaults.{FaultInWord, NoneWithin, IsFirstWithin}
@@ -20,7 +20,7 @@ no_tail κ v int array struct union enum proto var datasec tag enum64 =
     rw (ne_eqb κ INT int, ne_eqb κ ARRAY array, ne_eqb κ STRUCT struct, ne_eqb κ UNION union, ne_eqb κ ENUM enum, ne_eqb κ FUNC_PROTO proto, ne_eqb κ VAR var, ne_eqb κ DATASEC datasec, ne_eqb κ DECL_TAG tag, ne_eqb κ ENUM64 enum64)
     (omega arith)
 
-module _ (s : Section) {f : List ℕ} (is : IsFrame f) where
+module _ (s : SectionWords) {f : List ℕ} (is : IsFrame f) where
   -- no words have no fault
   pub none_yet : (word : ℕ) → NoneWithin s f word word
   none_yet word j d past low fault = absurd (omega arith)
@@ -84,7 +84,7 @@ module _ {f : List ℕ} (is : IsFrame f) where
   fourth_end one = is.size ∙ one_word (kind f) (vlen f) one
 
   -- a record of another kind ends after three words
-  pub rest_faultless : (s : Section) → kind f ≢ INT → kind f ≢ ARRAY → kind f ≢ STRUCT → kind f ≢ UNION → kind f ≢ ENUM → kind f ≢ FUNC_PROTO
+  pub rest_faultless : (s : SectionWords) → kind f ≢ INT → kind f ≢ ARRAY → kind f ≢ STRUCT → kind f ≢ UNION → kind f ≢ ENUM → kind f ≢ FUNC_PROTO
       → kind f ≢ VAR → kind f ≢ DATASEC → kind f ≢ DECL_TAG → kind f ≢ ENUM64 → NoneWithin s f 3 (length f)
   rest_faultless s int array struct union enum proto var datasec tag enum64 j d past low fault =
       let end : length f ≡ 3 = is.size ∙ no_tail (kind f) (vlen f) int array struct union enum proto var datasec tag enum64 in

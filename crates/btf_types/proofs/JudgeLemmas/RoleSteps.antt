@@ -10,8 +10,7 @@ use Rattle.btf_raw.specs.Names.{TextAt}
 use Rattle.btf_raw.specs.Frames.{IsFrame, name_word, third_word, kind, vlen, flag}
 use Rattle.btf_types.specs.judge.Checks.{size_fits, bits_fit, target_fits, component_fits, TypeFacts, type_at, NoCause, LeastCause}
 use Rattle.btf_types.specs.judge.FieldFaults.{WordFault, offset_in, width_in, int_unused, int_encoding, int_bits, IsTypeField, IsNameField, IsMemberWord, IsItemWord}
-use Rattle.btf_types.specs.declared.tables.section.Section.{Section}
-use Rattle.btf_types.specs.Sections.{facts_in}
+use Rattle.btf_types.specs.Sections.{SectionWords, facts_in}
 use Rattle.btf_types.specs.judge.RecordFaults.{FaultInWord, BitFieldsAre}
 use Rattle.btf_types.specs.judge.NameFaults.{MemberPlaceFault, MemberTypeFault}
 use Rattle.btf_types.proofs.JudgeLemmas.Judging.{judged_same}
@@ -338,17 +337,17 @@ module _ (strings : List ℕ) (types : List TypeFacts) (frame : List ℕ) (j : �
       (role_holds role has.is) (role_says strings types frame j role has) judged
 
 -- what a cause says of a word of a frame that has this role
-abbrev pub HeldFault : Section → List ℕ → ℕ → Role → BtfCause → Type 0
-HeldFault s f word role c = RoleFault s.file.strings.now (facts_in s) f (kind f) (vlen f) (flag f) (third_word f) word role c
+abbrev pub HeldFault : SectionWords → List ℕ → ℕ → Role → BtfCause → Type 0
+HeldFault s f word role c = RoleFault s.strings (facts_in s) f (kind f) (vlen f) (flag f) (third_word f) word role c
 
 -- the same on the number that is read of the word
-pub judged : (s : Section) {f : List ℕ} {j word : ℕ} (role : Role) (result : Option BtfCause) → IsFrame f → j < length f
+pub judged : (s : SectionWords) {f : List ℕ} {j word : ℕ} (role : Role) (result : Option BtfCause) → IsFrame f → j < length f
     → word ≡ slice_index f j → HasRole (kind f) j role
     → MatchOption result (NoCause (HeldFault s f word role)) (λ c. LeastCause (HeldFault s f word role) c)
     → MatchOption result (NoCause (FaultInWord s f j)) (λ c. LeastCause (FaultInWord s f j) c)
 judged s {f} {j} {word} role result is there word-is has held =
-    word_judged s.file.strings.now (facts_in s) f j is there role result has
-    (judged_same (HeldFault s f word role) (WordRoleFault s.file.strings.now (facts_in s) f j role) result
+    word_judged s.strings (facts_in s) f j is there role result has
+    (judged_same (HeldFault s f word role) (WordRoleFault s.strings (facts_in s) f j role) result
     (λ d h. rw (← word-is) h) (λ d h. rw word-is h) held)
 
 -- the answer by which a member's type is judged

@@ -3,10 +3,10 @@ use Rattle.std.proofs.Common.{◌≡◌, ℕ, ◌≤◌, Option, None, Some, Lis
 use Rattle.std.specs.Prelude.{MatchOption}
 use Rattle.std.proofs.lemmas.Bool.{cases_lt}
 use Rattle.btf_raw.specs.declared.cause.BtfCause.{BtfCause}
-use Rattle.btf_types.specs.declared.tables.section.Section.{Section}
+use Rattle.btf_types.specs.Sections.{SectionWords}
 use Rattle.btf_types.specs.judge.RecordFaults.{FaultInWord, NoneWithin, IsFirstWithin, FirstWithin, IsFaultlessIn, IsLeastIn}
 
-module _ (s : Section) (f : List ℕ) where
+module _ (s : SectionWords) (f : List ℕ) where
   -- words in a row
   pub none_through : (from mid to : ℕ) → NoneWithin s f from mid → NoneWithin s f mid to → NoneWithin s f from to
   none_through from mid to before after j d past low fault = elim (cases_lt j mid) [

@@ -10,14 +10,15 @@ use Rattle.btf_raw.specs.Kinds.{tail_words, fixed_words, item_words}
 use Rattle.btf_raw.specs.Frames.{IsFrame, bytes_of, section_of, kind}
 use Rattle.btf_raw.proofs.Frames.{length-bytes_of}
 use Rattle.btf_types.proofs.Lists.{get-map, get_or-map}
-use Rattle.btf_types.specs.declared.tables.section.Section.{Section}
+use Rattle.btf_types.specs.declared.tables.section.Section.TheInside.{Inside}
 use Rattle.btf_types.specs.judge.Checks.{type_at}
 use Rattle.btf_types.specs.judge.FieldFaults.{frame_facts}
 use Rattle.btf_types.specs.Reading.{frame_at}
-use Rattle.btf_types.specs.Sections.{IsSection, HasFrame, frame_of, frames_in, facts_in}
+use Rattle.btf_types.specs.Sections.{HasFrame, frame_of, facts_in}
+use Rattle.btf_types.specs.tables.SectionParts.{IsSection, words_in}
 
 -- the frame of the i-th record, from 0
-abbrev pub nth_frame : Section → ℕ → List ℕ
+abbrev pub nth_frame : Inside → ℕ → List ℕ
 nth_frame s i = frame_of s.file (slice_index s.file.places.now i)
 
 -- bytes are four for each word
@@ -33,33 +34,33 @@ ends_inside o (f ∷ frames) (suc i) h =
     let rest = ends_inside o frames i (omega arith) in
     omega (arith, rest, length-append (bytes_of o f) (section_of o frames), length-append (bytes_of o f) (section_of o (take i frames)))
 
-module _ (s : Section) (good : IsSection s) (i : ℕ) (there : i < length s.file.places.now) where
-  among : i < length (frames_in s)
+module _ (s : Inside) (good : IsSection s) (i : ℕ) (there : i < length s.file.places.now) where
+  among : i < length ((words_in s).frames)
   among = omega (arith, length-map s.file.places.now (frame_at s.file.order s.file.types.now))
 
-  frame_is : get_or (frames_in s) i [] ≡ nth_frame s i
+  frame_is : get_or ((words_in s).frames) i [] ≡ nth_frame s i
   frame_is = get_or-map (frame_at s.file.order s.file.types.now) s.file.places.now i 0 [] there
 
   -- it is there, after the words of the records before it, four bytes each
   pub has_frame : HasFrame s.file (slice_index s.file.places.now i)
   has_frame =
       let start = good.framed.starts i there in
-      let whole : length s.file.types.now ≡ length (section_of s.file.order (frames_in s)) = ap length good.framed.frames.whole in
-      let room : length (section_of s.file.order (take i (frames_in s))) + 4 * length (nth_frame s i) ≤ length (section_of s.file.order (frames_in s)) =
-      rw frame_is at (ends_inside s.file.order (frames_in s) i among) in
+      let whole : length s.file.types.now ≡ length (section_of s.file.order ((words_in s).frames)) = ap length good.framed.frames.whole in
+      let room : length (section_of s.file.order (take i ((words_in s).frames))) + 4 * length (nth_frame s i) ≤ length (section_of s.file.order ((words_in s).frames)) =
+      rw frame_is at (ends_inside s.file.order ((words_in s).frames) i among) in
       record {
         inside = omega arith;
         frame = subst (λ (g : List ℕ). IsFrame g) frame_is (good.framed.frames.each i [] among);
       }
 
-  pub starts_in : slice_index s.file.places.now i ≡ 4 * length (concat (take i (frames_in s)))
-  starts_in = good.framed.starts i there ∙ length-section s.file.order (take i (frames_in s))
+  pub starts_in : slice_index s.file.places.now i ≡ 4 * length (concat (take i ((words_in s).frames)))
+  starts_in = good.framed.starts i there ∙ length-section s.file.order (take i ((words_in s).frames))
 
-  pub frame_get : slice_get (frames_in s) i ≡ Some (nth_frame s i)
+  pub frame_get : slice_get ((words_in s).frames) i ≡ Some (nth_frame s i)
   frame_get = get-map (frame_at s.file.order s.file.types.now) s.file.places.now i 0 there
 
-  pub facts_get : slice_get (facts_in s) i ≡ Some (frame_facts (nth_frame s i))
-  facts_get = get-map frame_facts (frames_in s) i [] among ∙ ap (λ (f : List ℕ). Some (frame_facts f)) frame_is
+  pub facts_get : slice_get (facts_in (words_in s)) i ≡ Some (frame_facts (nth_frame s i))
+  facts_get = get-map frame_facts ((words_in s).frames) i [] among ∙ ap (λ (f : List ℕ). Some (frame_facts f)) frame_is
 
 -- a frame has three words, and an INT has its own
 pub three_words : (f : List ℕ) → IsFrame f → 3 ≤ length f
@@ -69,7 +70,7 @@ pub int_has_word : (f : List ℕ) → IsFrame f → kind f ≡ INT → 3 < lengt
 unfolding tail_words fixed_words item_words
 int_has_word f frame int = let size : length f ≡ 4 = frame.size ∙ rw int (omega arith) in omega arith
 
-pub type_is : (s : Section) (id : ℕ) → IsSection s → 0 < id → id ≤ length s.file.places.now → type_at (facts_in s) id ≡ frame_facts (nth_frame s (id - 1))
+pub type_is : (s : Inside) (id : ℕ) → IsSection s → 0 < id → id ≤ length s.file.places.now → type_at (facts_in (words_in s)) id ≡ frame_facts (nth_frame s (id - 1))
 type_is s zero good some few = absurd (omega arith)
 type_is s (suc i) good some few =
     let e : suc i - 1 ≡ i = omega arith in

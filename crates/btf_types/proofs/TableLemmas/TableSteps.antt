@@ -4,16 +4,12 @@ use Rattle.std.specs.List.{AllZip, concat}
 use Rattle.bpf_words.specs.declared.Order.{Order}
 use Rattle.btf_raw.specs.declared.header.Header.{Header}
 use Rattle.btf_raw.specs.Frames.{bytes_of, section_of}
-use Rattle.btf_types.specs.declared.error.BtfError.{BtfError}
-use Rattle.btf_types.specs.declared.error.BtfError.TheVariants as errors
 use Rattle.btf_types.specs.Values.{TypeRecord}
 use Rattle.btf_types.specs.Spelling.{Spells, IsRecord}
 use Rattle.btf_types.specs.Denotes.{Denotes}
 use Rattle.btf_types.specs.Reading.{frames_at, records_at}
 use Rattle.btf_types.specs.tables.TableInvariant.{FieldsAreRight, IsTable}
-use Rattle.btf_types.specs.tables.Tables.{Fails, FailsFrames, FailsFileFields}
-use Rattle.btf_types.specs.judge.Phases.{HasFrames, types_of, strings_of}
-use Rattle.btf_types.proofs.JudgeLemmas.Firsts.{first_of_frames, first_of_fields}
+use Rattle.btf_types.proofs.JudgeLemmas.PhaseSteps.{HasFrames, types_of, strings_of}
 
 pub concat-map : (o : Order) (frames : List (List ℕ)) → concat (map (bytes_of o) frames) ≡ section_of o frames
 concat-map o [] = refl
@@ -39,14 +35,6 @@ table_denotes b h places has right =
       whole = has.framed.frames.whole ∙ sym (concat-map h.order frames);
       good = right.good;
     }
-
-pub fails_frames : (b : List ℕ) (e : BtfError) → FailsFrames b e → Fails b e
-fails_frames b (errors.Fault fault) least = first_of_frames b fault.pos fault.cause least
-fails_frames b errors.Memory least = tt
-
-pub fails_fields : (b : List ℕ) (e : BtfError) → FailsFileFields b e → Fails b e
-fails_fields b (errors.Fault fault) least = first_of_fields b fault.pos fault.cause least
-fails_fields b errors.Memory least = tt
 
 pub is_table : (b : List ℕ) (h : Header) (places : List ℕ) → HasFrames b h places → FieldsAreRight h.order (types_of b h) (strings_of b h) places → IsTable h.order (types_of b h) (strings_of b h) places
 is_table b h places has right = record {

@@ -2,10 +2,9 @@
 use Rattle.std.specs.Prelude.{◌≡◌, ◌⊎◌, ℕ, ◌<◌, ◌≤◌, Bool, IsTrue, List, Option, MatchOption, length}
 use Rattle.btf_raw.specs.declared.cause.BtfCause.{BtfCause}
 use Rattle.btf_raw.specs.Cause.{number_of}
-use Rattle.btf_types.specs.declared.tables.section.Section.{Section}
 use Rattle.btf_types.specs.judge.Checks.{TypeFacts, LeastCause}
 use Rattle.btf_types.specs.judge.FieldFaults.{WordFault, HasBitFields}
-use Rattle.btf_types.specs.Sections.{facts_in}
+use Rattle.btf_types.specs.Sections.{SectionWords, facts_in}
 
 -- no word of the frame has a fault
 abbrev pub IsFaultless : List ℕ → List TypeFacts → List ℕ → Type 0
@@ -18,28 +17,28 @@ pub record LeastOfRecord (strings : List ℕ) (types : List TypeFacts) (frame : 
   pub least : (j : ℕ) (c : BtfCause) → j < length frame → WordFault strings types frame j c → (word < j) ⊎ ((word ≡ j) × (number_of cause ≤ number_of c))
 
 -- the same of a frame of a section
-abbrev pub FaultInWord : Section → List ℕ → ℕ → BtfCause → Type 0
-FaultInWord s frame j cause = WordFault s.file.strings.now (facts_in s) frame j cause
+abbrev pub FaultInWord : SectionWords → List ℕ → ℕ → BtfCause → Type 0
+FaultInWord s frame j cause = WordFault s.strings (facts_in s) frame j cause
 
-abbrev pub IsFaultlessIn : Section → List ℕ → Type 0
-IsFaultlessIn s frame = IsFaultless s.file.strings.now (facts_in s) frame
+abbrev pub IsFaultlessIn : SectionWords → List ℕ → Type 0
+IsFaultlessIn s frame = IsFaultless s.strings (facts_in s) frame
 
-abbrev pub IsLeastIn : Section → List ℕ → ℕ → BtfCause → Type 0
-IsLeastIn s frame word cause = LeastOfRecord s.file.strings.now (facts_in s) frame word cause
+abbrev pub IsLeastIn : SectionWords → List ℕ → ℕ → BtfCause → Type 0
+IsLeastIn s frame word cause = LeastOfRecord s.strings (facts_in s) frame word cause
 
 -- no word of the frame from one word on and before another has a fault
-abbrev pub NoneWithin : Section → List ℕ → ℕ → ℕ → Type 0
+abbrev pub NoneWithin : SectionWords → List ℕ → ℕ → ℕ → Type 0
 NoneWithin s frame from to = (j : ℕ) (cause : BtfCause) → from ≤ j → j < to → ¬ FaultInWord s frame j cause
 
 -- the first of these words that has one, and its least cause
-pub record IsFirstWithin (s : Section) (frame : List ℕ) (from to word : ℕ) (cause : BtfCause) : Type 0 where
+pub record IsFirstWithin (s : SectionWords) (frame : List ℕ) (from to word : ℕ) (cause : BtfCause) : Type 0 where
   pub past : from ≤ word
   pub inside : word < to
   pub before : NoneWithin s frame from word
   pub least : LeastCause (FaultInWord s frame word) cause
 
 -- the answer is that word with that cause, or None where none of these words has a fault
-abbrev pub FirstWithin : Section → List ℕ → ℕ → ℕ → Option (ℕ × BtfCause) → Type 0
+abbrev pub FirstWithin : SectionWords → List ℕ → ℕ → ℕ → Option (ℕ × BtfCause) → Type 0
 FirstWithin s frame from to answer =
     MatchOption answer (NoneWithin s frame from to) (λ found. IsFirstWithin s frame from to found.0 found.1)
 

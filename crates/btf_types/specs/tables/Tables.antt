@@ -1,11 +1,13 @@
 -- What an error of a parser says of the file.
-use Rattle.std.specs.Prelude.{ℕ, ◌≤◌, List, length, Result, Ok, Err, ⊤}
+use Rattle.std.specs.Prelude.{ℕ, ◌+◌, ◌^◌, ◌<◌, ◌≤◌, List, Result, Ok, Err, ⊤}
 use Rattle.btf_types.specs.declared.error.BtfError.{BtfError}
 use Rattle.btf_types.specs.declared.error.BtfError.TheVariants as errors
 use Rattle.bpf_words.specs.declared.Order.{Order}
 use Rattle.btf_raw.specs.Cause.{LeastByPlace}
 use Rattle.btf_raw.specs.Frames.{FramingFault}
-use Rattle.btf_types.specs.Faults.{IsFirst, FramesFault, FieldsFault}
+use Rattle.btf_types.specs.Faults.{IsFirst}
+use Rattle.btf_types.specs.judge.FieldFaults.{FieldFault}
+use Rattle.btf_types.specs.Reading.{frames_at}
 
 -- What an error of a parser says: the first fault, or out of memory.
 abbrev pub Fails : List ℕ → BtfError → Type 0
@@ -17,17 +19,23 @@ abbrev pub FailsFraming : Order → List ℕ → BtfError → Type 0
 FailsFraming o types (errors.Fault fault) = LeastByPlace (FramingFault o types) fault.pos fault.cause
 FailsFraming o types errors.Memory = ⊤
 
--- The fault of a later phase, or want of memory.
-abbrev pub FailsFrames : List ℕ → BtfError → Type 0
-FailsFrames b (errors.Fault fault) = LeastByPlace (FramesFault b) fault.pos fault.cause
-FailsFrames b errors.Memory = ⊤
+-- The same of the fields of its records.
+abbrev pub FailsFields : Order → List ℕ → List ℕ → List ℕ → BtfError → Type 0
+FailsFields o types strings places (errors.Fault fault) = LeastByPlace (FieldFault strings (frames_at o types places)) fault.pos fault.cause
+FailsFields o types strings places errors.Memory = ⊤
 
--- a fault is within these bytes, or at their end
-abbrev pub FaultInside : {X : Type 0} → List ℕ → Result X BtfError → Type 0
-FaultInside types (Ok x) = ⊤
-FaultInside types (Err (errors.Fault fault)) = fault.pos ≤ length types
-FaultInside types (Err errors.Memory) = ⊤
+-- the error, with the place of its fault so many bytes later
+abbrev pub moved : ℕ → BtfError → BtfError
+moved base (errors.Fault fault) = errors.Fault (record { pos = base + fault.pos; cause = fault.cause })
+moved base errors.Memory = errors.Memory
 
-abbrev pub FailsFileFields : List ℕ → BtfError → Type 0
-FailsFileFields b (errors.Fault fault) = LeastByPlace (FieldsFault b) fault.pos fault.cause
-FailsFileFields b errors.Memory = ⊤
+-- a fault that is moved so far is within 64 bits
+abbrev pub MayMove : ℕ → BtfError → Type 0
+MayMove base (errors.Fault fault) = fault.pos + base < 2 ^ 64
+MayMove base errors.Memory = ⊤
+
+-- a fault is within so many bytes, or at their end
+abbrev pub FaultInside : {X : Type 0} → ℕ → Result X BtfError → Type 0
+FaultInside len (Ok x) = ⊤
+FaultInside len (Err (errors.Fault fault)) = fault.pos ≤ len
+FaultInside len (Err errors.Memory) = ⊤

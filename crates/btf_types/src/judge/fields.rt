@@ -3,7 +3,9 @@
 //! section: each word is read at most once, a STRUCT's offset words twice, and the facts of other
 //! records are read at their places.
 
-ghost use Rattle.std.specs.Prelude.{◌≡◌, ◌<◌, IsTrue, [], ◌∷◌, MatchOption, length};
+ghost use Rattle.std.specs.Prelude.{◌≡◌, ◌<◌, ◌≤◌, ◌^◌, IfSome, IsTrue, [], ◌∷◌, MatchOption, length};
+ghost use Rattle.std.specs.Prelude.{MatchResult};
+ghost use Rattle.btf_raw.specs.Header.{HasNulEnds, STRINGS_LIMIT};
 ghost use Rattle.btf_raw.specs.Cause.{HasNone, LeastByPlace};
 ghost use Rattle.btf_raw.specs.Frames.{IsFrame, kind};
 ghost use Rattle.btf_raw.specs.Kinds.{one_of};
@@ -12,28 +14,32 @@ ghost use Rattle.btf_types.specs.judge.Checks.{IsLeastOf};
 ghost use Rattle.btf_types.specs.judge.FieldFaults.{FieldFault};
 ghost use Rattle.btf_types.specs.judge.RecordFaults.{FaultInWord, FirstWithin};
 ghost use Rattle.btf_types.specs.judge.RecordFaults.{IsFaultlessIn, IsLeastIn};
-ghost use Rattle.btf_types.specs.Sections.{IsSection, frames_in};
+ghost use Rattle.btf_types.specs.tables.TableInvariant.{IsFramed, FieldsAreRight};
+ghost use Rattle.btf_types.specs.tables.Tables.{FailsFields, FaultInside};
 
+use crate::error::BtfError;
 use crate::judge::checks::{int_fault, linkage_fault, second_fault};
 use crate::judge::items::{entries_fault, members_fault, params_fault, values_fault};
 use crate::judge::names::name_fault;
 use crate::judge::references::{component_fault, named_type_fault, third_fault};
+use crate::judge::utf8::{Texts, marks_unless_utf8};
 use crate::record_words::Record;
 use crate::tables::section::Section;
+use crate::tables::table::FileSections;
 use btf_raw::{
     ARRAY, BtfCause, BtfFault, DATASEC, DECL_TAG, ENUM, ENUM64, FUNC_PROTO, INT, STRUCT, UNION, VAR,
 };
+use std::alloc::Allocator;
 
 /// The first of a record's first three words that has a fault, and the least cause of that word.
 fn first_words_fault(section: &Section, this: &Record) -> Option<(usize, BtfCause)>
-    requires section { IsSection section.now }
-    requires frame { IsFrame this.now }
+    requires { IsFrame this.now }
     ensures { FirstWithin section.now this.now 0 3 result }
 {
     let kind = this.kind();
     let vlen = this.vlen();
     let name = this.word(0);
-    if let Some(cause) = name_fault(section.file.strings, section.texts, kind, name) {
+    if let Some(cause) = name_fault(section, kind, name) {
         return Some((0, cause));
     }
     if let Some(cause) = second_fault(kind, vlen) {
@@ -49,7 +55,6 @@ fn first_words_fault(section: &Section, this: &Record) -> Option<(usize, BtfCaus
 
 /// The least cause of the one word after the first three of an INT, VAR or DECL_TAG.
 fn fourth_fault(section: &Section, this: &Record) -> Option<BtfCause>
-    requires section { IsSection section.now }
     requires frame { IsFrame this.now }
     requires kind { IsTrue (one_of (kinds.INT ∷ kinds.VAR ∷ kinds.DECL_TAG ∷ []) (kind this.now)) }
     ensures { IsLeastOf (FaultInWord section.now this.now 3) result }
@@ -66,7 +71,6 @@ fn fourth_fault(section: &Section, this: &Record) -> Option<BtfCause>
 /// The first type of an ARRAY that has a fault, and its least cause: that of its elements, and that
 /// of its index. The number of elements may be any.
 fn array_fault(section: &Section, this: &Record) -> Option<(usize, BtfCause)>
-    requires section { IsSection section.now }
     requires frame { IsFrame this.now }
     requires kind { kind this.now ≡ kinds.ARRAY }
     ensures { FirstWithin section.now this.now 3 6 result }
@@ -84,8 +88,7 @@ fn array_fault(section: &Section, this: &Record) -> Option<(usize, BtfCause)>
 /// kind is asked for once.
 #[tactic(auto, using(crate::proofs::JudgeLemmas::RecordSteps::rest_faultless), unfolding(btf_raw::specs::Kinds::item_words))]
 fn tail_fault(section: &Section, this: &Record) -> Option<(usize, BtfCause)>
-    requires section { IsSection section.now }
-    requires frame { IsFrame this.now }
+    requires { IsFrame this.now }
     ensures { FirstWithin section.now this.now 3 (length this.now) result }
 {
     match this.kind() {
@@ -105,8 +108,7 @@ fn tail_fault(section: &Section, this: &Record) -> Option<(usize, BtfCause)>
 
 /// The first word of a record that has a fault, and the least cause of that word.
 fn record_fault(section: &Section, this: &Record) -> Option<(usize, BtfCause)>
-    requires section { IsSection section.now }
-    requires frame { IsFrame this.now }
+    requires { IsFrame this.now }
     ensures { MatchOption result
         (IsFaultlessIn section.now this.now)
         (λ found. IsLeastIn section.now this.now found.0 found.1) }
@@ -119,11 +121,11 @@ fn record_fault(section: &Section, this: &Record) -> Option<(usize, BtfCause)>
 
 /// The first fault of the fields of a section, by place and then by cause. Its place counts from
 /// the first byte of the types.
-pub fn first_field_fault(section: &Section) -> Option<BtfFault>
-    requires { IsSection section.now }
-    ensures { MatchOption result
-        (HasNone (FieldFault section.now.file.strings.now (frames_in section.now)))
-        (λ fault. LeastByPlace (FieldFault section.now.file.strings.now (frames_in section.now))
+fn first_field_fault(section: &Section) -> Option<BtfFault>
+    ensures inside { IfSome result (λ fault. fault.pos ≤ 2 ^ 25) }
+    ensures cases { MatchOption result
+        (HasNone (FieldFault section.now.strings section.now.frames))
+        (λ fault. LeastByPlace (FieldFault section.now.strings section.now.frames)
         fault.pos fault.cause) }
 {
     for i in 0..section.file.places.len() {
@@ -137,4 +139,34 @@ pub fn first_field_fault(section: &Section) -> Option<BtfFault>
         }
     }
     None
+}
+
+/// Checks the fields of all records.
+///
+/// # Errors
+///
+/// `Fault` with the first fault of the fields, whose place counts from the first byte of the types;
+/// `Memory` when out of memory.
+pub fn check_fields<A: Allocator>(alloc: A, file: FileSections) -> Result<(), BtfError>
+    requires ends { HasNulEnds file.strings.now }
+    requires short { length file.strings.now ≤ STRINGS_LIMIT }
+    requires few { length file.types.now ≤ 2 ^ 25 }
+    requires framed { IsFramed file.order file.types.now file.places.now }
+    ensures inside { FaultInside (2 ^ 25) result }
+    ensures cases { MatchResult result
+        (λ _. let s = file.entry in
+        FieldsAreRight s.order s.types.now s.strings.now s.places.now)
+        (λ e. let s = file.entry in
+        FailsFields s.order s.types.now s.strings.now s.places.now e) }
+{
+    let marks = marks_unless_utf8(alloc, file.strings)?;
+    let texts = Texts::of(&marks);
+    let section = Section {
+        file,
+        texts: &texts,
+    };
+    match first_field_fault(&section) {
+        Some(fault) => Err(BtfError::Fault(fault)),
+        None => Ok(()),
+    }
 }

@@ -21,7 +21,7 @@ pub fn record_places<A: Allocator>(
     types: &[u8],
 ) -> Result<Vec<u32, A>, BtfError>
     requires { length types.now ≤ 2 ^ 25 }
-    ensures inside { FaultInside types.now result }
+    ensures inside { FaultInside (length types.now) result }
     ensures cases { MatchResult result (λ places. IsFramed order types.now places.items) (λ e.
         FailsFraming order types.now e) }
 {

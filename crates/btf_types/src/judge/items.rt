@@ -7,7 +7,6 @@ ghost use Rattle.btf_raw.specs.KindNumbers as kinds;
 ghost use Rattle.btf_raw.specs.Kinds.{one_of, item_words, is_struct};
 ghost use Rattle.btf_raw.specs.Frames.{IsFrame, kind, vlen};
 ghost use Rattle.btf_types.specs.judge.RecordFaults.{BitFieldsAre, FirstWithin};
-ghost use Rattle.btf_types.specs.Sections.{IsSection};
 
 use crate::judge::checks::{bit_offset_of, member_place_fault, width_of};
 use crate::judge::names::item_name_fault;
@@ -25,7 +24,6 @@ fn member_fault(
     bit_fields: bool,
     k: usize,
 ) -> Option<(usize, BtfCause)>
-    requires section { IsSection section.now }
     requires frame { IsFrame this.now }
     requires kind { IsTrue (is_struct (kind this.now)) }
     requires bit_fields { BitFieldsAre this.now bit_fields }
@@ -33,7 +31,7 @@ fn member_fault(
     ensures { FirstWithin section.now this.now (3 + 3 * k) (6 + 3 * k) result }
 {
     let name = this.word(3 + 3 * k);
-    if let Some(cause) = item_name_fault(section.file.strings, section.texts, name) {
+    if let Some(cause) = item_name_fault(section, name) {
         return Some((3 + 3 * k, cause));
     }
     let target = this.word(4 + 3 * k);
@@ -53,7 +51,6 @@ fn member_fault(
 /// The first word with a fault of the members of a STRUCT or UNION, and its least cause. Whether
 /// some member's width isn't 0 is found once, before the members are judged.
 pub fn members_fault(section: &Section, this: &Record) -> Option<(usize, BtfCause)>
-    requires section { IsSection section.now }
     requires frame { IsFrame this.now }
     requires kind { IsTrue (is_struct (kind this.now)) }
     ensures { FirstWithin section.now this.now 3 (length this.now) result }
@@ -72,14 +69,13 @@ pub fn members_fault(section: &Section, this: &Record) -> Option<(usize, BtfCaus
 /// name and the type are judged in turn.
 #[inline(always)]
 fn param_fault(section: &Section, this: &Record, k: usize) -> Option<(usize, BtfCause)>
-    requires section { IsSection section.now }
     requires frame { IsFrame this.now }
     requires kind { kind this.now ≡ kinds.FUNC_PROTO }
     requires there { k < vlen this.now }
     ensures { FirstWithin section.now this.now (3 + 2 * k) (5 + 2 * k) result }
 {
     let name = this.word(3 + 2 * k);
-    if let Some(cause) = item_name_fault(section.file.strings, section.texts, name) {
+    if let Some(cause) = item_name_fault(section, name) {
         return Some((3 + 2 * k, cause));
     }
     let target = this.word(4 + 2 * k);
@@ -91,7 +87,6 @@ fn param_fault(section: &Section, this: &Record, k: usize) -> Option<(usize, Btf
 
 /// The first word with a fault of the parameters of a FUNC_PROTO, and its least cause.
 pub fn params_fault(section: &Section, this: &Record) -> Option<(usize, BtfCause)>
-    requires section { IsSection section.now }
     requires frame { IsFrame this.now }
     requires kind { kind this.now ≡ kinds.FUNC_PROTO }
     ensures { FirstWithin section.now this.now 3 (length this.now) result }
@@ -107,7 +102,6 @@ pub fn params_fault(section: &Section, this: &Record) -> Option<(usize, BtfCause
 /// The first word with a fault of the values of an ENUM or ENUM64, and its least cause. Each value
 /// has a name, which is its first word; `step` is the number of its words.
 pub fn values_fault(section: &Section, this: &Record, step: usize) -> Option<(usize, BtfCause)>
-    requires section { IsSection section.now }
     requires frame { IsFrame this.now }
     requires kind { IsTrue (one_of (kinds.ENUM ∷ kinds.ENUM64 ∷ []) (kind this.now)) }
     requires step { step ≡ item_words (kind this.now) }
@@ -116,7 +110,7 @@ pub fn values_fault(section: &Section, this: &Record, step: usize) -> Option<(us
     for k in 0..usize::from(this.vlen()) {
         let first = 3 + step * k;
         let name = this.word(first);
-        if let Some(cause) = item_name_fault(section.file.strings, section.texts, name) {
+        if let Some(cause) = item_name_fault(section, name) {
             return Some((first, cause));
         }
     }
@@ -126,7 +120,6 @@ pub fn values_fault(section: &Section, this: &Record, step: usize) -> Option<(us
 /// The first word with a fault of the entries of a DATASEC, and its least cause. Each entry has a
 /// type, which is its first word of three.
 pub fn entries_fault(section: &Section, this: &Record) -> Option<(usize, BtfCause)>
-    requires section { IsSection section.now }
     requires frame { IsFrame this.now }
     requires kind { kind this.now ≡ kinds.DATASEC }
     ensures { FirstWithin section.now this.now 3 (length this.now) result }

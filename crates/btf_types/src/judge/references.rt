@@ -5,7 +5,7 @@ ghost use Rattle.std.specs.Prelude.{◌≡◌, length};
 ghost use Rattle.btf_types.specs.judge.Checks as spec;
 ghost use Rattle.btf_types.specs.judge.Checks.{type_at};
 ghost use Rattle.btf_types.specs.judge.NameFaults.{NamedTypeFault, MemberTypeFault, ComponentFault};
-ghost use Rattle.btf_types.specs.Sections.{IsSection, facts_in};
+ghost use Rattle.btf_types.specs.Sections.{facts_in};
 
 use crate::judge::checks::{is_plain_int, size_fits, target_fits};
 use crate::tables::section::Section;
@@ -18,7 +18,6 @@ use btf_raw::{
 #[tactic(auto, unfolding(crate::specs::judge::Checks::target_fits))]
 #[inline(always)]
 fn named_kind_fits(section: &Section, kind: u8, target: u32) -> bool
-    requires { IsSection section.now }
     ensures { result ≡ spec.target_fits kind (type_at (facts_in section.now) target).kind }
 {
     !matches!(kind, FUNC | DATASEC | DECL_TAG) || target_fits(kind, section.facts(target).kind)
@@ -26,7 +25,6 @@ fn named_kind_fits(section: &Section, kind: u8, target: u32) -> bool
 
 /// Checks a third word: a size, a type, or 0.
 pub fn third_fault(section: &Section, kind: u8, third: u32, vlen: u16) -> Option<BtfCause>
-    requires { IsSection section.now }
     ensures { spec.IsLeastOf (spec.ThirdFault kind third vlen (length (facts_in section.now))
         (type_at (facts_in section.now) third).kind) result }
 {
@@ -51,7 +49,6 @@ pub fn third_fault(section: &Section, kind: u8, third: u32, vlen: u16) -> Option
 /// Checks a type that a record of this kind refers to, other than by its third word.
 #[inline(always)]
 pub fn named_type_fault(section: &Section, kind: u8, target: u32) -> Option<BtfCause>
-    requires { IsSection section.now }
     ensures { spec.IsLeastOf (NamedTypeFault (facts_in section.now) kind target) result }
 {
     if target > section.count() {
@@ -68,7 +65,6 @@ pub fn named_type_fault(section: &Section, kind: u8, target: u32) -> Option<BtfC
 /// 16, 32, 64 or 128 bits.
 #[tactic(auto, unfolding(crate::specs::judge::Checks::member_int_fits))]
 fn member_int_fits(section: &Section, target: u32) -> bool
-    requires { IsSection section.now }
     ensures { result ≡ spec.member_int_fits (facts_in section.now) target }
 {
     let facts = section.facts(target);
@@ -77,7 +73,6 @@ fn member_int_fits(section: &Section, target: u32) -> bool
 
 /// Checks a member's type, in a record with bit-fields or without.
 pub fn member_type_fault(section: &Section, bit_fields: bool, target: u32) -> Option<BtfCause>
-    requires { IsSection section.now }
     ensures { spec.IsLeastOf (MemberTypeFault (facts_in section.now) bit_fields target) result }
 {
     if target > section.count() {
@@ -94,7 +89,6 @@ pub fn member_type_fault(section: &Section, bit_fields: bool, target: u32) -> Op
 /// FUNC_PROTO.
 #[tactic(auto, unfolding(crate::specs::judge::Checks::component_fits))]
 fn component_fits(section: &Section, target: u32, component: u32) -> bool
-    requires { IsSection section.now }
     ensures { result ≡ spec.component_fits (facts_in section.now) target component }
 {
     let facts = section.facts(target);
@@ -112,7 +106,6 @@ fn component_fits(section: &Section, target: u32, component: u32) -> bool
 /// Checks the component of a DECL_TAG of this type. The word is read unsigned, and -1 is no
 /// component.
 pub fn component_fault(section: &Section, target: u32, word: u32) -> Option<BtfCause>
-    requires { IsSection section.now }
     ensures { spec.IsLeastOf (ComponentFault (facts_in section.now) target word) result }
 {
     if word == u32::MAX || component_fits(section, target, word) {

@@ -4,13 +4,15 @@
 ghost use Rattle.std.specs.Prelude.{◌≡◌, length};
 ghost use Rattle.btf_raw.specs.Frames.{IsFrame};
 ghost use Rattle.btf_types.specs.judge.Checks.{type_at};
-ghost use Rattle.btf_types.specs.Sections.{IsSection, FactsAre, facts_in};
+ghost use Rattle.btf_types.specs.Sections.{facts_in};
+ghost use Rattle.btf_types.specs.tables.SectionParts.{FactsAre};
 ghost use Rattle.btf_types.specs.judge.FieldFaults.{frame_facts};
 
 use crate::judge::utf8::Texts;
 use crate::record_words::Record;
 use crate::tables::table::FileSections;
 use btf_raw::{FUNC, INT};
+use std::marker::Model;
 
 /// The facts of void, and of a type that isn't there.
 const NO_TYPE: Facts = Facts {
@@ -22,11 +24,23 @@ const NO_TYPE: Facts = Facts {
 };
 
 /// The two sections of a file, and what is known of them before the fields are judged.
-#[derive(Clone, Copy)]
+#[derive(Drop)]
 pub struct Section<'a> {
     pub file: FileSections<'a>,
     /// Which texts of the string section are UTF-8.
     pub texts: &'a Texts<'a>,
+}
+
+impl<'a> Model for Section<'a> {
+    ghost use Rattle.btf_types.specs.Sections.{SectionWords};
+
+    ghost Value = { SectionWords };
+
+    ghost use Rattle.btf_types.specs.tables.SectionParts.{words_in, IsSection};
+
+    ghost view = { words_in };
+
+    ghost invariant = { IsSection };
 }
 
 /// What the checks of other records need of a type.
@@ -64,7 +78,6 @@ impl Facts {
 impl<'a> Section<'a> {
     /// The facts of the type with this id.
     pub fn facts(&self, id: u32) -> Facts
-        requires { IsSection self.now }
         ensures { FactsAre result (type_at (facts_in self.now) id) }
     {
         if id == 0 || id as usize > self.file.places.len() {
@@ -76,7 +89,6 @@ impl<'a> Section<'a> {
 
     /// The number of types.
     pub fn count(&self) -> u32
-        requires { IsSection self.now }
         ensures { result ≡ length (facts_in self.now) }
     {
         self.file.places.len() as u32

@@ -1,15 +1,17 @@
 //! A table that lends its names from the file it was read from.
 
 ghost use Rattle.std.specs.Prelude.{◌≡◌, IfSome, IsSome, MatchResult};
+ghost use Rattle.btf_raw.specs.Header.{part};
+ghost use Rattle.btf_raw.specs.ReadHeader.{ReadsHeader};
 ghost use Rattle.btf_types.specs.Denotes.{Denotes};
 ghost use Rattle.btf_types.specs.tables.KeptSections.{AreSections};
-ghost use Rattle.btf_types.specs.tables.Tables.{Fails};
+ghost use Rattle.btf_types.specs.tables.Tables as tables;
+ghost use Rattle.btf_types.specs.tables.Tables.{Fails, MayMove};
 ghost use Rattle.btf_types.specs.tables.TableWords.{numbered};
 
 use crate::error::BtfError;
-use crate::judge::phases::{
-    header_of, judge_fields, judge_framing, judge_strings, strings_in, types_in,
-};
+use crate::judge::fields::check_fields;
+use crate::judge::framing::record_places;
 use crate::tables::keeps_sections::KeepsSections;
 use crate::tables::places::Places;
 use crate::tables::records::Records;
@@ -17,6 +19,7 @@ use crate::tables::section_table::SectionTable;
 use crate::tables::table::{FileSections, TypeTable};
 use crate::values::{Head, Item};
 use bpf_words::Order;
+use btf_raw::{BtfFault, Header, check_strings, read_header};
 use std::alloc::{Allocator, Global};
 use std::marker::Model;
 
@@ -43,6 +46,32 @@ impl<'a, A: Allocator> Model for BtfView<'a, A> {
     ghost invariant = { λ t. IsPlacedTable t.order t.types.now t.strings.now t.places };
 }
 
+/// The type section and the string section of a file with this header.
+fn sections_of(bytes: &[u8], header: Header) -> (&[u8], &[u8])
+    requires { ReadsHeader bytes.now header }
+    ensures types { result.0.now ≡ part bytes.now header.types_pos header.types_len }
+    ensures strings { result.1.now ≡ part bytes.now header.str_pos header.str_len }
+{
+    (
+        &bytes[header.types_pos..header.types_pos + header.types_len],
+        &bytes[header.str_pos..header.str_pos + header.str_len],
+    )
+}
+
+/// The error of a section that begins at `base`, with its place in the file.
+fn moved(base: usize, error: BtfError) -> BtfError
+    requires { MayMove base error }
+    ensures { result ≡ tables.moved base error }
+{
+    match error {
+        BtfError::Fault(fault) => BtfError::Fault(BtfFault {
+            pos: base as u64 + fault.pos,
+            cause: fault.cause,
+        }),
+        BtfError::Memory => BtfError::Memory,
+    }
+}
+
 impl<'a, A: Allocator> BtfView<'a, A> {
     /// Reads a whole BTF file (btf.rst section 2). No name is copied: the table keeps the input,
     /// and the places of its records.
@@ -55,14 +84,28 @@ impl<'a, A: Allocator> BtfView<'a, A> {
     pub fn parse(alloc: A, bytes: &'a [u8]) -> Result<BtfView<'a, A>, BtfError>
         ensures { MatchResult result (λ v. Denotes bytes.now v) (λ e. Fails bytes.now e) }
     {
-        let header = header_of(bytes)?;
-        judge_strings(bytes, header)?;
-        let places = judge_framing(alloc, bytes, header)?;
-        judge_fields(places.allocator(), bytes, header, &places)?;
-        let strings = strings_in(bytes, header);
+        let header = read_header(bytes)?;
+        let order = header.order;
+        let (types, strings) = sections_of(bytes, header);
+        if let Err(fault) = check_strings(strings) {
+            return Err(moved(header.str_pos, BtfError::Fault(fault)));
+        }
+        let places = match record_places(alloc, order, types) {
+            Ok(places) => places,
+            Err(error) => return Err(moved(header.types_pos, error)),
+        };
+        let file = FileSections {
+            order,
+            types,
+            strings,
+            places: &places,
+        };
+        if let Err(error) = check_fields(places.allocator(), file) {
+            return Err(moved(header.types_pos, error));
+        }
         Ok(BtfView {
-            order: header.order,
-            types: types_in(bytes, header),
+            order,
+            types,
             strings,
             places: Places::new(places, strings)?,
         })

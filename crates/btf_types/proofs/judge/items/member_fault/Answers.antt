@@ -2,11 +2,10 @@ use Rattle.std.proofs.Common.{◌≡◌, ℕ, ◌+◌, ◌*◌, ◌<◌, Bool, L
 use Rattle.std.specs.Prelude.{IsTrue, slice_index}
 use Rattle.btf_raw.specs.Kinds.{is_struct}
 use Rattle.btf_raw.specs.Frames.{IsFrame, kind, vlen, flag}
-use Rattle.btf_types.specs.declared.tables.section.Section.{Section}
 use Rattle.btf_types.specs.judge.Checks.{NoCause}
 use Rattle.btf_types.specs.judge.NameFaults.{ItemNameFault, MemberTypeFault}
 use Rattle.btf_types.specs.judge.RecordFaults.{BitFieldsAre, NoneWithin}
-use Rattle.btf_types.specs.Sections.{facts_in}
+use Rattle.btf_types.specs.Sections.{SectionWords, facts_in}
 use Rattle.btf_types.proofs.JudgeLemmas.Roles.{ItemName, MemberType, MemberPlace}
 use Rattle.btf_types.proofs.JudgeLemmas.RecordSteps.{none_yet, first_at, none_at, members_end}
 use Rattle.btf_types.proofs.JudgeLemmas.RoleSteps.{place_judged, type_judged}
@@ -31,8 +30,8 @@ returns-in-Some c =
     (member_name_role _ k c.requires.kind) c.in-Some.ensures
 
 -- a member's name without a fault, and its type after that
-module _ (s : Section) {f : List ℕ} (is : IsFrame f) (struct : IsTrue (is_struct (kind f))) (k : ℕ) (low : k < vlen f) where
-  before_type : (name : ℕ) → name ≡ slice_index f (3 + 3 * k) → NoCause (ItemNameFault s.file.strings.now name)
+module _ (s : SectionWords) {f : List ℕ} (is : IsFrame f) (struct : IsTrue (is_struct (kind f))) (k : ℕ) (low : k < vlen f) where
+  before_type : (name : ℕ) → name ≡ slice_index f (3 + 3 * k) → NoCause (ItemNameFault s.strings name)
       → NoneWithin s f (3 + 3 * k) (4 + 3 * k)
   before_type name name-is none =
       let end = members_end is struct in

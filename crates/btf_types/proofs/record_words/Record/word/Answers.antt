@@ -1,4 +1,4 @@
-use Rattle.std.proofs.Common.{◌≡◌, ◌<◌, ap, sym, length, ◌∙◌, arith}
+use Rattle.std.proofs.Common.{◌<◌, ap, sym, length, ◌∙◌, arith}
 use Rattle.std.specs.Prelude.{slice_index}
 use Rattle.btf_types.proofs.JudgeLemmas.FramingSteps.{frame_word, length-frame_at, words_at}
 use Rattle.btf_types.proofs.record_words.Record.word.Goals as goal

@@ -1,13 +1,18 @@
 use Rattle.std.proofs.Common.{◌-◌, List, ℕ, subst, sym, arith}
 use Rattle.btf_raw.specs.Frames.{IsFrame}
+use Rattle.btf_types.specs.Sections.{SectionWords, facts_in}
+use Rattle.btf_types.specs.tables.SectionParts.{FactsAre}
+use Rattle.btf_types.specs.judge.Checks.{type_at}
 use Rattle.btf_types.proofs.TableLemmas.SectionSteps.{has_frame, type_is}
 use Rattle.btf_types.proofs.tables.section.Section.facts.Goals as goal
 
 pub record_at-requires : goal.record_at-requires
-record_at-requires c = has_frame c.args.self.now c.requires (c.args.id - 1) (omega arith)
+record_at-requires c = has_frame c.self.inside c.self.invariant (c.args.id - 1) (omega arith)
 
 pub of-requires : goal.of-requires
-of-requires c = subst (λ (f : List ℕ). IsFrame f) (sym c.record_at.ensures) (has_frame c.args.self.now c.requires (c.args.id - 1) (omega arith)).frame
+of-requires c = subst (λ (f : List ℕ). IsFrame f) (sym c.record_at.ensures) (has_frame c.self.inside c.self.invariant (c.args.id - 1) (omega arith)).frame
 
 pub returns : goal.returns
-returns c = rw (type_is c.args.self.now c.args.id c.requires (omega arith) (omega arith), ← c.record_at.ensures) c.of.ensures
+returns c =
+    subst (λ (s : SectionWords). FactsAre c.of.result (type_at (facts_in s) c.args.id)) c.self.view_is
+    (rw (type_is c.self.inside c.args.id c.self.invariant (omega arith) (omega arith), ← c.record_at.ensures) c.of.ensures)
