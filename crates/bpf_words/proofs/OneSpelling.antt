@@ -1,4 +1,4 @@
--- The bytes of a word or a slot determine it.
+-- The bytes of a number or a slot determine it.
 use Rattle.std.proofs.Common.{◌≡◌, ℕ, ◌<◌, ◌^◌, ℤ, refl, ap, sym, ◌∙◌, slice_index, slice_range, arith, FitsSigned}
 use Rattle.std.specs.Int.{w16, w32, cast_unsigned, cast_signed, from_le_bytes, from_be_bytes}
 use Rattle.std.proofs.lemmas.Nat.{from_le_bytes-to_le_bytes_2, from_be_bytes-to_be_bytes_2, from_le_bytes-to_le_bytes_4, from_be_bytes-to_be_bytes_4}
@@ -33,7 +33,7 @@ pub registers_apart : (order : Order) (d s d' s' : ℕ) → d < 16 → s < 16 �
 registers_apart Little d s d' s' a b a' b' e = (omega arith, omega arith)
 registers_apart Big d s d' s' a b a' b' e = (omega arith, omega arith)
 
--- the two words of a slot
+-- the offset and the immediate of a slot
 off_bytes : (order : Order) (f : Fields) → slice_range (spelled order f) 2 4 ≡ word16 order (cast_unsigned w16 f.off)
 off_bytes Little f = refl
 off_bytes Big f = refl

@@ -1,4 +1,4 @@
--- A word and its bytes determine each other.
+-- A 16- or 32-bit number and its bytes determine each other.
 use Rattle.std.proofs.Common.{◌≡◌, ℕ, ◌+◌, ◌^◌, ◌<◌, ◌≤◌, List, ◌++◌, length, take, drop, refl, sym, ap, ◌∙◌, add-zero, add_assoc, inl, inr, lit<, arith}
 use Rattle.std.proofs.lemmas.List.{length-take, length-drop, get_or-take, get_or-drop, get_or_past, drop_at}
 use Rattle.std.proofs.lemmas.Bool.{cases_lt}
@@ -25,7 +25,7 @@ pub length-word16 : (o : Order) (w : ℕ) → length (word16 o w) ≡ 2
 length-word16 Little w = refl
 length-word16 Big w = refl
 
--- the word that reads at i, in bytes that come after others
+-- the number at i, in bytes that follow others
 pub word32_at-drop : (o : Order) (b : List ℕ) (n i : ℕ) → word32_at o (drop n b) i ≡ word32_at o b (n + i)
 word32_at-drop Little b n i = simp (get_or-drop, add_assoc)
 word32_at-drop Big b n i = simp (get_or-drop, add_assoc)
@@ -37,12 +37,12 @@ pub word32_at-below : (o : Order) (b : List ℕ) (i : ℕ) → IsBytes b → wor
 word32_at-below Little b i h = omega (arith, h i, h (i + 1), h (i + 2), h (i + 3))
 word32_at-below Big b i h = omega (arith, h i, h (i + 1), h (i + 2), h (i + 3))
 
--- bytes that are a word, and more, read as it
+-- bytes that begin with those of a number read as it
 pub word32_at-word32 : (o : Order) (w : ℕ) (rest : List ℕ) → w < 2 ^ 32 → word32_at o (word32 o w ++ rest) 0 ≡ w
 word32_at-word32 Little w rest h = omega (arith, from_le_bytes-to_le_bytes_4 w h)
 word32_at-word32 Big w rest h = omega (arith, from_be_bytes-to_be_bytes_4 w h)
 
--- four bytes are the word that they read as
+-- four bytes are those of the number that they read as
 word32_of_four : (o : Order) (bs : List ℕ) → length bs ≡ 4 → IsBytes bs → word32 o (word32_at o bs 0) ≡ bs
 word32_of_four Little bs n h = le_bytes_4 bs _ n h (omega arith)
 word32_of_four Big bs n h = be_bytes_4 bs _ n h (omega arith)

@@ -29,7 +29,7 @@ abbrev pub register_byte : Order → ℕ → ℕ → ℕ
 register_byte Little dst src = 16 * src + dst
 register_byte Big dst src = 16 * dst + src
 
--- a signed word is that of its two's complement pattern
+-- the 8 bytes of five fields in a byte order; a signed field is its two's complement pattern
 abbrev pub spelled : Order → Fields → List ℕ
 spelled order f =
     (f.opcode ∷ register_byte order f.dst f.src ∷ word16 order (cast_unsigned w16 f.off)) ++ word32 order (cast_unsigned w32 f.imm)

@@ -1,5 +1,5 @@
-//! Words of 16 and 32 bits in both byte orders, and the slots of 8 bytes that eBPF instructions
-//! consist of (RFC 9669 section 3; btf.rst section 2).
+//! 16- and 32-bit words in both byte orders, and the 8-byte slots that eBPF instructions consist
+//! of (RFC 9669 section 3; btf.rst section 2).
 #![tactic(auto)]
 
 pub mod laws;
@@ -17,8 +17,8 @@ pub use words::{get16, get32, push16, push32};
 
 /// The byte order of a file: whether the least significant byte of a word is its first or its last.
 ///
-/// An instruction file doesn't say its order, so the caller gives it (RFC 9669 section 3). A BTF
-/// file has it in its magic (btf.rst section 2).
+/// An instruction file doesn't record its byte order, so the caller states it (RFC 9669 section 3).
+/// The magic of a BTF file records it (btf.rst section 2).
 #[derive(Clone, Copy, Debug, PartialEq, Eq, PartialOrd, Ord, Hash)]
 pub enum Order {
     /// The least significant byte comes first.

@@ -10,7 +10,7 @@ use std::str::FromStr;
 use thiserror::Error;
 
 impl Order {
-    /// The name of the order: `little` or `big`.
+    /// The name of the byte order: `little` or `big`.
     pub fn name(self) -> &'static str
         ensures { result.now ≡ order_name self }
     {
@@ -31,7 +31,7 @@ impl fmt::Display for Order {
     }
 }
 
-/// Why a text names no byte order: it is neither `little` nor `big`.
+/// A string is not the name of a byte order: it is neither `little` nor `big`.
 #[derive(Clone, Copy, Debug, PartialEq, Eq, Hash, Error)]
 #[error("the byte order is neither `little` nor `big`")]
 pub struct ParseOrderError;

@@ -10,7 +10,7 @@ use std::marker::Model;
 /// ```
 ///
 /// The register byte has `src` in its high half and `dst` in its low half in little-endian
-/// files, and the other way round in big-endian files.
+/// files, and vice versa in big-endian files.
 #[derive(Clone, Copy, Debug, PartialEq, Eq, Hash)]
 pub struct Slot {
     /// The operation.

@@ -8,7 +8,7 @@ ghost use Rattle.bpf_words.specs.Slots.{AreFields, Fields, register_byte, spelle
 use crate::{Order, Slot};
 use byteorder::{BigEndian, ByteOrder, LittleEndian};
 
-/// The destination and the source that a register byte holds.
+/// Splits a register byte into destination and source.
 fn registers(order: Order, byte: u8) -> (u8, u8)
     ensures byte { register_byte order result.0 result.1 ≡ byte }
     ensures dst { result.0 < 16 }
@@ -20,7 +20,7 @@ fn registers(order: Order, byte: u8) -> (u8, u8)
     }
 }
 
-/// The offset and the immediate that 8 bytes hold.
+/// Returns the offset and the immediate in 8 bytes.
 fn signed_words(order: Order, bytes: &[u8; 8]) -> (i16, i32)
     ensures off { slice_range bytes.now 2 4 ≡ word16 order (cast_unsigned w16 result.0) }
     ensures imm { slice_range bytes.now 4 8 ≡ word32 order (cast_unsigned w32 result.1) }
@@ -37,7 +37,7 @@ fn signed_words(order: Order, bytes: &[u8; 8]) -> (i16, i32)
     }
 }
 
-/// The slot that 8 bytes spell (RFC 9669 section 3). Any 8 bytes spell one.
+/// Returns the slot that 8 bytes encode (RFC 9669 section 3). Any 8 bytes encode one.
 pub fn slot_of(order: Order, bytes: &[u8; 8]) -> Slot
     ensures spelled { bytes.now ≡ spelled order result }
     ensures in_range { AreFields result }
@@ -53,7 +53,7 @@ pub fn slot_of(order: Order, bytes: &[u8; 8]) -> Slot
     }
 }
 
-/// The 8 bytes of a slot (RFC 9669 section 3).
+/// Returns the 8 bytes of a slot (RFC 9669 section 3).
 pub fn slot_bytes(order: Order, slot: Slot) -> [u8; 8]
     ensures spelled { result ≡ spelled order slot }
     ensures in_range { AreFields slot }

@@ -7,19 +7,19 @@ use std::fmt::Debug;
 use std::process::Abort;
 use std::test::Fail;
 
-/// Ends the test where a value isn't the one that is wanted, and says in which case.
+/// Ends the test if a value isn't the expected one, and names the case.
 fn equal<T: PartialEq + Debug>(rt: &impl Abort, value: &T, wanted: &T, case: &impl Debug) {
     assert_eq!(rt; value, wanted, "{case:?}");
 }
 
-/// A word with its bytes.
+/// A 16- or 32-bit value with its bytes.
 #[derive(Clone, Copy, Debug, PartialEq, Eq)]
 enum Word {
     Half(u16),
     Whole(u32),
 }
 
-/// A word of either size, and the bytes that it has in one of the orders.
+/// A value of either size, and its bytes in one of the byte orders.
 #[derive(Clone, Copy, Debug)]
 struct WordRow {
     order: Order,
@@ -43,7 +43,7 @@ const WORDS: [WordRow; 12] = [
     WordRow { order: Order::Big, word: Word::Whole(0xffff_ffff), bytes: b"\xff\xff\xff\xff" },
 ];
 
-/// What the words are appended to, and where they are read from.
+/// Where values are appended, and where they are read.
 const HELD: &[u8] = b"\x11\x12\x13\x14\x15\x16\x17\x18";
 
 fn push<A: Allocator>(out: &mut Vec<u8, A>, order: Order, word: Word) -> Result<(), AllocError> {
@@ -53,7 +53,7 @@ fn push<A: Allocator>(out: &mut Vec<u8, A>, order: Order, word: Word) -> Result<
     }
 }
 
-/// The word of the same size as another that begins at a position, if it lies in the bytes.
+/// Reads a value of the same size at a position, if it is inside the bytes.
 fn read(order: Order, bytes: &[u8], pos: usize, like: Word) -> Option<Word> {
     let left = bytes.len().saturating_sub(pos);
     match like {
@@ -149,7 +149,7 @@ fn orders_by_name(rt: HostRuntime) -> Result<(), Fail> {
 /// How many bytes an arena has, before any are given away.
 const ROOM: usize = 448;
 
-/// An arena with `room` bytes left, which gets no more.
+/// An arena with `room` bytes left and no more to get.
 fn arena(alloc: Global, room: usize) -> Result<Bump<Global>, AllocError> {
     let taken = [0u8; ROOM];
     let bump = Bump::try_with_capacity(alloc, ROOM)?;
@@ -158,12 +158,12 @@ fn arena(alloc: Global, room: usize) -> Result<Bump<Global>, AllocError> {
     Ok(bump)
 }
 
-/// What became of a word that is appended to `held` bytes in an arena.
+/// The result of appending a value to `held` bytes in an arena.
 #[derive(Clone, Copy, Debug, PartialEq, Eq)]
 enum Appended {
-    /// The arena has no room for the held bytes.
+    /// The held bytes already don't fit into the arena.
     NoRoom,
-    /// The word is at the end of the held bytes.
+    /// The value follows the held bytes.
     Whole,
     /// The growth was refused and the vector is as before.
     Unchanged,
@@ -186,7 +186,7 @@ fn append(bump: &Bump<Global>, held: &[u8], row: WordRow) -> Appended {
     }
 }
 
-/// How many rooms had each end.
+/// How many sizes of an arena had each result.
 #[derive(Clone, Copy, Debug, Default)]
 struct Ends {
     whole: usize,
@@ -194,7 +194,7 @@ struct Ends {
     changed: usize,
 }
 
-/// Appends a word to `held` bytes with each room from none to more than enough.
+/// Appends a value to `held` bytes in arenas of each size, from 0 to more than enough.
 fn count_ends(alloc: Global, held: &[u8], row: WordRow) -> Result<Ends, AllocError> {
     let mut ends = Ends::default();
     for room in 0..=64usize {
@@ -209,7 +209,7 @@ fn count_ends(alloc: Global, held: &[u8], row: WordRow) -> Result<Ends, AllocErr
     Ok(ends)
 }
 
-/// The word needs room beside what is held, so each smaller room is refused.
+/// The value needs space next to what is held, so each smaller arena refuses it.
 #[test]
 fn a_refused_growth_changes_nothing(rt: HostRuntime) -> Result<(), Fail> {
     for row in WORDS {

@@ -1,4 +1,4 @@
-//! Words of 16 and 32 bits, read from a slice and appended to a vector.
+//! 16- and 32-bit words, read from a slice and appended to a vector.
 
 ghost use Rattle.std.specs.Prelude.{◌≡◌, ◌+◌, ◌≤◌, ◌++◌, length, slice_range, OnOk, OnErr};
 ghost use Rattle.bpf_words.specs.Words.{word16, word16_at, word32, word32_at};
@@ -7,9 +7,9 @@ use crate::Order;
 use byteorder::{BigEndian, ByteOrder, LittleEndian};
 use std::alloc::{AllocError, Allocator};
 
-/// The word of 16 bits whose first byte is at `pos` of `bytes`.
+/// Returns the 16-bit word whose first byte is at `pos` of `bytes` (btf.rst section 2).
 ///
-/// The word has to lie in the slice.
+/// Both bytes must be inside the slice.
 pub fn get16(order: Order, bytes: &[u8], pos: usize) -> u16
     requires { pos + 2 ≤ length bytes.now }
     ensures spelled { slice_range bytes.now pos (pos + 2) ≡ word16 order result }
@@ -22,9 +22,9 @@ pub fn get16(order: Order, bytes: &[u8], pos: usize) -> u16
     }
 }
 
-/// The word of 32 bits whose first byte is at `pos` of `bytes`.
+/// Returns the 32-bit word whose first byte is at `pos` of `bytes` (btf.rst section 2).
 ///
-/// The word has to lie in the slice.
+/// All four bytes must be inside the slice.
 pub fn get32(order: Order, bytes: &[u8], pos: usize) -> u32
     requires { pos + 4 ≤ length bytes.now }
     ensures spelled { slice_range bytes.now pos (pos + 4) ≡ word32 order result }
@@ -37,11 +37,11 @@ pub fn get32(order: Order, bytes: &[u8], pos: usize) -> u32
     }
 }
 
-/// Appends the two bytes of a word of 16 bits.
+/// Appends the two bytes of a 16-bit word.
 ///
 /// # Errors
 ///
-/// `AllocError` where the vector couldn't grow; it is unchanged then.
+/// `AllocError` if the vector couldn't grow; it is then unchanged.
 pub fn push16<A: Allocator>(
     out: &mut Vec<u8, A>,
     order: Order,
@@ -58,11 +58,11 @@ pub fn push16<A: Allocator>(
     out.extend_from_slice(&word)
 }
 
-/// Appends the four bytes of a word of 32 bits.
+/// Appends the four bytes of a 32-bit word.
 ///
 /// # Errors
 ///
-/// `AllocError` where the vector couldn't grow; it is unchanged then.
+/// `AllocError` if the vector couldn't grow; it is then unchanged.
 pub fn push32<A: Allocator>(
     out: &mut Vec<u8, A>,
     order: Order,

@@ -1,4 +1,4 @@
--- The instructions that a text lists are at most twice as long as the text.
+-- The instructions of a listing are at most twice as long as it.
 use Rattle.std.proofs.Common.{◌≡◌, ◌≤◌, ◌<◌, ◌+◌, ◌*◌, ℕ, suc, ℤ, pos, Bool, true, false, cond, List, [], ◌∷◌, ◌++◌, inl, inr, None, length, length-append, refl, sym, ap, subst, arith, codes}
 use Rattle.std.specs.List.{AllZip, flat_map, slice_split, onto_first, position_or_len}
 use Rattle.std.specs.Char.{digit_value}
@@ -36,7 +36,7 @@ use Rattle.bpf_text.specs.insn.Tokens.{is_newline, is_comment_mark, is_word_byte
 use Rattle.bpf_text.specs.insn.Listing.{lines_of, IsTokenForm, ListsInsn, ListsLine, Lists}
 use Rattle.bpf_text.proofs.InsnLemmas.TokenLemmas.{shorter_following}
 
--- ---- tokens take up bytes
+-- ---- tokens have bytes
 
 count : (text : List ℕ) (ts : List (List ℕ)) → AreTokens text ts → length ts ≤ length text
 count text [] h = omega arith
@@ -46,7 +46,7 @@ word_and_tokens : (text t : List ℕ) (ts : List (List ℕ)) → AreTokens text 
 word_and_tokens text t ts h =
     omega (arith, ap length h.1.whole, length-append (h.1.blanks ++ t) h.0, length-append h.1.blanks t, count h.0 ts h.2)
 
--- a blank is between two words
+-- a blank is between two tokens of letters
 gap : (blanks t rest : List ℕ) → BeginsWithWordByte t → (BeginsWithWordByte (blanks ++ t ++ rest) → ⊥) → 0 < length blanks
 gap [] [] rest word none = absurd word
 gap [] (b ∷ t) rest word none = absurd (none word)
@@ -105,7 +105,7 @@ three_tokens (t ∷ u ∷ []) a b more h = absurd (two (is_comma t) (is_comma u)
     two false false h = h.1
 three_tokens (t ∷ u ∷ v ∷ ts) a b more h = omega arith
 
--- the token of a register is a word
+-- the token of a register consists of letters and digits
 register_word : (t : List ℕ) (r : reg.Reg) → t ≡ register_text r → BeginsWithWordByte t
 register_word t r h = subst BeginsWithWordByte (sym h) refl
 
@@ -242,7 +242,7 @@ line_length o line [] h = omega arith
 line_length o line (i ∷ []) h = omega (arith, length-append (spelling o i) [], insn_length o line i h)
 line_length o line (i ∷ j ∷ more) h = absurd h
 
--- ---- texts
+-- ---- listings
 
 abbrev total : List (List ℕ) → ℕ
 total [] = 0

@@ -1,4 +1,4 @@
--- What was put into some room is the output of a call.
+-- What was written into a buffer is the output of a call.
 use Rattle.std.proofs.Common.{◌≡◌, ℕ, List, length, ap, arith}
 use Rattle.bpf_words.specs.declared.Order.{Order}
 use Rattle.bpf_insn.specs.declared.insn.Insn.{Insn}

@@ -13,7 +13,7 @@ use Rattle.bpfcanon_c.specs.declared.answer.Ending.{Ending}
 use Rattle.bpfcanon_c.specs.declared.answer.Ending.TheVariants.{Written, Types, Groups, Same, Different, First, Second, Memory, Room}
 use Rattle.bpfcanon_c.specs.declared.answer.Ending.TheVariants as ending
 
--- the answer that has a status alone
+-- the answer that has only a status
 abbrev pub bare_answer : ℕ → Answer
 bare_answer s = record { status = s; cause = 0; pos = 0; line = 0; read = 0; written = 0; needed = 0; types = 0; groups = 0 }
 
@@ -52,12 +52,12 @@ abbrev pub order_number : Order → ℕ
 order_number Little = 0
 order_number Big = 1
 
--- the byte order of a number, or none where the number is that of no order
+-- the byte order of a number, or none if no byte order has it
 abbrev pub names_order : ℕ → Option Order → Type 0
 names_order n (Some o) = n ≡ order_number o
 names_order n None = (o : Order) → n ≡ order_number o → ⊥
 
--- bytes are at the front of some room, and the rest of it is as before; or the room is too short, and as before
+-- the buffer begins with the bytes, and the rest of it is unchanged; or the buffer is too short, and unchanged
 abbrev pub FillsRoom : List ℕ → List ℕ → List ℕ → Ending → Type 0
 FillsRoom bytes old new (Written n) = (n ≡ length bytes) × (new ≡ bytes ++ drop (length bytes) old)
 FillsRoom bytes old new (Room n) = (n ≡ length bytes) × ((length old < n) × (new ≡ old))

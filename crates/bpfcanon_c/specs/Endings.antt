@@ -15,7 +15,7 @@ use Rattle.bpfcanon_c.specs.declared.answer.Ending.TheVariants as ending
 use Rattle.bpfcanon_c.specs.Answers.{order_number}
 use Rattle.bpfcanon_c.specs.Outputs.{IsAnswerOf, IsNoOrder, IsBtfCode, IsInsnCode, EndsOutput, EndsInOrder}
 
--- the canonical bytes of a BTF file in a byte order: they are no longer than the file, so room of its length is enough
+-- the canonical bytes of a BTF file in a byte order: they are no longer than the file, so a buffer of its length is long enough
 pub record IsCanonicalBtf (to : Order) (bytes out : List ℕ) : Type 0 where
   pub types : List TypeRecord
   pub denotes : Denotes bytes types
@@ -25,6 +25,7 @@ pub record IsCanonicalBtf (to : Order) (bytes out : List ℕ) : Type 0 where
 abbrev pub EndsBtf : ℕ → List ℕ → List ℕ → List ℕ → Ending → Type 0
 EndsBtf n bytes old new = EndsInOrder n (λ to. EndsOutput (IsCanonicalBtf to bytes) (IsBtfCode bytes) old new) old new
 
+-- what the call on BTF returns: the answer of one of its endings
 abbrev pub AnswersBtf : ℕ → List ℕ → List ℕ → List ℕ → Answer → Type 0
 AnswersBtf n bytes old new = IsAnswerOf (EndsBtf n bytes old new)
 
@@ -35,6 +36,7 @@ EndsBtfCheck bytes (First code) = IsBtfCode bytes code
 EndsBtfCheck bytes Memory = ⊤
 EndsBtfCheck bytes _ = ⊥
 
+-- the answer to a check of BTF: the number of types, or the first fault
 abbrev pub AnswersBtfCheck : List ℕ → Answer → Type 0
 AnswersBtfCheck bytes = IsAnswerOf (EndsBtfCheck bytes)
 
@@ -46,10 +48,11 @@ EndsSameBtf a b (Second code) = ((v : List TypeRecord) × Denotes a v) × IsBtfC
 EndsSameBtf a b Memory = ⊤
 EndsSameBtf a b _ = ⊥
 
+-- the answer to a comparison of BTF: its result, or the first fault of one input
 abbrev pub AnswersSameBtf : List ℕ → List ℕ → Answer → Type 0
 AnswersSameBtf a b = IsAnswerOf (EndsSameBtf a b)
 
--- the instructions of a file in a byte order: they are as long as the file, so room of its length is enough
+-- the instructions of a file in a byte order: they are as long as the file, so a buffer of its length is long enough
 pub record IsRecoded (o to : Order) (bytes out : List ℕ) : Type 0 where
   pub insns : List Insn
   pub file : InsnFile o bytes insns
@@ -62,6 +65,7 @@ EndsInsns n m bytes old new e =
     (o : Order) × (to : Order)
     × ((n ≡ order_number o) × ((m ≡ order_number to) × EndsOutput (IsRecoded o to bytes) (IsInsnCode o bytes) old new e))
 
+-- what the call on instructions returns: the answer of one of its endings
 abbrev pub AnswersInsns : ℕ → ℕ → List ℕ → List ℕ → List ℕ → Answer → Type 0
 AnswersInsns n m bytes old new = IsAnswerOf (EndsInsns n m bytes old new)
 
@@ -76,5 +80,6 @@ abbrev pub EndsSameInsns : ℕ → List ℕ → ℕ → List ℕ → Ending → 
 EndsSameInsns n a m b ending.Order = IsNoOrder n ⊎ IsNoOrder m
 EndsSameInsns n a m b e = (o : Order) × (p : Order) × ((n ≡ order_number o) × ((m ≡ order_number p) × EndsSameInsnsIn o a p b e))
 
+-- the answer to a comparison of instructions: its result, or the first fault of one input
 abbrev pub AnswersSameInsns : ℕ → List ℕ → ℕ → List ℕ → Answer → Type 0
 AnswersSameInsns n a m b = IsAnswerOf (EndsSameInsns n a m b)

@@ -38,5 +38,6 @@ abbrev pub EndsGroups : ℕ → List ℕ → Ending → Type 0
 EndsGroups n bytes ending.Order = IsNoOrder n
 EndsGroups n bytes e = (o : Order) × ((n ≡ order_number o) × EndsGroupsIn o bytes e)
 
+-- the answer on groups: those that the instructions need, as a mask, or the first fault
 abbrev pub AnswersGroups : ℕ → List ℕ → Answer → Type 0
 AnswersGroups n bytes = IsAnswerOf (EndsGroups n bytes)

@@ -19,11 +19,11 @@ line_number line.Word = 2
 line_number line.Shape = 3
 line_number line.Range = 4
 
--- the place of a fault of a listing is its line
+-- the position of a fault in a listing is its line
 abbrev pub code_of_line : LineFault → FaultCode
 code_of_line f = record { cause = line_number f.cause; pos = 0; line = f.line }
 
--- the listing of the instructions of a file: room of four times the length of the file is enough
+-- the listing of the instructions of a file: a buffer of four times its length is long enough
 pub record IsListing (o : Order) (bytes out : List ℕ) : Type 0 where
   pub insns : List Insn
   pub file : InsnFile o bytes insns
@@ -33,17 +33,18 @@ pub record IsListing (o : Order) (bytes out : List ℕ) : Type 0 where
 abbrev pub EndsListing : ℕ → List ℕ → List ℕ → List ℕ → Ending → Type 0
 EndsListing n bytes old new = EndsInOrder n (λ o. EndsOutput (IsListing o bytes) (IsInsnCode o bytes) old new) old new
 
+-- what the call that writes a listing returns: the answer of one of its endings
 abbrev pub AnswersListing : ℕ → List ℕ → List ℕ → List ℕ → Answer → Type 0
 AnswersListing n bytes old new = IsAnswerOf (EndsListing n bytes old new)
 
--- the instructions that a text lists, in a byte order: room of twice the length of the text is enough
+-- the instructions of a listing, in a byte order: a buffer of twice its length is long enough
 pub record IsListed (to : Order) (text out : List ℕ) : Type 0 where
   pub insns : List Insn
   pub lists : Lists text insns
   pub form : out ≡ file_of to insns
   pub fits : length out ≤ 2 * length text
 
--- the numbers of the fault of a text that is no listing
+-- the numbers of the fault of an invalid listing
 pub record IsLineCode (text : List ℕ) (code : FaultCode) : Type 0 where
   pub fault : LineFault
   pub first : IsListFault text fault
@@ -52,5 +53,6 @@ pub record IsLineCode (text : List ℕ) (code : FaultCode) : Type 0 where
 abbrev pub EndsListed : ℕ → List ℕ → List ℕ → List ℕ → Ending → Type 0
 EndsListed n text old new = EndsInOrder n (λ to. EndsOutput (IsListed to text) (IsLineCode text) old new) old new
 
+-- what the call that reads a listing returns: the answer of one of its endings
 abbrev pub AnswersListed : ℕ → List ℕ → List ℕ → List ℕ → Answer → Type 0
 AnswersListed n text old new = IsAnswerOf (EndsListed n text old new)

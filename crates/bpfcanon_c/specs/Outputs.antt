@@ -33,7 +33,7 @@ pub record IsInsnCode (o : Order) (bytes : List ℕ) (code : FaultCode) : Type 0
   pub first : IsInsnFault o bytes fault
   pub numbers : code ≡ code_of_slot fault
 
--- How a call ends that writes what `IsOutput` says, or reports what `IsFault` says. The room is as before unless bytes were written.
+-- How a call ends that writes what `IsOutput` says, or reports what `IsFault` says. The buffer is unchanged unless bytes were written.
 abbrev pub EndsOutput : (List ℕ → Type 0) → (FaultCode → Type 0) → List ℕ → List ℕ → Ending → Type 0
 EndsOutput IsOutput IsFault old new (Written n) = (out : List ℕ) × (IsOutput out × FillsRoom out old new (Written n))
 EndsOutput IsOutput IsFault old new (Room n) = (out : List ℕ) × (IsOutput out × FillsRoom out old new (Room n))
@@ -41,7 +41,7 @@ EndsOutput IsOutput IsFault old new (First code) = IsFault code × (new ≡ old)
 EndsOutput IsOutput IsFault old new Memory = new ≡ old
 EndsOutput IsOutput IsFault old new _ = ⊥
 
--- The same for a call that takes the number of a byte order.
+-- Likewise for a call with the number of a byte order.
 abbrev pub EndsInOrder : ℕ → (Order → Ending → Type 0) → List ℕ → List ℕ → Ending → Type 0
 EndsInOrder n Ends old new ending.Order = IsNoOrder n × (new ≡ old)
 EndsInOrder n Ends old new e = (o : Order) × ((n ≡ order_number o) × Ends o e)

@@ -1,4 +1,4 @@
--- What the call on the text of BTF types returns to C.
+-- What the call on type listings returns to C.
 use Rattle.std.specs.Prelude.{◌≡◌, ℕ, List}
 use Rattle.btf_types.specs.Values.{TypeRecord}
 use Rattle.btf_types.specs.Denotes.{Denotes}
@@ -6,11 +6,12 @@ use Rattle.bpf_text.specs.btf.BtfText.{text_of}
 use Rattle.bpfcanon_c.specs.declared.answer.Answer.{Answer}
 use Rattle.bpfcanon_c.specs.Outputs.{IsAnswerOf, IsBtfCode, EndsOutput}
 
--- the text of the types of a file
+-- the type listing of a file
 pub record IsTypesText (bytes out : List ℕ) : Type 0 where
   pub types : List TypeRecord
   pub denotes : Denotes bytes types
   pub form : out ≡ text_of types
 
+-- what the call that writes a type listing returns: the answer of one of its endings
 abbrev pub AnswersBtfShow : List ℕ → List ℕ → List ℕ → Answer → Type 0
 AnswersBtfShow bytes old new = IsAnswerOf (EndsOutput (IsTypesText bytes) (IsBtfCode bytes) old new)

@@ -6,7 +6,7 @@ ghost use Rattle.bpfcanon_c.specs.Answers.{fault_answer, names_order, FillsRoom}
 use bpf_insn::{Order, SlotFault};
 use btf_raw::BtfFault;
 
-/// A fault by its numbers: its place is an offset in bytes, or a line where the input is a listing.
+/// A fault by its numbers: its position is an offset in bytes, or a line if the input is a listing.
 #[derive(Clone, Copy, Debug, PartialEq, Eq)]
 pub struct FaultCode {
     /// The number of the cause.
@@ -20,7 +20,7 @@ pub struct FaultCode {
 /// How a call ended.
 #[derive(Clone, Copy, Debug, PartialEq, Eq)]
 pub enum Ending {
-    /// The output has this length in bytes and is at the front of the room.
+    /// The output has this length in bytes and is at the start of the buffer.
     Written(usize),
     /// The input has this number of types.
     Types(u32),
@@ -36,7 +36,7 @@ pub enum Ending {
     Second(FaultCode),
     /// Out of memory.
     Memory,
-    /// The output has this length in bytes, which is more than the room.
+    /// The output has this length in bytes, which is more than the buffer has.
     Room(usize),
     /// The number of a byte order is neither 0, for little, nor 1, for big.
     Order,
@@ -48,7 +48,7 @@ pub enum Ending {
 #[derive(Clone, Copy)]
 pub struct Answer {
     /// 0 done or the same, 1 different, 2 a fault of the input or of the first of two, 3 a fault of
-    /// the second, 4 out of memory, 5 the room is too short, 6 there is no such byte order.
+    /// the second, 4 out of memory, 5 the buffer is too short, 6 an invalid byte order.
     pub status: u32,
     /// The number of the fault's cause.
     pub cause: u32,
@@ -56,12 +56,12 @@ pub struct Answer {
     pub pos: u64,
     /// The line of a fault of a listing, from 1.
     pub line: u64,
-    /// The length in bytes of the whole instructions that were read, of the call on the front of a
-    /// stream alone.
+    /// The length in bytes of the complete instructions that were read, only by the call on the
+    /// start of a stream.
     pub read: usize,
     /// The length in bytes of the output that was written.
     pub written: usize,
-    /// The length in bytes of an output that is longer than its room.
+    /// The length in bytes of an output that is longer than its buffer.
     pub needed: usize,
     /// The number of types.
     pub types: u32,
@@ -116,7 +116,7 @@ pub fn with_status(status: u32) -> Answer
     }
 }
 
-/// An answer with this status, and the cause and place of a fault.
+/// An answer with this status, and the cause and position of a fault.
 pub fn with_fault(status: u32, fault: FaultCode) -> Answer
     ensures { result ≡ fault_answer status fault }
 {
@@ -161,7 +161,7 @@ pub fn order_from(number: u32) -> Option<Order>
     }
 }
 
-/// Copies an output to the front of some room, if the room is long enough.
+/// Copies an output to the start of a buffer that is long enough.
 pub fn put(bytes: &[u8], room: &mut [u8]) -> Ending
     ensures { FillsRoom bytes.now room.old room.new result }
 {

@@ -10,7 +10,7 @@ use bpf_insn::Order;
 use btf_types::{BtfError, BtfView, TypeTable};
 use std::alloc::Global;
 
-/// Writes the canonical form of a BTF file in the byte order `to` at the front of `out`. It is no
+/// Writes the canonical form of a BTF file in the byte order `to` at the start of `out`. It is no
 /// longer than the file.
 #[unsafe(no_mangle)]
 pub extern "C" fn bpfcanon_proved_btf_canon(

@@ -1,4 +1,4 @@
-//! The call on instructions that come in pieces: the whole instructions at the front of some bytes.
+//! The call on instructions in pieces: the complete instructions at the start of a buffer.
 ghost use Rattle.std.specs.Prelude.{◌≡◌};
 ghost use Rattle.bpfcanon_c.specs.Fronts.{AnswersFront, EndsFront, EndsFrontIn, front_answer_of};
 
@@ -12,7 +12,7 @@ use std::alloc::Global;
 /// How the call ended.
 #[derive(Clone, Copy, Debug, PartialEq, Eq)]
 pub enum FrontEnding {
-    /// The whole instructions have this length in bytes, and so has the output. The bytes after
+    /// The complete instructions have this length in bytes, and so has the output. The bytes after
     /// them may begin an instruction.
     Sound(usize),
     /// The instructions before a fault that no more bytes can repair have this length in bytes, and
@@ -20,15 +20,14 @@ pub enum FrontEnding {
     Faulty(usize, FaultCode),
     /// Out of memory.
     Memory,
-    /// The output has this length in bytes, which is more than the room.
+    /// The output has this length in bytes, which is more than the buffer has.
     Room(usize),
     /// The number of a byte order is neither 0, for little, nor 1, for big.
     Order,
 }
 
-/// Writes the whole instructions at the front of some bytes in the order `to`. A caller that gets a
-/// stream in pieces gives the bytes that were not read, fewer than 16, again in front of the next
-/// piece.
+/// Writes the complete instructions at the start of a buffer in the byte order `to`. To read a
+/// stream in pieces, prepend the bytes that were not read, fewer than 16, to the next piece.
 #[unsafe(no_mangle)]
 pub extern "C" fn bpfcanon_proved_insn_front(
     alloc: Global,
@@ -66,7 +65,7 @@ fn report_front(ending: FrontEnding) -> Answer
     }
 }
 
-/// The front, in the orders that two numbers name.
+/// The complete instructions, in the byte orders that two numbers name.
 fn front_into(alloc: Global, order: u32, to: u32, bytes: &[u8], out: &mut [u8]) -> FrontEnding
     ensures { EndsFront order to bytes.now out.old out.new result }
 {
@@ -79,7 +78,7 @@ fn front_into(alloc: Global, order: u32, to: u32, bytes: &[u8], out: &mut [u8]) 
     }
 }
 
-/// The front, in two byte orders.
+/// The complete instructions, in two byte orders.
 fn front_in(alloc: Global, order: Order, to: Order, bytes: &[u8], out: &mut [u8]) -> FrontEnding
     ensures { EndsFrontIn order to bytes.now out.old out.new result }
 {

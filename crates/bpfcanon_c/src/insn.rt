@@ -12,8 +12,8 @@ use bpf_canon::{SideError, recode_insns, same_insns};
 use bpf_insn::{Group, GroupSet, InsnError, Order, groups_in};
 use std::alloc::Global;
 
-/// Writes the instructions of a file of the byte order `order` in the byte order `to` at the front
-/// of `out`, in the length of the file. Little-endian bytes are canonical.
+/// Writes the instructions of a file, which is in the byte order `order`, in the byte order `to` at
+/// the start of `out`. They are as long as the file. Little-endian bytes are canonical.
 #[unsafe(no_mangle)]
 pub extern "C" fn bpfcanon_proved_insn_canon(
     alloc: Global,
@@ -46,8 +46,8 @@ fn insns_in(alloc: Global, order: Order, to: Order, bytes: &[u8], out: &mut [u8]
 }
 
 /// The conformance groups (RFC 9669 section 2.4) that the instructions of a file need, as a mask of
-/// 7 bits from the lowest: base32, base64, atomic32, atomic64, divmul32, divmul64, packet. It takes
-/// no memory.
+/// 7 bits from the lowest: base32, base64, atomic32, atomic64, divmul32, divmul64, packet. It
+/// allocates nothing.
 #[unsafe(no_mangle)]
 pub extern "C" fn bpfcanon_proved_insn_groups(order: u32, bytes: &[u8]) -> Answer
     ensures { AnswersGroups order bytes.now result }

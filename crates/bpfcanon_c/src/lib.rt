@@ -1,8 +1,8 @@
-//! The proved calls of bpfcanon for C. `capi/proved.h` declares them, for `capi/bpfcanon.c` alone:
+//! The proved calls of bpfcanon for C. `capi/proved.h` declares them, only for `capi/bpfcanon.c`:
 //! each slice is a pointer that is never null, followed by its length. The public calls of
 //! `capi/bpfcanon.h` are C around these.
 //!
-//! No call keeps memory, and none hands any out: output goes into room that the caller gives.
+//! No call keeps or returns memory: output goes into a buffer of the caller.
 //! Offsets count bytes from the first of the input, and statuses and causes are numbers.
 #![tactic(auto)]
 

@@ -9,8 +9,8 @@ use bpf_insn::{InsnError, Order, decode_insns};
 use bpf_text::{LineFault, ListError, listing, read_listing_bytes};
 use std::alloc::Global;
 
-/// Writes the listing of the instructions of a file of the byte order `order` at the front of
-/// `out`: a line for each, with a newline. A listing is longer than its file.
+/// Writes the listing of the instructions of a file, which is in the byte order `order`, at the
+/// start of `out`: a line for each, with a newline. A listing is longer than its file.
 #[unsafe(no_mangle)]
 pub extern "C" fn bpfcanon_proved_insn_show(
     alloc: Global,
@@ -41,7 +41,7 @@ fn listing_in(alloc: Global, order: Order, bytes: &[u8], out: &mut [u8]) -> Endi
     }
 }
 
-/// Writes the instructions of a listing in the byte order `to` at the front of `out`. A fault has
+/// Writes the instructions of a listing in the byte order `to` at the start of `out`. A fault has
 /// the number of its line.
 #[unsafe(no_mangle)]
 pub extern "C" fn bpfcanon_proved_insn_read(

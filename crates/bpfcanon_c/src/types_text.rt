@@ -1,4 +1,4 @@
-//! The call on the text of BTF types.
+//! The call on type listings.
 ghost use Rattle.bpfcanon_c.specs.TypesText.{AnswersBtfShow};
 
 use crate::answer::{Answer, Ending, btf_code, put, report};
@@ -6,8 +6,8 @@ use bpf_text::show_btf;
 use btf_types::{BtfError, BtfView};
 use std::alloc::Global;
 
-/// Writes the text of the types of a BTF file at the front of `out`: a line for each type, followed
-/// by a line for each of its items. The text may be longer than the file.
+/// Writes the listing of the types of a BTF file at the start of `out`: a line for each, followed
+/// by a line for each of its items. The listing may be longer than the file.
 #[unsafe(no_mangle)]
 pub extern "C" fn bpfcanon_proved_btf_show(alloc: Global, bytes: &[u8], out: &mut [u8]) -> Answer
     ensures { AnswersBtfShow bytes.now out.old out.new result }

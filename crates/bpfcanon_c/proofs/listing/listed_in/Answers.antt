@@ -1,4 +1,4 @@
--- What was written is the instructions that the text lists.
+-- What was written is the instructions of the listing.
 use Rattle.std.proofs.Common.{ap, arith, length, ◌∙◌}
 use Rattle.bpfcanon_c.specs.Listings.{IsLineCode, IsListed}
 use Rattle.bpfcanon_c.proofs.ListedLengths.{listed_fits}
