@@ -1,5 +1,6 @@
 -- What reading one field returns.
-use Rattle.std.proofs.Common.{◌≡◌, ◌≢◌, ◌^◌, ◌<◌, ℕ, ℤ, pos, refl, sym, ap, ◌∙◌, subst, Ok, Err, FitsSigned}
+use Rattle.std.proofs.Common.{◌≡◌, ◌≢◌, ◌^◌, ◌<◌, ℕ, ℤ, pos, refl, sym, ap, ◌∙◌, subst, Ok, Err, FitsSigned, Option, Some, None, IfSome, MatchOption}
+use Rattle.std.specs.Option.{ok_or}
 use Rattle.std.specs.Int.{Width, w16, w32}
 use Rattle.bpf_insn.specs.declared.insn.Reg.{Reg as Register}
 use Rattle.bpf_insn.specs.declared.insn.Operand.{Operand}
@@ -55,9 +56,18 @@ address_none base n none (memory s z) h = (((base, pos 0), refl), (λ y v e. let
 pub source_some : (n : Number) (u v : ℤ) → FitsSigned w32 v → u ≡ v → ((z : ℤ) → IsNumber n z → v ≡ z) → (a : LineOperand) → IsReadAs (Literal n) a → ReadsField source_field a (Ok (Imm u))
 source_some n u v ok e cases a h = count_some source_field (Imm u) n u (fits_by w32 v u ok (sym e)) refl (λ z k. e ∙ cases z k) a h
 
--- the number of a wide load has 64 bits, without a sign
-pub wide_some : (n : Number) (x : ℕ) → x < 2 ^ 64 → ((z : ℤ) → IsNumber n z → z ≡ pos x) → (a : LineOperand) → IsReadAs (Literal n) a → ReadsField imm64_field a (Ok x)
-wide_some n x ok cases a h = count_some imm64_field x n (pos x) ok refl (λ z k. sym (cases z k)) a h
+-- a number of this width
+abbrev pub signed_field : Width → Field ℤ
+signed_field w = record { valid = FitsSigned w; written = number }
 
-pub wide_none : (n : Number) → ((z : ℤ) → IsNumber n z → (m : ℕ) → m < 2 ^ 64 → z ≢ pos m) → (a : LineOperand) → IsReadAs (Literal n) a → ReadsField imm64_field a (Err Range)
-wide_none n none a h = count_none imm64_field (λ z. (m : ℕ) × (m < 2 ^ 64) × (z ≡ pos m)) n (λ z k w. none z k w.0 w.1 w.2) 0 refl (λ y z v e. (y, v, (cc))) a h
+-- such a number, or a fault
+pub signed_read : (w : Width) (n : Number) (o : Option ℤ) → IfSome o (FitsSigned w) → ((z : ℤ) → IsNumber n z → MatchOption o (¬ FitsSigned w z) (λ v. v ≡ z))
+    → (a : LineOperand) → IsReadAs (Literal n) a → ReadsField (signed_field w) a (ok_or o Range)
+signed_read w n (Some v) fits cases a h = count_some (signed_field w) v n v fits refl cases a h
+signed_read w n None fits cases a h = count_none (signed_field w) (FitsSigned w) n cases (pos 0) refl (number_fits w) a h
+
+-- the number of a wide load has 64 bits, without a sign
+pub wide_read : (n : Number) (o : Option ℕ) → IfSome o (λ x. x < 2 ^ 64) → ((z : ℤ) → IsNumber n z → MatchOption o ((m : ℕ) → m < 2 ^ 64 → z ≢ pos m) (λ x. z ≡ pos x))
+    → (a : LineOperand) → IsReadAs (Literal n) a → ReadsField imm64_field a (ok_or o Range)
+wide_read n (Some x) fits cases a h = count_some imm64_field x n (pos x) fits refl (λ z k. sym (cases z k)) a h
+wide_read n None fits cases a h = count_none imm64_field (λ z. (m : ℕ) × (m < 2 ^ 64) × (z ≡ pos m)) n (λ z k w. cases z k w.0 w.1 w.2) 0 refl (λ y z v e. (y, v, (cc))) a h

@@ -62,19 +62,6 @@ fn kind_word(head: Head<'_>) -> &'static str
     }
 }
 
-/// Appends a component_idx. `None` is -1, the whole target (btf.rst section 2.2.17).
-fn append_component<A: Allocator>(
-    text: &mut Vec<u8, A>,
-    component: Option<u16>,
-) -> Result<(), AllocError>
-    ensures { Appends result text.old (spec.component_text component) text.new }
-{
-    match component {
-        Some(index) => append(text, Buffer::new().format(index)),
-        None => append(text, "-1"),
-    }
-}
-
 /// Appends the fields of a type, which follow its name. `items` is the number of its items.
 fn append_fields<A: Allocator>(
     text: &mut Vec<u8, A>,
@@ -147,7 +134,11 @@ fn append_fields<A: Allocator>(
             append(text, if flag { " flag=1" } else { " flag=0" })?;
             append_number(text, " type=", target)?;
             append(text, " component=")?;
-            append_component(text, component)
+            match component {
+                Some(index) => append(text, Buffer::new().format(index)),
+                // The whole target (btf.rst section 2.2.17).
+                None => append(text, "-1"),
+            }
         }
         Head::KTypeTag { flag, target, .. } => {
             append(text, if flag { " flag=1" } else { " flag=0" })?;

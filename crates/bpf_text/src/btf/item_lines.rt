@@ -1,7 +1,6 @@
 //! The lines of the items of BTF types: members, enum values, parameters and the entries of a
 //! DATASEC.
 
-ghost use Rattle.std.specs.Int.{w32, w64};
 ghost use Rattle.btf_types.specs.Values.{item_value};
 ghost use Rattle.bpf_text.specs.btf.BtfText as spec;
 ghost use Rattle.bpf_text.specs.btf.LineParts as parts;
@@ -12,36 +11,6 @@ use crate::btf::text_parts::{append, append_number, append_numbers};
 use btf_types::Item;
 use itoa::Buffer;
 use std::alloc::{AllocError, Allocator};
-
-/// Appends a value of an ENUM.
-fn append_value32<A: Allocator>(
-    text: &mut Vec<u8, A>,
-    value: u32,
-    signed: bool,
-) -> Result<(), AllocError>
-    ensures { Appends result text.old (spec.value_text w32 signed value) text.new }
-{
-    if signed {
-        append(text, Buffer::new().format(value.cast_signed()))
-    } else {
-        append(text, Buffer::new().format(value))
-    }
-}
-
-/// Appends a value of an ENUM64.
-fn append_value64<A: Allocator>(
-    text: &mut Vec<u8, A>,
-    value: u64,
-    signed: bool,
-) -> Result<(), AllocError>
-    ensures { Appends result text.old (spec.value_text w64 signed value) text.new }
-{
-    if signed {
-        append(text, Buffer::new().format(value.cast_signed()))
-    } else {
-        append(text, Buffer::new().format(value))
-    }
-}
 
 /// Appends the fields after the name of an item. `signed` is whether the values of its type are
 /// signed.
@@ -68,11 +37,19 @@ fn append_item_fields<A: Allocator>(
         ),
         Item::EnumValue { value, .. } => {
             append(text, "\" ")?;
-            append_value32(text, value, signed)
+            if signed {
+                append(text, Buffer::new().format(value.cast_signed()))
+            } else {
+                append(text, Buffer::new().format(value))
+            }
         }
         Item::Value64 { value, .. } => {
             append(text, "\" ")?;
-            append_value64(text, value, signed)
+            if signed {
+                append(text, Buffer::new().format(value.cast_signed()))
+            } else {
+                append(text, Buffer::new().format(value))
+            }
         }
         Item::Param { target, .. } => append_number(text, "\" type=", target),
         Item::Entry {

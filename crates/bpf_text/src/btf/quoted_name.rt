@@ -1,6 +1,6 @@
 //! Names in quotes. Quotes, backslashes and control characters in them are escaped.
 
-ghost use Rattle.std.specs.Prelude.{◌≡◌, ◌/◌, ◌%◌, ◌∷◌, [], ◌++◌, ◌<◌, true, codes};
+ghost use Rattle.std.specs.Prelude.{◌≡◌, ◌∷◌, [], ◌<◌, true};
 ghost use Rattle.std.specs.Char.{digit_char};
 ghost use Rattle.std.specs.List.{flat_map};
 ghost use Rattle.bpf_text.specs.btf.BtfText as spec;
@@ -33,14 +33,6 @@ fn hex_digit(number: u8) -> u8
     HEX_DIGITS[usize::from(number)]
 }
 
-/// Appends a control character as `\x` and two hexadecimal digits.
-fn append_control<A: Allocator>(text: &mut Vec<u8, A>, byte: u8) -> Result<(), AllocError>
-    ensures { Appends result text.old
-        (codes "\\x" ++ digit_char (byte / 16) ∷ digit_char (byte % 16) ∷ []) text.new }
-{
-    text.extend_from_slice(&[b'\\', b'x', hex_digit(byte / 16), hex_digit(byte % 16)])
-}
-
 /// Whether a byte is written as it is between the quotes.
 fn is_unescaped(byte: u8) -> bool
     ensures { result ≡ true → spec.quoted_byte byte ≡ byte ∷ [] }
@@ -55,7 +47,7 @@ fn append_byte<A: Allocator>(text: &mut Vec<u8, A>, byte: u8) -> Result<(), Allo
     if needs_backslash(byte) {
         text.extend_from_slice(&[b'\\', byte])
     } else if is_control(byte) {
-        append_control(text, byte)
+        text.extend_from_slice(&[b'\\', b'x', hex_digit(byte / 16), hex_digit(byte % 16)])
     } else {
         text.extend_from_slice(&[byte])
     }

@@ -31,10 +31,7 @@ pub(crate) fn imm(operand: ReadOperand) -> Result<i32, LineCause>
 {
     match operand {
         ReadOperand::Register(_) => Err(LineCause::Shape),
-        ReadOperand::Literal(number) => match number.as_i32() {
-            Some(imm) => Ok(imm),
-            None => Err(LineCause::Range),
-        },
+        ReadOperand::Literal(number) => number.as_i32().ok_or(LineCause::Range),
         ReadOperand::Memory(_, _) => Err(LineCause::Shape),
     }
 }
@@ -45,10 +42,7 @@ pub(crate) fn offset(operand: ReadOperand) -> Result<i16, LineCause>
 {
     match operand {
         ReadOperand::Register(_) => Err(LineCause::Shape),
-        ReadOperand::Literal(number) => match number.as_i16() {
-            Some(offset) => Ok(offset),
-            None => Err(LineCause::Range),
-        },
+        ReadOperand::Literal(number) => number.as_i16().ok_or(LineCause::Range),
         ReadOperand::Memory(_, _) => Err(LineCause::Shape),
     }
 }
@@ -59,10 +53,7 @@ pub(crate) fn imm64(operand: ReadOperand) -> Result<u64, LineCause>
 {
     match operand {
         ReadOperand::Register(_) => Err(LineCause::Shape),
-        ReadOperand::Literal(number) => match number.as_u64() {
-            Some(number) => Ok(number),
-            None => Err(LineCause::Range),
-        },
+        ReadOperand::Literal(number) => number.as_u64().ok_or(LineCause::Range),
         ReadOperand::Memory(_, _) => Err(LineCause::Shape),
     }
 }

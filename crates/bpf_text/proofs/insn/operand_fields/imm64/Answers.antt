@@ -1,8 +1,5 @@
-use Rattle.bpf_text.proofs.InsnLemmas.FieldLemmas.{wide_some, wide_none}
+use Rattle.bpf_text.proofs.InsnLemmas.FieldLemmas.{wide_read}
 use Rattle.bpf_text.proofs.insn.operand_fields.imm64.Goals as goal
 
-pub returns-in-Some : goal.returns-in-Some
-returns-in-Some c = rw c.in-Literal.is (wide_some c.in-Literal.number c.in-Some.number c.in-Some.ensures.fits c.in-Some.ensures.cases)
-
-pub returns-in-None : goal.returns-in-None
-returns-in-None c = rw c.in-Literal.is (wide_none c.in-Literal.number c.in-None.ensures.cases)
+pub returns-in-Literal : goal.returns-in-Literal
+returns-in-Literal c = rw (c.in-Literal.is, c.ok_or.ensures.value) (wide_read c.in-Literal.number c.as_u64.result c.as_u64.ensures.fits c.as_u64.ensures.cases)
