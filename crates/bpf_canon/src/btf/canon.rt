@@ -23,8 +23,8 @@ use std::alloc::Allocator;
 pub fn canon_btf<A: Allocator + Copy>(alloc: A, bytes: &[u8]) -> Result<Vec<u8, A>, BtfError>
     ensures found { IfOk result (λ canon. IsCanonicalBtf bytes.now canon.items) }
     ensures all { (v : List TypeRecord) → Denotes bytes.now v
-        → MatchResult result (λ canon. canon.items ≡ canonical Little v) (λ e. e
-        ≡ BtfError.Memory) }
+        → MatchResult result (λ canon. canon.items ≡ canonical Little v)
+        (λ e. e ≡ BtfError.Memory) }
     ensures fault { IfErr result (Fails bytes.now) }
 {
     canonical_in(alloc, Order::Little, bytes)

@@ -3,9 +3,9 @@ use Rattle.std.proofs.Common.{◌≡◌, ◌≢◌, ℕ, ◌<◌, ◌⊎◌, tru
 use Rattle.std.specs.Prelude.{nat_eq}
 use Rattle.std.specs.List.{list_any, Contains}
 use Rattle.std.proofs.lemmas.Bool.{cases_eq, cases_Bool, both_ways, cond-true, cond-false, false_from_ne_true, eq-eqb, eqb-true}
-use Rattle.std.proofs.lemmas.List.{map-append, length_push, length-map, get_or-map, get_or-set_same, get_or-set_other, get_or_append_left, get_or_push, append-nil}
+use Rattle.std.proofs.lemmas.List.{map-append, length-map, get_or-map, get_or-set_same, get_or-set_other, append-nil}
 use Rattle.std.proofs.lemmas.List.Folds.{list_any_at, Any-from_list_any}
-use Rattle.std.proofs.lemmas.List.Elements.{Contains-push_cases}
+use Rattle.std.proofs.lemmas.List.Elements.{Contains-append_left, Contains-push, Contains-push_cases}
 use Rattle.btf_types.specs.Names.{kept}
 use Rattle.btf_types.proofs.Members.{Has, Has-from_Contains}
 use Rattle.btf_types.proofs.StringLemmas.Texts.{Has-kept}
@@ -33,12 +33,6 @@ pub noted_new : (offs : List ℕ) (off : ℕ) → ¬ Contains offs off → noted
 noted_new offs off n = cond-false (list_any (nat_eq off) offs) offs (offs ++ off ∷ []) (false_from_ne_true (list_any (nat_eq off) offs) (λ t. n (Contains_from_test offs off t)))
 
 -- the marks of what is noted
-contains_more : (xs : List ℕ) (y x : ℕ) → Contains xs x → Contains (xs ++ y ∷ []) x
-contains_more xs y x (k, inside, is) = (k, omega (arith, inside, length_push xs y), get_or_append_left xs (y ∷ []) x k inside ∙ is)
-
-contains_last : (xs : List ℕ) (y x : ℕ) → x ≡ y → Contains (xs ++ y ∷ []) x
-contains_last xs y x e = (length xs, omega (arith, length_push xs y), get_or_push xs y x (length xs) refl ∙ sym e)
-
 pub marked_more : (offs marks : List ℕ) (o : ℕ) → AreMarked offs marks → o < length marks → AreMarked (offs ++ o ∷ []) (set marks o 1)
 marked_more offs marks o are inside =
     let here : get_or (set marks o 1) o 0 ≡ 1 = get_or-set_same marks o 1 0 inside in
@@ -52,8 +46,8 @@ marked_more offs marks o are inside =
         ]
       ];
       only = λ off s. elim (cases_eq off o) [
-        | inl e ↦ contains_last offs o off e
-        | inr n ↦ contains_more offs o off (are.only off (λ z. s (there off n ∙ z)))
+        | inl e ↦ subst (Contains (offs ++ o ∷ [])) (sym e) (Contains-push offs o)
+        | inr n ↦ Contains-append_left offs (o ∷ []) off (are.only off (λ z. s (there off n ∙ z)))
       ];
     }
 
@@ -103,13 +97,13 @@ noted_all-append offs (x ∷ xs) ys = noted_all-append (noted offs x) xs ys
 pub noted_stays : (offs : List ℕ) (o x : ℕ) → Contains offs x → Contains (noted offs o) x
 noted_stays offs o x c = elim (cases_Contains offs o) [
   | inl k ↦ subst (λ (l : List ℕ). Contains l x) (sym (noted_known offs o k)) c
-  | inr n ↦ subst (λ (l : List ℕ). Contains l x) (sym (noted_new offs o n)) (contains_more offs o x c)
+  | inr n ↦ subst (λ (l : List ℕ). Contains l x) (sym (noted_new offs o n)) (Contains-append_left offs (o ∷ []) x c)
 ]
 
 pub noted_there : (offs : List ℕ) (o : ℕ) → Contains (noted offs o) o
 noted_there offs o = elim (cases_Contains offs o) [
   | inl k ↦ subst (λ (l : List ℕ). Contains l o) (sym (noted_known offs o k)) k
-  | inr n ↦ subst (λ (l : List ℕ). Contains l o) (sym (noted_new offs o n)) (contains_last offs o o refl)
+  | inr n ↦ subst (λ (l : List ℕ). Contains l o) (sym (noted_new offs o n)) (Contains-push offs o)
 ]
 
 pub noted_all_stays : (offs xs : List ℕ) (x : ℕ) → Contains offs x → Contains (noted_all offs xs) x

@@ -17,7 +17,7 @@ use Rattle.btf_types.proofs.StringLemmas.Texts.{table_split}
 use Rattle.btf_types.proofs.StringLemmas.Longest.{longest_have_host}
 use Rattle.bpf_canon.specs.btf.strings.FirstUses.{AreMarked}
 use Rattle.bpf_canon.specs.btf.strings.UsedOffsets.{Used, offset_number}
-use Rattle.bpf_canon.specs.btf.strings.Longest.{IsUsed, IsWithin, AreLongestOf}
+use Rattle.bpf_canon.specs.btf.strings.Longest.{IsUsed, IsInText, AreLongestOf}
 use Rattle.bpf_canon.specs.btf.strings.SectionTexts.{text_in, HasKey}
 use Rattle.bpf_canon.specs.btf.strings.InHost.{no_host, host_at, AreInHosts}
 use Rattle.bpf_canon.specs.btf.strings.HostPlaces.{HasHost, AreHostPlaces, ArePlaced, name_place}
@@ -39,7 +39,7 @@ longest_permuted section slots texts ordered are perm = record {
   few = omega (arith, are.few, length_permutation texts ordered perm);
   keys = All-permutation (HasKey section) texts ordered perm are.keys;
   used = All-permutation (IsUsed section slots) texts ordered perm are.used;
-  each = λ off h s b. any_permuted (IsWithin off) texts ordered perm (are.each off h s b);
+  each = λ off h s b. any_permuted (IsInText off) texts ordered perm (are.each off h s b);
 }
 
 module _ (section slots offsets : List ℕ) (texts ordered : List SectionText) (in_hosts : List InHost) (marked : AreMarked offsets slots) (long : length slots ≡ length section) (longest : AreLongestOf section slots texts)

@@ -9,7 +9,7 @@ use Rattle.btf_types.specs.strings.CommonTails.{at_rank, IsFirstRank, IsNextHost
 use Rattle.btf_types.proofs.StringLemmas.Suffixes.{Ends, Ends-refl, Ends-trans, Ends-length, Ends-from_suffix, suffix_from_Ends}
 use Rattle.btf_types.proofs.StringLemmas.CommonTails.{first_ends, rank_has_host}
 use Rattle.bpf_canon.specs.btf.strings.SectionTexts.{text_in}
-use Rattle.bpf_canon.specs.btf.strings.Longest.{IsUsed, IsWithin, AreLongestOf}
+use Rattle.bpf_canon.specs.btf.strings.Longest.{IsUsed, IsInText, AreLongestOf}
 use Rattle.bpf_canon.specs.btf.strings.Ranks.{AreRanked}
 use Rattle.bpf_canon.specs.btf.strings.UsedOffsets.{offset_number}
 use Rattle.bpf_canon.specs.btf.strings.InHost.{IsInHost, no_host, no_text, host_at, FindsWithin, AreInHosts, HostsTo}
@@ -40,12 +40,12 @@ module _ (section slots : List ℕ) (ts : List SectionText) (common hosts : List
   pub length_of_rank : (k : ℕ) → k < length ts → length (at_rank texts k) ≡ (get_or ts k no_text).end - (get_or ts k no_text).start
   length_of_rank k inside = ap (λ (l : List ℕ). length l) (text_of_rank k inside) ∙ used_length section slots (get_or ts k no_text) (used k no_text inside)
 
-  first : (rank off l : ℕ) → rank < length ts → IsWithin off (get_or ts rank no_text) → l ≤ rank → ((j : ℕ) → l < j → j ≤ rank → (get_or ts rank no_text).end - off ≤ get_or common j 0) → get_or common l 0 < (get_or ts rank no_text).end - off → IsFirstRank texts (length (text_from section off)) l rank
+  first : (rank off l : ℕ) → rank < length ts → IsInText off (get_or ts rank no_text) → l ≤ rank → ((j : ℕ) → l < j → j ≤ rank → (get_or ts rank no_text).end - off ≤ get_or common j 0) → get_or common l 0 < (get_or ts rank no_text).end - off → IsFirstRank texts (length (text_from section off)) l rank
   first rank off l inside within below before less =
       let long = within_length section slots (get_or ts rank no_text) off (used rank no_text inside) within in
       subst (λ (n : ℕ). IsFirstRank texts n l rank) (sym long) (first_rank_is texts common ((get_or ts rank no_text).end - off) l rank ranked.are_common (omega (arith, inside, length-map ts (text_in section))) below before less)
 
-  ends_rank : (rank off : ℕ) → rank < length ts → IsWithin off (get_or ts rank no_text) → Ends (text_from section off) (at_rank texts rank)
+  ends_rank : (rank off : ℕ) → rank < length ts → IsInText off (get_or ts rank no_text) → Ends (text_from section off) (at_rank texts rank)
   ends_rank rank off inside within =
       subst (Ends (text_from section off)) (sym (text_of_rank rank inside)) (within_ends section slots (get_or ts rank no_text) off (used rank no_text inside) within)
 
@@ -55,14 +55,14 @@ module _ (section slots : List ℕ) (ts : List SectionText) (common hosts : List
   pub next_inside : (rank l : ℕ) → rank < length ts → l ≤ rank → get_or hosts l 0 < length ts
   next_inside rank l inside below = let n = next rank l inside below in omega (arith, n.inside, length-map ts (text_in section))
 
-  ends_host : (rank off l : ℕ) → rank < length ts → IsWithin off (get_or ts rank no_text) → l ≤ rank → IsFirstRank texts (length (text_from section off)) l rank → Ends (text_from section off) (at_rank texts (get_or hosts l 0))
+  ends_host : (rank off l : ℕ) → rank < length ts → IsInText off (get_or ts rank no_text) → l ≤ rank → IsFirstRank texts (length (text_from section off)) l rank → Ends (text_from section off) (at_rank texts (get_or hosts l 0))
   ends_host rank off l inside within below is =
       let n = next rank l inside below in
       Ends-trans (text_from section off) (at_rank texts l) (at_rank texts (get_or hosts l 0))
       (first_ends texts ranked.in_order (text_from section off) l rank (omega (arith, inside, length-map ts (text_in section))) (ends_rank rank off inside within) is)
       (passed_end texts (get_or hosts l 0 - l) l l (get_or hosts l 0) (omega (arith, n.from)) (omega arith) n.passed)
 
-  pub no_longer : (rank off l : ℕ) → rank < length ts → IsWithin off (get_or ts rank no_text) → l ≤ rank → ((j : ℕ) → l < j → j ≤ rank → (get_or ts rank no_text).end - off ≤ get_or common j 0) → get_or common l 0 < (get_or ts rank no_text).end - off → (get_or ts rank no_text).end - off ≤ (get_or ts (get_or hosts l 0) no_text).end - (get_or ts (get_or hosts l 0) no_text).start
+  pub no_longer : (rank off l : ℕ) → rank < length ts → IsInText off (get_or ts rank no_text) → l ≤ rank → ((j : ℕ) → l < j → j ≤ rank → (get_or ts rank no_text).end - off ≤ get_or common j 0) → get_or common l 0 < (get_or ts rank no_text).end - off → (get_or ts rank no_text).end - off ≤ (get_or ts (get_or hosts l 0) no_text).end - (get_or ts (get_or hosts l 0) no_text).start
   no_longer rank off l inside within below before less =
       let is = first rank off l inside within below before less in
       let ends = ends_host rank off l inside within below is in
@@ -73,7 +73,7 @@ module _ (section slots : List ℕ) (ts : List SectionText) (common hosts : List
         length_of_rank (get_or hosts l 0) (next_inside rank l inside below),
       )
 
-  pub in_host : (rank off l : ℕ) → rank < length ts → IsWithin off (get_or ts rank no_text) → l ≤ rank → ((j : ℕ) → l < j → j ≤ rank → (get_or ts rank no_text).end - off ≤ get_or common j 0) → get_or common l 0 < (get_or ts rank no_text).end - off
+  pub in_host : (rank off l : ℕ) → rank < length ts → IsInText off (get_or ts rank no_text) → l ≤ rank → ((j : ℕ) → l < j → j ≤ rank → (get_or ts rank no_text).end - off ≤ get_or common j 0) → get_or common l 0 < (get_or ts rank no_text).end - off
       → (h : InHost) → h.host ≡ get_or hosts l 0 + 1 → h.before + ((get_or ts rank no_text).end - off) ≡ (get_or ts (get_or hosts l 0) no_text).end - (get_or ts (get_or hosts l 0) no_text).start
       → h.len ≡ (get_or ts (get_or hosts l 0) no_text).end - (get_or ts (get_or hosts l 0) no_text).start → IsInHost texts (text_from section off) h
   in_host rank off l inside within below before less h host_is before_is len_is =
@@ -105,7 +105,7 @@ module _ (section slots : List ℕ) (ts : List SectionText) (common hosts : List
       let t_end : t ≡ d = t_is ∙ get_or_default ts rank t no_text inside in
       let from_start : d.start ≤ off = omega (arith, low, ap (λ (k : SectionText). k.start) s_end) in
       let ends : t.end ≡ d.end = ap (λ (k : SectionText). k.end) t_end in
-      let within : IsWithin off d = record { from = from_start; before = omega (arith, high, ends) } in
+      let within : IsInText off d = record { from = from_start; before = omega (arith, high, ends) } in
       let back_here : (j : ℕ) → l < j → j ≤ from → d.end - off ≤ get_or common j 0 = λ j a b. omega (arith, more j a b, ends, ap (λ (k : List ℕ). get_or k j 0) same) in
       let all : (j : ℕ) → l < j → j ≤ rank → d.end - off ≤ get_or common j 0 = λ j a b. elim (cases_lt from j) [
         | inl f ↦ before j f b
@@ -209,7 +209,7 @@ module _ (section slots : List ℕ) (ts : List SectionText) (longest : AreLonges
   finds_read sorted old h alone long is =
       subst (λ (k : SectionText). FindsWithin section slots sorted k old (set old (offset_number slots t.start) h)) t_end (finds_alone section slots sorted t old h used_read alone long is)
 
-cases_within : (off : ℕ) (t : SectionText) → IsWithin off t ⊎ (¬ IsWithin off t)
+cases_within : (off : ℕ) (t : SectionText) → IsInText off t ⊎ (¬ IsInText off t)
 cases_within off t = elim (cases_lt off t.start) [
   | inl a ↦ inr (λ w. omega (arith, a, w.from))
   | inr b ↦ elim (cases_lt off t.end) [
@@ -233,7 +233,7 @@ module _ (section slots : List ℕ) (ts : List SectionText) (sorted : List (List
         whole = finds.whole ∙ to.whole;
         empty = λ off s z. finds.there off s (λ w. used.before off w.from w.before z) ∙ to.empty off s z;
         here = λ j off h s w. elim (cases_eq j k) [
-          | inl e ↦ finds.here off s (subst (λ (m : ℕ). IsWithin off (get_or ts m no_text)) e w)
+          | inl e ↦ finds.here off s (subst (λ (m : ℕ). IsInText off (get_or ts m no_text)) e w)
           | inr n ↦ elim (cases_within off (get_or ts k no_text)) [
             | inl v ↦ finds.here off s v
             | inr v ↦ subst (IsInHost sorted (text_from section off)) (sym (finds.there off s v)) (to.here j off (omega (arith, h, n)) s w)
@@ -247,5 +247,5 @@ module _ (section slots : List ℕ) (ts : List SectionText) (sorted : List (List
     empty = to.empty;
     some = λ off s b.
         let a = longest.each off (omega (arith, used_inside slots off s, long)) s b in
-        to.here a.0 off a.2 s (subst (IsWithin off) (sym (get_or_default ts a.0 no_text a.1 a.2 ∙ a.3)) a.4);
+        to.here a.0 off a.2 s (subst (IsInText off) (sym (get_or_default ts a.0 no_text a.1 a.2 ∙ a.3)) a.4);
   }

@@ -3,13 +3,14 @@ use Rattle.std.proofs.Common.{◌≡◌, ◌≢◌, ℕ, zero, suc, ◌+◌, ◌
 use Rattle.std.specs.List.{All, Any}
 use Rattle.std.proofs.Math.Seq.{drop-nil}
 use Rattle.std.proofs.lemmas.Bool.{cases_eq, cases_lt}
-use Rattle.std.proofs.lemmas.List.{get_or-drop, length-drop, get_or_append_left, get_or_at, length-append, length-take-le}
+use Rattle.std.proofs.lemmas.List.{get_or-drop, length-drop, get_or_append_left, length-append, length-take-le}
 use Rattle.std.proofs.lemmas.List.Elements.{All-nil, All-cons, All-append}
+use Rattle.std.proofs.lemmas.List.Quantifiers.{Any-push}
 use Rattle.btf_types.specs.Reading.{before_nul, text_from}
 use Rattle.btf_types.proofs.StringLemmas.Suffixes.{Ends, Ends-refl}
 use Rattle.bpf_canon.specs.btf.strings.SuffixKeys.{suffix_key}
 use Rattle.bpf_canon.specs.btf.strings.SectionTexts.{end_in, start_in, text_in, text_before, HasKey}
-use Rattle.bpf_canon.specs.btf.strings.Longest.{IsUsed, IsWithin}
+use Rattle.bpf_canon.specs.btf.strings.Longest.{IsUsed, IsInText}
 use Rattle.bpf_canon.specs.declared.btf.strings.section_texts.SectionText.{SectionText}
 use Rattle.bpf_canon.proofs.BtfLemmas.Strings.TextLemmas.{text_is}
 
@@ -51,12 +52,12 @@ used_length section slots t used =
     ap (λ (l : List ℕ). length l) (text_in_is section t (omega (arith, used.some)) (omega (arith, used.inside)))
     ∙ length-take-le (t.end - t.start) (drop t.start section) (let rest = length-drop t.start section in omega (arith, rest, used.inside))
 
-pub within_length : (section slots : List ℕ) (t : SectionText) (off : ℕ) → IsUsed section slots t → IsWithin off t → length (text_from section off) ≡ t.end - off
+pub within_length : (section slots : List ℕ) (t : SectionText) (off : ℕ) → IsUsed section slots t → IsInText off t → length (text_from section off) ≡ t.end - off
 within_length section slots t off used within =
     ap (λ (l : List ℕ). length l) (sym (text_is section off t.end (omega (arith, within.before)) used.inside used.nul (λ k low high. used.before k (omega (arith, low, within.from)) high)))
     ∙ length-take-le (t.end - off) (drop off section) (let rest = length-drop off section in omega (arith, rest, used.inside))
 
-pub within_ends : (section slots : List ℕ) (t : SectionText) (off : ℕ) → IsUsed section slots t → IsWithin off t → Ends (text_from section off) (text_in section t)
+pub within_ends : (section slots : List ℕ) (t : SectionText) (off : ℕ) → IsUsed section slots t → IsInText off t → Ends (text_from section off) (text_in section t)
 within_ends section slots t off used within =
     subst (Ends (text_from section off)) (sym (used_text section slots t used))
     (text_ends section t.start off within.from (omega (arith, within.before, used.inside)) (λ k low high. used.before k low (omega (arith, high, within.before))))
@@ -67,13 +68,10 @@ pub record LongestTo (section slots : List ℕ) (ts : List SectionText) (off : �
   pub inside : off ≤ length section
   pub keys : All (HasKey section) ts
   pub used : All (IsUsed section slots) ts
-  pub each : (o : ℕ) → o < off → get_or slots o 0 ≢ 0 → get_or section o 0 ≢ 0 → Any (IsWithin o) ts
+  pub each : (o : ℕ) → o < off → get_or slots o 0 ≢ 0 → get_or section o 0 ≢ 0 → Any (IsInText o) ts
 
 any_more : (P : SectionText → Type 0) (ts : List SectionText) (t : SectionText) → Any P ts → Any P (ts ++ t ∷ [])
 any_more P ts t (k, x, inside, is, p) = (k, x, omega (arith, inside, length-append ts (t ∷ [])), get_or_append_left ts (t ∷ []) x k inside ∙ is, p)
-
-any_last : (P : SectionText → Type 0) (ts : List SectionText) (t : SectionText) → P t → Any P (ts ++ t ∷ [])
-any_last P ts t p = (length ts, t, omega (arith, length-append ts (t ∷ [])), get_or_at ts t [] t (length ts) refl, p)
 
 pub longest_push : (section slots : List ℕ) (ts : List SectionText) (off : ℕ) (t : SectionText) → LongestTo section slots ts off → get_or section off 0 ≢ 0 → get_or slots off 0 ≢ 0 → t.start ≡ off → off ≤ t.end → t.end < length section → get_or section t.end 0 ≡ 0 → ((k : ℕ) → off ≤ k → k < t.end → get_or section k 0 ≢ 0) → t.key ≡ suffix_key (take (t.end - off) (drop off section)) → t.before ≡ suffix_key (text_before (take (t.end - off) (drop off section))) → LongestTo section slots (ts ++ t ∷ []) (t.end + 1)
 longest_push section slots ts off t to some slot start low high nul before key rest =
@@ -95,10 +93,10 @@ longest_push section slots ts off t to some slot start low high nul before key r
         before = λ k l h. before k (omega (arith, start, l)) h;
       }) (All-nil (IsUsed section slots)));
       each = λ o h s f. elim (cases_lt o off) [
-        | inl l ↦ any_more (IsWithin o) ts t (to.each o l s f)
+        | inl l ↦ any_more (IsInText o) ts t (to.each o l s f)
         | inr g ↦ elim (cases_eq o t.end) [
           | inl e ↦ absurd (f (ap (λ (k : ℕ). get_or section k 0) e ∙ nul))
-          | inr n ↦ any_last (IsWithin o) ts t (record { from = omega (arith, g, start); before = omega (arith, h, n) })
+          | inr n ↦ Any-push (IsInText o) ts t (record { from = omega (arith, g, start); before = omega (arith, h, n) })
         ]
       ];
     }

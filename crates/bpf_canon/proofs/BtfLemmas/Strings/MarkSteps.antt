@@ -40,9 +40,6 @@ ones_more (suc k) w =
 max_one : (n : ℕ) → n < 2 → max n 1 ≡ 1
 max_one n h = elim (cases_eq n 0) [ inl z ↦ ap (λ (m : ℕ). max m 1) z | inr s ↦ ap (λ (m : ℕ). max m 1) (let e : n ≡ 1 = omega (arith, h, s) in e) ]
 
-max_zero : (n : ℕ) → max n 0 ≡ n
-max_zero n = max-zero n
-
 plus_none : (a b c : ℕ) → a ≡ b → c ≡ 0 → a ≡ b + c
 plus_none a b c e z = omega (arith, e, z)
 
@@ -81,7 +78,7 @@ bit_set : (w r : ℕ) → bit_at (bit_or w (2 ^ r)) r ≡ 1
 bit_set w r = bit_at_or w (2 ^ r) r ∙ ap (max (bit_at w r)) (bit_at-pow_same r) ∙ max_one (bit_at w r) (bit_at-lt w r)
 
 bit_stays : (w r i : ℕ) → i ≢ r → bit_at (bit_or w (2 ^ r)) i ≡ bit_at w i
-bit_stays w r i n = bit_at_or w (2 ^ r) i ∙ ap (max (bit_at w i)) (bit_at-pow_other r i n) ∙ max_zero (bit_at w i)
+bit_stays w r i n = bit_at_or w (2 ^ r) i ∙ ap (max (bit_at w i)) (bit_at-pow_other r i n) ∙ max-zero (bit_at w i)
 
 module _ (words : List ℕ) (n off w : ℕ) (len : length words ≡ n / 64 + 1) (inside : off < n) (is : w ≡ get_or words (off / 64) 0) where
   abbrev more : List ℕ

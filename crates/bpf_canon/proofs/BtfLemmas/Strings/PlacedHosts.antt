@@ -1,12 +1,12 @@
 -- Which hosts have places once some of the names have.
-use Rattle.std.proofs.Common.{◌≡◌, ◌≢◌, ℕ, ◌≤◌, Bool, true, false, not, ◌⊎◌, inl, inr, List, [], ◌∷◌, ◌++◌, length, refl, ap, ◌∙◌, arith, append_assoc}
+use Rattle.std.proofs.Common.{◌≡◌, ◌≢◌, ℕ, ◌≤◌, Bool, true, false, not, ◌⊎◌, inl, inr, List, [], ◌∷◌, ◌++◌, length, ap, ◌∙◌, arith, append_assoc}
 use Rattle.std.specs.List.{filter, list_any}
 use Rattle.std.proofs.lemmas.Bool.{cases_Bool, cond-true, cond-false}
 use Rattle.std.proofs.lemmas.List.{append-nil}
-use Rattle.std.proofs.lemmas.List.Elements.{filter-append}
+use Rattle.std.proofs.lemmas.List.Elements.{filter-append, Contains-append_left, Contains-push, Contains-push_cases}
 use Rattle.btf_types.specs.Names.{kept, table_of}
 use Rattle.btf_types.specs.strings.SharedNames.{is_proper_suffix}
-use Rattle.btf_types.proofs.Members.{Has, Has-filter, Has-from_filter}
+use Rattle.btf_types.proofs.Members.{Has, Has-from_Contains, Contains-from_Has, Has-filter, Has-from_filter}
 use Rattle.bpf_canon.proofs.BtfLemmas.Names.KeptSteps.{Has_cases, kept_empty, kept_known, kept_new, length-table_push}
 
 -- no other of the names properly ends with x
@@ -64,16 +64,10 @@ laid_fits xs ys (x ∷ more) =
 
 -- members of a list that got one more
 pub has_push : (xs : List (List ℕ)) (y x : List ℕ) → Has (xs ++ y ∷ []) x → Has xs x ⊎ (y ≡ x)
-has_push [] y x h = elim h [ inl e ↦ inr e | inr n ↦ absurd n ]
-has_push (z ∷ xs) y x h = elim h [
-  | inl e ↦ inl (inl e)
-  | inr i ↦ elim (has_push xs y x i) [ inl j ↦ inl (inr j) | inr e ↦ inr e ]
-]
+has_push xs y x h = elim (Contains-push_cases xs y x (Contains-from_Has (xs ++ y ∷ []) x h)) [ inl c ↦ inl (Has-from_Contains xs x c) | inr e ↦ inr e ]
 
 pub has_more : (xs : List (List ℕ)) (y x : List ℕ) → Has xs x → Has (xs ++ y ∷ []) x
-has_more [] y x h = absurd h
-has_more (z ∷ xs) y x h = elim h [ inl e ↦ inl e | inr i ↦ inr (has_more xs y x i) ]
+has_more xs y x h = Has-from_Contains (xs ++ y ∷ []) x (Contains-append_left xs (y ∷ []) x (Contains-from_Has xs x h))
 
 pub has_last : (xs : List (List ℕ)) (y : List ℕ) → Has (xs ++ y ∷ []) y
-has_last [] y = inl refl
-has_last (z ∷ xs) y = inr (has_last xs y)
+has_last xs y = Has-from_Contains (xs ++ y ∷ []) y (Contains-push xs y)

@@ -10,11 +10,8 @@ before_is zero (suc b ∷ xs) h z f = absurd (omega (arith, z))
 before_is (suc n) (zero ∷ xs) h z f = absurd (f 0 (omega arith) refl)
 before_is (suc n) (suc b ∷ xs) h z f = ap (λ (t : List ℕ). suc b ∷ t) (before_is n xs (omega (arith, h)) z (λ k l. f (suc k) (omega (arith, l))))
 
-drop_at : (n k : ℕ) (xs : List ℕ) → get_or (drop n xs) k 0 ≡ get_or xs (n + k) 0
-drop_at n k xs = get_or-drop n xs k 0
-
 pub text_is : (section : List ℕ) (start end : ℕ) → start ≤ end → end < length section → get_or section end 0 ≡ 0 → ((k : ℕ) → start ≤ k → k < end → get_or section k 0 ≢ 0) → take (end - start) (drop start section) ≡ text_from section start
 text_is section start end low high nul before = before_is (end - start) (drop start section)
     (let long = length-drop start section in omega (arith, long))
-    (drop_at start (end - start) section ∙ ap (λ (k : ℕ). get_or section k 0) (let e : start + (end - start) ≡ end = omega arith in e) ∙ nul)
-    (λ k h e. before (start + k) (omega arith) (omega (arith, h)) (sym (drop_at start k section) ∙ e))
+    (get_or-drop start section (end - start) 0 ∙ ap (λ (k : ℕ). get_or section k 0) (let e : start + (end - start) ≡ end = omega arith in e) ∙ nul)
+    (λ k h e. before (start + k) (omega arith) (omega (arith, h)) (sym (get_or-drop start section k 0) ∙ e))

@@ -26,6 +26,10 @@ pub record HasText (section : List ℕ) (old new : List Span) (text : Span) : Ty
   pub are_spans : All (IsSpan section) new
   pub bytes : flat_map (span_bytes section) new ≡ flat_map (span_bytes section) old ++ span_bytes section text
 
+-- the same in each section that has the old spans and the text
+abbrev pub AddsText : List Span → List Span → Span → Type 0
+AddsText old new text = (section : List ℕ) → All (IsSpan section) old → IsSpan section text → HasText section old new text
+
 -- Among the names xs, x has the text of this rank as its host, which doesn't end the next one.
 pub record IsAtHost (sorted xs : List (List ℕ)) (x : List ℕ) (h : InHost) : Type 0 where
   pub rank : ℕ

@@ -1,12 +1,12 @@
 -- The places of names in their hosts.
-use Rattle.std.specs.Prelude.{◌≡◌, ◌≢◌, ℕ, ◌+◌, ◌^◌, ◌<◌, false, List, length, map, slice_index, slice_index_or}
+use Rattle.std.specs.Prelude.{◌≡◌, ◌≢◌, ℕ, ◌+◌, ◌^◌, ◌<◌, false, List, length, slice_index, slice_index_or}
 use Rattle.btf_types.specs.Reading.{text_from}
 use Rattle.btf_types.specs.strings.SharedNames.{is_suffix, hosts_of, host_in}
 use Rattle.btf_types.specs.strings.CommonTails.{at_rank, AreInTailOrder}
 use Rattle.bpf_canon.specs.btf.strings.UsedOffsets.{Used, offset_number}
-use Rattle.bpf_canon.specs.btf.strings.SectionTexts.{text_in}
+use Rattle.bpf_canon.specs.btf.strings.SectionTexts.{texts_in}
 use Rattle.bpf_canon.specs.btf.strings.Ranks.{AreRanked}
-use Rattle.bpf_canon.specs.btf.strings.Longest.{IsWithin, AreLongestOf}
+use Rattle.bpf_canon.specs.btf.strings.Longest.{IsInText, AreLongestOf}
 use Rattle.bpf_canon.specs.declared.btf.strings.section_texts.SectionText.{SectionText}
 use Rattle.bpf_canon.specs.declared.btf.strings.hosts_by_rank.InHost.{InHost}
 use Rattle.bpf_canon.specs.declared.btf.strings.ranked_texts.RankedTexts.{RankedTexts}
@@ -34,8 +34,8 @@ host_at slots in_hosts off = slice_index_or in_hosts (offset_number slots off) n
 -- The used offsets within a text were given their hosts, and the others stayed as they were.
 pub record FindsWithin (section slots : List ℕ) (sorted : List (List ℕ)) (t : SectionText) (old new : List InHost) : Type 0 where
   pub whole : length new ≡ length old
-  pub here : (off : ℕ) → slice_index slots off ≢ 0 → IsWithin off t → IsInHost sorted (text_from section off) (host_at slots new off)
-  pub there : (off : ℕ) → slice_index slots off ≢ 0 → ¬ IsWithin off t → host_at slots new off ≡ host_at slots old off
+  pub here : (off : ℕ) → slice_index slots off ≢ 0 → IsInText off t → IsInHost sorted (text_from section off) (host_at slots new off)
+  pub there : (off : ℕ) → slice_index slots off ≢ 0 → ¬ IsInText off t → host_at slots new off ≡ host_at slots old off
 
 -- Each used offset has its host, but where its text is empty.
 pub record AreInHosts (section slots : List ℕ) (sorted : List (List ℕ)) (in_hosts : List InHost) : Type 0 where
@@ -47,18 +47,18 @@ pub record AreInHosts (section slots : List ℕ) (sorted : List (List ℕ)) (in_
 pub record HostsTo (section slots : List ℕ) (ts : List SectionText) (sorted : List (List ℕ)) (in_hosts : List InHost) (k : ℕ) : Type 0 where
   pub whole : length in_hosts ≡ offset_number slots (length slots)
   pub empty : (off : ℕ) → slice_index slots off ≢ 0 → slice_index section off ≡ 0 → host_at slots in_hosts off ≡ no_host
-  pub here : (j off : ℕ) → j < k → slice_index slots off ≢ 0 → IsWithin off (slice_index_or ts j no_text) → IsInHost sorted (text_from section off) (host_at slots in_hosts off)
+  pub here : (j off : ℕ) → j < k → slice_index slots off ≢ 0 → IsInText off (slice_index_or ts j no_text) → IsInHost sorted (text_from section off) (host_at slots in_hosts off)
 
 -- The longest used texts of a section, sorted, with their numbers.
 pub record AreRankedTexts (section slots : List ℕ) (ts : List SectionText) (common hosts : List ℕ) : Type 0 where
-  pub ranked : AreRanked (map (text_in section) ts) common hosts
+  pub ranked : AreRanked (texts_in section ts) common hosts
   pub longest : AreLongestOf section slots ts
   pub whole : length slots ≡ length section
   pub few : length section < 2 ^ 32
 
 -- The same in the words of the struct that has them: the texts by rank, and what is found for their first ranks.
 abbrev pub sorted_in : {A : Type 0} → RankedTexts A → List (List ℕ)
-sorted_in r = map (text_in r.section.now) r.texts.items
+sorted_in r = texts_in r.section.now r.texts.items
 
 abbrev pub IsRankedFor : {A : Type 0} → Used → RankedTexts A → Type 0
 IsRankedFor used r = AreRankedTexts r.section.now used.slots r.texts.items r.common.items r.hosts.items

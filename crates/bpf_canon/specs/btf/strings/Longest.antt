@@ -13,7 +13,7 @@ pub record IsUsed (section slots : List ℕ) (t : SectionText) : Type 0 where
   pub before : (k : ℕ) → t.start ≤ k → k < t.end → slice_index section k ≢ 0
 
 -- the offset is within the text
-pub record IsWithin (off : ℕ) (t : SectionText) : Type 0 where
+pub record IsInText (off : ℕ) (t : SectionText) : Type 0 where
   pub from : t.start ≤ off
   pub before : off < t.end
 
@@ -22,4 +22,4 @@ pub record AreLongestOf (section slots : List ℕ) (ts : List SectionText) : Typ
   pub few : length ts ≤ length section
   pub keys : All (HasKey section) ts
   pub used : All (IsUsed section slots) ts
-  pub each : (off : ℕ) → off < length section → slice_index slots off ≢ 0 → slice_index section off ≢ 0 → Any (IsWithin off) ts
+  pub each : (off : ℕ) → off < length section → slice_index slots off ≢ 0 → slice_index section off ≢ 0 → Any (IsInText off) ts

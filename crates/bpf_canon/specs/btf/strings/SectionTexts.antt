@@ -1,8 +1,9 @@
 -- Texts of a section with keys, and their order.
-use Rattle.std.specs.Prelude.{◌≡◌, ℕ, ◌-◌, min, List, length, take, drop}
+use Rattle.std.specs.Prelude.{◌≡◌, ℕ, ◌-◌, min, List, length, map, take, drop}
 use Rattle.std.specs.Ordering.{nat_cmp, on, then_cmp}
 use Rattle.std.specs.declared.cmp.Ordering.{Ordering}
 use Rattle.btf_types.specs.strings.SharedNames.{tail_cmp}
+use Rattle.btf_types.specs.strings.CommonTails.{common_tail}
 use Rattle.bpf_canon.specs.btf.strings.SuffixKeys.{suffix_key}
 use Rattle.bpf_canon.specs.declared.btf.strings.section_texts.SectionText.{SectionText}
 
@@ -15,6 +16,13 @@ start_in section t = min t.start (end_in section t)
 
 abbrev pub text_in : List ℕ → SectionText → List ℕ
 text_in section t = take (end_in section t - start_in section t) (drop (start_in section t) section)
+
+abbrev pub texts_in : List ℕ → List SectionText → List (List ℕ)
+texts_in section ts = map (text_in section) ts
+
+-- the length of the longest common suffix of two texts
+abbrev pub common_in : List ℕ → SectionText → SectionText → ℕ
+common_in section a b = common_tail (text_in section a) (text_in section b)
 
 -- a text without its last eight bytes
 abbrev pub text_before : List ℕ → List ℕ

@@ -27,6 +27,7 @@ impl<A: Allocator> Model for FirstUses<A> {
 }
 
 /// Whether an offset has its bit in these words.
+#[inline(always)]
 pub(crate) fn is_marked(marks: &[u64], off: usize) -> bool
     requires { off / 64 < length marks.now }
     ensures yes { result ≡ true → spec.mark_of marks.now off ≢ 0 }

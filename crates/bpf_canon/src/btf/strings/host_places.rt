@@ -1,6 +1,5 @@
 //! The places of hosts in the string table, in the order of first use.
-ghost use Rattle.std.specs.Prelude.{◌≡◌, ◌<◌, ◌^◌, ℕ, List, length, IfOk, OnOk};
-ghost use Rattle.std.specs.List.{All};
+ghost use Rattle.std.specs.Prelude.{◌≡◌, ◌<◌, ◌^◌, length, IfOk, OnOk};
 ghost use Rattle.std.specs.List.Sorted.{IsSorted};
 ghost use Rattle.btf_raw.specs.Header.{HasNulEnds};
 ghost use Rattle.btf_types.specs.strings.SharedNames.{tail_cmp, shared_table};
@@ -34,8 +33,7 @@ pub(crate) struct HostPlaces<A: Allocator> {
 
 /// Appends a text of the section. If it follows the last text there, both are one span.
 fn push_text<A: Allocator>(spans: &mut Vec<Span, A>, text: Span) -> Result<(), AllocError>
-    ensures { OnOk result ((section : List ℕ) → All (spec.IsSpan section) spans.old.items
-        → spec.IsSpan section text → spec.HasText section spans.old.items spans.new.items text) }
+    ensures { OnOk result (spec.AddsText spans.old.items spans.new.items text) }
 {
     if let Some(last) = spans.last_mut() {
         if last.end < text.start && text.start - last.end == 1 {

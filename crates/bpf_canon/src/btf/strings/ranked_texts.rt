@@ -1,9 +1,9 @@
 //! The longest used texts of a section, sorted by their bytes from the end.
-ghost use Rattle.std.specs.Prelude.{◌≡◌, ◌<◌, ◌^◌, length, map, IfOk};
+ghost use Rattle.std.specs.Prelude.{◌≡◌, ◌<◌, ◌^◌, length, IfOk};
 ghost use Rattle.std.specs.List.{All};
 ghost use Rattle.std.specs.List.Sorted.{IsPermutation};
 ghost use Rattle.bpf_canon.specs.btf.strings.Ranks.{AreRanked};
-ghost use Rattle.bpf_canon.specs.btf.strings.SectionTexts.{text_in, HasKey};
+ghost use Rattle.bpf_canon.specs.btf.strings.SectionTexts.{texts_in, HasKey};
 
 use crate::btf::strings::ranks::{common_suffixes, next_hosts};
 use crate::btf::strings::section_texts::{SectionText, sort_texts};
@@ -33,7 +33,7 @@ impl<'a, A: Allocator + Copy> RankedTexts<'a, A> {
         ensures section { IfOk result (λ r. r.section.now ≡ section.entry.now) }
         ensures permutation { IfOk result (λ r. IsPermutation texts.items r.texts.items) }
         ensures ranked { IfOk result (λ r.
-            AreRanked (map (text_in r.section.now) r.texts.items) r.common.items r.hosts.items) }
+            AreRanked (texts_in r.section.now r.texts.items) r.common.items r.hosts.items) }
     {
         let mut texts = texts;
         sort_texts(section, &mut texts);

@@ -1,11 +1,10 @@
 //! Ranks of sorted texts.
-ghost use Rattle.std.specs.Prelude.{◌≡◌, ◌≢◌, ◌-◌, ◌<◌, ◌≤◌, ◌^◌, ℕ, IfOk, length, map};
-ghost use Rattle.std.specs.Prelude.{slice_index};
-ghost use Rattle.std.specs.Int.{w64, to_le_bytes};
+ghost use Rattle.std.specs.Prelude.{◌≡◌, ◌<◌, ◌≤◌, ◌^◌, ℕ, IfOk, length, slice_index};
 ghost use Rattle.std.specs.List.{All};
 ghost use Rattle.btf_types.specs.strings.CommonTails as spec;
 ghost use Rattle.bpf_canon.specs.btf.strings.Ranks.{AreCommon, AreNextHosts, AreLower};
-ghost use Rattle.bpf_canon.specs.btf.strings.SectionTexts.{text_in, HasKey};
+ghost use Rattle.bpf_canon.specs.btf.strings.SectionTexts.{text_in, texts_in, common_in, HasKey};
+ghost use Rattle.bpf_canon.specs.btf.strings.SuffixKeys.{HaveSameByte};
 
 use crate::btf::strings::section_texts::{SectionText, text_of};
 use std::alloc::{AllocError, Allocator};
@@ -27,11 +26,8 @@ pub(crate) fn common_suffix(a: &[u8], b: &[u8]) -> usize
 /// The length of the common suffix of the eight bytes that two keys spell.
 fn common_bytes(a: u64, b: u64) -> usize
     ensures few { result ≤ 8 }
-    ensures same { (j : ℕ) → j < result
-        → slice_index (to_le_bytes w64 a) (7 - j) ≡ slice_index (to_le_bytes w64 b) (7 - j) }
-    ensures differ { result < 8
-        → slice_index (to_le_bytes w64 a) (7 - result) ≢ slice_index (to_le_bytes w64 b)
-        (7 - result) }
+    ensures same { (j : ℕ) → j < result → HaveSameByte a b j }
+    ensures differ { result < 8 → ¬ HaveSameByte a b result }
 {
     (a ^ b).leading_zeros() as usize / 8
 }
@@ -41,8 +37,7 @@ fn common_bytes(a: u64, b: u64) -> usize
 fn common_of(section: &[u8], a: &SectionText, b: &SectionText) -> usize
     requires first { HasKey section.now a.now }
     requires second { HasKey section.now b.now }
-    ensures common { result
-        ≡ spec.common_tail (text_in section.now a.now) (text_in section.now b.now) }
+    ensures common { result ≡ common_in section.now a.now b.now }
     ensures inside { result ≤ length (text_in section.now a.now) }
 {
     let (first, second) = (text_of(section, a), text_of(section, b));
@@ -69,8 +64,7 @@ pub(crate) fn common_suffixes<A: Allocator>(
 ) -> Result<Vec<u32, A>, AllocError>
     requires section { length section.now < 2 ^ 32 }
     requires keys { All (HasKey section.now) sorted.now }
-    ensures { IfOk result (λ common.
-        AreCommon (map (text_in section.now) sorted.now) common.items) }
+    ensures { IfOk result (λ common. AreCommon (texts_in section.now sorted.now) common.items) }
 {
     let mut common = Vec::with_capacity(alloc, sorted.len())?;
     for k in 0..sorted.len() {
@@ -91,10 +85,9 @@ pub(crate) fn next_hosts<A: Allocator>(
     sorted: &[SectionText],
     common: &[u32],
 ) -> Result<Vec<u32, A>, AllocError>
-    requires common { AreCommon (map (text_in section.now) sorted.now) common.now }
+    requires common { AreCommon (texts_in section.now sorted.now) common.now }
     requires few { length sorted.now < 2 ^ 32 }
-    ensures { IfOk result (λ hosts.
-        AreNextHosts (map (text_in section.now) sorted.now) hosts.items) }
+    ensures { IfOk result (λ hosts. AreNextHosts (texts_in section.now sorted.now) hosts.items) }
 {
     let mut hosts = vec![in alloc; 0; sorted.len()]?;
     for k in (0..sorted.len()).rev() {

@@ -1,5 +1,6 @@
 //! Texts of a section, and their order by bytes from the end.
-ghost use Rattle.std.specs.Prelude.{◌≡◌, ◌+◌, ◌*◌, ◌^◌, ◌<◌, ◌≤◌, ◌-◌, map};
+ghost use Rattle.std.specs.Prelude.{◌≡◌, ◌+◌, ◌*◌, ◌^◌, ◌<◌, ◌≤◌, ◌-◌};
+ghost use Rattle.std.specs.Ordering.{on};
 ghost use Rattle.std.specs.List.{All};
 ghost use Rattle.std.specs.List.Sorted.{IsPermutation, IsSorted};
 ghost use Rattle.btf_types.specs.strings.SharedNames.{tail_cmp};
@@ -49,8 +50,7 @@ pub(crate) fn text_of<'a>(section: &'a [u8], text: &SectionText) -> &'a [u8]
 /// Compares the bytes. This is a function of its own, so that the comparison of keys is inlined.
 #[inline(never)]
 fn compare_texts(section: &[u8], a: &SectionText, b: &SectionText) -> Ordering
-    ensures { result ≡ tail_cmp (texts.text_in section.now a.now)
-        (texts.text_in section.now b.now) }
+    ensures { result ≡ on (texts.text_in section.now) tail_cmp a.now b.now }
 {
     compare_from_end(text_of(section, a), text_of(section, b))
 }
@@ -70,7 +70,7 @@ fn compare(section: &[u8], a: &SectionText, b: &SectionText) -> Ordering
 pub(crate) fn sort_texts<A: Allocator>(section: &[u8], list: &mut Vec<SectionText, A>)
     requires { All (texts.HasKey section.now) list.old.items }
     ensures permutation { IsPermutation list.old.items list.new.items }
-    ensures sorted { IsSorted tail_cmp (map (texts.text_in section.now) list.new.items) }
+    ensures sorted { IsSorted tail_cmp (texts.texts_in section.now list.new.items) }
 {
     list.sort_unstable_by(|a, b| compare(section, a, b));
 }
