@@ -64,7 +64,7 @@ fn read(order: Order, bytes: &[u8], pos: usize, like: Word) -> Option<Word> {
 }
 
 #[test]
-fn words_in_both_orders(rt: HostRuntime) -> Result<(), Fail> {
+fn words_are_read_and_written_in_both_orders(rt: HostRuntime) -> Result<(), Fail> {
     for row in WORDS {
         let mut out = HELD.to_vec(rt.alloc())?;
         push(&mut out, row.order, row.word)?;
@@ -77,7 +77,7 @@ fn words_in_both_orders(rt: HostRuntime) -> Result<(), Fail> {
 }
 
 #[test]
-fn words_after_a_byte(rt: HostRuntime) -> Result<(), Fail> {
+fn words_are_read_and_written_after_other_bytes(rt: HostRuntime) -> Result<(), Fail> {
     let mut out = [1].to_vec(rt.alloc())?;
     push16(&mut out, Order::Big, 0x0203)?;
     push32(&mut out, Order::Little, 0x0405_0607)?;
@@ -110,7 +110,7 @@ const SLOTS: [SlotRow; 6] = [
 ];
 
 #[test]
-fn slots_in_both_orders(rt: HostRuntime) {
+fn slots_are_read_and_written_in_both_orders(rt: HostRuntime) {
     for row in &SLOTS {
         for (order, bytes) in [(Order::Little, row.little), (Order::Big, row.big)] {
             let found = (slot_of(order, &bytes), slot_bytes(order, row.slot));

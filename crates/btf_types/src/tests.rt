@@ -59,7 +59,7 @@ fn digit(byte: u8) -> Option<u32> {
     }
 }
 
-/// The bytes of little-endian words of 32 bits, each written as eight hexadecimal digits.
+/// The bytes of little-endian 32-bit words, each written as eight hexadecimal digits.
 fn words(alloc: Global, text: &str) -> Result<Vec<u8>, AllocError> {
     let mut bytes = Vec::new(alloc);
     let mut word = 0_u32;

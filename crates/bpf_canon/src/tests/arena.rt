@@ -1,6 +1,6 @@
 //! Arenas of one chunk with a given number of free bytes, and what calls over them returned.
 //!
-//! A test gives a call 0 bytes, 1 byte, and so on. So each growth that takes more than the ones before it fails once.
+//! A test gives a call 0 bytes, 1 byte, and so on. Each growth that needs more than the ones before it therefore fails once.
 use bumpalo::Bump;
 use std::alloc::Global;
 use std::process::Abort;
@@ -9,10 +9,10 @@ use std::test::Fail;
 /// How many bytes an arena has at least, before any are given away.
 pub(crate) const ROOM: usize = 16_384;
 
-/// A test ends after this number of calls with enough room, and one more with all of the arena.
+/// A test ends after this number of calls with enough memory, and one more with all of the arena.
 const ENOUGH: usize = 16;
 
-/// Takes all of the arena but `room` bytes. It gets no other chunk.
+/// Allocates all of the arena except `room` bytes. It gets no other chunk.
 pub(crate) fn leave(rt: &impl Abort, bump: &Bump<Global>, room: usize) {
     let taken = [0u8; 2 * ROOM];
     let bytes = bump.chunk_capacity().saturating_sub(room);
@@ -22,12 +22,12 @@ pub(crate) fn leave(rt: &impl Abort, bump: &Bump<Global>, room: usize) {
     bump.set_allocation_limit(Some(bump.allocated_bytes()));
 }
 
-/// What a call answered with ever more room.
+/// What a call returned with ever more memory.
 #[derive(Drop)]
 pub(crate) struct Tally {
     /// How many rooms were too small, from 0 bytes on.
     pub(crate) refused: usize,
-    /// The number of places of the call at which growths failed, as far as the call distinguishes them.
+    /// The number of points of the call at which growths failed, as far as the call distinguishes them.
     pub(crate) places: usize,
     /// How many rooms were enough.
     pub(crate) done: usize,
@@ -44,7 +44,7 @@ impl Tally {
         }
     }
 
-    /// Makes a call with ever more room. The call returns the place where it ran out of memory.
+    /// Makes a call with ever more memory. The call returns the point at which it ran out of memory.
     pub(crate) fn of<Call: FnMut(&Bump<Global>) -> Option<usize>>(
         rt: &impl Abort,
         alloc: Global,
@@ -68,12 +68,12 @@ impl Tally {
         Err("no room is enough")?
     }
 
-    /// Counts a call that had enough room. Each later one has, too.
+    /// Counts a call that had enough memory. Each later one has, too.
     pub(crate) fn succeed(&mut self) {
         self.done = self.done.saturating_add(1);
     }
 
-    /// Counts a call that ran out of memory at a place. With more room it gets at least as far.
+    /// Counts a call that ran out of memory at a point. With more memory it gets at least as far.
     pub(crate) fn refuse(&mut self, rt: &impl Abort, place: usize) {
         assert!(rt; self.done == 0, "a call with more room runs out of memory");
         assert!(rt;

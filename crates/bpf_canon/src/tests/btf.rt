@@ -18,7 +18,7 @@ use std::alloc::Global;
 use std::process::Abort;
 use std::test::Fail;
 
-/// The canonical bytes of a file in an order, written from a table that keeps its names, one that lends them and one of a user, and
+/// The canonical bytes of a file in a byte order, written from an owned table, a borrowed one and one of a user, and
 /// by `canonical_in`. They agree.
 pub(crate) fn written(
     rt: &impl Abort,
@@ -103,7 +103,7 @@ static COMPARISONS: [Comparison; 10] = [
 ];
 
 #[test]
-fn btf_files_are_the_same_where_their_types_are(rt: HostRuntime) {
+fn btf_files_are_the_same_if_their_types_are(rt: HostRuntime) {
     for row in &COMPARISONS {
         let same = same_btf(rt.alloc(), row.first, row.second);
         equal(&rt, &same, &row.answer, &(row.first, row.second));

@@ -1,4 +1,4 @@
-//! The engine on BTF over devices that give and take pieces, are about as long as the limit, and fail.
+//! The engine on BTF over devices that move pieces, are about as long as the limit, and fail.
 ghost use Rattle.std.specs.Prelude.{None, ℕ, List};
 
 use super::btf_files::{BIG_INT, BTF_FILES, BtfFile, FAULTY, INT};
@@ -58,7 +58,7 @@ fn runs_btf_files_in_pieces(rt: HostRuntime) {
     }
 }
 
-/// A run, how it ends, and what the sink has taken by then.
+/// A run, how it ends, and what the sink has received by then.
 struct RunRow {
     name: &'static str,
     to: Order,
@@ -106,7 +106,7 @@ fn run_fused(rt: &impl Abort, alloc: Global, fuses: (Option<u64>, Option<u64>), 
 }
 
 #[test]
-fn each_read_and_each_write_of_btf_may_fail(rt: HostRuntime) {
+fn each_failed_read_or_write_stops_the_engine_on_btf(rt: HostRuntime) {
     // Nine pieces and the end are read, and each byte is written.
     for fuse in 1..=10u64 {
         let wanted = stopped(RunCause::ReadFailed, 0);
@@ -140,7 +140,7 @@ impl ByteSource for Zeros {
 }
 
 #[test]
-fn inputs_about_as_long_as_a_btf_file_can_be(rt: HostRuntime) {
+fn inputs_longer_than_any_btf_are_too_long(rt: HostRuntime) {
     for (left, cause) in [
         (Some(50_335_744), RunCause::Fault(MAGIC)),
         (Some(50_335_745), RunCause::TooLong),

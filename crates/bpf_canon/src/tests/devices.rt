@@ -70,7 +70,7 @@ static READINGS: [Reading; 9] = [
 ];
 
 #[test]
-fn reads_whole_inputs_within_the_limit(rt: HostRuntime) {
+fn inputs_within_the_limit_are_read_to_their_end(rt: HostRuntime) {
     for row in &READINGS {
         assert!(rt; row.piece > 0);
         let mut source = MemSource::new(row.bytes, row.piece, row.fuse);
@@ -86,7 +86,7 @@ fn reads_whole_inputs_within_the_limit(rt: HostRuntime) {
 }
 
 #[test]
-fn a_source_gives_pieces_until_its_fuse(rt: HostRuntime) {
+fn a_source_returns_pieces_until_its_fuse(rt: HostRuntime) {
     let mut source = MemSource::new(b"abcdefgh", 3, Some(3));
     let mut buffer = [0u8; 2];
     equal(&rt, &source.read(&mut buffer), &Ok(2), &"a short buffer");
@@ -99,7 +99,7 @@ fn a_source_gives_pieces_until_its_fuse(rt: HostRuntime) {
     equal(&rt, &source.read(&mut buffer), &failed, &"after the fuse");
 }
 
-/// The piece and the fuse of a sink, how the writing of three bytes ends, and what the sink took.
+/// The piece and the fuse of a sink, how writing three bytes ends, and what the sink received.
 struct Writing {
     piece: usize,
     fuse: Option<u64>,
@@ -117,7 +117,7 @@ static WRITINGS: [Writing; 5] = [
 ];
 
 #[test]
-fn a_sink_takes_a_prefix_until_its_fuse(rt: HostRuntime) {
+fn a_sink_accepts_a_prefix_until_its_fuse(rt: HostRuntime) {
     for row in &WRITINGS {
         assert!(rt; row.piece > 0);
         let mut out = Vec::new(rt.alloc());

@@ -80,7 +80,7 @@ fn check_stream(rt: &impl Abort, alloc: Global, stream: &Stream) {
 }
 
 #[test]
-fn whole_instructions_come_at_once_and_faults_stay(rt: HostRuntime) {
+fn complete_instructions_are_written_at_once_and_faults_stay(rt: HostRuntime) {
     for stream in &STREAMS {
         check_stream(&rt, rt.alloc(), stream);
     }
@@ -104,7 +104,7 @@ fn cut_in_two(rt: &impl Abort, alloc: Global, file: &InsnFile, at: usize) {
 }
 
 #[test]
-fn any_cutting_in_two_gives_the_same(rt: HostRuntime) {
+fn any_cut_in_two_gives_the_same_output(rt: HostRuntime) {
     for file in &INSN_FILES {
         for at in 0..file.bytes.len() {
             cut_in_two(&rt, rt.alloc(), file, at);

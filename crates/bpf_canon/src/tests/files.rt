@@ -1,4 +1,4 @@
-//! Canonical bytes and comparison of whole instruction files.
+//! Canonical bytes and comparison of instruction files.
 use super::expect::{equal, equal_bytes, holds};
 use super::samples::{EXIT, INSN_FILES, InsnFile};
 use crate::{SideError, canon_insns, recode_insns, same_insns, write_insns};
@@ -103,7 +103,7 @@ static COMPARISONS: [Comparison; 8] = [
 ];
 
 #[test]
-fn files_are_the_same_where_their_instructions_are(rt: HostRuntime) {
+fn files_are_the_same_if_their_instructions_are(rt: HostRuntime) {
     for row in &COMPARISONS {
         let same = same_insns(rt.alloc(), row.order, row.first, Order::Little, row.second);
         equal(&rt, &same, &row.answer, &(row.first, row.second));

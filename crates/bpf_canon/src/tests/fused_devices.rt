@@ -5,7 +5,7 @@ use btf_raw::BtfFault;
 use std::alloc::Global;
 use std::process::Abort;
 
-/// A source that gives some bytes, and a sink that keeps all, each in pieces. The call of either that its fuse
+/// A source over bytes, and a sink that stores all, each in pieces. The call of either that its fuse
 /// counts, from 1, fails.
 #[derive(Clone, Copy)]
 pub(crate) struct FusedDevices<'a> {
@@ -16,7 +16,7 @@ pub(crate) struct FusedDevices<'a> {
     pub(crate) write_fuse: Option<u64>,
 }
 
-/// How a run ended, and what its sink took.
+/// How a run ended, and what its sink received.
 #[derive(Drop)]
 pub(crate) struct Run<F: Drop> {
     pub(crate) ended: Result<u64, RunError<F>>,
@@ -63,7 +63,7 @@ impl<'a> FusedDevices<'a> {
 }
 
 impl<F: Drop> Run<F> {
-    /// The sink took the number of bytes that the engine counted, and they begin these.
+    /// The sink received the number of bytes that the engine counted, and they are a prefix of these.
     pub(crate) fn took_front_of(&self, rt: &impl Abort, bytes: &[u8]) {
         let written = match &self.ended {
             Ok(written) => *written,

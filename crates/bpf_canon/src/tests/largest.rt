@@ -34,7 +34,7 @@ const LAST_DST: SlotFault = SlotFault {
 };
 
 #[test]
-fn instructions_are_brought_to_canonical_bytes(rt: HostRuntime) -> Result<(), Fail> {
+fn instructions_are_canonicalised(rt: HostRuntime) -> Result<(), Fail> {
     let big = moves(rt.alloc(), BIG_MOVE)?;
     let mut little = moves(rt.alloc(), LITTLE_MOVE)?;
     equal(&rt, &(big.len() as u64), &INSN_LIMIT, &"the length");
@@ -81,7 +81,7 @@ fn instructions_are_written(rt: HostRuntime) -> Result<(), Fail> {
 }
 
 #[test]
-fn instructions_are_run_and_read(rt: HostRuntime) -> Result<(), Fail> {
+fn the_largest_file_is_run_and_read(rt: HostRuntime) -> Result<(), Fail> {
     let big = moves(rt.alloc(), BIG_MOVE)?;
     let mut source = MemSource::new(&big, 10_000, None);
     let mut out = Vec::new(rt.alloc());
@@ -112,7 +112,7 @@ fn records(alloc: Global) -> Result<Vec<u8>, AllocError> {
     Ok(records)
 }
 
-/// The longest file: a header of 4,096 bytes, these records and their strings.
+/// The longest file: a 4,096-byte header, these records and their strings.
 fn longest_file(alloc: Global) -> Result<Vec<u8>, AllocError> {
     let mut file = Vec::with_capacity(alloc, 50_335_744)?;
     file.extend_from_slice(b"\x9f\xeb\x01\0\0\x10\0\0\0\0\0\0\0\0\0\x02\0\0\0\x02\0\0\0\x01")?;
@@ -124,7 +124,7 @@ fn longest_file(alloc: Global) -> Result<Vec<u8>, AllocError> {
     Ok(file)
 }
 
-/// Whether these are the bytes of the longest file but for a header of 24 bytes.
+/// Whether these are the bytes of the longest file with a 24-byte header.
 fn is_canonical(rt: &impl Abort, canon: &[u8], file: &[u8]) {
     equal(rt, &canon.len(), &50_331_672, &"the length");
     let header = b"\x9f\xeb\x01\0\x18\0\0\0\0\0\0\0\0\0\0\x02\0\0\0\x02\0\0\0\x01";
@@ -133,7 +133,7 @@ fn is_canonical(rt: &impl Abort, canon: &[u8], file: &[u8]) {
 }
 
 #[test]
-fn types_are_brought_to_canonical_bytes(rt: HostRuntime) -> Result<(), Fail> {
+fn types_are_canonicalised(rt: HostRuntime) -> Result<(), Fail> {
     let file = longest_file(rt.alloc())?;
     equal(&rt, &(file.len() as u64), &BTF_LIMIT, &"the length");
     let canon = canon_btf(rt.alloc(), &file)?;
@@ -166,7 +166,7 @@ fn types_are_written(rt: HostRuntime) -> Result<(), Fail> {
 }
 
 #[test]
-fn types_are_run(rt: HostRuntime) -> Result<(), Fail> {
+fn run_btf_accepts_the_largest_file(rt: HostRuntime) -> Result<(), Fail> {
     let file = longest_file(rt.alloc())?;
     let mut source = MemSource::new(&file, 10_000, None);
     let mut out = Vec::new(rt.alloc());

@@ -56,7 +56,7 @@ impl ByteSink for Counter {
 }
 
 #[test]
-fn inputs_about_as_long_as_the_limit(rt: HostRuntime) {
+fn inputs_over_the_limit_are_too_long(rt: HostRuntime) {
     let most = INSN_LIMIT / 8;
     let too_long = |written| {
         Err(RunError {

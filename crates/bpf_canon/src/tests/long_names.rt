@@ -37,7 +37,7 @@ struct Chain {
 static CHAINS: [Chain; 4] = [
     Chain { count: 5791, letters: 5791, len: 75_309 },
     Chain { count: 5792, letters: 5792, len: 75_322 },
-    // the longest name that there is, alone and with the longest suffix of it
+    // the longest possible name, by itself and with its longest suffix
     Chain { count: 1, letters: 16_777_214, len: 16_777_252 },
     Chain { count: 2, letters: 16_777_214, len: 16_777_264 },
 ];

@@ -114,9 +114,9 @@ fn canon_insns_of_a_faulty_file_runs_out_of_memory(rt: HostRuntime) -> Result<()
     Ok(())
 }
 
-/// Files are compared where they are, so an arena without room is enough.
+/// Files are compared in place, so an empty arena is enough.
 #[test]
-fn same_insns_takes_no_memory(rt: HostRuntime) -> Result<(), Fail> {
+fn same_insns_allocates_nothing(rt: HostRuntime) -> Result<(), Fail> {
     let bump = Bump::try_with_capacity(rt.alloc(), ROOM)?;
     leave(&rt, &bump, 0);
     let order = Order::Little;
@@ -131,7 +131,7 @@ fn same_insns_takes_no_memory(rt: HostRuntime) -> Result<(), Fail> {
     Ok(())
 }
 
-/// Feeds exits in pieces of 14 bytes. It returns the number of bytes that came before a growth failed.
+/// Feeds exits in pieces of 14 bytes. It returns the number of bytes that were fed before a growth failed.
 fn feed_pieces<A: Allocator>(rt: &impl Abort, out: &mut Vec<u8, A>) -> usize {
     let mut feed = InsnFeed::new(Order::Little, Order::Little);
     let mut at = 0;
@@ -141,7 +141,7 @@ fn feed_pieces<A: Allocator>(rt: &impl Abort, out: &mut Vec<u8, A>) -> usize {
         match feed.feed(piece, out) {
             Ok(()) => at += piece.len(),
             Err(InsnError::Memory) => {
-                // Nothing has changed, and an empty piece takes no memory.
+                // Nothing has changed, and an empty piece needs no memory.
                 equal(
                     rt,
                     &(out.len(), feed.held()),
@@ -171,7 +171,7 @@ fn a_feed_runs_out_of_memory(rt: HostRuntime) -> Result<(), Fail> {
     Ok(())
 }
 
-/// An engine that has no room for a piece has written the instructions before it.
+/// An engine without memory for a piece has written the instructions before it.
 #[test]
 fn run_insns_runs_out_of_memory(rt: HostRuntime) -> Result<(), Fail> {
     let faulty = RunError {

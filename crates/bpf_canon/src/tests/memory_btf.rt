@@ -95,7 +95,7 @@ fn refused_comparing(
     Ok(tally.refused)
 }
 
-/// The fault of a header takes no memory. So a room that is too small only for two good files runs out while the second is read.
+/// A faulty header needs no memory, so an arena that is too small only for two good files is exhausted by the second.
 #[test]
 fn same_btf_runs_out_of_memory(rt: HostRuntime) -> Result<(), Fail> {
     let short = BtfFault {

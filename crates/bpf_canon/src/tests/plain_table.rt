@@ -9,7 +9,7 @@ pub(crate) fn text_at(strings: &[u8], off: usize) -> &[u8] {
     rest.split(|byte| *byte == 0).next().unwrap_or(&[])
 }
 
-/// The string table of some names, and where each begins in it.
+/// The string table of names, and the offset of each in it.
 #[derive(Drop)]
 pub(crate) struct PlainTable<'a> {
     hosts: Vec<&'a [u8], Global>,
@@ -67,7 +67,7 @@ pub(crate) fn length_of(len: usize) -> u32 {
     u32::try_from(len).unwrap_or(u32::MAX)
 }
 
-/// Whether a text comes before another by its bytes from the end, or there is no other.
+/// Whether a name sorts before another by its bytes from the end, or is the only one.
 fn is_less(text: &[u8], other: Option<(u32, &[u8])>) -> bool {
     match other {
         Some((_, other)) => text.iter().rev().cmp(other.iter().rev()) == Ordering::Less,

@@ -1,4 +1,4 @@
-//! The engine on instructions over devices that give and take pieces, and fail.
+//! The engine on instructions over devices that move pieces, and fail.
 use super::expect::{equal, equal_bytes};
 use super::fused_devices::FusedDevices;
 use super::samples::{EXIT, FAULT_OF_FAULTY, FAULTY, INSN_FILES, InsnFile};
@@ -49,7 +49,7 @@ const TWO_EXITS: &[u8] = b"\x95\0\0\0\0\0\0\0\x95\0\0\0\0\0\0\0";
 /// The first slot of a wide load.
 const HALF: &[u8] = b"\x18\x01\0\0\x88\x77\x66\x55";
 
-/// A run from little-endian order, how it ends, and what the sink has taken by then.
+/// A run from little-endian byte order, how it ends, and what the sink has received by then.
 struct RunRow {
     name: &'static str,
     to: Order,
@@ -121,7 +121,7 @@ fn run_fused(
 }
 
 #[test]
-fn each_read_and_each_write_may_fail(rt: HostRuntime) {
+fn each_failed_read_or_write_stops_the_engine(rt: HostRuntime) {
     for row in &CALLS {
         let len = row.bytes.len() as u64;
         for fuse in 1..=row.reads {

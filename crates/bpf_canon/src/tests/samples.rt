@@ -4,7 +4,7 @@ use super::compiled_programs::{
 };
 use bpf_insn::{Order, SlotCause, SlotFault};
 
-/// An instruction file, the canonical bytes of the instructions before its fault, and the place and cause of the fault if
+/// An instruction file, the canonical bytes of the instructions before its fault, and the offset and cause of the fault if
 /// it has one.
 pub(crate) struct InsnFile {
     pub(crate) order: Order,

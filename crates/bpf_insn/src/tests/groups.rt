@@ -116,7 +116,7 @@ fn groups_of_list(
 }
 
 #[test]
-fn groups_of_files_in_both_orders(rt: HostRuntime) -> Result<(), Fail> {
+fn groups_of_files_are_found_in_both_orders(rt: HostRuntime) -> Result<(), Fail> {
     for row in FILES {
         for order in [Order::Little, Order::Big] {
             let bytes = file_of(rt.alloc(), order, row)?;
@@ -135,7 +135,7 @@ static LARGE: [FileRow; 2] = [
 ];
 
 #[test]
-fn groups_of_large_files(rt: HostRuntime) -> Result<(), Fail> {
+fn groups_of_large_files_are_found(rt: HostRuntime) -> Result<(), Fail> {
     for row in &LARGE {
         let last = file_of(rt.alloc(), Order::Little, row)?;
         let bytes = large(rt.alloc(), &last)?;

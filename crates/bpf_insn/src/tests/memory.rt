@@ -6,7 +6,7 @@ use bumpalo::Bump;
 use std::alloc::{AllocError, Global};
 use std::test::Fail;
 
-/// Nine jumps, and an instruction whose src field is at fault. A list of instructions grows for its first, its fifth
+/// Nine jumps, and an instruction with a faulty src field. A list of instructions grows for its first, its fifth
 /// and its ninth.
 const FILE: &[u8; 80] = b"\
     \x05\0\x01\0\0\0\0\0\x05\0\x02\0\0\0\0\0\x05\0\x03\0\0\0\0\0\
@@ -29,7 +29,7 @@ const JUMPS: [Insn; 9] = [
 /// The size of an arena in bytes.
 const ROOM: usize = 1984;
 
-/// An arena with `room` bytes left, which can't grow.
+/// An arena with `room` free bytes, which can't grow.
 fn arena(alloc: Global, room: usize) -> Result<Bump<Global>, AllocError> {
     let taken = [0u8; ROOM];
     let bump = Bump::try_with_capacity(alloc, ROOM)?;
@@ -38,12 +38,12 @@ fn arena(alloc: Global, room: usize) -> Result<Bump<Global>, AllocError> {
     Ok(bump)
 }
 
-/// What the first bytes of the file return in a room.
+/// The result for the first bytes of the file in an arena.
 #[derive(Clone, Copy, Debug, PartialEq, Eq)]
 enum Decoded {
     /// All of its instructions.
     Whole,
-    /// Its fault, with the right place and cause.
+    /// Its fault, with the right offset and cause.
     Faulty,
     /// Out of memory.
     Refused,
@@ -64,7 +64,7 @@ fn outcome(bump: &Bump<Global>, bytes: &[u8]) -> Decoded {
     }
 }
 
-/// The smallest room that the first bytes of the file need. In each smaller one they run out of memory.
+/// The smallest arena that the first bytes of the file need. In each smaller one they run out of memory.
 fn least_room(alloc: Global, bytes: &[u8], end: Decoded) -> Result<Option<usize>, AllocError> {
     let mut least = None;
     for room in 0..=ROOM {
@@ -79,7 +79,7 @@ fn least_room(alloc: Global, bytes: &[u8], end: Decoded) -> Result<Option<usize>
     Ok(least)
 }
 
-/// A file, and whether it needs more room than the one before it.
+/// A file, and whether it needs more memory than the one before it.
 #[derive(Clone, Copy, Debug)]
 struct RoomRow {
     insns: usize,

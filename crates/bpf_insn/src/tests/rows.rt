@@ -17,7 +17,7 @@ struct InsnRow {
     group: Group,
 }
 
-/// Faulty bytes, and the place and the cause of their first fault.
+/// Faulty bytes, and the offset and the cause of their first fault.
 #[derive(Clone, Copy, Debug)]
 struct FaultRow {
     what: &'static str,
@@ -68,7 +68,7 @@ fn is_right(alloc: Global, order: Order, row: &InsnRow) -> Result<bool, Fail> {
 }
 
 #[test]
-fn instructions_in_both_orders(rt: HostRuntime) -> Result<(), Fail> {
+fn instructions_are_read_and_written_in_both_orders(rt: HostRuntime) -> Result<(), Fail> {
     let rows = arithmetic::ARITHMETIC
         .iter()
         .chain(jumps::JUMPS)
@@ -102,7 +102,7 @@ static ORDERS: [OrderRow; 7] = [
 ];
 
 #[test]
-fn files_of_one_instruction_in_both_orders(rt: HostRuntime) -> Result<(), Fail> {
+fn files_of_one_instruction_are_decoded_in_both_orders(rt: HostRuntime) -> Result<(), Fail> {
     for row in &ORDERS {
         let shown = format!(in rt.alloc(); "[{}]", row.insn)?;
         for (order, bytes) in [(Order::Little, row.little), (Order::Big, row.big)] {
@@ -131,7 +131,7 @@ fn has_fault(alloc: Global, order: Order, row: &FaultRow) -> Result<bool, AllocE
 }
 
 #[test]
-fn first_faults_in_both_orders(rt: HostRuntime) -> Result<(), Fail> {
+fn first_faults_are_found_in_both_orders(rt: HostRuntime) -> Result<(), Fail> {
     let rows = faults::FIRST_FIELDS
         .iter()
         .chain(faults::MIDDLE_FIELDS)
@@ -150,7 +150,7 @@ const FILE: &[u8; 40] = b"\
     \x37\x01\x01\0\x03\0\0\0\xdb\x21\xf8\xff\xf1\0\0\0\x95\0\0\0\0\0\0\0\
     \x18\x01\0\0\x88\x77\x66\x55\0\0\0\0\x44\x33\x22\x11";
 
-/// The instructions in the first bytes of the file by their `Debug` text, if the last one is whole.
+/// The instructions in the first bytes of the file as `Debug` shows them, if the last one is complete.
 fn whole_insns(len: usize) -> Option<&'static str> {
     match len {
         0 => Some("[]"),
@@ -173,7 +173,7 @@ fn whole_insns(len: usize) -> Option<&'static str> {
 }
 
 #[test]
-fn fronts_of_a_file_that_is_cut_anywhere(rt: HostRuntime) {
+fn complete_instructions_of_a_cut_file_are_found(rt: HostRuntime) {
     for len in 0..=FILE.len() {
         let (whole, count) = match len {
             40 => (40, 4),
@@ -194,7 +194,7 @@ fn fronts_of_a_file_that_is_cut_anywhere(rt: HostRuntime) {
 }
 
 #[test]
-fn a_file_that_is_cut_anywhere(rt: HostRuntime) -> Result<(), Fail> {
+fn a_file_that_is_cut_anywhere_is_decoded_or_refused(rt: HostRuntime) -> Result<(), Fail> {
     for len in 0..=FILE.len() {
         let truncated = SlotFault {
             pos: (len - len % 8) as u64,
@@ -212,7 +212,7 @@ fn a_file_that_is_cut_anywhere(rt: HostRuntime) -> Result<(), Fail> {
     Ok(())
 }
 
-/// A file, and the place and the cause of its first fault.
+/// A file, and the offset and the cause of its first fault.
 #[rattlefmt::skip]
 static FILE_FAULTS: [FaultRow; 5] = [
     FaultRow { what: "a source of an immediate", little: b"\x04\x10\0\0\x05\0\0\0", pos: 1, cause: SlotCause::Src },
@@ -257,7 +257,7 @@ const CAUSES: [(SlotCause, &str, &str); 8] = [
 ];
 
 #[test]
-fn causes_and_errors_have_these_texts(rt: HostRuntime) -> Result<(), Fail> {
+fn causes_and_errors_have_these_strings(rt: HostRuntime) -> Result<(), Fail> {
     for (index, (cause, name, sentence)) in CAUSES.iter().enumerate() {
         let shown = format!(in rt.alloc();
             "{} {} {cause} {}",

@@ -1,4 +1,4 @@
-//! The largest listing that a command takes, read and written with ample memory.
+//! The largest listing that a command accepts, read and written with ample memory.
 
 use super::equal;
 use crate::{listing, push_line, read_listing};

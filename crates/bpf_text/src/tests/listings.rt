@@ -45,7 +45,7 @@ fn bytes_of(alloc: Global, order: Order, insns: &[Insn]) -> Result<Vec<u8>, Allo
     Ok(bytes)
 }
 
-/// The lines of instructions after a comment, as `push_line` appends them.
+/// The lines of instructions after a comment, appended by `push_line`.
 fn pushed(alloc: Global, insns: &[Insn]) -> Result<Vec<u8>, AllocError> {
     let mut text = Vec::from_slice(alloc, COMMENT)?;
     for insn in insns {
@@ -84,7 +84,7 @@ fn each_mnemonic_is_read_and_written(rt: HostRuntime) -> Result<(), Fail> {
 }
 
 #[test]
-fn other_forms_are_read(rt: HostRuntime) -> Result<(), Fail> {
+fn other_spellings_are_read(rt: HostRuntime) -> Result<(), Fail> {
     for row in forms::FORMS.iter() {
         let is_listed = is_listed(rt.alloc(), row.text, row.lines, row.bytes)?;
         equal(&rt, &is_listed, &true, row);
@@ -136,7 +136,7 @@ fn the_first_fault_is_found(rt: HostRuntime) {
     }
 }
 
-/// The beginning of a line, a byte that is repeated after it, and the cause of the whole.
+/// The beginning of a line, a byte that is repeated after it, and the cause of the line.
 #[derive(Clone, Copy, Debug)]
 struct LongRow {
     start: &'static [u8],
@@ -176,7 +176,7 @@ const CAUSES: [(LineCause, &str, &str); 4] = [
 ];
 
 #[test]
-fn causes_and_errors_have_these_texts(rt: HostRuntime) -> Result<(), Fail> {
+fn causes_and_errors_have_these_strings(rt: HostRuntime) -> Result<(), Fail> {
     for (index, (cause, name, sentence)) in CAUSES.iter().enumerate() {
         let shown = format!(in rt.alloc();
             "{} {} {cause} {}",

@@ -40,7 +40,7 @@ const JUMP_BYTES: &[u8; 72] = b"\
 /// The size of an arena in bytes.
 const ROOM: usize = 1984;
 
-/// An arena with `room` bytes left, which can't grow.
+/// An arena with `room` free bytes, which can't grow.
 fn arena(alloc: Global, room: usize) -> Result<Bump<Global>, AllocError> {
     let taken = [0u8; ROOM];
     let bump = Bump::try_with_capacity(alloc, ROOM)?;
@@ -49,7 +49,7 @@ fn arena(alloc: Global, room: usize) -> Result<Bump<Global>, AllocError> {
     Ok(bump)
 }
 
-/// What a call returns in a room.
+/// What a call returns in an arena.
 #[derive(Clone, Copy, Debug, PartialEq, Eq)]
 enum Outcome {
     /// What it returns with ample memory.
@@ -68,8 +68,8 @@ enum Call {
     ReadBytes,
 }
 
-/// Adds what a call returns in a room to what it returned in all smaller ones: the smallest room in which it succeeded, if
-/// any, or the room of the first wrong answer. It is wrong to run out of memory in a room larger than that.
+/// Adds what a call returns in an arena to what it returned in all smaller ones: the smallest in which it succeeded, if
+/// any, or that of the first wrong result. It is wrong to run out of memory in a larger one.
 fn after(
     before: Result<Option<usize>, usize>,
     room: usize,
@@ -115,7 +115,7 @@ fn outcome_of(bump: &Bump<Global>, call: Call, lines: usize) -> Outcome {
     }
 }
 
-/// The smallest room that a call needs, or the room of its first wrong answer.
+/// The smallest arena that a call needs, or that of its first wrong result.
 fn least_room(
     alloc: Global,
     call: Call,
@@ -188,7 +188,7 @@ const TYPES: KindRow = KindRow {
 };
 
 #[test]
-fn each_growth_of_the_text_of_types_is_refused(rt: HostRuntime) -> Result<(), Fail> {
+fn each_growth_of_a_type_listing_is_refused(rt: HostRuntime) -> Result<(), Fail> {
     let bytes = file(rt.alloc(), Order::Little, &TYPES)?;
     let table = BtfView::parse(rt.alloc(), &bytes)?;
     let mut least = Ok(None);
@@ -251,7 +251,7 @@ fn append_by<A: Allocator>(text: &mut Vec<u8, A>, call: Append) -> Result<(), Al
     }
 }
 
-/// Whether a call in a room keeps what the text held, and appends what is wanted. If it runs out of memory, it may append
+/// Whether a call in an arena keeps the earlier contents, and appends what is expected. If it runs out of memory, it may append
 /// the first bytes of that, but none of the line of an instruction.
 fn keeps_the_text(bump: &Bump<Global>, held: &[u8], call: Append, wanted: &[u8]) -> Outcome {
     let Ok(mut text) = Vec::from_slice(bump, held) else {
@@ -270,7 +270,7 @@ fn keeps_the_text(bump: &Bump<Global>, held: &[u8], call: Append, wanted: &[u8])
 }
 
 #[test]
-fn an_out_of_memory_keeps_the_text(rt: HostRuntime) -> Result<(), Fail> {
+fn running_out_of_memory_keeps_the_text(rt: HostRuntime) -> Result<(), Fail> {
     let held = b"; text\n";
     for (call, wanted) in APPENDS {
         let mut least = Ok(None);

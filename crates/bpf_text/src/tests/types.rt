@@ -46,7 +46,7 @@ fn append_name(text: &mut Vec<u8>, name: &str) -> Result<(), AllocError> {
     append_quoted_part(text, rest)
 }
 
-/// The text of a table, each line in its parts and each line whole.
+/// The listing of a table, each line in its parts and each line at once.
 fn texts(alloc: Global, table: &BtfView<'_>) -> Result<(Vec<u8>, Vec<u8>), AllocError> {
     let (mut parts, mut whole) = (Vec::new(alloc), Vec::new(alloc));
     for index in 0..table.count() {
@@ -67,7 +67,7 @@ fn texts(alloc: Global, table: &BtfView<'_>) -> Result<(Vec<u8>, Vec<u8>), Alloc
     Ok((parts, whole))
 }
 
-/// Whether a file has a text by every call.
+/// Whether every call shows a file by this listing.
 fn is_shown(alloc: Global, bytes: &[u8], text: &[u8]) -> Result<bool, Fail> {
     let owned = Btf::parse(alloc, bytes)?;
     let lent = BtfView::parse(alloc, bytes)?;
@@ -110,7 +110,7 @@ static FILES: [FileRow; 5] = [
     FileRow { bytes: b"\x9f\xeb\x01\0\x18\0\0\0\0\0\0\0\x28\0\0\0\x28\0\0\0\x09\0\0\0\x01\0\0\0\0\0\0\x01\x04\0\0\0\x20\0\0\x01\x05\0\0\0\x01\0\0\x84\x04\0\0\0\x07\0\0\0\x01\0\0\0\0\0\0\0\0int\0s\0a\0", text: b"[1] int \"int\" size=4 encoding=signed offset=0 bits=32\n[2] struct \"s\" size=4 items=1\n  member \"a\" type=1 offset=0 width=0\n" },
     // a DECL_TAG of a member
     FileRow { bytes: b"\x9f\xeb\x01\0\x18\0\0\0\0\0\0\0\x44\0\0\0\x44\0\0\0\x0d\0\0\0\x01\0\0\0\0\0\0\x01\x04\0\0\0\x20\0\0\x01\x05\0\0\0\x02\0\0\x04\x08\0\0\0\x07\0\0\0\x01\0\0\0\0\0\0\0\x09\0\0\0\x01\0\0\0\x20\0\0\0\x0b\0\0\0\0\0\0\x11\x02\0\0\0\x01\0\0\0\0int\0s\0a\0b\0t\0", text: b"[1] int \"int\" size=4 encoding=signed offset=0 bits=32\n[2] struct \"s\" size=8 items=2\n  member \"a\" type=1 offset=0 width=0\n  member \"b\" type=1 offset=32 width=0\n[3] decl_tag \"t\" flag=0 type=2 component=1\n" },
-    // a name with mostly escaped bytes
+    // a name of many escaped bytes
     FileRow { bytes: b"\x9f\xeb\x01\0\x18\0\0\0\0\0\0\0\x0c\0\0\0\x0c\0\0\0\x07\0\0\0\x01\0\0\0\0\0\0\x08\0\0\0\0\0a\"\\\x01\x7f\0", text: b"[1] typedef \"a\\\"\\\\\\x01\\x7f\" type=0\n" },
 ];
 

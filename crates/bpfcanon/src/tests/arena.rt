@@ -1,9 +1,9 @@
-//! Arenas with room for a given number of bytes.
+//! Arenas with a given number of free bytes.
 
 use bumpalo::Bump;
 use std::alloc::{AllocError, Global};
 
-/// An arena of `most` bytes with room for `room` of them: the others are given away first.
+/// An arena of `most` bytes of which `room` are free: the others are allocated first.
 pub fn arena(alloc: Global, most: usize, room: usize) -> Result<Bump<Global>, AllocError> {
     let bump = Bump::try_with_capacity(alloc, most)?;
     bump.set_allocation_limit(Some(bump.allocated_bytes()));

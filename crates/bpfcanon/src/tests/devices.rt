@@ -15,7 +15,7 @@ pub struct Sample {
     pub output: &'static [u8],
 }
 
-/// A line of each command. Where a command takes `--to`, one more writes in the other order.
+/// A line of each command, and another with the other byte order if the command accepts `--to`.
 #[rattlefmt::skip]
 pub static SAMPLES: [Sample; 12] = [
     Sample { line: "insn-canon", input: b"\x37\x01\x01\0\x03\0\0\0\xdb\x21\xf8\xff\xf1\0\0\0\x95\0\0\0\0\0\0\0", output: b"\x37\x01\x01\0\x03\0\0\0\xdb\x21\xf8\xff\xf1\0\0\0\x95\0\0\0\0\0\0\0" },
@@ -32,10 +32,10 @@ pub static SAMPLES: [Sample; 12] = [
     Sample { line: "btf-same --split 25", input: b"\x9f\xeb\x01\0\x18\0\0\0\0\0\0\0\0\0\0\0\0\0\0\0\x01\0\0\0\0\x9f\xeb\x01\0\x18\0\0\0\0\0\0\0\0\0\0\0\0\0\0\0\x01\0\0\0\0", output: b"same\n" },
 ];
 
-/// How much of the output is written before read number `fuse` fails, where one byte comes at a time.
+/// How much of the output is written before read number `fuse` fails, if each read returns one byte.
 fn written_before(sample: Sample, fuse: u64) -> usize {
     if sample.line.starts_with("insn-canon") {
-        // the instructions of 8 bytes that came
+        // the 8-byte instructions that were read
         return (fuse.saturating_sub(1) / 8 * 8) as usize;
     }
     0
@@ -93,7 +93,7 @@ fn each_read_and_each_write_fails(rt: HostRuntime) -> Result<(), Fail> {
     Ok(())
 }
 
-// A fault sink that fails takes the beginning of its line, and changes nothing else.
+// A fault sink that fails receives a prefix of its message, and changes nothing else.
 #[test]
 fn the_fault_sink_fails(rt: HostRuntime) -> Result<(), Fail> {
     let input = b"\x95\0\0\0\0\0\0\0\x04\x10\0\0\x05\0\0\0";
@@ -121,7 +121,7 @@ struct SecondRead {
     fault: &'static [u8],
 }
 
-/// A fault in a slot that came whole is reported before a read that fails, and missing bytes are not.
+/// A fault in a complete slot is reported before a failed read, and a truncated end is not.
 #[rattlefmt::skip]
 static SECOND_READS: [SecondRead; 3] = [
     SecondRead { input: b"\x95\0\0\0\0\0\0\0\x04\x10\0\0\x05\0\0\0", piece: 16, status: 1, fault: b"fault 9 Src\n" },

@@ -28,7 +28,7 @@ const CANONICAL_POINT: &[u8] = b"\xeb\x9f\x01\0\0\0\0\x18\0\0\0\0\0\0\0\x34\0\0\
     \0\0\0\x07\0\0\0\x01\0\0\0\0\0\0\0\x09\0\0\0\x01\0\0\0\x20\
     \0point\0x\0y\0";
 
-/// The second file has union { int a; }, enum e { one = 1 } and typedef int t, in little-endian order.
+/// The second file is little-endian and contains union { int a; }, enum e { one = 1 } and typedef int t.
 #[rattlefmt::skip]
 static MEMBERS: [Members; 2] = [
     Members { file: POINT, names: b"x\ny\n" },

@@ -1,5 +1,5 @@
 //! Comparisons for tests. A call of one is proved in a fraction of the time of an `assert_eq!`, which brings its own text and its
-//! own ways to end at each place. Unlike `assert_eq!` it leaves no fact for the proof of what follows.
+//! own ways to end at each use. Unlike `assert_eq!` it leaves no fact for the proof of what follows.
 
 use super::runner::Ran;
 use std::fmt::Debug;
@@ -34,7 +34,7 @@ pub fn answered(
     equal_bytes(rt, &ran.faults, fault, case);
 }
 
-/// Compares the answer of a command whose device failed: its line, and its output with the first `taken` bytes of the whole output.
+/// Compares the result of a command whose device failed: its message, and its output with the first `taken` bytes of the complete output.
 pub fn failed(
     rt: &impl Abort,
     ran: &Ran,

@@ -1,4 +1,4 @@
-//! Sinks that run out of memory: the vector of one is in an arena that has room for one byte more each time.
+//! Sinks that run out of memory: the vector of one is in an arena that has one free byte more each time.
 
 use super::arena::arena;
 use super::btf_files::{INT, UNKNOWN_TYPE};
@@ -11,10 +11,10 @@ use std::alloc::Global;
 use std::process::Abort;
 use std::test::Fail;
 
-/// The most room of a sink, in bytes: more than any line and any output of a sample needs.
+/// The most free bytes of a sink: more than any message and any output of a sample needs.
 const MOST_ROOM: usize = 512;
 
-/// Runs a command line whose sinks have this much room. They take one byte at a time, so their vectors grow more than once.
+/// Runs a command line whose sinks have this many free bytes. They accept one byte at a time, so their vectors grow more than once.
 fn run_into(
     alloc: Global,
     line: &str,
@@ -47,7 +47,7 @@ fn run_into(
     })
 }
 
-/// A sink without enough room has taken the beginning of the output, and with more room no less of it.
+/// A sink without enough memory has received a prefix of the output, and with more memory no less of it.
 fn check_sink(rt: &impl Abort, alloc: Global, sample: Sample) -> Result<(), Fail> {
     let mut taken = 0;
     for room in 0..=MOST_ROOM {
@@ -74,7 +74,7 @@ fn the_output_sink_runs_out_of_memory(rt: HostRuntime) -> Result<(), Fail> {
     Ok(())
 }
 
-/// Lines on standard error: of a fault after some output, of a BTF fault, of a split, and of a line that isn't one of the program's.
+/// Messages: a fault after some output, a BTF fault, a split, and a command line that is refused.
 #[rattlefmt::skip]
 static REPORTS: [Row; 4] = [
     Row { name: "a fault", line: "insn-canon", input: b"\x95\0\0\0\0\0\0\0\x04\x10\0\0\x05\0\0\0", status: 1, output: b"\x95\0\0\0\0\0\0\0", fault: "fault 9 Src\n" },
@@ -83,7 +83,7 @@ static REPORTS: [Row; 4] = [
     Row { name: "a refused line", line: "insn-canon --order middle", input: b"", status: 2, output: b"", fault: "usage: bpfcanon COMMAND [--order little|big] [--to little|big] [--other little|big] [--split N]\n" },
 ];
 
-/// A fault sink without enough room has taken the beginning of the line, and changes nothing else.
+/// A fault sink without enough memory has received a prefix of the message, and changes nothing else.
 fn check_fault_sink(rt: &impl Abort, alloc: Global, row: &Row) -> Result<(), Fail> {
     let mut taken = 0;
     for room in 0..=MOST_ROOM {
@@ -105,7 +105,7 @@ fn the_fault_sink_runs_out_of_memory(rt: HostRuntime) -> Result<(), Fail> {
     for row in &REPORTS {
         check_fault_sink(&rt, rt.alloc(), row)?;
     }
-    // with no room for output or for the line that says so
+    // without memory for output or for the message that says so
     let ran = run_into(rt.alloc(), "insn-canon", b"\x95\0\0\0\0\0\0\0", 0, 0)?;
     answered(&rt, &ran, 3, b"", b"", &"no room");
     Ok(())

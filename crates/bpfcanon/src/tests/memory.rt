@@ -1,4 +1,4 @@
-//! Each allocation of each command is refused in turn: an arena has room for one byte more each time.
+//! Each allocation of each command is refused in turn: an arena has one free byte more each time.
 
 use super::arena::arena;
 use super::btf_files::{Shown, named, nameless, repeated};
@@ -14,7 +14,7 @@ use std::alloc::{AllocError, Global};
 use std::process::Abort;
 use std::test::Fail;
 
-/// The most room that a sample needs, in bytes.
+/// The most memory that a sample needs, in bytes.
 const MOST_ROOM: usize = 20_000;
 
 /// The job of a sample, with little-endian orders.
@@ -28,14 +28,14 @@ fn job_of(sample: Sample) -> Job {
     }
 }
 
-/// How a job ended, and what its sink took.
+/// How a job ended, and what its sink received.
 #[derive(Drop)]
 struct Ended {
     outcome: Outcome,
     output: Vec<u8>,
 }
 
-/// Runs a job over an arena of `most` bytes with room for `room` of them.
+/// Runs a job over an arena of `most` bytes of which `room` are free.
 fn run_over(
     alloc: Global,
     job: Job,
@@ -64,12 +64,12 @@ fn kept_at_least(sample: Sample) -> usize {
 /// How many rooms are tried that are enough.
 const ENOUGH: usize = 16;
 
-/// Runs a sample with more and more room. It needs at least the room of what it keeps, and with more room it isn't out of memory again.
+/// Runs a sample with more and more memory. It needs at least what it stores, and with more it doesn't run out of memory again.
 fn check_refusals(rt: &impl Abort, alloc: Global, sample: Sample) -> Result<(), Fail> {
     let job = job_of(sample);
     let mut done = 0_usize;
     for room in 0..MOST_ROOM {
-        // Five bytes come at a time, so the vector of the input grows more than once.
+        // Each read returns five bytes, so the vector of the input grows more than once.
         let ended = run_over(alloc, job, sample.input, 5, MOST_ROOM, room)?;
         let case = (sample.verb, sample.outcome, room);
         if done > 0 || ended.outcome != Outcome::Memory {
@@ -97,10 +97,10 @@ fn each_growth_is_refused(rt: HostRuntime) -> Result<(), Fail> {
     Ok(())
 }
 
-/// The most room of a command whose output goes in pieces, in bytes.
+/// The most memory of a command that writes in pieces, in bytes.
 const PIECES_ROOM: usize = 160_000;
 
-/// Runs a command with more and more room. Before it succeeds it is out of memory after its first piece, too, and afterwards it succeeds.
+/// Runs a command with more and more memory. Before it succeeds it also runs out after its first piece; then it always succeeds.
 fn check_pieces(
     rt: &impl Abort,
     alloc: Global,
@@ -139,7 +139,7 @@ fn check_pieces(
     Err("never enough room")?
 }
 
-/// 1,024 lines of 8 bytes, for which the vector grows to 8,192 bytes, and a second piece of 8,195 bytes.
+/// 1,024 8-byte lines, for which the vector grows to 8,192 bytes, and a second piece of 8,195 bytes.
 fn two_listing_pieces(alloc: Global) -> Result<Shown, AllocError> {
     let mut file = repeated(alloc, b"\x87\x0a\0\0\0\0\0\0", 1024)?;
     let mut text = repeated(alloc, b"neg r10\n", 1024)?;

@@ -45,7 +45,7 @@ const MANY: &[u8] = b"\x9f\xeb\x01\0\x18\0\0\0\0\0\0\0\x20\x01\0\0\x20\x01\0\0\x
             \0\x6d\0\x6e\0\x6f\0\x70\0\x71\0\x72\0\x73\0\x74\0\x75\0\x76\0\x77\0\x78\
             \0";
 
-/// Each command, also on inputs with a fault.
+/// Each command, on valid inputs and on inputs with a fault.
 #[rattlefmt::skip]
 pub static SAMPLES: [Sample; 27] = [
     Sample { verb: Verb::InsnCanon, split: 0, input: b"\x37\x01\x01\0\x03\0\0\0\xdb\x21\xf8\xff\xf1\0\0\0\x95\0\0\0\0\0\0\0\x95\0\0\0\0\0\0\0", outcome: Outcome::Done, output: b"\x37\x01\x01\0\x03\0\0\0\xdb\x21\xf8\xff\xf1\0\0\0\x95\0\0\0\0\0\0\0\x95\0\0\0\0\0\0\0" },

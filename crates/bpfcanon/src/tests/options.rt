@@ -8,7 +8,7 @@ use std::alloc::{AllocError, Global};
 use std::process::Abort;
 use std::test::Fail;
 
-/// An option as it is given, or nothing where it isn't.
+/// An option as it is given, or nothing if it isn't.
 #[derive(Clone, Copy)]
 struct Choice<T> {
     words: &'static str,
@@ -61,7 +61,7 @@ static SPLITS: [Choice<u64>; 5] = [
     Choice { words: "--split=134217728", value: 134_217_728 },
 ];
 
-/// Whether a command takes the option, or it isn't given.
+/// Whether a command accepts the option, or it isn't given.
 fn is_taken(verb: Verb, setting: Setting, words: &str) -> bool {
     verb.takes(setting) || words.is_empty()
 }
@@ -98,7 +98,7 @@ fn check_both_orders(
     Ok(())
 }
 
-/// Each choice of the two options that only commands over two files take. The length is given wherever it is taken.
+/// Each choice of the two options that only comparisons accept. The length is given if it is accepted.
 fn check_second_files(
     rt: &impl Abort,
     alloc: Global,

@@ -1,4 +1,4 @@
-//! All rows, each with pieces of one byte, of three and of the largest that a read offers.
+//! All rows, each with 1-byte pieces, 3-byte pieces and the largest that a read offers.
 
 use super::expect::answered;
 use super::runner::{Row, check_row, run, steady};
@@ -27,7 +27,7 @@ struct CutFile {
     shorter_than_its_header: usize,
 }
 
-/// A struct with a tag on a member, and a file with a header of 28 bytes.
+/// A struct with a tag on a member, and a file with a 28-byte header.
 #[rattlefmt::skip]
 static CUT_FILES: [CutFile; 2] = [
     CutFile { file: b"\x9f\xeb\x01\0\x18\0\0\0\0\0\0\0\x44\0\0\0\x44\0\0\0\x0d\0\0\0\x01\0\0\0\0\0\0\x01\x04\0\0\0\x20\0\0\x01\x05\0\0\0\x02\0\0\x04\x08\0\0\0\x07\0\0\0\x01\0\0\0\0\0\0\0\x09\0\0\0\x01\0\0\0\x20\0\0\0\x0b\0\0\0\0\0\0\x11\x02\0\0\0\x01\0\0\0\0int\0s\0a\0b\0t\0", shorter_than_its_header: 24 },

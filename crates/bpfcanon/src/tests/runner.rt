@@ -40,7 +40,7 @@ pub fn steady(piece: usize) -> Pace {
     }
 }
 
-/// What a command answered, and what its sinks took.
+/// The status of a command, and what its sinks received.
 #[derive(Drop)]
 pub struct Ran {
     pub status: u8,

@@ -4,7 +4,7 @@ use crate::tests::equal;
 use crate::{BtfCause as Cause, BtfFault, NameCause};
 use std::alloc::AllocError;
 
-/// The causes from number 1 on, their names, and the sentences of docs/FORMATS.md.
+/// The causes from number 1 on, their names, and the sentences of docs/FAULTS.md.
 #[rattlefmt::skip]
 const CAUSES: &[(Cause, &str, &str)] = &[
     (Cause::ShortHeader, "ShortHeader", "the file has fewer than 24 bytes"),

@@ -4,7 +4,7 @@ use crate::tests::{equal, fault};
 use crate::{BtfCause as Cause, RawHead, next_head};
 use bpf_words::Order;
 
-/// A type section, a place inside it, and the frame there.
+/// A type section, an offset inside it, and the frame at it.
 struct Accepted(Order, &'static [u8], usize, RawHead);
 
 #[rattlefmt::skip]
@@ -17,7 +17,7 @@ const ACCEPTED: &[Accepted] = &[
     Accepted(Order::Big, b"\0\0\0\x01\x93\0\0\x02\0\0\0\x08\0\0\0\x03\xff\xff\xff\xfe\xff\xff\xff\xff\0\0\0\x03\0\0\0\0\0\0\0\0", 0, RawHead { kind: 19, flag: true, vlen: 2, name_off: 1, third: 8, tail: 12, next: 36 }),
 ];
 
-/// A little-endian type section, a place inside it, and the place and cause of the first fault of the frame there.
+/// A little-endian type section, an offset inside it, and the offset and cause of the first fault of the frame at it.
 struct Refused(&'static str, &'static [u8], usize, u64, Cause);
 
 #[rattlefmt::skip]
@@ -36,7 +36,7 @@ const REFUSED: &[Refused] = &[
 ];
 
 #[test]
-fn frames(rt: HostRuntime) {
+fn frames_are_read_or_refused(rt: HostRuntime) {
     for Accepted(order, types, pos, head) in ACCEPTED {
         assert!(rt; *pos < types.len());
         equal(&rt, &next_head(*order, types, *pos), &Ok(*head), types);

@@ -12,11 +12,11 @@ const EMPTY: &[u8] = b"\x9f\xeb\x01\0\x18\0\0\0\0\0\0\0\0\0\0\0\0\0\0\0\x01\0\0\
 const BIG_INT: &[u8] =
     b"\xeb\x9f\x01\0\0\0\0\x18\0\0\0\0\0\0\0\x10\0\0\0\x10\0\0\0\x05\0\0\0\x01\x01\0\0\0\0\0\0\x04\x01\0\0 \0int\0";
 
-/// A header of 28 bytes, and the strings before the types.
+/// A 28-byte header, and the strings before the types.
 const STRINGS_FIRST: &[u8] =
     b"\x9f\xeb\x01\0\x1c\0\0\0\x07\0\0\0\x10\0\0\0\0\0\0\0\x07\0\0\0\0\0\0\0\0x\0int\0\x03\0\0\0\0\0\0\x01\x04\0\0\0 \0\0\x01";
 
-/// The file with some bytes changed.
+/// The file with these bytes changed.
 fn edited(alloc: Global, file: &[u8], edits: &[(usize, u8)]) -> Result<Vec<u8>, AllocError> {
     let mut bytes = Vec::from_slice(alloc, file)?;
     for (pos, byte) in edits {
@@ -38,7 +38,7 @@ const ACCEPTED: &[Accepted] = &[
     Accepted("a longer header, the strings first", STRINGS_FIRST, &[], Header { order: Order::Little, types_pos: 35, types_len: 16, str_pos: 28, str_len: 7 }),
 ];
 
-/// A file, bytes that are changed in it, and the place and cause of its first fault.
+/// A file, bytes that are changed in it, and the offset and cause of its first fault.
 struct Refused(
     &'static str,
     &'static [u8],
@@ -77,7 +77,7 @@ const REFUSED: &[Refused] = &[
 ];
 
 #[test]
-fn headers(rt: HostRuntime) -> Result<(), AllocError> {
+fn headers_are_read_or_refused(rt: HostRuntime) -> Result<(), AllocError> {
     for Accepted(name, file, edits, header) in ACCEPTED {
         let bytes = edited(rt.alloc(), file, edits)?;
         equal(&rt, &read_header(&bytes), &Ok(*header), name);

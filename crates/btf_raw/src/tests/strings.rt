@@ -3,7 +3,7 @@
 use crate::tests::{equal, fault};
 use crate::{BtfCause, NameCause, check_strings, name_at, text_at};
 
-/// A string section, and the place and cause of its first fault.
+/// A string section, and the offset and cause of its first fault.
 const ENDS: &[(&[u8], Option<(u64, BtfCause)>)] = &[
     (b"\0", None),
     (b"\0a\0", None),
@@ -14,7 +14,7 @@ const ENDS: &[(&[u8], Option<(u64, BtfCause)>)] = &[
 ];
 
 #[test]
-fn ends_of_strings(rt: HostRuntime) {
+fn string_sections_begin_and_end_with_nul(rt: HostRuntime) {
     for (strings, wanted) in ENDS {
         assert!(rt; !strings.is_empty());
         let found = check_strings(strings).err();

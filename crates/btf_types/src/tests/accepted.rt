@@ -51,7 +51,7 @@ const ACCEPTED: &[Accepted] = &[
 ];
 
 #[test]
-fn accepted_files(rt: HostRuntime) -> Result<(), Fail> {
+fn worked_files_are_accepted(rt: HostRuntime) -> Result<(), Fail> {
     for row in ACCEPTED {
         let bytes = edited(rt.alloc(), row.file, row.edits)?;
         equal(&rt, &first_fault(rt.alloc(), &bytes)?, &None, &row.name);

@@ -20,7 +20,7 @@ pub(crate) const STRINGS_FIRST: &[u8] =
 pub(crate) const MEMBER: &[u8] =
     b"\x9f\xeb\x01\0\x18\0\0\0\0\0\0\0(\0\0\0(\0\0\0\x09\0\0\0\x01\0\0\0\0\0\0\x01\x04\0\0\0 \0\0\x01\x05\0\0\0\x01\0\0\x84\x04\0\0\0\x07\0\0\0\x01\0\0\0\0\0\0\0\0int\0s\0a\0";
 
-/// A PTR to a type that isn't there.
+/// A PTR to a type that doesn't exist.
 pub(crate) const BEYOND: &[u8] =
     b"\x9f\xeb\x01\0\x18\0\0\0\0\0\0\0\x0c\0\0\0\x0c\0\0\0\x01\0\0\0\0\0\0\0\0\0\0\x02\x02\0\0\0\0";
 

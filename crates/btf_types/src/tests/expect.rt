@@ -1,5 +1,5 @@
 //! Comparisons of tests. A call of these is proved in a fraction of the time of an `assert_eq!`, which brings its own text and its
-//! own ways to end to each place.
+//! own ways to end to each use.
 
 use std::fmt::Debug;
 use std::process::Abort;

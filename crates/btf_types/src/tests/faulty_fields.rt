@@ -1,4 +1,4 @@
-//! Faulty references and words after the third, with the first fault of both parsers and of the plain judge.
+//! Faulty references and words after the third, with the first fault of both parsers and of the reference checker.
 
 use crate::tests::expect::equal;
 use crate::tests::judge::first_fault;
@@ -6,7 +6,7 @@ use crate::tests::{fault, file, first_fault_of_both, words};
 use btf_raw::BtfCause as Cause;
 use std::test::Fail;
 
-/// The words of records in hexadecimal, their strings, and the place and cause of the first fault. The records begin at byte 24.
+/// The words of records in hexadecimal, their strings, and the offset and cause of the first fault. The records begin at byte 24.
 struct Faulty(&'static str, &'static str, &'static [u8], u64, Cause);
 
 #[rattlefmt::skip]
@@ -55,7 +55,7 @@ const FAULTY: &[Faulty] = &[
 ];
 
 #[test]
-fn references_and_words(rt: HostRuntime) -> Result<(), Fail> {
+fn faulty_references_and_words_are_refused(rt: HostRuntime) -> Result<(), Fail> {
     for Faulty(name, text, strings, pos, cause) in FAULTY {
         let bytes = file(rt.alloc(), &words(rt.alloc(), text)?, strings)?;
         let wanted = Some(fault(*pos, *cause));

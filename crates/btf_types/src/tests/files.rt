@@ -1,4 +1,4 @@
-//! Files with each byte changed to every other value, cut at every length, or with names at every offset, compared with the plain judge.
+//! Files with each byte changed to every other value, cut at every length, or with names at every offset, against the reference.
 
 use crate::tests::examples::{BIG_ENUM64, BIG_INT, EMPTY, MEMBER, STRINGS_FIRST, TAGGED};
 use crate::tests::expect::equal;
@@ -10,7 +10,7 @@ use std::fmt::Debug;
 use std::process::Abort;
 use std::test::Fail;
 
-/// Checks that both parsers answer what the judge does.
+/// Checks that both parsers return what the reference does.
 fn is_judged(rt: &impl Abort, alloc: Global, bytes: &[u8], case: &impl Debug) -> Result<(), Fail> {
     let wanted = first_fault(alloc, bytes)?;
     equal(rt, &first_fault_of_both(alloc, bytes)?, &wanted, case);
@@ -31,7 +31,7 @@ fn changes_are_judged(rt: &impl Abort, alloc: Global, file: &[u8]) -> Result<(),
 }
 
 #[test]
-fn each_byte_with_every_value(rt: HostRuntime) -> Result<(), Fail> {
+fn files_with_a_changed_byte_have_the_reference_result(rt: HostRuntime) -> Result<(), Fail> {
     for file in [BIG_INT, STRINGS_FIRST, MEMBER, TAGGED, BIG_ENUM64] {
         changes_are_judged(&rt, rt.alloc(), file)?;
     }
@@ -58,7 +58,7 @@ fn named_int(alloc: Global, off: u32, strings: &[u8]) -> Result<Vec<u8>, AllocEr
 }
 
 #[test]
-fn names_at_every_offset(rt: HostRuntime) -> Result<(), Fail> {
+fn files_with_names_at_every_offset_have_the_reference_result(rt: HostRuntime) -> Result<(), Fail> {
     for strings in STRINGS {
         for off in 0..120_u32 {
             let bytes = named_int(rt.alloc(), off, strings)?;
@@ -89,7 +89,7 @@ fn fault_of_cut(len: usize, header_len: usize) -> BtfFault {
 }
 
 #[test]
-fn files_cut_at_every_length(rt: HostRuntime) -> Result<(), Fail> {
+fn files_cut_at_every_length_have_the_reference_result(rt: HostRuntime) -> Result<(), Fail> {
     for Whole(file, header_len, file_len) in WHOLE {
         equal(&rt, &file.len(), file_len, &"the length");
         for len in 0..file.len() {

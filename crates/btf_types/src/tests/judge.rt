@@ -1,4 +1,4 @@
-//! A plain judge of BTF files, written from docs/FORMATS.md alone. It collects the faults of a phase and takes the least. It calls
+//! A reference checker of BTF, written only from docs/FORMATS.md and docs/FAULTS.md. It collects the faults of a phase. It calls
 //! no parser: of the library it uses only the type of a fault.
 
 mod fields;
@@ -78,7 +78,7 @@ impl Faults {
         Ok(())
     }
 
-    /// The least fault by its cause alone.
+    /// The least fault by its cause.
     fn by_cause(&self) -> Option<BtfFault> {
         let mut least: Option<BtfFault> = None;
         for fault in self.found.iter() {
@@ -89,7 +89,7 @@ impl Faults {
         least
     }
 
-    /// The least fault by its place, then by its cause.
+    /// The least fault by its offset, then by its cause.
     fn by_place(&self) -> Option<BtfFault> {
         let mut least: Option<BtfFault> = None;
         for fault in self.found.iter() {
@@ -110,7 +110,7 @@ fn word_at(bytes: &[u8], big: bool, pos: usize) -> Option<u32> {
     }
 }
 
-/// A record, from its first byte to the end of its section, and where it begins in the file.
+/// A record, from its first byte to the end of its section, and its offset in the file.
 #[derive(Clone, Copy)]
 struct Record<'a> {
     big: bool,
@@ -135,7 +135,7 @@ impl<'a> Record<'a> {
         self.word(1) & 0xffff
     }
 
-    /// The place of word j in the file.
+    /// The offset of word j in the file.
     fn place(&self, j: usize) -> u64 {
         self.pos.saturating_add((j as u64).saturating_mul(4))
     }
@@ -190,7 +190,7 @@ impl<'a> Record<'a> {
     }
 }
 
-/// A file whose header has no fault.
+/// A file with a valid header.
 #[derive(Clone, Copy)]
 struct Sections<'a> {
     big: bool,
@@ -215,7 +215,7 @@ fn number(bytes: &[u8], big: bool, pos: usize) -> u64 {
     u64::from(word_at(bytes, big, pos).unwrap_or(0))
 }
 
-/// The faults of the numbers of a header of 24 bytes or more.
+/// The faults of the numbers of a header with at least 24 bytes.
 fn number_faults(faults: &mut Faults, bytes: &[u8], big: bool) -> Result<(), AllocError> {
     let len = bytes.len() as u64;
     let (header, types) = (number(bytes, big, 4), number(bytes, big, 12));
@@ -252,7 +252,7 @@ fn header_faults(faults: &mut Faults, bytes: &[u8]) -> Result<(), AllocError> {
     Ok(())
 }
 
-/// The sections of a file whose header has no fault.
+/// The sections of a file with a valid header.
 fn sections_of(bytes: &[u8]) -> Option<Sections<'_>> {
     let big = bytes.starts_with(b"\xeb\x9f");
     let header = u64::from(word_at(bytes, big, 4)?);

@@ -37,7 +37,7 @@ const KINDS: &[Kind] = &[
 ];
 
 #[test]
-fn records_of_each_kind(rt: HostRuntime) -> Result<(), Fail> {
+fn records_of_each_kind_are_read(rt: HostRuntime) -> Result<(), Fail> {
     for kind in KINDS {
         let bytes = file(rt.alloc(), &words(rt.alloc(), kind.words)?, kind.strings)?;
         equal(&rt, &first_fault(rt.alloc(), &bytes)?, &None, &kind.name);

@@ -49,7 +49,7 @@ fn name_len<T: TypeTable>(table: &T, id: u32) -> usize {
     }
 }
 
-/// How many records a table has, and the lengths of the first name and of the last.
+/// The number of records in a table, and the lengths of the first name and of the last.
 fn ends<T: TypeTable>(table: &T) -> (u32, usize, usize) {
     let count = table.count();
     (count, name_len(table, 1), name_len(table, count))
@@ -66,7 +66,7 @@ fn has_names(rt: &impl Abort, alloc: Global, bytes: &[u8], row: &Nested) -> Resu
 }
 
 #[test]
-fn names_in_each_other(rt: HostRuntime) -> Result<(), Fail> {
+fn nested_names_are_accepted(rt: HostRuntime) -> Result<(), Fail> {
     for row in NESTED {
         let Nested(count, len, file_len, wanted) = row;
         let strings = letters(rt.alloc(), *len, b"\0")?;
@@ -96,7 +96,7 @@ fn most_records(alloc: Global) -> Result<Vec<u8>, AllocError> {
     file(alloc, &records, b"\0")
 }
 
-/// Bytes that are changed in that file beside the earlier ones, and the first fault.
+/// Bytes that are changed in that file besides the earlier ones, and the first fault.
 struct Longest(&'static [(usize, u8)], Option<BtfFault>);
 
 #[rattlefmt::skip]
@@ -106,11 +106,11 @@ const LONGEST: &[Longest] = &[
     Longest(&[(33_554_452, 0xab), (33_554_453, 0xaa), (33_554_454, 0x2a)], Some(BtfFault { pos: 33_554_452, cause: BtfCause::Reference })),
     // its kind
     Longest(&[(33_554_451, 20)], Some(BtfFault { pos: 33_554_448, cause: BtfCause::KindNumber })),
-    // a type section of a byte more, which takes the byte of the strings
+    // a type section that is a byte longer, with the byte of the strings
     Longest(&[(12, 1)], Some(BtfFault { pos: 12, cause: BtfCause::TypeLength })),
 ];
 
-/// How many records both tables of a file have.
+/// The number of records in both tables of a file.
 fn counts(alloc: Global, bytes: &[u8]) -> Result<(u32, u32), Fail> {
     let owned = Btf::parse(alloc, bytes)?;
     let lent = BtfView::parse(alloc, bytes)?;
@@ -118,7 +118,7 @@ fn counts(alloc: Global, bytes: &[u8]) -> Result<(u32, u32), Fail> {
 }
 
 #[test]
-fn longest_type_sections(rt: HostRuntime) -> Result<(), Fail> {
+fn type_sections_up_to_the_limit_are_accepted(rt: HostRuntime) -> Result<(), Fail> {
     let mut bytes = most_records(rt.alloc())?;
     equal(&rt, &bytes.len(), &33_554_457, &"the file");
     let counts = counts(rt.alloc(), &bytes)?;
@@ -143,9 +143,9 @@ fn full_enums(alloc: Global, count: u32) -> Result<Vec<u8>, AllocError> {
     Ok(records)
 }
 
-/// Each of half a million values has the same name of a million bytes, beside a text that isn't UTF-8.
+/// Half a million values have the same name of a million bytes, next to a string that isn't UTF-8.
 #[test]
-fn many_uses_of_a_long_name(rt: HostRuntime) -> Result<(), Fail> {
+fn many_uses_of_a_long_name_are_accepted(rt: HostRuntime) -> Result<(), Fail> {
     let strings = letters(rt.alloc(), 1_000_000, b"\0\xff\0")?;
     let bytes = file(rt.alloc(), &full_enums(rt.alloc(), 8)?, &strings)?;
     equal(

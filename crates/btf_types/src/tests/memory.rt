@@ -1,4 +1,4 @@
-//! Each allocation refused in turn: an arena of one chunk that has a byte more room in each round.
+//! Each allocation refused in turn: an arena of one chunk that has one more free byte in each round.
 
 use crate::tests::expect::{equal, holds};
 use crate::tests::{edited, file};
@@ -13,15 +13,15 @@ use std::test::Fail;
 /// The most bytes that a parser gets.
 const ROOM: usize = 2048;
 
-/// How many bytes the places of nine records take at least, the marks of five bytes of strings, and nine records of three words.
+/// How many bytes the offsets of nine records need at least, the marks of five bytes of strings, and nine records of three words.
 const PLACES: u32 = 36;
 
 const MARKS: u32 = 5;
 
 const TYPES: u32 = 108;
 
-/// How many bytes the place of one record and the ends of nine long strings take at least, the words of an ENUM with nine values, and
-/// nine strings of 128 bytes.
+/// How many bytes the offset of one record and the ends of nine long strings need at least, the words of an ENUM with nine values, and
+/// nine 128-byte strings.
 const PLACE_AND_ENDS: u32 = 40;
 
 const ENUM_WORDS: u32 = 84;
@@ -51,7 +51,7 @@ impl Tally {
         }
     }
 
-    /// Counts an answer. If less room was enough, more is too.
+    /// Counts a result. If less memory was enough, more is too.
     fn count(&mut self, rt: &impl Abort, was_refused: bool) {
         if was_refused {
             equal(rt, &self.done, &0, &"answers with less room");
@@ -68,7 +68,7 @@ impl Tally {
     }
 }
 
-/// An arena with room for this many bytes: the others are given away first.
+/// An arena with this many free bytes: the others are allocated first.
 fn arena(alloc: Global, room: usize) -> Result<Bump<Global>, AllocError> {
     let bump = Bump::try_with_capacity(alloc, ROOM)?;
     bump.set_allocation_limit(Some(bump.allocated_bytes()));
@@ -77,7 +77,7 @@ fn arena(alloc: Global, room: usize) -> Result<Bump<Global>, AllocError> {
     Ok(bump)
 }
 
-/// Nine TYPEDEFs with the name `t`, the first of void and each other of the one before, beside a text that isn't UTF-8.
+/// Nine TYPEDEFs with the name `t`, the first of void and each other of the one before, next to a string that isn't UTF-8.
 fn typedefs(alloc: Global) -> Result<Vec<u8>, AllocError> {
     let mut records = Vec::new(alloc);
     for target in 0..9_u8 {
@@ -86,7 +86,7 @@ fn typedefs(alloc: Global) -> Result<Vec<u8>, AllocError> {
     file(alloc, &records, b"\0t\0\xff\0")
 }
 
-/// Whether a table has these TYPEDEFs.
+/// Whether a table contains these TYPEDEFs.
 fn has_typedefs<T: TypeTable>(table: &T) -> bool {
     for i in 0..table.count() {
         let is_right = match table.head(i + 1) {
@@ -114,7 +114,7 @@ fn long_names(alloc: Global) -> Result<Vec<u8>, AllocError> {
     file(alloc, &records, &strings)
 }
 
-/// Whether a table has this ENUM.
+/// Whether a table contains this ENUM.
 fn has_long_names<T: TypeTable>(table: &T) -> bool {
     if table.count() != 1 {
         return false;
@@ -168,7 +168,7 @@ fn count_answer<T: TypeTable>(
     }
 }
 
-/// Bytes that are changed in a file, what it is read as then, and how many bytes `BtfView` and `Btf` take at least before they answer.
+/// Bytes that are changed in a file, what it is read as then, and how many bytes `BtfView` and `Btf` allocate at least before they return.
 #[derive(Clone, Copy, Debug)]
 struct Row {
     edits: &'static [(usize, u8)],
@@ -193,7 +193,7 @@ const OF_LONG_NAMES: &[Row] = &[
     Row { edits: &[(32, 3)], wanted: Wanted::Fault(32, BtfCause::Size), lent: 4, owned: 4 },
 ];
 
-/// Gives both parsers ever more room.
+/// Gives both parsers ever more memory.
 fn check_rooms(rt: &impl Abort, alloc: Global, file: &[u8], row: &Row) -> Result<(), Fail> {
     let bytes = edited(alloc, file, row.edits)?;
     let mut lent = Tally::new();
@@ -210,7 +210,7 @@ fn check_rooms(rt: &impl Abort, alloc: Global, file: &[u8], row: &Row) -> Result
 }
 
 #[test]
-fn more_and_more_room(rt: HostRuntime) -> Result<(), Fail> {
+fn parsers_succeed_or_run_out_of_memory_in_every_arena(rt: HostRuntime) -> Result<(), Fail> {
     let typedefs = typedefs(rt.alloc())?;
     for row in OF_TYPEDEFS {
         check_rooms(&rt, rt.alloc(), &typedefs, row)?;

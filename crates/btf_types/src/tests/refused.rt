@@ -1,4 +1,4 @@
-//! Worked files with a fault: the first fault of both parsers and of the plain judge, and the texts of errors.
+//! Worked files with a fault: the first fault of both parsers and of the reference checker, and the messages of errors.
 
 use crate::BtfError;
 use crate::tests::examples::{
@@ -11,7 +11,7 @@ use crate::tests::{edited, fault, first_fault_of_both};
 use btf_raw::BtfCause as Cause;
 use std::test::Fail;
 
-/// A file, bytes that are changed in it, and the place and cause of its first fault.
+/// A file, bytes that are changed in it, and the offset and cause of its first fault.
 struct Refused(
     &'static str,
     &'static [u8],
@@ -71,7 +71,7 @@ const REFUSED: &[Refused] = &[
 ];
 
 #[test]
-fn refused_files(rt: HostRuntime) -> Result<(), Fail> {
+fn worked_files_with_a_fault_are_refused(rt: HostRuntime) -> Result<(), Fail> {
     for Refused(name, file, edits, pos, cause) in REFUSED {
         let bytes = edited(rt.alloc(), file, edits)?;
         let wanted = Some(fault(*pos, *cause));
@@ -87,7 +87,7 @@ fn refused_files(rt: HostRuntime) -> Result<(), Fail> {
 }
 
 #[test]
-fn texts_of_errors(rt: HostRuntime) -> Result<(), Fail> {
+fn errors_have_these_strings(rt: HostRuntime) -> Result<(), Fail> {
     let error = BtfError::from(fault(32, Cause::Reference));
     let text = format!(in rt.alloc(); "{} {}", error, BtfError::Memory)?;
     equal(&rt, &text.as_str(), &"Fault Memory", &"the names");

@@ -43,7 +43,7 @@ pub(crate) fn equal_walk(rt: &impl Abort, shown: &str, walk: &[&str], case: &imp
     }
 }
 
-/// Files, and what a walk over their records gives: each head, and then nothing, again and again.
+/// Files, and what a walk over their records returns: each head, and then nothing, again and again.
 #[rattlefmt::skip]
 const WALKS: &[(&[u8], &[Option<&str>])] = &[
     (TAGGED, &[Some("1 KInt { name: \"int\", size: 4, encoding: Signed, offset: 0, bits: 32 }\n"), Some("2 KStruct { name: \"s\", size: 8 }\n"), Some("3 KDeclTag { name: \"t\", flag: false, target: 2, component: Some(1) }\n"), None, None]),
@@ -74,7 +74,7 @@ fn is_walked(
 }
 
 #[test]
-fn records_end_and_stay_ended(rt: HostRuntime) -> Result<(), Fail> {
+fn records_is_fused(rt: HostRuntime) -> Result<(), Fail> {
     for (bytes, walk) in WALKS {
         let owned = Btf::parse(rt.alloc(), bytes)?;
         is_walked(&rt, rt.alloc(), &mut owned.records(), walk)?;

@@ -176,7 +176,7 @@ pub(super) static KINDS: &[KindRow] = &[
         [2] func \"f\" static type=1\n\
         [3] datasec \".ksyms\" size=0 items=1\n\
         \x20 entry type=2 offset=0 size=0\n"),
-    // tags of a variable, of a struct and of its last member
+    // tags on a variable, a struct and its last member
     row!([
         1, 0x0e00_0000, 0, 0, 3, 0x1100_0000, 1, 0xffff_ffff, 0, 0x0400_0002, 8, 0, 0, 0, 0, 0, 0x0000_0020,
         3, 0x1100_0000, 3, 0xffff_ffff, 3, 0x9100_0000, 3, 1

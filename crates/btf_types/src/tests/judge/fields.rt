@@ -1,10 +1,10 @@
-//! What the plain judge says of the fields of records.
+//! The part of the reference checker for the fields of records.
 
 use super::{Faults, Layout, Naming, Record, Word, layout_of};
 use btf_raw::BtfCause;
 use std::alloc::AllocError;
 
-/// What other words are judged by: the strings, and all records.
+/// What other fields are checked against: the strings, and all records.
 #[derive(Clone, Copy)]
 struct Types<'a> {
     strings: &'a [u8],
@@ -55,7 +55,7 @@ fn name_faults(
     Ok(())
 }
 
-/// Whether a type is an INT that no member beside bit-fields may have.
+/// Whether a type is an INT that no member of a record with bit-fields may have.
 fn is_odd_int(types: Types, id: u32) -> bool {
     let Some(int) = types.named(id) else {
         return false;
