@@ -1,15 +1,15 @@
 //! Faults: why a text is no listing.
 
 ghost use Rattle.std.specs.Prelude.{◌≡◌};
-ghost use Rattle.bpf_text.specs.declared.insn.fault.ListError.TheVariants.{Memory};
+ghost use Rattle.bpf_text.specs.declared.insn.fault.ListError.TheVariants.{Fault, Memory};
 ghost use Rattle.bpf_text.specs.insn.LineCauseNames.{line_cause_name, line_cause_sentence};
 
-use std::alloc::AllocError;
+use std::alloc::{AllocError, AllocFailed};
 use std::fmt;
 use thiserror::Error;
 
 /// Why a line is faulty: the first of these that holds.
-#[derive(Clone, Copy, Debug, PartialEq, Eq)]
+#[derive(Clone, Copy, Debug, PartialEq, Eq, PartialOrd, Ord, Hash)]
 pub enum LineCause {
     /// A byte before the comment is neither blank nor part of a token.
     Char = 1,
@@ -53,8 +53,10 @@ impl fmt::Display for LineCause {
     }
 }
 
-/// The first faulty line of a text.
-#[derive(Clone, Copy, Debug, PartialEq, Eq)]
+/// The first faulty line of a text. Its own text is `line 2 Word`: the line and the name of the
+/// cause.
+#[derive(Clone, Copy, Debug, PartialEq, Eq, PartialOrd, Ord, Hash, Error)]
+#[error("line {line} {cause}")]
 pub struct LineFault {
     /// The line, counted from 1.
     pub line: u64,
@@ -63,7 +65,7 @@ pub struct LineFault {
 }
 
 /// Why a call returns no instructions. Its text is the variant's name.
-#[derive(Clone, Copy, Debug, PartialEq, Eq, Error)]
+#[derive(Clone, Copy, Debug, PartialEq, Eq, Hash, Error)]
 pub enum ListError {
     /// The text is no listing.
     #[error("Fault")]
@@ -78,5 +80,21 @@ impl From<AllocError> for ListError {
 
     fn from(_e: AllocError) -> ListError {
         ListError::Memory
+    }
+}
+
+impl<T: Drop> From<AllocFailed<T>> for ListError {
+    ghost from_gives = { λ _ e. e ≡ Memory };
+
+    fn from(_e: AllocFailed<T>) -> ListError {
+        ListError::Memory
+    }
+}
+
+impl From<LineFault> for ListError {
+    ghost from_gives = { λ fault e. e ≡ Fault fault };
+
+    fn from(fault: LineFault) -> ListError {
+        ListError::Fault(fault)
     }
 }
