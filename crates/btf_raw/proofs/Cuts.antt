@@ -1,4 +1,4 @@
--- A file is cut in at most one way: its bytes determine the order, the lengths and the places of the sections.
+-- A file can be cut in at most one way: its bytes determine the byte order and the lengths and offsets of the sections.
 use Rattle.std.proofs.Common.{◌≡◌, ℕ, zero, suc, ◌+◌, ◌-◌, ◌*◌, ◌^◌, ◌<◌, ◌≤◌, List, [], ◌∷◌, ◌++◌, length, take, replicate, refl, sym, ap, subst, ◌∙◌, inl, inr, append_assoc, append-nil, length-append, lit<, arith}
 use Rattle.std.specs.Prelude.{slice_index}
 use Rattle.std.proofs.lemmas.List.{drop_at, take_at, length-replicate}

@@ -1,4 +1,4 @@
--- Frames differ in their bytes: at most one list of frames is a prefix of a section up to what is no frame.
+-- Frames differ in their bytes: at most one list of frames is a prefix of a section up to the first record that isn't a frame.
 use Rattle.std.proofs.Common.{◌≡◌, ◌≢◌, ℕ, zero, suc, ◌+◌, ◌*◌, ◌^◌, ◌<◌, ◌≤◌, List, [], ◌∷◌, ◌++◌, length, drop, refl, sym, ap, subst, ◌∙◌, append_assoc, length-append, arith}
 use Rattle.std.specs.Prelude.{slice_index}
 use Rattle.std.specs.List.{All}
@@ -65,7 +65,7 @@ frame_cancel o f g x y p q e =
     let size : length f ≡ length g = p.size ∙ rw info (sym q.size) in
     words_cancel o f g x y p.words q.words size e
 
--- a frame, and whatever follows it, has no fault of a record
+-- the record that a frame begins has no fault, whatever follows
 pub frame_has_none : (o : Order) (f x : List ℕ) (place : ℕ) (cause : BtfCause) → IsFrame f → ¬ RecordFault o (bytes_of o f ++ x) place cause
 frame_has_none o f x place RecordCut frame fault =
     omega (arith, three f frame, length-append (bytes_of o f) x, length-bytes_of o f, fault.1)
@@ -81,7 +81,7 @@ pub record SameFrames (fs gs : List (List ℕ)) (x y : List ℕ) : Type 0 where
   pub frames : fs ≡ gs
   pub rest : x ≡ y
 
--- the bytes are no frame with more after it
+-- the bytes don't begin with a frame
 abbrev pub IsNoFrame : Order → List ℕ → Type 0
 IsNoFrame o x = (f rest : List ℕ) → IsFrame f → x ≢ bytes_of o f ++ rest
 

@@ -1,4 +1,4 @@
--- A file has no fault of the header exactly where it can be cut.
+-- A file's header has no fault if and only if the file can be cut.
 use Rattle.std.proofs.Common.{◌≡◌, ◌≢◌, ◌⊎◌, ℕ, zero, suc, ◌+◌, ◌-◌, ◌*◌, ◌^◌, ◌<◌, ◌≤◌, List, ◌++◌, length, get_or, drop, replicate, refl, sym, ap, ◌∙◌, inl, inr, append_assoc, length-append, lit<, arith}
 use Rattle.std.specs.Prelude.{slice_index}
 use Rattle.std.proofs.lemmas.Bool.{cases_lt, cases_eq}
@@ -188,7 +188,7 @@ header_length b o n a t c s rest low high hn ha ht hc hs is =
       zeros = header_zeros b o n a t c s rest is;
     }
 
--- the numbers of a header, where the sections after it fill the file in one of the two orders
+-- the numbers of a header whose sections fill the rest of the file, in one of the two orders
 cut_at : (b : List ℕ) (o : Order) (n a t c s : ℕ) (rest : List ℕ) → 24 ≤ n → n ≤ 4096 → t ≤ TYPES_LIMIT → 0 < s → s ≤ STRINGS_LIMIT
     → ((a ≡ 0) × (c ≡ t)) ⊎ ((c ≡ 0) × (a ≡ s)) → length rest ≡ t + s → b ≡ header o n a t c s ++ rest → (h : Header) × SectionsAreRight b h
 cut_at b o n a t c s rest low high t-fits some s-fits places fill is =

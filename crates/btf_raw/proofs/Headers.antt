@@ -13,7 +13,7 @@ use Rattle.btf_raw.specs.Cause.{HasNone}
 use Rattle.btf_raw.specs.ReadHeader.{LengthIsRight, SectionsAreRight, ReadsHeader}
 use Rattle.btf_raw.proofs.Parts.{front_more, length-part, zeros_are_part}
 
--- the header is the file's front
+-- the header is a prefix of the file
 header_is_front : (b : List ℕ) (o : Order) (n a t c s : ℕ) → IsBytes b → LengthIsRight b o n → a ≡ word32_at o b 8 → t ≡ word32_at o b 12 → c ≡ word32_at o b 16 → s ≡ word32_at o b 20 → header o n a t c s ≡ take n b
 header_is_front b o n a t c s fits len a-is t-is c-is s-is =
     let there = len.start.there in

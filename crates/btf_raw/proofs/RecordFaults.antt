@@ -1,4 +1,4 @@
--- The faults of the record at a place: of info, four bytes on, or the cut of what follows, twelve on.
+-- The faults of the record at an offset: in info, 4 bytes on, or in the length of its data, 12 bytes on.
 use Rattle.std.proofs.Common.{◌≡◌, ◌⊎◌, ℕ, ◌+◌, ◌*◌, ◌<◌, ◌≤◌, List, length, drop, refl, sym, subst, ◌∙◌, inl, inr, arith}
 use Rattle.std.proofs.lemmas.List.{length-drop}
 use Rattle.bpf_words.specs.declared.Order.{Order}

@@ -1,4 +1,4 @@
--- A word info is allowed exactly where its bits are 0 where its kind has them 0.
+-- An info word is allowed if and only if the bits are 0 that must be 0 for its kind.
 use Rattle.std.proofs.Common.{◌≡◌, ◌⊎◌, ℕ, zero, suc, ◌+◌, ◌-◌, ◌/◌, ◌%◌, ◌^◌, ◌<◌, List, [], ◌∷◌, Bool, true, false, refl, ap, sym, ◌∙◌, inl, inr, arith, drop, slice_index, bit_and}
 use Rattle.std.specs.Prelude.{IsTrue, if◌then◌else◌}
 use Rattle.std.proofs.lemmas.Bool.{cases_eq}
@@ -27,7 +27,7 @@ same_table f g e n h = same_at f g 32 e n h
 
 -- ---- the parts of info
 
--- w bits from bit a on are 0, where all of them are among those that must be
+-- w bits from bit a on are 0 if all of them are among those that must be 0
 part_zero : (n m a w : ℕ) → bit_and n m ≡ 0 → m / 2 ^ a % 2 ^ w ≡ 2 ^ w - 1 → 0 / 2 ^ a % 2 ^ w ≡ 0 → n / 2 ^ a % 2 ^ w % 2 ^ w ≡ 0
 part_zero n m a w none all low =
     sym (and_mask (n / 2 ^ a % 2 ^ w) w)
@@ -103,7 +103,7 @@ allowed_by_bits info low e = by_tests info _ _ _ low refl refl refl e
 
 -- ---- the bits of an allowed info
 
--- two numbers have no bit in common, where neither their low bits do nor those above
+-- two numbers have no bit in common if neither their low bits nor their high bits have
 no_common : (n m k : ℕ) → bit_and (n % 2 ^ k) (m % 2 ^ k) ≡ 0 → bit_and (n / 2 ^ k) (m / 2 ^ k) ≡ 0 → bit_and n m ≡ 0
 no_common n m k low high =
     let above : bit_and n m / 2 ^ k ≡ 0 = and_shr n m k ∙ high in

@@ -1,4 +1,4 @@
--- Records as they are stored in the type section, each a list of words of 32 bits: name_off, info, size or type, and what follows.
+-- Records as they are stored in the type section, each a list of 32-bit words: name_off, info, size or type, and the data after them.
 use Rattle.std.specs.Prelude.{◌≡◌, ◌≢◌, ◌⊎◌, ℕ, ◌+◌, ◌*◌, ◌<◌, ◌≤◌, ◌^◌, IsTrue, IsFalse, List, ◌++◌, length, slice_index}
 use Rattle.std.specs.List.{All, flat_map}
 use Rattle.bpf_words.specs.declared.Order.{Order}
@@ -7,7 +7,7 @@ use Rattle.btf_raw.specs.declared.cause.BtfCause.{BtfCause}
 use Rattle.btf_raw.specs.declared.cause.BtfCause.TheVariants.{RecordCut, InfoBits, KindNumber, FlagSet, Vlen, TailCut}
 use Rattle.btf_raw.specs.Kinds.{vlen_of, kind_of, flag_of, unused_of, is_kind, has_flag, has_vlen, tail_words}
 
--- the words of a frame that each record has, and by name
+-- the words that every record has, by name
 abbrev pub name_word : List ℕ → ℕ
 name_word frame = slice_index frame 0
 
@@ -33,7 +33,7 @@ pub record IsAllowed (info : ℕ) : Type 0 where
   pub flag : (flag_of info ≡ 0) ⊎ IsTrue (has_flag (kind_of info))
   pub vlen : (vlen_of info ≡ 0) ⊎ IsTrue (has_vlen (kind_of info))
 
--- the words are those of one whole record, whose info is allowed
+-- the words are those of one complete record with an allowed info word
 pub record IsFrame (frame : List ℕ) : Type 0 where
   pub words : (i : ℕ) → slice_index frame i < 2 ^ 32
   pub info : IsAllowed (info_word frame)
@@ -51,11 +51,11 @@ pub record Frames (o : Order) (types : List ℕ) (frames : List (List ℕ)) : Ty
   pub each : All IsFrame frames
   pub whole : types ≡ section_of o frames
 
--- The bytes begin with a word info at place 4, as a record does.
+-- the bytes begin like a record, with this info word at offset 4
 abbrev pub HasInfo : Order → List ℕ → ℕ → Type 0
 HasInfo o bytes info = (8 ≤ length bytes) × (info ≡ word32_at o bytes 4)
 
--- What a cause from InfoBits to Vlen says of info.
+-- what each cause from InfoBits to Vlen says of an info word
 abbrev pub InfoFault : ℕ → BtfCause → Type 0
 InfoFault info InfoBits = unused_of info ≢ 0
 InfoFault info KindNumber = IsFalse (is_kind (kind_of info))
@@ -63,7 +63,7 @@ InfoFault info FlagSet = IsTrue (is_kind (kind_of info)) × (flag_of info ≢ 0)
 InfoFault info Vlen = IsTrue (is_kind (kind_of info)) × (vlen_of info ≢ 0) × IsFalse (has_vlen (kind_of info))
 InfoFault info _ = ⊥
 
--- What a cause from RecordCut to TailCut says of the bytes from a record's place on, and at which place from there.
+-- what each cause from RecordCut to TailCut says of the bytes from the start of a record on, and at which offset from there
 abbrev pub RecordFault : Order → List ℕ → ℕ → BtfCause → Type 0
 RecordFault o rest p RecordCut = (0 < length rest) × (length rest < 12) × (p ≡ 0)
 RecordFault o rest p TailCut =
@@ -71,7 +71,7 @@ RecordFault o rest p TailCut =
     × (length rest < 12 + 4 * tail_words (kind_of info) (vlen_of info)) × (p ≡ 12)
 RecordFault o rest p cause = (info : ℕ) × HasInfo o rest info × InfoFault info cause × (p ≡ 4)
 
--- The first record that isn't a frame has this fault, at this place of the section: the records before it are frames.
+-- the first record that isn't a frame has this fault, at this offset of the section; the records before it are frames
 pub record FramingFault (o : Order) (types : List ℕ) (place : ℕ) (cause : BtfCause) : Type 0 where
   pub frames : List (List ℕ)
   pub rest : List ℕ

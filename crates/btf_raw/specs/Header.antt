@@ -18,7 +18,7 @@ header o header_len type_off type_len str_off str_len =
     word16 o 0xeb9f ++ (1 ∷ 0 ∷ []) ++ word32 o header_len ++ word32 o type_off ++ word32 o type_len ++ word32 o str_off ++ word32 o str_len
     ++ replicate (header_len - 24) 0
 
--- The file is a header in order o, followed by the types and the strings in either order, as the header says.
+-- the file is a header in byte order o, followed by the types and the strings, in either order, as the header says
 pub record Cut (b : List ℕ) (o : Order) (types strings : List ℕ) : Type 0 where
   pub header_len : ℕ
   pub at_least : 24 ≤ header_len
@@ -30,11 +30,11 @@ pub record Cut (b : List ℕ) (o : Order) (types strings : List ℕ) : Type 0 wh
       (b ≡ header o header_len 0 (length types) (length types) (length strings) ++ types ++ strings)
       ⊎ (b ≡ header o header_len (length strings) (length types) 0 (length strings) ++ strings ++ types)
 
--- the file begins with the magic of the order
+-- the file begins with the magic number in this byte order
 abbrev pub HasOrder : List ℕ → Order → Type 0
 HasOrder b o = (2 ≤ length b) × (word16_at o b 0 ≡ 0xeb9f)
 
--- the header has an order, and the word of 32 bits at this place of it is w
+-- the header has a byte order, and its 32-bit word at this offset is w
 abbrev pub HasWord : List ℕ → Order → ℕ → ℕ → Type 0
 HasWord b o place w = HasOrder b o × (place + 4 ≤ length b) × (w ≡ word32_at o b place)
 
@@ -79,6 +79,6 @@ types_at o b = word32_at o b 4 + word32_at o b 8
 abbrev pub strings_at : Order → List ℕ → ℕ
 strings_at o b = word32_at o b 4 + word32_at o b 16
 
--- the parts of the file that begin and are as long as a header's numbers say
+-- the two sections of a file, by the numbers of its header
 abbrev pub part : List ℕ → ℕ → ℕ → List ℕ
 part b pos len = take len (drop pos b)

@@ -1,4 +1,4 @@
--- The record header at a place of the type section.
+-- The record header at an offset of the type section.
 use Rattle.std.specs.Prelude.{◌≡◌, ℕ, ◌+◌, ◌*◌, ◌≤◌, Bool, true, false, List, length, drop}
 use Rattle.bpf_words.specs.declared.Order.{Order}
 use Rattle.bpf_words.specs.Words.{word32_at}

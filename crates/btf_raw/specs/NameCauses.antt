@@ -1,4 +1,4 @@
--- Why there is no name at an offset, as a cause of a fault of a file.
+-- From the reason why an offset has no name to the cause of a fault in a file.
 use Rattle.btf_raw.specs.declared.cause.BtfCause.{BtfCause}
 use Rattle.btf_raw.specs.declared.cause.BtfCause.TheVariants.{NameRange, NameUtf8}
 use Rattle.btf_raw.specs.declared.cause.NameCause.{NameCause}

@@ -12,14 +12,14 @@ pub record ReadsHeader (b : List ℕ) (h : Header) : Type 0 where
   pub types_there : h.types_pos + h.types_len ≤ length b
   pub strings_there : h.str_pos + h.str_len ≤ length b
 
--- what the first causes leave: the file has a header with an order, version 1 and no flags
+-- after the first causes: the file has a header with a byte order, version 1 and no flags
 pub record StartIsRight (b : List ℕ) (o : Order) : Type 0 where
   pub there : 24 ≤ length b
   pub order : word16_at o b 0 ≡ 0xeb9f
   pub version : slice_index b 2 ≡ 1
   pub flags : slice_index b 3 ≡ 0
 
--- and then: the header's length is right, and zeros fill it
+-- after the next two: the length of the header is right, and zeros fill it
 pub record LengthIsRight (b : List ℕ) (o : Order) (n : ℕ) : Type 0 where
   pub start : StartIsRight b o
   pub word : n ≡ word32_at o b 4
@@ -28,7 +28,7 @@ pub record LengthIsRight (b : List ℕ) (o : Order) (n : ℕ) : Type 0 where
   pub inside : n ≤ length b
   pub zeros : (q : ℕ) → 24 ≤ q → q < n → slice_index b q ≡ 0
 
--- and then: the sections fill the rest of the file, in either order, within their limits
+-- after the others: the sections fill the rest of the file, in either order, within their limits
 pub record SectionsAreRight (b : List ℕ) (h : Header) : Type 0 where
   pub header_len : ℕ
   pub len : LengthIsRight b h.order header_len

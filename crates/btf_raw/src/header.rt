@@ -19,32 +19,32 @@ ghost use Rattle.btf_raw.specs.Cause.{LeastByCause, HasNone};
 use crate::cause::{BtfCause, BtfFault};
 use bpf_words::{Order, get16, get32};
 
-/// The byte order of a file, and where its two sections are, in bytes from the first byte of the
+/// The byte order of a file and the offsets of its two sections, in bytes from the start of the
 /// file.
 #[derive(Clone, Copy, Debug, PartialEq, Eq, Hash)]
 pub struct Header {
-    /// The order in which the first two bytes are the magic.
+    /// The byte order in which the first two bytes are the magic number.
     pub order: Order,
-    /// Where the types begin.
+    /// The offset of the type section.
     pub types_pos: usize,
-    /// Their length in bytes, at most 33,554,432.
+    /// The length of the type section in bytes, at most 33,554,432.
     pub types_len: usize,
-    /// Where the strings begin.
+    /// The offset of the string section.
     pub str_pos: usize,
-    /// Their length in bytes, 1 to 16,777,216.
+    /// The length of the string section in bytes, 1 to 16,777,216.
     pub str_len: usize,
 }
 
-/// The first two bytes, in the order of the file.
+/// The magic number: the first two bytes, in the file's byte order.
 const MAGIC: u16 = 0xeb9f;
 
-/// The most bytes that the types take.
+/// The maximum length of the type section in bytes.
 const TYPES_LIMIT: usize = 33_554_432;
 
-/// The most bytes that the strings take.
+/// The maximum length of the string section in bytes.
 const STRINGS_LIMIT: usize = 16_777_216;
 
-/// A fault at a place.
+/// A fault at an offset.
 pub(crate) fn fault(pos: usize, cause: BtfCause) -> BtfFault
     ensures pos { result.pos ≡ pos }
     ensures cause { result.cause ≡ cause }
@@ -55,12 +55,13 @@ pub(crate) fn fault(pos: usize, cause: BtfCause) -> BtfFault
     }
 }
 
-/// Judges the ends of a string section, which has to have a byte (btf.rst section 2.1).
+/// Checks the first and the last byte of a string section, which must not be empty (btf.rst section
+/// 2.1).
 ///
 /// # Errors
 ///
-/// `FirstString` where the first byte isn't NUL; else `LastString` where the last isn't. Places
-/// count from the section's first byte.
+/// `FirstString` if the first byte isn't NUL; otherwise `LastString` if the last byte isn't.
+/// Offsets count from the start of the section.
 pub fn check_strings(strings: &[u8]) -> Result<(), BtfFault>
     requires { 0 < length strings.now }
     ensures cases { MatchResult result
@@ -78,7 +79,7 @@ pub fn check_strings(strings: &[u8]) -> Result<(), BtfFault>
     Ok(())
 }
 
-/// The order in which the first two bytes are the magic.
+/// The byte order in which the first two bytes are the magic number.
 fn order_of(bytes: &[u8]) -> Option<Order>
     requires { 2 ≤ length bytes.now }
     ensures { MatchOption result
@@ -94,7 +95,7 @@ fn order_of(bytes: &[u8]) -> Option<Order>
     None
 }
 
-/// Size, magic, version and flags.
+/// Checks the file's length, the magic number, the version and the flags.
 fn start_of(bytes: &[u8]) -> Result<Order, BtfFault>
     ensures { MatchResult result
         (λ o. StartIsRight bytes.now o)
@@ -115,7 +116,7 @@ fn start_of(bytes: &[u8]) -> Result<Order, BtfFault>
     Ok(order)
 }
 
-/// The place of the first byte from 24 up to `end` that isn't 0.
+/// The offset of the first byte from 24 up to `end` that isn't 0.
 fn tail_of(bytes: &[u8], end: usize) -> Option<usize>
     requires low { 24 ≤ end }
     requires high { end ≤ length bytes.now }
@@ -132,7 +133,7 @@ fn tail_of(bytes: &[u8], end: usize) -> Option<usize>
     None
 }
 
-/// The header's length, and the bytes past 24.
+/// Checks the header's length and its bytes after the first 24.
 fn length_of(order: Order, bytes: &[u8]) -> Result<usize, BtfFault>
     requires { StartIsRight bytes.now order }
     ensures { MatchResult result
@@ -149,7 +150,7 @@ fn length_of(order: Order, bytes: &[u8]) -> Result<usize, BtfFault>
     Ok(len)
 }
 
-/// The lengths and places of the two sections.
+/// Checks the lengths and the offsets of the two sections.
 fn sections_of(order: Order, bytes: &[u8], header_len: usize) -> Result<Header, BtfFault>
     requires { LengthIsRight bytes.now order header_len }
     ensures { MatchResult result
@@ -182,14 +183,14 @@ fn sections_of(order: Order, bytes: &[u8], header_len: usize) -> Result<Header, 
     })
 }
 
-/// The numbers of a file's header, judged over the whole file (btf.rst section 2).
+/// Reads the header of a file, and checks it against the entire file (btf.rst section 2).
 ///
-/// Some of it is this project's profile: the flags are 0, hdr_len is 24 to 4096 with zeros past 24,
-/// and the two sections fill the rest of the file exactly, in either order.
+/// Three rules are this project's own: the flags are 0; hdr_len is 24 to 4,096, with zeros after
+/// the first 24 bytes; and the two sections fill the rest of the file exactly, in either order.
 ///
 /// # Errors
 ///
-/// The least cause from `ShortHeader` to `FileLength` that holds, with its place in the file.
+/// The first cause, from `ShortHeader` to `FileLength`, that applies, with its offset in the file.
 pub fn read_header(bytes: &[u8]) -> Result<Header, BtfFault>
     ensures { MatchResult result
         (λ h. ReadsHeader bytes.now h × HasNone (HeaderFault bytes.now))

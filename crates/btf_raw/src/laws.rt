@@ -1,4 +1,5 @@
-//! Laws of the constants and the definitions. Each function does nothing: its contract is the law.
+//! Laws that relate the constants to the definitions. Each function does nothing: its contract is
+//! the law.
 
 ghost use Rattle.std.specs.Prelude.{◌≡◌};
 ghost use Rattle.btf_raw.specs.KindNumbers as standard;
@@ -8,7 +9,7 @@ use crate::kinds::{
     RESTRICT, STRUCT, TYPE_TAG, TYPEDEF, UNION, VAR, VOLATILE,
 };
 
-/// Each constant for a kind is the number that the standard gives this kind (btf.rst section 2.2).
+/// Each constant for a kind is the number of that kind in the standard (btf.rst section 2.2).
 pub fn kinds_have_their_numbers()
     ensures int { INT ≡ standard.INT }
     ensures ptr { PTR ≡ standard.PTR }

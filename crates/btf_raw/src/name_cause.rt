@@ -1,4 +1,4 @@
-//! Why there is no name at an offset, as a cause of a fault of a file.
+//! From the reason why an offset has no name to the cause of a fault in a file.
 
 ghost use Rattle.std.specs.Prelude.{◌≡◌};
 ghost use Rattle.btf_raw.specs.BtfCauseNames.{btf_cause_sentence};
@@ -6,7 +6,7 @@ ghost use Rattle.btf_raw.specs.NameCauses.{btf_cause_of};
 
 use crate::cause::{BtfCause, NameCause};
 
-/// The cause of the fault of a file that has no name at the offset of a name.
+/// The cause of the fault in a file with this name offset.
 impl From<NameCause> for BtfCause {
     ghost from_gives = { λ cause btf_cause. btf_cause ≡ btf_cause_of cause };
 
@@ -19,7 +19,7 @@ impl From<NameCause> for BtfCause {
 }
 
 impl NameCause {
-    /// What is wrong, as [`BtfCause::describe`] has it.
+    /// What is wrong, in the same sentence as [`BtfCause::describe`].
     pub fn describe(self) -> &'static str
         ensures { result.now ≡ btf_cause_sentence (btf_cause_of self) }
     {

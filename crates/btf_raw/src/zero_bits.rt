@@ -1,5 +1,5 @@
-//! The bits of the word info that must be 0 (btf.rst section 2.2): a table has them for each kind,
-//! so that one look judges the whole word.
+//! The bits of the info word that must be 0, as one mask for each kind, so that one test checks the
+//! entire word (btf.rst section 2.2).
 
 ghost use Rattle.std.specs.Prelude.{◌≡◌, ◌↔◌, ◌^◌, ◌<◌, IsTrue};
 ghost use Rattle.btf_raw.specs.Frames.{IsAllowed};
@@ -7,11 +7,11 @@ ghost use Rattle.btf_raw.specs.ZeroBits.{zero_bits_of};
 
 use crate::info::kind_of;
 
-/// The bit above info, which is set before it is judged. So it refuses each word with a number that
-/// is no kind.
+/// The bit above info, which is set before the mask is applied: it rejects each number that isn't a
+/// kind.
 const NO_KIND: u64 = 0x1_0000_0000;
 
-/// The unused bits: `kind_flag` and `vlen` are free.
+/// The unused bits only: `kind_flag` and `vlen` may have any value.
 const UNUSED: u64 = 0x60ff_0000;
 
 /// The unused bits and `vlen`.
@@ -50,7 +50,7 @@ static ZERO_BITS: [u64; 32] = [
     NO_KIND,
 ];
 
-/// The bits that must be 0 in a word info of this kind, with the bit above it.
+/// The bits that must be 0 in an info word of this kind, with the bit above it.
 #[inline(always)]
 fn zero_bits(kind: u8) -> u64
     requires { kind < 2 ^ 5 }
@@ -59,7 +59,7 @@ fn zero_bits(kind: u8) -> u64
     ZERO_BITS[kind as usize]
 }
 
-/// Whether a word info is one that the table of kinds allows, the linkage of a FUNC aside.
+/// Whether the table of kinds allows an info word, except for the linkage of a FUNC.
 #[inline(always)]
 pub fn is_allowed(info: u32) -> bool
     ensures { IsTrue result ↔ IsAllowed info }

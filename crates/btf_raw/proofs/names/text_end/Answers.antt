@@ -1,4 +1,4 @@
--- The first NUL of the rest ends the text.
+-- The first NUL of the rest ends the string.
 use Rattle.std.proofs.Common.{arith}
 use Rattle.std.proofs.lemmas.Bool.{eqb-true, eq-eqb}
 use Rattle.std.proofs.lemmas.List.{take_rest}
