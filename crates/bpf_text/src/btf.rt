@@ -1,4 +1,4 @@
-//! The text of BTF types: a line for each type, and one for each of its items.
+//! Listings of BTF types: a line for each type, and one for each of its items.
 
 pub(crate) mod head_lines;
 pub(crate) mod item_lines;

@@ -1,4 +1,4 @@
-//! Listings: instructions as text, written and read.
+//! Listings of instructions: writing and reading them.
 
 pub mod fault;
 pub(crate) mod insn_sink;

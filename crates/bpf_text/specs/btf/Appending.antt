@@ -1,7 +1,7 @@
--- The text after a call that appends to it.
+-- A vector after a call that appends bytes to it.
 use Rattle.std.specs.Prelude.{◌≡◌, ◌++◌, ℕ, List, Result, MatchResult}
 use Rattle.std.specs.declared.vec.Vec.{Vec}
 
--- after `Ok`, the text ends with `more`; after `Err`, it still begins with what it held
+-- after `Ok`, `more` follows the old bytes; after `Err`, the vector still begins with the old bytes
 abbrev pub Appends : {E Z : Type 0} → Result (Unit {0}) E → Vec ℕ Z → List ℕ → Vec ℕ Z → Type 0
 Appends r old more new = MatchResult r (λ _. new.items ≡ old.items ++ more) (λ _. (rest : List ℕ) × (new.items ≡ old.items ++ rest))

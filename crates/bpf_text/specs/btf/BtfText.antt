@@ -1,4 +1,4 @@
--- The text of BTF types: a line for each type, followed by a line for each of its items. It is meant for values in the
+-- Listings of BTF types: a line for each type, followed by a line for each of its items. They are meant for values in the
 -- ranges of their types: std writes numbers of up to 64 digits.
 use Rattle.std.specs.Prelude.{ℕ, ◌/◌, ◌%◌, Bool, true, false, List, [], ◌∷◌, ◌++◌, Option, Some, None, codes, decimal, length, nat_lt, if◌then◌else◌, ◌==◌, ◌||◌}
 use Rattle.std.specs.Char.{digit_char}
@@ -14,11 +14,11 @@ use Rattle.btf_types.specs.Values.{TypeHead, KInt, KPtr, KArray, KStruct, KUnion
 
 -- ---- names
 
--- a quote and a backslash
+-- a quote or a backslash
 abbrev pub needs_backslash : ℕ → Bool
 needs_backslash b = b == 0x22 || b == 0x5c
 
--- the control characters of ASCII
+-- the ASCII control characters
 abbrev pub is_control : ℕ → Bool
 is_control b = nat_lt b 0x20 || b == 0x7f
 
@@ -32,7 +32,7 @@ quoted_byte b =
 abbrev pub quoted : List ℕ → List ℕ
 quoted name = codes "\"" ++ flat_map quoted_byte name ++ codes "\""
 
--- ---- texts of single values
+-- ---- single values
 
 abbrev pub encoding_name : Encoding → List ℕ
 encoding_name encoding.Plain = codes "plain"
@@ -45,21 +45,21 @@ linkage_name linkage.LStatic = codes "static"
 linkage_name linkage.LGlobal = codes "global"
 linkage_name linkage.LExtern = codes "extern"
 
--- how the values of an enum are read
+-- whether the values of an enum are signed
 abbrev pub sign_name : Bool → List ℕ
 sign_name signed = if signed then codes "signed" else codes "unsigned"
 
 abbrev pub flag_text : Bool → List ℕ
 flag_text flag = if flag then codes "1" else codes "0"
 
--- -1 is all of the target
+-- -1 if the tag is on the target itself
 abbrev pub component_text : Option ℕ → List ℕ
 component_text None = codes "-1"
 component_text (Some component) = decimal component
 
 -- ---- types
 
--- the text of a kind
+-- the name of a type's kind
 abbrev pub kind_word : TypeHead → List ℕ
 kind_word (KInt name size encoding offset bits) = codes "int"
 kind_word (KPtr target) = codes "ptr"
@@ -81,7 +81,7 @@ kind_word (KDeclTag name flag target component) = codes "decl_tag"
 kind_word (KTypeTag name flag target) = codes "type_tag"
 kind_word (KEnum64 name signed size) = codes "enum64"
 
--- whether a type of this kind has a name, which may be empty
+-- whether the kind of a type has a name, which may be empty
 abbrev pub has_name : TypeHead → Bool
 has_name (KPtr target) = false
 has_name (KArray target index count) = false
@@ -91,11 +91,11 @@ has_name (KRestrict target) = false
 has_name (KFuncProto target) = false
 has_name head = true
 
--- the text between the kind and the fields
+-- what is between the kind and the fields: a space and the name, if the kind has one
 abbrev pub name_text : TypeHead → List ℕ
 name_text head = if has_name head then codes " " ++ quoted (head_name head) else []
 
--- the fields, of a type with this number of items
+-- the fields of a type with this number of items
 abbrev pub fields_text : TypeHead → ℕ → List ℕ
 fields_text (KInt name size encoding offset bits) items =
     codes " size=" ++ decimal size ++ codes " encoding=" ++ encoding_name encoding
@@ -130,17 +130,17 @@ head_line id head items =
 
 -- ---- items
 
--- whether the values of the type are read as signed
+-- whether the values of a type are signed
 abbrev pub is_signed : TypeHead → Bool
 is_signed (KEnum name signed size) = signed
 is_signed (KEnum64 name signed size) = signed
 is_signed head = false
 
--- a number of this width, read as signed or unsigned
+-- a number of this width, written as signed or unsigned
 abbrev pub value_text : Width → Bool → ℕ → List ℕ
 value_text w signed value = if signed then signed_decimal (cast_signed w value) else decimal value
 
--- an item of a type whose values are signed or not; its line begins with two spaces
+-- the line of an item without its newline; enum values are written as signed or unsigned
 abbrev pub item_text : Bool → TypeItem → List ℕ
 item_text signed (Member name target bit_offset width) =
     codes "  member " ++ quoted name ++ codes " type=" ++ decimal target ++ codes " offset=" ++ decimal bit_offset
@@ -154,12 +154,12 @@ item_text signed (Entry target offset size) =
 abbrev pub item_line : Bool → TypeItem → List ℕ
 item_line signed item = item_text signed item ++ codes "\n"
 
--- ---- the whole
+-- ---- types with their items
 
--- the lines of the type with this ID
+-- the line of the type with this ID, and those of its items
 abbrev pub record_text : ℕ → TypeRecord → List ℕ
 record_text id r = head_line id r.head (length r.items) ++ flat_map (item_line (is_signed r.head)) r.items
 
--- the lines of all types, which are numbered from 1
+-- the lines of all types, whose IDs count from 1
 abbrev pub text_of : List TypeRecord → List ℕ
 text_of v = flat_map (λ p. record_text p.0 p.1) (enumerate_from 1 v)

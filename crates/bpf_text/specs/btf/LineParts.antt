@@ -1,5 +1,5 @@
--- The line of a type or an item in three parts: the text before its name, the bytes of the name, and the text after it. A
--- line without a name is cut after its kind.
+-- The line of a type or an item in three parts: the bytes before its name, the name, and the bytes after it. A line
+-- without a name is split after its kind.
 use Rattle.std.specs.Prelude.{ℕ, Bool, List, [], ◌++◌, codes, decimal, if◌then◌else◌}
 use Rattle.std.specs.Int.{w32, w64}
 use Rattle.btf_types.specs.Values.{TypeHead, TypeItem, Member, EnumValue, Value64, Param, Entry}
@@ -11,7 +11,7 @@ use Rattle.bpf_text.specs.btf.BtfText.{fields_text, has_name, kind_word, value_t
 abbrev pub head_start : ℕ → TypeHead → List ℕ
 head_start id head = codes "[" ++ decimal id ++ codes "] " ++ kind_word head ++ (if has_name head then codes " \"" else [])
 
--- the text after the name, of a type with this number of items
+-- what follows the name of a type with this number of items
 abbrev pub head_fields : TypeHead → ℕ → List ℕ
 head_fields head items = (if has_name head then codes "\"" else []) ++ fields_text head items
 
@@ -29,7 +29,7 @@ item_start (Value64 name value) = codes "  value \""
 item_start (Param name target) = codes "  param \""
 item_start (Entry target offset size) = codes "  entry"
 
--- the text after the name of an item of a type whose values are signed or not
+-- what follows the name of an item; enum values are written as signed or unsigned
 abbrev pub item_fields : Bool → TypeItem → List ℕ
 item_fields signed (Member name target bit_offset width) =
     codes "\" type=" ++ decimal target ++ codes " offset=" ++ decimal bit_offset

@@ -1,4 +1,4 @@
--- The causes of listings' faults: their names, and a sentence for each.
+-- The causes of a listing's faults: their names, and a sentence for each.
 use Rattle.std.specs.Prelude.{ℕ, List, codes}
 use Rattle.bpf_text.specs.declared.insn.fault.LineCause.{LineCause}
 use Rattle.bpf_text.specs.declared.insn.fault.LineCause.TheVariants as line_cause
@@ -9,7 +9,7 @@ line_cause_name line_cause.Word = codes "Word"
 line_cause_name line_cause.Shape = codes "Shape"
 line_cause_name line_cause.Range = codes "Range"
 
--- what is wrong, for people
+-- a sentence that explains the cause
 abbrev pub line_cause_sentence : LineCause → List ℕ
 line_cause_sentence line_cause.Char = codes "a character that is neither blank nor part of a token"
 line_cause_sentence line_cause.Word = codes "no instruction has this mnemonic"

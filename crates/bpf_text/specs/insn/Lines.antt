@@ -1,4 +1,4 @@
--- The line of an instruction, and the listing of a list. They are meant for instructions whose fields are in the range of
+-- The line of an instruction, and the listing of several. They are meant for instructions whose fields are in the range of
 -- their types: std writes numbers of up to 64 digits.
 use Rattle.std.specs.Prelude.{ℕ, List, [], ◌∷◌, ◌++◌, codes}
 use Rattle.std.specs.List.{flat_map}
@@ -15,6 +15,6 @@ spaced (a ∷ more) = codes " " ++ operands_text (a ∷ more)
 abbrev pub line_of : Insn → List ℕ
 line_of i = mnemonic_text i ++ spaced (operands_of i)
 
--- a line for each instruction
+-- a line for each instruction, with a newline
 abbrev pub listing_of : List Insn → List ℕ
 listing_of insns = flat_map (λ i. line_of i ++ codes "\n") insns

@@ -1,4 +1,4 @@
--- Which instructions a text lists, and the fault of a text that is no listing.
+-- Which instructions a listing lists, and the fault of an input that isn't a listing.
 use Rattle.std.specs.Prelude.{◌≡◌, ℕ, ◌+◌, List, [], ◌∷◌, ◌++◌, length, map, IsTrue}
 use Rattle.std.specs.List.{slice_split, AllZip, flat_map, list_any}
 use Rattle.bpf_insn.specs.declared.insn.Insn.{Insn}
@@ -10,7 +10,7 @@ use Rattle.bpf_text.specs.insn.Operands.{LineOperand, operand_kind, SpellsOperan
 use Rattle.bpf_text.specs.insn.Table.{mnemonic_text, operands_of}
 use Rattle.bpf_text.specs.insn.Tokens.{is_newline, code_of, AreTokens, is_stray}
 
--- the lines: the text before, between and after the newlines
+-- the lines: the bytes before, between and after the newlines
 abbrev pub lines_of : List ℕ → List (List ℕ)
 lines_of text = slice_split is_newline text
 
@@ -21,7 +21,7 @@ abbrev pub IsTokenForm : List (List ℕ) → Insn → Type 0
 IsTokenForm [] i = ⊥
 IsTokenForm (first_token ∷ tokens) i = (first_token ≡ mnemonic_text i) × SpellsOperands tokens (operands_of i)
 
--- the code of the line is a token form of an instruction whose fields are in range
+-- the line, without its comment, is a token form of an instruction whose fields are in range
 abbrev pub ListsInsn : List ℕ → Insn → Type 0
 ListsInsn line i = IsInsn i × ((tokens : List (List ℕ)) × AreTokens (code_of line) tokens × IsTokenForm tokens i)
 
@@ -37,13 +37,13 @@ ListsLine line _ = ⊥
 abbrev pub IsMnemonic : List ℕ → Type 0
 IsMnemonic first_token = (i : Insn) × IsInsn i × (first_token ≡ mnemonic_text i)
 
--- the tokens spell operands of the kinds that some instruction with this mnemonic has; their numbers may be of any size
+-- the tokens spell operands of the same kinds as those of some instruction with this mnemonic; numbers may have any size
 abbrev pub IsForm : List ℕ → List (List ℕ) → Type 0
 IsForm first_token tokens =
     (i : Insn) × IsInsn i × (first_token ≡ mnemonic_text i)
     × ((operands : List LineOperand) × (map operand_kind operands ≡ map operand_kind (operands_of i)) × SpellsOperands tokens operands)
 
--- the first of the four causes that holds
+-- the first of the four causes that applies
 abbrev pub IsCause : List ℕ → LineCause → Type 0
 IsCause line Char = IsTrue (list_any is_stray (code_of line))
 IsCause line Word =
@@ -54,7 +54,7 @@ IsCause line Range =
     (first_token : List ℕ) × (tokens : List (List ℕ)) × AreTokens (code_of line) (first_token ∷ tokens) × IsForm first_token tokens
     × ((i : Insn) → IsInsn i → ¬ IsTokenForm (first_token ∷ tokens) i)
 
--- ---- a text
+-- ---- a listing
 
 -- the instructions that the lines list, in order
 pub record Lists (text : List ℕ) (insns : List Insn) : Type 0 where
@@ -62,7 +62,7 @@ pub record Lists (text : List ℕ) (insns : List Insn) : Type 0 where
   pub each : AllZip ListsLine (lines_of text) listed
   pub whole : insns ≡ flat_map (λ found. found) listed
 
--- the first line that lists neither nothing nor an instruction, counted from 1
+-- the first line, counted from 1, that is neither empty (except for blanks and a comment) nor an instruction
 pub record IsListFault (text : List ℕ) (fault : LineFault) : Type 0 where
   pub front : List (List ℕ)
   pub line : List ℕ

@@ -1,11 +1,11 @@
 -- The hash by which the reader finds a mnemonic. No public clause cites it.
 use Rattle.std.specs.Prelude.{ℕ, ◌+◌, ◌*◌, ◌/◌, ◌%◌, List, [], ◌∷◌}
 
--- the hash after some bytes, continued over more bytes
+-- a hash, continued over more bytes
 abbrev pub hash_from : ℕ → List ℕ → ℕ
 hash_from hash [] = hash
 hash_from hash (b ∷ bytes) = hash_from (((hash + b) * 807) % 65536) bytes
 
--- a number below 1,024
+-- the hash of a token, below 1,024
 abbrev pub hash_of : List ℕ → ℕ
 hash_of token = hash_from 0 token / 64

@@ -1,4 +1,4 @@
--- The text of each mnemonic, and the mnemonic of each instruction. No public clause cites them.
+-- The bytes of each mnemonic, and the mnemonic of each instruction. No public clause cites them.
 use Rattle.std.specs.Prelude.{ℕ, List, ◌++◌, codes}
 use Rattle.bpf_insn.specs.declared.insn.Insn.{Insn}
 use Rattle.bpf_insn.specs.declared.insn.Insn.TheVariants as insn
@@ -10,7 +10,7 @@ use Rattle.bpf_text.specs.declared.insn.mnemonic.Mnemonic.{Mnemonic}
 use Rattle.bpf_text.specs.declared.insn.mnemonic.Mnemonic.TheVariants.{Alu, Movsx, Neg, Swap, Jump, JumpLong, Branch, CallHelper, CallLocal, CallBtf, Exit, Load, LoadSigned, StoreImm, StoreReg, Atomic, Wide, PacketAbs, PacketInd}
 use Rattle.bpf_text.specs.insn.Table.{width_suffix, alu_mnemonic, branch_mnemonic, movsx_mnemonic, swap_mnemonic, bits_suffix, size_suffix, small_size_suffix, atomic_mnemonic}
 
--- the text of the mnemonic of a wide load
+-- the bytes of the mnemonic of a wide load
 abbrev pub wide_kind_mnemonic : WideKind → List ℕ
 wide_kind_mnemonic kind.Number = codes "lddw"
 wide_kind_mnemonic kind.MapFd = codes "lddw_map"
@@ -20,7 +20,7 @@ wide_kind_mnemonic kind.CodeAddr = codes "lddw_code"
 wide_kind_mnemonic kind.MapIdx = codes "lddw_idx"
 wide_kind_mnemonic kind.MapValueIdx = codes "lddw_idx_value"
 
--- the text of a mnemonic
+-- the bytes of a mnemonic
 abbrev pub text_of_mnemonic : Mnemonic → List ℕ
 text_of_mnemonic (Alu width op) = alu_mnemonic op ++ width_suffix width
 text_of_mnemonic (Movsx form) = movsx_mnemonic form

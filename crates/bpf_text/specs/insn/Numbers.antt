@@ -1,21 +1,21 @@
--- What a number and an operand that were read mean.
+-- The values that numbers and operands of the reader represent.
 use Rattle.std.specs.Prelude.{◌≡◌, ℕ, ◌^◌, ◌≤◌, ℤ, pos, neg_ℤ, ◌≤ℤ◌, Bool, true, false, ◌⊎◌, List, Option, Some, None}
 use Rattle.bpf_text.specs.declared.insn.number.Number.{Number}
 use Rattle.bpf_text.specs.declared.insn.read_operand.ReadOperand.{ReadOperand}
 use Rattle.bpf_text.specs.declared.insn.read_operand.ReadOperand.TheVariants.{Register, Literal, Memory}
 use Rattle.bpf_text.specs.insn.Operands.{LineOperand, register, number, signed, memory, SpellsOperand}
 
--- the magnitude, or that it has more than 64 bits
+-- a magnitude below 2^64, or `None` for all larger ones
 abbrev pub IsMagnitude : Option ℕ → ℕ → Type 0
 IsMagnitude (Some n) m = n ≡ m
 IsMagnitude None m = 2 ^ 64 ≤ m
 
--- with or without a minus
+-- a magnitude, with a minus if `true`
 abbrev pub signed_by : Bool → ℕ → ℤ
 signed_by false m = pos m
 signed_by true m = neg_ℤ (pos m)
 
--- the number that was read
+-- the value of a number that was read
 abbrev pub IsNumber : Number → ℤ → Type 0
 IsNumber n z = (m : ℕ) × IsMagnitude n.magnitude m × (z ≡ signed_by n.negative m)
 
@@ -27,11 +27,11 @@ IsReadAs (Literal n) (signed z) = IsNumber n z
 IsReadAs (Memory r n) (memory s z) = (r ≡ s) × IsNumber n z
 IsReadAs _ _ = ⊥
 
--- none if the tokens spell no operand, else the one that they spell
+-- the operand that the tokens spell, or `None` if they don't spell an operand
 abbrev pub ReadsOperand : List (List ℕ) → Option ReadOperand → Type 0
 ReadsOperand tokens None = (a : LineOperand) → ¬ SpellsOperand tokens a
 ReadsOperand tokens (Some s) = (a : LineOperand) × SpellsOperand tokens a × IsReadAs s a
 
--- no number of 64 bits, with or without a sign
+-- the magnitude is 2^64 or more
 abbrev pub IsFar : ℤ → Type 0
 IsFar z = (pos (2 ^ 64) ≤ℤ z) ⊎ (z ≤ℤ neg_ℤ (pos (2 ^ 64)))

@@ -1,4 +1,4 @@
--- What reading the fields of an instruction from its operands returns.
+-- The results of reading the fields of an instruction from its operands.
 use Rattle.std.specs.Prelude.{◌≡◌, ◌≢◌, ◌^◌, ◌<◌, ℕ, ℤ, pos, List, map, Result, Ok, Err}
 use Rattle.std.specs.List.{AllZip}
 use Rattle.bpf_insn.specs.declared.insn.Reg.{Reg}
@@ -23,7 +23,7 @@ plain (number z) = number z
 plain (signed z) = number z
 plain (memory r z) = memory r z
 
--- one field of an instruction: its values, and how each is written
+-- one field of an instruction: its valid values, and the operand that each is written as
 pub record Field (X : Type 0) : Type 1 where
   pub valid : X → Type 0
   pub written : X → LineOperand
@@ -53,7 +53,7 @@ ReadsField {X} field a (Err Shape) = (x : X) → operand_kind a ≢ operand_kind
 ReadsField {X} field a (Err Range) = ((x : X) × (operand_kind a ≡ operand_kind (field.written x))) × ((x : X) → field.valid x → plain a ≢ field.written x)
 ReadsField field a (Err _) = ⊥
 
--- the result for the instruction of a mnemonic
+-- the result for an instruction with this mnemonic
 abbrev pub ReadsInsn : Mnemonic → List LineOperand → Result Insn LineCause → Type 0
 ReadsInsn m spelled (Ok i) = IsInsn i × (mnemonic_of i ≡ m) × (map plain spelled ≡ map plain (operands_of i))
 ReadsInsn m spelled (Err Shape) = (i : Insn) → mnemonic_of i ≡ m → map operand_kind spelled ≢ map operand_kind (operands_of i)
@@ -62,14 +62,14 @@ ReadsInsn m spelled (Err Range) =
     × ((i : Insn) → IsInsn i → mnemonic_of i ≡ m → map plain spelled ≢ map plain (operands_of i))
 ReadsInsn m spelled (Err _) = ⊥
 
--- the results for what was read, for every operand that it means
+-- the result for an operand that was read, whichever written operand it represents
 abbrev pub FieldIsRead : {X : Type 0} → Field X → ReadOperand → Result X LineCause → Type 0
 FieldIsRead field operand result = (a : LineOperand) → IsReadAs operand a → ReadsField field a result
 
 abbrev pub InsnIsRead : Mnemonic → List ReadOperand → Result Insn LineCause → Type 0
 InsnIsRead m operands result = (spelled : List LineOperand) → AllZip IsReadAs operands spelled → ReadsInsn m spelled result
 
--- both of two results: a wrong shape comes before a number out of range
+-- both of two results; a wrong shape is reported rather than a number out of range
 abbrev pub both_read : {X Y : Type 0} → Result X LineCause → Result Y LineCause → Result (X × Y) LineCause
 both_read (Ok x) (Ok y) = Ok (x, y)
 both_read (Ok x) (Err cause) = Err cause

@@ -1,4 +1,4 @@
--- The operands of a line: their text, and the tokens that spell them.
+-- The operands of a line: how they are written, and the tokens that spell them.
 use Rattle.std.specs.Prelude.{◌≡◌, ℕ, ℤ, pos, negsuc, suc, Bool, List, [], ◌∷◌, ◌++◌, ◌⊎◌, codes, decimal, neg_ℤ}
 use Rattle.std.specs.Fmt.{signed_decimal}
 use Rattle.std.specs.List.{slice_split, AllZip}
@@ -14,13 +14,13 @@ pub data LineOperand : Type 0 where
   signed : ℤ → LineOperand
   memory : Reg → ℤ → LineOperand
 
--- ---- text
+-- ---- writing
 
 -- r0 to r10
 abbrev pub register_text : Reg → List ℕ
 register_text r = codes "r" ++ decimal (register_number r)
 
--- a sign always, then the magnitude
+-- a sign, which is never omitted, and the magnitude
 abbrev pub signed_text : ℤ → List ℕ
 signed_text (pos n) = codes "+" ++ decimal n
 signed_text (negsuc n) = codes "-" ++ decimal (suc n)
@@ -32,7 +32,7 @@ operand_text (number z) = signed_decimal z
 operand_text (signed z) = signed_text z
 operand_text (memory r z) = codes "[" ++ register_text r ++ signed_text z ++ codes "]"
 
--- the texts, with a comma and a space between
+-- the operands, separated by a comma and a space
 abbrev pub operands_text : List LineOperand → List ℕ
 operands_text [] = []
 operands_text (a ∷ []) = operand_text a
@@ -57,11 +57,11 @@ SpellsNumber (token ∷ []) z = (n : ℕ) × SpellsMagnitude token n × (z ≡ p
 SpellsNumber (sign ∷ token ∷ []) z = SpellsSigned sign token z
 SpellsNumber _ z = ⊥
 
--- a token that is the register's text
+-- a token that is the register as it is written
 abbrev pub SpellsRegister : List ℕ → Reg → Type 0
 SpellsRegister token r = token ≡ register_text r
 
--- a register in brackets, with offset 0, or with a sign and a token after it
+-- in brackets, a register and an offset: a sign and a token, or 0 if omitted
 abbrev pub SpellsMemory : List (List ℕ) → Reg → ℤ → Type 0
 SpellsMemory (open_bracket ∷ base ∷ close_bracket ∷ []) r z =
     (open_bracket ≡ codes "[") × SpellsRegister base r × (close_bracket ≡ codes "]") × (z ≡ pos 0)
@@ -81,7 +81,7 @@ SpellsOperand tokens (memory r z) = SpellsMemory tokens r z
 abbrev pub is_comma : List ℕ → Bool
 is_comma token = bytes_eq token (codes ",")
 
--- no tokens if there are no operands; else the parts between the commas, one for each operand
+-- no tokens for no operands; otherwise the parts between the commas, one for each operand
 abbrev pub SpellsOperands : List (List ℕ) → List LineOperand → Type 0
 SpellsOperands tokens [] = tokens ≡ []
 SpellsOperands tokens (a ∷ more) = AllZip SpellsOperand (slice_split is_comma tokens) (a ∷ more)

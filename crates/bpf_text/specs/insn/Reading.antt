@@ -1,4 +1,4 @@
--- What reading the tokens of a line returns, and reading a text.
+-- The results of reading the tokens of a line, and of reading a listing.
 use Rattle.std.specs.Prelude.{◌≡◌, ℕ, List, ◌∷◌, Result, Ok, Err}
 use Rattle.bpf_insn.specs.declared.insn.Insn.{Insn}
 use Rattle.bpf_insn.specs.Table.{IsInsn}
@@ -8,7 +8,7 @@ use Rattle.bpf_text.specs.declared.insn.fault.ListError.{ListError}
 use Rattle.bpf_text.specs.declared.insn.fault.ListError.TheVariants.{Fault, Memory}
 use Rattle.bpf_text.specs.insn.Listing.{IsMnemonic, IsForm, IsTokenForm, IsListFault, IsCause}
 
--- for the first token and the others: an instruction, or the cause that holds
+-- for the first token and the others: an instruction, or the cause that applies
 abbrev pub ReadsTokens : List ℕ → List (List ℕ) → Result Insn LineCause → Type 0
 ReadsTokens first_token tokens (Ok i) = IsInsn i × IsTokenForm (first_token ∷ tokens) i
 ReadsTokens first_token tokens (Err Char) = ⊥
@@ -16,12 +16,12 @@ ReadsTokens first_token tokens (Err Word) = ¬ IsMnemonic first_token
 ReadsTokens first_token tokens (Err Shape) = IsMnemonic first_token × ¬ IsForm first_token tokens
 ReadsTokens first_token tokens (Err Range) = IsForm first_token tokens × ((i : Insn) → IsInsn i → ¬ IsTokenForm (first_token ∷ tokens) i)
 
--- what an error says of the line with this number
+-- what an error says about the line with this number
 abbrev pub RefusesLine : List ℕ → ℕ → ListError → Type 0
 RefusesLine line number (Fault fault) = (fault.line ≡ number) × IsCause line fault.cause
 RefusesLine line number Memory = ⊥
 
--- what an error says of the text; out of memory says nothing
+-- what an error says about the input; `Memory` says nothing
 abbrev pub RefusesText : List ℕ → ListError → Type 0
 RefusesText text (Fault fault) = IsListFault text fault
 RefusesText text Memory = Unit {0}

@@ -1,4 +1,4 @@
--- The table of the listing: the mnemonic of each instruction, and its operands.
+-- The notation of listings: the mnemonic of each instruction, and its operands.
 use Rattle.std.specs.Prelude.{ℕ, pos, List, [], ◌∷◌, ◌++◌, codes}
 use Rattle.bpf_insn.specs.declared.insn.Width.{Width}
 use Rattle.bpf_insn.specs.declared.insn.Width.TheVariants.{W32, W64}
@@ -28,7 +28,7 @@ use Rattle.bpf_text.specs.insn.Operands.{LineOperand, register, number, signed, 
 
 -- ---- mnemonics
 
--- the suffix of the narrow width
+-- the suffix of the 32-bit forms
 abbrev pub width_suffix : Width → List ℕ
 width_suffix W32 = codes "32"
 width_suffix W64 = []
@@ -64,7 +64,7 @@ branch_mnemonic branch.Le = codes "jle"
 branch_mnemonic branch.Slt = codes "jslt"
 branch_mnemonic branch.Sle = codes "jsle"
 
--- moves that extend the sign: the bits of the source, then those of the destination where it is narrow
+-- sign-extending moves: the bits of the source, then `_32` if the destination has 32 bits
 abbrev pub movsx_mnemonic : MovsxForm → List ℕ
 movsx_mnemonic movsx.W32From8 = codes "movsx8_32"
 movsx_mnemonic movsx.W32From16 = codes "movsx16_32"
@@ -149,7 +149,7 @@ abbrev pub source_operand : Operand → LineOperand
 source_operand (Imm k) = number k
 source_operand (Reg r) = register r
 
--- imm, then next_imm if it is free
+-- imm, then next_imm if the kind uses it; a number is both, as one 64-bit value
 abbrev pub wide_operands : WideOf → List LineOperand
 wide_operands (Number n) = number (pos n) ∷ []
 wide_operands (MapFd k) = number k ∷ []

@@ -1,4 +1,4 @@
--- What an operand of the code means.
+-- The operands that the writer's values represent.
 use Rattle.std.specs.Prelude.{pos}
 use Rattle.bpf_text.specs.declared.insn.written_operand.WrittenOperand.{WrittenOperand as Written}
 use Rattle.bpf_text.specs.declared.insn.written_operand.WrittenOperand.TheVariants.{Register, Number, Unsigned, Signed, Memory}

@@ -12,7 +12,7 @@ use btf_types::{Encoding, Head, Linkage};
 use itoa::Buffer;
 use std::alloc::{AllocError, Allocator};
 
-/// The text of an INT's encoding (btf.rst section 2.2.1).
+/// The encoding of an INT as a string (btf.rst section 2.2.1).
 fn encoding_name(encoding: Encoding) -> &'static str
     ensures { result.now ≡ spec.encoding_name encoding }
 {
@@ -24,7 +24,7 @@ fn encoding_name(encoding: Encoding) -> &'static str
     }
 }
 
-/// The text of the linkage of a FUNC or VAR (btf.rst sections 2.2.12 and 2.2.14).
+/// The linkage of a FUNC or VAR as a string (btf.rst sections 2.2.12 and 2.2.14).
 fn linkage_name(linkage: Linkage) -> &'static str
     ensures { result.now ≡ spec.linkage_name linkage }
 {
@@ -35,7 +35,7 @@ fn linkage_name(linkage: Linkage) -> &'static str
     }
 }
 
-/// The text of a kind.
+/// The name of a type's kind (btf.rst section 2.2).
 fn kind_word(head: Head<'_>) -> &'static str
     ensures { result.now ≡ spec.kind_word (head_value head.entry) }
 {
@@ -136,7 +136,7 @@ fn append_fields<A: Allocator>(
             append(text, " component=")?;
             match component {
                 Some(index) => append(text, Buffer::new().format(index)),
-                // The whole target (btf.rst section 2.2.17).
+                // The tag is on the target itself (btf.rst section 2.2.17).
                 None => append(text, "-1"),
             }
         }
@@ -147,7 +147,7 @@ fn append_fields<A: Allocator>(
     }
 }
 
-/// Whether a type has a name, which may be empty.
+/// Whether the kind of a type has a name, which may be empty.
 fn has_name(head: Head<'_>) -> bool
     ensures { result ≡ spec.has_name (head_value head.entry) }
 {
@@ -162,13 +162,14 @@ fn has_name(head: Head<'_>) -> bool
     }
 }
 
-/// Appends the line of a type up to the first byte of its name. The ID is its first number. The
-/// bytes of the name follow, by [`append_quoted_part`], and then [`append_head_end`].
+/// Appends the line of a type up to the first byte of its name: `id` in brackets, the kind, and a
+/// quote if the kind has a name. To complete the line, append the name by [`append_quoted_part`]
+/// and the rest by [`append_head_end`].
 ///
 /// # Errors
 ///
-/// `AllocError` if the vector couldn't grow. It then keeps what it held, and the first bytes of the
-/// line may follow.
+/// `AllocError` if the vector can't grow. Its contents are kept; a prefix of the line may have been
+/// appended.
 pub fn append_head_start<A: Allocator>(
     text: &mut Vec<u8, A>,
     id: u32,
@@ -182,12 +183,13 @@ pub fn append_head_start<A: Allocator>(
     append(text, if has_name(head) { " \"" } else { "" })
 }
 
-/// Appends the line of a type from the end of its name. `items` is the number of its items.
+/// Appends the line of a type from the end of its name: the closing quote if the kind has a name,
+/// the fields and a newline. `items` is the number of items of the type.
 ///
 /// # Errors
 ///
-/// `AllocError` if the vector couldn't grow. It then keeps what it held, and the first bytes of the
-/// rest of the line may follow.
+/// `AllocError` if the vector can't grow. Its contents are kept; a prefix of the rest of the line
+/// may have been appended.
 pub fn append_head_end<A: Allocator>(
     text: &mut Vec<u8, A>,
     head: Head<'_>,
@@ -202,12 +204,13 @@ pub fn append_head_end<A: Allocator>(
     append(text, "\n")
 }
 
-/// Appends the line of the type with this ID. `items` is the number of its items.
+/// Appends the line of the type with the ID `id`, and a newline. `items` is the number of its
+/// items. The kinds and their fields are those of btf.rst section 2.2.
 ///
 /// # Errors
 ///
-/// `AllocError` if the vector couldn't grow. It then keeps what it held, and the first bytes of the
-/// line may follow.
+/// `AllocError` if the vector can't grow. Its contents are kept; a prefix of the line may have been
+/// appended.
 pub fn append_head<A: Allocator>(
     text: &mut Vec<u8, A>,
     id: u32,
@@ -221,8 +224,8 @@ pub fn append_head<A: Allocator>(
     append_head_end(text, head, items)
 }
 
-/// Whether the values of a type are signed: kind_flag of an ENUM or ENUM64 (btf.rst sections 2.2.6
-/// and 2.2.19).
+/// Whether the values of a type are signed: the kind_flag of an ENUM or ENUM64 (btf.rst sections
+/// 2.2.6 and 2.2.19), `false` for all other kinds.
 pub fn is_signed(head: Head<'_>) -> bool
     ensures { result ≡ spec.is_signed (head_value head.entry) }
 {

@@ -12,8 +12,8 @@ use btf_types::Item;
 use itoa::Buffer;
 use std::alloc::{AllocError, Allocator};
 
-/// Appends the fields after the name of an item. `signed` is whether the values of its type are
-/// signed.
+/// Appends the fields of an item, after the closing quote if it has a name. Enum values are printed
+/// as signed numbers if `signed` is true.
 fn append_item_fields<A: Allocator>(
     text: &mut Vec<u8, A>,
     item: Item<'_>,
@@ -63,13 +63,14 @@ fn append_item_fields<A: Allocator>(
     }
 }
 
-/// Appends the line of an item up to the first byte of its name. The bytes of the name follow, by
-/// [`append_quoted_part`], and then [`append_item_end`].
+/// Appends the line of an item up to the first byte of its name, or up to its fields if it is an
+/// entry of a DATASEC, which has no name. To complete the line, append the name by
+/// [`append_quoted_part`] and the rest by [`append_item_end`].
 ///
 /// # Errors
 ///
-/// `AllocError` if the vector couldn't grow. It then keeps what it held, and the first bytes of the
-/// line may follow.
+/// `AllocError` if the vector can't grow. Its contents are kept; a prefix of the line may have been
+/// appended.
 pub fn append_item_start<A: Allocator>(
     text: &mut Vec<u8, A>,
     item: Item<'_>,
@@ -84,13 +85,14 @@ pub fn append_item_start<A: Allocator>(
     }
 }
 
-/// Appends the line of an item from the end of its name. `signed` is whether the values of its type
-/// are signed.
+/// Appends the line of an item from the end of its name: the closing quote if it has a name, the
+/// fields and a newline. Enum values are printed as signed numbers if `signed` is true, which is
+/// [`crate::is_signed`] of their type.
 ///
 /// # Errors
 ///
-/// `AllocError` if the vector couldn't grow. It then keeps what it held, and the first bytes of the
-/// rest of the line may follow.
+/// `AllocError` if the vector can't grow. Its contents are kept; a prefix of the rest of the line
+/// may have been appended.
 pub fn append_item_end<A: Allocator>(
     text: &mut Vec<u8, A>,
     item: Item<'_>,
@@ -102,12 +104,14 @@ pub fn append_item_end<A: Allocator>(
     append(text, "\n")
 }
 
-/// Appends the line of an item. `signed` is whether the values of its type are signed.
+/// Appends the line of a member, an enum value, a parameter or an entry of a DATASEC, and a
+/// newline. Enum values are printed as signed numbers if `signed` is true, which is
+/// [`crate::is_signed`] of their type.
 ///
 /// # Errors
 ///
-/// `AllocError` if the vector couldn't grow. It then keeps what it held, and the first bytes of the
-/// line may follow.
+/// `AllocError` if the vector can't grow. Its contents are kept; a prefix of the line may have been
+/// appended.
 pub fn append_item<A: Allocator>(
     text: &mut Vec<u8, A>,
     item: Item<'_>,

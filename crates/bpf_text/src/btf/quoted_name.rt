@@ -11,21 +11,21 @@ use std::alloc::{AllocError, Allocator};
 /// The hexadecimal digits.
 const HEX_DIGITS: [u8; 16] = *b"0123456789abcdef";
 
-/// Whether a byte is escaped by a backslash.
+/// Whether a byte is written unchanged after a backslash.
 fn needs_backslash(byte: u8) -> bool
     ensures { result ≡ spec.needs_backslash byte }
 {
     byte == b'"' || byte == b'\\'
 }
 
-/// Whether a byte is a control character of ASCII.
+/// Whether a byte is an ASCII control character.
 fn is_control(byte: u8) -> bool
     ensures { result ≡ spec.is_control byte }
 {
     byte < 0x20 || byte == 0x7f
 }
 
-/// The hexadecimal digit of a number.
+/// The hexadecimal digit for a number below 16.
 fn hex_digit(number: u8) -> u8
     requires { number < 16 }
     ensures { result ≡ digit_char number }
@@ -40,7 +40,7 @@ fn is_unescaped(byte: u8) -> bool
     !needs_backslash(byte) && !is_control(byte)
 }
 
-/// Appends a byte of a name.
+/// Appends a byte of a name, escaped if necessary.
 fn append_byte<A: Allocator>(text: &mut Vec<u8, A>, byte: u8) -> Result<(), AllocError>
     ensures { Appends result text.old (spec.quoted_byte byte) text.new }
 {
@@ -54,20 +54,21 @@ fn append_byte<A: Allocator>(text: &mut Vec<u8, A>, byte: u8) -> Result<(), Allo
 }
 
 /// Appends bytes of a name as they are written between its quotes: a backslash before `"` and `\`,
-/// `\x` and two hexadecimal digits for control characters of ASCII, and all other bytes as they
-/// are. A name may be cut anywhere: its parts append the same as the whole name.
+/// `\x` and two lowercase hexadecimal digits for ASCII control characters, and all other bytes
+/// unchanged. A name may be split at any byte: its parts, appended in order, are the same as the
+/// complete name.
 ///
 /// # Errors
 ///
-/// `AllocError` if the vector couldn't grow. It then keeps what it held, and the first bytes of the
-/// part may follow.
+/// `AllocError` if the vector can't grow. Its contents are kept; a prefix of the escaped bytes may
+/// have been appended.
 pub fn append_quoted_part<A: Allocator>(
     text: &mut Vec<u8, A>,
     part: &[u8],
 ) -> Result<(), AllocError>
     ensures { Appends result text.old (flat_map spec.quoted_byte part.now) text.new }
 {
-    // Unescaped bytes are appended in whole runs. The current run begins here.
+    // A run of unescaped bytes is appended at once. The current run begins here.
     let mut start = 0;
     for (at, byte) in part.iter().enumerate() {
         if !is_unescaped(*byte) {

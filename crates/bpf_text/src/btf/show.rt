@@ -1,4 +1,4 @@
-//! The text of a table of BTF types.
+//! The listing of a table of BTF types.
 
 ghost use Rattle.std.specs.Prelude.{◌≡◌, ◌<◌, ◌≤◌, ◌++◌, length, IfOk};
 ghost use Rattle.std.specs.List.{flat_map};
@@ -29,7 +29,7 @@ fn append_items<T: TypeTable, A: Allocator>(
     Ok(())
 }
 
-/// Appends the lines of a type.
+/// Appends the line of a type and those of its items.
 fn append_record<T: TypeTable, A: Allocator>(
     text: &mut Vec<u8, A>,
     table: &T,
@@ -45,13 +45,13 @@ fn append_record<T: TypeTable, A: Allocator>(
     append_items(text, table, id, is_signed(head))
 }
 
-/// The text of a table of types: a line for each type, which begins with its ID in brackets,
-/// followed by a line for each of its items, which begins with two spaces. The text of no types is
-/// empty.
+/// The listing of a table of types (docs/FORMATS.md, "Type listings"): a line for each type, which
+/// begins with its ID in brackets, followed by a line for each of its items, which begins with two
+/// spaces. IDs count from 1. The listing of an empty table is empty.
 ///
 /// # Errors
 ///
-/// `AllocError` if the text couldn't grow.
+/// `AllocError` if memory for the listing can't be allocated.
 pub fn show_btf<T: TypeTable, A: Allocator>(alloc: A, table: &T) -> Result<Vec<u8, A>, AllocError>
     ensures { IfOk result (λ text. text.items ≡ text_of (T.meaning table.now)) }
 {

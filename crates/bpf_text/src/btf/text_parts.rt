@@ -1,4 +1,4 @@
-//! The parts of lines: texts and numbers.
+//! The parts of lines: strings and numbers.
 
 ghost use Rattle.std.specs.Prelude.{◌≡◌, ◌++◌, decimal};
 ghost use Rattle.std.specs.List.{flat_map};
@@ -7,14 +7,14 @@ ghost use Rattle.bpf_text.specs.btf.Appending.{Appends};
 use itoa::Buffer;
 use std::alloc::{AllocError, Allocator};
 
-/// Appends a text.
+/// Appends a string.
 pub(crate) fn append<A: Allocator>(text: &mut Vec<u8, A>, more: &str) -> Result<(), AllocError>
     ensures { Appends result text.old more.now text.new }
 {
     text.extend_from_slice(more.as_bytes())
 }
 
-/// Appends a label and a number.
+/// Appends a label and a number in decimal.
 pub(crate) fn append_number<A: Allocator>(
     text: &mut Vec<u8, A>,
     label: &str,

@@ -1,4 +1,4 @@
-//! Faults: why a text is no listing.
+//! Faults: why an input isn't a listing.
 
 ghost use Rattle.std.specs.Prelude.{◌≡◌};
 ghost use Rattle.bpf_text.specs.declared.insn.fault.ListError.TheVariants.{Fault, Memory};
@@ -8,21 +8,21 @@ use std::alloc::{AllocError, AllocFailed};
 use std::fmt;
 use thiserror::Error;
 
-/// Why a line is faulty: the first of these that holds.
+/// Why a line is faulty: the first of these that applies (docs/FORMATS.md, "Reading a listing").
 #[derive(Clone, Copy, Debug, PartialEq, Eq, PartialOrd, Ord, Hash)]
 pub enum LineCause {
     /// A byte before the comment is neither blank nor part of a token.
     Char = 1,
-    /// The first token is no mnemonic.
+    /// The first token isn't a mnemonic.
     Word = 2,
-    /// The operands don't match the mnemonic: another number of them, or other kinds.
+    /// The operands don't match the mnemonic in number or kind.
     Shape = 3,
-    /// A number is out of the range of its field.
+    /// A number is outside the range of its field.
     Range = 4,
 }
 
 impl LineCause {
-    /// The name of the cause, which the program writes.
+    /// The name of the variant, which is how `bpfcanon` reports the cause.
     pub fn name(self) -> &'static str
         ensures { result.now ≡ line_cause_name self }
     {
@@ -34,7 +34,7 @@ impl LineCause {
         }
     }
 
-    /// What is wrong, in one sentence without a full stop, for people.
+    /// A sentence that explains the cause, without a full stop.
     pub fn describe(self) -> &'static str
         ensures { result.now ≡ line_cause_sentence self }
     {
@@ -53,21 +53,22 @@ impl fmt::Display for LineCause {
     }
 }
 
-/// The first faulty line of a text. Its own text is `line 2 Word`: the line and the name of the
+/// The first faulty line of an input. It is shown as `line 2 Word`, the line and the name of the
 /// cause.
 #[derive(Clone, Copy, Debug, PartialEq, Eq, PartialOrd, Ord, Hash, Error)]
 #[error("line {line} {cause}")]
 pub struct LineFault {
-    /// The line, counted from 1.
+    /// The number of the line, counted from 1.
     pub line: u64,
-    /// Why it is faulty.
+    /// Why the line is faulty.
     pub cause: LineCause,
 }
 
-/// Why a call returns no instructions. Its text is the variant's name.
+/// Why no instructions are returned. `Display` prints the variant's name; for a message, use
+/// [`LineCause::describe`].
 #[derive(Clone, Copy, Debug, PartialEq, Eq, Hash, Error)]
 pub enum ListError {
-    /// The text is no listing.
+    /// The input isn't a listing.
     #[error("Fault")]
     Fault(LineFault),
     /// Out of memory.

@@ -1,4 +1,4 @@
-//! What takes the instructions of a listing as its lines are read.
+//! A sink that collects the instructions of a listing while its lines are read.
 
 ghost use Rattle.std.specs.Prelude.{◌≡◌, ◌∷◌, [], ◌++◌, List, OnOk};
 ghost use Rattle.std.specs.Option.{option_to_list};
@@ -8,16 +8,16 @@ ghost use Rattle.bpf_insn.specs.declared.insn.Insn.{Insn};
 use bpf_insn::Insn;
 use std::alloc::{AllocError, Allocator};
 
-/// Takes instructions one after the other.
+/// Collects instructions in order.
 pub(crate) trait InsnSink {
-    // the sink before it takes these instructions, and after it took all of them
+    // the sink before, the instructions that it then accepted, and the sink after
     ghost takes: { Self → List Insn → Self → Type 0 };
 
-    /// Takes the next instruction.
+    /// Accepts the next instruction.
     ///
     /// # Errors
     ///
-    /// `AllocError` if the sink couldn't grow.
+    /// `AllocError` if the sink can't grow.
     fn take(&mut self, insn: Insn) -> Result<(), AllocError>
         ensures { OnOk result (takes self.old (insn ∷ []) self.new) };
 
@@ -41,7 +41,7 @@ impl<A: Allocator> InsnSink for Vec<Insn, A> {
         second ∙ ap (λ items. items ++ ys) first ∙ append_assoc s.items xs ys };
 }
 
-/// Takes the instruction of a line, if it has one.
+/// Passes the instruction of a line, if it has one, to the sink.
 pub(crate) fn take_found<S: InsnSink>(sink: &mut S, found: Option<Insn>) -> Result<(), AllocError>
     ensures { OnOk result (S.takes sink.old (option_to_list found) sink.new) }
 {

@@ -7,17 +7,17 @@ ghost use Rattle.bpf_text.specs.declared.insn.fault.LineFault.{LineFault};
 ghost use Rattle.bpf_text.specs.insn.Lines.{listing_of};
 ghost use Rattle.bpf_text.specs.insn.Listing.{Lists, IsListFault};
 
-/// A text lists one list of instructions at most.
+/// No input lists two different lists of instructions.
 pub fn text_has_one_list()
     ensures { (text : List ℕ) (l m : List Insn) → Lists text l → Lists text m → l ≡ m }
 {}
 
-/// The listing of a list of instructions lists it.
+/// The listing of valid instructions lists these instructions.
 pub fn lines_list_themselves()
     ensures { (l : List Insn) → All IsInsn l → Lists (listing_of l) l }
 {}
 
-/// A text has one fault at most.
+/// The fault of an input is unique.
 pub fn text_has_one_fault()
     ensures { (text : List ℕ) (f g : LineFault) → IsListFault text f → IsListFault text g → f ≡ g }
 {}

@@ -1,4 +1,4 @@
-//! From a listing to the bytes of its instructions.
+//! Reading a listing into the bytes of its instructions.
 
 ghost use Rattle.std.specs.Prelude.{◌≡◌, ◌++◌, List, Err, IfOk, MatchResult};
 ghost use Rattle.std.proofs.Common.{append_assoc, append-nil, ap, refl, sym, ◌∙◌};
@@ -15,7 +15,7 @@ use crate::insn::read::read_lines;
 use bpf_insn::{Insn, Order, insn_bytes};
 use std::alloc::{AllocError, Allocator};
 
-/// The bytes of the instructions taken, in the byte order `to`.
+/// The bytes of the instructions accepted so far, in the byte order `to`.
 #[derive(Drop)]
 struct InsnBytes<A: Allocator> {
     bytes: Vec<u8, A>,
@@ -29,7 +29,7 @@ impl<A: Allocator> InsnSink for InsnBytes<A> {
     fn take(&mut self, insn: Insn) -> Result<(), AllocError> {
         // The pair isn't destructured, since that would copy the bytes once more.
         let spelled = insn_bytes(self.to, insn);
-        // Most have 8 bytes. A copy of constant length is one store.
+        // Most instructions have 8 bytes. A copy of constant length is one store.
         if spelled.1 == 8 {
             return self.bytes.extend_from_slice(&spelled.0[..8]);
         }
@@ -48,14 +48,14 @@ impl<A: Allocator> InsnSink for InsnBytes<A> {
     ) };
 }
 
-/// The bytes of the instructions of a listing, one after the other, in the byte order `to` (RFC
-/// 9669 section 3). The instructions are those of [`crate::read_listing`], but they aren't kept:
-/// only the bytes that are returned take memory.
+/// The bytes of the instructions of a listing, concatenated, in the byte order `to` (RFC 9669
+/// section 3). The instructions are those that [`crate::read_listing`] returns, but they aren't
+/// stored: memory is allocated only for the returned bytes.
 ///
 /// # Errors
 ///
-/// `Fault` with the first faulty line, counted from 1, and the first cause that holds of it.
-/// `Memory` if the bytes couldn't grow.
+/// `Fault` with the first faulty line, counted from 1, and the first cause that applies to it.
+/// `Memory` if memory for the bytes can't be allocated.
 pub fn read_listing_bytes<A: Allocator>(
     alloc: A,
     to: Order,

@@ -1,4 +1,4 @@
-//! From a mnemonic and operands to the instruction.
+//! Making an instruction from its mnemonic and operands.
 
 ghost use Rattle.std.specs.Prelude.{◌≡◌, length};
 ghost use Rattle.bpf_text.specs.insn.OperandFields.{InsnIsRead, operand_count};
@@ -10,7 +10,7 @@ use crate::insn::operand_fields::{address, both, imm, imm64, offset, register, s
 use crate::insn::read_operand::ReadOperand;
 use bpf_insn::{Insn, WideOf};
 
-/// The number of operands of a mnemonic.
+/// The number of operands that follow a mnemonic.
 fn operand_count(mnemonic: Mnemonic) -> usize
     ensures { result ≡ operand_count mnemonic }
 {
@@ -96,8 +96,8 @@ fn wide_from_operands(kind: WideKind, operands: &[ReadOperand]) -> Result<Insn, 
     }
 }
 
-/// The instruction with this mnemonic and these operands. `Shape` comes before `Range`, whichever
-/// operand comes first.
+/// The instruction with this mnemonic and these operands. `Shape` is reported rather than `Range`,
+/// whichever operand is faulty first.
 pub(crate) fn insn_from_operands(
     mnemonic: Mnemonic,
     operands: &[ReadOperand],

@@ -1,4 +1,4 @@
-//! Mnemonics, as values.
+//! Mnemonics as values, and their strings.
 
 ghost use Rattle.std.specs.Prelude.{◌≡◌, ◌≢◌, ◌↔◌, IsTrue, IfSome, IfNone};
 ghost use Rattle.bpf_text.specs.declared.insn.mnemonic.Mnemonic.{Mnemonic};
@@ -45,7 +45,7 @@ pub(crate) enum Mnemonic {
     PacketInd(SmallSize),
 }
 
-/// The table of mnemonics: each with its text. Another macro makes of it what is needed.
+/// The table of mnemonics, each with its string. It is passed to the macro `$make`.
 macro_rules! mnemonics {
     ($make:ident, $value:expr) => {
         $make! {
@@ -174,17 +174,17 @@ macro_rules! mnemonics {
     };
 }
 
-/// The mnemonics of the table.
+/// An array of the mnemonics in the table.
 macro_rules! values {
     ($value:expr; $($mnemonic:expr => $text:expr,)*) => { [$($mnemonic),*] };
 }
 
-/// The text of a mnemonic in the table.
+/// The string of a mnemonic in the table.
 macro_rules! text_in_table {
     ($value:expr; $($mnemonic:pat => $text:expr,)*) => { match $value { $($mnemonic => $text),* } };
 }
 
-/// All mnemonics. `mnemonic_hash` has their indices.
+/// All mnemonics, at the indices that `mnemonic_hash` finds.
 static ALL: [Mnemonic; 120] = mnemonics!(values, 0);
 
 impl WideKind {
@@ -233,21 +233,21 @@ impl Mnemonic {
         }
     }
 
-    /// The text of the mnemonic.
+    /// The mnemonic as a string.
     pub(crate) fn text(self) -> &'static str
         ensures { result.now ≡ text_of_mnemonic self }
     {
         mnemonics!(text_in_table, self)
     }
 
-    /// Whether a token is the text of the mnemonic.
+    /// Whether a token is this mnemonic.
     fn is_spelled(self, token: &[u8]) -> bool
         ensures { IsTrue result ↔ (token.now ≡ text_of_mnemonic self) }
     {
         token == self.text().as_bytes()
     }
 
-    /// The mnemonic that a token is.
+    /// The mnemonic that a token spells, if any.
     pub(crate) fn read(token: &[u8]) -> Option<Mnemonic>
         ensures none { IfNone result ((m : Mnemonic) → token.now ≢ text_of_mnemonic m) }
         ensures some { IfSome result (λ m. token.now ≡ text_of_mnemonic m) }

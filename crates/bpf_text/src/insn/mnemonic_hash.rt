@@ -3,7 +3,7 @@
 ghost use Rattle.std.specs.Prelude.{◌≡◌, ◌<◌, get_or};
 ghost use Rattle.bpf_text.specs.insn.MnemonicHash.{hash_of};
 
-/// The index of a mnemonic in `ALL`, at its hash. All other entries are 0.
+/// Maps the hash of a mnemonic to its index in `ALL`. All other entries are 0.
 static PLACES: [u8; 1024] = [
     0, 0, 0, 0, 0, 0, 0, 0, 0, 0, 0, 0, 0, 34, 0, 0, 0, 0, 0, 0, 0, 0, 0, 0, 0, 6, 0, 0, 29, 40, 0,
     114, 0, 0, 0, 0, 0, 103, 0, 0, 0, 0, 0, 0, 0, 0, 9, 47, 0, 77, 0, 0, 0, 0, 0, 0, 0, 0, 0, 0, 0,
@@ -41,8 +41,8 @@ static PLACES: [u8; 1024] = [
     0, 0, 0, 0, 0, 0, 0, 0, 43, 0, 0, 96, 0, 0, 0, 0, 0, 0, 0, 0, 0,
 ];
 
-/// The hash of a token. No two mnemonics have the same: 807 is the smallest factor without a
-/// collision.
+/// The hash of a token, below 1,024. Mnemonics don't collide: 807 is the smallest factor for which
+/// this holds.
 pub(crate) fn hash_of(token: &[u8]) -> usize
     ensures value { result ≡ hash_of token.now }
     ensures within { result < 1024 }

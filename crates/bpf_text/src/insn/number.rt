@@ -7,7 +7,7 @@ ghost use Rattle.bpf_text.specs.insn.Operands.{SpellsMagnitude, SpellsSigned};
 ghost use Rattle.bpf_text.specs.insn.Numbers.{IsMagnitude, IsNumber, IsFar};
 ghost use Rattle.std.specs.Int.{w16, w32, w128};
 
-/// A number below 2^64, or `None` for all others.
+/// A magnitude below 2^64, or `None` for all larger ones.
 pub(crate) type Magnitude = Option<u64>;
 
 /// A number with its sign.
@@ -17,7 +17,7 @@ pub(crate) struct Number {
     pub(crate) magnitude: Magnitude,
 }
 
-/// The number with one more digit.
+/// The number with one more digit appended.
 fn with_digit(number: Magnitude, radix: u32, digit: u32) -> Magnitude
     requires { 0 < radix }
     ensures { (n : ℕ) → IsMagnitude number n → IsMagnitude result (n * radix + digit) }
@@ -27,7 +27,7 @@ fn with_digit(number: Magnitude, radix: u32, digit: u32) -> Magnitude
         .checked_add(u64::from(digit))
 }
 
-/// The number that the digits spell, if there are any and all of them are digits.
+/// The number that the digits spell. `None` if they are empty or a byte isn't a digit.
 fn digits_magnitude(radix: u32, digits: &[u8]) -> Option<Magnitude>
     requires low { 2 ≤ radix }
     requires high { radix ≤ 36 }
@@ -46,7 +46,7 @@ fn digits_magnitude(radix: u32, digits: &[u8]) -> Option<Magnitude>
     Some(number)
 }
 
-/// The number that a token spells.
+/// The number that a token spells: decimal, or hexadecimal after `0x`.
 #[inline(always)]
 pub(crate) fn magnitude_of(token: &[u8]) -> Option<Magnitude>
     ensures none { IfNone result ((n : ℕ) → ¬ SpellsMagnitude token.now n) }
@@ -58,7 +58,7 @@ pub(crate) fn magnitude_of(token: &[u8]) -> Option<Magnitude>
     }
 }
 
-/// Whether a token is a minus. `None` if it is no sign.
+/// Whether a token is a minus. `None` if it isn't a sign.
 fn is_minus(sign: &[u8]) -> Option<bool>
     ensures none { IfNone result ((sign.now ≢ codes "+") × (sign.now ≢ codes "-")) }
     ensures some { IfSome result (λ b. MatchBool b (sign.now ≡ codes "-") (sign.now ≡ codes "+")) }
@@ -93,7 +93,7 @@ pub(crate) fn signed_number(sign: &[u8], token: &[u8]) -> Option<Number>
 }
 
 impl Number {
-    /// The value, if it has 64 bits.
+    /// The value, if its magnitude is below 2^64.
     fn value(self) -> Option<i128>
         ensures cases { (z : ℤ) → IsNumber self z → MatchOption result (IsFar z) (λ v. v ≡ z) }
         ensures fits { IfSome result (λ v. FitsSigned w128 v) }
@@ -102,7 +102,7 @@ impl Number {
         Some(if self.negative { -magnitude } else { magnitude })
     }
 
-    /// The value, if it is an i32.
+    /// The value, if it fits into an i32.
     pub(crate) fn as_i32(self) -> Option<i32>
         ensures cases { (z : ℤ) → IsNumber self z
             → MatchOption result (¬ FitsSigned w32 z) (λ v. v ≡ z) }
@@ -111,7 +111,7 @@ impl Number {
         i32::try_from(self.value()?).ok()
     }
 
-    /// The value, if it is an i16.
+    /// The value, if it fits into an i16.
     pub(crate) fn as_i16(self) -> Option<i16>
         ensures cases { (z : ℤ) → IsNumber self z
             → MatchOption result (¬ FitsSigned w16 z) (λ v. v ≡ z) }
@@ -120,7 +120,7 @@ impl Number {
         i16::try_from(self.value()?).ok()
     }
 
-    /// The value, if it is a u64.
+    /// The value, if it fits into a u64.
     pub(crate) fn as_u64(self) -> Option<u64>
         ensures cases { (z : ℤ) → IsNumber self z →
             MatchOption result ((m : ℕ) → m < 2 ^ 64 → z ≢ pos m) (λ n. z ≡ pos n) }

@@ -1,7 +1,7 @@
 //! The fields of an instruction, read from the operands of a line.
 //!
 //! There is one function for each kind of field. It returns `Shape` if the operand is of another
-//! kind, else `Range` if its number is out of the range of the field.
+//! kind, otherwise `Range` if its number is outside the range of the field.
 
 ghost use Rattle.bpf_text.specs.insn.OperandFields.{register_field, imm_field, offset_field};
 ghost use Rattle.bpf_text.specs.insn.OperandFields.{imm64_field, source_field, address_field};
@@ -25,7 +25,7 @@ pub(crate) fn register(operand: ReadOperand) -> Result<Reg, LineCause>
     }
 }
 
-/// An immediate.
+/// A 32-bit immediate.
 pub(crate) fn imm(operand: ReadOperand) -> Result<i32, LineCause>
     ensures { FieldIsRead imm_field operand result }
 {
@@ -36,7 +36,7 @@ pub(crate) fn imm(operand: ReadOperand) -> Result<i32, LineCause>
     }
 }
 
-/// An offset.
+/// A 16-bit offset.
 pub(crate) fn offset(operand: ReadOperand) -> Result<i16, LineCause>
     ensures { FieldIsRead offset_field operand result }
 {
@@ -47,7 +47,7 @@ pub(crate) fn offset(operand: ReadOperand) -> Result<i16, LineCause>
     }
 }
 
-/// The immediate of 64 bits of a wide load.
+/// The 64-bit immediate of a wide load.
 pub(crate) fn imm64(operand: ReadOperand) -> Result<u64, LineCause>
     ensures { FieldIsRead imm64_field operand result }
 {
@@ -86,7 +86,7 @@ pub(crate) fn address(operand: ReadOperand) -> Result<Address, LineCause>
     }
 }
 
-/// Both of two results. `Shape` is reported before `Range`, whichever operand comes first.
+/// Both of two results. `Shape` is reported rather than `Range`, whichever operand is faulty first.
 pub(crate) fn both<A, B>(
     first: Result<A, LineCause>,
     second: Result<B, LineCause>,

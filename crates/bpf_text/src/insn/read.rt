@@ -1,4 +1,4 @@
-//! From a listing to its instructions.
+//! Reading a listing into its instructions.
 
 ghost use Rattle.std.specs.Prelude.{◌≡◌, ℕ, ◌<◌, [], ◌∷◌, List, length, false, Err, IfOk, IfSome};
 ghost use Rattle.std.specs.Prelude.{MatchOption, MatchResult};
@@ -23,8 +23,8 @@ use memchr::memchr;
 use std::alloc::Allocator;
 
 /// The instruction whose mnemonic is the first token, with the operands in the rest of the line.
-/// The caller passes the tokens of the line before, whose room is used again: a new array for each
-/// line takes longer than reading its tokens.
+/// The caller passes the tokens of the previous line, whose buffer is reused: to make a new array
+/// for each line is slower than reading its tokens.
 fn insn_from_tokens<'a>(
     tokens: &mut Tokens<'a>,
     first_token: &[u8],
@@ -46,7 +46,7 @@ fn insn_from_tokens<'a>(
     insn_from_operands(mnemonic, operands.as_slice())
 }
 
-/// The first line of a text, and the bytes after its newline, if it has one.
+/// The first line of an input, and the bytes after its newline, if it has one.
 fn first_line(text: &[u8]) -> (&[u8], Option<&[u8]>)
     ensures lines { MatchOption result.1 (lines_of text.now ≡ result.0.now ∷ [])
         (λ following. lines_of text.now ≡ result.0.now ∷ lines_of following.now) }
@@ -58,7 +58,7 @@ fn first_line(text: &[u8]) -> (&[u8], Option<&[u8]>)
     }
 }
 
-/// The instruction of a line, or none if it has no tokens.
+/// The instruction of a line, or `None` if it has no tokens.
 fn read_line<'a>(tokens: &mut Tokens<'a>, line: &'a [u8]) -> Result<Option<Insn>, LineCause>
     ensures { MatchResult result (λ found.
         ListsLine line.now (option_to_list found)) (IsCause line.now) }
@@ -75,7 +75,7 @@ fn read_line<'a>(tokens: &mut Tokens<'a>, line: &'a [u8]) -> Result<Option<Insn>
     }
 }
 
-/// The instruction of the line with this number, or none if it has no tokens.
+/// The instruction of a line, or `None` if it has no tokens. An error includes the line number.
 fn read_numbered<'a>(
     tokens: &mut Tokens<'a>,
     line: &'a [u8],
@@ -93,8 +93,8 @@ fn read_numbered<'a>(
     }
 }
 
-/// The sink takes the instructions of all lines, in order. At an error it may have taken those of
-/// the first lines.
+/// Passes the instructions of all lines to the sink, in order. On an error the sink may already
+/// have accepted those of the first lines.
 pub(crate) fn read_lines<S: InsnSink>(sink: &mut S, text: &[u8]) -> Result<(), ListError>
     ensures { MatchResult result
         (λ _. (insns : List Insn) × Lists text.now insns × S.takes sink.old insns sink.new)
@@ -115,13 +115,13 @@ pub(crate) fn read_lines<S: InsnSink>(sink: &mut S, text: &[u8]) -> Result<(), L
     }
 }
 
-/// The instructions of a listing, one for each line with tokens. Only the list that is returned
-/// takes memory.
+/// The instructions of a listing (docs/FORMATS.md, "Reading a listing"), one for each line with
+/// tokens. Memory is allocated only for the returned list.
 ///
 /// # Errors
 ///
-/// `Fault` with the first faulty line, counted from 1, and the first cause that holds of it.
-/// `Memory` if the list couldn't grow.
+/// `Fault` with the first faulty line, counted from 1, and the first cause that applies to it.
+/// `Memory` if memory for the list can't be allocated.
 pub fn read_listing<A: Allocator>(alloc: A, text: &[u8]) -> Result<Vec<Insn, A>, ListError>
     ensures found { IfOk result (λ insns. Lists text.now insns.items) }
 

@@ -1,4 +1,4 @@
-//! The operands of a line, as they are read from tokens.
+//! Reading the operands of a line from its tokens.
 
 ghost use Rattle.std.specs.Prelude.{◌≡◌, ◌∷◌, [], List, map, length, ◌+◌, ◌≤◌, drop, IfSome, IfNone};
 ghost use Rattle.bpf_text.specs.insn.Operands.{LineOperand, SpellsOperands, is_comma};
@@ -18,10 +18,10 @@ pub(crate) enum ReadOperand {
     Memory(Reg, Number),
 }
 
-/// The largest number of operands of an instruction.
+/// The largest number of operands that an instruction has.
 pub(crate) const MOST_OPERANDS: usize = 3;
 
-/// The operands of a line. They are on the stack.
+/// The operands of a line, stored on the stack.
 pub(crate) type Operands = ArrayVec<ReadOperand, MOST_OPERANDS>;
 
 impl Default for ReadOperand {
@@ -69,7 +69,7 @@ fn is_comma(token: &[u8]) -> bool
     token == b",".as_slice()
 }
 
-/// The end of the part that starts at an index: the next comma, or the end of the tokens.
+/// The end of the operand that starts at an index: the next comma, or the end of the tokens.
 fn part_end(tokens: &[&[u8]], start: usize) -> usize
     requires { start ≤ length tokens.now }
     ensures value { result ≡ start + position_or_len (λ t. is_comma t.now) (drop start tokens.now) }
@@ -84,7 +84,7 @@ fn part_end(tokens: &[&[u8]], start: usize) -> usize
     tokens.len()
 }
 
-/// The operands that the tokens after a mnemonic spell, if they are at most three.
+/// The operands that the tokens after a mnemonic spell, if there are at most three.
 pub(crate) fn operands_from_tokens(tokens: &[&[u8]]) -> Option<Operands>
     ensures none { IfNone result ((spelled : List LineOperand) → length spelled ≤ MOST_OPERANDS →
         ¬ SpellsOperands (map (λ t. t.now) tokens.now) spelled) }

@@ -6,7 +6,7 @@ ghost use Rattle.bpf_text.specs.insn.Operands.{SpellsRegister};
 
 use bpf_insn::Reg;
 
-/// The digit of a register below 10.
+/// The digit of a register from `r0` to `r9`.
 fn register_digit(token: &[u8]) -> Option<u8>
     ensures none { IfNone result ((d : ℕ) → d ≤ 9 → ¬ (token.now ≡ 114 ∷ (48 + d) ∷ [])) }
     ensures some { IfSome result (λ d. (d ≤ 9) × (token.now ≡ 114 ∷ (48 + d) ∷ [])) }

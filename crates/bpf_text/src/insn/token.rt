@@ -12,10 +12,11 @@ use arrayvec::ArrayVec;
 /// commas.
 pub(crate) const MOST_TOKENS: usize = 17;
 
-/// The tokens after a mnemonic. They are on the stack.
+/// The tokens after a mnemonic, stored on the stack.
 pub(crate) type Tokens<'a> = ArrayVec<&'a [u8], MOST_TOKENS>;
 
-/// The class of each byte: blank, part of a word, a symbol, or none of these.
+/// The class of each byte: `b` for blanks, `w` for letters, digits and `_`, `s` for symbols, `.`
+/// for all others.
 static CLASSES: [u8; 256] = *b"\
     .........b...b..................\
     b..........sss..wwwwwwwwww......\
@@ -65,8 +66,8 @@ fn known_len(bytes: &[u8]) -> usize
     bytes.iter().take_while(|b| !is_stray(**b)).count()
 }
 
-/// A line without its comment, if each of these bytes is blank or part of a token. The characters
-/// that begin a comment are stray bytes too, so the first stray byte is the end.
+/// A line without its comment, if each byte before the comment is blank or part of a token. The
+/// characters that begin a comment are stray bytes too, so the first stray byte is the end.
 pub(crate) fn known_code(line: &[u8]) -> Option<&[u8]>
     ensures none { IfNone result (IsTrue (list_any is_stray (code_of line.now))) }
     ensures some { IfSome result (λ code. (code.now ≡ code_of line.now)
@@ -88,7 +89,7 @@ fn blank_len(bytes: &[u8]) -> usize
     bytes.iter().take_while(|b| is_blank(**b)).count()
 }
 
-/// The number of word bytes at the start.
+/// The number of letters, digits and `_` at the start.
 #[tactic(auto, using(crate::proofs::InsnLemmas::TokenLemmas::length_of_run))]
 fn word_len(bytes: &[u8]) -> usize
     ensures value { result ≡ prefix_len is_word_byte bytes.now }
@@ -97,7 +98,7 @@ fn word_len(bytes: &[u8]) -> usize
     bytes.iter().take_while(|b| is_word_byte(**b)).count()
 }
 
-/// The first token, and the bytes after it.
+/// The first token and the bytes after it, or `None` if all bytes are blank.
 pub(crate) fn next_token(bytes: &[u8]) -> Option<(&[u8], &[u8])>
     requires { list_any is_stray bytes.now ≡ false }
     ensures none { IfNone result (IsTrue (list_all is_blank bytes.now)) }
@@ -111,8 +112,8 @@ pub(crate) fn next_token(bytes: &[u8]) -> Option<(&[u8], &[u8])>
     Some(rest.split_at(if run == 0 { 1 } else { run }))
 }
 
-/// Replaces the tokens by those of a line without its comment. It returns whether there was room
-/// for them.
+/// Replaces the tokens by those of a line without its comment. Returns `false` if there are more
+/// than [`MOST_TOKENS`].
 pub(crate) fn read_tokens<'a>(tokens: &mut Tokens<'a>, code: &'a [u8]) -> bool
     requires { list_any is_stray code.now ≡ false }
     ensures { MatchBool result (AreTokens code.now (map (λ t. t.now) tokens.new.items))

@@ -1,4 +1,4 @@
-//! From instructions to their lines.
+//! Writing instructions as lines.
 
 ghost use Rattle.std.specs.Prelude.{◌≡◌, ℕ, ◌+◌, ◌<◌, ◌≤◌, List, [], ◌∷◌, ◌++◌, length, map, drop};
 ghost use Rattle.std.specs.Prelude.{codes, decimal, OnOk, OnErr, IfOk};
@@ -18,12 +18,12 @@ use itoa::write_digits;
 use std::alloc::{AllocError, Allocator};
 use std::marker::Model;
 
-/// The size of the buffer for a line. A mnemonic has at most 14 bytes, the operands have at most 83
-/// with their separators, and a newline follows.
+/// The size of the buffer for a line, in bytes. A mnemonic has at most 14, the operands have at
+/// most 83 with their separators, and a newline follows.
 const LINE_ROOM: usize = 112;
 
-/// The end of a line: the bytes of the buffer from `start` on. It grows to the front, as the digits
-/// of a number are found. Each method writes before what is there.
+/// The end of a line: the bytes of the buffer from `start` on. The line is written from its last
+/// byte to its first, since the digits of a number are found in this order.
 #[derive(Drop)]
 struct Line {
     bytes: [u8; LINE_ROOM],
@@ -51,7 +51,7 @@ impl Line {
         }
     }
 
-    /// The bytes that are written.
+    /// The bytes that have been written.
     fn as_bytes(&self) -> &[u8]
         ensures { result.now ≡ self.now }
     {
@@ -68,7 +68,7 @@ impl Line {
         self.bytes[self.start] = byte;
     }
 
-    /// Writes a text.
+    /// Writes a string.
     #[inline(always)]
     fn word(&mut self, word: &str)
         requires { length word.now + length self.old ≤ LINE_ROOM }
@@ -256,11 +256,11 @@ fn source_operand(operand: Operand) -> WrittenOperand
     }
 }
 
-/// Appends the line of an instruction and a newline.
+/// Appends the line of an instruction and a newline (docs/FORMATS.md, "Listings").
 ///
 /// # Errors
 ///
-/// `AllocError` if the vector couldn't grow. It is then unchanged.
+/// `AllocError` if the vector can't grow. It is then unchanged.
 #[tactic(auto, using(crate::proofs::InsnLemmas::MnemonicTokens::mnemonic_is_short))]
 pub fn push_line<A: Allocator>(out: &mut Vec<u8, A>, insn: Insn) -> Result<(), AllocError>
     ensures ok { OnOk result (out.new.items ≡ out.old.items ++ line_of insn ++ codes "\n") }
@@ -275,15 +275,15 @@ pub fn push_line<A: Allocator>(out: &mut Vec<u8, A>, insn: Insn) -> Result<(), A
     out.extend_from_slice(line.as_bytes())
 }
 
-/// The lines of instructions, each with a newline.
+/// The listing of instructions: a line for each, with a newline (docs/FORMATS.md, "Listings").
 ///
 /// # Errors
 ///
-/// `AllocError` if the text couldn't grow.
+/// `AllocError` if memory for the listing can't be allocated.
 pub fn listing<A: Allocator>(alloc: A, insns: &[Insn]) -> Result<Vec<u8, A>, AllocError>
     ensures text { IfOk result (λ text. text.items ≡ listing_of insns.now) }
 
-    // So the reader returns the same instructions.
+    // The reader returns the same instructions.
     ensures listed { IfOk result (λ text. Lists text.items insns.now) }
 {
     let mut text = Vec::new(alloc);

@@ -1,8 +1,9 @@
-//! The operands of a line, as they are written.
+//! The operands of a line, for the writer.
 
 use bpf_insn::Reg;
 
-/// An operand of a line. A `Number` has a sign only if it is negative, a `Signed` one always.
+/// An operand of a line. A `Number` is written with a sign only if it is negative, a `Signed`
+/// number always.
 #[derive(Clone, Copy)]
 pub(crate) enum WrittenOperand {
     Register(Reg),
