@@ -43,8 +43,8 @@ pub ends_answered : (j : Job) (source sink : Change) (input : List ℕ) (outcome
 ends_answered j source sink input outcome whole read (answered made output reply took unfailed) =
     replied input made output read.healthy unfailed read.came (inr (inl read.ended)) reply took
 ends_answered j source sink input outcome whole read (unwritten made output reply part) =
-    write_failed input made output part.count (whole_input j.verb whole) read.healthy part.failed read.came (inr (inl read.ended)) reply part.part part.took
+    write_failed input made output part.count (whole_input j.verb whole) read.healthy part.by read.came (inr (inl read.ended)) reply part.part part.took
 ends_answered j source sink input outcome whole read (refused unused) =
     no_memory input (whole_input j.verb whole) read.healthy unused read.came
 ends_answered j source sink input outcome whole read (refused_amid made output pieces reply front) =
-    no_memory_in_pieces input made output front.count pieces read.healthy front.healthy read.came (inr (inl read.ended)) reply front.part front.took
+    no_memory_in_pieces input made output front.count pieces read.healthy front.by read.came (inr (inl read.ended)) reply front.part front.took

@@ -20,7 +20,7 @@ use Rattle.bpfcanon.specs.Devices.{Change, change}
 use Rattle.bpfcanon.specs.commands.BtfReply.{shown, unshown}
 use Rattle.bpfcanon.specs.commands.Pieces.{Answers, Gathered, Gathers, TookText, answered, end_of_pieces}
 use Rattle.bpfcanon.specs.commands.Reply.{limit_of}
-use Rattle.bpfcanon.proofs.CommandsLemmas.PiecesLemmas.{gathered_more, gathers_front, gathers_then, pieces_end, puts_stopped, puts_then}
+use Rattle.bpfcanon.proofs.CommandsLemmas.PiecesLemmas.{gathered_more, gathers_front, gathers_then, pieces_end, puts_then}
 
 -- ---- the items of a type
 
@@ -114,7 +114,7 @@ module _ (a b c : Option (List ℕ)) (f g h : ℕ) (held kept : List ℕ) (v : L
       gathers_then a b c f g h held kept _ _ (Err e) p q in
       let whole : (text_of (take i v) ++ record_text (i + 1) (record_at v (i + 1))) ++ rest_of v (i + 1) ≡ text_of v =
       ap (λ (t : List ℕ). t ++ rest_of v (i + 1)) (type_shown v i inside) ∙ types_rest v (i + 1) in
-      puts_stopped _ kept _ e (subst (λ (t : List ℕ). Gathers (change a c f h) kept t (Err e)) whole (gathers_front (change a c f h) kept _ (rest_of v (i + 1)) e line))
+      subst (λ (t : List ℕ). TookText (change a c f h) t (Err e)) whole (gathers_front (change a c f h) kept _ (rest_of v (i + 1)) e line)
 
 -- the sink took the last piece, or a part of it
 pub types_put : (a b c : Option (List ℕ)) (f g h : ℕ) (held : List ℕ) (v : List TypeRecord) (i : ℕ) (r : Result (Unit {0}) PutError) → length v ≤ i

@@ -11,15 +11,15 @@ use Rattle.bpf_insn.proofs.FrontLemmas.{one_front}
 use Rattle.bpf_canon.specs.declared.engine.RunCause.{RunCause}
 use Rattle.bpf_canon.specs.declared.engine.RunCause.TheVariants as cause
 use Rattle.bpf_canon.specs.Engine.{Devices, counts_read, counts_write}
-use Rattle.bpf_canon.specs.insn.Run.{RanWhole, Stops, StopsAtFault, StopsTooLong, StopsUnread, StopsUnwritten, Wrote, WroteAll, limit}
+use Rattle.bpf_canon.specs.insn.Run.{RanWhole, Stops, Wrote, WroteAll, limit}
 use Rattle.bpf_canon.specs.insn.FeedStream.{IsSound}
 use Rattle.bpf_canon.proofs.InsnLemmas.FrontLaws.{file_front, truncated_or_not}
 use Rattle.bpfcanon.specs.declared.job.Job.{Job}
 use Rattle.bpfcanon.specs.declared.outcome.Outcome.{Outcome}
-use Rattle.bpfcanon.specs.declared.outcome.Outcome.TheVariants.{Done, Fault, TooLong, ReadFailed, WriteFailed, Memory}
+use Rattle.bpfcanon.specs.declared.outcome.Outcome.TheVariants.{Done, Fault, TooLong}
 use Rattle.bpfcanon.specs.declared.verb.Verb.TheVariants.{InsnCanon}
 use Rattle.bpfcanon.specs.commands.Reply.{HasLastingFault, IsCanonReply, canonical, canonical_to_fault, canonical_to_limit}
-use Rattle.bpfcanon.specs.Devices.{Change}
+use Rattle.bpfcanon.specs.Devices.{Change, IsHealthy}
 use Rattle.bpfcanon.specs.JobEnds.{EndsJob, TookAll, IsEndOfStop, TookPrefix, no_memory_amid, read_failed_amid, replied, write_failed_amid}
 
 -- what the devices have, without their counts of failures
@@ -52,51 +52,31 @@ took_all j source sink read n canon wrote = rw canon (λ outcome output reply.
 sound_has_none : (o : Order) (b : List ℕ) → IsSound o b → ¬ HasLastingFault o b
 sound_has_none o b sound = λ fault. fault.1.1 (sound fault.0 fault.1.0)
 
-pub canon_done : (j : Job) (source sink : Change) (n : ℕ) → j.verb ≡ InsnCanon → RanWhole (devices_of source sink) j.order j.to n
-    → source.failed_after ≡ source.failed → sink.failed_after ≡ sink.failed → EndsJob j source sink Done
-canon_done j source sink n canon ran healthy unfailed =
-    replied ran.read Done (file_of j.to ran.insns) healthy unfailed ran.came (inr (inl ran.ended)) (rw canon (canonical ran.insns ran.within ran.file)) ran.took
+module _ (j : Job) (source sink : Change) (n : ℕ) (canon : j.verb ≡ InsnCanon) where
+  pub canon_done : RanWhole (devices_of source sink) j.order j.to n → IsHealthy source → IsHealthy sink → EndsJob j source sink Done
+  canon_done ran healthy unfailed =
+      replied ran.read Done (file_of j.to ran.insns) healthy unfailed ran.came (inr (inl ran.ended)) (rw canon (canonical ran.insns ran.within ran.file)) ran.took
 
-canon_fault : (j : Job) (source sink : Change) (n : ℕ) (f : SlotFault) → j.verb ≡ InsnCanon → StopsAtFault (devices_of source sink) j.order j.to n f
-    → source.failed_after ≡ source.failed → sink.failed_after ≡ sink.failed → EndsJob j source sink (Fault f)
-canon_fault j source sink n f canon stop healthy unfailed =
-    replied stop.read (Fault f) (file_of j.to stop.wrote.insns) healthy unfailed stop.wrote.came
-    (elim (truncated_or_not f.cause) [
-      | inl cut ↦ inr (inl (stop.ended cut).0)
-      | inr lasting ↦ inl (rw canon (f, (stop.fault, lasting)))
-    ])
-    (rw canon (canonical_to_fault stop.wrote.insns stop.wrote.rest f stop.wrote.front stop.fault (λ cut. (stop.ended cut).1)))
-    stop.wrote.took
-
-canon_too_long : (j : Job) (source sink : Change) (n : ℕ) → j.verb ≡ InsnCanon → StopsTooLong (devices_of source sink) j.order j.to n
-    → source.failed_after ≡ source.failed → sink.failed_after ≡ sink.failed → EndsJob j source sink TooLong
-canon_too_long j source sink n canon stop healthy unfailed =
-    replied stop.read TooLong (file_of j.to stop.wrote.insns) healthy unfailed stop.wrote.came (inr (inr (rw canon stop.beyond)))
-    (rw canon (canonical_to_limit stop.wrote.insns stop.wrote.rest stop.wrote.front (sound_has_none _ _ stop.sound) stop.beyond))
-    stop.wrote.took
-
-canon_unread : (j : Job) (source sink : Change) (n : ℕ) → j.verb ≡ InsnCanon → StopsUnread (devices_of source sink) j.order j.to n
-    → source.failed_after ≡ source.failed + 1 → sink.failed_after ≡ sink.failed → EndsJob j source sink ReadFailed
-canon_unread j source sink n canon stop failed unfailed =
-    read_failed_amid stop.read (rw canon refl) failed unfailed stop.wrote.came (rw canon stop.within) (rw canon (sound_has_none _ _ stop.sound))
-    (took_all j source sink stop.read n canon stop.wrote)
-
-canon_unwritten : (j : Job) (source sink : Change) (n : ℕ) → j.verb ≡ InsnCanon → StopsUnwritten (devices_of source sink) j.order j.to n
-    → source.failed_after ≡ source.failed → sink.failed_after ≡ sink.failed + 1 → EndsJob j source sink WriteFailed
-canon_unwritten j source sink n canon stop healthy failed =
-    write_failed_amid stop.read (rw canon refl) healthy failed stop.wrote.came (took_prefix j source sink stop.read n canon stop.wrote)
-
-canon_no_memory : (j : Job) (source sink : Change) (n : ℕ) → j.verb ≡ InsnCanon → StopsUnwritten (devices_of source sink) j.order j.to n
-    → source.failed_after ≡ source.failed → sink.failed_after ≡ sink.failed → EndsJob j source sink Memory
-canon_no_memory j source sink n canon stop healthy unfailed =
-    no_memory_amid stop.read (rw canon refl) healthy unfailed stop.wrote.came (took_prefix j source sink stop.read n canon stop.wrote)
-
--- where the engine stopped
-pub canon_stopped : (j : Job) (source sink : Change) (n : ℕ) (stop : RunCause SlotFault) → j.verb ≡ InsnCanon → Stops (devices_of source sink) j.order j.to n stop
-    → source.failed_after ≡ source.failed + counts_read stop → sink.failed_after ≡ sink.failed + counts_write stop
-    → (outcome : Outcome) → IsEndOfStop (λ f o. o ≡ Fault f) stop outcome → EndsJob j source sink outcome
-canon_stopped j source sink n (cause.Fault f) canon stop reads writes outcome is = rw is (canon_fault j source sink n f canon stop (reads ∙ add-zero _) (writes ∙ add-zero _))
-canon_stopped j source sink n cause.TooLong canon stop reads writes outcome is = rw is (canon_too_long j source sink n canon stop (reads ∙ add-zero _) (writes ∙ add-zero _))
-canon_stopped j source sink n cause.ReadFailed canon stop reads writes outcome is = rw is (canon_unread j source sink n canon stop reads (writes ∙ add-zero _))
-canon_stopped j source sink n cause.WriteFailed canon stop reads writes outcome is = rw is (canon_unwritten j source sink n canon stop (reads ∙ add-zero _) writes)
-canon_stopped j source sink n cause.Memory canon stop reads writes outcome is = rw is (canon_no_memory j source sink n canon stop (reads ∙ add-zero _) (writes ∙ add-zero _))
+  -- where the engine stopped
+  pub canon_stopped : (stop : RunCause SlotFault) → Stops (devices_of source sink) j.order j.to n stop
+      → source.failed_after ≡ source.failed + counts_read stop → sink.failed_after ≡ sink.failed + counts_write stop
+      → (outcome : Outcome) → IsEndOfStop (λ f o. o ≡ Fault f) stop outcome → EndsJob j source sink outcome
+  canon_stopped (cause.Fault f) stop reads writes outcome is =
+      rw is (replied stop.read (Fault f) (file_of j.to stop.wrote.insns) (reads ∙ add-zero _) (writes ∙ add-zero _) stop.wrote.came
+      (elim (truncated_or_not f.cause) [
+        | inl cut ↦ inr (inl (stop.ended cut).0)
+        | inr lasting ↦ inl (rw canon (f, (stop.fault, lasting)))
+      ])
+      (rw canon (canonical_to_fault stop.wrote.insns stop.wrote.rest f stop.wrote.front stop.fault (λ cut. (stop.ended cut).1)))
+      stop.wrote.took)
+  canon_stopped cause.TooLong stop reads writes outcome is =
+      rw is (replied stop.read TooLong (file_of j.to stop.wrote.insns) (reads ∙ add-zero _) (writes ∙ add-zero _) stop.wrote.came (inr (inr (rw canon stop.beyond)))
+      (rw canon (canonical_to_limit stop.wrote.insns stop.wrote.rest stop.wrote.front (sound_has_none _ _ stop.sound) stop.beyond))
+      stop.wrote.took)
+  canon_stopped cause.ReadFailed stop reads writes outcome is =
+      rw is (read_failed_amid stop.read (rw canon refl) reads (writes ∙ add-zero _) stop.wrote.came (rw canon stop.within) (rw canon (sound_has_none _ _ stop.sound))
+      (took_all j source sink stop.read n canon stop.wrote))
+  canon_stopped cause.WriteFailed stop reads writes outcome is =
+      rw is (write_failed_amid stop.read (rw canon refl) (reads ∙ add-zero _) writes stop.wrote.came (took_prefix j source sink stop.read n canon stop.wrote))
+  canon_stopped cause.Memory stop reads writes outcome is =
+      rw is (no_memory_amid stop.read (rw canon refl) (reads ∙ add-zero _) (writes ∙ add-zero _) stop.wrote.came (took_prefix j source sink stop.read n canon stop.wrote))

@@ -21,9 +21,9 @@ use Rattle.bpfcanon.specs.declared.commands.pieces.PutError.{PutError}
 use Rattle.bpfcanon.specs.declared.commands.pieces.PutError.TheVariants.{Memory}
 use Rattle.bpfcanon.specs.declared.verb.Verb.TheVariants.{InsnShow}
 use Rattle.bpfcanon.specs.Devices.{Change, change}
-use Rattle.bpfcanon.specs.commands.Pieces.{Answers, Gathered, Gathers, TookText, TookFront, answered, end_of_pieces}
+use Rattle.bpfcanon.specs.commands.Pieces.{Answers, Gathered, Gathers, Stopped, TookText, answered, end_of_pieces}
 use Rattle.bpfcanon.specs.commands.Reply.{limit_of, shown, unshown}
-use Rattle.bpfcanon.proofs.CommandsLemmas.PiecesLemmas.{front_more, gathered_more, gathered_none, gathers_front, gathers_then, pieces_end, puts_handed, puts_stopped, puts_then}
+use Rattle.bpfcanon.proofs.CommandsLemmas.PiecesLemmas.{front_more, gathered_more, gathered_none, gathers_front, gathers_then, pieces_end, puts_handed, puts_then}
 
 -- the lines of the instructions before a place are gathered, and those of the others follow
 pub record Listed (order : Order) (input : List ℕ) (at : ℕ) (sink : Change) (piece : List ℕ) : Type 0 where
@@ -120,9 +120,7 @@ module _ (order : Order) (input : List ℕ) (at : ℕ) (a b : Option (List ℕ))
       ap (λ (x : List Insn). listing_of (p.before ++ x)) is ∙ listing_split p.before n.others i in
       let part : Gathers (change a c f h) kept (listing_of p.before ++ line i) (Err e) =
       gathers_then a b c f g h piece kept _ _ (Err e) p.gathered (subst (λ (t : List ℕ). Gathers (change b c g h) kept t (Err e)) grown q) in
-      let whole : Gathers (change a c f h) kept (listing_of (p.before ++ p.after)) (Err e) =
-      subst (λ (t : List ℕ). Gathers (change a c f h) kept t (Err e)) (sym text) (gathers_front (change a c f h) kept _ (listing_of n.others) e part) in
-      (p.before ++ p.after, (p.file, puts_stopped _ kept _ e whole))
+      (p.before ++ p.after, (p.file, subst (λ (t : List ℕ). TookText (change a c f h) t (Err e)) (sym text) (gathers_front (change a c f h) kept _ (listing_of n.others) e part)))
 
   -- memory ran out for the next line
   pub listed_front : at < length input → (l : List Insn) × (InsnFile order input l × TookText (change a b f g) (listing_of l) (Err Memory))
@@ -130,7 +128,7 @@ module _ (order : Order) (input : List ℕ) (at : ℕ) (a b : Option (List ℕ))
       let n = next order input at p.after p.each p.rest more in
       let text : listing_of (p.before ++ p.after) ≡ listing_of p.before ++ listing_of p.after = flat_map-append line p.before p.after in
       let some : 0 < length (listing_of p.after) = rw n.is (a_line n.insn n.others) in
-      (p.before ++ p.after, (p.file, subst (TookFront (change a b f g)) (sym text) (front_more a b f g piece (listing_of p.before) (listing_of p.after) some p.gathered)))
+      (p.before ++ p.after, (p.file, subst (λ (t : List ℕ). Stopped (change a b f g) t Memory) (sym text) (front_more a b f g piece (listing_of p.before) (listing_of p.after) some p.gathered)))
 
   -- all instructions are listed
   nothing_left : length input ≤ at → p.before ++ p.after ≡ p.before

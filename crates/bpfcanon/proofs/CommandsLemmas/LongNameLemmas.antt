@@ -8,8 +8,9 @@ use Rattle.std.proofs.lemmas.List.Concat.{flat_map-append}
 use Rattle.std.proofs.Math.Seq.{take-add}
 use Rattle.bpf_text.specs.btf.BtfText.{fields_text, head_line, is_control, item_line, item_text, kind_word, name_text, needs_backslash, quoted_byte}
 use Rattle.bpfcanon.specs.declared.commands.pieces.PutError.{PutError}
+use Rattle.bpfcanon.specs.declared.commands.pieces.PutError.TheVariants.{Memory}
 use Rattle.bpfcanon.specs.Devices.{Change, change}
-use Rattle.bpfcanon.specs.commands.Pieces.{Gathered, Gathers, TookFront}
+use Rattle.bpfcanon.specs.commands.Pieces.{Gathered, Gathers, Stopped}
 use Rattle.bpfcanon.proofs.CommandsLemmas.PiecesLemmas.{front_more, gathered_more, gathers_front, gathers_then}
 
 -- ---- the chunks of a name
@@ -97,8 +98,8 @@ module _ (old first name last line : List ℕ) (whole : first ++ name ++ last �
       subst (λ (t : List ℕ). Gathers sink kept t (Err e)) joined (gathers_front sink kept ((old ++ first) ++ name) last e part)
 
   -- memory ran out for what follows the name
-  pub last_refused : (a b : Option (List ℕ)) (f g : ℕ) (held : List ℕ) → 0 < length last → Gathered (change a b f g) held ((old ++ first) ++ name) → TookFront (change a b f g) (old ++ line)
-  last_refused a b f g held some p = subst (TookFront (change a b f g)) joined (front_more a b f g held ((old ++ first) ++ name) last some p)
+  pub last_refused : (a b : Option (List ℕ)) (f g : ℕ) (held : List ℕ) → 0 < length last → Gathered (change a b f g) held ((old ++ first) ++ name) → Stopped (change a b f g) (old ++ line) Memory
+  last_refused a b f g held some p = subst (λ (t : List ℕ). Stopped (change a b f g) t Memory) joined (front_more a b f g held ((old ++ first) ++ name) last some p)
 
   module _ (a b c : Option (List ℕ)) (f g h : ℕ) (held kept : List ℕ) (p : Gathered (change a b f g) held ((old ++ first) ++ name)) where
     -- the line is gathered, or couldn't be written

@@ -11,7 +11,7 @@ use Rattle.bpfcanon.specs.declared.outcome.Outcome.TheVariants.{Done}
 use Rattle.bpfcanon.specs.declared.commands.pieces.PutError.{PutError}
 use Rattle.bpfcanon.specs.declared.commands.pieces.PutError.TheVariants.{WriteFailed, Memory}
 use Rattle.bpfcanon.specs.Devices.{Change, change}
-use Rattle.bpfcanon.specs.commands.Pieces.{Answers, Gathered, Gathers, TookText, TookFront, TookPart, answered, end_of_pieces, refused_amid, unwritten}
+use Rattle.bpfcanon.specs.commands.Pieces.{Answers, Gathered, Gathers, Stopped, StoppedBy, TookText, answered, end_of_pieces, refused_amid, unwritten}
 use Rattle.bpfcanon.specs.commands.Reply.{IsReply, in_pieces}
 
 module _ (a b c : Option (List ℕ)) (f g h : ℕ) where
@@ -32,10 +32,14 @@ module _ (a b c : Option (List ℕ)) (f g h : ℕ) where
       let whole : Appends a c (p.taken ++ held) = Appends-trans a b c p.taken held p.took took in
       (subst (λ (x : List ℕ). Appends a c x) (sym p.whole) whole, healthy ∙ p.healthy)
 
-  -- a write failed amid what was held and a line more
-  part_more : (held text line more : List ℕ) → Gathered (change a b f g) held text → TookPart (change b c g h) (held ++ line)
-      → TookPart (change a c f h) (text ++ line ++ more)
-  part_more held text line more p q =
+  stopped_by : (e : PutError) → g ≡ f → StoppedBy (change b c g h) e → StoppedBy (change a c f h) e
+  stopped_by WriteFailed same by = by ∙ ap (λ (n : ℕ). n + 1) same
+  stopped_by Memory same by = by ∙ same
+
+  -- writing stopped amid what was held and a line more
+  stopped_amid : (held text line more : List ℕ) (e : PutError) → Gathered (change a b f g) held text → Stopped (change b c g h) (held ++ line) e
+      → Stopped (change a c f h) (text ++ line ++ more) e
+  stopped_amid held text line more e p q =
       let whole : text ++ line ++ more ≡ p.taken ++ ((held ++ line) ++ more) =
       ap (λ (x : List ℕ). x ++ line ++ more) p.whole ∙ ap (λ (x : List ℕ). x ++ more) (append_assoc p.taken held line) ∙ append_assoc p.taken (held ++ line) more in
       let front : take (length p.taken + q.count) (text ++ line ++ more) ≡ p.taken ++ take q.count (held ++ line) =
@@ -46,69 +50,38 @@ module _ (a b c : Option (List ℕ)) (f g h : ℕ) where
         count = length p.taken + q.count;
         part = omega (arith, q.part, ap length whole, length-append p.taken ((held ++ line) ++ more), length-append (held ++ line) more);
         took = subst (λ (x : List ℕ). Appends a c x) (sym front) took;
-        failed = q.failed ∙ ap (λ (n : ℕ). n + 1) p.healthy;
+        by = stopped_by e p.healthy q.by;
       }
 
-  -- memory ran out amid what was held and a line more
-  front_then : (held text line : List ℕ) → Gathered (change a b f g) held text → TookFront (change b c g h) (held ++ line)
-      → TookFront (change a c f h) (text ++ line)
-  front_then held text line p q =
-      let whole : text ++ line ≡ p.taken ++ (held ++ line) = ap (λ (x : List ℕ). x ++ line) p.whole ∙ append_assoc p.taken held line in
-      let front : take (length p.taken + q.count) (text ++ line) ≡ p.taken ++ take q.count (held ++ line) =
-      ap (take (length p.taken + q.count)) whole ∙ take-append-add p.taken (held ++ line) q.count in
-      let took : Appends a c (p.taken ++ take q.count (held ++ line)) = Appends-trans a b c p.taken (take q.count (held ++ line)) p.took q.took in
-      record {
-        count = length p.taken + q.count;
-        part = omega (arith, q.part, ap length whole, length-append p.taken (held ++ line));
-        took = subst (λ (x : List ℕ). Appends a c x) (sym front) took;
-        healthy = q.healthy ∙ p.healthy;
-      }
-
-  -- a write failed amid what was held
-  part_last : (held text : List ℕ) → Gathered (change a b f g) held text → TookPart (change b c g h) held → TookPart (change a c f h) text
-  part_last held text p q =
-      let held_is : held ≡ held ++ [] = sym (append-nil held) in
-      let text_is : text ++ [] ++ [] ≡ text = append-nil (text ++ []) ∙ append-nil text in
-      subst (TookPart (change a c f h)) text_is (part_more held text [] [] p (subst (TookPart (change b c g h)) held_is q))
+  stopped_then : (held text line : List ℕ) (e : PutError) → Gathered (change a b f g) held text → Stopped (change b c g h) (held ++ line) e
+      → Stopped (change a c f h) (text ++ line) e
+  stopped_then held text line e p q =
+      subst (λ (x : List ℕ). Stopped (change a c f h) x e) (append-nil (text ++ line)) (stopped_amid held text line [] e p q)
 
   -- the sink took the rest, or a part of it
   pub puts_then : (held text : List ℕ) (r : Result (Unit {0}) PutError) → Gathered (change a b f g) held text → TookText (change b c g h) held r
       → TookText (change a c f h) text r
   puts_then held text (Ok done) p q = gathered_all held text p q.0 q.1
-  puts_then held text (Err WriteFailed) p q = part_last held text p q
-  puts_then held text (Err Memory) p q =
-      subst (TookFront (change a c f h)) (append-nil text) (front_then held text [] p (subst (TookFront (change b c g h)) (sym (append-nil held)) q))
+  puts_then held text (Err e) p q =
+      let part : Stopped (change b c g h) (held ++ []) e = subst (λ (x : List ℕ). Stopped (change b c g h) x e) (sym (append-nil held)) q in
+      subst (λ (x : List ℕ). Stopped (change a c f h) x e) (append-nil text) (stopped_then held text [] e p part)
 
   -- a call added a line to what was gathered
   pub gathers_then : (held kept text line : List ℕ) (r : Result (Unit {0}) PutError) → Gathered (change a b f g) held text
       → Gathers (change b c g h) kept (held ++ line) r → Gathers (change a c f h) kept (text ++ line) r
   gathers_then held kept text line (Ok done) p q = gathered_more held kept text line p q
-  gathers_then held kept text line (Err WriteFailed) p q =
-      subst (TookPart (change a c f h)) (append-nil (text ++ line)) (part_more held text line [] p q)
-  gathers_then held kept text line (Err Memory) p q = front_then held text line p q
+  gathers_then held kept text line (Err e) p q = stopped_then held text line e p q
 
 -- a text that wasn't written whole, and what follows it
 pub gathers_front : (sink : Change) (kept text more : List ℕ) (e : PutError) → Gathers sink kept text (Err e) → Gathers sink kept (text ++ more) (Err e)
-gathers_front sink kept text more WriteFailed p =
+gathers_front sink kept text more e p =
     let front : take p.count (text ++ more) ≡ take p.count text = take-append-le p.count text more (omega (arith, p.part)) in
     record {
       count = p.count;
       part = omega (arith, p.part, length-append text more);
       took = subst (λ (x : List ℕ). Appends sink.old sink.new x) (sym front) p.took;
-      failed = p.failed;
+      by = p.by;
     }
-gathers_front sink kept text more Memory p =
-    let front : take p.count (text ++ more) ≡ take p.count text = take-append-le p.count text more (omega (arith, p.part)) in
-    record {
-      count = p.count;
-      part = omega (arith, p.part, length-append text more);
-      took = subst (λ (x : List ℕ). Appends sink.old sink.new x) (sym front) p.took;
-      healthy = p.healthy;
-    }
-
-pub puts_stopped : (sink : Change) (kept text : List ℕ) (e : PutError) → Gathers sink kept text (Err e) → TookText sink text (Err e)
-puts_stopped sink kept text WriteFailed p = p
-puts_stopped sink kept text Memory p = p
 
 -- a call hands on how one that it made ended
 pub gathers_handed : (sink : Change) (kept text : List ℕ) (e : PutError) (r : Result (Unit {0}) PutError) → IsErrAnd r (λ x. x ≡ e) → Gathers sink kept text (Err e)
@@ -124,8 +97,8 @@ puts_handed sink text e (Err other) same p = subst (λ (x : PutError). TookText 
 pub gathers_none : (a : Option (List ℕ)) (f : ℕ) (kept old more : List ℕ) (r : Result (Unit {0}) PutError) → 0 < length more → IsErrAnd r (λ x. x ≡ Memory)
     → Gathers (change a a f f) kept (old ++ more) r
 gathers_none a f kept old more r some same =
-    let front : TookFront (change a a f f) (old ++ more) =
-    record { count = 0; part = omega (arith, some, length-append old more); took = Appends-nil a; healthy = refl } in
+    let front : Stopped (change a a f f) (old ++ more) Memory =
+    record { count = 0; part = omega (arith, some, length-append old more); took = Appends-nil a; by = refl } in
     gathers_handed (change a a f f) kept (old ++ more) Memory r same front
 
 -- nothing is gathered yet
@@ -137,7 +110,7 @@ pub gathered_held : (a : Option (List ℕ)) (f : ℕ) (held : List ℕ) → Gath
 gathered_held a f held = record { taken = []; took = Appends-nil a; whole = append-nil held; healthy = refl }
 
 -- memory ran out for what follows the text
-pub front_more : (a b : Option (List ℕ)) (f g : ℕ) (held text more : List ℕ) → 0 < length more → Gathered (change a b f g) held text → TookFront (change a b f g) (text ++ more)
+pub front_more : (a b : Option (List ℕ)) (f g : ℕ) (held text more : List ℕ) → 0 < length more → Gathered (change a b f g) held text → Stopped (change a b f g) (text ++ more) Memory
 front_more a b f g held text more some p =
     let whole : text ++ more ≡ p.taken ++ (held ++ more) = ap (λ (x : List ℕ). x ++ more) p.whole ∙ append_assoc p.taken held more in
     let front : take (length p.taken) (text ++ more) ≡ p.taken = ap (take (length p.taken)) whole ∙ take-append_seam p.taken (held ++ more) in
@@ -145,7 +118,7 @@ front_more a b f g held text more some p =
       count = length p.taken;
       part = omega (arith, some, ap length whole, length-append p.taken (held ++ more), length-append held more);
       took = subst (λ (x : List ℕ). Appends a b x) (sym front) p.took;
-      healthy = p.healthy;
+      by = p.healthy;
     }
 
 -- the job of a command that wrote its output in pieces ends with it

@@ -23,31 +23,27 @@ pub record Gathered (sink : Change) (held text : List ℕ) : Type 0 where
   pub whole : text ≡ taken ++ held
   pub healthy : IsHealthy sink
 
--- a write failed once the sink had taken the first bytes of the text
-pub record TookPart (sink : Change) (text : List ℕ) : Type 0 where
-  pub count : ℕ
-  pub part : count < length text
-  pub took : Appends sink.old sink.new (take count text)
-  pub failed : HasFailed sink
+-- the calls of the sink by which writing was stopped
+abbrev pub StoppedBy : Change → PutError → Type 0
+StoppedBy sink WriteFailed = HasFailed sink
+StoppedBy sink Memory = IsHealthy sink
 
--- no write failed, and the sink took the first bytes of the text, but not all
-pub record TookFront (sink : Change) (text : List ℕ) : Type 0 where
+-- the sink took the first bytes of the text, but not all
+pub record Stopped (sink : Change) (text : List ℕ) (e : PutError) : Type 0 where
   pub count : ℕ
   pub part : count < length text
   pub took : Appends sink.old sink.new (take count text)
-  pub healthy : IsHealthy sink
+  pub by : StoppedBy sink e
 
 -- what the sink took of a text, by how writing it ended
 abbrev pub TookText : Change → List ℕ → Result (Unit {0}) PutError → Type 0
 TookText sink text (Ok done) = Appends sink.old sink.new text × IsHealthy sink
-TookText sink text (Err WriteFailed) = TookPart sink text
-TookText sink text (Err Memory) = TookFront sink text
+TookText sink text (Err e) = Stopped sink text e
 
 -- what the sink took of a text that a call adds to, with the held piece, by how the call ended
 abbrev pub Gathers : Change → List ℕ → List ℕ → Result (Unit {0}) PutError → Type 0
 Gathers sink held text (Ok done) = Gathered sink held text
-Gathers sink held text (Err WriteFailed) = TookPart sink text
-Gathers sink held text (Err Memory) = TookFront sink text
+Gathers sink held text (Err e) = Stopped sink text e
 
 -- how a command ends that wrote its output in pieces
 abbrev pub end_of_pieces : Result (Unit {0}) PutError → Outcome
@@ -62,9 +58,9 @@ pub data Answers (j : Job) (input : List ℕ) (sink : Change) : Outcome → Type
       → Appends sink.old sink.new output → IsHealthy sink → Answers j input sink outcome
   -- a write failed once the sink had taken the first bytes of the output
   unwritten : (outcome : Outcome) (output : List ℕ) → IsReply j.verb j input outcome output
-      → TookPart sink output → Answers j input sink ends.WriteFailed
+      → Stopped sink output WriteFailed → Answers j input sink ends.WriteFailed
   -- memory ran out before anything was written
   refused : IsUnused sink → Answers j input sink ends.Memory
   -- memory ran out between pieces, once the sink had taken the first bytes of the output
   refused_amid : (outcome : Outcome) (output : List ℕ) → in_pieces j.verb ≡ true → IsReply j.verb j input outcome output
-      → TookFront sink output → Answers j input sink ends.Memory
+      → Stopped sink output Memory → Answers j input sink ends.Memory

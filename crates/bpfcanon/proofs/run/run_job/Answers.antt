@@ -9,7 +9,7 @@ returns-in-Ok g c = canon_done c.args.job _ _ _ c.in-InsnCanon.is c.in-Ok.ensure
 
 pub returns-in-Err : goal.returns-in-Err
 returns-in-Err g c =
-    canon_stopped c.args.job _ _ _ c.in-Err.error.cause c.in-InsnCanon.is c.in-Err.ensures.err c.in-Err.ensures.reads c.in-Err.ensures.writes
+    canon_stopped c.args.job _ _ _ c.in-InsnCanon.is c.in-Err.error.cause c.in-Err.ensures.err c.in-Err.ensures.reads c.in-Err.ensures.writes
     c.of_stop.result c.of_stop.ensures
 
 pub returns-in-Ok-run_btf : goal.returns-in-Ok-run_btf
@@ -18,7 +18,7 @@ returns-in-Ok-run_btf g c =
 
 pub returns-in-Err-run_btf : goal.returns-in-Err-run_btf
 returns-in-Err-run_btf g c =
-    btf_canon_stopped c.args.job _ _ _ c.in-Err-run_btf.error.cause c.in-BtfCanon.is c.in-Err-run_btf.ensures.err c.in-Err-run_btf.ensures.reads
+    btf_canon_stopped c.args.job _ _ _ c.in-BtfCanon.is c.in-Err-run_btf.error.cause c.in-Err-run_btf.ensures.err c.in-Err-run_btf.ensures.reads
     c.in-Err-run_btf.ensures.writes c.of_stop-in-Err-run_btf.result c.of_stop-in-Err-run_btf.ensures
 
 pub returns-in-Ok-read_input : goal.returns-in-Ok-read_input

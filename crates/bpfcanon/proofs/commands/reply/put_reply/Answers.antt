@@ -14,4 +14,4 @@ pub returns-in-Ok : goal.returns-in-Ok
 returns-in-Ok g c = λ job input made.
     let took = rw c.as_slice.ensures.value at c.in-Err-put_all.ensures.taken in
     unwritten c.in-Ok.reply.outcome c.in-Ok.reply.output.items (rw c.in-Ok.is at made)
-    (record { count = c.in-Err-put_all.field-0; part = took.0; took = took.1; failed = c.in-Err-put_all.ensures.count })
+    (record { count = c.in-Err-put_all.field-0; part = took.0; took = took.1; by = c.in-Err-put_all.ensures.count })
