@@ -3,8 +3,8 @@
 //! section: each word is read at most once, a STRUCT's offset words twice, and the facts of other
 //! records are read at their places.
 
-ghost use Rattle.std.specs.Prelude.{◌≡◌, ◌<◌, ◌≤◌, ◌^◌, IfSome, IsTrue, [], ◌∷◌, MatchOption, length};
-ghost use Rattle.std.specs.Prelude.{MatchResult};
+ghost use Rattle.std.specs.Prelude.{◌≡◌, ◌<◌, ◌≤◌, ◌^◌, IsTrue, [], ◌∷◌, length};
+ghost use Rattle.std.specs.Prelude.{IfSome, MatchOption, MatchResult};
 ghost use Rattle.btf_raw.specs.Header.{HasNulEnds, STRINGS_LIMIT};
 ghost use Rattle.btf_raw.specs.Cause.{HasNone, LeastByPlace};
 ghost use Rattle.btf_raw.specs.Frames.{IsFrame, kind};
