@@ -1,4 +1,4 @@
--- The lines of types and items, put together from their parts.
+-- The lines of types and items as the concatenation of their parts.
 use Rattle.std.proofs.Common.{◌≡◌, ℕ, Bool, List, ◌++◌, refl, ap, subst, ◌∙◌, rules, append_assoc}
 use Rattle.std.specs.Prelude.{Result, [], codes, decimal, if◌then◌else◌}
 use Rattle.std.specs.List.{flat_map}
@@ -14,7 +14,7 @@ ended a n x z = search (rules, append_assoc)
 quoted_before : (n x : List ℕ) → codes " \"" ++ n ++ (codes "\"" ++ x) ≡ (codes " " ++ codes "\"" ++ n ++ codes "\"") ++ x
 quoted_before n x = search (rules, append_assoc)
 
--- the text after the kind of a type
+-- what follows the kind of a type
 head_text : (head : TypeHead) (items : ℕ)
     → (if has_name head then codes " \"" else []) ++ flat_map quoted_byte (head_name head) ++ head_fields head items ≡ name_text head ++ fields_text head items
 head_text (KPtr t) items = refl
@@ -37,7 +37,7 @@ pub head_parts : (id : ℕ) (head : TypeHead) (items : ℕ) → head_start id he
 head_parts id head items =
     around (codes "[") (decimal id) (codes "] ") (kind_word head) _ (flat_map quoted_byte (head_name head)) (head_fields head items) (name_text head) (fields_text head items) (codes "\n") (head_text head items)
 
--- the text after the two spaces of an item
+-- the line of an item without its newline
 shown : (signed : Bool) (item : TypeItem) → item_start item ++ flat_map quoted_byte (item_name item) ++ item_fields signed item ≡ item_text signed item
 shown signed (Member n t b w) = search (rules, append_assoc)
 shown signed (EnumValue n v) = search (rules, append_assoc)
@@ -51,7 +51,7 @@ item_parts signed item =
     ended (item_start item) (flat_map quoted_byte (item_name item)) (item_fields signed item) (codes "\n")
     ∙ ap (λ (t : List ℕ). t ++ codes "\n") (shown signed item)
 
--- three calls append a line in its parts
+-- three calls append the three parts of a line
 pub appended : {E : Type 0} (r : Result (Unit {0}) E) (old a b c line one two three : List ℕ) → a ++ b ++ c ≡ line → one ≡ old ++ a → two ≡ one ++ b
     → Extends r two c three → Extends r old line three
 appended r old a b c line one two three whole e f h =

@@ -39,7 +39,7 @@ zip_length R [] (y ∷ ys) h = absurd h
 zip_length R (x ∷ xs) [] h = absurd h
 zip_length R (x ∷ xs) (y ∷ ys) h = ap suc (zip_length R xs ys h.1)
 
--- cutting at commas loses the commas alone
+-- splitting at commas drops only the commas
 onto_total : {X : Type 0} (x : X) (parts : List (List X)) → 0 < length parts → (total (onto_first x parts) ≡ total parts + 1) × (length (onto_first x parts) ≡ length parts)
 onto_total x [] h = absurd (omega arith)
 onto_total x (p ∷ parts) h = (omega arith, refl)
@@ -68,7 +68,7 @@ operands_bound : (i : Insn) → length (operands_of i) ≤ 3
 operands_bound (Wide d (Number n)) = omega arith
 operands_bound _ = omega arith
 
--- so have tokens that match a mnemonic
+-- likewise for tokens that match a mnemonic
 pub form_bound : (word : List ℕ) (ts : List (List ℕ)) (form : IsForm word ts) → length form.3.0 ≤ 3
 form_bound word ts form =
     omega (arith, operands_bound form.0, sym (length-map form.3.0 operand_kind) ∙ ap length form.3.1 ∙ length-map (operands_of form.0) operand_kind)

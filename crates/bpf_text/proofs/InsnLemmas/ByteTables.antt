@@ -1,4 +1,4 @@
--- A table of 256 truth values agrees with a test.
+-- A table of 256 Booleans agrees with a test.
 use Rattle.std.proofs.Common.{◌≡◌, ℕ, zero, suc, ◌<◌, Bool, false, List, [], ◌∷◌, inl, inr, get_or, drop, ap, arith}
 use Rattle.std.proofs.lemmas.Bool.{cases_eq}
 

@@ -1,5 +1,4 @@
--- Each mnemonic stands in the table where the hash of its text leads. So what is tested at all entries holds of all
--- mnemonics.
+-- The hash of each mnemonic leads to its entry in the table. A test that all entries pass is therefore passed by all mnemonics.
 use Rattle.std.proofs.Common.{◌≡◌, ◌≢◌, ℕ, zero, suc, Bool, true, List, [], ◌∷◌, get_or, refl, sym, ap, ◌∙◌, subst}
 use Rattle.std.specs.List.{list_all}
 use Rattle.bpf_insn.specs.declared.insn.Width.TheVariants.{W32, W64}
@@ -20,7 +19,7 @@ use Rattle.bpf_text.specs.insn.Mnemonics.{text_of_mnemonic}
 use Rattle.bpf_text.specs.insn.MnemonicHash.{hash_of}
 use Rattle.bpf_text.proofs.InsnLemmas.HashPlaces.{first, second}
 
--- the entry to which a text leads
+-- the entry to which the hash of a token leads
 abbrev pub entry : List ℕ → Mnemonic → Mnemonic
 entry text other = get_or ALL (get_or PLACES (hash_of text) 0) other
 
@@ -71,7 +70,7 @@ stands (PacketInd _) d = refl
 pub one_mnemonic : (m n : Mnemonic) → text_of_mnemonic m ≡ text_of_mnemonic n → m ≡ n
 one_mnemonic m n e = sym (stands m Exit) ∙ ap (λ w. entry w Exit) e ∙ stands n Exit
 
--- a token is no mnemonic if it differs from the one at its hash
+-- a token isn't a mnemonic if it differs from the mnemonic at its hash
 pub none_of_hash : (token : List ℕ) (hash k : ℕ) (m d : Mnemonic) → hash ≡ hash_of token → k ≡ get_or PLACES hash 0
     → token ≢ text_of_mnemonic (get_or ALL k d) → token ≢ text_of_mnemonic m
 none_of_hash token hash k m d h p other same =
@@ -83,7 +82,7 @@ at_entry test [] k d h e = e
 at_entry test (m ∷ ms) zero d h e = first (test m) (list_all test ms) h
 at_entry test (m ∷ ms) (suc k) d h e = at_entry test ms k d (second (test m) (list_all test ms) h) e
 
--- what all entries pass, each mnemonic passes
+-- a test that all entries pass is passed by each mnemonic
 pub each_passes : (test : Mnemonic → Bool) → list_all test ALL ≡ true → test Exit ≡ true → (m : Mnemonic) → test m ≡ true
 each_passes test h e m =
     subst (λ (x : Mnemonic). test x ≡ true) (stands m Exit) (at_entry test ALL (get_or PLACES (hash_of (text_of_mnemonic m)) 0) Exit h e)

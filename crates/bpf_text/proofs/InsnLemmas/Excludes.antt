@@ -97,7 +97,7 @@ no_listing text fault l h k =
 
 -- ---- what an error says
 
--- a text that lists instructions is refused only if memory runs out
+-- a listing is refused only if memory runs out
 pub only_memory : {T : Type 0} (P : T → Type 0) (text : List ℕ) (e : ListError) (r : Result T ListError) → IsErrAnd r (λ x. x ≡ e) → RefusesText text e → (l : List Insn) → Lists text l
     → MatchResult r P (λ x. x ≡ Memory)
 only_memory P text e (Ok v) same h l k = absurd same

@@ -1,4 +1,4 @@
--- What reading one field returns.
+-- The result of reading one field.
 use Rattle.std.proofs.Common.{◌≡◌, ◌≢◌, ◌^◌, ◌<◌, ℕ, ℤ, pos, refl, sym, ap, ◌∙◌, subst, Ok, Err, FitsSigned, Option, Some, None, IfSome, MatchOption}
 use Rattle.std.specs.Option.{ok_or}
 use Rattle.std.specs.Int.{Width, w16, w32}
@@ -14,7 +14,7 @@ use Rattle.bpf_text.specs.insn.Table.{source_operand}
 use Rattle.bpf_text.specs.insn.Numbers.{IsNumber, IsReadAs}
 use Rattle.bpf_text.specs.insn.OperandFields.{Field, address_field, source_field, imm64_field, ReadsField}
 
--- a number that the field holds
+-- a number in the range of the field
 pub count_some : {X : Type 0} (field : Field X) (x : X) (n : Number) (v : ℤ) → field.valid x → field.written x ≡ number v → ((z : ℤ) → IsNumber n z → v ≡ z)
     → (a : LineOperand) → IsReadAs (Literal n) a → ReadsField field a (Ok x)
 count_some field x n v ok e cases (register r) h = absurd h
@@ -22,7 +22,7 @@ count_some field x n v ok e cases (number z) h = (ok, ap number (sym (cases z h)
 count_some field x n v ok e cases (signed z) h = (ok, ap number (sym (cases z h)) ∙ sym e)
 count_some field x n v ok e cases (memory r z) h = absurd h
 
--- a number that the field doesn't hold
+-- a number outside the range of the field
 pub count_none : {X : Type 0} (field : Field X) (P : ℤ → Type 0) (n : Number) → ((z : ℤ) → IsNumber n z → ¬ P z) → (x : X) → operand_kind (field.written x) ≡ a_number
     → ((y : X) (z : ℤ) → field.valid y → number z ≡ field.written y → P z) → (a : LineOperand) → IsReadAs (Literal n) a → ReadsField field a (Err Range)
 count_none field P n none x k held (register r) h = absurd h
@@ -66,7 +66,7 @@ pub signed_read : (w : Width) (n : Number) (o : Option ℤ) → IfSome o (FitsSi
 signed_read w n (Some v) fits cases a h = count_some (signed_field w) v n v fits refl cases a h
 signed_read w n None fits cases a h = count_none (signed_field w) (FitsSigned w) n cases (pos 0) refl (number_fits w) a h
 
--- the number of a wide load has 64 bits, without a sign
+-- the number of a wide load is an unsigned 64-bit number
 pub wide_read : (n : Number) (o : Option ℕ) → IfSome o (λ x. x < 2 ^ 64) → ((z : ℤ) → IsNumber n z → MatchOption o ((m : ℕ) → m < 2 ^ 64 → z ≢ pos m) (λ x. z ≡ pos x))
     → (a : LineOperand) → IsReadAs (Literal n) a → ReadsField imm64_field a (ok_or o Range)
 wide_read n (Some x) fits cases a h = count_some imm64_field x n (pos x) fits refl (λ z k. sym (cases z k)) a h

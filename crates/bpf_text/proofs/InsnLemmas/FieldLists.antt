@@ -1,4 +1,4 @@
--- What reading several fields of an instruction returns.
+-- The result of reading several fields of an instruction.
 use Rattle.std.proofs.Common.{◌≡◌, ◌≢◌, List, [], ◌∷◌, map, Result, Ok, Err}
 use Rattle.std.specs.List.{AllZip}
 use Rattle.bpf_text.specs.declared.insn.fault.LineCause.{LineCause}

@@ -1,4 +1,4 @@
--- Each index that a hash leads to is one of a mnemonic.
+-- Each index in the table of hashes is that of a mnemonic.
 use Rattle.std.proofs.Common.{◌≡◌, ℕ, zero, suc, ◌≤◌, Bool, true, false, ◌&&◌, List, [], ◌∷◌, get_or, refl, arith}
 use Rattle.std.specs.Prelude.{nat_le}
 use Rattle.std.specs.List.{list_all}

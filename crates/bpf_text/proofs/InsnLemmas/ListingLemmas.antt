@@ -1,4 +1,4 @@
--- Lines read so far.
+-- The lines that have been read so far.
 use Rattle.std.proofs.Common.{◌≡◌, ℕ, ◌+◌, List, [], ◌∷◌, ◌++◌, Option, Some, None, MatchOption, Result, Ok, Err, MatchResult, not, length, get_or, take, drop, refl, sym, ap, ◌∙◌, arith, append_assoc, append-nil, length-append}
 use Rattle.std.proofs.lemmas.Bool.{false_from_ne_true, not_from_false}
 use Rattle.std.proofs.lemmas.Grind.{get_or_default_zero}
@@ -25,18 +25,18 @@ pub record ReadSoFar (text rest : List ℕ) (insns : List Insn) (n : ℕ) : Type
   pub whole : insns ≡ flat_map (λ found. found) listed
   pub place : n ≡ length front + 1
 
--- a text whose first newline is at this index
+-- an input whose first newline is at this index
 pub ends_at : (text : List ℕ) (end : ℕ) → NoneBefore (Passes (is_byte 10) text) 0 (length text) end × Passes (is_byte 10) text end → lines_of text ≡ take end text ∷ lines_of (drop (end + 1) text)
 ends_at text end h =
     let place : end ≡ position_or_len is_newline text = run_found (λ b. not (is_newline b)) text end h.0.high (λ k l. not_from_false (is_newline (get_or text k 0)) (false_from_ne_true (is_newline (get_or text k 0)) (h.0.before k (omega arith) l))) (ap not h.1) in
     let after : drop (end + 1) text ≡ after_first is_newline text = ap (λ n. drop (n + 1) text) place in
     rw (after, place) (slice_split_first is_newline text 0 (omega (arith, h.0.high, place)))
 
--- a text without a newline is one line
+-- an input without a newline is one line
 pub ends_nowhere : (text : List ℕ) → Nowhere (Passes (is_byte 10) text) 0 (length text) → lines_of text ≡ text ∷ []
 ends_nowhere text h = slice_split_none is_newline text (λ k d l. ap is_newline (get_or_default_zero text k d l) ∙ false_from_ne_true (is_newline (get_or text k 0)) (h k (omega arith) l))
 
--- in both cases a line comes first
+-- in both cases the input begins with a line
 pub line_first : (text line : List ℕ) (following : Option (Bor (List ℕ))) → MatchOption following (lines_of text ≡ line ∷ []) (λ b. lines_of text ≡ line ∷ lines_of b.now) → (back : List (List ℕ)) × (lines_of text ≡ line ∷ back)
 line_first text line None h = ([], h)
 line_first text line (Some b) h = (lines_of b.now, h)

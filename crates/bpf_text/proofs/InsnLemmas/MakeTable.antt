@@ -1,4 +1,4 @@
--- What the instructions of each mnemonic are made of.
+-- The fields of the instructions of each mnemonic.
 use Rattle.std.proofs.Common.{◌≡◌, [], ◌∷◌, List, map, refl, sym, ap, ◌∙◌, subst, Result, Ok, Err, IsErrAnd}
 use Rattle.std.specs.List.{AllZip}
 use Rattle.bpf_insn.specs.declared.insn.Operand.{Operand}
@@ -119,11 +119,11 @@ sound (Wide kind.Number) x v = v.1
 sound (Wide _) x v = v.1
 sound _ x v = v.1
 
--- an instruction is made of some fields of the mnemonic's form
+-- the instruction is made from fields of the mnemonic's form
 abbrev Made : Mnemonic → Insn → Type 0
 Made m i = (x : Fields m) × (map plain (operands_of i) ≡ (fields_of m).written x) × (IsInsn i → (fields_of m).valid x)
 
--- each instruction is made by the form of its own mnemonic
+-- each instruction is made from fields of its own mnemonic's form
 made : (i : Insn) → Made (mnemonic_of i) i
 made (insn.Alu w o d arg) = ((d, arg), ap (λ a. register d ∷ a ∷ []) (operand_plain arg), (λ v. (tt, v)))
 made (insn.Movsx f d s) = ((d, s), refl, (λ v. (tt, tt)))
@@ -151,7 +151,7 @@ made (insn.PacketAbs z k) = (k, refl, (λ v. v))
 made (insn.PacketInd z s k) = ((s, k), refl, (λ v. (tt, v)))
 made insn.Exit = (tt, refl, (λ v. tt))
 
--- and so is each with the same mnemonic
+-- likewise for each instruction with this mnemonic
 only_made : (m : Mnemonic) (i : Insn) → mnemonic_of i ≡ m → Made m i
 only_made m i e = subst (λ n. Made n i) e (made i)
 

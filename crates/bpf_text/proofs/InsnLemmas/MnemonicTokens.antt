@@ -10,13 +10,13 @@ use Rattle.bpf_text.specs.insn.Tokens.{is_word_byte}
 use Rattle.bpf_text.proofs.InsnLemmas.EachMnemonic.{each_passes}
 use Rattle.bpf_text.proofs.InsnLemmas.OneInsn.{mnemonic_text_is}
 
--- no more elements than a number
+-- the list has at most this many elements
 abbrev is_within : ℕ → List ℕ → Bool
 is_within n [] = true
 is_within zero (b ∷ bytes) = false
 is_within (suc n) (b ∷ bytes) = is_within n bytes
 
--- word bytes, at least one and at most 14
+-- letters, digits and _, at least one and at most 14
 abbrev fits_token : List ℕ → Bool
 fits_token [] = false
 fits_token (b ∷ bytes) = cond (is_within 14 (b ∷ bytes)) (list_all is_word_byte (b ∷ bytes)) false

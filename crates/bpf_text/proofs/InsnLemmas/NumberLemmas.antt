@@ -17,7 +17,7 @@ digit_below radix (c ∷ cs) (suc i) all h = digit_below radix cs i all.1 (omega
 pub not_decimal : (ds : List ℕ) → ¬ IsNumeral 10 (codes "0x" ++ ds)
 not_decimal ds h = let large : 33 < 10 = h.1.1.0 in absurd (omega arith)
 
--- A token spells one number.
+-- a token spells at most one number
 pub one_magnitude : (token : List ℕ) (m n : ℕ) → SpellsMagnitude token m → SpellsMagnitude token n → m ≡ n
 one_magnitude token m n (inl a) (inl b) = a.1 ∙ sym b.1
 one_magnitude token m n (inl a) (inr b) = absurd (not_decimal b.0 (rw b.1 at a.0))

@@ -1,4 +1,4 @@
--- A text has one fault at most.
+-- The fault of an input is unique.
 use Rattle.std.proofs.Common.{◌≡◌, ℕ, suc, ◌+◌, true, List, [], ◌∷◌, ◌++◌, length, refl, sym, ap, ◌∙◌, subst}
 use Rattle.std.specs.List.{AllZip, list_any}
 use Rattle.std.proofs.lemmas.Bool.{false≢true}
@@ -16,7 +16,7 @@ use Rattle.bpf_text.proofs.InsnLemmas.Excludes.{no_stray, excludes}
 tokens_or_stray : (line : List ℕ) (ts : List (List ℕ)) → list_any is_stray (code_of line) ≡ true → AreTokens (code_of line) ts → ⊥
 tokens_or_stray line ts stray h = false≢true (sym (no_stray (code_of line) ts h) ∙ stray)
 
--- a line has one first token, and one list of tokens after it
+-- the first token of a line is unique, and so is the list of tokens after it
 module _ (line word word' : List ℕ) (ts ts' : List (List ℕ)) (h : AreTokens (code_of line) (word ∷ ts)) (k : AreTokens (code_of line) (word' ∷ ts')) where
   same_mnemonic : word ≡ word'
   same_mnemonic = let same : word ∷ ts ≡ word' ∷ ts' = one_tokens (code_of line) (word ∷ ts) (word' ∷ ts') h k in cc
@@ -57,7 +57,7 @@ one_cause line Range Range h k = refl
 abbrev ListsNothing : List ℕ → Type 0
 ListsNothing line = (found : List Insn) → ¬ ListsLine line found
 
--- the first of lines that list something, and of lines that begin with one that lists nothing
+-- lines that each list something can't begin with a line that lists nothing
 first_clash : (line x : List ℕ) (back rest : List (List ℕ)) (listed : List (List Insn)) → line ∷ back ≡ x ∷ rest → ListsNothing line → (front : List (List ℕ)) → AllZip ListsLine (x ∷ front) listed → ⊥
 first_clash line x back rest [] e none front h = absurd h
 first_clash line x back rest (f ∷ listed) e none front h = let same : line ≡ x = cc in none f (subst (λ (y : List ℕ). ListsLine y f) (sym same) h.0)

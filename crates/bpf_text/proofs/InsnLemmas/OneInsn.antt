@@ -1,4 +1,4 @@
--- A line lists one instruction, and a text one list.
+-- A line lists at most one instruction, and an input at most one list of them.
 use Rattle.std.proofs.Common.{◌≡◌, ℕ, List, [], ◌∷◌, refl, sym, ap, ◌∙◌, map}
 use Rattle.std.specs.List.{AllZip, flat_map}
 use Rattle.bpf_insn.specs.declared.insn.Operand.TheVariants.{Imm, Reg}
@@ -22,7 +22,7 @@ mnemonic_text_is (Branch width op d (Reg r) o) = refl
 mnemonic_text_is (Wide d (Number n)) = refl
 mnemonic_text_is _ = refl
 
--- the mnemonic and the operands make the instruction
+-- the mnemonic and the operands determine the instruction
 same_insn : (i j : Insn) → mnemonic_of i ≡ mnemonic_of j → map plain (operands_of i) ≡ map plain (operands_of j) → i ≡ j
 same_insn (Alu width op d (Imm k)) (Alu width' op' d' (Imm k')) names fields = cc
 same_insn (Alu width op d (Reg r)) (Alu width' op' d' (Reg r')) names fields = cc
@@ -87,6 +87,6 @@ one_zip (l ∷ lines) (x ∷ f) (y ∷ g) h k =
     let first : x ≡ y = one_line l x y h.0 k.0 in
     let more : f ≡ g = one_zip lines f g h.1 k.1 in cc
 
--- at most one list is listed by a text
+-- an input lists at most one list
 pub one_listing : (text : List ℕ) (l m : List Insn) → Lists text l → Lists text m → l ≡ m
 one_listing text l m h k = h.whole ∙ ap (flat_map (λ found. found)) (one_zip (lines_of text) h.listed k.listed h.each k.each) ∙ sym k.whole

@@ -1,4 +1,4 @@
--- Tokens spell one operand, up to how its sign is written.
+-- Tokens spell at most one operand, up to how its sign is written.
 use Rattle.std.proofs.Common.{◌≡◌, ℕ, ◌<◌, ◌≤◌, ℤ, pos, neg_ℤ, List, [], ◌∷◌, ◌++◌, ◌⊎◌, inl, inr, drop, refl, sym, ap, ◌∙◌, subst, arith, codes, map}
 use Rattle.std.specs.List.{AllZip, slice_split}
 use Rattle.std.specs.Fmt.{decimal}
@@ -10,7 +10,7 @@ use Rattle.bpf_text.specs.insn.Operands.{LineOperand, register, number, signed, 
 use Rattle.bpf_text.specs.insn.OperandFields.{plain}
 use Rattle.bpf_text.proofs.InsnLemmas.NumberLemmas.{one_magnitude}
 
--- a number has one register
+-- a register is determined by its number
 same_reg : (r s : Reg) → r.number ≡ s.number → r ≡ s
 same_reg r s e =
     subst (λ (n : ℕ). (h : n ≤ 10) → r ≡ (record { number = n; in_range = h })) e (λ h. ap (λ (z : r.number ≤ 10). record { number = r.number; in_range = z }) (le_prop r.in_range h)) s.in_range

@@ -1,4 +1,4 @@
--- A line has one list of tokens.
+-- The list of tokens of a line is unique.
 use Rattle.std.proofs.Common.{◌≡◌, ℕ, ◌+◌, ◌<◌, Bool, true, false, cond, ◌&&◌, List, [], ◌∷◌, ◌++◌, inl, inr, length, take, drop, refl, sym, ap, ◌∙◌, arith, append_assoc}
 use Rattle.std.specs.List.{list_all, prefix_len}
 use Rattle.std.proofs.lemmas.Bool.{false≢true}
@@ -50,7 +50,7 @@ ends_word : (rest : List ℕ) → ¬ BeginsWithWordByte rest → FailsFirst is_w
 ends_word [] h = tt
 ends_word (b ∷ rest) h = h
 
--- of two tokens before the same bytes
+-- two tokens at the start of the same bytes have the same length
 same_length : (t u r s : List ℕ) → t ++ r ≡ u ++ s → IsTokenBefore t r → IsTokenBefore u s → length t ≡ length u
 same_length t u r s e (inl h) (inl k) =
     sym (front_len is_word_byte t r h.1 (ends_word r h.2)) ∙ ap (prefix_len is_word_byte) e ∙ front_len is_word_byte u s k.1 (ends_word s k.2)
@@ -85,7 +85,7 @@ one_start bytes t r u s h k =
     let following : t ++ r ≡ u ++ s = (same_fronts h.blanks k.blanks (t ++ r) (u ++ s) (sym e ∙ f) l).1 in
     same_fronts t u r s following (same_length t u r s following h.longest k.longest)
 
--- bytes that are all blank have no token
+-- bytes that are all blank don't start with a token
 pub none_or_some : (bytes t r : List ℕ) → list_all is_blank bytes ≡ true → StartsWithToken bytes t r → ⊥
 none_or_some bytes t r all s = first_fails (t ++ r) (has_bytes t r s.longest) (token_no_blank t r s.longest) following
   where

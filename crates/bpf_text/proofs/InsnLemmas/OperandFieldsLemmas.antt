@@ -1,4 +1,4 @@
--- What reading several fields returns, and which instruction they make.
+-- The result of reading several fields, and the instruction that they make.
 use Rattle.std.proofs.Common.{◌≡◌, ◌≢◌, ℕ, suc, List, [], ◌∷◌, map, length, get_or, refl, sym, ap, ◌∙◌, subst, Result, Ok, Err, arith}
 use Rattle.std.proofs.lemmas.List.{length-map}
 use Rattle.std.specs.List.{AllZip}
@@ -37,7 +37,7 @@ head_same x y xs ys e = cc
 tail_same : {X : Type 0} (x y : X) (xs ys : List X) → x ∷ xs ≡ y ∷ ys → xs ≡ ys
 tail_same x y xs ys e = cc
 
--- one field alone
+-- a single field
 pub last_reads : {X : Type 0} (field : Field X) (a : LineOperand) (r : Result X LineCause) → ReadsField field a r → ReadsFields (last_field field) (a ∷ []) r
 last_reads field a (Ok x) h = (h.0, cons_same (plain a) (field.written x) [] [] h.1 refl)
 last_reads field a (Err Char) h = absurd h
@@ -48,7 +48,7 @@ last_reads field a (Err Range) h = (
   (λ x v e. h.1 x v (head_same (plain a) (field.written x) [] [] e)),
 )
 
--- one field before others
+-- a field before others
 module _ {X Y : Type 0} (field : Field X) (form : FieldList Y) (a : LineOperand) (more : List LineOperand) where
   kinds_of_first : (x : X) → field.valid x × (plain a ≡ field.written x) → operand_kind a ≡ operand_kind (field.written x)
   kinds_of_first x h = plain_kind a ∙ ap operand_kind h.1
@@ -102,7 +102,7 @@ length_zip [] (y ∷ ys) h = absurd h
 length_zip (x ∷ xs) [] h = absurd h
 length_zip (x ∷ xs) (y ∷ ys) h = ap suc (length_zip xs ys h.1)
 
--- another number of operands
+-- a wrong number of operands
 pub other_length : {X : Type 0} (form : FieldList X) (n : ℕ) → ((x : X) → length (form.written x) ≡ n) → (xs : List ReadOperand) → length xs ≢ n → FieldsAreRead form xs (Err Shape)
 other_length form n size xs other spelled h = λ x e.
     let same : length spelled ≡ length (form.written x) = sym (length-map spelled operand_kind) ∙ ap length e ∙ length-map (form.written x) operand_kind in
@@ -120,7 +120,7 @@ two_cells x y (u ∷ []) e f l = absurd (omega arith)
 two_cells x y (u ∷ v ∷ []) e f l = cc
 two_cells x y (u ∷ v ∷ w ∷ more) e f l = absurd (omega arith)
 
--- two fields, read one after the other
+-- two fields, read in sequence
 pub two_read : {X Y : Type 0} (f : Field X) (g : Field Y) (a b : ReadOperand) (xs : List ReadOperand) (r : Result X LineCause) (s : Result Y LineCause) (t : Result (X × Y) LineCause)
     → a ≡ get_or xs 0 a → b ≡ get_or xs 1 b → length xs ≡ 2 → FieldIsRead f a r → FieldIsRead g b s → t ≡ both_read r s → FieldsAreRead (field_then f (last_field g)) xs t
 two_read f g a b xs r s t e k l p q u =
@@ -153,7 +153,7 @@ counted (insn.Wide d (of.Number n)) = refl
 counted (insn.Wide d _) = refl
 counted _ = refl
 
--- another number of operands than the mnemonic has
+-- a number of operands that isn't that of the mnemonic
 pub miscounted : (m : Mnemonic) (xs : List ReadOperand) → length xs ≢ operand_count m → (spelled : List LineOperand) → AllZip IsReadAs xs spelled → ReadsInsn m spelled (Err Shape)
 miscounted m xs other spelled h = λ i e f.
     let same : length spelled ≡ length (operands_of i) = sym (length-map spelled operand_kind) ∙ ap length f ∙ length-map (operands_of i) operand_kind in

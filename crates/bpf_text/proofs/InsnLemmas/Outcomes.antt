@@ -1,4 +1,4 @@
--- What a clause for one outcome says once that outcome was tested.
+-- What a clause for one outcome says after that outcome has been tested.
 use Rattle.std.proofs.Common.{◌≡◌, Bool, true, false, Result, Ok, Err, OnOk, OnErr, Option, Some, None, IfNone, sym, ◌∙◌}
 use Rattle.std.specs.Result.{is_err}
 use Rattle.std.proofs.lemmas.Bool.{false≢true}

@@ -97,7 +97,7 @@ with_zeros (insn.Wide d (of.MapValueIdx k m)) = (insn.Wide d (of.MapValueIdx (po
 with_zeros (insn.PacketAbs z k) = (insn.PacketAbs z (pos 0), zero_imm, refl, refl)
 with_zeros (insn.PacketInd z s k) = (insn.PacketInd z s (pos 0), zero_imm, refl, refl)
 
--- what tokens spell, they spell however its sign is written
+-- tokens that spell an operand spell it however its sign is written
 to_plain : (ts : List (List ℕ)) (a : LineOperand) → SpellsOperand ts a → SpellsOperand ts (plain a)
 to_plain ts (register r) h = h
 to_plain ts (number z) h = h
@@ -154,7 +154,7 @@ no_mnemonic word none = λ w. none (mnemonic_of w.0) (w.2 ∙ mnemonic_text_is w
 pub no_form_of_many : (word : List ℕ) (ts : List (List ℕ)) → 17 < length ts → ¬ IsForm word ts
 no_form_of_many word ts many = λ w. omega (arith, tokens_bound ts w.3.0 (form_bound word ts w) w.3.2)
 
--- no operands of an instruction
+-- tokens that don't spell the operands of an instruction
 pub no_form : (word : List ℕ) (ts : List (List ℕ)) → ((spelled : List LineOperand) → length spelled ≤ 3 → ¬ SpellsOperands ts spelled) → ¬ IsForm word ts
 no_form word ts none = λ w. none w.3.0 (form_bound word ts w) w.3.2
 

@@ -1,4 +1,4 @@
--- The texts of the registers.
+-- How registers are written.
 use Rattle.std.proofs.Common.{◌≡◌, ◌≢◌, ℕ, ◌+◌, ◌<◌, ◌≤◌, Bool, true, false, List, [], ◌∷◌, ◌++◌, inl, inr, Option, Some, None, refl, sym, ap, ◌∙◌, subst, codes, arith, eqb, IfSome, MatchOption}
 use Rattle.std.specs.Fmt.{digits, decimal}
 use Rattle.std.specs.Cmp.Lexicographic.{pointwise}
@@ -44,7 +44,7 @@ no_register token b small e f r h =
 pub last_spelled : (token : List ℕ) (b : Bool) (r : Option Reg) → b ≡ pointwise eqb token (codes "r10") → b ≡ true → MatchOption r (10 < 10) (λ k. k.number ≡ 10) → IfSome r (SpellsRegister token)
 last_spelled token b r e f h = spelled_by_new token 10 r ((slice_eq-Decides Decides-eqb token (codes "r10") b e).0 f ∙ sym last_register_text) h
 
--- the text of a register of known number
+-- how a register with a known number is written
 pub small_register_is : (d n : ℕ) → d ≤ 9 → d ≡ n → 114 ∷ (48 + d) ∷ [] ≡ codes "r" ++ decimal n
 small_register_is d n small e = sym (small_register_text d small) ∙ ap (λ (m : ℕ). codes "r" ++ decimal m) e
 

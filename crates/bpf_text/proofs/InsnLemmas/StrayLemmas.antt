@@ -32,17 +32,17 @@ none_before line end e = rw e (none_passes is_stray (take (position_or_len is_st
 no_mark : (line : List ℕ) (end k : ℕ) → end ≡ position_or_len is_stray line → k < end → is_comment_mark (get_or line k 0) ≡ false
 no_mark line end k e l = mark_is_stray (get_or line k 0) (fails_before_first is_stray line k 0 (omega (arith, e)))
 
--- such a byte there begins the comment
+-- if the first stray byte is one of these, it begins the comment
 pub mark_ends : (line : List ℕ) (end : ℕ) → end ≡ position_or_len is_stray line → end < length line → is_comment_mark (get_or line end 0) ≡ true → take end line ≡ code_of line
 mark_ends line end e l h =
     ap (λ n. take n line) (run_found (λ b. not (is_comment_mark b)) line end l (λ k m. ap not (no_mark line end k e m)) (ap not h))
 
--- there is no comment where no byte is stray
+-- a line without stray bytes has no comment
 pub whole_is_code : (line : List ℕ) (end : ℕ) → end ≡ position_or_len is_stray line → end ≡ length line → take end line ≡ code_of line
 whole_is_code line end e l =
     ap (λ n. take n line) (l ∙ run_whole (λ b. not (is_comment_mark b)) line (λ k m. ap not (no_mark line end k e (omega (arith, l)))))
 
--- another stray byte is part of the code
+-- any other first stray byte is part of the code
 pub stray_in_code : (line : List ℕ) (end : ℕ) → end ≡ position_or_len is_stray line → end < length line → is_comment_mark (get_or line end 0) ≡ false → list_any is_stray (code_of line) ≡ true
 stray_in_code line end e l h = pick (cases_lt end place)
   where

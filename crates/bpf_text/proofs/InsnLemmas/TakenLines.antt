@@ -1,23 +1,23 @@
--- The instructions that a sink took of the lines read so far.
+-- The instructions that a sink accepted from the lines read so far.
 use Rattle.std.proofs.Common.{◌≡◌, ℕ, ◌+◌, List, [], ◌∷◌, ◌++◌, ap, refl, ◌∙◌}
 use Rattle.bpf_insn.specs.declared.insn.Insn.{Insn}
 use Rattle.bpf_text.specs.insn.Listing.{lines_of, ListsLine, Lists}
 use Rattle.bpf_text.proofs.InsnLemmas.ListingLemmas.{ReadSoFar, starts, one_more, at_the_end}
 
--- what a list holds that was empty before
+-- the contents of a list that was empty before
 pub listed_from_none : (text : List ℕ) (before after : List Insn) → before ≡ [] → (insns : List Insn) × Lists text insns × (after ≡ before ++ insns) → Lists text after
 listed_from_none text before after none (insns, listed, more) =
     let same : after ≡ insns = more ∙ ap (λ x. x ++ insns) none in
     rw same listed
 
 module _ {S : Type 0} (takes : S → List Insn → S → Type 0) where
-  -- the lines before the rest list the instructions that the sink took, and the rest begins with line number n
+  -- the lines before the rest list the instructions that the sink accepted, and the rest begins with line number n
   pub record TakenSoFar (text rest : List ℕ) (before after : S) (n : ℕ) : Type 0 where
     pub insns : List Insn
     pub so_far : ReadSoFar text rest insns n
     pub taken : takes before insns after
 
-  -- the sink took the instructions that the text lists
+  -- the sink accepted the instructions of the listing
   abbrev pub TookListed : List ℕ → S → S → Type 0
   TookListed text before after = (insns : List Insn) × Lists text insns × takes before insns after
 

@@ -50,7 +50,7 @@ one_cell (x ∷ xs) h = refl
 is_empty_list : (xs : List ℕ) → xs ≡ [] → length xs ≡ 0
 is_empty_list xs e = ap length e
 
--- nothing comes after the blanks
+-- nothing follows the blanks
 pub all_blank : (bytes rest : List ℕ) (n : ℕ) → n ≡ prefix_len is_blank bytes → rest ≡ drop n bytes → length rest ≡ 0 → list_all is_blank bytes ≡ true
 all_blank bytes rest n e f h =
     let all : take (prefix_len is_blank bytes) bytes ≡ bytes = take_all (prefix_len is_blank bytes) bytes (omega (arith, length-drop n bytes, ap length f)) in
@@ -64,7 +64,7 @@ joined bytes rest token after n len e f g =
 blanks_before : (bytes : List ℕ) (n : ℕ) → n ≡ prefix_len is_blank bytes → list_all is_blank (take n bytes) ≡ true
 blanks_before bytes n e = rw e (run_passes is_blank bytes)
 
--- a run of word bytes comes after the blanks
+-- a run of letters, digits and _ follows the blanks
 pub word_starts : (bytes rest token after : List ℕ) (n run len : ℕ) → n ≡ prefix_len is_blank bytes → rest ≡ drop n bytes
     → run ≡ prefix_len is_word_byte rest → 0 < run → len ≡ run → token ≡ take len rest → after ≡ drop len rest → StartsWithToken bytes token after
 word_starts bytes rest token after n run len e f r h l t a =
@@ -81,7 +81,7 @@ word_starts bytes rest token after n run len e f r h l t a =
       longest = inl ((λ z. absurd (omega (arith, is_empty_list token z))), all, ends);
     }
 
--- a symbol comes after the blanks
+-- a symbol follows the blanks
 pub symbol_starts : (bytes rest token after : List ℕ) (n run len : ℕ) → list_any is_stray bytes ≡ false → n ≡ prefix_len is_blank bytes → rest ≡ drop n bytes
     → 0 < length rest → run ≡ prefix_len is_word_byte rest → run ≡ 0 → len ≡ 1 → token ≡ take len rest → after ≡ drop len rest → StartsWithToken bytes token after
 symbol_starts bytes rest token after n run len none e f h r z l t a =
@@ -102,7 +102,7 @@ symbol_starts bytes rest token after n run len none e f h r z l t a =
       longest = inr (get_or rest 0 0, rw (t, l) (one_cell rest h), symbol);
     }
 
--- the length of a list that isn't empty by a test
+-- a length is above 0 if a test shows that it isn't 0
 pub some_length : {n : ℕ} (b : Bool) → b ≡ eqb n 0 → b ≡ false → 0 < n
 some_length b e t = grind (arith, nat_tests)
 

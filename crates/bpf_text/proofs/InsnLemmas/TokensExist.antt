@@ -1,4 +1,4 @@
--- Bytes without stray ones have tokens.
+-- Bytes without stray bytes can be split into tokens.
 use Rattle.std.proofs.Common.{◌≡◌, ℕ, zero, suc, ◌+◌, ◌<◌, ◌≤◌, false, List, [], ◌∷◌, ◌++◌, ◌⊎◌, inl, inr, length, take, drop, refl, sym, ap, ◌∙◌, subst, arith, append_assoc}
 use Rattle.std.specs.List.{list_any, prefix_len}
 use Rattle.std.proofs.lemmas.Bool.{cases_lt}
@@ -48,7 +48,7 @@ starts_or_blank bytes none = by_rest (cases_lt 0 (length (drop (prefix_len is_bl
     by_rest (inl l) = inr (by_run l (cases_lt 0 (prefix_len is_word_byte (drop (prefix_len is_blank bytes) bytes))))
     by_rest (inr l) = inl (all_blank bytes (drop (prefix_len is_blank bytes) bytes) (prefix_len is_blank bytes) refl refl (omega arith))
 
--- tokens, where every shorter list without stray bytes has some
+-- tokens, if all shorter bytes without stray ones can be split into tokens
 from_shorter : (bytes : List ℕ) → list_any is_stray bytes ≡ false → ((more : List ℕ) → length more < length bytes → list_any is_stray more ≡ false → (ts : List (List ℕ)) × AreTokens more ts)
     → AreTokens bytes [] ⊎ ((token : List ℕ) × (rest : List ℕ) × StartsWithToken bytes token rest) → (ts : List (List ℕ)) × AreTokens bytes ts
 from_shorter bytes none shorter (inl blank) = ([], blank)

@@ -1,4 +1,4 @@
--- The lines of a list list it.
+-- The listing of instructions lists them.
 use Rattle.std.proofs.Common.{◌≡◌, ℕ, suc, ◌+◌, ◌<◌, ◌≤◌, ℤ, pos, negsuc, Bool, true, false, List, [], ◌∷◌, ◌++◌, ◌⊎◌, inl, inr, length, get_or, take, take_all, refl, sym, ap, ◌∙◌, subst, arith, append_assoc, append-nil, codes, FitsSigned}
 use Rattle.std.specs.Int.{w16, w32}
 use Rattle.std.specs.List.{AllZip, All, list_any, flat_map, position_or_len}

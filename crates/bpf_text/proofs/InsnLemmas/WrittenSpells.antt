@@ -1,4 +1,4 @@
--- What is written spells its operands.
+-- The tokens of a written line spell its operands.
 use Rattle.std.proofs.Common.{◌≡◌, ◌≢◌, ℕ, suc, ◌^◌, ◌<◌, ℤ, pos, negsuc, Bool, true, false, ◌||◌, List, [], ◌∷◌, ◌++◌, inl, inr, get_or, map, refl, sym, ap, ◌∙◌, subst, arith, codes}
 use Rattle.std.specs.Fmt.{decimal}
 use Rattle.std.specs.List.{AllZip, All, list_any, slice_split}

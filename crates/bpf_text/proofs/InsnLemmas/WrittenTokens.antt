@@ -1,4 +1,4 @@
--- The tokens of what is written.
+-- The tokens of written lines.
 use Rattle.std.proofs.Common.{◌≡◌, ◌≢◌, ℕ, suc, ◌^◌, ◌<◌, ℤ, pos, negsuc, Bool, true, false, ◌&&◌, List, [], ◌∷◌, ◌++◌, inl, inr, length, refl, sym, ap, ◌∙◌, subst, arith, append_assoc, append-nil, codes}
 use Rattle.std.specs.Fmt.{decimal, signed_decimal}
 use Rattle.std.specs.List.{list_all}
@@ -49,7 +49,7 @@ letter_then : (b : ℕ) (ds rest : List ℕ) (ts : List (List ℕ)) → is_word_
 letter_then b ds rest ts e n ends h =
     word_then (b ∷ ds) rest ts (omega arith) (both_true (is_word_byte b) (list_all is_word_byte ds) e (digits_are_word_bytes ds n.1)) ends h
 
--- a number whose magnitude has 64 bits
+-- a number whose magnitude is below 2^64
 abbrev pub IsNear : ℤ → Type 0
 IsNear (pos n) = n < 2 ^ 64
 IsNear (negsuc n) = suc n < 2 ^ 64

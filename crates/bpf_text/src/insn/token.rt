@@ -8,8 +8,7 @@ ghost use Rattle.bpf_text.specs.insn.Tokens.{code_of, StartsWithToken, AreTokens
 
 use arrayvec::ArrayVec;
 
-/// The largest number of tokens that the operands of a line have: 5 for each of 3 operands, and 2
-/// commas.
+/// The largest number of tokens in the operands of a line: 5 for each of 3 operands, and 2 commas.
 pub(crate) const MOST_TOKENS: usize = 17;
 
 /// The tokens after a mnemonic, stored on the stack.

@@ -3,8 +3,8 @@ use Rattle.std.specs.List.{flat_map}
 use Rattle.bpf_text.specs.btf.BtfText.{quoted_byte}
 use Rattle.bpf_text.proofs.btf.quoted_name.append_quoted_part.Given as goal
 
--- once the bytes from start on are appended, the text has those up to here as they are written between quotes;
--- it begins with what it held before
+-- with the bytes from start on appended, the vector ends with the bytes up to here as they are written between quotes;
+-- it begins with its old contents
 abbrev pub invariant-loop-at : goal.invariant-loop-at
 invariant-loop-at g l = record {
   within : l.start ≤ l.at;

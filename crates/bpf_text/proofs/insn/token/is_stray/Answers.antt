@@ -4,6 +4,6 @@ use Rattle.bpf_text.specs.insn.Tokens.{is_stray}
 use Rattle.bpf_text.proofs.InsnLemmas.ByteTables.{same_table}
 use Rattle.bpf_text.proofs.insn.token.is_stray.Goals as goal
 
--- the table agrees with the definition at each of the 256 bytes, by computing
+-- the table agrees with the definition for each of the 256 bytes, by computation
 pub returns : goal.returns
 returns c = same_table (λ b. nat_eq (get_or CLASSES b 0) 46) is_stray refl c.args.b (omega arith)

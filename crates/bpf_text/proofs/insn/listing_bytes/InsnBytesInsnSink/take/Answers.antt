@@ -5,7 +5,7 @@ use Rattle.bpf_words.specs.declared.Order.{Order}
 use Rattle.bpf_insn.specs.Spelling.{spelling}
 use Rattle.bpf_text.proofs.insn.listing_bytes.InsnBytesInsnSink.take.Goals as goal
 
--- what holds of each outcome holds of `Ok`
+-- what holds for each outcome holds for `Ok`
 of_ok : {X E : Type 0} (r : Result X E) (order : Order) (new more old : List ℕ) → new ≡ cond (is_ok r) more old → OnOk r ((order ≡ order) × (new ≡ more))
 of_ok (Ok x) order new more old e = (refl, e)
 of_ok (Err x) order new more old e = tt
