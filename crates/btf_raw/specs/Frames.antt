@@ -17,9 +17,11 @@ info_word frame = slice_index frame 1
 abbrev pub third_word : List ℕ → ℕ
 third_word frame = slice_index frame 2
 
+-- the kind of a frame: bits 24 to 28 of info
 abbrev pub kind : List ℕ → ℕ
 kind frame = kind_of (info_word frame)
 
+-- the vlen of a frame: bits 0 to 15 of info
 abbrev pub vlen : List ℕ → ℕ
 vlen frame = vlen_of (info_word frame)
 

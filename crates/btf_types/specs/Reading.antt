@@ -94,6 +94,7 @@ record_of strings frame = record {
 abbrev pub info_at : Order → List ℕ → ℕ → ℕ
 info_at o types pos = word32_at o types (pos + 4)
 
+-- the words of the record at an offset of the type section
 abbrev pub frame_at : Order → List ℕ → ℕ → List ℕ
 frame_at o types pos = tabulate (λ j. word32_at o types (pos + 4 * j)) (3 + tail_words (kind_of (info_at o types pos)) (vlen_of (info_at o types pos)))
 
