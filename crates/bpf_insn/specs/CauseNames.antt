@@ -1,4 +1,4 @@
--- The causes of instructions' faults: their names, and a sentence for each.
+-- The names of the causes of instruction faults, and a sentence for each.
 use Rattle.std.specs.Prelude.{ℕ, List, codes}
 use Rattle.bpf_insn.specs.declared.fault.SlotCause.{SlotCause}
 use Rattle.bpf_insn.specs.declared.fault.SlotCause.TheVariants as cause
@@ -13,7 +13,7 @@ cause_name cause.Imm = codes "Imm"
 cause_name cause.Reserved = codes "Reserved"
 cause_name cause.NextImm = codes "NextImm"
 
--- what is wrong, for people
+-- a description of the cause, for people
 abbrev pub cause_sentence : SlotCause → List ℕ
 cause_sentence cause.Truncated = codes "the input ends inside an instruction"
 cause_sentence cause.Opcode = codes "no instruction has this opcode"

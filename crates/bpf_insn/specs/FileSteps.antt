@@ -1,4 +1,4 @@
--- What an instruction file has before a place, and at it: an instruction, whose group is added to a set, or a fault.
+-- The instructions before an offset of a file, and at it an instruction, whose group is added to a set, or a fault.
 -- No contract of a public function cites this file.
 use Rattle.std.specs.Prelude.{◌≡◌, ◌↔◌, ◌⊎◌, ◌≤◌, ℕ, ◌+◌, ◌++◌, Bool, true, false, List, length, drop, slice_range, slice_index_or, All, IsTrue}
 use Rattle.bpf_words.specs.declared.Order.{Order}
@@ -12,43 +12,43 @@ use Rattle.bpf_insn.specs.Spelling.{file_of, spelling}
 use Rattle.bpf_insn.specs.Faults.{BeginsWith, IsSlotFault}
 use Rattle.bpf_insn.specs.Groups.{Brings, InGroups, group_of, holds}
 
--- the bytes from a place on begin with the spelling of an instruction
+-- the bytes from an offset on begin with the spelling of an instruction
 abbrev pub BeginsAt : Order → List ℕ → ℕ → Insn → Type 0
 BeginsAt order bytes at i = BeginsWith order i (slice_range bytes at (length bytes))
 
--- the bytes from a place on begin with no spelling, and this is their fault, counted from the first byte of all
+-- the bytes from an offset on don't begin with a spelling, and this is their fault, with its offset from the start of the file
 abbrev pub IsFaultAt : Order → List ℕ → ℕ → SlotFault → Type 0
 IsFaultAt order bytes at fault =
     (slot : SlotFault) × IsSlotFault order (slice_range bytes at (length bytes)) slot × (fault ≡ record { pos = at + slot.pos; cause = slot.cause })
 
--- the bytes before a place are those of these instructions
+-- the bytes before an offset are the spellings of these instructions
 abbrev pub SpellsBefore : Order → List ℕ → List Insn → ℕ → Type 0
 SpellsBefore order bytes insns at =
     (at ≤ length bytes) × All IsInsn insns × (bytes ≡ file_of order insns ++ drop at bytes) × (at ≡ length (file_of order insns))
 
--- the bytes before a place are those of this many instructions
+-- the bytes before an offset are the spellings of this many instructions
 pub record ReadsTo (order : Order) (bytes : List ℕ) (at count : ℕ) : Type 0 where
   pub insns : List Insn
   pub spelled : SpellsBefore order bytes insns at
   pub counted : count ≡ length insns
 
--- the second set has the groups of the first, and those of the instruction of this length at a place
+-- the second set has the groups of the first, and those of the instruction at this offset, whose length is len
 abbrev pub AddsInsnAt : Order → List ℕ → ℕ → GroupSet → GroupSet → ℕ → Type 0
 AddsInsnAt order bytes at before after len =
     (i : Insn) × BeginsAt order bytes at i × (len ≡ length (spelling order i))
     × ((g : Group) → IsTrue (holds after g) ↔ (IsTrue (holds before g) ⊎ Brings (group_of i) g))
 
--- the opcode alone determines the group; that of a byte swap depends on the immediate too
+-- the opcode determines the group; that of a byte swap also depends on the immediate
 abbrev pub opcode_has_group : Insn → Bool
 opcode_has_group (Swap kind bits dst) = false
 opcode_has_group _ = true
 
--- of the marked opcodes, a set has the groups of all instructions
+-- the set has the groups of all instructions that have a marked opcode
 abbrev pub AreSettled : List Bool → GroupSet → Type 0
 AreSettled marks set =
     (i : Insn) (g : Group) → IsTrue (slice_index_or marks (fields_of i).opcode false) → Brings (group_of i) g → IsTrue (holds set g)
 
--- the set has the groups of the instructions before a place, and no other
+-- the set has the groups of the instructions before an offset, and no others
 pub record HasGroupsBefore (order : Order) (bytes : List ℕ) (at : ℕ) (set : GroupSet) : Type 0 where
   pub insns : List Insn
   pub spelled : SpellsBefore order bytes insns at

@@ -1,4 +1,4 @@
--- Forms: what an opcode alone determines, and which values each form allows in each field after it.
+-- Forms: what an opcode determines without the other fields, and which values each form allows in the fields after it.
 -- No contract of a public function cites this file.
 use Rattle.std.specs.Prelude.{◌≡◌, ◌≢◌, ◌==◌, List, length, slice_range, ℕ, ◌/◌, ◌%◌, ◌<◌, ◌≤◌, ℤ, pos, Option, Some, None, if◌then◌else◌, ◌⊎◌, option_and_then}
 use Rattle.bpf_words.specs.declared.Order.{Order}
@@ -34,7 +34,7 @@ use Rattle.bpf_insn.specs.declared.first_slot.FirstSlot.TheVariants.{Whole, OfWi
 use Rattle.bpf_insn.specs.declared.form.Form.{Form}
 use Rattle.bpf_insn.specs.declared.form.Form.TheVariants.{Alu, Neg, Swap, Jump, JumpLong, Branch, Call, Exit, Load, LoadSigned, StoreImm, StoreReg, Atomic, Wide, PacketAbs, PacketInd}
 
--- the codes of the operations; a signed division has that of the unsigned one
+-- the code of an operation; signed division shares that of the unsigned one
 abbrev pub alu_code_number : AluCode → ℕ
 alu_code_number code.Add = alu_code alu.Add
 alu_code_number code.Sub = alu_code alu.Sub
@@ -71,7 +71,7 @@ form_opcode Wide = 0x18
 form_opcode (PacketAbs z) = mode_opcode 1 (small_size_number z) 0
 form_opcode (PacketInd z) = mode_opcode 2 (small_size_number z) 0
 
--- ---- the form of an opcode, if there is one
+-- ---- the form of an opcode, if any instruction has it
 
 abbrev pub source_at : ℕ → Source
 source_at n = if n / 8 % 2 == 0 then K else X
@@ -118,7 +118,7 @@ small_size_at n =
     (if n == 1 then Some small.H else
     (if n == 2 then Some small.B else None))
 
--- the operation of a code in an arithmetic class, or else another form
+-- the form of an operation in an arithmetic class, or another form if there is none
 abbrev pub or_alu : Option AluCode → Width → Source → Option Form → Option Form
 or_alu (Some op) width source other = Some (Alu width op source)
 or_alu None width source other = other
@@ -143,7 +143,7 @@ unfoldable pub jump64_form_at : ℕ → Option Form
 jump64_form_at n = or_branch (branch_op_at (n / 16)) W64 (source_at n)
     (if n == 0x05 then Some Jump else (if n == 0x85 then Some Call else (if n == 0x95 then Some Exit else None)))
 
--- a form with a size, where the size is there
+-- the form with a size, if there is a size
 abbrev pub sized : {S : Type 0} → (S → Form) → Option S → Option Form
 sized form z = option_and_then (λ x. Some (form x)) z
 
@@ -210,7 +210,7 @@ AllowsAluOff code.Mod width source o = (o ≡ pos 0) ⊎ (o ≡ pos 1)
 AllowsAluOff code.Mov width source o = AllowsMovOff width source o
 AllowsAluOff _ width source o = o ≡ pos 0
 
--- the offset of an operation other than a move that extends the sign
+-- the offset of an operation other than a sign-extending move
 abbrev pub AllowsOpOff : AluCode → ℤ → Type 0
 AllowsOpOff code.Div o = (o ≡ pos 0) ⊎ (o ≡ pos 1)
 AllowsOpOff code.Mod o = (o ≡ pos 0) ⊎ (o ≡ pos 1)
@@ -252,13 +252,13 @@ AllowsImm (PacketInd z) k = Unit {0}
 
 -- ---- the instruction of a form and of the fields after the opcode
 
--- a wide load aside: the instruction with these fields, or none where the form doesn't allow the immediate
+-- the instruction with these fields, or none if the form doesn't allow the immediate; not for wide loads
 abbrev pub Makes : Form → ℕ → ℕ → ℤ → ℤ → Option Insn → Type 0
 Makes form d s o k None = ¬ AllowsImm form k
 Makes form d s o k (Some i) =
     IsInsn i × (fields_of i ≡ fields (form_opcode form) d s o k) × (next_imm_of i ≡ None)
 
--- the same for the second operand alone
+-- likewise for the second operand
 abbrev pub MakesOperand : Source → ℕ → ℤ → Option Operand → Type 0
 MakesOperand source s k None = ¬ AllowsSourceImm source k
 MakesOperand source s k (Some arg) =
@@ -266,7 +266,7 @@ MakesOperand source s k (Some arg) =
 
 -- ---- the fault of a slot, by its fields
 
--- which field after the opcode a form does not allow, the earlier ones being allowed
+-- the first field after the opcode whose value the form does not allow
 abbrev pub RejectsField : Form → Fields → SlotCause → Type 0
 RejectsField f slot Dst = ¬ AllowsDst f slot.dst
 RejectsField f slot Src = AllowsDst f slot.dst × ¬ AllowsSrc f slot.src
@@ -283,14 +283,14 @@ IsFaultOf (Some f) slot cause = RejectsField f slot cause
 abbrev pub IsFieldFault : Fields → SlotCause → Type 0
 IsFieldFault slot cause = IsFaultOf (form_at slot.opcode) slot cause
 
--- a whole instruction, or the first slot of a wide one
+-- a complete instruction, or the first slot of a wide load
 abbrev pub IsFirstSlot : Fields → FirstSlot → Type 0
 IsFirstSlot slot (Whole i) = IsInsn i × (fields_of i ≡ slot) × (next_imm_of i ≡ None)
 IsFirstSlot slot (OfWideLoad d s k) = (s.number ≤ 6) × IsImm k × (slot ≡ fields 0x18 d.number s.number (pos 0) k)
 
 -- ---- the second slot of a wide load
 
--- the source fields of the loads that have no next_imm of their own
+-- the values of src with which next_imm must be 0 (RFC 9669 section 5.4)
 abbrev pub LacksNextImm : ℕ → Type 0
 LacksNextImm s = (s ≡ 1) ⊎ (s ≡ 4) ⊎ (s ≡ 5)
 
@@ -299,7 +299,7 @@ MakesWide s k m None = LacksNextImm s × (m ≢ pos 0)
 MakesWide s k m (Some what) =
     IsWideOf what × (wide_source what ≡ s) × (wide_imm what ≡ k) × (wide_next_imm what ≡ m)
 
--- what the bytes after the first slot of a wide load make, or which of their fields is at fault
+-- the first faulty field in the bytes after the first slot of a wide load, or Truncated
 abbrev pub IsWideFault : Order → ℕ → List ℕ → SlotCause → Type 0
 IsWideFault order s rest Truncated = length rest < 8
 IsWideFault order s rest Reserved = (8 ≤ length rest) × (slice_range rest 0 4 ≢ word32 order 0)
@@ -311,7 +311,7 @@ abbrev pub IsWideInsn : Order → Fields → List ℕ → Insn → Type 0
 IsWideInsn order slot rest i =
     IsInsn i × (fields_of i ≡ slot) × (8 ≤ length rest) × (slice_range rest 0 8 ≡ second_slot order (next_imm_of i))
 
--- the place of a fault of a second slot
+-- the offset of a fault in the second slot, in bytes from the start of the first slot
 abbrev pub wide_place : SlotCause → ℕ
 wide_place Truncated = 8
 wide_place cause = place cause

@@ -1,4 +1,4 @@
--- Fronts: how far whole instructions go from the first of some bytes on.
+-- The complete instructions at the start of the bytes.
 use Rattle.std.specs.Prelude.{◌≡◌, ◌≤◌, ℕ, List, [], Option, Some, None, length, drop}
 use Rattle.bpf_words.specs.declared.Order.{Order}
 use Rattle.bpf_insn.specs.declared.insn.Insn.{Insn}
@@ -6,12 +6,12 @@ use Rattle.bpf_insn.specs.declared.fault.SlotFault.{SlotFault}
 use Rattle.bpf_insn.specs.declared.whole_insns.InsnFront.{InsnFront}
 use Rattle.bpf_insn.specs.Faults.{IsFront, IsSlotFault}
 
--- what follows a front: nothing, or bytes with this fault
+-- no bytes are left, or this is their fault
 abbrev pub StopsAt : Order → List ℕ → Option SlotFault → Type 0
 StopsAt order left None = left ≡ []
 StopsAt order left (Some fault) = IsSlotFault order left fault
 
--- the length and the number of the instructions of the longest sequence of spellings with which the bytes begin, and the fault of what follows it
+-- the length and number of the instructions in the longest sequence of spellings at the start of the bytes, and the fault of the rest
 pub record IsInsnFront (order : Order) (bytes : List ℕ) (front : InsnFront) : Type 0 where
   pub insns : List Insn
   pub is : IsFront order bytes insns (drop front.len bytes)

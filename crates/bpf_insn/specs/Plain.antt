@@ -1,4 +1,4 @@
--- Plain: instructions in which each field after the opcode is judged by itself, and these judgements as bits of a number.
+-- Plain instructions, in which each field after the opcode can be checked by itself, and these checks as bits of a number.
 -- No contract of a public function cites this file.
 use Rattle.std.specs.Prelude.{◌≡◌, ℕ, ◌+◌, ◌*◌, ◌/◌, ◌%◌, ◌≤◌, pos, Bool, true, false, Option, Some, None, IsSomeAnd, option_and_then}
 use Rattle.std.specs.Bool.{OnFalse}
@@ -10,14 +10,14 @@ use Rattle.bpf_insn.specs.declared.form.Source.TheVariants.{K, X}
 use Rattle.bpf_insn.specs.declared.form.Form.{Form}
 use Rattle.bpf_insn.specs.declared.form.Form.TheVariants.{Alu, Neg, Jump, JumpLong, Branch, Call, Exit, Load, LoadSigned, StoreImm, StoreReg, PacketAbs, PacketInd}
 
--- which fields may have any value, and not 0 alone
+-- which fields may have any value; the others must be 0
 pub record Rule : Type 0 where
   pub any_dst : Bool
   pub any_src : Bool
   pub any_off : Bool
   pub any_imm : Bool
 
--- the fields are within a rule
+-- a rule allows the fields, and the registers are at most r10
 pub record IsWithin (r : Rule) (slot : Fields) : Type 0 where
   pub dst : slot.dst ≤ 10
   pub src : slot.src ≤ 10
@@ -29,12 +29,12 @@ pub record IsWithin (r : Rule) (slot : Fields) : Type 0 where
 abbrev pub rule : Bool → Bool → Bool → Bool → Rule
 rule any_dst any_src any_off any_imm = record { any_dst = any_dst; any_src = any_src; any_off = any_off; any_imm = any_imm }
 
--- with a destination, and a number or a register as the other operand
+-- the rule of instructions with a destination and a second operand, an immediate or a register
 abbrev pub operand_rule : Source → Bool → Rule
 operand_rule K any_off = rule true false any_off true
 operand_rule X any_off = rule true true any_off false
 
--- the rule of a form, if it has one; of calls it allows those of helpers alone
+-- the rule of a form, if it has one; that of calls allows only calls of helpers by static ID
 abbrev pub rule_of_form : Form → Option Rule
 rule_of_form (Alu width op source) = Some (operand_rule source false)
 rule_of_form (Neg width) = Some (rule true false false false)
@@ -54,13 +54,13 @@ rule_of_form _ = None
 abbrev pub rule_at : ℕ → Option Rule
 rule_at n = option_and_then rule_of_form (form_at n)
 
--- the opcode has a rule, and the fields are within it
+-- the opcode has a rule, which allows the fields
 abbrev pub IsPlain : Fields → Type 0
 IsPlain slot = IsSomeAnd (rule_at slot.opcode) (λ r. IsWithin r slot)
 
--- ---- as bits of the number whose bytes, the least significant one first, are those of a slot
+-- ---- rules as bits of the number whose little-endian bytes are those of a slot
 
--- the bits that have to be 0: all of them, or none where any value is allowed
+-- the bits that must be 0: all bits of the field, or none if any value is allowed
 abbrev pub zero_unless : Bool → ℕ → ℕ
 zero_unless true all = 0
 zero_unless false all = all
@@ -70,7 +70,7 @@ rule_bits order r =
     0x100 * (register_byte order (zero_unless r.any_dst 0xf) (zero_unless r.any_src 0xf)
     + 0x100 * (zero_unless r.any_off 0xffff + 0x10000 * zero_unless r.any_imm 0xffffffff))
 
--- without a rule, bit 0
+-- the bits that must be 0; only bit 0 for an opcode without a rule
 abbrev pub bits_of : Order → Option Rule → ℕ
 bits_of order None = 1
 bits_of order (Some r) = rule_bits order r
@@ -78,6 +78,6 @@ bits_of order (Some r) = rule_bits order r
 abbrev pub zero_bits_at : Order → ℕ → ℕ
 zero_bits_at order n = bits_of order (rule_at n)
 
--- how many of the two registers of a byte are above 10
+-- how many of the two registers in a register byte are above 10
 abbrev pub registers_above : ℕ → ℕ
 registers_above n = n % 16 / 11 + n / 16 / 11

@@ -8,7 +8,7 @@ use Rattle.bpf_words.specs.Slots.{spelled}
 use Rattle.bpf_insn.specs.declared.insn.Insn.{Insn}
 use Rattle.bpf_insn.specs.Table.{fields_of, next_imm_of, IsInsn}
 
--- the second slot of a wide instruction: a word of 0 and next_imm
+-- the second slot of a wide load: 4 zero bytes and next_imm (RFC 9669 section 3)
 abbrev pub second_slot : Order → Option ℤ → List ℕ
 second_slot order None = []
 second_slot order (Some k) = word32 order 0 ++ word32 order (cast_unsigned w32 k)
@@ -17,7 +17,7 @@ second_slot order (Some k) = word32 order 0 ++ word32 order (cast_unsigned w32 k
 unfoldable pub spelling : Order → Insn → List ℕ
 spelling order i = spelled order (fields_of i) ++ second_slot order (next_imm_of i)
 
--- the spellings of instructions, one after another
+-- the concatenated spellings of instructions
 abbrev pub file_of : Order → List Insn → List ℕ
 file_of order insns = flat_map (spelling order) insns
 

@@ -1,8 +1,8 @@
-//! The conformance groups of a file, without a list of its instructions.
+//! The conformance groups of an input, without a list of its instructions.
 //!
-//! An opcode alone determines the group of an instruction, but for byte swaps, whose group depends
-//! on the immediate too (RFC 9669 section 2.4). So an instruction whose opcode is settled is judged
-//! without making its value.
+//! The opcode determines an instruction's group, except for byte swaps, whose group also depends on
+//! the immediate (RFC 9669 section 2.4). Once the group of an opcode has been added, further
+//! instructions with that opcode are only validated, not decoded.
 
 ghost use Rattle.std.specs.Prelude.{◌≡◌, ◌<◌, ◌≤◌, ◌↔◌, ◌⊎◌, List, length, slice_index, IfErr};
 ghost use Rattle.std.specs.Prelude.{IfOk, IsOk, IsTrue};
@@ -19,8 +19,8 @@ use crate::decode::{len_at, read_at};
 use crate::read::begins_plainly;
 use crate::{GroupSet, Insn, Order, SlotFault, group_of};
 
-/// Whether all instructions with the opcode of this one are in its group. Only the group of a byte
-/// swap depends on the immediate too.
+/// Whether all instructions with the opcode of this one are in its group. That is so except for
+/// byte swaps, whose group also depends on the immediate.
 fn opcode_has_group(insn: Insn) -> bool
     ensures { result ≡ opcode_has_group insn }
 {
@@ -30,8 +30,8 @@ fn opcode_has_group(insn: Insn) -> bool
     }
 }
 
-/// The groups that were found, and which opcodes are settled: they have one group, and the set has
-/// it.
+/// The groups that were found, and which opcodes are settled: an opcode is settled if it determines
+/// the group and the set has that group.
 #[derive(Drop)]
 struct FoundGroups {
     set: GroupSet,
@@ -39,7 +39,7 @@ struct FoundGroups {
 }
 
 impl FoundGroups {
-    /// No group, and no settled opcode.
+    /// No groups and no settled opcodes.
     fn none() -> FoundGroups
         ensures set { (g : Group) → ¬ IsTrue (holds result.set g) }
         ensures settled { AreSettled result.settled result.set }
@@ -50,7 +50,7 @@ impl FoundGroups {
         }
     }
 
-    /// Adds the group of an instruction with this opcode.
+    /// Adds the group of an instruction that has this opcode.
     fn add(&mut self, opcode: u8, insn: Insn)
         requires opcode { opcode ≡ (fields_of insn).opcode }
         requires settled { AreSettled self.old.settled self.old.set }
@@ -63,8 +63,7 @@ impl FoundGroups {
         self.settled[opcode as usize] = opcode_has_group(insn);
     }
 
-    /// Adds the group of the instruction at a place of a file by reading it, and returns its
-    /// length.
+    /// Decodes the instruction at offset `pos`, adds its group and returns its length in bytes.
     #[inline(never)]
     fn read_at(&mut self, order: Order, bytes: &[u8], pos: usize) -> Result<usize, SlotFault>
         requires pos { pos < length bytes.now }
@@ -79,8 +78,8 @@ impl FoundGroups {
         Ok(len)
     }
 
-    /// Whether a plain instruction with a settled opcode is at a place of a file. Its group is
-    /// there.
+    /// Whether a plain instruction with a settled opcode is at offset `pos`. The set already has
+    /// its group.
     #[inline(always)]
     fn has_plain_at(&self, order: Order, bytes: &[u8], pos: usize) -> bool
         requires pos { pos < length bytes.now }
@@ -91,7 +90,7 @@ impl FoundGroups {
     }
 
     /// The end of the longest run of such instructions from `pos` on. Most instructions are in such
-    /// runs, and a loop of their own is the fastest.
+    /// runs, and a separate loop for them is the fastest.
     #[inline(always)]
     fn plain_end(&self, order: Order, bytes: &[u8], pos: usize) -> usize
         requires pos { pos ≤ length bytes.now }
@@ -107,7 +106,7 @@ impl FoundGroups {
         end
     }
 
-    /// Adds the group of the instruction at a place of a file, and returns its length.
+    /// Adds the group of the instruction at offset `pos`, and returns its length in bytes.
     #[inline(always)]
     fn add_at(&mut self, order: Order, bytes: &[u8], pos: usize) -> Result<usize, SlotFault>
         requires pos { pos < length bytes.now }
@@ -125,13 +124,13 @@ impl FoundGroups {
     }
 }
 
-/// The conformance groups of an instruction file (RFC 9669 section 2.4), as [`groups_of`] gives
-/// them for its instructions. It takes no memory.
+/// The conformance groups of a concatenation of instructions (RFC 9669 section 2.4), as
+/// [`groups_of`] returns them for the list. This call allocates nothing.
 ///
 /// # Errors
 ///
-/// The fault of the bytes after the longest sequence of instructions at the start of the file, if
-/// the file isn't a concatenation of instructions. Its place is counted from the file's first byte.
+/// If the input isn't a concatenation of instructions, the fault of the bytes after the longest
+/// sequence of instructions at its start. The offset is in bytes from the start of the input.
 ///
 /// [`groups_of`]: crate::groups_of
 pub fn groups_in(order: Order, bytes: &[u8]) -> Result<GroupSet, SlotFault>

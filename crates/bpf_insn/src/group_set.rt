@@ -1,4 +1,4 @@
-//! The groups of a set, one after the other, and sets that are made of groups.
+//! Iterating over a set of groups, and making a set from groups.
 
 ghost use Rattle.std.specs.Prelude.{◌≡◌, ◌↔◌, IsTrue, [], length, filter, ⊤};
 ghost use Rattle.std.specs.Iterator.{YieldsFirst, item_count};
@@ -11,11 +11,11 @@ use std::alloc::AllocError;
 use std::iter::FusedIterator;
 use std::marker::Model;
 
-/// The groups of a [`GroupSet`], in the order of [`Group::ALL`].
+/// An iterator over the groups of a [`GroupSet`], in the order of [`Group::ALL`].
 #[derive(Debug, Drop)]
 pub struct Groups {
     set: GroupSet,
-    // the groups that may still come
+    // the groups that were not yet looked up in the set
     rest: &'static [Group],
 }
 
@@ -87,7 +87,7 @@ impl Clone for Groups {
 }
 
 impl GroupSet {
-    /// The groups of the set, in the order of [`Group::ALL`].
+    /// Iterates over the groups of the set, in the order of [`Group::ALL`].
     pub fn iter(&self) -> Groups
         ensures { result ≡ groups_held self.now }
     {
@@ -104,7 +104,7 @@ impl GroupSet {
         self.iter().len()
     }
 
-    /// Whether no group is in the set.
+    /// Whether the set has no groups.
     pub fn is_empty(&self) -> bool
         ensures { IsTrue result ↔ (groups_held self.now ≡ []) }
     {
@@ -136,7 +136,7 @@ impl IntoIterator for &GroupSet {
     }
 }
 
-/// The set of no group.
+/// The empty set.
 impl Default for GroupSet {
     ghost is_default = { λ set. (g : Group) → ¬ IsTrue (holds set g) };
 
@@ -145,8 +145,8 @@ impl Default for GroupSet {
     }
 }
 
-/// The set of these groups. With base64, atomic64 or divmul64 it has base32, atomic32 or divmul32
-/// too, as the set of a program has (RFC 9669 section 2.4).
+/// The set of these groups and of those that they include: base64, atomic64 and divmul64 include
+/// base32, atomic32 and divmul32 (RFC 9669 section 2.4).
 impl From<&[Group]> for GroupSet {
     ghost from_gives = { λ groups set. IsSetOf groups.now set };
 

@@ -1,10 +1,10 @@
-//! Plain instructions, which two tables recognise.
+//! Recognising plain instructions with two table lookups.
 //!
 //! In a plain instruction, each field after the opcode is either 0 or free, and registers are at
-//! most r10. So the slot is judged at once, as a number of 64 bits: a table has the bits that must
-//! be 0 for each opcode, and another one the number of registers above r10. These are not plain:
-//! wide loads, byte swaps, atomic operations, operations with an offset, and calls of anything but
-//! helpers.
+//! most r10. Its slot can therefore be checked in one step, as a 64-bit number: one table contains
+//! the bits that must be 0 for each opcode, another one the number of registers above r10 for each
+//! register byte. Not plain are wide loads, byte swaps, atomic operations, arithmetic operations
+//! with an offset, and calls other than those of helpers by static ID.
 
 ghost use Rattle.std.specs.Prelude.{◌≡◌, IsTrue};
 ghost use Rattle.bpf_words.specs.Slots.{AreFields, Fields, spelled};
@@ -12,49 +12,49 @@ ghost use Rattle.bpf_insn.specs.Plain.{IsPlain, registers_above, zero_bits_at};
 
 use crate::Order;
 
-/// An opcode without plain instructions. Bit 0 of a slot is set before it is judged, so this mask
-/// refuses all of them.
+/// An opcode without plain instructions. Bit 0 of a slot is set before the check, so this mask
+/// rejects every slot.
 const NONE: u64 = 1;
 
-/// A destination and an immediate are free; all other bits after the opcode must be 0. So for each
-/// mask below.
+/// The destination and the immediate are free; all other bits after the opcode must be 0. The masks
+/// below likewise name the free fields.
 const IMM_LITTLE: u64 = 0x0000_0000_ffff_f000;
 
 const IMM_BIG: u64 = 0x0000_0000_ffff_0f00;
 
-/// A destination, an offset and an immediate.
+/// The destination, the offset and the immediate.
 const IMM_OFF_LITTLE: u64 = 0x0000_0000_0000_f000;
 
 const IMM_OFF_BIG: u64 = 0x0000_0000_0000_0f00;
 
-/// A destination alone.
+/// Only the destination.
 const DST_LITTLE: u64 = 0xffff_ffff_ffff_f000;
 
 const DST_BIG: u64 = 0xffff_ffff_ffff_0f00;
 
-/// A source and an immediate.
+/// The source and the immediate.
 const SRC_IMM_LITTLE: u64 = 0x0000_0000_ffff_0f00;
 
 const SRC_IMM_BIG: u64 = 0x0000_0000_ffff_f000;
 
-/// A destination and a source.
+/// The destination and the source.
 const REG: u64 = 0xffff_ffff_ffff_0000;
 
-/// A destination, a source and an offset.
+/// The destination, the source and the offset.
 const REG_OFF: u64 = 0xffff_ffff_0000_0000;
 
-/// An offset alone.
+/// Only the offset.
 const OFF: u64 = 0xffff_ffff_0000_ff00;
 
-/// An immediate alone.
+/// Only the immediate.
 const ID: u64 = 0x0000_0000_ffff_ff00;
 
-/// No field but the opcode.
+/// None of the fields after the opcode.
 const EXIT: u64 = 0xffff_ffff_ffff_ff00;
 
 /// The bits that must be 0 for each opcode: a row for each value of its five high bits, with an
-/// entry for each class: LD, LDX, ST, STX, ALU, JMP, JMP32 and ALU64. The bits of a single register
-/// depend on the byte order.
+/// entry for each class: LD, LDX, ST, STX, ALU, JMP, JMP32 and ALU64. Which bits are those of dst
+/// and which are those of src depends on the byte order.
 macro_rules! by_opcode {
     ($imm:expr, $imm_off:expr, $dst:expr, $src_imm:expr) => {
         [
@@ -113,8 +113,8 @@ fn zero_bits(order: Order, opcode: u8) -> u64
     }
 }
 
-/// A row for each high half of a register byte: a value for the 11 low halves up to 10, and one for
-/// the 5 above.
+/// A row for each high half of a register byte: one value for the 11 low halves up to 10, another
+/// one for the 5 above.
 macro_rules! by_registers {
     ($($low:literal $high:literal),*) => {
         [$(
@@ -138,7 +138,7 @@ fn registers_above_ten(registers: u8) -> u64
     ABOVE[registers as usize]
 }
 
-/// Whether 8 bytes are a plain instruction.
+/// Whether 8 bytes are a plain instruction. `false` for any other instruction, valid or not.
 #[inline(always)]
 pub(crate) fn is_plain(order: Order, bytes: &[u8; 8]) -> bool
     ensures { IsTrue result

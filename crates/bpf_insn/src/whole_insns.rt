@@ -1,7 +1,7 @@
-//! The whole instructions at the front of some bytes, judged without making their values.
+//! Validating the complete instructions at the start of a buffer, without making a list of them.
 //!
-//! Most instructions are plain. So a run of plain ones is judged in a loop of its own, which does
-//! nothing else.
+//! Most instructions are plain, so runs of plain instructions are validated in a separate loop that
+//! does nothing else.
 
 ghost use Rattle.std.specs.Prelude.{◌<◌, ◌/◌, length, IfSome};
 ghost use Rattle.bpf_insn.specs.FileSteps.{ReadsTo};
@@ -10,18 +10,19 @@ ghost use Rattle.bpf_insn.specs.Fronts.{IsInsnFront};
 use crate::read::{begins_plainly, other_len};
 use crate::{Order, SlotFault};
 
-/// How far whole instructions go from the first of some bytes on.
+/// The complete instructions at the start of a buffer, and why they end there.
 #[derive(Clone, Copy, Debug, PartialEq, Eq, Hash)]
 pub struct InsnFront {
-    /// The number of bytes of these instructions.
+    /// The length of these instructions, in bytes.
     pub len: usize,
     /// The number of these instructions.
     pub count: u64,
-    /// The fault of what follows them, counted from its first byte. `None` if nothing follows.
+    /// The fault of the bytes after them, with an offset relative to `len`. `None` if there are no
+    /// such bytes.
     pub stop: Option<SlotFault>,
 }
 
-/// The length of the plain instructions at the front of some bytes, of which each has 8 bytes.
+/// The length in bytes of the plain instructions at the start of a buffer; each has 8 bytes.
 #[inline(always)]
 fn plain_len(order: Order, bytes: &[u8]) -> usize
     ensures { ReadsTo order bytes.now result (result / 8) }
@@ -33,8 +34,8 @@ fn plain_len(order: Order, bytes: &[u8]) -> usize
     len
 }
 
-/// The longest sequence of whole instructions with which the bytes begin (RFC 9669 section 3):
-/// their length, their number, and the fault of what follows them.
+/// The longest sequence of complete instructions at the start of `bytes` (RFC 9669 section 3). It
+/// never fails: the fault of the bytes after them is in `stop`.
 pub fn insn_front(order: Order, bytes: &[u8]) -> InsnFront
     ensures front { IsInsnFront order bytes.now result }
     ensures stop { IfSome result.stop (λ f. result.len < length bytes.now) }

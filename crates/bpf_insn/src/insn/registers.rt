@@ -8,7 +8,7 @@ use std::fmt;
 use thiserror::Error;
 
 impl Reg {
-    /// The register of a number, or `None` where the number is above 10.
+    /// The register with this number, or `None` if the number is above 10.
     pub fn new(number: u8) -> Option<Reg>
         ensures { MatchOption result (10 < number) (λ r. register_number r ≡ number) }
     {
@@ -27,12 +27,12 @@ impl Reg {
     }
 }
 
-/// Why a number names no register: it is above 10.
+/// The number of a register that doesn't exist, since it is above 10.
 #[derive(Clone, Copy, Debug, PartialEq, Eq, Hash, Error)]
 #[error("there is no register r{0}")]
 pub struct NoSuchReg(pub u8);
 
-/// The register of a number, which has to be 0 to 10.
+/// The register with this number, or [`NoSuchReg`] if the number is above 10.
 impl TryFrom<u8> for Reg {
     type Error = NoSuchReg;
 
@@ -44,7 +44,7 @@ impl TryFrom<u8> for Reg {
     }
 }
 
-/// `r0` to `r10`, as a listing has them.
+/// `r0` to `r10`, as in listings.
 impl fmt::Display for Reg {
     fn fmt<W: fmt::Write>(&self, f: &mut fmt::Formatter<W>) -> fmt::Result {
         write!(f, "r{}", self.number)
