@@ -11,7 +11,7 @@
  * What a caller has to keep, which no call checks:
  *   - An input points to `len` readable bytes and `out` to `room` writable ones, for as long as
  *     the call runs. Either may be NULL if its length is 0. NULL with a length is an access to
- *     address 0.
+ *     address 0. The bytes of `out` may be uninitialised: no call reads one before it writes it.
  *   - The output overlaps no input.
  *   - While a call runs, no other thread writes to its inputs, and none reads or writes its `out`.
  *   - malloc, realloc and free belong to one allocator, any thread may call them, and malloc aligns
@@ -25,6 +25,13 @@
  * bpfcanon(1) are its own. BTF has the limits of its format, see BPFCANON_BTF_MAX.
  *
  * All lengths, offsets and room are in bytes. An offset counts from the first byte of its input.
+ *
+ * Encodings. Listings that are written, and the names and sentences of causes and statuses, are
+ * ASCII. A listing that is read is ASCII too, except in its comments, which may have any bytes: any
+ * other byte outside a comment is a fault. The text of types is UTF-8, since names are.
+ *
+ * Platforms. Linux on x86-64 or on little-endian 64-bit ARM (aarch64). The library needs none of the
+ * later extensions of these processors.
  */
 #ifndef BPFCANON_H
 #define BPFCANON_H
@@ -36,11 +43,16 @@
 extern "C" {
 #endif
 
-/* The version of this header. bpfcanon_version() gives that of the library. */
+/*
+ * The version of this header, also as one number: 1,002,003 is 1.2.3. bpfcanon_version() returns
+ * that of the library. docs/STABILITY.md says what a version may change.
+ */
 #define BPFCANON_VERSION_MAJOR 0
 #define BPFCANON_VERSION_MINOR 1
 #define BPFCANON_VERSION_PATCH 0
 #define BPFCANON_VERSION "0.1.0"
+#define BPFCANON_VERSION_NUMBER \
+	(BPFCANON_VERSION_MAJOR * 1000000 + BPFCANON_VERSION_MINOR * 1000 + BPFCANON_VERSION_PATCH)
 
 /* The longest BTF without a fault: a header of 4,096 bytes, types of 32 MiB, strings of 16 MiB. */
 #define BPFCANON_BTF_MAX 50335744
@@ -69,7 +81,10 @@ enum bpfcanon_status {
 	BPFCANON_ORDER = 6
 };
 
-/* The causes of faults of instructions. */
+/*
+ * The causes of faults of instructions. Their numbers are 1 to BPFCANON_INSN_CAUSES, and likewise
+ * below. A later version of the library may have more causes; they follow the last of these.
+ */
 enum bpfcanon_insn_cause {
 	BPFCANON_INSN_TRUNCATED = 1,
 	BPFCANON_INSN_OPCODE = 2,
@@ -80,6 +95,7 @@ enum bpfcanon_insn_cause {
 	BPFCANON_INSN_RESERVED = 7,
 	BPFCANON_INSN_NEXT_IMM = 8
 };
+#define BPFCANON_INSN_CAUSES 8
 
 /* The causes of faults of listings, which bpfcanon_insn_read reports. */
 enum bpfcanon_line_cause {
@@ -88,6 +104,7 @@ enum bpfcanon_line_cause {
 	BPFCANON_LINE_SHAPE = 3,
 	BPFCANON_LINE_RANGE = 4
 };
+#define BPFCANON_LINE_CAUSES 4
 
 /* The causes of faults of BTF. */
 enum bpfcanon_btf_cause {
@@ -124,6 +141,7 @@ enum bpfcanon_btf_cause {
 	BPFCANON_BTF_LINKAGE = 31,
 	BPFCANON_BTF_COMPONENT = 32
 };
+#define BPFCANON_BTF_CAUSES 32
 
 /* Conformance groups (RFC 9669 section 2.4), as bits of a mask. */
 enum bpfcanon_group {
@@ -136,7 +154,11 @@ enum bpfcanon_group {
 	BPFCANON_PACKET = 64
 };
 
-/* What a call returns. A field that neither the status nor the call sets is 0. */
+/*
+ * What a call returns. A field that neither the status nor the call sets is 0. `pos` is the place
+ * that docs/FORMATS.md gives for the cause. That of BPFCANON_INSN_TRUNCATED is the first byte of the
+ * slot of 8 bytes that the input ends in, and not the end of the input.
+ */
 typedef struct bpfcanon_answer {
 	uint32_t status; /* enum bpfcanon_status */
 	uint32_t cause;  /* of a fault: of enum bpfcanon_insn_cause, _line_cause or _btf_cause */

@@ -3,73 +3,44 @@ package bpfcanon_test
 import (
 	"errors"
 	"fmt"
-	"os"
-	"path/filepath"
-	"regexp"
 	"strings"
 	"testing"
 
 	"bpfcanon"
+	"bpfcanon/internal/capi"
 )
 
-// The rows "| Cause | Meaning | .." of a part of docs/FAULTS.md, in the order of their numbers.
-func meanings(t *testing.T, section string) [][]string {
-	t.Helper()
-	page, err := os.ReadFile(filepath.Join("..", "..", "docs", "FAULTS.md"))
-	if err != nil {
-		t.Fatal(err)
-	}
-	_, rest, _ := strings.Cut(string(page), "\n### "+section+"\n")
-	table, _, _ := strings.Cut(rest, "\n#")
-	return regexp.MustCompile(`(?m)^\| ([A-Z]\w+) \| ([^|]+) \|`).FindAllStringSubmatch(table, -1)[1:]
-}
-
-func TestCausesHaveTheNamesAndSentencesOfTheFaultsPage(t *testing.T) {
+// The package has the causes of the header, from the first to the last, and the library has a name and a sentence for each. A number
+// after the last is one of a newer library.
+func TestCausesAreThoseOfTheHeader(t *testing.T) {
 	for _, kind := range []struct {
-		section string
-		count   int
-		cause   func(number int) bpfcanon.Cause
+		first, last bpfcanon.Cause
+		count       int
+		cause       func(number int) bpfcanon.Cause
+		names       [2]string
 	}{
-		{"Causes of instruction faults", 8, func(n int) bpfcanon.Cause { return bpfcanon.InsnCause(n) }},
-		{"Causes of listing faults", 4, func(n int) bpfcanon.Cause { return bpfcanon.LineCause(n) }},
-		{"Causes of BTF faults", 32, func(n int) bpfcanon.Cause { return bpfcanon.BTFCause(n) }},
+		{bpfcanon.InsnTruncated, bpfcanon.InsnNextImm, capi.InsnCauses,
+			func(n int) bpfcanon.Cause { return bpfcanon.InsnCause(n) }, [2]string{"Truncated", "NextImm"}},
+		{bpfcanon.LineChar, bpfcanon.LineRange, capi.LineCauses,
+			func(n int) bpfcanon.Cause { return bpfcanon.LineCause(n) }, [2]string{"Char", "Range"}},
+		{bpfcanon.BTFShortHeader, bpfcanon.BTFComponent, capi.BTFCauses,
+			func(n int) bpfcanon.Cause { return bpfcanon.BTFCause(n) }, [2]string{"ShortHeader", "Component"}},
 	} {
-		rows := meanings(t, kind.section)
-		if len(rows) != kind.count {
-			t.Errorf("%s: %d rows, want %d", kind.section, len(rows), kind.count)
+		if kind.first != kind.cause(1) || kind.last != kind.cause(kind.count) {
+			t.Errorf("%v to %v, and the header has %d", kind.first, kind.last, kind.count)
 		}
-		for k, row := range rows {
-			if cause := kind.cause(k + 1); cause.String() != row[1] || cause.Error() != row[2] {
-				t.Errorf("%s %d: %q, %q; want %q, %q", kind.section, k+1, cause.String(), cause.Error(), row[1], row[2])
+		if kind.first.String() != kind.names[0] || kind.last.String() != kind.names[1] {
+			t.Errorf("%v to %v, want %v", kind.first, kind.last, kind.names)
+		}
+		for n := 1; n <= kind.count; n++ {
+			if cause := kind.cause(n); strings.Contains(cause.String(), "(") || len(cause.Error()) < 10 {
+				t.Errorf("%d has the name %q and the sentence %q", n, cause.String(), cause.Error())
 			}
 		}
 		for _, none := range []int{0, kind.count + 1} {
 			if got := kind.cause(none).String(); !strings.HasSuffix(got, fmt.Sprintf("Cause(%d)", none)) {
-				t.Errorf("%s %d: %q for a number without a name", kind.section, none, got)
+				t.Errorf("%d: %q for a number without a name", none, got)
 			}
-		}
-	}
-}
-
-// The constants, by their names in docs/FAULTS.md.
-func TestConstantsHaveTheNumbersOfTheirNames(t *testing.T) {
-	for name, cause := range map[string]bpfcanon.Cause{
-		"Truncated": bpfcanon.InsnTruncated, "Opcode": bpfcanon.InsnOpcode, "Dst": bpfcanon.InsnDst, "Src": bpfcanon.InsnSrc,
-		"Offset": bpfcanon.InsnOffset, "Imm": bpfcanon.InsnImm, "Reserved": bpfcanon.InsnReserved, "NextImm": bpfcanon.InsnNextImm,
-		"Char": bpfcanon.LineChar, "Word": bpfcanon.LineWord, "Shape": bpfcanon.LineShape, "Range": bpfcanon.LineRange,
-		"ShortHeader": bpfcanon.BTFShortHeader, "Magic": bpfcanon.BTFMagic, "Version": bpfcanon.BTFVersion, "Flags": bpfcanon.BTFFlags,
-		"HeaderLength": bpfcanon.BTFHeaderLength, "HeaderTail": bpfcanon.BTFHeaderTail, "TypeLength": bpfcanon.BTFTypeLength,
-		"StringLength": bpfcanon.BTFStringLength, "Sections": bpfcanon.BTFSections, "FileLength": bpfcanon.BTFFileLength,
-		"FirstString": bpfcanon.BTFFirstString, "LastString": bpfcanon.BTFLastString, "RecordCut": bpfcanon.BTFRecordCut,
-		"InfoBits": bpfcanon.BTFInfoBits, "KindNumber": bpfcanon.BTFKindNumber, "FlagSet": bpfcanon.BTFFlagSet, "Vlen": bpfcanon.BTFVlen,
-		"TailCut": bpfcanon.BTFTailCut, "NameRange": bpfcanon.BTFNameRange, "NameUtf8": bpfcanon.BTFNameUTF8,
-		"NameMissing": bpfcanon.BTFNameMissing, "NameUnwanted": bpfcanon.BTFNameUnwanted, "TextsTooLong": bpfcanon.BTFTextsTooLong,
-		"NotZero": bpfcanon.BTFNotZero, "Size": bpfcanon.BTFSize, "Reference": bpfcanon.BTFReference, "TargetKind": bpfcanon.BTFTargetKind,
-		"IntWord": bpfcanon.BTFIntWord, "MemberInt": bpfcanon.BTFMemberInt, "MemberPlace": bpfcanon.BTFMemberPlace,
-		"Linkage": bpfcanon.BTFLinkage, "Component": bpfcanon.BTFComponent,
-	} {
-		if got := cause.String(); got != name {
-			t.Errorf("%q, want %q", got, name)
 		}
 	}
 }

@@ -95,15 +95,23 @@ static void streams_may_be_cut_anywhere(const char *folder)
 	free(little);
 }
 
+_Static_assert(BPFCANON_INSN_CAUSES == BPFCANON_INSN_NEXT_IMM, "the last cause of instructions");
+_Static_assert(BPFCANON_LINE_CAUSES == BPFCANON_LINE_RANGE, "the last cause of listings");
+_Static_assert(BPFCANON_BTF_CAUSES == BPFCANON_BTF_COMPONENT, "the last cause of BTF");
+_Static_assert(BPFCANON_VERSION_NUMBER / 1000000 == BPFCANON_VERSION_MAJOR, "the major version");
+_Static_assert(BPFCANON_VERSION_NUMBER / 1000 % 1000 == BPFCANON_VERSION_MINOR, "the minor version");
+_Static_assert(BPFCANON_VERSION_NUMBER % 1000 == BPFCANON_VERSION_PATCH, "the patch version");
+
 typedef const char *name_call(uint32_t number);
 
 #define NUMBERS 301
 
 /*
- * The names of the numbers from the first on, each with a sentence, and neither for the numbers around them. They are compared after
- * all of them were asked for, since the strings are static. Python compares the sentences (installed.py).
+ * The numbers from the first to the last have names, each with a sentence, and neither have the numbers around them. They are compared
+ * after all of them were asked for, since the strings are static. docs/from_causes writes the names and sentences; those of the first
+ * and the last show that each call has its own.
  */
-static void has_names(name_call *name_of, name_call *text_of, const char *const *right, uint32_t first, uint32_t count)
+static void has_names(name_call *name_of, name_call *text_of, uint32_t first, uint32_t last, const char *const right[3])
 {
 	static const uint32_t far[] = { 0x7fffffff, 0x80000000, 0x80000001, 0xfffffffe, 0xffffffff };
 	const char *names[NUMBERS], *texts[NUMBERS];
@@ -115,31 +123,27 @@ static void has_names(name_call *name_of, name_call *text_of, const char *const 
 	for (size_t k = 0; k < COUNT(far); k++)
 		CHECK(!name_of(far[k]) && !text_of(far[k]));
 	for (uint32_t number = 0; number < NUMBERS; number++) {
-		int has_one = number >= first && number < first + count;
+		int has_one = number >= first && number <= last;
 
-		CHECK(has_one ? names[number] && !strcmp(names[number], right[number - first]) : !names[number]);
+		CHECK(has_one ? names[number] && *names[number] : !names[number]);
 		CHECK(has_one ? texts[number] && strlen(texts[number]) > 10 : !texts[number]);
 		for (uint32_t other = first; has_one && other < number; other++)
-			CHECK(strcmp(texts[other], texts[number]));
+			CHECK(strcmp(texts[other], texts[number]) && strcmp(names[other], names[number]));
 	}
+	CHECK(!strcmp(names[first], right[0]) && !strcmp(names[last], right[1]) && !strcmp(texts[first], right[2]));
 }
 
 static void numbers_have_names(void)
 {
-	static const char *const status[] = { "Done", "Different", "Fault", "FaultSecond", "Memory", "Room", "Order" };
-	static const char *const insn[] = { "Truncated", "Opcode", "Dst", "Src", "Offset", "Imm", "Reserved", "NextImm" };
-	static const char *const line[] = { "Char", "Word", "Shape", "Range" };
-	static const char *const btf[] = {
-		"ShortHeader", "Magic", "Version", "Flags", "HeaderLength", "HeaderTail", "TypeLength", "StringLength", "Sections",
-		"FileLength", "FirstString", "LastString", "RecordCut", "InfoBits", "KindNumber", "FlagSet", "Vlen", "TailCut",
-		"NameRange", "NameUtf8", "NameMissing", "NameUnwanted", "TextsTooLong", "NotZero", "Size", "Reference", "TargetKind",
-		"IntWord", "MemberInt", "MemberPlace", "Linkage", "Component",
-	};
+	static const char *const status[] = { "Done", "Order", "the call is done, or the two inputs are the same" };
+	static const char *const insn[] = { "Truncated", "NextImm", "the input ends inside an instruction" };
+	static const char *const line[] = { "Char", "Range", "a character that is neither blank nor part of a token" };
+	static const char *const btf[] = { "ShortHeader", "Component", "the file has fewer than 24 bytes" };
 
-	has_names(bpfcanon_status_name, bpfcanon_status_text, status, 0, COUNT(status));
-	has_names(bpfcanon_insn_cause_name, bpfcanon_insn_cause_text, insn, 1, COUNT(insn));
-	has_names(bpfcanon_line_cause_name, bpfcanon_line_cause_text, line, 1, COUNT(line));
-	has_names(bpfcanon_btf_cause_name, bpfcanon_btf_cause_text, btf, 1, COUNT(btf));
+	has_names(bpfcanon_status_name, bpfcanon_status_text, BPFCANON_DONE, BPFCANON_ORDER, status);
+	has_names(bpfcanon_insn_cause_name, bpfcanon_insn_cause_text, BPFCANON_INSN_TRUNCATED, BPFCANON_INSN_CAUSES, insn);
+	has_names(bpfcanon_line_cause_name, bpfcanon_line_cause_text, BPFCANON_LINE_CHAR, BPFCANON_LINE_CAUSES, line);
+	has_names(bpfcanon_btf_cause_name, bpfcanon_btf_cause_text, BPFCANON_BTF_SHORT_HEADER, BPFCANON_BTF_CAUSES, btf);
 }
 
 static void versions_agree(void)

@@ -104,18 +104,14 @@ class Faults(unittest.TestCase):
             error = error_of(answer, InsnCause)
             self.assertEqual((type(error), str(error)), (bpfcanon.BpfcanonError, text))
 
-    def test_causes_have_the_names_and_sentences_of_the_faults_page(self) -> None:
-        page = (TOP / "docs" / "FAULTS.md").read_text()
-        for section, causes in [
-            ("Causes of instruction faults", InsnCause),
-            ("Causes of listing faults", LineCause),
-            ("Causes of BTF faults", BtfCause),
-        ]:
-            table = page.split(f"\n### {section}\n")[1].split("\n#")[0]
-            rows = re.findall(r"^\| ([A-Z]\w+) \| ([^|]+) \|", table, re.MULTILINE)[1:]
-            members: list[Any] = list(causes)
-            self.assertEqual([(cause.label, cause.text) for cause in members], rows)
-            self.assertEqual([cause.name.replace("_", "").lower() for cause in members], [name.lower() for name, _ in rows])
+    def test_the_package_has_the_causes_of_the_header(self) -> None:
+        header = (TOP / "capi" / "bpfcanon.h").read_text()
+        kinds: list[tuple[str, Any]] = [("INSN", InsnCause), ("LINE", LineCause), ("BTF", BtfCause)]
+        for prefix, kind in kinds:
+            count = re.findall(rf"^#define BPFCANON_{prefix}_CAUSES (\d+)$", header, re.MULTILINE)
+            self.assertEqual([str(len(kind))], count)
+            self.assertEqual([member.label.lower() for member in kind], [member.name.replace("_", "").lower() for member in kind])
+            self.assertGreater(min(len(member.text) for member in kind), 10)
 
 
 class Calls:

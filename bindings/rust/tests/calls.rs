@@ -86,9 +86,22 @@ fn errors_go_through_dyn_error_and_io_error() {
     assert_eq!(error.kind(), io::ErrorKind::OutOfMemory);
 }
 
-/// The variants are spelled as the library's names, and the library has no other cause.
+/// How many causes of a kind the header has.
+fn count_in_header(kind: &str) -> usize {
+    let path = concat!(env!("CARGO_MANIFEST_DIR"), "/../../capi/bpfcanon.h");
+    let header = fs::read_to_string(path).unwrap_or_else(|error| panic!("{path}: {error}"));
+    let start = format!("#define BPFCANON_{kind}_CAUSES ");
+    let mut counts = header.lines().filter_map(|line| line.strip_prefix(&start));
+    counts.next().unwrap().parse().unwrap()
+}
+
+/// The variants are spelled as the library's names, and neither the header nor the library has
+/// another cause.
 #[test]
 fn the_crate_has_every_cause_of_the_library() {
+    let counts = ["INSN", "LINE", "BTF"].map(count_in_header);
+    let own = [insn::Cause::ALL.len(), insn::ListingCause::ALL.len(), btf::Cause::ALL.len()];
+    assert_eq!(own, counts);
     for (at, it) in insn::Cause::ALL.iter().enumerate() {
         assert_eq!((it.number() as usize, it.name()), (at + 1, Some(&*format!("{it:?}"))));
     }

@@ -4,6 +4,9 @@ package capi
 
 // #cgo pkg-config: bpfcanon
 // #include <bpfcanon.h>
+// #if BPFCANON_VERSION_NUMBER < 1000 || BPFCANON_VERSION_MAJOR > 0
+// #error "this package needs version 0.1 or a later 0.x of the C library bpfcanon"
+// #endif
 import "C"
 
 import "unsafe"
@@ -42,6 +45,13 @@ const (
 
 // BTFMax is the length of the longest BTF that can be valid.
 const BTFMax = C.BPFCANON_BTF_MAX
+
+// How many causes of each kind the header has. Their numbers start at 1.
+const (
+	InsnCauses = C.BPFCANON_INSN_CAUSES
+	LineCauses = C.BPFCANON_LINE_CAUSES
+	BTFCauses  = C.BPFCANON_BTF_CAUSES
+)
 
 // HeaderVersion is the version of the header that this package was compiled with.
 const HeaderVersion = C.BPFCANON_VERSION
