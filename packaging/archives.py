@@ -2,26 +2,28 @@
 
 import os
 import re
+import shutil
 import subprocess
 import tarfile
 import tempfile
 
 from notices import licence_files
-from tree import ARCHIVE, PROGRAM, TOP, VERSION, Refused, copy, copy_files, epoch, run
+from tree import ARCHIVE, ARM_ARCHIVE, OBJECT, PROGRAM, TOP, VERSION, Refused, copy, copy_files, epoch, run
 
-TARGET = "x86_64-linux"
 # Of the C part; the proved objects are as Rattle's compiler made them.
 CFLAGS = "-O2 -g0 -fstack-protector-strong -fcf-protection -D_FORTIFY_SOURCE=2"
 LDFLAGS = "-Wl,-z,relro,-z,now,-z,noexecstack -Wl,--build-id=sha1 -s"
-# What capi/archive compares by its time.
-LATE = {ARCHIVE.relative_to(TOP).as_posix()}
+# The tools for 64-bit ARM. Without them its archive, wheel and part of the Go module are left out.
+ARM_TOOLS = {"CC": "aarch64-linux-gnu-gcc", "OBJCOPY": "aarch64-linux-gnu-objcopy", "OBJDUMP": "aarch64-linux-gnu-objdump"}
+# gcc for ARM knows no -fcf-protection.
+ARM_CFLAGS = CFLAGS.replace("-fcf-protection", "-mbranch-protection=standard")
 
 
 def entry_of(tar, path, folder):
     info = tar.gettarinfo(path, path.relative_to(folder.parent).as_posix())
     info.uid = info.gid = 0
     info.uname = info.gname = ""
-    info.mtime = epoch() + (path.relative_to(folder).as_posix() in LATE)
+    info.mtime = epoch()
     info.mode = 0o777 if info.issym() else 0o755 if info.mode & 0o100 else 0o644
     return info
 
@@ -52,36 +54,66 @@ def add_documents(folder, documents):
         copy(licence, folder / licence.name, 0o644)
 
 
-def link_program(kit, target):
-    """Links the program again from its object, statically, so that it needs no C library."""
-    parts = [PROGRAM.with_suffix(".o"), kit / "c" / "libos_c.a", kit / "c" / "liblibc_c.a"]
-    run(["cc", "-static-pie", *LDFLAGS.split(), "-Wl,--gc-sections", "-o", target, *parts])
+def link_program(kit, target, *flags):
+    """Links the program from its object: with -static-pie it needs no C library."""
+    parts = [OBJECT, kit / "c" / "libos_c.a", kit / "c" / "liblibc_c.a"]
+    run(["cc", *flags, *LDFLAGS.split(), "-Wl,--gc-sections", "-o", target, *parts])
+
+
+def build_library(tree, root, archive, **variables):
+    """The C library in a folder. pkg-config finds it wherever the folder is."""
+    run([tree / "capi" / "build", root, archive], env=os.environ | {"CFLAGS": CFLAGS, "LDFLAGS": LDFLAGS} | variables)
+    objcopy = variables.get("OBJCOPY", "objcopy")
+    run([objcopy, "--enable-deterministic-archives", "--strip-debug", root / "lib" / "libbpfcanon.a"])
+    config = root / "lib" / "pkgconfig" / "bpfcanon.pc"
+    config.write_text(re.sub("^prefix=.*", "prefix=${pcfiledir}/../..", config.read_text()))
+
+
+def complete(root, documents, readme, machine):
+    """Adds what a folder for one processor has beside the program and the library."""
+    for page in "CHANGELOG.md", "SECURITY.md":
+        copy(TOP / page, root / page, 0o644)
+    installer = (TOP / "packaging" / "install.sh").read_text()
+    (root / "install.sh").write_text(installer.replace("@MACHINE@", machine))
+    (root / "install.sh").chmod(0o755)
+    copy(TOP / "packaging" / readme, root / "README", 0o644)
+    add_documents(root, documents)
 
 
 def stage_binary(kit, documents, work):
-    """The folder of the program and the C library, which runs where it lies."""
-    root, tree = work / f"bpfcanon-{VERSION}-{TARGET}", work / "tree"
+    """The folder of the program and the C library for x86-64, which runs where it is."""
+    root, tree = work / f"bpfcanon-{VERSION}-x86_64-linux", work / "tree"
     copy_files(tree)
     (tree / PROGRAM.relative_to(TOP)).parent.mkdir()
-    link_program(kit, tree / PROGRAM.relative_to(TOP))
+    link_program(kit, tree / PROGRAM.relative_to(TOP), "-static-pie")
     run([tree / "install", root])
-    run([tree / "capi" / "build", root, ARCHIVE], env=os.environ | {"CFLAGS": CFLAGS, "LDFLAGS": LDFLAGS})
-    run(["objcopy", "--enable-deterministic-archives", "--strip-debug", root / "lib" / "libbpfcanon.a"])
-    config = root / "lib" / "pkgconfig" / "bpfcanon.pc"
-    config.write_text(re.sub("^prefix=.*", "prefix=${pcfiledir}/../..", config.read_text()))
-    for page in "CHANGELOG.md", "SECURITY.md":
-        copy(TOP / page, root / page, 0o644)
-    copy(TOP / "packaging" / "install.sh", root / "install.sh", 0o755)
-    (root / "README").write_text((TOP / "packaging" / "README.binary").read_text())
-    add_documents(root, documents)
+    build_library(tree, root, ARCHIVE)
+    complete(root, documents, "README.binary", "x86_64")
+    return root
+
+
+def has_arm_tools():
+    return all(shutil.which(it) for it in ARM_TOOLS.values())
+
+
+def stage_arm(documents, work):
+    """The folder of the C library for 64-bit ARM."""
+    root, tree = work / f"bpfcanon-{VERSION}-aarch64-linux", work / "arm"
+    copy_files(tree)
+    build_library(tree, root, ARM_ARCHIVE, CFLAGS=ARM_CFLAGS, **ARM_TOOLS)
+    copy(TOP / "man" / "bpfcanon.5", root / "share" / "man" / "man5" / "bpfcanon.5", 0o644)
+    for page in sorted((TOP / "docs").glob("*.md")):
+        copy(page, root / "share" / "doc" / "bpfcanon" / "docs" / page.name, 0o644)
+    complete(root, documents, "README.arm", "aarch64")
     return root
 
 
 def stage_source(documents, work):
-    """The folder of the sources with the proved archive, from which capi/build needs no Rattle."""
+    """The folder of the sources with the proved archives, from which capi/build needs no Rattle."""
     root = work / f"bpfcanon-{VERSION}"
     copy_files(root)
-    copy(ARCHIVE, root / ARCHIVE.relative_to(TOP), 0o644)
+    for archive in ARCHIVE, ARM_ARCHIVE:
+        copy(archive, root / archive.relative_to(TOP), 0o644)
     add_documents(root, documents)
     return root
 
@@ -94,8 +126,8 @@ def stage_vectors(documents, work):
     return root
 
 
-def stage_go(binary, documents, work):
-    """The Go module with the static library in it. The build tag bpfcanon_system asks pkg-config instead."""
+def stage_go(folders, documents, work):
+    """The Go module with the static libraries of some folders in it. For other systems, and with the build tag bpfcanon_system, it asks pkg-config."""
     root = work / f"bpfcanon-go-{VERSION}"
     copy_files(work / "go", "bindings/go/")
     (work / "go" / "bindings" / "go").rename(root)
@@ -104,18 +136,17 @@ def stage_go(binary, documents, work):
         if test.name != "example_test.go":
             test.unlink()
     calls = root / "internal" / "capi"
-    text, found = re.subn(
-        "^// #cgo pkg-config: bpfcanon$",
-        "// #cgo linux,amd64,!bpfcanon_system CFLAGS: -I${SRCDIR}\n"
-        "// #cgo linux,amd64,!bpfcanon_system LDFLAGS: ${SRCDIR}/libbpfcanon_linux_amd64.a\n"
-        "// #cgo bpfcanon_system pkg-config: bpfcanon",
-        (calls / "capi.go").read_text(),
-        flags=re.MULTILINE,
-    )
+    lines = []
+    for name, folder in folders.items():
+        lines.append(f"// #cgo linux,{name},!bpfcanon_system CFLAGS: -I${{SRCDIR}}")
+        lines.append(f"// #cgo linux,{name},!bpfcanon_system LDFLAGS: ${{SRCDIR}}/libbpfcanon_linux_{name}.a")
+        copy(folder / "lib" / "libbpfcanon.a", calls / f"libbpfcanon_linux_{name}.a", 0o644)
+    others = ",".join(f"!{name}" for name in folders)
+    lines.append(f"// #cgo bpfcanon_system !linux {others} pkg-config: bpfcanon")
+    text, found = re.subn("^// #cgo pkg-config: bpfcanon$", lambda _: "\n".join(lines), (calls / "capi.go").read_text(), flags=re.MULTILINE)
     if found != 1:
         raise Refused("bindings/go/internal/capi/capi.go doesn't name pkg-config once")
     (calls / "capi.go").write_text(text)
-    copy(binary / "lib" / "libbpfcanon.a", calls / "libbpfcanon_linux_amd64.a", 0o644)
-    copy(binary / "include" / "bpfcanon.h", calls / "bpfcanon.h", 0o644)
+    copy(TOP / "capi" / "bpfcanon.h", calls / "bpfcanon.h", 0o644)
     add_documents(root, documents)
     return root

@@ -6,6 +6,7 @@ import re
 import shutil
 import time
 
+from archives import link_program
 from notices import licence_files
 from tree import PROGRAM, SONAME, TOP, VERSION, copy, epoch, run
 
@@ -35,12 +36,13 @@ def symbols():
     return "\n".join(lines) + "\n"
 
 
-def make_debs(source, out, work):
-    """Makes the packages from the folder of the sources. The program is linked as rt links it, with the C library of the system."""
+def make_debs(kit, source, out, work):
+    """Makes the packages from the folder of the sources. The program is linked with the C library of the system."""
     tree = work / "deb" / f"bpfcanon-{VERSION}"
     shutil.copytree(source, tree)
     shutil.copytree(TOP / "packaging" / "debian", tree / "debian")
-    copy(PROGRAM, tree / PROGRAM.relative_to(TOP), 0o755)
+    (tree / PROGRAM.relative_to(TOP)).parent.mkdir()
+    link_program(kit, tree / PROGRAM.relative_to(TOP), "-pie")
     (tree / "debian" / "rules").chmod(0o755)
     (tree / "debian" / "changelog").write_text(changelog((tree / "debian" / "control").read_text()))
     (tree / "debian" / "copyright").write_text(copyright_page())

@@ -3,30 +3,32 @@
 set -u
 usage='usage: ./install.sh [--uninstall] [PREFIX]
 
-Installs the program, the C library and their pages into PREFIX, which is /usr/local if none is given.
+Installs these files into PREFIX, which is /usr/local if none is given. Those for 64-bit ARM have no program.
 
   --uninstall    removes these files from PREFIX
   --help         prints this
 
 If DESTDIR is set, it is put before PREFIX.'
 umask 022
+# The processor that the files are for.
+machine=@MACHINE@
 
 fail() {
 	echo "install.sh: $1" >&2
 	exit "${2:-1}"
 }
 
-# What x86-64-v2 adds, by the names of the kernel. The program checks it too, and the library doesn't.
-check_processor() {
-	[ "$(uname -sm)" = "Linux x86_64" ] || fail "these files are for Linux on x86-64, and this is $(uname -sm)"
-	[ -r /proc/cpuinfo ] || return 0
-	flags=$(sed -n 's/^flags[^:]*: //p' /proc/cpuinfo | head -n 1)
-	for flag in cx16 lahf_lm popcnt ssse3 sse4_1 sse4_2; do
-		case " $flags " in
-		*" $flag "*) ;;
-		*) fail "this processor lacks $flag, which the program and the library need" ;;
-		esac
-	done
+check_machine() {
+	[ "$(uname -sm)" = "Linux $machine" ] || fail "these files are for Linux on $machine, and this is $(uname -sm)"
+}
+
+# Nothing is written unless all files can be.
+check_place() {
+	above=$root/${1%/*}
+	while [ ! -e "$above" ] && [ ! -h "$above" ]; do above=$(dirname "$above"); done
+	[ -d "$above" ] || fail "cannot make the folder $root/${1%/*}, as $above is no folder"
+	[ -w "$above" ] || fail "cannot write to the folder $above"
+	[ ! -d "$root/$1" ] || [ -h "$root/$1" ] || fail "$root/$1 is a folder"
 }
 
 # A file is copied beside its place and renamed, so that one that is in use can be replaced.
@@ -57,7 +59,7 @@ case $prefix in /*) ;; *) prefix=$PWD/$prefix ;; esac
 root=${DESTDIR:-}$prefix
 case $root in /*) ;; *) root=$PWD/$root ;; esac
 CDPATH='' cd "$(dirname "$0")" || fail "cannot enter the folder of $0"
-files=$(find bin include lib share \( -type f -o -type l \) | LC_ALL=C sort)
+files=$(find ./* \( -type f -o -type l \) -path '*/*/*' | cut -c 3- | LC_ALL=C sort)
 
 if [ $action = uninstall ]; then
 	for file in $files; do rm -f "$root/$file" || fail "cannot remove $root/$file"; done
@@ -66,6 +68,7 @@ if [ $action = uninstall ]; then
 	done
 	exit
 fi
-check_processor
+[ -n "${DESTDIR:-}" ] || check_machine
+for file in $files; do check_place "$file"; done
 for file in $files; do put "$file"; done
 [ -n "${DESTDIR:-}" ] || [ "$(id -u)" != 0 ] || ! command -v ldconfig >/dev/null || ldconfig

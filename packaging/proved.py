@@ -1,9 +1,9 @@
-"""What ./verify recorded of the program and the archive that it passed: out/PROVED.txt.
+"""What ./verify recorded of the program and the archives that it passed: out/PROVED.txt.
 
-usage: packaging/proved.py LOG
+usage: packaging/proved.py LOG..
 
-Prints the record: the hashes of the sources of the program and the archive, and those of the files that were built from them, the kit,
-and the verdicts of `rt ci`, which are in the file LOG. verify calls it once all parts have passed.
+Prints the record: the hashes of the sources of the program and the archives, and those of the files that were built from them, the kit,
+and the verdicts, which are in the files LOG. verify calls it once all parts have passed.
 """
 
 import hashlib
@@ -11,11 +11,20 @@ import pathlib
 import re
 import sys
 
-from tree import ARCHIVE, PROGRAM, TOP, Refused, run
+from tree import ARCHIVE, ARM_ARCHIVE, MADE_BY, OBJECT, PROGRAM, TOP, Refused, run
 
 RECORD = TOP / "out" / "PROVED.txt"
-BUILT = [PROGRAM, PROGRAM.with_suffix(".o"), ARCHIVE]
+BUILT = [PROGRAM, OBJECT, ARCHIVE, ARM_ARCHIVE]
 UNVERIFIED = "Not verified: these files were made from a tree that ./verify has not passed.\n"
+MEANING = """\
+Passed by ./verify. A line with logic=proved is a verdict of the prover: each function of the crate
+meets its contract. The program and the archives of a release are compiled from these sources for
+x86-64 (target=x86_64-unknown-linux-gnu), and the C library for 64-bit ARM from the same ones
+(target=aarch64-unknown-linux-gnu); a verdict with a target is that of such a build. What is compiled is the
+code that was proved. The compiler, LLVM, isn't proved, for either processor, and neither is the C
+around the calls of the library. All tests run on x86-64. For 64-bit ARM those of the C library run
+under an emulator (tests/release, with qemu).
+"""
 
 
 def digest(path):
@@ -28,20 +37,27 @@ def sums():
 
 
 def sources():
-    """A line for what the program and the archive are made from."""
+    """A line for what the program and the archives are made from."""
     return [f"{run([TOP / 'capi' / 'sources', crate]).strip()}  sources of {crate}" for crate in ("bpfcanon", "bpfcanon_c")]
 
 
-def record(log):
-    verdicts = [line for line in log.read_text(errors="replace").splitlines() if re.search(r"logic=proved|\d+ passed, \d+ failed", line)]
-    return "\n".join(["Passed by ./verify.", *sources(), *sums(), f"kit {run(['rt', 'version']).strip()}", *verdicts, ""])
+def record(logs):
+    lines = [line for log in logs for line in log.read_text(errors="replace").splitlines()]
+    verdicts = [line for line in lines if re.search(r"logic=proved|\d+ passed, \d+ failed", line)]
+    return "\n".join([MEANING, *sources(), *sums(), f"kit {run(['rt', 'version']).strip()}", *verdicts, ""])
+
+
+def check_built():
+    """Raises if something isn't built, or from other sources. The archives have the hash of theirs, which capi/build compares."""
+    for file, maker in MADE_BY.items():
+        if not file.is_file():
+            raise Refused(f"{file.relative_to(TOP)} is not built; run ./verify, or {maker} first")
+    if OBJECT.with_name("sources.sha256").read_text() != run([TOP / "capi" / "sources", "bpfcanon"]):
+        raise Refused(f"{OBJECT.relative_to(TOP)} is made from other sources; {MADE_BY[OBJECT]} makes it again")
 
 
 def check():
     """Raises if what is built isn't what ./verify passed. Returns the text of the record."""
-    for file in BUILT:
-        if not file.is_file():
-            raise Refused(f"{file.relative_to(TOP)} is not built; run ./verify first")
     if not RECORD.is_file():
         raise Refused("out/PROVED.txt is missing; run ./verify first")
     text = RECORD.read_text()
@@ -55,6 +71,6 @@ def check():
 
 
 if __name__ == "__main__":
-    if len(sys.argv) != 2:
+    if len(sys.argv) < 2:
         sys.exit(__doc__)
-    print(record(pathlib.Path(sys.argv[1])), end="")
+    print(record(list(map(pathlib.Path, sys.argv[1:]))), end="")

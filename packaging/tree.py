@@ -1,4 +1,4 @@
-"""The tree that is released: its files, its version and its time. Also how other programs are run."""
+"""The tree that is released: its files, what is built of it, its version and its time. Also how other programs are run."""
 
 import functools
 import os
@@ -9,7 +9,11 @@ import subprocess
 
 TOP = pathlib.Path(__file__).resolve().parent.parent
 PROGRAM = TOP / "crates" / "bpfcanon" / "out" / "bpfcanon"
+# The program's object for the first x86-64 processors (packaging/program.py), and the archives of the proved calls (capi/archive).
+OBJECT = TOP / "crates" / "bpfcanon" / "out" / "release" / "bpfcanon.o"
 ARCHIVE = TOP / "crates" / "bpfcanon_c" / "out" / "libbpfcanon_c.a"
+ARM_ARCHIVE = ARCHIVE.with_name("libbpfcanon_c.aarch64.a")
+MADE_BY = {OBJECT: "packaging/program.py", ARCHIVE: "capi/archive", ARM_ARCHIVE: "capi/archive aarch64"}
 HEADER = (TOP / "capi" / "bpfcanon.h").read_text()
 VERSION = re.search(r'^#define BPFCANON_VERSION "(.*)"$', HEADER, re.MULTILINE)[1]
 SONAME = f"libbpfcanon.so.{VERSION.partition('.')[0]}"

@@ -14,17 +14,17 @@ PACKAGE = TOP / "bindings" / "python"
 OLDEST = (2, 17)
 
 
-def needed_glibc(file):
+def needed_glibc(library, objdump):
     """The newest version of glibc's symbols that a file needs."""
-    found = re.findall(r"GLIBC_([0-9.]+)", run(["objdump", "-T", file]))
+    found = re.findall(r"GLIBC_([0-9.]+)", run([objdump, "-T", library]))
     return max((tuple(map(int, it.split("."))) for it in found), default=(0,))
 
 
-def platforms(library):
-    need = needed_glibc(library)
+def platforms(library, machine, objdump):
+    need = needed_glibc(library, objdump)
     if need <= OLDEST:
-        return ["manylinux2014_x86_64", "manylinux_2_17_x86_64"]
-    return [f"manylinux_{need[0]}_{need[1]}_x86_64"]
+        return [f"manylinux2014_{machine}", f"manylinux_2_17_{machine}"]
+    return [f"manylinux_{need[0]}_{need[1]}_{machine}"]
 
 
 def metadata():
@@ -35,7 +35,7 @@ def metadata():
     return f"{head}\n{(PACKAGE / 'README.md').read_text()}"
 
 
-def contents(library, documents):
+def contents(library, documents, tags):
     """What each file of the wheel has, but its list."""
     info = f"bpfcanon-{VERSION}.dist-info"
     found = {f"bpfcanon/{it.name}": it.read_bytes() for it in sorted((PACKAGE / "bpfcanon").iterdir()) if it.is_file()}
@@ -43,7 +43,7 @@ def contents(library, documents):
     found |= {f"{info}/licenses/{name}": text.encode() for name, text in documents.items()}
     found |= {f"{info}/licenses/{it.name}": it.read_bytes() for it in licence_files()}
     found[f"{info}/METADATA"] = metadata().encode()
-    tags = "".join(f"Tag: py3-none-{it}\n" for it in platforms(library))
+    tags = "".join(f"Tag: py3-none-{it}\n" for it in tags)
     found[f"{info}/WHEEL"] = f"Wheel-Version: 1.0\nGenerator: bpfcanon release\nRoot-Is-Purelib: false\n{tags}".encode()
     return found
 
@@ -53,11 +53,14 @@ def row_of(name, content):
     return f"{name},sha256={digest},{len(content)}\n"
 
 
-def make_wheel(library, documents, out):
-    found = contents(library, documents)
+def make_wheel(folder, documents, out, machine="x86_64", objdump="objdump"):
+    """Makes the wheel with the shared library of a folder."""
+    library = folder / "lib" / f"libbpfcanon.so.{VERSION}"
+    tags = platforms(library, machine, objdump)
+    found = contents(library, documents, tags)
     record = f"bpfcanon-{VERSION}.dist-info/RECORD"
     found[record] = ("".join(row_of(*it) for it in found.items()) + f"{record},,\n").encode()
-    name = f"bpfcanon-{VERSION}-py3-none-{'.'.join(platforms(library))}.whl"
+    name = f"bpfcanon-{VERSION}-py3-none-{'.'.join(tags)}.whl"
     with zipfile.ZipFile(out / name, "w", zipfile.ZIP_DEFLATED, compresslevel=9) as wheel:
         for path, content in found.items():
             entry = zipfile.ZipInfo(path, time.gmtime(epoch())[:6])

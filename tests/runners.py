@@ -79,7 +79,7 @@ class Tree:
         for name in COPIED:
             (folder / name).parent.mkdir(parents=True, exist_ok=True)
             shutil.copy(TOP / name, folder / name)
-        stand_ins = ["bin/rt", "capi/archive", "capi/build", "capi/sources", "crates/bpfcanon/out/bpfcanon", "tests/recipes", "tests/release"]
+        stand_ins = ["bin/rt", "capi/archive", "capi/build", "capi/sources", "crates/bpfcanon/out/bpfcanon", "packaging/program.py", "tests/recipes", "tests/release"]
         for name in [*stand_ins, *replaced]:
             write(folder / name, STAND_IN)
         for path in (TOP / "tests").iterdir():
@@ -163,6 +163,7 @@ PARTS = {
     "tests/c_interface/run": "C interface",
     "tests/bindings": "bindings",
     "tests/recipes": "recipes",
+    "packaging/program.py": "release objects",
     "tests/release": "release",
 }
 RUNNERS = ["tests/run", "tests/c_interface/run", "tests/bindings"]
@@ -178,14 +179,15 @@ SKIPPED = [
         "without cc",
         ["python3"],
         "verify: rt ci passed, process tests passed, skipped (no cc), C archive passed, "
-        "C interface skipped (no cc), bindings skipped (no cc), recipes passed, skipped (no bpftool), release passed",
+        "C interface skipped (no cc), bindings skipped (no cc), recipes passed, skipped (no bpftool), release objects passed, release passed",
     ),
     (
         "with cc and python3",
         ["python3", "cc"],
         "verify: rt ci passed, process tests passed, C archive passed, "
         "C interface passed, skipped (no valgrind, no programs by pkg-config), "
-        "bindings passed, skipped (no go, no cargo, no mypy), recipes passed, skipped (no bpftool), release passed",
+        "bindings passed, skipped (no go, no cargo, no mypy), recipes passed, skipped (no bpftool), "
+        "release objects passed, release passed",
     ),
 ]
 # What a runner says by itself where several tools are missing.
@@ -200,7 +202,8 @@ MISSING = [
 
 def check_verify(report):
     with report.group("verify: each part fails once"), tree(replaced=RUNNERS) as made:
-        right = "verify: rt ci passed, process tests passed, C archive passed, C interface passed, bindings passed, recipes passed, skipped (no bpftool), release passed"
+        right = "verify: rt ci passed, process tests passed, C archive passed, C interface passed, bindings passed, "
+        right += "recipes passed, skipped (no bpftool), release objects passed, release passed"
         status, last, _ = made.run("verify")
         report.expect_that((status, last) == (0, right), "no part fails", f"it ended with {status}: {last}")
         for part, name in PARTS.items():

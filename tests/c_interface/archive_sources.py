@@ -1,5 +1,5 @@
 """An archive of the proved calls belongs to the sources that it was made from: capi/build refuses another one, and capi/archive --keep
-makes it again. Each is tried in a copy of the tree, without Rattle.
+makes it again. Without Rattle, or where nothing can be written, the scripts end with one sentence. Each is tried in a copy of the tree.
 
     archive_sources.py ARCHIVE
 """
@@ -35,7 +35,7 @@ def copy_tree(folder, archive):
     for part in "src", "specs", "proofs":
         for source in TOP.glob(f"crates/*/{part}"):
             shutil.copytree(source, folder / source.relative_to(TOP))
-    for name in "capi", "man":
+    for name in "capi", "man", "packaging":
         shutil.copytree(TOP / name, folder / name)
     for name in "crates.txt", "README.md":
         shutil.copy(TOP / name, folder / name)
@@ -101,6 +101,33 @@ def check_changes(report, folder, archive):
         report.expect_that(ran(folder, "sources").stdout == sources, f"{name} as before", "the hash is another")
 
 
+def check_sentences(report, folder):
+    """Where rt is missing or fails, and where a folder can't be written to, a script says one sentence and makes nothing."""
+    folder.parent.chmod(0o755)
+    for path in [folder, *folder.rglob("*")]:
+        path.chmod(0o555 if path.is_dir() or os.access(path, os.X_OK) else 0o444)
+    # Root may write everywhere.
+    user = {"user": 65534, "group": 65534, "extra_groups": []} if os.geteuid() == 0 else {}
+    path = os.pathsep.join(it for it in os.environ["PATH"].split(os.pathsep) if not pathlib.Path(it, "rt").exists())
+    environment = {"PATH": path, "HOME": "/", "TMPDIR": "/tmp", "PYTHONDONTWRITEBYTECODE": "1"}
+    if subprocess.run(["env", "python3", "-c", ""], env=environment, stderr=subprocess.DEVNULL, **user).returncode != 0:
+        report.skip("one sentence", "another user can't run Python")
+        return
+    archive = "crates/bpfcanon_c/out/libbpfcanon_c.a"
+    for words, what, first in [
+        (["capi/archive"], "no rt", "capi/archive: there is no rt"),
+        (["capi/archive", "aarch64"], "no rt for another processor", "capi/archive: there is no rt"),
+        (["packaging/program.py"], "no rt for the program", "packaging/program.py: there is no rt"),
+        (["capi/build", folder / "prefix", archive], "a folder that can't be written to", "capi/build: cannot write to the folder"),
+    ]:
+        before = sorted(folder.rglob("*"))
+        done = subprocess.run([folder / words[0], *words[1:]], cwd=folder, env=environment, capture_output=True, text=True, timeout=SECONDS, **user)
+        is_right = done.returncode == 1 and done.stderr.startswith(first) and done.stderr.count("\n") == 1 and not done.stdout
+        report.expect_that(is_right and sorted(folder.rglob("*")) == before, what, f"it gave {done}")
+    for path in [folder, *folder.rglob("*")]:
+        path.chmod(0o755)
+
+
 def main():
     if len(sys.argv) != 2:
         sys.exit(__doc__)
@@ -114,6 +141,8 @@ def main():
             check_archives(report, folder, archive)
         with report.group("sources that are changed"):
             check_changes(report, folder, kept)
+        with report.group("no rt, and nowhere to write"):
+            check_sentences(report, folder)
     return report.end("archives and their sources")
 
 

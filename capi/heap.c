@@ -1,0 +1,38 @@
+/*
+ * The heap of the proved calls over malloc, for processors that Rattle's kit has no object of it for.
+ * capi/build compiles it unless the archive has that object. It is tested and not proved.
+ */
+#include <stdint.h>
+#include <stdlib.h>
+
+/* A block, or that there is no memory. Rattle takes it in two registers. */
+struct block {
+	uint64_t is_there;
+	void *start;
+};
+
+static uint8_t nothing;
+
+static struct block block_at(void *start)
+{
+	const struct block block = { start != NULL, start ? start : &nothing };
+
+	return block;
+}
+
+/* malloc aligns to 16 bytes, and Rattle never needs more. A block of no bytes has an address too. */
+struct block rattle_alloc(size_t size, size_t align)
+{
+	return block_at(malloc(size ? size : align));
+}
+
+struct block rattle_realloc(void *start, size_t old_size, size_t size, size_t align)
+{
+	(void)old_size;
+	return block_at(realloc(start, size ? size : align));
+}
+
+void rattle_dealloc(void *start)
+{
+	free(start);
+}
