@@ -156,7 +156,7 @@ enum bpfcanon_group {
 
 /*
  * What a call returns. A field that neither the status nor the call sets is 0. `pos` is the place
- * that docs/FORMATS.md gives for the cause. That of BPFCANON_INSN_TRUNCATED is the first byte of the
+ * that docs/FAULTS.md gives for the cause. That of BPFCANON_INSN_TRUNCATED is the first byte of the
  * slot of 8 bytes that the input ends in, and not the end of the input.
  */
 typedef struct bpfcanon_answer {
@@ -294,7 +294,7 @@ const char *bpfcanon_version(void);
 
 /*
  * The name of a status or cause, as "Truncated", and a sentence on what it means, without a full
- * stop. The names and sentences of causes are those of docs/FORMATS.md. NULL for a number that is
+ * stop. The names and sentences of causes are those of docs/FAULTS.md. NULL for a number that is
  * no status or cause. The strings are static.
  */
 const char *bpfcanon_status_name(uint32_t status);

@@ -11,12 +11,12 @@ import (
 // errors.Is(err, bpfcanon.InsnOpcode).
 type Cause interface {
 	error
-	// String returns the name of the cause in docs/FORMATS.md, for example "Opcode".
+	// String returns the name of the cause in docs/FAULTS.md, for example "Opcode".
 	String() string
 }
 
 // An InsnCause is the cause of a fault in instructions: the first field whose value fits no
-// instruction with the fields before it. docs/FORMATS.md lists the rule of each cause and what to do
+// instruction with the fields before it. docs/FAULTS.md lists the rule of each cause and what to do
 // about it.
 type InsnCause uint32
 

@@ -43,7 +43,7 @@ class InsnCause(enum.Enum):
 
     @property
     def label(self) -> str:
-        """The name in docs/FORMATS.md, for example "NextImm"."""
+        """The name in docs/FAULTS.md, for example "NextImm"."""
         return _library.string("insn_cause_name", self.value)
 
     @property
@@ -62,7 +62,7 @@ class LineCause(enum.Enum):
 
     @property
     def label(self) -> str:
-        """The name in docs/FORMATS.md, for example "Shape"."""
+        """The name in docs/FAULTS.md, for example "Shape"."""
         return _library.string("line_cause_name", self.value)
 
     @property
@@ -109,7 +109,7 @@ class BtfCause(enum.Enum):
 
     @property
     def label(self) -> str:
-        """The name in docs/FORMATS.md, for example "ShortHeader"."""
+        """The name in docs/FAULTS.md, for example "ShortHeader"."""
         return _library.string("btf_cause_name", self.value)
 
     @property

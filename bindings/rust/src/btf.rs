@@ -11,7 +11,7 @@ pub type Error = crate::Error<Cause>;
 pub const MAX: usize = 50_335_744;
 
 call::causes! {
-    /// Why BTF is refused, with the field names of btf.rst. `docs/FORMATS.md` says what to do about
+    /// Why BTF is refused, with the field names of btf.rst. `docs/FAULTS.md` says what to do about
     /// each cause.
     Cause, "byte", sys::bpfcanon_btf_cause_name, sys::bpfcanon_btf_cause_text;
     /// The input has fewer than 24 bytes.

@@ -79,7 +79,7 @@ macro_rules! causes {
                 }
             }
 
-            /// Returns the name of the cause, as in `docs/FORMATS.md` and the messages of the
+            /// Returns the name of the cause, as in `docs/FAULTS.md` and the messages of the
             /// command; none if the library doesn't know it.
             pub fn name(self) -> Option<&'static str> {
                 // SAFETY: the call takes any number.
