@@ -162,7 +162,7 @@ fields_in_range (PacketAbs z k) h =
 fields_in_range (PacketInd z s k) h =
     record { opcode = omega (arith, small_below z); dst = omega arith; src = omega (arith, s.in_range); off = zero_offset; imm = h }
 
--- ---- what the bytes of a slot hold
+-- ---- the values of fields in the bytes of a slot
 
 held_opcode : (order : Order) (f : Fields) (r : List ℕ) → held order Opcode (spelled order f ++ r) ≡ f.opcode ∷ []
 held_opcode Little f r = refl
@@ -184,7 +184,7 @@ held_imm : (order : Order) (f : Fields) (r : List ℕ) → held order Imm (spell
 held_imm Little f r = refl
 held_imm Big f r = refl
 
--- ---- two slots that hold the same in a field have the same there
+-- ---- two slots whose bytes agree on a field have the same value in it
 
 module _ (order : Order) (f g : Fields) (r q : List ℕ) (a : AreFields f) (b : AreFields g) where
   pub same_opcode : held order Opcode (spelled order f ++ r) ≡ held order Opcode (spelled order g ++ q) → f.opcode ≡ g.opcode

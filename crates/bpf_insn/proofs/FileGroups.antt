@@ -12,7 +12,7 @@ use Rattle.bpf_insn.specs.declared.fault.SlotFault.{SlotFault}
 use Rattle.bpf_insn.specs.declared.group.Group.{Group}
 use Rattle.bpf_insn.specs.declared.group.GroupSet.{GroupSet}
 
--- the set has the groups of the instructions before a place, and the marked opcodes are settled
+-- the set has the groups of the instructions before an offset, and the marked opcodes are settled
 pub record HasSettledGroups (order : Order) (bytes : List ℕ) (at : ℕ) (marks : List Bool) (set : GroupSet) : Type 0 where
   pub groups : HasGroupsBefore order bytes at set
   pub settled : AreSettled marks set

@@ -36,7 +36,7 @@ next_fits i w h =
     let fits = field.wide_next_fits w.what is in
     (ap next_imm_of w.is, pattern_fits_32 _ fits, fits)
 
--- instructions of one form whose bytes after the first slot begin alike have the same next_imm
+-- instructions with the same form and the same bytes after the first slot have the same next_imm
 same_next : (order : Order) (i j : Insn) (r q : List ℕ) → IsInsn i → IsInsn j → insn_form i ≡ insn_form j
     → second_slot order (next_imm_of i) ++ r ≡ second_slot order (next_imm_of j) ++ q → next_imm_of i ≡ next_imm_of j
 same_next order i j r q hi hj f e = elim (wide_or_not i) [
@@ -62,7 +62,7 @@ same_next order i j r q hi hj f e = elim (wide_or_not i) [
   ]
 ]
 
--- bytes begin with one spelling at most
+-- bytes begin with at most one spelling
 pub begins_once : (order : Order) (i j : Insn) (s : List ℕ) → BeginsWith order i s → BeginsWith order j s → i ≡ j
 unfolding spelling
 begins_once order i j s b c =
@@ -102,7 +102,7 @@ at_most_two order i = elim (wide_or_not i) [
       omega (arith, two, length-append (spelled order (fields_of i)) (second_slot order (next_imm_of i)), slot_length order (fields_of i))
 ]
 
--- no two instructions share a spelling, and none begins another's
+-- no two instructions have the same spelling, and no spelling is a proper prefix of another
 pub no_proper_prefix : (order : Order) (i j : Insn) (more : List ℕ) → IsInsn i → IsInsn j → spelling order j ≡ spelling order i ++ more → (i ≡ j) × (more ≡ [])
 no_proper_prefix order i j more hi hj e =
     let same = begins_once order i j (spelling order j) (hi, (more, e)) (hj, ([], sym (append-nil (spelling order j)))) in
@@ -114,7 +114,7 @@ no_proper_prefix order i j more hi hj e =
 
 -- ---- files
 
--- what follows a spelling that two lists share
+-- the bytes after the same spelling in two equal lists are equal
 pub rests_same : (order : Order) (i j : Insn) (r q : List ℕ) → i ≡ j → spelling order i ++ r ≡ spelling order j ++ q → r ≡ q
 rests_same order i j r q same e =
     let long : length (spelling order i) ≡ length (spelling order j) = ap (λ (x : Insn). length (spelling order x)) same in
@@ -126,8 +126,8 @@ cons_same e f = cc
 nothing_begins : (order : Order) (i : Insn) (r : List ℕ) → [] ≡ spelling order i ++ r → ⊥
 nothing_begins order i r e = omega (arith, ap length e, length-append (spelling order i) r, at_least_a_slot order i)
 
--- two sequences of spellings with which bytes begin: one is a prefix of the other
--- (if what follows the first begins with no spelling, it is the longer)
+-- one of two sequences of spellings at the start of the same bytes is a prefix of the other
+-- (the first is at least as long as the second if the bytes after it don't begin with a spelling)
 pub longest_front : (order : Order) (xs ys : List Insn) (r q : List ℕ) → All IsInsn xs → All IsInsn ys → file_of order xs ++ r ≡ file_of order ys ++ q
     → ((i : Insn) → ¬ BeginsWith order i r) → length ys ≤ length xs
 longest_front order xs [] r q hx hy e none = omega arith
@@ -142,7 +142,7 @@ longest_front order (i ∷ xs) (j ∷ ys) r q hx hy e none =
     let more = longest_front order xs ys r q (All-tail IsInsn i xs hx) (All-tail IsInsn j ys hy) rests none in
     omega (arith, more)
 
--- a file is one list of instructions at most
+-- a file is the encoding of at most one list of instructions
 pub one_list : (order : Order) (bytes : List ℕ) (xs ys : List Insn) → InsnFile order bytes xs → InsnFile order bytes ys → xs ≡ ys
 one_list order bytes xs ys a b = lists_same order xs ys a.0 b.0 (sym a.1 ∙ b.1)
   where
@@ -155,7 +155,7 @@ one_list order bytes xs ys a b = lists_same order xs ys a.0 b.0 (sym a.1 ∙ b.1
         let rests = rests_same order i j (file_of order xs) (file_of order ys) same e in
         cons_same same (lists_same order xs ys (All-tail IsInsn i xs hx) (All-tail IsInsn j ys hy) rests)
 
--- what follows a sequence of spellings in a file and begins with none is empty
+-- if the bytes after a sequence of spellings in a file don't begin with a spelling, there are none
 rest_of_file : (order : Order) (xs ys : List Insn) (r : List ℕ) → All IsInsn xs → All IsInsn ys → file_of order xs ++ r ≡ file_of order ys
     → ((i : Insn) → ¬ BeginsWith order i r) → r ≡ []
 rest_of_file order [] [] r hx hy e none = e
@@ -167,7 +167,7 @@ rest_of_file order (i ∷ xs) (j ∷ ys) r hx hy e none =
     let same = begins_once order i j (spelling order i ++ (file_of order xs ++ r)) (All-head IsInsn i xs hx, (file_of order xs ++ r, refl)) (All-head IsInsn j ys hy, (file_of order ys, whole)) in
     rest_of_file order xs ys r (All-tail IsInsn i xs hx) (All-tail IsInsn j ys hy) (rests_same order i j (file_of order xs ++ r) (file_of order ys) same whole) none
 
--- what follows a sequence of spellings and begins with none, and isn't empty, is at fault
+-- if the bytes after a sequence of spellings don't begin with a spelling and aren't empty, their fault is that of the file
 pub file_fault : (order : Order) (bytes : List ℕ) (xs : List Insn) (rest : List ℕ) (fault reported : SlotFault) → All IsInsn xs → bytes ≡ file_of order xs ++ rest → rest ≢ []
     → IsSlotFault order rest fault → reported.pos ≡ length (file_of order xs) + fault.pos → reported.cause ≡ fault.cause → IsInsnFault order bytes reported
 file_fault order bytes xs rest fault reported h e ne f p c =
@@ -184,7 +184,7 @@ file_fault order bytes xs rest fault reported h e ne f p c =
       cause = c;
     }
 
--- the place of a fault is within the bytes
+-- the offset of a fault is within the bytes
 pub fault_within : (order : Order) (s : List ℕ) (at : ℕ) (cause : SlotCause) → IsSlotFault order s (record { pos = at; cause = cause }) → at ≤ length s
 fault_within order s at Truncated f = elim f.first [ inl h ↦ omega (arith, h.1) | inr h ↦ omega (arith, h.0, h.3) ]
 fault_within order s at Opcode f = omega (arith, f.first.2)
@@ -198,7 +198,7 @@ fault_within order s at NextImm f = omega (arith, f.first.0, f.first.2)
 abbrev okay : Insn → ℕ → Result (Insn × ℕ) SlotFault
 okay i n = Ok (i, n)
 
--- reading answers each spelling with which the bytes begin
+-- decoding succeeds if the bytes begin with a spelling
 pub answered : (order : Order) (s : List ℕ) (r : Result (Insn × ℕ) SlotFault) → IfOk r (λ x. BeginsWith order x.0 s × (x.1 ≡ length (spelling order x.0))) → IfErr r (IsSlotFault order s)
     → (i : Insn) → BeginsWith order i s → r ≡ Ok (i, length (spelling order i))
 answered order s (Ok x) found fault i b =
@@ -207,6 +207,6 @@ answered order s (Ok x) found fault i b =
     ap (λ (y : Insn). okay y x.1) same ∙ ap (λ (n : ℕ). okay i n) len
 answered order s (Err f) found fault i b = absurd (fault.unspelled i b)
 
--- and decoding the list of each file
+-- decoding a file returns its list of instructions
 pub decoded : (order : Order) (s : List ℕ) (xs ys : List Insn) → InsnFile order s xs → InsnFile order s ys → xs ≡ ys
 decoded order s xs ys a b = one_list order s xs ys a b

@@ -1,4 +1,4 @@
--- Reading whole instructions from the front of some bytes, one after the other.
+-- Reading the complete instructions at the start of the bytes in turn.
 use Rattle.std.proofs.Common.{◌≡◌, ◌≤◌, ◌+◌, ◌-◌, ◌*◌, ◌/◌, ◌++◌, ◌∙◌, ℕ, List, [], ◌∷◌, Some, None, length, take, drop, refl, sym, ap, subst, arith, append_assoc, length-append, length-drop}
 use Rattle.std.proofs.lemmas.List.{drop-drop, take_all}
 use Rattle.std.proofs.lemmas.List.Concat.{flat_map-append}
@@ -18,11 +18,11 @@ pub reads_none : (order : Order) (bytes : List ℕ) → ReadsTo order bytes 0 0
 reads_none order bytes = record { insns = []; spelled = (omega arith, All-nil IsInsn, refl, refl); counted = refl }
 
 module _ (order : Order) (bytes : List ℕ) (at n : ℕ) (read : ReadsTo order bytes at n) where
-  -- what the bytes from the place on are
+  -- the bytes from the offset on
   rest_is : take (length bytes - at) (drop at bytes) ≡ drop at bytes
   rest_is = take_all (length bytes - at) (drop at bytes) (omega (arith, length-drop at bytes))
 
-  -- the number of instructions is no more than the bytes before the place
+  -- each instruction that was read has at least 8 of the bytes before the offset
   pub count_below : 8 * n ≤ at
   count_below = omega (arith, read.spelled.3, read.counted, length-at_most_file order read.insns)
 
@@ -35,7 +35,7 @@ module _ (order : Order) (bytes : List ℕ) (at n : ℕ) (read : ReadsTo order b
         counted = omega (arith, read.counted, length-append read.insns (i ∷ []));
       }
 
-  -- the instructions that follow the place
+  -- a run of instructions at the offset
   pub reads_run_more : (len m : ℕ) → ReadsTo order (take (length bytes - at) (drop at bytes)) len m → ReadsTo order bytes (at + len) (n + m)
   reads_run_more len m h =
       let P : List ℕ → Type 0 = λ s. ReadsTo order s len m in
@@ -56,13 +56,13 @@ module _ (order : Order) (bytes : List ℕ) (at n : ℕ) (read : ReadsTo order b
         counted = omega (arith, read.counted, run.counted, length-append read.insns run.insns);
       }
 
-  -- a plain instruction more
+  -- one plain instruction more
   pub reads_plain_more : (i : Insn) → BeginsWith order i (take (length bytes - at) (drop at bytes)) × (length (spelling order i) ≡ 8) → n ≡ at / 8 → ReadsTo order bytes (at + 8) ((at + 8) / 8)
   reads_plain_more i h e =
       let P : ℕ → Type 0 = λ m. ReadsTo order bytes (at + 8) m in
       subst P (omega (arith, e)) (reads_one_more i 8 (h.0, sym h.1))
 
-  -- the reading stopped at a fault
+  -- reading ended with a fault
   pub stops_at_fault : (fault : SlotFault) → IsSlotFault order (take (length bytes - at) (drop at bytes)) fault → IsInsnFront order bytes (record { len = at; count = n; stop = Some fault })
   stops_at_fault fault h =
       let P : List ℕ → Type 0 = λ s. IsSlotFault order s fault in
@@ -75,7 +75,7 @@ module _ (order : Order) (bytes : List ℕ) (at n : ℕ) (read : ReadsTo order b
         stops = there;
       }
 
-  -- the reading stopped at the end
+  -- reading ended at the end of the bytes
   pub stops_at_end : length bytes ≤ at → IsInsnFront order bytes (record { len = at; count = n; stop = None })
   stops_at_end h =
       let none : drop at bytes ≡ [] = empty (drop at bytes) (omega (arith, length-drop at bytes)) in

@@ -1,4 +1,4 @@
--- The opcode determines the group of an instruction that is no byte swap.
+-- The opcode determines the group of an instruction that isn't a byte swap.
 use Rattle.std.proofs.Common.{◌≡◌, ◌↔◌, ◌⊎◌, ℕ, Bool, false, List, length, get_or, set, replicate, drop, IsTrue, Result, Ok, Err, IfOk, refl, ap, sym, ◌∙◌, subst, arith, inl, inr}
 use Rattle.std.proofs.lemmas.List.{get_or-drop, get_or-replicate, get_or-set_other, get_or_past, length-replicate, set_past, take_rest}
 use Rattle.std.proofs.lemmas.Grind.{get_or-set_at}
@@ -59,7 +59,7 @@ group_of_form (Alu width op d a) h = op_group op width
 group_of_form (Swap kind bits d) h = absurd (cc)
 group_of_form _ h = refl
 
--- an opcode is that of byte swaps or of none
+-- either all instructions with an opcode are byte swaps, or none are
 has_group_of_form : (i j : Insn) → insn_form i ≡ insn_form j → IsTrue (opcode_has_group i) → IsTrue (opcode_has_group j)
 has_group_of_form i (Swap kind bits d) e h = absurd (no_swap i kind e h)
   where
@@ -83,7 +83,7 @@ none_settled set i g marked brings = absurd (unmarked (fields_of i).opcode marke
       | inr above ↦ let e : get_or (replicate 256 false) n false ≡ false = get_or_past (replicate 256 false) n false (omega (arith, length-replicate 256 false, above)) in cc
     ]
 
--- a set that has one more group keeps what is settled, and the opcode of that group is settled if it has no other
+-- settled opcodes remain settled if a group is added, and the opcode of the instruction is settled if it has only this group
 pub settles : (marks : List Bool) (before after : GroupSet) (opcode : ℕ) (i : Insn) → opcode ≡ (fields_of i).opcode → AreSettled marks before
     → ((g : Group) → IsTrue (holds after g) ↔ (IsTrue (holds before g) ⊎ Brings (group_of i) g)) → AreSettled (set marks opcode (opcode_has_group i)) after
 settles marks before after opcode i e h more j g marked brings =
@@ -92,7 +92,7 @@ settles marks before after opcode i e h more j g marked brings =
       | inr new ↦ (more g).1 (inr (subst (λ (x : Group). Brings x g) (same_group i j (sym e ∙ sym new.0) new.1) brings))
     ]
   where
-    -- a mark that is there after a write was there before or was written
+    -- a mark that is set after a write was set before or was written
     which_mark : (marks : List Bool) (at n : ℕ) (b : Bool) → IsTrue (get_or (set marks at b) n false) → IsTrue (get_or marks n false) ⊎ ((n ≡ at) × IsTrue b)
     which_mark marks at n b t = elim (cases_eq n at) [
       | inl same ↦ elim (cases_lt at (length marks)) [
@@ -104,7 +104,7 @@ settles marks before after opcode i e h more j g marked brings =
       | inr other ↦ inl (rw (get_or-set_other marks at n b false other) at t)
     ]
 
--- the byte at a place is the opcode of the instruction there
+-- the byte at the offset of an instruction is its opcode
 pub opcode_at : (order : Order) (bytes : List ℕ) (at : ℕ) (i : Insn) → BeginsAt order bytes at i → get_or bytes at 0 ≡ (fields_of i).opcode
 unfolding spelling
 opcode_at order bytes at i h =
@@ -112,7 +112,7 @@ opcode_at order bytes at i h =
     let first : get_or (drop at bytes) 0 0 ≡ (fields_of i).opcode = ap (λ (s : List ℕ). get_or s 0 0) e in
     sym (get_or-drop at bytes 0 0 ∙ ap (λ (n : ℕ). get_or bytes n 0) (omega arith)) ∙ first
 
--- the group of an instruction whose opcode is settled is there
+-- the set already has the group of an instruction whose opcode is settled
 pub already_there : (order : Order) (bytes : List ℕ) (at : ℕ) (marks : List Bool) (set : GroupSet) (len : ℕ) → AreSettled marks set → IsTrue (get_or marks (get_or bytes at 0) false)
     → (i : Insn) × BeginsAt order bytes at i × (len ≡ length (spelling order i)) → AddsInsnAt order bytes at set set len
 already_there order bytes at marks set len h marked found =

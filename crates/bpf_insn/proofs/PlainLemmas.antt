@@ -1,4 +1,4 @@
--- A slot within its opcode's rule is an instruction.
+-- A slot that its opcode's rule allows is an instruction.
 use Rattle.std.proofs.Common.{◌≡◌, ℕ, ℤ, pos, List, length, take, Option, Some, None, Result, Ok, Err, IfOk, IfErr, refl, ap, sym, ◌∙◌, subst, drop}
 use Rattle.std.specs.Option.{IsSomeAnd, option_and_then}
 use Rattle.bpf_words.specs.declared.Order.{Order}
@@ -55,7 +55,7 @@ plain_offset : (op : AluCode) → alu_offset (plain_op op) ≡ 0
 plain_offset code.Add = refl
 plain_offset _ = refl
 
--- a rule allows no more than its form
+-- fields that the rule of a form allows are those of an instruction
 plain_insn : (f : Form) (d s : ℕ) (o k : ℤ) → IsSomeAnd (rule_of_form f) (λ r. IsWithin r (fields (form_opcode f) d s o k)) → IsOffset o → IsImm k
     → IsOneSlot (fields (form_opcode f) d s o k)
 plain_insn (form.Alu width op K) d s o k h ho hk = record {
@@ -118,7 +118,7 @@ plain_begins order s front rest slot f b spelled_so a h =
     let begins = read_whole order s front rest slot f b spelled_so one.insn 8 (one.is, one.fields, one.alone) refl in
     (one.insn, (begins.0, sym begins.1))
 
--- an answer that is the length of an instruction, or a fault, is that of each instruction that the bytes begin with
+-- if the bytes begin with an instruction, a correct result is its length
 pub len_answered : (order : Order) (s : List ℕ) (r : Result ℕ SlotFault) → IfOk r (λ n. (i : Insn) × (BeginsWith order i s × (n ≡ length (spelling order i)))) → IfErr r (IsSlotFault order s)
     → (i : Insn) → BeginsWith order i s → r ≡ Ok (length (spelling order i))
 len_answered order s (Ok n) found fault i b =

@@ -1,4 +1,4 @@
--- The faults of a second slot, in terms of its words, are those of the bytes in terms of all instructions.
+-- The faults of a second slot by its two 4-byte halves are the faults of the bytes by the set of all instructions.
 use Rattle.std.proofs.Common.{◌≡◌, ◌≢◌, ℕ, ◌+◌, ◌≤◌, ℤ, pos, List, ◌++◌, length, slice_range, refl, ap, sym, ◌∙◌, arith, inl, inr, subst, Some, append_assoc, length-append}
 use Rattle.std.specs.Int.{w32, cast_unsigned}
 use Rattle.bpf_words.specs.declared.Order.{Order}
@@ -35,7 +35,7 @@ wide_of_form _ e = absurd (cc)
 pub wide_of_opcode : (i : Insn) → (fields_of i).opcode ≡ 0x18 → IsWideLoad i
 wide_of_opcode i e = wide_of_form i (same_form i form.Wide e)
 
--- a load whose source field lacks next_imm has next_imm 0
+-- next_imm is 0 if src is one of the values that lack it
 lacks_next : (what : WideOf) → LacksNextImm (wide_source what) → wide_next_imm what ≡ pos 0
 lacks_next (Number n) h = absurd (elim h [ inl e ↦ omega arith | inr g ↦ elim g [ inl e ↦ omega arith | inr e ↦ omega arith ] ])
 lacks_next (MapFd k) h = refl
@@ -45,7 +45,7 @@ lacks_next (CodeAddr k) h = refl
 lacks_next (MapIdx k) h = refl
 lacks_next (MapValueIdx k m) h = absurd (elim h [ inl e ↦ omega arith | inr g ↦ elim g [ inl e ↦ omega arith | inr e ↦ omega arith ] ])
 
--- the words after a first slot
+-- the two 32-bit words after a first slot
 pub held_reserved : (order : Order) (f : Fields) (r : List ℕ) → held order Reserved (spelled order f ++ r) ≡ slice_range r 0 4
 held_reserved Little f r = refl
 held_reserved Big f r = refl
@@ -99,7 +99,7 @@ module _ (order : Order) (d s : ℕ) (k : ℤ) (rest : List ℕ) (hd : IsReg d) 
   some_imm =
       (Wide (reg d hd) (wide_load s k (pos 0)), (wide_load_is s k (pos 0) hs hk zero_fits), agrees_imm (pos 0) zero_fits)
 
-  -- what agrees on the opcode is a wide load
+  -- an instruction that agrees on the opcode is a wide load
   wide_by_opcode : (i : Insn) → IsInsn i → Agrees order Opcode i (spelled order (fields 0x18 d s (pos 0) k) ++ rest) → IsWideLoad i
   unfolding spelling
   wide_by_opcode i hi g =
@@ -116,7 +116,7 @@ module _ (order : Order) (d s : ℕ) (k : ℤ) (rest : List ℕ) (hd : IsReg d) 
       subst (λ (x : Insn). length (spelling order x) ≡ 16) (sym w.is)
       (omega (arith, length-append (spelled order (fields_of (Wide w.dst w.what))) (second_slot order (Some (wide_next_imm w.what))), slot_length order (fields_of (Wide w.dst w.what)), second_length order (wide_next_imm w.what)))
 
-  -- bytes that begin with a wide load have its two words
+  -- bytes that begin with a wide load agree with it on the second slot
   begins_second : (i : Insn) → IsWideLoad i → BeginsWith order i (spelled order (fields 0x18 d s (pos 0) k) ++ rest)
       → (held order Reserved (spelling order i) ≡ held order Reserved (spelled order (fields 0x18 d s (pos 0) k) ++ rest))
       × (held order NextImm (spelling order i) ≡ held order NextImm (spelled order (fields 0x18 d s (pos 0) k) ++ rest))
@@ -133,7 +133,7 @@ module _ (order : Order) (d s : ℕ) (k : ℤ) (rest : List ℕ) (hd : IsReg d) 
             ∙ sym (ap (held order NextImm) e ∙ held_next order f (q ++ b.1.0) ∙ ap (λ (x : List ℕ). slice_range (x ++ b.1.0) 4 8) two ∙ second_next order (wide_next_imm w.what) b.1.0),
       )
 
-  -- the words of a wide load
+  -- the reserved half of a wide load's second slot
   wide_words : (i : Insn) → IsWideLoad i → (held order Reserved (spelling order i) ≡ word32 order 0)
   unfolding spelling
   wide_words i w =
@@ -144,7 +144,7 @@ module _ (order : Order) (d s : ℕ) (k : ℤ) (rest : List ℕ) (hd : IsReg d) 
   wide_next_word i w =
       held_next order (fields_of i) (second_slot order (next_imm_of i)) ∙ ap (λ (x : Insn). slice_range (second_slot order (next_imm_of x)) 4 8) w.is ∙ alone_next order (wide_next_imm w.what)
 
-  -- no instruction agrees through a reserved word that isn't 0
+  -- no instruction agrees through a reserved half that isn't 0
   none_reserved : slice_range rest 0 4 ≢ word32 order 0 → ¬ SomeAgreesThrough order Reserved (spelled order (fields 0x18 d s (pos 0) k) ++ rest)
   none_reserved ne some =
       let w = wide_by_opcode some.0 some.1 some.2.0 in

@@ -1,4 +1,4 @@
--- A slot whose bits are 0 where its opcode's rule has them 0, and whose registers are up to 10, is plain.
+-- A slot is plain if the bits that its opcode's rule requires to be 0 are 0, and its registers are at most 10.
 use Rattle.std.proofs.Common.{◌≡◌, ℕ, zero, suc, ◌+◌, ◌*◌, ◌^◌, ◌<◌, ◌≤◌, pos, List, [], ◌∷◌, Bool, true, false, Option, Some, None, refl, ap, sym, ◌∙◌, arith, lit<, inl, inr, drop, slice_index, bit_and, bit_or}
 use Rattle.std.specs.Bool.{OnFalse}
 use Rattle.std.specs.Option.{IsSomeAnd}
@@ -17,7 +17,7 @@ use Rattle.bpf_insn.specs.Plain.{Rule, IsWithin, IsPlain, rule_at, zero_unless, 
 
 -- ---- a table of 256 numbers
 
--- the numbers of those below n
+-- the values of a function at 0 to n - 1
 abbrev pub listed : (ℕ → ℕ) → ℕ → List ℕ
 listed f zero = []
 listed f (suc n) = f n ∷ listed f n
@@ -48,7 +48,7 @@ unfolding off_of imm_of
 number_by_fields Little f = omega arith
 number_by_fields Big f = omega arith
 
--- ---- each part by itself
+-- ---- each field by itself
 
 and_joined : (op r o k R O K : ℕ) → op < 2 ^ 8 → r < 2 ^ 8 → R < 2 ^ 8 → o < 2 ^ 16 → O < 2 ^ 16
     → bit_and (joined op r o k) (joined 0 R O K) ≡ joined (bit_and op 0) (bit_and r R) (bit_and o O) (bit_and k K)
@@ -88,7 +88,7 @@ on_false : (any : Bool) {A B : Type 0} → (A → B) → OnFalse any A → OnFal
 on_false true f h = tt
 on_false false f h = f h
 
--- a word is 0 where its bytes are
+-- a number is 0 if its bytes are
 zero_word16 : (order : Order) (n : ℕ) → n < 2 ^ 16 → from_le_bytes w16 (word16 order n) ≡ 0 → n ≡ 0
 zero_word16 Little n h e = sym (from_le_bytes-to_le_bytes_2 n h) ∙ e
 zero_word16 Big n h e = omega arith
@@ -113,7 +113,7 @@ no_imm : (order : Order) (f : Fields) → AreFields f → imm_of order f ≡ 0 �
 unfolding imm_of
 no_imm order f a e = signed_32 f.imm (pos 0) a.imm (omega (arith, ints)) (zero_word32 order _ (pattern_fits_32 f.imm a.imm) e)
 
--- ---- the whole
+-- ---- the entire slot
 
 registers_below : (order : Order) (d s : ℕ) → d < 16 → s < 16 → register_byte order d s < 2 ^ 8
 registers_below Little d s hd hs = omega arith
@@ -179,7 +179,7 @@ second_byte Big f = refl
 is_zero : (n : ℕ) (b : Bool) → b ≡ (n == 0) → b ≡ true → n ≡ 0
 is_zero n b e t = grind (arith, nat_tests)
 
--- a slot is plain by its bits
+-- a slot is plain if the check of its bits and registers returns 0
 pub plain_by_bits : (order : Order) (f : Fields) (bytes : List ℕ) (word bits above : ℕ) → AreFields f → bytes ≡ spelled order f → word ≡ from_le_bytes w64 bytes
     → bits ≡ zero_bits_at order f.opcode → above ≡ registers_above (slice_index bytes 1) → IsTrue (bit_or (bit_and (bit_or word 1) bits) above == 0) → IsPlain f
 plain_by_bits order f bytes word bits above a e hw hb ha reported =

@@ -4,6 +4,6 @@ use Rattle.bpf_insn.specs.Plain.{registers_above}
 use Rattle.bpf_insn.proofs.ZeroBits.{same_table}
 use Rattle.bpf_insn.proofs.plain.registers_above_ten.Goals as goal
 
--- the table agrees with the definition at each of the 256 bytes, by computing
+-- the table agrees with the definition at each of the 256 bytes, by computation
 pub returns : goal.returns
 returns c = same_table (slice_index ABOVE) registers_above refl c.args.registers (omega arith)
