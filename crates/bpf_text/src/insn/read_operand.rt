@@ -1,6 +1,7 @@
 //! Reading the operands of a line from its tokens.
 
-ghost use Rattle.std.specs.Prelude.{◌≡◌, ◌∷◌, [], List, map, length, ◌+◌, ◌≤◌, drop, IfSome, IfNone};
+ghost use Rattle.std.specs.Prelude.{◌≡◌, ◌∷◌, [], List, map, length, ◌+◌, ◌≤◌, drop};
+ghost use Rattle.std.specs.Prelude.{IfSome, IfNone};
 ghost use Rattle.bpf_text.specs.insn.Operands.{LineOperand, SpellsOperands, is_comma};
 ghost use Rattle.bpf_text.specs.insn.Numbers.{IsReadAs, ReadsOperand};
 ghost use Rattle.std.specs.List.{AllZip, position_or_len};
