@@ -59,7 +59,7 @@ fitted(HEADER["str_off"][1], "where the string section begins, counted from hdr_
 STRINGS = tuple(map(number, fitted(HEADER["str_len"][1], r"([\d,]+) to ([\d,]+)")))
 same("str_len", (STRINGS[0] - 1, STRINGS[1]), tuple(when("StringLength", "N or over N")))
 
-# The phases: the first and the last cause of the header, of the string section and of framing.
+# The phases: the first and the last cause for the header, the string section and framing.
 PHASES = r"Causes (\d+) to (\d+) concern the header, (\d+) and (\d+) the string section, (\d+) to (\d+) the framing of records"
 ENDS = "ShortHeader", "FileLength", "FirstString", "LastString", "RecordCut", "TailCut"
 same("the phases", tuple(map(int, said("Faults in BTF", PHASES))), tuple(NUMBERS[cause] for cause in ENDS))

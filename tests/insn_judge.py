@@ -1,7 +1,7 @@
 """What docs/FORMATS.md and docs/FAULTS.md say about instructions: the first fault of bytes, the line of an instruction, its group.
 
-All forms of instructions come from the tables of FORMATS (insn_page.py). An instruction is checked field by field: the forms that match
-its bytes so far remain, and the field for which none remains is at fault.
+The tables of FORMATS list all forms of instructions (insn_page.py). An instruction is checked field by field: the forms that match
+its bytes so far remain, and the field for which none remains is faulty.
 """
 
 import functools

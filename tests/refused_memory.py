@@ -6,8 +6,8 @@ The second argument is the shared object that is built from refuse_allocation.c.
 and for clap is refused too, which no test inside the crates can do.
 
 Whatever is refused, three results are right: the one with ample memory; status 3 with `no memory`; status 3 with
-`no words`, if the command couldn't store its own arguments. There is no output then, except a prefix of it from
-insn-canon, which writes as it reads, and the first piece or nothing from a command that writes in pieces.
+`no words`, if the command couldn't store its own arguments. Nothing is written then, except a prefix of the output by
+insn-canon, which writes as it reads, and the first piece or nothing by a command that writes in pieces.
 """
 
 import os

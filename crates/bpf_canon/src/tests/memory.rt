@@ -131,7 +131,7 @@ fn same_insns_allocates_nothing(rt: HostRuntime) -> Result<(), Fail> {
     Ok(())
 }
 
-/// Feeds exits in pieces of 14 bytes. It returns the number of bytes that were fed before a growth failed.
+/// Feeds exits in 14-byte pieces. It returns the number of bytes that were fed before a growth failed.
 fn feed_pieces<A: Allocator>(rt: &impl Abort, out: &mut Vec<u8, A>) -> usize {
     let mut feed = InsnFeed::new(Order::Little, Order::Little);
     let mut at = 0;
