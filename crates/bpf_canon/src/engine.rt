@@ -1,4 +1,4 @@
-//! What the engines on instructions and on BTF share: how they stop, and how they write.
+//! The errors and writes that the engines for instructions and for BTF share.
 ghost use Rattle.std.specs.Prelude.{◌≡◌, ◌<◌, ◌+◌, length, IfOk, IfErr, OnOk};
 ghost use Rattle.std.specs.Io.KnownBytes.{Appends};
 ghost use Rattle.bpf_canon.specs.Engine.{PutStops};
@@ -6,13 +6,14 @@ ghost use Rattle.bpf_canon.specs.Engine.{PutStops};
 use crate::device::sink::{ByteSink, put_all};
 use thiserror::Error;
 
-/// Why an engine stopped. `F` is a fault of its input.
+/// Why [`run_insns`](crate::run_insns) or [`run_btf`](crate::run_btf) stopped. `F` is the type of a
+/// fault of the input.
 #[derive(Clone, Copy, Debug, PartialEq, Eq, Error)]
 pub enum RunCause<F> {
-    /// The input has this fault.
+    /// The input is invalid: its first fault.
     #[error("Fault")]
     Fault(F),
-    /// More bytes came than the limit allows.
+    /// The input is longer than the limit.
     #[error("TooLong")]
     TooLong,
     /// A read of the source failed.
@@ -21,36 +22,36 @@ pub enum RunCause<F> {
     /// A write to the sink failed.
     #[error("WriteFailed")]
     WriteFailed,
-    /// The allocator is out of memory.
+    /// An allocation failed.
     #[error("Memory")]
     Memory,
 }
 
-/// How an engine stopped.
+/// The error of [`run_insns`](crate::run_insns) or [`run_btf`](crate::run_btf).
 #[derive(Clone, Copy, Debug, PartialEq, Eq, Error)]
 #[error("{cause}")]
 pub struct RunError<F> {
     /// Why it stopped.
     pub cause: RunCause<F>,
-    /// The number of bytes that the sink took.
+    /// The number of bytes that the sink accepted before.
     pub written: u64,
 }
 
-/// Why two files couldn't be compared. `F` is a fault of a file.
+/// Why two files couldn't be compared. `F` is the type of a fault of a file.
 #[derive(Clone, Copy, Debug, PartialEq, Eq, Error)]
 pub enum SideError<F> {
-    /// The first file has this fault.
+    /// The first file is invalid: its first fault.
     #[error("First")]
     First(F),
-    /// The second file has this fault, and the first has none.
+    /// The second file is invalid, and the first is valid: the first fault of the second.
     #[error("Second")]
     Second(F),
-    /// The allocator is out of memory.
+    /// An allocation failed.
     #[error("Memory")]
     Memory,
 }
 
-/// The error of an engine that stops for a cause when the sink has taken `written` bytes.
+/// The error for a cause, after the sink has accepted `written` bytes.
 pub(crate) fn stopped<F>(cause: RunCause<F>, written: u64) -> RunError<F>
     ensures cause { result.cause ≡ cause }
     ensures written { result.written ≡ written }

@@ -1,4 +1,5 @@
-//! Canonical bytes of instructions: whole, in pieces, from a source to a sink, and compared.
+//! Canonical bytes of instructions: of a complete file, from pieces, from a source to a sink, and
+//! comparison.
 
 pub(crate) mod canon;
 pub(crate) mod feed;

@@ -1,4 +1,4 @@
-//! Canonical bytes of eBPF instructions and of BTF, and the devices and engines that move them.
+//! Canonical bytes of eBPF instructions and of BTF, for byte slices and from a source to a sink.
 #![tactic(auto)]
 
 mod btf;

@@ -1,33 +1,35 @@
-//! Laws of canonical BTF, over the definitions alone.
+//! Laws of canonical BTF, stated over the definitions only.
 //!
-//! Each function does nothing. Its contract is the law, for all lists of bytes and of records.
+//! Each function does nothing. Its contract is the law, for all byte sequences and all lists of
+//! records.
 ghost use Rattle.std.specs.Prelude.{ℕ, List};
 ghost use Rattle.btf_types.specs.strings.TableLaws.{SectionsAreCut, NamesEndStrings, HostsEndApart};
 ghost use Rattle.btf_types.specs.strings.TableLaws.{NextHasHost};
 ghost use Rattle.bpf_canon.specs.btf.BtfLaws.{CanonicalBtfIsAccepted, CanonicalBtfTellsApart};
 ghost use Rattle.bpf_canon.specs.btf.BtfLaws.{CanonicalBtfIsShortest, HostsFitSections};
 
-/// The canonical bytes of good records, in either order, are a file that denotes these records.
+/// The canonical bytes of valid records, in either byte order, are a valid file that denotes these
+/// records.
 pub fn canonical_btf_is_accepted()
     ensures { CanonicalBtfIsAccepted }
 {}
 
-/// Good records with the same canonical bytes are the same.
+/// Valid lists of records with the same canonical bytes are equal.
 pub fn canonical_btf_tells_apart()
     ensures { CanonicalBtfTellsApart }
 {}
 
-/// No file is shorter than the canonical bytes of the records that it denotes.
+/// No valid file is shorter than the canonical bytes of the records that it denotes.
 pub fn canonical_btf_is_shortest()
     ensures { CanonicalBtfIsShortest }
 {}
 
-/// The hosts, which are the names of the string table, end different strings of a section that
-/// spells them.
+/// Each host (a name that isn't a suffix of another name, and therefore has its own string in the
+/// canonical table) ends a different string of any section that contains all names.
 ///
-/// A section that begins and ends with NUL is cut after each NUL. Each name in it is a suffix of
-/// one of these strings, and no string ends with two different hosts. So a section that has all
-/// hosts is at least as long as their table.
+/// A section that begins and ends with NUL is split after each NUL. Each name in it is a suffix of
+/// one of these strings, and no string ends with two different hosts. Therefore a section that
+/// contains all hosts is at least as long as their table.
 pub fn hosts_end_different_strings()
     ensures cut { (section : List ℕ) → SectionsAreCut section }
     ensures ends { (section : List ℕ) (strings : List (List ℕ)) → NamesEndStrings section strings }
@@ -35,8 +37,8 @@ pub fn hosts_end_different_strings()
     ensures fit { HostsFitSections }
 {}
 
-/// With the kept names sorted by their bytes from the end, a name that is a suffix of any other
-/// name is a suffix of the next one, and has its host.
+/// If the names are sorted by their reversed bytes, a name that is a suffix of any other name is a
+/// suffix of the next one, and both have the same host.
 pub fn next_name_tells_host()
     ensures { (xs sorted : List (List ℕ)) → NextHasHost xs sorted }
 {}

@@ -1,4 +1,4 @@
-//! The canonical bytes of BTF files.
+//! Canonical bytes of BTF files.
 ghost use Rattle.std.specs.Prelude.{◌≡◌, List, IfOk, IfErr, MatchResult};
 ghost use Rattle.bpf_words.specs.declared.Order.TheVariants.{Little};
 ghost use Rattle.btf_types.specs.Values.{TypeRecord};
@@ -12,14 +12,14 @@ use bpf_words::Order;
 use btf_types::{BtfError, BtfView};
 use std::alloc::Allocator;
 
-/// The canonical bytes of a BTF file (btf.rst section 2), in little-endian order.
+/// The canonical bytes of a BTF file (btf.rst section 2), in little-endian byte order.
 ///
-/// They are a file of the same types, and their own canonical bytes.
+/// They are a valid file with the same types in the same order, and canonicalise to themselves.
 ///
 /// # Errors
 ///
-/// `Fault` with the first fault of the file; its place counts from the file's first byte. `Memory`
-/// if the allocator is out of memory.
+/// `Fault` with the first fault of the file and its offset in bytes from the start of `bytes`.
+/// `Memory` if an allocation failed.
 pub fn canon_btf<A: Allocator + Copy>(alloc: A, bytes: &[u8]) -> Result<Vec<u8, A>, BtfError>
     ensures found { IfOk result (λ canon. IsCanonicalBtf bytes.now canon.items) }
     ensures all { (v : List TypeRecord) → Denotes bytes.now v
@@ -30,15 +30,15 @@ pub fn canon_btf<A: Allocator + Copy>(alloc: A, bytes: &[u8]) -> Result<Vec<u8, 
     canonical_in(alloc, Order::Little, bytes)
 }
 
-/// The canonical bytes of a BTF file (btf.rst section 2) in the order `to`.
+/// The canonical bytes of a BTF file (btf.rst section 2) in the byte order `to`.
 ///
-/// In little-endian order they are the answer of [`canon_btf`]. In either order they are what
-/// [`write_btf`] writes of the file's records.
+/// In little-endian order they are the result of [`canon_btf`]. In either order they are what
+/// [`write_btf`] writes for the records of the file.
 ///
 /// # Errors
 ///
-/// `Fault` with the first fault of the file; its place counts from the file's first byte. `Memory`
-/// if the allocator is out of memory.
+/// `Fault` with the first fault of the file and its offset in bytes from the start of `bytes`.
+/// `Memory` if an allocation failed.
 pub fn canonical_in<A: Allocator + Copy>(
     alloc: A,
     to: Order,

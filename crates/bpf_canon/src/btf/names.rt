@@ -1,4 +1,4 @@
-//! The string table of a table that lends no sections, from the texts of its names.
+//! The string table for a type table that exposes no sections, built from its names.
 
 pub(crate) mod kept;
 pub(crate) mod shared;

@@ -12,27 +12,27 @@ use btf_raw::BtfFault;
 use btf_types::BtfError;
 use std::alloc::Allocator;
 
-/// The most bytes of BTF that an engine takes from a source: the longest header, record section and
-/// string section that a file can have.
+/// The largest BTF input, in bytes, that [`run_btf`] accepts: the largest header, type section and
+/// string section that a valid file can contain.
 pub const BTF_LIMIT: u64 = 50_335_744;
 
-/// Reads a BTF file to the source's end, and writes its canonical bytes in the order `to` (btf.rst
-/// section 2), all that are left at each write. It returns the number of bytes written. Each read
-/// offers 4,096 bytes of room, and the input is kept whole.
+/// Reads a BTF file until the source ends, writes its canonical bytes in the byte order `to`
+/// (btf.rst section 2), and returns the number of bytes written. Each read has a buffer of 4,096
+/// bytes, each write offers all the remaining bytes, and the entire input is kept in memory.
 ///
 /// # Errors
 ///
-/// In each, `written` is the number of bytes that the sink took.
+/// In each error, `written` is the number of bytes that the sink accepted.
 ///
-/// - `ReadFailed` if a read failed, and `TooLong` if more than [`BTF_LIMIT`] bytes came. Both come
-///   before any `Fault`.
-/// - `Fault` with the first fault of the input, once the source ended; its place counts from the
-///   input's first byte.
+/// - `ReadFailed` if a read failed, and `TooLong` if the source has more than [`BTF_LIMIT`] bytes.
+///   Both have precedence over `Fault`.
+/// - `Fault` with the first fault of the input and its offset in bytes from the start of the input;
+///   the input is checked only after the source has ended.
 /// - `WriteFailed` if a write failed.
-/// - `Memory` if the allocator is out of memory.
+/// - `Memory` if an allocation failed.
 ///
-/// At `WriteFailed` the sink has taken a prefix of the canonical bytes; at all others it has taken
-/// nothing.
+/// On `WriteFailed` the sink has accepted a prefix of the canonical bytes; on any other error it
+/// has accepted nothing.
 pub fn run_btf<A: Allocator + Copy, S: ByteSource, W: ByteSink>(
     alloc: A,
     source: &mut S,
@@ -48,7 +48,7 @@ pub fn run_btf<A: Allocator + Copy, S: ByteSource, W: ByteSink>(
         StopsBtf (devices (S.remaining source.old) (S.remaining source.new) (W.contents sink.old)
         (W.contents sink.new)) to e.written e.cause) }
 
-    // Each failure of a device is reported, and nothing else is reported as one.
+    // Every device failure is reported, and nothing else is reported as one.
     ensures healthy { OnOk result ((S.failures source.new ≡ S.failures source.old)
         × (W.failures sink.new ≡ W.failures sink.old)) }
     ensures reads { IfErr result (λ e. S.failures source.new

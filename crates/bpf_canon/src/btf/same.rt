@@ -1,4 +1,4 @@
-//! Whether two BTF files have the same types.
+//! Comparison of two BTF files.
 ghost use Rattle.std.specs.Prelude.{IfOk, IfErr};
 ghost use Rattle.bpf_canon.specs.btf.SameBtf.{ComparesBtf, NamesBtfSide};
 
@@ -9,7 +9,7 @@ use btf_raw::BtfFault;
 use btf_types::{BtfError, BtfView};
 use std::alloc::Allocator;
 
-/// Judges a file that is compared with itself.
+/// Validates a file that is compared with itself.
 fn same_file<A: Allocator>(alloc: A, bytes: &[u8]) -> Result<bool, SideError<BtfFault>>
     ensures same { IfOk result (ComparesBtf bytes.now bytes.now) }
     ensures fault { IfErr result (NamesBtfSide bytes.now bytes.now) }
@@ -21,18 +21,18 @@ fn same_file<A: Allocator>(alloc: A, bytes: &[u8]) -> Result<bool, SideError<Btf
     }
 }
 
-/// Whether two BTF files denote the same records. That is so exactly where their canonical bytes
-/// are the same.
+/// Whether two BTF files (btf.rst section 2) denote the same records, which is the case if and only
+/// if their canonical bytes are equal.
 ///
-/// The canonical bytes of both files are made and compared, so the call takes the time of the
-/// files, also where names are long and shared. If both files have the same bytes, one is judged,
-/// and nothing is made.
+/// The canonical bytes of both files are computed and compared, so the call needs about the time of
+/// [`canon_btf`](crate::canon_btf) for each file, even if names are long and shared. If both files
+/// are byte for byte equal, one is validated and no canonical bytes are computed.
 ///
 /// # Errors
 ///
-/// `First` and `Second` with the first fault of that file; its place counts from the file's first
-/// byte. `Second` is reported only if the first file has no fault. `Memory` if the allocator is out
-/// of memory.
+/// `First` or `Second` with the first fault of that file and its offset in bytes from the start of
+/// the file. `Second` is returned only if the first file is valid. `Memory` if an allocation
+/// failed.
 pub fn same_btf<A: Allocator>(alloc: A, a: &[u8], b: &[u8]) -> Result<bool, SideError<BtfFault>>
     ensures same { IfOk result (ComparesBtf a.now b.now) }
     ensures fault { IfErr result (NamesBtfSide a.now b.now) }

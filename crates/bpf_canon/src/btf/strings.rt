@@ -1,8 +1,9 @@
-//! The string table in which the names of a file share suffixes (btf.rst section 2.1), found from
-//! string offsets alone.
+//! The string table in which the names of a file share suffixes (btf.rst section 2.1), computed
+//! from string offsets only.
 //!
-//! A name is, one after the other: an offset of a record, a used offset of the section, a text up
-//! to the next NUL, a rank among the longest texts, a host, and a place in the new table.
+//! A name passes through these stages: a name_off of a record, a used offset of the section, the
+//! string up to the next NUL, a rank among the sorted longest strings, a host, and an offset in the
+//! new table.
 
 pub(crate) mod first_uses;
 mod host_places;

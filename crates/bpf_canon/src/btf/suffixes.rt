@@ -1,11 +1,11 @@
-//! Texts by their bytes from the end.
+//! Order of strings by their reversed bytes.
 ghost use Rattle.std.specs.Prelude.{◌≡◌, ◌<◌, ℕ, slice_index_or, reverse};
 ghost use Rattle.btf_types.specs.strings.SharedNames.{tail_cmp};
 ghost use Rattle.bpf_canon.specs.btf.strings.SuffixKeys as spec;
 
 use std::cmp::Ordering;
 
-/// The byte `back` places before the last one, or 0 if the text is shorter.
+/// The byte `back` positions before the last one, or 0 if the string is shorter.
 fn byte_before(text: &[u8], back: usize) -> u8
     requires { back < 8 }
     ensures byte { result ≡ slice_index_or (reverse text.now) back 0 }
@@ -41,7 +41,7 @@ pub(crate) fn suffix_key(text: &[u8]) -> u64
     ])
 }
 
-/// Compares two texts by their bytes from the end, eight at a time.
+/// Compares two strings by their reversed bytes, eight at a time.
 pub(crate) fn compare_from_end(a: &[u8], b: &[u8]) -> Ordering
     ensures { result ≡ tail_cmp a.now b.now }
 {

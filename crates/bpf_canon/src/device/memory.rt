@@ -1,4 +1,4 @@
-//! Devices over memory, which give and take in pieces and fail from a chosen call on.
+//! In-memory devices, which read and write in pieces and fail from a chosen call on.
 ghost use Rattle.std.specs.Prelude.{◌≡◌, ◌<◌, Option, Some, length, min, Result, Ok, Err, IsErr};
 ghost use Rattle.std.specs.Prelude.{IsOk, IfOk, ◌≢◌, ◌↔◌};
 ghost use Rattle.std.specs.Io.{ReadsAtMost, WritesAtMost};
@@ -10,7 +10,7 @@ use crate::device::sink::ByteSink;
 use crate::device::source::ByteSource;
 use std::alloc::{Allocator, Global};
 
-/// A source over a slice, which gives at most a piece at each read.
+/// A source over a slice, which returns at most one piece per read.
 #[derive(Drop)]
 pub struct MemSource<'a> {
     rest: &'a [u8],
@@ -25,8 +25,9 @@ impl<'a> MemSource<'a> {
     ghost use Rattle.bpf_canon.specs.device.Memory.{source_bytes, source_failures, source_pace};
     ghost use Rattle.bpf_canon.specs.device.Memory.{new_pace};
 
-    /// Gives `piece` bytes at each read, fewer only where the buffer or the rest is shorter. It
-    /// fails from read number `fuse` on, counted from 1.
+    /// Creates a source that returns `piece` bytes per read, which must be more than 0, and fewer
+    /// only if the buffer or the rest is shorter. Every read from number `fuse` on, counted from 1,
+    /// fails; with `None` no read fails.
     pub fn new(bytes: &'a [u8], piece: usize, fuse: Option<u64>) -> MemSource<'a>
         requires { 0 < piece }
         ensures pace { source_pace result ≡ new_pace piece fuse }
@@ -75,7 +76,7 @@ impl ByteSource for MemSource<'_> {
     }
 }
 
-/// A sink onto a vector, which takes at most a piece at each write.
+/// A sink that appends to a vector, at most one piece per write.
 #[derive(Drop)]
 pub struct MemSink<'a, A: Allocator = Global> {
     out: &'a mut Vec<u8, A>,
@@ -89,8 +90,9 @@ pub struct MemSink<'a, A: Allocator = Global> {
 impl<'a, A: Allocator> MemSink<'a, A> {
     ghost use Rattle.bpf_canon.specs.device.Memory.{sink_bytes, sink_failures, sink_pace, new_pace};
 
-    /// Takes `piece` bytes at each write, fewer only where fewer are offered. It fails from write
-    /// number `fuse` on, counted from 1. A write for which the vector can't grow fails too.
+    /// Creates a sink that accepts `piece` bytes per write, which must be more than 0, and fewer
+    /// only if fewer are offered. Every write from number `fuse` on, counted from 1, fails; with
+    /// `None` only a write for which the vector can't grow fails.
     pub fn new(out: &'a mut Vec<u8, A>, piece: usize, fuse: Option<u64>) -> MemSink<'a, A>
         requires { 0 < piece }
         ensures pace { sink_pace result ≡ new_pace piece fuse }
@@ -122,7 +124,7 @@ impl<A: Allocator> ByteSink for MemSink<'_, A> {
             (Some (sink_bytes self.new)) result bytes.now }
         ensures count { CountsFailure (sink_failures self.old) (sink_failures self.new) result }
 
-        // A write within the fuse fails only where the vector has to grow and can't.
+        // A write before number `fuse` fails only if the vector has to grow and can't.
         ensures fails { (sink_pace self.old).good_calls ≡ Some 0 → IsErr result }
         ensures succeeds { (sink_pace self.old).good_calls ≢ Some 0
             → HasRoom self.old (min (sink_pace self.old).piece (length bytes.now)) → IsOk result }

@@ -1,4 +1,4 @@
-//! Where bytes go.
+//! Sinks of bytes.
 ghost use Rattle.std.specs.Prelude.{◌<◌, ℕ, List, Option, length, take, IfOk, OnOk, IfErr};
 ghost use Rattle.std.specs.Io.{WritesAtMost};
 ghost use Rattle.std.specs.Io.KnownBytes.{Appends, WriteAppends};
@@ -6,20 +6,20 @@ ghost use Rattle.bpf_canon.specs.device.Device.{CountsFailure};
 
 use crate::device::DeviceFailed;
 
-/// A sink of bytes, which takes at each write what it has room for.
+/// A sink of bytes. A write may accept fewer bytes than it is offered.
 pub trait ByteSink {
-    /// The bytes that the sink has taken, if it knows them.
+    /// The bytes that the sink has accepted, if it knows them.
     ghost contents: { Self → Option (List ℕ) };
 
     /// The number of writes that have failed since the sink was made.
     ghost failures: { Self → ℕ };
 
-    /// Writes bytes from the front of the slice. `Ok(n)` says that the first `n` of them were
-    /// taken, at least one unless the slice is empty.
+    /// Writes a prefix of the slice. `Ok(n)` means that the first `n` bytes were accepted, at least
+    /// one unless the slice is empty.
     ///
     /// # Errors
     ///
-    /// `DeviceFailed` if the write failed; nothing was taken then.
+    /// `DeviceFailed` if the write failed; then nothing was accepted.
     fn write(&mut self, bytes: &[u8]) -> Result<usize, DeviceFailed>
         requires { failures self.old < u64.MAX }
         ensures bound { WritesAtMost result bytes.now }
@@ -28,12 +28,11 @@ pub trait ByteSink {
         ensures count { CountsFailure (failures self.old) (failures self.new) result };
 }
 
-/// Writes all the bytes. Each write offers all that is left.
+/// Writes all the bytes. Each write offers all the remaining bytes.
 ///
 /// # Errors
 ///
-/// `Err(n)` at the first write that fails, where the sink has taken the first `n` bytes, and no
-/// more.
+/// `Err(n)` if a write fails; the sink has then accepted exactly the first `n` bytes.
 pub fn put_all<W: ByteSink>(sink: &mut W, bytes: &[u8]) -> Result<(), u64>
     requires { W.failures sink.old < u64.MAX }
     ensures ok { OnOk result (Appends (W.contents sink.old) (W.contents sink.new) bytes.now) }

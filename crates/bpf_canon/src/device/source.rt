@@ -1,4 +1,4 @@
-//! Where bytes come from.
+//! Sources of bytes.
 ghost use Rattle.std.specs.Prelude.{◌≡◌, ◌<◌, ◌≤◌, ◌+◌, ℕ, List, Option, length, IfOk, OnOk, IfErr};
 ghost use Rattle.std.specs.Io.{ReadsAtMost};
 ghost use Rattle.std.specs.Io.KnownBytes.{Consumes, IsAtEnd, ReadConsumes};
@@ -10,20 +10,20 @@ use crate::device::DeviceFailed;
 use std::alloc::{AllocError, Allocator};
 use thiserror::Error;
 
-/// A source of bytes, which gives at each read what it has at hand.
+/// A source of bytes. A read may return fewer bytes than the buffer holds.
 pub trait ByteSource {
-    /// The bytes that are still to come, if the source knows them.
+    /// The bytes that haven't been read yet, if the source knows them.
     ghost remaining: { Self → Option (List ℕ) };
 
     /// The number of reads that have failed since the source was made.
     ghost failures: { Self → ℕ };
 
-    /// Reads into the front of the buffer. `Ok(n)` says that the buffer's first `n` bytes were
-    /// read; `n` is 0 for a buffer with room only at the end.
+    /// Reads into the start of the buffer. `Ok(n)` means that `n` bytes were read into the first
+    /// `n` bytes of the buffer; `n` is 0 only at the end of input, or if the buffer is empty.
     ///
     /// # Errors
     ///
-    /// `DeviceFailed` if the read failed; no byte came then.
+    /// `DeviceFailed` if the read failed; then no byte was read.
     fn read(&mut self, buffer: &mut [u8]) -> Result<usize, DeviceFailed>
         requires { failures self.old < u64.MAX }
         ensures bound { ReadsAtMost result buffer.new }
@@ -31,16 +31,16 @@ pub trait ByteSource {
         ensures count { CountsFailure (failures self.old) (failures self.new) result };
 }
 
-/// Why an input couldn't be read whole.
+/// Why an input couldn't be read to its end.
 #[derive(Clone, Copy, Debug, PartialEq, Eq, Error)]
 pub enum ReadError {
-    /// More bytes came than the limit allows.
+    /// The input is longer than the limit.
     #[error("TooLong")]
     TooLong,
     /// A read of the source failed.
     #[error("ReadFailed")]
     ReadFailed,
-    /// The allocator is out of memory.
+    /// An allocation failed.
     #[error("Memory")]
     Memory,
 }
@@ -53,13 +53,12 @@ impl From<AllocError> for ReadError {
     }
 }
 
-/// Reads to the source's end, and gives all the bytes that came. Each read offers 4,096 bytes of
-/// room.
+/// Reads until the source ends, and returns all its bytes. Each read has a buffer of 4,096 bytes.
 ///
 /// # Errors
 ///
-/// `TooLong` as soon as more than `limit` bytes came, `ReadFailed` at the first read that fails,
-/// and `Memory` if the allocator is out of memory.
+/// `TooLong` as soon as more than `limit` bytes have been read, `ReadFailed` as soon as a read
+/// fails, and `Memory` if an allocation failed.
 pub fn read_all<S: ByteSource, A: Allocator>(
     alloc: A,
     source: &mut S,

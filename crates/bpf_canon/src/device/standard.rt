@@ -1,4 +1,4 @@
-//! Devices over any reader and writer, as the standard streams are.
+//! Devices over any reader or writer, for example the standard streams.
 ghost use Rattle.std.specs.Prelude.{◌≡◌, ◌<◌};
 ghost use Rattle.bpf_canon.specs.device.Device.{AnswersRead, AnswersWrite};
 
@@ -7,7 +7,8 @@ use crate::device::sink::ByteSink;
 use crate::device::source::ByteSource;
 use std::io::{Read, Write};
 
-/// A reader as a source. Every error of the reader is a failed read, an interrupted one too.
+/// A source over a reader. Every error of the reader, even an interrupted read, counts as a failed
+/// read.
 #[derive(Drop)]
 pub struct ReaderSource<R> {
     reader: R,
@@ -15,7 +16,7 @@ pub struct ReaderSource<R> {
 }
 
 impl<R: Read> ReaderSource<R> {
-    /// A source that gives what the reader gives, and has not failed yet.
+    /// Wraps a reader.
     pub fn new(reader: R) -> ReaderSource<R>
         ensures bytes { ⟦<ReaderSource<R> as ByteSource>⟧.remaining result ≡ R.remaining reader }
         ensures healthy { ⟦<ReaderSource<R> as ByteSource>⟧.failures result ≡ 0 }
@@ -38,8 +39,8 @@ impl<R: Read> ByteSource for ReaderSource<R> {
     }
 }
 
-/// The answer of a source whose reader gave this one: an error of the reader is a failed read, and
-/// nothing else is.
+/// Converts the result of a reader to that of the source: an error of the reader is a failed read,
+/// and nothing else is.
 fn answer_read<E: Drop>(
     answer: Result<usize, E>,
     failed_reads: &mut u64,
@@ -56,8 +57,8 @@ fn answer_read<E: Drop>(
     }
 }
 
-/// A writer as a sink. Every error of the writer is a failed write, an interrupted one too, and so
-/// is a write that takes none of some bytes.
+/// A sink over a writer. Every error of the writer, even an interrupted write, counts as a failed
+/// write, and so does a write that accepts 0 of one or more bytes.
 #[derive(Drop)]
 pub struct WriterSink<W> {
     writer: W,
@@ -65,7 +66,7 @@ pub struct WriterSink<W> {
 }
 
 impl<W: Write> WriterSink<W> {
-    /// A sink that gives the writer what it takes, and has not failed yet.
+    /// Wraps a writer.
     pub fn new(writer: W) -> WriterSink<W>
         ensures bytes { ⟦<WriterSink<W> as ByteSink>⟧.contents result ≡ W.contents writer }
         ensures healthy { ⟦<WriterSink<W> as ByteSink>⟧.failures result ≡ 0 }
@@ -88,8 +89,9 @@ impl<W: Write> ByteSink for WriterSink<W> {
     }
 }
 
-/// The answer of a sink whose writer gave this one for `offered` bytes: an error of the writer is a
-/// failed write, and so is `Ok(0)` for one byte or more. `Ok(0)` for no bytes succeeds.
+/// Converts the result of a writer that was offered `offered` bytes to that of the sink: an error
+/// of the writer is a failed write, and so is `Ok(0)` for one byte or more. `Ok(0)` for no bytes
+/// succeeds.
 fn answer_write<E: Drop>(
     answer: Result<usize, E>,
     offered: usize,

@@ -1,4 +1,4 @@
-//! The canonical bytes of instruction files.
+//! Canonical bytes of instruction files.
 ghost use Rattle.std.specs.Prelude.{◌≡◌, List, IfOk, IfErr, MatchResult};
 ghost use Rattle.bpf_words.specs.declared.Order.TheVariants.{Little};
 ghost use Rattle.bpf_insn.specs.declared.insn.Insn.{Insn};
@@ -9,13 +9,13 @@ use crate::insn::feed::InsnFeed;
 use bpf_insn::{InsnError, Order};
 use std::alloc::Allocator;
 
-/// The canonical bytes of an instruction file: its instructions in little-endian order (RFC 9669
-/// section 3).
+/// The canonical bytes of an instruction file: its instructions in little-endian byte order (RFC
+/// 9669 section 3).
 ///
 /// # Errors
 ///
-/// `Fault` if the bytes are no file of instructions: their first fault, with its place counted from
-/// the first byte. `Memory` if the allocator is out of memory.
+/// `Fault` if the input isn't a valid sequence of instructions: its first fault, with the offset in
+/// bytes from the start of the input. `Memory` if an allocation failed.
 pub fn canon_insns<A: Allocator>(
     alloc: A,
     order: Order,
@@ -29,9 +29,9 @@ pub fn canon_insns<A: Allocator>(
     recode_insns(alloc, order, Order::Little, bytes)
 }
 
-/// The instructions of a file in the order `to` (RFC 9669 section 3).
+/// The instructions of a file, re-encoded in the byte order `to` (RFC 9669 section 3).
 ///
-/// The result has the length of the file. In little-endian order it is canonical, the answer of
+/// The result is as long as the file. In little-endian order it is canonical, the result of
 /// [`canon_insns`].
 ///
 /// # Errors

@@ -1,4 +1,4 @@
-//! Instructions that come in pieces.
+//! Instructions from a stream in pieces.
 ghost use Rattle.std.specs.Prelude.{◌≡◌, ◌<◌, ◌≤◌, ◌+◌, ◌-◌, ◌++◌, ℕ, List, [], Option, Some, None};
 ghost use Rattle.std.specs.Prelude.{length, take, vec_len, vec_capacity, IsErrOf, IsOk, IfSome};
 ghost use Rattle.std.specs.Prelude.{IsNone};
@@ -14,13 +14,13 @@ use bpf_insn::{InsnError, Order, SlotCause, SlotFault};
 use std::alloc::{AllocError, Allocator};
 use std::marker::Model;
 
-/// Reads instructions from the pieces of a stream in one order, and writes them in another as soon
-/// as they are whole. It holds fewer than 16 bytes of the stream.
+/// Reads instructions from the pieces of a stream in one byte order, and writes each in another as
+/// soon as it is complete. It holds fewer than 16 bytes of the stream.
 #[derive(Drop)]
 pub struct InsnFeed {
     order: Order,
     to: Order,
-    // begins with the bytes of an instruction that hasn't come whole
+    // begins with the bytes of the last, incomplete instruction
     held: [u8; 16],
     held_len: usize,
     fed: u64,
@@ -44,7 +44,8 @@ impl Model for InsnFeed {
 }
 
 impl InsnFeed {
-    /// A feed of the empty stream, which reads in the order `order` and writes in the order `to`.
+    /// Creates a feed with an empty stream, which reads in the byte order `order` and writes in
+    /// `to`.
     pub fn new(order: Order, to: Order) -> InsnFeed
         ensures represents { Represents result order to [] }
         ensures sound { result.fault ≡ None }
@@ -60,8 +61,7 @@ impl InsnFeed {
         }
     }
 
-    /// The number of bytes of the stream that are held. They begin an instruction that hasn't come
-    /// whole.
+    /// The number of bytes of the stream that are held: those of the last, incomplete instruction.
     pub fn held(&self) -> usize
         ensures held { result ≡ length self.now.held }
         ensures bound { result < 16 }
@@ -69,31 +69,31 @@ impl InsnFeed {
         self.held_len
     }
 
-    /// The number of bytes of the stream that came, through the end of the last piece that was
-    /// taken.
+    /// The length of the stream so far in bytes, up to the end of the last accepted piece.
     pub fn fed(&self) -> u64
         ensures { result ≡ self.now.fed }
     {
         self.fed
     }
 
-    /// The number of instructions of the stream that were whole.
+    /// The number of complete instructions of the stream so far.
     pub fn count(&self) -> u64
         ensures { result ≡ self.now.count }
     {
         self.count
     }
 
-    /// Takes the next piece of the stream, and appends to `out` the bytes of each instruction that
-    /// is whole now. The room for them is made first, at once.
+    /// Reads the next piece of the stream, and appends to `out` the bytes of each instruction that
+    /// is now complete. Their capacity is reserved first, in one step. The stream may not become
+    /// longer than `u64::MAX` bytes.
     ///
     /// # Errors
     ///
-    /// `Fault` if the stream has a fault that no more bytes can mend, with its place counted from
-    /// the stream's first byte. `out` has then gained the instructions before it, and every later
-    /// call returns this fault and changes nothing. `Memory` if the allocator is out of memory;
-    /// nothing has changed then, and the piece may be fed again. An empty piece takes no memory,
-    /// and neither does a piece after a fault.
+    /// `Fault` as soon as the slot that contains a fault is complete, with the fault's offset in
+    /// bytes from the start of the stream. The instructions before it have then been appended to
+    /// `out`, and every later call returns this fault and changes nothing. `Memory` if an
+    /// allocation failed; then nothing has changed, and the piece may be fed again. An empty piece
+    /// and a piece after a fault need no memory.
     pub fn feed<A: Allocator>(
         &mut self,
         piece: &[u8],
@@ -101,8 +101,8 @@ impl InsnFeed {
     ) -> Result<(), InsnError>
         requires { self.old.fed + length piece.now ≤ u64.MAX }
 
-        // If no fault is kept, the feed and the output move on with each stream that the feed
-        // represents, and the answer is that of the longer stream.
+        // If no fault is kept, the feed and the output advance for each stream that the feed
+        // represents, and the result is that of the longer stream.
         ensures moves { IsNone self.old.fault
             → Feeds self.old self.new piece.now out.old.items out.new.items result }
         ensures answer { (o to : Order) (b : List ℕ) → IsNone self.old.fault
@@ -113,7 +113,7 @@ impl InsnFeed {
         ensures kept { IfSome self.old.fault (λ f. IsErrOf result (InsnError.Fault f)
             × ((self.new ≡ self.old) × (out.new.items ≡ out.old.items))) }
 
-        // An empty piece takes no memory.
+        // An empty piece needs no memory.
         ensures empty { length piece.now ≡ 0 → IsNone self.old.fault → IsOk result }
 
         ensures bound { vec_len out.new
@@ -137,12 +137,12 @@ impl InsnFeed {
         }
     }
 
-    /// Ends the stream, and gives the number of its instructions.
+    /// Ends the stream, and returns the number of its instructions.
     ///
     /// # Errors
     ///
-    /// The fault of the stream: the one that was reported before, or `Truncated` at the slot whose
-    /// bytes are missing.
+    /// The fault that `feed` returned before, or `Truncated` with the offset in bytes from the
+    /// start of the stream of the slot whose bytes are missing.
     pub fn finish(self) -> Result<u64, SlotFault>
         ensures end { result ≡ end_of_feed self }
         ensures answer { (o to : Order) (b : List ℕ) → Represents self o to b
@@ -158,7 +158,7 @@ impl InsnFeed {
         }
     }
 
-    /// Reads the whole instructions of what is held and the piece, for which there is room.
+    /// Reads the complete instructions of the held bytes and the piece. Their capacity is reserved.
     fn advance<A: Allocator>(&mut self, piece: &[u8], out: &mut Vec<u8, A>)
         requires fits { self.old.fed + length piece.now ≤ u64.MAX }
         requires sound { self.old.fault ≡ None }
@@ -169,7 +169,7 @@ impl InsnFeed {
         let held = &self.held[..self.held_len];
         let read = read_front_across(self.order, self.to, held, piece, out);
         let start = self.fed - self.held_len as u64;
-        // An instruction takes all that was held, or it leaves all.
+        // An instruction consumes all held bytes, or none.
         let kept = self.held_len.saturating_sub(read.len);
         let left = &piece[read.len.saturating_sub(self.held_len)..];
         self.fed += piece.len() as u64;
@@ -188,15 +188,14 @@ impl InsnFeed {
     }
 }
 
-/// The start of the slot whose bytes are missing, counted from the first of the `held_len` bytes
-/// that are held.
+/// The offset of the slot whose bytes are missing, from the first of the `held_len` held bytes.
 fn missing_slot(held_len: usize) -> u64
     ensures { result ≡ missing_place held_len }
 {
     if held_len < 8 { 0 } else { 8 }
 }
 
-/// Copies bytes after the first `kept` ones of an array, and returns the number of bytes there now.
+/// Copies bytes into an array after its first `kept` ones, and returns the new number of bytes.
 fn hold(held: &mut [u8; 16], kept: usize, more: &[u8]) -> usize
     requires { kept + length more.now ≤ 16 }
     ensures len { result ≡ kept + length more.now }

@@ -1,4 +1,5 @@
-//! Whole instructions at the front of some bytes, read in one order and written in another.
+//! The complete instructions at the start of a buffer, read in one byte order and written in
+//! another.
 ghost use Rattle.std.specs.Prelude.{◌≡◌, ◌<◌, ◌≤◌, ◌+◌, ◌-◌, ◌++◌, List, Some, None, length, take};
 ghost use Rattle.std.specs.Prelude.{vec_len, vec_capacity, IfOk, IfErr};
 ghost use Rattle.bpf_insn.specs.declared.fault.SlotFault.{SlotFault};
@@ -12,8 +13,8 @@ use crate::insn::write::append_insn;
 use bpf_insn::{Insn, InsnFront, Order, SlotFault, insn_front, read_insn};
 use std::alloc::Allocator;
 
-/// The first fault of an instruction file, counted from its first byte, or `None` if it is one (RFC
-/// 9669 section 3).
+/// The first fault of an instruction file, with its offset in bytes from the start of the file, or
+/// `None` if the file is valid (RFC 9669 section 3).
 pub fn first_fault(order: Order, bytes: &[u8]) -> Option<SlotFault>
     ensures file { result ≡ None → (l : List Insn) × InsnFile order bytes.now l }
     ensures fault { (f : SlotFault) → result ≡ Some f → IsInsnFault order bytes.now f }
@@ -26,7 +27,8 @@ pub fn first_fault(order: Order, bytes: &[u8]) -> Option<SlotFault>
     })
 }
 
-/// Reads the whole instructions at the front of some bytes, and appends each in the order `to`.
+/// Reads the complete instructions at the start of `bytes`, and appends each in the byte order
+/// `to`.
 pub(crate) fn read_front<A: Allocator>(
     order: Order,
     to: Order,
@@ -42,7 +44,7 @@ pub(crate) fn read_front<A: Allocator>(
     read
 }
 
-/// Does the same for some bytes that were held and the piece that follows them.
+/// Like `read_front`, for held bytes followed by a piece.
 pub(crate) fn read_front_across<A: Allocator>(
     order: Order,
     to: Order,
@@ -78,8 +80,8 @@ pub(crate) fn read_front_across<A: Allocator>(
     }
 }
 
-/// The instruction that some held bytes begin and a piece completes, and the number of bytes of the
-/// piece that it takes.
+/// The instruction that begins with the held bytes and ends in the piece, and how many bytes of the
+/// piece belong to it.
 fn complete(order: Order, held: &[u8], piece: &[u8]) -> Result<(Insn, usize), SlotFault>
     requires short { length held.now < 16 }
     requires unspelled { BeginsNone order held.now }
@@ -97,7 +99,7 @@ fn complete(order: Order, held: &[u8], piece: &[u8]) -> Result<(Insn, usize), Sl
     }
 }
 
-/// Two slices, one after the other, and zeros.
+/// The concatenation of two slices, padded with zeros.
 fn join(first: &[u8], second: &[u8]) -> [u8; 16]
     requires { length first.now + length second.now ≤ 16 }
     ensures { take (length first.now + length second.now) result ≡ first.now ++ second.now }

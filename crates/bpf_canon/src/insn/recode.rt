@@ -1,8 +1,9 @@
-//! Instructions written in another order, without reading them again (RFC 9669 sections 3 and 4).
+//! Valid instructions re-encoded in another byte order, without decoding (RFC 9669 sections 3 and
+//! 4).
 //!
-//! The two orders differ in the register byte and in the order of the bytes of words. The second
-//! slot of a wide load has zeros for opcode, registers and offset. So every slot of 8 bytes is
-//! recoded in the same way.
+//! The two byte orders differ in the register byte and in the bytes of the offset and the
+//! immediate. In the second slot of a wide load the opcode, registers and offset are zero.
+//! Therefore every 8-byte slot is recoded in the same way.
 ghost use Rattle.std.specs.Prelude.{◌≡◌, ◌≢◌, ◌≤◌, ◌+◌, ◌*◌, ◌/◌, ◌%◌, ◌++◌, List, length, vec_len};
 ghost use Rattle.std.specs.Prelude.{vec_capacity};
 ghost use Rattle.bpf_words.specs.declared.Order.{Order};
@@ -13,11 +14,11 @@ ghost use Rattle.bpf_insn.specs.Spelling.{InsnFile, file_of};
 use bpf_insn::Order;
 use std::alloc::Allocator;
 
-/// The low byte of each halfword but the lowest one.
+/// The low byte of each halfword except the lowest one.
 const LOW_BYTES: u64 = 0x00ff_00ff_00ff_0000;
 
-/// Appends the instructions that the bytes spell in the order `order`, in the order `to`. There is
-/// room for them.
+/// Appends the instructions of valid `bytes` in the byte order `order`, re-encoded in the byte
+/// order `to`. Their capacity is reserved.
 pub(crate) fn append_recoded<A: Allocator>(
     order: Order,
     to: Order,
@@ -35,7 +36,8 @@ pub(crate) fn append_recoded<A: Allocator>(
     }
 }
 
-/// Appends each slot in the other order. All slots are copied at once, and then rewritten in place.
+/// Appends each slot in the other byte order. All slots are copied at once, and then rewritten in
+/// place.
 fn append_swapped<A: Allocator>(bytes: &[u8], out: &mut Vec<u8, A>)
     requires { vec_len out.old + length bytes.now ≤ vec_capacity out.old }
     ensures { (order to : Order) (insns : List Insn) → order ≢ to → InsnFile order bytes.now insns
@@ -46,7 +48,7 @@ fn append_swapped<A: Allocator>(bytes: &[u8], out: &mut Vec<u8, A>)
     swap_slots(&mut out[start..]);
 }
 
-/// Rewrites each slot in the other order.
+/// Rewrites each slot in the other byte order.
 fn swap_slots(bytes: &mut [u8])
     ensures { (order to : Order) (insns : List Insn) → order ≢ to → InsnFile order bytes.old insns
         → bytes.new ≡ file_of to insns }
@@ -59,10 +61,10 @@ fn swap_slots(bytes: &mut [u8])
     }
 }
 
-/// The bytes of a slot in the other order. The halves of the register byte, the two bytes of the
-/// offset and the four bytes of the immediate are reversed.
+/// The bytes of a slot in the other byte order. The halves of the register byte, the two bytes of
+/// the offset and the four bytes of the immediate are reversed.
 ///
-/// The slot is read as one number, and its parts are moved by masks and shifts:
+/// The slot is loaded as one 64-bit number, and its parts are moved by masks and shifts:
 ///
 /// ```text
 /// bit  0        8          12         16       32                   64
@@ -71,8 +73,7 @@ fn swap_slots(bytes: &mut [u8])
 ///                                     | word   | word     | word    |
 /// ```
 ///
-/// So the compiler makes vector instructions of a loop over slots, which it doesn't if single bytes
-/// are read.
+/// This lets the compiler vectorise a loop over slots; byte-by-byte code is not vectorised.
 #[inline(always)]
 pub(crate) fn swapped(slot: &[u8; 8]) -> [u8; 8]
     ensures { (order to : Order) → order ≢ to → (slot_fields : Fields) × (AreFields slot_fields

@@ -13,27 +13,27 @@ use crate::insn::feed::InsnFeed;
 use bpf_insn::{InsnError, Order, SlotFault};
 use std::alloc::Allocator;
 
-/// The most bytes of instructions that an engine takes from a source: 64 MiB.
+/// The largest input of instructions, in bytes, that [`run_insns`] accepts: 64 MiB.
 pub const INSN_LIMIT: u64 = 67_108_864;
 
-/// Reads instructions in one order to the source's end, and writes them in another as they come. It
-/// returns the number of bytes written. Each read offers 4,096 bytes of room, and the input isn't
-/// kept.
+/// Reads instructions in one byte order until the source ends, writes each in another as soon as it
+/// is complete (RFC 9669 section 3), and returns the number of bytes written. Each read has a
+/// buffer of 4,096 bytes, and the input isn't kept in memory.
 ///
 /// # Errors
 ///
-/// In each, `written` is the number of bytes that the sink took.
+/// In each error, `written` is the number of bytes that the sink accepted.
 ///
-/// - `Fault` if the input is no file of instructions: its first fault, with its place counted from
-///   the first byte. A fault in a complete slot comes before `ReadFailed` and `TooLong`;
-///   `Truncated` is reported only once the source ended.
-/// - `TooLong` if more than [`INSN_LIMIT`] bytes came.
-/// - `ReadFailed` and `WriteFailed` if that device failed.
-/// - `Memory` if the allocator is out of memory.
+/// - `Fault` if the input isn't a valid sequence of instructions: its first fault, with the offset
+///   in bytes from the start of the input. A fault in a complete slot has precedence over
+///   `ReadFailed` and `TooLong`; `Truncated` is returned only after the source has ended.
+/// - `TooLong` if the source has more than [`INSN_LIMIT`] bytes.
+/// - `ReadFailed` if a read failed, and `WriteFailed` if a write failed.
+/// - `Memory` if an allocation failed.
 ///
-/// At `Fault`, `TooLong` and `ReadFailed` the sink has taken the bytes of each whole instruction
-/// before the fault or the end of what was read within the limit. At `WriteFailed` and `Memory` it
-/// has taken a prefix of them.
+/// On `Fault`, `TooLong` and `ReadFailed` the sink has accepted each complete instruction before
+/// the fault, or before the end of the input that was read within the limit. On `WriteFailed` and
+/// `Memory` it has accepted a prefix of these bytes.
 pub fn run_insns<A: Allocator, S: ByteSource, W: ByteSink>(
     alloc: A,
     source: &mut S,
@@ -50,7 +50,7 @@ pub fn run_insns<A: Allocator, S: ByteSource, W: ByteSink>(
         Stops (devices (S.remaining source.old) (S.remaining source.new) (W.contents sink.old)
         (W.contents sink.new)) order to e.written e.cause) }
 
-    // Each failure of a device is reported, and nothing else is reported as one.
+    // Every device failure is reported, and nothing else is reported as one.
     ensures healthy { OnOk result ((S.failures source.new ≡ S.failures source.old)
         × (W.failures sink.new ≡ W.failures sink.old)) }
     ensures reads { IfErr result (λ e. S.failures source.new
@@ -83,7 +83,7 @@ pub fn run_insns<A: Allocator, S: ByteSource, W: ByteSink>(
     }
 }
 
-/// How many of n bytes are within the limit, if `before` bytes came before them.
+/// How many of the next `n` bytes are within the limit, after `before` bytes of input.
 fn within_limit(n: usize, before: u64) -> usize
     requires { before ≤ INSN_LIMIT }
     ensures { result ≡ min n (INSN_LIMIT - before) }
@@ -91,7 +91,8 @@ fn within_limit(n: usize, before: u64) -> usize
     n.min((INSN_LIMIT - before) as usize)
 }
 
-/// Feeds a piece, and writes what became whole. The vector is used again for each piece.
+/// Feeds a piece, and writes the instructions that are now complete. The vector is reused for each
+/// piece.
 fn pass_on<A: Allocator, W: ByteSink>(
     feed: &mut InsnFeed,
     piece: &[u8],

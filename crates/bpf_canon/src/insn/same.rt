@@ -1,4 +1,4 @@
-//! Whether two instruction files have the same instructions.
+//! Comparison of two instruction files.
 ghost use Rattle.std.specs.Prelude.{◌≡◌, ◌≢◌, ◌↔◌, List, Err, IsTrue, IfOk, IfErr};
 ghost use Rattle.bpf_words.specs.declared.Order.{Order};
 ghost use Rattle.bpf_insn.specs.declared.insn.Insn.{Insn};
@@ -11,17 +11,17 @@ use crate::insn::recode::swapped;
 use bpf_insn::{Order, SlotFault};
 use std::alloc::Allocator;
 
-/// Whether two files have the same instructions. Each is read in its own order. That is so exactly
-/// where their canonical bytes are the same.
+/// Whether two instruction files (RFC 9669 section 3), each in its own byte order, have the same
+/// instructions, which is the case if and only if their canonical bytes are equal.
 ///
-/// The files are compared where they are, and `alloc` isn't used. It is taken so that this call is
-/// made like [`same_btf`](crate::same_btf).
+/// The files are compared in place, and `alloc` isn't used. It is a parameter so that this call
+/// looks like [`same_btf`](crate::same_btf).
 ///
 /// # Errors
 ///
-/// `First` and `Second` if that file is no file of instructions: its first fault, with its place
-/// counted from the file's first byte. `Second` is reported only if the first file has no fault.
-/// `Memory` is never reported.
+/// `First` or `Second` if that file isn't a valid sequence of instructions: its first fault, with
+/// the offset in bytes from the start of the file. `Second` is returned only if the first file is
+/// valid. `Memory` is never returned.
 pub fn same_insns<A: Allocator>(
     alloc: A,
     order_a: Order,
@@ -36,7 +36,7 @@ pub fn same_insns<A: Allocator>(
     if let Some(fault) = first_fault(order_a, a) {
         return Err(SideError::First(fault));
     }
-    // what has the instructions of a file is one, and isn't judged again
+    // a file with the same instructions as a valid one is valid, and isn't checked again
     if is_recoded(order_a, a, order_b, b) {
         return Ok(true);
     }
@@ -46,7 +46,8 @@ pub fn same_insns<A: Allocator>(
     }
 }
 
-/// Whether `b` has, in the order `order_b`, the instructions that `a` has in the order `order_a`.
+/// Whether `b`, in the byte order `order_b`, has the instructions of `a` in the byte order
+/// `order_a`.
 fn is_recoded(order_a: Order, a: &[u8], order_b: Order, b: &[u8]) -> bool
     ensures { (insns : List Insn) → InsnFile order_a a.now insns
         → (IsTrue result ↔ (b.now ≡ file_of order_b insns)) }
@@ -58,7 +59,7 @@ fn is_recoded(order_a: Order, a: &[u8], order_b: Order, b: &[u8]) -> bool
     }
 }
 
-/// Whether the slots of `b` are those of `a` in the other order.
+/// Whether the slots of `b` are those of `a` in the other byte order.
 fn is_swapped(a: &[u8], b: &[u8]) -> bool
     ensures { (order to : Order) (insns : List Insn) → order ≢ to → InsnFile order a.now insns
         → (IsTrue result ↔ (b.now ≡ file_of to insns)) }

@@ -1,4 +1,4 @@
-//! The names of a table of types, each kept once, in the order of their first use.
+//! The distinct names of a type table, in the order of first use.
 ghost use Rattle.std.specs.Prelude.{◌≡◌, ◌<◌, ◌≤◌, ℕ, List, [], IfOk, OnOk, OnErr, length};
 ghost use Rattle.std.specs.Prelude.{slice_index_or};
 ghost use Rattle.std.specs.List.{Contains};
@@ -12,7 +12,7 @@ use std::alloc::{AllocError, Allocator};
 use std::hash::{BuildHasherDefault, FoldHasher};
 use std::marker::Model;
 
-/// Names that aren't empty, each once, in the order of their first use.
+/// Distinct non-empty names, in the order of first use.
 #[derive(Drop)]
 pub(crate) struct KeptNames<'a, A: Allocator> {
     pub(crate) names: IndexSet<&'a str, BuildHasherDefault<FoldHasher>, A>,
@@ -31,7 +31,7 @@ impl<'a, A: Allocator> Model for KeptNames<'a, A> {
 }
 
 impl<'a, A: Allocator + Copy> KeptNames<'a, A> {
-    /// No names.
+    /// Creates an empty set of names.
     pub(crate) fn new(alloc: A) -> Self
         ensures { result ≡ [] }
     {
@@ -57,7 +57,7 @@ impl<'a, A: Allocator + Copy> KeptNames<'a, A> {
         self.names.get_index_of(name).unwrap()
     }
 
-    /// Adds a name, unless it is empty or there already.
+    /// Adds a name, unless it is empty or already present.
     fn add(&mut self, name: &'a str) -> Result<(), AllocError>
         ensures ok { OnOk result (AddsName self.old self.new name.now) }
         ensures err { OnErr result (self.new ≡ self.old) }
@@ -87,7 +87,7 @@ fn add_record_names<'t, T: TypeTable, A: Allocator + Copy>(
     Ok(())
 }
 
-/// The kept names of a table.
+/// The distinct names of a type table.
 pub(crate) fn kept_names<'t, T: TypeTable, A: Allocator + Copy>(
     alloc: A,
     table: &'t T,

@@ -1,8 +1,9 @@
-//! The names of a table with their places in its string table, in which names share suffixes: each
-//! name is the end of its host.
+//! The names of a type table with their offsets in its string table. Names share suffixes there:
+//! each name is a suffix of its host.
 //!
-//! With the names sorted by their bytes from the end, a name that is a suffix of any other name is
-//! a suffix of the next one, and has its host. So each is compared with the next one alone.
+//! If the names are sorted by their reversed bytes, a name that is a suffix of any other name is a
+//! suffix of the next one, and both have the same host. Therefore each name is compared only with
+//! the next one.
 ghost use Rattle.std.specs.Prelude.{◌≡◌, ◌<◌, ◌^◌, ◌++◌, IfOk, OnOk, length};
 ghost use Rattle.btf_types.specs.Names.{kept, table_of};
 ghost use Rattle.btf_types.specs.strings.SharedNames.{hosts_of, shared_among};
@@ -14,7 +15,7 @@ use crate::btf::suffixes::compare_from_end;
 use std::alloc::{AllocError, Allocator};
 use std::marker::Model;
 
-/// The names with their indices, sorted by their bytes from the end.
+/// The names with their indices, sorted by their reversed bytes.
 fn sorted_from_end<'a, A: Allocator>(
     alloc: A,
     names: &[&'a str],
@@ -29,7 +30,7 @@ fn sorted_from_end<'a, A: Allocator>(
     Ok(sorted)
 }
 
-/// The index of the host of each name.
+/// The index of each name's host.
 fn found_hosts<'a, A: Allocator + Copy>(
     alloc: A,
     names: &[&'a str],
@@ -53,7 +54,7 @@ fn found_hosts<'a, A: Allocator + Copy>(
     Ok(hosts)
 }
 
-/// The place of each host in their table, by index, and the length of the table.
+/// The offset of each host in the string table, by index, and the length of the table in bytes.
 fn placed_hosts<A: Allocator>(
     alloc: A,
     names: &[&str],
@@ -76,11 +77,11 @@ fn placed_hosts<A: Allocator>(
     Ok((places, len))
 }
 
-/// Kept names that share suffixes.
+/// Distinct names that share suffixes.
 #[derive(Drop)]
 pub(crate) struct SharedNames<'a, A: Allocator> {
     kept: KeptNames<'a, A>,
-    // the index of the host of each name, and the place of each host
+    // the index of each name's host, and the offset of each host
     hosts: Vec<usize, A>,
     places: Vec<u32, A>,
     table_len: u32,
@@ -98,7 +99,7 @@ impl<'a, A: Allocator> Model for SharedNames<'a, A> {
 }
 
 impl<'a, A: Allocator + Copy> SharedNames<'a, A> {
-    /// Finds the places of the kept names.
+    /// Computes the offsets of the names.
     pub(crate) fn new(alloc: A, kept: KeptNames<'a, A>) -> Result<Self, AllocError>
         requires { length (table_of (hosts_of kept)) < 2 ^ 32 }
         ensures { IfOk result (λ n. n ≡ kept.entry) }
@@ -114,7 +115,7 @@ impl<'a, A: Allocator + Copy> SharedNames<'a, A> {
         })
     }
 
-    /// The place of a kept name, at the end of its host; the empty one is at the table's first NUL.
+    /// The offset of a name in the string table, within its host. The empty name has offset 0.
     pub(crate) fn place(&self, name: &str) -> u32
         requires { IsPlaced self.now name.now }
         ensures { result ≡ shared_among self.now name.now }
@@ -142,7 +143,7 @@ impl<'a, A: Allocator + Copy> SharedNames<'a, A> {
         Ok(())
     }
 
-    /// The length of the string table.
+    /// The length of the string table in bytes.
     pub(crate) fn table_len(&self) -> u32
         ensures { result ≡ length (table_of (hosts_of self.now)) }
     {

@@ -1,14 +1,14 @@
-//! The offsets of names in a string section, each once, in the order of first use.
+//! The distinct offsets of names in a string section, in the order of first use.
 ghost use Rattle.std.specs.Prelude.{◌≡◌, ◌≢◌, ◌/◌, ◌<◌, true, false, length, IfOk, OnOk};
 ghost use Rattle.bpf_canon.specs.btf.strings.FirstUses as spec;
 
 use std::alloc::{AllocError, Allocator};
 use std::marker::Model;
 
-/// Offsets of a string section at which names begin, each once, in the order of first use.
+/// The distinct offsets of a string section at which names begin, in the order of first use.
 ///
-/// Words of 64 bits have a bit for each byte of the section, the lowest bit first: little memory is
-/// cleared and touched.
+/// A bit set with one bit for each byte of the section, in 64-bit words, lowest bit first, so that
+/// little memory is cleared and touched.
 #[derive(Drop)]
 pub(crate) struct FirstUses<A: Allocator> {
     pub(crate) section_len: usize,
@@ -26,7 +26,7 @@ impl<A: Allocator> Model for FirstUses<A> {
     ghost invariant = { λ f. HaveMarks f.section_len f.marks.items f.offsets.items };
 }
 
-/// Whether an offset has its bit in these words.
+/// Whether the bit of an offset is set.
 #[inline(always)]
 pub(crate) fn is_marked(marks: &[u64], off: usize) -> bool
     requires { off / 64 < length marks.now }
@@ -37,7 +37,7 @@ pub(crate) fn is_marked(marks: &[u64], off: usize) -> bool
 }
 
 impl<A: Allocator + Copy> FirstUses<A> {
-    /// No offset of a section of `section_len` bytes is used yet.
+    /// Creates an empty set of offsets for a section of `section_len` bytes.
     pub(crate) fn new(alloc: A, section_len: usize) -> Result<FirstUses<A>, AllocError>
         ensures { IfOk result (λ f. f ≡ spec.nothing_noted section_len) }
     {
@@ -48,7 +48,7 @@ impl<A: Allocator + Copy> FirstUses<A> {
         })
     }
 
-    /// Notes the offset of a name. At an error the contract says nothing of the noted offsets.
+    /// Notes the offset of a name. On an error the set of noted offsets is unspecified.
     pub(crate) fn note(&mut self, off: u32) -> Result<(), AllocError>
         requires { off < self.old.section_len }
         ensures section { self.new.section_len ≡ self.old.section_len }

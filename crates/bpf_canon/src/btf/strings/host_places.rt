@@ -1,4 +1,4 @@
-//! The places of hosts in the string table, in the order of first use.
+//! The offsets of hosts in the string table, in the order of first use.
 ghost use Rattle.std.specs.Prelude.{◌≡◌, ◌<◌, ◌^◌, length, IfOk, OnOk};
 ghost use Rattle.std.specs.List.Sorted.{IsSorted};
 ghost use Rattle.btf_raw.specs.Header.{HasNulEnds};
@@ -12,8 +12,8 @@ use crate::btf::strings::ranked_texts::RankedTexts;
 use crate::btf::strings::used_offsets::UsedOffsets;
 use std::alloc::{AllocError, Allocator};
 
-/// Texts of a section that follow one another, each with its NUL: the start of the first, and the
-/// NUL of the last.
+/// Consecutive strings of a section, each with its NUL: the offset of the first string, and that of
+/// the NUL of the last.
 #[derive(Clone, Copy)]
 pub(crate) struct Span {
     pub(crate) start: u32,
@@ -23,15 +23,17 @@ pub(crate) struct Span {
 /// The table of hosts: a NUL, then each host with its NUL.
 #[derive(Drop)]
 pub(crate) struct HostPlaces<A: Allocator> {
-    // the place of the text of each rank, by the rank plus 1, and 0 if it has none yet
+    // the offset in the table of the string with each rank, by the rank plus 1, or 0 if not
+    // assigned yet
     pub(crate) by_rank: Vec<u32, A>,
-    // the hosts as parts of the section, in the order of the table
+    // the hosts as spans of the section, in the order of the table
     pub(crate) spans: Vec<Span, A>,
-    // the length of the table
+    // the length of the table in bytes
     pub(crate) len: u32,
 }
 
-/// Appends a text of the section. If it follows the last text there, both are one span.
+/// Appends a string of the section. If it directly follows the last span in the section, that span
+/// is extended.
 fn push_text<A: Allocator>(spans: &mut Vec<Span, A>, text: Span) -> Result<(), AllocError>
     ensures { OnOk result (spec.AddsText spans.old.items spans.new.items text) }
 {
@@ -45,8 +47,8 @@ fn push_text<A: Allocator>(spans: &mut Vec<Span, A>, text: Span) -> Result<(), A
     Ok(())
 }
 
-/// Gives a place to each host among the used names. A name that is its own host goes
-/// last, unless it is there already.
+/// Assigns an offset in the table to each host, in the order of first use. A used name that is its
+/// own host is appended to the table, unless its string is already present.
 pub(crate) fn place_hosts<A: Allocator + Copy>(
     alloc: A,
     uses: &UsedOffsets<A>,

@@ -1,4 +1,4 @@
-//! The host of each name, by the ranks of the longest texts.
+//! The host of each name, found by the ranks of the longest strings.
 ghost use Rattle.std.specs.Prelude.{◌≡◌, ◌<◌, ◌≤◌, length, IfOk, OnOk};
 ghost use Rattle.bpf_canon.specs.btf.strings.Ranks.{AreLower};
 ghost use Rattle.bpf_canon.specs.btf.strings.UsedOffsets.{used_count};
@@ -9,10 +9,10 @@ use crate::btf::strings::ranks::{first_rank, lower_ranks};
 use crate::btf::strings::used_offsets::UsedOffsets;
 use std::alloc::{AllocError, Allocator};
 
-/// The place of a name in its host.
+/// The position of a name in its host.
 #[derive(Clone, Copy)]
 pub(crate) struct InHost {
-    /// The rank of the host plus 1, and 0 for the empty name.
+    /// The rank of the host plus 1, or 0 for the empty name.
     pub(crate) host: u32,
     /// The number of bytes of the host before the name.
     pub(crate) before: u32,
@@ -29,8 +29,9 @@ impl InHost {
     };
 }
 
-/// Finds the hosts of the used offsets within the text of a rank. Their texts get shorter, so the
-/// search for the first rank that ends with a text begins at the rank found for the offset before.
+/// Finds the hosts of the used offsets within the string of a rank. The strings at later offsets
+/// are shorter, so each search for the first rank with such a suffix begins at the rank found for
+/// the previous offset.
 fn find_within<A: Allocator>(
     uses: &UsedOffsets<A>,
     ranked: &RankedTexts<'_, A>,
@@ -60,9 +61,9 @@ fn find_within<A: Allocator>(
     }
 }
 
-/// Finds the hosts of the first ranks up to one whose text is the same as another, or has a name
-/// that begins inside it. In most files there is none. The host of a text that is alone is the next
-/// host from its rank on. The result is the number of these ranks.
+/// Finds the hosts of the ranks before the first one whose string is equal to another, or has a
+/// name that begins inside it; most files have no such rank. The host of a string in these ranks is
+/// the next host from its rank on. Returns the number of these ranks.
 fn find_alone<A: Allocator>(
     uses: &UsedOffsets<A>,
     ranked: &RankedTexts<'_, A>,
@@ -91,7 +92,8 @@ fn find_alone<A: Allocator>(
     ranked.texts.len()
 }
 
-/// Finds the hosts of the other ranks, also if texts are the same or names begin inside one.
+/// Finds the hosts of the remaining ranks, whose strings may be equal or have names that begin
+/// inside them.
 fn find_shared<A: Allocator>(
     uses: &UsedOffsets<A>,
     ranked: &RankedTexts<'_, A>,
@@ -110,7 +112,7 @@ fn find_shared<A: Allocator>(
     }
 }
 
-/// Finds the hosts of all ranks. At an error those of the first ranks were found.
+/// Finds the hosts of all ranks. On an error only the first ranks have been processed.
 fn find_all<A: Allocator + Copy>(
     alloc: A,
     uses: &UsedOffsets<A>,
@@ -131,7 +133,7 @@ fn find_all<A: Allocator + Copy>(
     Ok(())
 }
 
-/// The host of each used offset, by its number.
+/// The host of each used offset, indexed by the offset's number.
 pub(crate) fn find_hosts<A: Allocator + Copy>(
     alloc: A,
     uses: &UsedOffsets<A>,

@@ -1,4 +1,4 @@
-//! The longest used texts of a section.
+//! The longest used strings of a section.
 ghost use Rattle.std.specs.Prelude.{◌≡◌, ◌<◌, ◌^◌, IfOk, length};
 ghost use Rattle.btf_raw.specs.Header.{HasNulEnds};
 ghost use Rattle.bpf_canon.specs.btf.strings.Longest.{AreLongestOf};
@@ -9,8 +9,8 @@ use crate::btf::suffixes::suffix_key;
 use btf_raw::text_end;
 use std::alloc::{AllocError, Allocator};
 
-/// The longest used text of each string of the section. The texts at further offsets of that string
-/// are its suffixes.
+/// The longest used suffix of each string of the section. The names at later offsets of the same
+/// string are suffixes of it.
 pub(crate) fn longest_texts<A: Allocator>(
     alloc: A,
     section: &[u8],

@@ -1,4 +1,4 @@
-//! The places of names in the string table in which they share suffixes (btf.rst section 2.1).
+//! The offsets of names in the string table in which they share suffixes (btf.rst section 2.1).
 ghost use Rattle.std.specs.Prelude.{◌≡◌, ◌<◌, ◌^◌, ◌++◌, length, map, IfOk, OnOk};
 ghost use Rattle.std.specs.List.{All, Contains};
 ghost use Rattle.btf_raw.specs.Header.{HasNulEnds};
@@ -16,13 +16,12 @@ use crate::btf::strings::used_offsets::UsedOffsets;
 use std::alloc::{AllocError, Allocator};
 use std::marker::Model;
 
-/// The places of the names at offsets of a string section, in the table in which they share
-/// suffixes.
+/// The new offsets of the names of a string section, in the table in which they share suffixes.
 #[derive(Drop)]
 pub(crate) struct SharedPlaces<'a, A: Allocator> {
     strings: &'a [u8],
     used: UsedOffsets<A>,
-    // the place of the name at each used offset, by the offset's number
+    // the new offset of the name at each used offset, by the offset's number
     places: Vec<u32, A>,
     // the hosts in the order of the table
     spans: Vec<Span, A>,
@@ -41,7 +40,8 @@ impl<'a, A: Allocator> Model for SharedPlaces<'a, A> {
         p.table_len };
 }
 
-/// The place of each used offset: the place of its host plus the bytes of the host before it.
+/// The new offset for each used offset: that of its host plus the number of bytes of the host
+/// before the name.
 fn name_places<A: Allocator>(
     alloc: A,
     in_hosts: &[InHost],
@@ -59,7 +59,7 @@ fn name_places<A: Allocator>(
 }
 
 impl<'a, A: Allocator + Copy> SharedPlaces<'a, A> {
-    /// Finds the places of the names that are used in this section.
+    /// Computes the new offsets of the names that are used in this section.
     pub(crate) fn find(
         alloc: A,
         strings: &'a [u8],
@@ -95,7 +95,7 @@ impl<'a, A: Allocator + Copy> SharedPlaces<'a, A> {
 }
 
 impl<A: Allocator> SharedPlaces<'_, A> {
-    /// The place of the name at a used offset.
+    /// The new offset of the name at a used offset.
     pub(crate) fn place(&self, off: u32) -> u32
         requires { Contains self.now.offsets off }
         ensures { result ≡ shared_place (placed_texts self.now) (text_from self.now.strings off) }
@@ -103,7 +103,7 @@ impl<A: Allocator> SharedPlaces<'_, A> {
         self.places[self.used.number(off as usize)]
     }
 
-    /// The length of the table.
+    /// The length of the table in bytes.
     pub(crate) fn table_len(&self) -> u32
         ensures { result ≡ length (shared_table (placed_texts self.now)) }
     {

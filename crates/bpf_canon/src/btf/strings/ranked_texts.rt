@@ -1,4 +1,4 @@
-//! The longest used texts of a section, sorted by their bytes from the end.
+//! The longest used strings of a section, sorted by their reversed bytes.
 ghost use Rattle.std.specs.Prelude.{◌≡◌, ◌<◌, ◌^◌, length, IfOk};
 ghost use Rattle.std.specs.List.{All};
 ghost use Rattle.std.specs.List.Sorted.{IsPermutation};
@@ -14,14 +14,14 @@ use std::alloc::{AllocError, Allocator};
 pub(crate) struct RankedTexts<'a, A: Allocator> {
     pub(crate) section: &'a [u8],
     pub(crate) texts: Vec<SectionText, A>,
-    // the length of the suffix that each text has in common with the one before it
+    // the length of the common suffix of each string and the one before it
     pub(crate) common: Vec<u32, A>,
-    // from each rank on, the first rank whose text is no suffix of the next one
+    // for each rank, the first rank from it on whose string isn't a suffix of the next one
     pub(crate) hosts: Vec<u32, A>,
 }
 
 impl<'a, A: Allocator + Copy> RankedTexts<'a, A> {
-    /// Sorts the texts, and finds their common suffixes and hosts.
+    /// Sorts the strings, and finds their common suffixes and hosts.
     pub(crate) fn new(
         alloc: A,
         section: &'a [u8],

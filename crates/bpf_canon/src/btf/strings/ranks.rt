@@ -1,4 +1,4 @@
-//! Ranks of sorted texts.
+//! Ranks of sorted strings.
 ghost use Rattle.std.specs.Prelude.{◌≡◌, ◌<◌, ◌≤◌, ◌^◌, ℕ, IfOk, length, slice_index};
 ghost use Rattle.std.specs.List.{All};
 ghost use Rattle.btf_types.specs.strings.CommonTails as spec;
@@ -9,7 +9,7 @@ ghost use Rattle.bpf_canon.specs.btf.strings.SuffixKeys.{HaveSameByte};
 use crate::btf::strings::section_texts::{SectionText, text_of};
 use std::alloc::{AllocError, Allocator};
 
-/// The length of the longest common suffix of two texts.
+/// The length of the longest common suffix of two strings.
 pub(crate) fn common_suffix(a: &[u8], b: &[u8]) -> usize
     ensures common { result ≡ spec.common_tail a.now b.now }
     ensures first { result ≤ length a.now }
@@ -23,7 +23,7 @@ pub(crate) fn common_suffix(a: &[u8], b: &[u8]) -> usize
     most
 }
 
-/// The length of the common suffix of the eight bytes that two keys spell.
+/// The length of the common suffix of the eight bytes of each of two keys.
 fn common_bytes(a: u64, b: u64) -> usize
     ensures few { result ≤ 8 }
     ensures same { (j : ℕ) → j < result → HaveSameByte a b j }
@@ -32,8 +32,8 @@ fn common_bytes(a: u64, b: u64) -> usize
     (a ^ b).leading_zeros() as usize / 8
 }
 
-/// The length of the longest common suffix of two texts of a section. Mostly it follows from their
-/// keys, and the section isn't read.
+/// The length of the longest common suffix of two strings of a section. Usually it follows from
+/// their keys, and the section isn't read.
 fn common_of(section: &[u8], a: &SectionText, b: &SectionText) -> usize
     requires first { HasKey section.now a.now }
     requires second { HasKey section.now b.now }
@@ -56,7 +56,7 @@ fn common_of(section: &[u8], a: &SectionText, b: &SectionText) -> usize
     common_suffix(first, second)
 }
 
-/// The length of the suffix that each text has in common with the one before it.
+/// The length of the common suffix of each string and the one before it.
 pub(crate) fn common_suffixes<A: Allocator>(
     alloc: A,
     section: &[u8],
@@ -123,8 +123,7 @@ pub(crate) fn lower_ranks<A: Allocator>(alloc: A, common: &[u32]) -> Result<Vec<
     Ok(lower)
 }
 
-/// From the rank `from` back to the first rank after which all texts up to `from` have a common
-/// suffix of `len` bytes.
+/// The first rank `r` such that the strings of the ranks `r..=from` share a suffix of `len` bytes.
 pub(crate) fn first_rank(common: &[u32], lower: &[u32], from: usize, len: u32) -> usize
     requires lower { AreLower common.now lower.now }
     requires inside { from < length common.now }

@@ -1,4 +1,4 @@
-//! Texts of a section, and their order by bytes from the end.
+//! Strings of a section, and their order by reversed bytes.
 ghost use Rattle.std.specs.Prelude.{◌≡◌, ◌+◌, ◌*◌, ◌^◌, ◌<◌, ◌≤◌, ◌-◌};
 ghost use Rattle.std.specs.Ordering.{on};
 ghost use Rattle.std.specs.List.{All};
@@ -10,18 +10,18 @@ use crate::btf::suffixes::compare_from_end;
 use std::alloc::Allocator;
 use std::cmp::Ordering;
 
-/// A text of a section, with the keys of its last bytes.
+/// A string of a section, with the keys of its last 16 bytes.
 #[derive(Clone, Copy)]
 pub(crate) struct SectionText {
     pub(crate) key: u64,
-    /// The key of the text without its last eight bytes.
+    /// The key of the string without its last eight bytes.
     pub(crate) before: u64,
     pub(crate) start: u32,
     pub(crate) end: u32,
 }
 
 impl SectionText {
-    /// The length of the text.
+    /// The length of the string in bytes.
     pub(crate) fn len(self) -> u32
         requires { self.start ≤ self.end }
         ensures { result ≡ self.end - self.start }
@@ -38,7 +38,7 @@ impl SectionText {
     }
 }
 
-/// The bytes of a text.
+/// The bytes of a string.
 pub(crate) fn text_of<'a>(section: &'a [u8], text: &SectionText) -> &'a [u8]
     ensures { result.now ≡ texts.text_in section.now text.now }
 {
@@ -47,7 +47,7 @@ pub(crate) fn text_of<'a>(section: &'a [u8], text: &SectionText) -> &'a [u8]
     &section[start..end]
 }
 
-/// Compares the bytes. This is a function of its own, so that the comparison of keys is inlined.
+/// Compares the bytes. This is a separate function, so that the comparison of keys is inlined.
 #[inline(never)]
 fn compare_texts(section: &[u8], a: &SectionText, b: &SectionText) -> Ordering
     ensures { result ≡ on (texts.text_in section.now) tail_cmp a.now b.now }
@@ -66,7 +66,7 @@ fn compare(section: &[u8], a: &SectionText, b: &SectionText) -> Ordering
     compare_texts(section, a, b)
 }
 
-/// Sorts texts by their bytes from the end.
+/// Sorts strings by their reversed bytes.
 pub(crate) fn sort_texts<A: Allocator>(section: &[u8], list: &mut Vec<SectionText, A>)
     requires { All (texts.HasKey section.now) list.old.items }
     ensures permutation { IsPermutation list.old.items list.new.items }

@@ -11,13 +11,13 @@ use std::marker::Model;
 /// The used offsets of a section in the order of first use, and the number of each in ascending
 /// order. No offset can be added, since the numbers of others would change.
 ///
-/// This takes a bit for each byte of the section, and four bytes for each 64 of them.
+/// It needs one bit for each byte of the section, and four bytes for each 64 of them.
 #[derive(Drop)]
 pub(crate) struct UsedOffsets<A: Allocator> {
     section_len: usize,
     marks: Vec<u64, A>,
     offsets: Vec<u32, A>,
-    // for each word of the marks, how many used offsets come before it
+    // for each 64-bit element of the bit set, the number of used offsets before it
     before: Vec<u32, A>,
 }
 
@@ -66,7 +66,7 @@ impl<A: Allocator> UsedOffsets<A> {
         })
     }
 
-    /// Each used offset once, in the order of first use.
+    /// The distinct used offsets, in the order of first use.
     pub(crate) fn offsets(&self) -> &[u32]
         ensures { result.now ≡ self.now.offsets }
     {
@@ -104,7 +104,7 @@ impl<A: Allocator> UsedOffsets<A> {
         self.before[off / 64] as usize + lower.count_ones() as usize
     }
 
-    /// The number of a used offset: how many used ones come before it.
+    /// The number of a used offset: how many smaller offsets are used.
     pub(crate) fn number(&self, off: usize) -> usize
         requires { slice_index self.now.slots off ≢ 0 }
         ensures number { result ≡ spec.number_of self.now off }

@@ -1,4 +1,4 @@
-//! The numbers of a head, as they are in its words (btf.rst section 2.2).
+//! The words that encode the head of a record (btf.rst section 2.2).
 ghost use Rattle.std.specs.Prelude.{◌≡◌, ◌+◌, ◌*◌, ◌<◌, ◌^◌};
 ghost use Rattle.btf_types.specs.Spelling as spec;
 ghost use Rattle.btf_types.specs.Values.{head_value};
@@ -39,8 +39,8 @@ pub(crate) fn kind_and_third(head: Head<'_>) -> (u8, u32)
     }
 }
 
-/// kind_flag: of a STRUCT or UNION 1 exactly if it has bit-fields, and of an ENUM, ENUM64, FWD or
-/// tag what its value says.
+/// kind_flag: for a STRUCT or UNION, 1 if and only if it has bit-fields; for an ENUM, ENUM64, FWD
+/// or tag, the bit of its value.
 fn kind_flag(head: Head<'_>, bit_fields: bool) -> u32
     ensures is { result ≡ canonical_flag (head_value head.entry) bit_fields }
     ensures bit { result < 2 }
@@ -54,7 +54,7 @@ fn kind_flag(head: Head<'_>, bit_fields: bool) -> u32
     })
 }
 
-/// vlen: the linkage of a FUNC, and of other kinds the number of items.
+/// vlen: the linkage of a FUNC, or the number of items of any other kind.
 fn head_vlen(head: Head<'_>, count: u32) -> u32
     requires { count < 2 ^ 16 }
     ensures is { result ≡ words.head_vlen (head_value head.entry) count }
@@ -66,8 +66,8 @@ fn head_vlen(head: Head<'_>, count: u32) -> u32
     }
 }
 
-/// The words info and third of a record with `count` items: kind_flag, kind and vlen, and a size, a
-/// type or 0.
+/// The info word (kind_flag, kind and vlen) and the third word (a size, a type or 0) of a record
+/// with `count` items.
 pub(crate) fn info_and_third(head: Head<'_>, count: u32, bit_fields: bool) -> (u32, u32)
     requires { count < 2 ^ 16 }
     ensures info { result.0
@@ -83,14 +83,14 @@ pub(crate) fn info_and_third(head: Head<'_>, count: u32, bit_fields: bool) -> (u
     (info, third)
 }
 
-/// The word after the third of an INT: its bits, its offset and its encoding.
+/// The fourth word of an INT: its bits, its offset and its encoding (btf.rst section 2.2.1).
 pub(crate) fn int_word(encoding: Encoding, offset: u8, bits: u8) -> u32
     ensures { result ≡ bits + 2 ^ 16 * offset + 2 ^ 24 * spec.encoding_number encoding }
 {
     u32::from(bits) + (u32::from(offset) << 16) + (encoding.number() << 24)
 }
 
-/// The word component_idx of a DECL_TAG: -1 for the type as a whole.
+/// The component_idx of a DECL_TAG: -1 for the type itself.
 pub(crate) fn component_word(component: Option<u16>) -> u32
     ensures { result ≡ spec.component_word component }
 {

@@ -1,4 +1,4 @@
-//! The header of a file, and words of 32 bits.
+//! The header of a file, and 32-bit words.
 ghost use Rattle.std.specs.Prelude.{◌≡◌, ◌≤◌, ◌++◌, OnOk, length};
 ghost use Rattle.btf_raw.specs.Header.{header};
 ghost use Rattle.btf_raw.specs.Frames.{bytes_of};
@@ -7,7 +7,7 @@ use bpf_words::{Order, push16};
 use byteorder::{BigEndian, ByteOrder, LittleEndian};
 use std::alloc::{AllocError, Allocator};
 
-/// Appends at most six words of 32 bits, at once.
+/// Appends up to six 32-bit words with one reservation.
 #[inline(always)]
 pub(crate) fn push_words<A: Allocator>(
     out: &mut Vec<u8, A>,
@@ -26,8 +26,8 @@ pub(crate) fn push_words<A: Allocator>(
     out.extend_from_slice(bytes)
 }
 
-/// Appends the header of 24 bytes (btf.rst section 2): magic, version 1, flags 0, hdr_len, type_off
-/// 0, type_len, str_off = type_len and str_len.
+/// Appends the 24-byte header (btf.rst section 2): magic, version 1, flags 0, hdr_len, type_off 0,
+/// type_len, str_off = type_len and str_len.
 pub(crate) fn push_header<A: Allocator>(
     out: &mut Vec<u8, A>,
     order: Order,

@@ -1,4 +1,4 @@
-//! The names of a section, noted by their offsets alone: no text is read (btf.rst section 2.2).
+//! The names of a section, noted by their offsets only: no string is read (btf.rst section 2.2).
 ghost use Rattle.std.specs.Prelude.{◌≡◌, ◌≤◌, [], IfOk, OnOk, length};
 ghost use Rattle.std.specs.List.{All};
 ghost use Rattle.btf_raw.specs.Frames.{IsFrame, vlen};
@@ -13,7 +13,8 @@ use btf_raw::info::{has_item_names, item_words};
 use btf_types::{FileSections, Record};
 use std::alloc::{AllocError, Allocator};
 
-/// Notes the names of a record's items. Each item has `size` words, and the first is its name_off.
+/// Notes the names of a record's items. Each item has `size` 32-bit words, and the first is its
+/// name_off.
 fn note_items<A: Allocator + Copy>(
     uses: &mut FirstUses<A>,
     this: &Record,

@@ -1,4 +1,4 @@
-//! The records of a section, copied word by word with their names at other places (btf.rst section
+//! The records of a section, copied word by word with new offsets of their names (btf.rst section
 //! 2.2).
 ghost use Rattle.std.specs.Prelude.{◌≡◌, ℕ, List, ◌+◌, ◌^◌, ◌<◌, ◌≤◌, ◌⊎◌, [], ◌∷◌, ◌++◌, OnOk};
 ghost use Rattle.std.specs.Prelude.{length, slice_index, take, drop, map};
@@ -19,7 +19,7 @@ use btf_raw::info::{flag_of, has_item_names, is_struct, item_words, tail_words};
 use btf_types::{FileSections, Record};
 use std::alloc::{AllocError, Allocator};
 
-/// The canonical word info of a record: kind_flag of a STRUCT or UNION is 0 if no member has a
+/// The canonical info word of a record: the kind_flag of a STRUCT or UNION is 0 if no member has a
 /// width.
 fn canonical_info(this: &Record) -> u32
     requires { IsFrame this.now }
@@ -37,8 +37,8 @@ fn canonical_info(this: &Record) -> u32
     }
 }
 
-/// Appends an item of `size` words, which begins at word `at` of its record: its name, and its
-/// other words.
+/// Appends an item of `size` 32-bit words, which begins at word `at` of its record: the new offset
+/// of its name, then its other words.
 fn push_item<A: Allocator>(
     out: &mut Vec<u8, A>,
     to: Order,
@@ -60,7 +60,7 @@ fn push_item<A: Allocator>(
     push_words(out, to, &[name, second, this.word(at + 2)])
 }
 
-/// Appends the items of a record. Each item has `size` words, and the first is its name_off.
+/// Appends the items of a record. Each item has `size` 32-bit words, and the first is its name_off.
 fn push_items<A: Allocator, B: Allocator + Copy>(
     out: &mut Vec<u8, A>,
     to: Order,
@@ -83,7 +83,7 @@ fn push_items<A: Allocator, B: Allocator + Copy>(
     Ok(())
 }
 
-/// Appends the words after the third of a record whose items have no names.
+/// Appends everything after the third word of a record whose items have no names.
 fn push_rest<A: Allocator>(
     out: &mut Vec<u8, A>,
     to: Order,
@@ -100,7 +100,7 @@ fn push_rest<A: Allocator>(
     Ok(())
 }
 
-/// Appends the words after the third of a record.
+/// Appends everything after the third word of a record.
 fn push_tail<A: Allocator, B: Allocator + Copy>(
     out: &mut Vec<u8, A>,
     to: Order,
@@ -121,7 +121,7 @@ fn push_tail<A: Allocator, B: Allocator + Copy>(
     }
 }
 
-/// Appends the words of a record.
+/// Appends a record.
 fn push_record<A: Allocator, B: Allocator + Copy>(
     out: &mut Vec<u8, A>,
     to: Order,
@@ -140,7 +140,7 @@ fn push_record<A: Allocator, B: Allocator + Copy>(
     push_tail(out, to, names, this)
 }
 
-/// Appends the words of all records.
+/// Appends all records.
 pub(crate) fn push_records<A: Allocator, B: Allocator + Copy>(
     out: &mut Vec<u8, A>,
     to: Order,

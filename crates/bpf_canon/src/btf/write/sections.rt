@@ -1,5 +1,5 @@
-//! From the sections that a table keeps to canonical bytes (btf.rst section 2). String offsets
-//! become places in the new table.
+//! Canonical bytes from the sections that a type table keeps (btf.rst section 2). Offsets of names
+//! are replaced by offsets in the new string table.
 ghost use Rattle.std.specs.Prelude.{◌≡◌, IfOk, map};
 ghost use Rattle.std.specs.List.{All, Contains};
 ghost use Rattle.btf_types.specs.Names.{kept, names};
@@ -16,7 +16,7 @@ use bpf_words::Order;
 use btf_types::FileSections;
 use std::alloc::{AllocError, Allocator};
 
-/// The canonical bytes of sections whose names have these places.
+/// The canonical bytes of sections whose names have these new offsets.
 fn write_placed<A: Allocator + Copy>(
     alloc: A,
     to: Order,
@@ -38,7 +38,7 @@ fn write_placed<A: Allocator + Copy>(
     Ok(bytes)
 }
 
-/// The canonical bytes of the records that these sections spell.
+/// The canonical bytes of the records that these sections encode.
 pub(crate) fn write_sections<A: Allocator + Copy>(
     alloc: A,
     to: Order,

@@ -1,4 +1,4 @@
-//! From a table of types to its canonical bytes (btf.rst section 2).
+//! Canonical bytes of a type table (btf.rst section 2).
 ghost use Rattle.std.specs.Prelude.{◌≡◌, ◌<◌, ◌≤◌, ◌^◌, ◌++◌, IfOk, OnOk, length, map};
 ghost use Rattle.btf_raw.specs.Frames.{bytes_of, section_of};
 ghost use Rattle.btf_types.specs.Values.{head_value, item_value};
@@ -23,7 +23,7 @@ use bpf_words::Order;
 use btf_types::{Head, Item, TypeTable};
 use std::alloc::{AllocError, Allocator};
 
-/// Appends the words after the third that a record header has of its own kind.
+/// Appends the words after the third that belong to the kind and precede the items.
 fn push_further_words<A: Allocator>(
     out: &mut Vec<u8, A>,
     order: Order,
@@ -50,7 +50,7 @@ fn push_further_words<A: Allocator>(
     }
 }
 
-/// Appends the words of the header of a record with `count` items.
+/// Appends the header of a record with `count` items.
 fn push_head<A: Allocator, B: Allocator + Copy>(
     out: &mut Vec<u8, A>,
     order: Order,
@@ -70,7 +70,7 @@ fn push_head<A: Allocator, B: Allocator + Copy>(
     push_further_words(out, order, head)
 }
 
-/// Appends the words of an item.
+/// Appends an item.
 fn push_item<A: Allocator, B: Allocator + Copy>(
     out: &mut Vec<u8, A>,
     order: Order,
@@ -132,7 +132,7 @@ fn has_bit_fields<T: TypeTable>(table: &T, id: u32) -> bool
     false
 }
 
-/// Appends the words of a record.
+/// Appends a record.
 fn push_table_record<T: TypeTable, A: Allocator, B: Allocator + Copy>(
     out: &mut Vec<u8, A>,
     order: Order,
@@ -175,7 +175,7 @@ fn write_types<T: TypeTable, A: Allocator + Copy>(
     Ok(types)
 }
 
-/// The canonical bytes of a table that lends no sections: its names are read as texts.
+/// The canonical bytes of a table that exposes no sections: its names are read as strings.
 fn write_table<T: TypeTable, A: Allocator + Copy>(
     alloc: A,
     order: Order,
@@ -194,15 +194,16 @@ fn write_table<T: TypeTable, A: Allocator + Copy>(
     Ok(bytes)
 }
 
-/// The canonical bytes of a table of types in the given order (btf.rst section 2): a header of 24
-/// bytes, the records, and the string table.
+/// The canonical bytes of a type table in the given byte order (btf.rst section 2): a 24-byte
+/// header, the records, and the string table.
 ///
-/// The string table has each name once, in the order of first use; a name that is a suffix of
-/// another one is at its end. A STRUCT or UNION has kind_flag 0 exactly if no member has a width.
+/// The string table contains each name once, in the order of first use, except that a name that is
+/// a suffix of another one shares its bytes. The kind_flag of a STRUCT or UNION is 0 if and only if
+/// no member has a width.
 ///
 /// # Errors
 ///
-/// `AllocError` if the allocator is out of memory.
+/// `AllocError` if an allocation failed.
 pub fn write_btf<T: TypeTable, A: Allocator + Copy>(
     alloc: A,
     order: Order,
@@ -211,7 +212,7 @@ pub fn write_btf<T: TypeTable, A: Allocator + Copy>(
     ensures form { IfOk result (λ bytes. bytes.items ≡ canonical order (T.meaning table.now)) }
     ensures accepted { IfOk result (λ bytes. Denotes bytes.items (T.meaning table.now)) }
 {
-    // The contract of this call says that the records are good.
+    // The contract of this call guarantees that the records are valid.
     let _count = table.count();
     match table.sections() {
         Some(sections) => write_sections(alloc, order, &sections),
