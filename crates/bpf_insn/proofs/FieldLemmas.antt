@@ -2,18 +2,14 @@
 use Rattle.std.proofs.Common.{◌≡◌, ℕ, ◌+◌, ◌*◌, ◌/◌, ◌%◌, ◌^◌, ◌<◌, ℤ, pos, List, [], ◌∷◌, ◌++◌, refl, ap, sym, ◌∙◌, arith, slice_index}
 use Rattle.std.specs.Int.{w16, w32, cast_unsigned, cast_signed}
 use Rattle.std.proofs.lemmas.Int.{ints}
-use Rattle.bpf_words.specs.declared.Order.{Order}
-use Rattle.bpf_words.specs.declared.Order.TheVariants.{Little, Big}
-use Rattle.bpf_words.specs.Words.{word16, word32}
-use Rattle.bpf_words.specs.Slots.{Fields, AreFields, spelled}
+use Rattle.bpf_words.specs.declared.Order.{Order, TheVariants.Little, TheVariants.Big}
+use Rattle.bpf_words.specs.{Words.word16, Words.word32, Slots.Fields, Slots.AreFields, Slots.spelled}
 use Rattle.bpf_words.proofs.OneSpelling.{word-injective_16, word-injective_32, signed_16, signed_32, pattern_fits_16, pattern_fits_32}
 use Rattle.bpf_insn.specs.Table.{fields_of, IsInsn, IsOffset, IsImm, alu_code, alu_class, branch_code, branch_class, source_bit, source, immediate, IsOperand, IsWideOf, alu_offset, wide_imm, wide_next_imm, movsx_width, movsx_bits, swap_opcode, swap_bits, size_number, small_size_number, atomic_size, atomic_number}
 use Rattle.bpf_insn.proofs.FormLemmas.{wide_allowed}
 use Rattle.bpf_insn.specs.Faults.{held}
 use Rattle.bpf_insn.specs.declared.fault.SlotCause.TheVariants.{Opcode, Dst, Src, Offset, Imm}
-use Rattle.bpf_insn.specs.declared.insn.Width.{Width}
-use Rattle.bpf_insn.specs.declared.insn.Width.TheVariants.{W32, W64}
-use Rattle.bpf_insn.specs.declared.insn.Operand.{Operand}
+use Rattle.bpf_insn.specs.declared.insn.{Width.Width, Width.TheVariants.W32, Width.TheVariants.W64, Operand.Operand}
 use Rattle.bpf_insn.specs.declared.insn.Operand.TheVariants as arg
 use Rattle.bpf_insn.specs.declared.insn.AluOp.{AluOp}
 use Rattle.bpf_insn.specs.declared.insn.AluOp.TheVariants as alu
@@ -23,17 +19,14 @@ use Rattle.bpf_insn.specs.declared.insn.MovsxForm.{MovsxForm}
 use Rattle.bpf_insn.specs.declared.insn.MovsxForm.TheVariants as movsx
 use Rattle.bpf_insn.specs.declared.insn.SwapKind.{SwapKind}
 use Rattle.bpf_insn.specs.declared.insn.SwapKind.TheVariants as swap
-use Rattle.bpf_insn.specs.declared.insn.SwapBits.{SwapBits}
-use Rattle.bpf_insn.specs.declared.insn.SwapBits.TheVariants.{B16, B32, B64}
-use Rattle.bpf_insn.specs.declared.insn.Size.{Size}
+use Rattle.bpf_insn.specs.declared.insn.{SwapBits.SwapBits, SwapBits.TheVariants.B16, SwapBits.TheVariants.B32, SwapBits.TheVariants.B64, Size.Size}
 use Rattle.bpf_insn.specs.declared.insn.Size.TheVariants as size
 use Rattle.bpf_insn.specs.declared.insn.SmallSize.{SmallSize}
 use Rattle.bpf_insn.specs.declared.insn.SmallSize.TheVariants as small
 use Rattle.bpf_insn.specs.declared.insn.AtomicOp.{AtomicOp}
 use Rattle.bpf_insn.specs.declared.insn.AtomicOp.TheVariants as atomic
-use Rattle.bpf_insn.specs.declared.insn.WideOf.{WideOf}
+use Rattle.bpf_insn.specs.declared.insn.{WideOf.WideOf, Insn.Insn}
 use Rattle.bpf_insn.specs.declared.insn.WideOf.TheVariants.{Number, MapFd, MapValueFd, VarAddr, CodeAddr, MapIdx, MapValueIdx}
-use Rattle.bpf_insn.specs.declared.insn.Insn.{Insn}
 use Rattle.bpf_insn.specs.declared.insn.Insn.TheVariants.{Alu, Movsx, Neg, Swap, Jump, JumpLong, Branch, CallHelper, CallLocal, CallBtf, Exit, Load, LoadSigned, StoreImm, StoreReg, Atomic, Wide, PacketAbs, PacketInd}
 
 -- ---- ranges

@@ -2,15 +2,11 @@
 use Rattle.std.proofs.Common.{Bool, ℕ, ◌+◌, ◌-◌, ◌<◌, ◌≤◌, List, [], ◌∷◌, ◌++◌, length, IsTrue, refl, arith}
 use Rattle.std.proofs.lemmas.List.Elements.{All-nil}
 use Rattle.bpf_words.specs.declared.Order.{Order}
-use Rattle.bpf_insn.specs.Table.{IsInsn}
-use Rattle.bpf_insn.specs.Faults.{IsInsnFault}
+use Rattle.bpf_insn.specs.{Table.IsInsn, Faults.IsInsnFault, Groups.AreGroupsOf, Groups.holds}
 use Rattle.bpf_insn.specs.FileSteps.{AddsInsnAt, AreSettled, HasGroupsBefore, IsFaultAt}
-use Rattle.bpf_insn.specs.Groups.{AreGroupsOf, holds}
 use Rattle.bpf_insn.proofs.DecodeLemmas as one
 use Rattle.bpf_insn.proofs.GroupLemmas.{one_group_more}
-use Rattle.bpf_insn.specs.declared.fault.SlotFault.{SlotFault}
-use Rattle.bpf_insn.specs.declared.group.Group.{Group}
-use Rattle.bpf_insn.specs.declared.group.GroupSet.{GroupSet}
+use Rattle.bpf_insn.specs.declared.{fault.SlotFault.SlotFault, group.Group.Group, group.GroupSet.GroupSet}
 
 -- the set has the groups of the instructions before an offset, and the marked opcodes are settled
 pub record HasSettledGroups (order : Order) (bytes : List ℕ) (at : ℕ) (marks : List Bool) (set : GroupSet) : Type 0 where

@@ -1,26 +1,18 @@
 -- Laws of spellings and of files.
 use Rattle.std.proofs.Common.{◌≡◌, ◌≢◌, ℕ, ◌+◌, ◌<◌, ◌≤◌, ◌^◌, ℤ, List, [], ◌∷◌, ◌++◌, length, drop, slice_range, refl, ap, sym, ◌∙◌, arith, inl, inr, ◌⊎◌, subst, Option, Some, None, append_assoc, length-append, All, FitsSigned, Result, Ok, Err, IfOk, IfErr}
-use Rattle.std.proofs.Math.Seq.{drop-append_seam}
-use Rattle.std.proofs.lemmas.List.{append-nil}
-use Rattle.std.proofs.lemmas.List.Elements.{All-head, All-tail}
+use Rattle.std.proofs.{Math.Seq.drop-append_seam, lemmas.List.append-nil, lemmas.List.Elements.All-head, lemmas.List.Elements.All-tail}
 use Rattle.std.specs.Int.{w32, cast_unsigned}
-use Rattle.bpf_words.specs.declared.Order.{Order}
-use Rattle.bpf_words.specs.Words.{word32}
-use Rattle.bpf_words.specs.Slots.{Fields, spelled}
+use Rattle.bpf_words.specs.{declared.Order.Order, Words.word32, Slots.Fields, Slots.spelled}
 use Rattle.bpf_words.proofs.OneSpelling.{same_fields, word-injective_32, signed_32, pattern_fits_32}
 use Rattle.bpf_insn.specs.Table.{fields_of, next_imm_of, IsInsn, wide_next_imm}
 use Rattle.bpf_insn.specs.Spelling.{spelling, second_slot, file_of, InsnFile}
 use Rattle.bpf_insn.specs.Faults.{held, BeginsWith, IsSlotFault, IsInsnFault}
 use Rattle.bpf_insn.proofs.FormLemmas.{insn_form, same_form, opcode_of_form}
 use Rattle.bpf_insn.proofs.FieldLemmas as field
-use Rattle.bpf_insn.proofs.FaultLemmas.{slot_length}
+use Rattle.bpf_insn.proofs.{FaultLemmas.slot_length, InsnLaws.same_insn}
 use Rattle.bpf_insn.proofs.WideLemmas.{IsWideLoad, wide_of_form, second_next, second_length}
-use Rattle.bpf_insn.proofs.InsnLaws.{same_insn}
-use Rattle.bpf_insn.specs.declared.fault.SlotCause.{SlotCause}
+use Rattle.bpf_insn.specs.declared.{fault.SlotCause.SlotCause, fault.SlotFault.SlotFault, insn.Insn.Insn, insn.Insn.TheVariants.Wide}
 use Rattle.bpf_insn.specs.declared.fault.SlotCause.TheVariants.{Truncated, Opcode, Dst, Src, Offset, Imm, Reserved, NextImm}
-use Rattle.bpf_insn.specs.declared.fault.SlotFault.{SlotFault}
-use Rattle.bpf_insn.specs.declared.insn.Insn.{Insn}
-use Rattle.bpf_insn.specs.declared.insn.Insn.TheVariants.{Wide}
 use Rattle.bpf_insn.specs.declared.form.Form.TheVariants as form
 
 -- ---- one instruction

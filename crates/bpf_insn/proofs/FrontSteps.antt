@@ -1,18 +1,10 @@
 -- Reading the complete instructions at the start of the bytes in turn.
 use Rattle.std.proofs.Common.{◌≡◌, ◌≤◌, ◌+◌, ◌-◌, ◌*◌, ◌/◌, ◌++◌, ◌∙◌, ℕ, List, [], ◌∷◌, Some, None, length, take, drop, refl, sym, ap, subst, arith, append_assoc, length-append, length-drop}
-use Rattle.std.proofs.lemmas.List.{drop-drop, take_all}
-use Rattle.std.proofs.lemmas.List.Concat.{flat_map-append}
-use Rattle.std.proofs.lemmas.List.Elements.{All-append, All-nil}
+use Rattle.std.proofs.lemmas.List.{drop-drop, take_all, Concat.flat_map-append, Elements.All-append, Elements.All-nil}
 use Rattle.bpf_words.specs.declared.Order.{Order}
-use Rattle.bpf_insn.specs.declared.fault.SlotFault.{SlotFault}
-use Rattle.bpf_insn.specs.declared.insn.Insn.{Insn}
-use Rattle.bpf_insn.specs.Table.{IsInsn}
-use Rattle.bpf_insn.specs.Spelling.{file_of, spelling}
-use Rattle.bpf_insn.specs.Faults.{BeginsWith, IsSlotFault}
-use Rattle.bpf_insn.specs.FileSteps.{ReadsTo}
-use Rattle.bpf_insn.specs.Fronts.{IsInsnFront}
-use Rattle.bpf_insn.proofs.DecodeLemmas.{step}
-use Rattle.bpf_insn.proofs.FrontLemmas.{empty_begins_none, front_of, length-at_most_file}
+use Rattle.bpf_insn.specs.{declared.fault.SlotFault.SlotFault, declared.insn.Insn.Insn, Table.IsInsn, FileSteps.ReadsTo, Fronts.IsInsnFront}
+use Rattle.bpf_insn.specs.{Spelling.file_of, Spelling.spelling, Faults.BeginsWith, Faults.IsSlotFault}
+use Rattle.bpf_insn.proofs.{DecodeLemmas.step, FrontLemmas.empty_begins_none, FrontLemmas.front_of, FrontLemmas.length-at_most_file}
 
 pub reads_none : (order : Order) (bytes : List ℕ) → ReadsTo order bytes 0 0
 reads_none order bytes = record { insns = []; spelled = (omega arith, All-nil IsInsn, refl, refl); counted = refl }

@@ -1,10 +1,8 @@
 -- The set with one more group.
 use Rattle.std.proofs.Common.{◌≡◌, ◌↔◌, ℕ, ◌+◌, ◌<◌, ◌≤◌, List, [], ◌∷◌, ◌++◌, length, take, get_or, ap, sym, ◌∙◌, inl, inr, ◌⊎◌, subst, Bool, IsTrue}
 use Rattle.std.specs.List.{Any}
-use Rattle.std.proofs.lemmas.List.Quantifiers.{Any-push}
-use Rattle.std.proofs.lemmas.List.{take_more, take_all}
-use Rattle.bpf_insn.specs.declared.group.Group.{Group}
-use Rattle.bpf_insn.specs.Groups.{Brings}
+use Rattle.std.proofs.lemmas.List.{take_more, take_all, Quantifiers.Any-push}
+use Rattle.bpf_insn.specs.{declared.group.Group.Group, Groups.Brings}
 use Rattle.bpf_insn.proofs.GroupLemmas.{any_more, any_kept}
 
 one_group_more : (held now : Bool) (groups : List Group) (h g : Group) → (IsTrue held ↔ Any (λ x. Brings x g) groups)

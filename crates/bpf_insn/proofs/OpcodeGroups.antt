@@ -1,25 +1,16 @@
 -- The opcode determines the group of an instruction that isn't a byte swap.
 use Rattle.std.proofs.Common.{◌≡◌, ◌↔◌, ◌⊎◌, ℕ, Bool, false, List, length, get_or, set, replicate, drop, IsTrue, Result, Ok, Err, IfOk, refl, ap, sym, ◌∙◌, subst, arith, inl, inr}
 use Rattle.std.proofs.lemmas.List.{get_or-drop, get_or-replicate, get_or-set_other, get_or_past, length-replicate, set_past, take_rest}
-use Rattle.std.proofs.lemmas.Grind.{get_or-set_at}
-use Rattle.std.proofs.lemmas.Bool.{cases_eq, cases_lt}
+use Rattle.std.proofs.lemmas.{Grind.get_or-set_at, Bool.cases_eq, Bool.cases_lt}
 use Rattle.bpf_words.specs.declared.Order.{Order}
-use Rattle.bpf_insn.specs.Table.{fields_of}
-use Rattle.bpf_insn.specs.Spelling.{spelling}
+use Rattle.bpf_insn.specs.{Table.fields_of, Spelling.spelling}
 use Rattle.bpf_insn.specs.Groups.{Brings, alu_group, atomic_group, base, divmul, group_of, holds, size_group}
 use Rattle.bpf_insn.specs.FileSteps.{AddsInsnAt, AreSettled, BeginsAt, opcode_has_group}
 use Rattle.bpf_insn.proofs.FormLemmas.{insn_form, op_code, opcode_of_form, same_form}
-use Rattle.bpf_insn.specs.declared.fault.SlotFault.{SlotFault}
-use Rattle.bpf_insn.specs.declared.group.Group.{Group}
-use Rattle.bpf_insn.specs.declared.group.Group.TheVariants.{Base32, Base64, Packet}
-use Rattle.bpf_insn.specs.declared.group.GroupSet.{GroupSet}
-use Rattle.bpf_insn.specs.declared.insn.Width.{Width}
-use Rattle.bpf_insn.specs.declared.insn.SwapKind.{SwapKind}
-use Rattle.bpf_insn.specs.declared.insn.AluOp.{AluOp}
+use Rattle.bpf_insn.specs.declared.{fault.SlotFault.SlotFault, group.GroupSet.GroupSet, insn.Width.Width, insn.AluOp.AluOp, insn.SwapKind.SwapKind}
+use Rattle.bpf_insn.specs.declared.group.Group.{Group, TheVariants.Base32, TheVariants.Base64, TheVariants.Packet}
 use Rattle.bpf_insn.specs.declared.insn.AluOp.TheVariants as alu
-use Rattle.bpf_insn.specs.declared.insn.Insn.{Insn}
-use Rattle.bpf_insn.specs.declared.insn.Insn.TheVariants.{Alu, Swap}
-use Rattle.bpf_insn.specs.declared.form.AluCode.{AluCode}
+use Rattle.bpf_insn.specs.declared.{insn.Insn.Insn, insn.Insn.TheVariants.Alu, insn.Insn.TheVariants.Swap, form.AluCode.AluCode}
 use Rattle.bpf_insn.specs.declared.form.AluCode.TheVariants as code
 use Rattle.bpf_insn.specs.declared.form.Form.{Form}
 use Rattle.bpf_insn.specs.declared.form.Form.TheVariants as form

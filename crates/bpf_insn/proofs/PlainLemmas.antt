@@ -1,26 +1,16 @@
 -- A slot that its opcode's rule allows is an instruction.
 use Rattle.std.proofs.Common.{◌≡◌, ℕ, ℤ, pos, List, length, take, Option, Some, None, Result, Ok, Err, IfOk, IfErr, refl, ap, sym, ◌∙◌, subst, drop}
 use Rattle.std.specs.Option.{IsSomeAnd, option_and_then}
-use Rattle.bpf_words.specs.declared.Order.{Order}
-use Rattle.bpf_words.specs.Slots.{Fields, AreFields, fields, spelled}
+use Rattle.bpf_words.specs.{declared.Order.Order, Slots.Fields, Slots.AreFields, Slots.fields, Slots.spelled}
 use Rattle.bpf_words.proofs.OneSpelling.{same_fields}
 use Rattle.bpf_insn.specs.Table.{fields_of, next_imm_of, IsInsn, IsOffset, IsImm, alu_code, alu_class, alu_offset, code_opcode}
-use Rattle.bpf_insn.specs.Spelling.{spelling}
-use Rattle.bpf_insn.specs.Faults.{BeginsWith, IsSlotFault}
-use Rattle.bpf_insn.specs.Forms.{form_at, form_opcode, alu_code_number}
-use Rattle.bpf_insn.specs.Plain.{IsWithin, IsPlain, rule_of_form}
-use Rattle.bpf_insn.proofs.OpcodeLemmas.{opcode_from_form_at}
-use Rattle.bpf_insn.proofs.WitnessLemmas.{reg}
-use Rattle.bpf_insn.proofs.ReadLemmas.{read_whole}
-use Rattle.bpf_insn.proofs.FileLaws.{begins_once}
-use Rattle.bpf_insn.specs.declared.fault.SlotFault.{SlotFault}
-use Rattle.bpf_insn.specs.declared.insn.AluOp.{AluOp}
+use Rattle.bpf_insn.specs.{Spelling.spelling, Faults.BeginsWith, Faults.IsSlotFault, declared.fault.SlotFault.SlotFault, declared.insn.AluOp.AluOp}
+use Rattle.bpf_insn.specs.{Forms.form_at, Forms.form_opcode, Forms.alu_code_number, Plain.IsWithin, Plain.IsPlain, Plain.rule_of_form}
+use Rattle.bpf_insn.proofs.{OpcodeLemmas.opcode_from_form_at, ReadLemmas.read_whole, WitnessLemmas.reg, FileLaws.begins_once}
 use Rattle.bpf_insn.specs.declared.insn.AluOp.TheVariants as alu
 use Rattle.bpf_insn.specs.declared.insn.Operand.TheVariants as arg
-use Rattle.bpf_insn.specs.declared.insn.Insn.{Insn}
+use Rattle.bpf_insn.specs.declared.{insn.Insn.Insn, form.Source.TheVariants.K, form.Source.TheVariants.X, form.AluCode.AluCode}
 use Rattle.bpf_insn.specs.declared.insn.Insn.TheVariants.{Alu, Neg, Jump, JumpLong, Branch, CallHelper, Exit, Load, LoadSigned, StoreImm, StoreReg, PacketAbs, PacketInd}
-use Rattle.bpf_insn.specs.declared.form.Source.TheVariants.{K, X}
-use Rattle.bpf_insn.specs.declared.form.AluCode.{AluCode}
 use Rattle.bpf_insn.specs.declared.form.AluCode.TheVariants as code
 use Rattle.bpf_insn.specs.declared.form.Form.{Form}
 use Rattle.bpf_insn.specs.declared.form.Form.TheVariants as form

@@ -2,8 +2,7 @@
 use Rattle.std.proofs.Common.{◌≡◌, ℕ, ◌^◌, ◌<◌, List, [], ◌∷◌, ◌++◌, length, ap, sym, ◌∙◌, arith}
 use Rattle.std.specs.Int.{w16, w32, cast_unsigned, cast_signed}
 use Rattle.std.proofs.lemmas.Int.{ints, of_z-to_z}
-use Rattle.bpf_words.specs.declared.Order.{Order}
-use Rattle.bpf_words.specs.declared.Order.TheVariants.{Little, Big}
+use Rattle.bpf_words.specs.declared.Order.{Order, TheVariants.Little, TheVariants.Big}
 use Rattle.bpf_words.specs.Words.{IsBytes, word16, word32, word16_at, word32_at}
 use Rattle.bpf_words.specs.Slots.{Fields, AreFields, fields, register_byte, spelled}
 use Rattle.bpf_words.proofs.WordLemmas.{IsBytes-take, IsBytes-drop, word16-word16_at, word32-word32_at, word32_at-below}

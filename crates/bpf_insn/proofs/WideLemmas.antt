@@ -1,25 +1,18 @@
 -- The faults of a second slot by its two 4-byte halves are the faults of the bytes by the set of all instructions.
 use Rattle.std.proofs.Common.{◌≡◌, ◌≢◌, ℕ, ◌+◌, ◌≤◌, ℤ, pos, List, ◌++◌, length, slice_range, refl, ap, sym, ◌∙◌, arith, inl, inr, subst, Some, append_assoc, length-append}
 use Rattle.std.specs.Int.{w32, cast_unsigned}
-use Rattle.bpf_words.specs.declared.Order.{Order}
-use Rattle.bpf_words.specs.declared.Order.TheVariants.{Little, Big}
-use Rattle.bpf_words.specs.Words.{word32}
-use Rattle.bpf_words.specs.Slots.{Fields, AreFields, fields, spelled}
+use Rattle.bpf_words.specs.declared.Order.{Order, TheVariants.Little, TheVariants.Big}
+use Rattle.bpf_words.specs.{Words.word32, Slots.Fields, Slots.AreFields, Slots.fields, Slots.spelled}
 use Rattle.bpf_insn.specs.Table.{fields_of, next_imm_of, IsInsn, IsReg, IsImm, wide_source, wide_next_imm}
-use Rattle.bpf_insn.specs.Spelling.{spelling, second_slot}
+use Rattle.bpf_insn.specs.{Spelling.spelling, Spelling.second_slot, Forms.LacksNextImm, Forms.IsWideFault, Forms.wide_place}
 use Rattle.bpf_insn.specs.Faults.{held, Agrees, AgreesThrough, SomeAgreesThrough, BeginsWith, IsSlotFault}
-use Rattle.bpf_insn.specs.Forms.{LacksNextImm, IsWideFault, wide_place}
 use Rattle.bpf_insn.proofs.FormLemmas.{insn_form, same_form}
 use Rattle.bpf_insn.proofs.WitnessLemmas.{reg, wide_load, wide_load_is, wide_load_source, wide_load_imm, zero_fits}
 use Rattle.bpf_insn.proofs.FieldLemmas as field
 use Rattle.bpf_insn.proofs.FaultLemmas.{begins_agrees, slot_length}
-use Rattle.bpf_insn.specs.declared.fault.SlotCause.{SlotCause}
+use Rattle.bpf_insn.specs.declared.{fault.SlotCause.SlotCause, insn.Reg.Reg, insn.WideOf.WideOf, insn.Insn.Insn, insn.Insn.TheVariants.Wide}
 use Rattle.bpf_insn.specs.declared.fault.SlotCause.TheVariants.{Truncated, Opcode, Dst, Src, Offset, Imm, Reserved, NextImm}
-use Rattle.bpf_insn.specs.declared.insn.Reg.{Reg}
-use Rattle.bpf_insn.specs.declared.insn.WideOf.{WideOf}
 use Rattle.bpf_insn.specs.declared.insn.WideOf.TheVariants.{Number, MapFd, MapValueFd, VarAddr, CodeAddr, MapIdx, MapValueIdx}
-use Rattle.bpf_insn.specs.declared.insn.Insn.{Insn}
-use Rattle.bpf_insn.specs.declared.insn.Insn.TheVariants.{Wide}
 use Rattle.bpf_insn.specs.declared.form.Form.TheVariants as form
 
 -- an instruction of the wide form is a wide load

@@ -1,17 +1,11 @@
 -- A slot is plain if the bits that its opcode's rule requires to be 0 are 0, and its registers are at most 10.
 use Rattle.std.proofs.Common.{◌≡◌, ℕ, zero, suc, ◌+◌, ◌*◌, ◌^◌, ◌<◌, ◌≤◌, pos, List, [], ◌∷◌, Bool, true, false, Option, Some, None, refl, ap, sym, ◌∙◌, arith, lit<, inl, inr, drop, slice_index, bit_and, bit_or}
-use Rattle.std.specs.Bool.{OnFalse}
-use Rattle.std.specs.Option.{IsSomeAnd}
-use Rattle.std.specs.Int.{w16, w32, w64, cast_unsigned, from_le_bytes}
+use Rattle.std.specs.{Bool.OnFalse, Option.IsSomeAnd, Int.w16, Int.w32, Int.w64, Int.cast_unsigned, Int.from_le_bytes}
 use Rattle.std.specs.Prelude.{IsTrue, ◌==◌}
-use Rattle.std.proofs.lemmas.Bool.{cases_eq}
-use Rattle.std.proofs.lemmas.Bool.Decides.{nat_tests}
-use Rattle.std.proofs.lemmas.Int.{ints}
+use Rattle.std.proofs.lemmas.{Bool.cases_eq, Bool.Decides.nat_tests, Int.ints}
 use Rattle.std.proofs.lemmas.Nat.{and_block, and_mask, and_comm, and_or_self, and_or_apart, le_or_l, le_or_r, from_le_bytes-to_le_bytes_2, from_le_bytes-to_le_bytes_4}
-use Rattle.bpf_words.specs.declared.Order.{Order}
-use Rattle.bpf_words.specs.declared.Order.TheVariants.{Little, Big}
-use Rattle.bpf_words.specs.Words.{word16, word32}
-use Rattle.bpf_words.specs.Slots.{Fields, AreFields, register_byte, spelled}
+use Rattle.bpf_words.specs.declared.Order.{Order, TheVariants.Little, TheVariants.Big}
+use Rattle.bpf_words.specs.{Words.word16, Words.word32, Slots.Fields, Slots.AreFields, Slots.register_byte, Slots.spelled}
 use Rattle.bpf_words.proofs.OneSpelling.{signed_16, signed_32, pattern_fits_16, pattern_fits_32}
 use Rattle.bpf_insn.specs.Plain.{Rule, IsWithin, IsPlain, rule_at, zero_unless, rule_bits, bits_of, zero_bits_at, registers_above}
 

@@ -3,6 +3,7 @@ use Rattle.std.specs.Prelude.{ℕ, List, codes}
 use Rattle.bpf_insn.specs.declared.fault.SlotCause.{SlotCause}
 use Rattle.bpf_insn.specs.declared.fault.SlotCause.TheVariants as cause
 
+-- the name of each cause
 abbrev pub cause_name : SlotCause → List ℕ
 cause_name cause.Truncated = codes "Truncated"
 cause_name cause.Opcode = codes "Opcode"
@@ -13,7 +14,7 @@ cause_name cause.Imm = codes "Imm"
 cause_name cause.Reserved = codes "Reserved"
 cause_name cause.NextImm = codes "NextImm"
 
--- a description of the cause, for people
+-- one sentence for each cause
 abbrev pub cause_sentence : SlotCause → List ℕ
 cause_sentence cause.Truncated = codes "the input ends inside an instruction"
 cause_sentence cause.Opcode = codes "no instruction has this opcode"

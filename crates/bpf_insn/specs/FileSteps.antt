@@ -2,15 +2,9 @@
 -- No contract of a public function cites this file.
 use Rattle.std.specs.Prelude.{◌≡◌, ◌↔◌, ◌⊎◌, ◌≤◌, ℕ, ◌+◌, ◌++◌, Bool, true, false, List, length, drop, slice_range, slice_index_or, All, IsTrue}
 use Rattle.bpf_words.specs.declared.Order.{Order}
-use Rattle.bpf_insn.specs.declared.insn.Insn.{Insn}
-use Rattle.bpf_insn.specs.declared.fault.SlotFault.{SlotFault}
-use Rattle.bpf_insn.specs.declared.insn.Insn.TheVariants.{Swap}
-use Rattle.bpf_insn.specs.declared.group.Group.{Group}
-use Rattle.bpf_insn.specs.declared.group.GroupSet.{GroupSet}
-use Rattle.bpf_insn.specs.Table.{IsInsn, fields_of}
-use Rattle.bpf_insn.specs.Spelling.{file_of, spelling}
-use Rattle.bpf_insn.specs.Faults.{BeginsWith, IsSlotFault}
-use Rattle.bpf_insn.specs.Groups.{Brings, InGroups, group_of, holds}
+use Rattle.bpf_insn.specs.declared.{insn.Insn.Insn, insn.Insn.TheVariants.Swap, fault.SlotFault.SlotFault, group.Group.Group, group.GroupSet.GroupSet}
+use Rattle.bpf_insn.specs.{Table.IsInsn, Table.fields_of, Spelling.file_of, Spelling.spelling}
+use Rattle.bpf_insn.specs.{Faults.BeginsWith, Faults.IsSlotFault, Groups.Brings, Groups.InGroups, Groups.group_of, Groups.holds}
 
 -- the bytes from an offset on begin with the spelling of an instruction
 abbrev pub BeginsAt : Order → List ℕ → ℕ → Insn → Type 0

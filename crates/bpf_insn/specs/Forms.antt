@@ -1,19 +1,11 @@
 -- Forms: what an opcode determines without the other fields, and which values each form allows in the fields after it.
 -- No contract of a public function cites this file.
 use Rattle.std.specs.Prelude.{◌≡◌, ◌≢◌, ◌==◌, List, length, slice_range, ℕ, ◌/◌, ◌%◌, ◌<◌, ◌≤◌, ℤ, pos, Option, Some, None, if◌then◌else◌, ◌⊎◌, option_and_then}
-use Rattle.bpf_words.specs.declared.Order.{Order}
-use Rattle.bpf_words.specs.Words.{word32}
-use Rattle.bpf_words.specs.Slots.{Fields, fields}
-use Rattle.bpf_insn.specs.Spelling.{second_slot}
-use Rattle.bpf_insn.specs.Faults.{place}
-use Rattle.bpf_insn.specs.declared.insn.WideOf.{WideOf}
+use Rattle.bpf_words.specs.{declared.Order.Order, Words.word32, Slots.Fields, Slots.fields}
+use Rattle.bpf_insn.specs.{Spelling.second_slot, Faults.place, declared.insn.WideOf.WideOf}
 use Rattle.bpf_insn.specs.Table.{code_opcode, mode_opcode, alu_class, alu_code, branch_class, branch_code, size_number, small_size_number, atomic_size, swap_opcode, swap_bits, atomic_number, IsReg, IsImm, IsInsn, IsOperand, fields_of, next_imm_of, source_bit, immediate, IsWideOf, wide_source, wide_imm, wide_next_imm}
 use Rattle.bpf_insn.specs.Table as table
-use Rattle.bpf_insn.specs.declared.insn.Insn.{Insn}
-use Rattle.bpf_insn.specs.declared.insn.Operand.{Operand}
-use Rattle.bpf_insn.specs.declared.insn.Width.{Width}
-use Rattle.bpf_insn.specs.declared.insn.Width.TheVariants.{W32, W64}
-use Rattle.bpf_insn.specs.declared.insn.Size.{Size}
+use Rattle.bpf_insn.specs.declared.insn.{Insn.Insn, Size.Size, Operand.Operand, Width.Width, Width.TheVariants.W32, Width.TheVariants.W64}
 use Rattle.bpf_insn.specs.declared.insn.Size.TheVariants as size
 use Rattle.bpf_insn.specs.declared.insn.SmallSize.{SmallSize}
 use Rattle.bpf_insn.specs.declared.insn.SmallSize.TheVariants as small
@@ -21,17 +13,12 @@ use Rattle.bpf_insn.specs.declared.insn.AluOp.TheVariants as alu
 use Rattle.bpf_insn.specs.declared.insn.BranchOp.{BranchOp}
 use Rattle.bpf_insn.specs.declared.insn.BranchOp.TheVariants as branch
 use Rattle.bpf_insn.specs.declared.insn.SwapKind.TheVariants as swap
-use Rattle.bpf_insn.specs.declared.insn.SwapBits.{SwapBits}
-use Rattle.bpf_insn.specs.declared.insn.AtomicOp.{AtomicOp}
-use Rattle.bpf_insn.specs.declared.form.Source.{Source}
-use Rattle.bpf_insn.specs.declared.form.Source.TheVariants.{K, X}
-use Rattle.bpf_insn.specs.declared.form.AluCode.{AluCode}
+use Rattle.bpf_insn.specs.declared.insn.{SwapBits.SwapBits, AtomicOp.AtomicOp}
+use Rattle.bpf_insn.specs.declared.form.{Source.Source, Source.TheVariants.K, Source.TheVariants.X, AluCode.AluCode}
 use Rattle.bpf_insn.specs.declared.form.AluCode.TheVariants as code
-use Rattle.bpf_insn.specs.declared.fault.SlotCause.{SlotCause}
+use Rattle.bpf_insn.specs.declared.{fault.SlotCause.SlotCause, form.Form.Form}
 use Rattle.bpf_insn.specs.declared.fault.SlotCause.TheVariants.{Truncated, Opcode, Dst, Src, Offset, Imm, Reserved, NextImm}
-use Rattle.bpf_insn.specs.declared.first_slot.FirstSlot.{FirstSlot}
-use Rattle.bpf_insn.specs.declared.first_slot.FirstSlot.TheVariants.{Whole, OfWideLoad}
-use Rattle.bpf_insn.specs.declared.form.Form.{Form}
+use Rattle.bpf_insn.specs.declared.first_slot.FirstSlot.{FirstSlot, TheVariants.Whole, TheVariants.OfWideLoad}
 use Rattle.bpf_insn.specs.declared.form.Form.TheVariants.{Alu, Neg, Swap, Jump, JumpLong, Branch, Call, Exit, Load, LoadSigned, StoreImm, StoreReg, Atomic, Wide, PacketAbs, PacketInd}
 
 -- the code of an operation; signed division shares that of the unsigned one

@@ -1,9 +1,7 @@
 -- The complete instructions at the start of the bytes.
 use Rattle.std.specs.Prelude.{◌≡◌, ◌≤◌, ℕ, List, [], Option, Some, None, length, drop}
 use Rattle.bpf_words.specs.declared.Order.{Order}
-use Rattle.bpf_insn.specs.declared.insn.Insn.{Insn}
-use Rattle.bpf_insn.specs.declared.fault.SlotFault.{SlotFault}
-use Rattle.bpf_insn.specs.declared.whole_insns.InsnFront.{InsnFront}
+use Rattle.bpf_insn.specs.declared.{insn.Insn.Insn, fault.SlotFault.SlotFault, whole_insns.InsnFront.InsnFront}
 use Rattle.bpf_insn.specs.Faults.{IsFront, IsSlotFault}
 
 -- no bytes are left, or this is their fault
@@ -11,7 +9,7 @@ abbrev pub StopsAt : Order → List ℕ → Option SlotFault → Type 0
 StopsAt order left None = left ≡ []
 StopsAt order left (Some fault) = IsSlotFault order left fault
 
--- the length and number of the instructions in the longest sequence of spellings at the start of the bytes, and the fault of the rest
+-- the length and the number of the instructions in the longest sequence of spellings at the start of the bytes, and the fault of what follows
 pub record IsInsnFront (order : Order) (bytes : List ℕ) (front : InsnFront) : Type 0 where
   pub insns : List Insn
   pub is : IsFront order bytes insns (drop front.len bytes)

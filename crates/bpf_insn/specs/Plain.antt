@@ -2,12 +2,9 @@
 -- No contract of a public function cites this file.
 use Rattle.std.specs.Prelude.{◌≡◌, ℕ, ◌+◌, ◌*◌, ◌/◌, ◌%◌, ◌≤◌, pos, Bool, true, false, Option, Some, None, IsSomeAnd, option_and_then}
 use Rattle.std.specs.Bool.{OnFalse}
-use Rattle.bpf_words.specs.declared.Order.{Order}
-use Rattle.bpf_words.specs.Slots.{Fields, register_byte}
+use Rattle.bpf_words.specs.{declared.Order.Order, Slots.Fields, Slots.register_byte}
 use Rattle.bpf_insn.specs.Forms.{form_at}
-use Rattle.bpf_insn.specs.declared.form.Source.{Source}
-use Rattle.bpf_insn.specs.declared.form.Source.TheVariants.{K, X}
-use Rattle.bpf_insn.specs.declared.form.Form.{Form}
+use Rattle.bpf_insn.specs.declared.form.{Source.Source, Source.TheVariants.K, Source.TheVariants.X, Form.Form}
 use Rattle.bpf_insn.specs.declared.form.Form.TheVariants.{Alu, Neg, Jump, JumpLong, Branch, Call, Exit, Load, LoadSigned, StoreImm, StoreReg, PacketAbs, PacketInd}
 
 -- which fields may have any value; the others must be 0

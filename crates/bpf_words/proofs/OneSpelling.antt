@@ -3,10 +3,8 @@ use Rattle.std.proofs.Common.{◌≡◌, ℕ, ◌<◌, ◌^◌, ℤ, refl, ap, s
 use Rattle.std.specs.Int.{w16, w32, cast_unsigned, cast_signed, from_le_bytes, from_be_bytes}
 use Rattle.std.proofs.lemmas.Nat.{from_le_bytes-to_le_bytes_2, from_be_bytes-to_be_bytes_2, from_le_bytes-to_le_bytes_4, from_be_bytes-to_be_bytes_4}
 use Rattle.std.proofs.lemmas.Int.{ints, to_z-of_z}
-use Rattle.bpf_words.specs.declared.Order.{Order}
-use Rattle.bpf_words.specs.declared.Order.TheVariants.{Little, Big}
-use Rattle.bpf_words.specs.Words.{word16, word32}
-use Rattle.bpf_words.specs.Slots.{Fields, AreFields, fields, spelled, register_byte}
+use Rattle.bpf_words.specs.declared.Order.{Order, TheVariants.Little, TheVariants.Big}
+use Rattle.bpf_words.specs.{Words.word16, Words.word32, Slots.Fields, Slots.AreFields, Slots.fields, Slots.spelled, Slots.register_byte}
 
 pub word-injective_16 : (order : Order) (m n : ℕ) → m < 2 ^ 16 → n < 2 ^ 16 → word16 order m ≡ word16 order n → m ≡ n
 word-injective_16 Little m n p q e = sym (from_le_bytes-to_le_bytes_2 m p) ∙ ap (from_le_bytes w16) e ∙ from_le_bytes-to_le_bytes_2 n q

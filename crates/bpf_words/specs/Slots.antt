@@ -1,11 +1,9 @@
 -- The 8 bytes of a basic instruction (RFC 9669 section 3).
 use Rattle.std.specs.Prelude.{ℕ, ◌+◌, ◌*◌, ◌<◌, ℤ, List, ◌∷◌, ◌++◌, FitsSigned}
 use Rattle.std.specs.Int.{w16, w32, cast_unsigned}
-use Rattle.bpf_words.specs.declared.Order.{Order}
-use Rattle.bpf_words.specs.declared.Order.TheVariants.{Little, Big}
-use Rattle.bpf_words.specs.Words.{word16, word32}
+use Rattle.bpf_words.specs.{declared.Order.Order, declared.Order.TheVariants.Little, declared.Order.TheVariants.Big, Words.word16, Words.word32}
 
--- the five fields of a slot
+-- the five fields of a slot: opcode, dst, src, offset, imm
 pub record Fields : Type 0 where
   pub opcode : ℕ
   pub dst : ℕ
@@ -16,7 +14,7 @@ pub record Fields : Type 0 where
 abbrev pub fields : ℕ → ℕ → ℕ → ℤ → ℤ → Fields
 fields opcode dst src off imm = record { opcode = opcode; dst = dst; src = src; off = off; imm = imm }
 
--- each field in its range
+-- each of the five fields of a slot is in its range (RFC 9669 section 3)
 pub record AreFields (f : Fields) : Type 0 where
   pub opcode : f.opcode < 256
   pub dst : f.dst < 16

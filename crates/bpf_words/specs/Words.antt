@@ -1,19 +1,18 @@
 -- Words of 16 and 32 bits in either byte order (RFC 9669 section 3; btf.rst section 2).
 use Rattle.std.specs.Prelude.{ℕ, ◌+◌, ◌*◌, ◌<◌, List, slice_index}
 use Rattle.std.specs.Int.{w16, w32, to_le_bytes, to_be_bytes}
-use Rattle.bpf_words.specs.declared.Order.{Order}
-use Rattle.bpf_words.specs.declared.Order.TheVariants.{Little, Big}
+use Rattle.bpf_words.specs.declared.Order.{Order, TheVariants.Little, TheVariants.Big}
 
 -- a list of bytes
 abbrev pub IsBytes : List ℕ → Type 0
 IsBytes bytes = (i : ℕ) → slice_index bytes i < 256
 
--- the 2 bytes of a number below 2 ^ 16
+-- the 2 bytes of a number below 2^16 in a byte order
 abbrev pub word16 : Order → ℕ → List ℕ
 word16 Little n = to_le_bytes w16 n
 word16 Big n = to_be_bytes w16 n
 
--- the 4 bytes of a number below 2 ^ 32
+-- the 4 bytes of a number below 2^32 in a byte order
 abbrev pub word32 : Order → ℕ → List ℕ
 word32 Little n = to_le_bytes w32 n
 word32 Big n = to_be_bytes w32 n

@@ -2,9 +2,7 @@
 use Rattle.std.proofs.Common.{◌≡◌, ℕ, zero, suc, ◌+◌, ◌-◌, ◌*◌, ◌^◌, ◌<◌, ◌≤◌, List, [], ◌∷◌, ◌++◌, length, take, replicate, refl, sym, ap, subst, ◌∙◌, inl, inr, append_assoc, append-nil, length-append, lit<, arith}
 use Rattle.std.specs.Prelude.{slice_index}
 use Rattle.std.proofs.lemmas.List.{drop_at, take_at, length-replicate}
-use Rattle.bpf_words.specs.declared.Order.{Order}
-use Rattle.bpf_words.specs.declared.Order.TheVariants.{Little, Big}
-use Rattle.bpf_words.specs.Words.{word16, word32_at}
+use Rattle.bpf_words.specs.{declared.Order.Order, declared.Order.TheVariants.Little, declared.Order.TheVariants.Big, Words.word16, Words.word32_at}
 use Rattle.bpf_words.proofs.WordLemmas.{word32_at-append, length-word16}
 use Rattle.btf_raw.specs.Frames.{bytes_of}
 use Rattle.btf_raw.proofs.Frames.{IsWords, word32_at-bytes_of, length-bytes_of}

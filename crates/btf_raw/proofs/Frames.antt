@@ -1,14 +1,10 @@
 -- Frames differ in their bytes: at most one list of frames is a prefix of a section up to the first record that isn't a frame.
 use Rattle.std.proofs.Common.{◌≡◌, ◌≢◌, ℕ, zero, suc, ◌+◌, ◌*◌, ◌^◌, ◌<◌, ◌≤◌, List, [], ◌∷◌, ◌++◌, length, drop, refl, sym, ap, subst, ◌∙◌, append_assoc, length-append, arith}
-use Rattle.std.specs.Prelude.{slice_index}
-use Rattle.std.specs.List.{All}
-use Rattle.std.proofs.lemmas.List.{drop_at}
-use Rattle.std.proofs.lemmas.List.Elements.{All-head, All-tail}
-use Rattle.bpf_words.specs.declared.Order.{Order}
-use Rattle.bpf_words.specs.Words.{word32, word32_at}
+use Rattle.std.specs.{Prelude.slice_index, List.All}
+use Rattle.std.proofs.lemmas.List.{drop_at, Elements.All-head, Elements.All-tail}
+use Rattle.bpf_words.specs.{declared.Order.Order, Words.word32, Words.word32_at}
 use Rattle.bpf_words.proofs.WordLemmas.{word32_at-word32, length-word32, word32_at-append}
-use Rattle.btf_raw.specs.declared.cause.BtfCause.{BtfCause}
-use Rattle.btf_raw.specs.declared.cause.BtfCause.TheVariants.{RecordCut, TailCut}
+use Rattle.btf_raw.specs.declared.cause.BtfCause.{BtfCause, TheVariants.RecordCut, TheVariants.TailCut}
 use Rattle.btf_raw.specs.Kinds.{tail_words}
 use Rattle.btf_raw.specs.Frames.{IsFrame, bytes_of, section_of, InfoFault, RecordFault, info_word, kind, vlen}
 use Rattle.btf_raw.proofs.RecordFaults.{allowed_has_none}

@@ -1,20 +1,15 @@
 -- A file's header has no fault if and only if the file can be cut.
 use Rattle.std.proofs.Common.{◌≡◌, ◌≢◌, ◌⊎◌, ℕ, zero, suc, ◌+◌, ◌-◌, ◌*◌, ◌^◌, ◌<◌, ◌≤◌, List, ◌++◌, length, get_or, drop, replicate, refl, sym, ap, ◌∙◌, inl, inr, append_assoc, length-append, lit<, arith}
 use Rattle.std.specs.Prelude.{slice_index}
-use Rattle.std.proofs.lemmas.Bool.{cases_lt, cases_eq}
-use Rattle.std.proofs.lemmas.List.{drop_at, get_or-drop, length-replicate}
+use Rattle.std.proofs.lemmas.{Bool.cases_lt, Bool.cases_eq, List.drop_at, List.get_or-drop, List.length-replicate}
 use Rattle.std.proofs.Math.ListN.{get_or-append}
-use Rattle.bpf_words.specs.declared.Order.{Order}
-use Rattle.bpf_words.specs.declared.Order.TheVariants.{Little, Big}
+use Rattle.bpf_words.specs.declared.Order.{Order, TheVariants.Little, TheVariants.Big}
 use Rattle.bpf_words.specs.Words.{IsBytes, word16_at, word32_at}
-use Rattle.btf_raw.specs.declared.header.Header.{Header}
+use Rattle.btf_raw.specs.{declared.header.Header.Header, Cause.HasNone, Frames.bytes_of}
 use Rattle.btf_raw.specs.declared.cause.BtfCause.TheVariants.{ShortHeader, Magic, Version, Flags, HeaderLength, HeaderTail, TypeLength, StringLength, Sections, FileLength}
-use Rattle.btf_raw.specs.Cause.{HasNone}
-use Rattle.btf_raw.specs.Frames.{bytes_of}
 use Rattle.btf_raw.specs.Header.{Cut, HeaderFault, HasOrder, HasWord, header, TYPES_LIMIT, STRINGS_LIMIT}
 use Rattle.btf_raw.specs.ReadHeader.{StartIsRight, LengthIsRight, SectionsAreRight, ReadsHeader}
-use Rattle.btf_raw.proofs.Frames.{length-bytes_of}
-use Rattle.btf_raw.proofs.Headers.{reads_header}
+use Rattle.btf_raw.proofs.{Frames.length-bytes_of, Headers.reads_header}
 use Rattle.btf_raw.proofs.Cuts.{header_words, first_four, header_regrouped, length-first_four, length-header, header_word, five_fit}
 
 -- ---- without a fault the numbers are right

@@ -1,15 +1,11 @@
 -- A header that passes every test cuts the file.
 use Rattle.std.proofs.Common.{◌≡◌, ℕ, ◌+◌, ◌-◌, ◌<◌, ◌≤◌, List, [], ◌∷◌, ◌++◌, length, take, drop, replicate, refl, sym, ap, ◌∙◌, inl, inr, arith, Result, Ok, Err}
-use Rattle.std.proofs.lemmas.List.{take_all, get_or-drop, length-drop}
-use Rattle.std.proofs.Math.Seq.{drop-cons}
+use Rattle.std.proofs.{lemmas.List.take_all, lemmas.List.get_or-drop, lemmas.List.length-drop, Math.Seq.drop-cons}
 use Rattle.std.specs.Prelude.{MatchResult}
-use Rattle.btf_raw.specs.declared.cause.BtfFault.{BtfFault}
-use Rattle.bpf_words.specs.declared.Order.{Order}
-use Rattle.bpf_words.specs.Words.{IsBytes, word16, word32, word32_at}
+use Rattle.btf_raw.specs.{declared.cause.BtfFault.BtfFault, declared.header.Header.Header, Cause.HasNone}
+use Rattle.bpf_words.specs.{declared.Order.Order, Words.IsBytes, Words.word16, Words.word32, Words.word32_at}
 use Rattle.bpf_words.proofs.WordLemmas.{word16-word16_at, word32-word32_at}
-use Rattle.btf_raw.specs.declared.header.Header.{Header}
 use Rattle.btf_raw.specs.Header.{Cut, HeaderFault, part, header, TYPES_LIMIT, STRINGS_LIMIT}
-use Rattle.btf_raw.specs.Cause.{HasNone}
 use Rattle.btf_raw.specs.ReadHeader.{LengthIsRight, SectionsAreRight, ReadsHeader}
 use Rattle.btf_raw.proofs.Parts.{front_more, length-part, zeros_are_part}
 

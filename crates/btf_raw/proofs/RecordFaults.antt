@@ -1,15 +1,12 @@
 -- The faults of the record at an offset: in info, 4 bytes on, or in the length of its data, 12 bytes on.
 use Rattle.std.proofs.Common.{◌≡◌, ◌⊎◌, ℕ, ◌+◌, ◌*◌, ◌<◌, ◌≤◌, List, length, drop, refl, sym, subst, ◌∙◌, inl, inr, arith}
 use Rattle.std.proofs.lemmas.List.{length-drop}
-use Rattle.bpf_words.specs.declared.Order.{Order}
-use Rattle.bpf_words.specs.Words.{word32_at}
+use Rattle.bpf_words.specs.{declared.Order.Order, Words.word32_at}
 use Rattle.bpf_words.proofs.WordLemmas.{word32_at-drop}
-use Rattle.btf_raw.specs.declared.cause.BtfCause.{BtfCause}
+use Rattle.btf_raw.specs.{declared.cause.BtfCause.BtfCause, Cause.LeastByPlace}
 use Rattle.btf_raw.specs.declared.cause.BtfCause.TheVariants.{RecordCut, TailCut, InfoBits, KindNumber, FlagSet, Vlen}
-use Rattle.btf_raw.specs.Cause.{LeastByPlace}
-use Rattle.btf_raw.specs.Kinds.{kind_of, vlen_of, tail_words}
+use Rattle.btf_raw.specs.{Kinds.kind_of, Kinds.vlen_of, Kinds.tail_words, Heads.HeadFault, Heads.LeastOfInfo}
 use Rattle.btf_raw.specs.Frames.{InfoFault, RecordFault, HasInfo, IsAllowed}
-use Rattle.btf_raw.specs.Heads.{HeadFault, LeastOfInfo}
 
 abbrev pub info_at : Order → List ℕ → ℕ → ℕ
 info_at o types pos = word32_at o types (pos + 4)

@@ -1,12 +1,10 @@
 -- An info word is allowed if and only if the bits are 0 that must be 0 for its kind.
 use Rattle.std.proofs.Common.{◌≡◌, ◌⊎◌, ℕ, zero, suc, ◌+◌, ◌-◌, ◌/◌, ◌%◌, ◌^◌, ◌<◌, List, [], ◌∷◌, Bool, true, false, refl, ap, sym, ◌∙◌, inl, inr, arith, drop, slice_index, bit_and}
 use Rattle.std.specs.Prelude.{IsTrue, if◌then◌else◌}
-use Rattle.std.proofs.lemmas.Bool.{cases_eq}
+use Rattle.std.proofs.lemmas.{Bool.cases_eq, Nat.and_mask, Nat.and_shr, Nat.and_mod, Nat.shr_split}
 use Rattle.std.specs.Int.Bits.{and_zero_l, and_zero_r}
-use Rattle.std.proofs.lemmas.Nat.{and_mask, and_shr, and_mod, shr_split}
 use Rattle.btf_raw.specs.Kinds.{is_kind, has_flag, has_vlen, kind_of, vlen_of, flag_of, unused_of}
-use Rattle.btf_raw.specs.Frames.{IsAllowed}
-use Rattle.btf_raw.specs.ZeroBits.{zero_bits_of}
+use Rattle.btf_raw.specs.{Frames.IsAllowed, ZeroBits.zero_bits_of}
 
 -- ---- a table of 32 numbers
 

@@ -3,6 +3,7 @@ use Rattle.std.specs.Prelude.{ℕ, List, codes}
 use Rattle.btf_raw.specs.declared.cause.BtfCause.{BtfCause}
 use Rattle.btf_raw.specs.declared.cause.BtfCause.TheVariants as btf_cause
 
+-- the name of each cause of BTF
 abbrev pub btf_cause_name : BtfCause → List ℕ
 btf_cause_name btf_cause.ShortHeader = codes "ShortHeader"
 btf_cause_name btf_cause.Magic = codes "Magic"
@@ -37,6 +38,7 @@ btf_cause_name btf_cause.MemberPlace = codes "MemberPlace"
 btf_cause_name btf_cause.Linkage = codes "Linkage"
 btf_cause_name btf_cause.Component = codes "Component"
 
+-- one sentence for each cause of BTF
 abbrev pub btf_cause_sentence : BtfCause → List ℕ
 btf_cause_sentence btf_cause.ShortHeader = codes "the file has fewer than 24 bytes"
 btf_cause_sentence btf_cause.Magic = codes "the file does not begin with the BTF magic number in either byte order"

@@ -1,8 +1,7 @@
 -- Records as they are stored in the type section, each a list of 32-bit words: name_off, info, size or type, and the data after them.
 use Rattle.std.specs.Prelude.{◌≡◌, ◌≢◌, ◌⊎◌, ℕ, ◌+◌, ◌*◌, ◌<◌, ◌≤◌, ◌^◌, IsTrue, IsFalse, List, ◌++◌, length, slice_index}
 use Rattle.std.specs.List.{All, flat_map}
-use Rattle.bpf_words.specs.declared.Order.{Order}
-use Rattle.bpf_words.specs.Words.{word32, word32_at}
+use Rattle.bpf_words.specs.{declared.Order.Order, Words.word32, Words.word32_at}
 use Rattle.btf_raw.specs.declared.cause.BtfCause.{BtfCause}
 use Rattle.btf_raw.specs.declared.cause.BtfCause.TheVariants.{RecordCut, InfoBits, KindNumber, FlagSet, Vlen, TailCut}
 use Rattle.btf_raw.specs.Kinds.{vlen_of, kind_of, flag_of, unused_of, is_kind, has_flag, has_vlen, tail_words}
@@ -17,18 +16,19 @@ info_word frame = slice_index frame 1
 abbrev pub third_word : List ℕ → ℕ
 third_word frame = slice_index frame 2
 
--- the kind of a frame: bits 24 to 28 of info
+-- the kind of a record
 abbrev pub kind : List ℕ → ℕ
 kind frame = kind_of (info_word frame)
 
--- the vlen of a frame: bits 0 to 15 of info
+-- vlen of a record
 abbrev pub vlen : List ℕ → ℕ
 vlen frame = vlen_of (info_word frame)
 
+-- its kind_flag, 0 or 1: bit 31 of its info word
 abbrev pub flag : List ℕ → ℕ
 flag frame = flag_of (info_word frame)
 
--- info is one that the table of kinds allows, the linkage of a FUNC aside
+-- info is allowed by the table of kinds, except for the linkage of a FUNC
 pub record IsAllowed (info : ℕ) : Type 0 where
   pub unused : unused_of info ≡ 0
   pub kind : IsTrue (is_kind (kind_of info))

@@ -1,7 +1,6 @@
 -- The header of a BTF section and its two parts (btf.rst section 2).
 use Rattle.std.specs.Prelude.{◌≡◌, ◌≢◌, ◌⊎◌, ℕ, ◌+◌, ◌-◌, ◌<◌, ◌≤◌, min, List, [], ◌∷◌, ◌++◌, length, take, drop, replicate, slice_index}
-use Rattle.bpf_words.specs.declared.Order.{Order}
-use Rattle.bpf_words.specs.Words.{word16, word32, word16_at, word32_at}
+use Rattle.bpf_words.specs.{declared.Order.Order, Words.word16, Words.word32, Words.word16_at, Words.word32_at}
 use Rattle.btf_raw.specs.declared.cause.BtfCause.{BtfCause}
 use Rattle.btf_raw.specs.declared.cause.BtfCause.TheVariants.{ShortHeader, Magic, Version, Flags, HeaderLength, HeaderTail, TypeLength, StringLength, Sections, FileLength, FirstString, LastString}
 
@@ -38,7 +37,7 @@ HasOrder b o = (2 ≤ length b) × (word16_at o b 0 ≡ 0xeb9f)
 abbrev pub HasWord : List ℕ → Order → ℕ → ℕ → Type 0
 HasWord b o place w = HasOrder b o × (place + 4 ≤ length b) × (w ≡ word32_at o b place)
 
--- What a cause from ShortHeader to FileLength says of a file, and at which place. Other causes aren't of the header.
+-- what each cause from ShortHeader to FileLength says of a file, and at which offset (btf.rst section 2)
 abbrev pub HeaderFault : List ℕ → ℕ → BtfCause → Type 0
 HeaderFault b p ShortHeader = (length b < 24) × (p ≡ length b)
 HeaderFault b p Magic = (2 ≤ length b) × ((o : Order) → ¬ HasOrder b o) × (p ≡ 0)
@@ -60,7 +59,7 @@ HeaderFault b p FileLength =
     × (header_len + type_len + str_len ≢ length b) × (p ≡ min (header_len + type_len + str_len) (length b))
 HeaderFault b p _ = ⊥
 
--- the same of a string section, with places that count from its first byte
+-- what FirstString and LastString say of a string section, and at which offset
 abbrev pub StringFault : List ℕ → ℕ → BtfCause → Type 0
 StringFault strings p FirstString = (p ≡ 0) × (0 < length strings) × (slice_index strings p ≢ 0)
 StringFault strings p LastString = (p + 1 ≡ length strings) × (slice_index strings p ≢ 0)

@@ -1,10 +1,10 @@
 -- What the numbers of a header mean.
 use Rattle.std.specs.Prelude.{◌≡◌, ◌⊎◌, ℕ, ◌+◌, ◌<◌, ◌≤◌, List, length, slice_index}
-use Rattle.bpf_words.specs.declared.Order.{Order}
-use Rattle.bpf_words.specs.Words.{word16_at, word32_at}
+use Rattle.bpf_words.specs.{declared.Order.Order, Words.word16_at, Words.word32_at}
 use Rattle.btf_raw.specs.declared.header.Header.{Header}
 use Rattle.btf_raw.specs.Header.{Cut, part, types_at, strings_at, TYPES_LIMIT, STRINGS_LIMIT}
 
+-- what the numbers of a header mean (btf.rst section 2)
 pub record ReadsHeader (b : List ℕ) (h : Header) : Type 0 where
   pub cut : Cut b h.order (part b h.types_pos h.types_len) (part b h.str_pos h.str_len)
   pub types_pos : h.types_pos ≡ types_at h.order b

@@ -1,6 +1,5 @@
 use Rattle.std.proofs.Common.{slice_index, refl, arith}
-use Rattle.bpf_insn.specs.declared.plain.TheConstants.{ABOVE}
-use Rattle.bpf_insn.specs.Plain.{registers_above}
+use Rattle.bpf_insn.specs.{declared.plain.TheConstants.ABOVE, Plain.registers_above}
 use Rattle.bpf_insn.proofs.ZeroBits.{same_table}
 use Rattle.bpf_insn.proofs.plain.registers_above_ten.Goals as goal
 

@@ -1,8 +1,7 @@
 use Rattle.std.proofs.Common.{slice_index, refl, arith}
 use Rattle.bpf_words.specs.declared.Order.TheVariants.{Little, Big}
-use Rattle.bpf_insn.specs.declared.plain.TheConstants.{ZERO_LITTLE, ZERO_BIG}
+use Rattle.bpf_insn.specs.{declared.plain.TheConstants.ZERO_LITTLE, declared.plain.TheConstants.ZERO_BIG, Plain.zero_bits_at}
 use Rattle.bpf_insn.specs.Forms.{form_at, alu32_form_at, alu64_form_at, jump32_form_at, jump64_form_at, load_form_at, alu_code_at, branch_op_at, size_at, small_size_at}
-use Rattle.bpf_insn.specs.Plain.{zero_bits_at}
 use Rattle.bpf_insn.proofs.ZeroBits.{same_table}
 use Rattle.bpf_insn.proofs.plain.zero_bits.Goals as goal
 

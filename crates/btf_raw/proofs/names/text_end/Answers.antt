@@ -1,7 +1,5 @@
 -- The first NUL of the rest ends the string.
-use Rattle.std.proofs.Common.{arith}
-use Rattle.std.proofs.lemmas.Bool.{eqb-true, eq-eqb}
-use Rattle.std.proofs.lemmas.List.{take_rest}
+use Rattle.std.proofs.{Common.arith, lemmas.Bool.eqb-true, lemmas.Bool.eq-eqb, lemmas.List.take_rest}
 use Rattle.btf_raw.proofs.Texts.{IsEnd-first}
 use Rattle.btf_raw.proofs.names.text_end.Goals as goal
 

@@ -1,8 +1,7 @@
 use Rattle.std.proofs.Common.{◌≡◌, ◌+◌, ◌^◌, ◌∙◌, ℕ, IsTrue, ap, arith, bit_and, refl, subst, sym}
 use Rattle.std.specs.Prelude.{◌==◌}
 use Rattle.std.proofs.lemmas.Bool.{eqb-true}
-use Rattle.btf_raw.specs.Kinds.{kind_of}
-use Rattle.btf_raw.specs.ZeroBits.{zero_bits_of}
+use Rattle.btf_raw.specs.{Kinds.kind_of, ZeroBits.zero_bits_of}
 use Rattle.btf_raw.proofs.ZeroBits.{allowed_by_bits, bits_by_allowed}
 use Rattle.btf_raw.proofs.zero_bits.is_allowed.Goals as goal
 

@@ -1,7 +1,5 @@
 use Rattle.std.proofs.Common.{slice_index, refl, arith}
-use Rattle.btf_raw.specs.declared.zero_bits.TheConstants.{ZERO_BITS}
-use Rattle.btf_raw.specs.Kinds.{is_kind, has_flag, has_vlen}
-use Rattle.btf_raw.specs.ZeroBits.{zero_bits_of}
+use Rattle.btf_raw.specs.{declared.zero_bits.TheConstants.ZERO_BITS, ZeroBits.zero_bits_of, Kinds.is_kind, Kinds.has_flag, Kinds.has_vlen}
 use Rattle.btf_raw.proofs.ZeroBits.{same_table}
 use Rattle.btf_raw.proofs.zero_bits.zero_bits.Goals as goal
 

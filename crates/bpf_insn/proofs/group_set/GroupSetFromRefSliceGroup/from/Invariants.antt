@@ -1,7 +1,6 @@
 use Rattle.std.proofs.Common.{◌↔◌, IsTrue, take}
 use Rattle.std.specs.List.{Any}
-use Rattle.bpf_insn.specs.declared.group.Group.{Group}
-use Rattle.bpf_insn.specs.Groups.{Brings, holds}
+use Rattle.bpf_insn.specs.{declared.group.Group.Group, Groups.Brings, Groups.holds}
 use Rattle.bpf_insn.proofs.group_set.GroupSetFromRefSliceGroup.from.Given as goal
 
 abbrev pub invariant-loop-group : goal.invariant-loop-group
