@@ -37,7 +37,8 @@ impl TryFrom<u8> for Reg {
     type Error = NoSuchReg;
 
     ghost try_from_gives = { λ number r.
-        MatchResult r (λ reg. register_number reg ≡ number) (λ _. 10 < number) };
+        MatchResult r (λ reg. register_number reg ≡ number)
+            (λ fault. 10 < number × fault.0 ≡ number) };
 
     fn try_from(number: u8) -> Result<Reg, NoSuchReg> {
         Reg::new(number).ok_or(NoSuchReg(number))
