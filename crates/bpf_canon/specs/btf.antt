@@ -1,4 +1,4 @@
--- How the engine on BTF and the comparison of BTF files end.
+-- How the engine for BTF and the comparison of BTF files end.
 pub mod RunBtf
 pub mod SameBtf
 pub mod CanonicalBtf

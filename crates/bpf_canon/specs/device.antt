@@ -1,4 +1,4 @@
--- What devices give and take.
+-- What devices read and write.
 pub mod Device
 pub mod Memory
 pub mod Reads

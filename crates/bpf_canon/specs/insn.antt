@@ -1,4 +1,4 @@
--- Streams of instructions, engines on them, and their canonical bytes.
+-- Streams of instructions, engines for them, and their canonical bytes.
 pub mod FeedState
 pub mod FeedStream
 pub mod FrontReads

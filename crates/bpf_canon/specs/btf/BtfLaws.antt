@@ -1,4 +1,4 @@
--- What calls on canonical BTF answer, and the laws of canonical BTF.
+-- What the calls for canonical BTF return, and the laws of canonical BTF.
 use Rattle.std.specs.Prelude.{◌≡◌, ◌≤◌, ℕ, List, length}
 use Rattle.std.specs.List.{All}
 use Rattle.bpf_words.specs.declared.Order.{Order}
@@ -11,7 +11,7 @@ use Rattle.btf_types.specs.Denotes.{Denotes}
 use Rattle.btf_types.specs.strings.TableLaws.{HasName}
 use Rattle.bpf_canon.specs.btf.CanonicalBtf.{canonical}
 
--- The file denotes some records, and these are their canonical bytes in little-endian order. They are a file of the same records,
+-- The file denotes some records, and these are their canonical bytes in little-endian order. They are a valid file of the same records,
 -- and the canonical bytes of all records that they denote.
 pub record IsCanonicalBtf (bytes canon : List ℕ) : Type 0 where
   pub records : List TypeRecord
@@ -20,11 +20,11 @@ pub record IsCanonicalBtf (bytes canon : List ℕ) : Type 0 where
   pub accepted : Denotes canon records
   pub own : (w : List TypeRecord) → Denotes canon w → canonical Little w ≡ canon
 
--- canonical bytes are accepted, and denote the records that they were made of
+-- canonical bytes are accepted, and denote the records that they encode
 abbrev pub CanonicalBtfIsAccepted : Type 0
 CanonicalBtfIsAccepted = (o : Order) (v : List TypeRecord) → IsGood v → Denotes (canonical o v) v
 
--- records with the same canonical bytes are the same
+-- records with the same canonical bytes are equal
 abbrev pub CanonicalBtfTellsApart : Type 0
 CanonicalBtfTellsApart = (o : Order) (v w : List TypeRecord) → IsGood v → IsGood w → canonical o v ≡ canonical o w → v ≡ w
 
@@ -32,6 +32,6 @@ CanonicalBtfTellsApart = (o : Order) (v w : List TypeRecord) → IsGood v → Is
 abbrev pub CanonicalBtfIsShortest : Type 0
 CanonicalBtfIsShortest = (o : Order) (b : List ℕ) (v : List TypeRecord) → Denotes b v → length (canonical o v) ≤ length b
 
--- a section that has all hosts is at least as long as their table
+-- a section that contains all hosts is at least as long as their table
 abbrev pub HostsFitSections : Type 0
 HostsFitSections = (xs : List (List ℕ)) (section : List ℕ) → HasNulEnds section → All (HasName section) (hosts xs) → length (shared_table xs) ≤ length section

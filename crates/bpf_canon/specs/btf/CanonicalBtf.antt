@@ -12,7 +12,7 @@ use Rattle.btf_raw.specs.Heads.{bit}
 use Rattle.btf_types.specs.Spelling.{kind_number, head_third, record_vlen, head_tail, info}
 use Rattle.btf_types.specs.Good.{has_bit_fields}
 
--- kind_flag: of a STRUCT or UNION 0 exactly where all widths are 0; of a kind whose value it is part of as the value has it; else 0
+-- kind_flag: for a STRUCT or UNION, 0 if and only if all widths are 0; for a kind whose value includes it, that bit; 0 otherwise
 abbrev pub canonical_flag : TypeHead → Bool → ℕ
 canonical_flag (KStruct name size) bit_fields = bit bit_fields
 canonical_flag (KUnion name size) bit_fields = bit bit_fields
@@ -23,7 +23,7 @@ canonical_flag (KTypeTag name flag target) bit_fields = bit flag
 canonical_flag (KEnum64 name signed size) bit_fields = bit signed
 canonical_flag _ bit_fields = 0
 
--- the words of an item, whose name is at its place; a width is in the high 8 bits, and a 64-bit value has its low word first
+-- the 32-bit words of an item, first the offset of its name; a width is in the high 8 bits, and a 64-bit value is split low half first
 abbrev pub words_of_item : (List ℕ → ℕ) → TypeItem → List ℕ
 words_of_item place (Member name target bit_offset width) = place name ∷ target ∷ (bit_offset + 2 ^ 24 * width) ∷ []
 words_of_item place (EnumValue name value) = place name ∷ value ∷ []
@@ -31,20 +31,20 @@ words_of_item place (Value64 name value) = place name ∷ value % 2 ^ 32 ∷ val
 words_of_item place (Param name target) = place name ∷ target ∷ []
 words_of_item place (Entry target offset size) = target ∷ offset ∷ size ∷ []
 
--- the words of a record: its name at its place, info, the third word, and what follows
+-- the 32-bit words of a record: the offset of its name, info, size or type, and the rest
 abbrev pub record_words : (List ℕ → ℕ) → TypeRecord → List ℕ
 record_words place r =
     place (head_name r.head) ∷ info (kind_number r.head) (record_vlen r) (canonical_flag r.head (has_bit_fields r)) ∷ head_third r.head
     ∷ (head_tail r.head ++ flat_map (words_of_item place) r.items)
 
--- the words of each record, with names at their places in the string table
+-- the 32-bit words of all records, with the offsets of names in the string table
 abbrev pub canonical_frames : List TypeRecord → List (List ℕ)
 canonical_frames v = map (record_words (place_of v)) v
 
 abbrev pub canonical_types : Order → List TypeRecord → List ℕ
 canonical_types o v = section_of o (canonical_frames v)
 
--- a header of 24 bytes with type_off 0 and str_off = type_len, the records, and the string table
+-- a 24-byte header with type_off 0 and str_off = type_len, the records, and the string table
 abbrev pub canonical : Order → List TypeRecord → List ℕ
 canonical o v =
     header o 24 0 (length (canonical_types o v)) (length (canonical_types o v)) (length (string_table v)) ++ canonical_types o v ++ string_table v

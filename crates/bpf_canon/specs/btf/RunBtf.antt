@@ -1,4 +1,4 @@
--- What the engine on BTF did.
+-- What the engine for BTF did.
 use Rattle.std.specs.Prelude.{◌≡◌, ◌<◌, ◌≤◌, ◌+◌, ℕ, List, length, take}
 use Rattle.std.specs.Io.KnownBytes.{Appends, Consumes, IsAtEnd}
 use Rattle.bpf_words.specs.declared.Order.{Order}
@@ -12,22 +12,22 @@ use Rattle.bpf_canon.specs.Engine.{Devices}
 use Rattle.bpf_canon.specs.declared.engine.RunCause.{RunCause}
 use Rattle.bpf_canon.specs.declared.engine.RunCause.TheVariants as cause
 
--- how many bytes the engine takes
+-- the largest number of bytes that the engine accepts
 abbrev pub btf_limit : ℕ
 btf_limit = 50335744
 
--- these bytes came within the limit, and then the source ended
+-- these bytes were read, not more than the limit, and then the source ended
 pub record CameWhole (d : Devices) (read : List ℕ) : Type 0 where
   pub came : Consumes d.source d.source_after read
   pub ended : IsAtEnd d.source_after
   pub within : length read ≤ btf_limit
 
--- the sink is as it was
+-- the sink is unchanged
 pub record WroteNothing (d : Devices) (written : ℕ) : Type 0 where
   pub kept : d.sink_after ≡ d.sink
   pub none : written ≡ 0
 
--- what came is a file of some records, and the sink took their canonical bytes in the order `to`
+-- the input is a file of some records, and the sink accepted their canonical bytes in the order `to`
 pub record RanBtf (d : Devices) (to : Order) (written : ℕ) : Type 0 where
   pub read : List ℕ
   pub input : CameWhole d read
@@ -36,14 +36,14 @@ pub record RanBtf (d : Devices) (to : Order) (written : ℕ) : Type 0 where
   pub took : Appends d.sink d.sink_after (canonical to records)
   pub all : written ≡ length (canonical to records)
 
--- this is the first fault of what came
+-- this is the first fault of the input
 pub record StopsAtBtfFault (d : Devices) (written : ℕ) (f : BtfFault) : Type 0 where
   pub read : List ℕ
   pub input : CameWhole d read
   pub first : IsFirst read f
   pub nothing : WroteNothing d written
 
--- more than the limit came, by one read at most
+-- the input is longer than the limit, and was read past it by one read at most
 pub record StopsBtfTooLong (d : Devices) (written : ℕ) : Type 0 where
   pub read : List ℕ
   pub came : Consumes d.source d.source_after read
@@ -51,14 +51,14 @@ pub record StopsBtfTooLong (d : Devices) (written : ℕ) : Type 0 where
   pub near : length read ≤ btf_limit + read_room
   pub nothing : WroteNothing d written
 
--- a read failed before more than the limit came
+-- a read failed before more bytes than the limit were read
 pub record StopsBtfUnread (d : Devices) (written : ℕ) : Type 0 where
   pub read : List ℕ
   pub came : Consumes d.source d.source_after read
   pub within : length read ≤ btf_limit
   pub nothing : WroteNothing d written
 
--- what came is a file of some records, and a write failed when the sink had taken the first of their canonical bytes, but not all
+-- the input is a file of some records, and a write failed after the sink had accepted a proper prefix of their canonical bytes
 pub record StopsBtfUnwritten (d : Devices) (to : Order) (written : ℕ) : Type 0 where
   pub read : List ℕ
   pub input : CameWhole d read
@@ -67,14 +67,14 @@ pub record StopsBtfUnwritten (d : Devices) (to : Order) (written : ℕ) : Type 0
   pub took : Appends d.sink d.sink_after (take written (canonical to records))
   pub part : written < length (canonical to records)
 
--- the allocator is out of memory
+-- an allocation failed
 pub record StopsBtfRefused (d : Devices) (written : ℕ) : Type 0 where
   pub read : List ℕ
   pub came : Consumes d.source d.source_after read
   pub near : length read ≤ btf_limit + read_room
   pub nothing : WroteNothing d written
 
--- what the engine did that gives up for this cause
+-- what the engine did if it stops with this cause
 abbrev pub StopsBtf : Devices → Order → ℕ → RunCause BtfFault → Type 0
 StopsBtf d to written (cause.Fault f) = StopsAtBtfFault d written f
 StopsBtf d to written cause.TooLong = StopsBtfTooLong d written

@@ -1,4 +1,4 @@
--- What the comparison of two BTF files answers.
+-- What the comparison of two BTF files returns.
 use Rattle.std.specs.Prelude.{◌≡◌, ◌↔◌, ℕ, Bool, List, IsTrue, ⊤}
 use Rattle.bpf_words.specs.declared.Order.TheVariants.{Little}
 use Rattle.btf_raw.specs.declared.cause.BtfFault.{BtfFault}
@@ -9,7 +9,7 @@ use Rattle.bpf_canon.specs.btf.CanonicalBtf.{canonical}
 use Rattle.bpf_canon.specs.declared.engine.SideError.{SideError}
 use Rattle.bpf_canon.specs.declared.engine.SideError.TheVariants as side
 
--- two files, and whether they denote the same records, which is whether their canonical bytes are the same
+-- two files, and whether they denote the same records, which is whether their canonical bytes are equal
 pub record ComparesBtf (a b : List ℕ) (same : Bool) : Type 0 where
   pub first : List TypeRecord
   pub second : List TypeRecord
@@ -18,7 +18,7 @@ pub record ComparesBtf (a b : List ℕ) (same : Bool) : Type 0 where
   pub records : IsTrue same ↔ (first ≡ second)
   pub forms : IsTrue same ↔ (canonical Little first ≡ canonical Little second)
 
--- the fault that an error names is the first of the first file, or that of the second, and then the first file has none
+-- the fault in an error is the first fault of the first file, or that of the second, and then the first file is valid
 abbrev pub NamesBtfSide : List ℕ → List ℕ → SideError BtfFault → Type 0
 NamesBtfSide a b (side.First f) = IsFirst a f
 NamesBtfSide a b (side.Second f) = ((v : List TypeRecord) × Denotes a v) × IsFirst b f

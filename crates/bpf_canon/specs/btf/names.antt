@@ -1,2 +1,2 @@
--- The string table from the texts of names.
+-- The string table from the strings of names.
 pub mod Interned

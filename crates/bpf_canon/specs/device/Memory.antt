@@ -1,9 +1,9 @@
--- How the devices over memory give and take.
+-- How the in-memory devices read and write.
 use Rattle.std.specs.Prelude.{◌-◌, ◌+◌, ◌≤◌, ℕ, List, Option, option_map, vec_len, vec_capacity}
 use Rattle.bpf_canon.specs.declared.device.memory.MemSource.{MemSource}
 use Rattle.bpf_canon.specs.declared.device.memory.MemSink.{MemSink}
 
--- at most `piece` bytes a call; `good_calls` is how many calls still succeed, where not all do
+-- at most `piece` bytes per call; `good_calls` is the number of calls that still succeed, if not all do
 pub record Pace : Type 0 where
   pub piece : ℕ
   pub good_calls : Option ℕ
@@ -16,7 +16,7 @@ new_pace piece fuse = record { piece = piece; good_calls = option_map (λ n. n -
 abbrev pub next_pace : Pace → Pace
 next_pace p = record p { good_calls = option_map (λ n. n - 1) p.good_calls }
 
--- the bytes that a source has still to give
+-- the bytes that a source hasn't returned yet
 abbrev pub source_bytes : MemSource → List ℕ
 source_bytes s = s.rest.now
 
@@ -24,7 +24,7 @@ source_bytes s = s.rest.now
 abbrev pub source_failures : MemSource → ℕ
 source_failures s = s.failed_reads
 
--- how much it gives at a read, and for how long
+-- how many bytes a read returns, and how many reads succeed
 abbrev pub source_pace : MemSource → Pace
 source_pace s = record { piece = s.piece; good_calls = s.good_reads }
 
@@ -36,10 +36,10 @@ sink_bytes s = s.out.now.items
 abbrev pub sink_failures : {A : Type 0} → MemSink A → ℕ
 sink_failures s = s.failed_writes
 
--- how much it takes at a write, and for how long
+-- how many bytes a write accepts, and how many writes succeed
 abbrev pub sink_pace : {A : Type 0} → MemSink A → Pace
 sink_pace s = record { piece = s.piece; good_calls = s.good_writes }
 
--- whether the vector of a sink has room for n more bytes
+-- whether the vector of a sink has capacity for n more bytes
 abbrev pub HasRoom : {A : Type 0} → MemSink A → ℕ → Type 0
 HasRoom s n = vec_len s.out.now + n ≤ vec_capacity s.out.now

@@ -1,18 +1,18 @@
--- How the reading of a whole input gives up.
+-- How reading an entire input fails.
 use Rattle.std.specs.Prelude.{◌<◌, ◌≤◌, ◌+◌, ℕ, List, length}
 use Rattle.bpf_canon.specs.declared.device.source.ReadError.{ReadError}
 use Rattle.bpf_canon.specs.declared.device.source.ReadError.TheVariants.{TooLong, ReadFailed, Memory}
 
--- how many bytes each read offers room for
+-- the size in bytes of the buffer of each read
 abbrev pub read_room : ℕ
 read_room = 4096
 
--- how many reads failed, where the reading ends with this error
+-- the number of failed reads, if reading ends with this error
 abbrev pub failed_reads : ReadError → ℕ
 failed_reads ReadFailed = 1
 failed_reads _ = 0
 
--- how much came, where the reading ends with this error; the last read may go beyond the limit
+-- the number of bytes read, if reading ends with this error; the last read may exceed the limit
 abbrev pub EndsAmid : ℕ → List ℕ → ReadError → Type 0
 EndsAmid limit bytes TooLong = (limit < length bytes) × (length bytes ≤ limit + read_room)
 EndsAmid limit bytes ReadFailed = length bytes ≤ limit

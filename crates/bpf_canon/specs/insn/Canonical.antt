@@ -27,18 +27,18 @@ pub record Compares (o : Order) (a : List ℕ) (p : Order) (b : List ℕ) (same 
   pub lists : IsTrue same ↔ (first ≡ second)
   pub canonical : IsTrue same ↔ (file_of Little first ≡ file_of Little second)
 
--- the fault that an error names is that of the bytes
+-- the fault in an error is that of the bytes
 abbrev pub NamesFault : Order → List ℕ → InsnError → Type 0
 NamesFault o b (error.Fault f) = IsInsnFault o b f
 NamesFault o b error.Memory = Unit {0}
 
--- the fault that an error names is that of the first file, or that of the second, and then the first has none
+-- the fault in an error is that of the first file, or that of the second, and then the first file is valid
 abbrev pub NamesSide : Order → List ℕ → Order → List ℕ → SideError SlotFault → Type 0
 NamesSide o a p b (side.First f) = IsInsnFault o a f
 NamesSide o a p b (side.Second f) = ((l : List Insn) × InsnFile o a l) × IsInsnFault p b f
 NamesSide o a p b side.Memory = Unit {0}
 
--- canonical bytes are accepted, and denote the instructions that they were made of
+-- canonical bytes are accepted, and denote the instructions that they encode
 abbrev pub CanonicalBytesAreAccepted : Type 0
 CanonicalBytesAreAccepted = (l : List Insn) → All IsInsn l → InsnFile Little (file_of Little l) l
 
@@ -46,6 +46,6 @@ CanonicalBytesAreAccepted = (l : List Insn) → All IsInsn l → InsnFile Little
 abbrev pub CanonicalBytesAreTheirOwn : Type 0
 CanonicalBytesAreTheirOwn = (o : Order) (bytes canon : List ℕ) → IsCanonical o bytes canon → IsCanonical Little canon canon
 
--- two files denote the same instructions exactly where their canonical bytes are equal
+-- two files denote the same instructions if and only if their canonical bytes are equal
 abbrev pub CanonicalBytesTellFilesApart : Type 0
 CanonicalBytesTellFilesApart = (o p : Order) (a b : List ℕ) (l m : List Insn) → InsnFile o a l → InsnFile p b m → (l ≡ m) ↔ (file_of Little l ≡ file_of Little m)

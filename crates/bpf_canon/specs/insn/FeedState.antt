@@ -6,23 +6,23 @@ use Rattle.bpf_insn.specs.declared.fault.SlotCause.TheVariants.{Truncated}
 use Rattle.bpf_insn.specs.Faults.{IsSlotFault}
 
 pub record FeedState : Type 0 where
-  -- the order of the bytes that come, and the order of the bytes that go
+  -- the byte order of the input, and the byte order of the output
   pub order : Order
   pub to : Order
-  -- the bytes of an instruction that hasn't come whole
+  -- the bytes of the last, incomplete instruction
   pub held : List ℕ
-  -- how many bytes came
+  -- the number of bytes fed so far
   pub fed : ℕ
-  -- how many instructions were whole
+  -- the number of complete instructions so far
   pub count : ℕ
-  -- the fault of the stream, where it has one that no more bytes can mend
+  -- the fault of the stream, if it has one that no further bytes can change
   pub fault : Option SlotFault
 
--- where the slot begins whose bytes are missing, counted from the first byte that is held
+-- the offset of the slot whose bytes are missing, from the first held byte
 abbrev pub missing_place : ℕ → ℕ
 missing_place n = if nat_lt n 8 then 0 else 8
 
--- nothing, or the beginning of an instruction that hasn't come whole
+-- nothing, or the beginning of an incomplete instruction
 abbrev pub IsCut : Order → List ℕ → Type 0
 IsCut o s = (s ≡ []) ⊎ IsSlotFault o s (record { pos = missing_place (length s); cause = Truncated })
 

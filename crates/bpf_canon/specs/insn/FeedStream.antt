@@ -1,4 +1,4 @@
--- What a feed represents: the stream of bytes that came so far.
+-- What a feed represents: the stream of the bytes fed so far.
 use Rattle.std.specs.Prelude.{◌≡◌, ◌++◌, ◌+◌, ◌-◌, ℕ, List, [], ◌∷◌, Option, Some, None, Result, Ok, Err, length, MatchResult}
 use Rattle.bpf_words.specs.declared.Order.{Order}
 use Rattle.bpf_insn.specs.declared.insn.Insn.{Insn}
@@ -10,12 +10,12 @@ use Rattle.bpf_insn.specs.Spelling.{file_of, InsnFile}
 use Rattle.bpf_insn.specs.Faults.{IsFront, IsInsnFault}
 use Rattle.bpf_canon.specs.insn.FeedState.{FeedState, missing_place}
 
--- the bytes have this fault, and no more bytes can mend it
+-- the bytes have this fault, and no further bytes can change it
 pub record HasFault (o : Order) (b : List ℕ) (f : SlotFault) : Type 0 where
   pub fault : IsInsnFault o b f
   pub lasting : f.cause ≡ Truncated → ⊥
 
--- the bytes have no fault but that they end too soon
+-- the bytes have no fault except that they may end within an instruction
 abbrev pub IsSound : Order → List ℕ → Type 0
 IsSound o b = (f : SlotFault) → IsInsnFault o b f → f.cause ≡ Truncated
 
@@ -35,7 +35,7 @@ pub record Represents (s : FeedState) (o to : Order) (b : List ℕ) : Type 0 whe
   pub count : s.count ≡ length insns
   pub keeps : Keeps o b rest s.held s.fault
 
--- where the stream b goes on by `more`, the output grows by the bytes of the instructions that its front gains
+-- if the stream b is extended by `more`, the output grows by the bytes of the instructions that are now complete
 pub record Gains (o to : Order) (b more old new : List ℕ) : Type 0 where
   pub before : List Insn
   pub rest : List ℕ
@@ -45,33 +45,33 @@ pub record Gains (o to : Order) (b more old new : List ℕ) : Type 0 where
   pub longer : IsFront o (b ++ more) (before ++ gained) left
   pub grows : new ≡ old ++ file_of to gained
 
--- a feed that represented a stream represents it with the piece, and the output has what its front gained
+-- a feed that represented a stream represents it with the piece, and the output has gained the instructions that are now complete
 pub record Moves (s t : FeedState) (piece old new : List ℕ) : Type 0 where
   pub represents : (o to : Order) (b : List ℕ) → Represents s o to b → Represents t o to (b ++ piece)
   pub gains : (o to : Order) (b : List ℕ) → Represents s o to b → Gains o to b piece old new
 
--- the fault that an error names is a lasting one of the stream
+-- the fault in an error is a lasting fault of the stream
 abbrev pub IsLastingFaultOf : Order → List ℕ → InsnError → Type 0
 IsLastingFaultOf o b (error.Fault f) = HasFault o b f
 IsLastingFaultOf o b error.Memory = Unit {0}
 
--- a call that succeeds where the stream b has no lasting fault, and else names that fault
+-- a call that succeeds if the stream b has no lasting fault, and returns that fault otherwise
 abbrev pub AnswersFor : {T : Type 0} → Order → List ℕ → Result T InsnError → Type 0
 AnswersFor o b r = MatchResult r (λ _. IsSound o b) (IsLastingFaultOf o b)
 
--- what a piece does to a feed that keeps no fault, by the answer: the feed and the output move on, or nothing changes
+-- what a piece does to a feed that keeps no fault, by the result: the feed and the output advance, or nothing changes
 abbrev pub Feeds : FeedState → FeedState → List ℕ → List ℕ → List ℕ → Result (Unit {0}) InsnError → Type 0
 Feeds s t piece old new (Ok done) = Moves s t piece old new × ((t.fault ≡ None) × (t.fed ≡ s.fed + length piece))
 Feeds s t piece old new (Err (error.Fault f)) =
     Moves s t piece old new × ((t.fault ≡ Some f) × ((t.held ≡ []) × (t.fed ≡ s.fed + length piece)))
 Feeds s t piece old new (Err error.Memory) = (t ≡ s) × (new ≡ old)
 
--- the number of instructions of an instruction file, or the fault of what is none
+-- the number of instructions of an instruction file, or the fault of an invalid one
 abbrev pub Finishes : Order → List ℕ → Result ℕ SlotFault → Type 0
 Finishes o b r = MatchResult r (λ n. (l : List Insn) × (InsnFile o b l × (n ≡ length l))) (IsInsnFault o b)
 
 -- how a stream ends after `fed` bytes and `count` instructions: with the fault that is kept, with the count, or with
--- the place of the slot whose bytes are missing
+-- the offset of the slot whose bytes are missing
 abbrev pub end_after : ℕ → ℕ → List ℕ → Option SlotFault → Result ℕ SlotFault
 end_after fed count held (Some f) = Err f
 end_after fed count [] None = Ok count

@@ -1,4 +1,4 @@
--- What reading whole instructions from the front of some bytes comes to. Private contracts alone cite it.
+-- The result of reading the complete instructions at the start of a buffer. Only private contracts cite it.
 use Rattle.std.specs.Prelude.{◌≡◌, ◌≤◌, ◌+◌, ◌++◌, ℕ, List, [], Option, Some, None, length, drop}
 use Rattle.bpf_words.specs.declared.Order.{Order}
 use Rattle.bpf_insn.specs.declared.insn.Insn.{Insn}
@@ -11,11 +11,11 @@ use Rattle.bpf_insn.specs.Faults.{BeginsWith, IsFront, IsSlotFault}
 use Rattle.bpf_insn.specs.Fronts.{StopsAt}
 use Rattle.bpf_canon.specs.insn.FeedState.{FeedState, IsCut}
 
--- the bytes begin with no instruction
+-- the bytes don't begin with an instruction
 abbrev pub BeginsNone : Order → List ℕ → Type 0
 BeginsNone o s = (i : Insn) → BeginsWith o i s → ⊥
 
--- the front of the bytes was read, and the bytes of its instructions were appended in the order `to`
+-- the instructions at the start of the bytes were read, and were appended in the order `to`
 pub record ReadsFront (o to : Order) (bytes : List ℕ) (read : InsnFront) (old new : List ℕ) : Type 0 where
   pub insns : List Insn
   pub front : IsFront o bytes insns (drop read.len bytes)
@@ -24,19 +24,19 @@ pub record ReadsFront (o to : Order) (bytes : List ℕ) (read : InsnFront) (old 
   pub within : read.len ≤ length bytes
   pub grows : new ≡ old ++ file_of to insns
 
--- some held bytes and the first bytes of a piece spell the instruction
+-- the held bytes and the first bytes of a piece encode the instruction
 pub record BeginsAcross (o : Order) (i : Insn) (held piece : List ℕ) (used : ℕ) : Type 0 where
   pub insn : IsInsn i
   pub within : used ≤ length piece
   pub whole : held ++ piece ≡ spelling o i ++ drop used piece
   pub size : length (spelling o i) ≡ length held + used
 
--- what is held, and which fault is kept, by what is left of a stream after `fed` bytes
+-- what is held, and which fault is kept, by the rest of a stream after `fed` bytes
 abbrev pub Leaves : Order → ℕ → List ℕ → List ℕ → Option SlotFault → Type 0
 Leaves o fed left held None = (held ≡ left) × IsCut o left
 Leaves o fed left held (Some f) = (held ≡ []) × ((e : SlotFault) × (IsSlotFault o left e × ((e.cause ≡ Truncated → ⊥) × ((f.pos + length left ≡ fed + e.pos) × (f.cause ≡ e.cause)))))
 
--- a feed without a fault has read the whole instructions of what it held and the piece
+-- a feed without a fault has read the complete instructions of its held bytes and the piece
 pub record Advances (s t : FeedState) (piece old new : List ℕ) : Type 0 where
   pub reads : t.order ≡ s.order
   pub writes : t.to ≡ s.to

@@ -1,4 +1,4 @@
--- What one piece of the input does. Private contracts alone cite it.
+-- What one piece of the input does. Only private contracts cite it.
 use Rattle.std.specs.Prelude.{◌≡◌, ◌≤◌, ℕ, List, [], Option, Some, None, length, take}
 use Rattle.std.specs.Io.KnownBytes.{Appends}
 use Rattle.bpf_insn.specs.declared.fault.SlotFault.{SlotFault}
@@ -7,7 +7,7 @@ use Rattle.bpf_canon.specs.insn.FeedStream.{Moves}
 use Rattle.bpf_canon.specs.declared.engine.RunCause.{RunCause}
 use Rattle.bpf_canon.specs.declared.engine.RunCause.TheVariants as cause
 
--- the feed took the piece, and the sink took what became whole
+-- the feed accepted the piece, and the sink the instructions that it completed
 pub record Passed (s t : FeedState) (piece : List ℕ) (sink sink_after : Option (List ℕ)) (written : ℕ) : Type 0 where
   pub out : List ℕ
   pub moves : Moves s t piece [] out
@@ -15,7 +15,7 @@ pub record Passed (s t : FeedState) (piece : List ℕ) (sink sink_after : Option
   pub took : Appends sink sink_after out
   pub all : written ≡ length out
 
--- the feed took the piece, whose fault it keeps, and the sink took what became whole
+-- the feed accepted the piece, whose fault it keeps, and the sink the instructions that it completed
 pub record PassedFault (s t : FeedState) (piece : List ℕ) (sink sink_after : Option (List ℕ)) (written : ℕ) (f : SlotFault) : Type 0 where
   pub out : List ℕ
   pub moves : Moves s t piece [] out
@@ -23,7 +23,7 @@ pub record PassedFault (s t : FeedState) (piece : List ℕ) (sink sink_after : O
   pub took : Appends sink sink_after out
   pub all : written ≡ length out
 
--- the feed took the piece, and the sink a part of what became whole
+-- the feed accepted the piece, and the sink a prefix of the instructions that it completed
 pub record PassedPart (s t : FeedState) (piece : List ℕ) (sink sink_after : Option (List ℕ)) (written : ℕ) : Type 0 where
   pub out : List ℕ
   pub moves : Moves s t piece [] out

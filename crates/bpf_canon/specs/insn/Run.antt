@@ -1,4 +1,4 @@
--- What an engine on instructions did.
+-- What an engine for instructions did.
 use Rattle.std.specs.Prelude.{◌≡◌, ◌<◌, ◌≤◌, ◌+◌, ℕ, List, length, take}
 use Rattle.std.specs.Io.KnownBytes.{Appends, Consumes, IsAtEnd}
 use Rattle.bpf_words.specs.declared.Order.{Order}
@@ -13,11 +13,11 @@ use Rattle.bpf_canon.specs.insn.FeedStream.{IsSound}
 use Rattle.bpf_canon.specs.declared.engine.RunCause.{RunCause}
 use Rattle.bpf_canon.specs.declared.engine.RunCause.TheVariants as cause
 
--- how many bytes an engine takes
+-- the largest number of bytes that an engine accepts
 abbrev pub limit : ℕ
 limit = 67108864
 
--- the source ended, what it gave is the spellings of some instructions, and the sink took these in the order `to`
+-- the source ended, the input is the encoding of some instructions, and the sink accepted these in the order `to`
 pub record RanWhole (d : Devices) (o to : Order) (written : ℕ) : Type 0 where
   pub read : List ℕ
   pub came : Consumes d.source d.source_after read
@@ -28,15 +28,15 @@ pub record RanWhole (d : Devices) (o to : Order) (written : ℕ) : Type 0 where
   pub took : Appends d.sink d.sink_after (file_of to insns)
   pub all : written ≡ length (file_of to insns)
 
--- what came goes beyond the limit by one read at most; of the instructions at the front of what came within
--- the limit, the sink took the first bytes in the order `to`
+-- the input was read past the limit by one read at most, and the sink accepted a prefix of the bytes, in the order `to`,
+-- that encode the instructions at the start of the input within the limit
 pub record Wrote (d : Devices) (o to : Order) (read : List ℕ) (written : ℕ) : Type 0 where
   pub came : Consumes d.source d.source_after read
   pub near : length read ≤ limit + read_room
   pub prefix : (insns : List Insn) (rest : List ℕ) → IsFront o (take limit read) insns rest
       → (written ≤ length (file_of to insns)) × Appends d.sink d.sink_after (take written (file_of to insns))
 
--- the sink took all of them
+-- likewise, and the sink accepted all these bytes
 pub record WroteAll (d : Devices) (o to : Order) (read : List ℕ) (written : ℕ) : Type 0 where
   pub came : Consumes d.source d.source_after read
   pub near : length read ≤ limit + read_room
@@ -46,33 +46,33 @@ pub record WroteAll (d : Devices) (o to : Order) (read : List ℕ) (written : �
   pub took : Appends d.sink d.sink_after (file_of to insns)
   pub all : written ≡ length (file_of to insns)
 
--- a complete slot is faulty, or the source ended in the midst of an instruction
+-- a complete slot is faulty, or the source ended within an instruction
 pub record StopsAtFault (d : Devices) (o to : Order) (written : ℕ) (f : SlotFault) : Type 0 where
   pub read : List ℕ
   pub wrote : WroteAll d o to read written
   pub fault : IsInsnFault o (take limit read) f
   pub ended : f.cause ≡ Truncated → IsAtEnd d.source_after × (length read ≤ limit)
 
--- more than the limit came, and no complete slot within it is faulty
+-- the input is longer than the limit, and no complete slot within it is faulty
 pub record StopsTooLong (d : Devices) (o to : Order) (written : ℕ) : Type 0 where
   pub read : List ℕ
   pub wrote : WroteAll d o to read written
   pub sound : IsSound o (take limit read)
   pub beyond : limit < length read
 
--- a read failed before more than the limit came, and no complete slot that came is faulty
+-- a read failed before more bytes than the limit were read, and no complete slot that was read is faulty
 pub record StopsUnread (d : Devices) (o to : Order) (written : ℕ) : Type 0 where
   pub read : List ℕ
   pub wrote : WroteAll d o to read written
   pub sound : IsSound o (take limit read)
   pub within : length read ≤ limit
 
--- a write failed, or the allocator is out of memory
+-- a write failed, or an allocation failed
 pub record StopsUnwritten (d : Devices) (o to : Order) (written : ℕ) : Type 0 where
   pub read : List ℕ
   pub wrote : Wrote d o to read written
 
--- what an engine did that gives up for this cause
+-- what an engine did if it stops with this cause
 abbrev pub Stops : Devices → Order → Order → ℕ → RunCause SlotFault → Type 0
 Stops d o to written (cause.Fault f) = StopsAtFault d o to written f
 Stops d o to written cause.TooLong = StopsTooLong d o to written

@@ -15,7 +15,7 @@ pub trait ByteSink {
     ghost failures: { Self → ℕ };
 
     /// Writes a prefix of the slice. `Ok(n)` means that the first `n` bytes were accepted, at least
-    /// one unless the slice is empty.
+    /// one unless the slice is empty. Fewer than `u64::MAX` writes may have failed before.
     ///
     /// # Errors
     ///

@@ -19,7 +19,8 @@ pub trait ByteSource {
     ghost failures: { Self → ℕ };
 
     /// Reads into the start of the buffer. `Ok(n)` means that `n` bytes were read into the first
-    /// `n` bytes of the buffer; `n` is 0 only at the end of input, or if the buffer is empty.
+    /// `n` bytes of the buffer; `n` is 0 only at the end of input, or if the buffer is empty. Fewer
+    /// than `u64::MAX` reads may have failed before.
     ///
     /// # Errors
     ///

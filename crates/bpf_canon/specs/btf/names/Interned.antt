@@ -1,4 +1,4 @@
--- What maps and sets of lent texts hold. Contracts of private functions cite it.
+-- The contents of maps and sets of borrowed strings. Contracts of private functions cite it.
 use Rattle.std.specs.Prelude.{◌≡◌, ◌⊎◌, ◌<◌, ◌^◌, ℕ, List, [], ◌∷◌, ◌++◌, length, map, slice_index, slice_index_or}
 use Rattle.std.specs.Borrow.{Bor}
 use Rattle.std.specs.List.{All, Contains}
@@ -6,15 +6,15 @@ use Rattle.std.specs.List.Sorted.{IsPermutation, IsSorted}
 use Rattle.btf_types.specs.Names.{kept, table_of, place_in}
 use Rattle.btf_types.specs.strings.SharedNames.{tail_cmp, hosts_of, host_in}
 
--- the texts that are lent
+-- the borrowed strings
 abbrev pub lent_texts : List (Bor (List ℕ)) → List (List ℕ)
 lent_texts names = map (λ name. name.now) names
 
--- new holds the kept names of one name more than old
+-- new contains the kept names of old and of one more name
 abbrev pub AddsName : List (List ℕ) → List (List ℕ) → List ℕ → Type 0
 AddsName old new x = (xs : List (List ℕ)) → old ≡ kept xs → new ≡ kept (xs ++ x ∷ [])
 
--- the same for several names
+-- likewise for several names
 abbrev pub AddsNames : List (List ℕ) → List (List ℕ) → List (List ℕ) → Type 0
 AddsNames old new names = (xs : List (List ℕ)) → old ≡ kept xs → new ≡ kept (xs ++ names)
 
@@ -26,7 +26,7 @@ IsPlaced names x = (x ≡ []) ⊎ Contains names x
 abbrev pub name_at : List (List ℕ) → ℕ → List ℕ
 name_at ks i = slice_index_or ks i []
 
--- The names with their indices, sorted by their bytes from the end.
+-- The names with their indices, sorted by their reversed bytes.
 pub record AreIndexed (ks : List (List ℕ)) (sorted : List (Bor (List ℕ) × ℕ)) : Type 0 where
   pub permutation : IsPermutation ks (map (λ s. s.0.now) sorted)
   pub in_order : IsSorted tail_cmp (map (λ s. s.0.now) sorted)
@@ -40,13 +40,13 @@ pub record HaveHosts (ks : List (List ℕ)) (hosts : List ℕ) : Type 0 where
   pub inside : (i : ℕ) → i < length ks → slice_index hosts i < length ks
   pub each : (i : ℕ) → i < length ks → name_at ks (slice_index hosts i) ≡ host_in (hosts_of ks) (name_at ks i)
 
--- each name that is its own host has its place in their table, which has this length
+-- each name that is its own host has its offset in their table, which has this length
 pub record ArePlacedHosts (ks : List (List ℕ)) (hosts places : List ℕ) (table_len : ℕ) : Type 0 where
   pub whole : length places ≡ length ks
   pub each : (i : ℕ) → i < length ks → slice_index hosts i ≡ i → slice_index places i ≡ place_in (hosts_of ks) (name_at ks i)
   pub long : table_len ≡ length (table_of (hosts_of ks))
 
--- What the kept names are stored with: their hosts, and the place of each host.
+-- What is stored for the kept names: the host of each, and the offset of each host.
 pub record AreShared (ks : List (List ℕ)) (hosts places : List ℕ) (table_len : ℕ) : Type 0 where
   pub have_hosts : HaveHosts ks hosts
   pub are_placed : ArePlacedHosts ks hosts places table_len

@@ -1,13 +1,13 @@
--- The offsets of a string section at which names begin, each once, in the order of first use.
+-- The distinct offsets of a string section at which names begin, in the order of first use.
 use Rattle.std.specs.Prelude.{◌≡◌, ◌≢◌, ℕ, zero, suc, ◌+◌, ◌/◌, ◌%◌, nat_eq, List, [], ◌∷◌, ◌++◌, length, slice_index, if◌then◌else◌}
 use Rattle.std.specs.Int.{bit_at}
 use Rattle.std.specs.List.{list_any, Contains}
 
--- an offset more goes last, where it isn't there yet
+-- another offset is appended, unless it is already present
 abbrev pub noted : List ℕ → ℕ → List ℕ
 noted offsets off = if list_any (nat_eq off) offsets then offsets else offsets ++ off ∷ []
 
--- several more, one after the other
+-- several more, in sequence
 abbrev pub noted_all : List ℕ → List ℕ → List ℕ
 noted_all offsets [] = offsets
 noted_all offsets (off ∷ offs) = noted_all (noted offsets off) offs
@@ -20,7 +20,7 @@ pub record Noted : Type 0 where
 abbrev pub nothing_noted : ℕ → Noted
 nothing_noted section_len = record { section_len = section_len; offsets = [] }
 
--- the bit of an offset in words of 64
+-- the bit of an offset in 64-bit words
 abbrev pub mark_of : List ℕ → ℕ → ℕ
 mark_of words off = bit_at (slice_index words (off / 64)) (off % 64)
 
@@ -29,12 +29,12 @@ abbrev pub slots_of : List ℕ → ℕ → List ℕ
 slots_of words zero = []
 slots_of words (suc n) = slots_of words n ++ mark_of words n ∷ []
 
--- a byte of the section is marked exactly where its offset is noted
+-- a byte of the section is marked if and only if its offset is noted
 pub record AreMarked (offsets marks : List ℕ) : Type 0 where
   pub marked : (off : ℕ) → Contains offsets off → slice_index marks off ≢ 0
   pub only : (off : ℕ) → slice_index marks off ≢ 0 → Contains offsets off
 
--- the words have a bit for each byte of the section, which is set for the noted offsets
+-- the bit set has a bit for each byte of the section, which is set for the noted offsets
 pub record HaveMarks (section_len : ℕ) (words offsets : List ℕ) : Type 0 where
   pub whole : length words ≡ section_len / 64 + 1
   pub are_marked : AreMarked offsets (slots_of words section_len)

@@ -21,16 +21,16 @@ pub record IsSpan (section : List ℕ) (s : Span) : Type 0 where
   pub up : s.start ≤ s.end
   pub inside : s.end < length section
 
--- new spans have the bytes of old ones, then the bytes of a text
+-- the new spans have the bytes of the old ones, then the bytes of a string
 pub record HasText (section : List ℕ) (old new : List Span) (text : Span) : Type 0 where
   pub are_spans : All (IsSpan section) new
   pub bytes : flat_map (span_bytes section) new ≡ flat_map (span_bytes section) old ++ span_bytes section text
 
--- the same in each section that has the old spans and the text
+-- likewise in each section that contains the old spans and the string
 abbrev pub AddsText : List Span → List Span → Span → Type 0
 AddsText old new text = (section : List ℕ) → All (IsSpan section) old → IsSpan section text → HasText section old new text
 
--- Among the names xs, x has the text of this rank as its host, which doesn't end the next one.
+-- Among the names xs, the host of x is the string of this rank, which isn't a suffix of the next one.
 pub record IsAtHost (sorted xs : List (List ℕ)) (x : List ℕ) (h : InHost) : Type 0 where
   pub rank : ℕ
   pub numbered : h.host ≡ rank + 1
@@ -47,7 +47,7 @@ pub record HasHost (section slots : List ℕ) (sorted xs : List (List ℕ)) (in_
   pub empty : slice_index section off ≡ 0 → host_at slots in_hosts off ≡ no_host
   pub some : slice_index section off ≢ 0 → IsAtHost sorted xs (text_from section off) (host_at slots in_hosts off)
 
--- The hosts are spans of the section, and the text of each rank that is a host has its place.
+-- The hosts are spans of the section, and each rank whose string is a host has its offset.
 pub record AreHostPlaces (section : List ℕ) (sorted xs : List (List ℕ)) (by_rank : List ℕ) (spans : List Span) (len : ℕ) : Type 0 where
   pub are_spans : All (IsSpan section) spans
   pub texts : flat_map (span_bytes section) spans ≡ flat_map with_nul (hosts xs)
@@ -56,7 +56,7 @@ pub record AreHostPlaces (section : List ℕ) (sorted xs : List (List ℕ)) (by_
   pub none : slice_index by_rank 0 ≡ 0
   pub place : (r : ℕ) → r < length sorted → (r + 1 < length sorted → is_suffix (at_rank sorted r) (at_rank sorted (r + 1)) ≡ false) → Contains (hosts xs) (at_rank sorted r) → slice_index by_rank (r + 1) ≡ place_in (hosts xs) (at_rank sorted r)
 
--- The same in the words of the structs: of the used names each has its host, and the hosts have their places.
+-- The same, stated of the structs: each used name has its host, and each host has its offset.
 abbrev pub names_in : {A : Type 0} → RankedTexts A → Used → List (List ℕ)
 names_in r used = map (text_from r.section.now) used.offsets
 
@@ -66,11 +66,11 @@ HaveTheirHosts used r in_hosts = All (HasHost r.section.now used.slots (sorted_i
 abbrev pub ArePlacesOf : {A : Type 0} → Used → RankedTexts A → HostPlaces A → Type 0
 ArePlacesOf used r h = AreHostPlaces r.section.now (sorted_in r) (names_in r used) h.by_rank.items h.spans.items h.len
 
--- the place of a name: that of its host plus the bytes of the host before it
+-- the new offset of a name: that of its host plus the number of bytes of the host before the name
 abbrev pub name_place : List ℕ → InHost → ℕ
 name_place by_rank at = slice_index by_rank at.host + at.before
 
--- The place of each used name in the table that all share is known by its number, and the table by its hosts.
+-- Each used name has, by the number of its old offset, its offset in the shared table, whose contents are the hosts.
 pub record ArePlaced (section : List ℕ) (used : Used) (places : List ℕ) (spans : List Span) (len : ℕ) : Type 0 where
   pub marked : (off : ℕ) → Contains used.offsets off → slice_index used.slots off ≢ 0
   pub numbers : length places ≡ used_count used

@@ -1,4 +1,4 @@
--- The places of names in their hosts.
+-- The positions of names in their hosts.
 use Rattle.std.specs.Prelude.{◌≡◌, ◌≢◌, ℕ, ◌+◌, ◌^◌, ◌<◌, false, List, length, slice_index, slice_index_or}
 use Rattle.btf_types.specs.Reading.{text_from}
 use Rattle.btf_types.specs.strings.SharedNames.{is_suffix, hosts_of, host_in}
@@ -11,7 +11,7 @@ use Rattle.bpf_canon.specs.declared.btf.strings.section_texts.SectionText.{Secti
 use Rattle.bpf_canon.specs.declared.btf.strings.hosts_by_rank.InHost.{InHost}
 use Rattle.bpf_canon.specs.declared.btf.strings.ranked_texts.RankedTexts.{RankedTexts}
 
--- Of sorted texts, the one of this rank is the host of x, whatever texts they sort, and it doesn't end the next one.
+-- The string of this rank is the host of x in every list with this sorted order, and it isn't a suffix of the next one.
 pub record IsInHost (sorted : List (List ℕ)) (x : List ℕ) (h : InHost) : Type 0 where
   pub rank : ℕ
   pub numbered : h.host ≡ rank + 1
@@ -31,32 +31,32 @@ no_text = record { key = 0; before = 0; start = 0; end = 0 }
 abbrev pub host_at : List ℕ → List InHost → ℕ → InHost
 host_at slots in_hosts off = slice_index_or in_hosts (offset_number slots off) no_host
 
--- The used offsets within a text were given their hosts, and the others stayed as they were.
+-- The used offsets within a string have their hosts, and the others are unchanged.
 pub record FindsWithin (section slots : List ℕ) (sorted : List (List ℕ)) (t : SectionText) (old new : List InHost) : Type 0 where
   pub whole : length new ≡ length old
   pub here : (off : ℕ) → slice_index slots off ≢ 0 → IsInText off t → IsInHost sorted (text_from section off) (host_at slots new off)
   pub there : (off : ℕ) → slice_index slots off ≢ 0 → ¬ IsInText off t → host_at slots new off ≡ host_at slots old off
 
--- Each used offset has its host, but where its text is empty.
+-- Each used offset has its host, unless its string is empty.
 pub record AreInHosts (section slots : List ℕ) (sorted : List (List ℕ)) (in_hosts : List InHost) : Type 0 where
   pub whole : length in_hosts ≡ offset_number slots (length slots)
   pub empty : (off : ℕ) → slice_index slots off ≢ 0 → slice_index section off ≡ 0 → host_at slots in_hosts off ≡ no_host
   pub some : (off : ℕ) → slice_index slots off ≢ 0 → slice_index section off ≢ 0 → IsInHost sorted (text_from section off) (host_at slots in_hosts off)
 
--- Each used offset within the texts of the first k ranks has its host, and that of an empty text has none.
+-- Each used offset within the strings of the first k ranks has its host, and that of an empty string has none.
 pub record HostsTo (section slots : List ℕ) (ts : List SectionText) (sorted : List (List ℕ)) (in_hosts : List InHost) (k : ℕ) : Type 0 where
   pub whole : length in_hosts ≡ offset_number slots (length slots)
   pub empty : (off : ℕ) → slice_index slots off ≢ 0 → slice_index section off ≡ 0 → host_at slots in_hosts off ≡ no_host
   pub here : (j off : ℕ) → j < k → slice_index slots off ≢ 0 → IsInText off (slice_index_or ts j no_text) → IsInHost sorted (text_from section off) (host_at slots in_hosts off)
 
--- The longest used texts of a section, sorted, with their numbers.
+-- The longest used strings of a section, sorted, with their numbers.
 pub record AreRankedTexts (section slots : List ℕ) (ts : List SectionText) (common hosts : List ℕ) : Type 0 where
   pub ranked : AreRanked (texts_in section ts) common hosts
   pub longest : AreLongestOf section slots ts
   pub whole : length slots ≡ length section
   pub few : length section < 2 ^ 32
 
--- The same in the words of the struct that has them: the texts by rank, and what is found for their first ranks.
+-- The same, stated of the struct: the strings by rank, and the hosts found for the first ranks.
 abbrev pub sorted_in : {A : Type 0} → RankedTexts A → List (List ℕ)
 sorted_in r = texts_in r.section.now r.texts.items
 

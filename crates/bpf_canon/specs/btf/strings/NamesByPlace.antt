@@ -2,11 +2,11 @@
 use Rattle.std.specs.Prelude.{ℕ, List, map}
 use Rattle.btf_types.specs.Reading.{text_from}
 
--- a string section, and the offsets of names in it, each once, in the order of first use
+-- a string section, and the distinct offsets of names in it, in the order of first use
 pub record NamesByPlace : Type 0 where
   pub strings : List ℕ
   pub offsets : List ℕ
 
--- the texts of these names
+-- the strings of these names
 abbrev pub placed_texts : NamesByPlace → List (List ℕ)
 placed_texts n = map (text_from n.strings) n.offsets

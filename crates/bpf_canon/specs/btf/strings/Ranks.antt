@@ -1,10 +1,10 @@
--- Numbers of sorted texts: the common suffixes of neighbours, and the ranks that follow from them.
+-- Numbers of sorted strings: the common suffixes of adjacent ones, and the ranks that follow from them.
 use Rattle.std.specs.Prelude.{◌≡◌, ℕ, zero, suc, ◌<◌, ◌≤◌, List, length, slice_index}
 use Rattle.btf_types.specs.strings.CommonTails.{common_tail, at_rank, IsNextHost}
 use Rattle.std.specs.List.Sorted.{IsSorted}
 use Rattle.btf_types.specs.strings.SharedNames.{tail_cmp}
 
--- the length of the common suffix of the text of a rank and the text before it
+-- the length of the common suffix of the string of a rank and the one before it
 abbrev pub common_before : List (List ℕ) → ℕ → ℕ
 common_before sorted zero = 0
 common_before sorted (suc k) = common_tail (at_rank sorted k) (at_rank sorted (suc k))
@@ -18,19 +18,19 @@ pub record AreNextHosts (sorted : List (List ℕ)) (hosts : List ℕ) : Type 0 w
   pub whole : length hosts ≡ length sorted
   pub each : (k : ℕ) → k < length sorted → IsNextHost sorted k (slice_index hosts k)
 
--- p is the last rank before k with less in common
+-- p is the last rank before k with a shorter common suffix
 pub record IsLower (common : List ℕ) (p k : ℕ) : Type 0 where
   pub before : p < k
   pub less : slice_index common p < slice_index common k
   pub between : (j : ℕ) → p < j → j < k → slice_index common k ≤ slice_index common j
 
--- each rank that has something in common has its lower one
+-- each rank with a non-empty common suffix has its lower rank
 pub record AreLower (common lower : List ℕ) : Type 0 where
   pub whole : length lower ≡ length common
   pub first : slice_index common 0 ≡ 0
   pub each : (k : ℕ) → k < length common → 0 < slice_index common k → IsLower common (slice_index lower k) k
 
--- texts sorted by their bytes from the end, with these numbers of each
+-- strings sorted by their reversed bytes, with these numbers of each
 pub record AreRanked (sorted : List (List ℕ)) (common hosts : List ℕ) : Type 0 where
   pub in_order : IsSorted tail_cmp sorted
   pub are_common : AreCommon sorted common

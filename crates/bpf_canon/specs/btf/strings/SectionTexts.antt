@@ -1,4 +1,4 @@
--- Texts of a section with keys, and their order.
+-- Strings of a section with keys, and their order.
 use Rattle.std.specs.Prelude.{◌≡◌, ℕ, ◌-◌, min, List, length, map, take, drop}
 use Rattle.std.specs.Ordering.{nat_cmp, on, then_cmp}
 use Rattle.std.specs.declared.cmp.Ordering.{Ordering}
@@ -7,7 +7,7 @@ use Rattle.btf_types.specs.strings.CommonTails.{common_tail}
 use Rattle.bpf_canon.specs.btf.strings.SuffixKeys.{suffix_key}
 use Rattle.bpf_canon.specs.declared.btf.strings.section_texts.SectionText.{SectionText}
 
--- the bytes between the ends of a text, as far as the section reaches
+-- the bytes from the start to the end of a string, as far as the section reaches
 abbrev pub end_in : List ℕ → SectionText → ℕ
 end_in section t = min t.end (length section)
 
@@ -20,15 +20,15 @@ text_in section t = take (end_in section t - start_in section t) (drop (start_in
 abbrev pub texts_in : List ℕ → List SectionText → List (List ℕ)
 texts_in section ts = map (text_in section) ts
 
--- the length of the longest common suffix of two texts
+-- the length of the longest common suffix of two strings
 abbrev pub common_in : List ℕ → SectionText → SectionText → ℕ
 common_in section a b = common_tail (text_in section a) (text_in section b)
 
--- a text without its last eight bytes
+-- a string without its last eight bytes
 abbrev pub text_before : List ℕ → List ℕ
 text_before x = take (length x - 8) x
 
--- its keys are those of its text
+-- its keys are those of its string
 pub record HasKey (section : List ℕ) (t : SectionText) : Type 0 where
   pub last : t.key ≡ suffix_key (text_in section t)
   pub before : t.before ≡ suffix_key (text_before (text_in section t))

@@ -1,4 +1,4 @@
--- The words that the parts of a record are written in. Contracts of private functions cite it.
+-- The 32-bit words that encode the parts of a record. Contracts of private functions cite it.
 use Rattle.std.specs.Prelude.{◌≡◌, ◌⊎◌, ℕ, ◌^◌, ◌<◌, Bool, List, ◌∷◌, ⊤}
 use Rattle.btf_types.specs.Values.{TypeHead, KFunc, TypeItem, Member}
 use Rattle.btf_types.specs.Names.{head_name}
@@ -14,7 +14,7 @@ abbrev pub head_words : (List ℕ → ℕ) → TypeHead → ℕ → Bool → Lis
 head_words place head count bit_fields =
     place (head_name head) ∷ info (kind_number head) (head_vlen head count) (canonical_flag head bit_fields) ∷ head_third head ∷ head_tail head
 
--- a width and a bit offset have room in one word
+-- a width and a bit offset fit in one 32-bit word
 abbrev pub MemberFits : TypeItem → Type 0
 MemberFits (Member name target bit_offset width) = (width ≡ 0) ⊎ (bit_offset < 2 ^ 24)
 MemberFits _ = ⊤

@@ -9,7 +9,7 @@ use Rattle.btf_types.specs.Reading.{frames_at, records_at}
 use Rattle.btf_types.specs.tables.TableInvariant.{IsTable}
 use Rattle.bpf_canon.specs.btf.CanonicalBtf.{canonical_flag, words_of_item}
 
--- all frames, and all records; and the sections are a table of these
+-- all frames and all records, of which the sections are a table
 abbrev pub frames_of : FileSections → List (List ℕ)
 frames_of s = frames_at s.order s.types.now s.places.now
 
@@ -23,7 +23,7 @@ AreTable s = IsTable s.order s.types.now s.strings.now s.places.now
 abbrev pub record_info : TypeRecord → ℕ
 record_info r = info (kind_number r.head) (record_vlen r) (canonical_flag r.head (has_bit_fields r))
 
--- the words of a record's items, and all words after the third
+-- the 32-bit words of a record's items, and all after the third
 abbrev pub record_items : (List ℕ → ℕ) → TypeRecord → List ℕ
 record_items place r = flat_map (words_of_item place) r.items
 

@@ -7,7 +7,7 @@ use Rattle.btf_types.specs.Reading.{tabulate}
 use Rattle.btf_types.specs.strings.SharedNames.{shared_place}
 use Rattle.bpf_canon.specs.btf.strings.NamesByPlace.{NamesByPlace, placed_texts}
 
--- the first word of item k
+-- the first 32-bit word of item k
 abbrev pub item_word : List ℕ → ℕ → ℕ
 item_word frame k = slice_index frame (3 + item_words (kind frame) * k)
 
@@ -18,7 +18,7 @@ name_offsets frame = name_word frame ∷ (if has_item_names (kind frame) then ta
 abbrev pub all_offsets : List (List ℕ) → List ℕ
 all_offsets frames = flat_map name_offsets frames
 
--- the record has `count` items, each with a name and of `size` words
+-- the record has `count` items of `size` 32-bit words, each with a name
 pub record HasNamedItems (frame : List ℕ) (size count : ℕ) : Type 0 where
   pub named : IsTrue (has_item_names (kind frame))
   pub words : item_words (kind frame) ≡ size
@@ -32,6 +32,6 @@ HasNotedNames names frame = All (Contains names.offsets) (name_offsets frame)
 abbrev pub IsBelow : ℕ → ℕ → Type 0
 IsBelow len offset = offset < len
 
--- the place of a name in the table of these names
+-- the offset of a name in the table of these names
 abbrev pub placed : NamesByPlace → List ℕ → ℕ
 placed names = shared_place (placed_texts names)
