@@ -1,4 +1,4 @@
-//! The first fault of a BTF file.
+//! Finds the first fault of a BTF file.
 
 pub(crate) mod checks;
 pub(crate) mod fields;

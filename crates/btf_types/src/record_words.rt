@@ -1,4 +1,4 @@
-//! The words of a record of the type section (btf.rst section 2.2).
+//! The 32-bit words of a record in the type section (btf.rst section 2.2).
 
 ghost use Rattle.std.specs.Prelude.{◌≡◌, ◌+◌, ◌*◌, ◌<◌, ◌≤◌, length, slice_index};
 ghost use Rattle.btf_raw.specs.Frames as frames;
@@ -10,14 +10,15 @@ use bpf_words::{Order, get32};
 use btf_raw::info::{flag_of, is_struct, kind_of, tail_words, vlen_of};
 use std::marker::Model;
 
-/// A complete record of a type section, as words of 32 bits. Each is read where it is.
+/// A complete record of a type section. Its 32-bit words are decoded from the section when they are
+/// needed.
 #[derive(Drop)]
 pub struct Record<'a> {
     order: Order,
     types: &'a [u8],
-    /// Where the record begins, in bytes from the first of `types`.
+    /// The offset of the record, in bytes from the start of `types`.
     pos: usize,
-    /// Its second word.
+    /// The info field, which is the second word.
     info: u32,
 }
 
@@ -34,7 +35,7 @@ impl<'a> Model for Record<'a> {
 }
 
 impl<'a> Record<'a> {
-    /// The record at `pos` of the types.
+    /// The record at the offset `pos` of the types.
     pub(crate) fn at(order: Order, types: &'a [u8], pos: usize) -> Record<'a>
         requires { pos + 4 * length (frame_at order types.now pos) ≤ length types.now }
         ensures { result ≡ frame_at order types.now pos }
@@ -47,7 +48,7 @@ impl<'a> Record<'a> {
         }
     }
 
-    /// Word `j`, from 0.
+    /// Word `j`, counted from 0.
     #[inline(always)]
     pub fn word(&self, j: usize) -> u32
         requires { j < length self.now }
@@ -56,7 +57,7 @@ impl<'a> Record<'a> {
         get32(self.order, self.types, self.pos + 4 * j)
     }
 
-    /// Word `j`, from 0, or 0 past the last word.
+    /// Word `j`, counted from 0, or 0 if the record has no such word.
     pub(crate) fn word_or_zero(&self, j: usize) -> u32
         ensures { result ≡ slice_index self.now j }
     {
@@ -70,7 +71,7 @@ impl<'a> Record<'a> {
         3 + tail_words(kind_of(self.info), vlen_of(self.info))
     }
 
-    /// The kind: bits 24 to 28 of the second word.
+    /// The kind: bits 24 to 28 of the info field.
     #[inline(always)]
     pub fn kind(&self) -> u8
         ensures { result ≡ frames.kind self.now }
@@ -78,7 +79,8 @@ impl<'a> Record<'a> {
         kind_of(self.info)
     }
 
-    /// The number of items, or the linkage of a FUNC: bits 0 to 15 of the second word.
+    /// The vlen: bits 0 to 15 of the info field. It is the number of items, or the linkage of a
+    /// FUNC.
     #[inline(always)]
     pub fn vlen(&self) -> u16
         ensures { result ≡ frames.vlen self.now }
@@ -86,7 +88,7 @@ impl<'a> Record<'a> {
         vlen_of(self.info)
     }
 
-    /// kind_flag: bit 31 of the second word, 0 or 1.
+    /// kind_flag: bit 31 of the info field, 0 or 1.
     #[inline(always)]
     pub(crate) fn kind_flag(&self) -> u32
         ensures { result ≡ frames.flag self.now }
@@ -94,8 +96,8 @@ impl<'a> Record<'a> {
         flag_of(self.info)
     }
 
-    /// Whether the record has a bit-field (btf.rst section 2.2.4): it is a STRUCT or UNION whose
-    /// kind_flag is 1, and the high 8 bits of some member's offset word, its width, aren't 0.
+    /// Whether the record has a bit-field (btf.rst section 2.2.4): it is a STRUCT or UNION, its
+    /// kind_flag is 1, and the width of some member, the high 8 bits of its offset field, isn't 0.
     pub fn has_bit_fields(&self) -> bool
         requires { IsFrame self.now }
         ensures { BitFieldsAre self.now result }

@@ -1,4 +1,4 @@
-//! Both tables of types, and what they keep.
+//! The two tables of types, which own or borrow their bytes, and what they consist of.
 
 mod file_names;
 pub(crate) mod items;

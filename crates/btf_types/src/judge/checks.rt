@@ -1,5 +1,5 @@
-//! Checks of the fields of a record, on numbers alone (btf.rst section 2.2). Each `_fault` returns
-//! the least cause that holds for a word, or None.
+//! Checks of a record's fields that need only numbers (btf.rst section 2.2). Each `_fault` function
+//! returns the first cause, in the order of the causes, that applies to a 32-bit word, or `None`.
 
 ghost use Rattle.std.specs.Prelude.{◌≡◌, ◌∷◌, []};
 ghost use Rattle.btf_types.specs.judge.Checks as spec;
@@ -12,7 +12,8 @@ use btf_raw::{
     BtfCause, DATASEC, DECL_TAG, ENUM, ENUM64, FLOAT, FUNC, FUNC_PROTO, STRUCT, TYPEDEF, UNION, VAR,
 };
 
-/// Whether an ENUM or ENUM64 with this number of values, or a FLOAT, may have this size in bytes.
+/// Whether a record of this kind may have this size in bytes. `count` is its number of values, for
+/// an ENUM or ENUM64. Any size fits a kind other than ENUM, ENUM64 and FLOAT.
 #[tactic(auto, unfolding(crate::specs::judge::Checks::size_fits))]
 pub fn size_fits(kind: u8, size: u32, count: u16) -> bool
     ensures { result ≡ spec.size_fits kind size count }
@@ -24,7 +25,7 @@ pub fn size_fits(kind: u8, size: u32, count: u16) -> bool
     }
 }
 
-/// Whether a record of this kind may name a type of the target's kind.
+/// Whether a record of this kind may refer to a type whose kind is `target`.
 #[tactic(auto, unfolding(crate::specs::judge::Checks::target_fits))]
 pub fn target_fits(kind: u8, target: u8) -> bool
     ensures { result ≡ spec.target_fits kind target }
@@ -37,7 +38,7 @@ pub fn target_fits(kind: u8, target: u8) -> bool
     }
 }
 
-/// Checks the linkage of a FUNC, which is its vlen.
+/// Checks the linkage of a FUNC, which is stored in its vlen.
 pub fn second_fault(kind: u8, vlen: u16) -> Option<BtfCause>
     ensures { spec.IsLeastOf (spec.SecondFault kind vlen) result }
 {
@@ -48,7 +49,8 @@ pub fn second_fault(kind: u8, vlen: u16) -> Option<BtfCause>
     }
 }
 
-/// Whether an INT of this size in bytes may have this number of bits.
+/// Whether an INT of `size` bytes may have this number of bits: at most 128, and no more than its
+/// size.
 #[tactic(auto, unfolding(crate::specs::judge::Checks::bits_fit))]
 fn bits_fit(size: u32, bits: u32) -> bool
     ensures { result ≡ spec.bits_fit size bits }
@@ -56,7 +58,8 @@ fn bits_fit(size: u32, bits: u32) -> bool
     bits <= 128 && u64::from(bits) <= 8 * u64::from(size)
 }
 
-/// Whether an INT's offset and bits are those of a bit-field's type.
+/// Whether an INT with this offset and number of bits may be the type of a member if the record has
+/// bit-fields.
 #[tactic(auto, unfolding(crate::specs::judge::Checks::is_plain_int))]
 pub fn is_plain_int(offset: u8, bits: u8) -> bool
     ensures { result ≡ spec.is_plain_int offset bits }
@@ -64,7 +67,7 @@ pub fn is_plain_int(offset: u8, bits: u8) -> bool
     offset == 0 && matches!(bits, 8 | 16 | 32 | 64 | 128)
 }
 
-/// Whether a member's bits, rounded up to bytes, lie within a record of this size.
+/// Whether a member's end, rounded up to bytes, is at most `size`, the record's size in bytes.
 #[tactic(auto, unfolding(crate::specs::judge::Checks::member_fits))]
 fn member_fits(bit_offset: u32, width: u8, size: u32) -> bool
     ensures { result ≡ spec.member_fits bit_offset width size }
@@ -72,7 +75,8 @@ fn member_fits(bit_offset: u32, width: u8, size: u32) -> bool
     (u64::from(bit_offset) + u64::from(width) + 7) / 8 <= u64::from(size)
 }
 
-/// Checks an INT's word: its encoding, its bits, and that the other bits are 0.
+/// Checks the 32-bit word that follows an INT: its encoding, its number of bits, and that the
+/// unused bits are 0.
 pub fn int_fault(size: u32, word: u32) -> Option<BtfCause>
     ensures { spec.IsLeastOf (IntFault size word) result }
 {
@@ -83,35 +87,36 @@ pub fn int_fault(size: u32, word: u32) -> Option<BtfCause>
     }
 }
 
-/// The sum of an INT word's unused bits: 0 where each is 0.
+/// The sum of the unused bits of an INT's word; 0 if all of them are 0.
 fn int_unused(word: u32) -> u32
     ensures { result ≡ words.int_unused word }
 {
     (word >> 28) + (word >> 8 & 0xff)
 }
 
-/// Whether this is an encoding: plain, signed, char or bool.
+/// Whether this number is a valid encoding: plain, signed, char or bool.
 fn is_encoding(encoding: u32) -> bool
     ensures { result ≡ one_of (0 ∷ 1 ∷ 2 ∷ 4 ∷ []) encoding }
 {
     Encoding::from_number(encoding).is_some()
 }
 
-/// The bit offset in a member's offset word, in a record with this kind_flag.
+/// The bit offset that a member's offset field contains. `flag` is the record's kind_flag.
 pub fn bit_offset_of(flag: u32, word: u32) -> u32
     ensures { result ≡ words.offset_in flag word }
 {
     if flag == 0 { word } else { word & 0xff_ffff }
 }
 
-/// The width in a member's offset word, in a record with this kind_flag.
+/// The bit-field width that a member's offset field contains. `flag` is the record's kind_flag; if
+/// it is 0, there is no width.
 pub fn width_of(flag: u32, word: u32) -> u8
     ensures { result ≡ words.width_in flag word }
 {
     if flag == 0 { 0 } else { (word >> 24) as u8 }
 }
 
-/// Checks a member's offset word.
+/// Checks that a member lies within a record of `size` bytes.
 pub fn member_place_fault(size: u32, bit_offset: u32, width: u8) -> Option<BtfCause>
     ensures { spec.IsLeastOf (MemberPlaceFault size bit_offset width) result }
 {

@@ -1,7 +1,7 @@
-//! The fields of records (btf.rst section 2.2), judged in the order of their places: the first word
-//! that has a fault, and its least cause. It takes no memory, and time in proportion to the
-//! section: each word is read at most once, a STRUCT's offset words twice, and the facts of other
-//! records are read at their places.
+//! Checks the fields of records (btf.rst section 2.2) in file order: finds the first faulty word
+//! and the first cause that applies to it. This allocates nothing, and its time is linear in the
+//! section's length: each word is read at most once (the offset fields of a STRUCT twice), and what
+//! is needed of another record is read directly at its offset.
 
 ghost use Rattle.std.specs.Prelude.{◌≡◌, ◌<◌, ◌≤◌, ◌^◌, IsTrue, [], ◌∷◌, length};
 ghost use Rattle.std.specs.Prelude.{IfSome, MatchOption, MatchResult};
@@ -31,7 +31,7 @@ use btf_raw::{
 };
 use std::alloc::Allocator;
 
-/// The first of a record's first three words that has a fault, and the least cause of that word.
+/// The index of the first faulty word among a record's first three, and its cause.
 fn first_words_fault(section: &Section, this: &Record) -> Option<(usize, BtfCause)>
     requires { IsFrame this.now }
     ensures { FirstWithin section.now this.now 0 3 result }
@@ -53,7 +53,7 @@ fn first_words_fault(section: &Section, this: &Record) -> Option<(usize, BtfCaus
     }
 }
 
-/// The least cause of the one word after the first three of an INT, VAR or DECL_TAG.
+/// The cause if the fourth word of an INT, VAR or DECL_TAG is faulty.
 fn fourth_fault(section: &Section, this: &Record) -> Option<BtfCause>
     requires frame { IsFrame this.now }
     requires kind { IsTrue (one_of (kinds.INT ∷ kinds.VAR ∷ kinds.DECL_TAG ∷ []) (kind this.now)) }
@@ -68,8 +68,8 @@ fn fourth_fault(section: &Section, this: &Record) -> Option<BtfCause>
     }
 }
 
-/// The first type of an ARRAY that has a fault, and its least cause: that of its elements, and that
-/// of its index. The number of elements may be any.
+/// The index of the first faulty type ID of an ARRAY, and its cause. The element type is checked
+/// before the index type. The number of elements may be any.
 fn array_fault(section: &Section, this: &Record) -> Option<(usize, BtfCause)>
     requires frame { IsFrame this.now }
     requires kind { kind this.now ≡ kinds.ARRAY }
@@ -84,8 +84,8 @@ fn array_fault(section: &Section, this: &Record) -> Option<(usize, BtfCause)>
     }
 }
 
-/// The first word after those three that has a fault, and the least cause of that word. The
-/// kind is asked for once.
+/// The index of the first faulty word after the first three, and its cause. The kind is matched
+/// once here, and not again for each word.
 #[tactic(auto, using(crate::proofs::JudgeLemmas::RecordSteps::rest_faultless), unfolding(btf_raw::specs::Kinds::item_words))]
 fn tail_fault(section: &Section, this: &Record) -> Option<(usize, BtfCause)>
     requires { IsFrame this.now }
@@ -106,7 +106,7 @@ fn tail_fault(section: &Section, this: &Record) -> Option<(usize, BtfCause)>
     }
 }
 
-/// The first word of a record that has a fault, and the least cause of that word.
+/// The index of the first faulty word of a record, and its cause.
 fn record_fault(section: &Section, this: &Record) -> Option<(usize, BtfCause)>
     requires { IsFrame this.now }
     ensures { MatchOption result
@@ -119,8 +119,8 @@ fn record_fault(section: &Section, this: &Record) -> Option<(usize, BtfCause)>
     }
 }
 
-/// The first fault of the fields of a section, by place and then by cause. Its place counts from
-/// the first byte of the types.
+/// The first fault in the fields of a section, by offset and then by cause. The offset counts bytes
+/// from the start of the type section.
 fn first_field_fault(section: &Section) -> Option<BtfFault>
     ensures inside { IfSome result (λ fault. fault.pos ≤ 2 ^ 25) }
     ensures cases { MatchOption result
@@ -145,8 +145,8 @@ fn first_field_fault(section: &Section) -> Option<BtfFault>
 ///
 /// # Errors
 ///
-/// `Fault` with the first fault of the fields, whose place counts from the first byte of the types;
-/// `Memory` when out of memory.
+/// `Fault` with the first fault of the fields, whose offset counts bytes from the start of the type
+/// section. `Memory` if memory can't be allocated.
 pub fn check_fields<A: Allocator>(alloc: A, file: FileSections) -> Result<(), BtfError>
     requires ends { HasNulEnds file.strings.now }
     requires short { length file.strings.now ≤ STRINGS_LIMIT }

@@ -1,4 +1,4 @@
-//! The framing of a type section: where each of its records begins (btf.rst section 2.2).
+//! The framing of a type section: the offset of each record (btf.rst section 2.2).
 
 ghost use Rattle.std.specs.Prelude.{◌≤◌, ◌^◌, length, MatchResult};
 ghost use Rattle.btf_types.specs.tables.TableInvariant.{IsFramed};
@@ -9,12 +9,12 @@ use bpf_words::Order;
 use btf_raw::next_head;
 use std::alloc::Allocator;
 
-/// Where each record of the section begins, in bytes from its first.
+/// Returns the offset of each record, in bytes from the start of the section.
 ///
 /// # Errors
 ///
-/// `Fault` with the first fault of the framing, whose place counts from the section's first byte;
-/// `Memory` when out of memory.
+/// `Fault` with the first fault of the framing, whose offset counts bytes from the start of the
+/// section. `Memory` if memory can't be allocated.
 pub fn record_places<A: Allocator>(
     alloc: A,
     order: Order,

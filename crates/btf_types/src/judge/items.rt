@@ -1,6 +1,6 @@
-//! The items of a record (btf.rst section 2.2): members, parameters, values and entries. A function
-//! for each of them judges the words of all items in the order of their places, in a loop of its
-//! own, so that no word asks for the kind again.
+//! Checks the items of a record (btf.rst section 2.2): members, parameters, enum values and DATASEC
+//! entries. There is a function with its own loop for each, which checks the items in file order,
+//! so the kind isn't matched again for every item.
 
 ghost use Rattle.std.specs.Prelude.{◌≡◌, ◌+◌, ◌*◌, ◌<◌, IsTrue, [], ◌∷◌, length};
 ghost use Rattle.btf_raw.specs.KindNumbers as kinds;
@@ -15,8 +15,8 @@ use crate::record_words::Record;
 use crate::tables::section::Section;
 use btf_raw::{BtfCause, DATASEC, FUNC_PROTO};
 
-/// The first word with a fault of member k, from 0, of a STRUCT or UNION, and its least cause: the
-/// name, the type and the place are judged in turn.
+/// The index of the first faulty word of member `k`, counted from 0, of a STRUCT or UNION, and its
+/// cause. The name, the type and the offset field are checked in this order.
 #[inline(always)]
 fn member_fault(
     section: &Section,
@@ -48,8 +48,8 @@ fn member_fault(
     }
 }
 
-/// The first word with a fault of the members of a STRUCT or UNION, and its least cause. Whether
-/// some member's width isn't 0 is found once, before the members are judged.
+/// The index of the first faulty word in the members of a STRUCT or UNION, and its cause. Whether
+/// the record has bit-fields is determined once, before any member is checked.
 pub fn members_fault(section: &Section, this: &Record) -> Option<(usize, BtfCause)>
     requires frame { IsFrame this.now }
     requires kind { IsTrue (is_struct (kind this.now)) }
@@ -65,8 +65,8 @@ pub fn members_fault(section: &Section, this: &Record) -> Option<(usize, BtfCaus
     None
 }
 
-/// The first word with a fault of parameter k, from 0, of a FUNC_PROTO, and its least cause: the
-/// name and the type are judged in turn.
+/// The index of the first faulty word of parameter `k`, counted from 0, of a FUNC_PROTO, and its
+/// cause. The name is checked before the type.
 #[inline(always)]
 fn param_fault(section: &Section, this: &Record, k: usize) -> Option<(usize, BtfCause)>
     requires frame { IsFrame this.now }
@@ -85,7 +85,7 @@ fn param_fault(section: &Section, this: &Record, k: usize) -> Option<(usize, Btf
     }
 }
 
-/// The first word with a fault of the parameters of a FUNC_PROTO, and its least cause.
+/// The index of the first faulty word in the parameters of a FUNC_PROTO, and its cause.
 pub fn params_fault(section: &Section, this: &Record) -> Option<(usize, BtfCause)>
     requires frame { IsFrame this.now }
     requires kind { kind this.now ≡ kinds.FUNC_PROTO }
@@ -99,8 +99,8 @@ pub fn params_fault(section: &Section, this: &Record) -> Option<(usize, BtfCause
     None
 }
 
-/// The first word with a fault of the values of an ENUM or ENUM64, and its least cause. Each value
-/// has a name, which is its first word; `step` is the number of its words.
+/// The index of the first faulty word in the values of an ENUM or ENUM64, and its cause. Only the
+/// names can be faulty. A value consists of `step` words, and its name field is the first of them.
 pub fn values_fault(section: &Section, this: &Record, step: usize) -> Option<(usize, BtfCause)>
     requires frame { IsFrame this.now }
     requires kind { IsTrue (one_of (kinds.ENUM ∷ kinds.ENUM64 ∷ []) (kind this.now)) }
@@ -117,8 +117,8 @@ pub fn values_fault(section: &Section, this: &Record, step: usize) -> Option<(us
     None
 }
 
-/// The first word with a fault of the entries of a DATASEC, and its least cause. Each entry has a
-/// type, which is its first word of three.
+/// The index of the first faulty word in the entries of a DATASEC, and its cause. Only the type IDs
+/// can be faulty. An entry consists of three words, and its type ID is the first of them.
 pub fn entries_fault(section: &Section, this: &Record) -> Option<(usize, BtfCause)>
     requires frame { IsFrame this.now }
     requires kind { kind this.now ≡ kinds.DATASEC }

@@ -1,4 +1,4 @@
-//! Checks of a name field: its offset, and the text there (btf.rst section 2.1).
+//! Checks of a name field: its offset, and the string at this offset (btf.rst section 2.1).
 
 ghost use Rattle.std.specs.Prelude.{◌≡◌};
 ghost use Rattle.btf_types.specs.judge.Checks as spec;
@@ -8,7 +8,8 @@ use crate::tables::section::Section;
 use btf_raw::BtfCause;
 use btf_raw::info::{has_no_name, needs_name};
 
-/// Checks an item's name field: the offset is inside the strings, and the text there is UTF-8.
+/// Checks the name field of an item: its offset must be within the string section, and the string
+/// at this offset must be UTF-8.
 #[inline(always)]
 pub fn item_name_fault(section: &Section, off: u32) -> Option<BtfCause>
     ensures { spec.IsLeastOf (ItemNameFault section.now.strings off) result }
@@ -24,7 +25,8 @@ pub fn item_name_fault(section: &Section, off: u32) -> Option<BtfCause>
     None
 }
 
-/// Checks whether a record of this kind may have a name that is empty or not.
+/// Checks whether a record of this kind needs a name, or must not have one. `empty` is whether its
+/// name is empty.
 fn own_name_fault(kind: u8, empty: bool) -> Option<BtfCause>
     ensures { spec.IsLeastOf (OwnNameFault kind empty) result }
 {
@@ -37,8 +39,8 @@ fn own_name_fault(kind: u8, empty: bool) -> Option<BtfCause>
     None
 }
 
-/// Checks a record's own name field: as an item's, and then whether the name is missing or
-/// unwanted.
+/// Checks a record's own name field: first like that of an item, then whether a name is missing or
+/// not allowed.
 pub fn name_fault(section: &Section, kind: u8, off: u32) -> Option<BtfCause>
     ensures { spec.IsLeastOf (NameFault section.now.strings kind off) result }
 {

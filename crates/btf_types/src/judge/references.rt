@@ -1,5 +1,5 @@
-//! Checks of the types that a record refers to: they are there, and their kinds and sizes fit. A
-//! type is read at its place only where its kind or size matters.
+//! Checks of the types that a record refers to: they exist, and their kinds and sizes fit. A type
+//! is read only if its kind or size matters.
 
 ghost use Rattle.std.specs.Prelude.{◌≡◌, length};
 ghost use Rattle.btf_types.specs.judge.Checks as spec;
@@ -14,7 +14,7 @@ use btf_raw::{
     ARRAY, BtfCause, DATASEC, DECL_TAG, FUNC, FUNC_PROTO, FWD, INT, STRUCT, TYPEDEF, UNION, VAR,
 };
 
-/// Whether a record of this kind may refer to a type of the target's kind.
+/// Whether a record of this kind may refer to the type with the ID `target`.
 #[tactic(auto, unfolding(crate::specs::judge::Checks::target_fits))]
 #[inline(always)]
 fn named_kind_fits(section: &Section, kind: u8, target: u32) -> bool
@@ -23,7 +23,7 @@ fn named_kind_fits(section: &Section, kind: u8, target: u32) -> bool
     !matches!(kind, FUNC | DATASEC | DECL_TAG) || target_fits(kind, section.facts(target).kind)
 }
 
-/// Checks a third word: a size, a type, or 0.
+/// Checks the third word of a record: a size, a type ID, or 0.
 pub fn third_fault(section: &Section, kind: u8, third: u32, vlen: u16) -> Option<BtfCause>
     ensures { spec.IsLeastOf (spec.ThirdFault kind third vlen (length (facts_in section.now))
         (type_at (facts_in section.now) third).kind) result }
@@ -46,7 +46,7 @@ pub fn third_fault(section: &Section, kind: u8, third: u32, vlen: u16) -> Option
     None
 }
 
-/// Checks a type that a record of this kind refers to, other than by its third word.
+/// Checks a type ID in a field other than the third word of the record.
 #[inline(always)]
 pub fn named_type_fault(section: &Section, kind: u8, target: u32) -> Option<BtfCause>
     ensures { spec.IsLeastOf (NamedTypeFault (facts_in section.now) kind target) result }
@@ -61,8 +61,8 @@ pub fn named_type_fault(section: &Section, kind: u8, target: u32) -> Option<BtfC
     }
 }
 
-/// Whether a type may be that of a member beside bit-fields: no INT, or one with offset 0 and 8,
-/// 16, 32, 64 or 128 bits.
+/// Whether a member may have this type if its record has bit-fields: it isn't an INT, or it is an
+/// INT with offset 0 and 8, 16, 32, 64 or 128 bits.
 #[tactic(auto, unfolding(crate::specs::judge::Checks::member_int_fits))]
 fn member_int_fits(section: &Section, target: u32) -> bool
     ensures { result ≡ spec.member_int_fits (facts_in section.now) target }
@@ -71,7 +71,7 @@ fn member_int_fits(section: &Section, target: u32) -> bool
     facts.kind != INT || is_plain_int(facts.offset, facts.bits)
 }
 
-/// Checks a member's type, in a record with bit-fields or without.
+/// Checks the type of a member. `bit_fields` is whether its record has bit-fields.
 pub fn member_type_fault(section: &Section, bit_fields: bool, target: u32) -> Option<BtfCause>
     ensures { spec.IsLeastOf (MemberTypeFault (facts_in section.now) bit_fields target) result }
 {
@@ -85,8 +85,8 @@ pub fn member_type_fault(section: &Section, bit_fields: bool, target: u32) -> Op
     }
 }
 
-/// Whether a type has this component: a member of a STRUCT or UNION, or a parameter of a FUNC's
-/// FUNC_PROTO.
+/// Whether a type has a component with this index: a member of a STRUCT or UNION, or a parameter of
+/// the FUNC_PROTO of a FUNC.
 #[tactic(auto, unfolding(crate::specs::judge::Checks::component_fits))]
 fn component_fits(section: &Section, target: u32, component: u32) -> bool
     ensures { result ≡ spec.component_fits (facts_in section.now) target component }
@@ -103,8 +103,8 @@ fn component_fits(section: &Section, target: u32, component: u32) -> bool
     }
 }
 
-/// Checks the component of a DECL_TAG of this type. The word is read unsigned, and -1 is no
-/// component.
+/// Checks the component_idx of a DECL_TAG that refers to this type. The field is read as unsigned,
+/// so -1, which stands for the complete type, is the largest number.
 pub fn component_fault(section: &Section, target: u32, word: u32) -> Option<BtfCause>
     ensures { spec.IsLeastOf (ComponentFault (facts_in section.now) target word) result }
 {

@@ -1,9 +1,10 @@
-//! Which texts of a string section are UTF-8. A text runs from an offset, which may be inside a
+//! Which strings of a string section are UTF-8. A string runs from any offset, even inside another
 //! string, to the next NUL.
 //!
-//! The section is judged once, in time in proportion to its length, and then each offset at once:
-//! any number of name fields may point into one long string. Where the section is UTF-8 as a whole,
-//! a text is UTF-8 exactly where a character begins. Else a mark is kept for each byte of it.
+//! Any number of name fields may refer to the same long string. Therefore the section is checked
+//! once, in linear time, and each offset then takes constant time. If all of the section is UTF-8,
+//! the string at an offset is UTF-8 if and only if a character begins there. Otherwise a mark is
+//! kept for each byte.
 
 ghost use Rattle.std.specs.Prelude.{◌≡◌, ◌≢◌, ◌↔◌, ℕ, List, ◌<◌, length, slice_index, IfOk, IsTrue};
 ghost use Rattle.std.specs.Prelude.{IsUtf8, MatchOption};
@@ -14,24 +15,25 @@ ghost use Rattle.btf_types.specs.judge.Texts.{BeginsChar, TextsAre, AreMarks, Is
 use simdutf8::basic::from_utf8;
 use std::alloc::{AllocError, Allocator};
 
-/// Which texts of a string section are UTF-8.
+/// Which strings of a string section are UTF-8.
 #[derive(Clone, Copy)]
 pub enum Texts<'a> {
-    /// The section is UTF-8 as a whole, so a text is UTF-8 where a character begins.
+    /// All of the section is UTF-8, so the string at an offset is UTF-8 if a character begins
+    /// there.
     Utf8,
-    /// A mark for each byte of the section: whether the text from there on is UTF-8.
+    /// A mark for each byte of the section: whether the string that begins at this byte is UTF-8.
     Marked(&'a [bool]),
 }
 
-/// Whether a byte may begin a character, or is NUL.
+/// Whether a character may begin with this byte, or it is NUL.
 fn begins_char(byte: u8) -> bool
     ensures { IsTrue result ↔ BeginsChar byte }
 {
     !matches!(byte, 0x80..=0xbf)
 }
 
-/// Whether the text at a place is UTF-8. `next` is the next place after it where a character may
-/// begin, and `rest` is whether the text there is UTF-8.
+/// Whether the string at offset `at` is UTF-8. `next` is the next offset at which a character may
+/// begin, and `rest` is whether the string at `next` is UTF-8.
 fn is_utf8_with(strings: &[u8], at: usize, next: usize, rest: bool) -> bool
     requires there { at < length strings.now }
     requires next { IsNextChar strings.now at next rest }
@@ -44,8 +46,8 @@ fn is_utf8_with(strings: &[u8], at: usize, next: usize, rest: bool) -> bool
     rest && from_utf8(&strings[at..next]).is_ok()
 }
 
-/// The marks of a whole section, made from its end: a text is UTF-8 if it begins with a character
-/// and the rest is UTF-8.
+/// The marks of a section, computed from its end: a string is UTF-8 if it begins with a valid
+/// character and the rest of it is UTF-8.
 fn marks_of<A: Allocator>(alloc: A, strings: &[u8]) -> Result<Vec<bool, A>, AllocError>
     requires { HasNulEnds strings.now }
     ensures { IfOk result (λ marks. AreMarks strings.now marks.items) }
@@ -65,12 +67,12 @@ fn marks_of<A: Allocator>(alloc: A, strings: &[u8]) -> Result<Vec<bool, A>, Allo
     Ok(marks)
 }
 
-/// The marks of a section that begins and ends with NUL, or `None` where it is UTF-8 as a whole.
+/// The marks of a section that begins and ends with NUL, or `None` if all of it is UTF-8.
 ///
 /// # Errors
 ///
-/// `AllocError` when out of memory. A section that is UTF-8 as a whole takes none, another a byte
-/// for each of its bytes.
+/// `AllocError` if memory can't be allocated. Nothing is allocated if all of the section is UTF-8,
+/// otherwise one byte for each of its bytes.
 pub fn marks_unless_utf8<A: Allocator>(
     alloc: A,
     strings: &[u8],
@@ -87,7 +89,7 @@ pub fn marks_unless_utf8<A: Allocator>(
 }
 
 impl<'a> Texts<'a> {
-    /// The texts of a string section with these marks.
+    /// Borrows the result of [`marks_unless_utf8`].
     pub fn of<A: Allocator>(marks: &'a Option<Vec<bool, A>>) -> Texts<'a>
         ensures { (strings : List ℕ)
             → MatchOption marks.now (IsUtf8 strings) (λ v. AreMarks strings v.items)
@@ -99,7 +101,7 @@ impl<'a> Texts<'a> {
         }
     }
 
-    /// Whether the text at an offset of that section is UTF-8.
+    /// Whether the string at offset `off` of the section is UTF-8.
     pub fn is_utf8(&self, strings: &[u8], off: usize) -> bool
         requires texts { TextsAre strings.now self.now }
         requires there { off < length strings.now }

@@ -11,8 +11,8 @@ use crate::values::{Head, Item};
 use std::alloc::Allocator;
 
 impl<'a, A: Allocator> BtfView<'a, A> {
-    /// The head of record `id`, which is 1 to [`crate::TypeTable::count`]. Unlike that of
-    /// [`crate::TypeTable::head`], its name borrows the file and outlives the view.
+    /// The head of the record with the ID `id`, which is 1 to [`crate::TypeTable::count`]. Unlike
+    /// that of [`crate::TypeTable::head`], its name borrows the file and may outlive the view.
     pub fn file_head(&self, id: u32) -> Head<'a>
         requires first { 0 < id }
         requires last { id ≤ length self.now }
@@ -23,8 +23,9 @@ impl<'a, A: Allocator> BtfView<'a, A> {
         head_of(self.strings, self.places.ends(), &this)
     }
 
-    /// Item `k`, from 0, of record `id`, which is 1 to [`crate::TypeTable::count`]. Unlike that of
-    /// [`crate::TypeTable::item`], its name borrows the file and outlives the view.
+    /// Item `k`, counted from 0, of the record with the ID `id`, which is 1 to
+    /// [`crate::TypeTable::count`]; `k` is less than [`crate::TypeTable::item_count`]. Unlike that
+    /// of [`crate::TypeTable::item`], its name borrows the file and may outlive the view.
     pub fn file_item(&self, id: u32, k: u32) -> Item<'a>
         requires first { 0 < id }
         requires last { id ≤ length self.now }

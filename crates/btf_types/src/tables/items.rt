@@ -1,4 +1,4 @@
-//! The items of a record, one after the other.
+//! An iterator over the items of a record.
 
 ghost use Rattle.std.specs.Iterator.{YieldsFirstBy, YieldsLastBy, item_count};
 ghost use Rattle.btf_types.specs.Values.{item_value};
@@ -9,18 +9,19 @@ use std::fmt;
 use std::iter::FusedIterator;
 use std::marker::Model;
 
-/// The items of a record, in order, from [`crate::BtfView::items`] or [`crate::Btf::items`].
+/// An iterator over the items of a record, in order, made by [`crate::BtfView::items`] or
+/// [`crate::Btf::items`].
 ///
-/// It gives items from both ends. After the last one it gives `None`, and goes on to do so. No step
-/// takes memory.
+/// It is double-ended and fused: after the last item it keeps returning `None`. No step allocates
+/// memory.
 #[derive(Drop)]
 pub struct Items<'a> {
     pub(crate) table: SectionTable<'a>,
-    /// The record.
+    /// The ID of the record.
     pub(crate) id: u32,
-    /// The number of items that were given from the front.
+    /// The number of items already returned from the start.
     pub(crate) given: u32,
-    /// The number of items without those that were given from the back.
+    /// The number of items, less those already returned from the end.
     pub(crate) end: u32,
 }
 
@@ -79,7 +80,7 @@ impl ExactSizeIterator for Items<'_> {
 
 impl FusedIterator for Items<'_> {}
 
-/// The number of items that are left.
+/// Shows the number of remaining items.
 impl fmt::Debug for Items<'_> {
     fn fmt<W: fmt::Write>(&self, f: &mut fmt::Formatter<W>) -> fmt::Result {
         f.debug_struct("Items").field("left", &self.len()).finish()

@@ -15,7 +15,8 @@ use std::alloc::Allocator;
 use std::fmt;
 
 impl<A: Allocator> BtfView<'_, A> {
-    /// The items of type `id`, in order. Void, and an `id` above [`TypeTable::count`], have none.
+    /// An iterator over the items of the type with the ID `id`, in order. Void (ID 0), and an ID
+    /// above [`TypeTable::count`], have none.
     pub fn items(&self, id: u32) -> Items<'_>
         ensures { result ≡ items_of self.now id }
     {
@@ -24,7 +25,8 @@ impl<A: Allocator> BtfView<'_, A> {
 }
 
 impl<A: Allocator> Btf<A> {
-    /// The items of type `id`, in order. Void, and an `id` above [`TypeTable::count`], have none.
+    /// An iterator over the items of the type with the ID `id`, in order. Void (ID 0), and an ID
+    /// above [`TypeTable::count`], have none.
     pub fn items(&self, id: u32) -> Items<'_>
         ensures { result ≡ items_of self.now id }
     {
@@ -32,7 +34,7 @@ impl<A: Allocator> Btf<A> {
     }
 }
 
-/// The records, as [`BtfView::records`] gives them.
+/// Iterates over the records, like [`BtfView::records`].
 impl<'t, A: Allocator> IntoIterator for &'t BtfView<'_, A> {
     type Item = (u32, Head<'t>);
 
@@ -45,7 +47,7 @@ impl<'t, A: Allocator> IntoIterator for &'t BtfView<'_, A> {
     }
 }
 
-/// The records, as [`Btf::records`] gives them.
+/// Iterates over the records, like [`Btf::records`].
 impl<'t, A: Allocator> IntoIterator for &'t Btf<A> {
     type Item = (u32, Head<'t>);
 
@@ -58,7 +60,7 @@ impl<'t, A: Allocator> IntoIterator for &'t Btf<A> {
     }
 }
 
-/// The number of records.
+/// Shows the number of records.
 impl<A: Allocator> fmt::Debug for BtfView<'_, A> {
     fn fmt<W: fmt::Write>(&self, f: &mut fmt::Formatter<W>) -> fmt::Result {
         f.debug_struct("BtfView")
@@ -67,7 +69,7 @@ impl<A: Allocator> fmt::Debug for BtfView<'_, A> {
     }
 }
 
-/// The number of records.
+/// Shows the number of records.
 impl<A: Allocator> fmt::Debug for Btf<A> {
     fn fmt<W: fmt::Write>(&self, f: &mut fmt::Formatter<W>) -> fmt::Result {
         f.debug_struct("Btf")

@@ -1,5 +1,5 @@
-//! Tables that keep the two sections of a file. Each is a table of types in the same way: it lends
-//! a table in its sections.
+//! Tables that keep the two sections of a file. Each implements [`crate::TypeTable`] by a table
+//! that borrows these sections.
 
 ghost use Rattle.std.specs.Prelude.{◌≡◌, List, IfSome, IsSome};
 ghost use Rattle.btf_types.specs.Values.{TypeRecord};
@@ -13,12 +13,12 @@ use crate::values::{Head, Item};
 pub trait KeepsSections {
     ghost kept: { Self → List TypeRecord };
 
-    /// The table in the kept sections.
+    /// A table that borrows the kept sections.
     fn table(&self) -> SectionTable<'_>
         ensures { result ≡ kept self.now };
 }
 
-/// A borrowed table keeps what the table keeps.
+/// A reference to a table keeps what the table keeps.
 impl<T: KeepsSections> KeepsSections for &T {
     ghost kept = { λ t. T.kept t.now };
 

@@ -18,10 +18,10 @@ use bpf_words::Order;
 use std::alloc::{Allocator, Global};
 use std::marker::Model;
 
-/// The types of a BTF file (btf.rst section 2), kept apart from the file.
+/// The types of a BTF file (btf.rst section 2), independent of the file's lifetime.
 ///
-/// It keeps a copy of the two sections and a list of the places of the records, so each name is
-/// stored once, and names share suffixes as they did in the file.
+/// It keeps a copy of the two sections and the offset of each record. Each name is stored once, and
+/// names share suffixes as in the file.
 #[derive(Drop)]
 pub struct Btf<A: Allocator = Global> {
     order: Order,
@@ -42,13 +42,13 @@ impl<A: Allocator> Model for Btf<A> {
 }
 
 impl<A: Allocator + Clone> Btf<A> {
-    /// Reads a whole BTF file (btf.rst section 2), and copies its two sections.
+    /// Reads and checks a complete BTF file (btf.rst section 2), and copies its two sections.
     ///
     /// # Errors
     ///
-    /// `Fault` with the first fault of the file: one of the header or of the ends of the strings by
-    /// its cause, then one of the framing or of the fields by its place and cause. `Memory` when
-    /// out of memory.
+    /// `Fault` with the first fault of the file. Faults of the header come first, then those of the
+    /// ends of the string section, each by cause; then those of the framing, then those of the
+    /// fields, each by offset and then by cause. `Memory` if memory can't be allocated.
     pub fn parse(alloc: A, bytes: &[u8]) -> Result<Btf<A>, BtfError>
         ensures { MatchResult result (λ v. Denotes bytes.now v) (λ e. Fails bytes.now e) }
     {
@@ -71,7 +71,8 @@ impl<A: Allocator + Clone> Btf<A> {
 }
 
 impl<A: Allocator> Btf<A> {
-    /// The heads of the records with their numbers, from 1 to [`TypeTable::count`], in order.
+    /// An iterator over the records in order, each as its ID, from 1 to [`TypeTable::count`], and
+    /// its head.
     pub fn records(&self) -> Records<'_>
         ensures { result ≡ numbered 1 self.now }
     {

@@ -1,5 +1,5 @@
-//! Where the records of a table begin, and where its long strings end. Both are in one vector,
-//! since a table has one allocator.
+//! The offsets of a table's records, and those of the ends of its long strings. Both are in one
+//! vector, since a table has only one allocator.
 
 ghost use Rattle.std.specs.Prelude.{◌≡◌, ◌<◌, ◌^◌, IfOk, length};
 ghost use Rattle.btf_raw.specs.Header.{HasNulEnds};
@@ -9,11 +9,11 @@ use crate::tables::string_ends::push_long_ends;
 use std::alloc::{AllocError, Allocator};
 use std::marker::Model;
 
-/// The places of records in the types, and the ends of long strings in the strings, in bytes from
-/// the first of each section.
+/// The offsets of records in the type section, and of the ends of long strings in the string
+/// section, in bytes from the start of each section.
 #[derive(Drop)]
 pub struct Places<A: Allocator> {
-    /// The places of the records, then the ends of the strings.
+    /// The offsets of the records, followed by the ends of the long strings.
     index: Vec<u32, A>,
     /// The number of records.
     count: usize,
@@ -32,7 +32,7 @@ impl<A: Allocator> Model for Places<A> {
 }
 
 impl<A: Allocator> Places<A> {
-    /// These places of records, and the ends of the long strings.
+    /// Keeps these offsets of records, and finds the ends of the long strings.
     pub fn new(records: Vec<u32, A>, strings: &[u8]) -> Result<Places<A>, AllocError>
         requires nuls { HasNulEnds strings.now }
         requires room { length strings.now < 2 ^ 32 }
@@ -45,14 +45,14 @@ impl<A: Allocator> Places<A> {
         Ok(Places { index, count })
     }
 
-    /// The places of the records, in order.
+    /// The offsets of the records, in order.
     pub fn records(&self) -> &[u32]
         ensures { result.now ≡ self.now.records }
     {
         &self.index[..self.count]
     }
 
-    /// The ends of the long strings, ascending.
+    /// The offsets of the ends of the long strings, ascending.
     pub fn ends(&self) -> &[u32]
         ensures { result.now ≡ self.now.ends }
     {

@@ -1,4 +1,4 @@
-//! The records of a table, one after the other.
+//! An iterator over the records of a table.
 
 ghost use Rattle.std.specs.Iterator.{YieldsFirstBy, YieldsLastBy, item_count};
 ghost use Rattle.btf_types.specs.tables.TableWords.{numbered_value};
@@ -9,17 +9,17 @@ use std::fmt;
 use std::iter::FusedIterator;
 use std::marker::Model;
 
-/// The heads of a table's records with their numbers, in order, from [`crate::BtfView::records`] or
-/// [`crate::Btf::records`].
+/// An iterator over a table's records in order, each as its ID and its head, made by
+/// [`crate::BtfView::records`] or [`crate::Btf::records`].
 ///
-/// It gives records from both ends. After the last one it gives `None`, and goes on to do so. No
-/// step takes memory.
+/// It is double-ended and fused: after the last record it keeps returning `None`. No step allocates
+/// memory.
 #[derive(Drop)]
 pub struct Records<'a> {
     pub(crate) table: SectionTable<'a>,
-    /// The number of records that were given from the front.
+    /// The number of records already returned from the start.
     pub(crate) given: u32,
-    /// The number of the last record that wasn't given from the back.
+    /// The ID of the last record not yet returned from the end.
     pub(crate) last: u32,
 }
 
@@ -78,7 +78,7 @@ impl ExactSizeIterator for Records<'_> {
 
 impl FusedIterator for Records<'_> {}
 
-/// The number of records that are left.
+/// Shows the number of remaining records.
 impl fmt::Debug for Records<'_> {
     fn fmt<W: fmt::Write>(&self, f: &mut fmt::Formatter<W>) -> fmt::Result {
         f.debug_struct("Records")

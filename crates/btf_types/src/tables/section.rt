@@ -1,5 +1,5 @@
-//! The sections of a file whose records are framed, and what the checks of one record need of
-//! another. It is read at that record's place, so a reference may point forward.
+//! The sections of a file whose framing is valid, and what the checks of one record need of
+//! another. This is read at the other record's offset, so a reference may point forward.
 
 ghost use Rattle.std.specs.Prelude.{◌≡◌, length};
 ghost use Rattle.btf_raw.specs.Frames.{IsFrame};
@@ -14,7 +14,7 @@ use crate::tables::table::FileSections;
 use btf_raw::{FUNC, INT};
 use std::marker::Model;
 
-/// The facts of void, and of a type that isn't there.
+/// The facts of void, and of a type that doesn't exist.
 const NO_TYPE: Facts = Facts {
     kind: 0,
     count: 0,
@@ -23,11 +23,11 @@ const NO_TYPE: Facts = Facts {
     bits: 0,
 };
 
-/// The two sections of a file, and what is known of them before the fields are judged.
+/// The two sections of a file, and what is known before the fields are checked.
 #[derive(Drop)]
 pub struct Section<'a> {
     pub file: FileSections<'a>,
-    /// Which texts of the string section are UTF-8.
+    /// Which strings of the string section are UTF-8.
     pub texts: &'a Texts<'a>,
 }
 
@@ -46,13 +46,13 @@ impl<'a> Model for Section<'a> {
 /// What the checks of other records need of a type.
 #[derive(Clone, Copy)]
 pub struct Facts {
-    /// Its kind, 0 of void and of a type that isn't there.
+    /// The kind; 0 for void and for a type that doesn't exist.
     pub kind: u8,
-    /// The number of its items.
+    /// The number of items.
     pub count: u16,
-    /// Its third word, a type where its kind names one.
+    /// The third word, which is a type ID if the kind refers to a type.
     pub target: u32,
-    /// An INT's offset and its number of bits; 0 of other kinds.
+    /// The offset and the number of bits of an INT; 0 for other kinds.
     pub offset: u8,
     pub bits: u8,
 }
@@ -76,7 +76,7 @@ impl Facts {
 }
 
 impl<'a> Section<'a> {
-    /// The facts of the type with this id.
+    /// The facts of the type with this ID.
     pub fn facts(&self, id: u32) -> Facts
         ensures { FactsAre result (type_at (facts_in self.now) id) }
     {

@@ -1,5 +1,5 @@
-//! A table of types in the two sections of a file (btf.rst section 2). Whoever keeps the sections
-//! lends one, and each record is read at its place.
+//! A table of types that borrows the two sections of a file (btf.rst section 2). Records are
+//! decoded from the sections when they are asked for.
 
 ghost use Rattle.std.specs.Prelude.{◌≡◌, ◌<◌, ◌≤◌, Some, length, slice_get};
 ghost use Rattle.btf_types.specs.Values.{head_value, item_value};
@@ -20,11 +20,11 @@ use bpf_words::Order;
 use std::alloc::Allocator;
 use std::marker::Model;
 
-/// The types in two sections that are kept elsewhere.
+/// The types in two borrowed sections.
 #[derive(Drop)]
 pub struct SectionTable<'a> {
     file: FileSections<'a>,
-    /// The ends of the long strings, in bytes from the first of the strings, ascending.
+    /// The ends of the long strings, in bytes from the start of the string section, ascending.
     ends: &'a [u32],
 }
 
@@ -44,7 +44,7 @@ impl<'a> Model for SectionTable<'a> {
 }
 
 impl<'a> SectionTable<'a> {
-    /// The table in these sections, with its records at these places.
+    /// The table of these sections, whose records begin at these offsets.
     pub fn new<A: Allocator>(
         order: Order,
         types: &'a [u8],
@@ -73,7 +73,7 @@ impl<'a> SectionTable<'a> {
         self.file.places.len() as u32
     }
 
-    /// The head of record `id`, from 1.
+    /// The head of the record with the ID `id`, counted from 1.
     pub fn head(&self, id: u32) -> Head<'a>
         requires first { 0 < id }
         requires last { id ≤ length self.now }
@@ -84,7 +84,7 @@ impl<'a> SectionTable<'a> {
         head_of(self.file.strings, self.ends, &this)
     }
 
-    /// The number of items of record `id`, from 1.
+    /// The number of items of the record with the ID `id`, counted from 1.
     pub fn item_count(&self, id: u32) -> u32
         requires first { 0 < id }
         requires last { id ≤ length self.now }
@@ -94,7 +94,7 @@ impl<'a> SectionTable<'a> {
         item_count_of(&self.file.record_at(pos))
     }
 
-    /// Item `k`, from 0, of record `id`, from 1.
+    /// Item `k`, counted from 0, of the record with the ID `id`, counted from 1.
     pub fn item(&self, id: u32, k: u32) -> Item<'a>
         requires first { 0 < id }
         requires last { id ≤ length self.now }
@@ -106,7 +106,7 @@ impl<'a> SectionTable<'a> {
         item_of(self.file.strings, self.ends, &this, k as usize)
     }
 
-    /// The sections.
+    /// The borrowed sections.
     pub fn sections(&self) -> FileSections<'a>
         ensures { AreSections self.now result.order result.types.now result.strings.now
             result.places.now }
@@ -114,7 +114,7 @@ impl<'a> SectionTable<'a> {
         self.file
     }
 
-    /// The heads of the records with their numbers, from 1, in order.
+    /// An iterator over the records in order, each as its ID, from 1, and its head.
     pub fn records(self) -> Records<'a>
         ensures { result ≡ numbered 1 self.entry }
     {
@@ -125,7 +125,7 @@ impl<'a> SectionTable<'a> {
         }
     }
 
-    /// The number of items of type `id`, which has none if it isn't in the table.
+    /// The number of items of the type with the ID `id`; 0 if the table has no such record.
     fn item_total(&self, id: u32) -> u32
         ensures { result ≡ length (items_of self.now id) }
     {
@@ -138,7 +138,8 @@ impl<'a> SectionTable<'a> {
         self.item_count(id)
     }
 
-    /// The items of type `id`, in order. It has none if it isn't in the table.
+    /// An iterator over the items of the type with the ID `id`; empty if the table has no such
+    /// record.
     pub fn items(self, id: u32) -> Items<'a>
         ensures { result ≡ items_of self.entry id }
     {

@@ -1,9 +1,9 @@
-//! Where the texts of a string section end (btf.rst section 2.1): a text runs from an offset, which
-//! may be inside a string, to the next NUL.
+//! Finds the end of a string in the string section (btf.rst section 2.1). A string runs from any
+//! offset, even inside another string, to the next NUL.
 //!
-//! Most strings are short, so an end is looked for in the next few bytes. The ends of long strings
-//! are kept, since any number of names may end in one of them: then no name takes time in
-//! proportion to its length.
+//! Most strings are short, so the next few bytes are searched first. The ends of long strings are
+//! stored, since any number of names may be suffixes of one long string; otherwise each of them
+//! would cost a search in proportion to its length.
 
 ghost use Rattle.std.specs.Prelude.{◌≡◌, ◌≢◌, ◌<◌, ◌^◌, ◌≤◌, ◌+◌, ◌++◌, ℕ, nat_lt, MatchOption};
 ghost use Rattle.std.specs.Prelude.{OnOk, length, take, drop, slice_index};
@@ -15,13 +15,14 @@ use btf_raw::text_end;
 use memchr::memchr;
 use std::alloc::{AllocError, Allocator};
 
-/// The bytes that are searched at once for long strings. A string of 128 bytes fills such a block.
+/// The number of bytes that are searched at once for long strings. A string of 128 bytes contains
+/// at least one complete block.
 const BLOCK: usize = 64;
 
-/// The bytes after an offset that are searched for the end.
+/// The number of bytes from an offset on that are searched for the end.
 const NEAR: usize = 128;
 
-/// The first NUL from an offset on, if it comes before another.
+/// The offset of the first NUL in `off..to`, if there is one.
 fn nul_between(strings: &[u8], off: usize, to: usize) -> Option<usize>
     requires order { off ≤ to }
     requires inside { to ≤ length strings.now }
@@ -34,7 +35,7 @@ fn nul_between(strings: &[u8], off: usize, to: usize) -> Option<usize>
     }
 }
 
-/// Appends the ends of all texts of 128 bytes and more.
+/// Appends the offsets of the ends of all strings of 128 bytes or more.
 pub fn push_long_ends<A: Allocator>(out: &mut Vec<u32, A>, strings: &[u8]) -> Result<(), AllocError>
     requires ends { HasNulEnds strings.now }
     requires room { length strings.now < 2 ^ 32 }
@@ -56,7 +57,7 @@ pub fn push_long_ends<A: Allocator>(out: &mut Vec<u32, A>, strings: &[u8]) -> Re
     Ok(())
 }
 
-/// Where the text at an offset ends. `ends` are the ends of the long strings.
+/// The offset of the end of the string at `off`. `ends` are the ends of the long strings.
 pub fn text_end_with(strings: &[u8], ends: &[u32], off: usize) -> usize
     requires nuls { HasNulEnds strings.now }
     requires ends { AreLongEnds strings.now ends.now }

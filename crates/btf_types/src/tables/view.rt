@@ -1,4 +1,4 @@
-//! A table that lends its names from the file it was read from.
+//! A table that borrows the file it was read from.
 
 ghost use Rattle.std.specs.Prelude.{◌≡◌, IfSome, IsSome, MatchResult};
 ghost use Rattle.btf_raw.specs.Header.{part};
@@ -23,10 +23,10 @@ use btf_raw::{BtfFault, Header, check_strings, read_header};
 use std::alloc::{Allocator, Global};
 use std::marker::Model;
 
-/// The types of a BTF file (btf.rst section 2), read from the file's own bytes as they are asked
-/// for.
+/// The types of a BTF file (btf.rst section 2), decoded from the file's own bytes when they are
+/// asked for.
 ///
-/// It keeps the file, and a list of the places of its records: no name is copied.
+/// It borrows the file and keeps the offset of each record. No name is copied.
 #[derive(Drop)]
 pub struct BtfView<'a, A: Allocator = Global> {
     pub(crate) order: Order,
@@ -58,7 +58,7 @@ fn sections_of(bytes: &[u8], header: Header) -> (&[u8], &[u8])
     )
 }
 
-/// The error of a section that begins at `base`, with its place in the file.
+/// Converts the offset of an error from a section that begins at `base` to an offset in the file.
 fn moved(base: usize, error: BtfError) -> BtfError
     requires { MayMove base error }
     ensures { result ≡ tables.moved base error }
@@ -73,14 +73,14 @@ fn moved(base: usize, error: BtfError) -> BtfError
 }
 
 impl<'a, A: Allocator> BtfView<'a, A> {
-    /// Reads a whole BTF file (btf.rst section 2). No name is copied: the table keeps the input,
-    /// and the places of its records.
+    /// Reads and checks a complete BTF file (btf.rst section 2). No name is copied: the table
+    /// borrows `bytes`, and keeps the offset of each record.
     ///
     /// # Errors
     ///
-    /// `Fault` with the first fault of the file: one of the header or of the ends of the strings by
-    /// its cause, then one of the framing or of the fields by its place and cause. `Memory` when
-    /// out of memory.
+    /// `Fault` with the first fault of the file. Faults of the header come first, then those of the
+    /// ends of the string section, each by cause; then those of the framing, then those of the
+    /// fields, each by offset and then by cause. `Memory` if memory can't be allocated.
     pub fn parse(alloc: A, bytes: &'a [u8]) -> Result<BtfView<'a, A>, BtfError>
         ensures { MatchResult result (λ v. Denotes bytes.now v) (λ e. Fails bytes.now e) }
     {
@@ -111,7 +111,8 @@ impl<'a, A: Allocator> BtfView<'a, A> {
         })
     }
 
-    /// The heads of the records with their numbers, from 1 to [`TypeTable::count`], in order.
+    /// An iterator over the records in order, each as its ID, from 1 to [`TypeTable::count`], and
+    /// its head.
     pub fn records(&self) -> Records<'_>
         ensures { result ≡ numbered 1 self.now }
     {
