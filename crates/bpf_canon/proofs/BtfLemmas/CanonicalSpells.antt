@@ -1,4 +1,4 @@
--- The canonical words of good records spell them, with the string table as strings.
+-- The canonical bytes of valid records encode them, with the string table as string section.
 use Rattle.std.proofs.Common.{◌≡◌, ◌≢◌, ℕ, zero, suc, ◌+◌, ◌*◌, ◌/◌, ◌%◌, ◌^◌, ◌<◌, ◌≤◌, Bool, true, false, Option, Some, None, List, [], ◌∷◌, ◌++◌, length, map, refl, ap, inl, inr, lit<, arith}
 use Rattle.std.specs.Prelude.{IsTrue, IfSome, not, ◌==◌}
 use Rattle.std.specs.List.{All, AllZip, concat, flat_map, list_any}
@@ -57,7 +57,7 @@ concat-map : {X : Type 0} (f : X → List ℕ) (xs : List X) → concat (map f x
 concat-map f [] = refl
 concat-map f (x ∷ xs) = ap (λ (t : List ℕ). f x ++ t) (concat-map f xs)
 
--- ---- the words of a head
+-- ---- a head
 
 flag_spells : (h : TypeHead) (bit_fields : Bool) → FlagSpells h (canonical_flag h bit_fields)
 flag_spells (KStruct name size) true = lit< tt
@@ -95,12 +95,12 @@ tail_fits (KVar name target linkage) range = fits_one (linkage_number linkage) (
 tail_fits (KDeclTag name flag target component) range = fits_one (component_word component) (component_below component range.1)
 tail_fits h range = IsWords-nil
 
--- ---- the words of an item
+-- ---- an item
 
 not_zero : (w : ℕ) → w ≢ 0 → not (w == 0) ≡ true
 not_zero w some = ap not (ne_eqb w 0 some)
 
--- a member's offset word, where the record has bit-fields if this width isn't 0
+-- a member's offset word, if the record has bit-fields whenever this width isn't 0
 pub member_word : (b : Bool) (o w : ℕ) → (not (w == 0) ≡ true → b ≡ true) → (IsTrue b → o < 2 ^ 24) → MemberWord (bit b) o w (o + 2 ^ 24 * w)
 member_word true o w some low = inr (refl, low refl, refl)
 member_word false o w some low = elim (cases_eq w 0) [
@@ -108,12 +108,12 @@ member_word false o w some low = elim (cases_eq w 0) [
   | inr other ↦ absurd (both_ways false refl (some (not_zero w other)))
 ]
 
--- the word fits
+-- the 32-bit value fits
 pub member_fits : (flag o w word : ℕ) → MemberWord flag o w word → o < 2 ^ 32 → w < 2 ^ 8 → word < 2 ^ 32
 member_fits flag o w word (inl plain) wide narrow = omega (arith, plain.2, wide)
 member_fits flag o w word (inr field) wide narrow = omega (arith, field.1, field.2, narrow)
 
--- an item of a good record, whose name is at its place
+-- an item of a valid record, whose name is at its offset
 pub record IsItemSpelled (strings : List ℕ) (place : List ℕ → ℕ) (flag : ℕ) (x : TypeItem) : Type 0 where
   pub spells : ItemSpells strings flag x (words_of_item place x)
   pub fits : IsWords (words_of_item place x)
@@ -170,7 +170,7 @@ items_are_spelled strings place types h size b short (x ∷ xs) of range good so
 
 -- ---- records
 
--- the words of a good record whose names are at their places
+-- a valid record whose names are at their offsets
 pub record_spells : (strings : List ℕ) (place : List ℕ → ℕ) (types : List TypeFacts) (r : TypeRecord) → length strings ≤ STRINGS_LIMIT → IsGoodRecord types r
     → All (λ n. NameAt strings (place n) n) (record_names r) → Spells strings r (record_words place r)
 record_spells strings place types r short good at =
@@ -214,7 +214,7 @@ all_names types [] good = All-nil IsName
 all_names types (r ∷ v) good =
     All-append IsName (record_names r) (flat_map record_names v) (All-head (IsGoodRecord types) r v good).names (all_names types v (All-tail (IsGoodRecord types) r v good))
 
--- so do those of a good list, with names at their places in its string table
+-- likewise a valid list, with names at their offsets in its string table
 pub frames_spell : (v : List TypeRecord) → IsGood v → AllZip (Spells (string_table v)) v (canonical_frames v)
 frames_spell v good =
     records_spell (string_table v) (place_of v) (facts v) v good.texts good.each (shared_places (names v) (all_names (facts v) v good.each))

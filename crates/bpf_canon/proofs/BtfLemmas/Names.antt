@@ -1,4 +1,4 @@
--- Lemmas on the string table from the texts of names.
+-- Lemmas on the string table from the strings of names.
 pub mod KeptSteps
 pub mod PlaceSteps
 pub mod HostSearch

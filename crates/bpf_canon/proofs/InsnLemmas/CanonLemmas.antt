@@ -15,7 +15,7 @@ use Rattle.bpf_canon.specs.insn.FeedStream.{IsLastingFaultOf, Moves, Represents}
 use Rattle.bpf_canon.specs.insn.Canonical.{CanonicalBytesAreAccepted, CanonicalBytesAreTheirOwn, CanonicalBytesTellFilesApart, Compares, IsCanonical, NamesFault}
 use Rattle.bpf_canon.proofs.InsnLemmas.FrontLaws.{file_front, front-nil}
 
--- a feed of a whole file gave its instructions in the order `to`
+-- a feed of a complete file wrote its instructions in the order `to`
 pub recoded_of : (s t : FeedState) (o to : Order) (bytes written : List ℕ) (l : List Insn) → Represents s o to [] → Moves s t bytes [] written → InsnFile o bytes l
     → written ≡ file_of to l
 recoded_of s t o to bytes written l h m file =
@@ -64,12 +64,12 @@ compares o p a b same l m f g r =
 
 -- ---- errors
 
--- bytes that are a file have no fault to be named
+-- the bytes of a valid file are without fault
 pub names_no_file : (o : Order) (b : List ℕ) (e : InsnError) (l : List Insn) → NamesFault o b e → InsnFile o b l → e ≡ error.Memory
 names_no_file o b (error.Fault f) l n file = absurd (n.no_file l file)
 names_no_file o b error.Memory l n file = refl
 
--- what a feed of the whole bytes names
+-- the fault that a feed of all the bytes returns
 pub names_of_feed : (o : Order) (b : List ℕ) (e : InsnError) → IsLastingFaultOf o b e → NamesFault o b e
 names_of_feed o b (error.Fault f) h = h.fault
 names_of_feed o b error.Memory h = tt

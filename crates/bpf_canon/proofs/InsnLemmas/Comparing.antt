@@ -11,7 +11,7 @@ use Rattle.bpf_insn.specs.declared.insn.Insn.{Insn}
 use Rattle.bpf_insn.specs.Spelling.{InsnFile, file_of}
 use Rattle.bpf_canon.proofs.InsnLemmas.Recoding.{Rewrites, file_rewritten, one_rewritten, rewritten_rest}
 
--- the slots of `a` before `left` are in the other order at the front of `b`, and `right` follows them
+-- the slots of `a` before `left` are, in the other order, at the start of `b`, and `right` follows them
 pub record SwappedFront (order to : Order) (a left b right : List ℕ) : Type 0 where
   pub written : List ℕ
   pub rewrites : Rewrites order to a left [] written

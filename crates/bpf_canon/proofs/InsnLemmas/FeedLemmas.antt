@@ -36,7 +36,7 @@ missing_at o s at t = elim t [
   | inr h ↦ h.3 ∙ grind (arith, h.0)
 ]
 
--- a fault of missing bytes gives their place
+-- a fault of missing bytes has their offset
 pub cut_of_fault : (o : Order) (s : List ℕ) (at : ℕ) (cause : SlotCause) → cause ≡ Truncated → IsSlotFault o s (record { pos = at; cause = cause }) → IsCut o s
 cut_of_fault o s at cause t f =
     let P : SlotCause → Type 0 = λ x. IsSlotFault o s (record { pos = at; cause = x }) in
@@ -44,7 +44,7 @@ cut_of_fault o s at cause t f =
     let Q : ℕ → Type 0 = λ n. IsSlotFault o s (record { pos = n; cause = Truncated }) in
     inr (subst Q (missing_at o s at cut.first) cut)
 
--- what is left of the held bytes and a piece: an instruction takes all that is held, or none
+-- the rest of the held bytes and a piece: an instruction consumes all held bytes, or none
 pub left_of : (array piece : List ℕ) (held_len len : ℕ) → held_len ≤ length array → (len ≡ 0) ⊎ (held_len ≤ len)
     → take (held_len - len) array ++ take (length piece - (len - held_len)) (drop (len - held_len) piece)
     ≡ drop len (take held_len array ++ piece)
@@ -76,7 +76,7 @@ pub held_left_size : (array piece : List ℕ) (kept used : ℕ) (left : List ℕ
 held_left_size array piece kept used left fits e =
     omega (arith, ap length e, length-take-le kept array fits, length-append (take kept array) (take (length piece - used) (drop used piece)))
 
--- where no instruction was whole nothing was read
+-- if no instruction was complete, nothing was read
 pub none_or_all : (o to : Order) (bytes old new : List ℕ) (read : InsnFront) (held_len : ℕ) → ReadsFront o to bytes read old new → (0 < read.count → held_len ≤ read.len)
     → (read.len ≡ 0) ⊎ (held_len ≤ read.len)
 none_or_all o to bytes old new read held_len r h = elim (cases_lt 0 read.count) [
@@ -140,7 +140,7 @@ module _ (s : FeedState) (piece old new : List ℕ) (read : InsnFront) (reads : 
   pub advance_within : (f : SlotFault) → read.stop ≡ Some f → read.len + f.pos ≤ length s.held + length piece
   advance_within f e = omega (arith, left_size, fault_within s.order (drop read.len (s.held ++ piece)) f.pos f.cause (stopped f e))
 
-  -- what is left has a fault that no more bytes can mend
+  -- the rest has a fault that no further bytes can change
   pub advance_faulty : (f : SlotFault) (start : ℕ) → read.stop ≡ Some f → (f.cause ≡ Truncated → ⊥) → start + length s.held ≡ s.fed
       → Advances s (record s {
         held = [];
@@ -156,7 +156,7 @@ module _ (s : FeedState) (piece old new : List ℕ) (read : InsnFront) (reads : 
 keeps_none : (o : Order) (b rest held : List ℕ) (fault : Option SlotFault) → fault ≡ None → Keeps o b rest held fault → IsSound o b × (held ≡ rest)
 keeps_none o b rest held fault e k = let P : Option SlotFault → Type 0 = λ x. Keeps o b rest held x in subst P e k
 
--- the front of the longer stream
+-- the complete instructions of the longer stream
 joined_front : (s t : FeedState) (o to : Order) (b piece old new : List ℕ) → s.fault ≡ None → (a : Advances s t piece old new) → (h : Represents s o to b)
     → IsFront o (b ++ piece) (h.insns ++ a.gained) a.left
 joined_front s t o to b piece old new e a h =

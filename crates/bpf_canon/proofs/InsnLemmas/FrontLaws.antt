@@ -59,7 +59,7 @@ front_fits o to b l rest f = omega (arith, ap length f.front, length-append (fil
 pub front_counts : (o : Order) (b : List ℕ) (l : List Insn) (rest : List ℕ) → IsFront o b l rest → 8 * length l + length rest ≤ length b
 front_counts o b l rest f = omega (arith, length-at_most_file o l, front_fits o o b l rest f)
 
--- ---- what follows a front begins with no instruction
+-- ---- the rest after the complete instructions doesn't begin with an instruction
 
 -- the bytes of one instruction more
 pub file-push : (o : Order) (l : List Insn) (i : Insn) → file_of o (l ++ i ∷ []) ≡ file_of o l ++ spelling o i
@@ -75,13 +75,13 @@ front_begins_none o b l rest f i g =
 pub front-nil : (o : Order) → IsFront o [] [] []
 front-nil o = front_of o [] [] [] (All-nil IsInsn) refl (empty_begins_none o)
 
--- a file is its own front
+-- all instructions of a file are at its start
 pub file_front : (o : Order) (b : List ℕ) (l : List Insn) → InsnFile o b l → IsFront o b l []
 file_front o b l f = front_of o b l [] f.0 (f.1 ∙ sym (append-nil (file_of o l))) (empty_begins_none o)
 
 -- ---- longer bytes
 
--- the front of what is left and what follows joins the front
+-- the instructions at the start of the rest and of what follows it are appended to those before
 pub front_joins : (o : Order) (b more : List ℕ) (l m : List Insn) (rest left : List ℕ) → IsFront o b l rest → IsFront o (rest ++ more) m left
     → IsFront o (b ++ more) (l ++ m) left
 front_joins o b more l m rest left f g =
@@ -103,7 +103,7 @@ grows o (i ∷ l) (j ∷ m) r s hl hm e none =
     let more = grows o l m r s (All-tail IsInsn i l hl) (All-tail IsInsn j m hm) tails none in
     (more.0, ap (λ k. k ∷ m) (sym same) ∙ ap (λ t. i ∷ t) more.1)
 
--- the front of bytes is at the front of longer bytes
+-- the instructions at the start of bytes are at the start of longer bytes
 pub front_grows : (o : Order) (l m : List Insn) (b x r s : List ℕ) → IsFront o b l r → IsFront o (b ++ x) m s → (k : List Insn) × (m ≡ l ++ k)
 front_grows o l m b x r s f g =
     grows o l m (r ++ x) s f.each g.each
@@ -143,7 +143,7 @@ cut_length o s at Imm t f = cc
 cut_length o s at Reserved t f = cc
 cut_length o s at NextImm t f = cc
 
--- a file has no fault
+-- a valid file is without fault
 pub sound_file : (o : Order) (b : List ℕ) (l : List Insn) → IsFront o b l [] → IsSound o b
 sound_file o b l front f fault = absurd (fault.no_file l (front.each, front.front ∙ append-nil (file_of o l)))
 
@@ -156,7 +156,7 @@ sound_cut o b l rest e front slot same f fault =
     let one = one_fault o rest fault.slot e (subst P once.1 fault.slot_fault) slot in
     fault.cause ∙ ap (λ (x : SlotFault). x.cause) one ∙ same
 
--- the fault of what follows the front is that of the bytes
+-- the fault of the rest after the complete instructions is that of the bytes
 pub front_fault : (o : Order) (b : List ℕ) (l : List Insn) (rest : List ℕ) (e f : SlotFault) → IsFront o b l rest → 0 < length rest → IsSlotFault o rest e
     → f.pos + length rest ≡ length b + e.pos → f.cause ≡ e.cause → IsInsnFault o b f
 front_fault o b l rest e f front some slot place cause =

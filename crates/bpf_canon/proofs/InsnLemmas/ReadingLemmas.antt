@@ -1,4 +1,4 @@
--- Reading the whole instructions at the front of some bytes, also across what is held and a piece.
+-- Reading the complete instructions at the start of a buffer, and across the held bytes and a piece.
 use Rattle.std.proofs.Common.{◌≡◌, ◌<◌, ◌≤◌, ◌+◌, ◌-◌, ◌++◌, ◌∙◌, ℕ, List, [], ◌∷◌, Option, Some, length, take, drop, min, refl, sym, ap, subst, inl, inr, arith, append_assoc, length-append, length-drop}
 use Rattle.std.proofs.lemmas.Bool.{cases_lt}
 use Rattle.std.proofs.lemmas.List.{append-nil, length-take, take_all, take-append-drop, take-append-le}
@@ -20,7 +20,7 @@ use Rattle.bpf_insn.proofs.StayLemmas.{slot_fault_stays}
 use Rattle.bpf_canon.specs.insn.FrontReads.{BeginsAcross, BeginsNone, ReadsFront}
 use Rattle.bpf_canon.proofs.InsnLemmas.FrontLaws.{cut_length, front_begins_none, front_fault, truncated_or_not}
 
--- the fault that stopped the reading, at its place in the bytes
+-- the fault that stopped the reading, at its offset in the bytes
 pub read_fault : (o : Order) (bytes : List ℕ) (read : InsnFront) (f : SlotFault) → IsInsnFront o bytes read → read.stop ≡ Some f
     → read.len < length bytes → IsInsnFault o bytes (record { pos = read.len + f.pos; cause = f.cause })
 read_fault o bytes read f r e some =
@@ -73,7 +73,7 @@ across_found o i held piece used size fits none b =
       size = sym size_is;
     }
 
--- a fault of what is held and the first bytes of a piece is that with the whole piece: either no more bytes can mend it, or the piece has no more
+-- a fault of the held bytes and the first bytes of a piece is that with the entire piece: no further bytes can change it, or the piece has no more
 pub across_fault : (o : Order) (held piece : List ℕ) (used at : ℕ) (cause : SlotCause) → used ≡ min (length piece) (16 - length held) → length held < 16
     → IsSlotFault o (held ++ take used piece) (record { pos = at; cause = cause })
     → IsSlotFault o (held ++ piece) (record { pos = at; cause = cause })
@@ -89,7 +89,7 @@ across_fault o held piece used at cause fits short f = elim (truncated_or_not ca
       subst P (cut_across held piece used) (slot_fault_stays o (held ++ take used piece) (drop used piece) at cause t f)
 ]
 
--- an instruction across, and the front of what follows it
+-- an instruction across, and the complete instructions after it
 pub across_more : (o to : Order) (held piece : List ℕ) (i : Insn) (used : ℕ) (rest : InsnFront) (old middle new : List ℕ) → BeginsAcross o i held piece used
     → middle ≡ old ++ spelling to i → ReadsFront o to (drop used piece) rest middle new
     → ReadsFront o to (held ++ piece) (record { len = length held + used + rest.len; count = 1 + rest.count; stop = rest.stop }) old new
@@ -113,7 +113,7 @@ across_more o to held piece i used rest old middle new a e r =
       grows = r.grows ∙ ap (λ x. x ++ file_of to r.insns) e ∙ append_assoc old (spelling to i) (file_of to r.insns);
     }
 
--- nothing is whole
+-- no instruction is complete
 pub across_stops : (o to : Order) (bytes old : List ℕ) (f : SlotFault) → IsSlotFault o bytes f
     → ReadsFront o to bytes (record { len = 0; count = 0; stop = Some f }) old old
 across_stops o to bytes old f h = record {
@@ -125,7 +125,7 @@ across_stops o to bytes old f h = record {
   grows = sym (append-nil old);
 }
 
--- the instructions of a front, appended in another order
+-- the complete instructions, appended in another order
 pub front_recoded : (o to : Order) (bytes : List ℕ) (read : InsnFront) (old new : List ℕ) → IsInsnFront o bytes read
     → ((insns : List Insn) → InsnFile o (take read.len bytes) insns → new ≡ old ++ file_of to insns)
     → ReadsFront o to bytes read old new

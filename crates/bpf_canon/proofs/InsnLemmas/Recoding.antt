@@ -19,7 +19,7 @@ use Rattle.bpf_insn.specs.Spelling.{spelling, second_slot, file_of, InsnFile}
 use Rattle.bpf_insn.proofs.FieldLemmas.{fields_in_range, wide_next_fits}
 use Rattle.bpf_insn.proofs.FaultLemmas.{slot_length}
 
--- a second slot is one whose fields are 0, but for the immediate
+-- a second slot is one whose fields are 0, except the immediate
 abbrev pub second_fields : Option ℤ → List Fields
 second_fields None = []
 second_fields (Some k) = fields 0 0 0 (pos 0) k ∷ []
@@ -125,7 +125,7 @@ one_rewritten order to bytes rest following old new slot so_far e fit = record {
     flat_map-push : (o : Order) (fs : List Fields) (f : Fields) → flat_map (spelled o) (fs ++ f ∷ []) ≡ flat_map (spelled o) fs ++ spelled o f
     flat_map-push o fs f = flat_map-append (spelled o) fs (f ∷ []) ∙ ap (λ xs. flat_map (spelled o) fs ++ xs) (append-nil (spelled o f))
 
--- where the bytes are a file, the slots that are left complete that file
+-- if the bytes are a file, the remaining slots complete that file
 pub rewritten_rest : (order to : Order) (bytes rest old new : List ℕ) → Rewrites order to bytes rest old new
     → (insns : List Insn) → InsnFile order bytes insns
     → (left : List Fields) × ((rest ≡ flat_map (spelled order) left) × (old ++ file_of to insns ≡ new ++ flat_map (spelled to) left))
@@ -142,7 +142,7 @@ rewritten_rest order to bytes rest old new so_far insns file =
       ),
     )
 
--- where the bytes are a file, and less than a slot of them is left, what was written is that file
+-- if the bytes are a file, and less than a slot of them remains, the output is that file
 pub file_rewritten : (order to : Order) (bytes rest old new : List ℕ) → Rewrites order to bytes rest old new → length rest < 8
     → (insns : List Insn) → InsnFile order bytes insns → new ≡ old ++ file_of to insns
 file_rewritten order to bytes rest old new so_far short insns file =
@@ -152,7 +152,7 @@ file_rewritten order to bytes rest old new so_far short insns file =
 
 -- ---- in place
 
--- a slot, in the bytes from a place on
+-- a slot, in the bytes from an offset on
 slot_at : (order : Order) (xs slot : List ℕ) (at : ℕ) (f : Fields) → slot ≡ take 8 (take (length xs - at) (drop at xs)) → slot ≡ spelled order f
     → drop at xs ≡ spelled order f ++ drop (at + 8) xs
 slot_at order xs slot at f first is =

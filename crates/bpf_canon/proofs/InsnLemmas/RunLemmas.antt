@@ -23,7 +23,7 @@ use Rattle.bpf_canon.specs.insn.Run.{RanWhole, StopsAtFault, StopsTooLong, Stops
 use Rattle.bpf_canon.proofs.InsnLemmas.FeedLemmas.{keeps_answer, keeps_fault}
 use Rattle.bpf_canon.proofs.InsnLemmas.FrontLaws.{file_front, front_fits, front_grows}
 
--- the engine so far: the feed represents what was read, and the sink took all that was whole
+-- the engine so far: the feed represents the bytes read, and the sink accepted all complete instructions
 pub record Running (d : Devices) (o to : Order) (s : FeedState) (written : ℕ) : Type 0 where
   pub read : List ℕ
   pub came : Consumes d.source d.source_after read
@@ -42,7 +42,7 @@ front_within o to b l rest f = omega (arith, front_fits o to b l rest f)
 pub running_within : (d : Devices) (o to : Order) (s : FeedState) (n : ℕ) → Running d o to s n → s.fed ≤ limit
 running_within d o to s n r = omega (arith, r.represents.fed, r.within)
 
--- what came before the source failed or ended
+-- the bytes read before the source failed or ended
 wrote_read : (a b c p q : Option (List ℕ)) (o to : Order) (s : FeedState) (n : ℕ) (r : Running (devices a b p q) o to s n) → Consumes a c r.read
     → WroteAll (devices a c p q) o to r.read n
 wrote_read a b c p q o to s n r came =
@@ -148,7 +148,7 @@ run_more a b c p q r o to s t n k piece h came x fits =
       all = size_more to h.insns adds.gained x.out n k h.all x.all adds.made;
     }
 
--- what came with a chunk; a piece of it is within the limit, and the sink took what became whole
+-- the bytes read with a chunk; a piece of it is within the limit, and the sink accepted the instructions that it completed
 wrote_chunk : (a b c p q r : Option (List ℕ)) (o to : Order) (s t : FeedState) (n k : ℕ) (chunk piece out : List ℕ) → (h : Running (devices a b p q) o to s n)
     → Consumes b c chunk → Adds o to t h.read piece h.insns out → Appends q r out → k ≡ length out → take limit (h.read ++ chunk) ≡ h.read ++ piece
     → length chunk ≤ read_room → WroteAll (devices a c p r) o to (h.read ++ chunk) (n + k)
@@ -252,7 +252,7 @@ cut_chunk read buffer fed n within e h l w =
     within_cut read (take n buffer) fed within e h (w ∙ ap (λ m. min m (limit - fed)) (sym size))
     ∙ ap (λ x. read ++ x) (take-take within n buffer least)
 
--- what became whole with a piece within the limit is within the limit
+-- the instructions that a piece within the limit completes are within the limit
 out_within : (a b p q : Option (List ℕ)) (o to : Order) (s t : FeedState) (n : ℕ) (piece out : List ℕ)
     → Running (devices a b p q) o to s n → Moves s t piece [] out → s.fed + length piece ≤ limit → n + length out ≤ limit
 out_within a b p q o to s t n piece out h moves fits =

@@ -1,4 +1,4 @@
--- The bytes of a slot in the other order, by the number of 64 bits that they spell.
+-- The bytes of a slot in the other order, by the 64-bit number that they encode.
 use Rattle.std.proofs.Common.{◌≡◌, ◌≢◌, ◌<◌, ◌+◌, ◌*◌, ◌/◌, ◌%◌, ◌^◌, ◌++◌, ◌∙◌, ℕ, zero, suc, List, [], ◌∷◌, length, slice_index, refl, ap, arith, bit_and, lit<}
 use Rattle.std.specs.Int.{w16, w32, w64, cast_unsigned, from_le_bytes, to_le_bytes}
 use Rattle.std.proofs.lemmas.Nat.{and_block, and_mask, le_bytes_8}

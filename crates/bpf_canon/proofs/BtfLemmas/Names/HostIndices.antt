@@ -90,7 +90,7 @@ module _ (ks : List (List ℕ)) (sorted : List Named) (apart : NoRepeats ks) (ar
       host_put hosts k ((get_or sorted k e).1) e f low (index_inside k e low)
       (name_is k e low ∙ sym (text_at k e low) ∙ sym own ∙ ap (host_in (hosts_of ks)) (text_at k e low ∙ sym (name_is k e low)))
 
-  -- the same in the form that the code gives it: what was read of the sorted names and of the hosts
+  -- the same in the form that the code needs: what was read of the sorted names and of the hosts
   pub host_next_read : (hosts : List ℕ) (k h : ℕ) (p q : Named) → HostsFrom ks sorted hosts (k + 1) → k + 1 < length sorted → p ≡ get_or sorted k p → q ≡ get_or sorted (k + 1) q → is_suffix p.0.now q.0.now ≡ true → h ≡ get_or hosts q.1 h
       → HostsFrom ks sorted (set hosts p.1 h) k
   host_next_read hosts k h p q f low p_is q_is t h_is =

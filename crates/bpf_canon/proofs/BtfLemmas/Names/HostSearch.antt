@@ -1,4 +1,4 @@
--- The texts of names that are lent.
+-- The strings of borrowed names.
 use Rattle.std.proofs.Common.{◌≡◌, ℕ, ◌<◌, List, length, get_or, Bor}
 use Rattle.std.proofs.lemmas.List.{length-map, get_or-map}
 use Rattle.bpf_canon.specs.btf.names.Interned.{lent_texts}

@@ -19,12 +19,12 @@ use Rattle.bpf_canon.proofs.BtfLemmas.Names.KeptSteps.{Has_from_test, test_from_
 use Rattle.bpf_canon.proofs.BtfLemmas.Names.PlaceSteps.{text_eq}
 use Rattle.bpf_canon.proofs.BtfLemmas.Names.HostSearch.{text_at}
 
--- whether a set of lent texts has a text
+-- whether a set of borrowed strings contains a string
 set_iff_any : (k : Bor (List ℕ)) (ks : List (Bor (List ℕ))) → list_any (text_eq k) ks ≡ list_any (bytes_eq k.now) (lent_texts ks)
 set_iff_any k [] = refl
 set_iff_any k (y ∷ ys) = ap (λ (b : Bool). bytes_eq k.now y.now || b) (set_iff_any k ys)
 
--- which of the texts a text is
+-- the index of a string among the strings
 pub index_found : (ks : List (Bor (List ℕ))) (now : List (List ℕ)) (x : Bor (List ℕ)) (r : Option ℕ) → lent_texts ks ≡ now → Contains now x.now → is_some r ≡ list_any (text_eq x) ks → IsSome r
 index_found ks now x r same c is_in =
     is_in ∙ set_iff_any x ks ∙ ap (list_any (bytes_eq x.now)) same ∙ test_from_Has now x.now (Has-from_Contains now x.now c)
@@ -38,7 +38,7 @@ index_text ks now x i same found d =
 texts_push : (ks : List (Bor (List ℕ))) (k : Bor (List ℕ)) → lent_texts (ks ++ k ∷ []) ≡ lent_texts ks ++ k.now ∷ []
 texts_push ks k = map-append (λ (n : Bor (List ℕ)). n.now) ks (k ∷ [])
 
--- what an insert makes of the texts
+-- the strings after an insert
 pub set_known : (ks : List (Bor (List ℕ))) (k : Bor (List ℕ)) → Has (lent_texts ks) k.now → insert_key text_eq ks k ≡ ks
 set_known ks k h = cond-true (list_any (text_eq k) ks) ks (ks ++ k ∷ []) (set_iff_any k ks ∙ test_from_Has (lent_texts ks) k.now h)
 
@@ -89,7 +89,7 @@ kept_part ks part own n inside =
 pub kept_apart : (ks : List (List ℕ)) → kept ks ≡ ks → NoRepeats ks
 kept_apart ks own = subst NoRepeats own (NoRepeats-kept ks)
 
--- a name is its own host exactly where no other ends with it
+-- a name is its own host if and only if no other ends with it
 pub own_host_test : (ks : List (List ℕ)) (x : List ℕ) → Has ks x → bytes_eq (host_in (hosts_of ks) x) x ≡ not (list_any (is_proper_suffix x) ks)
 own_host_test ks x h = elim (cases_Bool (list_any (is_proper_suffix x) ks)) [
   | inl t ↦ false_from_ne_true (bytes_eq (host_in (hosts_of ks) x) x) (λ u. host_differs ks x h t (same_text _ x u)) ∙ sym (ap not t)

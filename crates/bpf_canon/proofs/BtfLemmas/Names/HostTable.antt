@@ -1,4 +1,4 @@
--- The places of hosts in their table, in the order of the names, and the place of each name.
+-- The offsets of hosts in their table, in the order of the names, and the offset of each name.
 use Rattle.std.proofs.Common.{Bor, ◌≡◌, ◌≢◌, ℕ, zero, suc, ◌+◌, ◌-◌, ◌<◌, ◌≤◌, ◌^◌, true, false, inl, inr, List, [], ◌∷◌, ◌++◌, length, get_or, set, take, drop, refl, sym, ap, ◌∙◌, subst, arith, append_assoc, append-nil}
 use Rattle.std.specs.List.{filter, flat_map}
 use Rattle.std.proofs.lemmas.List.Concat.{flat_map-append}
@@ -44,7 +44,7 @@ place_stays_all [] ks y h = ap (λ (l : List (List ℕ)). place_in l y) (append-
 place_stays_all (r ∷ rest) ks y h =
     ap (λ (l : List (List ℕ)). place_in l y) (sym (append_assoc ks (r ∷ []) rest)) ∙ place_stays_all rest (ks ++ r ∷ []) y (Has-front ks (r ∷ []) y h) ∙ place_stays ks r y h
 
--- the hosts among the first k names have their places, and their table has this length
+-- the hosts among the first k names have their offsets, and this is the length of their table
 pub record PlacedTo (ks : List (List ℕ)) (hosts places : List ℕ) (table_len k : ℕ) : Type 0 where
   pub whole : length places ≡ length ks
   pub each : (i : ℕ) → i < k → get_or hosts i 0 ≡ i → get_or places i 0 ≡ length (table_of (hosts_among ks i))
@@ -111,7 +111,7 @@ table_more out old hs x e =
     ∙ append_assoc old (table_of hs) (x ++ 0 ∷ [])
     ∙ ap (λ (t : List ℕ). old ++ 0 ∷ t) (sym (flat_map-append with_nul hs (x ∷ []) ∙ ap (λ (t : List ℕ). flat_map with_nul hs ++ t) (append-nil (with_nul x))))
 
--- a name that isn't empty, the index of its host, and the place of the host
+-- a name that isn't empty, the index of its host, and the offset of the host
 pub record HasPlace (ks : List (List ℕ)) (hosts places : List ℕ) (x : List ℕ) (i : ℕ) : Type 0 where
   pub inside : get_or hosts i 0 < length ks
   pub shorter : length x ≤ length (name_at ks (get_or hosts i 0))
@@ -144,7 +144,7 @@ has_place ks hosts places table_len apart are x i low is some =
       place = in_shared ks x name (get_or places h 0) some host place;
     }
 
--- the same in the form that the code gives it: the names that are lent, and what was read of the hosts and of their places
+-- the same in the form that the code needs: the borrowed names, and what was read of the hosts and of their offsets
 pub record ReadsPlace (ks : List (List ℕ)) (names : List (Bor (List ℕ))) (x : List ℕ) (h n : ℕ) (d : Bor (List ℕ)) : Type 0 where
   pub shorter : length x ≤ length ((get_or names h d).now)
   pub fits : n + length ((get_or names h d).now) < 2 ^ 32
@@ -166,7 +166,7 @@ reads_place ks names hosts places table_len i h n x d none same apart are low is
       place = ap (λ (m : ℕ). m + (length ((get_or names h d).now) - length x)) place ∙ ap (λ (m : ℕ). get_or places (get_or hosts i 0) 0 + (m - length x)) long ∙ p.place;
     }
 
--- before the place of the host is read
+-- before the offset of the host is read
 pub reads_shorter : (ks : List (List ℕ)) (names : List (Bor (List ℕ))) (hosts places : List ℕ) (table_len i h : ℕ) (x : List ℕ) (d : Bor (List ℕ)) → d.now ≡ [] → lent_texts names ≡ ks → NoRepeats ks → AreShared ks hosts places table_len
     → i < length ks → name_at ks i ≡ x → 0 < length x → h ≡ get_or hosts i h → length x ≤ length ((get_or names h d).now)
 reads_shorter ks names hosts places table_len i h x d none same apart are low is some h_is =

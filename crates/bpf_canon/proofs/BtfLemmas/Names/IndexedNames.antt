@@ -33,7 +33,7 @@ indexed_more names sorted k n to inside is = record {
   ];
 }
 
--- sorted as they are compared, they are sorted as texts
+-- sorted by the comparison, they are sorted as strings
 sorted_named : (sorted : List Named) → IsSortedBy (λ x y. tail_lt x.0.now y.0.now) sorted → IsSorted tail_cmp (texts sorted)
 sorted_named sorted up k d low h =
     let e : Named = (record { ref_ptr = (0, 0); now = d }, 0) in

@@ -7,7 +7,7 @@ use Rattle.btf_types.specs.Names.{with_nul, table_of, place_in}
 use Rattle.btf_types.proofs.Members.{Has}
 use Rattle.btf_types.proofs.StringLemmas.Texts.{table_split}
 
--- a place in a table leaves room for the text and its NUL
+-- an offset in a table leaves space for the string and its NUL
 pub place_room : (ks : List (List ℕ)) (x : List ℕ) → Has ks x → place_in ks x + length x + 1 ≤ length (table_of ks)
 place_room ks x h =
     let before = table_of (before_first (bytes_eq x) ks) in

@@ -1,4 +1,4 @@
--- The first bit in which two keys differ gives the number of their last bytes that are the same.
+-- The first bit in which two keys differ determines how many of their last bytes are equal.
 use Rattle.std.proofs.Common.{◌≡◌, ◌≢◌, ℕ, zero, suc, ◌+◌, ◌-◌, ◌*◌, ◌/◌, ◌%◌, ◌^◌, ◌<◌, ◌≤◌, inl, inr, get_or, sym, ap, ◌∙◌, arith}
 use Rattle.std.proofs.lemmas.Bool.{cases_lt}
 use Rattle.std.specs.Int.{w64, to_le_bytes}
@@ -36,7 +36,7 @@ module _ (a b : ℕ) (p : a < 2 ^ 64) (q : b < 2 ^ 64) where
       let fits : 2 ^ found.0 ≤ 2 ^ k = pow_mono (omega (arith, found.1, h)) in
       xor_none (a / 2 ^ k) (b / 2 ^ k) (sym (xor_shr a b k) ∙ div-eq_of_lt (omega (arith, found.2, fits)))
 
-  -- and where that is the same, the first bits are
+  -- and if that is the same, the first bits are
   below : (k : ℕ) → a / 2 ^ k ≡ b / 2 ^ k → 64 ≤ k + zeros
   below k e =
       let found = leading_length 64 (bit_xor a b) (xor_lt 64 a b p q) in

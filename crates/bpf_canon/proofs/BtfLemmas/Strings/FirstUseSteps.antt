@@ -85,7 +85,7 @@ kept_all text offs xs (o ∷ more) e =
     kept_all text (noted offs o) (xs ++ o ∷ []) more (kept_noted text offs xs o e)
     ∙ ap (λ (l : List ℕ). kept (map text l)) (append_assoc xs (o ∷ []) more)
 
--- The names kept of all offsets are the names kept of the noted ones, whatever their texts are.
+-- The names kept of all offsets are the names kept of the noted ones, whatever their strings are.
 pub kept_first_uses : (text : ℕ → List ℕ) (uses : List ℕ) → kept (map text (noted_all [] uses)) ≡ kept (map text uses)
 kept_first_uses text uses = kept_all text [] [] uses refl
 

@@ -1,4 +1,4 @@
--- The hosts of the texts at the used offsets of a section, found by the longest of them.
+-- The hosts of the strings at the used offsets of a section, found by the longest of them.
 use Rattle.std.proofs.Common.{◌≡◌, ◌≢◌, ℕ, zero, suc, ◌<◌, true, List, ◌∷◌, length, map, get_or, drop, refl, sym, ap, ◌∙◌, subst, arith}
 use Rattle.std.specs.List.{All, Contains}
 use Rattle.std.proofs.lemmas.List.{get_or-map, length-map, get_or_default}

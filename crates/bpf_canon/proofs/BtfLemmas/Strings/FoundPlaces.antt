@@ -1,4 +1,4 @@
--- From what is found of used offsets to the places of names in the table that they share.
+-- From the hosts of used offsets to the offsets of names in the shared table.
 use Rattle.std.proofs.Common.{◌≡◌, ◌≢◌, ℕ, ◌+◌, ◌-◌, ◌^◌, ◌<◌, ◌≤◌, inl, inr, List, [], ◌∷◌, ◌++◌, length, map, get_or, sym, ap, ◌∙◌, subst, arith}
 use Rattle.std.specs.List.{All, Any, Contains, flat_map, before_first, after_first}
 use Rattle.std.specs.List.Sorted.{IsPermutation, IsSorted}
@@ -30,7 +30,7 @@ use Rattle.bpf_canon.proofs.BtfLemmas.Strings.RankSteps.{in_tail_order}
 use Rattle.bpf_canon.proofs.BtfLemmas.Strings.FoundHosts.{longest_are, in_map, empty_at_nul, text_some}
 use Rattle.bpf_canon.proofs.BtfLemmas.Strings.HostPlaceSteps.{host_there}
 
--- the longest texts in another order
+-- the longest strings in another order
 any_permuted : (P : SectionText → Type 0) (xs ys : List SectionText) → IsPermutation xs ys → Any P xs → Any P ys
 any_permuted P xs ys perm (k, t, inside, is, p) = let c = Contains-permutation xs ys t perm (k, inside, is) in (c.0, t, c.1, c.2, p)
 
@@ -86,14 +86,14 @@ module _ (section slots offsets : List ℕ) (texts ordered : List SectionText) (
   pub all_found : All (HasHost section slots sorted xs in_hosts) offsets
   all_found k d h = is_found (get_or offsets k d) (k, h, get_or_default offsets k (get_or offsets k d) d h)
 
--- a place in a table leaves room for the text and its NUL
+-- an offset in a table leaves space for the string and its NUL
 place_room : (ks : List (List ℕ)) (x : List ℕ) → Has ks x → place_in ks x + length x + 1 ≤ length (table_of ks)
 place_room ks x h =
     let before = table_of (before_first (bytes_eq x) ks) in
     let after = flat_map with_nul (after_first (bytes_eq x) ks) in
     omega (arith, ap (λ (t : List ℕ). length t) (table_split ks x h), length-append (before ++ x) (0 ∷ after), length-append before x)
 
--- the place of a name, at the end of its host
+-- the offset of a name, at the end of its host
 place_at_host : (ks : List (List ℕ)) (x h : List ℕ) (n b : ℕ) → 0 < length x → host_in (hosts_of ks) x ≡ h → n ≡ place_in (hosts_of ks) h → b + length x ≡ length h → n + b ≡ shared_among ks x
 place_at_host ks [] h n b some is place before = absurd (omega (arith, some))
 place_at_host ks (c ∷ bytes) h n b some is place before =

@@ -1,4 +1,4 @@
--- Steps of the loop that gives places to hosts in the order of first use.
+-- Steps of the loop that assigns offsets to hosts in the order of first use.
 use Rattle.std.proofs.Common.{◌≡◌, ◌≢◌, ℕ, ◌+◌, ◌<◌, ◌≤◌, true, false, not, inl, inr, List, [], ◌∷◌, ◌++◌, length, map, get_or, set, take, drop, sym, ap, ◌∙◌, subst, arith, take-append-drop}
 use Rattle.std.specs.List.{flat_map, list_any, All}
 use Rattle.std.specs.List.Sorted.{IsSorted}
@@ -27,7 +27,7 @@ use Rattle.bpf_canon.proofs.BtfLemmas.Strings.FoundHosts.{empty_at_nul, text_som
 use Rattle.bpf_canon.proofs.BtfLemmas.Strings.TableSpans.{span_of}
 use Rattle.bpf_canon.proofs.BtfLemmas.Strings.PlacedHosts.{is_own, host_places, laid_empty, laid_other, laid_known, laid_new, laid_fits, has_push, has_more, has_last}
 
--- a rank whose text doesn't end the next one
+-- a rank whose string isn't a suffix of the next one
 pub record IsLast (sorted : List (List ℕ)) (r : ℕ) : Type 0 where
   pub inside : r < length sorted
   pub last : r + 1 < length sorted → is_suffix (at_rank sorted r) (at_rank sorted (r + 1)) ≡ false
@@ -204,7 +204,7 @@ module _ (section slots offsets : List ℕ) (sorted : List (List ℕ)) (in_hosts
       let there : Has (host_places names (taken k)) (at_rank sorted a.rank) = to.there a.rank (host_last sorted names own here a has (some_here h)) (λ z. p (ap (λ (j : ℕ). get_or by_rank j 0) a.numbered ∙ z)) in
       sym (more ∙ laid_known names (taken k) own (subst (Has (host_places names (taken k))) (own_text sorted names own here a has (some_here h) b) there))
 
-  -- the table with the text of a host that isn't there yet, and the places then
+  -- the table with the string of a host that wasn't present, and the offsets then
   pub record LaysText (by_rank : List ℕ) (spans : List Span) (len v : ℕ) (s : Span) : Type 0 where
     pub span : IsSpan section s
     pub whole : len + (v + 1) ≡ length (table_of (host_places names (taken (k + 1))))

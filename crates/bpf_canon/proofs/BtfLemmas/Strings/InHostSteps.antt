@@ -1,4 +1,4 @@
--- The host of a text by ranks, and the steps of the loops that find the hosts of all.
+-- The host of a string by ranks, and the steps of the loops that find all hosts.
 use Rattle.std.proofs.Common.{◌≡◌, ◌≢◌, ℕ, zero, suc, ◌+◌, ◌-◌, ◌<◌, ◌≤◌, true, ◌⊎◌, inl, inr, List, [], length, map, get_or, set, replicate, refl, sym, ap, ◌∙◌, subst, arith}
 use Rattle.std.specs.List.{All}
 use Rattle.std.proofs.lemmas.Bool.{cases_eq, cases_lt}
@@ -19,13 +19,13 @@ use Rattle.bpf_canon.proofs.BtfLemmas.Strings.UsedSteps.{number_injective, numbe
 use Rattle.bpf_canon.proofs.BtfLemmas.Strings.LongestSteps.{used_length, within_length, within_ends}
 use Rattle.bpf_canon.proofs.BtfLemmas.Strings.RankSteps.{first_rank_is}
 
--- the texts that are passed on the way to the next host all end it
+-- the strings before the next host are all suffixes of it
 passed_end : (ms : List (List ℕ)) (n j l r : ℕ) → n + j ≡ r → l ≤ j → ((i : ℕ) → l ≤ i → i < r → is_suffix (at_rank ms i) (at_rank ms (i + 1)) ≡ true) → Ends (at_rank ms j) (at_rank ms r)
 passed_end ms zero j l r e low p = subst (λ (m : ℕ). Ends (at_rank ms j) (at_rank ms m)) (let same : j ≡ r = omega (arith, e) in same) (Ends-refl (at_rank ms j))
 passed_end ms (suc n) j l r e low p =
     Ends-trans (at_rank ms j) (at_rank ms (j + 1)) (at_rank ms r) (Ends-from_suffix _ _ (p j low (omega (arith, e)))) (passed_end ms n (j + 1) l r (omega (arith, e)) (omega (arith, low)) p)
 
--- The text of a rank isn't a suffix of the text before it, and no name begins after its first byte.
+-- The string of a rank isn't a suffix of the one before it, and no name begins after its first byte.
 pub record IsAlone (slots common : List ℕ) (rank : ℕ) (t : SectionText) : Type 0 where
   pub less : get_or common rank 0 < t.end - t.start
   pub unused : (off : ℕ) → t.start + 1 ≤ off → off < t.end → get_or slots off 0 ≡ 0
@@ -89,7 +89,7 @@ module _ (section slots : List ℕ) (ts : List SectionText) (common hosts : List
         long = len_is ∙ sym (length_of_rank (get_or hosts l 0) (next_inside rank l inside below));
       }
 
-  -- the step from what was read: the text of the rank, the first rank, its host, and the host's text
+  -- the step from what was read: the string of the rank, the first rank, its host, and the host's string
   pub record StepsBack (rank off from l v : ℕ) (t u : SectionText) : Type 0 where
     pub low : (get_or ts rank no_text).start ≤ off
     pub shorter : t.end - off ≤ u.end - u.start
@@ -125,19 +125,19 @@ module _ (section slots : List ℕ) (ts : List SectionText) (common hosts : List
         in_hosts = λ h a b e. in_host rank off l inside within low_enough all less_here h (omega (arith, a, host_is)) (omega (arith, b, u_len, ends)) (e ∙ u_len);
       }
 
-  -- a text is alone by the length that was read for its rank
+  -- a string is separate by the length that was read for its rank
   pub alone_read : (rank n : ℕ) (t : SectionText) → rank < length ts → n ≡ get_or common rank n → n < t.end - t.start → ((off : ℕ) → t.start + 1 ≤ off → off < t.end → get_or slots off 0 ≡ 0) → IsAlone slots common rank t
   alone_read rank n t inside n_is less unused =
       let in_common : rank < length common = omega (arith, inside, ranked.are_common.whole, length-map ts (text_in section)) in
       record { less = omega (arith, less, get_or_read common rank n in_common n_is 0); unused = unused }
 
-  -- the same for a text that is alone, from its rank on
+  -- likewise for a separate string, from its rank on
   pub steps_alone : (rank v : ℕ) (t u : SectionText) → rank < length ts → t ≡ get_or ts rank t → IsAlone slots common rank t → v ≡ get_or hosts rank v → u ≡ get_or ts v u → StepsBack rank t.start rank rank v t u
   steps_alone rank v t u inside t_is alone v_is u_is =
       let high : t.start < t.end = omega (arith, alone.less) in
       steps_back rank t.start rank rank v t t u common inside t_is t_is (omega arith) high (omega arith) (λ j a b. absurd (omega (arith, a, b))) refl (omega arith) (λ j a b. absurd (omega (arith, a, b))) alone.less v_is u_is
 
--- the loop over the offsets within a text
+-- the loop over the offsets within a string
 pub record WithinTo (section slots : List ℕ) (sorted : List (List ℕ)) (common : List ℕ) (t : SectionText) (rank : ℕ) (old in_hosts : List InHost) (from off : ℕ) : Type 0 where
   pub whole : length in_hosts ≡ length old
   pub below : from ≤ rank
@@ -180,7 +180,7 @@ module _ (section slots : List ℕ) (sorted : List (List ℕ)) (common : List �
         ];
       }
 
--- the host of a text that is alone
+-- the host of a separate string
 pub finds_alone : (section slots : List ℕ) (sorted : List (List ℕ)) (t : SectionText) (old : List InHost) (h : InHost) → IsUsed section slots t → ((k : ℕ) → t.start + 1 ≤ k → k < t.end → get_or slots k 0 ≡ 0) → length old ≡ offset_number slots (length slots) → IsInHost sorted (text_from section t.start) h
     → FindsWithin section slots sorted t old (set old (offset_number slots t.start) h)
 finds_alone section slots sorted t old h used alone long is =
@@ -196,7 +196,7 @@ finds_alone section slots sorted t old h used alone long is =
           n (record { from = omega (arith, same); before = omega (arith, same, used.some) }));
     }
 
--- the same of a text that was read
+-- likewise for a string that was read
 module _ (section slots : List ℕ) (ts : List SectionText) (longest : AreLongestOf section slots ts) (rank : ℕ) (t : SectionText) (inside : rank < length ts) (t_is : t ≡ get_or ts rank t) where
   t_end : t ≡ get_or ts rank no_text
   t_end = t_is ∙ get_or_default ts rank t no_text inside

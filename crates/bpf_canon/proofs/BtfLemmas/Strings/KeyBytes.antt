@@ -1,4 +1,4 @@
--- What two texts have in common at their ends, by the bytes of their keys.
+-- The common suffix of two strings, by the bytes of their keys.
 use Rattle.std.proofs.Common.{◌≡◌, ◌≢◌, ℕ, ◌+◌, ◌-◌, ◌<◌, ◌≤◌, min, inl, inr, List, ◌++◌, length, get_or, drop, replicate, sym, subst, ap, ◌∙◌, arith}
 use Rattle.std.specs.Prelude.{reverse}
 use Rattle.std.specs.Int.{w64, to_le_bytes}
@@ -66,7 +66,7 @@ module _ (x y : List ℕ) (p : (i : ℕ) → get_or x i 0 < 256) (q : (i : ℕ) 
             omega (arith, h, ends, long_x, long_y)
       ]
 
--- what comes before the last eight bytes
+-- the bytes before the last eight
 front_byte : (x : List ℕ) (j : ℕ) → 8 ≤ length x → get_or (reverse (text_before x)) j 0 ≡ get_or (reverse x) (8 + j) 0
 front_byte x j long =
     let few : length (text_before x) ≡ length x - 8 = length-take-le (length x - 8) x (omega arith) in
@@ -103,7 +103,7 @@ module _ (x y : List ℕ) (p : (i : ℕ) → get_or x i 0 < 256) (q : (i : ℕ) 
         (sym (of_front (j - 8) (omega (arith, h, g, few))) ∙ same_before (j - 8) (omega (arith, h, g)) ∙ of_other_front (j - 8) (omega (arith, h, g, few)))
   ]
 
-  -- the same by the keys of what comes before, where the last eight bytes are the same
+  -- the same by the keys of the bytes before, if the last eight bytes are equal
   pub common_by_both_keys : (r < 8 → get_or (to_le_bytes w64 b) (7 - r) 0 ≢ get_or (to_le_bytes w64 d) (7 - r) 0) → min (min r (length x - 8)) (length y - 8) < 8 → 8 + min (min r (length x - 8)) (length y - 8) ≡ common_tail x y
   common_by_both_keys differ below =
       let turned_x = length-reverse x in

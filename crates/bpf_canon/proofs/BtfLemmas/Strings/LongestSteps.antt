@@ -1,4 +1,4 @@
--- Steps of the loop over a section that finds the longest used texts.
+-- Steps of the loop over a section that finds the longest used strings.
 use Rattle.std.proofs.Common.{◌≡◌, ◌≢◌, ℕ, zero, suc, ◌+◌, ◌-◌, ◌<◌, ◌≤◌, inl, inr, List, [], ◌∷◌, ◌++◌, length, get_or, take, drop, refl, sym, ap, ◌∙◌, subst, arith}
 use Rattle.std.specs.List.{All, Any}
 use Rattle.std.proofs.Math.Seq.{drop-nil}
@@ -27,7 +27,7 @@ drop_more zero n xs = ap (λ (k : ℕ). drop k xs) (let e : n ≡ 0 + n = omega 
 drop_more (suc m) n [] = drop-nil {A = ℕ} n ∙ sym (drop-nil {A = ℕ} (suc m + n))
 drop_more (suc m) n (b ∷ xs) = drop_more m n xs ∙ ap (λ (k : ℕ). drop k (b ∷ xs)) (let e : suc (m + n) ≡ suc m + n = omega arith in e)
 
--- a text further in ends one from before it in the same string
+-- a name at a later offset is a suffix of one at an earlier offset in the same string
 pub text_ends : (section : List ℕ) (start off : ℕ) → start ≤ off → off ≤ length section → ((k : ℕ) → start ≤ k → k < off → get_or section k 0 ≢ 0) → Ends (text_from section off) (text_from section start)
 text_ends section start off low high f =
     let rest = before_from (off - start) (drop start section) (let long = length-drop start section in omega (arith, long))
@@ -41,7 +41,7 @@ text_in_is section t low high =
     let s : start_in section t ≡ t.start = omega arith in
     ap (λ (n : ℕ). take (n - start_in section t) (drop (start_in section t) section)) e ∙ ap (λ (n : ℕ). take (t.end - n) (drop n section)) s
 
--- a used text, and the texts that begin within it
+-- a used string, and the names that begin within it
 pub used_text : (section slots : List ℕ) (t : SectionText) → IsUsed section slots t → text_in section t ≡ text_from section t.start
 used_text section slots t used =
     text_in_is section t (omega (arith, used.some)) (omega (arith, used.inside))

@@ -1,4 +1,4 @@
--- Marks of offsets as bits in words of 64, and the number of those before an offset.
+-- Marks of offsets as bits of 64-bit elements, and the number of those before an offset.
 use Rattle.std.proofs.Common.{◌≡◌, ◌≢◌, ℕ, zero, suc, ◌+◌, ◌*◌, ◌/◌, ◌%◌, ◌^◌, ◌<◌, ◌≤◌, max, inl, inr, List, [], ◌∷◌, ◌++◌, length, get_or, set, replicate, bit_and, bit_or, ◌-◌, count_ones, refl, sym, ap, ◌∙◌, subst, arith}
 use Rattle.std.specs.Int.{bit_at}
 use lib.Count.{ones_step}
@@ -13,7 +13,7 @@ use Rattle.bpf_canon.specs.btf.strings.UsedOffsets.{offset_number, AreNumbered}
 use Rattle.bpf_canon.proofs.BtfLemmas.Strings.FirstUseSteps.{marked_more, noted_known, noted_new}
 use Rattle.bpf_canon.proofs.BtfLemmas.Strings.UsedSteps.{number_used, number_unused}
 
--- one word
+-- one element
 zero_ones : (n : ℕ) → n ≡ 0 → count_ones n ≡ 0
 zero_ones n e = ap count_ones e ∙ omega (arith, ones_le_self 0)
 
@@ -27,7 +27,7 @@ low_step k w =
 sums : (a b c d e f g : ℕ) → a ≡ d + b → b ≡ c + e → f ≡ d + c → g ≡ e → a ≡ f + g
 sums a b c d e f g p q r s = omega (arith, p, q, r, s)
 
--- One bit more of a word counts where it is set.
+-- Another bit of an element counts if it is set.
 pub ones_more : (k w : ℕ) → count_ones (w % 2 ^ suc k) ≡ count_ones (w % 2 ^ k) + bit_at w k
 ones_more zero w =
     sums (count_ones (w % 2 ^ 1)) (count_ones (w / 2 % 2 ^ 0)) 0 (w % 2) 0 (w % 2) 0 (low_step 0 w) (zero_ones (w / 2 % 2 ^ 0) (omega arith)) (omega arith) refl
@@ -73,7 +73,7 @@ slots_none n k =
     slot_at (replicate k 0) n i (omega (arith, h, slots_len (replicate k 0) n))
     ∙ ap (λ (w : ℕ). bit_at w (i % 64)) (read_none k (i / 64)) ∙ bit_at-zero (i % 64) ∙ sym (read_none n i))
 
--- a bit more in a word
+-- another bit of an element
 bit_set : (w r : ℕ) → bit_at (bit_or w (2 ^ r)) r ≡ 1
 bit_set w r = bit_at_or w (2 ^ r) r ∙ ap (max (bit_at w r)) (bit_at-pow_same r) ∙ max_one (bit_at w r) (bit_at-lt w r)
 
@@ -110,7 +110,7 @@ module _ (words : List ℕ) (n off w : ℕ) (len : length words ≡ n / 64 + 1) 
         | inr d ↦ mark_stays i d ∙ sym (get_or-set_other (slots_of words n) off i 1 0 d ∙ slot_at words n i below)
       ])
 
--- How many are marked before an offset: those before its word, and the lower bits of the word.
+-- How many are marked before an offset: those before its element, and the lower bits of the element.
 module _ (words : List ℕ) (n word : ℕ) where
   abbrev w : ℕ
   w = get_or words word 0
@@ -173,7 +173,7 @@ module _ (n off : ℕ) (words offs : List ℕ) (have : HaveMarks n words offs) (
   pub noted_more : mark_of words off ≡ 0 → noted offs off ≡ offs ++ off ∷ []
   noted_more z = noted_new offs off (λ c. have.are_marked.marked off c (slot_at words n off inside ∙ z))
 
--- the number of an offset from its word
+-- the number of an offset from its element
 module _ {n : ℕ} {words offs before slots : List ℕ} (are : AreNumbered n words offs before) (view : slots_of words n ≡ slots) where
   pub slots_long : length slots ≡ n
   slots_long = ap (λ (l : List ℕ). length l) (sym view) ∙ slots_len words n
@@ -199,7 +199,7 @@ module _ {n : ℕ} {words offs before slots : List ℕ} (are : AreNumbered n wor
       ∙ sym (number_in_word words n (off / 64) (off % 64) (omega arith) (omega (arith, h, slots_long)))
       ∙ ap (offset_number (slots_of words n)) split)
 
--- what is counted in one word
+-- the count in one element
 pub number_whole : (words : List ℕ) (n word w : ℕ) → length words ≡ n / 64 + 1 → word < n / 64 → w ≡ get_or words word w → w < 2 ^ 64 →
     offset_number (slots_of words n) (64 * word + 64) ≡ offset_number (slots_of words n) (64 * word) + count_ones w
 number_whole words n word w len h is fits =

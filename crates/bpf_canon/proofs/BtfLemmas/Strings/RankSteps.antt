@@ -51,7 +51,7 @@ module _ (a b : List ℕ) where
       let same : min (length (reverse a)) (length (reverse b)) ≡ min (length a) (length b) = omega (arith, length-reverse a, length-reverse b) in
       sym (front_ends (reverse a) (reverse b) (λ j h. turned (min (length a) (length b)) (omega arith) (omega arith) f j (omega (arith, h, same))) ∙ same)
 
--- the loop over neighbours
+-- the loop over adjacent strings
 common_next : (ms : List (List ℕ)) (k : ℕ) → common_before ms (k + 1) ≡ common_tail (at_rank ms k) (at_rank ms (k + 1))
 common_next ms k = subst (λ (m : ℕ). common_before ms m ≡ common_tail (at_rank ms k) (at_rank ms m)) (let e : suc k ≡ k + 1 = omega arith in e) refl
 
@@ -113,7 +113,7 @@ first_rank_is ms common n r k are inside before f less = record {
   less = λ some. omega (arith, less, are.each r (omega (arith, before, inside)), common_at ms r some);
 }
 
--- sorted texts of a list are in order by their bytes from the end
+-- the sorted strings of a list are in order by their reversed bytes
 pub in_tail_order : (texts ms : List (List ℕ)) → IsPermutation texts ms → IsSorted tail_cmp ms → All (λ t. 0 < length t) texts → AreInTailOrder (kept texts) ms
 in_tail_order texts ms perm up some = record {
   members = record {

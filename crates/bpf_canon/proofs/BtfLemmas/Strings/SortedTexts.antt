@@ -45,7 +45,7 @@ tied_same a b e = ranked a b Equal (sym e)
 pub front_bytes : (n : ℕ) (x : List ℕ) → ((i : ℕ) → get_or x i 0 < 256) → (i : ℕ) → get_or (take n x) i 0 < 256
 front_bytes n x p = bytes_at (take n x) (bytes_take n x (bytes_from x p))
 
--- texts with the same key, by the keys of what comes before: a text with nothing there is the shorter one
+-- strings with the same key, by the keys of the bytes before: a string without such bytes is the shorter one
 short_first : (x y : List ℕ) → ((i : ℕ) → get_or x i 0 < 256) → ((i : ℕ) → get_or y i 0 < 256) → suffix_key x ≡ suffix_key y → length x < 8 → suffix_key (text_before x) ≢ suffix_key (text_before y) → nat_cmp (suffix_key (text_before x)) (suffix_key (text_before y)) ≡ tail_cmp x y
 short_first x y p q e s n =
     let none : suffix_key (text_before x) ≡ 0 = key_none x (length x - 8) (omega (arith, s)) in
@@ -91,7 +91,7 @@ pair_greater a b c d p q h s = elim (cases_lt c a) [
       tied_then a c (ordering_then (nat_cmp b d) s) e ∙ ap (λ (o : Ordering). ordering_then o s) (greater b d (omega (arith, h, e)))
 ]
 
--- Keys that differ compare as one number, and of the same keys the texts decide.
+-- Keys that differ compare as one number; if they are equal, the strings decide.
 module _ (section : List ℕ) (a b : SectionText) (p : a.before < 2 ^ 64) (q : b.before < 2 ^ 64) where
   abbrev texts_compared : Ordering
   texts_compared = tail_cmp (text_in section a) (text_in section b)

@@ -1,4 +1,4 @@
--- Steps that append a text to the spans of a section.
+-- Steps that append a string to the spans of a section.
 use Rattle.std.proofs.Common.{◌≡◌, ℕ, zero, suc, ◌+◌, ◌-◌, List, [], ◌∷◌, ◌++◌, length, get_or, set, take, drop, sym, ap, ◌∙◌, subst, arith, append_assoc}
 use Rattle.std.specs.List.{All, flat_map}
 use Rattle.std.proofs.Math.Seq.{take-add}
@@ -23,7 +23,7 @@ last_set f (x ∷ []) zero d s more long e = append-nil (f s) ∙ e ∙ ap (λ (
 last_set f (x ∷ y ∷ old) zero d s more long e = absurd (omega (arith, long))
 last_set f (x ∷ old) (suc k) d s more long e = ap (λ (t : List ℕ). f x ++ t) (last_set f old k d s more (omega (arith, long)) e) ∙ sym (append_assoc (f x) (flat_map f old) more)
 
--- the last span prolonged by a text that follows it
+-- the last span extended by a string that follows it
 pub span_prolonged : (section : List ℕ) (old : List Span) (k : ℕ) (last s : Span) → suc k ≡ length old → last ≡ get_or old k last → s.start ≡ last.end + 1 → All (IsSpan section) old → IsSpan section s → HasText section old (set old k (record { start = last.start; end = s.end })) s
 span_prolonged section old k last s long is follows all text =
     let before : IsSpan section last = subst (IsSpan section) (sym is) (all k last (omega (arith, long))) in

@@ -1,4 +1,4 @@
--- Keys of texts compare as their suffixes.
+-- Keys of strings compare as their suffixes.
 use Rattle.std.proofs.Common.{◌≡◌, ◌≢◌, ℕ, zero, suc, ◌+◌, ◌*◌, ◌^◌, ◌<◌, ◌≤◌, ◌⊎◌, inl, inr, List, [], ◌∷◌, ◌++◌, length, get_or, take, drop, refl, sym, ap, ◌∙◌, subst, arith, take-append-drop, replicate}
 use Rattle.std.specs.Prelude.{reverse, nat_lt, ◌==◌}
 use Rattle.std.specs.Int.{w64, from_le_bytes}
@@ -57,7 +57,7 @@ key_below zero x p = omega arith
 key_below (suc n) [] p = one-le-pow (suc n) 256 (omega arith)
 key_below (suc n) (b ∷ x) (h, p) = omega (arith, mul-add-lt b (256 ^ n) (front_key n x) 256 h (key_below n x p), pow-suc 256 n)
 
--- a smaller key is that of the text that comes first
+-- a smaller key is that of the string that sorts first
 key_less : (n : ℕ) (x y : List ℕ) → Bytes x → Bytes y → front_key n x < front_key n y → slice_cmp nat_cmp x y ≡ Less
 key_less zero x y p q h = absurd (omega (arith, h))
 key_less (suc n) [] [] p q h = absurd (omega (arith, h))
@@ -83,7 +83,7 @@ parts_same n a b x y p q h = elim (cases_order a b) [
   ]
 ]
 
--- the same key, of the same number of bytes: the rest decides
+-- equal keys from the same number of bytes: the rest decides
 key_same : (n : ℕ) (s x t y : List ℕ) → length s ≡ n → length t ≡ n → Bytes (s ++ x) → Bytes (t ++ y) → front_key n (s ++ x) ≡ front_key n (t ++ y) → slice_cmp nat_cmp (s ++ x) (t ++ y) ≡ slice_cmp nat_cmp x y
 key_same n [] x [] y l m p q h = refl
 key_same n [] x (b ∷ t) y l m p q h = absurd (omega (arith, l, m))
@@ -93,7 +93,7 @@ key_same (suc n) (a ∷ s) x (b ∷ t) y l m (i, p) (j, q) h =
     let same = parts_same n a b (s ++ x) (t ++ y) p q h in
     ap (λ (o : Ordering). ordering_then o (slice_cmp nat_cmp (s ++ x) (t ++ y))) (tied a b same.0) ∙ key_same n s x t y (omega (arith, l)) (omega (arith, m)) p q same.1
 
--- the same key, of one text with less: the lengths decide, since a missing byte is at most any byte
+-- equal keys, one from fewer bytes: the lengths decide, since a missing byte is at most any byte
 key_short : (n : ℕ) (x y : List ℕ) → Bytes x → Bytes y → (length x < n) ⊎ (length y < n) → front_key n x ≡ front_key n y → slice_cmp nat_cmp x y ≡ nat_cmp (length x) (length y)
 key_short n [] [] p q s h = sym (tied 0 0 refl)
 key_short n [] (b ∷ y) p q s h = sym (less 0 (suc (length y)) (omega arith))
@@ -157,7 +157,7 @@ key_of_short x n e =
     ∙ ap (front_key 8) (reverse-append (replicate n 0) x ∙ ap (λ (t : List ℕ). reverse x ++ t) (zeros_turned n (replicate n 0) refl))
     ∙ key_padded 8 n (reverse x)
 
--- what keys say of texts
+-- from keys to strings
 pub key_apart : (x y : List ℕ) → ((i : ℕ) → get_or x i 0 < 256) → ((i : ℕ) → get_or y i 0 < 256) → suffix_key x ≢ suffix_key y → nat_cmp (suffix_key x) (suffix_key y) ≡ tail_cmp x y
 unfolding suffix_key
 key_apart x y p q n =

@@ -11,7 +11,7 @@ use Rattle.btf_types.proofs.TableLemmas.TextSteps.{text_there}
 use Rattle.bpf_canon.specs.btf.strings.HostPlaces.{span_bytes, IsSpan}
 use Rattle.bpf_canon.specs.declared.btf.strings.host_places.Span.{Span}
 
--- the span of the text at an offset
+-- the span of the string at an offset
 pub record SpanOf (section : List ℕ) (off : ℕ) (s : Span) : Type 0 where
   pub span : IsSpan section s
   pub bytes : span_bytes section s ≡ with_nul (text_from section off)

@@ -1,4 +1,4 @@
--- The text at an offset is what comes before the next NUL.
+-- The string at an offset ends before the next NUL.
 use Rattle.std.proofs.Common.{◌≡◌, ◌≢◌, ℕ, zero, suc, ◌+◌, ◌-◌, ◌<◌, ◌≤◌, List, [], ◌∷◌, length, get_or, take, drop, refl, sym, ap, ◌∙◌, arith}
 use Rattle.std.proofs.lemmas.List.{get_or-drop, length-drop}
 use Rattle.btf_types.specs.Reading.{before_nul, text_from}

@@ -106,7 +106,7 @@ used_inside slots off s = elim (cases_lt off (length slots)) [ inl l ↦ l | inr
 pub number_inside : (slots : List ℕ) (off : ℕ) → get_or slots off 0 ≢ 0 → offset_number slots off < offset_number slots (length slots)
 number_inside slots off s = number_below slots off (length slots) (used_inside slots off s) s
 
--- counted up to a word
+-- counted up to an element
 pub record CountedTo (slots before : List ℕ) (count word : ℕ) : Type 0 where
   pub words : length before ≡ word + 1
   pub counted : count ≡ offset_number slots (64 * word)

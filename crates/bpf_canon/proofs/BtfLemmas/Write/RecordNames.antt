@@ -1,4 +1,4 @@
--- The names of records are the texts at the offsets in their frames.
+-- The names of records are the strings at the offsets in their frames.
 use Rattle.std.proofs.Common.{◌≡◌, ℕ, zero, suc, ◌+◌, ◌*◌, ◌<◌, Bool, true, false, List, [], ◌∷◌, ◌++◌, length, map, get_or, refl, sym, ap, ◌∙◌, subst, inl, inr, arith}
 use Rattle.std.specs.Prelude.{slice_index, ◌==◌, if◌then◌else◌}
 use Rattle.std.specs.List.{All, AllZip, Contains, filter}
@@ -63,7 +63,7 @@ none_kept : (n : ℕ) → filter is_some_text (tabulate (λ k. []) n) ≡ []
 none_kept zero = refl
 none_kept (suc n) = filter-append is_some_text (tabulate (λ k. []) n) ([] ∷ []) ∙ rw (none_kept n) refl
 
--- an item's name is the text at its first word, where its kind has names; a list of these kinds has vlen items
+-- the name of an item is the string at its name_off, if its kind has names; a list of these kinds has vlen items
 item_named : {k : ℕ} → KindIs k → (name : List ℕ) (flag a b c : ℕ) → has_item_names k ≡ true → item_name (item_from name k flag a b c) ≡ name
 unfolding has_item_names item_from
 item_named IsStruct name flag a b c has = refl

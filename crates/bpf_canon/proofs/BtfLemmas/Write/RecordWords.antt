@@ -1,4 +1,4 @@
--- The words of a record, from those of its frame.
+-- The 32-bit words of a record, from those of its frame.
 use Rattle.std.proofs.Common.{◌≡◌, ◌≢◌, ◌⊎◌, ℕ, zero, suc, ◌+◌, ◌*◌, ◌/◌, ◌%◌, ◌^◌, ◌<◌, ◌≤◌, Bool, true, false, not, List, [], ◌∷◌, ◌++◌, length, map, take, drop, get_or, refl, sym, ap, subst, ◌∙◌, inl, inr, append-nil, lit≤, arith}
 use Rattle.std.specs.Prelude.{slice_index, ◌==◌, ◌||◌, if◌then◌else◌, ⊤}
 use Rattle.std.specs.List.{All, AllZip, concat, flat_map, list_any}
@@ -216,7 +216,7 @@ named_item_more o old place strings f size count k offset at b c frame items off
     (ap (words_of place) its ∙ named_item (known f frame) place (text_from strings offset) (flag f) offset b c items.named low
     ∙ ap (λ (n : ℕ). take n (place (text_from strings offset) ∷ b ∷ c ∷ [])) items.words ∙ ap (λ (p : ℕ). take size (p ∷ b ∷ c ∷ [])) (sym at_is))
 
--- ---- what follows the third word, where items have no names
+-- ---- the rest after the third word, if items have no names
 
 abbrev IsEntry : TypeItem → Type 0
 IsEntry (Entry target offset size) = ⊤
@@ -312,7 +312,7 @@ record_more from to place types strings places i low =
     last_record f g h [] p = refl
     last_record f g h (q ∷ ps) p = ap (λ t. f (g (h q)) ∷ t) (last_record f g h ps p)
 
--- ---- room
+-- ---- capacity
 
 two_or_three_words : {k : ℕ} → KindIs k → has_item_names k ≡ true → (item_words k ≡ 2) ⊎ (item_words k ≡ 3)
 unfolding has_item_names item_words

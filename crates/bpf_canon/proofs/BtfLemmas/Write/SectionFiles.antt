@@ -24,7 +24,7 @@ all_from_Has : (P : ℕ → Type 0) (xs : List ℕ) → ((x : ℕ) → Has xs x 
 all_from_Has P [] each = All-nil P
 all_from_Has P (x ∷ xs) each = All-cons P x xs (each x (inl refl)) (all_from_Has P xs (λ y h. each y (inr h)))
 
--- each offset that was noted is there
+-- each noted offset is present
 pub each_noted : (offs : List ℕ) → All (Contains (noted_all [] offs)) offs
 each_noted offs = all_from_Has (Contains (noted_all [] offs)) offs (λ x h. noted_all_there [] offs x h)
 

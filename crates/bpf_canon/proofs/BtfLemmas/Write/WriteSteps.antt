@@ -1,4 +1,4 @@
--- Words and records that are appended one after the other.
+-- 32-bit words and records that are appended in sequence.
 use Rattle.std.proofs.Common.{◌≡◌, ℕ, zero, suc, ◌+◌, ◌-◌, ◌<◌, ◌≤◌, Bool, true, false, List, [], ◌∷◌, ◌++◌, length, map, take, refl, sym, ap, subst, ◌∙◌, inl, inr, append_assoc, arith, Some}
 use Rattle.std.specs.Prelude.{slice_get, not}
 use Rattle.std.specs.List.{flat_map, list_any}
@@ -100,7 +100,7 @@ item_fits v id k x good some low e =
     member_room (facts v) size (has_bit_fields r) x (subst (MemberIsGood (facts v) size (has_bit_fields r)) at.1 (right.members k x at.0))
     (any_from_Has has_width r.items x (item_in r.items k x e))
 
--- ---- the whole
+-- ---- the file
 
 pub types_fit : (o : Order) (v : List TypeRecord) (ks : List (List ℕ)) (types : List ℕ) → IsGood v → ks ≡ kept (names v)
     → types ≡ section_of o (map (record_words (shared_among ks)) v) → length types ≤ TYPES_LIMIT

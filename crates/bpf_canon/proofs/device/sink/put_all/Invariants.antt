@@ -2,7 +2,7 @@ use Rattle.std.proofs.Common.{length, ◌-◌, ◌≡◌, ◌≤◌, ℕ, List, 
 use Rattle.std.specs.Io.KnownBytes.{Appends}
 use Rattle.bpf_canon.proofs.device.sink.put_all.Given as goal
 
--- so far a prefix of the bytes was taken, and no call failed
+-- so far a prefix of the bytes was accepted, and no call failed
 pub record TakenSoFar (old new : Option (List ℕ)) (failed_before failed : ℕ) (bytes : List ℕ) (n : ℕ) : Type 0 where
   pub within : n ≤ length bytes
   pub appends : Appends old new (take n bytes)

@@ -2,7 +2,7 @@ use Rattle.std.proofs.Common.{◌≡◌, ◌≤◌, ◌+◌, ◌-◌, ℕ, List,
 use Rattle.std.specs.Io.KnownBytes.{Consumes}
 use Rattle.bpf_canon.proofs.device.source.read_all.Given as goal
 
--- these bytes came, within the limit, and no call failed
+-- these bytes were read, within the limit, and no call failed
 pub record CameSoFar (old new : Option (List ℕ)) (failed_before failed : ℕ) (bytes : List ℕ) (limit : ℕ) : Type 0 where
   pub consumes : Consumes old new bytes
   pub within : length bytes ≤ limit
