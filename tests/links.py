@@ -70,7 +70,9 @@ def check_names(report):
 def main():
     report = Report()
     names = [str(path.relative_to(TOP)) for path in TOP.rglob("*") if path.is_file() and not {".git", "out"} & set(path.relative_to(TOP).parts)]
-    with report.group("the pages that README names"):
+    with report.group("the length of README, and the pages that it names"):
+        length = len(PAGES[0].read_text().splitlines())
+        report.expect_that(length <= 160, "README.md", f"it has {length} lines, and at most 160 are read")
         for page in TOP.glob("docs/*.md"):
             report.expect_that(f"`docs/{page.name}`" in PAGES[0].read_text(), page.name, "README doesn't name it")
     for page in PAGES:
