@@ -38,7 +38,7 @@ impl TryFrom<u8> for Reg {
 
     ghost try_from_gives = { λ number r.
         MatchResult r (λ reg. register_number reg ≡ number)
-            (λ fault. 10 < number × fault.0 ≡ number) };
+        (λ fault. 10 < number × fault.0 ≡ number) };
 
     fn try_from(number: u8) -> Result<Reg, NoSuchReg> {
         Reg::new(number).ok_or(NoSuchReg(number))
