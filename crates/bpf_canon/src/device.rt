@@ -7,7 +7,7 @@ pub(crate) mod standard;
 
 use thiserror::Error;
 
-/// A device's call failed, for whatever reason.
+/// A read of a source or a write to a sink failed. The reason isn't kept.
 #[derive(Clone, Copy, Debug, PartialEq, Eq, Error)]
 #[error("DeviceFailed")]
 pub struct DeviceFailed;

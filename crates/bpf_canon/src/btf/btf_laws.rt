@@ -37,8 +37,8 @@ pub fn hosts_end_different_strings()
     ensures fit { HostsFitSections }
 {}
 
-/// If the names are sorted by their reversed bytes, a name that is a suffix of any other name is a
-/// suffix of the next one, and both have the same host.
+/// If the distinct names are sorted by their reversed bytes, a name that is a suffix of any other
+/// name is a suffix of the next one, and both have the same host.
 pub fn next_name_tells_host()
     ensures { (xs sorted : List (List ℕ)) → NextHasHost xs sorted }
 {}

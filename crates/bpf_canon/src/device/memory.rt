@@ -91,8 +91,8 @@ impl<'a, A: Allocator> MemSink<'a, A> {
     ghost use Rattle.bpf_canon.specs.device.Memory.{sink_bytes, sink_failures, sink_pace, new_pace};
 
     /// Creates a sink that accepts `piece` bytes per write, which must be more than 0, and fewer
-    /// only if fewer are offered. Every write from number `fuse` on, counted from 1, fails; with
-    /// `None` only a write for which the vector can't grow fails.
+    /// only if fewer are offered. Every write from number `fuse` on, counted from 1, fails, and so
+    /// does a write for which the vector can't grow; with `None` only the latter.
     pub fn new(out: &'a mut Vec<u8, A>, piece: usize, fuse: Option<u64>) -> MemSink<'a, A>
         requires { 0 < piece }
         ensures pace { sink_pace result ≡ new_pace piece fuse }

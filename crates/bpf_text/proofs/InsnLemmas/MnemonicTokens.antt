@@ -10,7 +10,7 @@ use Rattle.bpf_text.specs.insn.Tokens.{is_word_byte}
 use Rattle.bpf_text.proofs.InsnLemmas.EachMnemonic.{each_passes}
 use Rattle.bpf_text.proofs.InsnLemmas.OneInsn.{mnemonic_text_is}
 
--- the list has at most this many elements
+-- whether there are at most this many elements
 abbrev is_within : ℕ → List ℕ → Bool
 is_within n [] = true
 is_within zero (b ∷ bytes) = false

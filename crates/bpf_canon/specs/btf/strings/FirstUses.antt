@@ -20,7 +20,7 @@ pub record Noted : Type 0 where
 abbrev pub nothing_noted : ℕ → Noted
 nothing_noted section_len = record { section_len = section_len; offsets = [] }
 
--- the bit of an offset in 64-bit words
+-- the bit of an offset in 64-bit elements
 abbrev pub mark_of : List ℕ → ℕ → ℕ
 mark_of words off = bit_at (slice_index words (off / 64)) (off % 64)
 

@@ -27,7 +27,7 @@ pub record AreCounted (slots before : List ℕ) : Type 0 where
   pub words : length before ≡ length slots / 64 + 1
   pub counts : (word : ℕ) → word < length before → slice_index before word ≡ offset_number slots (64 * word)
 
--- the 64-bit words have the bits of these offsets, and the used offsets before each of them are counted
+-- the 64-bit elements have the bits of these offsets, and the used offsets before each of them are counted
 pub record AreNumbered (section_len : ℕ) (words offsets before : List ℕ) : Type 0 where
   pub have_marks : HaveMarks section_len words offsets
   pub are_counted : AreCounted (slots_of words section_len) before

@@ -9,12 +9,12 @@ use Rattle.bpf_canon.specs.btf.CanonicalBtf.{canonical_flag}
 abbrev pub head_vlen : TypeHead → ℕ → ℕ
 head_vlen head count = elim head [ KFunc name linkage target ↦ linkage_number linkage | _ ↦ count ]
 
--- the words of a record up to its items
+-- a record up to its items
 abbrev pub head_words : (List ℕ → ℕ) → TypeHead → ℕ → Bool → List ℕ
 head_words place head count bit_fields =
     place (head_name head) ∷ info (kind_number head) (head_vlen head count) (canonical_flag head bit_fields) ∷ head_third head ∷ head_tail head
 
--- a width and a bit offset fit in one 32-bit word
+-- a width and a bit offset fit in 32 bits
 abbrev pub MemberFits : TypeItem → Type 0
 MemberFits (Member name target bit_offset width) = (width ≡ 0) ⊎ (bit_offset < 2 ^ 24)
 MemberFits _ = ⊤

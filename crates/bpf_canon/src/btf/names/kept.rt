@@ -87,7 +87,7 @@ fn add_record_names<'t, T: TypeTable, A: Allocator + Copy>(
     Ok(())
 }
 
-/// The distinct names of a type table.
+/// The distinct non-empty names of a type table.
 pub(crate) fn kept_names<'t, T: TypeTable, A: Allocator + Copy>(
     alloc: A,
     table: &'t T,

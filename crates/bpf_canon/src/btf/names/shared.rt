@@ -1,9 +1,9 @@
 //! The names of a type table with their offsets in its string table. Names share suffixes there:
 //! each name is a suffix of its host.
 //!
-//! If the names are sorted by their reversed bytes, a name that is a suffix of any other name is a
-//! suffix of the next one, and both have the same host. Therefore each name is compared only with
-//! the next one.
+//! If the distinct names are sorted by their reversed bytes, a name that is a suffix of any other
+//! name is a suffix of the next one, and both have the same host. Therefore each name is compared
+//! only with the next one.
 ghost use Rattle.std.specs.Prelude.{◌≡◌, ◌<◌, ◌^◌, ◌++◌, IfOk, OnOk, length};
 ghost use Rattle.btf_types.specs.Names.{kept, table_of};
 ghost use Rattle.btf_types.specs.strings.SharedNames.{hosts_of, shared_among};

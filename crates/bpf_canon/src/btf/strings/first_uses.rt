@@ -7,8 +7,8 @@ use std::marker::Model;
 
 /// The distinct offsets of a string section at which names begin, in the order of first use.
 ///
-/// A bit set with one bit for each byte of the section, in 64-bit words, lowest bit first, so that
-/// little memory is cleared and touched.
+/// A bit set with one bit for each byte of the section, in `u64` elements, lowest bit first, so
+/// that little memory is cleared and touched.
 #[derive(Drop)]
 pub(crate) struct FirstUses<A: Allocator> {
     pub(crate) section_len: usize,

@@ -1,4 +1,4 @@
-//! The words that encode the head of a record (btf.rst section 2.2).
+//! The encoding of the head of a record (btf.rst section 2.2).
 ghost use Rattle.std.specs.Prelude.{◌≡◌, ◌+◌, ◌*◌, ◌<◌, ◌^◌};
 ghost use Rattle.btf_types.specs.Spelling as spec;
 ghost use Rattle.btf_types.specs.Values.{head_value};

@@ -1,4 +1,4 @@
-//! The header of a file, and 32-bit words.
+//! The header of a file, and `u32` values.
 ghost use Rattle.std.specs.Prelude.{◌≡◌, ◌≤◌, ◌++◌, OnOk, length};
 ghost use Rattle.btf_raw.specs.Header.{header};
 ghost use Rattle.btf_raw.specs.Frames.{bytes_of};
@@ -7,7 +7,7 @@ use bpf_words::{Order, push16};
 use byteorder::{BigEndian, ByteOrder, LittleEndian};
 use std::alloc::{AllocError, Allocator};
 
-/// Appends up to six 32-bit words with one reservation.
+/// Appends up to six `u32` values with one reservation.
 #[inline(always)]
 pub(crate) fn push_words<A: Allocator>(
     out: &mut Vec<u8, A>,

@@ -1,5 +1,4 @@
-//! The records of a section, copied word by word with new offsets of their names (btf.rst section
-//! 2.2).
+//! The records of a section, copied with new offsets of their names (btf.rst section 2.2).
 ghost use Rattle.std.specs.Prelude.{◌≡◌, ℕ, List, ◌+◌, ◌^◌, ◌<◌, ◌≤◌, ◌⊎◌, [], ◌∷◌, ◌++◌, OnOk};
 ghost use Rattle.std.specs.Prelude.{length, slice_index, take, drop, map};
 ghost use Rattle.std.specs.List.{All, Contains};
@@ -37,8 +36,8 @@ fn canonical_info(this: &Record) -> u32
     }
 }
 
-/// Appends an item of `size` 32-bit words, which begins at word `at` of its record: the new offset
-/// of its name, then its other words.
+/// Appends an item of `size` 32-bit words, which begins at index `at` of its record: the new offset
+/// of its name, then the rest.
 fn push_item<A: Allocator>(
     out: &mut Vec<u8, A>,
     to: Order,
