@@ -1,4 +1,4 @@
--- The record that a frame reads as, whatever its words are: what the fields of a table mean.
+-- The record that a frame decodes to, whatever its words are. This is what the fields of a table mean.
 use Rattle.std.specs.Prelude.{ℕ, zero, suc, ◌+◌, ◌*◌, ◌^◌, Bool, not, ◌==◌, Option, Some, None, List, [], ◌∷◌, ◌++◌, map, drop, slice_index, if◌then◌else◌}
 use Rattle.bpf_words.specs.declared.Order.{Order}
 use Rattle.bpf_words.specs.Words.{word32_at}
@@ -18,7 +18,7 @@ before_nul [] = []
 before_nul (zero ∷ bytes) = []
 before_nul (suc c ∷ bytes) = suc c ∷ before_nul bytes
 
--- the text from an offset to the next NUL
+-- the string from an offset to the next NUL
 abbrev pub text_from : List ℕ → ℕ → List ℕ
 text_from strings offset = before_nul (drop offset strings)
 
@@ -34,7 +34,7 @@ encoding_of n = if n == 0 then Plain else if n == 1 then Signed else if n == 2 t
 abbrev pub component_of : ℕ → Option ℕ
 component_of n = if n == 0xffffffff then None else Some n
 
--- the head with these numbers: the kind, the third word, kind_flag, vlen, and the three words after the third
+-- the head with these fields: the kind, the third word, kind_flag, vlen, and the three words after the third
 unfoldable pub head_from : List ℕ → ℕ → ℕ → ℕ → ℕ → ℕ → ℕ → ℕ → TypeHead
 head_from name k third flag vlen next fourth fifth =
     if k == INT then KInt name third (encoding_of (int_encoding next)) (int_offset next) (int_bits next)
@@ -57,12 +57,12 @@ head_from name k third flag vlen next fourth fifth =
     else if k == TYPE_TAG then KTypeTag name (is_set flag) third
     else KEnum64 name (is_set flag) third
 
--- the head of a frame, with this name
+-- the head that a frame decodes to, with this name
 abbrev pub head_of : List ℕ → List ℕ → TypeHead
 head_of frame name =
     head_from name (kind frame) (third_word frame) (flag frame) (vlen frame) (slice_index frame 3) (slice_index frame 4) (slice_index frame 5)
 
--- the item with these numbers: its name, the kind and kind_flag of its record, and its words; the third isn't used where it has two
+-- the item with these fields: its name, the kind and kind_flag of its record, and its words; the third isn't used if the item has only two
 unfoldable pub item_from : List ℕ → ℕ → ℕ → ℕ → ℕ → ℕ → TypeItem
 item_from name k flag first second third =
     if one_of (STRUCT ∷ UNION ∷ []) k then Member name second (offset_in flag third) (width_in flag third)
@@ -76,7 +76,7 @@ abbrev pub item_of : List ℕ → List ℕ → ℕ → TypeItem
 item_of strings frame j =
     item_from (text_from strings (slice_index frame j)) (kind frame) (flag frame) (slice_index frame j) (slice_index frame (j + 1)) (slice_index frame (j + 2))
 
--- f 0, f 1, .. up to n of them
+-- the list f 0, f 1, .. of n elements
 abbrev pub tabulate : {X : Type 0} → (ℕ → X) → ℕ → List X
 tabulate f zero = []
 tabulate f (suc n) = tabulate f n ++ f n ∷ []
@@ -90,7 +90,7 @@ record_of strings frame = record {
   items = tabulate (λ k. item_of strings frame (3 + item_words (kind frame) * k)) (item_total frame);
 }
 
--- the words of the frame at a place of the section
+-- the info word of the frame at an offset of the type section
 abbrev pub info_at : Order → List ℕ → ℕ → ℕ
 info_at o types pos = word32_at o types (pos + 4)
 

@@ -1,4 +1,4 @@
--- A section whose records are framed, in the words of its frames.
+-- A section whose framing is valid, as the 32-bit words of its frames.
 use Rattle.std.specs.Prelude.{ℕ, ◌+◌, ◌*◌, ◌≤◌, List, length, map}
 use Rattle.btf_raw.specs.Frames.{IsFrame}
 use Rattle.btf_types.specs.declared.tables.table.FileSections.{FileSections}
@@ -15,11 +15,11 @@ pub record HasFrame (s : FileSections) (pos : ℕ) : Type 0 where
   pub inside : pos + 4 * length (frame_of s pos) ≤ length s.types.now
   pub frame : IsFrame (frame_of s pos)
 
--- the strings of a section and the frames of all records
+-- the string section, and the frames of all records
 pub record SectionWords : Type 0 where
   pub strings : List ℕ
   pub frames : List (List ℕ)
 
--- what the records are to other records
+-- what the checks of other records need of these records
 abbrev pub facts_in : SectionWords → List TypeFacts
 facts_in s = map frame_facts s.frames

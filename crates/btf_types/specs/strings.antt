@@ -1,4 +1,4 @@
--- The string table in which names share their tails.
+-- The string table in which names share suffixes.
 pub mod CommonTails
 pub mod LongestTexts
 pub mod SharedNames

@@ -1,4 +1,4 @@
--- The faults of fields: what a cause says of a word of a record, on the frames of a section.
+-- The faults of fields: what a cause says of a word of a record, given the frames of a section.
 use Rattle.std.specs.Prelude.{◌≡◌, ◌≢◌, ◌⊎◌, ℕ, zero, suc, ◌+◌, ◌*◌, ◌/◌, ◌%◌, ◌^◌, ◌<◌, ◌≤◌, ◌==◌, IsTrue, IsFalse, IsUtf8, Some, List, [], ◌∷◌, length, take, map, slice_index, slice_get, if◌then◌else◌}
 use Rattle.std.specs.List.{concat}
 use Rattle.btf_raw.specs.declared.cause.BtfCause.{BtfCause}
@@ -18,7 +18,7 @@ abbrev pub IsNameField : List ℕ → ℕ → ℕ → Type 0
 IsNameField frame zero j = j ≡ 0
 IsNameField frame (suc k) j = IsTrue (has_item_names (kind frame)) × IsItemWord frame k 0 j
 
--- word j names a type
+-- word j is a type ID
 abbrev pub IsTypeField : List ℕ → ℕ → Type 0
 IsTypeField frame j =
     (IsTrue (has_target (kind frame)) × (j ≡ 2))
@@ -26,11 +26,11 @@ IsTypeField frame j =
     ⊎ (IsTrue (one_of (STRUCT ∷ UNION ∷ FUNC_PROTO ∷ []) (kind frame)) × (k : ℕ) × IsItemWord frame k 1 j)
     ⊎ ((kind frame ≡ DATASEC) × (k : ℕ) × IsItemWord frame k 0 j)
 
--- word j is the type of a member, and its offset word
+-- word j is the type ID of a member, or its offset field
 abbrev pub IsMemberWord : List ℕ → ℕ → ℕ → Type 0
 IsMemberWord frame m j = IsTrue (is_struct (kind frame)) × (k : ℕ) × IsItemWord frame k m j
 
--- the bit offset and the width in a member's offset word, with this kind_flag
+-- the bit offset and the width in the offset field of a member, given the kind_flag of its record
 abbrev pub offset_in : ℕ → ℕ → ℕ
 offset_in flag word = if flag == 0 then word else word % 2 ^ 24
 
@@ -43,11 +43,11 @@ bit_offset frame j = offset_in (flag frame) (slice_index frame j)
 abbrev pub width : List ℕ → ℕ → ℕ
 width frame j = width_in (flag frame) (slice_index frame j)
 
--- some width in this record isn't 0
+-- the width of some member of this record isn't 0
 abbrev pub HasBitFields : List ℕ → Type 0
 HasBitFields frame = (j : ℕ) × IsMemberWord frame 2 j × (width frame j ≢ 0)
 
--- the parts of an INT's word
+-- the parts of the word that follows an INT
 abbrev pub int_word : List ℕ → ℕ
 int_word frame = slice_index frame 3
 
@@ -63,7 +63,7 @@ int_offset w = w / 2 ^ 16 % 2 ^ 8
 abbrev pub int_bits : ℕ → ℕ
 int_bits w = w % 2 ^ 8
 
--- the facts that the checks of other records need of this one
+-- what the checks of other records need of this one
 abbrev pub frame_facts : List ℕ → TypeFacts
 frame_facts frame = record {
   kind = kind frame;
@@ -73,7 +73,7 @@ frame_facts frame = record {
   bits = if kind frame == INT then int_bits (int_word frame) else 0;
 }
 
--- What a cause says of word j of this frame, with these strings and types. (TextsTooLong is never said.)
+-- What a cause says of word j of this frame, given these strings and types. (TextsTooLong never applies.)
 abbrev pub WordFault : List ℕ → List TypeFacts → List ℕ → ℕ → BtfCause → Type 0
 WordFault strings types frame j NameRange = (n : ℕ) × IsNameField frame n j × (length strings ≤ slice_index frame j)
 WordFault strings types frame j NameUtf8 =
@@ -102,7 +102,7 @@ WordFault strings types frame j Component =
     × IsFalse (component_fits types (third_word frame) (slice_index frame 3))
 WordFault strings types frame j _ = ⊥
 
--- A word of the section has the fault: places count from the section's first byte.
+-- A word of the section has the fault. Offsets count bytes from the start of the type section.
 pub record FieldFault (strings : List ℕ) (frames : List (List ℕ)) (place : ℕ) (cause : BtfCause) : Type 0 where
   pub index : ℕ
   pub frame : List ℕ

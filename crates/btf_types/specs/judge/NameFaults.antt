@@ -1,4 +1,4 @@
--- What a cause says of a record's own name.
+-- What a cause says of names and of further fields of a record.
 use Rattle.std.specs.Prelude.{◌≢◌, ◌⊎◌, ℕ, ◌<◌, ◌≤◌, Bool, ◌∷◌, IsFalse, IsTrue, IsUtf8, List, [], length}
 use Rattle.btf_raw.specs.declared.cause.BtfCause.{BtfCause}
 use Rattle.btf_raw.specs.declared.cause.BtfCause.TheVariants.{NameRange, NameUtf8, NameMissing, NameUnwanted, IntWord, Reference, TargetKind, MemberInt, MemberPlace, Linkage, Component}
@@ -14,13 +14,13 @@ NameFault strings kind offset NameMissing = IsTrue (needs_name kind) × TextAt s
 NameFault strings kind offset NameUnwanted = IsTrue (has_no_name kind) × (text : List ℕ) × TextAt strings offset text × (text ≢ [])
 NameFault strings kind offset _ = ⊥
 
--- the same of a name that is there, empty or not
+-- what a cause says of a record's own name if its offset is valid, given whether the name is empty
 abbrev pub OwnNameFault : ℕ → Bool → BtfCause → Type 0
 OwnNameFault kind empty NameMissing = IsTrue (needs_name kind) × IsTrue empty
 OwnNameFault kind empty NameUnwanted = IsTrue (has_no_name kind) × IsFalse empty
 OwnNameFault kind empty _ = ⊥
 
--- what a cause says of an INT's word
+-- what a cause says of the word that follows an INT
 abbrev pub IntFault : ℕ → ℕ → BtfCause → Type 0
 IntFault size word IntWord =
     (int_unused word ≢ 0) ⊎ IsFalse (one_of (0 ∷ 1 ∷ 2 ∷ 4 ∷ []) (int_encoding word)) ⊎ IsFalse (bits_fit size (int_bits word))
@@ -32,13 +32,13 @@ ItemNameFault strings offset NameRange = length strings ≤ offset
 ItemNameFault strings offset NameUtf8 = (text : List ℕ) × TextAt strings offset text × ¬ IsUtf8 text
 ItemNameFault strings offset _ = ⊥
 
--- what a cause says of a type that a record of this kind names, beside its third word
+-- what a cause says of a type ID in a record of this kind, other than in its third word
 abbrev pub NamedTypeFault : List TypeFacts → ℕ → ℕ → BtfCause → Type 0
 NamedTypeFault types kind target Reference = length types < target
 NamedTypeFault types kind target TargetKind = (target ≤ length types) × IsFalse (target_fits kind ((type_at types target).kind))
 NamedTypeFault types kind target _ = ⊥
 
--- what a cause says of a member's type, in a record with bit-fields or without, and of its offset word
+-- what a cause says of the type of a member, given whether its record has bit-fields, and of its offset field
 abbrev pub MemberTypeFault : List TypeFacts → Bool → ℕ → BtfCause → Type 0
 MemberTypeFault types bit_fields target Reference = length types < target
 MemberTypeFault types bit_fields target MemberInt = IsTrue bit_fields × IsFalse (member_int_fits types target)
@@ -48,7 +48,7 @@ abbrev pub MemberPlaceFault : ℕ → ℕ → ℕ → BtfCause → Type 0
 MemberPlaceFault size bit_offset width MemberPlace = IsFalse (member_fits bit_offset width size)
 MemberPlaceFault size bit_offset width _ = ⊥
 
--- what a cause says of the linkage of a VAR, and of the component of a DECL_TAG that names this type
+-- what a cause says of the linkage of a VAR, and of the component of a DECL_TAG that refers to this type
 abbrev pub LinkageFault : ℕ → BtfCause → Type 0
 LinkageFault word Linkage = 2 < word
 LinkageFault word _ = ⊥

@@ -1,14 +1,14 @@
--- Which texts of a string section are UTF-8.
+-- Which strings of a string section are UTF-8. A string begins at any offset, and ends at the next NUL.
 use Rattle.std.specs.Prelude.{◌≡◌, ◌↔◌, ℕ, ◌<◌, ◌≤◌, Bool, true, false, IsUtf8, List, length, get_or, slice_index}
 use Rattle.btf_raw.specs.Names.{TextAt}
 use Rattle.btf_types.specs.declared.judge.utf8.Texts.{Texts}
 use Rattle.btf_types.specs.declared.judge.utf8.Texts.TheVariants as texts
 
--- the byte may begin a character
+-- a character may begin with this byte
 abbrev pub BeginsChar : ℕ → Type 0
 BeginsChar byte = 128 ≤ byte → 192 ≤ byte
 
--- there is a mark for each byte, set where the text from there on is UTF-8
+-- there is a mark for each byte, which is set if the string that begins there is UTF-8
 pub record AreMarks (strings : List ℕ) (marks : List Bool) : Type 0 where
   pub size : length marks ≡ length strings
   pub right : (offset : ℕ) (text : List ℕ) → TextAt strings offset text → (get_or marks offset false ≡ true) ↔ IsUtf8 text
@@ -17,7 +17,7 @@ abbrev pub TextsAre : List ℕ → Texts → Type 0
 TextsAre strings texts.Utf8 = IsUtf8 strings
 TextsAre strings (texts.Marked marks) = AreMarks strings marks.now
 
--- the next place after this one where a character may begin, or the end; and whether the text there is UTF-8
+-- the next offset after this one at which a character may begin, or the end; and whether the string there is UTF-8
 pub record IsNextChar (strings : List ℕ) (at next : ℕ) (rest : Bool) : Type 0 where
   pub past : at < next
   pub inside : next ≤ length strings

@@ -1,10 +1,10 @@
--- The number of bytes that two texts have in common at their ends, and laws by which these numbers determine the hosts of sorted texts.
+-- The length of the longest common suffix of two strings, and laws by which these lengths determine the hosts of sorted strings.
 use Rattle.std.specs.Prelude.{◌≡◌, ℕ, ◌+◌, ◌-◌, ◌<◌, ◌≤◌, ◌==◌, true, false, List, [], ◌∷◌, length, reverse, slice_index_or, if◌then◌else◌}
 use Rattle.std.specs.List.Sorted.{IsSorted}
 use Rattle.btf_types.specs.strings.SharedNames.{is_suffix, tail_cmp, hosts_of, host_in}
 use Rattle.btf_types.specs.strings.LongestTexts.{SameMembers}
 
--- how many first elements two lists have in common
+-- the length of the longest common prefix of two lists
 abbrev pub common_front : List ℕ → List ℕ → ℕ
 common_front [] y = 0
 common_front (a ∷ x) [] = 0
@@ -13,12 +13,12 @@ common_front (a ∷ x) (b ∷ y) = if a == b then 1 + common_front x y else 0
 abbrev pub common_tail : List ℕ → List ℕ → ℕ
 common_tail x y = common_front (reverse x) (reverse y)
 
--- these texts, sorted by reversed bytes; some may be there more than once
+-- these strings, sorted by reversed bytes; some may occur more than once
 pub record AreInTailOrder (ks sorted : List (List ℕ)) : Type 0 where
   pub members : SameMembers ks sorted
   pub in_order : IsSorted tail_cmp sorted
 
--- the text at a rank
+-- the string at a rank
 abbrev pub at_rank : List (List ℕ) → ℕ → List ℕ
 at_rank sorted k = slice_index_or sorted k []
 
@@ -26,20 +26,20 @@ at_rank sorted k = slice_index_or sorted k []
 abbrev pub RanksAreTogether : List (List ℕ) → Type 0
 RanksAreTogether sorted = IsSorted tail_cmp sorted → (x : List ℕ) (i j k : ℕ) → i ≤ j → j ≤ k → k < length sorted → is_suffix x (at_rank sorted i) ≡ true → is_suffix x (at_rank sorted k) ≡ true → is_suffix x (at_rank sorted j) ≡ true
 
--- Rank l is the first of those from which on all texts up to rank k have at least n bytes in common with their neighbours.
+-- Rank l is the first such that adjacent strings from there up to rank k have at least n bytes in common at their ends.
 pub record IsFirstRank (sorted : List (List ℕ)) (n l k : ℕ) : Type 0 where
   pub before : l ≤ k
   pub common : (j : ℕ) → l < j → j ≤ k → n ≤ common_tail (at_rank sorted (j - 1)) (at_rank sorted j)
   pub less : 0 < l → common_tail (at_rank sorted (l - 1)) (at_rank sorted l) < n
 
--- Rank r is the first from rank l on whose text doesn't end the next one.
+-- Rank r is the first from rank l on whose string isn't a suffix of the next one.
 pub record IsNextHost (sorted : List (List ℕ)) (l r : ℕ) : Type 0 where
   pub inside : r < length sorted
   pub from : l ≤ r
   pub passed : (j : ℕ) → l ≤ j → j < r → is_suffix (at_rank sorted j) (at_rank sorted (j + 1)) ≡ true
   pub stops : r + 1 < length sorted → is_suffix (at_rank sorted r) (at_rank sorted (r + 1)) ≡ false
 
--- that first rank is the first whose text ends with x, where x ends the text of rank k
+-- Rank l is the first whose string ends with x.
 pub record IsFirstEnding (sorted : List (List ℕ)) (x : List ℕ) (l : ℕ) : Type 0 where
   pub ends : is_suffix x (at_rank sorted l) ≡ true
   pub first : (j : ℕ) → j < length sorted → is_suffix x (at_rank sorted j) ≡ true → l ≤ j

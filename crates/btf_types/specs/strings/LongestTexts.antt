@@ -1,16 +1,16 @@
--- Laws by which the hosts of names are found from few of them, over the definitions alone.
+-- Laws by which a few of the names determine all hosts, about the definitions only.
 use Rattle.std.specs.Prelude.{◌≡◌, ℕ, ◌<◌, true, List, length}
 use Rattle.std.specs.List.{Any, Contains, filter, list_any}
 use Rattle.std.specs.Str.{bytes_eq}
 use Rattle.btf_types.specs.Names.{kept}
 use Rattle.btf_types.specs.strings.SharedNames.{is_suffix, hosts, host_in}
 
--- some of the texts, so that each text that isn't empty ends one of these
+-- a selection of the strings, such that each string that isn't empty is a suffix of one of these
 pub record AreLongest (xs longest : List (List ℕ)) : Type 0 where
   pub among : (z : List ℕ) → Contains longest z → Contains xs z
   pub each : (x : List ℕ) → Contains xs x → 0 < length x → Any (λ l. is_suffix x l ≡ true) longest
 
--- these lists have the same members
+-- these lists have the same elements
 pub record SameMembers (xs ys : List (List ℕ)) : Type 0 where
   pub here : (z : List ℕ) → Contains xs z → Contains ys z
   pub there : (z : List ℕ) → Contains ys z → Contains xs z

@@ -1,5 +1,5 @@
--- The string table of a canonical section, and the place of a name in it. Everything else cites these two words:
--- a change of the table is a change of this file.
+-- The string table of a canonical section, and the offset of a name in it. Everything else cites these two definitions, so the table can be changed
+-- in this file only.
 use Rattle.std.specs.Prelude.{ℕ, List}
 use Rattle.btf_types.specs.Names.{names}
 use Rattle.btf_types.specs.strings.SharedNames.{shared_table, shared_place}

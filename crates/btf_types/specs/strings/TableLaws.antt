@@ -1,4 +1,4 @@
--- Laws of the string table in which names share suffixes, over the definitions alone.
+-- Laws of the string table in which names share suffixes, about the definitions only.
 use Rattle.std.specs.Prelude.{◌≡◌, ℕ, ◌+◌, ◌<◌, ◌≤◌, true, false, List, length, slice_index_or}
 use Rattle.std.specs.List.{All, AllZip, Any, Contains, flat_map, sum_by}
 use Rattle.std.specs.Ordering.{is_lt}
@@ -16,12 +16,12 @@ use Rattle.btf_types.specs.Spelling.{IsRecord}
 abbrev pub SharedPlacesHold : List (List ℕ) → Type 0
 SharedPlacesHold xs = All IsName xs → All (λ x. NameAt (shared_table xs) (shared_place xs x) x) xs
 
--- the section is these strings, each followed by NUL: it is cut after each NUL
+-- the section consists of these strings, each followed by NUL: it is cut after each NUL
 pub record IsCutInto (section : List ℕ) (strings : List (List ℕ)) : Type 0 where
   pub without_nul : All IsWithoutNul strings
   pub whole : section ≡ flat_map with_nul strings
 
--- the name is in the section, at some offset
+-- the section contains the name, at some offset
 abbrev pub HasName : List ℕ → List ℕ → Type 0
 HasName section x = (offset : ℕ) × NameAt section offset x
 
@@ -37,16 +37,16 @@ NamesEndStrings section strings = IsCutInto section strings → (x : List ℕ) �
 abbrev pub HostsEndApart : List (List ℕ) → Type 0
 HostsEndApart xs = (s h g : List ℕ) → Contains (hosts xs) h → Contains (hosts xs) g → is_suffix h s ≡ true → is_suffix g s ≡ true → h ≡ g
 
--- a section that spells all names is at least as long as their shared table
+-- a section that contains all names is at least as long as their shared table
 abbrev pub SharedIsShortest : List (List ℕ) → List ℕ → Type 0
 SharedIsShortest xs section = HasNulEnds section → All (HasName section) xs → length (shared_table xs) ≤ length section
 
--- the kept names by their bytes from the end
+-- the kept names, sorted by reversed bytes
 pub record IsTailSorted (xs sorted : List (List ℕ)) : Type 0 where
   pub permutation : IsPermutation (kept xs) sorted
   pub in_order : IsSorted tail_cmp sorted
 
--- with the kept names so ordered, a name that is a proper suffix of any other is one of the next, and they share their host
+-- with the kept names so sorted, a name that is a proper suffix of any other is a proper suffix of the next one, and both have the same host
 pub record NextSharesHost (xs sorted : List (List ℕ)) (k : ℕ) (x next : List ℕ) : Type 0 where
   pub inside : k + 1 < length sorted
   pub suffix : is_proper_suffix x next ≡ true
@@ -59,7 +59,7 @@ NextHasHost xs sorted = IsTailSorted xs sorted → (k : ℕ) (d z : List ℕ) �
 abbrev pub TableLength : List (List ℕ) → Type 0
 TableLength ks = length (table_of ks) ≡ 1 + sum_by (λ k. length k + 1) ks
 
--- the host of a kept name: a host that ends with it, and no such host is below it by bytes from the end
+-- the host of a kept name: a host that ends with it, such that no lesser one by reversed bytes does
 pub record IsLeastHost (xs : List (List ℕ)) (x h : List ℕ) : Type 0 where
   pub host : Contains (hosts xs) h
   pub suffix : is_suffix x h ≡ true

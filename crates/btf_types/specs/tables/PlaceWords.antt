@@ -1,4 +1,4 @@
--- A record at one place of a section.
+-- A record at an offset of a section.
 use Rattle.std.specs.Prelude.{◌≡◌, ◌⊎◌, ℕ, ◌+◌, ◌*◌, ◌^◌, ◌<◌, ◌≤◌, IsTrue, List, length, slice_index}
 use Rattle.bpf_words.specs.declared.Order.{Order}
 use Rattle.btf_raw.specs.KindNumbers.{DECL_TAG}
@@ -9,7 +9,7 @@ use Rattle.btf_types.specs.Spelling.{Spells}
 use Rattle.btf_types.specs.Reading.{frame_at, record_of, text_from, item_total}
 use Rattle.btf_raw.specs.Names.{NameAt}
 
--- the words are those of a frame, and they spell the record that they read as
+-- the words are a frame, and they spell the record that they decode to
 pub record ReadsRecord (strings words : List ℕ) : Type 0 where
   pub ends : HasNulEnds strings
   pub frame : IsFrame words
@@ -19,7 +19,7 @@ pub record ReadsRecord (strings words : List ℕ) : Type 0 where
   pub item_names : (k : ℕ) → k < item_total words → IsTrue (has_item_names (kind words))
       → NameAt strings (slice_index words (3 + item_words (kind words) * k)) (text_from strings (slice_index words (3 + item_words (kind words) * k)))
 
--- there are such words at this place
+-- such words are at this offset
 pub record HasRecordAt (o : Order) (types strings : List ℕ) (pos : ℕ) : Type 0 where
   pub inside : pos + 4 * length (frame_at o types pos) ≤ length types
   pub reads : ReadsRecord strings (frame_at o types pos)

@@ -1,4 +1,4 @@
--- The parts of a section whose records are framed. The invariant of `Section` and contracts of private functions cite them.
+-- The parts of a section whose framing is valid. The invariant of `Section` and contracts of private functions cite them.
 use Rattle.std.specs.Prelude.{◌≡◌, ◌^◌, ◌≤◌, length}
 use Rattle.btf_raw.specs.Header.{HasNulEnds}
 use Rattle.btf_types.specs.declared.tables.section.Section.TheInside.{Inside}
@@ -9,18 +9,18 @@ use Rattle.btf_types.specs.Reading.{frames_at}
 use Rattle.btf_types.specs.tables.TableInvariant.{IsFramed}
 use Rattle.btf_types.specs.judge.Texts.{TextsAre}
 
--- its strings, and the frames at its places
+-- the strings, and the frames at the kept offsets
 abbrev pub words_in : Inside → SectionWords
 words_in s = record { strings = s.file.strings.now; frames = frames_at s.file.order s.file.types.now s.file.places.now }
 
--- the strings have their ends, the places are those of the frames, and the texts are judged
+-- the strings begin and end with NUL, the offsets are those of the frames, and it is known which strings are UTF-8
 pub record IsSection (s : Inside) : Type 0 where
   pub ends : HasNulEnds s.file.strings.now
   pub few : length s.file.types.now ≤ 2 ^ 25
   pub framed : IsFramed s.file.order s.file.types.now s.file.places.now
   pub texts : TextsAre s.file.strings.now s.texts.now
 
--- what is kept of a type is what the checks of other records need
+-- the facts of a type are those that the checks of other records need
 pub record FactsAre (facts : Facts) (t : TypeFacts) : Type 0 where
   pub kind_is : facts.kind ≡ t.kind
   pub count_is : facts.count ≡ t.count

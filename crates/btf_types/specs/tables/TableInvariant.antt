@@ -1,4 +1,4 @@
--- When a section with the places of its records is a table.
+-- When a section with the offsets of its records is a table.
 use Rattle.std.specs.Prelude.{◌≡◌, ℕ, ◌^◌, ◌<◌, ◌≤◌, List, length, take, slice_index}
 use Rattle.std.specs.List.{AllZip}
 use Rattle.bpf_words.specs.declared.Order.{Order}
@@ -10,13 +10,13 @@ use Rattle.btf_types.specs.judge.FieldFaults.{FieldFault}
 use Rattle.btf_types.specs.Good.{IsGood}
 use Rattle.btf_types.specs.Reading.{frames_at, records_at}
 
--- The places are those of the frames of the section, in order.
+-- The offsets are those of the frames of the section, in order.
 pub record IsFramed (o : Order) (types places : List ℕ) : Type 0 where
   pub frames : Frames o types (frames_at o types places)
   pub count : length places ≤ length types
   pub starts : (i : ℕ) → i < length places → slice_index places i ≡ length (section_of o (take i (frames_at o types places)))
 
--- The records at the places are spelled there, without a fault, and are good.
+-- The records are spelled at these offsets without a fault, and are good.
 pub record IsTable (o : Order) (types strings places : List ℕ) : Type 0 where
   pub few : length places < 2 ^ 32
   pub short : length strings ≤ STRINGS_LIMIT
@@ -26,7 +26,7 @@ pub record IsTable (o : Order) (types strings places : List ℕ) : Type 0 where
   pub spelled : AllZip (Spells strings) (records_at o types strings places) (frames_at o types places)
   pub good : IsGood (records_at o types strings places)
 
--- No field of the records at the places has a fault, so they are spelled there and good.
+-- No field of the records at these offsets has a fault, so they are spelled there, and are good.
 pub record FieldsAreRight (o : Order) (types strings places : List ℕ) : Type 0 where
   pub none : HasNone (FieldFault strings (frames_at o types places))
   pub spelled : AllZip (Spells strings) (records_at o types strings places) (frames_at o types places)

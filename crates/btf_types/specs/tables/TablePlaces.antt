@@ -1,4 +1,4 @@
--- The places in its two sections that a table keeps. The invariants of the tables and contracts of private functions cite them.
+-- The offsets into its two sections that a table keeps. The invariants of the tables and contracts of private functions cite them.
 use Rattle.std.specs.Prelude.{ℕ, List}
 use Rattle.bpf_words.specs.declared.Order.{Order}
 use Rattle.btf_types.specs.Values.{TypeRecord}
@@ -6,7 +6,7 @@ use Rattle.btf_types.specs.Reading.{records_at}
 use Rattle.btf_types.specs.tables.StringEnds.{AreLongEnds}
 use Rattle.btf_types.specs.tables.TableInvariant.{IsTable}
 
--- the places of the records in the types, and the ends of the long strings
+-- the offsets of the records in the types, and those of the ends of the long strings
 pub record TablePlaces : Type 0 where
   pub records : List ℕ
   pub ends : List ℕ

@@ -14,27 +14,27 @@ abbrev pub Fails : List ℕ → BtfError → Type 0
 Fails b (errors.Fault fault) = IsFirst b fault
 Fails b errors.Memory = ⊤
 
--- The same of the framing of a section.
+-- Likewise for the framing of a section.
 abbrev pub FailsFraming : Order → List ℕ → BtfError → Type 0
 FailsFraming o types (errors.Fault fault) = LeastByPlace (FramingFault o types) fault.pos fault.cause
 FailsFraming o types errors.Memory = ⊤
 
--- The same of the fields of its records.
+-- Likewise for the fields of its records.
 abbrev pub FailsFields : Order → List ℕ → List ℕ → List ℕ → BtfError → Type 0
 FailsFields o types strings places (errors.Fault fault) = LeastByPlace (FieldFault strings (frames_at o types places)) fault.pos fault.cause
 FailsFields o types strings places errors.Memory = ⊤
 
--- the error, with the place of its fault so many bytes later
+-- the error, with the offset of its fault increased by base
 abbrev pub moved : ℕ → BtfError → BtfError
 moved base (errors.Fault fault) = errors.Fault (record { pos = base + fault.pos; cause = fault.cause })
 moved base errors.Memory = errors.Memory
 
--- a fault that is moved so far is within 64 bits
+-- the offset of a fault, so increased, is below 2 ^ 64
 abbrev pub MayMove : ℕ → BtfError → Type 0
 MayMove base (errors.Fault fault) = fault.pos + base < 2 ^ 64
 MayMove base errors.Memory = ⊤
 
--- a fault is within so many bytes, or at their end
+-- the offset of a fault is at most this number
 abbrev pub FaultInside : {X : Type 0} → ℕ → Result X BtfError → Type 0
 FaultInside len (Ok x) = ⊤
 FaultInside len (Err (errors.Fault fault)) = fault.pos ≤ len
