@@ -1,4 +1,4 @@
--- A file has no fault exactly where its frames spell good records.
+-- A file has no fault if and only if its frames spell good records.
 pub mod Faultless
 pub mod FaultlessHeads
 pub mod FaultlessItems

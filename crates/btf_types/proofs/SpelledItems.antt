@@ -23,7 +23,7 @@ zip_at R (x ∷ xs) [] i d e all h = absurd all
 zip_at R (x ∷ xs) (y ∷ ys) zero d e all h = all.0
 zip_at R (x ∷ xs) (y ∷ ys) (suc i) d e all h = zip_at R xs ys i d e all.1 (omega arith)
 
--- a word of the i-th piece, where all pieces are of one length
+-- a word of the i-th piece, if all pieces have the same length
 piece_word : (strings : List ℕ) (flag : ℕ) (h : TypeHead) (xs : List TypeItem) (wss : List (List ℕ)) (i m : ℕ) → All (ItemOf h) xs → AllZip (ItemSpells strings flag) xs wss
     → i < length xs → m < item_words (kind_number h) → get_or (concat wss) (item_words (kind_number h) * i + m) 0 ≡ get_or (get_or wss i []) m 0
 piece_word strings flag h [] wss i m of z low word = absurd (omega arith)

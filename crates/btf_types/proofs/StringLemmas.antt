@@ -1,4 +1,4 @@
--- Lemmas on texts that end with one another.
+-- Lemmas on strings and their suffixes.
 pub mod CommonTails
 pub mod Distinct
 pub mod Hosts

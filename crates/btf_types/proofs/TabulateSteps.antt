@@ -1,4 +1,4 @@
--- More on lists by a function of the index, and on the words of a list.
+-- More on lists that are made by a function of the index, and on the words of a list.
 use Rattle.std.proofs.Common.{◌≡◌, ℕ, zero, suc, ◌+◌, ◌*◌, ◌<◌, ◌≤◌, Bool, true, false, List, [], ◌∷◌, ◌++◌, length, get_or, take, drop, refl, sym, ap, ◌∙◌, inl, inr, append-nil, drop-cons, arith}
 use Rattle.std.specs.Prelude.{slice_get, Some}
 use Rattle.std.specs.List.{All, AllZip, concat, list_any}
@@ -50,7 +50,7 @@ get-tabulate f (suc n) k h = elim (cases_lt k n) [
     get-seam [] x = refl
     get-seam (y ∷ xs) x = get-seam xs x
 
--- pieces of one length, one after the other
+-- the concatenation of pieces of the same length
 pub pieces : (w n p : ℕ) (f : List ℕ) → concat (tabulate (λ i. take w (drop (p + w * i) f)) n) ≡ take (w * n) (drop p f)
 pieces w zero p f = let none : w * zero ≡ 0 = omega arith in rw none refl
 pieces w (suc n) p f =

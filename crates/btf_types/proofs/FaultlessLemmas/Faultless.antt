@@ -214,7 +214,7 @@ module _ (strings : List ℕ) (frames : List (List ℕ)) (ends : HasNulEnds stri
     texts = spelled_table STRINGS_LIMIT strings (map (record_of strings) frames) frames ends short frames_spell;
   }
 
--- Where no field of the frames at these places has a fault, they spell the records that they read as, and these are good.
+-- If no field of the frames at these offsets has a fault, they spell the records that they decode to, and these are good.
 pub fields_are_right : (o : Order) (types strings places : List ℕ) → IsFramed o types places → HasNulEnds strings → length strings ≤ STRINGS_LIMIT → length types ≤ TYPES_LIMIT
     → HasNone (FieldFault strings (frames_at o types places)) → FieldsAreRight o types strings places
 fields_are_right o types strings places framed ends short few none =

@@ -76,7 +76,7 @@ component_there n = split (n == 0xffffffff) refl
     split true e = rw e (sym (eqb-true n 0xffffffff e))
     split false e = rw e refl
 
--- an INT's word is that of its parts
+-- the word that follows an INT is composed of its parts
 pub record IntIsRight (size word : ℕ) : Type 0 where
   pub unused : int_unused word ≡ 0
   pub encoding : IsTrue (one_of (0 ∷ 1 ∷ 2 ∷ 4 ∷ []) (int_encoding word))
@@ -155,7 +155,7 @@ good_head IsInt types name third flag vlen next fourth fifth int component = (in
 good_head IsDeclTag types name third flag vlen next fourth fifth int component = component refl
 good_head known types name third flag vlen next fourth fifth int component = tt
 
--- the size is judged by the number of items where that counts
+-- the size is checked against the number of items if that matters
 pub size_of_count : {k : ℕ} → KindIs k → (size vlen count : ℕ) → count ≡ count_of k vlen → IsTrue (size_fits k size vlen) → IsTrue (size_fits k size count)
 unfolding size_fits item_words
 size_of_count IsEnum size vlen count is fits = rw is fits
@@ -184,7 +184,7 @@ count_is IsDatasec vlen allowed = refl
 count_is IsEnum64 vlen allowed = refl
 count_is known vlen allowed = no_list vlen allowed
 
--- each item takes its words, and no item none
+-- the words of all items are the same by vlen and by the number of items, which is 0 for kinds without items
 pub room_of_items : {k : ℕ} → KindIs k → (vlen : ℕ) → item_words k * count_of k vlen ≡ item_words k * vlen
 unfolding item_words
 room_of_items IsInt vlen = omega arith

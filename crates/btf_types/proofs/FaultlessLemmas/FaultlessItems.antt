@@ -28,7 +28,7 @@ pub record ItemIsRight (strings : List ℕ) (types : List TypeFacts) (frame : Li
   pub targets : All (TargetIsGood types (kind frame)) (item_targets x)
   pub member : MemberIsGood types (third_word frame) bit_fields x
 
--- the offset word of a member, at either kind_flag
+-- the offset field of a member, for either kind_flag
 pub member_word : (its_flag w : ℕ) → its_flag < 2 → MemberWord its_flag (if its_flag == 0 then w else w % 2 ^ 24) (if its_flag == 0 then 0 else w / 2 ^ 24) w
 member_word zero w low = inl (refl, refl, refl)
 member_word (suc zero) w low = inr (refl, omega arith, omega arith)
@@ -49,7 +49,7 @@ member_width_low its_flag w low = split (its_flag == 0)
     split true = lit< tt
     split false = omega arith
 
--- where some width isn't 0, each offset is below 2 ^ 24
+-- if some width isn't 0, each offset is below 2 ^ 24
 narrow : (its_flag v w : ℕ) → ((if its_flag == 0 then 0 else v / 2 ^ 24) ≢ 0) → (if its_flag == 0 then w else w % 2 ^ 24) < 2 ^ 24
 narrow its_flag v w some = split (its_flag == 0) some
   where
@@ -57,7 +57,7 @@ narrow its_flag v w some = split (its_flag == 0) some
     split true some = absurd (some refl)
     split false some = omega arith
 
--- how many items there are, where there are any
+-- the number of items, if there are any
 pub listed : (k i vlen : ℕ) → i < count_of k vlen → i < vlen
 listed k i vlen low = split (item_words k == 0) low
   where

@@ -18,7 +18,7 @@ use Rattle.btf_types.proofs.KindCases.{KindIs, kind_is}
 use Rattle.btf_types.proofs.TableLemmas.TextSteps.{decided, empty_or_not, name_there}
 use Rattle.btf_types.proofs.FaultlessLemmas.FaultlessHeads.{IntIsRight}
 
--- the parts of info determine it
+-- the parts of the info word determine it
 pub info_whole : (w : ℕ) → w < 2 ^ 32 → unused_of w ≡ 0 → w ≡ info (kind_of w) (vlen_of w) (flag_of w)
 info_whole w h e = omega arith
 

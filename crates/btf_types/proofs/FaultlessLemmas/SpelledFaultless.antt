@@ -64,7 +64,7 @@ array_targets P (KArray target index count) is all = (All-head P target (index �
 array_targets P (KInt name size encoding offset bits) is all = absurd (omega arith)
 array_targets P h is all = absurd (omega arith)
 
--- the size is judged by vlen, which counts the items
+-- the size is checked against vlen, which counts the items
 size_of_vlen : (h : TypeHead) (xs : List TypeItem) → IsTrue (size_fits (kind_number h) (head_third h) (length xs)) → IsTrue (size_fits (kind_number h) (head_third h) (vlen_from h xs))
 unfolding size_fits
 size_of_vlen (KFunc name linkage target) xs fits = refl
@@ -81,7 +81,7 @@ linkage_named LStatic = lit≤ tt
 linkage_named LGlobal = lit≤ tt
 linkage_named LExtern = lit≤ tt
 
--- an INT's word
+-- the word that follows an INT
 pub record IntFits (h : TypeHead) (w : ℕ) : Type 0 where
   pub inside : 0 < length (head_tail h)
   pub unused : int_unused w ≡ 0
@@ -173,7 +173,7 @@ record MemberSays (types : List TypeFacts) (size : ℕ) (bit_fields : Bool) (its
   int : IsTrue bit_fields → IsTrue (member_int_fits types (get_or ws 1 0))
   wide : ((if its_flag == 0 then 0 else get_or ws 2 0 / 2 ^ 24) ≢ 0) → has_width x ≡ true
 
--- the offset word of a member, read back
+-- the offset field of a member, decoded again
 record WordReads (its_flag offset its_width word : ℕ) : Type 0 where
   offset_is : (if its_flag == 0 then word else word % 2 ^ 24) ≡ offset
   width_is : (if its_flag == 0 then 0 else word / 2 ^ 24) ≡ its_width
@@ -223,7 +223,7 @@ words_of_section : (k : ℕ) → k ≡ DATASEC → 0 < item_words k
 unfolding item_words
 words_of_section k e = rw e (lit< tt)
 
--- a name at an offset: no fault of a name's range or text
+-- a name at an offset has neither NameRange nor NameUtf8
 name_inside : (strings : List ℕ) (offset : ℕ) (x : List ℕ) → NameAt strings offset x → ¬ (length strings ≤ offset)
 name_inside strings offset x at past = let low = TextAt-inside strings offset x at.text in omega arith
 

@@ -1,4 +1,4 @@
--- A file has no fault exactly where it denotes some list of records.
+-- A file has no fault if and only if it denotes some list of records.
 use Rattle.std.proofs.Common.{ℕ, ◌+◌, ◌-◌, ◌<◌, ◌≤◌, List, length, map, refl, sym, subst, ◌∙◌, inl, inr, arith}
 use Rattle.std.specs.List.{AllZip}
 use Rattle.std.specs.Prelude.{slice_index}
@@ -146,7 +146,7 @@ fields_are_judged b o types strings frames fits cut ends framed = record {
   back = λ right. fields_back b o types strings cut ends frames framed right.0 right.1 right.2;
 }
 
--- ---- the whole file
+-- ---- the complete file
 
 denoted : (b : List ℕ) → IsBytes b → ((phase : Phase) (place : ℕ) (cause : BtfCause) → ¬ Faults b phase place cause) → (v : List TypeRecord) × Denotes b v
 denoted b fits none =

@@ -15,7 +15,7 @@ use Rattle.btf_types.specs.Sections.{facts_in}
 use Rattle.btf_types.specs.tables.SectionParts.{IsSection, words_in}
 use Rattle.btf_types.proofs.TableLemmas.SectionSteps.{nth_frame, frame_get, starts_in, has_frame}
 
--- where the i-th list begins among the lists, and where it ends
+-- the offsets at which the i-th list begins and ends in the concatenation
 abbrev start : List (List ℕ) → ℕ → ℕ
 start fs i = length (concat (take i fs))
 
@@ -63,7 +63,7 @@ module _ (strings : List ℕ) (fs : List (List ℕ)) where
     ];
   }
 
--- the same of a framed section
+-- likewise for a section whose framing is valid
 module _ (s : Inside) (good : IsSection s) where
   faultless_before : (n : ℕ) → ((k : ℕ) → k < n → IsFaultless s.file.strings.now (facts_in (words_in s)) (nth_frame s k)) → (k : ℕ) (g : List ℕ) → k < length s.file.places.now → k < n → slice_get ((words_in s).frames) k ≡ Some g → IsFaultless s.file.strings.now (facts_in (words_in s)) g
   faultless_before n none k g there low is =

@@ -1,4 +1,4 @@
--- The fields of a section have no fault where its frames spell good records.
+-- The fields of a section have no fault if its frames spell good records.
 use Rattle.std.proofs.Common.{◌≡◌, ℕ, zero, suc, Some, List, [], ◌∷◌, map, refl, sym, subst}
 use Rattle.std.specs.Prelude.{slice_get}
 use Rattle.std.specs.List.{All, AllZip}

@@ -21,7 +21,7 @@ use Rattle.btf_raw.specs.Cause.{LeastByPlace}
 use Rattle.btf_raw.proofs.Frames.{IsNoFrame, frame_has_none, frames_cancel}
 use Rattle.btf_types.proofs.Lists.{length-tabulate, get_or-tabulate}
 
--- The places are those of the frames of the section up to a place, in order.
+-- The offsets are those of the frames of the section up to an offset, in order.
 pub record IsFramedTo (o : Order) (types places : List ℕ) (pos : ℕ) : Type 0 where
   pub each : All IsFrame (frames_at o types places)
   pub whole : section_of o (frames_at o types places) ≡ take pos types
@@ -29,7 +29,7 @@ pub record IsFramedTo (o : Order) (types places : List ℕ) (pos : ℕ) : Type 0
   pub count : length places ≤ pos
   pub starts : (i : ℕ) → i < length places → slice_index places i ≡ length (section_of o (take i (frames_at o types places)))
 
--- the words that are read from a place on are those bytes
+-- the words that are read from an offset on have those bytes
 bytes_of-tabulate : (o : Order) (types : List ℕ) (pos n : ℕ) → IsBytes types → pos + 4 * n ≤ length types → bytes_of o (tabulate (λ j. word32_at o types (pos + 4 * j)) n) ≡ take (4 * n) (drop pos types)
 bytes_of-tabulate o types pos zero fits h = refl
 bytes_of-tabulate o types pos (suc n) fits h =
@@ -90,7 +90,7 @@ framed_more o types places pos head fits so at =
       ];
     }
 
--- the fault of the first record that is no frame
+-- the fault of the first record that isn't a frame
 pub first_framing_fault : (o : Order) (types places : List ℕ) (pos place : ℕ) (cause : BtfCause) → IsFramedTo o types places pos → LeastByPlace (HeadFault o types pos) place cause → LeastByPlace (FramingFault o types) place cause
 first_framing_fault o types places pos place cause so least =
     let frames = frames_at o types places in

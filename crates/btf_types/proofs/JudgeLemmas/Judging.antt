@@ -1,4 +1,4 @@
--- Two sets of causes that are one are judged alike.
+-- If two sets of causes are equal, so is the least cause.
 use Rattle.std.proofs.Common.{Option, Some, None}
 use Rattle.std.specs.Prelude.{MatchOption}
 use Rattle.btf_raw.specs.declared.cause.BtfCause.{BtfCause}

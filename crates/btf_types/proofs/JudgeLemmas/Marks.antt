@@ -1,4 +1,4 @@
--- Marks of texts that are UTF-8, made from the end of a section.
+-- Marks for the strings that are UTF-8, computed from the end of a section.
 use Rattle.std.proofs.Common.{◌≡◌, ℕ, ◌-◌, ◌<◌, ◌≤◌, Bool, true, false, List, length, get_or, set, inl, inr, arith}
 use Rattle.std.specs.Prelude.{◌↔◌, IsUtf8, slice_index}
 use Rattle.std.proofs.lemmas.Bool.{cases_lt, cases_eq}
@@ -8,7 +8,7 @@ use Rattle.btf_raw.specs.Names.{TextAt}
 use Rattle.btf_types.specs.judge.Texts.{BeginsChar, AreMarks}
 use Rattle.btf_types.proofs.JudgeLemmas.Utf8Steps.{begins_with_char}
 
--- the marks from this place on are made, and no other is set
+-- the marks from this offset on are computed, and no other is set
 pub record AreMarksFrom (s : List ℕ) (at next : ℕ) (rest : Bool) (marks : List Bool) : Type 0 where
   pub size : length marks ≡ length s
   pub low : at ≤ next
@@ -20,7 +20,7 @@ pub record AreMarksFrom (s : List ℕ) (at next : ℕ) (rest : Bool) (marks : Li
   pub right : (o : ℕ) (text : List ℕ) → at ≤ o → TextAt s o text → (get_or marks o false ≡ true) ↔ IsUtf8 text
   pub none_below : (o : ℕ) → o < at → get_or marks o false ≡ false
 
--- one more mark, where a character may begin
+-- one more mark, at a byte that may begin a character
 pub char_marked : (s : List ℕ) (n next : ℕ) (rest mark : Bool) (marks : List Bool) → AreMarksFrom s n next rest marks → 0 < n → BeginsChar (slice_index s (n - 1))
     → ((text : List ℕ) → TextAt s (n - 1) text → (mark ≡ true) ↔ IsUtf8 text) → AreMarksFrom s (n - 1) (n - 1) mark (set marks (n - 1) mark)
 char_marked s n next rest mark marks so some begins known =
@@ -42,7 +42,7 @@ char_marked s n next rest mark marks so some begins known =
       none_below = λ o below. rw (get_or-set_other marks (n - 1) o mark false (λ e. absurd (omega arith))) (so.none_below o (omega arith));
     }
 
--- and where none may begin
+-- and at a byte that can't
 pub no_char_marked : (s : List ℕ) (n next : ℕ) (rest : Bool) (marks : List Bool) → HasNulEnds s → AreMarksFrom s n next rest marks → 0 < n → ¬ BeginsChar (slice_index s (n - 1))
     → AreMarksFrom s (n - 1) next rest marks
 no_char_marked s n next rest marks ends so some goes_on =

@@ -13,7 +13,7 @@ use Rattle.btf_types.specs.Reading.{text_from}
 use Rattle.btf_types.proofs.TableLemmas.TextSteps.{text_there}
 use Rattle.btf_types.proofs.JudgeLemmas.Utf8Steps.{empty_byte, empty_text}
 
--- an item's name: where its text isn't UTF-8, and where it is
+-- the name of an item, if its string isn't UTF-8 and if it is
 pub utf8_fault : (strings : List ℕ) (offset : ℕ) → HasNulEnds strings → offset < length strings
     → ((text : List ℕ) → TextAt strings offset text → (false ≡ true) ↔ IsUtf8 text) → LeastCause (ItemNameFault strings offset) NameUtf8
 utf8_fault strings offset ends low judged =

@@ -126,7 +126,7 @@ first_frames_fault b h p q c has least is = record {
       ];
 }
 
--- a section is cut into frames in one way
+-- a section can be cut into frames in only one way
 pub same_frames : (o : Order) (types : List ℕ) (fs gs : List (List ℕ)) → Frames o types fs → Frames o types gs → fs ≡ gs
 same_frames o types fs gs one other =
     let sections : section_of o fs ++ [] ≡ section_of o gs ++ [] = rw (append-nil, append-nil) (sym one.whole ∙ other.whole) in

@@ -25,7 +25,7 @@ module _ (s : SectionWords) {f : List ℕ} (is : IsFrame f) where
   pub none_yet : (word : ℕ) → NoneWithin s f word word
   none_yet word j d past low fault = absurd (omega arith)
 
-  -- a word with a fault is the first where the words before it have none
+  -- a word with a fault is the first if the words before it have none
   pub first_at : (from to j word : ℕ) (role : Role) (c : BtfCause) → from ≤ j → j < to → to ≤ length f
       → NoneWithin s f from j → word ≡ slice_index f j → HasRole (kind f) j role
       → LeastCause (HeldFault s f word role) c → IsFirstWithin s f from to j c
@@ -53,7 +53,7 @@ module _ (s : SectionWords) {f : List ℕ} (is : IsFrame f) where
       let none : NoCause (FaultInWord s f j) = judged s {f = f} {j = j} {word = slice_index f j} Free None is (omega arith) refl (free j past low) (λ c h. h) in
       none d fault
 
--- a type is judged by the kind of the record that names it
+-- a type is checked against the kind of the record that refers to it
 pub of_its_kind : (types : List TypeFacts) (κ k word : ℕ) (c : BtfCause) → κ ≡ k → LeastCause (NamedTypeFault types k word) c → LeastCause (NamedTypeFault types κ word) c
 of_its_kind types κ k word c is least = subst (λ (i : ℕ). LeastCause (NamedTypeFault types i word) c) (sym is) least
 

@@ -93,7 +93,7 @@ one_word κ v (inl e) = rw e (omega arith)
 one_word κ v (inr (inl e)) = rw e (omega arith)
 one_word κ v (inr (inr e)) = rw e (omega arith)
 
--- word m of an item, from the place in the record, and back
+-- word m of an item, from its index in the record, and back
 pub part_is : (κ k m j : ℕ) → TwoOrThree (item_words κ) → m < item_words κ → j ≡ 3 + item_words κ * k + m → word_in_item κ j ≡ m
 part_is κ k m j (inl two) low at = rw two (let there : j ≡ 3 + 2 * k + m = rw two at at in let less : m < 2 = rw two at low in omega arith)
 part_is κ k m j (inr three) low at = rw three (let there : j ≡ 3 + 3 * k + m = rw three at at in let less : m < 3 = rw three at low in omega arith)
@@ -328,7 +328,7 @@ module _ (strings : List ℕ) (types : List TypeFacts) (frame : List ℕ) (j : �
   role_holds roles.MemberPlace is MemberPlace fault = (member_field 2 is.1.0 is.0 (place_part is.1.0 is.1.1), fault)
   role_holds role is c fault = absurd fault
 
-  -- a role's judge is the word's
+  -- the least cause of a role is that of the word
   word_judged : (role : Role) (r : Option BtfCause) → HasRole (kind frame) j role
       → MatchOption r (NoCause (WordRoleFault strings types frame j role)) (λ c. LeastCause (WordRoleFault strings types frame j role) c)
       → MatchOption r (NoCause (WordFault strings types frame j)) (λ c. LeastCause (WordFault strings types frame j) c)
@@ -340,7 +340,7 @@ module _ (strings : List ℕ) (types : List TypeFacts) (frame : List ℕ) (j : �
 abbrev pub HeldFault : SectionWords → List ℕ → ℕ → Role → BtfCause → Type 0
 HeldFault s f word role c = RoleFault s.strings (facts_in s) f (kind f) (vlen f) (flag f) (third_word f) word role c
 
--- the same on the number that is read of the word
+-- likewise for the number that the word contains
 pub judged : (s : SectionWords) {f : List ℕ} {j word : ℕ} (role : Role) (result : Option BtfCause) → IsFrame f → j < length f
     → word ≡ slice_index f j → HasRole (kind f) j role
     → MatchOption result (NoCause (HeldFault s f word role)) (λ c. LeastCause (HeldFault s f word role) c)
@@ -350,7 +350,7 @@ judged s {f} {j} {word} role result is there word-is has held =
     (judged_same (HeldFault s f word role) (WordRoleFault s.strings (facts_in s) f j role) result
     (λ d h. rw (← word-is) h) (λ d h. rw word-is h) held)
 
--- the answer by which a member's type is judged
+-- the answer of the check of a member's type
 pub type_judged : (types : List TypeFacts) (frame : List ℕ) (bit_fields : Bool) (word : ℕ) (result : Option BtfCause) → BitFieldsAre frame bit_fields
     → MatchOption result (NoCause (MemberTypeFault types bit_fields word)) (λ c. LeastCause (MemberTypeFault types bit_fields word) c)
     → MatchOption result (NoCause (TypeOfMemberFault types frame word)) (λ c. LeastCause (TypeOfMemberFault types frame word) c)
@@ -367,7 +367,7 @@ type_judged types frame bit_fields word result bits held =
     back MemberInt h = (bits.none h.0, h.1)
     back c h = absurd h
 
--- the numbers that a member's offset word is judged by
+-- the numbers that the check of a member's offset field uses
 pub place_judged : (third flag word at wide : ℕ) (result : Option BtfCause) → at ≡ offset_in flag word → wide ≡ width_in flag word
     → MatchOption result (NoCause (MemberPlaceFault third at wide)) (λ c. LeastCause (MemberPlaceFault third at wide) c)
     → MatchOption result (NoCause (MemberPlaceFault third (offset_in flag word) (width_in flag word))) (λ c. LeastCause (MemberPlaceFault third (offset_in flag word) (width_in flag word)) c)

@@ -1,4 +1,4 @@
--- What each word of a record is: a name, a type, a place, and so on. What a cause says of a word follows from its role.
+-- What each word of a record is: a name, a type ID, an offset field, and so on. What a cause says of a word follows from its role.
 use Rattle.std.proofs.Common.{◌≡◌, ◌⊎◌, ℕ, ◌-◌, ◌%◌, ◌<◌, ◌≤◌, List, length, if◌then◌else◌}
 use Rattle.std.specs.Prelude.{◌==◌, IsTrue, IsFalse}
 use Rattle.btf_raw.specs.declared.cause.BtfCause.{BtfCause}
@@ -22,7 +22,7 @@ pub data Role : Type 0 where
   MemberPlace : Role
   Free : Role
 
--- which word of its item word j is, or of what follows the first three where there are no items
+-- which word of its item word j is, or which after the first three if there are no items
 abbrev pub word_in_item : ℕ → ℕ → ℕ
 word_in_item kind j = if item_words kind == 0 then j - 3 else (j - 3) % item_words kind
 
@@ -53,7 +53,7 @@ pub record PartHasRole (kind m : ℕ) (role : Role) : Type 0 where
   pub member : IsTrue (is_struct kind) → m ≡ 1 → role ≡ MemberType
   pub place : IsTrue (is_struct kind) → m ≡ 2 → role ≡ MemberPlace
 
--- the same of word j of a whole record
+-- likewise for word j of a complete record
 abbrev pub RoleIs : ℕ → ℕ → Role → Type 0
 RoleIs kind j OwnName = j ≡ 0
 RoleIs kind j Info = j ≡ 1

@@ -1,4 +1,4 @@
--- Texts that are UTF-8.
+-- Strings that are UTF-8.
 use Rattle.std.proofs.Common.{◌≡◌, ℕ, ◌+◌, ◌-◌, ◌<◌, ◌≤◌, Bool, true, List, [], ◌∷◌, ◌++◌, length, get_or, take, drop, refl, sym, ap, subst, ◌∙◌, inl, inr, append_assoc, length-append, take-append-drop, arith}
 use Rattle.std.specs.Prelude.{◌≢◌, ◌↔◌, IsUtf8, IsCharBoundary, MatchResult, Result, Ok, Err, is_ok, slice_index}
 use Rattle.std.proofs.lemmas.Bool.{cases_lt}
@@ -8,13 +8,13 @@ use Rattle.btf_raw.specs.Names.{TextAt}
 use Rattle.btf_raw.proofs.Texts.{text_after}
 use Rattle.btf_types.specs.judge.Texts.{BeginsChar, IsNextChar}
 
--- ---- a text in its section
+-- ---- a string in its section
 
 pub text_end : (s : List ℕ) (at : ℕ) (text : List ℕ) → TextAt s at text → at + length text < length s
 text_end s at text t =
     omega (arith, t.place, ap length t.is_there, length-append (t.before ++ text) (0 ∷ t.after), length-append t.before text)
 
--- from a place inside it on it is a text too
+-- from an offset inside it on, it is a string too
 pub tail_text : (s : List ℕ) (at o : ℕ) (text : List ℕ) → TextAt s at text → o ≤ length text → TextAt s (at + o) (drop o text)
 tail_text s at o text t low = record {
   without_nul = λ i h e. t.without_nul (o + i) (omega (arith, length-drop o text)) (sym (get_or-drop o text i 0) ∙ e);
@@ -34,7 +34,7 @@ end_of_text s at text t = byte_of_text s at text t (length text) ∙ seam text
     seam [] = refl
     seam (c ∷ x) = seam x
 
--- an empty text, by its byte
+-- an empty string, by its byte
 pub empty_byte : (s : List ℕ) (at : ℕ) → TextAt s at [] → slice_index s at ≡ 0
 empty_byte s at t = subst (λ (i : ℕ). get_or s i 0 ≡ 0) (omega arith) (end_of_text s at [] t)
 
@@ -49,7 +49,7 @@ first_byte : (s : List ℕ) (at : ℕ) (text : List ℕ) → TextAt s at text �
 first_byte s at text t some =
     subst (λ (i : ℕ). get_or s i 0 ≡ get_or (text ++ 0 ∷ t.after) 0 0) (omega arith) (byte_of_text s at text t 0) ∙ get_or_append_left text (0 ∷ t.after) 0 0 some
 
--- a character may begin where a text is UTF-8
+-- a character may begin at the start of a string that is UTF-8
 pub begins_with_char : (s : List ℕ) (at : ℕ) (text : List ℕ) → TextAt s at text → IsUtf8 text → BeginsChar (slice_index s at)
 begins_with_char s at text t utf8 high = elim (cases_lt 0 (length text)) [
   | inl some ↦
@@ -60,7 +60,7 @@ begins_with_char s at text t utf8 high = elim (cases_lt 0 (length text)) [
       absurd (omega arith)
 ]
 
--- ---- a section that is UTF-8 as a whole
+-- ---- a section, all of which is UTF-8
 
 text_is_part : (s : List ℕ) (at : ℕ) (text : List ℕ) → TextAt s at text → take (length text) (drop at s) ≡ text
 text_is_part s at text t = ap (λ (x : List ℕ). take (length text) x) (text_after s at text t) ∙ front text
@@ -84,12 +84,12 @@ whole_text s at text u t = (there, back)
     back : IsUtf8 text → BeginsChar (slice_index s at)
     back utf8 = begins_with_char s at text t utf8
 
--- ---- a text by its first character and the rest
+-- ---- a string by its first character and the rest
 
 pub through : {A B C : Type 0} → A ↔ B → B ↔ C → A ↔ C
 through p q = (λ a. q.0 (p.0 a), λ k. p.1 (q.1 k))
 
--- a text that isn't empty reaches as far as the next place where a character may begin
+-- a string that isn't empty reaches as far as the next offset at which a character may begin
 reaches : (s : List ℕ) (at next : ℕ) (rest : Bool) (text : List ℕ) → IsNextChar s at next rest → slice_index s at ≢ 0 → TextAt s at text → next - at ≤ length text
 reaches s at next rest text is some t = elim (cases_lt (length text) (next - at)) [
   | inr far ↦ far
@@ -104,11 +104,11 @@ reaches s at next rest text is some t = elim (cases_lt (length text) (next - at)
       ]
 ]
 
--- the bytes before the next place are the front of the text
+-- the bytes before the next offset are a prefix of the string
 front_of_text : (s : List ℕ) (at n : ℕ) (text : List ℕ) → TextAt s at text → n ≤ length text → take n (drop at s) ≡ take n text
 front_of_text s at n text t low = ap (λ (x : List ℕ). take n x) (text_after s at text t) ∙ take-append-le n text (0 ∷ t.after) low
 
--- the text may be cut there
+-- the string may be cut there
 edge_of_text : (s : List ℕ) (at next : ℕ) (rest : Bool) (text : List ℕ) → IsNextChar s at next rest → next < length s → TextAt s at text → next - at ≤ length text → IsCharBoundary text (next - at)
 edge_of_text s at next rest text is inside t low = (
   low,
@@ -120,7 +120,7 @@ edge_of_text s at next rest text is inside t low = (
       rw (← here) (is.begins inside (rw here high)),
 )
 
--- it is UTF-8 exactly where its front up to there is, and the rest
+-- it is UTF-8 if and only if its prefix up to there is, and the rest
 pub front_and_rest : (s : List ℕ) (at next : ℕ) (rest : Bool) (text : List ℕ) → IsNextChar s at next rest → next < length s → slice_index s at ≢ 0 → TextAt s at text
     → (IsUtf8 (take (next - at) (drop at s)) × (rest ≡ true)) ↔ IsUtf8 text
 front_and_rest s at next rest text is inside some t =
@@ -137,7 +137,7 @@ front_and_rest s at next rest text is inside some t =
       λ utf8. (subst (λ (x : List ℕ). IsUtf8 x) (sym front) (IsUtf8-take text n utf8 edge), goes_on.1 (IsUtf8-drop text n utf8 edge)),
     )
 
--- a call that is Ok exactly where bytes are UTF-8
+-- a call that returns Ok if and only if bytes are UTF-8
 pub ok_where : {X E P : Type 0} (A : X → Type 0) (r : Result X E) → MatchResult r (λ x. A x × P) (λ _. ¬ P) → (is_ok r ≡ true) ↔ P
 ok_where A (Ok x) known = (λ ok. known.1, λ p. refl)
 ok_where A (Err e) known = (λ ok. absurd cc, λ p. absurd (known p))

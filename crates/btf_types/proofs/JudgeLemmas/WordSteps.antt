@@ -7,14 +7,14 @@ use Rattle.btf_types.specs.Sections.{SectionWords}
 use Rattle.btf_types.specs.judge.RecordFaults.{FaultInWord, NoneWithin, IsFirstWithin, FirstWithin, IsFaultlessIn, IsLeastIn}
 
 module _ (s : SectionWords) (f : List ℕ) where
-  -- words in a row
+  -- consecutive ranges of words
   pub none_through : (from mid to : ℕ) → NoneWithin s f from mid → NoneWithin s f mid to → NoneWithin s f from to
   none_through from mid to before after j d past low fault = elim (cases_lt j mid) [
     | inl lt ↦ before j d past lt fault
     | inr le ↦ after j d le low fault
   ]
 
-  -- the first word with a fault, where the words before have none
+  -- the first word with a fault, if the words before it have none
   pub first_after : (from mid end to word : ℕ) (c : BtfCause) → from ≤ mid → end ≤ to → NoneWithin s f from mid
       → IsFirstWithin s f mid end word c → IsFirstWithin s f from to word c
   first_after from mid end to word c low room before first = record {

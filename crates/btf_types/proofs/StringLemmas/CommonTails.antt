@@ -1,4 +1,4 @@
--- Common suffixes determine which texts end with which, and so the hosts among texts sorted by reversed bytes.
+-- Common suffixes determine which strings are suffixes of which, and therefore the hosts among strings sorted by reversed bytes.
 use Rattle.std.proofs.Common.{◌≡◌, ℕ, zero, suc, ◌+◌, ◌-◌, ◌<◌, ◌≤◌, true, false, eqb, inl, inr, List, [], ◌∷◌, ◌++◌, length, get_or, refl, sym, ap, ◌∙◌, subst, arith}
 use Rattle.std.specs.Prelude.{reverse}
 use Rattle.std.specs.Ordering.{is_lt}
@@ -87,7 +87,7 @@ Ends-common x y z e f =
     ap (λ (t : List ℕ). common_front t (reverse z)) b.1 ∙ ap (common_front (reverse x ++ b.0)) c.1 in
     omega (arith, begins_common (reverse x) b.0 c.0, length-reverse x, same)
 
--- a text ends another exactly where all of it is common to both
+-- a string is a suffix of another if and only if all of it is common to both
 pub record SuffixByTail (x y : List ℕ) : Type 0 where
   pub whole : is_suffix x y ≡ true → common_tail x y ≡ length x
   pub suffix : length x ≤ common_tail x y → is_suffix x y ≡ true
@@ -98,7 +98,7 @@ suffix_by_tail x y = record {
   suffix = λ h. suffix_from_Ends x y (Ends-through x x y (Ends-refl x) h);
 }
 
--- no text is below itself, nor one that it ends
+-- no string is less than itself, or than one of its suffixes
 lt_itself : (x : List ℕ) → tail_lt x x ≡ false
 lt_itself x = ap is_lt (tied_itself tail_total x)
 
@@ -118,7 +118,7 @@ module _ (sorted : List (List ℕ)) (in_order : IsSorted tail_cmp sorted) where
       (tail_ranks.chain (at j) (at i) x (sorted_far tail_lt tail_ranks sorted in_order i j [] low (omega (arith, high, inside))) (Ends-not_below x (at i) e))
       (sorted_far tail_lt tail_ranks sorted in_order j k [] high inside)
 
-  -- from a rank whose text ends with x back to the first such rank
+  -- from a rank whose string ends with x back to the first such rank
   ends_down : (x : List ℕ) (n l k : ℕ) → n + l ≡ k → Ends x (at k) → ((j : ℕ) → l < j → j ≤ k → length x ≤ common_tail (at (j - 1)) (at j)) → Ends x (at l)
   ends_down x zero l k e f c = subst (λ (m : ℕ). Ends x (at m)) (let same : k ≡ l = omega (arith, e) in same) f
   ends_down x (suc n) l k e f c =
@@ -138,13 +138,13 @@ module _ (sorted : List (List ℕ)) (in_order : IsSorted tail_cmp sorted) where
         absurd (omega (arith, Ends-common x (at (l - 1)) (at l) before here, f.less (omega (arith, m))))
   ]
 
-  -- the texts that are passed on the way to the next host all end it
+  -- the strings that are passed on the way to the next host are all suffixes of it
   passed_end : (n j l r : ℕ) → n + j ≡ r → l ≤ j → ((i : ℕ) → l ≤ i → i < r → is_suffix (at i) (at (i + 1)) ≡ true) → Ends (at j) (at r)
   passed_end zero j l r e low p = subst (λ (m : ℕ). Ends (at j) (at m)) (let same : j ≡ r = omega (arith, e) in same) (Ends-refl (at j))
   passed_end (suc n) j l r e low p =
       Ends-trans (at j) (at (j + 1)) (at r) (Ends-from_suffix _ _ (p j low (omega (arith, e)))) (passed_end n (j + 1) l r (omega (arith, e)) (omega (arith, low)) p)
 
-  -- a text comes before the longer texts that it ends
+  -- a string precedes the longer strings that end with it
   later : (k j : ℕ) → k < length sorted → Ends (at k) (at j) → length (at k) < length (at j) → k < j
   later k j h e l = elim (cases_lt k j) [
     | inl m ↦ m
@@ -160,7 +160,7 @@ module _ (ks sorted : List (List ℕ)) (order : AreInTailOrder ks sorted) where
   member : (k : ℕ) → k < length sorted → Has ks (get_or sorted k [])
   member k h = Has-from_Contains ks _ (order.members.there _ (Contains-from_Has sorted _ (Has-get_or sorted k [] h)))
 
-  -- a text that doesn't end the next one is a host
+  -- a string that isn't a suffix of the next one is a host
   pub rank_is_host : (l r : ℕ) → IsNextHost sorted l r → Has (hosts_of ks) (get_or sorted r [])
   rank_is_host l r next = host_from ks (get_or sorted r []) (member r next.inside) (λ z i t.
       let p = Ends-from_proper (get_or sorted r []) z t in

@@ -1,4 +1,4 @@
--- The hosts among a list of texts, and the host of each.
+-- The hosts among a list of strings, and the host of each.
 use Rattle.std.proofs.Common.{◌≡◌, ◌≢◌, ℕ, zero, suc, ◌+◌, ◌<◌, Bool, true, false, not, inl, inr, List, [], ◌∷◌, length, get_or, sym, ap, ◌∙◌, subst, arith}
 use Rattle.std.specs.Ordering.{is_lt}
 use Rattle.std.specs.Prelude.{reverse}
@@ -24,7 +24,7 @@ tail_lt x y = is_lt (tail_cmp x y)
 pub tail_ranks : IsStrictWeakOrder tail_lt
 tail_ranks = ranks_by tail_total (λ x. x)
 
--- a host is a text that no other text ends with
+-- a host is a string that no other string ends with
 pub host_ends_none : (ks : List (List ℕ)) (h z : List ℕ) → Has (hosts_of ks) h → Has ks z → is_proper_suffix h z ≡ true → ⊥
 host_ends_none ks h z i k t =
     let passes = (Has-from_filter (λ x. not (list_any (is_proper_suffix x) ks)) ks h i).1 in
@@ -33,7 +33,7 @@ host_ends_none ks h z i k t =
 pub host_member : (ks : List (List ℕ)) (h : List ℕ) → Has (hosts_of ks) h → Has ks h
 host_member ks h i = (Has-from_filter (λ x. not (list_any (is_proper_suffix x) ks)) ks h i).0
 
--- two hosts that end one text are one
+-- a string ends with at most one host
 pub hosts_apart : (ks : List (List ℕ)) (h g s : List ℕ) → Has (hosts_of ks) h → Has (hosts_of ks) g → Ends h s → Ends g s → h ≡ g
 hosts_apart ks h g s i j e f = elim (cases_lt (length h) (length g)) [
   | inl l ↦ absurd (host_ends_none ks h g i (host_member ks g j) (proper_from_Ends h g (Ends-shorter h g s e f (omega (arith, l))) (λ q. omega (arith, l, ap length q))))
@@ -43,7 +43,7 @@ hosts_apart ks h g s i j e f = elim (cases_lt (length h) (length g)) [
   ]
 ]
 
--- each text ends some host: the longest that it ends
+-- each string is a suffix of some host: the longest string that ends with it
 some_host : (ks : List (List ℕ)) (n : ℕ) (x : List ℕ) → Has ks x → sum_by length ks < length x + n → (h : List ℕ) × Has (hosts_of ks) h × Ends x h
 some_host ks zero x i b =
     let c = Contains-from_Has ks x i in
@@ -57,7 +57,7 @@ some_host ks (suc n) x i b = elim (cases_Bool (list_any (is_proper_suffix x) ks)
       (h.0, h.1, Ends-trans x z.0 h.0 e.0 h.2)
 ]
 
--- the least of some texts is one of them, and none is below it
+-- the least of several strings is one of them, and none is less than it
 pub least_is : (hs : List (List ℕ)) (g : List ℕ) → Has hs g → Has hs (least_by_tail hs) × ((z : List ℕ) → Has hs z → tail_lt z (least_by_tail hs) ≡ false)
 least_is [] g i = absurd i
 least_is (y ∷ ys) g i =
@@ -70,7 +70,7 @@ least_is (y ∷ ys) g i =
           ap (λ (a : List ℕ). tail_lt a (best_of tail_lt y ys)) (sym at) ∙ ap (λ (b : List ℕ). tail_lt (get_or (y ∷ ys) c.0 y) b) (sym first.2) ∙ best.1 c.0 y c.1,
     )
 
--- the host of a text: a host that ends with it, and no such host is below it
+-- the host of a string: a host that ends with it, such that no lesser host does
 pub record IsHostOf (ks : List (List ℕ)) (x h : List ℕ) : Type 0 where
   pub host : Has (hosts_of ks) h
   pub ends : Ends x h
@@ -88,7 +88,7 @@ host_is ks x i =
       least = λ g j e. least.1 g (Has-filter (is_suffix x) (hosts_of ks) g j (suffix_from_Ends x g e));
     }
 
--- a text that no other text ends with is its own host
+-- a string that no other string ends with is its own host
 pub own_host_of : (ks : List (List ℕ)) (x : List ℕ) → Has ks x → list_any (is_proper_suffix x) ks ≡ false → host_in (hosts_of ks) x ≡ x
 own_host_of ks x i none =
     let its = host_is ks x i in
@@ -98,7 +98,7 @@ own_host_of ks x i none =
       | inr f ↦ absurd (both_ways (list_any (is_proper_suffix x) ks) none (any_from_Has (is_proper_suffix x) ks h (host_member ks h its.host) (proper_from_Ends x h its.ends (λ e. both_ways (bytes_eq x h) f (ap (bytes_eq x) (sym e) ∙ bytes_eq-same x)))))
     ]
 
--- and only such a text is
+-- and only such a string is its own host
 pub host_differs : (ks : List (List ℕ)) (x : List ℕ) → Has ks x → list_any (is_proper_suffix x) ks ≡ true → host_in (hosts_of ks) x ≢ x
 host_differs ks x i t e =
     let passes = (Has-from_filter (λ y. not (list_any (is_proper_suffix y) ks)) ks _ (host_is ks x i).host).1 in

@@ -1,4 +1,4 @@
--- The ends of long texts are found block by block, and each end is found among them.
+-- The ends of long strings are found block by block, and each end is found among them.
 use Rattle.std.proofs.Common.{◌≡◌, ◌≢◌, ℕ, zero, suc, ◌+◌, ◌-◌, ◌<◌, ◌≤◌, true, false, List, [], ◌∷◌, ◌++◌, length, get_or, take, drop, sym, ap, subst, ◌∙◌, inl, inr, arith, length-append}
 use Rattle.std.specs.List.{AllWithin}
 use Rattle.std.specs.Prelude.{◌⊎◌, nat_lt, min, slice_index}
@@ -12,7 +12,7 @@ use Rattle.btf_raw.specs.Names.{IsEnd, TextAt}
 use Rattle.btf_raw.proofs.Texts.{TextAt-end, TextAt-unique}
 use Rattle.btf_types.specs.tables.StringEnds.{IsAmong, AreLongEndsTo, AreLongEnds}
 
--- at most 64 bytes before a place is a NUL, or the first byte of the section
+-- at most 64 bytes before an offset is a NUL, or the first byte of the section
 abbrev pub HasNulNear : List ℕ → ℕ → Type 0
 HasNulNear strings at = (at ≡ 0) ⊎ ((z : ℕ) × (z < at) × (at ≤ z + 64) × (slice_index strings z ≡ 0))
 
@@ -24,7 +24,7 @@ none_yet strings = record {
   each = λ offset end low h i. absurd (omega (arith, low));
 }
 
--- no text of 128 bytes ends within 64 bytes of a NUL
+-- no string of 128 bytes ends within 64 bytes of a NUL
 near : (strings : List ℕ) (at offset end : ℕ) → HasNulNear strings at → end < at + 64 → IsEnd strings offset end → offset + 128 ≤ end → end < at
 near strings at offset end (inl e) h is long = absurd (omega arith)
 near strings at offset end (inr (z, below, within, nul)) h is long =
@@ -33,7 +33,7 @@ near strings at offset end (inr (z, below, within, nul)) h is long =
       | inr le ↦ omega arith
     ]
 
--- so none is missed where a block has a NUL, or where the section ends
+-- therefore none is missed if a block has a NUL, or if the section ends
 pub more_bytes : (strings ends : List ℕ) (at to : ℕ) → AreLongEndsTo strings ends at → HasNulNear strings at → at ≤ to → to ≤ at + 64 → AreLongEndsTo strings ends to
 more_bytes strings ends at to are gap low high = record {
   inside = λ k h. let i = are.inside k h in omega arith;
@@ -70,7 +70,7 @@ rising_more strings ends at end are le j k jk h =
 among_more : (ends : List ℕ) (end x : ℕ) → IsAmong ends x → IsAmong (ends ++ end ∷ []) x
 among_more ends end x (k, lt, e) = (k, omega (arith, length-append ends (end ∷ [])), get_or-append ends (end ∷ []) 0 k lt ∙ e)
 
--- the next NUL after a place is one end more
+-- the next NUL after an offset is one end more
 pub one_end_more : (strings ends : List ℕ) (at end : ℕ) → AreLongEndsTo strings ends at → HasNulNear strings at → IsEnd strings at end → AreLongEndsTo strings (ends ++ end ∷ []) (end + 1)
 one_end_more strings ends at end are gap is = record {
   inside = one_more ends end (λ x. x < end + 1) (λ k h. let i = are.inside k h in omega (arith, is.from)) (omega arith);
@@ -91,7 +91,7 @@ one_end_more strings ends at end are gap is = record {
 pub nul_after : (strings : List ℕ) (at end : ℕ) → IsEnd strings at end → HasNulNear strings (end + 1)
 nul_after strings at end is = inr (end, omega arith, omega arith, is.nul)
 
--- where the next bytes have no NUL, the first of the ends from the offset on is the end
+-- if the next bytes contain no NUL, the first of the ends from the offset on is the end
 pub end_among : (strings ends : List ℕ) (offset end k : ℕ) → AreLongEnds strings ends → IsEnd strings offset end → offset + 128 ≤ end
     → AllWithin (λ x. x < offset) ends 0 k → AllWithin (λ x. offset ≤ x) ends k (length ends) → (k < length ends) × (get_or ends k 0 ≡ end)
 end_among strings ends offset end k are is long passed left =
@@ -135,7 +135,7 @@ none_in_part strings off to inside none i high low e =
     let part : i - off < length (take (to - off) (drop off strings)) = omega (arith, length-take (to - off) (drop off strings), length-drop off strings) in
     none (i - off) part (part_byte strings off (to - off) (i - off) (omega arith) ∙ ap (λ (j : ℕ). get_or strings j 0) same ∙ e)
 
--- each text of a section with NUL ends has an end
+-- each string of a section with NUL ends has an end
 end_before : (strings : List ℕ) (n offset last : ℕ) → offset + n ≡ last → last < length strings → get_or strings last 0 ≡ 0 → (end : ℕ) × IsEnd strings offset end
 end_before strings zero offset last e h nul =
     let same : offset ≡ last = omega arith in
@@ -161,7 +161,7 @@ end_before strings (suc n) offset last e h nul =
       | inr none ↦ (offset, record { from = omega arith; inside = omega arith; nul = omega arith; before = λ i low high is. omega arith })
     ]
 
--- where the next 128 bytes have no NUL, the first of the ends from the offset on is the end
+-- if the next 128 bytes contain no NUL, the first of the ends from the offset on is the end
 pub found_among : (strings ends : List ℕ) (offset near k : ℕ) → HasNulEnds strings → offset < length strings → AreLongEnds strings ends
     → near ≡ min (length strings) (offset + 128) → ((i : ℕ) → offset ≤ i → i < near → get_or strings i 0 ≢ 0)
     → AllWithin (λ x. nat_lt x offset ≡ true) ends 0 k → AllWithin (λ x. nat_lt x offset ≡ false) ends k (length ends)
@@ -187,6 +187,6 @@ ends_part strings ends offset i j d are low high h =
     let below = ltb-true _ _ h in
     lt-ltb _ _ (omega arith)
 
--- the bytes up to the end are the text
+-- the bytes up to the end are the string
 pub text_to_end : (strings : List ℕ) (offset end : ℕ) (text : List ℕ) → TextAt strings offset text → IsEnd strings offset end → take (end - offset) (drop offset strings) ≡ text
 text_to_end strings offset end text there is = TextAt-unique strings offset (take (end - offset) (drop offset strings)) text (TextAt-end strings offset end is) there

@@ -1,4 +1,4 @@
--- The hosts of texts are those of the longest of them: each text ends one of these.
+-- The hosts of strings are those of the longest of them: each string is a suffix of one of these.
 use Rattle.std.proofs.Common.{◌≡◌, ℕ, ◌<◌, Bool, true, false, not, inl, inr, List, [], ◌∷◌, length, refl, sym, ap, ◌∙◌, subst, arith}
 use Rattle.std.specs.List.{filter, list_any}
 use Rattle.std.specs.Str.{bytes_eq}

@@ -1,4 +1,4 @@
--- The texts sorted by reversed bytes: whether a text ends another depends on the next one alone.
+-- Strings sorted by reversed bytes: whether a string is a suffix of another depends only on the next one.
 use Rattle.std.proofs.Common.{◌≡◌, ◌≢◌, ℕ, ◌+◌, ◌<◌, true, false, inl, inr, List, length, get_or, sym, ap, ◌∙◌, subst, arith}
 use Rattle.std.specs.List.{list_any}
 use Rattle.std.specs.List.Sorted.{IsPermutation, IsSorted}
@@ -13,7 +13,7 @@ use Rattle.btf_types.proofs.StringLemmas.TailOrder.{Ends-between, Ends-below, ta
 use Rattle.btf_types.proofs.StringLemmas.Distinct.{NoRepeats, apart_after}
 
 module _ (ks sorted : List (List ℕ)) (distinct : NoRepeats ks) (perm : IsPermutation ks sorted) (in_order : IsSorted tail_cmp sorted) where
-  -- where a kept name is among the sorted ones
+  -- the rank of a kept name among the sorted ones
   sorted_rank : (z d : List ℕ) → Has ks z → (j : ℕ) × (j < length sorted) × (get_or sorted j d ≡ z)
   sorted_rank z d h =
       let c = Contains-permutation ks sorted z perm (Contains-from_Has ks z h) in
@@ -22,14 +22,14 @@ module _ (ks sorted : List (List ℕ)) (distinct : NoRepeats ks) (perm : IsPermu
   member : (k : ℕ) (d : List ℕ) → k < length sorted → Has ks (get_or sorted k d)
   member k d h = Has-from_Contains ks _ (Contains-permutation sorted ks _ (IsPermutation-sym ks sorted perm) (Contains-from_Has sorted _ (Has-get_or sorted k d h)))
 
-  -- the texts that a text ends properly come after it
+  -- a string precedes the strings of which it is a proper suffix
   later : (k j : ℕ) (d : List ℕ) → k < length sorted → Ends (get_or sorted k d) (get_or sorted j d) → length (get_or sorted k d) < length (get_or sorted j d) → k < j
   later k j d h e l = elim (cases_lt k j) [
     | inl m ↦ m
     | inr m ↦ absurd (both_ways _ (sorted_far tail_lt tail_ranks sorted in_order j k d m h) (Ends-below _ _ e l))
   ]
 
-  -- a text that some text has as a proper suffix is a proper suffix of the next
+  -- a string that is a proper suffix of any other is a proper suffix of the next one
   pub next_ends : (k : ℕ) (d z : List ℕ) → k < length sorted → Has ks z → is_proper_suffix (get_or sorted k d) z ≡ true → (k + 1 < length sorted) × (is_proper_suffix (get_or sorted k d) (get_or sorted (k + 1) d) ≡ true)
   next_ends k d z inside has proper =
       let at = sorted_rank z d has in
@@ -41,7 +41,7 @@ module _ (ks sorted : List (List ℕ)) (distinct : NoRepeats ks) (perm : IsPermu
       let ends = Ends-between x (get_or sorted at.0 d) (get_or sorted (k + 1) d) at_z (in_order k d (omega arith) next) (sorted_far tail_lt tail_ranks sorted in_order (k + 1) at.0 d (omega (arith, l)) at.1) in
       (next, proper_from_Ends x _ ends (apart_after ks sorted distinct perm k (k + 1) d (omega arith) next))
 
-  -- and their hosts are one
+  -- and both have the same host
   pub next_host : (k : ℕ) (d : List ℕ) → k + 1 < length sorted → is_proper_suffix (get_or sorted k d) (get_or sorted (k + 1) d) ≡ true → host_in (hosts_of ks) (get_or sorted k d) ≡ host_in (hosts_of ks) (get_or sorted (k + 1) d)
   next_host k d next proper =
       let x = get_or sorted k d in
@@ -62,7 +62,7 @@ module _ (ks sorted : List (List ℕ)) (distinct : NoRepeats ks) (perm : IsPermu
       let w_ends : Ends w h = Ends-between w g h its.ends w_low g_high in
       tail_tie h g (its.least h mine.host w_ends) g_high
 
-  -- a text that isn't a proper suffix of the next is its own host
+  -- a string that isn't a proper suffix of the next one is its own host
   pub own_host : (k : ℕ) (d : List ℕ) → k < length sorted → (k + 1 < length sorted → is_proper_suffix (get_or sorted k d) (get_or sorted (k + 1) d) ≡ false) → host_in (hosts_of ks) (get_or sorted k d) ≡ get_or sorted k d
   own_host k d inside differs =
       let x = get_or sorted k d in

@@ -1,4 +1,4 @@
--- A section cut after each NUL: each text in it ends one of its strings, and texts that end different strings take no more room.
+-- A section cut after each NUL: each string in it is a suffix of one of its pieces, and suffixes of different pieces aren't longer in total.
 use Rattle.std.proofs.Common.{◌≡◌, ◌≢◌, ℕ, zero, suc, ◌+◌, ◌≤◌, Bool, not, inl, inr, List, [], ◌∷◌, ◌++◌, length, refl, sym, ap, ◌∙◌, subst, arith, append_assoc}
 use Rattle.std.specs.List.{filter, flat_map, All}
 use Rattle.std.proofs.lemmas.Bool.{both_ways, not-true, cases_Bool, cases_lt, cases_eq, cond-true, cond-false}
@@ -15,7 +15,7 @@ use Rattle.btf_types.proofs.StringLemmas.Distinct.{NoRepeats, NoRepeats-filter}
 abbrev pub texts : List (List ℕ) → List ℕ
 texts ks = flat_map with_nul ks
 
--- two texts without NUL, each followed by NUL, that begin one list are one
+-- two strings without NUL, each followed by NUL, that begin the same list are equal
 nul_same : (m x f a : List ℕ) → IsWithoutNul m → IsWithoutNul x → m ++ 0 ∷ f ≡ x ++ 0 ∷ a → m ≡ x
 nul_same [] [] f a n o e = refl
 nul_same [] (b ∷ x) f a n o e = absurd (let z : 0 ≡ b = cc in o zero (omega arith) (sym z))
@@ -26,7 +26,7 @@ nul_same (b ∷ m) (c ∷ x) f a n o e =
     let i = nul_same m x f a (λ k h z. n (suc k) (omega (arith, h)) z) (λ k h z. o (suc k) (omega (arith, h)) z) tails in
     cc
 
--- a text in the strings' bytes ends one of the strings
+-- a string in the bytes of the pieces is a suffix of one of the pieces
 pub ends_string : (ss : List (List ℕ)) (before x after : List ℕ) → All IsWithoutNul ss → IsWithoutNul x → before ++ x ++ 0 ∷ after ≡ texts ss → (s : List ℕ) × Has ss s × Ends x s
 ends_string [] before x after ns n e = absurd (omega (arith, ap length e, length-append (before ++ x) (0 ∷ after)))
 ends_string (s ∷ ss) before x after ns n e =
@@ -74,7 +74,7 @@ cut (b ∷ s) = elim (cases_eq b 0) [
   | inr n ↦ before_last b s n (cut s)
 ]
 
--- the texts that pass a test and the other ones make up the whole
+-- the strings that pass a test and the others make up all of them
 parted : (p : List ℕ → Bool) (hs : List (List ℕ)) → length (texts hs) ≡ length (texts (filter p hs)) + length (texts (filter (λ h. not (p h)) hs))
 parted p [] = refl
 parted p (h ∷ hs) =
@@ -95,13 +95,13 @@ parted p (h ∷ hs) =
 pub fewer : (p : List ℕ → Bool) (hs : List (List ℕ)) → length (texts (filter p hs)) ≤ length (texts hs)
 fewer p hs = omega (arith, parted p hs)
 
--- the room of at most one text
+-- the length of at most one string
 one_room : (hs : List (List ℕ)) (n : ℕ) → NoRepeats hs → ((h g : List ℕ) → Has hs h → Has hs g → h ≡ g) → ((h : List ℕ) → Has hs h → length h ≤ n) → length (texts hs) ≤ n + 1
 one_room [] n distinct same below = omega arith
 one_room (h ∷ []) n distinct same below = omega (arith, below h (inl refl), length-append (with_nul h) [], length-append h (0 ∷ []))
 one_room (h ∷ g ∷ hs) n (alone, rest) same below = absurd (alone (inl (same g h (inr (inl refl)) (inl refl))))
 
--- Hosts that each end one of the strings, no two the same, take no more room than the strings.
+-- Distinct hosts, each a suffix of one of the strings, aren't longer in total than the strings.
 pub fits : (ss hs : List (List ℕ)) → NoRepeats hs → ((h g s : List ℕ) → Has hs h → Has hs g → Ends h s → Ends g s → h ≡ g) → ((h : List ℕ) → Has hs h → (s : List ℕ) × Has ss s × Ends h s) → length (texts hs) ≤ length (texts ss)
 fits [] [] n apart ends = omega arith
 fits [] (h ∷ hs) n apart ends = absurd (ends h (inl refl)).1

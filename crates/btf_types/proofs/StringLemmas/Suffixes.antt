@@ -1,4 +1,4 @@
--- Suffixes as fronts, and which texts end one text.
+-- Suffixes as lists after a prefix, and which strings are suffixes of the same string.
 use Rattle.std.proofs.Common.{◌≡◌, ◌≢◌, ℕ, ◌-◌, ◌<◌, ◌≤◌, true, not, inl, inr, List, [], ◌∷◌, ◌++◌, length, take, refl, sym, ap, ◌∙◌, arith, append_assoc}
 use Rattle.std.specs.Str.{bytes_eq}
 use Rattle.std.proofs.lemmas.Bool.{and_parts, and_from, both_ways, not-true, cases_Bool, cases_lt}
@@ -27,7 +27,7 @@ Ends-trans x y z (f, e) (g, i) = (g ++ f, i ∙ ap (λ (t : List ℕ). g ++ t) e
 pub Ends-length : (x y : List ℕ) → Ends x y → length x ≤ length y
 Ends-length x y (f, e) = omega (arith, length-append f x, ap length e)
 
--- two ways to end a list: the longer front holds the shorter
+-- two ways to split a list: the longer prefix begins with the shorter
 pub split_ends : (f g x y : List ℕ) → f ++ x ≡ g ++ y → length g ≤ length f → (m : List ℕ) × (f ≡ g ++ m) × (m ++ x ≡ y)
 split_ends f [] x y e h = (f, refl, e)
 split_ends [] (b ∷ g) x y e h = absurd (omega (arith, h))
@@ -37,7 +37,7 @@ split_ends (a ∷ f) (b ∷ g) x y e h =
     let i = split_ends f g x y tails (omega (arith, h)) in
     (i.0, cc, i.2)
 
--- of two texts that end one text, the shorter ends the longer
+-- if two strings are suffixes of the same string, the shorter is a suffix of the longer
 pub Ends-shorter : (x y z : List ℕ) → Ends x z → Ends y z → length x ≤ length y → Ends x y
 Ends-shorter x y z (f, e) (g, i) h =
     let s = split_ends f g x y (sym e ∙ i) (omega (arith, h, length-append f x, length-append g y, ap length e, ap length i)) in

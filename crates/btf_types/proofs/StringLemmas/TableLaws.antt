@@ -1,4 +1,4 @@
--- The laws of the string tables, from the lemmas beside this file.
+-- The laws of the string tables, from the lemmas in this folder.
 use Rattle.std.proofs.Common.{◌≡◌, ℕ, zero, suc, ◌+◌, ◌-◌, ◌≤◌, inl, inr, List, [], ◌∷◌, ◌++◌, length, get_or, take, drop, refl, sym, ap, ◌∙◌, subst, arith, append_assoc, take-append-drop}
 use Rattle.std.proofs.Math.Seq.{drop-cons}
 use Rattle.std.specs.Prelude.{Some, slice_get}
@@ -22,7 +22,7 @@ use Rattle.btf_types.proofs.StringLemmas.Distinct.{NoRepeats-filter, NoRepeats-k
 use Rattle.btf_types.proofs.StringLemmas.Neighbours.{next_ends, next_host}
 use Rattle.btf_types.proofs.StringLemmas.Sections.{texts, ends_string, cut, fits}
 
--- the place of a text at the end of its host
+-- the offset of a string at the end of its host
 shared_place_holds : (xs : List (List ℕ)) (x : List ℕ) → ((z : List ℕ) → Has xs z → IsWithoutNul z) → Has xs x → TextAt (shared_table xs) (shared_place xs x) x
 shared_place_holds xs [] n h = empty_at_zero (hosts xs)
 shared_place_holds xs (b ∷ bytes) n h =

@@ -1,4 +1,4 @@
--- The order of texts by their bytes from the end: what lies between a text and one that ends with it ends with it too.
+-- The order of strings by their reversed bytes: what is between a string and one that ends with it ends with it too.
 use Rattle.std.proofs.Common.{◌≡◌, ℕ, ◌<◌, true, false, inl, inr, List, [], ◌∷◌, ◌++◌, length, refl, sym, ap, ◌∙◌, arith}
 use Rattle.std.specs.Prelude.{reverse, nat_lt}
 use Rattle.std.specs.Ordering.{is_lt, nat_cmp, ordering_then, ordering_reverse}
@@ -50,13 +50,13 @@ Ends-between x z w (front, e) low high =
     let i = between (reverse x) (reverse front) (reverse w) low (ap (λ (t : List ℕ). is_lt (slice_cmp nat_cmp t (reverse w))) (sym turned) ∙ high) in
     (reverse i.0, sym (reverse-reverse w) ∙ ap reverse i.1 ∙ reverse-append (reverse x) i.0 ∙ ap (λ (t : List ℕ). reverse i.0 ++ t) (reverse-reverse x))
 
--- a text comes before the longer ones that end with it
+-- a string precedes the longer ones that end with it
 pub Ends-below : (x z : List ℕ) → Ends x z → length x < length z → tail_lt x z ≡ true
 Ends-below x z ([], e) h = absurd (omega (arith, h, ap length e))
 Ends-below x z (b ∷ front, e) h =
     let turned : reverse z ≡ reverse x ++ reverse (b ∷ front) = ap reverse e ∙ reverse-append (b ∷ front) x in
     ap (λ (t : List ℕ). is_lt (slice_cmp nat_cmp (reverse x) t)) turned ∙ begins_below (reverse x) (reverse (b ∷ front)) (omega (arith, length-reverse (b ∷ front)))
 
--- texts that tie are one
+-- strings that compare as equal are equal
 pub tail_tie : (x y : List ℕ) → tail_lt x y ≡ false → tail_lt y x ≡ false → x ≡ y
 tail_tie x y h k = sym (reverse-reverse x) ∙ ap reverse (exact_bytes (reverse x) (reverse y) (tie (tail_cmp x y) (tail_cmp y x) (tail_total.antisymm x y) h k)) ∙ reverse-reverse y

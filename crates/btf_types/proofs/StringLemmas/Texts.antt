@@ -1,4 +1,4 @@
--- Texts and their NUL, equal texts, and the table of a list of texts.
+-- Strings and their NUL, equal strings, and the table of a list of strings.
 use Rattle.std.proofs.Common.{◌≡◌, ℕ, suc, ◌+◌, ◌<◌, Bool, true, not, inl, inr, List, [], ◌∷◌, ◌++◌, length, get_or, refl, sym, ap, ◌∙◌, arith, append_assoc}
 use Rattle.std.specs.List.{flat_map, position_or_len, before_first, after_first}
 use Rattle.std.specs.Str.{bytes_eq}
@@ -17,7 +17,7 @@ same_text x y = (bytes_eq-Decides x y).0
 pub bytes_eq-same : (x : List ℕ) → bytes_eq x x ≡ true
 bytes_eq-same x = (bytes_eq-Decides x x).1 refl
 
--- the first place at which a test passes lies within, and it passes there
+-- the first index at which a test passes is within the list, and the test passes there
 pub position_below : {X : Type 0} (p : X → Bool) (xs : List X) (x : X) → Has xs x → p x ≡ true → position_or_len p xs < length xs
 position_below p [] x h t = absurd h
 position_below p (y ∷ ys) x (inl e) t = rw (cond-false (not (p y)) (1 + position_or_len p ys) 0 (not_from_true (p y) (ap p e ∙ t))) (omega arith)
@@ -32,7 +32,7 @@ table_middle hs y ts =
     ∙ ap (λ (t : List ℕ). flat_map with_nul hs ++ t) (append_assoc y (0 ∷ []) (flat_map with_nul ts))
     ∙ sym (append_assoc (flat_map with_nul hs) y (0 ∷ flat_map with_nul ts)))
 
--- a text of the list is in its table, after the table of the texts before it
+-- a string of the list is in its table, after the table of the strings before it
 pub table_split : (ks : List (List ℕ)) (x : List ℕ) → Has ks x → table_of ks ≡ table_of (before_first (bytes_eq x) ks) ++ x ++ 0 ∷ flat_map with_nul (after_first (bytes_eq x) ks)
 table_split ks x h =
     let p = bytes_eq x in
@@ -51,7 +51,7 @@ text_at_place ks x h n = record {
   is_there = table_split ks x h;
 }
 
--- the empty text is at the table's first byte
+-- the empty string is at the first byte of the table
 pub empty_at_zero : (ks : List (List ℕ)) → TextAt (table_of ks) 0 []
 empty_at_zero ks = record { without_nul = λ i h e. omega (arith, h); before = []; after = flat_map with_nul ks; place = refl; is_there = refl }
 
@@ -59,7 +59,7 @@ pub IsWithoutNul-suffix : (front x : List ℕ) → IsWithoutNul (front ++ x) →
 IsWithoutNul-suffix [] x n = n
 IsWithoutNul-suffix (b ∷ front) x n = IsWithoutNul-suffix front x (λ i h e. n (suc i) (omega (arith, h)) e)
 
--- a text ends with the texts that are its tails
+-- the suffixes of a string are at the later offsets
 pub tail_at : (section : List ℕ) (offset : ℕ) (front x : List ℕ) → TextAt section offset (front ++ x) → TextAt section (offset + length front) x
 tail_at section offset front x t = record {
   without_nul = IsWithoutNul-suffix front x t.without_nul;
@@ -69,7 +69,7 @@ tail_at section offset front x t = record {
   is_there = t.is_there ∙ ap (λ (s : List ℕ). s ++ 0 ∷ t.after) (sym (append_assoc t.before front x));
 }
 
--- the distinct ones have the same members
+-- the distinct ones have the same elements
 pub Has-distinct : (xs : List (List ℕ)) (x : List ℕ) → Has xs x → Has (distinct xs) x
 Has-distinct [] x h = h
 Has-distinct (y ∷ ys) x (inl e) = inl e

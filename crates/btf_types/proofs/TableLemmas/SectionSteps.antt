@@ -21,7 +21,7 @@ use Rattle.btf_types.specs.tables.SectionParts.{IsSection, words_in}
 abbrev pub nth_frame : Inside → ℕ → List ℕ
 nth_frame s i = frame_of s.file (slice_index s.file.places.now i)
 
--- bytes are four for each word
+-- the section has four bytes for each word
 pub length-section : (o : Order) (fs : List (List ℕ)) → length (section_of o fs) ≡ 4 * length (concat fs)
 length-section o [] = refl
 length-section o (f ∷ fs) = omega (arith, length-append (bytes_of o f) (section_of o fs), length-append f (concat fs), length-bytes_of o f, length-section o fs)
@@ -41,7 +41,7 @@ module _ (s : Inside) (good : IsSection s) (i : ℕ) (there : i < length s.file.
   frame_is : get_or ((words_in s).frames) i [] ≡ nth_frame s i
   frame_is = get_or-map (frame_at s.file.order s.file.types.now) s.file.places.now i 0 [] there
 
-  -- it is there, after the words of the records before it, four bytes each
+  -- it exists, after the words of the records before it, four bytes each
   pub has_frame : HasFrame s.file (slice_index s.file.places.now i)
   has_frame =
       let start = good.framed.starts i there in
@@ -62,7 +62,7 @@ module _ (s : Inside) (good : IsSection s) (i : ℕ) (there : i < length s.file.
   pub facts_get : slice_get (facts_in (words_in s)) i ≡ Some (frame_facts (nth_frame s i))
   facts_get = get-map frame_facts ((words_in s).frames) i [] among ∙ ap (λ (f : List ℕ). Some (frame_facts f)) frame_is
 
--- a frame has three words, and an INT has its own
+-- a frame has at least three words, and that of an INT a fourth
 pub three_words : (f : List ℕ) → IsFrame f → 3 ≤ length f
 three_words f frame = omega (arith, frame.size)
 

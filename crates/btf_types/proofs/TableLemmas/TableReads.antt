@@ -87,7 +87,7 @@ length-records_at o types strings places = length-map (frames_at o types places)
 pub count_there : (strings frame : List ℕ) → length (record_of strings frame).items ≡ item_total frame
 count_there strings frame = length-tabulate (λ i. item_of strings frame (3 + item_words (kind frame) * i)) (item_total frame)
 
--- the record of a table that has this number: where it is, and what is read there
+-- the record of a table with this ID: its offset, and what is read there
 pub record PlacedRecord (s : FileSections) (v : List TypeRecord) (id : ℕ) : Type 0 where
   pub has : HasRecordAt s.order s.types.now s.strings.now (get_or s.places.now (id - 1) 0)
   pub is : record_at v id ≡ record_of s.strings.now (frame_of s (get_or s.places.now (id - 1) 0))

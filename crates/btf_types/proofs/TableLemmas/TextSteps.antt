@@ -1,4 +1,4 @@
--- The text at an offset of a section with NUL ends, and when it is a name.
+-- The string at an offset of a section with NUL ends, and when it is a name.
 use Rattle.std.proofs.Common.{◌≡◌, ◌≢◌, ◌⊎◌, ℕ, zero, suc, ◌-◌, ◌<◌, ◌≤◌, Bool, true, false, List, [], ◌∷◌, ◌++◌, length, get_or, take, drop, refl, sym, ap, subst, ◌∙◌, inl, inr, take-append-drop, append_assoc, arith}
 use Rattle.std.specs.Prelude.{IsUtf8}
 use Rattle.std.specs.Str.{is_utf8}
@@ -53,7 +53,7 @@ pub empty_or_not : (x : List ℕ) → (x ≡ []) ⊎ (x ≢ [])
 empty_or_not [] = inl refl
 empty_or_not (c ∷ x) = inr (λ e. absurd cc)
 
--- an offset within the section has a name if no text there fails to be UTF-8
+-- an offset within the section has a name unless its string isn't UTF-8
 pub name_there : (strings : List ℕ) (offset : ℕ) → HasNulEnds strings → ¬ (length strings ≤ offset) → ((text : List ℕ) → TextAt strings offset text → ¬ ¬ IsUtf8 text)
     → NameAt strings offset (text_from strings offset)
 name_there strings offset ends inside utf8 =

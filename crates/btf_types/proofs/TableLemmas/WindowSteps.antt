@@ -1,4 +1,4 @@
--- Elements that are taken from both ends of a part of a list.
+-- Elements that are removed from both ends of a part of a list.
 use Rattle.std.proofs.Common.{◌≡◌, ℕ, zero, suc, ◌+◌, ◌-◌, ◌<◌, ◌≤◌, List, [], ◌∷◌, ◌++◌, length, take, drop, refl, ap, subst, ◌∙◌, arith, Some}
 use Rattle.std.specs.Prelude.{slice_get, unwrap_or}
 use Rattle.std.proofs.lemmas.List.{length-drop, length-take-le, get_or-take, take_all, drop-append-le, drop_more, drop_all, take_more}
@@ -7,7 +7,7 @@ use Rattle.btf_types.specs.tables.TableWords.{no_record, numbered, record_at}
 use Rattle.btf_types.specs.tables.Windows.{items_of, window}
 use Rattle.btf_types.proofs.TableLemmas.TableWalk.{get_or_is}
 
--- one element from the front
+-- one element from the start
 pub window_first : {X : Type 0} (from to : ℕ) (xs : List X) (x : X) → from < to → to ≤ length xs → slice_get xs from ≡ Some x → window from to xs ≡ x ∷ window (from + 1) to xs
 window_first from to xs x low high is =
     let len = length-take-le to xs high in
@@ -56,7 +56,7 @@ numbered_at v i h =
     let same : 1 + i ≡ i + 1 = omega arith in
     rw (at, ← same) (numbered_get 1 v i h)
 
--- one record of a table from the front, and one from the back
+-- one record of a table from the start, and one from the end
 pub first_numbered : (v : List TypeRecord) (from to : ℕ) → from < to → to ≤ length v
     → window from to (numbered 1 v) ≡ (from + 1, (record_at v (from + 1)).head) ∷ window (from + 1) to (numbered 1 v)
 first_numbered v from to low high =
@@ -83,7 +83,7 @@ in_table [] i k h = absurd (omega (arith, h))
 in_table (r ∷ v) zero k h = omega arith
 in_table (r ∷ v) (suc i) k h = let below = in_table v i k h in omega (arith, below)
 
--- what has an item is a record of the table
+-- an ID that has an item is that of a record of the table
 pub items_there : (v : List TypeRecord) (id k : ℕ) → k < length (items_of v id) → (0 < id) × (id ≤ length v)
 items_there v zero k h = absurd (omega (arith, h))
 items_there v (suc i) k h = let below = in_table v i k h in (omega arith, omega (arith, below))

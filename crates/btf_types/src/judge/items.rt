@@ -15,7 +15,7 @@ use crate::record_words::Record;
 use crate::tables::section::Section;
 use btf_raw::{BtfCause, DATASEC, FUNC_PROTO};
 
-/// The index of the first faulty word of member `k`, counted from 0, of a STRUCT or UNION, and its
+/// The index of the first faulty word of member `k` (from 0) of a STRUCT or UNION, and its
 /// cause. The name, the type and the offset field are checked in this order.
 #[inline(always)]
 fn member_fault(
@@ -65,7 +65,7 @@ pub fn members_fault(section: &Section, this: &Record) -> Option<(usize, BtfCaus
     None
 }
 
-/// The index of the first faulty word of parameter `k`, counted from 0, of a FUNC_PROTO, and its
+/// The index of the first faulty word of parameter `k` (from 0) of a FUNC_PROTO, and its
 /// cause. The name is checked before the type.
 #[inline(always)]
 fn param_fault(section: &Section, this: &Record, k: usize) -> Option<(usize, BtfCause)>

@@ -23,7 +23,7 @@ impl<'a, A: Allocator> BtfView<'a, A> {
         head_of(self.strings, self.places.ends(), &this)
     }
 
-    /// Item `k`, counted from 0, of the record with the ID `id`, which is 1 to
+    /// Item `k` (from 0) of the record with the ID `id`, which is 1 to
     /// [`crate::TypeTable::count`]; `k` is less than [`crate::TypeTable::item_count`]. Unlike that
     /// of [`crate::TypeTable::item`], its name borrows the file and may outlive the view.
     pub fn file_item(&self, id: u32, k: u32) -> Item<'a>

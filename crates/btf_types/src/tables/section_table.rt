@@ -94,7 +94,7 @@ impl<'a> SectionTable<'a> {
         item_count_of(&self.file.record_at(pos))
     }
 
-    /// Item `k`, counted from 0, of the record with the ID `id`, counted from 1.
+    /// Item `k` (from 0) of the record with the ID `id`, counted from 1.
     pub fn item(&self, id: u32, k: u32) -> Item<'a>
         requires first { 0 < id }
         requires last { id ≤ length self.now }

@@ -37,7 +37,7 @@ pub trait TypeTable {
         requires last { id ≤ length (meaning self.now) }
         ensures { result ≡ length (record_at (meaning self.now) id).items };
 
-    /// Item `k`, counted from 0, of the record with the ID `id`. `id` must be 1 to
+    /// Item `k` (from 0) of the record with the ID `id`. `id` must be 1 to
     /// [`TypeTable::count`], and `k` less than [`TypeTable::item_count`].
     fn item(&self, id: u32, k: u32) -> Item<'_>
         requires first { 0 < id }

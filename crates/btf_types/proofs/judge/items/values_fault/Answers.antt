@@ -24,7 +24,7 @@ step_size : (κ step : ℕ) → (item_words κ ≡ 2) ⊎ (item_words κ ≡ 3) 
 step_size κ step (inl e) is = inl (is ∙ e)
 step_size κ step (inr e) is = inr (is ∙ e)
 
--- there are no more values than vlen can say
+-- there are no more values than vlen can count
 record ValueOf (step k : ℕ) (f : List ℕ) : Type 0 where
   among : ValueIn step k (vlen f)
   end : length f ≡ 3 + step * vlen f

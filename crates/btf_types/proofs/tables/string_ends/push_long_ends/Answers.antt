@@ -1,4 +1,4 @@
--- Block by block: a block with a NUL ends no long text; another block is inside one, whose end is noted.
+-- Block by block: if a block has a NUL, no long string ends in it; otherwise it is inside one, whose end is stored.
 use Rattle.std.proofs.Common.{◌+◌, [], ◌∷◌, length, ◌∙◌, inl, inr, refl, arith}
 use Rattle.std.proofs.Math.Seq.{drop-length, take-length}
 use Rattle.std.proofs.lemmas.List.{drop-append-le, take-append-le, length-append}

@@ -1,4 +1,4 @@
--- No NUL is near, so the text is long and its end is one of the kept ones.
+-- No NUL is near, so the string is long and its end is one of the stored ones.
 use Rattle.std.proofs.Common.{rules, of_calls, ℕ, nat_lt}
 use Rattle.std.proofs.lemmas.Fn.{always_returns_same}
 use Rattle.btf_types.proofs.StringLemmas.LongEnds.{found_among, ends_part}

@@ -21,7 +21,7 @@ with_strings b h strings read is ends = strings_judged b h (with_header b h read
 with_frames : (b : List ℕ) (h : Header) (types places : List ℕ) → HasStrings b h → types ≡ types_of b h → IsFramed h.order types places → HasFrames b h places
 with_frames b h types places has is framed = framing_judged b h places has (subst (λ (t : List ℕ). IsFramed h.order t places) is framed)
 
--- the same of lists that are equal to these
+-- likewise for lists that are equal to these
 along : (P : List ℕ → List ℕ → List ℕ → Type 0) (t u s r p q : List ℕ) → t ≡ u → s ≡ r → p ≡ q → P t s p → P u r q
 along P t u s r p q types strings places h =
     subst (λ (x : List ℕ). P u r x) places (subst (λ (x : List ℕ). P u x p) strings (subst (λ (x : List ℕ). P x s p) types h))
