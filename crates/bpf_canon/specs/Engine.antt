@@ -12,16 +12,17 @@ pub record Devices : Type 0 where
   pub sink : Option (List ℕ)
   pub sink_after : Option (List ℕ)
 
+-- the source and the sink before and after a call
 abbrev pub devices : Option (List ℕ) → Option (List ℕ) → Option (List ℕ) → Option (List ℕ) → Devices
 devices source source_after sink sink_after =
     record { source = source; source_after = source_after; sink = sink; sink_after = sink_after }
 
--- the number of failed reads in a call that stopped with this cause
+-- how many reads failed in a call that ended with this cause
 abbrev pub counts_read : {F : Type 0} → RunCause F → ℕ
 counts_read cause.ReadFailed = 1
 counts_read _ = 0
 
--- the number of failed writes in such a call
+-- how many writes failed in it
 abbrev pub counts_write : {F : Type 0} → RunCause F → ℕ
 counts_write cause.WriteFailed = 1
 counts_write _ = 0

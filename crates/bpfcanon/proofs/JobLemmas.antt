@@ -2,15 +2,11 @@
 use Rattle.std.proofs.Common.{◌≡◌, ◌<◌, false, List, [], ℕ, inl, inr, length, refl}
 use Rattle.std.specs.Io.KnownBytes.{Consumes}
 use Rattle.std.proofs.KnownBytes.{Appends-nil}
-use Rattle.bpfcanon.specs.declared.job.Job.{Job}
-use Rattle.bpfcanon.specs.declared.outcome.Outcome.{Outcome}
-use Rattle.bpfcanon.specs.declared.outcome.Outcome.TheVariants.{TooLong}
-use Rattle.bpfcanon.specs.declared.verb.Verb.{Verb}
+use Rattle.bpfcanon.specs.declared.{job.Job.Job, verb.Verb.Verb, outcome.Outcome.Outcome, outcome.Outcome.TheVariants.TooLong}
 use Rattle.bpfcanon.specs.declared.verb.Verb.TheVariants.{InsnCanon, InsnShow, InsnRead, InsnGroups, InsnSame, BtfCanon, BtfShow, BtfCheck, BtfSame}
 use Rattle.bpfcanon.specs.commands.BtfReply as btf
 use Rattle.bpfcanon.specs.commands.Reply.{IsReply, files_too_long, groups_too_long, has_engine, limit_of, show_too_long, streams, text_too_long}
-use Rattle.bpfcanon.specs.Devices.{Change}
-use Rattle.bpfcanon.specs.JobEnds.{EndsJob, no_memory, no_memory_in_pieces, replied, write_failed}
+use Rattle.bpfcanon.specs.{Devices.Change, JobEnds.EndsJob, JobEnds.no_memory, JobEnds.no_memory_in_pieces, JobEnds.replied, JobEnds.write_failed}
 use Rattle.bpfcanon.specs.commands.Pieces.{Answers, IsInput, answered, refused, refused_amid, unwritten}
 
 -- only an engine writes as it reads

@@ -1,17 +1,11 @@
 -- What the fault sink takes of a line.
 use Rattle.std.proofs.Common.{◌≡◌, ◌<◌, ◌+◌, ◌++◌, ◌∙◌, ℕ, List, Option, length, take, drop, sym, ap, subst, inl, inr, arith, get_or, suc, true, drop-cons}
 use Rattle.std.specs.Prelude.{Result, Ok, Err, OnOk, IfErr}
-use Rattle.std.specs.Result.{is_err}
-use Rattle.std.specs.List.{flat_map}
-use Rattle.std.specs.Borrow.{Bor}
-use Rattle.std.specs.Io.KnownBytes.{Appends}
-use Rattle.std.proofs.lemmas.List.{take-append-drop, take-append-le}
-use Rattle.std.proofs.lemmas.List.Concat.{flat_map-append}
-use Rattle.std.proofs.Math.Seq.{take-append-add, take-length}
-use Rattle.std.proofs.KnownBytes.{Appends-trans}
+use Rattle.std.specs.{Result.is_err, Borrow.Bor, List.flat_map, Io.KnownBytes.Appends}
+use Rattle.std.proofs.lemmas.List.{take-append-drop, take-append-le, Concat.flat_map-append}
+use Rattle.std.proofs.{Math.Seq.take-append-add, Math.Seq.take-length, KnownBytes.Appends-trans}
 use Rattle.bpf_canon.specs.device.Device.{CountsFailure}
-use Rattle.bpfcanon.specs.Devices.{change}
-use Rattle.bpfcanon.specs.Outcome.{TookLine}
+use Rattle.bpfcanon.specs.{Devices.change, Outcome.TookLine}
 
 pub took_whole : (a b : Option (List ℕ)) (f g : ℕ) (line : List ℕ) → Appends a b line → g ≡ f → TookLine (change a b f g) line
 took_whole a b f g line h e =

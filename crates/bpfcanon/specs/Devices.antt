@@ -13,11 +13,11 @@ pub record Change : Type 0 where
 abbrev pub change : Option (List ℕ) → Option (List ℕ) → ℕ → ℕ → Change
 change old new failed failed_after = record { old = old; new = new; failed = failed; failed_after = failed_after }
 
--- the change of a source: its bytes are those still to come
+-- the change of a source: its bytes are those that are still unread
 abbrev pub source_change : {S : Type 0} → source.Ghosts S → S → S → Change
 source_change g old new = change (g.remaining old) (g.remaining new) (g.failures old) (g.failures new)
 
--- the change of a sink: its bytes are those that it has taken
+-- the change of a sink: its bytes are those it has received
 abbrev pub sink_change : {W : Type 0} → sink.Ghosts W → W → W → Change
 sink_change g old new = change (g.contents old) (g.contents new) (g.failures old) (g.failures new)
 

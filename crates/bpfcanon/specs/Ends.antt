@@ -1,13 +1,9 @@
 -- The ways in which a command line ends.
 use Rattle.std.specs.Prelude.{◌≡◌, ℕ, List}
 use Rattle.clap.specs.Words.{Text}
-use Rattle.bpfcanon.specs.declared.job.Job.{Job}
-use Rattle.bpfcanon.specs.declared.outcome.Outcome.{Outcome}
-use Rattle.bpfcanon.specs.declared.outcome.Outcome.TheVariants.{Usage, Memory}
-use Rattle.bpfcanon.specs.Devices.{Change, IsUnused}
+use Rattle.bpfcanon.specs.declared.{job.Job.Job, outcome.Outcome.Outcome, outcome.Outcome.TheVariants.Usage, outcome.Outcome.TheVariants.Memory}
+use Rattle.bpfcanon.specs.{Devices.Change, Devices.IsUnused, JobEnds.EndsJob, line.Parse.Asks, line.Parse.IsRefused}
 use Rattle.bpfcanon.specs.Outcome.{TookLine, report_of, status_of}
-use Rattle.bpfcanon.specs.JobEnds.{EndsJob}
-use Rattle.bpfcanon.specs.line.Parse.{Asks, IsRefused}
 
 -- how a command on these words ends
 pub data Ends (words : List Text) (source sink : Change) : Outcome → Type 0 where
@@ -18,7 +14,7 @@ pub data Ends (words : List Text) (source sink : Change) : Outcome → Type 0 wh
   -- the line asks for a job, and this is how the job ended
   ran : (j : Job) (outcome : Outcome) → Asks words j → EndsJob j source sink outcome → Ends words source sink outcome
 
--- a command on these words ends with this status, and the fault sink took the line of its outcome
+-- a command line ends with this status, and the fault sink received the message of its outcome
 abbrev pub EndsWith : List Text → Change → Change → Change → ℕ → Type 0
 EndsWith words source sink faults status =
     (outcome : Outcome) × ((status ≡ status_of outcome) × TookLine faults (report_of outcome) × Ends words source sink outcome)

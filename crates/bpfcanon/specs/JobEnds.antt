@@ -3,10 +3,8 @@ use Rattle.std.specs.Prelude.{◌≡◌, ◌⊎◌, ◌<◌, ◌≤◌, ℕ, Lis
 use Rattle.std.specs.Io.KnownBytes.{Appends, Consumes, IsAtEnd}
 use Rattle.bpf_canon.specs.declared.engine.RunCause.{RunCause}
 use Rattle.bpf_canon.specs.declared.engine.RunCause.TheVariants as cause
-use Rattle.bpfcanon.specs.declared.job.Job.{Job}
-use Rattle.bpfcanon.specs.declared.outcome.Outcome.{Outcome}
-use Rattle.bpfcanon.specs.declared.outcome.Outcome.TheVariants.{TooLong, ReadFailed, WriteFailed, Memory}
-use Rattle.bpfcanon.specs.Devices.{Change, HasFailed, IsHealthy, IsUnused}
+use Rattle.bpfcanon.specs.{declared.job.Job.Job, Devices.Change, Devices.HasFailed, Devices.IsHealthy, Devices.IsUnused}
+use Rattle.bpfcanon.specs.declared.outcome.Outcome.{Outcome, TheVariants.TooLong, TheVariants.ReadFailed, TheVariants.WriteFailed, TheVariants.Memory}
 use Rattle.bpfcanon.specs.commands.Reply.{IsEarly, IsReply, in_pieces, limit_of, streams}
 
 -- how a job ends whose engine stopped; `ends` says it of a fault of the input
@@ -31,7 +29,7 @@ abbrev pub TookPrefix : Job → Change → List ℕ → Type 0
 TookPrefix j sink input = (outcome : Outcome) (output : List ℕ) → IsReply j.verb j (take (limit_of j.verb) input) outcome output
     → (n : ℕ) × Appends sink.old sink.new (take n output)
 
--- how a job ends, by what its source and its sink did; the ends amid the input are those of a command that writes as it reads
+-- the ways in which a job ends, by what its source and its sink did
 pub data EndsJob (j : Job) (source sink : Change) : Outcome → Type 0 where
   -- the sink took the output for what came from the source
   replied : (input : List ℕ) (outcome : Outcome) (output : List ℕ) → IsHealthy source → IsHealthy sink

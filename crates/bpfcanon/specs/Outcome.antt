@@ -12,7 +12,7 @@ use Rattle.bpf_text.specs.insn.LineCauseNames.{line_cause_name}
 use Rattle.btf_raw.specs.BtfCauseNames.{btf_cause_name}
 use Rattle.bpfcanon.specs.Devices.{Change, HasFailed, IsHealthy}
 
--- the status with which the program ends
+-- the exit status of each outcome
 abbrev pub status_of : Outcome → ℕ
 status_of Done = 0
 status_of Different = 1
@@ -47,7 +47,7 @@ btf_fault_line file f = fault_line file f.pos (btf_cause_name f.cause)
 abbrev pub faulty_line : LineFault → List ℕ
 faulty_line f = codes "fault line " ++ (decimal f.line ++ (codes " " ++ (line_cause_name f.cause ++ newline)))
 
--- the line that the fault sink is given, if any
+-- the message that the fault sink is given, if any
 abbrev pub report_of : Outcome → List ℕ
 report_of Done = []
 report_of Different = []
@@ -66,7 +66,7 @@ report_of ReadFailed = codes "read failed" ++ newline
 report_of WriteFailed = codes "write failed" ++ newline
 report_of Memory = codes "no memory" ++ newline
 
--- the fault sink took the line, or its first n bytes where it failed
+-- the fault sink received the message, or a prefix of it and then failed
 pub record TookLine (sink : Change) (line : List ℕ) : Type 0 where
   pub n : ℕ
   pub took : Appends sink.old sink.new (take n line)

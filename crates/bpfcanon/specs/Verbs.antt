@@ -2,13 +2,12 @@
 use Rattle.std.specs.Prelude.{◌≡◌, ℕ, Bool, true, false, List, [], ◌∷◌, codes, filter}
 use Rattle.bpfcanon.specs.declared.verb.Verb.{Verb}
 use Rattle.bpfcanon.specs.declared.verb.Verb.TheVariants.{InsnCanon, InsnShow, InsnRead, InsnGroups, InsnSame, BtfCanon, BtfShow, BtfCheck, BtfSame}
-use Rattle.bpfcanon.specs.declared.verb.Setting.{Setting}
-use Rattle.bpfcanon.specs.declared.verb.Setting.TheVariants.{Order, To, Other, Split}
+use Rattle.bpfcanon.specs.declared.verb.Setting.{Setting, TheVariants.Order, TheVariants.To, TheVariants.Other, TheVariants.Split}
 
 abbrev pub all_verbs : List Verb
 all_verbs = InsnCanon ∷ InsnShow ∷ InsnRead ∷ InsnGroups ∷ InsnSame ∷ BtfCanon ∷ BtfShow ∷ BtfCheck ∷ BtfSame ∷ []
 
--- the word that names a command
+-- the name of a command
 abbrev pub name_of : Verb → List ℕ
 name_of InsnCanon = codes "insn-canon"
 name_of InsnShow = codes "insn-show"
@@ -23,14 +22,14 @@ name_of BtfSame = codes "btf-same"
 abbrev pub all_settings : List Setting
 all_settings = Order ∷ To ∷ Other ∷ Split ∷ []
 
--- the word that names an option, after two dashes
+-- the name of an option, without its two dashes
 abbrev pub setting_name : Setting → List ℕ
 setting_name Order = codes "order"
 setting_name To = codes "to"
 setting_name Other = codes "other"
 setting_name Split = codes "split"
 
--- whether a command takes an option
+-- whether a command accepts an option
 abbrev pub takes_setting : Verb → Setting → Bool
 takes_setting InsnCanon Order = true
 takes_setting InsnCanon To = true

@@ -1,12 +1,8 @@
 -- The instructions of a listing are at most twice as long as it.
 use Rattle.std.proofs.Common.{◌≡◌, ◌≤◌, ◌<◌, ◌+◌, ◌*◌, ℕ, suc, ℤ, pos, Bool, true, false, cond, List, [], ◌∷◌, ◌++◌, inl, inr, None, length, length-append, refl, sym, ap, subst, arith, codes}
-use Rattle.std.specs.List.{AllZip, flat_map, slice_split, onto_first, position_or_len}
-use Rattle.std.specs.Char.{digit_value}
-use Rattle.std.proofs.lemmas.Bool.Decides.{nat_tests}
-use Rattle.std.proofs.lemmas.List.{length-take}
-use Rattle.std.proofs.lemmas.List.Concat.{flat_map-append}
-use Rattle.bpf_words.specs.declared.Order.{Order}
-use Rattle.bpf_words.specs.Slots.{spelled}
+use Rattle.std.specs.{List.AllZip, List.flat_map, List.slice_split, List.onto_first, List.position_or_len, Char.digit_value}
+use Rattle.std.proofs.lemmas.{Bool.Decides.nat_tests, List.length-take, List.Concat.flat_map-append}
+use Rattle.bpf_words.specs.{declared.Order.Order, Slots.spelled}
 use Rattle.bpf_insn.specs.declared.insn.Reg as reg
 use Rattle.bpf_insn.specs.declared.insn.Size.{Size}
 use Rattle.bpf_insn.specs.declared.insn.Size.TheVariants as size
@@ -18,18 +14,14 @@ use Rattle.bpf_insn.specs.declared.insn.MovsxForm.{MovsxForm}
 use Rattle.bpf_insn.specs.declared.insn.MovsxForm.TheVariants as movsx
 use Rattle.bpf_insn.specs.declared.insn.SwapKind.{SwapKind}
 use Rattle.bpf_insn.specs.declared.insn.SwapKind.TheVariants as swap
-use Rattle.bpf_insn.specs.declared.insn.SwapBits.{SwapBits}
-use Rattle.bpf_insn.specs.declared.insn.SwapBits.TheVariants.{B16, B32, B64}
+use Rattle.bpf_insn.specs.declared.insn.SwapBits.{SwapBits, TheVariants.B16, TheVariants.B32, TheVariants.B64}
 use Rattle.bpf_insn.specs.declared.insn.AtomicOp.{AtomicOp}
 use Rattle.bpf_insn.specs.declared.insn.AtomicOp.TheVariants as atomic
-use Rattle.bpf_insn.specs.declared.insn.WideOf.{WideOf}
+use Rattle.bpf_insn.specs.{declared.insn.WideOf.WideOf, declared.insn.Insn.Insn, Table.fields_of, Table.next_imm_of}
 use Rattle.bpf_insn.specs.declared.insn.WideOf.TheVariants.{Number, MapFd, MapValueFd, VarAddr, CodeAddr, MapIdx, MapValueIdx}
-use Rattle.bpf_insn.specs.declared.insn.Insn.{Insn}
 use Rattle.bpf_insn.specs.declared.insn.Insn.TheVariants.{Alu, Movsx, Neg, Swap, Jump, JumpLong, Branch, CallHelper, CallLocal, CallBtf, Exit, Load, LoadSigned, StoreImm, StoreReg, Atomic, Wide, PacketAbs, PacketInd}
-use Rattle.bpf_insn.specs.Table.{fields_of, next_imm_of}
 use Rattle.bpf_insn.specs.Spelling.{file_of, second_slot, spelling}
-use Rattle.bpf_insn.proofs.FaultLemmas.{slot_length}
-use Rattle.bpf_insn.proofs.FileLaws.{at_most_two}
+use Rattle.bpf_insn.proofs.{FaultLemmas.slot_length, FileLaws.at_most_two}
 use Rattle.bpf_text.specs.insn.Operands.{LineOperand, register, number, signed, memory, register_text, SpellsMagnitude, SpellsOperand, SpellsOperands, is_comma}
 use Rattle.bpf_text.specs.insn.Table.{width_suffix, alu_mnemonic, branch_mnemonic, movsx_mnemonic, swap_mnemonic, bits_suffix, size_suffix, small_size_suffix, atomic_mnemonic, wide_mnemonic, mnemonic_text, source_operand, operands_of, wide_operands}
 use Rattle.bpf_text.specs.insn.Tokens.{is_newline, is_comment_mark, is_word_byte, code_of, BeginsWithWordByte, IsTokenBefore, AreTokens}

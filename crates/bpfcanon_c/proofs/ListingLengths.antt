@@ -1,20 +1,13 @@
 -- A listing is at most four times as long as the instructions that it lists.
 use Rattle.std.proofs.Common.{◌≡◌, ◌≤◌, ◌+◌, ◌*◌, ℕ, suc, ℤ, pos, negsuc, List, [], ◌∷◌, ◌++◌, All, length, length-append, ap, arith, codes, decimal, FitsSigned}
-use Rattle.std.specs.Fmt.{signed_decimal}
-use Rattle.std.specs.Int.{w16, w32}
-use Rattle.std.proofs.lemmas.Int.{ints}
-use Rattle.std.proofs.lemmas.Fmt.{length-decimal-le}
-use Rattle.std.proofs.lemmas.List.Elements.{All-head, All-tail}
-use Rattle.bpf_words.specs.declared.Order.{Order}
-use Rattle.bpf_words.specs.Slots.{spelled}
-use Rattle.bpf_insn.specs.declared.insn.Width.{Width}
-use Rattle.bpf_insn.specs.declared.insn.Width.TheVariants.{W32, W64}
-use Rattle.bpf_insn.specs.declared.insn.Size.{Size}
+use Rattle.std.specs.{Fmt.signed_decimal, Int.w16, Int.w32}
+use Rattle.std.proofs.lemmas.{Int.ints, Fmt.length-decimal-le, List.Elements.All-head, List.Elements.All-tail}
+use Rattle.bpf_words.specs.{declared.Order.Order, Slots.spelled}
+use Rattle.bpf_insn.specs.declared.insn.{Width.Width, Width.TheVariants.W32, Width.TheVariants.W64, Size.Size}
 use Rattle.bpf_insn.specs.declared.insn.Size.TheVariants as size
 use Rattle.bpf_insn.specs.declared.insn.SmallSize.{SmallSize}
 use Rattle.bpf_insn.specs.declared.insn.SmallSize.TheVariants as small
-use Rattle.bpf_insn.specs.declared.insn.Operand.{Operand}
-use Rattle.bpf_insn.specs.declared.insn.Operand.TheVariants.{Imm, Reg}
+use Rattle.bpf_insn.specs.declared.insn.Operand.{Operand, TheVariants.Imm, TheVariants.Reg}
 use Rattle.bpf_insn.specs.declared.insn.Reg as reg
 use Rattle.bpf_insn.specs.declared.insn.AluOp.{AluOp}
 use Rattle.bpf_insn.specs.declared.insn.AluOp.TheVariants as alu
@@ -24,19 +17,15 @@ use Rattle.bpf_insn.specs.declared.insn.MovsxForm.{MovsxForm}
 use Rattle.bpf_insn.specs.declared.insn.MovsxForm.TheVariants as movsx
 use Rattle.bpf_insn.specs.declared.insn.SwapKind.{SwapKind}
 use Rattle.bpf_insn.specs.declared.insn.SwapKind.TheVariants as swap
-use Rattle.bpf_insn.specs.declared.insn.SwapBits.{SwapBits}
-use Rattle.bpf_insn.specs.declared.insn.SwapBits.TheVariants.{B16, B32, B64}
+use Rattle.bpf_insn.specs.declared.insn.SwapBits.{SwapBits, TheVariants.B16, TheVariants.B32, TheVariants.B64}
 use Rattle.bpf_insn.specs.declared.insn.AtomicOp.{AtomicOp}
 use Rattle.bpf_insn.specs.declared.insn.AtomicOp.TheVariants as atomic
-use Rattle.bpf_insn.specs.declared.insn.WideOf.{WideOf}
+use Rattle.bpf_insn.specs.declared.insn.{WideOf.WideOf, Insn.Insn}
 use Rattle.bpf_insn.specs.declared.insn.WideOf.TheVariants.{Number, MapFd, MapValueFd, VarAddr, CodeAddr, MapIdx, MapValueIdx}
-use Rattle.bpf_insn.specs.declared.insn.Insn.{Insn}
 use Rattle.bpf_insn.specs.declared.insn.Insn.TheVariants.{Alu, Movsx, Neg, Swap, Jump, JumpLong, Branch, CallHelper, CallLocal, CallBtf, Exit, Load, LoadSigned, StoreImm, StoreReg, Atomic, Wide, PacketAbs, PacketInd}
 use Rattle.bpf_insn.specs.Table.{IsInsn, IsOperand, fields_of, next_imm_of, wide_next_imm}
 use Rattle.bpf_insn.specs.Spelling.{InsnFile, file_of, second_slot, spelling}
-use Rattle.bpf_insn.proofs.FaultLemmas.{slot_length}
-use Rattle.bpf_insn.proofs.FileLaws.{at_least_a_slot}
-use Rattle.bpf_insn.proofs.WideLemmas.{second_length}
+use Rattle.bpf_insn.proofs.{FaultLemmas.slot_length, FileLaws.at_least_a_slot, WideLemmas.second_length}
 use Rattle.bpf_text.specs.insn.Operands.{LineOperand, register, number, signed, memory, register_text, signed_text, operand_text}
 use Rattle.bpf_text.specs.insn.Table.{width_suffix, alu_mnemonic, branch_mnemonic, movsx_mnemonic, swap_mnemonic, bits_suffix, size_suffix, small_size_suffix, atomic_mnemonic, mnemonic_text, source_operand}
 use Rattle.bpf_text.specs.insn.Lines.{spaced, line_of, listing_of}

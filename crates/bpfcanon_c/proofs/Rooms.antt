@@ -1,15 +1,12 @@
 -- What was written into a buffer is the output of a call.
 use Rattle.std.proofs.Common.{◌≡◌, ℕ, List, length, ap, arith}
 use Rattle.bpf_words.specs.declared.Order.{Order}
-use Rattle.bpf_insn.specs.declared.insn.Insn.{Insn}
-use Rattle.bpf_insn.specs.Spelling.{InsnFile, file_of}
+use Rattle.bpf_insn.specs.{declared.insn.Insn.Insn, Spelling.InsnFile, Spelling.file_of}
 use Rattle.bpf_canon.proofs.InsnLemmas.FrontLaws.{length-file_same}
-use Rattle.bpfcanon_c.specs.declared.answer.FaultCode.{FaultCode}
-use Rattle.bpfcanon_c.specs.declared.answer.Ending.{Ending}
+use Rattle.bpfcanon_c.specs.declared.answer.{FaultCode.FaultCode, Ending.Ending}
 use Rattle.bpfcanon_c.specs.declared.answer.Ending.TheVariants.{Written, Types, Groups, Same, Different, First, Second, Memory, Room}
 use Rattle.bpfcanon_c.specs.declared.answer.Ending.TheVariants as ending
-use Rattle.bpfcanon_c.specs.Answers.{order_number, FillsRoom}
-use Rattle.bpfcanon_c.specs.Outputs.{EndsOutput, EndsInOrder}
+use Rattle.bpfcanon_c.specs.{Answers.order_number, Answers.FillsRoom, Outputs.EndsOutput, Outputs.EndsInOrder}
 
 pub ends_output : (IsOutput : List ℕ → Type 0) (IsFault : FaultCode → Type 0) (old new out : List ℕ) (e : Ending) → IsOutput out → FillsRoom out old new e
     → EndsOutput IsOutput IsFault old new e

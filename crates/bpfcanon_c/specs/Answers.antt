@@ -1,15 +1,11 @@
 -- The answers to C, and the numbers in them.
 use Rattle.std.specs.Prelude.{◌≡◌, ◌<◌, ◌++◌, ℕ, List, Option, Some, None, length, drop}
-use Rattle.bpf_words.specs.declared.Order.{Order}
-use Rattle.bpf_words.specs.declared.Order.TheVariants.{Little, Big}
+use Rattle.bpf_words.specs.declared.Order.{Order, TheVariants.Little, TheVariants.Big}
 use Rattle.bpf_insn.specs.declared.fault.SlotCause.{SlotCause}
 use Rattle.bpf_insn.specs.declared.fault.SlotCause.TheVariants as slot
 use Rattle.bpf_insn.specs.declared.fault.SlotFault.{SlotFault}
-use Rattle.btf_raw.specs.declared.cause.BtfFault.{BtfFault}
-use Rattle.btf_raw.specs.Cause.{number_of}
-use Rattle.bpfcanon_c.specs.declared.answer.Answer.{Answer}
-use Rattle.bpfcanon_c.specs.declared.answer.FaultCode.{FaultCode}
-use Rattle.bpfcanon_c.specs.declared.answer.Ending.{Ending}
+use Rattle.btf_raw.specs.{declared.cause.BtfFault.BtfFault, Cause.number_of}
+use Rattle.bpfcanon_c.specs.declared.answer.{Answer.Answer, Ending.Ending, FaultCode.FaultCode}
 use Rattle.bpfcanon_c.specs.declared.answer.Ending.TheVariants.{Written, Types, Groups, Same, Different, First, Second, Memory, Room}
 use Rattle.bpfcanon_c.specs.declared.answer.Ending.TheVariants as ending
 

@@ -1,15 +1,10 @@
 -- What the calls on BTF and on instruction files return to C.
 use Rattle.std.specs.Prelude.{◌≡◌, ◌⊎◌, ◌≤◌, ⊤, ℕ, true, false, List, length}
 use Rattle.bpf_words.specs.declared.Order.{Order}
-use Rattle.bpf_insn.specs.declared.insn.Insn.{Insn}
-use Rattle.bpf_insn.specs.Spelling.{InsnFile, file_of}
-use Rattle.bpf_canon.specs.insn.Canonical.{Compares}
-use Rattle.bpf_canon.specs.btf.CanonicalBtf.{canonical}
-use Rattle.bpf_canon.specs.btf.SameBtf.{ComparesBtf}
-use Rattle.btf_types.specs.Values.{TypeRecord}
-use Rattle.btf_types.specs.Denotes.{Denotes}
-use Rattle.bpfcanon_c.specs.declared.answer.Answer.{Answer}
-use Rattle.bpfcanon_c.specs.declared.answer.Ending.{Ending}
+use Rattle.bpf_insn.specs.{declared.insn.Insn.Insn, Spelling.InsnFile, Spelling.file_of}
+use Rattle.bpf_canon.specs.{insn.Canonical.Compares, btf.CanonicalBtf.canonical, btf.SameBtf.ComparesBtf}
+use Rattle.btf_types.specs.{Values.TypeRecord, Denotes.Denotes}
+use Rattle.bpfcanon_c.specs.declared.answer.{Answer.Answer, Ending.Ending}
 use Rattle.bpfcanon_c.specs.declared.answer.Ending.TheVariants.{Types, Same, Different, First, Second, Memory}
 use Rattle.bpfcanon_c.specs.declared.answer.Ending.TheVariants as ending
 use Rattle.bpfcanon_c.specs.Answers.{order_number}

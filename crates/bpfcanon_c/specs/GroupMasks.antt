@@ -1,18 +1,12 @@
 -- The groups of instructions as a mask.
 use Rattle.std.specs.Prelude.{◌≡◌, ◌↔◌, ℕ, ◌+◌, Bool, List, IsTrue, if◌then◌else◌}
 use Rattle.bpf_words.specs.declared.Order.{Order}
-use Rattle.bpf_insn.specs.declared.insn.Insn.{Insn}
-use Rattle.bpf_insn.specs.declared.group.Group.{Group}
+use Rattle.bpf_insn.specs.declared.{insn.Insn.Insn, group.Group.Group, group.GroupSet.GroupSet}
 use Rattle.bpf_insn.specs.declared.group.Group.TheVariants.{Base32, Base64, Atomic32, Atomic64, Divmul32, Divmul64, Packet}
-use Rattle.bpf_insn.specs.declared.group.GroupSet.{GroupSet}
-use Rattle.bpf_insn.specs.Groups.{InGroups, holds}
-use Rattle.bpf_insn.specs.Spelling.{InsnFile}
-use Rattle.bpfcanon_c.specs.declared.answer.Answer.{Answer}
-use Rattle.bpfcanon_c.specs.declared.answer.Ending.{Ending}
-use Rattle.bpfcanon_c.specs.declared.answer.Ending.TheVariants.{Groups, First}
+use Rattle.bpf_insn.specs.{Groups.InGroups, Groups.holds, Spelling.InsnFile}
+use Rattle.bpfcanon_c.specs.declared.answer.{Answer.Answer, Ending.Ending, Ending.TheVariants.Groups, Ending.TheVariants.First}
 use Rattle.bpfcanon_c.specs.declared.answer.Ending.TheVariants as ending
-use Rattle.bpfcanon_c.specs.Answers.{order_number}
-use Rattle.bpfcanon_c.specs.Outputs.{IsNoOrder, IsAnswerOf, IsInsnCode}
+use Rattle.bpfcanon_c.specs.{Answers.order_number, Outputs.IsNoOrder, Outputs.IsAnswerOf, Outputs.IsInsnCode}
 
 abbrev pub weighed : Bool → ℕ → ℕ
 weighed b weight = if b then weight else 0

@@ -1,16 +1,11 @@
 -- What the calls on listings return to C.
 use Rattle.std.specs.Prelude.{◌≡◌, ◌≤◌, ◌*◌, ℕ, List, length}
 use Rattle.bpf_words.specs.declared.Order.{Order}
-use Rattle.bpf_insn.specs.declared.insn.Insn.{Insn}
-use Rattle.bpf_insn.specs.Spelling.{InsnFile, file_of}
+use Rattle.bpf_insn.specs.{declared.insn.Insn.Insn, Spelling.InsnFile, Spelling.file_of}
 use Rattle.bpf_text.specs.declared.insn.fault.LineCause.{LineCause}
 use Rattle.bpf_text.specs.declared.insn.fault.LineCause.TheVariants as line
-use Rattle.bpf_text.specs.declared.insn.fault.LineFault.{LineFault}
-use Rattle.bpf_text.specs.insn.Lines.{listing_of}
-use Rattle.bpf_text.specs.insn.Listing.{Lists, IsListFault}
-use Rattle.bpfcanon_c.specs.declared.answer.Answer.{Answer}
-use Rattle.bpfcanon_c.specs.declared.answer.FaultCode.{FaultCode}
-use Rattle.bpfcanon_c.specs.declared.answer.Ending.{Ending}
+use Rattle.bpf_text.specs.{declared.insn.fault.LineFault.LineFault, insn.Lines.listing_of, insn.Listing.Lists, insn.Listing.IsListFault}
+use Rattle.bpfcanon_c.specs.declared.answer.{Answer.Answer, Ending.Ending, FaultCode.FaultCode}
 use Rattle.bpfcanon_c.specs.Outputs.{IsAnswerOf, IsInsnCode, EndsOutput, EndsInOrder}
 
 abbrev pub line_number : LineCause → ℕ

@@ -1,14 +1,11 @@
 -- How a call that writes ends.
 use Rattle.std.specs.Prelude.{◌≡◌, ℕ, List}
 use Rattle.bpf_words.specs.declared.Order.{Order}
-use Rattle.bpf_insn.specs.declared.fault.SlotFault.{SlotFault}
-use Rattle.bpf_insn.specs.Faults.{IsInsnFault}
+use Rattle.bpf_insn.specs.{declared.fault.SlotFault.SlotFault, Faults.IsInsnFault}
 use Rattle.btf_raw.specs.declared.cause.BtfFault.{BtfFault}
 use Rattle.btf_types.specs.Faults.{IsFirst}
-use Rattle.bpfcanon_c.specs.declared.answer.Answer.{Answer}
-use Rattle.bpfcanon_c.specs.declared.answer.FaultCode.{FaultCode}
-use Rattle.bpfcanon_c.specs.declared.answer.Ending.{Ending}
-use Rattle.bpfcanon_c.specs.declared.answer.Ending.TheVariants.{Written, First, Memory, Room}
+use Rattle.bpfcanon_c.specs.declared.answer.{Answer.Answer, FaultCode.FaultCode}
+use Rattle.bpfcanon_c.specs.declared.answer.Ending.{Ending, TheVariants.Written, TheVariants.First, TheVariants.Memory, TheVariants.Room}
 use Rattle.bpfcanon_c.specs.declared.answer.Ending.TheVariants as ending
 use Rattle.bpfcanon_c.specs.Answers.{answer_of, code_of_btf, code_of_slot, order_number, FillsRoom}
 

@@ -1,10 +1,8 @@
 -- What the call on type listings returns to C.
 use Rattle.std.specs.Prelude.{◌≡◌, ℕ, List}
-use Rattle.btf_types.specs.Values.{TypeRecord}
-use Rattle.btf_types.specs.Denotes.{Denotes}
+use Rattle.btf_types.specs.{Values.TypeRecord, Denotes.Denotes}
 use Rattle.bpf_text.specs.btf.BtfText.{text_of}
-use Rattle.bpfcanon_c.specs.declared.answer.Answer.{Answer}
-use Rattle.bpfcanon_c.specs.Outputs.{IsAnswerOf, IsBtfCode, EndsOutput}
+use Rattle.bpfcanon_c.specs.{declared.answer.Answer.Answer, Outputs.IsAnswerOf, Outputs.IsBtfCode, Outputs.EndsOutput}
 
 -- the type listing of a file
 pub record IsTypesText (bytes out : List ℕ) : Type 0 where

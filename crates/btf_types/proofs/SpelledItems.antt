@@ -1,18 +1,13 @@
 -- The items of a good record, in the words of the frame that spells it.
 use Rattle.std.proofs.Common.{◌≡◌, ℕ, zero, suc, ◌+◌, ◌*◌, ◌<◌, List, [], ◌∷◌, ◌++◌, length, get_or, refl, sym, ap, ◌∙◌, arith}
-use Rattle.std.specs.Prelude.{slice_index}
-use Rattle.std.specs.List.{All, AllZip, concat}
-use Rattle.std.proofs.lemmas.List.Elements.{All-head, All-tail}
+use Rattle.std.specs.{Prelude.slice_index, List.All, List.AllZip, List.concat}
 use Rattle.std.proofs.Math.ListN.{get_or-append}
-use Rattle.std.proofs.lemmas.List.{get_or-drop, drop_at}
-use Rattle.btf_raw.specs.Kinds.{item_words}
-use Rattle.btf_raw.specs.Frames.{kind, vlen, flag}
+use Rattle.std.proofs.lemmas.List.{get_or-drop, drop_at, Elements.All-head, Elements.All-tail}
+use Rattle.btf_raw.specs.{Kinds.item_words, Frames.kind, Frames.vlen, Frames.flag}
 use Rattle.btf_types.specs.Values.{TypeHead, KInt, KArray, KFunc, KVar, KDeclTag, TypeItem, Entry, TypeRecord}
 use Rattle.btf_types.specs.Spelling.{kind_number, head_tail, ItemSpells, Spells}
-use Rattle.btf_types.specs.judge.Checks.{TypeFacts}
-use Rattle.btf_types.specs.Good.{ItemOf, IsGoodRecord}
-use Rattle.btf_types.proofs.Spelled.{vlen_from, item_size}
-use Rattle.btf_types.proofs.Denoting.{numbers}
+use Rattle.btf_types.specs.{judge.Checks.TypeFacts, Good.ItemOf, Good.IsGoodRecord}
+use Rattle.btf_types.proofs.{Spelled.vlen_from, Spelled.item_size, Denoting.numbers}
 
 pub nothing : TypeItem
 nothing = Entry 0 0 0

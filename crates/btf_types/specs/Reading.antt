@@ -1,14 +1,11 @@
 -- The record that a frame decodes to, whatever its words are. This is what the fields of a table mean.
 use Rattle.std.specs.Prelude.{ℕ, zero, suc, ◌+◌, ◌*◌, ◌^◌, Bool, not, ◌==◌, Option, Some, None, List, [], ◌∷◌, ◌++◌, map, drop, slice_index, if◌then◌else◌}
-use Rattle.bpf_words.specs.declared.Order.{Order}
-use Rattle.bpf_words.specs.Words.{word32_at}
+use Rattle.bpf_words.specs.{declared.Order.Order, Words.word32_at}
 use Rattle.btf_raw.specs.KindNumbers.{INT, PTR, ARRAY, STRUCT, UNION, ENUM, FWD, TYPEDEF, VOLATILE, CONST, RESTRICT, FUNC, FUNC_PROTO, VAR, DATASEC, FLOAT, DECL_TAG, TYPE_TAG, ENUM64}
 use Rattle.btf_raw.specs.Kinds.{one_of, kind_of, vlen_of, tail_words, item_words}
 use Rattle.btf_raw.specs.Frames.{name_word, third_word, kind, vlen, flag}
-use Rattle.btf_types.specs.declared.values.Encoding.{Encoding}
-use Rattle.btf_types.specs.declared.values.Encoding.TheVariants.{Plain, Signed, Char, Bool as Boolean}
-use Rattle.btf_types.specs.declared.values.Linkage.{Linkage}
-use Rattle.btf_types.specs.declared.values.Linkage.TheVariants.{LStatic, LGlobal, LExtern}
+use Rattle.btf_types.specs.declared.values.Encoding.{Encoding, TheVariants.Plain, TheVariants.Signed, TheVariants.Char, TheVariants.Bool as Boolean}
+use Rattle.btf_types.specs.declared.values.Linkage.{Linkage, TheVariants.LStatic, TheVariants.LGlobal, TheVariants.LExtern}
 use Rattle.btf_types.specs.Values.{TypeHead, KInt, KPtr, KArray, KStruct, KUnion, KEnum, KFwd, KTypedef, KVolatile, KConst, KRestrict, KFunc, KFuncProto, KVar, KDatasec, KFloat, KDeclTag, KTypeTag, KEnum64, TypeItem, Member, EnumValue, Value64, Param, Entry, TypeRecord}
 use Rattle.btf_types.specs.judge.FieldFaults.{int_encoding, int_offset, int_bits, offset_in, width_in}
 

@@ -1,19 +1,12 @@
 -- Canonical bytes and BTF files.
 use Rattle.std.proofs.Common.{◌≡◌, ◌∙◌, ℕ, List, Result, Ok, Err, refl, sym, ap, subst}
 use Rattle.std.specs.Result.{IfOk, IfErr, MatchResult}
-use Rattle.bpf_words.specs.declared.Order.{Order}
-use Rattle.bpf_words.specs.declared.Order.TheVariants.{Little}
-use Rattle.bpf_words.specs.Words.{IsBytes}
+use Rattle.bpf_words.specs.{declared.Order.Order, declared.Order.TheVariants.Little, Words.IsBytes}
 use Rattle.btf_types.specs.declared.error.BtfError.{BtfError}
 use Rattle.btf_types.specs.declared.error.BtfError.TheVariants as error
-use Rattle.btf_types.specs.Values.{TypeRecord}
-use Rattle.btf_types.specs.Good.{IsGood}
-use Rattle.btf_types.specs.Denotes.{Denotes}
-use Rattle.btf_types.specs.tables.Tables.{Fails}
-use Rattle.btf_types.proofs.Denoting.{denotes_unique}
-use Rattle.btf_types.proofs.JudgeLemmas.FaultLaws.{no_fault_is_accepted}
-use Rattle.bpf_canon.specs.btf.CanonicalBtf.{canonical}
-use Rattle.bpf_canon.specs.btf.BtfLaws.{IsCanonicalBtf}
+use Rattle.btf_types.specs.{Values.TypeRecord, tables.Tables.Fails, Good.IsGood, Denotes.Denotes}
+use Rattle.btf_types.proofs.{Denoting.denotes_unique, JudgeLemmas.FaultLaws.no_fault_is_accepted}
+use Rattle.bpf_canon.specs.btf.{CanonicalBtf.canonical, BtfLaws.IsCanonicalBtf}
 use Rattle.bpf_canon.proofs.BtfLemmas.CanonicalFiles.{canonical_denotes}
 
 -- what holds of a value that comes, by what holds of it

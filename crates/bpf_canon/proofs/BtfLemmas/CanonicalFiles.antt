@@ -1,27 +1,15 @@
 -- The canonical bytes of good records are a file that denotes them, and no file that does is shorter.
 use Rattle.std.proofs.Common.{◌≡◌, ℕ, ◌+◌, ◌-◌, ◌*◌, ◌≤◌, List, [], ◌∷◌, ◌++◌, length, map, refl, sym, ap, subst, ◌∙◌, inl, inr, append_assoc, length-append, lit≤, arith}
-use Rattle.std.specs.Prelude.{slice_index}
-use Rattle.std.specs.List.{All, AllZip, concat, flat_map, sum_by}
-use Rattle.std.proofs.lemmas.List.Elements.{All-head, All-tail}
-use Rattle.std.proofs.lemmas.List.Sums.{sum_by-cons}
-use Rattle.std.proofs.Math.Seq.{get_or-append_seam}
+use Rattle.std.specs.{Prelude.slice_index, List.All, List.AllZip, List.concat, List.flat_map, List.sum_by}
+use Rattle.std.proofs.{lemmas.List.Elements.All-head, lemmas.List.Elements.All-tail, lemmas.List.Sums.sum_by-cons, Math.Seq.get_or-append_seam}
 use Rattle.bpf_words.specs.declared.Order.{Order}
-use Rattle.btf_raw.specs.Header.{header, Cut, HasNulEnds}
-use Rattle.btf_raw.specs.Frames.{bytes_of, section_of}
-use Rattle.btf_raw.proofs.Frames.{length-bytes_of}
-use Rattle.btf_raw.proofs.Cuts.{length-header}
-use Rattle.btf_types.specs.Values.{TypeRecord}
-use Rattle.btf_types.specs.Names.{names, with_nul, table_of}
-use Rattle.btf_types.specs.strings.SharedNames.{hosts}
-use Rattle.btf_types.specs.strings.StringTable.{string_table}
-use Rattle.btf_types.specs.Spelling.{head_tail, Spells}
-use Rattle.btf_types.specs.judge.Checks.{TypeFacts}
+use Rattle.btf_raw.specs.{Header.header, Header.Cut, Header.HasNulEnds, Frames.bytes_of, Frames.section_of}
+use Rattle.btf_raw.proofs.{Frames.length-bytes_of, Cuts.length-header}
+use Rattle.btf_types.specs.{Values.TypeRecord, Denotes.Denotes, judge.Checks.TypeFacts, strings.SharedNames.hosts, strings.StringTable.string_table}
+use Rattle.btf_types.specs.{Names.names, Names.with_nul, Names.table_of, Spelling.head_tail, Spelling.Spells}
 use Rattle.btf_types.specs.Good.{IsGoodRecord, IsGood, record_size, facts}
-use Rattle.btf_types.specs.Denotes.{Denotes}
-use Rattle.btf_types.proofs.Spelled.{fixed_is, items_size}
-use Rattle.btf_types.proofs.TableLemmas.TableSteps.{concat-map, spelled_bytes}
-use Rattle.btf_types.proofs.Denoting.{frames_of, denotes_unique}
-use Rattle.btf_types.proofs.StringLemmas.SpelledNames.{spelled_table_fits}
+use Rattle.btf_types.proofs.{Spelled.fixed_is, Spelled.items_size, Denoting.frames_of, Denoting.denotes_unique}
+use Rattle.btf_types.proofs.{TableLemmas.TableSteps.concat-map, TableLemmas.TableSteps.spelled_bytes, StringLemmas.SpelledNames.spelled_table_fits}
 use Rattle.bpf_canon.specs.btf.CanonicalBtf.{canonical, canonical_frames, canonical_types}
 use Rattle.bpf_canon.specs.btf.BtfLaws.{CanonicalBtfIsAccepted, CanonicalBtfTellsApart, CanonicalBtfIsShortest}
 use Rattle.bpf_canon.proofs.BtfLemmas.CanonicalSpells.{frames_spell}

@@ -4,23 +4,16 @@ use Rattle.std.specs.Prelude.{IsTrue, IfSome, not, ◌==◌}
 use Rattle.std.specs.List.{All, AllZip, concat, flat_map, list_any}
 use Rattle.std.proofs.lemmas.Bool.{cases_eq, ne_eqb, or_left, or_right, both_ways}
 use Rattle.std.proofs.lemmas.List.Elements.{All-nil, All-cons, All-head, All-tail, All-append}
-use Rattle.btf_raw.specs.Header.{STRINGS_LIMIT}
-use Rattle.btf_raw.specs.Names.{NameAt}
-use Rattle.btf_raw.proofs.Texts.{TextAt-inside}
-use Rattle.btf_raw.proofs.Frames.{IsWords}
-use Rattle.btf_types.specs.declared.values.Encoding.{Encoding}
-use Rattle.btf_types.specs.declared.values.Encoding.TheVariants.{Plain, Signed, Char, Bool as Boolean}
-use Rattle.btf_types.specs.declared.values.Linkage.{Linkage}
-use Rattle.btf_types.specs.declared.values.Linkage.TheVariants.{LStatic, LGlobal, LExtern}
+use Rattle.btf_raw.specs.{Header.STRINGS_LIMIT, Names.NameAt, Heads.bit}
+use Rattle.btf_raw.proofs.{Texts.TextAt-inside, Frames.IsWords}
+use Rattle.btf_types.specs.declared.values.Encoding.{Encoding, TheVariants.Plain, TheVariants.Signed, TheVariants.Char, TheVariants.Bool as Boolean}
+use Rattle.btf_types.specs.declared.values.Linkage.{Linkage, TheVariants.LStatic, TheVariants.LGlobal, TheVariants.LExtern}
 use Rattle.btf_types.specs.Values.{TypeHead, KInt, KPtr, KArray, KStruct, KUnion, KEnum, KFuncProto, KVar, KDatasec, KDeclTag, KEnum64, TypeItem, Member, EnumValue, Value64, Param, Entry, TypeRecord}
 use Rattle.btf_types.specs.Names.{IsName, head_name, item_name, record_names, names}
-use Rattle.btf_types.specs.strings.StringTable.{string_table, place_of}
-use Rattle.btf_raw.specs.Heads.{bit}
+use Rattle.btf_types.specs.{strings.StringTable.string_table, strings.StringTable.place_of, judge.Checks.TypeFacts}
 use Rattle.btf_types.specs.Spelling.{kind_number, head_third, FlagSpells, linkage_number, encoding_number, component_word, record_vlen, info, head_tail, MemberWord, ItemSpells, Spells, HeadInRange, ItemInRange}
-use Rattle.btf_types.specs.judge.Checks.{TypeFacts}
 use Rattle.btf_types.specs.Good.{ItemOf, has_width, has_bit_fields, MemberIsGood, IsGoodRecord, IsGood, facts}
-use Rattle.btf_types.proofs.Spelled.{kind_below, vlen_below, flag_below}
-use Rattle.btf_types.proofs.StringLemmas.TableLaws.{shared_places}
+use Rattle.btf_types.proofs.{Spelled.kind_below, Spelled.vlen_below, Spelled.flag_below, StringLemmas.TableLaws.shared_places}
 use Rattle.bpf_canon.specs.btf.CanonicalBtf.{canonical_flag, words_of_item, record_words, canonical_frames}
 
 -- ---- lists

@@ -1,11 +1,9 @@
 -- Two BTF files whose canonical bytes are compared.
 use Rattle.std.proofs.Common.{◌≡◌, ◌↔◌, ◌∙◌, ℕ, Bool, List, sym, ap, IsTrue}
 use Rattle.bpf_words.specs.declared.Order.TheVariants.{Little}
-use Rattle.btf_types.specs.Values.{TypeRecord}
-use Rattle.btf_types.specs.Denotes.{Denotes}
-use Rattle.bpf_canon.specs.btf.CanonicalBtf.{canonical}
+use Rattle.btf_types.specs.{Values.TypeRecord, Denotes.Denotes}
+use Rattle.bpf_canon.specs.btf.{CanonicalBtf.canonical, SameBtf.ComparesBtf}
 use Rattle.bpf_canon.proofs.BtfLemmas.CanonicalFiles.{canonical_apart}
-use Rattle.bpf_canon.specs.btf.SameBtf.{ComparesBtf}
 
 -- two files whose canonical bytes are compared
 pub compares : (a b x y : List ℕ) (same : Bool) → (v : List TypeRecord) × (Denotes a v × (x ≡ canonical Little v)) → (w : List TypeRecord) × (Denotes b w × (y ≡ canonical Little w))

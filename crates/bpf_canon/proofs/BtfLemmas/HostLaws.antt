@@ -5,9 +5,8 @@ use Rattle.std.proofs.lemmas.Bool.{cases_Bool}
 use Rattle.btf_types.specs.Names.{distinct, is_some_text, kept, table_of}
 use Rattle.btf_types.specs.strings.SharedNames.{is_proper_suffix, hosts_of, hosts}
 use Rattle.btf_types.proofs.Members.{Has, Has-from_filter, Has_from_any}
-use Rattle.btf_types.proofs.StringLemmas.Hosts.{host_ends_none, host_member}
+use Rattle.btf_types.proofs.StringLemmas.{Hosts.host_ends_none, Hosts.host_member, TableLaws.shared_is_shortest}
 use Rattle.btf_types.proofs.StringLemmas.Distinct.{NoRepeats-filter, NoRepeats-kept}
-use Rattle.btf_types.proofs.StringLemmas.TableLaws.{shared_is_shortest}
 use Rattle.bpf_canon.specs.btf.BtfLaws.{HostsFitSections}
 use Rattle.bpf_canon.proofs.BtfLemmas.Names.HostSteps.{filter_all, distinct_same, keeps}
 

@@ -1,17 +1,12 @@
 -- Canonical bytes and files.
 use Rattle.std.proofs.Common.{◌≡◌, ◌↔◌, ◌++◌, ◌∙◌, ℕ, Bool, List, [], Result, Ok, Err, refl, sym, ap, All, IsTrue}
 use Rattle.std.specs.Result.{IfOk}
-use Rattle.bpf_words.specs.declared.Order.{Order}
-use Rattle.bpf_words.specs.declared.Order.TheVariants.{Little}
-use Rattle.bpf_insn.specs.declared.insn.Insn.{Insn}
-use Rattle.bpf_insn.specs.declared.decode.InsnError.{InsnError}
+use Rattle.bpf_words.specs.declared.Order.{Order, TheVariants.Little}
+use Rattle.bpf_insn.specs.declared.{insn.Insn.Insn, decode.InsnError.InsnError}
 use Rattle.bpf_insn.specs.declared.decode.InsnError.TheVariants as error
-use Rattle.bpf_insn.specs.Table.{IsInsn}
-use Rattle.bpf_insn.specs.Spelling.{InsnFile, file_of}
-use Rattle.bpf_insn.proofs.FileLaws.{one_list}
-use Rattle.bpf_insn.proofs.FrontLemmas.{one_front}
-use Rattle.bpf_canon.specs.insn.FeedState.{FeedState}
-use Rattle.bpf_canon.specs.insn.FeedStream.{IsLastingFaultOf, Moves, Represents}
+use Rattle.bpf_insn.specs.{Table.IsInsn, Spelling.InsnFile, Spelling.file_of}
+use Rattle.bpf_insn.proofs.{FileLaws.one_list, FrontLemmas.one_front}
+use Rattle.bpf_canon.specs.insn.{FeedState.FeedState, FeedStream.IsLastingFaultOf, FeedStream.Moves, FeedStream.Represents}
 use Rattle.bpf_canon.specs.insn.Canonical.{CanonicalBytesAreAccepted, CanonicalBytesAreTheirOwn, CanonicalBytesTellFilesApart, Compares, IsCanonical, NamesFault}
 use Rattle.bpf_canon.proofs.InsnLemmas.FrontLaws.{file_front, front-nil}
 

@@ -1,14 +1,9 @@
 -- A file that is compared with another one in the other order, slot by slot.
 use Rattle.std.proofs.Common.{◌≡◌, ◌≢◌, ◌↔◌, ◌<◌, ◌++◌, ◌∙◌, ℕ, Bool, List, [], ◌∷◌, true, false, length, take, drop, refl, sym, ap, arith, append_assoc, IsTrue, nat_eq, take-append-drop}
-use Rattle.std.specs.List.{flat_map}
-use Rattle.std.specs.Cmp.Lexicographic.{other_text, pointwise, same_text}
-use Rattle.std.proofs.lemmas.Bool.{eqb-true}
-use Rattle.std.proofs.lemmas.List.{append-nil, append_cancel_left}
-use Rattle.std.proofs.Math.Seq.{take-append_seam}
-use Rattle.bpf_words.specs.declared.Order.{Order}
-use Rattle.bpf_words.specs.Slots.{AreFields, Fields, spelled}
-use Rattle.bpf_insn.specs.declared.insn.Insn.{Insn}
-use Rattle.bpf_insn.specs.Spelling.{InsnFile, file_of}
+use Rattle.std.specs.{List.flat_map, Cmp.Lexicographic.other_text, Cmp.Lexicographic.pointwise, Cmp.Lexicographic.same_text}
+use Rattle.std.proofs.{lemmas.Bool.eqb-true, lemmas.List.append-nil, lemmas.List.append_cancel_left, Math.Seq.take-append_seam}
+use Rattle.bpf_words.specs.{declared.Order.Order, Slots.AreFields, Slots.Fields, Slots.spelled}
+use Rattle.bpf_insn.specs.{declared.insn.Insn.Insn, Spelling.InsnFile, Spelling.file_of}
 use Rattle.bpf_canon.proofs.InsnLemmas.Recoding.{Rewrites, file_rewritten, one_rewritten, rewritten_rest}
 
 -- the slots of `a` before `left` are, in the other order, at the start of `b`, and `right` follows them

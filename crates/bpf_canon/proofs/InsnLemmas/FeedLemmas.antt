@@ -1,21 +1,13 @@
 -- What a piece makes of a feed.
 use Rattle.std.proofs.Common.{◌≡◌, ◌<◌, ◌≤◌, ◌+◌, ◌*◌, ◌-◌, ◌++◌, ◌⊎◌, ◌∙◌, ℕ, List, [], ◌∷◌, Option, Some, None, length, refl, sym, ap, subst, inl, inr, arith, length-append, take, drop, length-drop, Result, Ok, Err}
-use Rattle.std.proofs.lemmas.Bool.{cases_lt}
-use Rattle.std.proofs.lemmas.List.{append-nil, length-take-le, take_all}
-use Rattle.std.proofs.Math.Seq.{drop-append-add}
+use Rattle.std.proofs.{lemmas.Bool.cases_lt, lemmas.List.append-nil, lemmas.List.length-take-le, lemmas.List.take_all, Math.Seq.drop-append-add}
 use Rattle.bpf_words.specs.declared.Order.{Order}
-use Rattle.bpf_insn.specs.declared.insn.Insn.{Insn}
-use Rattle.bpf_insn.specs.declared.fault.SlotFault.{SlotFault}
-use Rattle.bpf_insn.specs.declared.fault.SlotCause.{SlotCause}
-use Rattle.bpf_insn.specs.declared.fault.SlotCause.TheVariants.{Truncated}
-use Rattle.bpf_insn.specs.declared.whole_insns.InsnFront.{InsnFront}
-use Rattle.bpf_insn.specs.declared.decode.InsnError.{InsnError}
+use Rattle.bpf_insn.specs.declared.{insn.Insn.Insn, decode.InsnError.InsnError, whole_insns.InsnFront.InsnFront}
+use Rattle.bpf_insn.specs.declared.fault.{SlotFault.SlotFault, SlotCause.SlotCause, SlotCause.TheVariants.Truncated}
 use Rattle.bpf_insn.specs.declared.decode.InsnError.TheVariants as error
-use Rattle.bpf_insn.specs.Spelling.{InsnFile, file_of}
+use Rattle.bpf_insn.specs.{Spelling.InsnFile, Spelling.file_of, Fronts.StopsAt}
 use Rattle.bpf_insn.specs.Faults.{IsFront, IsInsnFault, IsSlotFault, IsTruncated}
-use Rattle.bpf_insn.specs.Fronts.{StopsAt}
-use Rattle.bpf_insn.proofs.FileLaws.{fault_within}
-use Rattle.bpf_insn.proofs.FrontLemmas.{empty_begins_none}
+use Rattle.bpf_insn.proofs.{FileLaws.fault_within, FrontLemmas.empty_begins_none}
 use Rattle.bpf_canon.specs.insn.FeedState.{FeedState, IsCut, missing_place}
 use Rattle.bpf_canon.specs.insn.FrontReads.{Advances, BeginsNone, Leaves, ReadsFront}
 use Rattle.bpf_canon.specs.insn.FeedStream.{AnswersFor, Feeds, Finishes, Gains, HasFault, IsSound, Keeps, Moves, Represents, end_after, end_of_feed}

@@ -1,24 +1,16 @@
 -- Fronts of byte lists: how they join, grow and compare.
 use Rattle.std.proofs.Common.{◌≡◌, ◌<◌, ◌≤◌, ◌+◌, ◌*◌, ◌++◌, ◌⊎◌, ◌∙◌, ℕ, ℤ, List, [], ◌∷◌, Option, Some, None, length, refl, sym, ap, subst, inl, inr, arith, append_assoc, length-append, All}
-use Rattle.std.proofs.lemmas.List.{append-nil}
-use Rattle.std.proofs.lemmas.List.Elements.{All-append, All-head, All-nil, All-push, All-tail}
+use Rattle.std.proofs.lemmas.List.{append-nil, Elements.All-append, Elements.All-head, Elements.All-nil, Elements.All-push, Elements.All-tail}
 use Rattle.std.proofs.lemmas.List.Concat.{flat_map-append}
-use Rattle.bpf_words.specs.declared.Order.{Order}
-use Rattle.bpf_words.specs.Slots.{spelled}
-use Rattle.bpf_insn.specs.declared.insn.Insn.{Insn}
-use Rattle.bpf_insn.specs.declared.fault.SlotFault.{SlotFault}
-use Rattle.bpf_insn.specs.declared.fault.SlotCause.{SlotCause}
+use Rattle.bpf_words.specs.{declared.Order.Order, Slots.spelled}
+use Rattle.bpf_insn.specs.declared.{insn.Insn.Insn, fault.SlotFault.SlotFault, fault.SlotCause.SlotCause}
 use Rattle.bpf_insn.specs.declared.fault.SlotCause.TheVariants.{Truncated, Opcode, Dst, Src, Offset, Imm, Reserved, NextImm}
-use Rattle.bpf_insn.specs.Table.{IsInsn, fields_of, next_imm_of}
+use Rattle.bpf_insn.specs.{Table.IsInsn, Table.fields_of, Table.next_imm_of, Faults.IsFront, Faults.IsInsnFault, Faults.IsSlotFault}
 use Rattle.bpf_insn.specs.Spelling.{InsnFile, file_of, second_slot, spelling}
-use Rattle.bpf_insn.specs.Faults.{IsFront, IsInsnFault, IsSlotFault}
-use Rattle.bpf_insn.proofs.FaultLemmas.{slot_length}
-use Rattle.bpf_insn.proofs.WideLemmas.{second_length}
+use Rattle.bpf_insn.proofs.{FaultLemmas.slot_length, UniqueLemmas.one_fault, WideLemmas.second_length}
 use Rattle.bpf_insn.proofs.FileLaws.{begins_once, file_fault, rests_same}
 use Rattle.bpf_insn.proofs.FrontLemmas.{empty_begins_none, front_of, length-at_most_file, one_front}
-use Rattle.bpf_insn.proofs.UniqueLemmas.{one_fault}
-use Rattle.bpf_canon.specs.insn.FrontReads.{BeginsNone}
-use Rattle.bpf_canon.specs.insn.FeedStream.{IsSound}
+use Rattle.bpf_canon.specs.insn.{FrontReads.BeginsNone, FeedStream.IsSound}
 
 -- ---- lengths
 

@@ -1,22 +1,14 @@
 -- Reading the complete instructions at the start of a buffer, and across the held bytes and a piece.
 use Rattle.std.proofs.Common.{◌≡◌, ◌<◌, ◌≤◌, ◌+◌, ◌-◌, ◌++◌, ◌∙◌, ℕ, List, [], ◌∷◌, Option, Some, length, take, drop, min, refl, sym, ap, subst, inl, inr, arith, append_assoc, length-append, length-drop}
-use Rattle.std.proofs.lemmas.Bool.{cases_lt}
-use Rattle.std.proofs.lemmas.List.{append-nil, length-take, take_all, take-append-drop, take-append-le}
-use Rattle.std.proofs.lemmas.List.Elements.{All-cons, All-nil}
-use Rattle.std.proofs.lemmas.Slice.{take-put_mid}
+use Rattle.std.proofs.lemmas.{Bool.cases_lt, Slice.take-put_mid}
+use Rattle.std.proofs.lemmas.List.{append-nil, length-take, take_all, take-append-drop, take-append-le, Elements.All-cons, Elements.All-nil}
 use Rattle.std.proofs.Math.Seq.{drop-append_seam, drop-append-add, take-append_seam}
 use borrow.Rule.Slice.PartMut.{put_mid}
 use Rattle.bpf_words.specs.declared.Order.{Order}
-use Rattle.bpf_insn.specs.declared.insn.Insn.{Insn}
-use Rattle.bpf_insn.specs.declared.fault.SlotCause.{SlotCause}
-use Rattle.bpf_insn.specs.declared.fault.SlotFault.{SlotFault}
-use Rattle.bpf_insn.specs.declared.whole_insns.InsnFront.{InsnFront}
-use Rattle.bpf_insn.specs.Table.{IsInsn}
-use Rattle.bpf_insn.specs.Spelling.{file_of, spelling, InsnFile}
+use Rattle.bpf_insn.specs.declared.{insn.Insn.Insn, whole_insns.InsnFront.InsnFront, fault.SlotCause.SlotCause, fault.SlotFault.SlotFault}
+use Rattle.bpf_insn.specs.{Table.IsInsn, Fronts.IsInsnFront, Fronts.StopsAt, Spelling.file_of, Spelling.spelling, Spelling.InsnFile}
 use Rattle.bpf_insn.specs.Faults.{BeginsWith, IsInsnFault, IsSlotFault}
-use Rattle.bpf_insn.specs.Fronts.{IsInsnFront, StopsAt}
-use Rattle.bpf_insn.proofs.FrontLemmas.{front_of}
-use Rattle.bpf_insn.proofs.StayLemmas.{slot_fault_stays}
+use Rattle.bpf_insn.proofs.{FrontLemmas.front_of, StayLemmas.slot_fault_stays}
 use Rattle.bpf_canon.specs.insn.FrontReads.{BeginsAcross, BeginsNone, ReadsFront}
 use Rattle.bpf_canon.proofs.InsnLemmas.FrontLaws.{cut_length, front_begins_none, front_fault, truncated_or_not}
 

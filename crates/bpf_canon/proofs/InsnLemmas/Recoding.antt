@@ -1,23 +1,17 @@
 -- The slots of a file, written in the other order, are the file in that order.
 use Rattle.std.proofs.Common.{◌≡◌, ℕ, ◌<◌, ◌≤◌, ◌+◌, ◌-◌, ℤ, pos, List, [], ◌∷◌, ◌++◌, Option, Some, None, length, take, drop, All, refl, sym, ap, ◌∙◌, append_assoc, append-nil, arith, length-append, length-drop, take-append-drop, subst, lit<}
 use Rattle.std.specs.List.{flat_map}
-use Rattle.std.proofs.lemmas.List.{drop-drop, length-take, take_all}
-use Rattle.std.proofs.lemmas.List.Elements.{All-head, All-tail, All-cons, All-append}
-use Rattle.std.proofs.lemmas.Int.{ints}
-use Rattle.std.proofs.lemmas.Grind.{flat_map-append}
-use Rattle.std.proofs.lemmas.Slice.{drop-put_mid, take-put_mid}
+use Rattle.std.proofs.lemmas.List.{drop-drop, length-take, take_all, Elements.All-head, Elements.All-tail, Elements.All-cons, Elements.All-append}
+use Rattle.std.proofs.lemmas.{Int.ints, Grind.flat_map-append, Slice.drop-put_mid, Slice.take-put_mid}
 use Rattle.std.proofs.Math.Seq.{drop-append_seam, drop-length, take-append_seam}
 use borrow.Rule.Slice.PartMut.{Post-is, mid_of, post_of, put_mid}
-use Rattle.bpf_words.specs.declared.Order.{Order}
-use Rattle.bpf_words.specs.declared.Order.TheVariants.{Little, Big}
+use Rattle.bpf_words.specs.declared.Order.{Order, TheVariants.Little, TheVariants.Big}
 use Rattle.bpf_words.specs.Slots.{Fields, AreFields, fields, spelled}
 use Rattle.bpf_words.proofs.OneSpelling.{spelled-injective}
-use Rattle.bpf_insn.specs.declared.insn.Insn.{Insn}
-use Rattle.bpf_insn.specs.declared.insn.Insn.TheVariants.{Wide}
+use Rattle.bpf_insn.specs.declared.insn.Insn.{Insn, TheVariants.Wide}
 use Rattle.bpf_insn.specs.Table.{IsInsn, fields_of, next_imm_of, wide_next_imm}
 use Rattle.bpf_insn.specs.Spelling.{spelling, second_slot, file_of, InsnFile}
-use Rattle.bpf_insn.proofs.FieldLemmas.{fields_in_range, wide_next_fits}
-use Rattle.bpf_insn.proofs.FaultLemmas.{slot_length}
+use Rattle.bpf_insn.proofs.{FieldLemmas.fields_in_range, FieldLemmas.wide_next_fits, FaultLemmas.slot_length}
 
 -- a second slot is one whose fields are 0, except the immediate
 abbrev pub second_fields : Option ℤ → List Fields

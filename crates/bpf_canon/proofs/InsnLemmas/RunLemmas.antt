@@ -1,24 +1,17 @@
 -- An engine between two reads.
 use Rattle.std.proofs.Common.{◌≡◌, ◌<◌, ◌≤◌, ◌+◌, ◌-◌, ◌++◌, ◌∙◌, ℕ, List, [], Option, None, length, take, min, refl, sym, ap, subst, arith, length-append}
-use Rattle.std.proofs.lemmas.List.{append-nil, take_all, take_min, take-take, length-take-le}
-use Rattle.std.proofs.lemmas.List.Concat.{flat_map-append}
-use Rattle.std.proofs.Math.Seq.{take-append-add, take-append_seam}
-use Rattle.std.proofs.Math.Nat.{min_comm}
+use Rattle.std.proofs.lemmas.List.{append-nil, take_all, take_min, take-take, length-take-le, Concat.flat_map-append}
+use Rattle.std.proofs.Math.{Seq.take-append-add, Seq.take-append_seam, Nat.min_comm}
 use Rattle.std.proofs.KnownBytes.{Appends-trans, Consumes-trans, Consumes-kept}
 use Rattle.std.specs.Io.KnownBytes.{Appends, Consumes, IsAtEnd, Keeps as KeepsBytes}
 use Rattle.bpf_words.specs.declared.Order.{Order}
-use Rattle.bpf_insn.specs.declared.insn.Insn.{Insn}
-use Rattle.bpf_insn.specs.declared.fault.SlotFault.{SlotFault}
-use Rattle.bpf_insn.specs.Spelling.{InsnFile, file_of, spelling}
-use Rattle.bpf_insn.specs.Faults.{IsFront, IsInsnFault}
+use Rattle.bpf_insn.specs.declared.{insn.Insn.Insn, fault.SlotFault.SlotFault}
+use Rattle.bpf_insn.specs.{Spelling.InsnFile, Spelling.file_of, Spelling.spelling, Faults.IsFront, Faults.IsInsnFault}
 use Rattle.bpf_insn.proofs.FrontLemmas.{one_front}
 use Rattle.bpf_canon.specs.declared.engine.RunCause.{RunCause}
 use Rattle.bpf_canon.specs.declared.engine.RunCause.TheVariants as cause
-use Rattle.bpf_canon.specs.insn.FeedState.{FeedState}
-use Rattle.bpf_canon.specs.insn.FeedStream.{IsSound, Moves, Represents}
-use Rattle.bpf_canon.specs.insn.Passed.{Passed, PassStops}
-use Rattle.bpf_canon.specs.device.Reads.{read_room}
-use Rattle.bpf_canon.specs.Engine.{Devices, devices}
+use Rattle.bpf_canon.specs.insn.{FeedState.FeedState, Passed.Passed, Passed.PassStops, FeedStream.IsSound, FeedStream.Moves, FeedStream.Represents}
+use Rattle.bpf_canon.specs.{device.Reads.read_room, Engine.Devices, Engine.devices}
 use Rattle.bpf_canon.specs.insn.Run.{RanWhole, StopsAtFault, StopsTooLong, StopsUnread, Stops, WroteAll, limit}
 use Rattle.bpf_canon.proofs.InsnLemmas.FeedLemmas.{keeps_answer, keeps_fault}
 use Rattle.bpf_canon.proofs.InsnLemmas.FrontLaws.{file_front, front_fits, front_grows}

@@ -2,10 +2,8 @@
 use Rattle.std.proofs.Common.{◌≡◌, ◌≢◌, ◌<◌, ◌+◌, ◌*◌, ◌/◌, ◌%◌, ◌^◌, ◌++◌, ◌∙◌, ℕ, zero, suc, List, [], ◌∷◌, length, slice_index, refl, ap, arith, bit_and, lit<}
 use Rattle.std.specs.Int.{w16, w32, w64, cast_unsigned, from_le_bytes, to_le_bytes}
 use Rattle.std.proofs.lemmas.Nat.{and_block, and_mask, le_bytes_8}
-use Rattle.bpf_words.specs.declared.Order.{Order}
-use Rattle.bpf_words.specs.declared.Order.TheVariants.{Little, Big}
-use Rattle.bpf_words.specs.Words.{IsBytes, word16, word32}
-use Rattle.bpf_words.specs.Slots.{AreFields, Fields, spelled}
+use Rattle.bpf_words.specs.declared.Order.{Order, TheVariants.Little, TheVariants.Big}
+use Rattle.bpf_words.specs.{Words.IsBytes, Words.word16, Words.word32, Slots.AreFields, Slots.Fields, Slots.spelled}
 
 -- ---- the bytes of halfwords exchanged
 

@@ -1,14 +1,10 @@
 -- What the calls for canonical BTF return, and the laws of canonical BTF.
 use Rattle.std.specs.Prelude.{◌≡◌, ◌≤◌, ℕ, List, length}
 use Rattle.std.specs.List.{All}
-use Rattle.bpf_words.specs.declared.Order.{Order}
-use Rattle.bpf_words.specs.declared.Order.TheVariants.{Little}
+use Rattle.bpf_words.specs.declared.Order.{Order, TheVariants.Little}
 use Rattle.btf_raw.specs.Header.{HasNulEnds}
-use Rattle.btf_types.specs.Values.{TypeRecord}
-use Rattle.btf_types.specs.strings.SharedNames.{hosts, shared_table}
-use Rattle.btf_types.specs.Good.{IsGood}
-use Rattle.btf_types.specs.Denotes.{Denotes}
-use Rattle.btf_types.specs.strings.TableLaws.{HasName}
+use Rattle.btf_types.specs.{Values.TypeRecord, Good.IsGood, Denotes.Denotes}
+use Rattle.btf_types.specs.strings.{SharedNames.hosts, SharedNames.shared_table, TableLaws.HasName}
 use Rattle.bpf_canon.specs.btf.CanonicalBtf.{canonical}
 
 -- The file denotes some records, and these are their canonical bytes in little-endian order. They are a valid file of the same records,

@@ -3,14 +3,10 @@
 use Rattle.std.specs.Prelude.{ℕ, ◌+◌, ◌*◌, ◌/◌, ◌%◌, ◌^◌, Bool, List, [], ◌∷◌, ◌++◌, length, map}
 use Rattle.std.specs.List.{flat_map}
 use Rattle.bpf_words.specs.declared.Order.{Order}
-use Rattle.btf_raw.specs.Header.{header}
-use Rattle.btf_raw.specs.Frames.{section_of}
+use Rattle.btf_raw.specs.{Header.header, Heads.bit, Frames.section_of}
 use Rattle.btf_types.specs.Values.{TypeHead, KStruct, KUnion, KEnum, KFwd, KDeclTag, KTypeTag, KEnum64, TypeItem, Member, EnumValue, Value64, Param, Entry, TypeRecord}
-use Rattle.btf_types.specs.Names.{head_name}
-use Rattle.btf_types.specs.strings.StringTable.{string_table, place_of}
-use Rattle.btf_raw.specs.Heads.{bit}
+use Rattle.btf_types.specs.{Names.head_name, Good.has_bit_fields, strings.StringTable.string_table, strings.StringTable.place_of}
 use Rattle.btf_types.specs.Spelling.{kind_number, head_third, record_vlen, head_tail, info}
-use Rattle.btf_types.specs.Good.{has_bit_fields}
 
 -- kind_flag: for a STRUCT or UNION, 0 if and only if all widths are 0; for a kind whose value includes it, that bit; 0 otherwise
 abbrev pub canonical_flag : TypeHead → Bool → ℕ
@@ -44,7 +40,7 @@ canonical_frames v = map (record_words (place_of v)) v
 abbrev pub canonical_types : Order → List TypeRecord → List ℕ
 canonical_types o v = section_of o (canonical_frames v)
 
--- a 24-byte header with type_off 0 and str_off = type_len, the records, and the string table
+-- a 24-byte header with type_off 0 and str_off = type_len, the records, and the string table (btf.rst section 2)
 abbrev pub canonical : Order → List TypeRecord → List ℕ
 canonical o v =
     header o 24 0 (length (canonical_types o v)) (length (canonical_types o v)) (length (string_table v)) ++ canonical_types o v ++ string_table v

@@ -3,13 +3,8 @@ use Rattle.std.specs.Prelude.{◌≡◌, ◌<◌, ◌≤◌, ◌+◌, ℕ, List,
 use Rattle.std.specs.Io.KnownBytes.{Appends, Consumes, IsAtEnd}
 use Rattle.bpf_words.specs.declared.Order.{Order}
 use Rattle.btf_raw.specs.declared.cause.BtfFault.{BtfFault}
-use Rattle.btf_types.specs.Values.{TypeRecord}
-use Rattle.btf_types.specs.Denotes.{Denotes}
-use Rattle.btf_types.specs.Faults.{IsFirst}
-use Rattle.bpf_canon.specs.btf.CanonicalBtf.{canonical}
-use Rattle.bpf_canon.specs.device.Reads.{read_room}
-use Rattle.bpf_canon.specs.Engine.{Devices}
-use Rattle.bpf_canon.specs.declared.engine.RunCause.{RunCause}
+use Rattle.btf_types.specs.{Values.TypeRecord, Denotes.Denotes, Faults.IsFirst}
+use Rattle.bpf_canon.specs.{btf.CanonicalBtf.canonical, declared.engine.RunCause.RunCause, device.Reads.read_room, Engine.Devices}
 use Rattle.bpf_canon.specs.declared.engine.RunCause.TheVariants as cause
 
 -- the largest number of bytes that the engine accepts
@@ -27,7 +22,7 @@ pub record WroteNothing (d : Devices) (written : ℕ) : Type 0 where
   pub kept : d.sink_after ≡ d.sink
   pub none : written ≡ 0
 
--- the input is a file of some records, and the sink accepted their canonical bytes in the order `to`
+-- the input is a file of some records, and the sink received their canonical bytes in the byte order `to`
 pub record RanBtf (d : Devices) (to : Order) (written : ℕ) : Type 0 where
   pub read : List ℕ
   pub input : CameWhole d read
@@ -74,7 +69,7 @@ pub record StopsBtfRefused (d : Devices) (written : ℕ) : Type 0 where
   pub near : length read ≤ btf_limit + read_room
   pub nothing : WroteNothing d written
 
--- what the engine did if it stops with this cause
+-- how the engine ended, for each cause: what was read, what the sink received, and why
 abbrev pub StopsBtf : Devices → Order → ℕ → RunCause BtfFault → Type 0
 StopsBtf d to written (cause.Fault f) = StopsAtBtfFault d written f
 StopsBtf d to written cause.TooLong = StopsBtfTooLong d written

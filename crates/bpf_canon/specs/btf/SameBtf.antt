@@ -2,14 +2,11 @@
 use Rattle.std.specs.Prelude.{◌≡◌, ◌↔◌, ℕ, Bool, List, IsTrue, ⊤}
 use Rattle.bpf_words.specs.declared.Order.TheVariants.{Little}
 use Rattle.btf_raw.specs.declared.cause.BtfFault.{BtfFault}
-use Rattle.btf_types.specs.Values.{TypeRecord}
-use Rattle.btf_types.specs.Denotes.{Denotes}
-use Rattle.btf_types.specs.Faults.{IsFirst}
-use Rattle.bpf_canon.specs.btf.CanonicalBtf.{canonical}
-use Rattle.bpf_canon.specs.declared.engine.SideError.{SideError}
+use Rattle.btf_types.specs.{Values.TypeRecord, Denotes.Denotes, Faults.IsFirst}
+use Rattle.bpf_canon.specs.{btf.CanonicalBtf.canonical, declared.engine.SideError.SideError}
 use Rattle.bpf_canon.specs.declared.engine.SideError.TheVariants as side
 
--- two files, and whether they denote the same records, which is whether their canonical bytes are equal
+-- whether two files denote the same records, which is whether their canonical bytes are equal
 pub record ComparesBtf (a b : List ℕ) (same : Bool) : Type 0 where
   pub first : List TypeRecord
   pub second : List TypeRecord
@@ -18,7 +15,7 @@ pub record ComparesBtf (a b : List ℕ) (same : Bool) : Type 0 where
   pub records : IsTrue same ↔ (first ≡ second)
   pub forms : IsTrue same ↔ (canonical Little first ≡ canonical Little second)
 
--- the fault in an error is the first fault of the first file, or that of the second, and then the first file is valid
+-- the fault is the first of the first file, or that of the second if the first has none
 abbrev pub NamesBtfSide : List ℕ → List ℕ → SideError BtfFault → Type 0
 NamesBtfSide a b (side.First f) = IsFirst a f
 NamesBtfSide a b (side.Second f) = ((v : List TypeRecord) × Denotes a v) × IsFirst b f

@@ -1,7 +1,6 @@
 -- How the in-memory devices read and write.
 use Rattle.std.specs.Prelude.{◌-◌, ◌+◌, ◌≤◌, ℕ, List, Option, option_map, vec_len, vec_capacity}
-use Rattle.bpf_canon.specs.declared.device.memory.MemSource.{MemSource}
-use Rattle.bpf_canon.specs.declared.device.memory.MemSink.{MemSink}
+use Rattle.bpf_canon.specs.declared.device.memory.{MemSource.MemSource, MemSink.MemSink}
 
 -- at most `piece` bytes per call; `good_calls` is the number of calls that still succeed, if not all do
 pub record Pace : Type 0 where
@@ -16,7 +15,7 @@ new_pace piece fuse = record { piece = piece; good_calls = option_map (λ n. n -
 abbrev pub next_pace : Pace → Pace
 next_pace p = record p { good_calls = option_map (λ n. n - 1) p.good_calls }
 
--- the bytes that a source hasn't returned yet
+-- the bytes that a source has still to return
 abbrev pub source_bytes : MemSource → List ℕ
 source_bytes s = s.rest.now
 
@@ -24,7 +23,7 @@ source_bytes s = s.rest.now
 abbrev pub source_failures : MemSource → ℕ
 source_failures s = s.failed_reads
 
--- how many bytes a read returns, and how many reads succeed
+-- how many bytes a source returns per read, and for how many reads
 abbrev pub source_pace : MemSource → Pace
 source_pace s = record { piece = s.piece; good_calls = s.good_reads }
 
@@ -36,10 +35,10 @@ sink_bytes s = s.out.now.items
 abbrev pub sink_failures : {A : Type 0} → MemSink A → ℕ
 sink_failures s = s.failed_writes
 
--- how many bytes a write accepts, and how many writes succeed
+-- how many bytes a sink accepts per write, and for how many writes
 abbrev pub sink_pace : {A : Type 0} → MemSink A → Pace
 sink_pace s = record { piece = s.piece; good_calls = s.good_writes }
 
--- whether the vector of a sink has capacity for n more bytes
+-- the vector of a sink has capacity for n more bytes
 abbrev pub HasRoom : {A : Type 0} → MemSink A → ℕ → Type 0
 HasRoom s n = vec_len s.out.now + n ≤ vec_capacity s.out.now

@@ -1,18 +1,17 @@
 -- How reading an entire input fails.
 use Rattle.std.specs.Prelude.{◌<◌, ◌≤◌, ◌+◌, ℕ, List, length}
-use Rattle.bpf_canon.specs.declared.device.source.ReadError.{ReadError}
-use Rattle.bpf_canon.specs.declared.device.source.ReadError.TheVariants.{TooLong, ReadFailed, Memory}
+use Rattle.bpf_canon.specs.declared.device.source.ReadError.{ReadError, TheVariants.TooLong, TheVariants.ReadFailed, TheVariants.Memory}
 
 -- the size in bytes of the buffer of each read
 abbrev pub read_room : ℕ
 read_room = 4096
 
--- the number of failed reads, if reading ends with this error
+-- how many reads failed when that reading fails
 abbrev pub failed_reads : ReadError → ℕ
 failed_reads ReadFailed = 1
 failed_reads _ = 0
 
--- the number of bytes read, if reading ends with this error; the last read may exceed the limit
+-- how much was read when reading an entire input fails; the last read may go past the limit
 abbrev pub EndsAmid : ℕ → List ℕ → ReadError → Type 0
 EndsAmid limit bytes TooLong = (limit < length bytes) × (length bytes ≤ limit + read_room)
 EndsAmid limit bytes ReadFailed = length bytes ≤ limit

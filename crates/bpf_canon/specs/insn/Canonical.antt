@@ -1,24 +1,19 @@
 -- Canonical bytes: instructions in little-endian order.
 use Rattle.std.specs.Prelude.{◌≡◌, ◌↔◌, ℕ, Bool, List, IsTrue, All}
-use Rattle.bpf_words.specs.declared.Order.{Order}
-use Rattle.bpf_words.specs.declared.Order.TheVariants.{Little}
-use Rattle.bpf_insn.specs.declared.insn.Insn.{Insn}
-use Rattle.bpf_insn.specs.declared.fault.SlotFault.{SlotFault}
-use Rattle.bpf_insn.specs.declared.decode.InsnError.{InsnError}
+use Rattle.bpf_words.specs.declared.Order.{Order, TheVariants.Little}
+use Rattle.bpf_insn.specs.declared.{insn.Insn.Insn, fault.SlotFault.SlotFault, decode.InsnError.InsnError}
 use Rattle.bpf_insn.specs.declared.decode.InsnError.TheVariants as error
-use Rattle.bpf_insn.specs.Table.{IsInsn}
-use Rattle.bpf_insn.specs.Spelling.{InsnFile, file_of}
-use Rattle.bpf_insn.specs.Faults.{IsInsnFault}
+use Rattle.bpf_insn.specs.{Table.IsInsn, Faults.IsInsnFault, Spelling.InsnFile, Spelling.file_of}
 use Rattle.bpf_canon.specs.declared.engine.SideError.{SideError}
 use Rattle.bpf_canon.specs.declared.engine.SideError.TheVariants as side
 
--- the bytes are a file of some instructions, whose bytes in little-endian order these are
+-- the bytes are a file of some instructions, and these are its canonical bytes
 pub record IsCanonical (o : Order) (bytes canon : List ℕ) : Type 0 where
   pub insns : List Insn
   pub file : InsnFile o bytes insns
   pub canonical : canon ≡ file_of Little insns
 
--- two files, and whether their instructions are the same, which is whether their canonical bytes are
+-- whether two files hold the same instructions, which is whether their canonical bytes are equal
 pub record Compares (o : Order) (a : List ℕ) (p : Order) (b : List ℕ) (same : Bool) : Type 0 where
   pub first : List Insn
   pub second : List Insn
@@ -32,7 +27,7 @@ abbrev pub NamesFault : Order → List ℕ → InsnError → Type 0
 NamesFault o b (error.Fault f) = IsInsnFault o b f
 NamesFault o b error.Memory = Unit {0}
 
--- the fault in an error is that of the first file, or that of the second, and then the first file is valid
+-- the fault is that of the first file, or that of the second if the first has none
 abbrev pub NamesSide : Order → List ℕ → Order → List ℕ → SideError SlotFault → Type 0
 NamesSide o a p b (side.First f) = IsInsnFault o a f
 NamesSide o a p b (side.Second f) = ((l : List Insn) × InsnFile o a l) × IsInsnFault p b f

@@ -1,10 +1,9 @@
 -- What a feed keeps between two pieces.
 use Rattle.std.specs.Prelude.{◌≡◌, ◌<◌, ◌≤◌, ◌+◌, ◌⊎◌, ℕ, List, [], Option, length, nat_lt, if◌then◌else◌}
 use Rattle.bpf_words.specs.declared.Order.{Order}
-use Rattle.bpf_insn.specs.declared.fault.SlotFault.{SlotFault}
-use Rattle.bpf_insn.specs.declared.fault.SlotCause.TheVariants.{Truncated}
-use Rattle.bpf_insn.specs.Faults.{IsSlotFault}
+use Rattle.bpf_insn.specs.{declared.fault.SlotFault.SlotFault, declared.fault.SlotCause.TheVariants.Truncated, Faults.IsSlotFault}
 
+-- what a feed keeps between two pieces: both byte orders, the bytes of an incomplete instruction, counts and a fault
 pub record FeedState : Type 0 where
   -- the byte order of the input, and the byte order of the output
   pub order : Order
@@ -26,7 +25,7 @@ missing_place n = if nat_lt n 8 then 0 else 8
 abbrev pub IsCut : Order → List ℕ → Type 0
 IsCut o s = (s ≡ []) ⊎ IsSlotFault o s (record { pos = missing_place (length s); cause = Truncated })
 
--- what a feed keeps between two pieces
+-- what always holds of a feed between two pieces
 pub record IsBetween (o : Order) (held : List ℕ) (held_len fed count : ℕ) : Type 0 where
   pub short : held_len < 16
   pub cut : IsCut o held

@@ -1,13 +1,9 @@
 -- What a feed represents: the stream of the bytes fed so far.
 use Rattle.std.specs.Prelude.{◌≡◌, ◌++◌, ◌+◌, ◌-◌, ℕ, List, [], ◌∷◌, Option, Some, None, Result, Ok, Err, length, MatchResult}
 use Rattle.bpf_words.specs.declared.Order.{Order}
-use Rattle.bpf_insn.specs.declared.insn.Insn.{Insn}
-use Rattle.bpf_insn.specs.declared.fault.SlotFault.{SlotFault}
-use Rattle.bpf_insn.specs.declared.fault.SlotCause.TheVariants.{Truncated}
-use Rattle.bpf_insn.specs.declared.decode.InsnError.{InsnError}
+use Rattle.bpf_insn.specs.declared.{insn.Insn.Insn, decode.InsnError.InsnError, fault.SlotFault.SlotFault, fault.SlotCause.TheVariants.Truncated}
 use Rattle.bpf_insn.specs.declared.decode.InsnError.TheVariants as error
-use Rattle.bpf_insn.specs.Spelling.{file_of, InsnFile}
-use Rattle.bpf_insn.specs.Faults.{IsFront, IsInsnFault}
+use Rattle.bpf_insn.specs.{Spelling.file_of, Spelling.InsnFile, Faults.IsFront, Faults.IsInsnFault}
 use Rattle.bpf_canon.specs.insn.FeedState.{FeedState, missing_place}
 
 -- the bytes have this fault, and no further bytes can change it
@@ -24,7 +20,7 @@ abbrev pub Keeps : Order → List ℕ → List ℕ → List ℕ → Option SlotF
 Keeps o b rest held None = IsSound o b × (held ≡ rest)
 Keeps o b rest held (Some f) = HasFault o b f × (held ≡ [])
 
--- the feed represents the stream b, read in one order and written in another
+-- the feed represents the bytes that it was given, read in one byte order and written in another
 pub record Represents (s : FeedState) (o to : Order) (b : List ℕ) : Type 0 where
   pub reads : s.order ≡ o
   pub writes : s.to ≡ to
@@ -55,18 +51,18 @@ abbrev pub IsLastingFaultOf : Order → List ℕ → InsnError → Type 0
 IsLastingFaultOf o b (error.Fault f) = HasFault o b f
 IsLastingFaultOf o b error.Memory = Unit {0}
 
--- a call that succeeds if the stream b has no lasting fault, and returns that fault otherwise
+-- the call succeeds if the stream has no lasting fault, and otherwise returns that fault
 abbrev pub AnswersFor : {T : Type 0} → Order → List ℕ → Result T InsnError → Type 0
 AnswersFor o b r = MatchResult r (λ _. IsSound o b) (IsLastingFaultOf o b)
 
--- what a piece does to a feed that keeps no fault, by the result: the feed and the output advance, or nothing changes
+-- what a piece does to a feed and its output: they move on to the longer stream, or nothing changes
 abbrev pub Feeds : FeedState → FeedState → List ℕ → List ℕ → List ℕ → Result (Unit {0}) InsnError → Type 0
 Feeds s t piece old new (Ok done) = Moves s t piece old new × ((t.fault ≡ None) × (t.fed ≡ s.fed + length piece))
 Feeds s t piece old new (Err (error.Fault f)) =
     Moves s t piece old new × ((t.fault ≡ Some f) × ((t.held ≡ []) × (t.fed ≡ s.fed + length piece)))
 Feeds s t piece old new (Err error.Memory) = (t ≡ s) × (new ≡ old)
 
--- the number of instructions of an instruction file, or the fault of an invalid one
+-- the number of instructions in the stream, or its first fault
 abbrev pub Finishes : Order → List ℕ → Result ℕ SlotFault → Type 0
 Finishes o b r = MatchResult r (λ n. (l : List Insn) × (InsnFile o b l × (n ≡ length l))) (IsInsnFault o b)
 

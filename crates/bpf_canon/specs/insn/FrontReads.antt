@@ -1,14 +1,8 @@
 -- The result of reading the complete instructions at the start of a buffer. Only private contracts cite it.
 use Rattle.std.specs.Prelude.{◌≡◌, ◌≤◌, ◌+◌, ◌++◌, ℕ, List, [], Option, Some, None, length, drop}
 use Rattle.bpf_words.specs.declared.Order.{Order}
-use Rattle.bpf_insn.specs.declared.insn.Insn.{Insn}
-use Rattle.bpf_insn.specs.declared.fault.SlotFault.{SlotFault}
-use Rattle.bpf_insn.specs.declared.whole_insns.InsnFront.{InsnFront}
-use Rattle.bpf_insn.specs.declared.fault.SlotCause.TheVariants.{Truncated}
-use Rattle.bpf_insn.specs.Table.{IsInsn}
-use Rattle.bpf_insn.specs.Spelling.{file_of, spelling}
-use Rattle.bpf_insn.specs.Faults.{BeginsWith, IsFront, IsSlotFault}
-use Rattle.bpf_insn.specs.Fronts.{StopsAt}
+use Rattle.bpf_insn.specs.declared.{insn.Insn.Insn, whole_insns.InsnFront.InsnFront, fault.SlotFault.SlotFault, fault.SlotCause.TheVariants.Truncated}
+use Rattle.bpf_insn.specs.{Table.IsInsn, Fronts.StopsAt, Spelling.file_of, Spelling.spelling, Faults.BeginsWith, Faults.IsFront, Faults.IsSlotFault}
 use Rattle.bpf_canon.specs.insn.FeedState.{FeedState, IsCut}
 
 -- the bytes don't begin with an instruction

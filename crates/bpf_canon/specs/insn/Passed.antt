@@ -2,9 +2,7 @@
 use Rattle.std.specs.Prelude.{◌≡◌, ◌≤◌, ℕ, List, [], Option, Some, None, length, take}
 use Rattle.std.specs.Io.KnownBytes.{Appends}
 use Rattle.bpf_insn.specs.declared.fault.SlotFault.{SlotFault}
-use Rattle.bpf_canon.specs.insn.FeedState.{FeedState}
-use Rattle.bpf_canon.specs.insn.FeedStream.{Moves}
-use Rattle.bpf_canon.specs.declared.engine.RunCause.{RunCause}
+use Rattle.bpf_canon.specs.{insn.FeedState.FeedState, insn.FeedStream.Moves, declared.engine.RunCause.RunCause}
 use Rattle.bpf_canon.specs.declared.engine.RunCause.TheVariants as cause
 
 -- the feed accepted the piece, and the sink the instructions that it completed

@@ -2,22 +2,16 @@
 use Rattle.std.specs.Prelude.{◌≡◌, ◌<◌, ◌≤◌, ◌+◌, ℕ, List, length, take}
 use Rattle.std.specs.Io.KnownBytes.{Appends, Consumes, IsAtEnd}
 use Rattle.bpf_words.specs.declared.Order.{Order}
-use Rattle.bpf_insn.specs.declared.insn.Insn.{Insn}
-use Rattle.bpf_insn.specs.declared.fault.SlotFault.{SlotFault}
-use Rattle.bpf_insn.specs.declared.fault.SlotCause.TheVariants.{Truncated}
-use Rattle.bpf_insn.specs.Spelling.{file_of, InsnFile}
-use Rattle.bpf_insn.specs.Faults.{IsFront, IsInsnFault}
-use Rattle.bpf_canon.specs.Engine.{Devices}
-use Rattle.bpf_canon.specs.device.Reads.{read_room}
-use Rattle.bpf_canon.specs.insn.FeedStream.{IsSound}
-use Rattle.bpf_canon.specs.declared.engine.RunCause.{RunCause}
+use Rattle.bpf_insn.specs.declared.{insn.Insn.Insn, fault.SlotFault.SlotFault, fault.SlotCause.TheVariants.Truncated}
+use Rattle.bpf_insn.specs.{Spelling.file_of, Spelling.InsnFile, Faults.IsFront, Faults.IsInsnFault}
+use Rattle.bpf_canon.specs.{Engine.Devices, device.Reads.read_room, insn.FeedStream.IsSound, declared.engine.RunCause.RunCause}
 use Rattle.bpf_canon.specs.declared.engine.RunCause.TheVariants as cause
 
 -- the largest number of bytes that an engine accepts
 abbrev pub limit : ℕ
 limit = 67108864
 
--- the source ended, the input is the encoding of some instructions, and the sink accepted these in the order `to`
+-- the source ended, what it returned is the spellings of some instructions, and the sink received these in the byte order `to`
 pub record RanWhole (d : Devices) (o to : Order) (written : ℕ) : Type 0 where
   pub read : List ℕ
   pub came : Consumes d.source d.source_after read
@@ -72,7 +66,7 @@ pub record StopsUnwritten (d : Devices) (o to : Order) (written : ℕ) : Type 0 
   pub read : List ℕ
   pub wrote : Wrote d o to read written
 
--- what an engine did if it stops with this cause
+-- how the engine ended, for each cause: what was read, what the sink received, and why
 abbrev pub Stops : Devices → Order → Order → ℕ → RunCause SlotFault → Type 0
 Stops d o to written (cause.Fault f) = StopsAtFault d o to written f
 Stops d o to written cause.TooLong = StopsTooLong d o to written

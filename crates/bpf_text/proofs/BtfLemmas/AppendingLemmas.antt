@@ -2,8 +2,7 @@
 use Rattle.std.proofs.Common.{◌≡◌, ℕ, suc, ◌+◌, ◌<◌, List, [], ◌∷◌, ◌++◌, length, take, get_or, sym, ap, ◌∙◌, arith, append_assoc}
 use Rattle.std.specs.Prelude.{Result, Ok, Err, MatchResult, OnOk, is_ok, cond}
 use Rattle.std.specs.List.{flat_map}
-use Rattle.std.proofs.lemmas.List.{flat_map_more}
-use Rattle.std.proofs.Math.Seq.{take-suc}
+use Rattle.std.proofs.{lemmas.List.flat_map_more, Math.Seq.take-suc}
 
 -- the bytes for one more element of a list
 pub one_more : {X : Type 0} (f : X → List ℕ) (old : List ℕ) (xs : List X) (k : ℕ) (d : X) → k < length xs

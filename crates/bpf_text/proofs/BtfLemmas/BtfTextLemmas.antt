@@ -1,10 +1,8 @@
 -- Lines of types and items that are appended in sequence.
 use Rattle.std.proofs.Common.{◌≡◌, ℕ, suc, ◌+◌, ◌<◌, Bool, List, [], ◌∷◌, ◌++◌, length, length-take, take, sym, ap, ◌∙◌, arith, Some}
-use Rattle.std.specs.Prelude.{slice_get}
-use Rattle.std.specs.List.{flat_map, enumerate_from}
+use Rattle.std.specs.{Prelude.slice_get, List.flat_map, List.enumerate_from}
 use Rattle.std.proofs.lemmas.List.{flat_map_more}
-use Rattle.btf_types.specs.Values.{TypeItem, TypeRecord}
-use Rattle.btf_types.specs.tables.TableWords.{record_at}
+use Rattle.btf_types.specs.{Values.TypeItem, Values.TypeRecord, tables.TableWords.record_at}
 use Rattle.btf_types.proofs.TableLemmas.TableWalk.{take_more, records_more}
 use Rattle.bpf_text.specs.btf.BtfText.{item_line, record_text, text_of}
 

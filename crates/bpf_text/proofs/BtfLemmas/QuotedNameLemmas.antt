@@ -1,8 +1,7 @@
 -- Names that are appended by runs of unescaped bytes.
 use Rattle.std.proofs.Common.{◌≡◌, ℕ, suc, ◌+◌, ◌-◌, ◌<◌, ◌≤◌, List, [], ◌∷◌, ◌++◌, length, take, drop, get_or, sym, ap, ◌∙◌, arith, append_assoc, append-nil, length-take}
 use Rattle.std.specs.List.{flat_map}
-use Rattle.std.proofs.lemmas.List.{drop-append-le, drop-take, drop_all}
-use Rattle.std.proofs.Math.Seq.{take-suc}
+use Rattle.std.proofs.{lemmas.List.drop-append-le, lemmas.List.drop-take, lemmas.List.drop_all, Math.Seq.take-suc}
 use Rattle.bpf_text.specs.btf.BtfText.{quoted_byte}
 use Rattle.bpf_text.proofs.BtfLemmas.AppendingLemmas.{one_more}
 

@@ -2,12 +2,9 @@
 use Rattle.std.proofs.Common.{◌≡◌, ℕ, suc, ◌+◌, ◌*◌, ◌<◌, ◌≤◌, Bool, true, false, cond, List, [], ◌∷◌, length, refl, sym, ap, ◌∙◌, arith}
 use Rattle.std.proofs.lemmas.List.{length-map}
 use Rattle.std.specs.List.{AllZip, slice_split, onto_first}
-use Rattle.bpf_insn.specs.declared.insn.WideOf.TheVariants.{Number}
-use Rattle.bpf_insn.specs.declared.insn.Insn.{Insn}
-use Rattle.bpf_insn.specs.declared.insn.Insn.TheVariants.{Wide}
+use Rattle.bpf_insn.specs.declared.insn.{WideOf.TheVariants.Number, Insn.Insn, Insn.TheVariants.Wide}
 use Rattle.bpf_text.specs.insn.Operands.{LineOperand, register, number, signed, memory, operand_kind, SpellsOperand, SpellsOperands, is_comma}
-use Rattle.bpf_text.specs.insn.Table.{operands_of}
-use Rattle.bpf_text.specs.insn.Listing.{IsForm}
+use Rattle.bpf_text.specs.insn.{Table.operands_of, Listing.IsForm}
 
 -- the number of elements of all parts
 abbrev total : {X : Type 0} → List (List X) → ℕ

@@ -11,12 +11,9 @@ use Rattle.bpf_insn.specs.declared.insn.SwapKind.TheVariants as swap
 use Rattle.bpf_insn.specs.declared.insn.SwapBits.TheVariants.{B16}
 use Rattle.bpf_insn.specs.declared.insn.AtomicOp.TheVariants as atomic
 use Rattle.bpf_text.specs.declared.insn.mnemonic.WideKind.TheVariants as kind
-use Rattle.bpf_text.specs.declared.insn.mnemonic.Mnemonic.{Mnemonic}
+use Rattle.bpf_text.specs.declared.insn.{mnemonic.Mnemonic.Mnemonic, mnemonic.TheConstants.ALL, mnemonic_hash.TheConstants.PLACES}
 use Rattle.bpf_text.specs.declared.insn.mnemonic.Mnemonic.TheVariants.{Alu, Movsx, Neg, Swap, Jump, JumpLong, Branch, CallHelper, CallLocal, CallBtf, Exit, Load, LoadSigned, StoreImm, StoreReg, Atomic, Wide, PacketAbs, PacketInd}
-use Rattle.bpf_text.specs.declared.insn.mnemonic.TheConstants.{ALL}
-use Rattle.bpf_text.specs.declared.insn.mnemonic_hash.TheConstants.{PLACES}
-use Rattle.bpf_text.specs.insn.Mnemonics.{text_of_mnemonic}
-use Rattle.bpf_text.specs.insn.MnemonicHash.{hash_of}
+use Rattle.bpf_text.specs.insn.{Mnemonics.text_of_mnemonic, MnemonicHash.hash_of}
 use Rattle.bpf_text.proofs.InsnLemmas.HashPlaces.{first, second}
 
 -- the entry to which the hash of a token leads

@@ -1,19 +1,13 @@
 -- A faulty line lists nothing.
 use Rattle.std.proofs.Common.{◌≡◌, ℕ, Bool, true, false, not, ◌||◌, ◌&&◌, List, [], ◌∷◌, ◌++◌, ◌⊎◌, inl, inr, refl, sym, ap, ◌∙◌, Result, Ok, Err, MatchResult}
-use Rattle.std.specs.Result.{IsErrAnd}
-use Rattle.std.specs.List.{AllZip, list_any, list_all}
-use Rattle.std.proofs.lemmas.Bool.{false≢true}
-use Rattle.std.proofs.lemmas.List.Folds.{list_any-append}
+use Rattle.std.specs.{Result.IsErrAnd, List.AllZip, List.list_any, List.list_all}
+use Rattle.std.proofs.lemmas.{Bool.false≢true, List.Folds.list_any-append}
 use Rattle.bpf_insn.specs.declared.insn.Insn.{Insn}
-use Rattle.bpf_text.specs.declared.insn.fault.LineCause.{LineCause}
-use Rattle.bpf_text.specs.declared.insn.fault.LineCause.TheVariants.{Char, Word, Shape, Range}
-use Rattle.bpf_text.specs.declared.insn.fault.ListError.{ListError}
-use Rattle.bpf_text.specs.declared.insn.fault.ListError.TheVariants.{Fault, Memory}
-use Rattle.bpf_text.specs.declared.insn.fault.LineFault.{LineFault}
-use Rattle.bpf_text.specs.insn.Table.{operands_of}
+use Rattle.bpf_text.specs.declared.insn.fault.LineCause.{LineCause, TheVariants.Char, TheVariants.Word, TheVariants.Shape, TheVariants.Range}
+use Rattle.bpf_text.specs.declared.insn.fault.{ListError.ListError, ListError.TheVariants.Fault, ListError.TheVariants.Memory, LineFault.LineFault}
+use Rattle.bpf_text.specs.insn.{Table.operands_of, Reading.RefusesText}
 use Rattle.bpf_text.specs.insn.Tokens.{code_of, is_blank, is_word_byte, is_symbol, is_stray, IsTokenBefore, AreTokens}
 use Rattle.bpf_text.specs.insn.Listing.{IsTokenForm, ListsLine, IsCause, Lists, IsListFault}
-use Rattle.bpf_text.specs.insn.Reading.{RefusesText}
 use Rattle.bpf_text.proofs.InsnLemmas.OneReading.{one_tokens}
 
 known : (a b c : Bool) → (a ≡ true) ⊎ (b ≡ true) ⊎ (c ≡ true) → not (a || b || c) ≡ false

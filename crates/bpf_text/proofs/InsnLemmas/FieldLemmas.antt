@@ -1,17 +1,12 @@
 -- The result of reading one field.
 use Rattle.std.proofs.Common.{◌≡◌, ◌≢◌, ◌^◌, ◌<◌, ℕ, ℤ, pos, refl, sym, ap, ◌∙◌, subst, Ok, Err, FitsSigned, Option, Some, None, IfSome, MatchOption}
-use Rattle.std.specs.Option.{ok_or}
-use Rattle.std.specs.Int.{Width, w16, w32}
-use Rattle.bpf_insn.specs.declared.insn.Reg.{Reg as Register}
-use Rattle.bpf_insn.specs.declared.insn.Operand.{Operand}
-use Rattle.bpf_insn.specs.declared.insn.Operand.TheVariants.{Imm, Reg}
+use Rattle.std.specs.{Option.ok_or, Int.Width, Int.w16, Int.w32}
+use Rattle.bpf_insn.specs.declared.insn.{Reg.Reg as Register, Operand.Operand, Operand.TheVariants.Imm, Operand.TheVariants.Reg}
 use Rattle.bpf_insn.specs.Table.{IsOperand}
-use Rattle.bpf_text.specs.declared.insn.number.Number.{Number}
+use Rattle.bpf_text.specs.declared.insn.{number.Number.Number, fault.LineCause.TheVariants.Range}
 use Rattle.bpf_text.specs.declared.insn.read_operand.ReadOperand.TheVariants.{Literal, Memory}
-use Rattle.bpf_text.specs.declared.insn.fault.LineCause.TheVariants.{Range}
 use Rattle.bpf_text.specs.insn.Operands.{LineOperand, register, number, signed, memory, operand_kind, a_number}
-use Rattle.bpf_text.specs.insn.Table.{source_operand}
-use Rattle.bpf_text.specs.insn.Numbers.{IsNumber, IsReadAs}
+use Rattle.bpf_text.specs.insn.{Table.source_operand, Numbers.IsNumber, Numbers.IsReadAs}
 use Rattle.bpf_text.specs.insn.OperandFields.{Field, address_field, source_field, imm64_field, ReadsField}
 
 -- a number in the range of the field

@@ -1,12 +1,9 @@
 -- The result of reading several fields of an instruction.
 use Rattle.std.proofs.Common.{◌≡◌, ◌≢◌, List, [], ◌∷◌, map, Result, Ok, Err}
 use Rattle.std.specs.List.{AllZip}
-use Rattle.bpf_text.specs.declared.insn.fault.LineCause.{LineCause}
-use Rattle.bpf_text.specs.declared.insn.fault.LineCause.TheVariants.{Shape, Range}
+use Rattle.bpf_text.specs.declared.insn.fault.LineCause.{LineCause, TheVariants.Shape, TheVariants.Range}
 use Rattle.bpf_text.specs.declared.insn.read_operand.ReadOperand.{ReadOperand}
-use Rattle.bpf_text.specs.insn.Operands.{LineOperand, operand_kind}
-use Rattle.bpf_text.specs.insn.Numbers.{IsReadAs}
-use Rattle.bpf_text.specs.insn.OperandFields.{plain, Field}
+use Rattle.bpf_text.specs.insn.{Operands.LineOperand, Operands.operand_kind, Numbers.IsReadAs, OperandFields.plain, OperandFields.Field}
 
 -- the fields of an instruction, in the order of its line
 pub record FieldList (X : Type 0) : Type 1 where

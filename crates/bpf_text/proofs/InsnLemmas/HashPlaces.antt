@@ -1,9 +1,7 @@
 -- Each index in the table of hashes is that of a mnemonic.
 use Rattle.std.proofs.Common.{◌≡◌, ℕ, zero, suc, ◌≤◌, Bool, true, false, ◌&&◌, List, [], ◌∷◌, get_or, refl, arith}
-use Rattle.std.specs.Prelude.{nat_le}
-use Rattle.std.specs.List.{list_all}
-use Rattle.std.proofs.lemmas.Bool.{false≢true}
-use Rattle.std.proofs.lemmas.Bool.Decides.{nat_tests}
+use Rattle.std.specs.{Prelude.nat_le, List.list_all}
+use Rattle.std.proofs.lemmas.Bool.{false≢true, Decides.nat_tests}
 
 pub first : (a b : Bool) → (a && b) ≡ true → a ≡ true
 first true b e = refl

@@ -1,19 +1,12 @@
 -- The lines that have been read so far.
 use Rattle.std.proofs.Common.{◌≡◌, ℕ, ◌+◌, List, [], ◌∷◌, ◌++◌, Option, Some, None, MatchOption, Result, Ok, Err, MatchResult, not, length, get_or, take, drop, refl, sym, ap, ◌∙◌, arith, append_assoc, append-nil, length-append}
-use Rattle.std.proofs.lemmas.Bool.{false_from_ne_true, not_from_false}
-use Rattle.std.proofs.lemmas.Grind.{get_or_default_zero}
-use Rattle.std.specs.Borrow.{Bor}
-use Rattle.std.specs.Result.{IsErrAnd}
-use Rattle.std.specs.List.{AllZip, flat_map, position_or_len, after_first}
+use Rattle.std.proofs.lemmas.{Bool.false_from_ne_true, Bool.not_from_false, Grind.get_or_default_zero}
+use Rattle.std.specs.{Borrow.Bor, Result.IsErrAnd, List.AllZip, List.flat_map, List.position_or_len, List.after_first}
 use Rattle.memchr.specs.Find.{Nowhere, NoneBefore, Passes, is_byte}
 use Rattle.bpf_insn.specs.declared.insn.Insn.{Insn}
-use Rattle.bpf_text.specs.insn.Tokens.{is_newline}
-use Rattle.bpf_text.specs.insn.Listing.{lines_of, ListsLine, Lists}
-use Rattle.bpf_text.specs.insn.Reading.{RefusesText, RefusesLine}
-use Rattle.bpf_text.specs.declared.insn.fault.ListError.{ListError}
-use Rattle.bpf_text.specs.declared.insn.fault.ListError.TheVariants.{Fault, Memory}
-use Rattle.std.proofs.lemmas.List.Concat.{flat_map-append}
-use Rattle.std.proofs.lemmas.List.Splits.{slice_split_none, slice_split_first}
+use Rattle.bpf_text.specs.insn.{Tokens.is_newline, Reading.RefusesText, Reading.RefusesLine, Listing.lines_of, Listing.ListsLine, Listing.Lists}
+use Rattle.bpf_text.specs.declared.insn.fault.ListError.{ListError, TheVariants.Fault, TheVariants.Memory}
+use Rattle.std.proofs.lemmas.List.{Concat.flat_map-append, Splits.slice_split_none, Splits.slice_split_first}
 use Rattle.bpf_text.proofs.InsnLemmas.TokenLemmas.{run_found}
 
 -- the lines before the rest list the instructions, and the rest begins with line number n

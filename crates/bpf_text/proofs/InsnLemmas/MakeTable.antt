@@ -7,16 +7,12 @@ use Rattle.bpf_insn.specs.declared.insn.WideOf.TheVariants as of
 use Rattle.bpf_insn.specs.declared.insn.Insn.{Insn}
 use Rattle.bpf_insn.specs.declared.insn.Insn.TheVariants as insn
 use Rattle.bpf_insn.specs.Table.{IsInsn}
-use Rattle.bpf_text.specs.declared.insn.fault.LineCause.{LineCause}
-use Rattle.bpf_text.specs.declared.insn.fault.LineCause.TheVariants.{Char, Word, Shape, Range}
+use Rattle.bpf_text.specs.declared.insn.fault.LineCause.{LineCause, TheVariants.Char, TheVariants.Word, TheVariants.Shape, TheVariants.Range}
 use Rattle.bpf_text.specs.declared.insn.mnemonic.WideKind.TheVariants as kind
-use Rattle.bpf_text.specs.declared.insn.mnemonic.Mnemonic.{Mnemonic}
+use Rattle.bpf_text.specs.declared.insn.{mnemonic.Mnemonic.Mnemonic, read_operand.ReadOperand.ReadOperand}
 use Rattle.bpf_text.specs.declared.insn.mnemonic.Mnemonic.TheVariants.{Alu, Movsx, Neg, Swap, Jump, JumpLong, Branch, CallHelper, CallLocal, CallBtf, Exit, Load, LoadSigned, StoreImm, StoreReg, Atomic, Wide, PacketAbs, PacketInd}
-use Rattle.bpf_text.specs.declared.insn.read_operand.ReadOperand.{ReadOperand}
 use Rattle.bpf_text.specs.insn.Operands.{LineOperand, register, number, operand_kind}
-use Rattle.bpf_text.specs.insn.Table.{source_operand, operands_of}
-use Rattle.bpf_text.specs.insn.Mnemonics.{mnemonic_of}
-use Rattle.bpf_text.specs.insn.Numbers.{IsReadAs}
+use Rattle.bpf_text.specs.insn.{Table.source_operand, Table.operands_of, Mnemonics.mnemonic_of, Numbers.IsReadAs}
 use Rattle.bpf_text.specs.insn.OperandFields.{plain, ReadsInsn, register_field, imm_field, offset_field, imm64_field, source_field, address_field}
 use Rattle.bpf_text.proofs.InsnLemmas.FieldLists.{FieldList, last_field, field_then, ReadsFields, FieldsAreRead}
 use Rattle.bpf_text.proofs.InsnLemmas.OperandFieldsLemmas.{plain_kinds}

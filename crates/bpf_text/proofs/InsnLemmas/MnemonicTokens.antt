@@ -4,11 +4,8 @@ use Rattle.std.specs.List.{list_all}
 use Rattle.std.proofs.lemmas.Bool.{false≢true}
 use Rattle.bpf_text.specs.declared.insn.mnemonic.Mnemonic.{Mnemonic}
 use Rattle.bpf_insn.specs.declared.insn.Insn.{Insn}
-use Rattle.bpf_text.specs.insn.Mnemonics.{text_of_mnemonic, mnemonic_of}
-use Rattle.bpf_text.specs.insn.Table.{mnemonic_text}
-use Rattle.bpf_text.specs.insn.Tokens.{is_word_byte}
-use Rattle.bpf_text.proofs.InsnLemmas.EachMnemonic.{each_passes}
-use Rattle.bpf_text.proofs.InsnLemmas.OneInsn.{mnemonic_text_is}
+use Rattle.bpf_text.specs.insn.{Mnemonics.text_of_mnemonic, Mnemonics.mnemonic_of, Table.mnemonic_text, Tokens.is_word_byte}
+use Rattle.bpf_text.proofs.InsnLemmas.{EachMnemonic.each_passes, OneInsn.mnemonic_text_is}
 
 -- whether there are at most this many elements
 abbrev is_within : ℕ → List ℕ → Bool

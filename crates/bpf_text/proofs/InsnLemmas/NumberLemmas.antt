@@ -1,11 +1,7 @@
 -- The number that the digits of a token spell.
 use Rattle.std.proofs.Common.{◌≡◌, ℕ, zero, suc, ◌<◌, List, [], ◌∷◌, ◌++◌, ◌⊎◌, inl, inr, length, get_or, drop, refl, sym, ap, ◌∙◌, codes, arith, Bool, true, false, MatchBool, ℤ, pos, neg_ℤ, FitsSigned, subst, Result, Ok, Err, OkIff, MatchOption}
-use Rattle.std.specs.Result.{result_ok}
-use Rattle.std.specs.Char.{digit_value}
-use Rattle.std.specs.Str.Parse.{AllDigits, IsNumeral, digits_value}
-use Rattle.bpf_text.specs.insn.Operands.{SpellsMagnitude}
-use Rattle.bpf_text.specs.insn.Numbers.{signed_by, IsFar}
-use Rattle.std.specs.Int.{w16, w32}
+use Rattle.std.specs.{Result.result_ok, Char.digit_value, Int.w16, Int.w32, Str.Parse.AllDigits, Str.Parse.IsNumeral, Str.Parse.digits_value}
+use Rattle.bpf_text.specs.insn.{Operands.SpellsMagnitude, Numbers.signed_by, Numbers.IsFar}
 use Rattle.std.proofs.lemmas.Int.{ints}
 
 pub digit_below : (radix : ℕ) (ds : List ℕ) (i : ℕ) → AllDigits radix ds → i < length ds → digit_value (get_or ds i 0) < radix

@@ -3,13 +3,10 @@ use Rattle.std.proofs.Common.{◌≡◌, ℕ, suc, ◌+◌, true, List, [], ◌�
 use Rattle.std.specs.List.{AllZip, list_any}
 use Rattle.std.proofs.lemmas.Bool.{false≢true}
 use Rattle.bpf_insn.specs.declared.insn.Insn.{Insn}
-use Rattle.bpf_text.specs.declared.insn.fault.LineCause.{LineCause}
-use Rattle.bpf_text.specs.declared.insn.fault.LineCause.TheVariants.{Char, Word, Shape, Range}
-use Rattle.bpf_text.specs.declared.insn.fault.LineFault.{LineFault}
-use Rattle.bpf_text.specs.insn.Tokens.{code_of, is_stray, AreTokens}
+use Rattle.bpf_text.specs.declared.insn.fault.LineCause.{LineCause, TheVariants.Char, TheVariants.Word, TheVariants.Shape, TheVariants.Range}
+use Rattle.bpf_text.specs.{declared.insn.fault.LineFault.LineFault, insn.Tokens.code_of, insn.Tokens.is_stray, insn.Tokens.AreTokens}
 use Rattle.bpf_text.specs.insn.Listing.{IsMnemonic, IsForm, IsCause, ListsLine, IsListFault}
-use Rattle.bpf_text.proofs.InsnLemmas.OneReading.{one_tokens}
-use Rattle.bpf_text.proofs.InsnLemmas.Excludes.{no_stray, excludes}
+use Rattle.bpf_text.proofs.InsnLemmas.{OneReading.one_tokens, Excludes.no_stray, Excludes.excludes}
 
 -- ---- one cause
 

@@ -1,10 +1,7 @@
 -- Tokens spell at most one operand, up to how its sign is written.
 use Rattle.std.proofs.Common.{◌≡◌, ℕ, ◌<◌, ◌≤◌, ℤ, pos, neg_ℤ, List, [], ◌∷◌, ◌++◌, ◌⊎◌, inl, inr, drop, refl, sym, ap, ◌∙◌, subst, arith, codes, map}
-use Rattle.std.specs.List.{AllZip, slice_split}
-use Rattle.std.specs.Fmt.{decimal}
-use Rattle.std.specs.Str.Parse.{IsNumeral, digits_value}
-use Rattle.std.proofs.Math.Bridge.{le_prop}
-use Rattle.std.proofs.lemmas.Fmt.{decimal_is_IsNumeral}
+use Rattle.std.specs.{List.AllZip, List.slice_split, Fmt.decimal, Str.Parse.IsNumeral, Str.Parse.digits_value}
+use Rattle.std.proofs.{Math.Bridge.le_prop, lemmas.Fmt.decimal_is_IsNumeral}
 use Rattle.bpf_insn.specs.declared.insn.Reg.{Reg}
 use Rattle.bpf_text.specs.insn.Operands.{LineOperand, register, number, signed, memory, SpellsMagnitude, SpellsSigned, SpellsNumber, SpellsRegister, SpellsMemory, SpellsOperand, SpellsOperands, is_comma}
 use Rattle.bpf_text.specs.insn.OperandFields.{plain}

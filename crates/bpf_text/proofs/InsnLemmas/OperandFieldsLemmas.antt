@@ -5,14 +5,10 @@ use Rattle.std.specs.List.{AllZip}
 use Rattle.bpf_insn.specs.declared.insn.WideOf.TheVariants as of
 use Rattle.bpf_insn.specs.declared.insn.Insn.{Insn}
 use Rattle.bpf_insn.specs.declared.insn.Insn.TheVariants as insn
-use Rattle.bpf_text.specs.declared.insn.fault.LineCause.{LineCause}
-use Rattle.bpf_text.specs.declared.insn.fault.LineCause.TheVariants.{Char, Word, Shape, Range}
-use Rattle.bpf_text.specs.declared.insn.mnemonic.Mnemonic.{Mnemonic}
-use Rattle.bpf_text.specs.declared.insn.read_operand.ReadOperand.{ReadOperand}
+use Rattle.bpf_text.specs.declared.insn.fault.LineCause.{LineCause, TheVariants.Char, TheVariants.Word, TheVariants.Shape, TheVariants.Range}
+use Rattle.bpf_text.specs.declared.insn.{mnemonic.Mnemonic.Mnemonic, read_operand.ReadOperand.ReadOperand}
 use Rattle.bpf_text.specs.insn.Operands.{LineOperand, register, number, signed, memory, operand_kind}
-use Rattle.bpf_text.specs.insn.Table.{operands_of}
-use Rattle.bpf_text.specs.insn.Mnemonics.{mnemonic_of}
-use Rattle.bpf_text.specs.insn.Numbers.{IsReadAs}
+use Rattle.bpf_text.specs.insn.{Table.operands_of, Numbers.IsReadAs, Mnemonics.mnemonic_of}
 use Rattle.bpf_text.specs.insn.OperandFields.{operand_count, plain, Field, ReadsField, FieldIsRead, ReadsInsn, both_read}
 use Rattle.bpf_text.proofs.InsnLemmas.FieldLists.{FieldList, last_field, field_then, ReadsFields, FieldsAreRead}
 

@@ -1,15 +1,11 @@
 -- The operands that have been read so far.
 use Rattle.std.proofs.Common.{◌≡◌, ℕ, ◌+◌, ◌-◌, ◌<◌, ◌≤◌, Bool, true, false, eqb, List, [], ◌∷◌, ◌++◌, ◌⊎◌, inl, inr, length, get_or, take, drop, map, refl, sym, ap, ◌∙◌, arith, append_assoc, take_all}
-use Rattle.std.specs.Borrow.{Bor}
-use Rattle.std.specs.List.{AllZip, slice_split, position_or_len, before_first, after_first}
-use Rattle.std.proofs.lemmas.Bool.{cases_lt}
-use Rattle.std.proofs.lemmas.Bool.Decides.{nat_tests}
+use Rattle.std.specs.{Borrow.Bor, List.AllZip, List.slice_split, List.position_or_len, List.before_first, List.after_first}
+use Rattle.std.proofs.lemmas.Bool.{cases_lt, Decides.nat_tests}
 use Rattle.std.proofs.lemmas.List.{length-append, length-drop, drop-drop, length-map, take-map, drop-map, get_or-drop}
-use Rattle.std.proofs.lemmas.List.Splits.{slice_split_none, slice_split_first}
-use Rattle.std.proofs.lemmas.List.Sums.{fails_before_first, position_or_len_is}
+use Rattle.std.proofs.lemmas.List.{Splits.slice_split_none, Splits.slice_split_first, Sums.fails_before_first, Sums.position_or_len_is}
 use Rattle.bpf_text.specs.declared.insn.read_operand.ReadOperand.{ReadOperand}
-use Rattle.bpf_text.specs.insn.Operands.{LineOperand, SpellsOperand, SpellsOperands, is_comma}
-use Rattle.bpf_text.specs.insn.Numbers.{IsReadAs}
+use Rattle.bpf_text.specs.insn.{Operands.LineOperand, Operands.SpellsOperand, Operands.SpellsOperands, Operands.is_comma, Numbers.IsReadAs}
 use Rattle.bpf_text.proofs.InsnLemmas.Bounds.{zip_length}
 
 abbrev pub bytes_of : Bor (List ℕ) → List ℕ

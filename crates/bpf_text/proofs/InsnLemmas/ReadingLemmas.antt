@@ -2,29 +2,20 @@
 use Rattle.std.proofs.Common.{◌≡◌, ◌≢◌, ℕ, pos, List, [], ◌∷◌, map, refl, sym, ap, ◌∙◌, subst, Result, Ok, Err, ◌<◌, ◌≤◌, false, length, arith}
 use Rattle.bpf_text.specs.insn.Tokens.{code_of, is_stray, StartsWithToken, AreTokens}
 use Rattle.std.specs.List.{AllZip, slice_split, list_any}
-use Rattle.bpf_insn.specs.declared.insn.Reg.{Reg}
-use Rattle.bpf_insn.specs.declared.insn.Insn.{Insn}
+use Rattle.bpf_insn.specs.declared.insn.{Reg.Reg, Insn.Insn}
 use Rattle.bpf_insn.specs.declared.insn.Insn.TheVariants as insn
 use Rattle.bpf_insn.specs.declared.insn.Operand.TheVariants as arg
 use Rattle.bpf_insn.specs.Table.{IsImm, IsInsn, IsOffset}
 use Rattle.bpf_insn.specs.declared.insn.WideOf.TheVariants as of
-use Rattle.bpf_text.specs.declared.insn.fault.LineCause.{LineCause}
-use Rattle.bpf_text.specs.declared.insn.fault.LineCause.TheVariants.{Char, Word, Shape, Range}
+use Rattle.bpf_text.specs.declared.insn.fault.LineCause.{LineCause, TheVariants.Char, TheVariants.Word, TheVariants.Shape, TheVariants.Range}
 use Rattle.bpf_text.specs.declared.insn.mnemonic.WideKind.TheVariants as kind
-use Rattle.bpf_text.specs.declared.insn.mnemonic.Mnemonic.{Mnemonic}
+use Rattle.bpf_text.specs.{declared.insn.mnemonic.Mnemonic.Mnemonic, insn.Table.mnemonic_text, insn.Table.operands_of, insn.Reading.ReadsTokens}
 use Rattle.bpf_text.specs.declared.insn.mnemonic.Mnemonic.TheVariants.{Alu, Movsx, Neg, Swap, Jump, JumpLong, Branch, CallHelper, CallLocal, CallBtf, Exit, Load, LoadSigned, StoreImm, StoreReg, Atomic, Wide, PacketAbs, PacketInd}
 use Rattle.bpf_text.specs.insn.Operands.{LineOperand, register, number, signed, memory, operand_kind, SpellsOperand, SpellsOperands, is_comma}
-use Rattle.bpf_text.specs.insn.Table.{mnemonic_text, operands_of}
-use Rattle.bpf_text.specs.insn.Mnemonics.{mnemonic_of, text_of_mnemonic}
-use Rattle.bpf_text.specs.insn.OperandFields.{plain, ReadsInsn}
+use Rattle.bpf_text.specs.insn.{Mnemonics.mnemonic_of, Mnemonics.text_of_mnemonic, OperandFields.plain, OperandFields.ReadsInsn}
 use Rattle.bpf_text.specs.insn.Listing.{IsMnemonic, IsForm, ListsInsn, IsCause}
-use Rattle.bpf_text.specs.insn.Reading.{ReadsTokens}
-use Rattle.bpf_text.proofs.InsnLemmas.Bounds.{tokens_bound, form_bound}
-use Rattle.bpf_text.proofs.InsnLemmas.TokensExist.{tokens_exist}
-use Rattle.bpf_text.proofs.InsnLemmas.EachMnemonic.{one_mnemonic}
-use Rattle.bpf_text.proofs.InsnLemmas.OneOperand.{one_operands}
-use Rattle.bpf_text.proofs.InsnLemmas.OneInsn.{mnemonic_text_is}
-use Rattle.bpf_text.proofs.InsnLemmas.OperandFieldsLemmas.{plain_kinds}
+use Rattle.bpf_text.proofs.InsnLemmas.{Bounds.tokens_bound, Bounds.form_bound, OperandFieldsLemmas.plain_kinds}
+use Rattle.bpf_text.proofs.InsnLemmas.{TokensExist.tokens_exist, OneOperand.one_operands, EachMnemonic.one_mnemonic, OneInsn.mnemonic_text_is}
 
 zero_imm : IsImm (pos 0)
 zero_imm = omega arith

@@ -1,10 +1,7 @@
 -- How registers are written.
 use Rattle.std.proofs.Common.{◌≡◌, ◌≢◌, ℕ, ◌+◌, ◌<◌, ◌≤◌, Bool, true, false, List, [], ◌∷◌, ◌++◌, inl, inr, Option, Some, None, refl, sym, ap, ◌∙◌, subst, codes, arith, eqb, IfSome, MatchOption}
-use Rattle.std.specs.Fmt.{digits, decimal}
-use Rattle.std.specs.Cmp.Lexicographic.{pointwise}
-use Rattle.std.proofs.lemmas.Bool.{cases_lt, false≢true}
-use Rattle.std.proofs.lemmas.Bool.Decides.{Decides-eqb}
-use Rattle.std.proofs.lemmas.Slice.Eq.{slice_eq-Decides}
+use Rattle.std.specs.{Fmt.digits, Fmt.decimal, Cmp.Lexicographic.pointwise}
+use Rattle.std.proofs.lemmas.{Bool.cases_lt, Bool.false≢true, Bool.Decides.Decides-eqb, Slice.Eq.slice_eq-Decides}
 use Rattle.bpf_insn.specs.declared.insn.Reg.{Reg}
 use Rattle.bpf_text.specs.insn.Operands.{SpellsRegister}
 

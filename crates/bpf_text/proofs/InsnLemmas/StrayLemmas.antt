@@ -2,9 +2,7 @@
 use Rattle.std.proofs.Common.{◌≡◌, ℕ, ◌<◌, ◌≤◌, Bool, true, false, not, eqb, List, [], ◌∷◌, inl, inr, ◌⊎◌, length, get_or, take, refl, sym, ap, ◌∙◌, arith}
 use Rattle.std.specs.List.{list_any, list_all, position_or_len}
 use Rattle.std.proofs.lemmas.Bool.{false≢true, eqb-true, cases_lt}
-use Rattle.std.proofs.lemmas.List.{get_or-take, length-take}
-use Rattle.std.proofs.lemmas.List.Sums.{fails_before_first, passes_at_first}
-use Rattle.std.proofs.lemmas.List.Folds.{list_any_at}
+use Rattle.std.proofs.lemmas.List.{get_or-take, length-take, Sums.fails_before_first, Sums.passes_at_first, Folds.list_any_at}
 use Rattle.bpf_text.specs.insn.Tokens.{is_comment_mark, is_stray, code_of}
 use Rattle.bpf_text.proofs.InsnLemmas.TokenLemmas.{run_found, run_whole, run_passes}
 

@@ -3,9 +3,7 @@ use Rattle.std.proofs.Common.{◌≡◌, ℕ, ◌<◌, ◌≤◌, Bool, true, fa
 use Rattle.std.specs.List.{list_any, list_all, prefix_len}
 use Rattle.std.proofs.lemmas.List.{get_or-take, take-append-drop, length-append, length-drop, length-take, length-take-le, get_or-drop, take_all, append_assoc}
 use Rattle.std.proofs.lemmas.List.Sums.{prefix_len_is, prefix_len_passes, prefix_len_stops, prefix_len-le-length, list_all-from_AllPass}
-use Rattle.std.proofs.lemmas.List.Folds.{list_any_at, list_any-append}
-use Rattle.std.proofs.lemmas.Bool.{false≢true}
-use Rattle.std.proofs.lemmas.Bool.Decides.{nat_tests}
+use Rattle.std.proofs.lemmas.{List.Folds.list_any_at, List.Folds.list_any-append, Bool.false≢true, Bool.Decides.nat_tests}
 use Rattle.bpf_text.specs.insn.Tokens.{is_blank, is_word_byte, is_symbol, is_stray, BeginsWithWordByte, IsTokenBefore, StartsWithToken, AreTokens}
 
 -- a run by index

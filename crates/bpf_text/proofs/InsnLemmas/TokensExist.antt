@@ -1,8 +1,7 @@
 -- Bytes without stray bytes can be split into tokens.
 use Rattle.std.proofs.Common.{◌≡◌, ℕ, zero, suc, ◌+◌, ◌<◌, ◌≤◌, false, List, [], ◌∷◌, ◌++◌, ◌⊎◌, inl, inr, length, take, drop, refl, sym, ap, ◌∙◌, subst, arith, append_assoc}
 use Rattle.std.specs.List.{list_any, prefix_len}
-use Rattle.std.proofs.lemmas.Bool.{cases_lt}
-use Rattle.std.proofs.lemmas.List.{length-append}
+use Rattle.std.proofs.lemmas.{Bool.cases_lt, List.length-append}
 use Rattle.bpf_text.specs.insn.Tokens.{is_blank, is_word_byte, is_stray, StartsWithToken, AreTokens}
 use Rattle.bpf_text.proofs.InsnLemmas.TokenLemmas.{all_blank, word_starts, symbol_starts, none_stray_following, shorter_following}
 use Rattle.bpf_text.proofs.InsnLemmas.OneReading.{one_start, none_or_some}

@@ -1,28 +1,17 @@
 -- The listing of instructions lists them.
 use Rattle.std.proofs.Common.{◌≡◌, ℕ, suc, ◌+◌, ◌<◌, ◌≤◌, ℤ, pos, negsuc, Bool, true, false, List, [], ◌∷◌, ◌++◌, ◌⊎◌, inl, inr, length, get_or, take, take_all, refl, sym, ap, ◌∙◌, subst, arith, append_assoc, append-nil, codes, FitsSigned}
-use Rattle.std.specs.Int.{w16, w32}
-use Rattle.std.specs.List.{AllZip, All, list_any, flat_map, position_or_len}
-use Rattle.std.proofs.lemmas.Int.{ints}
-use Rattle.std.proofs.lemmas.Bool.{cases_lt, false≢true}
-use Rattle.std.proofs.lemmas.Bool.Decides.{nat_tests}
-use Rattle.std.proofs.lemmas.List.Sums.{position_or_len_is}
-use Rattle.std.proofs.lemmas.List.{get_or_default, take_more}
-use Rattle.std.proofs.lemmas.List.Concat.{flat_map-append}
-use Rattle.std.proofs.lemmas.List.Splits.{slice_split_at}
-use Rattle.bpf_insn.specs.declared.insn.Operand.{Operand}
-use Rattle.bpf_insn.specs.declared.insn.Operand.TheVariants.{Imm, Reg}
+use Rattle.std.specs.{Int.w16, Int.w32, List.AllZip, List.All, List.list_any, List.flat_map, List.position_or_len}
+use Rattle.std.proofs.lemmas.{Int.ints, Bool.cases_lt, Bool.false≢true, Bool.Decides.nat_tests}
+use Rattle.std.proofs.lemmas.List.{get_or_default, take_more, Sums.position_or_len_is, Concat.flat_map-append, Splits.slice_split_at}
+use Rattle.bpf_insn.specs.declared.insn.{Operand.Operand, Operand.TheVariants.Imm, Operand.TheVariants.Reg, Insn.Insn}
 use Rattle.bpf_insn.specs.declared.insn.WideOf.TheVariants.{Number, MapFd, MapValueFd, VarAddr, CodeAddr, MapIdx, MapValueIdx}
-use Rattle.bpf_insn.specs.declared.insn.Insn.{Insn}
 use Rattle.bpf_insn.specs.declared.insn.Insn.TheVariants.{Alu, Movsx, Neg, Swap, Jump, JumpLong, Branch, CallHelper, CallLocal, CallBtf, Exit, Load, LoadSigned, StoreImm, StoreReg, Atomic, Wide, PacketAbs, PacketInd}
 use Rattle.bpf_insn.specs.Table.{IsInsn, IsOperand}
-use Rattle.bpf_text.specs.insn.Table.{mnemonic_text, source_operand, operands_of}
-use Rattle.bpf_text.specs.insn.Lines.{spaced, line_of, listing_of}
+use Rattle.bpf_text.specs.insn.{Table.mnemonic_text, Table.source_operand, Table.operands_of, Lines.spaced, Lines.line_of, Lines.listing_of}
 use Rattle.bpf_text.specs.insn.Tokens.{is_newline, is_comment_mark, is_stray, code_of, AreTokens}
 use Rattle.bpf_text.specs.insn.Listing.{lines_of, ListsInsn, ListsLine, Lists}
-use Rattle.bpf_text.proofs.InsnLemmas.Excludes.{no_stray}
-use Rattle.bpf_text.proofs.InsnLemmas.MnemonicTokens.{mnemonic_is_token}
+use Rattle.bpf_text.proofs.InsnLemmas.{Excludes.no_stray, MnemonicTokens.mnemonic_is_token, WrittenSpells.none_passes, WrittenSpells.operands_spell}
 use Rattle.bpf_text.proofs.InsnLemmas.WrittenTokens.{IsNear, IsWritable, AreWritable, operands_tokens, word_then, spaced_then}
-use Rattle.bpf_text.proofs.InsnLemmas.WrittenSpells.{none_passes, operands_spell}
 
 -- ---- the fields of an instruction are in range
 

@@ -1,16 +1,10 @@
 -- The tokens of written lines.
 use Rattle.std.proofs.Common.{◌≡◌, ◌≢◌, ℕ, suc, ◌^◌, ◌<◌, ℤ, pos, negsuc, Bool, true, false, ◌&&◌, List, [], ◌∷◌, ◌++◌, inl, inr, length, refl, sym, ap, ◌∙◌, subst, arith, append_assoc, append-nil, codes}
-use Rattle.std.specs.Fmt.{decimal, signed_decimal}
-use Rattle.std.specs.List.{list_all}
-use Rattle.std.specs.Char.{digit_value}
-use Rattle.std.specs.Str.Parse.{AllDigits, IsNumeral}
-use Rattle.std.proofs.lemmas.Bool.{false≢true}
-use Rattle.std.proofs.lemmas.Bool.Decides.{nat_tests}
-use Rattle.std.proofs.lemmas.Fmt.{decimal_is_IsNumeral}
+use Rattle.std.specs.{Fmt.decimal, Fmt.signed_decimal, List.list_all, Char.digit_value, Str.Parse.AllDigits, Str.Parse.IsNumeral}
+use Rattle.std.proofs.lemmas.{Bool.false≢true, Bool.Decides.nat_tests, Fmt.decimal_is_IsNumeral}
 use Rattle.bpf_insn.specs.declared.insn.Reg.{Reg}
 use Rattle.bpf_text.specs.insn.Operands.{LineOperand, register, number, signed, memory, register_text, signed_text, operand_text, operands_text}
-use Rattle.bpf_text.specs.insn.Lines.{spaced}
-use Rattle.bpf_text.specs.insn.Tokens.{is_blank, is_word_byte, is_symbol, BeginsWithWordByte, AreTokens}
+use Rattle.bpf_text.specs.insn.{Lines.spaced, Tokens.is_blank, Tokens.is_word_byte, Tokens.is_symbol, Tokens.BeginsWithWordByte, Tokens.AreTokens}
 
 -- ---- tokens of parts
 

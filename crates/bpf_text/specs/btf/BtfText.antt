@@ -1,10 +1,7 @@
 -- Listings of BTF types: a line for each type, followed by a line for each of its items. They are meant for values in the
 -- ranges of their types: std writes numbers of up to 64 digits.
 use Rattle.std.specs.Prelude.{ℕ, ◌/◌, ◌%◌, Bool, true, false, List, [], ◌∷◌, ◌++◌, Option, Some, None, codes, decimal, length, nat_lt, if◌then◌else◌, ◌==◌, ◌||◌}
-use Rattle.std.specs.Char.{digit_char}
-use Rattle.std.specs.Fmt.{signed_decimal}
-use Rattle.std.specs.Int.{Width, w32, w64, cast_signed}
-use Rattle.std.specs.List.{flat_map, enumerate_from}
+use Rattle.std.specs.{Char.digit_char, Fmt.signed_decimal, List.flat_map, List.enumerate_from, Int.Width, Int.w32, Int.w64, Int.cast_signed}
 use Rattle.btf_types.specs.declared.values.Encoding.{Encoding}
 use Rattle.btf_types.specs.declared.values.Encoding.TheVariants as encoding
 use Rattle.btf_types.specs.declared.values.Linkage.{Linkage}
@@ -123,7 +120,7 @@ fields_text (KTypeTag name flag target) items = codes " flag=" ++ flag_text flag
 fields_text (KEnum64 name signed size) items =
     codes " " ++ sign_name signed ++ codes " size=" ++ decimal size ++ codes " items=" ++ decimal items
 
--- the line of the type with this ID and number of items
+-- the line of a type, with its ID and number of items
 abbrev pub head_line : ℕ → TypeHead → ℕ → List ℕ
 head_line id head items =
     codes "[" ++ decimal id ++ codes "] " ++ kind_word head ++ name_text head ++ fields_text head items ++ codes "\n"
@@ -151,6 +148,7 @@ item_text signed (Param name target) = codes "  param " ++ quoted name ++ codes 
 item_text signed (Entry target offset size) =
     codes "  entry type=" ++ decimal target ++ codes " offset=" ++ decimal offset ++ codes " size=" ++ decimal size
 
+-- the line of an item
 abbrev pub item_line : Bool → TypeItem → List ℕ
 item_line signed item = item_text signed item ++ codes "\n"
 
@@ -160,6 +158,6 @@ item_line signed item = item_text signed item ++ codes "\n"
 abbrev pub record_text : ℕ → TypeRecord → List ℕ
 record_text id r = head_line id r.head (length r.items) ++ flat_map (item_line (is_signed r.head)) r.items
 
--- the lines of all types, whose IDs count from 1
+-- the lines of all types, numbered from 1
 abbrev pub text_of : List TypeRecord → List ℕ
 text_of v = flat_map (λ p. record_text p.0 p.1) (enumerate_from 1 v)

@@ -3,13 +3,14 @@ use Rattle.std.specs.Prelude.{ℕ, List, codes}
 use Rattle.bpf_text.specs.declared.insn.fault.LineCause.{LineCause}
 use Rattle.bpf_text.specs.declared.insn.fault.LineCause.TheVariants as line_cause
 
+-- the name of each cause of listings
 abbrev pub line_cause_name : LineCause → List ℕ
 line_cause_name line_cause.Char = codes "Char"
 line_cause_name line_cause.Word = codes "Word"
 line_cause_name line_cause.Shape = codes "Shape"
 line_cause_name line_cause.Range = codes "Range"
 
--- a sentence that explains the cause
+-- one sentence for each cause of listings
 abbrev pub line_cause_sentence : LineCause → List ℕ
 line_cause_sentence line_cause.Char = codes "a character that is neither blank nor part of a token"
 line_cause_sentence line_cause.Word = codes "no instruction has this mnemonic"

@@ -3,15 +3,14 @@
 use Rattle.std.specs.Prelude.{ℕ, List, [], ◌∷◌, ◌++◌, codes}
 use Rattle.std.specs.List.{flat_map}
 use Rattle.bpf_insn.specs.declared.insn.Insn.{Insn}
-use Rattle.bpf_text.specs.insn.Operands.{LineOperand, operands_text}
-use Rattle.bpf_text.specs.insn.Table.{mnemonic_text, operands_of}
+use Rattle.bpf_text.specs.insn.{Operands.LineOperand, Operands.operands_text, Table.mnemonic_text, Table.operands_of}
 
 -- a space before the operands, if there are any
 abbrev pub spaced : List LineOperand → List ℕ
 spaced [] = []
 spaced (a ∷ more) = codes " " ++ operands_text (a ∷ more)
 
--- the mnemonic, then the operands
+-- the line of an instruction: its mnemonic, then its operands
 abbrev pub line_of : Insn → List ℕ
 line_of i = mnemonic_text i ++ spaced (operands_of i)
 

@@ -1,13 +1,10 @@
 -- Which instructions a listing lists, and the fault of an input that isn't a listing.
 use Rattle.std.specs.Prelude.{◌≡◌, ℕ, ◌+◌, List, [], ◌∷◌, ◌++◌, length, map, IsTrue}
 use Rattle.std.specs.List.{slice_split, AllZip, flat_map, list_any}
-use Rattle.bpf_insn.specs.declared.insn.Insn.{Insn}
-use Rattle.bpf_insn.specs.Table.{IsInsn}
-use Rattle.bpf_text.specs.declared.insn.fault.LineCause.{LineCause}
-use Rattle.bpf_text.specs.declared.insn.fault.LineCause.TheVariants.{Char, Word, Shape, Range}
+use Rattle.bpf_insn.specs.{declared.insn.Insn.Insn, Table.IsInsn}
+use Rattle.bpf_text.specs.declared.insn.fault.LineCause.{LineCause, TheVariants.Char, TheVariants.Word, TheVariants.Shape, TheVariants.Range}
 use Rattle.bpf_text.specs.declared.insn.fault.LineFault.{LineFault}
-use Rattle.bpf_text.specs.insn.Operands.{LineOperand, operand_kind, SpellsOperands}
-use Rattle.bpf_text.specs.insn.Table.{mnemonic_text, operands_of}
+use Rattle.bpf_text.specs.insn.{Operands.LineOperand, Operands.operand_kind, Operands.SpellsOperands, Table.mnemonic_text, Table.operands_of}
 use Rattle.bpf_text.specs.insn.Tokens.{is_newline, code_of, AreTokens, is_stray}
 
 -- the lines: the bytes before, between and after the newlines
@@ -56,13 +53,13 @@ IsCause line Range =
 
 -- ---- a listing
 
--- the instructions that the lines list, in order
+-- the lines list these instructions, in order
 pub record Lists (text : List ℕ) (insns : List Insn) : Type 0 where
   pub listed : List (List Insn)
   pub each : AllZip ListsLine (lines_of text) listed
   pub whole : insns ≡ flat_map (λ found. found) listed
 
--- the first line, counted from 1, that is neither empty (except for blanks and a comment) nor an instruction
+-- the first line that lists neither nothing nor one instruction, with its cause
 pub record IsListFault (text : List ℕ) (fault : LineFault) : Type 0 where
   pub front : List (List ℕ)
   pub line : List ℕ

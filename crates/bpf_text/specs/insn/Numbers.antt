@@ -1,8 +1,7 @@
 -- The values that numbers and operands of the reader represent.
 use Rattle.std.specs.Prelude.{◌≡◌, ℕ, ◌^◌, ◌≤◌, ℤ, pos, neg_ℤ, ◌≤ℤ◌, Bool, true, false, ◌⊎◌, List, Option, Some, None}
 use Rattle.bpf_text.specs.declared.insn.number.Number.{Number}
-use Rattle.bpf_text.specs.declared.insn.read_operand.ReadOperand.{ReadOperand}
-use Rattle.bpf_text.specs.declared.insn.read_operand.ReadOperand.TheVariants.{Register, Literal, Memory}
+use Rattle.bpf_text.specs.declared.insn.read_operand.ReadOperand.{ReadOperand, TheVariants.Register, TheVariants.Literal, TheVariants.Memory}
 use Rattle.bpf_text.specs.insn.Operands.{LineOperand, register, number, signed, memory, SpellsOperand}
 
 -- a magnitude below 2^64, or `None` for all larger ones

@@ -1,20 +1,15 @@
 -- The results of reading the fields of an instruction from its operands.
 use Rattle.std.specs.Prelude.{◌≡◌, ◌≢◌, ◌^◌, ◌<◌, ℕ, ℤ, pos, List, map, Result, Ok, Err}
 use Rattle.std.specs.List.{AllZip}
-use Rattle.bpf_insn.specs.declared.insn.Reg.{Reg}
-use Rattle.bpf_insn.specs.declared.insn.Operand.{Operand}
-use Rattle.bpf_insn.specs.declared.insn.Insn.{Insn}
+use Rattle.bpf_insn.specs.declared.insn.{Reg.Reg, Insn.Insn, Operand.Operand}
 use Rattle.bpf_insn.specs.Table.{IsOffset, IsImm, IsOperand, IsInsn}
-use Rattle.bpf_text.specs.declared.insn.fault.LineCause.{LineCause}
-use Rattle.bpf_text.specs.declared.insn.fault.LineCause.TheVariants.{Shape, Range}
+use Rattle.bpf_text.specs.declared.insn.fault.LineCause.{LineCause, TheVariants.Shape, TheVariants.Range}
 use Rattle.bpf_text.specs.declared.insn.mnemonic.Mnemonic.{Mnemonic}
 use Rattle.bpf_text.specs.declared.insn.mnemonic.Mnemonic.TheVariants.{Neg, Swap, Jump, JumpLong, Branch, CallHelper, CallLocal, Exit, Wide, PacketAbs}
 use Rattle.bpf_text.specs.declared.insn.mnemonic.WideKind.TheVariants as kind
 use Rattle.bpf_text.specs.declared.insn.read_operand.ReadOperand.{ReadOperand}
 use Rattle.bpf_text.specs.insn.Operands.{LineOperand, register, number, signed, memory, operand_kind}
-use Rattle.bpf_text.specs.insn.Table.{source_operand, operands_of}
-use Rattle.bpf_text.specs.insn.Mnemonics.{mnemonic_of}
-use Rattle.bpf_text.specs.insn.Numbers.{IsReadAs}
+use Rattle.bpf_text.specs.insn.{Table.source_operand, Table.operands_of, Mnemonics.mnemonic_of, Numbers.IsReadAs}
 
 -- the operand, however its sign is written
 abbrev pub plain : LineOperand → LineOperand

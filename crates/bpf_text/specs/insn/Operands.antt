@@ -1,11 +1,7 @@
 -- The operands of a line: how they are written, and the tokens that spell them.
 use Rattle.std.specs.Prelude.{◌≡◌, ℕ, ℤ, pos, negsuc, suc, Bool, List, [], ◌∷◌, ◌++◌, ◌⊎◌, codes, decimal, neg_ℤ}
-use Rattle.std.specs.Fmt.{signed_decimal}
-use Rattle.std.specs.List.{slice_split, AllZip}
-use Rattle.std.specs.Str.{bytes_eq}
-use Rattle.std.specs.Str.Parse.{IsNumeral, digits_value}
-use Rattle.bpf_insn.specs.declared.insn.Reg.{Reg}
-use Rattle.bpf_insn.specs.Table.{register_number}
+use Rattle.std.specs.{Fmt.signed_decimal, List.slice_split, List.AllZip, Str.bytes_eq, Str.Parse.IsNumeral, Str.Parse.digits_value}
+use Rattle.bpf_insn.specs.{declared.insn.Reg.Reg, Table.register_number}
 
 -- a register; a number; a number that is written with its sign; a register with an offset, in brackets
 pub data LineOperand : Type 0 where

@@ -1,11 +1,8 @@
 -- The results of reading the tokens of a line, and of reading a listing.
 use Rattle.std.specs.Prelude.{◌≡◌, ℕ, List, ◌∷◌, Result, Ok, Err}
-use Rattle.bpf_insn.specs.declared.insn.Insn.{Insn}
-use Rattle.bpf_insn.specs.Table.{IsInsn}
-use Rattle.bpf_text.specs.declared.insn.fault.LineCause.{LineCause}
-use Rattle.bpf_text.specs.declared.insn.fault.LineCause.TheVariants.{Char, Word, Shape, Range}
-use Rattle.bpf_text.specs.declared.insn.fault.ListError.{ListError}
-use Rattle.bpf_text.specs.declared.insn.fault.ListError.TheVariants.{Fault, Memory}
+use Rattle.bpf_insn.specs.{declared.insn.Insn.Insn, Table.IsInsn}
+use Rattle.bpf_text.specs.declared.insn.fault.LineCause.{LineCause, TheVariants.Char, TheVariants.Word, TheVariants.Shape, TheVariants.Range}
+use Rattle.bpf_text.specs.declared.insn.fault.ListError.{ListError, TheVariants.Fault, TheVariants.Memory}
 use Rattle.bpf_text.specs.insn.Listing.{IsMnemonic, IsForm, IsTokenForm, IsListFault, IsCause}
 
 -- for the first token and the others: an instruction, or the cause that applies

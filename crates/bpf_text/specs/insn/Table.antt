@@ -1,14 +1,10 @@
 -- The notation of listings: the mnemonic of each instruction, and its operands.
 use Rattle.std.specs.Prelude.{ℕ, pos, List, [], ◌∷◌, ◌++◌, codes}
-use Rattle.bpf_insn.specs.declared.insn.Width.{Width}
-use Rattle.bpf_insn.specs.declared.insn.Width.TheVariants.{W32, W64}
-use Rattle.bpf_insn.specs.declared.insn.Size.{Size}
+use Rattle.bpf_insn.specs.declared.insn.{Width.Width, Width.TheVariants.W32, Width.TheVariants.W64, Size.Size}
 use Rattle.bpf_insn.specs.declared.insn.Size.TheVariants as size
 use Rattle.bpf_insn.specs.declared.insn.SmallSize.{SmallSize}
 use Rattle.bpf_insn.specs.declared.insn.SmallSize.TheVariants as small
-use Rattle.bpf_insn.specs.declared.insn.Operand.{Operand}
-use Rattle.bpf_insn.specs.declared.insn.Operand.TheVariants.{Imm, Reg}
-use Rattle.bpf_insn.specs.declared.insn.AluOp.{AluOp}
+use Rattle.bpf_insn.specs.declared.insn.{Operand.Operand, Operand.TheVariants.Imm, Operand.TheVariants.Reg, AluOp.AluOp}
 use Rattle.bpf_insn.specs.declared.insn.AluOp.TheVariants as alu
 use Rattle.bpf_insn.specs.declared.insn.BranchOp.{BranchOp}
 use Rattle.bpf_insn.specs.declared.insn.BranchOp.TheVariants as branch
@@ -16,13 +12,11 @@ use Rattle.bpf_insn.specs.declared.insn.MovsxForm.{MovsxForm}
 use Rattle.bpf_insn.specs.declared.insn.MovsxForm.TheVariants as movsx
 use Rattle.bpf_insn.specs.declared.insn.SwapKind.{SwapKind}
 use Rattle.bpf_insn.specs.declared.insn.SwapKind.TheVariants as swap
-use Rattle.bpf_insn.specs.declared.insn.SwapBits.{SwapBits}
-use Rattle.bpf_insn.specs.declared.insn.SwapBits.TheVariants.{B16, B32, B64}
+use Rattle.bpf_insn.specs.declared.insn.SwapBits.{SwapBits, TheVariants.B16, TheVariants.B32, TheVariants.B64}
 use Rattle.bpf_insn.specs.declared.insn.AtomicOp.{AtomicOp}
 use Rattle.bpf_insn.specs.declared.insn.AtomicOp.TheVariants as atomic
-use Rattle.bpf_insn.specs.declared.insn.WideOf.{WideOf}
+use Rattle.bpf_insn.specs.declared.insn.{WideOf.WideOf, Insn.Insn}
 use Rattle.bpf_insn.specs.declared.insn.WideOf.TheVariants.{Number, MapFd, MapValueFd, VarAddr, CodeAddr, MapIdx, MapValueIdx}
-use Rattle.bpf_insn.specs.declared.insn.Insn.{Insn}
 use Rattle.bpf_insn.specs.declared.insn.Insn.TheVariants.{Alu, Movsx, Neg, Swap, Jump, JumpLong, Branch, CallHelper, CallLocal, CallBtf, Exit, Load, LoadSigned, StoreImm, StoreReg, Atomic, Wide, PacketAbs, PacketInd}
 use Rattle.bpf_text.specs.insn.Operands.{LineOperand, register, number, signed, memory}
 

@@ -2,16 +2,12 @@
 use Rattle.std.proofs.Common.{◌≡◌, ◌∙◌, ◌+◌, ℕ, [], refl, inl, inr, add-zero}
 use Rattle.std.proofs.KnownBytes.{Appends-nil}
 use Rattle.btf_raw.specs.declared.cause.BtfFault.{BtfFault}
-use Rattle.bpf_canon.specs.btf.CanonicalBtf.{canonical}
-use Rattle.bpf_canon.specs.declared.engine.RunCause.{RunCause}
+use Rattle.bpf_canon.specs.{btf.CanonicalBtf.canonical, declared.engine.RunCause.RunCause}
 use Rattle.bpf_canon.specs.declared.engine.RunCause.TheVariants as cause
-use Rattle.bpf_canon.specs.Engine.{counts_read, counts_write}
-use Rattle.bpf_canon.specs.btf.RunBtf.{RanBtf, StopsBtf}
-use Rattle.bpfcanon.specs.declared.job.Job.{Job}
-use Rattle.bpfcanon.specs.declared.outcome.Outcome.{Outcome}
+use Rattle.bpf_canon.specs.{Engine.counts_read, Engine.counts_write, btf.RunBtf.RanBtf, btf.RunBtf.StopsBtf}
+use Rattle.bpfcanon.specs.declared.{job.Job.Job, outcome.Outcome.Outcome}
 use Rattle.bpfcanon.specs.declared.outcome.Outcome.TheVariants as ends
-use Rattle.bpfcanon.specs.declared.outcome.Outcome.TheVariants.{Done, TooLong}
-use Rattle.bpfcanon.specs.declared.verb.Verb.TheVariants.{BtfCanon}
+use Rattle.bpfcanon.specs.declared.{outcome.Outcome.TheVariants.Done, outcome.Outcome.TheVariants.TooLong, verb.Verb.TheVariants.BtfCanon}
 use Rattle.bpfcanon.specs.commands.BtfReply.{canon_too_long, unwritten, written}
 use Rattle.bpfcanon.specs.Devices.{Change, IsHealthy}
 use Rattle.bpfcanon.specs.JobEnds.{EndsJob, IsEndOfStop, no_memory, read_failed, replied, write_failed}

@@ -1,25 +1,16 @@
 -- The text of BTF types that is written in pieces, line by line.
 use Rattle.std.proofs.Common.{◌≡◌, ◌<◌, ◌≤◌, ◌+◌, ◌++◌, ◌∙◌, ℕ, Bool, List, [], ◌∷◌, Option, Some, length, take, drop, refl, sym, ap, subst, arith, append_assoc}
-use Rattle.std.specs.Prelude.{Result, Err, slice_get}
-use Rattle.std.specs.List.{flat_map, enumerate_from}
-use Rattle.std.proofs.lemmas.List.{take-append-drop, take_all}
-use Rattle.std.proofs.lemmas.List.Concat.{flat_map-append}
-use Rattle.std.proofs.KnownBytes.{Appends-nil}
+use Rattle.std.specs.{Prelude.Result, Prelude.Err, Prelude.slice_get, List.flat_map, List.enumerate_from}
+use Rattle.std.proofs.{lemmas.List.take-append-drop, lemmas.List.take_all, lemmas.List.Concat.flat_map-append, KnownBytes.Appends-nil}
 use Rattle.btf_raw.specs.declared.cause.BtfFault.{BtfFault}
-use Rattle.btf_types.specs.Values.{TypeHead, TypeItem, TypeRecord}
-use Rattle.btf_types.specs.Denotes.{Denotes}
-use Rattle.btf_types.specs.Faults.{IsFirst}
-use Rattle.btf_types.specs.tables.TableWords.{record_at}
+use Rattle.btf_types.specs.{Values.TypeHead, Values.TypeItem, Values.TypeRecord, Denotes.Denotes, Faults.IsFirst, tables.TableWords.record_at}
 use Rattle.bpf_text.specs.btf.BtfText.{is_signed, head_line, item_line, record_text, text_of}
 use Rattle.bpf_text.proofs.BtfLemmas.BtfTextLemmas.{item_shown, type_shown}
 use Rattle.bpfcanon.specs.declared.job.Job.{Job}
 use Rattle.bpfcanon.specs.declared.outcome.Outcome.TheVariants as ends
-use Rattle.bpfcanon.specs.declared.commands.pieces.PutError.{PutError}
-use Rattle.bpfcanon.specs.declared.verb.Verb.TheVariants.{BtfShow}
-use Rattle.bpfcanon.specs.Devices.{Change, change}
-use Rattle.bpfcanon.specs.commands.BtfReply.{shown, unshown}
+use Rattle.bpfcanon.specs.declared.{commands.pieces.PutError.PutError, verb.Verb.TheVariants.BtfShow}
+use Rattle.bpfcanon.specs.{Devices.Change, Devices.change, commands.BtfReply.shown, commands.BtfReply.unshown, commands.Reply.limit_of}
 use Rattle.bpfcanon.specs.commands.Pieces.{Answers, Gathered, Gathers, TookText, answered, end_of_pieces}
-use Rattle.bpfcanon.specs.commands.Reply.{limit_of}
 use Rattle.bpfcanon.proofs.CommandsLemmas.PiecesLemmas.{gathered_more, gathers_front, gathers_then, pieces_end, puts_then}
 
 -- ---- the items of a type

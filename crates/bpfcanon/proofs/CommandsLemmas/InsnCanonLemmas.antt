@@ -3,23 +3,16 @@ use Rattle.std.proofs.Common.{◌≡◌, ◌∙◌, ◌+◌, ℕ, List, [], take
 use Rattle.std.specs.Io.KnownBytes.{Appends}
 use Rattle.std.proofs.lemmas.List.{take-take}
 use Rattle.bpf_words.specs.declared.Order.{Order}
-use Rattle.bpf_insn.specs.declared.insn.Insn.{Insn}
-use Rattle.bpf_insn.specs.declared.fault.SlotFault.{SlotFault}
-use Rattle.bpf_insn.specs.Spelling.{file_of}
-use Rattle.bpf_insn.specs.Faults.{IsFront}
+use Rattle.bpf_insn.specs.{declared.insn.Insn.Insn, declared.fault.SlotFault.SlotFault, Spelling.file_of, Faults.IsFront}
 use Rattle.bpf_insn.proofs.FrontLemmas.{one_front}
 use Rattle.bpf_canon.specs.declared.engine.RunCause.{RunCause}
 use Rattle.bpf_canon.specs.declared.engine.RunCause.TheVariants as cause
 use Rattle.bpf_canon.specs.Engine.{Devices, counts_read, counts_write}
-use Rattle.bpf_canon.specs.insn.Run.{RanWhole, Stops, Wrote, WroteAll, limit}
-use Rattle.bpf_canon.specs.insn.FeedStream.{IsSound}
+use Rattle.bpf_canon.specs.insn.{Run.RanWhole, Run.Stops, Run.Wrote, Run.WroteAll, Run.limit, FeedStream.IsSound}
 use Rattle.bpf_canon.proofs.InsnLemmas.FrontLaws.{file_front, truncated_or_not}
-use Rattle.bpfcanon.specs.declared.job.Job.{Job}
-use Rattle.bpfcanon.specs.declared.outcome.Outcome.{Outcome}
-use Rattle.bpfcanon.specs.declared.outcome.Outcome.TheVariants.{Done, Fault, TooLong}
-use Rattle.bpfcanon.specs.declared.verb.Verb.TheVariants.{InsnCanon}
+use Rattle.bpfcanon.specs.{declared.job.Job.Job, declared.verb.Verb.TheVariants.InsnCanon, Devices.Change, Devices.IsHealthy}
+use Rattle.bpfcanon.specs.declared.outcome.Outcome.{Outcome, TheVariants.Done, TheVariants.Fault, TheVariants.TooLong}
 use Rattle.bpfcanon.specs.commands.Reply.{HasLastingFault, IsCanonReply, canonical, canonical_to_fault, canonical_to_limit}
-use Rattle.bpfcanon.specs.Devices.{Change, IsHealthy}
 use Rattle.bpfcanon.specs.JobEnds.{EndsJob, TookAll, IsEndOfStop, TookPrefix, no_memory_amid, read_failed_amid, replied, write_failed_amid}
 
 -- what the devices have, without their counts of failures

@@ -1,14 +1,11 @@
 -- What insn-same answers, by what the comparison of two files found.
 use Rattle.std.proofs.Common.{◌≡◌, ◌≤◌, ℕ, Bool, true, false, List, [], drop, length, take, refl}
-use Rattle.std.specs.Prelude.{IfOk, Result, Ok, Err}
-use Rattle.std.specs.declared.alloc.AllocError.{AllocError}
+use Rattle.std.specs.{Prelude.IfOk, Prelude.Result, Prelude.Ok, Prelude.Err, declared.alloc.AllocError.AllocError}
 use Rattle.bpf_words.specs.declared.Order.{Order}
 use Rattle.bpf_insn.specs.declared.fault.SlotFault.{SlotFault}
 use Rattle.bpf_canon.specs.insn.Canonical.{Compares, NamesSide}
 use Rattle.bpf_canon.specs.declared.engine.SideError.TheVariants as side
-use Rattle.bpfcanon.specs.declared.outcome.Outcome.{Outcome}
-use Rattle.bpfcanon.specs.declared.outcome.Outcome.TheVariants.{Second}
-use Rattle.bpfcanon.specs.declared.commands.reply.Reply.{Reply}
+use Rattle.bpfcanon.specs.declared.{outcome.Outcome.Outcome, outcome.Outcome.TheVariants.Second, commands.reply.Reply.Reply}
 use Rattle.bpfcanon.specs.commands.Reply.{IsSameReply, different, same, second_at_fault, verdict_line, verdict_outcome}
 
 -- a reply that was made of an outcome and some bytes

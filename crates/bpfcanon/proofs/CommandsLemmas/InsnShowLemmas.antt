@@ -1,28 +1,17 @@
 -- A listing that is written in pieces, instruction by instruction.
 use Rattle.std.proofs.Common.{◌≡◌, ◌<◌, ◌≤◌, ◌+◌, ◌-◌, ◌++◌, ◌∙◌, ℕ, List, [], ◌∷◌, Option, length, take, drop, codes, refl, sym, ap, subst, arith, append_assoc, length-append, length-drop, All}
-use Rattle.std.specs.Prelude.{Result, Err}
-use Rattle.std.specs.Result.{IsErrAnd}
-use Rattle.std.proofs.lemmas.List.{append-nil, drop-drop, flat_map_more, take_all}
-use Rattle.std.proofs.lemmas.List.Concat.{flat_map-append}
-use Rattle.std.proofs.lemmas.List.Elements.{All-head, All-tail}
-use Rattle.std.proofs.Math.Seq.{drop-append_seam}
+use Rattle.std.specs.{Prelude.Result, Prelude.Err, Result.IsErrAnd}
+use Rattle.std.proofs.lemmas.List.{append-nil, drop-drop, flat_map_more, take_all, Concat.flat_map-append, Elements.All-head, Elements.All-tail}
+use Rattle.std.proofs.{Math.Seq.drop-append_seam, KnownBytes.Appends-nil}
 use Rattle.bpf_words.specs.declared.Order.{Order}
-use Rattle.bpf_insn.specs.declared.insn.Insn.{Insn}
-use Rattle.bpf_insn.specs.declared.fault.SlotFault.{SlotFault}
-use Rattle.bpf_insn.specs.Table.{IsInsn}
-use Rattle.bpf_insn.specs.Spelling.{InsnFile, file_of, spelling}
-use Rattle.bpf_insn.specs.Faults.{BeginsWith, IsInsnFault, IsSlotFault}
+use Rattle.bpf_insn.specs.{declared.insn.Insn.Insn, declared.fault.SlotFault.SlotFault, Faults.BeginsWith, Faults.IsInsnFault, Faults.IsSlotFault}
+use Rattle.bpf_insn.specs.{Table.IsInsn, Spelling.InsnFile, Spelling.file_of, Spelling.spelling}
 use Rattle.bpf_insn.proofs.FileLaws.{at_least_a_slot, begins_once}
 use Rattle.bpf_text.specs.insn.Lines.{line_of, listing_of}
-use Rattle.std.proofs.KnownBytes.{Appends-nil}
-use Rattle.bpfcanon.specs.declared.job.Job.{Job}
-use Rattle.bpfcanon.specs.declared.outcome.Outcome.TheVariants.{Fault}
-use Rattle.bpfcanon.specs.declared.commands.pieces.PutError.{PutError}
-use Rattle.bpfcanon.specs.declared.commands.pieces.PutError.TheVariants.{Memory}
-use Rattle.bpfcanon.specs.declared.verb.Verb.TheVariants.{InsnShow}
-use Rattle.bpfcanon.specs.Devices.{Change, change}
+use Rattle.bpfcanon.specs.declared.{job.Job.Job, verb.Verb.TheVariants.InsnShow, outcome.Outcome.TheVariants.Fault}
+use Rattle.bpfcanon.specs.declared.commands.pieces.PutError.{PutError, TheVariants.Memory}
+use Rattle.bpfcanon.specs.{Devices.Change, Devices.change, commands.Reply.limit_of, commands.Reply.shown, commands.Reply.unshown}
 use Rattle.bpfcanon.specs.commands.Pieces.{Answers, Gathered, Gathers, Stopped, TookText, answered, end_of_pieces}
-use Rattle.bpfcanon.specs.commands.Reply.{limit_of, shown, unshown}
 use Rattle.bpfcanon.proofs.CommandsLemmas.PiecesLemmas.{front_more, gathered_more, gathered_none, gathers_front, gathers_then, pieces_end, puts_handed, puts_then}
 
 -- the lines of the instructions before a place are gathered, and those of the others follow

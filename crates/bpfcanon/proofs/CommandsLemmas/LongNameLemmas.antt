@@ -3,14 +3,10 @@ use Rattle.std.proofs.Common.{◌≡◌, ◌<◌, ◌≤◌, ◌+◌, ◌-◌, �
 use Rattle.std.specs.Prelude.{Result, Err, decimal, if◌then◌else◌}
 use Rattle.btf_types.specs.Values.{TypeHead, TypeItem}
 use Rattle.std.specs.List.{flat_map}
-use Rattle.std.proofs.lemmas.List.{take-append-drop, take_all}
-use Rattle.std.proofs.lemmas.List.Concat.{flat_map-append}
-use Rattle.std.proofs.Math.Seq.{take-add}
+use Rattle.std.proofs.{lemmas.List.take-append-drop, lemmas.List.take_all, lemmas.List.Concat.flat_map-append, Math.Seq.take-add}
 use Rattle.bpf_text.specs.btf.BtfText.{fields_text, head_line, is_control, item_line, item_text, kind_word, name_text, needs_backslash, quoted_byte}
-use Rattle.bpfcanon.specs.declared.commands.pieces.PutError.{PutError}
-use Rattle.bpfcanon.specs.declared.commands.pieces.PutError.TheVariants.{Memory}
-use Rattle.bpfcanon.specs.Devices.{Change, change}
-use Rattle.bpfcanon.specs.commands.Pieces.{Gathered, Gathers, Stopped}
+use Rattle.bpfcanon.specs.declared.commands.pieces.PutError.{PutError, TheVariants.Memory}
+use Rattle.bpfcanon.specs.{Devices.Change, Devices.change, commands.Pieces.Gathered, commands.Pieces.Gathers, commands.Pieces.Stopped}
 use Rattle.bpfcanon.proofs.CommandsLemmas.PiecesLemmas.{front_more, gathered_more, gathers_front, gathers_then}
 
 -- ---- the chunks of a name

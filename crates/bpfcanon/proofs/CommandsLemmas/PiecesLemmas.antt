@@ -1,18 +1,12 @@
 -- Text that is written in pieces.
 use Rattle.std.proofs.Common.{◌≡◌, ◌<◌, ◌+◌, ◌++◌, ◌∙◌, ℕ, List, [], Option, length, take, refl, sym, ap, subst, arith, append_assoc, length-append}
-use Rattle.std.specs.Prelude.{Result, Ok, Err, true}
-use Rattle.std.specs.Result.{IsErrAnd}
-use Rattle.std.proofs.lemmas.List.{append-nil, take-append-le}
+use Rattle.std.specs.{Prelude.Result, Prelude.Ok, Prelude.Err, Prelude.true, Result.IsErrAnd, Io.KnownBytes.Appends}
+use Rattle.std.proofs.{lemmas.List.append-nil, lemmas.List.take-append-le, KnownBytes.Appends-nil, KnownBytes.Appends-trans}
 use Rattle.std.proofs.Math.Seq.{take-append-add, take-append_seam}
-use Rattle.std.proofs.KnownBytes.{Appends-nil, Appends-trans}
-use Rattle.std.specs.Io.KnownBytes.{Appends}
-use Rattle.bpfcanon.specs.declared.job.Job.{Job}
-use Rattle.bpfcanon.specs.declared.outcome.Outcome.TheVariants.{Done}
-use Rattle.bpfcanon.specs.declared.commands.pieces.PutError.{PutError}
-use Rattle.bpfcanon.specs.declared.commands.pieces.PutError.TheVariants.{WriteFailed, Memory}
-use Rattle.bpfcanon.specs.Devices.{Change, change}
+use Rattle.bpfcanon.specs.declared.{job.Job.Job, outcome.Outcome.TheVariants.Done}
+use Rattle.bpfcanon.specs.declared.commands.pieces.PutError.{PutError, TheVariants.WriteFailed, TheVariants.Memory}
+use Rattle.bpfcanon.specs.{Devices.Change, Devices.change, commands.Reply.IsReply, commands.Reply.in_pieces}
 use Rattle.bpfcanon.specs.commands.Pieces.{Answers, Gathered, Gathers, Stopped, StoppedBy, TookText, answered, end_of_pieces, refused_amid, unwritten}
-use Rattle.bpfcanon.specs.commands.Reply.{IsReply, in_pieces}
 
 module _ (a b c : Option (List ℕ)) (f g h : ℕ) where
   -- more text; some of it went to the sink

@@ -1,17 +1,11 @@
 -- How the program's command line comes about, one option and one command at a time.
 use Rattle.std.proofs.Common.{◌≡◌, ◌∙◌, ◌+◌, ◌++◌, ◌<◌, ◌≤◌, append-nil, ℕ, Bool, true, false, List, [], ◌∷◌, refl, ap, sym, take, length, get_or, suc, add-one}
-use Rattle.std.proofs.Common.{ap₂}
+use Rattle.std.proofs.{Common.ap₂, Math.Seq.take-suc, lemmas.List.map-append, lemmas.List.take_all, lemmas.List.Elements.filter-append}
 use Rattle.std.specs.Prelude.{map, filter, if◌then◌else◌}
-use Rattle.std.proofs.lemmas.List.{map-append, take_all}
-use Rattle.std.proofs.lemmas.List.Elements.{filter-append}
-use Rattle.std.proofs.Math.Seq.{take-suc}
 use Rattle.clap.specs.Words.{App, Rule, Shape, app_of, rule_of, shape_of, with_rule, with_subcommand, AddsArg, AddsSubcommand}
 use Rattle.clap.specs.Simple.{new_shape}
-use Rattle.clap.specs.declared.builder.arg.Arg.{Arg}
-use Rattle.clap.specs.declared.builder.command.Command.{Command}
-use Rattle.clap.specs.declared.builder.command.Command.TheViews.{out-Command}
-use Rattle.bpfcanon.specs.declared.verb.Verb.{Verb}
-use Rattle.bpfcanon.specs.declared.verb.Setting.{Setting}
+use Rattle.clap.specs.declared.builder.{arg.Arg.Arg, command.Command.Command, command.Command.TheViews.out-Command}
+use Rattle.bpfcanon.specs.declared.verb.{Verb.Verb, Setting.Setting}
 use Rattle.bpfcanon.specs.Verbs.{all_settings, all_verbs, name_of, takes_setting}
 use Rattle.bpfcanon.specs.line.Options.{Names, bare_program, option_of, program, shape_for}
 

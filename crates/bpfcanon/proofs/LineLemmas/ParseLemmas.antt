@@ -1,23 +1,17 @@
 -- What clap's words say of the program's command line.
 use Rattle.std.proofs.Common.{◌≡◌, ◌∙◌, ℕ, Bool, true, false, List, [], ◌∷◌, Option, Some, None, refl, sym, subst, arith}
 use Rattle.std.specs.Prelude.{find, IfSome, map, option_map, Result, Ok, Err, unwrap_or}
-use Rattle.std.specs.Option.{option_map_or}
-use Rattle.std.specs.Str.Parse.{ParsesUnsigned}
+use Rattle.std.specs.{Option.option_map_or, Str.Parse.ParsesUnsigned}
 use Rattle.std.proofs.lemmas.Result.{MatchResult-at_ok}
 use Rattle.clap.specs.Words.{App, FailsBy, HasMatchesOf, ReadsOne, Shape, Text, fault_of, is_simple_and_free, subcommand_of, subcommand_rows_of, takes}
 use Rattle.clap.specs.Simple.{argument_words, built, built_leaf, entered, inherited, label_of, marked_built, names_of, on_top, rows_at, with_leaf_noted}
-use Rattle.clap.specs.Walk.{answers_to, stop_after}
-use Rattle.clap.specs.ValueTests.{is_unsigned_in}
+use Rattle.clap.specs.{Walk.answers_to, Walk.stop_after, ValueTests.is_unsigned_in}
 use Rattle.clap.proofs.ValueTestLemmas.{Accepts-accepts, accepts-Accepts}
 use Rattle.clap.specs.declared.builder.value_parser.ValueParser.TheVariants as parser
 use Rattle.clap.specs.declared.parser.matches.ArgMatches.{ArgMatches}
-use Rattle.clap.specs.declared.error.Error.{Error}
-use Rattle.clap.specs.declared.error.kind.ErrorKind.{ErrorKind}
-use Rattle.clap.specs.declared.error.kind.ErrorKind.TheVariants.{OutOfMemory}
-use Rattle.bpfcanon.specs.declared.verb.Verb.{Verb}
-use Rattle.bpfcanon.specs.Verbs.{IsVerbName, all_verbs}
-use Rattle.bpfcanon.specs.line.Options.{Names, program, shape_for}
-use Rattle.bpfcanon.specs.line.Parse.{number_named}
+use Rattle.clap.specs.declared.error.{Error.Error, kind.ErrorKind.ErrorKind, kind.ErrorKind.TheVariants.OutOfMemory}
+use Rattle.bpfcanon.specs.{declared.verb.Verb.Verb, Verbs.IsVerbName, Verbs.all_verbs}
+use Rattle.bpfcanon.specs.line.{Options.Names, Options.program, Options.shape_for, Parse.number_named}
 
 abbrev HasVerbNames : List Shape → Type 0
 HasVerbNames [] = Unit {0}

@@ -2,9 +2,7 @@
 use Rattle.std.specs.Prelude.{◌≡◌, ◌<◌, ◌≤◌, ◌++◌, ℕ, List, [], codes, decimal, drop, length, take}
 use Rattle.bpf_words.specs.declared.Order.{Order}
 use Rattle.btf_raw.specs.declared.cause.BtfFault.{BtfFault}
-use Rattle.btf_types.specs.Values.{TypeRecord}
-use Rattle.btf_types.specs.Denotes.{Denotes}
-use Rattle.btf_types.specs.Faults.{IsFirst}
+use Rattle.btf_types.specs.{Values.TypeRecord, Denotes.Denotes, Faults.IsFirst}
 use Rattle.bpf_canon.specs.btf.CanonicalBtf.{canonical}
 use Rattle.bpfcanon.specs.declared.outcome.Outcome.{Outcome}
 use Rattle.bpfcanon.specs.declared.outcome.Outcome.TheVariants as ends

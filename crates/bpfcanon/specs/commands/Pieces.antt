@@ -1,11 +1,9 @@
 -- How a whole input is answered, with output that is written whole or in pieces. Private contracts alone cite this.
 use Rattle.std.specs.Prelude.{◌≡◌, ◌<◌, ◌≤◌, ◌++◌, ℕ, List, Result, Ok, Err, true, length, take}
 use Rattle.std.specs.Io.KnownBytes.{Appends, Consumes, IsAtEnd}
-use Rattle.bpfcanon.specs.declared.job.Job.{Job}
-use Rattle.bpfcanon.specs.declared.outcome.Outcome.{Outcome}
+use Rattle.bpfcanon.specs.declared.{job.Job.Job, outcome.Outcome.Outcome}
 use Rattle.bpfcanon.specs.declared.outcome.Outcome.TheVariants as ends
-use Rattle.bpfcanon.specs.declared.commands.pieces.PutError.{PutError}
-use Rattle.bpfcanon.specs.declared.commands.pieces.PutError.TheVariants.{WriteFailed, Memory}
+use Rattle.bpfcanon.specs.declared.commands.pieces.PutError.{PutError, TheVariants.WriteFailed, TheVariants.Memory}
 use Rattle.bpfcanon.specs.Devices.{Change, HasFailed, IsHealthy, IsUnused}
 use Rattle.bpfcanon.specs.commands.Reply.{IsReply, in_pieces, limit_of}
 

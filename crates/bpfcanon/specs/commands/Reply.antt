@@ -2,27 +2,18 @@
 use Rattle.std.specs.Prelude.{◌≡◌, ◌<◌, ◌≤◌, ◌++◌, ◌*◌, ◌↔◌, ℕ, Bool, true, false, List, [], ◌∷◌, IsTrue, codes, drop, filter, length, take}
 use Rattle.std.specs.List.{flat_map}
 use Rattle.bpf_words.specs.declared.Order.{Order}
-use Rattle.bpf_insn.specs.declared.insn.Insn.{Insn}
-use Rattle.bpf_insn.specs.declared.fault.SlotFault.{SlotFault}
-use Rattle.bpf_insn.specs.declared.fault.SlotCause.TheVariants.{Truncated}
-use Rattle.bpf_insn.specs.declared.group.Group.{Group}
-use Rattle.bpf_insn.specs.Spelling.{InsnFile, file_of}
-use Rattle.bpf_insn.specs.Faults.{IsFront, IsInsnFault}
+use Rattle.bpf_insn.specs.declared.{insn.Insn.Insn, group.Group.Group, fault.SlotFault.SlotFault, fault.SlotCause.TheVariants.Truncated}
+use Rattle.bpf_insn.specs.{Spelling.InsnFile, Spelling.file_of, Faults.IsFront, Faults.IsInsnFault}
 use Rattle.bpf_insn.specs.Groups.{InGroups, all_groups, group_name}
 use Rattle.bpf_canon.specs.insn.Run as engine
 use Rattle.bpf_canon.specs.btf.RunBtf.{btf_limit}
-use Rattle.bpf_text.specs.declared.insn.fault.LineFault.{LineFault}
-use Rattle.bpf_text.specs.insn.Lines.{listing_of}
-use Rattle.bpf_text.specs.insn.Listing.{Lists, IsListFault}
-use Rattle.bpfcanon.specs.declared.job.Job.{Job}
-use Rattle.bpfcanon.specs.declared.outcome.Outcome.{Outcome}
+use Rattle.bpf_text.specs.{declared.insn.fault.LineFault.LineFault, insn.Lines.listing_of, insn.Listing.Lists, insn.Listing.IsListFault}
+use Rattle.bpfcanon.specs.{declared.job.Job.Job, declared.verb.Verb.Verb, declared.outcome.Outcome.Outcome, Outcome.newline}
 use Rattle.bpfcanon.specs.declared.outcome.Outcome.TheVariants.{Done, Different, Fault, FaultyLine, First, Second, TooLong, SplitBeyond}
-use Rattle.bpfcanon.specs.declared.verb.Verb.{Verb}
 use Rattle.bpfcanon.specs.declared.verb.Verb.TheVariants.{InsnCanon, InsnShow, InsnRead, InsnGroups, InsnSame, BtfCanon, BtfShow, BtfCheck, BtfSame}
-use Rattle.bpfcanon.specs.Outcome.{newline}
 use Rattle.bpfcanon.specs.commands.BtfReply.{IsBtfCanonReply, IsBtfShowReply, IsBtfCheckReply, IsBtfSameReply}
 
--- the longest input of a command: the limit of an engine, and twice that for two files
+-- the longest input of a command: the limit of an engine, and twice that for two inputs
 abbrev pub limit_of : Verb → ℕ
 limit_of InsnCanon = engine.limit
 limit_of InsnShow = engine.limit

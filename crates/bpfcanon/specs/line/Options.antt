@@ -1,22 +1,17 @@
 -- The program's command line, as clap's words describe one.
 use Rattle.std.specs.Prelude.{◌≡◌, true, false, List, [], ◌∷◌, Some, codes, map}
 use Rattle.std.specs.Borrow.{Bor}
-use Rattle.clap.specs.Words.{App, Rule, Shape, Text, new_rule}
-use Rattle.clap.specs.Simple.{new_shape}
-use Rattle.clap.specs.Walk.{texts}
+use Rattle.clap.specs.{Words.App, Words.Rule, Words.Shape, Words.Text, Words.new_rule, Simple.new_shape, Walk.texts}
 use Rattle.clap.specs.declared.builder.value_parser.ValueParser.TheVariants as parser
-use Rattle.bpfcanon.specs.declared.verb.Verb.{Verb}
-use Rattle.bpfcanon.specs.declared.verb.Setting.{Setting}
-use Rattle.bpfcanon.specs.declared.verb.Setting.TheVariants.{Order, To, Other, Split}
-use Rattle.bpfcanon.specs.declared.verb.Verb.TheVariants.{InsnSame}
-use Rattle.bpfcanon.specs.commands.Reply.{limit_of}
+use Rattle.bpfcanon.specs.{declared.verb.Verb.Verb, declared.verb.Verb.TheVariants.InsnSame, commands.Reply.limit_of}
+use Rattle.bpfcanon.specs.declared.verb.Setting.{Setting, TheVariants.Order, TheVariants.To, TheVariants.Other, TheVariants.Split}
 use Rattle.bpfcanon.specs.Verbs.{all_verbs, name_of, setting_name, settings_of}
 
 -- the values of an option, to which clap keeps a reference
 abbrev pub Names : Type 0
 Names = Bor (List (Bor Text))
 
--- the names of the byte orders
+-- the values that an option for a byte order accepts
 abbrev pub IsOrderNames : Names → Type 0
 IsOrderNames names = texts names.now ≡ codes "little" ∷ codes "big" ∷ []
 
@@ -53,7 +48,7 @@ bare_program = record {
   subs = [];
 }
 
--- the program with its commands
+-- the commands and options, in the terms of `clap`
 abbrev pub program : Names → App
 program names = record {
   top = record bare_program.top { is_leaf = false };

@@ -1,16 +1,10 @@
 -- What a command line asks for.
 use Rattle.std.specs.Prelude.{◌≡◌, ◌-◌, ◌^◌, ℕ, false, List, [], Option, Some, None, codes, if◌then◌else◌}
-use Rattle.std.specs.Option.{option_map_or}
-use Rattle.std.specs.Str.{bytes_eq}
-use Rattle.std.specs.Str.Parse.{digits_value, without_leading_plus}
+use Rattle.std.specs.{Option.option_map_or, Str.bytes_eq, Str.Parse.digits_value, Str.Parse.without_leading_plus}
 use Rattle.clap.specs.Words.{Row, Text, first_of, one_of, subcommand_of, takes, fault_of}
 use Rattle.clap.specs.ValueTests.{is_unsigned_in}
-use Rattle.bpf_words.specs.declared.Order.{Order}
-use Rattle.bpf_words.specs.declared.Order.TheVariants.{Little, Big}
-use Rattle.bpfcanon.specs.declared.job.Job.{Job}
-use Rattle.bpfcanon.specs.declared.verb.Verb.{Verb}
-use Rattle.bpfcanon.specs.declared.verb.Verb.TheVariants.{InsnCanon}
-use Rattle.bpfcanon.specs.declared.verb.Setting.{Setting}
+use Rattle.bpf_words.specs.declared.Order.{Order, TheVariants.Little, TheVariants.Big}
+use Rattle.bpfcanon.specs.declared.{job.Job.Job, verb.Verb.Verb, verb.Verb.TheVariants.InsnCanon, verb.Setting.Setting}
 use Rattle.bpfcanon.specs.declared.verb.Setting.TheVariants as setting
 use Rattle.bpfcanon.specs.Verbs.{name_of, setting_name, takes_setting}
 use Rattle.bpfcanon.specs.line.Options.{IsOrderNames, Names, program}
@@ -51,14 +45,14 @@ abbrev pub IsJobOf : Option (Text × List Row) → Job → Type 0
 IsJobOf None j = j ≡ default_job
 IsJobOf (Some p) j = (p.0 ≡ name_of j.verb) × (j ≡ job_at j.verb p.1)
 
--- the line asks for this job, and clap states that it takes the line
+-- the arguments ask for this job, and clap reports that it accepts them
 pub record Asks (words : List Text) (j : Job) : Type 0 where
   pub names : Names
   pub order_names : IsOrderNames names
   pub taken : fault_of (program names) words ≡ []
   pub job : IsJobOf (subcommand_of (program names) words) j
 
--- clap doesn't state that it takes the line
+-- clap doesn't report that it accepts the arguments
 pub record IsRefused (words : List Text) : Type 0 where
   pub names : Names
   pub order_names : IsOrderNames names

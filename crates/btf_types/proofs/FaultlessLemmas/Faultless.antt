@@ -3,25 +3,18 @@ use Rattle.std.proofs.Common.{◌≡◌, ◌≢◌, ℕ, zero, suc, ◌-◌, ◌
 use Rattle.std.specs.Prelude.{IsTrue, IfSome, slice_index, slice_get, unwrap_or, ◌==◌, if◌then◌else◌}
 use Rattle.std.specs.List.{All, AllZip, sum_by}
 use Rattle.std.proofs.lemmas.Bool.{eqb-true, ltb-true}
-use Rattle.std.proofs.lemmas.List.{length-append}
-use Rattle.std.proofs.lemmas.List.Elements.{All-nil, All-cons, All-head, All-tail}
-use Rattle.std.proofs.lemmas.List.Sums.{sum_by-cons}
+use Rattle.std.proofs.lemmas.List.{length-append, Elements.All-nil, Elements.All-cons, Elements.All-head, Elements.All-tail, Sums.sum_by-cons}
 use Rattle.bpf_words.specs.declared.Order.{Order}
 use Rattle.btf_raw.specs.KindNumbers.{STRUCT, UNION, FUNC, FUNC_PROTO, VAR, TYPEDEF, DECL_TAG}
-use Rattle.btf_raw.specs.Cause.{HasNone}
-use Rattle.btf_raw.specs.Header.{HasNulEnds, TYPES_LIMIT, STRINGS_LIMIT}
-use Rattle.btf_raw.specs.Kinds.{one_of, has_target, is_struct}
+use Rattle.btf_raw.specs.{Cause.HasNone, Kinds.one_of, Kinds.has_target, Kinds.is_struct, Header.HasNulEnds, Header.TYPES_LIMIT, Header.STRINGS_LIMIT}
 use Rattle.btf_raw.specs.Frames.{IsFrame, bytes_of, section_of, kind, vlen, third_word}
 use Rattle.btf_raw.proofs.Frames.{length-bytes_of}
-use Rattle.btf_types.specs.Spelling.{Spells}
+use Rattle.btf_types.specs.{Spelling.Spells, Reading.component_of, Reading.record_of, Reading.frames_at}
 use Rattle.btf_types.specs.judge.Checks.{TypeFacts, type_at, no_type, target_fits, component_fits}
 use Rattle.btf_types.specs.Good.{facts, IsGoodRecord, IsGood, record_size}
-use Rattle.btf_types.specs.judge.FieldFaults.{FieldFault, frame_facts}
-use Rattle.btf_types.specs.Reading.{component_of, record_of, frames_at}
-use Rattle.btf_types.specs.judge.RecordFaults.{IsFaultless}
+use Rattle.btf_types.specs.judge.{FieldFaults.FieldFault, FieldFaults.frame_facts, RecordFaults.IsFaultless}
 use Rattle.btf_types.specs.tables.TableInvariant.{IsFramed, FieldsAreRight}
-use Rattle.btf_types.proofs.KindCases.{one_among}
-use Rattle.btf_types.proofs.StringLemmas.SpelledNames.{spelled_table}
+use Rattle.btf_types.proofs.{KindCases.one_among, StringLemmas.SpelledNames.spelled_table}
 use Rattle.btf_types.proofs.FaultlessLemmas.FaultlessWords.{type_is, component_is}
 use Rattle.btf_types.proofs.FaultlessLemmas.FaultlessRecords.{frame_spells, frame_good, facts_same, size_same, tag_room}
 

@@ -2,16 +2,12 @@
 use Rattle.std.proofs.Common.{◌≡◌, ◌⊎◌, ℕ, zero, suc, ◌+◌, ◌*◌, ◌^◌, ◌<◌, ◌≤◌, Bool, true, false, List, [], ◌∷◌, length, refl, sym, ap, ◌∙◌, inl, inr, lit<, arith}
 use Rattle.std.specs.Prelude.{IsTrue, IfSome, ◌==◌, if◌then◌else◌}
 use Rattle.std.specs.List.{All}
-use Rattle.std.proofs.lemmas.Bool.{eqb-true}
-use Rattle.std.proofs.lemmas.List.Elements.{All-nil, All-cons}
-use Rattle.btf_raw.specs.KindNumbers.{INT, ARRAY, FUNC, VAR, DECL_TAG, FWD}
+use Rattle.std.proofs.lemmas.{Bool.eqb-true, List.Elements.All-nil, List.Elements.All-cons}
+use Rattle.btf_raw.specs.{KindNumbers.INT, KindNumbers.ARRAY, KindNumbers.FUNC, KindNumbers.VAR, KindNumbers.DECL_TAG, KindNumbers.FWD, Heads.bit}
 use Rattle.btf_raw.specs.Kinds.{one_of, has_flag, has_vlen, fixed_words, item_words, has_target, has_no_name}
-use Rattle.btf_types.specs.Values.{TypeItem}
-use Rattle.btf_types.specs.Names.{head_name}
-use Rattle.btf_raw.specs.Heads.{bit}
+use Rattle.btf_types.specs.{Values.TypeItem, Names.head_name, Good.HeadIsGood, Good.head_targets}
 use Rattle.btf_types.specs.Spelling.{kind_number, head_third, FlagSpells, linkage_number, encoding_number, component_word, record_vlen, head_tail, HeadInRange}
 use Rattle.btf_types.specs.judge.Checks.{TypeFacts, size_fits, bits_fit, component_fits}
-use Rattle.btf_types.specs.Good.{HeadIsGood, head_targets}
 use Rattle.btf_types.specs.Good as good
 use Rattle.btf_types.specs.judge.FieldFaults.{int_unused, int_encoding, int_offset, int_bits}
 use Rattle.btf_types.specs.Reading.{head_from, linkage_of, encoding_of, component_of, is_set}

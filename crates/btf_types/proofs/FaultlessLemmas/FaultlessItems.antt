@@ -4,21 +4,16 @@ use Rattle.std.specs.Prelude.{IsTrue, slice_index, ◌==◌, if◌then◌else◌
 use Rattle.std.specs.List.{All}
 use Rattle.std.proofs.lemmas.List.Elements.{All-nil, All-cons}
 use Rattle.btf_raw.specs.KindNumbers.{STRUCT, UNION, ENUM, FUNC_PROTO, DATASEC, ENUM64}
-use Rattle.btf_raw.specs.Header.{HasNulEnds}
-use Rattle.btf_raw.specs.Kinds.{item_words, one_of, is_struct, has_item_names}
-use Rattle.btf_raw.specs.Names.{NameAt}
+use Rattle.btf_raw.specs.{Header.HasNulEnds, Names.NameAt, Kinds.item_words, Kinds.one_of, Kinds.is_struct, Kinds.has_item_names}
 use Rattle.btf_raw.specs.Frames.{IsFrame, third_word, kind, vlen, flag}
 use Rattle.btf_types.specs.Values.{TypeHead, TypeItem, Member, EnumValue, Value64, Param, Entry}
-use Rattle.btf_types.specs.Spelling.{MemberWord, ItemSpells, ItemInRange}
-use Rattle.btf_types.specs.judge.Checks.{TypeFacts}
+use Rattle.btf_types.specs.{Spelling.MemberWord, Spelling.ItemSpells, Spelling.ItemInRange, judge.Checks.TypeFacts, judge.RecordFaults.IsFaultless}
 use Rattle.btf_types.specs.Good.{ItemOf, item_targets, TargetIsGood, MemberIsGood}
 use Rattle.btf_types.specs.judge.FieldFaults.{IsTypeField, HasBitFields, bit_offset, width}
 use Rattle.btf_types.specs.Reading.{text_from, head_from, head_of, item_from, item_of}
-use Rattle.btf_types.specs.judge.RecordFaults.{IsFaultless}
 use Rattle.btf_types.proofs.KindCases.{KindIs, IsStruct, IsUnion, IsEnum, IsFuncProto, IsDatasec, IsEnum64}
-use Rattle.btf_types.proofs.FaultlessLemmas.FaultlessHeads.{count_of}
+use Rattle.btf_types.proofs.{FaultlessLemmas.FaultlessHeads.count_of, TabulateSteps.two_at, TabulateSteps.three_at}
 use Rattle.btf_types.proofs.FaultlessLemmas.FaultlessWords.{item_ends, room, flag_low, type_is, item_name_is, member_int, member_place}
-use Rattle.btf_types.proofs.TabulateSteps.{two_at, three_at}
 
 -- the words spell the item, and it is one of a good record with this head
 pub record ItemIsRight (strings : List ℕ) (types : List TypeFacts) (frame : List ℕ) (bit_fields : Bool) (h : TypeHead) (x : TypeItem) (ws : List ℕ) : Type 0 where

@@ -4,19 +4,14 @@ use Rattle.std.specs.Prelude.{IsTrue, IfSome, slice_index, ◌==◌}
 use Rattle.std.proofs.lemmas.Bool.{cases_lt, cases_eq}
 use Rattle.btf_raw.specs.declared.cause.BtfCause.TheVariants.{NameRange, NameUtf8, NameMissing, NameUnwanted, NotZero, Size, Reference, TargetKind, IntWord, MemberInt, MemberPlace, Linkage, Component}
 use Rattle.btf_raw.specs.KindNumbers.{INT, ARRAY, FWD, FUNC, VAR, DECL_TAG}
-use Rattle.btf_raw.specs.Header.{HasNulEnds}
+use Rattle.btf_raw.specs.{Header.HasNulEnds, Names.TextAt, Names.NameAt}
 use Rattle.btf_raw.specs.Kinds.{one_of, kind_of, vlen_of, flag_of, unused_of, fixed_words, item_words, tail_words, needs_name, has_no_name, has_item_names}
-use Rattle.btf_raw.specs.Names.{TextAt, NameAt}
 use Rattle.btf_raw.specs.Frames.{IsFrame, name_word, info_word, third_word, kind, vlen, flag}
-use Rattle.btf_types.specs.Spelling.{info}
+use Rattle.btf_types.specs.{Spelling.info, Good.TargetIsGood, judge.RecordFaults.IsFaultless, Reading.text_from, Reading.component_of}
 use Rattle.btf_types.specs.judge.Checks.{TypeFacts, type_at, size_fits, bits_fit, target_fits, component_fits, member_fits, member_int_fits}
-use Rattle.btf_types.specs.Good.{TargetIsGood}
 use Rattle.btf_types.specs.judge.FieldFaults.{IsTypeField, IsMemberWord, HasBitFields, bit_offset, width, int_unused, int_encoding, int_bits}
-use Rattle.btf_types.specs.Reading.{text_from, component_of}
-use Rattle.btf_types.specs.judge.RecordFaults.{IsFaultless}
-use Rattle.btf_types.proofs.KindCases.{KindIs, kind_is}
+use Rattle.btf_types.proofs.{KindCases.KindIs, KindCases.kind_is, FaultlessLemmas.FaultlessHeads.IntIsRight}
 use Rattle.btf_types.proofs.TableLemmas.TextSteps.{decided, empty_or_not, name_there}
-use Rattle.btf_types.proofs.FaultlessLemmas.FaultlessHeads.{IntIsRight}
 
 -- the parts of the info word determine it
 pub info_whole : (w : ℕ) → w < 2 ^ 32 → unused_of w ≡ 0 → w ≡ info (kind_of w) (vlen_of w) (flag_of w)

@@ -1,19 +1,13 @@
 -- The items of a frame without fault, as they are read.
 use Rattle.std.proofs.Common.{◌≡◌, ℕ, ◌+◌, ◌*◌, ◌<◌, true, false, Some, List, refl, sym, ap, subst, ◌∙◌, inl, inr, lit<, arith}
 use Rattle.std.specs.Prelude.{IsTrue, slice_index, slice_get}
-use Rattle.btf_raw.specs.Header.{HasNulEnds}
-use Rattle.btf_raw.specs.Kinds.{item_words, has_item_names}
-use Rattle.btf_raw.specs.Names.{NameAt}
+use Rattle.btf_raw.specs.{Header.HasNulEnds, Names.NameAt, Kinds.item_words, Kinds.has_item_names}
 use Rattle.btf_raw.specs.Frames.{IsFrame, kind, vlen, flag}
-use Rattle.btf_types.specs.judge.Checks.{TypeFacts}
-use Rattle.btf_types.specs.Values.{TypeItem}
+use Rattle.btf_types.specs.{judge.Checks.TypeFacts, judge.RecordFaults.IsFaultless, Values.TypeItem}
 use Rattle.btf_types.specs.Reading.{text_from, item_from, item_of, item_total, record_of}
-use Rattle.btf_types.specs.judge.RecordFaults.{IsFaultless}
 use Rattle.btf_types.proofs.KindCases.{KindIs, IsStruct, IsUnion, IsEnum, IsFuncProto, IsEnum64}
 use Rattle.btf_types.proofs.FaultlessLemmas.FaultlessWords.{known, room, item_ends, item_name_is}
-use Rattle.btf_types.proofs.TableLemmas.TextSteps.{decided}
-use Rattle.btf_types.proofs.FaultlessLemmas.FaultlessItems.{listed}
-use Rattle.btf_types.proofs.TabulateSteps.{get-tabulate}
+use Rattle.btf_types.proofs.{TableLemmas.TextSteps.decided, TabulateSteps.get-tabulate, FaultlessLemmas.FaultlessItems.listed}
 
 some_words : {k : ℕ} → KindIs k → IsTrue (has_item_names k) → 0 < item_words k
 unfolding has_item_names item_words

@@ -3,17 +3,14 @@ use Rattle.std.proofs.Common.{◌≡◌, ◌≢◌, ◌⊎◌, ℕ, zero, suc, �
 use Rattle.std.specs.Prelude.{IsTrue, IsUtf8, slice_index, ◌==◌, not, if◌then◌else◌}
 use Rattle.std.specs.List.{All}
 use Rattle.std.proofs.lemmas.List.Elements.{All-head, All-tail}
-use Rattle.btf_raw.specs.declared.cause.BtfCause.{BtfCause}
+use Rattle.btf_raw.specs.{declared.cause.BtfCause.BtfCause, Names.TextAt, Names.NameAt}
 use Rattle.btf_raw.specs.declared.cause.BtfCause.TheVariants.{NameRange, NameUtf8, NameMissing, NameUnwanted, NotZero, Size, Reference, TargetKind, IntWord, MemberInt, MemberPlace, Linkage, Component}
 use Rattle.btf_raw.specs.KindNumbers.{INT, ARRAY, STRUCT, UNION, ENUM, ENUM64, FWD, FUNC, FUNC_PROTO, VAR, DATASEC, DECL_TAG}
 use Rattle.btf_raw.specs.Kinds.{one_of, item_words, has_no_name, has_target, has_item_names, is_struct}
-use Rattle.btf_raw.specs.Names.{TextAt, NameAt}
 use Rattle.btf_raw.specs.Frames.{kind, vlen, flag, name_word, third_word}
 use Rattle.btf_raw.proofs.Texts.{TextAt-unique, TextAt-inside}
-use Rattle.btf_types.specs.declared.values.Encoding.{Encoding}
-use Rattle.btf_types.specs.declared.values.Encoding.TheVariants.{Plain, Signed, Char, Bool as Boolean}
-use Rattle.btf_types.specs.declared.values.Linkage.{Linkage as ItsLinkage}
-use Rattle.btf_types.specs.declared.values.Linkage.TheVariants.{LStatic, LGlobal, LExtern}
+use Rattle.btf_types.specs.declared.values.Encoding.{Encoding, TheVariants.Plain, TheVariants.Signed, TheVariants.Char, TheVariants.Bool as Boolean}
+use Rattle.btf_types.specs.declared.values.Linkage.{Linkage as ItsLinkage, TheVariants.LStatic, TheVariants.LGlobal, TheVariants.LExtern}
 use Rattle.btf_types.specs.Values.{TypeHead, KInt, KPtr, KArray, KStruct, KUnion, KEnum, KFwd, KTypedef, KVolatile, KConst, KRestrict, KFunc, KFuncProto, KVar, KDatasec, KDeclTag, KTypeTag, KEnum64, TypeItem, Member, EnumValue, Value64, Param, Entry, TypeRecord}
 use Rattle.btf_types.specs.Names.{head_name, item_name}
 use Rattle.btf_types.specs.Spelling.{kind_number, head_third, head_tail, linkage_number, encoding_number, MemberWord, ItemSpells, Spells, HeadInRange}
@@ -22,9 +19,7 @@ use Rattle.btf_types.specs.Good as good
 use Rattle.btf_types.specs.Good.{HeadIsGood, ItemOf, head_targets, item_targets, has_width, has_bit_fields, TargetIsGood, MemberIsGood, IsGoodRecord, facts_of}
 use Rattle.btf_types.specs.judge.FieldFaults.{IsNameField, IsTypeField, IsMemberWord, HasBitFields, int_unused, int_encoding, int_offset, int_bits, frame_facts, WordFault}
 use Rattle.std.proofs.lemmas.Bool.Decides.{eqb_tells}
-use Rattle.btf_types.proofs.KindCases.{one_among}
-use Rattle.btf_types.proofs.Members.{Has-get_or, any_from_Has}
-use Rattle.btf_types.proofs.Spelled.{vlen_from, no_items}
+use Rattle.btf_types.proofs.{KindCases.one_among, Spelled.vlen_from, Spelled.no_items, Members.Has-get_or, Members.any_from_Has}
 use Rattle.btf_types.proofs.Denoting.{IsNumbers, numbers, tail_word}
 use Rattle.btf_types.proofs.SpelledItems.{nothing, ItemFits, item_fits}
 

@@ -2,8 +2,7 @@
 use Rattle.std.proofs.Common.{◌≡◌, ◌≢◌, ℕ, ◌+◌, ◌*◌, ◌/◌, ◌^◌, ◌<◌, true, false, List, length, refl, sym, subst, ◌∙◌, arith}
 use Rattle.std.specs.Prelude.{IsTrue, slice_index}
 use Rattle.std.proofs.lemmas.Bool.{ne_eqb}
-use Rattle.btf_raw.specs.Kinds.{tail_words, is_struct}
-use Rattle.btf_raw.specs.Frames.{IsFrame, kind, vlen, flag}
+use Rattle.btf_raw.specs.{Kinds.tail_words, Kinds.is_struct, Frames.IsFrame, Frames.kind, Frames.vlen, Frames.flag}
 use Rattle.btf_types.specs.judge.RecordFaults.{BitFieldsAre}
 use Rattle.btf_types.proofs.JudgeLemmas.RoleSteps.{struct_size, struct_fixed}
 

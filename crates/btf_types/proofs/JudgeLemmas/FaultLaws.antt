@@ -1,31 +1,20 @@
 -- A file has no fault if and only if it denotes some list of records.
 use Rattle.std.proofs.Common.{ℕ, ◌+◌, ◌-◌, ◌<◌, ◌≤◌, List, length, map, refl, sym, subst, ◌∙◌, inl, inr, arith}
-use Rattle.std.specs.List.{AllZip}
-use Rattle.std.specs.Prelude.{slice_index}
+use Rattle.std.specs.{List.AllZip, Prelude.slice_index}
 use Rattle.std.proofs.lemmas.Bool.{cases_eq}
-use Rattle.bpf_words.specs.declared.Order.{Order}
-use Rattle.bpf_words.specs.Words.{IsBytes}
+use Rattle.bpf_words.specs.{declared.Order.Order, Words.IsBytes}
 use Rattle.bpf_words.proofs.WordLemmas.{IsBytes-drop, IsBytes-take}
-use Rattle.btf_raw.specs.declared.cause.BtfCause.{BtfCause}
-use Rattle.btf_raw.specs.declared.cause.BtfCause.TheVariants.{FirstString, LastString}
-use Rattle.btf_raw.specs.Cause.{HasNone}
+use Rattle.btf_raw.specs.declared.cause.BtfCause.{BtfCause, TheVariants.FirstString, TheVariants.LastString}
+use Rattle.btf_raw.specs.{Cause.HasNone, Frames.Frames, Frames.FramingFault, Frames.section_of, Frames.bytes_of}
 use Rattle.btf_raw.specs.Header.{Cut, HasNulEnds, HeaderFault, StringFault, part, types_at, strings_at, TYPES_LIMIT}
-use Rattle.btf_raw.specs.Frames.{Frames, FramingFault, section_of, bytes_of}
-use Rattle.btf_raw.proofs.Cuts.{cut_unique, cut_reads, SameCut}
-use Rattle.btf_raw.proofs.HeaderLaw.{header_there, cut_has_none}
-use Rattle.btf_types.specs.Values.{TypeRecord}
-use Rattle.btf_types.specs.Spelling.{Spells}
-use Rattle.btf_types.specs.Good.{IsGood, facts}
-use Rattle.btf_types.specs.Denotes.{Denotes}
-use Rattle.btf_types.specs.Reading.{record_of}
-use Rattle.btf_types.specs.judge.FieldFaults.{FieldFault}
+use Rattle.btf_raw.proofs.{Cuts.cut_unique, Cuts.cut_reads, Cuts.SameCut, HeaderLaw.header_there, HeaderLaw.cut_has_none}
+use Rattle.btf_types.specs.{Values.TypeRecord, Reading.record_of, Spelling.Spells, Denotes.Denotes}
+use Rattle.btf_types.specs.{Good.IsGood, Good.facts, judge.FieldFaults.FieldFault}
 use Rattle.btf_types.specs.Faults.{Phase, InHeader, InStrings, InFrames, InFields, Faults, StringsFault, FramesFault, FieldsFault}
 use Rattle.btf_types.specs.Laws.{CutIsJudged, FramingIsJudged, FieldsAreJudged, NoFaultIsAccepted}
-use Rattle.btf_types.proofs.Denoting.{frames_of}
+use Rattle.btf_types.proofs.{Denoting.frames_of, TableLemmas.TableSteps.concat-map, TableLemmas.TableSteps.spelled_bytes}
 use Rattle.btf_types.proofs.JudgeLemmas.PhaseSteps.{no_string_fault, frames_have_none, same_frames}
-use Rattle.btf_types.proofs.TableLemmas.TableSteps.{concat-map, spelled_bytes}
-use Rattle.btf_types.proofs.JudgeLemmas.FramesLaw.{frames_there}
-use Rattle.btf_types.proofs.JudgeLemmas.FieldsLaw.{fields_have_none}
+use Rattle.btf_types.proofs.JudgeLemmas.{FramesLaw.frames_there, FieldsLaw.fields_have_none}
 use Rattle.btf_types.proofs.FaultlessLemmas.Faultless.{frames_spell, frames_good}
 
 -- ---- the header and the strings

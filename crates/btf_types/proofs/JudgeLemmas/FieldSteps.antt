@@ -1,17 +1,11 @@
 -- The first fault of the fields: after records without one, the first of a record.
 use Rattle.std.proofs.Common.{◌≡◌, ◌⊎◌, ℕ, zero, suc, ◌+◌, ◌*◌, ◌<◌, ◌≤◌, Option, Some, None, List, [], ◌∷◌, length, take, map, refl, ap, subst, ◌∙◌, inl, inr, length-append, arith}
-use Rattle.std.specs.Prelude.{slice_get, slice_index}
-use Rattle.std.specs.List.{concat}
-use Rattle.std.proofs.lemmas.Bool.{cases_lt}
-use Rattle.btf_raw.specs.declared.cause.BtfCause.{BtfCause}
-use Rattle.btf_raw.specs.Cause.{number_of, HasNone, LeastByPlace}
-use Rattle.std.proofs.lemmas.List.{length-map}
-use Rattle.std.proofs.lemmas.Option.{slice_get_past}
-use Rattle.btf_types.specs.declared.tables.section.Section.TheInside.{Inside}
+use Rattle.std.specs.{Prelude.slice_get, Prelude.slice_index, List.concat}
+use Rattle.std.proofs.lemmas.{Bool.cases_lt, List.length-map, Option.slice_get_past}
+use Rattle.btf_raw.specs.{declared.cause.BtfCause.BtfCause, Cause.number_of, Cause.HasNone, Cause.LeastByPlace}
+use Rattle.btf_types.specs.{declared.tables.section.Section.TheInside.Inside, Reading.frame_at, Sections.facts_in}
 use Rattle.btf_types.specs.judge.FieldFaults.{WordFault, FieldFault, frame_facts}
-use Rattle.btf_types.specs.Reading.{frame_at}
 use Rattle.btf_types.specs.judge.RecordFaults.{IsFaultless, LeastOfRecord}
-use Rattle.btf_types.specs.Sections.{facts_in}
 use Rattle.btf_types.specs.tables.SectionParts.{IsSection, words_in}
 use Rattle.btf_types.proofs.TableLemmas.SectionSteps.{nth_frame, frame_get, starts_in, has_frame}
 

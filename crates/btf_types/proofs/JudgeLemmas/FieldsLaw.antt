@@ -1,14 +1,10 @@
 -- The fields of a section have no fault if its frames spell good records.
 use Rattle.std.proofs.Common.{◌≡◌, ℕ, zero, suc, Some, List, [], ◌∷◌, map, refl, sym, subst}
-use Rattle.std.specs.Prelude.{slice_get}
-use Rattle.std.specs.List.{All, AllZip}
+use Rattle.std.specs.{Prelude.slice_get, List.All, List.AllZip}
 use Rattle.std.proofs.lemmas.List.Elements.{All-head, All-tail}
 use Rattle.btf_raw.specs.Cause.{HasNone}
-use Rattle.btf_types.specs.Values.{TypeRecord}
-use Rattle.btf_types.specs.Spelling.{Spells}
-use Rattle.btf_types.specs.judge.Checks.{TypeFacts}
-use Rattle.btf_types.specs.Good.{IsGoodRecord, IsGood, facts}
-use Rattle.btf_types.specs.judge.FieldFaults.{FieldFault, WordFault, frame_facts}
+use Rattle.btf_types.specs.{Values.TypeRecord, Spelling.Spells, Good.IsGoodRecord, Good.IsGood, Good.facts}
+use Rattle.btf_types.specs.judge.{Checks.TypeFacts, FieldFaults.FieldFault, FieldFaults.WordFault, FieldFaults.frame_facts}
 use Rattle.btf_types.proofs.FaultlessLemmas.SpelledFaultless.{spelled_faultless, spelled_facts}
 
 facts_spelled : (strings : List ℕ) (types : List TypeFacts) (v : List TypeRecord) (fs : List (List ℕ)) → All (IsGoodRecord types) v → AllZip (Spells strings) v fs → facts v ≡ map frame_facts fs

@@ -1,12 +1,8 @@
 -- A type section is a list of frames, or has a fault of framing.
 use Rattle.std.proofs.Common.{◌≡◌, ◌≢◌, ◌⊎◌, ℕ, zero, suc, ◌+◌, ◌*◌, ◌<◌, ◌≤◌, Bool, List, [], ◌∷◌, ◌++◌, length, drop, refl, sym, ap, ◌∙◌, inl, inr, append_assoc, arith}
-use Rattle.std.specs.Prelude.{IsTrue, IsFalse}
-use Rattle.std.specs.List.{All}
-use Rattle.std.proofs.lemmas.Bool.{cases_lt, cases_eq}
-use Rattle.std.proofs.lemmas.List.{take-append-drop, length-drop}
-use Rattle.std.proofs.lemmas.List.Elements.{All-nil, All-cons}
-use Rattle.bpf_words.specs.declared.Order.{Order}
-use Rattle.bpf_words.specs.Words.{IsBytes, word32_at}
+use Rattle.std.specs.{Prelude.IsTrue, Prelude.IsFalse, List.All}
+use Rattle.std.proofs.lemmas.{Bool.cases_lt, Bool.cases_eq, List.take-append-drop, List.length-drop, List.Elements.All-nil, List.Elements.All-cons}
+use Rattle.bpf_words.specs.{declared.Order.Order, Words.IsBytes, Words.word32_at}
 use Rattle.bpf_words.proofs.WordLemmas.{IsBytes-drop}
 use Rattle.btf_raw.specs.declared.cause.BtfCause.{BtfCause}
 use Rattle.btf_raw.specs.declared.cause.BtfCause.TheVariants.{RecordCut, InfoBits, KindNumber, FlagSet, Vlen, TailCut}

@@ -1,23 +1,15 @@
 -- One more frame.
 use Rattle.std.proofs.Common.{◌≡◌, ℕ, zero, suc, ◌+◌, ◌*◌, ◌<◌, ◌≤◌, List, [], ◌∷◌, ◌++◌, length, take, drop, refl, sym, ap, subst, ◌∙◌, inl, inr, length-append, append-nil, lit<, arith}
-use Rattle.std.specs.Prelude.{slice_index}
-use Rattle.std.specs.List.{All}
-use Rattle.std.proofs.lemmas.Grind.{flat_map-append}
-use Rattle.std.proofs.lemmas.Bool.{cases_lt}
+use Rattle.std.specs.{Prelude.slice_index, List.All}
+use Rattle.std.proofs.lemmas.{Grind.flat_map-append, Bool.cases_lt, List.Elements.All-push}
 use Rattle.std.proofs.lemmas.List.{map_push, drop-drop, take-append-drop, take-append-le, length-take-le, length-map, take_at, get_or_past}
-use Rattle.std.proofs.lemmas.List.Elements.{All-push}
-use Rattle.std.proofs.Math.ListN.{get_or-append}
-use Rattle.std.proofs.Math.Seq.{take-add, get_or-append_seam}
-use Rattle.bpf_words.specs.declared.Order.{Order}
-use Rattle.bpf_words.specs.Words.{IsBytes, word32, word32_at}
+use Rattle.std.proofs.Math.{ListN.get_or-append, Seq.take-add, Seq.get_or-append_seam}
+use Rattle.bpf_words.specs.{declared.Order.Order, Words.IsBytes, Words.word32, Words.word32_at}
 use Rattle.bpf_words.proofs.WordLemmas.{word32-word32_at, word32_at-below}
-use Rattle.btf_raw.specs.declared.records.RawHead.{RawHead}
-use Rattle.btf_raw.specs.Kinds.{kind_of, vlen_of, tail_words}
+use Rattle.btf_raw.specs.declared.{records.RawHead.RawHead, cause.BtfCause.BtfCause}
+use Rattle.btf_raw.specs.{Kinds.kind_of, Kinds.vlen_of, Kinds.tail_words, Heads.HeadAt, Heads.HeadFault, Cause.LeastByPlace}
 use Rattle.btf_raw.specs.Frames.{IsFrame, IsAllowed, RecordFault, FramingFault, bytes_of, section_of, info_word}
-use Rattle.btf_raw.specs.Heads.{HeadAt, HeadFault}
 use Rattle.btf_types.specs.Reading.{tabulate, info_at, frame_at, frames_at}
-use Rattle.btf_raw.specs.declared.cause.BtfCause.{BtfCause}
-use Rattle.btf_raw.specs.Cause.{LeastByPlace}
 use Rattle.btf_raw.proofs.Frames.{IsNoFrame, frame_has_none, frames_cancel}
 use Rattle.btf_types.proofs.Lists.{length-tabulate, get_or-tabulate}
 

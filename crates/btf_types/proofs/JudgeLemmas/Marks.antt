@@ -1,10 +1,8 @@
 -- Marks for the strings that are UTF-8, computed from the end of a section.
 use Rattle.std.proofs.Common.{◌≡◌, ℕ, ◌-◌, ◌<◌, ◌≤◌, Bool, true, false, List, length, get_or, set, inl, inr, arith}
 use Rattle.std.specs.Prelude.{◌↔◌, IsUtf8, slice_index}
-use Rattle.std.proofs.lemmas.Bool.{cases_lt, cases_eq}
-use Rattle.std.proofs.lemmas.List.{length-set, get_or-set_same, get_or-set_other}
-use Rattle.btf_raw.specs.Header.{HasNulEnds}
-use Rattle.btf_raw.specs.Names.{TextAt}
+use Rattle.std.proofs.lemmas.{Bool.cases_lt, Bool.cases_eq, List.length-set, List.get_or-set_same, List.get_or-set_other}
+use Rattle.btf_raw.specs.{Header.HasNulEnds, Names.TextAt}
 use Rattle.btf_types.specs.judge.Texts.{BeginsChar, AreMarks}
 use Rattle.btf_types.proofs.JudgeLemmas.Utf8Steps.{begins_with_char}
 

@@ -2,16 +2,11 @@
 use Rattle.std.proofs.Common.{◌≡◌, ℕ, ◌<◌, ◌≤◌, Bool, true, false, List, length, refl, ap, subst, inl, inr, arith}
 use Rattle.std.specs.Prelude.{◌↔◌, ◌==◌, IsFalse, IsUtf8, slice_index}
 use Rattle.std.proofs.lemmas.Bool.{cases_lt, eqb-true, eqb-false}
-use Rattle.btf_raw.specs.declared.cause.BtfCause.{BtfCause}
+use Rattle.btf_raw.specs.{declared.cause.BtfCause.BtfCause, Cause.number_of, Names.TextAt, Header.HasNulEnds}
 use Rattle.btf_raw.specs.declared.cause.BtfCause.TheVariants.{NameRange, NameUtf8, NameMissing, NameUnwanted}
-use Rattle.btf_raw.specs.Cause.{number_of}
-use Rattle.btf_raw.specs.Header.{HasNulEnds}
-use Rattle.btf_raw.specs.Names.{TextAt}
-use Rattle.btf_types.specs.judge.Checks.{NoCause, LeastCause}
-use Rattle.btf_types.specs.judge.NameFaults.{NameFault, OwnNameFault, ItemNameFault}
+use Rattle.btf_types.specs.judge.{Checks.NoCause, Checks.LeastCause, NameFaults.NameFault, NameFaults.OwnNameFault, NameFaults.ItemNameFault}
 use Rattle.btf_types.specs.Reading.{text_from}
-use Rattle.btf_types.proofs.TableLemmas.TextSteps.{text_there}
-use Rattle.btf_types.proofs.JudgeLemmas.Utf8Steps.{empty_byte, empty_text}
+use Rattle.btf_types.proofs.{TableLemmas.TextSteps.text_there, JudgeLemmas.Utf8Steps.empty_byte, JudgeLemmas.Utf8Steps.empty_text}
 
 -- the name of an item, if its string isn't UTF-8 and if it is
 pub utf8_fault : (strings : List ℕ) (offset : ℕ) → HasNulEnds strings → offset < length strings

@@ -1,22 +1,15 @@
 -- From the faults of a section to those of the file.
 use Rattle.std.proofs.Common.{◌≡◌, ℕ, ◌+◌, ◌-◌, List, [], ◌++◌, length, get_or, refl, sym, ap, subst, ◌∙◌, inl, inr, append-nil, arith}
 use Rattle.bpf_words.specs.declared.Order.{Order}
-use Rattle.btf_raw.specs.declared.header.Header.{Header}
-use Rattle.btf_raw.specs.declared.cause.BtfCause.{BtfCause}
+use Rattle.btf_raw.specs.declared.{header.Header.Header, cause.BtfCause.BtfCause, cause.BtfFault.BtfFault}
 use Rattle.btf_raw.specs.declared.cause.BtfCause.TheVariants.{FirstString, LastString, RecordCut, TailCut}
-use Rattle.btf_raw.specs.declared.cause.BtfFault.{BtfFault}
-use Rattle.btf_raw.specs.Cause.{HasNone, LeastByCause, LeastByPlace}
+use Rattle.btf_raw.specs.{Cause.HasNone, Cause.LeastByCause, Cause.LeastByPlace, ReadHeader.ReadsHeader}
 use Rattle.btf_raw.specs.Header.{Cut, HasNulEnds, HeaderFault, StringFault, part, types_at}
-use Rattle.btf_raw.specs.ReadHeader.{ReadsHeader}
 use Rattle.btf_raw.specs.Frames.{Frames, FramingFault, RecordFault, section_of}
-use Rattle.btf_raw.proofs.Frames.{IsNoFrame, frame_has_none, frames_cancel}
-use Rattle.btf_raw.proofs.Cuts.{cut_unique, SameCut}
+use Rattle.btf_raw.proofs.{Frames.IsNoFrame, Frames.frame_has_none, Frames.frames_cancel, Cuts.cut_unique, Cuts.SameCut}
 use Rattle.btf_types.proofs.Denoting.{nothing_is_no_frame}
-use Rattle.btf_types.specs.Faults.{StringsFault, FramesFault, FieldsFault}
-use Rattle.btf_types.specs.judge.FieldFaults.{FieldFault}
-use Rattle.btf_types.specs.Reading.{frames_at}
-use Rattle.btf_types.specs.tables.TableInvariant.{IsFramed}
-use Rattle.btf_types.specs.declared.error.BtfError.{BtfError}
+use Rattle.btf_types.specs.{Faults.StringsFault, Faults.FramesFault, Faults.FieldsFault, judge.FieldFaults.FieldFault, Reading.frames_at}
+use Rattle.btf_types.specs.{tables.TableInvariant.IsFramed, declared.error.BtfError.BtfError}
 use Rattle.btf_types.specs.declared.error.BtfError.TheVariants as errors
 use Rattle.btf_types.specs.tables.Tables.{Fails, FailsFraming, FailsFields, moved}
 use Rattle.btf_types.proofs.JudgeLemmas.Firsts.{first_of_strings, first_of_frames, first_of_fields}

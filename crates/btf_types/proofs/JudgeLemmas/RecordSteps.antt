@@ -2,14 +2,11 @@
 use Rattle.std.proofs.Common.{◌≡◌, ◌≢◌, ◌⊎◌, ℕ, ◌+◌, ◌*◌, ◌<◌, ◌≤◌, None, Some, inl, inr, List, length, refl, sym, ◌∙◌, subst, arith}
 use Rattle.std.specs.Prelude.{IsTrue, slice_index}
 use Rattle.std.proofs.lemmas.Bool.{cases_lt, ne_eqb}
-use Rattle.btf_raw.specs.declared.cause.BtfCause.{BtfCause}
+use Rattle.btf_raw.specs.{declared.cause.BtfCause.BtfCause, Frames.IsFrame, Frames.kind, Frames.vlen}
 use Rattle.btf_raw.specs.KindNumbers.{INT, ARRAY, STRUCT, UNION, ENUM, FUNC_PROTO, VAR, DATASEC, DECL_TAG, ENUM64}
-use Rattle.btf_raw.specs.Frames.{IsFrame, kind, vlen}
 use Rattle.btf_raw.specs.Kinds.{is_struct, tail_words, fixed_words, item_words}
-use Rattle.btf_types.specs.Sections.{SectionWords}
-use Rattle.btf_types.specs.judge.Checks.{TypeFacts, LeastCause, NoCause}
-use Rattle.btf_types.specs.judge.NameFaults.{NamedTypeFault}
-use Rattle.btf_types.specs.judge.RecordFaults.{FaultInWord, NoneWithin, IsFirstWithin}
+use Rattle.btf_types.specs.{Sections.SectionWords, judge.RecordFaults.FaultInWord, judge.RecordFaults.NoneWithin, judge.RecordFaults.IsFirstWithin}
+use Rattle.btf_types.specs.judge.{Checks.TypeFacts, Checks.LeastCause, Checks.NoCause, NameFaults.NamedTypeFault}
 use Rattle.btf_types.proofs.JudgeLemmas.Roles.{Role, Free, HasRole}
 use Rattle.btf_types.proofs.JudgeLemmas.RoleSteps.{HeldFault, judged, one_word, struct_size, struct_fixed}
 

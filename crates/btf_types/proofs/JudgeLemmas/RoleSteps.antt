@@ -2,17 +2,15 @@
 use Rattle.std.proofs.Common.{◌≡◌, ◌≢◌, ◌⊎◌, ℕ, zero, suc, ◌+◌, ◌-◌, ◌*◌, ◌/◌, ◌%◌, ◌<◌, ◌≤◌, Bool, true, false, Option, List, [], ◌∷◌, length, refl, sym, subst, ◌∙◌, inl, inr, lit<, arith}
 use Rattle.std.specs.Prelude.{IsTrue, IsFalse, MatchOption, slice_index, ◌==◌}
 use Rattle.std.proofs.lemmas.Bool.{cases_lt, eqb-true}
-use Rattle.btf_raw.specs.declared.cause.BtfCause.{BtfCause}
+use Rattle.btf_raw.specs.{declared.cause.BtfCause.BtfCause, Names.TextAt}
 use Rattle.btf_raw.specs.declared.cause.BtfCause.TheVariants.{NameRange, NameUtf8, NameMissing, NameUnwanted, NotZero, Size, Reference, TargetKind, IntWord, MemberInt, MemberPlace, Linkage, Component}
 use Rattle.btf_raw.specs.KindNumbers.{INT, ARRAY, STRUCT, UNION, ENUM, FUNC_PROTO, VAR, DATASEC, DECL_TAG, ENUM64}
 use Rattle.btf_raw.specs.Kinds.{one_of, tail_words, fixed_words, item_words, has_target, has_item_names, is_struct}
-use Rattle.btf_raw.specs.Names.{TextAt}
 use Rattle.btf_raw.specs.Frames.{IsFrame, name_word, third_word, kind, vlen, flag}
 use Rattle.btf_types.specs.judge.Checks.{size_fits, bits_fit, target_fits, component_fits, TypeFacts, type_at, NoCause, LeastCause}
 use Rattle.btf_types.specs.judge.FieldFaults.{WordFault, offset_in, width_in, int_unused, int_encoding, int_bits, IsTypeField, IsNameField, IsMemberWord, IsItemWord}
 use Rattle.btf_types.specs.Sections.{SectionWords, facts_in}
-use Rattle.btf_types.specs.judge.RecordFaults.{FaultInWord, BitFieldsAre}
-use Rattle.btf_types.specs.judge.NameFaults.{MemberPlaceFault, MemberTypeFault}
+use Rattle.btf_types.specs.judge.{RecordFaults.FaultInWord, RecordFaults.BitFieldsAre, NameFaults.MemberPlaceFault, NameFaults.MemberTypeFault}
 use Rattle.btf_types.proofs.JudgeLemmas.Judging.{judged_same}
 use Rattle.btf_types.proofs.JudgeLemmas.Roles as roles
 use Rattle.btf_types.proofs.JudgeLemmas.Roles.{Role, word_in_item, PartIs, RoleIs, HasRole, TypeOfMemberFault, RoleFault}

@@ -1,8 +1,7 @@
 -- What each word of a record is: a name, a type ID, an offset field, and so on. What a cause says of a word follows from its role.
 use Rattle.std.proofs.Common.{◌≡◌, ◌⊎◌, ℕ, ◌-◌, ◌%◌, ◌<◌, ◌≤◌, List, length, if◌then◌else◌}
 use Rattle.std.specs.Prelude.{◌==◌, IsTrue, IsFalse}
-use Rattle.btf_raw.specs.declared.cause.BtfCause.{BtfCause}
-use Rattle.btf_raw.specs.declared.cause.BtfCause.TheVariants.{Reference, MemberInt}
+use Rattle.btf_raw.specs.declared.cause.BtfCause.{BtfCause, TheVariants.Reference, TheVariants.MemberInt}
 use Rattle.btf_raw.specs.KindNumbers.{INT, ARRAY, FUNC_PROTO, VAR, DATASEC, DECL_TAG}
 use Rattle.btf_raw.specs.Kinds.{item_words, has_item_names, is_struct}
 use Rattle.btf_types.specs.judge.Checks.{TypeFacts, type_at, member_int_fits, SecondFault, ThirdFault}

@@ -1,8 +1,7 @@
 -- Strings that are UTF-8.
 use Rattle.std.proofs.Common.{◌≡◌, ℕ, ◌+◌, ◌-◌, ◌<◌, ◌≤◌, Bool, true, List, [], ◌∷◌, ◌++◌, length, get_or, take, drop, refl, sym, ap, subst, ◌∙◌, inl, inr, append_assoc, length-append, take-append-drop, arith}
 use Rattle.std.specs.Prelude.{◌≢◌, ◌↔◌, IsUtf8, IsCharBoundary, MatchResult, Result, Ok, Err, is_ok, slice_index}
-use Rattle.std.proofs.lemmas.Bool.{cases_lt}
-use Rattle.std.proofs.lemmas.List.{length-drop, length-take-le, get_or-drop, get_or_append_left, take-append-le}
+use Rattle.std.proofs.lemmas.{Bool.cases_lt, List.length-drop, List.length-take-le, List.get_or-drop, List.get_or_append_left, List.take-append-le}
 use Rattle.std.proofs.lemmas.Str.{IsUtf8-append, IsUtf8-take, IsUtf8-drop, IsUtf8-between, IsCharBoundary-start, IsCharBoundary-before_ascii}
 use Rattle.btf_raw.specs.Names.{TextAt}
 use Rattle.btf_raw.proofs.Texts.{text_after}

@@ -1,22 +1,16 @@
 -- Common suffixes determine which strings are suffixes of which, and therefore the hosts among strings sorted by reversed bytes.
 use Rattle.std.proofs.Common.{◌≡◌, ℕ, zero, suc, ◌+◌, ◌-◌, ◌<◌, ◌≤◌, true, false, eqb, inl, inr, List, [], ◌∷◌, ◌++◌, length, get_or, refl, sym, ap, ◌∙◌, subst, arith}
-use Rattle.std.specs.Prelude.{reverse}
-use Rattle.std.specs.Ordering.{is_lt}
-use Rattle.std.specs.List.{filter}
-use Rattle.std.specs.List.Sorted.{IsSorted}
-use Rattle.std.specs.Str.{bytes_eq}
+use Rattle.std.specs.{Prelude.reverse, Ordering.is_lt, Str.bytes_eq, List.filter, List.Sorted.IsSorted}
 use Rattle.std.proofs.lemmas.Bool.{both_ways, cases_Bool, cases_lt, cases_eq, cond-true, cond-false, eq-eqb, ne_eqb}
 use Rattle.std.proofs.lemmas.Cmp.{tied_itself}
-use Rattle.std.proofs.lemmas.List.{reverse-append, reverse-reverse, length-reverse, get_or_default}
-use Rattle.std.proofs.lemmas.List.Sorted.{sorted_far}
+use Rattle.std.proofs.lemmas.List.{reverse-append, reverse-reverse, length-reverse, get_or_default, Sorted.sorted_far}
 use Rattle.btf_types.specs.strings.SharedNames.{is_suffix, tail_cmp, hosts_of, host_in, least_by_tail}
 use Rattle.btf_types.specs.strings.CommonTails.{common_front, common_tail, AreInTailOrder, RanksAreTogether, IsFirstRank, IsNextHost, FirstRankEnds, RankHasHost}
 use Rattle.btf_types.proofs.Members.{Has, Has-get_or, Has-filter, Has-from_filter, Has-from_Contains, Contains-from_Has}
-use Rattle.btf_types.proofs.StringLemmas.Texts.{same_text, bytes_eq-same}
+use Rattle.btf_types.proofs.StringLemmas.{Texts.same_text, Texts.bytes_eq-same, Longest.host_from}
 use Rattle.btf_types.proofs.StringLemmas.Suffixes.{Ends, Ends-refl, Ends-trans, Ends-same_length, Ends-from_suffix, suffix_from_Ends, Ends-from_proper, proper_from_Ends}
 use Rattle.btf_types.proofs.StringLemmas.Hosts.{tail_lt, tail_ranks, tail_total, least_is, host_ends_none, host_member}
 use Rattle.btf_types.proofs.StringLemmas.TailOrder.{Ends-between, Ends-below, tail_tie}
-use Rattle.btf_types.proofs.StringLemmas.Longest.{host_from}
 
 -- y begins with p
 abbrev pub Begins : List ℕ → List ℕ → Type 0

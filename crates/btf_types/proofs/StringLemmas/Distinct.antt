@@ -1,16 +1,11 @@
 -- Lists without repeats: the kept names are one, and so is what a permutation makes of them.
 use Rattle.std.proofs.Common.{◌≡◌, ◌≢◌, ℕ, ◌<◌, ◌≤◌, Bool, cond, inl, inr, List, [], ◌∷◌, length, get_or, take, refl, sym, subst, arith}
-use Rattle.std.specs.List.{filter, sum_by}
-use Rattle.std.specs.List.Sorted.{IsPermutation}
-use Rattle.std.specs.Str.{bytes_eq}
+use Rattle.std.specs.{List.filter, List.sum_by, List.Sorted.IsPermutation, Str.bytes_eq}
 use Rattle.std.proofs.lemmas.Bool.{cond_both, both_ways, not-true, cond-true, cond-false, cases_Bool, false_from_ne_true}
-use Rattle.std.proofs.lemmas.Slice.Eq.{bytes_eq-Decides}
-use Rattle.std.proofs.lemmas.List.{get_or-take, length-take-le}
-use Rattle.std.proofs.lemmas.List.Sums.{sum_by-cons, sum_by_more_le, get_or-le-sum_by}
-use Rattle.std.proofs.lemmas.List.Sorted.{sum_by-IsPermutation}
+use Rattle.std.proofs.lemmas.{Slice.Eq.bytes_eq-Decides, List.Sorted.sum_by-IsPermutation}
+use Rattle.std.proofs.lemmas.List.{get_or-take, length-take-le, Sums.sum_by-cons, Sums.sum_by_more_le, Sums.get_or-le-sum_by}
 use Rattle.btf_types.specs.Names.{is_other, distinct, is_some_text, kept}
-use Rattle.btf_types.proofs.Members.{Has, Has-from_filter}
-use Rattle.btf_types.proofs.StringLemmas.Texts.{bytes_eq-same, same_text}
+use Rattle.btf_types.proofs.{Members.Has, Members.Has-from_filter, StringLemmas.Texts.bytes_eq-same, StringLemmas.Texts.same_text}
 
 abbrev pub NoRepeats : List (List ℕ) → Type 0
 NoRepeats [] = Unit {0}

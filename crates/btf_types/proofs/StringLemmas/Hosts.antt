@@ -1,17 +1,11 @@
 -- The hosts among a list of strings, and the host of each.
 use Rattle.std.proofs.Common.{◌≡◌, ◌≢◌, ℕ, zero, suc, ◌+◌, ◌<◌, Bool, true, false, not, inl, inr, List, [], ◌∷◌, length, get_or, sym, ap, ◌∙◌, subst, arith}
-use Rattle.std.specs.Ordering.{is_lt}
-use Rattle.std.specs.Prelude.{reverse}
-use Rattle.std.specs.Cmp.{IsTotalOrder, IsStrictWeakOrder}
+use Rattle.std.specs.{Ordering.is_lt, Str.bytes_eq, Prelude.reverse, Cmp.IsTotalOrder, Cmp.IsStrictWeakOrder}
 use Rattle.std.specs.List.{filter, list_any, best_of, sum_by}
-use Rattle.std.proofs.lemmas.Bool.{both_ways, not-true, cases_Bool, cases_lt}
-use Rattle.std.proofs.lemmas.Cmp.{nat_list_cmp_total, on_total}
-use Rattle.std.proofs.lemmas.List.MinMax.{IsFirstBest-from_best_of, ranks_by}
-use Rattle.std.proofs.lemmas.List.{get_or_default}
-use Rattle.std.proofs.lemmas.List.Sums.{get_or-le-sum_by}
+use Rattle.std.proofs.lemmas.{Bool.both_ways, Bool.not-true, Bool.cases_Bool, Bool.cases_lt, Cmp.nat_list_cmp_total, Cmp.on_total}
+use Rattle.std.proofs.lemmas.List.{get_or_default, MinMax.IsFirstBest-from_best_of, MinMax.ranks_by, Sums.get_or-le-sum_by}
 use Rattle.btf_types.specs.strings.SharedNames.{is_suffix, is_proper_suffix, tail_cmp, hosts_of, least_by_tail, host_in}
 use Rattle.btf_types.proofs.Members.{Has, Has-filter, Has-from_filter, any_from_Has, Has_from_any, Has-get_or, Contains-from_Has}
-use Rattle.std.specs.Str.{bytes_eq}
 use Rattle.btf_types.proofs.StringLemmas.Texts.{bytes_eq-same, same_text}
 use Rattle.btf_types.proofs.StringLemmas.Suffixes.{Ends, Ends-refl, Ends-trans, Ends-shorter, Ends-same_length, Ends-from_suffix, suffix_from_Ends, Ends-from_proper, proper_from_Ends}
 

@@ -1,7 +1,6 @@
 -- The hosts of strings are those of the longest of them: each string is a suffix of one of these.
 use Rattle.std.proofs.Common.{◌≡◌, ℕ, ◌<◌, Bool, true, false, not, inl, inr, List, [], ◌∷◌, length, refl, sym, ap, ◌∙◌, subst, arith}
-use Rattle.std.specs.List.{filter, list_any}
-use Rattle.std.specs.Str.{bytes_eq}
+use Rattle.std.specs.{List.filter, List.list_any, Str.bytes_eq}
 use Rattle.std.proofs.lemmas.Bool.{both_ways, cases_Bool, false_from_ne_true}
 use Rattle.btf_types.specs.Names.{kept, is_some_text, distinct}
 use Rattle.btf_types.specs.strings.SharedNames.{is_suffix, is_proper_suffix, hosts_of, hosts, host_in, least_by_tail}
@@ -9,8 +8,7 @@ use Rattle.btf_types.specs.strings.LongestTexts.{AreLongest, LongestHaveHosts, H
 use Rattle.btf_types.proofs.Members.{Has, Has-filter, Has-from_filter, any_from_Has, Has_from_any, Has-from_Contains, Contains-from_Has}
 use Rattle.btf_types.proofs.StringLemmas.Texts.{same_text, bytes_eq-same, Has-kept, Has-from_kept}
 use Rattle.btf_types.proofs.StringLemmas.Suffixes.{Ends, Ends-length, Ends-from_suffix, Ends-trans, Ends-from_proper, proper_from_Ends}
-use Rattle.btf_types.proofs.StringLemmas.Hosts.{least_is, host_ends_none, host_member}
-use Rattle.btf_types.proofs.StringLemmas.TailOrder.{tail_tie}
+use Rattle.btf_types.proofs.StringLemmas.{Hosts.least_is, Hosts.host_ends_none, Hosts.host_member, TailOrder.tail_tie}
 
 pub Has-kept_some : (xs : List (List ℕ)) (x : List ℕ) → Has xs x → 0 < length x → Has (kept xs) x
 Has-kept_some xs [] h some = absurd (omega (arith, some))

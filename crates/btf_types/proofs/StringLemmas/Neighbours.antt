@@ -1,16 +1,13 @@
 -- Strings sorted by reversed bytes: whether a string is a suffix of another depends only on the next one.
 use Rattle.std.proofs.Common.{◌≡◌, ◌≢◌, ℕ, ◌+◌, ◌<◌, true, false, inl, inr, List, length, get_or, sym, ap, ◌∙◌, subst, arith}
-use Rattle.std.specs.List.{list_any}
-use Rattle.std.specs.List.Sorted.{IsPermutation, IsSorted}
+use Rattle.std.specs.List.{list_any, Sorted.IsPermutation, Sorted.IsSorted}
 use Rattle.std.proofs.lemmas.Bool.{both_ways, cases_lt, false_from_ne_true}
-use Rattle.std.proofs.lemmas.List.{get_or_default}
-use Rattle.std.proofs.lemmas.List.Sorted.{sorted_far, Contains-permutation, IsPermutation-sym}
+use Rattle.std.proofs.lemmas.List.{get_or_default, Sorted.sorted_far, Sorted.Contains-permutation, Sorted.IsPermutation-sym}
 use Rattle.btf_types.specs.strings.SharedNames.{is_proper_suffix, tail_cmp, hosts_of, host_in}
 use Rattle.btf_types.proofs.Members.{Has, Has-get_or, Has-from_Contains, Contains-from_Has, Has_from_any}
 use Rattle.btf_types.proofs.StringLemmas.Suffixes.{Ends, Ends-trans, Ends-from_proper, proper_from_Ends}
 use Rattle.btf_types.proofs.StringLemmas.Hosts.{tail_lt, tail_ranks, host_is, host_ends_none, host_member, own_host_of}
-use Rattle.btf_types.proofs.StringLemmas.TailOrder.{Ends-between, Ends-below, tail_tie}
-use Rattle.btf_types.proofs.StringLemmas.Distinct.{NoRepeats, apart_after}
+use Rattle.btf_types.proofs.StringLemmas.{TailOrder.Ends-between, TailOrder.Ends-below, TailOrder.tail_tie, Distinct.NoRepeats, Distinct.apart_after}
 
 module _ (ks sorted : List (List ℕ)) (distinct : NoRepeats ks) (perm : IsPermutation ks sorted) (in_order : IsSorted tail_cmp sorted) where
   -- the rank of a kept name among the sorted ones

@@ -2,15 +2,12 @@
 use Rattle.std.proofs.Common.{◌≡◌, ◌≢◌, ℕ, zero, suc, ◌+◌, ◌≤◌, Bool, not, inl, inr, List, [], ◌∷◌, ◌++◌, length, refl, sym, ap, ◌∙◌, subst, arith, append_assoc}
 use Rattle.std.specs.List.{filter, flat_map, All}
 use Rattle.std.proofs.lemmas.Bool.{both_ways, not-true, cases_Bool, cases_lt, cases_eq, cond-true, cond-false}
-use Rattle.std.proofs.lemmas.List.{length-append}
-use Rattle.std.proofs.lemmas.List.Elements.{All-nil, All-cons, All-head, All-tail}
+use Rattle.std.proofs.lemmas.List.{length-append, Elements.All-nil, Elements.All-cons, Elements.All-head, Elements.All-tail}
 use Rattle.btf_raw.specs.Names.{IsWithoutNul}
-use Rattle.btf_types.specs.Names.{with_nul}
-use Rattle.btf_types.specs.strings.SharedNames.{is_suffix}
+use Rattle.btf_types.specs.{Names.with_nul, strings.SharedNames.is_suffix}
 use Rattle.btf_types.proofs.Members.{Has, Has-from_filter}
-use Rattle.btf_types.proofs.StringLemmas.Texts.{IsWithoutNul-suffix}
+use Rattle.btf_types.proofs.StringLemmas.{Texts.IsWithoutNul-suffix, Distinct.NoRepeats, Distinct.NoRepeats-filter}
 use Rattle.btf_types.proofs.StringLemmas.Suffixes.{Ends, split_ends, Ends-length, Ends-from_suffix, suffix_from_Ends}
-use Rattle.btf_types.proofs.StringLemmas.Distinct.{NoRepeats, NoRepeats-filter}
 
 abbrev pub texts : List (List ℕ) → List ℕ
 texts ks = flat_map with_nul ks

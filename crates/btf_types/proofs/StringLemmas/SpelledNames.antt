@@ -1,16 +1,11 @@
 -- The names of spelled records are in the section: what a parser needs so that their shared table fits.
 use Rattle.std.proofs.Common.{◌≡◌, ℕ, ◌≤◌, List, [], ◌∷◌, length, map, refl, ap, arith, Some}
-use Rattle.std.specs.Prelude.{slice_get}
-use Rattle.std.specs.List.{All, AllZip, flat_map}
+use Rattle.std.specs.{Prelude.slice_get, List.All, List.AllZip, List.flat_map}
 use Rattle.std.proofs.lemmas.List.Elements.{All-nil, All-cons, All-append}
-use Rattle.btf_raw.specs.Names.{TextAt}
-use Rattle.btf_types.specs.strings.SharedNames.{shared_table}
-use Rattle.btf_raw.specs.Header.{HasNulEnds}
-use Rattle.btf_types.specs.strings.TableLaws.{HasName, SpelledTableFits}
+use Rattle.btf_raw.specs.{Names.TextAt, Header.HasNulEnds}
+use Rattle.btf_types.specs.strings.{SharedNames.shared_table, StringTable.string_table, TableLaws.HasName, TableLaws.SpelledTableFits}
 use Rattle.btf_types.specs.Values.{TypeItem, Member, EnumValue, Value64, Param, Entry, TypeRecord}
-use Rattle.btf_types.specs.Names.{head_name, item_name, record_names}
-use Rattle.btf_types.specs.strings.StringTable.{string_table}
-use Rattle.btf_types.specs.Spelling.{ItemSpells, Spells, IsRecord}
+use Rattle.btf_types.specs.{Names.head_name, Names.item_name, Names.record_names, Spelling.ItemSpells, Spelling.Spells, Spelling.IsRecord}
 use Rattle.btf_types.proofs.StringLemmas.TableLaws.{shared_is_shortest, first_is}
 
 first_byte : (section : List ℕ) → slice_get section 0 ≡ Some 0 → TextAt section 0 []

@@ -1,12 +1,9 @@
 -- Suffixes as lists after a prefix, and which strings are suffixes of the same string.
 use Rattle.std.proofs.Common.{◌≡◌, ◌≢◌, ℕ, ◌-◌, ◌<◌, ◌≤◌, true, not, inl, inr, List, [], ◌∷◌, ◌++◌, length, take, refl, sym, ap, ◌∙◌, arith, append_assoc}
 use Rattle.std.specs.Str.{bytes_eq}
-use Rattle.std.proofs.lemmas.Bool.{and_parts, and_from, both_ways, not-true, cases_Bool, cases_lt}
-use Rattle.std.proofs.lemmas.Bool.Decides.{Decides-eqb}
-use Rattle.std.proofs.lemmas.Slice.Eq.{ends_is, bytes_eq-Decides}
-use Rattle.std.proofs.lemmas.List.{length-append}
-use Rattle.btf_types.specs.Names.{is_other}
-use Rattle.btf_types.specs.strings.SharedNames.{is_suffix, is_proper_suffix}
+use Rattle.std.proofs.lemmas.Bool.{and_parts, and_from, both_ways, not-true, cases_Bool, cases_lt, Decides.Decides-eqb}
+use Rattle.std.proofs.lemmas.{Slice.Eq.ends_is, Slice.Eq.bytes_eq-Decides, List.length-append}
+use Rattle.btf_types.specs.{Names.is_other, strings.SharedNames.is_suffix, strings.SharedNames.is_proper_suffix}
 
 -- y ends with x
 abbrev pub Ends : List ℕ → List ℕ → Type 0

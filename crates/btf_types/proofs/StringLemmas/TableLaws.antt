@@ -1,25 +1,18 @@
 -- The laws of the string tables, from the lemmas in this folder.
 use Rattle.std.proofs.Common.{◌≡◌, ℕ, zero, suc, ◌+◌, ◌-◌, ◌≤◌, inl, inr, List, [], ◌∷◌, ◌++◌, length, get_or, take, drop, refl, sym, ap, ◌∙◌, subst, arith, append_assoc, take-append-drop}
 use Rattle.std.proofs.Math.Seq.{drop-cons}
-use Rattle.std.specs.Prelude.{Some, slice_get}
-use Rattle.std.specs.List.{All}
-use Rattle.std.proofs.lemmas.List.{length-append, append-nil, drop_all}
-use Rattle.std.proofs.lemmas.List.Sums.{sum_by-cons}
-use Rattle.std.proofs.lemmas.List.Concat.{flat_map-append}
+use Rattle.std.specs.{Prelude.Some, Prelude.slice_get, List.All}
+use Rattle.std.proofs.lemmas.List.{length-append, append-nil, drop_all, Sums.sum_by-cons, Concat.flat_map-append}
 use Rattle.std.proofs.lemmas.List.Elements.{All-nil, All-cons, All-head, All-append, All-contains}
-use Rattle.btf_raw.specs.Names.{IsWithoutNul, TextAt}
+use Rattle.btf_raw.specs.{Names.IsWithoutNul, Names.TextAt, Header.HasNulEnds}
 use Rattle.btf_types.specs.Names.{IsName, with_nul, place_in, kept}
-use Rattle.btf_raw.specs.Header.{HasNulEnds}
 use Rattle.btf_types.specs.strings.SharedNames.{hosts, host, shared_table, shared_place}
 use Rattle.btf_types.specs.strings.TableLaws.{SharedPlacesHold, IsCutInto, HasName, SectionsAreCut, NamesEndStrings, HostsEndApart, SharedIsShortest, NextHasHost, TableLength, HostIsLeast, HostIsOne}
 use Rattle.btf_types.proofs.Members.{Has, Has-get_or, Has-from_Contains, Contains-from_Has}
 use Rattle.btf_types.proofs.StringLemmas.Texts.{text_at_place, empty_at_zero, tail_at, Has-kept, Has-from_kept}
 use Rattle.btf_types.proofs.StringLemmas.Suffixes.{Ends, Ends-length, Ends-from_suffix, suffix_from_Ends}
-use Rattle.btf_types.proofs.StringLemmas.Hosts.{host_is, host_member, hosts_apart}
-use Rattle.btf_types.proofs.StringLemmas.Longest.{kept_some}
-use Rattle.btf_types.proofs.StringLemmas.TailOrder.{tail_tie}
-use Rattle.btf_types.proofs.StringLemmas.Distinct.{NoRepeats-filter, NoRepeats-kept}
-use Rattle.btf_types.proofs.StringLemmas.Neighbours.{next_ends, next_host}
+use Rattle.btf_types.proofs.StringLemmas.{Hosts.host_is, Hosts.host_member, Hosts.hosts_apart, Distinct.NoRepeats-filter, Distinct.NoRepeats-kept}
+use Rattle.btf_types.proofs.StringLemmas.{Longest.kept_some, TailOrder.tail_tie, Neighbours.next_ends, Neighbours.next_host}
 use Rattle.btf_types.proofs.StringLemmas.Sections.{texts, ends_string, cut, fits}
 
 -- the offset of a string at the end of its host

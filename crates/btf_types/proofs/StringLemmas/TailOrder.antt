@@ -1,17 +1,13 @@
 -- The order of strings by their reversed bytes: what is between a string and one that ends with it ends with it too.
 use Rattle.std.proofs.Common.{◌≡◌, ℕ, ◌<◌, true, false, inl, inr, List, [], ◌∷◌, ◌++◌, length, refl, sym, ap, ◌∙◌, arith}
-use Rattle.std.specs.Prelude.{reverse, nat_lt}
+use Rattle.std.specs.{Prelude.reverse, Prelude.nat_lt, Cmp.Lexicographic.slice_cmp}
 use Rattle.std.specs.Ordering.{is_lt, nat_cmp, ordering_then, ordering_reverse}
-use Rattle.std.specs.declared.cmp.Ordering.{Ordering}
-use Rattle.std.specs.declared.cmp.Ordering.TheVariants.{Less, Equal, Greater}
-use Rattle.std.specs.Cmp.Lexicographic.{slice_cmp}
+use Rattle.std.specs.declared.cmp.Ordering.{Ordering, TheVariants.Less, TheVariants.Equal, TheVariants.Greater}
 use Rattle.std.proofs.lemmas.Bool.{cases_order, lt-ltb, cond-true, false≢true}
-use Rattle.std.proofs.lemmas.Cmp.{nat_cmp_total, tied_itself}
+use Rattle.std.proofs.lemmas.{Cmp.nat_cmp_total, Cmp.tied_itself, Map.Lookups.exact_bytes}
 use Rattle.std.proofs.lemmas.List.{reverse-append, reverse-reverse, length-reverse}
-use Rattle.std.proofs.lemmas.Map.Lookups.{exact_bytes}
 use Rattle.btf_types.specs.strings.SharedNames.{tail_cmp}
-use Rattle.btf_types.proofs.StringLemmas.Suffixes.{Ends}
-use Rattle.btf_types.proofs.StringLemmas.Hosts.{tail_lt, tail_total}
+use Rattle.btf_types.proofs.StringLemmas.{Suffixes.Ends, Hosts.tail_lt, Hosts.tail_total}
 
 less : (a b : ℕ) → a < b → nat_cmp a b ≡ Less
 less a b h = cond-true (nat_lt a b) Less _ (lt-ltb a b h)

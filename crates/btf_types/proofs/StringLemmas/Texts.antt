@@ -1,12 +1,8 @@
 -- Strings and their NUL, equal strings, and the table of a list of strings.
 use Rattle.std.proofs.Common.{◌≡◌, ℕ, suc, ◌+◌, ◌<◌, Bool, true, not, inl, inr, List, [], ◌∷◌, ◌++◌, length, get_or, refl, sym, ap, ◌∙◌, arith, append_assoc}
-use Rattle.std.specs.List.{flat_map, position_or_len, before_first, after_first}
-use Rattle.std.specs.Str.{bytes_eq}
-use Rattle.std.proofs.lemmas.Bool.{cond_both, cond-false, not_from_true, cases_Bool}
-use Rattle.std.proofs.lemmas.Slice.Eq.{bytes_eq-Decides}
-use Rattle.std.proofs.lemmas.List.Sums.{split_at_first, passes_at_first}
-use Rattle.std.proofs.lemmas.List.{length-append}
-use Rattle.std.proofs.lemmas.List.Concat.{flat_map-append}
+use Rattle.std.specs.{List.flat_map, List.position_or_len, List.before_first, List.after_first, Str.bytes_eq}
+use Rattle.std.proofs.lemmas.{Bool.cond_both, Bool.cond-false, Bool.not_from_true, Bool.cases_Bool, Slice.Eq.bytes_eq-Decides}
+use Rattle.std.proofs.lemmas.List.{length-append, Sums.split_at_first, Sums.passes_at_first, Concat.flat_map-append}
 use Rattle.btf_raw.specs.Names.{IsWithoutNul, TextAt}
 use Rattle.btf_types.specs.Names.{with_nul, table_of, place_in, is_other, distinct, is_some_text, kept}
 use Rattle.btf_types.proofs.Members.{Has, Has-filter, Has-from_filter}

@@ -1,20 +1,14 @@
 -- The records of a framed section, one by one.
 use Rattle.std.proofs.Common.{◌≡◌, ℕ, zero, suc, ◌+◌, ◌-◌, ◌*◌, ◌<◌, ◌≤◌, Some, List, [], ◌∷◌, length, get_or, take, refl, ap, subst, ◌∙◌, length-append, arith}
-use Rattle.std.specs.Prelude.{slice_index, slice_get}
-use Rattle.std.specs.List.{concat}
-use Rattle.std.proofs.Math.Dec.{eqb-suc-zero}
-use Rattle.std.proofs.lemmas.List.{length-map}
+use Rattle.std.specs.{Prelude.slice_index, Prelude.slice_get, List.concat}
+use Rattle.std.proofs.{Math.Dec.eqb-suc-zero, lemmas.List.length-map}
 use Rattle.bpf_words.specs.declared.Order.{Order}
-use Rattle.btf_raw.specs.KindNumbers.{INT}
-use Rattle.btf_raw.specs.Kinds.{tail_words, fixed_words, item_words}
+use Rattle.btf_raw.specs.{KindNumbers.INT, Kinds.tail_words, Kinds.fixed_words, Kinds.item_words}
 use Rattle.btf_raw.specs.Frames.{IsFrame, bytes_of, section_of, kind}
 use Rattle.btf_raw.proofs.Frames.{length-bytes_of}
 use Rattle.btf_types.proofs.Lists.{get-map, get_or-map}
-use Rattle.btf_types.specs.declared.tables.section.Section.TheInside.{Inside}
-use Rattle.btf_types.specs.judge.Checks.{type_at}
-use Rattle.btf_types.specs.judge.FieldFaults.{frame_facts}
-use Rattle.btf_types.specs.Reading.{frame_at}
-use Rattle.btf_types.specs.Sections.{HasFrame, frame_of, facts_in}
+use Rattle.btf_types.specs.{declared.tables.section.Section.TheInside.Inside, Reading.frame_at}
+use Rattle.btf_types.specs.{judge.Checks.type_at, judge.FieldFaults.frame_facts, Sections.HasFrame, Sections.frame_of, Sections.facts_in}
 use Rattle.btf_types.specs.tables.SectionParts.{IsSection, words_in}
 
 -- the frame of the i-th record, from 0

@@ -2,29 +2,18 @@
 use Rattle.std.proofs.Common.{◌≡◌, ◌⊎◌, ℕ, zero, suc, ◌+◌, ◌-◌, ◌*◌, ◌^◌, ◌<◌, ◌≤◌, Bool, true, false, Some, List, [], ◌∷◌, length, get_or, take, map, refl, sym, ap, subst, ◌∙◌, inl, inr, arith}
 use Rattle.std.specs.Prelude.{slice_index, slice_get, IfSome, ◌==◌}
 use Rattle.std.specs.List.{AllZip}
-use Rattle.std.proofs.lemmas.List.{length-map}
-use Rattle.std.proofs.lemmas.Bool.{eqb-true}
+use Rattle.std.proofs.lemmas.{List.length-map, Bool.eqb-true}
 use Rattle.bpf_words.specs.declared.Order.{Order}
-use Rattle.btf_raw.specs.KindNumbers.{DECL_TAG}
-use Rattle.btf_raw.specs.Header.{HasNulEnds}
-use Rattle.btf_raw.specs.Names.{NameAt}
+use Rattle.btf_raw.specs.{KindNumbers.DECL_TAG, Header.HasNulEnds, Names.NameAt, Kinds.item_words}
 use Rattle.btf_raw.specs.Frames.{IsFrame, section_of, kind, name_word}
 use Rattle.btf_raw.proofs.Texts.{TextAt-unique, TextAt-inside}
-use Rattle.btf_types.specs.Values.{TypeRecord}
-use Rattle.btf_types.specs.Spelling.{Spells, HeadInRange}
-use Rattle.btf_types.specs.tables.TableWords.{record_at}
-use Rattle.btf_raw.specs.Kinds.{item_words}
+use Rattle.btf_types.specs.{Values.TypeRecord, Sections.frame_of, judge.FieldFaults.frame_facts}
+use Rattle.btf_types.specs.{Spelling.Spells, Spelling.HeadInRange, declared.tables.table.FileSections.FileSections}
+use Rattle.btf_types.specs.tables.{TableWords.record_at, TableInvariant.IsTable, PlaceWords.HasRecordAt}
 use Rattle.btf_types.proofs.Lists.{length-tabulate, get-map, get_or-map}
-use Rattle.btf_types.proofs.TableLemmas.SectionSteps.{ends_inside}
+use Rattle.btf_types.proofs.TableLemmas.{SectionSteps.ends_inside, TextSteps.text_there}
 use Rattle.btf_types.specs.Reading.{text_from, frame_at, frames_at, record_of, records_at, item_of, item_total, head_from, head_of, component_of}
-use Rattle.btf_types.specs.tables.TableInvariant.{IsTable}
-use Rattle.btf_types.specs.tables.PlaceWords.{HasRecordAt}
-use Rattle.btf_types.specs.declared.tables.table.FileSections.{FileSections}
-use Rattle.btf_types.specs.Sections.{frame_of}
-use Rattle.btf_types.specs.judge.FieldFaults.{frame_facts}
-use Rattle.btf_types.proofs.FaultlessLemmas.Faultless.{get_is, faultless}
-use Rattle.btf_types.proofs.FaultlessLemmas.ItemReads.{item_names_there}
-use Rattle.btf_types.proofs.TableLemmas.TextSteps.{text_there}
+use Rattle.btf_types.proofs.FaultlessLemmas.{Faultless.get_is, Faultless.faultless, ItemReads.item_names_there}
 
 zip_at : {A B : Type 0} (R : A → B → Type 0) (f : B → A) (ys : List B) (i : ℕ) (d : B) → AllZip R (map f ys) ys → i < length ys → R (f (get_or ys i d)) (get_or ys i d)
 zip_at R f [] i d all h = absurd (omega arith)

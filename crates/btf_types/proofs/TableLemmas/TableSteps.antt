@@ -2,13 +2,9 @@
 use Rattle.std.proofs.Common.{◌≡◌, ℕ, arith, List, [], ◌∷◌, ◌++◌, map, refl, sym, ap, ◌∙◌}
 use Rattle.std.specs.List.{AllZip, concat}
 use Rattle.bpf_words.specs.declared.Order.{Order}
-use Rattle.btf_raw.specs.declared.header.Header.{Header}
-use Rattle.btf_raw.specs.Frames.{bytes_of, section_of}
-use Rattle.btf_types.specs.Values.{TypeRecord}
-use Rattle.btf_types.specs.Spelling.{Spells, IsRecord}
-use Rattle.btf_types.specs.Denotes.{Denotes}
-use Rattle.btf_types.specs.Reading.{frames_at, records_at}
-use Rattle.btf_types.specs.tables.TableInvariant.{FieldsAreRight, IsTable}
+use Rattle.btf_raw.specs.{declared.header.Header.Header, Frames.bytes_of, Frames.section_of}
+use Rattle.btf_types.specs.{Values.TypeRecord, Denotes.Denotes, Spelling.Spells, Spelling.IsRecord}
+use Rattle.btf_types.specs.{Reading.frames_at, Reading.records_at, tables.TableInvariant.FieldsAreRight, tables.TableInvariant.IsTable}
 use Rattle.btf_types.proofs.JudgeLemmas.PhaseSteps.{HasFrames, types_of, strings_of}
 
 pub concat-map : (o : Order) (frames : List (List ℕ)) → concat (map (bytes_of o) frames) ≡ section_of o frames

@@ -1,8 +1,7 @@
 -- A walk over the records of a table.
 use Rattle.std.proofs.Common.{◌≡◌, ℕ, zero, suc, ◌+◌, ◌-◌, ◌<◌, ◌≤◌, inl, inr, List, [], ◌∷◌, ◌++◌, length, take, get_or, refl, ap, arith, Some}
 use Rattle.std.specs.Prelude.{slice_get, unwrap_or}
-use Rattle.btf_types.specs.Values.{TypeRecord}
-use Rattle.btf_types.specs.tables.TableWords.{record_at, no_record}
+use Rattle.btf_types.specs.{Values.TypeRecord, tables.TableWords.record_at, tables.TableWords.no_record}
 use Rattle.btf_types.proofs.Members.{Has}
 
 -- one element more of a list

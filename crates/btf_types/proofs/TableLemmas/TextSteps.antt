@@ -1,12 +1,9 @@
 -- The string at an offset of a section with NUL ends, and when it is a name.
 use Rattle.std.proofs.Common.{◌≡◌, ◌≢◌, ◌⊎◌, ℕ, zero, suc, ◌-◌, ◌<◌, ◌≤◌, Bool, true, false, List, [], ◌∷◌, ◌++◌, length, get_or, take, drop, refl, sym, ap, subst, ◌∙◌, inl, inr, take-append-drop, append_assoc, arith}
-use Rattle.std.specs.Prelude.{IsUtf8}
-use Rattle.std.specs.Str.{is_utf8}
-use Rattle.std.proofs.lemmas.Bool.{cases_lt}
+use Rattle.std.specs.{Prelude.IsUtf8, Str.is_utf8}
+use Rattle.std.proofs.lemmas.{Bool.cases_lt, Str.IsUtf8-from_is_utf8, Str.is_utf8-from_IsUtf8}
 use Rattle.std.proofs.lemmas.List.{length-take-le, length-drop, get_or-drop}
-use Rattle.std.proofs.lemmas.Str.{IsUtf8-from_is_utf8, is_utf8-from_IsUtf8}
-use Rattle.btf_raw.specs.Header.{HasNulEnds}
-use Rattle.btf_raw.specs.Names.{TextAt, NameAt, IsWithoutNul}
+use Rattle.btf_raw.specs.{Header.HasNulEnds, Names.TextAt, Names.NameAt, Names.IsWithoutNul}
 use Rattle.btf_types.specs.Reading.{before_nul, text_from}
 
 record FirstNul (xs : List ℕ) : Type 0 where

@@ -3,8 +3,7 @@ use Rattle.std.proofs.Common.{◌≡◌, ℕ, zero, suc, ◌+◌, ◌-◌, ◌<�
 use Rattle.std.specs.Prelude.{slice_get, unwrap_or}
 use Rattle.std.proofs.lemmas.List.{length-drop, length-take-le, get_or-take, take_all, drop-append-le, drop_more, drop_all, take_more}
 use Rattle.btf_types.specs.Values.{TypeRecord}
-use Rattle.btf_types.specs.tables.TableWords.{no_record, numbered, record_at}
-use Rattle.btf_types.specs.tables.Windows.{items_of, window}
+use Rattle.btf_types.specs.tables.{TableWords.no_record, TableWords.numbered, TableWords.record_at, Windows.items_of, Windows.window}
 use Rattle.btf_types.proofs.TableLemmas.TableWalk.{get_or_is}
 
 -- one element from the start

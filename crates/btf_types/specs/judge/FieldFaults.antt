@@ -1,12 +1,10 @@
 -- The faults of fields: what a cause says of a word of a record, given the frames of a section.
 use Rattle.std.specs.Prelude.{◌≡◌, ◌≢◌, ◌⊎◌, ℕ, zero, suc, ◌+◌, ◌*◌, ◌/◌, ◌%◌, ◌^◌, ◌<◌, ◌≤◌, ◌==◌, IsTrue, IsFalse, IsUtf8, Some, List, [], ◌∷◌, length, take, map, slice_index, slice_get, if◌then◌else◌}
 use Rattle.std.specs.List.{concat}
-use Rattle.btf_raw.specs.declared.cause.BtfCause.{BtfCause}
+use Rattle.btf_raw.specs.{declared.cause.BtfCause.BtfCause, Names.TextAt, Frames.name_word, Frames.third_word, Frames.kind, Frames.vlen, Frames.flag}
 use Rattle.btf_raw.specs.declared.cause.BtfCause.TheVariants.{NameRange, NameUtf8, NameMissing, NameUnwanted, NotZero, Size, Reference, TargetKind, IntWord, MemberInt, MemberPlace, Linkage, Component}
 use Rattle.btf_raw.specs.KindNumbers.{INT, ARRAY, STRUCT, UNION, FWD, FUNC, FUNC_PROTO, VAR, DATASEC, DECL_TAG}
-use Rattle.btf_raw.specs.Names.{TextAt}
 use Rattle.btf_raw.specs.Kinds.{one_of, item_words, needs_name, has_no_name, has_target, has_item_names, is_struct}
-use Rattle.btf_raw.specs.Frames.{name_word, third_word, kind, vlen, flag}
 use Rattle.btf_types.specs.judge.Checks.{size_fits, bits_fit, member_fits, TypeFacts, type_at, target_fits, component_fits, member_int_fits}
 
 -- word j of the frame is word m of its item k

@@ -1,10 +1,8 @@
 -- What a cause says of names and of further fields of a record.
 use Rattle.std.specs.Prelude.{◌≢◌, ◌⊎◌, ℕ, ◌<◌, ◌≤◌, Bool, ◌∷◌, IsFalse, IsTrue, IsUtf8, List, [], length}
-use Rattle.btf_raw.specs.declared.cause.BtfCause.{BtfCause}
+use Rattle.btf_raw.specs.{declared.cause.BtfCause.BtfCause, Names.TextAt, Kinds.one_of, Kinds.needs_name, Kinds.has_no_name}
 use Rattle.btf_raw.specs.declared.cause.BtfCause.TheVariants.{NameRange, NameUtf8, NameMissing, NameUnwanted, IntWord, Reference, TargetKind, MemberInt, MemberPlace, Linkage, Component}
-use Rattle.btf_raw.specs.Names.{TextAt}
 use Rattle.btf_types.specs.judge.Checks.{bits_fit, member_fits, member_int_fits, component_fits, target_fits, TypeFacts, type_at}
-use Rattle.btf_raw.specs.Kinds.{one_of, needs_name, has_no_name}
 use Rattle.btf_types.specs.judge.FieldFaults.{int_unused, int_encoding, int_bits}
 
 abbrev pub NameFault : List ℕ → ℕ → ℕ → BtfCause → Type 0

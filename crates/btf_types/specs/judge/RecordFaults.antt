@@ -1,9 +1,7 @@
 -- The faults in the words of one record.
 use Rattle.std.specs.Prelude.{◌≡◌, ◌⊎◌, ℕ, ◌<◌, ◌≤◌, Bool, IsTrue, List, Option, MatchOption, length}
-use Rattle.btf_raw.specs.declared.cause.BtfCause.{BtfCause}
-use Rattle.btf_raw.specs.Cause.{number_of}
-use Rattle.btf_types.specs.judge.Checks.{TypeFacts, LeastCause}
-use Rattle.btf_types.specs.judge.FieldFaults.{WordFault, HasBitFields}
+use Rattle.btf_raw.specs.{declared.cause.BtfCause.BtfCause, Cause.number_of}
+use Rattle.btf_types.specs.judge.{Checks.TypeFacts, Checks.LeastCause, FieldFaults.WordFault, FieldFaults.HasBitFields}
 use Rattle.btf_types.specs.Sections.{SectionWords, facts_in}
 
 -- no word of the frame has a fault

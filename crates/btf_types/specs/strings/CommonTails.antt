@@ -1,8 +1,7 @@
 -- The length of the longest common suffix of two strings, and laws by which these lengths determine the hosts of sorted strings.
 use Rattle.std.specs.Prelude.{◌≡◌, ℕ, ◌+◌, ◌-◌, ◌<◌, ◌≤◌, ◌==◌, true, false, List, [], ◌∷◌, length, reverse, slice_index_or, if◌then◌else◌}
 use Rattle.std.specs.List.Sorted.{IsSorted}
-use Rattle.btf_types.specs.strings.SharedNames.{is_suffix, tail_cmp, hosts_of, host_in}
-use Rattle.btf_types.specs.strings.LongestTexts.{SameMembers}
+use Rattle.btf_types.specs.strings.{SharedNames.is_suffix, SharedNames.tail_cmp, SharedNames.hosts_of, SharedNames.host_in, LongestTexts.SameMembers}
 
 -- the length of the longest common prefix of two lists
 abbrev pub common_front : List ℕ → List ℕ → ℕ
@@ -22,7 +21,7 @@ pub record AreInTailOrder (ks sorted : List (List ℕ)) : Type 0 where
 abbrev pub at_rank : List (List ℕ) → ℕ → List ℕ
 at_rank sorted k = slice_index_or sorted k []
 
--- the ranks of the texts that end with x have no gaps
+-- the ranks of the strings that end with a string are contiguous
 abbrev pub RanksAreTogether : List (List ℕ) → Type 0
 RanksAreTogether sorted = IsSorted tail_cmp sorted → (x : List ℕ) (i j k : ℕ) → i ≤ j → j ≤ k → k < length sorted → is_suffix x (at_rank sorted i) ≡ true → is_suffix x (at_rank sorted k) ≡ true → is_suffix x (at_rank sorted j) ≡ true
 
@@ -44,9 +43,10 @@ pub record IsFirstEnding (sorted : List (List ℕ)) (x : List ℕ) (l : ℕ) : T
   pub ends : is_suffix x (at_rank sorted l) ≡ true
   pub first : (j : ℕ) → j < length sorted → is_suffix x (at_rank sorted j) ≡ true → l ≤ j
 
+-- the first rank from which on the sorted strings end with a string, by their common suffixes
 abbrev pub FirstRankEnds : List (List ℕ) → Type 0
 FirstRankEnds sorted = IsSorted tail_cmp sorted → (x : List ℕ) (l k : ℕ) → k < length sorted → is_suffix x (at_rank sorted k) ≡ true → IsFirstRank sorted (length x) l k → IsFirstEnding sorted x l
 
--- and the next host from there on is the host of x
+-- the next host from that rank on is the host of the string
 abbrev pub RankHasHost : List (List ℕ) → List (List ℕ) → Type 0
 RankHasHost ks sorted = AreInTailOrder ks sorted → (x : List ℕ) (l k r : ℕ) → k < length sorted → is_suffix x (at_rank sorted k) ≡ true → IsFirstRank sorted (length x) l k → IsNextHost sorted l r → host_in (hosts_of ks) x ≡ at_rank sorted r

@@ -1,9 +1,7 @@
 -- The string table of a canonical section, and the offset of a name in it. Everything else cites these two definitions, so the table can be changed
 -- in this file only.
 use Rattle.std.specs.Prelude.{ℕ, List}
-use Rattle.btf_types.specs.Names.{names}
-use Rattle.btf_types.specs.strings.SharedNames.{shared_table, shared_place}
-use Rattle.btf_types.specs.Values.{TypeRecord}
+use Rattle.btf_types.specs.{Names.names, Values.TypeRecord, strings.SharedNames.shared_table, strings.SharedNames.shared_place}
 
 abbrev pub string_table : List TypeRecord → List ℕ
 string_table v = shared_table (names v)

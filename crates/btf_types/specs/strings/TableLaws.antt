@@ -1,18 +1,14 @@
 -- Laws of the string table in which names share suffixes, about the definitions only.
 use Rattle.std.specs.Prelude.{◌≡◌, ℕ, ◌+◌, ◌<◌, ◌≤◌, true, false, List, length, slice_index_or}
-use Rattle.std.specs.List.{All, AllZip, Any, Contains, flat_map, sum_by}
+use Rattle.std.specs.List.{All, AllZip, Any, Contains, flat_map, sum_by, Sorted.IsPermutation, Sorted.IsSorted}
 use Rattle.std.specs.Ordering.{is_lt}
-use Rattle.std.specs.List.Sorted.{IsPermutation, IsSorted}
 use Rattle.bpf_words.specs.declared.Order.{Order}
-use Rattle.btf_raw.specs.Header.{HasNulEnds}
-use Rattle.btf_raw.specs.Names.{NameAt, IsWithoutNul}
-use Rattle.btf_types.specs.Values.{TypeRecord}
+use Rattle.btf_raw.specs.{Header.HasNulEnds, Names.NameAt, Names.IsWithoutNul}
+use Rattle.btf_types.specs.{Values.TypeRecord, Spelling.IsRecord, strings.StringTable.string_table}
 use Rattle.btf_types.specs.Names.{IsName, with_nul, kept, table_of}
 use Rattle.btf_types.specs.strings.SharedNames.{is_suffix, is_proper_suffix, tail_cmp, hosts, host, shared_table, shared_place}
-use Rattle.btf_types.specs.strings.StringTable.{string_table}
-use Rattle.btf_types.specs.Spelling.{IsRecord}
 
--- each name is at its place in the table
+-- each name is at its offset in the string table
 abbrev pub SharedPlacesHold : List (List ℕ) → Type 0
 SharedPlacesHold xs = All IsName xs → All (λ x. NameAt (shared_table xs) (shared_place xs x) x) xs
 
@@ -33,7 +29,7 @@ SectionsAreCut section = HasNulEnds section → (strings : List (List ℕ)) × I
 abbrev pub NamesEndStrings : List ℕ → List (List ℕ) → Type 0
 NamesEndStrings section strings = IsCutInto section strings → (x : List ℕ) → HasName section x → Any (λ s. is_suffix x s ≡ true) strings
 
--- no text ends with two different hosts
+-- no string ends with two different hosts
 abbrev pub HostsEndApart : List (List ℕ) → Type 0
 HostsEndApart xs = (s h g : List ℕ) → Contains (hosts xs) h → Contains (hosts xs) g → is_suffix h s ≡ true → is_suffix g s ≡ true → h ≡ g
 
@@ -52,10 +48,11 @@ pub record NextSharesHost (xs sorted : List (List ℕ)) (k : ℕ) (x next : List
   pub suffix : is_proper_suffix x next ≡ true
   pub host : host xs x ≡ host xs next
 
+-- if a sorted name is a suffix of any other, it is a suffix of the next one, and has its host
 abbrev pub NextHasHost : List (List ℕ) → List (List ℕ) → Type 0
 NextHasHost xs sorted = IsTailSorted xs sorted → (k : ℕ) (d z : List ℕ) → k < length sorted → Contains (kept xs) z → is_proper_suffix (slice_index_or sorted k d) z ≡ true → NextSharesHost xs sorted k (slice_index_or sorted k d) (slice_index_or sorted (k + 1) d)
 
--- a table takes a byte, and for each name its bytes and a byte more
+-- a string table has one byte, and for each stored name its bytes and one more
 abbrev pub TableLength : List (List ℕ) → Type 0
 TableLength ks = length (table_of ks) ≡ 1 + sum_by (λ k. length k + 1) ks
 
@@ -65,13 +62,14 @@ pub record IsLeastHost (xs : List (List ℕ)) (x h : List ℕ) : Type 0 where
   pub suffix : is_suffix x h ≡ true
   pub least : (g : List ℕ) → Contains (hosts xs) g → is_suffix x g ≡ true → is_lt (tail_cmp g h) ≡ false
 
+-- the host of a name is the least name that ends with it
 abbrev pub HostIsLeast : List (List ℕ) → Type 0
 HostIsLeast xs = (x : List ℕ) → Contains (kept xs) x → IsLeastHost xs x (host xs x)
 
--- and no other text is so
+-- no other name is the host
 abbrev pub HostIsOne : List (List ℕ) → Type 0
 HostIsOne xs = (x g h : List ℕ) → IsLeastHost xs x g → IsLeastHost xs x h → g ≡ h
 
--- the string table of records that a section with NUL ends spells is no longer than that section
+-- the string table of records is no longer than a string section that spells them and has NUL ends
 abbrev pub SpelledTableFits : Type 0
 SpelledTableFits = (o : Order) (strings : List ℕ) (v : List TypeRecord) (spellings : List (List ℕ)) → HasNulEnds strings → AllZip (IsRecord o strings) v spellings → length (string_table v) ≤ length strings

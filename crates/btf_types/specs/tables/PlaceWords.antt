@@ -1,13 +1,9 @@
 -- A record at an offset of a section.
 use Rattle.std.specs.Prelude.{◌≡◌, ◌⊎◌, ℕ, ◌+◌, ◌*◌, ◌^◌, ◌<◌, ◌≤◌, IsTrue, List, length, slice_index}
 use Rattle.bpf_words.specs.declared.Order.{Order}
-use Rattle.btf_raw.specs.KindNumbers.{DECL_TAG}
-use Rattle.btf_raw.specs.Header.{HasNulEnds}
-use Rattle.btf_raw.specs.Kinds.{item_words, has_item_names}
-use Rattle.btf_raw.specs.Frames.{IsFrame, kind, name_word}
-use Rattle.btf_types.specs.Spelling.{Spells}
-use Rattle.btf_types.specs.Reading.{frame_at, record_of, text_from, item_total}
-use Rattle.btf_raw.specs.Names.{NameAt}
+use Rattle.btf_raw.specs.{KindNumbers.DECL_TAG, Header.HasNulEnds, Names.NameAt}
+use Rattle.btf_raw.specs.{Kinds.item_words, Kinds.has_item_names, Frames.IsFrame, Frames.kind, Frames.name_word}
+use Rattle.btf_types.specs.{Spelling.Spells, Reading.frame_at, Reading.record_of, Reading.text_from, Reading.item_total}
 
 -- the words are a frame, and they spell the record that they decode to
 pub record ReadsRecord (strings words : List ℕ) : Type 0 where

@@ -1,13 +1,8 @@
 -- The parts of a section whose framing is valid. The invariant of `Section` and contracts of private functions cite them.
 use Rattle.std.specs.Prelude.{◌≡◌, ◌^◌, ◌≤◌, length}
 use Rattle.btf_raw.specs.Header.{HasNulEnds}
-use Rattle.btf_types.specs.declared.tables.section.Section.TheInside.{Inside}
-use Rattle.btf_types.specs.declared.tables.section.Facts.{Facts}
-use Rattle.btf_types.specs.judge.Checks.{TypeFacts}
-use Rattle.btf_types.specs.Sections.{SectionWords}
-use Rattle.btf_types.specs.Reading.{frames_at}
-use Rattle.btf_types.specs.tables.TableInvariant.{IsFramed}
-use Rattle.btf_types.specs.judge.Texts.{TextsAre}
+use Rattle.btf_types.specs.declared.tables.section.{Section.TheInside.Inside, Facts.Facts}
+use Rattle.btf_types.specs.{judge.Checks.TypeFacts, judge.Texts.TextsAre, Sections.SectionWords, Reading.frames_at, tables.TableInvariant.IsFramed}
 
 -- the strings, and the frames at the kept offsets
 abbrev pub words_in : Inside → SectionWords

@@ -2,13 +2,8 @@
 use Rattle.std.specs.Prelude.{◌≡◌, ℕ, ◌^◌, ◌<◌, ◌≤◌, List, length, take, slice_index}
 use Rattle.std.specs.List.{AllZip}
 use Rattle.bpf_words.specs.declared.Order.{Order}
-use Rattle.btf_raw.specs.Header.{HasNulEnds, STRINGS_LIMIT}
-use Rattle.btf_raw.specs.Frames.{Frames, section_of}
-use Rattle.btf_types.specs.Spelling.{Spells}
-use Rattle.btf_raw.specs.Cause.{HasNone}
-use Rattle.btf_types.specs.judge.FieldFaults.{FieldFault}
-use Rattle.btf_types.specs.Good.{IsGood}
-use Rattle.btf_types.specs.Reading.{frames_at, records_at}
+use Rattle.btf_raw.specs.{Header.HasNulEnds, Header.STRINGS_LIMIT, Frames.Frames, Frames.section_of, Cause.HasNone}
+use Rattle.btf_types.specs.{Spelling.Spells, Good.IsGood, judge.FieldFaults.FieldFault, Reading.frames_at, Reading.records_at}
 
 -- The offsets are those of the frames of the section, in order.
 pub record IsFramed (o : Order) (types places : List ℕ) : Type 0 where

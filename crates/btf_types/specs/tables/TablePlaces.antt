@@ -1,24 +1,22 @@
 -- The offsets into its two sections that a table keeps. The invariants of the tables and contracts of private functions cite them.
 use Rattle.std.specs.Prelude.{ℕ, List}
 use Rattle.bpf_words.specs.declared.Order.{Order}
-use Rattle.btf_types.specs.Values.{TypeRecord}
-use Rattle.btf_types.specs.Reading.{records_at}
-use Rattle.btf_types.specs.tables.StringEnds.{AreLongEnds}
-use Rattle.btf_types.specs.tables.TableInvariant.{IsTable}
+use Rattle.btf_types.specs.{Values.TypeRecord, Reading.records_at, tables.StringEnds.AreLongEnds, tables.TableInvariant.IsTable}
 
 -- the offsets of the records in the types, and those of the ends of the long strings
 pub record TablePlaces : Type 0 where
   pub records : List ℕ
   pub ends : List ℕ
 
--- what a table means: records, and those that are read at its places
+-- what a table means: a list of records, which are read at the offsets that it keeps
 abbrev pub TypeRecords : Type 0
 TypeRecords = List TypeRecord
 
+-- the records that are read at the offsets that a table keeps
 abbrev pub placed_records : Order → List ℕ → List ℕ → TablePlaces → TypeRecords
 placed_records o types strings places = records_at o types strings places.records
 
--- the records at their places are a table, and the ends are those of the long strings
+-- the records at the offsets that a table keeps are framed, without fault, spelled there and good
 pub record IsPlacedTable (o : Order) (types strings : List ℕ) (places : TablePlaces) : Type 0 where
   pub table : IsTable o types strings places.records
   pub ends : AreLongEnds strings places.ends

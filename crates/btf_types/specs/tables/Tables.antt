@@ -3,13 +3,10 @@ use Rattle.std.specs.Prelude.{ℕ, ◌+◌, ◌^◌, ◌<◌, ◌≤◌, List, R
 use Rattle.btf_types.specs.declared.error.BtfError.{BtfError}
 use Rattle.btf_types.specs.declared.error.BtfError.TheVariants as errors
 use Rattle.bpf_words.specs.declared.Order.{Order}
-use Rattle.btf_raw.specs.Cause.{LeastByPlace}
-use Rattle.btf_raw.specs.Frames.{FramingFault}
-use Rattle.btf_types.specs.Faults.{IsFirst}
-use Rattle.btf_types.specs.judge.FieldFaults.{FieldFault}
-use Rattle.btf_types.specs.Reading.{frames_at}
+use Rattle.btf_raw.specs.{Cause.LeastByPlace, Frames.FramingFault}
+use Rattle.btf_types.specs.{Faults.IsFirst, Reading.frames_at, judge.FieldFaults.FieldFault}
 
--- What an error of a parser says: the first fault, or out of memory.
+-- what an error of a parser says: its fault is the first of the file; nothing if memory ran out
 abbrev pub Fails : List ℕ → BtfError → Type 0
 Fails b (errors.Fault fault) = IsFirst b fault
 Fails b errors.Memory = ⊤

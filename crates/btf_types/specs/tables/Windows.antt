@@ -1,7 +1,6 @@
 -- What the iterators of a table return.
 use Rattle.std.specs.Prelude.{ℕ, zero, suc, List, [], take, drop, slice_get, unwrap_or}
-use Rattle.btf_types.specs.Values.{TypeItem, TypeRecord}
-use Rattle.btf_types.specs.tables.TableWords.{no_record}
+use Rattle.btf_types.specs.{Values.TypeItem, Values.TypeRecord, tables.TableWords.no_record}
 
 -- the elements from one index up to, but not including, another
 abbrev pub window : {X : Type 0} → ℕ → ℕ → List X → List X

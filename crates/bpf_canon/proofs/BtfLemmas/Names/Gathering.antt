@@ -1,15 +1,11 @@
 -- The names of a table's records, in sequence.
 use Rattle.std.proofs.Common.{◌≡◌, ℕ, zero, suc, ◌+◌, ◌<◌, ◌≤◌, inl, inr, List, [], ◌∷◌, ◌++◌, length, map, take, refl, sym, ap, subst, ◌∙◌, append_assoc, arith, Some}
-use Rattle.std.specs.Prelude.{slice_get}
-use Rattle.std.specs.List.{Contains}
-use Rattle.std.proofs.lemmas.List.{map-append, append-nil}
-use Rattle.std.proofs.lemmas.List.Concat.{flat_map-append}
-use Rattle.btf_types.specs.Values.{TypeItem, TypeRecord}
+use Rattle.std.specs.{Prelude.slice_get, List.Contains}
+use Rattle.std.proofs.lemmas.List.{map-append, append-nil, Concat.flat_map-append}
+use Rattle.btf_types.specs.{Values.TypeItem, Values.TypeRecord, tables.TableWords.record_at}
 use Rattle.btf_types.specs.Names.{head_name, item_name, record_names, names, kept}
-use Rattle.btf_types.specs.tables.TableWords.{record_at}
-use Rattle.btf_types.proofs.Members.{Has, Contains-from_Has}
+use Rattle.btf_types.proofs.{Members.Has, Members.Contains-from_Has, StringLemmas.Texts.Has-kept}
 use Rattle.btf_types.proofs.TableLemmas.TableWalk.{take_more, records_more, has_record}
-use Rattle.btf_types.proofs.StringLemmas.Texts.{Has-kept}
 use Rattle.bpf_canon.specs.btf.names.Interned.{IsPlaced}
 
 -- ---- the names of a table

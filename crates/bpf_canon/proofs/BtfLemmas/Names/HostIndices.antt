@@ -5,8 +5,7 @@ use Rattle.std.proofs.lemmas.List.{get_or-set_same, get_or-set_other, length-set
 use Rattle.btf_types.specs.Names.{is_other}
 use Rattle.btf_types.specs.strings.SharedNames.{is_suffix, is_proper_suffix, hosts_of, host_in}
 use Rattle.btf_types.proofs.StringLemmas.Suffixes.{Ends-from_suffix, proper_from_Ends}
-use Rattle.btf_types.proofs.StringLemmas.Distinct.{NoRepeats, apart_after}
-use Rattle.btf_types.proofs.StringLemmas.Neighbours.{next_host, own_host}
+use Rattle.btf_types.proofs.StringLemmas.{Distinct.NoRepeats, Distinct.apart_after, Neighbours.next_host, Neighbours.own_host}
 use Rattle.bpf_canon.specs.btf.names.Interned.{AreIndexed, HaveHosts, name_at}
 
 abbrev pub Named : Type 0

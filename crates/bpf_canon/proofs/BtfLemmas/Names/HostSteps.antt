@@ -1,23 +1,18 @@
 -- Kept names in an index set, and the table of the hosts.
 use Rattle.std.proofs.Common.{◌≡◌, ◌≢◌, ℕ, zero, suc, ◌+◌, ◌<◌, ◌≤◌, Bool, true, false, not, ◌||◌, inl, inr, List, [], ◌∷◌, ◌++◌, length, get_or, take, drop, refl, sym, ap, ◌∙◌, subst, arith, Bor, Option, Some, is_some, IsSome, position, eqb}
-use Rattle.std.specs.List.{filter, list_any, Contains, flat_map}
-use Rattle.std.specs.Str.{bytes_eq}
+use Rattle.std.specs.{List.filter, List.list_any, List.Contains, List.flat_map, Str.bytes_eq}
 use Rattle.std.proofs.lemmas.Bool.{cases_Bool, cond-true, cond-false, eqb-false, false_from_ne_true}
-use Rattle.std.proofs.lemmas.List.{map-append, length-append, append-nil, take-append-drop}
-use Rattle.std.proofs.lemmas.List.Concat.{flat_map-append}
+use Rattle.std.proofs.lemmas.List.{map-append, length-append, append-nil, take-append-drop, Concat.flat_map-append, Quantifiers.position-Some}
 use Rattle.std.proofs.lemmas.List.Elements.{filter-append, filter_more}
-use Rattle.std.proofs.lemmas.List.Quantifiers.{position-Some}
 use Rattle.indexmap.specs.IndexSet.{insert_key}
 use Rattle.btf_types.specs.Names.{distinct, is_other, is_some_text, kept, with_nul, table_of}
 use Rattle.btf_types.specs.strings.SharedNames.{is_proper_suffix, hosts_of, host_in}
 use Rattle.bpf_canon.specs.btf.names.Interned.{lent_texts, AddsName}
 use Rattle.btf_types.proofs.Members.{Has, Has-from_filter, Has-from_Contains}
-use Rattle.btf_types.proofs.StringLemmas.Texts.{same_text, bytes_eq-same}
-use Rattle.btf_types.proofs.StringLemmas.Hosts.{own_host_of, host_differs}
+use Rattle.btf_types.proofs.StringLemmas.{Texts.same_text, Texts.bytes_eq-same, Hosts.own_host_of, Hosts.host_differs}
 use Rattle.btf_types.proofs.StringLemmas.Distinct.{NoRepeats, NoRepeats-filter, NoRepeats-kept}
 use Rattle.bpf_canon.proofs.BtfLemmas.Names.KeptSteps.{Has_from_test, test_from_Has, Has_cases, kept_known, kept_new, length-table_push}
-use Rattle.bpf_canon.proofs.BtfLemmas.Names.PlaceSteps.{text_eq}
-use Rattle.bpf_canon.proofs.BtfLemmas.Names.HostSearch.{text_at}
+use Rattle.bpf_canon.proofs.BtfLemmas.Names.{PlaceSteps.text_eq, HostSearch.text_at}
 
 -- whether a set of borrowed strings contains a string
 set_iff_any : (k : Bor (List ℕ)) (ks : List (Bor (List ℕ))) → list_any (text_eq k) ks ≡ list_any (bytes_eq k.now) (lent_texts ks)

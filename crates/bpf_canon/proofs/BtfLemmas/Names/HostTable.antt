@@ -1,24 +1,18 @@
 -- The offsets of hosts in their table, in the order of the names, and the offset of each name.
 use Rattle.std.proofs.Common.{Bor, ◌≡◌, ◌≢◌, ℕ, zero, suc, ◌+◌, ◌-◌, ◌<◌, ◌≤◌, ◌^◌, true, false, inl, inr, List, [], ◌∷◌, ◌++◌, length, get_or, set, take, drop, refl, sym, ap, ◌∙◌, subst, arith, append_assoc, append-nil}
-use Rattle.std.specs.List.{filter, flat_map}
-use Rattle.std.proofs.lemmas.List.Concat.{flat_map-append}
-use Rattle.std.specs.Str.{bytes_eq}
+use Rattle.std.specs.{List.filter, List.flat_map, Str.bytes_eq}
+use Rattle.std.proofs.lemmas.List.{Concat.flat_map-append, Elements.filter-append, Sorted.IsPermutation-refl}
 use Rattle.std.proofs.lemmas.Bool.{cases_eq, cases_lt, false_from_ne_true, not-true}
 use Rattle.std.proofs.lemmas.List.{get_or-set_same, get_or-set_other, length-set, take-append-drop, take_all, get_or_read, get_or_default}
-use Rattle.std.proofs.lemmas.List.Elements.{filter-append}
-use Rattle.std.proofs.lemmas.List.Sorted.{IsPermutation-refl}
 use Rattle.btf_types.specs.Names.{with_nul, table_of, place_in}
 use Rattle.btf_types.specs.strings.SharedNames.{hosts_of, host_in, shared_among}
 use Rattle.btf_types.proofs.Members.{Has, Has-get_or, Has-from_filter}
-use Rattle.btf_types.proofs.StringLemmas.Texts.{same_text, bytes_eq-same}
-use Rattle.btf_types.proofs.StringLemmas.Suffixes.{Ends-length}
-use Rattle.btf_types.proofs.StringLemmas.Hosts.{host_is, own_host_of}
-use Rattle.btf_types.proofs.StringLemmas.Distinct.{NoRepeats, apart_after}
+use Rattle.btf_types.proofs.StringLemmas.{Texts.same_text, Texts.bytes_eq-same, Distinct.NoRepeats, Distinct.apart_after}
+use Rattle.btf_types.proofs.StringLemmas.{Suffixes.Ends-length, Hosts.host_is, Hosts.own_host_of}
 use Rattle.bpf_canon.specs.btf.names.Interned.{lent_texts, HaveHosts, ArePlacedHosts, AreShared, name_at}
 use Rattle.bpf_canon.proofs.BtfLemmas.Names.KeptSteps.{place_stays, place_last, length-table_push}
 use Rattle.bpf_canon.proofs.BtfLemmas.Names.HostSearch.{text_at, texts_length}
-use Rattle.bpf_canon.proofs.BtfLemmas.Names.SharedSteps.{place_room}
-use Rattle.bpf_canon.proofs.BtfLemmas.Names.Gathering.{Has-front, Has-back}
+use Rattle.bpf_canon.proofs.BtfLemmas.Names.{SharedSteps.place_room, Gathering.Has-front, Gathering.Has-back}
 use Rattle.bpf_canon.proofs.BtfLemmas.Names.HostSteps.{keeps, own_host_test, hosts_among, hosts_among_more, hosts_among_same, hosts_among_room}
 
 -- names that are apart have one index each

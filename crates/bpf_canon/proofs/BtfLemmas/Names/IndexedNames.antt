@@ -1,17 +1,13 @@
 -- Names with their indices, before and after they are sorted.
 use Rattle.std.proofs.Common.{◌≡◌, ℕ, ◌+◌, ◌<◌, inl, inr, List, [], ◌∷◌, ◌++◌, length, map, get_or, refl, sym, ap, ◌∙◌, subst, arith, Bor}
-use Rattle.std.specs.List.{Contains}
-use Rattle.std.specs.List.Sorted.{IsPermutation, IsSorted, IsSortedBy}
-use Rattle.std.proofs.lemmas.Bool.{cases_eq}
-use Rattle.std.proofs.Math.Seq.{get_or-append_seam}
-use Rattle.std.proofs.Math.ListN.{get_or-append}
-use Rattle.std.proofs.lemmas.List.{length-append, length-map, get_or-map, get_or_default, same_lists}
+use Rattle.std.specs.List.{Contains, Sorted.IsPermutation, Sorted.IsSorted, Sorted.IsSortedBy}
+use Rattle.std.proofs.lemmas.{Bool.cases_eq, List.length-append, List.length-map, List.get_or-map, List.get_or_default, List.same_lists}
+use Rattle.std.proofs.Math.{Seq.get_or-append_seam, ListN.get_or-append}
 use Rattle.std.proofs.lemmas.List.Sorted.{All-permutation, Contains-permutation, IsPermutation-map}
 use Rattle.btf_types.specs.strings.SharedNames.{tail_cmp}
 use Rattle.btf_types.proofs.StringLemmas.Hosts.{tail_lt}
 use Rattle.bpf_canon.specs.btf.names.Interned.{lent_texts, AreIndexed, name_at}
-use Rattle.bpf_canon.proofs.BtfLemmas.Names.HostSearch.{text_at, texts_length}
-use Rattle.bpf_canon.proofs.BtfLemmas.Names.HostIndices.{Named, texts}
+use Rattle.bpf_canon.proofs.BtfLemmas.Names.{HostSearch.text_at, HostSearch.texts_length, HostIndices.Named, HostIndices.texts}
 
 -- the first k names with their indices
 pub record IndexedTo (names : List (Bor (List ℕ))) (sorted : List Named) (k : ℕ) : Type 0 where

@@ -1,23 +1,18 @@
 -- The names of one item and of one record more.
 use Rattle.std.proofs.Common.{◌≡◌, ℕ, suc, ◌+◌, ◌<◌, true, List, [], ◌∷◌, ◌++◌, inl, inr, length, take, get_or, sym, ap, ◌∙◌, append-nil, arith}
-use Rattle.std.proofs.lemmas.List.{map-append}
+use Rattle.std.proofs.lemmas.List.{map-append, Elements.All-nil, Elements.All-cons, Concat.flat_map-append}
 use Rattle.std.specs.Prelude.{if◌then◌else◌}
 use Rattle.std.specs.List.{All}
-use Rattle.std.proofs.lemmas.List.Elements.{All-nil, All-cons}
-use Rattle.std.proofs.lemmas.List.Concat.{flat_map-append}
-use Rattle.btf_types.proofs.TabulateSteps.{All-tabulate}
-use Rattle.btf_types.proofs.TableLemmas.TextSteps.{decided}
+use Rattle.btf_types.proofs.{TabulateSteps.All-tabulate, TableLemmas.TextSteps.decided}
 use Rattle.std.proofs.Math.Seq.{take-suc}
 use Rattle.bpf_words.specs.declared.Order.{Order}
-use Rattle.btf_raw.specs.Frames.{name_word, kind, vlen}
+use Rattle.btf_raw.specs.{Frames.name_word, Frames.kind, Frames.vlen, Kinds.has_item_names}
 use Rattle.btf_raw.proofs.Texts.{TextAt-inside}
-use Rattle.btf_raw.specs.Kinds.{has_item_names}
 use Rattle.btf_types.specs.tables.PlaceWords.{ReadsRecord}
 use Rattle.btf_types.specs.Reading.{text_from, frame_at, frames_at, item_total, tabulate}
 use Rattle.bpf_canon.specs.btf.strings.FirstUses.{noted, noted_all}
 use Rattle.bpf_canon.specs.btf.write.NameOffsets.{item_word, name_offsets, all_offsets, IsBelow}
-use Rattle.bpf_canon.proofs.BtfLemmas.Strings.FirstUseSteps.{noted_all-append}
-use Rattle.bpf_canon.proofs.BtfLemmas.Write.RecordNames.{named_total}
+use Rattle.bpf_canon.proofs.BtfLemmas.{Strings.FirstUseSteps.noted_all-append, Write.RecordNames.named_total}
 
 pub item_noted : (offs : List ℕ) (f : ℕ → ℕ) (k : ℕ) → noted (noted_all offs (tabulate f k)) (f k) ≡ noted_all offs (tabulate f (k + 1))
 item_noted offs f k =

@@ -1,8 +1,7 @@
 -- What a name that is empty leaves of the kept names.
 use Rattle.std.proofs.Common.{◌≡◌, ℕ, Bool, true, List, [], ◌∷◌, ◌++◌, length, sym, ap, ◌∙◌, Bor, eqb}
 use Rattle.std.specs.Str.{bytes_eq}
-use Rattle.std.proofs.lemmas.Bool.{eqb-true}
-use Rattle.std.proofs.lemmas.List.{nil_from_length}
+use Rattle.std.proofs.lemmas.{Bool.eqb-true, List.nil_from_length}
 use Rattle.btf_types.specs.Names.{kept}
 use Rattle.bpf_canon.specs.btf.names.Interned.{AddsName}
 use Rattle.bpf_canon.proofs.BtfLemmas.Names.KeptSteps.{kept_empty}

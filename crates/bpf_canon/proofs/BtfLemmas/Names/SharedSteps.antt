@@ -1,11 +1,9 @@
 -- What the parts of the shared names say together.
 use Rattle.std.proofs.Common.{ℕ, ◌+◌, ◌≤◌, List, ◌∷◌, ◌++◌, length, ap, arith}
-use Rattle.std.specs.List.{flat_map, before_first, after_first}
-use Rattle.std.specs.Str.{bytes_eq}
+use Rattle.std.specs.{List.flat_map, List.before_first, List.after_first, Str.bytes_eq}
 use Rattle.std.proofs.lemmas.List.{length-append}
 use Rattle.btf_types.specs.Names.{with_nul, table_of, place_in}
-use Rattle.btf_types.proofs.Members.{Has}
-use Rattle.btf_types.proofs.StringLemmas.Texts.{table_split}
+use Rattle.btf_types.proofs.{Members.Has, StringLemmas.Texts.table_split}
 
 -- an offset in a table leaves space for the string and its NUL
 pub place_room : (ks : List (List ℕ)) (x : List ℕ) → Has ks x → place_in ks x + length x + 1 ≤ length (table_of ks)

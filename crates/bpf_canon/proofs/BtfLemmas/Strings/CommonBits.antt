@@ -1,12 +1,8 @@
 -- The first bit in which two keys differ determines how many of their last bytes are equal.
 use Rattle.std.proofs.Common.{◌≡◌, ◌≢◌, ℕ, zero, suc, ◌+◌, ◌-◌, ◌*◌, ◌/◌, ◌%◌, ◌^◌, ◌<◌, ◌≤◌, inl, inr, get_or, sym, ap, ◌∙◌, arith}
-use Rattle.std.proofs.lemmas.Bool.{cases_lt}
-use Rattle.std.specs.Int.{w64, to_le_bytes}
-use Rattle.std.specs.Int.Bits.{bit_xor, xor_self, xor_assoc, xor_zero_l, xor_zero_r}
-use Rattle.std.specs.Int.Count.{count_leading_zeros}
-use Rattle.std.proofs.lemmas.Nat.{xor_shr, xor_lt, pow-add, pow_pos, leading_length}
-use Rattle.std.proofs.Math.Nat.{div-eq_of_lt, div-div-eq-div-mul, lt-div-mul-add, pow-suc}
-use Rattle.std.proofs.Math.Pow.{pow_mono}
+use Rattle.std.proofs.lemmas.{Bool.cases_lt, Nat.xor_shr, Nat.xor_lt, Nat.pow-add, Nat.pow_pos, Nat.leading_length}
+use Rattle.std.specs.Int.{w64, to_le_bytes, Bits.bit_xor, Bits.xor_self, Bits.xor_assoc, Bits.xor_zero_l, Bits.xor_zero_r, Count.count_leading_zeros}
+use Rattle.std.proofs.Math.{Nat.div-eq_of_lt, Nat.div-div-eq-div-mul, Nat.lt-div-mul-add, Nat.pow-suc, Pow.pow_mono}
 
 byte_is : (n i : ℕ) → i < 8 → get_or (to_le_bytes w64 n) i 0 ≡ n / 2 ^ (8 * i) % 256
 byte_is n zero h = omega arith

@@ -1,14 +1,12 @@
 -- What one more offset does to the noted offsets, and to the names that are kept of them.
 use Rattle.std.proofs.Common.{◌≡◌, ◌≢◌, ℕ, ◌<◌, ◌⊎◌, true, inl, inr, List, [], ◌∷◌, ◌++◌, length, map, get_or, set, refl, sym, ap, ◌∙◌, subst, arith, append_assoc}
-use Rattle.std.specs.Prelude.{nat_eq}
-use Rattle.std.specs.List.{list_any, Contains}
+use Rattle.std.specs.{Prelude.nat_eq, List.list_any, List.Contains}
 use Rattle.std.proofs.lemmas.Bool.{cases_eq, cases_Bool, both_ways, cond-true, cond-false, false_from_ne_true, eq-eqb, eqb-true}
 use Rattle.std.proofs.lemmas.List.{map-append, length-map, get_or-map, get_or-set_same, get_or-set_other, append-nil}
 use Rattle.std.proofs.lemmas.List.Folds.{list_any_at, Any-from_list_any}
 use Rattle.std.proofs.lemmas.List.Elements.{Contains-append_left, Contains-push, Contains-push_cases}
 use Rattle.btf_types.specs.Names.{kept}
-use Rattle.btf_types.proofs.Members.{Has, Has-from_Contains}
-use Rattle.btf_types.proofs.StringLemmas.Texts.{Has-kept}
+use Rattle.btf_types.proofs.{Members.Has, Members.Has-from_Contains, StringLemmas.Texts.Has-kept}
 use Rattle.bpf_canon.specs.btf.strings.FirstUses.{noted, noted_all, AreMarked}
 use Rattle.bpf_canon.proofs.BtfLemmas.Names.KeptSteps.{Has_cases, kept_empty, kept_known, kept_new}
 

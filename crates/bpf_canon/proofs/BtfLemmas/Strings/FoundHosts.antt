@@ -1,14 +1,9 @@
 -- The hosts of the strings at the used offsets of a section, found by the longest of them.
 use Rattle.std.proofs.Common.{◌≡◌, ◌≢◌, ℕ, zero, suc, ◌<◌, true, List, ◌∷◌, length, map, get_or, drop, refl, sym, ap, ◌∙◌, subst, arith}
 use Rattle.std.specs.List.{All, Contains}
-use Rattle.std.proofs.lemmas.List.{get_or-map, length-map, get_or_default}
-use Rattle.std.proofs.Math.Seq.{drop-cons}
-use Rattle.btf_types.specs.strings.SharedNames.{is_suffix}
-use Rattle.btf_types.specs.Reading.{before_nul, text_from}
-use Rattle.btf_types.specs.strings.LongestTexts.{AreLongest}
-use Rattle.bpf_canon.specs.btf.strings.SectionTexts.{text_in}
-use Rattle.bpf_canon.specs.btf.strings.Longest.{IsUsed, AreLongestOf}
-use Rattle.bpf_canon.specs.btf.strings.FirstUses.{AreMarked}
+use Rattle.std.proofs.{lemmas.List.get_or-map, lemmas.List.length-map, lemmas.List.get_or_default, Math.Seq.drop-cons}
+use Rattle.btf_types.specs.{strings.SharedNames.is_suffix, strings.LongestTexts.AreLongest, Reading.before_nul, Reading.text_from}
+use Rattle.bpf_canon.specs.btf.strings.{SectionTexts.text_in, FirstUses.AreMarked, Longest.IsUsed, Longest.AreLongestOf}
 use Rattle.bpf_canon.specs.declared.btf.strings.section_texts.SectionText.{SectionText}
 use Rattle.btf_types.proofs.StringLemmas.Suffixes.{suffix_from_Ends}
 use Rattle.bpf_canon.proofs.BtfLemmas.Strings.LongestSteps.{used_text, within_ends}

@@ -1,34 +1,23 @@
 -- From the hosts of used offsets to the offsets of names in the shared table.
 use Rattle.std.proofs.Common.{◌≡◌, ◌≢◌, ℕ, ◌+◌, ◌-◌, ◌^◌, ◌<◌, ◌≤◌, inl, inr, List, [], ◌∷◌, ◌++◌, length, map, get_or, sym, ap, ◌∙◌, subst, arith}
-use Rattle.std.specs.List.{All, Any, Contains, flat_map, before_first, after_first}
-use Rattle.std.specs.List.Sorted.{IsPermutation, IsSorted}
+use Rattle.std.specs.List.{All, Any, Contains, flat_map, before_first, after_first, Sorted.IsPermutation, Sorted.IsSorted}
 use Rattle.std.specs.Str.{bytes_eq}
 use Rattle.std.proofs.lemmas.Bool.{cases_eq}
-use Rattle.std.proofs.lemmas.List.{length-append, length-map, get_or-map, get_or_default, nil_from_length}
-use Rattle.std.proofs.lemmas.List.Elements.{All-map}
+use Rattle.std.proofs.lemmas.List.{length-append, length-map, get_or-map, get_or_default, nil_from_length, Elements.All-map}
 use Rattle.std.proofs.lemmas.List.Sorted.{IsPermutation-map, All-permutation, Contains-permutation, length_permutation}
-use Rattle.btf_types.specs.Names.{kept, with_nul, table_of, place_in}
-use Rattle.btf_types.specs.Reading.{text_from}
+use Rattle.btf_types.specs.{Names.kept, Names.with_nul, Names.table_of, Names.place_in, Reading.text_from}
 use Rattle.btf_types.specs.strings.SharedNames.{tail_cmp, hosts, hosts_of, host_in, shared_among, shared_table, shared_place}
-use Rattle.btf_types.specs.strings.LongestTexts.{AreLongest}
-use Rattle.btf_types.specs.strings.CommonTails.{at_rank, AreInTailOrder}
+use Rattle.btf_types.specs.strings.{LongestTexts.AreLongest, CommonTails.at_rank, CommonTails.AreInTailOrder}
 use Rattle.btf_types.proofs.Members.{Has, Has-from_Contains, Contains-from_Has}
-use Rattle.btf_types.proofs.StringLemmas.Texts.{table_split}
-use Rattle.btf_types.proofs.StringLemmas.Longest.{longest_have_host}
-use Rattle.bpf_canon.specs.btf.strings.FirstUses.{AreMarked}
-use Rattle.bpf_canon.specs.btf.strings.UsedOffsets.{Used, offset_number}
+use Rattle.btf_types.proofs.StringLemmas.{Texts.table_split, Longest.longest_have_host}
+use Rattle.bpf_canon.specs.btf.strings.{FirstUses.AreMarked, SectionTexts.text_in, SectionTexts.HasKey}
+use Rattle.bpf_canon.specs.btf.strings.{UsedOffsets.Used, UsedOffsets.offset_number, InHost.no_host, InHost.host_at, InHost.AreInHosts}
 use Rattle.bpf_canon.specs.btf.strings.Longest.{IsUsed, IsInText, AreLongestOf}
-use Rattle.bpf_canon.specs.btf.strings.SectionTexts.{text_in, HasKey}
-use Rattle.bpf_canon.specs.btf.strings.InHost.{no_host, host_at, AreInHosts}
 use Rattle.bpf_canon.specs.btf.strings.HostPlaces.{HasHost, AreHostPlaces, ArePlaced, name_place}
-use Rattle.bpf_canon.specs.declared.btf.strings.section_texts.SectionText.{SectionText}
-use Rattle.bpf_canon.specs.declared.btf.strings.hosts_by_rank.InHost.{InHost}
-use Rattle.bpf_canon.specs.declared.btf.strings.host_places.Span.{Span}
+use Rattle.bpf_canon.specs.declared.btf.strings.{section_texts.SectionText.SectionText, hosts_by_rank.InHost.InHost, host_places.Span.Span}
 use Rattle.bpf_canon.proofs.BtfLemmas.Strings.UsedSteps.{used_inside, used_at, number_inside}
-use Rattle.bpf_canon.proofs.BtfLemmas.Strings.LongestSteps.{used_length}
-use Rattle.bpf_canon.proofs.BtfLemmas.Strings.RankSteps.{in_tail_order}
+use Rattle.bpf_canon.proofs.BtfLemmas.Strings.{LongestSteps.used_length, RankSteps.in_tail_order, HostPlaceSteps.host_there}
 use Rattle.bpf_canon.proofs.BtfLemmas.Strings.FoundHosts.{longest_are, in_map, empty_at_nul, text_some}
-use Rattle.bpf_canon.proofs.BtfLemmas.Strings.HostPlaceSteps.{host_there}
 
 -- the longest strings in another order
 any_permuted : (P : SectionText → Type 0) (xs ys : List SectionText) → IsPermutation xs ys → Any P xs → Any P ys

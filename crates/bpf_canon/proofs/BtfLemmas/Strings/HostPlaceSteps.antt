@@ -1,30 +1,19 @@
 -- Steps of the loop that assigns offsets to hosts in the order of first use.
 use Rattle.std.proofs.Common.{◌≡◌, ◌≢◌, ℕ, ◌+◌, ◌<◌, ◌≤◌, true, false, not, inl, inr, List, [], ◌∷◌, ◌++◌, length, map, get_or, set, take, drop, sym, ap, ◌∙◌, subst, arith, take-append-drop}
-use Rattle.std.specs.List.{flat_map, list_any, All}
-use Rattle.std.specs.List.Sorted.{IsSorted}
-use Rattle.std.proofs.lemmas.Bool.{both_ways, cases_Bool, cases_eq, cases_lt, false_from_ne_true}
+use Rattle.std.specs.List.{flat_map, list_any, All, Sorted.IsSorted}
+use Rattle.std.proofs.lemmas.{Bool.both_ways, Bool.cases_Bool, Bool.cases_eq, Bool.cases_lt, Bool.false_from_ne_true, List.Concat.flat_map-append}
 use Rattle.std.proofs.lemmas.List.{append-nil, map-append, length-set, get_or-set_same, get_or-set_other, get_or_default, map_more, nil_from_length, get_or_read}
-use Rattle.std.proofs.lemmas.List.Concat.{flat_map-append}
-use Rattle.btf_types.specs.Names.{kept, with_nul, table_of, place_in}
+use Rattle.btf_types.specs.{Names.kept, Names.with_nul, Names.table_of, Names.place_in, Reading.text_from, strings.CommonTails.at_rank}
 use Rattle.btf_raw.specs.Header.{HasNulEnds}
-use Rattle.btf_types.specs.Reading.{text_from}
 use Rattle.btf_types.specs.strings.SharedNames.{is_suffix, is_proper_suffix, tail_cmp, hosts, host, shared_table}
-use Rattle.btf_types.specs.strings.CommonTails.{at_rank}
 use Rattle.btf_types.proofs.Members.{Has, Has-from_Contains}
 use Rattle.btf_types.proofs.StringLemmas.Suffixes.{Ends, Ends-refl, Ends-same_length, suffix_from_Ends}
-use Rattle.btf_types.proofs.StringLemmas.Hosts.{host_is, own_host_of, host_differs}
-use Rattle.btf_types.proofs.StringLemmas.CommonTails.{ranks_are_together}
-use Rattle.btf_types.proofs.StringLemmas.Longest.{Has-kept_some}
-use Rattle.bpf_canon.specs.btf.strings.InHost.{host_at, no_host}
-use Rattle.bpf_canon.specs.btf.strings.UsedOffsets.{offset_number}
-use Rattle.bpf_canon.specs.btf.strings.SectionTexts.{text_in}
-use Rattle.bpf_canon.specs.declared.btf.strings.section_texts.SectionText.{SectionText}
+use Rattle.btf_types.proofs.StringLemmas.{Hosts.host_is, Hosts.own_host_of, Hosts.host_differs, CommonTails.ranks_are_together, Longest.Has-kept_some}
+use Rattle.bpf_canon.specs.btf.strings.{InHost.host_at, InHost.no_host, UsedOffsets.offset_number, SectionTexts.text_in}
+use Rattle.bpf_canon.specs.declared.btf.strings.{section_texts.SectionText.SectionText, hosts_by_rank.InHost.InHost, host_places.Span.Span}
 use Rattle.bpf_canon.specs.btf.strings.HostPlaces.{span_bytes, IsSpan, HasText, IsAtHost, HasHost, AreHostPlaces}
-use Rattle.bpf_canon.specs.declared.btf.strings.hosts_by_rank.InHost.{InHost}
-use Rattle.bpf_canon.specs.declared.btf.strings.host_places.Span.{Span}
 use Rattle.bpf_canon.proofs.BtfLemmas.Names.KeptSteps.{place_stays, place_last, length-table_push}
-use Rattle.bpf_canon.proofs.BtfLemmas.Strings.FoundHosts.{empty_at_nul, text_some, in_map}
-use Rattle.bpf_canon.proofs.BtfLemmas.Strings.TableSpans.{span_of}
+use Rattle.bpf_canon.proofs.BtfLemmas.Strings.{FoundHosts.empty_at_nul, FoundHosts.text_some, FoundHosts.in_map, TableSpans.span_of}
 use Rattle.bpf_canon.proofs.BtfLemmas.Strings.PlacedHosts.{is_own, host_places, laid_empty, laid_other, laid_known, laid_new, laid_fits, has_push, has_more, has_last}
 
 -- a rank whose string isn't a suffix of the next one

@@ -4,20 +4,15 @@ use Rattle.std.specs.List.{All}
 use Rattle.std.proofs.lemmas.Bool.{cases_eq, cases_lt}
 use Rattle.std.proofs.lemmas.List.{get_or-map, length-map, length-set, get_or-set_same, get_or-set_other, get_or_default, get_or_read, get_or-replicate, length-replicate}
 use Rattle.btf_types.specs.Reading.{text_from}
-use Rattle.btf_types.specs.strings.SharedNames.{is_suffix}
-use Rattle.btf_types.specs.strings.CommonTails.{at_rank, IsFirstRank, IsNextHost}
+use Rattle.btf_types.specs.strings.{SharedNames.is_suffix, CommonTails.at_rank, CommonTails.IsFirstRank, CommonTails.IsNextHost}
 use Rattle.btf_types.proofs.StringLemmas.Suffixes.{Ends, Ends-refl, Ends-trans, Ends-length, Ends-from_suffix, suffix_from_Ends}
 use Rattle.btf_types.proofs.StringLemmas.CommonTails.{first_ends, rank_has_host}
-use Rattle.bpf_canon.specs.btf.strings.SectionTexts.{text_in}
+use Rattle.bpf_canon.specs.btf.strings.{SectionTexts.text_in, Ranks.AreRanked, UsedOffsets.offset_number}
 use Rattle.bpf_canon.specs.btf.strings.Longest.{IsUsed, IsInText, AreLongestOf}
-use Rattle.bpf_canon.specs.btf.strings.Ranks.{AreRanked}
-use Rattle.bpf_canon.specs.btf.strings.UsedOffsets.{offset_number}
 use Rattle.bpf_canon.specs.btf.strings.InHost.{IsInHost, no_host, no_text, host_at, FindsWithin, AreInHosts, HostsTo}
-use Rattle.bpf_canon.specs.declared.btf.strings.section_texts.SectionText.{SectionText}
-use Rattle.bpf_canon.specs.declared.btf.strings.hosts_by_rank.InHost.{InHost}
-use Rattle.bpf_canon.proofs.BtfLemmas.Strings.UsedSteps.{number_injective, number_inside, used_inside}
+use Rattle.bpf_canon.specs.declared.btf.strings.{section_texts.SectionText.SectionText, hosts_by_rank.InHost.InHost}
+use Rattle.bpf_canon.proofs.BtfLemmas.Strings.{UsedSteps.number_injective, UsedSteps.number_inside, UsedSteps.used_inside, RankSteps.first_rank_is}
 use Rattle.bpf_canon.proofs.BtfLemmas.Strings.LongestSteps.{used_length, within_length, within_ends}
-use Rattle.bpf_canon.proofs.BtfLemmas.Strings.RankSteps.{first_rank_is}
 
 -- the strings before the next host are all suffixes of it
 passed_end : (ms : List (List ℕ)) (n j l r : ℕ) → n + j ≡ r → l ≤ j → ((i : ℕ) → l ≤ i → i < r → is_suffix (at_rank ms i) (at_rank ms (i + 1)) ≡ true) → Ends (at_rank ms j) (at_rank ms r)

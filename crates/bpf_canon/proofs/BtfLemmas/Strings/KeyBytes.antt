@@ -1,15 +1,11 @@
 -- The common suffix of two strings, by the bytes of their keys.
 use Rattle.std.proofs.Common.{◌≡◌, ◌≢◌, ℕ, ◌+◌, ◌-◌, ◌<◌, ◌≤◌, min, inl, inr, List, ◌++◌, length, get_or, drop, replicate, sym, subst, ap, ◌∙◌, arith}
-use Rattle.std.specs.Prelude.{reverse}
-use Rattle.std.specs.Int.{w64, to_le_bytes}
-use Rattle.std.proofs.lemmas.Bool.{cases_lt}
+use Rattle.std.specs.{Prelude.reverse, Int.w64, Int.to_le_bytes}
+use Rattle.std.proofs.lemmas.{Bool.cases_lt, Nat.le_bytes_8}
 use Rattle.std.proofs.lemmas.List.{get_or-reverse, get_or-drop, get_or-replicate, get_or_append_left, get_or-append_right, get_or_past, length-append, length-drop, length-replicate, length-reverse, length-take-le, get_or-take}
-use Rattle.std.proofs.lemmas.Nat.{le_bytes_8}
 use Rattle.btf_types.specs.strings.CommonTails.{common_tail}
-use Rattle.bpf_canon.specs.btf.strings.SuffixKeys.{suffix_key}
-use Rattle.bpf_canon.specs.btf.strings.SectionTexts.{text_before}
-use Rattle.bpf_canon.proofs.BtfLemmas.Strings.SuffixKeys.{key_of_long, key_of_short}
-use Rattle.bpf_canon.proofs.BtfLemmas.Strings.RankSteps.{front_stops, front_ends}
+use Rattle.bpf_canon.specs.btf.strings.{SuffixKeys.suffix_key, SectionTexts.text_before}
+use Rattle.bpf_canon.proofs.BtfLemmas.Strings.{SuffixKeys.key_of_long, SuffixKeys.key_of_short, RankSteps.front_stops, RankSteps.front_ends}
 
 module _ (x : List ℕ) (p : (i : ℕ) → get_or x i 0 < 256) (j : ℕ) (h : j < 8) where
   byte_of_long : 8 ≤ length x → get_or (to_le_bytes w64 (suffix_key x)) (7 - j) 0 ≡ get_or (reverse x) j 0

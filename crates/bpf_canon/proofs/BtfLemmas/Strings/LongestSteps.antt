@@ -2,15 +2,12 @@
 use Rattle.std.proofs.Common.{◌≡◌, ◌≢◌, ℕ, zero, suc, ◌+◌, ◌-◌, ◌<◌, ◌≤◌, inl, inr, List, [], ◌∷◌, ◌++◌, length, get_or, take, drop, refl, sym, ap, ◌∙◌, subst, arith}
 use Rattle.std.specs.List.{All, Any}
 use Rattle.std.proofs.Math.Seq.{drop-nil}
-use Rattle.std.proofs.lemmas.Bool.{cases_eq, cases_lt}
-use Rattle.std.proofs.lemmas.List.{get_or-drop, length-drop, get_or_append_left, length-append, length-take-le}
-use Rattle.std.proofs.lemmas.List.Elements.{All-nil, All-cons, All-append}
-use Rattle.std.proofs.lemmas.List.Quantifiers.{Any-push}
+use Rattle.std.proofs.lemmas.{Bool.cases_eq, Bool.cases_lt, List.Elements.All-nil, List.Elements.All-cons, List.Elements.All-append}
+use Rattle.std.proofs.lemmas.List.{get_or-drop, length-drop, get_or_append_left, length-append, length-take-le, Quantifiers.Any-push}
 use Rattle.btf_types.specs.Reading.{before_nul, text_from}
 use Rattle.btf_types.proofs.StringLemmas.Suffixes.{Ends, Ends-refl}
-use Rattle.bpf_canon.specs.btf.strings.SuffixKeys.{suffix_key}
+use Rattle.bpf_canon.specs.btf.strings.{SuffixKeys.suffix_key, Longest.IsUsed, Longest.IsInText}
 use Rattle.bpf_canon.specs.btf.strings.SectionTexts.{end_in, start_in, text_in, text_before, HasKey}
-use Rattle.bpf_canon.specs.btf.strings.Longest.{IsUsed, IsInText}
 use Rattle.bpf_canon.specs.declared.btf.strings.section_texts.SectionText.{SectionText}
 use Rattle.bpf_canon.proofs.BtfLemmas.Strings.TextLemmas.{text_is}
 

@@ -2,10 +2,8 @@
 use Rattle.std.proofs.Common.{◌≡◌, ◌≢◌, ℕ, zero, suc, ◌+◌, ◌*◌, ◌/◌, ◌%◌, ◌^◌, ◌<◌, ◌≤◌, max, inl, inr, List, [], ◌∷◌, ◌++◌, length, get_or, set, replicate, bit_and, bit_or, ◌-◌, count_ones, refl, sym, ap, ◌∙◌, subst, arith}
 use Rattle.std.specs.Int.{bit_at}
 use lib.Count.{ones_step}
-use Rattle.std.proofs.lemmas.Bool.{cases_eq, cases_lt}
-use Rattle.std.proofs.Math.Arith.{mod-mul}
-use Rattle.std.proofs.Math.Nat.{pow-suc, max-zero, mod-eq_of_lt}
-use Rattle.std.proofs.lemmas.Nat.{ones_le_self, pow_pos, pow_below, and_mask}
+use Rattle.std.proofs.lemmas.{Bool.cases_eq, Bool.cases_lt, Nat.ones_le_self, Nat.pow_pos, Nat.pow_below, Nat.and_mask}
+use Rattle.std.proofs.Math.{Arith.mod-mul, Nat.pow-suc, Nat.max-zero, Nat.mod-eq_of_lt}
 use Rattle.std.proofs.lemmas.Nat.Bits.{bit_at_lowest, bit_at-zero, bit_at-lt, bit_at-suc, bit_at_or, bit_at-pow_same, bit_at-pow_other}
 use Rattle.std.proofs.lemmas.List.{length_push, length-set, length-replicate, get_or-replicate, get_or-set_same, get_or-set_other, get_or_append_left, get_or_push, get_or_past, get_or_read, ext_get_or}
 use Rattle.bpf_canon.specs.btf.strings.FirstUses.{noted, mark_of, slots_of, AreMarked, HaveMarks}

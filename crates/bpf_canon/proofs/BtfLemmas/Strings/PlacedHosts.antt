@@ -1,11 +1,9 @@
 -- Which hosts have offsets after a prefix of the names.
 use Rattle.std.proofs.Common.{◌≡◌, ◌≢◌, ℕ, ◌≤◌, Bool, true, false, not, ◌⊎◌, inl, inr, List, [], ◌∷◌, ◌++◌, length, ap, ◌∙◌, arith, append_assoc}
 use Rattle.std.specs.List.{filter, list_any}
-use Rattle.std.proofs.lemmas.Bool.{cases_Bool, cond-true, cond-false}
-use Rattle.std.proofs.lemmas.List.{append-nil}
+use Rattle.std.proofs.lemmas.{Bool.cases_Bool, Bool.cond-true, Bool.cond-false, List.append-nil}
 use Rattle.std.proofs.lemmas.List.Elements.{filter-append, Contains-append_left, Contains-push, Contains-push_cases}
-use Rattle.btf_types.specs.Names.{kept, table_of}
-use Rattle.btf_types.specs.strings.SharedNames.{is_proper_suffix}
+use Rattle.btf_types.specs.{Names.kept, Names.table_of, strings.SharedNames.is_proper_suffix}
 use Rattle.btf_types.proofs.Members.{Has, Has-from_Contains, Contains-from_Has, Has-filter, Has-from_filter}
 use Rattle.bpf_canon.proofs.BtfLemmas.Names.KeptSteps.{Has_cases, kept_empty, kept_known, kept_new, length-table_push}
 

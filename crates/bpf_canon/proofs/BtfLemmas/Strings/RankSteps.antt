@@ -1,21 +1,14 @@
 -- Steps of the loops over ranks.
 use Rattle.std.proofs.Common.{◌≡◌, ◌≢◌, ℕ, zero, suc, ◌+◌, ◌-◌, ◌<◌, ◌≤◌, min, inl, inr, List, [], ◌∷◌, length, map, get_or, refl, sym, ap, ◌∙◌, subst, arith, eqb, true, set, ◌++◌}
-use Rattle.std.specs.Prelude.{reverse}
+use Rattle.std.specs.{Prelude.reverse, List.All, List.Sorted.IsPermutation, List.Sorted.IsSorted}
 use Rattle.std.proofs.lemmas.Bool.{cond-true, cond-false, eq-eqb, ne_eqb, cases_eq, false_from_ne_true}
 use Rattle.std.proofs.lemmas.List.{get_or-reverse, length-reverse, get_or-map, get_or_push, get_or_append_left, get_or-set_same, get_or-set_other}
-use Rattle.std.specs.List.{All}
-use Rattle.std.specs.List.Sorted.{IsPermutation, IsSorted}
-use Rattle.std.proofs.lemmas.List.Elements.{All-contains}
-use Rattle.std.proofs.lemmas.List.Sorted.{Contains-permutation, IsPermutation-sym}
-use Rattle.btf_types.specs.Names.{kept}
-use Rattle.btf_types.specs.strings.SharedNames.{is_suffix, tail_cmp}
+use Rattle.std.proofs.lemmas.List.{Elements.All-contains, Sorted.Contains-permutation, Sorted.IsPermutation-sym}
+use Rattle.btf_types.specs.{Names.kept, strings.SharedNames.is_suffix, strings.SharedNames.tail_cmp}
 use Rattle.btf_types.proofs.Members.{Has-from_Contains, Contains-from_Has}
-use Rattle.btf_types.proofs.StringLemmas.Texts.{Has-from_kept}
-use Rattle.btf_types.proofs.StringLemmas.Longest.{Has-kept_some}
+use Rattle.btf_types.proofs.StringLemmas.{Texts.Has-from_kept, Longest.Has-kept_some, CommonTails.suffix_by_tail}
 use Rattle.btf_types.specs.strings.CommonTails.{common_front, common_tail, at_rank, IsNextHost, IsFirstRank, AreInTailOrder}
-use Rattle.btf_types.proofs.StringLemmas.CommonTails.{suffix_by_tail}
-use Rattle.bpf_canon.specs.btf.strings.Ranks.{common_before, AreCommon}
-use Rattle.bpf_canon.specs.declared.btf.strings.section_texts.SectionText.{SectionText}
+use Rattle.bpf_canon.specs.{btf.strings.Ranks.common_before, btf.strings.Ranks.AreCommon, declared.btf.strings.section_texts.SectionText.SectionText}
 
 front_same : (a b : ℕ) (x y : List ℕ) → a ≡ b → common_front (a ∷ x) (b ∷ y) ≡ 1 + common_front x y
 front_same a b x y e = cond-true (eqb a b) (1 + common_front x y) 0 (eq-eqb a b e)

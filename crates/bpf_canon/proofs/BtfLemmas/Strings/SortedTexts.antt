@@ -1,19 +1,14 @@
 -- Texts of a section that are sorted by keys and bytes are sorted by their bytes from the end.
 use Rattle.std.proofs.Common.{◌≡◌, ◌≢◌, ℕ, zero, suc, ◌+◌, ◌*◌, ◌-◌, ◌^◌, ◌<◌, inl, inr, List, [], ◌∷◌, length, map, get_or, take, drop, refl, sym, ap, ◌∙◌, arith}
-use Rattle.std.specs.List.{All}
-use Rattle.std.specs.List.Sorted.{IsSorted, IsSortedBy}
+use Rattle.std.specs.{List.All, List.Sorted.IsSorted, List.Sorted.IsSortedBy, Cmp.IsTotalOrder}
 use Rattle.std.specs.Ordering.{is_lt, nat_cmp, ordering_then}
-use Rattle.std.specs.Cmp.{IsTotalOrder}
-use Rattle.std.specs.declared.cmp.Ordering.{Ordering}
-use Rattle.std.specs.declared.cmp.Ordering.TheVariants.{Less, Equal, Greater}
-use Rattle.std.proofs.lemmas.Bool.{cases_eq, cases_lt}
+use Rattle.std.specs.declared.cmp.Ordering.{Ordering, TheVariants.Less, TheVariants.Equal, TheVariants.Greater}
+use Rattle.std.proofs.lemmas.{Bool.cases_eq, Bool.cases_lt, List.get_or-map, List.length-map}
 use Rattle.std.proofs.lemmas.Cmp.{nat_cmp_total, tied_itself, on_total, then_total, ranked}
-use Rattle.std.proofs.lemmas.List.{get_or-map, length-map}
 use Rattle.btf_types.specs.strings.SharedNames.{tail_cmp}
 use Rattle.btf_types.proofs.StringLemmas.Hosts.{tail_lt, tail_total}
-use Rattle.bpf_canon.specs.btf.strings.SuffixKeys.{suffix_key}
+use Rattle.bpf_canon.specs.{btf.strings.SuffixKeys.suffix_key, declared.btf.strings.section_texts.SectionText.SectionText}
 use Rattle.bpf_canon.specs.btf.strings.SectionTexts.{start_in, text_in, text_before, HasKey, compared}
-use Rattle.bpf_canon.specs.declared.btf.strings.section_texts.SectionText.{SectionText}
 use Rattle.bpf_canon.proofs.BtfLemmas.Strings.SuffixKeys.{Bytes, bytes_from, less, greater, key_none, key_apart, key_alike, key_ends}
 
 bytes_at : (x : List ℕ) → Bytes x → (i : ℕ) → get_or x i 0 < 256

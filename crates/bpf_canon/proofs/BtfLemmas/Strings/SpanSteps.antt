@@ -2,9 +2,7 @@
 use Rattle.std.proofs.Common.{◌≡◌, ℕ, zero, suc, ◌+◌, ◌-◌, List, [], ◌∷◌, ◌++◌, length, get_or, set, take, drop, sym, ap, ◌∙◌, subst, arith, append_assoc}
 use Rattle.std.specs.List.{All, flat_map}
 use Rattle.std.proofs.Math.Seq.{take-add}
-use Rattle.std.proofs.lemmas.List.{append-nil}
-use Rattle.std.proofs.lemmas.List.Concat.{flat_map-append}
-use Rattle.std.proofs.lemmas.List.Elements.{All-append, All-cons, All-nil, All-set}
+use Rattle.std.proofs.lemmas.List.{append-nil, Concat.flat_map-append, Elements.All-append, Elements.All-cons, Elements.All-nil, Elements.All-set}
 use Rattle.bpf_canon.specs.btf.strings.HostPlaces.{span_bytes, IsSpan, HasText}
 use Rattle.bpf_canon.specs.declared.btf.strings.host_places.Span.{Span}
 use Rattle.bpf_canon.proofs.BtfLemmas.Strings.LongestSteps.{drop_more}

@@ -1,15 +1,11 @@
 -- Keys of strings compare as their suffixes.
 use Rattle.std.proofs.Common.{◌≡◌, ◌≢◌, ℕ, zero, suc, ◌+◌, ◌*◌, ◌^◌, ◌<◌, ◌≤◌, ◌⊎◌, inl, inr, List, [], ◌∷◌, ◌++◌, length, get_or, take, drop, refl, sym, ap, ◌∙◌, subst, arith, take-append-drop, replicate}
 use Rattle.std.specs.Prelude.{reverse, nat_lt, ◌==◌}
-use Rattle.std.specs.Int.{w64, from_le_bytes}
-use Rattle.std.specs.Ordering.{nat_cmp, ordering_then, ordering_reverse}
-use Rattle.std.specs.declared.cmp.Ordering.{Ordering}
-use Rattle.std.specs.declared.cmp.Ordering.TheVariants.{Less, Equal, Greater}
-use Rattle.std.specs.Cmp.Lexicographic.{slice_cmp}
+use Rattle.std.specs.{Int.w64, Int.from_le_bytes, Cmp.Lexicographic.slice_cmp, Ordering.nat_cmp, Ordering.ordering_then, Ordering.ordering_reverse}
+use Rattle.std.specs.declared.cmp.Ordering.{Ordering, TheVariants.Less, TheVariants.Equal, TheVariants.Greater}
 use Rattle.std.proofs.lemmas.Bool.{cases_order, cond-true, cond-false, lt-ltb, ne_eqb, le-ltb}
-use Rattle.std.proofs.lemmas.Cmp.{nat_cmp_total, nat_list_cmp_total, tied_itself}
+use Rattle.std.proofs.lemmas.{Cmp.nat_cmp_total, Cmp.nat_list_cmp_total, Cmp.tied_itself, Nat.row_fits, Nat.mul-add-lt}
 use Rattle.std.proofs.lemmas.List.{reverse-append, length-reverse, length-append, length-drop, length-replicate}
-use Rattle.std.proofs.lemmas.Nat.{row_fits, mul-add-lt}
 use Rattle.std.proofs.Math.Nat.{one-le-pow, pow-suc}
 use Rattle.btf_types.specs.strings.SharedNames.{tail_cmp}
 use Rattle.bpf_canon.specs.btf.strings.SuffixKeys.{front_key, suffix_key}

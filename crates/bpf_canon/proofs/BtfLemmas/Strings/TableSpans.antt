@@ -2,14 +2,11 @@
 use Rattle.std.proofs.Common.{◌≡◌, ℕ, suc, ◌+◌, ◌-◌, ◌<◌, List, [], ◌∷◌, ◌++◌, length, get_or, take, drop, sym, ap, ◌∙◌, arith, append_assoc}
 use Rattle.std.specs.List.{flat_map}
 use Rattle.std.proofs.Math.Seq.{take-append-add, drop-append_seam}
-use Rattle.std.proofs.lemmas.List.{append-nil, take_more, length-append, length-drop}
-use Rattle.std.proofs.lemmas.List.Concat.{flat_map-append}
+use Rattle.std.proofs.lemmas.List.{append-nil, take_more, length-append, length-drop, Concat.flat_map-append}
 use Rattle.btf_raw.specs.Header.{HasNulEnds}
-use Rattle.btf_types.specs.Names.{with_nul}
-use Rattle.btf_types.specs.Reading.{text_from}
+use Rattle.btf_types.specs.{Names.with_nul, Reading.text_from}
 use Rattle.btf_types.proofs.TableLemmas.TextSteps.{text_there}
-use Rattle.bpf_canon.specs.btf.strings.HostPlaces.{span_bytes, IsSpan}
-use Rattle.bpf_canon.specs.declared.btf.strings.host_places.Span.{Span}
+use Rattle.bpf_canon.specs.{btf.strings.HostPlaces.span_bytes, btf.strings.HostPlaces.IsSpan, declared.btf.strings.host_places.Span.Span}
 
 -- the span of the string at an offset
 pub record SpanOf (section : List ℕ) (off : ℕ) (s : Span) : Type 0 where

@@ -2,20 +2,16 @@
 use Rattle.std.proofs.Common.{◌≡◌, ℕ, zero, suc, ◌+◌, ◌*◌, ◌<◌, Bool, true, false, List, [], ◌∷◌, ◌++◌, length, map, get_or, refl, sym, ap, ◌∙◌, subst, inl, inr, arith}
 use Rattle.std.specs.Prelude.{slice_index, ◌==◌, if◌then◌else◌}
 use Rattle.std.specs.List.{All, AllZip, Contains, filter}
-use Rattle.std.proofs.lemmas.List.{map-append}
-use Rattle.std.proofs.lemmas.List.Elements.{All-nil, All-cons, All-head, All-tail, filter-append}
+use Rattle.std.proofs.lemmas.List.{map-append, Elements.All-nil, Elements.All-cons, Elements.All-head, Elements.All-tail, Elements.filter-append}
 use Rattle.bpf_words.specs.declared.Order.{Order}
-use Rattle.btf_raw.specs.Header.{HasNulEnds}
-use Rattle.btf_raw.specs.Kinds.{item_words, has_item_names}
+use Rattle.btf_raw.specs.{Header.HasNulEnds, Kinds.item_words, Kinds.has_item_names}
 use Rattle.btf_raw.specs.Frames.{IsFrame, name_word, kind, vlen, flag}
 use Rattle.btf_raw.proofs.Texts.{TextAt-unique, TextAt-inside}
-use Rattle.btf_types.specs.Values.{TypeItem, TypeRecord}
+use Rattle.btf_types.specs.{Values.TypeItem, Values.TypeRecord, Spelling.Spells}
 use Rattle.btf_types.specs.Names.{head_name, item_name, record_names, names, is_other, distinct, is_some_text, kept}
-use Rattle.btf_types.specs.Spelling.{Spells}
 use Rattle.btf_types.specs.Reading.{text_from, item_from, item_of, item_total, record_of, frame_at, frames_at, tabulate}
 use Rattle.btf_types.proofs.KindCases.{KindIs, IsStruct, IsUnion, IsEnum, IsFuncProto, IsEnum64}
-use Rattle.btf_types.proofs.FaultlessLemmas.FaultlessWords.{known}
-use Rattle.btf_types.proofs.Lists.{length-tabulate, get_or-tabulate}
+use Rattle.btf_types.proofs.{FaultlessLemmas.FaultlessWords.known, Lists.length-tabulate, Lists.get_or-tabulate}
 use Rattle.btf_types.proofs.TableLemmas.TextSteps.{text_there, decided}
 use Rattle.bpf_canon.specs.btf.write.NameOffsets.{item_word, name_offsets, all_offsets, HasNamedItems}
 

@@ -2,36 +2,22 @@
 use Rattle.std.proofs.Common.{◌≡◌, ◌≢◌, ◌⊎◌, ℕ, zero, suc, ◌+◌, ◌*◌, ◌/◌, ◌%◌, ◌^◌, ◌<◌, ◌≤◌, Bool, true, false, not, List, [], ◌∷◌, ◌++◌, length, map, take, drop, get_or, refl, sym, ap, subst, ◌∙◌, inl, inr, append-nil, lit≤, arith}
 use Rattle.std.specs.Prelude.{slice_index, ◌==◌, ◌||◌, if◌then◌else◌, ⊤}
 use Rattle.std.specs.List.{All, AllZip, concat, flat_map, list_any}
-use Rattle.std.proofs.lemmas.Bool.{cases_eq, ne_eqb, or_left, or_right}
-use Rattle.std.proofs.lemmas.List.Concat.{flat_map-append}
-use Rattle.std.proofs.lemmas.List.Elements.{All-head, All-tail}
-use Rattle.std.proofs.lemmas.List.Folds.{list_any-append}
-use Rattle.std.proofs.Math.Seq.{take-suc}
-use Rattle.std.proofs.lemmas.List.{get_or-drop, length-drop}
-use Rattle.bpf_words.specs.declared.Order.{Order}
-use Rattle.bpf_words.specs.Words.{word32}
-use Rattle.btf_raw.specs.Header.{HasNulEnds}
-use Rattle.btf_raw.specs.Kinds.{item_words, kind_of, flag_of, has_item_names, is_struct}
+use Rattle.std.proofs.{lemmas.Bool.cases_eq, lemmas.Bool.ne_eqb, lemmas.Bool.or_left, lemmas.Bool.or_right, Math.Seq.take-suc}
+use Rattle.std.proofs.lemmas.List.{get_or-drop, length-drop, Concat.flat_map-append, Elements.All-head, Elements.All-tail, Folds.list_any-append}
+use Rattle.bpf_words.specs.{declared.Order.Order, Words.word32}
+use Rattle.btf_raw.specs.{Header.HasNulEnds, Heads.bit, Kinds.item_words, Kinds.kind_of, Kinds.flag_of, Kinds.has_item_names, Kinds.is_struct}
 use Rattle.btf_raw.specs.Frames.{IsFrame, info_word, third_word, name_word, kind, vlen, flag, bytes_of, section_of}
 use Rattle.btf_types.specs.Values.{TypeHead, KStruct, KUnion, TypeItem, Entry, TypeRecord}
-use Rattle.btf_types.specs.Names.{head_name}
-use Rattle.btf_raw.specs.Heads.{bit}
+use Rattle.btf_types.specs.{Names.head_name, judge.RecordFaults.BitFieldsAre, Good.has_width, Good.has_bit_fields}
 use Rattle.btf_types.specs.Spelling.{kind_number, head_third, head_tail, FlagSpells, record_vlen, info, ItemSpells, Spells}
-use Rattle.btf_types.specs.Good.{has_width, has_bit_fields}
 use Rattle.btf_types.specs.Reading.{text_from, head_from, item_from, item_of, item_total, record_of, frame_at, records_at, tabulate}
 use Rattle.btf_types.proofs.KindCases.{KindIs, IsStruct, IsUnion, IsEnum, IsFuncProto, IsEnum64}
-use Rattle.btf_types.specs.judge.RecordFaults.{BitFieldsAre}
-use Rattle.btf_types.proofs.FaultlessLemmas.FaultlessRecords.{bit_fields_there}
-use Rattle.btf_types.proofs.FaultlessLemmas.FaultlessWords.{known, room}
+use Rattle.btf_types.proofs.FaultlessLemmas.{FaultlessRecords.bit_fields_there, FaultlessWords.known, FaultlessWords.room}
 use Rattle.btf_types.proofs.Spelled.{info_parts, InfoParts, kind_below, vlen_below, flag_below}
-use Rattle.btf_types.proofs.TableLemmas.TableReads.{count_there}
-use Rattle.btf_types.proofs.TabulateSteps.{All-tabulate}
-use Rattle.btf_types.proofs.TableLemmas.TextSteps.{decided}
+use Rattle.btf_types.proofs.{TableLemmas.TableReads.count_there, TableLemmas.TextSteps.decided, TabulateSteps.All-tabulate}
 use Rattle.bpf_canon.specs.btf.CanonicalBtf.{canonical_flag, words_of_item as words_of, record_words}
-use Rattle.bpf_canon.specs.btf.write.KeptFrames.{record_info, record_items, record_tail}
-use Rattle.bpf_canon.specs.btf.write.NameOffsets.{HasNamedItems}
-use Rattle.bpf_canon.proofs.BtfLemmas.Write.RecordNames.{head_name_is}
-use Rattle.bpf_canon.proofs.BtfLemmas.Write.WriteSteps.{pushed_two}
+use Rattle.bpf_canon.specs.btf.write.{KeptFrames.record_info, KeptFrames.record_items, KeptFrames.record_tail, NameOffsets.HasNamedItems}
+use Rattle.bpf_canon.proofs.BtfLemmas.Write.{RecordNames.head_name_is, WriteSteps.pushed_two}
 
 -- ---- whether a record has bit-fields
 

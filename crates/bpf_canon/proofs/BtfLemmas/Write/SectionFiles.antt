@@ -3,22 +3,16 @@ use Rattle.std.proofs.Common.{◌≡◌, ℕ, ◌≤◌, List, [], ◌∷◌, �
 use Rattle.std.specs.List.{All, Contains}
 use Rattle.std.proofs.lemmas.List.Elements.{All-nil, All-cons}
 use Rattle.bpf_words.specs.declared.Order.{Order}
-use Rattle.btf_raw.specs.Header.{header, TYPES_LIMIT, STRINGS_LIMIT}
-use Rattle.btf_raw.specs.Frames.{section_of}
-use Rattle.btf_types.specs.Values.{TypeRecord}
-use Rattle.btf_types.specs.Names.{names, kept, table_of}
+use Rattle.btf_raw.specs.{Header.header, Header.TYPES_LIMIT, Header.STRINGS_LIMIT, Frames.section_of}
+use Rattle.btf_types.specs.{Values.TypeRecord, Good.facts, tables.TableInvariant.IsTable}
+use Rattle.btf_types.specs.{Names.names, Names.kept, Names.table_of, Reading.text_from, Reading.frames_at, Reading.records_at}
 use Rattle.btf_types.specs.strings.SharedNames.{hosts_of, shared_among, shared_table, shared_place}
-use Rattle.btf_types.specs.Good.{facts}
-use Rattle.btf_types.specs.tables.TableInvariant.{IsTable}
-use Rattle.btf_types.specs.Reading.{text_from, frames_at, records_at}
 use Rattle.btf_types.proofs.Members.{Has}
 use Rattle.bpf_canon.specs.btf.CanonicalBtf.{canonical, canonical_types, record_words}
-use Rattle.bpf_canon.specs.btf.strings.FirstUses.{noted_all}
-use Rattle.bpf_canon.specs.btf.write.NameOffsets.{all_offsets}
+use Rattle.bpf_canon.specs.btf.{strings.FirstUses.noted_all, write.NameOffsets.all_offsets}
 use Rattle.bpf_canon.proofs.BtfLemmas.CanonicalFiles.{types_size, canonical_size}
 use Rattle.bpf_canon.proofs.BtfLemmas.Strings.FirstUseSteps.{kept_first_uses, noted_all_there}
-use Rattle.bpf_canon.proofs.BtfLemmas.Write.RecordNames.{kept_at_offsets}
-use Rattle.bpf_canon.proofs.BtfLemmas.Write.WriteSteps.{written}
+use Rattle.bpf_canon.proofs.BtfLemmas.Write.{RecordNames.kept_at_offsets, WriteSteps.written}
 
 all_from_Has : (P : ℕ → Type 0) (xs : List ℕ) → ((x : ℕ) → Has xs x → P x) → All P xs
 all_from_Has P [] each = All-nil P

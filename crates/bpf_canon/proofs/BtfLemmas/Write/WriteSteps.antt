@@ -1,22 +1,14 @@
 -- 32-bit words and records that are appended in sequence.
 use Rattle.std.proofs.Common.{◌≡◌, ℕ, zero, suc, ◌+◌, ◌-◌, ◌<◌, ◌≤◌, Bool, true, false, List, [], ◌∷◌, ◌++◌, length, map, take, refl, sym, ap, subst, ◌∙◌, inl, inr, append_assoc, arith, Some}
-use Rattle.std.specs.Prelude.{slice_get, not}
-use Rattle.std.specs.List.{flat_map, list_any}
-use Rattle.std.proofs.lemmas.Bool.{cases_eq, ne_eqb}
-use Rattle.std.proofs.lemmas.List.{map-append, append-nil}
-use Rattle.std.proofs.lemmas.List.Concat.{flat_map-append}
-use Rattle.std.proofs.lemmas.List.Folds.{list_any-append}
-use Rattle.bpf_words.specs.declared.Order.{Order}
-use Rattle.bpf_words.specs.Words.{word32}
-use Rattle.btf_raw.specs.Header.{header, TYPES_LIMIT}
-use Rattle.btf_raw.specs.Frames.{bytes_of, section_of}
+use Rattle.std.specs.{Prelude.slice_get, Prelude.not, List.flat_map, List.list_any}
+use Rattle.std.proofs.lemmas.{Bool.cases_eq, Bool.ne_eqb, List.map-append, List.append-nil, List.Concat.flat_map-append, List.Folds.list_any-append}
+use Rattle.bpf_words.specs.{declared.Order.Order, Words.word32}
+use Rattle.btf_raw.specs.{Header.header, Header.TYPES_LIMIT, Frames.bytes_of, Frames.section_of}
 use Rattle.btf_types.specs.Values.{TypeHead, KFunc, TypeItem, Member, EnumValue, Value64, Param, Entry, TypeRecord}
-use Rattle.btf_types.specs.Names.{names, kept, table_of}
+use Rattle.btf_types.specs.{Names.names, Names.kept, Names.table_of, judge.Checks.TypeFacts}
 use Rattle.btf_types.specs.strings.SharedNames.{hosts_of, shared_among}
-use Rattle.btf_types.specs.Spelling.{head_third, record_vlen}
-use Rattle.btf_types.specs.judge.Checks.{TypeFacts}
+use Rattle.btf_types.specs.{Spelling.head_third, Spelling.record_vlen, tables.TableWords.record_at, tables.TableWords.no_record}
 use Rattle.btf_types.specs.Good.{has_width, has_bit_fields, MemberIsGood, IsGoodRecord, IsGood, facts}
-use Rattle.btf_types.specs.tables.TableWords.{record_at, no_record}
 use Rattle.btf_types.proofs.Members.{Has, any_from_Has}
 use Rattle.bpf_canon.specs.btf.write.BtfWords.{head_vlen, head_words, MemberFits}
 use Rattle.bpf_canon.specs.btf.CanonicalBtf.{canonical, canonical_types, words_of_item, record_words}

@@ -1,8 +1,6 @@
 -- The contents of maps and sets of borrowed strings. Contracts of private functions cite it.
 use Rattle.std.specs.Prelude.{◌≡◌, ◌⊎◌, ◌<◌, ◌^◌, ℕ, List, [], ◌∷◌, ◌++◌, length, map, slice_index, slice_index_or}
-use Rattle.std.specs.Borrow.{Bor}
-use Rattle.std.specs.List.{All, Contains}
-use Rattle.std.specs.List.Sorted.{IsPermutation, IsSorted}
+use Rattle.std.specs.{Borrow.Bor, List.All, List.Contains, List.Sorted.IsPermutation, List.Sorted.IsSorted}
 use Rattle.btf_types.specs.Names.{kept, table_of, place_in}
 use Rattle.btf_types.specs.strings.SharedNames.{tail_cmp, hosts_of, host_in}
 

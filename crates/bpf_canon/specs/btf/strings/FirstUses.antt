@@ -1,7 +1,6 @@
 -- The distinct offsets of a string section at which names begin, in the order of first use.
 use Rattle.std.specs.Prelude.{◌≡◌, ◌≢◌, ℕ, zero, suc, ◌+◌, ◌/◌, ◌%◌, nat_eq, List, [], ◌∷◌, ◌++◌, length, slice_index, if◌then◌else◌}
-use Rattle.std.specs.Int.{bit_at}
-use Rattle.std.specs.List.{list_any, Contains}
+use Rattle.std.specs.{Int.bit_at, List.list_any, List.Contains}
 
 -- another offset is appended, unless it is already present
 abbrev pub noted : List ℕ → ℕ → List ℕ

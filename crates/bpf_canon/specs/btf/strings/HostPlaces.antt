@@ -1,16 +1,12 @@
 -- The table of hosts, in the order of first use.
 use Rattle.std.specs.Prelude.{◌≡◌, ◌≢◌, ℕ, ◌+◌, ◌-◌, ◌<◌, ◌≤◌, false, List, ◌++◌, length, map, take, drop, slice_index}
 use Rattle.std.specs.List.{All, Contains, flat_map}
-use Rattle.btf_types.specs.Names.{with_nul, place_in}
-use Rattle.btf_types.specs.Reading.{text_from}
+use Rattle.btf_types.specs.{Names.with_nul, Names.place_in, Reading.text_from, strings.CommonTails.at_rank}
 use Rattle.btf_types.specs.strings.SharedNames.{is_suffix, hosts, host, shared_table, shared_place}
-use Rattle.btf_types.specs.strings.CommonTails.{at_rank}
 use Rattle.bpf_canon.specs.btf.strings.UsedOffsets.{Used, number_of, used_count}
 use Rattle.bpf_canon.specs.btf.strings.InHost.{host_at, no_host, sorted_in}
-use Rattle.bpf_canon.specs.declared.btf.strings.hosts_by_rank.InHost.{InHost}
-use Rattle.bpf_canon.specs.declared.btf.strings.host_places.Span.{Span}
-use Rattle.bpf_canon.specs.declared.btf.strings.host_places.HostPlaces.{HostPlaces}
-use Rattle.bpf_canon.specs.declared.btf.strings.ranked_texts.RankedTexts.{RankedTexts}
+use Rattle.bpf_canon.specs.declared.btf.strings.{hosts_by_rank.InHost.InHost, ranked_texts.RankedTexts.RankedTexts}
+use Rattle.bpf_canon.specs.declared.btf.strings.host_places.{Span.Span, HostPlaces.HostPlaces}
 
 -- the bytes of the section from the start of a span to the NUL at its end
 abbrev pub span_bytes : List ℕ → Span → List ℕ

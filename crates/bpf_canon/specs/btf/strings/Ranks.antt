@@ -1,8 +1,7 @@
 -- Numbers of sorted strings: the common suffixes of adjacent ones, and the ranks that follow from them.
 use Rattle.std.specs.Prelude.{◌≡◌, ℕ, zero, suc, ◌<◌, ◌≤◌, List, length, slice_index}
-use Rattle.btf_types.specs.strings.CommonTails.{common_tail, at_rank, IsNextHost}
+use Rattle.btf_types.specs.strings.{CommonTails.common_tail, CommonTails.at_rank, CommonTails.IsNextHost, SharedNames.tail_cmp}
 use Rattle.std.specs.List.Sorted.{IsSorted}
-use Rattle.btf_types.specs.strings.SharedNames.{tail_cmp}
 
 -- the length of the common suffix of the string of a rank and the one before it
 abbrev pub common_before : List (List ℕ) → ℕ → ℕ

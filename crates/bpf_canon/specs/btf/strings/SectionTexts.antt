@@ -1,11 +1,8 @@
 -- Strings of a section with keys, and their order.
 use Rattle.std.specs.Prelude.{◌≡◌, ℕ, ◌-◌, min, List, length, map, take, drop}
-use Rattle.std.specs.Ordering.{nat_cmp, on, then_cmp}
-use Rattle.std.specs.declared.cmp.Ordering.{Ordering}
-use Rattle.btf_types.specs.strings.SharedNames.{tail_cmp}
-use Rattle.btf_types.specs.strings.CommonTails.{common_tail}
-use Rattle.bpf_canon.specs.btf.strings.SuffixKeys.{suffix_key}
-use Rattle.bpf_canon.specs.declared.btf.strings.section_texts.SectionText.{SectionText}
+use Rattle.std.specs.{Ordering.nat_cmp, Ordering.on, Ordering.then_cmp, declared.cmp.Ordering.Ordering}
+use Rattle.btf_types.specs.strings.{SharedNames.tail_cmp, CommonTails.common_tail}
+use Rattle.bpf_canon.specs.{btf.strings.SuffixKeys.suffix_key, declared.btf.strings.section_texts.SectionText.SectionText}
 
 -- the bytes from the start to the end of a string, as far as the section reaches
 abbrev pub end_in : List ℕ → SectionText → ℕ

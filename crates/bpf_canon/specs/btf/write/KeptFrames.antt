@@ -1,12 +1,9 @@
 -- The frames of the sections that a table keeps, and the records that they read as. Contracts of private functions cite it.
 use Rattle.std.specs.Prelude.{ℕ, List, ◌++◌}
 use Rattle.std.specs.List.{flat_map}
-use Rattle.btf_types.specs.declared.tables.table.FileSections.{FileSections}
-use Rattle.btf_types.specs.Values.{TypeRecord}
+use Rattle.btf_types.specs.{declared.tables.table.FileSections.FileSections, Values.TypeRecord, Good.has_bit_fields}
 use Rattle.btf_types.specs.Spelling.{kind_number, head_tail, record_vlen, info}
-use Rattle.btf_types.specs.Good.{has_bit_fields}
-use Rattle.btf_types.specs.Reading.{frames_at, records_at}
-use Rattle.btf_types.specs.tables.TableInvariant.{IsTable}
+use Rattle.btf_types.specs.{Reading.frames_at, Reading.records_at, tables.TableInvariant.IsTable}
 use Rattle.bpf_canon.specs.btf.CanonicalBtf.{canonical_flag, words_of_item}
 
 -- all frames and all records, of which the sections are a table

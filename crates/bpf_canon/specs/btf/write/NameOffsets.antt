@@ -1,10 +1,8 @@
 -- The offsets of names in the frames of a section. Contracts of private functions cite it.
 use Rattle.std.specs.Prelude.{◌≡◌, ℕ, ◌+◌, ◌*◌, ◌<◌, List, [], ◌∷◌, IsTrue, slice_index, if◌then◌else◌}
 use Rattle.std.specs.List.{All, Contains, flat_map}
-use Rattle.btf_raw.specs.Kinds.{item_words, has_item_names}
-use Rattle.btf_raw.specs.Frames.{name_word, kind, vlen}
-use Rattle.btf_types.specs.Reading.{tabulate}
-use Rattle.btf_types.specs.strings.SharedNames.{shared_place}
+use Rattle.btf_raw.specs.{Kinds.item_words, Kinds.has_item_names, Frames.name_word, Frames.kind, Frames.vlen}
+use Rattle.btf_types.specs.{Reading.tabulate, strings.SharedNames.shared_place}
 use Rattle.bpf_canon.specs.btf.strings.NamesByPlace.{NamesByPlace, placed_texts}
 
 -- the first 32-bit word of item k

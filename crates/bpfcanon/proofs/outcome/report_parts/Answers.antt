@@ -1,7 +1,5 @@
 use Rattle.std.proofs.Common.{arith, ◌∙◌, sym, List, ℕ, subst}
-use Rattle.std.specs.List.{flat_map}
-use Rattle.std.specs.Borrow.{Bor}
-use Rattle.std.specs.Io.KnownBytes.{Appends}
+use Rattle.std.specs.{List.flat_map, Borrow.Bor, Io.KnownBytes.Appends}
 use Rattle.std.proofs.lemmas.List.{take_all}
 use Rattle.bpfcanon.proofs.OutcomeLemmas.{took_part, took_whole}
 use Rattle.bpfcanon.proofs.outcome.report_parts.Goals as goal

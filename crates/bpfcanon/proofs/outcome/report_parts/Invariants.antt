@@ -1,6 +1,5 @@
 use Rattle.std.proofs.Common.{◌≡◌, take}
-use Rattle.std.specs.List.{flat_map}
-use Rattle.std.specs.Io.KnownBytes.{Appends}
+use Rattle.std.specs.{List.flat_map, Io.KnownBytes.Appends}
 use Rattle.bpfcanon.proofs.outcome.report_parts.Given as goal
 
 abbrev pub invariant-loop-part : goal.invariant-loop-part

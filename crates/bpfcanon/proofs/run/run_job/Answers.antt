@@ -1,7 +1,6 @@
 use Rattle.std.proofs.Common.{rules}
-use Rattle.bpfcanon.proofs.JobLemmas.{ends_answered}
+use Rattle.bpfcanon.proofs.{JobLemmas.ends_answered, CommandsLemmas.InsnCanonLemmas.canon_done, CommandsLemmas.InsnCanonLemmas.canon_stopped}
 use Rattle.bpfcanon.proofs.CommandsLemmas.BtfCanonLemmas.{btf_canon_done, btf_canon_stopped}
-use Rattle.bpfcanon.proofs.CommandsLemmas.InsnCanonLemmas.{canon_done, canon_stopped}
 use Rattle.bpfcanon.proofs.run.run_job.Goals as goal
 
 pub returns-in-Ok : goal.returns-in-Ok

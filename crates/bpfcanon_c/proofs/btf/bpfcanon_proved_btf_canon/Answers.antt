@@ -1,8 +1,6 @@
 -- The answer is that of the call in the byte order of the number, or that the number is of no order.
 use Rattle.std.proofs.Common.{List, ℕ, refl, subst, sym}
-use Rattle.bpfcanon_c.specs.declared.answer.Ending.{Ending}
-use Rattle.bpfcanon_c.specs.Endings.{IsCanonicalBtf, EndsBtf}
-use Rattle.bpfcanon_c.specs.Outputs.{IsBtfCode, EndsOutput}
+use Rattle.bpfcanon_c.specs.{declared.answer.Ending.Ending, Outputs.IsBtfCode, Outputs.EndsOutput, Endings.IsCanonicalBtf, Endings.EndsBtf}
 use Rattle.bpfcanon_c.proofs.Rooms.{ends_in_order}
 use Rattle.bpfcanon_c.proofs.btf.bpfcanon_proved_btf_canon.Goals as goal
 use Rattle.bpfcanon_c.proofs.btf.bpfcanon_proved_btf_canon.Goals.{in-Some, in-None}

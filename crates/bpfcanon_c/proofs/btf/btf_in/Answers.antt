@@ -1,8 +1,7 @@
 -- What was written is the canonical bytes of the types that the file denotes.
 use Rattle.std.proofs.Common.{ap, arith, length, ◌∙◌}
 use Rattle.bpf_canon.proofs.BtfLemmas.CanonicalFiles.{canonical_shortest}
-use Rattle.bpfcanon_c.specs.Endings.{IsCanonicalBtf}
-use Rattle.bpfcanon_c.specs.Outputs.{IsBtfCode}
+use Rattle.bpfcanon_c.specs.{Endings.IsCanonicalBtf, Outputs.IsBtfCode}
 use Rattle.bpfcanon_c.proofs.Rooms.{ends_output}
 use Rattle.bpfcanon_c.proofs.btf.btf_in.Goals as goal
 

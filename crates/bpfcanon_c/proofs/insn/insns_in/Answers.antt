@@ -1,7 +1,6 @@
 -- What was written is the instructions of the file in the other order.
 use Rattle.std.proofs.Common.{ap, length, ◌∙◌}
-use Rattle.bpfcanon_c.specs.Endings.{IsRecoded}
-use Rattle.bpfcanon_c.specs.Outputs.{IsInsnCode}
+use Rattle.bpfcanon_c.specs.{Endings.IsRecoded, Outputs.IsInsnCode}
 use Rattle.bpfcanon_c.proofs.Rooms.{ends_output, recoded_length}
 use Rattle.bpfcanon_c.proofs.insn.insns_in.Goals as goal
 

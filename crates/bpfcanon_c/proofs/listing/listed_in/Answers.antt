@@ -1,8 +1,7 @@
 -- What was written is the instructions of the listing.
 use Rattle.std.proofs.Common.{ap, arith, length, ◌∙◌}
 use Rattle.bpfcanon_c.specs.Listings.{IsLineCode, IsListed}
-use Rattle.bpfcanon_c.proofs.ListedLengths.{listed_fits}
-use Rattle.bpfcanon_c.proofs.Rooms.{ends_output}
+use Rattle.bpfcanon_c.proofs.{ListedLengths.listed_fits, Rooms.ends_output}
 use Rattle.bpfcanon_c.proofs.listing.listed_in.Goals as goal
 
 pub returns-in-Ok : goal.returns-in-Ok

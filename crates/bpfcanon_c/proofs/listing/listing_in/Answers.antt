@@ -1,10 +1,8 @@
 -- What was written is the listing of the instructions of the file.
 use Rattle.std.proofs.Common.{ap, arith, length, ◌∙◌}
 use Rattle.bpf_text.specs.insn.Lines.{listing_of}
-use Rattle.bpfcanon_c.specs.Listings.{IsListing}
-use Rattle.bpfcanon_c.specs.Outputs.{IsInsnCode}
-use Rattle.bpfcanon_c.proofs.ListingLengths.{listing_fits}
-use Rattle.bpfcanon_c.proofs.Rooms.{ends_output}
+use Rattle.bpfcanon_c.specs.{Listings.IsListing, Outputs.IsInsnCode}
+use Rattle.bpfcanon_c.proofs.{ListingLengths.listing_fits, Rooms.ends_output}
 use Rattle.bpfcanon_c.proofs.listing.listing_in.Goals as goal
 
 pub returns-in-Ok-listing : goal.returns-in-Ok-listing

@@ -1,7 +1,6 @@
 use Rattle.std.proofs.Common.{◌≡◌, true, ◌+◌, ◌*◌, ℕ, ap, ◌∙◌}
 use Rattle.std.specs.Prelude.{slice_index}
-use Rattle.btf_raw.specs.Kinds.{item_words, has_item_names}
-use Rattle.btf_raw.specs.Frames.{kind}
+use Rattle.btf_raw.specs.{Kinds.item_words, Kinds.has_item_names, Frames.kind}
 use Rattle.btf_types.proofs.FaultlessLemmas.ItemReads.{item_read}
 use Rattle.btf_types.proofs.reading.item_of.Goals.{then-has_item_names, else-has_item_names}
 use Rattle.btf_types.proofs.reading.item_of.Goals as goal

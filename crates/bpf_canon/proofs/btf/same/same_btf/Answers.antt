@@ -1,7 +1,6 @@
 use Rattle.std.proofs.Common.{◌≡◌}
 use Rattle.std.specs.Cmp.Lexicographic.{told_text}
-use Rattle.bpf_canon.proofs.TestOfEquality.{test_decides}
-use Rattle.bpf_canon.proofs.BtfLemmas.ComparedFiles.{compares}
+use Rattle.bpf_canon.proofs.{TestOfEquality.test_decides, BtfLemmas.ComparedFiles.compares}
 use Rattle.bpf_canon.proofs.btf.same.same_btf.Goals as goal
 
 pub returns-clause-same : goal.returns-clause-same

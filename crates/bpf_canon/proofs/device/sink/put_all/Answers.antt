@@ -1,7 +1,5 @@
 use Rattle.std.proofs.Common.{rules, arith, ◌≡◌, ◌+◌, ◌-◌, ℕ, List, Option, take, drop, length, ◌++◌}
-use Rattle.std.proofs.lemmas.Grind.{common_steps}
-use Rattle.std.proofs.Math.Seq.{take-add}
-use Rattle.std.proofs.KnownBytes.{Appends-trans}
+use Rattle.std.proofs.{lemmas.Grind.common_steps, Math.Seq.take-add, KnownBytes.Appends-trans}
 use Rattle.std.specs.Io.KnownBytes.{Appends}
 use Rattle.bpf_canon.proofs.device.sink.put_all.Goals as goal
 

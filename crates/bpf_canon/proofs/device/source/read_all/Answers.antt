@@ -1,10 +1,8 @@
 use Rattle.std.proofs.Common.{rules, arith, ◌≡◌, ◌≤◌, ◌+◌, ◌++◌, ℕ, List, Result, Ok, Err, IfErr, IsErrAnd, length, take, length-append}
-use Rattle.std.proofs.lemmas.List.{length-take-le}
-use Rattle.std.proofs.KnownBytes.{Consumes-trans}
+use Rattle.std.proofs.{lemmas.List.length-take-le, KnownBytes.Consumes-trans}
 use Rattle.std.specs.Io.KnownBytes.{Consumes}
 use Rattle.bpf_canon.specs.device.Reads.{EndsAmid, read_room}
-use Rattle.bpf_canon.specs.declared.device.source.ReadError.{ReadError}
-use Rattle.bpf_canon.specs.declared.device.source.ReadError.TheVariants.{Memory}
+use Rattle.bpf_canon.specs.declared.device.source.ReadError.{ReadError, TheVariants.Memory}
 use Rattle.bpf_canon.proofs.device.source.read_all.Goals as goal
 
 -- what `?` makes of a failed growth

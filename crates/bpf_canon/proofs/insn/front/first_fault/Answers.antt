@@ -1,6 +1,5 @@
 use Rattle.std.proofs.Common.{◌≡◌, ◌<◌, ◌+◌, Option, Some, IfSome, length, subst}
-use Rattle.bpf_insn.specs.declared.fault.SlotFault.{SlotFault}
-use Rattle.bpf_insn.specs.Faults.{IsInsnFault}
+use Rattle.bpf_insn.specs.{declared.fault.SlotFault.SlotFault, Faults.IsInsnFault}
 use Rattle.bpf_canon.proofs.InsnLemmas.ReadingLemmas.{read_fault}
 use Rattle.bpf_canon.proofs.insn.front.first_fault.Goals as goal
 

@@ -1,7 +1,6 @@
 use Rattle.std.proofs.Common.{arith, ◌≡◌, ◌-◌, ℕ, List, drop, length, take, length-drop}
 use Rattle.std.proofs.lemmas.List.{take_all}
-use Rattle.bpf_canon.proofs.InsnLemmas.ReadingLemmas.{across_more, across_stops}
-use Rattle.bpf_canon.proofs.InsnLemmas.FrontLaws.{front_counts, length-spelling_same}
+use Rattle.bpf_canon.proofs.InsnLemmas.{ReadingLemmas.across_more, ReadingLemmas.across_stops, FrontLaws.front_counts, FrontLaws.length-spelling_same}
 use Rattle.bpf_canon.proofs.insn.front.read_front_across.Goals as goal
 
 -- the rest of a piece, as the code cuts it

@@ -1,8 +1,7 @@
 use Rattle.std.proofs.Common.{rules, ◌≡◌, ◌++◌, ◌∙◌, List, ℕ, length, sym, ap, arith}
 use Rattle.std.proofs.lemmas.Grind.{common_steps}
 use Rattle.bpf_insn.specs.Spelling.{file_of}
-use Rattle.bpf_canon.proofs.InsnLemmas.FrontLaws.{length-file_same}
-use Rattle.bpf_canon.proofs.InsnLemmas.Recoding.{appended_in_place, appended_part}
+use Rattle.bpf_canon.proofs.InsnLemmas.{FrontLaws.length-file_same, Recoding.appended_in_place, Recoding.appended_part}
 use Rattle.bpf_canon.proofs.insn.recode.append_swapped.Goals as goal
 
 pub returns : goal.returns

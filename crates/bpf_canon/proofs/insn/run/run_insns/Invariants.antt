@@ -1,6 +1,5 @@
 use Rattle.std.proofs.Common.{◌≡◌, ◌-◌}
-use Rattle.bpf_canon.specs.Engine.{devices}
-use Rattle.bpf_canon.specs.insn.Run.{limit}
+use Rattle.bpf_canon.specs.{Engine.devices, insn.Run.limit}
 use Rattle.bpf_canon.proofs.InsnLemmas.RunLemmas.{Running}
 use Rattle.bpf_canon.proofs.insn.run.run_insns.Given as goal
 

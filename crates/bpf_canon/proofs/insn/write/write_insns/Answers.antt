@@ -1,12 +1,8 @@
 use Rattle.std.proofs.Common.{◌≡◌, ℕ, zero, suc, ◌+◌, arith, List, [], ◌∷◌, ◌++◌, take, ap, sym, ◌∙◌, append-nil, subst}
 use native.Mathlib.Numerals.{unary_clauses}
-use Rattle.std.proofs.Math.Seq.{take-suc}
+use Rattle.std.proofs.{Math.Seq.take-suc, lemmas.List.Concat.flat_map-append, lemmas.List.Elements.All-append}
 use Rattle.std.specs.List.{All}
-use Rattle.std.proofs.lemmas.List.Concat.{flat_map-append}
-use Rattle.std.proofs.lemmas.List.Elements.{All-append}
-use Rattle.bpf_insn.specs.declared.insn.Insn.{Insn}
-use Rattle.bpf_insn.specs.Table.{IsInsn}
-use Rattle.bpf_insn.specs.Spelling.{InsnFile, file_of, spelling}
+use Rattle.bpf_insn.specs.{declared.insn.Insn.Insn, Table.IsInsn, Spelling.InsnFile, Spelling.file_of, Spelling.spelling}
 use Rattle.bpf_canon.proofs.insn.write.write_insns.Goals as goal
 
 one_insn : (i : Insn) → IsInsn i → All IsInsn (i ∷ [])

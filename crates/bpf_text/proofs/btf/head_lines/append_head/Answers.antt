@@ -1,7 +1,6 @@
 use Rattle.std.proofs.Common.{◌≡◌, ◌++◌, ◌∙◌, ℕ, List, ap}
 use Rattle.std.specs.List.{flat_map}
-use Rattle.btf_types.specs.Names.{head_name}
-use Rattle.btf_types.specs.Values.{head_value}
+use Rattle.btf_types.specs.{Names.head_name, Values.head_value}
 use Rattle.bpf_text.specs.btf.BtfText.{quoted_byte}
 use Rattle.bpf_text.proofs.BtfLemmas.LinePartsLemmas.{appended, head_parts}
 use Rattle.bpf_text.proofs.btf.head_lines.append_head.Goals as goal

@@ -1,7 +1,6 @@
 use Rattle.std.proofs.Common.{◌≡◌, ◌++◌, ◌∙◌, ℕ, List, ap}
 use Rattle.std.specs.List.{flat_map}
-use Rattle.btf_types.specs.Names.{item_name}
-use Rattle.btf_types.specs.Values.{item_value}
+use Rattle.btf_types.specs.{Names.item_name, Values.item_value}
 use Rattle.bpf_text.specs.btf.BtfText.{quoted_byte}
 use Rattle.bpf_text.proofs.BtfLemmas.LinePartsLemmas.{appended, item_parts}
 use Rattle.bpf_text.proofs.btf.item_lines.append_item.Goals as goal

@@ -1,5 +1,4 @@
-use Rattle.std.proofs.Common.{arith, refl, rules}
-use Rattle.std.proofs.lemmas.Grind.{common_steps}
+use Rattle.std.proofs.{Common.arith, Common.refl, Common.rules, lemmas.Grind.common_steps}
 use Rattle.bpf_text.proofs.BtfLemmas.QuotedNameLemmas.{run_ended, run_longer}
 use Rattle.bpf_text.proofs.BtfLemmas.AppendingLemmas.{appends, kept_extended, kept_more}
 use Rattle.bpf_text.proofs.btf.quoted_name.append_quoted_part.Goals as goal

@@ -1,9 +1,7 @@
 use Rattle.std.proofs.Common.{ℕ, List, ◌++◌, ap, ◌∙◌, rules}
-use Rattle.btf_types.specs.Values.{item_value}
-use Rattle.btf_types.specs.tables.TableWords.{record_at}
+use Rattle.btf_types.specs.{Values.item_value, tables.TableWords.record_at}
 use Rattle.bpf_text.specs.btf.BtfText.{item_line}
-use Rattle.bpf_text.proofs.BtfLemmas.BtfTextLemmas.{item_shown}
-use Rattle.bpf_text.proofs.BtfLemmas.AppendingLemmas.{appends, kept_more}
+use Rattle.bpf_text.proofs.BtfLemmas.{BtfTextLemmas.item_shown, AppendingLemmas.appends, AppendingLemmas.kept_more}
 use Rattle.bpf_text.proofs.btf.show.append_items.Goals as goal
 
 pub loop-k-preserved : goal.loop-k-preserved

@@ -1,7 +1,6 @@
 use Rattle.std.proofs.Common.{◌≡◌, ℕ, List, ◌++◌, length, refl, ap, ◌∙◌}
 use Rattle.std.specs.List.{flat_map}
-use Rattle.btf_types.specs.Values.{head_value}
-use Rattle.btf_types.specs.tables.TableWords.{record_at}
+use Rattle.btf_types.specs.{Values.head_value, tables.TableWords.record_at}
 use Rattle.bpf_text.specs.btf.BtfText.{head_line, is_signed, item_line}
 use Rattle.bpf_text.proofs.BtfLemmas.AppendingLemmas.{appended_after}
 use Rattle.bpf_text.proofs.btf.show.append_record.Goals as goal

@@ -1,7 +1,6 @@
 use Rattle.std.proofs.Common.{◌++◌, ◌∙◌, ap}
 use Rattle.bpf_insn.specs.Spelling.{file_of}
-use Rattle.bpf_text.proofs.InsnLemmas.Excludes.{only_memory}
-use Rattle.bpf_text.proofs.InsnLemmas.OneInsn.{one_listing}
+use Rattle.bpf_text.proofs.InsnLemmas.{Excludes.only_memory, OneInsn.one_listing}
 use Rattle.bpf_text.proofs.insn.listing_bytes.read_listing_bytes.Goals as goal
 
 pub returns-in_err-read_lines-clause-all : goal.returns-in_err-read_lines-clause-all

@@ -1,13 +1,11 @@
-use Rattle.std.proofs.Common.{refl, to_z, of_z}
+use Rattle.std.proofs.{Common.refl, Common.to_z, Common.of_z, lemmas.Int.to_z-of_z}
 use Rattle.std.specs.Int.{w32}
-use Rattle.std.proofs.lemmas.Int.{to_z-of_z}
 use Rattle.bpf_insn.specs.declared.insn.WideOf.TheVariants as of
 use Rattle.bpf_insn.specs.declared.insn.Insn.TheVariants as insn
 use Rattle.bpf_text.specs.declared.insn.mnemonic.WideKind.TheVariants as kind
 use Rattle.bpf_text.specs.declared.insn.mnemonic.Mnemonic.TheVariants.{Wide}
 use Rattle.bpf_text.specs.insn.OperandFields.{register_field, imm_field, imm64_field}
-use Rattle.bpf_text.proofs.InsnLemmas.OperandFieldsLemmas.{two_read, three_read}
-use Rattle.bpf_text.proofs.InsnLemmas.MakeTable.{made_ok, made_err}
+use Rattle.bpf_text.proofs.InsnLemmas.{OperandFieldsLemmas.two_read, OperandFieldsLemmas.three_read, MakeTable.made_ok, MakeTable.made_err}
 use Rattle.bpf_text.proofs.insn.make.wide_from_operands.Goals as goal
 
 pub returns-in_err-dst-in-Number : goal.returns-in_err-dst-in-Number

@@ -1,6 +1,5 @@
 use Rattle.std.proofs.Common.{◌≡◌, ◌<◌, get_or, take, ap, ◌∙◌}
-use Rattle.std.specs.Char.{digit_value}
-use Rattle.std.specs.Str.Parse.{digits_value}
+use Rattle.std.specs.{Char.digit_value, Str.Parse.digits_value}
 use Rattle.std.proofs.lemmas.Int.Digits.{digits_more, digits_value_more}
 use Rattle.bpf_text.proofs.InsnLemmas.NumberLemmas.{digit_below}
 use Rattle.bpf_text.proofs.insn.number.digits_magnitude.Goals as goal

@@ -1,6 +1,5 @@
-use Rattle.std.proofs.Common.{to_z, of_z}
+use Rattle.std.proofs.{Common.to_z, Common.of_z, lemmas.Int.to_z-of_z}
 use Rattle.std.specs.Int.{w16}
-use Rattle.std.proofs.lemmas.Int.{to_z-of_z}
 use Rattle.bpf_text.proofs.InsnLemmas.FieldLemmas.{address_some, address_none}
 use Rattle.bpf_text.proofs.insn.operand_fields.address.Goals as goal
 

@@ -1,6 +1,5 @@
-use Rattle.std.proofs.Common.{pos, refl, FitsSigned, to_z, of_z}
+use Rattle.std.proofs.{Common.pos, Common.refl, Common.FitsSigned, Common.to_z, Common.of_z, lemmas.Int.to_z-of_z}
 use Rattle.std.specs.Int.{w32}
-use Rattle.std.proofs.lemmas.Int.{to_z-of_z}
 use Rattle.bpf_insn.specs.declared.insn.Operand.TheVariants.{Imm}
 use Rattle.bpf_text.specs.insn.OperandFields.{source_field}
 use Rattle.bpf_text.proofs.InsnLemmas.FieldLemmas.{count_none, source_fits, source_some}

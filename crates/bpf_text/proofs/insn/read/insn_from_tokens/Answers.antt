@@ -1,7 +1,6 @@
 use Rattle.std.proofs.Common.{◌≡◌, ℕ, List, map, subst}
 use Rattle.bpf_text.specs.insn.Operands.{SpellsOperands}
-use Rattle.bpf_text.proofs.InsnLemmas.OperandsLemmas.{bytes_of}
-use Rattle.bpf_text.proofs.InsnLemmas.OneReading.{one_tokens}
+use Rattle.bpf_text.proofs.InsnLemmas.{OperandsLemmas.bytes_of, OneReading.one_tokens}
 use Rattle.bpf_text.proofs.InsnLemmas.ReadingLemmas.{no_mnemonic, is_mnemonic, no_form, no_form_of_many, tokens_read}
 use Rattle.bpf_text.proofs.insn.read.insn_from_tokens.Goals as goal
 

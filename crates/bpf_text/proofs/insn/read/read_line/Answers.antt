@@ -1,8 +1,7 @@
 use Rattle.std.proofs.Common.{◌≡◌, false}
 use Rattle.std.specs.List.{list_any}
 use Rattle.bpf_text.specs.insn.Tokens.{code_of, is_stray, StartsWithToken}
-use Rattle.bpf_text.proofs.InsnLemmas.TokenLemmas.{none_stray_following}
-use Rattle.bpf_text.proofs.InsnLemmas.ReadingLemmas.{line_cause, line_insn}
+use Rattle.bpf_text.proofs.InsnLemmas.{TokenLemmas.none_stray_following, ReadingLemmas.line_cause, ReadingLemmas.line_insn}
 use Rattle.bpf_text.proofs.insn.read.read_line.Goals as goal
 use Rattle.bpf_text.proofs.insn.read.read_line.Goals.{In-Some-next_token}
 

@@ -1,8 +1,7 @@
 use Rattle.std.proofs.Common.{◌≡◌, ◌∷◌, [], arith}
 use Rattle.std.specs.Option.{option_to_list}
 use Rattle.bpf_text.specs.insn.Listing.{lines_of}
-use Rattle.bpf_text.proofs.InsnLemmas.ListingLemmas.{at_a_fault}
-use Rattle.bpf_text.proofs.InsnLemmas.TakenLines.{none_taken, one_more_taken, all_taken}
+use Rattle.bpf_text.proofs.InsnLemmas.{ListingLemmas.at_a_fault, TakenLines.none_taken, TakenLines.one_more_taken, TakenLines.all_taken}
 use Rattle.bpf_text.proofs.insn.read.read_lines.Goals as goal
 
 pub lines-init : goal.lines-init

@@ -1,6 +1,4 @@
-use Rattle.bpf_text.proofs.InsnLemmas.Excludes.{only_memory}
-use Rattle.bpf_text.proofs.InsnLemmas.OneInsn.{one_listing}
-use Rattle.bpf_text.proofs.InsnLemmas.TakenLines.{listed_from_none}
+use Rattle.bpf_text.proofs.InsnLemmas.{Excludes.only_memory, OneInsn.one_listing, TakenLines.listed_from_none}
 use Rattle.bpf_text.proofs.insn.read.read_listing.Goals as goal
 
 pub returns-in_err-read_lines-clause-all : goal.returns-in_err-read_lines-clause-all

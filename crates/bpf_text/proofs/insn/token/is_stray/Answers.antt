@@ -1,6 +1,5 @@
 use Rattle.std.proofs.Common.{nat_eq, get_or, refl, arith}
-use Rattle.bpf_text.specs.declared.insn.token.TheConstants.{CLASSES}
-use Rattle.bpf_text.specs.insn.Tokens.{is_stray}
+use Rattle.bpf_text.specs.{declared.insn.token.TheConstants.CLASSES, insn.Tokens.is_stray}
 use Rattle.bpf_text.proofs.InsnLemmas.ByteTables.{same_table}
 use Rattle.bpf_text.proofs.insn.token.is_stray.Goals as goal
 

@@ -3,8 +3,7 @@ use Rattle.std.specs.Borrow.{Bor}
 use Rattle.std.proofs.lemmas.List.{map-append, length-map}
 use Rattle.bpf_text.specs.insn.Tokens.{StartsWithToken}
 use Rattle.bpf_text.proofs.InsnLemmas.TokenLemmas.{none_stray_following, token_more}
-use Rattle.bpf_text.proofs.InsnLemmas.Outcomes.{on_ok, on_err}
-use Rattle.bpf_text.proofs.InsnLemmas.TokensExist.{only_more, one_too_many}
+use Rattle.bpf_text.proofs.InsnLemmas.{Outcomes.on_ok, Outcomes.on_err, TokensExist.only_more, TokensExist.one_too_many}
 use Rattle.bpf_text.proofs.insn.token.read_tokens.Goals as goal
 
 abbrev bytes_of : Bor (List ℕ) → List ℕ

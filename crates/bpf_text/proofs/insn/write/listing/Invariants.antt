@@ -1,6 +1,5 @@
 use Rattle.std.proofs.Common.{◌≡◌, ℕ, ◌<◌, take, get_or}
-use Rattle.bpf_insn.specs.declared.insn.Insn.{Insn}
-use Rattle.bpf_insn.specs.Table.{IsInsn}
+use Rattle.bpf_insn.specs.{declared.insn.Insn.Insn, Table.IsInsn}
 use Rattle.bpf_text.specs.insn.Lines.{listing_of}
 use Rattle.bpf_text.proofs.insn.write.listing.Given as goal
 

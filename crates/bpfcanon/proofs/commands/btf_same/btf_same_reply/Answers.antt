@@ -2,8 +2,7 @@ use Rattle.std.proofs.Common.{refl}
 use Rattle.bpfcanon.specs.declared.verb.Verb.TheVariants.{BtfSame}
 use Rattle.bpfcanon.specs.commands.BtfReply.{IsBtfSameReply, first_at_fault, split_beyond}
 use Rattle.bpfcanon.specs.commands.Reply.{limit_of, verdict_line, verdict_outcome}
-use Rattle.bpfcanon.proofs.CommandsLemmas.BtfSameLemmas.{compared, second_faulty}
-use Rattle.bpfcanon.proofs.CommandsLemmas.InsnSameLemmas.{reply_with}
+use Rattle.bpfcanon.proofs.CommandsLemmas.{BtfSameLemmas.compared, BtfSameLemmas.second_faulty, InsnSameLemmas.reply_with}
 use Rattle.bpfcanon.proofs.commands.btf_same.btf_same_reply.Goals as goal
 
 pub returns-in_default : goal.returns-in_default

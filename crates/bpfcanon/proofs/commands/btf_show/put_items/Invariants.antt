@@ -2,8 +2,7 @@ use Rattle.std.proofs.Common.{◌++◌, take}
 use Rattle.std.specs.List.{flat_map}
 use Rattle.btf_types.specs.tables.TableWords.{record_at}
 use Rattle.bpf_text.specs.btf.BtfText.{item_line}
-use Rattle.bpfcanon.specs.Devices.{change}
-use Rattle.bpfcanon.specs.commands.Pieces.{Gathered}
+use Rattle.bpfcanon.specs.{Devices.change, commands.Pieces.Gathered}
 use Rattle.bpfcanon.proofs.commands.btf_show.put_items.Given as goal
 
 abbrev pub invariant-loop-k : goal.invariant-loop-k

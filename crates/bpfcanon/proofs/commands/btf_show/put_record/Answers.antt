@@ -1,5 +1,4 @@
-use Rattle.bpfcanon.proofs.CommandsLemmas.BtfShowLemmas.{record_put, record_stopped}
-use Rattle.bpfcanon.proofs.CommandsLemmas.PiecesLemmas.{gathers_handed}
+use Rattle.bpfcanon.proofs.CommandsLemmas.{BtfShowLemmas.record_put, BtfShowLemmas.record_stopped, PiecesLemmas.gathers_handed}
 use Rattle.bpfcanon.proofs.commands.btf_show.put_record.Goals as goal
 
 pub returns-in_err-put_head : goal.returns-in_err-put_head

@@ -1,7 +1,6 @@
 use Rattle.std.proofs.Common.{take}
 use Rattle.bpf_text.specs.btf.BtfText.{text_of}
-use Rattle.bpfcanon.specs.Devices.{change}
-use Rattle.bpfcanon.specs.commands.Pieces.{Gathered}
+use Rattle.bpfcanon.specs.{Devices.change, commands.Pieces.Gathered}
 use Rattle.bpfcanon.proofs.commands.btf_show.put_types.Given as goal
 
 abbrev pub invariant-loop-index : goal.invariant-loop-index

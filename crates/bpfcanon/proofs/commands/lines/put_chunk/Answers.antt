@@ -1,5 +1,4 @@
-use Rattle.bpfcanon.proofs.CommandsLemmas.LongNameLemmas.{some_quoted}
-use Rattle.bpfcanon.proofs.CommandsLemmas.PiecesLemmas.{gathers_none}
+use Rattle.bpfcanon.proofs.CommandsLemmas.{LongNameLemmas.some_quoted, PiecesLemmas.gathers_none}
 use Rattle.bpfcanon.proofs.commands.lines.put_chunk.Goals as goal
 
 pub returns-in_err-append_quoted_part-clause-gathered :

@@ -1,9 +1,7 @@
 use Rattle.std.proofs.Common.{◌≡◌, ◌++◌, ◌∙◌, ap}
 use Rattle.std.specs.List.{flat_map}
-use Rattle.btf_types.specs.Names.{head_name}
-use Rattle.btf_types.specs.Values.{head_value}
-use Rattle.bpf_text.specs.btf.BtfText.{head_line, quoted_byte}
-use Rattle.bpf_text.specs.btf.LineParts.{head_end, head_fields, head_start}
+use Rattle.btf_types.specs.{Names.head_name, Values.head_value}
+use Rattle.bpf_text.specs.btf.{BtfText.head_line, BtfText.quoted_byte, LineParts.head_end, LineParts.head_fields, LineParts.head_start}
 use Rattle.bpf_text.proofs.BtfLemmas.LinePartsLemmas.{head_parts}
 use Rattle.bpfcanon.proofs.CommandsLemmas.LongNameLemmas.{last_gathers, last_refused, name_unwritten, some_end, some_head}
 use Rattle.bpfcanon.proofs.CommandsLemmas.PiecesLemmas.{gathers_handed, gathers_none}

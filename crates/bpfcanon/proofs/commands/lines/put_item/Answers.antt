@@ -1,9 +1,7 @@
 use Rattle.std.proofs.Common.{◌≡◌, ◌++◌, ◌∙◌, ap}
 use Rattle.std.specs.List.{flat_map}
-use Rattle.btf_types.specs.Names.{item_name}
-use Rattle.btf_types.specs.Values.{item_value}
-use Rattle.bpf_text.specs.btf.BtfText.{item_line, quoted_byte}
-use Rattle.bpf_text.specs.btf.LineParts.{item_end, item_fields, item_start}
+use Rattle.btf_types.specs.{Names.item_name, Values.item_value}
+use Rattle.bpf_text.specs.btf.{BtfText.item_line, BtfText.quoted_byte, LineParts.item_end, LineParts.item_fields, LineParts.item_start}
 use Rattle.bpf_text.proofs.BtfLemmas.LinePartsLemmas.{item_parts}
 use Rattle.bpfcanon.proofs.CommandsLemmas.LongNameLemmas.{last_gathers, last_refused, name_unwritten, some_end, some_item}
 use Rattle.bpfcanon.proofs.CommandsLemmas.PiecesLemmas.{gathers_handed, gathers_none}

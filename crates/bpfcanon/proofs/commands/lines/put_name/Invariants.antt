@@ -1,8 +1,7 @@
 use Rattle.std.proofs.Common.{◌-◌, ◌++◌, length, take}
 use Rattle.std.specs.List.{flat_map}
 use Rattle.bpf_text.specs.btf.BtfText.{quoted_byte}
-use Rattle.bpfcanon.specs.Devices.{change}
-use Rattle.bpfcanon.specs.commands.Pieces.{Gathered}
+use Rattle.bpfcanon.specs.{Devices.change, commands.Pieces.Gathered}
 use Rattle.bpfcanon.proofs.commands.lines.put_name.Given as goal
 
 abbrev pub invariant-loop-start : goal.invariant-loop-start

@@ -1,6 +1,5 @@
 use Rattle.std.proofs.Common.{◌≡◌, false}
-use Rattle.clap.specs.Words.{app_of}
-use Rattle.clap.specs.declared.builder.command.Command.TheViews.{out-Command}
+use Rattle.clap.specs.{Words.app_of, declared.builder.command.Command.TheViews.out-Command}
 use Rattle.bpfcanon.proofs.LineLemmas.OptionsLemmas.{app_up_to}
 use Rattle.bpfcanon.proofs.line.options.with_options.Given as goal
 

@@ -1,7 +1,6 @@
 use Rattle.std.proofs.Common.{◌≡◌, ℕ, ◌<◌, get_or, refl, sym, ap, ◌∙◌, arith}
-use Rattle.bpfcanon.specs.declared.verb.Verb.{Verb}
+use Rattle.bpfcanon.specs.{declared.verb.Verb.Verb, Verbs.all_verbs, Verbs.name_of}
 use Rattle.bpfcanon.specs.declared.verb.Verb.TheVariants.{InsnCanon, InsnShow, InsnRead, InsnGroups, InsnSame, BtfCanon, BtfShow, BtfCheck, BtfSame}
-use Rattle.bpfcanon.specs.Verbs.{all_verbs, name_of}
 use Rattle.bpfcanon.proofs.verb.Verb.named.Goals as goal
 
 -- each command is in the list of all

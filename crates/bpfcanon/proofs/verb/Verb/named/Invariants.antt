@@ -1,6 +1,5 @@
 use Rattle.std.proofs.Common.{◌≡◌, ℕ, ◌<◌, get_or}
-use Rattle.bpfcanon.specs.declared.verb.Verb.TheVariants.{InsnCanon}
-use Rattle.bpfcanon.specs.Verbs.{all_verbs, name_of}
+use Rattle.bpfcanon.specs.{declared.verb.Verb.TheVariants.InsnCanon, Verbs.all_verbs, Verbs.name_of}
 use Rattle.bpfcanon.proofs.verb.Verb.named.Given as goal
 
 abbrev pub invariant-loop-verb : goal.invariant-loop-verb

@@ -1,8 +1,6 @@
 use Rattle.std.proofs.Common.{arith}
-use Rattle.btf_types.proofs.JudgeLemmas.Roles.{NamedType}
+use Rattle.btf_types.proofs.JudgeLemmas.{Roles.NamedType, WordSteps.none_through, WordRoles.element_role, WordRoles.index_role, WordRoles.count_role}
 use Rattle.btf_types.proofs.JudgeLemmas.RecordSteps.{none_yet, first_at, none_at, free_within, of_its_kind, array_end}
-use Rattle.btf_types.proofs.JudgeLemmas.WordRoles.{element_role, index_role, count_role}
-use Rattle.btf_types.proofs.JudgeLemmas.WordSteps.{none_through}
 use Rattle.btf_types.proofs.judge.fields.array_fault.Goals as goal
 
 pub word-requires : goal.word-requires

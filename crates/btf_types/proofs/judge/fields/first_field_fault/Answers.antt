@@ -1,10 +1,7 @@
 use Rattle.std.proofs.Common.{◌+◌, ◌*◌, subst, sym, arith, List, ℕ}
 use Rattle.std.specs.Prelude.{slice_index}
-use Rattle.btf_raw.specs.Cause.{HasNone, LeastByPlace}
-use Rattle.btf_raw.specs.Frames.{IsFrame}
-use Rattle.btf_types.specs.Sections.{SectionWords}
-use Rattle.btf_types.specs.judge.FieldFaults.{FieldFault}
-use Rattle.btf_types.specs.judge.RecordFaults.{IsFaultlessIn, IsLeastIn}
+use Rattle.btf_raw.specs.{Cause.HasNone, Cause.LeastByPlace, Frames.IsFrame}
+use Rattle.btf_types.specs.{Sections.SectionWords, judge.FieldFaults.FieldFault, judge.RecordFaults.IsFaultlessIn, judge.RecordFaults.IsLeastIn}
 use Rattle.btf_types.proofs.JudgeLemmas.FieldSteps.{no_field_fault, first_in_section, faultless_more}
 use Rattle.btf_types.proofs.TableLemmas.SectionSteps.{has_frame, nth_frame}
 use Rattle.btf_types.proofs.judge.fields.first_field_fault.Goals as goal

@@ -1,6 +1,5 @@
 use Rattle.std.proofs.Common.{ℕ, ◌<◌}
-use Rattle.btf_types.specs.judge.RecordFaults.{IsFaultlessIn}
-use Rattle.btf_types.specs.tables.SectionParts.{words_in}
+use Rattle.btf_types.specs.{judge.RecordFaults.IsFaultlessIn, tables.SectionParts.words_in}
 use Rattle.btf_types.proofs.TableLemmas.SectionSteps.{nth_frame}
 use Rattle.btf_types.proofs.judge.fields.first_field_fault.Given as goal
 

@@ -2,11 +2,8 @@ use Rattle.std.proofs.Common.{◌≡◌, ℕ, List, arith, refl}
 use Rattle.std.specs.Prelude.{slice_index}
 use Rattle.btf_raw.specs.Frames.{IsFrame, name_word, kind, vlen}
 use Rattle.btf_types.specs.Sections.{SectionWords}
-use Rattle.btf_types.specs.judge.Checks.{NoCause, SecondFault}
-use Rattle.btf_types.specs.judge.NameFaults.{NameFault}
-use Rattle.btf_types.specs.judge.RecordFaults.{NoneWithin}
-use Rattle.btf_types.proofs.JudgeLemmas.Roles.{OwnName, Info, Third}
-use Rattle.btf_types.proofs.JudgeLemmas.RecordSteps.{none_yet, first_at, none_at}
+use Rattle.btf_types.specs.judge.{Checks.NoCause, Checks.SecondFault, NameFaults.NameFault, RecordFaults.NoneWithin}
+use Rattle.btf_types.proofs.JudgeLemmas.{Roles.OwnName, Roles.Info, Roles.Third, RecordSteps.none_yet, RecordSteps.first_at, RecordSteps.none_at}
 use Rattle.btf_types.proofs.JudgeLemmas.WordRoles.{name_has_role, info_has_role, third_has_role}
 use Rattle.btf_types.proofs.TableLemmas.SectionSteps.{three_words}
 use Rattle.btf_types.proofs.judge.fields.first_words_fault.Goals as goal

@@ -1,9 +1,6 @@
 use Rattle.std.proofs.Common.{◌≡◌, inl, inr, sym, ◌∙◌, arith}
-use Rattle.btf_raw.specs.KindNumbers.{INT, VAR, DECL_TAG}
-use Rattle.btf_raw.specs.Frames.{kind}
-use Rattle.btf_types.proofs.JudgeLemmas.RecordSteps.{fourth_end}
-use Rattle.btf_types.proofs.JudgeLemmas.Roles.{IntWord, Linkage, Component}
-use Rattle.btf_types.proofs.JudgeLemmas.RoleSteps.{judged}
+use Rattle.btf_raw.specs.{KindNumbers.INT, KindNumbers.VAR, KindNumbers.DECL_TAG, Frames.kind}
+use Rattle.btf_types.proofs.JudgeLemmas.{RecordSteps.fourth_end, RoleSteps.judged, Roles.IntWord, Roles.Linkage, Roles.Component}
 use Rattle.btf_types.proofs.JudgeLemmas.WordRoles.{fourth_cases, int_role, linkage_role, component_role}
 use Rattle.btf_types.proofs.judge.fields.fourth_fault.Goals as goal
 

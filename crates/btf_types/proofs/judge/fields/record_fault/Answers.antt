@@ -1,7 +1,6 @@
 use Rattle.std.proofs.Common.{length, arith}
 use Rattle.btf_types.proofs.TableLemmas.SectionSteps.{three_words}
-use Rattle.btf_types.proofs.JudgeLemmas.RecordSteps.{none_yet}
-use Rattle.btf_types.proofs.JudgeLemmas.WordSteps.{first_after, first_of_record, tail_of_record}
+use Rattle.btf_types.proofs.JudgeLemmas.{RecordSteps.none_yet, WordSteps.first_after, WordSteps.first_of_record, WordSteps.tail_of_record}
 use Rattle.btf_types.proofs.judge.fields.record_fault.Goals as goal
 
 pub returns-in-Some : goal.returns-in-Some

@@ -1,8 +1,6 @@
 use Rattle.std.proofs.Common.{◌+◌, ◌*◌, arith}
-use Rattle.btf_types.proofs.JudgeLemmas.Roles.{NamedType}
+use Rattle.btf_types.proofs.JudgeLemmas.{Roles.NamedType, WordSteps.none_through, WordRoles.entry_type_role, WordRoles.entry_free_role}
 use Rattle.btf_types.proofs.JudgeLemmas.RecordSteps.{first_at, none_at, free_within, of_its_kind, entries_end}
-use Rattle.btf_types.proofs.JudgeLemmas.WordRoles.{entry_type_role, entry_free_role}
-use Rattle.btf_types.proofs.JudgeLemmas.WordSteps.{none_through}
 use Rattle.btf_types.proofs.judge.items.entries_fault.Goals as goal
 
 pub word-target-requires : goal.word-target-requires

@@ -1,14 +1,10 @@
 use Rattle.std.proofs.Common.{◌≡◌, ℕ, ◌+◌, ◌*◌, ◌<◌, Bool, List, None, Some, arith}
 use Rattle.std.specs.Prelude.{IsTrue, slice_index}
-use Rattle.btf_raw.specs.Kinds.{is_struct}
-use Rattle.btf_raw.specs.Frames.{IsFrame, kind, vlen, flag}
-use Rattle.btf_types.specs.judge.Checks.{NoCause}
-use Rattle.btf_types.specs.judge.NameFaults.{ItemNameFault, MemberTypeFault}
-use Rattle.btf_types.specs.judge.RecordFaults.{BitFieldsAre, NoneWithin}
-use Rattle.btf_types.specs.Sections.{SectionWords, facts_in}
-use Rattle.btf_types.proofs.JudgeLemmas.Roles.{ItemName, MemberType, MemberPlace}
+use Rattle.btf_raw.specs.{Kinds.is_struct, Frames.IsFrame, Frames.kind, Frames.vlen, Frames.flag}
+use Rattle.btf_types.specs.judge.{Checks.NoCause, RecordFaults.BitFieldsAre, RecordFaults.NoneWithin}
+use Rattle.btf_types.specs.{judge.NameFaults.ItemNameFault, judge.NameFaults.MemberTypeFault, Sections.SectionWords, Sections.facts_in}
+use Rattle.btf_types.proofs.JudgeLemmas.{Roles.ItemName, Roles.MemberType, Roles.MemberPlace, RoleSteps.place_judged, RoleSteps.type_judged}
 use Rattle.btf_types.proofs.JudgeLemmas.RecordSteps.{none_yet, first_at, none_at, members_end}
-use Rattle.btf_types.proofs.JudgeLemmas.RoleSteps.{place_judged, type_judged}
 use Rattle.btf_types.proofs.JudgeLemmas.WordRoles.{member_name_role, member_type_role, member_place_role}
 use Rattle.btf_types.proofs.judge.items.member_fault.Goals as goal
 

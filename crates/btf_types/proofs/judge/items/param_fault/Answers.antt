@@ -1,7 +1,6 @@
 use Rattle.std.proofs.Common.{◌+◌, ◌*◌, arith}
-use Rattle.btf_types.proofs.JudgeLemmas.Roles.{ItemName, NamedType}
+use Rattle.btf_types.proofs.JudgeLemmas.{Roles.ItemName, Roles.NamedType, WordRoles.param_name_role, WordRoles.param_type_role}
 use Rattle.btf_types.proofs.JudgeLemmas.RecordSteps.{none_yet, first_at, none_at, of_its_kind, params_end}
-use Rattle.btf_types.proofs.JudgeLemmas.WordRoles.{param_name_role, param_type_role}
 use Rattle.btf_types.proofs.judge.items.param_fault.Goals as goal
 
 pub word-name-requires : goal.word-name-requires

@@ -1,6 +1,5 @@
 use Rattle.std.proofs.Common.{◌+◌, ◌*◌, length, arith}
-use Rattle.btf_types.proofs.JudgeLemmas.RecordSteps.{params_end}
-use Rattle.btf_types.proofs.JudgeLemmas.WordSteps.{first_after}
+use Rattle.btf_types.proofs.JudgeLemmas.{RecordSteps.params_end, WordSteps.first_after}
 use Rattle.btf_types.proofs.judge.items.params_fault.Goals as goal
 
 pub returns-in-Some : goal.returns-in-Some

@@ -1,12 +1,9 @@
 use Rattle.std.proofs.Common.{◌≡◌, ◌⊎◌, ℕ, ◌+◌, ◌*◌, ◌^◌, ◌<◌, ◌≤◌, [], ◌∷◌, inl, inr, List, length, subst, sym, ◌∙◌, arith}
 use Rattle.std.specs.Prelude.{IsTrue}
-use Rattle.btf_raw.specs.KindNumbers.{ENUM, ENUM64}
-use Rattle.btf_raw.specs.Kinds.{one_of, item_words}
-use Rattle.btf_raw.specs.Frames.{IsFrame, kind, vlen}
-use Rattle.btf_types.proofs.JudgeLemmas.Roles.{ItemName}
+use Rattle.btf_raw.specs.{KindNumbers.ENUM, KindNumbers.ENUM64, Kinds.one_of, Kinds.item_words, Frames.IsFrame, Frames.kind, Frames.vlen}
+use Rattle.btf_types.proofs.JudgeLemmas.{Roles.ItemName, WordSteps.none_through}
 use Rattle.btf_types.proofs.JudgeLemmas.RecordSteps.{first_at, none_at, free_within, values_end}
 use Rattle.btf_types.proofs.JudgeLemmas.WordRoles.{enum_fixed, enum_size, value_name_role, value_free_role}
-use Rattle.btf_types.proofs.JudgeLemmas.WordSteps.{none_through}
 use Rattle.btf_types.proofs.judge.items.values_fault.Goals as goal
 
 -- a value of two or three words begins and ends within those of all values

@@ -1,10 +1,7 @@
 use Rattle.std.proofs.Common.{◌≡◌, Bool, true, false, List, ℕ, subst, arith}
 use Rattle.std.specs.Prelude.{◌↔◌, IsUtf8}
-use Rattle.btf_raw.specs.Names.{TextAt}
-use Rattle.btf_types.specs.Sections.{SectionWords}
-use Rattle.btf_types.specs.judge.Checks.{NoCause, LeastCause}
-use Rattle.btf_types.specs.judge.NameFaults.{ItemNameFault}
-use Rattle.btf_raw.specs.declared.cause.BtfCause.TheVariants.{NameUtf8}
+use Rattle.btf_raw.specs.{Names.TextAt, declared.cause.BtfCause.TheVariants.NameUtf8}
+use Rattle.btf_types.specs.{Sections.SectionWords, judge.Checks.NoCause, judge.Checks.LeastCause, judge.NameFaults.ItemNameFault}
 use Rattle.btf_types.proofs.JudgeLemmas.NameSteps.{utf8_fault, no_item_fault}
 use Rattle.btf_types.proofs.judge.names.item_name_fault.Goals as goal
 

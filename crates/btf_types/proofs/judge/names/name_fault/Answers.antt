@@ -1,8 +1,7 @@
 use Rattle.std.proofs.Common.{sym, subst}
 use Rattle.std.specs.Prelude.{◌==◌, slice_index}
 use Rattle.btf_types.specs.Sections.{SectionWords}
-use Rattle.btf_types.specs.judge.Checks.{IsLeastOf, NoCause}
-use Rattle.btf_types.specs.judge.NameFaults.{NameFault, OwnNameFault, ItemNameFault}
+use Rattle.btf_types.specs.judge.{Checks.IsLeastOf, Checks.NoCause, NameFaults.NameFault, NameFaults.OwnNameFault, NameFaults.ItemNameFault}
 use Rattle.btf_types.proofs.JudgeLemmas.Judging.{judged_same}
 use Rattle.btf_types.proofs.JudgeLemmas.NameSteps.{item_to_name, own_to_name, name_to_own, in_range}
 use Rattle.btf_types.proofs.judge.names.name_fault.Goals as goal

@@ -1,7 +1,6 @@
 use Rattle.std.proofs.Common.{◌≢◌, ◌+◌, ◌*◌, ◌/◌, ◌^◌, ◌<◌, arith}
 use Rattle.std.specs.Prelude.{IsTrue, slice_index}
-use Rattle.btf_raw.specs.Frames.{kind, vlen, flag}
-use Rattle.btf_raw.specs.Kinds.{is_struct}
+use Rattle.btf_raw.specs.{Frames.kind, Frames.vlen, Frames.flag, Kinds.is_struct}
 use Rattle.btf_types.proofs.JudgeLemmas.BitSteps.{member_there, some_width, no_width}
 use Rattle.btf_types.proofs.record_words.Record.has_bit_fields.Goals as goal
 

@@ -1,7 +1,6 @@
 -- The bytes of the part are those of the section.
 use Rattle.std.proofs.Common.{◌-◌, drop, arith}
-use Rattle.std.proofs.lemmas.List.{length-take}
-use Rattle.std.proofs.lemmas.Bool.{eqb-true, eq-eqb}
+use Rattle.std.proofs.lemmas.{List.length-take, Bool.eqb-true, Bool.eq-eqb}
 use Rattle.btf_types.proofs.StringLemmas.LongEnds.{first_in_part, none_in_part}
 use Rattle.btf_types.proofs.tables.string_ends.nul_between.Goals as goal
 

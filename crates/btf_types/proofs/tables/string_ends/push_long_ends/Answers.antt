@@ -1,7 +1,6 @@
 -- Block by block: if a block has a NUL, no long string ends in it; otherwise it is inside one, whose end is stored.
 use Rattle.std.proofs.Common.{◌+◌, [], ◌∷◌, length, ◌∙◌, inl, inr, refl, arith}
-use Rattle.std.proofs.Math.Seq.{drop-length, take-length}
-use Rattle.std.proofs.lemmas.List.{drop-append-le, take-append-le, length-append}
+use Rattle.std.proofs.{Math.Seq.drop-length, Math.Seq.take-length, lemmas.List.drop-append-le, lemmas.List.take-append-le, lemmas.List.length-append}
 use Rattle.btf_types.proofs.StringLemmas.LongEnds.{none_yet, more_bytes, one_end_more, nul_after}
 use Rattle.btf_types.proofs.tables.string_ends.push_long_ends.Goals as goal
 

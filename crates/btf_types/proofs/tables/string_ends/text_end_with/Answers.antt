@@ -1,6 +1,5 @@
 -- No NUL is near, so the string is long and its end is one of the stored ones.
-use Rattle.std.proofs.Common.{rules, of_calls, ℕ, nat_lt}
-use Rattle.std.proofs.lemmas.Fn.{always_returns_same}
+use Rattle.std.proofs.{Common.rules, Common.of_calls, Common.ℕ, Common.nat_lt, lemmas.Fn.always_returns_same}
 use Rattle.btf_types.proofs.StringLemmas.LongEnds.{found_among, ends_part}
 use Rattle.btf_types.proofs.tables.string_ends.text_end_with.Goals as goal
 

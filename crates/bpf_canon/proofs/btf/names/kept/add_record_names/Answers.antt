@@ -1,7 +1,5 @@
 use Rattle.std.proofs.Common.{ℕ, List, [], ◌∷◌, ◌++◌, map, take, ap, ◌∙◌}
-use Rattle.btf_types.specs.Names.{kept, head_name, item_name}
-use Rattle.btf_types.specs.Values.{item_value}
-use Rattle.btf_types.specs.tables.TableWords.{record_at}
+use Rattle.btf_types.specs.{Names.kept, Names.head_name, Names.item_name, Values.item_value, tables.TableWords.record_at}
 use Rattle.bpf_canon.proofs.BtfLemmas.Names.Gathering.{item_names_more}
 use Rattle.bpf_canon.proofs.btf.names.kept.add_record_names.Goals as goal
 

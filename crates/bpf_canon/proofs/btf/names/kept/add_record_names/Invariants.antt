@@ -1,6 +1,5 @@
 use Rattle.std.proofs.Common.{◌∷◌, map, take}
-use Rattle.btf_types.specs.Names.{head_name, item_name}
-use Rattle.btf_types.specs.tables.TableWords.{record_at}
+use Rattle.btf_types.specs.{Names.head_name, Names.item_name, tables.TableWords.record_at}
 use Rattle.bpf_canon.specs.btf.names.Interned.{AddsNames}
 use Rattle.bpf_canon.proofs.btf.names.kept.add_record_names.Given as goal
 

@@ -1,9 +1,7 @@
 use Rattle.std.proofs.Common.{◌≡◌, ℕ, ◌+◌, ◌<◌, ◌≤◌, List, [], length, get_or, set, sym, ap, ◌∙◌, subst, arith, Bor}
-use Rattle.btf_types.specs.Names.{table_of}
-use Rattle.btf_types.specs.strings.SharedNames.{hosts_of}
+use Rattle.btf_types.specs.{Names.table_of, strings.SharedNames.hosts_of}
 use Rattle.bpf_canon.specs.btf.names.Interned.{lent_texts}
-use Rattle.bpf_canon.proofs.BtfLemmas.Names.HostSearch.{text_at, texts_length}
-use Rattle.bpf_canon.proofs.BtfLemmas.Names.HostSteps.{kept_apart}
+use Rattle.bpf_canon.proofs.BtfLemmas.Names.{HostSearch.text_at, HostSearch.texts_length, HostSteps.kept_apart}
 use Rattle.bpf_canon.proofs.BtfLemmas.Names.HostTable.{PlacedTo, placed_own, placed_other, placed_room, placed_all}
 use Rattle.bpf_canon.proofs.btf.names.shared.placed_hosts.Goals as goal
 use Rattle.bpf_canon.proofs.btf.names.shared.placed_hosts.Goals.{then-hosts-index, else-hosts-index}

@@ -3,8 +3,7 @@ use Rattle.std.specs.Ordering.{is_lt}
 use Rattle.std.proofs.lemmas.List.Sorted.{answers_always, ranks_by}
 use Rattle.btf_types.specs.strings.SharedNames.{tail_cmp}
 use Rattle.btf_types.proofs.StringLemmas.Hosts.{tail_lt, tail_total}
-use Rattle.bpf_canon.proofs.BtfLemmas.Names.HostIndices.{Named}
-use Rattle.bpf_canon.proofs.BtfLemmas.Names.IndexedNames.{IndexedTo, indexed_sorted}
+use Rattle.bpf_canon.proofs.BtfLemmas.Names.{HostIndices.Named, IndexedNames.IndexedTo, IndexedNames.indexed_sorted}
 use Rattle.bpf_canon.proofs.btf.names.shared.sorted_from_end.Goals as goal
 
 pub returns : goal.returns

@@ -1,10 +1,7 @@
 use Rattle.std.proofs.Common.{◌≡◌, ℕ, ◌+◌, ◌<◌, List, length, map, get_or, take, arith, subst, sym, ap, ◌∙◌}
 use Rattle.std.proofs.lemmas.List.{take_all, get_or_read}
 use Rattle.btf_types.specs.Reading.{text_from}
-use Rattle.bpf_canon.specs.btf.strings.InHost.{no_host}
-use Rattle.bpf_canon.specs.btf.strings.UsedOffsets.{number_of}
-use Rattle.bpf_canon.specs.btf.strings.HostPlaces.{IsSpan, HasText}
-use Rattle.bpf_canon.specs.btf.strings.SectionTexts.{text_in}
+use Rattle.bpf_canon.specs.btf.strings.{InHost.no_host, SectionTexts.text_in, UsedOffsets.number_of, HostPlaces.IsSpan, HostPlaces.HasText}
 use Rattle.bpf_canon.proofs.BtfLemmas.Strings.PlacedHosts.{host_places}
 use Rattle.bpf_canon.proofs.BtfLemmas.Strings.HostPlaceSteps.{LaidTo, skips_empty, skips_other, skips_placed, placed_inside, lays_read, laid_room, laid_all}
 use Rattle.bpf_canon.proofs.btf.strings.host_places.place_hosts.Goals as goal

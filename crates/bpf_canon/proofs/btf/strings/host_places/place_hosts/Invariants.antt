@@ -1,8 +1,7 @@
 use Rattle.std.proofs.Common.{map, take}
 use Rattle.btf_types.specs.Reading.{text_from}
 use Rattle.bpf_canon.specs.btf.strings.SectionTexts.{text_in}
-use Rattle.bpf_canon.proofs.BtfLemmas.Strings.PlacedHosts.{host_places}
-use Rattle.bpf_canon.proofs.BtfLemmas.Strings.HostPlaceSteps.{LaidTo}
+use Rattle.bpf_canon.proofs.BtfLemmas.Strings.{PlacedHosts.host_places, HostPlaceSteps.LaidTo}
 use Rattle.bpf_canon.proofs.btf.strings.host_places.place_hosts.Given as goal
 
 abbrev pub invariant-loop-k : goal.invariant-loop-k

@@ -1,7 +1,5 @@
 use Rattle.std.proofs.Common.{◌≡◌, ℕ, ◌+◌, ◌-◌, ◌<◌, refl, length, map, set, arith, subst, sym}
-use Rattle.bpf_canon.specs.btf.strings.SectionTexts.{text_in}
-use Rattle.bpf_canon.specs.btf.strings.InHost.{HostsTo}
-use Rattle.bpf_canon.specs.btf.strings.UsedOffsets.{offset_number}
+use Rattle.bpf_canon.specs.btf.strings.{SectionTexts.text_in, InHost.HostsTo, UsedOffsets.offset_number}
 use Rattle.bpf_canon.specs.declared.btf.strings.hosts_by_rank.InHost.{InHost}
 use Rattle.bpf_canon.proofs.BtfLemmas.Strings.InHostSteps.{hosts_more, steps_alone, alone_read, finds_read}
 use Rattle.bpf_canon.proofs.btf.strings.hosts_by_rank.find_alone.Goals as goal

@@ -1,6 +1,5 @@
 use Rattle.std.proofs.Common.{map}
-use Rattle.bpf_canon.specs.btf.strings.SectionTexts.{text_in}
-use Rattle.bpf_canon.specs.btf.strings.InHost.{HostsTo}
+use Rattle.bpf_canon.specs.btf.strings.{SectionTexts.text_in, InHost.HostsTo}
 use Rattle.bpf_canon.proofs.btf.strings.hosts_by_rank.find_alone.Given as goal
 
 abbrev pub invariant-loop-rank : goal.invariant-loop-rank

@@ -1,8 +1,6 @@
 use Rattle.std.proofs.Common.{◌≡◌, List, length, map, drop, arith, subst, sym}
 use Rattle.std.proofs.lemmas.List.{take_at}
-use Rattle.bpf_canon.specs.btf.strings.SectionTexts.{text_in}
-use Rattle.bpf_canon.specs.btf.strings.InHost.{AreInHosts}
-use Rattle.bpf_canon.specs.declared.btf.strings.hosts_by_rank.InHost.{InHost}
+use Rattle.bpf_canon.specs.{btf.strings.SectionTexts.text_in, btf.strings.InHost.AreInHosts, declared.btf.strings.hosts_by_rank.InHost.InHost}
 use Rattle.bpf_canon.proofs.BtfLemmas.Strings.InHostSteps.{hosts_all}
 use Rattle.bpf_canon.proofs.btf.strings.hosts_by_rank.find_hosts.Goals as goal
 

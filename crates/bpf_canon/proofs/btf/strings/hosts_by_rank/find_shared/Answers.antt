@@ -1,6 +1,5 @@
 use Rattle.std.proofs.Common.{◌≡◌, length, map, arith, subst}
-use Rattle.bpf_canon.specs.btf.strings.SectionTexts.{text_in}
-use Rattle.bpf_canon.specs.btf.strings.InHost.{HostsTo}
+use Rattle.bpf_canon.specs.btf.strings.{SectionTexts.text_in, InHost.HostsTo}
 use Rattle.bpf_canon.proofs.BtfLemmas.Strings.InHostSteps.{hosts_more}
 use Rattle.bpf_canon.proofs.btf.strings.hosts_by_rank.find_shared.Goals as goal
 

@@ -1,7 +1,5 @@
 use Rattle.std.proofs.Common.{◌≡◌, ◌≢◌, ℕ, refl, ◌+◌, ◌-◌, List, map, get_or, set, arith, subst, sym, ap, ◌∙◌}
-use Rattle.bpf_canon.specs.btf.strings.SectionTexts.{text_in}
-use Rattle.bpf_canon.specs.btf.strings.InHost.{no_text}
-use Rattle.bpf_canon.specs.btf.strings.UsedOffsets.{offset_number}
+use Rattle.bpf_canon.specs.btf.strings.{SectionTexts.text_in, InHost.no_text, UsedOffsets.offset_number}
 use Rattle.bpf_canon.specs.declared.btf.strings.hosts_by_rank.InHost.{InHost}
 use Rattle.bpf_canon.proofs.BtfLemmas.Strings.InHostSteps.{WithinTo, steps_back, within_skips, within_finds}
 use Rattle.bpf_canon.proofs.btf.strings.hosts_by_rank.find_within.Goals as goal

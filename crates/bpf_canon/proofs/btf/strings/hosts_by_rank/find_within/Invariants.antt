@@ -1,6 +1,5 @@
 use Rattle.std.proofs.Common.{map, get_or}
-use Rattle.bpf_canon.specs.btf.strings.SectionTexts.{text_in}
-use Rattle.bpf_canon.specs.btf.strings.InHost.{no_text}
+use Rattle.bpf_canon.specs.btf.strings.{SectionTexts.text_in, InHost.no_text}
 use Rattle.bpf_canon.proofs.BtfLemmas.Strings.InHostSteps.{WithinTo}
 use Rattle.bpf_canon.proofs.btf.strings.hosts_by_rank.find_within.Given as goal
 

@@ -1,7 +1,6 @@
 use Rattle.std.proofs.Common.{◌≡◌, ◌≢◌, ◌+◌, ◌-◌, take, drop, List, [], ◌∷◌, ◌++◌, get_or, refl, subst, sym, rules}
 use Rattle.bpf_canon.specs.declared.btf.strings.section_texts.SectionText.{SectionText}
-use Rattle.bpf_canon.specs.btf.strings.SuffixKeys.{suffix_key}
-use Rattle.bpf_canon.specs.btf.strings.SectionTexts.{text_before}
+use Rattle.bpf_canon.specs.btf.strings.{SuffixKeys.suffix_key, SectionTexts.text_before}
 use Rattle.bpf_canon.proofs.BtfLemmas.Strings.LongestSteps.{LongestTo, longest_push}
 use Rattle.bpf_canon.proofs.btf.strings.longest.longest_texts.Goals as goal
 

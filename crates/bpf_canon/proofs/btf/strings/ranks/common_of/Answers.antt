@@ -1,7 +1,6 @@
 use Rattle.std.proofs.Common.{rules, ◌≡◌, ℕ, ◌<◌, ◌≤◌, ◌+◌, ◌-◌, min, List, length, get_or, ap, ◌∙◌, arith}
 use Rattle.bpf_canon.specs.btf.strings.SectionTexts.{text_in}
-use Rattle.bpf_canon.proofs.BtfLemmas.Strings.SortedTexts.{text_bytes, front_bytes}
-use Rattle.bpf_canon.proofs.BtfLemmas.Strings.KeyBytes.{common_by_keys, common_by_both_keys}
+use Rattle.bpf_canon.proofs.BtfLemmas.Strings.{SortedTexts.text_bytes, SortedTexts.front_bytes, KeyBytes.common_by_keys, KeyBytes.common_by_both_keys}
 use Rattle.bpf_canon.proofs.btf.strings.ranks.common_of.Goals as goal
 
 pub returns-then-common-lt8-clause-common : goal.returns-then-common-lt8-clause-common

@@ -1,7 +1,6 @@
 use Rattle.std.proofs.Common.{◌≡◌, ℕ, ◌<◌, ◌+◌, [], ◌∷◌, ◌++◌, length, map, get_or, arith, ◌∙◌, sym, ap, subst, List}
 use Rattle.std.proofs.lemmas.List.{length_push}
-use Rattle.bpf_canon.specs.btf.strings.Ranks.{common_before}
-use Rattle.bpf_canon.specs.btf.strings.SectionTexts.{text_in}
+use Rattle.bpf_canon.specs.btf.strings.{Ranks.common_before, SectionTexts.text_in}
 use Rattle.bpf_canon.specs.declared.btf.strings.section_texts.SectionText.{SectionText}
 use Rattle.bpf_canon.proofs.BtfLemmas.Strings.RankSteps.{common_first, common_here, common_more}
 use Rattle.bpf_canon.proofs.btf.strings.ranks.common_suffixes.Goals as goal

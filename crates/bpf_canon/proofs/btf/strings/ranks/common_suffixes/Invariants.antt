@@ -1,7 +1,6 @@
 use Rattle.std.proofs.Common.{◌≡◌, ℕ, ◌<◌, length, map}
 use Rattle.std.specs.Prelude.{slice_index}
-use Rattle.bpf_canon.specs.btf.strings.Ranks.{common_before}
-use Rattle.bpf_canon.specs.btf.strings.SectionTexts.{text_in}
+use Rattle.bpf_canon.specs.btf.strings.{Ranks.common_before, SectionTexts.text_in}
 use Rattle.bpf_canon.proofs.btf.strings.ranks.common_suffixes.Given as goal
 
 abbrev pub invariant-loop-k : goal.invariant-loop-k

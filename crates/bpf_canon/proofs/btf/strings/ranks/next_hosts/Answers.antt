@@ -1,8 +1,7 @@
 use Rattle.std.proofs.Common.{◌≡◌, ℕ, ◌<◌, ◌≤◌, ◌+◌, ◌-◌, [], length, map, get_or, arith, ◌∙◌, sym, ap, subst, List}
 use Rattle.std.proofs.lemmas.List.{get_or-map, length-map, length-set, get_or_read}
 use Rattle.btf_types.specs.strings.CommonTails.{at_rank, IsNextHost}
-use Rattle.bpf_canon.specs.btf.strings.Ranks.{common_before}
-use Rattle.bpf_canon.specs.btf.strings.SectionTexts.{text_in}
+use Rattle.bpf_canon.specs.btf.strings.{Ranks.common_before, SectionTexts.text_in}
 use Rattle.bpf_canon.specs.declared.btf.strings.section_texts.SectionText.{SectionText}
 use Rattle.bpf_canon.proofs.BtfLemmas.Strings.RankSteps.{next_own, next_taken, hosts_step}
 use Rattle.bpf_canon.proofs.btf.strings.ranks.next_hosts.Goals as goal

@@ -1,7 +1,6 @@
 use Rattle.std.proofs.Common.{◌≡◌, ◌<◌, ℕ, ap, rules, get_or}
 use Rattle.std.specs.Ordering.{is_lt}
-use Rattle.std.proofs.lemmas.Fn.{always_returns_same}
-use Rattle.std.proofs.lemmas.List.Sorted.{ranks_by, All-permutation}
+use Rattle.std.proofs.lemmas.{Fn.always_returns_same, List.Sorted.ranks_by, List.Sorted.All-permutation}
 use Rattle.bpf_canon.specs.btf.strings.SectionTexts.{HasKey, compared}
 use Rattle.bpf_canon.proofs.BtfLemmas.Strings.SortedTexts.{compared_total, sorted_texts}
 use Rattle.bpf_canon.proofs.btf.strings.section_texts.sort_texts.Goals as goal

@@ -1,10 +1,7 @@
 use Rattle.std.proofs.Common.{◌≡◌, ◌*◌, ◌+◌, ℕ, sym, ap, ◌∙◌, arith}
 use Rattle.std.specs.Prelude.{slice_index}
-use Rattle.bpf_canon.specs.btf.strings.FirstUses.{noted}
-use Rattle.bpf_canon.specs.btf.write.NameOffsets.{item_word, IsBelow}
-use Rattle.bpf_canon.proofs.BtfLemmas.Names.NoteSteps.{item_noted}
-use Rattle.bpf_canon.proofs.BtfLemmas.Write.RecordNames.{item_is}
-use Rattle.bpf_canon.proofs.BtfLemmas.Write.RecordWords.{item_room}
+use Rattle.bpf_canon.specs.btf.{strings.FirstUses.noted, write.NameOffsets.item_word, write.NameOffsets.IsBelow}
+use Rattle.bpf_canon.proofs.BtfLemmas.{Names.NoteSteps.item_noted, Write.RecordNames.item_is, Write.RecordWords.item_room}
 use Rattle.bpf_canon.proofs.btf.write.name_uses.note_items.Goals as goal
 
 pub note-requires : goal.note-requires

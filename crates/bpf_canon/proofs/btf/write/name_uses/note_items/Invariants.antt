@@ -1,7 +1,6 @@
 use Rattle.std.proofs.Common.{◌≡◌}
 use Rattle.btf_types.specs.Reading.{tabulate}
-use Rattle.bpf_canon.specs.btf.strings.FirstUses.{noted_all}
-use Rattle.bpf_canon.specs.btf.write.NameOffsets.{item_word}
+use Rattle.bpf_canon.specs.btf.{strings.FirstUses.noted_all, write.NameOffsets.item_word}
 use Rattle.bpf_canon.proofs.btf.write.name_uses.note_items.Given as goal
 
 -- the items so far

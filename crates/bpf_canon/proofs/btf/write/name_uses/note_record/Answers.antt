@@ -1,6 +1,5 @@
 use Rattle.std.proofs.Common.{sym, ap, ◌∙◌, subst, arith}
-use Rattle.btf_raw.specs.Kinds.{item_words, has_item_names}
-use Rattle.btf_raw.specs.Frames.{name_word}
+use Rattle.btf_raw.specs.{Kinds.item_words, Kinds.has_item_names, Frames.name_word}
 use Rattle.bpf_canon.specs.btf.write.NameOffsets.{IsBelow}
 use Rattle.bpf_canon.proofs.BtfLemmas.Write.RecordNames.{own_offset}
 use Rattle.bpf_canon.proofs.btf.write.name_uses.note_record.Goals as goal

@@ -4,8 +4,7 @@ use Rattle.std.specs.List.{All}
 use Rattle.btf_raw.specs.Frames.{IsFrame}
 use Rattle.btf_types.specs.Reading.{frame_at, frames_at}
 use Rattle.btf_types.proofs.TableLemmas.TableReads.{has_record_at}
-use Rattle.bpf_canon.specs.btf.strings.FirstUses.{noted_all}
-use Rattle.bpf_canon.specs.btf.write.NameOffsets.{name_offsets, all_offsets, IsBelow}
+use Rattle.bpf_canon.specs.btf.{strings.FirstUses.noted_all, write.NameOffsets.name_offsets, write.NameOffsets.all_offsets, write.NameOffsets.IsBelow}
 use Rattle.bpf_canon.proofs.BtfLemmas.Names.NoteSteps.{record_noted, names_inside}
 use Rattle.bpf_canon.proofs.btf.write.name_uses.noted_names.Goals as goal
 

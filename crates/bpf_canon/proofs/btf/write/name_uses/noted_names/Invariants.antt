@@ -1,7 +1,6 @@
 use Rattle.std.proofs.Common.{◌≡◌, [], length, take}
 use Rattle.btf_types.specs.Reading.{frames_at}
-use Rattle.bpf_canon.specs.btf.strings.FirstUses.{noted_all}
-use Rattle.bpf_canon.specs.btf.write.NameOffsets.{all_offsets}
+use Rattle.bpf_canon.specs.btf.{strings.FirstUses.noted_all, write.NameOffsets.all_offsets}
 use Rattle.bpf_canon.proofs.btf.write.name_uses.noted_names.Given as goal
 
 -- the records so far

@@ -1,9 +1,7 @@
 use Rattle.std.proofs.Common.{◌≡◌, ◌≢◌, ◌%◌, ◌^◌, ℕ, true, false, sym, ap, ◌∙◌, bit_and}
 use Rattle.std.proofs.lemmas.Nat.{and_mask}
-use Rattle.btf_raw.specs.Kinds.{flag_of, is_struct}
-use Rattle.btf_raw.specs.Frames.{kind, flag}
-use Rattle.btf_types.specs.Good.{has_bit_fields}
-use Rattle.btf_types.specs.Reading.{record_of}
+use Rattle.btf_raw.specs.{Kinds.flag_of, Kinds.is_struct, Frames.kind, Frames.flag}
+use Rattle.btf_types.specs.{Good.has_bit_fields, Reading.record_of}
 use Rattle.bpf_canon.proofs.BtfLemmas.Write.RecordWords.{items_few, bit_fields_same, unmarked_record, info_of_others, info_unmarked, info_wide, info_cleared}
 use Rattle.bpf_canon.proofs.btf.write.records.canonical_info.Goals.{then-flag_of-eq0-via-then-flag_of-eq0, then-flag_of-eq0-via-else-flag_of-eq0+then-not-is_struct}
 use Rattle.bpf_canon.proofs.btf.write.records.canonical_info.Goals as goal

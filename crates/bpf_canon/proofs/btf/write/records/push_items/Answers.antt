@@ -1,6 +1,5 @@
 use Rattle.std.proofs.Common.{◌≡◌, ℕ, ◌*◌, ◌+◌, [], ◌∷◌, ◌++◌, ap, ◌∙◌, arith, take}
-use Rattle.std.specs.Prelude.{slice_index}
-use Rattle.std.specs.List.{Contains}
+use Rattle.std.specs.{Prelude.slice_index, List.Contains}
 use Rattle.btf_raw.specs.Frames.{bytes_of}
 use Rattle.btf_types.specs.Reading.{item_total, text_from}
 use Rattle.bpf_canon.specs.btf.write.NameOffsets.{placed}

@@ -2,13 +2,10 @@ use Rattle.std.proofs.Common.{◌++◌, ◌<◌, ℕ, List, length, map, take, g
 use Rattle.std.specs.List.{All, Contains}
 use Rattle.std.proofs.lemmas.List.{take_all}
 use Rattle.btf_raw.specs.Frames.{bytes_of, section_of}
-use Rattle.btf_types.specs.Reading.{records_at, record_of}
+use Rattle.btf_types.specs.{Reading.records_at, Reading.record_of, Sections.frame_of}
 use Rattle.btf_types.proofs.TableLemmas.TableReads.{has_record_at}
-use Rattle.bpf_canon.specs.btf.CanonicalBtf.{record_words}
-use Rattle.btf_types.specs.Sections.{frame_of}
-use Rattle.bpf_canon.specs.btf.write.NameOffsets.{name_offsets, placed}
-use Rattle.bpf_canon.proofs.BtfLemmas.Write.RecordNames.{record_offsets}
-use Rattle.bpf_canon.proofs.BtfLemmas.Write.RecordWords.{record_more}
+use Rattle.bpf_canon.specs.btf.{CanonicalBtf.record_words, write.NameOffsets.name_offsets, write.NameOffsets.placed}
+use Rattle.bpf_canon.proofs.BtfLemmas.Write.{RecordNames.record_offsets, RecordWords.record_more}
 use Rattle.bpf_canon.proofs.btf.write.records.push_records.Goals as goal
 
 pub record_at-this-requires : goal.record_at-this-requires

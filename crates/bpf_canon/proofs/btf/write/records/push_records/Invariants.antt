@@ -1,8 +1,7 @@
 use Rattle.std.proofs.Common.{◌≡◌, ◌++◌, map, take}
 use Rattle.btf_raw.specs.Frames.{section_of}
 use Rattle.btf_types.specs.Reading.{records_at}
-use Rattle.bpf_canon.specs.btf.CanonicalBtf.{record_words}
-use Rattle.bpf_canon.specs.btf.write.NameOffsets.{placed}
+use Rattle.bpf_canon.specs.btf.{CanonicalBtf.record_words, write.NameOffsets.placed}
 use Rattle.bpf_canon.proofs.btf.write.records.push_records.Given as goal
 
 -- the records so far

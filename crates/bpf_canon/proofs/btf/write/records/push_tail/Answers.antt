@@ -1,7 +1,6 @@
 use Rattle.std.proofs.Common.{◌≡◌, ◌+◌, ◌++◌, ℕ, List, true, false, sym, ap, ◌∙◌}
 use Rattle.std.proofs.lemmas.Result.{on_ok_weaker}
-use Rattle.btf_raw.specs.Kinds.{item_words, tail_words, has_item_names}
-use Rattle.btf_raw.specs.Frames.{bytes_of, kind, vlen}
+use Rattle.btf_raw.specs.{Kinds.item_words, Kinds.tail_words, Kinds.has_item_names, Frames.bytes_of, Frames.kind, Frames.vlen}
 use Rattle.bpf_canon.specs.btf.write.NameOffsets.{placed}
 use Rattle.bpf_canon.proofs.BtfLemmas.Write.RecordWords.{rest_words, items_are_tail}
 use Rattle.bpf_canon.proofs.btf.write.records.push_tail.Goals as goal

@@ -1,9 +1,7 @@
 use Rattle.std.proofs.Common.{◌≡◌, ℕ, List, [], map, sym, ap, ◌∙◌, subst, arith}
 use Rattle.std.specs.List.{All, Contains}
-use Rattle.btf_types.specs.Names.{kept, names}
-use Rattle.btf_types.specs.Reading.{text_from, frames_at, records_at}
-use Rattle.bpf_canon.specs.btf.strings.FirstUses.{noted_all}
-use Rattle.bpf_canon.specs.btf.write.NameOffsets.{all_offsets}
+use Rattle.btf_types.specs.{Names.kept, Names.names, Reading.text_from, Reading.frames_at, Reading.records_at}
+use Rattle.bpf_canon.specs.btf.{strings.FirstUses.noted_all, write.NameOffsets.all_offsets}
 use Rattle.bpf_canon.proofs.BtfLemmas.Write.SectionFiles.{each_noted, kept_uses, table_low}
 use Rattle.bpf_canon.proofs.btf.write.sections.write_sections.Goals as goal
 

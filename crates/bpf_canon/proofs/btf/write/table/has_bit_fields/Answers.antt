@@ -1,6 +1,5 @@
 use Rattle.std.proofs.Common.{sym}
-use Rattle.btf_types.specs.Values.{item_value}
-use Rattle.btf_types.specs.tables.TableWords.{record_at}
+use Rattle.btf_types.specs.{Values.item_value, tables.TableWords.record_at}
 use Rattle.bpf_canon.proofs.BtfLemmas.Write.WriteSteps.{width_found, width_missed}
 use Rattle.bpf_canon.proofs.btf.write.table.has_bit_fields.Goals as goal
 

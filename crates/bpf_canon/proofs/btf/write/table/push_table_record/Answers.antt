@@ -2,14 +2,9 @@ use Rattle.std.proofs.Common.{◌++◌, ℕ, List, length, refl, sym, subst, ap,
 use Rattle.std.specs.List.{flat_map}
 use Rattle.std.proofs.lemmas.List.{take_all}
 use Rattle.btf_raw.specs.Frames.{bytes_of}
-use Rattle.btf_types.specs.Values.{TypeHead, TypeItem, item_value}
-use Rattle.btf_types.specs.Names.{head_name}
-use Rattle.btf_types.specs.strings.SharedNames.{shared_among}
-use Rattle.btf_types.specs.Good.{has_bit_fields}
-use Rattle.btf_types.specs.tables.TableWords.{record_at}
-use Rattle.bpf_canon.specs.btf.names.Interned.{IsPlaced}
-use Rattle.bpf_canon.specs.btf.write.BtfWords.{head_words}
-use Rattle.bpf_canon.specs.btf.CanonicalBtf.{words_of_item}
+use Rattle.btf_types.specs.{Values.TypeHead, Values.TypeItem, Values.item_value, Names.head_name, Good.has_bit_fields}
+use Rattle.btf_types.specs.{strings.SharedNames.shared_among, tables.TableWords.record_at}
+use Rattle.bpf_canon.specs.btf.{names.Interned.IsPlaced, write.BtfWords.head_words, CanonicalBtf.words_of_item}
 use Rattle.bpf_canon.proofs.BtfLemmas.Names.Gathering.{head_placed, item_placed}
 use Rattle.bpf_canon.proofs.BtfLemmas.Write.WriteSteps.{item_fits, item_pushed, record_pushed}
 use Rattle.bpf_canon.proofs.btf.write.table.push_table_record.Goals as goal

@@ -1,7 +1,6 @@
 use Rattle.std.proofs.Common.{ℕ, List, ◌<◌, ◌+◌, ◌++◌, length, ap, ◌∙◌, arith}
 use Rattle.btf_raw.specs.Frames.{bytes_of}
-use Rattle.btf_types.specs.strings.SharedNames.{shared_among}
-use Rattle.btf_types.specs.tables.TableWords.{record_at}
+use Rattle.btf_types.specs.{strings.SharedNames.shared_among, tables.TableWords.record_at}
 use Rattle.bpf_canon.specs.btf.CanonicalBtf.{record_words}
 use Rattle.bpf_canon.proofs.BtfLemmas.Write.WriteSteps.{section_pushed}
 use Rattle.bpf_canon.proofs.btf.write.table.write_types.Goals as goal

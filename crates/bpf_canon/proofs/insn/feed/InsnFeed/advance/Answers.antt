@@ -1,8 +1,6 @@
 use Rattle.std.proofs.Common.{arith, ◌≡◌, ◌∙◌, ◌-◌, ℕ, List, None, ap, subst, sym, inl, length, take, length-append, refl}
 use Rattle.std.proofs.lemmas.List.{length-take-le}
-use Rattle.bpf_canon.specs.insn.FeedState.{FeedState, IsCut}
-use Rattle.bpf_canon.specs.insn.FrontReads.{Advances}
-use Rattle.bpf_canon.specs.contracts.insn.feed.InsnFeed.{the_view}
+use Rattle.bpf_canon.specs.{insn.FeedState.FeedState, insn.FeedState.IsCut, insn.FrontReads.Advances, contracts.insn.feed.InsnFeed.the_view}
 use Rattle.bpf_canon.proofs.InsnLemmas.FeedLemmas.{advance_counts, advance_cut, advance_faulty, advance_few, advance_held, advance_whole, advance_within, cut_begins_none, held_left, held_left_size, none_or_all}
 use Rattle.bpf_canon.proofs.insn.feed.InsnFeed.advance.Goals as goal
 

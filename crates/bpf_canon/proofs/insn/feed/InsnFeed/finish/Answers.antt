@@ -1,8 +1,7 @@
 use Rattle.std.proofs.Common.{arith, ◌≡◌, ◌∙◌, ◌+◌, ◌-◌, ℕ, ap, subst, sym, length, Result}
 use Rattle.std.proofs.lemmas.List.{length-take-le}
 use Rattle.bpf_insn.specs.declared.fault.SlotFault.{SlotFault}
-use Rattle.bpf_canon.specs.insn.FeedState.{FeedState, missing_place}
-use Rattle.bpf_canon.specs.insn.FeedStream.{Finishes, Represents}
+use Rattle.bpf_canon.specs.insn.{FeedState.FeedState, FeedState.missing_place, FeedStream.Finishes, FeedStream.Represents}
 use Rattle.bpf_canon.proofs.InsnLemmas.FeedLemmas.{ends, end-cut}
 use Rattle.bpf_canon.specs.contracts.insn.feed.InsnFeed.{the_view}
 use Rattle.bpf_canon.proofs.insn.feed.InsnFeed.finish.Goals as goal

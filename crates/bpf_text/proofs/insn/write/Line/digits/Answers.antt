@@ -1,6 +1,5 @@
 use Rattle.std.proofs.Common.{◌≡◌, ◌≤◌, ◌-◌, length, drop, decimal, ap, arith, rules}
-use Rattle.std.proofs.lemmas.Fmt.{length-decimal-le}
-use Rattle.std.proofs.lemmas.List.{length-append, length-drop}
+use Rattle.std.proofs.lemmas.{Fmt.length-decimal-le, List.length-append, List.length-drop}
 use Rattle.bpf_text.proofs.insn.write.Line.digits.Goals as goal
 
 pub write_digits-self-inside-requires : goal.write_digits-self-inside-requires

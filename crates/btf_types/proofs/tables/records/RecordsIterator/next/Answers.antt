@@ -1,7 +1,5 @@
 use Rattle.std.proofs.Common.{◌+◌, ◌∷◌, length, ap, sym, ◌∙◌, arith}
-use Rattle.btf_types.specs.Values.{TypeHead}
-use Rattle.btf_types.specs.tables.TableWords.{numbered}
-use Rattle.btf_types.specs.tables.Windows.{window}
+use Rattle.btf_types.specs.{Values.TypeHead, tables.TableWords.numbered, tables.Windows.window}
 use Rattle.btf_types.proofs.TableLemmas.WindowSteps.{first_numbered, numbered_left, none_numbered}
 use Rattle.btf_types.proofs.tables.records.RecordsIterator.next.Goals as goal
 

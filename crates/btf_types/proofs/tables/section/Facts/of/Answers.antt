@@ -1,6 +1,5 @@
 use Rattle.std.proofs.Common.{◌≡◌}
-use Rattle.btf_raw.specs.KindNumbers.{INT}
-use Rattle.btf_raw.specs.Frames.{kind}
+use Rattle.btf_raw.specs.{KindNumbers.INT, Frames.kind}
 use Rattle.btf_types.proofs.TableLemmas.SectionSteps.{int_has_word}
 use Rattle.btf_types.proofs.tables.section.Facts.of.Goals as goal
 

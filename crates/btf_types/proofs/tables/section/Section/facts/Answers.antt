@@ -1,8 +1,6 @@
 use Rattle.std.proofs.Common.{◌-◌, List, ℕ, subst, sym, arith}
 use Rattle.btf_raw.specs.Frames.{IsFrame}
-use Rattle.btf_types.specs.Sections.{SectionWords, facts_in}
-use Rattle.btf_types.specs.tables.SectionParts.{FactsAre}
-use Rattle.btf_types.specs.judge.Checks.{type_at}
+use Rattle.btf_types.specs.{Sections.SectionWords, Sections.facts_in, tables.SectionParts.FactsAre, judge.Checks.type_at}
 use Rattle.btf_types.proofs.TableLemmas.SectionSteps.{has_frame, type_is}
 use Rattle.btf_types.proofs.tables.section.Section.facts.Goals as goal
 

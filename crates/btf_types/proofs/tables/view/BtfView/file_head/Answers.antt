@@ -1,6 +1,5 @@
 use Rattle.std.proofs.Common.{List, ℕ, subst, sym}
-use Rattle.btf_types.specs.declared.tables.table.FileSections.{FileSections}
-use Rattle.btf_types.specs.tables.PlaceWords.{ReadsRecord}
+use Rattle.btf_types.specs.{declared.tables.table.FileSections.FileSections, tables.PlaceWords.ReadsRecord}
 use Rattle.btf_types.proofs.TableLemmas.TableReads.{placed_record}
 use Rattle.btf_types.proofs.tables.view.BtfView.file_head.Goals as goal
 

@@ -1,11 +1,7 @@
 use Rattle.std.proofs.Common.{◌≡◌, List, ℕ, sym, subst}
-use Rattle.btf_raw.specs.declared.header.Header.{Header}
-use Rattle.btf_raw.specs.Cause.{HasNone, LeastByCause}
+use Rattle.btf_raw.specs.{declared.header.Header.Header, ReadHeader.ReadsHeader, Cause.HasNone, Cause.LeastByCause}
 use Rattle.btf_raw.specs.Header.{HasNulEnds, HeaderFault, StringFault}
-use Rattle.btf_raw.specs.ReadHeader.{ReadsHeader}
-use Rattle.btf_types.specs.declared.error.BtfError.{BtfError}
-use Rattle.btf_types.specs.Denotes.{Denotes}
-use Rattle.btf_types.specs.Reading.{records_at}
+use Rattle.btf_types.specs.{declared.error.BtfError.BtfError, Denotes.Denotes, Reading.records_at}
 use Rattle.btf_types.specs.tables.TableInvariant.{IsFramed, IsTable, FieldsAreRight}
 use Rattle.btf_types.specs.tables.Tables.{Fails, FailsFraming, FailsFields}
 use Rattle.btf_types.proofs.JudgeLemmas.PhaseSteps.{HasHeader, HasStrings, HasFrames, types_of, strings_of, strings_judged, framing_judged, fails_strings, fails_framing, fails_fields}

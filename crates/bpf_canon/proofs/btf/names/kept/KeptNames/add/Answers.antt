@@ -1,6 +1,5 @@
 use Rattle.std.proofs.Common.{sym}
-use Rattle.bpf_canon.proofs.BtfLemmas.Names.HostSteps.{set_adds, set_stays_kept}
-use Rattle.bpf_canon.proofs.BtfLemmas.Names.PlaceSteps.{empty_adds}
+use Rattle.bpf_canon.proofs.BtfLemmas.Names.{HostSteps.set_adds, HostSteps.set_stays_kept, PlaceSteps.empty_adds}
 use Rattle.bpf_canon.proofs.btf.names.kept.KeptNames.add.Goals as goal
 
 pub invariant_of-self : goal.invariant_of-self

@@ -1,8 +1,7 @@
 use Rattle.std.proofs.Common.{ℕ, ◌<◌, List, [], length, sym, ap, ◌∙◌, refl, arith, Bor}
 use Rattle.std.proofs.lemmas.Bool.{eqb-false}
 use Rattle.btf_types.specs.strings.SharedNames.{shared_among}
-use Rattle.bpf_canon.proofs.BtfLemmas.Names.HostSteps.{kept_apart}
-use Rattle.bpf_canon.proofs.BtfLemmas.Names.HostTable.{reads_place, reads_shorter}
+use Rattle.bpf_canon.proofs.BtfLemmas.Names.{HostSteps.kept_apart, HostTable.reads_place, HostTable.reads_shorter}
 use Rattle.bpf_canon.proofs.btf.names.shared.SharedNames.place.Goals as goal
 
 -- what an index past the end would give

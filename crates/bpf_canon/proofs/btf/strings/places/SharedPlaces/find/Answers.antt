@@ -1,10 +1,8 @@
 use Rattle.std.proofs.Common.{◌≡◌, ◌<◌, ◌^◌, ℕ, List, length, map, subst, sym, ap, ◌∙◌}
 use Rattle.std.specs.List.{All}
 use Rattle.btf_raw.specs.Header.{HasNulEnds}
-use Rattle.btf_types.specs.Reading.{text_from}
-use Rattle.btf_types.specs.strings.SharedNames.{shared_table}
-use Rattle.bpf_canon.specs.btf.strings.Longest.{AreLongestOf}
-use Rattle.bpf_canon.specs.btf.strings.HostPlaces.{HaveTheirHosts, ArePlaced, name_place}
+use Rattle.btf_types.specs.{Reading.text_from, strings.SharedNames.shared_table}
+use Rattle.bpf_canon.specs.btf.strings.{Longest.AreLongestOf, HostPlaces.HaveTheirHosts, HostPlaces.ArePlaced, HostPlaces.name_place}
 use Rattle.bpf_canon.specs.declared.btf.strings.hosts_by_rank.InHost.{InHost}
 use Rattle.bpf_canon.proofs.BtfLemmas.Strings.FoundPlaces.{longest_permuted, all_found, all_ranked, all_fit, all_placed}
 use Rattle.bpf_canon.proofs.btf.strings.places.SharedPlaces.find.Goals as goal

@@ -1,6 +1,5 @@
 use Rattle.std.proofs.Common.{◌<◌, ◌++◌, List, length, get_or, arith, ap, ◌∙◌}
-use Rattle.bpf_canon.specs.btf.strings.HostPlaces.{span_bytes}
-use Rattle.bpf_canon.specs.declared.btf.strings.host_places.Span.{Span}
+use Rattle.bpf_canon.specs.{btf.strings.HostPlaces.span_bytes, declared.btf.strings.host_places.Span.Span}
 use Rattle.bpf_canon.proofs.BtfLemmas.Strings.TableSpans.{table_more}
 use Rattle.bpf_canon.proofs.btf.strings.places.SharedPlaces.push_table.Goals as goal
 

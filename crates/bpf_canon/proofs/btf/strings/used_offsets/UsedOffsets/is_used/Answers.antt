@@ -1,6 +1,5 @@
 use Rattle.std.proofs.Common.{List, ℕ, length, arith, ap, ◌∙◌, sym}
-use Rattle.bpf_canon.specs.btf.strings.FirstUses.{mark_of}
-use Rattle.bpf_canon.specs.btf.strings.UsedOffsets.{Used}
+use Rattle.bpf_canon.specs.btf.strings.{FirstUses.mark_of, UsedOffsets.Used}
 use Rattle.bpf_canon.proofs.BtfLemmas.Strings.MarkSteps.{word_inside, slot_is_mark}
 use Rattle.bpf_canon.proofs.btf.strings.used_offsets.UsedOffsets.is_used.Goals as goal
 
