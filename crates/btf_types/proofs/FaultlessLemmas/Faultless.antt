@@ -123,7 +123,7 @@ module _ (strings : List ℕ) (frames : List (List ℕ)) (ends : HasNulEnds stri
   func_names : (id : ℕ) → (type_at types id).kind ≡ FUNC → (type_at types (type_at types id).target).kind ≡ FUNC_PROTO
   func_names id e = its_target (type_at types id) (type_found frames id (λ z. omega arith)) e
 
-  -- so a component is a number of 16 bits
+  -- therefore a component is a 16-bit number
   component_low : (id c : ℕ) → one_of (STRUCT ∷ UNION ∷ FUNC ∷ VAR ∷ TYPEDEF ∷ []) ((type_at types id).kind) ≡ true → IsTrue (component_fits types id c) → c < 2 ^ 16
   component_low id c named fits =
       let own = type_count_below frames id in

@@ -109,7 +109,7 @@ pub fn bit_offset_of(flag: u32, word: u32) -> u32
 }
 
 /// The bit-field width that a member's offset field contains. `flag` is the record's kind_flag; if
-/// it is 0, there is no width.
+/// it is 0, so is the width.
 pub fn width_of(flag: u32, word: u32) -> u8
     ensures { result ≡ words.width_in flag word }
 {

@@ -1,5 +1,5 @@
 //! The offsets of a table's records, and those of the ends of its long strings. Both are in one
-//! vector, since a table has only one allocator.
+//! vector, since a table uses only one allocator.
 
 ghost use Rattle.std.specs.Prelude.{◌≡◌, ◌<◌, ◌^◌, IfOk, length};
 ghost use Rattle.btf_raw.specs.Header.{HasNulEnds};

@@ -125,7 +125,7 @@ impl<'a> SectionTable<'a> {
         }
     }
 
-    /// The number of items of the type with the ID `id`; 0 if the table has no such record.
+    /// The number of items of the type with the ID `id`; 0 if the table lacks it.
     fn item_total(&self, id: u32) -> u32
         ensures { result ≡ length (items_of self.now id) }
     {
@@ -138,7 +138,7 @@ impl<'a> SectionTable<'a> {
         self.item_count(id)
     }
 
-    /// An iterator over the items of the type with the ID `id`; empty if the table has no such
+    /// An iterator over the items of the type with the ID `id`; empty if the table lacks this
     /// record.
     pub fn items(self, id: u32) -> Items<'a>
         ensures { result ≡ items_of self.entry id }
