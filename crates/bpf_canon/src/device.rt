@@ -8,6 +8,6 @@ pub(crate) mod standard;
 use thiserror::Error;
 
 /// A read of a source or a write to a sink failed. The reason isn't kept.
-#[derive(Clone, Copy, Debug, PartialEq, Eq, Error)]
+#[derive(Clone, Copy, Debug, PartialEq, Eq, Hash, Error)]
 #[error("DeviceFailed")]
 pub struct DeviceFailed;

@@ -1,14 +1,17 @@
 //! The errors and writes that the engines for instructions and for BTF share.
 ghost use Rattle.std.specs.Prelude.{◌≡◌, ◌<◌, ◌+◌, length, IfOk, IfErr, OnOk};
 ghost use Rattle.std.specs.Io.KnownBytes.{Appends};
+ghost use Rattle.bpf_canon.specs.declared.engine.RunCause.TheVariants as run;
+ghost use Rattle.bpf_canon.specs.declared.engine.SideError.TheVariants as side;
 ghost use Rattle.bpf_canon.specs.Engine.{PutStops};
 
 use crate::device::sink::{ByteSink, put_all};
+use std::alloc::{AllocError, AllocFailed};
 use thiserror::Error;
 
 /// Why [`run_insns`](crate::run_insns) or [`run_btf`](crate::run_btf) stopped. `F` is the type of a
 /// fault of the input.
-#[derive(Clone, Copy, Debug, PartialEq, Eq, Error)]
+#[derive(Clone, Copy, Debug, PartialEq, Eq, Hash, Error)]
 pub enum RunCause<F> {
     /// The input is invalid: its first fault.
     #[error("Fault")]
@@ -28,7 +31,7 @@ pub enum RunCause<F> {
 }
 
 /// The error of [`run_insns`](crate::run_insns) or [`run_btf`](crate::run_btf).
-#[derive(Clone, Copy, Debug, PartialEq, Eq, Error)]
+#[derive(Clone, Copy, Debug, PartialEq, Eq, Hash, Error)]
 #[error("{cause}")]
 pub struct RunError<F> {
     /// Why it stopped.
@@ -38,7 +41,7 @@ pub struct RunError<F> {
 }
 
 /// Why two files couldn't be compared. `F` is the type of a fault of a file.
-#[derive(Clone, Copy, Debug, PartialEq, Eq, Error)]
+#[derive(Clone, Copy, Debug, PartialEq, Eq, Hash, Error)]
 pub enum SideError<F> {
     /// The first file is invalid: its first fault.
     #[error("First")]
@@ -49,6 +52,38 @@ pub enum SideError<F> {
     /// An allocation failed.
     #[error("Memory")]
     Memory,
+}
+
+impl<F> From<AllocError> for RunCause<F> {
+    ghost from_gives = { λ _ cause. cause ≡ run.Memory };
+
+    fn from(_error: AllocError) -> RunCause<F> {
+        RunCause::Memory
+    }
+}
+
+impl<F, T: Drop> From<AllocFailed<T>> for RunCause<F> {
+    ghost from_gives = { λ _ cause. cause ≡ run.Memory };
+
+    fn from(_error: AllocFailed<T>) -> RunCause<F> {
+        RunCause::Memory
+    }
+}
+
+impl<F> From<AllocError> for SideError<F> {
+    ghost from_gives = { λ _ error. error ≡ side.Memory };
+
+    fn from(_error: AllocError) -> SideError<F> {
+        SideError::Memory
+    }
+}
+
+impl<F, T: Drop> From<AllocFailed<T>> for SideError<F> {
+    ghost from_gives = { λ _ error. error ≡ side.Memory };
+
+    fn from(_error: AllocFailed<T>) -> SideError<F> {
+        SideError::Memory
+    }
 }
 
 /// The error for a cause, after the sink has accepted `written` bytes.

@@ -9,9 +9,10 @@ use crate::device::DeviceFailed;
 use crate::device::sink::ByteSink;
 use crate::device::source::ByteSource;
 use std::alloc::{Allocator, Global};
+use std::fmt;
 
 /// A source over a slice, which returns at most one piece per read.
-#[derive(Drop)]
+#[derive(Debug, Drop)]
 pub struct MemSource<'a> {
     rest: &'a [u8],
     piece: usize,
@@ -139,5 +140,15 @@ impl<A: Allocator> ByteSink for MemSink<'_, A> {
         }
         self.failed_writes += 1;
         Err(DeviceFailed)
+    }
+}
+
+/// The number of bytes in the vector, and of writes that failed.
+impl<A: Allocator> fmt::Debug for MemSink<'_, A> {
+    fn fmt<W: fmt::Write>(&self, f: &mut fmt::Formatter<W>) -> fmt::Result {
+        f.debug_struct("MemSink")
+            .field("len", &self.out.len())
+            .field("failed_writes", &self.failed_writes)
+            .finish_non_exhaustive()
     }
 }

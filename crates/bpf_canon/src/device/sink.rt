@@ -28,6 +28,17 @@ pub trait ByteSink {
         ensures count { CountsFailure (failures self.old) (failures self.new) result };
 }
 
+/// A borrowed sink. What is written to it is written to the sink itself.
+impl<W: ByteSink> ByteSink for &mut W {
+    ghost contents = { λ s. W.contents s.now };
+
+    ghost failures = { λ s. W.failures s.now };
+
+    fn write(&mut self, bytes: &[u8]) -> Result<usize, DeviceFailed> {
+        (**self).write(bytes)
+    }
+}
+
 /// Writes all the bytes. Each write offers all the remaining bytes.
 ///
 /// # Errors

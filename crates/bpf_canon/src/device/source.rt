@@ -7,7 +7,7 @@ ghost use Rattle.bpf_canon.specs.device.Reads.{EndsAmid, failed_reads};
 ghost use Rattle.bpf_canon.specs.declared.device.source.ReadError.TheVariants.{Memory};
 
 use crate::device::DeviceFailed;
-use std::alloc::{AllocError, Allocator};
+use std::alloc::{AllocError, AllocFailed, Allocator};
 use thiserror::Error;
 
 /// A source of bytes. A read may return fewer bytes than the buffer holds.
@@ -32,8 +32,19 @@ pub trait ByteSource {
         ensures count { CountsFailure (failures self.old) (failures self.new) result };
 }
 
+/// A borrowed source. What is read from it is read from the source itself.
+impl<S: ByteSource> ByteSource for &mut S {
+    ghost remaining = { λ s. S.remaining s.now };
+
+    ghost failures = { λ s. S.failures s.now };
+
+    fn read(&mut self, buffer: &mut [u8]) -> Result<usize, DeviceFailed> {
+        (**self).read(buffer)
+    }
+}
+
 /// Why an input couldn't be read to its end.
-#[derive(Clone, Copy, Debug, PartialEq, Eq, Error)]
+#[derive(Clone, Copy, Debug, PartialEq, Eq, Hash, Error)]
 pub enum ReadError {
     /// The input is longer than the limit.
     #[error("TooLong")]
@@ -50,6 +61,14 @@ impl From<AllocError> for ReadError {
     ghost from_gives = { λ _ e. e ≡ Memory };
 
     fn from(_error: AllocError) -> ReadError {
+        ReadError::Memory
+    }
+}
+
+impl<T: Drop> From<AllocFailed<T>> for ReadError {
+    ghost from_gives = { λ _ e. e ≡ Memory };
+
+    fn from(_error: AllocFailed<T>) -> ReadError {
         ReadError::Memory
     }
 }

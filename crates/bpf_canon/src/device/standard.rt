@@ -9,7 +9,7 @@ use std::io::{Read, Write};
 
 /// A source over a reader. Every error of the reader, even an interrupted read, counts as a failed
 /// read.
-#[derive(Drop)]
+#[derive(Debug, Drop)]
 pub struct ReaderSource<R> {
     reader: R,
     failed_reads: u64,
@@ -25,6 +25,17 @@ impl<R: Read> ReaderSource<R> {
             reader,
             failed_reads: 0,
         }
+    }
+
+    /// Returns the reader. It still has every byte that the source would have returned.
+    pub fn into_inner(self) -> R
+        ensures { R.remaining result ≡ ⟦<ReaderSource<R> as ByteSource>⟧.remaining self }
+    {
+        let ReaderSource {
+            reader,
+            failed_reads: _,
+        } = self;
+        reader
     }
 }
 
@@ -59,7 +70,7 @@ fn answer_read<E: Drop>(
 
 /// A sink over a writer. Every error of the writer, even an interrupted write, counts as a failed
 /// write, and so does a write that accepts 0 of one or more bytes.
-#[derive(Drop)]
+#[derive(Debug, Drop)]
 pub struct WriterSink<W> {
     writer: W,
     failed_writes: u64,
@@ -75,6 +86,17 @@ impl<W: Write> WriterSink<W> {
             writer,
             failed_writes: 0,
         }
+    }
+
+    /// Returns the writer, which has received every byte that the sink accepted.
+    pub fn into_inner(self) -> W
+        ensures { W.contents result ≡ ⟦<WriterSink<W> as ByteSink>⟧.contents self }
+    {
+        let WriterSink {
+            writer,
+            failed_writes: _,
+        } = self;
+        writer
     }
 }
 

@@ -1,7 +1,7 @@
 //! Instructions from a stream in pieces.
 ghost use Rattle.std.specs.Prelude.{◌≡◌, ◌<◌, ◌≤◌, ◌+◌, ◌-◌, ◌++◌, ℕ, List, [], Option, Some, None};
 ghost use Rattle.std.specs.Prelude.{length, take, vec_len, vec_capacity, IsErrOf, IsOk, IfSome};
-ghost use Rattle.std.specs.Prelude.{IsNone};
+ghost use Rattle.std.specs.Prelude.{IsNone, ⊤};
 ghost use Rattle.bpf_words.specs.declared.Order.{Order};
 ghost use Rattle.bpf_insn.specs.declared.fault.SlotFault.{SlotFault};
 ghost use Rattle.bpf_canon.specs.insn.FeedState.{FeedState, IsBetween, missing_place};
@@ -16,7 +16,7 @@ use std::marker::Model;
 
 /// Reads instructions from the pieces of a stream in one byte order, and writes each in another as
 /// soon as it is complete. It holds fewer than 16 bytes of the stream.
-#[derive(Drop)]
+#[derive(Debug, Drop)]
 pub struct InsnFeed {
     order: Order,
     to: Order,
@@ -185,6 +185,25 @@ impl InsnFeed {
                 }
             },
         }
+    }
+}
+
+/// A copy of the feed, so that a program can try a piece and go back.
+impl Clone for InsnFeed {
+    ghost is_clone = { λ feed copy. copy ≡ feed };
+
+    ghost is_infallible = { λ _. ⊤ };
+
+    fn clone(&self) -> Result<InsnFeed, AllocError> {
+        Ok(InsnFeed {
+            order: self.order,
+            to: self.to,
+            held: self.held,
+            held_len: self.held_len,
+            fed: self.fed,
+            count: self.count,
+            fault: self.fault,
+        })
     }
 }
 
