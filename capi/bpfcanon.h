@@ -177,10 +177,10 @@ typedef struct bpfcanon_answer {
  * Writes the canonical form of BTF in the byte order `to`. If `to` is BPFCANON_LITTLE these are the
  * canonical bytes. Sets `written`. Room of `len` bytes is always enough.
  *
- * This call and the others that write have an output at BPFCANON_DONE, and bpfcanon_insn_front also
- * has one at BPFCANON_FAULT. They leave the bytes of `out` after the output as they were; at the
- * other statuses they leave all of `out`. With `out` NULL and `room` 0 an output that isn't empty
- * gives BPFCANON_ROOM and its length in `needed`; each other answer is that of a call with room.
+ * This call and the others that write set `out` only if the status is BPFCANON_DONE, or, from
+ * bpfcanon_insn_front, BPFCANON_FAULT. The bytes after the output are unchanged, and with any other
+ * status so is all of `out`. With `out` NULL and `room` 0 an output that isn't empty results in
+ * BPFCANON_ROOM, with its length in `needed`; otherwise the result is that of any other call.
  *
  * Statuses: BPFCANON_DONE, BPFCANON_FAULT, BPFCANON_MEMORY, BPFCANON_ROOM, BPFCANON_ORDER.
  */
@@ -188,7 +188,7 @@ bpfcanon_answer bpfcanon_btf_canon(uint32_t to, const uint8_t *bytes, size_t len
                                    size_t room);
 
 /*
- * Writes instructions that are in the byte order `order` in the byte order `to`. If `to` is
+ * Converts instructions from the byte order `order` to the byte order `to`. If `to` is
  * BPFCANON_LITTLE these are the canonical bytes. Sets `written`, which is `len`.
  *
  * Statuses: BPFCANON_DONE, BPFCANON_FAULT, BPFCANON_MEMORY, BPFCANON_ROOM, BPFCANON_ORDER.
@@ -204,20 +204,20 @@ bpfcanon_answer bpfcanon_insn_canon(uint32_t order, uint32_t to, const uint8_t *
 bpfcanon_answer bpfcanon_btf_check(const uint8_t *bytes, size_t len);
 
 /*
- * Gives the conformance groups that instructions need, with the groups that these include. Sets
- * `groups`. It takes no memory.
+ * Returns the conformance groups that the instructions need, including implied ones. Sets `groups`.
+ * Allocates nothing.
  *
  * Statuses: BPFCANON_DONE, BPFCANON_FAULT, BPFCANON_ORDER.
  */
 bpfcanon_answer bpfcanon_insn_groups(uint32_t order, const uint8_t *bytes, size_t len);
 
 /*
- * Compares two inputs: BPFCANON_DONE if they mean the same, that is if their canonical bytes are
- * equal, and BPFCANON_DIFFERENT if they don't. Each program has its own byte order. To compare
- * instructions takes no memory.
+ * Compares two inputs: BPFCANON_DONE if they hold the same types in the same order, or the same
+ * instructions, that is, if their canonical bytes are equal, and BPFCANON_DIFFERENT if they don't.
+ * Each program has its own byte order. Comparing instructions allocates no memory.
  *
- * Statuses: BPFCANON_DONE, BPFCANON_DIFFERENT, BPFCANON_FAULT, BPFCANON_FAULT_SECOND, of BTF
- * BPFCANON_MEMORY, and of instructions BPFCANON_ORDER.
+ * Statuses: BPFCANON_DONE, BPFCANON_DIFFERENT, BPFCANON_FAULT, BPFCANON_FAULT_SECOND, for BTF
+ * BPFCANON_MEMORY, and for instructions BPFCANON_ORDER.
  */
 bpfcanon_answer bpfcanon_btf_same(const uint8_t *first, size_t first_len, const uint8_t *second,
                                   size_t second_len);
@@ -245,22 +245,22 @@ bpfcanon_answer bpfcanon_insn_read(uint32_t to, const char *text, size_t len, ui
                                    size_t room);
 
 /*
- * Writes the text of the types of BTF: a line for each type and for each of its items, with a
- * newline, and no NUL at the end. Sets `written`. The text may be many times as long as the input,
- * since types can share names.
+ * Writes the listing of the types of BTF: a line for each type and for each of its items, with a
+ * newline, and no NUL at the end. Sets `written`. It may be many times as long as the input, since
+ * types can share names.
  *
  * Statuses: BPFCANON_DONE, BPFCANON_FAULT, BPFCANON_MEMORY, BPFCANON_ROOM.
  */
 bpfcanon_answer bpfcanon_btf_show(const uint8_t *bytes, size_t len, char *out, size_t room);
 
 /*
- * Writes the whole instructions at the front of some bytes in the byte order `to`, for a stream
- * that comes in pieces. Sets `read` and `written`, which are equal. At BPFCANON_DONE the bytes
- * after `read`, fewer than 16, may begin an instruction: give them again, in front of the next
- * piece. At the end of the stream give them to bpfcanon_insn_canon, which reports that they are
- * cut, if there are any. At BPFCANON_FAULT the fault remains whatever bytes follow, `pos` is its
- * offset in the bytes of this call, and the instructions before it are written. Room of `len`
- * bytes is always enough.
+ * Writes the complete instructions at the start of a buffer in the byte order `to`, for a stream
+ * that is read in pieces. Sets `read` and `written`, which are equal. If the status is
+ * BPFCANON_DONE, fewer than 16 bytes remain after `read`; they may begin an instruction, so prepend
+ * them to the next piece. At the end of the stream pass what remains to bpfcanon_insn_canon, which
+ * reports BPFCANON_INSN_TRUNCATED if anything does. If the status is BPFCANON_FAULT, the fault
+ * remains whatever bytes follow, `pos` is its offset in the bytes of this call, and the
+ * instructions before it are written. Room of `len` bytes is always enough.
  *
  * Statuses: BPFCANON_DONE, BPFCANON_FAULT, BPFCANON_MEMORY, BPFCANON_ROOM, BPFCANON_ORDER.
  */
@@ -270,9 +270,9 @@ bpfcanon_answer bpfcanon_insn_front(uint32_t order, uint32_t to, const uint8_t *
 /* --- Calls that allocate --- */
 
 /*
- * The same output in a block from malloc, at `*out`: `written` bytes, and after a text a NUL, which
- * `written` doesn't count. The caller gives the block to bpfcanon_free. At each status but
- * BPFCANON_DONE `*out` is NULL. The statuses are those of the call without `_new`, but never
+ * Write the same output into a block from malloc and set `*out` to it: `written` bytes and, after a
+ * listing, a NUL that `written` doesn't count. Free the block with bpfcanon_free. Unless the status
+ * is BPFCANON_DONE, `*out` is NULL. The statuses are those of the call without `_new`, except
  * BPFCANON_ROOM.
  */
 bpfcanon_answer bpfcanon_btf_canon_new(uint32_t to, const uint8_t *bytes, size_t len,
