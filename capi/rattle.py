@@ -90,6 +90,8 @@ def compile_crate(crate, processor, target):
 
 
 def hash_of_sources(crate):
+    if not shutil.which("sha256sum"):
+        raise Failed("there is no sha256sum")
     done = subprocess.run([TOP / "capi" / "sources", crate], stdout=subprocess.PIPE, text=True)
     if done.returncode != 0:
         raise Failed("the sources can't be read")
