@@ -1,4 +1,10 @@
 //! Reading a listing into its instructions.
+//!
+//! The reader accepts more than the writer writes. The last line may lack its newline. `;` or `#`
+//! begins a comment, which may contain any bytes. Blanks are space, tab and carriage return. A
+//! token is a maximal run of `a` to `z`, `0` to `9` and `_`, or one of `, [ ] + -`. A number is
+//! decimal, or hexadecimal after `0x`. Outside brackets it may follow one `+` or `-`; inside, the
+//! offset is omitted or follows one.
 
 ghost use Rattle.std.specs.Prelude.{◌≡◌, ℕ, ◌<◌, [], ◌∷◌, List, length, false, Err, IfOk, IfSome};
 ghost use Rattle.std.specs.Prelude.{MatchOption, MatchResult};
