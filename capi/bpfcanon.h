@@ -4,11 +4,11 @@
  *
  * What is proved. Each call under "Calls on the caller's memory" is a few lines of C (bpfcanon.c)
  * around a call that is written in Rattle and proved to meet its contract (crates/bpfcanon_c). The
- * C puts an address of its own in the place of a null pointer whose length is 0, and passes
- * everything else on. The C is tested and not proved; so are the calls that allocate, the names and the
+ * C replaces a null pointer whose length is 0 by an address of its own, and passes everything else
+ * on. The C is tested and not proved; so are the calls that allocate, the names and the
  * version.
  *
- * What a caller has to keep, which no call checks:
+ * Obligations of the caller, which no call checks:
  *   - An input points to `len` readable bytes and `out` to `room` writable ones, for as long as
  *     the call runs. Either may be NULL if its length is 0. NULL with a length is an access to
  *     address 0. The bytes of `out` may be uninitialised: no call reads one before it writes it.
@@ -18,8 +18,8 @@
  *     to 16 bytes.
  *   - No call is made from a signal handler, or in the child of a fork of a process with threads.
  *
- * Calls keep nothing between them. Any number of threads may make them at the same time, also with
- * the same inputs, and a thread may free a block that another one got.
+ * Calls have no shared state. Any number of threads may call at the same time, even with the same
+ * inputs, and a thread may free a block that another one got.
  *
  * Limits. No call limits the length of instructions or of a listing: the limits of the command
  * bpfcanon(1) are its own. BTF has the limits of its format, see BPFCANON_BTF_MAX.
@@ -28,10 +28,10 @@
  *
  * Encodings. Listings that are written, and the names and sentences of causes and statuses, are
  * ASCII. A listing that is read is ASCII too, except in its comments, which may have any bytes: any
- * other byte outside a comment is a fault. The text of types is UTF-8, since names are.
+ * other byte outside a comment is a fault. Type listings are UTF-8, because names are.
  *
- * Platforms. Linux on x86-64 or on little-endian 64-bit ARM (aarch64). The library needs none of the
- * later extensions of these processors.
+ * Platforms. Linux on x86-64 or on little-endian 64-bit ARM (aarch64). The library needs no later
+ * extension of these processors.
  */
 #ifndef BPFCANON_H
 #define BPFCANON_H
@@ -54,7 +54,7 @@ extern "C" {
 #define BPFCANON_VERSION_NUMBER \
 	(BPFCANON_VERSION_MAJOR * 1000000 + BPFCANON_VERSION_MINOR * 1000 + BPFCANON_VERSION_PATCH)
 
-/* The longest BTF without a fault: a header of 4,096 bytes, types of 32 MiB, strings of 16 MiB. */
+/* The longest valid BTF: a header of 4,096 bytes, types of 32 MiB, strings of 16 MiB. */
 #define BPFCANON_BTF_MAX 50335744
 
 /* A byte order. Instructions don't state their own; BTF does. Little-endian is canonical. */
@@ -75,9 +75,9 @@ enum bpfcanon_status {
 	BPFCANON_FAULT_SECOND = 3,
 	/* out of memory */
 	BPFCANON_MEMORY = 4,
-	/* the output is longer than its room, and nothing was written: `needed` */
+	/* the output is longer than `room`, and nothing was written: `needed` */
 	BPFCANON_ROOM = 5,
-	/* a number is not that of a byte order */
+	/* an argument is not a valid byte order */
 	BPFCANON_ORDER = 6
 };
 
@@ -155,18 +155,18 @@ enum bpfcanon_group {
 };
 
 /*
- * What a call returns. A field that neither the status nor the call sets is 0. `pos` is the place
- * that docs/FAULTS.md gives for the cause. That of BPFCANON_INSN_TRUNCATED is the first byte of the
- * slot of 8 bytes that the input ends in, and not the end of the input.
+ * What a call returns. All other fields are 0. `pos` is the offset that docs/FAULTS.md states for
+ * the cause. That of BPFCANON_INSN_TRUNCATED is the first byte of the
+ * 8-byte slot that the input ends in, and not the end of the input.
  */
 typedef struct bpfcanon_answer {
 	uint32_t status; /* enum bpfcanon_status */
 	uint32_t cause;  /* of a fault: of enum bpfcanon_insn_cause, _line_cause or _btf_cause */
 	uint64_t pos;    /* the offset of a fault of instructions or of BTF */
 	uint64_t line;   /* the line of a fault of a listing, from 1 */
-	size_t read;     /* of bpfcanon_insn_front: the length of the whole instructions */
+	size_t read;     /* of bpfcanon_insn_front: the length of the complete instructions */
 	size_t written;  /* of a call that writes: the length of the output */
-	size_t needed;   /* at BPFCANON_ROOM: the length of the output, which is more than its room */
+	size_t needed;   /* with BPFCANON_ROOM: the buffer size that the output needs */
 	uint32_t types;  /* of bpfcanon_btf_check: the number of types, void not counted */
 	uint32_t groups; /* of bpfcanon_insn_groups: a mask of enum bpfcanon_group */
 } bpfcanon_answer;
@@ -289,13 +289,13 @@ void bpfcanon_free(void *block);
 
 /* --- Names and the version --- */
 
-/* The version of the library, as "0.1.0". */
+/* The version of the library, for example "0.1.0". */
 const char *bpfcanon_version(void);
 
 /*
- * The name of a status or cause, as "Truncated", and a sentence on what it means, without a full
- * stop. The names and sentences of causes are those of docs/FAULTS.md. NULL for a number that is
- * no status or cause. The strings are static.
+ * The name of a status or cause, for example "Truncated", and a sentence that explains it, without
+ * a full stop. The names and sentences of causes are those of docs/FAULTS.md. NULL for any other
+ * number. The strings are static.
  */
 const char *bpfcanon_status_name(uint32_t status);
 const char *bpfcanon_status_text(uint32_t status);
