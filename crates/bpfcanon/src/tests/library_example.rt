@@ -3,7 +3,7 @@
 use bpf_canon::{INSN_LIMIT, InsnFeed, Order, write_btf};
 use bpf_insn::InsnError;
 use bpf_text::{ListError, listing, read_listing};
-use btf_types::{BtfError, BtfView, Item, TypeTable};
+use btf_types::{BtfError, BtfView, Item};
 use std::alloc::Global;
 use thiserror::Error;
 
@@ -11,10 +11,9 @@ use thiserror::Error;
 pub fn member_names(alloc: Global, file: &[u8]) -> Result<String, BtfError> {
     let types = BtfView::parse(alloc, file)?;
     let mut names = String::new(alloc);
-    for index in 0..types.count() {
-        let id = index + 1;
-        for k in 0..types.item_count(id) {
-            if let Item::Member { name, .. } = types.item(id, k) {
+    for (id, _) in &types {
+        for item in types.items(id) {
+            if let Item::Member { name, .. } = item {
                 names.push_str(name)?;
                 names.push('\n')?;
             }
