@@ -3,6 +3,7 @@
 mod arena;
 mod btf_files;
 mod devices;
+mod everyday_traits;
 mod example_results;
 mod expect;
 mod full_sinks;
