@@ -186,8 +186,8 @@ bpfcanon_answer bpfcanon_insn_read_new(uint32_t to, const char *text, size_t len
 }
 
 /*
- * The text of a kernel's types is 2.1 times as long as they are. There is no bound, since types may
- * share a long name: then the proved call is made a second time.
+ * The listing of a kernel's types is 2.1 times as long as its BTF. Its length has no bound, because
+ * types may share a long name: then the proved call is made a second time.
  */
 bpfcanon_answer bpfcanon_btf_show_new(const uint8_t *bytes, size_t len, char **out)
 {

@@ -161,14 +161,14 @@ enum bpfcanon_group {
  */
 typedef struct bpfcanon_answer {
 	uint32_t status; /* enum bpfcanon_status */
-	uint32_t cause;  /* of a fault: of enum bpfcanon_insn_cause, _line_cause or _btf_cause */
+	uint32_t cause;  /* for a fault: enum bpfcanon_insn_cause, _line_cause or _btf_cause */
 	uint64_t pos;    /* the offset of a fault of instructions or of BTF */
 	uint64_t line;   /* the line of a fault of a listing, from 1 */
-	size_t read;     /* of bpfcanon_insn_front: the length of the complete instructions */
-	size_t written;  /* of a call that writes: the length of the output */
+	size_t read;     /* bpfcanon_insn_front: the length of the complete instructions */
+	size_t written;  /* for a call that writes: the length of the output */
 	size_t needed;   /* with BPFCANON_ROOM: the buffer size that the output needs */
-	uint32_t types;  /* of bpfcanon_btf_check: the number of types, void not counted */
-	uint32_t groups; /* of bpfcanon_insn_groups: a mask of enum bpfcanon_group */
+	uint32_t types;  /* bpfcanon_btf_check: the number of types, not counting void */
+	uint32_t groups; /* bpfcanon_insn_groups: a mask of enum bpfcanon_group */
 } bpfcanon_answer;
 
 /* --- Calls on the caller's memory --- */

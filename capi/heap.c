@@ -5,7 +5,7 @@
 #include <stdint.h>
 #include <stdlib.h>
 
-/* A block, or that there is no memory. Rattle takes it in two registers. */
+/* A block, or that memory ran out. Rattle expects it in two registers. */
 struct block {
 	uint64_t is_there;
 	void *start;

@@ -1,5 +1,5 @@
 /*
- * The calls that are written in Rattle (crates/bpfcanon_c), for bpfcanon.c alone: this header is
+ * The calls that are written in Rattle (crates/bpfcanon_c), for bpfcanon.c only: this header is
  * not installed, and the library doesn't export them. They are those of bpfcanon.h with the same
  * names, but no pointer is null, even if its length is 0.
  */

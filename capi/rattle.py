@@ -21,7 +21,7 @@ class Failed(Exception):
 
 
 def read_crates():
-    """The libraries that each crate uses, by crates.txt. Libraries that are no crates of it are the kit's."""
+    """The libraries that each crate uses, by crates.txt. Libraries that it doesn't list are the kit's."""
     rows = (line.partition("#")[0].partition(":") for line in (TOP / "crates.txt").read_text().splitlines())
     return {head.split()[0]: uses.replace(",", " ").split() for head, _, uses in rows if head.strip()}
 

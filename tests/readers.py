@@ -3,8 +3,8 @@ a wrong answer.
 
     readers.py PREFIX FOLDER
 
-PREFIX has the C library. FOLDER has the readers that were built over it, as far as their tools are there: c_vectors (C), go_vectors
-and rust_vectors. The reader in Python is always tried. tests/wrong_answers.c changes the answers.
+PREFIX has the C library. FOLDER contains the readers that could be built over it: c_vectors (C), go_vectors and
+rust_vectors. The reader in Python is always tried. tests/wrong_answers.c changes the answers.
 """
 
 import concurrent.futures

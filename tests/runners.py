@@ -4,7 +4,7 @@
 
 `verify`, `tests/run`, `tests/c_interface/run` and `tests/bindings` are copied and run with a PATH on which stand-ins are in the place of
 the prover, the compilers and the other tools. A stand-in notes its call and passes. Then each call that was noted fails, one at a time:
-the runner has to fail each time, unless the call only asks what is there. `tests/recipes` is tried with pages for which it has to fail.
+the runner has to fail each time, unless the call only looks for a tool. `tests/recipes` is tried with pages for which it has to fail.
 """
 
 import concurrent.futures
@@ -61,7 +61,7 @@ for word; do
 done
 """
 KEY_README = "```go\nprogram\n```\n```console\n$ ./key\nmade\n```\n"
-# Calls that ask what is there: what they ask for is skipped, or done in another way.
+# Calls that look for a tool: what needs it is skipped, or done in another way.
 PROBES = ["go version", "cargo fmt --version", "cargo clippy --version", r"python3 -c from importlib\.util import find_spec .*", r"cc -fsanitize=\S+ .*/empty\.c .*", "empty"]
 
 
@@ -167,7 +167,7 @@ PARTS = {
     "tests/release": "release",
 }
 RUNNERS = ["tests/run", "tests/c_interface/run", "tests/bindings"]
-# The tools that are there, and how each part ended.
+# The available tools, and how each part ended.
 SKIPPED = [
     (
         "without any tool",

@@ -1,4 +1,4 @@
-"""Installs the C library into a folder of its own, and compares what is there with the header, the version script and the documents.
+"""Installs the C library into a folder of its own, and compares the installed files with the header, the version script and the documents.
 
     installed.py ARCHIVE
 
@@ -62,7 +62,7 @@ def built(report, archive, root, **variables):
 
 
 def check_files(report, root, prefix=PREFIX):
-    """Each file with its mode, and the links; there is no other."""
+    """Each file with its mode, and the links, and no other files."""
     wanted = {
         "include/bpfcanon.h": 0o644,
         "lib/libbpfcanon.a": 0o644,
@@ -108,7 +108,7 @@ def check_symbols(report, root):
 
 
 def check_header(report, root):
-    """The header alone, in each standard that the compilers know."""
+    """Compiles only the header, in each standard that the compilers know."""
     compilers = [it for it in ("gcc", "clang") if shutil.which(it)] or ["cc"]
     for compiler in compilers:
         for language, standards in STANDARDS.items():
@@ -240,7 +240,7 @@ def check_failures(report, archive, folder):
         ([folder / "taken", archive], {"DESTDIR": ""}, 1, "is a folder"),
         ([folder / "half", archive], {"DESTDIR": ""}, 1, "cannot make the folder"),
     ]
-    # Of a prefix in which one folder can't be made nothing is written.
+    # Nothing is written into a prefix in which one folder can't be made.
     (folder / "half").mkdir()
     (folder / "half" / "share").write_text("no folder")
     for words, variables, status, message in rows:

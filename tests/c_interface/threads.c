@@ -1,6 +1,6 @@
 /*
  * Eight threads make each call that allocates, compare its block, and free the blocks that another thread made. Half of them pass
- * faulty inputs in between, and numbers that are no order. All of them ask for each name. usage: threads TESTDATA
+ * faulty inputs in between, and invalid byte orders. All of them ask for each name. usage: threads TESTDATA
  */
 #include "checks.h"
 

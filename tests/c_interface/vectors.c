@@ -1,6 +1,6 @@
 /*
- * Each row of testdata/vectors.tsv by each call that reads it, in room of each length that matters: none, a byte too few, and what is
- * needed with some bytes behind that stay. testdata/README.md has the columns.
+ * Each row of testdata/vectors.tsv by each call that reads it, with a buffer of each length that matters: 0, one byte too
+ * few, and the needed length followed by bytes that must not change. testdata/README.md lists the columns.
  * usage: vectors FILE [KIND], with the rows of all kinds or of one
  */
 #include "checks.h"
