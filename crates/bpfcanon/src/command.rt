@@ -10,7 +10,7 @@ use crate::run::run_job;
 use bpf_canon::{ByteSink, ByteSource};
 use std::alloc::Global;
 
-/// Runs a command line over a source and an output sink.
+/// Runs a command line with a source and an output sink.
 fn run_line<S: ByteSource, W: ByteSink>(
     alloc: Global,
     words: &[String],
@@ -30,22 +30,24 @@ fn run_line<S: ByteSource, W: ByteSink>(
     }
 }
 
-/// Runs a command line over a source, an output sink and a fault sink, and returns the status of
-/// the program. The first word is the program's name, and there has to be one.
+/// Runs a command line with a source, an output sink and a fault sink, and returns the exit status
+/// of the program. The first argument is the program's name and is required.
 ///
 /// | Status | When | Line on the fault sink |
 /// |---|---|---|
-/// | 0 | done, or two files are the same | none |
+/// | 0 | success, or two files are the same | none |
 /// | 1 | two files are different | none |
-/// | 1 | the input has a fault | `fault POS CAUSE`; of two, after `first: ` or `second: ` |
+/// | 1 | the input has a fault | `fault POS CAUSE`; `first: ` or `second: ` precedes it for two files |
 /// | 1 | a listing has a fault | `fault line N CAUSE` |
-/// | 1 | the input is longer than the command takes | `too long` |
-/// | 1 | the first of two files is longer than the input | `split beyond input` |
-/// | 2 | the line isn't one of the program's, or asks for help | `usage: ..` |
-/// | 3 | a device failed, or out of memory | `read failed`, `write failed` or `no memory` |
+/// | 1 | the input is longer than the limit of the command | `too long` |
+/// | 1 | `--split` is greater than the length of the input | `split beyond input` |
+/// | 2 | the command line isn't valid, or asks for help | `usage: ..` |
+/// | 3 | a device failed, or memory ran out | `read failed`, `write failed` or `no memory` |
 ///
-/// At a fault, an input that is too long or a split beyond the input, only `insn-canon` has written
-/// output. A fault sink that fails changes nothing else.
+/// If the input has a fault or is too long, or the split is beyond it, only `insn-canon` may have
+/// written output. Failed writes to the fault sink change nothing else.
+///
+/// Before the call, each device must have failed fewer than `u64::MAX` times.
 pub fn command<S: ByteSource, W: ByteSink, E: ByteSink>(
     alloc: Global,
     words: &[String],

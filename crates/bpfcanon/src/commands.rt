@@ -1,4 +1,4 @@
-//! The commands, a file for each by its name, and what several of them use.
+//! The commands, one module each, and the code that they share.
 
 pub(crate) mod btf_check;
 pub(crate) mod btf_same;

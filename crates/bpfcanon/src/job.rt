@@ -3,17 +3,18 @@
 use crate::verb::Verb;
 use bpf_words::Order;
 
-/// What a command line asks for. An option that the command doesn't take is `Little` or 0.
+/// A command and the values of its options. Options that the command doesn't accept are `Little`
+/// or 0.
 #[derive(Clone, Copy, Debug, PartialEq, Eq)]
 pub struct Job {
     /// The command.
     pub verb: Verb,
-    /// The byte order of the input, or of the first file.
+    /// `--order`: the byte order of the input, or of the first file.
     pub order: Order,
-    /// The byte order of the output.
+    /// `--to`: the byte order of the output.
     pub to: Order,
-    /// The byte order of the second file.
+    /// `--other`: the byte order of the second file.
     pub other: Order,
-    /// The length of the first file in bytes.
+    /// `--split`: the length of the first file in bytes.
     pub split: u64,
 }

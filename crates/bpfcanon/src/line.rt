@@ -1,4 +1,4 @@
-//! The command line: its options, and the job that its words ask for.
+//! The command line: its options, and the job that its arguments describe.
 
 pub(crate) mod options;
 pub(crate) mod parse;

@@ -1,4 +1,4 @@
-//! Reads, lists and normalises eBPF instructions and BTF, over the standard streams.
+//! Reads, lists and normalises eBPF instructions and BTF, from standard input to standard output.
 #![tactic(auto)]
 
 ghost use Rattle.std.specs.Prelude.{◌≡◌, ◌<◌, ◌++◌, codes, length, map, string_bytes};
@@ -23,7 +23,7 @@ use std::alloc::Global;
 use std::env;
 use std::process::ExitCode;
 
-/// Reports that the words of the command line are missing: the line `no words`, and status 3.
+/// Reports a missing argument vector: the line `no words`, and status 3.
 fn no_words<E: ByteSink>(faults: &mut E) -> ExitCode
     requires { E.failures faults.old < u64.MAX }
     ensures line { TookLine (sink_change E.ByteSink faults.old faults.new) (codes "no words"
@@ -34,7 +34,7 @@ fn no_words<E: ByteSink>(faults: &mut E) -> ExitCode
     ExitCode::from(3)
 }
 
-/// Runs a command line, and returns the status of the process.
+/// Runs a command line, and returns the exit status of the process.
 fn run_words<S: ByteSource, W: ByteSink, E: ByteSink>(
     alloc: Global,
     words: &[String],
@@ -54,8 +54,8 @@ fn run_words<S: ByteSource, W: ByteSink, E: ByteSink>(
     ExitCode::from(command::command(alloc, words, source, sink, faults))
 }
 
-/// Runs the command line of the process. If its words can't be read, or there are none, the line
-/// `no words` goes to standard error and the status is 3.
+/// Runs the command line of the process. If the argument vector can't be read or is empty, writes
+/// the line `no words` to standard error and exits with status 3.
 fn main(rt: HostRuntime) -> ExitCode {
     let alloc = rt.alloc();
     let mut faults = WriterSink::new(rt.stderr());

@@ -16,29 +16,29 @@ use itoa::Buffer;
 /// How a command ends.
 #[derive(Clone, Copy, Debug, PartialEq, Eq)]
 pub enum Outcome {
-    /// The output is whole, or two files are the same.
+    /// The output is complete, or two files are the same.
     Done,
     /// Two files are different.
     Different,
-    /// The input has a fault.
+    /// The instructions of the input have a fault: its byte offset and cause.
     Fault(SlotFault),
-    /// The listing has a faulty line.
+    /// The listing has a faulty line: its number, counted from 1, and the cause.
     FaultyLine(LineFault),
     /// The first of two files has a fault.
     First(SlotFault),
     /// The second of two files has a fault, and the first has none.
     Second(SlotFault),
-    /// The input has a fault as BTF.
+    /// The input isn't valid BTF: the byte offset and cause of its fault.
     BtfFault(BtfFault),
     /// The first of two BTF files has a fault.
     FirstBtf(BtfFault),
     /// The second of two BTF files has a fault, and the first has none.
     SecondBtf(BtfFault),
-    /// The input is longer than the command takes.
+    /// The input is longer than the limit of the command.
     TooLong,
-    /// The first of two files would be longer than the input.
+    /// `--split` is greater than the length of the input.
     SplitBeyond,
-    /// The command line isn't one of the program's.
+    /// The command line isn't valid, or it asks for help.
     Usage,
     /// A read failed.
     ReadFailed,
@@ -49,7 +49,7 @@ pub enum Outcome {
 }
 
 impl Outcome {
-    /// How a job ends whose engine stopped. `fault` makes the outcome of a fault of the input.
+    /// The outcome of a job whose engine stopped early. `fault` wraps a fault of the input.
     pub fn of_stop<F, M: FnOnce(F) -> Outcome + Drop>(cause: RunCause<F>, fault: M) -> Outcome
         requires { M.IsAlwaysCallable fault }
         ensures { IsEndOfStop (M.post fault) cause result }
@@ -63,7 +63,7 @@ impl Outcome {
         }
     }
 
-    /// The status of the program.
+    /// The exit status of the program: 0, 1, 2 or 3.
     pub fn status(self) -> u8
         ensures { result ≡ status_of self }
     {
@@ -98,7 +98,7 @@ fn report_parts<E: ByteSink>(faults: &mut E, parts: &[&[u8]])
     }
 }
 
-/// Writes a whole line, until a write fails.
+/// Writes a line, until a write fails.
 pub fn report_line<E: ByteSink>(faults: &mut E, line: &[u8])
     requires { E.failures faults.old < u64.MAX }
     ensures { TookLine (sink_change E.ByteSink faults.old faults.new) line.now }
@@ -106,7 +106,7 @@ pub fn report_line<E: ByteSink>(faults: &mut E, line: &[u8])
     let _ = put_all(faults, line);
 }
 
-/// Writes the line of a fault at a byte. `file` names the file where there are two.
+/// Writes the line of a fault at a byte offset. `file` is the prefix that names one of two files.
 fn report_fault<E: ByteSink>(faults: &mut E, file: &'static [u8], place: u64, cause: &'static [u8])
     requires { E.failures faults.old < u64.MAX }
     ensures { TookLine (sink_change E.ByteSink faults.old faults.new)
@@ -136,7 +136,7 @@ fn report_btf_fault<E: ByteSink>(faults: &mut E, file: &'static [u8], fault: Btf
     report_fault(faults, file, fault.pos, fault.cause.name().as_bytes());
 }
 
-/// Writes the line of a listing's fault, which counts lines from 1.
+/// Writes the line of a fault of a listing. Lines are counted from 1.
 fn report_faulty_line<E: ByteSink>(faults: &mut E, fault: LineFault)
     requires { E.failures faults.old < u64.MAX }
     ensures { TookLine (sink_change E.ByteSink faults.old faults.new) (faulty_line fault) }
@@ -153,7 +153,7 @@ fn report_faulty_line<E: ByteSink>(faults: &mut E, fault: LineFault)
     report_parts(faults, parts.as_slice());
 }
 
-/// Writes the line of an outcome, if it has one. It allocates nothing, so it also reports that
+/// Writes the line of an outcome, if it has one. It allocates nothing, so that it can report that
 /// memory ran out. If a write fails, the rest of the line is left out.
 pub fn report_outcome<E: ByteSink>(faults: &mut E, outcome: Outcome)
     requires { E.failures faults.old < u64.MAX }

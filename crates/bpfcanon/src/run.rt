@@ -21,7 +21,7 @@ use crate::verb::Verb;
 use bpf_canon::{ByteSink, ByteSource, run_btf, run_insns};
 use std::alloc::Allocator;
 
-/// Answers an input that was read whole.
+/// Writes the reply to a complete input.
 fn answer<A: Allocator + Copy, W: ByteSink>(
     alloc: A,
     job: Job,

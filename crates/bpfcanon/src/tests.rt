@@ -1,4 +1,5 @@
-//! What no contract says: worked examples, devices that fail, memory that runs out, and the texts of errors.
+//! Tests of what contracts cannot express: worked examples, failing devices, memory that runs out,
+//! and the messages of errors.
 
 mod arena;
 mod btf_files;

@@ -10,21 +10,21 @@ use bpf_canon::{BTF_LIMIT, INSN_LIMIT};
 /// A command of the program.
 #[derive(Clone, Copy, Debug, PartialEq, Eq)]
 pub enum Verb {
-    /// `insn-canon`: writes instructions again, in the order `--to`.
+    /// `insn-canon`: writes instructions in canonical form, in the byte order `--to`.
     InsnCanon,
     /// `insn-show`: lists instructions.
     InsnShow,
-    /// `insn-read`: reads a listing, and writes its instructions in the order `--to`.
+    /// `insn-read`: encodes the instructions of a listing, in the byte order `--to`.
     InsnRead,
     /// `insn-groups`: lists the conformance groups of instructions.
     InsnGroups,
     /// `insn-same`: compares the instructions of two files.
     InsnSame,
-    /// `btf-canon`: writes the canonical bytes of BTF, in the order `--to`.
+    /// `btf-canon`: writes BTF in canonical form, in the byte order `--to`.
     BtfCanon,
     /// `btf-show`: lists the types of BTF.
     BtfShow,
-    /// `btf-check`: counts the types of BTF.
+    /// `btf-check`: validates BTF and counts its types, without `void`.
     BtfCheck,
     /// `btf-same`: compares the types of two BTF files.
     BtfSame,
@@ -57,7 +57,7 @@ impl Verb {
         Verb::BtfSame,
     ];
 
-    /// The word that names the command.
+    /// The name of the command on the command line, such as `insn-canon`.
     pub fn name<'a>(self) -> &'a str
         ensures { result.now ≡ name_of self }
     {
@@ -74,7 +74,7 @@ impl Verb {
         }
     }
 
-    /// The command that a word names.
+    /// The command with a name. `None` if no command has it.
     pub fn named(name: &str) -> Option<Verb>
         ensures some { IfSome result (λ verb. name.now ≡ name_of verb) }
         ensures none { IsNone result → (verb : Verb) → name.now ≡ name_of verb → ⊥ }
@@ -87,7 +87,7 @@ impl Verb {
         None
     }
 
-    /// Whether the command takes an option.
+    /// Whether the command accepts an option.
     pub fn takes(self, setting: Setting) -> bool
         ensures { result ≡ takes_setting self setting }
     {
@@ -101,8 +101,8 @@ impl Verb {
         }
     }
 
-    /// The longest input of the command in bytes: the limit of the engines, and twice that for two
-    /// files.
+    /// The longest input of the command in bytes: the limit of the engines, or twice that if the
+    /// command reads two files.
     pub fn limit(self) -> u64
         ensures { result ≡ limit_of self }
     {
@@ -119,7 +119,7 @@ impl Setting {
     /// All options.
     pub const ALL: [Setting; 4] = [Setting::Order, Setting::To, Setting::Other, Setting::Split];
 
-    /// The word that names the option, after two dashes.
+    /// The name of the option, without its two dashes.
     pub fn name<'a>(self) -> &'a str
         ensures { result.now ≡ setting_name self }
     {

@@ -1,4 +1,4 @@
-//! `btf-check`: how many types a BTF file has, or its first fault.
+//! `btf-check`: the number of types in a BTF file, or its first fault.
 
 ghost use Rattle.std.specs.Prelude.{◌≡◌, ◌≤◌, length, IfOk};
 ghost use Rattle.bpfcanon.specs.declared.verb.Verb.TheVariants.{BtfCheck};
@@ -11,7 +11,7 @@ use btf_types::{BtfError, BtfView, TypeTable};
 use itoa::Buffer;
 use std::alloc::{AllocError, Allocator};
 
-/// The line of a good file, with its number of types.
+/// The line for a valid file, with its number of types.
 fn count_line<A: Allocator>(alloc: A, count: u32) -> Result<Vec<u8, A>, AllocError>
     ensures { IfOk result (λ line. line.items ≡ count_line count) }
 {
@@ -22,7 +22,7 @@ fn count_line<A: Allocator>(alloc: A, count: u32) -> Result<Vec<u8, A>, AllocErr
     Ok(line)
 }
 
-/// The reply of `btf-check`. The types are counted without `void`.
+/// The reply of `btf-check`. `void` is not counted.
 pub fn btf_check_reply<A: Allocator + Copy>(alloc: A, input: &[u8]) -> Result<Reply<A>, AllocError>
     requires { length input.now ≤ limit_of BtfCheck }
     ensures { IfOk result (λ r.

@@ -11,7 +11,7 @@ use crate::outcome::Outcome;
 use bpf_canon::{SideError, same_btf};
 use std::alloc::{AllocError, Allocator};
 
-/// The reply of `btf-same`. The header of each file has its byte order.
+/// The reply of `btf-same`. The magic in each header shows the byte order of the file.
 pub fn btf_same_reply<A: Allocator + Copy>(
     alloc: A,
     split: u64,

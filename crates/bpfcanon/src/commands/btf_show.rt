@@ -1,4 +1,4 @@
-//! `btf-show`: the input is judged first, and then the text of its types is written in pieces.
+//! `btf-show`: validates the input, and then writes the listing of its types in pieces.
 
 ghost use Rattle.std.specs.Prelude.{◌≡◌, ◌<◌, ◌≤◌, ◌++◌, length, OnOk};
 ghost use Rattle.std.specs.List.{flat_map};
@@ -58,7 +58,7 @@ fn put_record<A: Allocator, W: ByteSink, T: TypeTable>(
     put_items(sink, piece, table, id, is_signed(head))
 }
 
-/// Writes the text of a table of types in pieces.
+/// Writes the listing of a table of types in pieces.
 fn put_types<A: Allocator, W: ByteSink, T: TypeTable>(
     alloc: A,
     table: &T,

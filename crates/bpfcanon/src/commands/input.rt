@@ -1,4 +1,4 @@
-//! The whole input of a command, and its two files if the command compares.
+//! The complete input of a command, and its two files if the command compares.
 
 ghost use Rattle.std.specs.Prelude.{◌≡◌, ◌<◌, ◌≤◌, drop, length, take, false, IfErr, IfOk, IfSome};
 ghost use Rattle.std.specs.Prelude.{IsNone};
@@ -12,11 +12,12 @@ use crate::outcome::Outcome;
 use bpf_canon::{ByteSource, ReadError, read_all};
 use std::alloc::Allocator;
 
-/// Reads the whole input of a command that has no engine.
+/// Reads the complete input of a command that has no engine.
 ///
 /// # Errors
 ///
-/// `TooLong`, `ReadFailed` or `Memory`, with which the job ends before anything is written.
+/// `TooLong` if the input is longer than the limit of the command, `ReadFailed` if a read fails,
+/// and `Memory` if memory runs out. The job then ends before anything is written.
 pub fn read_input<A: Allocator, S: ByteSource>(
     alloc: A,
     job: Job,
@@ -37,7 +38,7 @@ pub fn read_input<A: Allocator, S: ByteSource>(
     }
 }
 
-/// Splits an input after the first file, which has `split` bytes. `None` if the input is shorter.
+/// Splits an input after its first `split` bytes. `None` if the input is shorter.
 pub fn two_files(input: &[u8], split: u64) -> Option<(&[u8], &[u8])>
     ensures files { IfSome result (λ files. (split ≤ length input.now)
         × (files.0.now ≡ take split input.now) × (files.1.now ≡ drop split input.now)) }

@@ -10,7 +10,7 @@ use crate::outcome::Outcome;
 use bpf_insn::{Group, GroupSet, Order, groups_in};
 use std::alloc::{AllocError, Allocator};
 
-/// The names of the groups of a set, each on a line of its own.
+/// The names of the groups in a set, one per line.
 fn group_lines<A: Allocator>(alloc: A, set: GroupSet) -> Result<Vec<u8, A>, AllocError>
     ensures { IfOk result (λ lines. lines.items ≡ group_lines (holds set)) }
 {

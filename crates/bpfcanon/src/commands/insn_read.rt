@@ -10,7 +10,7 @@ use bpf_insn::Order;
 use bpf_text::{ListError, read_listing_bytes};
 use std::alloc::{AllocError, Allocator};
 
-/// The reply of `insn-read`: the bytes of the instructions that a text lists, in the order `to`.
+/// The reply of `insn-read`: the instructions of a listing, encoded in the byte order `to`.
 pub fn insn_read_reply<A: Allocator + Copy>(
     alloc: A,
     to: Order,

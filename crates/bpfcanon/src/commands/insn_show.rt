@@ -1,4 +1,4 @@
-//! `insn-show`: the input is judged first, and then its listing is written in pieces.
+//! `insn-show`: validates the input, and then writes its listing in pieces.
 
 ghost use Rattle.std.specs.Prelude.{◌≡◌, ◌<◌, ◌≤◌, List, length};
 ghost use Rattle.bpf_insn.specs.declared.insn.Insn.{Insn};

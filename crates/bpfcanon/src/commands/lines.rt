@@ -1,5 +1,5 @@
-//! Lines of BTF text. A name may be as long as the string section, and quoting makes it longer, so
-//! it is quoted and written in chunks.
+//! Lines of the BTF listing. A name can be as long as the string section, and quoting makes it
+//! longer, so it is quoted and written in chunks.
 
 ghost use Rattle.std.specs.Prelude.{◌≡◌, ◌<◌, ◌++◌, length, OnOk};
 ghost use Rattle.std.specs.List.{flat_map};
@@ -20,7 +20,7 @@ use std::alloc::Allocator;
 /// The longest chunk of a name that is quoted at once, in bytes.
 const CHUNK: usize = 2048;
 
-/// Appends a chunk of a name to a piece, quoted, and writes a long piece.
+/// Appends a quoted chunk of a name to a piece, and writes the piece if it is long.
 fn put_chunk<A: Allocator, W: ByteSink>(
     sink: &mut W,
     piece: &mut Vec<u8, A>,
@@ -36,7 +36,7 @@ fn put_chunk<A: Allocator, W: ByteSink>(
     put_long_piece(sink, piece)
 }
 
-/// Appends the bytes of a name, quoted, and writes each long piece.
+/// Appends the quoted bytes of a name, and writes each long piece.
 fn put_name<A: Allocator, W: ByteSink>(
     sink: &mut W,
     piece: &mut Vec<u8, A>,

@@ -1,4 +1,4 @@
-//! Text that is written piece by piece, so that no more than a piece is held in memory.
+//! Output that is written in pieces, so that only one piece is held in memory.
 
 ghost use Rattle.std.specs.Prelude.{◌≡◌, ◌<◌, [], length, IfErr, OnOk};
 ghost use Rattle.bpfcanon.specs.declared.commands.pieces.PutError.TheVariants.{Memory, WriteFailed};
@@ -9,7 +9,7 @@ use crate::outcome::Outcome;
 use bpf_canon::{ByteSink, put_all};
 use std::alloc::{AllocError, Allocator};
 
-/// Why a text wasn't written to its end.
+/// Why the output is incomplete.
 #[derive(Clone, Copy, Debug, PartialEq, Eq)]
 pub enum PutError {
     /// A write failed.
@@ -37,14 +37,14 @@ pub fn end_of_pieces(put: Result<(), PutError>) -> Outcome
     }
 }
 
-/// The length in bytes at which a piece is written.
+/// The length in bytes from which a piece is written.
 const PIECE: usize = 8192;
 
-/// Writes a piece, and empties it. It keeps its memory for the next one.
+/// Writes a piece and empties it. The buffer keeps its capacity for the next piece.
 ///
 /// # Errors
 ///
-/// `WriteFailed` at the first write that fails. The sink has taken a part of the piece, or nothing.
+/// `WriteFailed` if a write fails. The sink has then accepted a proper prefix of the piece.
 pub fn put_piece<W: ByteSink, A: Allocator>(
     sink: &mut W,
     piece: &mut Vec<u8, A>,
@@ -67,7 +67,7 @@ pub fn put_piece<W: ByteSink, A: Allocator>(
 ///
 /// # Errors
 ///
-/// `WriteFailed` at the first write that fails. The sink has taken a part of the piece, or nothing.
+/// `WriteFailed` if a write fails. The sink has then accepted a proper prefix of the piece.
 pub fn put_long_piece<W: ByteSink, A: Allocator>(
     sink: &mut W,
     piece: &mut Vec<u8, A>,

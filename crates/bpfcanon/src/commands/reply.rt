@@ -1,4 +1,4 @@
-//! Replies: output that is made whole, and then written.
+//! Replies: output that is completed in memory before it is written.
 
 ghost use Rattle.std.specs.Prelude.{◌≡◌, ◌<◌, ℕ, List, [], IfOk};
 ghost use Rattle.bpfcanon.specs.declared.job.Job.{Job};
@@ -31,7 +31,7 @@ impl<A: Allocator> Reply<A> {
         }
     }
 
-    /// A reply whose output is a copy of some bytes.
+    /// A reply whose output is a copy of `bytes`. `AllocError` if memory runs out.
     fn with_bytes(alloc: A, outcome: Outcome, bytes: &[u8]) -> Result<Reply<A>, AllocError>
         ensures outcome { IfOk result (λ r. r.outcome ≡ outcome) }
         ensures output { IfOk result (λ r. r.output.items ≡ bytes.now) }
@@ -42,7 +42,7 @@ impl<A: Allocator> Reply<A> {
         })
     }
 
-    /// The reply about two files without a fault: the line `same` or `different`.
+    /// The reply to two valid files: the line `same` or `different`. `AllocError` if memory runs out.
     pub fn of_comparison(alloc: A, same: bool) -> Result<Reply<A>, AllocError>
         ensures outcome { IfOk result (λ r. r.outcome ≡ verdict_outcome same) }
         ensures output { IfOk result (λ r. r.output.items ≡ verdict_line same) }
@@ -55,7 +55,7 @@ impl<A: Allocator> Reply<A> {
     }
 }
 
-/// Writes the output of a reply. If memory ran out as the reply was made, nothing is written.
+/// Writes the output of a reply. If memory ran out while the reply was made, nothing is written.
 pub fn put_reply<A: Allocator, W: ByteSink>(
     reply: Result<Reply<A>, AllocError>,
     sink: &mut W,

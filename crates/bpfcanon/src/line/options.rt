@@ -15,7 +15,8 @@ use std::alloc::{AllocError, Global};
 /// The names of the byte orders.
 static ORDERS: [&str; 2] = ["little", "big"];
 
-/// The values of an option for a byte order. clap keeps a reference to them.
+/// The values of an option for a byte order. They are static because clap keeps a reference to
+/// them.
 #[derive(Clone, Copy)]
 pub struct OrderNames<'a> {
     words: &'a [&'a str],
@@ -43,8 +44,8 @@ fn order_arg<'a>(alloc: Global, name: &'a str, orders: OrderNames<'a>) -> Arg<'a
         .default_value("little")
 }
 
-/// The option `--split`: the length of the first file. It is required, and not beyond the longest
-/// input.
+/// The option `--split`: the length of the first file in bytes. It is required, and at most the
+/// length of the longest input.
 fn split_arg<'a>(alloc: Global) -> Arg<'a>
     ensures rule { rule_of result ≡ split_option }
     ensures local { result.global ≡ false }
@@ -55,7 +56,7 @@ fn split_arg<'a>(alloc: Global) -> Arg<'a>
         .required(true)
 }
 
-/// The rule of an option, as `clap` takes it.
+/// The definition of an option for clap.
 fn setting_arg<'a>(alloc: Global, setting: Setting, orders: OrderNames<'a>) -> Arg<'a>
     ensures rule { rule_of result ≡ option_of orders.entry.words setting }
     ensures local { result.global ≡ false }
@@ -66,7 +67,7 @@ fn setting_arg<'a>(alloc: Global, setting: Setting, orders: OrderNames<'a>) -> A
     order_arg(alloc, setting.name(), orders)
 }
 
-/// Adds the options of a verb to its command.
+/// Adds the options that a verb accepts to its clap command.
 fn with_options<'a>(
     alloc: Global,
     mut command: Command<'a>,
@@ -86,7 +87,7 @@ fn with_options<'a>(
     Ok(command)
 }
 
-/// A command with its options.
+/// The clap command of a verb, with its options.
 fn verb_command<'a>(
     alloc: Global,
     verb: Verb,
@@ -98,7 +99,8 @@ fn verb_command<'a>(
     with_options(alloc, Command::new(alloc, verb.name()), verb, orders)
 }
 
-/// The program without its commands. It has no help: asking for it is refused like any other word.
+/// The program without its commands. It has no help: `--help` and `help` are rejected like any
+/// other unknown argument.
 fn bare_command<'a>(alloc: Global) -> Command<'a>
     ensures { app_of result ≡ bare_program }
 {

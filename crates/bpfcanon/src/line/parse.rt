@@ -1,4 +1,4 @@
-//! From the words of a command line to its job.
+//! Parses the arguments of a command line into a job.
 
 ghost use Rattle.std.specs.Prelude.{◌≡◌, ◌<◌, length, map, string_bytes, IfOk, IfSome, IsErrOf};
 ghost use Rattle.clap.specs.Words.{subcommand_rows_of, rows_of, found_of};
@@ -19,7 +19,7 @@ use thiserror::Error;
 /// Why a command line has no job.
 #[derive(Clone, Copy, Debug, PartialEq, Eq, Error)]
 pub enum LineError {
-    /// The words aren't a command with its options, or they ask for help.
+    /// The arguments aren't a command with valid options, or they ask for help.
     #[error("Usage")]
     Usage,
     /// Out of memory.
@@ -35,7 +35,7 @@ impl From<AllocError> for LineError {
     }
 }
 
-/// The byte order of a word that `clap` has accepted: it takes `little` and `big` only.
+/// The byte order that an option value names. clap has accepted it, so it is `little` or `big`.
 fn order_named(name: &str) -> Order
     ensures { result ≡ spec.order_named name.now }
 {
@@ -46,7 +46,7 @@ fn order_named(name: &str) -> Order
     }
 }
 
-/// The byte order that an option names, and `Little` if the command doesn't take the option.
+/// The byte order that an option names, or `Little` if the command doesn't accept the option.
 fn order_at(verb: Verb, setting: Setting, matches: &ArgMatches<'_>) -> Order
     ensures { result ≡ spec.order_at verb setting (rows_of (found_of matches.now)) }
 {
@@ -59,7 +59,7 @@ fn order_at(verb: Verb, setting: Setting, matches: &ArgMatches<'_>) -> Order
     }
 }
 
-/// The length of the first file, and 0 if the command takes one file.
+/// The length of the first file in bytes, or 0 if the command reads only one file.
 fn split_at(verb: Verb, matches: &ArgMatches<'_>) -> u64
     ensures { result ≡ spec.split_at verb (rows_of (found_of matches.now)) }
 {
@@ -82,7 +82,7 @@ fn job_at(verb: Verb, matches: &ArgMatches<'_>) -> Job
     }
 }
 
-/// The job of a line that clap takes. A line without a command is `insn-canon`.
+/// The job of a command line that clap has accepted. The default command is `insn-canon`.
 fn job_of(matches: &ArgMatches<'_>) -> Job
     requires { IfSome (subcommand_rows_of matches.now) (λ p. IsVerbName p.0) }
     ensures { IsJobOf (subcommand_rows_of matches.now) result }
@@ -102,7 +102,7 @@ fn job_of(matches: &ArgMatches<'_>) -> Job
     }
 }
 
-/// `Memory` if clap ran out of memory. Every other error is about the words.
+/// `Memory` if clap ran out of memory. Every other error concerns the arguments.
 fn line_error(kind: ErrorKind) -> LineError
     ensures memory { result ≡ LineError.Memory → kind ≡ ErrorKind.OutOfMemory }
     ensures usage { result ≡ LineError.Usage → kind ≡ ErrorKind.OutOfMemory → ⊥ }
@@ -113,12 +113,12 @@ fn line_error(kind: ErrorKind) -> LineError
     }
 }
 
-/// The job that a command line asks for. The first word is the program's name, and there has to
-/// be one. A line of that word alone asks for `insn-canon` with little-endian input and output.
+/// The job that a command line describes. The first argument is the program's name and is
+/// required. Without further arguments the job is `insn-canon` with little-endian input and output.
 ///
 /// # Errors
 ///
-/// `Usage` if clap doesn't take the words, and `Memory` if memory ran out.
+/// `Usage` if clap rejects the arguments, and `Memory` if memory ran out.
 pub fn parse_line(alloc: Global, words: &[String]) -> Result<Job, LineError>
     requires { 0 < length words.now }
     ensures asks { IfOk result (Asks (map string_bytes words.now)) }
