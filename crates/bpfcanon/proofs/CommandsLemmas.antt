@@ -1,4 +1,4 @@
--- Lemmas on what each command answers.
+-- Lemmas on the reply of each command.
 pub mod PiecesLemmas
 pub mod LongNameLemmas
 pub mod InsnCanonLemmas

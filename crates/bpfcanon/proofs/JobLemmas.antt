@@ -1,4 +1,4 @@
--- How a command ends that reads its input whole.
+-- The outcomes of a command that reads its complete input first.
 use Rattle.std.proofs.Common.{◌≡◌, ◌<◌, false, List, [], ℕ, inl, inr, length, refl}
 use Rattle.std.specs.Io.KnownBytes.{Consumes}
 use Rattle.std.proofs.KnownBytes.{Appends-nil}
@@ -9,7 +9,7 @@ use Rattle.bpfcanon.specs.commands.Reply.{IsReply, files_too_long, groups_too_lo
 use Rattle.bpfcanon.specs.{Devices.Change, JobEnds.EndsJob, JobEnds.no_memory, JobEnds.no_memory_in_pieces, JobEnds.replied, JobEnds.write_failed}
 use Rattle.bpfcanon.specs.commands.Pieces.{Answers, IsInput, answered, refused, refused_amid, unwritten}
 
--- only an engine writes as it reads
+-- only a command with an engine writes while it reads
 pub whole_input : (v : Verb) → has_engine v ≡ false → streams v ≡ false
 whole_input InsnCanon whole = cc
 whole_input _ whole = refl
@@ -26,14 +26,14 @@ too_long_reply BtfShow j input whole beyond = btf.show_too_long beyond
 too_long_reply BtfCheck j input whole beyond = btf.check_too_long beyond
 too_long_reply BtfSame j input whole beyond = btf.files_too_long beyond
 
--- more came than the command takes
+-- the input is longer than the limit of the command
 pub ends_too_long : (j : Job) (source sink : Change) → has_engine j.verb ≡ false
     → (bytes : List ℕ) × (Consumes source.old source.new bytes × (limit_of j.verb < length bytes))
     → source.failed_after ≡ source.failed → sink.new ≡ sink.old → sink.failed_after ≡ sink.failed → EndsJob j source sink TooLong
 ends_too_long j source sink whole came healthy same unused =
     replied came.0 TooLong [] healthy unused came.1.0 (inr (inr came.1.1)) (too_long_reply j.verb j came.0 whole came.1.1) (rw same (Appends-nil sink.old))
 
--- the input was read to its end, and answered
+-- the input was read to its end, and the reply was written
 pub ends_answered : (j : Job) (source sink : Change) (input : List ℕ) (outcome : Outcome) → has_engine j.verb ≡ false
     → IsInput j source input → Answers j input sink outcome → EndsJob j source sink outcome
 ends_answered j source sink input outcome whole read (answered made output reply took unfailed) =

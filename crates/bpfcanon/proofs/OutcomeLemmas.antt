@@ -1,4 +1,4 @@
--- What the fault sink takes of a line.
+-- The part of a line that the fault sink receives.
 use Rattle.std.proofs.Common.{◌≡◌, ◌<◌, ◌+◌, ◌++◌, ◌∙◌, ℕ, List, Option, length, take, drop, sym, ap, subst, inl, inr, arith, get_or, suc, true, drop-cons}
 use Rattle.std.specs.Prelude.{Result, Ok, Err, OnOk, IfErr}
 use Rattle.std.specs.{Result.is_err, Borrow.Bor, List.flat_map, Io.KnownBytes.Appends}
@@ -12,7 +12,7 @@ took_whole a b f g line h e =
     let P : List ℕ → Type 0 = λ x. Appends a b x in
     record { n = length line; took = subst P (sym (take-length line)) h; whole = inl (omega arith, e) }
 
--- a line that is put in one call
+-- a line that is written in one call
 pub took_line : (a b : Option (List ℕ)) (f g : ℕ) (line : List ℕ) (r : Result (Unit {0}) ℕ) → OnOk r (Appends a b line)
     → IfErr r (λ n. (n < length line) × Appends a b (take n line)) → CountsFailure f g r → TookLine (change a b f g) line
 took_line a b f g line (Ok u) h k e = took_whole a b f g line h e
@@ -21,7 +21,7 @@ took_line a b f g line (Err n) h k e = record { n = n; took = k.1; whole = inr e
 abbrev joined : List (Bor (List ℕ)) → List ℕ
 joined parts = flat_map (λ (p : Bor (List ℕ)). p.now) parts
 
--- a part that isn't taken whole, after parts that are
+-- a part of which the sink receives only a prefix, after parts that it receives completely
 pub took_part : (a m b : Option (List ℕ)) (f h g : ℕ) (parts : List (Bor (List ℕ))) (i : ℕ) (d : Bor (List ℕ)) (r : Result (Unit {0}) ℕ) → i < length parts
     → Appends a m (joined (take i parts)) → h ≡ f → is_err r ≡ true
     → IfErr r (λ n. (n < length (get_or parts i d).now) × Appends m b (take n (get_or parts i d).now)) → CountsFailure h g r

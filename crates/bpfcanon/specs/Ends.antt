@@ -5,13 +5,13 @@ use Rattle.bpfcanon.specs.declared.{job.Job.Job, outcome.Outcome.Outcome, outcom
 use Rattle.bpfcanon.specs.{Devices.Change, Devices.IsUnused, JobEnds.EndsJob, line.Parse.Asks, line.Parse.IsRefused}
 use Rattle.bpfcanon.specs.Outcome.{TookLine, report_of, status_of}
 
--- how a command on these words ends
+-- the outcome of a command line with these arguments
 pub data Ends (words : List Text) (source sink : Change) : Outcome → Type 0 where
-  -- clap doesn't take the words
+  -- clap rejects the arguments
   usage : IsRefused words → IsUnused source → IsUnused sink → Ends words source sink Usage
-  -- memory ran out as the line was read
+  -- memory ran out while the arguments were parsed
   no_memory_for_line : IsUnused source → IsUnused sink → Ends words source sink Memory
-  -- the line asks for a job, and this is how the job ended
+  -- the arguments describe a job, and the job ended with this outcome
   ran : (j : Job) (outcome : Outcome) → Asks words j → EndsJob j source sink outcome → Ends words source sink outcome
 
 -- a command line ends with this status, and the fault sink received the message of its outcome

@@ -1,4 +1,4 @@
--- What a command reports as it ends: a status, and a line on the fault sink.
+-- What a command reports when it ends: an exit status, and a line on the fault sink.
 use Rattle.std.specs.Prelude.{◌⊎◌, ◌≤◌, ◌++◌, ℕ, List, [], ◌∷◌, codes, decimal, length, take}
 use Rattle.std.specs.Io.KnownBytes.{Appends}
 use Rattle.bpf_insn.specs.declared.fault.SlotFault.{SlotFault}
@@ -33,7 +33,7 @@ status_of Memory = 3
 abbrev pub newline : List ℕ
 newline = 10 ∷ []
 
--- the line of a fault: which file where there are two, the place and the cause's name
+-- the line of a fault: the prefix that names one of two files, the offset in bytes, and the cause's name
 abbrev pub fault_line : List ℕ → ℕ → List ℕ → List ℕ
 fault_line file place cause = file ++ (codes "fault " ++ (decimal place ++ (codes " " ++ (cause ++ newline))))
 
@@ -43,11 +43,11 @@ slot_fault_line file f = fault_line file f.pos (cause_name f.cause)
 abbrev pub btf_fault_line : List ℕ → BtfFault → List ℕ
 btf_fault_line file f = fault_line file f.pos (btf_cause_name f.cause)
 
--- the line of a fault of a listing: the number of the faulty line, from 1, and the cause
+-- the line of a fault of a listing: the number of the faulty line, counted from 1, and the cause
 abbrev pub faulty_line : LineFault → List ℕ
 faulty_line f = codes "fault line " ++ (decimal f.line ++ (codes " " ++ (line_cause_name f.cause ++ newline)))
 
--- the message that the fault sink is given, if any
+-- the message for the fault sink, if any
 abbrev pub report_of : Outcome → List ℕ
 report_of Done = []
 report_of Different = []

@@ -1,4 +1,4 @@
--- The commands of the program, and the options that each takes.
+-- The commands of the program, and the options that each accepts.
 use Rattle.std.specs.Prelude.{◌≡◌, ℕ, Bool, true, false, List, [], ◌∷◌, codes, filter}
 use Rattle.bpfcanon.specs.declared.verb.Verb.{Verb}
 use Rattle.bpfcanon.specs.declared.verb.Verb.TheVariants.{InsnCanon, InsnShow, InsnRead, InsnGroups, InsnSame, BtfCanon, BtfShow, BtfCheck, BtfSame}
@@ -43,7 +43,7 @@ takes_setting BtfCanon To = true
 takes_setting BtfSame Split = true
 takes_setting _ _ = false
 
--- the options that a command takes
+-- the options that a command accepts
 abbrev pub settings_of : Verb → List Setting
 settings_of verb = filter (takes_setting verb) all_settings
 

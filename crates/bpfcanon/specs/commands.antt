@@ -1,4 +1,4 @@
--- What each command answers to its input.
+-- The reply of each command to its input.
 pub mod BtfReply
 pub mod Reply
 pub mod Pieces

@@ -1,4 +1,4 @@
--- How btf-canon ends, by what its engine did.
+-- The outcomes of btf-canon, by the result of its engine.
 use Rattle.std.proofs.Common.{◌≡◌, ◌∙◌, ◌+◌, ℕ, [], refl, inl, inr, add-zero}
 use Rattle.std.proofs.KnownBytes.{Appends-nil}
 use Rattle.btf_raw.specs.declared.cause.BtfFault.{BtfFault}
@@ -19,7 +19,7 @@ module _ (j : Job) (source sink : Change) (n : ℕ) (canon : j.verb ≡ BtfCanon
       replied ran.read Done (canonical j.to ran.records) healthy unfailed ran.input.came (inr (inl ran.input.ended))
       (rw canon (written ran.records ran.input.within ran.file)) ran.took
 
-  -- where the engine stopped
+  -- the engine stopped early
   pub btf_canon_stopped : (stop : RunCause BtfFault) → StopsBtf (devices_of source sink) j.to n stop
       → source.failed_after ≡ source.failed + counts_read stop → sink.failed_after ≡ sink.failed + counts_write stop
       → (outcome : Outcome) → IsEndOfStop (λ f o. o ≡ ends.BtfFault f) stop outcome → EndsJob j source sink outcome

@@ -1,4 +1,4 @@
--- What btf-same answers, by what the comparison of two files found.
+-- The reply of btf-same, by the result of the comparison.
 use Rattle.std.proofs.Common.{◌≡◌, ◌≤◌, ℕ, Bool, true, false, List, [], drop, length, take, refl}
 use Rattle.btf_raw.specs.declared.cause.BtfFault.{BtfFault}
 use Rattle.bpf_canon.specs.btf.SameBtf.{ComparesBtf, NamesBtfSide}
@@ -6,7 +6,7 @@ use Rattle.bpf_canon.specs.declared.engine.SideError.TheVariants as side
 use Rattle.bpfcanon.specs.{declared.outcome.Outcome.TheVariants.SecondBtf, commands.Reply.verdict_line, commands.Reply.verdict_outcome}
 use Rattle.bpfcanon.specs.commands.BtfReply.{IsBtfSameReply, different, same, second_at_fault}
 
--- the answer about two files without a fault
+-- the reply to two valid files
 pub compared : (limit split : ℕ) (input : List ℕ) → length input ≤ limit → split ≤ length input
     → (s : Bool) → ComparesBtf (take split input) (drop split input) s → IsBtfSameReply limit split input (verdict_outcome s) (verdict_line s)
 compared limit split input within inside true found =

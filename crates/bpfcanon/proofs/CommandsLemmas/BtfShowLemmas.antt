@@ -1,4 +1,4 @@
--- The text of BTF types that is written in pieces, line by line.
+-- The listing of BTF types, which is written in pieces, line by line.
 use Rattle.std.proofs.Common.{◌≡◌, ◌<◌, ◌≤◌, ◌+◌, ◌++◌, ◌∙◌, ℕ, Bool, List, [], ◌∷◌, Option, Some, length, take, drop, refl, sym, ap, subst, arith, append_assoc}
 use Rattle.std.specs.{Prelude.Result, Prelude.Err, Prelude.slice_get, List.flat_map, List.enumerate_from}
 use Rattle.std.proofs.{lemmas.List.take-append-drop, lemmas.List.take_all, lemmas.List.Concat.flat_map-append, KnownBytes.Appends-nil}
@@ -15,7 +15,7 @@ use Rattle.bpfcanon.proofs.CommandsLemmas.PiecesLemmas.{gathered_more, gathers_f
 
 -- ---- the items of a type
 
--- the items that are still to come
+-- the items that are still to be listed
 items_rest : (old : List ℕ) (signed : Bool) (xs : List TypeItem) (n : ℕ)
     → (old ++ flat_map (item_line signed) (take n xs)) ++ flat_map (item_line signed) (drop n xs) ≡ old ++ flat_map (item_line signed) xs
 items_rest old signed xs n =
@@ -82,7 +82,7 @@ numbered-append n (r ∷ v) w =
 abbrev lines : ℕ × TypeRecord → List ℕ
 lines p = record_text p.0 p.1
 
--- the text of the types after the first n
+-- the listing of the types after the first n
 abbrev rest_of : List TypeRecord → ℕ → List ℕ
 rest_of v n = flat_map lines (enumerate_from (1 + length (take n v)) (drop n v))
 
@@ -107,7 +107,7 @@ module _ (a b c : Option (List ℕ)) (f g h : ℕ) (held kept : List ℕ) (v : L
       ap (λ (t : List ℕ). t ++ rest_of v (i + 1)) (type_shown v i inside) ∙ types_rest v (i + 1) in
       subst (λ (t : List ℕ). TookText (change a c f h) t (Err e)) whole (gathers_front (change a c f h) kept _ (rest_of v (i + 1)) e line)
 
--- the sink took the last piece, or a part of it
+-- the sink received the last piece, or a part of it
 pub types_put : (a b c : Option (List ℕ)) (f g h : ℕ) (held : List ℕ) (v : List TypeRecord) (i : ℕ) (r : Result (Unit {0}) PutError) → length v ≤ i
     → Gathered (change a b f g) held (text_of (take i v)) → TookText (change b c g h) held r → TookText (change a c f h) (text_of v) r
 types_put a b c f g h held v i r done p q =

@@ -1,4 +1,4 @@
--- How insn-canon ends, by what its engine did.
+-- The outcomes of insn-canon, by the result of its engine.
 use Rattle.std.proofs.Common.{◌≡◌, ◌∙◌, ◌+◌, ℕ, List, [], take, refl, subst, inl, inr, arith, add-zero}
 use Rattle.std.specs.Io.KnownBytes.{Appends}
 use Rattle.std.proofs.lemmas.List.{take-take}
@@ -15,11 +15,11 @@ use Rattle.bpfcanon.specs.declared.outcome.Outcome.{Outcome, TheVariants.Done, T
 use Rattle.bpfcanon.specs.commands.Reply.{HasLastingFault, IsCanonReply, canonical, canonical_to_fault, canonical_to_limit}
 use Rattle.bpfcanon.specs.JobEnds.{EndsJob, TookAll, IsEndOfStop, TookPrefix, no_memory_amid, read_failed_amid, replied, write_failed_amid}
 
--- what the devices have, without their counts of failures
+-- the bytes of the devices before and after, without their counts of failures
 abbrev pub devices_of : Change → Change → Devices
 devices_of source sink = record { source = source.old; source_after = source.new; sink = sink.old; sink_after = sink.new }
 
--- the output for what came within the limit is that of the instructions at its front
+-- the output for the bytes read within the limit encodes the longest sequence of instructions with which they begin
 output_of_front : (order to : Order) (read : List ℕ) (outcome : Outcome) (output : List ℕ) → IsCanonReply limit order to (take limit read) outcome output
     → (insns : List Insn) × ((rest : List ℕ) × (IsFront order (take limit read) insns rest × (output ≡ file_of to insns)))
 output_of_front order to read outcome output (canonical l within file) = (l, ([], (file_front order (take limit read) l file, refl)))
@@ -50,7 +50,7 @@ module _ (j : Job) (source sink : Change) (n : ℕ) (canon : j.verb ≡ InsnCano
   canon_done ran healthy unfailed =
       replied ran.read Done (file_of j.to ran.insns) healthy unfailed ran.came (inr (inl ran.ended)) (rw canon (canonical ran.insns ran.within ran.file)) ran.took
 
-  -- where the engine stopped
+  -- the engine stopped early
   pub canon_stopped : (stop : RunCause SlotFault) → Stops (devices_of source sink) j.order j.to n stop
       → source.failed_after ≡ source.failed + counts_read stop → sink.failed_after ≡ sink.failed + counts_write stop
       → (outcome : Outcome) → IsEndOfStop (λ f o. o ≡ Fault f) stop outcome → EndsJob j source sink outcome

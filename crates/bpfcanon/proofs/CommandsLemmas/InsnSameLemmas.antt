@@ -1,4 +1,4 @@
--- What insn-same answers, by what the comparison of two files found.
+-- The reply of insn-same, by the result of the comparison.
 use Rattle.std.proofs.Common.{◌≡◌, ◌≤◌, ℕ, Bool, true, false, List, [], drop, length, take, refl}
 use Rattle.std.specs.{Prelude.IfOk, Prelude.Result, Prelude.Ok, Prelude.Err, declared.alloc.AllocError.AllocError}
 use Rattle.bpf_words.specs.declared.Order.{Order}
@@ -8,13 +8,13 @@ use Rattle.bpf_canon.specs.declared.engine.SideError.TheVariants as side
 use Rattle.bpfcanon.specs.declared.{outcome.Outcome.Outcome, outcome.Outcome.TheVariants.Second, commands.reply.Reply.Reply}
 use Rattle.bpfcanon.specs.commands.Reply.{IsSameReply, different, same, second_at_fault, verdict_line, verdict_outcome}
 
--- a reply that was made of an outcome and some bytes
+-- a reply made from an outcome and its output
 pub reply_with : {A : Type 0} (P : Outcome → List ℕ → Type 0) (r : Result (Reply A) AllocError) (outcome : Outcome) (bytes : List ℕ)
     → IfOk r (λ x. x.outcome ≡ outcome) → IfOk r (λ x. x.output.items ≡ bytes) → P outcome bytes → IfOk r (λ x. P x.outcome x.output.items)
 reply_with P (Ok x) outcome bytes e f p = rw (e, f) p
 reply_with P (Err x) outcome bytes e f p = tt
 
--- the answer about two files without a fault
+-- the reply to two valid files
 pub compared : (limit : ℕ) (order other : Order) (split : ℕ) (input : List ℕ) → length input ≤ limit → split ≤ length input
     → (s : Bool) → Compares order (take split input) other (drop split input) s
     → IsSameReply limit order other split input (verdict_outcome s) (verdict_line s)

@@ -1,4 +1,4 @@
--- A listing that is written in pieces, instruction by instruction.
+-- The listing of instructions, which is written in pieces, line by line.
 use Rattle.std.proofs.Common.{◌≡◌, ◌<◌, ◌≤◌, ◌+◌, ◌-◌, ◌++◌, ◌∙◌, ℕ, List, [], ◌∷◌, Option, length, take, drop, codes, refl, sym, ap, subst, arith, append_assoc, length-append, length-drop, All}
 use Rattle.std.specs.{Prelude.Result, Prelude.Err, Result.IsErrAnd}
 use Rattle.std.proofs.lemmas.List.{append-nil, drop-drop, flat_map_more, take_all, Concat.flat_map-append, Elements.All-head, Elements.All-tail}
@@ -14,7 +14,7 @@ use Rattle.bpfcanon.specs.{Devices.Change, Devices.change, commands.Reply.limit_
 use Rattle.bpfcanon.specs.commands.Pieces.{Answers, Gathered, Gathers, Stopped, TookText, answered, end_of_pieces}
 use Rattle.bpfcanon.proofs.CommandsLemmas.PiecesLemmas.{front_more, gathered_more, gathered_none, gathers_front, gathers_then, pieces_end, puts_handed, puts_then}
 
--- the lines of the instructions before a place are gathered, and those of the others follow
+-- the lines of the instructions before an offset are gathered, and those of the others follow
 pub record Listed (order : Order) (input : List ℕ) (at : ℕ) (sink : Change) (piece : List ℕ) : Type 0 where
   pub before : List Insn
   pub after : List Insn
@@ -27,7 +27,7 @@ pub record Listed (order : Order) (input : List ℕ) (at : ℕ) (sink : Change) 
 abbrev pub line : Insn → List ℕ
 line i = line_of i ++ codes "\n"
 
--- the instruction at the place
+-- the instruction at the offset
 record Next (order : Order) (input : List ℕ) (at : ℕ) (after : List Insn) : Type 0 where
   pub insn : Insn
   pub others : List Insn
@@ -58,7 +58,7 @@ listed_none order input a f l = record {
 listing-push : (l : List Insn) (i : Insn) → listing_of l ++ line i ≡ listing_of (l ++ i ∷ [])
 listing-push l i = flat_map_more line [] l i
 
--- a listing of some instruction has a line
+-- the listing of at least one instruction isn't empty
 a_line : (i : Insn) (t : List Insn) → 0 < length (listing_of (i ∷ t))
 a_line i t = omega (arith, length-append (line i) (listing_of t), length-append (line_of i) (codes "\n"))
 
@@ -94,7 +94,7 @@ module _ (order : Order) (input : List ℕ) (at : ℕ) (a b : Option (List ℕ))
       → length input - (at + len) < length input - at
   moved_on i len more found = omega (arith, more, found.1, at_least_a_slot order i)
 
-  -- the place has no fault
+  -- there is no fault at the offset
   pub faultless : (fault : SlotFault) → at < length input → IsSlotFault order (take (length input - at) (drop at input)) fault → ⊥
   faultless fault more at_fault = let n = next order input at p.after p.each p.rest more in at_fault.unspelled n.insn n.begins
 
@@ -128,13 +128,13 @@ module _ (order : Order) (input : List ℕ) (at : ℕ) (a b : Option (List ℕ))
       none [] e = refl
       none (x ∷ xs) e = absurd (omega (arith, e, length-append (spelling order x) (file_of order xs), at_least_a_slot order x))
 
-  -- the sink took the last piece, or a part of it
+  -- the sink received the last piece, or a part of it
   pub listed_put : (c : Option (List ℕ)) (h : ℕ) (r : Result (Unit {0}) PutError) → length input ≤ at → TookText (change b c g h) piece r
       → (l : List Insn) × (InsnFile order input l × TookText (change a c f h) (listing_of l) r)
   listed_put c h r done q =
       (p.before, (subst (InsnFile order input) (nothing_left done) p.file, puts_then a b c f g h piece (listing_of p.before) r p.gathered q))
 
--- a call hands on how one that it made ended
+-- a call returns the result of a call that it made
 pub listed_handed : (order : Order) (input : List ℕ) (sink : Change) (e : PutError) (r : Result (Unit {0}) PutError) → IsErrAnd r (λ x. x ≡ e)
     → (l : List Insn) × (InsnFile order input l × TookText sink (listing_of l) (Err e)) → (l : List Insn) × (InsnFile order input l × TookText sink (listing_of l) r)
 listed_handed order input sink e r same put = (put.0, (put.1.0, puts_handed sink (listing_of put.0) e r same put.1.1))

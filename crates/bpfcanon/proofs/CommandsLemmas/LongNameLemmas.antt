@@ -34,7 +34,7 @@ chunk_more old name start end low =
     ∙ ap (λ (l : List ℕ). old ++ flat_map quoted_byte l) (sym (take-add start (end - start) name))
     ∙ ap (λ (n : ℕ). old ++ flat_map quoted_byte (take n name)) whole
 
--- the bytes that are still to come
+-- the bytes that are still to be appended
 name_rest : (old name : List ℕ) (end : ℕ) → (old ++ flat_map quoted_byte (take end name)) ++ flat_map quoted_byte (drop end name) ≡ old ++ flat_map quoted_byte name
 name_rest old name end =
     append_assoc old (flat_map quoted_byte (take end name)) (flat_map quoted_byte (drop end name))
@@ -93,7 +93,7 @@ module _ (old first name last line : List ℕ) (whole : first ++ name ++ last �
       let part : Gathers sink kept ((old ++ first) ++ name) (Err e) = subst (λ (t : List ℕ). Gathers sink kept t (Err e)) text q in
       subst (λ (t : List ℕ). Gathers sink kept t (Err e)) joined (gathers_front sink kept ((old ++ first) ++ name) last e part)
 
-  -- memory ran out for what follows the name
+  -- memory ran out after the name
   pub last_refused : (a b : Option (List ℕ)) (f g : ℕ) (held : List ℕ) → 0 < length last → Gathered (change a b f g) held ((old ++ first) ++ name) → Stopped (change a b f g) (old ++ line) Memory
   last_refused a b f g held some p = subst (λ (t : List ℕ). Stopped (change a b f g) t Memory) joined (front_more a b f g held ((old ++ first) ++ name) last some p)
 

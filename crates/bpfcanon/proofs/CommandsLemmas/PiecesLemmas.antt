@@ -1,4 +1,4 @@
--- Text that is written in pieces.
+-- Output that is written in pieces.
 use Rattle.std.proofs.Common.{◌≡◌, ◌<◌, ◌+◌, ◌++◌, ◌∙◌, ℕ, List, [], Option, length, take, refl, sym, ap, subst, arith, append_assoc, length-append}
 use Rattle.std.specs.{Prelude.Result, Prelude.Ok, Prelude.Err, Prelude.true, Result.IsErrAnd, Io.KnownBytes.Appends}
 use Rattle.std.proofs.{lemmas.List.append-nil, lemmas.List.take-append-le, KnownBytes.Appends-nil, KnownBytes.Appends-trans}
@@ -9,7 +9,7 @@ use Rattle.bpfcanon.specs.{Devices.Change, Devices.change, commands.Reply.IsRepl
 use Rattle.bpfcanon.specs.commands.Pieces.{Answers, Gathered, Gathers, Stopped, StoppedBy, TookText, answered, end_of_pieces, refused_amid, unwritten}
 
 module _ (a b c : Option (List ℕ)) (f g h : ℕ) where
-  -- more text; some of it went to the sink
+  -- more output, a part of which went to the sink
   pub gathered_more : (held kept text line : List ℕ) → Gathered (change a b f g) held text → Gathered (change b c g h) kept (held ++ line)
       → Gathered (change a c f h) kept (text ++ line)
   gathered_more held kept text line p q = record {
@@ -20,7 +20,7 @@ module _ (a b c : Option (List ℕ)) (f g h : ℕ) where
     healthy = q.healthy ∙ p.healthy;
   }
 
-  -- the sink took the rest
+  -- the sink received the rest
   gathered_all : (held text : List ℕ) → Gathered (change a b f g) held text → Appends b c held → h ≡ g → Appends a c text × (h ≡ f)
   gathered_all held text p took healthy =
       let whole : Appends a c (p.taken ++ held) = Appends-trans a b c p.taken held p.took took in
@@ -30,7 +30,7 @@ module _ (a b c : Option (List ℕ)) (f g h : ℕ) where
   stopped_by WriteFailed same by = by ∙ ap (λ (n : ℕ). n + 1) same
   stopped_by Memory same by = by ∙ same
 
-  -- writing stopped amid what was held and a line more
+  -- writing stopped inside the held piece and one more line
   stopped_amid : (held text line more : List ℕ) (e : PutError) → Gathered (change a b f g) held text → Stopped (change b c g h) (held ++ line) e
       → Stopped (change a c f h) (text ++ line ++ more) e
   stopped_amid held text line more e p q =
@@ -52,7 +52,7 @@ module _ (a b c : Option (List ℕ)) (f g h : ℕ) where
   stopped_then held text line e p q =
       subst (λ (x : List ℕ). Stopped (change a c f h) x e) (append-nil (text ++ line)) (stopped_amid held text line [] e p q)
 
-  -- the sink took the rest, or a part of it
+  -- the sink received the rest, or a part of it
   pub puts_then : (held text : List ℕ) (r : Result (Unit {0}) PutError) → Gathered (change a b f g) held text → TookText (change b c g h) held r
       → TookText (change a c f h) text r
   puts_then held text (Ok done) p q = gathered_all held text p q.0 q.1
@@ -60,13 +60,13 @@ module _ (a b c : Option (List ℕ)) (f g h : ℕ) where
       let part : Stopped (change b c g h) (held ++ []) e = subst (λ (x : List ℕ). Stopped (change b c g h) x e) (sym (append-nil held)) q in
       subst (λ (x : List ℕ). Stopped (change a c f h) x e) (append-nil text) (stopped_then held text [] e p part)
 
-  -- a call added a line to what was gathered
+  -- a call added a line to the gathered output
   pub gathers_then : (held kept text line : List ℕ) (r : Result (Unit {0}) PutError) → Gathered (change a b f g) held text
       → Gathers (change b c g h) kept (held ++ line) r → Gathers (change a c f h) kept (text ++ line) r
   gathers_then held kept text line (Ok done) p q = gathered_more held kept text line p q
   gathers_then held kept text line (Err e) p q = stopped_then held text line e p q
 
--- a text that wasn't written whole, and what follows it
+-- an incomplete output, and what would follow it
 pub gathers_front : (sink : Change) (kept text more : List ℕ) (e : PutError) → Gathers sink kept text (Err e) → Gathers sink kept (text ++ more) (Err e)
 gathers_front sink kept text more e p =
     let front : take p.count (text ++ more) ≡ take p.count text = take-append-le p.count text more (omega (arith, p.part)) in
@@ -77,7 +77,7 @@ gathers_front sink kept text more e p =
       by = p.by;
     }
 
--- a call hands on how one that it made ended
+-- a call returns the result of a call that it made
 pub gathers_handed : (sink : Change) (kept text : List ℕ) (e : PutError) (r : Result (Unit {0}) PutError) → IsErrAnd r (λ x. x ≡ e) → Gathers sink kept text (Err e)
     → Gathers sink kept text r
 gathers_handed sink kept text e (Ok done) same p = absurd same
@@ -87,7 +87,7 @@ pub puts_handed : (sink : Change) (text : List ℕ) (e : PutError) (r : Result (
 puts_handed sink text e (Ok done) same p = absurd same
 puts_handed sink text e (Err other) same p = subst (λ (x : PutError). TookText sink text (Err x)) (sym same) p
 
--- memory ran out before anything was written of a text that isn't empty
+-- memory ran out before anything of a nonempty output was written
 pub gathers_none : (a : Option (List ℕ)) (f : ℕ) (kept old more : List ℕ) (r : Result (Unit {0}) PutError) → 0 < length more → IsErrAnd r (λ x. x ≡ Memory)
     → Gathers (change a a f f) kept (old ++ more) r
 gathers_none a f kept old more r some same =
@@ -99,11 +99,11 @@ gathers_none a f kept old more r some same =
 pub gathered_none : (a : Option (List ℕ)) (f : ℕ) → Gathered (change a a f f) [] []
 gathered_none a f = record { taken = []; took = Appends-nil a; whole = refl; healthy = refl }
 
--- what is held is all of the text
+-- the held piece is all of the output
 pub gathered_held : (a : Option (List ℕ)) (f : ℕ) (held : List ℕ) → Gathered (change a a f f) held (held ++ [])
 gathered_held a f held = record { taken = []; took = Appends-nil a; whole = append-nil held; healthy = refl }
 
--- memory ran out for what follows the text
+-- memory ran out for the bytes that follow the output
 pub front_more : (a b : Option (List ℕ)) (f g : ℕ) (held text more : List ℕ) → 0 < length more → Gathered (change a b f g) held text → Stopped (change a b f g) (text ++ more) Memory
 front_more a b f g held text more some p =
     let whole : text ++ more ≡ p.taken ++ (held ++ more) = ap (λ (x : List ℕ). x ++ more) p.whole ∙ append_assoc p.taken held more in

@@ -1,4 +1,4 @@
--- How the program's command line comes about, one option and one command at a time.
+-- How the program's command line is built, one option and one command at a time.
 use Rattle.std.proofs.Common.{◌≡◌, ◌∙◌, ◌+◌, ◌++◌, ◌<◌, ◌≤◌, append-nil, ℕ, Bool, true, false, List, [], ◌∷◌, refl, ap, sym, take, length, get_or, suc, add-one}
 use Rattle.std.proofs.{Common.ap₂, Math.Seq.take-suc, lemmas.List.map-append, lemmas.List.take_all, lemmas.List.Elements.filter-append}
 use Rattle.std.specs.Prelude.{map, filter, if◌then◌else◌}
@@ -9,7 +9,7 @@ use Rattle.bpfcanon.specs.declared.verb.{Verb.Verb, Setting.Setting}
 use Rattle.bpfcanon.specs.Verbs.{all_settings, all_verbs, name_of, takes_setting}
 use Rattle.bpfcanon.specs.line.Options.{Names, bare_program, option_of, program, shape_for}
 
--- those of the options that the command takes
+-- those options that the command accepts
 abbrev rules_of : Names → Verb → List Setting → List Rule
 rules_of names verb settings = map (option_of names) (filter (takes_setting verb) settings)
 
@@ -17,7 +17,7 @@ rules_of names verb settings = map (option_of names) (filter (takes_setting verb
 abbrev app_with : Names → Verb → List Rule → App
 app_with names verb rules = record { top = record (new_shape (name_of verb)) { rules = rules }; subs = [] }
 
--- a command with those of the first i options that it takes
+-- a command with those of the first i options that it accepts
 abbrev pub app_up_to : Names → Verb → ℕ → App
 app_up_to names verb i = app_with names verb (rules_of names verb (take i all_settings))
 
@@ -33,7 +33,7 @@ rules_of-one : (names : Names) (verb : Verb) (s : Setting) (b : Bool) → takes_
 rules_of-one names verb s true e = rw e refl
 rules_of-one names verb s false e = rw e refl
 
--- one option was looked at, and added where the command takes it
+-- one option was examined, and added if the command accepts it
 pub takes_one : (names : Names) (verb : Verb) (i : ℕ) (s : Setting) (old new : Command) (arg : Arg) → i < length all_settings
     → takes_setting verb (get_or all_settings i s) ≡ true → app_of old ≡ app_up_to names verb i → AddsArg old arg new → arg.global ≡ false
     → rule_of arg ≡ option_of names (get_or all_settings i s) → app_of new ≡ app_up_to names verb (i + 1)
@@ -47,7 +47,7 @@ skips_one names verb i s old l takes before =
     let same = rules_of-suc names verb i s l ∙ ap (λ r. rules_of names verb (take i all_settings) ++ r) (rules_of-one names verb _ false takes) ∙ append-nil _ in
     rw (add-one, same) before
 
--- a command with all options that it takes
+-- a command with all options that it accepts
 pub takes_all : (names : Names) (verb : Verb) (i : ℕ) (c : Command) → length all_settings ≤ i → app_of c ≡ app_up_to names verb i
     → shape_of c ≡ shape_for names verb
 takes_all names verb i c l e = ap (λ (a : App). a.top) (e ∙ ap (λ s. app_with names verb (rules_of names verb s)) (take_all i all_settings l))

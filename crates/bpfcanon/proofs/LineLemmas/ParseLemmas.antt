@@ -1,4 +1,4 @@
--- What clap's words say of the program's command line.
+-- Consequences of clap's definitions for the program's command line.
 use Rattle.std.proofs.Common.{◌≡◌, ◌∙◌, ℕ, Bool, true, false, List, [], ◌∷◌, Option, Some, None, refl, sym, subst, arith}
 use Rattle.std.specs.Prelude.{find, IfSome, map, option_map, Result, Ok, Err, unwrap_or}
 use Rattle.std.specs.{Option.option_map_or, Str.Parse.ParsesUnsigned}
@@ -41,13 +41,13 @@ entered_is_verb names None = tt
 entered_is_verb names (Some p) = named_at _ p.1
     (found_is_verb (λ s. answers_to p.0 (label_of s)) (built (program names)).subs (built_has_names names (on_top with_leaf_noted (on_top marked_built (program names))).top all_verbs))
 
--- the subcommand that the words name is a command of the program
+-- the subcommand that the arguments name is a command of the program
 pub subcommand_is_verb : (names : Names) (words : List Text)
     → IfSome (subcommand_of (program names) words) (λ p. IsVerbName p.0)
 subcommand_is_verb names words = entered_is_verb names
     (stop_after (built (program names)).top.rules (names_of (built (program names))) (argument_words (program names) words))
 
--- what clap found is what its words say of the program
+-- the matches of clap agree with its definitions for the program
 pub found_is_stated : (names : Names) (a : App) (words : List Text) (m : ArgMatches) → a ≡ program names
     → HasMatchesOf a words m → subcommand_rows_of m ≡ subcommand_of (program names) words
 found_is_stated names a words m e h =
@@ -85,7 +85,7 @@ reads_number E G (Some t) None only none value =
 reads_number E G (Some t) (Some n) only none value =
     number_at t _ refl E (Ok n) (only t (Ok n) (value t refl)) (Some n) refl
 
--- clap refuses the words, and memory isn't why
+-- clap rejects the arguments, and not because memory ran out
 pub words_are_refused : (names : Names) (a : App) (words : List Text) (k j : ErrorKind) → a ≡ program names
     → (takes a words ≡ true → k ≡ OutOfMemory) → (j ≡ OutOfMemory → ⊥) → j ≡ k
     → takes (program names) words ≡ false
@@ -93,7 +93,7 @@ words_are_refused names a words k j e passes other same =
     let P : App → Type 0 = λ b. takes b words ≡ false in
     subst P e (false_from_not (takes a words) (λ t. other (same ∙ passes t)))
 
--- an `Ok` comes only where clap states no fault
+-- clap returns `Ok` only if it reports no fault
 pub words_are_taken : {T : Type 0} (names : Names) (a : App) (words : List Text) (r : Result T Error) (m : T) → a ≡ program names
     → (is_simple_and_free a ≡ true → FailsBy (fault_of a words) r) → r ≡ Ok m
     → fault_of (program names) words ≡ []

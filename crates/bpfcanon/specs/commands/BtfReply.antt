@@ -1,4 +1,4 @@
--- What a command on BTF answers to an input, as if no device failed.
+-- The replies of the BTF commands to an input, if no device fails.
 use Rattle.std.specs.Prelude.{◌≡◌, ◌<◌, ◌≤◌, ◌++◌, ℕ, List, [], codes, decimal, drop, length, take}
 use Rattle.bpf_words.specs.declared.Order.{Order}
 use Rattle.btf_raw.specs.declared.cause.BtfFault.{BtfFault}
@@ -20,7 +20,7 @@ pub data IsBtfCanonReply (limit : ℕ) (to : Order) (input : List ℕ) : Outcome
 
 -- ---- btf-show
 
--- the text of the types of a file
+-- the listing of the types of a file
 pub data IsBtfShowReply (limit : ℕ) (input : List ℕ) : Outcome → List ℕ → Type 0 where
   shown : (v : List TypeRecord) → length input ≤ limit → Denotes input v → IsBtfShowReply limit input Done (text_of v)
   unshown : (f : BtfFault) → length input ≤ limit → IsFirst input f → IsBtfShowReply limit input (ends.BtfFault f) []
@@ -28,7 +28,7 @@ pub data IsBtfShowReply (limit : ℕ) (input : List ℕ) : Outcome → List ℕ 
 
 -- ---- btf-check
 
--- the line of a file without a fault: its number of types
+-- the line for a valid file: its number of types
 abbrev pub count_line : ℕ → List ℕ
 count_line count = codes "ok " ++ (decimal count ++ (codes " types" ++ newline))
 

@@ -1,4 +1,4 @@
--- How a whole input is answered, with output that is written whole or in pieces. Private contracts alone cite this.
+-- The reply to a complete input, with output that is written at once or in pieces. Only private contracts cite this.
 use Rattle.std.specs.Prelude.{◌≡◌, ◌<◌, ◌≤◌, ◌++◌, ℕ, List, Result, Ok, Err, true, length, take}
 use Rattle.std.specs.Io.KnownBytes.{Appends, Consumes, IsAtEnd}
 use Rattle.bpfcanon.specs.declared.{job.Job.Job, outcome.Outcome.Outcome}
@@ -7,58 +7,58 @@ use Rattle.bpfcanon.specs.declared.commands.pieces.PutError.{PutError, TheVarian
 use Rattle.bpfcanon.specs.Devices.{Change, HasFailed, IsHealthy, IsUnused}
 use Rattle.bpfcanon.specs.commands.Reply.{IsReply, in_pieces, limit_of}
 
--- the source was read to its end, and the input is all that came
+-- the source was read to its end, and the input is all of its bytes
 pub record IsInput (j : Job) (source : Change) (input : List ℕ) : Type 0 where
   pub came : Consumes source.old source.new input
   pub ended : IsAtEnd source.new
   pub healthy : IsHealthy source
   pub within : length input ≤ limit_of j.verb
 
--- what the sink took and the held piece together are the text
+-- the bytes that the sink received, followed by the held piece, are the output
 pub record Gathered (sink : Change) (held text : List ℕ) : Type 0 where
   pub taken : List ℕ
   pub took : Appends sink.old sink.new taken
   pub whole : text ≡ taken ++ held
   pub healthy : IsHealthy sink
 
--- the calls of the sink by which writing was stopped
+-- whether the sink failed, by the error that stopped the writing
 abbrev pub StoppedBy : Change → PutError → Type 0
 StoppedBy sink WriteFailed = HasFailed sink
 StoppedBy sink Memory = IsHealthy sink
 
--- the sink took the first bytes of the text, but not all
+-- the sink received a proper prefix of the output
 pub record Stopped (sink : Change) (text : List ℕ) (e : PutError) : Type 0 where
   pub count : ℕ
   pub part : count < length text
   pub took : Appends sink.old sink.new (take count text)
   pub by : StoppedBy sink e
 
--- what the sink took of a text, by how writing it ended
+-- the part of the output that the sink received, by the result of writing it
 abbrev pub TookText : Change → List ℕ → Result (Unit {0}) PutError → Type 0
 TookText sink text (Ok done) = Appends sink.old sink.new text × IsHealthy sink
 TookText sink text (Err e) = Stopped sink text e
 
--- what the sink took of a text that a call adds to, with the held piece, by how the call ended
+-- the part of the output that the sink received or the piece holds, by the result of the call that added to it
 abbrev pub Gathers : Change → List ℕ → List ℕ → Result (Unit {0}) PutError → Type 0
 Gathers sink held text (Ok done) = Gathered sink held text
 Gathers sink held text (Err e) = Stopped sink text e
 
--- how a command ends that wrote its output in pieces
+-- the outcome of a command that wrote its output in pieces
 abbrev pub end_of_pieces : Result (Unit {0}) PutError → Outcome
 end_of_pieces (Ok done) = ends.Done
 end_of_pieces (Err WriteFailed) = ends.WriteFailed
 end_of_pieces (Err Memory) = ends.Memory
 
--- how a job ends whose input was read whole, by what its sink took of the reply
+-- the outcome of a job with a complete input, by the part of the reply that the sink received
 pub data Answers (j : Job) (input : List ℕ) (sink : Change) : Outcome → Type 0 where
-  -- the sink took the output
+  -- the sink received the output
   answered : (outcome : Outcome) (output : List ℕ) → IsReply j.verb j input outcome output
       → Appends sink.old sink.new output → IsHealthy sink → Answers j input sink outcome
-  -- a write failed once the sink had taken the first bytes of the output
+  -- a write failed after the sink had received a proper prefix of the output
   unwritten : (outcome : Outcome) (output : List ℕ) → IsReply j.verb j input outcome output
       → Stopped sink output WriteFailed → Answers j input sink ends.WriteFailed
   -- memory ran out before anything was written
   refused : IsUnused sink → Answers j input sink ends.Memory
-  -- memory ran out between pieces, once the sink had taken the first bytes of the output
+  -- memory ran out between pieces, after the sink had received a proper prefix of the output
   refused_amid : (outcome : Outcome) (output : List ℕ) → in_pieces j.verb ≡ true → IsReply j.verb j input outcome output
       → Stopped sink output Memory → Answers j input sink ends.Memory

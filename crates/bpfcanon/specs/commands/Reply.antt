@@ -1,4 +1,4 @@
--- What a command answers to an input, as if no device failed.
+-- The reply of a command to an input, if no device fails.
 use Rattle.std.specs.Prelude.{◌≡◌, ◌<◌, ◌≤◌, ◌++◌, ◌*◌, ◌↔◌, ℕ, Bool, true, false, List, [], ◌∷◌, IsTrue, codes, drop, filter, length, take}
 use Rattle.std.specs.List.{flat_map}
 use Rattle.bpf_words.specs.declared.Order.{Order}
@@ -13,7 +13,7 @@ use Rattle.bpfcanon.specs.declared.outcome.Outcome.TheVariants.{Done, Different,
 use Rattle.bpfcanon.specs.declared.verb.Verb.TheVariants.{InsnCanon, InsnShow, InsnRead, InsnGroups, InsnSame, BtfCanon, BtfShow, BtfCheck, BtfSame}
 use Rattle.bpfcanon.specs.commands.BtfReply.{IsBtfCanonReply, IsBtfShowReply, IsBtfCheckReply, IsBtfSameReply}
 
--- the longest input of a command: the limit of an engine, and twice that for two inputs
+-- the longest input of a command in bytes: the limit of an engine, or twice that for two files
 abbrev pub limit_of : Verb → ℕ
 limit_of InsnCanon = engine.limit
 limit_of InsnShow = engine.limit
@@ -25,12 +25,12 @@ limit_of BtfShow = btf_limit
 limit_of BtfCheck = btf_limit
 limit_of BtfSame = 2 * btf_limit
 
--- whether a command writes as it reads; the others read their input whole
+-- whether a command writes while it reads; the others first read the complete input
 abbrev pub streams : Verb → Bool
 streams InsnCanon = true
 streams _ = false
 
--- whether a command writes its output in pieces, once it has read its input whole and found no fault
+-- whether a command writes its output in pieces, after it has read the complete input and found no fault
 abbrev pub in_pieces : Verb → Bool
 in_pieces InsnShow = true
 in_pieces BtfShow = true
@@ -44,19 +44,19 @@ has_engine _ = false
 
 -- ---- insn-canon
 
--- a fault that no more bytes can mend
+-- a fault that no further bytes can repair
 abbrev pub HasLastingFault : Order → List ℕ → Type 0
 HasLastingFault order input = (f : SlotFault) × (IsInsnFault order input f × ¬ (f.cause ≡ Truncated))
 
--- how instructions that are read in one order and written in another end, and what is written
+-- the outcome and output when instructions are read in one byte order and written in another
 pub data IsCanonReply (limit : ℕ) (order to : Order) (input : List ℕ) : Outcome → List ℕ → Type 0 where
-  -- the input is an instruction file
+  -- the input is a valid sequence of instructions
   canonical : (l : List Insn) → length input ≤ limit → InsnFile order input l → IsCanonReply limit order to input Done (file_of to l)
-  -- it has a fault within the limit, and the instructions before it are written; bytes are missing only at the input's end
+  -- the input has a fault within the limit, and the instructions before it are written; `Truncated` is reported only at the end of the input
   canonical_to_fault : (l : List Insn) (rest : List ℕ) (f : SlotFault) → IsFront order (take limit input) l rest
       → IsInsnFault order (take limit input) f → (f.cause ≡ Truncated → length input ≤ limit)
       → IsCanonReply limit order to input (Fault f) (file_of to l)
-  -- it has none within the limit, but more bytes
+  -- the input has no fault within the limit, but is longer
   canonical_to_limit : (l : List Insn) (rest : List ℕ) → IsFront order (take limit input) l rest
       → ¬ HasLastingFault order (take limit input) → limit < length input → IsCanonReply limit order to input TooLong (file_of to l)
 
@@ -70,7 +70,7 @@ pub data IsShowReply (limit : ℕ) (order : Order) (input : List ℕ) : Outcome 
 
 -- ---- insn-read
 
--- the instructions that a text lists
+-- the instructions of a listing
 pub data IsReadReply (limit : ℕ) (to : Order) (input : List ℕ) : Outcome → List ℕ → Type 0 where
   read_back : (l : List Insn) → length input ≤ limit → Lists input l → IsReadReply limit to input Done (file_of to l)
   unread : (f : LineFault) → length input ≤ limit → IsListFault input f → IsReadReply limit to input (FaultyLine f) []
@@ -78,7 +78,7 @@ pub data IsReadReply (limit : ℕ) (to : Order) (input : List ℕ) : Outcome →
 
 -- ---- insn-groups
 
--- the name of each group that the test finds, on a line of its own
+-- the names of the groups for which the test holds, one per line
 abbrev pub group_lines : (Group → Bool) → List ℕ
 group_lines has = flat_map (λ g. group_name g ++ newline) (filter has all_groups)
 
@@ -90,7 +90,7 @@ pub data IsGroupsReply (limit : ℕ) (order : Order) (input : List ℕ) : Outcom
 
 -- ---- insn-same
 
--- how a comparison of two files without a fault ends, and its line
+-- the outcome and the line of a comparison of two valid files
 abbrev pub verdict_outcome : Bool → Outcome
 verdict_outcome true = Done
 verdict_outcome false = Different
@@ -99,7 +99,7 @@ abbrev pub verdict_line : Bool → List ℕ
 verdict_line true = codes "same" ++ newline
 verdict_line false = codes "different" ++ newline
 
--- the first file is the first `split` bytes of the input, and the second the rest; each has its own order
+-- the first file is the first `split` bytes of the input, and the second the rest; each has its own byte order
 pub data IsSameReply (limit : ℕ) (order other : Order) (split : ℕ) (input : List ℕ) : Outcome → List ℕ → Type 0 where
   same : (l : List Insn) → length input ≤ limit → split ≤ length input → InsnFile order (take split input) l
       → InsnFile other (drop split input) l → IsSameReply limit order other split input Done (codes "same" ++ newline)
@@ -114,7 +114,7 @@ pub data IsSameReply (limit : ℕ) (order other : Order) (split : ℕ) (input : 
 
 -- ---- each command
 
--- how a job ends, and its output
+-- the outcome and the output of a job
 abbrev pub IsReply : Verb → Job → List ℕ → Outcome → List ℕ → Type 0
 IsReply InsnCanon j input outcome output = IsCanonReply (limit_of InsnCanon) j.order j.to input outcome output
 IsReply InsnShow j input outcome output = IsShowReply (limit_of InsnShow) j.order input outcome output
@@ -126,7 +126,7 @@ IsReply BtfShow j input outcome output = IsBtfShowReply (limit_of BtfShow) input
 IsReply BtfCheck j input outcome output = IsBtfCheckReply (limit_of BtfCheck) input outcome output
 IsReply BtfSame j input outcome output = IsBtfSameReply (limit_of BtfSame) j.split input outcome output
 
--- the answer comes before the input's end, whatever comes after what was read
+-- the bytes read decide the reply before the end of the input, whatever bytes follow
 abbrev pub IsEarly : Verb → Job → List ℕ → Type 0
 IsEarly InsnCanon j input = HasLastingFault j.order (take (limit_of InsnCanon) input)
 IsEarly _ j input = ⊥

@@ -1,4 +1,4 @@
--- The program's command line, as clap's words describe one.
+-- The program's command line, in the terms of clap's definitions.
 use Rattle.std.specs.Prelude.{◌≡◌, true, false, List, [], ◌∷◌, Some, codes, map}
 use Rattle.std.specs.Borrow.{Bor}
 use Rattle.clap.specs.{Words.App, Words.Rule, Words.Shape, Words.Text, Words.new_rule, Simple.new_shape, Walk.texts}
@@ -15,7 +15,7 @@ Names = Bor (List (Bor Text))
 abbrev pub IsOrderNames : Names → Type 0
 IsOrderNames names = texts names.now ≡ codes "little" ∷ codes "big" ∷ []
 
--- an option that takes a byte order, `little` where it isn't given
+-- an option for a byte order; the default is `little`
 abbrev pub order_option : Names → Text → Rule
 order_option names name = record (new_rule name) {
   long = Some name;
@@ -23,7 +23,7 @@ order_option names name = record (new_rule name) {
   defaults = codes "little" ∷ [];
 }
 
--- the option that takes the length of the first file, which must be given; it isn't beyond the longest input
+-- the required option for the length of the first file in bytes, at most the length of the longest input
 abbrev pub split_option : Rule
 split_option = record (new_rule (codes "split")) {
   long = Some (codes "split");
@@ -41,7 +41,7 @@ option_of names Split = split_option
 abbrev pub shape_for : Names → Verb → Shape
 shape_for names verb = record (new_shape (name_of verb)) { rules = map (option_of names) (settings_of verb) }
 
--- the program with no command yet; it has no option of its own, and no help
+-- the program without its commands; it has no options of its own, and no help
 abbrev pub bare_program : App
 bare_program = record {
   top = record (new_shape (codes "bpfcanon")) { disable_help_flag = true; disable_help_subcommand = true };

@@ -1,4 +1,4 @@
--- What a command line asks for.
+-- The job that a command line describes.
 use Rattle.std.specs.Prelude.{◌≡◌, ◌-◌, ◌^◌, ℕ, false, List, [], Option, Some, None, codes, if◌then◌else◌}
 use Rattle.std.specs.{Option.option_map_or, Str.bytes_eq, Str.Parse.digits_value, Str.Parse.without_leading_plus}
 use Rattle.clap.specs.Words.{Row, Text, first_of, one_of, subcommand_of, takes, fault_of}
@@ -9,25 +9,25 @@ use Rattle.bpfcanon.specs.declared.verb.Setting.TheVariants as setting
 use Rattle.bpfcanon.specs.Verbs.{name_of, setting_name, takes_setting}
 use Rattle.bpfcanon.specs.line.Options.{IsOrderNames, Names, program}
 
--- the order of this name
+-- the byte order with this name
 abbrev pub order_named : Text → Order
 order_named name = if bytes_eq name (codes "big") then Big else Little
 
--- the order that clap states for an option, where the command takes it; Little where it doesn't
+-- the byte order that clap reports for an option, or Little if the command doesn't accept the option
 abbrev pub order_at : Verb → Setting → List Row → Order
 order_at verb s rows =
     if takes_setting verb s then option_map_or order_named (first_of (setting_name s) rows) Little else Little
 
--- the number that a text spells as a u64, and 0 where it spells none
+-- the u64 that a string spells in decimal, or 0 if it spells none
 abbrev pub number_named : Text → ℕ
 number_named text = if is_unsigned_in 0 (2 ^ 64 - 1) text then digits_value 10 (without_leading_plus text) else 0
 
--- the number that clap states for `--split`, where the command takes it; 0 where it doesn't
+-- the number that clap reports for `--split`, or 0 if the command doesn't accept the option
 abbrev pub split_at : Verb → List Row → ℕ
 split_at verb rows =
     if takes_setting verb setting.Split then option_map_or number_named (one_of (codes "split") rows) 0 else 0
 
--- the job of a command with what clap states for its options
+-- the job of a command with the option values that clap reports
 abbrev pub job_at : Verb → List Row → Job
 job_at verb rows = record {
   verb = verb;
@@ -40,12 +40,12 @@ job_at verb rows = record {
 abbrev pub default_job : Job
 default_job = record { verb = InsnCanon; order = Little; to = Little; other = Little; split = 0 }
 
--- the job that a subcommand with what clap states for its options asks for; where the line names none, it is the default
+-- the job of a subcommand with the option values that clap reports, or the default job if there is no subcommand
 abbrev pub IsJobOf : Option (Text × List Row) → Job → Type 0
 IsJobOf None j = j ≡ default_job
 IsJobOf (Some p) j = (p.0 ≡ name_of j.verb) × (j ≡ job_at j.verb p.1)
 
--- the arguments ask for this job, and clap reports that it accepts them
+-- the arguments describe this job, and clap reports that it accepts them
 pub record Asks (words : List Text) (j : Job) : Type 0 where
   pub names : Names
   pub order_names : IsOrderNames names

@@ -42,7 +42,7 @@ impl<A: Allocator> Reply<A> {
         })
     }
 
-    /// The reply to two valid files: the line `same` or `different`. `AllocError` if memory runs out.
+    /// The reply to two valid files, `same` or `different`. `AllocError` if memory runs out.
     pub fn of_comparison(alloc: A, same: bool) -> Result<Reply<A>, AllocError>
         ensures outcome { IfOk result (λ r. r.outcome ≡ verdict_outcome same) }
         ensures output { IfOk result (λ r. r.output.items ≡ verdict_line same) }
