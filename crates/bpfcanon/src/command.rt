@@ -30,14 +30,14 @@ fn run_line<S: ByteSource, W: ByteSink>(
     }
 }
 
-/// Runs a command line with a source, an output sink and a fault sink, and returns the exit status
-/// of the program. The first argument is the program's name and is required.
+/// Runs a command line with a source, an output sink and a fault sink, and returns the program's
+/// exit status. The first argument is the program's name and is required.
 ///
 /// | Status | When | Line on the fault sink |
 /// |---|---|---|
 /// | 0 | success, or two files are the same | none |
 /// | 1 | two files are different | none |
-/// | 1 | the input has a fault | `fault POS CAUSE`; `first: ` or `second: ` precedes it for two files |
+/// | 1 | the input has a fault | `fault POS CAUSE`; after `first: ` or `second: ` for two files |
 /// | 1 | a listing has a fault | `fault line N CAUSE` |
 /// | 1 | the input is longer than the limit of the command | `too long` |
 /// | 1 | `--split` is greater than the length of the input | `split beyond input` |

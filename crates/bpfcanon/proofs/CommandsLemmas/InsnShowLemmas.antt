@@ -94,7 +94,7 @@ module _ (order : Order) (input : List ℕ) (at : ℕ) (a b : Option (List ℕ))
       → length input - (at + len) < length input - at
   moved_on i len more found = omega (arith, more, found.1, at_least_a_slot order i)
 
-  -- there is no fault at the offset
+  -- the slot at the offset doesn't have a fault
   pub faultless : (fault : SlotFault) → at < length input → IsSlotFault order (take (length input - at) (drop at input)) fault → ⊥
   faultless fault more at_fault = let n = next order input at p.after p.each p.rest more in at_fault.unspelled n.insn n.begins
 

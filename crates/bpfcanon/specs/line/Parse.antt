@@ -40,7 +40,7 @@ job_at verb rows = record {
 abbrev pub default_job : Job
 default_job = record { verb = InsnCanon; order = Little; to = Little; other = Little; split = 0 }
 
--- the job of a subcommand with the option values that clap reports, or the default job if there is no subcommand
+-- the job of a subcommand with the option values that clap reports, or the default job without a subcommand
 abbrev pub IsJobOf : Option (Text × List Row) → Job → Type 0
 IsJobOf None j = j ≡ default_job
 IsJobOf (Some p) j = (p.0 ≡ name_of j.verb) × (j ≡ job_at j.verb p.1)

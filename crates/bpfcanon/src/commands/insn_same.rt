@@ -11,7 +11,7 @@ use crate::outcome::Outcome;
 use bpf_canon::{SideError, same_insns};
 use std::alloc::{AllocError, Allocator};
 
-/// The reply of `insn-same`. Each file has its own byte order.
+/// The reply of `insn-same`. The byte orders of the two files are independent.
 pub fn insn_same_reply<A: Allocator + Copy>(
     alloc: A,
     job: Job,

@@ -16,7 +16,7 @@ use clap::error::ErrorKind;
 use std::alloc::{AllocError, Global};
 use thiserror::Error;
 
-/// Why a command line has no job.
+/// Why a command line can't be parsed into a job.
 #[derive(Clone, Copy, Debug, PartialEq, Eq, Error)]
 pub enum LineError {
     /// The arguments aren't a command with valid options, or they ask for help.
