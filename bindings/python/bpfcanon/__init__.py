@@ -19,7 +19,7 @@ from . import _library
 from ._library import Buffer
 from .btf import btf_canon, btf_check, btf_same, btf_show
 from .causes import BtfCause, Cause, Group, InsnCause, LineCause, Order
-from .errors import BpfcanonError, Fault, OrderError, OutOfMemory
+from .errors import BpfcanonError, Fault, OrderError, OutOfMemory, UnknownCause
 from .insn import Front, insn_canon, insn_front, insn_groups, insn_read, insn_same, insn_show, insn_stream
 
 __version__ = "0.1.0"
@@ -37,6 +37,7 @@ __all__ = [
     "Order",
     "OrderError",
     "OutOfMemory",
+    "UnknownCause",
     "btf_canon",
     "btf_check",
     "btf_same",

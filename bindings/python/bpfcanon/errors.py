@@ -1,6 +1,6 @@
 """The exceptions of the package, and how an answer of the library turns into one."""
 
-from typing import Any, Callable, Optional
+from typing import Any, Callable, Optional, Union
 
 from . import _library
 from .causes import Cause
@@ -30,8 +30,25 @@ class Fault(BpfcanonError, ValueError):
         self.second = second
 
     def __str__(self) -> str:
-        place = f"line {self.line}" if self.line else f"byte {self.pos}"
-        return f"{'second input: ' if self.second else ''}{place}: {self.cause.label}: {self.cause.text}"
+        return f"{place_of(self)}: {self.cause.label}: {self.cause.text}"
+
+
+class UnknownCause(BpfcanonError):
+    """The first fault of an input, with a cause that only a newer library has.
+
+    number  the number of the cause in the header of the library
+    pos, line, second  as in Fault
+    """
+
+    def __init__(self, number: int, pos: int = 0, line: int = 0, second: bool = False) -> None:
+        super().__init__(number, pos, line, second)
+        self.number = number
+        self.pos = pos
+        self.line = line
+        self.second = second
+
+    def __str__(self) -> str:
+        return f"{place_of(self)}: cause {self.number}, which this version of the package doesn't know"
 
 
 class OutOfMemory(BpfcanonError, MemoryError):
@@ -40,6 +57,12 @@ class OutOfMemory(BpfcanonError, MemoryError):
 
 class OrderError(BpfcanonError, ValueError):
     """An argument is not a valid byte order."""
+
+
+def place_of(error: Union[Fault, UnknownCause]) -> str:
+    """Return where a fault is, as the texts of errors begin."""
+    place = f"line {error.line}" if error.line else f"byte {error.pos}"
+    return f"{'second input: ' if error.second else ''}{place}"
 
 
 def error_of(answer: Any, cause: Callable[[int], Cause]) -> Optional[BpfcanonError]:
@@ -51,8 +74,7 @@ def error_of(answer: Any, cause: Callable[[int], Cause]) -> Optional[BpfcanonErr
         try:
             return Fault(cause(answer.cause), answer.pos, answer.line, second)
         except ValueError:
-            place = f"line {answer.line}" if answer.line else f"byte {answer.pos}"
-            return BpfcanonError(f"{place}: cause {answer.cause}, which this version of the package doesn't know")
+            return UnknownCause(answer.cause, answer.pos, answer.line, second)
     if answer.status == _library.MEMORY:
         return OutOfMemory("out of memory")
     if answer.status == _library.ORDER:

@@ -102,7 +102,20 @@ class Faults(unittest.TestCase):
             (_library.Answer(_library.FAULT, cause=99, line=8), "line 8: cause 99, which this version of the package doesn't know"),
         ]:
             error = error_of(answer, InsnCause)
-            self.assertEqual((type(error), str(error)), (bpfcanon.BpfcanonError, text))
+            self.assertEqual((type(error), str(error)), (bpfcanon.UnknownCause, text))
+
+    def test_a_stream_counts_the_offset_of_an_unknown_cause_from_its_start(self) -> None:
+        program = unhex(INSNS[1][1])
+        answers = [
+            (_library.Answer(_library.DONE, read=8), bytearray(program[:8])),
+            (_library.Answer(_library.FAULT, cause=99, pos=1), bytearray()),
+        ]
+        with mock.patch.object(_library, "write", side_effect=answers):
+            stream = bpfcanon.insn_stream([program[:8], program[:8]])
+            self.assertEqual(next(stream), program[:8])
+            with self.assertRaises(bpfcanon.UnknownCause) as raised:
+                next(stream)
+        self.assertEqual(raised.exception.args, (99, 9, 0, False))
 
     def test_the_package_has_the_causes_of_the_header(self) -> None:
         header = (TOP / "capi" / "bpfcanon.h").read_text()
