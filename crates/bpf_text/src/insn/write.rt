@@ -70,13 +70,13 @@ impl Line {
 
     /// Writes a string.
     #[inline(always)]
-    fn word(&mut self, word: &str)
-        requires { length word.now + length self.old ≤ LINE_ROOM }
-        ensures { self.new ≡ word.now ++ self.old }
+    fn text(&mut self, text: &[u8])
+        requires { length text.now + length self.old ≤ LINE_ROOM }
+        ensures { self.new ≡ text.now ++ self.old }
     {
         let end = self.start;
-        self.start -= word.len();
-        self.bytes[self.start..end].copy_from_slice(word.as_bytes());
+        self.start -= text.len();
+        self.bytes[self.start..end].copy_from_slice(text);
     }
 
     /// Writes the decimal digits of a number.
@@ -97,10 +97,9 @@ impl Line {
     {
         let number = register.number();
         if number < 10 {
-            self.byte(b'0' + number);
-            self.byte(b'r');
+            self.text(&[b'r', b'0' + number]);
         } else {
-            self.word("r10");
+            self.text(b"r10");
         }
     }
 
@@ -178,7 +177,7 @@ impl Line {
         ensures len { length self.new ≤ length self.old + 55 }
     {
         self.operand(second);
-        self.word(", ");
+        self.text(b", ");
         self.one(first);
     }
 
@@ -191,7 +190,7 @@ impl Line {
         ensures len { length self.new ≤ length self.old + 83 }
     {
         self.operand(third);
-        self.word(", ");
+        self.text(b", ");
         self.two(first, second);
     }
 
@@ -271,7 +270,7 @@ pub fn push_line<A: Allocator>(out: &mut Vec<u8, A>, insn: Insn) -> Result<(), A
 {
     let mut line = Line::new();
     line.operands(&insn);
-    line.word(Mnemonic::of(&insn).text());
+    line.text(Mnemonic::of(&insn).text().as_bytes());
     out.extend_from_slice(line.as_bytes())
 }
 
