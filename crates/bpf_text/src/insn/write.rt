@@ -20,13 +20,13 @@ use std::marker::Model;
 
 /// The size of the buffer for a line, in bytes. A mnemonic has at most 14, the operands have at
 /// most 83 with their separators, and a newline follows.
-const LINE_ROOM: usize = 112;
+const LINE_SIZE: usize = 112;
 
 /// The end of a line: the bytes of the buffer from `start` on. The line is written from its last
 /// byte to its first, since the digits of a number are found in this order.
 #[derive(Drop)]
 struct Line {
-    bytes: [u8; LINE_ROOM],
+    bytes: [u8; LINE_SIZE],
     start: usize,
 }
 
@@ -43,11 +43,11 @@ impl Line {
     fn new() -> Line
         ensures { result ≡ codes "\n" }
     {
-        let mut bytes = [0; LINE_ROOM];
-        bytes[LINE_ROOM - 1] = b'\n';
+        let mut bytes = [0; LINE_SIZE];
+        bytes[LINE_SIZE - 1] = b'\n';
         Line {
             bytes,
-            start: LINE_ROOM - 1,
+            start: LINE_SIZE - 1,
         }
     }
 
@@ -61,7 +61,7 @@ impl Line {
     /// Writes a byte.
     #[inline(always)]
     fn byte(&mut self, byte: u8)
-        requires { length self.old < LINE_ROOM }
+        requires { length self.old < LINE_SIZE }
         ensures { self.new ≡ byte ∷ self.old }
     {
         self.start -= 1;
@@ -71,7 +71,7 @@ impl Line {
     /// Writes a string.
     #[inline(always)]
     fn text(&mut self, text: &[u8])
-        requires { length text.now + length self.old ≤ LINE_ROOM }
+        requires { length text.now + length self.old ≤ LINE_SIZE }
         ensures { self.new ≡ text.now ++ self.old }
     {
         let end = self.start;
