@@ -8,7 +8,7 @@ use Rattle.btf_raw.specs.Frames.{bytes_of}
 use Rattle.btf_raw.proofs.Frames.{IsWords, word32_at-bytes_of, length-bytes_of}
 use Rattle.btf_raw.specs.Header.{Cut, header, part, types_at, strings_at, TYPES_LIMIT, STRINGS_LIMIT}
 
--- the header's words after its first four bytes, and what follows
+-- the header's fields after its first four bytes, and what follows
 abbrev pub header_words : ℕ → ℕ → ℕ → ℕ → ℕ → List ℕ
 header_words n a t c s = n ∷ a ∷ t ∷ c ∷ s ∷ []
 

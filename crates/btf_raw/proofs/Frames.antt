@@ -16,11 +16,11 @@ pub length-bytes_of : (o : Order) (ws : List ℕ) → length (bytes_of o ws) ≡
 length-bytes_of o [] = refl
 length-bytes_of o (w ∷ ws) = omega (arith, length-append (word32 o w) (bytes_of o ws), length-word32 o w, length-bytes_of o ws)
 
--- one word, then more
+-- one field, then more
 words_first : (o : Order) (w : ℕ) (xs ys : List ℕ) → (word32 o w ++ xs) ++ ys ≡ word32 o w ++ (xs ++ ys)
 words_first o w xs ys = append_assoc (word32 o w) xs ys
 
--- the words read back from their bytes
+-- the fields read back from their bytes
 pub word32_at-bytes_of : (o : Order) (ws rest : List ℕ) (j : ℕ) → IsWords ws → j < length ws → word32_at o (bytes_of o ws ++ rest) (4 * j) ≡ slice_index ws j
 word32_at-bytes_of o [] rest j fit h = absurd (omega arith)
 word32_at-bytes_of o (w ∷ ws) rest zero fit h = rw words_first (word32_at-word32 o w (bytes_of o ws ++ rest) (fit 0))
@@ -48,7 +48,7 @@ words_cancel o (a ∷ f) (b ∷ g) x y p q n e =
     let rest = words_cancel o f g x y (λ i. p (suc i)) (λ i. q (suc i)) (omega arith) one.1 in
     record { words = let head = one.0 in let tail = rest.words in cc; rest = rest.rest }
 
--- a frame has at least its first three words
+-- a frame has at least its first three fields
 three : (f : List ℕ) → IsFrame f → 3 ≤ length f
 three f frame = omega (arith, frame.size)
 

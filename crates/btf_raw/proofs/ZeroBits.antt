@@ -1,4 +1,4 @@
--- An info word is allowed if and only if the bits are 0 that must be 0 for its kind.
+-- An info field is allowed if and only if the bits are 0 that must be 0 for its kind.
 use Rattle.std.proofs.Common.{◌≡◌, ◌⊎◌, ℕ, zero, suc, ◌+◌, ◌-◌, ◌/◌, ◌%◌, ◌^◌, ◌<◌, List, [], ◌∷◌, Bool, true, false, refl, ap, sym, ◌∙◌, inl, inr, arith, drop, slice_index, bit_and}
 use Rattle.std.specs.Prelude.{IsTrue, if◌then◌else◌}
 use Rattle.std.proofs.lemmas.{Bool.cases_eq, Nat.and_mask, Nat.and_shr, Nat.and_mod, Nat.shr_split}

@@ -6,7 +6,7 @@ use Rattle.btf_raw.specs.declared.cause.BtfCause.{BtfCause}
 use Rattle.btf_raw.specs.declared.cause.BtfCause.TheVariants.{RecordCut, InfoBits, KindNumber, FlagSet, Vlen, TailCut}
 use Rattle.btf_raw.specs.Kinds.{vlen_of, kind_of, flag_of, unused_of, is_kind, has_flag, has_vlen, tail_words}
 
--- the words that every record has, by name
+-- the fields that every record has, by name
 abbrev pub name_word : List ℕ → ℕ
 name_word frame = slice_index frame 0
 
@@ -24,7 +24,7 @@ kind frame = kind_of (info_word frame)
 abbrev pub vlen : List ℕ → ℕ
 vlen frame = vlen_of (info_word frame)
 
--- its kind_flag, 0 or 1: bit 31 of its info word
+-- its kind_flag, 0 or 1: bit 31 of its info
 abbrev pub flag : List ℕ → ℕ
 flag frame = flag_of (info_word frame)
 
@@ -35,7 +35,7 @@ pub record IsAllowed (info : ℕ) : Type 0 where
   pub flag : (flag_of info ≡ 0) ⊎ IsTrue (has_flag (kind_of info))
   pub vlen : (vlen_of info ≡ 0) ⊎ IsTrue (has_vlen (kind_of info))
 
--- the words are those of one complete record with an allowed info word
+-- the words are those of one complete record with an allowed info field
 pub record IsFrame (frame : List ℕ) : Type 0 where
   pub words : (i : ℕ) → slice_index frame i < 2 ^ 32
   pub info : IsAllowed (info_word frame)
@@ -48,16 +48,16 @@ bytes_of o words = flat_map (word32 o) words
 abbrev pub section_of : Order → List (List ℕ) → List ℕ
 section_of o frames = flat_map (bytes_of o) frames
 
--- the types are frames, one after the other
+-- the types are a concatenation of frames
 pub record Frames (o : Order) (types : List ℕ) (frames : List (List ℕ)) : Type 0 where
   pub each : All IsFrame frames
   pub whole : types ≡ section_of o frames
 
--- the bytes begin like a record, with this info word at offset 4
+-- the bytes begin like a record, with this info at offset 4
 abbrev pub HasInfo : Order → List ℕ → ℕ → Type 0
 HasInfo o bytes info = (8 ≤ length bytes) × (info ≡ word32_at o bytes 4)
 
--- what each cause from InfoBits to Vlen says of an info word
+-- what each cause from InfoBits to Vlen says of an info field
 abbrev pub InfoFault : ℕ → BtfCause → Type 0
 InfoFault info InfoBits = unused_of info ≢ 0
 InfoFault info KindNumber = IsFalse (is_kind (kind_of info))

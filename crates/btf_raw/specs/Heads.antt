@@ -9,12 +9,12 @@ abbrev pub bit : Bool → ℕ
 bit true = 1
 bit false = 0
 
--- the least of the causes that concern an info word
+-- the least of the causes that concern an info field
 pub record LeastOfInfo (info : ℕ) (cause : BtfCause) : Type 0 where
   pub holds : InfoFault info cause
   pub least : (other : BtfCause) → InfoFault info other → number_of cause ≤ number_of other
 
--- a complete frame with an allowed info word is at this offset; its words, and where the data after the first three begins and ends
+-- a complete frame with an allowed info field is at this offset; its fields, and where the data after the first three begins and ends
 pub record HeadAt (o : Order) (types : List ℕ) (pos : ℕ) (head : RawHead) : Type 0 where
   pub name_off : head.name_off ≡ word32_at o types pos
   pub allowed : IsAllowed (word32_at o types (pos + 4))

@@ -1,4 +1,4 @@
--- The bits of the info word that must be 0, by kind (btf.rst section 2.2). Contracts of private functions cite them.
+-- The bits of info that must be 0, by kind (btf.rst section 2.2). Contracts of private functions cite them.
 use Rattle.std.specs.Prelude.{ℕ, ◌+◌, ◌-◌, ◌^◌, if◌then◌else◌}
 use Rattle.btf_raw.specs.Kinds.{is_kind, has_flag, has_vlen}
 

@@ -1,5 +1,5 @@
-//! The bits of the info word that must be 0, as one mask for each kind, so that one test checks the
-//! entire word (btf.rst section 2.2).
+//! The bits of info that must be 0, as one mask for each kind, so that one test checks the
+//! entire field (btf.rst section 2.2).
 
 ghost use Rattle.std.specs.Prelude.{◌≡◌, ◌↔◌, ◌^◌, ◌<◌, IsTrue};
 ghost use Rattle.btf_raw.specs.Frames.{IsAllowed};
@@ -50,7 +50,7 @@ static ZERO_BITS: [u64; 32] = [
     NO_KIND,
 ];
 
-/// The bits that must be 0 in an info word of this kind, with the bit above it.
+/// The bits that must be 0 in the info of this kind, with the bit above it.
 #[inline(always)]
 fn zero_bits(kind: u8) -> u64
     requires { kind < 2 ^ 5 }
@@ -59,7 +59,7 @@ fn zero_bits(kind: u8) -> u64
     ZERO_BITS[kind as usize]
 }
 
-/// Whether the table of kinds allows an info word, except for the linkage of a FUNC.
+/// Whether the table of kinds allows this info, except for the linkage of a FUNC.
 #[inline(always)]
 pub fn is_allowed(info: u32) -> bool
     ensures { IsTrue result ↔ IsAllowed info }

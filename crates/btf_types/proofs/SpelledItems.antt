@@ -18,7 +18,7 @@ zip_at R (x ∷ xs) [] i d e all h = absurd all
 zip_at R (x ∷ xs) (y ∷ ys) zero d e all h = all.0
 zip_at R (x ∷ xs) (y ∷ ys) (suc i) d e all h = zip_at R xs ys i d e all.1 (omega arith)
 
--- a word of the i-th piece, if all pieces have the same length
+-- a field of the i-th piece, if all pieces have the same length
 piece_word : (strings : List ℕ) (flag : ℕ) (h : TypeHead) (xs : List TypeItem) (wss : List (List ℕ)) (i m : ℕ) → All (ItemOf h) xs → AllZip (ItemSpells strings flag) xs wss
     → i < length xs → m < item_words (kind_number h) → get_or (concat wss) (item_words (kind_number h) * i + m) 0 ≡ get_or (get_or wss i []) m 0
 piece_word strings flag h [] wss i m of z low word = absurd (omega arith)
@@ -34,7 +34,7 @@ piece_word strings flag h (x ∷ xs) (ws ∷ wss) (suc i) m of z low word =
     rw at (sym (get_or-drop (length ws) (ws ++ concat wss) (item_words (kind_number h) * i + m) 0)
     ∙ ap (λ (t : List ℕ). get_or t (item_words (kind_number h) * i + m) 0) (drop_at ws (concat wss) (length ws) refl) ∙ rest)
 
--- a head whose record has items has no words of its own after the third, and vlen counts its items
+-- a head whose record has items has no fields of its own after the third, and vlen counts its items
 no_tail : (h : TypeHead) → 0 < item_words (kind_number h) → head_tail h ≡ []
 unfolding item_words
 no_tail (KInt name size encoding offset bits) some = absurd (omega arith)
@@ -48,7 +48,7 @@ unfolding item_words
 counted (KFunc name linkage target) xs some = absurd (omega arith)
 counted h xs some = refl
 
--- item i: its words, and what a good record says of it
+-- item i: its fields, and what a good record says of it
 pub record ItemFits (strings : List ℕ) (r : TypeRecord) (f : List ℕ) (i : ℕ) (ws : List ℕ) : Type 0 where
   pub inside : i < length r.items
   pub of : ItemOf r.head (get_or r.items i nothing)

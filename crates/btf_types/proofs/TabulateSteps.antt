@@ -72,7 +72,7 @@ three_at f j h =
     let last : j + 2 ≡ suc (suc j) = omega arith in
     rw (one, two, three, next, last) refl
 
--- the first three words, and what follows them
+-- the first three fields, and what follows them
 pub first_three : (f : List ℕ) → 2 < length f → f ≡ get_or f 0 0 ∷ get_or f 1 0 ∷ get_or f 2 0 ∷ drop 3 f
 first_three [] h = absurd (omega arith)
 first_three (a ∷ []) h = absurd (omega arith)

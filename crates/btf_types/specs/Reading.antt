@@ -31,7 +31,7 @@ encoding_of n = if n == 0 then Plain else if n == 1 then Signed else if n == 2 t
 abbrev pub component_of : ℕ → Option ℕ
 component_of n = if n == 0xffffffff then None else Some n
 
--- the head with these fields: the kind, the third word, kind_flag, vlen, and the three words after the third
+-- the head with these fields: the kind, size or type, kind_flag, vlen, and the three fields after them
 unfoldable pub head_from : List ℕ → ℕ → ℕ → ℕ → ℕ → ℕ → ℕ → ℕ → TypeHead
 head_from name k third flag vlen next fourth fifth =
     if k == INT then KInt name third (encoding_of (int_encoding next)) (int_offset next) (int_bits next)
@@ -59,7 +59,7 @@ abbrev pub head_of : List ℕ → List ℕ → TypeHead
 head_of frame name =
     head_from name (kind frame) (third_word frame) (flag frame) (vlen frame) (slice_index frame 3) (slice_index frame 4) (slice_index frame 5)
 
--- the item with these fields: its name, the kind and kind_flag of its record, and its words; the third isn't used if the item has only two
+-- the item with these fields: its name, the kind and kind_flag of its record, and its fields; the third isn't used if the item has only two
 unfoldable pub item_from : List ℕ → ℕ → ℕ → ℕ → ℕ → ℕ → TypeItem
 item_from name k flag first second third =
     if one_of (STRUCT ∷ UNION ∷ []) k then Member name second (offset_in flag third) (width_in flag third)
@@ -68,7 +68,7 @@ item_from name k flag first second third =
     else if k == FUNC_PROTO then Param name second
     else Entry first second third
 
--- the item whose first word is word j of the frame
+-- the item whose first field is field j of the frame
 abbrev pub item_of : List ℕ → List ℕ → ℕ → TypeItem
 item_of strings frame j =
     item_from (text_from strings (slice_index frame j)) (kind frame) (flag frame) (slice_index frame j) (slice_index frame (j + 1)) (slice_index frame (j + 2))
@@ -87,11 +87,11 @@ record_of strings frame = record {
   items = tabulate (λ k. item_of strings frame (3 + item_words (kind frame) * k)) (item_total frame);
 }
 
--- the info word of the frame at an offset of the type section
+-- the info of the frame at an offset of the type section
 abbrev pub info_at : Order → List ℕ → ℕ → ℕ
 info_at o types pos = word32_at o types (pos + 4)
 
--- the words of the record at an offset of the type section
+-- the fields of the record at an offset of the type section
 abbrev pub frame_at : Order → List ℕ → ℕ → List ℕ
 frame_at o types pos = tabulate (λ j. word32_at o types (pos + 4 * j)) (3 + tail_words (kind_of (info_at o types pos)) (vlen_of (info_at o types pos)))
 

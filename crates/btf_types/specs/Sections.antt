@@ -3,7 +3,7 @@ use Rattle.std.specs.Prelude.{ℕ, ◌+◌, ◌*◌, ◌≤◌, List, length, ma
 use Rattle.btf_raw.specs.Frames.{IsFrame}
 use Rattle.btf_types.specs.{declared.tables.table.FileSections.FileSections, Reading.frame_at, judge.Checks.TypeFacts, judge.FieldFaults.frame_facts}
 
--- the words of the record at an offset of the type section
+-- the fields of the record at an offset of the type section
 abbrev pub frame_of : FileSections → ℕ → List ℕ
 frame_of s pos = frame_at s.order s.types.now pos
 

@@ -1,4 +1,4 @@
--- When a word of a file is faulty, and what holds after each phase of checks.
+-- When a field of a file is faulty, and what holds after each phase of checks.
 pub mod Checks
 pub mod FieldFaults
 pub mod NameFaults

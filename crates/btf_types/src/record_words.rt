@@ -18,7 +18,7 @@ pub struct Record<'a> {
     types: &'a [u8],
     /// The offset of the record, in bytes from the start of `types`.
     pos: usize,
-    /// The info field, which is the second word.
+    /// The info field, which is the second one.
     info: u32,
 }
 

@@ -55,7 +55,7 @@ flag_of_head IsTypeTag name third flag vlen next fourth fifth bound allowed = se
 flag_of_head IsEnum64 name third flag vlen next fourth fifth bound allowed = set_bit flag bound
 flag_of_head known name third flag vlen next fourth fifth bound allowed = unset flag allowed
 
--- vlen, and the words after the third
+-- vlen, and the fields after the third
 linkage_there : (n : ℕ) → n ≤ 2 → linkage_number (linkage_of n) ≡ n
 linkage_there zero h = refl
 linkage_there (suc zero) h = refl
@@ -72,7 +72,7 @@ component_there n = split (n == 0xffffffff) refl
     split true e = rw e (sym (eqb-true n 0xffffffff e))
     split false e = rw e refl
 
--- the word that follows an INT is composed of its parts
+-- the data that follows an INT is composed of its parts
 pub record IntIsRight (size word : ℕ) : Type 0 where
   pub unused : int_unused word ≡ 0
   pub encoding : IsTrue (one_of (0 ∷ 1 ∷ 2 ∷ 4 ∷ []) (int_encoding word))
@@ -83,7 +83,7 @@ int_there size word right =
     let unused = right.unused in
     rw (encoding_there (int_encoding word) right.encoding) (omega arith)
 
--- the first n of the words after the third
+-- the first n of the fields after the third
 abbrev pub words_after : ℕ → ℕ → ℕ → ℕ → List ℕ
 words_after zero next fourth fifth = []
 words_after (suc zero) next fourth fifth = next ∷ []
@@ -180,7 +180,7 @@ count_is IsDatasec vlen allowed = refl
 count_is IsEnum64 vlen allowed = refl
 count_is known vlen allowed = no_list vlen allowed
 
--- the words of all items are the same by vlen and by the number of items, which is 0 for kinds without items
+-- the fields of all items are the same by vlen and by the number of items, which is 0 for kinds without items
 pub room_of_items : {k : ℕ} → KindIs k → (vlen : ℕ) → item_words k * count_of k vlen ≡ item_words k * vlen
 unfolding item_words
 room_of_items IsInt vlen = omega arith

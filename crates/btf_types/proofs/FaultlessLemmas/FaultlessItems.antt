@@ -1,4 +1,4 @@
--- The items of a frame without fault: their words spell them, and they are good.
+-- The items of a frame without fault: their fields spell them, and they are good.
 use Rattle.std.proofs.Common.{◌≡◌, ◌≢◌, ◌⊎◌, ℕ, zero, suc, ◌+◌, ◌*◌, ◌/◌, ◌%◌, ◌^◌, ◌<◌, Bool, true, false, List, [], ◌∷◌, length, take, drop, refl, ap, ◌∙◌, inl, inr, lit<, arith}
 use Rattle.std.specs.Prelude.{IsTrue, slice_index, ◌==◌, if◌then◌else◌}
 use Rattle.std.specs.List.{All}
@@ -15,7 +15,7 @@ use Rattle.btf_types.proofs.KindCases.{KindIs, IsStruct, IsUnion, IsEnum, IsFunc
 use Rattle.btf_types.proofs.{FaultlessLemmas.FaultlessHeads.count_of, TabulateSteps.two_at, TabulateSteps.three_at}
 use Rattle.btf_types.proofs.FaultlessLemmas.FaultlessWords.{item_ends, room, flag_low, type_is, item_name_is, member_int, member_place}
 
--- the words spell the item, and it is one of a good record with this head
+-- the fields spell the item, and it is one of a good record with this head
 pub record ItemIsRight (strings : List ℕ) (types : List TypeFacts) (frame : List ℕ) (bit_fields : Bool) (h : TypeHead) (x : TypeItem) (ws : List ℕ) : Type 0 where
   pub spells : ItemSpells strings (flag frame) x ws
   pub of : ItemOf h x
@@ -152,7 +152,7 @@ module _ (strings : List ℕ) (types : List TypeFacts) (frame : List ℕ) (ends 
           member = tt;
         }
 
-    -- the words of item i, as they are in the frame
+    -- the fields of item i, as they are in the frame
     two_words : (i : ℕ) → item_words (kind frame) ≡ 2 → i < vlen frame → take (item_words (kind frame)) (drop (3 + item_words (kind frame) * i) frame)
         ≡ slice_index frame (3 + item_words (kind frame) * i) ∷ slice_index frame (3 + item_words (kind frame) * i + 1) ∷ []
     two_words i words low =

@@ -22,7 +22,7 @@ use Rattle.btf_types.proofs.TabulateSteps.{All-tabulate, AllZip-tabulate, any-ta
 all_after : (f : List ℕ) (n : ℕ) → length f ≡ 3 + n → drop 3 f ≡ take n (drop 3 f)
 all_after f n e = sym (take_all n (drop 3 f) (omega (arith, length-drop 3 f)))
 
--- the words after the first three: those of the head, then those of the items
+-- the fields after the first three: those of the head, then those of the items
 whole_tail : {k : ℕ} → KindIs k → (f : List ℕ) (v : ℕ) → length f ≡ 3 + (fixed_words k + item_words k * v)
     → drop 3 f ≡ words_after (fixed_words k) (slice_index f 3) (slice_index f 4) (slice_index f 5) ++ take (item_words k * count_of k v) (drop 3 f)
 unfolding fixed_words item_words
@@ -70,7 +70,7 @@ module _ (strings : List ℕ) (types : List TypeFacts) (frame : List ℕ) (ends 
   abbrev count : ℕ
   count = item_total frame
 
-  -- the words that exist, by kind
+  -- the fields that exist, by kind
   fixed_room : 3 + fixed_words (kind frame) ≤ length frame
   fixed_room = omega (arith, room frame is_frame)
 

@@ -1,4 +1,4 @@
--- What the words of a frame without fault are.
+-- What the fields of a frame without fault are.
 use Rattle.std.proofs.Common.{◌≡◌, ◌≢◌, ◌⊎◌, ℕ, suc, ◌+◌, ◌*◌, ◌^◌, ◌<◌, ◌≤◌, Bool, true, false, List, [], ◌∷◌, length, refl, subst, inl, inr, arith}
 use Rattle.std.specs.Prelude.{IsTrue, IfSome, slice_index, ◌==◌}
 use Rattle.std.proofs.lemmas.Bool.{cases_lt, cases_eq}
@@ -13,7 +13,7 @@ use Rattle.btf_types.specs.judge.FieldFaults.{IsTypeField, IsMemberWord, HasBitF
 use Rattle.btf_types.proofs.{KindCases.KindIs, KindCases.kind_is, FaultlessLemmas.FaultlessHeads.IntIsRight}
 use Rattle.btf_types.proofs.TableLemmas.TextSteps.{decided, empty_or_not, name_there}
 
--- the parts of the info word determine it
+-- the parts of info determine it
 pub info_whole : (w : ℕ) → w < 2 ^ 32 → unused_of w ≡ 0 → w ≡ info (kind_of w) (vlen_of w) (flag_of w)
 info_whole w h e = omega arith
 

@@ -39,7 +39,7 @@ nameless other a b flag first second third none = refl
 pub item_there : (strings frame : List ℕ) (k : ℕ) → k < item_total frame → slice_get (record_of strings frame).items k ≡ Some (item_of strings frame (3 + item_words (kind frame) * k))
 item_there strings frame k low = get-tabulate (λ i. item_of strings frame (3 + item_words (kind frame) * i)) (item_total frame) k low
 
--- an item is read from the numbers of its words
+-- an item is read from the numbers of its fields
 pub item_read : (strings frame : List ℕ) → IsFrame frame → (k j : ℕ) → k < item_total frame → j ≡ 3 + item_words (kind frame) * k
     → (name : List ℕ) (its_kind its_flag first second third : ℕ) → its_kind ≡ kind frame → its_flag ≡ flag frame
     → first ≡ slice_index frame j → second ≡ slice_index frame (j + 1) → third ≡ slice_index frame (j + 2)

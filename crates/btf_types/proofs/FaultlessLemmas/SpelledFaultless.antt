@@ -76,7 +76,7 @@ linkage_named LStatic = lit≤ tt
 linkage_named LGlobal = lit≤ tt
 linkage_named LExtern = lit≤ tt
 
--- the word that follows an INT
+-- the data that follows an INT
 pub record IntFits (h : TypeHead) (w : ℕ) : Type 0 where
   pub inside : 0 < length (head_tail h)
   pub unused : int_unused w ≡ 0
@@ -132,7 +132,7 @@ bits_facts : (h : TypeHead) (bits : ℕ) → (kind_number h ≡ INT → bits ≡
 bits_facts (KInt name size encoding offset its_bits) bits is = sym (is refl)
 bits_facts h bits is = refl
 
--- ---- what an item says of its words
+-- ---- what an item says of its fields
 
 item_named : (strings : List ℕ) (flag : ℕ) (h : TypeHead) (x : TypeItem) (ws : List ℕ) → ItemOf h x → ItemSpells strings flag x ws → IsTrue (has_item_names (kind_number h)) → NameAt strings (get_or ws 0 0) (item_name x)
 unfolding has_item_names
@@ -162,7 +162,7 @@ entry_typed P strings flag (KDatasec name size) (Entry a b c) ws of s is all = r
 entry_typed P strings flag (KEnum64 name signed size) (Value64 n v) ws of s is all = absurd (omega arith)
 entry_typed P strings flag h x ws of s is all = absurd of
 
--- a member's words
+-- a member's fields
 record MemberSays (types : List TypeFacts) (size : ℕ) (bit_fields : Bool) (its_flag : ℕ) (x : TypeItem) (ws : List ℕ) : Type 0 where
   fits : IsTrue (member_fits (if its_flag == 0 then get_or ws 2 0 else get_or ws 2 0 % 2 ^ 24) (if its_flag == 0 then 0 else get_or ws 2 0 / 2 ^ 24) size)
   int : IsTrue bit_fields → IsTrue (member_int_fits types (get_or ws 1 0))
@@ -337,7 +337,7 @@ module _ (strings : List ℕ) (types : List TypeFacts) (r : TypeRecord) (f : Lis
       ]
   spelled_faultless j c fault = absurd fault
 
-  -- the facts that other records need are in its words
+  -- the facts that other records need are in its fields
   pub spelled_facts : facts_of r ≡ frame_facts f
   spelled_facts =
       let its_kind : kind_number r.head ≡ kind f = sym n.kind in

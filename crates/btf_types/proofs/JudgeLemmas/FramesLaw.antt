@@ -12,7 +12,7 @@ use Rattle.btf_types.specs.Reading.{frame_at}
 use Rattle.btf_types.proofs.JudgeLemmas.FramingSteps.{words_at, frame_is_frame, bytes_of-frame_at}
 use Rattle.btf_types.proofs.TableLemmas.TextSteps.{decided}
 
--- the info word is allowed, or a cause applies to it
+-- info is allowed, or a cause applies to it
 record AgainstInfo (info : ℕ) : Type 0 where
   cause : BtfCause
   fault : InfoFault info cause

@@ -1,4 +1,4 @@
--- The words of a record by their roles: the first with a fault, and where the record ends.
+-- The fields of a record by their roles: the first with a fault, and where the record ends.
 use Rattle.std.proofs.Common.{◌≡◌, ◌≢◌, ◌⊎◌, ℕ, ◌+◌, ◌*◌, ◌<◌, ◌≤◌, None, Some, inl, inr, List, length, refl, sym, ◌∙◌, subst, arith}
 use Rattle.std.specs.Prelude.{IsTrue, slice_index}
 use Rattle.std.proofs.lemmas.Bool.{cases_lt, ne_eqb}
@@ -18,11 +18,11 @@ no_tail κ v int array struct union enum proto var datasec tag enum64 =
     (omega arith)
 
 module _ (s : SectionWords) {f : List ℕ} (is : IsFrame f) where
-  -- no words have no fault
+  -- no fields have no fault
   pub none_yet : (word : ℕ) → NoneWithin s f word word
   none_yet word j d past low fault = absurd (omega arith)
 
-  -- a word with a fault is the first if the words before it have none
+  -- a field with a fault is the first if the fields before it have none
   pub first_at : (from to j word : ℕ) (role : Role) (c : BtfCause) → from ≤ j → j < to → to ≤ length f
       → NoneWithin s f from j → word ≡ slice_index f j → HasRole (kind f) j role
       → LeastCause (HeldFault s f word role) c → IsFirstWithin s f from to j c
@@ -33,7 +33,7 @@ module _ (s : SectionWords) {f : List ℕ} (is : IsFrame f) where
     least = judged s {f = f} {j = j} {word = word} role (Some c) is (omega arith) word-is has held;
   }
 
-  -- one more word without a fault
+  -- one more field without a fault
   pub none_at : (from j next word : ℕ) (role : Role) → next ≡ j + 1 → j < length f
       → NoneWithin s f from j → word ≡ slice_index f j → HasRole (kind f) j role
       → NoCause (HeldFault s f word role) → NoneWithin s f from next
@@ -44,7 +44,7 @@ module _ (s : SectionWords) {f : List ℕ} (is : IsFrame f) where
         none d (subst (λ (n : ℕ). FaultInWord s f n d) (omega arith) fault)
   ]
 
-  -- words that may have any value have no fault
+  -- fields that may have any value have no fault
   pub free_within : (from to : ℕ) → to ≤ length f → ((j : ℕ) → from ≤ j → j < to → HasRole (kind f) j Free) → NoneWithin s f from to
   free_within from to room free j d past low fault =
       let none : NoCause (FaultInWord s f j) = judged s {f = f} {j = j} {word = slice_index f j} Free None is (omega arith) refl (free j past low) (λ c h. h) in
@@ -80,7 +80,7 @@ module _ {f : List ℕ} (is : IsFrame f) where
   pub fourth_end : (kind f ≡ INT) ⊎ (kind f ≡ VAR) ⊎ (kind f ≡ DECL_TAG) → length f ≡ 4
   fourth_end one = is.size ∙ one_word (kind f) (vlen f) one
 
-  -- a record of another kind ends after three words
+  -- a record of another kind ends after three fields
   pub rest_faultless : (s : SectionWords) → kind f ≢ INT → kind f ≢ ARRAY → kind f ≢ STRUCT → kind f ≢ UNION → kind f ≢ ENUM → kind f ≢ FUNC_PROTO
       → kind f ≢ VAR → kind f ≢ DATASEC → kind f ≢ DECL_TAG → kind f ≢ ENUM64 → NoneWithin s f 3 (length f)
   rest_faultless s int array struct union enum proto var datasec tag enum64 j d past low fault =

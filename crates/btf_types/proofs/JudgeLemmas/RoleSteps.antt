@@ -1,4 +1,4 @@
--- What a cause says of a word is what it says of the word's role.
+-- What a cause says of a field is what it says of the field's role.
 use Rattle.std.proofs.Common.{◌≡◌, ◌≢◌, ◌⊎◌, ℕ, zero, suc, ◌+◌, ◌-◌, ◌*◌, ◌/◌, ◌%◌, ◌<◌, ◌≤◌, Bool, true, false, Option, List, [], ◌∷◌, length, refl, sym, subst, ◌∙◌, inl, inr, lit<, arith}
 use Rattle.std.specs.Prelude.{IsTrue, IsFalse, MatchOption, slice_index, ◌==◌}
 use Rattle.std.proofs.lemmas.Bool.{cases_lt, eqb-true}
@@ -91,7 +91,7 @@ one_word κ v (inl e) = rw e (omega arith)
 one_word κ v (inr (inl e)) = rw e (omega arith)
 one_word κ v (inr (inr e)) = rw e (omega arith)
 
--- word m of an item, from its index in the record, and back
+-- field m of an item, from its index in the record, and back
 pub part_is : (κ k m j : ℕ) → TwoOrThree (item_words κ) → m < item_words κ → j ≡ 3 + item_words κ * k + m → word_in_item κ j ≡ m
 part_is κ k m j (inl two) low at = rw two (let there : j ≡ 3 + 2 * k + m = rw two at at in let less : m < 2 = rw two at low in omega arith)
 part_is κ k m j (inr three) low at = rw three (let there : j ≡ 3 + 3 * k + m = rw three at at in let less : m < 3 = rw three at low in omega arith)
@@ -326,7 +326,7 @@ module _ (strings : List ℕ) (types : List TypeFacts) (frame : List ℕ) (j : �
   role_holds roles.MemberPlace is MemberPlace fault = (member_field 2 is.1.0 is.0 (place_part is.1.0 is.1.1), fault)
   role_holds role is c fault = absurd fault
 
-  -- the least cause of a role is that of the word
+  -- the least cause of a role is that of the field
   word_judged : (role : Role) (r : Option BtfCause) → HasRole (kind frame) j role
       → MatchOption r (NoCause (WordRoleFault strings types frame j role)) (λ c. LeastCause (WordRoleFault strings types frame j role) c)
       → MatchOption r (NoCause (WordFault strings types frame j)) (λ c. LeastCause (WordFault strings types frame j) c)
@@ -334,11 +334,11 @@ module _ (strings : List ℕ) (types : List TypeFacts) (frame : List ℕ) (j : �
       judged_same (WordRoleFault strings types frame j role) (WordFault strings types frame j) r
       (role_holds role has.is) (role_says strings types frame j role has) judged
 
--- what a cause says of a word of a frame that has this role
+-- what a cause says of a field of a frame that has this role
 abbrev pub HeldFault : SectionWords → List ℕ → ℕ → Role → BtfCause → Type 0
 HeldFault s f word role c = RoleFault s.strings (facts_in s) f (kind f) (vlen f) (flag f) (third_word f) word role c
 
--- likewise for the number that the word contains
+-- likewise for the number that the field contains
 pub judged : (s : SectionWords) {f : List ℕ} {j word : ℕ} (role : Role) (result : Option BtfCause) → IsFrame f → j < length f
     → word ≡ slice_index f j → HasRole (kind f) j role
     → MatchOption result (NoCause (HeldFault s f word role)) (λ c. LeastCause (HeldFault s f word role) c)

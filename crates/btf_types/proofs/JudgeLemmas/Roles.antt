@@ -1,4 +1,4 @@
--- What each word of a record is: a name, a type ID, an offset field, and so on. What a cause says of a word follows from its role.
+-- What each field of a record is: a name, a type ID, an offset field, and so on. What a cause says of a field follows from its role.
 use Rattle.std.proofs.Common.{◌≡◌, ◌⊎◌, ℕ, ◌-◌, ◌%◌, ◌<◌, ◌≤◌, List, length, if◌then◌else◌}
 use Rattle.std.specs.Prelude.{◌==◌, IsTrue, IsFalse}
 use Rattle.btf_raw.specs.declared.cause.BtfCause.{BtfCause, TheVariants.Reference, TheVariants.MemberInt}
@@ -21,11 +21,11 @@ pub data Role : Type 0 where
   MemberPlace : Role
   Free : Role
 
--- which word of its item word j is, or which after the first three if there are no items
+-- which field of its item field j is, or which after the first three if there are no items
 abbrev pub word_in_item : ℕ → ℕ → ℕ
 word_in_item kind j = if item_words kind == 0 then j - 3 else (j - 3) % item_words kind
 
--- what word m of an item, or of a tail without items, is known to be
+-- what field m of an item, or of a tail without items, is known to be
 abbrev pub PartIs : ℕ → ℕ → Role → Type 0
 PartIs kind m OwnName = ⊥
 PartIs kind m Info = ⊥
@@ -52,7 +52,7 @@ pub record PartHasRole (kind m : ℕ) (role : Role) : Type 0 where
   pub member : IsTrue (is_struct kind) → m ≡ 1 → role ≡ MemberType
   pub place : IsTrue (is_struct kind) → m ≡ 2 → role ≡ MemberPlace
 
--- likewise for word j of a complete record
+-- likewise for field j of a complete record
 abbrev pub RoleIs : ℕ → ℕ → Role → Type 0
 RoleIs kind j OwnName = j ≡ 0
 RoleIs kind j Info = j ≡ 1
@@ -66,13 +66,13 @@ pub record HasRole (kind j : ℕ) (role : Role) : Type 0 where
   pub third : j ≡ 2 → role ≡ Third
   pub tail : 3 ≤ j → PartHasRole kind (word_in_item kind j) role
 
--- what a cause says of a member's type in a record of these words
+-- what a cause says of a member's type in a record of these fields
 abbrev pub TypeOfMemberFault : List TypeFacts → List ℕ → ℕ → BtfCause → Type 0
 TypeOfMemberFault types frame target Reference = length types < target
 TypeOfMemberFault types frame target MemberInt = HasBitFields frame × IsFalse (member_int_fits types target)
 TypeOfMemberFault types frame target _ = ⊥
 
--- what a cause says of a word that has this role, in a record of these words with this kind, vlen, kind_flag and third word
+-- what a cause says of a field that has this role, in a record of these fields with this kind, vlen, kind_flag and type
 abbrev pub RoleFault : List ℕ → List TypeFacts → List ℕ → ℕ → ℕ → ℕ → ℕ → ℕ → Role → BtfCause → Type 0
 RoleFault strings types frame its_kind count its_flag third word OwnName c = NameFault strings its_kind word c
 RoleFault strings types frame its_kind count its_flag third word Info c = SecondFault its_kind count c

@@ -1,4 +1,4 @@
--- The roles of the words of a record's header, and of those after it by its kind.
+-- The roles of the fields of a record's header, and of those after it by its kind.
 use Rattle.std.proofs.Common.{rules, ◌≡◌, ◌⊎◌, ℕ, ◌+◌, ◌-◌, ◌*◌, ◌<◌, ◌≤◌, [], ◌∷◌, inl, inr, refl, sym, subst, lit<, arith}
 use Rattle.std.specs.Prelude.{IsTrue}
 use Rattle.btf_raw.specs.KindNumbers.{INT, ARRAY, STRUCT, UNION, ENUM, FUNC_PROTO, VAR, DATASEC, DECL_TAG, ENUM64}
@@ -17,7 +17,7 @@ info_has_role kind = record { is = refl; name = λ e. absurd (omega (arith, e));
 pub third_has_role : (kind : ℕ) → HasRole kind 2 Third
 third_has_role kind = record { is = refl; name = λ e. absurd (omega (arith, e)); info = λ e. absurd (omega (arith, e)); third = λ e. refl; tail = λ h. absurd (omega (arith, h)) }
 
--- ---- the words after it
+-- ---- the fields after it
 
 role_from_tail : (κ j : ℕ) (role : Role) → 3 ≤ j → PartHasRole κ (word_in_item κ j) role → HasRole κ j role
 role_from_tail κ j OwnName past part = absurd part.is
@@ -31,7 +31,7 @@ role_from_tail κ j role past part = record {
   tail = λ h. part;
 }
 
--- word j has the role of its part
+-- field j has the role of its part
 role_from_part : (κ j m : ℕ) (role : Role) → 3 ≤ j → word_in_item κ j ≡ m → PartHasRole κ m role → HasRole κ j role
 role_from_part κ j m role past at part = role_from_tail κ j role past (subst (λ (i : ℕ). PartHasRole κ i role) (sym at) part)
 

@@ -1,4 +1,4 @@
--- The first word of a record with a fault, after words without one.
+-- The first field of a record with a fault, after fields without one.
 use Rattle.std.proofs.Common.{◌≡◌, ℕ, ◌≤◌, Option, None, Some, List, length, sym, subst, inl, inr, arith}
 use Rattle.std.specs.Prelude.{MatchOption}
 use Rattle.std.proofs.lemmas.Bool.{cases_lt}
@@ -7,14 +7,14 @@ use Rattle.btf_types.specs.Sections.{SectionWords}
 use Rattle.btf_types.specs.judge.RecordFaults.{FaultInWord, NoneWithin, IsFirstWithin, FirstWithin, IsFaultlessIn, IsLeastIn}
 
 module _ (s : SectionWords) (f : List ℕ) where
-  -- consecutive ranges of words
+  -- consecutive ranges of fields
   pub none_through : (from mid to : ℕ) → NoneWithin s f from mid → NoneWithin s f mid to → NoneWithin s f from to
   none_through from mid to before after j d past low fault = elim (cases_lt j mid) [
     | inl lt ↦ before j d past lt fault
     | inr le ↦ after j d le low fault
   ]
 
-  -- the first word with a fault, if the words before it have none
+  -- the first field with a fault, if the fields before it have none
   pub first_after : (from mid end to word : ℕ) (c : BtfCause) → from ≤ mid → end ≤ to → NoneWithin s f from mid
       → IsFirstWithin s f mid end word c → IsFirstWithin s f from to word c
   first_after from mid end to word c low room before first = record {
@@ -24,7 +24,7 @@ module _ (s : SectionWords) (f : List ℕ) where
     least = first.least;
   }
 
-  -- the first of all words is the record's
+  -- the first of all fields is the record's
   pub first_of_record : (word : ℕ) (c : BtfCause) → IsFirstWithin s f 0 (length f) word c → IsLeastIn s f word c
   first_of_record word c first = record {
     inside = first.inside;

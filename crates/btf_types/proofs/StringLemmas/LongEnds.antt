@@ -21,7 +21,7 @@ none_yet strings = record {
   each = λ offset end low h i. absurd (omega (arith, low));
 }
 
--- no string of 128 bytes ends within 64 bytes of a NUL
+-- no 128-byte string ends within 64 bytes of a NUL
 near : (strings : List ℕ) (at offset end : ℕ) → HasNulNear strings at → end < at + 64 → IsEnd strings offset end → offset + 128 ≤ end → end < at
 near strings at offset end (inl e) h is long = absurd (omega arith)
 near strings at offset end (inr (z, below, within, nul)) h is long =

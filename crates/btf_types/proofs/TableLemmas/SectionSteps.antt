@@ -56,7 +56,7 @@ module _ (s : Inside) (good : IsSection s) (i : ℕ) (there : i < length s.file.
   pub facts_get : slice_get (facts_in (words_in s)) i ≡ Some (frame_facts (nth_frame s i))
   facts_get = get-map frame_facts ((words_in s).frames) i [] among ∙ ap (λ (f : List ℕ). Some (frame_facts f)) frame_is
 
--- a frame has at least three words, and that of an INT a fourth
+-- a frame has at least three fields, and that of an INT a fourth
 pub three_words : (f : List ℕ) → IsFrame f → 3 ≤ length f
 three_words f frame = omega (arith, frame.size)
 

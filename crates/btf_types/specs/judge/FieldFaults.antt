@@ -1,4 +1,4 @@
--- The faults of fields: what a cause says of a word of a record, given the frames of a section.
+-- The faults of fields: what a cause says of a field of a record, given the frames of a section.
 use Rattle.std.specs.Prelude.{◌≡◌, ◌≢◌, ◌⊎◌, ℕ, zero, suc, ◌+◌, ◌*◌, ◌/◌, ◌%◌, ◌^◌, ◌<◌, ◌≤◌, ◌==◌, IsTrue, IsFalse, IsUtf8, Some, List, [], ◌∷◌, length, take, map, slice_index, slice_get, if◌then◌else◌}
 use Rattle.std.specs.List.{concat}
 use Rattle.btf_raw.specs.{declared.cause.BtfCause.BtfCause, Names.TextAt, Frames.name_word, Frames.third_word, Frames.kind, Frames.vlen, Frames.flag}
@@ -7,16 +7,16 @@ use Rattle.btf_raw.specs.KindNumbers.{INT, ARRAY, STRUCT, UNION, FWD, FUNC, FUNC
 use Rattle.btf_raw.specs.Kinds.{one_of, item_words, needs_name, has_no_name, has_target, has_item_names, is_struct}
 use Rattle.btf_types.specs.judge.Checks.{size_fits, bits_fit, member_fits, TypeFacts, type_at, target_fits, component_fits, member_int_fits}
 
--- word j of the frame is word m of its item k
+-- field j of the frame is field m of its item k
 abbrev pub IsItemWord : List ℕ → ℕ → ℕ → ℕ → Type 0
 IsItemWord frame k m j = (k < vlen frame) × (j ≡ 3 + item_words (kind frame) * k + m)
 
--- word j is the n-th name field: the record's own, then those of its items
+-- field j is the n-th name: the record's own, then those of its items
 abbrev pub IsNameField : List ℕ → ℕ → ℕ → Type 0
 IsNameField frame zero j = j ≡ 0
 IsNameField frame (suc k) j = IsTrue (has_item_names (kind frame)) × IsItemWord frame k 0 j
 
--- word j is a type ID
+-- field j is a type ID
 abbrev pub IsTypeField : List ℕ → ℕ → Type 0
 IsTypeField frame j =
     (IsTrue (has_target (kind frame)) × (j ≡ 2))
@@ -24,7 +24,7 @@ IsTypeField frame j =
     ⊎ (IsTrue (one_of (STRUCT ∷ UNION ∷ FUNC_PROTO ∷ []) (kind frame)) × (k : ℕ) × IsItemWord frame k 1 j)
     ⊎ ((kind frame ≡ DATASEC) × (k : ℕ) × IsItemWord frame k 0 j)
 
--- word j is the type ID of a member, or its offset field
+-- field j is the type ID of a member, or its offset
 abbrev pub IsMemberWord : List ℕ → ℕ → ℕ → Type 0
 IsMemberWord frame m j = IsTrue (is_struct (kind frame)) × (k : ℕ) × IsItemWord frame k m j
 
@@ -45,7 +45,7 @@ width frame j = width_in (flag frame) (slice_index frame j)
 abbrev pub HasBitFields : List ℕ → Type 0
 HasBitFields frame = (j : ℕ) × IsMemberWord frame 2 j × (width frame j ≢ 0)
 
--- the parts of the word that follows an INT
+-- the parts of the data that follows an INT
 abbrev pub int_word : List ℕ → ℕ
 int_word frame = slice_index frame 3
 
@@ -71,7 +71,7 @@ frame_facts frame = record {
   bits = if kind frame == INT then int_bits (int_word frame) else 0;
 }
 
--- What a cause says of word j of this frame, given these strings and types. (TextsTooLong never applies.)
+-- What a cause says of field j of this frame, given these strings and types. (TextsTooLong never applies.)
 abbrev pub WordFault : List ℕ → List TypeFacts → List ℕ → ℕ → BtfCause → Type 0
 WordFault strings types frame j NameRange = (n : ℕ) × IsNameField frame n j × (length strings ≤ slice_index frame j)
 WordFault strings types frame j NameUtf8 =
@@ -100,7 +100,7 @@ WordFault strings types frame j Component =
     × IsFalse (component_fits types (third_word frame) (slice_index frame 3))
 WordFault strings types frame j _ = ⊥
 
--- A word of the section has the fault. Offsets count bytes from the start of the type section.
+-- A field of the section has the fault. Offsets count bytes from the start of the type section.
 pub record FieldFault (strings : List ℕ) (frames : List (List ℕ)) (place : ℕ) (cause : BtfCause) : Type 0 where
   pub index : ℕ
   pub frame : List ℕ

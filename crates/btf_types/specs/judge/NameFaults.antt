@@ -18,7 +18,7 @@ OwnNameFault kind empty NameMissing = IsTrue (needs_name kind) × IsTrue empty
 OwnNameFault kind empty NameUnwanted = IsTrue (has_no_name kind) × IsFalse empty
 OwnNameFault kind empty _ = ⊥
 
--- what a cause says of the word that follows an INT
+-- what a cause says of the data that follows an INT
 abbrev pub IntFault : ℕ → ℕ → BtfCause → Type 0
 IntFault size word IntWord =
     (int_unused word ≢ 0) ⊎ IsFalse (one_of (0 ∷ 1 ∷ 2 ∷ 4 ∷ []) (int_encoding word)) ⊎ IsFalse (bits_fit size (int_bits word))
@@ -30,7 +30,7 @@ ItemNameFault strings offset NameRange = length strings ≤ offset
 ItemNameFault strings offset NameUtf8 = (text : List ℕ) × TextAt strings offset text × ¬ IsUtf8 text
 ItemNameFault strings offset _ = ⊥
 
--- what a cause says of a type ID in a record of this kind, other than in its third word
+-- what a cause says of a type ID in a record of this kind, other than in its size or type
 abbrev pub NamedTypeFault : List TypeFacts → ℕ → ℕ → BtfCause → Type 0
 NamedTypeFault types kind target Reference = length types < target
 NamedTypeFault types kind target TargetKind = (target ≤ length types) × IsFalse (target_fits kind ((type_at types target).kind))

@@ -1,14 +1,14 @@
--- The faults in the words of one record.
+-- The faults in the fields of one record.
 use Rattle.std.specs.Prelude.{◌≡◌, ◌⊎◌, ℕ, ◌<◌, ◌≤◌, Bool, IsTrue, List, Option, MatchOption, length}
 use Rattle.btf_raw.specs.{declared.cause.BtfCause.BtfCause, Cause.number_of}
 use Rattle.btf_types.specs.judge.{Checks.TypeFacts, Checks.LeastCause, FieldFaults.WordFault, FieldFaults.HasBitFields}
 use Rattle.btf_types.specs.Sections.{SectionWords, facts_in}
 
--- no word of the frame has a fault
+-- no field of the frame has a fault
 abbrev pub IsFaultless : List ℕ → List TypeFacts → List ℕ → Type 0
 IsFaultless strings types frame = (j : ℕ) (c : BtfCause) → j < length frame → ¬ WordFault strings types frame j c
 
--- the first word with a fault, and its least cause
+-- the first field with a fault, and its least cause
 pub record LeastOfRecord (strings : List ℕ) (types : List TypeFacts) (frame : List ℕ) (word : ℕ) (cause : BtfCause) : Type 0 where
   pub inside : word < length frame
   pub holds : WordFault strings types frame word cause
@@ -24,18 +24,18 @@ IsFaultlessIn s frame = IsFaultless s.strings (facts_in s) frame
 abbrev pub IsLeastIn : SectionWords → List ℕ → ℕ → BtfCause → Type 0
 IsLeastIn s frame word cause = LeastOfRecord s.strings (facts_in s) frame word cause
 
--- no word of the frame has a fault, from the index from up to, but not including, the index to
+-- no field of the frame has a fault, from the index from up to, but not including, the index to
 abbrev pub NoneWithin : SectionWords → List ℕ → ℕ → ℕ → Type 0
 NoneWithin s frame from to = (j : ℕ) (cause : BtfCause) → from ≤ j → j < to → ¬ FaultInWord s frame j cause
 
--- the first word in that range with a fault, and its least cause
+-- the first field in that range with a fault, and its least cause
 pub record IsFirstWithin (s : SectionWords) (frame : List ℕ) (from to word : ℕ) (cause : BtfCause) : Type 0 where
   pub past : from ≤ word
   pub inside : word < to
   pub before : NoneWithin s frame from word
   pub least : LeastCause (FaultInWord s frame word) cause
 
--- the answer is the first faulty word in that range with its least cause, or None if there is none
+-- the answer is the first faulty field in that range with its least cause, or None if there is none
 abbrev pub FirstWithin : SectionWords → List ℕ → ℕ → ℕ → Option (ℕ × BtfCause) → Type 0
 FirstWithin s frame from to answer =
     MatchOption answer (NoneWithin s frame from to) (λ found. IsFirstWithin s frame from to found.0 found.1)

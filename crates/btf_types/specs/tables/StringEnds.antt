@@ -5,7 +5,7 @@ use Rattle.btf_raw.specs.Names.{IsEnd}
 abbrev pub IsAmong : List ℕ → ℕ → Type 0
 IsAmong ends end = (k : ℕ) × (k < length ends) × (slice_index ends k ≡ end)
 
--- These offsets of NULs, ascending and below at, include the ends of all strings of 128 bytes and more that end below at.
+-- These offsets of NULs, ascending and below at, include the ends of all strings of at least 128 bytes that end below at.
 pub record AreLongEndsTo (strings ends : List ℕ) (at : ℕ) : Type 0 where
   pub inside : (k : ℕ) → k < length ends → slice_index ends k < at
   pub nuls : (k : ℕ) → k < length ends → slice_index strings (slice_index ends k) ≡ 0

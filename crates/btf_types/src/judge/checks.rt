@@ -1,5 +1,5 @@
 //! Checks of a record's fields that need only numbers (btf.rst section 2.2). Each `_fault` function
-//! returns the first cause, in the order of the causes, that applies to a 32-bit word, or `None`.
+//! returns the first cause, in the order of the causes, that applies to a 32-bit field, or `None`.
 
 ghost use Rattle.std.specs.Prelude.{◌≡◌, ◌∷◌, []};
 ghost use Rattle.btf_types.specs.judge.Checks as spec;
@@ -75,7 +75,7 @@ fn member_fits(bit_offset: u32, width: u8, size: u32) -> bool
     (u64::from(bit_offset) + u64::from(width) + 7) / 8 <= u64::from(size)
 }
 
-/// Checks the 32-bit word that follows an INT: its encoding, its number of bits, and that the
+/// Checks the 32 bits that follow an INT: its encoding, its number of bits, and that the
 /// unused bits are 0.
 pub fn int_fault(size: u32, word: u32) -> Option<BtfCause>
     ensures { spec.IsLeastOf (IntFault size word) result }
@@ -87,7 +87,7 @@ pub fn int_fault(size: u32, word: u32) -> Option<BtfCause>
     }
 }
 
-/// The sum of the unused bits of an INT's word; 0 if all of them are 0.
+/// The sum of the unused bits of an INT's data; 0 if all of them are 0.
 fn int_unused(word: u32) -> u32
     ensures { result ≡ words.int_unused word }
 {

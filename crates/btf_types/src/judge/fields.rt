@@ -1,6 +1,6 @@
-//! Checks the fields of records (btf.rst section 2.2) in file order: finds the first faulty word
+//! Checks the fields of records (btf.rst section 2.2) in file order: finds the first faulty field
 //! and the first cause that applies to it. This allocates nothing, and its time is linear in the
-//! section's length: each word is read at most once (the offset fields of a STRUCT twice), and what
+//! length of the section: each field is read at most once (the offsets in a STRUCT twice), and what
 //! is needed of another record is read directly at its offset.
 
 ghost use Rattle.std.specs.Prelude.{◌≡◌, ◌<◌, ◌≤◌, ◌^◌, IsTrue, [], ◌∷◌, length};
@@ -31,7 +31,7 @@ use btf_raw::{
 };
 use std::alloc::Allocator;
 
-/// The index of the first faulty word among a record's first three, and its cause.
+/// The index of the first faulty field among a record's first three, and its cause.
 fn first_words_fault(section: &Section, this: &Record) -> Option<(usize, BtfCause)>
     requires { IsFrame this.now }
     ensures { FirstWithin section.now this.now 0 3 result }
@@ -53,7 +53,7 @@ fn first_words_fault(section: &Section, this: &Record) -> Option<(usize, BtfCaus
     }
 }
 
-/// The cause if the fourth word of an INT, VAR or DECL_TAG is faulty.
+/// The cause if the fourth field of an INT, VAR or DECL_TAG is faulty.
 fn fourth_fault(section: &Section, this: &Record) -> Option<BtfCause>
     requires frame { IsFrame this.now }
     requires kind { IsTrue (one_of (kinds.INT ∷ kinds.VAR ∷ kinds.DECL_TAG ∷ []) (kind this.now)) }
@@ -84,8 +84,8 @@ fn array_fault(section: &Section, this: &Record) -> Option<(usize, BtfCause)>
     }
 }
 
-/// The index of the first faulty word after the first three, and its cause. The kind is matched
-/// once here, and not again for each word.
+/// The index of the first faulty field after the first three, and its cause. The kind is matched
+/// once here, and not again for each field.
 #[tactic(auto, using(crate::proofs::JudgeLemmas::RecordSteps::rest_faultless), unfolding(btf_raw::specs::Kinds::item_words))]
 fn tail_fault(section: &Section, this: &Record) -> Option<(usize, BtfCause)>
     requires { IsFrame this.now }
@@ -106,7 +106,7 @@ fn tail_fault(section: &Section, this: &Record) -> Option<(usize, BtfCause)>
     }
 }
 
-/// The index of the first faulty word of a record, and its cause.
+/// The index of the first faulty field of a record, and its cause.
 fn record_fault(section: &Section, this: &Record) -> Option<(usize, BtfCause)>
     requires { IsFrame this.now }
     ensures { MatchOption result

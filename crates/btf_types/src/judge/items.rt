@@ -15,7 +15,7 @@ use crate::record_words::Record;
 use crate::tables::section::Section;
 use btf_raw::{BtfCause, DATASEC, FUNC_PROTO};
 
-/// The index of the first faulty word of member `k` (from 0) of a STRUCT or UNION, and its
+/// The index of the first faulty field of member `k` (from 0) of a STRUCT or UNION, and its
 /// cause. The name, the type and the offset field are checked in this order.
 #[inline(always)]
 fn member_fault(
@@ -48,7 +48,7 @@ fn member_fault(
     }
 }
 
-/// The index of the first faulty word in the members of a STRUCT or UNION, and its cause. Whether
+/// The index of the first faulty field in the members of a STRUCT or UNION, and its cause. Whether
 /// the record has bit-fields is determined once, before any member is checked.
 pub fn members_fault(section: &Section, this: &Record) -> Option<(usize, BtfCause)>
     requires frame { IsFrame this.now }
@@ -65,7 +65,7 @@ pub fn members_fault(section: &Section, this: &Record) -> Option<(usize, BtfCaus
     None
 }
 
-/// The index of the first faulty word of parameter `k` (from 0) of a FUNC_PROTO, and its
+/// The index of the first faulty field of parameter `k` (from 0) of a FUNC_PROTO, and its
 /// cause. The name is checked before the type.
 #[inline(always)]
 fn param_fault(section: &Section, this: &Record, k: usize) -> Option<(usize, BtfCause)>
@@ -85,7 +85,7 @@ fn param_fault(section: &Section, this: &Record, k: usize) -> Option<(usize, Btf
     }
 }
 
-/// The index of the first faulty word in the parameters of a FUNC_PROTO, and its cause.
+/// The index of the first faulty field in the parameters of a FUNC_PROTO, and its cause.
 pub fn params_fault(section: &Section, this: &Record) -> Option<(usize, BtfCause)>
     requires frame { IsFrame this.now }
     requires kind { kind this.now ≡ kinds.FUNC_PROTO }
@@ -99,8 +99,8 @@ pub fn params_fault(section: &Section, this: &Record) -> Option<(usize, BtfCause
     None
 }
 
-/// The index of the first faulty word in the values of an ENUM or ENUM64, and its cause. Only the
-/// names can be faulty. A value consists of `step` words, and its name field is the first of them.
+/// The index of the first faulty field in the values of an ENUM or ENUM64, and its cause. Only the
+/// names can be faulty. A value consists of `step` fields, and its name is the first of them.
 pub fn values_fault(section: &Section, this: &Record, step: usize) -> Option<(usize, BtfCause)>
     requires frame { IsFrame this.now }
     requires kind { IsTrue (one_of (kinds.ENUM ∷ kinds.ENUM64 ∷ []) (kind this.now)) }
@@ -117,8 +117,8 @@ pub fn values_fault(section: &Section, this: &Record, step: usize) -> Option<(us
     None
 }
 
-/// The index of the first faulty word in the entries of a DATASEC, and its cause. Only the type IDs
-/// can be faulty. An entry consists of three words, and its type ID is the first of them.
+/// The index of the first faulty field in the entries of a DATASEC, and its cause. Only type IDs
+/// can be faulty. An entry consists of three fields, and its type ID is the first of them.
 pub fn entries_fault(section: &Section, this: &Record) -> Option<(usize, BtfCause)>
     requires frame { IsFrame this.now }
     requires kind { kind this.now ≡ kinds.DATASEC }

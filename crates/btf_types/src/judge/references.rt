@@ -23,7 +23,7 @@ fn named_kind_fits(section: &Section, kind: u8, target: u32) -> bool
     !matches!(kind, FUNC | DATASEC | DECL_TAG) || target_fits(kind, section.facts(target).kind)
 }
 
-/// Checks the third word of a record: a size, a type ID, or 0.
+/// Checks the size or type field of a record: a size, a type ID, or 0.
 pub fn third_fault(section: &Section, kind: u8, third: u32, vlen: u16) -> Option<BtfCause>
     ensures { spec.IsLeastOf (spec.ThirdFault kind third vlen (length (facts_in section.now))
         (type_at (facts_in section.now) third).kind) result }
@@ -46,7 +46,7 @@ pub fn third_fault(section: &Section, kind: u8, third: u32, vlen: u16) -> Option
     None
 }
 
-/// Checks a type ID in a field other than the third word of the record.
+/// Checks a type ID in any other field of the record.
 #[inline(always)]
 pub fn named_type_fault(section: &Section, kind: u8, target: u32) -> Option<BtfCause>
     ensures { spec.IsLeastOf (NamedTypeFault (facts_in section.now) kind target) result }

@@ -50,7 +50,7 @@ pub struct Facts {
     pub kind: u8,
     /// The number of items.
     pub count: u16,
-    /// The third word, which is a type ID if the kind refers to a type.
+    /// The size or type field, which is a type ID if the kind refers to a type.
     pub target: u32,
     /// The offset and the number of bits of an INT; 0 for other kinds.
     pub offset: u8,

@@ -15,7 +15,7 @@ use btf_raw::text_end;
 use memchr::memchr;
 use std::alloc::{AllocError, Allocator};
 
-/// The number of bytes that are searched at once for long strings. A string of 128 bytes contains
+/// The number of bytes that are searched at once for long strings. A 128-byte string contains
 /// at least one complete block.
 const BLOCK: usize = 64;
 
@@ -35,7 +35,7 @@ fn nul_between(strings: &[u8], off: usize, to: usize) -> Option<usize>
     }
 }
 
-/// Appends the offsets of the ends of all strings of 128 bytes or more.
+/// Appends the offsets of the ends of all strings of at least 128 bytes.
 pub fn push_long_ends<A: Allocator>(out: &mut Vec<u32, A>, strings: &[u8]) -> Result<(), AllocError>
     requires ends { HasNulEnds strings.now }
     requires room { length strings.now < 2 ^ 32 }

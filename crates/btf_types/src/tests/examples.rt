@@ -43,7 +43,7 @@ pub(crate) const LITTLE_ENUM64: &[u8] =
 /// No types at all.
 pub(crate) const EMPTY: &[u8] = b"\x9f\xeb\x01\0\x18\0\0\0\0\0\0\0\0\0\0\0\0\0\0\0\x01\0\0\0\0";
 
-/// A member's offset word whose high byte is 1, in a STRUCT with kind_flag 0.
+/// A member's offset field whose high byte is 1, in a STRUCT with kind_flag 0.
 pub(crate) const WIDE_OFFSET: &[u8] =
     b"\x9f\xeb\x01\0\x18\0\0\0\0\0\0\0\x18\0\0\0\x18\0\0\0\x01\0\0\0\0\0\0\0\x01\0\0\x04\0\0@\0\0\0\0\0\0\0\0\0\0\0\0\x01\0";
 
@@ -55,7 +55,7 @@ pub(crate) const TAG_OF_VAR: &[u8] =
 pub(crate) const FUNC_ENTRY: &[u8] =
     b"\x9f\xeb\x01\0\x18\0\0\0\0\0\0\00\0\0\00\0\0\0\x0a\0\0\0\0\0\0\0\0\0\0\x0d\0\0\0\0\x01\0\0\0\x02\0\0\x0c\x01\0\0\0\x03\0\0\0\x01\0\0\x0f\0\0\0\0\x02\0\0\0\0\0\0\0\0\0\0\0\0f\0.ksyms\0";
 
-/// A named FWD whose third word is 1.
+/// A named FWD whose size or type is 1.
 pub(crate) const NAMED_FWD: &[u8] =
     b"\x9f\xeb\x01\0\x18\0\0\0\0\0\0\0\x0c\0\0\0\x0c\0\0\0\x03\0\0\0\x01\0\0\0\0\0\0\x07\x01\0\0\0\0f\0";
 
@@ -71,7 +71,7 @@ pub(crate) const SMALL_INT: &[u8] =
 pub(crate) const ODD_FLOAT: &[u8] =
     b"\x9f\xeb\x01\0\x18\0\0\0\0\0\0\0\x0c\0\0\0\x0c\0\0\0\x01\0\0\0\0\0\0\0\0\0\0\x10\x03\0\0\0\0";
 
-/// A record of three words, all of them 0.
+/// A record of three fields, all of them 0.
 pub(crate) const BARE: &[u8] =
     b"\x9f\xeb\x01\0\x18\0\0\0\0\0\0\0\x0c\0\0\0\x0c\0\0\0\x01\0\0\0\0\0\0\0\0\0\0\0\0\0\0\0\0";
 

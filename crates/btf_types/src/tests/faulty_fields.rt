@@ -1,4 +1,4 @@
-//! Faulty references and words after the third, with the first fault of both parsers and of the reference checker.
+//! Faulty references and fields after the third, with the first fault of both parsers and of the reference checker.
 
 use crate::tests::expect::equal;
 use crate::tests::judge::first_fault;
@@ -6,7 +6,7 @@ use crate::tests::{fault, file, first_fault_of_both, words};
 use btf_raw::BtfCause as Cause;
 use std::test::Fail;
 
-/// The words of records in hexadecimal, their strings, and the offset and cause of the first fault. The records begin at byte 24.
+/// The fields of records in hexadecimal, their strings, and the offset and cause of the first fault. The records begin at byte 24.
 struct Faulty(&'static str, &'static str, &'static [u8], u64, Cause);
 
 #[rattlefmt::skip]

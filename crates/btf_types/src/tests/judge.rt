@@ -7,7 +7,7 @@ use btf_raw::{BtfCause, BtfFault};
 use fields::field_faults;
 use std::alloc::{AllocError, Global};
 
-/// What a word of a record is.
+/// What a field of a record is.
 #[derive(Clone, Copy, PartialEq, Eq)]
 enum Word {
     Name,
@@ -30,7 +30,7 @@ enum Naming {
     Unnamed,
 }
 
-/// What a record of a kind has: its name, its third word, kind_flag, the words after the third, and those of each item.
+/// What a record of a kind has: its name, its size or type, kind_flag, the fields after the third, and those of each item.
 struct Layout(Naming, Word, bool, &'static [Word], &'static [Word]);
 
 const MEMBER: &[Word] = &[Word::Name, Word::Type, Word::Offset];
@@ -135,12 +135,12 @@ impl<'a> Record<'a> {
         self.word(1) & 0xffff
     }
 
-    /// The offset of word j in the file.
+    /// The offset of field j in the file.
     fn place(&self, j: usize) -> u64 {
         self.pos.saturating_add((j as u64).saturating_mul(4))
     }
 
-    /// How many words it has.
+    /// How many fields it has.
     fn len(&self) -> usize {
         match layout_of(self.kind()) {
             Some(Layout(_, _, _, words, item)) => item
@@ -152,7 +152,7 @@ impl<'a> Record<'a> {
         }
     }
 
-    /// What word j is.
+    /// What field j is.
     fn role(&self, j: usize) -> Word {
         let Some(Layout(_, third, _, words, item)) = layout_of(self.kind()) else {
             return Word::Any;

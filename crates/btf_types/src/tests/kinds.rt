@@ -9,7 +9,7 @@ use std::test::Fail;
 /// Records, their strings, and the heads and items of their tables.
 struct Kind {
     name: &'static str,
-    /// The words of the records, in hexadecimal.
+    /// The fields of the records, in hexadecimal.
     words: &'static str,
     strings: &'static [u8],
     walk: &'static [&'static str],

@@ -13,14 +13,14 @@ use std::test::Fail;
 /// The most bytes that a parser gets.
 const ROOM: usize = 2048;
 
-/// How many bytes the offsets of nine records need at least, the marks of five bytes of strings, and nine records of three words.
+/// How many bytes the offsets of nine records need at least, the marks of five bytes of strings, and nine records of three fields.
 const PLACES: u32 = 36;
 
 const MARKS: u32 = 5;
 
 const TYPES: u32 = 108;
 
-/// How many bytes the offset of one record and the ends of nine long strings need at least, the words of an ENUM with nine values, and
+/// How many bytes the offset of one record and the ends of nine long strings need at least, the fields of an ENUM with nine values, and
 /// nine 128-byte strings.
 const PLACE_AND_ENDS: u32 = 40;
 

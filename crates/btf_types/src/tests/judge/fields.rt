@@ -130,7 +130,7 @@ fn component_is_wrong(types: Types, record: Record) -> bool {
     }
 }
 
-/// The faults of word j of a record.
+/// The faults of field j of a record.
 fn word_faults(
     faults: &mut Faults,
     types: Types,

@@ -8,7 +8,7 @@ use Rattle.btf_types.proofs.JudgeLemmas.WordRoles.{name_has_role, info_has_role,
 use Rattle.btf_types.proofs.TableLemmas.SectionSteps.{three_words}
 use Rattle.btf_types.proofs.judge.fields.first_words_fault.Goals as goal
 
--- a name without a fault, and the info word after it
+-- a name without a fault, and info after it
 module _ (s : SectionWords) {f : List ℕ} (is : IsFrame f) where
   before_info : (name : ℕ) → name ≡ name_word f → NoCause (NameFault s.strings (kind f) name) → NoneWithin s f 0 1
   before_info name name-is none =

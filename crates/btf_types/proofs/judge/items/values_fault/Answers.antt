@@ -6,7 +6,7 @@ use Rattle.btf_types.proofs.JudgeLemmas.RecordSteps.{first_at, none_at, free_wit
 use Rattle.btf_types.proofs.JudgeLemmas.WordRoles.{enum_fixed, enum_size, value_name_role, value_free_role}
 use Rattle.btf_types.proofs.judge.items.values_fault.Goals as goal
 
--- a value of two or three words begins and ends within those of all values
+-- a value of two or three fields begins and ends within those of all values
 record ValueIn (step k v : ℕ) : Type 0 where
   few : step * k < 2 ^ 18
   next : step * (k + 1) ≡ step * k + step
