@@ -37,7 +37,7 @@ static int write_file(int is_btf, uint32_t order, uint32_t to)
 }
 
 #define PIECE (1 << 20)
-static uint8_t piece[PIECE], room[PIECE];
+static uint8_t piece[PIECE], output[PIECE];
 
 /* Calls for each piece, with what was not read of the previous one prepended. */
 static int write_pieces(uint32_t order, uint32_t to)
@@ -55,17 +55,17 @@ static int write_pieces(uint32_t order, uint32_t to)
 		if (n == 0)
 			break;
 		held += n;
-		front = bpfcanon_insn_front(order, to, piece, held, room, PIECE);
+		front = bpfcanon_insn_front(order, to, piece, held, output, PIECE);
 		if (front.status != BPFCANON_DONE && front.status != BPFCANON_FAULT)
 			return 3;
-		write_whole(room, front.written);
+		write_whole(output, front.written);
 		if (front.status == BPFCANON_FAULT)
 			refuse(bpfcanon_insn_cause_name(front.cause), done + front.pos);
 		done += front.read;
 		held -= front.read;
 		memmove(piece, piece + front.read, held);
 	}
-	rest = bpfcanon_insn_canon(order, to, piece, held, room, PIECE);
+	rest = bpfcanon_insn_canon(order, to, piece, held, output, PIECE);
 	if (rest.status == BPFCANON_FAULT)
 		refuse(bpfcanon_insn_cause_name(rest.cause), done + rest.pos);
 	return rest.status == BPFCANON_DONE ? 0 : 3;

@@ -186,7 +186,7 @@ COMPONENT = (
 )
 NONE, *PARTS = fitted(WHEN["Component"], COMPONENT)
 NO_COMPONENT, WITHOUT_PARTS, WITH_PARTS = int(NONE, 16), set(PARTS[:2]), set(PARTS[2:])
-# Cells without a number: second_judge.py implements what they say, so their wording must not change unnoticed.
+# Cells without a number: btf_reference.py implements what they say, so their wording must not change unnoticed.
 PHRASES = {
     "Magic": "neither magic",
     "Sections": "neither type_off 0 and str_off = type_len, nor str_off 0 and type_off = str_len",

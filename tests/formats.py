@@ -2,7 +2,7 @@
 
     formats.py PROGRAM
 
-insn_judge.py and second_judge.py check bytes by the tables of the pages. Here they check each vector, and each instruction of the
+insn_reference.py and btf_reference.py check bytes by the tables of the pages. Here they check each vector, and each instruction of the
 vectors again with one of its fields changed, which is passed to the command too.
 """
 
@@ -10,8 +10,8 @@ import itertools
 import re
 import sys
 
-import insn_judge
-import second_judge
+import btf_reference
+import insn_reference
 from formats_page import fitted, table
 from program import Program, Ran, Report
 from samples import btf
@@ -33,35 +33,36 @@ def check_insns(report):
     with report.group("the tables of instructions on the vectors"):
         for line, little, big, group in rows("insn"):
             for order, code in ("little", data(little)), ("big", data(big)):
-                read, fault = insn_judge.judged(code, order)
-                said = (insn_judge.line_of(*read), insn_judge.group_of(read[0])) if read else fault
+                read, fault = insn_reference.decoded(code, order)
+                said = (insn_reference.line_of(*read), insn_reference.group_of(read[0])) if read else fault
                 report.expect_that(said == (line, group), f"{line} in {order}-endian order", f"the page says {said}")
-            other = insn_judge.bytes_of(read[1], read[0].is_wide, "little") if read else None
+            other = insn_reference.bytes_of(read[1], read[0].is_wide, "little") if read else None
             report.expect_that(other == data(little), f"{line}, turned", f"the page says {other}")
-        for name, little, big, place, cause in rows("insn-fault"):
+        for name, little, big, pos, cause in rows("insn-fault"):
             for order, code in ("little", data(little)), ("big", data(big)):
-                fault = insn_judge.judged(code, order)[1]
-                report.expect_that(fault == (int(place), cause), f"{name} in {order}-endian order", f"the page says {fault}")
+                fault = insn_reference.decoded(code, order)[1]
+                report.expect_that(fault == (int(pos), cause), f"{name} in {order}-endian order", f"the page says {fault}")
     with report.group("the mnemonics of the table of lines"):
-        words = {insn_judge.word_of(form) for form in insn_judge.forms()}
-        named = {word: name for word, (name, _) in insn_judge.templates().items()}
-        report.expect_that(words == set(named), "the words", f"these differ: {sorted(words ^ set(named))}")
-        for form in insn_judge.forms():
-            name = named.get(insn_judge.word_of(form), "")
-            report.expect_that(form.name in name.split(", "), insn_judge.word_of(form), f"it is in the row {name}, and not {form.name}")
+        mnemonics = {insn_reference.mnemonic_of(form) for form in insn_reference.forms()}
+        named = {mnemonic: name for mnemonic, (name, _) in insn_reference.templates().items()}
+        report.expect_that(mnemonics == set(named), "the mnemonics", f"these differ: {sorted(mnemonics ^ set(named))}")
+        for form in insn_reference.forms():
+            mnemonic = insn_reference.mnemonic_of(form)
+            name = named.get(mnemonic, "")
+            report.expect_that(form.name in name.split(", "), mnemonic, f"it is in the row {name}, and not {form.name}")
 
 
 def changed_insns():
     """Each instruction of the vectors, and that with one field changed."""
     found = {}
     for _, little, _, _ in rows("insn"):
-        form, insn = insn_judge.judged(data(little), "little")[0]
+        form, insn = insn_reference.decoded(data(little), "little")[0]
         changes = [("opcode", insn.opcode ^ 1 << bit) for bit in range(8)]
         changes += [(field, value) for field in ("dst", "src") for value in REGISTERS]
         changes += [("offset", value) for value in OFFSETS] + [("imm", value) for value in IMMEDIATES]
         changes += [(field, value) for field in ("reserved", "next_imm") for value in (0, 1, -1) if form.is_wide]
         for field, value in changes:
-            code = insn_judge.bytes_of(insn._replace(**{field: value}), form.is_wide, "little")
+            code = insn_reference.bytes_of(insn._replace(**{field: value}), form.is_wide, "little")
             found.setdefault(code)
     return list(found)
 
@@ -70,11 +71,11 @@ def check_changed_insns(program, report):
     accepted, shown = [], []
     with report.group("instructions with a field changed, by the page and by the program"):
         for code in changed_insns():
-            read, fault = insn_judge.judged(code, "little")
+            read, fault = insn_reference.decoded(code, "little")
             # a changed wide load may be two instructions: the page is asked about the first
             if read and read[0].is_wide == (len(code) == 16):
                 accepted.append(code)
-                shown.append(insn_judge.line_of(*read) + "\n")
+                shown.append(insn_reference.line_of(*read) + "\n")
             elif fault:
                 right = Ran(1, b"", f"fault {fault[0]} {fault[1]}\n".encode())
                 report.expect(code.hex(), program.run("insn-groups", code), right)
@@ -88,10 +89,10 @@ def check_changed_insns(program, report):
 def check_groups(program, report):
     """Each form by itself, to see the groups that its group includes."""
     with report.group("the groups of the page and of the program"):
-        brings = insn_judge.brings()
+        included = insn_reference.included()
         for _, little, _, _ in rows("insn"):
-            form, _ = insn_judge.judged(data(little), "little")[0]
-            right = sorted(brings[insn_judge.group_of(form)])
+            form, _ = insn_reference.decoded(data(little), "little")[0]
+            right = sorted(included[insn_reference.group_of(form)])
             ran = program.run("insn-groups", data(little))
             report.expect_that(sorted(ran.output.decode().split()) == right, little, f"it needs {ran.output}, and the page says {right}")
 
@@ -105,10 +106,10 @@ def check_not_covered(program, report):
             codes = re.findall(r"\(([0-9a-f]{2})\)", what) if found and not found[1] and not found[3] and ", " not in found[2] else codes
             for code in codes:
                 opcode, imm = (0xDB, int(code, 16)) if found[1] else (int(code, 16), 0)
-                insn = insn_judge.Insn(opcode, 1, 1, int(found[3] or 0), imm)
-                given = insn_judge.bytes_of(insn, False, "little")
+                insn = insn_reference.Insn(opcode, 1, 1, int(found[3] or 0), imm)
+                given = insn_reference.bytes_of(insn, False, "little")
                 cause = fitted(refusal, r"`(\w+)`")[0]
-                fault = insn_judge.judged(given, "little")[1]
+                fault = insn_reference.decoded(given, "little")[1]
                 report.expect_that(fault is not None and fault[1] == cause, f"{what}: {code}", f"the tables say {fault}")
                 message = f"fault {fault[0]} {cause}\n".encode() if fault else b""
                 report.expect(f"{what}: {code}", program.run("insn-canon", given), Ran(1, b"", message))
@@ -121,17 +122,17 @@ def check_btf(report):
     with report.group("the tables of BTF on the vectors"):
         for name, file, little, big, count, shown in rows("btf"):
             for given in {*map(data, (file, little, big))}:
-                fault = second_judge.first_fault(given)
-                said = fault or (second_judge.canonical(given), second_judge.canonical(given, ">"))
+                fault = btf_reference.first_fault(given)
+                said = fault or (btf_reference.canonical(given), btf_reference.canonical(given, ">"))
                 report.expect_that(said == (data(little), data(big)), name, f"the page says {said}")
-                lines = None if fault else second_judge.lines(given)
+                lines = None if fault else btf_reference.lines(given)
                 report.expect_that(lines == text(shown), f"{name}, its text", f"the page says {lines}")
-                types = None if fault else second_judge.count(given)
+                types = None if fault else btf_reference.count(given)
                 report.expect_that(types == int(count), f"{name}, its types", f"the page says {types}")
-        for name, little, big, place, cause in rows("btf-fault"):
+        for name, little, big, pos, cause in rows("btf-fault"):
             for given in data(little), data(big):
-                fault = second_judge.first_fault(given)
-                report.expect_that(fault == (int(place), cause), name, f"the page says {fault}")
+                fault = btf_reference.first_fault(given)
+                report.expect_that(fault == (int(pos), cause), name, f"the page says {fault}")
 
 
 # Types 1 to 7, one of each kind that another type may need: INT, FUNC_PROTO with a parameter, STRUCT with a member, FUNC, VAR, TYPEDEF,
@@ -158,8 +159,8 @@ def check_tried_records(program, report):
     with report.group("records of each kind, by the page and by the program"):
         for words in tried_records():
             given = btf("little", TARGETS + words, b"\0a\0")
-            fault = second_judge.first_fault(given)
-            right = Ran(1, b"", f"fault {fault[0]} {fault[1]}\n".encode()) if fault else Ran(0, second_judge.lines(given), b"")
+            fault = btf_reference.first_fault(given)
+            right = Ran(1, b"", f"fault {fault[0]} {fault[1]}\n".encode()) if fault else Ran(0, btf_reference.lines(given), b"")
             report.expect(" ".join(f"{word:x}" for word in words), program.run("btf-show", given), right)
 
 

@@ -15,7 +15,7 @@ import sys
 import termios
 import threading
 
-import insn_judge
+import insn_reference
 import samples
 import vectors
 from samples import EXIT, btf, floats
@@ -193,7 +193,7 @@ def lines_of_commands():
     text = b"".join(row[0].encode() + b"\n" for row in rows)
     _, _, little, big, count, shown = max(vectors.rows("btf"), key=lambda row: len(row[2]))
     little, big, shown, count = vectors.data(little), vectors.data(big), vectors.text(shown), int(count)
-    groups = {brought for row in rows for brought in insn_judge.brings()[row[3]]}
+    groups = {group for row in rows for group in insn_reference.included()[row[3]]}
     listed = b"".join(group.encode() + b"\n" for group in vectors.GROUPS if group in groups)
     at_fault = f"fault {len(insns) + 8} Truncated\n".encode()
     return [

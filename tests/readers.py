@@ -29,7 +29,7 @@ def changes_of(call, status):
     """The changes of an answer that a reader has to notice."""
     if status == DONE:
         return {"btf_check": ["count"], "insn_groups": ["count"], "btf_same": ["status"], "insn_same": ["status"]}.get(call, ["output"])
-    return {DIFFERENT: ["status"], FAULT: ["cause", "place"], FAULT_SECOND: ["status", "cause", "place"]}.get(status, [])
+    return {DIFFERENT: ["status"], FAULT: ["cause", "pos"], FAULT_SECOND: ["status", "cause", "pos"]}.get(status, [])
 
 
 def readers(folder):
@@ -89,8 +89,8 @@ def main():
     prefix, folder = (pathlib.Path(it).resolve() for it in sys.argv[1:])
     report, library = Report(), Library(prefix, folder)
     with concurrent.futures.ThreadPoolExecutor(os.cpu_count()) as pool:
-        for name, (place, tests) in readers(folder).items():
-            check_reader(report, library, name, place, tests, pool)
+        for name, (where, tests) in readers(folder).items():
+            check_reader(report, library, name, where, tests, pool)
     return report.end("readers of vectors")
 
 

@@ -96,10 +96,10 @@ class Tree:
 
     def run(self, runner, number=0, **environment):
         """The status of a runner, its last line and the calls of the stand-ins, with one that fails."""
-        with tempfile.TemporaryDirectory() as room:
-            calls = pathlib.Path(room, "calls")
+        with tempfile.TemporaryDirectory() as folder:
+            calls = pathlib.Path(folder, "calls")
             calls.touch()
-            own = {"PATH": str(self.folder / "bin"), "HOME": "/", "TMPDIR": room, "CALLS": str(calls), "FAIL_AT": str(number)}
+            own = {"PATH": str(self.folder / "bin"), "HOME": "/", "TMPDIR": folder, "CALLS": str(calls), "FAIL_AT": str(number)}
             own |= {"KEY": "made", "FAIL": "none", "UNFORMATTED": ""} | environment
             done = subprocess.run(["bash", self.folder / runner], env=own, capture_output=True, text=True, timeout=120)
             lines = done.stdout.splitlines() or [done.stderr]

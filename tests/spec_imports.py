@@ -75,11 +75,11 @@ def check_forms(report):
     with report.group(f"{len(REFUSED) + len(ALLOWED)} planted imports"):
         for forms, wanted in ((REFUSED, True), (ALLOWED, False)):
             for name, text in forms:
-                with tempfile.TemporaryDirectory() as room:
-                    file = pathlib.Path(room) / "crates" / "planted" / "specs" / "judge" / "Planted.antt"
+                with tempfile.TemporaryDirectory() as folder:
+                    file = pathlib.Path(folder) / "crates" / "planted" / "specs" / "judge" / "Planted.antt"
                     file.parent.mkdir(parents=True)
                     file.write_text(f"-- A definition.\n{text}\n")
-                    is_refused = [found for found, _ in refused(pathlib.Path(room))] == [file]
+                    is_refused = [found for found, _ in refused(pathlib.Path(folder))] == [file]
                 report.expect_that(is_refused == wanted, name, "it is not refused" if wanted else "it is refused")
 
 

@@ -11,7 +11,7 @@ import re
 import subprocess
 import sys
 
-import insn_judge
+import insn_reference
 from program import SECONDS, Program, Ran, Report
 
 TESTDATA = pathlib.Path(__file__).resolve().parent.parent / "testdata"
@@ -49,10 +49,10 @@ def refused(message, output=b""):
 
 
 def runs_of_insns():
-    brings = insn_judge.brings()
+    included = insn_reference.included()
     for line, little, big, group in rows("insn"):
         shown, little, big = line.encode() + b"\n", data(little), data(big)
-        groups = "".join(f"{it}\n" for it in brings[group]).encode()
+        groups = "".join(f"{it}\n" for it in included[group]).encode()
         yield line, "insn-canon", little, done(little)
         yield line, "insn-canon --order big", big, done(little)
         yield line, "insn-canon --to big", little, done(big)
@@ -77,8 +77,8 @@ def runs_of_all_insns():
 
 
 def runs_of_faulty_insns():
-    for name, little, big, place, cause in rows("insn-fault"):
-        little, big, message, later = data(little), data(big), f"fault {place} {cause}", f"fault {int(place) + 8} {cause}"
+    for name, little, big, pos, cause in rows("insn-fault"):
+        little, big, message, later = data(little), data(big), f"fault {pos} {cause}", f"fault {int(pos) + 8} {cause}"
         yield name, "insn-canon", little, refused(message)
         yield name, "insn-canon --order big", big, refused(message)
         yield name, "insn-canon --to big", EXIT + little, refused(later, EXIT)
@@ -115,13 +115,13 @@ def runs_of_btf():
 
 
 def runs_of_faulty_btf():
-    for name, *files, place, cause in rows("btf-fault"):
+    for name, *files, pos, cause in rows("btf-fault"):
         for given in map(data, files):
             for command in "btf-check", "btf-canon", "btf-show":
-                yield name, command, given, refused(f"fault {place} {cause}")
+                yield name, command, given, refused(f"fault {pos} {cause}")
             first, second = f"btf-same --split {len(given)}", f"btf-same --split {len(NO_TYPES)}"
-            yield name, first, given + NO_TYPES[:20], refused(f"first: fault {place} {cause}")
-            yield name, second, NO_TYPES + given, refused(f"second: fault {place} {cause}")
+            yield name, first, given + NO_TYPES[:20], refused(f"first: fault {pos} {cause}")
+            yield name, second, NO_TYPES + given, refused(f"second: fault {pos} {cause}")
 
 
 def runs_of_lines():

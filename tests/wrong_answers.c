@@ -35,7 +35,7 @@ static bpfcanon_answer changed(const char *call, bpfcanon_answer answer, void *o
 		answer.status = answer.status == BPFCANON_DIFFERENT ? BPFCANON_DONE : answer.status == BPFCANON_FAULT_SECOND ? BPFCANON_FAULT : answer.status + 1;
 	if (!strcmp(change, "cause"))
 		answer.cause = answer.cause == 1 ? 2 : 1;
-	if (!strcmp(change, "place")) {
+	if (!strcmp(change, "pos")) {
 		answer.line += answer.line != 0;
 		answer.pos += answer.line == 0;
 	}

@@ -18,7 +18,7 @@ static const uint32_t typed_kinds = 1 << 2 | 1 << 8 | 1 << 9 | 1 << 10 | 1 << 11
 
 struct name { uint32_t off, len, hash; };
 static struct name *names;
-static uint32_t name_count, name_room;
+static uint32_t name_count, name_capacity;
 static uint32_t *buckets, bucket_mask; /* 1 + the index of a name, or 0 */
 static uint32_t *name_at;              /* by offset, the same */
 static const uint8_t *strings;
@@ -84,8 +84,8 @@ static uint32_t note_name(uint32_t off, size_t pos)
 		if (other->hash == hash && other->len == len && !memcmp(strings + other->off, strings + off, len))
 			return name_at[off] = buckets[k];
 	}
-	if (name_count == name_room)
-		names = realloc(names, (name_room *= 2) * sizeof *names);
+	if (name_count == name_capacity)
+		names = realloc(names, (name_capacity *= 2) * sizeof *names);
 	names[name_count] = (struct name){ off, len, hash };
 	buckets[k] = ++name_count;
 	return name_at[off] = name_count;
@@ -159,12 +159,12 @@ static int ends_with(const struct name *name, const struct name *tail)
 /* Lays out the names that end no other, and returns the offset of each name by 1 + its index. */
 static uint32_t *share_tails(uint8_t *table, uint32_t *table_len)
 {
-	struct tail *tails = malloc((name_count + 1) * sizeof *tails), *room = malloc((name_count + 1) * sizeof *room), *sorted;
-	uint32_t *host = malloc((name_count + 1) * 4), *place = malloc((name_count + 1) * 4), end = 1;
+	struct tail *tails = malloc((name_count + 1) * sizeof *tails), *scratch = malloc((name_count + 1) * sizeof *scratch), *sorted;
+	uint32_t *host = malloc((name_count + 1) * 4), *offset = malloc((name_count + 1) * 4), end = 1;
 
 	for (uint32_t i = 0; i < name_count; i++)
 		tails[i] = tail_of(i);
-	sorted = sort_tails(tails, room, name_count);
+	sorted = sort_tails(tails, scratch, name_count);
 	for (uint32_t k = name_count; k-- > 0; ) {
 		uint32_t i = sorted[k].index;
 
@@ -173,18 +173,18 @@ static uint32_t *share_tails(uint8_t *table, uint32_t *table_len)
 			host[i] = host[sorted[k + 1].index];
 	}
 	table[0] = 0;
-	place[0] = 0;
+	offset[0] = 0;
 	for (uint32_t i = 0; i < name_count; i++)
 		if (host[i] == i) {
-			place[i + 1] = end;
+			offset[i + 1] = end;
 			memcpy(table + end, strings + names[i].off, names[i].len + 1);
 			end += names[i].len + 1;
 		}
 	for (uint32_t i = 0; i < name_count; i++)
 		if (host[i] != i)
-			place[i + 1] = place[host[i] + 1] + names[host[i]].len - names[i].len;
+			offset[i + 1] = offset[host[i] + 1] + names[host[i]].len - names[i].len;
 	*table_len = end;
-	return place;
+	return offset;
 }
 
 /* Copies the words of all records, with 1 + the index of a name instead of its offset. */
@@ -229,13 +229,13 @@ static void walk_records(const uint8_t *types, size_t types_len, uint32_t *words
 }
 
 /* Inserts the offsets of the names, and clears the kind_flag of a STRUCT or UNION without bit-fields. */
-static void put_places(uint32_t *words, size_t count, const uint32_t *place)
+static void put_offsets(uint32_t *words, size_t count, const uint32_t *offset)
 {
 	for (size_t k = 0; k < count; ) {
 		uint32_t info = words[k + 1], kind = info >> 24 & 31, widths = 0;
 		size_t end = k + 3 + tail_words[kind] + (size_t)item_words[kind] * (info & 0xffff);
 
-		words[k] = place[words[k]];
+		words[k] = offset[words[k]];
 		if ((kind == STRUCT || kind == UNION) && info >> 31) {
 			for (size_t i = k + 3; i < end; i += 3)
 				widths |= words[i + 2] >> 24;
@@ -244,7 +244,7 @@ static void put_places(uint32_t *words, size_t count, const uint32_t *place)
 		}
 		if (item_words[kind] && kind != DATASEC)
 			for (k += 3; k < end; k += item_words[kind])
-				words[k] = place[words[k]];
+				words[k] = offset[words[k]];
 		k = end;
 	}
 }
@@ -253,7 +253,7 @@ int main(void)
 {
 	size_t len;
 	uint8_t *file = read_whole(&len), *out;
-	uint32_t header_len, type_off, types_len, str_off, table_len, *place, *words;
+	uint32_t header_len, type_off, types_len, str_off, table_len, *offset, *words;
 
 	if (len < 24)
 		refuse("ShortHeader", len);
@@ -273,8 +273,8 @@ int main(void)
 		refuse("FirstString", 0);
 
 	name_at = calloc(strings_len, 4);
-	name_room = strings_len / 12 + 16;
-	names = malloc(name_room * sizeof *names);
+	name_capacity = strings_len / 12 + 16;
+	names = malloc(name_capacity * sizeof *names);
 	for (bucket_mask = 1023; bucket_mask < strings_len / 10; )
 		bucket_mask = bucket_mask * 2 + 1;
 	buckets = calloc((size_t)bucket_mask + 1, 4);
@@ -282,8 +282,8 @@ int main(void)
 	words = (uint32_t *)(out + 24);
 
 	walk_records(file + header_len + type_off, types_len, words);
-	place = share_tails(out + 24 + types_len, &table_len);
-	put_places(words, types_len / 4, place);
+	offset = share_tails(out + 24 + types_len, &table_len);
+	put_offsets(words, types_len / 4, offset);
 	memcpy(out, (uint32_t[]){ 0x0001eb9f, 24, 0, types_len, types_len, table_len }, 24);
 	write_whole(out, 24 + (size_t)types_len + table_len);
 	return 0;

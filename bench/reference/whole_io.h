@@ -14,17 +14,17 @@ static void refuse(const char *cause, size_t pos)
 
 __attribute__((unused)) static uint8_t *read_whole(size_t *len)
 {
-	size_t room = 1 << 20;
-	uint8_t *bytes = malloc(room);
+	size_t capacity = 1 << 20;
+	uint8_t *bytes = malloc(capacity);
 
 	for (*len = 0; bytes; ) {
 		ssize_t n;
 
-		if (*len == room)
-			bytes = realloc(bytes, room *= 2);
+		if (*len == capacity)
+			bytes = realloc(bytes, capacity *= 2);
 		if (!bytes)
 			break;
-		n = read(0, bytes + *len, room - *len);
+		n = read(0, bytes + *len, capacity - *len);
 		if (n == 0)
 			return bytes;
 		if (n > 0)

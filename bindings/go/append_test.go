@@ -30,7 +30,7 @@ func floats(order binary.ByteOrder, count int, name string) (file, text []byte) 
 	return btf(order, words, "\x00"+name+"\x00"), text
 }
 
-// Each call that appends. The text of types is shorter than the room of the first try, or longer.
+// Each call that appends. The listing of types is shorter than the first guess, or longer.
 func appendingCalls(t *testing.T) []appending {
 	program, exits := load(t, "packet_filter.big.bin"), bytes.Repeat(unhex(t, insns[5].little), 40)
 	types, shortText := floats(binary.BigEndian, 8, "f")
@@ -71,7 +71,7 @@ func TestResultsAreAppended(t *testing.T) {
 		got, err := it.call(dst, input)
 		wantAppended(t, it.name, it, dst, input, got, err)
 		if &got[0] != &dst[0] {
-			t.Errorf("%s: there was room, and the result is in another array", it.name)
+			t.Errorf("%s: there was enough capacity, and the result is in another array", it.name)
 		}
 		small := append(make([]byte, 0, len(before)), before...)
 		got, err = it.call(small, input)

@@ -31,14 +31,14 @@ type FaultError struct {
 
 // Error returns the offset or line of the fault, the name of the cause and its sentence.
 func (e *FaultError) Error() string {
-	input, place := "", fmt.Sprintf("byte %d", e.Pos)
+	input, position := "", fmt.Sprintf("byte %d", e.Pos)
 	if e.Second {
 		input = "second input: "
 	}
 	if e.Line > 0 {
-		place = fmt.Sprintf("line %d", e.Line)
+		position = fmt.Sprintf("line %d", e.Line)
 	}
-	return fmt.Sprintf("bpfcanon: %s%s: %s: %s", input, place, e.Cause.String(), e.Cause.Error())
+	return fmt.Sprintf("bpfcanon: %s%s: %s: %s", input, position, e.Cause.String(), e.Cause.Error())
 }
 
 // Unwrap returns the cause.

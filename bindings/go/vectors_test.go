@@ -58,10 +58,10 @@ func text(t *testing.T, field string) []byte {
 	return []byte(s)
 }
 
-// The cause of this name, and the place or line of a row.
-func fault[C bpfcanon.Cause](t *testing.T, cause func(uint32) C, place, name string) bpfcanon.FaultError {
+// The cause of this name, and the offset or line of a row.
+func fault[C bpfcanon.Cause](t *testing.T, cause func(uint32) C, pos, name string) bpfcanon.FaultError {
 	t.Helper()
-	at, err := strconv.ParseUint(place, 10, 64)
+	at, err := strconv.ParseUint(pos, 10, 64)
 	if err != nil {
 		t.Fatal(err)
 	}

@@ -27,7 +27,7 @@ static struct {
 } sizes[64];
 
 /* The index of a block, or of none; a test with too many blocks ends here. */
-static size_t place_of(const void *block)
+static size_t index_of(const void *block)
 {
 	size_t at = 0;
 
@@ -40,13 +40,13 @@ static size_t place_of(const void *block)
 /* The size that a live block was asked for with. */
 static inline size_t size_of(const void *block)
 {
-	return sizes[place_of(block)].size;
+	return sizes[index_of(block)].size;
 }
 
-static void keep(size_t place, void *block, size_t size)
+static void keep(size_t at, void *block, size_t size)
 {
-	sizes[place].block = block;
-	sizes[place].size = size;
+	sizes[at].block = block;
+	sizes[at].size = size;
 }
 
 static int refuse(long *count)
@@ -68,19 +68,19 @@ void *__wrap_malloc(size_t size)
 
 	live += block != NULL;
 	if (block)
-		keep(place_of(NULL), block, size);
+		keep(index_of(NULL), block, size);
 	return block;
 }
 
 void *__wrap_realloc(void *block, size_t size)
 {
-	size_t place = place_of(block);
-	int is_shrink = block && size <= sizes[place].size;
+	size_t at = index_of(block);
+	int is_shrink = block && size <= sizes[at].size;
 	void *moved = refuse(is_shrink ? &shrinks : &refused) ? NULL : __real_realloc(block, size);
 
 	live += !block && moved;
 	if (moved)
-		keep(place, moved, size);
+		keep(at, moved, size);
 	return moved;
 }
 
@@ -88,7 +88,7 @@ void __wrap_free(void *block)
 {
 	live -= block != NULL;
 	if (block)
-		keep(place_of(block), NULL, 0);
+		keep(index_of(block), NULL, 0);
 	__real_free(block);
 }
 

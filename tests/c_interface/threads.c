@@ -27,7 +27,7 @@ struct file {
 };
 
 static struct file types[2], insns[2];
-static struct made *_Atomic places[THREADS];
+static struct made *_Atomic passed[THREADS];
 static atomic_long wrong, compared;
 
 static void expect(int holds)
@@ -54,9 +54,9 @@ static void pass_on(int thread, bpfcanon_answer answer, void *block, const void 
 	made->block = block;
 	made->wanted = wanted;
 	made->len = len;
-	taken = atomic_exchange(&places[(thread + 1) % THREADS], made);
+	taken = atomic_exchange(&passed[(thread + 1) % THREADS], made);
 	free_made(taken);
-	free_made(atomic_exchange(&places[thread], NULL));
+	free_made(atomic_exchange(&passed[thread], NULL));
 }
 
 static void make_all(int thread, int order)
@@ -168,7 +168,7 @@ int main(int argc, char **argv)
 	for (size_t k = 0; k < THREADS; k++)
 		CHECK(!pthread_join(threads[k], NULL));
 	for (size_t k = 0; k < THREADS; k++)
-		free_made(places[k]);
+		free_made(passed[k]);
 	for (int k = 0; k < 4; k++) {
 		struct file *file = k < 2 ? &types[k] : &insns[k - 2];
 

@@ -143,13 +143,13 @@ def ask(name: str, *arguments: Union[int, Buffer]) -> Any:
     return function(name)(*passed)
 
 
-def write(name: str, room: int, *arguments: Union[int, Buffer]) -> tuple[Any, bytearray]:
-    """Make a call that writes into a buffer of `room` bytes.
+def write(name: str, capacity: int, *arguments: Union[int, Buffer]) -> tuple[Any, bytearray]:
+    """Make a call that writes into a buffer of `capacity` bytes.
 
     If the output is longer, the call is made again with a larger buffer. Returns the answer and the
     output.
     """
-    out = bytearray(room)
+    out = bytearray(capacity)
     answer = ask(name, *arguments, out)
     if answer.status == ROOM:
         out = bytearray(answer.needed)

@@ -30,7 +30,7 @@ class Fault(BpfcanonError, ValueError):
         self.second = second
 
     def __str__(self) -> str:
-        return f"{place_of(self)}: {self.cause.label}: {self.cause.text}"
+        return f"{position_of(self)}: {self.cause.label}: {self.cause.text}"
 
 
 class UnknownCause(BpfcanonError):
@@ -48,7 +48,7 @@ class UnknownCause(BpfcanonError):
         self.second = second
 
     def __str__(self) -> str:
-        return f"{place_of(self)}: cause {self.number}, which this version of the package doesn't know"
+        return f"{position_of(self)}: cause {self.number}, which this version of the package doesn't know"
 
 
 class OutOfMemory(BpfcanonError, MemoryError):
@@ -59,10 +59,10 @@ class OrderError(BpfcanonError, ValueError):
     """An argument is not a valid byte order."""
 
 
-def place_of(error: Union[Fault, UnknownCause]) -> str:
+def position_of(error: Union[Fault, UnknownCause]) -> str:
     """Return where a fault is, as the texts of errors begin."""
-    place = f"line {error.line}" if error.line else f"byte {error.pos}"
-    return f"{'second input: ' if error.second else ''}{place}"
+    position = f"line {error.line}" if error.line else f"byte {error.pos}"
+    return f"{'second input: ' if error.second else ''}{position}"
 
 
 def error_of(answer: Any, cause: Callable[[int], Cause]) -> Optional[BpfcanonError]:

@@ -58,7 +58,7 @@ class Streams(unittest.TestCase):
                 list(bpfcanon.insn_stream([EXIT, unhex(end)], order=Order.BIG))
             self.assertEqual(raised.exception.args, (InsnCause.TRUNCATED, pos, 0, False))
 
-    def test_the_front_of_a_piece_has_its_fault(self) -> None:
+    def test_the_start_of_a_piece_has_its_fault(self) -> None:
         front = bpfcanon.insn_front(EXIT + unhex("04 10 0000 05000000"))
         self.assertEqual((front.output, front.read), (EXIT, 8))
         self.assertIsInstance(front.error, Fault)

@@ -52,7 +52,7 @@ class Vectors(unittest.TestCase):
                 self.assertEqual(bpfcanon.insn_groups(program, order=order), needed | BRINGS.get(needed, needed), line)
 
     def test_faulty_instructions(self) -> None:
-        for name, *files, place, cause in rows("insn-fault"):
+        for name, *files, pos, cause in rows("insn-fault"):
             found = next(it for it in InsnCause if it.label == cause)
             for order, program in zip(ORDERS, map(data, files)):
                 calls: list[Callable[[], object]] = [
@@ -61,8 +61,8 @@ class Vectors(unittest.TestCase):
                     lambda: bpfcanon.insn_groups(program, order=order),
                     lambda: bpfcanon.insn_same(program, EXIT, first_order=order),
                 ]
-                self.faults(calls, found, int(place), 0, False)
-                self.faults([lambda: bpfcanon.insn_same(EXIT, program, second_order=order)], found, int(place), 0, True)
+                self.faults(calls, found, int(pos), 0, False)
+                self.faults([lambda: bpfcanon.insn_same(EXIT, program, second_order=order)], found, int(pos), 0, True)
 
     def test_listings(self) -> None:
         for name, given, shown in rows("listing"):
@@ -82,7 +82,7 @@ class Vectors(unittest.TestCase):
 
     def test_faulty_types(self) -> None:
         good = data(rows("btf")[0][1])
-        for name, *files, place, cause in rows("btf-fault"):
+        for name, *files, pos, cause in rows("btf-fault"):
             found = next(it for it in BtfCause if it.label == cause)
             for given in map(data, files):
                 calls: list[Callable[[], object]] = [
@@ -91,8 +91,8 @@ class Vectors(unittest.TestCase):
                     lambda: bpfcanon.btf_check(given),
                     lambda: bpfcanon.btf_same(given, good),
                 ]
-                self.faults(calls, found, int(place), 0, False)
-                self.faults([lambda: bpfcanon.btf_same(good, given)], found, int(place), 0, True)
+                self.faults(calls, found, int(pos), 0, False)
+                self.faults([lambda: bpfcanon.btf_same(good, given)], found, int(pos), 0, True)
 
 
 if __name__ == "__main__":

@@ -105,9 +105,11 @@ pub fn canon(to: Order, types: &[u8]) -> Result<Vec<u8>, Error> {
     call::output(
         types.len(),
         |it| it.pos,
-        |out, room| {
-            // SAFETY: the slice and the room are valid for the call, and don't overlap.
-            unsafe { sys::bpfcanon_btf_canon(to as u32, types.as_ptr(), types.len(), out, room) }
+        |out, capacity| {
+            // SAFETY: the slice and the buffer are valid for the call, and don't overlap.
+            unsafe {
+                sys::bpfcanon_btf_canon(to as u32, types.as_ptr(), types.len(), out, capacity)
+            }
         },
     )
 }
@@ -124,9 +126,9 @@ pub fn show(types: &[u8]) -> Result<String, Error> {
     let text = call::output(
         types.len().saturating_mul(3),
         |it| it.pos,
-        |out, room| {
-            // SAFETY: the slice and the room are valid for the call, and don't overlap.
-            unsafe { sys::bpfcanon_btf_show(types.as_ptr(), types.len(), out.cast(), room) }
+        |out, capacity| {
+            // SAFETY: the slice and the buffer are valid for the call, and don't overlap.
+            unsafe { sys::bpfcanon_btf_show(types.as_ptr(), types.len(), out.cast(), capacity) }
         },
     )?;
     let mut text = String::from_utf8(text).expect("the text of types is UTF-8");

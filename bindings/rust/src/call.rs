@@ -1,4 +1,4 @@
-//! What all calls share: room for output, names of causes and strings of the library.
+//! What all calls share: buffers for output, names of causes and strings of the library.
 
 use crate::{sys, Error};
 use std::ffi::{c_char, CStr};
@@ -7,7 +7,7 @@ use std::fmt;
 /// An enum of causes. The trait can't be named outside the crate, so no other type implements it.
 pub trait CauseNumber: Copy + fmt::Debug + fmt::Display + Send + Sync + 'static {
     /// What a position counts, in messages.
-    const PLACE: &'static str;
+    const UNIT: &'static str;
     /// The cause of a number.
     fn of_number(number: u32) -> Self;
 }
@@ -21,16 +21,16 @@ pub(crate) fn text(string: *const c_char) -> Option<&'static str> {
     unsafe { CStr::from_ptr(string) }.to_str().ok()
 }
 
-/// Makes a call with room of this many bytes, and once more if the output needs more.
+/// Makes a call with a buffer of this many bytes, and once more if the output is longer.
 pub(crate) fn output<C: CauseNumber>(
-    room: usize,
-    place: impl Fn(&sys::Answer) -> u64,
+    capacity: usize,
+    position: impl Fn(&sys::Answer) -> u64,
     call: impl Fn(*mut u8, usize) -> sys::Answer,
 ) -> Result<Vec<u8>, Error<C>> {
     let mut out = Vec::new();
-    let mut room = room;
+    let mut capacity = capacity;
     loop {
-        out.try_reserve_exact(room).map_err(|_| Error::OutOfMemory)?;
+        out.try_reserve_exact(capacity).map_err(|_| Error::OutOfMemory)?;
         let answer = call(out.as_mut_ptr(), out.capacity());
         match answer.status {
             sys::DONE => {
@@ -39,8 +39,8 @@ pub(crate) fn output<C: CauseNumber>(
                 unsafe { out.set_len(answer.written) };
                 return Ok(out);
             }
-            sys::ROOM if answer.needed > out.capacity() => room = answer.needed,
-            _ => return Err(Error::of(&answer, place(&answer))),
+            sys::ROOM if answer.needed > out.capacity() => capacity = answer.needed,
+            _ => return Err(Error::of(&answer, position(&answer))),
         }
     }
 }
@@ -56,7 +56,7 @@ pub(crate) fn comparison<C: CauseNumber>(answer: &sys::Answer) -> Result<bool, E
 
 /// Declares an enum of causes by their names and numbers.
 macro_rules! causes {
-    ($(#[$about:meta])* $kind:ident, $place:literal, $name:path, $text:path;
+    ($(#[$about:meta])* $kind:ident, $unit:literal, $name:path, $text:path;
      $($(#[$doc:meta])* $variant:ident = $number:literal,)+) => {
         $(#[$about])*
         #[derive(Clone, Copy, Debug, PartialEq, Eq, Hash)]
@@ -95,7 +95,7 @@ macro_rules! causes {
         }
 
         impl $crate::call::CauseNumber for $kind {
-            const PLACE: &'static str = $place;
+            const UNIT: &'static str = $unit;
 
             fn of_number(number: u32) -> $kind {
                 match number {

@@ -31,7 +31,7 @@ impl<C: Copy> Fault<C> {
 impl<C: CauseNumber> fmt::Display for Fault<C> {
     fn fmt(&self, f: &mut fmt::Formatter<'_>) -> fmt::Result {
         let input = if self.is_in_second { "second input: " } else { "" };
-        write!(f, "{input}{} {}: {}", C::PLACE, self.position, self.cause)
+        write!(f, "{input}{} {}: {}", C::UNIT, self.position, self.cause)
     }
 }
 
@@ -62,15 +62,11 @@ impl<C> Error<C> {
 
 impl<C: CauseNumber> Error<C> {
     /// The error of an answer whose status is not one of success.
-    pub(crate) fn of(answer: &sys::Answer, place: u64) -> Error<C> {
+    pub(crate) fn of(answer: &sys::Answer, position: u64) -> Error<C> {
         match answer.status {
             sys::FAULT | sys::FAULT_SECOND => {
                 let is_in_second = answer.status == sys::FAULT_SECOND;
-                Error::Fault(Fault {
-                    position: place,
-                    cause: C::of_number(answer.cause),
-                    is_in_second,
-                })
+                Error::Fault(Fault { position, cause: C::of_number(answer.cause), is_in_second })
             }
             sys::MEMORY => Error::OutOfMemory,
             other => Error::Status(other),

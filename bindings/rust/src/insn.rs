@@ -69,8 +69,8 @@ pub fn canon(order: Order, to: Order, program: &[u8]) -> Result<Vec<u8>, Error> 
     call::output(
         program.len(),
         |it| it.pos,
-        |out, room| {
-            // SAFETY: the slice and the room are valid for the call, and don't overlap.
+        |out, capacity| {
+            // SAFETY: the slice and the buffer are valid for the call, and don't overlap.
             unsafe {
                 sys::bpfcanon_insn_canon(
                     order as u32,
@@ -78,7 +78,7 @@ pub fn canon(order: Order, to: Order, program: &[u8]) -> Result<Vec<u8>, Error> 
                     program.as_ptr(),
                     program.len(),
                     out,
-                    room,
+                    capacity,
                 )
             }
         },
@@ -95,15 +95,15 @@ pub fn show(order: Order, program: &[u8]) -> Result<String, Error> {
     let listing = call::output(
         program.len().saturating_mul(4),
         |it| it.pos,
-        |out, room| {
-            // SAFETY: the slice and the room are valid for the call, and don't overlap.
+        |out, capacity| {
+            // SAFETY: the slice and the buffer are valid for the call, and don't overlap.
             unsafe {
                 sys::bpfcanon_insn_show(
                     order as u32,
                     program.as_ptr(),
                     program.len(),
                     out.cast(),
-                    room,
+                    capacity,
                 )
             }
         },
@@ -135,15 +135,15 @@ pub fn read(to: Order, listing: impl AsRef<[u8]>) -> Result<Vec<u8>, ListingErro
     call::output(
         listing.len(),
         |it| it.line,
-        |out, room| {
-            // SAFETY: the slice and the room are valid for the call, and don't overlap.
+        |out, capacity| {
+            // SAFETY: the slice and the buffer are valid for the call, and don't overlap.
             unsafe {
                 sys::bpfcanon_insn_read(
                     to as u32,
                     listing.as_ptr().cast(),
                     listing.len(),
                     out,
-                    room,
+                    capacity,
                 )
             }
         },

@@ -60,7 +60,7 @@ fn a_listing_of_short_lines_is_read() {
 }
 
 #[test]
-fn errors_say_the_place_and_the_cause() {
+fn errors_name_the_position_and_the_cause() {
     let cut = &load("flow_table.little.btf")[..100];
     let sum = "hdr_len, type_len and str_len do not add up to the length of the file";
     assert_eq!(btf::check(cut).unwrap_err().to_string(), format!("byte 100: {sum}"));

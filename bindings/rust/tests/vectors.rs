@@ -74,7 +74,7 @@ fn groups_of(name: &str) -> Groups {
     }
 }
 
-/// A fault as in a row: whether it is in the second of two inputs, its place and its cause.
+/// A fault as in a row: whether it is in the second of two inputs, its offset or line, and its cause.
 fn fault<T: Debug, C: Copy + Debug>(result: Result<T, Error<C>>) -> (bool, String, String) {
     let fault = match result {
         Err(Error::Fault(fault)) => fault,

@@ -68,7 +68,7 @@ fn no_write_succeeds_after_a_fault() {
     assert_eq!(fault_of(&writer.finish().unwrap_err()), (8, insn::Cause::Opcode));
 }
 
-/// A writer with room for some bytes.
+/// A writer that accepts a limited number of bytes.
 struct Full(usize);
 
 impl Write for Full {

@@ -113,14 +113,14 @@ impl<W: Write> InsnWriter<W> {
         error.into()
     }
 
-    /// Writes the whole instructions at the front of some bytes. Returns their length, which is 0
+    /// Writes the complete instructions at the start of a piece. Returns their length, which is 0
     /// if the first is not complete yet.
     fn put(&mut self, piece: &[u8]) -> io::Result<usize> {
         self.out.clear();
         if self.out.try_reserve(piece.len()).is_err() {
             return Err(self.fail(insn::Error::OutOfMemory));
         }
-        // SAFETY: the slice and the room are valid for the call, and don't overlap.
+        // SAFETY: the slice and the buffer are valid for the call, and don't overlap.
         let front = unsafe {
             sys::bpfcanon_insn_front(
                 self.order as u32,

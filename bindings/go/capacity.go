@@ -10,10 +10,10 @@ import (
 // first made at least as large as the guess. If the output is longer, the call is made once more
 // with enough capacity for all of it. On an error dst is returned unchanged.
 func appendOutput(dst, input []byte, guess int, cause func(uint32) Cause, call func(out []byte) capi.Answer) ([]byte, error) {
-	grown := withRoom(dst, input, guess)
+	grown := withCapacity(dst, input, guess)
 	got := call(grown[len(grown):cap(grown)])
 	if got.Status == capi.Room {
-		grown = withRoom(dst, input, got.Needed)
+		grown = withCapacity(dst, input, got.Needed)
 		got = call(grown[len(grown):cap(grown)])
 	}
 	if err := errorOf(got, cause); err != nil {
@@ -22,9 +22,9 @@ func appendOutput(dst, input []byte, guess int, cause func(uint32) Cause, call f
 	return grown[:len(grown)+got.Written], nil
 }
 
-// withRoom returns dst with a spare capacity of at least size bytes that share no memory with the
+// withCapacity returns dst with a spare capacity of at least size bytes that share no memory with the
 // input: the library may not write where it reads.
-func withRoom(dst, input []byte, size int) []byte {
+func withCapacity(dst, input []byte, size int) []byte {
 	if cap(dst)-len(dst) >= size && !overlap(dst[len(dst):cap(dst)], input) {
 		return dst
 	}

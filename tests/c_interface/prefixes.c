@@ -69,5 +69,5 @@ int main(void)
 	}
 	free(front[0]);
 	free(front[1]);
-	return end("fronts");
+	return end("prefixes");
 }

@@ -15,15 +15,14 @@ from btf_page import LAYOUTS, NUMBERS
 SORTS = {"name_off": "name", "index_type": "type"}
 
 
-def placed(cause, record=None, **known):
+def fault_at(cause, record=None, **known):
     """A fault at the offset of the page: a number, an offset from the record, or one that is known by the page's phrase."""
-    place = page.offset_of(cause)
-    if isinstance(place, dict):
-        place = record.pos + place[None if None in place else record.layout.word]
-    elif isinstance(place, str):
-        place = known[re.sub(r"\W+", "_", place)]
-    return place, cause
-
+    pos = page.offset_of(cause)
+    if isinstance(pos, dict):
+        pos = record.pos + pos[None if None in pos else record.layout.word]
+    elif isinstance(pos, str):
+        pos = known[re.sub(r"\W+", "_", pos)]
+    return pos, cause
 
 
 class Sections(NamedTuple):
@@ -45,7 +44,7 @@ class Record:
         self.kind, self.flag, self.vlen = (bits.of(info) for bits in (page.KIND_BITS, page.FLAG_BIT, page.VLEN_BITS))
         self.layout = LAYOUTS.get(self.kind)
 
-    def place(self, word):
+    def pos_of(self, word):
         return self.pos + 4 * word
 
     def items(self):
@@ -100,15 +99,15 @@ def first_by_cause(faults):
     return min((fault for fault in faults if fault), key=lambda fault: NUMBERS[fault[1]], default=None)
 
 
-def first_by_place(faults):
+def first_by_offset(faults):
     return min(faults, key=lambda fault: (fault[0], NUMBERS[fault[1]]), default=None)
 
 
 def header_fault(file):
     if len(file) < page.SHORTEST:
-        return placed("ShortHeader", the_file_s_length=len(file))
+        return fault_at("ShortHeader", the_file_s_length=len(file))
     if file[page.BYTES["magic"]] not in page.MARKS:
-        return placed("Magic")
+        return fault_at("Magic")
     header = header_of(file)
     length, types, strings = header["hdr_len"], header["type_len"], header["str_len"]
     end = length + types + strings
@@ -116,42 +115,42 @@ def header_fault(file):
     types_first = (header["type_off"], header["str_off"]) == (0, types)
     strings_first = (header["str_off"], header["type_off"]) == (0, strings)
     return first_by_cause([
-        header["version"] != page.VERSION and placed("Version"),
-        header["flags"] != page.FLAGS and placed("Flags"),
-        not page.SHORTEST <= length <= min(page.LONGEST, len(file)) and placed("HeaderLength"),
-        tail is not None and placed("HeaderTail", the_first_such_byte=tail),
-        types > page.TYPES and placed("TypeLength"),
-        not page.STRINGS[0] <= strings <= page.STRINGS[1] and placed("StringLength"),
-        not (types_first or strings_first) and placed("Sections"),
-        end != len(file) and placed("FileLength", the_smaller_of_both=min(end, len(file))),
+        header["version"] != page.VERSION and fault_at("Version"),
+        header["flags"] != page.FLAGS and fault_at("Flags"),
+        not page.SHORTEST <= length <= min(page.LONGEST, len(file)) and fault_at("HeaderLength"),
+        tail is not None and fault_at("HeaderTail", the_first_such_byte=tail),
+        types > page.TYPES and fault_at("TypeLength"),
+        not page.STRINGS[0] <= strings <= page.STRINGS[1] and fault_at("StringLength"),
+        not (types_first or strings_first) and fault_at("Sections"),
+        end != len(file) and fault_at("FileLength", the_smaller_of_both=min(end, len(file))),
     ])
 
 
 def strings_fault(sections):
     pos, strings = sections.strings_pos, sections.strings
     return first_by_cause([
-        strings[0] != 0 and placed("FirstString", that_byte=pos),
-        strings[-1] != 0 and placed("LastString", that_byte=pos + len(strings) - 1),
+        strings[0] != 0 and fault_at("FirstString", that_byte=pos),
+        strings[-1] != 0 and fault_at("LastString", that_byte=pos + len(strings) - 1),
     ])
 
 
 def framing_faults(record, left):
     """The faults of a record's frame, with `left` bytes from its start to the end of the section."""
     if left < 12:
-        yield placed("RecordCut", record)
+        yield fault_at("RecordCut", record)
     if len(record.words) < 2:
         return
     if record.words[1] & page.UNUSED:
-        yield placed("InfoBits", record)
+        yield fault_at("InfoBits", record)
     if record.kind not in LAYOUTS:
-        yield placed("KindNumber", record)
+        yield fault_at("KindNumber", record)
         return
     if record.flag and not record.layout.has_flag:
-        yield placed("FlagSet", record)
+        yield fault_at("FlagSet", record)
     if record.vlen and not record.layout.item and record.layout.word != "FUNC":
-        yield placed("Vlen", record)
+        yield fault_at("Vlen", record)
     if 12 <= left < 4 * record.layout.size(record.vlen):
-        yield placed("TailCut", record)
+        yield fault_at("TailCut", record)
 
 
 def framed(sections):
@@ -160,7 +159,7 @@ def framed(sections):
     while at < len(sections.types):
         left = len(sections.types) - at
         head = Record(sections.types_pos + at, struct.unpack_from(f"{sections.mark}{min(left // 4, 3)}I", sections.types, at))
-        fault = first_by_place(framing_faults(head, left))
+        fault = first_by_offset(framing_faults(head, left))
         if fault:
             return records, fault
         size = head.layout.size(head.vlen)
@@ -169,7 +168,7 @@ def framed(sections):
     return records, None
 
 
-def text_at(strings, offset):
+def string_at(strings, offset):
     return strings[offset : strings.index(b"\0", offset)]
 
 
@@ -182,17 +181,17 @@ def is_utf8(text):
 
 
 def name_faults(record, word, strings):
-    offset, place = record.words[word], record.place(word)
+    offset, pos = record.words[word], record.pos_of(word)
     if offset >= len(strings):
-        yield placed("NameRange", the_name_field=place)
+        yield fault_at("NameRange", the_name_field=pos)
         return
-    text = text_at(strings, offset)
+    text = string_at(strings, offset)
     if not is_utf8(text):
-        yield placed("NameUtf8", the_name_field=place)
+        yield fault_at("NameUtf8", the_name_field=pos)
     if word == 0 and record.layout.name == "needed" and not text:
-        yield placed("NameMissing", the_name_field=place)
+        yield fault_at("NameMissing", the_name_field=pos)
     if word == 0 and record.layout.name == "none" and text:
-        yield placed("NameUnwanted", the_name_field=place)
+        yield fault_at("NameUnwanted", the_name_field=pos)
 
 
 def target_of(records, number):
@@ -203,9 +202,9 @@ def type_faults(record, word, records):
     number, wanted = record.words[word], page.TARGETS.get(record.layout.word)
     target = target_of(records, number)
     if number > len(records):
-        yield placed("Reference", the_ID_field=record.place(word))
+        yield fault_at("Reference", the_ID_field=record.pos_of(word))
     elif wanted and (target is None or target.layout.word not in wanted):
-        yield placed("TargetKind", the_ID_field=record.place(word))
+        yield fault_at("TargetKind", the_ID_field=record.pos_of(word))
 
 
 def int_is_wrong(record):
@@ -226,17 +225,17 @@ def component_is_wrong(record, records):
 def head_faults(record, records):
     word, size = record.layout.word, record.words[2]
     if record.layout.third == "0" and size:
-        yield placed("NotZero", record)
+        yield fault_at("NotZero", record)
     if word in page.SIZES and size not in page.SIZES[word] and not (size == 0 and record.layout.item and not record.vlen):
-        yield placed("Size", record)
+        yield fault_at("Size", record)
     if word == "INT" and int_is_wrong(record):
-        yield placed("IntWord", record)
+        yield fault_at("IntWord", record)
     if word == "FUNC" and record.vlen > page.MOST_LINKAGE:
-        yield placed("Linkage", record)
+        yield fault_at("Linkage", record)
     if word == "VAR" and record.words[3] > page.MOST_LINKAGE:
-        yield placed("Linkage", record)
+        yield fault_at("Linkage", record)
     if word == "DECL_TAG" and component_is_wrong(record, records):
-        yield placed("Component", record)
+        yield fault_at("Component", record)
 
 
 def is_odd_int(target):
@@ -250,9 +249,9 @@ def member_faults(record, records):
     for item in record.items():
         typed, offset = record.of_item(item, "type"), record.of_item(item, "offset")
         if has_bit_fields and is_odd_int(target_of(records, record.words[typed])):
-            yield placed("MemberInt", the_member_s_type_field=record.place(typed))
+            yield fault_at("MemberInt", the_member_s_type_field=record.pos_of(typed))
         if record.bit_offset(item) + record.width(item) > 8 * record.words[2]:
-            yield placed("MemberPlace", the_member_s_offset_field=record.place(offset))
+            yield fault_at("MemberPlace", the_member_s_offset_field=record.pos_of(offset))
 
 
 def field_faults(sections, records):
@@ -277,7 +276,7 @@ def first_fault(file):
     if fault:
         return fault
     records, fault = framed(sections)
-    return fault or first_by_place(field_faults(sections, records))
+    return fault or first_by_offset(field_faults(sections, records))
 
 
 # ---- canonical bytes
@@ -287,21 +286,21 @@ def string_table(names):
     """The string table of names in the order of their first use, and the offset of each."""
     used = list(dict.fromkeys(name for name in names if name))
     hosts = [name for name in used if not any(other != name and other.endswith(name) for other in used)]
-    table, places = b"\0", {b"": 0}
+    table, offsets = b"\0", {b"": 0}
     for host in hosts:
-        places[host] = len(table)
+        offsets[host] = len(table)
         table += host + b"\0"
     for name in used:
-        if name not in places:
+        if name not in offsets:
             host = min((host for host in hosts if host.endswith(name)), key=lambda host: host[::-1])
-            places[name] = places[host] + len(host) - len(name)
-    return table, places
+            offsets[name] = offsets[host] + len(host) - len(name)
+    return table, offsets
 
 
-def canonical_words(record, strings, places):
+def canonical_words(record, strings, offsets):
     words = list(record.words)
     for word in record.names():
-        words[word] = places[text_at(strings, words[word])]
+        words[word] = offsets[string_at(strings, words[word])]
     if record.has_members():
         flag = record.has_bit_fields()
         words[1] = words[1] & ~page.FLAG_BIT.mask | flag << page.FLAG_BIT.low
@@ -314,9 +313,9 @@ def canonical(file, mark="<"):
     """The canonical bytes of a valid file, in a byte order as `struct` writes it."""
     sections = sections_of(file)
     records, _ = framed(sections)
-    names = [text_at(sections.strings, record.words[word]) for record in records for word in record.names()]
-    table, places = string_table(names)
-    words = [word for record in records for word in canonical_words(record, sections.strings, places)]
+    names = [string_at(sections.strings, record.words[word]) for record in records for word in record.names()]
+    table, offsets = string_table(names)
+    words = [word for record in records for word in canonical_words(record, sections.strings, offsets)]
     size = 4 * len(words)
     start = int(page.MAGIC, 16), page.VERSION, page.FLAGS, page.SHORTEST
     header = struct.pack(f"{mark}HBBIIIII", *start, 0, size, size, len(table))
@@ -334,9 +333,9 @@ def quoted(name):
 
 def value_of(record, item):
     """The value of an enum's item, from the fields that the page names, the low one first."""
-    places = [at for at, name in enumerate(record.layout.item) if name.startswith("val")]
-    names = [record.layout.item[at] for at in places]
-    low_first = sorted(places, key=lambda at: names[at - places[0]] == "val_hi32")
+    indices = [at for at, name in enumerate(record.layout.item) if name.startswith("val")]
+    names = [record.layout.item[at] for at in indices]
+    low_first = sorted(indices, key=lambda at: names[at - indices[0]] == "val_hi32")
     value = sum(record.words[item + at] << 32 * number for number, at in enumerate(low_first))
     width = page.WIDTHS[record.layout.word]
     return value - (1 << width) if record.flag and value >> width - 1 else value
@@ -349,13 +348,13 @@ def words_of_item(record, item, strings):
         known |= {"offset": record.bit_offset(item), "width": record.width(item)}
     if record.layout.word in page.WIDTHS:
         known["V"] = value_of(record, item)
-    return known | {"NAME": quoted(text_at(strings, known["name_off"])) if "name_off" in known else None}
+    return known | {"NAME": quoted(string_at(strings, known["name_off"])) if "name_off" in known else None}
 
 
 def words_of_head(record, strings):
     known = dict(zip(record.layout.words, record.words[3:]))
     known = {"size": record.words[2], "type": record.words[2], "items": record.vlen, "flag": record.flag} | known
-    known |= {"index": known.get("index_type"), "count": known.get("nelems"), "NAME": quoted(text_at(strings, record.words[0]))}
+    known |= {"index": known.get("index_type"), "count": known.get("nelems"), "NAME": quoted(string_at(strings, record.words[0]))}
     if record.layout.word == "INT":
         word = record.words[3]
         known |= {"encoding": page.ENCODINGS[page.ENCODING_BITS.of(word)]}

@@ -1,8 +1,8 @@
 """Compares the shared library with the reference checker, on BTF that differs from worked files in a byte or two.
 
-    judged_files.py LIBRARY
+    changed_files.py LIBRARY
 
-For each file: the first fault, or the canonical bytes in both orders and whether it means the same as the file it was made of.
+For each file: the first fault, or the canonical bytes in both orders and whether it holds the same types as the file it was made of.
 """
 
 import itertools
@@ -11,7 +11,7 @@ import pathlib
 import random
 import sys
 
-import second_judge
+import btf_reference
 from program import Report
 from samples import NO_TYPES, btf, floats
 from vectors import data, rows
@@ -22,7 +22,7 @@ os.environ["BPFCANON_LIBRARY"] = sys.argv[1]
 import bpfcanon  # noqa: E402
 
 # Names, and strings that are none, from each of their bytes on.
-TEXTS = [
+STRINGS = [
     b"\0\xc3\xa9\0\xe2\x82\xac\0\xf0\x9f\x98\x80b\0",
     b"\0a\xffb\0\xc3\xa9\0",
     b"\0\xe2\x82\0\x82a\0\xe2\x28\xa1c\0",
@@ -42,8 +42,8 @@ def answer(call, *given, **orders):
 
 def compare(report, file, origin):
     """Compares the library's and the reference's results for a changed file, by itself and against the original, whose canonical bytes are given."""
-    fault = second_judge.first_fault(file)
-    little, big = (fault, fault) if fault else (second_judge.canonical(file), second_judge.canonical(file, ">"))
+    fault = btf_reference.first_fault(file)
+    little, big = (fault, fault) if fault else (btf_reference.canonical(file), btf_reference.canonical(file, ">"))
     answers = [answer(bpfcanon.btf_canon, file), answer(bpfcanon.btf_canon, file, to=bpfcanon.Order.BIG)]
     answers.append(answer(bpfcanon.btf_same, file, origin))
     report.runs += 1
@@ -59,38 +59,38 @@ def worked_files():
 def changed(file, changes):
     """The file with these values at these offsets."""
     copy = bytearray(file)
-    for place, value in changes:
-        copy[place] = value
+    for pos, value in changes:
+        copy[pos] = value
     return bytes(copy)
 
 
-def check_judge(report):
-    with report.group("the second judge on the vectors"):
-        for name, *files, place, cause in rows("btf-fault"):
+def check_reference(report):
+    with report.group("the reference on the vectors"):
+        for name, *files, pos, cause in rows("btf-fault"):
             for file in map(data, files):
-                fault = second_judge.first_fault(file)
-                report.expect_that(fault == (int(place), cause), name, f"it gave {fault}")
+                fault = btf_reference.first_fault(file)
+                report.expect_that(fault == (int(pos), cause), name, f"it gave {fault}")
         for name, file, little, big, _, _ in rows("btf"):
-            judged = [second_judge.canonical(data(file), mark) for mark in "<>"]
-            report.expect_that(judged == [data(little), data(big)], name, "it gave other bytes")
+            made = [btf_reference.canonical(data(file), mark) for mark in "<>"]
+            report.expect_that(made == [data(little), data(big)], name, "it gave other bytes")
 
 
 def check_changed_bytes(report):
     with report.group("each byte changed in ten ways"):
         for file in worked_files():
-            origin = second_judge.canonical(file)
-            for place, old in enumerate(file):
+            origin = btf_reference.canonical(file)
+            for pos, old in enumerate(file):
                 for value in {old ^ 1 << bit for bit in range(8)} | {0, 255}:
-                    compare(report, changed(file, [(place, value)]), origin)
+                    compare(report, changed(file, [(pos, value)]), origin)
 
 
 def check_every_value(report):
     with report.group("each byte of two files as each value"):
         for row in rows("btf")[3], rows("btf")[6]:
             file = data(row[3])
-            origin = second_judge.canonical(file)
-            for place, value in itertools.product(range(len(file)), range(256)):
-                compare(report, changed(file, [(place, value)]), origin)
+            origin = btf_reference.canonical(file)
+            for pos, value in itertools.product(range(len(file)), range(256)):
+                compare(report, changed(file, [(pos, value)]), origin)
 
 
 def check_two_bytes(report):
@@ -98,7 +98,7 @@ def check_two_bytes(report):
     draw = random.Random(9669)
     with report.group("two bytes changed"):
         for file in worked_files():
-            origin = second_judge.canonical(file)
+            origin = btf_reference.canonical(file)
             for _ in range(500):
                 changes = [(draw.randrange(4, len(file)), draw.choice([0, 1, 2, 3, 5, 8, draw.randrange(256)])) for _ in "ab"]
                 compare(report, changed(file, changes), origin)
@@ -107,7 +107,7 @@ def check_two_bytes(report):
 def check_lengths(report):
     with report.group("files cut at each length, and a byte longer"):
         for file in worked_files():
-            origin = second_judge.canonical(file)
+            origin = btf_reference.canonical(file)
             for length in range(len(file) + 1):
                 compare(report, file[:length], origin)
             compare(report, file + b"\0", origin)
@@ -130,9 +130,9 @@ def words_with(names):
     return [first, 0x0400_0002, 0, second, 0, 0, third, 0, 0, third, 0x0600_0001, 4, first, 7]
 
 
-def check_texts(report):
-    with report.group("texts that are UTF-8 and that aren't, from each byte on"):
-        for strings in TEXTS:
+def check_strings(report):
+    with report.group("strings that are UTF-8 and that aren't, from each byte on"):
+        for strings in STRINGS:
             for offset in range(len(strings) + 1):
                 compare(report, btf("little", floats([offset]), strings), NO_TYPES)
 
@@ -141,9 +141,9 @@ def main():
     if len(sys.argv) != 2:
         sys.exit(__doc__)
     report = Report()
-    check_judge(report)
+    check_reference(report)
     for check in [
-        check_texts,
+        check_strings,
         check_shared_tails,
         check_lengths,
         check_changed_bytes,
@@ -151,7 +151,7 @@ def main():
         check_two_bytes,
     ]:
         check(report)
-    return report.end("judged files")
+    return report.end("changed files")
 
 
 if __name__ == "__main__":

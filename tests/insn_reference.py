@@ -51,13 +51,13 @@ def bytes_of(insn, is_wide, order):
 
 
 @functools.cache
-def places():
+def offsets():
     """The offset of each cause, and that of an incomplete second slot."""
     rows = table("Faults in instructions", "Cause", "No.", "Offset")
-    found = {cause: place for cause, _, place in rows}
+    found = {cause: pos for cause, _, pos in rows}
     said("Faults in instructions", rf"Fewer than {SLOT} bytes at the end are Truncated, whatever they contain\.")
     first, cut = fitted(found["Truncated"], r"(\d+); (\d+) if a wide load's second slot is incomplete")
-    return {cause: int(place) for cause, place in (found | {"Truncated": first}).items()}, int(cut)
+    return {cause: int(pos) for cause, pos in (found | {"Truncated": first}).items()}, int(cut)
 
 
 def holds(form, field, value):
@@ -75,18 +75,18 @@ def field_fault(insn, allowed, fields):
     return allowed, None
 
 
-def judged(code, order):
+def decoded(code, order):
     """The form and fields of the first instruction, or the offset and the cause of its fault."""
-    place, cut = places()
+    offset_of, cut = offsets()
     if len(code) < SLOT:
-        return None, (place["Truncated"], "Truncated")
+        return None, (offset_of["Truncated"], "Truncated")
     left, fault = field_fault(fields_of(code[:SLOT], order), forms(), FIELDS[:5])
     if not fault and left[0].is_wide:
         if len(code) < TWO:
             return None, (cut, "Truncated")
         left, fault = field_fault(fields_of(code[:TWO], order), left, FIELDS)
     if fault:
-        return None, (place[fault], fault)
+        return None, (offset_of[fault], fault)
     if len(left) != 1:
         raise PageError(f"{code.hex()} has {len(left)} forms: {left}")
     return (left[0], fields_of(code[: TWO if left[0].is_wide else SLOT], order)), None
@@ -115,7 +115,7 @@ def templates():
     return found
 
 
-def word_of(form):
+def mnemonic_of(form):
     """The mnemonic of a form. formats.py checks this rule against the page."""
     letter = SIZE_LETTERS.get(form.operation, "")
     suffix = "32" if form.bits == 32 else ""
@@ -149,7 +149,7 @@ def word_of(form):
 
 def line_of(form, insn):
     """The line of an instruction, by the operands that the page lists for its mnemonic."""
-    word = word_of(form)
+    word = mnemonic_of(form)
     _, operands = templates()[word]
     signed = insn.offset if form.offset == ANY["offset"] else insn.imm
     whole = (insn.next_imm & 0xFFFF_FFFF) << 32 | insn.imm & 0xFFFF_FFFF
@@ -177,10 +177,10 @@ def line_of(form, insn):
 @functools.cache
 def groups():
     """The rows of the table of groups: the name of each, its instructions, and the group that it includes."""
-    return [(name, text.split("; "), brings) for name, text, brings in table("Conformance groups", "Group", "Instructions", "Includes")]
+    return [(name, text.split("; "), included) for name, text, included in table("Conformance groups", "Group", "Instructions", "Includes")]
 
 
-def brings():
+def included():
     """Each group with those that it includes, itself last."""
     return {name: [*filter(None, [other]), name] for name, _, other in groups()}
 
