@@ -95,7 +95,7 @@ def sections(file):
 
 
 def swapped_btf(file):
-    """The same types in the other byte order. A record consists of 32-bit words."""
+    """The same types in the other byte order. A record consists of 32-bit fields."""
     order, types, strings = sections(file)
     words = array.array("I", types)
     words.byteswap()

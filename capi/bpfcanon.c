@@ -119,7 +119,7 @@ static bpfcanon_answer write_types(const struct request *request, uint8_t *out, 
 	return bpfcanon_proved_btf_show(request->bytes, request->len, out, room);
 }
 
-/* Writes into a block of this room, and of one byte more for a NUL. */
+/* Writes into a block of this capacity, with one byte more for a NUL. */
 static bpfcanon_answer write_block(const struct request *request, size_t room, uint8_t **out)
 {
 	bpfcanon_answer answer = { BPFCANON_MEMORY, 0, 0, 0, 0, 0, 0, 0, 0 };
@@ -215,7 +215,7 @@ struct meaning {
 	const char *name, *text;
 };
 
-/* Each table has the number of a status or cause for an index. */
+/* The index in each table is the number of a status or cause. */
 static const struct meaning statuses[] = {
 	{ "Done", "the call is done, or the two inputs are the same" },
 	{ "Different", "the two inputs are different" },

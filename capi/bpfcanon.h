@@ -54,7 +54,7 @@ extern "C" {
 #define BPFCANON_VERSION_NUMBER \
 	(BPFCANON_VERSION_MAJOR * 1000000 + BPFCANON_VERSION_MINOR * 1000 + BPFCANON_VERSION_PATCH)
 
-/* The longest valid BTF: a header of 4,096 bytes, types of 32 MiB, strings of 16 MiB. */
+/* The longest valid BTF: a 4,096-byte header, 32 MiB of types, 16 MiB of strings. */
 #define BPFCANON_BTF_MAX 50335744
 
 /* A byte order. Instructions don't state their own; BTF does. Little-endian is canonical. */

@@ -60,9 +60,9 @@ def find_kit():
 def bring_libraries(crate, uses):
     """Proves and builds the libraries below a crate, unless rt ci has just left them.
 
-    rt accepts a library only with a stamp, which says what sources it was built from, and rt ci writes none. So a library without a
-    stamp is accepted here if it is newer than its sources and those of the libraries below it. If some library is older or has a
-    stamp, rt decides: it knows which stamps are right, and proves what isn't. This takes up to 25 minutes.
+    rt accepts a library only with a stamp, which says what sources it was built from, and rt ci writes none. A library without a
+    stamp is therefore accepted here if it is newer than its sources and those of the libraries below it. If some library is older or has a
+    stamp, rt decides: it knows which stamps are right, and proves what isn't. This needs up to 25 minutes.
     """
     others = [it for it in below(crate, uses) if not is_left_by_ci(it, uses)]
     if not others:

@@ -1,4 +1,4 @@
-"""The folders of the release, and archives of them whose bytes depend on names, contents and modes alone."""
+"""The folders of the release, and archives of them whose bytes depend only on names, contents and modes."""
 
 import os
 import re
@@ -10,7 +10,7 @@ import tempfile
 from notices import licence_files
 from tree import ARCHIVE, ARM_ARCHIVE, OBJECT, PROGRAM, TOP, VERSION, Refused, copy, copy_files, epoch, run
 
-# Of the C part; the proved objects are as Rattle's compiler made them.
+# The flags of the C part; the proved objects are as Rattle's compiler made them.
 CFLAGS = "-O2 -g0 -fstack-protector-strong -fcf-protection -D_FORTIFY_SOURCE=2"
 LDFLAGS = "-Wl,-z,relro,-z,now,-z,noexecstack -Wl,--build-id=sha1 -s"
 # The tools for 64-bit ARM. Without them its archive, wheel and part of the Go module are left out.
@@ -70,7 +70,7 @@ def build_library(tree, root, archive, **variables):
 
 
 def complete(root, documents, readme, machine):
-    """Adds what a folder for one processor has beside the program and the library."""
+    """Adds what a folder for one processor contains besides the program and the library."""
     for page in "CHANGELOG.md", "SECURITY.md":
         copy(TOP / page, root / page, 0o644)
     installer = (TOP / "packaging" / "install.sh").read_text()
@@ -81,7 +81,7 @@ def complete(root, documents, readme, machine):
 
 
 def stage_binary(kit, documents, work):
-    """The folder of the program and the C library for x86-64, which runs where it is."""
+    """The folder of the program and the C library for x86-64, which runs without being installed."""
     root, tree = work / f"bpfcanon-{VERSION}-x86_64-linux", work / "tree"
     copy_files(tree)
     (tree / PROGRAM.relative_to(TOP)).parent.mkdir()

@@ -18,7 +18,7 @@ def crates_in(objects):
 
 
 def third_party(kit, objects):
-    """The text of THIRD-PARTY. Of two licences to choose from, it has the one that isn't Apache's."""
+    """The contents of THIRD-PARTY. If a crate has two licences to choose from, the one that isn't Apache's."""
     texts = []
     for crate in crates_in(objects):
         found = sorted(it for it in (kit / "rattle" / crate).glob("LICENSE*") if "APACHE" not in it.name)

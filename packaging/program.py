@@ -3,8 +3,8 @@
 
 usage: packaging/program.py [--keep]
 
-The object is crates/bpfcanon/out/release/bpfcanon.o; rt's own program needs an x86-64-v2 processor. The hash of its sources is beside
-it. With --keep an object with the hash of the sources as they are is kept.
+The object is crates/bpfcanon/out/release/bpfcanon.o; rt's own program needs an x86-64-v2 processor. The hash of its sources is
+in the same folder. With --keep an object with the hash of the sources as they are is kept.
 """
 
 import os

@@ -57,7 +57,7 @@ def check_built():
 
 
 def check():
-    """Raises if what is built isn't what ./verify passed. Returns the text of the record."""
+    """Raises if what is built isn't what ./verify passed. Returns the record."""
     if not RECORD.is_file():
         raise Refused("out/PROVED.txt is missing; run ./verify first")
     text = RECORD.read_text()

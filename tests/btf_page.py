@@ -70,7 +70,7 @@ same("the causes of a record's own name", OWN_NAME, (NUMBERS["NameMissing"], NUM
 
 
 class Bits(NamedTuple):
-    """A range of bits of a 32-bit word."""
+    """A range of bits of a 32-bit field."""
 
     low: int
     high: int
@@ -94,23 +94,23 @@ INFO = r"In info, bits (\d+) to (\d+) are vlen, (\d+) to (\d+) the kind, and (\d
 INFO = [*map(int, said("Records", INFO))]
 VLEN_BITS, KIND_BITS, FLAG_BIT = Bits(*INFO[:2]), Bits(*INFO[2:4]), Bits(INFO[4], INFO[4])
 UNUSED = 0xFFFF_FFFF & ~(VLEN_BITS.mask | KIND_BITS.mask | FLAG_BIT.mask)
-INT_WORD = r"The encoding word of an INT: bits (\d+) to (\d+) encoding \((.*?)\), (\d+) to (\d+) offset, (\d+) to (\d+) bits, the others 0\."
+INT_WORD = r"The encoding field of an INT: bits (\d+) to (\d+) encoding \((.*?)\), (\d+) to (\d+) offset, (\d+) to (\d+) bits, the others 0\."
 INT_WORD = said("Records", INT_WORD)
 ENCODINGS = named(INT_WORD[2])
 ENCODING_BITS, OFFSET_IN_INT, SIZE_IN_INT = (Bits(int(INT_WORD[at]), int(INT_WORD[at + 1])) for at in (0, 3, 5))
 # The masks of btf.rst section 2.2.1. A field that is a bit longer would be refused as before, by its value.
-same("the fields of INT's word", (ENCODING_BITS.mask, OFFSET_IN_INT.mask, SIZE_IN_INT.mask), (0x0F00_0000, 0x00FF_0000, 0x0000_00FF))
+same("the parts of an INT's encoding", (ENCODING_BITS.mask, OFFSET_IN_INT.mask, SIZE_IN_INT.mask), (0x0F00_0000, 0x00FF_0000, 0x0000_00FF))
 INT_UNUSED = 0xFFFF_FFFF & ~(ENCODING_BITS.mask | OFFSET_IN_INT.mask | SIZE_IN_INT.mask)
 LINKAGES = named(said("Records", r"Linkage is (.*?)\.")[0])
 said("Records", "with kind_flag 0 all of it is the bit offset, and the width is 0;")
 MEMBER = r"with kind_flag 1 the high (\d+) bits are the width and the low (\d+) the bit offset"
 WIDTH_BITS, OFFSET_BITS = map(int, said("Records", MEMBER))
-same("the bits of a member's word", 32, WIDTH_BITS + OFFSET_BITS)
-same("the words of a record in bytes", 12, *when("RecordCut", "fewer than N bytes are left"))
+same("the bits of a member's offset", 32, WIDTH_BITS + OFFSET_BITS)
+same("the bytes that begin each record", 12, *when("RecordCut", "fewer than N bytes are left"))
 
 
 class Layout(NamedTuple):
-    """The layout of a kind's record: its name, its third word, whether it has a kind_flag, the words after it, and those of each item."""
+    """The layout of a kind's record: its name, its size or type, its kind_flag, and the 32-bit fields after it and of each item."""
 
     word: str
     name: str
@@ -124,12 +124,12 @@ class Layout(NamedTuple):
         return self.flag != "0"
 
     def size(self, vlen):
-        """The number of words of a record with this vlen."""
+        """The number of 32-bit fields of a record with this vlen."""
         return 3 + len(self.words) + vlen * len(self.item)
 
 
 # The cells of the last column that aren't lists of fields.
-AFTER = {"one word": "encoding", "(vlen is the linkage)": ""}
+AFTER = {"(vlen is the linkage)": ""}
 NAMES, THIRDS = {"free", "none", "needed"}, {"size", "type", "0"}
 FIELDS = {"name_off", "type", "index_type", "nelems", "offset", "size", "val", "val_lo32", "val_hi32"}
 FIELDS |= {"encoding", "linkage", "component_idx"}
@@ -140,7 +140,7 @@ def layout(word, name, third, flag, after):
     words = tuple(filter(None, AFTER.get(after, after).split(", "))) if not item else ()
     item = tuple(item[1].split(", ")) if item else ()
     if name not in NAMES or third not in THIRDS or not {*words, *item} <= FIELDS:
-        raise PageError(f"{word}: its name is {name}, its third word {third}, after it are {words} and {item}")
+        raise PageError(f"{word}: its name is {name}, its size or type {third}, after it are {words} and {item}")
     if flag not in ("0", "0 or 1") and not re.fullmatch(r"1 is \w+|0 \w+, 1 \w+", flag):
         raise PageError(f"{word}: its kind_flag is {flag}")
     return Layout(word, name, third, flag, words, item)
@@ -149,7 +149,7 @@ def layout(word, name, third, flag, after):
 def layouts():
     """The layout of each kind, by its number."""
     found = {}
-    for kinds, *cells in table("Records", "Kind", "Name", "Third word", "kind_flag", "After it"):
+    for kinds, *cells in table("Records", "Kind", "Name", "Size or type", "kind_flag", "After it"):
         for kind in kinds.split(", "):
             code, word = kind.split(" ")
             found[int(code)] = layout(word, *cells)
@@ -201,7 +201,7 @@ PHRASES = {
     "NameUtf8": "the name isn't UTF-8",
     "NameMissing": "the name is empty, and the record's kind requires one",
     "NameUnwanted": "the name isn't empty, and the record's kind has none",
-    "NotZero": "the third word of an ARRAY or FWD isn't 0",
+    "NotZero": "the size or type of an ARRAY or FWD isn't 0",
     "Reference": "an ID over the number of types",
     "MemberPlace": "bit offset plus width, rounded up to bytes, is over the size",
 }

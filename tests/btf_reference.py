@@ -36,7 +36,7 @@ class Sections(NamedTuple):
 
 
 class Record:
-    """The 32-bit words of a record, and its offset in the file. If it is cut, only the first words."""
+    """The 32-bit fields of a record, and its offset in the file. If it is cut, only the first fields."""
 
     def __init__(self, pos, words):
         self.pos, self.words = pos, words
@@ -48,7 +48,7 @@ class Record:
         return self.pos + 4 * word
 
     def items(self):
-        """The index of the first word of each item."""
+        """The index of the first field of each item."""
         first, size = 3 + len(self.layout.words), len(self.layout.item)
         return range(first, first + size * self.vlen, size) if size else ()
 

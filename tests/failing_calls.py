@@ -8,7 +8,7 @@ The second argument is the shared object that is built from fail_calls.c.
 import os
 import sys
 
-import long_texts
+import long_listings
 from samples import (
     EXIT,
     INT,
@@ -95,23 +95,23 @@ def check_writes_of_pieces(paced, report):
         failing = [(1_000, 1, 0), (1_000, 2, 1_000), (1_000, 9, 8_000), (1_000, 10, 8_195), (1_000, 11, 9_195)]
         failing += [(1_000, 16, 14_195), (1, 1, 0), (1, 8_195, 8_194), (1, 8_196, 8_195), (1, 8_197, 8_196)]
         failing += [(1, 15_000, 14_999), (4_096, 4, 8_195)]
-        check_pieces(paced, report, "a listing", "insn-show", long_texts.exits(3_000), failing)
+        check_pieces(paced, report, "a listing", "insn-show", long_listings.exits(3_000), failing)
         # 15,192 bytes in two pieces: the lines of 489 types are the first
         failing = [(1_000, 1, 0), (1_000, 2, 1_000), (1_000, 9, 8_000), (1_000, 10, 8_205), (1_000, 11, 9_205)]
         failing += [(1_000, 16, 14_205), (1, 1, 0), (1, 8_205, 8_204), (1, 8_206, 8_205), (1, 8_207, 8_206)]
         failing += [(1, 15_192, 15_191), (4_096, 4, 8_205)]
-        check_pieces(paced, report, "types", "btf-show", long_texts.nameless(0, 900), failing)
+        check_pieces(paced, report, "types", "btf-show", long_listings.nameless(0, 900), failing)
         # 20,022 bytes: 13 before the name, 8,192 for each of two chunks, 3,616 for the third, and 9 after it; in
         # pieces of 8,205, 8,192 and 3,625 bytes
         failing = [(1_000, 1, 0), (1_000, 9, 8_000), (1_000, 10, 8_205), (1_000, 18, 16_205), (1_000, 19, 16_397)]
         failing += [(1_000, 22, 19_397), (1, 8_206, 8_205), (1, 16_398, 16_397), (1, 20_014, 20_013)]
         failing += [(1, 20_022, 20_021)]
-        check_pieces(paced, report, "a long name", "btf-show", long_texts.controls(5_000), failing)
+        check_pieces(paced, report, "a long name", "btf-show", long_listings.controls(5_000), failing)
 
 
 def check_faults(paced, report):
     """The entire input is checked before the first piece, and a fault in complete slots is reported before a read that fails."""
-    file, _ = long_texts.nameless(0, 900)
+    file, _ = long_listings.nameless(0, 900)
     unknown_type = file[:-5] + b"\0\x10\0\0\0"
     with report.group("faults beside pieces and beside reads that fail"):
         for line, given, message in [
@@ -146,12 +146,12 @@ def check_fault_lines(paced, report):
 def check_long_names(paced, report):
     with report.group("long names, and names that share their bytes, in full"):
         for count in 1, 2_047, 2_048, 2_049, 4_095, 4_096, 4_097, 6_144, 10_000:
-            file, text = long_texts.controls(count)
+            file, text = long_listings.controls(count)
             report.expect(f"{count} control characters", paced.run("btf-show", file, 4_096), Ran(0, text, b""))
         for name, (file, text) in [
-            ("letters, then control characters", long_texts.letters_and_controls()),
-            ("the ends of one string", long_texts.ends_of_one_string()),
-            ("characters that are cut", long_texts.value_of_cut_characters()),
+            ("letters, then control characters", long_listings.letters_and_controls()),
+            ("the ends of one string", long_listings.ends_of_one_string()),
+            ("characters that are cut", long_listings.value_of_cut_characters()),
         ]:
             report.expect(name, paced.run("btf-show", file, 4_096), Ran(0, text, b""))
 

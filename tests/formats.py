@@ -17,7 +17,7 @@ from program import Program, Ran, Report
 from samples import btf
 from vectors import data, rows, text
 
-# How many 32-bit words follow the head of a record, and how many each item has (btf.rst section 2.2), by kind.
+# How many 32-bit fields follow the first three of a record, and how many each item has (btf.rst section 2.2), by kind.
 WORDS = {1: 1, 3: 3, 14: 1, 17: 1}
 ITEMS = {4: 3, 5: 3, 6: 2, 13: 2, 15: 3, 19: 3}
 # What a field of an instruction is changed to.
@@ -142,7 +142,7 @@ TARGETS += [1, 0x0C00_0000, 2, 1, 0x0E00_0000, 1, 0, 1, 0x0800_0000, 1, 1, 0x050
 
 
 def tried_records():
-    """Records of each kind and of a number below and above them, with and without a name, kind_flag and items, and with each third word."""
+    """Records of each kind and of a number below and above them, with and without a name, kind_flag and items, and with each size or type."""
     for kind, name, vlen in itertools.product(range(21), range(2), range(3)):
         heads = [(0, third) for third in range(10)] + [(1, 4)]
         for flag, third in heads:

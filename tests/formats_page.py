@@ -16,7 +16,7 @@ class PageError(Exception):
 
 
 def section(heading):
-    """The text of the pages below a heading up to the next one, whatever its level."""
+    """What the pages contain below a heading up to the next one, whatever its level."""
     parts = re.split(r"^#+ (.*)\n", "".join(page.read_text() for page in PAGES), flags=re.MULTILINE)
     found = [text for name, text in zip(parts[1::2], parts[2::2]) if name == heading]
     if len(found) != 1:
@@ -54,7 +54,7 @@ def said(heading, pattern):
 
 
 def fitted(text, pattern):
-    """The groups of a pattern that matches all of a text."""
+    """The groups of a pattern that matches a whole cell or sentence."""
     found = re.fullmatch(pattern, text)
     if not found:
         raise PageError(f"{text!r} doesn't match {pattern!r}")

@@ -14,7 +14,7 @@ LAYOUT = r"byte (\d+) (\d+) (\d+) (\d+) (\d+) (\d+) (\d+) \| opcode \| dst and s
 STARTS = [*map(int, said(INSNS, LAYOUT))]
 BYTES = dict(zip(["opcode", "registers", "offset", "imm", "reserved", "next_imm"], map(slice, STARTS, STARTS[1:])))
 SLOT, TWO = int(said(INSNS, r"An instruction has one (\d+)-byte slot\. A wide load has two\.")[0]), STARTS[-1]
-RESERVED = int(said(INSNS, r"The reserved word is (\d+)\.")[0])
+RESERVED = int(said(INSNS, r"The reserved field is (\d+)\.")[0])
 
 
 class Form(NamedTuple):

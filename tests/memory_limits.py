@@ -2,8 +2,8 @@
 
     memory_limits.py PROGRAM
 
-Two results are right within any limit: the one with ample memory; status 3 with `no memory`, or `no words` if not even the arguments
-of the process could be stored. Nothing is written then, except a prefix of the output by insn-canon, which writes as it reads, and by
+Two results are right within any limit: the one with ample memory; status 3 with `no memory`, or `no words` if not even the command's
+arguments could be stored. Nothing is written then, except a prefix of the output by insn-canon, which writes as it reads, and by
 insn-show and btf-show, which write in pieces. If the limit is so low that the system can't load the command, the system ends it: the
 kernel by a signal or, with more memory, the loader with a message and status 127.
 

@@ -2,7 +2,7 @@
 
     out_of_memory.py [FILE..]
 
-No contract can say that an allocator failed, so a body that gives up on an input would be proved. It would have to write the answer
+No contract can say that an allocator failed, so a body that returns this error for an input would be proved. It would have to name the error
 somewhere, though. rt ci refuses a file in another layout than rt fmt's, so each line of crates/*/src that names `AllocError`, or a
 variant whose name ends in `Memory`, has to be one of these lines: anything else is refused, right or not.
 """

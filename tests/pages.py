@@ -180,7 +180,7 @@ def rooms_of_source():
 
 def check_library(report):
     page = (TOP / "man" / "bpfcanon.3").read_text()
-    with report.group("the room of the calls"):
+    with report.group("the buffer sizes of the calls"):
         allocating, header, manual = rooms_of_source(), rooms_of_header(), rooms_of_page(page)
         report.expect_that(len(allocating) == 4, "capi/bpfcanon.c", f"its blocks are {allocating}")
         for call, times in allocating.items():
@@ -188,7 +188,7 @@ def check_library(report):
                 otherwise = f"it says {rooms.get(call)} times, and the block has {times}"
                 report.expect_that(rooms.get(call) == times, f"{call} in {page_name}", otherwise)
         others = {call for call in [*header, *manual] if call not in allocating} - {"bpfcanon_insn_front"}
-        report.expect_that(not others, "other calls", f"{others} have a room")
+        report.expect_that(not others, "other calls", f"a size is stated for {others}")
     with report.group("the constants and fields of bpfcanon.3"):
         for struct in re.findall(r"^typedef struct (\w+)", HEADER, re.MULTILINE):
             if f"typedef struct {struct}" in page:
@@ -204,7 +204,7 @@ def check_library(report):
         text = "{} of header, {} of types and {} of strings".format(*map(number, most))
         report.expect_that(text in plain(page), "BPFCANON_BTF_MAX in bpfcanon.3", f"it doesn't say {text!r}")
         report.expect_that(f"\n#define BPFCANON_BTF_MAX {sum(most)}\n" in HEADER, "BPFCANON_BTF_MAX", f"it isn't {sum(most)}")
-        text = f"a header of {number(most[0])} bytes, types of {most[1] >> 20} MiB, strings of {most[2] >> 20} MiB"
+        text = f"a {number(most[0])}-byte header, {most[1] >> 20} MiB of types, {most[2] >> 20} MiB of strings"
         report.expect_that(text in HEADER, "BPFCANON_BTF_MAX in bpfcanon.h", f"its comment doesn't say {text!r}")
 
 

@@ -2,7 +2,7 @@
 
     process.py PROGRAM
 
-No contract says what the system hands to `main`, nor which stream a line goes to. So these tests compare, for
+No contract says what the system passes to `main`, nor which stream a line goes to. These tests compare both: for
 worked examples of every command, the exit status, the output and the line on standard error.
 """
 

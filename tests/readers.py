@@ -1,5 +1,5 @@
-"""Shows that the readers of testdata/vectors.tsv compare what they read: each of their tests fails where one call of the library gives
-a wrong answer.
+"""Shows that the readers of testdata/vectors.tsv compare what they read: each of their tests fails if one call of the library
+returns a wrong answer.
 
     readers.py PREFIX FOLDER
 
@@ -18,7 +18,7 @@ from program import SECONDS, Report
 
 TOP = pathlib.Path(__file__).resolve().parent.parent
 DONE, DIFFERENT, FAULT, FAULT_SECOND = range(4)
-# The tests of each reader. That in C takes a kind of row.
+# The tests of each reader. That in C accepts a kind of row.
 KINDS = ["insn", "insn-fault", "listing", "listing-fault", "btf", "btf-fault"]
 GO = ["TestInstructions", "TestFaultyInstructions", "TestListings", "TestTypes", "TestFaultyTypes"]
 PYTHON = ["test_instructions", "test_faulty_instructions", "test_listings", "test_types", "test_faulty_types"]

@@ -14,7 +14,7 @@ import os
 import sys
 
 import samples
-import long_texts
+import long_listings
 from program import Program, Report
 
 # No line needs that many allocations: a loop that gets here would not end.
@@ -67,8 +67,8 @@ FAULTY = [
 ]
 
 NAMES = [bytes([letter]) for letter in b"abcdefghijklmnopqrstuvwx"]
-# A file of TYPEDEFs with these names, which is canonical, and its text.
-MANY_NAMES, MANY_LINES = long_texts.typedefs(range(1, 48, 2), b"\0" + b"\0".join(NAMES) + b"\0", NAMES)
+# A file of TYPEDEFs with these names, which is canonical, and its listing.
+MANY_NAMES, MANY_LINES = long_listings.typedefs(range(1, 48, 2), b"\0" + b"\0".join(NAMES) + b"\0", NAMES)
 
 WITH_MANY_NAMES = [
     samples.done("canonical names", "btf-canon", MANY_NAMES, MANY_NAMES),
@@ -79,9 +79,9 @@ WITH_MANY_NAMES = [
 
 # Lines whose output is written in two pieces, and the length of the first. The second needs more memory.
 IN_PIECES = [
-    (samples.done("a listing in pieces", "insn-show", *long_texts.negations_and_exits()), 8_192),
-    (samples.done("types in pieces", "btf-show", *long_texts.nameless(2, 1_000)), 8_192),
-    (samples.done("a long name in pieces", "btf-show", *long_texts.letters_and_controls()), 8_205),
+    (samples.done("a listing in pieces", "insn-show", *long_listings.negations_and_exits()), 8_192),
+    (samples.done("types in pieces", "btf-show", *long_listings.nameless(2, 1_000)), 8_192),
+    (samples.done("a long name in pieces", "btf-show", *long_listings.letters_and_controls()), 8_205),
 ]
 
 REFUSED_LINES = [

@@ -1,8 +1,8 @@
-"""Shows that the runners of the tests fail where a part of theirs fails, and that their last lines name what was skipped.
+"""Shows that the runners of the tests fail if a part of theirs fails, and that their last lines name what was skipped.
 
     runners.py
 
-`verify`, `tests/run`, `tests/c_interface/run` and `tests/bindings` are copied and run with a PATH on which stand-ins are in the place of
+`verify`, `tests/run`, `tests/c_interface/run` and `tests/bindings` are copied and run with a PATH on which stand-ins replace
 the prover, the compilers and the other tools. A stand-in notes its call and passes. Then each call that was noted fails, one at a time:
 the runner has to fail each time, unless the call only looks for a tool. `tests/recipes` is tried with pages for which it has to fail.
 """
@@ -26,7 +26,7 @@ TOOLS = "cargo cc gofmt go mypy pkg-config python3 valgrind".split()
 EXAMPLE = "crates/bpfcanon/src/tests/library_example.rt"
 COPIED = ["verify", "README.md", "docs/LIBRARY.md", EXAMPLE, "tests/run", "tests/c_interface/run", "tests/bindings"]
 
-# A stand-in. It fails where its call is the one with the number FAIL_AT, or where its name is FAIL.
+# A stand-in. It fails if its call has the number FAIL_AT, or if its name is FAIL.
 STAND_IN = r"""#!/bin/sh
 set -f
 name=${0##*/}
@@ -190,7 +190,7 @@ SKIPPED = [
         "release objects passed, release passed",
     ),
 ]
-# What a runner says by itself where several tools are missing.
+# What a runner says by itself if several tools are missing.
 MISSING = [
     ("tests/c_interface/run", ["cc"], "C interface: passed, skipped (no valgrind, no python3)"),
     ("tests/c_interface/run", ["cc", "python3"], "C interface: passed, skipped (no valgrind, no pkg-config)"),
@@ -214,7 +214,7 @@ def check_verify(report):
 
 
 def check_missing(report):
-    with report.group("last lines where tools are missing"):
+    with report.group("last lines if tools are missing"):
         for name, tools, right in SKIPPED:
             with tree(tools) as made:
                 (made.folder / "crates/bpfcanon_c/out/libbpfcanon_c.a").unlink()

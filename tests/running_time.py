@@ -29,7 +29,7 @@ TIMES_THE_INPUT = 8
 TIMES_THE_PROGRAM = 1.1
 LARGEST_PROGRAM = 64 * MEGABYTE
 ENUM_VALUES = MEMBERS = 65_535
-# So many structs and as many unions fill a file.
+# This many structs and as many unions fill a file.
 RECORDS_OF_MEMBERS = 20
 # A longer run is ended.
 MOST_SECONDS = 100

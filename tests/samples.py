@@ -100,7 +100,7 @@ INT_TEXT = b'[1] int "int" size=4 encoding=signed offset=0 bits=32\n'
 
 
 def btf(order, words, strings, tail=b"", **fields):
-    """A file of these 32-bit words and strings, with the header of docs/FORMATS.md except for the given fields."""
+    """A file of these 32-bit fields and strings, with the header of docs/FORMATS.md except for the given fields."""
     right = {
         "magic": int(page.MAGIC, 16),
         "version": page.VERSION,

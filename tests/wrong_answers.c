@@ -1,5 +1,5 @@
 /*
- * A stand-in for the C library that gives one wrong answer: tests/readers.py loads it in front of the library. Each call is passed on.
+ * A stand-in for the C library that returns one wrong answer: tests/readers.py loads it before the library. Each call is passed on.
  * If the call is CALL of the variable WRONG ("CALL STATUS CHANGE") and its answer has STATUS, then CHANGE is made to the answer. Each
  * call with its status is noted in the file that ANSWERS names, if it does.
  */

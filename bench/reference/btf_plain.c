@@ -10,10 +10,10 @@
 
 enum { INT = 1, ARRAY = 3, STRUCT = 4, UNION = 5, ENUM = 6, FUNC_PROTO = 13, VAR = 14, DATASEC = 15, DECL_TAG = 17, ENUM64 = 19 };
 
-/* words after the third, and words of an item, by kind */
+/* 32-bit fields after the third, and those of an item, by kind */
 static const uint8_t tail_words[20] = { [INT] = 1, [ARRAY] = 3, [VAR] = 1, [DECL_TAG] = 1 };
 static const uint8_t item_words[20] = { [STRUCT] = 3, [UNION] = 3, [ENUM] = 2, [FUNC_PROTO] = 2, [DATASEC] = 3, [ENUM64] = 3 };
-/* kinds whose third word is a type: PTR, TYPEDEF to FUNC_PROTO, VAR, DECL_TAG, TYPE_TAG */
+/* kinds with a type in the third field: PTR, TYPEDEF to FUNC_PROTO, VAR, DECL_TAG, TYPE_TAG */
 static const uint32_t typed_kinds = 1 << 2 | 1 << 8 | 1 << 9 | 1 << 10 | 1 << 11 | 1 << 12 | 1 << 13 | 1 << 14 | 1 << 17 | 1 << 18;
 
 struct name { uint32_t off, len, hash; };
@@ -187,7 +187,7 @@ static uint32_t *share_tails(uint8_t *table, uint32_t *table_len)
 	return offset;
 }
 
-/* Copies the words of all records, with 1 + the index of a name instead of its offset. */
+/* Copies the 32-bit fields of all records, with 1 + the index of a name instead of its offset. */
 static void walk_records(const uint8_t *types, size_t types_len, uint32_t *words)
 {
 	uint32_t top = 0, count = 0;

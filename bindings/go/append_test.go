@@ -20,7 +20,7 @@ type appending struct {
 	call        func(dst, input []byte) ([]byte, error)
 }
 
-// FLOATs that share a name, and their text.
+// FLOATs that share a name, and their listing.
 func floats(order binary.ByteOrder, count int, name string) (file, text []byte) {
 	var words []uint32
 	for k := 1; k <= count; k++ {

@@ -34,7 +34,7 @@ func load(t testing.TB, name string) []byte {
 	return b
 }
 
-// BTF with a 24-byte header, these words as its records and this string section.
+// BTF with a 24-byte header, these 32-bit fields as its records and this string section.
 func btf(order binary.ByteOrder, words []uint32, names string) []byte {
 	file := new(bytes.Buffer)
 	for _, part := range []interface{}{

@@ -17,7 +17,7 @@ func AppendBTFCanon(dst []byte, to Order, types []byte) ([]byte, error) {
 	})
 }
 
-// BTFShow returns the types of BTF as text: one line for each type and each of its items, with a
+// BTFShow returns a listing of the types of BTF: one line for each type and each of its items, with a
 // newline. docs/FORMATS.md describes the lines. Names can be any UTF-8.
 //
 // Errors: a *FaultError with a BTFCause, ErrMemory.
@@ -25,9 +25,9 @@ func BTFShow(types []byte) ([]byte, error) {
 	return AppendBTFShow(nil, types)
 }
 
-// AppendBTFShow is like BTFShow, but appends the text to dst, as AppendInsnCanon does.
+// AppendBTFShow is like BTFShow, but appends the listing to dst, as AppendInsnCanon does.
 func AppendBTFShow(dst []byte, types []byte) ([]byte, error) {
-	// The text of a kernel's types is about twice as long as they are.
+	// The listing of a kernel's types is about twice as long as they are.
 	return appendOutput(dst, types, 3*len(types), btfCause, func(out []byte) capi.Answer {
 		return capi.BTFShow(types, out)
 	})

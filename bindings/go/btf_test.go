@@ -23,8 +23,8 @@ func TestCompiledTypesHaveOneForm(t *testing.T) {
 	}
 }
 
-// A struct whose members share one name: the text is much longer than the types.
-func TestTextThatIsLongerThanTheRoom(t *testing.T) {
+// A struct whose members share one name: the listing is much longer than the types.
+func TestListingLongerThanTheFirstBuffer(t *testing.T) {
 	const members, length = 100, 500
 	words := []uint32{0, 0x04000000 + members, 0}
 	name, text := bytes.Repeat([]byte("x"), length), bytes.NewBufferString("[1] struct \"\" size=0 items=100\n")

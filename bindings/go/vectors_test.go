@@ -45,7 +45,7 @@ func data(t *testing.T, field string) []byte {
 	return b
 }
 
-// The bytes of a field of text.
+// The bytes of a field with a listing.
 func text(t *testing.T, field string) []byte {
 	t.Helper()
 	if field == "-" {

@@ -173,7 +173,7 @@ func TestAClosedWriterTakesNothing(t *testing.T) {
 	}
 }
 
-// A writer that fails at a call, or takes only some of the bytes.
+// A writer that fails at a call, or accepts only some of the bytes.
 type failing struct {
 	err   error
 	taken int

@@ -1,5 +1,5 @@
 """An archive of the proved calls belongs to the sources that it was made from: capi/build refuses another one, and capi/archive --keep
-makes it again. Without Rattle, or where nothing can be written, the scripts end with one sentence. Each is tried in a copy of the tree.
+makes it again. Without Rattle, or if nothing can be written, the scripts end with one sentence. Each is tried in a copy of the tree.
 
     archive_sources.py ARCHIVE
 """
@@ -31,7 +31,7 @@ FILES = [
 
 
 def copy_tree(folder, archive):
-    """The files that the scripts of capi/ read, with the archive in its place, and a command rt that fails."""
+    """The files that the scripts of capi/ read, with the archive at its path, and a command rt that fails."""
     for part in "src", "specs", "proofs":
         for source in TOP.glob(f"crates/*/{part}"):
             shutil.copytree(source, folder / source.relative_to(TOP))
@@ -71,7 +71,7 @@ def with_hash(archive, name, text):
 
 
 def check_archives(report, folder, archive):
-    """The archive of these sources is taken, whatever its time is, and one with another hash or with none is refused."""
+    """The archive of these sources is used, whatever its time is, and one with another hash or with none is refused."""
     os.utime(archive, (0, 0))
     before = archive.read_bytes()
     done = ran(folder, "build", folder / "given", archive)
@@ -102,7 +102,7 @@ def check_changes(report, folder, archive):
 
 
 def check_sentences(report, folder):
-    """Where rt is missing or fails, and where a folder can't be written to, a script says one sentence and makes nothing."""
+    """If rt is missing or fails, or a folder can't be written to, a script prints one sentence and makes nothing."""
     folder.parent.chmod(0o755)
     for path in [folder, *folder.rglob("*")]:
         path.chmod(0o555 if path.is_dir() or os.access(path, os.X_OK) else 0o444)

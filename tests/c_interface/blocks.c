@@ -1,6 +1,6 @@
 /*
- * Compares each call that allocates with the call that takes room, over room that is ample: with every number of each order and one
- * that is none, each kind of fault, outputs that are longer than the first block, and each allocation refused in turn, by itself and with
+ * Compares each call that allocates with the call that writes into a buffer, which is large enough: with every number of each order and
+ * one that is none, each kind of fault, outputs that are longer than the first block, and each allocation refused in turn, by itself and with
  * all that follow. `*out` holds a pointer beforehand, and the blocks are counted. With -DPROVED no proved call gets a null pointer,
  * and each call that allocates makes one proved call, except for type listings over four times as long as their file.
  * usage: blocks TESTDATA

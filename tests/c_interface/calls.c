@@ -1,4 +1,4 @@
-/* Calls each function of the C interface on worked files, and exits with 1 where some check failed. usage: calls TESTDATA */
+/* Calls each function of the C interface on worked files, and exits with 1 if a check failed. usage: calls TESTDATA */
 #include "checks.h"
 
 /* an INT in big-endian BTF, its canonical bytes, and the same type with another name, strings first and a longer header */
@@ -60,7 +60,7 @@ static void instructions_change_order(void)
 	bpfcanon_free(block);
 }
 
-/* A stream in pieces of one length, with what is left kept in front of the next. */
+/* A stream in pieces of one length, with what is left kept before the next. */
 static void stream_in_pieces_of(size_t piece, const uint8_t *big, size_t len, const uint8_t *little, size_t little_len)
 {
 	uint8_t held[16 + 64], whole[512];
@@ -154,7 +154,7 @@ static void versions_agree(void)
 	CHECK(!strcmp(version, BPFCANON_VERSION) && !strcmp(version, bpfcanon_version()));
 }
 
-/* NULL with the length 0, for inputs and for outputs: the size of an output that no room was given for. */
+/* NULL with the length 0, for inputs and for outputs: the size of an output without a buffer. */
 static void null_is_an_empty_input_or_output(void)
 {
 	CHECK(is(bpfcanon_btf_canon(BPFCANON_BIG, NULL, 0, NULL, 0), fault(BPFCANON_BTF_SHORT_HEADER, 0)));

@@ -25,7 +25,7 @@ STANDARDS = {
     "c": ["c89", "c99", "c11", "c17", "gnu17"],
     "c++": ["c++98", "c++11", "c++14", "c++17", "c++20"],
 }
-# Variables that are honoured aren't taken from whoever runs the test.
+# Variables that are honoured aren't inherited from whoever runs the test.
 UNSET = "CC CFLAGS CPPFLAGS LDFLAGS LIBDIR AR NM OBJCOPY DESTDIR".split()
 OF_CAPI = sorted(path.name for path in CAPI.iterdir())
 CLEAN = {name: value for name, value in os.environ.items() if name not in UNSET}
@@ -48,7 +48,7 @@ def declared():
 
 
 def built(report, archive, root, **variables):
-    """Whether capi/build installs into this prefix without a word, and with no command `rt`."""
+    """Whether capi/build installs into this prefix without any output, and with no command `rt`."""
     folder = root / "no rt"
     folder.mkdir(parents=True)
     (folder / "rt").write_text("#!/bin/sh\necho rt was called >&2\nexit 1\n")
@@ -119,7 +119,7 @@ def check_header(report, root):
 
 
 def check_programs(report, root, folder):
-    """A program that pkg-config gives the flags for, over the shared library and over the static one, from C and from C++."""
+    """A program that is built with the flags of pkg-config, over the shared library and over the static one, from C and from C++."""
     if not shutil.which("pkg-config"):
         report.skip("programs by pkg-config", "pkg-config is missing")
         return

@@ -13,8 +13,8 @@ static const struct {
 	uint32_t order;
 	const char *bytes;
 	size_t len;
-	uint32_t cause; /* of a fault, or 0 */
-	uint64_t pos;   /* from the end of the front */
+	uint32_t cause; /* its cause if it is a fault, or 0 */
+	uint64_t pos;   /* from the end of the prefix */
 } tails[] = {
 	{ "nothing", BPFCANON_LITTLE, "", 0, 0, 0 },
 	{ "half a slot", BPFCANON_BIG, "\x95\0\0\0", 4, 0, 0 },

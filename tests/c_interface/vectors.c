@@ -40,7 +40,7 @@ static struct bytes data(const char *field)
 	return bytes;
 }
 
-/* The bytes of a field of text and room for a newline; in the field \n, \t, \r, \", \\ and \xHH are escapes. */
+/* The bytes of a field with a listing, and space for a newline; in the field \n, \t, \r, \", \\ and \xHH are escapes. */
 static struct bytes text(const char *field)
 {
 	struct bytes bytes = { keep(strlen(field) + 1), 0 };
@@ -87,7 +87,7 @@ static bpfcanon_answer insn_read(const struct call *c, uint8_t *out, size_t room
 static bpfcanon_answer btf_canon(const struct call *c, uint8_t *out, size_t room) { return bpfcanon_btf_canon(c->to, c->given.at, c->given.len, out, room); }
 static bpfcanon_answer btf_show(const struct call *c, uint8_t *out, size_t room) { return bpfcanon_btf_show(c->given.at, c->given.len, (char *)out, room); }
 
-/* The call writes this output, and nothing behind it or if the room is too short. */
+/* The call writes this output, and nothing after it or if the buffer is too short. */
 static void writes(struct call call, struct bytes right)
 {
 	uint8_t *out = allocate(right.len + SPARE);

@@ -112,7 +112,7 @@ def string(name: str, *number: int) -> str:
 def pointer_to(data: Buffer) -> Any:
     """Return what ctypes accepts as a pointer to the bytes.
 
-    `bytes` and writable buffers are passed without a copy. ctypes can't take the address of other
+    `bytes` and writable buffers are passed without a copy. ctypes can't get the address of other
     read-only buffers (a memoryview of bytes, a mapping with ACCESS_READ), so they are copied, and
     so are buffers that aren't contiguous.
     """

@@ -18,11 +18,11 @@ def btf_canon(types: Buffer, *, to: Order = Order.LITTLE) -> bytes:
 
 
 def btf_show(types: Buffer) -> str:
-    """Return the types as text: one line for each type and each of its items, with a newline.
+    """Return a listing of the types: one line for each type and each of its items, with a newline.
 
     docs/FORMATS.md describes the lines. Raises Fault with a BtfCause, OutOfMemory.
     """
-    # The text of a kernel's types is about twice as long as they are.
+    # The listing of a kernel's types is about twice as long as they are.
     answer, out = _library.write("btf_show", 3 * _library.size_of(types), types)
     check(answer, BtfCause)
     return out.decode()

@@ -26,7 +26,7 @@ def load(name: str) -> bytes:
 
 
 def btf(order: str, records: tuple[list[int], bytes]) -> bytes:
-    """BTF with a 24-byte header, these words as its records and this string section; `order` is "<" or ">"."""
+    """BTF with a 24-byte header, these 32-bit fields as its records and this string section; `order` is "<" or ">"."""
     words, names = records
     size = 4 * len(words)
     header = struct.pack(f"{order}HBBIIIII", 0xEB9F, 1, 0, 24, 0, size, size, len(names))

@@ -46,7 +46,7 @@ const (
 // BTFMax is the length of the longest BTF that can be valid.
 const BTFMax = C.BPFCANON_BTF_MAX
 
-// How many causes of each kind the header has. Their numbers start at 1.
+// How many causes of each kind the header declares. Their numbers start at 1.
 const (
 	InsnCauses = C.BPFCANON_INSN_CAUSES
 	LineCauses = C.BPFCANON_LINE_CAUSES
