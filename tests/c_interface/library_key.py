@@ -1,6 +1,6 @@
 """Runs the lines after key.c in docs/LIBRARY.md: they print a digest, and none for a file with a fault or without the library.
 
-    readme_key.py PREFIX
+    library_key.py PREFIX
 
 PREFIX is a folder that capi/build has made.
 """
