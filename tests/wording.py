@@ -28,7 +28,7 @@ PHRASES = [
     (r"\b(?:bytes?|what|that|much) (?:came|come)\b|\b(?:comes?|came) (?:in|out|whole|at once)\b", "arrive, were read"),
     (r"\bat an? (?:faults?|errors?)\b", "on a fault"),
     (r"\balso (?:if|where|when)\b", "even if"),
-    (r"\bfor ever\b|\bat hand\b|\bamid\b", "during, available"),
+    (r"\bfor ever\b|\bat hand\b|\bamid\b|\bbeside\b|\bafterwards\b", "during, available, next to, then"),
     (r"\bmend\b|\bjudged?\b|\blends?\b|\blent\b", "repair, check, borrow"),
     (r"\b(?:mean|means) the same\b", "hold the same instructions, or the same types in the same order"),
 ]
