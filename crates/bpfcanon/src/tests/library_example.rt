@@ -31,7 +31,7 @@ pub fn canonical_for_big_endian(alloc: Global, file: &[u8]) -> Result<Vec<u8>, B
 /// A listing with one instruction a line, without comments, and with each number in decimal.
 pub fn tidy_listing(alloc: Global, text: &[u8]) -> Result<Vec<u8>, ListError> {
     let insns = read_listing(alloc, text)?;
-    listing(alloc, &insns).map_err(|_| ListError::Memory)
+    Ok(listing(alloc, &insns)?)
 }
 
 /// Why a stream gave no canonical bytes.
@@ -48,10 +48,10 @@ pub fn canonical_stream(alloc: Global, pieces: &[&[u8]]) -> Result<Vec<u8>, Stre
     let mut feed = InsnFeed::new(Order::Big, Order::Little);
     let mut canonical = Vec::new(alloc);
     for piece in pieces {
+        feed.feed(piece, &mut canonical)?;
         if feed.fed() > INSN_LIMIT {
             return Err(StreamError::TooLong);
         }
-        feed.feed(piece, &mut canonical)?;
     }
     feed.finish().map_err(InsnError::Fault)?;
     Ok(canonical)
