@@ -1,4 +1,4 @@
-//! Worked examples, faulty texts, and allocations that are refused.
+//! Worked examples, faulty listings, and refused allocations.
 
 mod largest;
 mod listings;

@@ -19,7 +19,7 @@ struct WrittenRow {
     bytes: &'static [u8],
 }
 
-/// A text, its lines as they are written, and the little-endian bytes of its instructions.
+/// A listing, the lines that are written for it, and the little-endian bytes of its instructions.
 #[derive(Clone, Copy, Debug)]
 struct FormRow {
     text: &'static [u8],
@@ -27,7 +27,7 @@ struct FormRow {
     bytes: &'static [u8],
 }
 
-/// A text, and the line and the cause of its first fault.
+/// A listing, with the line and the cause of its first fault.
 #[derive(Clone, Copy, Debug)]
 struct FaultRow {
     text: &'static [u8],
@@ -56,7 +56,7 @@ fn pushed(alloc: Global, insns: &[Insn]) -> Result<Vec<u8>, AllocError> {
 
 const COMMENT: &[u8] = b"; lines\n";
 
-/// Whether a text has these lines and bytes by every call.
+/// Whether every call returns these lines and bytes for a listing.
 fn is_listed(alloc: Global, text: &[u8], lines: &[u8], bytes: &[u8]) -> Result<bool, Fail> {
     let insns = read_listing(alloc, text)?;
     let appended = pushed(alloc, &insns)?;
@@ -112,7 +112,7 @@ fn bytes_are_read_in_both_orders(rt: HostRuntime) -> Result<(), Fail> {
     Ok(())
 }
 
-/// What both calls that read return for a faulty text.
+/// What both reading calls return for a faulty listing.
 fn both_faults(alloc: Global, text: &[u8]) -> (Option<ListError>, Option<ListError>) {
     (
         read_listing(alloc, text).err(),

@@ -178,7 +178,7 @@ fn each_growth_is_refused(rt: HostRuntime) -> Result<(), Fail> {
     Ok(())
 }
 
-/// A STRUCT of an INT, with its text.
+/// A STRUCT of an INT, with its listing.
 const TYPES: KindRow = KindRow {
     words: &[1, 0x0100_0000, 4, 0x0100_0020, 5, 0x8400_0001, 4, 7, 1, 0],
     strings: b"\0int\0s\0a\0",
@@ -205,7 +205,7 @@ fn each_growth_of_a_type_listing_is_refused(rt: HostRuntime) -> Result<(), Fail>
     Ok(())
 }
 
-/// A call that appends to a text.
+/// A call that appends to a listing.
 #[derive(Clone, Copy, Debug)]
 enum Append {
     Line,

@@ -1,4 +1,4 @@
-//! The text of each kind of type, through both tables and in parts.
+//! The listing of each kind of type, through both tables and in parts.
 
 use super::equal;
 use crate::{
@@ -12,7 +12,7 @@ use std::test::Fail;
 
 mod kinds;
 
-/// The words of a file's records, its string section and its text.
+/// The 32-bit fields of a file's records, its string section and its listing.
 #[derive(Clone, Copy, Debug)]
 pub(super) struct KindRow {
     pub(super) words: &'static [u32],
@@ -93,7 +93,7 @@ fn each_kind_is_shown(rt: HostRuntime) -> Result<(), Fail> {
     Ok(())
 }
 
-/// A file and its text.
+/// A file and its listing.
 #[derive(Clone, Copy, Debug)]
 struct FileRow {
     bytes: &'static [u8],

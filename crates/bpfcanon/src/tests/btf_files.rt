@@ -18,7 +18,7 @@ pub const INT: &[u8] =
 pub const STRUCT: &[u8] =
     b"\x9f\xeb\x01\0\x18\0\0\0\0\0\0\0(\0\0\0(\0\0\0\x09\0\0\0\x01\0\0\0\0\0\0\x01\x04\0\0\0 \0\0\x01\x05\0\0\0\x01\0\0\x84\x04\0\0\0\x07\0\0\0\x01\0\0\0\0\0\0\0\0int\0s\0a\0";
 
-/// The text of its types.
+/// The listing of its types.
 pub const STRUCT_TEXT: &[u8] = b"[1] int \"int\" size=4 encoding=signed offset=0 bits=32\n\
     [2] struct \"s\" size=4 items=1\n\x20 member \"a\" type=1 offset=0 width=0\n";
 
@@ -26,7 +26,7 @@ pub const STRUCT_TEXT: &[u8] = b"[1] int \"int\" size=4 encoding=signed offset=0
 pub const UNKNOWN_TYPE: &[u8] =
     b"\x9f\xeb\x01\0\x18\0\0\0\0\0\0\0\x0c\0\0\0\x0c\0\0\0\x01\0\0\0\0\0\0\0\0\0\0\x02\x02\0\0\0\0";
 
-/// A file and its text.
+/// A file and its listing.
 #[derive(Drop)]
 pub struct Shown {
     pub file: Vec<u8>,
@@ -62,7 +62,7 @@ pub fn nameless(alloc: Global, consts: u32, types: u32) -> Result<Shown, AllocEr
     Ok(Shown { file, text })
 }
 
-/// A file of these words of types, whose one name begins after the first byte of the strings.
+/// A file with these 32-bit fields as its type section, whose one name is at offset 1 of the strings.
 pub fn named(alloc: Global, words: &[u32], name: &[u8]) -> Result<Vec<u8>, AllocError> {
     let types = u32::try_from(words.len())
         .unwrap_or(u32::MAX)

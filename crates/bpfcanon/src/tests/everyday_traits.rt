@@ -199,7 +199,7 @@ fn tables_and_devices_are_shown(rt: HostRuntime) -> Result<(), Fail> {
     Ok(())
 }
 
-/// What a feed gives after a piece that was only tried.
+/// What a feed returns after a piece that was only tried.
 #[test]
 fn a_feed_goes_back(rt: HostRuntime) -> Result<(), Fail> {
     let mut out = Vec::new(rt.alloc());

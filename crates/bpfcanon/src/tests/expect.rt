@@ -1,4 +1,4 @@
-//! Comparisons for tests. A call of one is proved in a fraction of the time of an `assert_eq!`, which brings its own text and its
+//! Comparisons for tests. A call of one is proved in a fraction of the time of an `assert_eq!`, which builds its own message and its
 //! own ways to end at each use. Unlike `assert_eq!` it leaves no fact for the proof of what follows.
 
 use super::runner::Ran;

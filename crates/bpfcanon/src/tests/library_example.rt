@@ -43,7 +43,7 @@ pub enum StreamError {
     TooLong,
 }
 
-/// The canonical bytes of big-endian instructions that come in pieces.
+/// The canonical bytes of big-endian instructions that are read in pieces.
 pub fn canonical_stream(alloc: Global, pieces: &[&[u8]]) -> Result<Vec<u8>, StreamError> {
     let mut feed = InsnFeed::new(Order::Big, Order::Little);
     let mut canonical = Vec::new(alloc);

@@ -61,7 +61,7 @@ fn kept_at_least(sample: Sample) -> usize {
     }
 }
 
-/// How many rooms are tried that are enough.
+/// How many sizes are tried that are enough.
 const ENOUGH: usize = 16;
 
 /// Runs a sample with more and more memory. It needs at least what it stores, and with more it doesn't run out of memory again.

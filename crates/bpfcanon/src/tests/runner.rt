@@ -12,7 +12,7 @@ use std::test::Fail;
 pub struct Row {
     /// What the row shows.
     pub name: &'static str,
-    /// The words after the program's name.
+    /// The arguments, separated by blanks.
     pub line: &'static str,
     pub input: &'static [u8],
     pub status: u8,
@@ -48,7 +48,7 @@ pub struct Ran {
     pub faults: Vec<u8>,
 }
 
-/// The program's name and the words of a line.
+/// The argument vector: the name of the command and the arguments of a line.
 pub fn words_of(alloc: Global, line: &str) -> Result<Vec<String>, AllocError> {
     let mut words = Vec::new(alloc);
     words.push(String::from_str(alloc, "bpfcanon")?)?;

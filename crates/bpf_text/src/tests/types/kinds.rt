@@ -1,4 +1,4 @@
-//! Records of each kind by their words, with their strings and their text.
+//! Records of each kind, field by field, with their strings and their listing.
 
 use super::KindRow;
 
