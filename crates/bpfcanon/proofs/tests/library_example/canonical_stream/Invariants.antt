@@ -2,4 +2,4 @@ use Rattle.std.proofs.Common.{◌≤◌}
 use Rattle.bpfcanon.proofs.tests.library_example.canonical_stream.Given as goal
 
 abbrev pub invariant-loop-piece : goal.invariant-loop-piece
-invariant-loop-piece g l = l.feed.fed ≤ 67108864
+invariant-loop-piece l = l.feed.fed ≤ 67108864
