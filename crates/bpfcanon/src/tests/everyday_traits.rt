@@ -150,14 +150,14 @@ fn sets_of_groups_are_collections(rt: HostRuntime) -> Result<(), Fail> {
 fn tables_are_collections(rt: HostRuntime) -> Result<(), Fail> {
     let view = BtfView::parse(rt.alloc(), POINT)?;
     let types = Btf::parse(rt.alloc(), POINT)?;
-    let mut items = 0;
+    let mut lens = Vec::new(rt.alloc());
     for (id, _) in &view {
-        items += view.items(id).len();
+        lens.push(view.items(id).len())?;
     }
     for (id, _) in &types {
-        items += types.items(id).len();
+        lens.push(types.items(id).len())?;
     }
-    assert_eq!(rt; items, 4);
+    assert_eq!(rt; lens.as_slice(), &[0, 2, 0, 2][..]);
     assert!(rt; types.items(2).next_back() == Some(POINT_Y));
     assert!(rt; count_of(&&view) == 2);
     assert!(rt; last_of(rt.alloc(), POINT)? == Some((POINT_HEAD, POINT_Y)));
