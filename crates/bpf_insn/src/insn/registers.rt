@@ -1,6 +1,7 @@
 //! Registers and their numbers.
 
-ghost use Rattle.std.specs.Prelude.{◌≡◌, ◌<◌, MatchOption, MatchResult};
+ghost use Rattle.std.specs.Prelude.{◌≡◌, ◌<◌, ◌++◌, Some, codes, MatchOption, MatchResult};
+ghost use Rattle.std.specs.Fmt.{decimal};
 ghost use Rattle.bpf_insn.specs.Table.{register_number};
 
 use crate::Reg;
@@ -47,6 +48,8 @@ impl TryFrom<u8> for Reg {
 
 /// `r0` to `r10`, as in listings.
 impl fmt::Display for Reg {
+    ghost output = { λ reg. Some (codes "r" ++ decimal (register_number reg)) };
+
     fn fmt<W: fmt::Write>(&self, f: &mut fmt::Formatter<W>) -> fmt::Result {
         write!(f, "r{}", self.number)
     }
