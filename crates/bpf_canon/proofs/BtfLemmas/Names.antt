@@ -6,6 +6,5 @@ pub mod HostSteps
 pub mod HostIndices
 pub mod IndexedNames
 pub mod HostTable
-pub mod SharedSteps
 pub mod Gathering
 pub mod NoteSteps

@@ -24,9 +24,6 @@ pub record HostsFrom (ks : List (List ℕ)) (sorted : List Named) (hosts : List 
   pub whole : length hosts ≡ length ks
   pub after : (j : ℕ) (d : Named) → k ≤ j → j < length sorted → IsHostAt ks hosts ((get_or sorted j d).1)
 
-pub hosts_none : (ks : List (List ℕ)) (sorted : List Named) (hosts : List ℕ) → length hosts ≡ length ks → HostsFrom ks sorted hosts (length sorted)
-hosts_none ks sorted hosts long = record { whole = long; after = λ j d h l. absurd (omega (arith, h, l)) }
-
 module _ (ks : List (List ℕ)) (sorted : List Named) (apart : NoRepeats ks) (are : AreIndexed ks sorted) where
   text_at : (k : ℕ) (e : Named) → k < length sorted → get_or (texts sorted) k e.0.now ≡ (get_or sorted k e).0.now
   text_at k e h = get_or-map (λ (s : Named). s.0.now) sorted k e e.0.now h

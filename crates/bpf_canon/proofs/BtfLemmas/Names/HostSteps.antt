@@ -129,8 +129,3 @@ pub hosts_among_kept : (ks : List (List ℕ)) (i : ℕ) → kept ks ≡ ks → k
 hosts_among_kept ks i own =
     kept_part ks (hosts_among ks i) own (NoRepeats-filter (keeps ks) (take i ks) (NoRepeats-take ks i (kept_apart ks own)))
     (λ x h. Has-take ks i x ((Has-from_filter (keeps ks) (take i ks) x h).0))
-
-pub host_room : (ks old : List (List ℕ)) (i : ℕ) (d : List ℕ) → i < length ks → keeps ks (get_or ks i d) ≡ true → old ≡ hosts_among ks i → length (table_of old) + length (get_or ks i d) + 1 ≤ length (table_of (hosts_of ks))
-host_room ks old i d h t e =
-    let more = ap (λ (l : List (List ℕ)). length (table_of l)) (hosts_among_more ks i d h t) in
-    omega (arith, more, length-table_push (hosts_among ks i) (get_or ks i d), hosts_among_room ks (i + 1), ap (λ (l : List (List ℕ)). length (table_of l)) e)

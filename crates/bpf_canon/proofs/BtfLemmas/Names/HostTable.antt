@@ -12,7 +12,7 @@ use Rattle.btf_types.proofs.StringLemmas.{Suffixes.Ends-length, Hosts.host_is, H
 use Rattle.bpf_canon.specs.btf.names.Interned.{lent_texts, HaveHosts, ArePlacedHosts, AreShared, name_at}
 use Rattle.bpf_canon.proofs.BtfLemmas.Names.KeptSteps.{place_stays, place_last, length-table_push}
 use Rattle.bpf_canon.proofs.BtfLemmas.Names.HostSearch.{text_at, texts_length}
-use Rattle.bpf_canon.proofs.BtfLemmas.Names.{SharedSteps.place_room, Gathering.Has-front, Gathering.Has-back}
+use Rattle.bpf_canon.proofs.BtfLemmas.Names.{KeptSteps.place_room, Gathering.Has-front, Gathering.Has-back}
 use Rattle.bpf_canon.proofs.BtfLemmas.Names.HostSteps.{keeps, own_host_test, hosts_among, hosts_among_more, hosts_among_same, hosts_among_room}
 
 -- names that are apart have one index each

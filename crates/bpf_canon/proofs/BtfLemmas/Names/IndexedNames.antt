@@ -14,21 +14,6 @@ pub record IndexedTo (names : List (Bor (List ℕ))) (sorted : List Named) (k : 
   pub long : length sorted ≡ k
   pub each : (j : ℕ) (d : Named) → j < k → get_or sorted j d ≡ (get_or names j d.0, j)
 
-pub indexed_none : (names : List (Bor (List ℕ))) → IndexedTo names [] 0
-indexed_none names = record { long = refl; each = λ j d h. absurd (omega (arith, h)) }
-
-pub indexed_more : (names : List (Bor (List ℕ))) (sorted : List Named) (k : ℕ) (n : Bor (List ℕ)) → IndexedTo names sorted k → k < length names → n ≡ get_or names k n → IndexedTo names (sorted ++ (n, k) ∷ []) (k + 1)
-indexed_more names sorted k n to inside is = record {
-  long = length-append sorted ((n, k) ∷ []) ∙ ap (λ (m : ℕ). m + 1) to.long;
-  each = λ j d h. elim (cases_eq j k) [
-    | inl q ↦
-        let seam : get_or (sorted ++ (n, k) ∷ []) (length sorted) d ≡ (n, k) = get_or-append_seam sorted (n, k) [] d in
-        let at : length sorted ≡ j = to.long ∙ sym q in
-        ap (λ (m : ℕ). get_or (sorted ++ (n, k) ∷ []) m d) (sym at) ∙ seam ∙ ap (λ (b : Bor (List ℕ)). (b, k)) (is ∙ get_or_default names k n d.0 inside) ∙ ap (λ (m : ℕ). (get_or names m d.0, m)) (sym q)
-    | inr r ↦ get_or-append sorted ((n, k) ∷ []) d j (omega (arith, h, r, to.long)) ∙ to.each j d (omega (arith, h, r))
-  ];
-}
-
 -- sorted by the comparison, they are sorted as strings
 sorted_named : (sorted : List Named) → IsSortedBy (λ x y. tail_lt x.0.now y.0.now) sorted → IsSorted tail_cmp (texts sorted)
 sorted_named sorted up k d low h =

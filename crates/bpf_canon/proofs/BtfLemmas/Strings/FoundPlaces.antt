@@ -9,7 +9,8 @@ use Rattle.btf_types.specs.{Names.kept, Names.with_nul, Names.table_of, Names.pl
 use Rattle.btf_types.specs.strings.SharedNames.{tail_cmp, hosts, hosts_of, host_in, shared_among, shared_table, shared_place}
 use Rattle.btf_types.specs.strings.{LongestTexts.AreLongest, CommonTails.at_rank, CommonTails.AreInTailOrder}
 use Rattle.btf_types.proofs.Members.{Has, Has-from_Contains, Contains-from_Has}
-use Rattle.btf_types.proofs.StringLemmas.{Texts.table_split, Longest.longest_have_host}
+use Rattle.btf_types.proofs.StringLemmas.Longest.{longest_have_host}
+use Rattle.bpf_canon.proofs.BtfLemmas.Names.KeptSteps.{place_room}
 use Rattle.bpf_canon.specs.btf.strings.{FirstUses.AreMarked, SectionTexts.text_in, SectionTexts.HasKey}
 use Rattle.bpf_canon.specs.btf.strings.{UsedOffsets.Used, UsedOffsets.offset_number, InHost.no_host, InHost.host_at, InHost.AreInHosts}
 use Rattle.bpf_canon.specs.btf.strings.Longest.{IsUsed, IsInText, AreLongestOf}
@@ -74,13 +75,6 @@ module _ (section slots offsets : List ℕ) (texts ordered : List SectionText) (
 
   pub all_found : All (HasHost section slots sorted xs in_hosts) offsets
   all_found k d h = is_found (get_or offsets k d) (k, h, get_or_default offsets k (get_or offsets k d) d h)
-
--- an offset in a table leaves space for the string and its NUL
-place_room : (ks : List (List ℕ)) (x : List ℕ) → Has ks x → place_in ks x + length x + 1 ≤ length (table_of ks)
-place_room ks x h =
-    let before = table_of (before_first (bytes_eq x) ks) in
-    let after = flat_map with_nul (after_first (bytes_eq x) ks) in
-    omega (arith, ap (λ (t : List ℕ). length t) (table_split ks x h), length-append (before ++ x) (0 ∷ after), length-append before x)
 
 -- the offset of a name, at the end of its host
 place_at_host : (ks : List (List ℕ)) (x h : List ℕ) (n b : ℕ) → 0 < length x → host_in (hosts_of ks) x ≡ h → n ≡ place_in (hosts_of ks) h → b + length x ≡ length h → n + b ≡ shared_among ks x

@@ -214,13 +214,6 @@ cases_within off t = elim (cases_lt off t.start) [
 ]
 
 module _ (section slots : List ℕ) (ts : List SectionText) (sorted : List (List ℕ)) (longest : AreLongestOf section slots ts) where
-  pub hosts_none : (in_hosts : List InHost) → in_hosts ≡ replicate (offset_number slots (length slots)) no_host → HostsTo section slots ts sorted in_hosts 0
-  hosts_none in_hosts e = record {
-    whole = ap (λ (l : List InHost). length l) e ∙ length-replicate (offset_number slots (length slots)) no_host;
-    empty = λ off s z. ap (λ (l : List InHost). host_at slots l off) e ∙ get_or-replicate (offset_number slots (length slots)) (offset_number slots off) no_host no_host (number_inside slots off s);
-    here = λ j off h. absurd (omega (arith, h));
-  }
-
   pub hosts_more : (old new : List InHost) (k : ℕ) → HostsTo section slots ts sorted old k → k < length ts → FindsWithin section slots sorted (get_or ts k no_text) old new → HostsTo section slots ts sorted new (k + 1)
   hosts_more old new k to inside finds =
       let used = longest.used k no_text inside in

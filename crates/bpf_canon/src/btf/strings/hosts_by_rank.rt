@@ -1,5 +1,5 @@
 //! The host of each name, found by the ranks of the longest strings.
-ghost use Rattle.std.specs.Prelude.{◌≡◌, ◌<◌, ◌≤◌, length, IfOk, OnOk};
+ghost use Rattle.std.specs.Prelude.{◌≡◌, ◌<◌, ◌≤◌, length, IfOk};
 ghost use Rattle.bpf_canon.specs.btf.strings.Ranks.{AreLower};
 ghost use Rattle.bpf_canon.specs.btf.strings.UsedOffsets.{used_count};
 ghost use Rattle.bpf_canon.specs.btf.strings.InHost as spec;
@@ -112,27 +112,6 @@ fn find_shared<A: Allocator>(
     }
 }
 
-/// Finds the hosts of all ranks. On an error only the first ranks have been processed.
-fn find_all<A: Allocator + Copy>(
-    alloc: A,
-    uses: &UsedOffsets<A>,
-    ranked: &RankedTexts<'_, A>,
-    in_hosts: &mut [InHost],
-) -> Result<(), AllocError>
-    requires texts { spec.IsRankedFor uses.now ranked.now }
-    requires none { spec.FindsRanks uses.now ranked.now in_hosts.old 0 }
-    ensures { OnOk result (spec.FindsRanks uses.now ranked.now in_hosts.new
-        (length ranked.now.texts.items)) }
-{
-    let alone = find_alone(uses, ranked, in_hosts);
-    if alone == ranked.texts.len() {
-        return Ok(());
-    }
-    let lower = lower_ranks(alloc, &ranked.common)?;
-    find_shared(uses, ranked, &lower, alone, in_hosts);
-    Ok(())
-}
-
 /// The host of each used offset, indexed by the offset's number.
 pub(crate) fn find_hosts<A: Allocator + Copy>(
     alloc: A,
@@ -143,6 +122,11 @@ pub(crate) fn find_hosts<A: Allocator + Copy>(
     ensures { IfOk result (λ in_hosts. spec.FindsHosts uses.now ranked.now in_hosts.items) }
 {
     let mut in_hosts = vec![in alloc; InHost::NONE; uses.count()]?;
-    find_all(alloc, uses, ranked, &mut in_hosts)?;
+    let alone = find_alone(uses, ranked, &mut in_hosts);
+    if alone == ranked.texts.len() {
+        return Ok(in_hosts);
+    }
+    let lower = lower_ranks(alloc, &ranked.common)?;
+    find_shared(uses, ranked, &lower, alone, &mut in_hosts);
     Ok(in_hosts)
 }
