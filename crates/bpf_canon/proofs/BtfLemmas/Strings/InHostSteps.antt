@@ -1,8 +1,8 @@
 -- The host of a string by ranks, and the steps of the loops that find all hosts.
-use Rattle.std.proofs.Common.{◌≡◌, ◌≢◌, ℕ, zero, suc, ◌+◌, ◌-◌, ◌<◌, ◌≤◌, true, ◌⊎◌, inl, inr, List, [], length, map, get_or, set, replicate, refl, sym, ap, ◌∙◌, subst, arith}
+use Rattle.std.proofs.Common.{◌≡◌, ◌≢◌, ℕ, zero, suc, ◌+◌, ◌-◌, ◌<◌, ◌≤◌, true, ◌⊎◌, inl, inr, List, [], length, map, get_or, set, refl, sym, ap, ◌∙◌, subst, arith}
 use Rattle.std.specs.List.{All}
 use Rattle.std.proofs.lemmas.Bool.{cases_eq, cases_lt}
-use Rattle.std.proofs.lemmas.List.{get_or-map, length-map, length-set, get_or-set_same, get_or-set_other, get_or_default, get_or_read, get_or-replicate, length-replicate}
+use Rattle.std.proofs.lemmas.List.{get_or-map, length-map, length-set, get_or-set_same, get_or-set_other, get_or_default, get_or_read}
 use Rattle.btf_types.specs.Reading.{text_from}
 use Rattle.btf_types.specs.strings.{SharedNames.is_suffix, CommonTails.at_rank, CommonTails.IsFirstRank, CommonTails.IsNextHost}
 use Rattle.btf_types.proofs.StringLemmas.Suffixes.{Ends, Ends-refl, Ends-trans, Ends-length, Ends-from_suffix, suffix_from_Ends}
@@ -19,11 +19,6 @@ passed_end : (ms : List (List ℕ)) (n j l r : ℕ) → n + j ≡ r → l ≤ j 
 passed_end ms zero j l r e low p = subst (λ (m : ℕ). Ends (at_rank ms j) (at_rank ms m)) (let same : j ≡ r = omega (arith, e) in same) (Ends-refl (at_rank ms j))
 passed_end ms (suc n) j l r e low p =
     Ends-trans (at_rank ms j) (at_rank ms (j + 1)) (at_rank ms r) (Ends-from_suffix _ _ (p j low (omega (arith, e)))) (passed_end ms n (j + 1) l r (omega (arith, e)) (omega (arith, low)) p)
-
--- The string of a rank isn't a suffix of the one before it, and no name begins after its first byte.
-pub record IsAlone (slots common : List ℕ) (rank : ℕ) (t : SectionText) : Type 0 where
-  pub less : get_or common rank 0 < t.end - t.start
-  pub unused : (off : ℕ) → t.start + 1 ≤ off → off < t.end → get_or slots off 0 ≡ 0
 
 module _ (section slots : List ℕ) (ts : List SectionText) (common hosts : List ℕ) (ranked : AreRanked (map (text_in section) ts) common hosts) (used : All (IsUsed section slots) ts) where
   abbrev texts : List (List ℕ)
@@ -120,17 +115,12 @@ module _ (section slots : List ℕ) (ts : List SectionText) (common hosts : List
         in_hosts = λ h a b e. in_host rank off l inside within low_enough all less_here h (omega (arith, a, host_is)) (omega (arith, b, u_len, ends)) (e ∙ u_len);
       }
 
-  -- a string is separate by the length that was read for its rank
-  pub alone_read : (rank n : ℕ) (t : SectionText) → rank < length ts → n ≡ get_or common rank n → n < t.end - t.start → ((off : ℕ) → t.start + 1 ≤ off → off < t.end → get_or slots off 0 ≡ 0) → IsAlone slots common rank t
-  alone_read rank n t inside n_is less unused =
+  -- likewise for a string that isn't a suffix of the one before it, from its rank on
+  pub steps_alone : (rank n v : ℕ) (t u : SectionText) → rank < length ts → n ≡ get_or common rank n → n < t.end - t.start → t ≡ get_or ts rank t → v ≡ get_or hosts rank v → u ≡ get_or ts v u → StepsBack rank t.start rank rank v t u
+  steps_alone rank n v t u inside n_is less t_is v_is u_is =
       let in_common : rank < length common = omega (arith, inside, ranked.are_common.whole, length-map ts (text_in section)) in
-      record { less = omega (arith, less, get_or_read common rank n in_common n_is 0); unused = unused }
-
-  -- likewise for a separate string, from its rank on
-  pub steps_alone : (rank v : ℕ) (t u : SectionText) → rank < length ts → t ≡ get_or ts rank t → IsAlone slots common rank t → v ≡ get_or hosts rank v → u ≡ get_or ts v u → StepsBack rank t.start rank rank v t u
-  steps_alone rank v t u inside t_is alone v_is u_is =
-      let high : t.start < t.end = omega (arith, alone.less) in
-      steps_back rank t.start rank rank v t t u common inside t_is t_is (omega arith) high (omega arith) (λ j a b. absurd (omega (arith, a, b))) refl (omega arith) (λ j a b. absurd (omega (arith, a, b))) alone.less v_is u_is
+      steps_back rank t.start rank rank v t t u common inside t_is t_is (omega arith) (omega (arith, less)) (omega arith) (λ j a b. absurd (omega (arith, a, b))) refl (omega arith) (λ j a b. absurd (omega (arith, a, b)))
+      (omega (arith, less, get_or_read common rank n in_common n_is 0)) v_is u_is
 
 -- the loop over the offsets within a string
 pub record WithinTo (section slots : List ℕ) (sorted : List (List ℕ)) (common : List ℕ) (t : SectionText) (rank : ℕ) (old in_hosts : List InHost) (from off : ℕ) : Type 0 where

@@ -92,26 +92,6 @@ fn find_alone<A: Allocator>(
     ranked.texts.len()
 }
 
-/// Finds the hosts of the remaining ranks, whose strings may be equal or have names that begin
-/// inside them.
-fn find_shared<A: Allocator>(
-    uses: &UsedOffsets<A>,
-    ranked: &RankedTexts<'_, A>,
-    lower: &[u32],
-    first: usize,
-    in_hosts: &mut [InHost],
-)
-    requires texts { spec.IsRankedFor uses.now ranked.now }
-    requires lower { AreLower ranked.now.common.items lower.now }
-    requires most { first ≤ length ranked.now.texts.items }
-    requires found { spec.FindsRanks uses.now ranked.now in_hosts.old first }
-    ensures { spec.FindsRanks uses.now ranked.now in_hosts.new (length ranked.now.texts.items) }
-{
-    for rank in first..ranked.texts.len() {
-        find_within(uses, ranked, lower, rank, in_hosts);
-    }
-}
-
 /// The host of each used offset, indexed by the offset's number.
 pub(crate) fn find_hosts<A: Allocator + Copy>(
     alloc: A,
@@ -127,6 +107,8 @@ pub(crate) fn find_hosts<A: Allocator + Copy>(
         return Ok(in_hosts);
     }
     let lower = lower_ranks(alloc, &ranked.common)?;
-    find_shared(uses, ranked, &lower, alone, &mut in_hosts);
+    for rank in alone..ranked.texts.len() {
+        find_within(uses, ranked, &lower, rank, &mut in_hosts);
+    }
     Ok(in_hosts)
 }
