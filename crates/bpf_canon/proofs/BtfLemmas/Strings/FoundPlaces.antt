@@ -1,21 +1,22 @@
 -- From the hosts of used offsets to the offsets of names in the shared table.
-use Rattle.std.proofs.Common.{◌≡◌, ◌≢◌, ℕ, ◌+◌, ◌-◌, ◌^◌, ◌<◌, ◌≤◌, inl, inr, List, [], ◌∷◌, ◌++◌, length, map, get_or, sym, ap, ◌∙◌, subst, arith}
-use Rattle.std.specs.List.{All, Any, Contains, flat_map, before_first, after_first, Sorted.IsPermutation, Sorted.IsSorted}
-use Rattle.std.specs.Str.{bytes_eq}
+use Rattle.std.proofs.Common.{◌≡◌, ◌≢◌, ℕ, ◌+◌, ◌-◌, ◌^◌, ◌<◌, inl, inr, List, [], ◌∷◌, length, map, get_or, sym, ap, ◌∙◌, subst, arith}
+use Rattle.std.specs.List.{All, Any, Contains, Sorted.IsPermutation}
 use Rattle.std.proofs.lemmas.Bool.{cases_eq}
-use Rattle.std.proofs.lemmas.List.{length-append, length-map, get_or-map, get_or_default, nil_from_length, Elements.All-map}
-use Rattle.std.proofs.lemmas.List.Sorted.{IsPermutation-map, All-permutation, Contains-permutation, length_permutation}
-use Rattle.btf_types.specs.{Names.kept, Names.with_nul, Names.table_of, Names.place_in, Reading.text_from}
-use Rattle.btf_types.specs.strings.SharedNames.{tail_cmp, hosts, hosts_of, host_in, shared_among, shared_table, shared_place}
+use Rattle.std.proofs.lemmas.List.{length-map, get_or-map, get_or_default, nil_from_length, Elements.All-map}
+use Rattle.std.proofs.lemmas.List.Sorted.{All-permutation, Contains-permutation, length_permutation}
+use Rattle.btf_types.specs.{Names.kept, Names.place_in, Reading.text_from}
+use Rattle.btf_types.specs.strings.SharedNames.{hosts, hosts_of, host_in, shared_among, shared_table, shared_place}
 use Rattle.btf_types.specs.strings.{LongestTexts.AreLongest, CommonTails.at_rank, CommonTails.AreInTailOrder}
 use Rattle.btf_types.proofs.Members.{Has, Has-from_Contains, Contains-from_Has}
 use Rattle.btf_types.proofs.StringLemmas.Longest.{longest_have_host}
 use Rattle.bpf_canon.proofs.BtfLemmas.Names.KeptSteps.{place_room}
 use Rattle.bpf_canon.specs.btf.strings.{FirstUses.AreMarked, SectionTexts.text_in, SectionTexts.HasKey}
-use Rattle.bpf_canon.specs.btf.strings.{UsedOffsets.Used, UsedOffsets.offset_number, InHost.no_host, InHost.host_at, InHost.AreInHosts}
+use Rattle.bpf_canon.specs.btf.strings.{UsedOffsets.Used, UsedOffsets.offset_number}
+use Rattle.bpf_canon.specs.btf.strings.InHost.{no_host, host_at, sorted_in, IsRankedFor, FindsHosts}
 use Rattle.bpf_canon.specs.btf.strings.Longest.{IsUsed, IsInText, AreLongestOf}
-use Rattle.bpf_canon.specs.btf.strings.HostPlaces.{HasHost, AreHostPlaces, ArePlaced, name_place}
-use Rattle.bpf_canon.specs.declared.btf.strings.{section_texts.SectionText.SectionText, hosts_by_rank.InHost.InHost, host_places.Span.Span}
+use Rattle.bpf_canon.specs.btf.strings.HostPlaces.{HasHost, AreHostPlaces, ArePlaced, name_place, names_in, HaveTheirHosts, ArePlacesOf}
+use Rattle.bpf_canon.specs.declared.btf.strings.{section_texts.SectionText.SectionText, hosts_by_rank.InHost.InHost, ranked_texts.RankedTexts.RankedTexts}
+use Rattle.bpf_canon.specs.declared.btf.strings.host_places.{Span.Span, HostPlaces.HostPlaces}
 use Rattle.bpf_canon.proofs.BtfLemmas.Strings.UsedSteps.{used_inside, used_at, number_inside}
 use Rattle.bpf_canon.proofs.BtfLemmas.Strings.{LongestSteps.used_length, RankSteps.in_tail_order, HostPlaceSteps.host_there}
 use Rattle.bpf_canon.proofs.BtfLemmas.Strings.FoundHosts.{longest_are, in_map, empty_at_nul, text_some}
@@ -32,30 +33,25 @@ longest_permuted section slots texts ordered are perm = record {
   each = λ off h s b. any_permuted (IsInText off) texts ordered perm (are.each off h s b);
 }
 
-module _ (section slots offsets : List ℕ) (texts ordered : List SectionText) (in_hosts : List InHost) (marked : AreMarked offsets slots) (long : length slots ≡ length section) (longest : AreLongestOf section slots texts)
-    (perm : IsPermutation texts ordered) (up : IsSorted tail_cmp (map (text_in section) ordered)) (hosts_are : AreInHosts section slots (map (text_in section) ordered) in_hosts) where
-  abbrev xs : List (List ℕ)
-  xs = map (text_from section) offsets
+module _ {A : Type 0} (used : Used) (r : RankedTexts A) (in_hosts : List InHost) (marked : AreMarked used.offsets used.slots) (ranked : IsRankedFor used r) (hosts_are : FindsHosts used r in_hosts) where
+  inside : (off : ℕ) → Contains used.offsets off → off < length r.section.now
+  inside off c = omega (arith, used_inside used.slots off (marked.marked off c), ranked.whole)
 
-  abbrev sorted : List (List ℕ)
-  sorted = map (text_in section) ordered
+  all_inside : All (λ off. off < length r.section.now) used.offsets
+  all_inside k d h = inside (get_or used.offsets k d) (k, h, get_or_default used.offsets k (get_or used.offsets k d) d h)
 
-  inside : (off : ℕ) → Contains offsets off → off < length section
-  inside off c = omega (arith, used_inside slots off (marked.marked off c), long)
+  are : AreLongest (names_in r used) (sorted_in r)
+  are = longest_are r.section.now used.slots used.offsets r.texts.items ranked.longest marked all_inside
 
-  all_inside : All (λ off. off < length section) offsets
-  all_inside k d h = inside (get_or offsets k d) (k, h, get_or_default offsets k (get_or offsets k d) d h)
+  some_text : All (λ (t : List ℕ). 0 < length t) (sorted_in r)
+  some_text = All-map (λ (t : List ℕ). 0 < length t) (text_in r.section.now) r.texts.items (λ k d h.
+      let u = ranked.longest.used k d h in
+      omega (arith, used_length r.section.now used.slots (get_or r.texts.items k d) u, u.some))
 
-  are : AreLongest xs (map (text_in section) texts)
-  are = longest_are section slots offsets texts longest marked all_inside
+  order : AreInTailOrder (kept (sorted_in r)) (sorted_in r)
+  order = in_tail_order (sorted_in r) ranked.ranked.in_order some_text
 
-  some_text : All (λ (t : List ℕ). 0 < length t) (map (text_in section) texts)
-  some_text = All-map (λ (t : List ℕ). 0 < length t) (text_in section) texts (λ k d h. let u = longest.used k d h in omega (arith, used_length section slots (get_or texts k d) u, u.some))
-
-  order : AreInTailOrder (kept (map (text_in section) texts)) sorted
-  order = in_tail_order (map (text_in section) texts) sorted (IsPermutation-map (text_in section) texts ordered perm) up some_text
-
-  pub is_found : (off : ℕ) → Contains offsets off → HasHost section slots sorted xs in_hosts off
+  pub is_found : (off : ℕ) → Contains used.offsets off → HasHost r.section.now used.slots (sorted_in r) (names_in r used) in_hosts off
   is_found off c = record {
     inside = inside off c;
     used = marked.marked off c;
@@ -67,14 +63,14 @@ module _ (section slots offsets : List ℕ) (texts ordered : List SectionText) (
           numbered = h.numbered;
           inside = h.inside;
           last = h.last;
-          is_host = longest_have_host xs (map (text_in section) texts) are (text_from section off) ∙ h.host (kept (map (text_in section) texts)) order;
+          is_host = longest_have_host (names_in r used) (sorted_in r) are (text_from r.section.now off) ∙ h.host (kept (sorted_in r)) order;
           before = h.before;
           long = h.long;
         };
   }
 
-  pub all_found : All (HasHost section slots sorted xs in_hosts) offsets
-  all_found k d h = is_found (get_or offsets k d) (k, h, get_or_default offsets k (get_or offsets k d) d h)
+  pub all_found : HaveTheirHosts used r in_hosts
+  all_found k d h = is_found (get_or used.offsets k d) (k, h, get_or_default used.offsets k (get_or used.offsets k d) d h)
 
 -- the offset of a name, at the end of its host
 place_at_host : (ks : List (List ℕ)) (x h : List ℕ) (n b : ℕ) → 0 < length x → host_in (hosts_of ks) x ≡ h → n ≡ place_in (hosts_of ks) h → b + length x ≡ length h → n + b ≡ shared_among ks x
@@ -137,14 +133,9 @@ module _ (section slots offsets by_rank : List ℕ) (sorted : List (List ℕ)) (
   ]
 
 -- all of it together
-module _ (section by_rank : List ℕ) (used : Used) (texts ordered : List SectionText) (in_hosts : List InHost) (spans : List Span) (len : ℕ) (marked : AreMarked used.offsets used.slots) (long : length used.slots ≡ length section)
-    (longest : AreLongestOf section used.slots texts) (perm : IsPermutation texts ordered) (up : IsSorted tail_cmp (map (text_in section) ordered)) (hosts_are : AreInHosts section used.slots (map (text_in section) ordered) in_hosts)
-    (host_places : AreHostPlaces section (map (text_in section) ordered) (map (text_from section) used.offsets) by_rank spans len) where
-  abbrev in_order : List (List ℕ)
-  in_order = map (text_in section) ordered
-
-  at : (off : ℕ) → Contains used.offsets off → HasHost section used.slots in_order (map (text_from section) used.offsets) in_hosts off
-  at off c = is_found section used.slots used.offsets texts ordered in_hosts marked long longest perm up hosts_are off c
+module _ {A : Type 0} (used : Used) (r : RankedTexts A) (in_hosts : List InHost) (marked : AreMarked used.offsets used.slots) (ranked : IsRankedFor used r) (hosts_are : FindsHosts used r in_hosts) (h : HostPlaces A) (host_places : ArePlacesOf used r h) where
+  at : (off : ℕ) → Contains used.offsets off → HasHost r.section.now used.slots (sorted_in r) (names_in r used) in_hosts off
+  at off c = is_found used r in_hosts marked ranked hosts_are off c
 
   -- each number is that of a name
   each_number : (P : InHost → Type 0) → ((off : ℕ) → Contains used.offsets off → P (host_at used.slots in_hosts off)) → All P in_hosts
@@ -152,20 +143,22 @@ module _ (section by_rank : List ℕ) (used : Used) (texts ordered : List Sectio
       let u = used_at used.slots (length used.slots) k (omega (arith, h, hosts_are.whole)) in
       subst P (sym (get_or_default in_hosts k d no_host h ∙ ap (λ (j : ℕ). get_or in_hosts j no_host) (sym u.3))) (is u.0 (marked.only u.0 u.2))
 
-  pub all_ranked : All (λ (i : InHost). i.host < length by_rank) in_hosts
-  all_ranked = each_number (λ (i : InHost). i.host < length by_rank) (λ off c. host_ranked section used.slots used.offsets by_rank in_order in_hosts spans len host_places off c (at off c))
+  pub all_ranked : All (λ (i : InHost). i.host < length h.by_rank.items) in_hosts
+  all_ranked = each_number (λ (i : InHost). i.host < length h.by_rank.items) (λ off c.
+      host_ranked r.section.now used.slots used.offsets h.by_rank.items (sorted_in r) in_hosts h.spans.items h.len host_places off c (at off c))
 
-  pub all_fit : length (shared_table (map (text_from section) used.offsets)) < 2 ^ 32 → All (λ (i : InHost). name_place by_rank i < 2 ^ 32) in_hosts
-  all_fit room = each_number (λ (i : InHost). name_place by_rank i < 2 ^ 32) (λ off c. place_fits section used.slots used.offsets by_rank in_order in_hosts spans len host_places off c (at off c) room)
+  pub all_fit : length (shared_table (names_in r used)) < 2 ^ 32 → All (λ (i : InHost). name_place h.by_rank.items i < 2 ^ 32) in_hosts
+  all_fit room = each_number (λ (i : InHost). name_place h.by_rank.items i < 2 ^ 32) (λ off c.
+      place_fits r.section.now used.slots used.offsets h.by_rank.items (sorted_in r) in_hosts h.spans.items h.len host_places off c (at off c) room)
 
-  pub all_placed : ArePlaced section used (map (name_place by_rank) in_hosts) spans len
+  pub all_placed : ArePlaced r.section.now used (map (name_place h.by_rank.items) in_hosts) h.spans.items h.len
   all_placed = record {
     marked = marked.marked;
-    numbers = length-map in_hosts (name_place by_rank) ∙ hosts_are.whole;
+    numbers = length-map in_hosts (name_place h.by_rank.items) ∙ hosts_are.whole;
     place = λ off c.
         let inside : offset_number used.slots off < length in_hosts = omega (arith, number_inside used.slots off (marked.marked off c), hosts_are.whole) in
-        get_or-map (name_place by_rank) in_hosts (offset_number used.slots off) no_host 0 inside
-        ∙ place_found section used.slots used.offsets by_rank in_order in_hosts spans len host_places off c (at off c);
+        get_or-map (name_place h.by_rank.items) in_hosts (offset_number used.slots off) no_host 0 inside
+        ∙ place_found r.section.now used.slots used.offsets h.by_rank.items (sorted_in r) in_hosts h.spans.items h.len host_places off c (at off c);
     are_spans = host_places.are_spans;
     texts = host_places.texts;
     whole = host_places.whole;

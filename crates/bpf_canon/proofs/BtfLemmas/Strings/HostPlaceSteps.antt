@@ -1,5 +1,5 @@
 -- Steps of the loop that assigns offsets to hosts in the order of first use.
-use Rattle.std.proofs.Common.{◌≡◌, ◌≢◌, ℕ, ◌+◌, ◌<◌, ◌≤◌, true, false, not, inl, inr, List, [], ◌∷◌, ◌++◌, length, map, get_or, set, take, drop, sym, ap, ◌∙◌, subst, arith, take-append-drop}
+use Rattle.std.proofs.Common.{◌≡◌, ◌≢◌, ℕ, ◌+◌, ◌<◌, ◌≤◌, true, false, not, inl, inr, List, [], ◌∷◌, ◌++◌, length, map, get_or, set, take, drop, refl, sym, ap, ◌∙◌, subst, arith, take-append-drop}
 use Rattle.std.specs.List.{flat_map, list_any, All, Sorted.IsSorted}
 use Rattle.std.proofs.lemmas.{Bool.both_ways, Bool.cases_Bool, Bool.cases_eq, Bool.cases_lt, Bool.false_from_ne_true, List.Concat.flat_map-append}
 use Rattle.std.proofs.lemmas.List.{append-nil, map-append, length-set, get_or-set_same, get_or-set_other, get_or_default, map_more, nil_from_length, get_or_read}
@@ -9,12 +9,13 @@ use Rattle.btf_types.specs.strings.SharedNames.{is_suffix, is_proper_suffix, tai
 use Rattle.btf_types.proofs.Members.{Has, Has-from_Contains}
 use Rattle.btf_types.proofs.StringLemmas.Suffixes.{Ends, Ends-refl, Ends-same_length, suffix_from_Ends}
 use Rattle.btf_types.proofs.StringLemmas.{Hosts.host_is, Hosts.own_host_of, Hosts.host_differs, CommonTails.ranks_are_together, Longest.Has-kept_some}
-use Rattle.bpf_canon.specs.btf.strings.{InHost.host_at, InHost.no_host, UsedOffsets.offset_number, SectionTexts.text_in}
-use Rattle.bpf_canon.specs.declared.btf.strings.{section_texts.SectionText.SectionText, hosts_by_rank.InHost.InHost, host_places.Span.Span}
-use Rattle.bpf_canon.specs.btf.strings.HostPlaces.{span_bytes, IsSpan, HasText, IsAtHost, HasHost, AreHostPlaces}
-use Rattle.bpf_canon.proofs.BtfLemmas.Names.KeptSteps.{place_stays, place_last, length-table_push}
+use Rattle.bpf_canon.specs.btf.strings.InHost.{host_at, no_host, sorted_in, IsRankedFor}
+use Rattle.bpf_canon.specs.btf.strings.UsedOffsets.{Used, offset_number, number_of}
+use Rattle.bpf_canon.specs.declared.btf.strings.{hosts_by_rank.InHost.InHost, host_places.Span.Span, ranked_texts.RankedTexts.RankedTexts}
+use Rattle.bpf_canon.specs.btf.strings.HostPlaces.{span_bytes, IsSpan, HasText, IsAtHost, HasHost, AreHostPlaces, names_in, HaveTheirHosts}
+use Rattle.bpf_canon.proofs.BtfLemmas.Names.{KeptSteps.place_stays, KeptSteps.place_last, KeptSteps.length-table_push, Gathering.Has-front, Gathering.Has-back}
 use Rattle.bpf_canon.proofs.BtfLemmas.Strings.{FoundHosts.empty_at_nul, FoundHosts.text_some, FoundHosts.in_map, TableSpans.span_of}
-use Rattle.bpf_canon.proofs.BtfLemmas.Strings.PlacedHosts.{is_own, host_places, laid_empty, laid_other, laid_known, laid_new, laid_fits, has_push, has_more, has_last}
+use Rattle.bpf_canon.proofs.BtfLemmas.Strings.PlacedHosts.{is_own, host_places, laid_empty, laid_other, laid_known, laid_new, laid_fits, has_push}
 
 -- a rank whose string isn't a suffix of the next one
 pub record IsLast (sorted : List (List ℕ)) (r : ℕ) : Type 0 where
@@ -73,8 +74,8 @@ lays_one section sorted out by_rank spans new len r s to up at empty more text =
             ]
       ];
       there = λ k a z. elim (cases_eq k r) [
-        | inl e ↦ subst (λ (m : ℕ). Has (out ++ x ∷ []) (at_rank sorted m)) (sym e) (has_last out x)
-        | inr n ↦ has_more out x (at_rank sorted k) (to.there k a (λ q. z (other (k + 1) (λ e. n (omega (arith, e))) ∙ q)))
+        | inl e ↦ subst (λ (m : ℕ). Has (out ++ x ∷ []) (at_rank sorted m)) (sym e) (Has-back out (x ∷ []) x (inl refl))
+        | inr n ↦ Has-front out (x ∷ []) (at_rank sorted k) (to.there k a (λ q. z (other (k + 1) (λ e. n (omega (arith, e))) ∙ q)))
       ];
       place = λ k a z. elim (cases_eq k r) [
         | inl e ↦
@@ -131,6 +132,12 @@ module _ (sorted xs : List (List ℕ)) (x : List ℕ) (h : InHost) (a : IsAtHost
 
   pub host_there : Has (hosts xs) (at_rank sorted a.rank)
   host_there = subst (Has (hosts xs)) a.is_host (host_is (kept xs) x in_kept).host
+
+-- the table with the string of a host that wasn't present, and the offsets then
+pub record LaysText (section : List ℕ) (sorted out : List (List ℕ)) (by_rank : List ℕ) (spans : List Span) (host len v : ℕ) (s : Span) : Type 0 where
+  pub span : IsSpan section s
+  pub whole : len + (v + 1) ≡ length (table_of out)
+  pub laid_out : (new : List Span) → HasText section spans new s → LaidTo section sorted out (set by_rank host len) new (len + (v + 1))
 
 -- the step of one offset, whose number is n
 module _ (section slots offsets : List ℕ) (sorted : List (List ℕ)) (in_hosts : List InHost) (k n : ℕ) (inside : k < length offsets) (n_is : n ≡ offset_number slots (get_or offsets k 0))
@@ -193,14 +200,8 @@ module _ (section slots offsets : List ℕ) (sorted : List (List ℕ)) (in_hosts
       let there : Has (host_places names (taken k)) (at_rank sorted a.rank) = to.there a.rank (host_last sorted names own here a has (some_here h)) (λ z. p (ap (λ (j : ℕ). get_or by_rank j 0) a.numbered ∙ z)) in
       sym (more ∙ laid_known names (taken k) own (subst (Has (host_places names (taken k))) (own_text sorted names own here a has (some_here h) b) there))
 
-  -- the table with the string of a host that wasn't present, and the offsets then
-  pub record LaysText (by_rank : List ℕ) (spans : List Span) (len v : ℕ) (s : Span) : Type 0 where
-    pub span : IsSpan section s
-    pub whole : len + (v + 1) ≡ length (table_of (host_places names (taken (k + 1))))
-    pub laid_out : (new : List Span) → HasText section spans new s → LaidTo section sorted (host_places names (taken (k + 1))) (set by_rank here.host len) new (len + (v + 1))
-
   lays : (by_rank : List ℕ) (spans : List Span) (len v : ℕ) (s : Span) → LaidTo section sorted (host_places names (taken k)) by_rank spans len → IsSorted tail_cmp sorted → here.host ≢ 0 → here.before ≡ 0 → get_or by_rank here.host 0 ≡ 0
-      → IsSpan section s → span_bytes section s ≡ with_nul own → v ≡ length own → LaysText by_rank spans len v s
+      → IsSpan section s → span_bytes section s ≡ with_nul own → v ≡ length own → LaysText section sorted (host_places names (taken (k + 1))) by_rank spans here.host len v s
   lays by_rank spans len v s to up h b p span bytes v_is =
       let a = at_here h in
       let at = host_last sorted names own here a has (some_here h) in
@@ -221,19 +222,27 @@ module _ (section slots offsets : List ℕ) (sorted : List (List ℕ)) (in_hosts
             (subst (λ (l : List (List ℕ)). LaidTo section sorted l (set by_rank (a.rank + 1) len) new (len + (length (at_rank sorted a.rank) + 1))) out laid_one));
       }
 
--- the same from what was read: whether the host is placed
-pub lays_read : (section slots offsets : List ℕ) (ts : List SectionText) (in_hosts : List InHost) (k n : ℕ) (inside : k < length offsets) (n_is : n ≡ offset_number slots (get_or offsets k 0)) (all : All (HasHost section slots (map (text_in section) ts) (map (text_from section) offsets) in_hosts) offsets)
-    → (by_rank : List ℕ) (spans : List Span) (len there : ℕ) → LaidTo section (map (text_in section) ts) (host_places (map (text_from section) offsets) (map (text_from section) (take k offsets))) by_rank spans len → IsSorted tail_cmp (map (text_in section) ts) → HasNulEnds section
+-- the hosts among the first k used names
+abbrev pub placed_to : {A : Type 0} → RankedTexts A → Used → ℕ → List (List ℕ)
+placed_to r used k = host_places (names_in r used) (map (text_from r.section.now) (take k used.offsets))
+
+-- the same from what was read: the offsets, the number of one, and whether its host is placed
+pub lays_read : {A : Type 0} (used : Used) (r : RankedTexts A) (in_hosts : List InHost) (offsets : List ℕ) (k n : ℕ) → offsets ≡ used.offsets → k < length offsets → n ≡ number_of used (get_or offsets k 0) → HaveTheirHosts used r in_hosts
+    → (by_rank : List ℕ) (spans : List Span) (len there : ℕ) → LaidTo r.section.now (sorted_in r) (placed_to r used k) by_rank spans len → IsRankedFor used r → HasNulEnds r.section.now
     → (get_or in_hosts n no_host).host ≢ 0 → (get_or in_hosts n no_host).before ≡ 0 → there ≡ get_or by_rank (get_or in_hosts n no_host).host there → there ≡ 0
-    → LaysText section slots offsets (map (text_in section) ts) in_hosts k n inside n_is all by_rank spans len (get_or in_hosts n no_host).len (record { start = get_or offsets k 0; end = get_or offsets k 0 + (get_or in_hosts n no_host).len })
-lays_read section slots offsets ts in_hosts k n inside n_is all by_rank spans len there to up ends h b there_is z =
-    let sorted = map (text_in section) ts in
+    → LaysText r.section.now (sorted_in r) (placed_to r used (k + 1)) by_rank spans (get_or in_hosts n no_host).host len (get_or in_hosts n no_host).len (record { start = get_or offsets k 0; end = get_or offsets k 0 + (get_or in_hosts n no_host).len })
+lays_read used r in_hosts offsets k n same inside n_is all by_rank spans len there to ranked ends h b there_is z =
+    let section = r.section.now in
+    let sorted = sorted_in r in
     let here = get_or in_hosts n no_host in
-    let off = get_or offsets k 0 in
-    let below : here.host < length by_rank = placed_inside section slots offsets sorted in_hosts k n inside n_is all by_rank spans len to in
-    let long : here.len ≡ length (text_from section off) = own_long section slots offsets sorted in_hosts k n inside n_is all h b in
-    let span = span_of section off here.len ends (all k 0 inside).inside long in
-    lays section slots offsets sorted in_hosts k n inside n_is all by_rank spans len here.len (record { start = off; end = off + here.len }) to up h b (sym (get_or_read by_rank here.host there below there_is 0) ∙ z) span.span span.bytes long
+    let off = get_or used.offsets k 0 in
+    let low : k < length used.offsets = subst (λ (l : List ℕ). k < length l) same inside in
+    let number : n ≡ number_of used off = n_is ∙ ap (λ (l : List ℕ). number_of used (get_or l k 0)) same in
+    let below : here.host < length by_rank = placed_inside section used.slots used.offsets sorted in_hosts k n low number all by_rank spans len to in
+    let long : here.len ≡ length (text_from section off) = own_long section used.slots used.offsets sorted in_hosts k n low number all h b in
+    let span = span_of section off here.len ends (all k 0 low).inside long in
+    subst (λ (l : List ℕ). LaysText section sorted (placed_to r used (k + 1)) by_rank spans here.host len here.len (record { start = get_or l k 0; end = get_or l k 0 + here.len })) (sym same)
+    (lays section used.slots used.offsets sorted in_hosts k n low number all by_rank spans len here.len (record { start = off; end = off + here.len }) to ranked.ranked.in_order h b (sym (get_or_read by_rank here.host there below there_is 0) ∙ z) span.span span.bytes long)
 
 pub laid_room : (section offsets : List ℕ) (j : ℕ) → length (table_of (host_places (map (text_from section) offsets) (map (text_from section) (take j offsets)))) ≤ length (shared_table (map (text_from section) offsets))
 laid_room section offsets j =

@@ -2,7 +2,7 @@
 use Rattle.std.proofs.Common.{◌≡◌, ◌≢◌, ℕ, ◌≤◌, Bool, true, false, not, ◌⊎◌, inl, inr, List, [], ◌∷◌, ◌++◌, length, ap, ◌∙◌, arith, append_assoc}
 use Rattle.std.specs.List.{filter, list_any}
 use Rattle.std.proofs.lemmas.{Bool.cases_Bool, Bool.cond-true, Bool.cond-false, List.append-nil}
-use Rattle.std.proofs.lemmas.List.Elements.{filter-append, Contains-append_left, Contains-push, Contains-push_cases}
+use Rattle.std.proofs.lemmas.List.Elements.{filter-append, Contains-push_cases}
 use Rattle.btf_types.specs.{Names.kept, Names.table_of, strings.SharedNames.is_proper_suffix}
 use Rattle.btf_types.proofs.Members.{Has, Has-from_Contains, Contains-from_Has, Has-filter, Has-from_filter}
 use Rattle.bpf_canon.proofs.BtfLemmas.Names.KeptSteps.{Has_cases, kept_empty, kept_known, kept_new, length-table_push}
@@ -63,9 +63,3 @@ laid_fits xs ys (x ∷ more) =
 -- members of a list that got one more
 pub has_push : (xs : List (List ℕ)) (y x : List ℕ) → Has (xs ++ y ∷ []) x → Has xs x ⊎ (y ≡ x)
 has_push xs y x h = elim (Contains-push_cases xs y x (Contains-from_Has (xs ++ y ∷ []) x h)) [ inl c ↦ inl (Has-from_Contains xs x c) | inr e ↦ inr e ]
-
-pub has_more : (xs : List (List ℕ)) (y x : List ℕ) → Has xs x → Has (xs ++ y ∷ []) x
-has_more xs y x h = Has-from_Contains (xs ++ y ∷ []) x (Contains-append_left xs (y ∷ []) x (Contains-from_Has xs x h))
-
-pub has_last : (xs : List (List ℕ)) (y : List ℕ) → Has (xs ++ y ∷ []) y
-has_last xs y = Has-from_Contains (xs ++ y ∷ []) y (Contains-push xs y)

@@ -1,9 +1,9 @@
 -- Steps of the loops over ranks.
 use Rattle.std.proofs.Common.{◌≡◌, ◌≢◌, ℕ, zero, suc, ◌+◌, ◌-◌, ◌<◌, ◌≤◌, min, inl, inr, List, [], ◌∷◌, length, map, get_or, refl, sym, ap, ◌∙◌, subst, arith, eqb, true, set, ◌++◌}
-use Rattle.std.specs.{Prelude.reverse, List.All, List.Sorted.IsPermutation, List.Sorted.IsSorted}
+use Rattle.std.specs.{Prelude.reverse, List.All, List.Sorted.IsSorted}
 use Rattle.std.proofs.lemmas.Bool.{cond-true, cond-false, eq-eqb, ne_eqb, cases_eq, false_from_ne_true}
 use Rattle.std.proofs.lemmas.List.{get_or-reverse, length-reverse, get_or-map, get_or_push, get_or_append_left, get_or-set_same, get_or-set_other}
-use Rattle.std.proofs.lemmas.List.{Elements.All-contains, Sorted.Contains-permutation, Sorted.IsPermutation-sym}
+use Rattle.std.proofs.lemmas.List.{Elements.All-contains}
 use Rattle.btf_types.specs.{Names.kept, strings.SharedNames.is_suffix, strings.SharedNames.tail_cmp}
 use Rattle.btf_types.proofs.Members.{Has-from_Contains, Contains-from_Has}
 use Rattle.btf_types.proofs.StringLemmas.{Texts.Has-from_kept, Longest.Has-kept_some, CommonTails.suffix_by_tail}
@@ -107,13 +107,11 @@ first_rank_is ms common n r k are inside before f less = record {
 }
 
 -- the sorted strings of a list are in order by their reversed bytes
-pub in_tail_order : (texts ms : List (List ℕ)) → IsPermutation texts ms → IsSorted tail_cmp ms → All (λ t. 0 < length t) texts → AreInTailOrder (kept texts) ms
-in_tail_order texts ms perm up some = record {
+pub in_tail_order : (ms : List (List ℕ)) → IsSorted tail_cmp ms → All (λ t. 0 < length t) ms → AreInTailOrder (kept ms) ms
+in_tail_order ms up some = record {
   members = record {
-    here = λ z c. Contains-permutation texts ms z perm (Contains-from_Has texts z (Has-from_kept texts z (Has-from_Contains (kept texts) z c)));
-    there = λ z c.
-        let has = Has-from_Contains texts z (Contains-permutation ms texts z (IsPermutation-sym texts ms perm) c) in
-        Contains-from_Has (kept texts) z (Has-kept_some texts z has (All-contains (λ t. 0 < length t) texts z some (Contains-from_Has texts z has)));
+    here = λ z c. Contains-from_Has ms z (Has-from_kept ms z (Has-from_Contains (kept ms) z c));
+    there = λ z c. Contains-from_Has (kept ms) z (Has-kept_some ms z (Has-from_Contains ms z c) (All-contains (λ t. 0 < length t) ms z some c));
   };
   in_order = up;
 }

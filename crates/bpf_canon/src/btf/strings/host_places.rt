@@ -1,9 +1,8 @@
 //! The offsets of hosts in the string table, in the order of first use.
 ghost use Rattle.std.specs.Prelude.{◌≡◌, ◌<◌, ◌^◌, length, IfOk, OnOk};
-ghost use Rattle.std.specs.List.Sorted.{IsSorted};
 ghost use Rattle.btf_raw.specs.Header.{HasNulEnds};
-ghost use Rattle.btf_types.specs.strings.SharedNames.{tail_cmp, shared_table};
-ghost use Rattle.bpf_canon.specs.btf.strings.InHost.{sorted_in};
+ghost use Rattle.btf_types.specs.strings.SharedNames.{shared_table};
+ghost use Rattle.bpf_canon.specs.btf.strings.InHost.{IsRankedFor};
 ghost use Rattle.bpf_canon.specs.btf.strings.UsedOffsets.{used_count};
 ghost use Rattle.bpf_canon.specs.btf.strings.HostPlaces as spec;
 
@@ -55,9 +54,8 @@ pub(crate) fn place_hosts<A: Allocator + Copy>(
     in_hosts: &[InHost],
     ranked: &RankedTexts<'_, A>,
 ) -> Result<HostPlaces<A>, AllocError>
-    requires order { IsSorted tail_cmp (sorted_in ranked.now) }
+    requires texts { IsRankedFor uses.now ranked.now }
     requires ends { HasNulEnds ranked.now.section.now }
-    requires few { length ranked.now.section.now < 2 ^ 32 }
     requires whole { length in_hosts.now ≡ used_count uses.now }
     requires in_hosts { spec.HaveTheirHosts uses.now ranked.now in_hosts.now }
     requires room { length (shared_table (spec.names_in ranked.now uses.now)) < 2 ^ 32 }
