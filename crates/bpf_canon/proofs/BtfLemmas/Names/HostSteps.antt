@@ -1,17 +1,17 @@
 -- Kept names in an index set, and the table of the hosts.
-use Rattle.std.proofs.Common.{◌≡◌, ◌≢◌, ℕ, zero, suc, ◌+◌, ◌<◌, ◌≤◌, Bool, true, false, not, ◌||◌, inl, inr, List, [], ◌∷◌, ◌++◌, length, get_or, take, drop, refl, sym, ap, ◌∙◌, subst, arith, Bor, Option, Some, is_some, IsSome, position, eqb}
+use Rattle.std.proofs.Common.{◌≡◌, ◌≢◌, ℕ, ◌+◌, ◌<◌, ◌≤◌, Bool, true, false, not, ◌||◌, inl, inr, List, [], ◌∷◌, ◌++◌, length, get_or, take, drop, refl, sym, ap, ◌∙◌, subst, arith, Bor, Option, Some, is_some, IsSome, position, eqb}
 use Rattle.std.specs.{List.filter, List.list_any, List.Contains, List.flat_map, Str.bytes_eq}
 use Rattle.std.proofs.lemmas.Bool.{cases_Bool, cond-true, cond-false, eqb-false, false_from_ne_true}
 use Rattle.std.proofs.lemmas.List.{map-append, length-append, append-nil, take-append-drop, Concat.flat_map-append, Quantifiers.position-Some}
 use Rattle.std.proofs.lemmas.List.Elements.{filter-append, filter_more}
 use Rattle.indexmap.specs.IndexSet.{insert_key}
-use Rattle.btf_types.specs.Names.{distinct, is_other, is_some_text, kept, with_nul, table_of}
+use Rattle.btf_types.specs.Names.{distinct, is_other, kept, with_nul, table_of}
 use Rattle.btf_types.specs.strings.SharedNames.{is_proper_suffix, hosts_of, host_in}
 use Rattle.bpf_canon.specs.btf.names.Interned.{lent_texts, AddsName}
-use Rattle.btf_types.proofs.Members.{Has, Has-from_filter, Has-from_Contains}
+use Rattle.btf_types.proofs.Members.{Has, Has-from_Contains}
 use Rattle.btf_types.proofs.StringLemmas.{Texts.same_text, Texts.bytes_eq-same, Hosts.own_host_of, Hosts.host_differs}
-use Rattle.btf_types.proofs.StringLemmas.Distinct.{NoRepeats, NoRepeats-filter, NoRepeats-kept}
-use Rattle.bpf_canon.proofs.BtfLemmas.Names.KeptSteps.{Has_from_test, test_from_Has, Has_cases, kept_known, kept_new, length-table_push}
+use Rattle.btf_types.proofs.StringLemmas.Distinct.{NoRepeats, NoRepeats-kept}
+use Rattle.bpf_canon.proofs.BtfLemmas.Names.KeptSteps.{Has_from_test, test_from_Has, Has_cases, kept_known, kept_new}
 use Rattle.bpf_canon.proofs.BtfLemmas.Names.{PlaceSteps.text_eq, HostSearch.text_at}
 
 -- whether a set of borrowed strings contains a string
@@ -75,12 +75,6 @@ distinct_same (x ∷ xs) (n, ns) = ap (λ (l : List (List ℕ)). x ∷ l) (
     ap (filter (is_other x)) (distinct_same xs ns)
     ∙ filter_all (is_other x) xs (λ y h. ap not (false_from_ne_true (bytes_eq x y) (λ t. n (subst (Has xs) (sym (same_text x y t)) h)))))
 
--- a part of the kept names is its own kept list
-pub kept_part : (ks part : List (List ℕ)) → kept ks ≡ ks → NoRepeats part → ((x : List ℕ) → Has part x → Has ks x) → kept part ≡ part
-kept_part ks part own n inside =
-    ap (filter is_some_text) (distinct_same part n)
-    ∙ filter_all is_some_text part (λ x h. (Has-from_filter is_some_text (distinct ks) x (subst (λ (l : List (List ℕ)). Has l x) (sym own) (inside x h))).1)
-
 pub kept_apart : (ks : List (List ℕ)) → kept ks ≡ ks → NoRepeats ks
 kept_apart ks own = subst NoRepeats own (NoRepeats-kept ks)
 
@@ -113,19 +107,3 @@ hosts_among_room ks i =
     let whole : hosts_of ks ≡ hosts_among ks i ++ rest = ap (filter (keeps ks)) (sym (take-append-drop i ks)) ∙ filter-append (keeps ks) (take i ks) (drop i ks) in
     let e = ap (λ (l : List (List ℕ)). length (flat_map with_nul l)) whole in
     omega (arith, e, ap (λ (l : List ℕ). length l) (flat_map-append with_nul (hosts_among ks i) rest), length-append (flat_map with_nul (hosts_among ks i)) (flat_map with_nul rest))
-
-pub Has-take : (ks : List (List ℕ)) (i : ℕ) (x : List ℕ) → Has (take i ks) x → Has ks x
-Has-take ks zero x h = absurd h
-Has-take [] (suc i) x h = h
-Has-take (k ∷ ks) (suc i) x (inl e) = inl e
-Has-take (k ∷ ks) (suc i) x (inr h) = inr (Has-take ks i x h)
-
-NoRepeats-take : (ks : List (List ℕ)) (i : ℕ) → NoRepeats ks → NoRepeats (take i ks)
-NoRepeats-take ks zero n = tt
-NoRepeats-take [] (suc i) n = tt
-NoRepeats-take (k ∷ ks) (suc i) (n, ns) = (λ h. n (Has-take ks i k h), NoRepeats-take ks i ns)
-
-pub hosts_among_kept : (ks : List (List ℕ)) (i : ℕ) → kept ks ≡ ks → kept (hosts_among ks i) ≡ hosts_among ks i
-hosts_among_kept ks i own =
-    kept_part ks (hosts_among ks i) own (NoRepeats-filter (keeps ks) (take i ks) (NoRepeats-take ks i (kept_apart ks own)))
-    (λ x h. Has-take ks i x ((Has-from_filter (keeps ks) (take i ks) x h).0))

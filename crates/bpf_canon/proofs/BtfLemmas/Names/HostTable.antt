@@ -3,7 +3,7 @@ use Rattle.std.proofs.Common.{Bor, ◌≡◌, ◌≢◌, ℕ, zero, suc, ◌+◌
 use Rattle.std.specs.{List.filter, List.flat_map, Str.bytes_eq}
 use Rattle.std.proofs.lemmas.List.{Concat.flat_map-append, Elements.filter-append, Sorted.IsPermutation-refl}
 use Rattle.std.proofs.lemmas.Bool.{cases_eq, cases_lt, false_from_ne_true, not-true}
-use Rattle.std.proofs.lemmas.List.{get_or-set_same, get_or-set_other, length-set, take-append-drop, take_all, get_or_read, get_or_default}
+use Rattle.std.proofs.lemmas.List.{get_or-set_same, get_or-set_other, length-set, take-append-drop, take_all, get_or_read}
 use Rattle.btf_types.specs.Names.{with_nul, table_of, place_in}
 use Rattle.btf_types.specs.strings.SharedNames.{hosts_of, host_in, shared_among}
 use Rattle.btf_types.proofs.Members.{Has, Has-get_or, Has-from_filter}
@@ -159,12 +159,3 @@ reads_place ks names hosts places table_len i h n x d none same apart are low is
       fits = omega (arith, long, place, p.fits, are.are_placed.long, are.room);
       place = ap (λ (m : ℕ). m + (length ((get_or names h d).now) - length x)) place ∙ ap (λ (m : ℕ). get_or places (get_or hosts i 0) 0 + (m - length x)) long ∙ p.place;
     }
-
--- before the offset of the host is read
-pub reads_shorter : (ks : List (List ℕ)) (names : List (Bor (List ℕ))) (hosts places : List ℕ) (table_len i h : ℕ) (x : List ℕ) (d : Bor (List ℕ)) → d.now ≡ [] → lent_texts names ≡ ks → NoRepeats ks → AreShared ks hosts places table_len
-    → i < length ks → name_at ks i ≡ x → 0 < length x → h ≡ get_or hosts i h → length x ≤ length ((get_or names h d).now)
-reads_shorter ks names hosts places table_len i h x d none same apart are low is some h_is =
-    let p = has_place ks hosts places table_len apart are x i low is some in
-    let host : h ≡ get_or hosts i 0 = get_or_read hosts i h (omega (arith, low, are.have_hosts.whole)) h_is 0 in
-    let there : get_or places h 0 ≡ get_or places h (get_or places h 0) = get_or_default places h 0 (get_or places h 0) (omega (arith, host, p.inside, are.are_placed.whole)) in
-    (reads_place ks names hosts places table_len i h (get_or places h 0) x d none same apart are low is some h_is there).shorter

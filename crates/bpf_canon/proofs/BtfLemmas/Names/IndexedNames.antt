@@ -1,8 +1,7 @@
 -- Names with their indices, before and after they are sorted.
-use Rattle.std.proofs.Common.{◌≡◌, ℕ, ◌+◌, ◌<◌, inl, inr, List, [], ◌∷◌, ◌++◌, length, map, get_or, refl, sym, ap, ◌∙◌, subst, arith, Bor}
+use Rattle.std.proofs.Common.{◌≡◌, ℕ, ◌+◌, ◌<◌, List, [], length, map, get_or, sym, ap, ◌∙◌, subst, arith, Bor}
 use Rattle.std.specs.List.{Contains, Sorted.IsPermutation, Sorted.IsSorted, Sorted.IsSortedBy}
-use Rattle.std.proofs.lemmas.{Bool.cases_eq, List.length-append, List.length-map, List.get_or-map, List.get_or_default, List.same_lists}
-use Rattle.std.proofs.Math.{Seq.get_or-append_seam, ListN.get_or-append}
+use Rattle.std.proofs.lemmas.{List.length-map, List.get_or-map, List.get_or_default, List.same_lists}
 use Rattle.std.proofs.lemmas.List.Sorted.{All-permutation, Contains-permutation, IsPermutation-map}
 use Rattle.btf_types.specs.strings.SharedNames.{tail_cmp}
 use Rattle.btf_types.proofs.StringLemmas.Hosts.{tail_lt}

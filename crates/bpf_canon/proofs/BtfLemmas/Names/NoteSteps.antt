@@ -1,10 +1,9 @@
 -- The names of one item and of one record more.
-use Rattle.std.proofs.Common.{◌≡◌, ℕ, suc, ◌+◌, ◌<◌, true, List, [], ◌∷◌, ◌++◌, inl, inr, length, take, get_or, sym, ap, ◌∙◌, append-nil, arith}
-use Rattle.std.proofs.lemmas.List.{map-append, Elements.All-nil, Elements.All-cons, Concat.flat_map-append}
+use Rattle.std.proofs.Common.{◌≡◌, ℕ, suc, ◌+◌, ◌<◌, List, [], ◌∷◌, ◌++◌, inl, inr, length, take, get_or, sym, ap, ◌∙◌, append-nil, arith}
+use Rattle.std.proofs.lemmas.List.{map_more, Elements.All-nil, Elements.All-cons, Concat.flat_map-append}
 use Rattle.std.specs.Prelude.{if◌then◌else◌}
 use Rattle.std.specs.List.{All}
 use Rattle.btf_types.proofs.{TabulateSteps.All-tabulate, TableLemmas.TextSteps.decided}
-use Rattle.std.proofs.Math.Seq.{take-suc}
 use Rattle.bpf_words.specs.declared.Order.{Order}
 use Rattle.btf_raw.specs.{Frames.name_word, Frames.kind, Frames.vlen, Kinds.has_item_names}
 use Rattle.btf_raw.proofs.Texts.{TextAt-inside}
@@ -22,16 +21,12 @@ item_noted offs f k =
 pub record_noted : (o : Order) (types places : List ℕ) (i : ℕ) → i < length places
     → noted_all (noted_all [] (all_offsets (frames_at o types (take i places)))) (name_offsets (frame_at o types (get_or places i 0))) ≡ noted_all [] (all_offsets (frames_at o types (take (i + 1) places)))
 record_noted o types places i low =
-    let pos = get_or places i 0 in
-    let next : i + 1 ≡ suc i = omega arith in
     let front = frames_at o types (take i places) in
-    let more : take (i + 1) places ≡ take i places ++ pos ∷ [] = rw next (take-suc places i 0 low) in
-    let all : all_offsets (frames_at o types (take (i + 1) places)) ≡ all_offsets front ++ name_offsets (frame_at o types pos) =
-    ap (λ (ps : List ℕ). all_offsets (frames_at o types ps)) more
-    ∙ ap all_offsets (map-append (frame_at o types) (take i places) (pos ∷ []))
-    ∙ flat_map-append name_offsets front (frame_at o types pos ∷ [])
-    ∙ ap (λ (t : List ℕ). all_offsets front ++ t) (append-nil (name_offsets (frame_at o types pos))) in
-    sym (ap (noted_all []) all ∙ noted_all-append [] (all_offsets front) (name_offsets (frame_at o types pos)))
+    let frame = frame_at o types (get_or places i 0) in
+    let all : all_offsets (frames_at o types (take (i + 1) places)) ≡ all_offsets front ++ name_offsets frame =
+    ap all_offsets (map_more (frame_at o types) places i 0 low) ∙ flat_map-append name_offsets front (frame ∷ [])
+    ∙ ap (λ (t : List ℕ). all_offsets front ++ t) (append-nil (name_offsets frame)) in
+    sym (ap (noted_all []) all ∙ noted_all-append [] (all_offsets front) (name_offsets frame))
 
 -- the names of a record are inside the strings
 pub names_inside : (strings f : List ℕ) → ReadsRecord strings f → All (IsBelow (length strings)) (name_offsets f)

@@ -124,8 +124,7 @@ impl<'a, A: Allocator + Copy> SharedNames<'a, A> {
             return 0;
         }
         let host = self.hosts[self.kept.index_of(name)];
-        let before = self.kept.as_slice()[host].len() - name.len();
-        self.places[host] + before as u32
+        self.places[host] + (self.kept.as_slice()[host].len() - name.len()) as u32
     }
 
     /// Appends the string table: NUL, then each host with its NUL.

@@ -1,16 +1,12 @@
-use Rattle.std.proofs.Common.{◌≡◌, ℕ, ◌<◌, List, [], ◌∷◌, ◌++◌, length, get_or, sym, ap, ◌∙◌, subst, arith, Bor}
+use Rattle.std.proofs.Common.{◌≡◌, ℕ, ◌<◌, List, [], ◌∷◌, ◌++◌, length, get_or, sym, ap, ◌∙◌, subst, arith}
 use Rattle.std.proofs.lemmas.List.{get_or_read}
 use Rattle.btf_types.specs.Names.{kept, table_of}
 use Rattle.bpf_canon.specs.btf.names.Interned.{lent_texts, HaveHosts}
-use Rattle.bpf_canon.proofs.BtfLemmas.Names.HostSearch.{text_at, texts_length}
+use Rattle.bpf_canon.proofs.BtfLemmas.Names.HostSearch.{no_name, text_at, texts_length}
 use Rattle.bpf_canon.proofs.BtfLemmas.Names.HostSteps.{kept_apart, hosts_among, hosts_among_more, hosts_among_same}
 use Rattle.bpf_canon.proofs.BtfLemmas.Names.HostTable.{keeps_own, keeps_other, table_more}
 use Rattle.bpf_canon.proofs.btf.names.shared.SharedNames.push_table.Goals as goal
 use Rattle.bpf_canon.proofs.btf.names.shared.SharedNames.push_table.Goals.{then-index+in_ok-extend_from_slice+in_ok-push-2, else-index}
-
--- what an index past the end would give
-abbrev nothing : Bor (List ℕ)
-nothing = record { ref_ptr = (0, 0); now = [] }
 
 pub loop-index-preserved : goal.loop-index-preserved
 loop-index-preserved g c =
@@ -29,7 +25,7 @@ loop-index-preserved g c =
       | then-index+in_ok-extend_from_slice+in_ok-push-2 w ↦
           let own : get_or hosts k 0 ≡ k = sym host ∙ w.if-index.true in
           ap (λ v. v.items) w.out-is ∙ w.in_ok-push-2.ensures.items
-          ∙ ap (λ (l : List ℕ). l ++ 0 ∷ []) (w.in_ok-extend_from_slice.ensures.items ∙ ap (λ (t : List ℕ). c.loop-index.out.items ++ t) (w.as_bytes.ensures.value ∙ sym (text_at names k nothing low)))
+          ∙ ap (λ (l : List ℕ). l ++ 0 ∷ []) (w.in_ok-extend_from_slice.ensures.items ∙ ap (λ (t : List ℕ). c.loop-index.out.items ++ t) (w.as_bytes.ensures.value ∙ sym (text_at names k no_name low)))
           ∙ table_more c.loop-index.out.items old (hosts_among ks k) (get_or ks k []) c.loop-index.invariant
           ∙ ap (λ (l : List (List ℕ)). old ++ table_of l) (sym (hosts_among_more ks k [] in_ks (keeps_own ks hosts apart have k in_ks own)))
       | else-index w ↦
