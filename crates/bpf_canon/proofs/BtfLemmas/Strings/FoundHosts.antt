@@ -3,13 +3,10 @@ use Rattle.std.proofs.Common.{◌≡◌, ◌≢◌, ℕ, zero, suc, ◌<◌, tru
 use Rattle.std.specs.List.{All, Contains}
 use Rattle.std.proofs.{lemmas.List.get_or-map, lemmas.List.length-map, lemmas.List.get_or_default, Math.Seq.drop-cons}
 use Rattle.btf_types.specs.{strings.SharedNames.is_suffix, strings.LongestTexts.AreLongest, Reading.before_nul, Reading.text_from}
-use Rattle.bpf_canon.specs.btf.strings.{SectionTexts.text_in, FirstUses.AreMarked, Longest.IsUsed, Longest.AreLongestOf}
+use Rattle.bpf_canon.specs.btf.strings.{SectionTexts.text_in, InHost.no_text, FirstUses.AreMarked, Longest.IsUsed, Longest.AreLongestOf}
 use Rattle.bpf_canon.specs.declared.btf.strings.section_texts.SectionText.{SectionText}
 use Rattle.btf_types.proofs.StringLemmas.Suffixes.{suffix_from_Ends}
 use Rattle.bpf_canon.proofs.BtfLemmas.Strings.LongestSteps.{used_text, within_ends}
-
-abbrev none : SectionText
-none = record { key = 0; before = 0; start = 0; end = 0 }
 
 -- members of a list that is mapped
 pub in_map : {X : Type 0} (f : X → List ℕ) (xs : List X) (x : X) → Contains xs x → Contains (map f xs) (f x)
@@ -37,7 +34,7 @@ text_some section off inside b z =
 pub longest_are : (section slots offsets : List ℕ) (ts : List SectionText) → AreLongestOf section slots ts → AreMarked offsets slots → All (λ off. off < length section) offsets → AreLongest (map (text_from section) offsets) (map (text_in section) ts)
 longest_are section slots offsets ts are are_used inside = record {
   among = λ z c.
-      let t = from_map none (text_in section) ts z c in
+      let t = from_map no_text (text_in section) ts z c in
       let used = subst (IsUsed section slots) t.1.2 (are.used t.1.0 t.0 t.1.1) in
       subst (Contains (map (text_from section) offsets)) (sym (used_text section slots t.0 used) ∙ t.2) (in_map (text_from section) offsets t.0.start (are_used.only t.0.start used.slot));
   each = λ x c some.

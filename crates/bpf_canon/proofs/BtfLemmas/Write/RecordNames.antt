@@ -1,8 +1,8 @@
 -- The names of records are the strings at the offsets in their frames.
 use Rattle.std.proofs.Common.{◌≡◌, ℕ, zero, suc, ◌+◌, ◌*◌, ◌<◌, Bool, true, false, List, [], ◌∷◌, ◌++◌, length, map, get_or, refl, sym, ap, ◌∙◌, subst, inl, inr, arith}
 use Rattle.std.specs.Prelude.{slice_index, ◌==◌, if◌then◌else◌}
-use Rattle.std.specs.List.{All, AllZip, Contains, filter}
-use Rattle.std.proofs.lemmas.List.{map-append, Elements.All-nil, Elements.All-cons, Elements.All-head, Elements.All-tail, Elements.filter-append}
+use Rattle.std.specs.List.{All, AllZip, filter}
+use Rattle.std.proofs.lemmas.List.{map-append, Elements.All-head, Elements.All-tail, Elements.filter-append}
 use Rattle.bpf_words.specs.declared.Order.{Order}
 use Rattle.btf_raw.specs.{Header.HasNulEnds, Kinds.item_words, Kinds.has_item_names}
 use Rattle.btf_raw.specs.Frames.{IsFrame, name_word, kind, vlen, flag}
@@ -14,6 +14,7 @@ use Rattle.btf_types.proofs.KindCases.{KindIs, IsStruct, IsUnion, IsEnum, IsFunc
 use Rattle.btf_types.proofs.{FaultlessLemmas.FaultlessWords.known, Lists.length-tabulate, Lists.get_or-tabulate}
 use Rattle.btf_types.proofs.TableLemmas.TextSteps.{text_there, decided}
 use Rattle.bpf_canon.specs.btf.write.NameOffsets.{item_word, name_offsets, all_offsets, HasNamedItems}
+use Rattle.bpf_canon.proofs.BtfLemmas.CanonicalSpells.{All-front, All-back}
 
 -- ---- empty names aren't kept
 
@@ -170,14 +171,6 @@ item_is P f size count k offset each items low is =
     let all = items.all in
     let at : item_word f k ≡ offset = ap (λ (w : ℕ). slice_index f (3 + w * k)) items.words ∙ sym is in
     subst P at (item_offset P f k items.named each (omega arith))
-
-All-front : (P : ℕ → Type 0) (xs ys : List ℕ) → All P (xs ++ ys) → All P xs
-All-front P [] ys all = All-nil P
-All-front P (x ∷ xs) ys all = All-cons P x xs (All-head P x (xs ++ ys) all) (All-front P xs ys (All-tail P x (xs ++ ys) all))
-
-All-back : (P : ℕ → Type 0) (xs ys : List ℕ) → All P (xs ++ ys) → All P ys
-All-back P [] ys all = all
-All-back P (x ∷ xs) ys all = All-back P xs ys (All-tail P x (xs ++ ys) all)
 
 pub record_offsets : (P : ℕ → Type 0) (o : Order) (types places : List ℕ) (i : ℕ) → i < length places → All P (all_offsets (frames_at o types places)) → All P (name_offsets (frame_at o types (get_or places i 0)))
 record_offsets P o types [] i low all = absurd (omega arith)

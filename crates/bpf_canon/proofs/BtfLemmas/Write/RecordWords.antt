@@ -3,14 +3,14 @@ use Rattle.std.proofs.Common.{◌≡◌, ◌≢◌, ◌⊎◌, ℕ, zero, suc, �
 use Rattle.std.specs.Prelude.{slice_index, ◌==◌, ◌||◌, if◌then◌else◌, ⊤}
 use Rattle.std.specs.List.{All, AllZip, concat, flat_map, list_any}
 use Rattle.std.proofs.{lemmas.Bool.cases_eq, lemmas.Bool.ne_eqb, lemmas.Bool.or_left, lemmas.Bool.or_right, Math.Seq.take-suc}
-use Rattle.std.proofs.lemmas.List.{get_or-drop, length-drop, Concat.flat_map-append, Elements.All-head, Elements.All-tail, Folds.list_any-append}
+use Rattle.std.proofs.lemmas.List.{get_or-drop, length-drop, map-append, map_more, Concat.flat_map-append, Elements.All-head, Elements.All-tail, Folds.list_any-append}
 use Rattle.bpf_words.specs.{declared.Order.Order, Words.word32}
 use Rattle.btf_raw.specs.{Header.HasNulEnds, Heads.bit, Kinds.item_words, Kinds.kind_of, Kinds.flag_of, Kinds.has_item_names, Kinds.is_struct}
 use Rattle.btf_raw.specs.Frames.{IsFrame, info_word, third_word, name_word, kind, vlen, flag, bytes_of, section_of}
 use Rattle.btf_types.specs.Values.{TypeHead, KStruct, KUnion, TypeItem, Entry, TypeRecord}
 use Rattle.btf_types.specs.{Names.head_name, judge.RecordFaults.BitFieldsAre, Good.has_width, Good.has_bit_fields}
 use Rattle.btf_types.specs.Spelling.{kind_number, head_third, head_tail, FlagSpells, record_vlen, info, ItemSpells, Spells}
-use Rattle.btf_types.specs.Reading.{text_from, head_from, item_from, item_of, item_total, record_of, frame_at, records_at, tabulate}
+use Rattle.btf_types.specs.Reading.{text_from, head_from, item_from, item_of, item_total, record_of, frame_at, frames_at, records_at, tabulate}
 use Rattle.btf_types.proofs.KindCases.{KindIs, IsStruct, IsUnion, IsEnum, IsFuncProto, IsEnum64}
 use Rattle.btf_types.proofs.FaultlessLemmas.{FaultlessRecords.bit_fields_there, FaultlessWords.known, FaultlessWords.room}
 use Rattle.btf_types.proofs.Spelled.{info_parts, InfoParts, kind_below, vlen_below, flag_below}
@@ -284,19 +284,14 @@ pub record_more : (from to : Order) (place : List ℕ → ℕ) (types strings pl
     → section_of to (map (record_words place) (records_at from types strings (take i places))) ++ bytes_of to (record_words place (record_of strings (frame_at from types (get_or places i 0))))
     ≡ section_of to (map (record_words place) (records_at from types strings (take (i + 1) places)))
 record_more from to place types strings places i low =
-    let words : ℕ → List ℕ = λ pos. record_words place (record_of strings (frame_at from types pos)) in
-    let all : (ps : List ℕ) → List (List ℕ) = λ ps. map (record_words place) (records_at from types strings ps) in
-    let pos = get_or places i 0 in
-    let next : i + 1 ≡ suc i = omega arith in
-    let more : take (i + 1) places ≡ take i places ++ pos ∷ [] = rw next (take-suc places i 0 low) in
-    let split : all (take i places ++ pos ∷ []) ≡ all (take i places) ++ words pos ∷ [] = last_record (record_words place) (record_of strings) (frame_at from types) (take i places) pos in
-    sym (ap (λ (ps : List ℕ). section_of to (all ps)) more ∙ ap (section_of to) split
-    ∙ flat_map-append (bytes_of to) (all (take i places)) (words pos ∷ [])
-    ∙ ap (λ (t : List ℕ). section_of to (all (take i places)) ++ t) (append-nil (bytes_of to (words pos))))
-  where
-    last_record : {W X Y Z : Type 0} (f : Y → Z) (g : X → Y) (h : W → X) (ps : List W) (p : W) → map f (map g (map h (ps ++ p ∷ []))) ≡ map f (map g (map h ps)) ++ f (g (h p)) ∷ []
-    last_record f g h [] p = refl
-    last_record f g h (q ∷ ps) p = ap (λ t. f (g (h q)) ∷ t) (last_record f g h ps p)
+    let words : List (List ℕ) → List (List ℕ) = λ frames. map (record_words place) (map (record_of strings) frames) in
+    let before = frames_at from types (take i places) in
+    let frame = frame_at from types (get_or places i 0) in
+    let more : words (before ++ frame ∷ []) ≡ words before ++ record_words place (record_of strings frame) ∷ [] =
+    ap (map (record_words place)) (map-append (record_of strings) before (frame ∷ [])) ∙ map-append (record_words place) (map (record_of strings) before) (record_of strings frame ∷ []) in
+    sym (ap (λ (frames : List (List ℕ)). section_of to (words frames)) (map_more (frame_at from types) places i 0 low) ∙ ap (section_of to) more
+    ∙ flat_map-append (bytes_of to) (words before) (record_words place (record_of strings frame) ∷ [])
+    ∙ ap (λ (t : List ℕ). section_of to (words before) ++ t) (append-nil (bytes_of to (record_words place (record_of strings frame)))))
 
 -- ---- capacity
 
@@ -309,11 +304,8 @@ two_or_three_words IsFuncProto has = inl refl
 two_or_three_words IsEnum64 has = inr refl
 two_or_three_words other has = absurd cc
 
-pub two_or_three : (f : List ℕ) → IsFrame f → has_item_names (kind f) ≡ true → (item_words (kind f) ≡ 2) ⊎ (item_words (kind f) ≡ 3)
-two_or_three f frame has = two_or_three_words (known f frame) has
-
 pub item_size : (f : List ℕ) (size count : ℕ) → IsFrame f → HasNamedItems f size count → (size ≡ 2) ⊎ (size ≡ 3)
-item_size f size count frame items = elim (two_or_three f frame items.named) [ inl two ↦ inl (sym items.words ∙ two) | inr three ↦ inr (sym items.words ∙ three) ]
+item_size f size count frame items = elim (two_or_three_words (known f frame) items.named) [ inl two ↦ inl (sym items.words ∙ two) | inr three ↦ inr (sym items.words ∙ three) ]
 
 -- items are few and short, so that each begins at a small number
 pub item_begins : (size k : ℕ) → (size ≡ 2) ⊎ (size ≡ 3) → k < 2 ^ 16 → 3 + size * k < 2 ^ 20
@@ -323,7 +315,7 @@ item_begins size k (inr three) low = rw three (omega arith)
 pub item_room : (f : List ℕ) (size count k : ℕ) → IsFrame f → HasNamedItems f size count → k < count → (2 ≤ size) × (3 + size * k + size ≤ length f)
 item_room f size count k frame items low =
     let all = items.all in
-    elim (two_or_three f frame items.named) [
-      | inl two ↦ let is : size ≡ 2 = sym items.words ∙ two in rw is (lit≤ tt, let its = rw two at (room f frame) in omega arith)
-      | inr three ↦ let is : size ≡ 3 = sym items.words ∙ three in rw is (lit≤ tt, let its = rw three at (room f frame) in omega arith)
+    elim (item_size f size count frame items) [
+      | inl two ↦ rw two (lit≤ tt, let its = rw (items.words ∙ two) at (room f frame) in omega arith)
+      | inr three ↦ rw three (lit≤ tt, let its = rw (items.words ∙ three) at (room f frame) in omega arith)
     ]

@@ -1,26 +1,22 @@
 -- What the sections of a table say of the canonical bytes of its records.
-use Rattle.std.proofs.Common.{◌≡◌, ℕ, ◌≤◌, List, [], ◌∷◌, ◌++◌, length, map, refl, sym, ap, ◌∙◌, inl, inr, arith}
+use Rattle.std.proofs.Common.{◌≡◌, ℕ, ◌≤◌, List, [], ◌++◌, length, map, get_or, refl, sym, ap, ◌∙◌, arith}
 use Rattle.std.specs.List.{All, Contains}
-use Rattle.std.proofs.lemmas.List.Elements.{All-nil, All-cons}
+use Rattle.std.proofs.lemmas.List.Elements.{All-from_get_or}
 use Rattle.bpf_words.specs.declared.Order.{Order}
 use Rattle.btf_raw.specs.{Header.header, Header.TYPES_LIMIT, Header.STRINGS_LIMIT, Frames.section_of}
 use Rattle.btf_types.specs.{Values.TypeRecord, Good.facts, tables.TableInvariant.IsTable}
 use Rattle.btf_types.specs.{Names.names, Names.kept, Names.table_of, Reading.text_from, Reading.frames_at, Reading.records_at}
 use Rattle.btf_types.specs.strings.SharedNames.{hosts_of, shared_among, shared_table, shared_place}
-use Rattle.btf_types.proofs.Members.{Has}
+use Rattle.btf_types.proofs.Members.{Has-get_or}
 use Rattle.bpf_canon.specs.btf.CanonicalBtf.{canonical, canonical_types, record_words}
 use Rattle.bpf_canon.specs.btf.{strings.FirstUses.noted_all, write.NameOffsets.all_offsets}
 use Rattle.bpf_canon.proofs.BtfLemmas.CanonicalFiles.{types_size, canonical_size}
 use Rattle.bpf_canon.proofs.BtfLemmas.Strings.FirstUseSteps.{kept_first_uses, noted_all_there}
 use Rattle.bpf_canon.proofs.BtfLemmas.Write.{RecordNames.kept_at_offsets, WriteSteps.written}
 
-all_from_Has : (P : ℕ → Type 0) (xs : List ℕ) → ((x : ℕ) → Has xs x → P x) → All P xs
-all_from_Has P [] each = All-nil P
-all_from_Has P (x ∷ xs) each = All-cons P x xs (each x (inl refl)) (all_from_Has P xs (λ y h. each y (inr h)))
-
 -- each noted offset is present
 pub each_noted : (offs : List ℕ) → All (Contains (noted_all [] offs)) offs
-each_noted offs = all_from_Has (Contains (noted_all [] offs)) offs (λ x h. noted_all_there [] offs x h)
+each_noted offs = All-from_get_or (Contains (noted_all [] offs)) offs 0 (λ i low. noted_all_there [] offs (get_or offs i 0) (Has-get_or offs i 0 low))
 
 module _ (o : Order) (types strings places : List ℕ) (table : IsTable o types strings places) where
   abbrev pub its : List TypeRecord

@@ -1,13 +1,9 @@
 use Rattle.std.proofs.Common.{◌≡◌, ℕ, ◌<◌, ◌+◌, [], ◌∷◌, ◌++◌, length, map, get_or, arith, ◌∙◌, sym, ap, subst, List}
 use Rattle.std.proofs.lemmas.List.{length_push}
-use Rattle.bpf_canon.specs.btf.strings.{Ranks.common_before, SectionTexts.text_in}
-use Rattle.bpf_canon.specs.declared.btf.strings.section_texts.SectionText.{SectionText}
+use Rattle.bpf_canon.specs.btf.strings.{Ranks.common_before, SectionTexts.text_in, InHost.no_text}
 use Rattle.bpf_canon.proofs.BtfLemmas.Strings.RankSteps.{common_first, common_here, common_more}
 use Rattle.bpf_canon.proofs.btf.strings.ranks.common_suffixes.Goals as goal
 use Rattle.bpf_canon.proofs.btf.strings.ranks.common_suffixes.Goals.{then-k-eq0, else-k-eq0}
-
-abbrev none : SectionText
-none = record { key = 0; before = 0; start = 0; end = 0 }
 
 pub loop-k-preserved : goal.loop-k-preserved
 loop-k-preserved g c =
@@ -19,7 +15,7 @@ loop-k-preserved g c =
     let inside : k < length ts = omega arith in
     let is : n ≡ common_before ms k = elim c.if-k-eq0.branch [
       | then-k-eq0 w ↦ common_first ms k n w.if-k-eq0.true w.here-is
-      | else-k-eq0 w ↦ common_here (text_in c.args.section.now) ts k n none inside w.if-k-eq0.false (w.here-is ∙ w.common_of-here.ensures.common)
+      | else-k-eq0 w ↦ common_here (text_in c.args.section.now) ts k n no_text inside w.if-k-eq0.false (w.here-is ∙ w.common_of-here.ensures.common)
     ] in
     let more : c.push.new.self.items ≡ old ++ n ∷ [] = c.in_ok-push.ensures.items in (
       ap (λ (l : List ℕ). length l) more ∙ length_push old n ∙ (let long = c.loop-k.invariant.0 in omega (arith, long)),

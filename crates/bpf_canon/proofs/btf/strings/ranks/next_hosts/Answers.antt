@@ -1,14 +1,10 @@
 use Rattle.std.proofs.Common.{◌≡◌, ℕ, ◌<◌, ◌≤◌, ◌+◌, ◌-◌, [], length, map, get_or, arith, ◌∙◌, sym, ap, subst, List}
 use Rattle.std.proofs.lemmas.List.{get_or-map, length-map, length-set, get_or_read}
 use Rattle.btf_types.specs.strings.CommonTails.{at_rank, IsNextHost}
-use Rattle.bpf_canon.specs.btf.strings.{Ranks.common_before, SectionTexts.text_in}
-use Rattle.bpf_canon.specs.declared.btf.strings.section_texts.SectionText.{SectionText}
+use Rattle.bpf_canon.specs.btf.strings.{Ranks.common_before, SectionTexts.text_in, InHost.no_text}
 use Rattle.bpf_canon.proofs.BtfLemmas.Strings.RankSteps.{next_own, next_taken, hosts_step}
 use Rattle.bpf_canon.proofs.btf.strings.ranks.next_hosts.Goals as goal
 use Rattle.bpf_canon.proofs.btf.strings.ranks.next_hosts.Goals.{then-k-sorted+then-common-k, then-k-sorted+else-common-k, else-k-sorted}
-
-abbrev none : SectionText
-none = record { key = 0; before = 0; start = 0; end = 0 }
 
 pub loop-k-preserved : goal.loop-k-preserved
 loop-k-preserved g c =
@@ -19,7 +15,7 @@ loop-k-preserved g c =
     let hosts = c.loop-k.hosts.items in
     let long : length ms ≡ length ts = length-map ts (text_in c.args.section.now) in
     let inside : k < length ts = omega arith in
-    let text : at_rank ms k ≡ text_in c.args.section.now (get_or ts k none) = get_or-map (text_in c.args.section.now) ts k none [] inside in
+    let text : at_rank ms k ≡ text_in c.args.section.now (get_or ts k no_text) = get_or-map (text_in c.args.section.now) ts k no_text [] inside in
     let host : IsNextHost ms k c.if-k-sorted.host =
     elim c.if-k-sorted.branch [
       | then-k-sorted+then-common-k w ↦

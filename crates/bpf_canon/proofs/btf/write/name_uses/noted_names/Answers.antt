@@ -1,10 +1,9 @@
-use Rattle.std.proofs.Common.{◌<◌, ℕ, List, [], length, get_or, sym, ap, subst, ◌∙◌, arith}
-use Rattle.std.proofs.lemmas.List.{take_all}
+use Rattle.std.proofs.Common.{◌<◌, ℕ, List, length, get_or, sym, ap, subst, ◌∙◌, arith}
 use Rattle.std.specs.List.{All}
 use Rattle.btf_raw.specs.Frames.{IsFrame}
-use Rattle.btf_types.specs.Reading.{frame_at, frames_at}
+use Rattle.btf_types.specs.Reading.{frame_at}
 use Rattle.btf_types.proofs.TableLemmas.TableReads.{has_record_at}
-use Rattle.bpf_canon.specs.btf.{strings.FirstUses.noted_all, write.NameOffsets.name_offsets, write.NameOffsets.all_offsets, write.NameOffsets.IsBelow}
+use Rattle.bpf_canon.specs.btf.{strings.FirstUses.noted_all, write.NameOffsets.name_offsets, write.NameOffsets.IsBelow}
 use Rattle.bpf_canon.proofs.BtfLemmas.Names.NoteSteps.{record_noted, names_inside}
 use Rattle.bpf_canon.proofs.btf.write.name_uses.noted_names.Goals as goal
 
@@ -37,12 +36,4 @@ loop-pos-preserved g c =
       section = c.in_ok-note_record.ensures.section ∙ c.loop-pos.invariant.section;
       offsets = c.in_ok-note_record.ensures.offsets ∙ ap (λ (f : List ℕ). noted_all c.loop-pos.uses.offsets (name_offsets f)) c.record_at-this.ensures
           ∙ ap (λ (t : List ℕ). noted_all t more) c.loop-pos.invariant.offsets ∙ record_noted s.order s.types.now s.places.now c.loop-pos.pos-index low;
-    }
-
-pub returns : goal.returns
-returns g c =
-    let s = c.args.sections.now in
-    record {
-      section = c.loop-pos.invariant.section;
-      offsets = c.loop-pos.invariant.offsets ∙ ap (λ (ps : List ℕ). noted_all [] (all_offsets (frames_at s.order s.types.now ps))) (take_all c.loop-pos.pos-index s.places.now (omega arith));
     }

@@ -1,6 +1,5 @@
 use Rattle.std.proofs.Common.{◌++◌, ◌<◌, ℕ, List, length, map, take, get_or, sym, ap, subst, ◌∙◌, append_assoc, arith}
 use Rattle.std.specs.List.{All, Contains}
-use Rattle.std.proofs.lemmas.List.{take_all}
 use Rattle.btf_raw.specs.Frames.{bytes_of, section_of}
 use Rattle.btf_types.specs.{Reading.records_at, Reading.record_of, Sections.frame_of}
 use Rattle.btf_types.proofs.TableLemmas.TableReads.{has_record_at}
@@ -40,11 +39,3 @@ loop-pos-preserved g c =
     ∙ ap (λ (t : List ℕ). t ++ more) c.loop-pos.invariant
     ∙ append_assoc old before more
     ∙ ap (λ (t : List ℕ). old ++ t) (record_more s.order c.args.to place s.types.now s.strings.now s.places.now c.loop-pos.pos-index low)
-
-pub returns : goal.returns
-returns g c =
-    let s = c.args.sections.now in
-    let place : List ℕ → ℕ = placed c.args.names.now in
-    c.loop-pos.invariant
-    ∙ ap (λ (ps : List ℕ). c.args.out.now.items ++ section_of c.args.to (map (record_words place) (records_at s.order s.types.now s.strings.now ps)))
-    (take_all c.loop-pos.pos-index s.places.now (omega arith))

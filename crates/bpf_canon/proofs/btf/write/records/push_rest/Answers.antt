@@ -1,7 +1,5 @@
-use Rattle.std.proofs.Common.{◌++◌, List, ℕ, drop, ap, ◌∙◌, arith}
-use Rattle.std.proofs.lemmas.List.{take_all, length-drop}
+use Rattle.std.proofs.Common.{◌++◌, List, ℕ, ap, ◌∙◌, arith}
 use Rattle.bpf_words.specs.Words.{word32}
-use Rattle.btf_raw.specs.Frames.{bytes_of}
 use Rattle.bpf_canon.proofs.BtfLemmas.Write.RecordWords.{rest_more}
 use Rattle.bpf_canon.proofs.btf.write.records.push_rest.Goals as goal
 
@@ -11,8 +9,3 @@ loop-k-preserved g c =
     c.in_ok-push32.ensures.ok
     ∙ ap (λ (t : List ℕ). t ++ word32 c.args.to c.word.result) c.loop-k.invariant
     ∙ rest_more c.args.to c.args.out.now.items f c.loop-k.k c.word.result (omega arith) c.word.ensures
-
-pub returns : goal.returns
-returns g c =
-    let f = c.args.this.now in
-    c.loop-k.invariant ∙ ap (λ (t : List ℕ). c.args.out.now.items ++ bytes_of c.args.to t) (take_all c.loop-k.k (drop 3 f) (omega (arith, length-drop 3 f)))

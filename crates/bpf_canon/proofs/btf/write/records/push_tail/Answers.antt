@@ -1,26 +1,9 @@
-use Rattle.std.proofs.Common.{◌≡◌, ◌+◌, ◌++◌, ℕ, List, true, false, sym, ap, ◌∙◌}
+use Rattle.std.proofs.Common.{◌≡◌, ◌++◌, ℕ, List, true, false, sym, ap, ◌∙◌}
 use Rattle.std.proofs.lemmas.Result.{on_ok_weaker}
-use Rattle.btf_raw.specs.{Kinds.item_words, Kinds.tail_words, Kinds.has_item_names, Frames.bytes_of, Frames.kind, Frames.vlen}
+use Rattle.btf_raw.specs.{Kinds.has_item_names, Frames.bytes_of, Frames.kind}
 use Rattle.bpf_canon.specs.btf.write.NameOffsets.{placed}
 use Rattle.bpf_canon.proofs.BtfLemmas.Write.RecordWords.{rest_words, items_are_tail}
 use Rattle.bpf_canon.proofs.btf.write.records.push_tail.Goals as goal
-
-pub push_items-requires-clause-items : goal.push_items-requires-clause-items
-push_items-requires-clause-items g c =
-    let kind_is : c.kind-kind.result ≡ kind c.args.this.now = c.kind-kind.ensures in
-    record {
-      named = sym (c.has_item_names.ensures ∙ ap has_item_names kind_is) ∙ c.if-has_item_names.true;
-      words = sym (c.item_words.ensures.words ∙ ap item_words kind_is);
-      all = c.vlen-vlen.ensures;
-    }
-
-pub push_rest-requires-clause-all : goal.push_rest-requires-clause-all
-push_rest-requires-clause-all g c =
-    let f = c.args.this.now in
-    let kind_is : c.kind-kind.result ≡ kind f = c.kind-kind.ensures in
-    let vlen_is : c.vlen-vlen.result ≡ vlen f = c.vlen-vlen.ensures in
-    let words : c.tail_words.result ≡ tail_words (kind f) (vlen f) = c.tail_words.ensures.words ∙ ap (λ (k : ℕ). tail_words k c.vlen-vlen.result) kind_is ∙ ap (tail_words (kind f)) vlen_is in
-    ap (λ (n : ℕ). 3 + n) words ∙ sym c.requires.reads.frame.size
 
 pub returns-then-has_item_names : goal.returns-then-has_item_names
 returns-then-has_item_names g c =

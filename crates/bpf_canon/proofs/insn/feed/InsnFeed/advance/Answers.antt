@@ -1,4 +1,4 @@
-use Rattle.std.proofs.Common.{arith, ◌≡◌, ◌∙◌, ◌-◌, ℕ, List, None, ap, subst, sym, inl, length, take, length-append, refl}
+use Rattle.std.proofs.Common.{arith, ◌≡◌, ◌∙◌, ◌-◌, ℕ, List, None, ap, subst, sym, inl, take, length-append, refl}
 use Rattle.std.proofs.lemmas.List.{length-take-le}
 use Rattle.bpf_canon.specs.{insn.FeedState.FeedState, insn.FeedState.IsCut, insn.FrontReads.Advances, contracts.insn.feed.InsnFeed.the_view}
 use Rattle.bpf_canon.proofs.InsnLemmas.FeedLemmas.{advance_counts, advance_cut, advance_faulty, advance_few, advance_held, advance_whole, advance_within, cut_begins_none, held_left, held_left_size, none_or_all}
@@ -18,12 +18,6 @@ read_front_across-read-requires-clause-short g c =
 pub read_front_across-read-requires-clause-unspelled : goal.read_front_across-read-requires-clause-unspelled
 read_front_across-read-requires-clause-unspelled g c = cut_begins_none _ _ c.self.invariant.cut
 
-pub read_front_across-read-requires-clause-room : goal.read_front_across-read-requires-clause-room
-read_front_across-read-requires-clause-room g c = omega (arith, c.requires.room, ap (λ (s : FeedState). length s.held) c.self.view_is)
-
-pub overflow_sub-start : goal.overflow_sub-start
-overflow_sub-start g c = omega (arith, c.self.invariant.counted)
-
 pub slice_bounds-left-count : goal.slice_bounds-left-count
 slice_bounds-left-count g c =
     let size = length-take-le c.self.inside.held_len c.self.inside.held (omega (arith, c.self.invariant.short)) in
@@ -33,12 +27,6 @@ pub slice_bounds-left-start : goal.slice_bounds-left-start
 slice_bounds-left-start g c =
     let size = length-take-le c.self.inside.held_len c.self.inside.held (omega (arith, c.self.invariant.short)) in
     omega (arith, c.saturating_sub.ensures, size, c.read_front_across-read.ensures.read.within, length-append (take c.self.inside.held_len c.self.inside.held) c.args.piece.now)
-
-pub slice_bounds-left-end : goal.slice_bounds-left-end
-slice_bounds-left-end g c = omega arith
-
-pub overflow_add-self : goal.overflow_add-self
-overflow_add-self g c = omega (arith, c.requires.fits, ap (λ (s : FeedState). s.fed) c.self.view_is)
 
 pub overflow_add-self-2 : goal.overflow_add-self-2
 overflow_add-self-2 g c =

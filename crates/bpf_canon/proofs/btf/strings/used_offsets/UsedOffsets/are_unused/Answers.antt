@@ -1,13 +1,7 @@
-use Rattle.std.proofs.Common.{◌∙◌, sym, arith}
+use Rattle.std.proofs.Common.{◌∙◌, sym}
 use Rattle.std.proofs.lemmas.Bool.{eqb-true, eqb-false}
 use Rattle.bpf_canon.proofs.BtfLemmas.Strings.UsedSteps.{unused_between, number_kept}
 use Rattle.bpf_canon.proofs.btf.strings.used_offsets.UsedOffsets.are_unused.Goals as goal
-
-pub used_before-requires : goal.used_before-requires
-used_before-requires g c = omega (arith, c.requires.order, c.requires.inside)
-
-pub used_before-requires-2 : goal.used_before-requires-2
-used_before-requires-2 g c = c.requires.inside
 
 pub returns-clause-yes : goal.returns-clause-yes
 returns-clause-yes g c same off low high =
