@@ -5,14 +5,14 @@ use Rattle.std.proofs.lemmas.Bool.{cases_Bool, cond-true, cond-false, eqb-false,
 use Rattle.std.proofs.lemmas.List.{map-append, length-append, append-nil, take-append-drop, Concat.flat_map-append, Quantifiers.position-Some}
 use Rattle.std.proofs.lemmas.List.Elements.{filter-append, filter_more}
 use Rattle.indexmap.specs.IndexSet.{insert_key}
-use Rattle.btf_types.specs.Names.{distinct, is_other, kept, with_nul, table_of}
+use Rattle.btf_types.specs.Names.{distinct, is_other, is_some_text, kept, with_nul, table_of}
 use Rattle.btf_types.specs.strings.SharedNames.{is_proper_suffix, hosts_of, host_in}
 use Rattle.bpf_canon.specs.btf.names.Interned.{lent_texts, AddsName}
-use Rattle.btf_types.proofs.Members.{Has, Has-from_Contains}
+use Rattle.btf_types.proofs.Members.{Has, Has-from_filter, Has-from_Contains}
 use Rattle.btf_types.proofs.StringLemmas.{Texts.same_text, Texts.bytes_eq-same, Hosts.own_host_of, Hosts.host_differs}
 use Rattle.btf_types.proofs.StringLemmas.Distinct.{NoRepeats, NoRepeats-kept}
 use Rattle.bpf_canon.proofs.BtfLemmas.Names.KeptSteps.{Has_from_test, test_from_Has, Has_cases, kept_known, kept_new}
-use Rattle.bpf_canon.proofs.BtfLemmas.Names.{PlaceSteps.text_eq, HostSearch.text_at}
+use Rattle.bpf_canon.proofs.BtfLemmas.Names.{PlaceSteps.text_eq, HostSearch.text_at, HostSearch.texts_length}
 
 -- whether a set of borrowed strings contains a string
 set_iff_any : (k : Bor (List ℕ)) (ks : List (Bor (List ℕ))) → list_any (text_eq k) ks ≡ list_any (bytes_eq k.now) (lent_texts ks)
@@ -20,15 +20,14 @@ set_iff_any k [] = refl
 set_iff_any k (y ∷ ys) = ap (λ (b : Bool). bytes_eq k.now y.now || b) (set_iff_any k ys)
 
 -- the index of a string among the strings
-pub index_found : (ks : List (Bor (List ℕ))) (now : List (List ℕ)) (x : Bor (List ℕ)) (r : Option ℕ) → lent_texts ks ≡ now → Contains now x.now → is_some r ≡ list_any (text_eq x) ks → IsSome r
-index_found ks now x r same c is_in =
-    is_in ∙ set_iff_any x ks ∙ ap (list_any (bytes_eq x.now)) same ∙ test_from_Has now x.now (Has-from_Contains now x.now c)
+pub index_found : (ks : List (Bor (List ℕ))) (x : Bor (List ℕ)) (r : Option ℕ) → Contains (lent_texts ks) x.now → is_some r ≡ list_any (text_eq x) ks → IsSome r
+index_found ks x r c is_in = is_in ∙ set_iff_any x ks ∙ test_from_Has (lent_texts ks) x.now (Has-from_Contains (lent_texts ks) x.now c)
 
-pub index_text : (ks : List (Bor (List ℕ))) (now : List (List ℕ)) (x : Bor (List ℕ)) (i : ℕ) → lent_texts ks ≡ now → position (text_eq x) ks ≡ Some i → (d : List ℕ) → get_or now i d ≡ x.now
-index_text ks now x i same found d =
+pub index_text : (ks : List (Bor (List ℕ))) (x : Bor (List ℕ)) (i : ℕ) (d : List ℕ) → position (text_eq x) ks ≡ Some i → (i < length (lent_texts ks)) × (get_or (lent_texts ks) i d ≡ x.now)
+index_text ks x i d found =
     let e : Bor (List ℕ) = record { ref_ptr = (0, 0); now = d } in
     let at = position-Some (text_eq x) ks i e found in
-    ap (λ (l : List (List ℕ)). get_or l i d) (sym same) ∙ text_at ks i e at.0 ∙ sym (same_text x.now ((get_or ks i e).now) at.1)
+    (omega (arith, at.0, texts_length ks), text_at ks i e at.0 ∙ sym (same_text x.now ((get_or ks i e).now) at.1))
 
 texts_push : (ks : List (Bor (List ℕ))) (k : Bor (List ℕ)) → lent_texts (ks ++ k ∷ []) ≡ lent_texts ks ++ k.now ∷ []
 texts_push ks k = map-append (λ (n : Bor (List ℕ)). n.now) ks (k ∷ [])
@@ -48,21 +47,12 @@ set_new ks k n =
 some_text : (x : List ℕ) → eqb (length x) 0 ≡ false → x ≢ []
 some_text x f e = eqb-false (length x) 0 f (ap (λ (t : List ℕ). length t) e)
 
-pub set_adds : (ks fs : List (Bor (List ℕ))) (now : List (List ℕ)) (k : Bor (List ℕ)) → lent_texts ks ≡ now → eqb (length k.now) 0 ≡ false → fs ≡ insert_key text_eq ks k → AddsName now (lent_texts fs) k.now
-set_adds ks fs now k same some f xs e = elim (Has_cases (lent_texts ks) k.now) [
-  | inl h ↦ ap lent_texts (f ∙ set_known ks k h) ∙ same ∙ e ∙ sym (kept_known xs k.now (subst (λ (l : List (List ℕ)). Has l k.now) (same ∙ e) h))
+pub set_adds : (ks fs : List (Bor (List ℕ))) (k : Bor (List ℕ)) → eqb (length k.now) 0 ≡ false → fs ≡ insert_key text_eq ks k → AddsName (lent_texts ks) (lent_texts fs) k.now
+set_adds ks fs k some f xs e = elim (Has_cases (lent_texts ks) k.now) [
+  | inl h ↦ ap lent_texts (f ∙ set_known ks k h) ∙ e ∙ sym (kept_known xs k.now (subst (λ (l : List (List ℕ)). Has l k.now) e h))
   | inr n ↦
-      ap lent_texts f ∙ set_new ks k n ∙ ap (λ (l : List (List ℕ)). l ++ k.now ∷ []) (same ∙ e)
-      ∙ sym (kept_new xs k.now (some_text k.now some) (λ h. n (subst (λ (l : List (List ℕ)). Has l k.now) (sym (same ∙ e)) h)))
-]
-
-pub set_stays_kept : (ks fs : List (Bor (List ℕ))) (k : Bor (List ℕ)) → kept (lent_texts ks) ≡ lent_texts ks → eqb (length k.now) 0 ≡ false → fs ≡ insert_key text_eq ks k → kept (lent_texts fs) ≡ lent_texts fs
-set_stays_kept ks fs k own some f = elim (Has_cases (lent_texts ks) k.now) [
-  | inl h ↦ subst (λ (l : List (Bor (List ℕ))). kept (lent_texts l) ≡ lent_texts l) (sym (f ∙ set_known ks k h)) own
-  | inr n ↦
-      let texts : lent_texts fs ≡ lent_texts ks ++ k.now ∷ [] = ap lent_texts f ∙ set_new ks k n in
-      ap kept texts ∙ kept_new (lent_texts ks) k.now (some_text k.now some) (λ h. n (subst (λ (l : List (List ℕ)). Has l k.now) own h))
-      ∙ ap (λ (l : List (List ℕ)). l ++ k.now ∷ []) own ∙ sym texts
+      ap lent_texts f ∙ set_new ks k n ∙ ap (λ (l : List (List ℕ)). l ++ k.now ∷ []) e
+      ∙ sym (kept_new xs k.now (some_text k.now some) (λ h. n (subst (λ (l : List (List ℕ)). Has l k.now) (sym e) h)))
 ]
 
 pub filter_all : (p : List ℕ → Bool) (xs : List (List ℕ)) → ((y : List ℕ) → Has xs y → p y ≡ true) → filter p xs ≡ xs
@@ -74,6 +64,11 @@ distinct_same [] n = refl
 distinct_same (x ∷ xs) (n, ns) = ap (λ (l : List (List ℕ)). x ∷ l) (
     ap (filter (is_other x)) (distinct_same xs ns)
     ∙ filter_all (is_other x) xs (λ y h. ap not (false_from_ne_true (bytes_eq x y) (λ t. n (subst (Has xs) (sym (same_text x y t)) h)))))
+
+pub kept_again : (xs : List (List ℕ)) → kept (kept xs) ≡ kept xs
+kept_again xs =
+    ap (filter is_some_text) (distinct_same (kept xs) (NoRepeats-kept xs))
+    ∙ filter_all is_some_text (kept xs) (λ x h. (Has-from_filter is_some_text (distinct xs) x h).1)
 
 pub kept_apart : (ks : List (List ℕ)) → kept ks ≡ ks → NoRepeats ks
 kept_apart ks own = subst NoRepeats own (NoRepeats-kept ks)

@@ -46,6 +46,7 @@ pub record ArePlacedHosts (ks : List (List ℕ)) (hosts places : List ℕ) (tabl
 
 -- What is stored for the kept names: the host of each, and the offset of each host.
 pub record AreShared (ks : List (List ℕ)) (hosts places : List ℕ) (table_len : ℕ) : Type 0 where
+  pub own : kept ks ≡ ks
   pub have_hosts : HaveHosts ks hosts
   pub are_placed : ArePlacedHosts ks hosts places table_len
   pub room : table_len < 2 ^ 32

@@ -10,7 +10,7 @@ ghost use Rattle.btf_types.specs.strings.SharedNames.{hosts_of, shared_among};
 ghost use Rattle.bpf_canon.specs.btf.names.Interned.{lent_texts, AreIndexed, HaveHosts};
 ghost use Rattle.bpf_canon.specs.btf.names.Interned.{ArePlacedHosts, IsPlaced};
 
-use crate::btf::names::kept::KeptNames;
+use crate::btf::names::kept::NameSet;
 use crate::btf::suffixes::compare_from_end;
 use std::alloc::{AllocError, Allocator};
 use std::marker::Model;
@@ -80,7 +80,7 @@ fn placed_hosts<A: Allocator>(
 /// Distinct names that share suffixes.
 #[derive(Drop)]
 pub(crate) struct SharedNames<'a, A: Allocator> {
-    kept: KeptNames<'a, A>,
+    names: NameSet<'a, A>,
     // the index of each name's host, and the offset of each host
     hosts: Vec<usize, A>,
     places: Vec<u32, A>,
@@ -89,26 +89,27 @@ pub(crate) struct SharedNames<'a, A: Allocator> {
 
 impl<'a, A: Allocator> Model for SharedNames<'a, A> {
     ghost use Rattle.std.specs.Prelude.{ℕ, List};
-    ghost use Rattle.bpf_canon.specs.btf.names.Interned.{AreShared};
+    ghost use Rattle.bpf_canon.specs.btf.names.Interned.{lent_texts, AreShared};
 
     ghost Value = { List (List ℕ) };
 
-    ghost view = { λ n. n.kept };
+    ghost view = { λ n. lent_texts n.names.keys };
 
-    ghost invariant = { λ n. AreShared n.kept n.hosts.items n.places.items n.table_len };
+    ghost invariant = { λ n. AreShared (lent_texts n.names.keys) n.hosts.items n.places.items
+        n.table_len };
 }
 
 impl<'a, A: Allocator + Copy> SharedNames<'a, A> {
     /// Computes the offsets of the names.
-    pub(crate) fn new(alloc: A, kept: KeptNames<'a, A>) -> Result<Self, AllocError>
-        requires { length (table_of (hosts_of kept)) < 2 ^ 32 }
-        ensures { IfOk result (λ n. n ≡ kept.entry) }
+    pub(crate) fn new(alloc: A, names: NameSet<'a, A>) -> Result<Self, AllocError>
+        requires own { kept (lent_texts names.keys) ≡ lent_texts names.keys }
+        requires room { length (table_of (hosts_of (lent_texts names.keys))) < 2 ^ 32 }
+        ensures { IfOk result (λ n. n ≡ lent_texts names.entry.keys) }
     {
-        let names = kept.as_slice();
-        let hosts = found_hosts(alloc, names)?;
-        let (places, table_len) = placed_hosts(alloc, names, &hosts)?;
+        let hosts = found_hosts(alloc, names.as_slice())?;
+        let (places, table_len) = placed_hosts(alloc, names.as_slice(), &hosts)?;
         Ok(SharedNames {
-            kept,
+            names,
             hosts,
             places,
             table_len,
@@ -123,15 +124,16 @@ impl<'a, A: Allocator + Copy> SharedNames<'a, A> {
         if name.is_empty() {
             return 0;
         }
-        let host = self.hosts[self.kept.index_of(name)];
-        self.places[host] + (self.kept.as_slice()[host].len() - name.len()) as u32
+        let index = self.names.get_index_of(name).unwrap();
+        let host = self.hosts[index];
+        self.places[host] + (self.names.as_slice()[host].len() - name.len()) as u32
     }
 
     /// Appends the string table: NUL, then each host with its NUL.
     pub(crate) fn push_table<B: Allocator>(&self, out: &mut Vec<u8, B>) -> Result<(), AllocError>
         ensures { OnOk result (out.new.items ≡ out.old.items ++ table_of (hosts_of self.now)) }
     {
-        let names = self.kept.as_slice();
+        let names = self.names.as_slice();
         out.push(0)?;
         for index in 0..names.len() {
             if self.hosts[index] == index {

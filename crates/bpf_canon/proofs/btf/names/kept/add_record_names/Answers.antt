@@ -7,6 +7,6 @@ pub loop-k-preserved : goal.loop-k-preserved
 loop-k-preserved g c = λ xs e.
     let r = record_at (g.T.TypeTable.meaning c.args.table.now) c.args.id in
     let before : List (List ℕ) = xs ++ head_name r.head ∷ map item_name (take c.loop-k.k r.items) in
-    c.in_ok-add-2.ensures.ok before (c.loop-k.invariant xs e)
+    c.in_ok-add_name-2.ensures before (c.loop-k.invariant xs e)
     ∙ ap (λ (n : List ℕ). kept (before ++ n ∷ [])) c.name-in-loop-k.ensures
     ∙ ap kept (item_names_more xs (head_name r.head) r.items c.loop-k.k (item_value c.item.result) c.item.ensures)

@@ -1,7 +1,11 @@
-use Rattle.std.proofs.Common.{◌≡◌, length, ap, ◌∙◌, ◌++◌, arith, List, ℕ}
+use Rattle.std.proofs.Common.{◌≡◌, length, subst, sym, ap, ◌∙◌, ◌++◌, arith, List, ℕ}
 use Rattle.btf_raw.specs.Header.{header}
-use Rattle.bpf_canon.proofs.BtfLemmas.Write.WriteSteps.{types_fit, written}
+use Rattle.btf_types.specs.Names.{kept, names}
+use Rattle.bpf_canon.proofs.BtfLemmas.{Names.HostSteps.kept_again, Write.WriteSteps.types_fit, Write.WriteSteps.written}
 use Rattle.bpf_canon.proofs.btf.write.table.write_table.Goals as goal
+
+pub new-requires-clause-own : goal.new-requires-clause-own
+new-requires-clause-own g c = subst (λ (l : List (List ℕ)). kept l ≡ l) (sym c.in_ok-kept.ensures) (kept_again (names (g.T.TypeTable.meaning c.args.table.now)))
 
 pub overflow_cast-len : goal.overflow_cast-len
 overflow_cast-len g c =

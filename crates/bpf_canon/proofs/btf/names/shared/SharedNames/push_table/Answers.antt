@@ -15,11 +15,11 @@ loop-index-preserved g c =
     let hosts = c.self.inside.hosts.items in
     let k = c.loop-index.index in
     let old = c.args.out.now.items in
-    let same : ks ≡ c.self.inside.kept = c.as_slice-names.ensures.names in
+    let same : ks ≡ lent_texts c.self.inside.names.keys = ap lent_texts c.as_slice-names.ensures.keys in
     let low : k < length names = omega arith in
     let in_ks : k < length ks = omega (arith, low, texts_length names) in
     let have = subst (λ (l : List (List ℕ)). HaveHosts l hosts) (sym same) c.self.invariant.have_hosts in
-    let apart = kept_apart ks (subst (λ (l : List (List ℕ)). kept l ≡ l) (sym same) c.as_slice-names.ensures.own) in
+    let apart = kept_apart ks (subst (λ (l : List (List ℕ)). kept l ≡ l) (sym same) c.self.invariant.own) in
     let host : c.index.result.now ≡ get_or hosts k 0 = get_or_read hosts k c.index.result.now (omega (arith, in_ks, have.whole)) c.index.ensures 0 in
     elim c.if-index.branch [
       | then-index+in_ok-extend_from_slice+in_ok-push-2 w ↦
