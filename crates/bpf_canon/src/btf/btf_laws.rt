@@ -10,16 +10,19 @@ ghost use Rattle.bpf_canon.specs.btf.BtfLaws.{CanonicalBtfIsShortest, HostsFitSe
 
 /// The canonical bytes of valid records, in either byte order, are a valid file that denotes these
 /// records.
+#[tactic(auto, using(crate::proofs::BtfLemmas::CanonicalFiles::canonical_denotes))]
 pub fn canonical_btf_is_accepted()
     ensures { CanonicalBtfIsAccepted }
 {}
 
 /// Valid lists of records with the same canonical bytes are equal.
+#[tactic(auto, using(crate::proofs::BtfLemmas::CanonicalFiles::canonical_apart))]
 pub fn canonical_btf_tells_apart()
     ensures { CanonicalBtfTellsApart }
 {}
 
 /// No valid file is shorter than the canonical bytes of the records that it denotes.
+#[tactic(auto, using(crate::proofs::BtfLemmas::CanonicalFiles::canonical_shortest))]
 pub fn canonical_btf_is_shortest()
     ensures { CanonicalBtfIsShortest }
 {}

@@ -16,6 +16,7 @@ use std::alloc::Allocator;
 ///
 /// `Fault` if the input isn't a valid sequence of instructions: its first fault, with the offset in
 /// bytes from the start of the input. `Memory` if an allocation failed.
+#[tactic(auto, using(crate::proofs::InsnLemmas::CanonLemmas::canonical_of))]
 pub fn canon_insns<A: Allocator>(
     alloc: A,
     order: Order,

@@ -46,6 +46,7 @@ impl Model for InsnFeed {
 impl InsnFeed {
     /// Creates a feed with an empty stream, which reads in the byte order `order` and writes in
     /// `to`.
+    #[tactic(auto, using(crate::proofs::InsnLemmas::FeedLemmas::new_represents))]
     pub fn new(order: Order, to: Order) -> InsnFeed
         ensures represents { Represents result order to [] }
         ensures sound { result.fault ≡ None }

@@ -29,6 +29,7 @@ pub fn first_fault(order: Order, bytes: &[u8]) -> Option<SlotFault>
 
 /// Reads the complete instructions at the start of `bytes`, and appends each in the byte order
 /// `to`.
+#[tactic(auto, using(crate::proofs::InsnLemmas::ReadingLemmas::front_recoded))]
 pub(crate) fn read_front<A: Allocator>(
     order: Order,
     to: Order,
@@ -100,6 +101,7 @@ fn complete(order: Order, held: &[u8], piece: &[u8]) -> Result<(Insn, usize), Sl
 }
 
 /// The concatenation of two slices, padded with zeros.
+#[tactic(auto, using(crate::proofs::InsnLemmas::ReadingLemmas::joined))]
 fn join(first: &[u8], second: &[u8]) -> [u8; 16]
     requires { length first.now + length second.now ≤ 16 }
     ensures { take (length first.now + length second.now) result ≡ first.now ++ second.now }

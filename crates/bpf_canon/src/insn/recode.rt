@@ -91,6 +91,7 @@ pub(crate) fn swapped(slot: &[u8; 8]) -> [u8; 8]
 
 /// The three upper halfwords, each with its two bytes exchanged, and 0 for the lowest one.
 #[inline(always)]
+#[tactic(auto, using(crate::proofs::InsnLemmas::SwappedBytes::halfwords_swapped))]
 fn swap_halfwords(word: u64) -> u64
     ensures { result ≡ word / 0x1_0000 % 0x100 * 0x100_0000 + word / 0x100_0000 % 0x100 * 0x1_0000
         + word / 0x1_0000_0000 % 0x100 * 0x100_0000_0000

@@ -58,3 +58,6 @@ module _ (a b : ℕ) (p : a < 2 ^ 64) (q : b < 2 ^ 64) where
       let high : a / 2 ^ (k + 8) ≡ b / 2 ^ (k + 8) = above (k + 8) (omega (arith, h)) in
       let all : a / 2 ^ k ≡ b / 2 ^ k = omega (arith, step a k, step b k, byte, high) in
       omega (arith, below k all, h)
+
+-- what the search cites of the bytes of two keys
+pub ruleset byte_cases = (same_bytes, differing_byte)

@@ -205,3 +205,6 @@ number_whole words n word w len h is fits =
     number_in_word words n word 64 (omega arith) (omega (arith, h))
     ∙ ap (λ (m : ℕ). offset_number (slots_of words n) (64 * word) + count_ones m)
     (ap (λ (v : ℕ). v % 2 ^ 64) (sym read) ∙ mod-eq_of_lt fits)
+
+-- what the search cites of marks and of their counts
+pub ruleset marks = (slots_long, slot_is_mark, word_inside, before_inside, number_read)

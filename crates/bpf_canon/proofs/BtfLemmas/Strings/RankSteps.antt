@@ -115,3 +115,6 @@ in_tail_order ms up some = record {
   };
   in_order = up;
 }
+
+-- what the search cites of a common suffix
+pub ruleset suffix_cases = (common_stops, common_ends)

@@ -135,3 +135,6 @@ sorted_texts section ts p keys up k d low h =
     ap (λ (t : List ℕ). tail_lt t (get_or (map (text_in section) ts) k d)) (get_or-map (text_in section) ts (k + 1) e d inside)
     ∙ ap (tail_lt (text_in section b)) (get_or-map (text_in section) ts k e d (omega (arith, inside)))
     ∙ ap is_lt (sym same) ∙ up k e low inside
+
+-- what the search cites of the keys of two strings
+pub ruleset key_cases = (keys_apart, keys_alike)

@@ -135,3 +135,6 @@ counts_word slots before count word more to is =
 
 pub counted_all : (slots before : List ℕ) (count word : ℕ) → CountedTo slots before count word → word ≡ length slots / 64 → AreCounted slots before
 counted_all slots before count word to e = record { words = to.words ∙ ap (λ (n : ℕ). n + 1) e; counts = to.counts }
+
+-- what the search cites of the number of a used offset
+pub ruleset used_numbers = (used_inside, number_inside)

@@ -113,3 +113,6 @@ pub written : (o : Order) (v : List TypeRecord) (ks : List (List ℕ)) (types fr
 written o v ks types front more whole t s ke te tl sl e1 e2 e3 =
     let its : whole ≡ file_with o v ks = e3 ∙ rw (e2, e1, tl, sl, te) refl in
     its ∙ ap (file_with o v) ke
+
+-- what the search cites of the width of one item more
+pub ruleset width_cases = (width_found, width_missed)

@@ -38,6 +38,7 @@ pub(crate) fn is_marked(marks: &[u64], off: usize) -> bool
 
 impl<A: Allocator + Copy> FirstUses<A> {
     /// Creates an empty set of offsets for a section of `section_len` bytes.
+    #[tactic(auto, using(crate::proofs::BtfLemmas::Strings::MarkSteps::none_marked))]
     pub(crate) fn new(alloc: A, section_len: usize) -> Result<FirstUses<A>, AllocError>
         ensures { IfOk result (λ f. f ≡ spec.nothing_noted section_len) }
     {

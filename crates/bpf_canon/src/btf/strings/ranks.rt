@@ -10,6 +10,7 @@ use crate::btf::strings::section_texts::{SectionText, text_of};
 use std::alloc::{AllocError, Allocator};
 
 /// The length of the longest common suffix of two strings.
+#[tactic(auto, using(crate::proofs::BtfLemmas::Strings::RankSteps::suffix_cases))]
 pub(crate) fn common_suffix(a: &[u8], b: &[u8]) -> usize
     ensures common { result ≡ spec.common_tail a.now b.now }
     ensures first { result ≤ length a.now }
@@ -24,6 +25,7 @@ pub(crate) fn common_suffix(a: &[u8], b: &[u8]) -> usize
 }
 
 /// The length of the common suffix of the eight bytes of each of two keys.
+#[tactic(auto, using(crate::proofs::BtfLemmas::Strings::CommonBits::byte_cases))]
 fn common_bytes(a: u64, b: u64) -> usize
     ensures few { result ≤ 8 }
     ensures same { (j : ℕ) → j < result → HaveSameByte a b j }

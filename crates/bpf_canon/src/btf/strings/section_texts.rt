@@ -56,6 +56,7 @@ fn compare_texts(section: &[u8], a: &SectionText, b: &SectionText) -> Ordering
 }
 
 /// Compares by keys, then by bytes.
+#[tactic(auto, using(crate::proofs::BtfLemmas::Strings::SortedTexts::key_cases))]
 fn compare(section: &[u8], a: &SectionText, b: &SectionText) -> Ordering
     ensures { result ≡ texts.compared section.now a.now b.now }
 {

@@ -74,6 +74,7 @@ impl<A: Allocator> UsedOffsets<A> {
     }
 
     /// Whether an offset is used.
+    #[tactic(auto, using(crate::proofs::BtfLemmas::Strings::MarkSteps::marks))]
     pub(crate) fn is_used(&self, off: usize) -> bool
         requires { off < length self.now.slots }
         ensures yes { result ≡ true → slice_index self.now.slots off ≢ 0 }
@@ -96,6 +97,7 @@ impl<A: Allocator> UsedOffsets<A> {
     }
 
     /// The number of used offsets before this one.
+    #[tactic(auto, using(crate::proofs::BtfLemmas::Strings::MarkSteps::marks))]
     fn used_before(&self, off: usize) -> usize
         requires { off ≤ length self.now.slots }
         ensures { result ≡ spec.number_of self.now off }
@@ -105,6 +107,7 @@ impl<A: Allocator> UsedOffsets<A> {
     }
 
     /// The number of a used offset: how many smaller offsets are used.
+    #[tactic(auto, using(crate::proofs::BtfLemmas::Strings::UsedSteps::used_numbers))]
     pub(crate) fn number(&self, off: usize) -> usize
         requires { slice_index self.now.slots off ≢ 0 }
         ensures number { result ≡ spec.number_of self.now off }
@@ -114,6 +117,7 @@ impl<A: Allocator> UsedOffsets<A> {
     }
 
     /// The number of used offsets.
+    #[tactic(auto, using(crate::proofs::BtfLemmas::Strings::MarkSteps::marks))]
     pub(crate) fn count(&self) -> usize
         ensures { result ≡ spec.used_count self.now }
     {

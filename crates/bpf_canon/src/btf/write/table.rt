@@ -119,6 +119,7 @@ fn has_width(item: Item<'_>) -> bool
 }
 
 /// Whether the record has bit-fields.
+#[tactic(auto, using(crate::proofs::BtfLemmas::Write::WriteSteps::width_cases))]
 fn has_bit_fields<T: TypeTable>(table: &T, id: u32) -> bool
     requires first { 0 < id }
     requires last { id ≤ length (T.meaning table.now) }
