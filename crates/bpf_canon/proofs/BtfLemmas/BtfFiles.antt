@@ -40,3 +40,6 @@ pub answers_file : {T : Type 0} (items : T → List ℕ) (b : List ℕ) (v : Lis
     → MatchResult r (λ canon. items canon ≡ canonical Little v) (λ e. e ≡ error.Memory)
 answers_file items b v fits d (Ok canon) made fails = made.1.1 ∙ ap (canonical Little) (denotes_unique b made.0 v made.1.0 d)
 answers_file items b v fits d (Err e) made fails = fails_no_file b e v fits fails d
+
+-- what the search cites of the canonical bytes of a table
+pub ruleset file_steps = (ok_with, canonical_is_file)

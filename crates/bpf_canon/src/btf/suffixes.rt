@@ -19,6 +19,7 @@ fn byte_before(text: &[u8], back: usize) -> u8
 }
 
 /// The last eight bytes as a number, the last byte the most significant. Missing bytes count as 0.
+#[tactic(auto, using(crate::proofs::BtfLemmas::Strings::SuffixKeys::key_steps))]
 pub(crate) fn suffix_key(text: &[u8]) -> u64
     ensures key { result ≡ spec.suffix_key text.now }
     ensures bytes { (i : ℕ) → slice_index_or text.now i 0 < 256 }

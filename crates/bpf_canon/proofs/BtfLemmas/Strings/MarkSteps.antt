@@ -9,7 +9,7 @@ use Rattle.std.proofs.lemmas.List.{length_push, length-set, length-replicate, ge
 use Rattle.bpf_canon.specs.btf.strings.FirstUses.{noted, mark_of, slots_of, AreMarked, HaveMarks}
 use Rattle.bpf_canon.specs.btf.strings.UsedOffsets.{offset_number, AreNumbered}
 use Rattle.bpf_canon.proofs.BtfLemmas.Strings.FirstUseSteps.{marked_more, noted_known, noted_new}
-use Rattle.bpf_canon.proofs.BtfLemmas.Strings.UsedSteps.{number_used, number_unused}
+use Rattle.bpf_canon.proofs.BtfLemmas.Strings.UsedSteps.{number_used, number_unused, counted_none, counted_all}
 
 -- one element
 zero_ones : (n : ℕ) → n ≡ 0 → count_ones n ≡ 0
@@ -208,3 +208,9 @@ number_whole words n word w len h is fits =
 
 -- what the search cites of marks and of their counts
 pub ruleset marks = (slots_long, slot_is_mark, word_inside, before_inside, number_read)
+
+-- what the search cites of an offset that is noted
+pub ruleset note_cases = (noted_here, noted_more)
+
+-- what the search cites of the counts of all elements
+pub ruleset counts = (counted_none, counted_all, slots_len)

@@ -210,3 +210,6 @@ key_by_bytes (a ∷ b ∷ c ∷ d ∷ e ∷ f ∷ g ∷ h ∷ l) = omega arith
 pub key_from_bytes : (x : List ℕ) (k : ℕ) → k ≡ get_or (reverse x) 7 0 + get_or (reverse x) 6 0 * 256 + get_or (reverse x) 5 0 * 65536 + get_or (reverse x) 4 0 * 16777216 + get_or (reverse x) 3 0 * 4294967296 + get_or (reverse x) 2 0 * 1099511627776 + get_or (reverse x) 1 0 * 281474976710656 + get_or (reverse x) 0 0 * 72057594037927936 → k ≡ suffix_key x
 unfolding suffix_key
 key_from_bytes x k e = e ∙ key_by_bytes (reverse x)
+
+-- what the search cites of the key of a string
+pub ruleset key_steps = (key_of_none, key_of_long, key_from_bytes)

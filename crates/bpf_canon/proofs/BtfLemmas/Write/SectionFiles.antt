@@ -47,3 +47,6 @@ module _ (o : Order) (types strings places : List ℕ) (table : IsTable o types 
       let written_types = section_of to (map (record_words (shared_place xs)) its) in
       let long : length written_types ≡ length (canonical_types to its) = ap (λ ks. length (section_of to (map (record_words (shared_among ks)) its))) same in
       written to its (kept xs) written_types front more whole t s same refl (tl ∙ types_same to ∙ sym long) sl e1 e2 e3
+
+-- what the search cites of the names of a section
+pub ruleset section_names = (kept_uses, table_low)

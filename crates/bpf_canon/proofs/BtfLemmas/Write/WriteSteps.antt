@@ -116,3 +116,6 @@ written o v ks types front more whole t s ke te tl sl e1 e2 e3 =
 
 -- what the search cites of the width of one item more
 pub ruleset width_cases = (width_found, width_missed)
+
+-- what the search cites of records that are appended
+pub ruleset record_steps = (item_fits, item_pushed, record_pushed, section_pushed)

@@ -27,6 +27,7 @@ fn add_name<'a, A: Allocator + Copy>(
 }
 
 /// Adds the names of one record: its own, then the names of its items.
+#[tactic(auto, using(crate::proofs::BtfLemmas::Names::Gathering::item_names_more))]
 fn add_record_names<'t, T: TypeTable, A: Allocator + Copy>(
     names: &mut NameSet<'t, A>,
     table: &'t T,
@@ -45,6 +46,7 @@ fn add_record_names<'t, T: TypeTable, A: Allocator + Copy>(
 }
 
 /// The distinct non-empty names of a type table.
+#[tactic(auto, using(crate::proofs::BtfLemmas::Names::Gathering::record_names_more))]
 pub(crate) fn kept_names<'t, T: TypeTable, A: Allocator + Copy>(
     alloc: A,
     table: &'t T,

@@ -50,6 +50,7 @@ impl<A: Allocator + Copy> FirstUses<A> {
     }
 
     /// Notes the offset of a name. On an error the set of noted offsets is unspecified.
+    #[tactic(auto, using(crate::proofs::BtfLemmas::Strings::MarkSteps::note_cases))]
     pub(crate) fn note(&mut self, off: u32) -> Result<(), AllocError>
         requires { off < self.old.section_len }
         ensures section { self.new.section_len ≡ self.old.section_len }

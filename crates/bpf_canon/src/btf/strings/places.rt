@@ -111,6 +111,7 @@ impl<A: Allocator> SharedPlaces<'_, A> {
     }
 
     /// Appends the table: NUL, then each host with its NUL.
+    #[tactic(auto, using(crate::proofs::BtfLemmas::Strings::TableSpans::table_more))]
     pub(crate) fn push_table<B: Allocator>(&self, out: &mut Vec<u8, B>) -> Result<(), AllocError>
         ensures { OnOk result (out.new.items
             ≡ out.old.items ++ shared_table (placed_texts self.now)) }

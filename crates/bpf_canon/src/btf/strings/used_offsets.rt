@@ -38,6 +38,7 @@ impl<A: Allocator> Model for UsedOffsets<A> {
 
 impl<A: Allocator> UsedOffsets<A> {
     /// Numbers the noted offsets of a section.
+    #[tactic(auto, using(crate::proofs::BtfLemmas::Strings::MarkSteps::counts))]
     pub(crate) fn new(alloc: A, uses: FirstUses<A>) -> Result<UsedOffsets<A>, AllocError>
         requires { uses.section_len < 2 ^ 32 }
         ensures offsets { IfOk result (λ u. u.offsets ≡ uses.offsets) }

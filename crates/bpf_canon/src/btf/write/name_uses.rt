@@ -36,6 +36,7 @@ fn note_items<A: Allocator + Copy>(
 }
 
 /// Notes the names of a record: its own, then those of its items.
+#[tactic(auto, using(crate::proofs::BtfLemmas::Write::RecordNames::own_offset))]
 fn note_record<A: Allocator + Copy>(
     uses: &mut FirstUses<A>,
     this: &Record,
@@ -55,6 +56,7 @@ fn note_record<A: Allocator + Copy>(
 }
 
 /// The offsets of the names of all records, in the order of first use.
+#[tactic(auto, using(crate::proofs::BtfLemmas::Names::NoteSteps::record_noted))]
 pub(crate) fn noted_names<A: Allocator + Copy>(
     alloc: A,
     sections: &FileSections<'_>,

@@ -83,6 +83,7 @@ fn push_items<A: Allocator, B: Allocator + Copy>(
 }
 
 /// Appends everything after the third word of a record whose items have no names.
+#[tactic(auto, using(crate::proofs::BtfLemmas::Write::RecordWords::rest_more))]
 fn push_rest<A: Allocator>(
     out: &mut Vec<u8, A>,
     to: Order,
@@ -140,6 +141,7 @@ fn push_record<A: Allocator, B: Allocator + Copy>(
 }
 
 /// Appends all records.
+#[tactic(auto, using(crate::proofs::BtfLemmas::Write::RecordWords::record_more))]
 pub(crate) fn push_records<A: Allocator, B: Allocator + Copy>(
     out: &mut Vec<u8, A>,
     to: Order,

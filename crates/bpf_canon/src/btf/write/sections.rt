@@ -17,6 +17,7 @@ use btf_types::FileSections;
 use std::alloc::{AllocError, Allocator};
 
 /// The canonical bytes of sections whose names have these new offsets.
+#[tactic(auto, using(crate::proofs::BtfLemmas::Write::SectionFiles::types_low))]
 fn write_placed<A: Allocator + Copy>(
     alloc: A,
     to: Order,
@@ -39,6 +40,7 @@ fn write_placed<A: Allocator + Copy>(
 }
 
 /// The canonical bytes of the records that these sections encode.
+#[tactic(auto, using(crate::proofs::BtfLemmas::Write::SectionFiles::section_names))]
 pub(crate) fn write_sections<A: Allocator + Copy>(
     alloc: A,
     to: Order,

@@ -134,6 +134,7 @@ fn has_bit_fields<T: TypeTable>(table: &T, id: u32) -> bool
 }
 
 /// Appends a record.
+#[tactic(auto, using(crate::proofs::BtfLemmas::Write::WriteSteps::record_steps))]
 fn push_table_record<T: TypeTable, A: Allocator, B: Allocator + Copy>(
     out: &mut Vec<u8, A>,
     order: Order,
@@ -159,6 +160,7 @@ fn push_table_record<T: TypeTable, A: Allocator, B: Allocator + Copy>(
 }
 
 /// The bytes of all records.
+#[tactic(auto, using(crate::proofs::BtfLemmas::Write::WriteSteps::record_steps))]
 fn write_types<T: TypeTable, A: Allocator + Copy>(
     alloc: A,
     order: Order,
@@ -205,6 +207,7 @@ fn write_table<T: TypeTable, A: Allocator + Copy>(
 /// # Errors
 ///
 /// `AllocError` if an allocation failed.
+#[tactic(auto, using(crate::proofs::BtfLemmas::BtfFiles::file_steps))]
 pub fn write_btf<T: TypeTable, A: Allocator + Copy>(
     alloc: A,
     order: Order,

@@ -1,13 +1,8 @@
-use Rattle.std.proofs.Common.{◌++◌, ℕ, List, length, refl, ap, ◌∙◌, arith}
+use Rattle.std.proofs.Common.{◌++◌, ℕ, List, length, refl, ap, ◌∙◌}
 use Rattle.btf_raw.specs.Header.{header}
 use Rattle.bpf_canon.specs.btf.strings.NamesByPlace.{placed_texts}
-use Rattle.bpf_canon.proofs.BtfLemmas.Write.SectionFiles.{types_low, sections_written}
+use Rattle.bpf_canon.proofs.BtfLemmas.Write.SectionFiles.{sections_written}
 use Rattle.bpf_canon.proofs.btf.write.sections.write_placed.Goals as goal
-
-pub overflow_cast-types_len : goal.overflow_cast-types_len
-overflow_cast-types_len g c =
-    let s = c.args.sections.now in
-    omega (arith, types_low s.order s.types.now s.strings.now s.places.now c.requires.table)
 
 pub returns : goal.returns
 returns g c =

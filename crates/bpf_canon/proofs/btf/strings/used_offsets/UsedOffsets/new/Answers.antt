@@ -1,13 +1,8 @@
-use Rattle.std.proofs.Common.{◌+◌, ◌*◌, ◌∷◌, [], ◌++◌, List, ℕ, count_ones, arith, subst, sym, ap, ◌∙◌, rules}
+use Rattle.std.proofs.Common.{◌+◌, ◌*◌, List, ℕ, count_ones, arith, subst, sym, ap, rules}
 use Rattle.bpf_canon.specs.btf.strings.FirstUses.{Noted, slots_of}
-use Rattle.bpf_canon.proofs.BtfLemmas.Strings.MarkSteps.{slots_len, number_whole}
-use Rattle.bpf_canon.proofs.BtfLemmas.Strings.UsedSteps.{number_at_most, CountedTo, counted_none, counts_word, counted_all}
+use Rattle.bpf_canon.proofs.BtfLemmas.Strings.MarkSteps.{number_whole}
+use Rattle.bpf_canon.proofs.BtfLemmas.Strings.UsedSteps.{number_at_most, CountedTo, counts_word}
 use Rattle.bpf_canon.proofs.btf.strings.used_offsets.UsedOffsets.new.Goals as goal
-
-pub loop-word-init : goal.loop-word-init
-loop-word-init g c =
-    let slots = slots_of c.uses.inside.marks.items c.uses.inside.section_len in
-    subst (λ (l : List ℕ). CountedTo slots l 0 0) (sym (c.in_ok-push.ensures.items ∙ ap (λ (l : List ℕ). l ++ 0 ∷ []) c.in_ok-before.ensures.items)) (counted_none slots)
 
 pub overflow_add-count : goal.overflow_add-count
 overflow_add-count g c =
@@ -22,15 +17,3 @@ loop-word-preserved g c =
     let slots = slots_of i.marks.items i.section_len in
     let more = number_whole i.marks.items i.section_len c.loop-word.word c.index-bits.result.now c.uses.invariant.whole c.loop-word-test.true c.index-bits.ensures (search rules) in
     subst (λ (l : List ℕ). CountedTo slots l (c.loop-word.count + count_ones c.index-bits.result.now) (c.loop-word.word + 1)) (sym c.in_ok-push-2.ensures.items) (counts_word slots c.loop-word.before.items c.loop-word.count c.loop-word.word (count_ones c.index-bits.result.now) c.loop-word.invariant more)
-
-pub invariant_of-result : goal.invariant_of-result
-invariant_of-result g c =
-    let i = c.uses.inside in
-    let long = slots_len i.marks.items i.section_len in
-    record {
-      have_marks = c.uses.invariant;
-      are_counted = counted_all (slots_of i.marks.items i.section_len) c.loop-word.before.items c.loop-word.count c.loop-word.word c.loop-word.invariant (omega (arith, c.loop-word-test.false, c.loop-word.auto.word-end, long));
-    }
-
-pub returns-clause-section : goal.returns-clause-section
-returns-clause-section g c = slots_len c.uses.inside.marks.items c.uses.inside.section_len ∙ ap (λ (n : Noted). n.section_len) c.uses.view_is
