@@ -30,8 +30,9 @@
  * ASCII. A listing that is read is ASCII too, except in its comments, which may have any bytes: any
  * other byte outside a comment is a fault. Type listings are UTF-8, because names are.
  *
- * Platforms. Linux on x86-64 or on little-endian 64-bit ARM (aarch64). The library needs no later
- * extension of these processors.
+ * Platforms. Linux on x86-64-v2, that is with SSE4.2 and POPCNT, or on any little-endian 64-bit ARM
+ * (aarch64). On an older x86-64 processor the library ends its process when it is loaded, with a
+ * sentence on standard error and status 3.
  */
 #ifndef BPFCANON_H
 #define BPFCANON_H

@@ -55,9 +55,9 @@ def add_documents(folder, documents):
 
 
 def link_program(kit, target, *flags):
-    """Links the program from its object: with -static-pie it needs no C library."""
-    parts = [OBJECT, kit / "c" / "libos_c.a", kit / "c" / "liblibc_c.a"]
-    run(["cc", *flags, *LDFLAGS.split(), "-Wl,--gc-sections", "-o", target, *parts])
+    """Links the program from its object and the check of the processor: with -static-pie it needs no C library."""
+    parts = [TOP / "capi" / "processor.c", OBJECT, kit / "c" / "libos_c.a", kit / "c" / "liblibc_c.a"]
+    run(["cc", *CFLAGS.split(), *flags, *LDFLAGS.split(), "-Wl,--gc-sections", "-o", target, *parts])
 
 
 def build_library(tree, root, archive, **variables):

@@ -1,9 +1,9 @@
 #!/usr/bin/env python3
-"""Proves the program and compiles it to an object for the first x86-64 processors, which ./release links.
+"""Proves the program and compiles it to an object, which ./release links.
 
 usage: packaging/program.py [--keep]
 
-The object is crates/bpfcanon/out/release/bpfcanon.o; rt's own program needs an x86-64-v2 processor. The hash of its sources is
+The object is crates/bpfcanon/out/release/bpfcanon.o; rt's own program needs the C library of this machine. The hash of its sources is
 in the same folder. With --keep an object with the hash of the sources as they are is kept.
 """
 

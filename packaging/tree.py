@@ -9,7 +9,7 @@ import subprocess
 
 TOP = pathlib.Path(__file__).resolve().parent.parent
 PROGRAM = TOP / "crates" / "bpfcanon" / "out" / "bpfcanon"
-# The program's object for the first x86-64 processors (packaging/program.py), and the archives of the proved calls (capi/archive).
+# The program's object (packaging/program.py), and the archives of the proved calls (capi/archive).
 OBJECT = TOP / "crates" / "bpfcanon" / "out" / "release" / "bpfcanon.o"
 ARCHIVE = TOP / "crates" / "bpfcanon_c" / "out" / "libbpfcanon_c.a"
 ARM_ARCHIVE = ARCHIVE.with_name("libbpfcanon_c.aarch64.a")
