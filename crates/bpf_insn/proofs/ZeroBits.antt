@@ -9,23 +9,6 @@ use Rattle.bpf_words.specs.{Words.word16, Words.word32, Slots.Fields, Slots.AreF
 use Rattle.bpf_words.proofs.OneSpelling.{signed_16, signed_32, pattern_fits_16, pattern_fits_32}
 use Rattle.bpf_insn.specs.Plain.{Rule, IsWithin, IsPlain, rule_at, zero_unless, rule_bits, bits_of, zero_bits_at, registers_above}
 
--- ---- a table of 256 numbers
-
--- the values of a function at 0 to n - 1
-abbrev pub listed : (ℕ → ℕ) → ℕ → List ℕ
-listed f zero = []
-listed f (suc n) = f n ∷ listed f n
-
-same_at : (f g : ℕ → ℕ) (n : ℕ) → listed f n ≡ listed g n → (k : ℕ) → k < n → f k ≡ g k
-same_at f g zero e k h = absurd (omega (arith, h))
-same_at f g (suc n) e k h = elim (cases_eq k n) [
-  | inl same ↦ rw same (ap (λ (xs : List ℕ). slice_index xs 0) e)
-  | inr other ↦ same_at f g n (ap (λ (xs : List ℕ). drop 1 xs) e) k (omega arith)
-]
-
-pub same_table : (f g : ℕ → ℕ) → listed f 256 ≡ listed g 256 → (n : ℕ) → n < 256 → f n ≡ g n
-same_table f g e n h = same_at f g 256 e n h
-
 -- ---- the number of a slot, by its fields
 
 abbrev joined : ℕ → ℕ → ℕ → ℕ → ℕ
