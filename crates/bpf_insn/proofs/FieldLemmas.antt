@@ -1,12 +1,12 @@
 -- The fields of an instruction are in their ranges, and bytes determine the fields that they hold.
-use Rattle.std.proofs.Common.{◌≡◌, ℕ, ◌+◌, ◌*◌, ◌/◌, ◌%◌, ◌^◌, ◌<◌, ℤ, pos, List, [], ◌∷◌, ◌++◌, refl, ap, sym, ◌∙◌, arith, slice_index}
+use Rattle.std.proofs.Common.{rules, ◌≡◌, ℕ, ◌+◌, ◌*◌, ◌/◌, ◌%◌, ◌^◌, ◌<◌, ℤ, pos, List, [], ◌∷◌, ◌++◌, refl, ap, sym, ◌∙◌, arith, slice_index}
 use Rattle.std.specs.Int.{w16, w32, cast_unsigned, cast_signed}
 use Rattle.std.proofs.lemmas.Int.{ints}
 use Rattle.bpf_words.specs.declared.Order.{Order, TheVariants.Little, TheVariants.Big}
 use Rattle.bpf_words.specs.{Words.word16, Words.word32, Slots.Fields, Slots.AreFields, Slots.spelled}
 use Rattle.bpf_words.proofs.OneSpelling.{word-injective_16, word-injective_32, signed_16, signed_32, pattern_fits_16, pattern_fits_32}
-use Rattle.bpf_insn.specs.Table.{fields_of, IsInsn, IsOffset, IsImm, alu_code, alu_class, branch_code, branch_class, source_bit, source, immediate, IsOperand, IsWideOf, alu_offset, wide_imm, wide_next_imm, movsx_width, movsx_bits, swap_opcode, swap_bits, size_number, small_size_number, atomic_size, atomic_number}
-use Rattle.bpf_insn.proofs.FormLemmas.{wide_allowed}
+use Rattle.bpf_insn.specs.Table.{fields_of, IsInsn, IsOffset, IsImm, alu_code, alu_class, branch_code, branch_class, source_bit, immediate, IsOperand, IsWideOf, alu_offset, wide_imm, wide_next_imm, movsx_bits, swap_opcode, swap_bits, size_number, small_size_number, atomic_size, atomic_number}
+use Rattle.bpf_insn.proofs.FormLemmas.{dst_is_reg, src_is_reg}
 use Rattle.bpf_insn.specs.Faults.{held}
 use Rattle.bpf_insn.specs.declared.fault.SlotCause.TheVariants.{Opcode, Dst, Src, Offset, Imm}
 use Rattle.bpf_insn.specs.declared.insn.{Width.Width, Width.TheVariants.W32, Width.TheVariants.W64, Operand.Operand}
@@ -19,15 +19,15 @@ use Rattle.bpf_insn.specs.declared.insn.MovsxForm.{MovsxForm}
 use Rattle.bpf_insn.specs.declared.insn.MovsxForm.TheVariants as movsx
 use Rattle.bpf_insn.specs.declared.insn.SwapKind.{SwapKind}
 use Rattle.bpf_insn.specs.declared.insn.SwapKind.TheVariants as swap
-use Rattle.bpf_insn.specs.declared.insn.{SwapBits.SwapBits, SwapBits.TheVariants.B16, SwapBits.TheVariants.B32, SwapBits.TheVariants.B64, Size.Size}
+use Rattle.bpf_insn.specs.declared.insn.{SwapBits.SwapBits, SwapBits.TheVariants.B16, Size.Size}
 use Rattle.bpf_insn.specs.declared.insn.Size.TheVariants as size
 use Rattle.bpf_insn.specs.declared.insn.SmallSize.{SmallSize}
 use Rattle.bpf_insn.specs.declared.insn.SmallSize.TheVariants as small
 use Rattle.bpf_insn.specs.declared.insn.AtomicOp.{AtomicOp}
 use Rattle.bpf_insn.specs.declared.insn.AtomicOp.TheVariants as atomic
 use Rattle.bpf_insn.specs.declared.insn.{WideOf.WideOf, Insn.Insn}
-use Rattle.bpf_insn.specs.declared.insn.WideOf.TheVariants.{Number, MapFd, MapValueFd, VarAddr, CodeAddr, MapIdx, MapValueIdx}
-use Rattle.bpf_insn.specs.declared.insn.Insn.TheVariants.{Alu, Movsx, Neg, Swap, Jump, JumpLong, Branch, CallHelper, CallLocal, CallBtf, Exit, Load, LoadSigned, StoreImm, StoreReg, Atomic, Wide, PacketAbs, PacketInd}
+use Rattle.bpf_insn.specs.declared.insn.WideOf.TheVariants.{Number}
+use Rattle.bpf_insn.specs.declared.insn.Insn.TheVariants.{Alu, Movsx, Swap, Branch, Atomic, Wide}
 
 -- ---- ranges
 
@@ -40,43 +40,39 @@ jump_class_below W32 = omega arith
 jump_class_below W64 = omega arith
 
 code_below : (op : AluOp) → alu_code op < 16
-code_below op = elim op as (λ x. alu_code x < 16) [ alu.Add ↦ omega arith | alu.Sub ↦ omega arith | alu.Mul ↦ omega arith | alu.Div ↦ omega arith | alu.Sdiv ↦ omega arith | alu.Or ↦ omega arith | alu.And ↦ omega arith | alu.Lsh ↦ omega arith | alu.Rsh ↦ omega arith | alu.Mod ↦ omega arith | alu.Smod ↦ omega arith | alu.Xor ↦ omega arith | alu.Mov ↦ omega arith | alu.Arsh ↦ omega arith ]
+code_below op = elim op as (λ x. alu_code x < 16) [ alu.Add ↦ omega arith | _ ↦ omega arith ]
 
 offset_below : (op : AluOp) → alu_offset op < 64
-offset_below op = elim op as (λ x. alu_offset x < 64) [ alu.Add ↦ omega arith | alu.Sub ↦ omega arith | alu.Mul ↦ omega arith | alu.Div ↦ omega arith | alu.Sdiv ↦ omega arith | alu.Or ↦ omega arith | alu.And ↦ omega arith | alu.Lsh ↦ omega arith | alu.Rsh ↦ omega arith | alu.Mod ↦ omega arith | alu.Smod ↦ omega arith | alu.Xor ↦ omega arith | alu.Mov ↦ omega arith | alu.Arsh ↦ omega arith ]
+offset_below op = elim op as (λ x. alu_offset x < 64) [ alu.Add ↦ omega arith | _ ↦ omega arith ]
 
 branch_below : (op : BranchOp) → branch_code op < 16
-branch_below op = elim op as (λ x. branch_code x < 16) [ branch.Eq ↦ omega arith | branch.Gt ↦ omega arith | branch.Ge ↦ omega arith | branch.Set ↦ omega arith | branch.Ne ↦ omega arith | branch.Sgt ↦ omega arith | branch.Sge ↦ omega arith | branch.Lt ↦ omega arith | branch.Le ↦ omega arith | branch.Slt ↦ omega arith | branch.Sle ↦ omega arith ]
+branch_below op = elim op as (λ x. branch_code x < 16) [ branch.Eq ↦ omega arith | _ ↦ omega arith ]
 
 atomic_below : (op : AtomicOp) → atomic_number op < 256
-atomic_below op = elim op as (λ x. atomic_number x < 256) [ atomic.Add ↦ omega arith | atomic.Or ↦ omega arith | atomic.And ↦ omega arith | atomic.Xor ↦ omega arith | atomic.FetchAdd ↦ omega arith | atomic.FetchOr ↦ omega arith | atomic.FetchAnd ↦ omega arith | atomic.FetchXor ↦ omega arith | atomic.Xchg ↦ omega arith | atomic.Cmpxchg ↦ omega arith ]
+atomic_below op = elim op as (λ x. atomic_number x < 256) [ atomic.Add ↦ omega arith | _ ↦ omega arith ]
 
 size_below : (z : Size) → size_number z < 4
-size_below z = elim z as (λ x. size_number x < 4) [ size.B ↦ omega arith | size.H ↦ omega arith | size.W ↦ omega arith | size.D ↦ omega arith ]
+size_below z = elim z as (λ x. size_number x < 4) [ size.B ↦ omega arith | _ ↦ omega arith ]
 
 small_below : (z : SmallSize) → small_size_number z < 4
-small_below z = elim z as (λ x. small_size_number x < 4) [ small.B ↦ omega arith | small.H ↦ omega arith | small.W ↦ omega arith ]
+small_below z = elim z as (λ x. small_size_number x < 4) [ small.B ↦ omega arith | _ ↦ omega arith ]
 
 atomic_size_below : (w : Width) → atomic_size w < 4
 atomic_size_below W32 = omega arith
 atomic_size_below W64 = omega arith
 
 swap_below : (k : SwapKind) → swap_opcode k < 256
-swap_below k = elim k as (λ x. swap_opcode x < 256) [ swap.Le ↦ omega arith | swap.Be ↦ omega arith | swap.Swap ↦ omega arith ]
+swap_below k = elim k as (λ x. swap_opcode x < 256) [ swap.Le ↦ omega arith | _ ↦ omega arith ]
 
 bits_below : (b : SwapBits) → swap_bits b < 128
-bits_below b = elim b as (λ x. swap_bits x < 128) [ B16 ↦ omega arith | B32 ↦ omega arith | B64 ↦ omega arith ]
+bits_below b = elim b as (λ x. swap_bits x < 128) [ B16 ↦ omega arith | _ ↦ omega arith ]
 
 movsx_below : (f : MovsxForm) → movsx_bits f < 64
-movsx_below f = elim f as (λ x. movsx_bits x < 64) [ movsx.W32From8 ↦ omega arith | movsx.W32From16 ↦ omega arith | movsx.W64From8 ↦ omega arith | movsx.W64From16 ↦ omega arith | movsx.W64From32 ↦ omega arith ]
+movsx_below f = elim f as (λ x. movsx_bits x < 64) [ movsx.W32From8 ↦ omega arith | _ ↦ omega arith ]
 
 bit_below : (a : Operand) → source_bit a < 2
 bit_below (arg.Imm k) = omega arith
 bit_below (arg.Reg r) = omega arith
-
-source_below : (a : Operand) → IsOperand a → source a < 16
-source_below (arg.Imm k) h = omega arith
-source_below (arg.Reg r) h = omega (arith, r.in_range)
 
 small_offset : (n : ℕ) → n < 256 → IsOffset (pos n)
 small_offset n h = omega (arith, ints)
@@ -93,67 +89,32 @@ pattern_signed n h = omega (arith, ints)
 
 wide_imm_fits : (what : WideOf) → IsWideOf what → IsImm (wide_imm what)
 wide_imm_fits (Number n) h = pattern_signed (n % 2 ^ 32) (omega arith)
-wide_imm_fits (MapFd k) h = h
-wide_imm_fits (MapValueFd k m) h = h.0
-wide_imm_fits (VarAddr k m) h = h.0
-wide_imm_fits (CodeAddr k) h = h
-wide_imm_fits (MapIdx k) h = h
-wide_imm_fits (MapValueIdx k m) h = h.0
+wide_imm_fits _ h = search rules
 
 pub wide_next_fits : (what : WideOf) → IsWideOf what → IsImm (wide_next_imm what)
 wide_next_fits (Number n) h = pattern_signed (n / 2 ^ 32) (omega arith)
-wide_next_fits (MapFd k) h = small_imm 0 (omega arith)
-wide_next_fits (MapValueFd k m) h = h.1
-wide_next_fits (VarAddr k m) h = h.1
-wide_next_fits (CodeAddr k) h = small_imm 0 (omega arith)
-wide_next_fits (MapIdx k) h = small_imm 0 (omega arith)
-wide_next_fits (MapValueIdx k m) h = h.1
+wide_next_fits _ h = search rules
 
-zero_offset : IsOffset (pos 0)
-zero_offset = small_offset 0 (omega arith)
+opcode_below : (i : Insn) → (fields_of i).opcode < 256
+opcode_below (Swap kind bits d) = swap_below kind
+opcode_below _ = omega (arith, code_below, branch_below, bit_below, class_below, jump_class_below, size_below, small_below, atomic_size_below)
 
-zero_imm : IsImm (pos 0)
-zero_imm = small_imm 0 (omega arith)
+offset_fits : (i : Insn) → IsInsn i → IsOffset (fields_of i).off
+offset_fits (Alu width op d a) h = small_offset (alu_offset op) (omega (arith, offset_below op))
+offset_fits (Movsx f d s) h = small_offset (movsx_bits f) (omega (arith, movsx_below f))
+offset_fits _ h = search rules
+
+imm_fits : (i : Insn) → IsInsn i → IsImm (fields_of i).imm
+imm_fits (Alu width op d a) h = immediate_fits a h
+imm_fits (Swap kind bits d) h = small_imm (swap_bits bits) (omega (arith, bits_below bits))
+imm_fits (Branch width op d a o) h = immediate_fits a h.0
+imm_fits (Atomic width op d s o) h = small_imm (atomic_number op) (atomic_below op)
+imm_fits (Wide d what) h = wide_imm_fits what h
+imm_fits _ h = search rules
 
 pub fields_in_range : (i : Insn) → IsInsn i → AreFields (fields_of i)
-fields_in_range (Alu width op d a) h =
-    record { opcode = omega (arith, code_below op, bit_below a, class_below width); dst = omega (arith, d.in_range); src = source_below a h; off = small_offset (alu_offset op) (omega (arith, offset_below op)); imm = immediate_fits a h }
-fields_in_range (Movsx f d s) h =
-    record { opcode = omega (arith, class_below (movsx_width f)); dst = omega (arith, d.in_range); src = omega (arith, s.in_range); off = small_offset (movsx_bits f) (omega (arith, movsx_below f)); imm = zero_imm }
-fields_in_range (Neg width d) h =
-    record { opcode = omega (arith, class_below width); dst = omega (arith, d.in_range); src = omega arith; off = zero_offset; imm = zero_imm }
-fields_in_range (Swap kind bits d) h =
-    record { opcode = swap_below kind; dst = omega (arith, d.in_range); src = omega arith; off = zero_offset; imm = small_imm (swap_bits bits) (omega (arith, bits_below bits)) }
-fields_in_range (Jump o) h =
-    record { opcode = omega arith; dst = omega arith; src = omega arith; off = h; imm = zero_imm }
-fields_in_range (JumpLong k) h =
-    record { opcode = omega arith; dst = omega arith; src = omega arith; off = zero_offset; imm = h }
-fields_in_range (Branch width op d a o) h =
-    record { opcode = omega (arith, branch_below op, bit_below a, jump_class_below width); dst = omega (arith, d.in_range); src = source_below a h.0; off = h.1; imm = immediate_fits a h.0 }
-fields_in_range (CallHelper k) h =
-    record { opcode = omega arith; dst = omega arith; src = omega arith; off = zero_offset; imm = h }
-fields_in_range (CallLocal k) h =
-    record { opcode = omega arith; dst = omega arith; src = omega arith; off = zero_offset; imm = h }
-fields_in_range (CallBtf k o) h =
-    record { opcode = omega arith; dst = omega arith; src = omega arith; off = h.1; imm = h.0 }
-fields_in_range Exit h =
-    record { opcode = omega arith; dst = omega arith; src = omega arith; off = zero_offset; imm = zero_imm }
-fields_in_range (Load z d s o) h =
-    record { opcode = omega (arith, size_below z); dst = omega (arith, d.in_range); src = omega (arith, s.in_range); off = h; imm = zero_imm }
-fields_in_range (LoadSigned z d s o) h =
-    record { opcode = omega (arith, small_below z); dst = omega (arith, d.in_range); src = omega (arith, s.in_range); off = h; imm = zero_imm }
-fields_in_range (StoreImm z d o k) h =
-    record { opcode = omega (arith, size_below z); dst = omega (arith, d.in_range); src = omega arith; off = h.0; imm = h.1 }
-fields_in_range (StoreReg z d s o) h =
-    record { opcode = omega (arith, size_below z); dst = omega (arith, d.in_range); src = omega (arith, s.in_range); off = h; imm = zero_imm }
-fields_in_range (Atomic width op d s o) h =
-    record { opcode = omega (arith, atomic_size_below width); dst = omega (arith, d.in_range); src = omega (arith, s.in_range); off = h; imm = small_imm (atomic_number op) (atomic_below op) }
-fields_in_range (Wide d what) h =
-    record { opcode = omega arith; dst = omega (arith, d.in_range); src = omega (arith, wide_allowed what); off = zero_offset; imm = wide_imm_fits what h }
-fields_in_range (PacketAbs z k) h =
-    record { opcode = omega (arith, small_below z); dst = omega arith; src = omega arith; off = zero_offset; imm = h }
-fields_in_range (PacketInd z s k) h =
-    record { opcode = omega (arith, small_below z); dst = omega arith; src = omega (arith, s.in_range); off = zero_offset; imm = h }
+fields_in_range i h =
+    record { opcode = opcode_below i; dst = omega (arith, dst_is_reg i); src = omega (arith, src_is_reg i); off = offset_fits i h; imm = imm_fits i h }
 
 -- ---- the values of fields in the bytes of a slot
 
