@@ -1,13 +1,14 @@
 -- The fields of an instruction are in their ranges, and bytes determine the fields that they hold.
-use Rattle.std.proofs.Common.{rules, ◌≡◌, ℕ, ◌+◌, ◌*◌, ◌/◌, ◌%◌, ◌^◌, ◌<◌, ℤ, pos, List, [], ◌∷◌, ◌++◌, refl, ap, sym, ◌∙◌, arith, slice_index}
+use Rattle.std.proofs.Common.{rules, ◌↔◌, ◌≡◌, ℕ, ◌+◌, ◌*◌, ◌/◌, ◌%◌, ◌^◌, ◌<◌, ℤ, pos, List, [], ◌∷◌, ◌++◌, refl, ap, sym, ◌∙◌, arith, slice_index}
 use Rattle.std.specs.Int.{w16, w32, cast_unsigned, cast_signed}
 use Rattle.std.proofs.lemmas.Int.{ints}
 use Rattle.bpf_words.specs.declared.Order.{Order, TheVariants.Little, TheVariants.Big}
 use Rattle.bpf_words.specs.{Words.word16, Words.word32, Slots.Fields, Slots.AreFields, Slots.spelled}
 use Rattle.bpf_words.proofs.OneSpelling.{word-injective_16, word-injective_32, signed_16, signed_32, pattern_fits_16, pattern_fits_32}
-use Rattle.bpf_insn.specs.Table.{fields_of, IsInsn, IsOffset, IsImm, alu_code, alu_class, branch_code, branch_class, source_bit, immediate, IsOperand, IsWideOf, alu_offset, wide_imm, wide_next_imm, movsx_bits, swap_opcode, swap_bits, size_number, small_size_number, atomic_size, atomic_number}
+use Rattle.bpf_insn.specs.Table.{fields_of, next_imm_of, IsInsn, IsOffset, IsImm, alu_code, alu_class, branch_code, branch_class, source_bit, immediate, IsOperand, IsWideOf, alu_offset, wide_imm, wide_next_imm, movsx_bits, swap_opcode, swap_bits, size_number, small_size_number, atomic_size, atomic_number}
 use Rattle.bpf_insn.proofs.FormLemmas.{dst_is_reg, src_is_reg}
-use Rattle.bpf_insn.specs.Faults.{held}
+use Rattle.bpf_insn.specs.Faults.{Agrees, held}
+use Rattle.bpf_insn.specs.Spelling.{second_slot, spelling}
 use Rattle.bpf_insn.specs.declared.fault.SlotCause.TheVariants.{Opcode, Dst, Src, Offset, Imm}
 use Rattle.bpf_insn.specs.declared.insn.{Width.Width, Width.TheVariants.W32, Width.TheVariants.W64, Operand.Operand}
 use Rattle.bpf_insn.specs.declared.insn.Operand.TheVariants as arg
@@ -138,37 +139,31 @@ held_imm : (order : Order) (f : Fields) (r : List ℕ) → held order Imm (spell
 held_imm Little f r = refl
 held_imm Big f r = refl
 
--- ---- two slots whose bytes agree on a field have the same value in it
+-- ---- an instruction agrees with the bytes of a slot on the fields that have the same values
 
-module _ (order : Order) (f g : Fields) (r q : List ℕ) (a : AreFields f) (b : AreFields g) where
-  pub same_opcode : held order Opcode (spelled order f ++ r) ≡ held order Opcode (spelled order g ++ q) → f.opcode ≡ g.opcode
-  same_opcode e = ap (λ xs. slice_index xs 0) (sym (held_opcode order f r) ∙ e ∙ held_opcode order g q)
+pub record Compared (order : Order) (i : Insn) (slot : Fields) (s : List ℕ) : Type 0 where
+  pub opcode : Agrees order Opcode i s ↔ ((fields_of i).opcode ≡ slot.opcode)
+  pub dst : Agrees order Dst i s ↔ ((fields_of i).dst ≡ slot.dst)
+  pub src : Agrees order Src i s ↔ ((fields_of i).src ≡ slot.src)
+  pub off : Agrees order Offset i s ↔ ((fields_of i).off ≡ slot.off)
+  pub imm : Agrees order Imm i s ↔ ((fields_of i).imm ≡ slot.imm)
 
-  pub same_dst : held order Dst (spelled order f ++ r) ≡ held order Dst (spelled order g ++ q) → f.dst ≡ g.dst
-  same_dst e = ap (λ xs. slice_index xs 0) (sym (held_dst order f r a.dst a.src) ∙ e ∙ held_dst order g q b.dst b.src)
+by_values : {X : Type 0} (encoded : X → List ℕ) (x y : X) (xs ys : List ℕ) → xs ≡ encoded x → ys ≡ encoded y → (encoded x ≡ encoded y → x ≡ y) → (xs ≡ ys) ↔ (x ≡ y)
+by_values encoded x y xs ys a b same = (λ e. same (sym a ∙ e ∙ b), λ e. a ∙ ap encoded e ∙ sym b)
 
-  pub same_src : held order Src (spelled order f ++ r) ≡ held order Src (spelled order g ++ q) → f.src ≡ g.src
-  same_src e = ap (λ xs. slice_index xs 0) (sym (held_src order f r a.dst a.src) ∙ e ∙ held_src order g q b.dst b.src)
-
-  pub same_off : held order Offset (spelled order f ++ r) ≡ held order Offset (spelled order g ++ q) → f.off ≡ g.off
-  same_off e =
-      signed_16 f.off g.off a.off b.off (word-injective_16 order _ _ (pattern_fits_16 f.off a.off) (pattern_fits_16 g.off b.off) (sym (held_off order f r) ∙ e ∙ held_off order g q))
-
-  pub same_imm : held order Imm (spelled order f ++ r) ≡ held order Imm (spelled order g ++ q) → f.imm ≡ g.imm
-  same_imm e =
-      signed_32 f.imm g.imm a.imm b.imm (word-injective_32 order _ _ (pattern_fits_32 f.imm a.imm) (pattern_fits_32 g.imm b.imm) (sym (held_imm order f r) ∙ e ∙ held_imm order g q))
-
-  pub hold_opcode : f.opcode ≡ g.opcode → held order Opcode (spelled order f ++ r) ≡ held order Opcode (spelled order g ++ q)
-  hold_opcode e = held_opcode order f r ∙ ap (λ (x : ℕ). x ∷ []) e ∙ sym (held_opcode order g q)
-
-  pub hold_dst : f.dst ≡ g.dst → held order Dst (spelled order f ++ r) ≡ held order Dst (spelled order g ++ q)
-  hold_dst e = held_dst order f r a.dst a.src ∙ ap (λ (x : ℕ). x ∷ []) e ∙ sym (held_dst order g q b.dst b.src)
-
-  pub hold_src : f.src ≡ g.src → held order Src (spelled order f ++ r) ≡ held order Src (spelled order g ++ q)
-  hold_src e = held_src order f r a.dst a.src ∙ ap (λ (x : ℕ). x ∷ []) e ∙ sym (held_src order g q b.dst b.src)
-
-  pub hold_off : f.off ≡ g.off → held order Offset (spelled order f ++ r) ≡ held order Offset (spelled order g ++ q)
-  hold_off e = held_off order f r ∙ ap (λ (x : ℤ). word16 order (cast_unsigned w16 x)) e ∙ sym (held_off order g q)
-
-  pub hold_imm : f.imm ≡ g.imm → held order Imm (spelled order f ++ r) ≡ held order Imm (spelled order g ++ q)
-  hold_imm e = held_imm order f r ∙ ap (λ (x : ℤ). word32 order (cast_unsigned w32 x)) e ∙ sym (held_imm order g q)
+pub compared : (order : Order) (i : Insn) (slot : Fields) (rest : List ℕ) → IsInsn i → AreFields slot → Compared order i slot (spelled order slot ++ rest)
+unfolding spelling
+compared order i slot rest h a =
+    let f = fields_of i in
+    let q = second_slot order (next_imm_of i) in
+    let b = fields_in_range i h in
+    let byte : ℕ → List ℕ = λ n. n ∷ [] in
+    record {
+      opcode = by_values byte f.opcode slot.opcode _ _ (held_opcode order f q) (held_opcode order slot rest) (λ e. cc);
+      dst = by_values byte f.dst slot.dst _ _ (held_dst order f q b.dst b.src) (held_dst order slot rest a.dst a.src) (λ e. cc);
+      src = by_values byte f.src slot.src _ _ (held_src order f q b.dst b.src) (held_src order slot rest a.dst a.src) (λ e. cc);
+      off = by_values (λ (n : ℤ). word16 order (cast_unsigned w16 n)) f.off slot.off _ _ (held_off order f q) (held_off order slot rest)
+          (λ e. signed_16 f.off slot.off b.off a.off (word-injective_16 order _ _ (pattern_fits_16 f.off b.off) (pattern_fits_16 slot.off a.off) e));
+      imm = by_values (λ (n : ℤ). word32 order (cast_unsigned w32 n)) f.imm slot.imm _ _ (held_imm order f q) (held_imm order slot rest)
+          (λ e. signed_32 f.imm slot.imm b.imm a.imm (word-injective_32 order _ _ (pattern_fits_32 f.imm b.imm) (pattern_fits_32 slot.imm a.imm) e));
+    }

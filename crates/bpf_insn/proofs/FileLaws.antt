@@ -9,7 +9,7 @@ use Rattle.bpf_insn.specs.Spelling.{spelling, second_slot, file_of, InsnFile}
 use Rattle.bpf_insn.specs.Faults.{held, BeginsWith, IsSlotFault, IsInsnFault}
 use Rattle.bpf_insn.proofs.FormLemmas.{insn_form, same_form, opcode_of_form}
 use Rattle.bpf_insn.proofs.FieldLemmas as field
-use Rattle.bpf_insn.proofs.{FaultLemmas.slot_length, InsnLaws.same_insn}
+use Rattle.bpf_insn.proofs.{FaultLemmas.begins_agrees, FaultLemmas.slot_length, InsnLaws.same_insn}
 use Rattle.bpf_insn.proofs.WideLemmas.{IsWideLoad, wide_of_form, second_next, second_length}
 use Rattle.bpf_insn.specs.declared.{fault.SlotCause.SlotCause, fault.SlotFault.SlotFault, insn.Insn.Insn, insn.Insn.TheVariants.Wide}
 use Rattle.bpf_insn.specs.declared.fault.SlotCause.TheVariants.{Truncated, Opcode, Dst, Src, Offset, Imm, Reserved, NextImm}
@@ -62,16 +62,11 @@ begins_once order i j s b c =
     let g = fields_of j in
     let r = second_slot order (next_imm_of i) ++ b.1.0 in
     let q = second_slot order (next_imm_of j) ++ c.1.0 in
-    let x = field.fields_in_range i b.0 in
-    let y = field.fields_in_range j c.0 in
     let e : spelled order f ++ r ≡ spelled order g ++ q =
     sym (append_assoc (spelled order f) (second_slot order (next_imm_of i)) b.1.0) ∙ sym b.1.1 ∙ c.1.1 ∙ append_assoc (spelled order g) (second_slot order (next_imm_of j)) c.1.0 in
-    let same : f ≡ g = same_fields f g
-    (field.same_opcode order f g r q x y (ap (held order Opcode) e))
-    (field.same_dst order f g r q x y (ap (held order Dst) e))
-    (field.same_src order f g r q x y (ap (held order Src) e))
-    (field.same_off order f g r q x y (ap (held order Offset) e))
-    (field.same_imm order f g r q x y (ap (held order Imm) e)) in
+    let agrees = begins_agrees order i (spelled order g ++ q) (b.0, (b.1.0, sym e ∙ sym (append_assoc (spelled order f) (second_slot order (next_imm_of i)) b.1.0))) in
+    let k = field.compared order i g q b.0 (field.fields_in_range j c.0) in
+    let same : f ≡ g = same_fields f g (k.opcode.0 agrees.0) (k.dst.0 agrees.1) (k.src.0 agrees.2) (k.off.0 agrees.3) (k.imm.0 agrees.4) in
     let form_same : insn_form i ≡ insn_form j = same_form i (insn_form j) (ap (λ (h : Fields). h.opcode) same ∙ opcode_of_form j) in
     let length_same : length (spelled order f) ≡ length (spelled order g) = slot_length order f ∙ sym (slot_length order g) in
     let tails : r ≡ q =

@@ -75,18 +75,9 @@ module _ (order : Order) (d s : ℕ) (k : ℤ) (rest : List ℕ) (hd : IsReg d) 
 
   -- the bytes agree with a wide load on the first slot
   agrees_imm : (m : ℤ) → IsImm m → AgreesThrough order Imm (Wide (reg d hd) (wide_load s k m)) (spelled order (fields 0x18 d s (pos 0) k) ++ rest)
-  unfolding spelling
   agrees_imm m hm =
-      let i : Insn = Wide (reg d hd) (wide_load s k m) in
-      let b = field.fields_in_range i (wide_load_is s k m hs hk hm) in
-      let f : Fields = fields 0x18 d s (pos 0) k in
-      let q = second_slot order (next_imm_of i) in (
-        field.hold_opcode order (fields_of i) f q rest b wide_in_range refl,
-        field.hold_dst order (fields_of i) f q rest b wide_in_range refl,
-        field.hold_src order (fields_of i) f q rest b wide_in_range (wide_load_source s k m hs),
-        field.hold_off order (fields_of i) f q rest b wide_in_range refl,
-        field.hold_imm order (fields_of i) f q rest b wide_in_range (wide_load_imm s k m hk hm),
-      )
+      let same = field.compared order (Wide (reg d hd) (wide_load s k m)) (fields 0x18 d s (pos 0) k) rest (wide_load_is s k m hs hk hm) wide_in_range in
+      (same.opcode.1 refl, same.dst.1 refl, same.src.1 (wide_load_source s k m hs), same.off.1 refl, same.imm.1 (wide_load_imm s k m hk hm))
 
   some_imm : SomeAgreesThrough order Imm (spelled order (fields 0x18 d s (pos 0) k) ++ rest)
   some_imm =
@@ -94,14 +85,7 @@ module _ (order : Order) (d s : ℕ) (k : ℤ) (rest : List ℕ) (hd : IsReg d) 
 
   -- an instruction that agrees on the opcode is a wide load
   wide_by_opcode : (i : Insn) → IsInsn i → Agrees order Opcode i (spelled order (fields 0x18 d s (pos 0) k) ++ rest) → IsWideLoad i
-  unfolding spelling
-  wide_by_opcode i hi g =
-      wide_of_opcode i (field.same_opcode order (fields_of i) (fields 0x18 d s (pos 0) k) (second_slot order (next_imm_of i)) rest (field.fields_in_range i hi) wide_in_range g)
-
-  source_by_src : (i : Insn) → IsInsn i → Agrees order Src i (spelled order (fields 0x18 d s (pos 0) k) ++ rest) → (fields_of i).src ≡ s
-  unfolding spelling
-  source_by_src i hi g =
-      field.same_src order (fields_of i) (fields 0x18 d s (pos 0) k) (second_slot order (next_imm_of i)) rest (field.fields_in_range i hi) wide_in_range g
+  wide_by_opcode i hi g = wide_of_opcode i ((field.compared order i (fields 0x18 d s (pos 0) k) rest hi wide_in_range).opcode.0 g)
 
   wide_length : (i : Insn) → IsWideLoad i → length (spelling order i) ≡ 16
   unfolding spelling
@@ -146,7 +130,7 @@ module _ (order : Order) (d s : ℕ) (k : ℤ) (rest : List ℕ) (hd : IsReg d) 
   none_next : LacksNextImm s → slice_range rest 4 8 ≢ word32 order 0 → ¬ SomeAgreesThrough order NextImm (spelled order (fields 0x18 d s (pos 0) k) ++ rest)
   none_next lacks ne some =
       let w = wide_by_opcode some.0 some.1 some.2.0 in
-      let src : wide_source w.what ≡ s = sym (ap (λ (x : Insn). (fields_of x).src) w.is) ∙ source_by_src some.0 some.1 some.2.2 in
+      let src : wide_source w.what ≡ s = sym (ap (λ (x : Insn). (fields_of x).src) w.is) ∙ (field.compared order some.0 (fields 0x18 d s (pos 0) k) rest some.1 wide_in_range).src.0 some.2.2 in
       let zero : wide_next_imm w.what ≡ pos 0 = lacks_next w.what (subst LacksNextImm (sym src) lacks) in
       ne (sym (held_next order (fields 0x18 d s (pos 0) k) rest) ∙ sym some.2.6 ∙ wide_next_word some.0 w ∙ ap (λ (x : ℤ). word32 order (cast_unsigned w32 x)) zero)
 
