@@ -1,5 +1,5 @@
 -- The fields of an instruction are in their ranges, and bytes determine the fields that they hold.
-use Rattle.std.proofs.Common.{rules, ◌↔◌, ◌≡◌, ℕ, ◌+◌, ◌*◌, ◌/◌, ◌%◌, ◌^◌, ◌<◌, ℤ, pos, List, [], ◌∷◌, ◌++◌, refl, ap, sym, ◌∙◌, arith, slice_index}
+use Rattle.std.proofs.Common.{rules, ◌↔◌, ◌≡◌, ℕ, ◌+◌, ◌*◌, ◌/◌, ◌%◌, ◌^◌, ◌<◌, ℤ, pos, List, [], ◌∷◌, ◌++◌, refl, ap, sym, ◌∙◌, arith}
 use Rattle.std.specs.Int.{w16, w32, cast_unsigned, cast_signed}
 use Rattle.std.proofs.lemmas.Int.{ints}
 use Rattle.bpf_words.specs.declared.Order.{Order, TheVariants.Little, TheVariants.Big}

@@ -2,10 +2,10 @@
 use Rattle.std.proofs.Common.{Bool, ℕ, ◌+◌, ◌-◌, ◌<◌, ◌≤◌, List, [], ◌∷◌, ◌++◌, length, IsTrue, refl, arith}
 use Rattle.std.proofs.lemmas.List.Elements.{All-nil}
 use Rattle.bpf_words.specs.declared.Order.{Order}
-use Rattle.bpf_insn.specs.{Table.IsInsn, Faults.IsInsnFault, Groups.AreGroupsOf, Groups.holds}
+use Rattle.bpf_insn.specs.{Table.IsInsn, Faults.IsInsnFault, declared.insn.Insn.Insn, Groups.AreGroupsOf, Groups.Brings, Groups.group_of, Groups.holds}
 use Rattle.bpf_insn.specs.FileSteps.{AddsInsnAt, AreSettled, HasGroupsBefore, IsFaultAt}
 use Rattle.bpf_insn.proofs.DecodeLemmas as one
-use Rattle.bpf_insn.proofs.GroupLemmas.{one_group_more}
+use Rattle.bpf_insn.proofs.GroupLemmas.{one_pushed}
 use Rattle.bpf_insn.specs.declared.{fault.SlotFault.SlotFault, group.Group.Group, group.GroupSet.GroupSet}
 
 -- the set has the groups of the instructions before an offset, and the marked opcodes are settled
@@ -25,7 +25,7 @@ pub step : (order : Order) (bytes : List ℕ) (at : ℕ) (before after : GroupSe
 step order bytes at before after len h more = record {
   insns = h.insns ++ more.0 ∷ [];
   spelled = one.step order bytes h.insns at h.spelled more.0 len (more.1, more.2);
-  groups = λ g. one_group_more (holds before g) (holds after g) h.insns more.0 g (h.groups g) (more.3 g);
+  groups = λ g. one_pushed (λ (i : Insn). Brings (group_of i) g) (holds before g) (holds after g) h.insns more.0 (h.groups g) (more.3 g);
 }
 
 pub moved_on : (order : Order) (bytes : List ℕ) (at : ℕ) (before after : GroupSet) (len : ℕ) → HasGroupsBefore order bytes at before → AddsInsnAt order bytes at before after len

@@ -1,12 +1,12 @@
 -- Laws of spellings and of files.
 use Rattle.std.proofs.Common.{◌≡◌, ◌≢◌, ℕ, ◌+◌, ◌<◌, ◌≤◌, ◌^◌, ℤ, List, [], ◌∷◌, ◌++◌, length, drop, slice_range, refl, ap, sym, ◌∙◌, arith, inl, inr, ◌⊎◌, subst, Option, Some, None, append_assoc, length-append, All, FitsSigned, Result, Ok, Err, IfOk, IfErr}
-use Rattle.std.proofs.{Math.Seq.drop-append_seam, lemmas.List.append-nil, lemmas.List.Elements.All-head, lemmas.List.Elements.All-tail}
+use Rattle.std.proofs.{Math.Seq.drop-append_seam, lemmas.List.append-nil, lemmas.List.nil_from_length, lemmas.List.Elements.All-head, lemmas.List.Elements.All-tail}
 use Rattle.std.specs.Int.{w32, cast_unsigned}
 use Rattle.bpf_words.specs.{declared.Order.Order, Words.word32, Slots.Fields, Slots.spelled}
 use Rattle.bpf_words.proofs.OneSpelling.{same_fields, word-injective_32, signed_32, pattern_fits_32}
 use Rattle.bpf_insn.specs.Table.{fields_of, next_imm_of, IsInsn, wide_next_imm}
 use Rattle.bpf_insn.specs.Spelling.{spelling, second_slot, file_of, InsnFile}
-use Rattle.bpf_insn.specs.Faults.{held, BeginsWith, IsSlotFault, IsInsnFault}
+use Rattle.bpf_insn.specs.Faults.{BeginsWith, IsSlotFault, IsInsnFault}
 use Rattle.bpf_insn.proofs.FormLemmas.{insn_form, same_form, opcode_of_form}
 use Rattle.bpf_insn.proofs.FieldLemmas as field
 use Rattle.bpf_insn.proofs.{FaultLemmas.begins_agrees, FaultLemmas.slot_length, InsnLaws.same_insn}
@@ -93,11 +93,7 @@ at_most_two order i = elim (wide_or_not i) [
 pub no_proper_prefix : (order : Order) (i j : Insn) (more : List ℕ) → IsInsn i → IsInsn j → spelling order j ≡ spelling order i ++ more → (i ≡ j) × (more ≡ [])
 no_proper_prefix order i j more hi hj e =
     let same = begins_once order i j (spelling order j) (hi, (more, e)) (hj, ([], sym (append-nil (spelling order j)))) in
-    (same, rest_empty more (omega (arith, ap length e, length-append (spelling order i) more, ap (λ (x : Insn). length (spelling order x)) same)))
-  where
-    rest_empty : (xs : List ℕ) → length xs ≡ 0 → xs ≡ []
-    rest_empty [] h = refl
-    rest_empty (x ∷ xs) h = absurd (omega arith)
+    (same, nil_from_length more (omega (arith, ap length e, length-append (spelling order i) more, ap (λ (x : Insn). length (spelling order x)) same)))
 
 -- ---- files
 
@@ -193,7 +189,3 @@ answered order s (Ok x) found fault i b =
     let len : x.1 ≡ length (spelling order i) = found.1 ∙ ap (λ (y : Insn). length (spelling order y)) same in
     ap (λ (y : Insn). okay y x.1) same ∙ ap (λ (n : ℕ). okay i n) len
 answered order s (Err f) found fault i b = absurd (fault.unspelled i b)
-
--- decoding a file returns its list of instructions
-pub decoded : (order : Order) (s : List ℕ) (xs ys : List Insn) → InsnFile order s xs → InsnFile order s ys → xs ≡ ys
-decoded order s xs ys a b = one_list order s xs ys a b

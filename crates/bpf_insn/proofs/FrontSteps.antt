@@ -1,6 +1,6 @@
 -- Reading the complete instructions at the start of the bytes in turn.
 use Rattle.std.proofs.Common.{◌≡◌, ◌≤◌, ◌+◌, ◌-◌, ◌*◌, ◌/◌, ◌++◌, ◌∙◌, ℕ, List, [], ◌∷◌, Some, None, length, take, drop, refl, sym, ap, subst, arith, append_assoc, length-append, length-drop}
-use Rattle.std.proofs.lemmas.List.{drop-drop, take_all, Concat.flat_map-append, Elements.All-append, Elements.All-nil}
+use Rattle.std.proofs.lemmas.List.{drop_all, drop-drop, take_all, Concat.flat_map-append, Elements.All-append, Elements.All-nil}
 use Rattle.bpf_words.specs.declared.Order.{Order}
 use Rattle.bpf_insn.specs.{declared.fault.SlotFault.SlotFault, declared.insn.Insn.Insn, Table.IsInsn, FileSteps.ReadsTo, Fronts.IsInsnFront}
 use Rattle.bpf_insn.specs.{Spelling.file_of, Spelling.spelling, Faults.BeginsWith, Faults.IsSlotFault}
@@ -70,7 +70,7 @@ module _ (order : Order) (bytes : List ℕ) (at n : ℕ) (read : ReadsTo order b
   -- reading ended at the end of the bytes
   pub stops_at_end : length bytes ≤ at → IsInsnFront order bytes (record { len = at; count = n; stop = None })
   stops_at_end h =
-      let none : drop at bytes ≡ [] = empty (drop at bytes) (omega (arith, length-drop at bytes)) in
+      let none : drop at bytes ≡ [] = drop_all at bytes h in
       let P : List ℕ → Type 0 = λ s. (i : Insn) → ¬ BeginsWith order i s in
       record {
         insns = read.insns;
@@ -79,10 +79,6 @@ module _ (order : Order) (bytes : List ℕ) (at n : ℕ) (read : ReadsTo order b
         counted = read.counted;
         stops = none;
       }
-    where
-      empty : (ys : List ℕ) → length ys ≡ 0 → ys ≡ []
-      empty [] e = refl
-      empty (y ∷ ys) e = absurd (omega arith)
 
 -- an instruction that is not plain, and the plain ones that follow it
 pub reads_other_and_plain : (order : Order) (bytes : List ℕ) (at n : ℕ) (i : Insn) (len plain : ℕ) → ReadsTo order bytes at n
