@@ -51,6 +51,7 @@ impl FoundGroups {
     }
 
     /// Adds the group of an instruction that has this opcode.
+    #[tactic(auto, using(crate::proofs::OpcodeGroups::settles))]
     fn add(&mut self, opcode: u8, insn: Insn)
         requires opcode { opcode ≡ (fields_of insn).opcode }
         requires settled { AreSettled self.old.settled self.old.set }
@@ -107,6 +108,7 @@ impl FoundGroups {
     }
 
     /// Adds the group of the instruction at offset `pos`, and returns its length in bytes.
+    #[tactic(auto, using(crate::proofs::OpcodeGroups::already_there_if))]
     #[inline(always)]
     fn add_at(&mut self, order: Order, bytes: &[u8], pos: usize) -> Result<usize, SlotFault>
         requires pos { pos < length bytes.now }
