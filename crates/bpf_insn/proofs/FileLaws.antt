@@ -1,58 +1,46 @@
 -- Laws of spellings and of files.
-use Rattle.std.proofs.Common.{◌≡◌, ◌≢◌, ℕ, ◌+◌, ◌<◌, ◌≤◌, ◌^◌, ℤ, List, [], ◌∷◌, ◌++◌, length, drop, slice_range, refl, ap, sym, ◌∙◌, arith, inl, inr, ◌⊎◌, subst, Option, Some, None, append_assoc, length-append, All, FitsSigned, Result, Ok, Err, IfOk, IfErr}
+use Rattle.std.proofs.Common.{Bool, true, false, IfSome, ◌≡◌, ◌≢◌, ℕ, ◌+◌, ◌≤◌, ℤ, List, [], ◌∷◌, ◌++◌, length, drop, slice_range, refl, ap, sym, ◌∙◌, arith, inl, inr, Option, Some, None, append_assoc, length-append, All, FitsSigned, Result, Ok, Err, IfOk, IfErr}
 use Rattle.std.proofs.{Math.Seq.drop-append_seam, lemmas.List.append-nil, lemmas.List.nil_from_length, lemmas.List.Elements.All-head, lemmas.List.Elements.All-tail}
 use Rattle.std.specs.Int.{w32, cast_unsigned}
+use Rattle.std.specs.Option.{is_some}
 use Rattle.bpf_words.specs.{declared.Order.Order, Words.word32, Slots.Fields, Slots.spelled}
 use Rattle.bpf_words.proofs.OneSpelling.{same_fields, word-injective_32, signed_32, pattern_fits_32}
-use Rattle.bpf_insn.specs.Table.{fields_of, next_imm_of, IsInsn, wide_next_imm}
+use Rattle.bpf_insn.specs.Table.{fields_of, next_imm_of, IsInsn}
 use Rattle.bpf_insn.specs.Spelling.{spelling, second_slot, file_of, InsnFile}
 use Rattle.bpf_insn.specs.Faults.{BeginsWith, IsSlotFault, IsInsnFault}
 use Rattle.bpf_insn.proofs.FormLemmas.{insn_form, same_form, opcode_of_form}
 use Rattle.bpf_insn.proofs.FieldLemmas as field
 use Rattle.bpf_insn.proofs.{FaultLemmas.begins_agrees, FaultLemmas.slot_length, InsnLaws.same_insn}
-use Rattle.bpf_insn.proofs.WideLemmas.{IsWideLoad, wide_of_form, second_next, second_length}
+use Rattle.bpf_insn.proofs.WideLemmas.{second_next, second_length}
 use Rattle.bpf_insn.specs.declared.{fault.SlotCause.SlotCause, fault.SlotFault.SlotFault, insn.Insn.Insn, insn.Insn.TheVariants.Wide}
-use Rattle.bpf_insn.specs.declared.fault.SlotCause.TheVariants.{Truncated, Opcode, Dst, Src, Offset, Imm, Reserved, NextImm}
+use Rattle.bpf_insn.specs.declared.fault.SlotCause.TheVariants.{Truncated, Opcode}
+use Rattle.bpf_insn.specs.declared.form.Form.{Form}
 use Rattle.bpf_insn.specs.declared.form.Form.TheVariants as form
 
 -- ---- one instruction
 
--- a wide load, or an instruction of one slot
-wide_or_not : (i : Insn) → (insn_form i ≡ form.Wide) ⊎ (next_imm_of i ≡ None)
-wide_or_not (Wide d what) = inl refl
-wide_or_not _ = inr refl
+-- an instruction has a next_imm if its form is that of wide loads
+abbrev has_next : Form → Bool
+has_next form.Wide = true
+has_next _ = false
 
-next_fits : (i : Insn) (w : IsWideLoad i) → IsInsn i → (next_imm_of i ≡ Some (wide_next_imm w.what)) × (cast_unsigned w32 (wide_next_imm w.what) < 2 ^ 32) × FitsSigned w32 (wide_next_imm w.what)
-next_fits i w h =
-    let is : IsInsn (Wide w.dst w.what) = subst IsInsn w.is h in
-    let fits = field.wide_next_fits w.what is in
-    (ap next_imm_of w.is, pattern_fits_32 _ fits, fits)
+next_of_form : (i : Insn) → is_some (next_imm_of i) ≡ has_next (insn_form i)
+next_of_form (Wide d what) = refl
+next_of_form _ = refl
 
--- instructions with the same form and the same bytes after the first slot have the same next_imm
-same_next : (order : Order) (i j : Insn) (r q : List ℕ) → IsInsn i → IsInsn j → insn_form i ≡ insn_form j
-    → second_slot order (next_imm_of i) ++ r ≡ second_slot order (next_imm_of j) ++ q → next_imm_of i ≡ next_imm_of j
-same_next order i j r q hi hj f e = elim (wide_or_not i) [
-  | inl wi ↦
-      let a = wide_of_form i wi in
-      let b = wide_of_form j (sym f ∙ wi) in
-      let x = next_fits i a hi in
-      let y = next_fits j b hj in
-      let left : slice_range (second_slot order (next_imm_of i) ++ r) 4 8 ≡ word32 order (cast_unsigned w32 (wide_next_imm a.what)) =
-      ap (λ (o : Option ℤ). slice_range (second_slot order o ++ r) 4 8) x.0 ∙ second_next order (wide_next_imm a.what) r in
-      let right : slice_range (second_slot order (next_imm_of j) ++ q) 4 8 ≡ word32 order (cast_unsigned w32 (wide_next_imm b.what)) =
-      ap (λ (o : Option ℤ). slice_range (second_slot order o ++ q) 4 8) y.0 ∙ second_next order (wide_next_imm b.what) q in
-      let words = sym left ∙ ap (λ (l : List ℕ). slice_range l 4 8) e ∙ right in
-      let same = signed_32 (wide_next_imm a.what) (wide_next_imm b.what) x.2 y.2 (word-injective_32 order _ _ x.1 y.1 words) in
-      x.0 ∙ ap (λ (z : ℤ). Some z) same ∙ sym y.0
-  | inr ni ↦ elim (wide_or_not j) [
-    | inl wj ↦
-        let a = wide_of_form i (f ∙ wj) in
-        let x = next_fits i a hi in
-        let apart : None ≡ Some (wide_next_imm a.what) = sym ni ∙ x.0 in
-        absurd (cc)
-    | inr nj ↦ ni ∙ sym nj
-  ]
-]
+next_fits : (i : Insn) → IsInsn i → IfSome (next_imm_of i) (FitsSigned w32)
+next_fits (Wide d what) h = field.wide_next_fits what h
+next_fits _ h = tt
+
+-- equal bytes of second slots have the same next_imm
+same_next : (order : Order) (m n : Option ℤ) (r q : List ℕ) → IfSome m (FitsSigned w32) → IfSome n (FitsSigned w32) → is_some m ≡ is_some n
+    → second_slot order m ++ r ≡ second_slot order n ++ q → m ≡ n
+same_next order None None r q hm hn some e = refl
+same_next order (Some m) (Some n) r q hm hn some e =
+    let words : word32 order (cast_unsigned w32 m) ≡ word32 order (cast_unsigned w32 n) =
+    sym (second_next order m r) ∙ ap (λ (l : List ℕ). slice_range l 4 8) e ∙ second_next order n q in
+    ap (λ (z : ℤ). Some z) (signed_32 m n hm hn (word-injective_32 order _ _ (pattern_fits_32 m hm) (pattern_fits_32 n hn) words))
+same_next order _ _ r q hm hn some e = absurd (cc)
 
 -- bytes begin with at most one spelling
 pub begins_once : (order : Order) (i j : Insn) (s : List ℕ) → BeginsWith order i s → BeginsWith order j s → i ≡ j
@@ -71,23 +59,21 @@ begins_once order i j s b c =
     let length_same : length (spelled order f) ≡ length (spelled order g) = slot_length order f ∙ sym (slot_length order g) in
     let tails : r ≡ q =
     sym (drop-append_seam (spelled order f) r) ∙ ap (λ (n : ℕ). drop n (spelled order f ++ r)) length_same ∙ ap (drop (length (spelled order g))) e ∙ drop-append_seam (spelled order g) q in
-    same_insn i j b.0 c.0 same (same_next order i j b.1.0 c.1.0 b.0 c.0 form_same tails)
+    same_insn i j b.0 c.0 same (same_next order (next_imm_of i) (next_imm_of j) b.1.0 c.1.0 (next_fits i b.0) (next_fits j c.0)
+    (next_of_form i ∙ ap has_next form_same ∙ sym (next_of_form j)) tails)
 
 pub at_least_a_slot : (order : Order) (i : Insn) → 8 ≤ length (spelling order i)
 unfolding spelling
 at_least_a_slot order i = omega (arith, length-append (spelled order (fields_of i)) (second_slot order (next_imm_of i)), slot_length order (fields_of i))
 
+second_at_most : (order : Order) (m : Option ℤ) → length (second_slot order m) ≤ 8
+second_at_most order None = omega arith
+second_at_most order (Some m) = omega (arith, second_length order m)
+
 pub at_most_two : (order : Order) (i : Insn) → length (spelling order i) ≤ 16
 unfolding spelling
-at_most_two order i = elim (wide_or_not i) [
-  | inl w ↦
-      let a = wide_of_form i w in
-      let two : length (second_slot order (next_imm_of i)) ≡ 8 = ap (λ (x : Insn). length (second_slot order (next_imm_of x))) a.is ∙ second_length order (wide_next_imm a.what) in
-      omega (arith, two, length-append (spelled order (fields_of i)) (second_slot order (next_imm_of i)), slot_length order (fields_of i))
-  | inr n ↦
-      let two : length (second_slot order (next_imm_of i)) ≡ 0 = ap (λ (x : Option ℤ). length (second_slot order x)) n in
-      omega (arith, two, length-append (spelled order (fields_of i)) (second_slot order (next_imm_of i)), slot_length order (fields_of i))
-]
+at_most_two order i =
+    omega (arith, second_at_most order (next_imm_of i), length-append (spelled order (fields_of i)) (second_slot order (next_imm_of i)), slot_length order (fields_of i))
 
 -- no two instructions have the same spelling, and no spelling is a proper prefix of another
 pub no_proper_prefix : (order : Order) (i j : Insn) (more : List ℕ) → IsInsn i → IsInsn j → spelling order j ≡ spelling order i ++ more → (i ≡ j) × (more ≡ [])
@@ -106,8 +92,17 @@ rests_same order i j r q same e =
 pub cons_same : {i j : Insn} {xs ys : List Insn} → i ≡ j → xs ≡ ys → i ∷ xs ≡ j ∷ ys
 cons_same e f = cc
 
-nothing_begins : (order : Order) (i : Insn) (r : List ℕ) → [] ≡ spelling order i ++ r → ⊥
-nothing_begins order i r e = omega (arith, ap length e, length-append (spelling order i) r, at_least_a_slot order i)
+pub empty_begins_none : (order : Order) (i : Insn) → ¬ BeginsWith order i []
+empty_begins_none order i b = omega (arith, ap length b.1.1, length-append (spelling order i) b.1.0, at_least_a_slot order i)
+
+-- two sequences of spellings at the start of the same bytes have the same first instruction
+same_heads : (order : Order) (i j : Insn) (xs ys : List Insn) (r q : List ℕ) → All IsInsn (i ∷ xs) → All IsInsn (j ∷ ys) → file_of order (i ∷ xs) ++ r ≡ file_of order (j ∷ ys) ++ q
+    → (i ≡ j) × (file_of order xs ++ r ≡ file_of order ys ++ q)
+same_heads order i j xs ys r q hx hy e =
+    let whole : spelling order i ++ (file_of order xs ++ r) ≡ spelling order j ++ (file_of order ys ++ q) =
+    sym (append_assoc (spelling order i) (file_of order xs) r) ∙ e ∙ append_assoc (spelling order j) (file_of order ys) q in
+    let same = begins_once order i j (spelling order i ++ (file_of order xs ++ r)) (All-head IsInsn i xs hx, (file_of order xs ++ r, refl)) (All-head IsInsn j ys hy, (file_of order ys ++ q, whole)) in
+    (same, rests_same order i j (file_of order xs ++ r) (file_of order ys ++ q) same whole)
 
 -- one of two sequences of spellings at the start of the same bytes is a prefix of the other
 -- (the first is at least as long as the second if the bytes after it don't begin with a spelling)
@@ -117,38 +112,28 @@ longest_front order xs [] r q hx hy e none = omega arith
 longest_front order [] (j ∷ ys) r q hx hy e none =
     absurd (none j (All-head IsInsn j ys hy, (file_of order ys ++ q, e ∙ append_assoc (spelling order j) (file_of order ys) q)))
 longest_front order (i ∷ xs) (j ∷ ys) r q hx hy e none =
-    let left = append_assoc (spelling order i) (file_of order xs) r in
-    let right = append_assoc (spelling order j) (file_of order ys) q in
-    let whole : spelling order i ++ (file_of order xs ++ r) ≡ spelling order j ++ (file_of order ys ++ q) = sym left ∙ e ∙ right in
-    let same = begins_once order i j (spelling order i ++ (file_of order xs ++ r)) (All-head IsInsn i xs hx, (file_of order xs ++ r, refl)) (All-head IsInsn j ys hy, (file_of order ys ++ q, whole)) in
-    let rests = rests_same order i j (file_of order xs ++ r) (file_of order ys ++ q) same whole in
-    let more = longest_front order xs ys r q (All-tail IsInsn i xs hx) (All-tail IsInsn j ys hy) rests none in
-    omega (arith, more)
+    omega (arith, longest_front order xs ys r q (All-tail IsInsn i xs hx) (All-tail IsInsn j ys hy) (same_heads order i j xs ys r q hx hy e).1 none)
+
+-- two sequences of the same number of instructions at the start of the same bytes
+pub fronts_same : (order : Order) (xs ys : List Insn) (r q : List ℕ) → All IsInsn xs → All IsInsn ys → length xs ≡ length ys → file_of order xs ++ r ≡ file_of order ys ++ q → (xs ≡ ys) × (r ≡ q)
+fronts_same order [] [] r q hx hy n e = (refl, e)
+fronts_same order (i ∷ xs) (j ∷ ys) r q hx hy n e =
+    let heads = same_heads order i j xs ys r q hx hy e in
+    let more = fronts_same order xs ys r q (All-tail IsInsn i xs hx) (All-tail IsInsn j ys hy) (omega arith) heads.1 in
+    (cons_same heads.0 more.0, more.1)
+fronts_same order _ _ r q hx hy n e = absurd (omega arith)
+
+-- if the bytes after a sequence of spellings in a file don't begin with a spelling, the sequence is the file
+whole_front : (order : Order) (xs ys : List Insn) (r : List ℕ) → All IsInsn xs → All IsInsn ys → file_of order xs ++ r ≡ file_of order ys
+    → ((i : Insn) → ¬ BeginsWith order i r) → (xs ≡ ys) × (r ≡ [])
+whole_front order xs ys r hx hy e none =
+    let whole : file_of order xs ++ r ≡ file_of order ys ++ [] = e ∙ sym (append-nil (file_of order ys)) in
+    fronts_same order xs ys r [] hx hy
+    (omega (arith, longest_front order xs ys r [] hx hy whole none, longest_front order ys xs [] r hy hx (sym whole) (empty_begins_none order))) whole
 
 -- a file is the encoding of at most one list of instructions
 pub one_list : (order : Order) (bytes : List ℕ) (xs ys : List Insn) → InsnFile order bytes xs → InsnFile order bytes ys → xs ≡ ys
-one_list order bytes xs ys a b = lists_same order xs ys a.0 b.0 (sym a.1 ∙ b.1)
-  where
-    lists_same : (order : Order) (xs ys : List Insn) → All IsInsn xs → All IsInsn ys → file_of order xs ≡ file_of order ys → xs ≡ ys
-    lists_same order [] [] hx hy e = refl
-    lists_same order [] (j ∷ ys) hx hy e = absurd (nothing_begins order j (file_of order ys) e)
-    lists_same order (i ∷ xs) [] hx hy e = absurd (nothing_begins order i (file_of order xs) (sym e))
-    lists_same order (i ∷ xs) (j ∷ ys) hx hy e =
-        let same = begins_once order i j (file_of order (i ∷ xs)) (All-head IsInsn i xs hx, (file_of order xs, refl)) (All-head IsInsn j ys hy, (file_of order ys, e)) in
-        let rests = rests_same order i j (file_of order xs) (file_of order ys) same e in
-        cons_same same (lists_same order xs ys (All-tail IsInsn i xs hx) (All-tail IsInsn j ys hy) rests)
-
--- if the bytes after a sequence of spellings in a file don't begin with a spelling, there are none
-rest_of_file : (order : Order) (xs ys : List Insn) (r : List ℕ) → All IsInsn xs → All IsInsn ys → file_of order xs ++ r ≡ file_of order ys
-    → ((i : Insn) → ¬ BeginsWith order i r) → r ≡ []
-rest_of_file order [] [] r hx hy e none = e
-rest_of_file order [] (j ∷ ys) r hx hy e none = absurd (none j (All-head IsInsn j ys hy, (file_of order ys, e)))
-rest_of_file order (i ∷ xs) [] r hx hy e none =
-    absurd (nothing_begins order i (file_of order xs ++ r) (sym e ∙ append_assoc (spelling order i) (file_of order xs) r))
-rest_of_file order (i ∷ xs) (j ∷ ys) r hx hy e none =
-    let whole : spelling order i ++ (file_of order xs ++ r) ≡ spelling order j ++ file_of order ys = sym (append_assoc (spelling order i) (file_of order xs) r) ∙ e in
-    let same = begins_once order i j (spelling order i ++ (file_of order xs ++ r)) (All-head IsInsn i xs hx, (file_of order xs ++ r, refl)) (All-head IsInsn j ys hy, (file_of order ys, whole)) in
-    rest_of_file order xs ys r (All-tail IsInsn i xs hx) (All-tail IsInsn j ys hy) (rests_same order i j (file_of order xs ++ r) (file_of order ys) same whole) none
+one_list order bytes xs ys a b = (whole_front order xs ys [] a.0 b.0 (append-nil (file_of order xs) ∙ sym a.1 ∙ b.1) (empty_begins_none order)).0
 
 -- if the bytes after a sequence of spellings don't begin with a spelling and aren't empty, their fault is that of the file
 pub file_fault : (order : Order) (bytes : List ℕ) (xs : List Insn) (rest : List ℕ) (fault reported : SlotFault) → All IsInsn xs → bytes ≡ file_of order xs ++ rest → rest ≢ []
@@ -157,7 +142,7 @@ file_fault order bytes xs rest fault reported h e ne f p c =
     let longest : (others : List Insn) (more : List ℕ) → All IsInsn others → bytes ≡ file_of order others ++ more → length others ≤ length xs =
     λ others more ho eo. longest_front order xs others rest more h ho (sym e ∙ eo) f.unspelled in
     record {
-      no_file = λ insns file. ne (rest_of_file order xs insns rest h file.0 (sym e ∙ file.1) f.unspelled);
+      no_file = λ insns file. ne (whole_front order xs insns rest h file.0 (sym e ∙ file.1) f.unspelled).1;
       insns = xs;
       rest = rest;
       front = record { each = h; front = e; longest = longest };
@@ -171,12 +156,7 @@ file_fault order bytes xs rest fault reported h e ne f p c =
 pub fault_within : (order : Order) (s : List ℕ) (at : ℕ) (cause : SlotCause) → IsSlotFault order s (record { pos = at; cause = cause }) → at ≤ length s
 fault_within order s at Truncated f = elim f.first [ inl h ↦ omega (arith, h.1) | inr h ↦ omega (arith, h.0, h.3) ]
 fault_within order s at Opcode f = omega (arith, f.first.2)
-fault_within order s at Dst f = omega (arith, f.first.0, f.first.2)
-fault_within order s at Src f = omega (arith, f.first.0, f.first.2)
-fault_within order s at Offset f = omega (arith, f.first.0, f.first.2)
-fault_within order s at Imm f = omega (arith, f.first.0, f.first.2)
-fault_within order s at Reserved f = omega (arith, f.first.0, f.first.2)
-fault_within order s at NextImm f = omega (arith, f.first.0, f.first.2)
+fault_within order s at _ f = omega (arith, f.first.0, f.first.2)
 
 abbrev okay : Insn → ℕ → Result (Insn × ℕ) SlotFault
 okay i n = Ok (i, n)

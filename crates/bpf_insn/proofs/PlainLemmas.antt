@@ -6,7 +6,7 @@ use Rattle.bpf_words.proofs.OneSpelling.{same_fields}
 use Rattle.bpf_insn.specs.Table.{fields_of, next_imm_of, IsInsn, IsOffset, IsImm, alu_code, alu_class, alu_offset, code_opcode}
 use Rattle.bpf_insn.specs.{Spelling.spelling, Faults.BeginsWith, Faults.IsSlotFault, declared.fault.SlotFault.SlotFault, declared.insn.AluOp.AluOp}
 use Rattle.bpf_insn.specs.{Forms.form_at, Forms.form_opcode, Forms.alu_code_number, Plain.IsWithin, Plain.IsPlain, Plain.rule_of_form}
-use Rattle.bpf_insn.proofs.{OpcodeLemmas.opcode_from_form_at, ReadLemmas.read_whole, WitnessLemmas.reg, FileLaws.begins_once}
+use Rattle.bpf_insn.proofs.{OpcodeLemmas.opcode_from_form_at, ReadLemmas.read_whole, WitnessLemmas.reg, WitnessLemmas.plain_op, WitnessLemmas.plain_code, WitnessLemmas.plain_offset, FileLaws.begins_once}
 use Rattle.bpf_insn.specs.declared.insn.AluOp.TheVariants as alu
 use Rattle.bpf_insn.specs.declared.insn.Operand.TheVariants as arg
 use Rattle.bpf_insn.specs.declared.{insn.Insn.Insn, form.Source.TheVariants.K, form.Source.TheVariants.X, form.AluCode.AluCode}
@@ -21,29 +21,6 @@ record IsOneSlot (slot : Fields) : Type 0 where
   is : IsInsn insn
   fields : fields_of insn ≡ slot
   alone : next_imm_of insn ≡ None
-
--- the operation of a code that has offset 0
-abbrev plain_op : AluCode → AluOp
-plain_op code.Add = alu.Add
-plain_op code.Sub = alu.Sub
-plain_op code.Mul = alu.Mul
-plain_op code.Div = alu.Div
-plain_op code.Or = alu.Or
-plain_op code.And = alu.And
-plain_op code.Lsh = alu.Lsh
-plain_op code.Rsh = alu.Rsh
-plain_op code.Mod = alu.Mod
-plain_op code.Xor = alu.Xor
-plain_op code.Mov = alu.Mov
-plain_op code.Arsh = alu.Arsh
-
-plain_code : (op : AluCode) → alu_code (plain_op op) ≡ alu_code_number op
-plain_code code.Add = refl
-plain_code _ = refl
-
-plain_offset : (op : AluCode) → alu_offset (plain_op op) ≡ 0
-plain_offset code.Add = refl
-plain_offset _ = refl
 
 -- fields that the rule of a form allows are those of an instruction
 plain_insn : (f : Form) (d s : ℕ) (o k : ℤ) → IsSomeAnd (rule_of_form f) (λ r. IsWithin r (fields (form_opcode f) d s o k)) → IsOffset o → IsImm k
