@@ -38,3 +38,6 @@ fault_here order bytes at set fault h more f = one.fault_here order bytes h.insn
 
 pub whole_file : (order : Order) (bytes : List ℕ) (at : ℕ) (set : GroupSet) → HasGroupsBefore order bytes at set → length bytes ≤ at → AreGroupsOf order bytes set
 whole_file order bytes at set h done = (h.insns, one.whole_file order bytes h.insns at h.spelled done, h.groups)
+
+-- the steps of groups_in
+pub ruleset group_steps = (at_start, step, whole_file)

@@ -90,3 +90,6 @@ reads_other_and_plain order bytes at n i len plain read one run =
     let P : ℕ → Type 0 = λ to. ReadsTo order bytes to (n + (1 + plain / 8)) in
     let Q : ℕ → Type 0 = λ m. ReadsTo order bytes (at + len + plain) m in
     subst P (omega arith) (subst Q (omega arith) all)
+
+-- how insn_front ends
+pub ruleset front_ends = (stops_at_end, stops_at_fault)

@@ -26,12 +26,7 @@ code_group _ width = base width
 abbrev form_group : Form → Group
 form_group (form.Alu width c source) = code_group c width
 form_group (form.Neg width) = base width
-form_group (form.Swap kind) = Base32
-form_group form.Jump = Base32
-form_group form.JumpLong = Base32
 form_group (form.Branch width op source) = base width
-form_group form.Call = Base32
-form_group form.Exit = Base32
 form_group (form.Load z) = size_group z
 form_group (form.LoadSigned z) = Base64
 form_group (form.StoreImm z) = size_group z
@@ -40,6 +35,7 @@ form_group (form.Atomic width) = atomic_group width
 form_group form.Wide = Base64
 form_group (form.PacketAbs z) = Packet
 form_group (form.PacketInd z) = Packet
+form_group _ = Base32
 
 op_group : (op : AluOp) (width : Width) → alu_group op width ≡ code_group (op_code op) width
 op_group alu.Add width = refl

@@ -3,15 +3,13 @@ use Rattle.std.proofs.Common.{◌≡◌, ℕ, ℤ, pos, List, length, take, Opti
 use Rattle.std.specs.Option.{IsSomeAnd, option_and_then}
 use Rattle.bpf_words.specs.{declared.Order.Order, Slots.Fields, Slots.AreFields, Slots.fields, Slots.spelled}
 use Rattle.bpf_words.proofs.OneSpelling.{same_fields}
-use Rattle.bpf_insn.specs.Table.{fields_of, next_imm_of, IsInsn, IsOffset, IsImm, alu_code, alu_class, alu_offset, code_opcode}
-use Rattle.bpf_insn.specs.{Spelling.spelling, Faults.BeginsWith, Faults.IsSlotFault, declared.fault.SlotFault.SlotFault, declared.insn.AluOp.AluOp}
-use Rattle.bpf_insn.specs.{Forms.form_at, Forms.form_opcode, Forms.alu_code_number, Plain.IsWithin, Plain.IsPlain, Plain.rule_of_form}
+use Rattle.bpf_insn.specs.Table.{fields_of, next_imm_of, IsInsn, IsOffset, IsImm, alu_class, code_opcode}
+use Rattle.bpf_insn.specs.{Spelling.spelling, Faults.BeginsWith, Faults.IsSlotFault, declared.fault.SlotFault.SlotFault}
+use Rattle.bpf_insn.specs.{Forms.form_at, Forms.form_opcode, Plain.IsWithin, Plain.IsPlain, Plain.rule_of_form}
 use Rattle.bpf_insn.proofs.{OpcodeLemmas.opcode_from_form_at, ReadLemmas.read_whole, WitnessLemmas.reg, WitnessLemmas.plain_op, WitnessLemmas.plain_code, WitnessLemmas.plain_offset, FileLaws.begins_once}
-use Rattle.bpf_insn.specs.declared.insn.AluOp.TheVariants as alu
 use Rattle.bpf_insn.specs.declared.insn.Operand.TheVariants as arg
-use Rattle.bpf_insn.specs.declared.{insn.Insn.Insn, form.Source.TheVariants.K, form.Source.TheVariants.X, form.AluCode.AluCode}
+use Rattle.bpf_insn.specs.declared.{insn.Insn.Insn, form.Source.TheVariants.K, form.Source.TheVariants.X}
 use Rattle.bpf_insn.specs.declared.insn.Insn.TheVariants.{Alu, Neg, Jump, JumpLong, Branch, CallHelper, Exit, Load, LoadSigned, StoreImm, StoreReg, PacketAbs, PacketInd}
-use Rattle.bpf_insn.specs.declared.form.AluCode.TheVariants as code
 use Rattle.bpf_insn.specs.declared.form.Form.{Form}
 use Rattle.bpf_insn.specs.declared.form.Form.TheVariants as form
 

@@ -1,8 +1,9 @@
 -- A slot is plain if the bits that its opcode's rule requires to be 0 are 0, and its registers are at most 10.
-use Rattle.std.proofs.Common.{◌≡◌, ℕ, zero, suc, ◌+◌, ◌*◌, ◌^◌, ◌<◌, ◌≤◌, pos, List, [], ◌∷◌, Bool, true, false, Option, Some, None, refl, ap, sym, ◌∙◌, arith, lit<, inl, inr, drop, slice_index, bit_and, bit_or}
+use Rattle.std.proofs.Common.{◌≡◌, ℕ, suc, ◌-◌, ◌+◌, ◌*◌, ◌^◌, ◌<◌, ◌≤◌, pos, List, Bool, true, false, Option, Some, None, refl, ap, sym, ◌∙◌, arith, lit<, slice_index, bit_and, bit_or}
 use Rattle.std.specs.{Bool.OnFalse, Option.IsSomeAnd, Int.w16, Int.w32, Int.w64, Int.cast_unsigned, Int.from_le_bytes}
 use Rattle.std.specs.Prelude.{IsTrue, ◌==◌}
-use Rattle.std.proofs.lemmas.{Bool.cases_eq, Bool.Decides.nat_tests, Int.ints}
+use Rattle.std.proofs.lemmas.{Bool.Decides.nat_tests, Int.ints}
+use Rattle.std.proofs.Math.Nat.{mod-eq_of_lt}
 use Rattle.std.proofs.lemmas.Nat.{and_block, and_mask, and_comm, and_or_self, and_or_apart, le_or_l, le_or_r, from_le_bytes-to_le_bytes_2, from_le_bytes-to_le_bytes_4}
 use Rattle.bpf_words.specs.declared.Order.{Order, TheVariants.Little, TheVariants.Big}
 use Rattle.bpf_words.specs.{Words.word16, Words.word32, Slots.Fields, Slots.AreFields, Slots.register_byte, Slots.spelled}
@@ -34,32 +35,21 @@ and_joined op r o k R O K hop hr hR ho hO =
     ∙ ap (λ (x : ℕ). x * 2 ^ 8 + bit_and op 0) (and_block 8 _ _ r R hr hR
     ∙ ap (λ (x : ℕ). x * 2 ^ 8 + bit_and r R) (and_block 16 k K o O ho hO))
 
+nibbles : (a b c e x y : ℕ) → bit_and (a * 2 ^ 4 + b) (c * 2 ^ 4 + e) ≡ y * 2 ^ 4 + x → bit_and (16 * a + b) (16 * c + e) ≡ 16 * y + x
+nibbles a b c e x y h = grind arith
+
 and_registers : (order : Order) (d s D S : ℕ) → d < 2 ^ 4 → s < 2 ^ 4 → D < 2 ^ 4 → S < 2 ^ 4
     → bit_and (register_byte order d s) (register_byte order D S) ≡ register_byte order (bit_and d D) (bit_and s S)
-and_registers Little d s D S hd hs hD hS = rw_products s d S D (bit_and d D) (bit_and s S) (and_block 4 s S d D hd hD)
-  where
-    rw_products : (a b c e x y : ℕ) → bit_and (a * 2 ^ 4 + b) (c * 2 ^ 4 + e) ≡ y * 2 ^ 4 + x → bit_and (16 * a + b) (16 * c + e) ≡ 16 * y + x
-    rw_products a b c e x y h = grind arith
-and_registers Big d s D S hd hs hD hS = rw_products d s D S (bit_and s S) (bit_and d D) (and_block 4 d D s S hs hS)
-  where
-    rw_products : (a b c e x y : ℕ) → bit_and (a * 2 ^ 4 + b) (c * 2 ^ 4 + e) ≡ y * 2 ^ 4 + x → bit_and (16 * a + b) (16 * c + e) ≡ 16 * y + x
-    rw_products a b c e x y h = grind arith
+and_registers Little d s D S hd hs hD hS = nibbles s d S D (bit_and d D) (bit_and s S) (and_block 4 s S d D hd hD)
+and_registers Big d s D S hd hs hD hS = nibbles d s D S (bit_and s S) (bit_and d D) (and_block 4 d D s S hs hS)
 
 below : (any : Bool) (all : ℕ) → zero_unless any all < suc all
 below true all = omega arith
 below false all = omega arith
 
-nibble_zero : (any : Bool) (d : ℕ) → d < 16 → bit_and d (zero_unless any 15) ≡ 0 → OnFalse any (d ≡ 0)
-nibble_zero true d h e = tt
-nibble_zero false d h e = omega (arith, and_mask d 4)
-
-word_zero : (any : Bool) (n : ℕ) → n < 2 ^ 16 → bit_and n (zero_unless any 0xffff) ≡ 0 → OnFalse any (n ≡ 0)
-word_zero true n h e = tt
-word_zero false n h e = omega (arith, and_mask n 16)
-
-long_zero : (any : Bool) (n : ℕ) → n < 2 ^ 32 → bit_and n (zero_unless any 0xffffffff) ≡ 0 → OnFalse any (n ≡ 0)
-long_zero true n h e = tt
-long_zero false n h e = omega (arith, and_mask n 32)
+zero_masked : (any : Bool) (n k : ℕ) → n < 2 ^ k → bit_and n (zero_unless any (2 ^ k - 1)) ≡ 0 → OnFalse any (n ≡ 0)
+zero_masked true n k h e = tt
+zero_masked false n k h e = sym (mod-eq_of_lt h) ∙ sym (and_mask n k) ∙ e
 
 on_false : (any : Bool) {A B : Type 0} → (A → B) → OnFalse any A → OnFalse any B
 on_false true f h = tt
@@ -135,10 +125,10 @@ within order f r a e above =
     record {
       dst = ten.0;
       src = ten.1;
-      no_dst = nibble_zero r.any_dst f.dst a.dst regs.0;
-      no_src = nibble_zero r.any_src f.src a.src regs.1;
-      no_off = on_false r.any_off (no_off order f a) (word_zero r.any_off (off_of order f) (off_below order f) parts.1.0);
-      no_imm = on_false r.any_imm (no_imm order f a) (long_zero r.any_imm (imm_of order f) (imm_below order f) parts.1.1);
+      no_dst = zero_masked r.any_dst f.dst 4 a.dst regs.0;
+      no_src = zero_masked r.any_src f.src 4 a.src regs.1;
+      no_off = on_false r.any_off (no_off order f a) (zero_masked r.any_off (off_of order f) 16 (off_below order f) parts.1.0);
+      no_imm = on_false r.any_imm (no_imm order f a) (zero_masked r.any_imm (imm_of order f) 32 (imm_below order f) parts.1.1);
     }
 
 even : (order : Order) (r : Rule) → bit_and 1 (rule_bits order r) ≡ 0

@@ -135,6 +135,7 @@ impl FoundGroups {
 /// sequence of instructions at its start. The offset is in bytes from the start of the input.
 ///
 /// [`groups_of`]: crate::groups_of
+#[tactic(auto, using(crate::proofs::FileGroups::group_steps))]
 pub fn groups_in(order: Order, bytes: &[u8]) -> Result<GroupSet, SlotFault>
     ensures found { IfOk result (AreGroupsOf order bytes.now) }
     ensures all { (l : List Insn) → InsnFile order bytes.now l → IsOk result }

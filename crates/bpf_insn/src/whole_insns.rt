@@ -23,6 +23,7 @@ pub struct InsnFront {
 }
 
 /// The length in bytes of the plain instructions at the start of a buffer; each has 8 bytes.
+#[tactic(auto, using(crate::proofs::FrontSteps::reads_none))]
 #[inline(always)]
 fn plain_len(order: Order, bytes: &[u8]) -> usize
     ensures { ReadsTo order bytes.now result (result / 8) }
@@ -36,6 +37,7 @@ fn plain_len(order: Order, bytes: &[u8]) -> usize
 
 /// The longest sequence of complete instructions at the start of `bytes` (RFC 9669 section 3). It
 /// never fails: the fault of the bytes after them is in `stop`.
+#[tactic(auto, using(crate::proofs::FrontSteps::front_ends))]
 pub fn insn_front(order: Order, bytes: &[u8]) -> InsnFront
     ensures front { IsInsnFront order bytes.now result }
     ensures stop { IfSome result.stop (λ f. result.len < length bytes.now) }

@@ -1,12 +1,6 @@
 use Rattle.std.proofs.Common.{arith, rules}
-use Rattle.bpf_insn.proofs.FileGroups.{at_start, step, moved_on, fault_here, whole_file}
+use Rattle.bpf_insn.proofs.FileGroups.{moved_on, fault_here}
 use Rattle.bpf_insn.proofs.file_groups.groups_in.Goals as goal
-
-pub loop-pos-init : goal.loop-pos-init
-loop-pos-init c = record { groups = at_start _ _ _ c.none-found.ensures.set; settled = c.none-found.ensures.settled }
-
-pub plain_end-pos-requires-clause-groups : goal.plain_end-pos-requires-clause-groups
-plain_end-pos-requires-clause-groups c = step _ _ _ _ _ _ c.loop-pos.invariant.groups c.in_ok-next.ensures.found
 
 pub loop-pos-smaller : goal.loop-pos-smaller
 loop-pos-smaller c =
@@ -23,6 +17,3 @@ pub returns-in_err-next-clause-all : goal.returns-in_err-next-clause-all
 returns-in_err-next-clause-all c =
     let here = fault_here _ _ _ _ _ c.loop-pos.invariant.groups c.loop-pos-test.true c.in_err-next.ensures.fault in
     λ l file. absurd (here.no_file l file)
-
-pub returns-clause-found : goal.returns-clause-found
-returns-clause-found c = whole_file _ _ _ _ c.loop-pos.invariant.groups c.loop-pos-test.false

@@ -1,6 +1,6 @@
 use Rattle.std.proofs.Common.{arith}
 use Rattle.bpf_insn.proofs.FileLaws.{at_least_a_slot}
-use Rattle.bpf_insn.proofs.FrontSteps.{count_below, reads_other_and_plain, stops_at_end, stops_at_fault}
+use Rattle.bpf_insn.proofs.FrontSteps.{count_below, reads_other_and_plain}
 use Rattle.bpf_insn.proofs.whole_insns.insn_front.Goals as goal
 
 pub overflow_add-count-in-Ok : goal.overflow_add-count-in-Ok
@@ -17,9 +17,3 @@ pub loop-len-smaller : goal.loop-len-smaller
 loop-len-smaller c =
     let found = c.in-Ok.ensures.found in
     omega (arith, found.1.1, at_least_a_slot c.args.order found.0, c.loop-len-test.true)
-
-pub returns-in-Err-clause-front : goal.returns-in-Err-clause-front
-returns-in-Err-clause-front c = stops_at_fault _ _ _ _ c.loop-len.invariant _ c.in-Err.ensures.fault
-
-pub returns-clause-front : goal.returns-clause-front
-returns-clause-front c = stops_at_end _ _ _ _ c.loop-len.invariant c.loop-len-test.false

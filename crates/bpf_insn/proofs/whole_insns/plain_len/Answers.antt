@@ -1,9 +1,6 @@
 use Rattle.std.proofs.Common.{refl}
-use Rattle.bpf_insn.proofs.FrontSteps.{reads_none, reads_plain_more}
+use Rattle.bpf_insn.proofs.FrontSteps.{reads_plain_more}
 use Rattle.bpf_insn.proofs.whole_insns.plain_len.Goals as goal
-
-pub slots-init : goal.slots-init
-slots-init c = reads_none _ _
 
 pub slots-preserved : goal.slots-preserved
 slots-preserved c =
