@@ -158,14 +158,11 @@ fault_within order s at Truncated f = elim f.first [ inl h ↦ omega (arith, h.1
 fault_within order s at Opcode f = omega (arith, f.first.2)
 fault_within order s at _ f = omega (arith, f.first.0, f.first.2)
 
-abbrev okay : Insn → ℕ → Result (Insn × ℕ) SlotFault
-okay i n = Ok (i, n)
-
 -- decoding succeeds if the bytes begin with a spelling
 pub answered : (order : Order) (s : List ℕ) (r : Result (Insn × ℕ) SlotFault) → IfOk r (λ x. BeginsWith order x.0 s × (x.1 ≡ length (spelling order x.0))) → IfErr r (IsSlotFault order s)
     → (i : Insn) → BeginsWith order i s → r ≡ Ok (i, length (spelling order i))
-answered order s (Ok x) found fault i b =
-    let same = begins_once order x.0 i s found.0 b in
-    let len : x.1 ≡ length (spelling order i) = found.1 ∙ ap (λ (y : Insn). length (spelling order y)) same in
-    ap (λ (y : Insn). okay y x.1) same ∙ ap (λ (n : ℕ). okay i n) len
+answered order s (Ok (j, n)) found fault i b =
+    let same : j ≡ i = begins_once order j i s found.0 b in
+    let len : n ≡ length (spelling order j) = found.1 in
+    cc
 answered order s (Err f) found fault i b = absurd (fault.unspelled i b)

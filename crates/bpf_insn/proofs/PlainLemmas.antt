@@ -87,8 +87,7 @@ plain_begins order s front rest slot f b spelled_so a h =
 pub len_answered : (order : Order) (s : List ℕ) (r : Result ℕ SlotFault) → IfOk r (λ n. (i : Insn) × (BeginsWith order i s × (n ≡ length (spelling order i)))) → IfErr r (IsSlotFault order s)
     → (i : Insn) → BeginsWith order i s → r ≡ Ok (length (spelling order i))
 len_answered order s (Ok n) found fault i b =
-    ap (λ (x : ℕ). okay x) (found.1.1 ∙ ap (λ (j : Insn). length (spelling order j)) (begins_once order found.0 i s found.1.0 b))
-  where
-    okay : ℕ → Result ℕ SlotFault
-    okay x = Ok x
+    let same : found.0 ≡ i = begins_once order found.0 i s found.1.0 b in
+    let len : n ≡ length (spelling order found.0) = found.1.1 in
+    cc
 len_answered order s (Err e) found fault i b = absurd (fault.unspelled i b)

@@ -24,10 +24,7 @@ use crate::{GroupSet, Insn, Order, SlotFault, group_of};
 fn opcode_has_group(insn: Insn) -> bool
     ensures { result ≡ opcode_has_group insn }
 {
-    match insn {
-        Insn::Swap { .. } => false,
-        _ => true,
-    }
+    !matches!(insn, Insn::Swap { .. })
 }
 
 /// The groups that were found, and which opcodes are settled: an opcode is settled if it determines
