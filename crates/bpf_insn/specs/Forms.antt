@@ -18,7 +18,7 @@ use Rattle.bpf_insn.specs.declared.form.{Source.Source, Source.TheVariants.K, So
 use Rattle.bpf_insn.specs.declared.form.AluCode.TheVariants as code
 use Rattle.bpf_insn.specs.declared.{fault.SlotCause.SlotCause, form.Form.Form}
 use Rattle.bpf_insn.specs.declared.fault.SlotCause.TheVariants.{Truncated, Opcode, Dst, Src, Offset, Imm, Reserved, NextImm}
-use Rattle.bpf_insn.specs.declared.first_slot.FirstSlot.{FirstSlot, TheVariants.Whole, TheVariants.OfWideLoad}
+use Rattle.bpf_insn.specs.declared.read.FirstSlot.{FirstSlot, TheVariants.Whole, TheVariants.OfWideLoad}
 use Rattle.bpf_insn.specs.declared.form.Form.TheVariants.{Alu, Neg, Swap, Jump, JumpLong, Branch, Call, Exit, Load, LoadSigned, StoreImm, StoreReg, Atomic, Wide, PacketAbs, PacketInd}
 
 -- the code of an operation; signed division shares that of the unsigned one
