@@ -1,6 +1,6 @@
 -- The fields of a record by their roles: the first with a fault, and where the record ends.
-use Rattle.std.proofs.Common.{◌≡◌, ◌≢◌, ◌⊎◌, ℕ, ◌+◌, ◌*◌, ◌<◌, ◌≤◌, None, Some, inl, inr, List, length, refl, sym, ◌∙◌, subst, arith}
-use Rattle.std.specs.Prelude.{IsTrue, slice_index}
+use Rattle.std.proofs.Common.{◌≡◌, ◌≢◌, ◌⊎◌, ℕ, ◌+◌, ◌*◌, ◌<◌, ◌≤◌, None, Some, inl, inr, List, length, sym, ◌∙◌, subst, arith}
+use Rattle.std.specs.Prelude.{IsTrue}
 use Rattle.std.proofs.lemmas.Bool.{cases_lt, ne_eqb}
 use Rattle.btf_raw.specs.{declared.cause.BtfCause.BtfCause, Frames.IsFrame, Frames.kind, Frames.vlen}
 use Rattle.btf_raw.specs.KindNumbers.{INT, ARRAY, STRUCT, UNION, ENUM, FUNC_PROTO, VAR, DATASEC, DECL_TAG, ENUM64}
@@ -8,7 +8,7 @@ use Rattle.btf_raw.specs.Kinds.{is_struct, tail_words, fixed_words, item_words}
 use Rattle.btf_types.specs.{Sections.SectionWords, judge.RecordFaults.FaultInWord, judge.RecordFaults.NoneWithin, judge.RecordFaults.IsFirstWithin}
 use Rattle.btf_types.specs.judge.{Checks.TypeFacts, Checks.LeastCause, Checks.NoCause, NameFaults.NamedTypeFault}
 use Rattle.btf_types.proofs.JudgeLemmas.Roles.{Role, Free, HasRole}
-use Rattle.btf_types.proofs.JudgeLemmas.RoleSteps.{HeldFault, judged, one_word, struct_size, struct_fixed}
+use Rattle.btf_types.proofs.JudgeLemmas.RoleSteps.{FaultInRole, judged, one_word, struct_size, struct_fixed}
 
 no_tail : (κ v : ℕ) → κ ≢ INT → κ ≢ ARRAY → κ ≢ STRUCT → κ ≢ UNION → κ ≢ ENUM → κ ≢ FUNC_PROTO → κ ≢ VAR → κ ≢ DATASEC → κ ≢ DECL_TAG → κ ≢ ENUM64
     → 3 + tail_words κ v ≡ 3
@@ -23,32 +23,22 @@ module _ (s : SectionWords) {f : List ℕ} (is : IsFrame f) where
   none_yet word j d past low fault = absurd (omega arith)
 
   -- a field with a fault is the first if the fields before it have none
-  pub first_at : (from to j word : ℕ) (role : Role) (c : BtfCause) → from ≤ j → j < to → to ≤ length f
-      → NoneWithin s f from j → word ≡ slice_index f j → HasRole (kind f) j role
-      → LeastCause (HeldFault s f word role) c → IsFirstWithin s f from to j c
-  first_at from to j word role c past inside room before word-is has held = record {
-    past = past;
-    inside = inside;
-    before = before;
-    least = judged s {f = f} {j = j} {word = word} role (Some c) is (omega arith) word-is has held;
-  }
+  pub first_at : (from to j : ℕ) (role : Role) (c : BtfCause) → from ≤ j → j < to → to ≤ length f
+      → NoneWithin s f from j → HasRole (kind f) j role → LeastCause (FaultInRole s f j role) c → IsFirstWithin s f from to j c
+  first_at from to j role c past inside room before has held =
+      record { past = past; inside = inside; before = before; least = judged s role (Some c) is (omega arith) has held }
 
   -- one more field without a fault
-  pub none_at : (from j next word : ℕ) (role : Role) → next ≡ j + 1 → j < length f
-      → NoneWithin s f from j → word ≡ slice_index f j → HasRole (kind f) j role
-      → NoCause (HeldFault s f word role) → NoneWithin s f from next
-  none_at from j next word role next-is there before word-is has held i d past low fault = elim (cases_lt i j) [
+  pub none_at : (from j next : ℕ) (role : Role) → next ≡ j + 1 → j < length f
+      → NoneWithin s f from j → HasRole (kind f) j role → NoCause (FaultInRole s f j role) → NoneWithin s f from next
+  none_at from j next role next-is there before has held i d past low fault = elim (cases_lt i j) [
     | inl lt ↦ before i d past lt fault
-    | inr le ↦
-        let none : NoCause (FaultInWord s f j) = judged s {f = f} {j = j} {word = word} role None is there word-is has held in
-        none d (subst (λ (n : ℕ). FaultInWord s f n d) (omega arith) fault)
+    | inr le ↦ judged s role None is there has held d (subst (λ (n : ℕ). FaultInWord s f n d) (omega arith) fault)
   ]
 
   -- fields that may have any value have no fault
   pub free_within : (from to : ℕ) → to ≤ length f → ((j : ℕ) → from ≤ j → j < to → HasRole (kind f) j Free) → NoneWithin s f from to
-  free_within from to room free j d past low fault =
-      let none : NoCause (FaultInWord s f j) = judged s {f = f} {j = j} {word = slice_index f j} Free None is (omega arith) refl (free j past low) (λ c h. h) in
-      none d fault
+  free_within from to room free j d past low fault = judged s Free None is (omega arith) (free j past low) (λ c h. h) d fault
 
 -- a type is checked against the kind of the record that refers to it
 pub of_its_kind : (types : List TypeFacts) (κ k word : ℕ) (c : BtfCause) → κ ≡ k → LeastCause (NamedTypeFault types k word) c → LeastCause (NamedTypeFault types κ word) c

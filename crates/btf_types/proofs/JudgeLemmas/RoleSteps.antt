@@ -1,77 +1,55 @@
 -- What a cause says of a field is what it says of the field's role.
-use Rattle.std.proofs.Common.{◌≡◌, ◌≢◌, ◌⊎◌, ℕ, zero, suc, ◌+◌, ◌-◌, ◌*◌, ◌/◌, ◌%◌, ◌<◌, ◌≤◌, Bool, true, false, Option, List, [], ◌∷◌, length, refl, sym, subst, ◌∙◌, inl, inr, lit<, arith}
-use Rattle.std.specs.Prelude.{IsTrue, IsFalse, MatchOption, slice_index, ◌==◌}
-use Rattle.std.proofs.lemmas.Bool.{cases_lt, eqb-true}
-use Rattle.btf_raw.specs.{declared.cause.BtfCause.BtfCause, Names.TextAt}
+use Rattle.std.proofs.Common.{◌≡◌, ◌⊎◌, ℕ, zero, suc, ◌+◌, ◌-◌, ◌*◌, ◌/◌, ◌%◌, ◌<◌, ◌≤◌, Bool, true, Option, List, [], ◌∷◌, length, refl, ◌∙◌, inl, inr, lit<, arith}
+use Rattle.std.specs.Prelude.{IsTrue, slice_index}
+use Rattle.std.proofs.lemmas.Bool.{cases_lt}
+use Rattle.btf_raw.specs.declared.cause.BtfCause.{BtfCause}
 use Rattle.btf_raw.specs.declared.cause.BtfCause.TheVariants.{NameRange, NameUtf8, NameMissing, NameUnwanted, NotZero, Size, Reference, TargetKind, IntWord, MemberInt, MemberPlace, Linkage, Component}
 use Rattle.btf_raw.specs.KindNumbers.{INT, ARRAY, STRUCT, UNION, ENUM, FUNC_PROTO, VAR, DATASEC, DECL_TAG, ENUM64}
 use Rattle.btf_raw.specs.Kinds.{one_of, tail_words, fixed_words, item_words, has_target, has_item_names, is_struct}
 use Rattle.btf_raw.specs.Frames.{IsFrame, name_word, third_word, kind, vlen, flag}
-use Rattle.btf_types.specs.judge.Checks.{size_fits, bits_fit, target_fits, component_fits, TypeFacts, type_at, NoCause, LeastCause}
-use Rattle.btf_types.specs.judge.FieldFaults.{WordFault, offset_in, width_in, int_unused, int_encoding, int_bits, IsTypeField, IsNameField, IsMemberWord, IsItemWord}
+use Rattle.btf_types.specs.judge.Checks.{target_fits, TypeFacts, type_at, IsLeastOf}
+use Rattle.btf_types.specs.judge.FieldFaults.{WordFault, IsTypeField, IsNameField, IsMemberWord, IsItemWord}
 use Rattle.btf_types.specs.Sections.{SectionWords, facts_in}
-use Rattle.btf_types.specs.judge.{RecordFaults.FaultInWord, RecordFaults.BitFieldsAre, NameFaults.MemberPlaceFault, NameFaults.MemberTypeFault}
-use Rattle.btf_types.proofs.JudgeLemmas.Judging.{judged_same}
+use Rattle.btf_types.specs.judge.{RecordFaults.FaultInWord, RecordFaults.BitFieldsAre, NameFaults.MemberTypeFault}
+use Rattle.btf_types.proofs.{KindCases.one_among, JudgeLemmas.Judging.judged_same}
 use Rattle.btf_types.proofs.JudgeLemmas.Roles as roles
 use Rattle.btf_types.proofs.JudgeLemmas.Roles.{Role, word_in_item, PartIs, RoleIs, HasRole, TypeOfMemberFault, RoleFault}
 
 -- ---- the sizes of items
-
-pub one_or_more : (k κ : ℕ) (ks : List ℕ) → IsTrue (one_of (k ∷ ks) κ) → (κ ≡ k) ⊎ IsTrue (one_of ks κ)
-one_or_more k κ ks h = split (κ == k) refl h
-  where
-    split : (b : Bool) → (κ == k) ≡ b → IsTrue (one_of (k ∷ ks) κ) → (κ ≡ k) ⊎ IsTrue (one_of ks κ)
-    split true e h = inl (eqb-true κ k e)
-    split false e h = inr (rw e at h)
 
 abbrev pub TwoOrThree : ℕ → Type 0
 TwoOrThree w = (w ≡ 2) ⊎ (w ≡ 3)
 
 pub struct_size : (κ : ℕ) → IsTrue (is_struct κ) → item_words κ ≡ 3
 unfolding item_words
-struct_size κ h = elim (one_or_more STRUCT κ (UNION ∷ []) h) [
-  | inl s ↦ rw s refl
-  | inr more ↦ elim (one_or_more UNION κ [] more) [ inl u ↦ rw u refl | inr none ↦ absurd cc ]
-]
+struct_size κ h = one_among (λ k. item_words k ≡ 3) (STRUCT ∷ UNION ∷ []) κ (refl, (refl, tt)) h
 
 item_size : (κ : ℕ) → IsTrue (has_item_names κ) → TwoOrThree (item_words κ)
 unfolding has_item_names item_words
-item_size κ h = elim (one_or_more STRUCT κ (UNION ∷ ENUM ∷ FUNC_PROTO ∷ ENUM64 ∷ []) h) [
-  | inl e ↦ inr (rw e refl)
-  | inr h1 ↦ elim (one_or_more UNION κ (ENUM ∷ FUNC_PROTO ∷ ENUM64 ∷ []) h1) [
-    | inl e ↦ inr (rw e refl)
-    | inr h2 ↦ elim (one_or_more ENUM κ (FUNC_PROTO ∷ ENUM64 ∷ []) h2) [
-      | inl e ↦ inl (rw e refl)
-      | inr h3 ↦ elim (one_or_more FUNC_PROTO κ (ENUM64 ∷ []) h3) [
-        | inl e ↦ inl (rw e refl)
-        | inr h4 ↦ elim (one_or_more ENUM64 κ [] h4) [ inl e ↦ inr (rw e refl) | inr none ↦ absurd cc ]
-      ]
-    ]
-  ]
-]
+item_size κ h =
+    one_among (λ k. TwoOrThree (item_words k)) (STRUCT ∷ UNION ∷ ENUM ∷ FUNC_PROTO ∷ ENUM64 ∷ []) κ
+    (inr refl, (inr refl, (inl refl, (inl refl, (inr refl, tt))))) h
 
 pub struct_fixed : (κ : ℕ) → IsTrue (is_struct κ) → fixed_words κ ≡ 0
 unfolding fixed_words
-struct_fixed κ h = elim (one_or_more STRUCT κ (UNION ∷ []) h) [
-  | inl s ↦ rw s refl
-  | inr more ↦ elim (one_or_more UNION κ [] more) [ inl u ↦ rw u refl | inr none ↦ absurd cc ]
-]
+struct_fixed κ h = one_among (λ k. fixed_words k ≡ 0) (STRUCT ∷ UNION ∷ []) κ (refl, (refl, tt)) h
 
 named_fixed : (κ : ℕ) → IsTrue (has_item_names κ) → fixed_words κ ≡ 0
 unfolding has_item_names fixed_words
-named_fixed κ h = elim (one_or_more STRUCT κ (UNION ∷ ENUM ∷ FUNC_PROTO ∷ ENUM64 ∷ []) h) [
-  | inl e ↦ rw e refl
-  | inr h1 ↦ elim (one_or_more UNION κ (ENUM ∷ FUNC_PROTO ∷ ENUM64 ∷ []) h1) [
-    | inl e ↦ rw e refl
-    | inr h2 ↦ elim (one_or_more ENUM κ (FUNC_PROTO ∷ ENUM64 ∷ []) h2) [
-      | inl e ↦ rw e refl
-      | inr h3 ↦ elim (one_or_more FUNC_PROTO κ (ENUM64 ∷ []) h3) [
-        | inl e ↦ rw e refl
-        | inr h4 ↦ elim (one_or_more ENUM64 κ [] h4) [ inl e ↦ rw e refl | inr none ↦ absurd cc ]
-      ]
-    ]
-  ]
-]
+named_fixed κ h =
+    one_among (λ k. fixed_words k ≡ 0) (STRUCT ∷ UNION ∷ ENUM ∷ FUNC_PROTO ∷ ENUM64 ∷ []) κ
+    (refl, (refl, (refl, (refl, (refl, tt))))) h
+
+-- a member's type may be any
+struct_fits_any : (κ target : ℕ) → IsTrue (is_struct κ) → target_fits κ target ≡ true
+unfolding target_fits
+struct_fits_any κ target h = one_among (λ k. target_fits k target ≡ true) (STRUCT ∷ UNION ∷ []) κ (refl, (refl, tt)) h
+
+struct_is_typed : (κ : ℕ) → IsTrue (is_struct κ) → IsTrue (one_of (STRUCT ∷ UNION ∷ FUNC_PROTO ∷ []) κ)
+struct_is_typed κ h = one_among (λ k. IsTrue (one_of (STRUCT ∷ UNION ∷ FUNC_PROTO ∷ []) k)) (STRUCT ∷ UNION ∷ []) κ (refl, (refl, tt)) h
+
+struct_or_proto : (κ : ℕ) → IsTrue (one_of (STRUCT ∷ UNION ∷ FUNC_PROTO ∷ []) κ) → IsTrue (is_struct κ) ⊎ (κ ≡ FUNC_PROTO)
+struct_or_proto κ h = one_among (λ k. IsTrue (is_struct k) ⊎ (k ≡ FUNC_PROTO)) (STRUCT ∷ UNION ∷ FUNC_PROTO ∷ []) κ (inl refl, (inl refl, (inr refl, tt))) h
 
 pub proto_size : (κ : ℕ) → κ ≡ FUNC_PROTO → item_words κ ≡ 2
 unfolding item_words
@@ -157,15 +135,6 @@ module _ (frame : List ℕ) (j : ℕ) (role : Role) (each : HasRole (kind frame)
       let two = proto_size (kind frame) proto in
       (each.tail (past_head (item_words (kind frame)) k 1 at.1)).param proto (part_is (kind frame) k 1 j (inl two) (rw two (lit< tt)) at.1)
 
-  struct_or_proto : (κ : ℕ) → IsTrue (one_of (STRUCT ∷ UNION ∷ FUNC_PROTO ∷ []) κ) → IsTrue (is_struct κ) ⊎ (κ ≡ FUNC_PROTO)
-  struct_or_proto κ h = elim (one_or_more STRUCT κ (UNION ∷ FUNC_PROTO ∷ []) h) [
-    | inl s ↦ inl (rw s refl)
-    | inr h1 ↦ elim (one_or_more UNION κ (FUNC_PROTO ∷ []) h1) [
-      | inl u ↦ inl (rw u refl)
-      | inr h2 ↦ elim (one_or_more FUNC_PROTO κ [] h2) [ inl p ↦ inr p | inr none ↦ absurd cc ]
-    ]
-  ]
-
   type_role : IsTypeField frame j → (IsTrue (has_target (kind frame)) × (role ≡ roles.Third)) ⊎ (role ≡ roles.NamedType) ⊎ (IsTrue (is_struct (kind frame)) × (role ≡ roles.MemberType))
   type_role (inl third) = inl (third.0, each.third third.1)
   type_role (inr (inl array)) = inr (inl (array_role array.0 array.1))
@@ -175,71 +144,47 @@ module _ (frame : List ℕ) (j : ℕ) (role : Role) (each : HasRole (kind frame)
   ]
   type_role (inr (inr (inr entry))) = inr (inl (entry_role entry.0 entry.1 entry.2))
 
-module _ (strings : List ℕ) (types : List TypeFacts) (frame : List ℕ) (j : ℕ) (role : Role) where
-  is_role : (r : Role) (c : BtfCause) → role ≡ r → WordRoleFault strings types frame j r c → WordRoleFault strings types frame j role c
-  is_role r c e fault = subst (λ (x : Role). WordRoleFault strings types frame j x c) (sym e) fault
-
-  struct_fits_any : (κ target : ℕ) → IsTrue (is_struct κ) → target_fits κ target ≡ true
-  unfolding target_fits
-  struct_fits_any κ target h = elim (one_or_more STRUCT κ (UNION ∷ []) h) [
-    | inl s ↦ rw s refl
-    | inr more ↦ elim (one_or_more UNION κ [] more) [ inl u ↦ rw u refl | inr none ↦ absurd cc ]
-  ]
-
-  at_name : (P : ℕ → Type 0) → j ≡ 0 → P (name_word frame) → P (slice_index frame j)
-  at_name P first h = subst (λ (i : ℕ). P (slice_index frame i)) (sym first) h
-
-  at_third : (P : ℕ → Type 0) → j ≡ 2 → P (third_word frame) → P (slice_index frame j)
-  at_third P third h = subst (λ (i : ℕ). P (slice_index frame i)) (sym third) h
-
-  at_fourth : (P : ℕ → Type 0) → j ≡ 3 → P (slice_index frame 3) → P (slice_index frame j)
-  at_fourth P fourth h = subst (λ (i : ℕ). P (slice_index frame i)) (sym fourth) h
-
-  role_says : HasRole (kind frame) j role → (c : BtfCause) → WordFault strings types frame j c → WordRoleFault strings types frame j role c
-  role_says each NameRange fault = elim (name_role frame j role each fault.0 fault.1) [
-    | inl own ↦ is_role roles.OwnName NameRange own fault.2
-    | inr item ↦ is_role roles.ItemName NameRange item fault.2
-  ]
-  role_says each NameUtf8 fault = elim (name_role frame j role each fault.0 fault.1) [
-    | inl own ↦ is_role roles.OwnName NameUtf8 own (fault.2, fault.3, fault.4)
-    | inr item ↦ is_role roles.ItemName NameUtf8 item (fault.2, fault.3, fault.4)
-  ]
-  role_says each NameMissing fault =
-      is_role roles.OwnName NameMissing (each.name fault.0) (fault.1, at_name (λ i. TextAt strings i []) fault.0 fault.2)
-  role_says each NameUnwanted fault =
-      is_role roles.OwnName NameUnwanted (each.name fault.0) (fault.1, fault.2, at_name (λ i. TextAt strings i fault.2) fault.0 fault.3, fault.4)
-  role_says each NotZero fault = is_role roles.Third NotZero (each.third fault.0) (fault.1, at_third (λ i. i ≢ 0) fault.0 fault.2)
-  role_says each Size fault =
-      is_role roles.Third Size (each.third fault.0) (at_third (λ i. IsFalse (size_fits (kind frame) i (vlen frame))) fault.0 fault.1)
-  role_says each Reference fault = elim (type_role frame j role each fault.0) [
-    | inl third ↦ is_role roles.Third Reference third.1 (third.0, fault.1)
-    | inr (inl named) ↦ is_role roles.NamedType Reference named fault.1
-    | inr (inr member) ↦ is_role roles.MemberType Reference member.1 fault.1
-  ]
-  role_says each TargetKind fault = elim (type_role frame j role each fault.0) [
-    | inl third ↦ is_role roles.Third TargetKind third.1 (third.0, fault.1, fault.2)
-    | inr (inl named) ↦ is_role roles.NamedType TargetKind named (fault.1, fault.2)
-    | inr (inr member) ↦
-        let fits = struct_fits_any (kind frame) ((type_at types (slice_index frame j)).kind) member.0 in
-        let not = fault.2 in
-        absurd cc
-  ]
-  role_says each IntWord fault =
-      let low : 3 ≤ j = omega (arith, fault.0) in
-      is_role roles.IntWord IntWord ((each.tail low).int fault.1)
-      (at_fourth (λ i. (int_unused i ≢ 0) ⊎ IsFalse (one_of (0 ∷ 1 ∷ 2 ∷ 4 ∷ []) (int_encoding i)) ⊎ IsFalse (bits_fit (third_word frame) (int_bits i))) fault.0 fault.2)
-  role_says each MemberInt fault = is_role roles.MemberType MemberInt (member_role frame j role each fault.0) (fault.1, fault.2)
-  role_says each MemberPlace fault = is_role roles.MemberPlace MemberPlace (place_role frame j role each fault.0) fault.1
-  role_says each Linkage (inl func) = is_role roles.Info Linkage (each.info func.1) (func.0, func.2)
-  role_says each Linkage (inr var) =
-      let at = var.1 in
-      let low : 3 ≤ j = omega arith in
-      is_role roles.Linkage Linkage ((each.tail low).var var.0) (at_fourth (λ i. 2 < i) var.1 var.2)
-  role_says each Component fault =
-      let low : 3 ≤ j = omega (arith, fault.1) in
-      is_role roles.Component Component ((each.tail low).tag fault.0)
-      (at_fourth (λ i. i ≢ 0xffffffff) fault.1 fault.2, at_fourth (λ i. IsFalse (component_fits types (third_word frame) i)) fault.1 fault.3)
-  role_says each c fault = absurd fault
+-- each cause says of the field what it says of the role
+role_says : (strings : List ℕ) (types : List TypeFacts) (frame : List ℕ) (j : ℕ) (role : Role) → HasRole (kind frame) j role
+    → (c : BtfCause) → WordFault strings types frame j c → WordRoleFault strings types frame j role c
+role_says strings types frame j role each NameRange fault = elim (name_role frame j role each fault.0 fault.1) [
+  | inl own ↦ rw own fault.2
+  | inr item ↦ rw item fault.2
+]
+role_says strings types frame j role each NameUtf8 fault = elim (name_role frame j role each fault.0 fault.1) [
+  | inl own ↦ rw own (fault.2, fault.3, fault.4)
+  | inr item ↦ rw item (fault.2, fault.3, fault.4)
+]
+role_says strings types frame j role each NameMissing fault = rw (each.name fault.0, fault.0) (fault.1, fault.2)
+role_says strings types frame j role each NameUnwanted fault = rw (each.name fault.0, fault.0) (fault.1, fault.2, fault.3, fault.4)
+role_says strings types frame j role each NotZero fault = rw (each.third fault.0, fault.0) (fault.1, fault.2)
+role_says strings types frame j role each Size fault = rw (each.third fault.0, fault.0) fault.1
+role_says strings types frame j role each Reference fault = elim (type_role frame j role each fault.0) [
+  | inl third ↦ rw third.1 (third.0, fault.1)
+  | inr (inl named) ↦ rw named fault.1
+  | inr (inr member) ↦ rw member.1 fault.1
+]
+role_says strings types frame j role each TargetKind fault = elim (type_role frame j role each fault.0) [
+  | inl third ↦ rw third.1 (third.0, fault.1, fault.2)
+  | inr (inl named) ↦ rw named (fault.1, fault.2)
+  | inr (inr member) ↦
+      let fits = struct_fits_any (kind frame) ((type_at types (slice_index frame j)).kind) member.0 in
+      let not = fault.2 in
+      absurd cc
+]
+role_says strings types frame j role each IntWord fault =
+    let low : 3 ≤ j = omega (arith, fault.0) in
+    rw ((each.tail low).int fault.1, fault.0) fault.2
+role_says strings types frame j role each MemberInt fault = rw (member_role frame j role each fault.0) (fault.1, fault.2)
+role_says strings types frame j role each MemberPlace fault = rw (place_role frame j role each fault.0) fault.1
+role_says strings types frame j role each Linkage (inl func) = rw (each.info func.1) (func.0, func.2)
+role_says strings types frame j role each Linkage (inr var) =
+    let low : 3 ≤ j = omega (arith, var.1) in
+    rw ((each.tail low).var var.0, var.1) var.2
+role_says strings types frame j role each Component fault =
+    let low : 3 ≤ j = omega (arith, fault.1) in
+    rw ((each.tail low).tag fault.0, fault.1) (fault.2, fault.3)
+role_says strings types frame j role each c fault = absurd fault
 
 -- ---- and back
 
@@ -281,42 +226,27 @@ module _ (strings : List ℕ) (types : List TypeFacts) (frame : List ℕ) (j : �
       inr (inr (inr (entry.0, at.k, (at.low, at.at))))
 
   member_type_field : IsMemberWord frame 1 j → IsTypeField frame j
-  member_type_field at = inr (inr (inl (struct_is_any (kind frame) at.0, at.1, at.2)))
-    where
-      struct_is_any : (κ : ℕ) → IsTrue (is_struct κ) → IsTrue (one_of (STRUCT ∷ UNION ∷ FUNC_PROTO ∷ []) κ)
-      struct_is_any κ h = elim (one_or_more STRUCT κ (UNION ∷ []) h) [
-        | inl s ↦ rw s refl
-        | inr more ↦ elim (one_or_more UNION κ [] more) [ inl u ↦ rw u refl | inr none ↦ absurd cc ]
-      ]
-
-  back_name : (P : ℕ → Type 0) → j ≡ 0 → P (slice_index frame j) → P (name_word frame)
-  back_name P first h = subst (λ (i : ℕ). P (slice_index frame i)) first h
-
-  back_third : (P : ℕ → Type 0) → j ≡ 2 → P (slice_index frame j) → P (third_word frame)
-  back_third P third h = subst (λ (i : ℕ). P (slice_index frame i)) third h
-
-  back_fourth : (P : ℕ → Type 0) → j ≡ 3 → P (slice_index frame j) → P (slice_index frame 3)
-  back_fourth P is h = subst (λ (i : ℕ). P (slice_index frame i)) is h
+  member_type_field at = inr (inr (inl (struct_is_typed (kind frame) at.0, at.1, at.2)))
 
   role_holds : (role : Role) → RoleIs (kind frame) j role → (c : BtfCause) → WordRoleFault strings types frame j role c → WordFault strings types frame j c
   role_holds roles.OwnName is NameRange fault = (0, is, fault)
   role_holds roles.OwnName is NameUtf8 fault = (0, is, fault.0, fault.1, fault.2)
-  role_holds roles.OwnName is NameMissing fault = (is, fault.0, back_name (λ i. TextAt strings i []) is fault.1)
-  role_holds roles.OwnName is NameUnwanted fault = (is, fault.0, fault.1, back_name (λ i. TextAt strings i fault.1) is fault.2, fault.3)
+  role_holds roles.OwnName is NameMissing fault = (is, fault.0, rw is at fault.1)
+  role_holds roles.OwnName is NameUnwanted fault = (is, fault.0, fault.1, rw is at fault.2, fault.3)
   role_holds roles.Info is Linkage fault = inl (fault.0, is, fault.1)
-  role_holds roles.Third is NotZero fault = (is, fault.0, back_third (λ i. i ≢ 0) is fault.1)
-  role_holds roles.Third is Size fault = (is, back_third (λ i. IsFalse (size_fits (kind frame) i (vlen frame))) is fault)
+  role_holds roles.Third is NotZero fault = (is, fault.0, rw is at fault.1)
+  role_holds roles.Third is Size fault = (is, rw is at fault)
   role_holds roles.Third is Reference fault = (inl (fault.0, is), fault.1)
   role_holds roles.Third is TargetKind fault = (inl (fault.0, is), fault.1, fault.2)
   role_holds roles.IntWord is IntWord fault =
-      let at = fourth INT is.1 (one_word INT (vlen frame) (inl refl)) is.0 in
-      (at, is.1, back_fourth (λ i. (int_unused i ≢ 0) ⊎ IsFalse (one_of (0 ∷ 1 ∷ 2 ∷ 4 ∷ []) (int_encoding i)) ⊎ IsFalse (bits_fit (third_word frame) (int_bits i))) at fault)
+      let here = fourth INT is.1 (one_word INT (vlen frame) (inl refl)) is.0 in
+      (here, is.1, rw here at fault)
   role_holds roles.Linkage is Linkage fault =
-      let at = fourth VAR is.1 (one_word VAR (vlen frame) (inr (inl refl))) is.0 in
-      inr (is.1, at, back_fourth (λ i. 2 < i) at fault)
+      let here = fourth VAR is.1 (one_word VAR (vlen frame) (inr (inl refl))) is.0 in
+      inr (is.1, here, rw here at fault)
   role_holds roles.Component is Component fault =
-      let at = fourth DECL_TAG is.1 (one_word DECL_TAG (vlen frame) (inr (inr refl))) is.0 in
-      (is.1, at, back_fourth (λ i. i ≢ 0xffffffff) at fault.0, back_fourth (λ i. IsFalse (component_fits types (third_word frame) i)) at fault.1)
+      let here = fourth DECL_TAG is.1 (one_word DECL_TAG (vlen frame) (inr (inr refl))) is.0 in
+      (is.1, here, rw here at fault.0, rw here at fault.1)
   role_holds roles.ItemName is NameRange fault = let field = item_name_field is.1.0 is.0 is.1.1 in (field.0, field.1, fault)
   role_holds roles.ItemName is NameUtf8 fault = let field = item_name_field is.1.0 is.0 is.1.1 in (field.0, field.1, fault.0, fault.1, fault.2)
   role_holds roles.NamedType is Reference fault = (named_field is.0 is.1, fault)
@@ -326,32 +256,20 @@ module _ (strings : List ℕ) (types : List TypeFacts) (frame : List ℕ) (j : �
   role_holds roles.MemberPlace is MemberPlace fault = (member_field 2 is.1.0 is.0 (place_part is.1.0 is.1.1), fault)
   role_holds role is c fault = absurd fault
 
-  -- the least cause of a role is that of the field
-  word_judged : (role : Role) (r : Option BtfCause) → HasRole (kind frame) j role
-      → MatchOption r (NoCause (WordRoleFault strings types frame j role)) (λ c. LeastCause (WordRoleFault strings types frame j role) c)
-      → MatchOption r (NoCause (WordFault strings types frame j)) (λ c. LeastCause (WordFault strings types frame j) c)
-  word_judged role r has judged =
-      judged_same (WordRoleFault strings types frame j role) (WordFault strings types frame j) r
-      (role_holds role has.is) (role_says strings types frame j role has) judged
+-- what a cause says of the role of a field of a frame
+abbrev pub FaultInRole : SectionWords → List ℕ → ℕ → Role → BtfCause → Type 0
+FaultInRole s f j role c = WordRoleFault s.strings (facts_in s) f j role c
 
--- what a cause says of a field of a frame that has this role
-abbrev pub HeldFault : SectionWords → List ℕ → ℕ → Role → BtfCause → Type 0
-HeldFault s f word role c = RoleFault s.strings (facts_in s) f (kind f) (vlen f) (flag f) (third_word f) word role c
-
--- likewise for the number that the field contains
-pub judged : (s : SectionWords) {f : List ℕ} {j word : ℕ} (role : Role) (result : Option BtfCause) → IsFrame f → j < length f
-    → word ≡ slice_index f j → HasRole (kind f) j role
-    → MatchOption result (NoCause (HeldFault s f word role)) (λ c. LeastCause (HeldFault s f word role) c)
-    → MatchOption result (NoCause (FaultInWord s f j)) (λ c. LeastCause (FaultInWord s f j) c)
-judged s {f} {j} {word} role result is there word-is has held =
-    word_judged s.strings (facts_in s) f j is there role result has
-    (judged_same (HeldFault s f word role) (WordRoleFault s.strings (facts_in s) f j role) result
-    (λ d h. rw (← word-is) h) (λ d h. rw word-is h) held)
+-- the least cause of a role is that of the field
+pub judged : (s : SectionWords) {f : List ℕ} {j : ℕ} (role : Role) (result : Option BtfCause) → IsFrame f → j < length f → HasRole (kind f) j role
+    → IsLeastOf (FaultInRole s f j role) result → IsLeastOf (FaultInWord s f j) result
+judged s {f} {j} role result is there has held =
+    judged_same (FaultInRole s f j role) (FaultInWord s f j) result
+    (role_holds s.strings (facts_in s) f j is there role has.is) (role_says s.strings (facts_in s) f j role has) held
 
 -- the answer of the check of a member's type
 pub type_judged : (types : List TypeFacts) (frame : List ℕ) (bit_fields : Bool) (word : ℕ) (result : Option BtfCause) → BitFieldsAre frame bit_fields
-    → MatchOption result (NoCause (MemberTypeFault types bit_fields word)) (λ c. LeastCause (MemberTypeFault types bit_fields word) c)
-    → MatchOption result (NoCause (TypeOfMemberFault types frame word)) (λ c. LeastCause (TypeOfMemberFault types frame word) c)
+    → IsLeastOf (MemberTypeFault types bit_fields word) result → IsLeastOf (TypeOfMemberFault types frame word) result
 type_judged types frame bit_fields word result bits held =
     judged_same (MemberTypeFault types bit_fields word) (TypeOfMemberFault types frame word) result there back held
   where
@@ -364,11 +282,3 @@ type_judged types frame bit_fields word result bits held =
     back Reference h = h
     back MemberInt h = (bits.none h.0, h.1)
     back c h = absurd h
-
--- the numbers that the check of a member's offset field uses
-pub place_judged : (third flag word at wide : ℕ) (result : Option BtfCause) → at ≡ offset_in flag word → wide ≡ width_in flag word
-    → MatchOption result (NoCause (MemberPlaceFault third at wide)) (λ c. LeastCause (MemberPlaceFault third at wide) c)
-    → MatchOption result (NoCause (MemberPlaceFault third (offset_in flag word) (width_in flag word))) (λ c. LeastCause (MemberPlaceFault third (offset_in flag word) (width_in flag word)) c)
-place_judged third flag word at wide result at-is wide-is held =
-    judged_same (MemberPlaceFault third at wide) (MemberPlaceFault third (offset_in flag word) (width_in flag word)) result
-    (λ d h. rw (← at-is, ← wide-is) h) (λ d h. rw (at-is, wide-is) h) held

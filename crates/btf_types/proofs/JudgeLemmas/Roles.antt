@@ -21,7 +21,7 @@ pub data Role : Type 0 where
   MemberPlace : Role
   Free : Role
 
--- which field of its item field j is, or which after the first three if there are no items
+-- the index of field j in its item; without items, its index after the first three
 abbrev pub word_in_item : ℕ → ℕ → ℕ
 word_in_item kind j = if item_words kind == 0 then j - 3 else (j - 3) % item_words kind
 

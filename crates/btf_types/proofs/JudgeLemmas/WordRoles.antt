@@ -3,8 +3,9 @@ use Rattle.std.proofs.Common.{rules, ◌≡◌, ◌⊎◌, ℕ, ◌+◌, ◌-◌
 use Rattle.std.specs.Prelude.{IsTrue}
 use Rattle.btf_raw.specs.KindNumbers.{INT, ARRAY, STRUCT, UNION, ENUM, FUNC_PROTO, VAR, DATASEC, DECL_TAG, ENUM64}
 use Rattle.btf_raw.specs.Kinds.{one_of, fixed_words, item_words, has_item_names, is_struct}
+use Rattle.btf_types.proofs.KindCases.{one_among}
 use Rattle.btf_types.proofs.JudgeLemmas.Roles.{Role, OwnName, Info, Third, IntWord, Linkage, Component, ItemName, NamedType, MemberType, MemberPlace, Free, word_in_item, PartHasRole, HasRole}
-use Rattle.btf_types.proofs.JudgeLemmas.RoleSteps.{TwoOrThree, one_or_more, part_is, struct_size, proto_size, datasec_size}
+use Rattle.btf_types.proofs.JudgeLemmas.RoleSteps.{TwoOrThree, part_is, struct_size, proto_size, datasec_size}
 
 -- ---- the header
 
@@ -43,16 +44,10 @@ module _ (κ k m j : ℕ) (role : Role) where
   of_three three low at part = role_from_part κ j m role (omega arith) (part_is κ k m j (inr three) (rw three low) (rw three at)) part
 
 struct_cases : (κ : ℕ) → IsTrue (is_struct κ) → (κ ≡ STRUCT) ⊎ (κ ≡ UNION)
-struct_cases κ h = elim (one_or_more STRUCT κ (UNION ∷ []) h) [
-  | inl e ↦ inl e
-  | inr more ↦ elim (one_or_more UNION κ [] more) [ inl e ↦ inr e | inr none ↦ absurd cc ]
-]
+struct_cases κ h = one_among (λ k. (k ≡ STRUCT) ⊎ (k ≡ UNION)) (STRUCT ∷ UNION ∷ []) κ (inl refl, (inr refl, tt)) h
 
 enum_cases : (κ : ℕ) → IsTrue (one_of (ENUM ∷ ENUM64 ∷ []) κ) → (κ ≡ ENUM) ⊎ (κ ≡ ENUM64)
-enum_cases κ h = elim (one_or_more ENUM κ (ENUM64 ∷ []) h) [
-  | inl e ↦ inl e
-  | inr more ↦ elim (one_or_more ENUM64 κ [] more) [ inl e ↦ inr e | inr none ↦ absurd cc ]
-]
+enum_cases κ h = one_among (λ k. (k ≡ ENUM) ⊎ (k ≡ ENUM64)) (ENUM ∷ ENUM64 ∷ []) κ (inl refl, (inr refl, tt)) h
 
 module _ (κ k : ℕ) (struct : IsTrue (is_struct κ)) where
   pub member_name_role : HasRole κ (3 + 3 * k) ItemName
@@ -142,13 +137,7 @@ module _ (κ : ℕ) (array : κ ≡ ARRAY) where
   count_role j past low = role_from_part κ j 2 Free (omega arith) (rw array (omega arith)) (rw array (search rules))
 
 pub fourth_cases : (κ : ℕ) → IsTrue (one_of (INT ∷ VAR ∷ DECL_TAG ∷ []) κ) → (κ ≡ INT) ⊎ (κ ≡ VAR) ⊎ (κ ≡ DECL_TAG)
-fourth_cases κ h = elim (one_or_more INT κ (VAR ∷ DECL_TAG ∷ []) h) [
-  | inl e ↦ inl e
-  | inr h1 ↦ elim (one_or_more VAR κ (DECL_TAG ∷ []) h1) [
-    | inl e ↦ inr (inl e)
-    | inr h2 ↦ elim (one_or_more DECL_TAG κ [] h2) [ inl e ↦ inr (inr e) | inr none ↦ absurd cc ]
-  ]
-]
+fourth_cases κ h = one_among (λ k. (k ≡ INT) ⊎ (k ≡ VAR) ⊎ (k ≡ DECL_TAG)) (INT ∷ VAR ∷ DECL_TAG ∷ []) κ (inl refl, (inr (inl refl), (inr (inr refl), tt))) h
 
 pub int_role : (κ : ℕ) → κ ≡ INT → HasRole κ 3 IntWord
 unfolding has_item_names item_words

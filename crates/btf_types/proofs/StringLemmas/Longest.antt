@@ -99,3 +99,5 @@ hosts_by_first_use xs longest are = hosts_by_use xs longest are
 
 pub longest_have_host : (xs longest : List (List ℕ)) → LongestHaveHost xs longest
 longest_have_host xs longest are x = host_in_same (hosts xs) (hosts longest) x (host_there xs longest are) (host_here xs longest are)
+
+pub ruleset hosts_of_longest = (longest_have_hosts, hosts_by_first_use, longest_have_host)

@@ -70,6 +70,7 @@ fn fourth_fault(section: &Section, this: &Record) -> Option<BtfCause>
 
 /// The index of the first faulty type ID of an ARRAY, and its cause. The element type is checked
 /// before the index type. The number of elements may be any.
+#[tactic(auto, using(crate::proofs::JudgeLemmas::RecordSteps::array_end))]
 fn array_fault(section: &Section, this: &Record) -> Option<(usize, BtfCause)>
     requires frame { IsFrame this.now }
     requires kind { kind this.now ≡ kinds.ARRAY }

@@ -17,6 +17,7 @@ use btf_raw::{BtfCause, DATASEC, FUNC_PROTO};
 
 /// The index of the first faulty field of member `k` (from 0) of a STRUCT or UNION, and its
 /// cause. The name, the type and the offset field are checked in this order.
+#[tactic(auto, using(crate::proofs::JudgeLemmas::RecordSteps::members_end))]
 #[inline(always)]
 fn member_fault(
     section: &Section,
@@ -50,6 +51,7 @@ fn member_fault(
 
 /// The index of the first faulty field in the members of a STRUCT or UNION, and its cause. Whether
 /// the record has bit-fields is determined once, before any member is checked.
+#[tactic(auto, using(crate::proofs::JudgeLemmas::RecordSteps::members_end))]
 pub fn members_fault(section: &Section, this: &Record) -> Option<(usize, BtfCause)>
     requires frame { IsFrame this.now }
     requires kind { IsTrue (is_struct (kind this.now)) }
@@ -67,6 +69,7 @@ pub fn members_fault(section: &Section, this: &Record) -> Option<(usize, BtfCaus
 
 /// The index of the first faulty field of parameter `k` (from 0) of a FUNC_PROTO, and its
 /// cause. The name is checked before the type.
+#[tactic(auto, using(crate::proofs::JudgeLemmas::RecordSteps::params_end))]
 #[inline(always)]
 fn param_fault(section: &Section, this: &Record, k: usize) -> Option<(usize, BtfCause)>
     requires frame { IsFrame this.now }
@@ -86,6 +89,7 @@ fn param_fault(section: &Section, this: &Record, k: usize) -> Option<(usize, Btf
 }
 
 /// The index of the first faulty field in the parameters of a FUNC_PROTO, and its cause.
+#[tactic(auto, using(crate::proofs::JudgeLemmas::RecordSteps::params_end))]
 pub fn params_fault(section: &Section, this: &Record) -> Option<(usize, BtfCause)>
     requires frame { IsFrame this.now }
     requires kind { kind this.now ≡ kinds.FUNC_PROTO }
@@ -119,6 +123,7 @@ pub fn values_fault(section: &Section, this: &Record, step: usize) -> Option<(us
 
 /// The index of the first faulty field in the entries of a DATASEC, and its cause. Only type IDs
 /// can be faulty. An entry consists of three fields, and its type ID is the first of them.
+#[tactic(auto, using(crate::proofs::JudgeLemmas::RecordSteps::entries_end))]
 pub fn entries_fault(section: &Section, this: &Record) -> Option<(usize, BtfCause)>
     requires frame { IsFrame this.now }
     requires kind { kind this.now ≡ kinds.DATASEC }

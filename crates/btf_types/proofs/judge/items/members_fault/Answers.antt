@@ -9,6 +9,3 @@ returns-in-Some c =
     let end = members_end c.requires.frame c.requires.kind in
     let k = c.loop-k.k in
     first_after s f 3 (3 + 3 * k) (6 + 3 * k) (length f) _ _ (omega arith) (omega arith) c.loop-k.invariant c.in-Some.ensures
-
-pub returns : goal.returns
-returns c = let end = members_end c.requires.frame c.requires.kind in λ j d past low. c.loop-k.invariant j d past (omega arith)
