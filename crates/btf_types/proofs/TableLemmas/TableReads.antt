@@ -70,20 +70,11 @@ record_is o types strings places i h =
     get-map (record_of strings) (frames_at o types places) i [] (omega (arith, length-map places (frame_at o types)))
     ∙ ap (λ (f : List ℕ). Some (record_of strings f)) (get_or-map (frame_at o types) places i 0 [] h)
 
-pub length-records_at : (o : Order) (types strings places : List ℕ) → length (records_at o types strings places) ≡ length places
-length-records_at o types strings places = length-map (frames_at o types places) (record_of strings) ∙ length-map places (frame_at o types)
+pub length_records_at : (o : Order) (types strings places : List ℕ) → length (records_at o types strings places) ≡ length places
+length_records_at o types strings places = length-map (frames_at o types places) (record_of strings) ∙ length-map places (frame_at o types)
 
 pub count_there : (strings frame : List ℕ) → length (record_of strings frame).items ≡ item_total frame
 count_there strings frame = length-tabulate (λ i. item_of strings frame (3 + item_words (kind frame) * i)) (item_total frame)
 
--- the record of a table with this ID: its offset, and what is read there
-pub record PlacedRecord (s : FileSections) (v : List TypeRecord) (id : ℕ) : Type 0 where
-  pub has : HasRecordAt s.order s.types.now s.strings.now (get_or s.places.now (id - 1) 0)
-  pub is : record_at v id ≡ record_of s.strings.now (frame_of s (get_or s.places.now (id - 1) 0))
-
-pub placed_record : (s : FileSections) (v : List TypeRecord) (id : ℕ) → IsTable s.order s.types.now s.strings.now s.places.now
-    → records_at s.order s.types.now s.strings.now s.places.now ≡ v → 0 < id → id ≤ length v → PlacedRecord s v id
-placed_record s v id table is some last =
-    let low : id - 1 < length s.places.now = omega (arith, ap length (sym is), length-records_at s.order s.types.now s.strings.now s.places.now) in
-    let there : slice_get v (id - 1) ≡ Some (record_of s.strings.now (frame_of s (get_or s.places.now (id - 1) 0))) = rw (← is) (record_is s.order s.types.now s.strings.now s.places.now (id - 1) low) in
-    record { has = has_record_at s.order s.types.now s.strings.now s.places.now (id - 1) table low; is = rw there refl }
+-- the number of records and of their items
+pub ruleset placed = (length_records_at, count_there)

@@ -74,36 +74,34 @@ impl<'a> SectionTable<'a> {
     }
 
     /// The head of the record with the ID `id`, counted from 1.
+    #[tactic(auto, using(crate::proofs::TableLemmas::TableReads::placed))]
     pub fn head(&self, id: u32) -> Head<'a>
         requires first { 0 < id }
         requires last { id ≤ length self.now }
         ensures { head_value result ≡ (record_at self.now id).head }
     {
-        let pos = self.file.places[id as usize - 1] as usize;
-        let this = self.file.record_at(pos);
-        head_of(self.file.strings, self.ends, &this)
+        head_of(self.file.strings, self.ends, &self.file.record(id))
     }
 
     /// The number of items of the record with the ID `id`, counted from 1.
+    #[tactic(auto, using(crate::proofs::TableLemmas::TableReads::placed))]
     pub fn item_count(&self, id: u32) -> u32
         requires first { 0 < id }
         requires last { id ≤ length self.now }
         ensures { result ≡ length (record_at self.now id).items }
     {
-        let pos = self.file.places[id as usize - 1] as usize;
-        item_count_of(&self.file.record_at(pos))
+        item_count_of(&self.file.record(id))
     }
 
     /// Item `k` (from 0) of the record with the ID `id`, counted from 1.
+    #[tactic(auto, using(crate::proofs::TableLemmas::TableReads::placed))]
     pub fn item(&self, id: u32, k: u32) -> Item<'a>
         requires first { 0 < id }
         requires last { id ≤ length self.now }
         requires inside { k < length (record_at self.now id).items }
         ensures { slice_get (record_at self.now id).items k ≡ Some (item_value result) }
     {
-        let pos = self.file.places[id as usize - 1] as usize;
-        let this = self.file.record_at(pos);
-        item_of(self.file.strings, self.ends, &this, k as usize)
+        item_of(self.file.strings, self.ends, &self.file.record(id), k as usize)
     }
 
     /// The borrowed sections.

@@ -3,7 +3,10 @@
 ghost use Rattle.std.specs.Prelude.{◌≡◌, ◌<◌, ◌≤◌, List, Some, IfSome, length, slice_get};
 ghost use Rattle.btf_types.specs.Values.{TypeRecord, head_value, item_value};
 ghost use Rattle.btf_types.specs.Good.{IsGood};
+ghost use Rattle.btf_types.specs.Reading.{record_of, records_at};
 ghost use Rattle.btf_types.specs.tables.TableWords.{record_at};
+ghost use Rattle.btf_types.specs.tables.TableInvariant.{IsTable};
+ghost use Rattle.btf_types.specs.tables.PlaceWords.{ReadsRecord};
 ghost use Rattle.btf_types.specs.tables.KeptSections.{AreSections};
 ghost use Rattle.btf_types.specs.Sections.{HasFrame, frame_of};
 
@@ -74,5 +77,20 @@ impl<'a> FileSections<'a> {
         ensures { result ≡ frame_of self.now pos }
     {
         Record::at(self.order, self.types, pos)
+    }
+
+    /// The record with the ID `id`, counted from 1.
+    #[inline(always)]
+    pub(crate) fn record(&self, id: u32) -> Record<'a>
+        requires table { let s = self.now in
+            IsTable s.order s.types.now s.strings.now s.places.now }
+        requires first { 0 < id }
+        requires last { id ≤ length self.now.places.now }
+        ensures reads { ReadsRecord self.now.strings.now result }
+        ensures is { let s = self.now in
+            record_at (records_at s.order s.types.now s.strings.now s.places.now) id
+            ≡ record_of s.strings.now result }
+    {
+        self.record_at(self.places[id as usize - 1] as usize)
     }
 }
