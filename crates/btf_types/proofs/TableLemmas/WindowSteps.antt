@@ -99,3 +99,7 @@ no_items (r ∷ v) (suc i) h = no_items v i (omega (arith, h))
 pub items_beyond : (v : List TypeRecord) (id : ℕ) → length v < id → items_of v id ≡ []
 items_beyond v zero h = refl
 items_beyond v (suc i) h = no_items v i (omega (arith, h))
+
+pub ruleset item_windows = (window_first, window_back, window_length, window_empty, items_there, items_of_record)
+
+pub ruleset record_windows = (first_numbered, last_numbered, numbered_left, none_numbered)

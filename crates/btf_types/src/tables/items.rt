@@ -45,6 +45,7 @@ impl<'a> Iterator for Items<'a> {
 
     ghost remaining = { item_count (λ left. left) };
 
+    #[tactic(auto, using(crate::proofs::TableLemmas::WindowSteps::item_windows))]
     fn next(&mut self) -> Option<Item<'a>> {
         if self.given == self.end {
             return None;
@@ -63,6 +64,7 @@ impl<'a> Iterator for Items<'a> {
 impl<'a> DoubleEndedIterator for Items<'a> {
     ghost next_back_gives = { YieldsLastBy item_value (λ left. left) };
 
+    #[tactic(auto, using(crate::proofs::TableLemmas::WindowSteps::item_windows))]
     fn next_back(&mut self) -> Option<Item<'a>> {
         if self.given == self.end {
             return None;
@@ -73,6 +75,7 @@ impl<'a> DoubleEndedIterator for Items<'a> {
 }
 
 impl ExactSizeIterator for Items<'_> {
+    #[tactic(auto, using(crate::proofs::TableLemmas::WindowSteps::item_windows))]
     fn len(&self) -> usize {
         (self.end - self.given) as usize
     }

@@ -43,6 +43,7 @@ impl<'a> Iterator for Records<'a> {
 
     ghost remaining = { item_count (λ left. left) };
 
+    #[tactic(auto, using(crate::proofs::TableLemmas::WindowSteps::record_windows))]
     fn next(&mut self) -> Option<(u32, Head<'a>)> {
         if self.given == self.last {
             return None;
@@ -60,6 +61,7 @@ impl<'a> Iterator for Records<'a> {
 impl<'a> DoubleEndedIterator for Records<'a> {
     ghost next_back_gives = { YieldsLastBy numbered_value (λ left. left) };
 
+    #[tactic(auto, using(crate::proofs::TableLemmas::WindowSteps::record_windows))]
     fn next_back(&mut self) -> Option<(u32, Head<'a>)> {
         if self.given == self.last {
             return None;
@@ -71,6 +73,7 @@ impl<'a> DoubleEndedIterator for Records<'a> {
 }
 
 impl ExactSizeIterator for Records<'_> {
+    #[tactic(auto, using(crate::proofs::TableLemmas::WindowSteps::record_windows))]
     fn len(&self) -> usize {
         (self.last - self.given) as usize
     }
