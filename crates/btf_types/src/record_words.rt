@@ -36,6 +36,7 @@ impl<'a> Model for Record<'a> {
 
 impl<'a> Record<'a> {
     /// The record at the offset `pos` of the types.
+    #[tactic(auto, using(crate::proofs::JudgeLemmas::FramingSteps::words_of_frame))]
     pub(crate) fn at(order: Order, types: &'a [u8], pos: usize) -> Record<'a>
         requires { pos + 4 * length (frame_at order types.now pos) ≤ length types.now }
         ensures { result ≡ frame_at order types.now pos }
@@ -49,6 +50,7 @@ impl<'a> Record<'a> {
     }
 
     /// Word `j`, counted from 0.
+    #[tactic(auto, using(crate::proofs::JudgeLemmas::FramingSteps::words_of_frame))]
     #[inline(always)]
     pub fn word(&self, j: usize) -> u32
         requires { j < length self.now }
@@ -65,6 +67,7 @@ impl<'a> Record<'a> {
     }
 
     /// The number of words.
+    #[tactic(auto, using(crate::proofs::JudgeLemmas::FramingSteps::words_of_frame))]
     pub(crate) fn words(&self) -> usize
         ensures { result ≡ length self.now }
     {
@@ -98,6 +101,7 @@ impl<'a> Record<'a> {
 
     /// Whether the record has a bit-field (btf.rst section 2.2.4): it is a STRUCT or UNION, its
     /// kind_flag is 1, and the width of some member, the high 8 bits of its offset field, isn't 0.
+    #[tactic(auto, using(crate::proofs::JudgeLemmas::BitSteps::widths))]
     pub fn has_bit_fields(&self) -> bool
         requires { IsFrame self.now }
         ensures { BitFieldsAre self.now result }

@@ -24,3 +24,6 @@ module _ (frame : List ℕ) (is_frame : IsFrame frame) (struct : IsTrue (is_stru
         let wide : slice_index frame h.0 / 2 ^ 24 ≢ 0 = rw (ne_eqb (flag frame) 0 set) at h.2 in
         absurd (wide (subst (λ (i : ℕ). slice_index frame i / 2 ^ 24 ≡ 0) (sym at) (narrow h.1.1 h.1.2.0)));
   }
+
+-- what the search cites of the widths of members
+pub ruleset widths = (members_end, some_width, no_width)

@@ -105,3 +105,5 @@ first_framing_fault o types places pos place cause so least =
           (no_frame (drop pos types) least.holds.0 cause least.holds.1) (no_frame other.rest other.offset d other.fault) (sym whole ∙ other.whole) in
           least.least q d (other.offset, subst (λ (b : List ℕ). RecordFault o b other.offset d) (sym same.rest) other.fault, other.place_is ∙ rw (← same.frames, before) refl);
     }
+
+pub ruleset words_of_frame = (frame_word, length-frame_at)

@@ -47,3 +47,5 @@ module _ (s : SectionWords) (f : List ℕ) where
   tail_of_record (Some found) header tail =
       let end = length f in
       first_of_record found.0 found.1 (first_after 0 3 end end found.0 found.1 (omega arith) (omega arith) header tail)
+
+pub ruleset first_of_words = (first_after, first_of_record, tail_of_record)

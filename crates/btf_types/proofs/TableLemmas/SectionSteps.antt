@@ -69,3 +69,5 @@ type_is s zero good some few = absurd (omega arith)
 type_is s (suc i) good some few =
     let e : suc i - 1 ≡ i = omega arith in
     rw (e, eqb-suc-zero i, facts_get s good i (omega arith)) refl
+
+pub ruleset types_of_section = (has_frame, type_is)

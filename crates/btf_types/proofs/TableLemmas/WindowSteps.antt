@@ -103,3 +103,5 @@ items_beyond v (suc i) h = no_items v i (omega (arith, h))
 pub ruleset item_windows = (window_first, window_back, window_length, window_empty, items_there, items_of_record)
 
 pub ruleset record_windows = (first_numbered, last_numbered, numbered_left, none_numbered)
+
+pub ruleset all_records = (window_whole, length-numbered)

@@ -108,6 +108,7 @@ fn tail_fault(section: &Section, this: &Record) -> Option<(usize, BtfCause)>
 }
 
 /// The index of the first faulty field of a record, and its cause.
+#[tactic(auto, using(crate::proofs::JudgeLemmas::WordSteps::first_of_words))]
 fn record_fault(section: &Section, this: &Record) -> Option<(usize, BtfCause)>
     requires { IsFrame this.now }
     ensures { MatchOption result

@@ -15,6 +15,7 @@ use std::alloc::Allocator;
 ///
 /// `Fault` with the first fault of the framing, whose offset counts bytes from the start of the
 /// section. `Memory` if memory can't be allocated.
+#[tactic(auto, using(crate::proofs::JudgeLemmas::FramingSteps::first_framing_fault))]
 pub fn record_places<A: Allocator>(
     alloc: A,
     order: Order,

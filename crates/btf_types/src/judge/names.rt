@@ -41,6 +41,7 @@ fn own_name_fault(kind: u8, empty: bool) -> Option<BtfCause>
 
 /// Checks a record's own name field: first like that of an item, then whether a name is missing or
 /// not allowed.
+#[tactic(auto, using(crate::proofs::JudgeLemmas::NameSteps::item_to_name))]
 pub fn name_fault(section: &Section, kind: u8, off: u32) -> Option<BtfCause>
     ensures { spec.IsLeastOf (NameFault section.now.strings kind off) result }
 {

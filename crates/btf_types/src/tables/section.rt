@@ -59,6 +59,7 @@ pub struct Facts {
 
 impl Facts {
     /// The facts of a record.
+    #[tactic(auto, using(crate::proofs::TableLemmas::SectionSteps::int_has_word))]
     fn of(this: &Record) -> Facts
         requires { IsFrame this.now }
         ensures { FactsAre result (frame_facts this.now) }
@@ -77,6 +78,7 @@ impl Facts {
 
 impl<'a> Section<'a> {
     /// The facts of the type with this ID.
+    #[tactic(auto, using(crate::proofs::TableLemmas::SectionSteps::types_of_section))]
     pub fn facts(&self, id: u32) -> Facts
         ensures { FactsAre result (type_at (facts_in self.now) id) }
     {

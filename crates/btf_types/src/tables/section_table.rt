@@ -113,6 +113,7 @@ impl<'a> SectionTable<'a> {
     }
 
     /// An iterator over the records in order, each as its ID, from 1, and its head.
+    #[tactic(auto, using(crate::proofs::TableLemmas::WindowSteps::all_records))]
     pub fn records(self) -> Records<'a>
         ensures { result ≡ numbered 1 self.entry }
     {
@@ -138,6 +139,7 @@ impl<'a> SectionTable<'a> {
 
     /// An iterator over the items of the type with the ID `id`; empty if the table lacks this
     /// record.
+    #[tactic(auto, using(crate::proofs::TableLemmas::WindowSteps::window_whole))]
     pub fn items(self, id: u32) -> Items<'a>
         ensures { result ≡ items_of self.entry id }
     {

@@ -1,9 +1,6 @@
 use Rattle.btf_types.proofs.FaultlessLemmas.Faultless.{fields_are_right}
 use Rattle.btf_types.proofs.judge.fields.check_fields.Goals as goal
 
-pub invariant_of-section : goal.invariant_of-section
-invariant_of-section g c = record { ends = c.requires.ends; few = c.requires.few; framed = c.requires.framed; texts = c.of-texts.ensures c.args.file.strings.now c.in_ok-marks.ensures }
-
 pub returns-clause-cases : goal.returns-clause-cases
 returns-clause-cases g c =
     let s = c.args.file in

@@ -6,8 +6,3 @@ pub loop-pos-preserved : goal.loop-pos-preserved
 loop-pos-preserved g c =
     rw c.in_ok-push.ensures.items
     (framed_more c.args.order c.args.types.now c.loop-pos.places.items c.loop-pos.pos c.in_ok-head.head (λ i. omega (arith, c.type_inv.types i)) c.loop-pos.invariant c.in_ok-head.ensures.cases)
-
-pub returns-in_err-head-clause-cases : goal.returns-in_err-head-clause-cases
-returns-in_err-head-clause-cases g c =
-    let p = err_from_is_err_and c.from_residual.result c.from_residual.ensures.1 in
-    rw (p.1, p.2) (first_framing_fault c.args.order c.args.types.now c.loop-pos.places.items c.loop-pos.pos _ _ c.loop-pos.invariant c.in_err-head.ensures.cases)

@@ -20,6 +20,3 @@ returns-in-None c =
     (λ d h. own_to_name s c.args.kind c.args.off c.section.invariant.ends item d (in_range s c.args.off item) h)
     (λ d h. name_to_own s c.args.kind c.args.off c.section.invariant.ends item d h)
     c.own_name_fault.ensures)
-
-pub returns-in-Some : goal.returns-in-Some
-returns-in-Some c = item_to_name c.args.section.now.strings c.args.kind c.args.off c.in-Some.cause c.in-Some.ensures
