@@ -1,5 +1,5 @@
 -- What a table's invariant says of one record.
-use Rattle.std.proofs.Common.{◌≡◌, ◌⊎◌, ℕ, zero, suc, ◌+◌, ◌-◌, ◌*◌, ◌^◌, ◌<◌, ◌≤◌, Bool, true, false, Some, List, [], ◌∷◌, length, get_or, take, map, refl, sym, ap, subst, ◌∙◌, inl, inr, arith}
+use Rattle.std.proofs.Common.{◌≡◌, ◌⊎◌, ℕ, zero, suc, ◌+◌, ◌*◌, ◌^◌, ◌<◌, ◌≤◌, Bool, true, false, Some, List, [], ◌∷◌, length, get_or, take, map, refl, ap, subst, ◌∙◌, inl, inr, arith}
 use Rattle.std.specs.Prelude.{slice_index, slice_get, IfSome, ◌==◌}
 use Rattle.std.specs.List.{AllZip}
 use Rattle.std.proofs.lemmas.{List.length-map, Bool.eqb-true}
@@ -7,9 +7,9 @@ use Rattle.bpf_words.specs.declared.Order.{Order}
 use Rattle.btf_raw.specs.{KindNumbers.DECL_TAG, Header.HasNulEnds, Names.NameAt, Kinds.item_words}
 use Rattle.btf_raw.specs.Frames.{IsFrame, section_of, kind, name_word}
 use Rattle.btf_raw.proofs.Texts.{TextAt-unique, TextAt-inside}
-use Rattle.btf_types.specs.{Values.TypeRecord, Sections.frame_of, judge.FieldFaults.frame_facts}
-use Rattle.btf_types.specs.{Spelling.Spells, Spelling.HeadInRange, declared.tables.table.FileSections.FileSections}
-use Rattle.btf_types.specs.tables.{TableWords.record_at, TableInvariant.IsTable, PlaceWords.HasRecordAt}
+use Rattle.btf_types.specs.{Values.TypeRecord, judge.FieldFaults.frame_facts}
+use Rattle.btf_types.specs.{Spelling.Spells, Spelling.HeadInRange}
+use Rattle.btf_types.specs.tables.{TableInvariant.IsTable, PlaceWords.HasRecordAt}
 use Rattle.btf_types.proofs.Lists.{length-tabulate, get-map, get_or-map}
 use Rattle.btf_types.proofs.TableLemmas.{SectionSteps.ends_inside, TextSteps.text_there}
 use Rattle.btf_types.specs.Reading.{text_from, frame_at, frames_at, record_of, records_at, item_of, item_total, head_from, head_of, component_of}

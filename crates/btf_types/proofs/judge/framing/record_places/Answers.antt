@@ -1,5 +1,5 @@
-use Rattle.std.proofs.{Common.arith, lemmas.Result.err_from_is_err_and}
-use Rattle.btf_types.proofs.JudgeLemmas.FramingSteps.{framed_more, first_framing_fault}
+use Rattle.std.proofs.{Common.arith}
+use Rattle.btf_types.proofs.JudgeLemmas.FramingSteps.{framed_more}
 use Rattle.btf_types.proofs.judge.framing.record_places.Goals as goal
 
 pub loop-pos-preserved : goal.loop-pos-preserved

@@ -18,6 +18,6 @@ loop-k-preserved c =
     let end = entries_end is c.requires.kind in
     let k = c.loop-k.k in
     λ j d past low. none_through s c.args.this.now 3 (4 + 3 * k) (6 + 3 * k)
-        (none_at s is 3 (3 + 3 * k) (4 + 3 * k) NamedType (omega arith) (omega arith) c.loop-k.invariant
-        (entry_type_role _ k c.requires.kind) (rw (c.requires.kind, ← c.word-target.ensures) c.in_default.ensures))
-        (free_within s is (4 + 3 * k) (6 + 3 * k) (omega arith) (entry_free_role _ k c.requires.kind)) j d past (omega arith)
+    (none_at s is 3 (3 + 3 * k) (4 + 3 * k) NamedType (omega arith) (omega arith) c.loop-k.invariant
+    (entry_type_role _ k c.requires.kind) (rw (c.requires.kind, ← c.word-target.ensures) c.in_default.ensures))
+    (free_within s is (4 + 3 * k) (6 + 3 * k) (omega arith) (entry_free_role _ k c.requires.kind)) j d past (omega arith)

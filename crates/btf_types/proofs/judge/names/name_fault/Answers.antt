@@ -3,7 +3,7 @@ use Rattle.std.specs.Prelude.{◌==◌, slice_index}
 use Rattle.btf_types.specs.Sections.{SectionWords}
 use Rattle.btf_types.specs.judge.{Checks.IsLeastOf, Checks.NoCause, NameFaults.NameFault, NameFaults.OwnNameFault, NameFaults.ItemNameFault}
 use Rattle.btf_types.proofs.JudgeLemmas.Judging.{judged_same}
-use Rattle.btf_types.proofs.JudgeLemmas.NameSteps.{item_to_name, own_to_name, name_to_own, in_range}
+use Rattle.btf_types.proofs.JudgeLemmas.NameSteps.{own_to_name, name_to_own, in_range}
 use Rattle.btf_types.proofs.judge.names.name_fault.Goals as goal
 
 pub bounds-section-inside-off : goal.bounds-section-inside-off

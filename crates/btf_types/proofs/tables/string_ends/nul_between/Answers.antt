@@ -1,7 +1,7 @@
 -- The bytes of the part are those of the section.
-use Rattle.std.proofs.Common.{◌-◌, drop, arith}
-use Rattle.std.proofs.lemmas.{List.length-take, Bool.eqb-true, Bool.eq-eqb}
-use Rattle.btf_types.proofs.StringLemmas.LongEnds.{first_in_part, none_in_part}
+use Rattle.std.proofs.Common.{arith}
+use Rattle.std.proofs.lemmas.{Bool.eq-eqb}
+use Rattle.btf_types.proofs.StringLemmas.LongEnds.{none_in_part}
 use Rattle.btf_types.proofs.tables.string_ends.nul_between.Goals as goal
 
 pub returns-in-None : goal.returns-in-None
