@@ -7,16 +7,10 @@ use Rattle.btf_raw.specs.{Kinds.item_words, Frames.kind, Frames.vlen, Frames.fla
 use Rattle.btf_types.specs.Values.{TypeHead, KInt, KArray, KFunc, KVar, KDeclTag, TypeItem, Entry, TypeRecord}
 use Rattle.btf_types.specs.Spelling.{kind_number, head_tail, ItemSpells, Spells}
 use Rattle.btf_types.specs.{judge.Checks.TypeFacts, Good.ItemOf, Good.IsGoodRecord}
-use Rattle.btf_types.proofs.{Spelled.vlen_from, Spelled.item_size, Denoting.numbers}
+use Rattle.btf_types.proofs.{Lists.zip_at, Spelled.vlen_from, Spelled.item_size, Denoting.numbers}
 
 pub nothing : TypeItem
 nothing = Entry 0 0 0
-
-zip_at : {A B : Type 0} (R : A → B → Type 0) (xs : List A) (ys : List B) (i : ℕ) (d : A) (e : B) → AllZip R xs ys → i < length xs → R (get_or xs i d) (get_or ys i e)
-zip_at R [] ys i d e all h = absurd (omega arith)
-zip_at R (x ∷ xs) [] i d e all h = absurd all
-zip_at R (x ∷ xs) (y ∷ ys) zero d e all h = all.0
-zip_at R (x ∷ xs) (y ∷ ys) (suc i) d e all h = zip_at R xs ys i d e all.1 (omega arith)
 
 -- a field of the i-th piece, if all pieces have the same length
 piece_word : (strings : List ℕ) (flag : ℕ) (h : TypeHead) (xs : List TypeItem) (wss : List (List ℕ)) (i m : ℕ) → All (ItemOf h) xs → AllZip (ItemSpells strings flag) xs wss

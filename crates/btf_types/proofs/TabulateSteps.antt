@@ -28,25 +28,6 @@ any-tabulate p f (suc n) h = elim (or_cases (list_any p (tabulate f n)) (list_an
   | inr last ↦ (n, omega arith, elim (or_cases (p (f n)) false last) [ inl t ↦ t | inr none ↦ absurd cc ])
 ]
 
-pub get-tabulate : {X : Type 0} (f : ℕ → X) (n k : ℕ) → k < n → slice_get (tabulate f n) k ≡ Some (f k)
-get-tabulate f zero k h = absurd (omega arith)
-get-tabulate f (suc n) k h = elim (cases_lt k n) [
-  | inl lt ↦ get-front (tabulate f n) (f n ∷ []) k (omega (arith, length-tabulate f n)) ∙ get-tabulate f n k lt
-  | inr le ↦
-      let is : k ≡ length (tabulate f n) = omega (arith, length-tabulate f n) in
-      let same : k ≡ n = omega arith in
-      rw is (get-seam (tabulate f n) (f n)) ∙ ap (λ (m : ℕ). Some (f m)) (sym same)
-]
-  where
-    get-front : {X : Type 0} (xs ys : List X) (i : ℕ) → i < length xs → slice_get (xs ++ ys) i ≡ slice_get xs i
-    get-front [] ys i h = absurd (omega arith)
-    get-front (x ∷ xs) ys zero h = refl
-    get-front (x ∷ xs) ys (suc i) h = get-front xs ys i (omega arith)
-
-    get-seam : {X : Type 0} (xs : List X) (x : X) → slice_get (xs ++ x ∷ []) (length xs) ≡ Some x
-    get-seam [] x = refl
-    get-seam (y ∷ xs) x = get-seam xs x
-
 -- the concatenation of pieces of the same length
 pub pieces : (w n p : ℕ) (f : List ℕ) → concat (tabulate (λ i. take w (drop (p + w * i) f)) n) ≡ take (w * n) (drop p f)
 pieces w zero p f = let none : w * zero ≡ 0 = omega arith in rw none refl

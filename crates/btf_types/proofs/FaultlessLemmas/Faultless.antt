@@ -2,7 +2,7 @@
 use Rattle.std.proofs.Common.{◌≡◌, ◌≢◌, ℕ, zero, suc, ◌-◌, ◌^◌, ◌<◌, ◌≤◌, Bool, true, false, Some, None, List, [], ◌∷◌, length, get_or, map, refl, sym, ap, subst, ◌∙◌, inl, lit<, arith}
 use Rattle.std.specs.Prelude.{IsTrue, IfSome, slice_index, slice_get, unwrap_or, ◌==◌, if◌then◌else◌}
 use Rattle.std.specs.List.{All, AllZip, sum_by}
-use Rattle.std.proofs.lemmas.Bool.{eqb-true, ltb-true}
+use Rattle.std.proofs.lemmas.{Bool.eqb-true, Bool.ltb-true, Option.slice_get-get_or}
 use Rattle.std.proofs.lemmas.List.{length-append, Elements.All-nil, Elements.All-cons, Elements.All-head, Elements.All-tail, Sums.sum_by-cons}
 use Rattle.bpf_words.specs.declared.Order.{Order}
 use Rattle.btf_raw.specs.KindNumbers.{STRUCT, UNION, FUNC, FUNC_PROTO, VAR, TYPEDEF, DECL_TAG}
@@ -16,14 +16,9 @@ use Rattle.btf_types.specs.judge.{FieldFaults.FieldFault, FieldFaults.frame_fact
 use Rattle.btf_types.specs.tables.TableInvariant.{IsFramed, FieldsAreRight}
 use Rattle.btf_types.proofs.{KindCases.one_among, StringLemmas.SpelledNames.spelled_table}
 use Rattle.btf_types.proofs.FaultlessLemmas.FaultlessWords.{type_is, component_is}
-use Rattle.btf_types.proofs.FaultlessLemmas.FaultlessRecords.{frame_spells, frame_good, facts_same, size_same, tag_room}
+use Rattle.btf_types.proofs.FaultlessLemmas.FaultlessRecords.{frame_spells, frame_good, facts_same, size_same}
 
 -- ---- what other records know of a type
-
-pub get_is : {X : Type 0} (xs : List X) (i : ℕ) (d : X) → i < length xs → slice_get xs i ≡ Some (get_or xs i d)
-get_is [] i d h = absurd (omega arith)
-get_is (x ∷ xs) zero d h = refl
-get_is (x ∷ xs) (suc i) d h = get_is xs i d (omega arith)
 
 count_below : (frame : List ℕ) → (frame_facts frame).count < 2 ^ 16
 count_below frame = split (kind frame == FUNC)
@@ -115,7 +110,7 @@ module _ (strings : List ℕ) (frames : List (List ℕ)) (ends : HasNulEnds stri
   its_target t of e =
       let g = of.frame in
       let is : IsFrame g = subst (λ (h : List ℕ). IsFrame h) of.there (each of.index g of.inside) in
-      let is_there : slice_get frames of.index ≡ Some g = get_is frames of.index g of.inside ∙ ap (λ (h : List ℕ). Some h) of.there in
+      let is_there : slice_get frames of.index ≡ Some g = slice_get-get_or frames of.index g of.inside ∙ ap (λ (h : List ℕ). Some h) of.there in
       let func : kind g ≡ FUNC = ap (λ (u : TypeFacts). u.kind) (sym of.is) ∙ e in
       let good = type_is strings types g ends is (faultless of.index g is_there) 2 (omega (arith, is.size)) (inl (func_has_target (kind g) func, refl)) in
       ap (λ (u : TypeFacts). (type_at types u.target).kind) of.is ∙ func_fits (kind g) _ func good.fits
@@ -163,11 +158,11 @@ module _ (strings : List ℕ) (frames : List (List ℕ)) (ends : HasNulEnds stri
     component = λ tag.
         let target = type_is strings types f ends is without 2 (omega (arith, is.size)) (inl (tag_has_target (kind f) tag, refl)) in
         low_of_word (third_word f) (slice_index f 3) (tag_fits (kind f) _ tag target.fits)
-        (component_is strings types f ends is without tag (tag_room strings types f ends is without tag));
+        (component_is strings types f ends is without tag);
   }
 
   all_right : All IsRight frames
-  all_right i d low = frame_right (get_or frames i d) (each i d low) (faultless i (get_or frames i d) (get_is frames i d low))
+  all_right i d low = frame_right (get_or frames i d) (each i d low) (faultless i (get_or frames i d) (slice_get-get_or frames i d low))
 
   spelled_right : (fs : List (List ℕ)) → All IsRight fs → AllZip (Spells strings) (map (record_of strings) fs) fs
   spelled_right [] all = tt

@@ -12,7 +12,7 @@ use Rattle.btf_types.specs.judge.{Checks.TypeFacts, Checks.size_fits, RecordFaul
 use Rattle.btf_types.specs.Good.{TargetIsGood, MemberIsGood, ItemOf, item_targets, head_targets, has_bit_fields, has_width, facts_of, IsGoodRecord, record_size}
 use Rattle.btf_types.specs.judge.FieldFaults.{HasBitFields, frame_facts, width}
 use Rattle.btf_types.specs.Reading.{text_from, component_of, head_of, item_from, item_of, item_total, record_of, tabulate}
-use Rattle.btf_types.proofs.{Lists.length-tabulate, StringLemmas.SpelledNames.record_names_there}
+use Rattle.btf_types.proofs.{Lists.length-tabulate, StringLemmas.SpelledNames.record_names_there, JudgeLemmas.RecordSteps.array_end}
 use Rattle.btf_types.proofs.KindCases.{KindIs, IsInt, IsArray, IsVar, IsDeclTag, IsStruct, IsUnion, IsEnum, IsFuncProto, IsDatasec, IsEnum64}
 use Rattle.btf_types.proofs.FaultlessLemmas.FaultlessHeads.{IntIsRight, words_after, count_of, kind_of_head, name_of_head, third_of_head, flag_of_head, tail_of_head, vlen_of_head, range_of_head, targets_of_head, good_head, size_of_count, offset_of_head, bits_of_head, count_is, room_of_items}
 use Rattle.btf_types.proofs.FaultlessLemmas.FaultlessWords.{known, room, info_is, flag_low, vlen_low, name_is, needed, unwanted, zeroed, size_is, type_is, int_is, func_linkage, var_linkage, component_is}
@@ -70,31 +70,8 @@ module _ (strings : List ℕ) (types : List TypeFacts) (frame : List ℕ) (ends 
   abbrev count : ℕ
   count = item_total frame
 
-  -- the fields that exist, by kind
-  fixed_room : 3 + fixed_words (kind frame) ≤ length frame
-  fixed_room = omega (arith, room frame is_frame)
-
-  int_room : kind frame ≡ INT → 3 < length frame
-  unfolding fixed_words
-  int_room e = let long = rw e at fixed_room in omega arith
-
-  var_room : kind frame ≡ VAR → 3 < length frame
-  unfolding fixed_words
-  var_room e = let long = rw e at fixed_room in omega arith
-
-  pub tag_room : kind frame ≡ DECL_TAG → 3 < length frame
-  unfolding fixed_words
-  tag_room e = let long = rw e at fixed_room in omega arith
-
-  array_room : kind frame ≡ ARRAY → 5 < length frame
-  unfolding fixed_words
-  array_room e = let long = rw e at fixed_room in omega arith
-
   three : 2 < length frame
-  three = omega (arith, fixed_room)
-
-  int_right : kind frame ≡ INT → IntIsRight (third_word frame) (slice_index frame 3)
-  int_right e = int_is strings types frame ends is_frame none e (int_room e)
+  three = omega (arith, room frame is_frame)
 
   -- the head
   kind_same : kind_number (head_of frame name) ≡ kind frame
@@ -107,8 +84,8 @@ module _ (strings : List ℕ) (types : List TypeFacts) (frame : List ℕ) (ends 
   third_same = third_of_head (known frame is_frame) name (third_word frame) (flag frame) (vlen frame) (slice_index frame 3) (slice_index frame 4) (slice_index frame 5) (zeroed strings types frame ends is_frame none)
 
   tail_same : head_tail (head_of frame name) ≡ words_after (fixed_words (kind frame)) (slice_index frame 3) (slice_index frame 4) (slice_index frame 5)
-  tail_same = tail_of_head (known frame is_frame) name (third_word frame) (flag frame) (vlen frame) (slice_index frame 3) (slice_index frame 4) (slice_index frame 5) int_right
-      (λ e. var_linkage strings types frame ends is_frame none e (var_room e))
+  tail_same = tail_of_head (known frame is_frame) name (third_word frame) (flag frame) (vlen frame) (slice_index frame 3) (slice_index frame 4) (slice_index frame 5) (int_is strings types frame ends is_frame none)
+      (var_linkage strings types frame ends is_frame none)
 
   -- the items
   abbrev item_at : ℕ → TypeItem
@@ -179,8 +156,8 @@ module _ (strings : List ℕ) (types : List TypeFacts) (frame : List ℕ) (ends 
   targets_good = rw kind_same
       (targets_of_head (known frame is_frame) (TargetIsGood types (kind frame)) name (third_word frame) (flag frame) (vlen frame) (slice_index frame 3) (slice_index frame 4) (slice_index frame 5)
       (λ has. type_is strings types frame ends is_frame none 2 three (inl (has, refl)))
-      (λ array. let long = array_room array in type_is strings types frame ends is_frame none 3 (omega arith) (inr (inl (array, inl refl))))
-      (λ array. let long = array_room array in type_is strings types frame ends is_frame none 4 (omega arith) (inr (inl (array, inr refl)))))
+      (λ array. type_is strings types frame ends is_frame none 3 (omega (arith, array_end is_frame array)) (inr (inl (array, inl refl))))
+      (λ array. type_is strings types frame ends is_frame none 4 (omega (arith, array_end is_frame array)) (inr (inl (array, inr refl)))))
 
   item_targets_good : All (λ item. All (TargetIsGood types (kind_number (head_of frame name))) (item_targets item)) (tabulate item_at count)
   item_targets_good = rw kind_same (All-tabulate (λ item. All (TargetIsGood types (kind frame)) (item_targets item)) item_at count (λ i low. (right i low).targets))
@@ -200,8 +177,8 @@ module _ (strings : List ℕ) (types : List TypeFacts) (frame : List ℕ) (ends 
     head_targets = targets_good;
     item_targets = item_targets_good;
     members = members_good;
-    head = good_head (known frame is_frame) types name (third_word frame) (flag frame) (vlen frame) (slice_index frame 3) (slice_index frame 4) (slice_index frame 5) int_right
-        (λ tag. component_is strings types frame ends is_frame none tag (tag_room tag));
+    head = good_head (known frame is_frame) types name (third_word frame) (flag frame) (vlen frame) (slice_index frame 3) (slice_index frame 4) (slice_index frame 5) (int_is strings types frame ends is_frame none)
+        (component_is strings types frame ends is_frame none);
   }
 
   -- what other records need of it, and its length

@@ -10,7 +10,7 @@ use Rattle.btf_raw.specs.Frames.{IsFrame, name_word, info_word, third_word, kind
 use Rattle.btf_types.specs.{Spelling.info, Good.TargetIsGood, judge.RecordFaults.IsFaultless, Reading.text_from, Reading.component_of}
 use Rattle.btf_types.specs.judge.Checks.{TypeFacts, type_at, size_fits, bits_fit, target_fits, component_fits, member_fits, member_int_fits}
 use Rattle.btf_types.specs.judge.FieldFaults.{IsTypeField, IsMemberWord, HasBitFields, bit_offset, width, int_unused, int_encoding, int_bits}
-use Rattle.btf_types.proofs.{KindCases.KindIs, KindCases.kind_is, FaultlessLemmas.FaultlessHeads.IntIsRight}
+use Rattle.btf_types.proofs.{KindCases.KindIs, KindCases.kind_is, FaultlessLemmas.FaultlessHeads.IntIsRight, JudgeLemmas.RecordSteps.fourth_end}
 use Rattle.btf_types.proofs.TableLemmas.TextSteps.{decided, empty_or_not, name_there}
 
 -- the parts of info determine it
@@ -49,10 +49,6 @@ module _ (frame : List ℕ) (is_frame : IsFrame frame) where
   pub vlen_low : vlen frame < 2 ^ 16
   vlen_low = omega arith
 
-  pub one_after : kind frame ≡ INT → 3 < length frame
-  unfolding fixed_words
-  one_after e = let long = rw e at room in omega arith
-
 module _ (strings : List ℕ) (types : List TypeFacts) (frame : List ℕ) (ends : HasNulEnds strings) (is_frame : IsFrame frame) (none : IsFaultless strings types frame) where
   three : 2 < length frame
   three = let size = is_frame.size in omega arith
@@ -85,8 +81,11 @@ module _ (strings : List ℕ) (types : List TypeFacts) (frame : List ℕ) (ends 
         fits = passes (target_fits (kind frame) ((type_at types (slice_index frame j)).kind)) (λ fails. none j TargetKind inside (field, there, fails));
       }
 
-  pub int_is : kind frame ≡ INT → 3 < length frame → IntIsRight (third_word frame) (slice_index frame 3)
-  int_is int inside = record {
+  pub int_is : kind frame ≡ INT → IntIsRight (third_word frame) (slice_index frame 3)
+  int_is int =
+    let end = fourth_end is_frame (inl int) in
+    let inside : 3 < length frame = omega arith in
+    record {
     unused = is_zero (int_unused (slice_index frame 3)) (λ some. none 3 IntWord inside (refl, int, inl some));
     encoding = passes (one_of (0 ∷ 1 ∷ 2 ∷ 4 ∷ []) (int_encoding (slice_index frame 3))) (λ fails. none 3 IntWord inside (refl, int, inr (inl fails)));
     bits = passes (bits_fit (third_word frame) (int_bits (slice_index frame 3))) (λ fails. none 3 IntWord inside (refl, int, inr (inr fails)));
@@ -95,13 +94,13 @@ module _ (strings : List ℕ) (types : List TypeFacts) (frame : List ℕ) (ends 
   pub func_linkage : kind frame ≡ FUNC → vlen frame ≤ 2
   func_linkage func = below (vlen frame) 2 (λ past. none 1 Linkage (omega (arith, three)) (inl (func, refl, past)))
 
-  pub var_linkage : kind frame ≡ VAR → 3 < length frame → slice_index frame 3 ≤ 2
-  var_linkage var inside = below (slice_index frame 3) 2 (λ past. none 3 Linkage inside (inr (var, refl, past)))
+  pub var_linkage : kind frame ≡ VAR → slice_index frame 3 ≤ 2
+  var_linkage var = below (slice_index frame 3) 2 (λ past. none 3 Linkage (omega (arith, fourth_end is_frame (inr (inl var)))) (inr (var, refl, past)))
 
-  pub component_is : kind frame ≡ DECL_TAG → 3 < length frame → IfSome (component_of (slice_index frame 3)) (λ c. IsTrue (component_fits types (third_word frame) c))
-  component_is tag inside = elim (cases_eq (slice_index frame 3) 0xffffffff) [
+  pub component_is : kind frame ≡ DECL_TAG → IfSome (component_of (slice_index frame 3)) (λ c. IsTrue (component_fits types (third_word frame) c))
+  component_is tag = elim (cases_eq (slice_index frame 3) 0xffffffff) [
     | inl is ↦ rw is tt
-    | inr other ↦ split (decided (slice_index frame 3 == 0xffffffff)) (passes (component_fits types (third_word frame) (slice_index frame 3)) (λ fails. none 3 Component inside (tag, refl, other, fails)))
+    | inr other ↦ split (decided (slice_index frame 3 == 0xffffffff)) (passes (component_fits types (third_word frame) (slice_index frame 3)) (λ fails. none 3 Component (omega (arith, fourth_end is_frame (inr (inr tag)))) (tag, refl, other, fails)))
   ]
     where
       split : ((slice_index frame 3 == 0xffffffff) ≡ true) ⊎ ((slice_index frame 3 == 0xffffffff) ≡ false) → component_fits types (third_word frame) (slice_index frame 3) ≡ true

@@ -7,7 +7,7 @@ use Rattle.btf_types.specs.{judge.Checks.TypeFacts, judge.RecordFaults.IsFaultle
 use Rattle.btf_types.specs.Reading.{text_from, item_from, item_of, item_total, record_of}
 use Rattle.btf_types.proofs.KindCases.{KindIs, IsStruct, IsUnion, IsEnum, IsFuncProto, IsEnum64}
 use Rattle.btf_types.proofs.FaultlessLemmas.FaultlessWords.{known, room, item_ends, item_name_is}
-use Rattle.btf_types.proofs.{TableLemmas.TextSteps.decided, TabulateSteps.get-tabulate, FaultlessLemmas.FaultlessItems.listed}
+use Rattle.btf_types.proofs.{TableLemmas.TextSteps.decided, Lists.get-tabulate, FaultlessLemmas.FaultlessItems.listed}
 
 some_words : {k : ℕ} → KindIs k → IsTrue (has_item_names k) → 0 < item_words k
 unfolding has_item_names item_words

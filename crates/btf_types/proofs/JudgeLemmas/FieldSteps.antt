@@ -1,13 +1,13 @@
 -- The first fault of the fields: after records without one, the first of a record.
 use Rattle.std.proofs.Common.{◌≡◌, ◌⊎◌, ℕ, zero, suc, ◌+◌, ◌*◌, ◌<◌, ◌≤◌, Option, Some, None, List, [], ◌∷◌, length, take, map, refl, ap, subst, ◌∙◌, inl, inr, length-append, arith}
 use Rattle.std.specs.{Prelude.slice_get, Prelude.slice_index, List.concat}
-use Rattle.std.proofs.lemmas.{Bool.cases_lt, List.length-map, Option.slice_get_past}
+use Rattle.std.proofs.lemmas.{Bool.cases_lt, List.length-map, Option.slice_get_within}
 use Rattle.btf_raw.specs.{declared.cause.BtfCause.BtfCause, Cause.number_of, Cause.HasNone, Cause.LeastByPlace}
 use Rattle.btf_types.specs.{declared.tables.section.Section.TheInside.Inside, Reading.frame_at, Sections.facts_in}
 use Rattle.btf_types.specs.judge.FieldFaults.{WordFault, FieldFault, frame_facts}
 use Rattle.btf_types.specs.judge.RecordFaults.{IsFaultless, LeastOfRecord}
 use Rattle.btf_types.specs.tables.SectionParts.{IsSection, words_in}
-use Rattle.btf_types.proofs.TableLemmas.SectionSteps.{nth_frame, frame_get, starts_in, has_frame}
+use Rattle.btf_types.proofs.TableLemmas.SectionSteps.{nth_frame, frame_get, starts_in}
 
 -- the offsets at which the i-th list begins and ends in the concatenation
 abbrev start : List (List ℕ) → ℕ → ℕ
@@ -64,13 +64,7 @@ module _ (s : Inside) (good : IsSection s) where
       subst (λ (x : List ℕ). IsFaultless s.file.strings.now (facts_in (words_in s)) x) (some_is (nth_frame s k) g (slice_get ((words_in s).frames) k) (frame_get s good k there) is) (none k low)
 
   get_inside : (k : ℕ) (g : List ℕ) → slice_get ((words_in s).frames) k ≡ Some g → k < length s.file.places.now
-  get_inside k g is = elim (cases_lt k (length s.file.places.now)) [
-    | inl lt ↦ lt
-    | inr le ↦ absurd (none_is g (slice_get_past ((words_in s).frames) k (omega (arith, length-map s.file.places.now (frame_at s.file.order s.file.types.now)))) is)
-  ]
-    where
-      none_is : (x : List ℕ) {o : Option (List ℕ)} → o ≡ None → o ≡ Some x → ⊥
-      none_is x p q = cc
+  get_inside k g is = omega (arith, slice_get_within _ k g is, length-map s.file.places.now (frame_at s.file.order s.file.types.now))
 
   pub no_field_fault : ((k : ℕ) → k < length s.file.places.now → IsFaultless s.file.strings.now (facts_in (words_in s)) (nth_frame s k)) → HasNone (FieldFault s.file.strings.now ((words_in s).frames))
   no_field_fault none p c fault =
@@ -95,14 +89,3 @@ module _ (s : Inside) (good : IsSection s) where
     | inl lt ↦ before k lt
     | inr le ↦ subst (λ (n : ℕ). IsFaultless s.file.strings.now (facts_in (words_in s)) (nth_frame s n)) (omega arith) here
   ]
-
-  -- a fault is within the section
-  pub fault_inside : (p : ℕ) (c : BtfCause) → FieldFault s.file.strings.now ((words_in s).frames) p c → p < length s.file.types.now
-  fault_inside p c fault =
-      let there = get_inside fault.index fault.frame fault.frame_is in
-      let same = some_is (nth_frame s fault.index) fault.frame (slice_get ((words_in s).frames) fault.index) (frame_get s good fault.index there) fault.frame_is in
-      let word : fault.word < length (nth_frame s fault.index) = rw same fault.inside in
-      let room = (has_frame s good fault.index there).inside in
-      let start = starts_in s good fault.index there in
-      let place = fault.place_is in
-      omega arith

@@ -1,12 +1,12 @@
 -- The records of a framed section, one by one.
 use Rattle.std.proofs.Common.{◌≡◌, ℕ, zero, suc, ◌+◌, ◌-◌, ◌*◌, ◌<◌, ◌≤◌, Some, List, [], ◌∷◌, length, get_or, take, refl, ap, subst, ◌∙◌, length-append, arith}
 use Rattle.std.specs.{Prelude.slice_index, Prelude.slice_get, List.concat}
-use Rattle.std.proofs.{Math.Dec.eqb-suc-zero, lemmas.List.length-map}
+use Rattle.std.proofs.{Math.Dec.eqb-suc-zero, lemmas.List.length-map, lemmas.List.get_or-map, lemmas.List.Folds.length-flat_map-take}
 use Rattle.bpf_words.specs.declared.Order.{Order}
 use Rattle.btf_raw.specs.{KindNumbers.INT, Kinds.tail_words, Kinds.fixed_words, Kinds.item_words}
 use Rattle.btf_raw.specs.Frames.{IsFrame, bytes_of, section_of, kind}
 use Rattle.btf_raw.proofs.Frames.{length-bytes_of}
-use Rattle.btf_types.proofs.Lists.{get-map, get_or-map}
+use Rattle.btf_types.proofs.Lists.{get-map}
 use Rattle.btf_types.specs.{declared.tables.section.Section.TheInside.Inside, Reading.frame_at}
 use Rattle.btf_types.specs.{judge.Checks.type_at, judge.FieldFaults.frame_facts, Sections.HasFrame, Sections.frame_of, Sections.facts_in}
 use Rattle.btf_types.specs.tables.SectionParts.{IsSection, words_in}
@@ -22,11 +22,7 @@ length-section o (f ∷ fs) = omega (arith, length-append (bytes_of o f) (sectio
 
 -- a frame ends within the section
 pub ends_inside : (o : Order) (frames : List (List ℕ)) (i : ℕ) → i < length frames → length (section_of o (take i frames)) + 4 * length (get_or frames i []) ≤ length (section_of o frames)
-ends_inside o [] i h = absurd (omega arith)
-ends_inside o (f ∷ frames) zero h = omega (arith, length-append (bytes_of o f) (section_of o frames), length-bytes_of o f)
-ends_inside o (f ∷ frames) (suc i) h =
-    let rest = ends_inside o frames i (omega arith) in
-    omega (arith, rest, length-append (bytes_of o f) (section_of o frames), length-append (bytes_of o f) (section_of o (take i frames)))
+ends_inside o frames i h = omega (arith, length-flat_map-take (bytes_of o) frames i [] h, length-bytes_of o (get_or frames i []))
 
 module _ (s : Inside) (good : IsSection s) (i : ℕ) (there : i < length s.file.places.now) where
   among : i < length ((words_in s).frames)

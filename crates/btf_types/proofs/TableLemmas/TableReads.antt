@@ -2,7 +2,7 @@
 use Rattle.std.proofs.Common.{◌≡◌, ◌⊎◌, ℕ, zero, suc, ◌+◌, ◌*◌, ◌^◌, ◌<◌, ◌≤◌, Bool, true, false, Some, List, [], ◌∷◌, length, get_or, take, map, refl, ap, subst, ◌∙◌, inl, inr, arith}
 use Rattle.std.specs.Prelude.{slice_index, slice_get, IfSome, ◌==◌}
 use Rattle.std.specs.List.{AllZip}
-use Rattle.std.proofs.lemmas.{List.length-map, Bool.eqb-true}
+use Rattle.std.proofs.{lemmas.List.length-map, lemmas.List.get_or-map, lemmas.Bool.eqb-true, lemmas.Option.slice_get-get_or}
 use Rattle.bpf_words.specs.declared.Order.{Order}
 use Rattle.btf_raw.specs.{KindNumbers.DECL_TAG, Header.HasNulEnds, Names.NameAt, Kinds.item_words}
 use Rattle.btf_raw.specs.Frames.{IsFrame, section_of, kind, name_word}
@@ -10,15 +10,10 @@ use Rattle.btf_raw.proofs.Texts.{TextAt-unique, TextAt-inside}
 use Rattle.btf_types.specs.{Values.TypeRecord, judge.FieldFaults.frame_facts}
 use Rattle.btf_types.specs.{Spelling.Spells, Spelling.HeadInRange}
 use Rattle.btf_types.specs.tables.{TableInvariant.IsTable, PlaceWords.HasRecordAt}
-use Rattle.btf_types.proofs.Lists.{length-tabulate, get-map, get_or-map}
+use Rattle.btf_types.proofs.Lists.{length-tabulate, get-map, zip_at}
 use Rattle.btf_types.proofs.TableLemmas.{SectionSteps.ends_inside, TextSteps.text_there}
 use Rattle.btf_types.specs.Reading.{text_from, frame_at, frames_at, record_of, records_at, item_of, item_total, head_from, head_of, component_of}
-use Rattle.btf_types.proofs.FaultlessLemmas.{Faultless.get_is, Faultless.faultless, ItemReads.item_names_there}
-
-zip_at : {A B : Type 0} (R : A → B → Type 0) (f : B → A) (ys : List B) (i : ℕ) (d : B) → AllZip R (map f ys) ys → i < length ys → R (f (get_or ys i d)) (get_or ys i d)
-zip_at R f [] i d all h = absurd (omega arith)
-zip_at R f (y ∷ ys) zero d all h = all.0
-zip_at R f (y ∷ ys) (suc i) d all h = zip_at R f ys i d all.1 (omega arith)
+use Rattle.btf_types.proofs.FaultlessLemmas.{Faultless.faultless, ItemReads.item_names_there}
 
 name_at_word : (strings : List ℕ) (r : TypeRecord) (f : List ℕ) → HasNulEnds strings → Spells strings r f → NameAt strings (name_word f) (text_from strings (name_word f))
 name_at_word strings r f ends s =
@@ -49,7 +44,7 @@ has_record_at o types strings places i table h =
     let whole : length types ≡ length (section_of o frames) = ap length table.framed.frames.whole in
     let room : length (section_of o (take i frames)) + 4 * length f ≤ length (section_of o frames) = rw frame-is at (ends_inside o frames i inside) in
     let spelled : Spells strings (record_of strings f) f =
-    subst (λ (g : List ℕ). Spells strings (record_of strings g) g) frame-is (zip_at (Spells strings) (record_of strings) frames i [] table.spelled inside) in
+    rw (get_or-map (record_of strings) frames i [] (record_of strings []) inside, frame-is) at (zip_at (Spells strings) (map (record_of strings) frames) frames i (record_of strings []) [] table.spelled (omega (arith, inside, length-map frames (record_of strings)))) in
     let is : IsFrame f = subst (λ (g : List ℕ). IsFrame g) frame-is (table.framed.frames.each i [] inside) in
     record {
       inside = omega arith;
@@ -59,7 +54,7 @@ has_record_at o types strings places i table h =
         spelled = spelled;
         name = name_at_word strings (record_of strings f) f table.ends spelled;
         item_names =
-            let frame_there : slice_get frames i ≡ Some f = get_is frames i [] inside ∙ ap (λ (g : List ℕ). Some g) frame-is in
+            let frame_there : slice_get frames i ≡ Some f = slice_get-get_or frames i [] inside ∙ ap (λ (g : List ℕ). Some g) frame-is in
             item_names_there strings (map frame_facts frames) f table.ends is (faultless strings frames table.ends table.framed.frames.each table.none i f frame_there);
         component = λ tag. component_fits_word (slice_index f 3) (tag_in_range (text_from strings (name_word f)) f tag spelled.head_in_range);
       };

@@ -91,15 +91,6 @@ pub items_of_record : (v : List TypeRecord) (id : ℕ) → 0 < id → items_of v
 items_of_record v zero h = absurd (omega (arith, h))
 items_of_record v (suc i) h = let at : suc i - 1 ≡ i = omega arith in rw at refl
 
-no_items : (v : List TypeRecord) (i : ℕ) → length v ≤ i → (unwrap_or (slice_get v i) no_record).items ≡ []
-no_items [] i h = refl
-no_items (r ∷ v) zero h = absurd (omega (arith, h))
-no_items (r ∷ v) (suc i) h = no_items v i (omega (arith, h))
-
-pub items_beyond : (v : List TypeRecord) (id : ℕ) → length v < id → items_of v id ≡ []
-items_beyond v zero h = refl
-items_beyond v (suc i) h = no_items v i (omega (arith, h))
-
 pub ruleset item_windows = (window_first, window_back, window_length, window_empty, items_there, items_of_record)
 
 pub ruleset record_windows = (first_numbered, last_numbered, numbered_left, none_numbered)
