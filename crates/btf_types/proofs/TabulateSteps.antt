@@ -1,11 +1,10 @@
 -- More on lists that are made by a function of the index, and on the words of a list.
 use Rattle.std.proofs.Common.{◌≡◌, ℕ, zero, suc, ◌+◌, ◌*◌, ◌<◌, ◌≤◌, Bool, true, false, List, [], ◌∷◌, ◌++◌, length, get_or, take, drop, refl, sym, ap, ◌∙◌, inl, inr, append-nil, drop-cons, arith}
-use Rattle.std.specs.{Prelude.slice_get, Prelude.Some, List.All, List.AllZip, List.concat, List.list_any}
-use Rattle.std.proofs.lemmas.{Bool.cases_lt, Bool.or_cases, List.Folds.concat-append, List.Folds.list_any-append}
+use Rattle.std.specs.{List.All, List.AllZip, List.concat, List.list_any}
+use Rattle.std.proofs.lemmas.{Bool.or_cases, List.Folds.concat-append, List.Folds.list_any-append}
 use Rattle.std.proofs.lemmas.List.{length-drop, take_all, drop_all, drop-drop, Elements.All-nil, Elements.All-push}
 use Rattle.std.proofs.Math.Seq.{take-add}
 use Rattle.btf_types.specs.Reading.{tabulate}
-use Rattle.btf_types.proofs.Lists.{length-tabulate}
 
 pub All-tabulate : {X : Type 0} (P : X → Type 0) (f : ℕ → X) (n : ℕ) → ((k : ℕ) → k < n → P (f k)) → All P (tabulate f n)
 All-tabulate P f zero each = All-nil P

@@ -1,10 +1,10 @@
 -- The items of a frame without fault: their fields spell them, and they are good.
-use Rattle.std.proofs.Common.{◌≡◌, ◌≢◌, ◌⊎◌, ℕ, zero, suc, ◌+◌, ◌*◌, ◌/◌, ◌%◌, ◌^◌, ◌<◌, Bool, true, false, List, [], ◌∷◌, length, take, drop, refl, ap, ◌∙◌, inl, inr, lit<, arith}
+use Rattle.std.proofs.Common.{◌≡◌, ◌≢◌, ℕ, zero, suc, ◌+◌, ◌*◌, ◌/◌, ◌%◌, ◌^◌, ◌<◌, ◌≤◌, Bool, true, false, List, [], ◌∷◌, length, take, drop, refl, inl, inr, lit<, arith}
 use Rattle.std.specs.Prelude.{IsTrue, slice_index, ◌==◌, if◌then◌else◌}
 use Rattle.std.specs.List.{All}
 use Rattle.std.proofs.lemmas.List.Elements.{All-nil, All-cons}
 use Rattle.btf_raw.specs.KindNumbers.{STRUCT, UNION, ENUM, FUNC_PROTO, DATASEC, ENUM64}
-use Rattle.btf_raw.specs.{Header.HasNulEnds, Names.NameAt, Kinds.item_words, Kinds.one_of, Kinds.is_struct, Kinds.has_item_names}
+use Rattle.btf_raw.specs.{Header.HasNulEnds, Names.NameAt, Kinds.item_words, Kinds.is_struct, Kinds.has_item_names}
 use Rattle.btf_raw.specs.Frames.{IsFrame, third_word, kind, vlen, flag}
 use Rattle.btf_types.specs.Values.{TypeHead, TypeItem, Member, EnumValue, Value64, Param, Entry}
 use Rattle.btf_types.specs.{Spelling.MemberWord, Spelling.ItemSpells, Spelling.ItemInRange, judge.Checks.TypeFacts, judge.RecordFaults.IsFaultless}
@@ -152,142 +152,46 @@ module _ (strings : List ℕ) (types : List TypeFacts) (frame : List ℕ) (ends 
           member = tt;
         }
 
-    -- the fields of item i, as they are in the frame
-    two_words : (i : ℕ) → item_words (kind frame) ≡ 2 → i < vlen frame → take (item_words (kind frame)) (drop (3 + item_words (kind frame) * i) frame)
-        ≡ slice_index frame (3 + item_words (kind frame) * i) ∷ slice_index frame (3 + item_words (kind frame) * i + 1) ∷ []
-    two_words i words low =
-        let end = inside i 1 low (omega arith) in
-        let j = 3 + item_words (kind frame) * i in
-        ap (λ (n : ℕ). take n (drop j frame)) words ∙ two_at frame j (omega arith)
-
-    three_words : (i : ℕ) → item_words (kind frame) ≡ 3 → i < vlen frame → take (item_words (kind frame)) (drop (3 + item_words (kind frame) * i) frame)
-        ≡ slice_index frame (3 + item_words (kind frame) * i) ∷ slice_index frame (3 + item_words (kind frame) * i + 1) ∷ slice_index frame (3 + item_words (kind frame) * i + 2) ∷ []
-    three_words i words low =
-        let end = inside i 2 low (omega arith) in
-        let j = 3 + item_words (kind frame) * i in
-        ap (λ (n : ℕ). take n (drop j frame)) words ∙ three_at frame j (omega arith)
-
-    -- the item of each kind; a STRUCT and a UNION have the same ones
+    -- the item of each kind
     abbrev IsRightAt : List ℕ → ℕ → Type 0
     IsRightAt name i = ItemIsRight strings types frame bit_fields (head_of frame name) (item_of strings frame (3 + item_words (kind frame) * i)) (take (item_words (kind frame)) (drop (3 + item_words (kind frame) * i) frame))
 
-    abbrev HasMembers : Type 0
-    HasMembers = (kind frame ≡ STRUCT) ⊎ (kind frame ≡ UNION)
+    two_room : (i : ℕ) → item_words (kind frame) ≡ 2 → i < vlen frame → 3 + 2 * i + 2 ≤ length frame
+    two_room i words low = let end : 3 + 2 * i + 1 < length frame = rw words at (inside i 1 low (rw words (lit< tt))) in omega arith
 
-    members_named : HasMembers → IsTrue (has_item_names (kind frame))
-    unfolding has_item_names
-    members_named is = elim is [ inl e ↦ rw e refl | inr e ↦ rw e refl ]
-
-    enum_named : kind frame ≡ ENUM → IsTrue (has_item_names (kind frame))
-    unfolding has_item_names
-    enum_named e = rw e refl
-
-    enum64_named : kind frame ≡ ENUM64 → IsTrue (has_item_names (kind frame))
-    unfolding has_item_names
-    enum64_named e = rw e refl
-
-    proto_named : kind frame ≡ FUNC_PROTO → IsTrue (has_item_names (kind frame))
-    unfolding has_item_names
-    proto_named e = rw e refl
-
-    member_words : HasMembers → item_words (kind frame) ≡ 3
-    unfolding item_words
-    member_words is = elim is [ inl e ↦ rw e refl | inr e ↦ rw e refl ]
-
-    member_item : HasMembers → (j : ℕ) → item_of strings frame j ≡ Member (text_from strings (slice_index frame j)) (slice_index frame (j + 1)) (bit_offset frame (j + 2)) (width frame (j + 2))
-    unfolding item_from
-    member_item is j = elim is [ inl e ↦ rw e refl | inr e ↦ rw e refl ]
-
-    member_of : HasMembers → (name : List ℕ) → (n : List ℕ) (t o w : ℕ) → ItemOf (head_of frame name) (Member n t o w)
-    unfolding head_from
-    member_of is name = elim is [ inl e ↦ rw e (λ n t o w. tt) | inr e ↦ rw e (λ n t o w. tt) ]
-
-    member_case : HasMembers → (name : List ℕ) (i : ℕ) → i < vlen frame → IsRightAt name i
-    member_case is name i low =
-        let j = 3 + item_words (kind frame) * i in
-        let struct : IsTrue (is_struct (kind frame)) = elim is [ inl e ↦ rw e refl | inr e ↦ rw e refl ] in
-        let typed : IsTrue (one_of (STRUCT ∷ UNION ∷ FUNC_PROTO ∷ []) (kind frame)) = elim is [ inl e ↦ rw e refl | inr e ↦ rw e refl ] in
-        rw (member_item is j, three_words i (member_words is) low)
-        (member_right (head_of frame name) i j refl struct (member_words is) (members_named is) (member_of is name) (inr (inr (inl (typed, i, (low, omega arith))))) low)
-
-    enum_words : kind frame ≡ ENUM → item_words (kind frame) ≡ 2
-    unfolding item_words
-    enum_words e = rw e refl
-
-    enum_item : kind frame ≡ ENUM → (j : ℕ) → item_of strings frame j ≡ EnumValue (text_from strings (slice_index frame j)) (slice_index frame (j + 1))
-    unfolding item_from
-    enum_item e j = rw e refl
-
-    enum_of : kind frame ≡ ENUM → (name : List ℕ) → (n : List ℕ) (v : ℕ) → ItemOf (head_of frame name) (EnumValue n v)
-    unfolding head_from
-    enum_of e name = rw e (λ n v. tt)
-
-    enum_case : kind frame ≡ ENUM → (name : List ℕ) (i : ℕ) → i < vlen frame → IsRightAt name i
-    enum_case e name i low =
-        let j = 3 + item_words (kind frame) * i in
-        rw (enum_item e j, two_words i (enum_words e) low)
-        (value_right (head_of frame name) i j refl (enum_words e) (enum_named e) (enum_of e name) low)
-
-    enum64_words : kind frame ≡ ENUM64 → item_words (kind frame) ≡ 3
-    unfolding item_words
-    enum64_words e = rw e refl
-
-    enum64_item : kind frame ≡ ENUM64 → (j : ℕ) → item_of strings frame j ≡ Value64 (text_from strings (slice_index frame j)) (slice_index frame (j + 1) + 2 ^ 32 * slice_index frame (j + 2))
-    unfolding item_from
-    enum64_item e j = rw e refl
-
-    enum64_of : kind frame ≡ ENUM64 → (name : List ℕ) → (n : List ℕ) (v : ℕ) → ItemOf (head_of frame name) (Value64 n v)
-    unfolding head_from
-    enum64_of e name = rw e (λ n v. tt)
-
-    enum64_case : kind frame ≡ ENUM64 → (name : List ℕ) (i : ℕ) → i < vlen frame → IsRightAt name i
-    enum64_case e name i low =
-        let j = 3 + item_words (kind frame) * i in
-        rw (enum64_item e j, three_words i (enum64_words e) low)
-        (value64_right (head_of frame name) i j refl (enum64_words e) (enum64_named e) (enum64_of e name) low)
-
-    proto_words : kind frame ≡ FUNC_PROTO → item_words (kind frame) ≡ 2
-    unfolding item_words
-    proto_words e = rw e refl
-
-    proto_item : kind frame ≡ FUNC_PROTO → (j : ℕ) → item_of strings frame j ≡ Param (text_from strings (slice_index frame j)) (slice_index frame (j + 1))
-    unfolding item_from
-    proto_item e j = rw e refl
-
-    proto_of : kind frame ≡ FUNC_PROTO → (name : List ℕ) → (n : List ℕ) (t : ℕ) → ItemOf (head_of frame name) (Param n t)
-    unfolding head_from
-    proto_of e name = rw e (λ n t. tt)
-
-    proto_case : kind frame ≡ FUNC_PROTO → (name : List ℕ) (i : ℕ) → i < vlen frame → IsRightAt name i
-    proto_case e name i low =
-        let j = 3 + item_words (kind frame) * i in
-        rw (proto_item e j, two_words i (proto_words e) low)
-        (param_right (head_of frame name) i j refl (proto_words e) (proto_named e) (proto_of e name) (inr (inr (inl (rw e refl, i, (low, omega arith))))) low)
-
-    section_words : kind frame ≡ DATASEC → item_words (kind frame) ≡ 3
-    unfolding item_words
-    section_words e = rw e refl
-
-    section_item : kind frame ≡ DATASEC → (j : ℕ) → item_of strings frame j ≡ Entry (slice_index frame j) (slice_index frame (j + 1)) (slice_index frame (j + 2))
-    unfolding item_from
-    section_item e j = rw e refl
-
-    section_of : kind frame ≡ DATASEC → (name : List ℕ) → (t o n : ℕ) → ItemOf (head_of frame name) (Entry t o n)
-    unfolding head_from
-    section_of e name = rw e (λ t o n. tt)
-
-    section_case : kind frame ≡ DATASEC → (name : List ℕ) (i : ℕ) → i < vlen frame → IsRightAt name i
-    section_case e name i low =
-        let j = 3 + item_words (kind frame) * i in
-        rw (section_item e j, three_words i (section_words e) low)
-        (entry_right (head_of frame name) i j refl (section_words e) (section_of e name) (inr (inr (inr (e, i, (low, omega arith))))) low)
+    three_room : (i : ℕ) → item_words (kind frame) ≡ 3 → i < vlen frame → 3 + 3 * i + 3 ≤ length frame
+    three_room i words low = let end : 3 + 3 * i + 2 < length frame = rw words at (inside i 2 low (rw words (lit< tt))) in omega arith
 
     pub item_right : {k : ℕ} → KindIs k → kind frame ≡ k → (name : List ℕ) (i : ℕ) → i < count_of k (vlen frame) → IsRightAt name i
-    unfolding item_words
-    item_right IsStruct e name i low = member_case (inl e) name i (listed STRUCT i (vlen frame) low)
-    item_right IsUnion e name i low = member_case (inr e) name i (listed UNION i (vlen frame) low)
-    item_right IsEnum e name i low = enum_case e name i (listed ENUM i (vlen frame) low)
-    item_right IsFuncProto e name i low = proto_case e name i (listed FUNC_PROTO i (vlen frame) low)
-    item_right IsDatasec e name i low = section_case e name i (listed DATASEC i (vlen frame) low)
-    item_right IsEnum64 e name i low = enum64_case e name i (listed ENUM64 i (vlen frame) low)
-    item_right known e name i low = absurd (omega arith)
+    unfolding has_item_names item_words item_from head_from
+    item_right IsStruct e name i count =
+        let low = listed STRUCT i (vlen frame) count in
+        let words : item_words (kind frame) ≡ 3 = rw e refl in
+        rw (e, three_at frame (3 + 3 * i) (three_room i words low))
+        (member_right _ i (3 + 3 * i) (rw words refl) (rw e refl) words (rw e refl) (λ n t o w. tt) (inr (inr (inl (rw e refl, i, (low, rw words refl))))) low)
+    item_right IsUnion e name i count =
+        let low = listed UNION i (vlen frame) count in
+        let words : item_words (kind frame) ≡ 3 = rw e refl in
+        rw (e, three_at frame (3 + 3 * i) (three_room i words low))
+        (member_right _ i (3 + 3 * i) (rw words refl) (rw e refl) words (rw e refl) (λ n t o w. tt) (inr (inr (inl (rw e refl, i, (low, rw words refl))))) low)
+    item_right IsEnum e name i count =
+        let low = listed ENUM i (vlen frame) count in
+        let words : item_words (kind frame) ≡ 2 = rw e refl in
+        rw (e, two_at frame (3 + 2 * i) (two_room i words low))
+        (value_right _ i (3 + 2 * i) (rw words refl) words (rw e refl) (λ n v. tt) low)
+    item_right IsFuncProto e name i count =
+        let low = listed FUNC_PROTO i (vlen frame) count in
+        let words : item_words (kind frame) ≡ 2 = rw e refl in
+        rw (e, two_at frame (3 + 2 * i) (two_room i words low))
+        (param_right _ i (3 + 2 * i) (rw words refl) words (rw e refl) (λ n t. tt) (inr (inr (inl (rw e refl, i, (low, rw words refl))))) low)
+    item_right IsDatasec e name i count =
+        let low = listed DATASEC i (vlen frame) count in
+        let words : item_words (kind frame) ≡ 3 = rw e refl in
+        rw (e, three_at frame (3 + 3 * i) (three_room i words low))
+        (entry_right _ i (3 + 3 * i) (rw words refl) words (λ t o n. tt) (inr (inr (inr (e, i, (low, rw words (omega arith)))))) low)
+    item_right IsEnum64 e name i count =
+        let low = listed ENUM64 i (vlen frame) count in
+        let words : item_words (kind frame) ≡ 3 = rw e refl in
+        rw (e, three_at frame (3 + 3 * i) (three_room i words low))
+        (value64_right _ i (3 + 3 * i) (rw words refl) words (rw e refl) (λ n v. tt) low)
+    item_right known e name i count = absurd (omega arith)

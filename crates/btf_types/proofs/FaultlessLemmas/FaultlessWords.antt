@@ -83,13 +83,13 @@ module _ (strings : List ℕ) (types : List TypeFacts) (frame : List ℕ) (ends 
 
   pub int_is : kind frame ≡ INT → IntIsRight (third_word frame) (slice_index frame 3)
   int_is int =
-    let end = fourth_end is_frame (inl int) in
-    let inside : 3 < length frame = omega arith in
-    record {
-    unused = is_zero (int_unused (slice_index frame 3)) (λ some. none 3 IntWord inside (refl, int, inl some));
-    encoding = passes (one_of (0 ∷ 1 ∷ 2 ∷ 4 ∷ []) (int_encoding (slice_index frame 3))) (λ fails. none 3 IntWord inside (refl, int, inr (inl fails)));
-    bits = passes (bits_fit (third_word frame) (int_bits (slice_index frame 3))) (λ fails. none 3 IntWord inside (refl, int, inr (inr fails)));
-  }
+      let end = fourth_end is_frame (inl int) in
+      let inside : 3 < length frame = omega arith in
+      record {
+        unused = is_zero (int_unused (slice_index frame 3)) (λ some. none 3 IntWord inside (refl, int, inl some));
+        encoding = passes (one_of (0 ∷ 1 ∷ 2 ∷ 4 ∷ []) (int_encoding (slice_index frame 3))) (λ fails. none 3 IntWord inside (refl, int, inr (inl fails)));
+        bits = passes (bits_fit (third_word frame) (int_bits (slice_index frame 3))) (λ fails. none 3 IntWord inside (refl, int, inr (inr fails)));
+      }
 
   pub func_linkage : kind frame ≡ FUNC → vlen frame ≤ 2
   func_linkage func = below (vlen frame) 2 (λ past. none 1 Linkage (omega (arith, three)) (inl (func, refl, past)))

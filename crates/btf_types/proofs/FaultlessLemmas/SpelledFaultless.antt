@@ -1,6 +1,6 @@
 -- A frame that spells a good record has no fault.
 use Rattle.std.proofs.Common.{◌≡◌, ◌≢◌, ◌⊎◌, ℕ, zero, suc, ◌+◌, ◌*◌, ◌/◌, ◌%◌, ◌^◌, ◌<◌, ◌≤◌, Bool, true, Some, None, List, [], ◌∷◌, length, get_or, refl, sym, ap, subst, ◌∙◌, inl, inr, lit<, lit≤, arith}
-use Rattle.std.specs.Prelude.{IsTrue, IsUtf8, slice_index, ◌==◌, not, if◌then◌else◌}
+use Rattle.std.specs.Prelude.{⊤, IsTrue, IsUtf8, slice_index, ◌==◌, not, if◌then◌else◌}
 use Rattle.std.specs.List.{All}
 use Rattle.std.proofs.lemmas.List.Elements.{All-head, All-tail}
 use Rattle.btf_raw.specs.{declared.cause.BtfCause.BtfCause, Names.TextAt, Names.NameAt}
@@ -11,7 +11,7 @@ use Rattle.btf_raw.specs.Frames.{kind, vlen, flag, name_word, third_word}
 use Rattle.btf_raw.proofs.Texts.{TextAt-unique, TextAt-inside}
 use Rattle.btf_types.specs.declared.values.Encoding.{Encoding, TheVariants.Plain, TheVariants.Signed, TheVariants.Char, TheVariants.Bool as Boolean}
 use Rattle.btf_types.specs.declared.values.Linkage.{Linkage as ItsLinkage, TheVariants.LStatic, TheVariants.LGlobal, TheVariants.LExtern}
-use Rattle.btf_types.specs.Values.{TypeHead, KInt, KPtr, KArray, KStruct, KUnion, KEnum, KFwd, KTypedef, KVolatile, KConst, KRestrict, KFunc, KFuncProto, KVar, KDatasec, KDeclTag, KTypeTag, KEnum64, TypeItem, Member, EnumValue, Value64, Param, Entry, TypeRecord}
+use Rattle.btf_types.specs.Values.{TypeHead, KInt, KPtr, KArray, KStruct, KUnion, KEnum, KFwd, KFunc, KFuncProto, KVar, KDatasec, KDeclTag, KEnum64, TypeItem, Member, EnumValue, Value64, Param, Entry, TypeRecord}
 use Rattle.btf_types.specs.Names.{head_name, item_name}
 use Rattle.btf_types.specs.Spelling.{kind_number, head_third, head_tail, linkage_number, encoding_number, MemberWord, ItemSpells, Spells, HeadInRange}
 use Rattle.btf_types.specs.judge.Checks.{TypeFacts, size_fits, bits_fit, component_fits, member_fits, member_int_fits}
@@ -25,38 +25,29 @@ use Rattle.btf_types.proofs.SpelledItems.{nothing, ItemFits, item_fits}
 
 -- ---- what a head says of its numbers
 
-no_name_there : (h : TypeHead) → IsTrue (has_no_name (kind_number h)) → head_name h ≡ []
+names_are : (h : TypeHead) → head_name h ≡ (if has_no_name (kind_number h) then [] else head_name h)
 unfolding has_no_name
-no_name_there (KPtr target) none = refl
-no_name_there (KArray target index count) none = refl
-no_name_there (KVolatile target) none = refl
-no_name_there (KConst target) none = refl
-no_name_there (KRestrict target) none = refl
-no_name_there (KFuncProto target) none = refl
-no_name_there h none = absurd cc
+names_are (KPtr target) = refl
+names_are h = refl
+
+no_name_there : (h : TypeHead) → IsTrue (has_no_name (kind_number h)) → head_name h ≡ []
+no_name_there h none = names_are h ∙ rw none refl
 
 no_third : (h : TypeHead) → IsTrue (one_of (ARRAY ∷ FWD ∷ []) (kind_number h)) → head_third h ≡ 0
 no_third (KArray target index count) none = refl
 no_third (KFwd name is_union) none = refl
 no_third h none = absurd cc
 
-third_target : (P : ℕ → Type 0) (h : TypeHead) → IsTrue (has_target (kind_number h)) → All P (head_targets h) → P (head_third h)
+targets_are : (h : TypeHead) → head_targets h ≡ (if has_target (kind_number h) then head_third h ∷ [] else head_targets h)
 unfolding has_target
-third_target P (KPtr target) has all = All-head P target [] all
-third_target P (KTypedef name target) has all = All-head P target [] all
-third_target P (KVolatile target) has all = All-head P target [] all
-third_target P (KConst target) has all = All-head P target [] all
-third_target P (KRestrict target) has all = All-head P target [] all
-third_target P (KFunc name linkage target) has all = All-head P target [] all
-third_target P (KFuncProto target) has all = All-head P target [] all
-third_target P (KVar name target linkage) has all = All-head P target [] all
-third_target P (KDeclTag name flag target component) has all = All-head P target [] all
-third_target P (KTypeTag name flag target) has all = All-head P target [] all
-third_target P h has all = absurd cc
+targets_are (KPtr target) = refl
+targets_are h = refl
+
+third_target : (P : ℕ → Type 0) (h : TypeHead) → IsTrue (has_target (kind_number h)) → All P (head_targets h) → P (head_third h)
+third_target P h has all = All-head P (head_third h) [] (rw (targets_are h, has) at all)
 
 array_targets : (P : ℕ → Type 0) (h : TypeHead) → kind_number h ≡ ARRAY → All P (head_targets h) → P (get_or (head_tail h) 0 0) × P (get_or (head_tail h) 1 0) × (1 < length (head_tail h))
 array_targets P (KArray target index count) is all = (All-head P target (index ∷ []) all, All-head P index [] (All-tail P target (index ∷ []) all), lit< tt)
-array_targets P (KInt name size encoding offset bits) is all = absurd (omega arith)
 array_targets P h is all = absurd (omega arith)
 
 -- the size is checked against vlen, which counts the items
@@ -100,23 +91,19 @@ int_fits types (KInt name size encoding offset bits) is range right =
       offset_is = off;
       bits_is = bit;
     }
-int_fits types (KPtr target) is range right = absurd (omega arith)
 int_fits types h is range right = absurd (omega arith)
 
 func_vlen : (h : TypeHead) (xs : List TypeItem) → kind_number h ≡ FUNC → vlen_from h xs ≤ 2
 func_vlen (KFunc name linkage target) xs is = linkage_named linkage
-func_vlen (KPtr target) xs is = absurd (omega arith)
 func_vlen h xs is = absurd (omega arith)
 
 var_word : (h : TypeHead) → kind_number h ≡ VAR → (0 < length (head_tail h)) × (get_or (head_tail h) 0 0 ≤ 2)
 var_word (KVar name target linkage) is = (lit< tt, linkage_named linkage)
-var_word (KPtr target) is = absurd (omega arith)
 var_word h is = absurd (omega arith)
 
 tag_word : (types : List TypeFacts) (h : TypeHead) → kind_number h ≡ DECL_TAG → HeadIsGood types h → (0 < length (head_tail h)) × ((get_or (head_tail h) 0 0 ≡ 0xffffffff) ⊎ IsTrue (component_fits types (head_third h) (get_or (head_tail h) 0 0)))
 tag_word types (KDeclTag name flag target None) is right = (lit< tt, inl refl)
 tag_word types (KDeclTag name flag target (Some c)) is right = (lit< tt, inr right)
-tag_word types (KPtr target) is right = absurd (omega arith)
 tag_word types h is right = absurd (omega arith)
 
 -- what other records ask of it
@@ -134,33 +121,26 @@ bits_facts h bits is = refl
 
 -- ---- what an item says of its fields
 
-item_named : (strings : List ℕ) (flag : ℕ) (h : TypeHead) (x : TypeItem) (ws : List ℕ) → ItemOf h x → ItemSpells strings flag x ws → IsTrue (has_item_names (kind_number h)) → NameAt strings (get_or ws 0 0) (item_name x)
+record ItemSays (P : ℕ → Type 0) (strings : List ℕ) (k : ℕ) (x : TypeItem) (ws : List ℕ) : Type 0 where
+  name : IsTrue (has_item_names k) → NameAt strings (get_or ws 0 0) (item_name x)
+  target : IsTrue (one_of (STRUCT ∷ UNION ∷ FUNC_PROTO ∷ []) k) → All P (item_targets x) → P (get_or ws 1 0)
+  entry : k ≡ DATASEC → All P (item_targets x) → P (get_or ws 0 0)
+
+item_says : (P : ℕ → Type 0) (strings : List ℕ) (flag : ℕ) (h : TypeHead) (x : TypeItem) (ws : List ℕ) → ItemOf h x → ItemSpells strings flag x ws → ItemSays P strings (kind_number h) x ws
 unfolding has_item_names
-item_named strings flag (KStruct name size) (Member n t o w) ws of s has = rw s.4 s.2
-item_named strings flag (KUnion name size) (Member n t o w) ws of s has = rw s.4 s.2
-item_named strings flag (KEnum name signed size) (EnumValue n v) ws of s has = rw s.2 s.1
-item_named strings flag (KFuncProto target) (Param n t) ws of s has = rw s.2 s.1
-item_named strings flag (KDatasec name size) (Entry a b c) ws of s has = absurd cc
-item_named strings flag (KEnum64 name signed size) (Value64 n v) ws of s has = rw s.2 s.1
-item_named strings flag h x ws of s has = absurd of
-
-item_typed : (P : ℕ → Type 0) (strings : List ℕ) (flag : ℕ) (h : TypeHead) (x : TypeItem) (ws : List ℕ) → ItemOf h x → ItemSpells strings flag x ws → IsTrue (one_of (STRUCT ∷ UNION ∷ FUNC_PROTO ∷ []) (kind_number h)) → All P (item_targets x) → P (get_or ws 1 0)
-item_typed P strings flag (KStruct name size) (Member n t o w) ws of s has all = rw s.4 (All-head P t [] all)
-item_typed P strings flag (KUnion name size) (Member n t o w) ws of s has all = rw s.4 (All-head P t [] all)
-item_typed P strings flag (KEnum name signed size) (EnumValue n v) ws of s has all = absurd cc
-item_typed P strings flag (KFuncProto target) (Param n t) ws of s has all = rw s.2 (All-head P t [] all)
-item_typed P strings flag (KDatasec name size) (Entry a b c) ws of s has all = absurd cc
-item_typed P strings flag (KEnum64 name signed size) (Value64 n v) ws of s has all = absurd cc
-item_typed P strings flag h x ws of s has all = absurd of
-
-entry_typed : (P : ℕ → Type 0) (strings : List ℕ) (flag : ℕ) (h : TypeHead) (x : TypeItem) (ws : List ℕ) → ItemOf h x → ItemSpells strings flag x ws → kind_number h ≡ DATASEC → All P (item_targets x) → P (get_or ws 0 0)
-entry_typed P strings flag (KStruct name size) (Member n t o w) ws of s is all = absurd (omega arith)
-entry_typed P strings flag (KUnion name size) (Member n t o w) ws of s is all = absurd (omega arith)
-entry_typed P strings flag (KEnum name signed size) (EnumValue n v) ws of s is all = absurd (omega arith)
-entry_typed P strings flag (KFuncProto target) (Param n t) ws of s is all = absurd (omega arith)
-entry_typed P strings flag (KDatasec name size) (Entry a b c) ws of s is all = rw s (All-head P a [] all)
-entry_typed P strings flag (KEnum64 name signed size) (Value64 n v) ws of s is all = absurd (omega arith)
-entry_typed P strings flag h x ws of s is all = absurd of
+item_says P strings flag (KStruct name size) (Member n t o w) ws of s =
+    record { name = λ has. rw s.4 s.2; target = λ has all. rw s.4 (All-head P t [] all); entry = λ is. absurd (omega arith) }
+item_says P strings flag (KUnion name size) (Member n t o w) ws of s =
+    record { name = λ has. rw s.4 s.2; target = λ has all. rw s.4 (All-head P t [] all); entry = λ is. absurd (omega arith) }
+item_says P strings flag (KEnum name signed size) (EnumValue n v) ws of s =
+    record { name = λ has. rw s.2 s.1; target = λ has. absurd cc; entry = λ is. absurd (omega arith) }
+item_says P strings flag (KFuncProto target) (Param n t) ws of s =
+    record { name = λ has. rw s.2 s.1; target = λ has all. rw s.2 (All-head P t [] all); entry = λ is. absurd (omega arith) }
+item_says P strings flag (KDatasec name size) (Entry a b c) ws of s =
+    record { name = λ has. absurd cc; target = λ has. absurd cc; entry = λ is all. rw s (All-head P a [] all) }
+item_says P strings flag (KEnum64 name signed size) (Value64 n v) ws of s =
+    record { name = λ has. rw s.2 s.1; target = λ has. absurd cc; entry = λ is. absurd (omega arith) }
+item_says P strings flag h x ws of s = absurd of
 
 -- a member's fields
 record MemberSays (types : List TypeFacts) (size : ℕ) (bit_fields : Bool) (its_flag : ℕ) (x : TypeItem) (ws : List ℕ) : Type 0 where
@@ -242,7 +222,7 @@ module _ (strings : List ℕ) (types : List TypeFacts) (r : TypeRecord) (f : Lis
       let some = words_of_named (kind f) at.0 in
       let it = is_there i some at.1.0 in
       let word : slice_index f j ≡ get_or (get_or s.item_words i []) 0 0 = ap (λ (k : ℕ). slice_index f k) at.1.1 ∙ it.words 0 some in
-      (item_name (get_or r.items i nothing), rw word (item_named strings (flag f) r.head (get_or r.items i nothing) (get_or s.item_words i []) it.of it.spells (rw n.kind at at.0)))
+      (item_name (get_or r.items i nothing), rw word ((item_says (λ t. ⊤) strings (flag f) r.head (get_or r.items i nothing) (get_or s.item_words i []) it.of it.spells).name (rw n.kind at at.0)))
 
   -- the type at each type field
   abbrev Target : ℕ → Type 0
@@ -263,12 +243,12 @@ module _ (strings : List ℕ) (types : List TypeFacts) (r : TypeRecord) (f : Lis
       let some = words_of_typed (kind f) item.0 in
       let it = is_there item.1 (omega arith) item.2.0 in
       let word : slice_index f j ≡ get_or (get_or s.item_words item.1 []) 1 0 = ap (λ (k : ℕ). slice_index f k) item.2.1 ∙ it.words 1 some in
-      rw word (item_typed Target strings (flag f) r.head (get_or r.items item.1 nothing) (get_or s.item_words item.1 []) it.of it.spells (rw n.kind at item.0) (right.item_targets item.1 nothing it.inside))
+      rw word ((item_says Target strings (flag f) r.head (get_or r.items item.1 nothing) (get_or s.item_words item.1 []) it.of it.spells).target (rw n.kind at item.0) (right.item_targets item.1 nothing it.inside))
   field_type j (inr (inr (inr entry))) =
       let some = words_of_section (kind f) entry.0 in
       let it = is_there entry.1 some entry.2.0 in
       let word : slice_index f j ≡ get_or (get_or s.item_words entry.1 []) 0 0 = ap (λ (k : ℕ). slice_index f k) entry.2.1 ∙ it.words 0 some in
-      rw word (entry_typed Target strings (flag f) r.head (get_or r.items entry.1 nothing) (get_or s.item_words entry.1 []) it.of it.spells (sym n.kind ∙ entry.0) (right.item_targets entry.1 nothing it.inside))
+      rw word ((item_says Target strings (flag f) r.head (get_or r.items entry.1 nothing) (get_or s.item_words entry.1 []) it.of it.spells).entry (sym n.kind ∙ entry.0) (right.item_targets entry.1 nothing it.inside))
 
   -- the members
   member_at : (m j : ℕ) (at : IsMemberWord f m j) → MemberSays types (head_third r.head) (has_bit_fields r) (flag f) (get_or r.items at.1 nothing) (get_or s.item_words at.1 [])

@@ -1,5 +1,5 @@
 -- The first fault of the fields: after records without one, the first of a record.
-use Rattle.std.proofs.Common.{◌≡◌, ◌⊎◌, ℕ, zero, suc, ◌+◌, ◌*◌, ◌<◌, ◌≤◌, Option, Some, None, List, [], ◌∷◌, length, take, map, refl, ap, subst, ◌∙◌, inl, inr, length-append, arith}
+use Rattle.std.proofs.Common.{◌≡◌, ◌⊎◌, ℕ, zero, suc, ◌+◌, ◌*◌, ◌<◌, ◌≤◌, Option, Some, List, [], ◌∷◌, length, take, map, refl, ap, subst, ◌∙◌, inl, inr, length-append, arith}
 use Rattle.std.specs.{Prelude.slice_get, Prelude.slice_index, List.concat}
 use Rattle.std.proofs.lemmas.{Bool.cases_lt, List.length-map, Option.slice_get_within}
 use Rattle.btf_raw.specs.{declared.cause.BtfCause.BtfCause, Cause.number_of, Cause.HasNone, Cause.LeastByPlace}

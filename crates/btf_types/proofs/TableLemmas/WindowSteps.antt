@@ -55,27 +55,12 @@ numbered_at v i h =
     let same : 1 + i ≡ i + 1 = omega arith in
     rw (at, ← same) (numbered_get 1 v i h)
 
--- one record of a table from the start, and one from the end
+-- one record of a table from the start
 pub first_numbered : (v : List TypeRecord) (from to : ℕ) → from < to → to ≤ length v
     → window from to (numbered 1 v) ≡ (from + 1, (record_at v (from + 1)).head) ∷ window (from + 1) to (numbered 1 v)
 first_numbered v from to low high =
     let len = length-numbered 1 v in
     window_first from to (numbered 1 v) _ low (omega (arith, high, len)) (numbered_at v from (omega (arith, low, high)))
-
-pub last_numbered : (v : List TypeRecord) (from to : ℕ) → from < to → to ≤ length v
-    → window from to (numbered 1 v) ≡ window from (to - 1) (numbered 1 v) ++ (to, (record_at v to).head) ∷ []
-last_numbered v from to low high =
-    let len = length-numbered 1 v in
-    let e : to - 1 + 1 ≡ to = omega (arith, low) in
-    subst (λ (n : ℕ). window from n (numbered 1 v) ≡ window from (to - 1) (numbered 1 v) ++ (n, (record_at v n).head) ∷ []) e
-    (window_last from (to - 1) (numbered 1 v) _ (omega (arith, low)) (omega (arith, low, high, len)) (numbered_at v (to - 1) (omega (arith, low, high))))
-
--- how many records are left
-pub numbered_left : (v : List TypeRecord) (from to : ℕ) → to ≤ length v → length (window from to (numbered 1 v)) ≡ to - from
-numbered_left v from to high = let len = length-numbered 1 v in window_length from to (numbered 1 v) (omega (arith, high, len))
-
-pub none_numbered : (v : List TypeRecord) (from to : ℕ) → to ≤ length v → to ≤ from → window from to (numbered 1 v) ≡ []
-none_numbered v from to high low = let len = length-numbered 1 v in window_empty from to (numbered 1 v) (omega (arith, high, len)) low
 
 in_table : (v : List TypeRecord) (i k : ℕ) → k < length (unwrap_or (slice_get v i) no_record).items → i < length v
 in_table [] i k h = absurd (omega (arith, h))
@@ -93,6 +78,6 @@ items_of_record v (suc i) h = let at : suc i - 1 ≡ i = omega arith in rw at re
 
 pub ruleset item_windows = (window_first, window_back, window_length, window_empty, items_there, items_of_record)
 
-pub ruleset record_windows = (first_numbered, last_numbered, numbered_left, none_numbered)
+pub ruleset record_windows = (first_numbered, window_back, window_length, window_empty, length-numbered, numbered_at)
 
 pub ruleset all_records = (window_whole, length-numbered)
