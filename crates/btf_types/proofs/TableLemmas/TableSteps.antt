@@ -5,7 +5,7 @@ use Rattle.bpf_words.specs.declared.Order.{Order}
 use Rattle.btf_raw.specs.{declared.header.Header.Header, Frames.bytes_of, Frames.section_of}
 use Rattle.btf_types.specs.{Values.TypeRecord, Denotes.Denotes, Spelling.Spells, Spelling.IsRecord}
 use Rattle.btf_types.specs.{Reading.frames_at, Reading.records_at, tables.TableInvariant.FieldsAreRight, tables.TableInvariant.IsTable}
-use Rattle.btf_types.proofs.JudgeLemmas.PhaseSteps.{HasFrames, types_of, strings_of}
+use Rattle.btf_types.proofs.JudgeLemmas.PhaseSteps.{HasFrames, types_of, strings_of, fails_strings, fails_framing, fails_fields, strings_judged, framing_judged}
 
 pub concat-map : (o : Order) (frames : List (List ℕ)) → concat (map (bytes_of o) frames) ≡ section_of o frames
 concat-map o [] = refl
@@ -42,3 +42,6 @@ is_table b h places has right = record {
   spelled = right.spelled;
   good = right.good;
 }
+
+-- what the search cites of the phases of a parser
+pub ruleset phases = (fails_strings, fails_framing, fails_fields, strings_judged, framing_judged, table_denotes, is_table)

@@ -81,6 +81,7 @@ impl<'a, A: Allocator> BtfView<'a, A> {
     /// `Fault` with the first fault of the file. Faults of the header come first, then those of the
     /// ends of the string section, each by cause; then those of the framing, then those of the
     /// fields, each by offset and then by cause. `Memory` if memory can't be allocated.
+    #[tactic(auto, using(crate::proofs::TableLemmas::TableSteps::phases))]
     pub fn parse(alloc: A, bytes: &'a [u8]) -> Result<BtfView<'a, A>, BtfError>
         ensures { MatchResult result (λ v. Denotes bytes.now v) (λ e. Fails bytes.now e) }
     {
