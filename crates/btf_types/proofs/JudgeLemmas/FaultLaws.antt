@@ -5,15 +5,15 @@ use Rattle.std.proofs.lemmas.Bool.{cases_eq}
 use Rattle.bpf_words.specs.{declared.Order.Order, Words.IsBytes}
 use Rattle.bpf_words.proofs.WordLemmas.{IsBytes-drop, IsBytes-take}
 use Rattle.btf_raw.specs.declared.cause.BtfCause.{BtfCause, TheVariants.FirstString, TheVariants.LastString}
-use Rattle.btf_raw.specs.{Cause.HasNone, Frames.Frames, Frames.FramingFault, Frames.section_of, Frames.bytes_of}
+use Rattle.btf_raw.specs.{Cause.HasNone, Frames.Frames, Frames.section_of}
 use Rattle.btf_raw.specs.Header.{Cut, HasNulEnds, HeaderFault, StringFault, part, types_at, strings_at, TYPES_LIMIT}
-use Rattle.btf_raw.proofs.{Cuts.cut_unique, Cuts.cut_reads, Cuts.SameCut, HeaderLaw.header_there, HeaderLaw.cut_has_none}
+use Rattle.btf_raw.proofs.{Cuts.cut_unique, Cuts.cut_reads, HeaderLaw.header_there, HeaderLaw.cut_has_none}
 use Rattle.btf_types.specs.{Values.TypeRecord, Reading.record_of, Spelling.Spells, Denotes.Denotes}
 use Rattle.btf_types.specs.{Good.IsGood, Good.facts, judge.FieldFaults.FieldFault}
 use Rattle.btf_types.specs.Faults.{Phase, InHeader, InStrings, InFrames, InFields, Faults, StringsFault, FramesFault, FieldsFault}
 use Rattle.btf_types.specs.Laws.{CutIsJudged, FramingIsJudged, FieldsAreJudged, NoFaultIsAccepted}
-use Rattle.btf_types.proofs.{Denoting.frames_of, TableLemmas.TableSteps.concat-map, TableLemmas.TableSteps.spelled_bytes}
-use Rattle.btf_types.proofs.JudgeLemmas.PhaseSteps.{no_string_fault, frames_have_none, same_frames}
+use Rattle.btf_types.proofs.{Denoting.frames_of, TableLemmas.TableSteps.frames_denote}
+use Rattle.btf_types.proofs.JudgeLemmas.PhaseSteps.{strings_have_none, framing_has_none, same_frames}
 use Rattle.btf_types.proofs.JudgeLemmas.{FramesLaw.frames_there, FieldsLaw.fields_have_none}
 use Rattle.btf_types.proofs.FaultlessLemmas.Faultless.{frames_spell, frames_good}
 
@@ -25,11 +25,6 @@ ends_there strings some none = record {
   first = elim (cases_eq (slice_index strings 0) 0) [ inl nul ↦ nul | inr other ↦ absurd (none 0 FirstString (refl, some, other)) ];
   last = elim (cases_eq (slice_index strings (length strings - 1)) 0) [ inl nul ↦ nul | inr other ↦ absurd (none (length strings - 1) LastString (omega arith, other)) ];
 }
-
-strings_have_none : (b : List ℕ) (o : Order) (types strings : List ℕ) → Cut b o types strings → HasNulEnds strings → HasNone (StringsFault b)
-strings_have_none b o types strings cut ends p c fault =
-    let same = cut_unique b fault.order o fault.types fault.strings types strings fault.cut cut in
-    no_string_fault strings fault.offset c ends (subst (λ (s : List ℕ). StringFault s fault.offset c) same.strings fault.fault)
 
 pub cut_is_judged : CutIsJudged
 cut_is_judged b fits = record {
@@ -65,15 +60,6 @@ types_are_bytes b o types strings fits cut =
     subst (λ (t : List ℕ). IsBytes t) (sym reads.types_are) (IsBytes-take (length types) _ (IsBytes-drop (types_at o b) b fits))
 
 module _ (b : List ℕ) (o : Order) (types strings : List ℕ) (cut : Cut b o types strings) (ends : HasNulEnds strings) where
-  same_cut : (p : Order) (t s : List ℕ) → Cut b p t s → SameCut p o t s types strings
-  same_cut p t s other = cut_unique b p o t s types strings other cut
-
-  framing_has_none : (frames : List (List ℕ)) → Frames o types frames → HasNone (FramesFault b)
-  framing_has_none frames framed p c fault =
-      let same = same_cut fault.order fault.types fault.strings fault.cut in
-      frames_have_none o types frames fault.offset c framed
-      (subst (λ (q : Order). FramingFault q types fault.offset c) same.order (subst (λ (t : List ℕ). FramingFault fault.order t fault.offset c) same.types fault.fault))
-
   framing_there : IsBytes b → HasNone (FramesFault b) → (frames : List (List ℕ)) × Frames o types frames
   framing_there fits none = frames_there o types (types_are_bytes b o types strings fits cut) (λ place cause fault. none (types_at o b + place) cause (record {
     header = cut_has_none b o types strings cut;
@@ -94,7 +80,7 @@ module _ (b : List ℕ) (o : Order) (types strings : List ℕ) (cut : Cut b o ty
     fields_none none p c fault = none (types_at o b + p) c (record {
       header = cut_has_none b o types strings cut;
       ends = strings_have_none b o types strings cut ends;
-      framing = framing_has_none frames framed;
+      framing = framing_has_none b o types strings frames cut framed;
       order = o;
       types = types;
       strings = strings;
@@ -117,16 +103,14 @@ module _ (b : List ℕ) (o : Order) (types strings : List ℕ) (cut : Cut b o ty
 
     fields_back : (v : List TypeRecord) → AllZip (Spells strings) v frames → IsGood v → HasNone (FieldsFault b)
     fields_back v spelled good p c fault =
-        let same = same_cut fault.order fault.types fault.strings fault.cut in
-        let its : Frames o types fault.frames = subst (λ (q : Order). Frames q types fault.frames) same.order (subst (λ (t : List ℕ). Frames fault.order t fault.frames) same.types fault.framed) in
-        let frames_are = same_frames o types fault.frames frames its framed in
-        fields_have_none strings v frames spelled good fault.offset c
-        (subst (λ (fs : List (List ℕ)). FieldFault strings fs fault.offset c) frames_are (subst (λ (s : List ℕ). FieldFault s fault.frames fault.offset c) same.strings fault.fault))
+        let same = cut_unique b fault.order o fault.types fault.strings types strings fault.cut cut in
+        let frames_are = same_frames o types fault.frames frames (rw (same.order, same.types) at fault.framed) framed in
+        fields_have_none strings v frames spelled good fault.offset c (rw (same.strings, frames_are) at fault.fault)
 
 pub framing_is_judged : FramingIsJudged
 framing_is_judged b o types strings fits cut ends = record {
   there = framing_there b o types strings cut ends fits;
-  back = λ framed. framing_has_none b o types strings cut ends framed.0 framed.1;
+  back = λ framed. framing_has_none b o types strings framed.0 cut framed.1;
 }
 
 pub fields_are_judged : FieldsAreJudged
@@ -143,27 +127,15 @@ denoted b fits none =
     let o = can.order in
     let framed = framing_there b o can.types can.strings can.cut can.nul_ends fits (none InFrames) in
     let frames = framed.0 in
-    let right = fields_there b o can.types can.strings can.cut can.nul_ends frames framed.1 (none InFields) in (
-      right.0,
-      record {
-        order = o;
-        types = can.types;
-        strings = can.strings;
-        spellings = map (bytes_of o) frames;
-        cut = can.cut;
-        nul_ends = can.nul_ends;
-        spelled = spelled_bytes o can.strings right.0 frames right.1;
-        whole = framed.1.whole ∙ sym (concat-map o frames);
-        good = right.2;
-      },
-    )
+    let right = fields_there b o can.types can.strings can.cut can.nul_ends frames framed.1 (none InFields) in
+    (right.0, frames_denote b o can.types can.strings right.0 frames can.cut can.nul_ends framed.1 right.1 right.2)
 
 faultless : (b : List ℕ) (v : List TypeRecord) → Denotes b v → (phase : Phase) (place : ℕ) (cause : BtfCause) → ¬ Faults b phase place cause
 faultless b v d =
     let found = frames_of d.order d.strings (facts v) v d.spellings d.good.each d.spelled in
     let framed : Frames d.order d.types found.frames = record { each = found.each; whole = d.whole ∙ found.bytes } in
     by_phase (cut_has_none b d.order d.types d.strings d.cut) (strings_have_none b d.order d.types d.strings d.cut d.nul_ends)
-    (framing_has_none b d.order d.types d.strings d.cut d.nul_ends found.frames framed)
+    (framing_has_none b d.order d.types d.strings found.frames d.cut framed)
     (fields_back b d.order d.types d.strings d.cut d.nul_ends found.frames framed v found.spelled d.good)
   where
     by_phase : HasNone (HeaderFault b) → HasNone (StringsFault b) → HasNone (FramesFault b) → HasNone (FieldsFault b) → (phase : Phase) (place : ℕ) (cause : BtfCause) → ¬ Faults b phase place cause

@@ -49,13 +49,14 @@ no_string_fault strings p c ends fault = absurd fault
 same_cut : (b : List ℕ) (h : Header) (o : Order) (types strings : List ℕ) → HasHeader b h → Cut b o types strings → SameCut o h.order types strings (types_of b h) (strings_of b h)
 same_cut b h o types strings has cut = cut_unique b o h.order types strings (types_of b h) (strings_of b h) cut has.reads.cut
 
+pub strings_have_none : (b : List ℕ) (o : Order) (types strings : List ℕ) → Cut b o types strings → HasNulEnds strings → HasNone (StringsFault b)
+strings_have_none b o types strings cut ends p c fault =
+    let same = cut_unique b fault.order o fault.types fault.strings types strings fault.cut cut in
+    no_string_fault strings fault.offset c ends (rw same.strings at fault.fault)
+
 pub strings_judged : (b : List ℕ) (h : Header) → HasHeader b h → HasNulEnds (strings_of b h) → HasStrings b h
-strings_judged b h has ends = record {
-  header = has;
-  ends = ends;
-  none = λ p c fault. no_string_fault (strings_of b h) fault.offset c ends
-      (subst (λ (s : List ℕ). StringFault s fault.offset c) (same_cut b h fault.order fault.types fault.strings has fault.cut).strings fault.fault);
-}
+strings_judged b h has ends =
+    record { header = has; ends = ends; none = strings_have_none b h.order (types_of b h) (strings_of b h) has.reads.cut ends }
 
 pub first_string_fault : (b : List ℕ) (h : Header) (p q : ℕ) (c : BtfCause) → HasHeader b h → LeastByCause (StringFault (strings_of b h)) q c → p ≡ h.str_pos + q → LeastByCause (StringsFault b) p c
 first_string_fault b h p q c has least is = record {
@@ -69,8 +70,7 @@ first_string_fault b h p q c has least is = record {
     fault = least.holds;
     place_is = is ∙ ap (λ (k : ℕ). k + q) has.reads.str_pos;
   };
-  least = λ r d other. least.least other.offset d
-      (subst (λ (s : List ℕ). StringFault s other.offset d) (same_cut b h other.order other.types other.strings has other.cut).strings other.fault);
+  least = λ r d other. least.least other.offset d (rw (same_cut b h other.order other.types other.strings has other.cut).strings at other.fault);
 }
 
 no_fault_of_nothing : (o : Order) (p : ℕ) (c : BtfCause) → ¬ RecordFault o [] p c
@@ -85,14 +85,16 @@ frames_have_none o types frames p c framed fault =
     let same = frames_cancel o frames fault.frames [] fault.rest framed.each fault.each (nothing_is_no_frame o) rest_is_none (rw append-nil (sym framed.whole ∙ fault.whole)) in
     no_fault_of_nothing o fault.offset c (subst (λ (b : List ℕ). RecordFault o b fault.offset c) (sym same.rest) fault.fault)
 
+pub framing_has_none : (b : List ℕ) (o : Order) (types strings : List ℕ) (frames : List (List ℕ)) → Cut b o types strings → Frames o types frames → HasNone (FramesFault b)
+framing_has_none b o types strings frames cut framed p c fault =
+    let same = cut_unique b fault.order o fault.types fault.strings types strings fault.cut cut in
+    frames_have_none o types frames fault.offset c framed (rw (same.order, same.types) at fault.fault)
+
 pub framing_judged : (b : List ℕ) (h : Header) (places : List ℕ) → HasStrings b h → IsFramed h.order (types_of b h) places → HasFrames b h places
 framing_judged b h places has framed = record {
   has_strings = has;
   framed = framed;
-  none = λ p c fault.
-      let same = same_cut b h fault.order fault.types fault.strings has.header fault.cut in
-      frames_have_none h.order (types_of b h) (frames_at h.order (types_of b h) places) fault.offset c framed.frames
-      (subst (λ (o : Order). FramingFault o (types_of b h) fault.offset c) same.order (subst (λ (t : List ℕ). FramingFault fault.order t fault.offset c) same.types fault.fault));
+  none = framing_has_none b h.order (types_of b h) (strings_of b h) (frames_at h.order (types_of b h) places) has.header.reads.cut framed.frames;
 }
 
 pub first_frames_fault : (b : List ℕ) (h : Header) (p q : ℕ) (c : BtfCause) → HasStrings b h → LeastByPlace (FramingFault h.order (types_of b h)) q c → p ≡ h.types_pos + q → LeastByPlace (FramesFault b) p c
@@ -110,7 +112,7 @@ first_frames_fault b h p q c has least is = record {
   };
   least = λ r d other.
       let same = same_cut b h other.order other.types other.strings has.header other.cut in
-      let fault = subst (λ (o : Order). FramingFault o (types_of b h) other.offset d) same.order (subst (λ (t : List ℕ). FramingFault other.order t other.offset d) same.types other.fault) in
+      let fault = rw (same.order, same.types) at other.fault in
       let base : types_at other.order b ≡ h.types_pos = ap (λ (o : Order). types_at o b) same.order ∙ sym has.header.reads.types_pos in
       let place = other.place_is in
       elim (least.least other.offset d fault) [
@@ -147,9 +149,8 @@ first_fields_fault b h places p q c has least is =
       };
       least = λ r d other.
           let same = same_cut b h other.order other.types other.strings has.has_strings.header other.cut in
-          let framed = subst (λ (o : Order). Frames o (types_of b h) other.frames) same.order (subst (λ (t : List ℕ). Frames other.order t other.frames) same.types other.framed) in
-          let these = same_frames h.order (types_of b h) other.frames frames framed has.framed.frames in
-          let fault = subst (λ (f : List (List ℕ)). FieldFault (strings_of b h) f other.offset d) these (subst (λ (s : List ℕ). FieldFault s other.frames other.offset d) same.strings other.fault) in
+          let these = same_frames h.order (types_of b h) other.frames frames (rw (same.order, same.types) at other.framed) has.framed.frames in
+          let fault = rw (same.strings, these) at other.fault in
           let base : types_at other.order b ≡ h.types_pos = ap (λ (o : Order). types_at o b) same.order ∙ sym reads.types_pos in
           let place = other.place_is in
           elim (least.least other.offset d fault) [

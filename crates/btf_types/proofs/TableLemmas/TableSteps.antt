@@ -2,8 +2,8 @@
 use Rattle.std.proofs.Common.{◌≡◌, ℕ, arith, List, [], ◌∷◌, ◌++◌, map, refl, sym, ap, ◌∙◌}
 use Rattle.std.specs.List.{AllZip, concat}
 use Rattle.bpf_words.specs.declared.Order.{Order}
-use Rattle.btf_raw.specs.{declared.header.Header.Header, Frames.bytes_of, Frames.section_of}
-use Rattle.btf_types.specs.{Values.TypeRecord, Denotes.Denotes, Spelling.Spells, Spelling.IsRecord}
+use Rattle.btf_raw.specs.{declared.header.Header.Header, Header.Cut, Header.HasNulEnds, Frames.Frames, Frames.bytes_of, Frames.section_of}
+use Rattle.btf_types.specs.{Values.TypeRecord, Denotes.Denotes, Good.IsGood, Spelling.Spells, Spelling.IsRecord}
 use Rattle.btf_types.specs.{Reading.frames_at, Reading.records_at, tables.TableInvariant.FieldsAreRight, tables.TableInvariant.IsTable}
 use Rattle.btf_types.proofs.JudgeLemmas.PhaseSteps.{HasFrames, types_of, strings_of, fails_strings, fails_framing, fails_fields, strings_judged, framing_judged}
 
@@ -17,20 +17,23 @@ spelled_bytes o strings [] (f ∷ frames) s = absurd s
 spelled_bytes o strings (r ∷ v) [] s = absurd s
 spelled_bytes o strings (r ∷ v) (f ∷ frames) s = ((f, s.0, refl), spelled_bytes o strings v frames s.1)
 
+pub frames_denote : (b : List ℕ) (o : Order) (types strings : List ℕ) (v : List TypeRecord) (frames : List (List ℕ)) → Cut b o types strings → HasNulEnds strings
+    → Frames o types frames → AllZip (Spells strings) v frames → IsGood v → Denotes b v
+frames_denote b o types strings v frames cut ends framed spelled good = record {
+  order = o;
+  types = types;
+  strings = strings;
+  spellings = map (bytes_of o) frames;
+  cut = cut;
+  nul_ends = ends;
+  spelled = spelled_bytes o strings v frames spelled;
+  whole = framed.whole ∙ sym (concat-map o frames);
+  good = good;
+}
+
 pub table_denotes : (b : List ℕ) (h : Header) (places : List ℕ) → HasFrames b h places → FieldsAreRight h.order (types_of b h) (strings_of b h) places → Denotes b (records_at h.order (types_of b h) (strings_of b h) places)
 table_denotes b h places has right =
-    let frames = frames_at h.order (types_of b h) places in
-    record {
-      order = h.order;
-      types = types_of b h;
-      strings = strings_of b h;
-      spellings = map (bytes_of h.order) frames;
-      cut = has.has_strings.header.reads.cut;
-      nul_ends = has.has_strings.ends;
-      spelled = spelled_bytes h.order (strings_of b h) (records_at h.order (types_of b h) (strings_of b h) places) frames right.spelled;
-      whole = has.framed.frames.whole ∙ sym (concat-map h.order frames);
-      good = right.good;
-    }
+    frames_denote b h.order (types_of b h) (strings_of b h) _ (frames_at h.order (types_of b h) places) has.has_strings.header.reads.cut has.has_strings.ends has.framed.frames right.spelled right.good
 
 pub is_table : (b : List ℕ) (h : Header) (places : List ℕ) → HasFrames b h places → FieldsAreRight h.order (types_of b h) (strings_of b h) places → IsTable h.order (types_of b h) (strings_of b h) places
 is_table b h places has right = record {
