@@ -1,5 +1,5 @@
 -- The widths of a record's members.
-use Rattle.std.proofs.Common.{◌≡◌, ◌≢◌, ℕ, ◌+◌, ◌*◌, ◌/◌, ◌^◌, ◌<◌, true, false, List, length, refl, sym, subst, ◌∙◌, arith}
+use Rattle.std.proofs.Common.{◌≡◌, ◌≢◌, ℕ, ◌+◌, ◌*◌, ◌/◌, ◌^◌, ◌<◌, true, false, List, refl, sym, subst, ◌∙◌, arith}
 use Rattle.std.specs.Prelude.{IsTrue, slice_index}
 use Rattle.std.proofs.lemmas.Bool.{ne_eqb}
 use Rattle.btf_raw.specs.{Kinds.is_struct, Frames.IsFrame, Frames.kind, Frames.vlen, Frames.flag}
@@ -7,9 +7,6 @@ use Rattle.btf_types.specs.judge.RecordFaults.{BitFieldsAre}
 use Rattle.btf_types.proofs.JudgeLemmas.{RoleSteps.struct_size, RecordSteps.members_end}
 
 module _ (frame : List ℕ) (is_frame : IsFrame frame) (struct : IsTrue (is_struct (kind frame))) where
-  pub member_there : (k : ℕ) → k < vlen frame → 5 + 3 * k < length frame
-  member_there k low = omega (arith, members_end is_frame struct)
-
   pub some_width : (k : ℕ) → k < vlen frame → flag frame ≢ 0 → slice_index frame (5 + 3 * k) / 2 ^ 24 ≢ 0 → BitFieldsAre frame true
   some_width k low set wide = record {
     some = λ h. (5 + 3 * k, (struct, k, (low, rw (struct_size (kind frame) struct) (omega arith))), rw (ne_eqb (flag frame) 0 set) wide);

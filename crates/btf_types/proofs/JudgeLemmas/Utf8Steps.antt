@@ -26,7 +26,7 @@ tail_text s at o text t low = record {
 pub byte_of_text : (s : List ℕ) (at : ℕ) (text : List ℕ) (t : TextAt s at text) (i : ℕ) → get_or s (at + i) 0 ≡ get_or (text ++ 0 ∷ t.after) i 0
 byte_of_text s at text t i = sym (get_or-drop at s i 0) ∙ ap (λ (x : List ℕ). get_or x i 0) (text_after s at text t)
 
-end_of_text : (s : List ℕ) (at : ℕ) (text : List ℕ) → TextAt s at text → get_or s (at + length text) 0 ≡ 0
+pub end_of_text : (s : List ℕ) (at : ℕ) (text : List ℕ) → TextAt s at text → get_or s (at + length text) 0 ≡ 0
 end_of_text s at text t = byte_of_text s at text t (length text) ∙ seam text
   where
     seam : (x : List ℕ) → get_or (x ++ 0 ∷ t.after) (length x) 0 ≡ 0

@@ -1,12 +1,14 @@
 -- The ends of long strings are found block by block, and each end is found among them.
-use Rattle.std.proofs.Common.{◌≡◌, ◌≢◌, ℕ, zero, suc, ◌+◌, ◌-◌, ◌<◌, ◌≤◌, true, false, List, [], ◌∷◌, ◌++◌, length, get_or, take, drop, sym, ap, subst, ◌∙◌, inl, inr, arith, length-append}
+use Rattle.std.proofs.Common.{◌≡◌, ◌≢◌, ℕ, ◌+◌, ◌-◌, ◌<◌, ◌≤◌, true, false, List, [], ◌∷◌, ◌++◌, length, get_or, take, drop, sym, ap, subst, ◌∙◌, inl, inr, arith, length-append}
 use Rattle.std.specs.List.{AllWithin}
 use Rattle.std.specs.Prelude.{◌⊎◌, nat_lt, min, slice_index}
 use Rattle.std.proofs.lemmas.{Grind.get_or_default_zero, Bool.cases_lt, Bool.ltb-true, Bool.ltb-false, Bool.lt-ltb}
-use Rattle.std.proofs.lemmas.List.{get_or-take, get_or-drop, length-take, length-drop}
+use Rattle.std.proofs.lemmas.List.{get_or_append_left, get_or-take, get_or-drop, length-take, length-drop}
 use Rattle.std.proofs.Math.{ListN.get_or-append, Seq.get_or-append_seam}
 use Rattle.btf_raw.specs.{Header.HasNulEnds, Names.IsEnd, Names.TextAt}
 use Rattle.btf_raw.proofs.Texts.{TextAt-end, TextAt-unique}
+use Rattle.btf_types.specs.Reading.{text_from}
+use Rattle.btf_types.proofs.{TableLemmas.TextSteps.text_there, JudgeLemmas.Utf8Steps.text_end, JudgeLemmas.Utf8Steps.end_of_text, JudgeLemmas.Utf8Steps.byte_of_text}
 use Rattle.btf_types.specs.tables.StringEnds.{IsAmong, AreLongEndsTo, AreLongEnds}
 
 -- at most 64 bytes before an offset is a NUL, or the first byte of the section
@@ -133,30 +135,19 @@ none_in_part strings off to inside none i high low e =
     none (i - off) part (part_byte strings off (to - off) (i - off) (omega arith) ∙ ap (λ (j : ℕ). get_or strings j 0) same ∙ e)
 
 -- each string of a section with NUL ends has an end
-end_before : (strings : List ℕ) (n offset last : ℕ) → offset + n ≡ last → last < length strings → get_or strings last 0 ≡ 0 → (end : ℕ) × IsEnd strings offset end
-end_before strings zero offset last e h nul =
-    let same : offset ≡ last = omega arith in
-    (last, record { from = omega arith; inside = h; nul = nul; before = λ i low high is. omega arith })
-end_before strings (suc n) offset last e h nul =
-    elim (cases_lt 0 (get_or strings offset 0)) [
-      | inl some ↦
-          let (end, is) = end_before strings n (offset + 1) last (omega arith) h nul in (
-            end,
-            record {
-              from = let from = is.from in omega arith;
-              inside = is.inside;
-              nul = is.nul;
-              before = λ i low high zero_there. elim (cases_lt offset i) [
-                | inl lt ↦ is.before i (omega arith) high zero_there
-                | inr le ↦
-                    let same : i ≡ offset = omega arith in
-                    let here : get_or strings offset 0 ≡ 0 = subst (λ (j : ℕ). get_or strings j 0 ≡ 0) same zero_there in
-                    omega arith
-              ];
-            },
-          )
-      | inr none ↦ (offset, record { from = omega arith; inside = omega arith; nul = omega arith; before = λ i low high is. omega arith })
-    ]
+end_there : (strings : List ℕ) (offset : ℕ) → HasNulEnds strings → offset < length strings → IsEnd strings offset (offset + length (text_from strings offset))
+end_there strings offset ends h =
+    let x = text_from strings offset in
+    let t = text_there strings offset ends h in
+    record {
+      from = omega arith;
+      inside = text_end strings offset x t;
+      nul = end_of_text strings offset x t;
+      before = λ i high low nul.
+          let same : offset + (i - offset) ≡ i = omega arith in
+          t.without_nul (i - offset) (omega arith)
+          (sym (get_or_append_left x (0 ∷ t.after) 0 (i - offset) (omega arith)) ∙ sym (byte_of_text strings offset x t (i - offset)) ∙ rw same nul);
+    }
 
 -- if the next 128 bytes contain no NUL, the first of the ends from the offset on is the end
 pub found_among : (strings ends : List ℕ) (offset near k : ℕ) → HasNulEnds strings → offset < length strings → AreLongEnds strings ends
@@ -164,7 +155,8 @@ pub found_among : (strings ends : List ℕ) (offset near k : ℕ) → HasNulEnds
     → AllWithin (λ x. nat_lt x offset ≡ true) ends 0 k → AllWithin (λ x. nat_lt x offset ≡ false) ends k (length ends)
     → (k < length ends) × IsEnd strings offset (get_or ends k 0)
 found_among strings ends offset near k nuls inside are e none passed left =
-    let (end, is) = end_before strings (length strings - 1 - offset) offset (length strings - 1) (omega arith) (omega arith) nuls.last in
+    let end = offset + length (text_from strings offset) in
+    let is = end_there strings offset nuls inside in
     let long : offset + 128 ≤ end = elim (cases_lt end near) [
       | inl lt ↦ absurd (none end is.from lt is.nul)
       | inr le ↦ let below = is.inside in omega arith

@@ -1,5 +1,5 @@
 -- Elements that are removed from both ends of a part of a list.
-use Rattle.std.proofs.Common.{◌≡◌, ℕ, zero, suc, ◌+◌, ◌-◌, ◌<◌, ◌≤◌, List, [], ◌∷◌, ◌++◌, length, take, drop, refl, ap, subst, ◌∙◌, arith, Some}
+use Rattle.std.proofs.Common.{◌≡◌, ℕ, zero, suc, ◌+◌, ◌-◌, ◌<◌, ◌≤◌, List, [], ◌∷◌, ◌++◌, length, take, drop, refl, ap, ◌∙◌, arith, Some}
 use Rattle.std.specs.Prelude.{slice_get, unwrap_or}
 use Rattle.std.proofs.lemmas.List.{length-drop, length-take-le, get_or-take, take_all, drop-append-le, drop_more, drop_all, take_more}
 use Rattle.btf_types.specs.Values.{TypeRecord}
@@ -13,14 +13,6 @@ window_first from to xs x low high is =
     let there = get_or_is xs from x x is in
     drop_more (take to xs) from x (omega (arith, len))
     ∙ ap (λ y. y ∷ window (from + 1) to xs) (get_or-take to xs from x low ∙ there.1)
-
--- the element at an index, from the back
-pub window_last : {X : Type 0} (from to : ℕ) (xs : List X) (x : X) → from ≤ to → to < length xs → slice_get xs to ≡ Some x → window from (to + 1) xs ≡ window from to xs ++ x ∷ []
-window_last from to xs x low high is =
-    let len = length-take-le to xs (omega (arith, high)) in
-    let there = get_or_is xs to x x is in
-    ap (λ ys. drop from ys) (take_more xs to x high ∙ ap (λ y. take to xs ++ y ∷ []) there.1)
-    ∙ drop-append-le from (take to xs) (x ∷ []) (omega (arith, len))
 
 pub window_length : {X : Type 0} (from to : ℕ) (xs : List X) → to ≤ length xs → length (window from to xs) ≡ to - from
 window_length from to xs high = length-drop from (take to xs) ∙ ap (λ n. n - from) (length-take-le to xs high)
@@ -38,8 +30,13 @@ length-numbered id (r ∷ v) = ap (λ n. suc n) (length-numbered (id + 1) v)
 -- one element from the back
 pub window_back : {X : Type 0} (from to : ℕ) (xs : List X) (x : X) → from < to → to ≤ length xs → slice_get xs (to - 1) ≡ Some x → window from to xs ≡ window from (to - 1) xs ++ x ∷ []
 window_back from to xs x low high is =
-    let e : to - 1 + 1 ≡ to = omega (arith, low) in
-    subst (λ (n : ℕ). window from n xs ≡ window from (to - 1) xs ++ x ∷ []) e (window_last from (to - 1) xs x (omega (arith, low)) (omega (arith, low, high)) is)
+    let before = to - 1 in
+    let last : to ≡ before + 1 = omega arith in
+    let len = length-take-le before xs (omega arith) in
+    let there = get_or_is xs before x x is in
+    ap (λ n. drop from (take n xs)) last
+    ∙ ap (λ ys. drop from ys) (take_more xs before x (omega arith) ∙ ap (λ y. take before xs ++ y ∷ []) there.1)
+    ∙ drop-append-le from (take before xs) (x ∷ []) (omega arith)
 
 numbered_get : (id : ℕ) (v : List TypeRecord) (i : ℕ) → i < length v → slice_get (numbered id v) i ≡ Some (id + i, (unwrap_or (slice_get v i) no_record).head)
 numbered_get id [] i h = absurd (omega (arith, h))

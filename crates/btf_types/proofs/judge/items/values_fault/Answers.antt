@@ -1,4 +1,4 @@
-use Rattle.std.proofs.Common.{◌≡◌, ◌⊎◌, ℕ, ◌+◌, ◌*◌, ◌^◌, ◌<◌, ◌≤◌, [], ◌∷◌, inl, inr, List, length, subst, sym, ◌∙◌, arith}
+use Rattle.std.proofs.Common.{◌≡◌, ◌⊎◌, ℕ, ◌+◌, ◌*◌, ◌^◌, ◌<◌, ◌≤◌, [], ◌∷◌, inl, inr, List, length, arith}
 use Rattle.std.specs.Prelude.{IsTrue}
 use Rattle.btf_raw.specs.{KindNumbers.ENUM, KindNumbers.ENUM64, Kinds.one_of, Kinds.item_words, Frames.IsFrame, Frames.kind, Frames.vlen}
 use Rattle.btf_types.proofs.JudgeLemmas.{Roles.ItemName, WordSteps.none_through}
@@ -14,12 +14,8 @@ record ValueIn (step k v : ℕ) : Type 0 where
   some : 0 < step
 
 value_in : (step k v : ℕ) → (step ≡ 2) ⊎ (step ≡ 3) → k < v → v < 65536 → ValueIn step k v
-value_in step k v (inl e) low few = subst (λ (n : ℕ). ValueIn n k v) (sym e) (record { few = omega arith; next = omega arith; room = omega arith; some = omega arith })
-value_in step k v (inr e) low few = subst (λ (n : ℕ). ValueIn n k v) (sym e) (record { few = omega arith; next = omega arith; room = omega arith; some = omega arith })
-
-step_size : (κ step : ℕ) → (item_words κ ≡ 2) ⊎ (item_words κ ≡ 3) → step ≡ item_words κ → (step ≡ 2) ⊎ (step ≡ 3)
-step_size κ step (inl e) is = inl (is ∙ e)
-step_size κ step (inr e) is = inr (is ∙ e)
+value_in step k v (inl e) low few = rw e (record { few = omega arith; next = omega arith; room = omega arith; some = omega arith })
+value_in step k v (inr e) low few = rw e (record { few = omega arith; next = omega arith; room = omega arith; some = omega arith })
 
 -- there are no more values than vlen can count
 record ValueOf (step k : ℕ) (f : List ℕ) : Type 0 where
@@ -30,7 +26,7 @@ value_of : (f : List ℕ) (step k : ℕ) → IsFrame f → IsTrue (one_of (ENUM 
 value_of f step k is enum step-is low =
     let few : vlen f < 65536 = omega arith in
     record {
-      among = value_in step k (vlen f) (step_size (kind f) step (enum_size (kind f) enum) step-is) low few;
+      among = value_in step k (vlen f) (rw step-is (enum_size (kind f) enum)) low few;
       end = rw step-is (values_end is (enum_fixed (kind f) enum));
     }
 
