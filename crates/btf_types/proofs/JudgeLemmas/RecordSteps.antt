@@ -8,6 +8,7 @@ use Rattle.btf_raw.specs.Kinds.{is_struct, tail_words, fixed_words, item_words}
 use Rattle.btf_types.specs.{Sections.SectionWords, judge.RecordFaults.FaultInWord, judge.RecordFaults.NoneWithin, judge.RecordFaults.IsFirstWithin}
 use Rattle.btf_types.specs.judge.{Checks.TypeFacts, Checks.LeastCause, Checks.NoCause, NameFaults.NamedTypeFault}
 use Rattle.btf_types.proofs.JudgeLemmas.Roles.{Role, Free, HasRole}
+use Rattle.btf_types.proofs.JudgeLemmas.WordSteps.{first_after}
 use Rattle.btf_types.proofs.JudgeLemmas.RoleSteps.{FaultInRole, judged, one_word, struct_size, struct_fixed}
 
 no_tail : (κ v : ℕ) → κ ≢ INT → κ ≢ ARRAY → κ ≢ STRUCT → κ ≢ UNION → κ ≢ ENUM → κ ≢ FUNC_PROTO → κ ≢ VAR → κ ≢ DATASEC → κ ≢ DECL_TAG → κ ≢ ENUM64
@@ -76,3 +77,10 @@ module _ {f : List ℕ} (is : IsFrame f) where
   rest_faultless s int array struct union enum proto var datasec tag enum64 j d past low fault =
       let end : length f ≡ 3 = is.size ∙ no_tail (kind f) (vlen f) int array struct union enum proto var datasec tag enum64 in
       absurd (omega arith)
+
+-- what the search cites of the members, of the parameters, and of the fields after the first three
+pub ruleset members_first = (members_end, first_after)
+
+pub ruleset params_first = (params_end, first_after)
+
+pub ruleset tails = (rest_faultless, array_end, fourth_end, none_yet)

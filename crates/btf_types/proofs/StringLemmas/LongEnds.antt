@@ -5,7 +5,7 @@ use Rattle.std.specs.Prelude.{◌⊎◌, nat_lt, min, slice_index}
 use Rattle.std.proofs.lemmas.{Grind.get_or_default_zero, Bool.cases_lt, Bool.ltb-true, Bool.ltb-false, Bool.lt-ltb}
 use Rattle.std.proofs.lemmas.List.{get_or_append_left, get_or-take, get_or-drop, length-take, length-drop}
 use Rattle.std.proofs.Math.{ListN.get_or-append, Seq.get_or-append_seam}
-use Rattle.btf_raw.specs.{Header.HasNulEnds, Names.IsEnd, Names.TextAt}
+use Rattle.btf_raw.specs.{Header.HasNulEnds, Names.IsEnd, Names.NameAt}
 use Rattle.btf_raw.proofs.Texts.{TextAt-end, TextAt-unique}
 use Rattle.btf_types.specs.Reading.{text_from}
 use Rattle.btf_types.proofs.{TableLemmas.TextSteps.text_there, JudgeLemmas.Utf8Steps.text_end, JudgeLemmas.Utf8Steps.end_of_text, JudgeLemmas.Utf8Steps.byte_of_text}
@@ -177,5 +177,5 @@ ends_part strings ends offset i j d are low high h =
     lt-ltb _ _ (omega arith)
 
 -- the bytes up to the end are the string
-pub text_to_end : (strings : List ℕ) (offset end : ℕ) (text : List ℕ) → TextAt strings offset text → IsEnd strings offset end → take (end - offset) (drop offset strings) ≡ text
-text_to_end strings offset end text there is = TextAt-unique strings offset (take (end - offset) (drop offset strings)) text (TextAt-end strings offset end is) there
+pub text_to_end : (strings : List ℕ) (offset end : ℕ) (text : List ℕ) → NameAt strings offset text → IsEnd strings offset end → take (end - offset) (drop offset strings) ≡ text
+text_to_end strings offset end text there is = TextAt-unique strings offset (take (end - offset) (drop offset strings)) text (TextAt-end strings offset end is) there.text

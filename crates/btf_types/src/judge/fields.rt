@@ -87,7 +87,7 @@ fn array_fault(section: &Section, this: &Record) -> Option<(usize, BtfCause)>
 
 /// The index of the first faulty field after the first three, and its cause. The kind is matched
 /// once here, and not again for each field.
-#[tactic(auto, using(crate::proofs::JudgeLemmas::RecordSteps::rest_faultless), unfolding(btf_raw::specs::Kinds::item_words))]
+#[tactic(auto, using(crate::proofs::JudgeLemmas::RecordSteps::tails), unfolding(btf_raw::specs::Kinds::item_words))]
 fn tail_fault(section: &Section, this: &Record) -> Option<(usize, BtfCause)>
     requires { IsFrame this.now }
     ensures { FirstWithin section.now this.now 3 (length this.now) result }

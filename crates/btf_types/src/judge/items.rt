@@ -51,7 +51,7 @@ fn member_fault(
 
 /// The index of the first faulty field in the members of a STRUCT or UNION, and its cause. Whether
 /// the record has bit-fields is determined once, before any member is checked.
-#[tactic(auto, using(crate::proofs::JudgeLemmas::RecordSteps::members_end))]
+#[tactic(auto, using(crate::proofs::JudgeLemmas::RecordSteps::members_first))]
 pub fn members_fault(section: &Section, this: &Record) -> Option<(usize, BtfCause)>
     requires frame { IsFrame this.now }
     requires kind { IsTrue (is_struct (kind this.now)) }
@@ -89,7 +89,7 @@ fn param_fault(section: &Section, this: &Record, k: usize) -> Option<(usize, Btf
 }
 
 /// The index of the first faulty field in the parameters of a FUNC_PROTO, and its cause.
-#[tactic(auto, using(crate::proofs::JudgeLemmas::RecordSteps::params_end))]
+#[tactic(auto, using(crate::proofs::JudgeLemmas::RecordSteps::params_first))]
 pub fn params_fault(section: &Section, this: &Record) -> Option<(usize, BtfCause)>
     requires frame { IsFrame this.now }
     requires kind { kind this.now ≡ kinds.FUNC_PROTO }

@@ -37,6 +37,7 @@ fn nul_between(strings: &[u8], off: usize, to: usize) -> Option<usize>
 }
 
 /// Appends the offsets of the ends of all strings of at least 128 bytes.
+#[tactic(auto, using(crate::proofs::StringLemmas::LongEnds::none_yet))]
 pub fn push_long_ends<A: Allocator>(out: &mut Vec<u32, A>, strings: &[u8]) -> Result<(), AllocError>
     requires ends { HasNulEnds strings.now }
     requires room { length strings.now < 2 ^ 32 }

@@ -1,17 +1,8 @@
 -- Block by block: if a block has a NUL, no long string ends in it; otherwise it is inside one, whose end is stored.
-use Rattle.std.proofs.Common.{◌+◌, [], ◌∷◌, length, ◌∙◌, inl, inr, refl, arith}
-use Rattle.std.proofs.{Math.Seq.drop-length, Math.Seq.take-length, lemmas.List.drop-append-le, lemmas.List.take-append-le, lemmas.List.length-append}
-use Rattle.btf_types.proofs.StringLemmas.LongEnds.{none_yet, more_bytes, one_end_more, nul_after}
+use Rattle.std.proofs.Common.{◌+◌, [], ◌∷◌, length, ◌∙◌, inr, arith}
+use Rattle.std.proofs.{lemmas.List.drop-append-le, lemmas.List.take-append-le, lemmas.List.length-append}
+use Rattle.btf_types.proofs.StringLemmas.LongEnds.{more_bytes, one_end_more, nul_after}
 use Rattle.btf_types.proofs.tables.string_ends.push_long_ends.Goals as goal
-
-pub blocks-2-init : goal.blocks-2-init
-blocks-2-init g c = record {
-  kept = take-length c.args.out.now.items;
-  long = omega arith;
-  ends = rw (drop-length c.args.out.now.items) (none_yet c.args.strings.now);
-  gap = inl refl;
-  inside = omega arith;
-}
 
 pub blocks-2-preserved-in-Some : goal.blocks-2-preserved-in-Some
 blocks-2-preserved-in-Some g c =
