@@ -20,7 +20,7 @@ use Rattle.btf_types.specs.Good.{HeadIsGood, ItemOf, head_targets, item_targets,
 use Rattle.btf_types.specs.judge.FieldFaults.{IsNameField, IsTypeField, IsMemberWord, HasBitFields, int_unused, int_encoding, int_offset, int_bits, frame_facts, WordFault}
 use Rattle.std.proofs.lemmas.Bool.Decides.{eqb_tells}
 use Rattle.btf_types.proofs.{KindCases.one_among, Spelled.vlen_from, Spelled.no_items, Members.Has-get_or, Members.any_from_Has}
-use Rattle.btf_types.proofs.Denoting.{IsNumbers, numbers, tail_word}
+use Rattle.btf_types.proofs.{Spelled.IsNumbers, Spelled.numbers, Denoting.tail_word}
 use Rattle.btf_types.proofs.SpelledItems.{nothing, ItemFits, item_fits}
 
 -- ---- what a head says of its numbers

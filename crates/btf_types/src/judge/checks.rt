@@ -42,11 +42,7 @@ pub fn target_fits(kind: u8, target: u8) -> bool
 pub fn second_fault(kind: u8, vlen: u16) -> Option<BtfCause>
     ensures { spec.IsLeastOf (spec.SecondFault kind vlen) result }
 {
-    if kind == FUNC && Linkage::from_number(u32::from(vlen)).is_none() {
-        Some(BtfCause::Linkage)
-    } else {
-        None
-    }
+    (kind == FUNC && Linkage::from_number(u32::from(vlen)).is_none()).then_some(BtfCause::Linkage)
 }
 
 /// Whether an INT of `size` bytes may have this number of bits: at most 128, and no more than its
@@ -120,20 +116,12 @@ pub fn width_of(flag: u32, word: u32) -> u8
 pub fn member_place_fault(size: u32, bit_offset: u32, width: u8) -> Option<BtfCause>
     ensures { spec.IsLeastOf (MemberPlaceFault size bit_offset width) result }
 {
-    if member_fits(bit_offset, width, size) {
-        None
-    } else {
-        Some(BtfCause::MemberPlace)
-    }
+    (!member_fits(bit_offset, width, size)).then_some(BtfCause::MemberPlace)
 }
 
 /// Checks the linkage of a VAR.
 pub fn linkage_fault(word: u32) -> Option<BtfCause>
     ensures { spec.IsLeastOf (LinkageFault word) result }
 {
-    if Linkage::from_number(word).is_none() {
-        Some(BtfCause::Linkage)
-    } else {
-        None
-    }
+    Linkage::from_number(word).is_none().then_some(BtfCause::Linkage)
 }

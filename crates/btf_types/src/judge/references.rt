@@ -40,10 +40,7 @@ pub fn third_fault(section: &Section, kind: u8, third: u32, vlen: u16) -> Option
     if third > section.count() {
         return Some(BtfCause::Reference);
     }
-    if !named_kind_fits(section, kind, third) {
-        return Some(BtfCause::TargetKind);
-    }
-    None
+    (!named_kind_fits(section, kind, third)).then_some(BtfCause::TargetKind)
 }
 
 /// Checks a type ID in any other field of the record.
@@ -54,11 +51,7 @@ pub fn named_type_fault(section: &Section, kind: u8, target: u32) -> Option<BtfC
     if target > section.count() {
         return Some(BtfCause::Reference);
     }
-    if named_kind_fits(section, kind, target) {
-        None
-    } else {
-        Some(BtfCause::TargetKind)
-    }
+    (!named_kind_fits(section, kind, target)).then_some(BtfCause::TargetKind)
 }
 
 /// Whether a member may have this type if its record has bit-fields: it isn't an INT, or it is an
