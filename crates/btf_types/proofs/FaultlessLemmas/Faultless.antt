@@ -79,23 +79,6 @@ tag_has_target : (k : ℕ) → k ≡ DECL_TAG → IsTrue (has_target k)
 unfolding has_target
 tag_has_target k e = rw e refl
 
--- the component of a type that a DECL_TAG may name lies below some count
-struct_below : (types : List TypeFacts) (id c : ℕ) → IsTrue (is_struct ((type_at types id).kind)) → IsTrue (component_fits types id c) → c < (type_at types id).count
-unfolding component_fits
-struct_below types id c is fits = let opened = rw is at fits in ltb-true c _ opened
-
-struct_component : (types : List TypeFacts) (id c k : ℕ) → IsTrue (is_struct k) → (type_at types id).kind ≡ k → IsTrue (component_fits types id c) → c < (type_at types id).count
-struct_component types id c k is e fits = struct_below types id c (rw e is) fits
-
-func_component : (types : List TypeFacts) (id c : ℕ) → (type_at types id).kind ≡ FUNC → (type_at types (type_at types id).target).kind ≡ FUNC_PROTO → IsTrue (component_fits types id c)
-    → c < (type_at types (type_at types id).target).count
-unfolding component_fits
-func_component types id c e proto fits = let opened = rw (e, proto) at fits in ltb-true c _ opened
-
-no_component : (types : List TypeFacts) (id c k : ℕ) → IsTrue (one_of (VAR ∷ TYPEDEF ∷ []) k) → (type_at types id).kind ≡ k → ¬ IsTrue (component_fits types id c)
-unfolding component_fits
-no_component types id c k one e fits = one_among (λ m. k ≡ m → ⊥) (VAR ∷ TYPEDEF ∷ []) k ((λ is. let opened = rw (e, is) at fits in absurd cc), ((λ is. let opened = rw (e, is) at fits in absurd cc), tt)) one refl
-
 -- ---- the frames of a section
 
 module _ (strings : List ℕ) (frames : List (List ℕ)) (ends : HasNulEnds strings) (each : All IsFrame frames) (none : HasNone (FieldFault strings frames)) where
@@ -120,23 +103,15 @@ module _ (strings : List ℕ) (frames : List (List ℕ)) (ends : HasNulEnds stri
 
   -- therefore a component is a 16-bit number
   component_low : (id c : ℕ) → one_of (STRUCT ∷ UNION ∷ FUNC ∷ VAR ∷ TYPEDEF ∷ []) ((type_at types id).kind) ≡ true → IsTrue (component_fits types id c) → c < 2 ^ 16
+  unfolding component_fits
   component_low id c named fits =
       let own = type_count_below frames id in
       let proto = type_count_below frames (type_at types id).target in
-      one_among (λ k. (type_at types id).kind ≡ k → c < 2 ^ 16) (STRUCT ∷ UNION ∷ FUNC ∷ VAR ∷ TYPEDEF ∷ []) ((type_at types id).kind) (
-        (λ e. omega (arith, struct_component types id c STRUCT refl e fits)),
-        (
-          (λ e. omega (arith, struct_component types id c UNION refl e fits)),
-          (
-            (λ e. omega (arith, func_component types id c e (func_names id e) fits)),
-            (
-              (λ e. absurd (no_component types id c VAR refl e fits)),
-              ((λ e. absurd (no_component types id c TYPEDEF refl e fits)), tt),
-            ),
-          ),
-        ),
-      )
-      named refl
+      let member : (k : ℕ) → IsTrue (is_struct k) → (type_at types id).kind ≡ k → c < 2 ^ 16 = λ k is e. let opened = rw (e, is) at fits in omega (arith, ltb-true c _ opened) in
+      let parameter : (type_at types id).kind ≡ FUNC → c < 2 ^ 16 = λ e. let opened = rw (e, func_names id e) at fits in omega (arith, ltb-true c _ opened) in
+      let none : (k : ℕ) → IsTrue (one_of (VAR ∷ TYPEDEF ∷ []) k) → (type_at types id).kind ≡ k → c < 2 ^ 16 = λ k is e. let opened = rw e at fits in one_among (λ m. k ≡ m → c < 2 ^ 16) (VAR ∷ TYPEDEF ∷ []) k ((λ v. let more = rw v at opened in absurd cc), ((λ v. let more = rw v at opened in absurd cc), tt)) is refl in
+      one_among (λ k. (type_at types id).kind ≡ k → c < 2 ^ 16) (STRUCT ∷ UNION ∷ FUNC ∷ VAR ∷ TYPEDEF ∷ []) ((type_at types id).kind)
+      (member STRUCT refl, (member UNION refl, (parameter, (none VAR refl, (none TYPEDEF refl, tt))))) named refl
 
   low_of_word : (id w : ℕ) → one_of (STRUCT ∷ UNION ∷ FUNC ∷ VAR ∷ TYPEDEF ∷ []) ((type_at types id).kind) ≡ true → IfSome (component_of w) (λ c. IsTrue (component_fits types id c)) → IfSome (component_of w) (λ c. c < 2 ^ 16)
   low_of_word id w named = split (w == 0xffffffff)

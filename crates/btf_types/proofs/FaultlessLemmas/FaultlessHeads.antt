@@ -128,20 +128,21 @@ range_of_head IsFwd name third flag vlen next fourth fifth a b c d component = l
 range_of_head IsDeclTag name third flag vlen next fourth fifth a b c d component = (a, component refl)
 range_of_head known name third flag vlen next fourth fifth a b c d component = a
 
-targets_are : {k : ℕ} → KindIs k → (name : List ℕ) (third flag vlen next fourth fifth : ℕ) → head_targets (head_from name k third flag vlen next fourth fifth)
-    ≡ (if has_target k then third ∷ [] else if k == ARRAY then next ∷ fourth ∷ [] else [])
-unfolding head_from has_target
-targets_are IsInt name third flag vlen next fourth fifth = refl
-targets_are known name third flag vlen next fourth fifth = refl
-
 pub targets_of_head : {k : ℕ} → KindIs k → (P : ℕ → Type 0) (name : List ℕ) (third flag vlen next fourth fifth : ℕ) → (IsTrue (has_target k) → P third) → (k ≡ ARRAY → P next) → (k ≡ ARRAY → P fourth)
     → All P (head_targets (head_from name k third flag vlen next fourth fifth))
-targets_of_head {k} known P name third flag vlen next fourth fifth a b c = rw (targets_are known name third flag vlen next fourth fifth) (split (has_target k) refl (k == ARRAY) refl)
-  where
-    split : (has : Bool) → has_target k ≡ has → (array : Bool) → (k == ARRAY) ≡ array → All P (if has then third ∷ [] else if array then next ∷ fourth ∷ [] else [])
-    split true has array is = All-cons P third [] (a has) (All-nil P)
-    split false has true is = All-cons P next (fourth ∷ []) (b (eqb-true k ARRAY is)) (All-cons P fourth [] (c (eqb-true k ARRAY is)) (All-nil P))
-    split false has false is = All-nil P
+unfolding head_from has_target
+targets_of_head IsPtr P name third flag vlen next fourth fifth a b c = All-cons P third [] (a refl) (All-nil P)
+targets_of_head IsArray P name third flag vlen next fourth fifth a b c = All-cons P next (fourth ∷ []) (b refl) (All-cons P fourth [] (c refl) (All-nil P))
+targets_of_head IsTypedef P name third flag vlen next fourth fifth a b c = All-cons P third [] (a refl) (All-nil P)
+targets_of_head IsVolatile P name third flag vlen next fourth fifth a b c = All-cons P third [] (a refl) (All-nil P)
+targets_of_head IsConst P name third flag vlen next fourth fifth a b c = All-cons P third [] (a refl) (All-nil P)
+targets_of_head IsRestrict P name third flag vlen next fourth fifth a b c = All-cons P third [] (a refl) (All-nil P)
+targets_of_head IsFunc P name third flag vlen next fourth fifth a b c = All-cons P third [] (a refl) (All-nil P)
+targets_of_head IsFuncProto P name third flag vlen next fourth fifth a b c = All-cons P third [] (a refl) (All-nil P)
+targets_of_head IsVar P name third flag vlen next fourth fifth a b c = All-cons P third [] (a refl) (All-nil P)
+targets_of_head IsDeclTag P name third flag vlen next fourth fifth a b c = All-cons P third [] (a refl) (All-nil P)
+targets_of_head IsTypeTag P name third flag vlen next fourth fifth a b c = All-cons P third [] (a refl) (All-nil P)
+targets_of_head known P name third flag vlen next fourth fifth a b c = All-nil P
 
 pub good_head : {k : ℕ} → KindIs k → (types : List TypeFacts) (name : List ℕ) (third flag vlen next fourth fifth : ℕ) → (k ≡ INT → IntIsRight third next)
     → (k ≡ DECL_TAG → IfSome (component_of next) (λ c. IsTrue (component_fits types third c))) → HeadIsGood types (head_from name k third flag vlen next fourth fifth)

@@ -1,5 +1,5 @@
 -- The items of a frame without fault, as they are read.
-use Rattle.std.proofs.Common.{◌≡◌, ℕ, ◌+◌, ◌*◌, ◌<◌, true, false, Some, List, refl, sym, ap, subst, ◌∙◌, inl, inr, lit<, arith}
+use Rattle.std.proofs.Common.{◌≡◌, ℕ, ◌+◌, ◌*◌, ◌<◌, true, false, Some, List, refl, sym, ap, subst, ◌∙◌, inl, inr, arith}
 use Rattle.std.specs.Prelude.{IsTrue, slice_index, slice_get}
 use Rattle.btf_raw.specs.{Header.HasNulEnds, Names.NameAt, Kinds.item_words, Kinds.has_item_names}
 use Rattle.btf_raw.specs.Frames.{IsFrame, kind, vlen, flag}
@@ -7,23 +7,14 @@ use Rattle.btf_types.specs.{judge.Checks.TypeFacts, judge.RecordFaults.IsFaultle
 use Rattle.btf_types.specs.Reading.{text_from, item_from, item_of, item_total, record_of}
 use Rattle.btf_types.proofs.KindCases.{KindIs, IsStruct, IsUnion, IsEnum, IsFuncProto, IsEnum64}
 use Rattle.btf_types.proofs.FaultlessLemmas.FaultlessWords.{known, room, item_ends, item_name_is}
-use Rattle.btf_types.proofs.{TableLemmas.TextSteps.decided, Lists.get-tabulate, FaultlessLemmas.FaultlessItems.listed}
-
-some_words : {k : ℕ} → KindIs k → IsTrue (has_item_names k) → 0 < item_words k
-unfolding has_item_names item_words
-some_words IsStruct h = lit< tt
-some_words IsUnion h = lit< tt
-some_words IsEnum h = lit< tt
-some_words IsFuncProto h = lit< tt
-some_words IsEnum64 h = lit< tt
-some_words other h = absurd cc
+use Rattle.btf_types.proofs.{JudgeLemmas.RoleSteps.named_words, TableLemmas.TextSteps.decided, Lists.get-tabulate, FaultlessLemmas.FaultlessItems.listed}
 
 pub item_names_there : (strings : List ℕ) (types : List TypeFacts) (frame : List ℕ) → HasNulEnds strings → IsFrame frame → IsFaultless strings types frame
     → (k : ℕ) → k < item_total frame → IsTrue (has_item_names (kind frame))
     → NameAt strings (slice_index frame (3 + item_words (kind frame) * k)) (text_from strings (slice_index frame (3 + item_words (kind frame) * k)))
 item_names_there strings types frame ends is none k low has =
     let inside = listed (kind frame) k (vlen frame) low in
-    let end = item_ends (item_words (kind frame)) k (vlen frame) 0 inside (some_words (known frame is) has) in
+    let end = item_ends (item_words (kind frame)) k (vlen frame) 0 inside (named_words (kind frame) has) in
     item_name_is strings types frame ends is none k has inside (omega (arith, room frame is, end))
 
 -- an item of a kind whose items have no names is read without one

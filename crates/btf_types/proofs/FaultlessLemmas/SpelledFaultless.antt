@@ -18,8 +18,9 @@ use Rattle.btf_types.specs.judge.Checks.{TypeFacts, size_fits, bits_fit, compone
 use Rattle.btf_types.specs.Good as good
 use Rattle.btf_types.specs.Good.{HeadIsGood, ItemOf, head_targets, item_targets, has_width, has_bit_fields, TargetIsGood, MemberIsGood, IsGoodRecord, facts_of}
 use Rattle.btf_types.specs.judge.FieldFaults.{IsNameField, IsTypeField, IsMemberWord, HasBitFields, int_unused, int_encoding, int_offset, int_bits, frame_facts, WordFault}
-use Rattle.std.proofs.lemmas.Bool.Decides.{eqb_tells}
+use Rattle.std.proofs.lemmas.Bool.{ne_eqb}
 use Rattle.btf_types.proofs.{KindCases.one_among, Spelled.vlen_from, Spelled.no_items, Members.Has-get_or, Members.any_from_Has}
+use Rattle.btf_types.proofs.JudgeLemmas.RoleSteps.{named_words, struct_size, datasec_size}
 use Rattle.btf_types.proofs.{Spelled.IsNumbers, Spelled.numbers, Denoting.tail_word}
 use Rattle.btf_types.proofs.SpelledItems.{nothing, ItemFits, item_fits}
 
@@ -157,10 +158,6 @@ word_reads : (its_flag offset its_width word : ℕ) → MemberWord its_flag offs
 word_reads its_flag offset its_width word (inl p) = record { offset_is = rw p.0 p.2; width_is = rw p.0 (sym p.1) }
 word_reads its_flag offset its_width word (inr p) = record { offset_is = rw (p.0, p.2) (omega (arith, p.1)); width_is = rw (p.0, p.2) (omega (arith, p.1)) }
 
-not_zero : (w : ℕ) → w ≢ 0 → not (w == 0) ≡ true
-not_zero zero some = absurd (some refl)
-not_zero (suc w) some = elim (eqb_tells (suc w) 0) [ inl p ↦ absurd (omega (arith, p.1)) | inr p ↦ ap not p.0 ]
-
 member_words : (types : List TypeFacts) (size : ℕ) (bit_fields : Bool) (strings : List ℕ) (its_flag : ℕ) (n : List ℕ) (t o w : ℕ) (ws : List ℕ)
     → ItemSpells strings its_flag (Member n t o w) ws → MemberIsGood types size bit_fields (Member n t o w) → MemberSays types size bit_fields its_flag (Member n t o w) ws
 member_words types size bit_fields strings its_flag n t o w ws s right =
@@ -168,7 +165,7 @@ member_words types size bit_fields strings its_flag n t o w ws s right =
     record {
       fits = rw (s.4, reads.offset_is, reads.width_is) right.0;
       int = λ has. rw s.4 (right.1 has).1;
-      wide = λ some. not_zero w (λ e. some (rw (s.4, reads.width_is) e));
+      wide = λ some. ap not (ne_eqb w 0 (λ e. some (rw (s.4, reads.width_is) e)));
     }
 
 member_says : (types : List TypeFacts) (size : ℕ) (bit_fields : Bool) (strings : List ℕ) (its_flag : ℕ) (h : TypeHead) (x : TypeItem) (ws : List ℕ)
@@ -182,21 +179,9 @@ member_says types size bit_fields strings its_flag (KEnum64 name signed s) (Valu
 member_says types size bit_fields strings its_flag h x ws of spells has right = absurd of
 
 -- kinds whose records have items
-words_of_named : (k : ℕ) → IsTrue (has_item_names k) → 0 < item_words k
-unfolding has_item_names item_words
-words_of_named k has = one_among (λ m. 0 < (if one_of (STRUCT ∷ UNION ∷ DATASEC ∷ ENUM64 ∷ []) m then 3 else if one_of (ENUM ∷ FUNC_PROTO ∷ []) m then 2 else 0)) (STRUCT ∷ UNION ∷ ENUM ∷ FUNC_PROTO ∷ ENUM64 ∷ []) k (lit< tt, (lit< tt, (lit< tt, (lit< tt, (lit< tt, tt))))) has
-
 words_of_typed : (k : ℕ) → IsTrue (one_of (STRUCT ∷ UNION ∷ FUNC_PROTO ∷ []) k) → 1 < item_words k
 unfolding item_words
 words_of_typed k has = one_among (λ m. 1 < (if one_of (STRUCT ∷ UNION ∷ DATASEC ∷ ENUM64 ∷ []) m then 3 else if one_of (ENUM ∷ FUNC_PROTO ∷ []) m then 2 else 0)) (STRUCT ∷ UNION ∷ FUNC_PROTO ∷ []) k (lit< tt, (lit< tt, (lit< tt, tt))) has
-
-words_of_struct : (k : ℕ) → IsTrue (is_struct k) → 2 < item_words k
-unfolding item_words
-words_of_struct k has = one_among (λ m. 2 < (if one_of (STRUCT ∷ UNION ∷ DATASEC ∷ ENUM64 ∷ []) m then 3 else if one_of (ENUM ∷ FUNC_PROTO ∷ []) m then 2 else 0)) (STRUCT ∷ UNION ∷ []) k (lit< tt, (lit< tt, tt)) has
-
-words_of_section : (k : ℕ) → k ≡ DATASEC → 0 < item_words k
-unfolding item_words
-words_of_section k e = rw e (lit< tt)
 
 -- a name at an offset has neither NameRange nor NameUtf8
 name_inside : (strings : List ℕ) (offset : ℕ) (x : List ℕ) → NameAt strings offset x → ¬ (length strings ≤ offset)
@@ -219,7 +204,7 @@ module _ (strings : List ℕ) (types : List TypeFacts) (r : TypeRecord) (f : Lis
   field_name : (m j : ℕ) → IsNameField f m j → (x : List ℕ) × NameAt strings (slice_index f j) x
   field_name zero j at = (head_name r.head, subst (λ (k : ℕ). NameAt strings (slice_index f k) (head_name r.head)) (sym at) own_name)
   field_name (suc i) j at =
-      let some = words_of_named (kind f) at.0 in
+      let some = named_words (kind f) at.0 in
       let it = is_there i some at.1.0 in
       let word : slice_index f j ≡ get_or (get_or s.item_words i []) 0 0 = ap (λ (k : ℕ). slice_index f k) at.1.1 ∙ it.words 0 some in
       (item_name (get_or r.items i nothing), rw word ((item_says (λ t. ⊤) strings (flag f) r.head (get_or r.items i nothing) (get_or s.item_words i []) it.of it.spells).name (rw n.kind at at.0)))
@@ -245,7 +230,7 @@ module _ (strings : List ℕ) (types : List TypeFacts) (r : TypeRecord) (f : Lis
       let word : slice_index f j ≡ get_or (get_or s.item_words item.1 []) 1 0 = ap (λ (k : ℕ). slice_index f k) item.2.1 ∙ it.words 1 some in
       rw word ((item_says Target strings (flag f) r.head (get_or r.items item.1 nothing) (get_or s.item_words item.1 []) it.of it.spells).target (rw n.kind at item.0) (right.item_targets item.1 nothing it.inside))
   field_type j (inr (inr (inr entry))) =
-      let some = words_of_section (kind f) entry.0 in
+      let some : 0 < item_words (kind f) = omega (arith, datasec_size (kind f) entry.0) in
       let it = is_there entry.1 some entry.2.0 in
       let word : slice_index f j ≡ get_or (get_or s.item_words entry.1 []) 0 0 = ap (λ (k : ℕ). slice_index f k) entry.2.1 ∙ it.words 0 some in
       rw word ((item_says Target strings (flag f) r.head (get_or r.items entry.1 nothing) (get_or s.item_words entry.1 []) it.of it.spells).entry (sym n.kind ∙ entry.0) (right.item_targets entry.1 nothing it.inside))
@@ -253,13 +238,13 @@ module _ (strings : List ℕ) (types : List TypeFacts) (r : TypeRecord) (f : Lis
   -- the members
   member_at : (m j : ℕ) (at : IsMemberWord f m j) → MemberSays types (head_third r.head) (has_bit_fields r) (flag f) (get_or r.items at.1 nothing) (get_or s.item_words at.1 [])
   member_at m j at =
-      let some = words_of_struct (kind f) at.0 in
+      let some = struct_size (kind f) at.0 in
       let it = is_there at.1 (omega arith) at.2.0 in
       member_says types (head_third r.head) (has_bit_fields r) strings (flag f) r.head (get_or r.items at.1 nothing) (get_or s.item_words at.1 []) it.of it.spells (rw n.kind at at.0) (right.members at.1 nothing it.inside)
 
   member_word_is : (m j : ℕ) (at : IsMemberWord f m j) → m < 3 → slice_index f j ≡ get_or (get_or s.item_words at.1 []) m 0
   member_word_is m j at low =
-      let some = words_of_struct (kind f) at.0 in
+      let some = struct_size (kind f) at.0 in
       let it = is_there at.1 (omega arith) at.2.0 in
       ap (λ (k : ℕ). slice_index f k) at.2.1 ∙ it.words m (omega arith)
 
@@ -267,7 +252,7 @@ module _ (strings : List ℕ) (types : List TypeFacts) (r : TypeRecord) (f : Lis
   bit_fields_are has =
       let says = member_at 2 has.0 has.1 in
       let word = member_word_is 2 has.0 has.1 (lit< tt) in
-      let it = is_there has.1.1 (let some = words_of_struct (kind f) has.1.0 in omega arith) has.1.2.0 in
+      let it = is_there has.1.1 (let some = struct_size (kind f) has.1.0 in omega arith) has.1.2.0 in
       any_from_Has has_width r.items (get_or r.items has.1.1 nothing) (Has-get_or r.items has.1.1 nothing it.inside) (says.wide (λ e. has.2 (rw word e)))
 
   pub spelled_faultless : (j : ℕ) (c : BtfCause) → ¬ WordFault strings types f j c

@@ -30,6 +30,9 @@ item_size κ h =
     one_among (λ k. TwoOrThree (item_words k)) (STRUCT ∷ UNION ∷ ENUM ∷ FUNC_PROTO ∷ ENUM64 ∷ []) κ
     (inr refl, (inr refl, (inl refl, (inl refl, (inr refl, tt))))) h
 
+pub named_words : (κ : ℕ) → IsTrue (has_item_names κ) → 0 < item_words κ
+named_words κ h = elim (item_size κ h) [ inl two ↦ omega arith | inr three ↦ omega arith ]
+
 pub struct_fixed : (κ : ℕ) → IsTrue (is_struct κ) → fixed_words κ ≡ 0
 unfolding fixed_words
 struct_fixed κ h = one_among (λ k. fixed_words k ≡ 0) (STRUCT ∷ UNION ∷ []) κ (refl, (refl, tt)) h
