@@ -107,11 +107,12 @@ module _ (strings : List ℕ) (frames : List (List ℕ)) (ends : HasNulEnds stri
   component_low id c named fits =
       let own = type_count_below frames id in
       let proto = type_count_below frames (type_at types id).target in
-      let member : (k : ℕ) → IsTrue (is_struct k) → (type_at types id).kind ≡ k → c < 2 ^ 16 = λ k is e. let opened = rw (e, is) at fits in omega (arith, ltb-true c _ opened) in
-      let parameter : (type_at types id).kind ≡ FUNC → c < 2 ^ 16 = λ e. let opened = rw (e, func_names id e) at fits in omega (arith, ltb-true c _ opened) in
-      let none : (k : ℕ) → IsTrue (one_of (VAR ∷ TYPEDEF ∷ []) k) → (type_at types id).kind ≡ k → c < 2 ^ 16 = λ k is e. let opened = rw e at fits in one_among (λ m. k ≡ m → c < 2 ^ 16) (VAR ∷ TYPEDEF ∷ []) k ((λ v. let more = rw v at opened in absurd cc), ((λ v. let more = rw v at opened in absurd cc), tt)) is refl in
+      let member : (k : ℕ) → IsTrue (is_struct k) → (type_at types id).kind ≡ k → c < 2 ^ 16 =
+      λ k is e. let opened = rw (e, is) at fits in omega (arith, ltb-true c _ opened) in
+      let parameter : (type_at types id).kind ≡ FUNC → c < 2 ^ 16 =
+      λ e. let opened = rw (e, func_names id e) at fits in omega (arith, ltb-true c _ opened) in
       one_among (λ k. (type_at types id).kind ≡ k → c < 2 ^ 16) (STRUCT ∷ UNION ∷ FUNC ∷ VAR ∷ TYPEDEF ∷ []) ((type_at types id).kind)
-      (member STRUCT refl, (member UNION refl, (parameter, (none VAR refl, (none TYPEDEF refl, tt))))) named refl
+      (member STRUCT refl, (member UNION refl, (parameter, ((λ e. let opened = rw e at fits in absurd cc), ((λ e. let opened = rw e at fits in absurd cc), tt))))) named refl
 
   low_of_word : (id w : ℕ) → one_of (STRUCT ∷ UNION ∷ FUNC ∷ VAR ∷ TYPEDEF ∷ []) ((type_at types id).kind) ≡ true → IfSome (component_of w) (λ c. IsTrue (component_fits types id c)) → IfSome (component_of w) (λ c. c < 2 ^ 16)
   low_of_word id w named = split (w == 0xffffffff)

@@ -1,12 +1,12 @@
 -- The hosts of strings are those of the longest of them: each string is a suffix of one of these.
-use Rattle.std.proofs.Common.{◌≡◌, ℕ, ◌<◌, Bool, true, false, not, inl, inr, List, [], ◌∷◌, length, refl, sym, ap, ◌∙◌, subst, arith}
+use Rattle.std.proofs.Common.{◌≡◌, ℕ, ◌<◌, Bool, true, not, inl, inr, List, [], ◌∷◌, length, refl, sym, ap, ◌∙◌, subst, arith}
 use Rattle.std.specs.{List.filter, List.list_any, Str.bytes_eq}
 use Rattle.std.proofs.lemmas.Bool.{both_ways, cases_Bool, false_from_ne_true}
 use Rattle.btf_types.specs.Names.{kept, is_some_text, distinct}
 use Rattle.btf_types.specs.strings.SharedNames.{is_suffix, is_proper_suffix, hosts_of, hosts, host_in, least_by_tail}
 use Rattle.btf_types.specs.strings.LongestTexts.{AreLongest, LongestHaveHosts, HostsByFirstUse, LongestHaveHost}
 use Rattle.btf_types.proofs.Members.{Has, Has-filter, Has-from_filter, any_from_Has, Has_from_any, Has-from_Contains, Contains-from_Has}
-use Rattle.btf_types.proofs.StringLemmas.Texts.{same_text, bytes_eq-same, Has-kept, Has-from_kept}
+use Rattle.btf_types.proofs.StringLemmas.Texts.{same_tests, same_text, bytes_eq-same, Has-kept, Has-from_kept}
 use Rattle.btf_types.proofs.StringLemmas.Suffixes.{Ends, Ends-length, Ends-from_suffix, Ends-trans, Ends-from_proper, proper_from_Ends}
 use Rattle.btf_types.proofs.StringLemmas.{Hosts.least_is, Hosts.host_ends_none, Hosts.host_member, TailOrder.tail_tie}
 
@@ -43,11 +43,6 @@ host_in_same hs gs x f g = least_same (filter (is_suffix x) hs) (filter (is_suff
 filter_same : (p q : List ℕ → Bool) (xs : List (List ℕ)) → ((x : List ℕ) → Has xs x → p x ≡ q x) → filter p xs ≡ filter q xs
 filter_same p q [] e = refl
 filter_same p q (x ∷ xs) e = rw (e x (inl refl), filter_same p q xs (λ y i. e y (inr i))) refl
-
-same_tests : (a b : Bool) → (a ≡ true → b ≡ true) → (b ≡ true → a ≡ true) → a ≡ b
-same_tests true b f g = sym (f refl)
-same_tests false true f g = g refl
-same_tests false false f g = refl
 
 module _ (xs longest : List (List ℕ)) (are : AreLongest xs longest) where
   among : (z : List ℕ) → Has longest z → Has xs z

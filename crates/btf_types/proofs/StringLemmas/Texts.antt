@@ -1,5 +1,5 @@
 -- Strings and their NUL, equal strings, and the table of a list of strings.
-use Rattle.std.proofs.Common.{◌≡◌, ℕ, suc, ◌+◌, ◌<◌, Bool, true, not, inl, inr, List, [], ◌∷◌, ◌++◌, length, get_or, refl, sym, ap, ◌∙◌, arith, append_assoc}
+use Rattle.std.proofs.Common.{◌≡◌, ℕ, suc, ◌+◌, ◌<◌, Bool, true, false, not, inl, inr, List, [], ◌∷◌, ◌++◌, length, get_or, refl, sym, ap, ◌∙◌, arith, append_assoc}
 use Rattle.std.specs.{List.flat_map, List.position_or_len, List.before_first, List.after_first, Str.bytes_eq}
 use Rattle.std.proofs.lemmas.{Bool.cond_both, Bool.cond-false, Bool.not_from_true, Bool.cases_Bool, Slice.Eq.bytes_eq-Decides}
 use Rattle.std.proofs.lemmas.List.{length-append, Sums.split_at_first, Sums.passes_at_first, Concat.flat_map-append}
@@ -12,6 +12,12 @@ same_text x y = (bytes_eq-Decides x y).0
 
 pub bytes_eq-same : (x : List ℕ) → bytes_eq x x ≡ true
 bytes_eq-same x = (bytes_eq-Decides x x).1 refl
+
+-- tests that pass together are equal
+pub same_tests : (a b : Bool) → (a ≡ true → b ≡ true) → (b ≡ true → a ≡ true) → a ≡ b
+same_tests true b f g = sym (f refl)
+same_tests false true f g = g refl
+same_tests false false f g = refl
 
 -- the first index at which a test passes is within the list, and the test passes there
 pub position_below : {X : Type 0} (p : X → Bool) (xs : List X) (x : X) → Has xs x → p x ≡ true → position_or_len p xs < length xs

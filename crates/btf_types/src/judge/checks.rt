@@ -123,5 +123,7 @@ pub fn member_place_fault(size: u32, bit_offset: u32, width: u8) -> Option<BtfCa
 pub fn linkage_fault(word: u32) -> Option<BtfCause>
     ensures { spec.IsLeastOf (LinkageFault word) result }
 {
-    Linkage::from_number(word).is_none().then_some(BtfCause::Linkage)
+    Linkage::from_number(word)
+        .is_none()
+        .then_some(BtfCause::Linkage)
 }

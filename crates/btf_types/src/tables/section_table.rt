@@ -133,7 +133,11 @@ impl<'a> SectionTable<'a> {
     fn item_total(&self, id: u32) -> u32
         ensures { result ≡ length (items_of self.now id) }
     {
-        if id == 0 || id > self.count() { 0 } else { self.item_count(id) }
+        if id == 0 || id > self.count() {
+            0
+        } else {
+            self.item_count(id)
+        }
     }
 
     /// An iterator over the items of the type with the ID `id`; empty if the table lacks this
