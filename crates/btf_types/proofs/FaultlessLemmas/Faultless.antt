@@ -1,8 +1,8 @@
 -- Frames without fault spell the records that they read as, and these records are good.
-use Rattle.std.proofs.Common.{◌≡◌, ◌≢◌, ℕ, zero, suc, ◌-◌, ◌^◌, ◌<◌, ◌≤◌, Bool, true, false, Some, None, List, [], ◌∷◌, length, get_or, map, refl, sym, ap, subst, ◌∙◌, inl, lit<, arith}
+use Rattle.std.proofs.Common.{◌≡◌, ◌≢◌, ◌⊎◌, inr, ℕ, zero, suc, ◌-◌, ◌^◌, ◌<◌, ◌≤◌, Bool, true, false, Some, None, List, [], ◌∷◌, length, get_or, map, refl, sym, ap, subst, ◌∙◌, inl, lit<, arith}
 use Rattle.std.specs.Prelude.{IsTrue, IfSome, slice_index, slice_get, unwrap_or, ◌==◌, if◌then◌else◌}
 use Rattle.std.specs.List.{All, AllZip, sum_by}
-use Rattle.std.proofs.lemmas.{Bool.eqb-true, Bool.ltb-true, Option.slice_get-get_or}
+use Rattle.std.proofs.{Math.Dec.eqb-suc-zero, lemmas.Bool.eqb-true, lemmas.Bool.ltb-true, lemmas.Option.slice_get-get_or}
 use Rattle.std.proofs.lemmas.List.{length-append, Elements.All-nil, Elements.All-cons, Elements.All-head, Elements.All-tail, Sums.sum_by-cons}
 use Rattle.bpf_words.specs.declared.Order.{Order}
 use Rattle.btf_raw.specs.KindNumbers.{STRUCT, UNION, FUNC, FUNC_PROTO, VAR, TYPEDEF, DECL_TAG}
@@ -27,19 +27,7 @@ count_below frame = split (kind frame == FUNC)
     split true = lit< tt
     split false = omega arith
 
-counts_below : (frames : List (List ℕ)) (k : ℕ) → (unwrap_or (slice_get (map frame_facts frames) k) no_type).count < 2 ^ 16
-counts_below [] k = lit< tt
-counts_below (f ∷ frames) zero = count_below f
-counts_below (f ∷ frames) (suc k) = counts_below frames k
-
-pub type_count_below : (frames : List (List ℕ)) (id : ℕ) → (type_at (map frame_facts frames) id).count < 2 ^ 16
-type_count_below frames id = split (id == 0)
-  where
-    split : (b : Bool) → (if b then no_type else unwrap_or (slice_get (map frame_facts frames) (id - 1)) no_type).count < 2 ^ 16
-    split true = lit< tt
-    split false = counts_below frames (id - 1)
-
--- a type that has a kind is one of the frames
+-- a type is one of the frames, or has no kind
 pub record IsTypeOf (frames : List (List ℕ)) (t : TypeFacts) : Type 0 where
   pub index : ℕ
   pub frame : List ℕ
@@ -47,20 +35,25 @@ pub record IsTypeOf (frames : List (List ℕ)) (t : TypeFacts) : Type 0 where
   pub there : get_or frames index frame ≡ frame
   pub is : t ≡ frame_facts frame
 
-found : (frames : List (List ℕ)) (k : ℕ) → (unwrap_or (slice_get (map frame_facts frames) k) no_type).kind ≢ 0 → IsTypeOf frames (unwrap_or (slice_get (map frame_facts frames) k) no_type)
-found [] k some = absurd (some refl)
-found (f ∷ frames) zero some = record { index = 0; frame = f; inside = omega arith; there = refl; is = refl }
-found (f ∷ frames) (suc k) some =
-    let rest = found frames k some in
-    let low = rest.inside in
-    record { index = suc rest.index; frame = rest.frame; inside = omega arith; there = rest.there; is = rest.is }
+found : (frames : List (List ℕ)) (k : ℕ) → (unwrap_or (slice_get (map frame_facts frames) k) no_type ≡ no_type) ⊎ IsTypeOf frames (unwrap_or (slice_get (map frame_facts frames) k) no_type)
+found [] k = inl refl
+found (f ∷ frames) zero = inr (record { index = 0; frame = f; inside = omega arith; there = refl; is = refl })
+found (f ∷ frames) (suc k) = elim (found frames k) [
+  | inl none ↦ inl none
+  | inr rest ↦
+      let low = rest.inside in
+      inr (record { index = suc rest.index; frame = rest.frame; inside = omega arith; there = rest.there; is = rest.is })
+]
 
-pub type_found : (frames : List (List ℕ)) (id : ℕ) → (type_at (map frame_facts frames) id).kind ≢ 0 → IsTypeOf frames (type_at (map frame_facts frames) id)
-type_found frames id = split (id == 0)
-  where
-    split : (b : Bool) → (if b then no_type else unwrap_or (slice_get (map frame_facts frames) (id - 1)) no_type).kind ≢ 0 → IsTypeOf frames (if b then no_type else unwrap_or (slice_get (map frame_facts frames) (id - 1)) no_type)
-    split true some = absurd (some refl)
-    split false some = found frames (id - 1) some
+type_or_none : (frames : List (List ℕ)) (id : ℕ) → (type_at (map frame_facts frames) id ≡ no_type) ⊎ IsTypeOf frames (type_at (map frame_facts frames) id)
+type_or_none frames zero = inl refl
+type_or_none frames (suc i) = let at : suc i - 1 ≡ i = omega arith in rw (eqb-suc-zero i, at) (found frames i)
+
+type_count_below : (frames : List (List ℕ)) (id : ℕ) → (type_at (map frame_facts frames) id).count < 2 ^ 16
+type_count_below frames id = elim (type_or_none frames id) [ inl none ↦ rw none (lit< tt) | inr of ↦ rw of.is (count_below of.frame) ]
+
+type_found : (frames : List (List ℕ)) (id : ℕ) → (type_at (map frame_facts frames) id).kind ≢ 0 → IsTypeOf frames (type_at (map frame_facts frames) id)
+type_found frames id some = elim (type_or_none frames id) [ inl none ↦ absurd (some (ap (λ (t : TypeFacts). t.kind) none)) | inr of ↦ of ]
 
 -- a FUNC that is right names a FUNC_PROTO
 func_fits : (kind' target : ℕ) → kind' ≡ FUNC → IsTrue (target_fits kind' target) → target ≡ FUNC_PROTO

@@ -106,4 +106,5 @@ first_framing_fault o types places pos place cause so least =
           least.least q d (other.offset, subst (λ (b : List ℕ). RecordFault o b other.offset d) (sym same.rest) other.fault, other.place_is ∙ rw (← same.frames, before) refl);
     }
 
+-- what the search cites of the words of a frame
 pub ruleset words_of_frame = (frame_word, length-frame_at)

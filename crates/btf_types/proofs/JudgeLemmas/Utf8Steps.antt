@@ -1,6 +1,7 @@
 -- Strings that are UTF-8.
 use Rattle.std.proofs.Common.{◌≡◌, ℕ, ◌+◌, ◌-◌, ◌<◌, ◌≤◌, Bool, true, List, [], ◌∷◌, ◌++◌, length, get_or, take, drop, refl, sym, ap, subst, ◌∙◌, inl, inr, append_assoc, length-append, take-append-drop, arith}
 use Rattle.std.specs.Prelude.{◌≢◌, ◌↔◌, IsUtf8, IsCharBoundary, MatchResult, Result, Ok, Err, is_ok, slice_index}
+use Rattle.std.proofs.Math.Seq.{get_or-append_seam, take-append_seam}
 use Rattle.std.proofs.lemmas.{Bool.cases_lt, List.length-drop, List.length-take-le, List.get_or-drop, List.get_or_append_left, List.take-append-le}
 use Rattle.std.proofs.lemmas.Str.{IsUtf8-append, IsUtf8-take, IsUtf8-drop, IsUtf8-between, IsCharBoundary-start, IsCharBoundary-before_ascii}
 use Rattle.btf_raw.specs.Names.{TextAt}
@@ -27,11 +28,7 @@ pub byte_of_text : (s : List ℕ) (at : ℕ) (text : List ℕ) (t : TextAt s at 
 byte_of_text s at text t i = sym (get_or-drop at s i 0) ∙ ap (λ (x : List ℕ). get_or x i 0) (text_after s at text t)
 
 pub end_of_text : (s : List ℕ) (at : ℕ) (text : List ℕ) → TextAt s at text → get_or s (at + length text) 0 ≡ 0
-end_of_text s at text t = byte_of_text s at text t (length text) ∙ seam text
-  where
-    seam : (x : List ℕ) → get_or (x ++ 0 ∷ t.after) (length x) 0 ≡ 0
-    seam [] = refl
-    seam (c ∷ x) = seam x
+end_of_text s at text t = byte_of_text s at text t (length text) ∙ get_or-append_seam text 0 t.after 0
 
 -- an empty string, by its byte
 pub empty_byte : (s : List ℕ) (at : ℕ) → TextAt s at [] → slice_index s at ≡ 0
@@ -62,11 +59,7 @@ begins_with_char s at text t utf8 high = elim (cases_lt 0 (length text)) [
 -- ---- a section, all of which is UTF-8
 
 text_is_part : (s : List ℕ) (at : ℕ) (text : List ℕ) → TextAt s at text → take (length text) (drop at s) ≡ text
-text_is_part s at text t = ap (λ (x : List ℕ). take (length text) x) (text_after s at text t) ∙ front text
-  where
-    front : (x : List ℕ) → take (length x) (x ++ 0 ∷ t.after) ≡ x
-    front [] = refl
-    front (c ∷ x) = ap (λ (y : List ℕ). c ∷ y) (front x)
+text_is_part s at text t = ap (λ (x : List ℕ). take (length text) x) (text_after s at text t) ∙ take-append_seam text (0 ∷ t.after)
 
 pub whole_text : (s : List ℕ) (at : ℕ) (text : List ℕ) → IsUtf8 s → TextAt s at text → BeginsChar (slice_index s at) ↔ IsUtf8 text
 whole_text s at text u t = (there, back)

@@ -48,4 +48,5 @@ module _ (s : SectionWords) (f : List ℕ) where
       let end = length f in
       first_of_record found.0 found.1 (first_after 0 3 end end found.0 found.1 (omega arith) (omega arith) header tail)
 
+-- what the search cites of the first faulty field
 pub ruleset first_of_words = (first_after, first_of_record, tail_of_record)

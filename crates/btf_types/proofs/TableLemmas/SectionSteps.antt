@@ -66,4 +66,5 @@ type_is s (suc i) good some few =
     let e : suc i - 1 ≡ i = omega arith in
     rw (e, eqb-suc-zero i, facts_get s good i (omega arith)) refl
 
+-- what the search cites of a type of a section
 pub ruleset types_of_section = (has_frame, type_is)

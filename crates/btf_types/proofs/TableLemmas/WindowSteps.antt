@@ -73,8 +73,11 @@ pub items_of_record : (v : List TypeRecord) (id : ℕ) → 0 < id → items_of v
 items_of_record v zero h = absurd (omega (arith, h))
 items_of_record v (suc i) h = let at : suc i - 1 ≡ i = omega arith in rw at refl
 
+-- what the search cites of the items that are left
 pub ruleset item_windows = (window_first, window_back, window_length, window_empty, items_there, items_of_record)
 
+-- what the search cites of the records that are left
 pub ruleset record_windows = (first_numbered, window_back, window_length, window_empty, length-numbered, numbered_at)
 
+-- and of all records
 pub ruleset all_records = (window_whole, length-numbered)
