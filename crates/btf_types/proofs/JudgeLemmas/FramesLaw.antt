@@ -22,7 +22,13 @@ info_judged info = elim (cases_eq (unused_of info) 0) [
   | inr some ↦ inr (record { cause = InfoBits; fault = some })
   | inl unused ↦ elim (decided (is_kind (kind_of info))) [
     | inr unknown ↦ inr (record { cause = KindNumber; fault = unknown })
-    | inl known ↦ flag_judged unused known (zero_or (flag_of info) (has_flag (kind_of info)))
+    | inl known ↦ elim (zero_or (flag_of info) (has_flag (kind_of info))) [
+      | inr against ↦ inr (record { cause = FlagSet; fault = (known, against.0, against.1) })
+      | inl flag ↦ elim (zero_or (vlen_of info) (has_vlen (kind_of info))) [
+        | inr against ↦ inr (record { cause = Vlen; fault = (known, against.0, against.1) })
+        | inl vlen ↦ inl (record { unused = unused; kind = known; flag = flag; vlen = vlen })
+      ]
+    ]
   ]
 ]
   where
@@ -31,16 +37,6 @@ info_judged info = elim (cases_eq (unused_of info) 0) [
       | inl none ↦ inl (inl none)
       | inr some ↦ elim (decided has) [ inl may ↦ inl (inr may) | inr not ↦ inr (some, not) ]
     ]
-
-    vlen_judged : unused_of info ≡ 0 → IsTrue (is_kind (kind_of info)) → (flag_of info ≡ 0) ⊎ IsTrue (has_flag (kind_of info))
-        → ((vlen_of info ≡ 0) ⊎ IsTrue (has_vlen (kind_of info))) ⊎ ((vlen_of info ≢ 0) × IsFalse (has_vlen (kind_of info))) → IsAllowed info ⊎ AgainstInfo info
-    vlen_judged unused known flag (inl vlen) = inl (record { unused = unused; kind = known; flag = flag; vlen = vlen })
-    vlen_judged unused known flag (inr against) = inr (record { cause = Vlen; fault = (known, against.0, against.1) })
-
-    flag_judged : unused_of info ≡ 0 → IsTrue (is_kind (kind_of info))
-        → ((flag_of info ≡ 0) ⊎ IsTrue (has_flag (kind_of info))) ⊎ ((flag_of info ≢ 0) × IsFalse (has_flag (kind_of info))) → IsAllowed info ⊎ AgainstInfo info
-    flag_judged unused known (inl flag) = vlen_judged unused known flag (zero_or (vlen_of info) (has_vlen (kind_of info)))
-    flag_judged unused known (inr against) = inr (record { cause = FlagSet; fault = (known, against.0, against.1) })
 
 info_to_record : (o : Order) (rest : List ℕ) (cause : BtfCause) → 8 ≤ length rest → InfoFault (word32_at o rest 4) cause → RecordFault o rest 4 cause
 info_to_record o rest RecordCut long fault = absurd fault
