@@ -55,23 +55,6 @@ type_count_below frames id = elim (type_or_none frames id) [ inl none ↦ rw non
 type_found : (frames : List (List ℕ)) (id : ℕ) → (type_at (map frame_facts frames) id).kind ≢ 0 → IsTypeOf frames (type_at (map frame_facts frames) id)
 type_found frames id some = elim (type_or_none frames id) [ inl none ↦ absurd (some (ap (λ (t : TypeFacts). t.kind) none)) | inr of ↦ of ]
 
--- a FUNC that is right names a FUNC_PROTO
-func_fits : (kind' target : ℕ) → kind' ≡ FUNC → IsTrue (target_fits kind' target) → target ≡ FUNC_PROTO
-unfolding target_fits
-func_fits kind' target e fits = eqb-true target FUNC_PROTO (rw e at fits)
-
-tag_fits : (kind' target : ℕ) → kind' ≡ DECL_TAG → IsTrue (target_fits kind' target) → one_of (STRUCT ∷ UNION ∷ FUNC ∷ VAR ∷ TYPEDEF ∷ []) target ≡ true
-unfolding target_fits
-tag_fits kind' target e fits = rw e at fits
-
-func_has_target : (k : ℕ) → k ≡ FUNC → IsTrue (has_target k)
-unfolding has_target
-func_has_target k e = rw e refl
-
-tag_has_target : (k : ℕ) → k ≡ DECL_TAG → IsTrue (has_target k)
-unfolding has_target
-tag_has_target k e = rw e refl
-
 -- ---- the frames of a section
 
 module _ (strings : List ℕ) (frames : List (List ℕ)) (ends : HasNulEnds strings) (each : All IsFrame frames) (none : HasNone (FieldFault strings frames)) where
@@ -83,13 +66,14 @@ module _ (strings : List ℕ) (frames : List (List ℕ)) (ends : HasNulEnds stri
 
   -- a FUNC among the types names a FUNC_PROTO
   its_target : (t : TypeFacts) → IsTypeOf frames t → t.kind ≡ FUNC → (type_at types t.target).kind ≡ FUNC_PROTO
+  unfolding has_target target_fits
   its_target t of e =
       let g = of.frame in
       let is : IsFrame g = subst (λ (h : List ℕ). IsFrame h) of.there (each of.index g of.inside) in
       let is_there : slice_get frames of.index ≡ Some g = slice_get-get_or frames of.index g of.inside ∙ ap (λ (h : List ℕ). Some h) of.there in
       let func : kind g ≡ FUNC = ap (λ (u : TypeFacts). u.kind) (sym of.is) ∙ e in
-      let good = type_is strings types g ends is (faultless of.index g is_there) 2 (omega (arith, is.size)) (inl (func_has_target (kind g) func, refl)) in
-      ap (λ (u : TypeFacts). (type_at types u.target).kind) of.is ∙ func_fits (kind g) _ func good.fits
+      let good = type_is strings types g ends is (faultless of.index g is_there) 2 (omega (arith, is.size)) (inl (rw func refl, refl)) in
+      ap (λ (u : TypeFacts). (type_at types u.target).kind) of.is ∙ eqb-true _ FUNC_PROTO (rw func at good.fits)
 
   func_names : (id : ℕ) → (type_at types id).kind ≡ FUNC → (type_at types (type_at types id).target).kind ≡ FUNC_PROTO
   func_names id e = its_target (type_at types id) (type_found frames id (λ z. omega arith)) e
@@ -121,12 +105,13 @@ module _ (strings : List ℕ) (frames : List (List ℕ)) (ends : HasNulEnds stri
     component : kind f ≡ DECL_TAG → IfSome (component_of (slice_index f 3)) (λ c. c < 2 ^ 16)
 
   frame_right : (f : List ℕ) → IsFrame f → IsFaultless strings types f → IsRight f
+  unfolding has_target target_fits
   frame_right f is without = record {
     is_frame = is;
     no_fault = without;
     component = λ tag.
-        let target = type_is strings types f ends is without 2 (omega (arith, is.size)) (inl (tag_has_target (kind f) tag, refl)) in
-        low_of_word (third_word f) (slice_index f 3) (tag_fits (kind f) _ tag target.fits)
+        let target = type_is strings types f ends is without 2 (omega (arith, is.size)) (inl (rw tag refl, refl)) in
+        low_of_word (third_word f) (slice_index f 3) (rw tag at target.fits)
         (component_is strings types f ends is without tag);
   }
 
