@@ -1,6 +1,6 @@
 -- The largest numbers of tokens and operands of a line.
 use Rattle.std.proofs.Common.{◌≡◌, ℕ, suc, ◌+◌, ◌*◌, ◌<◌, ◌≤◌, Bool, true, false, cond, List, [], ◌∷◌, length, refl, sym, ap, ◌∙◌, arith}
-use Rattle.std.proofs.lemmas.List.{length-map}
+use Rattle.std.proofs.lemmas.{List.length-map, Slice.Zip.AllZip-long}
 use Rattle.std.specs.List.{AllZip, slice_split, onto_first}
 use Rattle.bpf_insn.specs.declared.insn.{WideOf.TheVariants.Number, Insn.Insn, Insn.TheVariants.Wide}
 use Rattle.bpf_text.specs.insn.Operands.{LineOperand, register, number, signed, memory, operand_kind, SpellsOperand, SpellsOperands, is_comma}
@@ -13,28 +13,14 @@ total (x ∷ xs) = length x + total xs
 
 -- a part has at most five tokens
 part_bound : (ts : List (List ℕ)) (a : LineOperand) → SpellsOperand ts a → length ts ≤ 5
-part_bound [] a h = omega arith
-part_bound (t ∷ []) a h = omega arith
-part_bound (t ∷ u ∷ []) a h = omega arith
-part_bound (t ∷ u ∷ v ∷ []) a h = omega arith
-part_bound (t ∷ u ∷ v ∷ w ∷ []) a h = omega arith
-part_bound (t ∷ u ∷ v ∷ w ∷ x ∷ []) a h = omega arith
 part_bound (t ∷ u ∷ v ∷ w ∷ x ∷ y ∷ more) (register r) h = absurd h
-part_bound (t ∷ u ∷ v ∷ w ∷ x ∷ y ∷ more) (number z) h = absurd h
-part_bound (t ∷ u ∷ v ∷ w ∷ x ∷ y ∷ more) (signed z) h = absurd h
-part_bound (t ∷ u ∷ v ∷ w ∷ x ∷ y ∷ more) (memory r z) h = absurd h
+part_bound (t ∷ u ∷ v ∷ w ∷ x ∷ y ∷ more) _ h = absurd h
+part_bound _ a h = omega arith
 
 parts_bound : (parts : List (List (List ℕ))) (xs : List LineOperand) → AllZip SpellsOperand parts xs → total parts ≤ 5 * length xs
 parts_bound [] [] h = omega arith
-parts_bound [] (x ∷ xs) h = absurd h
-parts_bound (p ∷ parts) [] h = absurd h
 parts_bound (p ∷ parts) (x ∷ xs) h = omega (arith, part_bound p x h.0, parts_bound parts xs h.1)
-
-pub zip_length : {A B : Type 0} (R : A → B → Type 0) (xs : List A) (ys : List B) → AllZip R xs ys → length xs ≡ length ys
-zip_length R [] [] h = refl
-zip_length R [] (y ∷ ys) h = absurd h
-zip_length R (x ∷ xs) [] h = absurd h
-zip_length R (x ∷ xs) (y ∷ ys) h = ap suc (zip_length R xs ys h.1)
+parts_bound _ _ h = absurd h
 
 -- splitting at commas drops only the commas
 onto_total : {X : Type 0} (x : X) (parts : List (List X)) → 0 < length parts → (total (onto_first x parts) ≡ total parts + 1) × (length (onto_first x parts) ≡ length parts)
@@ -58,7 +44,7 @@ split_total p (x ∷ xs) = by_test x xs (slice_split p xs) (split_total p xs) (p
 pub tokens_bound : (ts : List (List ℕ)) (xs : List LineOperand) → length xs ≤ 3 → SpellsOperands ts xs → length ts ≤ 17
 tokens_bound ts [] l h = omega (arith, ap length h)
 tokens_bound ts (x ∷ xs) l h =
-    omega (arith, (split_total is_comma ts).0, parts_bound (slice_split is_comma ts) (x ∷ xs) h, zip_length SpellsOperand (slice_split is_comma ts) (x ∷ xs) h)
+    omega (arith, (split_total is_comma ts).0, parts_bound (slice_split is_comma ts) (x ∷ xs) h, AllZip-long SpellsOperand (slice_split is_comma ts) (x ∷ xs) h)
 
 -- an instruction has at most three operands
 operands_bound : (i : Insn) → length (operands_of i) ≤ 3

@@ -14,7 +14,7 @@ use Rattle.bpf_text.specs.declared.insn.mnemonic.WideKind.TheVariants as kind
 use Rattle.bpf_text.specs.declared.insn.{mnemonic.Mnemonic.Mnemonic, mnemonic.TheConstants.ALL, mnemonic_hash.TheConstants.PLACES}
 use Rattle.bpf_text.specs.declared.insn.mnemonic.Mnemonic.TheVariants.{Alu, Movsx, Neg, Swap, Jump, JumpLong, Branch, CallHelper, CallLocal, CallBtf, Exit, Load, LoadSigned, StoreImm, StoreReg, Atomic, Wide, PacketAbs, PacketInd}
 use Rattle.bpf_text.specs.insn.{Mnemonics.text_of_mnemonic, MnemonicHash.hash_of}
-use Rattle.bpf_text.proofs.InsnLemmas.HashPlaces.{first, second}
+use Rattle.std.proofs.lemmas.Bool.{and_parts}
 
 -- the entry to which the hash of a token leads
 abbrev pub entry : List ℕ → Mnemonic → Mnemonic
@@ -22,47 +22,24 @@ entry text other = get_or ALL (get_or PLACES (hash_of text) 0) other
 
 pub stands : (m d : Mnemonic) → entry (text_of_mnemonic m) d ≡ m
 stands (Alu W32 alu.Add) d = refl
-stands (Alu W32 _) d = refl
 stands (Alu W64 alu.Add) d = refl
-stands (Alu W64 _) d = refl
 stands (Movsx movsx.W32From8) d = refl
-stands (Movsx _) d = refl
 stands (Neg W32) d = refl
-stands (Neg W64) d = refl
 stands (Swap swap.Le B16) d = refl
-stands (Swap swap.Le _) d = refl
 stands (Swap swap.Be B16) d = refl
-stands (Swap swap.Be _) d = refl
 stands (Swap swap.Swap B16) d = refl
-stands (Swap swap.Swap _) d = refl
-stands Jump d = refl
-stands JumpLong d = refl
 stands (Branch W32 branch.Eq) d = refl
-stands (Branch W32 _) d = refl
 stands (Branch W64 branch.Eq) d = refl
-stands (Branch W64 _) d = refl
-stands CallHelper d = refl
-stands CallLocal d = refl
-stands CallBtf d = refl
-stands Exit d = refl
 stands (Load size.B) d = refl
-stands (Load _) d = refl
 stands (LoadSigned small.B) d = refl
-stands (LoadSigned _) d = refl
 stands (StoreImm size.B) d = refl
-stands (StoreImm _) d = refl
 stands (StoreReg size.B) d = refl
-stands (StoreReg _) d = refl
 stands (Atomic W32 atomic.Add) d = refl
-stands (Atomic W32 _) d = refl
 stands (Atomic W64 atomic.Add) d = refl
-stands (Atomic W64 _) d = refl
 stands (Wide kind.Number) d = refl
-stands (Wide _) d = refl
 stands (PacketAbs small.B) d = refl
-stands (PacketAbs _) d = refl
 stands (PacketInd small.B) d = refl
-stands (PacketInd _) d = refl
+stands _ d = refl
 
 pub one_mnemonic : (m n : Mnemonic) → text_of_mnemonic m ≡ text_of_mnemonic n → m ≡ n
 one_mnemonic m n e = sym (stands m Exit) ∙ ap (λ w. entry w Exit) e ∙ stands n Exit
@@ -76,8 +53,8 @@ none_of_hash token hash k m d h p other same =
 
 at_entry : (test : Mnemonic → Bool) (ms : List Mnemonic) (k : ℕ) (d : Mnemonic) → list_all test ms ≡ true → test d ≡ true → test (get_or ms k d) ≡ true
 at_entry test [] k d h e = e
-at_entry test (m ∷ ms) zero d h e = first (test m) (list_all test ms) h
-at_entry test (m ∷ ms) (suc k) d h e = at_entry test ms k d (second (test m) (list_all test ms) h) e
+at_entry test (m ∷ ms) zero d h e = (and_parts (test m) (list_all test ms) h).0
+at_entry test (m ∷ ms) (suc k) d h e = at_entry test ms k d (and_parts (test m) (list_all test ms) h).1 e
 
 -- a test that all entries pass is passed by each mnemonic
 pub each_passes : (test : Mnemonic → Bool) → list_all test ALL ≡ true → test Exit ≡ true → (m : Mnemonic) → test m ≡ true

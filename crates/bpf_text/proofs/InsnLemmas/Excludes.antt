@@ -1,7 +1,7 @@
 -- A faulty line lists nothing.
 use Rattle.std.proofs.Common.{◌≡◌, ℕ, Bool, true, false, not, ◌||◌, ◌&&◌, List, [], ◌∷◌, ◌++◌, ◌⊎◌, inl, inr, refl, sym, ap, ◌∙◌, Result, Ok, Err, MatchResult}
 use Rattle.std.specs.{Result.IsErrAnd, List.AllZip, List.list_any, List.list_all}
-use Rattle.std.proofs.lemmas.{Bool.false≢true, List.Folds.list_any-append}
+use Rattle.std.proofs.lemmas.{Bool.and_parts, Bool.or_from, Bool.false≢true, List.Folds.list_any-append}
 use Rattle.bpf_insn.specs.declared.insn.Insn.{Insn}
 use Rattle.bpf_text.specs.declared.insn.fault.LineCause.{LineCause, TheVariants.Char, TheVariants.Word, TheVariants.Shape, TheVariants.Range}
 use Rattle.bpf_text.specs.declared.insn.fault.{ListError.ListError, ListError.TheVariants.Fault, ListError.TheVariants.Memory, LineFault.LineFault}
@@ -16,21 +16,11 @@ known false true c h = refl
 known false false true h = refl
 known false false false h = elim h [ inl e ↦ absurd (false≢true e) | inr e ↦ elim e [ inl f ↦ absurd (false≢true f) | inr f ↦ absurd (false≢true f) ] ]
 
-left : (a b : Bool) → (a && b) ≡ true → a ≡ true
-left true b e = refl
-left false b e = e
-
-right : (a b : Bool) → (a && b) ≡ true → b ≡ true
-right true b e = e
-right false b e = absurd (false≢true e)
-
-neither : (a b : Bool) → a ≡ false → b ≡ false → (a || b) ≡ false
-neither true b e f = absurd (false≢true (sym e))
-neither false b e f = f
-
 none_of : (p : ℕ → Bool) → ((b : ℕ) → p b ≡ true → is_stray b ≡ false) → (xs : List ℕ) → list_all p xs ≡ true → list_any is_stray xs ≡ false
 none_of p each [] h = refl
-none_of p each (x ∷ xs) h = neither (is_stray x) (list_any is_stray xs) (each x (left (p x) (list_all p xs) h)) (none_of p each xs (right (p x) (list_all p xs) h))
+none_of p each (x ∷ xs) h =
+    let passed = and_parts (p x) (list_all p xs) h in
+    or_from (is_stray x) (list_any is_stray xs) (each x passed.0) (none_of p each xs passed.1)
 
 blank_known : (b : ℕ) → is_blank b ≡ true → is_stray b ≡ false
 blank_known b h = known (is_blank b) (is_word_byte b) (is_symbol b) (inl h)
@@ -43,15 +33,15 @@ symbol_known b h = known (is_blank b) (is_word_byte b) (is_symbol b) (inr (inr h
 
 token_known : (token rest : List ℕ) → IsTokenBefore token rest → list_any is_stray token ≡ false
 token_known token rest (inl h) = none_of is_word_byte mnemonic_known token h.1
-token_known token rest (inr h) = rw h.1 (neither (is_stray h.0) false (symbol_known h.0 h.2) refl)
+token_known token rest (inr h) = rw h.1 (or_from (is_stray h.0) false (symbol_known h.0 h.2) refl)
 
 pub no_stray : (bytes : List ℕ) (ts : List (List ℕ)) → AreTokens bytes ts → list_any is_stray bytes ≡ false
 no_stray bytes [] h = none_of is_blank blank_known bytes h
 no_stray bytes (t ∷ ts) h =
     let s = h.1 in
     let blanks : list_any is_stray s.blanks ≡ false = none_of is_blank blank_known s.blanks s.blank in
-    let front : list_any is_stray (s.blanks ++ t) ≡ false = list_any-append is_stray s.blanks t ∙ neither (list_any is_stray s.blanks) (list_any is_stray t) blanks (token_known t h.0 s.longest) in
-    ap (list_any is_stray) s.whole ∙ list_any-append is_stray (s.blanks ++ t) h.0 ∙ neither (list_any is_stray (s.blanks ++ t)) (list_any is_stray h.0) front (no_stray h.0 ts h.2)
+    let front : list_any is_stray (s.blanks ++ t) ≡ false = list_any-append is_stray s.blanks t ∙ or_from (list_any is_stray s.blanks) (list_any is_stray t) blanks (token_known t h.0 s.longest) in
+    ap (list_any is_stray) s.whole ∙ list_any-append is_stray (s.blanks ++ t) h.0 ∙ or_from (list_any is_stray (s.blanks ++ t)) (list_any is_stray h.0) front (no_stray h.0 ts h.2)
 
 some_tokens : (line : List ℕ) (f : List Insn) → ListsLine line f → (ts : List (List ℕ)) × AreTokens (code_of line) ts
 some_tokens line [] h = ([], h)
@@ -68,15 +58,11 @@ none_there line word ts t h =
 
 pub excludes : (line : List ℕ) (c : LineCause) (f : List Insn) → IsCause line c → ListsLine line f → ⊥
 excludes line Char f c h = let t = some_tokens line f h in false≢true (sym (no_stray (code_of line) t.0 t.1) ∙ c)
-excludes line Word [] c h = none_there line c.0 c.1 c.2 h
-excludes line Word (i ∷ []) c h = let form = form_of line c.0 c.1 i c.2 h in c.3 (i, h.0, form.0)
-excludes line Word (i ∷ j ∷ more) c h = h
-excludes line Shape [] c h = none_there line c.0 c.1 c.2 h
+excludes line _ [] c h = none_there line c.0 c.1 c.2 h
+excludes line Word (i ∷ []) c h = c.3 (i, h.0, (form_of line c.0 c.1 i c.2 h).0)
 excludes line Shape (i ∷ []) c h = let form = form_of line c.0 c.1 i c.2 h in c.4 (i, h.0, form.0, (operands_of i, refl, form.1))
-excludes line Shape (i ∷ j ∷ more) c h = h
-excludes line Range [] c h = none_there line c.0 c.1 c.2 h
 excludes line Range (i ∷ []) c h = c.4 i h.0 (form_of line c.0 c.1 i c.2 h)
-excludes line Range (i ∷ j ∷ more) c h = h
+excludes line _ (i ∷ j ∷ more) c h = h
 
 at_line : (front : List (List ℕ)) (line : List ℕ) (back : List (List ℕ)) (listed : List (List Insn)) → AllZip ListsLine (front ++ line ∷ back) listed → (f : List Insn) × ListsLine line f
 at_line [] line back [] h = absurd h

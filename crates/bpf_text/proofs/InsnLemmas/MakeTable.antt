@@ -1,5 +1,5 @@
 -- The fields of the instructions of each mnemonic.
-use Rattle.std.proofs.Common.{◌≡◌, [], ◌∷◌, List, map, refl, sym, ap, ◌∙◌, subst, Result, Ok, Err, IsErrAnd}
+use Rattle.std.proofs.Common.{rules, ◌≡◌, [], ◌∷◌, List, map, refl, sym, ap, ◌∙◌, subst, Result, Ok, Err, IsErrAnd}
 use Rattle.std.specs.List.{AllZip}
 use Rattle.bpf_insn.specs.declared.insn.Operand.{Operand}
 use Rattle.bpf_insn.specs.declared.insn.Operand.TheVariants as operand
@@ -98,22 +98,8 @@ named (Wide _) x = refl
 named _ x = refl
 
 sound : (m : Mnemonic) (x : Fields m) → (fields_of m).valid x → IsInsn (insn_of m x)
-sound (Movsx which) x v = tt
-sound (Neg width) x v = tt
-sound (Swap which bits) x v = tt
-sound Exit x v = tt
-sound Jump x v = v
-sound JumpLong x v = v
-sound CallHelper x v = v
-sound CallLocal x v = v
-sound CallBtf x v = v
-sound (StoreImm size) x v = v
-sound (PacketAbs size) x v = v
-sound (StoreReg size) x v = v.0
-sound (Atomic width op) x v = v.0
-sound (Wide kind.Number) x v = v.1
-sound (Wide _) x v = v.1
-sound _ x v = v.1
+sound (Wide kind.Number) x v = search rules
+sound _ x v = search rules
 
 -- the instruction is made from fields of the mnemonic's form
 abbrev Made : Mnemonic → Insn → Type 0

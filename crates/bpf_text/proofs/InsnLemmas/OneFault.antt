@@ -33,18 +33,14 @@ mnemonic_of_form word ts form = (form.0, form.1, form.2)
 
 one_cause : (line : List ℕ) (c d : LineCause) → IsCause line c → IsCause line d → c ≡ d
 one_cause line Char Char h k = refl
-one_cause line Char Word h k = absurd (tokens_or_stray line (k.0 ∷ k.1) h k.2)
-one_cause line Char Shape h k = absurd (tokens_or_stray line (k.0 ∷ k.1) h k.2)
-one_cause line Char Range h k = absurd (tokens_or_stray line (k.0 ∷ k.1) h k.2)
-one_cause line Word Char h k = absurd (tokens_or_stray line (h.0 ∷ h.1) k h.2)
+one_cause line Char _ h k = absurd (tokens_or_stray line (k.0 ∷ k.1) h k.2)
+one_cause line _ Char h k = absurd (tokens_or_stray line (h.0 ∷ h.1) k h.2)
 one_cause line Word Word h k = refl
 one_cause line Word Shape h k = absurd (mnemonic_or_none line h.0 k.0 h.1 k.1 h.2 k.2 h.3 k.3)
 one_cause line Word Range h k = absurd (mnemonic_or_none line h.0 k.0 h.1 k.1 h.2 k.2 h.3 (mnemonic_of_form k.0 k.1 k.3))
-one_cause line Shape Char h k = absurd (tokens_or_stray line (h.0 ∷ h.1) k h.2)
 one_cause line Shape Word h k = absurd (mnemonic_or_none line k.0 h.0 k.1 h.1 k.2 h.2 k.3 h.3)
 one_cause line Shape Shape h k = refl
 one_cause line Shape Range h k = absurd (form_or_none line h.0 k.0 h.1 k.1 h.2 k.2 h.4 k.3)
-one_cause line Range Char h k = absurd (tokens_or_stray line (h.0 ∷ h.1) k h.2)
 one_cause line Range Word h k = absurd (mnemonic_or_none line k.0 h.0 k.1 h.1 k.2 h.2 k.3 (mnemonic_of_form h.0 h.1 h.3))
 one_cause line Range Shape h k = absurd (form_or_none line k.0 h.0 k.1 h.1 k.2 h.2 k.4 h.3)
 one_cause line Range Range h k = refl

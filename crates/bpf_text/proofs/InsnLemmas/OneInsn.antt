@@ -10,42 +10,17 @@ use Rattle.bpf_text.specs.insn.Listing.{lines_of, IsTokenForm, ListsInsn, ListsL
 use Rattle.bpf_text.proofs.InsnLemmas.{EachMnemonic.one_mnemonic, OneOperand.one_operands, OneReading.one_tokens}
 
 pub mnemonic_text_is : (i : Insn) → mnemonic_text i ≡ text_of_mnemonic (mnemonic_of i)
-mnemonic_text_is (Alu width op d (Imm k)) = refl
-mnemonic_text_is (Alu width op d (Reg r)) = refl
-mnemonic_text_is (Branch width op d (Imm k) o) = refl
-mnemonic_text_is (Branch width op d (Reg r) o) = refl
 mnemonic_text_is (Wide d (Number n)) = refl
 mnemonic_text_is _ = refl
 
 -- the mnemonic and the operands determine the instruction
 same_insn : (i j : Insn) → mnemonic_of i ≡ mnemonic_of j → map plain (operands_of i) ≡ map plain (operands_of j) → i ≡ j
-same_insn (Alu width op d (Imm k)) (Alu width' op' d' (Imm k')) names fields = cc
-same_insn (Alu width op d (Reg r)) (Alu width' op' d' (Reg r')) names fields = cc
-same_insn (Movsx form d s) (Movsx form' d' s') names fields = cc
-same_insn (Neg width d) (Neg width' d') names fields = cc
-same_insn (Swap kind bits d) (Swap kind' bits' d') names fields = cc
-same_insn (Jump o) (Jump o') names fields = cc
-same_insn (JumpLong k) (JumpLong k') names fields = cc
-same_insn (Branch width op d (Imm k) o) (Branch width' op' d' (Imm k') o') names fields = cc
-same_insn (Branch width op d (Reg r) o) (Branch width' op' d' (Reg r') o') names fields = cc
-same_insn (CallHelper k) (CallHelper k') names fields = cc
-same_insn (CallLocal k) (CallLocal k') names fields = cc
-same_insn (CallBtf k o) (CallBtf k' o') names fields = cc
-same_insn Exit Exit names fields = cc
-same_insn (Load z d s o) (Load z' d' s' o') names fields = cc
-same_insn (LoadSigned z d s o) (LoadSigned z' d' s' o') names fields = cc
-same_insn (StoreImm z d o k) (StoreImm z' d' o' k') names fields = cc
-same_insn (StoreReg z d s o) (StoreReg z' d' s' o') names fields = cc
-same_insn (Atomic width op d s o) (Atomic width' op' d' s' o') names fields = cc
-same_insn (Wide d (Number n)) (Wide d' (Number n')) names fields = cc
-same_insn (Wide d (MapFd k)) (Wide d' (MapFd k')) names fields = cc
-same_insn (Wide d (MapValueFd k m)) (Wide d' (MapValueFd k' m')) names fields = cc
-same_insn (Wide d (VarAddr k m)) (Wide d' (VarAddr k' m')) names fields = cc
-same_insn (Wide d (CodeAddr k)) (Wide d' (CodeAddr k')) names fields = cc
-same_insn (Wide d (MapIdx k)) (Wide d' (MapIdx k')) names fields = cc
-same_insn (Wide d (MapValueIdx k m)) (Wide d' (MapValueIdx k' m')) names fields = cc
-same_insn (PacketAbs z k) (PacketAbs z' k') names fields = cc
-same_insn (PacketInd z s k) (PacketInd z' s' k') names fields = cc
+same_insn (Alu width op d (Imm k)) Exit names fields = cc
+same_insn (Branch width op d (Imm k) o) Exit names fields = cc
+same_insn (Wide d (Number n)) Exit names fields = cc
+same_insn _ (Alu width op d (Imm k)) names fields = cc
+same_insn _ (Branch width op d (Imm k) o) names fields = cc
+same_insn _ (Wide d (Number n)) names fields = cc
 same_insn _ _ names fields = cc
 
 pub one_form : (ts : List (List ℕ)) (i j : Insn) → IsTokenForm ts i → IsTokenForm ts j → i ≡ j
@@ -66,21 +41,19 @@ no_insn line i h k =
 pub one_line : (line : List ℕ) (f g : List Insn) → ListsLine line f → ListsLine line g → f ≡ g
 one_line line [] [] h k = refl
 one_line line [] (j ∷ []) h k = absurd (no_insn line j h k)
-one_line line [] (j ∷ j' ∷ more) h k = absurd k
 one_line line (i ∷ []) [] h k = absurd (no_insn line i k h)
 one_line line (i ∷ []) (j ∷ []) h k = ap (λ x. x ∷ []) (one_insn line i j h k)
-one_line line (i ∷ []) (j ∷ j' ∷ more) h k = absurd k
 one_line line (i ∷ i' ∷ more) g h k = absurd h
+one_line line f _ h k = absurd k
 
 one_zip : (lines : List (List ℕ)) (f g : List (List Insn)) → AllZip ListsLine lines f → AllZip ListsLine lines g → f ≡ g
 one_zip [] [] [] h k = refl
-one_zip [] [] (y ∷ g) h k = absurd k
-one_zip [] (x ∷ f) g h k = absurd h
-one_zip (l ∷ lines) [] g h k = absurd h
-one_zip (l ∷ lines) (x ∷ f) [] h k = absurd k
 one_zip (l ∷ lines) (x ∷ f) (y ∷ g) h k =
     let first : x ≡ y = one_line l x y h.0 k.0 in
     let more : f ≡ g = one_zip lines f g h.1 k.1 in cc
+one_zip [] [] _ h k = absurd k
+one_zip (l ∷ lines) (x ∷ f) _ h k = absurd k
+one_zip _ _ g h k = absurd h
 
 -- an input lists at most one list
 pub one_listing : (text : List ℕ) (l m : List Insn) → Lists text l → Lists text m → l ≡ m

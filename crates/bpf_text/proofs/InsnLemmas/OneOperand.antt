@@ -1,16 +1,12 @@
 -- Tokens spell at most one operand, up to how its sign is written.
 use Rattle.std.proofs.Common.{◌≡◌, ℕ, ◌<◌, ◌≤◌, ℤ, pos, neg_ℤ, List, [], ◌∷◌, ◌++◌, ◌⊎◌, inl, inr, drop, refl, sym, ap, ◌∙◌, subst, arith, codes, map}
 use Rattle.std.specs.{List.AllZip, List.slice_split, Fmt.decimal, Str.Parse.IsNumeral, Str.Parse.digits_value}
-use Rattle.std.proofs.{Math.Bridge.le_prop, lemmas.Fmt.decimal_is_IsNumeral}
+use Rattle.std.proofs.lemmas.Fmt.{decimal_is_IsNumeral}
+use Rattle.bpf_insn.proofs.InsnLaws.{same_reg}
 use Rattle.bpf_insn.specs.declared.insn.Reg.{Reg}
 use Rattle.bpf_text.specs.insn.Operands.{LineOperand, register, number, signed, memory, SpellsMagnitude, SpellsSigned, SpellsNumber, SpellsRegister, SpellsMemory, SpellsOperand, SpellsOperands, is_comma}
 use Rattle.bpf_text.specs.insn.OperandFields.{plain}
 use Rattle.bpf_text.proofs.InsnLemmas.NumberLemmas.{one_magnitude}
-
--- a register is determined by its number
-same_reg : (r s : Reg) → r.number ≡ s.number → r ≡ s
-same_reg r s e =
-    subst (λ (n : ℕ). (h : n ≤ 10) → r ≡ (record { number = n; in_range = h })) e (λ h. ap (λ (z : r.number ≤ 10). record { number = r.number; in_range = z }) (le_prop r.in_range h)) s.in_range
 
 one_register : (t : List ℕ) (r s : Reg) → SpellsRegister t r → SpellsRegister t s → r ≡ s
 one_register t r s h k =
@@ -39,40 +35,30 @@ one_signed s t y z h k =
     by_sign n (inr a) (inr b) = a.1 ∙ ap (λ m. neg_ℤ (pos m)) n ∙ sym b.1
 
 one_number : (ts : List (List ℕ)) (y z : ℤ) → SpellsNumber ts y → SpellsNumber ts z → y ≡ z
-one_number [] y z h k = absurd h
 one_number (t ∷ []) y z h k = h.2 ∙ ap pos (one_magnitude t h.0 k.0 h.1 k.1) ∙ sym k.2
 one_number (s ∷ t ∷ []) y z h k = one_signed s t y z h k
-one_number (a ∷ b ∷ c ∷ more) y z h k = absurd h
+one_number _ y z h k = absurd h
 
 one_memory : (ts : List (List ℕ)) (q r : Reg) (y z : ℤ) → SpellsMemory ts q y → SpellsMemory ts r z → (q ≡ r) × (y ≡ z)
-one_memory [] q r y z h k = absurd h
-one_memory (a ∷ []) q r y z h k = absurd h
-one_memory (a ∷ b ∷ []) q r y z h k = absurd h
 one_memory (a ∷ b ∷ c ∷ []) q r y z h k = (one_register b q r h.1 k.1, h.3 ∙ sym k.3)
-one_memory (a ∷ b ∷ c ∷ d ∷ []) q r y z h k = absurd h
 one_memory (a ∷ b ∷ c ∷ d ∷ e ∷ []) q r y z h k = (one_register b q r h.1 k.1, one_signed c d y z h.2 k.2)
-one_memory (a ∷ b ∷ c ∷ d ∷ e ∷ f ∷ more) q r y z h k = absurd h
+one_memory _ q r y z h k = absurd h
 
 register_number : (ts : List (List ℕ)) (r : Reg) (z : ℤ) → SpellsOperand ts (register r) → SpellsNumber ts z → ⊥
-register_number [] r z h k = k
 register_number (t ∷ []) r z h k = no_number t (decimal r.number) k.0 h k.1
-register_number (s ∷ t ∷ more) r z h k = h
+register_number _ r z h k = h
 
 register_memory : (ts : List (List ℕ)) (r s : Reg) (z : ℤ) → SpellsOperand ts (register r) → SpellsMemory ts s z → ⊥
-register_memory [] r s z h k = k
 register_memory (t ∷ []) r s z h k = k
-register_memory (t ∷ u ∷ more) r s z h k = h
+register_memory _ r s z h k = h
 
 number_memory : (ts : List (List ℕ)) (y : ℤ) (s : Reg) (z : ℤ) → SpellsNumber ts y → SpellsMemory ts s z → ⊥
-number_memory [] y s z h k = k
-number_memory (t ∷ []) y s z h k = k
-number_memory (t ∷ u ∷ []) y s z h k = k
 number_memory (t ∷ u ∷ v ∷ more) y s z h k = h
+number_memory _ y s z h k = k
 
 one_register_operand : (ts : List (List ℕ)) (r s : Reg) → SpellsOperand ts (register r) → SpellsOperand ts (register s) → r ≡ s
-one_register_operand [] r s h k = absurd h
 one_register_operand (t ∷ []) r s h k = one_register t r s h k
-one_register_operand (t ∷ u ∷ more) r s h k = absurd h
+one_register_operand _ r s h k = absurd h
 
 pub one_operand : (ts : List (List ℕ)) (a b : LineOperand) → SpellsOperand ts a → SpellsOperand ts b → plain a ≡ plain b
 one_operand ts (register r) (register s) h k = ap register (one_register_operand ts r s h k)
@@ -94,13 +80,12 @@ one_operand ts (memory r y) (memory s z) h k = let same = one_memory ts r s y z 
 
 one_zip : (tss : List (List (List ℕ))) (xs bs : List LineOperand) → AllZip SpellsOperand tss xs → AllZip SpellsOperand tss bs → map plain xs ≡ map plain bs
 one_zip [] [] [] h k = refl
-one_zip [] [] (b ∷ bs) h k = absurd k
-one_zip [] (a ∷ xs) bs h k = absurd h
-one_zip (t ∷ ts) [] bs h k = absurd h
-one_zip (t ∷ ts) (a ∷ xs) [] h k = absurd k
 one_zip (t ∷ ts) (a ∷ xs) (b ∷ bs) h k =
     let first : plain a ≡ plain b = one_operand t a b h.0 k.0 in
     let more : map plain xs ≡ map plain bs = one_zip ts xs bs h.1 k.1 in cc
+one_zip [] [] _ h k = absurd k
+one_zip (t ∷ ts) (a ∷ xs) _ h k = absurd k
+one_zip _ _ bs h k = absurd h
 
 no_part : (a : LineOperand) → SpellsOperand [] a → ⊥
 no_part (register r) h = h

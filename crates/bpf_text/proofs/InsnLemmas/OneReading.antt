@@ -1,7 +1,7 @@
 -- The list of tokens of a line is unique.
 use Rattle.std.proofs.Common.{◌≡◌, ℕ, ◌+◌, ◌<◌, Bool, true, false, cond, ◌&&◌, List, [], ◌∷◌, ◌++◌, inl, inr, length, take, drop, refl, sym, ap, ◌∙◌, arith, append_assoc}
 use Rattle.std.specs.List.{list_all, prefix_len}
-use Rattle.std.proofs.lemmas.{Bool.false≢true, Bool.Decides.nat_tests, List.Folds.list_all-append}
+use Rattle.std.proofs.lemmas.{Bool.and_parts, Bool.false≢true, Bool.Decides.nat_tests, List.Folds.list_all-append}
 use Rattle.std.proofs.Math.Seq.{take-append_seam, drop-append_seam}
 use Rattle.bpf_text.specs.insn.Tokens.{is_blank, is_word_byte, is_symbol, BeginsWithWordByte, IsTokenBefore, StartsWithToken, AreTokens}
 
@@ -13,14 +13,6 @@ blank_symbol b h k = grind (arith, nat_tests)
 
 word_symbol : (b : ℕ) → is_word_byte b ≡ true → is_symbol b ≡ true → ⊥
 word_symbol b h k = grind (arith, nat_tests)
-
-both_left : (a b : Bool) → (a && b) ≡ true → a ≡ true
-both_left true b e = refl
-both_left false b e = e
-
-both_right : (a b : Bool) → (a && b) ≡ true → b ≡ true
-both_right true b e = e
-both_right false b e = absurd (false≢true e)
 
 -- the test fails at the first element, if there is one
 abbrev FailsFirst : (ℕ → Bool) → List ℕ → Type 0
@@ -36,12 +28,13 @@ front_len p [] (y ∷ ys) h f = at_test (p y) refl
     at_test true e = absurd (f e)
     at_test false e = rw e refl
 front_len p (x ∷ xs) ys h f =
-    rw (both_left (p x) (list_all p xs) h, front_len p xs ys (both_right (p x) (list_all p xs) h) f) (omega arith)
+    let passed = and_parts (p x) (list_all p xs) h in
+    rw (passed.0, front_len p xs ys passed.1 f) (omega arith)
 
 token_no_blank : (token rest : List ℕ) → IsTokenBefore token rest → FailsFirst is_blank (token ++ rest)
 token_no_blank [] rest (inl w) = absurd (w.0 refl)
 token_no_blank [] rest (inr w) = cc
-token_no_blank (b ∷ token) rest (inl w) = λ h. blank_word b h (both_left (is_word_byte b) (list_all is_word_byte token) w.1)
+token_no_blank (b ∷ token) rest (inl w) = λ h. blank_word b h (and_parts (is_word_byte b) (list_all is_word_byte token) w.1).0
 token_no_blank (b ∷ token) rest (inr w) = λ h. blank_symbol b h (let e : b ≡ w.0 = cc in rw e w.2)
 
 ends_word : (rest : List ℕ) → ¬ BeginsWithWordByte rest → FailsFirst is_word_byte rest
@@ -55,23 +48,17 @@ same_length t u r s e (inl h) (inl k) =
 same_length [] u r s e (inl h) (inr k) = absurd (h.0 refl)
 same_length (b ∷ t) u r s e (inl h) (inr k) =
     let same : b ≡ k.0 = cc in
-    absurd (word_symbol b (both_left (is_word_byte b) (list_all is_word_byte t) h.1) (rw same k.2))
+    absurd (word_symbol b (and_parts (is_word_byte b) (list_all is_word_byte t) h.1).0 (rw same k.2))
 same_length t [] r s e (inr h) (inl k) = absurd (k.0 refl)
 same_length t (b ∷ u) r s e (inr h) (inl k) =
     let same : b ≡ h.0 = cc in
-    absurd (word_symbol b (both_left (is_word_byte b) (list_all is_word_byte u) k.1) (rw same h.2))
+    absurd (word_symbol b (and_parts (is_word_byte b) (list_all is_word_byte u) k.1).0 (rw same h.2))
 same_length t u r s e (inr h) (inr k) = ap length h.1 ∙ sym (ap length k.1)
-
-take_front : (t r : List ℕ) → take (length t) (t ++ r) ≡ t
-take_front t r = take-append_seam t r
-
-drop_front : (t r : List ℕ) → drop (length t) (t ++ r) ≡ r
-drop_front t r = drop-append_seam t r
 
 same_fronts : (t u r s : List ℕ) → t ++ r ≡ u ++ s → length t ≡ length u → (t ≡ u) × (r ≡ s)
 same_fronts t u r s e l = (
-  sym (take_front t r) ∙ ap (take (length t)) e ∙ ap (λ n. take n (u ++ s)) l ∙ take_front u s,
-  sym (drop_front t r) ∙ ap (drop (length t)) e ∙ ap (λ n. drop n (u ++ s)) l ∙ drop_front u s,
+  sym (take-append_seam t r) ∙ ap (take (length t)) e ∙ ap (λ n. take n (u ++ s)) l ∙ take-append_seam u s,
+  sym (drop-append_seam t r) ∙ ap (drop (length t)) e ∙ ap (λ n. drop n (u ++ s)) l ∙ drop-append_seam u s,
 )
 
 pub one_start : (bytes t r u s : List ℕ) → StartsWithToken bytes t r → StartsWithToken bytes u s → (t ≡ u) × (r ≡ s)
@@ -88,11 +75,11 @@ pub none_or_some : (bytes t r : List ℕ) → list_all is_blank bytes ≡ true �
 none_or_some bytes t r all s = first_fails (t ++ r) (has_bytes t r s.longest) (token_no_blank t r s.longest) following
   where
     following : list_all is_blank (t ++ r) ≡ true
-    following = both_right (list_all is_blank s.blanks) (list_all is_blank (t ++ r)) (sym (list_all-append is_blank s.blanks (t ++ r)) ∙ ap (list_all is_blank) (sym (s.whole ∙ append_assoc s.blanks t r)) ∙ all)
+    following = (and_parts (list_all is_blank s.blanks) (list_all is_blank (t ++ r)) (sym (list_all-append is_blank s.blanks (t ++ r)) ∙ ap (list_all is_blank) (sym (s.whole ∙ append_assoc s.blanks t r)) ∙ all)).1
 
     first_fails : (xs : List ℕ) → 0 < length xs → FailsFirst is_blank xs → list_all is_blank xs ≡ true → ⊥
     first_fails [] h f e = omega arith
-    first_fails (x ∷ xs) h f e = f (both_left (is_blank x) (list_all is_blank xs) e)
+    first_fails (x ∷ xs) h f e = f (and_parts (is_blank x) (list_all is_blank xs) e).0
 
     has_bytes : (u v : List ℕ) → IsTokenBefore u v → 0 < length (u ++ v)
     has_bytes [] v (inl w) = absurd (w.0 refl)

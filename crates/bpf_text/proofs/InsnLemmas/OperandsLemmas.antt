@@ -2,11 +2,11 @@
 use Rattle.std.proofs.Common.{◌≡◌, ℕ, ◌+◌, ◌-◌, ◌<◌, ◌≤◌, Bool, true, false, eqb, List, [], ◌∷◌, ◌++◌, ◌⊎◌, inl, inr, length, get_or, take, drop, map, refl, sym, ap, ◌∙◌, arith, append_assoc, take_all}
 use Rattle.std.specs.{Borrow.Bor, List.AllZip, List.slice_split, List.position_or_len, List.before_first, List.after_first}
 use Rattle.std.proofs.lemmas.Bool.{cases_lt, Decides.nat_tests}
+use Rattle.std.proofs.lemmas.Slice.Zip.{AllZip-long}
 use Rattle.std.proofs.lemmas.List.{length-append, length-drop, drop-drop, length-map, take-map, drop-map, get_or-drop}
 use Rattle.std.proofs.lemmas.List.{Splits.slice_split_none, Splits.slice_split_first, Sums.fails_before_first, Sums.position_or_len_is}
 use Rattle.bpf_text.specs.declared.insn.read_operand.ReadOperand.{ReadOperand}
 use Rattle.bpf_text.specs.insn.{Operands.LineOperand, Operands.SpellsOperand, Operands.SpellsOperands, Operands.is_comma, Numbers.IsReadAs}
-use Rattle.bpf_text.proofs.InsnLemmas.Bounds.{zip_length}
 
 abbrev pub bytes_of : Bor (List ℕ) → List ℕ
 bytes_of t = t.now
@@ -136,7 +136,7 @@ pub too_many : (ts rest part : List (List ℕ)) (back : List (List (List ℕ))) 
     → (spelled : List LineOperand) → length spelled ≤ n → ¬ SpellsOperands ts spelled
 too_many ts rest part back read n r e full some [] l h =
     let none : slice_split is_comma ts ≡ [] ∷ [] = rw h refl in
-    omega (arith, full, some, ap length (sym none ∙ r.parts ∙ ap (λ x. r.front ++ x) e), length-append r.front (part ∷ back), zip_length SpellsOperand r.front r.spelled r.each, zip_length IsReadAs read r.spelled r.means)
+    omega (arith, full, some, ap length (sym none ∙ r.parts ∙ ap (λ x. r.front ++ x) e), length-append r.front (part ∷ back), AllZip-long SpellsOperand r.front r.spelled r.each, AllZip-long IsReadAs read r.spelled r.means)
 too_many ts rest part back read n r e full some (y ∷ ys) l h =
-    let same : length (slice_split is_comma ts) ≡ length (y ∷ ys) = zip_length SpellsOperand (slice_split is_comma ts) (y ∷ ys) h in
-    omega (arith, full, same, ap length (r.parts ∙ ap (λ x. r.front ++ x) e), length-append r.front (part ∷ back), zip_length SpellsOperand r.front r.spelled r.each, zip_length IsReadAs read r.spelled r.means)
+    let same : length (slice_split is_comma ts) ≡ length (y ∷ ys) = AllZip-long SpellsOperand (slice_split is_comma ts) (y ∷ ys) h in
+    omega (arith, full, same, ap length (r.parts ∙ ap (λ x. r.front ++ x) e), length-append r.front (part ∷ back), AllZip-long SpellsOperand r.front r.spelled r.each, AllZip-long IsReadAs read r.spelled r.means)

@@ -1,5 +1,5 @@
 -- The listing of instructions lists them.
-use Rattle.std.proofs.Common.{◌≡◌, ℕ, suc, ◌+◌, ◌<◌, ◌≤◌, ℤ, pos, negsuc, Bool, true, false, List, [], ◌∷◌, ◌++◌, ◌⊎◌, inl, inr, length, get_or, take, take_all, refl, sym, ap, ◌∙◌, subst, arith, append_assoc, append-nil, codes, FitsSigned}
+use Rattle.std.proofs.Common.{rules, ◌≡◌, ℕ, suc, ◌+◌, ◌<◌, ◌≤◌, ℤ, pos, negsuc, Bool, true, false, List, [], ◌∷◌, ◌++◌, ◌⊎◌, inl, inr, length, get_or, take, take_all, refl, sym, ap, ◌∙◌, subst, arith, append_assoc, append-nil, codes, FitsSigned}
 use Rattle.std.specs.{Int.w16, Int.w32, List.AllZip, List.All, List.list_any, List.flat_map, List.position_or_len}
 use Rattle.std.proofs.lemmas.{Int.ints, Bool.cases_lt, Bool.false≢true, Bool.Decides.nat_tests}
 use Rattle.std.proofs.lemmas.List.{get_or_default, take_more, Sums.position_or_len_is, Concat.flat_map-append, Splits.slice_split_at}
@@ -29,30 +29,10 @@ operand_writable (Reg r) h = tt
 
 writable : (i : Insn) → IsInsn i → AreWritable (operands_of i)
 writable (Alu width op d arg) h = (tt, (operand_writable arg h, tt))
-writable (Movsx form d s) h = (tt, (tt, tt))
-writable (Neg width d) h = (tt, tt)
-writable (Swap kind bits d) h = (tt, tt)
-writable (Jump o) h = (near_offset o h, tt)
-writable (JumpLong k) h = (near_imm k h, tt)
 writable (Branch width op d arg o) h = (tt, (operand_writable arg h.0, (near_offset o h.1, tt)))
-writable (CallHelper k) h = (near_imm k h, tt)
-writable (CallLocal k) h = (near_imm k h, tt)
-writable (CallBtf k o) h = (near_imm k h.0, (near_offset o h.1, tt))
-writable Exit h = tt
-writable (Load z d s o) h = (tt, (near_offset o h, tt))
-writable (LoadSigned z d s o) h = (tt, (near_offset o h, tt))
-writable (StoreImm z d o k) h = (near_offset o h.0, (near_imm k h.1, tt))
-writable (StoreReg z d s o) h = (near_offset o h, (tt, tt))
-writable (Atomic width op d s o) h = (near_offset o h, (tt, tt))
 writable (Wide d (Number n)) h = (tt, (h, tt))
-writable (Wide d (MapFd k)) h = (tt, (near_imm k h, tt))
-writable (Wide d (MapValueFd k m)) h = (tt, (near_imm k h.0, (near_imm m h.1, tt)))
-writable (Wide d (VarAddr k m)) h = (tt, (near_imm k h.0, (near_imm m h.1, tt)))
-writable (Wide d (CodeAddr k)) h = (tt, (near_imm k h, tt))
-writable (Wide d (MapIdx k)) h = (tt, (near_imm k h, tt))
-writable (Wide d (MapValueIdx k m)) h = (tt, (near_imm k h.0, (near_imm m h.1, tt)))
-writable (PacketAbs z k) h = (near_imm k h, tt)
-writable (PacketInd z s k) h = (tt, (near_imm k h, tt))
+writable (Wide d _) h = search (rules, near_imm)
+writable _ h = search (rules, near_offset, near_imm)
 
 -- ---- one line
 

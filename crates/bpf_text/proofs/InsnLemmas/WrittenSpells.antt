@@ -1,7 +1,7 @@
 -- The tokens of a written line spell its operands.
 use Rattle.std.proofs.Common.{◌≡◌, ◌≢◌, ℕ, suc, ◌^◌, ◌<◌, ℤ, pos, negsuc, Bool, true, false, ◌||◌, List, [], ◌∷◌, ◌++◌, inl, inr, get_or, map, refl, sym, ap, ◌∙◌, subst, arith, codes}
 use Rattle.std.specs.{Fmt.decimal, Char.digit_value, Str.Parse.IsNumeral, List.AllZip, List.All, List.list_any, List.slice_split}
-use Rattle.std.proofs.lemmas.{Bool.false≢true, Bool.Decides.nat_tests, Fmt.decimal_is_IsNumeral}
+use Rattle.std.proofs.lemmas.{Bool.or_from, Bool.false≢true, Bool.Decides.nat_tests, Fmt.decimal_is_IsNumeral}
 use Rattle.std.proofs.lemmas.List.{Folds.list_any_at, Folds.list_any-append, Splits.slice_split_none, Splits.slice_split_at}
 use Rattle.bpf_insn.specs.declared.insn.Reg.{Reg}
 use Rattle.bpf_text.specs.insn.Operands.{LineOperand, register, number, signed, memory, register_text, SpellsMagnitude, SpellsOperand, SpellsOperands, is_comma}
@@ -32,10 +32,6 @@ operand_spells (memory r z) near = memory_spells r z near
 
 -- ---- commas
 
-neither : (a b : Bool) → a ≡ false → b ≡ false → (a || b) ≡ false
-neither true b e f = absurd (false≢true (sym e))
-neither false b e f = f
-
 numeral_no_comma : (ds : List ℕ) → IsNumeral 10 ds → is_comma ds ≡ false
 numeral_no_comma [] h = refl
 numeral_no_comma (d ∷ ds) h = let digit : digit_value d < 10 = h.1.0 in grind (arith, nat_tests)
@@ -44,7 +40,7 @@ word_no_comma : (b : ℕ) (ds : List ℕ) → b ≢ 44 → is_comma (b ∷ ds) �
 word_no_comma b ds h = grind (arith, nat_tests)
 
 none_then : (t : List ℕ) (ts : List (List ℕ)) → is_comma t ≡ false → list_any is_comma ts ≡ false → list_any is_comma (t ∷ ts) ≡ false
-none_then t ts e f = neither (is_comma t) (list_any is_comma ts) e f
+none_then t ts e f = or_from (is_comma t) (list_any is_comma ts) e f
 
 signed_no_comma : (z : ℤ) → IsNear z → list_any is_comma (signed_tokens z) ≡ false
 signed_no_comma (pos n) near = none_then (codes "+") (decimal n ∷ []) refl (none_then (decimal n) [] (numeral_no_comma (decimal n) (numeral n near)) refl)
@@ -61,7 +57,7 @@ operand_no_comma (signed z) near = signed_no_comma z near
 operand_no_comma (memory r z) near =
     none_then (codes "[") (register_text r ∷ (signed_tokens z ++ codes "]" ∷ [])) refl
     (none_then (register_text r) (signed_tokens z ++ codes "]" ∷ []) (word_no_comma 114 (decimal r.number) (λ e. omega arith))
-    (list_any-append is_comma (signed_tokens z) (codes "]" ∷ []) ∙ neither (list_any is_comma (signed_tokens z)) (list_any is_comma (codes "]" ∷ [])) (signed_no_comma z near) refl))
+    (list_any-append is_comma (signed_tokens z) (codes "]" ∷ []) ∙ or_from (list_any is_comma (signed_tokens z)) (list_any is_comma (codes "]" ∷ [])) (signed_no_comma z near) refl))
 
 -- no element passes a test that a list fails
 pub none_passes : {X : Type 0} (p : X → Bool) (xs : List X) → list_any p xs ≡ false → All (λ x. p x ≡ false) xs

@@ -1,16 +1,12 @@
 -- The tokens of written lines.
 use Rattle.std.proofs.Common.{◌≡◌, ◌≢◌, ℕ, suc, ◌^◌, ◌<◌, ℤ, pos, negsuc, Bool, true, false, ◌&&◌, List, [], ◌∷◌, ◌++◌, inl, inr, length, refl, sym, ap, ◌∙◌, subst, arith, append_assoc, append-nil, codes}
 use Rattle.std.specs.{Fmt.decimal, Fmt.signed_decimal, List.list_all, Char.digit_value, Str.Parse.AllDigits, Str.Parse.IsNumeral}
-use Rattle.std.proofs.lemmas.{Bool.false≢true, Bool.Decides.nat_tests, Fmt.decimal_is_IsNumeral}
+use Rattle.std.proofs.lemmas.{Bool.and_from, Bool.false≢true, Bool.Decides.nat_tests, Fmt.decimal_is_IsNumeral}
 use Rattle.bpf_insn.specs.declared.insn.Reg.{Reg}
 use Rattle.bpf_text.specs.insn.Operands.{LineOperand, register, number, signed, memory, register_text, signed_text, operand_text, operands_text}
 use Rattle.bpf_text.specs.insn.{Lines.spaced, Tokens.is_blank, Tokens.is_word_byte, Tokens.is_symbol, Tokens.BeginsWithWordByte, Tokens.AreTokens}
 
 -- ---- tokens of parts
-
-both_true : (a b : Bool) → a ≡ true → b ≡ true → (a && b) ≡ true
-both_true true b e f = f
-both_true false b e f = e
 
 not_empty : {X : Type 0} (xs : List X) → 0 < length xs → xs ≢ []
 not_empty xs some e = omega (arith, ap length e)
@@ -22,10 +18,10 @@ symbol_then : (b : ℕ) (rest : List ℕ) (ts : List (List ℕ)) → is_symbol b
 symbol_then b rest ts e h = (rest, record { blanks = []; whole = refl; blank = refl; longest = inr (b, refl, e) }, h)
 
 blank_then : (b : ℕ) (bytes : List ℕ) (ts : List (List ℕ)) → is_blank b ≡ true → AreTokens bytes ts → AreTokens (b ∷ bytes) ts
-blank_then b bytes [] e h = both_true (is_blank b) (list_all is_blank bytes) e h
+blank_then b bytes [] e h = and_from (is_blank b) (list_all is_blank bytes) e h
 blank_then b bytes (t ∷ ts) e h =
     let s = h.1 in
-    (h.0, record { blanks = b ∷ s.blanks; whole = ap (λ x. b ∷ x) s.whole; blank = both_true (is_blank b) (list_all is_blank s.blanks) e s.blank; longest = s.longest }, h.2)
+    (h.0, record { blanks = b ∷ s.blanks; whole = ap (λ x. b ∷ x) s.whole; blank = and_from (is_blank b) (list_all is_blank s.blanks) e s.blank; longest = s.longest }, h.2)
 
 -- ---- numbers and registers
 
@@ -34,14 +30,14 @@ digit_is_word_byte c h = grind (arith, nat_tests)
 
 pub digits_are_word_bytes : (ds : List ℕ) → AllDigits 10 ds → list_all is_word_byte ds ≡ true
 digits_are_word_bytes [] h = refl
-digits_are_word_bytes (d ∷ ds) h = both_true (is_word_byte d) (list_all is_word_byte ds) (digit_is_word_byte d h.0) (digits_are_word_bytes ds h.1)
+digits_are_word_bytes (d ∷ ds) h = and_from (is_word_byte d) (list_all is_word_byte ds) (digit_is_word_byte d h.0) (digits_are_word_bytes ds h.1)
 
 numeral_then : (ds rest : List ℕ) (ts : List (List ℕ)) → IsNumeral 10 ds → ¬ BeginsWithWordByte rest → AreTokens rest ts → AreTokens (ds ++ rest) (ds ∷ ts)
 numeral_then ds rest ts n ends h = word_then ds rest ts n.0 (digits_are_word_bytes ds n.1) ends h
 
 letter_then : (b : ℕ) (ds rest : List ℕ) (ts : List (List ℕ)) → is_word_byte b ≡ true → IsNumeral 10 ds → ¬ BeginsWithWordByte rest → AreTokens rest ts → AreTokens ((b ∷ ds) ++ rest) ((b ∷ ds) ∷ ts)
 letter_then b ds rest ts e n ends h =
-    word_then (b ∷ ds) rest ts (omega arith) (both_true (is_word_byte b) (list_all is_word_byte ds) e (digits_are_word_bytes ds n.1)) ends h
+    word_then (b ∷ ds) rest ts (omega arith) (and_from (is_word_byte b) (list_all is_word_byte ds) e (digits_are_word_bytes ds n.1)) ends h
 
 -- a number whose magnitude is below 2^64
 abbrev pub IsNear : ℤ → Type 0
