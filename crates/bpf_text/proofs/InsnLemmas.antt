@@ -1,5 +1,5 @@
+pub mod ZipLemmas
 pub mod TokenLemmas
-pub mod ByteTables
 pub mod StrayLemmas
 pub mod NumberLemmas
 pub mod OperandsLemmas

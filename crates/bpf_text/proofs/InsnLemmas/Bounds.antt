@@ -1,9 +1,9 @@
 -- The largest numbers of tokens and operands of a line.
-use Rattle.std.proofs.Common.{◌≡◌, ℕ, suc, ◌+◌, ◌*◌, ◌<◌, ◌≤◌, Bool, true, false, cond, List, [], ◌∷◌, length, refl, sym, ap, ◌∙◌, arith}
+use Rattle.std.proofs.Common.{◌≡◌, ℕ, ◌+◌, ◌*◌, ◌<◌, ◌≤◌, Bool, true, false, cond, List, [], ◌∷◌, length, refl, sym, ap, ◌∙◌, arith}
 use Rattle.std.proofs.lemmas.{List.length-map, Slice.Zip.AllZip-long}
 use Rattle.std.specs.List.{AllZip, slice_split, onto_first}
 use Rattle.bpf_insn.specs.declared.insn.{WideOf.TheVariants.Number, Insn.Insn, Insn.TheVariants.Wide}
-use Rattle.bpf_text.specs.insn.Operands.{LineOperand, register, number, signed, memory, operand_kind, SpellsOperand, SpellsOperands, is_comma}
+use Rattle.bpf_text.specs.insn.Operands.{LineOperand, register, operand_kind, SpellsOperand, SpellsOperands, is_comma}
 use Rattle.bpf_text.specs.insn.{Table.operands_of, Listing.IsForm}
 
 -- the number of elements of all parts

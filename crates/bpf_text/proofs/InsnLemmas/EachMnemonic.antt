@@ -12,7 +12,7 @@ use Rattle.bpf_insn.specs.declared.insn.SwapBits.TheVariants.{B16}
 use Rattle.bpf_insn.specs.declared.insn.AtomicOp.TheVariants as atomic
 use Rattle.bpf_text.specs.declared.insn.mnemonic.WideKind.TheVariants as kind
 use Rattle.bpf_text.specs.declared.insn.{mnemonic.Mnemonic.Mnemonic, mnemonic.TheConstants.ALL, mnemonic_hash.TheConstants.PLACES}
-use Rattle.bpf_text.specs.declared.insn.mnemonic.Mnemonic.TheVariants.{Alu, Movsx, Neg, Swap, Jump, JumpLong, Branch, CallHelper, CallLocal, CallBtf, Exit, Load, LoadSigned, StoreImm, StoreReg, Atomic, Wide, PacketAbs, PacketInd}
+use Rattle.bpf_text.specs.declared.insn.mnemonic.Mnemonic.TheVariants.{Alu, Movsx, Neg, Swap, Branch, Exit, Load, LoadSigned, StoreImm, StoreReg, Atomic, Wide, PacketAbs, PacketInd}
 use Rattle.bpf_text.specs.insn.{Mnemonics.text_of_mnemonic, MnemonicHash.hash_of}
 use Rattle.std.proofs.lemmas.Bool.{and_parts}
 

@@ -1,6 +1,6 @@
 -- A faulty line lists nothing.
-use Rattle.std.proofs.Common.{◌≡◌, ℕ, Bool, true, false, not, ◌||◌, ◌&&◌, List, [], ◌∷◌, ◌++◌, ◌⊎◌, inl, inr, refl, sym, ap, ◌∙◌, Result, Ok, Err, MatchResult}
-use Rattle.std.specs.{Result.IsErrAnd, List.AllZip, List.list_any, List.list_all}
+use Rattle.std.proofs.Common.{◌≡◌, ℕ, Bool, true, false, not, ◌||◌, List, [], ◌∷◌, ◌++◌, ◌⊎◌, inl, inr, refl, sym, ap, ◌∙◌, Result, Ok, Err, MatchResult}
+use Rattle.std.specs.{Result.IsErrAnd, List.list_any, List.list_all}
 use Rattle.std.proofs.lemmas.{Bool.and_parts, Bool.or_from, Bool.false≢true, List.Folds.list_any-append}
 use Rattle.bpf_insn.specs.declared.insn.Insn.{Insn}
 use Rattle.bpf_text.specs.declared.insn.fault.LineCause.{LineCause, TheVariants.Char, TheVariants.Word, TheVariants.Shape, TheVariants.Range}
@@ -8,6 +8,7 @@ use Rattle.bpf_text.specs.declared.insn.fault.{ListError.ListError, ListError.Th
 use Rattle.bpf_text.specs.insn.{Table.operands_of, Reading.RefusesText}
 use Rattle.bpf_text.specs.insn.Tokens.{code_of, is_blank, is_word_byte, is_symbol, is_stray, IsTokenBefore, AreTokens}
 use Rattle.bpf_text.specs.insn.Listing.{IsTokenForm, ListsLine, IsCause, Lists, IsListFault}
+use Rattle.bpf_text.proofs.InsnLemmas.ZipLemmas.{zip_at}
 use Rattle.bpf_text.proofs.InsnLemmas.OneReading.{one_tokens}
 
 known : (a b c : Bool) → (a ≡ true) ⊎ (b ≡ true) ⊎ (c ≡ true) → not (a || b || c) ≡ false
@@ -64,15 +65,9 @@ excludes line Shape (i ∷ []) c h = let form = form_of line c.0 c.1 i c.2 h in 
 excludes line Range (i ∷ []) c h = c.4 i h.0 (form_of line c.0 c.1 i c.2 h)
 excludes line _ (i ∷ j ∷ more) c h = h
 
-at_line : (front : List (List ℕ)) (line : List ℕ) (back : List (List ℕ)) (listed : List (List Insn)) → AllZip ListsLine (front ++ line ∷ back) listed → (f : List Insn) × ListsLine line f
-at_line [] line back [] h = absurd h
-at_line [] line back (f ∷ listed) h = (f, h.0)
-at_line (x ∷ front) line back [] h = absurd h
-at_line (x ∷ front) line back (f ∷ listed) h = at_line front line back listed h.1
-
 pub no_listing : (text : List ℕ) (fault : LineFault) (l : List Insn) → IsListFault text fault → Lists text l → ⊥
 no_listing text fault l h k =
-    let w = at_line h.front h.line h.back k.listed (rw h.lines at k.each) in
+    let w = zip_at ListsLine h.front h.line h.back k.listed (rw h.lines at k.each) in
     excludes h.line fault.cause w.0 h.cause w.1
 
 -- ---- what an error says

@@ -5,25 +5,23 @@ use Rattle.bpf_insn.specs.declared.insn.{Reg.Reg as Register, Operand.Operand, O
 use Rattle.bpf_insn.specs.Table.{IsOperand}
 use Rattle.bpf_text.specs.declared.insn.{number.Number.Number, fault.LineCause.TheVariants.Range}
 use Rattle.bpf_text.specs.declared.insn.read_operand.ReadOperand.TheVariants.{Literal, Memory}
-use Rattle.bpf_text.specs.insn.Operands.{LineOperand, register, number, signed, memory, operand_kind, a_number}
+use Rattle.bpf_text.specs.insn.Operands.{LineOperand, number, signed, memory, operand_kind, a_number}
 use Rattle.bpf_text.specs.insn.{Table.source_operand, Numbers.IsNumber, Numbers.IsReadAs}
 use Rattle.bpf_text.specs.insn.OperandFields.{Field, address_field, source_field, imm64_field, ReadsField}
 
 -- a number in the range of the field
 pub count_some : {X : Type 0} (field : Field X) (x : X) (n : Number) (v : ℤ) → field.valid x → field.written x ≡ number v → ((z : ℤ) → IsNumber n z → v ≡ z)
     → (a : LineOperand) → IsReadAs (Literal n) a → ReadsField field a (Ok x)
-count_some field x n v ok e cases (register r) h = absurd h
 count_some field x n v ok e cases (number z) h = (ok, ap number (sym (cases z h)) ∙ sym e)
 count_some field x n v ok e cases (signed z) h = (ok, ap number (sym (cases z h)) ∙ sym e)
-count_some field x n v ok e cases (memory r z) h = absurd h
+count_some field x n v ok e cases _ h = absurd h
 
 -- a number outside the range of the field
 pub count_none : {X : Type 0} (field : Field X) (P : ℤ → Type 0) (n : Number) → ((z : ℤ) → IsNumber n z → ¬ P z) → (x : X) → operand_kind (field.written x) ≡ a_number
     → ((y : X) (z : ℤ) → field.valid y → number z ≡ field.written y → P z) → (a : LineOperand) → IsReadAs (Literal n) a → ReadsField field a (Err Range)
-count_none field P n none x k held (register r) h = absurd h
 count_none field P n none x k held (number z) h = ((x, sym k), (λ y v e. none z h (held y z v e)))
 count_none field P n none x k held (signed z) h = ((x, sym k), (λ y v e. none z h (held y z v e)))
-count_none field P n none x k held (memory r z) h = absurd h
+count_none field P n none x k held _ h = absurd h
 
 fits_by : (w : Width) (y z : ℤ) → FitsSigned w y → y ≡ z → FitsSigned w z
 fits_by w y z f e = subst (λ k. FitsSigned w k) e f
@@ -37,16 +35,12 @@ source_fits (Reg r) z f e = cc
 
 pub address_some : (base : Register) (n : Number) (u v : ℤ) → FitsSigned w16 v → u ≡ v → ((z : ℤ) → IsNumber n z → v ≡ z) → (a : LineOperand) → IsReadAs (Memory base n) a
     → ReadsField address_field a (Ok (base, u))
-address_some base n u v ok e cases (register s) h = absurd h
-address_some base n u v ok e cases (number z) h = absurd h
-address_some base n u v ok e cases (signed z) h = absurd h
 address_some base n u v ok e cases (memory s z) h = (fits_by w16 v u ok (sym e), (let b : base ≡ s = h.0 in let o : v ≡ z = cases z h.1 in cc))
+address_some base n u v ok e cases _ h = absurd h
 
 pub address_none : (base : Register) (n : Number) → ((z : ℤ) → IsNumber n z → ¬ FitsSigned w16 z) → (a : LineOperand) → IsReadAs (Memory base n) a → ReadsField address_field a (Err Range)
-address_none base n none (register s) h = absurd h
-address_none base n none (number z) h = absurd h
-address_none base n none (signed z) h = absurd h
 address_none base n none (memory s z) h = (((base, pos 0), refl), (λ y v e. let same : y.1 ≡ z = cc in none z h.1 (fits_by w16 y.1 z v same)))
+address_none base n none _ h = absurd h
 
 pub source_some : (n : Number) (u v : ℤ) → FitsSigned w32 v → u ≡ v → ((z : ℤ) → IsNumber n z → v ≡ z) → (a : LineOperand) → IsReadAs (Literal n) a → ReadsField source_field a (Ok (Imm u))
 source_some n u v ok e cases a h = count_some source_field (Imm u) n u (fits_by w32 v u ok (sym e)) refl (λ z k. e ∙ cases z k) a h

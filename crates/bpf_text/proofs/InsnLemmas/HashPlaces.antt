@@ -1,5 +1,5 @@
 -- Each index in the table of hashes is that of a mnemonic.
-use Rattle.std.proofs.Common.{◌≡◌, ℕ, zero, suc, ◌≤◌, Bool, true, false, ◌&&◌, List, [], ◌∷◌, get_or, refl, arith}
+use Rattle.std.proofs.Common.{◌≡◌, ℕ, zero, suc, ◌≤◌, true, List, [], ◌∷◌, get_or, arith}
 use Rattle.std.specs.{Prelude.nat_le, List.list_all}
 use Rattle.std.proofs.lemmas.Bool.{and_parts, Decides.nat_tests}
 

@@ -7,6 +7,7 @@ use Rattle.bpf_insn.specs.declared.insn.Insn.{Insn}
 use Rattle.bpf_text.specs.insn.{Tokens.is_newline, Reading.RefusesText, Reading.RefusesLine, Listing.lines_of, Listing.ListsLine, Listing.Lists}
 use Rattle.bpf_text.specs.declared.insn.fault.ListError.{ListError, TheVariants.Fault, TheVariants.Memory}
 use Rattle.std.proofs.lemmas.List.{Concat.flat_map-append, Splits.slice_split_none, Splits.slice_split_first}
+use Rattle.bpf_text.proofs.InsnLemmas.ZipLemmas.{zip_push}
 use Rattle.bpf_text.proofs.InsnLemmas.TokenLemmas.{run_found}
 
 -- the lines before the rest list the instructions, and the rest begins with line number n
@@ -34,12 +35,6 @@ pub line_first : (text line : List ℕ) (following : Option (Bor (List ℕ))) �
 line_first text line None h = ([], h)
 line_first text line (Some b) h = (lines_of b.now, h)
 
-zip_push : (xs : List (List ℕ)) (ys : List (List Insn)) (x : List ℕ) (y : List Insn) → AllZip ListsLine xs ys → ListsLine x y → AllZip ListsLine (xs ++ x ∷ []) (ys ++ y ∷ [])
-zip_push [] [] x y h k = (k, tt)
-zip_push [] (b ∷ ys) x y h k = absurd h
-zip_push (a ∷ xs) [] x y h k = absurd h
-zip_push (a ∷ xs) (b ∷ ys) x y h k = (h.0, zip_push xs ys x y h.1 k)
-
 joined : (listed : List (List Insn)) (found : List Insn) → flat_map (λ f. f) (listed ++ found ∷ []) ≡ flat_map (λ f. f) listed ++ found
 joined listed found = flat_map-append (λ f. f) listed (found ∷ []) ∙ ap (λ x. flat_map (λ f. f) listed ++ x) (append-nil found)
 
@@ -53,7 +48,7 @@ one_more text rest line next insns more found n s e h f =
       front = s.front ++ line ∷ [];
       listed = s.listed ++ found ∷ [];
       lines = s.lines ∙ ap (λ x. s.front ++ x) e ∙ sym (append_assoc s.front (line ∷ []) (lines_of next));
-      each = zip_push s.front s.listed line found s.each h;
+      each = zip_push ListsLine s.front s.listed line found s.each h;
       whole = f ∙ ap (λ x. x ++ found) s.whole ∙ sym (joined s.listed found);
       place = omega (arith, s.place, length-append s.front (line ∷ []));
     }
@@ -62,7 +57,7 @@ pub at_the_end : (text rest line : List ℕ) (insns more found : List Insn) (n :
 at_the_end text rest line insns more found n s e h f =
     record {
       listed = s.listed ++ found ∷ [];
-      each = rw (s.lines, e) (zip_push s.front s.listed line found s.each h);
+      each = rw (s.lines, e) (zip_push ListsLine s.front s.listed line found s.each h);
       whole = f ∙ ap (λ x. x ++ found) s.whole ∙ sym (joined s.listed found);
     }
 

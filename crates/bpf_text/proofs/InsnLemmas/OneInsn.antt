@@ -1,9 +1,9 @@
 -- A line lists at most one instruction, and an input at most one list of them.
 use Rattle.std.proofs.Common.{◌≡◌, ℕ, List, [], ◌∷◌, refl, sym, ap, ◌∙◌, map}
 use Rattle.std.specs.List.{AllZip, flat_map}
-use Rattle.bpf_insn.specs.declared.insn.{Operand.TheVariants.Imm, Operand.TheVariants.Reg, Insn.Insn}
-use Rattle.bpf_insn.specs.declared.insn.WideOf.TheVariants.{Number, MapFd, MapValueFd, VarAddr, CodeAddr, MapIdx, MapValueIdx}
-use Rattle.bpf_insn.specs.declared.insn.Insn.TheVariants.{Alu, Movsx, Neg, Swap, Jump, JumpLong, Branch, CallHelper, CallLocal, CallBtf, Exit, Load, LoadSigned, StoreImm, StoreReg, Atomic, Wide, PacketAbs, PacketInd}
+use Rattle.bpf_insn.specs.declared.insn.{Operand.TheVariants.Imm, Insn.Insn}
+use Rattle.bpf_insn.specs.declared.insn.WideOf.TheVariants.{Number}
+use Rattle.bpf_insn.specs.declared.insn.Insn.TheVariants.{Alu, Branch, Exit, Wide}
 use Rattle.bpf_text.specs.insn.{Table.mnemonic_text, Table.operands_of, Mnemonics.mnemonic_of, Mnemonics.text_of_mnemonic}
 use Rattle.bpf_text.specs.insn.{Tokens.code_of, Tokens.AreTokens, OperandFields.plain}
 use Rattle.bpf_text.specs.insn.Listing.{lines_of, IsTokenForm, ListsInsn, ListsLine, Lists}

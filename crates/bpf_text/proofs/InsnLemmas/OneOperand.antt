@@ -1,5 +1,5 @@
 -- Tokens spell at most one operand, up to how its sign is written.
-use Rattle.std.proofs.Common.{◌≡◌, ℕ, ◌<◌, ◌≤◌, ℤ, pos, neg_ℤ, List, [], ◌∷◌, ◌++◌, ◌⊎◌, inl, inr, drop, refl, sym, ap, ◌∙◌, subst, arith, codes, map}
+use Rattle.std.proofs.Common.{◌≡◌, ℕ, ◌<◌, ℤ, pos, neg_ℤ, List, [], ◌∷◌, ◌++◌, ◌⊎◌, inl, inr, drop, refl, sym, ap, ◌∙◌, subst, arith, codes, map}
 use Rattle.std.specs.{List.AllZip, List.slice_split, Fmt.decimal, Str.Parse.IsNumeral, Str.Parse.digits_value}
 use Rattle.std.proofs.lemmas.Fmt.{decimal_is_IsNumeral}
 use Rattle.bpf_insn.proofs.InsnLaws.{same_reg}

@@ -1,22 +1,20 @@
 -- The result of reading several fields, and the instruction that they make.
-use Rattle.std.proofs.Common.{◌≡◌, ◌≢◌, ℕ, suc, List, [], ◌∷◌, map, length, get_or, refl, sym, ap, ◌∙◌, subst, Result, Ok, Err, arith}
-use Rattle.std.proofs.lemmas.List.{length-map}
+use Rattle.std.proofs.Common.{◌≡◌, ◌≢◌, List, [], ◌∷◌, map, length, get_or, refl, sym, ap, ◌∙◌, subst, Result, Ok, Err, arith}
+use Rattle.std.proofs.lemmas.{List.length-map, Slice.Zip.AllZip-long}
 use Rattle.std.specs.List.{AllZip}
 use Rattle.bpf_insn.specs.declared.insn.WideOf.TheVariants as of
 use Rattle.bpf_insn.specs.declared.insn.Insn.{Insn}
 use Rattle.bpf_insn.specs.declared.insn.Insn.TheVariants as insn
-use Rattle.bpf_text.specs.declared.insn.fault.LineCause.{LineCause, TheVariants.Char, TheVariants.Word, TheVariants.Shape, TheVariants.Range}
+use Rattle.bpf_text.specs.declared.insn.fault.LineCause.{LineCause, TheVariants.Shape, TheVariants.Range}
 use Rattle.bpf_text.specs.declared.insn.{mnemonic.Mnemonic.Mnemonic, read_operand.ReadOperand.ReadOperand}
-use Rattle.bpf_text.specs.insn.Operands.{LineOperand, register, number, signed, memory, operand_kind}
+use Rattle.bpf_text.specs.insn.Operands.{LineOperand, register, operand_kind}
 use Rattle.bpf_text.specs.insn.{Table.operands_of, Numbers.IsReadAs, Mnemonics.mnemonic_of}
 use Rattle.bpf_text.specs.insn.OperandFields.{operand_count, plain, Field, ReadsField, FieldIsRead, ReadsInsn, both_read}
 use Rattle.bpf_text.proofs.InsnLemmas.FieldLists.{FieldList, last_field, field_then, ReadsFields, FieldsAreRead}
 
 pub plain_kind : (a : LineOperand) → operand_kind a ≡ operand_kind (plain a)
 plain_kind (register r) = refl
-plain_kind (number z) = refl
-plain_kind (signed z) = refl
-plain_kind (memory r z) = refl
+plain_kind _ = refl
 
 pub plain_kinds : (xs : List LineOperand) → map operand_kind xs ≡ map operand_kind (map plain xs)
 plain_kinds [] = refl
@@ -24,63 +22,37 @@ plain_kinds (x ∷ xs) =
     let first : operand_kind x ≡ operand_kind (plain x) = plain_kind x in
     let more : map operand_kind xs ≡ map operand_kind (map plain xs) = plain_kinds xs in cc
 
-cons_same : {X : Type 0} (x y : X) (xs ys : List X) → x ≡ y → xs ≡ ys → x ∷ xs ≡ y ∷ ys
-cons_same x y xs ys e f = cc
+cons_same : {X : Type 0} {x y : X} {xs ys : List X} → x ≡ y → xs ≡ ys → x ∷ xs ≡ y ∷ ys
+cons_same e f = cc
 
-head_same : {X : Type 0} (x y : X) (xs ys : List X) → x ∷ xs ≡ y ∷ ys → x ≡ y
-head_same x y xs ys e = cc
+head_same : {X : Type 0} {x y : X} {xs ys : List X} → x ∷ xs ≡ y ∷ ys → x ≡ y
+head_same e = cc
 
-tail_same : {X : Type 0} (x y : X) (xs ys : List X) → x ∷ xs ≡ y ∷ ys → xs ≡ ys
-tail_same x y xs ys e = cc
+tail_same : {X : Type 0} {x y : X} {xs ys : List X} → x ∷ xs ≡ y ∷ ys → xs ≡ ys
+tail_same e = cc
 
 -- a single field
 pub last_reads : {X : Type 0} (field : Field X) (a : LineOperand) (r : Result X LineCause) → ReadsField field a r → ReadsFields (last_field field) (a ∷ []) r
-last_reads field a (Ok x) h = (h.0, cons_same (plain a) (field.written x) [] [] h.1 refl)
-last_reads field a (Err Char) h = absurd h
-last_reads field a (Err Word) h = absurd h
-last_reads field a (Err Shape) h = λ x e. h x (head_same (operand_kind a) (operand_kind (field.written x)) [] [] e)
-last_reads field a (Err Range) h = (
-  (h.0.0, cons_same (operand_kind a) (operand_kind (field.written h.0.0)) [] [] h.0.1 refl),
-  (λ x v e. h.1 x v (head_same (plain a) (field.written x) [] [] e)),
-)
+last_reads field a (Ok x) h = (h.0, cons_same h.1 refl)
+last_reads field a (Err Shape) h = λ x e. h x (head_same e)
+last_reads field a (Err Range) h = ((h.0.0, cons_same h.0.1 refl), (λ x v e. h.1 x v (head_same e)))
+last_reads field a (Err _) h = absurd h
 
 -- a field before others
-module _ {X Y : Type 0} (field : Field X) (form : FieldList Y) (a : LineOperand) (more : List LineOperand) where
-  kinds_of_first : (x : X) → field.valid x × (plain a ≡ field.written x) → operand_kind a ≡ operand_kind (field.written x)
-  kinds_of_first x h = plain_kind a ∙ ap operand_kind h.1
-
-  kinds_of_more : (y : Y) → form.valid y × (map plain more ≡ form.written y) → map operand_kind more ≡ map operand_kind (form.written y)
-  kinds_of_more y h = plain_kinds more ∙ ap (map operand_kind) h.1
-
-  kinds : (x : X) (y : Y) → operand_kind a ≡ operand_kind (field.written x) → map operand_kind more ≡ map operand_kind (form.written y) → map operand_kind (a ∷ more) ≡ map operand_kind (field.written x ∷ form.written y)
-  kinds x y e f = cons_same (operand_kind a) (operand_kind (field.written x)) (map operand_kind more) (map operand_kind (form.written y)) e f
-
-  first_kind : (z : X × Y) → map operand_kind (a ∷ more) ≡ map operand_kind (field.written z.0 ∷ form.written z.1) → operand_kind a ≡ operand_kind (field.written z.0)
-  first_kind z e = head_same (operand_kind a) (operand_kind (field.written z.0)) (map operand_kind more) (map operand_kind (form.written z.1)) e
-
-  more_kinds : (z : X × Y) → map operand_kind (a ∷ more) ≡ map operand_kind (field.written z.0 ∷ form.written z.1) → map operand_kind more ≡ map operand_kind (form.written z.1)
-  more_kinds z e = tail_same (operand_kind a) (operand_kind (field.written z.0)) (map operand_kind more) (map operand_kind (form.written z.1)) e
-
-  first_plain : (z : X × Y) → map plain (a ∷ more) ≡ field.written z.0 ∷ form.written z.1 → plain a ≡ field.written z.0
-  first_plain z e = head_same (plain a) (field.written z.0) (map plain more) (form.written z.1) e
-
-  more_plain : (z : X × Y) → map plain (a ∷ more) ≡ field.written z.0 ∷ form.written z.1 → map plain more ≡ form.written z.1
-  more_plain z e = tail_same (plain a) (field.written z.0) (map plain more) (form.written z.1) e
-
-  pub before_reads : (r : Result X LineCause) (s : Result Y LineCause) → ReadsField field a r → ReadsFields form more s → ReadsFields (field_then field form) (a ∷ more) (both_read r s)
-  before_reads (Ok x) (Ok y) h k = ((h.0, k.0), cons_same (plain a) (field.written x) (map plain more) (form.written y) h.1 k.1)
-  before_reads (Ok x) (Err Char) h k = absurd k
-  before_reads (Ok x) (Err Word) h k = absurd k
-  before_reads (Ok x) (Err Shape) h k = λ z e. k z.1 (more_kinds z e)
-  before_reads (Ok x) (Err Range) h k = (((x, k.0.0), kinds x k.0.0 (kinds_of_first x h) k.0.1), (λ z v e. k.1 z.1 v.1 (more_plain z e)))
-  before_reads (Err Char) s h k = absurd h
-  before_reads (Err Word) s h k = absurd h
-  before_reads (Err Shape) s h k = λ z e. h z.0 (first_kind z e)
-  before_reads (Err Range) (Ok y) h k = (((h.0.0, y), kinds h.0.0 y h.0.1 (kinds_of_more y k)), (λ z v e. h.1 z.0 v.0 (first_plain z e)))
-  before_reads (Err Range) (Err Char) h k = absurd k
-  before_reads (Err Range) (Err Word) h k = absurd k
-  before_reads (Err Range) (Err Shape) h k = λ z e. k z.1 (more_kinds z e)
-  before_reads (Err Range) (Err Range) h k = (((h.0.0, k.0.0), kinds h.0.0 k.0.0 h.0.1 k.0.1), (λ z v e. h.1 z.0 v.0 (first_plain z e)))
+pub before_reads : {X Y : Type 0} (field : Field X) (form : FieldList Y) (a : LineOperand) (more : List LineOperand) (r : Result X LineCause) (s : Result Y LineCause)
+    → ReadsField field a r → ReadsFields form more s → ReadsFields (field_then field form) (a ∷ more) (both_read r s)
+before_reads field form a more (Ok x) (Ok y) h k = ((h.0, k.0), cons_same h.1 k.1)
+before_reads field form a more (Ok x) (Err Shape) h k = λ z e. k z.1 (tail_same e)
+before_reads field form a more (Ok x) (Err Range) h k =
+    (((x, k.0.0), cons_same (plain_kind a ∙ ap operand_kind h.1) k.0.1), (λ z v e. k.1 z.1 v.1 (tail_same e)))
+before_reads field form a more (Ok x) (Err _) h k = absurd k
+before_reads field form a more (Err Shape) s h k = λ z e. h z.0 (head_same e)
+before_reads field form a more (Err Range) (Ok y) h k =
+    (((h.0.0, y), cons_same h.0.1 (plain_kinds more ∙ ap (map operand_kind) k.1)), (λ z v e. h.1 z.0 v.0 (head_same e)))
+before_reads field form a more (Err Range) (Err Shape) h k = λ z e. k z.1 (tail_same e)
+before_reads field form a more (Err Range) (Err Range) h k = (((h.0.0, k.0.0), cons_same h.0.1 k.0.1), (λ z v e. h.1 z.0 v.0 (head_same e)))
+before_reads field form a more (Err Range) (Err _) h k = absurd k
+before_reads field form a more (Err _) s h k = absurd h
 
 pub one_read : {X : Type 0} (field : Field X) (s : ReadOperand) (r : Result X LineCause) → FieldIsRead field s r → FieldsAreRead (last_field field) (s ∷ []) r
 one_read field s r reads [] h = absurd h
@@ -92,29 +64,14 @@ pub more_read : {X Y : Type 0} (field : Field X) (form : FieldList Y) (s : ReadO
 more_read field form s xs r t first rest [] h = absurd h
 more_read field form s xs r t first rest (a ∷ more) h = before_reads field form a more r t (first a h.0) (rest more h.1)
 
-length_zip : (xs : List ReadOperand) (ys : List LineOperand) → AllZip IsReadAs xs ys → length ys ≡ length xs
-length_zip [] [] h = refl
-length_zip [] (y ∷ ys) h = absurd h
-length_zip (x ∷ xs) [] h = absurd h
-length_zip (x ∷ xs) (y ∷ ys) h = ap suc (length_zip xs ys h.1)
-
--- a wrong number of operands
-pub other_length : {X : Type 0} (form : FieldList X) (n : ℕ) → ((x : X) → length (form.written x) ≡ n) → (xs : List ReadOperand) → length xs ≢ n → FieldsAreRead form xs (Err Shape)
-other_length form n size xs other spelled h = λ x e.
-    let same : length spelled ≡ length (form.written x) = sym (length-map spelled operand_kind) ∙ ap length e ∙ length-map (form.written x) operand_kind in
-    other (sym (length_zip xs spelled h) ∙ same ∙ size x)
-
 -- a list of one, two or three, by its elements
 pub one_cell : (x : ReadOperand) (xs : List ReadOperand) → x ≡ get_or xs 0 x → length xs ≡ 1 → xs ≡ x ∷ []
-one_cell x [] e l = absurd (omega arith)
 one_cell x (u ∷ []) e l = cc
-one_cell x (u ∷ v ∷ more) e l = absurd (omega arith)
+one_cell x _ e l = absurd (omega arith)
 
 pub two_cells : (x y : ReadOperand) (xs : List ReadOperand) → x ≡ get_or xs 0 x → y ≡ get_or xs 1 y → length xs ≡ 2 → xs ≡ x ∷ y ∷ []
-two_cells x y [] e f l = absurd (omega arith)
-two_cells x y (u ∷ []) e f l = absurd (omega arith)
 two_cells x y (u ∷ v ∷ []) e f l = cc
-two_cells x y (u ∷ v ∷ w ∷ more) e f l = absurd (omega arith)
+two_cells x y _ e f l = absurd (omega arith)
 
 -- two fields, read in sequence
 pub two_read : {X Y : Type 0} (f : Field X) (g : Field Y) (a b : ReadOperand) (xs : List ReadOperand) (r : Result X LineCause) (s : Result Y LineCause) (t : Result (X × Y) LineCause)
@@ -125,11 +82,8 @@ two_read f g a b xs r s t e k l p q u =
     (more_read f (last_field g) a (b ∷ []) r s p (one_read g b s q)))
 
 pub three_cells : (x y z : ReadOperand) (xs : List ReadOperand) → x ≡ get_or xs 0 x → y ≡ get_or xs 1 y → z ≡ get_or xs 2 z → length xs ≡ 3 → xs ≡ x ∷ y ∷ z ∷ []
-three_cells x y z [] e f g l = absurd (omega arith)
-three_cells x y z (u ∷ []) e f g l = absurd (omega arith)
-three_cells x y z (u ∷ v ∷ []) e f g l = absurd (omega arith)
 three_cells x y z (u ∷ v ∷ w ∷ []) e f g l = cc
-three_cells x y z (u ∷ v ∷ w ∷ more ∷ most) e f g l = absurd (omega arith)
+three_cells x y z _ e f g l = absurd (omega arith)
 
 pub only_read : {X : Type 0} (f : Field X) (a : ReadOperand) (xs : List ReadOperand) (r : Result X LineCause)
     → a ≡ get_or xs 0 a → length xs ≡ 1 → FieldIsRead f a r → FieldsAreRead (last_field f) xs r
@@ -153,4 +107,4 @@ counted _ = refl
 pub miscounted : (m : Mnemonic) (xs : List ReadOperand) → length xs ≢ operand_count m → (spelled : List LineOperand) → AllZip IsReadAs xs spelled → ReadsInsn m spelled (Err Shape)
 miscounted m xs other spelled h = λ i e f.
     let same : length spelled ≡ length (operands_of i) = sym (length-map spelled operand_kind) ∙ ap length f ∙ length-map (operands_of i) operand_kind in
-    other (sym (length_zip xs spelled h) ∙ same ∙ counted i ∙ ap operand_count e)
+    other (sym (AllZip-long IsReadAs xs spelled h) ∙ same ∙ counted i ∙ ap operand_count e)

@@ -5,6 +5,7 @@ use Rattle.std.proofs.lemmas.Bool.{cases_lt, Decides.nat_tests}
 use Rattle.std.proofs.lemmas.Slice.Zip.{AllZip-long}
 use Rattle.std.proofs.lemmas.List.{length-append, length-drop, drop-drop, length-map, take-map, drop-map, get_or-drop}
 use Rattle.std.proofs.lemmas.List.{Splits.slice_split_none, Splits.slice_split_first, Sums.fails_before_first, Sums.position_or_len_is}
+use Rattle.bpf_text.proofs.InsnLemmas.ZipLemmas.{zip_push, zip_at}
 use Rattle.bpf_text.specs.declared.insn.read_operand.ReadOperand.{ReadOperand}
 use Rattle.bpf_text.specs.insn.{Operands.LineOperand, Operands.SpellsOperand, Operands.SpellsOperands, Operands.is_comma, Numbers.IsReadAs}
 
@@ -75,18 +76,6 @@ module _ (xs : List (Bor (List ℕ))) (start end : ℕ) (v : end ≡ start + pos
       rw (e, whole)
       (slice_split_none is_comma (map bytes_of (drop start xs)) (λ k d l. fails_before_first is_comma (map bytes_of (drop start xs)) k d (omega (arith, len_is, length-map (drop start xs) bytes_of, length-drop start xs, v))))
 
-zip_push : {A B : Type 0} (R : A → B → Type 0) (xs : List A) (ys : List B) (x : A) (y : B) → AllZip R xs ys → R x y → AllZip R (xs ++ x ∷ []) (ys ++ y ∷ [])
-zip_push R [] [] x y h k = (k, tt)
-zip_push R [] (b ∷ ys) x y h k = absurd h
-zip_push R (a ∷ xs) [] x y h k = absurd h
-zip_push R (a ∷ xs) (b ∷ ys) x y h k = (h.0, zip_push R xs ys x y h.1 k)
-
-zip_at : (front : List (List (List ℕ))) (part : List (List ℕ)) (back : List (List (List ℕ))) (ys : List LineOperand) → AllZip SpellsOperand (front ++ part ∷ back) ys → (a : LineOperand) × SpellsOperand part a
-zip_at [] part back [] h = absurd h
-zip_at [] part back (y ∷ ys) h = (y, h.0)
-zip_at (x ∷ front) part back [] h = absurd h
-zip_at (x ∷ front) part back (y ∷ ys) h = zip_at front part back ys h.1
-
 spelled_push : (ts : List (List ℕ)) (ys : List LineOperand) (y : LineOperand) → AllZip SpellsOperand (slice_split is_comma ts) (ys ++ y ∷ []) → SpellsOperands ts (ys ++ y ∷ [])
 spelled_push ts [] y h = h
 spelled_push ts (x ∷ ys) y h = h
@@ -117,7 +106,7 @@ pub none_read : (ts rest part : List (List ℕ)) (back : List (List (List ℕ)))
     → ((a : LineOperand) → ¬ SpellsOperand part a) → (spelled : List LineOperand) → ¬ SpellsOperands ts spelled
 none_read ts rest part back read some r e none [] h = omega (arith, ap length h)
 none_read ts rest part back read some r e none (y ∷ ys) h =
-    let w = zip_at r.front part back (y ∷ ys) (rw (r.parts, e) at h) in
+    let w = zip_at SpellsOperand r.front part back (y ∷ ys) (rw (r.parts, e) at h) in
     none w.0 w.1
 
 pub some_part : (xs : List (Bor (List ℕ))) (start end : ℕ) → end ≡ start + position_or_len {X = Bor (List ℕ)} (λ t. is_comma t.now) (drop start xs) → end ≤ length xs
@@ -138,5 +127,5 @@ too_many ts rest part back read n r e full some [] l h =
     let none : slice_split is_comma ts ≡ [] ∷ [] = rw h refl in
     omega (arith, full, some, ap length (sym none ∙ r.parts ∙ ap (λ x. r.front ++ x) e), length-append r.front (part ∷ back), AllZip-long SpellsOperand r.front r.spelled r.each, AllZip-long IsReadAs read r.spelled r.means)
 too_many ts rest part back read n r e full some (y ∷ ys) l h =
-    let same : length (slice_split is_comma ts) ≡ length (y ∷ ys) = AllZip-long SpellsOperand (slice_split is_comma ts) (y ∷ ys) h in
+    let same : length (y ∷ ys) ≡ length (slice_split is_comma ts) = AllZip-long SpellsOperand (slice_split is_comma ts) (y ∷ ys) h in
     omega (arith, full, same, ap length (r.parts ∙ ap (λ x. r.front ++ x) e), length-append r.front (part ∷ back), AllZip-long SpellsOperand r.front r.spelled r.each, AllZip-long IsReadAs read r.spelled r.means)

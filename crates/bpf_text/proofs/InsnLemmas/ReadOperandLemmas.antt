@@ -11,16 +11,13 @@ none_of_one token registers magnitudes (signed z) = λ h. magnitudes h.0 h.1
 none_of_one token registers magnitudes (memory r z) = λ h. h
 
 pub none_of_two : (sign token : List ℕ) → ((z : ℤ) → ¬ SpellsSigned sign token z) → (a : LineOperand) → ¬ SpellsOperand (sign ∷ token ∷ []) a
-none_of_two sign token numbers (register r) = λ h. h
 none_of_two sign token numbers (number z) = λ h. numbers z h
 none_of_two sign token numbers (signed z) = λ h. numbers z h
-none_of_two sign token numbers (memory r z) = λ h. h
+none_of_two sign token numbers _ = λ h. h
 
 pub none_of_five : (opening base sign token closing : List ℕ) → ((z : ℤ) → ¬ SpellsSigned sign token z) → (a : LineOperand) → ¬ SpellsOperand (opening ∷ base ∷ sign ∷ token ∷ closing ∷ []) a
-none_of_five opening base sign token closing numbers (register r) = λ h. h
-none_of_five opening base sign token closing numbers (number z) = λ h. h
-none_of_five opening base sign token closing numbers (signed z) = λ h. h
 none_of_five opening base sign token closing numbers (memory r z) = λ h. numbers z h.2
+none_of_five opening base sign token closing numbers _ = λ h. h
 
 -- the bytes of a token
 abbrev pub token_at : List (Bor (List ℕ)) → ℕ → List ℕ
@@ -31,28 +28,17 @@ tokens_of xs = map (λ t. t.now) xs
 
 -- two, three or five tokens, one by one
 pub two_cells : (xs : List (Bor (List ℕ))) → 2 ≤ length xs → length xs < 3 → tokens_of xs ≡ token_at xs 0 ∷ token_at xs 1 ∷ []
-two_cells [] l h = absurd (omega arith)
-two_cells (a ∷ []) l h = absurd (omega arith)
 two_cells (a ∷ b ∷ []) l h = refl
-two_cells (a ∷ b ∷ x ∷ more) l h = absurd (omega arith)
+two_cells _ l h = absurd (omega arith)
 
 pub three_cells : (xs : List (Bor (List ℕ))) → 3 ≤ length xs → length xs < 4 → tokens_of xs ≡ token_at xs 0 ∷ token_at xs 1 ∷ token_at xs 2 ∷ []
-three_cells [] l h = absurd (omega arith)
-three_cells (a ∷ []) l h = absurd (omega arith)
-three_cells (a ∷ b ∷ []) l h = absurd (omega arith)
 three_cells (a ∷ b ∷ c ∷ []) l h = refl
-three_cells (a ∷ b ∷ c ∷ x ∷ more) l h = absurd (omega arith)
+three_cells _ l h = absurd (omega arith)
 
 pub five_cells : (xs : List (Bor (List ℕ))) → 5 ≤ length xs → length xs < 6 → tokens_of xs ≡ token_at xs 0 ∷ token_at xs 1 ∷ token_at xs 2 ∷ token_at xs 3 ∷ token_at xs 4 ∷ []
-five_cells [] l h = absurd (omega arith)
-five_cells (a ∷ []) l h = absurd (omega arith)
-five_cells (a ∷ b ∷ []) l h = absurd (omega arith)
-five_cells (a ∷ b ∷ c ∷ []) l h = absurd (omega arith)
-five_cells (a ∷ b ∷ c ∷ d ∷ []) l h = absurd (omega arith)
 five_cells (a ∷ b ∷ c ∷ d ∷ e ∷ []) l h = refl
-five_cells (a ∷ b ∷ c ∷ d ∷ e ∷ x ∷ more) l h = absurd (omega arith)
+five_cells _ l h = absurd (omega arith)
 
 pub one_byte : (xs : List ℕ) (b : ℕ) → 1 ≤ length xs → length xs < 2 → get_or xs 0 0 ≡ b → xs ≡ b ∷ []
-one_byte [] b l h e = absurd (omega arith)
 one_byte (x ∷ []) b l h e = cc
-one_byte (x ∷ y ∷ more) b l h e = absurd (omega arith)
+one_byte _ b l h e = absurd (omega arith)

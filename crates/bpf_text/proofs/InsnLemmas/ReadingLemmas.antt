@@ -11,7 +11,7 @@ use Rattle.bpf_text.specs.declared.insn.fault.LineCause.{LineCause, TheVariants.
 use Rattle.bpf_text.specs.declared.insn.mnemonic.WideKind.TheVariants as kind
 use Rattle.bpf_text.specs.{declared.insn.mnemonic.Mnemonic.Mnemonic, insn.Table.mnemonic_text, insn.Table.operands_of, insn.Reading.ReadsTokens}
 use Rattle.bpf_text.specs.declared.insn.mnemonic.Mnemonic.TheVariants.{Alu, Movsx, Neg, Swap, Jump, JumpLong, Branch, CallHelper, CallLocal, CallBtf, Exit, Load, LoadSigned, StoreImm, StoreReg, Atomic, Wide, PacketAbs, PacketInd}
-use Rattle.bpf_text.specs.insn.Operands.{LineOperand, register, number, signed, memory, operand_kind, SpellsOperand, SpellsOperands, is_comma}
+use Rattle.bpf_text.specs.insn.Operands.{LineOperand, register, operand_kind, SpellsOperand, SpellsOperands, is_comma}
 use Rattle.bpf_text.specs.insn.{Mnemonics.mnemonic_of, Mnemonics.text_of_mnemonic, OperandFields.plain, OperandFields.ReadsInsn}
 use Rattle.bpf_text.specs.insn.Listing.{IsMnemonic, IsForm, ListsInsn, IsCause}
 use Rattle.bpf_text.proofs.InsnLemmas.{Bounds.tokens_bound, Bounds.form_bound, OperandFieldsLemmas.plain_kinds}
@@ -91,37 +91,30 @@ with_zeros (insn.PacketInd z s k) = (insn.PacketInd z s (pos 0), zero_imm, refl,
 -- tokens that spell an operand spell it however its sign is written
 to_plain : (ts : List (List ℕ)) (a : LineOperand) → SpellsOperand ts a → SpellsOperand ts (plain a)
 to_plain ts (register r) h = h
-to_plain ts (number z) h = h
-to_plain ts (signed z) h = h
-to_plain ts (memory r z) h = h
+to_plain ts _ h = h
 
 from_plain : (ts : List (List ℕ)) (a : LineOperand) → SpellsOperand ts (plain a) → SpellsOperand ts a
 from_plain ts (register r) h = h
-from_plain ts (number z) h = h
-from_plain ts (signed z) h = h
-from_plain ts (memory r z) h = h
+from_plain ts _ h = h
 
 respell : (ts : List (List ℕ)) (a b : LineOperand) → plain a ≡ plain b → SpellsOperand ts b → SpellsOperand ts a
 respell ts a b e h = from_plain ts a (subst (SpellsOperand ts) (sym e) (to_plain ts b h))
 
 respell_zip : (tss : List (List (List ℕ))) (xs ys : List LineOperand) → map plain xs ≡ map plain ys → AllZip SpellsOperand tss ys → AllZip SpellsOperand tss xs
 respell_zip [] [] [] e h = tt
-respell_zip [] [] (y ∷ ys) e h = absurd h
-respell_zip [] (x ∷ xs) [] e h = cc
-respell_zip [] (x ∷ xs) (y ∷ ys) e h = absurd h
-respell_zip (t ∷ ts) [] [] e h = absurd h
-respell_zip (t ∷ ts) [] (y ∷ ys) e h = cc
-respell_zip (t ∷ ts) (x ∷ xs) [] e h = absurd h
 respell_zip (t ∷ ts) (x ∷ xs) (y ∷ ys) e h =
     let first : plain x ≡ plain y = cc in
     let more : map plain xs ≡ map plain ys = cc in
     (respell t x y first h.0, respell_zip ts xs ys more h.1)
+respell_zip _ [] [] e h = absurd h
+respell_zip _ [] (y ∷ ys) e h = cc
+respell_zip _ (x ∷ xs) [] e h = cc
+respell_zip _ (x ∷ xs) (y ∷ ys) e h = absurd h
 
 respell_all : (ts : List (List ℕ)) (xs ys : List LineOperand) → map plain xs ≡ map plain ys → SpellsOperands ts ys → SpellsOperands ts xs
 respell_all ts [] [] e h = h
-respell_all ts [] (y ∷ ys) e h = cc
-respell_all ts (x ∷ xs) [] e h = cc
 respell_all ts (x ∷ xs) (y ∷ ys) e h = respell_zip (slice_split is_comma ts) (x ∷ xs) (y ∷ ys) e h
+respell_all ts _ _ e h = cc
 
 kinds_of : (xs ys : List LineOperand) → map plain xs ≡ map plain ys → map operand_kind xs ≡ map operand_kind ys
 kinds_of xs ys e = plain_kinds xs ∙ ap (map operand_kind) e ∙ sym (plain_kinds ys)

@@ -1,34 +1,27 @@
 -- The first stray byte of a line ends its code, or is in it.
-use Rattle.std.proofs.Common.{◌≡◌, ℕ, ◌<◌, ◌≤◌, Bool, true, false, not, eqb, List, [], ◌∷◌, inl, inr, ◌⊎◌, length, get_or, take, refl, sym, ap, ◌∙◌, arith}
+use Rattle.std.proofs.Common.{◌≡◌, ℕ, ◌<◌, ◌≤◌, Bool, true, false, not, List, inl, inr, ◌⊎◌, length, get_or, take, sym, ap, ◌∙◌, arith}
 use Rattle.std.specs.List.{list_any, list_all, position_or_len}
-use Rattle.std.proofs.lemmas.Bool.{false≢true, eqb-true, cases_lt}
-use Rattle.std.proofs.lemmas.List.{get_or-take, length-take, Sums.fails_before_first, Sums.passes_at_first, Folds.list_any_at}
+use Rattle.std.proofs.lemmas.Bool.{false≢true, not-true, cases_Bool, cases_lt, Decides.nat_tests}
+use Rattle.std.proofs.lemmas.List.{get_or-take, length-take, Sums.fails_before_first, Sums.passes_at_first, Folds.list_any_at, Folds.list_any_none, Sums.AllPass-from_list_all}
 use Rattle.bpf_text.specs.insn.Tokens.{is_comment_mark, is_stray, code_of}
 use Rattle.bpf_text.proofs.InsnLemmas.TokenLemmas.{run_found, run_whole, run_passes}
 
 -- the bytes that begin a comment are stray
-mark_is_stray : (b : ℕ) → is_stray b ≡ false → is_comment_mark b ≡ false
-mark_is_stray b h = from_tests (eqb b 59) (eqb b 35) refl refl
-  where
-    from_tests : (x y : Bool) → eqb b 59 ≡ x → eqb b 35 ≡ y → is_comment_mark b ≡ false
-    from_tests true y e f = absurd (false≢true (sym h ∙ ap is_stray (eqb-true b 59 e)))
-    from_tests false true e f = absurd (false≢true (sym h ∙ ap is_stray (eqb-true b 35 f)))
-    from_tests false false e f = rw (e, f) refl
+pub mark_is_stray : (b : ℕ) → is_comment_mark b ≡ true → is_stray b ≡ true
+mark_is_stray b h = grind (arith, nat_tests)
 
-none_passes : (p : ℕ → Bool) (xs : List ℕ) → list_all (λ b. not (p b)) xs ≡ true → list_any p xs ≡ false
-none_passes p [] h = refl
-none_passes p (x ∷ xs) h = by_test (none_passes p xs) (p x) refl
-  where
-    by_test : (list_all (λ b. not (p b)) xs ≡ true → list_any p xs ≡ false) → (a : Bool) → p x ≡ a → list_any p (x ∷ xs) ≡ false
-    by_test rest true e = absurd (false≢true (rw e at h))
-    by_test rest false e = rw e (rest (rw e at h))
+no_element : (p : ℕ → Bool) (xs : List ℕ) → list_all (λ b. not (p b)) xs ≡ true → list_any p xs ≡ false
+no_element p xs h = list_any_none p xs (λ k d l. not-true (p (get_or xs k d)) (AllPass-from_list_all (λ b. not (p b)) xs h k d l))
 
 -- nothing before the first stray byte is stray
 pub none_before : (line : List ℕ) (end : ℕ) → end ≡ position_or_len is_stray line → list_any is_stray (take end line) ≡ false
-none_before line end e = rw e (none_passes is_stray (take (position_or_len is_stray line) line) (run_passes (λ b. not (is_stray b)) line))
+none_before line end e = rw e (no_element is_stray (take (position_or_len is_stray line) line) (run_passes (λ b. not (is_stray b)) line))
 
 no_mark : (line : List ℕ) (end k : ℕ) → end ≡ position_or_len is_stray line → k < end → is_comment_mark (get_or line k 0) ≡ false
-no_mark line end k e l = mark_is_stray (get_or line k 0) (fails_before_first is_stray line k 0 (omega (arith, e)))
+no_mark line end k e l = elim (cases_Bool (is_comment_mark (get_or line k 0))) [
+  | inl h ↦ absurd (false≢true (sym (fails_before_first is_stray line k 0 (omega (arith, e))) ∙ mark_is_stray (get_or line k 0) h))
+  | inr h ↦ h
+]
 
 -- if the first stray byte is one of these, it begins the comment
 pub mark_ends : (line : List ℕ) (end : ℕ) → end ≡ position_or_len is_stray line → end < length line → is_comment_mark (get_or line end 0) ≡ true → take end line ≡ code_of line

@@ -1,9 +1,9 @@
 -- The tokens of a line by the lengths of its runs.
-use Rattle.std.proofs.Common.{◌≡◌, ℕ, ◌<◌, ◌≤◌, Bool, true, false, eqb, not, ◌||◌, List, [], ◌∷◌, ◌++◌, inl, inr, length, get_or, take, drop, refl, sym, ap, add-zero, ◌∙◌, arith}
-use Rattle.std.specs.List.{list_any, list_all, prefix_len}
+use Rattle.std.proofs.Common.{◌≡◌, ℕ, ◌<◌, ◌≤◌, Bool, true, false, eqb, ◌||◌, List, [], ◌∷◌, ◌++◌, inl, inr, length, get_or, take, drop, refl, sym, ap, add-zero, ◌∙◌, arith}
+use Rattle.std.specs.List.{All, list_any, list_all, prefix_len}
 use Rattle.std.proofs.lemmas.List.{get_or-take, take-append-drop, length-append, length-drop, length-take, length-take-le, get_or-drop, take_all, append_assoc}
 use Rattle.std.proofs.lemmas.List.Sums.{prefix_len_is, prefix_len_passes, prefix_len_stops, prefix_len-le-length, list_all-from_AllPass}
-use Rattle.std.proofs.lemmas.{List.Folds.list_any_at, List.Folds.list_any-append, Bool.false≢true, Bool.Decides.nat_tests}
+use Rattle.std.proofs.lemmas.{List.Folds.list_any_at, List.Folds.list_any-append, Bool.cases_Bool, Bool.not-false, Bool.or_parts, Bool.false≢true, Bool.Decides.nat_tests}
 use Rattle.bpf_text.specs.insn.Tokens.{is_blank, is_word_byte, is_symbol, is_stray, BeginsWithWordByte, IsTokenBefore, StartsWithToken, AreTokens}
 
 -- a run by index
@@ -23,19 +23,12 @@ run_passes p xs =
     (λ k d h. let l : k < prefix_len p xs = omega (arith, length-take (prefix_len p xs) xs) in
     rw (get_or-take (prefix_len p xs) xs k d l) (prefix_len_passes p xs k d l))
 
--- no element passes the test
-pub none_at : (p : ℕ → Bool) (xs : List ℕ) (i : ℕ) → i < length xs → list_any p xs ≡ false → p (get_or xs i 0) ≡ false
-none_at p xs i h none = from_test (p (get_or xs i 0)) refl
-  where
-    from_test : (b : Bool) → p (get_or xs i 0) ≡ b → p (get_or xs i 0) ≡ false
-    from_test true e = absurd (false≢true (sym none ∙ list_any_at p xs i 0 h e))
-    from_test false e = e
-
-third : (a b c : Bool) → not (a || b || c) ≡ false → a ≡ false → b ≡ false → c ≡ true
-third true b c h e f = absurd (false≢true (sym e))
-third false true c h e f = absurd (false≢true (sym f))
-third false false true h e f = refl
-third false false false h e f = absurd (false≢true (sym h))
+-- no element passes a test that a list fails
+pub none_passes : {X : Type 0} (p : X → Bool) (xs : List X) → list_any p xs ≡ false → All (λ x. p x ≡ false) xs
+none_passes p xs none k d h = elim (cases_Bool (p (get_or xs k d))) [
+  | inl e ↦ absurd (false≢true (sym none ∙ list_any_at p xs k d h e))
+  | inr e ↦ e
+]
 
 not_begins : (xs : List ℕ) → (0 < length xs → is_word_byte (get_or xs 0 0) ≡ false) → ¬ BeginsWithWordByte xs
 not_begins [] h = λ w. w
@@ -44,9 +37,6 @@ not_begins (b ∷ xs) h = λ w. false≢true (sym (h (omega arith)) ∙ w)
 one_cell : (xs : List ℕ) → 0 < length xs → take 1 xs ≡ get_or xs 0 0 ∷ []
 one_cell [] h = absurd (omega arith)
 one_cell (x ∷ xs) h = refl
-
-is_empty_list : (xs : List ℕ) → xs ≡ [] → length xs ≡ 0
-is_empty_list xs e = ap length e
 
 -- nothing follows the blanks
 pub all_blank : (bytes rest : List ℕ) (n : ℕ) → n ≡ prefix_len is_blank bytes → rest ≡ drop n bytes → length rest ≡ 0 → list_all is_blank bytes ≡ true
@@ -76,7 +66,7 @@ word_starts bytes rest token after n run len e f r h l t a =
       blanks = take n bytes;
       whole = joined bytes rest token after n len f t a;
       blank = blanks_before bytes n e;
-      longest = inl ((λ z. absurd (omega (arith, is_empty_list token z))), all, ends);
+      longest = inl ((λ z. absurd (omega (arith, ap length z))), all, ends);
     }
 
 -- a symbol follows the blanks
@@ -86,23 +76,19 @@ symbol_starts bytes rest token after n run len none e f h r z l t a =
     let b : ℕ = get_or rest 0 0 in
     let inside : n < length bytes = omega (arith, ap length f, length-drop n bytes) in
     let at_n : get_or rest 0 0 ≡ get_or bytes n 0 = ap (λ x. get_or x 0 0) f ∙ get_or-drop n bytes 0 0 ∙ ap (λ i. get_or bytes i 0) (omega arith) in
-    let not_stray : is_stray (get_or rest 0 0) ≡ false = rw at_n (none_at is_stray bytes n inside none) in
+    let not_stray : is_stray (get_or rest 0 0) ≡ false = rw at_n (none_passes is_stray bytes none n 0 inside) in
     let not_blank : is_blank (get_or rest 0 0) ≡ false =
     rw (at_n, e) (prefix_len_stops is_blank bytes 0 (omega arith)) in
     let run_none : prefix_len is_word_byte rest ≡ 0 = sym r ∙ z in
     let stops : is_word_byte (get_or rest (prefix_len is_word_byte rest) 0) ≡ false = prefix_len_stops is_word_byte rest 0 (omega arith) in
     let not_mnemonic : is_word_byte (get_or rest 0 0) ≡ false = rw run_none at stops in
-    let symbol : is_symbol (get_or rest 0 0) ≡ true = third (is_blank (get_or rest 0 0)) (is_word_byte (get_or rest 0 0)) (is_symbol (get_or rest 0 0)) not_stray not_blank not_mnemonic in
+    let symbol : is_symbol (get_or rest 0 0) ≡ true = rw (not_blank, not_mnemonic) at (not-false (is_blank (get_or rest 0 0) || is_word_byte (get_or rest 0 0) || is_symbol (get_or rest 0 0)) not_stray) in
     record {
       blanks = take n bytes;
       whole = joined bytes rest token after n len f t a;
       blank = blanks_before bytes n e;
       longest = inr (get_or rest 0 0, rw (t, l) (one_cell rest h), symbol);
     }
-
--- a length is above 0 if a test shows that it isn't 0
-pub some_length : {n : ℕ} (b : Bool) → b ≡ eqb n 0 → b ≡ false → 0 < n
-some_length b e t = grind (arith, nat_tests)
 
 pub empty_from_test : (xs : List ℕ) (b : Bool) → b ≡ eqb (length xs) 0 → b ≡ true → length xs ≡ 0
 empty_from_test xs b e t = grind (arith, nat_tests)
@@ -113,12 +99,8 @@ some_from_test xs b e t = grind (arith, nat_tests)
 -- what follows a token has no stray byte either, and is shorter
 pub none_stray_following : (bytes token rest : List ℕ) → StartsWithToken bytes token rest → list_any is_stray bytes ≡ false → list_any is_stray rest ≡ false
 none_stray_following bytes token rest s none =
-    second_none (list_any is_stray (s.blanks ++ token)) (list_any is_stray rest)
-    (sym (list_any-append is_stray (s.blanks ++ token) rest) ∙ ap (list_any is_stray) (sym s.whole) ∙ none)
-  where
-    second_none : (a b : Bool) → (a || b) ≡ false → b ≡ false
-    second_none true b e = absurd (false≢true (sym e))
-    second_none false b e = e
+    (or_parts (list_any is_stray (s.blanks ++ token)) (list_any is_stray rest)
+    (sym (list_any-append is_stray (s.blanks ++ token) rest) ∙ ap (list_any is_stray) (sym s.whole) ∙ none)).1
 
 token_has_bytes : (token rest : List ℕ) → IsTokenBefore token rest → 0 < length token
 token_has_bytes [] rest (inl w) = absurd (w.0 refl)

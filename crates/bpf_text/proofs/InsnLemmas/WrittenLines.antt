@@ -1,16 +1,16 @@
 -- The listing of instructions lists them.
 use Rattle.std.proofs.Common.{rules, ◌≡◌, ℕ, suc, ◌+◌, ◌<◌, ◌≤◌, ℤ, pos, negsuc, Bool, true, false, List, [], ◌∷◌, ◌++◌, ◌⊎◌, inl, inr, length, get_or, take, take_all, refl, sym, ap, ◌∙◌, subst, arith, append_assoc, append-nil, codes, FitsSigned}
 use Rattle.std.specs.{Int.w16, Int.w32, List.AllZip, List.All, List.list_any, List.flat_map, List.position_or_len}
-use Rattle.std.proofs.lemmas.{Int.ints, Bool.cases_lt, Bool.false≢true, Bool.Decides.nat_tests}
+use Rattle.std.proofs.lemmas.{Int.ints, Bool.cases_lt, Bool.cases_Bool, Bool.false≢true, Bool.Decides.nat_tests}
 use Rattle.std.proofs.lemmas.List.{get_or_default, take_more, Sums.position_or_len_is, Concat.flat_map-append, Splits.slice_split_at}
 use Rattle.bpf_insn.specs.declared.insn.{Operand.Operand, Operand.TheVariants.Imm, Operand.TheVariants.Reg, Insn.Insn}
-use Rattle.bpf_insn.specs.declared.insn.WideOf.TheVariants.{Number, MapFd, MapValueFd, VarAddr, CodeAddr, MapIdx, MapValueIdx}
-use Rattle.bpf_insn.specs.declared.insn.Insn.TheVariants.{Alu, Movsx, Neg, Swap, Jump, JumpLong, Branch, CallHelper, CallLocal, CallBtf, Exit, Load, LoadSigned, StoreImm, StoreReg, Atomic, Wide, PacketAbs, PacketInd}
+use Rattle.bpf_insn.specs.declared.insn.WideOf.TheVariants.{Number}
+use Rattle.bpf_insn.specs.declared.insn.Insn.TheVariants.{Alu, Branch, Wide}
 use Rattle.bpf_insn.specs.Table.{IsInsn, IsOperand}
 use Rattle.bpf_text.specs.insn.{Table.mnemonic_text, Table.source_operand, Table.operands_of, Lines.spaced, Lines.line_of, Lines.listing_of}
 use Rattle.bpf_text.specs.insn.Tokens.{is_newline, is_comment_mark, is_stray, code_of, AreTokens}
 use Rattle.bpf_text.specs.insn.Listing.{lines_of, ListsInsn, ListsLine, Lists}
-use Rattle.bpf_text.proofs.InsnLemmas.{Excludes.no_stray, MnemonicTokens.mnemonic_is_token, WrittenSpells.none_passes, WrittenSpells.operands_spell}
+use Rattle.bpf_text.proofs.InsnLemmas.{Excludes.no_stray, MnemonicTokens.mnemonic_is_token, StrayLemmas.mark_is_stray, TokenLemmas.none_passes, WrittenSpells.operands_spell}
 use Rattle.bpf_text.proofs.InsnLemmas.WrittenTokens.{IsNear, IsWritable, AreWritable, operands_tokens, word_then, spaced_then}
 
 -- ---- the fields of an instruction are in range
@@ -45,16 +45,12 @@ line_tokens i h =
 newline_is_stray : (b : ℕ) → is_newline b ≡ true → is_stray b ≡ true
 newline_is_stray b h = grind (arith, nat_tests)
 
-mark_is_stray : (b : ℕ) → is_comment_mark b ≡ true → is_stray b ≡ true
-mark_is_stray b h = grind (arith, nat_tests)
-
 -- no byte passes a test that only stray bytes pass
 none_of_strays : (p : ℕ → Bool) → ((b : ℕ) → p b ≡ true → is_stray b ≡ true) → (xs : List ℕ) → list_any is_stray xs ≡ false → All (λ b. p b ≡ false) xs
-none_of_strays p strays xs none k d h = by_test (p (get_or xs k d)) refl
-  where
-    by_test : (b : Bool) → p (get_or xs k d) ≡ b → p (get_or xs k d) ≡ false
-    by_test true e = absurd (false≢true (sym (none_passes is_stray xs none k d h) ∙ strays (get_or xs k d) e))
-    by_test false e = e
+none_of_strays p strays xs none k d h = elim (cases_Bool (p (get_or xs k d))) [
+  | inl e ↦ absurd (false≢true (sym (none_passes is_stray xs none k d h) ∙ strays (get_or xs k d) e))
+  | inr e ↦ e
+]
 
 all_code : (line : List ℕ) → list_any is_stray line ≡ false → code_of line ≡ line
 all_code line none =

@@ -1,10 +1,11 @@
 -- The tokens of a written line spell its operands.
-use Rattle.std.proofs.Common.{◌≡◌, ◌≢◌, ℕ, suc, ◌^◌, ◌<◌, ℤ, pos, negsuc, Bool, true, false, ◌||◌, List, [], ◌∷◌, ◌++◌, inl, inr, get_or, map, refl, sym, ap, ◌∙◌, subst, arith, codes}
-use Rattle.std.specs.{Fmt.decimal, Char.digit_value, Str.Parse.IsNumeral, List.AllZip, List.All, List.list_any, List.slice_split}
-use Rattle.std.proofs.lemmas.{Bool.or_from, Bool.false≢true, Bool.Decides.nat_tests, Fmt.decimal_is_IsNumeral}
-use Rattle.std.proofs.lemmas.List.{Folds.list_any_at, Folds.list_any-append, Splits.slice_split_none, Splits.slice_split_at}
+use Rattle.std.proofs.Common.{◌≡◌, ◌≢◌, ℕ, suc, ◌^◌, ◌<◌, ℤ, pos, negsuc, false, List, [], ◌∷◌, ◌++◌, inl, inr, map, refl, sym, ap, ◌∙◌, subst, arith, codes}
+use Rattle.std.specs.{Fmt.decimal, Char.digit_value, Str.Parse.IsNumeral, List.AllZip, List.list_any, List.slice_split}
+use Rattle.std.proofs.lemmas.{Bool.or_from, Bool.Decides.nat_tests, Fmt.decimal_is_IsNumeral}
+use Rattle.std.proofs.lemmas.List.{Folds.list_any-append, Splits.slice_split_none, Splits.slice_split_at}
 use Rattle.bpf_insn.specs.declared.insn.Reg.{Reg}
 use Rattle.bpf_text.specs.insn.Operands.{LineOperand, register, number, signed, memory, register_text, SpellsMagnitude, SpellsOperand, SpellsOperands, is_comma}
+use Rattle.bpf_text.proofs.InsnLemmas.TokenLemmas.{none_passes}
 use Rattle.bpf_text.proofs.InsnLemmas.WrittenTokens.{IsNear, numeral, number_tokens, signed_tokens, IsWritable, AreWritable, operand_tokens, operands_tokens}
 
 -- ---- one operand
@@ -48,7 +49,7 @@ signed_no_comma (negsuc n) near = none_then (codes "-") (decimal (suc n) ∷ [])
 
 number_no_comma : (z : ℤ) → IsNear z → list_any is_comma (number_tokens z) ≡ false
 number_no_comma (pos n) near = none_then (decimal n) [] (numeral_no_comma (decimal n) (numeral n near)) refl
-number_no_comma (negsuc n) near = none_then (codes "-") (decimal (suc n) ∷ []) refl (none_then (decimal (suc n)) [] (numeral_no_comma (decimal (suc n)) (numeral (suc n) near)) refl)
+number_no_comma (negsuc n) near = signed_no_comma (negsuc n) near
 
 operand_no_comma : (a : LineOperand) → IsWritable a → list_any is_comma (operand_tokens a) ≡ false
 operand_no_comma (register r) near = none_then (register_text r) [] (word_no_comma 114 (decimal r.number) (λ e. omega arith)) refl
@@ -58,14 +59,6 @@ operand_no_comma (memory r z) near =
     none_then (codes "[") (register_text r ∷ (signed_tokens z ++ codes "]" ∷ [])) refl
     (none_then (register_text r) (signed_tokens z ++ codes "]" ∷ []) (word_no_comma 114 (decimal r.number) (λ e. omega arith))
     (list_any-append is_comma (signed_tokens z) (codes "]" ∷ []) ∙ or_from (list_any is_comma (signed_tokens z)) (list_any is_comma (codes "]" ∷ [])) (signed_no_comma z near) refl))
-
--- no element passes a test that a list fails
-pub none_passes : {X : Type 0} (p : X → Bool) (xs : List X) → list_any p xs ≡ false → All (λ x. p x ≡ false) xs
-none_passes p xs none k d h = by_test (p (get_or xs k d)) refl
-  where
-    by_test : (b : Bool) → p (get_or xs k d) ≡ b → p (get_or xs k d) ≡ false
-    by_test true e = absurd (false≢true (sym none ∙ list_any_at p xs k d h e))
-    by_test false e = e
 
 -- ---- several operands
 

@@ -1,5 +1,5 @@
 -- The tokens of written lines.
-use Rattle.std.proofs.Common.{◌≡◌, ◌≢◌, ℕ, suc, ◌^◌, ◌<◌, ℤ, pos, negsuc, Bool, true, false, ◌&&◌, List, [], ◌∷◌, ◌++◌, inl, inr, length, refl, sym, ap, ◌∙◌, subst, arith, append_assoc, append-nil, codes}
+use Rattle.std.proofs.Common.{◌≡◌, ◌≢◌, ℕ, suc, ◌^◌, ◌<◌, ℤ, pos, negsuc, true, false, List, [], ◌∷◌, ◌++◌, inl, inr, length, refl, sym, ap, ◌∙◌, subst, arith, append_assoc, append-nil, codes}
 use Rattle.std.specs.{Fmt.decimal, Fmt.signed_decimal, List.list_all, Char.digit_value, Str.Parse.AllDigits, Str.Parse.IsNumeral}
 use Rattle.std.proofs.lemmas.{Bool.and_from, Bool.false≢true, Bool.Decides.nat_tests, Fmt.decimal_is_IsNumeral}
 use Rattle.bpf_insn.specs.declared.insn.Reg.{Reg}
@@ -98,12 +98,6 @@ operands_tokens (a ∷ b ∷ more) = operand_tokens a ++ codes "," ∷ operands_
 four_parts : (a b c d e : List ℕ) → (((a ++ b) ++ c) ++ d) ++ e ≡ a ++ (b ++ (c ++ (d ++ e)))
 four_parts a b c d e = simp append_assoc
 
-two_parts : (a b c : List ℕ) → (a ++ b) ++ c ≡ a ++ (b ++ c)
-two_parts a b c = append_assoc a b c
-
-two_token_parts : (a b c : List (List ℕ)) → a ++ (b ++ c) ≡ (a ++ b) ++ c
-two_token_parts a b c = sym (append_assoc a b c)
-
 no_mnemonic : (b : ℕ) (rest : List ℕ) → is_word_byte b ≡ false → ¬ BeginsWithWordByte (b ∷ rest)
 no_mnemonic b rest e = λ h. false≢true (sym e ∙ h)
 
@@ -125,7 +119,7 @@ operand_then (signed z) rest ts near ends h = signed_then z rest ts near ends h
 operand_then (memory r z) rest ts near ends h =
     subst (λ (x : List ℕ). AreTokens x (operand_tokens (memory r z) ++ ts)) (sym (four_parts (codes "[") (register_text r) (signed_text z) (codes "]") rest))
     (subst (λ (x : List (List ℕ)). AreTokens (codes "[" ++ (register_text r ++ (signed_text z ++ (codes "]" ++ rest)))) (codes "[" ∷ register_text r ∷ x))
-    (two_token_parts (signed_tokens z) (codes "]" ∷ []) ts) (memory_then r z rest ts near h))
+    (sym (append_assoc (signed_tokens z) (codes "]" ∷ []) ts)) (memory_then r z rest ts near h))
 
 pub operands_then : (xs : List LineOperand) → AreWritable xs → AreTokens (operands_text xs) (operands_tokens xs)
 operands_then [] near = refl
@@ -136,7 +130,7 @@ operands_then (a ∷ b ∷ more) near =
     let rest = operands_text (b ∷ more) in
     let ts = operands_tokens (b ∷ more) in
     let following : AreTokens (44 ∷ 32 ∷ rest) (codes "," ∷ ts) = symbol_then 44 (32 ∷ rest) ts refl (blank_then 32 rest ts refl (operands_then (b ∷ more) near.1)) in
-    subst (λ (x : List ℕ). AreTokens x (operand_tokens a ++ codes "," ∷ ts)) (sym (two_parts (operand_text a) (codes ", ") rest))
+    subst (λ (x : List ℕ). AreTokens x (operand_tokens a ++ codes "," ∷ ts)) (sym (append_assoc (operand_text a) (codes ", ") rest))
     (operand_then a (44 ∷ 32 ∷ rest) (codes "," ∷ ts) near.0 (no_mnemonic 44 (32 ∷ rest) refl) following)
 
 pub spaced_then : (xs : List LineOperand) → AreWritable xs → AreTokens (spaced xs) (operands_tokens xs) × ¬ BeginsWithWordByte (spaced xs)

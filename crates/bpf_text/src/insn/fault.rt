@@ -1,6 +1,6 @@
 //! Faults: why an input isn't a listing.
 
-ghost use Rattle.std.specs.Prelude.{◌≡◌};
+ghost use Rattle.std.specs.Prelude.{◌≡◌, Some};
 ghost use Rattle.bpf_text.specs.declared.insn.fault.ListError.TheVariants.{Fault, Memory};
 ghost use Rattle.bpf_text.specs.insn.LineCauseNames.{line_cause_name, line_cause_sentence};
 
@@ -48,6 +48,8 @@ impl LineCause {
 }
 
 impl fmt::Display for LineCause {
+    ghost output = { λ cause. Some (line_cause_name cause) };
+
     fn fmt<W: fmt::Write>(&self, f: &mut fmt::Formatter<W>) -> fmt::Result {
         f.write_str(self.name())
     }

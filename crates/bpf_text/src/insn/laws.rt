@@ -13,6 +13,7 @@ pub fn text_has_one_list()
 {}
 
 /// The listing of valid instructions lists these instructions.
+#[tactic(auto, using(crate::proofs::InsnLemmas::WrittenLines::listing_lists))]
 pub fn lines_list_themselves()
     ensures { (l : List Insn) → All IsInsn l → Lists (listing_of l) l }
 {}

@@ -1,8 +1,8 @@
 use Rattle.std.proofs.Common.{nat_eq, get_or, refl, arith}
 use Rattle.bpf_text.specs.{declared.insn.token.TheConstants.CLASSES, insn.Tokens.is_word_byte}
-use Rattle.bpf_text.proofs.InsnLemmas.ByteTables.{same_table}
+use Rattle.bpf_insn.proofs.TableLemmas.{same_table}
 use Rattle.bpf_text.proofs.insn.token.is_word_byte.Goals as goal
 
 -- the table agrees with the definition for each of the 256 bytes, by computation
 pub returns : goal.returns
-returns c = same_table (λ b. nat_eq (get_or CLASSES b 0) 119) is_word_byte refl c.args.b (omega arith)
+returns c = same_table (λ b. nat_eq (get_or CLASSES b 0) 119) is_word_byte 256 refl c.args.b (omega arith)
