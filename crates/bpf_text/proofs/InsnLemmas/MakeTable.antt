@@ -1,5 +1,5 @@
 -- The fields of the instructions of each mnemonic.
-use Rattle.std.proofs.Common.{rules, ◌≡◌, [], ◌∷◌, List, map, refl, sym, ap, ◌∙◌, subst, Result, Ok, Err, IsErrAnd}
+use Rattle.std.proofs.Common.{rules, MatchResult, IsOkAnd, ◌≡◌, [], ◌∷◌, List, map, refl, sym, ap, ◌∙◌, subst, Result, Ok, Err}
 use Rattle.std.specs.List.{AllZip}
 use Rattle.bpf_insn.specs.declared.insn.Operand.{Operand}
 use Rattle.bpf_insn.specs.declared.insn.Operand.TheVariants as operand
@@ -156,14 +156,12 @@ module _ (m : Mnemonic) where
     (λ i v e s. let w = only_made m i e in h.1 w.0 (w.2 v) (s ∙ w.1)),
   )
 
-  pub made_ok : (xs : List ReadOperand) (r : Result (Fields m) LineCause) (x : Fields m) (i : Insn) → ((fields_of m).valid x → i ≡ insn_of m x) → r ≡ Ok x → FieldsAreRead (fields_of m) xs r
-      → (spelled : List LineOperand) → AllZip IsReadAs xs spelled → ReadsInsn m spelled (Ok i)
-  made_ok xs r x i same e reads spelled h =
-      let read = rw e at (reads spelled h) in
-      subst (λ (j : Insn). ReadsInsn m spelled (Ok j)) (sym (same read.0)) (insn_reads spelled (Ok x) read)
-
-  pub made_err : (xs : List ReadOperand) (r : Result (Fields m) LineCause) (cause : LineCause) (s : Result Insn LineCause) → IsErrAnd s (λ e. e ≡ cause) → r ≡ Err cause → FieldsAreRead (fields_of m) xs r
-      → (spelled : List LineOperand) → AllZip IsReadAs xs spelled → ReadsInsn m spelled s
-  made_err xs r cause (Ok i) same e reads spelled h = absurd same
-  made_err xs r cause (Err other) same e reads spelled h =
-      subst (λ (c : LineCause). ReadsInsn m spelled (Err c)) (sym same) (insn_reads spelled (Err cause) (rw e at (reads spelled h)))
+  -- the result of a closure that makes the instruction from its fields
+  pub made_by : {Post : Fields m → Insn → Type 0} (xs : List ReadOperand) (r : Result (Fields m) LineCause) (s : Result Insn LineCause)
+      → MatchResult r (λ x. IsOkAnd s (Post x)) (λ e. s ≡ Err e) → ((x : Fields m) (i : Insn) → (fields_of m).valid x → Post x i → i ≡ insn_of m x)
+      → FieldsAreRead (fields_of m) xs r → (spelled : List LineOperand) → AllZip IsReadAs xs spelled → ReadsInsn m spelled s
+  made_by xs (Ok x) (Ok i) made same reads spelled h =
+      let read = reads spelled h in
+      subst (λ (j : Insn). ReadsInsn m spelled (Ok j)) (sym (same x i read.0 made)) (insn_reads spelled (Ok x) read)
+  made_by xs (Ok x) (Err cause) made same reads spelled h = absurd made
+  made_by xs (Err cause) s made same reads spelled h = subst (ReadsInsn m spelled) (sym made) (insn_reads spelled (Err cause) (reads spelled h))

@@ -36,59 +36,55 @@ fn wide_from_operands(kind: WideKind, operands: &[ReadOperand]) -> Result<Insn, 
 {
     match kind {
         WideKind::Number => {
-            let (dst, number) = both(register(operands[0]), imm64(operands[1]))?;
-            Ok(Insn::Wide {
+            both(register(operands[0]), imm64(operands[1])).map(|(dst, number)| Insn::Wide {
                 dst,
                 what: WideOf::Number(number),
             })
         }
         WideKind::MapFd => {
-            let (dst, fd) = both(register(operands[0]), imm(operands[1]))?;
-            Ok(Insn::Wide {
+            both(register(operands[0]), imm(operands[1])).map(|(dst, fd)| Insn::Wide {
                 dst,
                 what: WideOf::MapFd(fd),
             })
         }
         WideKind::MapValueFd => {
-            let (dst, (fd, off)) = both(
+            both(
                 register(operands[0]),
                 both(imm(operands[1]), imm(operands[2])),
-            )?;
-            Ok(Insn::Wide {
+            )
+            .map(|(dst, (fd, off))| Insn::Wide {
                 dst,
                 what: WideOf::MapValueFd(fd, off),
             })
         }
         WideKind::VarAddr => {
-            let (dst, (id, next)) = both(
+            both(
                 register(operands[0]),
                 both(imm(operands[1]), imm(operands[2])),
-            )?;
-            Ok(Insn::Wide {
+            )
+            .map(|(dst, (id, next))| Insn::Wide {
                 dst,
                 what: WideOf::VarAddr(id, next),
             })
         }
         WideKind::CodeAddr => {
-            let (dst, off) = both(register(operands[0]), imm(operands[1]))?;
-            Ok(Insn::Wide {
+            both(register(operands[0]), imm(operands[1])).map(|(dst, off)| Insn::Wide {
                 dst,
                 what: WideOf::CodeAddr(off),
             })
         }
         WideKind::MapIdx => {
-            let (dst, index) = both(register(operands[0]), imm(operands[1]))?;
-            Ok(Insn::Wide {
+            both(register(operands[0]), imm(operands[1])).map(|(dst, index)| Insn::Wide {
                 dst,
                 what: WideOf::MapIdx(index),
             })
         }
         WideKind::MapValueIdx => {
-            let (dst, (index, off)) = both(
+            both(
                 register(operands[0]),
                 both(imm(operands[1]), imm(operands[2])),
-            )?;
-            Ok(Insn::Wide {
+            )
+            .map(|(dst, (index, off))| Insn::Wide {
                 dst,
                 what: WideOf::MapValueIdx(index, off),
             })
@@ -109,8 +105,7 @@ pub(crate) fn insn_from_operands(
     }
     match mnemonic {
         Mnemonic::Alu(width, op) => {
-            let (dst, arg) = both(register(operands[0]), source(operands[1]))?;
-            Ok(Insn::Alu {
+            both(register(operands[0]), source(operands[1])).map(|(dst, arg)| Insn::Alu {
                 width,
                 op,
                 dst,
@@ -118,30 +113,26 @@ pub(crate) fn insn_from_operands(
             })
         }
         Mnemonic::Movsx(form) => {
-            let (dst, src) = both(register(operands[0]), register(operands[1]))?;
-            Ok(Insn::Movsx { form, dst, src })
+            both(register(operands[0]), register(operands[1])).map(|(dst, src)| Insn::Movsx {
+                form,
+                dst,
+                src,
+            })
         }
-        Mnemonic::Neg(width) => Ok(Insn::Neg {
-            width,
-            dst: register(operands[0])?,
-        }),
-        Mnemonic::Swap(kind, bits) => Ok(Insn::Swap {
+        Mnemonic::Neg(width) => register(operands[0]).map(|dst| Insn::Neg { width, dst }),
+        Mnemonic::Swap(kind, bits) => register(operands[0]).map(|dst| Insn::Swap {
             kind,
             bits,
-            dst: register(operands[0])?,
+            dst,
         }),
-        Mnemonic::Jump => Ok(Insn::Jump {
-            off: offset(operands[0])?,
-        }),
-        Mnemonic::JumpLong => Ok(Insn::JumpLong {
-            imm: imm(operands[0])?,
-        }),
+        Mnemonic::Jump => offset(operands[0]).map(|off| Insn::Jump { off }),
+        Mnemonic::JumpLong => imm(operands[0]).map(|imm| Insn::JumpLong { imm }),
         Mnemonic::Branch(width, op) => {
-            let (dst, (arg, off)) = both(
+            both(
                 register(operands[0]),
                 both(source(operands[1]), offset(operands[2])),
-            )?;
-            Ok(Insn::Branch {
+            )
+            .map(|(dst, (arg, off))| Insn::Branch {
                 width,
                 op,
                 dst,
@@ -149,20 +140,14 @@ pub(crate) fn insn_from_operands(
                 off,
             })
         }
-        Mnemonic::CallHelper => Ok(Insn::CallHelper {
-            id: imm(operands[0])?,
-        }),
-        Mnemonic::CallLocal => Ok(Insn::CallLocal {
-            imm: imm(operands[0])?,
-        }),
+        Mnemonic::CallHelper => imm(operands[0]).map(|id| Insn::CallHelper { id }),
+        Mnemonic::CallLocal => imm(operands[0]).map(|imm| Insn::CallLocal { imm }),
         Mnemonic::CallBtf => {
-            let (id, off) = both(imm(operands[0]), offset(operands[1]))?;
-            Ok(Insn::CallBtf { id, off })
+            both(imm(operands[0]), offset(operands[1])).map(|(id, off)| Insn::CallBtf { id, off })
         }
         Mnemonic::Exit => Ok(Insn::Exit),
         Mnemonic::Load(size) => {
-            let (dst, (src, off)) = both(register(operands[0]), address(operands[1]))?;
-            Ok(Insn::Load {
+            both(register(operands[0]), address(operands[1])).map(|(dst, (src, off))| Insn::Load {
                 size,
                 dst,
                 src,
@@ -170,8 +155,8 @@ pub(crate) fn insn_from_operands(
             })
         }
         Mnemonic::LoadSigned(size) => {
-            let (dst, (src, off)) = both(register(operands[0]), address(operands[1]))?;
-            Ok(Insn::LoadSigned {
+            let fields = both(register(operands[0]), address(operands[1]));
+            fields.map(|(dst, (src, off))| Insn::LoadSigned {
                 size,
                 dst,
                 src,
@@ -179,8 +164,7 @@ pub(crate) fn insn_from_operands(
             })
         }
         Mnemonic::StoreImm(size) => {
-            let ((dst, off), imm) = both(address(operands[0]), imm(operands[1]))?;
-            Ok(Insn::StoreImm {
+            both(address(operands[0]), imm(operands[1])).map(|((dst, off), imm)| Insn::StoreImm {
                 size,
                 dst,
                 off,
@@ -188,8 +172,10 @@ pub(crate) fn insn_from_operands(
             })
         }
         Mnemonic::StoreReg(size) => {
-            let ((dst, off), src) = both(address(operands[0]), register(operands[1]))?;
-            Ok(Insn::StoreReg {
+            both(address(operands[0]), register(operands[1])).map(|(
+                (dst, off),
+                src,
+            )| Insn::StoreReg {
                 size,
                 dst,
                 src,
@@ -197,8 +183,7 @@ pub(crate) fn insn_from_operands(
             })
         }
         Mnemonic::Atomic(width, op) => {
-            let ((dst, off), src) = both(address(operands[0]), register(operands[1]))?;
-            Ok(Insn::Atomic {
+            both(address(operands[0]), register(operands[1])).map(|((dst, off), src)| Insn::Atomic {
                 width,
                 op,
                 dst,
@@ -207,13 +192,13 @@ pub(crate) fn insn_from_operands(
             })
         }
         Mnemonic::Wide(kind) => wide_from_operands(kind, operands),
-        Mnemonic::PacketAbs(size) => Ok(Insn::PacketAbs {
-            size,
-            imm: imm(operands[0])?,
-        }),
+        Mnemonic::PacketAbs(size) => imm(operands[0]).map(|imm| Insn::PacketAbs { size, imm }),
         Mnemonic::PacketInd(size) => {
-            let (src, imm) = both(register(operands[0]), imm(operands[1]))?;
-            Ok(Insn::PacketInd { size, src, imm })
+            both(register(operands[0]), imm(operands[1])).map(|(src, imm)| Insn::PacketInd {
+                size,
+                src,
+                imm,
+            })
         }
     }
 }
