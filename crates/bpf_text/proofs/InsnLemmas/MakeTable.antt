@@ -1,13 +1,13 @@
 -- The fields of the instructions of each mnemonic.
-use Rattle.std.proofs.Common.{rules, MatchResult, IsOkAnd, ◌≡◌, [], ◌∷◌, List, map, refl, sym, ap, ◌∙◌, subst, Result, Ok, Err}
+use Rattle.std.proofs.Common.{rules, pos, arith, MatchResult, IsOkAnd, ◌≡◌, [], ◌∷◌, List, map, refl, sym, ap, ◌∙◌, subst, Result, Ok, Err}
 use Rattle.std.specs.List.{AllZip}
-use Rattle.bpf_insn.specs.declared.insn.Operand.{Operand}
+use Rattle.bpf_insn.specs.declared.insn.{Operand.Operand, Reg.Reg}
 use Rattle.bpf_insn.specs.declared.insn.Operand.TheVariants as operand
 use Rattle.bpf_insn.specs.declared.insn.WideOf.TheVariants as of
 use Rattle.bpf_insn.specs.declared.insn.Insn.{Insn}
 use Rattle.bpf_insn.specs.declared.insn.Insn.TheVariants as insn
 use Rattle.bpf_insn.specs.Table.{IsInsn}
-use Rattle.bpf_text.specs.declared.insn.fault.LineCause.{LineCause, TheVariants.Char, TheVariants.Word, TheVariants.Shape, TheVariants.Range}
+use Rattle.bpf_text.specs.declared.insn.fault.LineCause.{LineCause, TheVariants.Shape, TheVariants.Range}
 use Rattle.bpf_text.specs.declared.insn.mnemonic.WideKind.TheVariants as kind
 use Rattle.bpf_text.specs.declared.insn.{mnemonic.Mnemonic.Mnemonic, read_operand.ReadOperand.ReadOperand}
 use Rattle.bpf_text.specs.declared.insn.mnemonic.Mnemonic.TheVariants.{Alu, Movsx, Neg, Swap, Jump, JumpLong, Branch, CallHelper, CallLocal, CallBtf, Exit, Load, LoadSigned, StoreImm, StoreReg, Atomic, Wide, PacketAbs, PacketInd}
@@ -97,6 +97,17 @@ named (Wide kind.Number) x = refl
 named (Wide _) x = refl
 named _ x = refl
 
+some_register : Reg
+some_register = record { number = 0; in_range = omega arith }
+
+some_fields : (m : Mnemonic) → Fields m
+some_fields (Wide kind.Number) = (some_register, 0)
+some_fields m = search (rules, some_register, operand.Reg some_register, pos 0)
+
+-- each mnemonic has an instruction
+pub some_insn : (m : Mnemonic) → (i : Insn) × (mnemonic_of i ≡ m)
+some_insn m = (insn_of m (some_fields m), named m (some_fields m))
+
 sound : (m : Mnemonic) (x : Fields m) → (fields_of m).valid x → IsInsn (insn_of m x)
 sound (Wide kind.Number) x v = search rules
 sound _ x v = search rules
@@ -148,13 +159,12 @@ module _ (m : Mnemonic) where
 
   insn_reads : (spelled : List LineOperand) (r : Result (Fields m) LineCause) → ReadsFields (fields_of m) spelled r → ReadsInsn m spelled (made_of (insn_of m) r)
   insn_reads spelled (Ok x) h = (sound m x h.0, named m x, h.1 ∙ sym (spelled_is m x))
-  insn_reads spelled (Err Char) h = absurd h
-  insn_reads spelled (Err Word) h = absurd h
   insn_reads spelled (Err Shape) h = λ i e f. let w = only_made m i e in h w.0 (f ∙ kinds_are i w.0 w.1)
   insn_reads spelled (Err Range) h = (
     (insn_of m h.0.0, named m h.0.0, h.0.1 ∙ sym (kinds_are (insn_of m h.0.0) h.0.0 (spelled_is m h.0.0))),
     (λ i v e s. let w = only_made m i e in h.1 w.0 (w.2 v) (s ∙ w.1)),
   )
+  insn_reads spelled (Err _) h = absurd h
 
   -- the result of a closure that makes the instruction from its fields
   pub made_by : {Post : Fields m → Insn → Type 0} (xs : List ReadOperand) (r : Result (Fields m) LineCause) (s : Result Insn LineCause)

@@ -62,21 +62,15 @@ one_register_operand _ r s h k = absurd h
 
 pub one_operand : (ts : List (List ℕ)) (a b : LineOperand) → SpellsOperand ts a → SpellsOperand ts b → plain a ≡ plain b
 one_operand ts (register r) (register s) h k = ap register (one_register_operand ts r s h k)
-one_operand ts (register r) (number z) h k = absurd (register_number ts r z h k)
-one_operand ts (register r) (signed z) h k = absurd (register_number ts r z h k)
 one_operand ts (register r) (memory s z) h k = absurd (register_memory ts r s z h k)
-one_operand ts (number y) (register s) h k = absurd (register_number ts s y k h)
-one_operand ts (number y) (number z) h k = ap number (one_number ts y z h k)
-one_operand ts (number y) (signed z) h k = ap number (one_number ts y z h k)
-one_operand ts (number y) (memory s z) h k = absurd (number_memory ts y s z h k)
-one_operand ts (signed y) (register s) h k = absurd (register_number ts s y k h)
-one_operand ts (signed y) (number z) h k = ap number (one_number ts y z h k)
-one_operand ts (signed y) (signed z) h k = ap number (one_number ts y z h k)
-one_operand ts (signed y) (memory s z) h k = absurd (number_memory ts y s z h k)
+one_operand ts (register r) _ h k = absurd (register_number ts r _ h k)
 one_operand ts (memory r y) (register s) h k = absurd (register_memory ts s r y k h)
-one_operand ts (memory r y) (number z) h k = absurd (number_memory ts z r y k h)
-one_operand ts (memory r y) (signed z) h k = absurd (number_memory ts z r y k h)
 one_operand ts (memory r y) (memory s z) h k = let same = one_memory ts r s y z h k in let base : r ≡ s = same.0 in let offset : y ≡ z = same.1 in cc
+one_operand ts (memory r y) _ h k = absurd (number_memory ts _ r y k h)
+one_operand ts _ (register s) h k = absurd (register_number ts s _ k h)
+one_operand ts _ (memory s z) h k = absurd (number_memory ts _ s z h k)
+one_operand ts (number y) _ h k = ap number (one_number ts y _ h k)
+one_operand ts (signed y) _ h k = ap number (one_number ts y _ h k)
 
 one_zip : (tss : List (List (List ℕ))) (xs bs : List LineOperand) → AllZip SpellsOperand tss xs → AllZip SpellsOperand tss bs → map plain xs ≡ map plain bs
 one_zip [] [] [] h k = refl

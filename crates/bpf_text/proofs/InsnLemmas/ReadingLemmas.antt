@@ -2,19 +2,18 @@
 use Rattle.std.proofs.Common.{◌≡◌, ◌≢◌, ℕ, pos, List, [], ◌∷◌, map, refl, sym, ap, ◌∙◌, subst, Result, Ok, Err, ◌<◌, ◌≤◌, false, length, arith}
 use Rattle.bpf_text.specs.insn.Tokens.{code_of, is_stray, StartsWithToken, AreTokens}
 use Rattle.std.specs.List.{AllZip, slice_split, list_any}
-use Rattle.bpf_insn.specs.declared.insn.{Reg.Reg, Insn.Insn}
+use Rattle.bpf_insn.specs.declared.insn.{Insn.Insn}
 use Rattle.bpf_insn.specs.declared.insn.Insn.TheVariants as insn
 use Rattle.bpf_insn.specs.declared.insn.Operand.TheVariants as arg
 use Rattle.bpf_insn.specs.Table.{IsImm, IsInsn, IsOffset}
 use Rattle.bpf_insn.specs.declared.insn.WideOf.TheVariants as of
 use Rattle.bpf_text.specs.declared.insn.fault.LineCause.{LineCause, TheVariants.Char, TheVariants.Word, TheVariants.Shape, TheVariants.Range}
-use Rattle.bpf_text.specs.declared.insn.mnemonic.WideKind.TheVariants as kind
 use Rattle.bpf_text.specs.{declared.insn.mnemonic.Mnemonic.Mnemonic, insn.Table.mnemonic_text, insn.Table.operands_of, insn.Reading.ReadsTokens}
-use Rattle.bpf_text.specs.declared.insn.mnemonic.Mnemonic.TheVariants.{Alu, Movsx, Neg, Swap, Jump, JumpLong, Branch, CallHelper, CallLocal, CallBtf, Exit, Load, LoadSigned, StoreImm, StoreReg, Atomic, Wide, PacketAbs, PacketInd}
 use Rattle.bpf_text.specs.insn.Operands.{LineOperand, register, operand_kind, SpellsOperand, SpellsOperands, is_comma}
 use Rattle.bpf_text.specs.insn.{Mnemonics.mnemonic_of, Mnemonics.text_of_mnemonic, OperandFields.plain, OperandFields.ReadsInsn}
 use Rattle.bpf_text.specs.insn.Listing.{IsMnemonic, IsForm, ListsInsn, IsCause}
 use Rattle.bpf_text.proofs.InsnLemmas.{Bounds.tokens_bound, Bounds.form_bound, OperandFieldsLemmas.plain_kinds}
+use Rattle.bpf_text.proofs.InsnLemmas.MakeTable.{some_insn}
 use Rattle.bpf_text.proofs.InsnLemmas.{TokensExist.tokens_exist, OneOperand.one_operands, EachMnemonic.one_mnemonic, OneInsn.mnemonic_text_is}
 
 zero_imm : IsImm (pos 0)
@@ -22,37 +21,6 @@ zero_imm = omega arith
 
 zero_offset : IsOffset (pos 0)
 zero_offset = omega arith
-
-zero_register : Reg
-zero_register = record { number = 0; in_range = omega arith }
-
--- each mnemonic has an instruction
-some_insn : (m : Mnemonic) → (i : Insn) × (mnemonic_of i ≡ m)
-some_insn (Alu width op) = (insn.Alu width op zero_register (arg.Imm (pos 0)), refl)
-some_insn (Movsx form) = (insn.Movsx form zero_register zero_register, refl)
-some_insn (Neg width) = (insn.Neg width zero_register, refl)
-some_insn (Swap k bits) = (insn.Swap k bits zero_register, refl)
-some_insn Jump = (insn.Jump (pos 0), refl)
-some_insn JumpLong = (insn.JumpLong (pos 0), refl)
-some_insn (Branch width op) = (insn.Branch width op zero_register (arg.Imm (pos 0)) (pos 0), refl)
-some_insn CallHelper = (insn.CallHelper (pos 0), refl)
-some_insn CallLocal = (insn.CallLocal (pos 0), refl)
-some_insn CallBtf = (insn.CallBtf (pos 0) (pos 0), refl)
-some_insn Exit = (insn.Exit, refl)
-some_insn (Load z) = (insn.Load z zero_register zero_register (pos 0), refl)
-some_insn (LoadSigned z) = (insn.LoadSigned z zero_register zero_register (pos 0), refl)
-some_insn (StoreImm z) = (insn.StoreImm z zero_register (pos 0) (pos 0), refl)
-some_insn (StoreReg z) = (insn.StoreReg z zero_register zero_register (pos 0), refl)
-some_insn (Atomic width op) = (insn.Atomic width op zero_register zero_register (pos 0), refl)
-some_insn (Wide kind.Number) = (insn.Wide zero_register (of.Number 0), refl)
-some_insn (Wide kind.MapFd) = (insn.Wide zero_register (of.MapFd (pos 0)), refl)
-some_insn (Wide kind.MapValueFd) = (insn.Wide zero_register (of.MapValueFd (pos 0) (pos 0)), refl)
-some_insn (Wide kind.VarAddr) = (insn.Wide zero_register (of.VarAddr (pos 0) (pos 0)), refl)
-some_insn (Wide kind.CodeAddr) = (insn.Wide zero_register (of.CodeAddr (pos 0)), refl)
-some_insn (Wide kind.MapIdx) = (insn.Wide zero_register (of.MapIdx (pos 0)), refl)
-some_insn (Wide kind.MapValueIdx) = (insn.Wide zero_register (of.MapValueIdx (pos 0) (pos 0)), refl)
-some_insn (PacketAbs z) = (insn.PacketAbs z (pos 0), refl)
-some_insn (PacketInd z) = (insn.PacketInd z zero_register (pos 0), refl)
 
 -- an instruction in range that has the mnemonic and the kinds of operands of another one
 abbrev InRange : Insn → Type 0
@@ -145,8 +113,6 @@ no_form word ts none = λ w. none w.3.0 (form_bound word ts w) w.3.2
 module _ (word : List ℕ) (ts : List (List ℕ)) (m : Mnemonic) (e : word ≡ text_of_mnemonic m) (spelled : List LineOperand) (spells : SpellsOperands ts spelled) where
   pub tokens_read : (r : Result Insn LineCause) → ReadsInsn m spelled r → ReadsTokens word ts r
   tokens_read (Ok i) h = (h.0, (worded word m i e h.1, respell_all ts (operands_of i) spelled (sym h.2) spells))
-  tokens_read (Err Char) h = absurd h
-  tokens_read (Err Word) h = absurd h
   tokens_read (Err Shape) h = (
     is_mnemonic word m e,
     (λ w. h w.0 (named word m w.0 e w.2) (kinds_of spelled w.3.0 (one_operands ts spelled w.3.0 spells w.3.2) ∙ w.3.1)),
@@ -156,6 +122,7 @@ module _ (word : List ℕ) (ts : List (List ℕ)) (m : Mnemonic) (e : word ≡ t
         (v.0, v.1, worded word m h.0.0 e h.0.1 ∙ v.2, (spelled, h.0.2 ∙ v.3, spells)),
         (λ i valid f. h.1 i valid (named word m i e f.0) (one_operands ts spelled (operands_of i) spells f.1)),
       )
+  tokens_read (Err _) h = absurd h
 
 -- the result for the first token and the others is the result for the line
 module _ (line word rest : List ℕ) (starts : StartsWithToken (code_of line) word rest) where
@@ -165,8 +132,7 @@ module _ (line word rest : List ℕ) (starts : StartsWithToken (code_of line) wo
       holds : (c : LineCause) (ts : List (List ℕ)) → AreTokens rest ts → ReadsTokens word ts (Err c) → IsCause line c
       holds Char ts t h = absurd h
       holds Word ts t h = (word, ts, (rest, starts, t), h)
-      holds Shape ts t h = (word, ts, (rest, starts, t), h.0, h.1)
-      holds Range ts t h = (word, ts, (rest, starts, t), h.0, h.1)
+      holds _ ts t h = (word, ts, (rest, starts, t), h.0, h.1)
 
   pub line_insn : (i : Insn) → ((ts : List (List ℕ)) → AreTokens rest ts → ReadsTokens word ts (Ok i)) → list_any is_stray rest ≡ false → ListsInsn line i
   line_insn i reads none =
