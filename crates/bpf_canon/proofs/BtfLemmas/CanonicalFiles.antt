@@ -1,10 +1,10 @@
 -- The canonical bytes of good records are a file that denotes them, and no file that does is shorter.
-use Rattle.std.proofs.Common.{◌≡◌, ℕ, ◌+◌, ◌-◌, ◌*◌, ◌≤◌, List, [], ◌∷◌, ◌++◌, length, map, refl, sym, ap, subst, ◌∙◌, inl, inr, append_assoc, length-append, lit≤, arith}
+use Rattle.std.proofs.Common.{◌≡◌, ℕ, ◌+◌, ◌-◌, ◌*◌, ◌≤◌, List, [], ◌∷◌, ◌++◌, length, map, refl, sym, ap, subst, ◌∙◌, inl, append_assoc, length-append, lit≤, arith}
 use Rattle.std.specs.{Prelude.slice_index, List.All, List.AllZip, List.concat, List.flat_map, List.sum_by}
 use Rattle.std.proofs.{lemmas.List.Elements.All-head, lemmas.List.Elements.All-tail, lemmas.List.Sums.sum_by-cons, Math.Seq.get_or-append_seam}
 use Rattle.bpf_words.specs.declared.Order.{Order}
-use Rattle.btf_raw.specs.{Header.header, Header.Cut, Header.HasNulEnds, Frames.bytes_of, Frames.section_of}
-use Rattle.btf_raw.proofs.{Frames.length-bytes_of, Cuts.length-header}
+use Rattle.btf_raw.specs.{Header.Cut, Header.HasNulEnds, Frames.bytes_of, Frames.section_of}
+use Rattle.btf_raw.proofs.{Frames.length-bytes_of}
 use Rattle.btf_types.specs.{Values.TypeRecord, Denotes.Denotes, judge.Checks.TypeFacts, strings.SharedNames.hosts, strings.StringTable.string_table}
 use Rattle.btf_types.specs.{Names.names, Names.with_nul, Names.table_of, Spelling.head_tail, Spelling.Spells}
 use Rattle.btf_types.specs.Good.{IsGoodRecord, IsGood, record_size, facts}
@@ -46,36 +46,10 @@ pub canonical_size : (o : Order) (v : List TypeRecord) → IsGood v → length (
 canonical_size o v good = types_size o (string_table v) (facts v) v (canonical_frames v) good.each (frames_spell v good)
 
 pub length-canonical : (o : Order) (v : List TypeRecord) → length (canonical o v) ≡ 24 + length (canonical_types o v) + length (string_table v)
-length-canonical o v =
-    let types = canonical_types o v in
-    let strings = string_table v in
-    let front = header o 24 0 (length types) (length types) (length strings) in
-    length-append (front ++ types) strings
-    ∙ omega (arith, length-append front types, length-header o 24 0 (length types) (length types) (length strings) (lit≤ tt))
+length-canonical o v = grind (arith, length-append)
 
 file_length : (b : List ℕ) (o : Order) (types strings : List ℕ) → Cut b o types strings → 24 + length types + length strings ≤ length b
-file_length b o types strings cut = elim cut.parts [
-  | inl e ↦
-      let h = header o cut.header_len 0 (length types) (length types) (length strings) in
-      omega (
-        arith,
-        ap length e,
-        length-append (h ++ types) strings,
-        length-append h types,
-        length-header o cut.header_len 0 (length types) (length types) (length strings) cut.at_least,
-        cut.at_least,
-      )
-  | inr e ↦
-      let h = header o cut.header_len (length strings) (length types) 0 (length strings) in
-      omega (
-        arith,
-        ap length e,
-        length-append (h ++ strings) types,
-        length-append h strings,
-        length-header o cut.header_len (length strings) (length types) 0 (length strings) cut.at_least,
-        cut.at_least,
-      )
-]
+file_length b o types strings cut = grind (arith, length-append)
 
 -- ---- the string table begins and ends with NUL
 

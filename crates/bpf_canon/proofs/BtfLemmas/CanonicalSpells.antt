@@ -1,18 +1,19 @@
 -- The canonical bytes of valid records encode them, with the string table as string section.
-use Rattle.std.proofs.Common.{◌≡◌, ◌≢◌, ℕ, zero, suc, ◌+◌, ◌*◌, ◌/◌, ◌%◌, ◌^◌, ◌<◌, ◌≤◌, Bool, true, false, Option, Some, None, List, [], ◌∷◌, ◌++◌, length, map, refl, ap, inl, inr, lit<, arith}
+use Rattle.std.proofs.Common.{◌≡◌, ◌≢◌, ℕ, zero, suc, ◌+◌, ◌*◌, ◌^◌, ◌<◌, ◌≤◌, Bool, true, false, Option, Some, None, List, [], ◌∷◌, ◌++◌, length, map, refl, ap, inl, inr, lit<, arith, rules}
+use Rattle.std.proofs.lemmas.Grind.{common_steps}
 use Rattle.std.specs.Prelude.{IsTrue, IfSome, not, ◌==◌}
 use Rattle.std.specs.List.{All, AllZip, concat, flat_map, list_any}
-use Rattle.std.proofs.lemmas.Bool.{cases_eq, ne_eqb, or_left, or_right, both_ways}
+use Rattle.std.proofs.lemmas.Bool.{ne_eqb, or_left, or_right}
 use Rattle.std.proofs.lemmas.List.Elements.{All-nil, All-cons, All-head, All-tail, All-append}
 use Rattle.btf_raw.specs.{Header.STRINGS_LIMIT, Names.NameAt, Heads.bit}
 use Rattle.btf_raw.proofs.{Texts.TextAt-inside, Frames.IsWords}
 use Rattle.btf_types.specs.declared.values.Encoding.{Encoding, TheVariants.Plain, TheVariants.Signed, TheVariants.Char, TheVariants.Bool as Boolean}
 use Rattle.btf_types.specs.declared.values.Linkage.{Linkage, TheVariants.LStatic, TheVariants.LGlobal, TheVariants.LExtern}
-use Rattle.btf_types.specs.Values.{TypeHead, KInt, KPtr, KArray, KStruct, KUnion, KEnum, KFuncProto, KVar, KDatasec, KDeclTag, KEnum64, TypeItem, Member, EnumValue, Value64, Param, Entry, TypeRecord}
-use Rattle.btf_types.specs.Names.{IsName, head_name, item_name, record_names, names}
-use Rattle.btf_types.specs.{strings.StringTable.string_table, strings.StringTable.place_of, judge.Checks.TypeFacts}
+use Rattle.btf_types.specs.Values.{TypeHead, KInt, KArray, KStruct, KUnion, KEnum, KFuncProto, KVar, KDatasec, KDeclTag, KEnum64, TypeItem, Member, EnumValue, Value64, Param, Entry, TypeRecord}
+use Rattle.btf_types.specs.Names.{IsName, head_name, item_name, record_names}
+use Rattle.btf_types.specs.{strings.StringTable.string_table, judge.Checks.TypeFacts}
 use Rattle.btf_types.specs.Spelling.{kind_number, head_third, FlagSpells, linkage_number, encoding_number, component_word, record_vlen, info, head_tail, MemberWord, ItemSpells, Spells, HeadInRange, ItemInRange}
-use Rattle.btf_types.specs.Good.{ItemOf, has_width, has_bit_fields, MemberIsGood, IsGoodRecord, IsGood, facts}
+use Rattle.btf_types.specs.Good.{ItemOf, has_width, has_bit_fields, MemberIsGood, IsGoodRecord, IsGood}
 use Rattle.btf_types.proofs.{Spelled.kind_below, Spelled.vlen_below, Spelled.flag_below, StringLemmas.TableLaws.shared_places}
 use Rattle.bpf_canon.specs.btf.CanonicalBtf.{canonical_flag, words_of_item, record_words, canonical_frames}
 
@@ -81,8 +82,7 @@ third_below (KDeclTag name flag target component) range = range.0
 third_below h range = range
 
 tail_fits : (h : TypeHead) → HeadInRange h → IsWords (head_tail h)
-tail_fits (KInt name size encoding offset bits) range =
-    fits_one (bits + 2 ^ 16 * offset + 2 ^ 24 * encoding_number encoding) (omega (arith, range.1, range.2, encoding_below encoding))
+tail_fits (KInt name size encoding offset bits) range = grind arith
 tail_fits (KArray target index count) range = fits_three target index count range.0 range.1 range.2
 tail_fits (KVar name target linkage) range = fits_one (linkage_number linkage) (linkage_below linkage)
 tail_fits (KDeclTag name flag target component) range = fits_one (component_word component) (component_below component range.1)
@@ -96,10 +96,7 @@ not_zero w some = ap not (ne_eqb w 0 some)
 -- a member's offset word, if the record has bit-fields whenever this width isn't 0
 pub member_word : (b : Bool) (o w : ℕ) → (not (w == 0) ≡ true → b ≡ true) → (IsTrue b → o < 2 ^ 24) → MemberWord (bit b) o w (o + 2 ^ 24 * w)
 member_word true o w some low = inr (refl, low refl, refl)
-member_word false o w some low = elim (cases_eq w 0) [
-  | inl none ↦ inl (refl, none, omega (arith, none))
-  | inr other ↦ absurd (both_ways false refl (some (not_zero w other)))
-]
+member_word false o w some low = grind arith
 
 -- the 32-bit value fits
 pub member_fits : (flag o w word : ℕ) → MemberWord flag o w word → o < 2 ^ 32 → w < 2 ^ 8 → word < 2 ^ 32
@@ -119,29 +116,17 @@ module _ (strings : List ℕ) (place : List ℕ → ℕ) (types : List TypeFacts
   two_words name value at low = fits_two (place name) value (place_below name at) low
 
   member_is_spelled : (n : List ℕ) (t o w : ℕ) → ItemInRange (Member n t o w) → MemberWord (bit b) o w (o + 2 ^ 24 * w) → NameAt strings (place n) n → IsItemSpelled strings place (bit b) (Member n t o w)
-  member_is_spelled n t o w range word at = record {
-    spells = (place n, o + 2 ^ 24 * w, at, word, refl);
-    fits = fits_three (place n) t (o + 2 ^ 24 * w) (place_below n at) range.0 (member_fits (bit b) o w (o + 2 ^ 24 * w) word range.1 range.2);
-  }
+  member_is_spelled n t o w range word at = grind (arith, place_below)
 
 item_is_spelled : (strings : List ℕ) (place : List ℕ → ℕ) (types : List TypeFacts) (h : TypeHead) (size : ℕ) (b : Bool) → length strings ≤ STRINGS_LIMIT
     → (x : TypeItem) → ItemOf h x → ItemInRange x → MemberIsGood types size b x → (has_width x ≡ true → b ≡ true) → NameAt strings (place (item_name x)) (item_name x)
     → IsItemSpelled strings place (canonical_flag h b) x
-item_is_spelled strings place types (KStruct name size') size b short (Member n t o w) of range good some at =
-    member_is_spelled strings place types (KStruct name size') size b short n t o w range (member_word b o w some (λ i. (good.1 i).0)) at
-item_is_spelled strings place types (KUnion name size') size b short (Member n t o w) of range good some at =
-    member_is_spelled strings place types (KUnion name size') size b short n t o w range (member_word b o w some (λ i. (good.1 i).0)) at
-item_is_spelled strings place types (KEnum name signed size') size b short (EnumValue n v) of range good some at =
-    record { spells = (place n, at, refl); fits = two_words strings place types (KPtr 0) size b short n v at range }
-item_is_spelled strings place types (KFuncProto target) size b short (Param n t) of range good some at =
-    record { spells = (place n, at, refl); fits = two_words strings place types (KPtr 0) size b short n t at range }
-item_is_spelled strings place types (KDatasec name size') size b short (Entry a c d) of range good some at =
-    record { spells = refl; fits = fits_three a c d range.0 range.1 range.2 }
-item_is_spelled strings place types (KEnum64 name signed size') size b short (Value64 n v) of range good some at =
-    record {
-      spells = (place n, at, refl);
-      fits = fits_three (place n) (v % 2 ^ 32) (v / 2 ^ 32) (place_below strings place types (KPtr 0) size b short n at) (omega arith) (omega (arith, range));
-    }
+item_is_spelled strings place types (KStruct name size') size b short (Member n t o w) of range good some at = grind (arith, common_steps)
+item_is_spelled strings place types (KUnion name size') size b short (Member n t o w) of range good some at = grind (arith, common_steps)
+item_is_spelled strings place types (KEnum name signed size') size b short (EnumValue n v) of range good some at = grind (arith, common_steps)
+item_is_spelled strings place types (KFuncProto target) size b short (Param n t) of range good some at = grind (arith, common_steps)
+item_is_spelled strings place types (KDatasec name size') size b short (Entry a c d) of range good some at = grind arith
+item_is_spelled strings place types (KEnum64 name signed size') size b short (Value64 n v) of range good some at = grind (arith, common_steps)
 item_is_spelled strings place types h size b short x of range good some at = absurd of
 
 -- ---- the items of a record
@@ -209,5 +194,4 @@ all_names types (r ∷ v) good =
 
 -- likewise a valid list, with names at their offsets in its string table
 pub frames_spell : (v : List TypeRecord) → IsGood v → AllZip (Spells (string_table v)) v (canonical_frames v)
-frames_spell v good =
-    records_spell (string_table v) (place_of v) (facts v) v good.texts good.each (shared_places (names v) (all_names (facts v) v good.each))
+frames_spell v good = search (rules, records_spell, shared_places, all_names)

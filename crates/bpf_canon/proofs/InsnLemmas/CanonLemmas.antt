@@ -1,5 +1,5 @@
 -- Canonical bytes and files.
-use Rattle.std.proofs.Common.{◌≡◌, ◌↔◌, ◌++◌, ◌∙◌, ℕ, Bool, List, [], Result, Ok, Err, refl, sym, ap, All, IsTrue}
+use Rattle.std.proofs.Common.{◌≡◌, ◌↔◌, ◌++◌, ◌∙◌, ℕ, Bool, List, [], Result, Ok, Err, refl, sym, ap, All, IsTrue, arith}
 use Rattle.std.specs.Result.{IfOk}
 use Rattle.bpf_words.specs.declared.Order.{Order, TheVariants.Little}
 use Rattle.bpf_insn.specs.declared.{insn.Insn.Insn, decode.InsnError.InsnError}
@@ -46,16 +46,7 @@ apart o p a b l m f g = (λ e. ap (file_of Little) e, λ e. same_list l m f.0 g.
 
 -- two files compare as the second and the instructions of the first, in the order of the second
 pub compares : (o p : Order) (a b : List ℕ) (same : Bool) (l m : List Insn) → InsnFile o a l → InsnFile p b m → (IsTrue same ↔ (b ≡ file_of p l)) → Compares o a p b same
-compares o p a b same l m f g r =
-    let lists : IsTrue same ↔ (l ≡ m) = (λ t. one_list p b l m (f.0, r.0 t) g, λ e. r.1 (g.1 ∙ ap (file_of p) (sym e))) in
-    record {
-      first = l;
-      second = m;
-      first_file = f;
-      second_file = g;
-      lists = lists;
-      canonical = (λ t. ap (file_of Little) (lists.0 t), λ e. lists.1 (same_list l m f.0 g.0 e));
-    }
+compares o p a b same l m f g r = grind (arith, one_list)
 
 -- ---- errors
 

@@ -1,6 +1,6 @@
 -- A file that is compared with another one in the other order, slot by slot.
-use Rattle.std.proofs.Common.{◌≡◌, ◌≢◌, ◌↔◌, ◌<◌, ◌++◌, ◌∙◌, ℕ, Bool, List, [], ◌∷◌, true, false, length, take, drop, refl, sym, ap, arith, append_assoc, IsTrue, nat_eq, take-append-drop}
-use Rattle.std.specs.{List.flat_map, Cmp.Lexicographic.other_text, Cmp.Lexicographic.pointwise, Cmp.Lexicographic.same_text}
+use Rattle.std.proofs.Common.{◌≡◌, ◌≢◌, ◌↔◌, ◌<◌, ◌++◌, ◌∙◌, ℕ, Bool, List, [], ◌∷◌, true, false, length, take, drop, refl, sym, ap, arith, append_assoc, IsTrue, nat_eq, take-append-drop, rules}
+use Rattle.std.specs.{List.flat_map, Cmp.Lexicographic.other_text, Cmp.Lexicographic.pointwise}
 use Rattle.std.proofs.{lemmas.Bool.eqb-true, lemmas.List.append-nil, lemmas.List.append_cancel_left, Math.Seq.take-append_seam}
 use Rattle.bpf_words.specs.{declared.Order.Order, Slots.AreFields, Slots.Fields, Slots.spelled}
 use Rattle.bpf_insn.specs.{declared.insn.Insn.Insn, Spelling.InsnFile, Spelling.file_of}
@@ -14,9 +14,7 @@ pub record SwappedFront (order to : Order) (a left b right : List ℕ) : Type 0 
 
 -- what a test for a prefix found
 pub prefix_found : (xs prefix rest : List ℕ) → pointwise nat_eq (take (length prefix) xs) prefix ≡ true → rest ≡ drop (length prefix) xs → xs ≡ prefix ++ rest
-prefix_found xs prefix rest t e =
-    sym (take-append-drop (length prefix) xs) ∙ ap (λ (x : List ℕ). x ++ drop (length prefix) xs) (same_text (take (length prefix) xs) prefix (sym t))
-    ∙ ap (λ (x : List ℕ). prefix ++ x) (sym e)
+prefix_found xs prefix rest t e = search (rules, take-append-drop)
 
 module _ (order to : Order) (a left following b right : List ℕ) (slot : Fields) (so_far : SwappedFront order to a left b right) (first : left ≡ spelled order slot ++ following) (fit : AreFields slot) where
   longer : Rewrites order to a following [] (so_far.written ++ spelled to slot)
@@ -24,11 +22,7 @@ module _ (order to : Order) (a left following b right : List ℕ) (slot : Fields
 
   -- the next slots agree
   pub swapped_more : (others : List ℕ) → right ≡ spelled to slot ++ others → SwappedFront order to a following b others
-  swapped_more others e = record {
-    written = so_far.written ++ spelled to slot;
-    rewrites = longer;
-    front = so_far.front ∙ ap (λ xs. so_far.written ++ xs) e ∙ sym (append_assoc so_far.written (spelled to slot) others);
-  }
+  swapped_more others e = grind (arith, longer, append_assoc)
 
   -- the next slots differ
   pub swapped_apart : (bytes : List ℕ) → bytes ≡ spelled to slot → pointwise nat_eq (take (length bytes) right) bytes ≡ false → (insns : List Insn) → InsnFile order a insns → b ≢ file_of to insns

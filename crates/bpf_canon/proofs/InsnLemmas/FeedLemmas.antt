@@ -1,5 +1,5 @@
 -- What a piece makes of a feed.
-use Rattle.std.proofs.Common.{◌≡◌, ◌<◌, ◌≤◌, ◌+◌, ◌*◌, ◌-◌, ◌++◌, ◌⊎◌, ◌∙◌, ℕ, List, [], ◌∷◌, Option, Some, None, length, refl, sym, ap, subst, inl, inr, arith, length-append, take, drop, length-drop, Result, Ok, Err}
+use Rattle.std.proofs.Common.{◌≡◌, ◌<◌, ◌≤◌, ◌+◌, ◌*◌, ◌-◌, ◌++◌, ◌⊎◌, ◌∙◌, ℕ, List, [], ◌∷◌, Option, Some, None, length, refl, sym, ap, subst, inl, inr, arith, length-append, take, drop, length-drop, Result, Ok, Err, rules}
 use Rattle.std.proofs.{lemmas.Bool.cases_lt, lemmas.List.append-nil, lemmas.List.length-take-le, lemmas.List.take_all, Math.Seq.drop-append-add}
 use Rattle.bpf_words.specs.declared.Order.{Order}
 use Rattle.bpf_insn.specs.declared.{insn.Insn.Insn, decode.InsnError.InsnError, whole_insns.InsnFront.InsnFront}
@@ -23,18 +23,11 @@ cut_begins_none o s c = elim c [
 
 -- bytes that are missing begin with the first slot, or with the second
 missing_at : (o : Order) (s : List ℕ) (at : ℕ) → IsTruncated o at s → at ≡ missing_place (length s)
-missing_at o s at t = elim t [
-  | inl h ↦ h.1 ∙ grind (arith, h.0)
-  | inr h ↦ h.3 ∙ grind (arith, h.0)
-]
+missing_at o s at t = grind arith
 
 -- a fault of missing bytes has their offset
 pub cut_of_fault : (o : Order) (s : List ℕ) (at : ℕ) (cause : SlotCause) → cause ≡ Truncated → IsSlotFault o s (record { pos = at; cause = cause }) → IsCut o s
-cut_of_fault o s at cause t f =
-    let P : SlotCause → Type 0 = λ x. IsSlotFault o s (record { pos = at; cause = x }) in
-    let cut : IsSlotFault o s (record { pos = at; cause = Truncated }) = subst P t f in
-    let Q : ℕ → Type 0 = λ n. IsSlotFault o s (record { pos = n; cause = Truncated }) in
-    inr (subst Q (missing_at o s at cut.first) cut)
+cut_of_fault o s at cause t f = grind arith
 
 -- the rest of the held bytes and a piece: an instruction consumes all held bytes, or none
 pub left_of : (array piece : List ℕ) (held_len len : ℕ) → held_len ≤ length array → (len ≡ 0) ⊎ (held_len ≤ len)
@@ -65,8 +58,7 @@ held_left array piece held_len len kept used fits all e f = rw (e, f) (left_of a
 pub held_left_size : (array piece : List ℕ) (kept used : ℕ) (left : List ℕ) → kept ≤ length array
     → take kept array ++ take (length piece - used) (drop used piece) ≡ left
     → kept + length (take (length piece - used) (drop used piece)) ≡ length left
-held_left_size array piece kept used left fits e =
-    omega (arith, ap length e, length-take-le kept array fits, length-append (take kept array) (take (length piece - used) (drop used piece)))
+held_left_size array piece kept used left fits e = grind (arith, length-take-le, length-append)
 
 -- if no instruction was complete, nothing was read
 pub none_or_all : (o to : Order) (bytes old new : List ℕ) (read : InsnFront) (held_len : ℕ) → ReadsFront o to bytes read old new → (0 < read.count → held_len ≤ read.len)
@@ -92,26 +84,12 @@ module _ (s : FeedState) (piece old new : List ℕ) (read : InsnFront) (reads : 
   -- a feed with the held bytes and the fault that are left
   advanced : (held : List ℕ) (fault : Option SlotFault) → Leaves s.order (s.fed + length piece) (drop read.len (s.held ++ piece)) held fault
       → Advances s (record s { held = held; fed = s.fed + length piece; count = s.count + read.count; fault = fault }) piece old new
-  advanced held fault leaves = record {
-    reads = refl;
-    writes = refl;
-    fed = refl;
-    gained = reads.insns;
-    left = drop read.len (s.held ++ piece);
-    front = reads.front;
-    counted = omega (arith, reads.counted);
-    grows = reads.grows;
-    leaves = leaves;
-  }
+  advanced held fault leaves = grind arith
 
   -- the bytes ended with an instruction
   pub advance_whole : s.fault ≡ None → read.stop ≡ None
       → Advances s (record s { held = []; fed = s.fed + length piece; count = s.count + read.count }) piece old new
-  advance_whole sound e =
-      let P : Option SlotFault → Type 0 = λ x. StopsAt s.order (drop read.len (s.held ++ piece)) x in
-      let none : drop read.len (s.held ++ piece) ≡ [] = subst P e reads.stops in
-      let Q : Option SlotFault → Type 0 = λ x. Leaves s.order (s.fed + length piece) (drop read.len (s.held ++ piece)) [] x in
-      advanced [] s.fault (subst Q (sym sound) (sym none, inl none))
+  advance_whole sound e = grind arith
 
   stopped : (f : SlotFault) → read.stop ≡ Some f → IsSlotFault s.order (drop read.len (s.held ++ piece)) f
   stopped f e = let P : Option SlotFault → Type 0 = λ x. StopsAt s.order (drop read.len (s.held ++ piece)) x in subst P e reads.stops
@@ -125,9 +103,7 @@ module _ (s : FeedState) (piece old new : List ℕ) (read : InsnFront) (reads : 
   -- the bytes ended in the midst of an instruction
   pub advance_held : (f : SlotFault) (held : List ℕ) → s.fault ≡ None → read.stop ≡ Some f → f.cause ≡ Truncated → held ≡ drop read.len (s.held ++ piece)
       → Advances s (record s { held = held; fed = s.fed + length piece; count = s.count + read.count }) piece old new
-  advance_held f held sound e t h =
-      let Q : Option SlotFault → Type 0 = λ x. Leaves s.order (s.fed + length piece) (drop read.len (s.held ++ piece)) held x in
-      advanced held s.fault (subst Q (sym sound) (h, advance_cut f e t))
+  advance_held f held sound e t h = grind (arith, advance_cut)
 
   pub advance_within : (f : SlotFault) → read.stop ≡ Some f → read.len + f.pos ≤ length s.held + length piece
   advance_within f e = omega (arith, left_size, fault_within s.order (drop read.len (s.held ++ piece)) f.pos f.cause (stopped f e))
@@ -140,8 +116,7 @@ module _ (s : FeedState) (piece old new : List ℕ) (read : InsnFront) (reads : 
         count = s.count + read.count;
         fault = Some (record { pos = start + read.len + f.pos; cause = f.cause });
       }) piece old new
-  advance_faulty f start e t at = advanced [] (Some (record { pos = start + read.len + f.pos; cause = f.cause }))
-      (refl, (f, (stopped f e, (t, (omega (arith, at, left_size), refl)))))
+  advance_faulty f start e t at = grind (arith, left_size)
 
 -- ---- a feed moves on
 
@@ -207,10 +182,7 @@ advanced_gains s t o to b piece old new e a h = record {
 }
 
 pub advanced_moves : (s t : FeedState) (piece old new : List ℕ) → s.fault ≡ None → Advances s t piece old new → Moves s t piece old new
-advanced_moves s t piece old new e a = record {
-  represents = λ o to b h. advanced_represents s t o to b piece old new e a h;
-  gains = λ o to b h. advanced_gains s t o to b piece old new e a h;
-}
+advanced_moves s t piece old new e a = search (rules, advanced_represents, advanced_gains)
 
 -- an empty piece changes nothing
 pub moves_none : (s : FeedState) (piece out : List ℕ) → length piece ≡ 0 → Moves s s piece out out
@@ -266,9 +238,7 @@ feeds_answers s t o to b piece old new (Err error.Memory) f h = tt
 
 -- with a fault nothing is held
 pub advanced_holds_none : (s t : FeedState) (piece old new : List ℕ) (f : SlotFault) → Advances s t piece old new → t.fault ≡ Some f → t.held ≡ []
-advanced_holds_none s t piece old new f a e =
-    let P : Option SlotFault → Type 0 = λ x. Leaves s.order t.fed a.left t.held x in
-    (subst P e a.leaves).0
+advanced_holds_none s t piece old new f a e = grind arith
 
 -- the output grows by at most the bytes held and those of the piece
 pub advanced_bound : (s t : FeedState) (piece old new : List ℕ) → Advances s t piece old new → length new ≤ length old + (length s.held + length piece)
@@ -286,10 +256,7 @@ advanced_bound s t piece old new a =
 -- a feed that holds nothing has read a file
 ends_whole : (s : FeedState) (o to : Order) (b : List ℕ) → s.fault ≡ None → s.held ≡ [] → Represents s o to b
     → (l : List Insn) × (InsnFile o b l × (s.count ≡ length l))
-ends_whole s o to b e none h =
-    let k = keeps_none o b h.rest s.held s.fault e h.keeps in
-    let rest : h.rest ≡ [] = sym k.1 ∙ none in
-    (h.insns, ((h.front.each, h.front.front ∙ ap (λ r. file_of o h.insns ++ r) rest ∙ append-nil (file_of o h.insns)), h.count))
+ends_whole s o to b e none h = grind (arith, append-nil)
 
 -- the fault of what is held is that of the stream
 ends_cut : (s : FeedState) (o to : Order) (b : List ℕ) → s.fault ≡ None → 0 < length s.held → length s.held ≤ s.fed → IsCut s.order s.held → Represents s o to b

@@ -2,10 +2,10 @@
 use Rattle.std.proofs.Common.{◌≡◌, ◌<◌, ◌≤◌, ◌+◌, ◌*◌, ◌++◌, ◌⊎◌, ◌∙◌, ℕ, ℤ, List, [], ◌∷◌, Option, Some, None, length, refl, sym, ap, subst, inl, inr, arith, append_assoc, length-append, All}
 use Rattle.std.proofs.lemmas.List.{append-nil, Elements.All-append, Elements.All-head, Elements.All-nil, Elements.All-push, Elements.All-tail}
 use Rattle.std.proofs.lemmas.List.Concat.{flat_map-append}
-use Rattle.bpf_words.specs.{declared.Order.Order, Slots.spelled}
+use Rattle.bpf_words.specs.{declared.Order.Order}
 use Rattle.bpf_insn.specs.declared.{insn.Insn.Insn, fault.SlotFault.SlotFault, fault.SlotCause.SlotCause}
 use Rattle.bpf_insn.specs.declared.fault.SlotCause.TheVariants.{Truncated, Opcode, Dst, Src, Offset, Imm, Reserved, NextImm}
-use Rattle.bpf_insn.specs.{Table.IsInsn, Table.fields_of, Table.next_imm_of, Faults.IsFront, Faults.IsInsnFault, Faults.IsSlotFault}
+use Rattle.bpf_insn.specs.{Table.IsInsn, Faults.IsFront, Faults.IsInsnFault, Faults.IsSlotFault}
 use Rattle.bpf_insn.specs.Spelling.{InsnFile, file_of, second_slot, spelling}
 use Rattle.bpf_insn.proofs.{FaultLemmas.slot_length, UniqueLemmas.one_fault, WideLemmas.second_length}
 use Rattle.bpf_insn.proofs.FileLaws.{begins_once, file_fault, rests_same}
@@ -21,27 +21,12 @@ second_size o p (Some m) = second_length o m ∙ sym (second_length p m)
 -- a spelling is as long in one order as in the other
 pub length-spelling_same : (o p : Order) (i : Insn) → length (spelling o i) ≡ length (spelling p i)
 unfolding spelling
-length-spelling_same o p i =
-    omega (
-      arith,
-      length-append (spelled o (fields_of i)) (second_slot o (next_imm_of i)),
-      length-append (spelled p (fields_of i)) (second_slot p (next_imm_of i)),
-      slot_length o (fields_of i),
-      slot_length p (fields_of i),
-      second_size o p (next_imm_of i),
-    )
+length-spelling_same o p i = grind (arith, slot_length)
 
 -- and so are the bytes of some instructions
 pub length-file_same : (o p : Order) (l : List Insn) → length (file_of o l) ≡ length (file_of p l)
 length-file_same o p [] = refl
-length-file_same o p (i ∷ l) =
-    omega (
-      arith,
-      length-append (spelling o i) (file_of o l),
-      length-append (spelling p i) (file_of p l),
-      length-spelling_same o p i,
-      length-file_same o p l,
-    )
+length-file_same o p (i ∷ l) = grind (arith, length-append, length-spelling_same, (length-file_same o p l))
 
 -- what is read is no more than what there is, in either order
 pub front_fits : (o to : Order) (b : List ℕ) (l : List Insn) (rest : List ℕ) → IsFront o b l rest
@@ -85,8 +70,7 @@ front_joins o b more l m rest left f g =
 grows : (o : Order) (l m : List Insn) (r s : List ℕ) → All IsInsn l → All IsInsn m → file_of o l ++ r ≡ file_of o m ++ s → BeginsNone o s
     → (k : List Insn) × (m ≡ l ++ k)
 grows o [] m r s hl hm e none = (m, refl)
-grows o (i ∷ l) [] r s hl hm e none =
-    absurd (none i (All-head IsInsn i l hl, (file_of o l ++ r, sym e ∙ append_assoc (spelling o i) (file_of o l) r)))
+grows o (i ∷ l) [] r s hl hm e none = grind (arith, All-head, append_assoc)
 grows o (i ∷ l) (j ∷ m) r s hl hm e none =
     let whole : spelling o i ++ (file_of o l ++ r) ≡ spelling o j ++ (file_of o m ++ s) =
     sym (append_assoc (spelling o i) (file_of o l) r) ∙ e ∙ append_assoc (spelling o j) (file_of o m) s in

@@ -1,5 +1,6 @@
 -- Reading the complete instructions at the start of a buffer, and across the held bytes and a piece.
 use Rattle.std.proofs.Common.{◌≡◌, ◌<◌, ◌≤◌, ◌+◌, ◌-◌, ◌++◌, ◌∙◌, ℕ, List, [], ◌∷◌, Option, Some, length, take, drop, min, refl, sym, ap, subst, inl, inr, arith, append_assoc, length-append, length-drop}
+use Rattle.std.proofs.lemmas.Grind.{common_steps}
 use Rattle.std.proofs.lemmas.{Bool.cases_lt, Slice.take-put_mid}
 use Rattle.std.proofs.lemmas.List.{append-nil, length-take, take_all, take-append-drop, take-append-le, Elements.All-cons, Elements.All-nil}
 use Rattle.std.proofs.Math.Seq.{drop-append_seam, drop-append-add, take-append_seam}
@@ -27,10 +28,7 @@ read_fault o bytes read f r e some =
 -- two parts copied into an array
 pub joined : (first second front back rest : List ℕ) (n : ℕ) → front ≡ first → back ≡ second → n ≡ length first + length second
     → take n (put_mid (length first) (n - length first) (front ++ rest) back) ≡ first ++ second
-joined first second front back rest n e f h =
-    let seam : take (length first) (front ++ rest) ≡ first = ap (λ x. take (length first) (x ++ rest)) e ∙ take-append_seam first rest in
-    take-put_mid (length first) (n - length first) (front ++ rest) back n (omega (arith, ap length f, h))
-    (omega (arith, length-append front rest, ap length e)) ∙ ap (λ x. x ++ back) seam ∙ ap (λ x. first ++ x) f
+joined first second front back rest n e f h = grind (arith, take-append_seam, take-put_mid, length-append)
 
 -- what is held and the rest of a piece after its first bytes
 cut_across : (held piece : List ℕ) (used : ℕ) → (held ++ take used piece) ++ drop used piece ≡ held ++ piece
@@ -121,17 +119,4 @@ across_stops o to bytes old f h = record {
 pub front_recoded : (o to : Order) (bytes : List ℕ) (read : InsnFront) (old new : List ℕ) → IsInsnFront o bytes read
     → ((insns : List Insn) → InsnFile o (take read.len bytes) insns → new ≡ old ++ file_of to insns)
     → ReadsFront o to bytes read old new
-front_recoded o to bytes read old new r written =
-    let size : read.len ≡ length (file_of o r.insns) =
-    omega (arith, ap length r.is.front, length-append (file_of o r.insns) (drop read.len bytes), length-drop read.len bytes, r.within) in
-    let file : take read.len bytes ≡ file_of o r.insns =
-    ap (take read.len) r.is.front ∙ ap (λ (n : ℕ). take n (file_of o r.insns ++ drop read.len bytes)) size
-    ∙ take-append_seam (file_of o r.insns) (drop read.len bytes) in
-    record {
-      insns = r.insns;
-      front = r.is;
-      stops = r.stops;
-      counted = r.counted;
-      within = r.within;
-      grows = written r.insns (r.is.each, file);
-    }
+front_recoded o to bytes read old new r written = grind (arith, common_steps)

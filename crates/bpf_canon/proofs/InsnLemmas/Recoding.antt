@@ -1,5 +1,5 @@
 -- The slots of a file, written in the other order, are the file in that order.
-use Rattle.std.proofs.Common.{◌≡◌, ℕ, ◌<◌, ◌≤◌, ◌+◌, ◌-◌, ℤ, pos, List, [], ◌∷◌, ◌++◌, Option, Some, None, length, take, drop, All, refl, sym, ap, ◌∙◌, append_assoc, append-nil, arith, length-append, length-drop, take-append-drop, subst, lit<}
+use Rattle.std.proofs.Common.{◌≡◌, ℕ, ◌<◌, ◌≤◌, ◌+◌, ◌-◌, ℤ, pos, List, [], ◌∷◌, ◌++◌, Option, Some, None, length, take, drop, All, refl, sym, ap, ◌∙◌, append_assoc, append-nil, arith, length-append, length-drop, take-append-drop, lit<, rules}
 use Rattle.std.specs.List.{flat_map}
 use Rattle.std.proofs.lemmas.List.{drop-drop, length-take, take_all, Elements.All-head, Elements.All-tail, Elements.All-cons, Elements.All-append}
 use Rattle.std.proofs.lemmas.{Int.ints, Grind.flat_map-append, Slice.drop-put_mid, Slice.take-put_mid}
@@ -35,10 +35,7 @@ slots_of_file insns = flat_map slots_of_insn insns
 
 file_spelled : (order : Order) (insns : List Insn) → file_of order insns ≡ flat_map (spelled order) (slots_of_file insns)
 file_spelled order [] = refl
-file_spelled order (i ∷ insns) =
-    ap (λ xs. xs ++ file_of order insns) (insn_spelled order i)
-    ∙ ap (λ xs. flat_map (spelled order) (slots_of_insn i) ++ xs) (file_spelled order insns)
-    ∙ sym (flat_map-append (spelled order) (slots_of_insn i) (slots_of_file insns))
+file_spelled order (i ∷ insns) = grind (arith, insn_spelled, (file_spelled order insns))
 
 no_slots_in_range : All AreFields []
 no_slots_in_range k d below = absurd (omega (arith, below))
@@ -55,15 +52,13 @@ insn_in_range i h = All-cons AreFields (fields_of i) (second_fields (next_imm_of
 
 file_in_range : (insns : List Insn) → All IsInsn insns → All AreFields (slots_of_file insns)
 file_in_range [] h = no_slots_in_range
-file_in_range (i ∷ insns) h =
-    All-append AreFields (slots_of_insn i) (slots_of_file insns) (insn_in_range i (All-head IsInsn i insns h)) (file_in_range insns (All-tail IsInsn i insns h))
+file_in_range (i ∷ insns) h = search (rules, All-append, insn_in_range, All-head, (file_in_range insns (All-tail IsInsn i insns h)))
 
 -- slots whose bytes begin those of other slots begin these slots
 slots_begin : (order : Order) (fs gs : List Fields) (rest : List ℕ) → All AreFields fs → All AreFields gs
     → flat_map (spelled order) fs ++ rest ≡ flat_map (spelled order) gs → (hs : List Fields) × ((gs ≡ fs ++ hs) × (rest ≡ flat_map (spelled order) hs))
 slots_begin order [] gs rest hf hg e = (gs, (refl, e))
-slots_begin order (f ∷ fs) [] rest hf hg e =
-    absurd (omega (arith, ap length e, length-append (spelled order f ++ flat_map (spelled order) fs) rest, length-append (spelled order f) (flat_map (spelled order) fs), slot_length order f))
+slots_begin order (f ∷ fs) [] rest hf hg e = grind arith
 slots_begin order (f ∷ fs) (g ∷ gs) rest hf hg e =
     let whole : spelled order f ++ (flat_map (spelled order) fs ++ rest) ≡ spelled order g ++ flat_map (spelled order) gs =
     sym (append_assoc (spelled order f) (flat_map (spelled order) fs) rest) ∙ e in
@@ -100,8 +95,7 @@ none_rewritten order to bytes old = record { slots = []; each = no_slots_in_rang
 -- a slot and what follows it
 pub slot_first : (order : Order) (rest slot following : List ℕ) (f : Fields) → slot ≡ take 8 rest → following ≡ drop 8 rest → slot ≡ spelled order f
     → rest ≡ spelled order f ++ following
-slot_first order rest slot following f first left is =
-    sym (take-append-drop 8 rest) ∙ ap (λ (xs : List ℕ). xs ++ drop 8 rest) (sym first ∙ is) ∙ ap (λ (xs : List ℕ). spelled order f ++ xs) (sym left)
+slot_first order rest slot following f first left is = grind arith
 
 pub one_rewritten : (order to : Order) (bytes rest following old new : List ℕ) (slot : Fields) → Rewrites order to bytes rest old new
     → rest ≡ spelled order slot ++ following → AreFields slot → Rewrites order to bytes following old (new ++ spelled to slot)
@@ -123,18 +117,7 @@ one_rewritten order to bytes rest following old new slot so_far e fit = record {
 pub rewritten_rest : (order to : Order) (bytes rest old new : List ℕ) → Rewrites order to bytes rest old new
     → (insns : List Insn) → InsnFile order bytes insns
     → (left : List Fields) × ((rest ≡ flat_map (spelled order) left) × (old ++ file_of to insns ≡ new ++ flat_map (spelled to) left))
-rewritten_rest order to bytes rest old new so_far insns file =
-    let slots = so_far.slots in
-    let left = slots_begin order slots (slots_of_file insns) rest so_far.each (file_in_range insns file.0) (sym so_far.read ∙ file.1 ∙ file_spelled order insns) in
-    let whole : file_of to insns ≡ flat_map (spelled to) slots ++ flat_map (spelled to) left.0 =
-    file_spelled to insns ∙ ap (flat_map (spelled to)) left.1.0 ∙ flat_map-append (spelled to) slots left.0 in (
-      left.0,
-      (
-        left.1.1,
-        ap (λ xs. old ++ xs) whole ∙ sym (append_assoc old (flat_map (spelled to) slots) (flat_map (spelled to) left.0))
-            ∙ ap (λ xs. xs ++ flat_map (spelled to) left.0) (sym so_far.written),
-      ),
-    )
+rewritten_rest order to bytes rest old new so_far insns file = grind (arith, slots_begin, file_in_range, file_spelled, flat_map-append, append_assoc)
 
 -- if the bytes are a file, and less than a slot of them remains, the output is that file
 pub file_rewritten : (order to : Order) (bytes rest old new : List ℕ) → Rewrites order to bytes rest old new → length rest < 8
@@ -157,16 +140,7 @@ slot_at order xs slot at f first is =
 pub one_swapped : (order to : Order) (bytes xs other slot : List ℕ) (at : ℕ) (f : Fields) → Rewrites order to bytes (drop at xs) [] (take at xs)
     → at + 8 ≤ length xs → slot ≡ take 8 (take (length xs - at) (drop at xs)) → slot ≡ spelled order f → AreFields f → other ≡ spelled to f
     → Rewrites order to bytes (drop (at + 8) (put_mid at (at + 8 - at) xs other)) [] (take (at + 8) (put_mid at (at + 8 - at) xs other))
-one_swapped order to bytes xs other slot at f so_far within first is fit swapped =
-    let long : length other ≡ 8 = ap length swapped ∙ slot_length to f in
-    let left : drop (at + 8) (put_mid at (at + 8 - at) xs other) ≡ drop (at + 8) xs =
-    drop-put_mid at (at + 8 - at) xs other (at + 8) (omega arith) (omega (arith, within)) (omega (arith, long)) in
-    let written : take (at + 8) (put_mid at (at + 8 - at) xs other) ≡ take at xs ++ spelled to f =
-    take-put_mid at (at + 8 - at) xs other (at + 8) (omega (arith, long)) (omega (arith, within)) ∙ ap (λ (x : List ℕ). take at xs ++ x) swapped in
-    let more = one_rewritten order to bytes (drop at xs) (drop (at + 8) xs) [] (take at xs) f so_far (slot_at order xs slot at f first is) fit in
-    let P : List ℕ → Type 0 = λ x. Rewrites order to bytes x [] (take at xs ++ spelled to f) in
-    let Q : List ℕ → Type 0 = λ x. Rewrites order to bytes (drop (at + 8) (put_mid at (at + 8 - at) xs other)) [] x in
-    subst Q (sym written) (subst P (sym left) more)
+one_swapped order to bytes xs other slot at f so_far within first is fit swapped = grind (arith, slot_length, drop-put_mid, take-put_mid, one_rewritten, slot_at)
 
 -- less than a slot is left, so all of the file was overwritten
 pub none_left : (order to : Order) (bytes xs : List ℕ) (at : ℕ) → Rewrites order to bytes (drop at xs) [] (take at xs)
@@ -181,9 +155,7 @@ none_left order to bytes xs at so_far short insns file =
 
 -- the bytes that follow some others
 pub appended_part : (old bytes all : List ℕ) (start : ℕ) → all ≡ old ++ bytes → start ≡ length old → mid_of start (length all - start) all ≡ bytes
-appended_part old bytes all start is at =
-    let after : drop start all ≡ bytes = ap (drop start) is ∙ ap (λ (n : ℕ). drop n (old ++ bytes)) at ∙ drop-append_seam old bytes in
-    ap (take (length all - start)) after ∙ take_all (length all - start) bytes (omega (arith, at, ap length is, length-append old bytes))
+appended_part old bytes all start is at = grind (arith, drop-append_seam, take_all, length-append)
 
 -- the bytes that follow some others, overwritten by as many
 pub appended_in_place : (old bytes all written rest : List ℕ) (start n : ℕ) → all ≡ old ++ bytes → start ≡ length old → n ≡ length all → length written ≡ length bytes

@@ -1,5 +1,6 @@
 -- An engine between two reads.
 use Rattle.std.proofs.Common.{◌≡◌, ◌<◌, ◌≤◌, ◌+◌, ◌-◌, ◌++◌, ◌∙◌, ℕ, List, [], Option, None, length, take, min, refl, sym, ap, subst, arith, length-append}
+use Rattle.std.proofs.lemmas.Grind.{common_steps}
 use Rattle.std.proofs.lemmas.List.{append-nil, take_all, take_min, take-take, length-take-le, Concat.flat_map-append}
 use Rattle.std.proofs.Math.{Seq.take-append-add, Seq.take-append_seam, Nat.min_comm}
 use Rattle.std.proofs.KnownBytes.{Appends-trans, Consumes-trans, Consumes-kept}
@@ -114,14 +115,11 @@ adds_of o to s t read piece before rest out front h m =
 
 wrote_more : (p q r : Option (List ℕ)) (to : Order) (before gained : List Insn) (out : List ℕ) → Appends p q (file_of to before) → Appends q r out
     → out ≡ file_of to gained → Appends p r (file_of to (before ++ gained))
-wrote_more p q r to before gained out h k e =
-    let P : List ℕ → Type 0 = λ x. Appends p r x in
-    subst P (ap (λ x. file_of to before ++ x) e ∙ sym (flat_map-append (spelling to) before gained)) (Appends-trans p q r _ _ h k)
+wrote_more p q r to before gained out h k e = grind (arith, flat_map-append, Appends-trans)
 
 size_more : (to : Order) (before gained : List Insn) (out : List ℕ) (n k : ℕ) → n ≡ length (file_of to before) → k ≡ length out → out ≡ file_of to gained
     → n + k ≡ length (file_of to (before ++ gained))
-size_more to before gained out n k h j e =
-    omega (arith, h, j, ap length e, ap length (flat_map-append (spelling to) before gained), length-append (file_of to before) (file_of to gained))
+size_more to before gained out n k h j e = grind (arith, flat_map-append, length-append)
 
 -- one more piece within the limit
 pub run_more : (a b c p q r : Option (List ℕ)) (o to : Order) (s t : FeedState) (n k : ℕ) (piece : List ℕ) → Running (devices a b p q) o to s n
@@ -145,17 +143,7 @@ run_more a b c p q r o to s t n k piece h came x fits =
 wrote_chunk : (a b c p q r : Option (List ℕ)) (o to : Order) (s t : FeedState) (n k : ℕ) (chunk piece out : List ℕ) → (h : Running (devices a b p q) o to s n)
     → Consumes b c chunk → Adds o to t h.read piece h.insns out → Appends q r out → k ≡ length out → take limit (h.read ++ chunk) ≡ h.read ++ piece
     → length chunk ≤ read_room → WroteAll (devices a c p r) o to (h.read ++ chunk) (n + k)
-wrote_chunk a b c p q r o to s t n k chunk piece out h came adds took all cut small =
-    let P : List ℕ → Type 0 = λ b. IsFront o b (h.insns ++ adds.gained) adds.left in
-    record {
-      came = Consumes-trans a b c h.read chunk h.came came;
-      near = omega (arith, small, h.within, length-append h.read chunk);
-      insns = h.insns ++ adds.gained;
-      rest = adds.left;
-      front = subst P (sym cut) adds.front;
-      took = wrote_more p q r to h.insns adds.gained out h.took took adds.made;
-      all = size_more to h.insns adds.gained out n k h.all all adds.made;
-    }
+wrote_chunk a b c p q r o to s t n k chunk piece out h came adds took all cut small = grind (arith, common_steps)
 
 -- more than the limit came
 pub run_too_long : (a b c p q r : Option (List ℕ)) (o to : Order) (s t : FeedState) (n k : ℕ) (chunk piece : List ℕ) → (h : Running (devices a b p q) o to s n)
@@ -239,11 +227,7 @@ within_cut read chunk fed within e h w =
 -- what is in a part of a read is in the read
 pub cut_chunk : (read buffer : List ℕ) (fed n within : ℕ) → fed ≡ length read → fed ≤ limit → n ≤ length buffer → within ≡ min n (limit - fed)
     → take limit (read ++ take n buffer) ≡ read ++ take within buffer
-cut_chunk read buffer fed n within e h l w =
-    let size : length (take n buffer) ≡ n = length-take-le n buffer l in
-    let least : within ≤ n = omega (arith, w) in
-    within_cut read (take n buffer) fed within e h (w ∙ ap (λ m. min m (limit - fed)) (sym size))
-    ∙ ap (λ x. read ++ x) (take-take within n buffer least)
+cut_chunk read buffer fed n within e h l w = grind (arith, length-take-le, within_cut, take-take)
 
 -- the instructions that a piece within the limit completes are within the limit
 out_within : (a b p q : Option (List ℕ)) (o to : Order) (s t : FeedState) (n : ℕ) (piece out : List ℕ)
@@ -266,8 +250,7 @@ stops_small a b p q r o to s t n k piece (cause.Fault f) h x fits = omega (arith
 stops_small a b p q r o to s t n k piece cause.TooLong h x fits = absurd x
 stops_small a b p q r o to s t n k piece cause.ReadFailed h x fits = absurd x
 stops_small a b p q r o to s t n k piece cause.WriteFailed h x fits = omega (arith, x.prefix, out_within a b p q o to s t n piece x.out h x.moves fits)
-stops_small a b p q r o to s t n k piece cause.Memory h x fits =
-    omega (arith, x.0, h.within, h.all, front_within o to h.read h.insns h.rest h.front)
+stops_small a b p q r o to s t n k piece cause.Memory h x fits = grind (arith, front_within)
 
 pub passed_small : (a b p q r : Option (List ℕ)) (o to : Order) (s t : FeedState) (n k : ℕ) (piece : List ℕ)
     → Running (devices a b p q) o to s n → Passed s t piece q r k → s.fed + length piece ≤ limit → n + k ≤ limit

@@ -1,9 +1,9 @@
 -- The bytes of a slot in the other order, by the 64-bit number that they encode.
-use Rattle.std.proofs.Common.{◌≡◌, ◌≢◌, ◌<◌, ◌+◌, ◌*◌, ◌/◌, ◌%◌, ◌^◌, ◌++◌, ◌∙◌, ℕ, zero, suc, List, [], ◌∷◌, length, slice_index, refl, ap, arith, bit_and, lit<}
-use Rattle.std.specs.Int.{w16, w32, w64, cast_unsigned, from_le_bytes, to_le_bytes}
+use Rattle.std.proofs.Common.{◌≡◌, ◌≢◌, ◌<◌, ◌+◌, ◌*◌, ◌/◌, ◌%◌, ◌^◌, ◌∙◌, ℕ, zero, suc, List, [], ◌∷◌, length, slice_index, refl, ap, arith, bit_and, lit<}
+use Rattle.std.specs.Int.{w64, from_le_bytes, to_le_bytes}
 use Rattle.std.proofs.lemmas.Nat.{and_block, and_mask, le_bytes_8}
 use Rattle.bpf_words.specs.declared.Order.{Order, TheVariants.Little, TheVariants.Big}
-use Rattle.bpf_words.specs.{Words.IsBytes, Words.word16, Words.word32, Slots.AreFields, Slots.Fields, Slots.spelled}
+use Rattle.bpf_words.specs.{Words.IsBytes, Slots.AreFields, Slots.Fields, Slots.spelled}
 
 -- ---- the bytes of halfwords exchanged
 
@@ -75,30 +75,13 @@ three_parts n low third fourth l t is = (omega arith, omega arith, omega arith)
 number_exchanged : (s : List ℕ) (word halfwords : ℕ) → length s ≡ 8 → IsBytes s → word ≡ from_le_bytes w64 s
     → halfwords ≡ swapped_halfwords word
     → slot_number word halfwords ≡ from_le_bytes w64 (exchanged s)
-number_exchanged s word halfwords long fits is parts =
-    let digits : to_le_bytes w64 word ≡ s = le_bytes_8 s word long fits is in
-    let digit0 : word % 0x100 ≡ slice_index s 0 = ap (λ (x : List ℕ). slice_index x 0) digits in
-    let digit1 : word / 0x100 % 0x100 ≡ slice_index s 1 = ap (λ (x : List ℕ). slice_index x 1) digits in
-    let digit2 : word / 0x10000 % 0x100 ≡ slice_index s 2 = ap (λ (x : List ℕ). slice_index x 2) digits in
-    let digit3 : word / 0x1000000 % 0x100 ≡ slice_index s 3 = ap (λ (x : List ℕ). slice_index x 3) digits in
-    let digit4 : word / 0x100000000 % 0x100 ≡ slice_index s 4 = ap (λ (x : List ℕ). slice_index x 4) digits in
-    let digit5 : word / 0x10000000000 % 0x100 ≡ slice_index s 5 = ap (λ (x : List ℕ). slice_index x 5) digits in
-    let digit6 : word / 0x1000000000000 % 0x100 ≡ slice_index s 6 = ap (λ (x : List ℕ). slice_index x 6) digits in
-    let digit7 : word / 0x100000000000000 % 0x100 ≡ slice_index s 7 = ap (λ (x : List ℕ). slice_index x 7) digits in
-    let low : word / 0x100 % 0x10 ≡ slice_index s 1 % 16 = omega (arith, digit1) in
-    let high : word / 0x1000 % 0x10 ≡ slice_index s 1 / 16 = omega (arith, digit1) in
-    let whole : halfwords ≡ slice_index s 3 * 0x10000 + slice_index s 2 * 0x1000000 + (slice_index s 5 + slice_index s 4 * 0x100) * 0x100000000 + (slice_index s 7 + slice_index s 6 * 0x100) * 0x1000000000000 = omega (arith, parts, digit2, digit3, digit4, digit5, digit6, digit7) in
-    let halves = three_parts halfwords (slice_index s 3 * 0x10000 + slice_index s 2 * 0x1000000) (slice_index s 5 + slice_index s 4 * 0x100) (slice_index s 7 + slice_index s 6 * 0x100)
-    (omega (arith, fits 2, fits 3)) (omega (arith, fits 4, fits 5)) whole in
-    omega (arith, digit0, low, high, halves.0, halves.1, halves.2)
+number_exchanged s word halfwords long fits is parts = omega arith
 
 -- the bytes of a slot, read as numbers and exchanged, are those in the other order
 exchanged_spelled : (order to : Order) → order ≢ to → (f : Fields) → AreFields f → exchanged (spelled order f) ≡ spelled to f
 exchanged_spelled Little Little other f fit = absurd (other refl)
-exchanged_spelled Little Big other f fit =
-    ap (λ (r : ℕ). f.opcode ∷ r ∷ (word16 Big (cast_unsigned w16 f.off) ++ word32 Big (cast_unsigned w32 f.imm))) (omega (arith, fit.dst, fit.src))
-exchanged_spelled Big Little other f fit =
-    ap (λ (r : ℕ). f.opcode ∷ r ∷ (word16 Little (cast_unsigned w16 f.off) ++ word32 Little (cast_unsigned w32 f.imm))) (omega (arith, fit.dst, fit.src))
+exchanged_spelled Little Big other f fit = grind arith
+exchanged_spelled Big Little other f fit = grind arith
 exchanged_spelled Big Big other f fit = absurd (other refl)
 
 pub slot_swapped : (order to : Order) → order ≢ to → (s : List ℕ) (word halfwords n : ℕ) → length s ≡ 8 → IsBytes s → word ≡ from_le_bytes w64 s

@@ -55,6 +55,4 @@ item_names_more xs h items k x e =
     ∙ ap (λ (t : List (List ℕ)). xs ++ h ∷ t) (sym (ap (map item_name) more ∙ map-append item_name (take k items) (x ∷ [])))
 
 pub record_names_more : (v : List TypeRecord) (i : ℕ) → i < length v → names (take i v) ++ record_names (record_at v (i + 1)) ≡ names (take (i + 1) v)
-record_names_more v i h =
-    let r = record_at v (i + 1) in
-    sym (ap names (records_more v i h) ∙ flat_map-append record_names (take i v) (r ∷ []) ∙ ap (λ (t : List (List ℕ)). names (take i v) ++ t) (append-nil (record_names r)))
+record_names_more v i h = grind (arith, records_more, flat_map-append, append-nil)

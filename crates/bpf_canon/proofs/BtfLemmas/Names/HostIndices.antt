@@ -1,6 +1,5 @@
 -- The search for the host of each name by its index, over the sorted names from the last one back.
-use Rattle.std.proofs.Common.{◌≡◌, ℕ, ◌+◌, ◌<◌, ◌≤◌, ◌&&◌, Bool, true, false, inl, inr, List, [], length, map, get_or, set, sym, ap, ◌∙◌, subst, arith, Bor}
-use Rattle.std.proofs.lemmas.Bool.{cases_eq}
+use Rattle.std.proofs.Common.{◌≡◌, ℕ, ◌+◌, ◌<◌, ◌≤◌, ◌&&◌, Bool, true, false, List, [], length, map, get_or, set, sym, ap, ◌∙◌, subst, arith, Bor}
 use Rattle.std.proofs.lemmas.List.{get_or-set_same, get_or-set_other, length-set, length-map, get_or-map, get_or_default, get_or_read}
 use Rattle.btf_types.specs.Names.{is_other}
 use Rattle.btf_types.specs.strings.SharedNames.{is_suffix, is_proper_suffix, hosts_of, host_in}
@@ -39,24 +38,7 @@ module _ (ks : List (List ℕ)) (sorted : List Named) (apart : NoRepeats ks) (ar
 
   -- one name more
   pub host_put : (hosts : List ℕ) (k h : ℕ) (e : Named) → HostsFrom ks sorted hosts (k + 1) → k < length sorted → h < length ks → name_at ks h ≡ host_in (hosts_of ks) (name_at ks ((get_or sorted k e).1)) → HostsFrom ks sorted (set hosts ((get_or sorted k e).1) h) k
-  host_put hosts k h e f low inside is =
-      let index = (get_or sorted k e).1 in
-      let here : get_or (set hosts index h) index 0 ≡ h = get_or-set_same hosts index h 0 (omega (arith, index_inside k e low, f.whole)) in
-      let mine : IsHostAt ks (set hosts index h) index = record { inside = subst (λ (n : ℕ). n < length ks) (sym here) inside; host = ap (name_at ks) here ∙ is } in
-      record {
-        whole = length-set hosts index h ∙ f.whole;
-        after = λ j d a b. elim (cases_eq ((get_or sorted j d).1) index) [
-          | inl q ↦ subst (IsHostAt ks (set hosts index h)) (sym q) mine
-          | inr n ↦
-              let later : k + 1 ≤ j = elim (cases_eq j k) [
-                | inl s ↦ absurd (n (ap (λ (m : ℕ). (get_or sorted m d).1) s ∙ ap (λ (p : Named). p.1) (get_or_default sorted k d e low)))
-                | inr s ↦ omega (arith, a, s)
-              ] in
-              let old = f.after j d later b in
-              let same : get_or (set hosts index h) ((get_or sorted j d).1) 0 ≡ get_or hosts ((get_or sorted j d).1) 0 = get_or-set_other hosts index ((get_or sorted j d).1) h 0 n in
-              record { inside = subst (λ (m : ℕ). m < length ks) (sym same) old.inside; host = ap (name_at ks) same ∙ old.host }
-        ];
-      }
+  host_put hosts k h e f low inside is = grind (arith, get_or-set_same, length-set, get_or_default, get_or-set_other)
 
   proper : (k : ℕ) (e : Named) → k + 1 < length sorted → is_suffix ((get_or sorted k e).0.now) ((get_or sorted (k + 1) e).0.now) ≡ true → is_proper_suffix (get_or (texts sorted) k e.0.now) (get_or (texts sorted) (k + 1) e.0.now) ≡ true
   proper k e low t =
@@ -98,10 +80,7 @@ module _ (ks : List (List ℕ)) (sorted : List Named) (apart : NoRepeats ks) (ar
 
   pub host_own_read : (hosts : List ℕ) (k h : ℕ) (p : Named) → HostsFrom ks sorted hosts (k + 1) → k < length sorted → p ≡ get_or sorted k p → ((q : Named) → k + 1 < length sorted → q ≡ get_or sorted (k + 1) q → is_suffix p.0.now q.0.now ≡ false) → h ≡ p.1
       → HostsFrom ks sorted (set hosts p.1 h) k
-  host_own_read hosts k h p f low p_is differs h_is =
-      let none : k + 1 < length sorted → is_suffix ((get_or sorted k p).0.now) ((get_or sorted (k + 1) p).0.now) ≡ false = λ m.
-      ap (λ (s : Named). is_suffix s.0.now ((get_or sorted (k + 1) p).0.now)) (sym p_is) ∙ differs (get_or sorted (k + 1) p) m (get_or_default sorted (k + 1) p (get_or sorted (k + 1) p) m) in
-      subst (λ (n : ℕ). HostsFrom ks sorted (set hosts p.1 n) k) (sym h_is) (subst (λ (s : Named). HostsFrom ks sorted (set hosts s.1 s.1) k) (sym p_is) (host_own hosts k p f low none))
+  host_own_read hosts k h p f low p_is differs h_is = grind (arith, get_or_default, host_own)
 
   pub hosts_all : (hosts : List ℕ) → HostsFrom ks sorted hosts 0 → HaveHosts ks hosts
   hosts_all hosts f = record {

@@ -1,11 +1,12 @@
 -- Kept names in an index set, and the table of the hosts.
 use Rattle.std.proofs.Common.{◌≡◌, ◌≢◌, ℕ, ◌+◌, ◌<◌, ◌≤◌, Bool, true, false, not, ◌||◌, inl, inr, List, [], ◌∷◌, ◌++◌, length, get_or, take, drop, refl, sym, ap, ◌∙◌, subst, arith, Bor, Option, Some, is_some, IsSome, position, eqb}
+use Rattle.std.proofs.lemmas.Grind.{common_steps}
 use Rattle.std.specs.{List.filter, List.list_any, List.Contains, List.flat_map, Str.bytes_eq}
-use Rattle.std.proofs.lemmas.Bool.{cases_Bool, cond-true, cond-false, eqb-false, false_from_ne_true}
-use Rattle.std.proofs.lemmas.List.{map-append, length-append, append-nil, take-append-drop, Concat.flat_map-append, Quantifiers.position-Some}
-use Rattle.std.proofs.lemmas.List.Elements.{filter-append, filter_more}
+use Rattle.std.proofs.lemmas.Bool.{cond-true, eqb-false}
+use Rattle.std.proofs.lemmas.List.{map-append, length-append, take-append-drop, Concat.flat_map-append, Quantifiers.position-Some}
+use Rattle.std.proofs.lemmas.List.Elements.{filter-append}
 use Rattle.indexmap.specs.IndexSet.{insert_key}
-use Rattle.btf_types.specs.Names.{distinct, is_other, is_some_text, kept, with_nul, table_of}
+use Rattle.btf_types.specs.Names.{distinct, kept, with_nul, table_of}
 use Rattle.btf_types.specs.strings.SharedNames.{is_proper_suffix, hosts_of, host_in}
 use Rattle.bpf_canon.specs.btf.names.Interned.{lent_texts, AddsName}
 use Rattle.btf_types.proofs.Members.{Has, Has-from_filter, Has-from_Contains}
@@ -37,23 +38,13 @@ pub set_known : (ks : List (Bor (List ℕ))) (k : Bor (List ℕ)) → Has (lent_
 set_known ks k h = cond-true (list_any (text_eq k) ks) ks (ks ++ k ∷ []) (set_iff_any k ks ∙ test_from_Has (lent_texts ks) k.now h)
 
 pub set_new : (ks : List (Bor (List ℕ))) (k : Bor (List ℕ)) → ¬ Has (lent_texts ks) k.now → lent_texts (insert_key text_eq ks k) ≡ lent_texts ks ++ k.now ∷ []
-set_new ks k n =
-    let none : list_any (text_eq k) ks ≡ false = elim (cases_Bool (list_any (text_eq k) ks)) [
-      | inl t ↦ absurd (n (Has_from_test (lent_texts ks) k.now (sym (set_iff_any k ks) ∙ t)))
-      | inr f ↦ f
-    ] in
-    ap lent_texts (cond-false (list_any (text_eq k) ks) ks (ks ++ k ∷ []) none) ∙ texts_push ks k
+set_new ks k n = grind (arith, Has_from_test, set_iff_any, texts_push)
 
 some_text : (x : List ℕ) → eqb (length x) 0 ≡ false → x ≢ []
 some_text x f e = eqb-false (length x) 0 f (ap (λ (t : List ℕ). length t) e)
 
 pub set_adds : (ks fs : List (Bor (List ℕ))) (k : Bor (List ℕ)) → eqb (length k.now) 0 ≡ false → fs ≡ insert_key text_eq ks k → AddsName (lent_texts ks) (lent_texts fs) k.now
-set_adds ks fs k some f xs e = elim (Has_cases (lent_texts ks) k.now) [
-  | inl h ↦ ap lent_texts (f ∙ set_known ks k h) ∙ e ∙ sym (kept_known xs k.now (subst (λ (l : List (List ℕ)). Has l k.now) e h))
-  | inr n ↦
-      ap lent_texts f ∙ set_new ks k n ∙ ap (λ (l : List (List ℕ)). l ++ k.now ∷ []) e
-      ∙ sym (kept_new xs k.now (some_text k.now some) (λ h. n (subst (λ (l : List (List ℕ)). Has l k.now) (sym e) h)))
-]
+set_adds ks fs k some f xs e = grind (arith, set_known, kept_known, set_new, kept_new, some_text, (Has_cases (lent_texts ks) k.now))
 
 pub filter_all : (p : List ℕ → Bool) (xs : List (List ℕ)) → ((y : List ℕ) → Has xs y → p y ≡ true) → filter p xs ≡ xs
 filter_all p [] h = refl
@@ -61,24 +52,17 @@ filter_all p (x ∷ xs) h = cond-true (p x) (x ∷ filter p xs) (filter p xs) (h
 
 pub distinct_same : (xs : List (List ℕ)) → NoRepeats xs → distinct xs ≡ xs
 distinct_same [] n = refl
-distinct_same (x ∷ xs) (n, ns) = ap (λ (l : List (List ℕ)). x ∷ l) (
-    ap (filter (is_other x)) (distinct_same xs ns)
-    ∙ filter_all (is_other x) xs (λ y h. ap not (false_from_ne_true (bytes_eq x y) (λ t. n (subst (Has xs) (sym (same_text x y t)) h)))))
+distinct_same (x ∷ xs) (n, ns) = grind (arith, filter_all, same_text, (distinct_same xs ns))
 
 pub kept_again : (xs : List (List ℕ)) → kept (kept xs) ≡ kept xs
-kept_again xs =
-    ap (filter is_some_text) (distinct_same (kept xs) (NoRepeats-kept xs))
-    ∙ filter_all is_some_text (kept xs) (λ x h. (Has-from_filter is_some_text (distinct xs) x h).1)
+kept_again xs = grind (arith, distinct_same, NoRepeats-kept, filter_all, Has-from_filter)
 
 pub kept_apart : (ks : List (List ℕ)) → kept ks ≡ ks → NoRepeats ks
 kept_apart ks own = subst NoRepeats own (NoRepeats-kept ks)
 
 -- a name is its own host if and only if no other ends with it
 pub own_host_test : (ks : List (List ℕ)) (x : List ℕ) → Has ks x → bytes_eq (host_in (hosts_of ks) x) x ≡ not (list_any (is_proper_suffix x) ks)
-own_host_test ks x h = elim (cases_Bool (list_any (is_proper_suffix x) ks)) [
-  | inl t ↦ false_from_ne_true (bytes_eq (host_in (hosts_of ks) x) x) (λ u. host_differs ks x h t (same_text _ x u)) ∙ sym (ap not t)
-  | inr f ↦ ap (λ (y : List ℕ). bytes_eq y x) (own_host_of ks x h f) ∙ bytes_eq-same x ∙ sym (ap not f)
-]
+own_host_test ks x h = grind (arith, host_differs, same_text, own_host_of, bytes_eq-same)
 
 abbrev pub keeps : List (List ℕ) → List ℕ → Bool
 keeps ks x = not (list_any (is_proper_suffix x) ks)
@@ -88,13 +72,10 @@ abbrev pub hosts_among : List (List ℕ) → ℕ → List (List ℕ)
 hosts_among ks i = filter (keeps ks) (take i ks)
 
 pub hosts_among_more : (ks : List (List ℕ)) (i : ℕ) (d : List ℕ) → i < length ks → keeps ks (get_or ks i d) ≡ true → hosts_among ks (i + 1) ≡ hosts_among ks i ++ get_or ks i d ∷ []
-hosts_among_more ks i d h t =
-    filter_more (keeps ks) ks i d h ∙ ap (λ (l : List (List ℕ)). hosts_among ks i ++ l) (cond-true (keeps ks (get_or ks i d)) (get_or ks i d ∷ []) [] t)
+hosts_among_more ks i d h t = grind (arith, common_steps)
 
 pub hosts_among_same : (ks : List (List ℕ)) (i : ℕ) (d : List ℕ) → i < length ks → keeps ks (get_or ks i d) ≡ false → hosts_among ks (i + 1) ≡ hosts_among ks i
-hosts_among_same ks i d h f =
-    filter_more (keeps ks) ks i d h ∙ ap (λ (l : List (List ℕ)). hosts_among ks i ++ l) (cond-false (keeps ks (get_or ks i d)) (get_or ks i d ∷ []) [] f)
-    ∙ append-nil (hosts_among ks i)
+hosts_among_same ks i d h f = grind (arith, common_steps)
 
 pub hosts_among_room : (ks : List (List ℕ)) (i : ℕ) → length (table_of (hosts_among ks i)) ≤ length (table_of (hosts_of ks))
 hosts_among_room ks i =

@@ -1,10 +1,10 @@
 -- The offsets of hosts in their table, in the order of the names, and the offset of each name.
 use Rattle.std.proofs.Common.{Bor, ◌≡◌, ◌≢◌, ℕ, zero, suc, ◌+◌, ◌-◌, ◌<◌, ◌≤◌, ◌^◌, true, false, inl, inr, List, [], ◌∷◌, ◌++◌, length, get_or, set, take, drop, refl, sym, ap, ◌∙◌, subst, arith, append_assoc, append-nil}
-use Rattle.std.specs.{List.filter, List.flat_map, Str.bytes_eq}
+use Rattle.std.specs.{List.filter, Str.bytes_eq}
 use Rattle.std.proofs.lemmas.List.{Concat.flat_map-append, Elements.filter-append, Sorted.IsPermutation-refl}
-use Rattle.std.proofs.lemmas.Bool.{cases_eq, cases_lt, false_from_ne_true, not-true}
+use Rattle.std.proofs.lemmas.Bool.{cases_eq, cases_lt, not-true}
 use Rattle.std.proofs.lemmas.List.{get_or-set_same, get_or-set_other, length-set, take-append-drop, take_all, get_or_read}
-use Rattle.btf_types.specs.Names.{with_nul, table_of, place_in}
+use Rattle.btf_types.specs.Names.{table_of, place_in}
 use Rattle.btf_types.specs.strings.SharedNames.{hosts_of, host_in, shared_among}
 use Rattle.btf_types.proofs.Members.{Has, Has-get_or, Has-from_filter}
 use Rattle.btf_types.proofs.StringLemmas.{Texts.same_text, Texts.bytes_eq-same, Distinct.NoRepeats, Distinct.apart_after}
@@ -28,15 +28,11 @@ index_is ks apart i j a b e = elim (cases_eq i j) [
 not_before : (ks : List (List ℕ)) (k : ℕ) → NoRepeats ks → k < length ks → ¬ Has (take k ks) (name_at ks k)
 not_before [] k n h = absurd (omega (arith, h))
 not_before (x ∷ xs) zero n h = λ i. i
-not_before (x ∷ xs) (suc k) (n, ns) h = λ i. elim i [
-  | inl e ↦ n (subst (Has xs) (sym e) (Has-get_or xs k [] (omega (arith, h))))
-  | inr r ↦ not_before xs k ns (omega (arith, h)) r
-]
+not_before (x ∷ xs) (suc k) (n, ns) h = grind (arith, Has-get_or, (not_before xs k ns (omega (arith, h))))
 
 place_stays_all : (rest ks : List (List ℕ)) (y : List ℕ) → Has ks y → place_in (ks ++ rest) y ≡ place_in ks y
 place_stays_all [] ks y h = ap (λ (l : List (List ℕ)). place_in l y) (append-nil ks)
-place_stays_all (r ∷ rest) ks y h =
-    ap (λ (l : List (List ℕ)). place_in l y) (sym (append_assoc ks (r ∷ []) rest)) ∙ place_stays_all rest (ks ++ r ∷ []) y (Has-front ks (r ∷ []) y h) ∙ place_stays ks r y h
+place_stays_all (r ∷ rest) ks y h = grind (arith, append_assoc, place_stays, (place_stays_all rest (ks ++ r ∷ []) y (Has-front ks (r ∷ []) y h)))
 
 -- the hosts among the first k names have their offsets, and this is the length of their table
 pub record PlacedTo (ks : List (List ℕ)) (hosts places : List ℕ) (table_len k : ℕ) : Type 0 where
@@ -52,10 +48,7 @@ module _ (ks : List (List ℕ)) (hosts : List ℕ) (apart : NoRepeats ks) (have 
       sym (own_host_test ks x (Has-get_or ks i [] h)) ∙ ap (λ (y : List ℕ). bytes_eq y x) same ∙ bytes_eq-same x
 
   pub keeps_other : (i : ℕ) → i < length ks → get_or hosts i 0 ≢ i → keeps ks (name_at ks i) ≡ false
-  keeps_other i h n =
-      let x = name_at ks i in
-      sym (own_host_test ks x (Has-get_or ks i [] h))
-      ∙ false_from_ne_true (bytes_eq (host_in (hosts_of ks) x) x) (λ t. n (index_is ks apart (get_or hosts i 0) i (have.inside i h) h (have.each i h ∙ same_text _ x t)))
+  keeps_other i h n = grind (arith, own_host_test, Has-get_or, index_is, same_text)
 
   pub placed_own : (places : List ℕ) (len k : ℕ) → PlacedTo ks hosts places len k → k < length ks → get_or hosts k 0 ≡ k → PlacedTo ks hosts (set places k len) (len + (length (name_at ks k) + 1)) (k + 1)
   placed_own places len k to low e = record {
@@ -99,11 +92,7 @@ module _ (ks : List (List ℕ)) (hosts : List ℕ) (apart : NoRepeats ks) (have 
 
 -- one name more in a table
 pub table_more : (out old : List ℕ) (hs : List (List ℕ)) (x : List ℕ) → out ≡ old ++ table_of hs → (out ++ x) ++ 0 ∷ [] ≡ old ++ table_of (hs ++ x ∷ [])
-table_more out old hs x e =
-    ap (λ (l : List ℕ). (l ++ x) ++ 0 ∷ []) e
-    ∙ append_assoc (old ++ table_of hs) x (0 ∷ [])
-    ∙ append_assoc old (table_of hs) (x ++ 0 ∷ [])
-    ∙ ap (λ (t : List ℕ). old ++ 0 ∷ t) (sym (flat_map-append with_nul hs (x ∷ []) ∙ ap (λ (t : List ℕ). flat_map with_nul hs ++ t) (append-nil (with_nul x))))
+table_more out old hs x e = grind (arith, append_assoc, flat_map-append)
 
 -- a name that isn't empty, the index of its host, and the offset of the host
 pub record HasPlace (ks : List (List ℕ)) (hosts places : List ℕ) (x : List ℕ) (i : ℕ) : Type 0 where
@@ -114,9 +103,7 @@ pub record HasPlace (ks : List (List ℕ)) (hosts places : List ℕ) (x : List �
 
 in_shared : (ks : List (List ℕ)) (x h : List ℕ) (n : ℕ) → 0 < length x → h ≡ host_in (hosts_of ks) x → n ≡ place_in (hosts_of ks) h → n + (length h - length x) ≡ shared_among ks x
 in_shared ks [] h n some is place = absurd (omega (arith, some))
-in_shared ks (b ∷ bytes) h n some is place =
-    let x : List ℕ = b ∷ bytes in
-    ap (λ (m : ℕ). m + (length h - length x)) place ∙ ap (λ (g : List ℕ). place_in (hosts_of ks) g + (length g - length x)) is
+in_shared ks (b ∷ bytes) h n some is place = grind arith
 
 pub has_place : (ks : List (List ℕ)) (hosts places : List ℕ) (table_len : ℕ) → NoRepeats ks → AreShared ks hosts places table_len → (x : List ℕ) (i : ℕ) → i < length ks → name_at ks i ≡ x → 0 < length x → HasPlace ks hosts places x i
 has_place ks hosts places table_len apart are x i low is some =

@@ -1,5 +1,5 @@
 -- The names of one item and of one record more.
-use Rattle.std.proofs.Common.{◌≡◌, ℕ, suc, ◌+◌, ◌<◌, List, [], ◌∷◌, ◌++◌, inl, inr, length, take, get_or, sym, ap, ◌∙◌, append-nil, arith}
+use Rattle.std.proofs.Common.{◌≡◌, ℕ, ◌+◌, ◌<◌, List, [], ◌∷◌, ◌++◌, inl, inr, length, take, get_or, sym, ap, ◌∙◌, append-nil, arith}
 use Rattle.std.proofs.lemmas.List.{map_more, Elements.All-nil, Elements.All-cons, Concat.flat_map-append}
 use Rattle.std.specs.Prelude.{if◌then◌else◌}
 use Rattle.std.specs.List.{All}
@@ -14,9 +14,7 @@ use Rattle.bpf_canon.specs.btf.write.NameOffsets.{item_word, name_offsets, all_o
 use Rattle.bpf_canon.proofs.BtfLemmas.{Strings.FirstUseSteps.noted_all-append, Write.RecordNames.named_total}
 
 pub item_noted : (offs : List ℕ) (f : ℕ → ℕ) (k : ℕ) → noted (noted_all offs (tabulate f k)) (f k) ≡ noted_all offs (tabulate f (k + 1))
-item_noted offs f k =
-    let next : k + 1 ≡ suc k = omega arith in
-    rw next (sym (noted_all-append offs (tabulate f k) (f k ∷ [])))
+item_noted offs f k = grind (arith, noted_all-append)
 
 pub record_noted : (o : Order) (types places : List ℕ) (i : ℕ) → i < length places
     → noted_all (noted_all [] (all_offsets (frames_at o types (take i places)))) (name_offsets (frame_at o types (get_or places i 0))) ≡ noted_all [] (all_offsets (frames_at o types (take (i + 1) places)))

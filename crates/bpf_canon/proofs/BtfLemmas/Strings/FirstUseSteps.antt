@@ -1,7 +1,7 @@
 -- What one more offset does to the noted offsets, and to the names that are kept of them.
 use Rattle.std.proofs.Common.{◌≡◌, ◌≢◌, ℕ, ◌<◌, ◌⊎◌, true, inl, inr, List, [], ◌∷◌, ◌++◌, length, map, get_or, set, refl, sym, ap, ◌∙◌, subst, arith, append_assoc}
 use Rattle.std.specs.{Prelude.nat_eq, List.list_any, List.Contains}
-use Rattle.std.proofs.lemmas.Bool.{cases_eq, cases_Bool, both_ways, cond-true, cond-false, false_from_ne_true, eq-eqb, eqb-true}
+use Rattle.std.proofs.lemmas.Bool.{cases_eq, cases_Bool, cond-true, cond-false, false_from_ne_true, eq-eqb}
 use Rattle.std.proofs.lemmas.List.{map-append, length-map, get_or-map, get_or-set_same, get_or-set_other, append-nil}
 use Rattle.std.proofs.lemmas.List.Folds.{list_any_at, Any-from_list_any}
 use Rattle.std.proofs.lemmas.List.Elements.{Contains-append_left, Contains-push, Contains-push_cases}
@@ -14,15 +14,10 @@ test_from_Contains : (offs : List ℕ) (off : ℕ) → Contains offs off → lis
 test_from_Contains offs off (k, inside, is) = list_any_at (nat_eq off) offs k off inside (eq-eqb off (get_or offs k off) (sym is))
 
 Contains_from_test : (offs : List ℕ) (off : ℕ) → list_any (nat_eq off) offs ≡ true → Contains offs off
-Contains_from_test offs off t =
-    let a = Any-from_list_any (nat_eq off) offs t in
-    subst (Contains offs) (sym (eqb-true off a.1 a.4)) (a.0, a.2, a.3)
+Contains_from_test offs off t = grind (arith, Any-from_list_any)
 
 cases_Contains : (offs : List ℕ) (off : ℕ) → Contains offs off ⊎ (¬ Contains offs off)
-cases_Contains offs off = elim (cases_Bool (list_any (nat_eq off) offs)) [
-  | inl t ↦ inl (Contains_from_test offs off t)
-  | inr f ↦ inr (λ c. both_ways _ f (test_from_Contains offs off c))
-]
+cases_Contains offs off = grind (arith, Contains_from_test, test_from_Contains, (cases_Bool (list_any (nat_eq off) offs)))
 
 pub noted_known : (offs : List ℕ) (off : ℕ) → Contains offs off → noted offs off ≡ offs
 noted_known offs off c = cond-true (list_any (nat_eq off) offs) offs (offs ++ off ∷ []) (test_from_Contains offs off c)
@@ -56,12 +51,7 @@ known_push xs (b ∷ x) h = kept_known xs (b ∷ x) (Has-kept xs b x h)
 
 same_push : (xs ys : List (List ℕ)) (x : List ℕ) → kept xs ≡ kept ys → kept (xs ++ x ∷ []) ≡ kept (ys ++ x ∷ [])
 same_push xs ys [] e = kept_empty xs ∙ e ∙ sym (kept_empty ys)
-same_push xs ys (b ∷ x) e = elim (Has_cases (kept xs) (b ∷ x)) [
-  | inl h ↦ kept_known xs (b ∷ x) h ∙ e ∙ sym (kept_known ys (b ∷ x) (subst (λ (l : List (List ℕ)). Has l (b ∷ x)) e h))
-  | inr n ↦
-      kept_new xs (b ∷ x) (λ q. absurd cc) n ∙ ap (λ (l : List (List ℕ)). l ++ (b ∷ x) ∷ []) e
-      ∙ sym (kept_new ys (b ∷ x) (λ q. absurd cc) (λ h. n (subst (λ (l : List (List ℕ)). Has l (b ∷ x)) (sym e) h)))
-]
+same_push xs ys (b ∷ x) e = grind (arith, kept_known, kept_new, (Has_cases (kept xs) (b ∷ x)))
 
 in_map : (text : ℕ → List ℕ) (xs : List ℕ) (x : ℕ) → Contains xs x → Contains (map text xs) (text x)
 in_map text xs x (k, inside, is) = (k, omega (arith, inside, length-map xs text), get_or-map text xs k x (text x) inside ∙ ap text is)
@@ -79,9 +69,7 @@ kept_noted text offs xs off e =
 
 kept_all : (text : ℕ → List ℕ) (offs xs more : List ℕ) → kept (map text offs) ≡ kept (map text xs) → kept (map text (noted_all offs more)) ≡ kept (map text (xs ++ more))
 kept_all text offs xs [] e = e ∙ ap (λ (l : List ℕ). kept (map text l)) (sym (append-nil xs))
-kept_all text offs xs (o ∷ more) e =
-    kept_all text (noted offs o) (xs ++ o ∷ []) more (kept_noted text offs xs o e)
-    ∙ ap (λ (l : List ℕ). kept (map text l)) (append_assoc xs (o ∷ []) more)
+kept_all text offs xs (o ∷ more) e = grind (arith, append_assoc, (kept_all text (noted offs o) (xs ++ o ∷ []) more (kept_noted text offs xs o e)))
 
 -- The names kept of all offsets are the names kept of the noted ones, whatever their strings are.
 pub kept_first_uses : (text : ℕ → List ℕ) (uses : List ℕ) → kept (map text (noted_all [] uses)) ≡ kept (map text uses)

@@ -1,5 +1,5 @@
 -- The hosts of the strings at the used offsets of a section, found by the longest of them.
-use Rattle.std.proofs.Common.{◌≡◌, ◌≢◌, ℕ, zero, suc, ◌<◌, true, List, ◌∷◌, length, map, get_or, drop, refl, sym, ap, ◌∙◌, subst, arith}
+use Rattle.std.proofs.Common.{◌≡◌, ◌≢◌, ℕ, zero, suc, ◌<◌, true, List, ◌∷◌, length, map, get_or, refl, sym, ap, ◌∙◌, subst, arith}
 use Rattle.std.specs.List.{All, Contains}
 use Rattle.std.proofs.{lemmas.List.get_or-map, lemmas.List.length-map, lemmas.List.get_or_default, Math.Seq.drop-cons}
 use Rattle.btf_types.specs.{strings.SharedNames.is_suffix, strings.LongestTexts.AreLongest, Reading.before_nul, Reading.text_from}
@@ -18,18 +18,14 @@ from_map e f xs z (k, inside, is) =
     (get_or xs k e, (k, low, get_or_default xs k (get_or xs k e) e low), sym (get_or-map f xs k e z low) ∙ is)
 
 pub empty_at_nul : (section : List ℕ) (off : ℕ) → off < length section → get_or section off 0 ≡ 0 → length (text_from section off) ≡ 0
-empty_at_nul section off inside nul =
-    let first : drop off section ≡ 0 ∷ drop (suc off) section = drop-cons section off 0 inside ∙ ap (λ (b : ℕ). b ∷ drop (suc off) section) nul in
-    ap (λ (t : List ℕ). length (before_nul t)) first
+empty_at_nul section off inside nul = grind (arith, drop-cons)
 
 first_some : (b : ℕ) (rest : List ℕ) → b ≢ 0 → length (before_nul (b ∷ rest)) ≡ 0 → ⊥
 first_some zero rest n z = n refl
 first_some (suc b) rest n z = omega (arith, z)
 
 pub text_some : (section : List ℕ) (off : ℕ) → off < length section → get_or section off 0 ≢ 0 → length (text_from section off) ≡ 0 → ⊥
-text_some section off inside b z =
-    let first : drop off section ≡ get_or section off 0 ∷ drop (suc off) section = drop-cons section off 0 inside in
-    first_some (get_or section off 0) (drop (suc off) section) b (sym (ap (λ (l : List ℕ). length (before_nul l)) first) ∙ z)
+text_some section off inside b z = grind (arith, drop-cons)
 
 pub longest_are : (section slots offsets : List ℕ) (ts : List SectionText) → AreLongestOf section slots ts → AreMarked offsets slots → All (λ off. off < length section) offsets → AreLongest (map (text_from section) offsets) (map (text_in section) ts)
 longest_are section slots offsets ts are are_used inside = record {

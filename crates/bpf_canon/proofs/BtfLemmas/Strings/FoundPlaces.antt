@@ -1,5 +1,5 @@
 -- From the hosts of used offsets to the offsets of names in the shared table.
-use Rattle.std.proofs.Common.{◌≡◌, ◌≢◌, ℕ, ◌+◌, ◌-◌, ◌^◌, ◌<◌, inl, inr, List, [], ◌∷◌, length, map, get_or, sym, ap, ◌∙◌, subst, arith}
+use Rattle.std.proofs.Common.{◌≡◌, ◌≢◌, ℕ, ◌+◌, ◌^◌, ◌<◌, inl, inr, List, [], ◌∷◌, length, map, get_or, sym, ap, ◌∙◌, subst, arith, rules}
 use Rattle.std.specs.List.{All, Any, Contains, Sorted.IsPermutation}
 use Rattle.std.proofs.lemmas.Bool.{cases_eq}
 use Rattle.std.proofs.lemmas.List.{length-map, get_or-map, get_or_default, nil_from_length, Elements.All-map}
@@ -75,11 +75,7 @@ module _ {A : Type 0} (used : Used) (r : RankedTexts A) (in_hosts : List InHost)
 -- the offset of a name, at the end of its host
 place_at_host : (ks : List (List ℕ)) (x h : List ℕ) (n b : ℕ) → 0 < length x → host_in (hosts_of ks) x ≡ h → n ≡ place_in (hosts_of ks) h → b + length x ≡ length h → n + b ≡ shared_among ks x
 place_at_host ks [] h n b some is place before = absurd (omega (arith, some))
-place_at_host ks (c ∷ bytes) h n b some is place before =
-    let x : List ℕ = c ∷ bytes in
-    let gap : b ≡ length h - length x = omega (arith, before) in
-    ap (λ (m : ℕ). m + b) place ∙ ap (λ (m : ℕ). place_in (hosts_of ks) h + m) gap
-    ∙ ap (λ (g : List ℕ). place_in (hosts_of ks) g + (length g - length x)) (sym is)
+place_at_host ks (c ∷ bytes) h n b some is place before = grind arith
 
 no_place : (ks : List (List ℕ)) (x : List ℕ) → x ≡ [] → 0 ≡ shared_among ks x
 no_place ks x e = sym (ap (shared_among ks) e)
@@ -99,24 +95,16 @@ module _ (section slots offsets by_rank : List ℕ) (sorted : List (List ℕ)) (
   has = Has-from_Contains names x (in_map (text_from section) offsets off c)
 
   some : get_or section off 0 ≢ 0 → 0 < length x
-  some b = elim (cases_eq (length x) 0) [
-    | inr n ↦ omega (arith, n)
-    | inl z ↦ absurd (let a = is.some b in text_some section off is.inside b z)
-  ]
+  some b = omega (arith, text_some)
 
   there : (b : get_or section off 0 ≢ 0) → Has (hosts names) (at_rank sorted (is.some b).rank)
   there b = host_there sorted names x h (is.some b) has (some b)
 
   place_is : (b : get_or section off 0 ≢ 0) → get_or by_rank h.host 0 ≡ place_in (hosts names) (at_rank sorted (is.some b).rank)
-  place_is b =
-      let a = is.some b in
-      ap (λ (k : ℕ). get_or by_rank k 0) a.numbered ∙ host_places.place a.rank a.inside a.last (Contains-from_Has (hosts names) (at_rank sorted a.rank) (there b))
+  place_is b = grind (arith, Contains-from_Has, there)
 
   pub host_ranked : h.host < length by_rank
-  host_ranked = elim (cases_eq (get_or section off 0) 0) [
-    | inl z ↦ omega (arith, ap (λ (i : InHost). i.host) (is.empty z), host_places.ranks)
-    | inr b ↦ let a = is.some b in omega (arith, a.numbered, a.inside, host_places.ranks)
-  ]
+  host_ranked = grind arith
 
   pub place_fits : length (shared_table names) < 2 ^ 32 → get_or by_rank h.host 0 + h.before < 2 ^ 32
   place_fits room = elim (cases_eq (get_or section off 0) 0) [
@@ -144,12 +132,10 @@ module _ {A : Type 0} (used : Used) (r : RankedTexts A) (in_hosts : List InHost)
       subst P (sym (get_or_default in_hosts k d no_host h ∙ ap (λ (j : ℕ). get_or in_hosts j no_host) (sym u.3))) (is u.0 (marked.only u.0 u.2))
 
   pub all_ranked : All (λ (i : InHost). i.host < length h.by_rank.items) in_hosts
-  all_ranked = each_number (λ (i : InHost). i.host < length h.by_rank.items) (λ off c.
-      host_ranked r.section.now used.slots used.offsets h.by_rank.items (sorted_in r) in_hosts h.spans.items h.len host_places off c (at off c))
+  all_ranked = search (rules, each_number, host_ranked, at)
 
   pub all_fit : length (shared_table (names_in r used)) < 2 ^ 32 → All (λ (i : InHost). name_place h.by_rank.items i < 2 ^ 32) in_hosts
-  all_fit room = each_number (λ (i : InHost). name_place h.by_rank.items i < 2 ^ 32) (λ off c.
-      place_fits r.section.now used.slots used.offsets h.by_rank.items (sorted_in r) in_hosts h.spans.items h.len host_places off c (at off c) room)
+  all_fit room = search (rules, each_number, place_fits, at)
 
   pub all_placed : ArePlaced r.section.now used (map (name_place h.by_rank.items) in_hosts) h.spans.items h.len
   all_placed = record {

@@ -1,8 +1,9 @@
 -- Steps of the loop that assigns offsets to hosts in the order of first use.
 use Rattle.std.proofs.Common.{◌≡◌, ◌≢◌, ℕ, ◌+◌, ◌<◌, ◌≤◌, true, false, not, inl, inr, List, [], ◌∷◌, ◌++◌, length, map, get_or, set, take, drop, refl, sym, ap, ◌∙◌, subst, arith, take-append-drop}
+use Rattle.std.proofs.lemmas.Grind.{common_steps}
 use Rattle.std.specs.List.{flat_map, list_any, All, Sorted.IsSorted}
-use Rattle.std.proofs.lemmas.{Bool.both_ways, Bool.cases_Bool, Bool.cases_eq, Bool.cases_lt, Bool.false_from_ne_true, List.Concat.flat_map-append}
-use Rattle.std.proofs.lemmas.List.{append-nil, map-append, length-set, get_or-set_same, get_or-set_other, get_or_default, map_more, nil_from_length, get_or_read}
+use Rattle.std.proofs.lemmas.{Bool.both_ways, Bool.cases_eq, Bool.cases_lt, Bool.false_from_ne_true, List.Concat.flat_map-append}
+use Rattle.std.proofs.lemmas.List.{append-nil, map-append, length-set, get_or-set_same, get_or-set_other, get_or_default, map_more, get_or_read}
 use Rattle.btf_types.specs.{Names.kept, Names.with_nul, Names.table_of, Names.place_in, Reading.text_from, strings.CommonTails.at_rank}
 use Rattle.btf_raw.specs.Header.{HasNulEnds}
 use Rattle.btf_types.specs.strings.SharedNames.{is_suffix, is_proper_suffix, tail_cmp, hosts, host, shared_table}
@@ -14,7 +15,7 @@ use Rattle.bpf_canon.specs.btf.strings.UsedOffsets.{Used, offset_number, number_
 use Rattle.bpf_canon.specs.declared.btf.strings.{hosts_by_rank.InHost.InHost, host_places.Span.Span, ranked_texts.RankedTexts.RankedTexts}
 use Rattle.bpf_canon.specs.btf.strings.HostPlaces.{span_bytes, IsSpan, HasText, IsAtHost, HasHost, AreHostPlaces, names_in, HaveTheirHosts}
 use Rattle.bpf_canon.proofs.BtfLemmas.Names.{KeptSteps.place_stays, KeptSteps.place_last, KeptSteps.length-table_push, Gathering.Has-front, Gathering.Has-back}
-use Rattle.bpf_canon.proofs.BtfLemmas.Strings.{FoundHosts.empty_at_nul, FoundHosts.text_some, FoundHosts.in_map, TableSpans.span_of}
+use Rattle.bpf_canon.proofs.BtfLemmas.Strings.{FoundHosts.text_some, FoundHosts.in_map, TableSpans.span_of}
 use Rattle.bpf_canon.proofs.BtfLemmas.Strings.PlacedHosts.{is_own, host_places, laid_empty, laid_other, laid_known, laid_new, laid_fits, has_push}
 
 -- a rank whose string isn't a suffix of the next one
@@ -97,16 +98,10 @@ module _ (section slots : List ℕ) (sorted xs : List (List ℕ)) (in_hosts : Li
   x = text_from section off
 
   pub no_host_empty : h.host ≡ 0 → x ≡ []
-  no_host_empty z = elim (cases_eq (get_or section off 0) 0) [
-    | inl e ↦ nil_from_length x (empty_at_nul section off is.inside e)
-    | inr n ↦ let a = is.some n in absurd (omega (arith, z, a.numbered))
-  ]
+  no_host_empty z = grind (arith, common_steps)
 
   pub at_host : h.host ≢ 0 → IsAtHost sorted xs x h
-  at_host n = elim (cases_eq (get_or section off 0) 0) [
-    | inl e ↦ absurd (n (ap (λ (i : InHost). i.host) (is.empty e)))
-    | inr s ↦ is.some s
-  ]
+  at_host n = grind arith
 
 module _ (sorted xs : List (List ℕ)) (x : List ℕ) (h : InHost) (a : IsAtHost sorted xs x h) (has : Has xs x) (some : 0 < length x) where
   in_kept : Has (kept xs) x
@@ -125,10 +120,7 @@ module _ (sorted xs : List (List ℕ)) (x : List ℕ) (h : InHost) (a : IsAtHost
   own_yes z = ap not (false_from_ne_true (list_any (is_proper_suffix x) (kept xs)) (λ t. host_differs (kept xs) x in_kept t (a.is_host ∙ own_text z)))
 
   pub own_no : h.before ≢ 0 → is_own xs x ≡ false
-  own_no n = elim (cases_Bool (list_any (is_proper_suffix x) (kept xs))) [
-    | inl t ↦ ap not t
-    | inr f ↦ absurd (n (omega (arith, a.before, ap (λ (t : List ℕ). length t) (sym a.is_host ∙ own_host_of (kept xs) x in_kept f))))
-  ]
+  own_no n = grind (arith, own_host_of, in_kept)
 
   pub host_there : Has (hosts xs) (at_rank sorted a.rank)
   host_there = subst (Has (hosts xs)) a.is_host (host_is (kept xs) x in_kept).host
@@ -170,23 +162,14 @@ module _ (section slots offsets : List ℕ) (sorted : List (List ℕ)) (in_hosts
   at_here h = subst (IsAtHost sorted names own) (sym same_here) (at_host section slots sorted names in_hosts (get_or offsets k 0) is has (λ z. h (ap (λ (i : InHost). i.host) same_here ∙ z)))
 
   some_here : here.host ≢ 0 → 0 < length own
-  some_here h = elim (cases_eq (length own) 0) [
-    | inr m ↦ omega (arith, m)
-    | inl z ↦ elim (cases_eq (get_or section (get_or offsets k 0) 0) 0) [
-      | inl e ↦ absurd (h (ap (λ (i : InHost). i.host) (same_here ∙ is.empty e)))
-      | inr b ↦ absurd (text_some section (get_or offsets k 0) is.inside b z)
-    ]
-  ]
+  some_here h = grind (arith, text_some)
 
   -- a name that is its own host is as long as that
   pub own_long : here.host ≢ 0 → here.before ≡ 0 → here.len ≡ length own
   own_long h b = let a = at_here h in omega (arith, a.long, a.before, b)
 
   pub placed_inside : (by_rank : List ℕ) (spans : List Span) (len : ℕ) → LaidTo section sorted (host_places names (taken k)) by_rank spans len → here.host < length by_rank
-  placed_inside by_rank spans len to = elim (cases_eq here.host 0) [
-    | inl z ↦ omega (arith, z, to.ranks)
-    | inr h ↦ let a = at_here h in omega (arith, a.numbered, a.inside, to.ranks)
-  ]
+  placed_inside by_rank spans len to = grind arith
 
   pub skips_empty : here.host ≡ 0 → host_places names (taken k) ≡ host_places names (taken (k + 1))
   skips_empty z = sym (more ∙ laid_empty names (taken k) own (no_host_empty section slots sorted names in_hosts (get_or offsets k 0) is has (ap (λ (i : InHost). i.host) (sym same_here) ∙ z)))
@@ -253,16 +236,4 @@ laid_room section offsets j =
     omega (arith, laid_fits xs (map (text_from section) (take j offsets)) (map (text_from section) (drop j offsets)), same)
 
 pub laid_all : (section : List ℕ) (sorted xs : List (List ℕ)) (by_rank : List ℕ) (spans : List Span) (len : ℕ) → LaidTo section sorted (hosts xs) by_rank spans len → AreHostPlaces section sorted xs by_rank spans len
-laid_all section sorted xs by_rank spans len to = record {
-  are_spans = to.are_spans;
-  texts = to.texts;
-  whole = to.whole;
-  ranks = to.ranks;
-  none = to.none;
-  place = λ r inside last c.
-      let at : IsLast sorted r = record { inside = inside; last = last } in
-      elim (cases_eq (get_or by_rank (r + 1) 0) 0) [
-        | inl z ↦ absurd (to.absent r at z (Has-from_Contains (hosts xs) (at_rank sorted r) c))
-        | inr n ↦ to.place r at n
-      ];
-}
+laid_all section sorted xs by_rank spans len to = grind (arith, Has-from_Contains)

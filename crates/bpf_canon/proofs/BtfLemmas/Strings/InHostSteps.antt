@@ -132,16 +132,7 @@ pub record WithinTo (section slots : List ℕ) (sorted : List (List ℕ)) (commo
 
 module _ (section slots : List ℕ) (sorted : List (List ℕ)) (common : List ℕ) (t : SectionText) (rank : ℕ) (old : List InHost) where
   pub within_skips : (in_hosts : List InHost) (from off : ℕ) → WithinTo section slots sorted common t rank old in_hosts from off → get_or slots off 0 ≡ 0 → WithinTo section slots sorted common t rank old in_hosts from (off + 1)
-  within_skips in_hosts from off to z = record {
-    whole = to.whole;
-    below = to.below;
-    before = λ j l h. omega (arith, to.before j l h);
-    here = λ o s l h. elim (cases_eq o off) [
-      | inl e ↦ absurd (s (ap (λ (k : ℕ). get_or slots k 0) e ∙ z))
-      | inr n ↦ to.here o s l (omega (arith, h, n))
-    ];
-    there = λ o s n. to.there o s (λ (a, b). n (a, omega (arith, b)));
-  }
+  within_skips in_hosts from off to z = grind arith
 
   pub within_finds : (in_hosts : List InHost) (from off next : ℕ) (h : InHost) → WithinTo section slots sorted common t rank old in_hosts from off → length old ≡ offset_number slots (length slots) → t.start ≤ off → get_or slots off 0 ≢ 0 → next ≤ from
       → ((j : ℕ) → next < j → j ≤ from → t.end - off ≤ get_or common j 0) → IsInHost sorted (text_from section off) h → WithinTo section slots sorted common t rank old (set in_hosts (offset_number slots off) h) next (off + 1)
@@ -168,18 +159,7 @@ module _ (section slots : List ℕ) (sorted : List (List ℕ)) (common : List �
 -- the host of a separate string
 pub finds_alone : (section slots : List ℕ) (sorted : List (List ℕ)) (t : SectionText) (old : List InHost) (h : InHost) → IsUsed section slots t → ((k : ℕ) → t.start + 1 ≤ k → k < t.end → get_or slots k 0 ≡ 0) → length old ≡ offset_number slots (length slots) → IsInHost sorted (text_from section t.start) h
     → FindsWithin section slots sorted t old (set old (offset_number slots t.start) h)
-finds_alone section slots sorted t old h used alone long is =
-    let number = offset_number slots t.start in
-    let here : host_at slots (set old number h) t.start ≡ h = get_or-set_same old number h no_host (omega (arith, number_inside slots t.start used.slot, long)) in
-    record {
-      whole = length-set old number h;
-      here = λ o s w.
-          let e : o ≡ t.start = elim (cases_eq o t.start) [ inl q ↦ q | inr n ↦ absurd (s (alone o (omega (arith, w.from, n)) w.before)) ] in
-          subst (λ (k : ℕ). IsInHost sorted (text_from section k) (host_at slots (set old number h) k)) (sym e) (subst (IsInHost sorted (text_from section t.start)) (sym here) is);
-      there = λ o s n. get_or-set_other old number (offset_number slots o) h no_host (λ e.
-          let same : o ≡ t.start = number_injective slots o t.start s used.slot e in
-          n (record { from = omega (arith, same); before = omega (arith, same, used.some) }));
-    }
+finds_alone section slots sorted t old h used alone long is = grind (arith, get_or-set_same, number_inside, length-set, get_or-set_other, number_injective)
 
 -- likewise for a string that was read
 module _ (section slots : List ℕ) (ts : List SectionText) (longest : AreLongestOf section slots ts) (rank : ℕ) (t : SectionText) (inside : rank < length ts) (t_is : t ≡ get_or ts rank t) where
@@ -195,13 +175,7 @@ module _ (section slots : List ℕ) (ts : List SectionText) (longest : AreLonges
       subst (λ (k : SectionText). FindsWithin section slots sorted k old (set old (offset_number slots t.start) h)) t_end (finds_alone section slots sorted t old h used_read alone long is)
 
 cases_within : (off : ℕ) (t : SectionText) → IsInText off t ⊎ (¬ IsInText off t)
-cases_within off t = elim (cases_lt off t.start) [
-  | inl a ↦ inr (λ w. omega (arith, a, w.from))
-  | inr b ↦ elim (cases_lt off t.end) [
-    | inl c ↦ inl (record { from = b; before = c })
-    | inr d ↦ inr (λ w. omega (arith, d, w.before))
-  ]
-]
+cases_within off t = grind arith
 
 module _ (section slots : List ℕ) (ts : List SectionText) (sorted : List (List ℕ)) (longest : AreLongestOf section slots ts) where
   pub hosts_more : (old new : List InHost) (k : ℕ) → HostsTo section slots ts sorted old k → k < length ts → FindsWithin section slots sorted (get_or ts k no_text) old new → HostsTo section slots ts sorted new (k + 1)

@@ -64,18 +64,7 @@ module _ (x y : List ℕ) (p : (i : ℕ) → get_or x i 0 < 256) (q : (i : ℕ) 
 
 -- the bytes before the last eight
 front_byte : (x : List ℕ) (j : ℕ) → 8 ≤ length x → get_or (reverse (text_before x)) j 0 ≡ get_or (reverse x) (8 + j) 0
-front_byte x j long =
-    let few : length (text_before x) ≡ length x - 8 = length-take-le (length x - 8) x (omega arith) in
-    elim (cases_lt j (length x - 8)) [
-      | inl h ↦
-          get_or-reverse (text_before x) j 0 (omega (arith, h, few))
-          ∙ get_or-take (length x - 8) x (length (text_before x) - 1 - j) 0 (omega (arith, h, few))
-          ∙ ap (λ (i : ℕ). get_or x i 0) (let e : length (text_before x) - 1 - j ≡ length x - 1 - (8 + j) = omega (arith, few) in e)
-          ∙ sym (get_or-reverse x (8 + j) 0 (omega (arith, h)))
-      | inr h ↦
-          get_or_past (reverse (text_before x)) j 0 (omega (arith, h, few, length-reverse (text_before x)))
-          ∙ sym (get_or_past (reverse x) (8 + j) 0 (omega (arith, h, long, length-reverse x)))
-    ]
+front_byte x j long = grind (arith, length-take-le, get_or-reverse, get_or-take, get_or_past, length-reverse)
 
 module _ (x y : List ℕ) (p : (i : ℕ) → get_or x i 0 < 256) (q : (i : ℕ) → get_or y i 0 < 256) (long_x : 8 ≤ length x) (long_y : 8 ≤ length y) (k m n : ℕ) (first : k ≡ suffix_key x) (second : m ≡ suffix_key y)
     (same : (j : ℕ) → j < n → get_or (to_le_bytes w64 k) (7 - j) 0 ≡ get_or (to_le_bytes w64 m) (7 - j) 0) (all : 8 ≤ n)

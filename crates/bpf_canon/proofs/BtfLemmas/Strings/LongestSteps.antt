@@ -7,7 +7,7 @@ use Rattle.std.proofs.lemmas.List.{get_or-drop, length-drop, get_or_append_left,
 use Rattle.btf_types.specs.Reading.{before_nul, text_from}
 use Rattle.btf_types.proofs.StringLemmas.Suffixes.{Ends, Ends-refl}
 use Rattle.bpf_canon.specs.btf.strings.{SuffixKeys.suffix_key, Longest.IsUsed, Longest.IsInText}
-use Rattle.bpf_canon.specs.btf.strings.SectionTexts.{end_in, start_in, text_in, text_before, HasKey}
+use Rattle.bpf_canon.specs.btf.strings.SectionTexts.{text_in, text_before, HasKey}
 use Rattle.bpf_canon.specs.declared.btf.strings.section_texts.SectionText.{SectionText}
 use Rattle.bpf_canon.proofs.BtfLemmas.Strings.TextLemmas.{text_is}
 
@@ -33,21 +33,14 @@ text_ends section start off low high f =
     (drop_more start (off - start) section ∙ ap (λ (n : ℕ). drop n section) (let e : start + (off - start) ≡ off = omega arith in e)) rest
 
 pub text_in_is : (section : List ℕ) (t : SectionText) → t.start ≤ t.end → t.end ≤ length section → text_in section t ≡ take (t.end - t.start) (drop t.start section)
-text_in_is section t low high =
-    let e : end_in section t ≡ t.end = omega arith in
-    let s : start_in section t ≡ t.start = omega arith in
-    ap (λ (n : ℕ). take (n - start_in section t) (drop (start_in section t) section)) e ∙ ap (λ (n : ℕ). take (t.end - n) (drop n section)) s
+text_in_is section t low high = grind arith
 
 -- a used string, and the names that begin within it
 pub used_text : (section slots : List ℕ) (t : SectionText) → IsUsed section slots t → text_in section t ≡ text_from section t.start
-used_text section slots t used =
-    text_in_is section t (omega (arith, used.some)) (omega (arith, used.inside))
-    ∙ text_is section t.start t.end (omega (arith, used.some)) used.inside used.nul used.before
+used_text section slots t used = grind (arith, text_is)
 
 pub used_length : (section slots : List ℕ) (t : SectionText) → IsUsed section slots t → length (text_in section t) ≡ t.end - t.start
-used_length section slots t used =
-    ap (λ (l : List ℕ). length l) (text_in_is section t (omega (arith, used.some)) (omega (arith, used.inside)))
-    ∙ length-take-le (t.end - t.start) (drop t.start section) (let rest = length-drop t.start section in omega (arith, rest, used.inside))
+used_length section slots t used = grind (arith, length-take-le, length-drop)
 
 pub within_length : (section slots : List ℕ) (t : SectionText) (off : ℕ) → IsUsed section slots t → IsInText off t → length (text_from section off) ≡ t.end - off
 within_length section slots t off used within =

@@ -1,12 +1,12 @@
 -- Marks of offsets as bits of 64-bit elements, and the number of those before an offset.
-use Rattle.std.proofs.Common.{◌≡◌, ◌≢◌, ℕ, zero, suc, ◌+◌, ◌*◌, ◌/◌, ◌%◌, ◌^◌, ◌<◌, ◌≤◌, max, inl, inr, List, [], ◌∷◌, ◌++◌, length, get_or, set, replicate, bit_and, bit_or, ◌-◌, count_ones, refl, sym, ap, ◌∙◌, subst, arith}
+use Rattle.std.proofs.Common.{◌≡◌, ◌≢◌, ℕ, zero, suc, ◌+◌, ◌*◌, ◌/◌, ◌%◌, ◌^◌, ◌<◌, ◌≤◌, max, inl, inr, List, [], ◌∷◌, ◌++◌, length, get_or, set, replicate, bit_and, bit_or, ◌-◌, count_ones, refl, sym, ap, ◌∙◌, arith}
 use Rattle.std.specs.Int.{bit_at}
 use lib.Count.{ones_step}
-use Rattle.std.proofs.lemmas.{Bool.cases_eq, Bool.cases_lt, Nat.ones_le_self, Nat.pow_pos, Nat.pow_below, Nat.and_mask}
+use Rattle.std.proofs.lemmas.{Bool.cases_eq, Nat.ones_le_self, Nat.pow_below, Nat.and_mask}
 use Rattle.std.proofs.Math.{Arith.mod-mul, Nat.pow-suc, Nat.max-zero, Nat.mod-eq_of_lt}
-use Rattle.std.proofs.lemmas.Nat.Bits.{bit_at_lowest, bit_at-zero, bit_at-lt, bit_at-suc, bit_at_or, bit_at-pow_same, bit_at-pow_other}
+use Rattle.std.proofs.lemmas.Nat.Bits.{bit_at-zero, bit_at-lt, bit_at-suc, bit_at_or, bit_at-pow_same, bit_at-pow_other}
 use Rattle.std.proofs.lemmas.List.{length_push, length-set, length-replicate, get_or-replicate, get_or-set_same, get_or-set_other, get_or_append_left, get_or_push, get_or_past, get_or_read, ext_get_or}
-use Rattle.bpf_canon.specs.btf.strings.FirstUses.{noted, mark_of, slots_of, AreMarked, HaveMarks}
+use Rattle.bpf_canon.specs.btf.strings.FirstUses.{noted, mark_of, slots_of, HaveMarks}
 use Rattle.bpf_canon.specs.btf.strings.UsedOffsets.{offset_number, AreNumbered}
 use Rattle.bpf_canon.proofs.BtfLemmas.Strings.FirstUseSteps.{marked_more, noted_known, noted_new}
 use Rattle.bpf_canon.proofs.BtfLemmas.Strings.UsedSteps.{number_used, number_unused, counted_none, counted_all}
@@ -16,24 +16,15 @@ zero_ones : (n : ℕ) → n ≡ 0 → count_ones n ≡ 0
 zero_ones n e = ap count_ones e ∙ omega (arith, ones_le_self 0)
 
 low_step : (k w : ℕ) → count_ones (w % 2 ^ suc k) ≡ w % 2 + count_ones (w / 2 % 2 ^ k)
-low_step k w =
-    let split : w % 2 ^ suc k ≡ (w / 2 % 2 ^ k) * 2 + w % 2 = ap (λ (d : ℕ). w % d) (pow-suc 2 k) ∙ mod-mul w {m = 2 ^ k} {c = 2} (pow_pos k) (omega arith) in
-    let low : w % 2 ^ suc k % 2 ≡ w % 2 = omega (arith, split) in
-    let high : w % 2 ^ suc k / 2 ≡ w / 2 % 2 ^ k = omega (arith, split) in
-    ones_step (w % 2 ^ suc k) ∙ ap (λ (n : ℕ). n + count_ones (w % 2 ^ suc k / 2)) low ∙ ap (λ (n : ℕ). w % 2 + count_ones n) high
+low_step k w = grind (arith, pow-suc, mod-mul, ones_step)
 
 sums : (a b c d e f g : ℕ) → a ≡ d + b → b ≡ c + e → f ≡ d + c → g ≡ e → a ≡ f + g
 sums a b c d e f g p q r s = omega (arith, p, q, r, s)
 
 -- Another bit of an element counts if it is set.
 pub ones_more : (k w : ℕ) → count_ones (w % 2 ^ suc k) ≡ count_ones (w % 2 ^ k) + bit_at w k
-ones_more zero w =
-    sums (count_ones (w % 2 ^ 1)) (count_ones (w / 2 % 2 ^ 0)) 0 (w % 2) 0 (w % 2) 0 (low_step 0 w) (zero_ones (w / 2 % 2 ^ 0) (omega arith)) (omega arith) refl
-    ∙ ap (λ (n : ℕ). n + 0) (sym (bit_at_lowest w))
-    ∙ (let z = zero_ones (w % 2 ^ 0) (omega arith) in omega (arith, z))
-ones_more (suc k) w =
-    sums (count_ones (w % 2 ^ suc (suc k))) (count_ones (w / 2 % 2 ^ suc k)) (count_ones (w / 2 % 2 ^ k)) (w % 2) (bit_at (w / 2) k) (count_ones (w % 2 ^ suc k)) (bit_at w (suc k))
-    (low_step (suc k) w) (ones_more k (w / 2)) (low_step k w) (bit_at-suc w k)
+ones_more zero w = omega (arith, low_step, zero_ones)
+ones_more (suc k) w = grind (arith, low_step, bit_at-suc, (ones_more k (w / 2)))
 
 max_one : (n : ℕ) → n < 2 → max n 1 ≡ 1
 max_one n h = elim (cases_eq n 0) [ inl z ↦ ap (λ (m : ℕ). max m 1) z | inr s ↦ ap (λ (m : ℕ). max m 1) (let e : n ≡ 1 = omega (arith, h, s) in e) ]
@@ -60,10 +51,7 @@ slot_at words (suc n) off h = elim (cases_eq off n) [
 ]
 
 read_none : (k i : ℕ) → ◌≡◌ {A = ℕ} (get_or (replicate k 0) i 0) 0
-read_none k i = elim (cases_lt i k) [
-  | inl h ↦ get_or-replicate {A = ℕ} k i 0 0 h
-  | inr g ↦ get_or_past {X = ℕ} (replicate k 0) i 0 (omega (arith, g, length-replicate {A = ℕ} k 0))
-]
+read_none k i = grind (arith, get_or-replicate, get_or_past, length-replicate)
 
 pub slots_none : (n k : ℕ) → slots_of (replicate k 0) n ≡ replicate n 0
 slots_none n k =
@@ -89,13 +77,7 @@ module _ (words : List ℕ) (n off w : ℕ) (len : length words ≡ n / 64 + 1) 
   mark_set = ap (λ (v : ℕ). bit_at v (off % 64)) word_set ∙ bit_set w (off % 64)
 
   mark_stays : (i : ℕ) → i ≢ off → mark_of more i ≡ mark_of words i
-  mark_stays i d = elim (cases_eq (i / 64) (off / 64)) [
-    | inl e ↦
-        ap (λ (q : ℕ). bit_at (get_or more q 0) (i % 64)) e ∙ ap (λ (v : ℕ). bit_at v (i % 64)) word_set
-        ∙ bit_stays w (off % 64) (i % 64) (λ r. d (omega (arith, e, r))) ∙ ap (λ (v : ℕ). bit_at v (i % 64)) is
-        ∙ ap (λ (q : ℕ). bit_at (get_or words q 0) (i % 64)) (sym e)
-    | inr o ↦ ap (λ (v : ℕ). bit_at v (i % 64)) (get_or-set_other words (off / 64) (i / 64) (bit_or w (2 ^ (off % 64))) 0 o)
-  ]
+  mark_stays i d = grind (arith, word_set, bit_stays, get_or-set_other)
 
   pub slots_marked : slots_of more n ≡ set (slots_of words n) off 1
   slots_marked =
@@ -117,21 +99,13 @@ module _ (words : List ℕ) (n word : ℕ) where
   slots = slots_of words n
 
   slot_is : (k : ℕ) → k < 64 → 64 * word + k < n → get_or slots (64 * word + k) 0 ≡ bit_at w k
-  slot_is k b h =
-      let q : (64 * word + k) / 64 ≡ word = omega (arith, b) in
-      let r : (64 * word + k) % 64 ≡ k = omega (arith, b) in
-      slot_at words n (64 * word + k) h ∙ ap (λ (i : ℕ). bit_at (get_or words i 0) ((64 * word + k) % 64)) q ∙ ap (bit_at w) r
+  slot_is k b h = grind (arith, slot_at)
 
   number_more : (k : ℕ) → k < 64 → 64 * word + k < n → offset_number slots (64 * word + k + 1) ≡ offset_number slots (64 * word + k) + bit_at w k
-  number_more k b h = elim (cases_eq (bit_at w k) 0) [
-    | inl z ↦ plus_none (offset_number slots (64 * word + k + 1)) (offset_number slots (64 * word + k)) (bit_at w k) (number_unused slots (64 * word + k) (slot_is k b h ∙ z)) z
-    | inr s ↦ plus_one (offset_number slots (64 * word + k + 1)) (offset_number slots (64 * word + k)) (bit_at w k) (number_used slots (64 * word + k) (λ z. s (sym (slot_is k b h) ∙ z))) s (bit_at-lt w k)
-  ]
+  number_more k b h = grind (arith, slot_is, number_used)
 
   pub number_in_word : (k : ℕ) → k ≤ 64 → 64 * word + k ≤ n → offset_number slots (64 * word + k) ≡ offset_number slots (64 * word) + count_ones (w % 2 ^ k)
-  number_in_word zero b h =
-      ap (offset_number slots) (let e : 64 * word + 0 ≡ 64 * word = omega arith in e)
-      ∙ sym (plus_none (offset_number slots (64 * word) + count_ones (w % 2 ^ 0)) (offset_number slots (64 * word)) 0 (ap (λ (m : ℕ). offset_number slots (64 * word) + m) (zero_ones (w % 2 ^ 0) (omega arith)) ∙ omega arith) refl ∙ omega arith)
+  number_in_word zero b h = grind (arith, zero_ones)
   number_in_word (suc k) b h =
       ap (offset_number slots) (let e : 64 * word + suc k ≡ 64 * word + k + 1 = omega arith in e)
       ∙ sums_more (offset_number slots (64 * word + k + 1)) (offset_number slots (64 * word + k)) (bit_at w k) (offset_number slots (64 * word)) (count_ones (w % 2 ^ k)) (count_ones (w % 2 ^ suc k))
@@ -147,21 +121,10 @@ lower_bits w r h = ap (λ (m : ℕ). bit_and w (m - 1)) (one_bit r h) ∙ and_ma
 
 -- no offset is marked, and one more is
 pub none_marked : (n : ℕ) → HaveMarks n (replicate (n / 64 + 1) 0) []
-none_marked n = record {
-  whole = length-replicate {A = ℕ} (n / 64 + 1) 0;
-  are_marked = record {
-    marked = λ off c. absurd (omega (arith, c.1));
-    only = λ off s. absurd (s (ap (λ (l : List ℕ). get_or l off 0) (slots_none n (n / 64 + 1)) ∙ read_none n off));
-  };
-}
+none_marked n = grind (arith, length-replicate, slots_none, read_none)
 
 pub marked_one : (n off w : ℕ) (words offs : List ℕ) → HaveMarks n words offs → off < n → w ≡ get_or words (off / 64) w → HaveMarks n (set words (off / 64) (bit_or w (1 * 2 ^ (off % 64) % 2 ^ 64))) (offs ++ off ∷ [])
-marked_one n off w words offs have inside is =
-    let read : w ≡ get_or words (off / 64) 0 = get_or_read words (off / 64) w (omega (arith, have.whole, inside)) is 0 in
-    subst (λ (b : ℕ). HaveMarks n (set words (off / 64) (bit_or w b)) (offs ++ off ∷ [])) (sym (one_bit (off % 64) (omega arith))) (record {
-      whole = length-set words (off / 64) (bit_or w (2 ^ (off % 64))) ∙ have.whole;
-      are_marked = subst (AreMarked (offs ++ off ∷ [])) (sym (slots_marked words n off w have.whole inside read)) (marked_more offs (slots_of words n) off have.are_marked (omega (arith, inside, slots_len words n)));
-    })
+marked_one n off w words offs have inside is = grind (arith, get_or_read, one_bit, length-set, slots_marked, marked_more, slots_len)
 
 -- what the mark of an offset says of what is noted
 module _ (n off : ℕ) (words offs : List ℕ) (have : HaveMarks n words offs) (inside : off < n) where
@@ -186,25 +149,12 @@ module _ {n : ℕ} {words offs before slots : List ℕ} (are : AreNumbered n wor
   before_inside off h = omega (arith, h, slots_long, are.are_counted.words, slots_len words n)
 
   pub number_read : (off w b : ℕ) → off ≤ length slots → w ≡ get_or words (off / 64) w → b ≡ get_or before (off / 64) b → b + count_ones (bit_and w (1 * 2 ^ (off % 64) % 2 ^ 64 - 1)) ≡ offset_number slots off
-  number_read off w b h w_is b_is =
-      let read : w ≡ get_or words (off / 64) 0 = get_or_read words (off / 64) w (word_inside off h) w_is 0 in
-      let counted : b ≡ offset_number (slots_of words n) (64 * (off / 64)) = get_or_read before (off / 64) b (before_inside off h) b_is 0 ∙ are.are_counted.counts (off / 64) (before_inside off h) in
-      let split : 64 * (off / 64) + off % 64 ≡ off = omega arith in
-      subst (λ (l : List ℕ). b + count_ones (bit_and w (1 * 2 ^ (off % 64) % 2 ^ 64 - 1)) ≡ offset_number l off) view
-      (ap (λ (m : ℕ). m + count_ones (bit_and w (1 * 2 ^ (off % 64) % 2 ^ 64 - 1))) counted
-      ∙ ap (λ (m : ℕ). offset_number (slots_of words n) (64 * (off / 64)) + count_ones m)
-      (lower_bits w (off % 64) (omega arith) ∙ ap (λ (v : ℕ). v % 2 ^ (off % 64)) read)
-      ∙ sym (number_in_word words n (off / 64) (off % 64) (omega arith) (omega (arith, h, slots_long)))
-      ∙ ap (offset_number (slots_of words n)) split)
+  number_read off w b h w_is b_is = grind (arith, get_or_read, lower_bits, number_in_word, slots_long)
 
 -- the count in one element
 pub number_whole : (words : List ℕ) (n word w : ℕ) → length words ≡ n / 64 + 1 → word < n / 64 → w ≡ get_or words word w → w < 2 ^ 64 →
     offset_number (slots_of words n) (64 * word + 64) ≡ offset_number (slots_of words n) (64 * word) + count_ones w
-number_whole words n word w len h is fits =
-    let read : w ≡ get_or words word 0 = get_or_read words word w (omega (arith, len, h)) is 0 in
-    number_in_word words n word 64 (omega arith) (omega (arith, h))
-    ∙ ap (λ (m : ℕ). offset_number (slots_of words n) (64 * word) + count_ones m)
-    (ap (λ (v : ℕ). v % 2 ^ 64) (sym read) ∙ mod-eq_of_lt fits)
+number_whole words n word w len h is fits = grind (arith, get_or_read, number_in_word)
 
 -- what the search cites of marks and of their counts
 pub ruleset marks = (slots_long, slot_is_mark, word_inside, before_inside, number_read)

@@ -1,9 +1,8 @@
 -- Steps of the loops over ranks.
-use Rattle.std.proofs.Common.{◌≡◌, ◌≢◌, ℕ, zero, suc, ◌+◌, ◌-◌, ◌<◌, ◌≤◌, min, inl, inr, List, [], ◌∷◌, length, map, get_or, refl, sym, ap, ◌∙◌, subst, arith, eqb, true, set, ◌++◌}
+use Rattle.std.proofs.Common.{◌≡◌, ◌≢◌, ℕ, zero, suc, ◌+◌, ◌-◌, ◌<◌, ◌≤◌, min, List, [], ◌∷◌, length, map, get_or, refl, sym, ap, ◌∙◌, subst, arith, eqb, true, set, ◌++◌}
 use Rattle.std.specs.{Prelude.reverse, List.All, List.Sorted.IsSorted}
-use Rattle.std.proofs.lemmas.Bool.{cond-true, cond-false, eq-eqb, ne_eqb, cases_eq, false_from_ne_true}
+use Rattle.std.proofs.lemmas.Bool.{cond-true, cond-false, eq-eqb, ne_eqb, false_from_ne_true}
 use Rattle.std.proofs.lemmas.List.{get_or-reverse, length-reverse, get_or-map, get_or_push, get_or_append_left, get_or-set_same, get_or-set_other}
-use Rattle.std.proofs.lemmas.List.{Elements.All-contains}
 use Rattle.btf_types.specs.{Names.kept, strings.SharedNames.is_suffix, strings.SharedNames.tail_cmp}
 use Rattle.btf_types.proofs.Members.{Has-from_Contains, Contains-from_Has}
 use Rattle.btf_types.proofs.StringLemmas.{Texts.Has-from_kept, Longest.Has-kept_some, CommonTails.suffix_by_tail}
@@ -35,9 +34,7 @@ module _ (a b : List ℕ) where
   turned n h l f j k = get_or-reverse a j 0 (omega (arith, h, k)) ∙ f j k ∙ sym (get_or-reverse b j 0 (omega (arith, l, k)))
 
   pub common_stops : (n : ℕ) → n < length a → n < length b → ((j : ℕ) → j < n → get_or a (length a - 1 - j) 0 ≡ get_or b (length b - 1 - j) 0) → (get_or a (length a - 1 - n) 0 ≡ get_or b (length b - 1 - n) 0 → ⊥) → n ≡ common_tail a b
-  common_stops n h l f o = sym (front_stops n (reverse a) (reverse b) (omega (arith, h, length-reverse a)) (omega (arith, l, length-reverse b))
-      (turned n (omega (arith, h)) (omega (arith, l)) f)
-      (λ e. o (sym (get_or-reverse a n 0 h) ∙ e ∙ get_or-reverse b n 0 l)))
+  common_stops n h l f o = grind (arith, front_stops, length-reverse, get_or-reverse)
 
   pub common_ends : ((j : ℕ) → j < min (length a) (length b) → get_or a (length a - 1 - j) 0 ≡ get_or b (length b - 1 - j) 0) → min (length a) (length b) ≡ common_tail a b
   common_ends f =
@@ -60,10 +57,7 @@ common_here f ts (suc k) n e h some same =
     ∙ ap (common_tail (at_rank (map f ts) k)) (sym (get_or-map f ts (suc k) e [] h))
 
 pub common_more : (ms : List (List ℕ)) (items : List ℕ) (k n : ℕ) → length items ≡ k → ((j : ℕ) → j < k → get_or items j 0 ≡ common_before ms j) → n ≡ common_before ms k → (j : ℕ) → j < k + 1 → get_or (items ++ n ∷ []) j 0 ≡ common_before ms j
-common_more ms items k n long f here j h = elim (cases_eq j k) [
-  | inl e ↦ get_or_push items n 0 j (omega (arith, long, e)) ∙ here ∙ ap (common_before ms) (sym e)
-  | inr o ↦ get_or_append_left items (n ∷ []) 0 j (omega (arith, long, h, o)) ∙ f j (omega (arith, h, o))
-]
+common_more ms items k n long f here j h = grind (arith, get_or_push, get_or_append_left)
 
 -- the loop over hosts
 ends_from : (ms : List (List ℕ)) (k : ℕ) → common_before ms (k + 1) ≡ length (at_rank ms k) → is_suffix (at_rank ms k) (at_rank ms (k + 1)) ≡ true
@@ -78,21 +72,10 @@ next_own ms k h differs = record {
 }
 
 pub next_taken : (ms : List (List ℕ)) (k r : ℕ) → common_before ms (k + 1) ≡ length (at_rank ms k) → IsNextHost ms (k + 1) r → IsNextHost ms k r
-next_taken ms k r e next = record {
-  inside = next.inside;
-  from = omega (arith, next.from);
-  passed = λ j low high. elim (cases_eq j k) [
-    | inl q ↦ subst (λ (m : ℕ). is_suffix (at_rank ms m) (at_rank ms (m + 1)) ≡ true) (sym q) (ends_from ms k e)
-    | inr o ↦ next.passed j (omega (arith, low, o)) high
-  ];
-  stops = next.stops;
-}
+next_taken ms k r e next = grind (arith, ends_from)
 
 pub hosts_step : (ms : List (List ℕ)) (hosts : List ℕ) (k v : ℕ) → length hosts ≡ length ms → k < length ms → ((j : ℕ) → k + 1 ≤ j → j < length ms → IsNextHost ms j (get_or hosts j 0)) → IsNextHost ms k v → (j : ℕ) → k ≤ j → j < length ms → IsNextHost ms j (get_or (set hosts k v) j 0)
-hosts_step ms hosts k v long h f here j low high = elim (cases_eq j k) [
-  | inl e ↦ subst (λ (m : ℕ). IsNextHost ms m (get_or (set hosts k v) m 0)) (sym e) (subst (IsNextHost ms k) (sym (get_or-set_same hosts k v 0 (omega (arith, h, long)))) here)
-  | inr o ↦ subst (IsNextHost ms j) (sym (get_or-set_other hosts k j v 0 o)) (f j (omega (arith, low, o)) high)
-]
+hosts_step ms hosts k v long h f here j low high = grind (arith, get_or-set_same, get_or-set_other)
 
 -- from the numbers to the host
 common_at : (ms : List (List ℕ)) (j : ℕ) → 0 < j → common_before ms j ≡ common_tail (at_rank ms (j - 1)) (at_rank ms j)
@@ -108,13 +91,7 @@ first_rank_is ms common n r k are inside before f less = record {
 
 -- the sorted strings of a list are in order by their reversed bytes
 pub in_tail_order : (ms : List (List ℕ)) → IsSorted tail_cmp ms → All (λ t. 0 < length t) ms → AreInTailOrder (kept ms) ms
-in_tail_order ms up some = record {
-  members = record {
-    here = λ z c. Contains-from_Has ms z (Has-from_kept ms z (Has-from_Contains (kept ms) z c));
-    there = λ z c. Contains-from_Has (kept ms) z (Has-kept_some ms z (Has-from_Contains ms z c) (All-contains (λ t. 0 < length t) ms z some c));
-  };
-  in_order = up;
-}
+in_tail_order ms up some = grind (arith, Contains-from_Has, Has-from_kept, Has-from_Contains, Has-kept_some)
 
 -- what the search cites of a common suffix
 pub ruleset suffix_cases = (common_stops, common_ends)

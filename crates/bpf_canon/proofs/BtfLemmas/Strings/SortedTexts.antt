@@ -56,35 +56,17 @@ short_second x y p q e s n =
     greater (suffix_key (text_before x)) (suffix_key (text_before y)) (omega (arith, none, some)) ∙ sym (greater (length x) (length y) (omega (arith, s, long))) ∙ key_ends x y p q e (inr s)
 
 before_apart : (x y : List ℕ) → ((i : ℕ) → get_or x i 0 < 256) → ((i : ℕ) → get_or y i 0 < 256) → suffix_key x ≡ suffix_key y → suffix_key (text_before x) ≢ suffix_key (text_before y) → nat_cmp (suffix_key (text_before x)) (suffix_key (text_before y)) ≡ tail_cmp x y
-before_apart x y p q e n = elim (cases_lt (length x) 8) [
-  | inl s ↦ short_first x y p q e s n
-  | inr l ↦ elim (cases_lt (length y) 8) [
-    | inl s ↦ short_second x y p q e s n
-    | inr m ↦
-        key_apart (text_before x) (text_before y) (front_bytes (length x - 8) x p) (front_bytes (length y - 8) y q) n
-        ∙ key_alike x y (length x - 8) (length y - 8) p q e (omega (arith, l)) (omega (arith, m))
-  ]
-]
+before_apart x y p q e n = grind (arith, short_first, short_second, key_apart, front_bytes, key_alike)
 
 tied_then : (a b : ℕ) (s : Ordering) → a ≡ b → ordering_then (nat_cmp a b) s ≡ s
 tied_then a b s e = ap (λ (o : Ordering). ordering_then o s) (ap (nat_cmp a) (sym e) ∙ tied_itself nat_cmp_total a)
 
 -- Two numbers below 2 ^ 64 after two others, each pair as one number.
 pair_less : (a b c d : ℕ) → b < 2 ^ 64 → d < 2 ^ 64 → a * 2 ^ 64 + b < c * 2 ^ 64 + d → (s : Ordering) → ordering_then (nat_cmp a c) (ordering_then (nat_cmp b d) s) ≡ Less
-pair_less a b c d p q h s = elim (cases_lt a c) [
-  | inl l ↦ ap (λ (o : Ordering). ordering_then o (ordering_then (nat_cmp b d) s)) (less a c l)
-  | inr g ↦
-      let e : a ≡ c = omega (arith, g, h, p, q) in
-      tied_then a c (ordering_then (nat_cmp b d) s) e ∙ ap (λ (o : Ordering). ordering_then o s) (less b d (omega (arith, h, e)))
-]
+pair_less a b c d p q h s = grind arith
 
 pair_greater : (a b c d : ℕ) → b < 2 ^ 64 → d < 2 ^ 64 → c * 2 ^ 64 + d < a * 2 ^ 64 + b → (s : Ordering) → ordering_then (nat_cmp a c) (ordering_then (nat_cmp b d) s) ≡ Greater
-pair_greater a b c d p q h s = elim (cases_lt c a) [
-  | inl l ↦ ap (λ (o : Ordering). ordering_then o (ordering_then (nat_cmp b d) s)) (greater a c l)
-  | inr g ↦
-      let e : a ≡ c = omega (arith, g, h, p, q) in
-      tied_then a c (ordering_then (nat_cmp b d) s) e ∙ ap (λ (o : Ordering). ordering_then o s) (greater b d (omega (arith, h, e)))
-]
+pair_greater a b c d p q h s = grind arith
 
 -- Keys that differ compare as one number; if they are equal, the strings decide.
 module _ (section : List ℕ) (a b : SectionText) (p : a.before < 2 ^ 64) (q : b.before < 2 ^ 64) where
@@ -92,26 +74,13 @@ module _ (section : List ℕ) (a b : SectionText) (p : a.before < 2 ^ 64) (q : b
   texts_compared = tail_cmp (text_in section a) (text_in section b)
 
   pub keys_apart : a.key * 2 ^ 64 + a.before ≢ b.key * 2 ^ 64 + b.before → nat_cmp (a.key * 2 ^ 64 + a.before) (b.key * 2 ^ 64 + b.before) ≡ compared section a b
-  keys_apart n = elim (cases_lt (a.key * 2 ^ 64 + a.before) (b.key * 2 ^ 64 + b.before)) [
-    | inl l ↦ less _ _ l ∙ sym (pair_less a.key a.before b.key b.before p q l texts_compared)
-    | inr g ↦
-        let down : b.key * 2 ^ 64 + b.before < a.key * 2 ^ 64 + a.before = elim (cases_lt (b.key * 2 ^ 64 + b.before) (a.key * 2 ^ 64 + a.before)) [ inl l ↦ l | inr h ↦ absurd (n (omega (arith, g, h))) ] in
-        greater _ _ down ∙ sym (pair_greater a.key a.before b.key b.before p q down texts_compared)
-  ]
+  keys_apart n = grind arith
 
   pub keys_alike : a.key * 2 ^ 64 + a.before ≡ b.key * 2 ^ 64 + b.before → texts_compared ≡ compared section a b
-  keys_alike e =
-      let last : a.key ≡ b.key = omega (arith, e, p, q) in
-      sym (tied_then a.key b.key (ordering_then (nat_cmp a.before b.before) texts_compared) last ∙ tied_then a.before b.before texts_compared (omega (arith, e, last)))
+  keys_alike e = grind arith
 
 compared_before : (section : List ℕ) (a b : SectionText) → ((i : ℕ) → get_or section i 0 < 256) → HasKey section a → HasKey section b → a.key ≡ b.key → ordering_then (nat_cmp a.before b.before) (tail_cmp (text_in section a) (text_in section b)) ≡ tail_cmp (text_in section a) (text_in section b)
-compared_before section a b p ka kb e = elim (cases_eq a.before b.before) [
-  | inl f ↦ tied_then a.before b.before (tail_cmp (text_in section a) (text_in section b)) f
-  | inr n ↦
-      apart_then (nat_cmp a.before b.before) (tail_cmp (text_in section a) (text_in section b)) (λ f. n (tied_same a.before b.before f))
-      ∙ ap (λ (k : ℕ). nat_cmp k b.before) ka.before ∙ ap (nat_cmp (suffix_key (text_before (text_in section a)))) kb.before
-      ∙ before_apart (text_in section a) (text_in section b) (text_bytes section a p) (text_bytes section b p) (sym ka.last ∙ e ∙ kb.last) (λ f. n (ka.before ∙ f ∙ sym kb.before))
-]
+compared_before section a b p ka kb e = grind (arith, before_apart, text_bytes)
 
 pub compared_as_texts : (section : List ℕ) (a b : SectionText) → ((i : ℕ) → get_or section i 0 < 256) → HasKey section a → HasKey section b → compared section a b ≡ tail_cmp (text_in section a) (text_in section b)
 compared_as_texts section a b p ka kb = elim (cases_eq a.key b.key) [

@@ -37,13 +37,7 @@ tied : (a b : ℕ) → a ≡ b → nat_cmp a b ≡ Equal
 tied a b e = ap (nat_cmp a) (sym e) ∙ tied_itself nat_cmp_total a
 
 nat_cmp-suc : (a b : ℕ) → nat_cmp (suc a) (suc b) ≡ nat_cmp a b
-nat_cmp-suc a b = elim (cases_order a b) [
-  | inl e ↦ tied (suc a) (suc b) (ap suc e) ∙ sym (tied a b e)
-  | inr l ↦ elim l [
-    | inl up ↦ less (suc a) (suc b) (omega (arith, up)) ∙ sym (less a b up)
-    | inr down ↦ greater (suc a) (suc b) (omega (arith, down)) ∙ sym (greater a b down)
-  ]
-]
+nat_cmp-suc a b = grind arith
 
 digit_below : (a b w k m : ℕ) → a < b → k < w → a * w + k < b * w + m
 digit_below a b w k m h l = omega (arith, l, row_fits a w b w h (omega arith))

@@ -1,8 +1,9 @@
 -- The bytes of spans, and the steps of the loop that appends them.
-use Rattle.std.proofs.Common.{◌≡◌, ℕ, suc, ◌+◌, ◌-◌, ◌<◌, List, [], ◌∷◌, ◌++◌, length, get_or, take, drop, sym, ap, ◌∙◌, arith, append_assoc}
+use Rattle.std.proofs.Common.{◌≡◌, ℕ, suc, ◌+◌, ◌-◌, ◌<◌, List, ◌∷◌, ◌++◌, length, get_or, take, drop, sym, ap, ◌∙◌, arith, append_assoc}
+use Rattle.std.proofs.lemmas.Grind.{common_steps}
 use Rattle.std.specs.List.{flat_map}
 use Rattle.std.proofs.Math.Seq.{take-append-add, drop-append_seam}
-use Rattle.std.proofs.lemmas.List.{append-nil, take_more, length-append, length-drop, Concat.flat_map-append}
+use Rattle.std.proofs.lemmas.List.{length-append, length-drop}
 use Rattle.btf_raw.specs.Header.{HasNulEnds}
 use Rattle.btf_types.specs.{Names.with_nul, Reading.text_from}
 use Rattle.btf_types.proofs.TableLemmas.TextSteps.{text_there}
@@ -26,9 +27,4 @@ span_of section off n ends inside n_is =
     }
 
 pub table_more : (section : List ℕ) (spans : List Span) (i : ℕ) (d : Span) (out new start : List ℕ) → i < length spans → out ≡ start ++ 0 ∷ flat_map (span_bytes section) (take i spans) → new ≡ out ++ span_bytes section (get_or spans i d) → new ≡ start ++ 0 ∷ flat_map (span_bytes section) (take (i + 1) spans)
-table_more section spans i d out new start inside before pushed =
-    let bytes = span_bytes section in
-    let here = bytes (get_or spans i d) in
-    let first : List ℕ = 0 ∷ flat_map bytes (take i spans) in
-    pushed ∙ ap (λ (t : List ℕ). t ++ here) before ∙ append_assoc start first here
-    ∙ ap (λ (t : List ℕ). start ++ 0 ∷ t) (ap (λ (t : List ℕ). flat_map bytes (take i spans) ++ t) (sym (append-nil here)) ∙ sym (flat_map-append bytes (take i spans) (get_or spans i d ∷ [])) ∙ ap (flat_map bytes) (sym (take_more spans i d inside)))
+table_more section spans i d out new start inside before pushed = grind (arith, common_steps)

@@ -1,5 +1,5 @@
 -- The string at an offset ends before the next NUL.
-use Rattle.std.proofs.Common.{◌≡◌, ◌≢◌, ℕ, zero, suc, ◌+◌, ◌-◌, ◌<◌, ◌≤◌, List, [], ◌∷◌, length, get_or, take, drop, refl, sym, ap, ◌∙◌, arith}
+use Rattle.std.proofs.Common.{◌≡◌, ◌≢◌, ℕ, zero, suc, ◌-◌, ◌<◌, ◌≤◌, List, [], ◌∷◌, length, get_or, take, drop, refl, ap, arith}
 use Rattle.std.proofs.lemmas.List.{get_or-drop, length-drop}
 use Rattle.btf_types.specs.Reading.{before_nul, text_from}
 
@@ -11,7 +11,4 @@ before_is (suc n) (zero ∷ xs) h z f = absurd (f 0 (omega arith) refl)
 before_is (suc n) (suc b ∷ xs) h z f = ap (λ (t : List ℕ). suc b ∷ t) (before_is n xs (omega (arith, h)) z (λ k l. f (suc k) (omega (arith, l))))
 
 pub text_is : (section : List ℕ) (start end : ℕ) → start ≤ end → end < length section → get_or section end 0 ≡ 0 → ((k : ℕ) → start ≤ k → k < end → get_or section k 0 ≢ 0) → take (end - start) (drop start section) ≡ text_from section start
-text_is section start end low high nul before = before_is (end - start) (drop start section)
-    (let long = length-drop start section in omega (arith, long))
-    (get_or-drop start section (end - start) 0 ∙ ap (λ (k : ℕ). get_or section k 0) (let e : start + (end - start) ≡ end = omega arith in e) ∙ nul)
-    (λ k h e. before (start + k) (omega arith) (omega (arith, h)) (sym (get_or-drop start section k 0) ∙ e))
+text_is section start end low high nul before = grind (arith, before_is, length-drop, get_or-drop)

@@ -1,5 +1,5 @@
 -- The numbers of the used offsets of a section.
-use Rattle.std.proofs.Common.{◌≡◌, ◌≢◌, ℕ, zero, suc, ◌+◌, ◌*◌, ◌/◌, ◌<◌, ◌≤◌, inl, inr, List, [], ◌∷◌, ◌++◌, length, get_or, refl, sym, ap, ◌∙◌, arith}
+use Rattle.std.proofs.Common.{◌≡◌, ◌≢◌, ℕ, zero, suc, ◌+◌, ◌*◌, ◌/◌, ◌<◌, ◌≤◌, inl, inr, List, [], ◌∷◌, ◌++◌, length, get_or, sym, ap, ◌∙◌, arith}
 use Rattle.std.specs.Prelude.{◌==◌}
 use Rattle.std.proofs.lemmas.Bool.{cases_eq, cases_lt, cond-true, cond-false, eq-eqb, ne_eqb}
 use Rattle.std.proofs.lemmas.List.{length_push, get_or_append_left, get_or_push, get_or_past}
@@ -12,19 +12,14 @@ pub below_unused : (slots : List ℕ) (n : ℕ) → get_or slots n 0 ≡ 0 → u
 below_unused slots n z = cond-true (get_or slots n 0 == 0) (used_below slots n) (used_below slots n ++ n ∷ []) (eq-eqb (get_or slots n 0) 0 z)
 
 pub number_used : (slots : List ℕ) (n : ℕ) → get_or slots n 0 ≢ 0 → offset_number slots (n + 1) ≡ offset_number slots n + 1
-number_used slots n s =
-    ap (λ (m : ℕ). offset_number slots m) (let e : n + 1 ≡ suc n = omega arith in e) ∙ ap (λ (l : List ℕ). length l) (below_used slots n s) ∙ length_push (used_below slots n) n
+number_used slots n s = grind (arith, length_push)
 
 pub number_unused : (slots : List ℕ) (n : ℕ) → get_or slots n 0 ≡ 0 → offset_number slots (n + 1) ≡ offset_number slots n
-number_unused slots n z =
-    ap (λ (m : ℕ). offset_number slots m) (let e : n + 1 ≡ suc n = omega arith in e) ∙ ap (λ (l : List ℕ). length l) (below_unused slots n z)
+number_unused slots n z = grind arith
 
 pub number_at_most : (slots : List ℕ) (n : ℕ) → offset_number slots n ≤ n
 number_at_most slots zero = omega arith
-number_at_most slots (suc n) = elim (cases_eq (get_or slots n 0) 0) [
-  | inl z ↦ let e = ap (λ (l : List ℕ). length l) (below_unused slots n z) in omega (arith, e, number_at_most slots n)
-  | inr s ↦ let e = ap (λ (l : List ℕ). length l) (below_used slots n s) in omega (arith, e, length_push (used_below slots n) n, number_at_most slots n)
-]
+number_at_most slots (suc n) = grind (arith, length_push, (number_at_most slots n))
 
 -- used offsets with the same number are the same
 pub number_below : (slots : List ℕ) (o n : ℕ) → o < n → get_or slots o 0 ≢ 0 → offset_number slots o < offset_number slots n
@@ -74,13 +69,7 @@ number_kept slots start (suc n) h none = elim (cases_eq start (suc n)) [
 ]
 
 pub number_injective : (slots : List ℕ) (o p : ℕ) → get_or slots o 0 ≢ 0 → get_or slots p 0 ≢ 0 → offset_number slots o ≡ offset_number slots p → o ≡ p
-number_injective slots o p s t e = elim (cases_eq o p) [
-  | inl q ↦ q
-  | inr n ↦ elim (cases_lt o p) [
-    | inl l ↦ absurd (omega (arith, e, number_below slots o p l s))
-    | inr g ↦ absurd (omega (arith, e, number_below slots p o (omega (arith, g, n)) t))
-  ]
-]
+number_injective slots o p s t e = grind (arith, number_below)
 
 -- and each number below the count is that of a used offset
 pub used_at : (slots : List ℕ) (n i : ℕ) → i < offset_number slots n → (o : ℕ) × (o < n) × (get_or slots o 0 ≢ 0) × (offset_number slots o ≡ i)
@@ -113,25 +102,10 @@ pub record CountedTo (slots before : List ℕ) (count word : ℕ) : Type 0 where
   pub counts : (k : ℕ) → k < length before → get_or before k 0 ≡ offset_number slots (64 * k)
 
 pub counted_none : (slots : List ℕ) → CountedTo slots (0 ∷ []) 0 0
-counted_none slots = record {
-  words = refl;
-  counted = refl;
-  counts = λ k h. let z : k ≡ 0 = omega (arith, h) in ap (λ (i : ℕ). get_or (0 ∷ []) i 0) z ∙ sym (ap (λ (i : ℕ). offset_number slots (64 * i)) z);
-}
+counted_none slots = grind arith
 
 pub counts_word : (slots before : List ℕ) (count word more : ℕ) → CountedTo slots before count word → offset_number slots (64 * word + 64) ≡ offset_number slots (64 * word) + more → CountedTo slots (before ++ (count + more) ∷ []) (count + more) (word + 1)
-counts_word slots before count word more to is =
-    let next : count + more ≡ offset_number slots (64 * (word + 1)) = ap (λ (n : ℕ). n + more) to.counted ∙ sym is ∙ ap (offset_number slots) (let e : 64 * word + 64 ≡ 64 * (word + 1) = omega arith in e) in
-    record {
-      words = omega (arith, length_push before (count + more), to.words);
-      counted = next;
-      counts = λ k h. elim (cases_eq k (word + 1)) [
-        | inl e ↦ get_or_push before (count + more) 0 k (omega (arith, to.words, e)) ∙ next ∙ sym (ap (λ (i : ℕ). offset_number slots (64 * i)) e)
-        | inr n ↦
-            let inside : k < length before = omega (arith, h, n, length_push before (count + more), to.words) in
-            get_or_append_left before ((count + more) ∷ []) 0 k inside ∙ to.counts k inside
-      ];
-    }
+counts_word slots before count word more to is = grind (arith, length_push, get_or_push, get_or_append_left)
 
 pub counted_all : (slots before : List ℕ) (count word : ℕ) → CountedTo slots before count word → word ≡ length slots / 64 → AreCounted slots before
 counted_all slots before count word to e = record { words = to.words ∙ ap (λ (n : ℕ). n + 1) e; counts = to.counts }

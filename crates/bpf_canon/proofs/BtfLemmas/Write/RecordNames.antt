@@ -1,5 +1,5 @@
 -- The names of records are the strings at the offsets in their frames.
-use Rattle.std.proofs.Common.{◌≡◌, ℕ, zero, suc, ◌+◌, ◌*◌, ◌<◌, Bool, true, false, List, [], ◌∷◌, ◌++◌, length, map, get_or, refl, sym, ap, ◌∙◌, subst, inl, inr, arith}
+use Rattle.std.proofs.Common.{◌≡◌, ℕ, zero, suc, ◌+◌, ◌*◌, ◌<◌, Bool, true, false, List, [], ◌∷◌, ◌++◌, length, map, get_or, refl, sym, ap, ◌∙◌, subst, inl, inr, arith, rules}
 use Rattle.std.specs.Prelude.{slice_index, ◌==◌, if◌then◌else◌}
 use Rattle.std.specs.List.{All, AllZip, filter}
 use Rattle.std.proofs.lemmas.List.{map-append, Elements.All-head, Elements.All-tail, Elements.filter-append}
@@ -7,9 +7,9 @@ use Rattle.bpf_words.specs.declared.Order.{Order}
 use Rattle.btf_raw.specs.{Header.HasNulEnds, Kinds.item_words, Kinds.has_item_names}
 use Rattle.btf_raw.specs.Frames.{IsFrame, name_word, kind, vlen, flag}
 use Rattle.btf_raw.proofs.Texts.{TextAt-unique, TextAt-inside}
-use Rattle.btf_types.specs.{Values.TypeItem, Values.TypeRecord, Spelling.Spells}
+use Rattle.btf_types.specs.{Values.TypeRecord, Spelling.Spells}
 use Rattle.btf_types.specs.Names.{head_name, item_name, record_names, names, is_other, distinct, is_some_text, kept}
-use Rattle.btf_types.specs.Reading.{text_from, item_from, item_of, item_total, record_of, frame_at, frames_at, tabulate}
+use Rattle.btf_types.specs.Reading.{text_from, item_from, item_total, record_of, frame_at, frames_at, tabulate}
 use Rattle.btf_types.proofs.KindCases.{KindIs, IsStruct, IsUnion, IsEnum, IsFuncProto, IsEnum64}
 use Rattle.btf_types.proofs.{FaultlessLemmas.FaultlessWords.known, Lists.length-tabulate, Lists.get_or-tabulate}
 use Rattle.btf_types.proofs.TableLemmas.TextSteps.{text_there, decided}
@@ -20,16 +20,7 @@ use Rattle.bpf_canon.proofs.BtfLemmas.CanonicalSpells.{All-front, All-back}
 
 filter-comm : {X : Type 0} (p q : X → Bool) (xs : List X) → filter p (filter q xs) ≡ filter q (filter p xs)
 filter-comm p q [] = refl
-filter-comm p q (x ∷ xs) = elim (decided (p x)) [
-  | inl pt ↦ elim (decided (q x)) [
-    | inl qt ↦ simp (pt, qt) (ap (λ t. x ∷ t) (filter-comm p q xs))
-    | inr qf ↦ simp (pt, qf) (filter-comm p q xs)
-  ]
-  | inr pf ↦ elim (decided (q x)) [
-    | inl qt ↦ simp (pf, qt) (filter-comm p q xs)
-    | inr qf ↦ simp (pf, qf) (filter-comm p q xs)
-  ]
-]
+filter-comm p q (x ∷ xs) = grind (arith, (filter-comm p q xs))
 
 some_is_other : (xs : List (List ℕ)) → filter is_some_text (filter (is_other []) xs) ≡ filter is_some_text xs
 some_is_other [] = refl
@@ -39,12 +30,7 @@ some_is_other ((b ∷ x) ∷ xs) = ap (λ (t : List (List ℕ)). (b ∷ x) ∷ t
 pub kept_of_some : (xs : List (List ℕ)) → kept (filter is_some_text xs) ≡ kept xs
 kept_of_some [] = refl
 kept_of_some ([] ∷ xs) = kept_of_some xs ∙ sym (some_is_other (distinct xs))
-kept_of_some ((b ∷ x) ∷ xs) =
-    let other = is_other (b ∷ x) in
-    ap (λ (t : List (List ℕ)). (b ∷ x) ∷ t) (
-    filter-comm is_some_text other (distinct (filter is_some_text xs))
-    ∙ ap (filter other) (kept_of_some xs)
-    ∙ filter-comm other is_some_text (distinct xs))
+kept_of_some ((b ∷ x) ∷ xs) = grind (arith, filter-comm, (kept_of_some xs))
 
 -- ---- the names of one record
 
@@ -99,21 +85,10 @@ head_name_is strings r f ends s =
 
 item_names_are : (strings f : List ℕ) → IsFrame f → has_item_names (kind f) ≡ true
     → map item_name (record_of strings f).items ≡ map (text_from strings) (tabulate (item_word f) (vlen f))
-item_names_are strings f is has =
-    let item : ℕ → TypeItem = λ k. item_of strings f (3 + item_words (kind f) * k) in
-    map-tabulate item_name item (item_total f)
-    ∙ tabulate-same (λ k. item_name (item k)) (λ k. text_from strings (item_word f k)) (item_total f)
-    (λ k. item_named (known f is) _ (flag f) _ _ _ has)
-    ∙ ap (tabulate (λ k. text_from strings (item_word f k))) (named_total f is has)
-    ∙ sym (map-tabulate (text_from strings) (item_word f) (vlen f))
+item_names_are strings f is has = grind (arith, map-tabulate, item_named, known, named_total)
 
 item_names_none : (strings f : List ℕ) → IsFrame f → has_item_names (kind f) ≡ false → filter is_some_text (map item_name (record_of strings f).items) ≡ []
-item_names_none strings f is none =
-    let item : ℕ → TypeItem = λ k. item_of strings f (3 + item_words (kind f) * k) in
-    ap (filter is_some_text) (
-    map-tabulate item_name item (item_total f)
-    ∙ tabulate-same (λ k. item_name (item k)) (λ k. []) (item_total f) (λ k. item_nameless (known f is) _ (flag f) _ _ _ none))
-    ∙ none_kept (item_total f)
+item_names_none strings f is none = search (rules, map-tabulate, item_nameless, known, none_kept)
 
 some_more : (x : List ℕ) (xs ys : List (List ℕ)) → filter is_some_text xs ≡ filter is_some_text ys → filter is_some_text (x ∷ xs) ≡ filter is_some_text (x ∷ ys)
 some_more [] xs ys e = e
@@ -175,5 +150,4 @@ item_is P f size count k offset each items low is =
 pub record_offsets : (P : ℕ → Type 0) (o : Order) (types places : List ℕ) (i : ℕ) → i < length places → All P (all_offsets (frames_at o types places)) → All P (name_offsets (frame_at o types (get_or places i 0)))
 record_offsets P o types [] i low all = absurd (omega arith)
 record_offsets P o types (pos ∷ places) zero low all = All-front P (name_offsets (frame_at o types pos)) (all_offsets (frames_at o types places)) all
-record_offsets P o types (pos ∷ places) (suc i) low all =
-    record_offsets P o types places i (omega arith) (All-back P (name_offsets (frame_at o types pos)) (all_offsets (frames_at o types places)) all)
+record_offsets P o types (pos ∷ places) (suc i) low all = omega (arith, (record_offsets P o types places i (omega arith) (All-back P (name_offsets (frame_at o types pos)) (all_offsets (frames_at o types places)) all)))

@@ -1,5 +1,5 @@
 -- The 32-bit words of a record, from those of its frame.
-use Rattle.std.proofs.Common.{◌≡◌, ◌≢◌, ◌⊎◌, ℕ, zero, suc, ◌+◌, ◌*◌, ◌/◌, ◌%◌, ◌^◌, ◌<◌, ◌≤◌, Bool, true, false, not, List, [], ◌∷◌, ◌++◌, length, map, take, drop, get_or, refl, sym, ap, subst, ◌∙◌, inl, inr, append-nil, lit≤, arith}
+use Rattle.std.proofs.Common.{◌≡◌, ◌≢◌, ◌⊎◌, ℕ, zero, suc, ◌+◌, ◌*◌, ◌/◌, ◌%◌, ◌^◌, ◌<◌, ◌≤◌, Bool, true, false, not, List, [], ◌∷◌, ◌++◌, length, map, take, drop, get_or, refl, sym, ap, subst, ◌∙◌, inl, inr, append-nil, arith}
 use Rattle.std.specs.Prelude.{slice_index, ◌==◌, ◌||◌, if◌then◌else◌, ⊤}
 use Rattle.std.specs.List.{All, AllZip, concat, flat_map, list_any}
 use Rattle.std.proofs.{lemmas.Bool.cases_eq, lemmas.Bool.ne_eqb, lemmas.Bool.or_left, lemmas.Bool.or_right, Math.Seq.take-suc}
@@ -61,9 +61,7 @@ module _ (strings f : List ℕ) (frame : IsFrame f) where
   unmarked n none = none_here has_width (item_in strings f) n (λ k. plain_item (known f frame) _ (flag f) _ _ _ none)
 
   width_at : (k : ℕ) → is_struct (kind f) ≡ true → flag f ≢ 0 → has_width (item_in strings f k) ≡ not (slice_index f (5 + 3 * k) / 2 ^ 24 == 0)
-  width_at k is some =
-      let at : 3 + item_words (kind f) * k + 2 ≡ 5 + 3 * k = rw (struct_words (known f frame) is) (omega arith) in
-      wide_member (known f frame) _ (flag f) _ _ _ is some ∙ ap (λ (j : ℕ). not (slice_index f j / 2 ^ 24 == 0)) at
+  width_at k is some = grind (arith, struct_words, known, wide_member)
 
   pub width_found : (k n : ℕ) → is_struct (kind f) ≡ true → flag f ≢ 0 → k < n → slice_index f (5 + 3 * k) / 2 ^ 24 ≢ 0 → list_any has_width (tabulate (item_in strings f) n) ≡ true
   width_found k n is some low wide = any_here has_width (item_in strings f) n k low (width_at k is some ∙ ap not (ne_eqb (slice_index f (5 + 3 * k) / 2 ^ 24) 0 wide))
@@ -79,10 +77,7 @@ bit_fields_same strings f true frame is some are =
     let wide : slice_index f found.0 / 2 ^ 24 ≢ 0 = rw (ne_eqb (flag f) 0 some) at found.2 in
     ap (λ (n : ℕ). list_any has_width (tabulate (item_in strings f) n)) (struct_total f frame is)
     ∙ width_found strings f frame found.1.1 (vlen f) is some found.1.2.0 (subst (λ (j : ℕ). slice_index f j / 2 ^ 24 ≢ 0) at wide)
-bit_fields_same strings f false frame is some are = elim (decided (has_bit_fields (record_of strings f))) [
-  | inl has ↦ let found = are.none (bit_fields_there strings f frame has) in absurd cc
-  | inr none ↦ none
-]
+bit_fields_same strings f false frame is some are = grind (arith, bit_fields_there)
 
 -- ---- info
 
@@ -129,23 +124,14 @@ module _ (strings f : List ℕ) (r : TypeRecord) (few : length r.items < 2 ^ 16)
   struct_bit is = struct_flag r.head (has_bit_fields r) (ap is_struct (sym kind_same) ∙ is)
 
   pub info_unmarked : flag f ≡ 0 → has_bit_fields r ≡ false → info_word f ≡ record_info r
-  info_unmarked none plain = elim (decided (is_struct (kind f))) [
-    | inl is ↦ kept_flag (struct_bit is ∙ ap bit plain ∙ (sym none ∙ flag_same))
-    | inr other ↦ info_of_others other
-  ]
+  info_unmarked none plain = grind arith
 
   pub info_wide : is_struct (kind f) ≡ true → flag f ≢ 0 → has_bit_fields r ≡ true → info_word f ≡ record_info r
-  info_wide is some wide =
-      let one : 1 ≡ s.flag = (let low = flag_low in let same = flag_same in omega arith) in
-      kept_flag (struct_bit is ∙ ap bit wide ∙ one)
+  info_wide is some wide = grind arith
 
   -- a flag that says nothing is cleared
   pub info_cleared : is_struct (kind f) ≡ true → flag f ≢ 0 → has_bit_fields r ≡ false → info_word f % 2 ^ 31 ≡ record_info r
-  info_cleared is some none =
-      let one : s.flag ≡ 1 = (let low = flag_low in let same = flag_same in omega arith) in
-      let canon : canonical_flag r.head (has_bit_fields r) ≡ 0 = struct_bit is ∙ ap bit none in
-      ap (λ (w : ℕ). w % 2 ^ 31) word ∙ cleared (kind_number r.head) (record_vlen r) s.flag (kind_below r.head) (vlen_below r.head r.items few) one
-      ∙ ap (λ (b : ℕ). info (kind_number r.head) (record_vlen r) b) (sym canon)
+  info_cleared is some none = grind arith
 
 pub items_few : (strings f : List ℕ) → length (record_of strings f).items < 2 ^ 16
 items_few strings f = omega (arith, count_there strings f, total_low f)
@@ -177,14 +163,7 @@ named_item other place name flag a b c has low = absurd cc
 -- the bytes of one item more
 item_more : (o : Order) (old : List ℕ) (place : List ℕ → ℕ) (item : ℕ → TypeItem) (k : ℕ) (ws : List ℕ) → words_of place (item k) ≡ ws
     → (old ++ bytes_of o (flat_map (words_of place) (tabulate item k))) ++ bytes_of o ws ≡ old ++ bytes_of o (flat_map (words_of place) (tabulate item (k + 1)))
-item_more o old place item k ws e =
-    let f = words_of place in
-    let next : k + 1 ≡ suc k = omega arith in
-    let more : flat_map f (tabulate item (suc k)) ≡ flat_map f (tabulate item k) ++ f (item k) =
-    flat_map-append f (tabulate item k) (item k ∷ []) ∙ ap (λ (t : List ℕ). flat_map f (tabulate item k) ++ t) (append-nil (f (item k))) in
-    pushed_two o old (flat_map f (tabulate item k)) ws
-    ∙ ap (λ (t : List ℕ). old ++ bytes_of o (flat_map f (tabulate item k) ++ t)) (sym e)
-    ∙ rw next (ap (λ (t : List ℕ). old ++ bytes_of o t) (sym more))
+item_more o old place item k ws e = grind (arith, flat_map-append, pushed_two)
 
 abbrev pub items_to : (List ℕ → ℕ) → List ℕ → List ℕ → ℕ → List ℕ
 items_to place strings f k = flat_map (words_of place) (tabulate (item_in strings f) k)
@@ -226,8 +205,7 @@ entries_words : (place : List ℕ → ℕ) (strings : List ℕ) (flag : ℕ) (xs
 entries_words place strings flag [] [] is s = refl
 entries_words place strings flag [] (ws ∷ wss) is s = absurd s
 entries_words place strings flag (x ∷ xs) [] is s = absurd s
-entries_words place strings flag (x ∷ xs) (ws ∷ wss) is s =
-    rw (entry_words place strings flag x ws (All-head IsEntry x xs is) s.0, entries_words place strings flag xs wss (All-tail IsEntry x xs is) s.1) refl
+entries_words place strings flag (x ∷ xs) (ws ∷ wss) is s = grind (arith, All-head, (entries_words place strings flag xs wss (All-tail IsEntry x xs is) s.1))
 
 pub rest_words : (place : List ℕ → ℕ) (strings f : List ℕ) → IsFrame f → Spells strings (record_of strings f) f → has_item_names (kind f) ≡ false
     → drop 3 f ≡ record_tail place (record_of strings f)
@@ -260,10 +238,7 @@ no_tail other name third flag vlen next fourth fifth has = absurd cc
 
 pub items_are_tail : (place : List ℕ → ℕ) (strings f : List ℕ) → IsFrame f → has_item_names (kind f) ≡ true
     → record_items place (record_of strings f) ≡ record_tail place (record_of strings f)
-items_are_tail place strings f frame has =
-    let r = record_of strings f in
-    let tail : head_tail r.head ≡ [] = no_tail (known f frame) _ _ _ _ _ _ _ has in
-    ap (λ (t : List ℕ). t ++ record_items place r) (sym tail)
+items_are_tail place strings f frame has = grind (arith, no_tail, known)
 
 -- the first three words, and what follows them
 pub record_pushed : (o : Order) (old : List ℕ) (place : List ℕ → ℕ) (strings f : List ℕ) (at info third : ℕ) → HasNulEnds strings → Spells strings (record_of strings f) f
@@ -313,9 +288,4 @@ item_begins size k (inl two) low = rw two (omega arith)
 item_begins size k (inr three) low = rw three (omega arith)
 
 pub item_room : (f : List ℕ) (size count k : ℕ) → IsFrame f → HasNamedItems f size count → k < count → (2 ≤ size) × (3 + size * k + size ≤ length f)
-item_room f size count k frame items low =
-    let all = items.all in
-    elim (item_size f size count frame items) [
-      | inl two ↦ rw two (lit≤ tt, let its = rw (items.words ∙ two) at (room f frame) in omega arith)
-      | inr three ↦ rw three (lit≤ tt, let its = rw (items.words ∙ three) at (room f frame) in omega arith)
-    ]
+item_room f size count k frame items low = grind (arith, room, (item_size f size count frame items))

@@ -24,9 +24,7 @@ module _ (o : Order) (types strings places : List ℕ) (table : IsTable o types 
 
   -- the noted offsets determine the kept names
   pub kept_uses : kept (map (text_from strings) (noted_all [] (all_offsets (frames_at o types places)))) ≡ kept (names its)
-  kept_uses =
-      let frames = frames_at o types places in
-      kept_first_uses (text_from strings) (all_offsets frames) ∙ kept_at_offsets strings frames table.ends table.framed.frames.each table.spelled
+  kept_uses = grind (arith, kept_first_uses, kept_at_offsets)
 
   -- canonical records have the same length
   pub types_same : (to : Order) → length types ≡ length (canonical_types to its)

@@ -1,7 +1,8 @@
 -- 32-bit words and records that are appended in sequence.
 use Rattle.std.proofs.Common.{◌≡◌, ℕ, zero, suc, ◌+◌, ◌-◌, ◌<◌, ◌≤◌, Bool, true, false, List, [], ◌∷◌, ◌++◌, length, map, take, refl, sym, ap, subst, ◌∙◌, inl, inr, append_assoc, arith, Some}
-use Rattle.std.specs.{Prelude.slice_get, Prelude.not, List.flat_map, List.list_any}
-use Rattle.std.proofs.lemmas.{Bool.cases_eq, Bool.ne_eqb, List.map-append, List.append-nil, List.Concat.flat_map-append, List.Folds.list_any-append}
+use Rattle.std.proofs.lemmas.Grind.{common_steps}
+use Rattle.std.specs.{Prelude.slice_get, List.flat_map, List.list_any}
+use Rattle.std.proofs.lemmas.{List.map-append, List.append-nil, List.Concat.flat_map-append, List.Folds.list_any-append}
 use Rattle.bpf_words.specs.{declared.Order.Order, Words.word32}
 use Rattle.btf_raw.specs.{Header.header, Header.TYPES_LIMIT, Frames.bytes_of, Frames.section_of}
 use Rattle.btf_types.specs.Values.{TypeHead, KFunc, TypeItem, Member, EnumValue, Value64, Param, Entry, TypeRecord}
@@ -38,18 +39,11 @@ vlen_is h xs = refl
 
 pub record_pushed : (o : Order) (old : List ℕ) (place : List ℕ → ℕ) (r : TypeRecord) (count : ℕ) → count ≡ length r.items
     → (old ++ bytes_of o (head_words place r.head count (has_bit_fields r))) ++ bytes_of o (flat_map (words_of_item place) r.items) ≡ old ++ bytes_of o (record_words place r)
-record_pushed o old place r count e =
-    pushed_two o old (head_words place r.head count (has_bit_fields r)) (flat_map (words_of_item place) r.items)
-    ∙ rw (e, vlen_is r.head r.items) refl
+record_pushed o old place r count e = grind (arith, common_steps)
 
 pub section_pushed : (o : Order) (place : List ℕ → ℕ) (v : List TypeRecord) (i : ℕ) → i < length v
     → section_of o (map (record_words place) (take i v)) ++ bytes_of o (record_words place (record_at v (i + 1))) ≡ section_of o (map (record_words place) (take (i + 1) v))
-section_pushed o place v i h =
-    let f = record_words place in
-    let r = record_at v (i + 1) in
-    let more : map f (take (i + 1) v) ≡ map f (take i v) ++ f r ∷ [] = ap (map f) (records_more v i h) ∙ map-append f (take i v) (r ∷ []) in
-    sym (ap (section_of o) more ∙ flat_map-append (bytes_of o) (map f (take i v)) (f r ∷ [])
-    ∙ ap (λ (t : List ℕ). section_of o (map f (take i v)) ++ t) (append-nil (bytes_of o (f r))))
+section_pushed o place v i h = grind (arith, records_more, map-append, flat_map-append, append-nil)
 
 -- ---- what is known of a record of a table
 
@@ -74,10 +68,7 @@ width_missed xs k x e none before =
     ap (list_any has_width) more ∙ list_any-append has_width (take k xs) (x ∷ []) ∙ rw (before, none) refl
 
 member_room : (types : List TypeFacts) (size : ℕ) (b : Bool) (x : TypeItem) → MemberIsGood types size b x → (has_width x ≡ true → b ≡ true) → MemberFits x
-member_room types size b (Member name target bit_offset width) good some = elim (cases_eq width 0) [
-  | inl none ↦ inl none
-  | inr other ↦ inr (good.1 (some (ap not (ne_eqb width 0 other)))).0
-]
+member_room types size b (Member name target bit_offset width) good some = grind arith
 member_room types size b (EnumValue name value) good some = tt
 member_room types size b (Value64 name value) good some = tt
 member_room types size b (Param name target) good some = tt
@@ -110,9 +101,7 @@ file_with o v ks =
 pub written : (o : Order) (v : List TypeRecord) (ks : List (List ℕ)) (types front more whole : List ℕ) (t s : ℕ) → ks ≡ kept (names v)
     → types ≡ section_of o (map (record_words (shared_among ks)) v) → t ≡ length types → s ≡ length (table_of (hosts_of ks))
     → front ≡ header o 24 0 t t s → more ≡ front ++ types → whole ≡ more ++ table_of (hosts_of ks) → whole ≡ canonical o v
-written o v ks types front more whole t s ke te tl sl e1 e2 e3 =
-    let its : whole ≡ file_with o v ks = e3 ∙ rw (e2, e1, tl, sl, te) refl in
-    its ∙ ap (file_with o v) ke
+written o v ks types front more whole t s ke te tl sl e1 e2 e3 = grind arith
 
 -- what the search cites of the width of one item more
 pub ruleset width_cases = (width_found, width_missed)
