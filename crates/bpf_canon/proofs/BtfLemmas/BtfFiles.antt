@@ -1,5 +1,5 @@
 -- Canonical bytes and BTF files.
-use Rattle.std.proofs.Common.{◌≡◌, ◌∙◌, ℕ, List, Result, Ok, Err, refl, sym, ap, subst}
+use Rattle.std.proofs.Common.{◌≡◌, ◌∙◌, ℕ, List, Result, Ok, Err, refl, sym, ap, subst, arith}
 use Rattle.std.specs.Result.{IfOk, IfErr, MatchResult}
 use Rattle.bpf_words.specs.{declared.Order.Order, declared.Order.TheVariants.Little, Words.IsBytes}
 use Rattle.btf_types.specs.declared.error.BtfError.{BtfError}
@@ -11,8 +11,7 @@ use Rattle.bpf_canon.proofs.BtfLemmas.CanonicalFiles.{canonical_denotes}
 
 -- what holds of a value that comes, by what holds of it
 pub ok_with : {T E : Type 0} (P Q : T → Type 0) → ((x : T) → P x → Q x) → (r : Result T E) → IfOk r P → IfOk r Q
-ok_with P Q f (Ok x) h = f x h
-ok_with P Q f (Err e) h = tt
+ok_with P Q f r h = grind arith
 
 pub canonical_is_file : (o : Order) (v : List TypeRecord) (bytes : List ℕ) → IsGood v → bytes ≡ canonical o v → Denotes bytes v
 canonical_is_file o v bytes good e = subst (λ (b : List ℕ). Denotes b v) (sym e) (canonical_denotes o v good)

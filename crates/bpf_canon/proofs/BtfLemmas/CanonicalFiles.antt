@@ -1,5 +1,5 @@
 -- The canonical bytes of good records are a file that denotes them, and no file that does is shorter.
-use Rattle.std.proofs.Common.{◌≡◌, ℕ, ◌+◌, ◌-◌, ◌*◌, ◌≤◌, List, [], ◌∷◌, ◌++◌, length, map, refl, sym, ap, subst, ◌∙◌, inl, append_assoc, length-append, lit≤, arith}
+use Rattle.std.proofs.Common.{◌≡◌, ℕ, ◌+◌, ◌-◌, ◌*◌, ◌≤◌, List, [], ◌∷◌, ◌++◌, length, map, refl, sym, ap, subst, ◌∙◌, append_assoc, length-append, arith}
 use Rattle.std.specs.{Prelude.slice_index, List.All, List.AllZip, List.concat, List.flat_map, List.sum_by}
 use Rattle.std.proofs.{lemmas.List.Elements.All-head, lemmas.List.Elements.All-tail, lemmas.List.Sums.sum_by-cons, Math.Seq.get_or-append_seam}
 use Rattle.bpf_words.specs.declared.Order.{Order}
@@ -81,15 +81,7 @@ canonical_denotes o v good =
       types = canonical_types o v;
       strings = string_table v;
       spellings = map (bytes_of o) (canonical_frames v);
-      cut = record {
-        header_len = 24;
-        at_least = lit≤ tt;
-        at_most = lit≤ tt;
-        types_fit = omega (arith, canonical_size o v good, good.size);
-        some_strings = (table_ends (hosts (names v))).some;
-        strings_fit = good.texts;
-        parts = inl refl;
-      };
+      cut = grind (arith, canonical_size);
       nul_ends = table_ends (hosts (names v));
       spelled = spelled_bytes o (string_table v) v (canonical_frames v) spelled;
       whole = sym (concat-map o (canonical_frames v));

@@ -1,5 +1,5 @@
 -- The canonical bytes of valid records encode them, with the string table as string section.
-use Rattle.std.proofs.Common.{◌≡◌, ◌≢◌, ℕ, zero, suc, ◌+◌, ◌*◌, ◌^◌, ◌<◌, ◌≤◌, Bool, true, false, Option, Some, None, List, [], ◌∷◌, ◌++◌, length, map, refl, ap, inl, inr, lit<, arith, rules}
+use Rattle.std.proofs.Common.{◌≡◌, ◌≢◌, ℕ, ◌+◌, ◌*◌, ◌^◌, ◌<◌, ◌≤◌, Bool, true, Option, List, [], ◌∷◌, ◌++◌, length, map, refl, ap, lit<, arith, rules}
 use Rattle.std.proofs.lemmas.Grind.{common_steps}
 use Rattle.std.specs.Prelude.{IsTrue, IfSome, not, ◌==◌}
 use Rattle.std.specs.List.{All, AllZip, concat, flat_map, list_any}
@@ -7,9 +7,9 @@ use Rattle.std.proofs.lemmas.Bool.{ne_eqb, or_left, or_right}
 use Rattle.std.proofs.lemmas.List.Elements.{All-nil, All-cons, All-head, All-tail, All-append}
 use Rattle.btf_raw.specs.{Header.STRINGS_LIMIT, Names.NameAt, Heads.bit}
 use Rattle.btf_raw.proofs.{Texts.TextAt-inside, Frames.IsWords}
-use Rattle.btf_types.specs.declared.values.Encoding.{Encoding, TheVariants.Plain, TheVariants.Signed, TheVariants.Char, TheVariants.Bool as Boolean}
-use Rattle.btf_types.specs.declared.values.Linkage.{Linkage, TheVariants.LStatic, TheVariants.LGlobal, TheVariants.LExtern}
-use Rattle.btf_types.specs.Values.{TypeHead, KInt, KArray, KStruct, KUnion, KEnum, KFuncProto, KVar, KDatasec, KDeclTag, KEnum64, TypeItem, Member, EnumValue, Value64, Param, Entry, TypeRecord}
+use Rattle.btf_types.specs.declared.values.Encoding.{Encoding}
+use Rattle.btf_types.specs.declared.values.Linkage.{Linkage}
+use Rattle.btf_types.specs.Values.{TypeHead, KStruct, TypeItem, Member, TypeRecord}
 use Rattle.btf_types.specs.Names.{IsName, head_name, item_name, record_names}
 use Rattle.btf_types.specs.{strings.StringTable.string_table, judge.Checks.TypeFacts}
 use Rattle.btf_types.specs.Spelling.{kind_number, head_third, FlagSpells, linkage_number, encoding_number, component_word, record_vlen, info, head_tail, MemberWord, ItemSpells, Spells, HeadInRange, ItemInRange}
@@ -31,12 +31,10 @@ IsWords-nil : IsWords []
 IsWords-nil i = lit< tt
 
 IsWords-cons : (w : ℕ) (ws : List ℕ) → w < 2 ^ 32 → IsWords ws → IsWords (w ∷ ws)
-IsWords-cons w ws h all zero = h
-IsWords-cons w ws h all (suc i) = all i
+IsWords-cons w ws h all i = grind arith
 
 IsWords-append : (xs ys : List ℕ) → IsWords xs → IsWords ys → IsWords (xs ++ ys)
-IsWords-append [] ys all more = more
-IsWords-append (x ∷ xs) ys all more = IsWords-cons x (xs ++ ys) (all 0) (IsWords-append xs ys (λ i. all (suc i)) more)
+IsWords-append xs ys all more = grind (arith, common_steps)
 
 fits_one : (a : ℕ) → a < 2 ^ 32 → IsWords (a ∷ [])
 fits_one a ha = IsWords-cons a [] ha IsWords-nil
@@ -54,39 +52,22 @@ concat-map f (x ∷ xs) = ap (λ (t : List ℕ). f x ++ t) (concat-map f xs)
 -- ---- a head
 
 flag_spells : (h : TypeHead) (bit_fields : Bool) → FlagSpells h (canonical_flag h bit_fields)
-flag_spells (KStruct name size) true = lit< tt
-flag_spells (KStruct name size) false = lit< tt
-flag_spells (KUnion name size) true = lit< tt
-flag_spells (KUnion name size) false = lit< tt
-flag_spells h bit_fields = refl
+flag_spells h bit_fields = grind arith
 
 encoding_below : (e : Encoding) → encoding_number e < 16
-encoding_below Plain = lit< tt
-encoding_below Signed = lit< tt
-encoding_below Char = lit< tt
-encoding_below Boolean = lit< tt
+encoding_below e = grind arith
 
 linkage_below : (l : Linkage) → linkage_number l < 2 ^ 32
-linkage_below LStatic = lit< tt
-linkage_below LGlobal = lit< tt
-linkage_below LExtern = lit< tt
+linkage_below l = grind arith
 
 component_below : (c : Option ℕ) → IfSome c (λ n. n < 2 ^ 16) → component_word c < 2 ^ 32
-component_below None h = lit< tt
-component_below (Some n) h = omega (arith, h)
+component_below c h = grind arith
 
 pub third_below : (h : TypeHead) → HeadInRange h → head_third h < 2 ^ 32
-third_below (KInt name size encoding offset bits) range = range.0
-third_below (KArray target index count) range = lit< tt
-third_below (KDeclTag name flag target component) range = range.0
-third_below h range = range
+third_below h range = grind arith
 
 tail_fits : (h : TypeHead) → HeadInRange h → IsWords (head_tail h)
-tail_fits (KInt name size encoding offset bits) range = grind arith
-tail_fits (KArray target index count) range = fits_three target index count range.0 range.1 range.2
-tail_fits (KVar name target linkage) range = fits_one (linkage_number linkage) (linkage_below linkage)
-tail_fits (KDeclTag name flag target component) range = fits_one (component_word component) (component_below component range.1)
-tail_fits h range = IsWords-nil
+tail_fits h range = grind arith
 
 -- ---- an item
 
@@ -95,13 +76,11 @@ not_zero w some = ap not (ne_eqb w 0 some)
 
 -- a member's offset word, if the record has bit-fields whenever this width isn't 0
 pub member_word : (b : Bool) (o w : ℕ) → (not (w == 0) ≡ true → b ≡ true) → (IsTrue b → o < 2 ^ 24) → MemberWord (bit b) o w (o + 2 ^ 24 * w)
-member_word true o w some low = inr (refl, low refl, refl)
-member_word false o w some low = grind arith
+member_word b o w some low = grind arith
 
 -- the 32-bit value fits
 pub member_fits : (flag o w word : ℕ) → MemberWord flag o w word → o < 2 ^ 32 → w < 2 ^ 8 → word < 2 ^ 32
-member_fits flag o w word (inl plain) wide narrow = omega (arith, plain.2, wide)
-member_fits flag o w word (inr field) wide narrow = omega (arith, field.1, field.2, narrow)
+member_fits flag o w word is wide narrow = omega arith
 
 -- an item of a valid record, whose name is at its offset
 pub record IsItemSpelled (strings : List ℕ) (place : List ℕ → ℕ) (flag : ℕ) (x : TypeItem) : Type 0 where
@@ -122,12 +101,7 @@ item_is_spelled : (strings : List ℕ) (place : List ℕ → ℕ) (types : List 
     → (x : TypeItem) → ItemOf h x → ItemInRange x → MemberIsGood types size b x → (has_width x ≡ true → b ≡ true) → NameAt strings (place (item_name x)) (item_name x)
     → IsItemSpelled strings place (canonical_flag h b) x
 item_is_spelled strings place types (KStruct name size') size b short (Member n t o w) of range good some at = grind (arith, common_steps)
-item_is_spelled strings place types (KUnion name size') size b short (Member n t o w) of range good some at = grind (arith, common_steps)
-item_is_spelled strings place types (KEnum name signed size') size b short (EnumValue n v) of range good some at = grind (arith, common_steps)
-item_is_spelled strings place types (KFuncProto target) size b short (Param n t) of range good some at = grind (arith, common_steps)
-item_is_spelled strings place types (KDatasec name size') size b short (Entry a c d) of range good some at = grind arith
-item_is_spelled strings place types (KEnum64 name signed size') size b short (Value64 n v) of range good some at = grind (arith, common_steps)
-item_is_spelled strings place types h size b short x of range good some at = absurd of
+item_is_spelled strings place types h size b short x of range good some at = grind (arith, common_steps)
 
 -- ---- the items of a record
 

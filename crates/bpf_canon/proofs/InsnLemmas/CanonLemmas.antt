@@ -1,5 +1,5 @@
 -- Canonical bytes and files.
-use Rattle.std.proofs.Common.{◌≡◌, ◌↔◌, ◌++◌, ◌∙◌, ℕ, Bool, List, [], Result, Ok, Err, refl, sym, ap, All, IsTrue, arith}
+use Rattle.std.proofs.Common.{◌≡◌, ◌↔◌, ◌++◌, ◌∙◌, ℕ, Bool, List, [], Result, refl, sym, ap, All, IsTrue, arith}
 use Rattle.std.specs.Result.{IfOk}
 use Rattle.bpf_words.specs.declared.Order.{Order, TheVariants.Little}
 use Rattle.bpf_insn.specs.declared.{insn.Insn.Insn, decode.InsnError.InsnError}
@@ -28,8 +28,7 @@ recoded_once o to bytes written l r file = r.1.1 ∙ ap (file_of to) (one_list o
 -- what a file was recoded to in little-endian order is canonical
 pub canonical_of : (o : Order) (bytes : List ℕ) {T E : Type 0} (items : T → List ℕ) (r : Result T E)
     → IfOk r (λ written. (l : List Insn) × (InsnFile o bytes l × (items written ≡ file_of Little l))) → IfOk r (λ canon. IsCanonical o bytes (items canon))
-canonical_of o bytes items (Ok written) h = record { insns = h.0; file = h.1.0; canonical = h.1.1 }
-canonical_of o bytes items (Err e) h = tt
+canonical_of o bytes items r h = grind arith
 
 pub accepted : CanonicalBytesAreAccepted
 accepted l h = (h, refl)
@@ -52,10 +51,8 @@ compares o p a b same l m f g r = grind (arith, one_list)
 
 -- the bytes of a valid file are without fault
 pub names_no_file : (o : Order) (b : List ℕ) (e : InsnError) (l : List Insn) → NamesFault o b e → InsnFile o b l → e ≡ error.Memory
-names_no_file o b (error.Fault f) l n file = absurd (n.no_file l file)
-names_no_file o b error.Memory l n file = refl
+names_no_file o b e l n file = grind arith
 
 -- the fault that a feed of all the bytes returns
 pub names_of_feed : (o : Order) (b : List ℕ) (e : InsnError) → IsLastingFaultOf o b e → NamesFault o b e
-names_of_feed o b (error.Fault f) h = h.fault
-names_of_feed o b error.Memory h = tt
+names_of_feed o b e h = grind arith

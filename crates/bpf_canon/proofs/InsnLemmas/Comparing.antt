@@ -1,7 +1,8 @@
 -- A file that is compared with another one in the other order, slot by slot.
-use Rattle.std.proofs.Common.{◌≡◌, ◌≢◌, ◌↔◌, ◌<◌, ◌++◌, ◌∙◌, ℕ, Bool, List, [], ◌∷◌, true, false, length, take, drop, refl, sym, ap, arith, append_assoc, IsTrue, nat_eq, take-append-drop, rules}
+use Rattle.std.proofs.Common.{◌≡◌, ◌≢◌, ◌↔◌, ◌<◌, ◌++◌, ◌∙◌, ℕ, Bool, List, [], true, false, length, take, drop, sym, ap, arith, append_assoc, IsTrue, nat_eq, take-append-drop, rules}
+use Rattle.std.proofs.lemmas.Grind.{common_steps}
 use Rattle.std.specs.{List.flat_map, Cmp.Lexicographic.other_text, Cmp.Lexicographic.pointwise}
-use Rattle.std.proofs.{lemmas.Bool.eqb-true, lemmas.List.append-nil, lemmas.List.append_cancel_left, Math.Seq.take-append_seam}
+use Rattle.std.proofs.{lemmas.List.append_cancel_left, Math.Seq.take-append_seam}
 use Rattle.bpf_words.specs.{declared.Order.Order, Slots.AreFields, Slots.Fields, Slots.spelled}
 use Rattle.bpf_insn.specs.{declared.insn.Insn.Insn, Spelling.InsnFile, Spelling.file_of}
 use Rattle.bpf_canon.proofs.InsnLemmas.Recoding.{Rewrites, file_rewritten, one_rewritten, rewritten_rest}
@@ -29,22 +30,17 @@ module _ (order to : Order) (a left following b right : List ℕ) (slot : Fields
   swapped_apart bytes is differ insns file same =
       let left_over = rewritten_rest order to a following [] (so_far.written ++ spelled to slot) longer insns file in
       let tail = flat_map (spelled to) left_over.0 in
-      let next : right ≡ spelled to slot ++ tail =
-      append_cancel_left so_far.written right (spelled to slot ++ tail) (sym so_far.front ∙ same ∙ left_over.1.1 ∙ append_assoc so_far.written (spelled to slot) tail) in
+      let next : right ≡ spelled to slot ++ tail = grind (arith, append_cancel_left, append_assoc) in
       let found : right ≡ bytes ++ tail = next ∙ ap (λ xs. xs ++ tail) (sym is) in
       other_text (take (length bytes) right) bytes (sym differ) (ap (take (length bytes)) found ∙ take-append_seam bytes tail)
 
 -- a test for no bytes
 none_left : (is_empty : Bool) (xs : List ℕ) → is_empty ≡ nat_eq (length xs) 0 → IsTrue is_empty ↔ (xs ≡ [])
-none_left is_empty [] e = (λ _. refl, λ _. e)
-none_left is_empty (x ∷ xs) e = (λ t. absurd (omega (arith, eqb-true (length (x ∷ xs)) 0 (sym e ∙ t))), λ p. cc)
+none_left is_empty xs e = grind (arith, common_steps)
 
 -- all slots agree, and the files are the same if nothing follows
 pub swapped_end : (order to : Order) (a left b right : List ℕ) (is_empty : Bool) → SwappedFront order to a left b right → length left < 8 → is_empty ≡ nat_eq (length right) 0
     → (insns : List Insn) → InsnFile order a insns → IsTrue is_empty ↔ (b ≡ file_of to insns)
 swapped_end order to a left b right is_empty so_far short empty insns file =
     let whole : so_far.written ≡ file_of to insns = file_rewritten order to a left [] so_far.written so_far.rewrites short insns file in
-    let decides = none_left is_empty right empty in (
-      λ t. so_far.front ∙ ap (λ xs. so_far.written ++ xs) (decides.0 t) ∙ append-nil so_far.written ∙ whole,
-      λ e. decides.1 (append_cancel_left so_far.written right [] (sym so_far.front ∙ e ∙ sym whole ∙ sym (append-nil so_far.written))),
-    )
+    grind (arith, common_steps, append_cancel_left)

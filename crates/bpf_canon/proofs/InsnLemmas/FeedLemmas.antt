@@ -1,6 +1,7 @@
 -- What a piece makes of a feed.
 use Rattle.std.proofs.Common.{◌≡◌, ◌<◌, ◌≤◌, ◌+◌, ◌*◌, ◌-◌, ◌++◌, ◌⊎◌, ◌∙◌, ℕ, List, [], ◌∷◌, Option, Some, None, length, refl, sym, ap, subst, inl, inr, arith, length-append, take, drop, length-drop, Result, Ok, Err, rules}
-use Rattle.std.proofs.{lemmas.Bool.cases_lt, lemmas.List.append-nil, lemmas.List.length-take-le, lemmas.List.take_all, Math.Seq.drop-append-add}
+use Rattle.std.proofs.lemmas.Grind.{common_steps}
+use Rattle.std.proofs.{lemmas.List.append-nil, lemmas.List.length-take-le, lemmas.List.take_all, Math.Seq.drop-append-add}
 use Rattle.bpf_words.specs.declared.Order.{Order}
 use Rattle.bpf_insn.specs.declared.{insn.Insn.Insn, decode.InsnError.InsnError, whole_insns.InsnFront.InsnFront}
 use Rattle.bpf_insn.specs.declared.fault.{SlotFault.SlotFault, SlotCause.SlotCause, SlotCause.TheVariants.Truncated}
@@ -35,20 +36,8 @@ pub left_of : (array piece : List ℕ) (held_len len : ℕ) → held_len ≤ len
     ≡ drop len (take held_len array ++ piece)
 left_of array piece held_len len fits all =
     let size : length (take held_len array) ≡ held_len = length-take-le held_len array fits in
-    let tail : take (length piece - (len - held_len)) (drop (len - held_len) piece) ≡ drop (len - held_len) piece =
-    take_all (length piece - (len - held_len)) (drop (len - held_len) piece) (omega (arith, length-drop (len - held_len) piece)) in
-    ap (λ x. take (held_len - len) array ++ x) tail ∙ elim all [
-      | inl none ↦
-          let same : held_len - len ≡ held_len = omega (arith, none) in
-          let zero : len - held_len ≡ 0 = omega (arith, none) in
-          ap (λ n. take n array ++ drop (len - held_len) piece) same ∙ ap (λ n. take held_len array ++ drop n piece) zero
-          ∙ ap (λ n. drop n (take held_len array ++ piece)) (sym none)
-      | inr whole ↦
-          let zero : held_len - len ≡ 0 = omega (arith, whole) in
-          let split : length (take held_len array) + (len - held_len) ≡ len = omega (arith, size, whole) in
-          ap (λ n. take n array ++ drop (len - held_len) piece) zero ∙ sym (drop-append-add (take held_len array) piece (len - held_len))
-          ∙ ap (λ n. drop n (take held_len array ++ piece)) split
-    ]
+    let tail : take (length piece - (len - held_len)) (drop (len - held_len) piece) ≡ drop (len - held_len) piece = grind (arith, take_all, length-drop) in
+    grind (arith, drop-append-add)
 
 -- the same, with the two lengths as they were computed
 pub held_left : (array piece : List ℕ) (held_len len kept used : ℕ) → held_len ≤ length array → (len ≡ 0) ⊎ (held_len ≤ len) → kept ≡ held_len - len → used ≡ len - held_len
@@ -63,14 +52,7 @@ held_left_size array piece kept used left fits e = grind (arith, length-take-le,
 -- if no instruction was complete, nothing was read
 pub none_or_all : (o to : Order) (bytes old new : List ℕ) (read : InsnFront) (held_len : ℕ) → ReadsFront o to bytes read old new → (0 < read.count → held_len ≤ read.len)
     → (read.len ≡ 0) ⊎ (held_len ≤ read.len)
-none_or_all o to bytes old new read held_len r h = elim (cases_lt 0 read.count) [
-  | inl some ↦ inr (h some)
-  | inr none ↦ inl (nothing r.insns (omega (arith, none, r.counted)) r.front)
-]
-  where
-    nothing : (l : List Insn) → length l ≡ 0 → IsFront o bytes l (drop read.len bytes) → read.len ≡ 0
-    nothing [] e f = omega (arith, ap length f.front, length-drop read.len bytes, r.within)
-    nothing (i ∷ l) e f = absurd (omega (arith, e))
+none_or_all o to bytes old new read held_len r h = grind (arith, common_steps)
 
 -- ---- what is read of what is held and a piece
 
@@ -286,5 +268,4 @@ missing n = Err (record { pos = n; cause = Truncated })
 
 pub end-cut : (fed count at : ℕ) (held : List ℕ) (fault : Option SlotFault) → fault ≡ None → 0 < length held → at ≡ fed - length held + missing_place (length held)
     → Err (record { pos = at; cause = Truncated }) ≡ end_after fed count held fault
-end-cut fed count at [] fault e h p = absurd (omega (arith, h))
-end-cut fed count at (x ∷ xs) fault e h p = rw e (ap missing p)
+end-cut fed count at held fault e h p = grind arith

@@ -1,13 +1,13 @@
 -- Fronts of byte lists: how they join, grow and compare.
-use Rattle.std.proofs.Common.{◌≡◌, ◌<◌, ◌≤◌, ◌+◌, ◌*◌, ◌++◌, ◌⊎◌, ◌∙◌, ℕ, ℤ, List, [], ◌∷◌, Option, Some, None, length, refl, sym, ap, subst, inl, inr, arith, append_assoc, length-append, All}
+use Rattle.std.proofs.Common.{◌≡◌, ◌<◌, ◌≤◌, ◌+◌, ◌*◌, ◌++◌, ◌⊎◌, ◌∙◌, ℕ, ℤ, List, [], ◌∷◌, Option, length, refl, sym, ap, subst, arith, append_assoc, length-append, All}
 use Rattle.std.proofs.lemmas.List.{append-nil, Elements.All-append, Elements.All-head, Elements.All-nil, Elements.All-push, Elements.All-tail}
 use Rattle.std.proofs.lemmas.List.Concat.{flat_map-append}
 use Rattle.bpf_words.specs.{declared.Order.Order}
 use Rattle.bpf_insn.specs.declared.{insn.Insn.Insn, fault.SlotFault.SlotFault, fault.SlotCause.SlotCause}
-use Rattle.bpf_insn.specs.declared.fault.SlotCause.TheVariants.{Truncated, Opcode, Dst, Src, Offset, Imm, Reserved, NextImm}
+use Rattle.bpf_insn.specs.declared.fault.SlotCause.TheVariants.{Truncated}
 use Rattle.bpf_insn.specs.{Table.IsInsn, Faults.IsFront, Faults.IsInsnFault, Faults.IsSlotFault}
 use Rattle.bpf_insn.specs.Spelling.{InsnFile, file_of, second_slot, spelling}
-use Rattle.bpf_insn.proofs.{FaultLemmas.slot_length, UniqueLemmas.one_fault, WideLemmas.second_length}
+use Rattle.bpf_insn.proofs.{FaultLemmas.slot_length, UniqueLemmas.one_fault}
 use Rattle.bpf_insn.proofs.FileLaws.{begins_once, file_fault, rests_same}
 use Rattle.bpf_insn.proofs.FrontLemmas.{empty_begins_none, front_of, length-at_most_file, one_front}
 use Rattle.bpf_canon.specs.insn.{FrontReads.BeginsNone, FeedStream.IsSound}
@@ -15,8 +15,7 @@ use Rattle.bpf_canon.specs.insn.{FrontReads.BeginsNone, FeedStream.IsSound}
 -- ---- lengths
 
 second_size : (o p : Order) (k : Option ℤ) → length (second_slot o k) ≡ length (second_slot p k)
-second_size o p None = refl
-second_size o p (Some m) = second_length o m ∙ sym (second_length p m)
+second_size o p k = grind arith
 
 -- a spelling is as long in one order as in the other
 pub length-spelling_same : (o p : Order) (i : Insn) → length (spelling o i) ≡ length (spelling p i)
@@ -44,9 +43,7 @@ file-push o l i = flat_map-append (spelling o) l (i ∷ []) ∙ ap (λ s. file_o
 
 pub front_begins_none : (o : Order) (b : List ℕ) (l : List Insn) (rest : List ℕ) → IsFront o b l rest → BeginsNone o rest
 front_begins_none o b l rest f i g =
-    let whole : b ≡ file_of o (l ++ i ∷ []) ++ g.1.0 =
-    f.front ∙ ap (λ s. file_of o l ++ s) g.1.1 ∙ sym (append_assoc (file_of o l) (spelling o i) g.1.0)
-    ∙ ap (λ s. s ++ g.1.0) (sym (file-push o l i)) in
+    let whole : b ≡ file_of o (l ++ i ∷ []) ++ g.1.0 = grind (arith, append_assoc, file-push) in
     omega (arith, f.longest (l ++ i ∷ []) g.1.0 (All-push IsInsn l i f.each g.0) whole, length-append l (i ∷ []))
 
 pub front-nil : (o : Order) → IsFront o [] [] []
@@ -62,9 +59,7 @@ file_front o b l f = front_of o b l [] f.0 (f.1 ∙ sym (append-nil (file_of o l
 pub front_joins : (o : Order) (b more : List ℕ) (l m : List Insn) (rest left : List ℕ) → IsFront o b l rest → IsFront o (rest ++ more) m left
     → IsFront o (b ++ more) (l ++ m) left
 front_joins o b more l m rest left f g =
-    let whole : b ++ more ≡ file_of o (l ++ m) ++ left =
-    ap (λ s. s ++ more) f.front ∙ append_assoc (file_of o l) rest more ∙ ap (λ s. file_of o l ++ s) g.front
-    ∙ sym (append_assoc (file_of o l) (file_of o m) left) ∙ ap (λ s. s ++ left) (sym (flat_map-append (spelling o) l m)) in
+    let whole : b ++ more ≡ file_of o (l ++ m) ++ left = grind (arith, append_assoc, flat_map-append) in
     front_of o (b ++ more) (l ++ m) left (All-append IsInsn l m f.each g.each) whole (front_begins_none o (rest ++ more) m left g)
 
 grows : (o : Order) (l m : List Insn) (r s : List ℕ) → All IsInsn l → All IsInsn m → file_of o l ++ r ≡ file_of o m ++ s → BeginsNone o s
@@ -72,8 +67,7 @@ grows : (o : Order) (l m : List Insn) (r s : List ℕ) → All IsInsn l → All 
 grows o [] m r s hl hm e none = (m, refl)
 grows o (i ∷ l) [] r s hl hm e none = grind (arith, All-head, append_assoc)
 grows o (i ∷ l) (j ∷ m) r s hl hm e none =
-    let whole : spelling o i ++ (file_of o l ++ r) ≡ spelling o j ++ (file_of o m ++ s) =
-    sym (append_assoc (spelling o i) (file_of o l) r) ∙ e ∙ append_assoc (spelling o j) (file_of o m) s in
+    let whole : spelling o i ++ (file_of o l ++ r) ≡ spelling o j ++ (file_of o m ++ s) = grind (arith, append_assoc) in
     let same = begins_once o i j (spelling o i ++ (file_of o l ++ r)) (All-head IsInsn i l hl, (file_of o l ++ r, refl)) (All-head IsInsn j m hm, (file_of o m ++ s, whole)) in
     let tails = rests_same o i j (file_of o l ++ r) (file_of o m ++ s) same whole in
     let more = grows o l m r s (All-tail IsInsn i l hl) (All-tail IsInsn j m hm) tails none in
@@ -88,36 +82,15 @@ front_grows o l m b x r s f g =
 -- ---- faults
 
 pub truncated_or_not : (cause : SlotCause) → (cause ≡ Truncated) ⊎ (cause ≡ Truncated → ⊥)
-truncated_or_not Truncated = inl refl
-truncated_or_not Opcode = inr (λ e. cc)
-truncated_or_not Dst = inr (λ e. cc)
-truncated_or_not Src = inr (λ e. cc)
-truncated_or_not Offset = inr (λ e. cc)
-truncated_or_not Imm = inr (λ e. cc)
-truncated_or_not Reserved = inr (λ e. cc)
-truncated_or_not NextImm = inr (λ e. cc)
+truncated_or_not cause = grind arith
 
 pub lasting_length : (o : Order) (s : List ℕ) (at : ℕ) (cause : SlotCause) → (cause ≡ Truncated → ⊥)
     → IsSlotFault o s (record { pos = at; cause = cause }) → 8 ≤ length s
-lasting_length o s at Truncated t f = absurd (t refl)
-lasting_length o s at Opcode t f = f.first.0
-lasting_length o s at Dst t f = f.first.0
-lasting_length o s at Src t f = f.first.0
-lasting_length o s at Offset t f = f.first.0
-lasting_length o s at Imm t f = f.first.0
-lasting_length o s at Reserved t f = omega (arith, f.first.0)
-lasting_length o s at NextImm t f = omega (arith, f.first.0)
+lasting_length o s at cause t f = grind arith
 
 pub cut_length : (o : Order) (s : List ℕ) (at : ℕ) (cause : SlotCause) → cause ≡ Truncated
     → IsSlotFault o s (record { pos = at; cause = cause }) → length s < 16
-cut_length o s at Truncated t f = elim f.first [ inl h ↦ omega (arith, h.0) | inr h ↦ h.1 ]
-cut_length o s at Opcode t f = cc
-cut_length o s at Dst t f = cc
-cut_length o s at Src t f = cc
-cut_length o s at Offset t f = cc
-cut_length o s at Imm t f = cc
-cut_length o s at Reserved t f = cc
-cut_length o s at NextImm t f = cc
+cut_length o s at cause t f = grind arith
 
 -- a valid file is without fault
 pub sound_file : (o : Order) (b : List ℕ) (l : List Insn) → IsFront o b l [] → IsSound o b

@@ -11,7 +11,7 @@ use Rattle.bpf_insn.specs.{Table.IsInsn, Fronts.IsInsnFront, Fronts.StopsAt, Spe
 use Rattle.bpf_insn.specs.Faults.{BeginsWith, IsInsnFault, IsSlotFault}
 use Rattle.bpf_insn.proofs.{FrontLemmas.front_of, StayLemmas.slot_fault_stays}
 use Rattle.bpf_canon.specs.insn.FrontReads.{BeginsAcross, BeginsNone, ReadsFront}
-use Rattle.bpf_canon.proofs.InsnLemmas.FrontLaws.{cut_length, front_begins_none, front_fault, truncated_or_not}
+use Rattle.bpf_canon.proofs.InsnLemmas.FrontLaws.{front_begins_none, front_fault, truncated_or_not}
 
 -- the fault that stopped the reading, at its offset in the bytes
 pub read_fault : (o : Order) (bytes : List ℕ) (read : InsnFront) (f : SlotFault) → IsInsnFront o bytes read → read.stop ≡ Some f
@@ -50,30 +50,17 @@ pub across_found : (o : Order) (i : Insn) (held piece : List ℕ) (used size : �
     → BeginsWith o i (held ++ take used piece) × (size ≡ length (spelling o i)) → BeginsAcross o i held piece (size - length held)
 across_found o i held piece used size fits none b =
     let longer = across_longer o i held (take used piece) none b.0 in
-    let whole : held ++ piece ≡ spelling o i ++ (b.0.1.0 ++ drop used piece) =
-    sym (cut_across held piece used) ∙ ap (λ x. x ++ drop used piece) b.0.1.1 ∙ append_assoc (spelling o i) b.0.1.0 (drop used piece) in
+    let whole : held ++ piece ≡ spelling o i ++ (b.0.1.0 ++ drop used piece) = grind (arith, cut_across, append_assoc) in
     let size_is : length held + (size - length held) ≡ length (spelling o i) = omega (arith, longer, b.1) in
-    let after : drop (size - length held) piece ≡ b.0.1.0 ++ drop used piece =
-    sym (drop-append-add held piece (size - length held)) ∙ ap (λ n. drop n (held ++ piece)) size_is ∙ ap (drop (length (spelling o i))) whole
-    ∙ drop-append_seam (spelling o i) (b.0.1.0 ++ drop used piece) in
-    record {
-      insn = b.0.0;
-      within = omega (arith, size_is, ap length whole, length-append held piece, length-append (spelling o i) (b.0.1.0 ++ drop used piece));
-      whole = whole ∙ ap (λ x. spelling o i ++ x) (sym after);
-      size = sym size_is;
-    }
+    let after : drop (size - length held) piece ≡ b.0.1.0 ++ drop used piece = grind (arith, drop-append-add, drop-append_seam) in
+    grind (arith, common_steps)
 
 -- a fault of the held bytes and the first bytes of a piece is that with the entire piece: no further bytes can change it, or the piece has no more
 pub across_fault : (o : Order) (held piece : List ℕ) (used at : ℕ) (cause : SlotCause) → used ≡ min (length piece) (16 - length held) → length held < 16
     → IsSlotFault o (held ++ take used piece) (record { pos = at; cause = cause })
     → IsSlotFault o (held ++ piece) (record { pos = at; cause = cause })
 across_fault o held piece used at cause fits short f = elim (truncated_or_not cause) [
-  | inl t ↦
-      let few = cut_length o (held ++ take used piece) at cause t f in
-      let all : take used piece ≡ piece =
-      take_all used piece (omega (arith, few, fits, length-append held (take used piece), length-take used piece)) in
-      let P : List ℕ → Type 0 = λ s. IsSlotFault o (held ++ s) (record { pos = at; cause = cause }) in
-      subst P all f
+  | inl t ↦ grind (arith, take_all, length-append, length-take)
   | inr t ↦
       let P : List ℕ → Type 0 = λ s. IsSlotFault o s (record { pos = at; cause = cause }) in
       subst P (cut_across held piece used) (slot_fault_stays o (held ++ take used piece) (drop used piece) at cause t f)
@@ -85,12 +72,8 @@ pub across_more : (o to : Order) (held piece : List ℕ) (i : Insn) (used : ℕ)
     → ReadsFront o to (held ++ piece) (record { len = length held + used + rest.len; count = 1 + rest.count; stop = rest.stop }) old new
 across_more o to held piece i used rest old middle new a e r =
     let n = length held + used + rest.len in
-    let left : drop n (held ++ piece) ≡ drop rest.len (drop used piece) =
-    ap (drop n) a.whole ∙ ap (λ m. drop m (spelling o i ++ drop used piece)) (omega (arith, a.size))
-    ∙ drop-append-add (spelling o i) (drop used piece) rest.len in
-    let whole : held ++ piece ≡ file_of o (i ∷ r.insns) ++ drop n (held ++ piece) =
-    a.whole ∙ ap (λ x. spelling o i ++ x) r.front.front ∙ sym (append_assoc (spelling o i) (file_of o r.insns) (drop rest.len (drop used piece)))
-    ∙ ap (λ x. file_of o (i ∷ r.insns) ++ x) (sym left) in
+    let left : drop n (held ++ piece) ≡ drop rest.len (drop used piece) = grind (arith, drop-append-add) in
+    let whole : held ++ piece ≡ file_of o (i ∷ r.insns) ++ drop n (held ++ piece) = grind (arith, append_assoc) in
     let none = front_begins_none o (drop used piece) r.insns (drop rest.len (drop used piece)) r.front in
     let P : List ℕ → Type 0 = λ s. BeginsNone o s in
     let Q : List ℕ → Type 0 = λ s. StopsAt o s rest.stop in

@@ -1,17 +1,17 @@
 -- The slots of a file, written in the other order, are the file in that order.
-use Rattle.std.proofs.Common.{◌≡◌, ℕ, ◌<◌, ◌≤◌, ◌+◌, ◌-◌, ℤ, pos, List, [], ◌∷◌, ◌++◌, Option, Some, None, length, take, drop, All, refl, sym, ap, ◌∙◌, append_assoc, append-nil, arith, length-append, length-drop, take-append-drop, lit<, rules}
+use Rattle.std.proofs.Common.{◌≡◌, ℕ, ◌<◌, ◌≤◌, ◌+◌, ◌-◌, ℤ, pos, List, [], ◌∷◌, ◌++◌, Option, Some, None, length, take, drop, All, refl, sym, ap, ◌∙◌, append_assoc, append-nil, arith, length-append, length-drop, take-append-drop, rules}
 use Rattle.std.specs.List.{flat_map}
 use Rattle.std.proofs.lemmas.List.{drop-drop, length-take, take_all, Elements.All-head, Elements.All-tail, Elements.All-cons, Elements.All-append}
-use Rattle.std.proofs.lemmas.{Int.ints, Grind.flat_map-append, Slice.drop-put_mid, Slice.take-put_mid}
+use Rattle.std.proofs.lemmas.{Grind.flat_map-append, Slice.drop-put_mid, Slice.take-put_mid}
 use Rattle.std.proofs.Math.Seq.{drop-append_seam, drop-length, take-append_seam}
 use borrow.Rule.Slice.PartMut.{Post-is, mid_of, post_of, put_mid}
-use Rattle.bpf_words.specs.declared.Order.{Order, TheVariants.Little, TheVariants.Big}
+use Rattle.bpf_words.specs.declared.Order.{Order}
 use Rattle.bpf_words.specs.Slots.{Fields, AreFields, fields, spelled}
 use Rattle.bpf_words.proofs.OneSpelling.{spelled-injective}
-use Rattle.bpf_insn.specs.declared.insn.Insn.{Insn, TheVariants.Wide}
-use Rattle.bpf_insn.specs.Table.{IsInsn, fields_of, next_imm_of, wide_next_imm}
+use Rattle.bpf_insn.specs.declared.insn.Insn.{Insn}
+use Rattle.bpf_insn.specs.Table.{IsInsn, fields_of, next_imm_of}
 use Rattle.bpf_insn.specs.Spelling.{spelling, second_slot, file_of, InsnFile}
-use Rattle.bpf_insn.proofs.{FieldLemmas.fields_in_range, FieldLemmas.wide_next_fits, FaultLemmas.slot_length}
+use Rattle.bpf_insn.proofs.{FieldLemmas.fields_in_range, FaultLemmas.slot_length}
 
 -- a second slot is one whose fields are 0, except the immediate
 abbrev pub second_fields : Option ℤ → List Fields
@@ -22,9 +22,7 @@ abbrev pub slots_of_insn : Insn → List Fields
 slots_of_insn i = fields_of i ∷ second_fields (next_imm_of i)
 
 second_spelled : (order : Order) (k : Option ℤ) → second_slot order k ≡ flat_map (spelled order) (second_fields k)
-second_spelled order None = refl
-second_spelled Little (Some k) = refl
-second_spelled Big (Some k) = refl
+second_spelled order k = grind arith
 
 insn_spelled : (order : Order) (i : Insn) → spelling order i ≡ flat_map (spelled order) (slots_of_insn i)
 unfolding spelling
@@ -42,10 +40,7 @@ no_slots_in_range k d below = absurd (omega (arith, below))
 
 -- every field of a slot of an instruction is in its range
 second_in_range : (i : Insn) → IsInsn i → All AreFields (second_fields (next_imm_of i))
-second_in_range (Wide d what) h =
-    All-cons AreFields (fields 0 0 0 (pos 0) (wide_next_imm what)) []
-    (record { opcode = lit< tt; dst = lit< tt; src = lit< tt; off = omega (arith, ints); imm = wide_next_fits what h }) no_slots_in_range
-second_in_range _ h = no_slots_in_range
+second_in_range _ h = grind arith
 
 insn_in_range : (i : Insn) → IsInsn i → All AreFields (slots_of_insn i)
 insn_in_range i h = All-cons AreFields (fields_of i) (second_fields (next_imm_of i)) (fields_in_range i h) (second_in_range i h)
@@ -60,19 +55,10 @@ slots_begin : (order : Order) (fs gs : List Fields) (rest : List ℕ) → All Ar
 slots_begin order [] gs rest hf hg e = (gs, (refl, e))
 slots_begin order (f ∷ fs) [] rest hf hg e = grind arith
 slots_begin order (f ∷ fs) (g ∷ gs) rest hf hg e =
-    let whole : spelled order f ++ (flat_map (spelled order) fs ++ rest) ≡ spelled order g ++ flat_map (spelled order) gs =
-    sym (append_assoc (spelled order f) (flat_map (spelled order) fs) rest) ∙ e in
+    let whole : spelled order f ++ (flat_map (spelled order) fs ++ rest) ≡ spelled order g ++ flat_map (spelled order) gs = grind arith in
     let long : length (spelled order f) ≡ length (spelled order g) = slot_length order f ∙ sym (slot_length order g) in
-    let left : spelled order f ≡ spelled order g =
-    sym (take-append_seam (spelled order f) (flat_map (spelled order) fs ++ rest))
-    ∙ ap (λ (n : ℕ). take n (spelled order f ++ (flat_map (spelled order) fs ++ rest))) long
-    ∙ ap (take (length (spelled order g))) whole
-    ∙ take-append_seam (spelled order g) (flat_map (spelled order) gs) in
-    let right : flat_map (spelled order) fs ++ rest ≡ flat_map (spelled order) gs =
-    sym (drop-append_seam (spelled order f) (flat_map (spelled order) fs ++ rest))
-    ∙ ap (λ (n : ℕ). drop n (spelled order f ++ (flat_map (spelled order) fs ++ rest))) long
-    ∙ ap (drop (length (spelled order g))) whole
-    ∙ drop-append_seam (spelled order g) (flat_map (spelled order) gs) in
+    let left : spelled order f ≡ spelled order g = grind arith in
+    let right : flat_map (spelled order) fs ++ rest ≡ flat_map (spelled order) gs = grind arith in
     let head : f ≡ g = spelled-injective order f g (All-head AreFields f fs hf) (All-head AreFields g gs hg) left in
     let more = slots_begin order fs gs rest (All-tail AreFields f fs hf) (All-tail AreFields g gs hg) right in
     (more.0, (ap (λ (x : Fields). x ∷ gs) (sym head) ∙ ap (λ (xs : List Fields). f ∷ xs) more.1.0, more.1.1))
@@ -164,8 +150,6 @@ appended_in_place old bytes all written rest start n is at count same =
     let long : length all ≡ length old + length bytes = ap length is ∙ length-append old bytes in
     let front : take start all ≡ old = ap (take start) is ∙ ap (λ (m : ℕ). take m (old ++ bytes)) at ∙ take-append_seam old bytes in
     let none : post_of start (length all - start) all ≡ [] = Post-is start (length all) all (omega (arith, long, at)) ∙ drop-length all in
-    let whole : put_mid start (length all - start) all written ≡ old ++ written =
-    ap (λ (x : List ℕ). x ++ (written ++ post_of start (length all - start) all)) front
-    ∙ ap (λ (x : List ℕ). old ++ (written ++ x)) none ∙ ap (λ (x : List ℕ). old ++ x) (append-nil written) in
+    let whole : put_mid start (length all - start) all written ≡ old ++ written = grind (arith, append-nil) in
     let end : n ≡ length (old ++ written) = omega (arith, count, same, long, length-append old written) in
     ap (λ (x : List ℕ). take n (x ++ rest)) whole ∙ ap (λ (m : ℕ). take m ((old ++ written) ++ rest)) end ∙ take-append_seam (old ++ written) rest

@@ -7,7 +7,7 @@ use Rattle.std.proofs.KnownBytes.{Appends-trans, Consumes-trans, Consumes-kept}
 use Rattle.std.specs.Io.KnownBytes.{Appends, Consumes, IsAtEnd, Keeps as KeepsBytes}
 use Rattle.bpf_words.specs.declared.Order.{Order}
 use Rattle.bpf_insn.specs.declared.{insn.Insn.Insn, fault.SlotFault.SlotFault}
-use Rattle.bpf_insn.specs.{Spelling.InsnFile, Spelling.file_of, Spelling.spelling, Faults.IsFront, Faults.IsInsnFault}
+use Rattle.bpf_insn.specs.{Spelling.InsnFile, Spelling.file_of, Faults.IsFront, Faults.IsInsnFault}
 use Rattle.bpf_insn.proofs.FrontLemmas.{one_front}
 use Rattle.bpf_canon.specs.declared.engine.RunCause.{RunCause}
 use Rattle.bpf_canon.specs.declared.engine.RunCause.TheVariants as cause
@@ -74,16 +74,7 @@ run_whole a b c p q o to s n r k end whole =
     let w = whole r.read r.represents in
     let once = one_front o r.read w.0 r.insns [] r.rest (file_front o r.read w.0 w.1) r.front in
     let P : List Insn → Type 0 = λ l. Appends p q (file_of to l) in
-    record {
-      read = r.read;
-      came = same_at_end a b c r.read r.came k;
-      ended = end;
-      within = r.within;
-      insns = w.0;
-      file = w.1;
-      took = subst P (sym once.0) r.took;
-      all = r.all ∙ ap (λ l. length (file_of to l)) (sym once.0);
-    }
+    grind arith
 
 pub run_cut : (a b c p q : Option (List ℕ)) (o to : Order) (s : FeedState) (n : ℕ) (f : SlotFault) → Running (devices a b p q) o to s n → Consumes b c [] → IsAtEnd c
     → ((read : List ℕ) → Represents s o to read → IsInsnFault o read f)
@@ -126,18 +117,7 @@ pub run_more : (a b c p q r : Option (List ℕ)) (o to : Order) (s t : FeedState
     → Consumes b c piece → Passed s t piece q r k → s.fed + length piece ≤ limit → Running (devices a c p r) o to t (n + k)
 run_more a b c p q r o to s t n k piece h came x fits =
     let adds = adds_of o to s t h.read piece h.insns h.rest x.out h.front h.represents x.moves in
-    record {
-      read = h.read ++ piece;
-      came = Consumes-trans a b c h.read piece h.came came;
-      within = omega (arith, fits, h.represents.fed, length-append h.read piece);
-      insns = h.insns ++ adds.gained;
-      rest = adds.left;
-      front = adds.front;
-      represents = adds.represents;
-      sound = x.sound;
-      took = wrote_more p q r to h.insns adds.gained x.out h.took x.took adds.made;
-      all = size_more to h.insns adds.gained x.out n k h.all x.all adds.made;
-    }
+    grind (arith, common_steps)
 
 -- the bytes read with a chunk; a piece of it is within the limit, and the sink accepted the instructions that it completed
 wrote_chunk : (a b c p q r : Option (List ℕ)) (o to : Order) (s t : FeedState) (n k : ℕ) (chunk piece out : List ℕ) → (h : Running (devices a b p q) o to s n)
@@ -185,10 +165,8 @@ run_stops a b c p q r o to s t n k chunk piece cause.WriteFailed h came x cut sm
         near = omega (arith, small, h.within, length-append h.read chunk);
         prefix = λ insns rest f.
             let once = one_front o (take limit (h.read ++ chunk)) (h.insns ++ adds.gained) insns adds.left rest (subst P (sym cut) adds.front) f in
-            let whole : file_of to insns ≡ file_of to h.insns ++ x.out =
-            ap (file_of to) (sym once.0) ∙ flat_map-append (spelling to) h.insns adds.gained ∙ ap (λ y. file_of to h.insns ++ y) (sym adds.made) in
-            let part : take (n + k) (file_of to insns) ≡ file_of to h.insns ++ take k x.out =
-            ap (take (n + k)) whole ∙ ap (λ m. take (m + k) (file_of to h.insns ++ x.out)) h.all ∙ take-append-add (file_of to h.insns) x.out k in
+            let whole : file_of to insns ≡ file_of to h.insns ++ x.out = grind (arith, flat_map-append) in
+            let part : take (n + k) (file_of to insns) ≡ file_of to h.insns ++ take k x.out = grind (arith, take-append-add) in
             let R : List ℕ → Type 0 = λ y. Appends p r y in (
               omega (arith, h.all, x.prefix, ap length whole, length-append (file_of to h.insns) x.out),
               subst R (sym part) (Appends-trans p q r _ _ h.took x.took),
@@ -203,11 +181,9 @@ run_stops a b c p q r o to s t n k chunk piece cause.Memory h came x cut small =
     prefix = λ insns rest f.
         let Q : List ℕ → Type 0 = λ b. IsFront o b insns rest in
         let grown = front_grows o h.insns insns h.read piece h.rest rest h.front (subst Q cut f) in
-        let whole : file_of to insns ≡ file_of to h.insns ++ file_of to grown.0 =
-        ap (file_of to) grown.1 ∙ flat_map-append (spelling to) h.insns grown.0 in
+        let whole : file_of to insns ≡ file_of to h.insns ++ file_of to grown.0 = grind (arith, flat_map-append) in
         let size : n + k ≡ length (file_of to h.insns) = omega (arith, h.all, x.0) in
-        let part : take (n + k) (file_of to insns) ≡ file_of to h.insns =
-        ap (take (n + k)) whole ∙ ap (λ m. take m (file_of to h.insns ++ file_of to grown.0)) size ∙ take-append_seam (file_of to h.insns) (file_of to grown.0) in
+        let part : take (n + k) (file_of to insns) ≡ file_of to h.insns = grind (arith, take-append_seam) in
         let R : List ℕ → Type 0 = λ y. Appends p r y in (
           omega (arith, size, ap length whole, length-append (file_of to h.insns) (file_of to grown.0)),
           subst R (append-nil (file_of to h.insns) ∙ sym part) (Appends-trans p q r _ [] h.took x.1),

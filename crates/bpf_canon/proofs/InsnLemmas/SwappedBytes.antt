@@ -1,8 +1,8 @@
 -- The bytes of a slot in the other order, by the 64-bit number that they encode.
-use Rattle.std.proofs.Common.{◌≡◌, ◌≢◌, ◌<◌, ◌+◌, ◌*◌, ◌/◌, ◌%◌, ◌^◌, ◌∙◌, ℕ, zero, suc, List, [], ◌∷◌, length, slice_index, refl, ap, arith, bit_and, lit<}
+use Rattle.std.proofs.Common.{◌≡◌, ◌≢◌, ◌<◌, ◌+◌, ◌*◌, ◌/◌, ◌%◌, ◌^◌, ◌∙◌, ℕ, zero, List, [], ◌∷◌, length, slice_index, refl, ap, arith, bit_and, lit<}
 use Rattle.std.specs.Int.{w64, from_le_bytes, to_le_bytes}
 use Rattle.std.proofs.lemmas.Nat.{and_block, and_mask, le_bytes_8}
-use Rattle.bpf_words.specs.declared.Order.{Order, TheVariants.Little, TheVariants.Big}
+use Rattle.bpf_words.specs.declared.Order.{Order}
 use Rattle.bpf_words.specs.{Words.IsBytes, Slots.AreFields, Slots.Fields, Slots.spelled}
 
 -- ---- the bytes of halfwords exchanged
@@ -51,14 +51,7 @@ exchanged s =
 
 exchanged_fit : (s : List ℕ) → IsBytes s → IsBytes (exchanged s)
 exchanged_fit s fits zero = fits 0
-exchanged_fit s fits (suc zero) = omega (arith, fits 1)
-exchanged_fit s fits (suc (suc zero)) = fits 3
-exchanged_fit s fits (suc (suc (suc zero))) = fits 2
-exchanged_fit s fits (suc (suc (suc (suc zero)))) = fits 7
-exchanged_fit s fits (suc (suc (suc (suc (suc zero))))) = fits 6
-exchanged_fit s fits (suc (suc (suc (suc (suc (suc zero)))))) = fits 5
-exchanged_fit s fits (suc (suc (suc (suc (suc (suc (suc zero))))))) = fits 4
-exchanged_fit s fits (suc (suc (suc (suc (suc (suc (suc (suc i)))))))) = omega arith
+exchanged_fit s fits i = grind arith
 
 -- opcode, registers, offset and immediate, the last two by the exchanged halfwords
 abbrev slot_number : ℕ → ℕ → ℕ
@@ -79,10 +72,7 @@ number_exchanged s word halfwords long fits is parts = omega arith
 
 -- the bytes of a slot, read as numbers and exchanged, are those in the other order
 exchanged_spelled : (order to : Order) → order ≢ to → (f : Fields) → AreFields f → exchanged (spelled order f) ≡ spelled to f
-exchanged_spelled Little Little other f fit = absurd (other refl)
-exchanged_spelled Little Big other f fit = grind arith
-exchanged_spelled Big Little other f fit = grind arith
-exchanged_spelled Big Big other f fit = absurd (other refl)
+exchanged_spelled order to other f fit = grind arith
 
 pub slot_swapped : (order to : Order) → order ≢ to → (s : List ℕ) (word halfwords n : ℕ) → length s ≡ 8 → IsBytes s → word ≡ from_le_bytes w64 s
     → halfwords ≡ swapped_halfwords word

@@ -1,5 +1,5 @@
 -- The names of a table's records, in sequence.
-use Rattle.std.proofs.Common.{◌≡◌, ℕ, zero, suc, ◌+◌, ◌<◌, ◌≤◌, inl, inr, List, [], ◌∷◌, ◌++◌, length, map, take, refl, sym, ap, subst, ◌∙◌, append_assoc, arith, Some}
+use Rattle.std.proofs.Common.{◌≡◌, ℕ, zero, suc, ◌+◌, ◌<◌, ◌≤◌, inl, inr, List, [], ◌∷◌, ◌++◌, length, map, take, refl, sym, ap, subst, append_assoc, arith, Some}
 use Rattle.std.specs.{Prelude.slice_get, List.Contains}
 use Rattle.std.proofs.lemmas.List.{map-append, append-nil, Concat.flat_map-append}
 use Rattle.btf_types.specs.{Values.TypeItem, Values.TypeRecord, tables.TableWords.record_at}
@@ -51,8 +51,7 @@ pub item_names_more : (xs : List (List ℕ)) (h : List ℕ) (items : List TypeIt
 item_names_more xs h items k x e =
     let next : k + 1 ≡ suc k = omega arith in
     let more : take (k + 1) items ≡ take k items ++ x ∷ [] = rw next (take_more items k x e) in
-    append_assoc xs (h ∷ map item_name (take k items)) (item_name x ∷ [])
-    ∙ ap (λ (t : List (List ℕ)). xs ++ h ∷ t) (sym (ap (map item_name) more ∙ map-append item_name (take k items) (x ∷ [])))
+    grind (arith, append_assoc, map-append)
 
 pub record_names_more : (v : List TypeRecord) (i : ℕ) → i < length v → names (take i v) ++ record_names (record_at v (i + 1)) ≡ names (take (i + 1) v)
 record_names_more v i h = grind (arith, records_more, flat_map-append, append-nil)

@@ -1,6 +1,7 @@
 -- The offsets of hosts in their table, in the order of the names, and the offset of each name.
 use Rattle.std.proofs.Common.{Bor, ◌≡◌, ◌≢◌, ℕ, zero, suc, ◌+◌, ◌-◌, ◌<◌, ◌≤◌, ◌^◌, true, false, inl, inr, List, [], ◌∷◌, ◌++◌, length, get_or, set, take, drop, refl, sym, ap, ◌∙◌, subst, arith, append_assoc, append-nil}
-use Rattle.std.specs.{List.filter, Str.bytes_eq}
+use Rattle.std.proofs.lemmas.Grind.{common_steps}
+use Rattle.std.specs.{List.filter}
 use Rattle.std.proofs.lemmas.List.{Concat.flat_map-append, Elements.filter-append, Sorted.IsPermutation-refl}
 use Rattle.std.proofs.lemmas.Bool.{cases_eq, cases_lt, not-true}
 use Rattle.std.proofs.lemmas.List.{get_or-set_same, get_or-set_other, length-set, take-append-drop, take_all, get_or_read}
@@ -42,10 +43,7 @@ pub record PlacedTo (ks : List (List ℕ)) (hosts places : List ℕ) (table_len 
 
 module _ (ks : List (List ℕ)) (hosts : List ℕ) (apart : NoRepeats ks) (have : HaveHosts ks hosts) where
   pub keeps_own : (i : ℕ) → i < length ks → get_or hosts i 0 ≡ i → keeps ks (name_at ks i) ≡ true
-  keeps_own i h e =
-      let x = name_at ks i in
-      let same : host_in (hosts_of ks) x ≡ x = sym (have.each i h) ∙ ap (name_at ks) e in
-      sym (own_host_test ks x (Has-get_or ks i [] h)) ∙ ap (λ (y : List ℕ). bytes_eq y x) same ∙ bytes_eq-same x
+  keeps_own i h e = grind (arith, common_steps, own_host_test, Has-get_or, bytes_eq-same)
 
   pub keeps_other : (i : ℕ) → i < length ks → get_or hosts i 0 ≢ i → keeps ks (name_at ks i) ≡ false
   keeps_other i h n = grind (arith, own_host_test, Has-get_or, index_is, same_text)
@@ -53,10 +51,7 @@ module _ (ks : List (List ℕ)) (hosts : List ℕ) (apart : NoRepeats ks) (have 
   pub placed_own : (places : List ℕ) (len k : ℕ) → PlacedTo ks hosts places len k → k < length ks → get_or hosts k 0 ≡ k → PlacedTo ks hosts (set places k len) (len + (length (name_at ks k) + 1)) (k + 1)
   placed_own places len k to low e = record {
     whole = length-set places k len ∙ to.whole;
-    each = λ i h o. elim (cases_eq i k) [
-      | inl q ↦ ap (λ (m : ℕ). get_or (set places k len) m 0) q ∙ get_or-set_same places k len 0 (omega (arith, low, to.whole)) ∙ to.long ∙ ap (λ (m : ℕ). length (table_of (hosts_among ks m))) (sym q)
-      | inr n ↦ get_or-set_other places k i len 0 n ∙ to.each i (omega (arith, h, n)) o
-    ];
+    each = grind (arith, get_or-set_same, get_or-set_other);
     long = ap (λ (m : ℕ). m + (length (name_at ks k) + 1)) to.long ∙ sym (length-table_push (hosts_among ks k) (name_at ks k)) ∙ ap (λ (l : List (List ℕ)). length (table_of l)) (sym (hosts_among_more ks k [] low (keeps_own k low e)));
   }
 
@@ -66,10 +61,7 @@ module _ (ks : List (List ℕ)) (hosts : List ℕ) (apart : NoRepeats ks) (have 
   pub placed_other : (places : List ℕ) (len k : ℕ) → PlacedTo ks hosts places len k → k < length ks → get_or hosts k 0 ≢ k → PlacedTo ks hosts places len (k + 1)
   placed_other places len k to low n = record {
     whole = to.whole;
-    each = λ i h o. elim (cases_eq i k) [
-      | inl q ↦ absurd (n (subst (λ (m : ℕ). get_or hosts m 0 ≡ m) q o))
-      | inr d ↦ to.each i (omega (arith, h, d)) o
-    ];
+    each = grind arith;
     long = to.long ∙ ap (λ (l : List (List ℕ)). length (table_of l)) (sym (hosts_among_same ks k [] low (keeps_other k low n)));
   }
 
@@ -138,11 +130,6 @@ reads_place ks names hosts places table_len i h n x d none same apart are low is
     let host : h ≡ get_or hosts i 0 = get_or_read hosts i h (omega (arith, low, are.have_hosts.whole)) h_is 0 in
     let inside : h < length ks = omega (arith, host, p.inside) in
     let place : n ≡ get_or places (get_or hosts i 0) 0 = get_or_read places h n (omega (arith, inside, are.are_placed.whole)) n_is 0 ∙ ap (λ (m : ℕ). get_or places m 0) host in
-    let text : (get_or names h d).now ≡ name_at ks (get_or hosts i 0) =
-    sym (text_at names h d (omega (arith, inside, texts_length names, ap (λ (l : List (List ℕ)). length l) same))) ∙ ap (λ (l : List (List ℕ)). get_or l h d.now) same ∙ ap (λ (t : List ℕ). get_or ks h t) none ∙ ap (name_at ks) host in
+    let text : (get_or names h d).now ≡ name_at ks (get_or hosts i 0) = grind (arith, text_at, texts_length) in
     let long = ap (λ (t : List ℕ). length t) text in
-    record {
-      shorter = omega (arith, long, p.shorter);
-      fits = omega (arith, long, place, p.fits, are.are_placed.long, are.room);
-      place = ap (λ (m : ℕ). m + (length ((get_or names h d).now) - length x)) place ∙ ap (λ (m : ℕ). get_or places (get_or hosts i 0) 0 + (m - length x)) long ∙ p.place;
-    }
+    omega arith

@@ -1,6 +1,7 @@
 -- The names of one item and of one record more.
-use Rattle.std.proofs.Common.{◌≡◌, ℕ, ◌+◌, ◌<◌, List, [], ◌∷◌, ◌++◌, inl, inr, length, take, get_or, sym, ap, ◌∙◌, append-nil, arith}
-use Rattle.std.proofs.lemmas.List.{map_more, Elements.All-nil, Elements.All-cons, Concat.flat_map-append}
+use Rattle.std.proofs.Common.{◌≡◌, ℕ, ◌+◌, ◌<◌, List, [], inl, inr, length, take, get_or, arith}
+use Rattle.std.proofs.lemmas.Grind.{common_steps}
+use Rattle.std.proofs.lemmas.List.{Elements.All-nil, Elements.All-cons}
 use Rattle.std.specs.Prelude.{if◌then◌else◌}
 use Rattle.std.specs.List.{All}
 use Rattle.btf_types.proofs.{TabulateSteps.All-tabulate, TableLemmas.TextSteps.decided}
@@ -18,13 +19,7 @@ item_noted offs f k = grind (arith, noted_all-append)
 
 pub record_noted : (o : Order) (types places : List ℕ) (i : ℕ) → i < length places
     → noted_all (noted_all [] (all_offsets (frames_at o types (take i places)))) (name_offsets (frame_at o types (get_or places i 0))) ≡ noted_all [] (all_offsets (frames_at o types (take (i + 1) places)))
-record_noted o types places i low =
-    let front = frames_at o types (take i places) in
-    let frame = frame_at o types (get_or places i 0) in
-    let all : all_offsets (frames_at o types (take (i + 1) places)) ≡ all_offsets front ++ name_offsets frame =
-    ap all_offsets (map_more (frame_at o types) places i 0 low) ∙ flat_map-append name_offsets front (frame ∷ [])
-    ∙ ap (λ (t : List ℕ). all_offsets front ++ t) (append-nil (name_offsets frame)) in
-    sym (ap (noted_all []) all ∙ noted_all-append [] (all_offsets front) (name_offsets frame))
+record_noted o types places i low = grind (arith, common_steps, noted_all-append)
 
 -- the names of a record are inside the strings
 pub names_inside : (strings f : List ℕ) → ReadsRecord strings f → All (IsBelow (length strings)) (name_offsets f)

@@ -1,19 +1,11 @@
 -- The first bit in which two keys differ determines how many of their last bytes are equal.
-use Rattle.std.proofs.Common.{◌≡◌, ◌≢◌, ℕ, zero, suc, ◌+◌, ◌-◌, ◌*◌, ◌/◌, ◌%◌, ◌^◌, ◌<◌, ◌≤◌, inl, inr, get_or, sym, ap, ◌∙◌, arith}
+use Rattle.std.proofs.Common.{◌≡◌, ◌≢◌, ℕ, suc, ◌+◌, ◌-◌, ◌*◌, ◌/◌, ◌%◌, ◌^◌, ◌<◌, ◌≤◌, inl, inr, get_or, sym, ap, ◌∙◌, arith}
 use Rattle.std.proofs.lemmas.{Bool.cases_lt, Nat.xor_shr, Nat.xor_lt, Nat.pow-add, Nat.pow_pos, Nat.leading_length}
 use Rattle.std.specs.Int.{w64, to_le_bytes, Bits.bit_xor, Bits.xor_self, Bits.xor_assoc, Bits.xor_zero_l, Bits.xor_zero_r, Count.count_leading_zeros}
 use Rattle.std.proofs.Math.{Nat.div-eq_of_lt, Nat.div-div-eq-div-mul, Nat.lt-div-mul-add, Nat.pow-suc, Pow.pow_mono}
 
 byte_is : (n i : ℕ) → i < 8 → get_or (to_le_bytes w64 n) i 0 ≡ n / 2 ^ (8 * i) % 256
-byte_is n zero h = omega arith
-byte_is n (suc zero) h = omega arith
-byte_is n (suc (suc zero)) h = omega arith
-byte_is n (suc (suc (suc zero))) h = omega arith
-byte_is n (suc (suc (suc (suc zero)))) h = omega arith
-byte_is n (suc (suc (suc (suc (suc zero))))) h = omega arith
-byte_is n (suc (suc (suc (suc (suc (suc zero)))))) h = omega arith
-byte_is n (suc (suc (suc (suc (suc (suc (suc zero))))))) h = omega arith
-byte_is n (suc (suc (suc (suc (suc (suc (suc (suc i)))))))) h = absurd (omega (arith, h))
+byte_is n i h = grind arith
 
 xor_none : (a b : ℕ) → bit_xor a b ≡ 0 → a ≡ b
 xor_none a b e = sym (xor_zero_r a) ∙ ap (bit_xor a) (sym (xor_self b)) ∙ sym (xor_assoc a b b) ∙ ap (λ (n : ℕ). bit_xor n b) e ∙ xor_zero_l b

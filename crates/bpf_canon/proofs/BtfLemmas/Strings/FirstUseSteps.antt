@@ -58,12 +58,9 @@ in_map text xs x (k, inside, is) = (k, omega (arith, inside, length-map xs text)
 
 kept_noted : (text : ℕ → List ℕ) (offs xs : List ℕ) (off : ℕ) → kept (map text offs) ≡ kept (map text xs) → kept (map text (noted offs off)) ≡ kept (map text (xs ++ off ∷ []))
 kept_noted text offs xs off e =
-    let after : kept (map text (offs ++ off ∷ [])) ≡ kept (map text (xs ++ off ∷ [])) =
-    ap kept (map-append text offs (off ∷ [])) ∙ same_push (map text offs) (map text xs) (text off) e ∙ sym (ap kept (map-append text xs (off ∷ []))) in
+    let after : kept (map text (offs ++ off ∷ [])) ≡ kept (map text (xs ++ off ∷ [])) = grind (arith, map-append, same_push) in
     elim (cases_Contains offs off) [
-      | inl c ↦
-          ap (λ (l : List ℕ). kept (map text l)) (noted_known offs off c)
-          ∙ sym (ap kept (map-append text offs (off ∷ [])) ∙ known_push (map text offs) (text off) (Has-from_Contains (map text offs) (text off) (in_map text offs off c))) ∙ after
+      | inl c ↦ grind (arith, map-append, known_push, Has-from_Contains, in_map)
       | inr n ↦ ap (λ (l : List ℕ). kept (map text l)) (noted_new offs off n) ∙ after
     ]
 

@@ -1,8 +1,9 @@
 -- From the hosts of used offsets to the offsets of names in the shared table.
 use Rattle.std.proofs.Common.{◌≡◌, ◌≢◌, ℕ, ◌+◌, ◌^◌, ◌<◌, inl, inr, List, [], ◌∷◌, length, map, get_or, sym, ap, ◌∙◌, subst, arith, rules}
+use Rattle.std.proofs.lemmas.Grind.{common_steps}
 use Rattle.std.specs.List.{All, Any, Contains, Sorted.IsPermutation}
 use Rattle.std.proofs.lemmas.Bool.{cases_eq}
-use Rattle.std.proofs.lemmas.List.{length-map, get_or-map, get_or_default, nil_from_length, Elements.All-map}
+use Rattle.std.proofs.lemmas.List.{length-map, get_or-map, get_or_default, Elements.All-map}
 use Rattle.std.proofs.lemmas.List.Sorted.{All-permutation, Contains-permutation, length_permutation}
 use Rattle.btf_types.specs.{Names.kept, Names.place_in, Reading.text_from}
 use Rattle.btf_types.specs.strings.SharedNames.{hosts, hosts_of, host_in, shared_among, shared_table, shared_place}
@@ -19,7 +20,7 @@ use Rattle.bpf_canon.specs.declared.btf.strings.{section_texts.SectionText.Secti
 use Rattle.bpf_canon.specs.declared.btf.strings.host_places.{Span.Span, HostPlaces.HostPlaces}
 use Rattle.bpf_canon.proofs.BtfLemmas.Strings.UsedSteps.{used_inside, used_at, number_inside}
 use Rattle.bpf_canon.proofs.BtfLemmas.Strings.{LongestSteps.used_length, RankSteps.in_tail_order, HostPlaceSteps.host_there}
-use Rattle.bpf_canon.proofs.BtfLemmas.Strings.FoundHosts.{longest_are, in_map, empty_at_nul, text_some}
+use Rattle.bpf_canon.proofs.BtfLemmas.Strings.FoundHosts.{longest_are, in_map, text_some}
 
 -- the longest strings in another order
 any_permuted : (P : SectionText → Type 0) (xs ys : List SectionText) → IsPermutation xs ys → Any P xs → Any P ys
@@ -114,9 +115,7 @@ module _ (section slots offsets by_rank : List ℕ) (sorted : List (List ℕ)) (
 
   pub place_found : get_or by_rank h.host 0 + h.before ≡ shared_place names x
   place_found = elim (cases_eq (get_or section off 0) 0) [
-    | inl z ↦
-        let none : get_or by_rank h.host 0 + h.before ≡ 0 = omega (arith, ap (λ (i : InHost). i.before) (is.empty z), ap (λ (i : InHost). get_or by_rank i.host 0) (is.empty z), host_places.none) in
-        none ∙ no_place (kept names) x (nil_from_length x (empty_at_nul section off is.inside z))
+    | inl z ↦ grind (arith, common_steps)
     | inr b ↦ let a = is.some b in place_at_host (kept names) x (at_rank sorted a.rank) (get_or by_rank h.host 0) h.before (some b) a.is_host (place_is b) a.before
   ]
 

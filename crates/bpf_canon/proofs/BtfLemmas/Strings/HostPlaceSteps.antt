@@ -1,5 +1,5 @@
 -- Steps of the loop that assigns offsets to hosts in the order of first use.
-use Rattle.std.proofs.Common.{◌≡◌, ◌≢◌, ℕ, ◌+◌, ◌<◌, ◌≤◌, true, false, not, inl, inr, List, [], ◌∷◌, ◌++◌, length, map, get_or, set, take, drop, refl, sym, ap, ◌∙◌, subst, arith, take-append-drop}
+use Rattle.std.proofs.Common.{◌≡◌, ◌≢◌, ℕ, ◌+◌, ◌<◌, ◌≤◌, true, false, not, inl, inr, List, [], ◌∷◌, ◌++◌, length, map, get_or, set, take, drop, sym, ap, ◌∙◌, subst, arith, take-append-drop}
 use Rattle.std.proofs.lemmas.Grind.{common_steps}
 use Rattle.std.specs.List.{flat_map, list_any, All, Sorted.IsSorted}
 use Rattle.std.proofs.lemmas.{Bool.both_ways, Bool.cases_eq, Bool.cases_lt, Bool.false_from_ne_true, List.Concat.flat_map-append}
@@ -74,18 +74,12 @@ lays_one section sorted out by_rank spans new len r s to up at empty more text =
               | inr e ↦ n (sym (rank_same sorted r k up at a e))
             ]
       ];
-      there = λ k a z. elim (cases_eq k r) [
-        | inl e ↦ subst (λ (m : ℕ). Has (out ++ x ∷ []) (at_rank sorted m)) (sym e) (Has-back out (x ∷ []) x (inl refl))
-        | inr n ↦ Has-front out (x ∷ []) (at_rank sorted k) (to.there k a (λ q. z (other (k + 1) (λ e. n (omega (arith, e))) ∙ q)))
-      ];
+      there = grind (arith, Has-back, Has-front);
       place = λ k a z. elim (cases_eq k r) [
         | inl e ↦
             ap (λ (n : ℕ). get_or (set by_rank (r + 1) len) (n + 1) 0) e ∙ here ∙ to.whole ∙ sym (place_last out x gone)
             ∙ ap (λ (m : ℕ). place_in (out ++ x ∷ []) (at_rank sorted m)) (sym e)
-        | inr n ↦
-            let same = other (k + 1) (λ e. n (omega (arith, e))) in
-            let old : get_or by_rank (k + 1) 0 ≢ 0 = λ q. z (same ∙ q) in
-            same ∙ to.place k a old ∙ sym (place_stays out x (at_rank sorted k) (to.there k a old))
+        | inr n ↦ grind (arith, place_stays)
       ];
     }
 
@@ -190,9 +184,7 @@ module _ (section slots offsets : List ℕ) (sorted : List (List ℕ)) (in_hosts
       let at = host_last sorted names own here a has (some_here h) in
       let text : at_rank sorted a.rank ≡ own = own_text sorted names own here a has (some_here h) b in
       let free : get_or by_rank (a.rank + 1) 0 ≡ 0 = ap (λ (j : ℕ). get_or by_rank j 0) (sym a.numbered) ∙ p in
-      let out : host_places names (taken k) ++ at_rank sorted a.rank ∷ [] ≡ host_places names (taken (k + 1)) =
-      ap (λ (t : List ℕ). host_places names (taken k) ++ t ∷ []) text
-      ∙ sym (more ∙ laid_new names (taken k) own (λ e. omega (arith, some_here h, ap (λ (t : List ℕ). length t) e)) (own_yes sorted names own here a has (some_here h) b) (λ i. to.absent a.rank at free (subst (Has (host_places names (taken k))) (sym text) i))) in
+      let out : host_places names (taken k) ++ at_rank sorted a.rank ∷ [] ≡ host_places names (taken (k + 1)) = grind (arith, more, laid_new, some_here, own_yes, has) in
       let len_is : length (at_rank sorted a.rank) ≡ v = ap (λ (t : List ℕ). length t) text ∙ sym v_is in
       let long = ap (λ (l : List (List ℕ)). length (table_of l)) out in
       record {

@@ -1,7 +1,7 @@
 -- The host of a string by ranks, and the steps of the loops that find all hosts.
-use Rattle.std.proofs.Common.{◌≡◌, ◌≢◌, ℕ, zero, suc, ◌+◌, ◌-◌, ◌<◌, ◌≤◌, true, ◌⊎◌, inl, inr, List, [], length, map, get_or, set, refl, sym, ap, ◌∙◌, subst, arith}
+use Rattle.std.proofs.Common.{◌≡◌, ◌≢◌, ℕ, zero, suc, ◌+◌, ◌-◌, ◌<◌, ◌≤◌, true, ◌⊎◌, inl, inr, List, [], length, map, get_or, set, refl, sym, ap, ◌∙◌, subst, arith, rules}
 use Rattle.std.specs.List.{All}
-use Rattle.std.proofs.lemmas.Bool.{cases_eq, cases_lt}
+use Rattle.std.proofs.lemmas.Bool.{cases_eq}
 use Rattle.std.proofs.lemmas.List.{get_or-map, length-map, length-set, get_or-set_same, get_or-set_other, get_or_default, get_or_read}
 use Rattle.btf_types.specs.Reading.{text_from}
 use Rattle.btf_types.specs.strings.{SharedNames.is_suffix, CommonTails.at_rank, CommonTails.IsFirstRank, CommonTails.IsNextHost}
@@ -9,7 +9,7 @@ use Rattle.btf_types.proofs.StringLemmas.Suffixes.{Ends, Ends-refl, Ends-trans, 
 use Rattle.btf_types.proofs.StringLemmas.CommonTails.{first_ends, rank_has_host}
 use Rattle.bpf_canon.specs.btf.strings.{SectionTexts.text_in, Ranks.AreRanked, UsedOffsets.offset_number}
 use Rattle.bpf_canon.specs.btf.strings.Longest.{IsUsed, IsInText, AreLongestOf}
-use Rattle.bpf_canon.specs.btf.strings.InHost.{IsInHost, no_host, no_text, host_at, FindsWithin, AreInHosts, HostsTo}
+use Rattle.bpf_canon.specs.btf.strings.InHost.{IsInHost, no_text, host_at, FindsWithin, AreInHosts, HostsTo}
 use Rattle.bpf_canon.specs.declared.btf.strings.{section_texts.SectionText.SectionText, hosts_by_rank.InHost.InHost}
 use Rattle.bpf_canon.proofs.BtfLemmas.Strings.{UsedSteps.number_injective, UsedSteps.number_inside, UsedSteps.used_inside, RankSteps.first_rank_is}
 use Rattle.bpf_canon.proofs.BtfLemmas.Strings.LongestSteps.{used_length, within_length, within_ends}
@@ -97,10 +97,7 @@ module _ (section slots : List ℕ) (ts : List SectionText) (common hosts : List
       let ends : t.end ≡ d.end = ap (λ (k : SectionText). k.end) t_end in
       let within : IsInText off d = record { from = from_start; before = omega (arith, high, ends) } in
       let back_here : (j : ℕ) → l < j → j ≤ from → d.end - off ≤ get_or common j 0 = λ j a b. omega (arith, more j a b, ends, ap (λ (k : List ℕ). get_or k j 0) same) in
-      let all : (j : ℕ) → l < j → j ≤ rank → d.end - off ≤ get_or common j 0 = λ j a b. elim (cases_lt from j) [
-        | inl f ↦ before j f b
-        | inr g ↦ back_here j a g
-      ] in
+      let all : (j : ℕ) → l < j → j ≤ rank → d.end - off ≤ get_or common j 0 = grind arith in
       let less_here : get_or common l 0 < d.end - off = omega (arith, less, ends, ap (λ (k : List ℕ). get_or k l 0) same) in
       let low_enough : l ≤ rank = omega (arith, back, below) in
       let l_inside : l < length hosts = omega (arith, low_enough, inside, ranked.are_hosts.whole, length-map ts (text_in section)) in
@@ -136,25 +133,7 @@ module _ (section slots : List ℕ) (sorted : List (List ℕ)) (common : List �
 
   pub within_finds : (in_hosts : List InHost) (from off next : ℕ) (h : InHost) → WithinTo section slots sorted common t rank old in_hosts from off → length old ≡ offset_number slots (length slots) → t.start ≤ off → get_or slots off 0 ≢ 0 → next ≤ from
       → ((j : ℕ) → next < j → j ≤ from → t.end - off ≤ get_or common j 0) → IsInHost sorted (text_from section off) h → WithinTo section slots sorted common t rank old (set in_hosts (offset_number slots off) h) next (off + 1)
-  within_finds in_hosts from off next h to long low s back more is =
-      let here : host_at slots (set in_hosts (offset_number slots off) h) off ≡ h = get_or-set_same in_hosts (offset_number slots off) h no_host (omega (arith, number_inside slots off s, long, to.whole)) in
-      let there = λ (o : ℕ) (u : get_or slots o 0 ≢ 0) (n : o ≢ off). get_or-set_other in_hosts (offset_number slots off) (offset_number slots o) h no_host (λ e. n (number_injective slots o off u s e)) in
-      record {
-        whole = length-set in_hosts (offset_number slots off) h ∙ to.whole;
-        below = omega (arith, back, to.below);
-        before = λ j l m. elim (cases_lt from j) [
-          | inl a ↦ omega (arith, to.before j a m)
-          | inr b ↦ omega (arith, more j l b)
-        ];
-        here = λ o u l m. elim (cases_eq o off) [
-          | inl e ↦ subst (λ (k : ℕ). IsInHost sorted (text_from section k) (host_at slots (set in_hosts (offset_number slots off) h) k)) (sym e) (subst (IsInHost sorted (text_from section off)) (sym here) is)
-          | inr n ↦ subst (IsInHost sorted (text_from section o)) (sym (there o u n)) (to.here o u l (omega (arith, m, n)))
-        ];
-        there = λ o u n. elim (cases_eq o off) [
-          | inl e ↦ absurd (n (omega (arith, e, low), omega (arith, e)))
-          | inr d ↦ there o u d ∙ to.there o u (λ (a, b). n (a, omega (arith, b)))
-        ];
-      }
+  within_finds in_hosts from off next h to long low s back more is = grind (arith, get_or-set_same, number_inside, get_or-set_other, number_injective, length-set)
 
 -- the host of a separate string
 pub finds_alone : (section slots : List ℕ) (sorted : List (List ℕ)) (t : SectionText) (old : List InHost) (h : InHost) → IsUsed section slots t → ((k : ℕ) → t.start + 1 ≤ k → k < t.end → get_or slots k 0 ≡ 0) → length old ≡ offset_number slots (length slots) → IsInHost sorted (text_from section t.start) h
@@ -194,10 +173,4 @@ module _ (section slots : List ℕ) (ts : List SectionText) (sorted : List (List
       }
 
   pub hosts_all : (in_hosts : List InHost) → HostsTo section slots ts sorted in_hosts (length ts) → length slots ≡ length section → AreInHosts section slots sorted in_hosts
-  hosts_all in_hosts to long = record {
-    whole = to.whole;
-    empty = to.empty;
-    some = λ off s b.
-        let a = longest.each off (omega (arith, used_inside slots off s, long)) s b in
-        to.here a.0 off a.2 s (subst (IsInText off) (sym (get_or_default ts a.0 no_text a.1 a.2 ∙ a.3)) a.4);
-  }
+  hosts_all in_hosts to long = search (rules, used_inside, get_or_default)

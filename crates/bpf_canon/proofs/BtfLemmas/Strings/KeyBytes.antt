@@ -29,10 +29,7 @@ module _ (x : List ℕ) (p : (i : ℕ) → get_or x i 0 < 256) (j : ℕ) (h : j 
       let bytes : (i : ℕ) → get_or (zeros ++ x) i 0 < 256 = λ i. elim (cases_lt i n) [ inl k ↦ omega (arith, low i k) | inr k ↦ omega (arith, high i k, p (i - n)) ] in
       ap (λ (t : List ℕ). get_or t (7 - j) 0) (le_bytes_8 (zeros ++ x) (suffix_key x) long bytes (sym (key_of_short x n (omega (arith, l)))))
       ∙ elim (cases_lt j (length x)) [
-        | inl k ↦
-            high (7 - j) (omega (arith, k, l))
-            ∙ ap (λ (m : ℕ). get_or x m 0) (let e : 7 - j - n ≡ length x - 1 - j = omega (arith, k, l, h) in e)
-            ∙ sym (get_or-reverse x j 0 k)
+        | inl k ↦ grind (arith, get_or-reverse)
         | inr k ↦ low (7 - j) (omega (arith, k, l, h)) ∙ sym (get_or_past (reverse x) j 0 (omega (arith, k, length-reverse x)))
       ]
 
@@ -53,13 +50,8 @@ module _ (x y : List ℕ) (p : (i : ℕ) → get_or x i 0 < 256) (q : (i : ℕ) 
       let long_x = length-reverse x in
       let long_y = length-reverse y in
       elim (cases_lt n (min (length x) (length y))) [
-        | inl h ↦
-            let small : n < 8 = omega (arith, h, below) in
-            let is : min (min n (length x)) (length y) ≡ n = omega (arith, h) in
-            is ∙ sym (front_stops n (reverse x) (reverse y) (omega (arith, h, long_x)) (omega (arith, h, long_y)) alike (λ e. differ small (of_first n small ∙ e ∙ sym (of_second n small))))
-        | inr h ↦
-            let ends = front_ends (reverse x) (reverse y) (λ j l. alike j (omega (arith, l, h, long_x, long_y))) in
-            omega (arith, h, ends, long_x, long_y)
+        | inl h ↦ grind (arith, front_stops, of_first, of_second)
+        | inr h ↦ grind (arith, front_ends)
       ]
 
 -- the bytes before the last eight
@@ -94,11 +86,6 @@ module _ (x y : List ℕ) (p : (i : ℕ) → get_or x i 0 < 256) (q : (i : ℕ) 
       let turned_x = length-reverse x in
       let turned_y = length-reverse y in
       elim (cases_lt r (min (length x - 8) (length y - 8))) [
-        | inl h ↦
-            let small : r < 8 = omega (arith, h, below) in
-            let stops : common_tail x y ≡ 8 + r = front_stops (8 + r) (reverse x) (reverse y) (omega (arith, h, turned_x)) (omega (arith, h, turned_y)) alike_to (λ e. differ small (of_front r small ∙ e ∙ sym (of_other_front r small))) in
-            omega (arith, h, stops)
-        | inr h ↦
-            let ends : common_tail x y ≡ min (length (reverse x)) (length (reverse y)) = front_ends (reverse x) (reverse y) (λ j l. alike_to j (omega (arith, l, h, turned_x, turned_y, long_x, long_y))) in
-            omega (arith, h, ends, turned_x, turned_y, long_x, long_y)
+        | inl h ↦ grind (arith, front_stops, alike_to, of_front, of_other_front)
+        | inr h ↦ grind (arith, front_ends, alike_to)
       ]

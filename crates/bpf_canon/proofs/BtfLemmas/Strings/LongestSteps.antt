@@ -1,7 +1,7 @@
 -- Steps of the loop over a section that finds the longest used strings.
 use Rattle.std.proofs.Common.{◌≡◌, ◌≢◌, ℕ, zero, suc, ◌+◌, ◌-◌, ◌<◌, ◌≤◌, inl, inr, List, [], ◌∷◌, ◌++◌, length, get_or, take, drop, refl, sym, ap, ◌∙◌, subst, arith}
+use Rattle.std.proofs.lemmas.Grind.{common_steps}
 use Rattle.std.specs.List.{All, Any}
-use Rattle.std.proofs.Math.Seq.{drop-nil}
 use Rattle.std.proofs.lemmas.{Bool.cases_eq, Bool.cases_lt, List.Elements.All-nil, List.Elements.All-cons, List.Elements.All-append}
 use Rattle.std.proofs.lemmas.List.{get_or-drop, length-drop, get_or_append_left, length-append, length-take-le, Quantifiers.Any-push}
 use Rattle.btf_types.specs.Reading.{before_nul, text_from}
@@ -20,17 +20,14 @@ before_from (suc n) (suc b ∷ xs) h f =
     (suc b ∷ i.0, ap (λ (t : List ℕ). suc b ∷ t) i.1)
 
 pub drop_more : (m n : ℕ) (xs : List ℕ) → drop n (drop m xs) ≡ drop (m + n) xs
-drop_more zero n xs = ap (λ (k : ℕ). drop k xs) (let e : n ≡ 0 + n = omega arith in e)
-drop_more (suc m) n [] = drop-nil {A = ℕ} n ∙ sym (drop-nil {A = ℕ} (suc m + n))
-drop_more (suc m) n (b ∷ xs) = drop_more m n xs ∙ ap (λ (k : ℕ). drop k (b ∷ xs)) (let e : suc (m + n) ≡ suc m + n = omega arith in e)
+drop_more m n xs = grind (arith, common_steps)
 
 -- a name at a later offset is a suffix of one at an earlier offset in the same string
 pub text_ends : (section : List ℕ) (start off : ℕ) → start ≤ off → off ≤ length section → ((k : ℕ) → start ≤ k → k < off → get_or section k 0 ≢ 0) → Ends (text_from section off) (text_from section start)
 text_ends section start off low high f =
     let rest = before_from (off - start) (drop start section) (let long = length-drop start section in omega (arith, long))
     (λ k h e. f (start + k) (omega arith) (omega (arith, h)) (sym (get_or-drop start section k 0) ∙ e)) in
-    subst (λ (t : List ℕ). Ends (before_nul t) (text_from section start))
-    (drop_more start (off - start) section ∙ ap (λ (n : ℕ). drop n section) (let e : start + (off - start) ≡ off = omega arith in e)) rest
+    grind (arith, drop_more)
 
 pub text_in_is : (section : List ℕ) (t : SectionText) → t.start ≤ t.end → t.end ≤ length section → text_in section t ≡ take (t.end - t.start) (drop t.start section)
 text_in_is section t low high = grind arith
@@ -65,12 +62,8 @@ any_more P ts t (k, x, inside, is, p) = (k, x, omega (arith, inside, length-appe
 
 pub longest_push : (section slots : List ℕ) (ts : List SectionText) (off : ℕ) (t : SectionText) → LongestTo section slots ts off → get_or section off 0 ≢ 0 → get_or slots off 0 ≢ 0 → t.start ≡ off → off ≤ t.end → t.end < length section → get_or section t.end 0 ≡ 0 → ((k : ℕ) → off ≤ k → k < t.end → get_or section k 0 ≢ 0) → t.key ≡ suffix_key (take (t.end - off) (drop off section)) → t.before ≡ suffix_key (text_before (take (t.end - off) (drop off section))) → LongestTo section slots (ts ++ t ∷ []) (t.end + 1)
 longest_push section slots ts off t to some slot start low high nul before key rest =
-    let cut : text_in section t ≡ take (t.end - off) (drop off section) =
-    text_in_is section t (omega (arith, start, low)) (omega (arith, high)) ∙ ap (λ (n : ℕ). take (t.end - n) (drop n section)) start in
-    let more : off < t.end = elim (cases_eq off t.end) [
-      | inl e ↦ absurd (some (ap (λ (k : ℕ). get_or section k 0) e ∙ nul))
-      | inr n ↦ omega (arith, low, n)
-    ] in
+    let cut : text_in section t ≡ take (t.end - off) (drop off section) = grind arith in
+    let more : off < t.end = grind arith in
     record {
       few = omega (arith, to.few, more, length-append ts (t ∷ []));
       inside = omega (arith, high);

@@ -84,9 +84,7 @@ module _ (words : List ℕ) (n off w : ℕ) (len : length words ≡ n / 64 + 1) 
       ext_get_or 0 (slots_of more n) (set (slots_of words n) off 1) (slots_len more n ∙ sym (length-set (slots_of words n) off 1 ∙ slots_len words n)) (λ i h.
       let below : i < n = omega (arith, h, slots_len more n) in
       slot_at more n i below ∙ elim (cases_eq i off) [
-        | inl e ↦
-            ap (mark_of more) e ∙ mark_set
-            ∙ sym (ap (λ (k : ℕ). get_or (set (slots_of words n) off 1) k 0) e ∙ get_or-set_same (slots_of words n) off 1 0 (omega (arith, inside, slots_len words n)))
+        | inl e ↦ grind (arith, mark_set, get_or-set_same, slots_len)
         | inr d ↦ mark_stays i d ∙ sym (get_or-set_other (slots_of words n) off i 1 0 d ∙ slot_at words n i below)
       ])
 

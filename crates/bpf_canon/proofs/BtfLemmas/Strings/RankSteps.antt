@@ -52,9 +52,7 @@ pub common_here : (f : SectionText → List ℕ) (ts : List SectionText) (k n : 
 common_here f ts zero n e h some same = absurd (some refl)
 common_here f ts (suc k) n e h some same =
     let back : suc k - 1 ≡ k = omega arith in
-    same ∙ ap (λ (m : ℕ). common_tail (f (get_or ts m e)) (f (get_or ts (suc k) e))) back
-    ∙ ap (λ (t : List ℕ). common_tail t (f (get_or ts (suc k) e))) (sym (get_or-map f ts k e [] (omega (arith, h))))
-    ∙ ap (common_tail (at_rank (map f ts) k)) (sym (get_or-map f ts (suc k) e [] h))
+    grind (arith, get_or-map)
 
 pub common_more : (ms : List (List ℕ)) (items : List ℕ) (k n : ℕ) → length items ≡ k → ((j : ℕ) → j < k → get_or items j 0 ≡ common_before ms j) → n ≡ common_before ms k → (j : ℕ) → j < k + 1 → get_or (items ++ n ∷ []) j 0 ≡ common_before ms j
 common_more ms items k n long f here j h = grind (arith, get_or_push, get_or_append_left)
@@ -79,8 +77,7 @@ hosts_step ms hosts k v long h f here j low high = grind (arith, get_or-set_same
 
 -- from the numbers to the host
 common_at : (ms : List (List ℕ)) (j : ℕ) → 0 < j → common_before ms j ≡ common_tail (at_rank ms (j - 1)) (at_rank ms j)
-common_at ms zero h = absurd (omega (arith, h))
-common_at ms (suc j) h = subst (λ (m : ℕ). common_before ms (suc j) ≡ common_tail (at_rank ms m) (at_rank ms (suc j))) (let e : j ≡ suc j - 1 = omega arith in e) refl
+common_at ms j h = grind arith
 
 pub first_rank_is : (ms : List (List ℕ)) (common : List ℕ) (n r k : ℕ) → AreCommon ms common → k < length ms → r ≤ k → ((j : ℕ) → r < j → j ≤ k → n ≤ get_or common j 0) → get_or common r 0 < n → IsFirstRank ms n r k
 first_rank_is ms common n r k are inside before f less = record {

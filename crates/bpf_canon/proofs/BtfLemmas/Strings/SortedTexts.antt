@@ -1,12 +1,12 @@
 -- Texts of a section that are sorted by keys and bytes are sorted by their bytes from the end.
-use Rattle.std.proofs.Common.{◌≡◌, ◌≢◌, ℕ, zero, suc, ◌+◌, ◌*◌, ◌-◌, ◌^◌, ◌<◌, inl, inr, List, [], ◌∷◌, length, map, get_or, take, drop, refl, sym, ap, ◌∙◌, arith}
+use Rattle.std.proofs.Common.{◌≡◌, ◌≢◌, ℕ, zero, suc, ◌+◌, ◌*◌, ◌-◌, ◌^◌, ◌<◌, inl, inr, List, [], ◌∷◌, length, map, get_or, take, drop, sym, ap, ◌∙◌, arith}
 use Rattle.std.specs.{List.All, List.Sorted.IsSorted, List.Sorted.IsSortedBy, Cmp.IsTotalOrder}
 use Rattle.std.specs.Ordering.{is_lt, nat_cmp, ordering_then}
 use Rattle.std.specs.declared.cmp.Ordering.{Ordering, TheVariants.Less, TheVariants.Equal, TheVariants.Greater}
 use Rattle.std.proofs.lemmas.{Bool.cases_eq, Bool.cases_lt, List.get_or-map, List.length-map}
 use Rattle.std.proofs.lemmas.Cmp.{nat_cmp_total, tied_itself, on_total, then_total, ranked}
 use Rattle.btf_types.specs.strings.SharedNames.{tail_cmp}
-use Rattle.btf_types.proofs.StringLemmas.Hosts.{tail_lt, tail_total}
+use Rattle.btf_types.proofs.StringLemmas.Hosts.{tail_total}
 use Rattle.bpf_canon.specs.{btf.strings.SuffixKeys.suffix_key, declared.btf.strings.section_texts.SectionText.SectionText}
 use Rattle.bpf_canon.specs.btf.strings.SectionTexts.{start_in, text_in, text_before, HasKey, compared}
 use Rattle.bpf_canon.proofs.BtfLemmas.Strings.SuffixKeys.{Bytes, bytes_from, less, greater, key_none, key_apart, key_alike, key_ends}
@@ -30,9 +30,7 @@ pub text_bytes : (section : List ℕ) (t : SectionText) → ((i : ℕ) → get_o
 text_bytes section t p = bytes_at (text_in section t) (bytes_take _ _ (bytes_drop (start_in section t) section (bytes_from section p)))
 
 apart_then : (o s : Ordering) → o ≢ Equal → ordering_then o s ≡ o
-apart_then Less s n = refl
-apart_then Equal s n = absurd (n refl)
-apart_then Greater s n = refl
+apart_then o s n = grind arith
 
 tied_same : (a b : ℕ) → nat_cmp a b ≡ Equal → a ≡ b
 tied_same a b e = ranked a b Equal (sym e)
@@ -101,9 +99,7 @@ sorted_texts section ts p keys up k d low h =
     let a = get_or ts k e in
     let b = get_or ts (k + 1) e in
     let same = compared_as_texts section b a p (keys (k + 1) e inside) (keys k e (omega (arith, inside))) in
-    ap (λ (t : List ℕ). tail_lt t (get_or (map (text_in section) ts) k d)) (get_or-map (text_in section) ts (k + 1) e d inside)
-    ∙ ap (tail_lt (text_in section b)) (get_or-map (text_in section) ts k e d (omega (arith, inside)))
-    ∙ ap is_lt (sym same) ∙ up k e low inside
+    grind (arith, get_or-map)
 
 -- what the search cites of the keys of two strings
 pub ruleset key_cases = (keys_apart, keys_alike)

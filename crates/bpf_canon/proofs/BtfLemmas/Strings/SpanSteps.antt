@@ -1,18 +1,16 @@
 -- Steps that append a string to the spans of a section.
 use Rattle.std.proofs.Common.{◌≡◌, ℕ, zero, suc, ◌+◌, ◌-◌, List, [], ◌∷◌, ◌++◌, length, get_or, set, take, drop, sym, ap, ◌∙◌, subst, arith, append_assoc}
+use Rattle.std.proofs.lemmas.Grind.{common_steps}
 use Rattle.std.specs.List.{All, flat_map}
 use Rattle.std.proofs.Math.Seq.{take-add}
-use Rattle.std.proofs.lemmas.List.{append-nil, Concat.flat_map-append, Elements.All-append, Elements.All-cons, Elements.All-nil, Elements.All-set}
+use Rattle.std.proofs.lemmas.List.{append-nil, Elements.All-set}
 use Rattle.bpf_canon.specs.btf.strings.HostPlaces.{span_bytes, IsSpan, HasText}
 use Rattle.bpf_canon.specs.declared.btf.strings.host_places.Span.{Span}
 use Rattle.bpf_canon.proofs.BtfLemmas.Strings.LongestSteps.{drop_more}
 
 -- a span more
 pub span_pushed : (section : List ℕ) (old new : List Span) (s : Span) → new ≡ old ++ s ∷ [] → All (IsSpan section) old → IsSpan section s → HasText section old new s
-span_pushed section old new s e all is = record {
-  are_spans = subst (All (IsSpan section)) (sym e) (All-append (IsSpan section) old (s ∷ []) all (All-cons (IsSpan section) s [] is (All-nil (IsSpan section))));
-  bytes = ap (flat_map (span_bytes section)) e ∙ flat_map-append (span_bytes section) old (s ∷ []) ∙ ap (λ (t : List ℕ). flat_map (span_bytes section) old ++ t) (append-nil (span_bytes section s));
-}
+span_pushed section old new s e all is = grind (arith, common_steps)
 
 -- the last of some spans, replaced
 last_set : (f : Span → List ℕ) (old : List Span) (k : ℕ) (d s : Span) (more : List ℕ) → suc k ≡ length old → f s ≡ f (get_or old k d) ++ more → flat_map f (set old k s) ≡ flat_map f old ++ more

@@ -1,5 +1,6 @@
 -- Keys of strings compare as their suffixes.
 use Rattle.std.proofs.Common.{◌≡◌, ◌≢◌, ℕ, zero, suc, ◌+◌, ◌*◌, ◌^◌, ◌<◌, ◌≤◌, ◌⊎◌, inl, inr, List, [], ◌∷◌, ◌++◌, length, get_or, take, drop, refl, sym, ap, ◌∙◌, subst, arith, take-append-drop, replicate}
+use Rattle.std.proofs.lemmas.Grind.{common_steps}
 use Rattle.std.specs.Prelude.{reverse, nat_lt, ◌==◌}
 use Rattle.std.specs.{Int.w64, Int.from_le_bytes, Cmp.Lexicographic.slice_cmp, Ordering.nat_cmp, Ordering.ordering_then, Ordering.ordering_reverse}
 use Rattle.std.specs.declared.cmp.Ordering.{Ordering, TheVariants.Less, TheVariants.Equal, TheVariants.Greater}
@@ -113,19 +114,10 @@ key_padded (suc n) m (b ∷ x) = ap (λ (k : ℕ). b * 256 ^ n + k) (key_padded 
 -- eight bytes as a number
 eight_key : (l : List ℕ) → length l ≡ 8 → from_le_bytes w64 l ≡ front_key 8 (reverse l)
 eight_key (a ∷ b ∷ c ∷ d ∷ e ∷ f ∷ g ∷ h ∷ []) n = omega arith
-eight_key [] n = absurd (omega (arith, n))
-eight_key (a ∷ []) n = absurd (omega (arith, n))
-eight_key (a ∷ b ∷ []) n = absurd (omega (arith, n))
-eight_key (a ∷ b ∷ c ∷ []) n = absurd (omega (arith, n))
-eight_key (a ∷ b ∷ c ∷ d ∷ []) n = absurd (omega (arith, n))
-eight_key (a ∷ b ∷ c ∷ d ∷ e ∷ []) n = absurd (omega (arith, n))
-eight_key (a ∷ b ∷ c ∷ d ∷ e ∷ f ∷ []) n = absurd (omega (arith, n))
-eight_key (a ∷ b ∷ c ∷ d ∷ e ∷ f ∷ g ∷ []) n = absurd (omega (arith, n))
-eight_key (a ∷ b ∷ c ∷ d ∷ e ∷ f ∷ g ∷ h ∷ i ∷ l) n = absurd (omega (arith, n))
+eight_key l n = cc
 
 zeros_more : (m : ℕ) (zeros : List ℕ) → zeros ≡ replicate m 0 → zeros ++ 0 ∷ [] ≡ 0 ∷ replicate m 0
-zeros_more zero zeros e = ap (λ (t : List ℕ). t ++ 0 ∷ []) e
-zeros_more (suc m) zeros e = ap (λ (t : List ℕ). t ++ 0 ∷ []) e ∙ ap (λ (t : List ℕ). 0 ∷ t) (zeros_more m (replicate m 0) refl)
+zeros_more m zeros e = grind (arith, common_steps)
 
 zeros_turned : (m : ℕ) (zeros : List ℕ) → zeros ≡ replicate m 0 → reverse zeros ≡ replicate m 0
 zeros_turned zero zeros e = ap (λ (t : List ℕ). reverse t) e
@@ -142,10 +134,7 @@ key_of_long x n e =
 
 pub key_of_short : (x : List ℕ) (n : ℕ) → length x + n ≡ 8 → from_le_bytes w64 (replicate n 0 ++ x) ≡ suffix_key x
 unfolding suffix_key
-key_of_short x n e =
-    eight_key (replicate n 0 ++ x) (length-append (replicate n 0) x ∙ (let zeros : length {A = ℕ} (replicate n 0) ≡ n = length-replicate n 0 in omega (arith, e, zeros)))
-    ∙ ap (front_key 8) (reverse-append (replicate n 0) x ∙ ap (λ (t : List ℕ). reverse x ++ t) (zeros_turned n (replicate n 0) refl))
-    ∙ key_padded 8 n (reverse x)
+key_of_short x n e = grind (arith, eight_key, length-append, length-replicate, reverse-append, zeros_turned)
 
 -- from keys to strings
 pub key_apart : (x y : List ℕ) → ((i : ℕ) → get_or x i 0 < 256) → ((i : ℕ) → get_or y i 0 < 256) → suffix_key x ≢ suffix_key y → nat_cmp (suffix_key x) (suffix_key y) ≡ tail_cmp x y
@@ -186,20 +175,11 @@ key_none x n e = ap (λ (k : ℕ). front_key 8 (reverse (take k x))) e
 
 pub key_of_none : (x : List ℕ) → length x ≡ 0 → suffix_key x ≡ 0
 unfolding suffix_key
-key_of_none [] e = refl
-key_of_none (b ∷ x) e = absurd (omega (arith, e))
+key_of_none x e = grind (arith, common_steps)
 
 -- the key of the bytes from the end, one by one
 pub key_by_bytes : (y : List ℕ) → get_or y 7 0 + get_or y 6 0 * 256 + get_or y 5 0 * 65536 + get_or y 4 0 * 16777216 + get_or y 3 0 * 4294967296 + get_or y 2 0 * 1099511627776 + get_or y 1 0 * 281474976710656 + get_or y 0 0 * 72057594037927936 ≡ front_key 8 y
-key_by_bytes [] = omega arith
-key_by_bytes (a ∷ []) = omega arith
-key_by_bytes (a ∷ b ∷ []) = omega arith
-key_by_bytes (a ∷ b ∷ c ∷ []) = omega arith
-key_by_bytes (a ∷ b ∷ c ∷ d ∷ []) = omega arith
-key_by_bytes (a ∷ b ∷ c ∷ d ∷ e ∷ []) = omega arith
-key_by_bytes (a ∷ b ∷ c ∷ d ∷ e ∷ f ∷ []) = omega arith
-key_by_bytes (a ∷ b ∷ c ∷ d ∷ e ∷ f ∷ g ∷ []) = omega arith
-key_by_bytes (a ∷ b ∷ c ∷ d ∷ e ∷ f ∷ g ∷ h ∷ l) = omega arith
+key_by_bytes y = grind arith
 
 pub key_from_bytes : (x : List ℕ) (k : ℕ) → k ≡ get_or (reverse x) 7 0 + get_or (reverse x) 6 0 * 256 + get_or (reverse x) 5 0 * 65536 + get_or (reverse x) 4 0 * 16777216 + get_or (reverse x) 3 0 * 4294967296 + get_or (reverse x) 2 0 * 1099511627776 + get_or (reverse x) 1 0 * 281474976710656 + get_or (reverse x) 0 0 * 72057594037927936 → k ≡ suffix_key x
 unfolding suffix_key

@@ -18,8 +18,7 @@ pub span_of : (section : List ℕ) (off n : ℕ) → HasNulEnds section → off 
 span_of section off n ends inside n_is =
     let x = text_from section off in
     let text = text_there section off ends inside in
-    let rest : drop off section ≡ x ++ 0 ∷ text.after =
-    ap (drop off) (text.is_there ∙ append_assoc text.before x (0 ∷ text.after)) ∙ ap (λ (k : ℕ). drop k (text.before ++ (x ++ 0 ∷ text.after))) (sym text.place) ∙ drop-append_seam text.before (x ++ 0 ∷ text.after) in
+    let rest : drop off section ≡ x ++ 0 ∷ text.after = grind (arith, append_assoc, drop-append_seam) in
     let long : length x + suc (length text.after) ≡ length section - off = sym (length-append x (0 ∷ text.after)) ∙ ap (λ (l : List ℕ). length l) (sym rest) ∙ length-drop off section in
     record {
       span = record { up = omega arith; inside = omega (arith, n_is, long, inside) };

@@ -1,5 +1,5 @@
 -- The names of records are the strings at the offsets in their frames.
-use Rattle.std.proofs.Common.{◌≡◌, ℕ, zero, suc, ◌+◌, ◌*◌, ◌<◌, Bool, true, false, List, [], ◌∷◌, ◌++◌, length, map, get_or, refl, sym, ap, ◌∙◌, subst, inl, inr, arith, rules}
+use Rattle.std.proofs.Common.{◌≡◌, ℕ, zero, suc, ◌+◌, ◌*◌, ◌<◌, Bool, true, false, List, [], ◌∷◌, ◌++◌, length, map, get_or, refl, sym, ap, ◌∙◌, subst, arith, rules}
 use Rattle.std.specs.Prelude.{slice_index, ◌==◌, if◌then◌else◌}
 use Rattle.std.specs.List.{All, AllZip, filter}
 use Rattle.std.proofs.lemmas.List.{map-append, Elements.All-head, Elements.All-tail, Elements.filter-append}
@@ -10,9 +10,9 @@ use Rattle.btf_raw.proofs.Texts.{TextAt-unique, TextAt-inside}
 use Rattle.btf_types.specs.{Values.TypeRecord, Spelling.Spells}
 use Rattle.btf_types.specs.Names.{head_name, item_name, record_names, names, is_other, distinct, is_some_text, kept}
 use Rattle.btf_types.specs.Reading.{text_from, item_from, item_total, record_of, frame_at, frames_at, tabulate}
-use Rattle.btf_types.proofs.KindCases.{KindIs, IsStruct, IsUnion, IsEnum, IsFuncProto, IsEnum64}
+use Rattle.btf_types.proofs.KindCases.{KindIs}
 use Rattle.btf_types.proofs.{FaultlessLemmas.FaultlessWords.known, Lists.length-tabulate, Lists.get_or-tabulate}
-use Rattle.btf_types.proofs.TableLemmas.TextSteps.{text_there, decided}
+use Rattle.btf_types.proofs.TableLemmas.TextSteps.{text_there}
 use Rattle.bpf_canon.specs.btf.write.NameOffsets.{item_word, name_offsets, all_offsets, HasNamedItems}
 use Rattle.bpf_canon.proofs.BtfLemmas.CanonicalSpells.{All-front, All-back}
 
@@ -39,8 +39,7 @@ map-tabulate g f zero = refl
 map-tabulate g f (suc n) = map-append g (tabulate f n) (f n ∷ []) ∙ ap (λ t. t ++ g (f n) ∷ []) (map-tabulate g f n)
 
 tabulate-same : {X : Type 0} (f g : ℕ → X) (n : ℕ) → ((k : ℕ) → f k ≡ g k) → tabulate f n ≡ tabulate g n
-tabulate-same f g zero each = refl
-tabulate-same f g (suc n) each = rw (tabulate-same f g n each, each n) refl
+tabulate-same f g n each = grind arith
 
 none_kept : (n : ℕ) → filter is_some_text (tabulate (λ k. []) n) ≡ []
 none_kept zero = refl
@@ -49,30 +48,15 @@ none_kept (suc n) = filter-append is_some_text (tabulate (λ k. []) n) ([] ∷ [
 -- the name of an item is the string at its name_off, if its kind has names; a list of these kinds has vlen items
 item_named : {k : ℕ} → KindIs k → (name : List ℕ) (flag a b c : ℕ) → has_item_names k ≡ true → item_name (item_from name k flag a b c) ≡ name
 unfolding has_item_names item_from
-item_named IsStruct name flag a b c has = refl
-item_named IsUnion name flag a b c has = refl
-item_named IsEnum name flag a b c has = refl
-item_named IsFuncProto name flag a b c has = refl
-item_named IsEnum64 name flag a b c has = refl
-item_named other name flag a b c has = absurd cc
+item_named kind_is name flag a b c has = grind arith
 
 item_nameless : {k : ℕ} → KindIs k → (name : List ℕ) (flag a b c : ℕ) → has_item_names k ≡ false → item_name (item_from name k flag a b c) ≡ []
 unfolding has_item_names item_from
-item_nameless IsStruct name flag a b c none = absurd cc
-item_nameless IsUnion name flag a b c none = absurd cc
-item_nameless IsEnum name flag a b c none = absurd cc
-item_nameless IsFuncProto name flag a b c none = absurd cc
-item_nameless IsEnum64 name flag a b c none = absurd cc
-item_nameless other name flag a b c none = refl
+item_nameless kind_is name flag a b c none = grind arith
 
 named_words : {k : ℕ} → KindIs k → has_item_names k ≡ true → (item_words k == 0) ≡ false
 unfolding has_item_names item_words
-named_words IsStruct has = refl
-named_words IsUnion has = refl
-named_words IsEnum has = refl
-named_words IsFuncProto has = refl
-named_words IsEnum64 has = refl
-named_words other has = absurd cc
+named_words kind_is has = grind arith
 
 pub named_total : (f : List ℕ) → IsFrame f → has_item_names (kind f) ≡ true → item_total f ≡ vlen f
 named_total f is has = rw (named_words (known f is) has) refl
@@ -91,8 +75,7 @@ item_names_none : (strings f : List ℕ) → IsFrame f → has_item_names (kind 
 item_names_none strings f is none = search (rules, map-tabulate, item_nameless, known, none_kept)
 
 some_more : (x : List ℕ) (xs ys : List (List ℕ)) → filter is_some_text xs ≡ filter is_some_text ys → filter is_some_text (x ∷ xs) ≡ filter is_some_text (x ∷ ys)
-some_more [] xs ys e = e
-some_more (b ∷ x) xs ys e = ap (λ (t : List (List ℕ)). (b ∷ x) ∷ t) e
+some_more x xs ys e = cc
 
 record_texts : (strings f : List ℕ) → HasNulEnds strings → IsFrame f → Spells strings (record_of strings f) f
     → filter is_some_text (map (text_from strings) (name_offsets f)) ≡ filter is_some_text (record_names (record_of strings f))
@@ -100,11 +83,7 @@ record_texts strings f ends is s =
     let r = record_of strings f in
     let own = text_from strings (name_word f) in
     let offsets : List ℕ = if has_item_names (kind f) then tabulate (item_word f) (vlen f) else [] in
-    let rest : filter is_some_text (map (text_from strings) offsets) ≡ filter is_some_text (map item_name r.items) =
-    elim (decided (has_item_names (kind f))) [
-      | inl has ↦ rw has (ap (filter is_some_text) (sym (item_names_are strings f is has)))
-      | inr none ↦ rw none (sym (item_names_none strings f is none))
-    ] in
+    let rest : filter is_some_text (map (text_from strings) offsets) ≡ filter is_some_text (map item_name r.items) = grind (arith, item_names_are, item_names_none) in
     some_more own (map (text_from strings) offsets) (map item_name r.items) rest ∙ ap (λ (x : List ℕ). filter is_some_text (x ∷ map item_name r.items)) (sym (head_name_is strings r f ends s))
 
 -- ---- the names of all
@@ -117,9 +96,7 @@ all_texts strings (f ∷ frames) ends is s =
     let v = map (record_of strings) frames in
     let one = record_texts strings f ends (All-head IsFrame f frames is) s.0 in
     let rest = all_texts strings frames ends (All-tail IsFrame f frames is) s.1 in
-    ap (filter is_some_text) (map-append (text_from strings) (name_offsets f) (all_offsets frames))
-    ∙ filter-append is_some_text (map (text_from strings) (name_offsets f)) (map (text_from strings) (all_offsets frames))
-    ∙ rw (one, rest) (sym (filter-append is_some_text (record_names r) (names v)))
+    grind (arith, map-append, filter-append)
 
 pub kept_at_offsets : (strings : List ℕ) (frames : List (List ℕ)) → HasNulEnds strings → All IsFrame frames → AllZip (Spells strings) (map (record_of strings) frames) frames
     → kept (map (text_from strings) (all_offsets frames)) ≡ kept (names (map (record_of strings) frames))

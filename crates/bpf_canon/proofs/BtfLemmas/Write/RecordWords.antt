@@ -1,17 +1,18 @@
 -- The 32-bit words of a record, from those of its frame.
-use Rattle.std.proofs.Common.{◌≡◌, ◌≢◌, ◌⊎◌, ℕ, zero, suc, ◌+◌, ◌*◌, ◌/◌, ◌%◌, ◌^◌, ◌<◌, ◌≤◌, Bool, true, false, not, List, [], ◌∷◌, ◌++◌, length, map, take, drop, get_or, refl, sym, ap, subst, ◌∙◌, inl, inr, append-nil, arith}
+use Rattle.std.proofs.Common.{◌≡◌, ◌≢◌, ◌⊎◌, ℕ, zero, suc, ◌+◌, ◌*◌, ◌/◌, ◌%◌, ◌^◌, ◌<◌, ◌≤◌, Bool, true, false, not, List, [], ◌∷◌, ◌++◌, length, map, take, drop, get_or, refl, sym, ap, ◌∙◌, inl, inr, append-nil, arith, rules}
+use Rattle.std.proofs.lemmas.Grind.{common_steps}
 use Rattle.std.specs.Prelude.{slice_index, ◌==◌, ◌||◌, if◌then◌else◌, ⊤}
 use Rattle.std.specs.List.{All, AllZip, concat, flat_map, list_any}
-use Rattle.std.proofs.{lemmas.Bool.cases_eq, lemmas.Bool.ne_eqb, lemmas.Bool.or_left, lemmas.Bool.or_right, Math.Seq.take-suc}
+use Rattle.std.proofs.{lemmas.Bool.cases_eq, lemmas.Bool.ne_eqb, lemmas.Bool.or_left, lemmas.Bool.or_right}
 use Rattle.std.proofs.lemmas.List.{get_or-drop, length-drop, map-append, map_more, Concat.flat_map-append, Elements.All-head, Elements.All-tail, Folds.list_any-append}
 use Rattle.bpf_words.specs.{declared.Order.Order, Words.word32}
 use Rattle.btf_raw.specs.{Header.HasNulEnds, Heads.bit, Kinds.item_words, Kinds.kind_of, Kinds.flag_of, Kinds.has_item_names, Kinds.is_struct}
 use Rattle.btf_raw.specs.Frames.{IsFrame, info_word, third_word, name_word, kind, vlen, flag, bytes_of, section_of}
-use Rattle.btf_types.specs.Values.{TypeHead, KStruct, KUnion, TypeItem, Entry, TypeRecord}
+use Rattle.btf_types.specs.Values.{TypeHead, TypeItem, Entry, TypeRecord}
 use Rattle.btf_types.specs.{Names.head_name, judge.RecordFaults.BitFieldsAre, Good.has_width, Good.has_bit_fields}
 use Rattle.btf_types.specs.Spelling.{kind_number, head_third, head_tail, FlagSpells, record_vlen, info, ItemSpells, Spells}
 use Rattle.btf_types.specs.Reading.{text_from, head_from, item_from, item_of, item_total, record_of, frame_at, frames_at, records_at, tabulate}
-use Rattle.btf_types.proofs.KindCases.{KindIs, IsStruct, IsUnion, IsEnum, IsFuncProto, IsEnum64}
+use Rattle.btf_types.proofs.KindCases.{KindIs}
 use Rattle.btf_types.proofs.FaultlessLemmas.{FaultlessRecords.bit_fields_there, FaultlessWords.known, FaultlessWords.room}
 use Rattle.btf_types.proofs.Spelled.{info_parts, InfoParts, kind_below, vlen_below, flag_below}
 use Rattle.btf_types.proofs.{TableLemmas.TableReads.count_there, TableLemmas.TextSteps.decided, TabulateSteps.All-tabulate}
@@ -40,21 +41,15 @@ none_here p f (suc n) each = any_later p f n ∙ rw (none_here p f n each, each 
 
 wide_member : {k : ℕ} → KindIs k → (name : List ℕ) (flag a b c : ℕ) → is_struct k ≡ true → flag ≢ 0 → has_width (item_from name k flag a b c) ≡ not (c / 2 ^ 24 == 0)
 unfolding item_from
-wide_member IsStruct name flag a b c is some = rw (ne_eqb flag 0 some) refl
-wide_member IsUnion name flag a b c is some = rw (ne_eqb flag 0 some) refl
-wide_member other name flag a b c is some = absurd cc
+wide_member kind_is name flag a b c is some = grind arith
 
 plain_item : {k : ℕ} → KindIs k → (name : List ℕ) (flag a b c : ℕ) → flag ≡ 0 → has_width (item_from name k flag a b c) ≡ false
 unfolding item_from
-plain_item IsStruct name flag a b c none = rw none refl
-plain_item IsUnion name flag a b c none = rw none refl
-plain_item other name flag a b c none = refl
+plain_item kind_is name flag a b c none = grind arith
 
 struct_words : {k : ℕ} → KindIs k → is_struct k ≡ true → item_words k ≡ 3
 unfolding item_words
-struct_words IsStruct is = refl
-struct_words IsUnion is = refl
-struct_words other is = absurd cc
+struct_words kind_is is = grind arith
 
 module _ (strings f : List ℕ) (frame : IsFrame f) where
   unmarked : (n : ℕ) → flag f ≡ 0 → list_any has_width (tabulate (item_in strings f) n) ≡ false
@@ -75,21 +70,16 @@ bit_fields_same strings f true frame is some are =
     let found = are.some refl in
     let at : found.0 ≡ 5 + 3 * found.1.1 = found.1.2.1 ∙ rw (struct_words (known f frame) is) (omega arith) in
     let wide : slice_index f found.0 / 2 ^ 24 ≢ 0 = rw (ne_eqb (flag f) 0 some) at found.2 in
-    ap (λ (n : ℕ). list_any has_width (tabulate (item_in strings f) n)) (struct_total f frame is)
-    ∙ width_found strings f frame found.1.1 (vlen f) is some found.1.2.0 (subst (λ (j : ℕ). slice_index f j / 2 ^ 24 ≢ 0) at wide)
+    grind (arith, struct_total, width_found)
 bit_fields_same strings f false frame is some are = grind (arith, bit_fields_there)
 
 -- ---- info
 
 struct_flag : (h : TypeHead) (b : Bool) → is_struct (kind_number h) ≡ true → canonical_flag h b ≡ bit b
-struct_flag (KStruct name size) b is = refl
-struct_flag (KUnion name size) b is = refl
-struct_flag h b is = absurd cc
+struct_flag h b is = grind arith
 
 other_flag : (h : TypeHead) (flag : ℕ) (b : Bool) → FlagSpells h flag → is_struct (kind_number h) ≡ false → canonical_flag h b ≡ flag
-other_flag (KStruct name size) marked b e other = absurd cc
-other_flag (KUnion name size) marked b e other = absurd cc
-other_flag h marked b e other = sym e
+other_flag h marked b e other = grind arith
 
 cleared : (k v marked : ℕ) → k < 2 ^ 5 → v < 2 ^ 16 → marked ≡ 1 → info k v marked % 2 ^ 31 ≡ info k v 0
 cleared k v marked hk hv one = omega arith
@@ -153,12 +143,7 @@ high_half b c h = omega arith
 named_item : {k : ℕ} → KindIs k → (place : List ℕ → ℕ) (name : List ℕ) (flag a b c : ℕ) → has_item_names k ≡ true → b < 2 ^ 32
     → words_of place (item_from name k flag a b c) ≡ take (item_words k) (place name ∷ b ∷ c ∷ [])
 unfolding has_item_names item_words item_from
-named_item IsStruct place name flag a b c has low = ap (λ (w : ℕ). place name ∷ b ∷ w ∷ []) (member_offset flag c)
-named_item IsUnion place name flag a b c has low = ap (λ (w : ℕ). place name ∷ b ∷ w ∷ []) (member_offset flag c)
-named_item IsEnum place name flag a b c has low = refl
-named_item IsFuncProto place name flag a b c has low = refl
-named_item IsEnum64 place name flag a b c has low = rw (low_half b c low, high_half b c low) refl
-named_item other place name flag a b c has low = absurd cc
+named_item kind_is place name flag a b c has low = grind arith
 
 -- the bytes of one item more
 item_more : (o : Order) (old : List ℕ) (place : List ℕ → ℕ) (item : ℕ → TypeItem) (k : ℕ) (ws : List ℕ) → words_of place (item k) ≡ ws
@@ -189,16 +174,10 @@ IsEntry _ = ⊥
 
 entry_read : {k : ℕ} → KindIs k → (name : List ℕ) (flag a b c : ℕ) → has_item_names k ≡ false → IsEntry (item_from name k flag a b c)
 unfolding has_item_names item_from
-entry_read IsStruct name flag a b c none = absurd cc
-entry_read IsUnion name flag a b c none = absurd cc
-entry_read IsEnum name flag a b c none = absurd cc
-entry_read IsFuncProto name flag a b c none = absurd cc
-entry_read IsEnum64 name flag a b c none = absurd cc
-entry_read other name flag a b c none = tt
+entry_read kind_is name flag a b c none = grind arith
 
 entry_words : (place : List ℕ → ℕ) (strings : List ℕ) (flag : ℕ) (x : TypeItem) (ws : List ℕ) → IsEntry x → ItemSpells strings flag x ws → ws ≡ words_of place x
-entry_words place strings flag (Entry target offset size) ws is s = s
-entry_words place strings flag x ws is s = absurd is
+entry_words place strings flag x ws is s = grind arith
 
 entries_words : (place : List ℕ → ℕ) (strings : List ℕ) (flag : ℕ) (xs : List TypeItem) (wss : List (List ℕ)) → All IsEntry xs → AllZip (ItemSpells strings flag) xs wss
     → concat wss ≡ flat_map (words_of place) xs
@@ -220,21 +199,13 @@ rest_more o old f k w low is =
     let next : k + 1 ≡ suc k = omega arith in
     let inside : k < length (drop 3 f) = omega (arith, length-drop 3 f) in
     let here : w ≡ get_or (drop 3 f) k 0 = is ∙ sym (get_or-drop 3 f k 0) in
-    rw here (
-    ap (λ (t : List ℕ). (old ++ bytes_of o (take k (drop 3 f))) ++ t) (sym (append-nil (word32 o (get_or (drop 3 f) k 0))))
-    ∙ pushed_two o old (take k (drop 3 f)) (get_or (drop 3 f) k 0 ∷ [])
-    ∙ ap (λ (t : List ℕ). old ++ bytes_of o t) (rw next (sym (take-suc (drop 3 f) k 0 inside))))
+    grind (arith, common_steps)
 
 -- ---- a record
 
 no_tail : {k : ℕ} → KindIs k → (name : List ℕ) (third flag vlen next fourth fifth : ℕ) → has_item_names k ≡ true → head_tail (head_from name k third flag vlen next fourth fifth) ≡ []
 unfolding has_item_names head_from
-no_tail IsStruct name third flag vlen next fourth fifth has = refl
-no_tail IsUnion name third flag vlen next fourth fifth has = refl
-no_tail IsEnum name third flag vlen next fourth fifth has = refl
-no_tail IsFuncProto name third flag vlen next fourth fifth has = refl
-no_tail IsEnum64 name third flag vlen next fourth fifth has = refl
-no_tail other name third flag vlen next fourth fifth has = absurd cc
+no_tail kind_is name third flag vlen next fourth fifth has = search rules
 
 pub items_are_tail : (place : List ℕ → ℕ) (strings f : List ℕ) → IsFrame f → has_item_names (kind f) ≡ true
     → record_items place (record_of strings f) ≡ record_tail place (record_of strings f)
@@ -248,10 +219,7 @@ record_pushed o old place strings f at info third ends s ate ie te =
     let r = record_of strings f in
     let name : at ≡ place (head_name r.head) = ate ∙ ap place (sym (head_name_is strings r f ends s)) in
     let size : third ≡ head_third r.head = te ∙ ap (λ (t : List ℕ). slice_index t 2) s.whole in
-    pushed_two o old (at ∷ info ∷ third ∷ []) (record_tail place r)
-    ∙ ap (λ (w : ℕ). old ++ bytes_of o (w ∷ info ∷ third ∷ record_tail place r)) name
-    ∙ ap (λ (w : ℕ). old ++ bytes_of o (place (head_name r.head) ∷ w ∷ third ∷ record_tail place r)) ie
-    ∙ ap (λ (w : ℕ). old ++ bytes_of o (place (head_name r.head) ∷ record_info r ∷ w ∷ record_tail place r)) size
+    grind (arith, common_steps)
 
 -- ---- all records
 
@@ -262,8 +230,7 @@ record_more from to place types strings places i low =
     let words : List (List ℕ) → List (List ℕ) = λ frames. map (record_words place) (map (record_of strings) frames) in
     let before = frames_at from types (take i places) in
     let frame = frame_at from types (get_or places i 0) in
-    let more : words (before ++ frame ∷ []) ≡ words before ++ record_words place (record_of strings frame) ∷ [] =
-    ap (map (record_words place)) (map-append (record_of strings) before (frame ∷ [])) ∙ map-append (record_words place) (map (record_of strings) before) (record_of strings frame ∷ []) in
+    let more : words (before ++ frame ∷ []) ≡ words before ++ record_words place (record_of strings frame) ∷ [] = grind (arith, map-append) in
     sym (ap (λ (frames : List (List ℕ)). section_of to (words frames)) (map_more (frame_at from types) places i 0 low) ∙ ap (section_of to) more
     ∙ flat_map-append (bytes_of to) (words before) (record_words place (record_of strings frame) ∷ [])
     ∙ ap (λ (t : List ℕ). section_of to (words before) ++ t) (append-nil (bytes_of to (record_words place (record_of strings frame)))))
@@ -272,20 +239,14 @@ record_more from to place types strings places i low =
 
 two_or_three_words : {k : ℕ} → KindIs k → has_item_names k ≡ true → (item_words k ≡ 2) ⊎ (item_words k ≡ 3)
 unfolding has_item_names item_words
-two_or_three_words IsStruct has = inr refl
-two_or_three_words IsUnion has = inr refl
-two_or_three_words IsEnum has = inl refl
-two_or_three_words IsFuncProto has = inl refl
-two_or_three_words IsEnum64 has = inr refl
-two_or_three_words other has = absurd cc
+two_or_three_words kind_is has = grind arith
 
 pub item_size : (f : List ℕ) (size count : ℕ) → IsFrame f → HasNamedItems f size count → (size ≡ 2) ⊎ (size ≡ 3)
 item_size f size count frame items = elim (two_or_three_words (known f frame) items.named) [ inl two ↦ inl (sym items.words ∙ two) | inr three ↦ inr (sym items.words ∙ three) ]
 
 -- items are few and short, so that each begins at a small number
 pub item_begins : (size k : ℕ) → (size ≡ 2) ⊎ (size ≡ 3) → k < 2 ^ 16 → 3 + size * k < 2 ^ 20
-item_begins size k (inl two) low = rw two (omega arith)
-item_begins size k (inr three) low = rw three (omega arith)
+item_begins size k few low = grind arith
 
 pub item_room : (f : List ℕ) (size count k : ℕ) → IsFrame f → HasNamedItems f size count → k < count → (2 ≤ size) × (3 + size * k + size ≤ length f)
 item_room f size count k frame items low = grind (arith, room, (item_size f size count frame items))

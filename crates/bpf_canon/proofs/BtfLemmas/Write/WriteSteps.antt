@@ -5,7 +5,7 @@ use Rattle.std.specs.{Prelude.slice_get, List.flat_map, List.list_any}
 use Rattle.std.proofs.lemmas.{List.map-append, List.append-nil, List.Concat.flat_map-append, List.Folds.list_any-append}
 use Rattle.bpf_words.specs.{declared.Order.Order, Words.word32}
 use Rattle.btf_raw.specs.{Header.header, Header.TYPES_LIMIT, Frames.bytes_of, Frames.section_of}
-use Rattle.btf_types.specs.Values.{TypeHead, KFunc, TypeItem, Member, EnumValue, Value64, Param, Entry, TypeRecord}
+use Rattle.btf_types.specs.Values.{TypeHead, TypeItem, TypeRecord}
 use Rattle.btf_types.specs.{Names.names, Names.kept, Names.table_of, judge.Checks.TypeFacts}
 use Rattle.btf_types.specs.strings.SharedNames.{hosts_of, shared_among}
 use Rattle.btf_types.specs.{Spelling.head_third, Spelling.record_vlen, tables.TableWords.record_at, tables.TableWords.no_record}
@@ -29,13 +29,11 @@ item_pushed o old place xs k x e =
     let f = words_of_item place in
     let next : k + 1 ≡ suc k = omega arith in
     let more : take (k + 1) xs ≡ take k xs ++ x ∷ [] = rw next (take_more xs k x e) in
-    let words : flat_map f (take (k + 1) xs) ≡ flat_map f (take k xs) ++ f x =
-    ap (flat_map f) more ∙ flat_map-append f (take k xs) (x ∷ []) ∙ ap (λ (t : List ℕ). flat_map f (take k xs) ++ t) (append-nil (f x)) in
+    let words : flat_map f (take (k + 1) xs) ≡ flat_map f (take k xs) ++ f x = grind (arith, flat_map-append) in
     pushed_two o old (flat_map f (take k xs)) (f x) ∙ ap (λ (t : List ℕ). old ++ bytes_of o t) (sym words)
 
 vlen_is : (h : TypeHead) (xs : List TypeItem) → head_vlen h (length xs) ≡ record_vlen (record { head = h; items = xs })
-vlen_is (KFunc name linkage target) xs = refl
-vlen_is h xs = refl
+vlen_is h xs = cc
 
 pub record_pushed : (o : Order) (old : List ℕ) (place : List ℕ → ℕ) (r : TypeRecord) (count : ℕ) → count ≡ length r.items
     → (old ++ bytes_of o (head_words place r.head count (has_bit_fields r))) ++ bytes_of o (flat_map (words_of_item place) r.items) ≡ old ++ bytes_of o (record_words place r)
@@ -68,11 +66,7 @@ width_missed xs k x e none before =
     ap (list_any has_width) more ∙ list_any-append has_width (take k xs) (x ∷ []) ∙ rw (before, none) refl
 
 member_room : (types : List TypeFacts) (size : ℕ) (b : Bool) (x : TypeItem) → MemberIsGood types size b x → (has_width x ≡ true → b ≡ true) → MemberFits x
-member_room types size b (Member name target bit_offset width) good some = grind arith
-member_room types size b (EnumValue name value) good some = tt
-member_room types size b (Value64 name value) good some = tt
-member_room types size b (Param name target) good some = tt
-member_room types size b (Entry target offset bytes) good some = tt
+member_room types size b x good some = grind arith
 
 pub item_fits : (v : List TypeRecord) (id k : ℕ) (x : TypeItem) → IsGood v → 0 < id → id ≤ length v → slice_get (record_at v id).items k ≡ Some x → MemberFits x
 item_fits v id k x good some low e =
@@ -80,8 +74,7 @@ item_fits v id k x good some low e =
     let right = record_good v id good some low in
     let at = get_or_is r.items k x x e in
     let size = head_third r.head in
-    member_room (facts v) size (has_bit_fields r) x (subst (MemberIsGood (facts v) size (has_bit_fields r)) at.1 (right.members k x at.0))
-    (any_from_Has has_width r.items x (item_in r.items k x e))
+    grind (arith, common_steps)
 
 -- ---- the file
 
