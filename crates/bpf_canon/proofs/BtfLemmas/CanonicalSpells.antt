@@ -1,18 +1,15 @@
 -- The canonical bytes of valid records encode them, with the string table as string section.
-use Rattle.std.proofs.Common.{◌≡◌, ◌≢◌, ℕ, ◌+◌, ◌*◌, ◌^◌, ◌<◌, ◌≤◌, Bool, true, Option, List, [], ◌∷◌, ◌++◌, length, map, refl, ap, lit<, arith, rules}
+use Rattle.std.proofs.Common.{◌≡◌, ℕ, ◌^◌, ◌<◌, ◌≤◌, Bool, true, List, [], ◌∷◌, ◌++◌, length, map, refl, ap, lit<, arith, rules}
 use Rattle.std.proofs.lemmas.Grind.{common_steps}
-use Rattle.std.specs.Prelude.{IsTrue, IfSome, not, ◌==◌}
 use Rattle.std.specs.List.{All, AllZip, concat, flat_map, list_any}
-use Rattle.std.proofs.lemmas.Bool.{ne_eqb, or_left, or_right}
+use Rattle.std.proofs.lemmas.Bool.{or_left, or_right}
 use Rattle.std.proofs.lemmas.List.Elements.{All-nil, All-cons, All-head, All-tail, All-append}
-use Rattle.btf_raw.specs.{Header.STRINGS_LIMIT, Names.NameAt, Heads.bit}
+use Rattle.btf_raw.specs.{Header.STRINGS_LIMIT, Names.NameAt}
 use Rattle.btf_raw.proofs.{Texts.TextAt-inside, Frames.IsWords}
-use Rattle.btf_types.specs.declared.values.Encoding.{Encoding}
-use Rattle.btf_types.specs.declared.values.Linkage.{Linkage}
 use Rattle.btf_types.specs.Values.{TypeHead, KStruct, TypeItem, Member, TypeRecord}
 use Rattle.btf_types.specs.Names.{IsName, head_name, item_name, record_names}
 use Rattle.btf_types.specs.{strings.StringTable.string_table, judge.Checks.TypeFacts}
-use Rattle.btf_types.specs.Spelling.{kind_number, head_third, FlagSpells, linkage_number, encoding_number, component_word, record_vlen, info, head_tail, MemberWord, ItemSpells, Spells, HeadInRange, ItemInRange}
+use Rattle.btf_types.specs.Spelling.{kind_number, head_third, FlagSpells, record_vlen, info, head_tail, ItemSpells, Spells, HeadInRange, ItemInRange}
 use Rattle.btf_types.specs.Good.{ItemOf, has_width, has_bit_fields, MemberIsGood, IsGoodRecord, IsGood}
 use Rattle.btf_types.proofs.{Spelled.kind_below, Spelled.vlen_below, Spelled.flag_below, StringLemmas.TableLaws.shared_places}
 use Rattle.bpf_canon.specs.btf.CanonicalBtf.{canonical_flag, words_of_item, record_words, canonical_frames}
@@ -54,15 +51,6 @@ concat-map f (x ∷ xs) = ap (λ (t : List ℕ). f x ++ t) (concat-map f xs)
 flag_spells : (h : TypeHead) (bit_fields : Bool) → FlagSpells h (canonical_flag h bit_fields)
 flag_spells h bit_fields = grind arith
 
-encoding_below : (e : Encoding) → encoding_number e < 16
-encoding_below e = grind arith
-
-linkage_below : (l : Linkage) → linkage_number l < 2 ^ 32
-linkage_below l = grind arith
-
-component_below : (c : Option ℕ) → IfSome c (λ n. n < 2 ^ 16) → component_word c < 2 ^ 32
-component_below c h = grind arith
-
 pub third_below : (h : TypeHead) → HeadInRange h → head_third h < 2 ^ 32
 third_below h range = grind arith
 
@@ -70,17 +58,6 @@ tail_fits : (h : TypeHead) → HeadInRange h → IsWords (head_tail h)
 tail_fits h range = grind arith
 
 -- ---- an item
-
-not_zero : (w : ℕ) → w ≢ 0 → not (w == 0) ≡ true
-not_zero w some = ap not (ne_eqb w 0 some)
-
--- a member's offset word, if the record has bit-fields whenever this width isn't 0
-pub member_word : (b : Bool) (o w : ℕ) → (not (w == 0) ≡ true → b ≡ true) → (IsTrue b → o < 2 ^ 24) → MemberWord (bit b) o w (o + 2 ^ 24 * w)
-member_word b o w some low = grind arith
-
--- the 32-bit value fits
-pub member_fits : (flag o w word : ℕ) → MemberWord flag o w word → o < 2 ^ 32 → w < 2 ^ 8 → word < 2 ^ 32
-member_fits flag o w word is wide narrow = omega arith
 
 -- an item of a valid record, whose name is at its offset
 pub record IsItemSpelled (strings : List ℕ) (place : List ℕ → ℕ) (flag : ℕ) (x : TypeItem) : Type 0 where
@@ -93,9 +70,6 @@ module _ (strings : List ℕ) (place : List ℕ → ℕ) (types : List TypeFacts
 
   two_words : (name : List ℕ) (value : ℕ) → NameAt strings (place name) name → value < 2 ^ 32 → IsWords (place name ∷ value ∷ [])
   two_words name value at low = fits_two (place name) value (place_below name at) low
-
-  member_is_spelled : (n : List ℕ) (t o w : ℕ) → ItemInRange (Member n t o w) → MemberWord (bit b) o w (o + 2 ^ 24 * w) → NameAt strings (place n) n → IsItemSpelled strings place (bit b) (Member n t o w)
-  member_is_spelled n t o w range word at = grind (arith, place_below)
 
 item_is_spelled : (strings : List ℕ) (place : List ℕ → ℕ) (types : List TypeFacts) (h : TypeHead) (size : ℕ) (b : Bool) → length strings ≤ STRINGS_LIMIT
     → (x : TypeItem) → ItemOf h x → ItemInRange x → MemberIsGood types size b x → (has_width x ≡ true → b ≡ true) → NameAt strings (place (item_name x)) (item_name x)

@@ -7,7 +7,7 @@ use Rattle.bpf_insn.specs.declared.{insn.Insn.Insn, decode.InsnError.InsnError, 
 use Rattle.bpf_insn.specs.declared.fault.{SlotFault.SlotFault, SlotCause.SlotCause, SlotCause.TheVariants.Truncated}
 use Rattle.bpf_insn.specs.declared.decode.InsnError.TheVariants as error
 use Rattle.bpf_insn.specs.{Spelling.InsnFile, Spelling.file_of, Fronts.StopsAt}
-use Rattle.bpf_insn.specs.Faults.{IsFront, IsInsnFault, IsSlotFault, IsTruncated}
+use Rattle.bpf_insn.specs.Faults.{IsFront, IsInsnFault, IsSlotFault}
 use Rattle.bpf_insn.proofs.{FileLaws.fault_within, FrontLemmas.empty_begins_none}
 use Rattle.bpf_canon.specs.insn.FeedState.{FeedState, IsCut, missing_place}
 use Rattle.bpf_canon.specs.insn.FrontReads.{Advances, BeginsNone, Leaves, ReadsFront}
@@ -21,10 +21,6 @@ cut_begins_none o s c = elim c [
   | inl e ↦ let P : List ℕ → Type 0 = λ x. BeginsNone o x in subst P (sym e) (empty_begins_none o)
   | inr f ↦ f.unspelled
 ]
-
--- bytes that are missing begin with the first slot, or with the second
-missing_at : (o : Order) (s : List ℕ) (at : ℕ) → IsTruncated o at s → at ≡ missing_place (length s)
-missing_at o s at t = grind arith
 
 -- a fault of missing bytes has their offset
 pub cut_of_fault : (o : Order) (s : List ℕ) (at : ℕ) (cause : SlotCause) → cause ≡ Truncated → IsSlotFault o s (record { pos = at; cause = cause }) → IsCut o s
@@ -62,11 +58,6 @@ module _ (s : FeedState) (piece old new : List ℕ) (read : InsnFront) (reads : 
 
   pub advance_counts : 8 * read.count + length (drop read.len (s.held ++ piece)) ≤ length s.held + length piece
   advance_counts = omega (arith, front_counts s.order (s.held ++ piece) reads.insns (drop read.len (s.held ++ piece)) reads.front, reads.counted, length-append s.held piece)
-
-  -- a feed with the held bytes and the fault that are left
-  advanced : (held : List ℕ) (fault : Option SlotFault) → Leaves s.order (s.fed + length piece) (drop read.len (s.held ++ piece)) held fault
-      → Advances s (record s { held = held; fed = s.fed + length piece; count = s.count + read.count; fault = fault }) piece old new
-  advanced held fault leaves = grind arith
 
   -- the bytes ended with an instruction
   pub advance_whole : s.fault ≡ None → read.stop ≡ None

@@ -104,10 +104,6 @@ adds_of o to s t read piece before rest out front h m =
     let P : List Insn → Type 0 = λ l. IsFront o (read ++ piece) (l ++ g.gained) g.left in
     record { gained = g.gained; left = g.left; front = subst P once.0 g.longer; made = g.grows; represents = m.represents o to read h }
 
-wrote_more : (p q r : Option (List ℕ)) (to : Order) (before gained : List Insn) (out : List ℕ) → Appends p q (file_of to before) → Appends q r out
-    → out ≡ file_of to gained → Appends p r (file_of to (before ++ gained))
-wrote_more p q r to before gained out h k e = grind (arith, flat_map-append, Appends-trans)
-
 size_more : (to : Order) (before gained : List Insn) (out : List ℕ) (n k : ℕ) → n ≡ length (file_of to before) → k ≡ length out → out ≡ file_of to gained
     → n + k ≡ length (file_of to (before ++ gained))
 size_more to before gained out n k h j e = grind (arith, flat_map-append, length-append)

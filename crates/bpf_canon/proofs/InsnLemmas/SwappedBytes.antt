@@ -59,11 +59,6 @@ slot_number word halfwords =
     word % 0x100 + (word / 0x100 % 0x10 * 0x1000 + word / 0x1000 % 0x10 * 0x100) + halfwords % 0x100000000
     + (halfwords / 0x100000000 % 0x10000 * 0x1000000000000 + halfwords / 0x1000000000000 * 0x100000000)
 
--- a number by its low half and its two upper quarters
-three_parts : (n low third fourth : ℕ) → low < 2 ^ 32 → third < 2 ^ 16 → n ≡ low + third * 2 ^ 32 + fourth * 2 ^ 48
-    → (n % 2 ^ 32 ≡ low) × (n / 2 ^ 32 % 2 ^ 16 ≡ third) × (n / 2 ^ 48 ≡ fourth)
-three_parts n low third fourth l t is = (omega arith, omega arith, omega arith)
-
 -- the number of a slot, and that of the slot in the other order
 number_exchanged : (s : List ℕ) (word halfwords : ℕ) → length s ≡ 8 → IsBytes s → word ≡ from_le_bytes w64 s
     → halfwords ≡ swapped_halfwords word

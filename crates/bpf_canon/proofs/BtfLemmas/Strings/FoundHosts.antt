@@ -1,8 +1,8 @@
 -- The hosts of the strings at the used offsets of a section, found by the longest of them.
-use Rattle.std.proofs.Common.{◌≡◌, ◌≢◌, ℕ, ◌<◌, true, List, ◌∷◌, length, map, get_or, sym, ap, ◌∙◌, subst, arith}
+use Rattle.std.proofs.Common.{◌≡◌, ◌≢◌, ℕ, ◌<◌, true, List, length, map, get_or, sym, ap, ◌∙◌, subst, arith}
 use Rattle.std.specs.List.{All, Contains}
 use Rattle.std.proofs.{lemmas.List.get_or-map, lemmas.List.length-map, lemmas.List.get_or_default, Math.Seq.drop-cons}
-use Rattle.btf_types.specs.{strings.SharedNames.is_suffix, strings.LongestTexts.AreLongest, Reading.before_nul, Reading.text_from}
+use Rattle.btf_types.specs.{strings.SharedNames.is_suffix, strings.LongestTexts.AreLongest, Reading.text_from}
 use Rattle.bpf_canon.specs.btf.strings.{SectionTexts.text_in, InHost.no_text, FirstUses.AreMarked, Longest.IsUsed, Longest.AreLongestOf}
 use Rattle.bpf_canon.specs.declared.btf.strings.section_texts.SectionText.{SectionText}
 use Rattle.btf_types.proofs.StringLemmas.Suffixes.{suffix_from_Ends}
@@ -19,9 +19,6 @@ from_map e f xs z (k, inside, is) =
 
 pub empty_at_nul : (section : List ℕ) (off : ℕ) → off < length section → get_or section off 0 ≡ 0 → length (text_from section off) ≡ 0
 empty_at_nul section off inside nul = grind (arith, drop-cons)
-
-first_some : (b : ℕ) (rest : List ℕ) → b ≢ 0 → length (before_nul (b ∷ rest)) ≡ 0 → ⊥
-first_some b rest n z = grind arith
 
 pub text_some : (section : List ℕ) (off : ℕ) → off < length section → get_or section off 0 ≢ 0 → length (text_from section off) ≡ 0 → ⊥
 text_some section off inside b z = grind (arith, drop-cons)

@@ -78,9 +78,6 @@ place_at_host : (ks : List (List ℕ)) (x h : List ℕ) (n b : ℕ) → 0 < leng
 place_at_host ks [] h n b some is place before = absurd (omega (arith, some))
 place_at_host ks (c ∷ bytes) h n b some is place before = grind arith
 
-no_place : (ks : List (List ℕ)) (x : List ℕ) → x ≡ [] → 0 ≡ shared_among ks x
-no_place ks x e = sym (ap (shared_among ks) e)
-
 module _ (section slots offsets by_rank : List ℕ) (sorted : List (List ℕ)) (in_hosts : List InHost) (spans : List Span) (len : ℕ) (host_places : AreHostPlaces section sorted (map (text_from section) offsets) by_rank spans len)
     (off : ℕ) (c : Contains offsets off) (is : HasHost section slots sorted (map (text_from section) offsets) in_hosts off) where
   abbrev names : List (List ℕ)

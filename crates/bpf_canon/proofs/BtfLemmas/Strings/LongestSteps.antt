@@ -29,9 +29,6 @@ text_ends section start off low high f =
     (λ k h e. f (start + k) (omega arith) (omega (arith, h)) (sym (get_or-drop start section k 0) ∙ e)) in
     grind (arith, drop_more)
 
-pub text_in_is : (section : List ℕ) (t : SectionText) → t.start ≤ t.end → t.end ≤ length section → text_in section t ≡ take (t.end - t.start) (drop t.start section)
-text_in_is section t low high = grind arith
-
 -- a used string, and the names that begin within it
 pub used_text : (section slots : List ℕ) (t : SectionText) → IsUsed section slots t → text_in section t ≡ text_from section t.start
 used_text section slots t used = grind (arith, text_is)

@@ -9,7 +9,7 @@ use Rattle.std.proofs.lemmas.List.{length_push, length-set, length-replicate, ge
 use Rattle.bpf_canon.specs.btf.strings.FirstUses.{noted, mark_of, slots_of, HaveMarks}
 use Rattle.bpf_canon.specs.btf.strings.UsedOffsets.{offset_number, AreNumbered}
 use Rattle.bpf_canon.proofs.BtfLemmas.Strings.FirstUseSteps.{marked_more, noted_known, noted_new}
-use Rattle.bpf_canon.proofs.BtfLemmas.Strings.UsedSteps.{number_used, number_unused, counted_none, counted_all}
+use Rattle.bpf_canon.proofs.BtfLemmas.Strings.UsedSteps.{number_used, counted_none, counted_all}
 
 -- one element
 zero_ones : (n : ℕ) → n ≡ 0 → count_ones n ≡ 0
@@ -18,9 +18,6 @@ zero_ones n e = ap count_ones e ∙ omega (arith, ones_le_self 0)
 low_step : (k w : ℕ) → count_ones (w % 2 ^ suc k) ≡ w % 2 + count_ones (w / 2 % 2 ^ k)
 low_step k w = grind (arith, pow-suc, mod-mul, ones_step)
 
-sums : (a b c d e f g : ℕ) → a ≡ d + b → b ≡ c + e → f ≡ d + c → g ≡ e → a ≡ f + g
-sums a b c d e f g p q r s = omega (arith, p, q, r, s)
-
 -- Another bit of an element counts if it is set.
 pub ones_more : (k w : ℕ) → count_ones (w % 2 ^ suc k) ≡ count_ones (w % 2 ^ k) + bit_at w k
 ones_more zero w = omega (arith, low_step, zero_ones)
@@ -28,12 +25,6 @@ ones_more (suc k) w = grind (arith, low_step, bit_at-suc, (ones_more k (w / 2)))
 
 max_one : (n : ℕ) → n < 2 → max n 1 ≡ 1
 max_one n h = elim (cases_eq n 0) [ inl z ↦ ap (λ (m : ℕ). max m 1) z | inr s ↦ ap (λ (m : ℕ). max m 1) (let e : n ≡ 1 = omega (arith, h, s) in e) ]
-
-plus_none : (a b c : ℕ) → a ≡ b → c ≡ 0 → a ≡ b + c
-plus_none a b c e z = omega (arith, e, z)
-
-plus_one : (a b c : ℕ) → a ≡ b + 1 → c ≢ 0 → c < 2 → a ≡ b + c
-plus_one a b c e s h = omega (arith, e, s, h)
 
 sums_more : (a b c d e f : ℕ) → a ≡ b + c → b ≡ d + e → f ≡ e + c → a ≡ d + f
 sums_more a b c d e f p q r = omega (arith, p, q, r)

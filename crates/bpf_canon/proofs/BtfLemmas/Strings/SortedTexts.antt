@@ -2,7 +2,7 @@
 use Rattle.std.proofs.Common.{◌≡◌, ◌≢◌, ℕ, zero, suc, ◌+◌, ◌*◌, ◌-◌, ◌^◌, ◌<◌, inl, inr, List, [], ◌∷◌, length, map, get_or, take, drop, sym, ap, ◌∙◌, arith}
 use Rattle.std.specs.{List.All, List.Sorted.IsSorted, List.Sorted.IsSortedBy, Cmp.IsTotalOrder}
 use Rattle.std.specs.Ordering.{is_lt, nat_cmp, ordering_then}
-use Rattle.std.specs.declared.cmp.Ordering.{Ordering, TheVariants.Less, TheVariants.Equal, TheVariants.Greater}
+use Rattle.std.specs.declared.cmp.Ordering.{Ordering, TheVariants.Equal}
 use Rattle.std.proofs.lemmas.{Bool.cases_eq, Bool.cases_lt, List.get_or-map, List.length-map}
 use Rattle.std.proofs.lemmas.Cmp.{nat_cmp_total, tied_itself, on_total, then_total, ranked}
 use Rattle.btf_types.specs.strings.SharedNames.{tail_cmp}
@@ -58,13 +58,6 @@ before_apart x y p q e n = grind (arith, short_first, short_second, key_apart, f
 
 tied_then : (a b : ℕ) (s : Ordering) → a ≡ b → ordering_then (nat_cmp a b) s ≡ s
 tied_then a b s e = ap (λ (o : Ordering). ordering_then o s) (ap (nat_cmp a) (sym e) ∙ tied_itself nat_cmp_total a)
-
--- Two numbers below 2 ^ 64 after two others, each pair as one number.
-pair_less : (a b c d : ℕ) → b < 2 ^ 64 → d < 2 ^ 64 → a * 2 ^ 64 + b < c * 2 ^ 64 + d → (s : Ordering) → ordering_then (nat_cmp a c) (ordering_then (nat_cmp b d) s) ≡ Less
-pair_less a b c d p q h s = grind arith
-
-pair_greater : (a b c d : ℕ) → b < 2 ^ 64 → d < 2 ^ 64 → c * 2 ^ 64 + d < a * 2 ^ 64 + b → (s : Ordering) → ordering_then (nat_cmp a c) (ordering_then (nat_cmp b d) s) ≡ Greater
-pair_greater a b c d p q h s = grind arith
 
 -- Keys that differ compare as one number; if they are equal, the strings decide.
 module _ (section : List ℕ) (a b : SectionText) (p : a.before < 2 ^ 64) (q : b.before < 2 ^ 64) where

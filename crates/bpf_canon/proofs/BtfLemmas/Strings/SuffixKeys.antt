@@ -101,16 +101,6 @@ key_front zero s x h = refl
 key_front (suc n) [] x h = absurd (omega (arith, h))
 key_front (suc n) (b ∷ s) x h = ap (λ (k : ℕ). b * 256 ^ n + k) (key_front n s x (omega (arith, h)))
 
-key_zeros : (n m : ℕ) → front_key n (replicate m 0) ≡ 0
-key_zeros zero m = refl
-key_zeros (suc n) zero = refl
-key_zeros (suc n) (suc m) = omega (arith, key_zeros n m)
-
-key_padded : (n m : ℕ) (x : List ℕ) → front_key n (x ++ replicate m 0) ≡ front_key n x
-key_padded zero m x = refl
-key_padded (suc n) m [] = key_zeros (suc n) m
-key_padded (suc n) m (b ∷ x) = ap (λ (k : ℕ). b * 256 ^ n + k) (key_padded n m x)
-
 -- eight bytes as a number
 eight_key : (l : List ℕ) → length l ≡ 8 → from_le_bytes w64 l ≡ front_key 8 (reverse l)
 eight_key (a ∷ b ∷ c ∷ d ∷ e ∷ f ∷ g ∷ h ∷ []) n = omega arith

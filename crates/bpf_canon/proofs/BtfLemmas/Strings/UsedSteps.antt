@@ -14,9 +14,6 @@ below_unused slots n z = cond-true (get_or slots n 0 == 0) (used_below slots n) 
 pub number_used : (slots : List ℕ) (n : ℕ) → get_or slots n 0 ≢ 0 → offset_number slots (n + 1) ≡ offset_number slots n + 1
 number_used slots n s = grind (arith, length_push)
 
-pub number_unused : (slots : List ℕ) (n : ℕ) → get_or slots n 0 ≡ 0 → offset_number slots (n + 1) ≡ offset_number slots n
-number_unused slots n z = grind arith
-
 pub number_at_most : (slots : List ℕ) (n : ℕ) → offset_number slots n ≤ n
 number_at_most slots zero = omega arith
 number_at_most slots (suc n) = grind (arith, length_push, (number_at_most slots n))

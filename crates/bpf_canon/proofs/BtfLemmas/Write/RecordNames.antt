@@ -38,9 +38,6 @@ map-tabulate : {X Y : Type 0} (g : X → Y) (f : ℕ → X) (n : ℕ) → map g 
 map-tabulate g f zero = refl
 map-tabulate g f (suc n) = map-append g (tabulate f n) (f n ∷ []) ∙ ap (λ t. t ++ g (f n) ∷ []) (map-tabulate g f n)
 
-tabulate-same : {X : Type 0} (f g : ℕ → X) (n : ℕ) → ((k : ℕ) → f k ≡ g k) → tabulate f n ≡ tabulate g n
-tabulate-same f g n each = grind arith
-
 none_kept : (n : ℕ) → filter is_some_text (tabulate (λ k. []) n) ≡ []
 none_kept zero = refl
 none_kept (suc n) = filter-append is_some_text (tabulate (λ k. []) n) ([] ∷ []) ∙ rw (none_kept n) refl

@@ -1,12 +1,12 @@
 -- The 32-bit words of a record, from those of its frame.
 use Rattle.std.proofs.Common.{◌≡◌, ◌≢◌, ◌⊎◌, ℕ, zero, suc, ◌+◌, ◌*◌, ◌/◌, ◌%◌, ◌^◌, ◌<◌, ◌≤◌, Bool, true, false, not, List, [], ◌∷◌, ◌++◌, length, map, take, drop, get_or, refl, sym, ap, ◌∙◌, inl, inr, append-nil, arith, rules}
 use Rattle.std.proofs.lemmas.Grind.{common_steps}
-use Rattle.std.specs.Prelude.{slice_index, ◌==◌, ◌||◌, if◌then◌else◌, ⊤}
+use Rattle.std.specs.Prelude.{slice_index, ◌==◌, ◌||◌, ⊤}
 use Rattle.std.specs.List.{All, AllZip, concat, flat_map, list_any}
 use Rattle.std.proofs.{lemmas.Bool.cases_eq, lemmas.Bool.ne_eqb, lemmas.Bool.or_left, lemmas.Bool.or_right}
 use Rattle.std.proofs.lemmas.List.{get_or-drop, length-drop, map-append, map_more, Concat.flat_map-append, Elements.All-head, Elements.All-tail, Folds.list_any-append}
 use Rattle.bpf_words.specs.{declared.Order.Order, Words.word32}
-use Rattle.btf_raw.specs.{Header.HasNulEnds, Heads.bit, Kinds.item_words, Kinds.kind_of, Kinds.flag_of, Kinds.has_item_names, Kinds.is_struct}
+use Rattle.btf_raw.specs.{Header.HasNulEnds, Kinds.item_words, Kinds.kind_of, Kinds.has_item_names, Kinds.is_struct}
 use Rattle.btf_raw.specs.Frames.{IsFrame, info_word, third_word, name_word, kind, vlen, flag, bytes_of, section_of}
 use Rattle.btf_types.specs.Values.{TypeHead, TypeItem, Entry, TypeRecord}
 use Rattle.btf_types.specs.{Names.head_name, judge.RecordFaults.BitFieldsAre, Good.has_width, Good.has_bit_fields}
@@ -75,9 +75,6 @@ bit_fields_same strings f false frame is some are = grind (arith, bit_fields_the
 
 -- ---- info
 
-struct_flag : (h : TypeHead) (b : Bool) → is_struct (kind_number h) ≡ true → canonical_flag h b ≡ bit b
-struct_flag h b is = grind arith
-
 other_flag : (h : TypeHead) (flag : ℕ) (b : Bool) → FlagSpells h flag → is_struct (kind_number h) ≡ false → canonical_flag h b ≡ flag
 other_flag h marked b e other = grind arith
 
@@ -100,18 +97,12 @@ module _ (strings f : List ℕ) (r : TypeRecord) (few : length r.items < 2 ^ 16)
   kind_same : kind f ≡ kind_number r.head
   kind_same = ap kind_of word ∙ (parts).kind
 
-  flag_same : flag f ≡ s.flag
-  flag_same = ap flag_of word ∙ (parts).flag
-
   kept_flag : canonical_flag r.head (has_bit_fields r) ≡ s.flag → info_word f ≡ record_info r
   kept_flag e = word ∙ ap (λ (b : ℕ). info (kind_number r.head) (record_vlen r) b) (sym e)
 
   -- the flag of other kinds is part of the value
   pub info_of_others : is_struct (kind f) ≡ false → info_word f ≡ record_info r
   info_of_others other = kept_flag (other_flag r.head s.flag (has_bit_fields r) s.flag_spells (ap is_struct (sym kind_same) ∙ other))
-
-  struct_bit : is_struct (kind f) ≡ true → canonical_flag r.head (has_bit_fields r) ≡ bit (has_bit_fields r)
-  struct_bit is = struct_flag r.head (has_bit_fields r) (ap is_struct (sym kind_same) ∙ is)
 
   pub info_unmarked : flag f ≡ 0 → has_bit_fields r ≡ false → info_word f ≡ record_info r
   info_unmarked none plain = grind arith
@@ -130,15 +121,6 @@ pub unmarked_record : (strings f : List ℕ) → IsFrame f → flag f ≡ 0 → 
 unmarked_record strings f frame none = unmarked strings f frame (item_total f) none
 
 -- ---- items that have names
-
-member_offset : (flag c : ℕ) → (if flag == 0 then c else c % 2 ^ 24) + 2 ^ 24 * (if flag == 0 then 0 else c / 2 ^ 24) ≡ c
-member_offset flag c = elim (decided (flag == 0)) [ inl none ↦ rw none (omega arith) | inr some ↦ rw some (omega arith) ]
-
-low_half : (b c : ℕ) → b < 2 ^ 32 → (b + 2 ^ 32 * c) % 2 ^ 32 ≡ b
-low_half b c h = omega arith
-
-high_half : (b c : ℕ) → b < 2 ^ 32 → (b + 2 ^ 32 * c) / 2 ^ 32 ≡ c
-high_half b c h = omega arith
 
 named_item : {k : ℕ} → KindIs k → (place : List ℕ → ℕ) (name : List ℕ) (flag a b c : ℕ) → has_item_names k ≡ true → b < 2 ^ 32
     → words_of place (item_from name k flag a b c) ≡ take (item_words k) (place name ∷ b ∷ c ∷ [])
@@ -175,9 +157,6 @@ IsEntry _ = ⊥
 entry_read : {k : ℕ} → KindIs k → (name : List ℕ) (flag a b c : ℕ) → has_item_names k ≡ false → IsEntry (item_from name k flag a b c)
 unfolding has_item_names item_from
 entry_read kind_is name flag a b c none = grind arith
-
-entry_words : (place : List ℕ → ℕ) (strings : List ℕ) (flag : ℕ) (x : TypeItem) (ws : List ℕ) → IsEntry x → ItemSpells strings flag x ws → ws ≡ words_of place x
-entry_words place strings flag x ws is s = grind arith
 
 entries_words : (place : List ℕ → ℕ) (strings : List ℕ) (flag : ℕ) (xs : List TypeItem) (wss : List (List ℕ)) → All IsEntry xs → AllZip (ItemSpells strings flag) xs wss
     → concat wss ≡ flat_map (words_of place) xs

@@ -1,17 +1,17 @@
 -- 32-bit words and records that are appended in sequence.
-use Rattle.std.proofs.Common.{◌≡◌, ℕ, zero, suc, ◌+◌, ◌-◌, ◌<◌, ◌≤◌, Bool, true, false, List, [], ◌∷◌, ◌++◌, length, map, take, refl, sym, ap, subst, ◌∙◌, inl, inr, append_assoc, arith, Some}
+use Rattle.std.proofs.Common.{◌≡◌, ℕ, zero, suc, ◌+◌, ◌-◌, ◌<◌, ◌≤◌, true, false, List, [], ◌∷◌, ◌++◌, length, map, take, refl, sym, ap, subst, ◌∙◌, inl, inr, append_assoc, arith, Some}
 use Rattle.std.proofs.lemmas.Grind.{common_steps}
 use Rattle.std.specs.{Prelude.slice_get, List.flat_map, List.list_any}
 use Rattle.std.proofs.lemmas.{List.map-append, List.append-nil, List.Concat.flat_map-append, List.Folds.list_any-append}
 use Rattle.bpf_words.specs.{declared.Order.Order, Words.word32}
 use Rattle.btf_raw.specs.{Header.header, Header.TYPES_LIMIT, Frames.bytes_of, Frames.section_of}
-use Rattle.btf_types.specs.Values.{TypeHead, TypeItem, TypeRecord}
-use Rattle.btf_types.specs.{Names.names, Names.kept, Names.table_of, judge.Checks.TypeFacts}
+use Rattle.btf_types.specs.Values.{TypeItem, TypeRecord}
+use Rattle.btf_types.specs.{Names.names, Names.kept, Names.table_of}
 use Rattle.btf_types.specs.strings.SharedNames.{hosts_of, shared_among}
-use Rattle.btf_types.specs.{Spelling.head_third, Spelling.record_vlen, tables.TableWords.record_at, tables.TableWords.no_record}
-use Rattle.btf_types.specs.Good.{has_width, has_bit_fields, MemberIsGood, IsGoodRecord, IsGood, facts}
+use Rattle.btf_types.specs.{Spelling.head_third, tables.TableWords.record_at, tables.TableWords.no_record}
+use Rattle.btf_types.specs.Good.{has_width, has_bit_fields, IsGoodRecord, IsGood, facts}
 use Rattle.btf_types.proofs.Members.{Has, any_from_Has}
-use Rattle.bpf_canon.specs.btf.write.BtfWords.{head_vlen, head_words, MemberFits}
+use Rattle.bpf_canon.specs.btf.write.BtfWords.{head_words, MemberFits}
 use Rattle.bpf_canon.specs.btf.CanonicalBtf.{canonical, canonical_types, words_of_item, record_words}
 use Rattle.bpf_canon.proofs.BtfLemmas.CanonicalFiles.{canonical_size}
 use Rattle.btf_types.proofs.TableLemmas.TableWalk.{take_more, get_is, get_or_is, records_more}
@@ -31,9 +31,6 @@ item_pushed o old place xs k x e =
     let more : take (k + 1) xs ≡ take k xs ++ x ∷ [] = rw next (take_more xs k x e) in
     let words : flat_map f (take (k + 1) xs) ≡ flat_map f (take k xs) ++ f x = grind (arith, flat_map-append) in
     pushed_two o old (flat_map f (take k xs)) (f x) ∙ ap (λ (t : List ℕ). old ++ bytes_of o t) (sym words)
-
-vlen_is : (h : TypeHead) (xs : List TypeItem) → head_vlen h (length xs) ≡ record_vlen (record { head = h; items = xs })
-vlen_is h xs = cc
 
 pub record_pushed : (o : Order) (old : List ℕ) (place : List ℕ → ℕ) (r : TypeRecord) (count : ℕ) → count ≡ length r.items
     → (old ++ bytes_of o (head_words place r.head count (has_bit_fields r))) ++ bytes_of o (flat_map (words_of_item place) r.items) ≡ old ++ bytes_of o (record_words place r)
@@ -64,9 +61,6 @@ width_missed xs k x e none before =
     let next : k + 1 ≡ suc k = omega arith in
     let more : take (k + 1) xs ≡ take k xs ++ x ∷ [] = rw next (take_more xs k x e) in
     ap (list_any has_width) more ∙ list_any-append has_width (take k xs) (x ∷ []) ∙ rw (before, none) refl
-
-member_room : (types : List TypeFacts) (size : ℕ) (b : Bool) (x : TypeItem) → MemberIsGood types size b x → (has_width x ≡ true → b ≡ true) → MemberFits x
-member_room types size b x good some = grind arith
 
 pub item_fits : (v : List TypeRecord) (id k : ℕ) (x : TypeItem) → IsGood v → 0 < id → id ≤ length v → slice_get (record_at v id).items k ≡ Some x → MemberFits x
 item_fits v id k x good some low e =
