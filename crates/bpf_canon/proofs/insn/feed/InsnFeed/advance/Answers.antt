@@ -1,4 +1,4 @@
-use Rattle.std.proofs.Common.{arith, ◌≡◌, ◌∙◌, ◌-◌, ℕ, List, None, ap, subst, sym, inl, take, length-append, refl}
+use Rattle.std.proofs.Common.{arith, ◌≡◌, ◌∙◌, ◌-◌, ℕ, List, None, ap, subst, sym, inl, refl}
 use Rattle.std.proofs.lemmas.List.{length-take-le}
 use Rattle.bpf_canon.specs.{insn.FeedState.FeedState, insn.FeedState.IsCut, insn.FrontReads.Advances, contracts.insn.feed.InsnFeed.the_view}
 use Rattle.bpf_canon.proofs.InsnLemmas.FeedLemmas.{advance_counts, advance_cut, advance_faulty, advance_few, advance_held, advance_whole, advance_within, cut_begins_none, held_left, held_left_size, none_or_all}
@@ -8,25 +8,8 @@ use Rattle.bpf_canon.proofs.insn.feed.InsnFeed.advance.Goals as goal
 from_view : (s t u : FeedState) (piece old new : List ℕ) → s ≡ t → Advances s u piece old new → Advances t u piece old new
 from_view s t u piece old new e a = let P : FeedState → Type 0 = λ x. Advances x u piece old new in subst P e a
 
-pub shared_ref_as_front-held : goal.shared_ref_as_front-held
-shared_ref_as_front-held g c = omega (arith, c.self.invariant.short)
-
-pub read_front_across-read-requires-clause-short : goal.read_front_across-read-requires-clause-short
-read_front_across-read-requires-clause-short g c =
-    omega (arith, c.self.invariant.short, length-take-le c.self.inside.held_len c.self.inside.held (omega (arith, c.self.invariant.short)))
-
 pub read_front_across-read-requires-clause-unspelled : goal.read_front_across-read-requires-clause-unspelled
 read_front_across-read-requires-clause-unspelled g c = cut_begins_none _ _ c.self.invariant.cut
-
-pub slice_bounds-left-count : goal.slice_bounds-left-count
-slice_bounds-left-count g c =
-    let size = length-take-le c.self.inside.held_len c.self.inside.held (omega (arith, c.self.invariant.short)) in
-    omega (arith, c.saturating_sub.ensures, size, c.read_front_across-read.ensures.read.within, length-append (take c.self.inside.held_len c.self.inside.held) c.args.piece.now)
-
-pub slice_bounds-left-start : goal.slice_bounds-left-start
-slice_bounds-left-start g c =
-    let size = length-take-le c.self.inside.held_len c.self.inside.held (omega (arith, c.self.invariant.short)) in
-    omega (arith, c.saturating_sub.ensures, size, c.read_front_across-read.ensures.read.within, length-append (take c.self.inside.held_len c.self.inside.held) c.args.piece.now)
 
 pub overflow_add-self-2 : goal.overflow_add-self-2
 overflow_add-self-2 g c =
@@ -73,19 +56,6 @@ invariant_of-self-in_default g c =
     let size = length-take-le c.self.inside.held_len c.self.inside.held (omega (arith, c.self.invariant.short)) in
     let counts = advance_counts (the_view c.self.inside) c.args.piece.now _ _ _ c.read_front_across-read.ensures.read in
     record { short = omega arith; cut = inl refl; counted = omega (arith, size, counts, c.self.invariant.counted) }
-
-pub overflow_add-pos : goal.overflow_add-pos
-overflow_add-pos g c =
-    let size = length-take-le c.self.inside.held_len c.self.inside.held (omega (arith, c.self.invariant.short)) in
-    omega (
-      arith,
-      size,
-      c.read_front_across-read.ensures.read.within,
-      length-append (take c.self.inside.held_len c.self.inside.held) c.args.piece.now,
-      c.self.invariant.counted,
-      c.requires.fits,
-      ap (λ (s : FeedState). s.fed) c.self.view_is,
-    )
 
 pub overflow_add-pos-in_default : goal.overflow_add-pos-in_default
 overflow_add-pos-in_default g c =
