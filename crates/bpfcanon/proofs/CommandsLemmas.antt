@@ -7,3 +7,4 @@ pub mod InsnSameLemmas
 pub mod BtfCanonLemmas
 pub mod BtfShowLemmas
 pub mod BtfSameLemmas
+pub mod Replies

@@ -99,6 +99,7 @@ fn report_parts<E: ByteSink>(faults: &mut E, parts: &[&[u8]])
 }
 
 /// Writes a line, until a write fails.
+#[tactic(auto, using(crate::proofs::OutcomeLemmas::took_line))]
 pub fn report_line<E: ByteSink>(faults: &mut E, line: &[u8])
     requires { E.failures faults.old < u64.MAX }
     ensures { TookLine (sink_change E.ByteSink faults.old faults.new) line.now }

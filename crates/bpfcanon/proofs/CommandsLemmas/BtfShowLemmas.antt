@@ -10,8 +10,8 @@ use Rattle.bpfcanon.specs.declared.job.Job.{Job}
 use Rattle.bpfcanon.specs.declared.outcome.Outcome.TheVariants as ends
 use Rattle.bpfcanon.specs.declared.{commands.pieces.PutError.PutError, verb.Verb.TheVariants.BtfShow}
 use Rattle.bpfcanon.specs.{Devices.Change, Devices.change, commands.BtfReply.shown, commands.BtfReply.unshown, commands.Reply.limit_of}
-use Rattle.bpfcanon.specs.commands.Pieces.{Answers, Gathered, Gathers, TookText, answered, end_of_pieces}
-use Rattle.bpfcanon.proofs.CommandsLemmas.PiecesLemmas.{gathered_more, gathers_front, gathers_then, pieces_end, puts_then}
+use Rattle.bpfcanon.specs.commands.Pieces.{Answers, Gathered, Gathers, TookText, answered, end_of_pieces, refused}
+use Rattle.bpfcanon.proofs.CommandsLemmas.PiecesLemmas.{gathered_more, gathers_front, gathers_handed, gathers_then, pieces_end, puts_then}
 
 -- ---- the items of a type
 
@@ -41,8 +41,7 @@ module _ (a b c : Option (List ℕ)) (f g h : ℕ) (held kept old : List ℕ) (s
 -- all items are gathered
 pub items_all : (sink : Change) (held old : List ℕ) (signed : Bool) (xs : List TypeItem) (k : ℕ) → length xs ≤ k
     → Gathered sink held (old ++ flat_map (item_line signed) (take k xs)) → Gathered sink held (old ++ flat_map (item_line signed) xs)
-items_all sink held old signed xs k done p =
-    subst (λ (l : List TypeItem). Gathered sink held (old ++ flat_map (item_line signed) l)) (take_all k xs done) p
+items_all sink held old signed xs k done p = grind (arith, take_all)
 
 -- ---- a type
 
@@ -75,9 +74,7 @@ record_put a b c f g h held kept old id items head signed r put is count sign p 
 
 numbered-append : (n : ℕ) (v w : List TypeRecord) → enumerate_from n (v ++ w) ≡ enumerate_from n v ++ enumerate_from (n + length v) w
 numbered-append n [] w = let same : n ≡ n + 0 = omega arith in ap (λ (m : ℕ). enumerate_from m w) same
-numbered-append n (r ∷ v) w =
-    let same : n + 1 + length v ≡ n + length (r ∷ v) = omega arith in
-    ap (λ (l : List (ℕ × TypeRecord)). (n, r) ∷ l) (numbered-append (n + 1) v w ∙ ap (λ (m : ℕ). enumerate_from (n + 1) v ++ enumerate_from m w) same)
+numbered-append n (r ∷ v) w = grind (arith, (numbered-append (n + 1) v w))
 
 abbrev lines : ℕ × TypeRecord → List ℕ
 lines p = record_text p.0 p.1
@@ -122,3 +119,9 @@ btf_ended j input sink v r show within types put = pieces_end j input (text_of v
 pub btf_fault : (j : Job) (input : List ℕ) (a : Option (List ℕ)) (f : ℕ) (fault : BtfFault) → j.verb ≡ BtfShow → length input ≤ limit_of BtfShow
     → IsFirst input fault → Answers j input (change a a f f) (ends.BtfFault fault)
 btf_fault j input a f fault show within first = answered (ends.BtfFault fault) [] (rw show (unshown fault within first)) (Appends-nil a) refl
+
+-- what the search cites of the ends of btf-show
+pub ruleset show_ends = (btf_fault, btf_ended, refused)
+
+-- and of the lines of a type
+pub ruleset record_lines = (record_stopped, record_put, gathers_handed)

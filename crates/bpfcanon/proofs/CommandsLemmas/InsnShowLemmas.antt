@@ -37,12 +37,7 @@ record Next (order : Order) (input : List ℕ) (at : ℕ) (after : List Insn) : 
 next : (order : Order) (input : List ℕ) (at : ℕ) (after : List Insn) → All IsInsn after → drop at input ≡ file_of order after → at < length input
     → Next order input at after
 next order input at [] each rest more = absurd (omega (arith, ap length rest, length-drop at input, more))
-next order input at (i ∷ t) each rest more = record {
-  insn = i;
-  others = t;
-  is = refl;
-  begins = (All-head IsInsn i t each, (file_of order t, take_all (length input - at) (drop at input) (omega (arith, length-drop at input)) ∙ rest));
-}
+next order input at (i ∷ t) each rest more = grind (arith, All-head, take_all, length-drop)
 
 pub listed_none : (order : Order) (input : List ℕ) (a : Option (List ℕ)) (f : ℕ) → (l : List Insn) × InsnFile order input l → Listed order input 0 (change a a f f) []
 listed_none order input a f l = record {
@@ -149,3 +144,6 @@ pub show_ended : (j : Job) (input : List ℕ) (sink : Change) (r : Result (Unit 
     → (l : List Insn) × (InsnFile j.order input l × TookText sink (listing_of l) r) → Answers j input sink (end_of_pieces r)
 show_ended j input sink r show within put =
     pieces_end j input (listing_of put.0) sink r (rw show refl) (rw show (shown put.0 within put.1.0)) put.1.1
+
+-- what the search cites of the ends of insn-show
+pub ruleset show_ends = (show_fault, show_ended)

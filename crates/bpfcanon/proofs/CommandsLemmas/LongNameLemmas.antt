@@ -1,10 +1,10 @@
 -- Lines whose names are written chunk by chunk.
 use Rattle.std.proofs.Common.{◌≡◌, ◌<◌, ◌≤◌, ◌+◌, ◌-◌, ◌++◌, ◌∙◌, ℕ, Bool, true, false, List, [], ◌∷◌, Option, length, take, drop, codes, sym, ap, subst, arith, append_assoc, length-append}
-use Rattle.std.specs.Prelude.{Result, Err, decimal, if◌then◌else◌}
+use Rattle.std.specs.Prelude.{Result, Err, if◌then◌else◌}
 use Rattle.btf_types.specs.Values.{TypeHead, TypeItem}
 use Rattle.std.specs.List.{flat_map}
 use Rattle.std.proofs.{lemmas.List.take-append-drop, lemmas.List.take_all, lemmas.List.Concat.flat_map-append, Math.Seq.take-add}
-use Rattle.bpf_text.specs.btf.BtfText.{fields_text, head_line, is_control, item_line, item_text, kind_word, name_text, needs_backslash, quoted_byte}
+use Rattle.bpf_text.specs.btf.BtfText.{head_line, is_control, item_line, item_text, needs_backslash, quoted_byte}
 use Rattle.bpfcanon.specs.declared.commands.pieces.PutError.{PutError, TheVariants.Memory}
 use Rattle.bpfcanon.specs.{Devices.Change, Devices.change, commands.Pieces.Gathered, commands.Pieces.Gathers, commands.Pieces.Stopped}
 use Rattle.bpfcanon.proofs.CommandsLemmas.PiecesLemmas.{front_more, gathered_more, gathers_front, gathers_then}
@@ -60,14 +60,12 @@ module _ (a b c : Option (List ℕ)) (f g h : ℕ) (held kept old name : List �
 -- all chunks are gathered
 pub name_all : (sink : Change) (held old name : List ℕ) (start : ℕ) → length name ≤ start
     → Gathered sink held (old ++ flat_map quoted_byte (take start name)) → Gathered sink held (old ++ flat_map quoted_byte name)
-name_all sink held old name start done p =
-    subst (λ (l : List ℕ). Gathered sink held (old ++ flat_map quoted_byte l)) (take_all start name done) p
+name_all sink held old name start done p = grind (arith, take_all)
 
 -- ---- lines aren't empty
 
 pub some_head : (id : ℕ) (head : TypeHead) (items : ℕ) → 0 < length (head_line id head items)
-some_head id head items =
-    omega (arith, length-append (codes "[") (decimal id ++ codes "] " ++ kind_word head ++ name_text head ++ fields_text head items ++ codes "\n"))
+some_head id head items = grind arith
 
 pub some_item : (signed : Bool) (item : TypeItem) → 0 < length (item_line signed item)
 some_item signed item = omega (arith, length-append (item_text signed item) (codes "\n"))
@@ -80,18 +78,12 @@ some_end fields = omega (arith, length-append fields (codes "\n"))
 
 module _ (old first name last line : List ℕ) (whole : first ++ name ++ last ≡ line) where
   joined : ((old ++ first) ++ name) ++ last ≡ old ++ line
-  joined =
-      ap (λ (t : List ℕ). t ++ last) (append_assoc old first name)
-      ∙ append_assoc old (first ++ name) last
-      ∙ ap (λ (t : List ℕ). old ++ t) whole
+  joined = grind (arith, append_assoc)
 
   -- the name couldn't be written
   pub name_unwritten : (sink : Change) (held shown kept : List ℕ) (e : PutError) → held ≡ old ++ first → shown ≡ name → Gathers sink kept (held ++ shown) (Err e)
       → Gathers sink kept (old ++ line) (Err e)
-  name_unwritten sink held shown kept e opened same q =
-      let text : held ++ shown ≡ (old ++ first) ++ name = ap (λ (t : List ℕ). t ++ shown) opened ∙ ap (λ (t : List ℕ). (old ++ first) ++ t) same in
-      let part : Gathers sink kept ((old ++ first) ++ name) (Err e) = subst (λ (t : List ℕ). Gathers sink kept t (Err e)) text q in
-      subst (λ (t : List ℕ). Gathers sink kept t (Err e)) joined (gathers_front sink kept ((old ++ first) ++ name) last e part)
+  name_unwritten sink held shown kept e opened same q = grind (arith, joined, gathers_front)
 
   -- memory ran out after the name
   pub last_refused : (a b : Option (List ℕ)) (f g : ℕ) (held : List ℕ) → 0 < length last → Gathered (change a b f g) held ((old ++ first) ++ name) → Stopped (change a b f g) (old ++ line) Memory

@@ -12,19 +12,11 @@ module _ (a b c : Option (List ℕ)) (f g h : ℕ) where
   -- more output, a part of which went to the sink
   pub gathered_more : (held kept text line : List ℕ) → Gathered (change a b f g) held text → Gathered (change b c g h) kept (held ++ line)
       → Gathered (change a c f h) kept (text ++ line)
-  gathered_more held kept text line p q = record {
-    taken = p.taken ++ q.taken;
-    took = Appends-trans a b c p.taken q.taken p.took q.took;
-    whole = ap (λ (x : List ℕ). x ++ line) p.whole ∙ append_assoc p.taken held line ∙ ap (λ (x : List ℕ). p.taken ++ x) q.whole
-        ∙ sym (append_assoc p.taken q.taken kept);
-    healthy = q.healthy ∙ p.healthy;
-  }
+  gathered_more held kept text line p q = grind (arith, Appends-trans, append_assoc)
 
   -- the sink received the rest
   gathered_all : (held text : List ℕ) → Gathered (change a b f g) held text → Appends b c held → h ≡ g → Appends a c text × (h ≡ f)
-  gathered_all held text p took healthy =
-      let whole : Appends a c (p.taken ++ held) = Appends-trans a b c p.taken held p.took took in
-      (subst (λ (x : List ℕ). Appends a c x) (sym p.whole) whole, healthy ∙ p.healthy)
+  gathered_all held text p took healthy = grind (arith, Appends-trans)
 
   stopped_by : (e : PutError) → g ≡ f → StoppedBy (change b c g h) e → StoppedBy (change a c f h) e
   stopped_by WriteFailed same by = by ∙ ap (λ (n : ℕ). n + 1) same
@@ -68,14 +60,7 @@ module _ (a b c : Option (List ℕ)) (f g h : ℕ) where
 
 -- an incomplete output, and what would follow it
 pub gathers_front : (sink : Change) (kept text more : List ℕ) (e : PutError) → Gathers sink kept text (Err e) → Gathers sink kept (text ++ more) (Err e)
-gathers_front sink kept text more e p =
-    let front : take p.count (text ++ more) ≡ take p.count text = take-append-le p.count text more (omega (arith, p.part)) in
-    record {
-      count = p.count;
-      part = omega (arith, p.part, length-append text more);
-      took = subst (λ (x : List ℕ). Appends sink.old sink.new x) (sym front) p.took;
-      by = p.by;
-    }
+gathers_front sink kept text more e p = grind (arith, take-append-le, length-append)
 
 -- a call returns the result of a call that it made
 pub gathers_handed : (sink : Change) (kept text : List ℕ) (e : PutError) (r : Result (Unit {0}) PutError) → IsErrAnd r (λ x. x ≡ e) → Gathers sink kept text (Err e)
@@ -90,10 +75,7 @@ puts_handed sink text e (Err other) same p = subst (λ (x : PutError). TookText 
 -- memory ran out before anything of a nonempty output was written
 pub gathers_none : (a : Option (List ℕ)) (f : ℕ) (kept old more : List ℕ) (r : Result (Unit {0}) PutError) → 0 < length more → IsErrAnd r (λ x. x ≡ Memory)
     → Gathers (change a a f f) kept (old ++ more) r
-gathers_none a f kept old more r some same =
-    let front : Stopped (change a a f f) (old ++ more) Memory =
-    record { count = 0; part = omega (arith, some, length-append old more); took = Appends-nil a; by = refl } in
-    gathers_handed (change a a f f) kept (old ++ more) Memory r same front
+gathers_none a f kept old more r some same = grind (arith, length-append, Appends-nil)
 
 -- nothing is gathered yet
 pub gathered_none : (a : Option (List ℕ)) (f : ℕ) → Gathered (change a a f f) [] []

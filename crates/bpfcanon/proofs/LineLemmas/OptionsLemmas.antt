@@ -1,8 +1,8 @@
 -- How the program's command line is built, one option and one command at a time.
-use Rattle.std.proofs.Common.{◌≡◌, ◌∙◌, ◌+◌, ◌++◌, ◌<◌, ◌≤◌, append-nil, ℕ, Bool, true, false, List, [], ◌∷◌, refl, ap, sym, take, length, get_or, suc, add-one}
-use Rattle.std.proofs.{Common.ap₂, Math.Seq.take-suc, lemmas.List.map-append, lemmas.List.take_all, lemmas.List.Elements.filter-append}
+use Rattle.std.proofs.Common.{◌≡◌, ◌∙◌, ◌+◌, ◌++◌, ◌<◌, ◌≤◌, append-nil, ℕ, Bool, true, false, List, [], ◌∷◌, refl, ap, take, length, get_or, suc, add-one, rules, arith}
+use Rattle.std.proofs.{Common.ap₂, lemmas.List.map-append, lemmas.List.take_all}
 use Rattle.std.specs.Prelude.{map, filter, if◌then◌else◌}
-use Rattle.clap.specs.Words.{App, Rule, Shape, app_of, rule_of, shape_of, with_rule, with_subcommand, AddsArg, AddsSubcommand}
+use Rattle.clap.specs.Words.{App, Rule, app_of, rule_of, shape_of, with_rule, with_subcommand, AddsArg, AddsSubcommand}
 use Rattle.clap.specs.Simple.{new_shape}
 use Rattle.clap.specs.declared.builder.{arg.Arg.Arg, command.Command.Command, command.Command.TheViews.out-Command}
 use Rattle.bpfcanon.specs.declared.verb.{Verb.Verb, Setting.Setting}
@@ -24,9 +24,7 @@ app_up_to names verb i = app_with names verb (rules_of names verb (take i all_se
 rules_of-suc : (names : Names) (verb : Verb) (i : ℕ) (s : Setting) → i < length all_settings
     → rules_of names verb (take (suc i) all_settings)
     ≡ rules_of names verb (take i all_settings) ++ rules_of names verb (get_or all_settings i s ∷ [])
-rules_of-suc names verb i s l =
-    let more = filter-append (takes_setting verb) (take i all_settings) (get_or all_settings i s ∷ []) in
-    ap (rules_of names verb) (take-suc all_settings i s l) ∙ ap (map (option_of names)) more ∙ map-append (option_of names) _ _
+rules_of-suc names verb i s l = grind arith
 
 rules_of-one : (names : Names) (verb : Verb) (s : Setting) (b : Bool) → takes_setting verb s ≡ b
     → rules_of names verb (s ∷ []) ≡ (if b then option_of names s ∷ [] else [])
@@ -62,17 +60,14 @@ program_with names (v ∷ vs) = record {
 
 program_with-more : (names : Names) (vs : List Verb) (v : Verb) → program_with names (vs ++ v ∷ []) ≡ with_subcommand (program_with names vs) (shape_for names v)
 program_with-more names [] v = refl
-program_with-more names (w ∷ vs) v = ap (λ (subs : List Shape). record { top = record bare_program.top { is_leaf = false }; subs = shape_for names w ∷ subs })
-    (map-append (shape_for names) vs (v ∷ []))
+program_with-more names (w ∷ vs) v = grind (arith, map-append)
 
 -- one more command
 pub adds_one : (names : Names) (i : ℕ) (v : Verb) (old sub new : Command) → i < length all_verbs
     → app_of old ≡ program_with names (take i all_verbs) → AddsSubcommand old sub new
     → (out-Command sub).has_globals ≡ false → shape_of sub ≡ shape_for names (get_or all_verbs i v)
     → app_of new ≡ program_with names (take (i + 1) all_verbs)
-adds_one names i v old sub new l before adds local shape =
-    let more = ap (program_with names) (take-suc all_verbs i v l) ∙ program_with-more names (take i all_verbs) (get_or all_verbs i v) in
-    rw (add-one) (adds.shape local ∙ ap₂ with_subcommand before shape ∙ sym more)
+adds_one names i v old sub new l before adds local shape = search rules
 
 -- all commands
 pub adds_all : (names : Names) (i : ℕ) (c : Command) → length all_verbs ≤ i → app_of c ≡ program_with names (take i all_verbs)

@@ -1,16 +1,16 @@
 -- Consequences of clap's definitions for the program's command line.
-use Rattle.std.proofs.Common.{◌≡◌, ◌∙◌, ℕ, Bool, true, false, List, [], ◌∷◌, Option, Some, None, refl, sym, subst, arith}
+use Rattle.std.proofs.Common.{◌≡◌, ◌∙◌, ℕ, Bool, true, false, List, [], ◌∷◌, Option, Some, None, refl, sym, subst, arith, rules}
 use Rattle.std.specs.Prelude.{find, IfSome, map, option_map, Result, Ok, Err, unwrap_or}
 use Rattle.std.specs.{Option.option_map_or, Str.Parse.ParsesUnsigned}
 use Rattle.std.proofs.lemmas.Result.{MatchResult-at_ok}
 use Rattle.clap.specs.Words.{App, FailsBy, HasMatchesOf, ReadsOne, Shape, Text, fault_of, is_simple_and_free, subcommand_of, subcommand_rows_of, takes}
-use Rattle.clap.specs.Simple.{argument_words, built, built_leaf, entered, inherited, label_of, marked_built, names_of, on_top, rows_at, with_leaf_noted}
-use Rattle.clap.specs.{Walk.answers_to, Walk.stop_after, ValueTests.is_unsigned_in}
+use Rattle.clap.specs.Simple.{built, built_leaf, entered, inherited, rows_at}
+use Rattle.clap.specs.{ValueTests.is_unsigned_in}
 use Rattle.clap.proofs.ValueTestLemmas.{Accepts-accepts, accepts-Accepts}
 use Rattle.clap.specs.declared.builder.value_parser.ValueParser.TheVariants as parser
 use Rattle.clap.specs.declared.parser.matches.ArgMatches.{ArgMatches}
 use Rattle.clap.specs.declared.error.{Error.Error, kind.ErrorKind.ErrorKind, kind.ErrorKind.TheVariants.OutOfMemory}
-use Rattle.bpfcanon.specs.{declared.verb.Verb.Verb, Verbs.IsVerbName, Verbs.all_verbs}
+use Rattle.bpfcanon.specs.{declared.verb.Verb.Verb, Verbs.IsVerbName}
 use Rattle.bpfcanon.specs.line.{Options.Names, Options.program, Options.shape_for, Parse.number_named}
 
 abbrev HasVerbNames : List Shape → Type 0
@@ -19,11 +19,7 @@ HasVerbNames (s ∷ ss) = IsVerbName s.name × HasVerbNames ss
 
 found_is_verb : (q : Shape → Bool) (ss : List Shape) → HasVerbNames ss → IfSome (find q ss) (λ s. IsVerbName s.name)
 found_is_verb q [] h = tt
-found_is_verb q (s ∷ ss) h = go (q s) refl (found_is_verb q ss h.1)
-  where
-    go : (x : Bool) → q s ≡ x → IfSome (find q ss) (λ s. IsVerbName s.name) → IfSome (find q (s ∷ ss)) (λ s. IsVerbName s.name)
-    go true e r = rw e h.0
-    go false e r = rw e r
+found_is_verb q (s ∷ ss) h = grind (arith, (found_is_verb q ss h.1))
 
 -- building keeps the names of commands
 built_has_names : (names : Names) (top : Shape) (vs : List Verb) → HasVerbNames (map built_leaf (map (inherited top) (map (shape_for names) vs)))
@@ -38,14 +34,12 @@ named_at (Some s) words h = h
 entered_is_verb : (names : Names) (stop : Option (Text × List Text))
     → IfSome (entered (built (program names)) stop) (λ p. IsVerbName p.0)
 entered_is_verb names None = tt
-entered_is_verb names (Some p) = named_at _ p.1
-    (found_is_verb (λ s. answers_to p.0 (label_of s)) (built (program names)).subs (built_has_names names (on_top with_leaf_noted (on_top marked_built (program names))).top all_verbs))
+entered_is_verb names (Some p) = search (rules, named_at, found_is_verb, built_has_names)
 
 -- the subcommand that the arguments name is a command of the program
 pub subcommand_is_verb : (names : Names) (words : List Text)
     → IfSome (subcommand_of (program names) words) (λ p. IsVerbName p.0)
-subcommand_is_verb names words = entered_is_verb names
-    (stop_after (built (program names)).top.rules (names_of (built (program names))) (argument_words (program names) words))
+subcommand_is_verb names words = search (rules, entered_is_verb)
 
 -- the matches of clap agree with its definitions for the program
 pub found_is_stated : (names : Names) (a : App) (words : List Text) (m : ArgMatches) → a ≡ program names

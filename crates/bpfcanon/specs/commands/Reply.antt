@@ -1,5 +1,5 @@
 -- The reply of a command to an input, if no device fails.
-use Rattle.std.specs.Prelude.{◌≡◌, ◌<◌, ◌≤◌, ◌++◌, ◌*◌, ◌↔◌, ℕ, Bool, true, false, List, [], ◌∷◌, IsTrue, codes, drop, filter, length, take}
+use Rattle.std.specs.Prelude.{◌≡◌, ◌<◌, ◌≤◌, ◌++◌, ◌*◌, ◌↔◌, ℕ, Bool, true, false, List, [], IsTrue, codes, drop, filter, length, take}
 use Rattle.std.specs.List.{flat_map}
 use Rattle.bpf_words.specs.declared.Order.{Order}
 use Rattle.bpf_insn.specs.declared.{insn.Insn.Insn, group.Group.Group, fault.SlotFault.SlotFault, fault.SlotCause.TheVariants.Truncated}

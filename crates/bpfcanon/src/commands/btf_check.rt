@@ -23,6 +23,7 @@ fn count_line<A: Allocator>(alloc: A, count: u32) -> Result<Vec<u8, A>, AllocErr
 }
 
 /// The reply of `btf-check`. `void` is not counted.
+#[tactic(auto, using(crate::proofs::CommandsLemmas::Replies::btf_replies))]
 pub fn btf_check_reply<A: Allocator + Copy>(alloc: A, input: &[u8]) -> Result<Reply<A>, AllocError>
     requires { length input.now ≤ limit_of BtfCheck }
     ensures { IfOk result (λ r.

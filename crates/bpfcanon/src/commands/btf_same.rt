@@ -12,6 +12,7 @@ use bpf_canon::{SideError, same_btf};
 use std::alloc::{AllocError, Allocator};
 
 /// The reply of `btf-same`. The magic in each header shows the byte order of the file.
+#[tactic(auto, using(crate::proofs::CommandsLemmas::Replies::btf_same_replies))]
 pub fn btf_same_reply<A: Allocator + Copy>(
     alloc: A,
     split: u64,

@@ -21,6 +21,7 @@ use btf_types::{BtfError, BtfView, TypeTable};
 use std::alloc::Allocator;
 
 /// Appends the lines of a type's items, and writes each long piece.
+#[tactic(auto, using(crate::proofs::CommandsLemmas::BtfShowLemmas::items_more))]
 fn put_items<A: Allocator, W: ByteSink, T: TypeTable>(
     sink: &mut W,
     piece: &mut Vec<u8, A>,
@@ -41,6 +42,7 @@ fn put_items<A: Allocator, W: ByteSink, T: TypeTable>(
 }
 
 /// Appends the lines of a type and its items, and writes each long piece.
+#[tactic(auto, using(crate::proofs::CommandsLemmas::BtfShowLemmas::record_lines))]
 fn put_record<A: Allocator, W: ByteSink, T: TypeTable>(
     sink: &mut W,
     piece: &mut Vec<u8, A>,
@@ -76,6 +78,7 @@ fn put_types<A: Allocator, W: ByteSink, T: TypeTable>(
 }
 
 /// Runs `btf-show` on its input. Nothing is written if the input has a fault.
+#[tactic(auto, using(crate::proofs::CommandsLemmas::BtfShowLemmas::show_ends))]
 pub fn put_btf_show<A: Allocator + Copy, W: ByteSink>(
     alloc: A,
     job: Job,

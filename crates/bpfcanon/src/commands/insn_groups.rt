@@ -25,6 +25,7 @@ fn group_lines<A: Allocator>(alloc: A, set: GroupSet) -> Result<Vec<u8, A>, Allo
 }
 
 /// The reply of `insn-groups`.
+#[tactic(auto, using(crate::proofs::CommandsLemmas::Replies::insn_replies))]
 pub fn insn_groups_reply<A: Allocator + Copy>(
     alloc: A,
     order: Order,

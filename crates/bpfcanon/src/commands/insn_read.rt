@@ -11,6 +11,7 @@ use bpf_text::{ListError, read_listing_bytes};
 use std::alloc::{AllocError, Allocator};
 
 /// The reply of `insn-read`: the instructions of a listing, encoded in the byte order `to`.
+#[tactic(auto, using(crate::proofs::CommandsLemmas::Replies::insn_replies))]
 pub fn insn_read_reply<A: Allocator + Copy>(
     alloc: A,
     to: Order,

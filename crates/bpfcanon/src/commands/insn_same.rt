@@ -12,6 +12,7 @@ use bpf_canon::{SideError, same_insns};
 use std::alloc::{AllocError, Allocator};
 
 /// The reply of `insn-same`. The byte orders of the two files are independent.
+#[tactic(auto, using(crate::proofs::CommandsLemmas::Replies::insn_same_replies))]
 pub fn insn_same_reply<A: Allocator + Copy>(
     alloc: A,
     job: Job,

@@ -46,6 +46,7 @@ fn put_listing<A: Allocator, W: ByteSink>(
 }
 
 /// Runs `insn-show` on its input. Nothing is written if the input has a fault.
+#[tactic(auto, using(crate::proofs::CommandsLemmas::InsnShowLemmas::show_ends))]
 pub fn put_insn_show<A: Allocator, W: ByteSink>(
     alloc: A,
     job: Job,

@@ -1,5 +1,4 @@
-use Rattle.std.proofs.Common.{arith, ◌∙◌, sym, List, ℕ, subst}
-use Rattle.std.specs.{List.flat_map, Borrow.Bor, Io.KnownBytes.Appends}
+use Rattle.std.proofs.Common.{arith, ◌∙◌, sym}
 use Rattle.std.proofs.lemmas.List.{take_all}
 use Rattle.bpfcanon.proofs.OutcomeLemmas.{took_part, took_whole}
 use Rattle.bpfcanon.proofs.outcome.report_parts.Goals as goal
@@ -10,7 +9,4 @@ returns-then-is_err g c =
     (sym c.is_err.ensures.value ∙ c.if-is_err.true) c.put_all.ensures.taken c.put_all.ensures.count
 
 pub returns : goal.returns
-returns g c =
-    let all = take_all c.loop-part.part-index c.args.parts.now (omega arith) in
-    let P : List (Bor (List ℕ)) → Type 0 = λ x. Appends (g.E.ByteSink.contents c.args.faults.now) (g.E.ByteSink.contents c.loop-part.faults) (flat_map (λ p. p.now) x) in
-    took_whole _ _ _ _ _ (subst P all c.loop-part.invariant.took) c.loop-part.invariant.healthy
+returns g c = grind (arith, take_all, took_whole)

@@ -1,4 +1,4 @@
-use Rattle.std.proofs.Common.{rules}
+use Rattle.std.proofs.Common.{arith}
 use Rattle.bpfcanon.proofs.{JobLemmas.ends_answered, CommandsLemmas.InsnCanonLemmas.canon_done, CommandsLemmas.InsnCanonLemmas.canon_stopped}
 use Rattle.bpfcanon.proofs.CommandsLemmas.BtfCanonLemmas.{btf_canon_done, btf_canon_stopped}
 use Rattle.bpfcanon.proofs.run.run_job.Goals as goal
@@ -21,6 +21,4 @@ returns-in-Err-run_btf g c =
     c.in-Err-run_btf.ensures.writes c.of_stop-in-Err-run_btf.result c.of_stop-in-Err-run_btf.ensures
 
 pub returns-in-Ok-read_input : goal.returns-in-Ok-read_input
-returns-in-Ok-read_input g c =
-    let read = rw c.as_slice.ensures.value at c.answer.ensures in
-    ends_answered c.args.job _ _ c.in-Ok-read_input.input.items c.answer.result (search rules) c.in-Ok-read_input.ensures.input read
+returns-in-Ok-read_input g c = grind (arith, ends_answered)

@@ -1,13 +1,7 @@
 use Rattle.std.proofs.Common.{◌<◌, ◌≤◌, length, arith}
 use Rattle.bpfcanon.proofs.CommandsLemmas.BtfShowLemmas.{types_more, types_put, types_stopped}
-use Rattle.bpfcanon.proofs.CommandsLemmas.PiecesLemmas.{gathered_none, puts_handed, still_under}
+use Rattle.bpfcanon.proofs.CommandsLemmas.PiecesLemmas.{puts_handed}
 use Rattle.bpfcanon.proofs.commands.btf_show.put_types.Goals as goal
-
-pub loop-index-init : goal.loop-index-init
-loop-index-init g c = rw c.new-piece.ensures.items (gathered_none _ _)
-
-pub put_record-requires-clause-sink : goal.put_record-requires-clause-sink
-put_record-requires-clause-sink g c = still_under _ _ _ c.loop-index.invariant.healthy c.requires
 
 pub returns-in_err-put_record : goal.returns-in_err-put_record
 returns-in_err-put_record g c =
@@ -21,9 +15,6 @@ loop-index-preserved g c =
     let v = g.T.TypeTable.meaning c.args.table.now in
     let inside : c.loop-index.index < length v = omega (arith, c.loop-index-test.true, c.count-index-end.ensures.count) in
     types_more _ _ _ _ _ _ _ _ v c.loop-index.index inside c.loop-index.invariant c.in_ok-put_record.ensures
-
-pub put_piece-requires : goal.put_piece-requires
-put_piece-requires g c = still_under _ _ _ c.loop-index.invariant.healthy c.requires
 
 pub returns : goal.returns
 returns g c =

@@ -1,21 +1,10 @@
-use Rattle.std.proofs.Common.{◌∙◌, add-zero}
+use Rattle.std.proofs.Common.{◌∙◌, add-zero, arith}
 use Rattle.bpfcanon.specs.JobEnds.{no_memory, read_failed}
 use Rattle.bpfcanon.proofs.JobLemmas.{ends_too_long, whole_input}
 use Rattle.bpfcanon.proofs.commands.input.read_input.Goals as goal
 
-pub returns-in-Ok-clause-input : goal.returns-in-Ok-clause-input
-returns-in-Ok-clause-input g c = record {
-  came = c.in-Ok.ensures.came;
-  ended = c.in-Ok.ensures.end;
-  healthy = c.in-Ok.ensures.healthy;
-  within = rw c.limit.ensures at c.in-Ok.ensures.within;
-}
-
 pub returns-in-Err-TooLong-clause-stopped : goal.returns-in-Err-TooLong-clause-stopped
-returns-in-Err-TooLong-clause-stopped g c = λ sink unused.
-    let came = rw (c.in-Err-TooLong.field-0-is, c.limit.ensures) at c.in-Err-TooLong.ensures.amid in
-    let healthy = rw c.in-Err-TooLong.field-0-is at c.in-Err-TooLong.ensures.count in
-    ends_too_long c.args.job _ sink c.requires.whole (came.0, (came.1.0, came.1.1.0)) (healthy ∙ add-zero _) unused.0 unused.1
+returns-in-Err-TooLong-clause-stopped g c = grind (arith, ends_too_long)
 
 pub returns-in-Err-ReadFailed-clause-stopped : goal.returns-in-Err-ReadFailed-clause-stopped
 returns-in-Err-ReadFailed-clause-stopped g c = λ sink unused.

@@ -1,7 +1,6 @@
-use Rattle.std.proofs.Common.{◌≡◌, ◌++◌, ◌∙◌, append_assoc, codes}
+use Rattle.std.proofs.Common.{◌≡◌, ◌++◌, ◌∙◌, append_assoc, codes, arith}
 use Rattle.bpf_text.specs.insn.Lines.{line_of}
 use Rattle.bpfcanon.proofs.CommandsLemmas.InsnShowLemmas.{faultless, line, listed_front, listed_handed, listed_more, listed_none, listed_put, listed_stopped, moved_on}
-use Rattle.bpfcanon.proofs.CommandsLemmas.PiecesLemmas.{still_under}
 use Rattle.bpfcanon.proofs.commands.insn_show.put_listing.Goals as goal
 
 pub loop-pos-init : goal.loop-pos-init
@@ -10,9 +9,6 @@ loop-pos-init g c = rw c.new-piece.ensures.items (listed_none c.args.order c.arg
 pub returns-in_err-push_line-in-Ok : goal.returns-in_err-push_line-in-Ok
 returns-in_err-push_line-in-Ok g c =
     listed_handed _ _ _ _ c.from_residual.result c.from_residual.ensures.1 (listed_front _ _ _ _ _ _ _ _ c.loop-pos.invariant c.loop-pos-test.true)
-
-pub put_long_piece-requires : goal.put_long_piece-requires
-put_long_piece-requires g c = still_under _ _ _ c.loop-pos.invariant.gathered.healthy c.requires.sink
 
 pub returns-in_err-put_long_piece-in-Ok : goal.returns-in_err-put_long_piece-in-Ok
 returns-in_err-put_long_piece-in-Ok g c =
@@ -25,16 +21,10 @@ pub loop-pos-smaller : goal.loop-pos-smaller
 loop-pos-smaller g c = moved_on _ _ _ _ _ _ _ _ c.loop-pos.invariant c.in-Ok.found.0 c.in-Ok.found.1 c.loop-pos-test.true c.in-Ok.ensures.found
 
 pub loop-pos-preserved : goal.loop-pos-preserved
-loop-pos-preserved g c =
-    let pushed : c.push_line.new.out.items ≡ c.loop-pos.piece.items ++ line c.in-Ok.found.0 =
-    c.in_ok-push_line-in-Ok.ensures.ok ∙ append_assoc c.loop-pos.piece.items (line_of c.in-Ok.found.0) (codes "\n") in
-    listed_more _ _ _ _ _ _ _ _ c.loop-pos.invariant _ _ _ c.in-Ok.found.0 c.in-Ok.found.1 c.loop-pos-test.true c.in-Ok.ensures.found (rw pushed at c.in_ok-put_long_piece-in-Ok.ensures.gathered)
+loop-pos-preserved g c = grind (arith, append_assoc, listed_more)
 
 pub unreachable-requires : goal.unreachable-requires
 unreachable-requires g c = faultless _ _ _ _ _ _ _ _ c.loop-pos.invariant c.in-Err.field-0 c.loop-pos-test.true c.in-Err.ensures.fault
-
-pub put_piece-requires : goal.put_piece-requires
-put_piece-requires g c = still_under _ _ _ c.loop-pos.invariant.gathered.healthy c.requires.sink
 
 pub returns : goal.returns
 returns g c = listed_put _ _ _ _ _ _ _ _ c.loop-pos.invariant _ _ c.put_piece.result c.loop-pos-test.false c.put_piece.ensures.put

@@ -1,15 +1,14 @@
-use Rattle.std.proofs.Common.{◌≡◌, ◌++◌, ◌∙◌, ap}
+use Rattle.std.proofs.Common.{◌≡◌, ◌++◌, ◌∙◌, ap, arith}
 use Rattle.std.specs.List.{flat_map}
 use Rattle.btf_types.specs.{Names.head_name, Values.head_value}
-use Rattle.bpf_text.specs.btf.{BtfText.head_line, BtfText.quoted_byte, LineParts.head_end, LineParts.head_fields, LineParts.head_start}
+use Rattle.bpf_text.specs.btf.{BtfText.quoted_byte, LineParts.head_end, LineParts.head_fields, LineParts.head_start}
 use Rattle.bpf_text.proofs.BtfLemmas.LinePartsLemmas.{head_parts}
 use Rattle.bpfcanon.proofs.CommandsLemmas.LongNameLemmas.{last_gathers, last_refused, name_unwritten, some_end, some_head}
 use Rattle.bpfcanon.proofs.CommandsLemmas.PiecesLemmas.{gathers_handed, gathers_none}
 use Rattle.bpfcanon.proofs.commands.lines.put_head.Goals as goal
 
 pub returns-in_err-append_head_start-clause-gathered : goal.returns-in_err-append_head_start-clause-gathered
-returns-in_err-append_head_start-clause-gathered g c =
-    gathers_none _ _ _ c.args.piece.now.items (head_line c.args.id (head_value c.args.head) c.args.items) c.from_residual.result (some_head c.args.id (head_value c.args.head) c.args.items) c.from_residual.ensures.1
+returns-in_err-append_head_start-clause-gathered g c = grind (arith, gathers_none, some_head)
 
 pub returns-in_err-put_name-clause-gathered : goal.returns-in_err-put_name-clause-gathered
 returns-in_err-put_name-clause-gathered g c =

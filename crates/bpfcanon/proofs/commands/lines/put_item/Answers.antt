@@ -1,15 +1,14 @@
-use Rattle.std.proofs.Common.{◌≡◌, ◌++◌, ◌∙◌, ap}
+use Rattle.std.proofs.Common.{◌≡◌, ◌++◌, ◌∙◌, ap, arith}
 use Rattle.std.specs.List.{flat_map}
 use Rattle.btf_types.specs.{Names.item_name, Values.item_value}
-use Rattle.bpf_text.specs.btf.{BtfText.item_line, BtfText.quoted_byte, LineParts.item_end, LineParts.item_fields, LineParts.item_start}
+use Rattle.bpf_text.specs.btf.{BtfText.quoted_byte, LineParts.item_end, LineParts.item_fields, LineParts.item_start}
 use Rattle.bpf_text.proofs.BtfLemmas.LinePartsLemmas.{item_parts}
 use Rattle.bpfcanon.proofs.CommandsLemmas.LongNameLemmas.{last_gathers, last_refused, name_unwritten, some_end, some_item}
 use Rattle.bpfcanon.proofs.CommandsLemmas.PiecesLemmas.{gathers_handed, gathers_none}
 use Rattle.bpfcanon.proofs.commands.lines.put_item.Goals as goal
 
 pub returns-in_err-append_item_start-clause-gathered : goal.returns-in_err-append_item_start-clause-gathered
-returns-in_err-append_item_start-clause-gathered g c =
-    gathers_none _ _ _ c.args.piece.now.items (item_line c.args.signed (item_value c.args.item)) c.from_residual.result (some_item c.args.signed (item_value c.args.item)) c.from_residual.ensures.1
+returns-in_err-append_item_start-clause-gathered g c = grind (arith, gathers_none, some_item)
 
 pub returns-in_err-put_name-clause-gathered : goal.returns-in_err-put_name-clause-gathered
 returns-in_err-put_name-clause-gathered g c =

@@ -1,13 +1,7 @@
-use Rattle.std.proofs.Common.{◌≤◌, ◌+◌, length, arith}
-use Rattle.bpfcanon.proofs.CommandsLemmas.LongNameLemmas.{name_all, name_more, name_stopped}
-use Rattle.bpfcanon.proofs.CommandsLemmas.PiecesLemmas.{gathered_held, gathers_handed, still_under}
+use Rattle.std.proofs.Common.{◌≤◌, ◌+◌, arith}
+use Rattle.bpfcanon.proofs.CommandsLemmas.LongNameLemmas.{name_more, name_stopped}
+use Rattle.bpfcanon.proofs.CommandsLemmas.PiecesLemmas.{gathers_handed}
 use Rattle.bpfcanon.proofs.commands.lines.put_name.Goals as goal
-
-pub loop-start-init : goal.loop-start-init
-loop-start-init g c = gathered_held _ _ c.args.piece.now.items
-
-pub put_chunk-requires-clause-sink : goal.put_chunk-requires-clause-sink
-put_chunk-requires-clause-sink g c = still_under _ _ _ c.loop-start.invariant.healthy c.requires
 
 pub returns-in_err-put_chunk : goal.returns-in_err-put_chunk
 returns-in_err-put_chunk g c =
@@ -21,8 +15,3 @@ loop-start-preserved g c =
     let low : c.loop-start.start ≤ c.loop-start.start + c.min.result = omega arith in
     name_more _ _ _ _ _ _ _ _ c.args.piece.now.items c.args.name.now c.loop-start.start (c.loop-start.start + c.min.result) low
     c.loop-start.invariant c.in_ok-put_chunk.ensures.gathered
-
-pub returns : goal.returns
-returns g c =
-    let done : length c.args.name.now ≤ c.loop-start.start = omega (arith, c.loop-start-test.false) in
-    name_all _ _ c.args.piece.now.items c.args.name.now c.loop-start.start done c.loop-start.invariant

@@ -1,12 +1,6 @@
-use Rattle.bpfcanon.proofs.LineLemmas.OptionsLemmas.{adds_all, adds_one}
+use Rattle.bpfcanon.proofs.LineLemmas.OptionsLemmas.{adds_one}
 use Rattle.bpfcanon.proofs.line.options.program_command.Goals as goal
-
-pub loop-verb-init : goal.loop-verb-init
-loop-verb-init c = c.bare_command-program.ensures
 
 pub loop-verb-preserved : goal.loop-verb-preserved
 loop-verb-preserved c =
     adds_one _ c.loop-verb.verb-index _ _ _ _ c.loop-verb-test.true c.loop-verb.invariant c.in_ok-program.ensures c.in_ok-verb_command.ensures.local c.in_ok-verb_command.ensures.shape
-
-pub returns : goal.returns
-returns c = adds_all _ c.loop-verb.verb-index _ c.loop-verb-test.false c.loop-verb.invariant

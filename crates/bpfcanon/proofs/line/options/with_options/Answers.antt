@@ -1,10 +1,7 @@
 use Rattle.std.proofs.Common.{◌∙◌, sym, refl}
-use Rattle.bpfcanon.proofs.LineLemmas.OptionsLemmas.{skips_one, takes_all, takes_one}
+use Rattle.bpfcanon.proofs.LineLemmas.OptionsLemmas.{skips_one, takes_one}
 use Rattle.bpfcanon.proofs.line.options.with_options.Goals.{then-takes+in_ok-command, else-takes}
 use Rattle.bpfcanon.proofs.line.options.with_options.Goals as goal
-
-pub loop-setting-init : goal.loop-setting-init
-loop-setting-init c = record { shape = c.requires.shape; local = c.requires.local }
 
 pub loop-setting-preserved : goal.loop-setting-preserved
 loop-setting-preserved c = elim c.if-takes.branch [
@@ -22,9 +19,3 @@ loop-setting-preserved c = elim c.if-takes.branch [
         local = rw w.command-is c.loop-setting.invariant.local;
       }
 ]
-
-pub returns-clause-shape : goal.returns-clause-shape
-returns-clause-shape c = takes_all _ c.args.verb c.loop-setting.setting-index _ c.loop-setting-test.false c.loop-setting.invariant.shape
-
-pub returns-clause-local : goal.returns-clause-local
-returns-clause-local c = c.loop-setting.invariant.local

@@ -1,5 +1,0 @@
-use Rattle.bpfcanon.proofs.OutcomeLemmas.{took_line}
-use Rattle.bpfcanon.proofs.outcome.report_line.Goals as goal
-
-pub returns : goal.returns
-returns g c = took_line _ _ _ _ c.args.line.now c.put_all.result c.put_all.ensures.ok c.put_all.ensures.taken c.put_all.ensures.count
