@@ -172,10 +172,8 @@ pub(crate) fn insn_from_operands(
             })
         }
         Mnemonic::StoreReg(size) => {
-            both(address(operands[0]), register(operands[1])).map(|(
-                (dst, off),
-                src,
-            )| Insn::StoreReg {
+            let fields = both(address(operands[0]), register(operands[1]));
+            fields.map(|((dst, off), src)| Insn::StoreReg {
                 size,
                 dst,
                 src,
