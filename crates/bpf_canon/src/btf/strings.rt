@@ -5,12 +5,8 @@
 //! string up to the next NUL, a rank among the sorted longest strings, a host, and an offset in the
 //! new table.
 
-pub(crate) mod first_uses;
-mod host_places;
-mod hosts_by_rank;
-mod longest;
+mod hosts;
 pub(crate) mod places;
 mod ranked_texts;
-mod ranks;
 mod section_texts;
-mod used_offsets;
+pub(crate) mod used_offsets;

@@ -7,12 +7,10 @@ ghost use Rattle.btf_types.specs.strings.SharedNames.{shared_table, shared_place
 ghost use Rattle.bpf_canon.specs.btf.strings.HostPlaces.{name_place};
 ghost use Rattle.bpf_canon.specs.btf.strings.NamesByPlace.{placed_texts};
 
-use crate::btf::strings::first_uses::FirstUses;
-use crate::btf::strings::host_places::{HostPlaces, Span, place_hosts};
-use crate::btf::strings::hosts_by_rank::{InHost, find_hosts};
-use crate::btf::strings::longest::longest_texts;
+use crate::btf::strings::hosts::{HostPlaces, InHost, Span, find_hosts, place_hosts};
 use crate::btf::strings::ranked_texts::RankedTexts;
-use crate::btf::strings::used_offsets::UsedOffsets;
+use crate::btf::strings::section_texts::longest_texts;
+use crate::btf::strings::used_offsets::{FirstUses, UsedOffsets};
 use std::alloc::{AllocError, Allocator};
 use std::marker::Model;
 

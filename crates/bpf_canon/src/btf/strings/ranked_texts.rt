@@ -1,12 +1,14 @@
-//! The longest used strings of a section, sorted by their reversed bytes.
-ghost use Rattle.std.specs.Prelude.{◌≡◌, ◌<◌, ◌^◌, length, IfOk};
+//! The longest used strings of a section, sorted by their reversed bytes, and what their ranks
+//! determine: common suffixes and hosts.
+ghost use Rattle.std.specs.Prelude.{◌≡◌, ◌<◌, ◌^◌, length, IfOk, ◌≤◌, ℕ, slice_index};
 ghost use Rattle.std.specs.List.{All};
 ghost use Rattle.std.specs.List.Sorted.{IsPermutation};
-ghost use Rattle.bpf_canon.specs.btf.strings.Ranks.{AreRanked};
-ghost use Rattle.bpf_canon.specs.btf.strings.SectionTexts.{texts_in, HasKey};
+ghost use Rattle.bpf_canon.specs.btf.strings.Ranks.{AreRanked, AreCommon, AreNextHosts, AreLower};
+ghost use Rattle.bpf_canon.specs.btf.strings.SectionTexts.{texts_in, HasKey, text_in, common_in};
+ghost use Rattle.bpf_canon.specs.btf.strings.SuffixKeys.{HaveSameByte};
+ghost use Rattle.btf_types.specs.strings.CommonTails as spec;
 
-use crate::btf::strings::ranks::{common_suffixes, next_hosts};
-use crate::btf::strings::section_texts::{SectionText, sort_texts};
+use crate::btf::strings::section_texts::{SectionText, sort_texts, text_of};
 use std::alloc::{AllocError, Allocator};
 
 /// Strings sorted by reversed bytes, with the common-suffix lengths and the host of each rank.
@@ -46,4 +48,136 @@ impl<'a, A: Allocator + Copy> RankedTexts<'a, A> {
             hosts,
         })
     }
+}
+
+/// The length of the longest common suffix of two strings.
+#[tactic(auto, using(crate::proofs::BtfLemmas::Strings::RankSteps::suffix_cases))]
+fn common_suffix(a: &[u8], b: &[u8]) -> usize
+    ensures common { result ≡ spec.common_tail a.now b.now }
+    ensures first { result ≤ length a.now }
+{
+    let most = a.len().min(b.len());
+    for n in 0..most {
+        if a[a.len() - 1 - n] != b[b.len() - 1 - n] {
+            return n;
+        }
+    }
+    most
+}
+
+/// The length of the common suffix of the eight bytes of each of two keys.
+#[tactic(auto, using(crate::proofs::BtfLemmas::Strings::CommonBits::byte_cases))]
+fn common_bytes(a: u64, b: u64) -> usize
+    ensures few { result ≤ 8 }
+    ensures same { (j : ℕ) → j < result → HaveSameByte a b j }
+    ensures differ { result < 8 → ¬ HaveSameByte a b result }
+{
+    (a ^ b).leading_zeros() as usize / 8
+}
+
+/// The length of the longest common suffix of two strings of a section. Usually it follows from
+/// their keys, and the section isn't read.
+fn common_of(section: &[u8], a: &SectionText, b: &SectionText) -> usize
+    requires first { HasKey section.now a.now }
+    requires second { HasKey section.now b.now }
+    ensures common { result ≡ common_in section.now a.now b.now }
+    ensures inside { result ≤ length (text_in section.now a.now) }
+{
+    let (first, second) = (text_of(section, a), text_of(section, b));
+    let common = common_bytes(a.key, b.key)
+        .min(first.len())
+        .min(second.len());
+    if common < 8 {
+        return common;
+    }
+    let before = common_bytes(a.before, b.before)
+        .min(first.len() - 8)
+        .min(second.len() - 8);
+    if before < 8 {
+        return 8 + before;
+    }
+    common_suffix(first, second)
+}
+
+/// The length of the common suffix of each string and the one before it.
+fn common_suffixes<A: Allocator>(
+    alloc: A,
+    section: &[u8],
+    sorted: &[SectionText],
+) -> Result<Vec<u32, A>, AllocError>
+    requires section { length section.now < 2 ^ 32 }
+    requires keys { All (HasKey section.now) sorted.now }
+    ensures { IfOk result (λ common. AreCommon (texts_in section.now sorted.now) common.items) }
+{
+    let mut common = Vec::with_capacity(alloc, sorted.len())?;
+    for k in 0..sorted.len() {
+        let here = if k == 0 {
+            0
+        } else {
+            common_of(section, &sorted[k - 1], &sorted[k])
+        };
+        common.push(here as u32)?;
+    }
+    Ok(common)
+}
+
+/// The next host of each rank.
+fn next_hosts<A: Allocator>(
+    alloc: A,
+    section: &[u8],
+    sorted: &[SectionText],
+    common: &[u32],
+) -> Result<Vec<u32, A>, AllocError>
+    requires common { AreCommon (texts_in section.now sorted.now) common.now }
+    requires few { length sorted.now < 2 ^ 32 }
+    ensures { IfOk result (λ hosts. AreNextHosts (texts_in section.now sorted.now) hosts.items) }
+{
+    let mut hosts = vec![in alloc; 0; sorted.len()]?;
+    for k in (0..sorted.len()).rev() {
+        let mut host = k as u32;
+        if k + 1 < sorted.len() {
+            let len = text_of(section, &sorted[k]).len();
+            if common[k + 1] as usize == len {
+                host = hosts[k + 1];
+            }
+        }
+        hosts[k] = host;
+    }
+    Ok(hosts)
+}
+
+/// For each rank the last rank before it with a shorter common suffix.
+pub(crate) fn lower_ranks<A: Allocator>(alloc: A, common: &[u32]) -> Result<Vec<u32, A>, AllocError>
+    requires first { slice_index common.now 0 ≡ 0 }
+    requires few { length common.now < 2 ^ 32 }
+    ensures { IfOk result (λ lower. AreLower common.now lower.items) }
+{
+    let mut lower = Vec::with_capacity(alloc, common.len())?;
+    for k in 0..common.len() {
+        let mut before = k;
+        if common[k] != 0 {
+            before = k - 1;
+            'back: while common[before] >= common[k] {
+                before = lower[before] as usize;
+            }
+        }
+        lower.push(before as u32)?;
+    }
+    Ok(lower)
+}
+
+/// The first rank `r` such that the strings of the ranks `r..=from` share a suffix of `len` bytes.
+pub(crate) fn first_rank(common: &[u32], lower: &[u32], from: usize, len: u32) -> usize
+    requires lower { AreLower common.now lower.now }
+    requires inside { from < length common.now }
+    requires some { 0 < len }
+    ensures before { result ≤ from }
+    ensures common { (j : ℕ) → result < j → j ≤ from → len ≤ slice_index common.now j }
+    ensures less { slice_index common.now result < len }
+{
+    let mut rank = from;
+    'back: while common[rank] >= len {
+        rank = lower[rank] as usize;
+    }
+    rank
 }

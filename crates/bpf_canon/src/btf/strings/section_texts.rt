@@ -1,13 +1,17 @@
-//! Strings of a section, and their order by reversed bytes.
-ghost use Rattle.std.specs.Prelude.{◌≡◌, ◌+◌, ◌*◌, ◌^◌, ◌<◌, ◌≤◌, ◌-◌};
+//! Strings of a section: the longest used ones, and their order by reversed bytes.
+ghost use Rattle.std.specs.Prelude.{◌≡◌, ◌+◌, ◌*◌, ◌^◌, ◌<◌, ◌≤◌, ◌-◌, IfOk, length};
 ghost use Rattle.std.specs.Ordering.{on};
 ghost use Rattle.std.specs.List.{All};
 ghost use Rattle.std.specs.List.Sorted.{IsPermutation, IsSorted};
 ghost use Rattle.btf_types.specs.strings.SharedNames.{tail_cmp};
+ghost use Rattle.btf_raw.specs.Header.{HasNulEnds};
+ghost use Rattle.bpf_canon.specs.btf.strings.Longest.{AreLongestOf};
 ghost use Rattle.bpf_canon.specs.btf.strings.SectionTexts as texts;
 
-use crate::btf::suffixes::compare_from_end;
-use std::alloc::Allocator;
+use crate::btf::strings::used_offsets::UsedOffsets;
+use crate::btf::suffixes::{compare_from_end, suffix_key};
+use btf_raw::text_end;
+use std::alloc::{AllocError, Allocator};
 use std::cmp::Ordering;
 
 /// A string of a section, with the keys of its last 16 bytes.
@@ -74,4 +78,37 @@ pub(crate) fn sort_texts<A: Allocator>(section: &[u8], list: &mut Vec<SectionTex
     ensures sorted { IsSorted tail_cmp (texts.texts_in section.now list.new.items) }
 {
     list.sort_unstable_by(|a, b| compare(section, a, b));
+}
+
+/// The longest used suffix of each string of the section. The names at later offsets of the same
+/// string are suffixes of it.
+pub(crate) fn longest_texts<A: Allocator>(
+    alloc: A,
+    section: &[u8],
+    uses: &UsedOffsets<A>,
+) -> Result<Vec<SectionText, A>, AllocError>
+    requires ends { HasNulEnds section.now }
+    requires few { length section.now < 2 ^ 32 }
+    requires whole { length uses.now.slots ≡ length section.now }
+    ensures { IfOk result (λ longest. AreLongestOf section.now uses.now.slots longest.items) }
+{
+    let mut longest = Vec::with_capacity(alloc, uses.count())?;
+    let mut off = 0;
+    'texts: while off < section.len() {
+        if section[off] == 0 || !uses.is_used(off) {
+            off += 1;
+            continue;
+        }
+        let end = text_end(section, off);
+        let text = &section[off..end];
+        let before = &text[..text.len().saturating_sub(8)];
+        longest.push(SectionText {
+            key: suffix_key(text),
+            before: suffix_key(before),
+            start: off as u32,
+            end: end as u32,
+        })?;
+        off = end + 1;
+    }
+    Ok(longest)
 }

@@ -8,7 +8,7 @@ ghost use Rattle.bpf_canon.specs.btf.write.KeptFrames.{AreTable, frames_of};
 ghost use Rattle.bpf_canon.specs.btf.write.NameOffsets.{item_word, name_offsets, all_offsets};
 ghost use Rattle.bpf_canon.specs.btf.write.NameOffsets.{HasNamedItems, IsBelow};
 
-use crate::btf::strings::first_uses::FirstUses;
+use crate::btf::strings::used_offsets::FirstUses;
 use btf_raw::info::{has_item_names, item_words};
 use btf_types::{FileSections, Record};
 use std::alloc::{AllocError, Allocator};

@@ -1,0 +1,8 @@
+use Rattle.std.proofs.Common.{◌≡◌, ℕ, ◌<◌, ◌≤◌, length, map}
+use Rattle.std.specs.Prelude.{slice_index}
+use Rattle.btf_types.specs.strings.CommonTails.{IsNextHost}
+use Rattle.bpf_canon.specs.btf.strings.SectionTexts.{text_in}
+use Rattle.bpf_canon.proofs.btf.strings.ranked_texts.next_hosts.Given as goal
+
+abbrev pub invariant-loop-k : goal.invariant-loop-k
+invariant-loop-k g l = (length l.hosts.items ≡ length l.sorted) × ((j : ℕ) → l.k ≤ j → j < length l.sorted → IsNextHost (map (text_in l.section) l.sorted) j (slice_index l.hosts.items j))
