@@ -35,7 +35,6 @@ took_part a m b f h g parts i d (Err n) l p e bad t count =
     ap joined (sym (take-append-drop i parts)) ∙ flat_map-append (λ (q : Bor (List ℕ)). q.now) (take i parts) (drop i parts)
     ∙ ap (λ t. before ++ joined t) (drop-cons parts i d l) in
     let short : take n (part ++ rest) ≡ take n part = take-append-le n part rest (omega (arith, t.0)) in
-    let cut : take (length before + n) (joined parts) ≡ before ++ take n part =
-    ap (take (length before + n)) split ∙ take-append-add before (part ++ rest) n ∙ ap (λ t. before ++ t) short in
+    let cut : take (length before + n) (joined parts) ≡ before ++ take n part = grind (arith, take-append-add) in
     let P : List ℕ → Type 0 = λ x. Appends a b x in
     record { n = length before + n; took = subst P (sym cut) (Appends-trans a m b before (take n part) p t.1); whole = inr (count ∙ ap (λ x. x + 1) e) }

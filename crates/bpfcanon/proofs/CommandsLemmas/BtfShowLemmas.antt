@@ -1,5 +1,5 @@
 -- The listing of BTF types, which is written in pieces, line by line.
-use Rattle.std.proofs.Common.{◌≡◌, ◌<◌, ◌≤◌, ◌+◌, ◌++◌, ◌∙◌, ℕ, Bool, List, [], ◌∷◌, Option, Some, length, take, drop, refl, sym, ap, subst, arith, append_assoc}
+use Rattle.std.proofs.Common.{◌≡◌, ◌<◌, ◌≤◌, ◌+◌, ◌++◌, ◌∙◌, ℕ, Bool, List, [], ◌∷◌, Option, Some, length, take, drop, refl, sym, ap, subst, arith, append_assoc, rules}
 use Rattle.std.specs.{Prelude.Result, Prelude.Err, Prelude.slice_get, List.flat_map, List.enumerate_from}
 use Rattle.std.proofs.{lemmas.List.take-append-drop, lemmas.List.take_all, lemmas.List.Concat.flat_map-append, KnownBytes.Appends-nil}
 use Rattle.btf_raw.specs.declared.cause.BtfFault.{BtfFault}
@@ -32,16 +32,9 @@ module _ (a b c : Option (List ℕ)) (f g h : ℕ) (held kept old : List ℕ) (s
   pub items_stopped : (e : PutError) → Gathers (change b c g h) kept (held ++ item_line signed x) (Err e)
       → Gathers (change a c f h) kept (old ++ flat_map (item_line signed) xs) (Err e)
   items_stopped e q =
-      let line : Gathers (change a c f h) kept ((old ++ flat_map (item_line signed) (take k xs)) ++ item_line signed x) (Err e) =
-      gathers_then a b c f g h held kept _ _ (Err e) p q in
-      let whole : ((old ++ flat_map (item_line signed) (take k xs)) ++ item_line signed x) ++ flat_map (item_line signed) (drop (k + 1) xs) ≡ old ++ flat_map (item_line signed) xs =
-      ap (λ (t : List ℕ). t ++ flat_map (item_line signed) (drop (k + 1) xs)) (item_shown old signed xs k x is) ∙ items_rest old signed xs (k + 1) in
+      let line : Gathers (change a c f h) kept ((old ++ flat_map (item_line signed) (take k xs)) ++ item_line signed x) (Err e) = search (rules, gathers_then) in
+      let whole : ((old ++ flat_map (item_line signed) (take k xs)) ++ item_line signed x) ++ flat_map (item_line signed) (drop (k + 1) xs) ≡ old ++ flat_map (item_line signed) xs = grind (arith, item_shown, items_rest) in
       subst (λ (t : List ℕ). Gathers (change a c f h) kept t (Err e)) whole (gathers_front (change a c f h) kept _ (flat_map (item_line signed) (drop (k + 1) xs)) e line)
-
--- all items are gathered
-pub items_all : (sink : Change) (held old : List ℕ) (signed : Bool) (xs : List TypeItem) (k : ℕ) → length xs ≤ k
-    → Gathered sink held (old ++ flat_map (item_line signed) (take k xs)) → Gathered sink held (old ++ flat_map (item_line signed) xs)
-items_all sink held old signed xs k done p = grind (arith, take_all)
 
 -- ---- a type
 
@@ -66,8 +59,7 @@ record_put a b c f g h held kept old id items head signed r put is count sign p 
     let others = flat_map (item_line (is_signed r.head)) r.items in
     let line : Gathered (change a b f g) held (old ++ first) = subst (λ (t : List ℕ). Gathered (change a b f g) held (old ++ t)) (head_is id items head r is count) p in
     let sign_is : signed ≡ is_signed r.head = sign ∙ ap is_signed is in
-    let rest : Gathers (change b c g h) kept (held ++ others) put =
-    subst (λ (s : Bool). Gathers (change b c g h) kept (held ++ flat_map (item_line s) r.items) put) sign_is q in
+    let rest : Gathers (change b c g h) kept (held ++ others) put = grind arith in
     subst (λ (t : List ℕ). Gathers (change a c f h) kept t put) (append_assoc old first others) (gathers_then a b c f g h held kept (old ++ first) others put line rest)
 
 -- ---- the types of a table
@@ -98,10 +90,8 @@ module _ (a b c : Option (List ℕ)) (f g h : ℕ) (held kept : List ℕ) (v : L
   pub types_stopped : (e : PutError) → Gathers (change b c g h) kept (held ++ record_text (i + 1) (record_at v (i + 1))) (Err e)
       → TookText (change a c f h) (text_of v) (Err e)
   types_stopped e q =
-      let line : Gathers (change a c f h) kept (text_of (take i v) ++ record_text (i + 1) (record_at v (i + 1))) (Err e) =
-      gathers_then a b c f g h held kept _ _ (Err e) p q in
-      let whole : (text_of (take i v) ++ record_text (i + 1) (record_at v (i + 1))) ++ rest_of v (i + 1) ≡ text_of v =
-      ap (λ (t : List ℕ). t ++ rest_of v (i + 1)) (type_shown v i inside) ∙ types_rest v (i + 1) in
+      let line : Gathers (change a c f h) kept (text_of (take i v) ++ record_text (i + 1) (record_at v (i + 1))) (Err e) = search (rules, gathers_then) in
+      let whole : (text_of (take i v) ++ record_text (i + 1) (record_at v (i + 1))) ++ rest_of v (i + 1) ≡ text_of v = grind (arith, type_shown, types_rest) in
       subst (λ (t : List ℕ). TookText (change a c f h) t (Err e)) whole (gathers_front (change a c f h) kept _ (rest_of v (i + 1)) e line)
 
 -- the sink received the last piece, or a part of it

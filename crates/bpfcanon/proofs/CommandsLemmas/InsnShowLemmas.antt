@@ -73,8 +73,7 @@ module _ (order : Order) (input : List ℕ) (at : ℕ) (a b : Option (List ℕ))
       let left : drop (at + len) input ≡ file_of order n.others =
       sym (drop-drop len at input) ∙ ap (drop len) rest ∙ ap (λ (m : ℕ). drop m (spelling order i ++ file_of order n.others)) found.1
       ∙ drop-append_seam (spelling order i) (file_of order n.others) in
-      let whole : p.before ++ p.after ≡ (p.before ++ i ∷ []) ++ n.others =
-      ap (λ (x : List Insn). p.before ++ x) is ∙ sym (append_assoc p.before (i ∷ []) n.others) in
+      let whole : p.before ++ p.after ≡ (p.before ++ i ∷ []) ++ n.others = grind (arith, append_assoc) in
       record {
         before = p.before ++ i ∷ [];
         after = n.others;
@@ -100,8 +99,7 @@ module _ (order : Order) (input : List ℕ) (at : ℕ) (a b : Option (List ℕ))
       let n = next order input at p.after p.each p.rest more in
       let same : i ≡ n.insn = begins_once order i n.insn _ found n.begins in
       let is : p.after ≡ i ∷ n.others = n.is ∙ ap (λ (x : Insn). x ∷ n.others) (sym same) in
-      let text : listing_of (p.before ++ p.after) ≡ listing_of p.before ++ line i ++ listing_of n.others =
-      ap (λ (x : List Insn). listing_of (p.before ++ x)) is ∙ listing_split p.before n.others i in
+      let text : listing_of (p.before ++ p.after) ≡ listing_of p.before ++ line i ++ listing_of n.others = grind (arith, listing_split) in
       let part : Gathers (change a c f h) kept (listing_of p.before ++ line i) (Err e) =
       gathers_then a b c f g h piece kept _ _ (Err e) p.gathered (subst (λ (t : List ℕ). Gathers (change b c g h) kept t (Err e)) grown q) in
       (p.before ++ p.after, (p.file, subst (λ (t : List ℕ). TookText (change a c f h) t (Err e)) (sym text) (gathers_front (change a c f h) kept _ (listing_of n.others) e part)))

@@ -1,9 +1,9 @@
 -- Lines whose names are written chunk by chunk.
-use Rattle.std.proofs.Common.{◌≡◌, ◌<◌, ◌≤◌, ◌+◌, ◌-◌, ◌++◌, ◌∙◌, ℕ, Bool, true, false, List, [], ◌∷◌, Option, length, take, drop, codes, sym, ap, subst, arith, append_assoc, length-append}
+use Rattle.std.proofs.Common.{◌≡◌, ◌<◌, ◌≤◌, ◌+◌, ◌-◌, ◌++◌, ◌∙◌, ℕ, Bool, true, false, List, [], ◌∷◌, Option, length, take, drop, codes, sym, ap, subst, arith, append_assoc, length-append, rules}
 use Rattle.std.specs.Prelude.{Result, Err, if◌then◌else◌}
 use Rattle.btf_types.specs.Values.{TypeHead, TypeItem}
 use Rattle.std.specs.List.{flat_map}
-use Rattle.std.proofs.{lemmas.List.take-append-drop, lemmas.List.take_all, lemmas.List.Concat.flat_map-append, Math.Seq.take-add}
+use Rattle.std.proofs.{lemmas.List.take-append-drop, lemmas.List.Concat.flat_map-append, Math.Seq.take-add}
 use Rattle.bpf_text.specs.btf.BtfText.{head_line, is_control, item_line, item_text, needs_backslash, quoted_byte}
 use Rattle.bpfcanon.specs.declared.commands.pieces.PutError.{PutError, TheVariants.Memory}
 use Rattle.bpfcanon.specs.{Devices.Change, Devices.change, commands.Pieces.Gathered, commands.Pieces.Gathers, commands.Pieces.Stopped}
@@ -29,10 +29,7 @@ chunk_more : (old name : List ℕ) (start end : ℕ) → start ≤ end
 chunk_more old name start end low =
     let chunk = take (end - start) (drop start name) in
     let whole : start + (end - start) ≡ end = omega (arith, low) in
-    append_assoc old (flat_map quoted_byte (take start name)) (flat_map quoted_byte chunk)
-    ∙ ap (λ (t : List ℕ). old ++ t) (sym (flat_map-append quoted_byte (take start name) chunk))
-    ∙ ap (λ (l : List ℕ). old ++ flat_map quoted_byte l) (sym (take-add start (end - start) name))
-    ∙ ap (λ (n : ℕ). old ++ flat_map quoted_byte (take n name)) whole
+    grind (arith, append_assoc, flat_map-append, take-add)
 
 -- the bytes that are still to be appended
 name_rest : (old name : List ℕ) (end : ℕ) → (old ++ flat_map quoted_byte (take end name)) ++ flat_map quoted_byte (drop end name) ≡ old ++ flat_map quoted_byte name
@@ -51,16 +48,9 @@ module _ (a b c : Option (List ℕ)) (f g h : ℕ) (held kept old name : List �
       → Gathers (change a c f h) kept (old ++ flat_map quoted_byte name) (Err e)
   name_stopped e q =
       let chunk = take (end - start) (drop start name) in
-      let part : Gathers (change a c f h) kept ((old ++ flat_map quoted_byte (take start name)) ++ flat_map quoted_byte chunk) (Err e) =
-      gathers_then a b c f g h held kept _ _ (Err e) p q in
-      let whole : ((old ++ flat_map quoted_byte (take start name)) ++ flat_map quoted_byte chunk) ++ flat_map quoted_byte (drop end name) ≡ old ++ flat_map quoted_byte name =
-      ap (λ (t : List ℕ). t ++ flat_map quoted_byte (drop end name)) (chunk_more old name start end low) ∙ name_rest old name end in
+      let part : Gathers (change a c f h) kept ((old ++ flat_map quoted_byte (take start name)) ++ flat_map quoted_byte chunk) (Err e) = search (rules, gathers_then) in
+      let whole : ((old ++ flat_map quoted_byte (take start name)) ++ flat_map quoted_byte chunk) ++ flat_map quoted_byte (drop end name) ≡ old ++ flat_map quoted_byte name = grind (arith, chunk_more, name_rest) in
       subst (λ (t : List ℕ). Gathers (change a c f h) kept t (Err e)) whole (gathers_front (change a c f h) kept _ (flat_map quoted_byte (drop end name)) e part)
-
--- all chunks are gathered
-pub name_all : (sink : Change) (held old name : List ℕ) (start : ℕ) → length name ≤ start
-    → Gathered sink held (old ++ flat_map quoted_byte (take start name)) → Gathered sink held (old ++ flat_map quoted_byte name)
-name_all sink held old name start done p = grind (arith, take_all)
 
 -- ---- lines aren't empty
 

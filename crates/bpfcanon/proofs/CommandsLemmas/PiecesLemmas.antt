@@ -6,7 +6,7 @@ use Rattle.std.proofs.Math.Seq.{take-append-add, take-append_seam}
 use Rattle.bpfcanon.specs.declared.{job.Job.Job, outcome.Outcome.TheVariants.Done}
 use Rattle.bpfcanon.specs.declared.commands.pieces.PutError.{PutError, TheVariants.WriteFailed, TheVariants.Memory}
 use Rattle.bpfcanon.specs.{Devices.Change, Devices.change, commands.Reply.IsReply, commands.Reply.in_pieces}
-use Rattle.bpfcanon.specs.commands.Pieces.{Answers, Gathered, Gathers, Stopped, StoppedBy, TookText, answered, end_of_pieces, refused_amid, unwritten}
+use Rattle.bpfcanon.specs.commands.Pieces.{Answers, Gathered, Gathers, Stopped, TookText, answered, end_of_pieces, refused_amid, unwritten}
 
 module _ (a b c : Option (List ℕ)) (f g h : ℕ) where
   -- more output, a part of which went to the sink
@@ -18,26 +18,14 @@ module _ (a b c : Option (List ℕ)) (f g h : ℕ) where
   gathered_all : (held text : List ℕ) → Gathered (change a b f g) held text → Appends b c held → h ≡ g → Appends a c text × (h ≡ f)
   gathered_all held text p took healthy = grind (arith, Appends-trans)
 
-  stopped_by : (e : PutError) → g ≡ f → StoppedBy (change b c g h) e → StoppedBy (change a c f h) e
-  stopped_by WriteFailed same by = by ∙ ap (λ (n : ℕ). n + 1) same
-  stopped_by Memory same by = by ∙ same
-
   -- writing stopped inside the held piece and one more line
   stopped_amid : (held text line more : List ℕ) (e : PutError) → Gathered (change a b f g) held text → Stopped (change b c g h) (held ++ line) e
       → Stopped (change a c f h) (text ++ line ++ more) e
   stopped_amid held text line more e p q =
-      let whole : text ++ line ++ more ≡ p.taken ++ ((held ++ line) ++ more) =
-      ap (λ (x : List ℕ). x ++ line ++ more) p.whole ∙ ap (λ (x : List ℕ). x ++ more) (append_assoc p.taken held line) ∙ append_assoc p.taken (held ++ line) more in
-      let front : take (length p.taken + q.count) (text ++ line ++ more) ≡ p.taken ++ take q.count (held ++ line) =
-      ap (take (length p.taken + q.count)) whole ∙ take-append-add p.taken ((held ++ line) ++ more) q.count
-      ∙ ap (λ (x : List ℕ). p.taken ++ x) (take-append-le q.count (held ++ line) more (omega (arith, q.part))) in
+      let whole : text ++ line ++ more ≡ p.taken ++ ((held ++ line) ++ more) = grind (arith, append_assoc) in
+      let front : take (length p.taken + q.count) (text ++ line ++ more) ≡ p.taken ++ take q.count (held ++ line) = grind (arith, take-append-add, take-append-le) in
       let took : Appends a c (p.taken ++ take q.count (held ++ line)) = Appends-trans a b c p.taken (take q.count (held ++ line)) p.took q.took in
-      record {
-        count = length p.taken + q.count;
-        part = omega (arith, q.part, ap length whole, length-append p.taken ((held ++ line) ++ more), length-append (held ++ line) more);
-        took = subst (λ (x : List ℕ). Appends a c x) (sym front) took;
-        by = stopped_by e p.healthy q.by;
-      }
+      grind (arith, length-append)
 
   stopped_then : (held text line : List ℕ) (e : PutError) → Gathered (change a b f g) held text → Stopped (change b c g h) (held ++ line) e
       → Stopped (change a c f h) (text ++ line) e
@@ -81,21 +69,12 @@ gathers_none a f kept old more r some same = grind (arith, length-append, Append
 pub gathered_none : (a : Option (List ℕ)) (f : ℕ) → Gathered (change a a f f) [] []
 gathered_none a f = record { taken = []; took = Appends-nil a; whole = refl; healthy = refl }
 
--- the held piece is all of the output
-pub gathered_held : (a : Option (List ℕ)) (f : ℕ) (held : List ℕ) → Gathered (change a a f f) held (held ++ [])
-gathered_held a f held = record { taken = []; took = Appends-nil a; whole = append-nil held; healthy = refl }
-
 -- memory ran out for the bytes that follow the output
 pub front_more : (a b : Option (List ℕ)) (f g : ℕ) (held text more : List ℕ) → 0 < length more → Gathered (change a b f g) held text → Stopped (change a b f g) (text ++ more) Memory
 front_more a b f g held text more some p =
     let whole : text ++ more ≡ p.taken ++ (held ++ more) = ap (λ (x : List ℕ). x ++ more) p.whole ∙ append_assoc p.taken held more in
     let front : take (length p.taken) (text ++ more) ≡ p.taken = ap (take (length p.taken)) whole ∙ take-append_seam p.taken (held ++ more) in
-    record {
-      count = length p.taken;
-      part = omega (arith, some, ap length whole, length-append p.taken (held ++ more), length-append held more);
-      took = subst (λ (x : List ℕ). Appends a b x) (sym front) p.took;
-      by = p.healthy;
-    }
+    grind (arith, length-append)
 
 -- the job of a command that wrote its output in pieces ends with it
 pub pieces_end : (j : Job) (input output : List ℕ) (sink : Change) (r : Result (Unit {0}) PutError) → in_pieces j.verb ≡ true → IsReply j.verb j input Done output
@@ -103,7 +82,3 @@ pub pieces_end : (j : Job) (input output : List ℕ) (sink : Change) (r : Result
 pieces_end j input output sink (Ok done) pieces reply put = answered Done output reply put.0 put.1
 pieces_end j input output sink (Err WriteFailed) pieces reply put = unwritten Done output reply put
 pieces_end j input output sink (Err Memory) pieces reply put = refused_amid Done output pieces reply put
-
--- fewer calls have failed than can be counted
-pub still_under : (f g most : ℕ) → g ≡ f → f < most → g < most
-still_under f g most e h = omega (arith, e, h)

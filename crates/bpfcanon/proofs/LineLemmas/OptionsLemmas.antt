@@ -1,13 +1,13 @@
 -- How the program's command line is built, one option and one command at a time.
-use Rattle.std.proofs.Common.{◌≡◌, ◌∙◌, ◌+◌, ◌++◌, ◌<◌, ◌≤◌, append-nil, ℕ, Bool, true, false, List, [], ◌∷◌, refl, ap, take, length, get_or, suc, add-one, rules, arith}
-use Rattle.std.proofs.{Common.ap₂, lemmas.List.map-append, lemmas.List.take_all}
+use Rattle.std.proofs.Common.{◌≡◌, ◌∙◌, ◌+◌, ◌++◌, ◌<◌, append-nil, ℕ, Bool, true, false, List, [], ◌∷◌, refl, ap, take, length, get_or, suc, add-one, rules, arith}
+use Rattle.std.proofs.{Common.ap₂}
 use Rattle.std.specs.Prelude.{map, filter, if◌then◌else◌}
-use Rattle.clap.specs.Words.{App, Rule, app_of, rule_of, shape_of, with_rule, with_subcommand, AddsArg, AddsSubcommand}
+use Rattle.clap.specs.Words.{App, Rule, app_of, rule_of, shape_of, with_rule, AddsArg, AddsSubcommand}
 use Rattle.clap.specs.Simple.{new_shape}
 use Rattle.clap.specs.declared.builder.{arg.Arg.Arg, command.Command.Command, command.Command.TheViews.out-Command}
 use Rattle.bpfcanon.specs.declared.verb.{Verb.Verb, Setting.Setting}
 use Rattle.bpfcanon.specs.Verbs.{all_settings, all_verbs, name_of, takes_setting}
-use Rattle.bpfcanon.specs.line.Options.{Names, bare_program, option_of, program, shape_for}
+use Rattle.bpfcanon.specs.line.Options.{Names, bare_program, option_of, shape_for}
 
 -- those options that the command accepts
 abbrev rules_of : Names → Verb → List Setting → List Rule
@@ -45,11 +45,6 @@ skips_one names verb i s old l takes before =
     let same = rules_of-suc names verb i s l ∙ ap (λ r. rules_of names verb (take i all_settings) ++ r) (rules_of-one names verb _ false takes) ∙ append-nil _ in
     rw (add-one, same) before
 
--- a command with all options that it accepts
-pub takes_all : (names : Names) (verb : Verb) (i : ℕ) (c : Command) → length all_settings ≤ i → app_of c ≡ app_up_to names verb i
-    → shape_of c ≡ shape_for names verb
-takes_all names verb i c l e = ap (λ (a : App). a.top) (e ∙ ap (λ s. app_with names verb (rules_of names verb s)) (take_all i all_settings l))
-
 -- the program with these commands
 abbrev pub program_with : Names → List Verb → App
 program_with names [] = bare_program
@@ -58,18 +53,9 @@ program_with names (v ∷ vs) = record {
   subs = map (shape_for names) (v ∷ vs);
 }
 
-program_with-more : (names : Names) (vs : List Verb) (v : Verb) → program_with names (vs ++ v ∷ []) ≡ with_subcommand (program_with names vs) (shape_for names v)
-program_with-more names [] v = refl
-program_with-more names (w ∷ vs) v = grind (arith, map-append)
-
 -- one more command
 pub adds_one : (names : Names) (i : ℕ) (v : Verb) (old sub new : Command) → i < length all_verbs
     → app_of old ≡ program_with names (take i all_verbs) → AddsSubcommand old sub new
     → (out-Command sub).has_globals ≡ false → shape_of sub ≡ shape_for names (get_or all_verbs i v)
     → app_of new ≡ program_with names (take (i + 1) all_verbs)
 adds_one names i v old sub new l before adds local shape = search rules
-
--- all commands
-pub adds_all : (names : Names) (i : ℕ) (c : Command) → length all_verbs ≤ i → app_of c ≡ program_with names (take i all_verbs)
-    → app_of c ≡ program names
-adds_all names i c l e = e ∙ ap (program_with names) (take_all i all_verbs l)
