@@ -11,7 +11,7 @@ use Rattle.bpf_insn.specs.{Table.IsInsn, Fronts.IsInsnFront, Fronts.StopsAt, Spe
 use Rattle.bpf_insn.specs.Faults.{BeginsWith, IsInsnFault, IsSlotFault}
 use Rattle.bpf_insn.proofs.{FrontLemmas.front_of, StayLemmas.slot_fault_stays}
 use Rattle.bpf_canon.specs.insn.FrontReads.{BeginsAcross, BeginsNone, ReadsFront}
-use Rattle.bpf_canon.proofs.InsnLemmas.FrontLaws.{front_begins_none, front_fault, truncated_or_not}
+use Rattle.bpf_canon.proofs.InsnLemmas.FrontLaws.{front_begins_none, front_counts, front_fault, length-spelling_same, truncated_or_not}
 
 -- the fault that stopped the reading, at its offset in the bytes
 pub read_fault : (o : Order) (bytes : List ℕ) (read : InsnFront) (f : SlotFault) → IsInsnFront o bytes read → read.stop ≡ Some f
@@ -103,3 +103,10 @@ pub front_recoded : (o to : Order) (bytes : List ℕ) (read : InsnFront) (old ne
     → ((insns : List Insn) → InsnFile o (take read.len bytes) insns → new ≡ old ++ file_of to insns)
     → ReadsFront o to bytes read old new
 front_recoded o to bytes read old new r written = grind (arith, common_steps)
+
+-- the rest of a piece, as the code cuts it
+pub rest_of : (piece : List ℕ) (used : ℕ) → take (length piece - used) (drop used piece) ≡ drop used piece
+rest_of piece used = take_all (length piece - used) (drop used piece) (omega (arith, length-drop used piece))
+
+-- what the search cites of an instruction that begins in what is held
+pub ruleset across_steps = (rest_of, length-drop, length-spelling_same, front_counts, across_more, across_stops)

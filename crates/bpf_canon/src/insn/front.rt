@@ -46,6 +46,7 @@ pub(crate) fn read_front<A: Allocator>(
 }
 
 /// Like `read_front`, for held bytes followed by a piece.
+#[tactic(auto, using(crate::proofs::InsnLemmas::ReadingLemmas::across_steps))]
 pub(crate) fn read_front_across<A: Allocator>(
     order: Order,
     to: Order,

@@ -45,18 +45,7 @@ returns-then-within-n-clause-err g c =
     (run_too_long _ _ _ _ _ _ _ _ _ _ _ _ _ _ run c.in-Ok.ensures.bytes.0 c.in-Ok-pass_on.ensures.ok cut (omega (arith, inside, c.if-within-n.true, size)) (omega (arith, size, room)))
 
 pub reads-preserved : goal.reads-preserved
-reads-preserved g c =
-    let run = c.reads.invariant.running in
-    let inside : c.within_limit-within.result ≡ min c.in-Ok.n (limit - c.reads.feed.fed) = rw c.fed.ensures at c.within_limit-within.ensures in
-    let room : c.in-Ok.n ≤ length c.read.new.buffer = search rules in
-    let same : c.within_limit-within.result ≡ c.in-Ok.n = omega (arith, inside, c.if-within-n.false) in
-    let size = length-take-le c.within_limit-within.result c.read.new.buffer (omega (arith, room, same)) in
-    let came = rw (← same) at c.in-Ok.ensures.bytes.0 in
-    record {
-      running = run_more _ _ _ _ _ _ _ _ _ _ _ _ _ run came c.in-Ok-pass_on.ensures.ok (omega (arith, size, inside, running_within _ _ _ _ _ run));
-      reads = search rules;
-      writes = search rules;
-    }
+reads-preserved g c = grind (arith, length-take-le, run_more, running_within)
 
 pub returns-in-Ok-finish-clause-ok : goal.returns-in-Ok-finish-clause-ok
 returns-in-Ok-finish-clause-ok g c =
