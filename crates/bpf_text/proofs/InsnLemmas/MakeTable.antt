@@ -101,8 +101,27 @@ some_register : Reg
 some_register = record { number = 0; in_range = omega arith }
 
 some_fields : (m : Mnemonic) → Fields m
+some_fields (Alu width op) = (some_register, operand.Reg some_register)
+some_fields (Movsx which) = (some_register, some_register)
+some_fields (Neg width) = some_register
+some_fields (Swap which bits) = some_register
+some_fields (Branch width op) = (some_register, (operand.Reg some_register, pos 0))
+some_fields CallBtf = (pos 0, pos 0)
+some_fields Exit = tt
+some_fields (Load size) = (some_register, (some_register, pos 0))
+some_fields (LoadSigned size) = (some_register, (some_register, pos 0))
+some_fields (StoreImm size) = ((some_register, pos 0), pos 0)
+some_fields (StoreReg size) = ((some_register, pos 0), some_register)
+some_fields (Atomic width op) = ((some_register, pos 0), some_register)
 some_fields (Wide kind.Number) = (some_register, 0)
-some_fields m = search (rules, some_register, operand.Reg some_register, pos 0)
+some_fields (Wide kind.MapValueFd) = (some_register, (pos 0, pos 0))
+some_fields (Wide kind.VarAddr) = (some_register, (pos 0, pos 0))
+some_fields (Wide kind.MapValueIdx) = (some_register, (pos 0, pos 0))
+some_fields (Wide _) = (some_register, pos 0)
+some_fields (PacketInd size) = (some_register, pos 0)
+some_fields Jump = pos 0
+some_fields JumpLong = pos 0
+some_fields _ = pos 0
 
 -- each mnemonic has an instruction
 pub some_insn : (m : Mnemonic) → (i : Insn) × (mnemonic_of i ≡ m)
