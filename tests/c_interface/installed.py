@@ -98,7 +98,9 @@ def check_symbols(report, root):
     report.expect_that(sorted(rows) == [["T", name] for name in listed], "the static library", f"its global symbols are {rows}")
     needed = {line.split()[1] for line in printed(["nm", "-u", static]) if len(line.split()) == 2}
     of_libc = {"malloc", "realloc", "free", "memcpy", "memmove", "memset", "memcmp"}
-    report.expect_that(needed <= of_libc, "the static library", f"it needs {needed}")
+    # By these processor.c refuses a processor; no call uses them.
+    of_processor = {"write", "_exit"}
+    report.expect_that(needed <= of_libc | of_processor, "the static library", f"it needs {needed}")
     dynamic = "\n".join(printed(["readelf", "-dW", shared]))
     soname = re.findall(r"\(SONAME\).*\[(.*)\]", dynamic)
     report.expect_that(soname == [f"libbpfcanon.so.{MAJOR}"], "the soname", f"it is {soname}")
