@@ -1,5 +1,5 @@
 -- The host of a string by ranks, and the steps of the loops that find all hosts.
-use Rattle.std.proofs.Common.{◌≡◌, ◌≢◌, ℕ, zero, suc, ◌+◌, ◌-◌, ◌<◌, ◌≤◌, true, ◌⊎◌, inl, inr, List, [], length, map, get_or, set, sym, ap, ◌∙◌, subst, arith, rules}
+use Rattle.std.proofs.Common.{◌≡◌, ◌≢◌, ℕ, zero, suc, ◌+◌, ◌-◌, ◌<◌, ◌≤◌, true, ◌⊎◌, inl, inr, List, [], length, map, get_or, set, refl, sym, ap, ◌∙◌, subst, arith, rules}
 use Rattle.std.specs.List.{All}
 use Rattle.std.proofs.lemmas.Bool.{cases_eq}
 use Rattle.std.proofs.lemmas.List.{get_or-map, length-map, length-set, get_or-set_same, get_or-set_other, get_or_default, get_or_read}
@@ -112,6 +112,13 @@ module _ (section slots : List ℕ) (ts : List SectionText) (common hosts : List
         in_hosts = λ h a b e. in_host rank off l inside within low_enough all less_here h (omega (arith, a, host_is)) (omega (arith, b, u_len, ends)) (e ∙ u_len);
       }
 
+  -- likewise for a string that isn't a suffix of the one before it, from its rank on
+  pub steps_alone : (rank n v : ℕ) (t u : SectionText) → rank < length ts → n ≡ get_or common rank n → n < t.end - t.start → t ≡ get_or ts rank t → v ≡ get_or hosts rank v → u ≡ get_or ts v u → StepsBack rank t.start rank rank v t u
+  steps_alone rank n v t u inside n_is less t_is v_is u_is =
+      let in_common : rank < length common = omega (arith, inside, ranked.are_common.whole, length-map ts (text_in section)) in
+      steps_back rank t.start rank rank v t t u common inside t_is t_is (omega arith) (omega (arith, less)) (omega arith) (λ j a b. absurd (omega (arith, a, b))) refl (omega arith) (λ j a b. absurd (omega (arith, a, b)))
+      (omega (arith, less, get_or_read common rank n in_common n_is 0)) v_is u_is
+
 -- the loop over the offsets within a string
 pub record WithinTo (section slots : List ℕ) (sorted : List (List ℕ)) (common : List ℕ) (t : SectionText) (rank : ℕ) (old in_hosts : List InHost) (from off : ℕ) : Type 0 where
   pub whole : length in_hosts ≡ length old
@@ -128,14 +135,23 @@ module _ (section slots : List ℕ) (sorted : List (List ℕ)) (common : List �
       → ((j : ℕ) → next < j → j ≤ from → t.end - off ≤ get_or common j 0) → IsInHost sorted (text_from section off) h → WithinTo section slots sorted common t rank old (set in_hosts (offset_number slots off) h) next (off + 1)
   within_finds in_hosts from off next h to long low s back more is = grind (arith, get_or-set_same, number_inside, get_or-set_other, number_injective, length-set)
 
--- a string that was read has a byte
-pub some_bytes : (section slots : List ℕ) (ts : List SectionText) (rank : ℕ) (t : SectionText) → AreLongestOf section slots ts → rank < length ts → t ≡ get_or ts rank no_text → t.start < t.end
-some_bytes section slots ts rank t longest inside is = (subst (IsUsed section slots) (sym is) (longest.used rank no_text inside)).some
+-- the host of a separate string
+pub finds_alone : (section slots : List ℕ) (sorted : List (List ℕ)) (t : SectionText) (old : List InHost) (h : InHost) → IsUsed section slots t → ((k : ℕ) → t.start + 1 ≤ k → k < t.end → get_or slots k 0 ≡ 0) → length old ≡ offset_number slots (length slots) → IsInHost sorted (text_from section t.start) h
+    → FindsWithin section slots sorted t old (set old (offset_number slots t.start) h)
+finds_alone section slots sorted t old h used alone long is = grind (arith, get_or-set_same, number_inside, length-set, get_or-set_other, number_injective)
 
--- the offsets within a string from some offset on aren't used
-pub within_stops : (section slots : List ℕ) (sorted : List (List ℕ)) (common : List ℕ) (t : SectionText) (rank : ℕ) (old in_hosts : List InHost) (from stop : ℕ)
-    → WithinTo section slots sorted common t rank old in_hosts from stop → stop ≤ t.end → ((k : ℕ) → stop ≤ k → k < t.end → get_or slots k 0 ≡ 0) → FindsWithin section slots sorted t old in_hosts
-within_stops section slots sorted common t rank old in_hosts from stop to inside unused = grind arith
+-- likewise for a string that was read
+module _ (section slots : List ℕ) (ts : List SectionText) (longest : AreLongestOf section slots ts) (rank : ℕ) (t : SectionText) (inside : rank < length ts) (t_is : t ≡ get_or ts rank t) where
+  t_end : t ≡ get_or ts rank no_text
+  t_end = t_is ∙ get_or_default ts rank t no_text inside
+
+  pub used_read : IsUsed section slots t
+  used_read = subst (IsUsed section slots) (sym t_end) (longest.used rank no_text inside)
+
+  pub finds_read : (sorted : List (List ℕ)) (old : List InHost) (h : InHost) → ((k : ℕ) → t.start + 1 ≤ k → k < t.end → get_or slots k 0 ≡ 0) → length old ≡ offset_number slots (length slots) → IsInHost sorted (text_from section t.start) h
+      → FindsWithin section slots sorted (get_or ts rank no_text) old (set old (offset_number slots t.start) h)
+  finds_read sorted old h alone long is =
+      subst (λ (k : SectionText). FindsWithin section slots sorted k old (set old (offset_number slots t.start) h)) t_end (finds_alone section slots sorted t old h used_read alone long is)
 
 cases_within : (off : ℕ) (t : SectionText) → IsInText off t ⊎ (¬ IsInText off t)
 cases_within off t = grind arith

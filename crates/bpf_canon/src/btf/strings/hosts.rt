@@ -1,5 +1,5 @@
-//! The host of each name, found by the ranks of the longest strings, and the offsets of hosts in the
-//! string table, in the order of first use.
+//! The host of each name, found by the ranks of the longest strings, and the offsets of hosts in
+//! the string table, in the order of first use.
 ghost use Rattle.std.specs.Prelude.{◌≡◌, ◌<◌, ◌≤◌, length, IfOk, ◌^◌, OnOk};
 ghost use Rattle.bpf_canon.specs.btf.strings.Ranks.{AreLower};
 ghost use Rattle.bpf_canon.specs.btf.strings.UsedOffsets.{used_count};
@@ -10,7 +10,6 @@ ghost use Rattle.bpf_canon.specs.btf.strings.HostPlaces.{names_in};
 ghost use Rattle.bpf_canon.specs.btf.strings.InHost as spec;
 
 use crate::btf::strings::ranked_texts::{RankedTexts, first_rank, lower_ranks};
-use crate::btf::strings::section_texts::SectionText;
 use crate::btf::strings::used_offsets::UsedOffsets;
 use std::alloc::{AllocError, Allocator};
 
@@ -36,8 +35,7 @@ impl InHost {
 
 /// Finds the hosts of the used offsets within the string of a rank. The strings at later offsets
 /// are shorter, so each search for the first rank with such a suffix begins at the rank found for
-/// the previous offset. In most files no name begins inside another string, so whether one does is
-/// asked first.
+/// the previous offset.
 fn find_within<A: Allocator>(
     uses: &UsedOffsets<A>,
     ranked: &RankedTexts<'_, A>,
@@ -51,11 +49,9 @@ fn find_within<A: Allocator>(
     requires whole { length in_hosts.old ≡ used_count uses.now }
     ensures { spec.FindsWithinRank uses.now ranked.now rank in_hosts.old in_hosts.new }
 {
-    let SectionText { start, end, .. } = ranked.texts[rank];
-    let one = uses.are_unused(start as usize + 1, end as usize);
-    let stop = if one { start + 1 } else { end };
+    let end = ranked.texts[rank].end;
     let mut from = rank;
-    for off in start..stop {
+    for off in ranked.texts[rank].start..end {
         if uses.is_used(off as usize) {
             from = first_rank(&ranked.common, lower, from, end - off);
             let host = ranked.hosts[from];
@@ -69,6 +65,37 @@ fn find_within<A: Allocator>(
     }
 }
 
+/// Finds the hosts of the ranks before the first one whose string is equal to another, or has a
+/// name that begins inside it; most files have no such rank. The host of a string in these ranks is
+/// the next host from its rank on. Returns the number of these ranks.
+fn find_alone<A: Allocator>(
+    uses: &UsedOffsets<A>,
+    ranked: &RankedTexts<'_, A>,
+    in_hosts: &mut [InHost],
+) -> usize
+    requires texts { spec.IsRankedFor uses.now ranked.now }
+    requires none { spec.FindsRanks uses.now ranked.now in_hosts.old 0 }
+    ensures found { spec.FindsRanks uses.now ranked.now in_hosts.new result }
+    ensures most { result ≤ length ranked.now.texts.items }
+{
+    for rank in 0..ranked.texts.len() {
+        let text = ranked.texts[rank];
+        if ranked.common[rank] >= text.len()
+            || !uses.are_unused(text.start as usize + 1, text.end as usize)
+        {
+            return rank;
+        }
+        let host = ranked.hosts[rank];
+        let len = ranked.texts[host as usize].len();
+        in_hosts[uses.number(text.start as usize)] = InHost {
+            host: host + 1,
+            before: len - text.len(),
+            len,
+        };
+    }
+    ranked.texts.len()
+}
+
 /// The host of each used offset, indexed by the offset's number.
 pub(crate) fn find_hosts<A: Allocator + Copy>(
     alloc: A,
@@ -79,8 +106,12 @@ pub(crate) fn find_hosts<A: Allocator + Copy>(
     ensures { IfOk result (λ in_hosts. spec.FindsHosts uses.now ranked.now in_hosts.items) }
 {
     let mut in_hosts = vec![in alloc; InHost::NONE; uses.count()]?;
+    let alone = find_alone(uses, ranked, &mut in_hosts);
+    if alone == ranked.texts.len() {
+        return Ok(in_hosts);
+    }
     let lower = lower_ranks(alloc, &ranked.common)?;
-    for rank in 0..ranked.texts.len() {
+    for rank in alone..ranked.texts.len() {
         find_within(uses, ranked, &lower, rank, &mut in_hosts);
     }
     Ok(in_hosts)

@@ -1,18 +1,15 @@
-use Rattle.std.proofs.Common.{◌≡◌, ◌≢◌, ℕ, refl, ◌+◌, ◌-◌, ◌<◌, ◌≤◌, List, map, get_or, set, arith, subst, sym, ap, ◌∙◌}
-use Rattle.bpf_canon.specs.btf.strings.{SectionTexts.text_in, InHost.no_text, InHost.sorted_in, UsedOffsets.offset_number}
-use Rattle.std.proofs.lemmas.List.{get_or_default}
-use Rattle.bpf_canon.specs.declared.btf.strings.{hosts.InHost.InHost, section_texts.SectionText.SectionText}
-use Rattle.bpf_canon.proofs.BtfLemmas.Strings.InHostSteps.{WithinTo, some_bytes, steps_back, within_skips, within_finds, within_stops}
+use Rattle.std.proofs.Common.{◌≡◌, ◌≢◌, ℕ, refl, ◌+◌, ◌-◌, List, map, get_or, set, arith, subst, sym, ap, ◌∙◌}
+use Rattle.bpf_canon.specs.btf.strings.{SectionTexts.text_in, InHost.no_text, UsedOffsets.offset_number}
+use Rattle.bpf_canon.specs.declared.btf.strings.hosts.InHost.{InHost}
+use Rattle.bpf_canon.proofs.BtfLemmas.Strings.InHostSteps.{WithinTo, steps_back, within_skips, within_finds}
 use Rattle.bpf_canon.proofs.btf.strings.hosts.find_within.Goals as goal
-use Rattle.bpf_canon.proofs.btf.strings.hosts.find_within.Goals.{then-is_used, else-is_used, then-one, else-one}
+use Rattle.bpf_canon.proofs.btf.strings.hosts.find_within.Goals.{then-is_used, else-is_used}
 
 pub overflow_sub-in_hosts-then-is_used : goal.overflow_sub-in_hosts-then-is_used
 overflow_sub-in_hosts-then-is_used g c =
     let r = c.args.ranked.now in
-    let some = some_bytes r.section.now c.args.uses.now.slots r.texts.items c.args.rank c.index.result.now c.requires.texts.longest c.requires.inside (c.index.ensures ∙ get_or_default r.texts.items c.args.rank c.index.result.now no_text c.requires.inside) in
-    let below : c.loop-off.off < c.index.result.now.end = elim c.if-one.branch [ then-one w ↦ omega (arith, c.loop-off-test.true, w.stop-is, some) | else-one w ↦ omega (arith, c.loop-off-test.true, w.stop-is) ] in
     let step = steps_back r.section.now c.args.uses.now.slots r.texts.items r.common.items r.hosts.items c.requires.texts.ranked c.requires.texts.longest.used c.args.rank c.loop-off.off c.loop-off.from c.first_rank-from.result c.index-host.result.now
-    c.index.result.now c.index.result.now c.index-then-is_used.result.now c.deref.result.now c.requires.inside c.index.ensures c.index.ensures (omega arith) below c.loop-off.invariant.below c.loop-off.invariant.before c.deref.ensures.value
+    c.index-2.result.now c.index.result.now c.index-then-is_used.result.now c.deref.result.now c.requires.inside c.index-2.ensures c.index.ensures (omega arith) c.loop-off-test.true c.loop-off.invariant.below c.loop-off.invariant.before c.deref.ensures.value
     c.first_rank-from.ensures.before c.first_rank-from.ensures.common c.first_rank-from.ensures.less c.index-host.ensures c.index-then-is_used.ensures in
     omega (arith, step.shorter, c.len-len.ensures)
 
@@ -26,12 +23,10 @@ loop-off-preserved g c =
     let off = c.loop-off.off in
     let in_hosts = c.loop-off.in_hosts in
     let old = c.args.in_hosts.now in
-    let some = some_bytes section slots r.texts.items c.args.rank c.index.result.now c.requires.texts.longest c.requires.inside (c.index.ensures ∙ get_or_default r.texts.items c.args.rank c.index.result.now no_text c.requires.inside) in
-    let below : off < c.index.result.now.end = elim c.if-one.branch [ then-one w ↦ omega (arith, c.loop-off-test.true, w.stop-is, some) | else-one w ↦ omega (arith, c.loop-off-test.true, w.stop-is) ] in
     elim c.if-is_used.branch [
       | then-is_used w ↦
           let step = steps_back r.section.now slots r.texts.items r.common.items r.hosts.items c.requires.texts.ranked c.requires.texts.longest.used c.args.rank off c.loop-off.from w.first_rank-from.result w.index-host.result.now
-          c.index.result.now c.index.result.now w.index-then-is_used.result.now w.deref.result.now c.requires.inside c.index.ensures c.index.ensures (omega arith) below c.loop-off.invariant.below c.loop-off.invariant.before w.deref.ensures.value
+          c.index-2.result.now c.index.result.now w.index-then-is_used.result.now w.deref.result.now c.requires.inside c.index-2.ensures c.index.ensures (omega arith) c.loop-off-test.true c.loop-off.invariant.below c.loop-off.invariant.before w.deref.ensures.value
           w.first_rank-from.ensures.before w.first_rank-from.ensures.common w.first_rank-from.ensures.less w.index-host.ensures w.index-then-is_used.ensures in
           let h : InHost = record { host = w.index-host.result.now + 1; before = w.len-len.result - (c.index.result.now.end - off); len = w.len-len.result } in
           let before : h.before + (c.index.result.now.end - off) ≡ w.index-then-is_used.result.now.end - w.index-then-is_used.result.now.start = omega (arith, step.shorter, w.len-len.ensures) in
@@ -46,15 +41,3 @@ loop-off-preserved g c =
           (subst (λ (n : ℕ). WithinTo section slots sorted r.common.items t c.args.rank old in_hosts n (off + 1)) (sym w.from-is)
           (within_skips section slots sorted r.common.items t c.args.rank old in_hosts c.loop-off.from off c.loop-off.invariant unused))
     ]
-
-pub returns : goal.returns
-returns g c =
-    let r = c.args.ranked.now in
-    let is = c.index.ensures ∙ get_or_default r.texts.items c.args.rank c.index.result.now no_text c.requires.inside in
-    let end : c.index.result.now.end ≡ (get_or r.texts.items c.args.rank no_text).end = ap (λ (t : SectionText). t.end) is in
-    let some = some_bytes r.section.now c.args.uses.now.slots r.texts.items c.args.rank c.index.result.now c.requires.texts.longest c.requires.inside is in
-    let inside : c.loop-off.off ≤ (get_or r.texts.items c.args.rank no_text).end = elim c.if-one.branch [ then-one w ↦ omega (arith, w.stop-is, some, end, c.loop-off.auto.off-end) | else-one w ↦ omega (arith, w.stop-is, some, end, c.loop-off.auto.off-end) ] in
-    within_stops r.section.now c.args.uses.now.slots (sorted_in r) r.common.items (get_or r.texts.items c.args.rank no_text) c.args.rank c.args.in_hosts.now c.loop-off.in_hosts c.loop-off.from c.loop-off.off c.loop-off.invariant inside (elim c.if-one.branch [
-      | then-one w ↦ λ k low high. c.are_unused-one.ensures.yes w.if-one.true k (omega (arith, low, c.loop-off-test.false, w.stop-is)) (omega (arith, high, end))
-      | else-one w ↦ λ k low high. absurd (omega (arith, low, high, end, c.loop-off-test.false, w.stop-is))
-    ])
