@@ -98,7 +98,7 @@ def check_symbols(report, root):
     report.expect_that(sorted(rows) == [["T", name] for name in listed], "the static library", f"its global symbols are {rows}")
     needed = {line.split()[1] for line in printed(["nm", "-u", static]) if len(line.split()) == 2}
     of_libc = {"malloc", "realloc", "free", "memcpy", "memmove", "memset", "memcmp"}
-    # By these processor.c refuses a processor; no call uses them.
+    # processor.c writes its refusal and ends the process with these; no call uses them.
     of_processor = {"write", "_exit"}
     report.expect_that(needed <= of_libc | of_processor, "the static library", f"it needs {needed}")
     dynamic = "\n".join(printed(["readelf", "-dW", shared]))
