@@ -6,11 +6,8 @@
 
 ghost use Rattle.std.specs.Prelude.{◌≡◌, ◌<◌, ◌≤◌, ◌↔◌, ◌⊎◌, List, length, slice_index, IfErr};
 ghost use Rattle.std.specs.Prelude.{IfOk, IsOk, IsTrue};
-ghost use Rattle.bpf_insn.specs.declared.group.Group.{Group};
-ghost use Rattle.bpf_insn.specs.declared.insn.Insn.{Insn};
-ghost use Rattle.bpf_insn.specs.Table.{fields_of};
-ghost use Rattle.bpf_insn.specs.Spelling.{InsnFile, spelling};
-ghost use Rattle.bpf_insn.specs.Faults.{IsInsnFault};
+ghost use Rattle.bpf_insn.specs.{declared.group.Group.Group, Spelling.InsnFile, Spelling.spelling};
+ghost use Rattle.bpf_insn.specs.{declared.insn.Insn.Insn, Table.fields_of, Faults.IsInsnFault};
 ghost use Rattle.bpf_insn.specs.FileSteps.{AddsInsnAt, AreSettled, BeginsAt, HasGroupsBefore};
 ghost use Rattle.bpf_insn.specs.FileSteps.{IsFaultAt, opcode_has_group};
 ghost use Rattle.bpf_insn.specs.Groups.{AreGroupsOf, Brings, group_of, holds};

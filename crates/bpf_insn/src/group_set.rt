@@ -1,9 +1,8 @@
 //! Iterating over a set of groups, and making a set from groups.
 
-ghost use Rattle.std.specs.Prelude.{◌≡◌, ◌↔◌, IsTrue, [], length, filter, ⊤};
+ghost use Rattle.std.specs.Prelude.{◌≡◌, ◌↔◌, IsTrue, [], Some, length, filter, ⊤};
 ghost use Rattle.std.specs.Iterator.{YieldsFirst, item_count};
-ghost use Rattle.bpf_insn.specs.declared.group.Group.{Group};
-ghost use Rattle.bpf_insn.specs.Groups.{holds};
+ghost use Rattle.bpf_insn.specs.{declared.group.Group.Group, Groups.holds};
 ghost use Rattle.bpf_insn.specs.GroupSets.{IsSetOf, groups_held};
 
 use crate::group::{Group, GroupSet};
@@ -21,8 +20,7 @@ pub struct Groups {
 
 impl Model for Groups {
     ghost use Rattle.std.specs.Prelude.{List, filter};
-    ghost use Rattle.bpf_insn.specs.declared.group.Group.{Group};
-    ghost use Rattle.bpf_insn.specs.Groups.{holds};
+    ghost use Rattle.bpf_insn.specs.{declared.group.Group.Group, Groups.holds};
 
     ghost Value = { List Group };
 

@@ -4,8 +4,7 @@
 //! does nothing else.
 
 ghost use Rattle.std.specs.Prelude.{◌<◌, ◌/◌, length, IfSome};
-ghost use Rattle.bpf_insn.specs.FileSteps.{ReadsTo};
-ghost use Rattle.bpf_insn.specs.Fronts.{IsInsnFront};
+ghost use Rattle.bpf_insn.specs.{FileSteps.ReadsTo, Fronts.IsInsnFront};
 
 use crate::read::{begins_plainly, other_len};
 use crate::{Order, SlotFault};

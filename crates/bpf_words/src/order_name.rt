@@ -1,7 +1,6 @@
 //! The names of the two byte orders.
 
-ghost use Rattle.std.specs.Prelude.{◌≡◌, Some};
-ghost use Rattle.std.specs.Fmt.{padded};
+ghost use Rattle.std.specs.{Prelude.◌≡◌, Prelude.Some, Fmt.padded};
 ghost use Rattle.bpf_words.specs.OrderName.{IsOrderOfName, order_name};
 
 use crate::Order;

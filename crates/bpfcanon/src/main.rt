@@ -4,8 +4,7 @@
 ghost use Rattle.std.specs.Prelude.{◌≡◌, ◌<◌, ◌++◌, codes, length, map, string_bytes};
 ghost use Rattle.std.specs.Process.{exit_status};
 ghost use Rattle.bpfcanon.specs.Devices.{sink_change, source_change};
-ghost use Rattle.bpfcanon.specs.Outcome.{TookLine, newline};
-ghost use Rattle.bpfcanon.specs.Ends.{EndsWith};
+ghost use Rattle.bpfcanon.specs.{Outcome.TookLine, Outcome.newline, Ends.EndsWith};
 
 mod command;
 mod commands;

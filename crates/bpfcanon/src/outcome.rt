@@ -1,9 +1,7 @@
 //! How a command ends: its status, and the line that it reports on the fault sink.
 
-ghost use Rattle.std.specs.Prelude.{◌≡◌, ◌<◌};
-ghost use Rattle.std.specs.List.{flat_map};
-ghost use Rattle.bpfcanon.specs.Devices.{sink_change};
-ghost use Rattle.bpfcanon.specs.JobEnds.{IsEndOfStop};
+ghost use Rattle.std.specs.{Prelude.◌≡◌, Prelude.◌<◌, List.flat_map};
+ghost use Rattle.bpfcanon.specs.{Devices.sink_change, JobEnds.IsEndOfStop};
 ghost use Rattle.bpfcanon.specs.Outcome.{TookLine, btf_fault_line, fault_line, faulty_line};
 ghost use Rattle.bpfcanon.specs.Outcome.{report_of, slot_fault_line, status_of};
 

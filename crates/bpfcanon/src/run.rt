@@ -1,10 +1,8 @@
 //! Runs a job from a source to a sink.
 
 ghost use Rattle.std.specs.Prelude.{◌≡◌, ◌<◌, ◌≤◌, length, false};
-ghost use Rattle.bpfcanon.specs.Devices.{sink_change, source_change};
-ghost use Rattle.bpfcanon.specs.JobEnds.{EndsJob};
-ghost use Rattle.bpfcanon.specs.commands.Pieces.{Answers};
-ghost use Rattle.bpfcanon.specs.commands.Reply.{has_engine, limit_of};
+ghost use Rattle.bpfcanon.specs.{Devices.sink_change, Devices.source_change, JobEnds.EndsJob};
+ghost use Rattle.bpfcanon.specs.commands.{Pieces.Answers, Reply.has_engine, Reply.limit_of};
 
 use crate::commands::btf_check::btf_check_reply;
 use crate::commands::btf_same::btf_same_reply;

@@ -1,8 +1,7 @@
 //! The commands of the program, their options and their limits.
 
 ghost use Rattle.std.specs.Prelude.{◌≡◌, IfSome, IsNone};
-ghost use Rattle.bpfcanon.specs.declared.verb.Verb.{Verb};
-ghost use Rattle.bpfcanon.specs.commands.Reply.{limit_of};
+ghost use Rattle.bpfcanon.specs.{declared.verb.Verb.Verb, commands.Reply.limit_of};
 ghost use Rattle.bpfcanon.specs.Verbs.{name_of, setting_name, takes_setting};
 
 use bpf_canon::{BTF_LIMIT, INSN_LIMIT};

@@ -9,8 +9,7 @@
 
 ghost use Rattle.std.specs.Prelude.{◌≡◌, ◌+◌, ◌-◌, ◌<◌, ◌≤◌, length, take, drop, slice_index};
 ghost use Rattle.std.specs.Prelude.{slice_range, IfOk, IfErr, MatchResult, MatchOption, ◌≢◌, ℕ};
-ghost use Rattle.bpf_words.specs.Words.{word16_at};
-ghost use Rattle.bpf_words.specs.declared.Order.{Order as OrderValue};
+ghost use Rattle.bpf_words.specs.{Words.word16_at, declared.Order.Order as OrderValue};
 ghost use Rattle.btf_raw.specs.Header.{HeaderFault, StringFault, HasNulEnds};
 ghost use Rattle.btf_raw.specs.ReadHeader.{StartIsRight, LengthIsRight, SectionsAreRight};
 ghost use Rattle.btf_raw.specs.ReadHeader.{ReadsHeader};

@@ -1,8 +1,7 @@
 //! From the reason why an offset has no name to the cause of a fault in a file.
 
 ghost use Rattle.std.specs.Prelude.{◌≡◌};
-ghost use Rattle.btf_raw.specs.BtfCauseNames.{btf_cause_sentence};
-ghost use Rattle.btf_raw.specs.NameCauses.{btf_cause_of};
+ghost use Rattle.btf_raw.specs.{BtfCauseNames.btf_cause_sentence, NameCauses.btf_cause_of};
 
 use crate::cause::{BtfCause, NameCause};
 

@@ -1,10 +1,9 @@
 //! The 32-bit words of a record in the type section (btf.rst section 2.2).
 
 ghost use Rattle.std.specs.Prelude.{◌≡◌, ◌+◌, ◌*◌, ◌<◌, ◌≤◌, length, slice_index};
-ghost use Rattle.btf_raw.specs.Frames as frames;
 ghost use Rattle.btf_raw.specs.Frames.{IsFrame};
-ghost use Rattle.btf_types.specs.Reading.{frame_at};
-ghost use Rattle.btf_types.specs.judge.RecordFaults.{BitFieldsAre};
+ghost use Rattle.btf_types.specs.{Reading.frame_at, judge.RecordFaults.BitFieldsAre};
+ghost use Rattle.btf_raw.specs.Frames as frames;
 
 use bpf_words::{Order, get32};
 use btf_raw::info::{flag_of, is_struct, kind_of, tail_words, vlen_of};
@@ -24,8 +23,7 @@ pub struct Record<'a> {
 
 impl<'a> Model for Record<'a> {
     ghost use Rattle.std.specs.Prelude.{ℕ, List};
-    ghost use Rattle.btf_types.specs.Reading.{frame_at};
-    ghost use Rattle.btf_types.specs.RecordWords.{AreWordsAt};
+    ghost use Rattle.btf_types.specs.{Reading.frame_at, RecordWords.AreWordsAt};
 
     ghost Value = { List ℕ };
 

@@ -1,11 +1,8 @@
 //! Canonical bytes of BTF files.
 ghost use Rattle.std.specs.Prelude.{◌≡◌, List, IfOk, IfErr, MatchResult};
 ghost use Rattle.bpf_words.specs.declared.Order.TheVariants.{Little};
-ghost use Rattle.btf_types.specs.Values.{TypeRecord};
-ghost use Rattle.btf_types.specs.Denotes.{Denotes};
-ghost use Rattle.btf_types.specs.tables.Tables.{Fails};
-ghost use Rattle.bpf_canon.specs.btf.CanonicalBtf.{canonical};
-ghost use Rattle.bpf_canon.specs.btf.BtfLaws.{IsCanonicalBtf};
+ghost use Rattle.btf_types.specs.{Values.TypeRecord, Denotes.Denotes, tables.Tables.Fails};
+ghost use Rattle.bpf_canon.specs.btf.{CanonicalBtf.canonical, BtfLaws.IsCanonicalBtf};
 
 use crate::btf::write::table::write_btf;
 use bpf_words::Order;

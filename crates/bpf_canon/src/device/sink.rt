@@ -1,7 +1,6 @@
 //! Sinks of bytes.
 ghost use Rattle.std.specs.Prelude.{◌<◌, ℕ, List, Option, length, take, IfOk, OnOk, IfErr};
-ghost use Rattle.std.specs.Io.{WritesAtMost};
-ghost use Rattle.std.specs.Io.KnownBytes.{Appends, WriteAppends};
+ghost use Rattle.std.specs.{Io.WritesAtMost, Io.KnownBytes.Appends, Io.KnownBytes.WriteAppends};
 ghost use Rattle.bpf_canon.specs.device.Device.{CountsFailure};
 
 use crate::device::DeviceFailed;

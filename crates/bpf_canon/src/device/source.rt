@@ -2,8 +2,7 @@
 ghost use Rattle.std.specs.Prelude.{◌≡◌, ◌<◌, ◌≤◌, ◌+◌, ℕ, List, Option, length, IfOk, OnOk, IfErr};
 ghost use Rattle.std.specs.Io.{ReadsAtMost};
 ghost use Rattle.std.specs.Io.KnownBytes.{Consumes, IsAtEnd, ReadConsumes};
-ghost use Rattle.bpf_canon.specs.device.Device.{CountsFailure};
-ghost use Rattle.bpf_canon.specs.device.Reads.{EndsAmid, failed_reads};
+ghost use Rattle.bpf_canon.specs.device.{Device.CountsFailure, Reads.EndsAmid, Reads.failed_reads};
 ghost use Rattle.bpf_canon.specs.declared.device.source.ReadError.TheVariants.{Memory};
 
 use crate::device::DeviceFailed;

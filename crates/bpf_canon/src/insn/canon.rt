@@ -1,8 +1,7 @@
 //! Canonical bytes of instruction files.
 ghost use Rattle.std.specs.Prelude.{◌≡◌, List, IfOk, IfErr, MatchResult};
 ghost use Rattle.bpf_words.specs.declared.Order.TheVariants.{Little};
-ghost use Rattle.bpf_insn.specs.declared.insn.Insn.{Insn};
-ghost use Rattle.bpf_insn.specs.Spelling.{InsnFile, file_of};
+ghost use Rattle.bpf_insn.specs.{declared.insn.Insn.Insn, Spelling.InsnFile, Spelling.file_of};
 ghost use Rattle.bpf_canon.specs.insn.Canonical.{IsCanonical, NamesFault};
 
 use crate::insn::feed::InsnFeed;

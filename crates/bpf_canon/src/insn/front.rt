@@ -2,10 +2,8 @@
 //! another.
 ghost use Rattle.std.specs.Prelude.{◌≡◌, ◌<◌, ◌≤◌, ◌+◌, ◌-◌, ◌++◌, List, Some, None, length, take};
 ghost use Rattle.std.specs.Prelude.{vec_len, vec_capacity, IfOk, IfErr};
-ghost use Rattle.bpf_insn.specs.declared.fault.SlotFault.{SlotFault};
-ghost use Rattle.bpf_insn.specs.declared.insn.Insn.{Insn};
-ghost use Rattle.bpf_insn.specs.Spelling.{InsnFile};
-ghost use Rattle.bpf_insn.specs.Faults.{IsInsnFault, IsSlotFault};
+ghost use Rattle.bpf_insn.specs.{declared.fault.SlotFault.SlotFault, declared.insn.Insn.Insn};
+ghost use Rattle.bpf_insn.specs.{Spelling.InsnFile, Faults.IsInsnFault, Faults.IsSlotFault};
 ghost use Rattle.bpf_canon.specs.insn.FrontReads.{BeginsAcross, BeginsNone, ReadsFront};
 
 use crate::insn::recode::append_recoded;

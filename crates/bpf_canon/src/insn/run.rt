@@ -2,8 +2,7 @@
 ghost use Rattle.std.specs.Prelude.{◌≡◌, ◌<◌, ◌≤◌, ◌+◌, ◌-◌, length, min, IfOk, IfErr, OnOk};
 ghost use Rattle.std.specs.Prelude.{IsNone};
 ghost use Rattle.bpf_canon.specs.Engine.{devices, counts_read, counts_write};
-ghost use Rattle.bpf_canon.specs.insn.Run.{RanWhole, Stops};
-ghost use Rattle.bpf_canon.specs.insn.Passed.{Passed, PassStops};
+ghost use Rattle.bpf_canon.specs.insn.{Run.RanWhole, Run.Stops, Passed.Passed, Passed.PassStops};
 
 use crate::device::DeviceFailed;
 use crate::device::sink::ByteSink;

@@ -1,8 +1,7 @@
 //! Comparison of two instruction files.
 ghost use Rattle.std.specs.Prelude.{◌≡◌, ◌≢◌, ◌↔◌, List, Err, IsTrue, IfOk, IfErr};
 ghost use Rattle.bpf_words.specs.declared.Order.{Order};
-ghost use Rattle.bpf_insn.specs.declared.insn.Insn.{Insn};
-ghost use Rattle.bpf_insn.specs.Spelling.{InsnFile, file_of};
+ghost use Rattle.bpf_insn.specs.{declared.insn.Insn.Insn, Spelling.InsnFile, Spelling.file_of};
 ghost use Rattle.bpf_canon.specs.insn.Canonical.{Compares, NamesSide};
 
 use crate::engine::SideError;

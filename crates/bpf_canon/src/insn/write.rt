@@ -1,7 +1,6 @@
 //! Encoding of instructions.
 ghost use Rattle.std.specs.Prelude.{◌≡◌, ◌≤◌, ◌+◌, ◌++◌, length, vec_len, vec_capacity, IfOk, OnOk};
-ghost use Rattle.bpf_insn.specs.Table.{IsInsn};
-ghost use Rattle.bpf_insn.specs.Spelling.{InsnFile, spelling};
+ghost use Rattle.bpf_insn.specs.{Table.IsInsn, Spelling.InsnFile, Spelling.spelling};
 
 use bpf_insn::{Insn, Order, insn_bytes};
 use std::alloc::{AllocError, Allocator};

@@ -1,10 +1,9 @@
 //! Names in quotes. Quotes, backslashes and control characters in them are escaped.
 
 ghost use Rattle.std.specs.Prelude.{◌≡◌, ◌∷◌, [], ◌<◌, true};
-ghost use Rattle.std.specs.Char.{digit_char};
-ghost use Rattle.std.specs.List.{flat_map};
-ghost use Rattle.bpf_text.specs.btf.BtfText as spec;
+ghost use Rattle.std.specs.{Char.digit_char, List.flat_map};
 ghost use Rattle.bpf_text.specs.btf.Appending.{Appends};
+ghost use Rattle.bpf_text.specs.btf.BtfText as spec;
 
 use std::alloc::{AllocError, Allocator};
 

@@ -1,7 +1,6 @@
 //! The parts of lines: strings and numbers.
 
-ghost use Rattle.std.specs.Prelude.{◌≡◌, ◌++◌, decimal};
-ghost use Rattle.std.specs.List.{flat_map};
+ghost use Rattle.std.specs.{Prelude.◌≡◌, Prelude.◌++◌, Prelude.decimal, List.flat_map};
 ghost use Rattle.bpf_text.specs.btf.Appending.{Appends};
 
 use itoa::Buffer;

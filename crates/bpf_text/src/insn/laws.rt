@@ -1,10 +1,8 @@
 //! Laws of listings.
 
 ghost use Rattle.std.specs.Prelude.{◌≡◌, ℕ, List, All};
-ghost use Rattle.bpf_insn.specs.declared.insn.Insn.{Insn};
-ghost use Rattle.bpf_insn.specs.Table.{IsInsn};
-ghost use Rattle.bpf_text.specs.declared.insn.fault.LineFault.{LineFault};
-ghost use Rattle.bpf_text.specs.insn.Lines.{listing_of};
+ghost use Rattle.bpf_insn.specs.{declared.insn.Insn.Insn, Table.IsInsn};
+ghost use Rattle.bpf_text.specs.{declared.insn.fault.LineFault.LineFault, insn.Lines.listing_of};
 ghost use Rattle.bpf_text.specs.insn.Listing.{Lists, IsListFault};
 
 /// No input lists two different lists of instructions.

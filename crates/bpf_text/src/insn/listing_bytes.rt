@@ -3,10 +3,8 @@
 ghost use Rattle.std.specs.Prelude.{◌≡◌, ◌++◌, List, Err, IfOk, MatchResult};
 ghost use Rattle.std.proofs.Common.{append_assoc, append-nil, ap, refl, sym, ◌∙◌};
 ghost use Rattle.std.proofs.lemmas.List.Concat.{flat_map-append};
-ghost use Rattle.bpf_insn.specs.declared.insn.Insn.{Insn};
-ghost use Rattle.bpf_insn.specs.Spelling.{spelling, file_of};
-ghost use Rattle.bpf_text.specs.declared.insn.fault.LineFault.{LineFault};
-ghost use Rattle.bpf_text.specs.declared.insn.fault.ListError.{ListError};
+ghost use Rattle.bpf_insn.specs.{declared.insn.Insn.Insn, Spelling.spelling, Spelling.file_of};
+ghost use Rattle.bpf_text.specs.declared.insn.fault.{LineFault.LineFault, ListError.ListError};
 ghost use Rattle.bpf_text.specs.insn.Listing.{Lists, IsListFault};
 
 use crate::insn::fault::ListError;

@@ -8,12 +8,10 @@
 
 ghost use Rattle.std.specs.Prelude.{◌≡◌, ℕ, ◌<◌, [], ◌∷◌, List, length, false, Err, IfOk, IfSome};
 ghost use Rattle.std.specs.Prelude.{MatchOption, MatchResult};
-ghost use Rattle.std.specs.Option.{option_to_list};
-ghost use Rattle.std.specs.List.{list_any};
+ghost use Rattle.std.specs.{Option.option_to_list, List.list_any};
 ghost use Rattle.bpf_insn.specs.declared.insn.Insn.{Insn};
 ghost use Rattle.bpf_text.specs.insn.Tokens.{is_stray, AreTokens};
-ghost use Rattle.bpf_text.specs.declared.insn.fault.LineFault.{LineFault};
-ghost use Rattle.bpf_text.specs.declared.insn.fault.ListError.{ListError};
+ghost use Rattle.bpf_text.specs.declared.insn.fault.{LineFault.LineFault, ListError.ListError};
 ghost use Rattle.bpf_text.specs.insn.Listing.{lines_of, Lists, IsListFault, IsCause, ListsLine};
 ghost use Rattle.bpf_text.specs.insn.Reading.{ReadsTokens, RefusesText, RefusesLine};
 

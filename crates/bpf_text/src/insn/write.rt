@@ -7,8 +7,7 @@ ghost use Rattle.bpf_insn.specs.Table.{IsInsn};
 ghost use Rattle.bpf_text.specs.insn.Operands.{signed_text, register_text, operand_text};
 ghost use Rattle.bpf_text.specs.insn.Table.{source_operand, operands_of};
 ghost use Rattle.bpf_text.specs.insn.Lines.{spaced, line_of, listing_of};
-ghost use Rattle.bpf_text.specs.insn.Listing.{Lists};
-ghost use Rattle.bpf_text.specs.insn.Written.{operand_written};
+ghost use Rattle.bpf_text.specs.insn.{Listing.Lists, Written.operand_written};
 
 use crate::insn::mnemonic::Mnemonic;
 use crate::insn::written_operand::WrittenOperand;

@@ -1,9 +1,8 @@
 //! `btf-check`: the number of types in a BTF file, or its first fault.
 
 ghost use Rattle.std.specs.Prelude.{◌≡◌, ◌≤◌, length, IfOk};
-ghost use Rattle.bpfcanon.specs.declared.verb.Verb.TheVariants.{BtfCheck};
+ghost use Rattle.bpfcanon.specs.{declared.verb.Verb.TheVariants.BtfCheck, commands.Reply.limit_of};
 ghost use Rattle.bpfcanon.specs.commands.BtfReply.{IsBtfCheckReply, count_line};
-ghost use Rattle.bpfcanon.specs.commands.Reply.{limit_of};
 
 use crate::commands::reply::Reply;
 use crate::outcome::Outcome;

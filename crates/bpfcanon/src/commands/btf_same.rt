@@ -2,8 +2,7 @@
 
 ghost use Rattle.std.specs.Prelude.{◌≡◌, ◌≤◌, length, IfOk};
 ghost use Rattle.bpfcanon.specs.declared.verb.Verb.TheVariants.{BtfSame};
-ghost use Rattle.bpfcanon.specs.commands.BtfReply.{IsBtfSameReply};
-ghost use Rattle.bpfcanon.specs.commands.Reply.{limit_of};
+ghost use Rattle.bpfcanon.specs.commands.{BtfReply.IsBtfSameReply, Reply.limit_of};
 
 use crate::commands::input::two_files;
 use crate::commands::reply::Reply;

@@ -5,11 +5,9 @@ ghost use Rattle.std.specs.List.{flat_map};
 ghost use Rattle.btf_types.specs.Values.{head_value, item_value};
 ghost use Rattle.btf_types.specs.tables.TableWords.{record_at};
 ghost use Rattle.bpf_text.specs.btf.BtfText.{head_line, item_line, record_text, text_of};
-ghost use Rattle.bpfcanon.specs.declared.verb.Verb.TheVariants.{BtfShow};
-ghost use Rattle.bpfcanon.specs.declared.commands.pieces.TheConstants.{PIECE};
-ghost use Rattle.bpfcanon.specs.Devices.{sink_change};
+ghost use Rattle.bpfcanon.specs.{declared.verb.Verb.TheVariants.BtfShow, commands.Reply.limit_of};
+ghost use Rattle.bpfcanon.specs.{declared.commands.pieces.TheConstants.PIECE, Devices.sink_change};
 ghost use Rattle.bpfcanon.specs.commands.Pieces.{Answers, Gathers, TookText};
-ghost use Rattle.bpfcanon.specs.commands.Reply.{limit_of};
 
 use crate::commands::lines::{put_head, put_item};
 use crate::commands::pieces::{PutError, end_of_pieces, put_piece};

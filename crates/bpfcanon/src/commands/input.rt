@@ -4,8 +4,7 @@ ghost use Rattle.std.specs.Prelude.{◌≡◌, ◌<◌, ◌≤◌, drop, length,
 ghost use Rattle.std.specs.Prelude.{IsNone};
 ghost use Rattle.bpfcanon.specs.Devices.{Change, IsUnused, source_change};
 ghost use Rattle.bpfcanon.specs.JobEnds.{EndsJob};
-ghost use Rattle.bpfcanon.specs.commands.Pieces.{IsInput};
-ghost use Rattle.bpfcanon.specs.commands.Reply.{has_engine};
+ghost use Rattle.bpfcanon.specs.commands.{Pieces.IsInput, Reply.has_engine};
 
 use crate::job::Job;
 use crate::outcome::Outcome;

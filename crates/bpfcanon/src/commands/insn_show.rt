@@ -1,13 +1,10 @@
 //! `insn-show`: validates the input, and then writes its listing in pieces.
 
 ghost use Rattle.std.specs.Prelude.{◌≡◌, ◌<◌, ◌≤◌, List, length};
-ghost use Rattle.bpf_insn.specs.declared.insn.Insn.{Insn};
-ghost use Rattle.bpf_insn.specs.Spelling.{InsnFile};
+ghost use Rattle.bpf_insn.specs.{declared.insn.Insn.Insn, Spelling.InsnFile};
 ghost use Rattle.bpf_text.specs.insn.Lines.{listing_of};
-ghost use Rattle.bpfcanon.specs.declared.verb.Verb.TheVariants.{InsnShow};
-ghost use Rattle.bpfcanon.specs.Devices.{sink_change};
-ghost use Rattle.bpfcanon.specs.commands.Pieces.{Answers, TookText};
-ghost use Rattle.bpfcanon.specs.commands.Reply.{limit_of};
+ghost use Rattle.bpfcanon.specs.{declared.verb.Verb.TheVariants.InsnShow, Devices.sink_change};
+ghost use Rattle.bpfcanon.specs.commands.{Pieces.Answers, Pieces.TookText, Reply.limit_of};
 
 use crate::commands::pieces::{PutError, end_of_pieces, put_long_piece, put_piece};
 use crate::job::Job;

@@ -6,8 +6,7 @@ ghost use Rattle.std.specs.List.{flat_map};
 ghost use Rattle.btf_types.specs.Values.{head_value, item_value};
 ghost use Rattle.bpf_text.specs.btf.BtfText.{head_line, item_line, quoted_byte};
 ghost use Rattle.bpfcanon.specs.declared.commands.pieces.TheConstants.{PIECE};
-ghost use Rattle.bpfcanon.specs.Devices.{sink_change};
-ghost use Rattle.bpfcanon.specs.commands.Pieces.{Gathers};
+ghost use Rattle.bpfcanon.specs.{Devices.sink_change, commands.Pieces.Gathers};
 
 use crate::commands::pieces::{PutError, put_long_piece};
 use bpf_canon::ByteSink;

@@ -2,8 +2,7 @@
 
 ghost use Rattle.std.specs.Prelude.{◌≡◌, ◌<◌, ℕ, List, [], IfOk};
 ghost use Rattle.bpfcanon.specs.declared.job.Job.{Job};
-ghost use Rattle.bpfcanon.specs.Devices.{sink_change};
-ghost use Rattle.bpfcanon.specs.commands.Pieces.{Answers};
+ghost use Rattle.bpfcanon.specs.{Devices.sink_change, commands.Pieces.Answers};
 ghost use Rattle.bpfcanon.specs.commands.Reply.{IsReply, verdict_line, verdict_outcome};
 
 use crate::outcome::Outcome;

@@ -1,9 +1,8 @@
 //! The program's command line, built with clap.
 
 ghost use Rattle.std.specs.Prelude.{◌≡◌, IfOk, false};
-ghost use Rattle.clap.specs.Words.{app_of, new_app, rule_of};
+ghost use Rattle.clap.specs.{Words.app_of, Words.new_app, Words.rule_of, Simple.shape_of};
 ghost use Rattle.clap.specs.declared.builder.command.Command.TheViews.{out-Command};
-ghost use Rattle.clap.specs.Simple.{shape_of};
 ghost use Rattle.bpfcanon.specs.Verbs.{name_of};
 ghost use Rattle.bpfcanon.specs.line.Options.{IsOrderNames, bare_program, option_of, order_option};
 ghost use Rattle.bpfcanon.specs.line.Options.{program, shape_for, split_option};

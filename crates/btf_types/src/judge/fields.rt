@@ -3,19 +3,16 @@
 //! length of the section: each field is read at most once (the offsets in a STRUCT twice), and what
 //! is needed of another record is read directly at its offset.
 
-ghost use Rattle.std.specs.Prelude.{◌≡◌, ◌<◌, ◌≤◌, ◌^◌, IsTrue, [], ◌∷◌, length};
-ghost use Rattle.std.specs.Prelude.{IfSome, MatchOption, MatchResult};
-ghost use Rattle.btf_raw.specs.Header.{HasNulEnds, STRINGS_LIMIT};
-ghost use Rattle.btf_raw.specs.Cause.{HasNone, LeastByPlace};
-ghost use Rattle.btf_raw.specs.Frames.{IsFrame, kind};
-ghost use Rattle.btf_raw.specs.Kinds.{one_of};
-ghost use Rattle.btf_raw.specs.KindNumbers as kinds;
-ghost use Rattle.btf_types.specs.judge.Checks.{IsLeastOf};
-ghost use Rattle.btf_types.specs.judge.FieldFaults.{FieldFault};
-ghost use Rattle.btf_types.specs.judge.RecordFaults.{FaultInWord, FirstWithin};
-ghost use Rattle.btf_types.specs.judge.RecordFaults.{IsFaultlessIn, IsLeastIn};
+ghost use Rattle.std.specs.Prelude.{◌≡◌, ◌<◌, ◌≤◌, ◌^◌, IsTrue, [], ◌∷◌, length, IfSome};
+ghost use Rattle.std.specs.Prelude.{MatchOption, MatchResult};
+ghost use Rattle.btf_raw.specs.{Header.HasNulEnds, Header.STRINGS_LIMIT, Cause.HasNone};
+ghost use Rattle.btf_raw.specs.{Cause.LeastByPlace, Frames.IsFrame, Frames.kind, Kinds.one_of};
+ghost use Rattle.btf_types.specs.judge.{Checks.IsLeastOf, FieldFaults.FieldFault};
+ghost use Rattle.btf_types.specs.judge.RecordFaults.{FaultInWord, FirstWithin, IsFaultlessIn};
+ghost use Rattle.btf_types.specs.judge.RecordFaults.{IsLeastIn};
 ghost use Rattle.btf_types.specs.tables.TableInvariant.{IsFramed, FieldsAreRight};
 ghost use Rattle.btf_types.specs.tables.Tables.{FailsFields, FaultInside};
+ghost use Rattle.btf_raw.specs.KindNumbers as kinds;
 
 use crate::error::BtfError;
 use crate::judge::checks::{int_fault, linkage_fault, second_fault};

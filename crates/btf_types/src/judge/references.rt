@@ -2,10 +2,9 @@
 //! is read only if its kind or size matters.
 
 ghost use Rattle.std.specs.Prelude.{◌≡◌, length};
-ghost use Rattle.btf_types.specs.judge.Checks as spec;
-ghost use Rattle.btf_types.specs.judge.Checks.{type_at};
+ghost use Rattle.btf_types.specs.{judge.Checks.type_at, Sections.facts_in};
 ghost use Rattle.btf_types.specs.judge.NameFaults.{NamedTypeFault, MemberTypeFault, ComponentFault};
-ghost use Rattle.btf_types.specs.Sections.{facts_in};
+ghost use Rattle.btf_types.specs.judge.Checks as spec;
 
 use crate::judge::checks::{is_plain_int, size_fits, target_fits};
 use crate::tables::section::Section;

@@ -8,8 +8,7 @@
 
 ghost use Rattle.std.specs.Prelude.{◌≡◌, ◌≢◌, ◌↔◌, ℕ, List, ◌<◌, length, slice_index, IfOk, IsTrue};
 ghost use Rattle.std.specs.Prelude.{IsUtf8, MatchOption};
-ghost use Rattle.btf_raw.specs.Header.{HasNulEnds};
-ghost use Rattle.btf_raw.specs.Names.{TextAt};
+ghost use Rattle.btf_raw.specs.{Header.HasNulEnds, Names.TextAt};
 ghost use Rattle.btf_types.specs.judge.Texts.{BeginsChar, TextsAre, AreMarks, IsNextChar};
 
 use simdutf8::basic::from_utf8;

@@ -2,8 +2,7 @@
 //! that borrows these sections.
 
 ghost use Rattle.std.specs.Prelude.{◌≡◌, List, IfSome, IsSome};
-ghost use Rattle.btf_types.specs.Values.{TypeRecord};
-ghost use Rattle.btf_types.specs.tables.KeptSections.{AreSections};
+ghost use Rattle.btf_types.specs.{Values.TypeRecord, tables.KeptSections.AreSections};
 
 use crate::tables::section_table::SectionTable;
 use crate::tables::table::{FileSections, TypeTable};

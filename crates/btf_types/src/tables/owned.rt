@@ -1,10 +1,8 @@
 //! A table that owns its bytes.
 
 ghost use Rattle.std.specs.Prelude.{◌≡◌, IfSome, IsSome, MatchResult};
-ghost use Rattle.btf_types.specs.Denotes.{Denotes};
-ghost use Rattle.btf_types.specs.tables.KeptSections.{AreSections};
-ghost use Rattle.btf_types.specs.tables.Tables.{Fails};
-ghost use Rattle.btf_types.specs.tables.TableWords.{numbered};
+ghost use Rattle.btf_types.specs.{Denotes.Denotes, tables.Tables.Fails, tables.TableWords.numbered};
+ghost use Rattle.btf_types.specs.tables.{KeptSections.AreSections, Windows.items_of};
 
 use crate::error::BtfError;
 use crate::tables::keeps_sections::KeepsSections;

@@ -1,6 +1,8 @@
 //! An iterator over the records of a table.
 
-ghost use Rattle.std.specs.Iterator.{YieldsFirstBy, YieldsLastBy, item_count};
+ghost use Rattle.std.specs.Prelude.{◌≡◌, IfSome, Some, length};
+ghost use Rattle.std.specs.Iterator.{UpTo, YieldsFirstBy, YieldsLastBy, item_count};
+ghost use Rattle.std.specs.Iterator.SizeHint.{IsWithinCount};
 ghost use Rattle.btf_types.specs.tables.TableWords.{numbered_value};
 
 use crate::tables::section_table::SectionTable;
@@ -26,8 +28,7 @@ pub struct Records<'a> {
 impl<'a> Model for Records<'a> {
     ghost use Rattle.std.specs.Prelude.{ℕ, List, ◌≤◌, length};
     ghost use Rattle.btf_types.specs.Values.{TypeHead};
-    ghost use Rattle.btf_types.specs.tables.TableWords.{numbered};
-    ghost use Rattle.btf_types.specs.tables.Windows.{window};
+    ghost use Rattle.btf_types.specs.tables.{TableWords.numbered, Windows.window};
 
     ghost Value = { List (ℕ × TypeHead) };
 

@@ -3,10 +3,8 @@
 
 ghost use Rattle.std.specs.Prelude.{◌≡◌, length};
 ghost use Rattle.btf_raw.specs.Frames.{IsFrame};
-ghost use Rattle.btf_types.specs.judge.Checks.{type_at};
-ghost use Rattle.btf_types.specs.Sections.{facts_in};
-ghost use Rattle.btf_types.specs.tables.SectionParts.{FactsAre};
-ghost use Rattle.btf_types.specs.judge.FieldFaults.{frame_facts};
+ghost use Rattle.btf_types.specs.{judge.Checks.type_at, Sections.facts_in};
+ghost use Rattle.btf_types.specs.{tables.SectionParts.FactsAre, judge.FieldFaults.frame_facts};
 
 use crate::judge::utf8::Texts;
 use crate::record_words::Record;

@@ -3,12 +3,9 @@
 
 ghost use Rattle.std.specs.Prelude.{◌≡◌, ◌<◌, ◌≤◌, Some, length, slice_get};
 ghost use Rattle.btf_types.specs.Values.{head_value, item_value};
-ghost use Rattle.btf_types.specs.Good.{IsGood};
-ghost use Rattle.btf_types.specs.Reading.{records_at};
+ghost use Rattle.btf_types.specs.{Good.IsGood, Reading.records_at, tables.Windows.items_of};
 ghost use Rattle.btf_types.specs.tables.TableWords.{record_at, numbered};
-ghost use Rattle.btf_types.specs.tables.Windows.{items_of};
-ghost use Rattle.btf_types.specs.tables.TablePlaces.{IsPlacedTable};
-ghost use Rattle.btf_types.specs.tables.KeptSections.{AreSections};
+ghost use Rattle.btf_types.specs.tables.{TablePlaces.IsPlacedTable, KeptSections.AreSections};
 
 use crate::reading::{head_of, item_count_of, item_of};
 use crate::tables::items::Items;
@@ -31,8 +28,7 @@ pub struct SectionTable<'a> {
 impl<'a> Model for SectionTable<'a> {
     ghost use Rattle.std.specs.Prelude.{List};
     ghost use Rattle.btf_types.specs.Values.{TypeRecord};
-    ghost use Rattle.btf_types.specs.Reading.{records_at};
-    ghost use Rattle.btf_types.specs.tables.TablePlaces.{IsPlacedTable};
+    ghost use Rattle.btf_types.specs.{Reading.records_at, tables.TablePlaces.IsPlacedTable};
 
     ghost Value = { List TypeRecord };
 

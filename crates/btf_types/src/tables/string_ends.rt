@@ -7,8 +7,7 @@
 
 ghost use Rattle.std.specs.Prelude.{◌≡◌, ◌≢◌, ◌<◌, ◌^◌, ◌≤◌, ◌+◌, ◌++◌, ℕ, nat_lt, MatchOption};
 ghost use Rattle.std.specs.Prelude.{OnOk, length, take, drop, slice_index};
-ghost use Rattle.btf_raw.specs.Header.{HasNulEnds};
-ghost use Rattle.btf_raw.specs.Names.{IsEnd};
+ghost use Rattle.btf_raw.specs.{Header.HasNulEnds, Names.IsEnd};
 ghost use Rattle.btf_types.specs.tables.StringEnds.{AreLongEnds};
 
 use btf_raw::text_end;

@@ -1,14 +1,11 @@
 //! The interface of all tables of types.
 
 ghost use Rattle.std.specs.Prelude.{◌≡◌, ◌<◌, ◌≤◌, List, Some, IfSome, length, slice_get};
+ghost use Rattle.btf_types.specs.{Good.IsGood, Reading.record_of, Reading.records_at};
+ghost use Rattle.btf_types.specs.{tables.TableWords.record_at, tables.TableInvariant.IsTable};
+ghost use Rattle.btf_types.specs.{tables.PlaceWords.ReadsRecord, tables.KeptSections.AreSections};
+ghost use Rattle.btf_types.specs.{Sections.HasFrame, Sections.frame_of};
 ghost use Rattle.btf_types.specs.Values.{TypeRecord, head_value, item_value};
-ghost use Rattle.btf_types.specs.Good.{IsGood};
-ghost use Rattle.btf_types.specs.Reading.{record_of, records_at};
-ghost use Rattle.btf_types.specs.tables.TableWords.{record_at};
-ghost use Rattle.btf_types.specs.tables.TableInvariant.{IsTable};
-ghost use Rattle.btf_types.specs.tables.PlaceWords.{ReadsRecord};
-ghost use Rattle.btf_types.specs.tables.KeptSections.{AreSections};
-ghost use Rattle.btf_types.specs.Sections.{HasFrame, frame_of};
 
 use crate::record_words::Record;
 use crate::values::{Head, Item};

@@ -1,13 +1,11 @@
 //! A table that borrows the file it was read from.
 
 ghost use Rattle.std.specs.Prelude.{◌≡◌, IfSome, IsSome, MatchResult};
-ghost use Rattle.btf_raw.specs.Header.{part};
-ghost use Rattle.btf_raw.specs.ReadHeader.{ReadsHeader};
-ghost use Rattle.btf_types.specs.Denotes.{Denotes};
-ghost use Rattle.btf_types.specs.tables.KeptSections.{AreSections};
+ghost use Rattle.btf_raw.specs.{Header.part, ReadHeader.ReadsHeader};
+ghost use Rattle.btf_types.specs.{Denotes.Denotes, tables.KeptSections.AreSections};
+ghost use Rattle.btf_types.specs.tables.{Tables.Fails, Tables.MayMove, TableWords.numbered};
+ghost use Rattle.btf_types.specs.tables.Windows.{items_of};
 ghost use Rattle.btf_types.specs.tables.Tables as tables;
-ghost use Rattle.btf_types.specs.tables.Tables.{Fails, MayMove};
-ghost use Rattle.btf_types.specs.tables.TableWords.{numbered};
 
 use crate::error::BtfError;
 use crate::judge::fields::check_fields;

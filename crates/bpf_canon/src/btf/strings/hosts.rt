@@ -1,12 +1,11 @@
 //! The host of each name, found by the ranks of the longest strings, and the offsets of hosts in
 //! the string table, in the order of first use.
 ghost use Rattle.std.specs.Prelude.{◌≡◌, ◌<◌, ◌≤◌, length, IfOk, ◌^◌, OnOk};
-ghost use Rattle.bpf_canon.specs.btf.strings.Ranks.{AreLower};
-ghost use Rattle.bpf_canon.specs.btf.strings.UsedOffsets.{used_count};
-ghost use Rattle.btf_raw.specs.Header.{HasNulEnds};
-ghost use Rattle.btf_types.specs.strings.SharedNames.{shared_table};
+ghost use Rattle.bpf_canon.specs.btf.strings.{Ranks.AreLower, UsedOffsets.used_count};
 ghost use Rattle.bpf_canon.specs.btf.strings.HostPlaces.{AddsText, ArePlacesOf, HaveTheirHosts};
 ghost use Rattle.bpf_canon.specs.btf.strings.HostPlaces.{names_in};
+ghost use Rattle.btf_raw.specs.Header.{HasNulEnds};
+ghost use Rattle.btf_types.specs.strings.SharedNames.{shared_table};
 ghost use Rattle.bpf_canon.specs.btf.strings.InHost as spec;
 
 use crate::btf::strings::ranked_texts::{RankedTexts, first_rank, lower_ranks};

@@ -4,8 +4,7 @@ ghost use Rattle.std.specs.List.{All, Contains};
 ghost use Rattle.btf_raw.specs.Header.{HasNulEnds};
 ghost use Rattle.btf_types.specs.Reading.{text_from};
 ghost use Rattle.btf_types.specs.strings.SharedNames.{shared_table, shared_place};
-ghost use Rattle.bpf_canon.specs.btf.strings.HostPlaces.{name_place};
-ghost use Rattle.bpf_canon.specs.btf.strings.NamesByPlace.{placed_texts};
+ghost use Rattle.bpf_canon.specs.btf.strings.{HostPlaces.name_place, NamesByPlace.placed_texts};
 
 use crate::btf::strings::hosts::{HostPlaces, InHost, Span, find_hosts, place_hosts};
 use crate::btf::strings::ranked_texts::RankedTexts;
@@ -27,8 +26,7 @@ pub(crate) struct SharedPlaces<'a, A: Allocator> {
 }
 
 impl<'a, A: Allocator> Model for SharedPlaces<'a, A> {
-    ghost use Rattle.bpf_canon.specs.btf.strings.NamesByPlace.{NamesByPlace};
-    ghost use Rattle.bpf_canon.specs.btf.strings.HostPlaces.{ArePlaced};
+    ghost use Rattle.bpf_canon.specs.btf.strings.{NamesByPlace.NamesByPlace, HostPlaces.ArePlaced};
 
     ghost Value = { NamesByPlace };
 

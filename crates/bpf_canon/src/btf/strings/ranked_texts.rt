@@ -1,8 +1,7 @@
 //! The longest used strings of a section, sorted by their reversed bytes, and what their ranks
 //! determine: common suffixes and hosts.
 ghost use Rattle.std.specs.Prelude.{◌≡◌, ◌<◌, ◌^◌, length, IfOk, ◌≤◌, ℕ, slice_index};
-ghost use Rattle.std.specs.List.{All};
-ghost use Rattle.std.specs.List.Sorted.{IsPermutation};
+ghost use Rattle.std.specs.{List.All, List.Sorted.IsPermutation};
 ghost use Rattle.bpf_canon.specs.btf.strings.Ranks.{AreRanked, AreCommon, AreNextHosts, AreLower};
 ghost use Rattle.bpf_canon.specs.btf.strings.SectionTexts.{texts_in, HasKey, text_in, common_in};
 ghost use Rattle.bpf_canon.specs.btf.strings.SuffixKeys.{HaveSameByte};

@@ -1,8 +1,6 @@
 //! Strings of a section: the longest used ones, and their order by reversed bytes.
 ghost use Rattle.std.specs.Prelude.{◌≡◌, ◌+◌, ◌*◌, ◌^◌, ◌<◌, ◌≤◌, ◌-◌, IfOk, length};
-ghost use Rattle.std.specs.Ordering.{on};
-ghost use Rattle.std.specs.List.{All};
-ghost use Rattle.std.specs.List.Sorted.{IsPermutation, IsSorted};
+ghost use Rattle.std.specs.{Ordering.on, List.All, List.Sorted.IsPermutation, List.Sorted.IsSorted};
 ghost use Rattle.btf_types.specs.strings.SharedNames.{tail_cmp};
 ghost use Rattle.btf_raw.specs.Header.{HasNulEnds};
 ghost use Rattle.bpf_canon.specs.btf.strings.Longest.{AreLongestOf};

@@ -1,7 +1,6 @@
 //! The header of a file, and `u32` values.
 ghost use Rattle.std.specs.Prelude.{◌≡◌, ◌≤◌, ◌++◌, OnOk, length};
-ghost use Rattle.btf_raw.specs.Header.{header};
-ghost use Rattle.btf_raw.specs.Frames.{bytes_of};
+ghost use Rattle.btf_raw.specs.{Header.header, Frames.bytes_of};
 
 use bpf_words::{Order, push16};
 use byteorder::{BigEndian, ByteOrder, LittleEndian};

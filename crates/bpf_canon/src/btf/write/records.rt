@@ -3,8 +3,7 @@ ghost use Rattle.std.specs.Prelude.{◌≡◌, ℕ, List, ◌+◌, ◌^◌, ◌<
 ghost use Rattle.std.specs.Prelude.{length, slice_index, take, drop, map};
 ghost use Rattle.std.specs.List.{All, Contains};
 ghost use Rattle.btf_raw.specs.Frames.{bytes_of, section_of, IsFrame};
-ghost use Rattle.btf_types.specs.Reading.{record_of};
-ghost use Rattle.btf_types.specs.tables.PlaceWords.{ReadsRecord};
+ghost use Rattle.btf_types.specs.{Reading.record_of, tables.PlaceWords.ReadsRecord};
 ghost use Rattle.bpf_canon.specs.btf.CanonicalBtf.{record_words};
 ghost use Rattle.bpf_canon.specs.btf.write.KeptFrames.{AreTable, frames_of, records_of};
 ghost use Rattle.bpf_canon.specs.btf.write.KeptFrames.{record_info, record_items, record_tail};

@@ -1,11 +1,9 @@
 //! Canonical bytes from the sections that a type table keeps (btf.rst section 2). Offsets of names
 //! are replaced by offsets in the new string table.
-ghost use Rattle.std.specs.Prelude.{◌≡◌, IfOk, map};
-ghost use Rattle.std.specs.List.{All, Contains};
+ghost use Rattle.std.specs.{Prelude.◌≡◌, Prelude.IfOk, Prelude.map, List.All, List.Contains};
 ghost use Rattle.btf_types.specs.Names.{kept, names};
-ghost use Rattle.bpf_canon.specs.btf.CanonicalBtf.{canonical};
+ghost use Rattle.bpf_canon.specs.btf.{CanonicalBtf.canonical, write.NameOffsets.all_offsets};
 ghost use Rattle.bpf_canon.specs.btf.write.KeptFrames.{AreTable, frames_of, records_of};
-ghost use Rattle.bpf_canon.specs.btf.write.NameOffsets.{all_offsets};
 ghost use Rattle.bpf_canon.specs.btf.strings.NamesByPlace.{placed_texts};
 
 use crate::btf::strings::places::SharedPlaces;

@@ -2,17 +2,13 @@
 ghost use Rattle.std.specs.Prelude.{◌≡◌, ◌<◌, ◌≤◌, ◌^◌, ◌++◌, IfOk, OnOk, length, map};
 ghost use Rattle.btf_raw.specs.Frames.{bytes_of, section_of};
 ghost use Rattle.btf_types.specs.Values.{head_value, item_value};
-ghost use Rattle.btf_types.specs.Names as spec;
-ghost use Rattle.btf_types.specs.Names.{kept};
-ghost use Rattle.btf_types.specs.strings.SharedNames.{shared_among};
-ghost use Rattle.btf_types.specs.Spelling.{head_tail};
-ghost use Rattle.btf_types.specs.Good as good;
-ghost use Rattle.btf_types.specs.Good.{IsGood};
-ghost use Rattle.btf_types.specs.Denotes.{Denotes};
-ghost use Rattle.btf_types.specs.tables.TableWords.{record_at};
+ghost use Rattle.btf_types.specs.{Names.kept, strings.SharedNames.shared_among, Spelling.head_tail};
+ghost use Rattle.btf_types.specs.{Good.IsGood, Denotes.Denotes, tables.TableWords.record_at};
 ghost use Rattle.bpf_canon.specs.btf.names.Interned.{IsPlaced};
 ghost use Rattle.bpf_canon.specs.btf.write.BtfWords.{head_words, MemberFits};
 ghost use Rattle.bpf_canon.specs.btf.CanonicalBtf.{canonical, words_of_item, record_words};
+ghost use Rattle.btf_types.specs.Names as spec;
+ghost use Rattle.btf_types.specs.Good as good;
 
 use crate::btf::names::kept::kept_names;
 use crate::btf::names::shared::SharedNames;
