@@ -44,7 +44,9 @@ impl Iterator for Groups {
         None
     }
 
-    fn size_hint(&self) -> (usize, Option<usize>) {
+    fn size_hint(&self) -> (usize, Option<usize>)
+        ensures { result ≡ (length self.now, Some (length self.now)) }
+    {
         let len = self.len();
         (len, Some(len))
     }

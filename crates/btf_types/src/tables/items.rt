@@ -57,7 +57,11 @@ impl<'a> Iterator for Items<'a> {
         Some(self.table.item(self.id, k))
     }
 
-    fn size_hint(&self) -> (usize, Option<usize>) {
+    fn size_hint(&self) -> (usize, Option<usize>)
+        ensures exact { result ≡ (length self.now, Some (length self.now)) }
+        ensures lower { IsWithinCount result.0 (item_count (λ left. left) self.now) }
+        ensures upper { IfSome result.1 (UpTo (item_count (λ left. left) self.now)) }
+    {
         let len = self.len();
         (len, Some(len))
     }
