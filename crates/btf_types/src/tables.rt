@@ -2,7 +2,6 @@
 
 mod file_names;
 pub(crate) mod items;
-mod iteration;
 pub(crate) mod keeps_sections;
 pub(crate) mod owned;
 pub(crate) mod places;

@@ -5,6 +5,7 @@ ghost use Rattle.btf_types.specs.{Denotes.Denotes, tables.Tables.Fails, tables.T
 ghost use Rattle.btf_types.specs.tables.{KeptSections.AreSections, Windows.items_of};
 
 use crate::error::BtfError;
+use crate::tables::items::Items;
 use crate::tables::keeps_sections::KeepsSections;
 use crate::tables::places::Places;
 use crate::tables::records::Records;
@@ -14,6 +15,7 @@ use crate::tables::view::BtfView;
 use crate::values::{Head, Item};
 use bpf_words::Order;
 use std::alloc::{Allocator, Global};
+use std::fmt;
 use std::marker::Model;
 
 /// The types of a BTF file (btf.rst section 2), independent of the file's lifetime.
@@ -76,6 +78,14 @@ impl<A: Allocator> Btf<A> {
     {
         self.table().records()
     }
+
+    /// An iterator over the items of the type with the ID `id`, in order. Void (ID 0), and an ID
+    /// above [`TypeTable::count`], have none.
+    pub fn items(&self, id: u32) -> Items<'_>
+        ensures { result ≡ items_of self.now id }
+    {
+        self.table().items(id)
+    }
 }
 
 impl<A: Allocator> KeepsSections for Btf<A> {
@@ -83,5 +93,27 @@ impl<A: Allocator> KeepsSections for Btf<A> {
 
     fn table(&self) -> SectionTable<'_> {
         SectionTable::new(self.order, &self.types, &self.strings, &self.places)
+    }
+}
+
+/// Iterates over the records, like [`Btf::records`].
+impl<'t, A: Allocator> IntoIterator for &'t Btf<A> {
+    type Item = (u32, Head<'t>);
+
+    type IntoIter = Records<'t>;
+
+    ghost into_iter_gives = { λ table records. records ≡ numbered 1 table.now };
+
+    fn into_iter(self) -> Records<'t> {
+        self.records()
+    }
+}
+
+/// Shows the number of records.
+impl<A: Allocator> fmt::Debug for Btf<A> {
+    fn fmt<W: fmt::Write>(&self, f: &mut fmt::Formatter<W>) -> fmt::Result {
+        f.debug_struct("Btf")
+            .field("count", &self.count())
+            .finish_non_exhaustive()
     }
 }

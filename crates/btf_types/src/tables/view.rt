@@ -10,6 +10,7 @@ ghost use Rattle.btf_types.specs.tables.Tables as tables;
 use crate::error::BtfError;
 use crate::judge::fields::check_fields;
 use crate::judge::framing::record_places;
+use crate::tables::items::Items;
 use crate::tables::keeps_sections::KeepsSections;
 use crate::tables::places::Places;
 use crate::tables::records::Records;
@@ -19,6 +20,7 @@ use crate::values::{Head, Item};
 use bpf_words::Order;
 use btf_raw::{BtfFault, Header, check_strings, read_header};
 use std::alloc::{Allocator, Global};
+use std::fmt;
 use std::marker::Model;
 
 /// The types of a BTF file (btf.rst section 2), decoded from the file's own bytes when they are
@@ -117,6 +119,14 @@ impl<'a, A: Allocator> BtfView<'a, A> {
     {
         self.table().records()
     }
+
+    /// An iterator over the items of the type with the ID `id`, in order. Void (ID 0), and an ID
+    /// above [`TypeTable::count`], have none.
+    pub fn items(&self, id: u32) -> Items<'_>
+        ensures { result ≡ items_of self.now id }
+    {
+        self.table().items(id)
+    }
 }
 
 impl<'a, A: Allocator> KeepsSections for BtfView<'a, A> {
@@ -124,5 +134,27 @@ impl<'a, A: Allocator> KeepsSections for BtfView<'a, A> {
 
     fn table(&self) -> SectionTable<'_> {
         SectionTable::new(self.order, self.types, self.strings, &self.places)
+    }
+}
+
+/// Iterates over the records, like [`BtfView::records`].
+impl<'t, A: Allocator> IntoIterator for &'t BtfView<'_, A> {
+    type Item = (u32, Head<'t>);
+
+    type IntoIter = Records<'t>;
+
+    ghost into_iter_gives = { λ table records. records ≡ numbered 1 table.now };
+
+    fn into_iter(self) -> Records<'t> {
+        self.records()
+    }
+}
+
+/// Shows the number of records.
+impl<A: Allocator> fmt::Debug for BtfView<'_, A> {
+    fn fmt<W: fmt::Write>(&self, f: &mut fmt::Formatter<W>) -> fmt::Result {
+        f.debug_struct("BtfView")
+            .field("count", &self.count())
+            .finish_non_exhaustive()
     }
 }
