@@ -45,8 +45,6 @@ pub fn canonical_in<A: Allocator + Copy>(
         × (Denotes bytes.now v × (canon.items ≡ canonical to v))) }
     ensures fault { IfErr result (Fails bytes.now) }
 {
-    match BtfView::parse(alloc, bytes) {
-        Ok(table) => Ok(write_btf(alloc, to, &table)?),
-        Err(error) => Err(error),
-    }
+    let table = BtfView::parse(alloc, bytes)?;
+    Ok(write_btf(alloc, to, &table)?)
 }

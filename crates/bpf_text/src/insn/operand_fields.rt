@@ -20,8 +20,7 @@ pub(crate) fn register(operand: ReadOperand) -> Result<Reg, LineCause>
 {
     match operand {
         ReadOperand::Register(register) => Ok(register),
-        ReadOperand::Literal(_) => Err(LineCause::Shape),
-        ReadOperand::Memory(_, _) => Err(LineCause::Shape),
+        _ => Err(LineCause::Shape),
     }
 }
 
@@ -30,9 +29,8 @@ pub(crate) fn imm(operand: ReadOperand) -> Result<i32, LineCause>
     ensures { FieldIsRead imm_field operand result }
 {
     match operand {
-        ReadOperand::Register(_) => Err(LineCause::Shape),
         ReadOperand::Literal(number) => number.as_i32().ok_or(LineCause::Range),
-        ReadOperand::Memory(_, _) => Err(LineCause::Shape),
+        _ => Err(LineCause::Shape),
     }
 }
 
@@ -41,9 +39,8 @@ pub(crate) fn offset(operand: ReadOperand) -> Result<i16, LineCause>
     ensures { FieldIsRead offset_field operand result }
 {
     match operand {
-        ReadOperand::Register(_) => Err(LineCause::Shape),
         ReadOperand::Literal(number) => number.as_i16().ok_or(LineCause::Range),
-        ReadOperand::Memory(_, _) => Err(LineCause::Shape),
+        _ => Err(LineCause::Shape),
     }
 }
 
@@ -52,9 +49,8 @@ pub(crate) fn imm64(operand: ReadOperand) -> Result<u64, LineCause>
     ensures { FieldIsRead imm64_field operand result }
 {
     match operand {
-        ReadOperand::Register(_) => Err(LineCause::Shape),
         ReadOperand::Literal(number) => number.as_u64().ok_or(LineCause::Range),
-        ReadOperand::Memory(_, _) => Err(LineCause::Shape),
+        _ => Err(LineCause::Shape),
     }
 }
 
@@ -77,12 +73,11 @@ pub(crate) fn address(operand: ReadOperand) -> Result<Address, LineCause>
     ensures { FieldIsRead address_field operand result }
 {
     match operand {
-        ReadOperand::Register(_) => Err(LineCause::Shape),
-        ReadOperand::Literal(_) => Err(LineCause::Shape),
         ReadOperand::Memory(base, number) => match number.as_i16() {
             Some(offset) => Ok((base, offset)),
             None => Err(LineCause::Range),
         },
+        _ => Err(LineCause::Shape),
     }
 }
 

@@ -70,11 +70,7 @@ pub fn member_type_fault(section: &Section, bit_fields: bool, target: u32) -> Op
     if target > section.count() {
         return Some(BtfCause::Reference);
     }
-    if bit_fields && !member_int_fits(section, target) {
-        Some(BtfCause::MemberInt)
-    } else {
-        None
-    }
+    (bit_fields && !member_int_fits(section, target)).then_some(BtfCause::MemberInt)
 }
 
 /// Whether a type has a component with this index: a member of a STRUCT or UNION, or a parameter of
@@ -100,9 +96,5 @@ fn component_fits(section: &Section, target: u32, component: u32) -> bool
 pub fn component_fault(section: &Section, target: u32, word: u32) -> Option<BtfCause>
     ensures { spec.IsLeastOf (ComponentFault (facts_in section.now) target word) result }
 {
-    if word == u32::MAX || component_fits(section, target, word) {
-        None
-    } else {
-        Some(BtfCause::Component)
-    }
+    (word != u32::MAX && !component_fits(section, target, word)).then_some(BtfCause::Component)
 }
