@@ -63,6 +63,7 @@ fn kind_word(head: Head<'_>) -> &'static str
 }
 
 /// Appends the fields of a type, which follow its name. `items` is the number of its items.
+#[rattlefmt::skip]
 fn append_fields<A: Allocator>(
     text: &mut Vec<u8, A>,
     head: Head<'_>,
@@ -71,31 +72,18 @@ fn append_fields<A: Allocator>(
     ensures { Appends result text.old (spec.fields_text (head_value head.entry) items) text.new }
 {
     match head {
-        Head::KInt {
-            size,
-            encoding,
-            offset,
-            bits,
-            ..
-        } => {
+        Head::KInt { size, encoding, offset, bits, .. } => {
             append_number(text, " size=", size)?;
             append(text, " encoding=")?;
             append(text, encoding_name(encoding))?;
-            append_numbers(
-                text,
-                &[(" offset=", u32::from(offset)), (" bits=", u32::from(bits))],
-            )
+            append_numbers(text, &[(" offset=", u32::from(offset)), (" bits=", u32::from(bits))])
         }
         Head::KPtr { target }
         | Head::KVolatile { target }
         | Head::KConst { target }
         | Head::KRestrict { target }
         | Head::KTypedef { target, .. } => append_number(text, " type=", target),
-        Head::KArray {
-            target,
-            index,
-            count,
-        } => append_numbers(
+        Head::KArray { target, index, count } => append_numbers(
             text,
             &[(" type=", target), (" index=", index), (" count=", count)],
         ),
@@ -107,16 +95,8 @@ fn append_fields<A: Allocator>(
             append_numbers(text, &[(" size=", size), (" items=", items)])
         }
         Head::KFwd { is_union, .. } => append(text, if is_union { " union" } else { " struct" }),
-        Head::KFunc {
-            linkage,
-            target,
-            ..
-        }
-        | Head::KVar {
-            target,
-            linkage,
-            ..
-        } => {
+        Head::KFunc { linkage, target, .. }
+        | Head::KVar { target, linkage, .. } => {
             append(text, " ")?;
             append(text, linkage_name(linkage))?;
             append_number(text, " type=", target)
@@ -125,12 +105,7 @@ fn append_fields<A: Allocator>(
             append_numbers(text, &[(" type=", target), (" items=", items)])
         }
         Head::KFloat { size, .. } => append_number(text, " size=", size),
-        Head::KDeclTag {
-            flag,
-            target,
-            component,
-            ..
-        } => {
+        Head::KDeclTag { flag, target, component, .. } => {
             append(text, if flag { " flag=1" } else { " flag=0" })?;
             append_number(text, " type=", target)?;
             append(text, " component=")?;

@@ -14,6 +14,7 @@ use std::alloc::{AllocError, Allocator};
 
 /// Appends the fields of an item, after the closing quote if it has a name. Enum values are printed
 /// as signed numbers if `signed` is true.
+#[rattlefmt::skip]
 fn append_item_fields<A: Allocator>(
     text: &mut Vec<u8, A>,
     item: Item<'_>,
@@ -22,18 +23,9 @@ fn append_item_fields<A: Allocator>(
     ensures { Appends result text.old (parts.item_fields signed (item_value item.entry)) text.new }
 {
     match item {
-        Item::Member {
-            target,
-            bit_offset,
-            width,
-            ..
-        } => append_numbers(
+        Item::Member { target, bit_offset, width, .. } => append_numbers(
             text,
-            &[
-                ("\" type=", target),
-                (" offset=", bit_offset),
-                (" width=", u32::from(width)),
-            ],
+            &[("\" type=", target), (" offset=", bit_offset), (" width=", u32::from(width))],
         ),
         Item::EnumValue { value, .. } => {
             append(text, "\" ")?;
@@ -52,11 +44,7 @@ fn append_item_fields<A: Allocator>(
             }
         }
         Item::Param { target, .. } => append_number(text, "\" type=", target),
-        Item::Entry {
-            target,
-            offset,
-            size,
-        } => append_numbers(
+        Item::Entry { target, offset, size } => append_numbers(
             text,
             &[(" type=", target), (" offset=", offset), (" size=", size)],
         ),

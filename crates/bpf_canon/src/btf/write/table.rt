@@ -67,6 +67,7 @@ fn push_head<A: Allocator, B: Allocator + Copy>(
 }
 
 /// Appends an item.
+#[rattlefmt::skip]
 fn push_item<A: Allocator, B: Allocator + Copy>(
     out: &mut Vec<u8, A>,
     order: Order,
@@ -80,12 +81,7 @@ fn push_item<A: Allocator, B: Allocator + Copy>(
         (item_value item.entry))) }
 {
     match item {
-        Item::Member {
-            name,
-            target,
-            bit_offset,
-            width,
-        } => {
+        Item::Member { name, target, bit_offset, width } => {
             let offset = bit_offset + (u32::from(width) << 24);
             push_words(out, order, &[names.place(name), target, offset])
         }
@@ -96,11 +92,7 @@ fn push_item<A: Allocator, B: Allocator + Copy>(
             push_words(out, order, &[names.place(name), low, high])
         }
         Item::Param { name, target } => push_words(out, order, &[names.place(name), target]),
-        Item::Entry {
-            target,
-            offset,
-            size,
-        } => push_words(out, order, &[target, offset, size]),
+        Item::Entry { target, offset, size } => push_words(out, order, &[target, offset, size]),
     }
 }
 

@@ -65,8 +65,8 @@ returns-in-Load c =
 
 pub returns-in-LoadSigned : goal.returns-in-LoadSigned
 returns-in-LoadSigned c =
-    rw c.in-LoadSigned.is (made_by (LoadSigned c.in-LoadSigned.size) _ c.both-fields.result _ c.map-in-LoadSigned.ensures.cases (λ x i v p. search rules)
-    (two_read register_field address_field _ _ _ _ _ _ c.index-operands-0-in-LoadSigned.is c.index-operands-1-in-LoadSigned.is (c.if-operands-operand_count.false ∙ c.operand_count.ensures ∙ ap operand_count c.in-LoadSigned.is) c.register-in-LoadSigned.ensures c.address-in-LoadSigned.ensures c.both-fields.ensures))
+    rw c.in-LoadSigned.is (made_by (LoadSigned c.in-LoadSigned.size) _ c.both-in-LoadSigned.result _ c.map-in-LoadSigned.ensures.cases (λ x i v p. search rules)
+    (two_read register_field address_field _ _ _ _ _ _ c.index-operands-0-in-LoadSigned.is c.index-operands-1-in-LoadSigned.is (c.if-operands-operand_count.false ∙ c.operand_count.ensures ∙ ap operand_count c.in-LoadSigned.is) c.register-in-LoadSigned.ensures c.address-in-LoadSigned.ensures c.both-in-LoadSigned.ensures))
 
 pub returns-in-StoreImm : goal.returns-in-StoreImm
 returns-in-StoreImm c =
@@ -75,8 +75,8 @@ returns-in-StoreImm c =
 
 pub returns-in-StoreReg : goal.returns-in-StoreReg
 returns-in-StoreReg c =
-    rw c.in-StoreReg.is (made_by (StoreReg c.in-StoreReg.size) _ c.both-fields-in-StoreReg.result _ c.map-in-StoreReg.ensures.cases (λ x i v p. search rules)
-    (two_read address_field register_field _ _ _ _ _ _ c.index-operands-0-in-StoreReg.is c.index-operands-1-in-StoreReg.is (c.if-operands-operand_count.false ∙ c.operand_count.ensures ∙ ap operand_count c.in-StoreReg.is) c.address-in-StoreReg.ensures c.register-in-StoreReg.ensures c.both-fields-in-StoreReg.ensures))
+    rw c.in-StoreReg.is (made_by (StoreReg c.in-StoreReg.size) _ c.both-in-StoreReg.result _ c.map-in-StoreReg.ensures.cases (λ x i v p. search rules)
+    (two_read address_field register_field _ _ _ _ _ _ c.index-operands-0-in-StoreReg.is c.index-operands-1-in-StoreReg.is (c.if-operands-operand_count.false ∙ c.operand_count.ensures ∙ ap operand_count c.in-StoreReg.is) c.address-in-StoreReg.ensures c.register-in-StoreReg.ensures c.both-in-StoreReg.ensures))
 
 pub returns-in-Atomic : goal.returns-in-Atomic
 returns-in-Atomic c =
