@@ -7,7 +7,7 @@ use Rattle.bpf_words.specs.{Words.word16, Words.word32, Slots.Fields, Slots.AreF
 use Rattle.bpf_words.proofs.OneSpelling.{word-injective_16, word-injective_32, signed_16, signed_32, pattern_fits_16, pattern_fits_32}
 use Rattle.bpf_insn.specs.Table.{fields_of, next_imm_of, IsInsn, IsOffset, IsImm, alu_code, alu_class, branch_code, branch_class, source_bit, immediate, IsOperand, IsWideOf, alu_offset, wide_imm, wide_next_imm, movsx_bits, swap_opcode, swap_bits, size_number, small_size_number, atomic_size, atomic_number}
 use Rattle.bpf_insn.proofs.FormLemmas.{dst_is_reg, src_is_reg}
-use Rattle.bpf_insn.specs.Faults.{Agrees, held}
+use Rattle.bpf_insn.specs.Faults.{Agrees, field_value}
 use Rattle.bpf_insn.specs.Spelling.{second_slot, spelling}
 use Rattle.bpf_insn.specs.declared.fault.SlotCause.TheVariants.{Opcode, Dst, Src, Offset, Imm}
 use Rattle.bpf_insn.specs.declared.insn.{Width.Width, Width.TheVariants.W32, Width.TheVariants.W64, Operand.Operand}
@@ -119,25 +119,25 @@ fields_in_range i h =
 
 -- ---- the values of fields in the bytes of a slot
 
-held_opcode : (order : Order) (f : Fields) (r : List ℕ) → held order Opcode (spelled order f ++ r) ≡ f.opcode ∷ []
-held_opcode Little f r = refl
-held_opcode Big f r = refl
+value_of_opcode : (order : Order) (f : Fields) (r : List ℕ) → field_value order Opcode (spelled order f ++ r) ≡ f.opcode ∷ []
+value_of_opcode Little f r = refl
+value_of_opcode Big f r = refl
 
-held_dst : (order : Order) (f : Fields) (r : List ℕ) → f.dst < 16 → f.src < 16 → held order Dst (spelled order f ++ r) ≡ f.dst ∷ []
-held_dst Little f r d s = let e : (16 * f.src + f.dst) % 16 ≡ f.dst = omega arith in ap (λ (x : ℕ). x ∷ []) e
-held_dst Big f r d s = let e : (16 * f.dst + f.src) / 16 ≡ f.dst = omega arith in ap (λ (x : ℕ). x ∷ []) e
+value_of_dst : (order : Order) (f : Fields) (r : List ℕ) → f.dst < 16 → f.src < 16 → field_value order Dst (spelled order f ++ r) ≡ f.dst ∷ []
+value_of_dst Little f r d s = let e : (16 * f.src + f.dst) % 16 ≡ f.dst = omega arith in ap (λ (x : ℕ). x ∷ []) e
+value_of_dst Big f r d s = let e : (16 * f.dst + f.src) / 16 ≡ f.dst = omega arith in ap (λ (x : ℕ). x ∷ []) e
 
-held_src : (order : Order) (f : Fields) (r : List ℕ) → f.dst < 16 → f.src < 16 → held order Src (spelled order f ++ r) ≡ f.src ∷ []
-held_src Little f r d s = let e : (16 * f.src + f.dst) / 16 ≡ f.src = omega arith in ap (λ (x : ℕ). x ∷ []) e
-held_src Big f r d s = let e : (16 * f.dst + f.src) % 16 ≡ f.src = omega arith in ap (λ (x : ℕ). x ∷ []) e
+value_of_src : (order : Order) (f : Fields) (r : List ℕ) → f.dst < 16 → f.src < 16 → field_value order Src (spelled order f ++ r) ≡ f.src ∷ []
+value_of_src Little f r d s = let e : (16 * f.src + f.dst) / 16 ≡ f.src = omega arith in ap (λ (x : ℕ). x ∷ []) e
+value_of_src Big f r d s = let e : (16 * f.dst + f.src) % 16 ≡ f.src = omega arith in ap (λ (x : ℕ). x ∷ []) e
 
-held_off : (order : Order) (f : Fields) (r : List ℕ) → held order Offset (spelled order f ++ r) ≡ word16 order (cast_unsigned w16 f.off)
-held_off Little f r = refl
-held_off Big f r = refl
+value_of_off : (order : Order) (f : Fields) (r : List ℕ) → field_value order Offset (spelled order f ++ r) ≡ word16 order (cast_unsigned w16 f.off)
+value_of_off Little f r = refl
+value_of_off Big f r = refl
 
-held_imm : (order : Order) (f : Fields) (r : List ℕ) → held order Imm (spelled order f ++ r) ≡ word32 order (cast_unsigned w32 f.imm)
-held_imm Little f r = refl
-held_imm Big f r = refl
+value_of_imm : (order : Order) (f : Fields) (r : List ℕ) → field_value order Imm (spelled order f ++ r) ≡ word32 order (cast_unsigned w32 f.imm)
+value_of_imm Little f r = refl
+value_of_imm Big f r = refl
 
 -- ---- an instruction agrees with the bytes of a slot on the fields that have the same values
 
@@ -159,11 +159,11 @@ compared order i slot rest h a =
     let b = fields_in_range i h in
     let byte : ℕ → List ℕ = λ n. n ∷ [] in
     record {
-      opcode = by_values byte f.opcode slot.opcode _ _ (held_opcode order f q) (held_opcode order slot rest) (λ e. cc);
-      dst = by_values byte f.dst slot.dst _ _ (held_dst order f q b.dst b.src) (held_dst order slot rest a.dst a.src) (λ e. cc);
-      src = by_values byte f.src slot.src _ _ (held_src order f q b.dst b.src) (held_src order slot rest a.dst a.src) (λ e. cc);
-      off = by_values (λ (n : ℤ). word16 order (cast_unsigned w16 n)) f.off slot.off _ _ (held_off order f q) (held_off order slot rest)
+      opcode = by_values byte f.opcode slot.opcode _ _ (value_of_opcode order f q) (value_of_opcode order slot rest) (λ e. cc);
+      dst = by_values byte f.dst slot.dst _ _ (value_of_dst order f q b.dst b.src) (value_of_dst order slot rest a.dst a.src) (λ e. cc);
+      src = by_values byte f.src slot.src _ _ (value_of_src order f q b.dst b.src) (value_of_src order slot rest a.dst a.src) (λ e. cc);
+      off = by_values (λ (n : ℤ). word16 order (cast_unsigned w16 n)) f.off slot.off _ _ (value_of_off order f q) (value_of_off order slot rest)
           (λ e. signed_16 f.off slot.off b.off a.off (word-injective_16 order _ _ (pattern_fits_16 f.off b.off) (pattern_fits_16 slot.off a.off) e));
-      imm = by_values (λ (n : ℤ). word32 order (cast_unsigned w32 n)) f.imm slot.imm _ _ (held_imm order f q) (held_imm order slot rest)
+      imm = by_values (λ (n : ℤ). word32 order (cast_unsigned w32 n)) f.imm slot.imm _ _ (value_of_imm order f q) (value_of_imm order slot rest)
           (λ e. signed_32 f.imm slot.imm b.imm a.imm (word-injective_32 order _ _ (pattern_fits_32 f.imm b.imm) (pattern_fits_32 slot.imm a.imm) e));
     }

@@ -6,7 +6,7 @@ use Rattle.bpf_words.specs.declared.Order.{Order, TheVariants.Little, TheVariant
 use Rattle.bpf_words.specs.{Words.word32, Slots.Fields, Slots.AreFields, Slots.fields, Slots.spelled}
 use Rattle.bpf_insn.specs.Table.{fields_of, IsInsn, IsImm, wide_source, wide_next_imm}
 use Rattle.bpf_insn.specs.{Spelling.spelling, Spelling.second_slot, Forms.LacksNextImm, Forms.IsWideFault, Forms.wide_place}
-use Rattle.bpf_insn.specs.Faults.{held, Agrees, AgreesThrough, SomeAgreesThrough, BeginsWith, IsSlotFault}
+use Rattle.bpf_insn.specs.Faults.{field_value, Agrees, AgreesThrough, SomeAgreesThrough, BeginsWith, IsSlotFault}
 use Rattle.bpf_insn.proofs.FormLemmas.{insn_form, same_form}
 use Rattle.bpf_insn.proofs.WitnessLemmas.{wide_load}
 use Rattle.bpf_insn.proofs.FieldLemmas as field
@@ -37,13 +37,13 @@ lacks_next (MapIdx k) h = refl
 lacks_next _ h = absurd (elim h [ inl e ↦ omega arith | inr g ↦ elim g [ inl e ↦ omega arith | inr e ↦ omega arith ] ])
 
 -- the two 32-bit words after a first slot
-pub held_reserved : (order : Order) (f : Fields) (r : List ℕ) → held order Reserved (spelled order f ++ r) ≡ slice_range r 0 4
-held_reserved Little f r = refl
-held_reserved Big f r = refl
+pub value_of_reserved : (order : Order) (f : Fields) (r : List ℕ) → field_value order Reserved (spelled order f ++ r) ≡ slice_range r 0 4
+value_of_reserved Little f r = refl
+value_of_reserved Big f r = refl
 
-pub held_next : (order : Order) (f : Fields) (r : List ℕ) → held order NextImm (spelled order f ++ r) ≡ slice_range r 4 8
-held_next Little f r = refl
-held_next Big f r = refl
+pub value_of_next : (order : Order) (f : Fields) (r : List ℕ) → field_value order NextImm (spelled order f ++ r) ≡ slice_range r 4 8
+value_of_next Little f r = refl
+value_of_next Big f r = refl
 
 pub second_next : (order : Order) (m : ℤ) (r : List ℕ) → slice_range (second_slot order (Some m) ++ r) 4 8 ≡ word32 order (cast_unsigned w32 m)
 second_next Little m r = refl
@@ -55,7 +55,7 @@ second_length Big m = refl
 
 -- the second slot of a wide load
 wide_words : (order : Order) (d : Reg) (what : WideOf)
-    → (held order Reserved (spelling order (Wide d what)) ≡ word32 order 0) × (held order NextImm (spelling order (Wide d what)) ≡ word32 order (cast_unsigned w32 (wide_next_imm what)))
+    → (field_value order Reserved (spelling order (Wide d what)) ≡ word32 order 0) × (field_value order NextImm (spelling order (Wide d what)) ≡ word32 order (cast_unsigned w32 (wide_next_imm what)))
 unfolding spelling
 wide_words Little d what = (refl, refl)
 wide_words Big d what = (refl, refl)
@@ -106,7 +106,7 @@ module _ (order : Order) (d : Reg) (s : ℕ) (k : ℤ) (rest : List ℕ) (hs : s
   none_reserved : slice_range rest 0 4 ≢ word32 order 0 → ¬ SomeAgreesThrough order Reserved (spelled order (head d s k) ++ rest)
   none_reserved ne some =
       let w = wide_by_opcode some.0 some.1 some.2.0 in
-      ne (sym (held_reserved order (head d s k) rest) ∙ sym some.2.5 ∙ ap (λ (x : Insn). held order Reserved (spelling order x)) w.is ∙ (wide_words order w.dst w.what).0)
+      ne (sym (value_of_reserved order (head d s k) rest) ∙ sym some.2.5 ∙ ap (λ (x : Insn). field_value order Reserved (spelling order x)) w.is ∙ (wide_words order w.dst w.what).0)
 
   none_next : LacksNextImm s → slice_range rest 4 8 ≢ word32 order 0 → ¬ SomeAgreesThrough order NextImm (spelled order (head d s k) ++ rest)
   none_next lacks ne some =
@@ -114,14 +114,14 @@ module _ (order : Order) (d : Reg) (s : ℕ) (k : ℤ) (rest : List ℕ) (hs : s
       let src : wide_source w.what ≡ s =
       sym (ap (λ (x : Insn). (fields_of x).src) w.is) ∙ (field.compared order some.0 (head d s k) rest some.1 head_in_range).src.0 some.2.2 in
       let zero : wide_next_imm w.what ≡ pos 0 = lacks_next w.what (subst LacksNextImm (sym src) lacks) in
-      ne (sym (held_next order (head d s k) rest) ∙ sym some.2.6 ∙ ap (λ (x : Insn). held order NextImm (spelling order x)) w.is
+      ne (sym (value_of_next order (head d s k) rest) ∙ sym some.2.6 ∙ ap (λ (x : Insn). field_value order NextImm (spelling order x)) w.is
       ∙ (wide_words order w.dst w.what).1 ∙ ap (λ (x : ℤ). word32 order (cast_unsigned w32 x)) zero)
 
   some_reserved : slice_range rest 0 4 ≡ word32 order 0 → SomeAgreesThrough order Reserved (spelled order (head d s k) ++ rest)
   some_reserved e =
       let load = wide_load s k hs hk in
       let g = agrees_imm in
-      (Wide d load.what, load.is, (g.0, g.1, g.2, g.3, g.4, (wide_words order d load.what).0 ∙ sym e ∙ sym (held_reserved order (head d s k) rest)))
+      (Wide d load.what, load.is, (g.0, g.1, g.2, g.3, g.4, (wide_words order d load.what).0 ∙ sym e ∙ sym (value_of_reserved order (head d s k) rest)))
 
   whole_length : length (spelled order (head d s k) ++ rest) ≡ 8 + length rest
   whole_length = omega (arith, length-append (spelled order (head d s k)) rest, slot_length order (head d s k))

@@ -8,7 +8,7 @@ pub mod ListingLemmas
 pub mod FieldLemmas
 pub mod FieldLists
 pub mod OperandFieldsLemmas
-pub mod HashPlaces
+pub mod HashIndices
 pub mod ReadOperandLemmas
 pub mod RegisterLemmas
 pub mod OneOperand

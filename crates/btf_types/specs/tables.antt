@@ -4,7 +4,7 @@ pub mod TableWords
 pub mod TableInvariant
 pub mod TablePlaces
 pub mod PlaceWords
-pub mod KeptSections
+pub mod TableSections
 pub mod StringEnds
 pub mod Windows
 pub mod SectionParts

@@ -6,7 +6,7 @@
 //! new table.
 
 mod hosts;
-pub(crate) mod places;
 mod ranked_texts;
 mod section_texts;
+pub(crate) mod shared_places;
 pub(crate) mod used_offsets;

@@ -11,14 +11,14 @@ use Rattle.bpf_insn.specs.declared.insn.SwapKind.TheVariants as swap
 use Rattle.bpf_insn.specs.declared.insn.SwapBits.TheVariants.{B16}
 use Rattle.bpf_insn.specs.declared.insn.AtomicOp.TheVariants as atomic
 use Rattle.bpf_text.specs.declared.insn.mnemonic.WideKind.TheVariants as kind
-use Rattle.bpf_text.specs.declared.insn.{mnemonic.Mnemonic.Mnemonic, mnemonic.TheConstants.ALL, mnemonic_hash.TheConstants.PLACES}
+use Rattle.bpf_text.specs.declared.insn.{mnemonic.Mnemonic.Mnemonic, mnemonic.TheConstants.ALL, mnemonic_hash.TheConstants.INDEX_BY_HASH}
 use Rattle.bpf_text.specs.declared.insn.mnemonic.Mnemonic.TheVariants.{Alu, Movsx, Neg, Swap, Branch, Exit, Load, LoadSigned, StoreImm, StoreReg, Atomic, Wide, PacketAbs, PacketInd}
 use Rattle.bpf_text.specs.insn.{Mnemonics.text_of_mnemonic, MnemonicHash.hash_of}
 use Rattle.std.proofs.lemmas.Bool.{and_parts}
 
 -- the entry to which the hash of a token leads
 abbrev pub entry : List ℕ → Mnemonic → Mnemonic
-entry text other = get_or ALL (get_or PLACES (hash_of text) 0) other
+entry text other = get_or ALL (get_or INDEX_BY_HASH (hash_of text) 0) other
 
 pub stands : (m d : Mnemonic) → entry (text_of_mnemonic m) d ≡ m
 stands (Alu W32 alu.Add) d = refl
@@ -45,10 +45,10 @@ pub one_mnemonic : (m n : Mnemonic) → text_of_mnemonic m ≡ text_of_mnemonic 
 one_mnemonic m n e = sym (stands m Exit) ∙ ap (λ w. entry w Exit) e ∙ stands n Exit
 
 -- a token isn't a mnemonic if it differs from the mnemonic at its hash
-pub none_of_hash : (token : List ℕ) (hash k : ℕ) (m d : Mnemonic) → hash ≡ hash_of token → k ≡ get_or PLACES hash 0
+pub none_of_hash : (token : List ℕ) (hash k : ℕ) (m d : Mnemonic) → hash ≡ hash_of token → k ≡ get_or INDEX_BY_HASH hash 0
     → token ≢ text_of_mnemonic (get_or ALL k d) → token ≢ text_of_mnemonic m
 none_of_hash token hash k m d h p other same =
-    let led : k ≡ get_or PLACES (hash_of (text_of_mnemonic m)) 0 = p ∙ ap (λ n. get_or PLACES n 0) (h ∙ ap hash_of same) in
+    let led : k ≡ get_or INDEX_BY_HASH (hash_of (text_of_mnemonic m)) 0 = p ∙ ap (λ n. get_or INDEX_BY_HASH n 0) (h ∙ ap hash_of same) in
     other (same ∙ ap text_of_mnemonic (sym (ap (λ n. get_or ALL n d) led ∙ stands m d)))
 
 at_entry : (test : Mnemonic → Bool) (ms : List Mnemonic) (k : ℕ) (d : Mnemonic) → list_all test ms ≡ true → test d ≡ true → test (get_or ms k d) ≡ true
@@ -59,4 +59,4 @@ at_entry test (m ∷ ms) (suc k) d h e = at_entry test ms k d (and_parts (test m
 -- a test that all entries pass is passed by each mnemonic
 pub each_passes : (test : Mnemonic → Bool) → list_all test ALL ≡ true → test Exit ≡ true → (m : Mnemonic) → test m ≡ true
 each_passes test h e m =
-    subst (λ (x : Mnemonic). test x ≡ true) (stands m Exit) (at_entry test ALL (get_or PLACES (hash_of (text_of_mnemonic m)) 0) Exit h e)
+    subst (λ (x : Mnemonic). test x ≡ true) (stands m Exit) (at_entry test ALL (get_or INDEX_BY_HASH (hash_of (text_of_mnemonic m)) 0) Exit h e)

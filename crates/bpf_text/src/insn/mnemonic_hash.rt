@@ -4,7 +4,7 @@ ghost use Rattle.std.specs.Prelude.{◌≡◌, ◌<◌, get_or};
 ghost use Rattle.bpf_text.specs.insn.MnemonicHash.{hash_of};
 
 /// Maps the hash of a mnemonic to its index in `ALL`. All other entries are 0.
-static PLACES: [u8; 1024] = [
+static INDEX_BY_HASH: [u8; 1024] = [
     0, 0, 0, 0, 0, 0, 0, 0, 0, 0, 0, 0, 0, 34, 0, 0, 0, 0, 0, 0, 0, 0, 0, 0, 0, 6, 0, 0, 29, 40, 0,
     114, 0, 0, 0, 0, 0, 103, 0, 0, 0, 0, 0, 0, 0, 0, 9, 47, 0, 77, 0, 0, 0, 0, 0, 0, 0, 0, 0, 0, 0,
     0, 62, 0, 0, 0, 0, 0, 0, 0, 0, 0, 0, 0, 0, 0, 0, 0, 0, 0, 0, 0, 0, 0, 91, 0, 0, 0, 0, 0, 0, 0,
@@ -58,8 +58,8 @@ pub(crate) fn hash_of(token: &[u8]) -> usize
 /// hash.
 pub(crate) fn index_of(hash: usize) -> usize
     requires { hash < 1024 }
-    ensures value { result ≡ get_or PLACES hash 0 }
+    ensures value { result ≡ get_or INDEX_BY_HASH hash 0 }
     ensures within { result < 120 }
 {
-    PLACES[hash] as usize
+    INDEX_BY_HASH[hash] as usize
 }

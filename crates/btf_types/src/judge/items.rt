@@ -39,10 +39,10 @@ fn member_fault(
     if let Some(cause) = member_type_fault(section, bit_fields, target) {
         return Some((4 + 3 * k, cause));
     }
-    let place = this.word(5 + 3 * k);
+    let offset = this.word(5 + 3 * k);
     let flag = this.kind_flag();
-    let bit_offset = bit_offset_of(flag, place);
-    let width = width_of(flag, place);
+    let bit_offset = bit_offset_of(flag, offset);
+    let width = width_of(flag, offset);
     match member_place_fault(this.word(2), bit_offset, width) {
         Some(cause) => Some((5 + 3 * k, cause)),
         None => None,

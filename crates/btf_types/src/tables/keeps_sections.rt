@@ -2,7 +2,7 @@
 //! that borrows these sections.
 
 ghost use Rattle.std.specs.Prelude.{◌≡◌, List, IfSome, IsSome};
-ghost use Rattle.btf_types.specs.{Values.TypeRecord, tables.KeptSections.AreSections};
+ghost use Rattle.btf_types.specs.{Values.TypeRecord, tables.TableSections.AreSections};
 
 use crate::tables::section_table::SectionTable;
 use crate::tables::table::{FileSections, TypeTable};
@@ -10,16 +10,16 @@ use crate::values::{Head, Item};
 
 /// A table that keeps the two sections of a file.
 pub trait KeepsSections {
-    ghost kept: { Self → List TypeRecord };
+    ghost denoted: { Self → List TypeRecord };
 
     /// A table that borrows the kept sections.
     fn table(&self) -> SectionTable<'_>
-        ensures { result ≡ kept self.now };
+        ensures { result ≡ denoted self.now };
 }
 
 /// A reference to a table keeps what the table keeps.
 impl<T: KeepsSections> KeepsSections for &T {
-    ghost kept = { λ t. T.kept t.now };
+    ghost denoted = { λ t. T.denoted t.now };
 
     fn table(&self) -> SectionTable<'_> {
         (**self).table()
@@ -27,7 +27,7 @@ impl<T: KeepsSections> KeepsSections for &T {
 }
 
 impl<T: KeepsSections> TypeTable for T {
-    ghost meaning = { T.kept };
+    ghost meaning = { T.denoted };
 
     fn count(&self) -> u32 {
         self.table().count()
@@ -48,7 +48,7 @@ impl<T: KeepsSections> TypeTable for T {
     fn sections(&self) -> Option<FileSections<'_>>
         ensures kept { IsSome result }
         ensures sections { IfSome result (λ s.
-            AreSections (T.kept self.now) s.order s.types.now s.strings.now s.places.now) }
+            AreSections (T.denoted self.now) s.order s.types.now s.strings.now s.places.now) }
     {
         Some(self.table().sections())
     }

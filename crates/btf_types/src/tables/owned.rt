@@ -2,7 +2,7 @@
 
 ghost use Rattle.std.specs.Prelude.{◌≡◌, IfSome, IsSome, MatchResult};
 ghost use Rattle.btf_types.specs.{Denotes.Denotes, tables.Tables.Fails, tables.TableWords.numbered};
-ghost use Rattle.btf_types.specs.tables.{KeptSections.AreSections, Windows.items_of};
+ghost use Rattle.btf_types.specs.tables.{TableSections.AreSections, Windows.items_of};
 
 use crate::error::BtfError;
 use crate::tables::items::Items;
@@ -89,7 +89,7 @@ impl<A: Allocator> Btf<A> {
 }
 
 impl<A: Allocator> KeepsSections for Btf<A> {
-    ghost kept = { λ t. t };
+    ghost denoted = { λ t. t };
 
     fn table(&self) -> SectionTable<'_> {
         SectionTable::new(self.order, &self.types, &self.strings, &self.places)

@@ -5,7 +5,7 @@ ghost use Rattle.std.specs.Prelude.{◌≡◌, ◌<◌, ◌≤◌, Some, length,
 ghost use Rattle.btf_types.specs.Values.{head_value, item_value};
 ghost use Rattle.btf_types.specs.{Good.IsGood, Reading.records_at, tables.Windows.items_of};
 ghost use Rattle.btf_types.specs.tables.TableWords.{record_at, numbered};
-ghost use Rattle.btf_types.specs.tables.{TablePlaces.IsPlacedTable, KeptSections.AreSections};
+ghost use Rattle.btf_types.specs.tables.{TablePlaces.IsPlacedTable, TableSections.AreSections};
 
 use crate::reading::{head_of, item_count_of, item_of};
 use crate::tables::items::Items;

@@ -3,7 +3,7 @@
 ghost use Rattle.std.specs.Prelude.{◌≡◌, ◌<◌, ◌≤◌, List, Some, IfSome, length, slice_get};
 ghost use Rattle.btf_types.specs.{Good.IsGood, Reading.record_of, Reading.records_at};
 ghost use Rattle.btf_types.specs.{tables.TableWords.record_at, tables.TableInvariant.IsTable};
-ghost use Rattle.btf_types.specs.{tables.PlaceWords.ReadsRecord, tables.KeptSections.AreSections};
+ghost use Rattle.btf_types.specs.{tables.PlaceWords.ReadsRecord, tables.TableSections.AreSections};
 ghost use Rattle.btf_types.specs.{Sections.HasFrame, Sections.frame_of};
 ghost use Rattle.btf_types.specs.Values.{TypeRecord, head_value, item_value};
 

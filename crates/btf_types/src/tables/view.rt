@@ -2,7 +2,7 @@
 
 ghost use Rattle.std.specs.Prelude.{◌≡◌, IfSome, IsSome, MatchResult};
 ghost use Rattle.btf_raw.specs.{Header.part, ReadHeader.ReadsHeader};
-ghost use Rattle.btf_types.specs.{Denotes.Denotes, tables.KeptSections.AreSections};
+ghost use Rattle.btf_types.specs.{Denotes.Denotes, tables.TableSections.AreSections};
 ghost use Rattle.btf_types.specs.tables.{Tables.Fails, Tables.MayMove, TableWords.numbered};
 ghost use Rattle.btf_types.specs.tables.Windows.{items_of};
 ghost use Rattle.btf_types.specs.tables.Tables as tables;
@@ -130,7 +130,7 @@ impl<'a, A: Allocator> BtfView<'a, A> {
 }
 
 impl<'a, A: Allocator> KeepsSections for BtfView<'a, A> {
-    ghost kept = { λ t. t };
+    ghost denoted = { λ t. t };
 
     fn table(&self) -> SectionTable<'_> {
         SectionTable::new(self.order, self.types, self.strings, &self.places)

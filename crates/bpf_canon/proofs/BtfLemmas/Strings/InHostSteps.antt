@@ -20,7 +20,7 @@ passed_end ms zero j l r e low p = subst (λ (m : ℕ). Ends (at_rank ms j) (at_
 passed_end ms (suc n) j l r e low p =
     Ends-trans (at_rank ms j) (at_rank ms (j + 1)) (at_rank ms r) (Ends-from_suffix _ _ (p j low (omega (arith, e)))) (passed_end ms n (j + 1) l r (omega (arith, e)) (omega (arith, low)) p)
 
-module _ (section slots : List ℕ) (ts : List SectionText) (common hosts : List ℕ) (ranked : AreRanked (map (text_in section) ts) common hosts) (used : All (IsUsed section slots) ts) where
+module _ (section slots : List ℕ) (ts : List SectionText) (common host_ranks : List ℕ) (ranked : AreRanked (map (text_in section) ts) common host_ranks) (used : All (IsUsed section slots) ts) where
   abbrev texts : List (List ℕ)
   texts = map (text_in section) ts
 
@@ -39,44 +39,44 @@ module _ (section slots : List ℕ) (ts : List SectionText) (common hosts : List
   ends_rank rank off inside within =
       subst (Ends (text_from section off)) (sym (text_of_rank rank inside)) (within_ends section slots (get_or ts rank no_text) off (used rank no_text inside) within)
 
-  next : (rank l : ℕ) → rank < length ts → l ≤ rank → IsNextHost texts l (get_or hosts l 0)
+  next : (rank l : ℕ) → rank < length ts → l ≤ rank → IsNextHost texts l (get_or host_ranks l 0)
   next rank l inside below = ranked.are_hosts.each l (omega (arith, inside, below, length-map ts (text_in section)))
 
-  pub next_inside : (rank l : ℕ) → rank < length ts → l ≤ rank → get_or hosts l 0 < length ts
+  pub next_inside : (rank l : ℕ) → rank < length ts → l ≤ rank → get_or host_ranks l 0 < length ts
   next_inside rank l inside below = let n = next rank l inside below in omega (arith, n.inside, length-map ts (text_in section))
 
-  ends_host : (rank off l : ℕ) → rank < length ts → IsInText off (get_or ts rank no_text) → l ≤ rank → IsFirstRank texts (length (text_from section off)) l rank → Ends (text_from section off) (at_rank texts (get_or hosts l 0))
+  ends_host : (rank off l : ℕ) → rank < length ts → IsInText off (get_or ts rank no_text) → l ≤ rank → IsFirstRank texts (length (text_from section off)) l rank → Ends (text_from section off) (at_rank texts (get_or host_ranks l 0))
   ends_host rank off l inside within below is =
       let n = next rank l inside below in
-      Ends-trans (text_from section off) (at_rank texts l) (at_rank texts (get_or hosts l 0))
+      Ends-trans (text_from section off) (at_rank texts l) (at_rank texts (get_or host_ranks l 0))
       (first_ends texts ranked.in_order (text_from section off) l rank (omega (arith, inside, length-map ts (text_in section))) (ends_rank rank off inside within) is)
-      (passed_end texts (get_or hosts l 0 - l) l l (get_or hosts l 0) (omega (arith, n.from)) (omega arith) n.passed)
+      (passed_end texts (get_or host_ranks l 0 - l) l l (get_or host_ranks l 0) (omega (arith, n.from)) (omega arith) n.passed)
 
-  pub no_longer : (rank off l : ℕ) → rank < length ts → IsInText off (get_or ts rank no_text) → l ≤ rank → ((j : ℕ) → l < j → j ≤ rank → (get_or ts rank no_text).end - off ≤ get_or common j 0) → get_or common l 0 < (get_or ts rank no_text).end - off → (get_or ts rank no_text).end - off ≤ (get_or ts (get_or hosts l 0) no_text).end - (get_or ts (get_or hosts l 0) no_text).start
+  pub no_longer : (rank off l : ℕ) → rank < length ts → IsInText off (get_or ts rank no_text) → l ≤ rank → ((j : ℕ) → l < j → j ≤ rank → (get_or ts rank no_text).end - off ≤ get_or common j 0) → get_or common l 0 < (get_or ts rank no_text).end - off → (get_or ts rank no_text).end - off ≤ (get_or ts (get_or host_ranks l 0) no_text).end - (get_or ts (get_or host_ranks l 0) no_text).start
   no_longer rank off l inside within below before less =
       let is = first rank off l inside within below before less in
       let ends = ends_host rank off l inside within below is in
       omega (
         arith,
-        Ends-length (text_from section off) (at_rank texts (get_or hosts l 0)) ends,
+        Ends-length (text_from section off) (at_rank texts (get_or host_ranks l 0)) ends,
         within_length section slots (get_or ts rank no_text) off (used rank no_text inside) within,
-        length_of_rank (get_or hosts l 0) (next_inside rank l inside below),
+        length_of_rank (get_or host_ranks l 0) (next_inside rank l inside below),
       )
 
   pub in_host : (rank off l : ℕ) → rank < length ts → IsInText off (get_or ts rank no_text) → l ≤ rank → ((j : ℕ) → l < j → j ≤ rank → (get_or ts rank no_text).end - off ≤ get_or common j 0) → get_or common l 0 < (get_or ts rank no_text).end - off
-      → (h : InHost) → h.host ≡ get_or hosts l 0 + 1 → h.before + ((get_or ts rank no_text).end - off) ≡ (get_or ts (get_or hosts l 0) no_text).end - (get_or ts (get_or hosts l 0) no_text).start
-      → h.len ≡ (get_or ts (get_or hosts l 0) no_text).end - (get_or ts (get_or hosts l 0) no_text).start → IsInHost texts (text_from section off) h
+      → (h : InHost) → h.host ≡ get_or host_ranks l 0 + 1 → h.before + ((get_or ts rank no_text).end - off) ≡ (get_or ts (get_or host_ranks l 0) no_text).end - (get_or ts (get_or host_ranks l 0) no_text).start
+      → h.len ≡ (get_or ts (get_or host_ranks l 0) no_text).end - (get_or ts (get_or host_ranks l 0) no_text).start → IsInHost texts (text_from section off) h
   in_host rank off l inside within below before less h host_is before_is len_is =
       let is = first rank off l inside within below before less in
       let n = next rank l inside below in
       record {
-        rank = get_or hosts l 0;
+        rank = get_or host_ranks l 0;
         numbered = host_is;
         inside = n.inside;
         last = n.stops;
-        host = λ ks order. rank_has_host ks texts order (text_from section off) l rank (get_or hosts l 0) (omega (arith, inside, length-map ts (text_in section))) (suffix_from_Ends _ _ (ends_rank rank off inside within)) is n;
-        before = omega (arith, before_is, within_length section slots (get_or ts rank no_text) off (used rank no_text inside) within, length_of_rank (get_or hosts l 0) (next_inside rank l inside below));
-        long = len_is ∙ sym (length_of_rank (get_or hosts l 0) (next_inside rank l inside below));
+        host = λ ks order. rank_has_host ks texts order (text_from section off) l rank (get_or host_ranks l 0) (omega (arith, inside, length-map ts (text_in section))) (suffix_from_Ends _ _ (ends_rank rank off inside within)) is n;
+        before = omega (arith, before_is, within_length section slots (get_or ts rank no_text) off (used rank no_text inside) within, length_of_rank (get_or host_ranks l 0) (next_inside rank l inside below));
+        long = len_is ∙ sym (length_of_rank (get_or host_ranks l 0) (next_inside rank l inside below));
       }
 
   -- the step from what was read: the string of the rank, the first rank, its host, and the host's string
@@ -88,7 +88,7 @@ module _ (section slots : List ℕ) (ts : List SectionText) (common hosts : List
 
   pub steps_back : (rank off from l v : ℕ) (s t u : SectionText) (numbers : List ℕ) → rank < length ts → s ≡ get_or ts rank s → t ≡ get_or ts rank t → s.start ≤ off → off < t.end → from ≤ rank
       → ((j : ℕ) → from < j → j ≤ rank → (get_or ts rank no_text).end - off ≤ get_or common j 0) → numbers ≡ common → l ≤ from → ((j : ℕ) → l < j → j ≤ from → t.end - off ≤ get_or numbers j 0) → get_or numbers l 0 < t.end - off
-      → v ≡ get_or hosts l v → u ≡ get_or ts v u → StepsBack rank off from l v t u
+      → v ≡ get_or host_ranks l v → u ≡ get_or ts v u → StepsBack rank off from l v t u
   steps_back rank off from l v s t u numbers inside s_is t_is low high below before same back more less v_is u_is =
       let d = get_or ts rank no_text in
       let s_end : s ≡ d = s_is ∙ get_or_default ts rank s no_text inside in
@@ -100,11 +100,11 @@ module _ (section slots : List ℕ) (ts : List SectionText) (common hosts : List
       let all : (j : ℕ) → l < j → j ≤ rank → d.end - off ≤ get_or common j 0 = grind arith in
       let less_here : get_or common l 0 < d.end - off = omega (arith, less, ends, ap (λ (k : List ℕ). get_or k l 0) same) in
       let low_enough : l ≤ rank = omega (arith, back, below) in
-      let l_inside : l < length hosts = omega (arith, low_enough, inside, ranked.are_hosts.whole, length-map ts (text_in section)) in
-      let host_is : v ≡ get_or hosts l 0 = get_or_read hosts l v l_inside v_is 0 in
+      let l_inside : l < length host_ranks = omega (arith, low_enough, inside, ranked.are_hosts.whole, length-map ts (text_in section)) in
+      let host_is : v ≡ get_or host_ranks l 0 = get_or_read host_ranks l v l_inside v_is 0 in
       let v_inside : v < length ts = omega (arith, host_is, next_inside rank l inside low_enough) in
-      let u_end : u ≡ get_or ts (get_or hosts l 0) no_text = u_is ∙ get_or_default ts v u no_text v_inside ∙ ap (λ (k : ℕ). get_or ts k no_text) host_is in
-      let u_len : u.end - u.start ≡ (get_or ts (get_or hosts l 0) no_text).end - (get_or ts (get_or hosts l 0) no_text).start = ap (λ (k : SectionText). k.end - k.start) u_end in
+      let u_end : u ≡ get_or ts (get_or host_ranks l 0) no_text = u_is ∙ get_or_default ts v u no_text v_inside ∙ ap (λ (k : ℕ). get_or ts k no_text) host_is in
+      let u_len : u.end - u.start ≡ (get_or ts (get_or host_ranks l 0) no_text).end - (get_or ts (get_or host_ranks l 0) no_text).start = ap (λ (k : SectionText). k.end - k.start) u_end in
       record {
         low = from_start;
         shorter = omega (arith, no_longer rank off l inside within low_enough all less_here, u_len, ends);
@@ -113,7 +113,7 @@ module _ (section slots : List ℕ) (ts : List SectionText) (common hosts : List
       }
 
   -- likewise for a string that isn't a suffix of the one before it, from its rank on
-  pub steps_alone : (rank n v : ℕ) (t u : SectionText) → rank < length ts → n ≡ get_or common rank n → n < t.end - t.start → t ≡ get_or ts rank t → v ≡ get_or hosts rank v → u ≡ get_or ts v u → StepsBack rank t.start rank rank v t u
+  pub steps_alone : (rank n v : ℕ) (t u : SectionText) → rank < length ts → n ≡ get_or common rank n → n < t.end - t.start → t ≡ get_or ts rank t → v ≡ get_or host_ranks rank v → u ≡ get_or ts v u → StepsBack rank t.start rank rank v t u
   steps_alone rank n v t u inside n_is less t_is v_is u_is =
       let in_common : rank < length common = omega (arith, inside, ranked.are_common.whole, length-map ts (text_in section)) in
       steps_back rank t.start rank rank v t t u common inside t_is t_is (omega arith) (omega (arith, less)) (omega arith) (λ j a b. absurd (omega (arith, a, b))) refl (omega arith) (λ j a b. absurd (omega (arith, a, b)))

@@ -72,8 +72,8 @@ next_own ms k h differs = record {
 pub next_taken : (ms : List (List ℕ)) (k r : ℕ) → common_before ms (k + 1) ≡ length (at_rank ms k) → IsNextHost ms (k + 1) r → IsNextHost ms k r
 next_taken ms k r e next = grind (arith, ends_from)
 
-pub hosts_step : (ms : List (List ℕ)) (hosts : List ℕ) (k v : ℕ) → length hosts ≡ length ms → k < length ms → ((j : ℕ) → k + 1 ≤ j → j < length ms → IsNextHost ms j (get_or hosts j 0)) → IsNextHost ms k v → (j : ℕ) → k ≤ j → j < length ms → IsNextHost ms j (get_or (set hosts k v) j 0)
-hosts_step ms hosts k v long h f here j low high = grind (arith, get_or-set_same, get_or-set_other)
+pub hosts_step : (ms : List (List ℕ)) (host_ranks : List ℕ) (k v : ℕ) → length host_ranks ≡ length ms → k < length ms → ((j : ℕ) → k + 1 ≤ j → j < length ms → IsNextHost ms j (get_or host_ranks j 0)) → IsNextHost ms k v → (j : ℕ) → k ≤ j → j < length ms → IsNextHost ms j (get_or (set host_ranks k v) j 0)
+hosts_step ms host_ranks k v long h f here j low high = grind (arith, get_or-set_same, get_or-set_other)
 
 -- from the numbers to the host
 common_at : (ms : List (List ℕ)) (j : ℕ) → 0 < j → common_before ms j ≡ common_tail (at_rank ms (j - 1)) (at_rank ms j)

@@ -33,20 +33,20 @@ pub record AreIndexed (ks : List (List ℕ)) (sorted : List (Bor (List ℕ) × �
   pub each : (i : ℕ) → i < length ks → Contains (map (λ s. s.1) sorted) i
 
 -- each name has the index of its host
-pub record HaveHosts (ks : List (List ℕ)) (hosts : List ℕ) : Type 0 where
-  pub whole : length hosts ≡ length ks
-  pub inside : (i : ℕ) → i < length ks → slice_index hosts i < length ks
-  pub each : (i : ℕ) → i < length ks → name_at ks (slice_index hosts i) ≡ host_in (hosts_of ks) (name_at ks i)
+pub record HaveHosts (ks : List (List ℕ)) (host_indices : List ℕ) : Type 0 where
+  pub whole : length host_indices ≡ length ks
+  pub inside : (i : ℕ) → i < length ks → slice_index host_indices i < length ks
+  pub each : (i : ℕ) → i < length ks → name_at ks (slice_index host_indices i) ≡ host_in (hosts_of ks) (name_at ks i)
 
 -- each name that is its own host has its offset in their table, which has this length
-pub record ArePlacedHosts (ks : List (List ℕ)) (hosts places : List ℕ) (table_len : ℕ) : Type 0 where
+pub record ArePlacedHosts (ks : List (List ℕ)) (host_indices places : List ℕ) (table_len : ℕ) : Type 0 where
   pub whole : length places ≡ length ks
-  pub each : (i : ℕ) → i < length ks → slice_index hosts i ≡ i → slice_index places i ≡ place_in (hosts_of ks) (name_at ks i)
+  pub each : (i : ℕ) → i < length ks → slice_index host_indices i ≡ i → slice_index places i ≡ place_in (hosts_of ks) (name_at ks i)
   pub long : table_len ≡ length (table_of (hosts_of ks))
 
 -- What is stored for the kept names: the host of each, and the offset of each host.
-pub record AreShared (ks : List (List ℕ)) (hosts places : List ℕ) (table_len : ℕ) : Type 0 where
+pub record AreShared (ks : List (List ℕ)) (host_indices places : List ℕ) (table_len : ℕ) : Type 0 where
   pub own : kept ks ≡ ks
-  pub have_hosts : HaveHosts ks hosts
-  pub are_placed : ArePlacedHosts ks hosts places table_len
+  pub have_hosts : HaveHosts ks host_indices
+  pub are_placed : ArePlacedHosts ks host_indices places table_len
   pub room : table_len < 2 ^ 32

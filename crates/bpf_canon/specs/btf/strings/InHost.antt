@@ -46,8 +46,8 @@ pub record HostsTo (section slots : List ℕ) (ts : List SectionText) (sorted : 
   pub here : (j off : ℕ) → j < k → slice_index slots off ≢ 0 → IsInText off (slice_index_or ts j no_text) → IsInHost sorted (text_from section off) (host_at slots in_hosts off)
 
 -- The longest used strings of a section, sorted, with their numbers.
-pub record AreRankedTexts (section slots : List ℕ) (ts : List SectionText) (common hosts : List ℕ) : Type 0 where
-  pub ranked : AreRanked (texts_in section ts) common hosts
+pub record AreRankedTexts (section slots : List ℕ) (ts : List SectionText) (common host_ranks : List ℕ) : Type 0 where
+  pub ranked : AreRanked (texts_in section ts) common host_ranks
   pub longest : AreLongestOf section slots ts
   pub whole : length slots ≡ length section
   pub few : length section < 2 ^ 32
@@ -57,7 +57,7 @@ abbrev pub sorted_in : {A : Type 0} → RankedTexts A → List (List ℕ)
 sorted_in r = texts_in r.section.now r.texts.items
 
 abbrev pub IsRankedFor : {A : Type 0} → Used → RankedTexts A → Type 0
-IsRankedFor used r = AreRankedTexts r.section.now used.slots r.texts.items r.common.items r.hosts.items
+IsRankedFor used r = AreRankedTexts r.section.now used.slots r.texts.items r.common.items r.host_ranks.items
 
 abbrev pub FindsWithinRank : {A : Type 0} → Used → RankedTexts A → ℕ → List InHost → List InHost → Type 0
 FindsWithinRank used r rank old new = FindsWithin r.section.now used.slots (sorted_in r) (slice_index_or r.texts.items rank no_text) old new

@@ -13,9 +13,9 @@ pub record AreCommon (sorted : List (List ℕ)) (common : List ℕ) : Type 0 whe
   pub each : (k : ℕ) → k < length sorted → slice_index common k ≡ common_before sorted k
 
 -- each rank has its next host
-pub record AreNextHosts (sorted : List (List ℕ)) (hosts : List ℕ) : Type 0 where
-  pub whole : length hosts ≡ length sorted
-  pub each : (k : ℕ) → k < length sorted → IsNextHost sorted k (slice_index hosts k)
+pub record AreNextHosts (sorted : List (List ℕ)) (host_ranks : List ℕ) : Type 0 where
+  pub whole : length host_ranks ≡ length sorted
+  pub each : (k : ℕ) → k < length sorted → IsNextHost sorted k (slice_index host_ranks k)
 
 -- p is the last rank before k with a shorter common suffix
 pub record IsLower (common : List ℕ) (p k : ℕ) : Type 0 where
@@ -30,7 +30,7 @@ pub record AreLower (common lower : List ℕ) : Type 0 where
   pub each : (k : ℕ) → k < length common → 0 < slice_index common k → IsLower common (slice_index lower k) k
 
 -- strings sorted by their reversed bytes, with these numbers of each
-pub record AreRanked (sorted : List (List ℕ)) (common hosts : List ℕ) : Type 0 where
+pub record AreRanked (sorted : List (List ℕ)) (common host_ranks : List ℕ) : Type 0 where
   pub in_order : IsSorted tail_cmp sorted
   pub are_common : AreCommon sorted common
-  pub are_hosts : AreNextHosts sorted hosts
+  pub are_hosts : AreNextHosts sorted host_ranks

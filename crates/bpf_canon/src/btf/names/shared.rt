@@ -36,40 +36,40 @@ fn found_hosts<'a, A: Allocator + Copy>(
     names: &[&'a str],
 ) -> Result<Vec<usize, A>, AllocError>
     requires { kept (lent_texts names.now) ≡ lent_texts names.now }
-    ensures { IfOk result (λ hosts. HaveHosts (lent_texts names.now) hosts.items) }
+    ensures { IfOk result (λ host_indices. HaveHosts (lent_texts names.now) host_indices.items) }
 {
     let sorted = sorted_from_end(alloc, names)?;
-    let mut hosts = vec![in alloc; 0; names.len()]?;
+    let mut host_indices = vec![in alloc; 0; names.len()]?;
     for rank in (0..sorted.len()).rev() {
         let (name, index) = sorted[rank];
         let mut host = index;
         if rank + 1 < sorted.len() {
             let (next, next_index) = sorted[rank + 1];
             if next.as_bytes().ends_with(name.as_bytes()) {
-                host = hosts[next_index];
+                host = host_indices[next_index];
             }
         }
-        hosts[index] = host;
+        host_indices[index] = host;
     }
-    Ok(hosts)
+    Ok(host_indices)
 }
 
 /// The offset of each host in the string table, by index, and the length of the table in bytes.
 fn placed_hosts<A: Allocator>(
     alloc: A,
     names: &[&str],
-    hosts: &[usize],
+    host_indices: &[usize],
 ) -> Result<(Vec<u32, A>, u32), AllocError>
     requires own { kept (lent_texts names.now) ≡ lent_texts names.now }
-    requires hosts { HaveHosts (lent_texts names.now) hosts.now }
+    requires host_indices { HaveHosts (lent_texts names.now) host_indices.now }
     requires room { length (table_of (hosts_of (lent_texts names.now))) < 2 ^ 32 }
     ensures { IfOk result (λ (places, len).
-        ArePlacedHosts (lent_texts names.now) hosts.now places.items len) }
+        ArePlacedHosts (lent_texts names.now) host_indices.now places.items len) }
 {
     let mut places = vec![in alloc; 0; names.len()]?;
     let mut len = 1;
     for index in 0..names.len() {
-        if hosts[index] == index {
+        if host_indices[index] == index {
             places[index] = len;
             len += names[index].len() as u32 + 1;
         }
@@ -82,7 +82,7 @@ fn placed_hosts<A: Allocator>(
 pub(crate) struct SharedNames<'a, A: Allocator> {
     names: NameSet<'a, A>,
     // the index of each name's host, and the offset of each host
-    hosts: Vec<usize, A>,
+    host_indices: Vec<usize, A>,
     places: Vec<u32, A>,
     table_len: u32,
 }
@@ -95,7 +95,7 @@ impl<'a, A: Allocator> Model for SharedNames<'a, A> {
 
     ghost view = { λ n. lent_texts n.names.keys };
 
-    ghost invariant = { λ n. AreShared (lent_texts n.names.keys) n.hosts.items n.places.items
+    ghost invariant = { λ n. AreShared (lent_texts n.names.keys) n.host_indices.items n.places.items
         n.table_len };
 }
 
@@ -106,11 +106,11 @@ impl<'a, A: Allocator + Copy> SharedNames<'a, A> {
         requires room { length (table_of (hosts_of (lent_texts names.keys))) < 2 ^ 32 }
         ensures { IfOk result (λ n. n ≡ lent_texts names.entry.keys) }
     {
-        let hosts = found_hosts(alloc, names.as_slice())?;
-        let (places, table_len) = placed_hosts(alloc, names.as_slice(), &hosts)?;
+        let host_indices = found_hosts(alloc, names.as_slice())?;
+        let (places, table_len) = placed_hosts(alloc, names.as_slice(), &host_indices)?;
         Ok(SharedNames {
             names,
-            hosts,
+            host_indices,
             places,
             table_len,
         })
@@ -125,7 +125,7 @@ impl<'a, A: Allocator + Copy> SharedNames<'a, A> {
             return 0;
         }
         let index = self.names.get_index_of(name).unwrap();
-        let host = self.hosts[index];
+        let host = self.host_indices[index];
         self.places[host] + (self.names.as_slice()[host].len() - name.len()) as u32
     }
 
@@ -136,7 +136,7 @@ impl<'a, A: Allocator + Copy> SharedNames<'a, A> {
         let names = self.names.as_slice();
         out.push(0)?;
         for index in 0..names.len() {
-            if self.hosts[index] == index {
+            if self.host_indices[index] == index {
                 out.extend_from_slice(names[index].as_bytes())?;
                 out.push(0)?;
             }

@@ -53,7 +53,7 @@ fn find_within<A: Allocator>(
     for off in ranked.texts[rank].start..end {
         if uses.is_used(off as usize) {
             from = first_rank(&ranked.common, lower, from, end - off);
-            let host = ranked.hosts[from];
+            let host = ranked.host_ranks[from];
             let len = ranked.texts[host as usize].len();
             in_hosts[uses.number(off as usize)] = InHost {
                 host: host + 1,
@@ -84,7 +84,7 @@ fn find_alone<A: Allocator>(
         {
             return rank;
         }
-        let host = ranked.hosts[rank];
+        let host = ranked.host_ranks[rank];
         let len = ranked.texts[host as usize].len();
         in_hosts[uses.number(text.start as usize)] = InHost {
             host: host + 1,

@@ -18,7 +18,7 @@ pub(crate) struct RankedTexts<'a, A: Allocator> {
     // the length of the common suffix of each string and the one before it
     pub(crate) common: Vec<u32, A>,
     // for each rank, the first rank from it on whose string isn't a suffix of the next one
-    pub(crate) hosts: Vec<u32, A>,
+    pub(crate) host_ranks: Vec<u32, A>,
 }
 
 impl<'a, A: Allocator + Copy> RankedTexts<'a, A> {
@@ -34,17 +34,17 @@ impl<'a, A: Allocator + Copy> RankedTexts<'a, A> {
         ensures section { IfOk result (λ r. r.section.now ≡ section.entry.now) }
         ensures permutation { IfOk result (λ r. IsPermutation texts.items r.texts.items) }
         ensures ranked { IfOk result (λ r.
-            AreRanked (texts_in r.section.now r.texts.items) r.common.items r.hosts.items) }
+            AreRanked (texts_in r.section.now r.texts.items) r.common.items r.host_ranks.items) }
     {
         let mut texts = texts;
         sort_texts(section, &mut texts);
         let common = common_suffixes(alloc, section, &texts)?;
-        let hosts = next_hosts(alloc, section, &texts, &common)?;
+        let host_ranks = next_hosts(alloc, section, &texts, &common)?;
         Ok(RankedTexts {
             section,
             texts,
             common,
-            hosts,
+            host_ranks,
         })
     }
 }
@@ -129,20 +129,20 @@ fn next_hosts<A: Allocator>(
 ) -> Result<Vec<u32, A>, AllocError>
     requires common { AreCommon (texts_in section.now sorted.now) common.now }
     requires few { length sorted.now < 2 ^ 32 }
-    ensures { IfOk result (λ hosts. AreNextHosts (texts_in section.now sorted.now) hosts.items) }
+    ensures { IfOk result (λ host_ranks. AreNextHosts (texts_in section.now sorted.now) host_ranks.items) }
 {
-    let mut hosts = vec![in alloc; 0; sorted.len()]?;
+    let mut host_ranks = vec![in alloc; 0; sorted.len()]?;
     for k in (0..sorted.len()).rev() {
         let mut host = k as u32;
         if k + 1 < sorted.len() {
             let len = text_of(section, &sorted[k]).len();
             if common[k + 1] as usize == len {
-                host = hosts[k + 1];
+                host = host_ranks[k + 1];
             }
         }
-        hosts[k] = host;
+        host_ranks[k] = host;
     }
-    Ok(hosts)
+    Ok(host_ranks)
 }
 
 /// For each rank the last rank before it with a shorter common suffix.

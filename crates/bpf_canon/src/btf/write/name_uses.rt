@@ -4,7 +4,7 @@ ghost use Rattle.std.specs.List.{All};
 ghost use Rattle.btf_raw.specs.Frames.{IsFrame, vlen};
 ghost use Rattle.btf_types.specs.Reading.{tabulate};
 ghost use Rattle.bpf_canon.specs.btf.strings.FirstUses.{noted_all};
-ghost use Rattle.bpf_canon.specs.btf.write.KeptFrames.{AreTable, frames_of};
+ghost use Rattle.bpf_canon.specs.btf.write.SectionRecords.{AreTable, frames_of};
 ghost use Rattle.bpf_canon.specs.btf.write.NameOffsets.{item_word, name_offsets, all_offsets};
 ghost use Rattle.bpf_canon.specs.btf.write.NameOffsets.{HasNamedItems, IsBelow};
 

@@ -5,12 +5,12 @@ ghost use Rattle.std.specs.List.{All, Contains};
 ghost use Rattle.btf_raw.specs.Frames.{bytes_of, section_of, IsFrame};
 ghost use Rattle.btf_types.specs.{Reading.record_of, tables.PlaceWords.ReadsRecord};
 ghost use Rattle.bpf_canon.specs.btf.CanonicalBtf.{record_words};
-ghost use Rattle.bpf_canon.specs.btf.write.KeptFrames.{AreTable, frames_of, records_of};
-ghost use Rattle.bpf_canon.specs.btf.write.KeptFrames.{record_info, record_items, record_tail};
+ghost use Rattle.bpf_canon.specs.btf.write.SectionRecords.{AreTable, frames_of, records_of};
+ghost use Rattle.bpf_canon.specs.btf.write.SectionRecords.{record_info, record_items, record_tail};
 ghost use Rattle.bpf_canon.specs.btf.write.NameOffsets.{HasNamedItems, HasNotedNames, all_offsets};
 ghost use Rattle.bpf_canon.specs.btf.write.NameOffsets.{placed};
 
-use crate::btf::strings::places::SharedPlaces;
+use crate::btf::strings::shared_places::SharedPlaces;
 use crate::btf::write::header::push_words;
 use bpf_words::{Order, push32};
 use btf_raw::info::{flag_of, has_item_names, is_struct, item_words, tail_words};

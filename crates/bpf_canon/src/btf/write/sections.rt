@@ -3,10 +3,10 @@
 ghost use Rattle.std.specs.{Prelude.◌≡◌, Prelude.IfOk, Prelude.map, List.All, List.Contains};
 ghost use Rattle.btf_types.specs.Names.{kept, names};
 ghost use Rattle.bpf_canon.specs.btf.{CanonicalBtf.canonical, write.NameOffsets.all_offsets};
-ghost use Rattle.bpf_canon.specs.btf.write.KeptFrames.{AreTable, frames_of, records_of};
+ghost use Rattle.bpf_canon.specs.btf.write.SectionRecords.{AreTable, frames_of, records_of};
 ghost use Rattle.bpf_canon.specs.btf.strings.NamesByPlace.{placed_texts};
 
-use crate::btf::strings::places::SharedPlaces;
+use crate::btf::strings::shared_places::SharedPlaces;
 use crate::btf::write::header::push_header;
 use crate::btf::write::name_uses::noted_names;
 use crate::btf::write::records::push_records;

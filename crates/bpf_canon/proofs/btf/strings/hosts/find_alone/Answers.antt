@@ -7,11 +7,11 @@ use Rattle.bpf_canon.proofs.btf.strings.hosts.find_alone.Goals.{After-index-in-l
 use Rattle.bpf_canon.proofs.btf.strings.hosts.find_alone.Goals as goal
 
 step : (g : Over) (c : After-index-in-loop-rank g)
-    → StepsBack c.args.ranked.now.section.now c.args.uses.now.slots c.args.ranked.now.texts.items c.args.ranked.now.common.items c.args.ranked.now.hosts.items c.requires.texts.ranked c.requires.texts.longest.used
+    → StepsBack c.args.ranked.now.section.now c.args.uses.now.slots c.args.ranked.now.texts.items c.args.ranked.now.common.items c.args.ranked.now.host_ranks.items c.requires.texts.ranked c.requires.texts.longest.used
     c.loop-rank.rank c.index-text.result.now.start c.loop-rank.rank c.loop-rank.rank c.index-host.result.now c.index-text.result.now c.index-in-loop-rank.result.now
 step g c =
     let r = c.args.ranked.now in
-    steps_alone r.section.now c.args.uses.now.slots r.texts.items r.common.items r.hosts.items c.requires.texts.ranked c.requires.texts.longest.used c.loop-rank.rank c.index.result.now c.index-host.result.now c.index-text.result.now
+    steps_alone r.section.now c.args.uses.now.slots r.texts.items r.common.items r.host_ranks.items c.requires.texts.ranked c.requires.texts.longest.used c.loop-rank.rank c.index.result.now c.index-host.result.now c.index-text.result.now
     c.index-in-loop-rank.result.now (omega arith) c.index.ensures (omega (arith, c.if-index-len.false, c.len.ensures)) c.index-text.ensures c.index-host.ensures c.index-in-loop-rank.ensures
 
 pub overflow_sub-in_hosts : goal.overflow_sub-in_hosts

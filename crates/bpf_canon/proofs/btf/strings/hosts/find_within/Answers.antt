@@ -8,7 +8,7 @@ use Rattle.bpf_canon.proofs.btf.strings.hosts.find_within.Goals.{then-is_used, e
 pub overflow_sub-in_hosts-then-is_used : goal.overflow_sub-in_hosts-then-is_used
 overflow_sub-in_hosts-then-is_used g c =
     let r = c.args.ranked.now in
-    let step = steps_back r.section.now c.args.uses.now.slots r.texts.items r.common.items r.hosts.items c.requires.texts.ranked c.requires.texts.longest.used c.args.rank c.loop-off.off c.loop-off.from c.first_rank-from.result c.index-host.result.now
+    let step = steps_back r.section.now c.args.uses.now.slots r.texts.items r.common.items r.host_ranks.items c.requires.texts.ranked c.requires.texts.longest.used c.args.rank c.loop-off.off c.loop-off.from c.first_rank-from.result c.index-host.result.now
     c.index-2.result.now c.index.result.now c.index-then-is_used.result.now c.deref.result.now c.requires.inside c.index-2.ensures c.index.ensures (omega arith) c.loop-off-test.true c.loop-off.invariant.below c.loop-off.invariant.before c.deref.ensures.value
     c.first_rank-from.ensures.before c.first_rank-from.ensures.common c.first_rank-from.ensures.less c.index-host.ensures c.index-then-is_used.ensures in
     omega (arith, step.shorter, c.len-len.ensures)
@@ -25,7 +25,7 @@ loop-off-preserved g c =
     let old = c.args.in_hosts.now in
     elim c.if-is_used.branch [
       | then-is_used w ↦
-          let step = steps_back r.section.now slots r.texts.items r.common.items r.hosts.items c.requires.texts.ranked c.requires.texts.longest.used c.args.rank off c.loop-off.from w.first_rank-from.result w.index-host.result.now
+          let step = steps_back r.section.now slots r.texts.items r.common.items r.host_ranks.items c.requires.texts.ranked c.requires.texts.longest.used c.args.rank off c.loop-off.from w.first_rank-from.result w.index-host.result.now
           c.index-2.result.now c.index.result.now w.index-then-is_used.result.now w.deref.result.now c.requires.inside c.index-2.ensures c.index.ensures (omega arith) c.loop-off-test.true c.loop-off.invariant.below c.loop-off.invariant.before w.deref.ensures.value
           w.first_rank-from.ensures.before w.first_rank-from.ensures.common w.first_rank-from.ensures.less w.index-host.ensures w.index-then-is_used.ensures in
           let h : InHost = record { host = w.index-host.result.now + 1; before = w.len-len.result - (c.index.result.now.end - off); len = w.len-len.result } in

@@ -12,7 +12,7 @@ loop-k-preserved g c =
     let step : c.loop-k.k ≡ k + 1 = omega arith in
     let ts = c.args.sorted.now in
     let ms = map (text_in c.args.section.now) ts in
-    let hosts = c.loop-k.hosts.items in
+    let host_ranks = c.loop-k.host_ranks.items in
     let long : length ms ≡ length ts = length-map ts (text_in c.args.section.now) in
     let inside : k < length ts = omega arith in
     let text : at_rank ms k ≡ text_in c.args.section.now (get_or ts k no_text) = get_or-map (text_in c.args.section.now) ts k no_text [] inside in
@@ -22,14 +22,14 @@ loop-k-preserved g c =
           let more : k + 1 < length ms = omega (arith, w.if-k-sorted.true, long) in
           let len : common_before ms (k + 1) ≡ length (at_rank ms k) =
           sym (c.requires.common.each (k + 1) more) ∙ w.if-common-k.true ∙ ap (λ (t : List ℕ). length t) (w.text_of-len.ensures ∙ sym text) in
-          let read : get_or hosts (k + 1) 0 ≡ c.if-k-sorted.host =
-          sym (get_or_read hosts (k + 1) w.index-host.result.now (let same = c.loop-k.invariant.0 in omega (arith, w.if-k-sorted.true, same)) w.index-host.ensures 0) ∙ sym w.host-is in
+          let read : get_or host_ranks (k + 1) 0 ≡ c.if-k-sorted.host =
+          sym (get_or_read host_ranks (k + 1) w.index-host.result.now (let same = c.loop-k.invariant.0 in omega (arith, w.if-k-sorted.true, same)) w.index-host.ensures 0) ∙ sym w.host-is in
           next_taken ms k c.if-k-sorted.host len (subst (IsNextHost ms (k + 1)) read (c.loop-k.invariant.1 (k + 1) (omega (arith, step)) w.if-k-sorted.true))
       | then-k-sorted+else-common-k w ↦ subst (IsNextHost ms k) (sym w.host-is) (next_own ms k (omega (arith, inside, long)) (λ more e.
           w.if-common-k.false (c.requires.common.each (k + 1) more ∙ e ∙ ap (λ (t : List ℕ). length t) (text ∙ sym w.text_of-len.ensures))))
       | else-k-sorted w ↦ subst (IsNextHost ms k) (sym w.host-is) (next_own ms k (omega (arith, inside, long)) (λ more e. omega (arith, more, long, w.if-k-sorted.false)))
     ] in
-    let after : (j : ℕ) → k + 1 ≤ j → j < length ms → IsNextHost ms j (get_or hosts j 0) = λ j low high. c.loop-k.invariant.1 j (omega (arith, low, step)) (omega (arith, high, long)) in (
-      length-set hosts k c.if-k-sorted.host ∙ c.loop-k.invariant.0,
-      λ j low high. hosts_step ms hosts k c.if-k-sorted.host (let same = c.loop-k.invariant.0 in omega (arith, same, long)) (omega (arith, inside, long)) after host j low (omega (arith, high, long)),
+    let after : (j : ℕ) → k + 1 ≤ j → j < length ms → IsNextHost ms j (get_or host_ranks j 0) = λ j low high. c.loop-k.invariant.1 j (omega (arith, low, step)) (omega (arith, high, long)) in (
+      length-set host_ranks k c.if-k-sorted.host ∙ c.loop-k.invariant.0,
+      λ j low high. hosts_step ms host_ranks k c.if-k-sorted.host (let same = c.loop-k.invariant.0 in omega (arith, same, long)) (omega (arith, inside, long)) after host j low (omega (arith, high, long)),
     )

@@ -5,4 +5,4 @@ use Rattle.bpf_canon.specs.btf.strings.SectionTexts.{text_in}
 use Rattle.bpf_canon.proofs.btf.strings.ranked_texts.next_hosts.Given as goal
 
 abbrev pub invariant-loop-k : goal.invariant-loop-k
-invariant-loop-k g l = (length l.hosts.items ≡ length l.sorted) × ((j : ℕ) → l.k ≤ j → j < length l.sorted → IsNextHost (map (text_in l.section) l.sorted) j (slice_index l.hosts.items j))
+invariant-loop-k g l = (length l.host_ranks.items ≡ length l.sorted) × ((j : ℕ) → l.k ≤ j → j < length l.sorted → IsNextHost (map (text_in l.section) l.sorted) j (slice_index l.host_ranks.items j))

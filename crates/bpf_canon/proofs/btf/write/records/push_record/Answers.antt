@@ -3,7 +3,7 @@ use Rattle.std.specs.List.{Contains}
 use Rattle.std.proofs.lemmas.Result.{on_ok_weaker}
 use Rattle.btf_raw.specs.Frames.{bytes_of, name_word}
 use Rattle.btf_types.specs.Reading.{text_from, record_of}
-use Rattle.bpf_canon.specs.btf.write.{KeptFrames.record_tail, NameOffsets.placed}
+use Rattle.bpf_canon.specs.btf.write.{SectionRecords.record_tail, NameOffsets.placed}
 use Rattle.bpf_canon.proofs.BtfLemmas.Write.{RecordNames.own_offset, RecordWords.record_pushed}
 use Rattle.bpf_canon.proofs.btf.write.records.push_record.Goals as goal
 

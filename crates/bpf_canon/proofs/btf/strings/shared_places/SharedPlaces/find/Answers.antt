@@ -2,9 +2,9 @@ use Rattle.std.proofs.Common.{◌≡◌, ◌<◌, ◌^◌, ℕ, List, length, ma
 use Rattle.btf_types.specs.{Reading.text_from, strings.SharedNames.shared_table}
 use Rattle.bpf_canon.specs.btf.strings.{InHost.IsRankedFor, Longest.AreLongestOf, HostPlaces.HaveTheirHosts, HostPlaces.ArePlaced, HostPlaces.names_in, HostPlaces.name_place}
 use Rattle.bpf_canon.proofs.BtfLemmas.Strings.FoundPlaces.{longest_permuted, all_found, all_ranked, all_fit, all_placed}
-use Rattle.bpf_canon.proofs.btf.strings.places.SharedPlaces.find.Given.{Over}
-use Rattle.bpf_canon.proofs.btf.strings.places.SharedPlaces.find.Goals.{In_ok-ranked}
-use Rattle.bpf_canon.proofs.btf.strings.places.SharedPlaces.find.Goals as goal
+use Rattle.bpf_canon.proofs.btf.strings.shared_places.SharedPlaces.find.Given.{Over}
+use Rattle.bpf_canon.proofs.btf.strings.shared_places.SharedPlaces.find.Goals.{In_ok-ranked}
+use Rattle.bpf_canon.proofs.btf.strings.shared_places.SharedPlaces.find.Goals as goal
 
 ranked : (g : Over) (c : In_ok-ranked g) → IsRankedFor c.in_ok-used.used c.in_ok-ranked.ranked
 ranked g c =
