@@ -40,16 +40,19 @@ fn wide_from_operands(kind: WideKind, operands: &[ReadOperand]) -> Result<Insn, 
             .map(|(dst, number)| Insn::Wide { dst, what: WideOf::Number(number) }),
         WideKind::MapFd => both(register(operands[0]), imm(operands[1]))
             .map(|(dst, fd)| Insn::Wide { dst, what: WideOf::MapFd(fd) }),
-        WideKind::MapValueFd => both(register(operands[0]), both(imm(operands[1]), imm(operands[2])))
-            .map(|(dst, (fd, off))| Insn::Wide { dst, what: WideOf::MapValueFd(fd, off) }),
-        WideKind::VarAddr => both(register(operands[0]), both(imm(operands[1]), imm(operands[2])))
-            .map(|(dst, (id, next))| Insn::Wide { dst, what: WideOf::VarAddr(id, next) }),
+        WideKind::MapValueFd =>
+            both(register(operands[0]), both(imm(operands[1]), imm(operands[2])))
+                .map(|(dst, (fd, off))| Insn::Wide { dst, what: WideOf::MapValueFd(fd, off) }),
+        WideKind::VarAddr =>
+            both(register(operands[0]), both(imm(operands[1]), imm(operands[2])))
+                .map(|(dst, (id, next))| Insn::Wide { dst, what: WideOf::VarAddr(id, next) }),
         WideKind::CodeAddr => both(register(operands[0]), imm(operands[1]))
             .map(|(dst, off)| Insn::Wide { dst, what: WideOf::CodeAddr(off) }),
         WideKind::MapIdx => both(register(operands[0]), imm(operands[1]))
             .map(|(dst, index)| Insn::Wide { dst, what: WideOf::MapIdx(index) }),
-        WideKind::MapValueIdx => both(register(operands[0]), both(imm(operands[1]), imm(operands[2])))
-            .map(|(dst, (index, off))| Insn::Wide { dst, what: WideOf::MapValueIdx(index, off) }),
+        WideKind::MapValueIdx =>
+            both(register(operands[0]), both(imm(operands[1]), imm(operands[2])))
+                .map(|(dst, (idx, off))| Insn::Wide { dst, what: WideOf::MapValueIdx(idx, off) }),
     }
 }
 
@@ -71,11 +74,13 @@ pub(crate) fn insn_from_operands(
         Mnemonic::Movsx(form) => both(register(operands[0]), register(operands[1]))
             .map(|(dst, src)| Insn::Movsx { form, dst, src }),
         Mnemonic::Neg(width) => register(operands[0]).map(|dst| Insn::Neg { width, dst }),
-        Mnemonic::Swap(kind, bits) => register(operands[0]).map(|dst| Insn::Swap { kind, bits, dst }),
+        Mnemonic::Swap(kind, bits) =>
+            register(operands[0]).map(|dst| Insn::Swap { kind, bits, dst }),
         Mnemonic::Jump => offset(operands[0]).map(|off| Insn::Jump { off }),
         Mnemonic::JumpLong => imm(operands[0]).map(|imm| Insn::JumpLong { imm }),
-        Mnemonic::Branch(width, op) => both(register(operands[0]), both(source(operands[1]), offset(operands[2])))
-            .map(|(dst, (arg, off))| Insn::Branch { width, op, dst, arg, off }),
+        Mnemonic::Branch(width, op) =>
+            both(register(operands[0]), both(source(operands[1]), offset(operands[2])))
+                .map(|(dst, (arg, off))| Insn::Branch { width, op, dst, arg, off }),
         Mnemonic::CallHelper => imm(operands[0]).map(|id| Insn::CallHelper { id }),
         Mnemonic::CallLocal => imm(operands[0]).map(|imm| Insn::CallLocal { imm }),
         Mnemonic::CallBtf => both(imm(operands[0]), offset(operands[1]))

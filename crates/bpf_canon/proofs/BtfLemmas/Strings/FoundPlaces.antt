@@ -1,8 +1,8 @@
 -- From the hosts of used offsets to the offsets of names in the shared table.
-use Rattle.std.proofs.Common.{◌≡◌, ◌≢◌, ℕ, ◌+◌, ◌^◌, ◌<◌, inl, inr, List, [], ◌∷◌, length, map, get_or, sym, ap, ◌∙◌, subst, arith, rules}
+use Rattle.std.proofs.Common.{◌≡◌, ◌≢◌, ℕ, ◌+◌, ◌^◌, ◌<◌, if◌then◌else◌, inl, inr, List, [], ◌∷◌, length, map, get_or, sym, ap, ◌∙◌, subst, arith, rules}
 use Rattle.std.proofs.lemmas.Grind.{common_steps}
-use Rattle.std.specs.List.{All, Any, Contains, Sorted.IsPermutation}
-use Rattle.std.proofs.lemmas.Bool.{cases_eq}
+use Rattle.std.specs.{Prelude.nat_eq, List.All, List.Any, List.Contains, List.Sorted.IsPermutation}
+use Rattle.std.proofs.lemmas.Bool.{cases_eq, Decides.nat_tests}
 use Rattle.std.proofs.lemmas.List.{length-map, get_or-map, get_or_default, Elements.All-map}
 use Rattle.std.proofs.lemmas.List.Sorted.{All-permutation, Contains-permutation, length_permutation}
 use Rattle.btf_types.specs.{Names.kept, Names.place_in, Reading.text_from}
@@ -73,6 +73,9 @@ module _ {A : Type 0} (used : Used) (r : RankedTexts A) (in_hosts : List InHost)
   pub all_found : HaveTheirHosts used r in_hosts
   all_found k d h = is_found (get_or used.offsets k d) (k, h, get_or_default used.offsets k (get_or used.offsets k d) d h)
 
+if_some : (n v : ℕ) → 0 < n → (if nat_eq n 0 then 0 else v) ≡ v
+if_some n v h = grind (arith, nat_tests)
+
 -- the offset of a name, at the end of its host
 place_at_host : (ks : List (List ℕ)) (x h : List ℕ) (n b : ℕ) → 0 < length x → host_in (hosts_of ks) x ≡ h → n ≡ place_in (hosts_of ks) h → b + length x ≡ length h → n + b ≡ shared_among ks x
 place_at_host ks [] h n b some is place before = absurd (omega (arith, some))
@@ -101,19 +104,26 @@ module _ (section slots offsets by_rank : List ℕ) (sorted : List (List ℕ)) (
   place_is : (b : get_or section off 0 ≢ 0) → get_or by_rank h.host 0 ≡ place_in (hosts names) (at_rank sorted (is.some b).rank)
   place_is b = grind (arith, Contains-from_Has, there)
 
-  pub host_ranked : h.host < length by_rank
-  host_ranked = grind arith
-
-  pub place_fits : length (shared_table names) < 2 ^ 32 → get_or by_rank h.host 0 + h.before < 2 ^ 32
-  place_fits room = elim (cases_eq (get_or section off 0) 0) [
-    | inl z ↦ omega (arith, ap (λ (i : InHost). i.before) (is.empty z), ap (λ (i : InHost). get_or by_rank i.host 0) (is.empty z), host_places.none)
-    | inr b ↦ let a = is.some b in omega (arith, place_is b, a.before, place_room (hosts names) (at_rank sorted a.rank) (there b), room)
+  pub host_ranked : 0 < h.len → h.host < length by_rank
+  host_ranked long = elim (cases_eq (get_or section off 0) 0) [
+    | inl z ↦ absurd (omega (arith, long, ap (λ (i : InHost). i.len) (is.empty z)))
+    | inr b ↦ let a = is.some b in omega (arith, a.numbered, a.inside, host_places.ranks)
   ]
 
-  pub place_found : get_or by_rank h.host 0 + h.before ≡ shared_place names x
+  -- the place of a name that isn't empty
+  placed_at : (b : get_or section off 0 ≢ 0) → name_place by_rank h ≡ get_or by_rank h.host 0 + h.before
+  placed_at b = let a = is.some b in if_some h.len (get_or by_rank h.host 0 + h.before) (omega (arith, a.long, a.before, some b))
+
+  pub place_fits : length (shared_table names) < 2 ^ 32 → name_place by_rank h < 2 ^ 32
+  place_fits room = elim (cases_eq (get_or section off 0) 0) [
+    | inl z ↦ omega (arith, ap (name_place by_rank) (is.empty z))
+    | inr b ↦ let a = is.some b in omega (arith, placed_at b, place_is b, a.before, place_room (hosts names) (at_rank sorted a.rank) (there b), room)
+  ]
+
+  pub place_found : name_place by_rank h ≡ shared_place names x
   place_found = elim (cases_eq (get_or section off 0) 0) [
     | inl z ↦ grind (arith, common_steps)
-    | inr b ↦ let a = is.some b in place_at_host (kept names) x (at_rank sorted a.rank) (get_or by_rank h.host 0) h.before (some b) a.is_host (place_is b) a.before
+    | inr b ↦ let a = is.some b in placed_at b ∙ place_at_host (kept names) x (at_rank sorted a.rank) (get_or by_rank h.host 0) h.before (some b) a.is_host (place_is b) a.before
   ]
 
 -- all of it together
@@ -127,8 +137,9 @@ module _ {A : Type 0} (used : Used) (r : RankedTexts A) (in_hosts : List InHost)
       let u = used_at used.slots (length used.slots) k (omega (arith, h, hosts_are.whole)) in
       subst P (sym (get_or_default in_hosts k d no_host h ∙ ap (λ (j : ℕ). get_or in_hosts j no_host) (sym u.3))) (is u.0 (marked.only u.0 u.2))
 
-  pub all_ranked : All (λ (i : InHost). i.host < length h.by_rank.items) in_hosts
-  all_ranked = search (rules, each_number, host_ranked, at)
+  pub all_ranked : All (λ (i : InHost). 0 < i.len → i.host < length h.by_rank.items) in_hosts
+  all_ranked = each_number (λ (i : InHost). 0 < i.len → i.host < length h.by_rank.items)
+      (λ off c. host_ranked r.section.now used.slots used.offsets h.by_rank.items (sorted_in r) in_hosts h.spans.items h.len host_places off c (at off c))
 
   pub all_fit : length (shared_table (names_in r used)) < 2 ^ 32 → All (λ (i : InHost). name_place h.by_rank.items i < 2 ^ 32) in_hosts
   all_fit room = search (rules, each_number, place_fits, at)

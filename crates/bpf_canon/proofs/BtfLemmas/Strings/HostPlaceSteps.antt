@@ -1,9 +1,8 @@
 -- Steps of the loop that assigns offsets to hosts in the order of first use.
 use Rattle.std.proofs.Common.{◌≡◌, ◌≢◌, ℕ, ◌+◌, ◌<◌, ◌≤◌, true, false, not, inl, inr, List, [], ◌∷◌, ◌++◌, length, map, get_or, set, take, drop, sym, ap, ◌∙◌, subst, arith, take-append-drop}
-use Rattle.std.proofs.lemmas.Grind.{common_steps}
 use Rattle.std.specs.List.{flat_map, list_any, All, Sorted.IsSorted}
 use Rattle.std.proofs.lemmas.{Bool.both_ways, Bool.cases_eq, Bool.cases_lt, Bool.false_from_ne_true, List.Concat.flat_map-append}
-use Rattle.std.proofs.lemmas.List.{append-nil, map-append, length-set, get_or-set_same, get_or-set_other, get_or_default, map_more, get_or_read}
+use Rattle.std.proofs.lemmas.List.{append-nil, nil_from_length, map-append, length-set, get_or-set_same, get_or-set_other, get_or_default, map_more, get_or_read}
 use Rattle.btf_types.specs.{Names.kept, Names.with_nul, Names.table_of, Names.place_in, Reading.text_from, strings.CommonTails.at_rank}
 use Rattle.btf_raw.specs.Header.{HasNulEnds}
 use Rattle.btf_types.specs.strings.SharedNames.{is_suffix, is_proper_suffix, tail_cmp, hosts, host, shared_table}
@@ -15,7 +14,7 @@ use Rattle.bpf_canon.specs.btf.strings.UsedOffsets.{Used, offset_number, number_
 use Rattle.bpf_canon.specs.declared.btf.strings.{hosts.InHost.InHost, hosts.Span.Span, ranked_texts.RankedTexts.RankedTexts}
 use Rattle.bpf_canon.specs.btf.strings.HostPlaces.{span_bytes, IsSpan, HasText, IsAtHost, HasHost, AreHostPlaces, names_in, HaveTheirHosts}
 use Rattle.bpf_canon.proofs.BtfLemmas.Names.{KeptSteps.place_stays, KeptSteps.place_last, KeptSteps.length-table_push, Gathering.Has-front, Gathering.Has-back}
-use Rattle.bpf_canon.proofs.BtfLemmas.Strings.{FoundHosts.text_some, FoundHosts.in_map, TableSpans.span_of}
+use Rattle.bpf_canon.proofs.BtfLemmas.Strings.{FoundHosts.text_some, FoundHosts.empty_at_nul, FoundHosts.in_map, TableSpans.span_of}
 use Rattle.bpf_canon.proofs.BtfLemmas.Strings.PlacedHosts.{is_own, host_places, laid_empty, laid_other, laid_known, laid_new, laid_fits, has_push}
 
 -- a rank whose string isn't a suffix of the next one
@@ -45,30 +44,28 @@ pub record LaidTo (section : List ℕ) (sorted out : List (List ℕ)) (by_rank :
   pub are_spans : All (IsSpan section) spans
   pub texts : flat_map (span_bytes section) spans ≡ flat_map with_nul out
   pub whole : len ≡ length (table_of out)
-  pub ranks : length by_rank ≡ length sorted + 1
-  pub none : get_or by_rank 0 0 ≡ 0
-  pub absent : (r : ℕ) → IsLast sorted r → get_or by_rank (r + 1) 0 ≡ 0 → ¬ Has out (at_rank sorted r)
-  pub there : (r : ℕ) → IsLast sorted r → get_or by_rank (r + 1) 0 ≢ 0 → Has out (at_rank sorted r)
-  pub place : (r : ℕ) → IsLast sorted r → get_or by_rank (r + 1) 0 ≢ 0 → get_or by_rank (r + 1) 0 ≡ place_in out (at_rank sorted r)
+  pub ranks : length by_rank ≡ length sorted
+  pub absent : (r : ℕ) → IsLast sorted r → get_or by_rank r 0 ≡ 0 → ¬ Has out (at_rank sorted r)
+  pub there : (r : ℕ) → IsLast sorted r → get_or by_rank r 0 ≢ 0 → Has out (at_rank sorted r)
+  pub place : (r : ℕ) → IsLast sorted r → get_or by_rank r 0 ≢ 0 → get_or by_rank r 0 ≡ place_in out (at_rank sorted r)
 
-pub lays_one : (section : List ℕ) (sorted out : List (List ℕ)) (by_rank : List ℕ) (spans new : List Span) (len r : ℕ) (s : Span) → LaidTo section sorted out by_rank spans len → IsSorted tail_cmp sorted → IsLast sorted r → get_or by_rank (r + 1) 0 ≡ 0
-    → HasText section spans new s → span_bytes section s ≡ with_nul (at_rank sorted r) → LaidTo section sorted (out ++ at_rank sorted r ∷ []) (set by_rank (r + 1) len) new (len + (length (at_rank sorted r) + 1))
+pub lays_one : (section : List ℕ) (sorted out : List (List ℕ)) (by_rank : List ℕ) (spans new : List Span) (len r : ℕ) (s : Span) → LaidTo section sorted out by_rank spans len → IsSorted tail_cmp sorted → IsLast sorted r → get_or by_rank r 0 ≡ 0
+    → HasText section spans new s → span_bytes section s ≡ with_nul (at_rank sorted r) → LaidTo section sorted (out ++ at_rank sorted r ∷ []) (set by_rank r len) new (len + (length (at_rank sorted r) + 1))
 lays_one section sorted out by_rank spans new len r s to up at empty more text =
     let x = at_rank sorted r in
     let gone : ¬ Has out x = to.absent r at empty in
     let some : 0 < len = omega (arith, to.whole) in
-    let here : get_or (set by_rank (r + 1) len) (r + 1) 0 ≡ len = get_or-set_same by_rank (r + 1) len 0 (omega (arith, to.ranks, at.inside)) in
-    let other = λ (k : ℕ) (n : k ≢ r + 1). get_or-set_other by_rank (r + 1) k len 0 n in
+    let here : get_or (set by_rank r len) r 0 ≡ len = get_or-set_same by_rank r len 0 (omega (arith, to.ranks, at.inside)) in
+    let other = λ (k : ℕ) (n : k ≢ r). get_or-set_other by_rank r k len 0 n in
     record {
       are_spans = more.are_spans;
       texts = more.bytes ∙ ap (λ (t : List ℕ). t ++ span_bytes section s) to.texts ∙ ap (λ (t : List ℕ). flat_map with_nul out ++ t) (text ∙ sym (append-nil (with_nul x))) ∙ sym (flat_map-append with_nul out (x ∷ []));
       whole = omega (arith, to.whole, length-table_push out x);
-      ranks = length-set by_rank (r + 1) len ∙ to.ranks;
-      none = other 0 (λ e. omega (arith, e)) ∙ to.none;
+      ranks = length-set by_rank r len ∙ to.ranks;
       absent = λ k a z h. elim (cases_eq k r) [
-        | inl e ↦ omega (arith, some, here, z, ap (λ (n : ℕ). get_or (set by_rank (r + 1) len) (n + 1) 0) e)
+        | inl e ↦ omega (arith, some, here, z, ap (λ (n : ℕ). get_or (set by_rank r len) n 0) e)
         | inr n ↦
-            let old : get_or by_rank (k + 1) 0 ≡ 0 = sym (other (k + 1) (λ e. n (omega (arith, e)))) ∙ z in
+            let old : get_or by_rank k 0 ≡ 0 = sym (other k n) ∙ z in
             elim (has_push out x (at_rank sorted k) h) [
               | inl i ↦ to.absent k a old i
               | inr e ↦ n (sym (rank_same sorted r k up at a e))
@@ -77,7 +74,7 @@ lays_one section sorted out by_rank spans new len r s to up at empty more text =
       there = grind (arith, Has-back, Has-front);
       place = λ k a z. elim (cases_eq k r) [
         | inl e ↦
-            ap (λ (n : ℕ). get_or (set by_rank (r + 1) len) (n + 1) 0) e ∙ here ∙ to.whole ∙ sym (place_last out x gone)
+            ap (λ (n : ℕ). get_or (set by_rank r len) n 0) e ∙ here ∙ to.whole ∙ sym (place_last out x gone)
             ∙ ap (λ (m : ℕ). place_in (out ++ x ∷ []) (at_rank sorted m)) (sym e)
         | inr n ↦ grind (arith, place_stays)
       ];
@@ -91,10 +88,13 @@ module _ (section slots : List ℕ) (sorted xs : List (List ℕ)) (in_hosts : Li
   abbrev x : List ℕ
   x = text_from section off
 
-  pub no_host_empty : h.host ≡ 0 → x ≡ []
-  no_host_empty z = grind (arith, common_steps)
+  pub no_host_empty : h.len ≡ 0 → x ≡ []
+  no_host_empty z = nil_from_length x (elim (cases_eq (get_or section off 0) 0) [
+    | inl nul ↦ empty_at_nul section off is.inside nul
+    | inr b ↦ let a = is.some b in omega (arith, a.long, a.before, z)
+  ])
 
-  pub at_host : h.host ≢ 0 → IsAtHost sorted xs x h
+  pub at_host : h.len ≢ 0 → IsAtHost sorted xs x h
   at_host n = grind arith
 
 module _ (sorted xs : List (List ℕ)) (x : List ℕ) (h : InHost) (a : IsAtHost sorted xs x h) (has : Has xs x) (some : 0 < length x) where
@@ -152,38 +152,38 @@ module _ (section slots offsets : List ℕ) (sorted : List (List ℕ)) (in_hosts
   more : host_places names (taken (k + 1)) ≡ host_places names (taken k ++ own ∷ [])
   more = ap (host_places names) (map_more (text_from section) offsets k 0 inside)
 
-  at_here : here.host ≢ 0 → IsAtHost sorted names own here
-  at_here h = subst (IsAtHost sorted names own) (sym same_here) (at_host section slots sorted names in_hosts (get_or offsets k 0) is has (λ z. h (ap (λ (i : InHost). i.host) same_here ∙ z)))
+  at_here : here.len ≢ 0 → IsAtHost sorted names own here
+  at_here h = subst (IsAtHost sorted names own) (sym same_here) (at_host section slots sorted names in_hosts (get_or offsets k 0) is has (λ z. h (ap (λ (i : InHost). i.len) same_here ∙ z)))
 
-  some_here : here.host ≢ 0 → 0 < length own
+  some_here : here.len ≢ 0 → 0 < length own
   some_here h = grind (arith, text_some)
 
   -- a name that is its own host is as long as that
-  pub own_long : here.host ≢ 0 → here.before ≡ 0 → here.len ≡ length own
+  pub own_long : here.len ≢ 0 → here.before ≡ 0 → here.len ≡ length own
   own_long h b = let a = at_here h in omega (arith, a.long, a.before, b)
 
-  pub placed_inside : (by_rank : List ℕ) (spans : List Span) (len : ℕ) → LaidTo section sorted (host_places names (taken k)) by_rank spans len → here.host < length by_rank
-  placed_inside by_rank spans len to = grind arith
+  pub placed_inside : (by_rank : List ℕ) (spans : List Span) (len : ℕ) → LaidTo section sorted (host_places names (taken k)) by_rank spans len → here.len ≢ 0 → here.host < length by_rank
+  placed_inside by_rank spans len to h = let a = at_here h in omega (arith, a.numbered, a.inside, to.ranks)
 
-  pub skips_empty : here.host ≡ 0 → host_places names (taken k) ≡ host_places names (taken (k + 1))
-  skips_empty z = sym (more ∙ laid_empty names (taken k) own (no_host_empty section slots sorted names in_hosts (get_or offsets k 0) is has (ap (λ (i : InHost). i.host) (sym same_here) ∙ z)))
+  pub skips_empty : here.len ≡ 0 → host_places names (taken k) ≡ host_places names (taken (k + 1))
+  skips_empty z = sym (more ∙ laid_empty names (taken k) own (no_host_empty section slots sorted names in_hosts (get_or offsets k 0) is has (ap (λ (i : InHost). i.len) (sym same_here) ∙ z)))
 
-  pub skips_other : here.host ≢ 0 → here.before ≢ 0 → host_places names (taken k) ≡ host_places names (taken (k + 1))
+  pub skips_other : here.len ≢ 0 → here.before ≢ 0 → host_places names (taken k) ≡ host_places names (taken (k + 1))
   skips_other h b = sym (more ∙ laid_other names (taken k) own (own_no sorted names own here (at_here h) has (some_here h) b))
 
-  pub skips_placed : (by_rank : List ℕ) (spans : List Span) (len : ℕ) → LaidTo section sorted (host_places names (taken k)) by_rank spans len → here.host ≢ 0 → here.before ≡ 0 → get_or by_rank here.host 0 ≢ 0 → host_places names (taken k) ≡ host_places names (taken (k + 1))
+  pub skips_placed : (by_rank : List ℕ) (spans : List Span) (len : ℕ) → LaidTo section sorted (host_places names (taken k)) by_rank spans len → here.len ≢ 0 → here.before ≡ 0 → get_or by_rank here.host 0 ≢ 0 → host_places names (taken k) ≡ host_places names (taken (k + 1))
   skips_placed by_rank spans len to h b p =
       let a = at_here h in
       let there : Has (host_places names (taken k)) (at_rank sorted a.rank) = to.there a.rank (host_last sorted names own here a has (some_here h)) (λ z. p (ap (λ (j : ℕ). get_or by_rank j 0) a.numbered ∙ z)) in
       sym (more ∙ laid_known names (taken k) own (subst (Has (host_places names (taken k))) (own_text sorted names own here a has (some_here h) b) there))
 
-  lays : (by_rank : List ℕ) (spans : List Span) (len v : ℕ) (s : Span) → LaidTo section sorted (host_places names (taken k)) by_rank spans len → IsSorted tail_cmp sorted → here.host ≢ 0 → here.before ≡ 0 → get_or by_rank here.host 0 ≡ 0
+  lays : (by_rank : List ℕ) (spans : List Span) (len v : ℕ) (s : Span) → LaidTo section sorted (host_places names (taken k)) by_rank spans len → IsSorted tail_cmp sorted → here.len ≢ 0 → here.before ≡ 0 → get_or by_rank here.host 0 ≡ 0
       → IsSpan section s → span_bytes section s ≡ with_nul own → v ≡ length own → LaysText section sorted (host_places names (taken (k + 1))) by_rank spans here.host len v s
   lays by_rank spans len v s to up h b p span bytes v_is =
       let a = at_here h in
       let at = host_last sorted names own here a has (some_here h) in
       let text : at_rank sorted a.rank ≡ own = own_text sorted names own here a has (some_here h) b in
-      let free : get_or by_rank (a.rank + 1) 0 ≡ 0 = ap (λ (j : ℕ). get_or by_rank j 0) (sym a.numbered) ∙ p in
+      let free : get_or by_rank a.rank 0 ≡ 0 = ap (λ (j : ℕ). get_or by_rank j 0) (sym a.numbered) ∙ p in
       let out : host_places names (taken k) ++ at_rank sorted a.rank ∷ [] ≡ host_places names (taken (k + 1)) = grind (arith, more, laid_new, some_here, own_yes, has) in
       let len_is : length (at_rank sorted a.rank) ≡ v = ap (λ (t : List ℕ). length t) text ∙ sym v_is in
       let long = ap (λ (l : List (List ℕ)). length (table_of l)) out in
@@ -193,8 +193,8 @@ module _ (section slots offsets : List ℕ) (sorted : List (List ℕ)) (in_hosts
         laid_out = λ new more_bytes.
             let laid_one = lays_one section sorted (host_places names (taken k)) by_rank spans new len a.rank s to up at free more_bytes (bytes ∙ ap with_nul (sym text)) in
             subst (λ (m : ℕ). LaidTo section sorted (host_places names (taken (k + 1))) (set by_rank m len) new (len + (v + 1))) (sym a.numbered)
-            (subst (λ (m : ℕ). LaidTo section sorted (host_places names (taken (k + 1))) (set by_rank (a.rank + 1) len) new (len + (m + 1))) len_is
-            (subst (λ (l : List (List ℕ)). LaidTo section sorted l (set by_rank (a.rank + 1) len) new (len + (length (at_rank sorted a.rank) + 1))) out laid_one));
+            (subst (λ (m : ℕ). LaidTo section sorted (host_places names (taken (k + 1))) (set by_rank a.rank len) new (len + (m + 1))) len_is
+            (subst (λ (l : List (List ℕ)). LaidTo section sorted l (set by_rank a.rank len) new (len + (length (at_rank sorted a.rank) + 1))) out laid_one));
       }
 
 -- the hosts among the first k used names
@@ -204,7 +204,7 @@ placed_to r used k = host_places (names_in r used) (map (text_from r.section.now
 -- the same from what was read: the offsets, the number of one, and whether its host is placed
 pub lays_read : {A : Type 0} (used : Used) (r : RankedTexts A) (in_hosts : List InHost) (offsets : List ℕ) (k n : ℕ) → offsets ≡ used.offsets → k < length offsets → n ≡ number_of used (get_or offsets k 0) → HaveTheirHosts used r in_hosts
     → (by_rank : List ℕ) (spans : List Span) (len there : ℕ) → LaidTo r.section.now (sorted_in r) (placed_to r used k) by_rank spans len → IsRankedFor used r → HasNulEnds r.section.now
-    → (get_or in_hosts n no_host).host ≢ 0 → (get_or in_hosts n no_host).before ≡ 0 → there ≡ get_or by_rank (get_or in_hosts n no_host).host there → there ≡ 0
+    → (get_or in_hosts n no_host).len ≢ 0 → (get_or in_hosts n no_host).before ≡ 0 → there ≡ get_or by_rank (get_or in_hosts n no_host).host there → there ≡ 0
     → LaysText r.section.now (sorted_in r) (placed_to r used (k + 1)) by_rank spans (get_or in_hosts n no_host).host len (get_or in_hosts n no_host).len (record { start = get_or offsets k 0; end = get_or offsets k 0 + (get_or in_hosts n no_host).len })
 lays_read used r in_hosts offsets k n same inside n_is all by_rank spans len there to ranked ends h b there_is z =
     let section = r.section.now in
@@ -213,7 +213,7 @@ lays_read used r in_hosts offsets k n same inside n_is all by_rank spans len the
     let off = get_or used.offsets k 0 in
     let low : k < length used.offsets = subst (λ (l : List ℕ). k < length l) same inside in
     let number : n ≡ number_of used off = n_is ∙ ap (λ (l : List ℕ). number_of used (get_or l k 0)) same in
-    let below : here.host < length by_rank = placed_inside section used.slots used.offsets sorted in_hosts k n low number all by_rank spans len to in
+    let below : here.host < length by_rank = placed_inside section used.slots used.offsets sorted in_hosts k n low number all by_rank spans len to h in
     let long : here.len ≡ length (text_from section off) = own_long section used.slots used.offsets sorted in_hosts k n low number all h b in
     let span = span_of section off here.len ends (all k 0 low).inside long in
     subst (λ (l : List ℕ). LaysText section sorted (placed_to r used (k + 1)) by_rank spans here.host len here.len (record { start = get_or l k 0; end = get_or l k 0 + here.len })) (sym same)

@@ -1,5 +1,5 @@
 -- The host of a string by ranks, and the steps of the loops that find all hosts.
-use Rattle.std.proofs.Common.{◌≡◌, ◌≢◌, ℕ, zero, suc, ◌+◌, ◌-◌, ◌<◌, ◌≤◌, true, ◌⊎◌, inl, inr, List, [], length, map, get_or, set, refl, sym, ap, ◌∙◌, subst, arith, rules}
+use Rattle.std.proofs.Common.{◌≡◌, ◌≢◌, ℕ, zero, suc, ◌+◌, ◌-◌, ◌<◌, ◌≤◌, true, ◌⊎◌, inl, inr, List, [], length, map, get_or, set, refl, sym, ap, ◌∙◌, subst, arith}
 use Rattle.std.specs.List.{All}
 use Rattle.std.proofs.lemmas.Bool.{cases_eq}
 use Rattle.std.proofs.lemmas.List.{get_or-map, length-map, length-set, get_or-set_same, get_or-set_other, get_or_default, get_or_read}
@@ -64,7 +64,7 @@ module _ (section slots : List ℕ) (ts : List SectionText) (common host_ranks :
       )
 
   pub in_host : (rank off l : ℕ) → rank < length ts → IsInText off (get_or ts rank no_text) → l ≤ rank → ((j : ℕ) → l < j → j ≤ rank → (get_or ts rank no_text).end - off ≤ get_or common j 0) → get_or common l 0 < (get_or ts rank no_text).end - off
-      → (h : InHost) → h.host ≡ get_or host_ranks l 0 + 1 → h.before + ((get_or ts rank no_text).end - off) ≡ (get_or ts (get_or host_ranks l 0) no_text).end - (get_or ts (get_or host_ranks l 0) no_text).start
+      → (h : InHost) → h.host ≡ get_or host_ranks l 0 → h.before + ((get_or ts rank no_text).end - off) ≡ (get_or ts (get_or host_ranks l 0) no_text).end - (get_or ts (get_or host_ranks l 0) no_text).start
       → h.len ≡ (get_or ts (get_or host_ranks l 0) no_text).end - (get_or ts (get_or host_ranks l 0) no_text).start → IsInHost texts (text_from section off) h
   in_host rank off l inside within below before less h host_is before_is len_is =
       let is = first rank off l inside within below before less in
@@ -84,7 +84,7 @@ module _ (section slots : List ℕ) (ts : List SectionText) (common host_ranks :
     pub low : (get_or ts rank no_text).start ≤ off
     pub shorter : t.end - off ≤ u.end - u.start
     pub back : (j : ℕ) → l < j → j ≤ from → (get_or ts rank no_text).end - off ≤ get_or common j 0
-    pub in_hosts : (h : InHost) → h.host ≡ v + 1 → h.before + (t.end - off) ≡ u.end - u.start → h.len ≡ u.end - u.start → IsInHost texts (text_from section off) h
+    pub in_hosts : (h : InHost) → h.host ≡ v → h.before + (t.end - off) ≡ u.end - u.start → h.len ≡ u.end - u.start → IsInHost texts (text_from section off) h
 
   pub steps_back : (rank off from l v : ℕ) (s t u : SectionText) (numbers : List ℕ) → rank < length ts → s ≡ get_or ts rank s → t ≡ get_or ts rank t → s.start ≤ off → off < t.end → from ≤ rank
       → ((j : ℕ) → from < j → j ≤ rank → (get_or ts rank no_text).end - off ≤ get_or common j 0) → numbers ≡ common → l ≤ from → ((j : ℕ) → l < j → j ≤ from → t.end - off ≤ get_or numbers j 0) → get_or numbers l 0 < t.end - off
@@ -173,4 +173,10 @@ module _ (section slots : List ℕ) (ts : List SectionText) (sorted : List (List
       }
 
   pub hosts_all : (in_hosts : List InHost) → HostsTo section slots ts sorted in_hosts (length ts) → length slots ≡ length section → AreInHosts section slots sorted in_hosts
-  hosts_all in_hosts to long = search (rules, used_inside, get_or_default)
+  hosts_all in_hosts to long = record {
+    whole = to.whole;
+    empty = to.empty;
+    some = λ off s b.
+        let t = longest.each off (omega (arith, used_inside slots off s, long)) s b in
+        to.here t.0 off t.2 s (subst (IsInText off) (sym t.3 ∙ get_or_default ts t.0 t.1 no_text t.2) t.4);
+  }

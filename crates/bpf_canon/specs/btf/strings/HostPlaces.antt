@@ -1,5 +1,5 @@
 -- The table of hosts, in the order of first use.
-use Rattle.std.specs.Prelude.{◌≡◌, ◌≢◌, ℕ, ◌+◌, ◌-◌, ◌<◌, ◌≤◌, false, List, ◌++◌, length, map, take, drop, slice_index}
+use Rattle.std.specs.Prelude.{◌≡◌, ◌≢◌, ℕ, ◌+◌, ◌-◌, ◌<◌, ◌≤◌, nat_eq, if◌then◌else◌, false, List, ◌++◌, length, map, take, drop, slice_index}
 use Rattle.std.specs.List.{All, Contains, flat_map}
 use Rattle.btf_types.specs.{Names.with_nul, Names.place_in, Reading.text_from, strings.CommonTails.at_rank}
 use Rattle.btf_types.specs.strings.SharedNames.{is_suffix, hosts, host, shared_table, shared_place}
@@ -29,7 +29,7 @@ AddsText old new text = (section : List ℕ) → All (IsSpan section) old → Is
 -- Among the names xs, the host of x is the string of this rank, which isn't a suffix of the next one.
 pub record IsAtHost (sorted xs : List (List ℕ)) (x : List ℕ) (h : InHost) : Type 0 where
   pub rank : ℕ
-  pub numbered : h.host ≡ rank + 1
+  pub numbered : h.host ≡ rank
   pub inside : rank < length sorted
   pub last : rank + 1 < length sorted → is_suffix (at_rank sorted rank) (at_rank sorted (rank + 1)) ≡ false
   pub is_host : host xs x ≡ at_rank sorted rank
@@ -48,9 +48,8 @@ pub record AreHostPlaces (section : List ℕ) (sorted xs : List (List ℕ)) (by_
   pub are_spans : All (IsSpan section) spans
   pub texts : flat_map (span_bytes section) spans ≡ flat_map with_nul (hosts xs)
   pub whole : len ≡ length (shared_table xs)
-  pub ranks : length by_rank ≡ length sorted + 1
-  pub none : slice_index by_rank 0 ≡ 0
-  pub place : (r : ℕ) → r < length sorted → (r + 1 < length sorted → is_suffix (at_rank sorted r) (at_rank sorted (r + 1)) ≡ false) → Contains (hosts xs) (at_rank sorted r) → slice_index by_rank (r + 1) ≡ place_in (hosts xs) (at_rank sorted r)
+  pub ranks : length by_rank ≡ length sorted
+  pub place : (r : ℕ) → r < length sorted → (r + 1 < length sorted → is_suffix (at_rank sorted r) (at_rank sorted (r + 1)) ≡ false) → Contains (hosts xs) (at_rank sorted r) → slice_index by_rank r ≡ place_in (hosts xs) (at_rank sorted r)
 
 -- The same, stated of the structs: each used name has its host, and each host has its offset.
 abbrev pub names_in : {A : Type 0} → RankedTexts A → Used → List (List ℕ)
@@ -62,9 +61,9 @@ HaveTheirHosts used r in_hosts = All (HasHost r.section.now used.slots (sorted_i
 abbrev pub ArePlacesOf : {A : Type 0} → Used → RankedTexts A → HostPlaces A → Type 0
 ArePlacesOf used r h = AreHostPlaces r.section.now (sorted_in r) (names_in r used) h.by_rank.items h.spans.items h.len
 
--- the new offset of a name: that of its host plus the number of bytes of the host before the name
+-- the new offset of a name: that of its host plus the number of bytes of the host before the name, or 0 for the empty name
 abbrev pub name_place : List ℕ → InHost → ℕ
-name_place by_rank at = slice_index by_rank at.host + at.before
+name_place by_rank at = if nat_eq at.len 0 then 0 else slice_index by_rank at.host + at.before
 
 -- Each used name has, by the number of its old offset, its offset in the shared table, whose contents are the hosts.
 pub record ArePlaced (section : List ℕ) (used : Used) (places : List ℕ) (spans : List Span) (len : ℕ) : Type 0 where

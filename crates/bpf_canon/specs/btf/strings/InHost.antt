@@ -10,7 +10,7 @@ use Rattle.bpf_canon.specs.declared.btf.strings.{hosts.InHost.InHost, ranked_tex
 -- The string of this rank is the host of x in every list with this sorted order, and it isn't a suffix of the next one.
 pub record IsInHost (sorted : List (List ℕ)) (x : List ℕ) (h : InHost) : Type 0 where
   pub rank : ℕ
-  pub numbered : h.host ≡ rank + 1
+  pub numbered : h.host ≡ rank
   pub inside : rank < length sorted
   pub last : rank + 1 < length sorted → is_suffix (at_rank sorted rank) (at_rank sorted (rank + 1)) ≡ false
   pub host : (ks : List (List ℕ)) → AreInTailOrder ks sorted → host_in (hosts_of ks) x ≡ at_rank sorted rank

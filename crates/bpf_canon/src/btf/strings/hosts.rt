@@ -15,11 +15,11 @@ use std::alloc::{AllocError, Allocator};
 /// The position of a name in its host.
 #[derive(Clone, Copy)]
 pub(crate) struct InHost {
-    /// The rank of the host plus 1, or 0 for the empty name.
+    /// The rank of the host.
     pub(crate) host: u32,
     /// The number of bytes of the host before the name.
     pub(crate) before: u32,
-    /// The length of the host in bytes.
+    /// The length of the host in bytes, or 0 for the empty name.
     pub(crate) len: u32,
 }
 
@@ -56,7 +56,7 @@ fn find_within<A: Allocator>(
             let host = ranked.host_ranks[from];
             let len = ranked.texts[host as usize].len();
             in_hosts[uses.number(off as usize)] = InHost {
-                host: host + 1,
+                host,
                 before: len - (end - off),
                 len,
             };
@@ -87,7 +87,7 @@ fn find_alone<A: Allocator>(
         let host = ranked.host_ranks[rank];
         let len = ranked.texts[host as usize].len();
         in_hosts[uses.number(text.start as usize)] = InHost {
-            host: host + 1,
+            host,
             before: len - text.len(),
             len,
         };
@@ -127,8 +127,7 @@ pub(crate) struct Span {
 /// The table of hosts: a NUL, then each host with its NUL.
 #[derive(Drop)]
 pub(crate) struct HostPlaces<A: Allocator> {
-    // the offset in the table of the string with each rank, by the rank plus 1, or 0 if not
-    // assigned yet
+    // the offset in the table of the string with each rank, or 0 if not assigned yet
     pub(crate) by_rank: Vec<u32, A>,
     // the hosts as spans of the section, in the order of the table
     pub(crate) spans: Vec<Span, A>,
@@ -167,14 +166,14 @@ pub(crate) fn place_hosts<A: Allocator + Copy>(
     ensures { IfOk result (ArePlacesOf uses.now ranked.now) }
 {
     let offsets = uses.offsets();
-    let mut by_rank = vec![in alloc; 0; ranked.texts.len() + 1]?;
+    let mut by_rank = vec![in alloc; 0; ranked.texts.len()]?;
     let mut spans = Vec::new(alloc);
     let mut len = 1;
     for k in 0..offsets.len() {
         let off = offsets[k];
         let at = in_hosts[uses.number(off as usize)];
         let host = at.host as usize;
-        if host == 0 || at.before != 0 || by_rank[host] != 0 {
+        if at.len == 0 || at.before != 0 || by_rank[host] != 0 {
             continue;
         }
         let text = Span {

@@ -129,7 +129,7 @@ fn next_hosts<A: Allocator>(
 ) -> Result<Vec<u32, A>, AllocError>
     requires common { AreCommon (texts_in section.now sorted.now) common.now }
     requires few { length sorted.now < 2 ^ 32 }
-    ensures { IfOk result (λ host_ranks. AreNextHosts (texts_in section.now sorted.now) host_ranks.items) }
+    ensures { IfOk result (λ ranks. AreNextHosts (texts_in section.now sorted.now) ranks.items) }
 {
     let mut host_ranks = vec![in alloc; 0; sorted.len()]?;
     for k in (0..sorted.len()).rev() {

@@ -37,19 +37,23 @@ impl<'a, A: Allocator> Model for SharedPlaces<'a, A> {
 }
 
 /// The new offset for each used offset: that of its host plus the number of bytes of the host
-/// before the name.
+/// before the name, or 0 for the empty name.
 fn name_places<A: Allocator>(
     alloc: A,
     in_hosts: &[InHost],
     by_rank: &[u32],
 ) -> Result<Vec<u32, A>, AllocError>
-    requires ranked { All (λ at. at.host < length by_rank.now) in_hosts.now }
+    requires ranked { All (λ at. 0 < at.len → at.host < length by_rank.now) in_hosts.now }
     requires fits { All (λ at. name_place by_rank.now at < 2 ^ 32) in_hosts.now }
     ensures { IfOk result (λ places. places.items ≡ map (name_place by_rank.now) in_hosts.now) }
 {
     let mut places = Vec::with_capacity(alloc, in_hosts.len())?;
     for at in in_hosts {
-        places.push(by_rank[at.host as usize] + at.before)?;
+        places.push(if at.len == 0 {
+            0
+        } else {
+            by_rank[at.host as usize] + at.before
+        })?;
     }
     Ok(places)
 }

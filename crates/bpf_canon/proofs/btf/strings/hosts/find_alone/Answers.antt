@@ -27,7 +27,7 @@ loop-rank-preserved g c =
     let inside : c.loop-rank.rank < length r.texts.items = omega arith in
     let is = step g (goal.at.loop-rank-preserved g c).After-index-in-loop-rank in
     let old = c.loop-rank.in_hosts in
-    let h : InHost = record { host = c.index-host.result.now + 1; before = c.len-len.result - c.len-in-loop-rank.result; len = c.len-len.result } in
+    let h : InHost = record { host = c.index-host.result.now; before = c.len-len.result - c.len-in-loop-rank.result; len = c.len-len.result } in
     let before : h.before + (t.end - t.start) ≡ u.end - u.start = omega (arith, is.shorter, c.len-len.ensures, c.len-in-loop-rank.ensures) in
     subst (λ (n : ℕ). FindsRanks c.args.uses.now r (set old n h) (c.loop-rank.rank + 1)) (sym c.number.ensures.number)
     (hosts_more r.section.now slots r.texts.items (sorted_in r) c.requires.texts.longest old (set old (offset_number slots t.start) h) c.loop-rank.rank c.loop-rank.invariant inside

@@ -28,7 +28,7 @@ loop-off-preserved g c =
           let step = steps_back r.section.now slots r.texts.items r.common.items r.host_ranks.items c.requires.texts.ranked c.requires.texts.longest.used c.args.rank off c.loop-off.from w.first_rank-from.result w.index-host.result.now
           c.index-2.result.now c.index.result.now w.index-then-is_used.result.now w.deref.result.now c.requires.inside c.index-2.ensures c.index.ensures (omega arith) c.loop-off-test.true c.loop-off.invariant.below c.loop-off.invariant.before w.deref.ensures.value
           w.first_rank-from.ensures.before w.first_rank-from.ensures.common w.first_rank-from.ensures.less w.index-host.ensures w.index-then-is_used.ensures in
-          let h : InHost = record { host = w.index-host.result.now + 1; before = w.len-len.result - (c.index.result.now.end - off); len = w.len-len.result } in
+          let h : InHost = record { host = w.index-host.result.now; before = w.len-len.result - (c.index.result.now.end - off); len = w.len-len.result } in
           let before : h.before + (c.index.result.now.end - off) ≡ w.index-then-is_used.result.now.end - w.index-then-is_used.result.now.start = omega (arith, step.shorter, w.len-len.ensures) in
           let used : get_or slots off 0 ≢ 0 = c.is_used.ensures.yes w.if-is_used.true in
           let put : c.if-is_used.in_hosts ≡ set in_hosts (offset_number slots off) h = w.in_hosts-is ∙ ap (λ (n : ℕ). set in_hosts n h) w.number.ensures.number in

@@ -7,10 +7,10 @@ use Rattle.bpf_canon.proofs.BtfLemmas.Strings.HostPlaceSteps.{LaidTo, LaysText, 
 use Rattle.bpf_canon.proofs.btf.strings.hosts.place_hosts.Given.{Over}
 use Rattle.bpf_canon.proofs.btf.strings.hosts.place_hosts.Goals.{Else-index-ne0}
 use Rattle.bpf_canon.proofs.btf.strings.hosts.place_hosts.Goals as goal
-use Rattle.bpf_canon.proofs.btf.strings.hosts.place_hosts.Goals.{then-host-eq0-via-then-host-eq0, then-host-eq0-via-else-host-eq0+then-at-ne0, then-host-eq0-via-else-host-eq0+else-at-ne0+then-index-ne0}
+use Rattle.bpf_canon.proofs.btf.strings.hosts.place_hosts.Goals.{then-at-eq0-via-then-at-eq0, then-at-eq0-via-else-at-eq0+then-at-ne0, then-at-eq0-via-else-at-eq0+else-at-ne0+then-index-ne0}
 
-pub loop-k-preserved-then-host-eq0 : goal.loop-k-preserved-then-host-eq0
-loop-k-preserved-then-host-eq0 g c =
+pub loop-k-preserved-then-at-eq0 : goal.loop-k-preserved-then-at-eq0
+loop-k-preserved-then-at-eq0 g c =
     let r = c.args.ranked.now in
     let section = r.section.now in
     let uses = c.args.uses.now in
@@ -20,13 +20,13 @@ loop-k-preserved-then-host-eq0 g c =
     let all = c.requires.in_hosts in
     let inside : k < length uses.offsets = subst (λ (l : List ℕ). k < length l) c.offsets-offsets.ensures c.loop-k-test.true in
     let n_is = c.number.ensures.number ∙ ap (λ (l : List ℕ). number_of uses (get_or l k 0)) c.offsets-offsets.ensures in
-    let same : placed_to r uses k ≡ placed_to r uses (k + 1) = elim c.then-host-eq0.branch [
-      | then-host-eq0-via-then-host-eq0 w ↦ skips_empty section uses.slots uses.offsets sorted in_hosts k c.number.result inside n_is all w.if-host-eq0.true
-      | then-host-eq0-via-else-host-eq0+then-at-ne0 w ↦ skips_other section uses.slots uses.offsets sorted in_hosts k c.number.result inside n_is all w.if-host-eq0.false w.if-at-ne0.true
-      | then-host-eq0-via-else-host-eq0+else-at-ne0+then-index-ne0 w ↦
+    let same : placed_to r uses k ≡ placed_to r uses (k + 1) = elim c.then-at-eq0.branch [
+      | then-at-eq0-via-then-at-eq0 w ↦ skips_empty section uses.slots uses.offsets sorted in_hosts k c.number.result inside n_is all w.if-at-eq0.true
+      | then-at-eq0-via-else-at-eq0+then-at-ne0 w ↦ skips_other section uses.slots uses.offsets sorted in_hosts k c.number.result inside n_is all w.if-at-eq0.false w.if-at-ne0.true
+      | then-at-eq0-via-else-at-eq0+else-at-ne0+then-index-ne0 w ↦
           let here = (get_or in_hosts c.number.result no_host).host in
-          let placed = get_or_read c.loop-k.by_rank.items here w.index.result.now (placed_inside section uses.slots uses.offsets sorted in_hosts k c.number.result inside n_is all c.loop-k.by_rank.items c.loop-k.spans.items c.loop-k.len c.loop-k.invariant) w.index.ensures 0 in
-          skips_placed section uses.slots uses.offsets sorted in_hosts k c.number.result inside n_is all c.loop-k.by_rank.items c.loop-k.spans.items c.loop-k.len c.loop-k.invariant w.if-host-eq0.false w.if-at-ne0.false (λ z. w.if-index-ne0.true (placed ∙ z))
+          let placed = get_or_read c.loop-k.by_rank.items here w.index.result.now (placed_inside section uses.slots uses.offsets sorted in_hosts k c.number.result inside n_is all c.loop-k.by_rank.items c.loop-k.spans.items c.loop-k.len c.loop-k.invariant w.if-at-eq0.false) w.index.ensures 0 in
+          skips_placed section uses.slots uses.offsets sorted in_hosts k c.number.result inside n_is all c.loop-k.by_rank.items c.loop-k.spans.items c.loop-k.len c.loop-k.invariant w.if-at-eq0.false w.if-at-ne0.false (λ z. w.if-index-ne0.true (placed ∙ z))
     ] in
     subst (λ (l : List (List ℕ)). LaidTo section sorted l c.loop-k.by_rank.items c.loop-k.spans.items c.loop-k.len) same c.loop-k.invariant
 
@@ -36,18 +36,18 @@ lays : (g : Over) (c : Else-index-ne0 g) → let at = get_or c.args.in_hosts.now
     LaysText c.args.ranked.now.section.now (sorted_in c.args.ranked.now) (placed_to c.args.ranked.now c.args.uses.now (c.loop-k.k + 1)) c.loop-k.by_rank.items c.loop-k.spans.items at.host c.loop-k.len at.len (record { start = off; end = off + at.len })
 lays g c =
     lays_read c.args.uses.now c.args.ranked.now c.args.in_hosts.now c.offsets-offsets.result.now c.loop-k.k c.number.result c.offsets-offsets.ensures c.loop-k-test.true c.number.ensures.number c.requires.in_hosts c.loop-k.by_rank.items
-    c.loop-k.spans.items c.loop-k.len c.index.result.now c.loop-k.invariant c.requires.texts c.requires.ends c.if-host-eq0.false c.if-at-ne0.false c.index.ensures c.if-index-ne0.false
+    c.loop-k.spans.items c.loop-k.len c.index.result.now c.loop-k.invariant c.requires.texts c.requires.ends c.if-at-eq0.false c.if-at-ne0.false c.index.ensures c.if-index-ne0.false
 
 pub overflow_add-text : goal.overflow_add-text
 overflow_add-text g c = omega (arith, (lays g (goal.at.overflow_add-text g c).Else-index-ne0).span.inside, c.requires.texts.few)
 
+pub overflow_add-len : goal.overflow_add-len
+overflow_add-len g c =
+    omega (arith, (lays g (goal.at.overflow_add-len g c).Else-index-ne0).whole, laid_room c.args.ranked.now.section.now c.args.uses.now.offsets (c.loop-k.k + 1), c.requires.room)
+
 pub overflow_add-len-in-loop-k : goal.overflow_add-len-in-loop-k
 overflow_add-len-in-loop-k g c =
     omega (arith, (lays g (goal.at.overflow_add-len-in-loop-k g c).Else-index-ne0).whole, laid_room c.args.ranked.now.section.now c.args.uses.now.offsets (c.loop-k.k + 1), c.requires.room)
-
-pub overflow_add-len-in-loop-k-2 : goal.overflow_add-len-in-loop-k-2
-overflow_add-len-in-loop-k-2 g c =
-    omega (arith, (lays g (goal.at.overflow_add-len-in-loop-k-2 g c).Else-index-ne0).whole, laid_room c.args.ranked.now.section.now c.args.uses.now.offsets (c.loop-k.k + 1), c.requires.room)
 
 pub loop-k-preserved : goal.loop-k-preserved
 loop-k-preserved g c =

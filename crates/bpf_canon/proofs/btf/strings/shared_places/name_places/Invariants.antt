@@ -1,5 +1,6 @@
-use Rattle.std.proofs.Common.{◌≡◌, ◌+◌, map, take, get_or}
+use Rattle.std.proofs.Common.{◌≡◌, map, take}
+use Rattle.bpf_canon.specs.btf.strings.HostPlaces.{name_place}
 use Rattle.bpf_canon.proofs.btf.strings.shared_places.name_places.Given as goal
 
 abbrev pub invariant-loop-at : goal.invariant-loop-at
-invariant-loop-at g l = l.places.items ≡ map (λ at. get_or l.by_rank at.host 0 + at.before) (take l.at-index l.in_hosts)
+invariant-loop-at g l = l.places.items ≡ map (name_place l.by_rank) (take l.at-index l.in_hosts)
