@@ -63,8 +63,10 @@ impl Line {
         requires { length self.old < LINE_SIZE }
         ensures { self.new ≡ byte ∷ self.old }
     {
-        self.start -= 1;
-        self.bytes[self.start] = byte;
+        let start = self.start - 1;
+        self.bytes[start] = byte;
+        // Stored last, here and in `text`: after a store that may alias it, it would be loaded again.
+        self.start = start;
     }
 
     /// Writes a string.
@@ -74,8 +76,9 @@ impl Line {
         ensures { self.new ≡ text.now ++ self.old }
     {
         let end = self.start;
-        self.start -= text.len();
-        self.bytes[self.start..end].copy_from_slice(text);
+        let start = end - text.len();
+        self.bytes[start..end].copy_from_slice(text);
+        self.start = start;
     }
 
     /// Writes the decimal digits of a number.
