@@ -2,7 +2,7 @@
 //! entries. There is a function with its own loop for each, which checks the items in file order,
 //! so the kind isn't matched again for every item.
 
-ghost use Rattle.std.specs.Prelude.{◌≡◌, ◌+◌, ◌*◌, ◌<◌, IsTrue, [], ◌∷◌, length};
+ghost use Rattle.std.specs.Prelude.{◌≡◌, ◌+◌, ◌*◌, ◌<◌, IsTrue, [], ◌∷◌, length, slice_index};
 ghost use Rattle.btf_raw.specs.KindNumbers as kinds;
 ghost use Rattle.btf_raw.specs.Kinds.{one_of, item_words, is_struct};
 ghost use Rattle.btf_raw.specs.Frames.{IsFrame, kind, vlen};
@@ -15,18 +15,20 @@ use crate::record_words::Record;
 use crate::tables::section::Section;
 use btf_raw::{BtfCause, DATASEC, FUNC_PROTO};
 
-/// The index of the first faulty field of member `k` (from 0) of a STRUCT or UNION, and its
-/// cause. The name, the type and the offset field are checked in this order.
+/// The index of the first faulty field of member `k` (from 0) of a STRUCT or UNION of `size` bytes,
+/// and its cause. The name, the type and the offset field are checked in this order.
 #[tactic(auto, using(crate::proofs::JudgeLemmas::RecordSteps::members_end))]
 #[inline(always)]
 fn member_fault(
     section: &Section,
     this: &Record,
+    size: u32,
     bit_fields: bool,
     k: usize,
 ) -> Option<(usize, BtfCause)>
     requires frame { IsFrame this.now }
     requires kind { IsTrue (is_struct (kind this.now)) }
+    requires size { size ≡ slice_index this.now 2 }
     requires bit_fields { BitFieldsAre this.now bit_fields }
     requires there { k < vlen this.now }
     ensures { FirstWithin section.now this.now (3 + 3 * k) (6 + 3 * k) result }
@@ -43,24 +45,25 @@ fn member_fault(
     let flag = this.kind_flag();
     let bit_offset = bit_offset_of(flag, offset);
     let width = width_of(flag, offset);
-    match member_place_fault(this.word(2), bit_offset, width) {
+    match member_place_fault(size, bit_offset, width) {
         Some(cause) => Some((5 + 3 * k, cause)),
         None => None,
     }
 }
 
-/// The index of the first faulty field in the members of a STRUCT or UNION, and its cause. Whether
-/// the record has bit-fields is determined once, before any member is checked.
+/// The index of the first faulty field in the members of a STRUCT or UNION, and its cause. The size
+/// of the record, and whether it has bit-fields, are determined once, before any member is checked.
 #[tactic(auto, using(crate::proofs::JudgeLemmas::RecordSteps::members_first))]
 pub fn members_fault(section: &Section, this: &Record) -> Option<(usize, BtfCause)>
     requires frame { IsFrame this.now }
     requires kind { IsTrue (is_struct (kind this.now)) }
     ensures { FirstWithin section.now this.now 3 (length this.now) result }
 {
+    let size = this.word(2);
     let bit_fields = this.has_bit_fields();
     let count = usize::from(this.vlen());
     for k in 0..count {
-        if let Some(found) = member_fault(section, this, bit_fields, k) {
+        if let Some(found) = member_fault(section, this, size, bit_fields, k) {
             return Some(found);
         }
     }

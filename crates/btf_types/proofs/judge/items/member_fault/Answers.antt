@@ -51,7 +51,7 @@ returns-in-Some-member_place_fault c =
     (before_place c.args.section.now is c.requires.kind k c.requires.there c.args.bit_fields (rw c.word-name.ensures at c.in_default.ensures) c.requires.bit_fields
     (rw c.word-target.ensures at c.in_default-member_type_fault.ensures))
     (member_place_role _ k c.requires.kind)
-    (rw (c.bit_offset_of-bit_offset.ensures, c.width_of-width.ensures, c.kind_flag-flag.ensures, c.word-offset.ensures, c.word.ensures) at c.in-Some-member_place_fault.ensures)
+    (rw (c.bit_offset_of-bit_offset.ensures, c.width_of-width.ensures, c.kind_flag-flag.ensures, c.word-offset.ensures, c.requires.size) at c.in-Some-member_place_fault.ensures)
 
 pub returns-in-None : goal.returns-in-None
 returns-in-None c =
@@ -62,4 +62,4 @@ returns-in-None c =
     (before_place c.args.section.now is c.requires.kind k c.requires.there c.args.bit_fields (rw c.word-name.ensures at c.in_default.ensures) c.requires.bit_fields
     (rw c.word-target.ensures at c.in_default-member_type_fault.ensures))
     (member_place_role _ k c.requires.kind)
-    (rw (c.bit_offset_of-bit_offset.ensures, c.width_of-width.ensures, c.kind_flag-flag.ensures, c.word-offset.ensures, c.word.ensures) at c.in-None.ensures)
+    (rw (c.bit_offset_of-bit_offset.ensures, c.width_of-width.ensures, c.kind_flag-flag.ensures, c.word-offset.ensures, c.requires.size) at c.in-None.ensures)
