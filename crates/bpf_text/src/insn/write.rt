@@ -65,7 +65,8 @@ impl Line {
     {
         let start = self.start - 1;
         self.bytes[start] = byte;
-        // Stored last, here and in `text`: after a store that may alias it, it would be loaded again.
+        // Stored last, here and in `text`: after a store that may alias it, the compiler would load
+        // it again.
         self.start = start;
     }
 

@@ -20,6 +20,7 @@ use btf_types::{Head, Item, TypeTable};
 use std::alloc::{AllocError, Allocator};
 
 /// Appends the words after the third that belong to the kind and precede the items.
+#[rattlefmt::skip]
 fn push_further_words<A: Allocator>(
     out: &mut Vec<u8, A>,
     order: Order,
@@ -29,17 +30,9 @@ fn push_further_words<A: Allocator>(
         ≡ out.old.items ++ bytes_of order (head_tail (head_value head.entry))) }
 {
     match head {
-        Head::KInt {
-            encoding,
-            offset,
-            bits,
-            ..
-        } => push_words(out, order, &[int_word(encoding, offset, bits)]),
-        Head::KArray {
-            target,
-            index,
-            count,
-        } => push_words(out, order, &[target, index, count]),
+        Head::KInt { encoding, offset, bits, .. } =>
+            push_words(out, order, &[int_word(encoding, offset, bits)]),
+        Head::KArray { target, index, count } => push_words(out, order, &[target, index, count]),
         Head::KVar { linkage, .. } => push_words(out, order, &[linkage.number()]),
         Head::KDeclTag { component, .. } => push_words(out, order, &[component_word(component)]),
         _ => Ok(()),
