@@ -156,9 +156,9 @@ enum bpfcanon_group {
 };
 
 /*
- * What a call returns. All other fields are 0. `pos` is the offset that docs/FAULTS.md states for
- * the cause. That of BPFCANON_INSN_TRUNCATED is the first byte of the
- * 8-byte slot that the input ends in, and not the end of the input.
+ * What a call returns. Fields that the call or its status doesn't set are 0. `pos` is the offset
+ * that docs/FAULTS.md states for the cause. For BPFCANON_INSN_TRUNCATED that is the first byte of
+ * the 8-byte slot in which the input ends, and not the end of the input.
  */
 typedef struct bpfcanon_answer {
 	uint32_t status; /* enum bpfcanon_status */

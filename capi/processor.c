@@ -20,7 +20,7 @@ __attribute__((constructor)) static void check_processor(void)
 
 	if (__get_cpuid(1, &eax, &ebx, &ecx, &edx) && (ecx & needed) == needed)
 		return;
-	/* If the write fails, the status says it alone. */
+	/* If the write fails, only the status says so. */
 	(void)!write(STDERR_FILENO, refused, sizeof refused - 1);
 	_exit(3);
 }

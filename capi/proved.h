@@ -1,7 +1,7 @@
 /*
  * The calls that are written in Rattle (crates/bpfcanon_c), for bpfcanon.c only: this header is
- * not installed, and the library doesn't export them. They are those of bpfcanon.h with the same
- * names, but no pointer is null, even if its length is 0.
+ * not installed, and the library doesn't export them. They are those of bpfcanon.h with proved_ in
+ * their names and uint8_t for characters. No pointer may be null, even if its length is 0.
  */
 #ifndef BPFCANON_PROVED_H
 #define BPFCANON_PROVED_H

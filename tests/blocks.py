@@ -46,7 +46,7 @@ CALLS = {
     "README.md": [["rt run -- insn-canon --order big"], ["verify"]],
     "bench/README.md": [["bench/run"]],
     "docs/BUILDING.md": [["rt run"], ["capi/archive", BUILD], ["capi/archive aarch64", "capi/build PREFIX"], ["verify"], ["release"]],
-    "docs/CHANGING.md": [["rt try --test", "rt check --only judge::allows_src", "rt check", "rt fmt", "rt tidy"]],
+    "docs/CHANGING.md": [["rt try --test", "rt check --only form::allows_src", "rt check", "rt fmt", "rt tidy"]],
     "bindings/go/README.md": [
         [f"tar xf bpfcanon-go-{VERSION}.tar.xz", f"{REQUIRE}./bpfcanon-go-{VERSION}"],
         [BUILD],

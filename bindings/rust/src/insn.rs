@@ -15,8 +15,8 @@ pub type Error = crate::Error<Cause>;
 pub type ListingError = crate::Error<ListingCause>;
 
 call::causes! {
-    /// Why instructions are refused: the first field whose value no instruction has beside the
-    /// fields before it. `docs/FAULTS.md` says what to do about each cause.
+    /// Why instructions are refused: the first field such that no instruction matches the bytes in
+    /// every field up to and including it. `docs/FAULTS.md` says what to do about each cause.
     Cause, "byte", sys::bpfcanon_insn_cause_name, sys::bpfcanon_insn_cause_text;
     /// The input ends inside an instruction. The position is that of the slot that is cut.
     Truncated = 1,

@@ -37,7 +37,7 @@ pub fn get32(order: Order, bytes: &[u8], pos: usize) -> u32
     }
 }
 
-/// Appends the two bytes of a 16-bit word.
+/// Appends the two bytes of a 16-bit word in the byte order `order` (btf.rst section 2).
 ///
 /// # Errors
 ///
@@ -58,7 +58,7 @@ pub fn push16<A: Allocator>(
     out.extend_from_slice(&word)
 }
 
-/// Appends the four bytes of a 32-bit word.
+/// Appends the four bytes of a 32-bit word in the byte order `order` (btf.rst section 2).
 ///
 /// # Errors
 ///

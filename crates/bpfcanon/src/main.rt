@@ -53,8 +53,9 @@ fn run_words<S: ByteSource, W: ByteSink, E: ByteSink>(
     ExitCode::from(command::command(alloc, words, source, sink, faults))
 }
 
-/// Runs the command line of the process. If the argument vector can't be read or is empty, writes
-/// the line `no words` to standard error and exits with status 3.
+/// Runs the command line of the process. If the argument vector is empty, can't be read, or can't
+/// be stored because memory ran out, writes the line `no words` to standard error and exits with
+/// status 3.
 fn main(rt: HostRuntime) -> ExitCode {
     let alloc = rt.alloc();
     let mut faults = WriterSink::new(rt.stderr());

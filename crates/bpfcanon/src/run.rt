@@ -43,7 +43,13 @@ fn answer<A: Allocator + Copy, W: ByteSink>(
     }
 }
 
-/// Runs a job from a source to a sink.
+/// Runs a job from a source to a sink, and returns how it ended.
+///
+/// If the outcome is a fault, `TooLong` or `SplitBeyond`, only `insn-canon` may have written
+/// output. On `ReadFailed`, `WriteFailed` and `Memory` the output may be incomplete. Offsets in
+/// faults are in bytes from the start of that file.
+///
+/// Before the call, each device must have failed fewer than `u64::MAX` times.
 pub fn run_job<A: Allocator + Copy, S: ByteSource, W: ByteSink>(
     alloc: A,
     job: Job,

@@ -161,7 +161,8 @@ pub fn order_from(number: u32) -> Option<Order>
     }
 }
 
-/// Copies an output to the start of a buffer that is long enough.
+/// Copies an output to the start of a buffer. Returns `Written` with its length in bytes, or `Room`
+/// with that length if the buffer is shorter, which is then unchanged.
 pub fn put(bytes: &[u8], room: &mut [u8]) -> Ending
     ensures { FillsRoom bytes.now room.old room.new result }
 {

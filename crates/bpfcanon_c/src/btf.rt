@@ -10,8 +10,14 @@ use bpf_insn::Order;
 use btf_types::{BtfError, BtfView, TypeTable};
 use std::alloc::Global;
 
-/// Writes the canonical form of a BTF file in the byte order `to` at the start of `out`. It is no
-/// longer than the file.
+/// Writes the canonical form of a BTF file (btf.rst section 2) in the byte order `to` at the start
+/// of `out`. It is no longer than the file.
+///
+/// # Errors
+///
+/// Status 6 if `to` is neither 0 nor 1; 2 with the first fault of the file, its offset in bytes
+/// from the start of `bytes`; 4 if memory runs out; 5 with the length of the output if `out` is
+/// shorter. `out` is then unchanged.
 #[unsafe(no_mangle)]
 pub extern "C" fn bpfcanon_proved_btf_canon(
     alloc: Global,
@@ -39,7 +45,12 @@ fn btf_in(alloc: Global, to: Order, bytes: &[u8], out: &mut [u8]) -> Ending
     }
 }
 
-/// Counts the types of a BTF file, or reports its first fault.
+/// Counts the types of a BTF file (btf.rst section 2), without void.
+///
+/// # Errors
+///
+/// Status 2 with the first fault of the file, its offset in bytes from the start of `bytes`; 4 if
+/// memory runs out.
 #[unsafe(no_mangle)]
 pub extern "C" fn bpfcanon_proved_btf_check(alloc: Global, bytes: &[u8]) -> Answer
     ensures { AnswersBtfCheck bytes.now result }
@@ -51,7 +62,13 @@ pub extern "C" fn bpfcanon_proved_btf_check(alloc: Global, bytes: &[u8]) -> Answ
     })
 }
 
-/// Whether two BTF files have the same types.
+/// Whether two BTF files (btf.rst section 2) have the same types in the same order: status 0 if
+/// they do, and 1 if they don't.
+///
+/// # Errors
+///
+/// Status 2 with the first fault of `first`; 3 with that of `second` if `first` has none; 4 if
+/// memory runs out. Offsets are in bytes from the start of that file.
 #[unsafe(no_mangle)]
 pub extern "C" fn bpfcanon_proved_btf_same(alloc: Global, first: &[u8], second: &[u8]) -> Answer
     ensures { AnswersSameBtf first.now second.now result }

@@ -26,8 +26,16 @@ pub enum FrontEnding {
     Order,
 }
 
-/// Writes the complete instructions at the start of a buffer in the byte order `to`. To read a
-/// stream in pieces, prepend the bytes that were not read, fewer than 16, to the next piece.
+/// Writes the complete instructions at the start of `bytes` (RFC 9669 section 3), which are in the
+/// byte order `order`, in the byte order `to` at the start of `out`. To read a stream in pieces,
+/// prepend the bytes that were not read, fewer than 16, to the next piece.
+///
+/// # Errors
+///
+/// Status 6 if `order` or `to` is neither 0 nor 1; 2 with a fault that remains whatever bytes
+/// follow, its offset in bytes from the start of `bytes`, after the instructions before it are
+/// written; 4 if memory runs out; 5 with the length of the output if `out` is shorter. With 4, 5
+/// and 6 `out` is unchanged.
 #[unsafe(no_mangle)]
 pub extern "C" fn bpfcanon_proved_insn_front(
     alloc: Global,

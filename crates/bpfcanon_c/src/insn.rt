@@ -13,7 +13,14 @@ use bpf_insn::{Group, GroupSet, InsnError, Order, groups_in};
 use std::alloc::Global;
 
 /// Writes the instructions of a file, which is in the byte order `order`, in the byte order `to` at
-/// the start of `out`. They are as long as the file. Little-endian bytes are canonical.
+/// the start of `out` (RFC 9669 section 3). They are as long as the file. Little-endian bytes are
+/// canonical.
+///
+/// # Errors
+///
+/// Status 6 if `order` or `to` is neither 0 nor 1; 2 with the first fault of the file, its offset
+/// in bytes from the start of `bytes`; 4 if memory runs out; 5 with the length of the output if
+/// `out` is shorter. `out` is then unchanged.
 #[unsafe(no_mangle)]
 pub extern "C" fn bpfcanon_proved_insn_canon(
     alloc: Global,
@@ -48,6 +55,11 @@ fn insns_in(alloc: Global, order: Order, to: Order, bytes: &[u8], out: &mut [u8]
 /// The conformance groups (RFC 9669 section 2.4) that the instructions of a file need, as a mask of
 /// 7 bits from the lowest: base32, base64, atomic32, atomic64, divmul32, divmul64, packet. It
 /// allocates nothing.
+///
+/// # Errors
+///
+/// Status 6 if `order` is neither 0 nor 1; 2 with the first fault of the file, its offset in bytes
+/// from the start of `bytes`.
 #[unsafe(no_mangle)]
 pub extern "C" fn bpfcanon_proved_insn_groups(order: u32, bytes: &[u8]) -> Answer
     ensures { AnswersGroups order bytes.now result }
@@ -85,7 +97,13 @@ fn mask_of(set: &GroupSet) -> u32
     widths + atomics + divisions + bit(set, Group::Packet, 64)
 }
 
-/// Whether two instruction files, each in its own byte order, have the same instructions.
+/// Whether two instruction files (RFC 9669 section 3), each in its own byte order, have the same
+/// instructions: status 0 if they do, and 1 if they don't. It allocates nothing.
+///
+/// # Errors
+///
+/// Status 6 if a byte order is neither 0 nor 1; 2 with the first fault of `first`; 3 with that of
+/// `second` if `first` has none. Offsets are in bytes from the start of that file.
 #[unsafe(no_mangle)]
 pub extern "C" fn bpfcanon_proved_insn_same(
     alloc: Global,

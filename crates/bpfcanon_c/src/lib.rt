@@ -2,8 +2,8 @@
 //! each slice is a pointer that is never null, followed by its length. The public calls of
 //! `capi/bpfcanon.h` are C around these.
 //!
-//! No call keeps or returns memory: output goes into a buffer of the caller.
-//! Offsets count bytes from the first of the input, and statuses and causes are numbers.
+//! No call keeps or returns memory: output goes into a buffer of the caller. Offsets are in bytes
+//! from the start of the input, and statuses and causes are numbers.
 #![tactic(auto)]
 
 mod answer;

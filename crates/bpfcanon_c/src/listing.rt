@@ -9,8 +9,15 @@ use bpf_insn::{InsnError, Order, decode_insns};
 use bpf_text::{LineFault, ListError, listing, read_listing_bytes};
 use std::alloc::Global;
 
-/// Writes the listing of the instructions of a file, which is in the byte order `order`, at the
-/// start of `out`: a line for each, with a newline. A listing is longer than its file.
+/// Writes the listing of the instructions of a file (RFC 9669), which is in the byte order `order`,
+/// at the start of `out`: a line for each, with a newline. A listing is at most 4 times as long as
+/// its file.
+///
+/// # Errors
+///
+/// Status 6 if `order` is neither 0 nor 1; 2 with the first fault of the file, its offset in bytes
+/// from the start of `bytes`; 4 if memory runs out; 5 with the length of the listing if `out` is
+/// shorter. `out` is then unchanged.
 #[unsafe(no_mangle)]
 pub extern "C" fn bpfcanon_proved_insn_show(
     alloc: Global,
@@ -41,8 +48,14 @@ fn listing_in(alloc: Global, order: Order, bytes: &[u8], out: &mut [u8]) -> Endi
     }
 }
 
-/// Writes the instructions of a listing in the byte order `to` at the start of `out`. A fault has
-/// the number of its line.
+/// Writes the instructions of a listing (docs/FORMATS.md, "Reading a listing") in the byte order
+/// `to` at the start of `out`. They are at most twice as long as the listing.
+///
+/// # Errors
+///
+/// Status 6 if `to` is neither 0 nor 1; 2 with the first faulty line, counted from 1, and its
+/// cause; 4 if memory runs out; 5 with the length of the output if `out` is shorter. `out` is then
+/// unchanged.
 #[unsafe(no_mangle)]
 pub extern "C" fn bpfcanon_proved_insn_read(
     alloc: Global,

@@ -47,7 +47,8 @@ impl<'a> Record<'a> {
         }
     }
 
-    /// Word `j`, counted from 0.
+    /// Word `j`, counted from 0. The record must have that many words: the first three, then what
+    /// its kind and vlen determine (`btf_raw`'s `tail_words`).
     #[tactic(auto, using(crate::proofs::JudgeLemmas::FramingSteps::words_of_frame))]
     #[inline(always)]
     pub fn word(&self, j: usize) -> u32

@@ -18,7 +18,8 @@ pub const BTF_LIMIT: u64 = 50_335_744;
 
 /// Reads a BTF file until the source ends, writes its canonical bytes in the byte order `to`
 /// (btf.rst section 2), and returns the number of bytes written. Each read has a buffer of 4,096
-/// bytes, each write offers all the remaining bytes, and the entire input is kept in memory.
+/// bytes, each write offers all the remaining bytes, and the entire input is kept in memory. Before
+/// the call, each device must have failed fewer than `u64::MAX` times.
 ///
 /// # Errors
 ///

@@ -38,7 +38,8 @@ impl<W: ByteSink> ByteSink for &mut W {
     }
 }
 
-/// Writes all the bytes. Each write offers all the remaining bytes.
+/// Writes all the bytes. Each write offers all the remaining bytes. Before the call, the sink must
+/// have failed fewer than `u64::MAX` times.
 ///
 /// # Errors
 ///

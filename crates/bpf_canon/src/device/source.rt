@@ -73,6 +73,7 @@ impl<T: Drop> From<AllocFailed<T>> for ReadError {
 }
 
 /// Reads until the source ends, and returns all its bytes. Each read has a buffer of 4,096 bytes.
+/// Before the call, the source must have failed fewer than `u64::MAX` times.
 ///
 /// # Errors
 ///

@@ -142,8 +142,8 @@ impl InsnFeed {
     ///
     /// # Errors
     ///
-    /// The fault that `feed` returned before, or `Truncated` with the offset in bytes from the
-    /// start of the stream of the slot whose bytes are missing.
+    /// The fault that `feed` returned before; otherwise `Truncated` if the last instruction is
+    /// incomplete, with the offset of its incomplete slot in bytes from the start of the stream.
     pub fn finish(self) -> Result<u64, SlotFault>
         ensures end { result ≡ end_of_feed self }
         ensures answer { (o to : Order) (b : List ℕ) → Represents self o to b

@@ -17,7 +17,8 @@ pub const INSN_LIMIT: u64 = 67_108_864;
 
 /// Reads instructions in one byte order until the source ends, writes each in another as soon as it
 /// is complete (RFC 9669 section 3), and returns the number of bytes written. Each read has a
-/// buffer of 4,096 bytes, and the input isn't kept in memory.
+/// buffer of 4,096 bytes, and the input isn't kept in memory. Before the call, each device must
+/// have failed fewer than `u64::MAX` times.
 ///
 /// # Errors
 ///

@@ -1,5 +1,4 @@
--- The string table of a canonical section, and the offset of a name in it. Everything else cites these two definitions, so the table can be changed
--- in this file only.
+-- The string table of a canonical section, and the offset of a name in it: what canonical bytes are defined by.
 use Rattle.std.specs.Prelude.{ℕ, List}
 use Rattle.btf_types.specs.{Names.names, Values.TypeRecord, strings.SharedNames.shared_table, strings.SharedNames.shared_place}
 

@@ -21,7 +21,7 @@ pub record IsCutInto (section : List ℕ) (strings : List (List ℕ)) : Type 0 w
 abbrev pub HasName : List ℕ → List ℕ → Type 0
 HasName section x = (offset : ℕ) × NameAt section offset x
 
--- a section that ends with NUL can be cut
+-- a section that begins and ends with NUL can be cut
 abbrev pub SectionsAreCut : List ℕ → Type 0
 SectionsAreCut section = HasNulEnds section → (strings : List (List ℕ)) × IsCutInto section strings
 
@@ -62,7 +62,7 @@ pub record IsLeastHost (xs : List (List ℕ)) (x h : List ℕ) : Type 0 where
   pub suffix : is_suffix x h ≡ true
   pub least : (g : List ℕ) → Contains (hosts xs) g → is_suffix x g ≡ true → is_lt (tail_cmp g h) ≡ false
 
--- the host of a name is the least name that ends with it
+-- the host of a name is the least stored name that ends with it
 abbrev pub HostIsLeast : List (List ℕ) → Type 0
 HostIsLeast xs = (x : List ℕ) → Contains (kept xs) x → IsLeastHost xs x (host xs x)
 

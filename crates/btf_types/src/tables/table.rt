@@ -68,7 +68,8 @@ pub struct FileSections<'a> {
 }
 
 impl<'a> FileSections<'a> {
-    /// The record at the offset `pos` of the types.
+    /// The record at `pos`, an offset in bytes from the start of `types`, which must be that of a
+    /// record: one of `places` if a table returned the sections.
     pub fn record_at(&self, pos: usize) -> Record<'a>
         requires { HasFrame self.now pos }
         ensures { result ≡ frame_of self.now pos }

@@ -64,9 +64,9 @@ fn find_within<A: Allocator>(
     }
 }
 
-/// Finds the hosts of the ranks before the first one whose string is equal to another, or has a
-/// name that begins inside it; most files have no such rank. The host of a string in these ranks is
-/// the next host from its rank on. Returns the number of these ranks.
+/// Finds the hosts of the ranks before the first one whose string is equal to that of the previous
+/// rank, or has a name that begins inside it; most files have no such rank. The host of a string in
+/// these ranks is the next host from its rank on. Returns the number of these ranks.
 fn find_alone<A: Allocator>(
     uses: &UsedOffsets<A>,
     ranked: &RankedTexts<'_, A>,

@@ -145,7 +145,8 @@ fn next_hosts<A: Allocator>(
     Ok(host_ranks)
 }
 
-/// For each rank the last rank before it with a shorter common suffix.
+/// For each rank the last rank before it with a shorter common suffix, or the rank itself if its
+/// common suffix is empty.
 pub(crate) fn lower_ranks<A: Allocator>(alloc: A, common: &[u32]) -> Result<Vec<u32, A>, AllocError>
     requires first { slice_index common.now 0 ≡ 0 }
     requires few { length common.now < 2 ^ 32 }

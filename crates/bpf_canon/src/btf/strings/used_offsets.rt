@@ -71,7 +71,8 @@ impl<A: Allocator + Copy> FirstUses<A> {
 /// The used offsets of a section in the order of first use, and the number of each in ascending
 /// order. No offset can be added, since the numbers of others would change.
 ///
-/// It needs one bit for each byte of the section, and four bytes for each 64 of them.
+/// It needs one bit for each byte of the section, four bytes for each 64 of them, and four bytes
+/// for each used offset.
 #[derive(Drop)]
 pub(crate) struct UsedOffsets<A: Allocator> {
     section_len: usize,
