@@ -51,17 +51,11 @@ pub fn insn_front(order: Order, bytes: &[u8]) -> InsnFront
                 count += 1 + plain as u64 / 8;
             }
             Err(fault) => {
-                return InsnFront {
-                    len,
-                    count,
-                    stop: Some(fault),
-                };
+                let stop = Some(fault);
+                return InsnFront { len, count, stop };
             }
         }
     }
-    InsnFront {
-        len,
-        count,
-        stop: None,
-    }
+    let stop = None;
+    InsnFront { len, count, stop }
 }
