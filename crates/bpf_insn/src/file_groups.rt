@@ -44,20 +44,6 @@ impl FoundGroups {
         }
     }
 
-    /// Adds the group of an instruction that has this opcode.
-    #[tactic(auto, using(crate::proofs::OpcodeGroups::settles))]
-    fn add(&mut self, opcode: u8, insn: Insn)
-        requires opcode { opcode ≡ (fields_of insn).opcode }
-        requires settled { AreSettled self.old.settled self.old.set }
-        ensures added { (g : Group)
-            → IsTrue (holds self.new.set g)
-            ↔ (IsTrue (holds self.old.set g) ⊎ Brings (group_of insn) g) }
-        ensures settled { AreSettled self.new.settled self.new.set }
-    {
-        self.set.add(group_of(insn));
-        self.settled[opcode as usize] = opcode_has_group(insn);
-    }
-
     /// Decodes the instruction at offset `pos`, adds its group and returns its length in bytes.
     #[inline(never)]
     fn read_at(&mut self, order: Order, bytes: &[u8], pos: usize) -> Result<usize, SlotFault>
@@ -69,7 +55,8 @@ impl FoundGroups {
         ensures fault { IfErr result (IsFaultAt order bytes.now pos) }
     {
         let (insn, len) = read_at(order, bytes, pos)?;
-        self.add(bytes[pos], insn);
+        self.set.add(group_of(insn));
+        self.settled[bytes[pos] as usize] = opcode_has_group(insn);
         Ok(len)
     }
 
