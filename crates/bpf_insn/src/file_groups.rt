@@ -33,17 +33,6 @@ struct FoundGroups {
 }
 
 impl FoundGroups {
-    /// No groups and no settled opcodes.
-    fn none() -> FoundGroups
-        ensures set { (g : Group) → ¬ IsTrue (holds result.set g) }
-        ensures settled { AreSettled result.settled result.set }
-    {
-        FoundGroups {
-            set: GroupSet::empty(),
-            settled: [false; 256],
-        }
-    }
-
     /// Decodes the instruction at offset `pos`, adds its group and returns its length in bytes.
     #[inline(never)]
     fn read_at(&mut self, order: Order, bytes: &[u8], pos: usize) -> Result<usize, SlotFault>
@@ -122,7 +111,10 @@ pub fn groups_in(order: Order, bytes: &[u8]) -> Result<GroupSet, SlotFault>
     ensures all { (l : List Insn) → InsnFile order bytes.now l → IsOk result }
     ensures fault { IfErr result (IsInsnFault order bytes.now) }
 {
-    let mut found = FoundGroups::none();
+    let mut found = FoundGroups {
+        set: GroupSet::default(),
+        settled: [false; 256],
+    };
     let mut pos = 0;
     while pos < bytes.len() {
         let next = pos + found.add_at(order, bytes, pos)?;

@@ -52,22 +52,10 @@ impl Iterator for Groups {
     }
 }
 
-/// The number of these groups that are in a set.
-fn count_held(set: GroupSet, groups: &[Group]) -> usize
-    ensures { result ≡ length (filter (holds set) groups.now) }
-{
-    let mut count = 0;
-    for group in groups {
-        if set.has(*group) {
-            count += 1;
-        }
-    }
-    count
-}
-
 impl ExactSizeIterator for Groups {
     fn len(&self) -> usize {
-        count_held(self.set, self.rest)
+        let set = self.set;
+        self.rest.iter().filter(|group| set.has(**group)).count()
     }
 }
 
@@ -136,22 +124,13 @@ impl IntoIterator for &GroupSet {
     }
 }
 
-/// The empty set.
-impl Default for GroupSet {
-    ghost is_default = { λ set. (g : Group) → ¬ IsTrue (holds set g) };
-
-    fn default() -> GroupSet {
-        GroupSet::empty()
-    }
-}
-
 /// The set of these groups and of those that they include: base64, atomic64 and divmul64 include
 /// base32, atomic32 and divmul32 (RFC 9669 section 2.4).
 impl From<&[Group]> for GroupSet {
     ghost from_gives = { λ groups set. IsSetOf groups.now set };
 
     fn from(groups: &[Group]) -> GroupSet {
-        let mut set = GroupSet::empty();
+        let mut set = GroupSet::default();
         for group in groups {
             set.add(*group);
         }

@@ -1,6 +1,12 @@
 use Rattle.std.proofs.Common.{arith, rules}
-use Rattle.bpf_insn.proofs.FileGroups.{moved_on, fault_here}
+use Rattle.bpf_insn.proofs.{FileGroups.moved_on, FileGroups.fault_here, OpcodeGroups.none_settled}
 use Rattle.bpf_insn.proofs.file_groups.groups_in.Goals as goal
+
+pub loop-pos-init : goal.loop-pos-init
+loop-pos-init c =
+    let settled = none_settled c.default.result in
+    let none = c.default.ensures in
+    search rules
 
 pub loop-pos-smaller : goal.loop-pos-smaller
 loop-pos-smaller c =
