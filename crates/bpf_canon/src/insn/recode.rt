@@ -17,7 +17,8 @@ use std::alloc::Allocator;
 const LOW_BYTES: u64 = 0x00ff_00ff_00ff_0000;
 
 /// Appends the instructions of valid `bytes` in the byte order `order`, re-encoded in the byte
-/// order `to`. Their capacity is reserved.
+/// order `to`. Their capacity is reserved. All slots are copied at once, and then rewritten in
+/// place.
 pub(crate) fn append_recoded<A: Allocator>(
     order: Order,
     to: Order,
@@ -28,23 +29,11 @@ pub(crate) fn append_recoded<A: Allocator>(
     ensures { (insns : List Insn) → InsnFile order bytes.now insns
         → out.new.items ≡ out.old.items ++ file_of to insns }
 {
-    if order == to {
-        let _ = out.extend_from_slice(bytes);
-    } else {
-        append_swapped(bytes, out);
-    }
-}
-
-/// Appends each slot in the other byte order. All slots are copied at once, and then rewritten in
-/// place.
-fn append_swapped<A: Allocator>(bytes: &[u8], out: &mut Vec<u8, A>)
-    requires { vec_len out.old + length bytes.now ≤ vec_capacity out.old }
-    ensures { (order to : Order) (insns : List Insn) → order ≢ to → InsnFile order bytes.now insns
-        → out.new.items ≡ out.old.items ++ file_of to insns }
-{
     let start = out.len();
     let _ = out.extend_from_slice(bytes);
-    swap_slots(&mut out[start..]);
+    if order != to {
+        swap_slots(&mut out[start..]);
+    }
 }
 
 /// Rewrites each slot in the other byte order.
