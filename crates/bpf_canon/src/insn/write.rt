@@ -1,6 +1,6 @@
 //! Encoding of instructions.
-ghost use Rattle.std.specs.Prelude.{◌≡◌, ◌≤◌, ◌+◌, ◌++◌, length, vec_len, vec_capacity, IfOk, OnOk};
-ghost use Rattle.bpf_insn.specs.{Table.IsInsn, Spelling.InsnFile, Spelling.spelling};
+ghost use Rattle.std.specs.Prelude.{◌≡◌, ◌≤◌, ◌+◌, ◌++◌, length, vec_len, vec_capacity, IfOk};
+ghost use Rattle.bpf_insn.specs.Spelling.{InsnFile, spelling};
 
 use bpf_insn::{Insn, Order, insn_bytes};
 use std::alloc::{AllocError, Allocator};
@@ -19,18 +19,10 @@ pub fn write_insns<A: Allocator>(
 {
     let mut bytes = Vec::new(alloc);
     for insn in insns {
-        push_insn(&mut bytes, order, *insn)?;
+        let spelled = insn_bytes(order, *insn);
+        bytes.extend_from_slice(&spelled.0[..spelled.1])?;
     }
     Ok(bytes)
-}
-
-/// Appends the bytes of an instruction.
-fn push_insn<A: Allocator>(out: &mut Vec<u8, A>, order: Order, insn: Insn) -> Result<(), AllocError>
-    ensures ok { OnOk result (out.new.items ≡ out.old.items ++ spelling order insn) }
-    ensures in_range { IsInsn insn }
-{
-    let spelled = insn_bytes(order, insn);
-    out.extend_from_slice(&spelled.0[..spelled.1])
 }
 
 /// Appends the bytes of an instruction. Their capacity is reserved.
