@@ -1,6 +1,5 @@
 //! Instructions from a source to a sink.
-ghost use Rattle.std.specs.Prelude.{◌≡◌, ◌<◌, ◌≤◌, ◌+◌, ◌-◌, length, min, IfOk, IfErr, OnOk};
-ghost use Rattle.std.specs.Prelude.{IsNone};
+ghost use Rattle.std.specs.Prelude.{◌≡◌, ◌<◌, ◌≤◌, ◌+◌, length, IfOk, IfErr, IsNone, OnOk};
 ghost use Rattle.bpf_canon.specs.Engine.{devices, counts_read, counts_write};
 ghost use Rattle.bpf_canon.specs.insn.{Run.RanWhole, Run.Stops, Passed.Passed, Passed.PassStops};
 
@@ -68,7 +67,7 @@ pub fn run_insns<A: Allocator, S: ByteSource, W: ByteSink>(
             Ok(n) => n,
             Err(DeviceFailed) => return Err(stopped(RunCause::ReadFailed, written)),
         };
-        let within = within_limit(n, feed.fed());
+        let within = n.min((INSN_LIMIT - feed.fed()) as usize);
         match pass_on(&mut feed, &buffer[..within], &mut out, sink) {
             Ok(more) => written += more,
             Err(stop) => return Err(stopped(stop.cause, written + stop.written)),
@@ -81,14 +80,6 @@ pub fn run_insns<A: Allocator, S: ByteSource, W: ByteSink>(
         Ok(_) => Ok(written),
         Err(fault) => Err(stopped(RunCause::Fault(fault), written)),
     }
-}
-
-/// How many of the next `n` bytes are within the limit, after `before` bytes of input.
-fn within_limit(n: usize, before: u64) -> usize
-    requires { before ≤ INSN_LIMIT }
-    ensures { result ≡ min n (INSN_LIMIT - before) }
-{
-    n.min((INSN_LIMIT - before) as usize)
 }
 
 /// Feeds a piece, and writes the instructions that are now complete. The vector is reused for each

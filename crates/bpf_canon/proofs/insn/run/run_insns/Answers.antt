@@ -10,37 +10,37 @@ returns-in-Err-clause-err g c =
 
 pub overflow_add-written : goal.overflow_add-written
 overflow_add-written g c =
-    let inside : c.within_limit-within.result ≡ min c.in-Ok.n (limit - c.reads.feed.fed) = rw c.fed.ensures at c.within_limit-within.ensures in
+    let inside : c.min-within.result ≡ min c.in-Ok.n (limit - c.reads.feed.fed) = rw c.fed.ensures at c.min-within.ensures in
     let room : c.in-Ok.n ≤ length c.read.new.buffer = search rules in
-    let size = length-take-le c.within_limit-within.result c.read.new.buffer (omega arith) in
+    let size = length-take-le c.min-within.result c.read.new.buffer (omega arith) in
     let small = passed_small _ _ _ _ _ _ _ _ _ _ _ _ c.reads.invariant.running c.in-Ok-pass_on.ensures.ok (omega (arith, size, running_within _ _ _ _ _ c.reads.invariant.running)) in
     omega (arith, small)
 
 pub overflow_add-written-in-Err-pass_on : goal.overflow_add-written-in-Err-pass_on
 overflow_add-written-in-Err-pass_on g c =
-    let inside : c.within_limit-within.result ≡ min c.in-Ok.n (limit - c.reads.feed.fed) = rw c.fed.ensures at c.within_limit-within.ensures in
+    let inside : c.min-within.result ≡ min c.in-Ok.n (limit - c.reads.feed.fed) = rw c.fed.ensures at c.min-within.ensures in
     let room : c.in-Ok.n ≤ length c.read.new.buffer = search rules in
-    let size = length-take-le c.within_limit-within.result c.read.new.buffer (omega arith) in
+    let size = length-take-le c.min-within.result c.read.new.buffer (omega arith) in
     let small = stops_small _ _ _ _ _ _ _ _ _ _ _ _ _ c.reads.invariant.running c.in-Err-pass_on.ensures.err (omega (arith, size, running_within _ _ _ _ _ c.reads.invariant.running)) in
     omega (arith, small)
 
 pub returns-in-Err-pass_on-clause-err : goal.returns-in-Err-pass_on-clause-err
 returns-in-Err-pass_on-clause-err g c =
     let run = c.reads.invariant.running in
-    let inside : c.within_limit-within.result ≡ min c.in-Ok.n (limit - c.reads.feed.fed) = rw c.fed.ensures at c.within_limit-within.ensures in
+    let inside : c.min-within.result ≡ min c.in-Ok.n (limit - c.reads.feed.fed) = rw c.fed.ensures at c.min-within.ensures in
     let room : c.in-Ok.n ≤ length c.read.new.buffer = search rules in
     let size = length-take-le c.in-Ok.n c.read.new.buffer room in
-    let cut = cut_chunk run.read c.read.new.buffer c.reads.feed.fed c.in-Ok.n c.within_limit-within.result run.represents.fed (running_within _ _ _ _ _ run) room inside in
+    let cut = cut_chunk run.read c.read.new.buffer c.reads.feed.fed c.in-Ok.n c.min-within.result run.represents.fed (running_within _ _ _ _ _ run) room inside in
     rw (c.stopped-in-Err-pass_on.ensures.cause, c.stopped-in-Err-pass_on.ensures.written)
     (run_stops _ _ _ _ _ _ _ _ _ _ _ _ _ _ _ run c.in-Ok.ensures.bytes.0 c.in-Err-pass_on.ensures.err cut (omega (arith, size, room)))
 
 pub returns-then-within-n-clause-err : goal.returns-then-within-n-clause-err
 returns-then-within-n-clause-err g c =
     let run = c.reads.invariant.running in
-    let inside : c.within_limit-within.result ≡ min c.in-Ok.n (limit - c.reads.feed.fed) = rw c.fed.ensures at c.within_limit-within.ensures in
+    let inside : c.min-within.result ≡ min c.in-Ok.n (limit - c.reads.feed.fed) = rw c.fed.ensures at c.min-within.ensures in
     let room : c.in-Ok.n ≤ length c.read.new.buffer = search rules in
     let size = length-take-le c.in-Ok.n c.read.new.buffer room in
-    let cut = cut_chunk run.read c.read.new.buffer c.reads.feed.fed c.in-Ok.n c.within_limit-within.result run.represents.fed (running_within _ _ _ _ _ run) room inside in
+    let cut = cut_chunk run.read c.read.new.buffer c.reads.feed.fed c.in-Ok.n c.min-within.result run.represents.fed (running_within _ _ _ _ _ run) room inside in
     rw (c.stopped-then-within-n.ensures.cause, c.stopped-then-within-n.ensures.written)
     (run_too_long _ _ _ _ _ _ _ _ _ _ _ _ _ _ run c.in-Ok.ensures.bytes.0 c.in-Ok-pass_on.ensures.ok cut (omega (arith, inside, c.if-within-n.true, size)) (omega (arith, size, room)))
 
