@@ -1,6 +1,5 @@
 //! In-memory devices, which read and write in pieces and fail from a chosen call on.
-ghost use Rattle.std.specs.Prelude.{◌≡◌, ◌<◌, Option, Some, length, min, Result, Ok, Err, IsErr};
-ghost use Rattle.std.specs.Prelude.{IsOk, IfOk, ◌≢◌, ◌↔◌};
+ghost use Rattle.std.specs.Prelude.{◌≡◌, ◌≢◌, ◌<◌, ◌↔◌, Some, length, min, IsErr, IsOk, IfOk};
 ghost use Rattle.std.specs.Io.{ReadsAtMost, WritesAtMost};
 ghost use Rattle.std.specs.Io.KnownBytes.{ReadConsumes, WriteAppends};
 ghost use Rattle.bpf_canon.specs.device.Device.{CountsFailure};
