@@ -51,11 +51,7 @@ pub fn recode_insns<A: Allocator>(
 {
     let mut feed = InsnFeed::new(order, to);
     let mut written = Vec::new(alloc);
-    match feed.feed(bytes, &mut written) {
-        Ok(()) => match feed.finish() {
-            Ok(_) => Ok(written),
-            Err(fault) => Err(InsnError::Fault(fault)),
-        },
-        Err(error) => Err(error),
-    }
+    feed.feed(bytes, &mut written)?;
+    feed.finish()?;
+    Ok(written)
 }

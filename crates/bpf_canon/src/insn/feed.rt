@@ -1,13 +1,10 @@
 //! Instructions from a stream in pieces.
-ghost use Rattle.std.specs.Prelude.{◌≡◌, ◌<◌, ◌≤◌, ◌+◌, ◌-◌, ◌++◌, ℕ, List, [], Option, Some, None};
-ghost use Rattle.std.specs.Prelude.{length, take, vec_len, vec_capacity, IsErrOf, IsOk, IfSome};
-ghost use Rattle.std.specs.Prelude.{IsNone, ⊤};
+ghost use Rattle.std.specs.Prelude.{◌≡◌, ◌<◌, ◌≤◌, ◌+◌, ◌++◌, ℕ, List, [], None, length, take};
+ghost use Rattle.std.specs.Prelude.{vec_len, vec_capacity, IsErrOf, IsOk, IfSome, IsNone, ⊤};
 ghost use Rattle.bpf_words.specs.declared.Order.{Order};
-ghost use Rattle.bpf_insn.specs.declared.fault.SlotFault.{SlotFault};
 ghost use Rattle.bpf_canon.specs.insn.FeedState.{FeedState, IsBetween, missing_place};
 ghost use Rattle.bpf_canon.specs.insn.FeedStream.{AnswersFor, Feeds, Finishes, Represents};
-ghost use Rattle.bpf_canon.specs.insn.FeedStream.{end_of_feed};
-ghost use Rattle.bpf_canon.specs.insn.FrontReads.{Advances};
+ghost use Rattle.bpf_canon.specs.insn.{FeedStream.end_of_feed, FrontReads.Advances};
 
 use crate::insn::front::read_front_across;
 use bpf_insn::{InsnError, Order, SlotCause, SlotFault};
@@ -120,17 +117,13 @@ impl InsnFeed {
         ensures bound { vec_len out.new
             ≤ vec_len out.old + (length self.old.held + length piece.now) }
     {
-        match self.fault {
-            Some(fault) => return Err(InsnError::Fault(fault)),
-            None => {}
+        if let Some(fault) = self.fault {
+            return Err(InsnError::Fault(fault));
         }
         if piece.is_empty() {
             return Ok(());
         }
-        match out.reserve(self.held_len + piece.len()) {
-            Ok(()) => {}
-            Err(AllocError) => return Err(InsnError::Memory),
-        }
+        out.reserve(self.held_len + piece.len())?;
         self.advance(piece, out);
         match self.fault {
             Some(fault) => Err(InsnError::Fault(fault)),
@@ -196,15 +189,7 @@ impl Clone for InsnFeed {
     ghost is_infallible = { λ _. ⊤ };
 
     fn clone(&self) -> Result<InsnFeed, AllocError> {
-        Ok(InsnFeed {
-            order: self.order,
-            to: self.to,
-            held: self.held,
-            held_len: self.held_len,
-            fed: self.fed,
-            count: self.count,
-            fault: self.fault,
-        })
+        Ok(InsnFeed { ..*self })
     }
 }
 

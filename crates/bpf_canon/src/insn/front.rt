@@ -1,6 +1,6 @@
 //! The complete instructions at the start of a buffer, read in one byte order and written in
 //! another.
-ghost use Rattle.std.specs.Prelude.{◌≡◌, ◌<◌, ◌≤◌, ◌+◌, ◌-◌, ◌++◌, List, Some, None, length, take};
+ghost use Rattle.std.specs.Prelude.{◌≡◌, ◌<◌, ◌≤◌, ◌+◌, ◌++◌, List, Some, None, length, take};
 ghost use Rattle.std.specs.Prelude.{vec_len, vec_capacity, IfOk, IfErr};
 ghost use Rattle.bpf_insn.specs.{declared.fault.SlotFault.SlotFault, declared.insn.Insn.Insn};
 ghost use Rattle.bpf_insn.specs.{Spelling.InsnFile, Faults.IsInsnFault, Faults.IsSlotFault};
@@ -19,10 +19,8 @@ pub fn first_fault(order: Order, bytes: &[u8]) -> Option<SlotFault>
 {
     let front = insn_front(order, bytes);
     let fault = front.stop?;
-    Some(SlotFault {
-        pos: front.len as u64 + fault.pos,
-        cause: fault.cause,
-    })
+    let pos = front.len as u64 + fault.pos;
+    Some(SlotFault { pos, ..fault })
 }
 
 /// Reads the complete instructions at the start of `bytes`, and appends each in the byte order
@@ -90,13 +88,8 @@ fn complete(order: Order, held: &[u8], piece: &[u8]) -> Result<(Insn, usize), Sl
 {
     let used = piece.len().min(16 - held.len());
     let joined = join(held, &piece[..used]);
-    match read_insn(order, &joined[..held.len() + used]) {
-        Ok(found) => {
-            let (insn, size) = found;
-            Ok((insn, size - held.len()))
-        }
-        Err(fault) => Err(fault),
-    }
+    let (insn, size) = read_insn(order, &joined[..held.len() + used])?;
+    Ok((insn, size - held.len()))
 }
 
 /// The concatenation of two slices, padded with zeros.

@@ -2,24 +2,24 @@ use Rattle.std.proofs.Common.{rules, arith, ◌≡◌, ◌∙◌, None, ap, sym,
 use Rattle.bpf_canon.specs.insn.FeedState.{FeedState}
 use Rattle.bpf_canon.proofs.InsnLemmas.FeedLemmas.{advanced_bound, advanced_holds_none, advanced_moves, feeds_answers, keeps_answer, moves_none}
 use Rattle.bpf_canon.proofs.insn.feed.InsnFeed.feed.Goals as goal
-use Rattle.bpf_canon.proofs.insn.feed.InsnFeed.feed.Goals.{in-Some-fault, in-None-fault}
+use Rattle.bpf_canon.proofs.insn.feed.InsnFeed.feed.Goals.{in-Some-fault, in-None}
 
 pub returns-then-is_empty-clause-moves : goal.returns-then-is_empty-clause-moves
 returns-then-is_empty-clause-moves g c = λ sound.
     let zero : length c.args.piece.now ≡ 0 = search rules in
-    let fault : c.args.self.now.fault ≡ None = ap (λ (s : FeedState). s.fault) (sym c.self.view_is) ∙ c.in-None.is in
+    let fault : c.args.self.now.fault ≡ None = ap (λ (s : FeedState). s.fault) (sym c.self.view_is) ∙ c.in_default.is in
     (moves_none c.args.self.now c.args.piece.now c.args.out.now.items zero, (fault, omega (arith, zero)))
 
 pub returns-then-is_empty-clause-answer : goal.returns-then-is_empty-clause-answer
 returns-then-is_empty-clause-answer g c = λ o to b sound h.
     let zero : length c.args.piece.now ≡ 0 = search rules in
-    let fault : c.args.self.now.fault ≡ None = ap (λ (s : FeedState). s.fault) (sym c.self.view_is) ∙ c.in-None.is in
+    let fault : c.args.self.now.fault ≡ None = ap (λ (s : FeedState). s.fault) (sym c.self.view_is) ∙ c.in_default.is in
     let moves = moves_none c.args.self.now c.args.piece.now c.args.out.now.items zero in
     keeps_answer c.args.self.now o to _ (moves.represents o to b h) fault
 
 pub returns-clause-moves : goal.returns-clause-moves
 returns-clause-moves g c = λ sound.
-    let before : c.args.self.now.fault ≡ None = ap (λ (s : FeedState). s.fault) (sym c.self.view_is) ∙ c.in-None.is in
+    let before : c.args.self.now.fault ≡ None = ap (λ (s : FeedState). s.fault) (sym c.self.view_is) ∙ c.in_default.is in
     let out : c.reserve.new.self.items ≡ c.args.out.now.items = c.reserve.ensures.items in
     let advances = rw out at c.advance.ensures in
     let moves = advanced_moves c.args.self.now c.advance.new.self c.args.piece.now _ _ before advances in
@@ -28,7 +28,7 @@ returns-clause-moves g c = λ sound.
       | in-Some-fault w ↦
           let is = fault ∙ w.in-Some-fault.is in
           rw w.result-is (moves, (is, (advanced_holds_none _ _ _ _ _ _ advances is, advances.fed)))
-      | in-None-fault w ↦ rw w.result-is (moves, (fault ∙ w.in-None-fault.is, advances.fed))
+      | in-None w ↦ rw w.result-is (moves, (fault ∙ w.in-None.is, advances.fed))
     ]
 
 pub returns-clause-answer : goal.returns-clause-answer
