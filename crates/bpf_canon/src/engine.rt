@@ -103,8 +103,6 @@ pub(crate) fn put_whole<F, W: ByteSink>(sink: &mut W, bytes: &[u8]) -> Result<u6
     ensures healthy { OnOk result (W.failures sink.new ≡ W.failures sink.old) }
     ensures count { IfErr result (λ e. W.failures sink.new ≡ W.failures sink.old + 1) }
 {
-    match put_all(sink, bytes) {
-        Ok(()) => Ok(bytes.len() as u64),
-        Err(written) => Err(stopped(RunCause::WriteFailed, written)),
-    }
+    put_all(sink, bytes).map_err(|written| stopped(RunCause::WriteFailed, written))?;
+    Ok(bytes.len() as u64)
 }

@@ -53,10 +53,7 @@ pub fn put_all<W: ByteSink>(sink: &mut W, bytes: &[u8]) -> Result<(), u64>
 {
     let mut taken = 0;
     while taken < bytes.len() {
-        match sink.write(&bytes[taken..]) {
-            Ok(n) => taken += n,
-            Err(DeviceFailed) => return Err(taken as u64),
-        }
+        taken += sink.write(&bytes[taken..]).map_err(|_| taken as u64)?;
     }
     Ok(())
 }

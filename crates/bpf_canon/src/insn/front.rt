@@ -36,8 +36,7 @@ pub(crate) fn read_front<A: Allocator>(
     ensures { ReadsFront order to bytes.now result out.old.items out.new.items }
 {
     let read = insn_front(order, bytes);
-    let (front, _) = bytes.split_at(read.len);
-    append_recoded(order, to, front, out);
+    append_recoded(order, to, &bytes[..read.len], out);
     read
 }
 

@@ -1,4 +1,4 @@
-use Rattle.std.proofs.Common.{rules, arith, ◌≡◌, ◌+◌, ◌-◌, ℕ, List, Option, take, drop, length, ◌++◌}
+use Rattle.std.proofs.Common.{rules, arith, ◌≡◌, ◌+◌, ◌-◌, ℕ, List, Option, Ok, take, drop, length, ◌++◌}
 use Rattle.std.proofs.{lemmas.Grind.common_steps, Math.Seq.take-add, KnownBytes.Appends-trans}
 use Rattle.std.specs.Io.KnownBytes.{Appends}
 use Rattle.bpf_canon.proofs.device.sink.put_all.Goals as goal
@@ -12,8 +12,13 @@ takes_more a b c bytes t n p q =
     rw (← e) (Appends-trans a b c _ _ p q)
 
 pub loop-taken-preserved : goal.loop-taken-preserved
-loop-taken-preserved g c = record {
-  within = omega (arith, c.in-Ok.ensures.bound);
-  appends = takes_more _ _ _ c.args.bytes.now c.loop-taken.taken c.in-Ok.n c.loop-taken.invariant.appends c.in-Ok.ensures.bytes;
-  healthy = search rules;
-}
+loop-taken-preserved g c =
+    let n = c.in_ok-taken.field-0 in
+    let wrote : c.write.result ≡ Ok n = search rules in
+    let bound = rw wrote at c.write.ensures.bound in
+    let bytes = rw wrote at c.write.ensures.bytes in
+    record {
+      within = omega (arith, bound);
+      appends = takes_more _ _ _ c.args.bytes.now c.loop-taken.taken n c.loop-taken.invariant.appends bytes;
+      healthy = search rules;
+    }
