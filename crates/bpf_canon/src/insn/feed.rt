@@ -2,7 +2,7 @@
 ghost use Rattle.std.specs.Prelude.{◌≡◌, ◌<◌, ◌≤◌, ◌+◌, ◌++◌, ℕ, List, [], None, length, take};
 ghost use Rattle.std.specs.Prelude.{vec_len, vec_capacity, IsErrOf, IsOk, IfSome, IsNone, ⊤};
 ghost use Rattle.bpf_words.specs.declared.Order.{Order};
-ghost use Rattle.bpf_canon.specs.insn.FeedState.{FeedState, IsBetween, missing_place};
+ghost use Rattle.bpf_canon.specs.insn.FeedState.{FeedState, IsBetween};
 ghost use Rattle.bpf_canon.specs.insn.FeedStream.{AnswersFor, Feeds, Finishes, Represents};
 ghost use Rattle.bpf_canon.specs.insn.{FeedStream.end_of_feed, FrontReads.Advances};
 
@@ -145,8 +145,9 @@ impl InsnFeed {
         match self.fault {
             Some(fault) => Err(fault),
             None if self.held_len == 0 => Ok(self.count),
+            // Of the slots that are held only the last is incomplete.
             None => Err(SlotFault {
-                pos: self.fed - self.held_len as u64 + missing_slot(self.held_len),
+                pos: self.fed - self.held_len as u64 % 8,
                 cause: SlotCause::Truncated,
             }),
         }
@@ -191,13 +192,6 @@ impl Clone for InsnFeed {
     fn clone(&self) -> Result<InsnFeed, AllocError> {
         Ok(InsnFeed { ..*self })
     }
-}
-
-/// The offset of the slot whose bytes are missing, from the first of the `held_len` held bytes.
-fn missing_slot(held_len: usize) -> u64
-    ensures { result ≡ missing_place held_len }
-{
-    if held_len < 8 { 0 } else { 8 }
 }
 
 /// Copies bytes into an array after its first `kept` ones, and returns the new number of bytes.
