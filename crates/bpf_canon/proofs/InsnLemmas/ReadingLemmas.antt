@@ -69,9 +69,9 @@ across_fault o held piece used at cause fits short f = elim (truncated_or_not ca
 -- an instruction across, and the complete instructions after it
 pub across_more : (o to : Order) (held piece : List ℕ) (i : Insn) (used : ℕ) (rest : InsnFront) (old middle new : List ℕ) → BeginsAcross o i held piece used
     → middle ≡ old ++ spelling to i → ReadsFront o to (drop used piece) rest middle new
-    → ReadsFront o to (held ++ piece) (record { len = length held + used + rest.len; count = 1 + rest.count; stop = rest.stop }) old new
+    → ReadsFront o to (held ++ piece) (record { len = rest.len + (length held + used); count = rest.count + 1; stop = rest.stop }) old new
 across_more o to held piece i used rest old middle new a e r =
-    let n = length held + used + rest.len in
+    let n = rest.len + (length held + used) in
     let left : drop n (held ++ piece) ≡ drop rest.len (drop used piece) = grind (arith, drop-append-add) in
     let whole : held ++ piece ≡ file_of o (i ∷ r.insns) ++ drop n (held ++ piece) = grind (arith, append_assoc) in
     let none = front_begins_none o (drop used piece) r.insns (drop rest.len (drop used piece)) r.front in

@@ -62,12 +62,10 @@ pub(crate) fn read_front_across<A: Allocator>(
         Ok(found) => {
             let (insn, used) = found;
             append_insn(out, to, insn);
-            let rest = read_front(order, to, &piece[used..], out);
-            InsnFront {
-                len: held.len() + used + rest.len,
-                count: 1 + rest.count,
-                stop: rest.stop,
-            }
+            let mut read = read_front(order, to, &piece[used..], out);
+            read.len += held.len() + used;
+            read.count += 1;
+            read
         }
         Err(fault) => InsnFront {
             len: 0,
