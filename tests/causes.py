@@ -44,8 +44,11 @@ def in_enum(text, enum):
 
 
 def in_arms(text, enum, call):
-    """The string of each variant in the arms of a call."""
+    """The string of each variant in the arms of a call, which may be a list of variants that are their own names."""
     body = re.search(rf"^    pub fn {call}\(.*?^    \}}", text, re.MULTILINE | re.DOTALL)[0]
+    listed = re.search(r"names! \{\s*self;([\w\s]*)\}", body)
+    if listed:
+        return [(name, name) for name in listed[1].split()]
     return re.findall(rf'{enum}::(\w+) =>\s*"([^"]*)"', body)
 
 

@@ -4,10 +4,7 @@
 ghost use Rattle.std.specs.Prelude.{◌≡◌};
 ghost use Rattle.btf_raw.specs.KindNumbers as standard;
 
-use crate::kinds::{
-    ARRAY, CONST, DATASEC, DECL_TAG, ENUM, ENUM64, FLOAT, FUNC, FUNC_PROTO, FWD, INT, PTR,
-    RESTRICT, STRUCT, TYPE_TAG, TYPEDEF, UNION, VAR, VOLATILE,
-};
+use crate::kinds::*;
 
 /// Each constant for a kind is the number of that kind in the standard (btf.rst section 2.2).
 pub fn kinds_have_their_numbers()
