@@ -11,8 +11,7 @@ ghost use Rattle.std.specs.Prelude.{◌≡◌, ◌+◌, ◌-◌, ◌<◌, ◌≤
 ghost use Rattle.std.specs.Prelude.{slice_range, IfOk, IfErr, MatchResult, MatchOption, ◌≢◌, ℕ};
 ghost use Rattle.bpf_words.specs.{Words.word16_at, declared.Order.Order as OrderValue};
 ghost use Rattle.btf_raw.specs.Header.{HeaderFault, StringFault, HasNulEnds};
-ghost use Rattle.btf_raw.specs.ReadHeader.{StartIsRight, LengthIsRight, SectionsAreRight};
-ghost use Rattle.btf_raw.specs.ReadHeader.{ReadsHeader};
+ghost use Rattle.btf_raw.specs.ReadHeader as spec;
 ghost use Rattle.btf_raw.specs.Cause.{LeastByCause, HasNone};
 
 use crate::cause::{BtfCause, BtfFault};
@@ -48,10 +47,8 @@ pub(crate) fn fault(pos: usize, cause: BtfCause) -> BtfFault
     ensures pos { result.pos ≡ pos }
     ensures cause { result.cause ≡ cause }
 {
-    BtfFault {
-        pos: pos as u64,
-        cause,
-    }
+    let pos = pos as u64;
+    BtfFault { pos, cause }
 }
 
 /// Checks the first and the last byte of a string section, which must not be empty (btf.rst section
@@ -97,7 +94,7 @@ fn order_of(bytes: &[u8]) -> Option<Order>
 /// Checks the file's length, the magic number, the version and the flags.
 fn start_of(bytes: &[u8]) -> Result<Order, BtfFault>
     ensures { MatchResult result
-        (λ o. StartIsRight bytes.now o)
+        (λ o. spec.StartIsRight bytes.now o)
         (λ fault. LeastByCause (HeaderFault bytes.now) fault.pos fault.cause) }
 {
     if bytes.len() < 24 {
@@ -134,9 +131,9 @@ fn tail_of(bytes: &[u8], end: usize) -> Option<usize>
 
 /// Checks the header's length and its bytes after the first 24.
 fn length_of(order: Order, bytes: &[u8]) -> Result<usize, BtfFault>
-    requires { StartIsRight bytes.now order }
+    requires { spec.StartIsRight bytes.now order }
     ensures { MatchResult result
-        (λ n. LengthIsRight bytes.now order n)
+        (λ n. spec.LengthIsRight bytes.now order n)
         (λ fault. LeastByCause (HeaderFault bytes.now) fault.pos fault.cause) }
 {
     let len = get32(order, bytes, 4) as usize;
@@ -151,9 +148,9 @@ fn length_of(order: Order, bytes: &[u8]) -> Result<usize, BtfFault>
 
 /// Checks the lengths and the offsets of the two sections.
 fn sections_of(order: Order, bytes: &[u8], header_len: usize) -> Result<Header, BtfFault>
-    requires { LengthIsRight bytes.now order header_len }
+    requires { spec.LengthIsRight bytes.now order header_len }
     ensures { MatchResult result
-        (λ h. SectionsAreRight bytes.now h × HasNone (HeaderFault bytes.now))
+        (λ h. spec.SectionsAreRight bytes.now h × HasNone (HeaderFault bytes.now))
         (λ fault. LeastByCause (HeaderFault bytes.now) fault.pos fault.cause) }
 {
     let type_off = get32(order, bytes, 8) as usize;
@@ -192,7 +189,7 @@ fn sections_of(order: Order, bytes: &[u8], header_len: usize) -> Result<Header, 
 /// The first cause, from `ShortHeader` to `FileLength`, that applies, with its offset in the file.
 pub fn read_header(bytes: &[u8]) -> Result<Header, BtfFault>
     ensures { MatchResult result
-        (λ h. ReadsHeader bytes.now h × HasNone (HeaderFault bytes.now))
+        (λ h. spec.ReadsHeader bytes.now h × HasNone (HeaderFault bytes.now))
         (λ fault. LeastByCause (HeaderFault bytes.now) fault.pos fault.cause) }
 {
     let order = start_of(bytes)?;
