@@ -1,7 +1,6 @@
 //! The 32-bit words of a record in the type section (btf.rst section 2.2).
 
 ghost use Rattle.std.specs.Prelude.{◌≡◌, ◌+◌, ◌*◌, ◌<◌, ◌≤◌, length, slice_index};
-ghost use Rattle.btf_raw.specs.Frames.{IsFrame};
 ghost use Rattle.btf_types.specs.{Reading.frame_at, judge.RecordFaults.BitFieldsAre};
 ghost use Rattle.btf_raw.specs.Frames as frames;
 
@@ -102,7 +101,7 @@ impl<'a> Record<'a> {
     /// kind_flag is 1, and the width of some member, the high 8 bits of its offset field, isn't 0.
     #[tactic(auto, using(crate::proofs::JudgeLemmas::BitSteps::widths))]
     pub fn has_bit_fields(&self) -> bool
-        requires { IsFrame self.now }
+        requires { frames.IsFrame self.now }
         ensures { BitFieldsAre self.now result }
     {
         if !is_struct(self.kind()) || self.kind_flag() == 0 {

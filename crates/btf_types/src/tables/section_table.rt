@@ -125,27 +125,21 @@ impl<'a> SectionTable<'a> {
         }
     }
 
-    /// The number of items of the type with the ID `id`; 0 if the table lacks it.
-    fn item_total(&self, id: u32) -> u32
-        ensures { result ≡ length (items_of self.now id) }
-    {
-        if id == 0 || id > self.count() {
-            0
-        } else {
-            self.item_count(id)
-        }
-    }
-
     /// An iterator over the items of the type with the ID `id`; empty if the table lacks this
     /// record.
     #[tactic(auto, using(crate::proofs::TableLemmas::WindowSteps::window_whole))]
     pub fn items(self, id: u32) -> Items<'a>
         ensures { result ≡ items_of self.entry id }
     {
+        let end = if id == 0 || id > self.count() {
+            0
+        } else {
+            self.item_count(id)
+        };
         Items {
             id,
             given: 0,
-            end: self.item_total(id),
+            end,
             table: self,
         }
     }
