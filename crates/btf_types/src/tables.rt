@@ -1,6 +1,5 @@
 //! The two tables of types, which own or borrow their bytes, and what they consist of.
 
-mod file_names;
 pub(crate) mod items;
 pub(crate) mod keeps_sections;
 pub(crate) mod owned;

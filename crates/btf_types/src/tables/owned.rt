@@ -31,14 +31,13 @@ pub struct Btf<A: Allocator = Global> {
 }
 
 impl<A: Allocator> Model for Btf<A> {
-    ghost use Rattle.btf_types.specs.tables.TablePlaces.{TypeRecords, placed_records};
-    ghost use Rattle.btf_types.specs.tables.TablePlaces.{IsPlacedTable};
+    ghost use Rattle.btf_types.specs.tables.TablePlaces as placed;
 
-    ghost Value = { TypeRecords };
+    ghost Value = { placed.TypeRecords };
 
-    ghost view = { λ t. placed_records t.order t.types.items t.strings.items t.places };
+    ghost view = { λ t. placed.placed_records t.order t.types.items t.strings.items t.places };
 
-    ghost invariant = { λ t. IsPlacedTable t.order t.types.items t.strings.items t.places };
+    ghost invariant = { λ t. placed.IsPlacedTable t.order t.types.items t.strings.items t.places };
 }
 
 impl<A: Allocator + Clone> Btf<A> {
@@ -46,21 +45,14 @@ impl<A: Allocator + Clone> Btf<A> {
     ///
     /// # Errors
     ///
-    /// `Fault` with the first fault of the file. Faults of the header come first, then those of the
-    /// ends of the string section, each by cause; then those of the framing, then those of the
-    /// fields, each by offset and then by cause. `Memory` if memory can't be allocated.
+    /// Those of [`BtfView::parse`].
     pub fn parse(alloc: A, bytes: &[u8]) -> Result<Btf<A>, BtfError>
         ensures { MatchResult result (λ v. Denotes bytes.now v) (λ e. Fails bytes.now e) }
     {
         let view = BtfView::parse(alloc.clone()?, bytes)?;
-        let BtfView {
-            order,
-            types,
-            strings,
-            places,
-        } = view;
-        let types = Vec::from_slice(alloc.clone()?, types)?;
-        let strings = Vec::from_slice(alloc, strings)?;
+        let types = Vec::from_slice(alloc.clone()?, view.types)?;
+        let strings = Vec::from_slice(alloc, view.strings)?;
+        let BtfView { order, places, .. } = view;
         Ok(Btf {
             order,
             types,
@@ -71,16 +63,14 @@ impl<A: Allocator + Clone> Btf<A> {
 }
 
 impl<A: Allocator> Btf<A> {
-    /// An iterator over the records in order, each as its ID, from 1 to [`TypeTable::count`], and
-    /// its head.
+    /// An iterator over the records in order, like [`BtfView::records`].
     pub fn records(&self) -> Records<'_>
         ensures { result ≡ numbered 1 self.now }
     {
         self.table().records()
     }
 
-    /// An iterator over the items of the type with the ID `id`, in order. Void (ID 0), and an ID
-    /// above [`TypeTable::count`], have none.
+    /// An iterator over the items of the type with the ID `id`, like [`BtfView::items`].
     pub fn items(&self, id: u32) -> Items<'_>
         ensures { result ≡ items_of self.now id }
     {

@@ -1,15 +1,16 @@
 //! A table that borrows the file it was read from.
 
-ghost use Rattle.std.specs.Prelude.{◌≡◌, IfSome, IsSome, MatchResult};
-ghost use Rattle.btf_raw.specs.{Header.part, ReadHeader.ReadsHeader};
-ghost use Rattle.btf_types.specs.{Denotes.Denotes, tables.TableSections.AreSections};
-ghost use Rattle.btf_types.specs.tables.{Tables.Fails, Tables.MayMove, TableWords.numbered};
-ghost use Rattle.btf_types.specs.tables.Windows.{items_of};
+ghost use Rattle.std.specs.Prelude.{◌≡◌, ◌<◌, ◌≤◌, IfSome, IsSome, Some, MatchResult, length};
+ghost use Rattle.std.specs.Prelude.{slice_get};
+ghost use Rattle.btf_types.specs.{Denotes.Denotes, Values.head_value, Values.item_value};
+ghost use Rattle.btf_types.specs.tables.{TableSections.AreSections, TableWords.numbered};
+ghost use Rattle.btf_types.specs.tables.{TableWords.record_at, Windows.items_of};
 ghost use Rattle.btf_types.specs.tables.Tables as tables;
 
 use crate::error::BtfError;
 use crate::judge::fields::check_fields;
 use crate::judge::framing::record_places;
+use crate::reading::{head_of, item_of};
 use crate::tables::items::Items;
 use crate::tables::keeps_sections::KeepsSections;
 use crate::tables::places::Places;
@@ -18,7 +19,7 @@ use crate::tables::section_table::SectionTable;
 use crate::tables::table::{FileSections, TypeTable};
 use crate::values::{Head, Item};
 use bpf_words::Order;
-use btf_raw::{BtfFault, Header, check_strings, read_header};
+use btf_raw::{BtfFault, check_strings, read_header};
 use std::alloc::{Allocator, Global};
 use std::fmt;
 use std::marker::Model;
@@ -36,40 +37,25 @@ pub struct BtfView<'a, A: Allocator = Global> {
 }
 
 impl<'a, A: Allocator> Model for BtfView<'a, A> {
-    ghost use Rattle.btf_types.specs.tables.TablePlaces.{TypeRecords, placed_records};
-    ghost use Rattle.btf_types.specs.tables.TablePlaces.{IsPlacedTable};
+    ghost use Rattle.btf_types.specs.tables.TablePlaces as placed;
 
-    ghost Value = { TypeRecords };
+    ghost Value = { placed.TypeRecords };
 
-    ghost view = { λ t. placed_records t.order t.types.now t.strings.now t.places };
+    ghost view = { λ t. placed.placed_records t.order t.types.now t.strings.now t.places };
 
-    ghost invariant = { λ t. IsPlacedTable t.order t.types.now t.strings.now t.places };
-}
-
-/// The type section and the string section of a file with this header.
-fn sections_of(bytes: &[u8], header: Header) -> (&[u8], &[u8])
-    requires { ReadsHeader bytes.now header }
-    ensures types { result.0.now ≡ part bytes.now header.types_pos header.types_len }
-    ensures strings { result.1.now ≡ part bytes.now header.str_pos header.str_len }
-{
-    (
-        &bytes[header.types_pos..header.types_pos + header.types_len],
-        &bytes[header.str_pos..header.str_pos + header.str_len],
-    )
+    ghost invariant = { λ t. placed.IsPlacedTable t.order t.types.now t.strings.now t.places };
 }
 
 /// Converts the offset of an error from a section that begins at `base` to an offset in the file.
 fn moved(base: usize, error: BtfError) -> BtfError
-    requires { MayMove base error }
+    requires { tables.MayMove base error }
     ensures { result ≡ tables.moved base error }
 {
-    match error {
-        BtfError::Fault(fault) => BtfError::Fault(BtfFault {
-            pos: base as u64 + fault.pos,
-            cause: fault.cause,
-        }),
-        BtfError::Memory => BtfError::Memory,
-    }
+    let BtfError::Fault(BtfFault { pos, cause }) = error else {
+        return error;
+    };
+    let pos = base as u64 + pos;
+    BtfError::Fault(BtfFault { pos, cause })
 }
 
 impl<'a, A: Allocator> BtfView<'a, A> {
@@ -83,11 +69,12 @@ impl<'a, A: Allocator> BtfView<'a, A> {
     /// fields, each by offset and then by cause. `Memory` if memory can't be allocated.
     #[tactic(auto, using(crate::proofs::TableLemmas::TableSteps::phases))]
     pub fn parse(alloc: A, bytes: &'a [u8]) -> Result<BtfView<'a, A>, BtfError>
-        ensures { MatchResult result (λ v. Denotes bytes.now v) (λ e. Fails bytes.now e) }
+        ensures { MatchResult result (λ v. Denotes bytes.now v) (λ e. tables.Fails bytes.now e) }
     {
         let header = read_header(bytes)?;
         let order = header.order;
-        let (types, strings) = sections_of(bytes, header);
+        let types = &bytes[header.types_pos..header.types_pos + header.types_len];
+        let strings = &bytes[header.str_pos..header.str_pos + header.str_len];
         if let Err(fault) = check_strings(strings) {
             return Err(moved(header.str_pos, BtfError::Fault(fault)));
         }
@@ -126,6 +113,44 @@ impl<'a, A: Allocator> BtfView<'a, A> {
         ensures { result ≡ items_of self.now id }
     {
         self.table().items(id)
+    }
+
+    /// The head of the record with the ID `id`, which is 1 to [`crate::TypeTable::count`]. Unlike
+    /// that of [`crate::TypeTable::head`], its name borrows the file and may outlive the view.
+    #[tactic(auto, using(crate::proofs::TableLemmas::TableReads::placed))]
+    pub fn file_head(&self, id: u32) -> Head<'a>
+        requires first { 0 < id }
+        requires last { id ≤ length self.now }
+        ensures { head_value result ≡ (record_at self.now id).head }
+    {
+        let file = FileSections {
+            order: self.order,
+            types: self.types,
+            strings: self.strings,
+            places: self.places.records(),
+        };
+        let this = file.record(id);
+        head_of(self.strings, self.places.ends(), &this)
+    }
+
+    /// Item `k` (from 0) of the record with the ID `id`, which is 1 to
+    /// [`crate::TypeTable::count`]; `k` is less than [`crate::TypeTable::item_count`]. Unlike that
+    /// of [`crate::TypeTable::item`], its name borrows the file and may outlive the view.
+    #[tactic(auto, using(crate::proofs::TableLemmas::TableReads::placed))]
+    pub fn file_item(&self, id: u32, k: u32) -> Item<'a>
+        requires first { 0 < id }
+        requires last { id ≤ length self.now }
+        requires inside { k < length (record_at self.now id).items }
+        ensures { slice_get (record_at self.now id).items k ≡ Some (item_value result) }
+    {
+        let file = FileSections {
+            order: self.order,
+            types: self.types,
+            strings: self.strings,
+            places: self.places.records(),
+        };
+        let this = file.record(id);
+        item_of(self.strings, self.places.ends(), &this, k as usize)
     }
 }
 
