@@ -97,12 +97,8 @@ impl<'a> SectionTable<'a> {
         requires inside { k < length (record_at self.now id).items }
         ensures { slice_get (record_at self.now id).items k ≡ Some (item_value result) }
     {
-        item_of(
-            self.file.strings,
-            self.ends,
-            &self.file.record(id),
-            k as usize,
-        )
+        let this = self.file.record(id);
+        item_of(self.file.strings, self.ends, &this, k as usize)
     }
 
     /// The borrowed sections.
