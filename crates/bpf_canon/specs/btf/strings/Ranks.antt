@@ -23,11 +23,11 @@ pub record IsLower (common : List ℕ) (p k : ℕ) : Type 0 where
   pub less : slice_index common p < slice_index common k
   pub between : (j : ℕ) → p < j → j < k → slice_index common k ≤ slice_index common j
 
--- each rank with a non-empty common suffix has its lower rank
+-- each of the first ranks with a non-empty common suffix has its lower rank
 pub record AreLower (common lower : List ℕ) : Type 0 where
-  pub whole : length lower ≡ length common
+  pub few : length lower ≤ length common
   pub first : slice_index common 0 ≡ 0
-  pub each : (k : ℕ) → k < length common → 0 < slice_index common k → IsLower common (slice_index lower k) k
+  pub each : (k : ℕ) → k < length lower → 0 < slice_index common k → IsLower common (slice_index lower k) k
 
 -- strings sorted by their reversed bytes, with these numbers of each
 pub record AreRanked (sorted : List (List ℕ)) (common host_ranks : List ℕ) : Type 0 where

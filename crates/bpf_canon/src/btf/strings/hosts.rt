@@ -2,8 +2,7 @@
 //! the string table, in the order of first use.
 ghost use Rattle.std.specs.Prelude.{◌≡◌, ◌<◌, ◌≤◌, length, IfOk, ◌^◌, OnOk};
 ghost use Rattle.bpf_canon.specs.btf.strings.{Ranks.AreLower, UsedOffsets.used_count};
-ghost use Rattle.bpf_canon.specs.btf.strings.HostPlaces.{AddsText, ArePlacesOf, HaveTheirHosts};
-ghost use Rattle.bpf_canon.specs.btf.strings.HostPlaces.{names_in};
+ghost use Rattle.bpf_canon.specs.btf.strings.HostPlaces as places;
 ghost use Rattle.btf_raw.specs.Header.{HasNulEnds};
 ghost use Rattle.btf_types.specs.strings.SharedNames.{shared_table};
 ghost use Rattle.bpf_canon.specs.btf.strings.InHost as spec;
@@ -12,8 +11,8 @@ use crate::btf::strings::ranked_texts::{RankedTexts, first_rank, lower_ranks};
 use crate::btf::strings::used_offsets::UsedOffsets;
 use std::alloc::{AllocError, Allocator};
 
-/// The position of a name in its host.
-#[derive(Clone, Copy)]
+/// The position of a name in its host. All is 0 if it isn't found yet, or the name is empty.
+#[derive(Clone, Copy, Default)]
 pub(crate) struct InHost {
     /// The rank of the host.
     pub(crate) host: u32,
@@ -21,15 +20,6 @@ pub(crate) struct InHost {
     pub(crate) before: u32,
     /// The length of the host in bytes, or 0 for the empty name.
     pub(crate) len: u32,
-}
-
-impl InHost {
-    /// Not found yet, or the name is empty.
-    const NONE: InHost = InHost {
-        host: 0,
-        before: 0,
-        len: 0,
-    };
 }
 
 /// Finds the hosts of the used offsets within the string of a rank. The strings at later offsets
@@ -44,6 +34,7 @@ fn find_within<A: Allocator>(
 )
     requires texts { spec.IsRankedFor uses.now ranked.now }
     requires lower { AreLower ranked.now.common.items lower.now }
+    requires ranks { length lower.now ≡ length ranked.now.common.items }
     requires inside { rank < length ranked.now.texts.items }
     requires whole { length in_hosts.old ≡ used_count uses.now }
     ensures { spec.FindsWithinRank uses.now ranked.now rank in_hosts.old in_hosts.new }
@@ -55,11 +46,8 @@ fn find_within<A: Allocator>(
             from = first_rank(&ranked.common, lower, from, end - off);
             let host = ranked.host_ranks[from];
             let len = ranked.texts[host as usize].len();
-            in_hosts[uses.number(off as usize)] = InHost {
-                host,
-                before: len - (end - off),
-                len,
-            };
+            let before = len - (end - off);
+            in_hosts[uses.number(off as usize)] = InHost { host, before, len };
         }
     }
 }
@@ -86,11 +74,8 @@ fn find_alone<A: Allocator>(
         }
         let host = ranked.host_ranks[rank];
         let len = ranked.texts[host as usize].len();
-        in_hosts[uses.number(text.start as usize)] = InHost {
-            host,
-            before: len - text.len(),
-            len,
-        };
+        let before = len - text.len();
+        in_hosts[uses.number(text.start as usize)] = InHost { host, before, len };
     }
     ranked.texts.len()
 }
@@ -104,7 +89,7 @@ pub(crate) fn find_hosts<A: Allocator + Copy>(
     requires { spec.IsRankedFor uses.now ranked.now }
     ensures { IfOk result (λ in_hosts. spec.FindsHosts uses.now ranked.now in_hosts.items) }
 {
-    let mut in_hosts = vec![in alloc; InHost::NONE; uses.count()]?;
+    let mut in_hosts = vec![in alloc; InHost::default(); uses.count()]?;
     let alone = find_alone(uses, ranked, &mut in_hosts);
     if alone == ranked.texts.len() {
         return Ok(in_hosts);
@@ -138,7 +123,7 @@ pub(crate) struct HostPlaces<A: Allocator> {
 /// Appends a string of the section. If it directly follows the last span in the section, that span
 /// is extended.
 fn push_text<A: Allocator>(spans: &mut Vec<Span, A>, text: Span) -> Result<(), AllocError>
-    ensures { OnOk result (AddsText spans.old.items spans.new.items text) }
+    ensures { OnOk result (places.AddsText spans.old.items spans.new.items text) }
 {
     if let Some(last) = spans.last_mut() {
         if last.end < text.start && text.start - last.end == 1 {
@@ -161,9 +146,9 @@ pub(crate) fn place_hosts<A: Allocator + Copy>(
     requires texts { spec.IsRankedFor uses.now ranked.now }
     requires ends { HasNulEnds ranked.now.section.now }
     requires whole { length in_hosts.now ≡ used_count uses.now }
-    requires in_hosts { HaveTheirHosts uses.now ranked.now in_hosts.now }
-    requires room { length (shared_table (names_in ranked.now uses.now)) < 2 ^ 32 }
-    ensures { IfOk result (ArePlacesOf uses.now ranked.now) }
+    requires in_hosts { places.HaveTheirHosts uses.now ranked.now in_hosts.now }
+    requires room { length (shared_table (places.names_in ranked.now uses.now)) < 2 ^ 32 }
+    ensures { IfOk result (places.ArePlacesOf uses.now ranked.now) }
 {
     let offsets = uses.offsets();
     let mut by_rank = vec![in alloc; 0; ranked.texts.len()]?;
@@ -176,11 +161,8 @@ pub(crate) fn place_hosts<A: Allocator + Copy>(
         if at.len == 0 || at.before != 0 || by_rank[host] != 0 {
             continue;
         }
-        let text = Span {
-            start: off,
-            end: off + at.len,
-        };
-        push_text(&mut spans, text)?;
+        let end = off + at.len;
+        push_text(&mut spans, Span { start: off, end })?;
         by_rank[host] = len;
         len += at.len + 1;
     }

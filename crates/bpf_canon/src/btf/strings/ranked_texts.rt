@@ -150,17 +150,15 @@ fn next_hosts<A: Allocator>(
 pub(crate) fn lower_ranks<A: Allocator>(alloc: A, common: &[u32]) -> Result<Vec<u32, A>, AllocError>
     requires first { slice_index common.now 0 ≡ 0 }
     requires few { length common.now < 2 ^ 32 }
-    ensures { IfOk result (λ lower. AreLower common.now lower.items) }
+    ensures lower { IfOk result (λ lower. AreLower common.now lower.items) }
+    ensures whole { IfOk result (λ lower. length lower.items ≡ length common.now) }
 {
     let mut lower = Vec::with_capacity(alloc, common.len())?;
     for k in 0..common.len() {
-        let mut before = k;
-        if common[k] != 0 {
-            before = k - 1;
-            'back: while common[before] >= common[k] {
-                before = lower[before] as usize;
-            }
-        }
+        let before = match common[k] {
+            0 => k,
+            len => first_rank(common, &lower, k - 1, len),
+        };
         lower.push(before as u32)?;
     }
     Ok(lower)
@@ -169,7 +167,7 @@ pub(crate) fn lower_ranks<A: Allocator>(alloc: A, common: &[u32]) -> Result<Vec<
 /// The first rank `r` such that the strings of the ranks `r..=from` share a suffix of `len` bytes.
 pub(crate) fn first_rank(common: &[u32], lower: &[u32], from: usize, len: u32) -> usize
     requires lower { AreLower common.now lower.now }
-    requires inside { from < length common.now }
+    requires inside { from < length lower.now }
     requires some { 0 < len }
     ensures before { result ≤ from }
     ensures common { (j : ℕ) → result < j → j ≤ from → len ≤ slice_index common.now j }

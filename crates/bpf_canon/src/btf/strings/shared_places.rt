@@ -78,12 +78,8 @@ impl<'a, A: Allocator + Copy> SharedPlaces<'a, A> {
         let in_hosts = find_hosts(alloc, &used, &ranked)?;
         let host_places = place_hosts(alloc, &used, &in_hosts, &ranked)?;
         drop(ranked);
-        let HostPlaces {
-            by_rank,
-            spans,
-            len,
-        } = host_places;
-        let places = name_places(alloc, &in_hosts, &by_rank)?;
+        let places = name_places(alloc, &in_hosts, &host_places.by_rank)?;
+        let HostPlaces { spans, len, .. } = host_places;
         Ok(SharedPlaces {
             strings,
             used,

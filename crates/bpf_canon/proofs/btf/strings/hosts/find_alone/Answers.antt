@@ -14,9 +14,9 @@ step g c =
     steps_alone r.section.now c.args.uses.now.slots r.texts.items r.common.items r.host_ranks.items c.requires.texts.ranked c.requires.texts.longest.used c.loop-rank.rank c.index.result.now c.index-host.result.now c.index-text.result.now
     c.index-in-loop-rank.result.now (omega arith) c.index.ensures (omega (arith, c.if-index-len.false, c.len.ensures)) c.index-text.ensures c.index-host.ensures c.index-in-loop-rank.ensures
 
-pub overflow_sub-in_hosts : goal.overflow_sub-in_hosts
-overflow_sub-in_hosts g c =
-    omega (arith, (step g (goal.at.overflow_sub-in_hosts g c).After-index-in-loop-rank).shorter, c.len-len.ensures, c.len-in-loop-rank.ensures)
+pub overflow_sub-before : goal.overflow_sub-before
+overflow_sub-before g c =
+    omega (arith, (step g (goal.at.overflow_sub-before g c).After-index-in-loop-rank).shorter, c.len-len.ensures, c.len-in-loop-rank.ensures)
 
 pub loop-rank-preserved : goal.loop-rank-preserved
 loop-rank-preserved g c =

@@ -5,8 +5,8 @@ use Rattle.bpf_canon.proofs.BtfLemmas.Strings.InHostSteps.{WithinTo, steps_back,
 use Rattle.bpf_canon.proofs.btf.strings.hosts.find_within.Goals as goal
 use Rattle.bpf_canon.proofs.btf.strings.hosts.find_within.Goals.{then-is_used, else-is_used}
 
-pub overflow_sub-in_hosts-then-is_used : goal.overflow_sub-in_hosts-then-is_used
-overflow_sub-in_hosts-then-is_used g c =
+pub overflow_sub-before-then-is_used : goal.overflow_sub-before-then-is_used
+overflow_sub-before-then-is_used g c =
     let r = c.args.ranked.now in
     let step = steps_back r.section.now c.args.uses.now.slots r.texts.items r.common.items r.host_ranks.items c.requires.texts.ranked c.requires.texts.longest.used c.args.rank c.loop-off.off c.loop-off.from c.first_rank-from.result c.index-host.result.now
     c.index-2.result.now c.index.result.now c.index-then-is_used.result.now c.deref.result.now c.requires.inside c.index-2.ensures c.index.ensures (omega arith) c.loop-off-test.true c.loop-off.invariant.below c.loop-off.invariant.before c.deref.ensures.value

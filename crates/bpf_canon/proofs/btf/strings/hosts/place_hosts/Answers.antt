@@ -38,8 +38,8 @@ lays g c =
     lays_read c.args.uses.now c.args.ranked.now c.args.in_hosts.now c.offsets-offsets.result.now c.loop-k.k c.number.result c.offsets-offsets.ensures c.loop-k-test.true c.number.ensures.number c.requires.in_hosts c.loop-k.by_rank.items
     c.loop-k.spans.items c.loop-k.len c.index.result.now c.loop-k.invariant c.requires.texts c.requires.ends c.if-at-eq0.false c.if-at-ne0.false c.index.ensures c.if-index-ne0.false
 
-pub overflow_add-text : goal.overflow_add-text
-overflow_add-text g c = omega (arith, (lays g (goal.at.overflow_add-text g c).Else-index-ne0).span.inside, c.requires.texts.few)
+pub overflow_add-end : goal.overflow_add-end
+overflow_add-end g c = omega (arith, (lays g (goal.at.overflow_add-end g c).Else-index-ne0).span.inside, c.requires.texts.few)
 
 pub overflow_add-len : goal.overflow_add-len
 overflow_add-len g c =
