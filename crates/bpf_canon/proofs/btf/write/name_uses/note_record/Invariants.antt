@@ -1,7 +1,7 @@
 use Rattle.std.proofs.Common.{◌≡◌}
 use Rattle.btf_types.specs.Reading.{tabulate}
 use Rattle.bpf_canon.specs.btf.{strings.FirstUses.noted_all, write.NameOffsets.item_word}
-use Rattle.bpf_canon.proofs.btf.write.name_uses.note_items.Given as goal
+use Rattle.bpf_canon.proofs.btf.write.name_uses.note_record.Given as goal
 
 -- the items so far
 abbrev pub invariant-loop-k : goal.invariant-loop-k
