@@ -4,11 +4,9 @@ ghost use Rattle.std.specs.Prelude.{length, slice_index, take, drop, map};
 ghost use Rattle.std.specs.List.{All, Contains};
 ghost use Rattle.btf_raw.specs.Frames.{bytes_of, section_of, IsFrame};
 ghost use Rattle.btf_types.specs.{Reading.record_of, tables.PlaceWords.ReadsRecord};
-ghost use Rattle.bpf_canon.specs.btf.CanonicalBtf.{record_words};
-ghost use Rattle.bpf_canon.specs.btf.write.SectionRecords.{AreTable, frames_of, records_of};
-ghost use Rattle.bpf_canon.specs.btf.write.SectionRecords.{record_info, record_items, record_tail};
+ghost use Rattle.bpf_canon.specs.btf.{CanonicalBtf.record_words, write.NameOffsets.placed};
 ghost use Rattle.bpf_canon.specs.btf.write.NameOffsets.{HasNamedItems, HasNotedNames, all_offsets};
-ghost use Rattle.bpf_canon.specs.btf.write.NameOffsets.{placed};
+ghost use Rattle.bpf_canon.specs.btf.write.SectionRecords as spec;
 
 use crate::btf::strings::shared_places::SharedPlaces;
 use crate::btf::write::header::push_words;
@@ -22,17 +20,13 @@ use std::alloc::{AllocError, Allocator};
 fn canonical_info(this: &Record) -> u32
     requires { IsFrame this.now }
     ensures { (strings : List ℕ) → ReadsRecord strings this.now
-        → result ≡ record_info (record_of strings this.now) }
+        → result ≡ spec.record_info (record_of strings this.now) }
 {
     let info = this.word(1);
-    if flag_of(info) == 0 || !is_struct(this.kind()) {
+    if flag_of(info) == 0 || !is_struct(this.kind()) || this.has_bit_fields() {
         return info;
     }
-    if this.has_bit_fields() {
-        info
-    } else {
-        info & 0x7fff_ffff
-    }
+    info & 0x7fff_ffff
 }
 
 /// Appends an item of `size` 32-bit words, which begins at index `at` of its record: the new offset
@@ -70,8 +64,8 @@ fn push_items<A: Allocator, B: Allocator + Copy>(
     requires reads { ReadsRecord names.now.strings this.now }
     requires noted { HasNotedNames names.now this.now }
     requires items { HasNamedItems this.now size count }
-    ensures { OnOk result (out.new.items ≡ out.old.items
-        ++ bytes_of to (record_items (placed names.now) (record_of names.now.strings this.now))) }
+    ensures { OnOk result (out.new.items ≡ out.old.items ++ bytes_of to
+        (spec.record_items (placed names.now) (record_of names.now.strings this.now))) }
 {
     for k in 0..usize::from(count) {
         let at = 3 + size * k;
@@ -108,8 +102,8 @@ fn push_tail<A: Allocator, B: Allocator + Copy>(
 ) -> Result<(), AllocError>
     requires reads { ReadsRecord names.now.strings this.now }
     requires noted { HasNotedNames names.now this.now }
-    ensures { OnOk result (out.new.items ≡ out.old.items
-        ++ bytes_of to (record_tail (placed names.now) (record_of names.now.strings this.now))) }
+    ensures { OnOk result (out.new.items ≡ out.old.items ++ bytes_of to
+        (spec.record_tail (placed names.now) (record_of names.now.strings this.now))) }
 {
     let kind = this.kind();
     let vlen = this.vlen();
@@ -133,9 +127,7 @@ fn push_record<A: Allocator, B: Allocator + Copy>(
         ++ bytes_of to (record_words (placed names.now) (record_of names.now.strings this.now))) }
 {
     let name = names.place(this.word(0));
-    let third = this.word(2);
-    let canonical = canonical_info(this);
-    push_words(out, to, &[name, canonical, third])?;
+    push_words(out, to, &[name, canonical_info(this), this.word(2)])?;
     push_tail(out, to, names, this)
 }
 
@@ -147,11 +139,11 @@ pub(crate) fn push_records<A: Allocator, B: Allocator + Copy>(
     names: &SharedPlaces<'_, B>,
     sections: &FileSections<'_>,
 ) -> Result<(), AllocError>
-    requires table { AreTable sections.now }
+    requires table { spec.AreTable sections.now }
     requires strings { names.now.strings ≡ sections.now.strings.now }
-    requires noted { All (Contains names.now.offsets) (all_offsets (frames_of sections.now)) }
+    requires noted { All (Contains names.now.offsets) (all_offsets (spec.frames_of sections.now)) }
     ensures { OnOk result (out.new.items ≡ out.old.items
-        ++ section_of to (map (record_words (placed names.now)) (records_of sections.now))) }
+        ++ section_of to (map (record_words (placed names.now)) (spec.records_of sections.now))) }
 {
     for pos in sections.places {
         let this = sections.record_at(*pos as usize);

@@ -21,6 +21,6 @@ returns g c =
     c.place-name.ensures ∙ ap (λ (w : ℕ). place (text_from strings w)) c.word.ensures in
     on_ok_weaker c.push_tail.result
     (λ e. e ∙ ap (λ (t : List ℕ). t ++ bytes_of c.args.to (record_tail place (record_of strings f))) c.in_ok-push_words.ensures
-    ∙ record_pushed c.args.to c.args.out.now.items place strings f c.place-name.result c.canonical_info-canonical.result c.word-third.result
-    c.requires.reads.ends c.requires.reads.spelled at (c.canonical_info-canonical.ensures strings c.requires.reads) c.word-third.ensures)
+    ∙ record_pushed c.args.to c.args.out.now.items place strings f c.place-name.result c.canonical_info.result c.word-2.result
+    c.requires.reads.ends c.requires.reads.spelled at (c.canonical_info.ensures strings c.requires.reads) c.word-2.ensures)
     c.push_tail.ensures
