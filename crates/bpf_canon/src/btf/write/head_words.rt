@@ -41,7 +41,7 @@ pub(crate) fn kind_and_third(head: Head<'_>) -> (u8, u32)
 
 /// kind_flag: for a STRUCT or UNION, 1 if and only if it has bit-fields; for an ENUM, ENUM64, FWD
 /// or tag, the bit of its value.
-fn kind_flag(head: Head<'_>, bit_fields: bool) -> u32
+pub(crate) fn kind_flag(head: Head<'_>, bit_fields: bool) -> u32
     ensures is { result ≡ canonical_flag (head_value head.entry) bit_fields }
     ensures bit { result < 2 }
 {
@@ -55,7 +55,7 @@ fn kind_flag(head: Head<'_>, bit_fields: bool) -> u32
 }
 
 /// vlen: the linkage of a FUNC, or the number of items of any other kind.
-fn head_vlen(head: Head<'_>, count: u32) -> u32
+pub(crate) fn head_vlen(head: Head<'_>, count: u32) -> u32
     requires { count < 2 ^ 16 }
     ensures is { result ≡ words.head_vlen (head_value head.entry) count }
     ensures fits { result < 2 ^ 16 }
@@ -64,23 +64,6 @@ fn head_vlen(head: Head<'_>, count: u32) -> u32
         Head::KFunc { linkage, .. } => linkage.number(),
         _ => count,
     }
-}
-
-/// The info word (kind_flag, kind and vlen) and the third word (a size, a type or 0) of a record
-/// with `count` items.
-pub(crate) fn info_and_third(head: Head<'_>, count: u32, bit_fields: bool) -> (u32, u32)
-    requires { count < 2 ^ 16 }
-    ensures info { result.0
-        ≡ spec.info (spec.kind_number (head_value head.entry))
-        (words.head_vlen (head_value head.entry) count) (canonical_flag
-        (head_value head.entry) bit_fields) }
-    ensures third { result.1 ≡ spec.head_third (head_value head.entry) }
-{
-    let (kind, third) = kind_and_third(head);
-    let info = head_vlen(head, count)
-        + (u32::from(kind) << 24)
-        + (kind_flag(head, bit_fields) << 31);
-    (info, third)
 }
 
 /// The fourth word of an INT: its bits, its offset and its encoding (btf.rst section 2.2.1).
@@ -94,8 +77,5 @@ pub(crate) fn int_word(encoding: Encoding, offset: u8, bits: u8) -> u32
 pub(crate) fn component_word(component: Option<u16>) -> u32
     ensures { result ≡ spec.component_word component }
 {
-    match component {
-        Some(index) => u32::from(index),
-        None => u32::MAX,
-    }
+    component.map_or(u32::MAX, |index| u32::from(index))
 }

@@ -12,7 +12,9 @@ ghost use Rattle.btf_types.specs.Good as good;
 
 use crate::btf::names::kept::kept_names;
 use crate::btf::names::shared::SharedNames;
-use crate::btf::write::head_words::{component_word, info_and_third, int_word};
+use crate::btf::write::head_words::{
+    component_word, head_vlen, int_word, kind_and_third, kind_flag,
+};
 use crate::btf::write::header::{push_header, push_words};
 use crate::btf::write::sections::write_sections;
 use bpf_words::Order;
@@ -54,7 +56,10 @@ fn push_head<A: Allocator, B: Allocator + Copy>(
         ≡ out.old.items ++ bytes_of order (head_words (shared_among names.now)
         (head_value head.entry) count bit_fields)) }
 {
-    let (info, third) = info_and_third(head, count, bit_fields);
+    let (kind, third) = kind_and_third(head);
+    let info = head_vlen(head, count)
+        + (u32::from(kind) << 24)
+        + (kind_flag(head, bit_fields) << 31);
     push_words(out, order, &[names.place(head.name()), info, third])?;
     push_further_words(out, order, head)
 }
@@ -89,16 +94,6 @@ fn push_item<A: Allocator, B: Allocator + Copy>(
     }
 }
 
-/// Whether the item is a bit-field.
-fn has_width(item: Item<'_>) -> bool
-    ensures { result ≡ good.has_width (item_value item.entry) }
-{
-    match item {
-        Item::Member { width, .. } => width != 0,
-        _ => false,
-    }
-}
-
 /// Whether the record has bit-fields.
 #[tactic(auto, using(crate::proofs::BtfLemmas::Write::WriteSteps::width_cases))]
 fn has_bit_fields<T: TypeTable>(table: &T, id: u32) -> bool
@@ -107,7 +102,7 @@ fn has_bit_fields<T: TypeTable>(table: &T, id: u32) -> bool
     ensures { result ≡ good.has_bit_fields (record_at (T.meaning table.now) id) }
 {
     for k in 0..table.item_count(id) {
-        if has_width(table.item(id, k)) {
+        if matches!(table.item(id, k), Item::Member { width, .. } if width != 0) {
             return true;
         }
     }
