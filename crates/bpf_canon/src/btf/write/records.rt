@@ -5,7 +5,7 @@ ghost use Rattle.std.specs.List.{All, Contains};
 ghost use Rattle.btf_raw.specs.Frames.{bytes_of, section_of, IsFrame};
 ghost use Rattle.btf_types.specs.{Reading.record_of, tables.PlaceWords.ReadsRecord};
 ghost use Rattle.bpf_canon.specs.btf.{CanonicalBtf.record_words, write.NameOffsets.placed};
-ghost use Rattle.bpf_canon.specs.btf.write.NameOffsets.{HasNamedItems, HasNotedNames, all_offsets};
+ghost use Rattle.bpf_canon.specs.btf.write.NameOffsets.{HasNotedNames, all_offsets};
 ghost use Rattle.bpf_canon.specs.btf.write.SectionRecords as spec;
 
 use crate::btf::strings::shared_places::SharedPlaces;
@@ -52,29 +52,6 @@ fn push_item<A: Allocator>(
     push_words(out, to, &[name, second, this.word(at + 2)])
 }
 
-/// Appends the items of a record. Each item has `size` 32-bit words, and the first is its name_off.
-fn push_items<A: Allocator, B: Allocator + Copy>(
-    out: &mut Vec<u8, A>,
-    to: Order,
-    names: &SharedPlaces<'_, B>,
-    this: &Record,
-    size: usize,
-    count: u16,
-) -> Result<(), AllocError>
-    requires reads { ReadsRecord names.now.strings this.now }
-    requires noted { HasNotedNames names.now this.now }
-    requires items { HasNamedItems this.now size count }
-    ensures { OnOk result (out.new.items ≡ out.old.items ++ bytes_of to
-        (spec.record_items (placed names.now) (record_of names.now.strings this.now))) }
-{
-    for k in 0..usize::from(count) {
-        let at = 3 + size * k;
-        let name = names.place(this.word(at));
-        push_item(out, to, this, at, size, name)?;
-    }
-    Ok(())
-}
-
 /// Appends everything after the third word of a record whose items have no names.
 #[tactic(auto, using(crate::proofs::BtfLemmas::Write::RecordWords::rest_more))]
 fn push_rest<A: Allocator>(
@@ -107,11 +84,16 @@ fn push_tail<A: Allocator, B: Allocator + Copy>(
 {
     let kind = this.kind();
     let vlen = this.vlen();
-    if has_item_names(kind) {
-        push_items(out, to, names, this, item_words(kind), vlen)
-    } else {
-        push_rest(out, to, this, tail_words(kind, vlen))
+    if !has_item_names(kind) {
+        return push_rest(out, to, this, tail_words(kind, vlen));
     }
+    let size = item_words(kind);
+    for k in 0..usize::from(vlen) {
+        let at = 3 + size * k;
+        let name = names.place(this.word(at));
+        push_item(out, to, this, at, size, name)?;
+    }
+    Ok(())
 }
 
 /// Appends a record.
