@@ -1,5 +1,5 @@
 -- Calls that append keep the old bytes at the start.
-use Rattle.std.proofs.Common.{◌≡◌, ℕ, suc, ◌+◌, ◌<◌, List, [], ◌∷◌, ◌++◌, length, take, get_or, sym, ap, ◌∙◌, arith, append_assoc}
+use Rattle.std.proofs.Common.{◌≡◌, ℕ, suc, ◌+◌, ◌<◌, List, [], ◌∷◌, ◌++◌, length, take, get_or, sym, ap, ◌∙◌, arith, append_assoc, subst}
 use Rattle.std.specs.Prelude.{Result, Ok, Err, MatchResult, OnOk, is_ok, cond}
 use Rattle.std.specs.List.{flat_map}
 use Rattle.std.proofs.{lemmas.List.flat_map_more, Math.Seq.take-suc}
@@ -39,3 +39,10 @@ appends (Err x) before more after kept whole = kept
 pub appended_after : {E : Type 0} (r : Result (Unit {0}) E) (old a b one two : List ℕ) → one ≡ old ++ a → Extends r one b two → Extends r old (a ++ b) two
 appended_after (Ok u) old a b one two e h = h ∙ ap (λ (t : List ℕ). t ++ b) e ∙ append_assoc old a b
 appended_after (Err x) old a b one two e h = kept_more old one two h.0 (a, e) h.1
+
+-- likewise if the first appends a label of several parts and a number, and the second two parts
+pub appended_after_label : {E : Type 0} (r : Result (Unit {0}) E) (old label parts n a b one two : List ℕ) → label ≡ parts → one ≡ old ++ (label ++ n)
+    → Extends r one (a ++ b) two → Extends r old (parts ++ n ++ a ++ b) two
+appended_after_label r old label parts n a b one two l e h =
+    let same : (label ++ n) ++ (a ++ b) ≡ parts ++ n ++ a ++ b = ap (λ (t : List ℕ). (t ++ n) ++ (a ++ b)) l ∙ sym (append_assoc (parts ++ n) a b) in
+    subst (λ (t : List ℕ). Extends r old t two) same (appended_after r old (label ++ n) (a ++ b) one two e h)

@@ -1,6 +1,6 @@
 //! The line of a BTF type: its ID, its kind, its name, and its fields.
 
-ghost use Rattle.std.specs.Prelude.{◌≡◌};
+ghost use Rattle.std.specs.Prelude.{◌≡◌, ◌++◌, codes};
 ghost use Rattle.btf_types.specs.Values.{head_value};
 ghost use Rattle.bpf_text.specs.btf.BtfText as spec;
 ghost use Rattle.bpf_text.specs.btf.LineParts as parts;
@@ -9,29 +9,53 @@ ghost use Rattle.bpf_text.specs.btf.Appending.{Appends};
 use crate::btf::quoted_name::append_quoted_part;
 use crate::btf::text_parts::{append, append_number, append_numbers};
 use btf_types::{Encoding, Head, Linkage};
-use itoa::Buffer;
 use std::alloc::{AllocError, Allocator};
 
-/// The encoding of an INT as a string (btf.rst section 2.2.1).
-fn encoding_name(encoding: Encoding) -> &'static str
-    ensures { result.now ≡ spec.encoding_name encoding }
+/// The encoding of an INT after its label (btf.rst section 2.2.1).
+fn encoding_field(encoding: Encoding) -> &'static str
+    ensures { result.now ≡ codes " encoding=" ++ spec.encoding_name encoding }
 {
     match encoding {
-        Encoding::Plain => "plain",
-        Encoding::Signed => "signed",
-        Encoding::Char => "char",
-        Encoding::Bool => "bool",
+        Encoding::Plain => " encoding=plain",
+        Encoding::Signed => " encoding=signed",
+        Encoding::Char => " encoding=char",
+        Encoding::Bool => " encoding=bool",
     }
 }
 
-/// The linkage of a FUNC or VAR as a string (btf.rst sections 2.2.12 and 2.2.14).
-fn linkage_name(linkage: Linkage) -> &'static str
-    ensures { result.now ≡ spec.linkage_name linkage }
+/// The linkage of a FUNC or VAR (btf.rst sections 2.2.12 and 2.2.14), and the label of its type.
+fn linkage_and_label(linkage: Linkage) -> &'static str
+    ensures { result.now ≡ codes " " ++ spec.linkage_name linkage ++ codes " type=" }
 {
     match linkage {
-        Linkage::LStatic => "static",
-        Linkage::LGlobal => "global",
-        Linkage::LExtern => "extern",
+        Linkage::LStatic => " static type=",
+        Linkage::LGlobal => " global type=",
+        Linkage::LExtern => " extern type=",
+    }
+}
+
+/// The flag of a tag (btf.rst sections 2.2.17 and 2.2.18), and the label of its type.
+fn flag_and_label(flag: bool) -> &'static str
+    ensures { result.now ≡ codes " flag=" ++ spec.flag_text flag ++ codes " type=" }
+{
+    if flag {
+        " flag=1 type="
+    } else {
+        " flag=0 type="
+    }
+}
+
+/// Appends the component of a tag: -1 if the tag is on the target itself (btf.rst section 2.2.17).
+fn append_component<A: Allocator>(
+    text: &mut Vec<u8, A>,
+    component: Option<u16>,
+) -> Result<(), AllocError>
+    ensures { Appends result text.old (codes " component=" ++ spec.component_text component)
+        text.new }
+{
+    match component {
+        Some(index) => append_number(text, " component=", index),
+        None => append(text, " component=-1"),
     }
 }
 
@@ -74,51 +98,31 @@ fn append_fields<A: Allocator>(
     match head {
         Head::KInt { size, encoding, offset, bits, .. } => {
             append_number(text, " size=", size)?;
-            append(text, " encoding=")?;
-            append(text, encoding_name(encoding))?;
+            append(text, encoding_field(encoding))?;
             append_numbers(text, &[(" offset=", u32::from(offset)), (" bits=", u32::from(bits))])
         }
-        Head::KPtr { target }
-        | Head::KVolatile { target }
-        | Head::KConst { target }
-        | Head::KRestrict { target }
-        | Head::KTypedef { target, .. } => append_number(text, " type=", target),
-        Head::KArray { target, index, count } => append_numbers(
-            text,
-            &[(" type=", target), (" index=", index), (" count=", count)],
-        ),
-        Head::KStruct { size, .. } | Head::KUnion { size, .. } | Head::KDatasec { size, .. } => {
-            append_numbers(text, &[(" size=", size), (" items=", items)])
-        }
+        Head::KPtr { target } | Head::KVolatile { target } | Head::KConst { target }
+        | Head::KRestrict { target } | Head::KTypedef { target, .. } =>
+            append_number(text, " type=", target),
+        Head::KArray { target, index, count } =>
+            append_numbers(text, &[(" type=", target), (" index=", index), (" count=", count)]),
+        Head::KStruct { size, .. } | Head::KUnion { size, .. } | Head::KDatasec { size, .. } =>
+            append_numbers(text, &[(" size=", size), (" items=", items)]),
         Head::KEnum { signed, size, .. } | Head::KEnum64 { signed, size, .. } => {
             append(text, if signed { " signed" } else { " unsigned" })?;
             append_numbers(text, &[(" size=", size), (" items=", items)])
         }
         Head::KFwd { is_union, .. } => append(text, if is_union { " union" } else { " struct" }),
-        Head::KFunc { linkage, target, .. }
-        | Head::KVar { target, linkage, .. } => {
-            append(text, " ")?;
-            append(text, linkage_name(linkage))?;
-            append_number(text, " type=", target)
-        }
-        Head::KFuncProto { target } => {
-            append_numbers(text, &[(" type=", target), (" items=", items)])
-        }
+        Head::KFunc { linkage, target, .. } | Head::KVar { target, linkage, .. } =>
+            append_number(text, linkage_and_label(linkage), target),
+        Head::KFuncProto { target } =>
+            append_numbers(text, &[(" type=", target), (" items=", items)]),
         Head::KFloat { size, .. } => append_number(text, " size=", size),
         Head::KDeclTag { flag, target, component, .. } => {
-            append(text, if flag { " flag=1" } else { " flag=0" })?;
-            append_number(text, " type=", target)?;
-            append(text, " component=")?;
-            match component {
-                Some(index) => append(text, Buffer::new().format(index)),
-                // The tag is on the target itself (btf.rst section 2.2.17).
-                None => append(text, "-1"),
-            }
+            append_number(text, flag_and_label(flag), target)?;
+            append_component(text, component)
         }
-        Head::KTypeTag { flag, target, .. } => {
-            append(text, if flag { " flag=1" } else { " flag=0" })?;
-            append_number(text, " type=", target)
-        }
+        Head::KTypeTag { flag, target, .. } => append_number(text, flag_and_label(flag), target),
     }
 }
 
@@ -143,8 +147,7 @@ fn has_name(head: Head<'_>) -> bool
 ///
 /// # Errors
 ///
-/// `AllocError` if the vector can't grow. Its contents are kept; a prefix of the line may have been
-/// appended.
+/// `AllocError` if the vector can't grow. Its contents stay; part of the line may follow them.
 pub fn append_head_start<A: Allocator>(
     text: &mut Vec<u8, A>,
     id: u32,
@@ -163,8 +166,7 @@ pub fn append_head_start<A: Allocator>(
 ///
 /// # Errors
 ///
-/// `AllocError` if the vector can't grow. Its contents are kept; a prefix of the rest of the line
-/// may have been appended.
+/// `AllocError` if the vector can't grow. Its contents stay; part of the rest may follow them.
 pub fn append_head_end<A: Allocator>(
     text: &mut Vec<u8, A>,
     head: Head<'_>,
@@ -184,8 +186,7 @@ pub fn append_head_end<A: Allocator>(
 ///
 /// # Errors
 ///
-/// `AllocError` if the vector can't grow. Its contents are kept; a prefix of the line may have been
-/// appended.
+/// `AllocError` if the vector can't grow. Its contents stay; part of the line may follow them.
 pub fn append_head<A: Allocator>(
     text: &mut Vec<u8, A>,
     id: u32,

@@ -9,7 +9,6 @@ ghost use Rattle.bpf_text.specs.btf.Appending.{Appends};
 use crate::btf::quoted_name::append_quoted_part;
 use crate::btf::text_parts::{append, append_number, append_numbers};
 use btf_types::Item;
-use itoa::Buffer;
 use std::alloc::{AllocError, Allocator};
 
 /// Appends the fields of an item, after the closing quote if it has a name. Enum values are printed
@@ -23,31 +22,15 @@ fn append_item_fields<A: Allocator>(
     ensures { Appends result text.old (parts.item_fields signed (item_value item.entry)) text.new }
 {
     match item {
-        Item::Member { target, bit_offset, width, .. } => append_numbers(
-            text,
-            &[("\" type=", target), (" offset=", bit_offset), (" width=", u32::from(width))],
-        ),
-        Item::EnumValue { value, .. } => {
-            append(text, "\" ")?;
-            if signed {
-                append(text, Buffer::new().format(value.cast_signed()))
-            } else {
-                append(text, Buffer::new().format(value))
-            }
-        }
-        Item::Value64 { value, .. } => {
-            append(text, "\" ")?;
-            if signed {
-                append(text, Buffer::new().format(value.cast_signed()))
-            } else {
-                append(text, Buffer::new().format(value))
-            }
-        }
+        Item::Member { target, bit_offset, width, .. } => append_numbers(text,
+            &[("\" type=", target), (" offset=", bit_offset), (" width=", u32::from(width))]),
+        Item::EnumValue { value, .. } if signed => append_number(text, "\" ", value.cast_signed()),
+        Item::EnumValue { value, .. } => append_number(text, "\" ", value),
+        Item::Value64 { value, .. } if signed => append_number(text, "\" ", value.cast_signed()),
+        Item::Value64 { value, .. } => append_number(text, "\" ", value),
         Item::Param { target, .. } => append_number(text, "\" type=", target),
-        Item::Entry { target, offset, size } => append_numbers(
-            text,
-            &[(" type=", target), (" offset=", offset), (" size=", size)],
-        ),
+        Item::Entry { target, offset, size } =>
+            append_numbers(text, &[(" type=", target), (" offset=", offset), (" size=", size)]),
     }
 }
 
@@ -57,8 +40,7 @@ fn append_item_fields<A: Allocator>(
 ///
 /// # Errors
 ///
-/// `AllocError` if the vector can't grow. Its contents are kept; a prefix of the line may have been
-/// appended.
+/// `AllocError` if the vector can't grow. Its contents stay; part of the line may follow them.
 pub fn append_item_start<A: Allocator>(
     text: &mut Vec<u8, A>,
     item: Item<'_>,
@@ -79,8 +61,7 @@ pub fn append_item_start<A: Allocator>(
 ///
 /// # Errors
 ///
-/// `AllocError` if the vector can't grow. Its contents are kept; a prefix of the rest of the line
-/// may have been appended.
+/// `AllocError` if the vector can't grow. Its contents stay; part of the rest may follow them.
 pub fn append_item_end<A: Allocator>(
     text: &mut Vec<u8, A>,
     item: Item<'_>,
@@ -98,8 +79,7 @@ pub fn append_item_end<A: Allocator>(
 ///
 /// # Errors
 ///
-/// `AllocError` if the vector can't grow. Its contents are kept; a prefix of the line may have been
-/// appended.
+/// `AllocError` if the vector can't grow. Its contents stay; part of the line may follow them.
 pub fn append_item<A: Allocator>(
     text: &mut Vec<u8, A>,
     item: Item<'_>,

@@ -59,8 +59,7 @@ fn append_byte<A: Allocator>(text: &mut Vec<u8, A>, byte: u8) -> Result<(), Allo
 ///
 /// # Errors
 ///
-/// `AllocError` if the vector can't grow. Its contents are kept; a prefix of the escaped bytes may
-/// have been appended.
+/// `AllocError` if the vector can't grow. Its contents stay; part of the new bytes may follow them.
 pub fn append_quoted_part<A: Allocator>(
     text: &mut Vec<u8, A>,
     part: &[u8],

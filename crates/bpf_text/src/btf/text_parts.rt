@@ -3,7 +3,7 @@
 ghost use Rattle.std.specs.{Prelude.◌≡◌, Prelude.◌++◌, Prelude.decimal, List.flat_map};
 ghost use Rattle.bpf_text.specs.btf.Appending.{Appends};
 
-use itoa::Buffer;
+use itoa::{Buffer, Integer};
 use std::alloc::{AllocError, Allocator};
 
 /// Appends a string.
@@ -14,12 +14,12 @@ pub(crate) fn append<A: Allocator>(text: &mut Vec<u8, A>, more: &str) -> Result<
 }
 
 /// Appends a label and a number in decimal.
-pub(crate) fn append_number<A: Allocator>(
+pub(crate) fn append_number<A: Allocator, I: Integer>(
     text: &mut Vec<u8, A>,
     label: &str,
-    number: u32,
+    number: I,
 ) -> Result<(), AllocError>
-    ensures { Appends result text.old (label.now ++ decimal number) text.new }
+    ensures { Appends result text.old (label.now ++ I.text number) text.new }
 {
     append(text, label)?;
     append(text, Buffer::new().format(number))
