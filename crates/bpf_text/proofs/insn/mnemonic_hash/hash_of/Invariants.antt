@@ -4,6 +4,6 @@ use Rattle.bpf_text.proofs.insn.mnemonic_hash.hash_of.Given as goal
 
 abbrev pub invariant-loop-b : goal.invariant-loop-b
 invariant-loop-b l = record {
-  below : l.hash < 65536;
+  below : l.hash < 0x100000000;
   rest : hash_from l.hash (drop l.b-index l.token) ≡ hash_from 0 l.token;
 }
