@@ -1,6 +1,6 @@
 -- The hash of each mnemonic leads to its entry in the table. A test that all entries pass is therefore passed by all mnemonics.
-use Rattle.std.proofs.Common.{◌≡◌, ◌≢◌, ℕ, zero, suc, Bool, true, List, [], ◌∷◌, get_or, refl, sym, ap, ◌∙◌, subst}
-use Rattle.std.specs.List.{list_all}
+use Rattle.std.proofs.Common.{◌≡◌, ◌≢◌, ℕ, zero, suc, Bool, true, false, List, [], ◌∷◌, Option, IfNone, get_or, eqb, refl, sym, ap, ◌∙◌, subst}
+use Rattle.std.specs.{List.list_all, Cmp.Lexicographic.pointwise, Bool.then_some}
 use Rattle.bpf_insn.specs.declared.insn.Width.TheVariants.{W32, W64}
 use Rattle.bpf_insn.specs.declared.insn.Size.TheVariants as size
 use Rattle.bpf_insn.specs.declared.insn.SmallSize.TheVariants as small
@@ -14,7 +14,7 @@ use Rattle.bpf_text.specs.declared.insn.mnemonic.WideKind.TheVariants as kind
 use Rattle.bpf_text.specs.declared.insn.{mnemonic.Mnemonic.Mnemonic, mnemonic.TheConstants.ALL, mnemonic_hash.TheConstants.INDEX_BY_HASH}
 use Rattle.bpf_text.specs.declared.insn.mnemonic.Mnemonic.TheVariants.{Alu, Movsx, Neg, Swap, Branch, Exit, Load, LoadSigned, StoreImm, StoreReg, Atomic, Wide, PacketAbs, PacketInd}
 use Rattle.bpf_text.specs.insn.{Mnemonics.text_of_mnemonic, MnemonicHash.hash_of}
-use Rattle.std.proofs.lemmas.Bool.{and_parts}
+use Rattle.std.proofs.lemmas.{Bool.and_parts, Bool.false≢true, Bool.Decides.Decides-eqb, Slice.Eq.slice_eq-Decides}
 
 -- the entry to which the hash of a token leads
 abbrev pub entry : List ℕ → Mnemonic → Mnemonic
@@ -50,6 +50,14 @@ pub none_of_hash : (token : List ℕ) (hash k : ℕ) (m d : Mnemonic) → hash �
 none_of_hash token hash k m d h p other same =
     let led : k ≡ get_or INDEX_BY_HASH (hash_of (text_of_mnemonic m)) 0 = p ∙ ap (λ n. get_or INDEX_BY_HASH n 0) (h ∙ ap hash_of same) in
     other (same ∙ ap text_of_mnemonic (sym (ap (λ n. get_or ALL n d) led ∙ stands m d)))
+
+-- likewise for what is returned after the comparison of the token with the mnemonic at its hash
+pub none_but_entry : (token text : List ℕ) (hash k : ℕ) (same : Bool) (d : Mnemonic) (found : Option Mnemonic) → hash ≡ hash_of token → k ≡ get_or INDEX_BY_HASH hash 0
+    → text ≡ text_of_mnemonic (get_or ALL k d) → same ≡ pointwise eqb token text → found ≡ then_some same (get_or ALL k d) → IfNone found ((m : Mnemonic) → token ≢ text_of_mnemonic m)
+none_but_entry token text hash k true d found h p t e is = subst (λ x. IfNone x ((m : Mnemonic) → token ≢ text_of_mnemonic m)) (sym is) tt
+none_but_entry token text hash k false d found h p t e is =
+    subst (λ x. IfNone x ((m : Mnemonic) → token ≢ text_of_mnemonic m)) (sym is)
+    (λ m. none_of_hash token hash k m d h p (λ equal. false≢true ((slice_eq-Decides Decides-eqb token text false e).1 (equal ∙ sym t))))
 
 at_entry : (test : Mnemonic → Bool) (ms : List Mnemonic) (k : ℕ) (d : Mnemonic) → list_all test ms ≡ true → test d ≡ true → test (get_or ms k d) ≡ true
 at_entry test [] k d h e = e

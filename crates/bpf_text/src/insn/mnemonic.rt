@@ -45,11 +45,12 @@ pub(crate) enum Mnemonic {
     PacketInd(SmallSize),
 }
 
-/// The table of mnemonics, each with its string. It is passed to the macro `$make`.
+/// The table of mnemonics, each with its string. It is passed to the macro `$make`, after the value
+/// if that macro takes one.
 macro_rules! mnemonics {
-    ($make:ident, $value:expr) => {
+    ($make:ident $(, $value:expr)?) => {
         $make! {
-            $value;
+            $($value)?;
             Mnemonic::Alu(Width::W64, AluOp::Add) => "add",
             Mnemonic::Alu(Width::W64, AluOp::And) => "and",
             Mnemonic::Alu(Width::W64, AluOp::Arsh) => "arsh",
@@ -176,7 +177,7 @@ macro_rules! mnemonics {
 
 /// An array of the mnemonics in the table.
 macro_rules! values {
-    ($value:expr; $($mnemonic:expr => $text:expr,)*) => { [$($mnemonic),*] };
+    (; $($mnemonic:expr => $text:expr,)*) => { [$($mnemonic),*] };
 }
 
 /// The string of a mnemonic in the table.
@@ -185,7 +186,7 @@ macro_rules! text_in_table {
 }
 
 /// All mnemonics, at the indices that `mnemonic_hash` finds.
-static ALL: [Mnemonic; 120] = mnemonics!(values, 0);
+static ALL: [Mnemonic; 120] = mnemonics!(values);
 
 impl WideKind {
     /// What a wide load loads, without the values.
@@ -240,22 +241,12 @@ impl Mnemonic {
         mnemonics!(text_in_table, self)
     }
 
-    /// Whether a token is this mnemonic.
-    fn is_spelled(self, token: &[u8]) -> bool
-        ensures { IsTrue result ↔ (token.now ≡ text_of_mnemonic self) }
-    {
-        token == self.text().as_bytes()
-    }
-
     /// The mnemonic that a token spells, if any.
     pub(crate) fn read(token: &[u8]) -> Option<Mnemonic>
         ensures none { IfNone result ((m : Mnemonic) → token.now ≢ text_of_mnemonic m) }
         ensures some { IfSome result (λ m. token.now ≡ text_of_mnemonic m) }
     {
         let mnemonic = ALL[index_of(hash_of(token))];
-        if mnemonic.is_spelled(token) {
-            return Some(mnemonic);
-        }
-        None
+        (token == mnemonic.text().as_bytes()).then_some(mnemonic)
     }
 }

@@ -1,8 +1,8 @@
-use Rattle.std.proofs.lemmas.Bool.{false≢true}
-use Rattle.bpf_text.proofs.InsnLemmas.EachMnemonic.{none_of_hash}
+use Rattle.std.proofs.Common.{◌∙◌}
+use Rattle.bpf_text.proofs.InsnLemmas.EachMnemonic.{none_but_entry}
 use Rattle.bpf_text.proofs.insn.mnemonic.Mnemonic.read.Goals as goal
 
 pub returns-clause-none : goal.returns-clause-none
-returns-clause-none c = λ m.
-    none_of_hash c.args.token.now c.hash_of.result c.index_of.result m _ c.hash_of.ensures.value c.index_of.ensures.value
-    (λ same. false≢true (rw c.if-is_spelled.false at (c.is_spelled.ensures.1 same)))
+returns-clause-none c =
+    none_but_entry c.args.token.now c.as_bytes.result.now c.hash_of.result c.index_of.result c.eq.result _ c.then_some.result c.hash_of.ensures.value c.index_of.ensures.value
+    (c.as_bytes.ensures.value ∙ c.text.ensures) c.eq.ensures c.then_some.ensures
