@@ -82,24 +82,15 @@ pub(crate) fn address(operand: ReadOperand) -> Result<Address, LineCause>
 }
 
 /// Both of two results. `Shape` is reported rather than `Range`, whichever operand is faulty first.
-pub(crate) fn both<A, B>(
+pub(crate) fn both<A: Drop, B: Drop>(
     first: Result<A, LineCause>,
     second: Result<B, LineCause>,
 ) -> Result<(A, B), LineCause>
-where
-    A: Drop,
-    B: Drop,
     ensures { BothRead first second result }
 {
-    match first {
-        Ok(a) => match second {
-            Ok(b) => Ok((a, b)),
-            Err(cause) => Err(cause),
-        },
-        Err(LineCause::Range) => match second {
-            Err(LineCause::Shape) => Err(LineCause::Shape),
-            _ => Err(LineCause::Range),
-        },
-        Err(cause) => Err(cause),
+    match (first, second) {
+        (Ok(a), Ok(b)) => Ok((a, b)),
+        (Err(LineCause::Range), Err(LineCause::Shape)) => Err(LineCause::Shape),
+        (Err(cause), _) | (Ok(_), Err(cause)) => Err(cause),
     }
 }
