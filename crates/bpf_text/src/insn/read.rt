@@ -82,19 +82,13 @@ fn read_line<'a>(tokens: &mut Tokens<'a>, line: &'a [u8]) -> Result<Option<Insn>
 /// The instruction of a line, or `None` if it has no tokens. An error includes the line number.
 fn read_numbered<'a>(
     tokens: &mut Tokens<'a>,
-    line: &'a [u8],
-    number: u64,
+    text: &'a [u8],
+    line: u64,
 ) -> Result<Option<Insn>, ListError>
     ensures { MatchResult result (λ found.
-        ListsLine line.now (option_to_list found)) (RefusesLine line.now number) }
+        ListsLine text.now (option_to_list found)) (RefusesLine text.now line) }
 {
-    match read_line(tokens, line) {
-        Ok(found) => Ok(found),
-        Err(cause) => Err(ListError::Fault(LineFault {
-            line: number,
-            cause,
-        })),
-    }
+    read_line(tokens, text).map_err(|cause| ListError::Fault(LineFault { line, cause }))
 }
 
 /// Passes the instructions of all lines to the sink, in order. On an error the sink may already
