@@ -56,18 +56,12 @@ fn wide_from_operands(kind: WideKind, operands: &[ReadOperand]) -> Result<Insn, 
     }
 }
 
-/// The instruction with this mnemonic and these operands. `Shape` is reported rather than `Range`,
-/// whichever operand is faulty first.
+/// The instruction with this mnemonic and these operands, whose number is that of the mnemonic.
 #[rattlefmt::skip]
-pub(crate) fn insn_from_operands(
-    mnemonic: Mnemonic,
-    operands: &[ReadOperand],
-) -> Result<Insn, LineCause>
+fn insn_of_form(mnemonic: Mnemonic, operands: &[ReadOperand]) -> Result<Insn, LineCause>
+    requires { length operands.now ≡ operand_count mnemonic }
     ensures { InsnIsRead mnemonic operands.now result }
 {
-    if operands.len() != operand_count(mnemonic) {
-        return Err(LineCause::Shape);
-    }
     match mnemonic {
         Mnemonic::Alu(width, op) => both(register(operands[0]), source(operands[1]))
             .map(|(dst, arg)| Insn::Alu { width, op, dst, arg }),
@@ -101,4 +95,18 @@ pub(crate) fn insn_from_operands(
         Mnemonic::PacketInd(size) => both(register(operands[0]), imm(operands[1]))
             .map(|(src, imm)| Insn::PacketInd { size, src, imm }),
     }
+}
+
+/// The instruction with this mnemonic and these operands. `Shape` is reported rather than `Range`,
+/// whichever operand is faulty first.
+pub(crate) fn insn_from_operands(
+    mnemonic: Mnemonic,
+    operands: &[ReadOperand],
+) -> Result<Insn, LineCause>
+    ensures { InsnIsRead mnemonic operands.now result }
+{
+    if operands.len() != operand_count(mnemonic) {
+        return Err(LineCause::Shape);
+    }
+    insn_of_form(mnemonic, operands)
 }
