@@ -1,7 +1,7 @@
 -- From a mnemonic and operands to what the tokens list.
-use Rattle.std.proofs.Common.{◌≡◌, ◌≢◌, ℕ, pos, List, [], ◌∷◌, map, refl, sym, ap, ◌∙◌, subst, Result, Ok, Err, ◌<◌, ◌≤◌, false, length, arith}
+use Rattle.std.proofs.Common.{◌≡◌, ◌≢◌, ℕ, pos, List, [], ◌∷◌, map, refl, sym, ap, ◌∙◌, subst, Result, Ok, Err, MatchResult, Option, Some, ◌<◌, ◌≤◌, false, length, arith}
 use Rattle.bpf_text.specs.insn.Tokens.{code_of, is_stray, StartsWithToken, AreTokens}
-use Rattle.std.specs.List.{AllZip, slice_split, list_any}
+use Rattle.std.specs.{List.AllZip, List.slice_split, List.list_any, Option.option_to_list, Prelude.IsOkAnd}
 use Rattle.bpf_insn.specs.declared.insn.{Insn.Insn}
 use Rattle.bpf_insn.specs.declared.insn.Insn.TheVariants as insn
 use Rattle.bpf_insn.specs.declared.insn.Operand.TheVariants as arg
@@ -11,7 +11,7 @@ use Rattle.bpf_text.specs.declared.insn.fault.LineCause.{LineCause, TheVariants.
 use Rattle.bpf_text.specs.{declared.insn.mnemonic.Mnemonic.Mnemonic, insn.Table.mnemonic_text, insn.Table.operands_of, insn.Reading.ReadsTokens}
 use Rattle.bpf_text.specs.insn.Operands.{LineOperand, register, operand_kind, SpellsOperand, SpellsOperands, is_comma}
 use Rattle.bpf_text.specs.insn.{Mnemonics.mnemonic_of, Mnemonics.text_of_mnemonic, OperandFields.plain, OperandFields.ReadsInsn}
-use Rattle.bpf_text.specs.insn.Listing.{IsMnemonic, IsForm, ListsInsn, IsCause}
+use Rattle.bpf_text.specs.insn.Listing.{IsMnemonic, IsForm, ListsInsn, ListsLine, IsCause}
 use Rattle.bpf_text.proofs.InsnLemmas.{Bounds.tokens_bound, Bounds.form_bound, OperandFieldsLemmas.plain_kinds}
 use Rattle.bpf_text.proofs.InsnLemmas.MakeTable.{some_insn}
 use Rattle.bpf_text.proofs.InsnLemmas.{TokensExist.tokens_exist, OneOperand.one_operands, EachMnemonic.one_mnemonic, OneInsn.mnemonic_text_is}
@@ -126,7 +126,7 @@ module _ (word : List ℕ) (ts : List (List ℕ)) (m : Mnemonic) (e : word ≡ t
 
 -- the result for the first token and the others is the result for the line
 module _ (line word rest : List ℕ) (starts : StartsWithToken (code_of line) word rest) where
-  pub line_cause : (cause : LineCause) → ((ts : List (List ℕ)) → AreTokens rest ts → ReadsTokens word ts (Err cause)) → list_any is_stray rest ≡ false → IsCause line cause
+  line_cause : (cause : LineCause) → ((ts : List (List ℕ)) → AreTokens rest ts → ReadsTokens word ts (Err cause)) → list_any is_stray rest ≡ false → IsCause line cause
   line_cause cause reads none = let more = tokens_exist rest none in holds cause more.0 more.1 (reads more.0 more.1)
     where
       holds : (c : LineCause) (ts : List (List ℕ)) → AreTokens rest ts → ReadsTokens word ts (Err c) → IsCause line c
@@ -134,8 +134,18 @@ module _ (line word rest : List ℕ) (starts : StartsWithToken (code_of line) wo
       holds Word ts t h = (word, ts, (rest, starts, t), h)
       holds _ ts t h = (word, ts, (rest, starts, t), h.0, h.1)
 
-  pub line_insn : (i : Insn) → ((ts : List (List ℕ)) → AreTokens rest ts → ReadsTokens word ts (Ok i)) → list_any is_stray rest ≡ false → ListsInsn line i
+  line_insn : (i : Insn) → ((ts : List (List ℕ)) → AreTokens rest ts → ReadsTokens word ts (Ok i)) → list_any is_stray rest ≡ false → ListsInsn line i
   line_insn i reads none =
       let more = tokens_exist rest none in
       let h = reads more.0 more.1 in
       (h.0, (word ∷ more.0, (rest, starts, more.1), h.1))
+
+  -- likewise for the result in which the instruction is an option
+  pub line_mapped : {Post : Insn → Option Insn → Type 0} (r : Result Insn LineCause) (s : Result (Option Insn) LineCause)
+      → MatchResult r (λ i. IsOkAnd s (Post i)) (λ e. s ≡ Err e) → ((i : Insn) (found : Option Insn) → Post i found → found ≡ Some i)
+      → ((ts : List (List ℕ)) → AreTokens rest ts → ReadsTokens word ts r) → list_any is_stray rest ≡ false
+      → MatchResult s (λ found. ListsLine line (option_to_list found)) (IsCause line)
+  line_mapped (Ok i) (Ok found) made some reads none = subst (λ (o : Option Insn). ListsLine line (option_to_list o)) (sym (some i found made)) (line_insn i reads none)
+  line_mapped (Ok i) (Err e) made some reads none = absurd made
+  line_mapped (Err e) s made some reads none =
+      subst (λ (t : Result (Option Insn) LineCause). MatchResult t (λ found. ListsLine line (option_to_list found)) (IsCause line)) (sym made) (line_cause e reads none)

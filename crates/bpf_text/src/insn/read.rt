@@ -72,10 +72,7 @@ fn read_line<'a>(tokens: &mut Tokens<'a>, line: &'a [u8]) -> Result<Option<Insn>
     };
     match next_token(code) {
         None => Ok(None),
-        Some(parts) => match insn_from_tokens(tokens, parts.0, parts.1) {
-            Ok(insn) => Ok(Some(insn)),
-            Err(cause) => Err(cause),
-        },
+        Some((first, following)) => insn_from_tokens(tokens, first, following).map(Some),
     }
 }
 
