@@ -9,18 +9,6 @@ use btf_raw::BtfFault;
 use btf_types::{BtfError, BtfView};
 use std::alloc::Allocator;
 
-/// Validates a file that is compared with itself.
-fn same_file<A: Allocator>(alloc: A, bytes: &[u8]) -> Result<bool, SideError<BtfFault>>
-    ensures same { IfOk result (ComparesBtf bytes.now bytes.now) }
-    ensures fault { IfErr result (NamesBtfSide bytes.now bytes.now) }
-{
-    match BtfView::parse(alloc, bytes) {
-        Ok(_) => Ok(true),
-        Err(BtfError::Fault(fault)) => Err(SideError::First(fault)),
-        Err(BtfError::Memory) => Err(SideError::Memory),
-    }
-}
-
 /// Whether two BTF files (btf.rst section 2) denote the same records, which is the case if and only
 /// if their canonical bytes are equal.
 ///
@@ -38,7 +26,11 @@ pub fn same_btf<A: Allocator>(alloc: A, a: &[u8], b: &[u8]) -> Result<bool, Side
     ensures fault { IfErr result (NamesBtfSide a.now b.now) }
 {
     if a == b {
-        return same_file(alloc, a);
+        return match BtfView::parse(alloc, a) {
+            Ok(_) => Ok(true),
+            Err(BtfError::Fault(fault)) => Err(SideError::First(fault)),
+            Err(BtfError::Memory) => Err(SideError::Memory),
+        };
     }
     let first = match canonical_in(&alloc, Order::Little, a) {
         Ok(canon) => canon,
