@@ -34,8 +34,7 @@ pub fn canon_btf<A: Allocator + Copy>(alloc: A, bytes: &[u8]) -> Result<Vec<u8, 
 ///
 /// # Errors
 ///
-/// `Fault` with the first fault of the file and its offset in bytes from the start of `bytes`.
-/// `Memory` if an allocation failed.
+/// Those of [`canon_btf`].
 pub fn canonical_in<A: Allocator + Copy>(
     alloc: A,
     to: Order,

@@ -7,8 +7,7 @@
 ghost use Rattle.std.specs.Prelude.{◌≡◌, ◌<◌, ◌^◌, ◌++◌, IfOk, OnOk, length};
 ghost use Rattle.btf_types.specs.Names.{kept, table_of};
 ghost use Rattle.btf_types.specs.strings.SharedNames.{hosts_of, shared_among};
-ghost use Rattle.bpf_canon.specs.btf.names.Interned.{lent_texts, AreIndexed, HaveHosts};
-ghost use Rattle.bpf_canon.specs.btf.names.Interned.{ArePlacedHosts, IsPlaced};
+ghost use Rattle.bpf_canon.specs.btf.names.Interned as spec;
 
 use crate::btf::names::kept::NameSet;
 use crate::btf::suffixes::compare_from_end;
@@ -20,7 +19,7 @@ fn sorted_from_end<'a, A: Allocator>(
     alloc: A,
     names: &[&'a str],
 ) -> Result<Vec<(&'a str, usize), A>, AllocError>
-    ensures { IfOk result (λ sorted. AreIndexed (lent_texts names.now) sorted.items) }
+    ensures { IfOk result (λ sorted. spec.AreIndexed (spec.lent_texts names.now) sorted.items) }
 {
     let mut sorted = Vec::with_capacity(alloc, names.len())?;
     for index in 0..names.len() {
@@ -35,8 +34,8 @@ fn found_hosts<'a, A: Allocator + Copy>(
     alloc: A,
     names: &[&'a str],
 ) -> Result<Vec<usize, A>, AllocError>
-    requires { kept (lent_texts names.now) ≡ lent_texts names.now }
-    ensures { IfOk result (λ host_indices. HaveHosts (lent_texts names.now) host_indices.items) }
+    requires { kept (spec.lent_texts names.now) ≡ spec.lent_texts names.now }
+    ensures { IfOk result (λ found. spec.HaveHosts (spec.lent_texts names.now) found.items) }
 {
     let sorted = sorted_from_end(alloc, names)?;
     let mut host_indices = vec![in alloc; 0; names.len()]?;
@@ -60,11 +59,11 @@ fn placed_hosts<A: Allocator>(
     names: &[&str],
     host_indices: &[usize],
 ) -> Result<(Vec<u32, A>, u32), AllocError>
-    requires own { kept (lent_texts names.now) ≡ lent_texts names.now }
-    requires host_indices { HaveHosts (lent_texts names.now) host_indices.now }
-    requires room { length (table_of (hosts_of (lent_texts names.now))) < 2 ^ 32 }
+    requires own { kept (spec.lent_texts names.now) ≡ spec.lent_texts names.now }
+    requires host_indices { spec.HaveHosts (spec.lent_texts names.now) host_indices.now }
+    requires room { length (table_of (hosts_of (spec.lent_texts names.now))) < 2 ^ 32 }
     ensures { IfOk result (λ (places, len).
-        ArePlacedHosts (lent_texts names.now) host_indices.now places.items len) }
+        spec.ArePlacedHosts (spec.lent_texts names.now) host_indices.now places.items len) }
 {
     let mut places = vec![in alloc; 0; names.len()]?;
     let mut len = 1;
@@ -102,9 +101,9 @@ impl<'a, A: Allocator> Model for SharedNames<'a, A> {
 impl<'a, A: Allocator + Copy> SharedNames<'a, A> {
     /// Computes the offsets of the names.
     pub(crate) fn new(alloc: A, names: NameSet<'a, A>) -> Result<Self, AllocError>
-        requires own { kept (lent_texts names.keys) ≡ lent_texts names.keys }
-        requires room { length (table_of (hosts_of (lent_texts names.keys))) < 2 ^ 32 }
-        ensures { IfOk result (λ n. n ≡ lent_texts names.entry.keys) }
+        requires own { kept (spec.lent_texts names.keys) ≡ spec.lent_texts names.keys }
+        requires room { length (table_of (hosts_of (spec.lent_texts names.keys))) < 2 ^ 32 }
+        ensures { IfOk result (λ n. n ≡ spec.lent_texts names.entry.keys) }
     {
         let host_indices = found_hosts(alloc, names.as_slice())?;
         let (places, table_len) = placed_hosts(alloc, names.as_slice(), &host_indices)?;
@@ -118,7 +117,7 @@ impl<'a, A: Allocator + Copy> SharedNames<'a, A> {
 
     /// The offset of a name in the string table, within its host. The empty name has offset 0.
     pub(crate) fn place(&self, name: &str) -> u32
-        requires { IsPlaced self.now name.now }
+        requires { spec.IsPlaced self.now name.now }
         ensures { result ≡ shared_among self.now name.now }
     {
         if name.is_empty() {
