@@ -29,10 +29,7 @@ fn nul_between(strings: &[u8], off: usize, to: usize) -> Option<usize>
     ensures { MatchOption result ((i : ℕ) → off ≤ i → i < to
         → slice_index strings.now i ≢ 0) (λ end. IsEnd strings.now off end × (end < to)) }
 {
-    match memchr(0, &strings[off..to]) {
-        Some(len) => Some(off + len),
-        None => None,
-    }
+    memchr(0, &strings[off..to]).map(|len| off + len)
 }
 
 /// Appends the offsets of the ends of all strings of at least 128 bytes.
