@@ -22,7 +22,6 @@ const BLOCK: usize = 64;
 const NEAR: usize = 128;
 
 /// The offset of the first NUL in `off..to`, if there is one.
-#[tactic(auto, using(crate::proofs::StringLemmas::LongEnds::first_in_part))]
 fn nul_between(strings: &[u8], off: usize, to: usize) -> Option<usize>
     requires order { off ≤ to }
     requires inside { to ≤ length strings.now }
