@@ -34,7 +34,7 @@ def check_index(report):
 
 def check_promises(report):
     sources = "\n".join(file.read_text() for file in TOP.glob("crates/*/src/**/*.rt"))
-    functions = set(re.findall(r"\bfn (\w+)", sources))
+    functions = set(re.findall(r"(?:\bfn|^pub use [\w:]+ as) (\w+)", sources, re.MULTILINE))
     clauses = set(re.findall(r"ensures\*? (\w+)(?: \{|$)", sources, re.MULTILINE))
     kinds = set(re.findall(r"\b(?:struct|enum|trait|mod) (\w+)", sources))
     definitions = {word for file in TOP.glob("crates/*/specs/**/*.antt") for word in DECLARED.findall(file.read_text())}

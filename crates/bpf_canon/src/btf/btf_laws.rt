@@ -4,27 +4,27 @@
 //! records.
 ghost use Rattle.std.specs.Prelude.{ℕ, List};
 ghost use Rattle.btf_types.specs.strings.TableLaws.{SectionsAreCut, NamesEndStrings, HostsEndApart};
-ghost use Rattle.btf_types.specs.strings.TableLaws.{NextHasHost};
-ghost use Rattle.bpf_canon.specs.btf.BtfLaws.{CanonicalBtfIsAccepted, CanonicalBtfTellsApart};
-ghost use Rattle.bpf_canon.specs.btf.BtfLaws.{CanonicalBtfIsShortest, HostsFitSections};
+ghost use Rattle.bpf_canon.specs.btf.BtfLaws as spec;
+
+pub use btf_types::laws::next_tells_host as next_name_tells_host;
 
 /// The canonical bytes of valid records, in either byte order, are a valid file that denotes these
 /// records.
 #[tactic(auto, using(crate::proofs::BtfLemmas::CanonicalFiles::canonical_denotes))]
 pub fn canonical_btf_is_accepted()
-    ensures { CanonicalBtfIsAccepted }
+    ensures { spec.CanonicalBtfIsAccepted }
 {}
 
 /// Valid lists of records with the same canonical bytes are equal.
 #[tactic(auto, using(crate::proofs::BtfLemmas::CanonicalFiles::canonical_apart))]
 pub fn canonical_btf_tells_apart()
-    ensures { CanonicalBtfTellsApart }
+    ensures { spec.CanonicalBtfTellsApart }
 {}
 
 /// No valid file is shorter than the canonical bytes of the records that it denotes.
 #[tactic(auto, using(crate::proofs::BtfLemmas::CanonicalFiles::canonical_shortest))]
 pub fn canonical_btf_is_shortest()
-    ensures { CanonicalBtfIsShortest }
+    ensures { spec.CanonicalBtfIsShortest }
 {}
 
 /// Each host (a name that isn't a suffix of another name, and therefore has its own string in the
@@ -37,11 +37,5 @@ pub fn hosts_end_different_strings()
     ensures cut { (section : List ℕ) → SectionsAreCut section }
     ensures ends { (section : List ℕ) (strings : List (List ℕ)) → NamesEndStrings section strings }
     ensures apart { (xs : List (List ℕ)) → HostsEndApart xs }
-    ensures fit { HostsFitSections }
-{}
-
-/// If the distinct names are sorted by their reversed bytes, a name that is a suffix of any other
-/// name is a suffix of the next one, and both have the same host.
-pub fn next_name_tells_host()
-    ensures { (xs sorted : List (List ℕ)) → NextHasHost xs sorted }
+    ensures fit { spec.HostsFitSections }
 {}
