@@ -1,9 +1,6 @@
 -- What a command reports when it ends: an exit status, and a line on the fault sink.
 use Rattle.std.specs.Prelude.{◌⊎◌, ◌≤◌, ◌++◌, ℕ, List, [], ◌∷◌, codes, decimal, length, take}
 use Rattle.std.specs.Io.KnownBytes.{Appends}
-use Rattle.bpf_insn.specs.declared.fault.SlotFault.{SlotFault}
-use Rattle.bpf_text.specs.declared.insn.fault.LineFault.{LineFault}
-use Rattle.btf_raw.specs.declared.cause.BtfFault.{BtfFault}
 use Rattle.bpfcanon.specs.declared.outcome.Outcome.{Outcome}
 use Rattle.bpfcanon.specs.declared.outcome.Outcome.TheVariants as ends
 use Rattle.bpfcanon.specs.declared.outcome.Outcome.TheVariants.{Done, Different, Fault, FaultyLine, First, Second, FirstBtf, SecondBtf, TooLong, SplitBeyond, Usage, ReadFailed, WriteFailed, Memory}
@@ -33,31 +30,21 @@ status_of Memory = 3
 abbrev pub newline : List ℕ
 newline = 10 ∷ []
 
--- the line of a fault: the prefix that names one of two files, the offset in bytes, and the cause's name
+-- the line of a fault: how it starts, an offset in bytes or the number of a line, counted from 1, and the cause's name
 abbrev pub fault_line : List ℕ → ℕ → List ℕ → List ℕ
-fault_line file place cause = file ++ (codes "fault " ++ (decimal place ++ (codes " " ++ (cause ++ newline))))
-
-abbrev pub slot_fault_line : List ℕ → SlotFault → List ℕ
-slot_fault_line file f = fault_line file f.pos (cause_name f.cause)
-
-abbrev pub btf_fault_line : List ℕ → BtfFault → List ℕ
-btf_fault_line file f = fault_line file f.pos (btf_cause_name f.cause)
-
--- the line of a fault of a listing: the number of the faulty line, counted from 1, and the cause
-abbrev pub faulty_line : LineFault → List ℕ
-faulty_line f = codes "fault line " ++ (decimal f.line ++ (codes " " ++ (line_cause_name f.cause ++ newline)))
+fault_line start place cause = start ++ (decimal place ++ (codes " " ++ (cause ++ newline)))
 
 -- the message for the fault sink, if any
 abbrev pub report_of : Outcome → List ℕ
 report_of Done = []
 report_of Different = []
-report_of (Fault f) = slot_fault_line [] f
-report_of (FaultyLine f) = faulty_line f
-report_of (First f) = slot_fault_line (codes "first: ") f
-report_of (Second f) = slot_fault_line (codes "second: ") f
-report_of (ends.BtfFault f) = btf_fault_line [] f
-report_of (FirstBtf f) = btf_fault_line (codes "first: ") f
-report_of (SecondBtf f) = btf_fault_line (codes "second: ") f
+report_of (Fault f) = fault_line (codes "fault ") f.pos (cause_name f.cause)
+report_of (FaultyLine f) = fault_line (codes "fault line ") f.line (line_cause_name f.cause)
+report_of (First f) = fault_line (codes "first: fault ") f.pos (cause_name f.cause)
+report_of (Second f) = fault_line (codes "second: fault ") f.pos (cause_name f.cause)
+report_of (ends.BtfFault f) = fault_line (codes "fault ") f.pos (btf_cause_name f.cause)
+report_of (FirstBtf f) = fault_line (codes "first: fault ") f.pos (btf_cause_name f.cause)
+report_of (SecondBtf f) = fault_line (codes "second: fault ") f.pos (btf_cause_name f.cause)
 report_of TooLong = codes "too long" ++ newline
 report_of SplitBeyond = codes "split beyond input" ++ newline
 report_of Usage =

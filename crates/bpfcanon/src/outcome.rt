@@ -2,8 +2,7 @@
 
 ghost use Rattle.std.specs.{Prelude.◌≡◌, Prelude.◌<◌, List.flat_map};
 ghost use Rattle.bpfcanon.specs.{Devices.sink_change, JobEnds.IsEndOfStop};
-ghost use Rattle.bpfcanon.specs.Outcome.{TookLine, btf_fault_line, fault_line, faulty_line};
-ghost use Rattle.bpfcanon.specs.Outcome.{report_of, slot_fault_line, status_of};
+ghost use Rattle.bpfcanon.specs.Outcome.{TookLine, fault_line, report_of, status_of};
 
 use bpf_canon::{ByteSink, RunCause, put_all};
 use bpf_insn::SlotFault;
@@ -67,18 +66,9 @@ impl Outcome {
     {
         match self {
             Outcome::Done => 0,
-            Outcome::Different
-            | Outcome::Fault(_)
-            | Outcome::FaultyLine(_)
-            | Outcome::First(_)
-            | Outcome::Second(_)
-            | Outcome::BtfFault(_)
-            | Outcome::FirstBtf(_)
-            | Outcome::SecondBtf(_)
-            | Outcome::TooLong
-            | Outcome::SplitBeyond => 1,
             Outcome::Usage => 2,
             Outcome::ReadFailed | Outcome::WriteFailed | Outcome::Memory => 3,
+            _ => 1,
         }
     }
 }
@@ -105,50 +95,16 @@ pub fn report_line<E: ByteSink>(faults: &mut E, line: &[u8])
     let _ = put_all(faults, line);
 }
 
-/// Writes the line of a fault at a byte offset. `file` is the prefix that names one of two files.
-fn report_fault<E: ByteSink>(faults: &mut E, file: &'static [u8], place: u64, cause: &'static [u8])
+/// Writes the line of a fault: how it starts, a byte offset or the number of a line, and the name
+/// of the cause.
+fn report_fault<E: ByteSink>(faults: &mut E, start: &'static [u8], place: u64, cause: &'static str)
     requires { E.failures faults.old < u64.MAX }
     ensures { TookLine (sink_change E.ByteSink faults.old faults.new)
-        (fault_line file.now place cause.now) }
+        (fault_line start.now place cause.now) }
 {
     let mut buffer = Buffer::new();
     let digits = buffer.format(place).as_bytes();
-    let parts: [&[u8]; 6] = [file, b"fault ", digits, b" ", cause, b"\n"];
-    report_parts(faults, parts.as_slice());
-}
-
-/// Writes the line of a fault of instructions.
-fn report_slot_fault<E: ByteSink>(faults: &mut E, file: &'static [u8], fault: SlotFault)
-    requires { E.failures faults.old < u64.MAX }
-    ensures { TookLine (sink_change E.ByteSink faults.old faults.new)
-        (slot_fault_line file.now fault) }
-{
-    report_fault(faults, file, fault.pos, fault.cause.name().as_bytes());
-}
-
-/// Writes the line of a fault of BTF.
-fn report_btf_fault<E: ByteSink>(faults: &mut E, file: &'static [u8], fault: BtfFault)
-    requires { E.failures faults.old < u64.MAX }
-    ensures { TookLine (sink_change E.ByteSink faults.old faults.new)
-        (btf_fault_line file.now fault) }
-{
-    report_fault(faults, file, fault.pos, fault.cause.name().as_bytes());
-}
-
-/// Writes the line of a fault of a listing. Lines are counted from 1.
-fn report_faulty_line<E: ByteSink>(faults: &mut E, fault: LineFault)
-    requires { E.failures faults.old < u64.MAX }
-    ensures { TookLine (sink_change E.ByteSink faults.old faults.new) (faulty_line fault) }
-{
-    let mut buffer = Buffer::new();
-    let line = buffer.format(fault.line).as_bytes();
-    let parts: [&[u8]; 5] = [
-        b"fault line ",
-        line,
-        b" ",
-        fault.cause.name().as_bytes(),
-        b"\n",
-    ];
+    let parts: [&[u8]; 5] = [start, digits, b" ", cause.as_bytes(), b"\n"];
     report_parts(faults, parts.as_slice());
 }
 
@@ -160,13 +116,13 @@ pub fn report_outcome<E: ByteSink>(faults: &mut E, outcome: Outcome)
 {
     match outcome {
         Outcome::Done | Outcome::Different => {}
-        Outcome::Fault(fault) => report_slot_fault(faults, b"", fault),
-        Outcome::FaultyLine(fault) => report_faulty_line(faults, fault),
-        Outcome::First(fault) => report_slot_fault(faults, b"first: ", fault),
-        Outcome::Second(fault) => report_slot_fault(faults, b"second: ", fault),
-        Outcome::BtfFault(fault) => report_btf_fault(faults, b"", fault),
-        Outcome::FirstBtf(fault) => report_btf_fault(faults, b"first: ", fault),
-        Outcome::SecondBtf(fault) => report_btf_fault(faults, b"second: ", fault),
+        Outcome::Fault(f) => report_fault(faults, b"fault ", f.pos, f.cause.name()),
+        Outcome::FaultyLine(f) => report_fault(faults, b"fault line ", f.line, f.cause.name()),
+        Outcome::First(f) => report_fault(faults, b"first: fault ", f.pos, f.cause.name()),
+        Outcome::Second(f) => report_fault(faults, b"second: fault ", f.pos, f.cause.name()),
+        Outcome::BtfFault(f) => report_fault(faults, b"fault ", f.pos, f.cause.name()),
+        Outcome::FirstBtf(f) => report_fault(faults, b"first: fault ", f.pos, f.cause.name()),
+        Outcome::SecondBtf(f) => report_fault(faults, b"second: fault ", f.pos, f.cause.name()),
         Outcome::TooLong => report_line(faults, b"too long\n"),
         Outcome::SplitBeyond => report_line(faults, b"split beyond input\n"),
         Outcome::Usage => report_line(
