@@ -1,5 +1,5 @@
--- What a command reports when it ends: an exit status, and a line on the fault sink.
-use Rattle.std.specs.Prelude.{◌⊎◌, ◌≤◌, ◌++◌, ℕ, List, [], ◌∷◌, codes, decimal, length, take}
+-- What a command reports when it ends: an exit status, a line on the fault sink, and the verdict on two files.
+use Rattle.std.specs.Prelude.{◌⊎◌, ◌≤◌, ◌++◌, ℕ, Bool, true, false, List, [], ◌∷◌, codes, decimal, length, take}
 use Rattle.std.specs.Io.KnownBytes.{Appends}
 use Rattle.bpfcanon.specs.declared.outcome.Outcome.{Outcome}
 use Rattle.bpfcanon.specs.declared.outcome.Outcome.TheVariants as ends
@@ -29,6 +29,15 @@ status_of Memory = 3
 
 abbrev pub newline : List ℕ
 newline = 10 ∷ []
+
+-- the outcome and the line of a comparison of two valid files
+abbrev pub verdict_outcome : Bool → Outcome
+verdict_outcome true = Done
+verdict_outcome false = Different
+
+abbrev pub verdict_line : Bool → List ℕ
+verdict_line true = codes "same" ++ newline
+verdict_line false = codes "different" ++ newline
 
 -- the line of a fault: how it starts, an offset in bytes or the number of a line, counted from 1, and the cause's name
 abbrev pub fault_line : List ℕ → ℕ → List ℕ → List ℕ

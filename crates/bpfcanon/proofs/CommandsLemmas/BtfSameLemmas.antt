@@ -3,7 +3,7 @@ use Rattle.std.proofs.Common.{◌≡◌, ◌≤◌, ℕ, Bool, true, false, List
 use Rattle.btf_raw.specs.declared.cause.BtfFault.{BtfFault}
 use Rattle.bpf_canon.specs.btf.SameBtf.{ComparesBtf, NamesBtfSide}
 use Rattle.bpf_canon.specs.declared.engine.SideError.TheVariants as side
-use Rattle.bpfcanon.specs.{declared.outcome.Outcome.TheVariants.SecondBtf, commands.Reply.verdict_line, commands.Reply.verdict_outcome}
+use Rattle.bpfcanon.specs.{declared.outcome.Outcome.TheVariants.SecondBtf, Outcome.verdict_line, Outcome.verdict_outcome}
 use Rattle.bpfcanon.specs.commands.BtfReply.{IsBtfSameReply, different, same, second_at_fault}
 
 -- the reply to two valid files

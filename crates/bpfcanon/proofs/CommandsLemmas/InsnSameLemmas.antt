@@ -6,7 +6,8 @@ use Rattle.bpf_insn.specs.declared.fault.SlotFault.{SlotFault}
 use Rattle.bpf_canon.specs.insn.Canonical.{Compares, NamesSide}
 use Rattle.bpf_canon.specs.declared.engine.SideError.TheVariants as side
 use Rattle.bpfcanon.specs.declared.{outcome.Outcome.Outcome, outcome.Outcome.TheVariants.Second, commands.reply.Reply.Reply}
-use Rattle.bpfcanon.specs.commands.Reply.{IsSameReply, different, same, second_at_fault, verdict_line, verdict_outcome}
+use Rattle.bpfcanon.specs.commands.Reply.{IsSameReply, different, same, second_at_fault}
+use Rattle.bpfcanon.specs.Outcome.{verdict_line, verdict_outcome}
 
 -- a reply made from an outcome and its output
 pub reply_with : {A : Type 0} (P : Outcome → List ℕ → Type 0) (r : Result (Reply A) AllocError) (outcome : Outcome) (bytes : List ℕ)

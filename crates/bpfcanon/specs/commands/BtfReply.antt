@@ -1,5 +1,5 @@
 -- The replies of the BTF commands to an input, if no device fails.
-use Rattle.std.specs.Prelude.{◌≡◌, ◌<◌, ◌≤◌, ◌++◌, ℕ, List, [], codes, decimal, drop, length, take}
+use Rattle.std.specs.Prelude.{◌≡◌, ◌<◌, ◌≤◌, ◌++◌, ℕ, true, false, List, [], codes, decimal, drop, length, take}
 use Rattle.bpf_words.specs.declared.Order.{Order}
 use Rattle.btf_raw.specs.declared.cause.BtfFault.{BtfFault}
 use Rattle.btf_types.specs.{Values.TypeRecord, Denotes.Denotes, Faults.IsFirst}
@@ -7,7 +7,7 @@ use Rattle.bpf_canon.specs.btf.CanonicalBtf.{canonical}
 use Rattle.bpfcanon.specs.declared.outcome.Outcome.{Outcome}
 use Rattle.bpfcanon.specs.declared.outcome.Outcome.TheVariants as ends
 use Rattle.bpfcanon.specs.declared.outcome.Outcome.TheVariants.{Done, Different, FirstBtf, SecondBtf, TooLong, SplitBeyond}
-use Rattle.bpfcanon.specs.Outcome.{newline}
+use Rattle.bpfcanon.specs.Outcome.{newline, verdict_line}
 use Rattle.bpf_text.specs.btf.BtfText.{text_of}
 
 -- ---- btf-canon
@@ -42,9 +42,9 @@ pub data IsBtfCheckReply (limit : ℕ) (input : List ℕ) : Outcome → List ℕ
 -- the first file is the first `split` bytes of the input, and the second the rest
 pub data IsBtfSameReply (limit split : ℕ) (input : List ℕ) : Outcome → List ℕ → Type 0 where
   same : (v : List TypeRecord) → length input ≤ limit → split ≤ length input → Denotes (take split input) v
-      → Denotes (drop split input) v → IsBtfSameReply limit split input Done (codes "same" ++ newline)
+      → Denotes (drop split input) v → IsBtfSameReply limit split input Done (verdict_line true)
   different : (v w : List TypeRecord) → length input ≤ limit → split ≤ length input → Denotes (take split input) v
-      → Denotes (drop split input) w → ¬ (v ≡ w) → IsBtfSameReply limit split input Different (codes "different" ++ newline)
+      → Denotes (drop split input) w → ¬ (v ≡ w) → IsBtfSameReply limit split input Different (verdict_line false)
   first_at_fault : (f : BtfFault) → length input ≤ limit → split ≤ length input → IsFirst (take split input) f
       → IsBtfSameReply limit split input (FirstBtf f) []
   second_at_fault : (v : List TypeRecord) (f : BtfFault) → length input ≤ limit → split ≤ length input → Denotes (take split input) v

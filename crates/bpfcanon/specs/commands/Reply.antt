@@ -1,5 +1,5 @@
 -- The reply of a command to an input, if no device fails.
-use Rattle.std.specs.Prelude.{◌≡◌, ◌<◌, ◌≤◌, ◌++◌, ◌*◌, ◌↔◌, ℕ, Bool, true, false, List, [], IsTrue, codes, drop, filter, length, take}
+use Rattle.std.specs.Prelude.{◌≡◌, ◌<◌, ◌≤◌, ◌++◌, ◌*◌, ◌↔◌, ℕ, Bool, true, false, List, [], IsTrue, drop, filter, length, take}
 use Rattle.std.specs.List.{flat_map}
 use Rattle.bpf_words.specs.declared.Order.{Order}
 use Rattle.bpf_insn.specs.declared.{insn.Insn.Insn, group.Group.Group, fault.SlotFault.SlotFault, fault.SlotCause.TheVariants.Truncated}
@@ -8,7 +8,7 @@ use Rattle.bpf_insn.specs.Groups.{InGroups, all_groups, group_name}
 use Rattle.bpf_canon.specs.insn.Run as engine
 use Rattle.bpf_canon.specs.btf.RunBtf.{btf_limit}
 use Rattle.bpf_text.specs.{declared.insn.fault.LineFault.LineFault, insn.Lines.listing_of, insn.Listing.Lists, insn.Listing.IsListFault}
-use Rattle.bpfcanon.specs.{declared.job.Job.Job, declared.verb.Verb.Verb, declared.outcome.Outcome.Outcome, Outcome.newline}
+use Rattle.bpfcanon.specs.{declared.job.Job.Job, declared.verb.Verb.Verb, declared.outcome.Outcome.Outcome, Outcome.newline, Outcome.verdict_line}
 use Rattle.bpfcanon.specs.declared.outcome.Outcome.TheVariants.{Done, Different, Fault, FaultyLine, First, Second, TooLong, SplitBeyond}
 use Rattle.bpfcanon.specs.declared.verb.Verb.TheVariants.{InsnCanon, InsnShow, InsnRead, InsnGroups, InsnSame, BtfCanon, BtfShow, BtfCheck, BtfSame}
 use Rattle.bpfcanon.specs.commands.BtfReply.{IsBtfCanonReply, IsBtfShowReply, IsBtfCheckReply, IsBtfSameReply}
@@ -90,21 +90,12 @@ pub data IsGroupsReply (limit : ℕ) (order : Order) (input : List ℕ) : Outcom
 
 -- ---- insn-same
 
--- the outcome and the line of a comparison of two valid files
-abbrev pub verdict_outcome : Bool → Outcome
-verdict_outcome true = Done
-verdict_outcome false = Different
-
-abbrev pub verdict_line : Bool → List ℕ
-verdict_line true = codes "same" ++ newline
-verdict_line false = codes "different" ++ newline
-
 -- the first file is the first `split` bytes of the input, and the second the rest; each has its own byte order
 pub data IsSameReply (limit : ℕ) (order other : Order) (split : ℕ) (input : List ℕ) : Outcome → List ℕ → Type 0 where
   same : (l : List Insn) → length input ≤ limit → split ≤ length input → InsnFile order (take split input) l
-      → InsnFile other (drop split input) l → IsSameReply limit order other split input Done (codes "same" ++ newline)
+      → InsnFile other (drop split input) l → IsSameReply limit order other split input Done (verdict_line true)
   different : (l m : List Insn) → length input ≤ limit → split ≤ length input → InsnFile order (take split input) l
-      → InsnFile other (drop split input) m → ¬ (l ≡ m) → IsSameReply limit order other split input Different (codes "different" ++ newline)
+      → InsnFile other (drop split input) m → ¬ (l ≡ m) → IsSameReply limit order other split input Different (verdict_line false)
   first_at_fault : (f : SlotFault) → length input ≤ limit → split ≤ length input → IsInsnFault order (take split input) f
       → IsSameReply limit order other split input (First f) []
   second_at_fault : (l : List Insn) (f : SlotFault) → length input ≤ limit → split ≤ length input → InsnFile order (take split input) l

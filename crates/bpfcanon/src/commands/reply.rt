@@ -1,9 +1,9 @@
 //! Replies: output that is completed in memory before it is written.
 
 ghost use Rattle.std.specs.Prelude.{◌≡◌, ◌<◌, ℕ, List, [], IfOk};
-ghost use Rattle.bpfcanon.specs.declared.job.Job.{Job};
-ghost use Rattle.bpfcanon.specs.{Devices.sink_change, commands.Pieces.Answers};
-ghost use Rattle.bpfcanon.specs.commands.Reply.{IsReply, verdict_line, verdict_outcome};
+ghost use Rattle.bpfcanon.specs.{declared.job.Job.Job, Devices.sink_change};
+ghost use Rattle.bpfcanon.specs.commands.{Pieces.Answers, Reply.IsReply};
+ghost use Rattle.bpfcanon.specs.{Outcome.verdict_line, Outcome.verdict_outcome};
 
 use crate::outcome::Outcome;
 use bpf_canon::{ByteSink, put_all};
@@ -24,21 +24,8 @@ impl<A: Allocator> Reply<A> {
         ensures outcome { result.outcome ≡ outcome }
         ensures output { result.output.items ≡ [] }
     {
-        Reply {
-            outcome,
-            output: Vec::new(alloc),
-        }
-    }
-
-    /// A reply whose output is a copy of `bytes`. `AllocError` if memory runs out.
-    fn with_bytes(alloc: A, outcome: Outcome, bytes: &[u8]) -> Result<Reply<A>, AllocError>
-        ensures outcome { IfOk result (λ r. r.outcome ≡ outcome) }
-        ensures output { IfOk result (λ r. r.output.items ≡ bytes.now) }
-    {
-        Ok(Reply {
-            outcome,
-            output: Vec::from_slice(alloc, bytes)?,
-        })
+        let output = Vec::new(alloc);
+        Reply { outcome, output }
     }
 
     /// The reply to two valid files, `same` or `different`. `AllocError` if memory runs out.
@@ -46,11 +33,13 @@ impl<A: Allocator> Reply<A> {
         ensures outcome { IfOk result (λ r. r.outcome ≡ verdict_outcome same) }
         ensures output { IfOk result (λ r. r.output.items ≡ verdict_line same) }
     {
-        if same {
-            Reply::with_bytes(alloc, Outcome::Done, b"same\n")
+        let (outcome, line) = if same {
+            (Outcome::Done, "same\n")
         } else {
-            Reply::with_bytes(alloc, Outcome::Different, b"different\n")
-        }
+            (Outcome::Different, "different\n")
+        };
+        let output = Vec::from_slice(alloc, line.as_bytes())?;
+        Ok(Reply { outcome, output })
     }
 }
 
