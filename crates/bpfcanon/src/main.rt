@@ -59,16 +59,10 @@ fn run_words<S: ByteSource, W: ByteSink, E: ByteSink>(
 fn main(rt: HostRuntime) -> ExitCode {
     let alloc = rt.alloc();
     let mut faults = WriterSink::new(rt.stderr());
-    let words: Vec<String> = match env::args(&rt) {
-        Ok(args) => match args.collect(alloc) {
-            Ok(words) => words,
-            Err(_) => return no_words(&mut faults),
-        },
-        Err(_) => return no_words(&mut faults),
+    let words = match env::args(&rt).map(|args| args.collect::<Vec<String>>(alloc)) {
+        Ok(Ok(words)) if !words.is_empty() => words,
+        _ => return no_words(&mut faults),
     };
-    if words.is_empty() {
-        return no_words(&mut faults);
-    }
     let mut source = ReaderSource::new(rt.stdin());
     let mut sink = WriterSink::new(rt.stdout());
     run_words(alloc, words.as_slice(), &mut source, &mut sink, &mut faults)

@@ -54,20 +54,12 @@ pub fn put_piece<W: ByteSink, A: Allocator>(
     ensures empty { OnOk result (piece.new.items ≡ []) }
     ensures failed { IfErr result (λ e. e ≡ WriteFailed) }
 {
-    match put_all(sink, piece.as_slice()) {
-        Ok(()) => {
-            piece.clear();
-            Ok(())
-        }
-        Err(_) => Err(PutError::WriteFailed),
-    }
+    put_all(sink, piece.as_slice()).map_err(|_| PutError::WriteFailed)?;
+    piece.clear();
+    Ok(())
 }
 
-/// Writes a piece and empties it, if it is at least [`PIECE`] bytes long.
-///
-/// # Errors
-///
-/// `WriteFailed` if a write fails. The sink has then accepted a proper prefix of the piece.
+/// Writes a piece by [`put_piece`], if it is at least [`PIECE`] bytes long.
 pub fn put_long_piece<W: ByteSink, A: Allocator>(
     sink: &mut W,
     piece: &mut Vec<u8, A>,
