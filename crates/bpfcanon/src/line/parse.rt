@@ -5,7 +5,6 @@ ghost use Rattle.clap.specs.Words.{subcommand_rows_of, rows_of, found_of};
 ghost use Rattle.bpfcanon.specs.declared.line.parse.LineError.TheVariants.{Memory};
 ghost use Rattle.bpfcanon.specs.Verbs.{IsVerbName};
 ghost use Rattle.bpfcanon.specs.line.Parse as spec;
-ghost use Rattle.bpfcanon.specs.line.Parse.{Asks, IsRefused, IsJobOf};
 
 use crate::job::Job;
 use crate::line::options::{OrderNames, program_command};
@@ -85,7 +84,7 @@ fn job_at(verb: Verb, matches: &ArgMatches<'_>) -> Job
 /// The job of a command line that clap has accepted. The default command is `insn-canon`.
 fn job_of(matches: &ArgMatches<'_>) -> Job
     requires { IfSome (subcommand_rows_of matches.now) (λ p. IsVerbName p.0) }
-    ensures { IsJobOf (subcommand_rows_of matches.now) result }
+    ensures { spec.IsJobOf (subcommand_rows_of matches.now) result }
 {
     match matches.subcommand() {
         None => Job {
@@ -121,8 +120,8 @@ fn line_error(kind: ErrorKind) -> LineError
 /// `Usage` if clap rejects the arguments, and `Memory` if memory ran out.
 pub fn parse_line(alloc: Global, words: &[String]) -> Result<Job, LineError>
     requires { 0 < length words.now }
-    ensures asks { IfOk result (Asks (map string_bytes words.now)) }
-    ensures refused { IsErrOf result LineError.Usage → IsRefused (map string_bytes words.now) }
+    ensures asks { IfOk result (spec.Asks (map string_bytes words.now)) }
+    ensures refused { IsErrOf result LineError.Usage → spec.IsRefused (map string_bytes words.now) }
 {
     let command = program_command(alloc, OrderNames::new())?;
     match command.try_get_matches_from(words) {

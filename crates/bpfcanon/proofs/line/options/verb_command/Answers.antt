@@ -1,7 +1,7 @@
 use Rattle.std.proofs.Common.{◌∙◌, sym, refl}
 use Rattle.bpfcanon.proofs.LineLemmas.OptionsLemmas.{skips_one, takes_one}
-use Rattle.bpfcanon.proofs.line.options.with_options.Goals.{then-takes+in_ok-command, else-takes}
-use Rattle.bpfcanon.proofs.line.options.with_options.Goals as goal
+use Rattle.bpfcanon.proofs.line.options.verb_command.Goals.{then-takes+in_ok-command, else-takes}
+use Rattle.bpfcanon.proofs.line.options.verb_command.Goals as goal
 
 pub loop-setting-preserved : goal.loop-setting-preserved
 loop-setting-preserved c = elim c.if-takes.branch [
