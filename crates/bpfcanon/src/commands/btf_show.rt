@@ -1,13 +1,12 @@
 //! `btf-show`: validates the input, and then writes the listing of its types in pieces.
 
-ghost use Rattle.std.specs.Prelude.{◌≡◌, ◌<◌, ◌≤◌, ◌++◌, length, OnOk};
+ghost use Rattle.std.specs.Prelude.{◌≡◌, ◌<◌, ◌≤◌, ◌++◌, length};
 ghost use Rattle.std.specs.List.{flat_map};
-ghost use Rattle.btf_types.specs.Values.{head_value, item_value};
 ghost use Rattle.btf_types.specs.tables.TableWords.{record_at};
-ghost use Rattle.bpf_text.specs.btf.BtfText.{head_line, item_line, record_text, text_of};
-ghost use Rattle.bpfcanon.specs.{declared.verb.Verb.TheVariants.BtfShow, commands.Reply.limit_of};
-ghost use Rattle.bpfcanon.specs.{declared.commands.pieces.TheConstants.PIECE, Devices.sink_change};
-ghost use Rattle.bpfcanon.specs.commands.Pieces.{Answers, Gathers, TookText};
+ghost use Rattle.bpf_text.specs.btf.BtfText.{item_line, record_text, text_of};
+ghost use Rattle.bpfcanon.specs.{declared.verb.Verb.TheVariants.BtfShow, Devices.sink_change};
+ghost use Rattle.bpfcanon.specs.commands.{Pieces.Answers, Pieces.Gathers, Pieces.TookText};
+ghost use Rattle.bpfcanon.specs.commands.Reply.{limit_of};
 
 use crate::commands::lines::{put_head, put_item};
 use crate::commands::pieces::{PutError, end_of_pieces, put_piece};

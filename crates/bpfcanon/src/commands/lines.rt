@@ -1,8 +1,7 @@
 //! Lines of the BTF listing. A name can be as long as the string section, and quoting makes it
 //! longer, so it is quoted and written in chunks.
 
-ghost use Rattle.std.specs.Prelude.{◌≡◌, ◌<◌, ◌++◌, length, OnOk};
-ghost use Rattle.std.specs.List.{flat_map};
+ghost use Rattle.std.specs.{List.flat_map, Prelude.◌<◌, Prelude.◌++◌, Prelude.length, Prelude.OnOk};
 ghost use Rattle.btf_types.specs.Values.{head_value, item_value};
 ghost use Rattle.bpf_text.specs.btf.BtfText.{head_line, item_line, quoted_byte};
 ghost use Rattle.bpfcanon.specs.declared.commands.pieces.TheConstants.{PIECE};
