@@ -13,7 +13,7 @@ use Rattle.btf_types.specs.Reading.{text_from, item_from, item_total, record_of,
 use Rattle.btf_types.proofs.KindCases.{KindIs}
 use Rattle.btf_types.proofs.{FaultlessLemmas.FaultlessWords.known, Lists.length-tabulate, Lists.get_or-tabulate}
 use Rattle.btf_types.proofs.TableLemmas.TextSteps.{text_there}
-use Rattle.bpf_canon.specs.btf.write.NameOffsets.{item_word, name_offsets, all_offsets, HasNamedItems}
+use Rattle.bpf_canon.specs.btf.write.NameOffsets.{item_word, name_offsets, all_offsets}
 use Rattle.bpf_canon.proofs.BtfLemmas.CanonicalSpells.{All-front, All-back}
 
 -- ---- empty names aren't kept
@@ -113,6 +113,12 @@ item_offset P f k has all low =
     let same : (if has_item_names (kind f) then offsets else []) ≡ offsets = rw has refl in
     let each : All P offsets = subst (All P) same (All-tail P (name_word f) (if has_item_names (kind f) then offsets else []) all) in
     subst P (get_or-tabulate (item_word f) (vlen f) k 0 low) (each k 0 (omega (arith, length-tabulate (item_word f) (vlen f))))
+
+-- the record has `count` items of `size` 32-bit words, each with a name
+pub record HasNamedItems (frame : List ℕ) (size count : ℕ) : Type 0 where
+  pub named : has_item_names (kind frame) ≡ true
+  pub words : item_words (kind frame) ≡ size
+  pub all : count ≡ vlen frame
 
 pub item_is : (P : ℕ → Type 0) (f : List ℕ) (size count k offset : ℕ) → All P (name_offsets f) → HasNamedItems f size count → k < count
     → offset ≡ slice_index f (3 + size * k) → P offset

@@ -1,5 +1,5 @@
 -- The offsets of names in the frames of a section. Contracts of private functions cite it.
-use Rattle.std.specs.Prelude.{◌≡◌, ℕ, ◌+◌, ◌*◌, ◌<◌, List, [], ◌∷◌, IsTrue, slice_index, if◌then◌else◌}
+use Rattle.std.specs.Prelude.{ℕ, ◌+◌, ◌*◌, ◌<◌, List, [], ◌∷◌, slice_index, if◌then◌else◌}
 use Rattle.std.specs.List.{All, Contains, flat_map}
 use Rattle.btf_raw.specs.{Kinds.item_words, Kinds.has_item_names, Frames.name_word, Frames.kind, Frames.vlen}
 use Rattle.btf_types.specs.{Reading.tabulate, strings.SharedNames.shared_place}
@@ -15,12 +15,6 @@ name_offsets frame = name_word frame ∷ (if has_item_names (kind frame) then ta
 
 abbrev pub all_offsets : List (List ℕ) → List ℕ
 all_offsets frames = flat_map name_offsets frames
-
--- the record has `count` items of `size` 32-bit words, each with a name
-pub record HasNamedItems (frame : List ℕ) (size count : ℕ) : Type 0 where
-  pub named : IsTrue (has_item_names (kind frame))
-  pub words : item_words (kind frame) ≡ size
-  pub all : count ≡ vlen frame
 
 -- the offsets of a record's names are among the noted offsets
 abbrev pub HasNotedNames : NamesByPlace → List ℕ → Type 0

@@ -2,8 +2,8 @@ use Rattle.std.proofs.Common.{◌≡◌, ◌*◌, ◌+◌, ℕ, sym, ap, ◌∙�
 use Rattle.std.specs.Prelude.{slice_index}
 use Rattle.btf_raw.specs.Kinds.{has_item_names, item_words}
 use Rattle.bpf_canon.specs.btf.strings.FirstUses.{noted}
-use Rattle.bpf_canon.specs.btf.write.NameOffsets.{HasNamedItems, item_word, IsBelow}
-use Rattle.bpf_canon.proofs.BtfLemmas.{Names.NoteSteps.item_noted, Write.RecordNames.item_is, Write.RecordWords.item_room}
+use Rattle.bpf_canon.specs.btf.write.NameOffsets.{item_word, IsBelow}
+use Rattle.bpf_canon.proofs.BtfLemmas.{Names.NoteSteps.item_noted, Write.RecordNames.HasNamedItems, Write.RecordNames.item_is, Write.RecordWords.item_room}
 use Rattle.bpf_canon.proofs.btf.write.name_uses.note_record.Given.{Over}
 use Rattle.bpf_canon.proofs.btf.write.name_uses.note_record.Goals.{After-vlen}
 use Rattle.bpf_canon.proofs.btf.write.name_uses.note_record.Goals as goal

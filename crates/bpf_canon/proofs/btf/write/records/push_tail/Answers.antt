@@ -3,8 +3,8 @@ use Rattle.std.specs.{Prelude.slice_index, List.Contains}
 use Rattle.std.proofs.lemmas.Result.{on_ok_weaker}
 use Rattle.btf_raw.specs.{Kinds.has_item_names, Kinds.item_words, Frames.bytes_of, Frames.kind}
 use Rattle.btf_types.specs.Reading.{item_total, text_from}
-use Rattle.bpf_canon.specs.btf.write.NameOffsets.{HasNamedItems, placed}
-use Rattle.bpf_canon.proofs.BtfLemmas.Write.RecordNames.{item_is, named_total}
+use Rattle.bpf_canon.specs.btf.write.NameOffsets.{placed}
+use Rattle.bpf_canon.proofs.BtfLemmas.Write.RecordNames.{HasNamedItems, item_is, named_total}
 use Rattle.bpf_canon.proofs.BtfLemmas.Write.RecordWords.{item_begins, item_room, item_size, items_to, named_item_more, rest_words, items_are_tail}
 use Rattle.bpf_canon.proofs.btf.write.records.push_tail.Given.{Over}
 use Rattle.bpf_canon.proofs.btf.write.records.push_tail.Goals.{After-item_words-size}
