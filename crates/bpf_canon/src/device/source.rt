@@ -99,13 +99,15 @@ pub fn read_all<S: ByteSource, A: Allocator>(
     let mut bytes = Vec::new(alloc);
     let mut buffer = [0u8; 4096];
     'reads: loop {
-        let n = source.read(&mut buffer).map_err(|_| ReadError::ReadFailed)?;
-        if n == 0 {
-            return Ok(bytes);
-        }
-        bytes.extend_from_slice(&buffer[..n])?;
-        if bytes.len() as u64 > limit {
-            return Err(ReadError::TooLong);
+        match source.read(&mut buffer) {
+            Err(DeviceFailed) => return Err(ReadError::ReadFailed),
+            Ok(0) => return Ok(bytes),
+            Ok(n) => {
+                bytes.extend_from_slice(&buffer[..n])?;
+                if bytes.len() as u64 > limit {
+                    return Err(ReadError::TooLong);
+                }
+            }
         }
     }
 }

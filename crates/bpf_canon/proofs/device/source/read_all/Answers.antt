@@ -10,16 +10,13 @@ refused : {T : Type 0} (P : ReadError → Type 0) (r : Result T ReadError) → I
 refused P (Ok x) e p = tt
 refused P (Err x) e p = rw e p
 
-pub returns-in_err-extend_from_slice-clause-amid : goal.returns-in_err-extend_from_slice-clause-amid
-returns-in_err-extend_from_slice-clause-amid g c =
-    let n = c.in_ok-n.n in
-    let came : c.read.result ≡ Ok n = search rules in
-    let bytes = rw came at c.read.ensures.bytes in
-    let more = Consumes-trans _ _ _ _ _ c.reads.invariant.consumes bytes.0 in
-    let room : n ≤ length c.read.new.buffer = search rules in
-    let size = length-take-le n c.read.new.buffer room in
-    let within : length (c.reads.bytes.items ++ take n c.read.new.buffer) ≤ c.args.limit + read_room =
-    omega (arith, c.reads.invariant.within, room, size, length-append c.reads.bytes.items (take n c.read.new.buffer)) in
+pub returns-in_err-extend_from_slice-in-Ok-clause-amid : goal.returns-in_err-extend_from_slice-in-Ok-clause-amid
+returns-in_err-extend_from_slice-in-Ok-clause-amid g c =
+    let more = Consumes-trans _ _ _ _ _ c.reads.invariant.consumes c.in-Ok.ensures.bytes.0 in
+    let room : c.in-Ok.n ≤ length c.read.new.buffer = search rules in
+    let size = length-take-le c.in-Ok.n c.read.new.buffer room in
+    let within : length (c.reads.bytes.items ++ take c.in-Ok.n c.read.new.buffer) ≤ c.args.limit + read_room =
+    omega (arith, c.reads.invariant.within, room, size, length-append c.reads.bytes.items (take c.in-Ok.n c.read.new.buffer)) in
     let Amid : ReadError → Type 0 = λ e. (bytes : List ℕ)
     × (Consumes (g.S.ByteSource.remaining c.args.source.now) (g.S.ByteSource.remaining c.read.new.self) bytes × EndsAmid c.args.limit bytes e) in
-    refused Amid c.from_residual-in_err-extend_from_slice.result c.from_residual-in_err-extend_from_slice.ensures.1 (c.reads.bytes.items ++ take n c.read.new.buffer, (more, within))
+    refused Amid c.from_residual.result c.from_residual.ensures.1 (c.reads.bytes.items ++ take c.in-Ok.n c.read.new.buffer, (more, within))
