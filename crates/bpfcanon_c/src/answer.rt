@@ -1,7 +1,6 @@
 //! How a call ends, and the answer to C of each ending.
 ghost use Rattle.std.specs.Prelude.{◌≡◌};
-ghost use Rattle.bpfcanon_c.specs.Answers.{answer_of, bare_answer, code_of_btf, code_of_slot};
-ghost use Rattle.bpfcanon_c.specs.Answers.{fault_answer, names_order, FillsRoom};
+ghost use Rattle.bpfcanon_c.specs.Answers as spec;
 
 use bpf_insn::{Order, SlotFault};
 use btf_raw::BtfFault;
@@ -71,22 +70,14 @@ pub struct Answer {
 
 /// The answer of an ending.
 pub fn report(ending: Ending) -> Answer
-    ensures { result ≡ answer_of ending }
+    ensures { result ≡ spec.answer_of ending }
 {
+    let done = with_status(0);
     match ending {
-        Ending::Written(written) => Answer {
-            written,
-            ..with_status(0)
-        },
-        Ending::Types(types) => Answer {
-            types,
-            ..with_status(0)
-        },
-        Ending::Groups(groups) => Answer {
-            groups,
-            ..with_status(0)
-        },
-        Ending::Same => with_status(0),
+        Ending::Written(written) => Answer { written, ..done },
+        Ending::Types(types) => Answer { types, ..done },
+        Ending::Groups(groups) => Answer { groups, ..done },
+        Ending::Same => done,
         Ending::Different => with_status(1),
         Ending::First(fault) => with_fault(2, fault),
         Ending::Second(fault) => with_fault(3, fault),
@@ -101,7 +92,7 @@ pub fn report(ending: Ending) -> Answer
 
 /// An answer with this status, and 0 in each other field.
 pub fn with_status(status: u32) -> Answer
-    ensures { result ≡ bare_answer status }
+    ensures { result ≡ spec.bare_answer status }
 {
     Answer {
         status,
@@ -118,7 +109,7 @@ pub fn with_status(status: u32) -> Answer
 
 /// An answer with this status, and the cause and position of a fault.
 pub fn with_fault(status: u32, fault: FaultCode) -> Answer
-    ensures { result ≡ fault_answer status fault }
+    ensures { result ≡ spec.fault_answer status fault }
 {
     Answer {
         cause: fault.cause,
@@ -130,7 +121,7 @@ pub fn with_fault(status: u32, fault: FaultCode) -> Answer
 
 /// A fault of BTF by its numbers.
 pub fn btf_code(fault: BtfFault) -> FaultCode
-    ensures { result ≡ code_of_btf fault }
+    ensures { result ≡ spec.code_of_btf fault }
 {
     FaultCode {
         cause: u32::from(fault.cause.number()),
@@ -141,7 +132,7 @@ pub fn btf_code(fault: BtfFault) -> FaultCode
 
 /// A fault of instructions by its numbers.
 pub fn slot_code(fault: SlotFault) -> FaultCode
-    ensures { result ≡ code_of_slot fault }
+    ensures { result ≡ spec.code_of_slot fault }
 {
     FaultCode {
         cause: fault.cause as u32,
@@ -152,7 +143,7 @@ pub fn slot_code(fault: SlotFault) -> FaultCode
 
 /// The byte order of a number.
 pub fn order_from(number: u32) -> Option<Order>
-    ensures { names_order number result }
+    ensures { spec.names_order number result }
 {
     match number {
         0 => Some(Order::Little),
@@ -164,7 +155,7 @@ pub fn order_from(number: u32) -> Option<Order>
 /// Copies an output to the start of a buffer. Returns `Written` with its length in bytes, or `Room`
 /// with that length if the buffer is shorter, which is then unchanged.
 pub fn put(bytes: &[u8], room: &mut [u8]) -> Ending
-    ensures { FillsRoom bytes.now room.old room.new result }
+    ensures { spec.FillsRoom bytes.now room.old room.new result }
 {
     let len = bytes.len();
     if room.len() < len {

@@ -1,8 +1,7 @@
 //! The calls on BTF.
 ghost use Rattle.std.specs.Prelude.{◌≡◌};
-ghost use Rattle.bpfcanon_c.specs.Endings.{IsCanonicalBtf, EndsBtf, AnswersBtf, EndsBtfCheck};
-ghost use Rattle.bpfcanon_c.specs.Endings.{AnswersBtfCheck, EndsSameBtf, AnswersSameBtf};
-ghost use Rattle.bpfcanon_c.specs.Outputs.{IsBtfCode, EndsOutput};
+ghost use Rattle.bpfcanon_c.specs.Endings.{IsCanonicalBtf, AnswersBtf, AnswersBtfCheck};
+ghost use Rattle.bpfcanon_c.specs.{Endings.AnswersSameBtf, Outputs.IsBtfCode, Outputs.EndsOutput};
 
 use crate::answer::{Answer, Ending, btf_code, order_from, put, report};
 use bpf_canon::{SideError, canonical_in, same_btf};

@@ -77,12 +77,9 @@ fn report_front(ending: FrontEnding) -> Answer
 fn front_into(alloc: Global, order: u32, to: u32, bytes: &[u8], out: &mut [u8]) -> FrontEnding
     ensures { EndsFront order to bytes.now out.old out.new result }
 {
-    match order_from(order) {
-        Some(order) => match order_from(to) {
-            Some(to) => front_in(alloc, order, to, bytes, out),
-            None => FrontEnding::Order,
-        },
-        None => FrontEnding::Order,
+    match (order_from(order), order_from(to)) {
+        (Some(order), Some(to)) => front_in(alloc, order, to, bytes, out),
+        _ => FrontEnding::Order,
     }
 }
 

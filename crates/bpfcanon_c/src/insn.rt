@@ -1,10 +1,9 @@
 //! The calls on instruction files.
 ghost use Rattle.std.specs.Prelude.{◌≡◌};
 ghost use Rattle.bpf_insn.specs.Groups.{holds};
-ghost use Rattle.bpfcanon_c.specs.Endings.{IsRecoded, EndsInsns, AnswersInsns, EndsSameInsnsIn};
+ghost use Rattle.bpfcanon_c.specs.Endings.{IsRecoded, AnswersInsns, EndsSameInsnsIn};
 ghost use Rattle.bpfcanon_c.specs.Endings.{AnswersSameInsns};
-ghost use Rattle.bpfcanon_c.specs.GroupMasks.{weighed, mask, EndsGroups, EndsGroupsIn};
-ghost use Rattle.bpfcanon_c.specs.GroupMasks.{AnswersGroups};
+ghost use Rattle.bpfcanon_c.specs.GroupMasks.{weighed, mask, EndsGroupsIn, AnswersGroups};
 ghost use Rattle.bpfcanon_c.specs.Outputs.{IsInsnCode, EndsOutput};
 
 use crate::answer::{Answer, Ending, order_from, put, report, slot_code};
@@ -31,12 +30,9 @@ pub extern "C" fn bpfcanon_proved_insn_canon(
 ) -> Answer
     ensures { AnswersInsns order to bytes.now out.old out.new result }
 {
-    report(match order_from(order) {
-        Some(order) => match order_from(to) {
-            Some(to) => insns_in(alloc, order, to, bytes, out),
-            None => Ending::Order,
-        },
-        None => Ending::Order,
+    report(match (order_from(order), order_from(to)) {
+        (Some(order), Some(to)) => insns_in(alloc, order, to, bytes, out),
+        _ => Ending::Order,
     })
 }
 
@@ -114,12 +110,9 @@ pub extern "C" fn bpfcanon_proved_insn_same(
 ) -> Answer
     ensures { AnswersSameInsns order_first first.now order_second second.now result }
 {
-    report(match order_from(order_first) {
-        Some(order_first) => match order_from(order_second) {
-            Some(order_second) => compare(alloc, order_first, first, order_second, second),
-            None => Ending::Order,
-        },
-        None => Ending::Order,
+    report(match (order_from(order_first), order_from(order_second)) {
+        (Some(a), Some(b)) => compare(alloc, a, first, b, second),
+        _ => Ending::Order,
     })
 }
 
