@@ -21,7 +21,8 @@ TOP = pathlib.Path(__file__).resolve().parent.parent
 README = (TOP / "README.md").read_text()
 HEADER = (TOP / "capi" / "bpfcanon.h").read_text()
 SOURCE = (TOP / "capi" / "bpfcanon.c").read_text()
-OUTCOME, MAIN = ((TOP / "crates" / "bpfcanon" / "src" / name).read_text() for name in ("outcome.rt", "main.rt"))
+COMMAND = TOP / "crates" / "bpfcanon"
+OUTCOME, MAIN, REPORTS = ((COMMAND / name).read_text() for name in ("src/outcome.rt", "src/main.rt", "specs/Outcome.antt"))
 # A value of each option. A byte order has two names.
 VALUES = {"--order": "little", "--to": "little", "--other": "little", "--split": "0"}
 ORDERS = ["big", "little"]
@@ -62,13 +63,11 @@ def check_readme(report):
 
 
 def statuses():
-    """The messages of each status, except faults and the usage."""
+    """The messages of each status, except faults and the usage. The definition of the status has a line for each outcome."""
     line_of = dict(re.findall(r'Outcome::(\w+) => report_line\(faults, b"([a-z ]+)\\n"\)', OUTCOME))
-    body = re.search(r"^    pub fn status\b.*?^    \}", OUTCOME, re.MULTILINE | re.DOTALL)[0]
     found = {}
-    for variants, status in re.findall(r"((?:Outcome::\w+(?:\(.*?\))?\s*\|?\s*)+)=> (\d)", body):
-        lines = {line_of[it] for it in re.findall(r"Outcome::(\w+)", variants) if it in line_of}
-        found[status] = found.get(status, set()) | lines
+    for outcome, status in re.findall(r"^status_of \(?(?:ends\.)?(\w+).* = (\d)$", REPORTS, re.MULTILINE):
+        found.setdefault(status, set()).update({line_of[outcome]} if outcome in line_of else set())
     # the message about the argument vector is in the main function
     before = re.findall(r'b"(no [a-z]+)\\n"', MAIN)
     return found | {"3": found["3"] | set(before)}
