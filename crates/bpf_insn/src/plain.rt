@@ -16,28 +16,8 @@ use crate::Order;
 /// rejects every slot.
 const NONE: u64 = 1;
 
-/// The destination and the immediate are free; all other bits after the opcode must be 0. The masks
+/// The destination and the source are free; all other bits after the opcode must be 0. The masks
 /// below likewise name the free fields.
-const IMM_LITTLE: u64 = 0x0000_0000_ffff_f000;
-
-const IMM_BIG: u64 = 0x0000_0000_ffff_0f00;
-
-/// The destination, the offset and the immediate.
-const IMM_OFF_LITTLE: u64 = 0x0000_0000_0000_f000;
-
-const IMM_OFF_BIG: u64 = 0x0000_0000_0000_0f00;
-
-/// Only the destination.
-const DST_LITTLE: u64 = 0xffff_ffff_ffff_f000;
-
-const DST_BIG: u64 = 0xffff_ffff_ffff_0f00;
-
-/// The source and the immediate.
-const SRC_IMM_LITTLE: u64 = 0x0000_0000_ffff_0f00;
-
-const SRC_IMM_BIG: u64 = 0x0000_0000_ffff_f000;
-
-/// The destination and the source.
 const REG: u64 = 0xffff_ffff_ffff_0000;
 
 /// The destination, the source and the offset.
@@ -53,10 +33,11 @@ const ID: u64 = 0x0000_0000_ffff_ff00;
 const EXIT: u64 = 0xffff_ffff_ffff_ff00;
 
 /// The bits that must be 0 for each opcode: a row for each value of its five high bits, with an
-/// entry for each class: LD, LDX, ST, STX, ALU, JMP, JMP32 and ALU64. Which bits are those of dst
-/// and which are those of src depends on the byte order.
+/// entry for each class: LD, LDX, ST, STX, ALU, JMP, JMP32 and ALU64. The arguments depend on the
+/// byte order, since they leave dst or src free: `imm` dst and the immediate, `imm_off` these and
+/// the offset, `dst` only dst, and `src_imm` src and the immediate.
 macro_rules! by_opcode {
-    ($imm:expr, $imm_off:expr, $dst:expr, $src_imm:expr) => {
+    (imm: $imm:expr, imm_off: $imm_off:expr, dst: $dst:expr, src_imm: $src_imm:expr) => {
         [
             // 0x00
             NONE, NONE, NONE, NONE, $imm, OFF, ID, $imm,
@@ -98,9 +79,17 @@ macro_rules! by_opcode {
     };
 }
 
-static ZERO_LITTLE: [u64; 256] = by_opcode!(IMM_LITTLE, IMM_OFF_LITTLE, DST_LITTLE, SRC_IMM_LITTLE);
+#[rattlefmt::skip]
+static ZERO_LITTLE: [u64; 256] = by_opcode!(
+    imm: 0x0000_0000_ffff_f000, imm_off: 0x0000_0000_0000_f000,
+    dst: 0xffff_ffff_ffff_f000, src_imm: 0x0000_0000_ffff_0f00
+);
 
-static ZERO_BIG: [u64; 256] = by_opcode!(IMM_BIG, IMM_OFF_BIG, DST_BIG, SRC_IMM_BIG);
+#[rattlefmt::skip]
+static ZERO_BIG: [u64; 256] = by_opcode!(
+    imm: 0x0000_0000_ffff_0f00, imm_off: 0x0000_0000_0000_0f00,
+    dst: 0xffff_ffff_ffff_0f00, src_imm: 0x0000_0000_ffff_f000
+);
 
 /// The bits that must be 0 in a slot with this opcode.
 #[inline(always)]
