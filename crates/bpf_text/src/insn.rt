@@ -11,7 +11,6 @@ pub(crate) mod number;
 pub(crate) mod operand_fields;
 pub(crate) mod read;
 pub(crate) mod read_operand;
-pub(crate) mod register;
 pub(crate) mod token;
 pub(crate) mod write;
 pub(crate) mod written_operand;

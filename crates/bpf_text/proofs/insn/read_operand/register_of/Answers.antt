@@ -1,6 +1,6 @@
 use Rattle.std.proofs.Common.{sym, ◌∙◌}
 use Rattle.bpf_text.proofs.InsnLemmas.RegisterLemmas.{small_register_text, spelled_by_new, last_spelled, no_register}
-use Rattle.bpf_text.proofs.insn.register.register_of.Goals as goal
+use Rattle.bpf_text.proofs.insn.read_operand.register_of.Goals as goal
 
 pub returns-then-eq-clause-some : goal.returns-then-eq-clause-some
 returns-then-eq-clause-some c =
