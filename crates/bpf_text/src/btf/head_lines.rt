@@ -127,16 +127,13 @@ fn append_fields<A: Allocator>(
 }
 
 /// Whether the kind of a type has a name, which may be empty.
+#[rattlefmt::skip]
 fn has_name(head: Head<'_>) -> bool
     ensures { result ≡ spec.has_name (head_value head.entry) }
 {
     match head {
-        Head::KPtr { .. }
-        | Head::KArray { .. }
-        | Head::KVolatile { .. }
-        | Head::KConst { .. }
-        | Head::KRestrict { .. }
-        | Head::KFuncProto { .. } => false,
+        Head::KPtr { .. } | Head::KArray { .. } | Head::KVolatile { .. } | Head::KConst { .. }
+        | Head::KRestrict { .. } | Head::KFuncProto { .. } => false,
         _ => true,
     }
 }

@@ -11,18 +11,14 @@ use crate::insn::read_operand::ReadOperand;
 use bpf_insn::{Insn, WideOf};
 
 /// The number of operands that follow a mnemonic.
+#[rattlefmt::skip]
 fn operand_count(mnemonic: Mnemonic) -> usize
     ensures { result ≡ operand_count mnemonic }
 {
     match mnemonic {
         Mnemonic::Exit => 0,
-        Mnemonic::Neg(_)
-        | Mnemonic::Swap(_, _)
-        | Mnemonic::Jump
-        | Mnemonic::JumpLong
-        | Mnemonic::CallHelper
-        | Mnemonic::CallLocal
-        | Mnemonic::PacketAbs(_) => 1,
+        Mnemonic::Neg(_) | Mnemonic::Swap(_, _) | Mnemonic::Jump | Mnemonic::JumpLong
+        | Mnemonic::CallHelper | Mnemonic::CallLocal | Mnemonic::PacketAbs(_) => 1,
         Mnemonic::Branch(_, _)
         | Mnemonic::Wide(WideKind::MapValueFd | WideKind::VarAddr | WideKind::MapValueIdx) => 3,
         _ => 2,
