@@ -197,26 +197,9 @@ impl Line {
         self.two(first, second);
     }
 
-    /// Writes the operands of a wide load.
-    fn wide(&mut self, dst: Reg, what: WideOf)
-        requires { length self.old ≤ 29 }
-        ensures text { self.new ≡ spaced (operands_of (Insn.Wide dst what)) ++ self.old }
-        ensures len { length self.new ≤ length self.old + 83 }
-    {
-        let dst = Register(dst);
-        match what {
-            WideOf::Number(number) => self.two(dst, Unsigned(number)),
-            WideOf::MapFd(imm) => self.two(dst, Number(imm)),
-            WideOf::MapValueFd(imm, next) => self.three(dst, Number(imm), Number(next)),
-            WideOf::VarAddr(imm, next) => self.three(dst, Number(imm), Number(next)),
-            WideOf::CodeAddr(imm) => self.two(dst, Number(imm)),
-            WideOf::MapIdx(imm) => self.two(dst, Number(imm)),
-            WideOf::MapValueIdx(imm, next) => self.three(dst, Number(imm), Number(next)),
-        }
-    }
-
     /// Writes the operands of an instruction.
     #[inline(always)]
+    #[rattlefmt::skip]
     fn operands(&mut self, insn: &Insn)
         requires { length self.old ≤ 29 }
         ensures text { self.new ≡ spaced (operands_of insn.now) ++ self.old }
@@ -227,12 +210,10 @@ impl Line {
             Insn::Movsx { dst, src, .. } => self.two(Register(dst), Register(src)),
             Insn::Neg { dst, .. } | Insn::Swap { dst, .. } => self.one(Register(dst)),
             Insn::Jump { off } => self.one(Signed(i32::from(off))),
-            Insn::JumpLong { imm } => self.one(Signed(imm)),
-            Insn::Branch { dst, arg, off, .. } => {
-                self.three(Register(dst), source_operand(arg), Signed(i32::from(off)))
-            }
+            Insn::JumpLong { imm } | Insn::CallLocal { imm } => self.one(Signed(imm)),
+            Insn::Branch { dst, arg, off, .. } =>
+                self.three(Register(dst), source_operand(arg), Signed(i32::from(off))),
             Insn::CallHelper { id } => self.one(Number(id)),
-            Insn::CallLocal { imm } => self.one(Signed(imm)),
             Insn::CallBtf { id, off } => self.two(Number(id), Number(i32::from(off))),
             Insn::Exit => {}
             Insn::Load { dst, src, off, .. } => self.two(Register(dst), Memory(src, off)),
@@ -240,7 +221,16 @@ impl Line {
             Insn::StoreImm { dst, off, imm, .. } => self.two(Memory(dst, off), Number(imm)),
             Insn::StoreReg { dst, src, off, .. } => self.two(Memory(dst, off), Register(src)),
             Insn::Atomic { dst, src, off, .. } => self.two(Memory(dst, off), Register(src)),
-            Insn::Wide { dst, what } => self.wide(dst, what),
+            Insn::Wide { dst, what: WideOf::Number(number) } =>
+                self.two(Register(dst), Unsigned(number)),
+            Insn::Wide {
+                dst, what: WideOf::MapFd(imm) | WideOf::CodeAddr(imm) | WideOf::MapIdx(imm),
+            } => self.two(Register(dst), Number(imm)),
+            Insn::Wide {
+                dst,
+                what: WideOf::MapValueFd(imm, next) | WideOf::VarAddr(imm, next)
+                    | WideOf::MapValueIdx(imm, next),
+            } => self.three(Register(dst), Number(imm), Number(next)),
             Insn::PacketAbs { imm, .. } => self.one(Number(imm)),
             Insn::PacketInd { src, imm, .. } => self.two(Register(src), Number(imm)),
         }
