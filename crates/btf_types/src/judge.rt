@@ -4,6 +4,5 @@ pub(crate) mod checks;
 pub(crate) mod fields;
 pub(crate) mod framing;
 pub(crate) mod items;
-pub(crate) mod names;
 pub(crate) mod references;
 pub(crate) mod utf8;

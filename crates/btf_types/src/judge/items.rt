@@ -9,8 +9,7 @@ ghost use Rattle.btf_raw.specs.Frames.{IsFrame, kind, vlen};
 ghost use Rattle.btf_types.specs.judge.RecordFaults.{BitFieldsAre, FirstWithin};
 
 use crate::judge::checks::{bit_offset_of, member_place_fault, width_of};
-use crate::judge::names::item_name_fault;
-use crate::judge::references::{member_type_fault, named_type_fault};
+use crate::judge::references::{item_name_fault, member_type_fault, named_type_fault};
 use crate::record_words::Record;
 use crate::tables::section::Section;
 use btf_raw::{BtfCause, DATASEC, FUNC_PROTO};

@@ -1,17 +1,60 @@
-//! Checks of the types that a record refers to: they exist, and their kinds and sizes fit. A type
-//! is read only if its kind or size matters.
+//! Checks of the names (btf.rst section 2.1) and the types that a record refers to: they exist, and
+//! fit. A type is read only if its kind or size matters.
 
 ghost use Rattle.std.specs.Prelude.{◌≡◌, length};
 ghost use Rattle.btf_types.specs.{judge.Checks.type_at, Sections.facts_in};
-ghost use Rattle.btf_types.specs.judge.NameFaults.{NamedTypeFault, MemberTypeFault, ComponentFault};
+ghost use Rattle.btf_types.specs.judge.NameFaults as faults;
 ghost use Rattle.btf_types.specs.judge.Checks as spec;
 
 use crate::judge::checks::{is_plain_int, size_fits, target_fits};
 use crate::tables::section::Section;
-use btf_raw::info::has_target;
+use btf_raw::info::{has_no_name, has_target, needs_name};
 use btf_raw::{
     ARRAY, BtfCause, DATASEC, DECL_TAG, FUNC, FUNC_PROTO, FWD, INT, STRUCT, TYPEDEF, UNION, VAR,
 };
+
+/// Checks the name field of an item: its offset must be within the string section, and the string
+/// at this offset must be UTF-8.
+#[inline(always)]
+pub fn item_name_fault(section: &Section, off: u32) -> Option<BtfCause>
+    ensures { spec.IsLeastOf (faults.ItemNameFault section.now.strings off) result }
+{
+    let strings = section.file.strings;
+    let off = off as usize;
+    if off >= strings.len() {
+        return Some(BtfCause::NameRange);
+    }
+    if !section.texts.is_utf8(strings, off) {
+        return Some(BtfCause::NameUtf8);
+    }
+    None
+}
+
+/// Checks whether a record of this kind needs a name, or must not have one. `empty` is whether its
+/// name is empty.
+fn own_name_fault(kind: u8, empty: bool) -> Option<BtfCause>
+    ensures { spec.IsLeastOf (faults.OwnNameFault kind empty) result }
+{
+    if needs_name(kind) && empty {
+        return Some(BtfCause::NameMissing);
+    }
+    if has_no_name(kind) && !empty {
+        return Some(BtfCause::NameUnwanted);
+    }
+    None
+}
+
+/// Checks a record's own name field: first like that of an item, then whether a name is missing or
+/// not allowed.
+#[tactic(auto, using(crate::proofs::JudgeLemmas::NameSteps::item_to_name))]
+pub fn name_fault(section: &Section, kind: u8, off: u32) -> Option<BtfCause>
+    ensures { spec.IsLeastOf (faults.NameFault section.now.strings kind off) result }
+{
+    match item_name_fault(section, off) {
+        Some(cause) => Some(cause),
+        None => own_name_fault(kind, section.file.strings[off as usize] == 0),
+    }
+}
 
 /// Whether a record of this kind may refer to the type with the ID `target`.
 #[tactic(auto, unfolding(crate::specs::judge::Checks::target_fits))]
@@ -45,7 +88,7 @@ pub fn third_fault(section: &Section, kind: u8, third: u32, vlen: u16) -> Option
 /// Checks a type ID in any other field of the record.
 #[inline(always)]
 pub fn named_type_fault(section: &Section, kind: u8, target: u32) -> Option<BtfCause>
-    ensures { spec.IsLeastOf (NamedTypeFault (facts_in section.now) kind target) result }
+    ensures { spec.IsLeastOf (faults.NamedTypeFault (facts_in section.now) kind target) result }
 {
     if target > section.count() {
         return Some(BtfCause::Reference);
@@ -65,7 +108,8 @@ fn member_int_fits(section: &Section, target: u32) -> bool
 
 /// Checks the type of a member. `bit_fields` is whether its record has bit-fields.
 pub fn member_type_fault(section: &Section, bit_fields: bool, target: u32) -> Option<BtfCause>
-    ensures { spec.IsLeastOf (MemberTypeFault (facts_in section.now) bit_fields target) result }
+    ensures { spec.IsLeastOf
+        (faults.MemberTypeFault (facts_in section.now) bit_fields target) result }
 {
     if target > section.count() {
         return Some(BtfCause::Reference);
@@ -94,7 +138,7 @@ fn component_fits(section: &Section, target: u32, component: u32) -> bool
 /// Checks the component_idx of a DECL_TAG that refers to this type. The field is read as unsigned,
 /// so -1, which stands for the complete type, is the largest number.
 pub fn component_fault(section: &Section, target: u32, word: u32) -> Option<BtfCause>
-    ensures { spec.IsLeastOf (ComponentFault (facts_in section.now) target word) result }
+    ensures { spec.IsLeastOf (faults.ComponentFault (facts_in section.now) target word) result }
 {
     (word != u32::MAX && !component_fits(section, target, word)).then_some(BtfCause::Component)
 }

@@ -1,6 +1,6 @@
 use Rattle.std.proofs.Common.{◌≡◌, true, false, arith}
 use Rattle.btf_types.proofs.JudgeLemmas.NameSteps.{utf8_fault, no_item_fault}
-use Rattle.btf_types.proofs.judge.names.item_name_fault.Goals as goal
+use Rattle.btf_types.proofs.judge.references.item_name_fault.Goals as goal
 
 pub returns-then-not-is_utf8 : goal.returns-then-not-is_utf8
 returns-then-not-is_utf8 c =

@@ -1,7 +1,7 @@
 use Rattle.std.specs.Prelude.{◌==◌, slice_index}
 use Rattle.btf_types.specs.judge.NameFaults.{NameFault, OwnNameFault}
 use Rattle.btf_types.proofs.JudgeLemmas.{Judging.judged_same, NameSteps.own_to_name, NameSteps.name_to_own, NameSteps.in_range}
-use Rattle.btf_types.proofs.judge.names.name_fault.Goals as goal
+use Rattle.btf_types.proofs.judge.references.name_fault.Goals as goal
 
 pub bounds-section-inside-off : goal.bounds-section-inside-off
 bounds-section-inside-off c = in_range c.section.inside.file.strings.now c.args.off (rw (← c.section.view_is) at c.in-None.ensures)
