@@ -1,10 +1,9 @@
 //! Checks of a record's fields that need only numbers (btf.rst section 2.2). Each `_fault` function
 //! returns the first cause, in the order of the causes, that applies to a 32-bit field, or `None`.
 
-ghost use Rattle.std.specs.Prelude.{◌≡◌, ◌∷◌, []};
+ghost use Rattle.std.specs.Prelude.{◌≡◌};
 ghost use Rattle.btf_types.specs.judge.Checks as spec;
 ghost use Rattle.btf_types.specs.judge.FieldFaults as words;
-ghost use Rattle.btf_raw.specs.Kinds.{one_of};
 ghost use Rattle.btf_types.specs.judge.NameFaults.{IntFault, LinkageFault, MemberPlaceFault};
 
 use crate::values::{Encoding, Linkage};
@@ -45,15 +44,6 @@ pub fn second_fault(kind: u8, vlen: u16) -> Option<BtfCause>
     (kind == FUNC && Linkage::from_number(u32::from(vlen)).is_none()).then_some(BtfCause::Linkage)
 }
 
-/// Whether an INT of `size` bytes may have this number of bits: at most 128, and no more than its
-/// size.
-#[tactic(auto, unfolding(crate::specs::judge::Checks::bits_fit))]
-fn bits_fit(size: u32, bits: u32) -> bool
-    ensures { result ≡ spec.bits_fit size bits }
-{
-    bits <= 128 && u64::from(bits) <= 8 * u64::from(size)
-}
-
 /// Whether an INT with this offset and number of bits may be the type of a member if the record has
 /// bit-fields.
 #[tactic(auto, unfolding(crate::specs::judge::Checks::is_plain_int))]
@@ -71,30 +61,17 @@ fn member_fits(bit_offset: u32, width: u8, size: u32) -> bool
     (u64::from(bit_offset) + u64::from(width) + 7) / 8 <= u64::from(size)
 }
 
-/// Checks the 32 bits that follow an INT: its encoding, its number of bits, and that the
-/// unused bits are 0.
+/// Checks the 32 bits that follow an INT: that the unused bits are 0, its encoding, and its number
+/// of bits, which is at most 128 and no more than its size.
+#[tactic(auto, unfolding(crate::specs::judge::Checks::bits_fit))]
 pub fn int_fault(size: u32, word: u32) -> Option<BtfCause>
     ensures { spec.IsLeastOf (IntFault size word) result }
 {
-    if int_unused(word) == 0 && is_encoding(word >> 24 & 0xf) && bits_fit(size, word & 0xff) {
-        None
-    } else {
-        Some(BtfCause::IntWord)
-    }
-}
-
-/// The sum of the unused bits of an INT's data; 0 if all of them are 0.
-fn int_unused(word: u32) -> u32
-    ensures { result ≡ words.int_unused word }
-{
-    (word >> 28) + (word >> 8 & 0xff)
-}
-
-/// Whether this number is a valid encoding: plain, signed, char or bool.
-fn is_encoding(encoding: u32) -> bool
-    ensures { result ≡ one_of (0 ∷ 1 ∷ 2 ∷ 4 ∷ []) encoding }
-{
-    Encoding::from_number(encoding).is_some()
+    let unused = (word >> 28) + (word >> 8 & 0xff);
+    let encoding = Encoding::from_number(word >> 24 & 0xf);
+    let bits = word & 0xff;
+    let bits_fit = bits <= 128 && u64::from(bits) <= 8 * u64::from(size);
+    (unused != 0 || encoding.is_none() || !bits_fit).then_some(BtfCause::IntWord)
 }
 
 /// The bit offset that a member's offset field contains. `flag` is the record's kind_flag.
