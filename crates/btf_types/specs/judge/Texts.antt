@@ -1,8 +1,7 @@
 -- Which strings of a string section are UTF-8. A string begins at any offset, and ends at the next NUL.
-use Rattle.std.specs.Prelude.{◌≡◌, ◌↔◌, ℕ, ◌<◌, ◌≤◌, Bool, true, false, IsUtf8, List, length, get_or, slice_index}
+use Rattle.std.specs.Prelude.{◌≡◌, ◌↔◌, ℕ, ◌<◌, ◌≤◌, Bool, true, false, IsUtf8, Option, None, Some, List, length, get_or, slice_index}
 use Rattle.btf_raw.specs.Names.{TextAt}
-use Rattle.btf_types.specs.declared.judge.utf8.Texts.{Texts}
-use Rattle.btf_types.specs.declared.judge.utf8.Texts.TheVariants as texts
+use Rattle.std.specs.Borrow.{Bor}
 
 -- a character may begin with this byte
 abbrev pub BeginsChar : ℕ → Type 0
@@ -13,9 +12,10 @@ pub record AreMarks (strings : List ℕ) (marks : List Bool) : Type 0 where
   pub size : length marks ≡ length strings
   pub right : (offset : ℕ) (text : List ℕ) → TextAt strings offset text → (get_or marks offset false ≡ true) ↔ IsUtf8 text
 
-abbrev pub TextsAre : List ℕ → Texts → Type 0
-TextsAre strings texts.Utf8 = IsUtf8 strings
-TextsAre strings (texts.Marked marks) = AreMarks strings marks.now
+-- the marks of a section, or none if all of it is UTF-8
+abbrev pub HasMarks : List ℕ → Option (Bor (List Bool)) → Type 0
+HasMarks strings None = IsUtf8 strings
+HasMarks strings (Some marks) = AreMarks strings marks.now
 
 -- the next offset after this one at which a character may begin, or the end; and whether the string there is UTF-8
 pub record IsNextChar (strings : List ℕ) (at next : ℕ) (rest : Bool) : Type 0 where

@@ -2,7 +2,7 @@
 use Rattle.std.specs.Prelude.{◌≡◌, ◌^◌, ◌≤◌, length}
 use Rattle.btf_raw.specs.Header.{HasNulEnds}
 use Rattle.btf_types.specs.declared.tables.section.{Section.TheInside.Inside, Facts.Facts}
-use Rattle.btf_types.specs.{judge.Checks.TypeFacts, judge.Texts.TextsAre, Sections.SectionWords, Reading.frames_at, tables.TableInvariant.IsFramed}
+use Rattle.btf_types.specs.{judge.Checks.TypeFacts, judge.Texts.HasMarks, Sections.SectionWords, Reading.frames_at, tables.TableInvariant.IsFramed}
 
 -- the strings, and the frames at the kept offsets
 abbrev pub words_in : Inside → SectionWords
@@ -13,7 +13,7 @@ pub record IsSection (s : Inside) : Type 0 where
   pub ends : HasNulEnds s.file.strings.now
   pub few : length s.file.types.now ≤ 2 ^ 25
   pub framed : IsFramed s.file.order s.file.types.now s.file.places.now
-  pub texts : TextsAre s.file.strings.now s.texts.now
+  pub marks : HasMarks s.file.strings.now s.marks
 
 -- the facts of a type are those that the checks of other records need
 pub record FactsAre (facts : Facts) (t : TypeFacts) : Type 0 where

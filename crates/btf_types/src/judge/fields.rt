@@ -18,7 +18,7 @@ use crate::error::BtfError;
 use crate::judge::checks::{int_fault, linkage_fault, second_fault};
 use crate::judge::items::{entries_fault, members_fault, params_fault, values_fault};
 use crate::judge::references::{component_fault, name_fault, named_type_fault, third_fault};
-use crate::judge::utf8::{Texts, marks_unless_utf8};
+use crate::judge::utf8::marks_unless_utf8;
 use crate::record_words::Record;
 use crate::tables::section::Section;
 use crate::tables::table::FileSections;
@@ -158,11 +158,8 @@ pub fn check_fields<A: Allocator>(alloc: A, file: FileSections) -> Result<(), Bt
         FailsFields s.order s.types.now s.strings.now s.places.now e) }
 {
     let marks = marks_unless_utf8(alloc, file.strings)?;
-    let texts = Texts::of(&marks);
-    let section = Section {
-        file,
-        texts: &texts,
-    };
+    let marks = marks.as_ref().map(|marks| &marks[..]);
+    let section = Section { file, marks };
     match first_field_fault(&section) {
         Some(fault) => Err(BtfError::Fault(fault)),
         None => Ok(()),

@@ -7,6 +7,7 @@ ghost use Rattle.btf_types.specs.judge.NameFaults as faults;
 ghost use Rattle.btf_types.specs.judge.Checks as spec;
 
 use crate::judge::checks::{is_plain_int, size_fits, target_fits};
+use crate::judge::utf8::is_utf8;
 use crate::tables::section::Section;
 use btf_raw::info::{has_no_name, has_target, needs_name};
 use btf_raw::{
@@ -24,7 +25,7 @@ pub fn item_name_fault(section: &Section, off: u32) -> Option<BtfCause>
     if off >= strings.len() {
         return Some(BtfCause::NameRange);
     }
-    if !section.texts.is_utf8(strings, off) {
+    if !is_utf8(strings, section.marks, off) {
         return Some(BtfCause::NameUtf8);
     }
     None

@@ -9,20 +9,10 @@
 ghost use Rattle.std.specs.Prelude.{◌≡◌, ◌≢◌, ◌↔◌, ℕ, List, ◌<◌, length, slice_index, IfOk, IsTrue};
 ghost use Rattle.std.specs.Prelude.{IsUtf8, MatchOption};
 ghost use Rattle.btf_raw.specs.{Header.HasNulEnds, Names.TextAt};
-ghost use Rattle.btf_types.specs.judge.Texts.{BeginsChar, TextsAre, AreMarks, IsNextChar};
+ghost use Rattle.btf_types.specs.judge.Texts.{BeginsChar, HasMarks, AreMarks, IsNextChar};
 
 use simdutf8::basic::from_utf8;
 use std::alloc::{AllocError, Allocator};
-
-/// Which strings of a string section are UTF-8.
-#[derive(Clone, Copy)]
-pub enum Texts<'a> {
-    /// All of the section is UTF-8, so the string at an offset is UTF-8 if a character begins
-    /// there.
-    Utf8,
-    /// A mark for each byte of the section: whether the string that begins at this byte is UTF-8.
-    Marked(&'a [bool]),
-}
 
 /// Whether a character may begin with this byte, or it is NUL.
 fn begins_char(byte: u8) -> bool
@@ -87,28 +77,14 @@ pub fn marks_unless_utf8<A: Allocator>(
     }
 }
 
-impl<'a> Texts<'a> {
-    /// Borrows the result of [`marks_unless_utf8`].
-    pub fn of<A: Allocator>(marks: &'a Option<Vec<bool, A>>) -> Texts<'a>
-        ensures { (strings : List ℕ)
-            → MatchOption marks.now (IsUtf8 strings) (λ v. AreMarks strings v.items)
-            → TextsAre strings result }
-    {
-        match marks {
-            None => Texts::Utf8,
-            Some(marks) => Texts::Marked(marks),
-        }
-    }
-
-    /// Whether the string at offset `off` of the section is UTF-8.
-    pub fn is_utf8(&self, strings: &[u8], off: usize) -> bool
-        requires texts { TextsAre strings.now self.now }
-        requires there { off < length strings.now }
-        ensures { (text : List ℕ) → TextAt strings.now off text → (IsTrue result ↔ IsUtf8 text) }
-    {
-        match self {
-            Texts::Utf8 => begins_char(strings[off]),
-            Texts::Marked(marks) => marks[off],
-        }
+/// Whether the string at offset `off` of a section is UTF-8. `marks` are those of the section.
+pub fn is_utf8(strings: &[u8], marks: Option<&[bool]>, off: usize) -> bool
+    requires marks { HasMarks strings.now marks }
+    requires there { off < length strings.now }
+    ensures { (text : List ℕ) → TextAt strings.now off text → (IsTrue result ↔ IsUtf8 text) }
+{
+    match marks {
+        None => begins_char(strings[off]),
+        Some(marks) => marks[off],
     }
 }

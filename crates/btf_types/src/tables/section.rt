@@ -6,7 +6,6 @@ ghost use Rattle.btf_raw.specs.Frames.{IsFrame};
 ghost use Rattle.btf_types.specs.{judge.Checks.type_at, Sections.facts_in};
 ghost use Rattle.btf_types.specs.{tables.SectionParts.FactsAre, judge.FieldFaults.frame_facts};
 
-use crate::judge::utf8::Texts;
 use crate::record_words::Record;
 use crate::tables::table::FileSections;
 use btf_raw::{FUNC, INT};
@@ -25,8 +24,9 @@ const NO_TYPE: Facts = Facts {
 #[derive(Drop)]
 pub struct Section<'a> {
     pub file: FileSections<'a>,
-    /// Which strings of the string section are UTF-8.
-    pub texts: &'a Texts<'a>,
+    /// For each byte of the string section, whether the string that begins there is UTF-8; `None`
+    /// if all of the section is.
+    pub marks: Option<&'a [bool]>,
 }
 
 impl<'a> Model for Section<'a> {
