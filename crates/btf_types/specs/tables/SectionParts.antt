@@ -1,8 +1,8 @@
 -- The parts of a section whose framing is valid. The invariant of `Section` and contracts of private functions cite them.
-use Rattle.std.specs.Prelude.{◌≡◌, ◌^◌, ◌≤◌, length}
+use Rattle.std.specs.Prelude.{◌^◌, ◌≤◌, length}
 use Rattle.btf_raw.specs.Header.{HasNulEnds}
-use Rattle.btf_types.specs.declared.tables.section.{Section.TheInside.Inside, Facts.Facts}
-use Rattle.btf_types.specs.{judge.Checks.TypeFacts, judge.Texts.HasMarks, Sections.SectionWords, Reading.frames_at, tables.TableInvariant.IsFramed}
+use Rattle.btf_types.specs.declared.tables.section.Section.TheInside.{Inside}
+use Rattle.btf_types.specs.{judge.Texts.HasMarks, Sections.SectionWords, Reading.frames_at, tables.TableInvariant.IsFramed}
 
 -- the strings, and the frames at the kept offsets
 abbrev pub words_in : Inside → SectionWords
@@ -14,11 +14,3 @@ pub record IsSection (s : Inside) : Type 0 where
   pub few : length s.file.types.now ≤ 2 ^ 25
   pub framed : IsFramed s.file.order s.file.types.now s.file.places.now
   pub marks : HasMarks s.file.strings.now s.marks
-
--- the facts of a type are those that the checks of other records need
-pub record FactsAre (facts : Facts) (t : TypeFacts) : Type 0 where
-  pub kind_is : facts.kind ≡ t.kind
-  pub count_is : facts.count ≡ t.count
-  pub target_is : facts.target ≡ t.target
-  pub offset_is : facts.offset ≡ t.offset
-  pub bits_is : facts.bits ≡ t.bits

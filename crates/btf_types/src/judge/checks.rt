@@ -44,13 +44,13 @@ pub fn second_fault(kind: u8, vlen: u16) -> Option<BtfCause>
     (kind == FUNC && Linkage::from_number(u32::from(vlen)).is_none()).then_some(BtfCause::Linkage)
 }
 
-/// Whether an INT with this offset and number of bits may be the type of a member if the record has
-/// bit-fields.
+/// Whether an INT with this data may be the type of a member if the record has bit-fields: its
+/// offset is 0, and it has 8, 16, 32, 64 or 128 bits.
 #[tactic(auto, unfolding(crate::specs::judge::Checks::is_plain_int))]
-pub fn is_plain_int(offset: u8, bits: u8) -> bool
-    ensures { result ≡ spec.is_plain_int offset bits }
+pub fn is_plain_int(word: u32) -> bool
+    ensures { result ≡ spec.is_plain_int (words.int_offset word) (words.int_bits word) }
 {
-    offset == 0 && matches!(bits, 8 | 16 | 32 | 64 | 128)
+    word >> 16 & 0xff == 0 && matches!(word & 0xff, 8 | 16 | 32 | 64 | 128)
 }
 
 /// Whether a member's end, rounded up to bytes, is at most `size`, the record's size in bytes.

@@ -63,7 +63,8 @@ pub fn name_fault(section: &Section, kind: u8, off: u32) -> Option<BtfCause>
 fn named_kind_fits(section: &Section, kind: u8, target: u32) -> bool
     ensures { result ≡ spec.target_fits kind (type_at (facts_in section.now) target).kind }
 {
-    !matches!(kind, FUNC | DATASEC | DECL_TAG) || target_fits(kind, section.facts(target).kind)
+    !matches!(kind, FUNC | DATASEC | DECL_TAG)
+        || target_fits(kind, section.record(target).map_or(0, |this| this.kind()))
 }
 
 /// Checks the size or type field of a record: a size, a type ID, or 0.
@@ -99,12 +100,14 @@ pub fn named_type_fault(section: &Section, kind: u8, target: u32) -> Option<BtfC
 
 /// Whether a member may have this type if its record has bit-fields: it isn't an INT, or it is an
 /// INT with offset 0 and 8, 16, 32, 64 or 128 bits.
-#[tactic(auto, unfolding(crate::specs::judge::Checks::member_int_fits))]
+#[tactic(auto, using(crate::proofs::TableLemmas::SectionSteps::int_has_word), unfolding(crate::specs::judge::Checks::member_int_fits))]
 fn member_int_fits(section: &Section, target: u32) -> bool
     ensures { result ≡ spec.member_int_fits (facts_in section.now) target }
 {
-    let facts = section.facts(target);
-    facts.kind != INT || is_plain_int(facts.offset, facts.bits)
+    match section.record(target) {
+        Some(this) if this.kind() == INT => is_plain_int(this.word(3)),
+        _ => true,
+    }
 }
 
 /// Checks the type of a member. `bit_fields` is whether its record has bit-fields.
@@ -124,13 +127,15 @@ pub fn member_type_fault(section: &Section, bit_fields: bool, target: u32) -> Op
 fn component_fits(section: &Section, target: u32, component: u32) -> bool
     ensures { result ≡ spec.component_fits (facts_in section.now) target component }
 {
-    let facts = section.facts(target);
-    match facts.kind {
-        STRUCT | UNION => component < u32::from(facts.count),
-        FUNC => {
-            let proto = section.facts(facts.target);
-            proto.kind != FUNC_PROTO || component < u32::from(proto.count)
-        }
+    let Some(this) = section.record(target) else {
+        return true;
+    };
+    match this.kind() {
+        STRUCT | UNION => component < u32::from(this.vlen()),
+        FUNC => match section.record(this.word(2)) {
+            Some(proto) if proto.kind() == FUNC_PROTO => component < u32::from(proto.vlen()),
+            _ => true,
+        },
         VAR | TYPEDEF => false,
         _ => true,
     }
