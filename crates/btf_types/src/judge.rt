@@ -2,7 +2,6 @@
 
 pub(crate) mod checks;
 pub(crate) mod fields;
-pub(crate) mod framing;
 pub(crate) mod items;
 pub(crate) mod references;
 pub(crate) mod utf8;

@@ -1,7 +1,6 @@
 //! The two tables of types, which own or borrow their bytes, and what they consist of.
 
 pub(crate) mod items;
-pub(crate) mod keeps_sections;
 pub(crate) mod owned;
 pub(crate) mod places;
 pub(crate) mod records;

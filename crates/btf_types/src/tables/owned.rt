@@ -6,10 +6,9 @@ ghost use Rattle.btf_types.specs.tables.{TableSections.AreSections, Windows.item
 
 use crate::error::BtfError;
 use crate::tables::items::Items;
-use crate::tables::keeps_sections::KeepsSections;
 use crate::tables::places::Places;
 use crate::tables::records::Records;
-use crate::tables::section_table::SectionTable;
+use crate::tables::section_table::{KeepsSections, SectionTable};
 use crate::tables::table::{FileSections, TypeTable};
 use crate::tables::view::BtfView;
 use crate::values::{Head, Item};

@@ -1,13 +1,44 @@
-//! The offsets of a table's records, and those of the ends of its long strings. Both are in one
-//! vector, since a table uses only one allocator.
+//! The offsets of a table's records (btf.rst section 2.2), and those of the ends of its long
+//! strings. Both are in one vector, since a table uses only one allocator.
 
-ghost use Rattle.std.specs.Prelude.{◌≡◌, ◌<◌, ◌^◌, IfOk, length};
+ghost use Rattle.std.specs.Prelude.{◌≡◌, ◌<◌, ◌≤◌, ◌^◌, IfOk, MatchResult, length};
 ghost use Rattle.btf_raw.specs.Header.{HasNulEnds};
-ghost use Rattle.btf_types.specs.tables.StringEnds.{AreLongEnds};
+ghost use Rattle.btf_types.specs.tables.{TableInvariant.IsFramed, StringEnds.AreLongEnds};
+ghost use Rattle.btf_types.specs.tables.Tables.{FailsFraming, FaultInside};
 
+use crate::error::BtfError;
 use crate::tables::string_ends::push_long_ends;
+use bpf_words::Order;
+use btf_raw::next_head;
 use std::alloc::{AllocError, Allocator};
 use std::marker::Model;
+
+/// Returns the offset of each record, in bytes from the start of the section.
+///
+/// # Errors
+///
+/// `Fault` with the first fault of the framing, whose offset counts bytes from the start of the
+/// section. `Memory` if memory can't be allocated.
+#[tactic(auto, using(crate::proofs::JudgeLemmas::FramingSteps::first_framing_fault))]
+pub fn record_places<A: Allocator>(
+    alloc: A,
+    order: Order,
+    types: &[u8],
+) -> Result<Vec<u32, A>, BtfError>
+    requires { length types.now ≤ 2 ^ 25 }
+    ensures inside { FaultInside (length types.now) result }
+    ensures cases { MatchResult result (λ places. IsFramed order types.now places.items) (λ e.
+        FailsFraming order types.now e) }
+{
+    let mut places = Vec::new(alloc);
+    let mut pos = 0;
+    while pos < types.len() {
+        let head = next_head(order, types, pos)?;
+        places.push(pos as u32)?;
+        pos = head.next;
+    }
+    Ok(places)
+}
 
 /// The offsets of records in the type section, and of the ends of long strings in the string
 /// section, in bytes from the start of each section.

@@ -1,8 +1,9 @@
 //! A table of types that borrows the two sections of a file (btf.rst section 2). Records are
-//! decoded from the sections when they are asked for.
+//! decoded from the sections when they are asked for. A table that keeps its sections implements
+//! [`crate::TypeTable`] by it.
 
-ghost use Rattle.std.specs.Prelude.{◌≡◌, ◌<◌, ◌≤◌, Some, length, slice_get};
-ghost use Rattle.btf_types.specs.Values.{head_value, item_value};
+ghost use Rattle.std.specs.Prelude.{◌≡◌, ◌<◌, ◌≤◌, Some, length, slice_get, List, IfSome, IsSome};
+ghost use Rattle.btf_types.specs.Values.{head_value, item_value, TypeRecord};
 ghost use Rattle.btf_types.specs.{Good.IsGood, Reading.records_at, tables.Windows.items_of};
 ghost use Rattle.btf_types.specs.tables.TableWords.{record_at, numbered};
 ghost use Rattle.btf_types.specs.tables.{TablePlaces.IsPlacedTable, TableSections.AreSections};
@@ -11,7 +12,7 @@ use crate::reading::{head_of, item_count_of, item_of};
 use crate::tables::items::Items;
 use crate::tables::places::Places;
 use crate::tables::records::Records;
-use crate::tables::table::FileSections;
+use crate::tables::table::{FileSections, TypeTable};
 use crate::values::{Head, Item};
 use bpf_words::Order;
 use std::alloc::Allocator;
@@ -138,5 +139,51 @@ impl<'a> SectionTable<'a> {
             end,
             table: self,
         }
+    }
+}
+
+/// A table that keeps the two sections of a file.
+pub trait KeepsSections {
+    ghost denoted: { Self → List TypeRecord };
+
+    /// A table that borrows the kept sections.
+    fn table(&self) -> SectionTable<'_>
+        ensures { result ≡ denoted self.now };
+}
+
+/// A reference to a table keeps what the table keeps.
+impl<T: KeepsSections> KeepsSections for &T {
+    ghost denoted = { λ t. T.denoted t.now };
+
+    fn table(&self) -> SectionTable<'_> {
+        (**self).table()
+    }
+}
+
+impl<T: KeepsSections> TypeTable for T {
+    ghost meaning = { T.denoted };
+
+    fn count(&self) -> u32 {
+        self.table().count()
+    }
+
+    fn head(&self, id: u32) -> Head<'_> {
+        self.table().head(id)
+    }
+
+    fn item_count(&self, id: u32) -> u32 {
+        self.table().item_count(id)
+    }
+
+    fn item(&self, id: u32, k: u32) -> Item<'_> {
+        self.table().item(id, k)
+    }
+
+    fn sections(&self) -> Option<FileSections<'_>>
+        ensures kept { IsSome result }
+        ensures sections { IfSome result (λ s.
+            AreSections (T.denoted self.now) s.order s.types.now s.strings.now s.places.now) }
+    {
+        Some(self.table().sections())
     }
 }

@@ -9,13 +9,11 @@ ghost use Rattle.btf_types.specs.tables.Tables as tables;
 
 use crate::error::BtfError;
 use crate::judge::fields::check_fields;
-use crate::judge::framing::record_places;
 use crate::reading::{head_of, item_of};
 use crate::tables::items::Items;
-use crate::tables::keeps_sections::KeepsSections;
-use crate::tables::places::Places;
+use crate::tables::places::{Places, record_places};
 use crate::tables::records::Records;
-use crate::tables::section_table::SectionTable;
+use crate::tables::section_table::{KeepsSections, SectionTable};
 use crate::tables::table::{FileSections, TypeTable};
 use crate::values::{Head, Item};
 use bpf_words::Order;

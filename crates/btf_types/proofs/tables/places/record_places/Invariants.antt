@@ -1,6 +1,6 @@
 use Rattle.std.proofs.Common.{◌-◌, length}
 use Rattle.btf_types.proofs.JudgeLemmas.FramingSteps.{IsFramedTo}
-use Rattle.btf_types.proofs.judge.framing.record_places.Given as goal
+use Rattle.btf_types.proofs.tables.places.record_places.Given as goal
 
 abbrev pub invariant-loop-pos : goal.invariant-loop-pos
 invariant-loop-pos g l = IsFramedTo l.order l.types l.places.items l.pos

@@ -1,6 +1,6 @@
 use Rattle.std.proofs.{Common.arith}
 use Rattle.btf_types.proofs.JudgeLemmas.FramingSteps.{framed_more}
-use Rattle.btf_types.proofs.judge.framing.record_places.Goals as goal
+use Rattle.btf_types.proofs.tables.places.record_places.Goals as goal
 
 pub loop-pos-preserved : goal.loop-pos-preserved
 loop-pos-preserved g c =
