@@ -31,9 +31,9 @@ impl<'a> Model for Record<'a> {
     ghost invariant = { λ r. AreWordsAt r.order r.types.now r.pos r.info };
 }
 
+#[tactic(auto, using(crate::proofs::JudgeLemmas::FramingSteps::words_of_frame))]
 impl<'a> Record<'a> {
     /// The record at the offset `pos` of the types.
-    #[tactic(auto, using(crate::proofs::JudgeLemmas::FramingSteps::words_of_frame))]
     pub(crate) fn at(order: Order, types: &'a [u8], pos: usize) -> Record<'a>
         requires { pos + 4 * length (frame_at order types.now pos) ≤ length types.now }
         ensures { result ≡ frame_at order types.now pos }
@@ -48,7 +48,6 @@ impl<'a> Record<'a> {
 
     /// Word `j`, counted from 0. The record must have that many words: the first three, then what
     /// its kind and vlen determine (`btf_raw`'s `tail_words`).
-    #[tactic(auto, using(crate::proofs::JudgeLemmas::FramingSteps::words_of_frame))]
     #[inline(always)]
     pub fn word(&self, j: usize) -> u32
         requires { j < length self.now }
@@ -65,7 +64,6 @@ impl<'a> Record<'a> {
     }
 
     /// The number of words.
-    #[tactic(auto, using(crate::proofs::JudgeLemmas::FramingSteps::words_of_frame))]
     pub(crate) fn words(&self) -> usize
         ensures { result ≡ length self.now }
     {

@@ -1,11 +1,20 @@
 //! The two tables of types, which own or borrow their bytes, and what they consist of.
 
-pub(crate) mod items;
-pub(crate) mod owned;
-pub(crate) mod places;
-pub(crate) mod records;
+mod items;
+mod owned;
+mod places;
+mod records;
 pub(crate) mod section;
-pub(crate) mod section_table;
-pub(crate) mod string_ends;
+mod section_table;
+mod string_ends;
 pub(crate) mod table;
-pub(crate) mod view;
+mod view;
+
+pub use items::Items;
+pub use owned::Btf;
+pub(crate) use places::{Places, record_places};
+pub use records::Records;
+pub(crate) use section_table::{KeepsSections, SectionTable};
+pub(crate) use string_ends::{push_long_ends, text_end_with};
+pub use table::{FileSections, TypeTable};
+pub use view::BtfView;

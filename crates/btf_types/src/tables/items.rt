@@ -1,11 +1,12 @@
 //! An iterator over the items of a record.
+#![tactic(auto, using(crate::proofs::TableLemmas::WindowSteps::item_windows))]
 
 ghost use Rattle.std.specs.Prelude.{◌≡◌, IfSome, Some, length};
 ghost use Rattle.std.specs.Iterator.{UpTo, YieldsFirstBy, YieldsLastBy, item_count};
 ghost use Rattle.std.specs.Iterator.SizeHint.{IsWithinCount};
 ghost use Rattle.btf_types.specs.Values.{item_value};
 
-use crate::tables::section_table::SectionTable;
+use crate::tables::SectionTable;
 use crate::values::Item;
 use std::fmt;
 use std::iter::FusedIterator;
@@ -47,7 +48,6 @@ impl<'a> Iterator for Items<'a> {
 
     ghost remaining = { item_count (λ left. left) };
 
-    #[tactic(auto, using(crate::proofs::TableLemmas::WindowSteps::item_windows))]
     fn next(&mut self) -> Option<Item<'a>> {
         if self.given == self.end {
             return None;
@@ -70,7 +70,6 @@ impl<'a> Iterator for Items<'a> {
 impl<'a> DoubleEndedIterator for Items<'a> {
     ghost next_back_gives = { YieldsLastBy item_value (λ left. left) };
 
-    #[tactic(auto, using(crate::proofs::TableLemmas::WindowSteps::item_windows))]
     fn next_back(&mut self) -> Option<Item<'a>> {
         if self.given == self.end {
             return None;
@@ -81,7 +80,6 @@ impl<'a> DoubleEndedIterator for Items<'a> {
 }
 
 impl ExactSizeIterator for Items<'_> {
-    #[tactic(auto, using(crate::proofs::TableLemmas::WindowSteps::item_windows))]
     fn len(&self) -> usize {
         (self.end - self.given) as usize
     }

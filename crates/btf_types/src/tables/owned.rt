@@ -1,16 +1,13 @@
 //! A table that owns its bytes.
 
-ghost use Rattle.std.specs.Prelude.{◌≡◌, IfSome, IsSome, MatchResult};
-ghost use Rattle.btf_types.specs.{Denotes.Denotes, tables.Tables.Fails, tables.TableWords.numbered};
-ghost use Rattle.btf_types.specs.tables.{TableSections.AreSections, Windows.items_of};
+ghost use Rattle.std.specs.Prelude.{◌≡◌, MatchResult};
+ghost use Rattle.btf_types.specs.{Denotes.Denotes, tables.Tables.Fails};
+ghost use Rattle.btf_types.specs.tables.{TableWords.numbered, Windows.items_of};
 
 use crate::error::BtfError;
-use crate::tables::items::Items;
-use crate::tables::places::Places;
-use crate::tables::records::Records;
-use crate::tables::section_table::{KeepsSections, SectionTable};
-use crate::tables::table::{FileSections, TypeTable};
-use crate::tables::view::BtfView;
+use crate::tables::{
+    BtfView, FileSections, Items, KeepsSections, Places, Records, SectionTable, TypeTable,
+};
 use crate::values::{Head, Item};
 use bpf_words::Order;
 use std::alloc::{Allocator, Global};

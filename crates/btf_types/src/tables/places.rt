@@ -7,7 +7,7 @@ ghost use Rattle.btf_types.specs.tables.{TableInvariant.IsFramed, StringEnds.Are
 ghost use Rattle.btf_types.specs.tables.Tables.{FailsFraming, FaultInside};
 
 use crate::error::BtfError;
-use crate::tables::string_ends::push_long_ends;
+use crate::tables::push_long_ends;
 use bpf_words::Order;
 use btf_raw::next_head;
 use std::alloc::{AllocError, Allocator};

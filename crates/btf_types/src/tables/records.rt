@@ -1,11 +1,12 @@
 //! An iterator over the records of a table.
+#![tactic(auto, using(crate::proofs::TableLemmas::WindowSteps::record_windows))]
 
 ghost use Rattle.std.specs.Prelude.{◌≡◌, IfSome, Some, length};
 ghost use Rattle.std.specs.Iterator.{UpTo, YieldsFirstBy, YieldsLastBy, item_count};
 ghost use Rattle.std.specs.Iterator.SizeHint.{IsWithinCount};
 ghost use Rattle.btf_types.specs.tables.TableWords.{numbered_value};
 
-use crate::tables::section_table::SectionTable;
+use crate::tables::SectionTable;
 use crate::values::Head;
 use std::fmt;
 use std::iter::FusedIterator;
@@ -44,7 +45,6 @@ impl<'a> Iterator for Records<'a> {
 
     ghost remaining = { item_count (λ left. left) };
 
-    #[tactic(auto, using(crate::proofs::TableLemmas::WindowSteps::record_windows))]
     fn next(&mut self) -> Option<(u32, Head<'a>)> {
         if self.given == self.last {
             return None;
@@ -66,7 +66,6 @@ impl<'a> Iterator for Records<'a> {
 impl<'a> DoubleEndedIterator for Records<'a> {
     ghost next_back_gives = { YieldsLastBy numbered_value (λ left. left) };
 
-    #[tactic(auto, using(crate::proofs::TableLemmas::WindowSteps::record_windows))]
     fn next_back(&mut self) -> Option<(u32, Head<'a>)> {
         if self.given == self.last {
             return None;
@@ -78,7 +77,6 @@ impl<'a> DoubleEndedIterator for Records<'a> {
 }
 
 impl ExactSizeIterator for Records<'_> {
-    #[tactic(auto, using(crate::proofs::TableLemmas::WindowSteps::record_windows))]
     fn len(&self) -> usize {
         (self.last - self.given) as usize
     }

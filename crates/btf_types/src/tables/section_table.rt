@@ -9,10 +9,7 @@ ghost use Rattle.btf_types.specs.tables.TableWords.{record_at, numbered};
 ghost use Rattle.btf_types.specs.tables.{TablePlaces.IsPlacedTable, TableSections.AreSections};
 
 use crate::reading::{head_of, item_count_of, item_of};
-use crate::tables::items::Items;
-use crate::tables::places::Places;
-use crate::tables::records::Records;
-use crate::tables::table::{FileSections, TypeTable};
+use crate::tables::{FileSections, Items, Places, Records, TypeTable};
 use crate::values::{Head, Item};
 use bpf_words::Order;
 use std::alloc::Allocator;
@@ -40,6 +37,7 @@ impl<'a> Model for SectionTable<'a> {
         (record { records = t.file.places.now; ends = t.ends.now }) };
 }
 
+#[tactic(auto, using(crate::proofs::TableLemmas::TableReads::placed))]
 impl<'a> SectionTable<'a> {
     /// The table of these sections, whose records begin at these offsets.
     pub fn new<A: Allocator>(
@@ -71,7 +69,6 @@ impl<'a> SectionTable<'a> {
     }
 
     /// The head of the record with the ID `id`, counted from 1.
-    #[tactic(auto, using(crate::proofs::TableLemmas::TableReads::placed))]
     pub fn head(&self, id: u32) -> Head<'a>
         requires first { 0 < id }
         requires last { id ≤ length self.now }
@@ -81,7 +78,6 @@ impl<'a> SectionTable<'a> {
     }
 
     /// The number of items of the record with the ID `id`, counted from 1.
-    #[tactic(auto, using(crate::proofs::TableLemmas::TableReads::placed))]
     pub fn item_count(&self, id: u32) -> u32
         requires first { 0 < id }
         requires last { id ≤ length self.now }
@@ -91,7 +87,6 @@ impl<'a> SectionTable<'a> {
     }
 
     /// Item `k` (from 0) of the record with the ID `id`, counted from 1.
-    #[tactic(auto, using(crate::proofs::TableLemmas::TableReads::placed))]
     pub fn item(&self, id: u32, k: u32) -> Item<'a>
         requires first { 0 < id }
         requires last { id ≤ length self.now }

@@ -1,20 +1,17 @@
 //! A table that borrows the file it was read from.
 
-ghost use Rattle.std.specs.Prelude.{◌≡◌, ◌<◌, ◌≤◌, IfSome, IsSome, Some, MatchResult, length};
-ghost use Rattle.std.specs.Prelude.{slice_get};
-ghost use Rattle.btf_types.specs.{Denotes.Denotes, Values.head_value, Values.item_value};
-ghost use Rattle.btf_types.specs.tables.{TableSections.AreSections, TableWords.numbered};
-ghost use Rattle.btf_types.specs.tables.{TableWords.record_at, Windows.items_of};
+ghost use Rattle.std.specs.Prelude.{◌≡◌, ◌<◌, ◌≤◌, Some, MatchResult, length, slice_get};
+ghost use Rattle.btf_types.specs.{Denotes.Denotes, tables.Windows.items_of};
+ghost use Rattle.btf_types.specs.Values.{head_value, item_value};
+ghost use Rattle.btf_types.specs.tables.TableWords.{numbered, record_at};
 ghost use Rattle.btf_types.specs.tables.Tables as tables;
 
 use crate::error::BtfError;
 use crate::judge::fields::check_fields;
 use crate::reading::{head_of, item_of};
-use crate::tables::items::Items;
-use crate::tables::places::{Places, record_places};
-use crate::tables::records::Records;
-use crate::tables::section_table::{KeepsSections, SectionTable};
-use crate::tables::table::{FileSections, TypeTable};
+use crate::tables::{
+    FileSections, Items, KeepsSections, Places, Records, SectionTable, TypeTable, record_places,
+};
 use crate::values::{Head, Item};
 use bpf_words::Order;
 use btf_raw::{BtfFault, check_strings, read_header};
@@ -56,6 +53,7 @@ fn moved(base: usize, error: BtfError) -> BtfError
     BtfError::Fault(BtfFault { pos, cause })
 }
 
+#[tactic(auto, using(crate::proofs::TableLemmas::TableReads::placed))]
 impl<'a, A: Allocator> BtfView<'a, A> {
     /// Reads and checks a complete BTF file (btf.rst section 2). No name is copied: the table
     /// borrows `bytes`, and keeps the offset of each record.
@@ -115,7 +113,6 @@ impl<'a, A: Allocator> BtfView<'a, A> {
 
     /// The head of the record with the ID `id`, which is 1 to [`crate::TypeTable::count`]. Unlike
     /// that of [`crate::TypeTable::head`], its name borrows the file and may outlive the view.
-    #[tactic(auto, using(crate::proofs::TableLemmas::TableReads::placed))]
     pub fn file_head(&self, id: u32) -> Head<'a>
         requires first { 0 < id }
         requires last { id ≤ length self.now }
@@ -134,7 +131,6 @@ impl<'a, A: Allocator> BtfView<'a, A> {
     /// Item `k` (from 0) of the record with the ID `id`, which is 1 to
     /// [`crate::TypeTable::count`]; `k` is less than [`crate::TypeTable::item_count`]. Unlike that
     /// of [`crate::TypeTable::item`], its name borrows the file and may outlive the view.
-    #[tactic(auto, using(crate::proofs::TableLemmas::TableReads::placed))]
     pub fn file_item(&self, id: u32, k: u32) -> Item<'a>
         requires first { 0 < id }
         requires last { id ≤ length self.now }
