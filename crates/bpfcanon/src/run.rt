@@ -4,15 +4,12 @@ ghost use Rattle.std.specs.Prelude.{◌≡◌, ◌<◌, ◌≤◌, length, false
 ghost use Rattle.bpfcanon.specs.{Devices.sink_change, Devices.source_change, JobEnds.EndsJob};
 ghost use Rattle.bpfcanon.specs.commands.{Pieces.Answers, Reply.has_engine, Reply.limit_of};
 
-use crate::commands::btf_check::btf_check_reply;
-use crate::commands::btf_same::btf_same_reply;
 use crate::commands::btf_show::put_btf_show;
 use crate::commands::input::read_input;
-use crate::commands::insn_groups::insn_groups_reply;
-use crate::commands::insn_read::insn_read_reply;
-use crate::commands::insn_same::insn_same_reply;
 use crate::commands::insn_show::put_insn_show;
+use crate::commands::one_file::{btf_check_reply, insn_groups_reply, insn_read_reply};
 use crate::commands::reply::put_reply;
+use crate::commands::two_files::{btf_same_reply, insn_same_reply};
 use crate::job::Job;
 use crate::outcome::Outcome;
 use crate::verb::Verb;

@@ -1,7 +1,6 @@
-//! The complete input of a command, and its two files if the command compares.
+//! The complete input of a command.
 
-ghost use Rattle.std.specs.Prelude.{◌≡◌, ◌<◌, ◌≤◌, drop, length, take, false, IfErr, IfOk, IfSome};
-ghost use Rattle.std.specs.Prelude.{IsNone};
+ghost use Rattle.std.specs.Prelude.{◌≡◌, ◌<◌, false, IfErr, IfOk};
 ghost use Rattle.bpfcanon.specs.Devices.{Change, IsUnused, source_change};
 ghost use Rattle.bpfcanon.specs.JobEnds.{EndsJob};
 ghost use Rattle.bpfcanon.specs.commands.{Pieces.IsInput, Reply.has_engine};
@@ -35,13 +34,4 @@ pub fn read_input<A: Allocator, S: ByteSource>(
         Err(ReadError::ReadFailed) => Err(Outcome::ReadFailed),
         Err(ReadError::Memory) => Err(Outcome::Memory),
     }
-}
-
-/// Splits an input after its first `split` bytes. `None` if the input is shorter.
-pub fn two_files(input: &[u8], split: u64) -> Option<(&[u8], &[u8])>
-    ensures files { IfSome result (λ files. (split ≤ length input.now)
-        × (files.0.now ≡ take split input.now) × (files.1.now ≡ drop split input.now)) }
-    ensures beyond { IsNone result → length input.now < split }
-{
-    input.split_at_checked(split as usize)
 }

@@ -1,7 +1,7 @@
 use Rattle.std.proofs.Common.{◌≤◌, ◌+◌, arith}
 use Rattle.bpfcanon.proofs.CommandsLemmas.LongNameLemmas.{name_more, name_stopped}
 use Rattle.bpfcanon.proofs.CommandsLemmas.PiecesLemmas.{gathers_handed}
-use Rattle.bpfcanon.proofs.commands.lines.put_name.Goals as goal
+use Rattle.bpfcanon.proofs.commands.btf_show.put_name.Goals as goal
 
 pub returns-in_err-put_chunk : goal.returns-in_err-put_chunk
 returns-in_err-put_chunk g c =

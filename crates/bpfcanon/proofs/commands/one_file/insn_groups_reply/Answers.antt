@@ -1,6 +1,6 @@
 use Rattle.bpf_insn.specs.Groups.{holds}
 use Rattle.bpfcanon.specs.commands.Reply.{grouped}
-use Rattle.bpfcanon.proofs.commands.insn_groups.insn_groups_reply.Goals as goal
+use Rattle.bpfcanon.proofs.commands.one_file.insn_groups_reply.Goals as goal
 
 pub returns-in_ok-group_lines-in-Ok : goal.returns-in_ok-group_lines-in-Ok
 returns-in_ok-group_lines-in-Ok g c =

@@ -5,7 +5,7 @@ use Rattle.bpf_text.specs.btf.{BtfText.quoted_byte, LineParts.item_end, LinePart
 use Rattle.bpf_text.proofs.BtfLemmas.LinePartsLemmas.{item_parts}
 use Rattle.bpfcanon.proofs.CommandsLemmas.LongNameLemmas.{last_gathers, last_refused, name_unwritten, some_end, some_item}
 use Rattle.bpfcanon.proofs.CommandsLemmas.PiecesLemmas.{gathers_handed, gathers_none}
-use Rattle.bpfcanon.proofs.commands.lines.put_item.Goals as goal
+use Rattle.bpfcanon.proofs.commands.btf_show.put_item.Goals as goal
 
 pub returns-in_err-append_item_start-clause-gathered : goal.returns-in_err-append_item_start-clause-gathered
 returns-in_err-append_item_start-clause-gathered g c = grind (arith, gathers_none, some_item)

@@ -1,5 +1,5 @@
 use Rattle.bpfcanon.proofs.CommandsLemmas.{LongNameLemmas.some_quoted, PiecesLemmas.gathers_none}
-use Rattle.bpfcanon.proofs.commands.lines.put_chunk.Goals as goal
+use Rattle.bpfcanon.proofs.commands.btf_show.put_chunk.Goals as goal
 
 pub returns-in_err-append_quoted_part-clause-gathered :
     goal.returns-in_err-append_quoted_part-clause-gathered

@@ -5,7 +5,7 @@ use Rattle.bpf_text.specs.btf.{BtfText.quoted_byte, LineParts.head_end, LinePart
 use Rattle.bpf_text.proofs.BtfLemmas.LinePartsLemmas.{head_parts}
 use Rattle.bpfcanon.proofs.CommandsLemmas.LongNameLemmas.{last_gathers, last_refused, name_unwritten, some_end, some_head}
 use Rattle.bpfcanon.proofs.CommandsLemmas.PiecesLemmas.{gathers_handed, gathers_none}
-use Rattle.bpfcanon.proofs.commands.lines.put_head.Goals as goal
+use Rattle.bpfcanon.proofs.commands.btf_show.put_head.Goals as goal
 
 pub returns-in_err-append_head_start-clause-gathered : goal.returns-in_err-append_head_start-clause-gathered
 returns-in_err-append_head_start-clause-gathered g c = grind (arith, gathers_none, some_head)

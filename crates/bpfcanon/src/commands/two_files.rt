@@ -1,0 +1,66 @@
+//! `insn-same` and `btf-same`: whether two files have the same instructions or types.
+
+ghost use Rattle.std.specs.Prelude.{◌≡◌, ◌<◌, ◌≤◌, drop, length, take, IfOk, IfSome, IsNone};
+ghost use Rattle.bpfcanon.specs.declared.verb.Verb.TheVariants.{BtfSame, InsnSame};
+ghost use Rattle.bpfcanon.specs.commands.{BtfReply.IsBtfSameReply, Reply.IsSameReply};
+ghost use Rattle.bpfcanon.specs.commands.Reply.{limit_of};
+
+use crate::commands::reply::Reply;
+use crate::job::Job;
+use crate::outcome::Outcome;
+use bpf_canon::{SideError, same_btf, same_insns};
+use std::alloc::{AllocError, Allocator};
+
+/// Splits an input after its first `split` bytes. `None` if the input is shorter.
+fn two_files(input: &[u8], split: u64) -> Option<(&[u8], &[u8])>
+    ensures files { IfSome result (λ files. (split ≤ length input.now)
+        × (files.0.now ≡ take split input.now) × (files.1.now ≡ drop split input.now)) }
+    ensures beyond { IsNone result → length input.now < split }
+{
+    input.split_at_checked(split as usize)
+}
+
+/// The reply of `insn-same`. The byte orders of the two files are independent.
+#[tactic(auto, using(crate::proofs::CommandsLemmas::Replies::insn_same_replies))]
+pub fn insn_same_reply<A: Allocator + Copy>(
+    alloc: A,
+    job: Job,
+    input: &[u8],
+) -> Result<Reply<A>, AllocError>
+    requires { length input.now ≤ limit_of InsnSame }
+    ensures { IfOk result (λ r.
+        IsSameReply (limit_of InsnSame) job.order job.other job.split input.now r.outcome
+        r.output.items) }
+{
+    let Some((first, second)) = two_files(input, job.split) else {
+        return Ok(Reply::bare(alloc, Outcome::SplitBeyond));
+    };
+    match same_insns(alloc, job.order, first, job.other, second) {
+        Ok(same) => Reply::of_comparison(alloc, same),
+        Err(SideError::First(fault)) => Ok(Reply::bare(alloc, Outcome::First(fault))),
+        Err(SideError::Second(fault)) => Ok(Reply::bare(alloc, Outcome::Second(fault))),
+        Err(SideError::Memory) => Err(AllocError),
+    }
+}
+
+/// The reply of `btf-same`. The magic in each header shows the byte order of the file.
+#[tactic(auto, using(crate::proofs::CommandsLemmas::Replies::btf_same_replies))]
+pub fn btf_same_reply<A: Allocator + Copy>(
+    alloc: A,
+    split: u64,
+    input: &[u8],
+) -> Result<Reply<A>, AllocError>
+    requires { length input.now ≤ limit_of BtfSame }
+    ensures { IfOk result (λ r.
+        IsBtfSameReply (limit_of BtfSame) split input.now r.outcome r.output.items) }
+{
+    let Some((first, second)) = two_files(input, split) else {
+        return Ok(Reply::bare(alloc, Outcome::SplitBeyond));
+    };
+    match same_btf(alloc, first, second) {
+        Ok(same) => Reply::of_comparison(alloc, same),
+        Err(SideError::First(fault)) => Ok(Reply::bare(alloc, Outcome::FirstBtf(fault))),
+        Err(SideError::Second(fault)) => Ok(Reply::bare(alloc, Outcome::SecondBtf(fault))),
+        Err(SideError::Memory) => Err(AllocError),
+    }
+}
