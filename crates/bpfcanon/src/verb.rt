@@ -44,16 +44,10 @@ pub enum Setting {
 
 impl Verb {
     /// All commands.
+    #[rattlefmt::skip]
     pub const ALL: [Verb; 9] = [
-        Verb::InsnCanon,
-        Verb::InsnShow,
-        Verb::InsnRead,
-        Verb::InsnGroups,
-        Verb::InsnSame,
-        Verb::BtfCanon,
-        Verb::BtfShow,
-        Verb::BtfCheck,
-        Verb::BtfSame,
+        Verb::InsnCanon, Verb::InsnShow, Verb::InsnRead, Verb::InsnGroups, Verb::InsnSame,
+        Verb::BtfCanon, Verb::BtfShow, Verb::BtfCheck, Verb::BtfSame,
     ];
 
     /// The name of the command on the command line, such as `insn-canon`.
