@@ -5,7 +5,7 @@ ghost use Rattle.bpf_canon.specs.declared.engine.RunCause.TheVariants as run;
 ghost use Rattle.bpf_canon.specs.declared.engine.SideError.TheVariants as side;
 ghost use Rattle.bpf_canon.specs.Engine.{PutStops};
 
-use crate::device::sink::{ByteSink, put_all};
+use crate::device::{ByteSink, put_all};
 use std::alloc::{AllocError, AllocFailed};
 use thiserror::Error;
 

@@ -5,7 +5,4 @@ pub(crate) mod canon;
 pub(crate) mod feed;
 pub(crate) mod front;
 pub mod laws;
-pub(crate) mod recode;
 pub(crate) mod run;
-pub(crate) mod same;
-pub(crate) mod write;

@@ -14,16 +14,13 @@ pub use btf::canon::{canon_btf, canonical_in};
 pub use btf::run::{BTF_LIMIT, run_btf};
 pub use btf::same::same_btf;
 pub use btf::write::table::write_btf;
-pub use device::DeviceFailed;
-pub use device::memory::{MemSink, MemSource};
-pub use device::sink::{ByteSink, put_all};
-pub use device::source::{ByteSource, ReadError, read_all};
-pub use device::standard::{ReaderSource, WriterSink};
+pub use device::{
+    ByteSink, ByteSource, DeviceFailed, MemSink, MemSource, ReadError, ReaderSource, WriterSink,
+    put_all, read_all,
+};
 pub use engine::{RunCause, RunError, SideError};
-pub use insn::canon::{canon_insns, recode_insns};
+pub use insn::canon::{canon_insns, recode_insns, same_insns, write_insns};
 pub use insn::feed::InsnFeed;
 pub use insn::front::first_fault;
 pub use insn::laws;
 pub use insn::run::{INSN_LIMIT, run_insns};
-pub use insn::same::same_insns;
-pub use insn::write::write_insns;

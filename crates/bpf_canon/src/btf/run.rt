@@ -4,8 +4,7 @@ ghost use Rattle.bpf_canon.specs.Engine.{devices, counts_read, counts_write};
 ghost use Rattle.bpf_canon.specs.btf.RunBtf.{RanBtf, StopsBtf};
 
 use crate::btf::canon::canonical_in;
-use crate::device::sink::ByteSink;
-use crate::device::source::{ByteSource, ReadError, read_all};
+use crate::device::{ByteSink, ByteSource, ReadError, read_all};
 use crate::engine::{RunCause, RunError, put_whole, stopped};
 use bpf_words::Order;
 use btf_raw::BtfFault;

@@ -4,9 +4,7 @@ ghost use Rattle.std.specs.Io.{ReadsAtMost, WritesAtMost};
 ghost use Rattle.std.specs.Io.KnownBytes.{ReadConsumes, WriteAppends};
 ghost use Rattle.bpf_canon.specs.device.Device.{CountsFailure};
 
-use crate::device::DeviceFailed;
-use crate::device::sink::ByteSink;
-use crate::device::source::ByteSource;
+use crate::device::{ByteSink, ByteSource, DeviceFailed};
 use std::alloc::{Allocator, Global};
 use std::fmt;
 

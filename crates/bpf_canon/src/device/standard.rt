@@ -2,9 +2,7 @@
 ghost use Rattle.std.specs.Prelude.{◌≡◌, ◌<◌};
 ghost use Rattle.bpf_canon.specs.device.Device.{AnswersRead, AnswersWrite};
 
-use crate::device::DeviceFailed;
-use crate::device::sink::ByteSink;
-use crate::device::source::ByteSource;
+use crate::device::{ByteSink, ByteSource, DeviceFailed};
 use std::io::{Read, Write};
 
 /// A source over a reader. Every error of the reader, even an interrupted read, counts as a failed

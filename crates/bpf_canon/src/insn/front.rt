@@ -1,14 +1,19 @@
 //! The complete instructions at the start of a buffer, read in one byte order and written in
-//! another.
-ghost use Rattle.std.specs.Prelude.{◌≡◌, ◌<◌, ◌≤◌, ◌+◌, ◌++◌, List, Some, None, length, take};
-ghost use Rattle.std.specs.Prelude.{vec_len, vec_capacity, IfOk, IfErr};
+//! another without decoding (RFC 9669 sections 3 and 4).
+//!
+//! The two byte orders differ in the register byte and in the bytes of the offset and the
+//! immediate. In the second slot of a wide load the opcode, registers and offset are zero.
+//! Therefore every 8-byte slot is recoded in the same way.
+ghost use Rattle.std.specs.Prelude.{◌≡◌, ◌≢◌, ◌<◌, ◌≤◌, ◌+◌, ◌*◌, ◌/◌, ◌%◌, ◌++◌, List, Some, None};
+ghost use Rattle.std.specs.Prelude.{length, take, vec_len, vec_capacity, IfOk, IfErr};
+ghost use Rattle.bpf_words.specs.declared.Order.{Order};
+ghost use Rattle.bpf_words.specs.Slots.{AreFields, Fields, spelled};
 ghost use Rattle.bpf_insn.specs.{declared.fault.SlotFault.SlotFault, declared.insn.Insn.Insn};
-ghost use Rattle.bpf_insn.specs.{Spelling.InsnFile, Faults.IsInsnFault, Faults.IsSlotFault};
+ghost use Rattle.bpf_insn.specs.{Spelling.InsnFile, Spelling.file_of, Spelling.spelling};
+ghost use Rattle.bpf_insn.specs.Faults.{IsInsnFault, IsSlotFault};
 ghost use Rattle.bpf_canon.specs.insn.FrontReads.{BeginsAcross, BeginsNone, ReadsFront};
 
-use crate::insn::recode::append_recoded;
-use crate::insn::write::append_insn;
-use bpf_insn::{Insn, InsnFront, Order, SlotFault, insn_front, read_insn};
+use bpf_insn::{Insn, InsnFront, Order, SlotFault, insn_bytes, insn_front, read_insn};
 use std::alloc::Allocator;
 
 /// The first fault of an instruction file, with its offset in bytes from the start of the file, or
@@ -99,4 +104,90 @@ fn join(first: &[u8], second: &[u8]) -> [u8; 16]
     joined[..first.len()].copy_from_slice(first);
     joined[first.len()..first.len() + second.len()].copy_from_slice(second);
     joined
+}
+
+/// Appends the bytes of an instruction. Their capacity is reserved.
+fn append_insn<A: Allocator>(out: &mut Vec<u8, A>, order: Order, insn: Insn)
+    requires { vec_len out.old + length (spelling order insn) ≤ vec_capacity out.old }
+    ensures items { out.new.items ≡ out.old.items ++ spelling order insn }
+    ensures len { vec_len out.new ≡ vec_len out.old + length (spelling order insn) }
+    ensures capacity { vec_capacity out.old ≤ vec_capacity out.new }
+{
+    // The pair isn't destructured, since that would copy the bytes once more.
+    let spelled = insn_bytes(order, insn);
+    let _ = out.extend_from_slice(&spelled.0[..spelled.1]);
+}
+
+/// The low byte of each halfword except the lowest one.
+const LOW_BYTES: u64 = 0x00ff_00ff_00ff_0000;
+
+/// Appends the instructions of valid `bytes` in the byte order `order`, re-encoded in the byte
+/// order `to`. Their capacity is reserved. All slots are copied at once, and then rewritten in
+/// place.
+fn append_recoded<A: Allocator>(order: Order, to: Order, bytes: &[u8], out: &mut Vec<u8, A>)
+    requires { vec_len out.old + length bytes.now ≤ vec_capacity out.old }
+    ensures { (insns : List Insn) → InsnFile order bytes.now insns
+        → out.new.items ≡ out.old.items ++ file_of to insns }
+{
+    let start = out.len();
+    let _ = out.extend_from_slice(bytes);
+    if order != to {
+        swap_slots(&mut out[start..]);
+    }
+}
+
+/// Rewrites each slot in the other byte order.
+fn swap_slots(bytes: &mut [u8])
+    ensures { (order to : Order) (insns : List Insn) → order ≢ to → InsnFile order bytes.old insns
+        → bytes.new ≡ file_of to insns }
+{
+    let mut pos = 0;
+    'slots: while let Some(slot) = bytes[pos..].first_chunk::<8>() {
+        let other = swapped(slot);
+        bytes[pos..pos + 8].copy_from_slice(&other);
+        pos += 8;
+    }
+}
+
+/// The bytes of a slot in the other byte order. The halves of the register byte, the two bytes of
+/// the offset and the four bytes of the immediate are reversed.
+///
+/// The slot is loaded as one 64-bit number, and its parts are moved by masks and shifts:
+///
+/// ```text
+/// bit  0        8          12         16       32                   64
+///      | opcode | register | register | offset | imm                |
+///                                     | half-  | half-    | half-   |
+///                                     | word   | word     | word    |
+/// ```
+///
+/// This lets the compiler vectorise a loop over slots; byte-by-byte code is not vectorised.
+#[inline(always)]
+pub(crate) fn swapped(slot: &[u8; 8]) -> [u8; 8]
+    ensures { (order to : Order) → order ≢ to → (slot_fields : Fields) × (AreFields slot_fields
+        × ((slot.now ≡ spelled order slot_fields) × (result ≡ spelled to slot_fields))) }
+{
+    let word = u64::from_le_bytes(*slot);
+    let opcode = word % 0x100;
+    let registers = word / 0x100 % 0x10 * 0x1000 + word / 0x1000 % 0x10 * 0x100;
+    let halfwords = swap_halfwords(word);
+    let offset = halfwords % 0x1_0000_0000;
+    let imm = halfwords / 0x1_0000_0000 % 0x1_0000 * 0x1_0000_0000_0000
+        + halfwords / 0x1_0000_0000_0000 * 0x1_0000_0000;
+    (opcode + registers + offset + imm).to_le_bytes()
+}
+
+/// The three upper halfwords, each with its two bytes exchanged, and 0 for the lowest one.
+#[inline(always)]
+#[tactic(auto, using(crate::proofs::InsnLemmas::SwappedBytes::halfwords_swapped))]
+fn swap_halfwords(word: u64) -> u64
+    ensures { result ≡ word / 0x1_0000 % 0x100 * 0x100_0000 + word / 0x100_0000 % 0x100 * 0x1_0000
+        + word / 0x1_0000_0000 % 0x100 * 0x100_0000_0000
+        + word / 0x100_0000_0000 % 0x100 * 0x1_0000_0000
+        + word / 0x1_0000_0000_0000 % 0x100 * 0x100_0000_0000_0000
+        + word / 0x100_0000_0000_0000 % 0x100 * 0x1_0000_0000_0000 }
+{
+    let low_bytes = word & LOW_BYTES;
+    let high_bytes = word / 0x100 & LOW_BYTES;
+    low_bytes * 0x100 + high_bytes
 }

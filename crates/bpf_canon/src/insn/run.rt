@@ -3,9 +3,7 @@ ghost use Rattle.std.specs.Prelude.{◌≡◌, ◌<◌, ◌≤◌, ◌+◌, leng
 ghost use Rattle.bpf_canon.specs.Engine.{devices, counts_read, counts_write};
 ghost use Rattle.bpf_canon.specs.insn.{Run.RanWhole, Run.Stops, Passed.Passed, Passed.PassStops};
 
-use crate::device::DeviceFailed;
-use crate::device::sink::ByteSink;
-use crate::device::source::ByteSource;
+use crate::device::{ByteSink, ByteSource, DeviceFailed};
 use crate::engine::{RunCause, RunError, put_whole, stopped};
 use crate::insn::feed::InsnFeed;
 use bpf_insn::{InsnError, Order, SlotFault};

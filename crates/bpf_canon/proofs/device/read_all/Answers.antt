@@ -2,8 +2,8 @@ use Rattle.std.proofs.Common.{rules, arith, ◌≡◌, ◌≤◌, ◌+◌, ◌++
 use Rattle.std.proofs.{lemmas.List.length-take-le, KnownBytes.Consumes-trans}
 use Rattle.std.specs.Io.KnownBytes.{Consumes}
 use Rattle.bpf_canon.specs.device.Reads.{EndsAmid, read_room}
-use Rattle.bpf_canon.specs.declared.device.source.ReadError.{ReadError, TheVariants.Memory}
-use Rattle.bpf_canon.proofs.device.source.read_all.Goals as goal
+use Rattle.bpf_canon.specs.declared.device.ReadError.{ReadError, TheVariants.Memory}
+use Rattle.bpf_canon.proofs.device.read_all.Goals as goal
 
 -- what `?` makes of a failed growth
 refused : {T : Type 0} (P : ReadError → Type 0) (r : Result T ReadError) → IsErrAnd r (λ e. e ≡ Memory) → P Memory → IfErr r P

@@ -1,6 +1,6 @@
 use Rattle.std.proofs.Common.{false, sym}
 use Rattle.bpf_canon.proofs.InsnLemmas.CanonLemmas.{compares}
-use Rattle.bpf_canon.proofs.insn.same.same_insns.Goals as goal
+use Rattle.bpf_canon.proofs.insn.canon.same_insns.Goals as goal
 
 pub returns-in-Some-clause-fault : goal.returns-in-Some-clause-fault
 returns-in-Some-clause-fault g c = c.first_fault.ensures.fault c.in-Some.fault c.in-Some.is

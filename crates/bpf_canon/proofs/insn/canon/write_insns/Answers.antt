@@ -3,7 +3,7 @@ use native.Mathlib.Numerals.{unary_clauses}
 use Rattle.std.proofs.{Math.Seq.take-suc, lemmas.List.Concat.flat_map-append, lemmas.List.Elements.All-append, lemmas.Grind.common_steps}
 use Rattle.std.specs.List.{All}
 use Rattle.bpf_insn.specs.{declared.insn.Insn.Insn, Table.IsInsn, Spelling.InsnFile, Spelling.file_of, Spelling.spelling}
-use Rattle.bpf_canon.proofs.insn.write.write_insns.Goals as goal
+use Rattle.bpf_canon.proofs.insn.canon.write_insns.Goals as goal
 
 one_insn : (i : Insn) → IsInsn i → All IsInsn (i ∷ [])
 one_insn i valid zero d h = valid

@@ -2,7 +2,7 @@ use Rattle.std.proofs.Common.{◌≤◌, ◌+◌, ◌-◌, ◌∙◌, [], length
 use Rattle.std.proofs.lemmas.List.{length-take}
 use borrow.Rule.Slice.PartMut.{same_len_mid}
 use Rattle.bpf_canon.proofs.InsnLemmas.Recoding.{none_left, none_rewritten, one_swapped}
-use Rattle.bpf_canon.proofs.insn.recode.swap_slots.Goals as goal
+use Rattle.bpf_canon.proofs.insn.front.swap_slots.Goals as goal
 
 pub slots-init : goal.slots-init
 slots-init c = (λ order to other. none_rewritten order to c.args.bytes.now [], omega arith, refl)

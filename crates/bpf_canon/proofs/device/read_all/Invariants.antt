@@ -1,6 +1,6 @@
 use Rattle.std.proofs.Common.{◌≡◌, ◌≤◌, ◌+◌, ◌-◌, ℕ, List, Option, length}
 use Rattle.std.specs.Io.KnownBytes.{Consumes}
-use Rattle.bpf_canon.proofs.device.source.read_all.Given as goal
+use Rattle.bpf_canon.proofs.device.read_all.Given as goal
 
 -- these bytes were read, within the limit, and no call failed
 pub record CameSoFar (old new : Option (List ℕ)) (failed_before failed : ℕ) (bytes : List ℕ) (limit : ℕ) : Type 0 where

@@ -1,6 +1,6 @@
 use Rattle.std.proofs.Common.{length, ◌-◌, ◌≡◌, ◌≤◌, ℕ, List, Option, take}
 use Rattle.std.specs.Io.KnownBytes.{Appends}
-use Rattle.bpf_canon.proofs.device.sink.put_all.Given as goal
+use Rattle.bpf_canon.proofs.device.put_all.Given as goal
 
 -- so far a prefix of the bytes was accepted, and no call failed
 pub record TakenSoFar (old new : Option (List ℕ)) (failed_before failed : ℕ) (bytes : List ℕ) (n : ℕ) : Type 0 where

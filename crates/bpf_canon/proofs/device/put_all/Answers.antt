@@ -1,7 +1,7 @@
 use Rattle.std.proofs.Common.{rules, arith, ◌≡◌, ◌+◌, ◌-◌, ℕ, List, Option, Ok, take, drop, length, ◌++◌}
 use Rattle.std.proofs.{lemmas.Grind.common_steps, Math.Seq.take-add, KnownBytes.Appends-trans}
 use Rattle.std.specs.Io.KnownBytes.{Appends}
-use Rattle.bpf_canon.proofs.device.sink.put_all.Goals as goal
+use Rattle.bpf_canon.proofs.device.put_all.Goals as goal
 
 -- one more write of n bytes
 takes_more : (a b c : Option (List ℕ)) (bytes : List ℕ) (t n : ℕ) → Appends a b (take t bytes)

@@ -1,6 +1,6 @@
 use Rattle.std.proofs.Common.{take}
 use Rattle.bpf_insn.specs.Spelling.{InsnFile}
-use Rattle.bpf_canon.proofs.insn.write.write_insns.Given as goal
+use Rattle.bpf_canon.proofs.insn.canon.write_insns.Given as goal
 
 abbrev pub invariant-loop-insn : goal.invariant-loop-insn
 invariant-loop-insn g l = InsnFile l.fn.order l.bytes.items (take l.insn-index l.insns)

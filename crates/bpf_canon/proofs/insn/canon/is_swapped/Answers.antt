@@ -1,7 +1,7 @@
 use Rattle.std.proofs.Common.{◌∙◌, ◌++◌, List, ℕ, ap}
 use Rattle.bpf_canon.proofs.InsnLemmas.Comparing.{prefix_found, swapped_apart, swapped_end, swapped_more}
 use Rattle.bpf_canon.proofs.InsnLemmas.Recoding.{slot_first}
-use Rattle.bpf_canon.proofs.insn.same.is_swapped.Goals as goal
+use Rattle.bpf_canon.proofs.insn.canon.is_swapped.Goals as goal
 
 pub slots-preserved : goal.slots-preserved
 slots-preserved c = λ order to other.
