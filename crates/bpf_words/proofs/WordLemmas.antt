@@ -2,6 +2,8 @@
 use Rattle.std.proofs.Common.{◌≡◌, ℕ, ◌+◌, ◌^◌, ◌<◌, ◌≤◌, List, ◌++◌, length, take, drop, refl, sym, ap, ◌∙◌, add-zero, add_assoc, inl, inr, lit<, arith}
 use Rattle.std.proofs.lemmas.{List.length-take, List.length-drop, List.get_or-take, List.get_or-drop, List.get_or_past, List.drop_at, Bool.cases_lt}
 use Rattle.std.proofs.lemmas.Nat.{le_bytes_2, be_bytes_2, le_bytes_4, be_bytes_4, from_le_bytes-to_le_bytes_4, from_be_bytes-to_be_bytes_4}
+use Rattle.std.proofs.lemmas.Int.{of_z-to_z}
+use Rattle.std.specs.Int.{w16, w32, cast_signed, cast_unsigned}
 use Rattle.bpf_words.specs.declared.Order.{Order, TheVariants.Little, TheVariants.Big}
 use Rattle.bpf_words.specs.Words.{IsBytes, word16, word32, word16_at, word32_at}
 
@@ -66,3 +68,11 @@ word16-word16_at Little b h n =
 word16-word16_at Big b h n =
     let same : word16_at Big (take 2 b) 0 ≡ word16_at Big b 0 = omega (arith, get_or-take 2 b 0 0 (lit< tt), get_or-take 2 b 1 0 (lit< tt)) in
     ap (λ (w : ℕ). word16 Big w) (sym same) ∙ word16_of_two Big (take 2 b) (omega (arith, length-take 2 b)) (IsBytes-take 2 b h)
+
+-- two and four bytes are those of the signed number that they read as
+pub signed16 : (o : Order) (bs : List ℕ) → length bs ≡ 2 → IsBytes bs → word16 o (cast_unsigned w16 (cast_signed w16 (word16_at o bs 0))) ≡ bs
+signed16 Little bs n h = rw (of_z-to_z w16 (word16_at Little bs 0) (omega (arith, h 0, h 1))) (word16_of_two Little bs n h)
+signed16 Big bs n h = rw (of_z-to_z w16 (word16_at Big bs 0) (omega (arith, h 0, h 1))) (word16_of_two Big bs n h)
+
+pub signed32 : (o : Order) (bs : List ℕ) → length bs ≡ 4 → IsBytes bs → word32 o (cast_unsigned w32 (cast_signed w32 (word32_at o bs 0))) ≡ bs
+signed32 o bs n h = rw (of_z-to_z w32 (word32_at o bs 0) (word32_at-below o bs 0 h)) (word32_of_four o bs n h)

@@ -5,14 +5,12 @@
 pub mod laws;
 mod order_name;
 mod slot;
-mod spelling;
 #[cfg(test)]
 mod tests;
 mod words;
 
 pub use order_name::ParseOrderError;
-pub use slot::Slot;
-pub use spelling::{slot_bytes, slot_of};
+pub use slot::{Slot, slot_bytes, slot_of};
 pub use words::{get16, get32, push16, push32};
 
 /// The byte order of a file: whether the least significant byte of a word is its first or its last.

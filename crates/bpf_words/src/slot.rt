@@ -1,5 +1,10 @@
-//! The fields of a basic instruction.
+//! The fields of a basic instruction, and their bytes.
 
+ghost use Rattle.std.specs.Prelude.{◌≡◌};
+ghost use Rattle.bpf_words.specs.Slots.{AreFields, spelled};
+
+use crate::Order;
+use byteorder::{BigEndian, ByteOrder, LittleEndian};
 use std::marker::Model;
 
 /// The five fields of the 8 bytes of a basic instruction (RFC 9669 section 3).
@@ -38,4 +43,49 @@ impl Model for Slot {
 
     ghost inverse = { λ f.
         record { opcode = f.opcode; dst = f.dst; src = f.src; off = f.off; imm = f.imm } };
+}
+
+/// Returns the slot that 8 bytes encode (RFC 9669 section 3). Any 8 bytes encode one.
+pub fn slot_of(order: Order, bytes: &[u8; 8]) -> Slot
+    ensures spelled { bytes.now ≡ spelled order result }
+    ensures in_range { AreFields result }
+{
+    match order {
+        Order::Little => Slot {
+            opcode: bytes[0],
+            dst: bytes[1] % 16,
+            src: bytes[1] / 16,
+            off: LittleEndian::read_i16(&bytes[2..4]),
+            imm: LittleEndian::read_i32(&bytes[4..8]),
+        },
+        Order::Big => Slot {
+            opcode: bytes[0],
+            dst: bytes[1] / 16,
+            src: bytes[1] % 16,
+            off: BigEndian::read_i16(&bytes[2..4]),
+            imm: BigEndian::read_i32(&bytes[4..8]),
+        },
+    }
+}
+
+/// Returns the 8 bytes of a slot (RFC 9669 section 3).
+pub fn slot_bytes(order: Order, slot: Slot) -> [u8; 8]
+    ensures spelled { result ≡ spelled order slot }
+    ensures in_range { AreFields slot }
+{
+    let mut bytes = [0; 8];
+    bytes[0] = slot.opcode;
+    match order {
+        Order::Little => {
+            bytes[1] = 16 * slot.src + slot.dst;
+            LittleEndian::write_i16(&mut bytes[2..4], slot.off);
+            LittleEndian::write_i32(&mut bytes[4..8], slot.imm);
+        }
+        Order::Big => {
+            bytes[1] = 16 * slot.dst + slot.src;
+            BigEndian::write_i16(&mut bytes[2..4], slot.off);
+            BigEndian::write_i32(&mut bytes[4..8], slot.imm);
+        }
+    }
+    bytes
 }
