@@ -49,19 +49,9 @@ impl FoundGroups {
         Ok(len)
     }
 
-    /// Whether a plain instruction with a settled opcode is at offset `pos`. The set already has
-    /// its group.
-    #[inline(always)]
-    fn has_plain_at(&self, order: Order, bytes: &[u8], pos: usize) -> bool
-        requires pos { pos < length bytes.now }
-        requires settled { AreSettled self.now.settled self.now.set }
-        ensures { IsTrue result → AddsInsnAt order bytes.now pos self.now.set self.now.set 8 }
-    {
-        self.settled[bytes[pos] as usize] && begins_plainly(order, &bytes[pos..])
-    }
-
-    /// The end of the longest run of such instructions from `pos` on. Most instructions are in such
-    /// runs, and a separate loop for them is the fastest.
+    /// The end of the longest run from `pos` on of plain instructions with settled opcodes. The set
+    /// already has their groups. Most instructions are in such runs, and a separate loop for them
+    /// is the fastest.
     #[inline(always)]
     fn plain_end(&self, order: Order, bytes: &[u8], pos: usize) -> usize
         requires pos { pos ≤ length bytes.now }
@@ -71,7 +61,10 @@ impl FoundGroups {
         ensures groups { HasGroupsBefore order bytes.now result self.now.set }
     {
         let mut end = pos;
-        while end < bytes.len() && self.has_plain_at(order, bytes, end) {
+        while end < bytes.len()
+            && self.settled[bytes[end] as usize]
+            && begins_plainly(order, &bytes[end..])
+        {
             end += 8;
         }
         end
