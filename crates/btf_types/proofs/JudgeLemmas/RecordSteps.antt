@@ -1,14 +1,14 @@
 -- The fields of a record by their roles: the first with a fault, and where the record ends.
-use Rattle.std.proofs.Common.{◌≡◌, ◌≢◌, ◌⊎◌, ℕ, ◌+◌, ◌*◌, ◌<◌, ◌≤◌, None, Some, inl, inr, List, length, sym, ◌∙◌, subst, arith}
+use Rattle.std.proofs.Common.{◌≡◌, ◌≢◌, ◌⊎◌, ℕ, ◌+◌, ◌*◌, ◌<◌, ◌≤◌, Option, None, Some, MatchOption, IsSomeAnd, refl, inl, inr, List, length, sym, ◌∙◌, subst, arith}
 use Rattle.std.specs.Prelude.{IsTrue}
 use Rattle.std.proofs.lemmas.Bool.{cases_lt, ne_eqb}
 use Rattle.btf_raw.specs.{declared.cause.BtfCause.BtfCause, Frames.IsFrame, Frames.kind, Frames.vlen}
 use Rattle.btf_raw.specs.KindNumbers.{INT, ARRAY, STRUCT, UNION, ENUM, FUNC_PROTO, VAR, DATASEC, DECL_TAG, ENUM64}
 use Rattle.btf_raw.specs.Kinds.{is_struct, tail_words, fixed_words, item_words}
-use Rattle.btf_types.specs.{Sections.SectionWords, judge.RecordFaults.FaultInWord, judge.RecordFaults.NoneWithin, judge.RecordFaults.IsFirstWithin}
-use Rattle.btf_types.specs.judge.{Checks.TypeFacts, Checks.LeastCause, Checks.NoCause, NameFaults.NamedTypeFault}
+use Rattle.btf_types.specs.{Sections.SectionWords, judge.RecordFaults.FaultInWord, judge.RecordFaults.NoneWithin, judge.RecordFaults.IsFirstWithin, judge.RecordFaults.FirstWithin}
+use Rattle.btf_types.specs.judge.{Checks.TypeFacts, Checks.LeastCause, Checks.NoCause, Checks.IsLeastOf, NameFaults.NamedTypeFault}
 use Rattle.btf_types.proofs.JudgeLemmas.Roles.{Role, Free, HasRole}
-use Rattle.btf_types.proofs.JudgeLemmas.WordSteps.{first_after}
+use Rattle.btf_types.proofs.JudgeLemmas.WordSteps.{none_through}
 use Rattle.btf_types.proofs.JudgeLemmas.RoleSteps.{FaultInRole, judged, one_word, struct_size, struct_fixed}
 
 no_tail : (κ v : ℕ) → κ ≢ INT → κ ≢ ARRAY → κ ≢ STRUCT → κ ≢ UNION → κ ≢ ENUM → κ ≢ FUNC_PROTO → κ ≢ VAR → κ ≢ DATASEC → κ ≢ DECL_TAG → κ ≢ ENUM64
@@ -40,6 +40,17 @@ module _ (s : SectionWords) {f : List ℕ} (is : IsFrame f) where
   -- fields that may have any value have no fault
   pub free_within : (from to : ℕ) → to ≤ length f → ((j : ℕ) → from ≤ j → j < to → HasRole (kind f) j Free) → NoneWithin s f from to
   free_within from to room free j d past low fault = judged s Free None is (omega arith) (free j past low) (λ c h. h) d fault
+
+  -- the answer for the last field that may have a fault, from that for its cause
+  pub field_answer : {Post : BtfCause → ℕ × BtfCause → Type 0} (from to j : ℕ) (role : Role) (fault : Option BtfCause) (answer : Option (ℕ × BtfCause))
+      → from ≤ j → j < to → to ≤ length f → NoneWithin s f from j → HasRole (kind f) j role → ((i : ℕ) → j + 1 ≤ i → i < to → HasRole (kind f) i Free)
+      → IsLeastOf (FaultInRole s f j role) fault → MatchOption fault (answer ≡ None) (λ c. IsSomeAnd answer (Post c))
+      → ((c : BtfCause) (found : ℕ × BtfCause) → Post c found → found ≡ (j, c)) → FirstWithin s f from to answer
+  field_answer from to j role None answer past inside room before has free none made same =
+      rw made (none_through s f from (j + 1) to (none_at from j (j + 1) role refl (omega arith) before has none) (free_within (j + 1) to room free))
+  field_answer from to j role (Some c) None past inside room before has free least made same = absurd made
+  field_answer from to j role (Some c) (Some found) past inside room before has free least made same =
+      rw (same c found made) (first_at from to j role c past inside room before has least)
 
 -- a type is checked against the kind of the record that refers to it
 pub of_its_kind : (types : List TypeFacts) (κ k word : ℕ) (c : BtfCause) → κ ≡ k → LeastCause (NamedTypeFault types k word) c → LeastCause (NamedTypeFault types κ word) c
@@ -78,9 +89,5 @@ module _ {f : List ℕ} (is : IsFrame f) where
       let end : length f ≡ 3 = is.size ∙ no_tail (kind f) (vlen f) int array struct union enum proto var datasec tag enum64 in
       absurd (omega arith)
 
--- what the search cites of the members, of the parameters, and of the fields after the first three
-pub ruleset members_first = (members_end, first_after)
-
-pub ruleset params_first = (params_end, first_after)
-
+-- what the search cites of the fields after the first three
 pub ruleset tails = (rest_faultless, array_end, fourth_end, none_yet)

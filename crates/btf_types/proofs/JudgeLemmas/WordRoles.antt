@@ -55,12 +55,12 @@ module _ (κ k : ℕ) (struct : IsTrue (is_struct κ)) where
   member_name_role = of_three κ k 0 _ ItemName (struct_size κ struct) (lit< tt) (omega arith)
       (elim (struct_cases κ struct) [ inl e ↦ rw e (search rules) | inr e ↦ rw e (search rules) ])
 
-  pub member_type_role : HasRole κ (4 + 3 * k) MemberType
+  pub member_type_role : HasRole κ (3 + 3 * k + 1) MemberType
   unfolding has_item_names
   member_type_role = of_three κ k 1 _ MemberType (struct_size κ struct) (lit< tt) (omega arith)
       (elim (struct_cases κ struct) [ inl e ↦ rw e (search rules) | inr e ↦ rw e (search rules) ])
 
-  pub member_place_role : HasRole κ (5 + 3 * k) MemberPlace
+  pub member_place_role : HasRole κ (3 + 3 * k + 2) MemberPlace
   unfolding has_item_names
   member_place_role = of_three κ k 2 _ MemberPlace (struct_size κ struct) (lit< tt) (omega arith)
       (elim (struct_cases κ struct) [ inl e ↦ rw e (search rules) | inr e ↦ rw e (search rules) ])
@@ -70,7 +70,7 @@ module _ (κ k : ℕ) (proto : κ ≡ FUNC_PROTO) where
   unfolding has_item_names
   param_name_role = of_two κ k 0 _ ItemName (proto_size κ proto) (lit< tt) (omega arith) (rw proto (search rules))
 
-  pub param_type_role : HasRole κ (4 + 2 * k) NamedType
+  pub param_type_role : HasRole κ (3 + 2 * k + 1) NamedType
   unfolding has_item_names
   param_type_role = of_two κ k 1 _ NamedType (proto_size κ proto) (lit< tt) (omega arith) (rw proto (search rules))
 
