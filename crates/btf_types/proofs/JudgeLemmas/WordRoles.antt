@@ -136,9 +136,6 @@ module _ (κ : ℕ) (array : κ ≡ ARRAY) where
   unfolding has_item_names item_words
   count_role j past low = role_from_part κ j 2 Free (omega arith) (rw array (omega arith)) (rw array (search rules))
 
-pub fourth_cases : (κ : ℕ) → IsTrue (one_of (INT ∷ VAR ∷ DECL_TAG ∷ []) κ) → (κ ≡ INT) ⊎ (κ ≡ VAR) ⊎ (κ ≡ DECL_TAG)
-fourth_cases κ h = one_among (λ k. (k ≡ INT) ⊎ (k ≡ VAR) ⊎ (k ≡ DECL_TAG)) (INT ∷ VAR ∷ DECL_TAG ∷ []) κ (inl refl, (inr (inl refl), (inr (inr refl), tt))) h
-
 pub int_role : (κ : ℕ) → κ ≡ INT → HasRole κ 3 IntWord
 unfolding has_item_names item_words
 int_role κ int = role_from_part κ 3 0 IntWord (omega arith) (rw int refl) (rw int (search rules))

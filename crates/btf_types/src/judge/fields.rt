@@ -3,16 +3,13 @@
 //! length of the section: each field is read at most once (the offsets in a STRUCT twice), and what
 //! is needed of another record is read directly at its offset.
 
-ghost use Rattle.std.specs.Prelude.{◌≡◌, ◌<◌, ◌≤◌, ◌^◌, IsTrue, [], ◌∷◌, length, IfSome};
-ghost use Rattle.std.specs.Prelude.{MatchOption, MatchResult};
+ghost use Rattle.std.specs.Prelude.{◌≤◌, ◌^◌, length, IfSome, MatchOption, MatchResult};
 ghost use Rattle.btf_raw.specs.{Header.HasNulEnds, Header.STRINGS_LIMIT, Cause.HasNone};
-ghost use Rattle.btf_raw.specs.{Cause.LeastByPlace, Frames.IsFrame, Frames.kind, Kinds.one_of};
-ghost use Rattle.btf_types.specs.judge.{Checks.IsLeastOf, FieldFaults.FieldFault};
-ghost use Rattle.btf_types.specs.judge.RecordFaults.{FaultInWord, FirstWithin, IsFaultlessIn};
-ghost use Rattle.btf_types.specs.judge.RecordFaults.{IsLeastIn};
+ghost use Rattle.btf_raw.specs.{Cause.LeastByPlace, Frames.IsFrame};
+ghost use Rattle.btf_types.specs.judge.{FieldFaults.FieldFault, RecordFaults.FirstWithin};
+ghost use Rattle.btf_types.specs.judge.RecordFaults.{IsFaultlessIn, IsLeastIn};
 ghost use Rattle.btf_types.specs.tables.TableInvariant.{IsFramed, FieldsAreRight};
 ghost use Rattle.btf_types.specs.tables.Tables.{FailsFields, FaultInside};
-ghost use Rattle.btf_raw.specs.KindNumbers as kinds;
 
 use crate::error::BtfError;
 use crate::judge::checks::{int_fault, linkage_fault, second_fault};
@@ -34,66 +31,33 @@ fn first_words_fault(section: &Section, this: &Record) -> Option<(usize, BtfCaus
 {
     let kind = this.kind();
     let vlen = this.vlen();
-    let name = this.word(0);
-    if let Some(cause) = name_fault(section, kind, name) {
+    if let Some(cause) = name_fault(section, kind, this.word(0)) {
         return Some((0, cause));
     }
     if let Some(cause) = second_fault(kind, vlen) {
         return Some((1, cause));
     }
-    let size_or_type = this.word(2);
-    let third = third_fault(section, kind, size_or_type, vlen);
-    match third {
-        Some(cause) => Some((2, cause)),
-        None => None,
-    }
-}
-
-/// The cause if the fourth field of an INT, VAR or DECL_TAG is faulty.
-fn fourth_fault(section: &Section, this: &Record) -> Option<BtfCause>
-    requires frame { IsFrame this.now }
-    requires kind { IsTrue (one_of (kinds.INT ∷ kinds.VAR ∷ kinds.DECL_TAG ∷ []) (kind this.now)) }
-    ensures { IsLeastOf (FaultInWord section.now this.now 3) result }
-{
-    let size_or_type = this.word(2);
-    let word = this.word(3);
-    match this.kind() {
-        INT => int_fault(size_or_type, word),
-        VAR => linkage_fault(word),
-        _ => component_fault(section, size_or_type, word),
-    }
-}
-
-/// The index of the first faulty type ID of an ARRAY, and its cause. The element type is checked
-/// before the index type. The number of elements may be any.
-#[tactic(auto, using(crate::proofs::JudgeLemmas::RecordSteps::array_end))]
-fn array_fault(section: &Section, this: &Record) -> Option<(usize, BtfCause)>
-    requires frame { IsFrame this.now }
-    requires kind { kind this.now ≡ kinds.ARRAY }
-    ensures { FirstWithin section.now this.now 3 6 result }
-{
-    if let Some(cause) = named_type_fault(section, ARRAY, this.word(3)) {
-        return Some((3, cause));
-    }
-    match named_type_fault(section, ARRAY, this.word(4)) {
-        Some(cause) => Some((4, cause)),
-        None => None,
-    }
+    third_fault(section, kind, this.word(2), vlen).map(|cause| (2, cause))
 }
 
 /// The index of the first faulty field after the first three, and its cause. The kind is matched
-/// once here, and not again for each field.
+/// once here, and not again for each field. The element type of an ARRAY is checked before its
+/// index type, and its number of elements may be any.
 #[tactic(auto, using(crate::proofs::JudgeLemmas::RecordSteps::tails), unfolding(btf_raw::specs::Kinds::item_words))]
 fn tail_fault(section: &Section, this: &Record) -> Option<(usize, BtfCause)>
     requires { IsFrame this.now }
     ensures { FirstWithin section.now this.now 3 (length this.now) result }
 {
     match this.kind() {
-        INT | VAR | DECL_TAG => match fourth_fault(section, this) {
-            Some(cause) => Some((3, cause)),
-            None => None,
-        },
-        ARRAY => array_fault(section, this),
+        INT => int_fault(this.word(2), this.word(3)).map(|cause| (3, cause)),
+        VAR => linkage_fault(this.word(3)).map(|cause| (3, cause)),
+        DECL_TAG => component_fault(section, this.word(2), this.word(3)).map(|cause| (3, cause)),
+        ARRAY => {
+            if let Some(cause) = named_type_fault(section, ARRAY, this.word(3)) {
+                return Some((3, cause));
+            }
+            named_type_fault(section, ARRAY, this.word(4)).map(|cause| (4, cause))
+        }
         STRUCT | UNION => members_fault(section, this),
         FUNC_PROTO => params_fault(section, this),
         ENUM => values_fault(section, this, 2),

@@ -1,8 +1,9 @@
-use Rattle.std.proofs.Common.{ℕ, List, arith}
+use Rattle.std.proofs.Common.{rules, ℕ, List, arith}
 use Rattle.btf_raw.specs.Frames.{IsFrame, name_word, kind, vlen}
 use Rattle.btf_types.specs.Sections.{SectionWords}
 use Rattle.btf_types.specs.judge.{Checks.NoCause, Checks.SecondFault, NameFaults.NameFault, RecordFaults.NoneWithin}
-use Rattle.btf_types.proofs.JudgeLemmas.{Roles.OwnName, Roles.Info, Roles.Third, RecordSteps.none_yet, RecordSteps.first_at, RecordSteps.none_at}
+use Rattle.btf_types.proofs.JudgeLemmas.Roles.{OwnName, Info, Third}
+use Rattle.btf_types.proofs.JudgeLemmas.RecordSteps.{none_yet, first_at, none_at, field_answer}
 use Rattle.btf_types.proofs.JudgeLemmas.WordRoles.{name_has_role, info_has_role, third_has_role}
 use Rattle.btf_types.proofs.TableLemmas.SectionSteps.{three_words}
 use Rattle.btf_types.proofs.judge.fields.first_words_fault.Goals as goal
@@ -23,25 +24,19 @@ pub returns-in-Some : goal.returns-in-Some
 returns-in-Some c =
     let three = three_words c.args.this.now c.requires in
     first_at c.args.section.now c.requires 0 3 0 OwnName _ (omega arith) (omega arith) three (none_yet c.args.section.now c.requires 0) (name_has_role _)
-    (rw (c.kind-kind.ensures, c.word-name.ensures) at c.in-Some.ensures)
+    (rw (c.kind-kind.ensures, c.word.ensures) at c.in-Some.ensures)
 
 pub returns-in-Some-second_fault : goal.returns-in-Some-second_fault
 returns-in-Some-second_fault c =
     let three = three_words c.args.this.now c.requires in
     first_at c.args.section.now c.requires 0 3 1 Info _ (omega arith) (omega arith) three
-    (before_info c.args.section.now c.requires (rw (c.kind-kind.ensures, c.word-name.ensures) at c.in_default.ensures)) (info_has_role _)
+    (before_info c.args.section.now c.requires (rw (c.kind-kind.ensures, c.word.ensures) at c.in_default.ensures)) (info_has_role _)
     (rw (c.kind-kind.ensures, c.vlen-vlen.ensures) at c.in-Some-second_fault.ensures)
 
-pub returns-in-Some-third : goal.returns-in-Some-third
-returns-in-Some-third c =
+pub returns : goal.returns
+returns c =
     let three = three_words c.args.this.now c.requires in
-    first_at c.args.section.now c.requires 0 3 2 Third _ (omega arith) (omega arith) three
-    (before_third c.args.section.now c.requires (rw (c.kind-kind.ensures, c.word-name.ensures) at c.in_default.ensures) (rw (c.kind-kind.ensures, c.vlen-vlen.ensures) at c.in_default-second_fault.ensures))
-    (third_has_role _) (rw (c.kind-kind.ensures, c.vlen-vlen.ensures, c.word-size_or_type.ensures) at c.in-Some-third.ensures)
-
-pub returns-in-None : goal.returns-in-None
-returns-in-None c =
-    let three = three_words c.args.this.now c.requires in
-    none_at c.args.section.now c.requires 0 2 3 Third (omega arith) (omega arith)
-    (before_third c.args.section.now c.requires (rw (c.kind-kind.ensures, c.word-name.ensures) at c.in_default.ensures) (rw (c.kind-kind.ensures, c.vlen-vlen.ensures) at c.in_default-second_fault.ensures))
-    (third_has_role _) (rw (c.kind-kind.ensures, c.vlen-vlen.ensures, c.word-size_or_type.ensures) at c.in-None.ensures)
+    field_answer c.args.section.now c.requires 0 3 2 Third c.third_fault.result c.map.result (omega arith) (omega arith) three
+    (before_third c.args.section.now c.requires (rw (c.kind-kind.ensures, c.word.ensures) at c.in_default.ensures) (rw (c.kind-kind.ensures, c.vlen-vlen.ensures) at c.in_default-second_fault.ensures))
+    (third_has_role _) (λ i past low. absurd (omega arith)) (rw (c.kind-kind.ensures, c.vlen-vlen.ensures, c.word-2.ensures) at c.third_fault.ensures)
+    c.map.ensures.cases (λ d found made. search rules)
