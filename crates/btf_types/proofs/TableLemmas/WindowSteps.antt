@@ -28,15 +28,13 @@ length-numbered id [] = refl
 length-numbered id (r ∷ v) = ap (λ n. suc n) (length-numbered (id + 1) v)
 
 -- one element from the back
-pub window_back : {X : Type 0} (from to : ℕ) (xs : List X) (x : X) → from < to → to ≤ length xs → slice_get xs (to - 1) ≡ Some x → window from to xs ≡ window from (to - 1) xs ++ x ∷ []
-window_back from to xs x low high is =
-    let before = to - 1 in
-    let last : to ≡ before + 1 = omega arith in
-    let len = length-take-le before xs (omega arith) in
-    let there = get_or_is xs before x x is in
+pub window_back : {X : Type 0} (from to end : ℕ) (xs : List X) (x : X) → from < end → end ≤ length xs → end ≡ to + 1 → slice_get xs to ≡ Some x → window from end xs ≡ window from to xs ++ x ∷ []
+window_back from to end xs x low high last is =
+    let len = length-take-le to xs (omega arith) in
+    let there = get_or_is xs to x x is in
     ap (λ n. drop from (take n xs)) last
-    ∙ ap (λ ys. drop from ys) (take_more xs before x (omega arith) ∙ ap (λ y. take before xs ++ y ∷ []) there.1)
-    ∙ drop-append-le from (take before xs) (x ∷ []) (omega arith)
+    ∙ ap (λ ys. drop from ys) (take_more xs to x (omega arith) ∙ ap (λ y. take to xs ++ y ∷ []) there.1)
+    ∙ drop-append-le from (take to xs) (x ∷ []) (omega arith)
 
 numbered_get : (id : ℕ) (v : List TypeRecord) (i : ℕ) → i < length v → slice_get (numbered id v) i ≡ Some (id + i, (unwrap_or (slice_get v i) no_record).head)
 numbered_get id [] i h = absurd (omega (arith, h))

@@ -11,6 +11,7 @@ use crate::values::Item;
 use std::fmt;
 use std::iter::FusedIterator;
 use std::marker::Model;
+use std::ops::Range;
 
 /// An iterator over the items of a record, in order, made by [`crate::BtfView::items`] or
 /// [`crate::Btf::items`].
@@ -22,10 +23,8 @@ pub struct Items<'a> {
     pub(crate) table: SectionTable<'a>,
     /// The ID of the record.
     pub(crate) id: u32,
-    /// The number of items already returned from the start.
-    pub(crate) given: u32,
-    /// The number of items, less those already returned from the end.
-    pub(crate) end: u32,
+    /// The numbers, from 0, of the items not yet returned.
+    pub(crate) left: Range<u32>,
 }
 
 impl<'a> Model for Items<'a> {
@@ -35,10 +34,10 @@ impl<'a> Model for Items<'a> {
 
     ghost Value = { List TypeItem };
 
-    ghost view = { λ t. window t.given t.end (items_of t.table t.id) };
+    ghost view = { λ t. window t.left.start t.left.end (items_of t.table t.id) };
 
-    ghost invariant = { λ t. (t.given ≤ t.end)
-        × (t.end ≤ length (items_of t.table t.id)) };
+    ghost invariant = { λ t. (t.left.start ≤ t.left.end)
+        × (t.left.end ≤ length (items_of t.table t.id)) };
 }
 
 impl<'a> Iterator for Items<'a> {
@@ -49,11 +48,7 @@ impl<'a> Iterator for Items<'a> {
     ghost remaining = { item_count (λ left. left) };
 
     fn next(&mut self) -> Option<Item<'a>> {
-        if self.given == self.end {
-            return None;
-        }
-        let k = self.given;
-        self.given += 1;
+        let k = self.left.next()?;
         Some(self.table.item(self.id, k))
     }
 
@@ -71,17 +66,14 @@ impl<'a> DoubleEndedIterator for Items<'a> {
     ghost next_back_gives = { YieldsLastBy item_value (λ left. left) };
 
     fn next_back(&mut self) -> Option<Item<'a>> {
-        if self.given == self.end {
-            return None;
-        }
-        self.end -= 1;
-        Some(self.table.item(self.id, self.end))
+        let k = self.left.next_back()?;
+        Some(self.table.item(self.id, k))
     }
 }
 
 impl ExactSizeIterator for Items<'_> {
     fn len(&self) -> usize {
-        (self.end - self.given) as usize
+        self.left.len()
     }
 }
 

@@ -5,10 +5,8 @@ ghost use Rattle.btf_types.specs.{Denotes.Denotes, tables.Tables.Fails};
 ghost use Rattle.btf_types.specs.tables.{TableWords.numbered, Windows.items_of};
 
 use crate::error::BtfError;
-use crate::tables::{
-    BtfView, FileSections, Items, KeepsSections, Places, Records, SectionTable, TypeTable,
-};
-use crate::values::{Head, Item};
+use crate::tables::{BtfView, Items, KeepsSections, Places, Records, SectionTable, TypeTable};
+use crate::values::Head;
 use bpf_words::Order;
 use std::alloc::{Allocator, Global};
 use std::fmt;

@@ -11,6 +11,7 @@ use crate::values::Head;
 use std::fmt;
 use std::iter::FusedIterator;
 use std::marker::Model;
+use std::ops::Range;
 
 /// An iterator over a table's records in order, each as its ID and its head, made by
 /// [`crate::BtfView::records`] or [`crate::Btf::records`].
@@ -20,10 +21,8 @@ use std::marker::Model;
 #[derive(Drop)]
 pub struct Records<'a> {
     pub(crate) table: SectionTable<'a>,
-    /// The number of records already returned from the start.
-    pub(crate) given: u32,
-    /// The ID of the last record not yet returned from the end.
-    pub(crate) last: u32,
+    /// The numbers, from 0, of the records not yet returned.
+    pub(crate) left: Range<u32>,
 }
 
 impl<'a> Model for Records<'a> {
@@ -33,9 +32,9 @@ impl<'a> Model for Records<'a> {
 
     ghost Value = { List (ℕ × TypeHead) };
 
-    ghost view = { λ t. window t.given t.last (numbered 1 t.table) };
+    ghost view = { λ t. window t.left.start t.left.end (numbered 1 t.table) };
 
-    ghost invariant = { λ t. (t.given ≤ t.last) × (t.last ≤ length t.table) };
+    ghost invariant = { λ t. (t.left.start ≤ t.left.end) × (t.left.end ≤ length t.table) };
 }
 
 impl<'a> Iterator for Records<'a> {
@@ -46,11 +45,9 @@ impl<'a> Iterator for Records<'a> {
     ghost remaining = { item_count (λ left. left) };
 
     fn next(&mut self) -> Option<(u32, Head<'a>)> {
-        if self.given == self.last {
-            return None;
-        }
-        self.given += 1;
-        Some((self.given, self.table.head(self.given)))
+        self.left.next()?;
+        let id = self.left.start;
+        Some((id, self.table.head(id)))
     }
 
     fn size_hint(&self) -> (usize, Option<usize>)
@@ -67,18 +64,15 @@ impl<'a> DoubleEndedIterator for Records<'a> {
     ghost next_back_gives = { YieldsLastBy numbered_value (λ left. left) };
 
     fn next_back(&mut self) -> Option<(u32, Head<'a>)> {
-        if self.given == self.last {
-            return None;
-        }
-        let id = self.last;
-        self.last -= 1;
+        let id = self.left.end;
+        self.left.next_back()?;
         Some((id, self.table.head(id)))
     }
 }
 
 impl ExactSizeIterator for Records<'_> {
     fn len(&self) -> usize {
-        (self.last - self.given) as usize
+        self.left.len()
     }
 }
 

@@ -110,11 +110,8 @@ impl<'a> SectionTable<'a> {
     pub fn records(self) -> Records<'a>
         ensures { result ≡ numbered 1 self.entry }
     {
-        Records {
-            given: 0,
-            last: self.count(),
-            table: self,
-        }
+        let left = 0..self.count();
+        Records { table: self, left }
     }
 
     /// An iterator over the items of the type with the ID `id`; empty if the table lacks this
@@ -129,10 +126,9 @@ impl<'a> SectionTable<'a> {
             self.item_count(id)
         };
         Items {
-            id,
-            given: 0,
-            end,
             table: self,
+            id,
+            left: 0..end,
         }
     }
 }
