@@ -4,13 +4,11 @@
 //! the immediate (RFC 9669 section 2.4). Once the group of an opcode has been added, further
 //! instructions with that opcode are only validated, not decoded.
 
-ghost use Rattle.std.specs.Prelude.{◌≡◌, ◌<◌, ◌≤◌, ◌↔◌, ◌⊎◌, List, length, slice_index, IfErr};
-ghost use Rattle.std.specs.Prelude.{IfOk, IsOk, IsTrue};
-ghost use Rattle.bpf_insn.specs.{declared.group.Group.Group, Spelling.InsnFile, Spelling.spelling};
-ghost use Rattle.bpf_insn.specs.{declared.insn.Insn.Insn, Table.fields_of, Faults.IsInsnFault};
-ghost use Rattle.bpf_insn.specs.FileSteps.{AddsInsnAt, AreSettled, BeginsAt, HasGroupsBefore};
-ghost use Rattle.bpf_insn.specs.FileSteps.{IsFaultAt, opcode_has_group};
-ghost use Rattle.bpf_insn.specs.Groups.{AreGroupsOf, Brings, group_of, holds};
+ghost use Rattle.std.specs.Prelude.{◌≡◌, ◌<◌, ◌≤◌, List, length, IfErr, IfOk, IsOk};
+ghost use Rattle.bpf_insn.specs.declared.{group.Group.Group, insn.Insn.Insn};
+ghost use Rattle.bpf_insn.specs.{Faults.IsInsnFault, Groups.AreGroupsOf, Spelling.InsnFile};
+ghost use Rattle.bpf_insn.specs.FileSteps.{AddsInsnAt, AreSettled, HasGroupsBefore, IsFaultAt};
+ghost use Rattle.bpf_insn.specs.FileSteps.{opcode_has_group};
 
 use crate::decode::{len_at, read_at};
 use crate::read::begins_plainly;
