@@ -4,7 +4,6 @@ pub mod btf_laws;
 pub(crate) mod canon;
 pub(crate) mod names;
 pub(crate) mod run;
-pub(crate) mod same;
 pub(crate) mod strings;
 mod suffixes;
 pub(crate) mod write;

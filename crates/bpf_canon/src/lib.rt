@@ -10,9 +10,8 @@ mod tests;
 
 pub use bpf_insn::{InsnError, Order};
 pub use btf::btf_laws;
-pub use btf::canon::{canon_btf, canonical_in};
+pub use btf::canon::{canon_btf, canonical_in, same_btf};
 pub use btf::run::{BTF_LIMIT, run_btf};
-pub use btf::same::same_btf;
 pub use btf::write::table::write_btf;
 pub use device::{
     ByteSink, ByteSource, DeviceFailed, MemSink, MemSource, ReadError, ReaderSource, WriterSink,

@@ -5,8 +5,6 @@
 //! string up to the next NUL, a rank among the sorted longest strings, a host, and an offset in the
 //! new table.
 
-mod hosts;
 mod ranked_texts;
-mod section_texts;
 pub(crate) mod shared_places;
 pub(crate) mod used_offsets;

@@ -4,7 +4,7 @@ use Rattle.std.specs.List.{All, Contains}
 use Rattle.std.proofs.{lemmas.List.get_or-map, lemmas.List.length-map, lemmas.List.get_or_default, Math.Seq.drop-cons}
 use Rattle.btf_types.specs.{strings.SharedNames.is_suffix, strings.LongestTexts.AreLongest, Reading.text_from}
 use Rattle.bpf_canon.specs.btf.strings.{SectionTexts.text_in, InHost.no_text, FirstUses.AreMarked, Longest.IsUsed, Longest.AreLongestOf}
-use Rattle.bpf_canon.specs.declared.btf.strings.section_texts.SectionText.{SectionText}
+use Rattle.bpf_canon.specs.declared.btf.strings.ranked_texts.SectionText.{SectionText}
 use Rattle.btf_types.proofs.StringLemmas.Suffixes.{suffix_from_Ends}
 use Rattle.bpf_canon.proofs.BtfLemmas.Strings.LongestSteps.{used_text, within_ends}
 

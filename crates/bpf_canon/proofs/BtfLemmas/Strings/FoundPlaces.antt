@@ -16,8 +16,8 @@ use Rattle.bpf_canon.specs.btf.strings.{UsedOffsets.Used, UsedOffsets.offset_num
 use Rattle.bpf_canon.specs.btf.strings.InHost.{no_host, host_at, sorted_in, IsRankedFor, FindsHosts}
 use Rattle.bpf_canon.specs.btf.strings.Longest.{IsUsed, IsInText, AreLongestOf}
 use Rattle.bpf_canon.specs.btf.strings.HostPlaces.{HasHost, AreHostPlaces, ArePlaced, name_place, names_in, HaveTheirHosts, ArePlacesOf}
-use Rattle.bpf_canon.specs.declared.btf.strings.{section_texts.SectionText.SectionText, hosts.InHost.InHost, ranked_texts.RankedTexts.RankedTexts}
-use Rattle.bpf_canon.specs.declared.btf.strings.hosts.{Span.Span, HostPlaces.HostPlaces}
+use Rattle.bpf_canon.specs.declared.btf.strings.{ranked_texts.SectionText.SectionText, shared_places.InHost.InHost, ranked_texts.RankedTexts.RankedTexts}
+use Rattle.bpf_canon.specs.declared.btf.strings.shared_places.{Span.Span, HostPlaces.HostPlaces}
 use Rattle.bpf_canon.proofs.BtfLemmas.Strings.UsedSteps.{used_inside, used_at, number_inside}
 use Rattle.bpf_canon.proofs.BtfLemmas.Strings.{LongestSteps.used_length, RankSteps.in_tail_order, HostPlaceSteps.host_there}
 use Rattle.bpf_canon.proofs.BtfLemmas.Strings.FoundHosts.{longest_are, in_map, text_some}

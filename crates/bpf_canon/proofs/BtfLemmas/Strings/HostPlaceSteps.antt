@@ -11,7 +11,7 @@ use Rattle.btf_types.proofs.StringLemmas.Suffixes.{Ends, Ends-refl, Ends-same_le
 use Rattle.btf_types.proofs.StringLemmas.{Hosts.host_is, Hosts.own_host_of, Hosts.host_differs, CommonTails.ranks_are_together, Longest.Has-kept_some}
 use Rattle.bpf_canon.specs.btf.strings.InHost.{host_at, no_host, sorted_in, IsRankedFor}
 use Rattle.bpf_canon.specs.btf.strings.UsedOffsets.{Used, offset_number, number_of}
-use Rattle.bpf_canon.specs.declared.btf.strings.{hosts.InHost.InHost, hosts.Span.Span, ranked_texts.RankedTexts.RankedTexts}
+use Rattle.bpf_canon.specs.declared.btf.strings.{shared_places.InHost.InHost, shared_places.Span.Span, ranked_texts.RankedTexts.RankedTexts}
 use Rattle.bpf_canon.specs.btf.strings.HostPlaces.{span_bytes, IsSpan, HasText, IsAtHost, HasHost, AreHostPlaces, names_in, HaveTheirHosts}
 use Rattle.bpf_canon.proofs.BtfLemmas.Names.{KeptSteps.place_stays, KeptSteps.place_last, KeptSteps.length-table_push, Gathering.Has-front, Gathering.Has-back}
 use Rattle.bpf_canon.proofs.BtfLemmas.Strings.{FoundHosts.text_some, FoundHosts.empty_at_nul, FoundHosts.in_map, TableSpans.span_of}

@@ -10,7 +10,7 @@ use Rattle.btf_types.proofs.StringLemmas.CommonTails.{first_ends, rank_has_host}
 use Rattle.bpf_canon.specs.btf.strings.{SectionTexts.text_in, Ranks.AreRanked, UsedOffsets.offset_number}
 use Rattle.bpf_canon.specs.btf.strings.Longest.{IsUsed, IsInText, AreLongestOf}
 use Rattle.bpf_canon.specs.btf.strings.InHost.{IsInHost, no_text, host_at, FindsWithin, AreInHosts, HostsTo}
-use Rattle.bpf_canon.specs.declared.btf.strings.{section_texts.SectionText.SectionText, hosts.InHost.InHost}
+use Rattle.bpf_canon.specs.declared.btf.strings.{ranked_texts.SectionText.SectionText, shared_places.InHost.InHost}
 use Rattle.bpf_canon.proofs.BtfLemmas.Strings.{UsedSteps.number_injective, UsedSteps.number_inside, UsedSteps.used_inside, RankSteps.first_rank_is}
 use Rattle.bpf_canon.proofs.BtfLemmas.Strings.LongestSteps.{used_length, within_length, within_ends}
 

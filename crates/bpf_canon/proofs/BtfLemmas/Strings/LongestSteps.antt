@@ -8,7 +8,7 @@ use Rattle.btf_types.specs.Reading.{before_nul, text_from}
 use Rattle.btf_types.proofs.StringLemmas.Suffixes.{Ends, Ends-refl}
 use Rattle.bpf_canon.specs.btf.strings.{SuffixKeys.suffix_key, Longest.IsUsed, Longest.IsInText}
 use Rattle.bpf_canon.specs.btf.strings.SectionTexts.{text_in, text_before, HasKey}
-use Rattle.bpf_canon.specs.declared.btf.strings.section_texts.SectionText.{SectionText}
+use Rattle.bpf_canon.specs.declared.btf.strings.ranked_texts.SectionText.{SectionText}
 use Rattle.bpf_canon.proofs.BtfLemmas.Strings.TextLemmas.{text_is}
 
 before_from : (n : ℕ) (xs : List ℕ) → n ≤ length xs → ((k : ℕ) → k < n → get_or xs k 0 ≢ 0) → Ends (before_nul (drop n xs)) (before_nul xs)

@@ -7,7 +7,7 @@ use Rattle.btf_types.specs.{Names.kept, strings.SharedNames.is_suffix, strings.S
 use Rattle.btf_types.proofs.Members.{Has-from_Contains, Contains-from_Has}
 use Rattle.btf_types.proofs.StringLemmas.{Texts.Has-from_kept, Longest.Has-kept_some, CommonTails.suffix_by_tail}
 use Rattle.btf_types.specs.strings.CommonTails.{common_front, common_tail, at_rank, IsNextHost, IsFirstRank, AreInTailOrder}
-use Rattle.bpf_canon.specs.{btf.strings.Ranks.common_before, btf.strings.Ranks.AreCommon, declared.btf.strings.section_texts.SectionText.SectionText}
+use Rattle.bpf_canon.specs.{btf.strings.Ranks.common_before, btf.strings.Ranks.AreCommon, declared.btf.strings.ranked_texts.SectionText.SectionText}
 
 front_same : (a b : ℕ) (x y : List ℕ) → a ≡ b → common_front (a ∷ x) (b ∷ y) ≡ 1 + common_front x y
 front_same a b x y e = cond-true (eqb a b) (1 + common_front x y) 0 (eq-eqb a b e)

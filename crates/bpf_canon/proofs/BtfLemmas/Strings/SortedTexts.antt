@@ -7,7 +7,7 @@ use Rattle.std.proofs.lemmas.{Bool.cases_eq, Bool.cases_lt, List.get_or-map, Lis
 use Rattle.std.proofs.lemmas.Cmp.{nat_cmp_total, tied_itself, on_total, then_total, ranked}
 use Rattle.btf_types.specs.strings.SharedNames.{tail_cmp}
 use Rattle.btf_types.proofs.StringLemmas.Hosts.{tail_total}
-use Rattle.bpf_canon.specs.{btf.strings.SuffixKeys.suffix_key, declared.btf.strings.section_texts.SectionText.SectionText}
+use Rattle.bpf_canon.specs.{btf.strings.SuffixKeys.suffix_key, declared.btf.strings.ranked_texts.SectionText.SectionText}
 use Rattle.bpf_canon.specs.btf.strings.SectionTexts.{start_in, text_in, text_before, HasKey, compared}
 use Rattle.bpf_canon.proofs.BtfLemmas.Strings.SuffixKeys.{Bytes, bytes_from, less, greater, key_none, key_apart, key_alike, key_ends}
 

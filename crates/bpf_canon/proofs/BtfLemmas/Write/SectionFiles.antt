@@ -46,5 +46,5 @@ module _ (o : Order) (types strings places : List ℕ) (table : IsTable o types 
       let long : length written_types ≡ length (canonical_types to its) = ap (λ ks. length (section_of to (map (record_words (shared_among ks)) its))) same in
       written to its (kept xs) written_types front more whole t s same refl (tl ∙ types_same to ∙ sym long) sl e1 e2 e3
 
--- what the search cites of the names of a section
-pub ruleset section_names = (kept_uses, table_low)
+-- what the search cites of the names and the types of a section
+pub ruleset section_steps = (kept_uses, table_low, types_low)

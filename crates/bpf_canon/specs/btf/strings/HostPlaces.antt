@@ -5,8 +5,8 @@ use Rattle.btf_types.specs.{Names.with_nul, Names.place_in, Reading.text_from, s
 use Rattle.btf_types.specs.strings.SharedNames.{is_suffix, hosts, host, shared_table, shared_place}
 use Rattle.bpf_canon.specs.btf.strings.UsedOffsets.{Used, number_of, used_count}
 use Rattle.bpf_canon.specs.btf.strings.InHost.{host_at, no_host, sorted_in}
-use Rattle.bpf_canon.specs.declared.btf.strings.{hosts.InHost.InHost, ranked_texts.RankedTexts.RankedTexts}
-use Rattle.bpf_canon.specs.declared.btf.strings.hosts.{Span.Span, HostPlaces.HostPlaces}
+use Rattle.bpf_canon.specs.declared.btf.strings.{shared_places.InHost.InHost, ranked_texts.RankedTexts.RankedTexts}
+use Rattle.bpf_canon.specs.declared.btf.strings.shared_places.{Span.Span, HostPlaces.HostPlaces}
 
 -- the bytes of the section from the start of a span to the NUL at its end
 abbrev pub span_bytes : List ℕ → Span → List ℕ

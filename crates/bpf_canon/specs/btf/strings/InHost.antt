@@ -4,8 +4,8 @@ use Rattle.btf_types.specs.Reading.{text_from}
 use Rattle.btf_types.specs.strings.{SharedNames.is_suffix, SharedNames.hosts_of, SharedNames.host_in, CommonTails.at_rank, CommonTails.AreInTailOrder}
 use Rattle.bpf_canon.specs.btf.strings.UsedOffsets.{Used, offset_number}
 use Rattle.bpf_canon.specs.btf.strings.{SectionTexts.texts_in, Ranks.AreRanked, Longest.IsInText, Longest.AreLongestOf}
-use Rattle.bpf_canon.specs.declared.btf.strings.section_texts.SectionText.{SectionText}
-use Rattle.bpf_canon.specs.declared.btf.strings.{hosts.InHost.InHost, ranked_texts.RankedTexts.RankedTexts}
+use Rattle.bpf_canon.specs.declared.btf.strings.ranked_texts.SectionText.{SectionText}
+use Rattle.bpf_canon.specs.declared.btf.strings.{shared_places.InHost.InHost, ranked_texts.RankedTexts.RankedTexts}
 
 -- The string of this rank is the host of x in every list with this sorted order, and it isn't a suffix of the next one.
 pub record IsInHost (sorted : List (List ℕ)) (x : List ℕ) (h : InHost) : Type 0 where

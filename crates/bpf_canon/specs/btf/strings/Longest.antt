@@ -1,7 +1,7 @@
 -- The longest used strings of a section.
 use Rattle.std.specs.Prelude.{◌≡◌, ◌≢◌, ℕ, ◌<◌, ◌≤◌, List, length, slice_index}
 use Rattle.std.specs.List.{All, Any}
-use Rattle.bpf_canon.specs.{btf.strings.SectionTexts.HasKey, declared.btf.strings.section_texts.SectionText.SectionText}
+use Rattle.bpf_canon.specs.{btf.strings.SectionTexts.HasKey, declared.btf.strings.ranked_texts.SectionText.SectionText}
 
 -- a non-empty string from a used offset (one whose slot isn't 0) to the next NUL
 pub record IsUsed (section slots : List ℕ) (t : SectionText) : Type 0 where

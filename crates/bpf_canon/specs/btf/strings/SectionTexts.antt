@@ -2,7 +2,7 @@
 use Rattle.std.specs.Prelude.{◌≡◌, ℕ, ◌-◌, min, List, length, map, take, drop}
 use Rattle.std.specs.{Ordering.nat_cmp, Ordering.on, Ordering.then_cmp, declared.cmp.Ordering.Ordering}
 use Rattle.btf_types.specs.strings.{SharedNames.tail_cmp, CommonTails.common_tail}
-use Rattle.bpf_canon.specs.{btf.strings.SuffixKeys.suffix_key, declared.btf.strings.section_texts.SectionText.SectionText}
+use Rattle.bpf_canon.specs.{btf.strings.SuffixKeys.suffix_key, declared.btf.strings.ranked_texts.SectionText.SectionText}
 
 -- the bytes from the start to the end of a string, as far as the section reaches
 abbrev pub end_in : List ℕ → SectionText → ℕ

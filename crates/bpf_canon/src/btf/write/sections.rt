@@ -1,53 +1,202 @@
-//! Canonical bytes from the sections that a type table keeps (btf.rst section 2). Offsets of names
-//! are replaced by offsets in the new string table.
-ghost use Rattle.std.specs.{Prelude.◌≡◌, Prelude.IfOk, Prelude.map, List.All, List.Contains};
-ghost use Rattle.btf_types.specs.Names.{kept, names};
-ghost use Rattle.bpf_canon.specs.btf.{CanonicalBtf.canonical, write.NameOffsets.all_offsets};
-ghost use Rattle.bpf_canon.specs.btf.write.SectionRecords.{AreTable, frames_of, records_of};
-ghost use Rattle.bpf_canon.specs.btf.strings.NamesByPlace.{placed_texts};
+//! Canonical bytes from the sections that a type table keeps (btf.rst section 2): the names are
+//! noted by their offsets only, and the records are copied with new offsets of their names.
+ghost use Rattle.std.specs.Prelude.{◌≡◌, ◌⊎◌, ◌+◌, ◌^◌, ◌<◌, ◌≤◌, ◌++◌, [], ◌∷◌, ℕ, List, length};
+ghost use Rattle.std.specs.Prelude.{IfOk, OnOk, take, drop, map, slice_index};
+ghost use Rattle.std.specs.List.{All, Contains};
+ghost use Rattle.btf_raw.specs.Frames.{IsFrame, bytes_of, section_of};
+ghost use Rattle.btf_types.specs.{Reading.record_of, tables.PlaceWords.ReadsRecord};
+ghost use Rattle.bpf_canon.specs.btf.CanonicalBtf.{record_words, canonical};
+ghost use Rattle.bpf_canon.specs.btf.strings.FirstUses.{noted_all};
+ghost use Rattle.bpf_canon.specs.btf.write.NameOffsets.{IsBelow, HasNotedNames, name_offsets};
+ghost use Rattle.bpf_canon.specs.btf.write.NameOffsets.{all_offsets, placed};
+ghost use Rattle.bpf_canon.specs.btf.write.SectionRecords as spec;
 
 use crate::btf::strings::shared_places::SharedPlaces;
-use crate::btf::write::header::push_header;
-use crate::btf::write::name_uses::noted_names;
-use crate::btf::write::records::push_records;
-use bpf_words::Order;
-use btf_types::FileSections;
+use crate::btf::strings::used_offsets::FirstUses;
+use crate::btf::write::words::{push_header, push_words};
+use bpf_words::{Order, push32};
+use btf_raw::info::{flag_of, has_item_names, is_struct, item_words, tail_words};
+use btf_types::{FileSections, Record};
 use std::alloc::{AllocError, Allocator};
 
-/// The canonical bytes of sections whose names have these new offsets.
-#[tactic(auto, using(crate::proofs::BtfLemmas::Write::SectionFiles::types_low))]
-fn write_placed<A: Allocator + Copy>(
-    alloc: A,
-    to: Order,
-    placed: &SharedPlaces<'_, A>,
-    sections: &FileSections<'_>,
-) -> Result<Vec<u8, A>, AllocError>
-    requires table { AreTable sections.now }
-    requires strings { placed.now.strings ≡ sections.now.strings.now }
-    requires noted { All (Contains placed.now.offsets) (all_offsets (frames_of sections.now)) }
-    requires kept { kept (placed_texts placed.now) ≡ kept (names (records_of sections.now)) }
-    ensures { IfOk result (λ bytes. bytes.items ≡ canonical to (records_of sections.now)) }
+/// Notes the names of a record: its own, then those of its items.
+#[tactic(auto, using(crate::proofs::BtfLemmas::Write::RecordNames::own_offset))]
+fn note_record<A: Allocator + Copy>(
+    uses: &mut FirstUses<A>,
+    this: &Record,
+) -> Result<(), AllocError>
+    requires frame { IsFrame this.now }
+    requires inside { All (IsBelow uses.old.section_len) (name_offsets this.now) }
+    ensures section { uses.new.section_len ≡ uses.old.section_len }
+    ensures offsets { OnOk result (uses.new.offsets
+        ≡ noted_all uses.old.offsets (name_offsets this.now)) }
 {
-    let types_len = sections.types.len();
-    let table_len = placed.table_len();
-    let mut bytes = Vec::with_capacity(alloc, 24 + types_len + table_len as usize)?;
-    push_header(&mut bytes, to, types_len as u32, table_len)?;
-    push_records(&mut bytes, to, placed, sections)?;
-    placed.push_table(&mut bytes)?;
-    Ok(bytes)
+    uses.note(this.word(0))?;
+    let kind = this.kind();
+    if has_item_names(kind) {
+        let size = item_words(kind);
+        for k in 0..usize::from(this.vlen()) {
+            uses.note(this.word(3 + size * k))?;
+        }
+    }
+    Ok(())
+}
+
+/// The offsets of the names of all records, in the order of first use.
+#[tactic(auto, using(crate::proofs::BtfLemmas::Names::NoteSteps::record_noted))]
+fn noted_names<A: Allocator + Copy>(
+    alloc: A,
+    sections: &FileSections<'_>,
+) -> Result<FirstUses<A>, AllocError>
+    requires { spec.AreTable sections.now }
+    ensures section { IfOk result (λ uses. uses.section_len ≡ length sections.now.strings.now) }
+    ensures offsets { IfOk result (λ uses. uses.offsets
+        ≡ noted_all [] (all_offsets (spec.frames_of sections.now))) }
+{
+    let mut uses = FirstUses::new(alloc, sections.strings.len())?;
+    for pos in sections.places {
+        let this = sections.record_at(*pos as usize);
+        note_record(&mut uses, &this)?;
+    }
+    Ok(uses)
+}
+
+/// The canonical info word of a record: the kind_flag of a STRUCT or UNION is 0 if no member has a
+/// width.
+fn canonical_info(this: &Record) -> u32
+    requires { IsFrame this.now }
+    ensures { (strings : List ℕ) → ReadsRecord strings this.now
+        → result ≡ spec.record_info (record_of strings this.now) }
+{
+    let info = this.word(1);
+    if flag_of(info) == 0 || !is_struct(this.kind()) || this.has_bit_fields() {
+        return info;
+    }
+    info & 0x7fff_ffff
+}
+
+/// Appends an item of `size` 32-bit words, which begins at index `at` of its record: the new offset
+/// of its name, then the rest.
+fn push_item<A: Allocator>(
+    out: &mut Vec<u8, A>,
+    to: Order,
+    this: &Record,
+    at: usize,
+    size: usize,
+    name: u32,
+) -> Result<(), AllocError>
+    requires there { at + size ≤ length this.now }
+    requires few { at < 2 ^ 20 }
+    requires size { (size ≡ 2) ⊎ (size ≡ 3) }
+    ensures { let word = slice_index this.now in OnOk result (out.new.items
+        ≡ out.old.items ++ bytes_of to (take size (name ∷ word (at + 1) ∷ word (at + 2) ∷ []))) }
+{
+    let second = this.word(at + 1);
+    if size == 2 {
+        return push_words(out, to, &[name, second]);
+    }
+    push_words(out, to, &[name, second, this.word(at + 2)])
+}
+
+/// Appends everything after the third word of a record whose items have no names.
+#[tactic(auto, using(crate::proofs::BtfLemmas::Write::RecordWords::rest_more))]
+fn push_rest<A: Allocator>(
+    out: &mut Vec<u8, A>,
+    to: Order,
+    this: &Record,
+    count: usize,
+) -> Result<(), AllocError>
+    requires all { 3 + count ≡ length this.now }
+    requires few { count < 2 ^ 20 }
+    ensures { OnOk result (out.new.items ≡ out.old.items ++ bytes_of to (drop 3 this.now)) }
+{
+    for k in 0..count {
+        push32(out, to, this.word(3 + k))?;
+    }
+    Ok(())
+}
+
+/// Appends everything after the third word of a record.
+fn push_tail<A: Allocator, B: Allocator + Copy>(
+    out: &mut Vec<u8, A>,
+    to: Order,
+    names: &SharedPlaces<'_, B>,
+    this: &Record,
+) -> Result<(), AllocError>
+    requires reads { ReadsRecord names.now.strings this.now }
+    requires noted { HasNotedNames names.now this.now }
+    ensures { OnOk result (out.new.items ≡ out.old.items ++ bytes_of to
+        (spec.record_tail (placed names.now) (record_of names.now.strings this.now))) }
+{
+    let kind = this.kind();
+    let vlen = this.vlen();
+    if !has_item_names(kind) {
+        return push_rest(out, to, this, tail_words(kind, vlen));
+    }
+    let size = item_words(kind);
+    for k in 0..usize::from(vlen) {
+        let at = 3 + size * k;
+        let name = names.place(this.word(at));
+        push_item(out, to, this, at, size, name)?;
+    }
+    Ok(())
+}
+
+/// Appends a record.
+fn push_record<A: Allocator, B: Allocator + Copy>(
+    out: &mut Vec<u8, A>,
+    to: Order,
+    names: &SharedPlaces<'_, B>,
+    this: &Record,
+) -> Result<(), AllocError>
+    requires reads { ReadsRecord names.now.strings this.now }
+    requires noted { HasNotedNames names.now this.now }
+    ensures { OnOk result (out.new.items ≡ out.old.items
+        ++ bytes_of to (record_words (placed names.now) (record_of names.now.strings this.now))) }
+{
+    let name = names.place(this.word(0));
+    push_words(out, to, &[name, canonical_info(this), this.word(2)])?;
+    push_tail(out, to, names, this)
+}
+
+/// Appends all records.
+#[tactic(auto, using(crate::proofs::BtfLemmas::Write::RecordWords::record_more))]
+fn push_records<A: Allocator, B: Allocator + Copy>(
+    out: &mut Vec<u8, A>,
+    to: Order,
+    names: &SharedPlaces<'_, B>,
+    sections: &FileSections<'_>,
+) -> Result<(), AllocError>
+    requires table { spec.AreTable sections.now }
+    requires strings { names.now.strings ≡ sections.now.strings.now }
+    requires noted { All (Contains names.now.offsets) (all_offsets (spec.frames_of sections.now)) }
+    ensures { OnOk result (out.new.items ≡ out.old.items
+        ++ section_of to (map (record_words (placed names.now)) (spec.records_of sections.now))) }
+{
+    for pos in sections.places {
+        let this = sections.record_at(*pos as usize);
+        push_record(out, to, names, &this)?;
+    }
+    Ok(())
 }
 
 /// The canonical bytes of the records that these sections encode.
-#[tactic(auto, using(crate::proofs::BtfLemmas::Write::SectionFiles::section_names))]
+#[tactic(auto, using(crate::proofs::BtfLemmas::Write::SectionFiles::section_steps))]
 pub(crate) fn write_sections<A: Allocator + Copy>(
     alloc: A,
     to: Order,
     sections: &FileSections<'_>,
 ) -> Result<Vec<u8, A>, AllocError>
-    requires { AreTable sections.now }
-    ensures { IfOk result (λ bytes. bytes.items ≡ canonical to (records_of sections.now)) }
+    requires { spec.AreTable sections.now }
+    ensures { IfOk result (λ bytes. bytes.items ≡ canonical to (spec.records_of sections.now)) }
 {
     let uses = noted_names(alloc, sections)?;
-    let placed = SharedPlaces::find(alloc, sections.strings, uses)?;
-    write_placed(alloc, to, &placed, sections)
+    let names = SharedPlaces::find(alloc, sections.strings, uses)?;
+    let types_len = sections.types.len();
+    let table_len = names.table_len();
+    let mut bytes = Vec::with_capacity(alloc, 24 + types_len + table_len as usize)?;
+    push_header(&mut bytes, to, types_len as u32, table_len)?;
+    push_records(&mut bytes, to, &names, sections)?;
+    names.push_table(&mut bytes)?;
+    Ok(bytes)
 }

@@ -10,13 +10,11 @@ ghost use Rattle.bpf_canon.specs.btf.CanonicalBtf.{canonical, words_of_item, rec
 ghost use Rattle.btf_types.specs.Names as spec;
 ghost use Rattle.btf_types.specs.Good as good;
 
-use crate::btf::names::kept::kept_names;
-use crate::btf::names::shared::SharedNames;
-use crate::btf::write::head_words::{
-    component_word, head_vlen, int_word, kind_and_third, kind_flag,
-};
-use crate::btf::write::header::{push_header, push_words};
+use crate::btf::names::{SharedNames, kept_names};
 use crate::btf::write::sections::write_sections;
+use crate::btf::write::words::{
+    component_word, head_vlen, int_word, kind_and_third, kind_flag, push_header, push_words,
+};
 use bpf_words::Order;
 use btf_types::{Head, Item, TypeTable};
 use std::alloc::{AllocError, Allocator};
@@ -135,26 +133,8 @@ fn push_table_record<T: TypeTable, A: Allocator, B: Allocator + Copy>(
     Ok(())
 }
 
-/// The bytes of all records.
-#[tactic(auto, using(crate::proofs::BtfLemmas::Write::WriteSteps::record_steps))]
-fn write_types<T: TypeTable, A: Allocator + Copy>(
-    alloc: A,
-    order: Order,
-    names: &SharedNames<'_, A>,
-    table: &T,
-) -> Result<Vec<u8, A>, AllocError>
-    requires kept { names.now ≡ kept (spec.names (T.meaning table.now)) }
-    ensures { IfOk result (λ types. types.items
-        ≡ section_of order (map (record_words (shared_among names.now)) (T.meaning table.now))) }
-{
-    let mut types = Vec::new(alloc);
-    for index in 0..table.count() {
-        push_table_record(&mut types, order, names, table, index + 1)?;
-    }
-    Ok(types)
-}
-
 /// The canonical bytes of a table that exposes no sections: its names are read as strings.
+#[tactic(auto, using(crate::proofs::BtfLemmas::Write::WriteSteps::record_steps))]
 fn write_table<T: TypeTable, A: Allocator + Copy>(
     alloc: A,
     order: Order,
@@ -165,7 +145,10 @@ fn write_table<T: TypeTable, A: Allocator + Copy>(
 {
     let kept = kept_names(alloc, table)?;
     let names = SharedNames::new(alloc, kept)?;
-    let types = write_types(alloc, order, &names, table)?;
+    let mut types = Vec::new(alloc);
+    for index in 0..table.count() {
+        push_table_record(&mut types, order, &names, table, index + 1)?;
+    }
     let mut bytes = Vec::new(alloc);
     push_header(&mut bytes, order, types.len() as u32, names.table_len())?;
     bytes.extend_from_slice(types.as_slice())?;

@@ -1,7 +1,7 @@
 use Rattle.std.proofs.Common.{List, length, arith, ap, subst, sym}
 use Rattle.std.proofs.lemmas.List.Sorted.{length_permutation, All-permutation}
 use Rattle.std.specs.List.{All}
-use Rattle.bpf_canon.specs.{btf.strings.SectionTexts.HasKey, declared.btf.strings.section_texts.SectionText.SectionText}
+use Rattle.bpf_canon.specs.{btf.strings.SectionTexts.HasKey, declared.btf.strings.ranked_texts.SectionText.SectionText}
 use Rattle.bpf_canon.proofs.btf.strings.ranked_texts.RankedTexts.new.Goals as goal
 
 pub common_suffixes-requires-clause-keys : goal.common_suffixes-requires-clause-keys

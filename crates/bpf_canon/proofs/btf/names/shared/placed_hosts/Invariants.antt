@@ -1,6 +1,0 @@
-use Rattle.bpf_canon.specs.btf.names.Interned.{lent_texts}
-use Rattle.bpf_canon.proofs.BtfLemmas.Names.HostTable.{PlacedTo}
-use Rattle.bpf_canon.proofs.btf.names.shared.placed_hosts.Given as goal
-
-abbrev pub invariant-loop-index : goal.invariant-loop-index
-invariant-loop-index g l = PlacedTo (lent_texts l.names) l.host_indices l.places.items l.len l.index

@@ -1,0 +1,11 @@
+use Rattle.std.proofs.Common.{◌≡◌}
+use Rattle.btf_types.specs.Reading.{tabulate}
+use Rattle.bpf_canon.specs.btf.{strings.FirstUses.noted_all, write.NameOffsets.item_word}
+use Rattle.bpf_canon.proofs.btf.write.sections.note_record.Given as goal
+
+-- the items so far
+abbrev pub invariant-loop-k : goal.invariant-loop-k
+invariant-loop-k g l = record {
+  section : l.uses.section_len ≡ l.initial.uses.section_len;
+  offsets : l.uses.offsets ≡ noted_all l.initial.uses.offsets (tabulate (item_word l.this) l.k);
+}

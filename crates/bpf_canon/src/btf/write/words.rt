@@ -1,0 +1,120 @@
+//! The encoding of the header of a file and of the head of a record (btf.rst section 2).
+ghost use Rattle.std.specs.Prelude.{◌≡◌, ◌+◌, ◌*◌, ◌<◌, ◌≤◌, ◌^◌, ◌++◌, OnOk, length};
+ghost use Rattle.btf_raw.specs.{Header.header, Frames.bytes_of};
+ghost use Rattle.btf_types.specs.Values.{head_value};
+ghost use Rattle.btf_types.specs.Spelling as spec;
+ghost use Rattle.bpf_canon.specs.btf.CanonicalBtf.{canonical_flag};
+ghost use Rattle.bpf_canon.specs.btf.write.BtfWords as heads;
+
+use bpf_words::{Order, push16};
+use btf_raw::{
+    ARRAY, CONST, DATASEC, DECL_TAG, ENUM, ENUM64, FLOAT, FUNC, FUNC_PROTO, FWD, INT, PTR,
+    RESTRICT, STRUCT, TYPE_TAG, TYPEDEF, UNION, VAR, VOLATILE,
+};
+use btf_types::{Encoding, Head};
+use byteorder::{BigEndian, ByteOrder, LittleEndian};
+use std::alloc::{AllocError, Allocator};
+
+/// The number of a record's kind, and its third word: a size, a type or 0 (btf.rst section 2.2).
+pub(crate) fn kind_and_third(head: Head<'_>) -> (u8, u32)
+    ensures kind { result.0 ≡ spec.kind_number (head_value head.entry) }
+    ensures third { result.1 ≡ spec.head_third (head_value head.entry) }
+{
+    match head {
+        Head::KInt { size, .. } => (INT, size),
+        Head::KPtr { target } => (PTR, target),
+        Head::KArray { .. } => (ARRAY, 0),
+        Head::KStruct { size, .. } => (STRUCT, size),
+        Head::KUnion { size, .. } => (UNION, size),
+        Head::KEnum { size, .. } => (ENUM, size),
+        Head::KFwd { .. } => (FWD, 0),
+        Head::KTypedef { target, .. } => (TYPEDEF, target),
+        Head::KVolatile { target } => (VOLATILE, target),
+        Head::KConst { target } => (CONST, target),
+        Head::KRestrict { target } => (RESTRICT, target),
+        Head::KFunc { target, .. } => (FUNC, target),
+        Head::KFuncProto { target } => (FUNC_PROTO, target),
+        Head::KVar { target, .. } => (VAR, target),
+        Head::KDatasec { size, .. } => (DATASEC, size),
+        Head::KFloat { size, .. } => (FLOAT, size),
+        Head::KDeclTag { target, .. } => (DECL_TAG, target),
+        Head::KTypeTag { target, .. } => (TYPE_TAG, target),
+        Head::KEnum64 { size, .. } => (ENUM64, size),
+    }
+}
+
+/// kind_flag: for a STRUCT or UNION, 1 if and only if it has bit-fields; for an ENUM, ENUM64, FWD
+/// or tag, the bit of its value.
+pub(crate) fn kind_flag(head: Head<'_>, bit_fields: bool) -> u32
+    ensures is { result ≡ canonical_flag (head_value head.entry) bit_fields }
+    ensures bit { result < 2 }
+{
+    u32::from(match head {
+        Head::KStruct { .. } | Head::KUnion { .. } => bit_fields,
+        Head::KEnum { signed, .. } | Head::KEnum64 { signed, .. } => signed,
+        Head::KFwd { is_union, .. } => is_union,
+        Head::KDeclTag { flag, .. } | Head::KTypeTag { flag, .. } => flag,
+        _ => false,
+    })
+}
+
+/// vlen: the linkage of a FUNC, or the number of items of any other kind.
+pub(crate) fn head_vlen(head: Head<'_>, count: u32) -> u32
+    requires { count < 2 ^ 16 }
+    ensures is { result ≡ heads.head_vlen (head_value head.entry) count }
+    ensures fits { result < 2 ^ 16 }
+{
+    match head {
+        Head::KFunc { linkage, .. } => linkage.number(),
+        _ => count,
+    }
+}
+
+/// The fourth word of an INT: its bits, its offset and its encoding (btf.rst section 2.2.1).
+pub(crate) fn int_word(encoding: Encoding, offset: u8, bits: u8) -> u32
+    ensures { result ≡ bits + 2 ^ 16 * offset + 2 ^ 24 * spec.encoding_number encoding }
+{
+    u32::from(bits) + (u32::from(offset) << 16) + (encoding.number() << 24)
+}
+
+/// The component_idx of a DECL_TAG: -1 for the type itself.
+pub(crate) fn component_word(component: Option<u16>) -> u32
+    ensures { result ≡ spec.component_word component }
+{
+    component.map_or(u32::MAX, |index| u32::from(index))
+}
+
+/// Appends up to six `u32` values with one reservation.
+#[inline(always)]
+pub(crate) fn push_words<A: Allocator>(
+    out: &mut Vec<u8, A>,
+    order: Order,
+    words: &[u32],
+) -> Result<(), AllocError>
+    requires { length words.now ≤ 6 }
+    ensures { OnOk result (out.new.items ≡ out.old.items ++ bytes_of order words.now) }
+{
+    let mut room = [0; 24];
+    let bytes = &mut room[..4 * words.len()];
+    match order {
+        Order::Little => LittleEndian::write_u32_into(words, bytes),
+        Order::Big => BigEndian::write_u32_into(words, bytes),
+    }
+    out.extend_from_slice(bytes)
+}
+
+/// Appends the 24-byte header (btf.rst section 2): magic, version 1, flags 0, hdr_len, type_off 0,
+/// type_len, str_off = type_len and str_len.
+pub(crate) fn push_header<A: Allocator>(
+    out: &mut Vec<u8, A>,
+    order: Order,
+    types_len: u32,
+    strings_len: u32,
+) -> Result<(), AllocError>
+    ensures { OnOk result (out.new.items
+        ≡ out.old.items ++ header order 24 0 types_len types_len strings_len) }
+{
+    push16(out, order, 0xeb9f)?;
+    out.extend_from_slice(&[1, 0])?;
+    push_words(out, order, &[24, 0, types_len, types_len, strings_len])
+}
