@@ -1,22 +1,9 @@
 //! Order of strings by their reversed bytes.
-ghost use Rattle.std.specs.Prelude.{◌≡◌, ◌<◌, ℕ, slice_index_or, reverse};
+ghost use Rattle.std.specs.Prelude.{◌≡◌, ◌<◌, ℕ, slice_index_or};
 ghost use Rattle.btf_types.specs.strings.SharedNames.{tail_cmp};
 ghost use Rattle.bpf_canon.specs.btf.strings.SuffixKeys as spec;
 
 use std::cmp::Ordering;
-
-/// The byte `back` positions before the last one, or 0 if the string is shorter.
-fn byte_before(text: &[u8], back: usize) -> u8
-    requires { back < 8 }
-    ensures byte { result ≡ slice_index_or (reverse text.now) back 0 }
-    ensures bytes { (i : ℕ) → slice_index_or text.now i 0 < 256 }
-{
-    if back < text.len() {
-        text[text.len() - 1 - back]
-    } else {
-        0
-    }
-}
 
 /// The last eight bytes as a number, the last byte the most significant. Missing bytes count as 0.
 #[tactic(auto, using(crate::proofs::BtfLemmas::Strings::SuffixKeys::key_steps))]
@@ -24,22 +11,12 @@ pub(crate) fn suffix_key(text: &[u8]) -> u64
     ensures key { result ≡ spec.suffix_key text.now }
     ensures bytes { (i : ℕ) → slice_index_or text.now i 0 < 256 }
 {
-    if text.is_empty() {
-        return 0;
-    }
-    if let Some((_, last)) = text.split_last_chunk::<8>() {
+    if let Some(last) = text.last_chunk::<8>() {
         return u64::from_le_bytes(*last);
     }
-    u64::from_le_bytes([
-        byte_before(text, 7),
-        byte_before(text, 6),
-        byte_before(text, 5),
-        byte_before(text, 4),
-        byte_before(text, 3),
-        byte_before(text, 2),
-        byte_before(text, 1),
-        byte_before(text, 0),
-    ])
+    let mut last = [0; 8];
+    last[8 - text.len()..].copy_from_slice(text);
+    u64::from_le_bytes(last)
 }
 
 /// Compares two strings by their reversed bytes, eight at a time.

@@ -6,7 +6,8 @@ use Rattle.std.specs.{Int.w64, Int.from_le_bytes, Cmp.Lexicographic.slice_cmp, O
 use Rattle.std.specs.declared.cmp.Ordering.{Ordering, TheVariants.Less, TheVariants.Equal, TheVariants.Greater}
 use Rattle.std.proofs.lemmas.Bool.{cases_order, cond-true, cond-false, lt-ltb, ne_eqb, le-ltb}
 use Rattle.std.proofs.lemmas.{Cmp.nat_cmp_total, Cmp.nat_list_cmp_total, Cmp.tied_itself, Nat.row_fits, Nat.mul-add-lt}
-use Rattle.std.proofs.lemmas.List.{reverse-append, length-reverse, length-append, length-drop, length-replicate}
+use Rattle.std.proofs.lemmas.List.{reverse-append, length-reverse, length-append, length-drop, length-replicate, take-replicate, drop_all, append-nil}
+use borrow.Rule.Slice.PartMut.{put_mid}
 use Rattle.std.proofs.Math.Nat.{one-le-pow, pow-suc}
 use Rattle.btf_types.specs.strings.SharedNames.{tail_cmp}
 use Rattle.bpf_canon.specs.btf.strings.SuffixKeys.{front_key, suffix_key}
@@ -126,6 +127,17 @@ pub key_of_short : (x : List ℕ) (n : ℕ) → length x + n ≡ 8 → from_le_b
 unfolding suffix_key
 key_of_short x n e = grind (arith, eight_key, length-append, length-replicate, reverse-append, zeros_turned)
 
+-- the key of a short string, copied to the end of eight zeros
+pub key_of_padded : (x : List ℕ) (m k : ℕ) → length x + m ≡ 8 → m + k ≡ 8 → from_le_bytes w64 (put_mid m k (replicate 8 0) x) ≡ suffix_key x
+key_of_padded x m k e n =
+    let zeros : List ℕ = replicate 8 0 in
+    let eight : length zeros ≡ 8 = refl in
+    let none : drop k (drop m zeros) ≡ [] = drop_all k (drop m zeros) (omega (arith, n, eight, length-drop m zeros)) in
+    let padded : put_mid m k zeros x ≡ replicate m 0 ++ x =
+    ap (λ (l : List ℕ). l ++ (x ++ drop k (drop m zeros))) (take-replicate m 8 0 (omega (arith, e)))
+    ∙ ap (λ (l : List ℕ). replicate m 0 ++ (x ++ l)) none ∙ ap (λ (l : List ℕ). replicate m 0 ++ l) (append-nil x) in
+    ap (from_le_bytes w64) padded ∙ key_of_short x m e
+
 -- from keys to strings
 pub key_apart : (x y : List ℕ) → ((i : ℕ) → get_or x i 0 < 256) → ((i : ℕ) → get_or y i 0 < 256) → suffix_key x ≢ suffix_key y → nat_cmp (suffix_key x) (suffix_key y) ≡ tail_cmp x y
 unfolding suffix_key
@@ -163,17 +175,5 @@ pub key_none : (x : List ℕ) (n : ℕ) → n ≡ 0 → suffix_key (take n x) �
 unfolding suffix_key
 key_none x n e = ap (λ (k : ℕ). front_key 8 (reverse (take k x))) e
 
-pub key_of_none : (x : List ℕ) → length x ≡ 0 → suffix_key x ≡ 0
-unfolding suffix_key
-key_of_none x e = grind (arith, common_steps)
-
--- the key of the bytes from the end, one by one
-pub key_by_bytes : (y : List ℕ) → get_or y 7 0 + get_or y 6 0 * 256 + get_or y 5 0 * 65536 + get_or y 4 0 * 16777216 + get_or y 3 0 * 4294967296 + get_or y 2 0 * 1099511627776 + get_or y 1 0 * 281474976710656 + get_or y 0 0 * 72057594037927936 ≡ front_key 8 y
-key_by_bytes y = grind arith
-
-pub key_from_bytes : (x : List ℕ) (k : ℕ) → k ≡ get_or (reverse x) 7 0 + get_or (reverse x) 6 0 * 256 + get_or (reverse x) 5 0 * 65536 + get_or (reverse x) 4 0 * 16777216 + get_or (reverse x) 3 0 * 4294967296 + get_or (reverse x) 2 0 * 1099511627776 + get_or (reverse x) 1 0 * 281474976710656 + get_or (reverse x) 0 0 * 72057594037927936 → k ≡ suffix_key x
-unfolding suffix_key
-key_from_bytes x k e = e ∙ key_by_bytes (reverse x)
-
 -- what the search cites of the key of a string
-pub ruleset key_steps = (key_of_none, key_of_long, key_from_bytes)
+pub ruleset key_steps = (key_of_long, key_of_padded)
