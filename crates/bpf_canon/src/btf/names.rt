@@ -94,14 +94,11 @@ fn found_hosts<'a, A: Allocator + Copy>(
 {
     let sorted = sorted_from_end(alloc, names)?;
     let mut host_indices = vec![in alloc; 0; names.len()]?;
+    let mut host = 0;
     for rank in (0..sorted.len()).rev() {
         let (name, index) = sorted[rank];
-        let mut host = index;
-        if rank + 1 < sorted.len() {
-            let (next, next_index) = sorted[rank + 1];
-            if next.as_bytes().ends_with(name.as_bytes()) {
-                host = host_indices[next_index];
-            }
+        if rank + 1 == sorted.len() || !sorted[rank + 1].0.as_bytes().ends_with(name.as_bytes()) {
+            host = index;
         }
         host_indices[index] = host;
     }

@@ -1,6 +1,6 @@
 -- The search for the host of each name by its index, over the sorted names from the last one back.
 use Rattle.std.proofs.Common.{◌≡◌, ℕ, ◌+◌, ◌<◌, ◌≤◌, ◌&&◌, Bool, true, false, List, [], length, map, get_or, set, sym, ap, ◌∙◌, subst, arith, Bor}
-use Rattle.std.proofs.lemmas.List.{get_or-set_same, get_or-set_other, length-set, length-map, get_or-map, get_or_default, get_or_read}
+use Rattle.std.proofs.lemmas.List.{get_or-set_same, get_or-set_other, length-set, length-map, get_or-map, get_or_default}
 use Rattle.btf_types.specs.Names.{is_other}
 use Rattle.btf_types.specs.strings.SharedNames.{is_suffix, is_proper_suffix, hosts_of, host_in}
 use Rattle.btf_types.proofs.StringLemmas.Suffixes.{Ends-from_suffix, proper_from_Ends}
@@ -68,19 +68,24 @@ module _ (ks : List (List ℕ)) (sorted : List Named) (apart : NoRepeats ks) (ar
       host_put host_indices k ((get_or sorted k e).1) e f low (index_inside k e low)
       (name_is k e low ∙ sym (text_at k e low) ∙ sym own ∙ ap (host_in (hosts_of ks)) (text_at k e low ∙ sym (name_is k e low)))
 
-  -- the same in the form that the code needs: what was read of the sorted names and of the hosts
-  pub host_next_read : (host_indices : List ℕ) (k h : ℕ) (p q : Named) → HostsFrom ks sorted host_indices (k + 1) → k + 1 < length sorted → p ≡ get_or sorted k p → q ≡ get_or sorted (k + 1) q → is_suffix p.0.now q.0.now ≡ true → h ≡ get_or host_indices q.1 h
+  -- the same in the form that the code needs: what was read of the sorted names, and the host of the next one
+  pub host_next_read : (host_indices : List ℕ) (k h : ℕ) (p q : Named) → HostsFrom ks sorted host_indices (k + 1) → k + 1 < length sorted → p ≡ get_or sorted k p → q ≡ get_or sorted (k + 1) q → is_suffix p.0.now q.0.now ≡ true → h ≡ get_or host_indices ((get_or sorted (k + 1) p).1) 0
       → HostsFrom ks sorted (set host_indices p.1 h) k
   host_next_read host_indices k h p q f low p_is q_is t h_is =
       let next : get_or sorted (k + 1) p ≡ q = get_or_default sorted (k + 1) p q low ∙ sym q_is in
-      let inside : q.1 < length host_indices = omega (arith, index_inside (k + 1) q low, f.whole, ap (λ (s : Named). s.1) q_is) in
-      let value : get_or host_indices ((get_or sorted (k + 1) p).1) 0 ≡ h = ap (λ (s : Named). get_or host_indices s.1 0) next ∙ sym (get_or_read host_indices q.1 h inside h_is 0) in
       let ends : is_suffix ((get_or sorted k p).0.now) ((get_or sorted (k + 1) p).0.now) ≡ true = ap (λ (s : Named). is_suffix s.0.now ((get_or sorted (k + 1) p).0.now)) (sym p_is) ∙ ap (λ (s : Named). is_suffix p.0.now s.0.now) next ∙ t in
-      subst (λ (s : Named). HostsFrom ks sorted (set host_indices s.1 h) k) (sym p_is) (subst (λ (n : ℕ). HostsFrom ks sorted (set host_indices ((get_or sorted k p).1) n) k) value (host_next host_indices k p f low ends))
+      subst (λ (s : Named). HostsFrom ks sorted (set host_indices s.1 h) k) (sym p_is) (subst (λ (n : ℕ). HostsFrom ks sorted (set host_indices ((get_or sorted k p).1) n) k) (sym h_is) (host_next host_indices k p f low ends))
 
   pub host_own_read : (host_indices : List ℕ) (k h : ℕ) (p : Named) → HostsFrom ks sorted host_indices (k + 1) → k < length sorted → p ≡ get_or sorted k p → ((q : Named) → k + 1 < length sorted → q ≡ get_or sorted (k + 1) q → is_suffix p.0.now q.0.now ≡ false) → h ≡ p.1
       → HostsFrom ks sorted (set host_indices p.1 h) k
   host_own_read host_indices k h p f low p_is differs h_is = grind (arith, get_or_default, host_own)
+
+  -- the host that was put is that of this name
+  pub host_there : (host_indices : List ℕ) (k h : ℕ) (p e : Named) → HostsFrom ks sorted host_indices (k + 1) → k < length sorted → p ≡ get_or sorted k p → h ≡ get_or (set host_indices p.1 h) ((get_or sorted k e).1) 0
+  host_there host_indices k h p e f low p_is =
+      let this : get_or sorted k e ≡ p = get_or_default sorted k e p low ∙ sym p_is in
+      let inside : p.1 < length host_indices = omega (arith, index_inside k p low, f.whole, ap (λ (s : Named). s.1) p_is) in
+      sym (ap (λ (s : Named). get_or (set host_indices p.1 h) s.1 0) this ∙ get_or-set_same host_indices p.1 h 0 inside)
 
   pub hosts_all : (host_indices : List ℕ) → HostsFrom ks sorted host_indices 0 → HaveHosts ks host_indices
   hosts_all host_indices f = record {

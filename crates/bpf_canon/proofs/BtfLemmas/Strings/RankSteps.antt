@@ -1,8 +1,8 @@
 -- Steps of the loops over ranks.
-use Rattle.std.proofs.Common.{◌≡◌, ◌≢◌, ℕ, zero, suc, ◌+◌, ◌-◌, ◌<◌, ◌≤◌, min, List, [], ◌∷◌, length, map, get_or, refl, sym, ap, ◌∙◌, subst, arith, eqb, true, set, ◌++◌}
+use Rattle.std.proofs.Common.{◌≡◌, ◌≢◌, ℕ, zero, suc, ◌+◌, ◌-◌, ◌<◌, ◌≤◌, min, List, [], ◌∷◌, length, map, get_or, refl, sym, ap, ◌∙◌, subst, arith, eqb, true, set}
 use Rattle.std.specs.{Prelude.reverse, List.All, List.Sorted.IsSorted}
 use Rattle.std.proofs.lemmas.Bool.{cond-true, cond-false, eq-eqb, ne_eqb, false_from_ne_true}
-use Rattle.std.proofs.lemmas.List.{get_or-reverse, length-reverse, get_or-map, get_or_push, get_or_append_left, get_or-set_same, get_or-set_other}
+use Rattle.std.proofs.lemmas.List.{get_or-reverse, length-reverse, get_or-map, get_or-set_same, get_or-set_other}
 use Rattle.btf_types.specs.{Names.kept, strings.SharedNames.is_suffix, strings.SharedNames.tail_cmp}
 use Rattle.btf_types.proofs.Members.{Has-from_Contains, Contains-from_Has}
 use Rattle.btf_types.proofs.StringLemmas.{Texts.Has-from_kept, Longest.Has-kept_some, CommonTails.suffix_by_tail}
@@ -45,17 +45,14 @@ module _ (a b : List ℕ) where
 common_next : (ms : List (List ℕ)) (k : ℕ) → common_before ms (k + 1) ≡ common_tail (at_rank ms k) (at_rank ms (k + 1))
 common_next ms k = subst (λ (m : ℕ). common_before ms m ≡ common_tail (at_rank ms k) (at_rank ms m)) (let e : suc k ≡ k + 1 = omega arith in e) refl
 
-pub common_first : (ms : List (List ℕ)) (k n : ℕ) → k ≡ 0 → n ≡ 0 → n ≡ common_before ms k
-common_first ms k n e z = z ∙ ap (common_before ms) (sym e)
-
-pub common_here : (f : SectionText → List ℕ) (ts : List SectionText) (k n : ℕ) (e : SectionText) → k < length ts → k ≢ 0 → n ≡ common_tail (f (get_or ts (k - 1) e)) (f (get_or ts k e)) → n ≡ common_before (map f ts) k
-common_here f ts zero n e h some same = absurd (some refl)
+pub common_here : (f : SectionText → List ℕ) (ts : List SectionText) (k n : ℕ) (e : SectionText) → k < length ts → 0 < k → n ≡ common_tail (f (get_or ts (k - 1) e)) (f (get_or ts k e)) → n ≡ common_before (map f ts) k
+common_here f ts zero n e h some same = absurd (omega (arith, some))
 common_here f ts (suc k) n e h some same =
     let back : suc k - 1 ≡ k = omega arith in
     grind (arith, get_or-map)
 
-pub common_more : (ms : List (List ℕ)) (items : List ℕ) (k n : ℕ) → length items ≡ k → ((j : ℕ) → j < k → get_or items j 0 ≡ common_before ms j) → n ≡ common_before ms k → (j : ℕ) → j < k + 1 → get_or (items ++ n ∷ []) j 0 ≡ common_before ms j
-common_more ms items k n long f here j h = grind (arith, get_or_push, get_or_append_left)
+pub common_more : (ms : List (List ℕ)) (items : List ℕ) (k n : ℕ) → k < length items → ((j : ℕ) → j < k → get_or items j 0 ≡ common_before ms j) → n ≡ common_before ms k → (j : ℕ) → j < k + 1 → get_or (set items k n) j 0 ≡ common_before ms j
+common_more ms items k n inside f here j h = grind (arith, get_or-set_same, get_or-set_other)
 
 -- the loop over hosts
 ends_from : (ms : List (List ℕ)) (k : ℕ) → common_before ms (k + 1) ≡ length (at_rank ms k) → is_suffix (at_rank ms k) (at_rank ms (k + 1)) ≡ true

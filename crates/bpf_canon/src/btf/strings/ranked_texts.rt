@@ -213,14 +213,9 @@ fn common_suffixes<A: Allocator>(
     requires keys { All (HasKey section.now) sorted.now }
     ensures { IfOk result (λ common. AreCommon (texts_in section.now sorted.now) common.items) }
 {
-    let mut common = Vec::with_capacity(alloc, sorted.len())?;
-    for k in 0..sorted.len() {
-        let here = if k == 0 {
-            0
-        } else {
-            common_of(section, &sorted[k - 1], &sorted[k])
-        };
-        common.push(here as u32)?;
+    let mut common = vec![in alloc; 0; sorted.len()]?;
+    for k in 1..sorted.len() {
+        common[k] = common_of(section, &sorted[k - 1], &sorted[k]) as u32;
     }
     Ok(common)
 }
@@ -237,13 +232,11 @@ fn next_hosts<A: Allocator>(
     ensures { IfOk result (λ ranks. AreNextHosts (texts_in section.now sorted.now) ranks.items) }
 {
     let mut host_ranks = vec![in alloc; 0; sorted.len()]?;
+    let mut host = 0;
     for k in (0..sorted.len()).rev() {
-        let mut host = k as u32;
-        if k + 1 < sorted.len() {
-            let len = text_of(section, &sorted[k]).len();
-            if common[k + 1] as usize == len {
-                host = host_ranks[k + 1];
-            }
+        let len = text_of(section, &sorted[k]).len();
+        if k + 1 == sorted.len() || common[k + 1] as usize != len {
+            host = k as u32;
         }
         host_ranks[k] = host;
     }
