@@ -1,8 +1,7 @@
 //! Canonical bytes from the sections that a type table keeps (btf.rst section 2): the names are
 //! noted by their offsets only, and the records are copied with new offsets of their names.
-ghost use Rattle.std.specs.Prelude.{◌≡◌, ◌⊎◌, ◌+◌, ◌^◌, ◌<◌, ◌≤◌, ◌++◌, [], ◌∷◌, ℕ, List, length};
-ghost use Rattle.std.specs.Prelude.{IfOk, OnOk, take, drop, map, slice_index};
-ghost use Rattle.std.specs.List.{All, Contains};
+ghost use Rattle.std.specs.Prelude.{◌≡◌, ◌+◌, ◌^◌, ◌<◌, ◌++◌, [], ℕ, List, IfOk, OnOk, length};
+ghost use Rattle.std.specs.{Prelude.drop, Prelude.map, List.All, List.Contains};
 ghost use Rattle.btf_raw.specs.Frames.{IsFrame, bytes_of, section_of};
 ghost use Rattle.btf_types.specs.{Reading.record_of, tables.PlaceWords.ReadsRecord};
 ghost use Rattle.bpf_canon.specs.btf.CanonicalBtf.{record_words, canonical};
@@ -75,29 +74,6 @@ fn canonical_info(this: &Record) -> u32
     info & 0x7fff_ffff
 }
 
-/// Appends an item of `size` 32-bit words, which begins at index `at` of its record: the new offset
-/// of its name, then the rest.
-fn push_item<A: Allocator>(
-    out: &mut Vec<u8, A>,
-    to: Order,
-    this: &Record,
-    at: usize,
-    size: usize,
-    name: u32,
-) -> Result<(), AllocError>
-    requires there { at + size ≤ length this.now }
-    requires few { at < 2 ^ 20 }
-    requires size { (size ≡ 2) ⊎ (size ≡ 3) }
-    ensures { let word = slice_index this.now in OnOk result (out.new.items
-        ≡ out.old.items ++ bytes_of to (take size (name ∷ word (at + 1) ∷ word (at + 2) ∷ []))) }
-{
-    let second = this.word(at + 1);
-    if size == 2 {
-        return push_words(out, to, &[name, second]);
-    }
-    push_words(out, to, &[name, second, this.word(at + 2)])
-}
-
 /// Appends everything after the third word of a record whose items have no names.
 #[tactic(auto, using(crate::proofs::BtfLemmas::Write::RecordWords::rest_more))]
 fn push_rest<A: Allocator>(
@@ -137,7 +113,12 @@ fn push_tail<A: Allocator, B: Allocator + Copy>(
     for k in 0..usize::from(vlen) {
         let at = 3 + size * k;
         let name = names.place(this.word(at));
-        push_item(out, to, this, at, size, name)?;
+        let second = this.word(at + 1);
+        if size == 2 {
+            push_words(out, to, &[name, second])?;
+        } else {
+            push_words(out, to, &[name, second, this.word(at + 2)])?;
+        }
     }
     Ok(())
 }

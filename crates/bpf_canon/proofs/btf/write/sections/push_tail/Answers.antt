@@ -1,13 +1,13 @@
-use Rattle.std.proofs.Common.{◌≡◌, ℕ, ◌*◌, ◌+◌, List, false, [], ◌∷◌, ◌++◌, sym, ap, ◌∙◌, arith, take}
+use Rattle.std.proofs.Common.{◌≡◌, ℕ, ◌*◌, ◌+◌, ◌^◌, ◌<◌, ◌≤◌, inl, inr, length, List, false, [], ◌∷◌, ◌++◌, sym, ap, ◌∙◌, arith, take}
 use Rattle.std.specs.{Prelude.slice_index, List.Contains}
 use Rattle.std.proofs.lemmas.Result.{on_ok_weaker}
 use Rattle.btf_raw.specs.{Kinds.has_item_names, Kinds.item_words, Frames.bytes_of, Frames.kind}
-use Rattle.btf_types.specs.Reading.{item_total, text_from}
+use Rattle.btf_types.specs.Reading.{item_total}
 use Rattle.bpf_canon.specs.btf.write.NameOffsets.{placed}
 use Rattle.bpf_canon.proofs.BtfLemmas.Write.RecordNames.{HasNamedItems, item_is, named_total}
 use Rattle.bpf_canon.proofs.BtfLemmas.Write.RecordWords.{item_begins, item_room, item_size, items_to, named_item_more, rest_words, items_are_tail}
 use Rattle.bpf_canon.proofs.btf.write.sections.push_tail.Given.{Over}
-use Rattle.bpf_canon.proofs.btf.write.sections.push_tail.Goals.{After-item_words-size}
+use Rattle.bpf_canon.proofs.btf.write.sections.push_tail.Goals.{After-item_words-size, then-size-eq2+in_ok-push_words, else-size-eq2+in_ok-push_words-2}
 use Rattle.bpf_canon.proofs.btf.write.sections.push_tail.Goals as goal
 
 named : (g : Over) (c : After-item_words-size g) → HasNamedItems c.args.this.now c.item_words-size.result c.vlen-vlen.result
@@ -16,6 +16,13 @@ named g c = record {
   words = sym (c.item_words-size.ensures.words ∙ ap item_words c.kind-kind.ensures);
   all = c.vlen-vlen.ensures;
 }
+
+-- an item has two or three words, all inside the record
+room : (g : Over) (c : After-item_words-size g) (k : ℕ) → k < c.vlen-vlen.result → (2 ≤ c.item_words-size.result) × ((3 + c.item_words-size.result * k + c.item_words-size.result ≤ length c.args.this.now) × (3 + c.item_words-size.result * k < 2 ^ 20))
+room g c k low =
+    let items = named g c in
+    let within = item_room c.args.this.now c.item_words-size.result c.vlen-vlen.result k c.requires.reads.frame items low in
+    (within.0, (within.1, item_begins c.item_words-size.result k (item_size c.args.this.now c.item_words-size.result c.vlen-vlen.result c.requires.reads.frame items) (omega arith)))
 
 pub returns-then-not-has_item_names : goal.returns-then-not-has_item_names
 returns-then-not-has_item_names g c =
@@ -29,60 +36,64 @@ returns-then-not-has_item_names g c =
     c.push_rest.ensures
 
 pub overflow_mul-at : goal.overflow_mul-at
-overflow_mul-at g c =
-    let items = named g (goal.at.overflow_mul-at g c).After-item_words-size in
-    let size = item_size c.args.this.now c.item_words-size.result c.vlen-vlen.result c.requires.reads.frame items in
-    let small = item_begins c.item_words-size.result c.loop-k.k size (omega arith) in
-    omega (arith, small)
+overflow_mul-at g c = omega (arith, (room g (goal.at.overflow_mul-at g c).After-item_words-size c.loop-k.k (omega arith)).1.1)
 
 pub overflow_add-at : goal.overflow_add-at
-overflow_add-at g c =
-    let items = named g (goal.at.overflow_add-at g c).After-item_words-size in
-    let size = item_size c.args.this.now c.item_words-size.result c.vlen-vlen.result c.requires.reads.frame items in
-    let small = item_begins c.item_words-size.result c.loop-k.k size (omega arith) in
-    omega (arith, small)
+overflow_add-at g c = omega (arith, (room g (goal.at.overflow_add-at g c).After-item_words-size c.loop-k.k (omega arith)).1.1)
 
 pub word-requires : goal.word-requires
 word-requires g c =
-    let items = named g (goal.at.word-requires g c).After-item_words-size in
-    let room = item_room c.args.this.now c.item_words-size.result c.vlen-vlen.result c.loop-k.k c.requires.reads.frame items (omega arith) in
-    omega (arith, room.0, room.1)
+    let r = room g (goal.at.word-requires g c).After-item_words-size c.loop-k.k (omega arith) in
+    omega (arith, r.0, r.1.0)
 
 pub place-name-requires : goal.place-name-requires
 place-name-requires g c =
     let items = named g (goal.at.place-name-requires g c).After-item_words-size in
     item_is (Contains c.args.names.now.offsets) c.args.this.now c.item_words-size.result c.vlen-vlen.result c.loop-k.k c.word.result c.requires.noted items (omega arith) c.word.ensures
 
-pub push_item-requires-clause-there : goal.push_item-requires-clause-there
-push_item-requires-clause-there g c =
-    let items = named g (goal.at.push_item-requires-clause-there g c).After-item_words-size in
-    (item_room c.args.this.now c.item_words-size.result c.vlen-vlen.result c.loop-k.k c.requires.reads.frame items (omega arith)).1
+pub overflow_add-at-in-loop-k : goal.overflow_add-at-in-loop-k
+overflow_add-at-in-loop-k g c = omega (arith, (room g (goal.at.overflow_add-at-in-loop-k g c).After-item_words-size c.loop-k.k (omega arith)).1.1)
 
-pub push_item-requires-clause-few : goal.push_item-requires-clause-few
-push_item-requires-clause-few g c =
-    let items = named g (goal.at.push_item-requires-clause-few g c).After-item_words-size in
-    let size = item_size c.args.this.now c.item_words-size.result c.vlen-vlen.result c.requires.reads.frame items in
-    item_begins c.item_words-size.result c.loop-k.k size (omega arith)
+pub word-second-requires : goal.word-second-requires
+word-second-requires g c =
+    let r = room g (goal.at.word-second-requires g c).After-item_words-size c.loop-k.k (omega arith) in
+    omega (arith, r.0, r.1.0)
 
-pub push_item-requires-clause-size : goal.push_item-requires-clause-size
-push_item-requires-clause-size g c =
-    let items = named g (goal.at.push_item-requires-clause-size g c).After-item_words-size in
-    item_size c.args.this.now c.item_words-size.result c.vlen-vlen.result c.requires.reads.frame items
+pub overflow_add-at-else-size-eq2 : goal.overflow_add-at-else-size-eq2
+overflow_add-at-else-size-eq2 g c = omega (arith, (room g (goal.at.overflow_add-at-else-size-eq2 g c).After-item_words-size c.loop-k.k (omega arith)).1.1)
+
+pub word-requires-else-size-eq2 : goal.word-requires-else-size-eq2
+word-requires-else-size-eq2 g c =
+    let r = room g (goal.at.word-requires-else-size-eq2 g c).After-item_words-size c.loop-k.k (omega arith) in
+    omega (arith, r.0, r.1.0, c.if-size-eq2.false)
 
 pub loop-k-preserved : goal.loop-k-preserved
 loop-k-preserved g c =
     let items = named g (goal.at.loop-k-preserved g c).After-item_words-size in
     let strings = c.args.names.now.strings in
     let f = c.args.this.now in
-    let from = 3 + c.item_words-size.result * c.loop-k.k in
+    let size = c.item_words-size.result in
+    let from = 3 + size * c.loop-k.k in
     let place = placed c.args.names.now in
-    let at : c.place-name.result ≡ place (text_from strings c.word.result) = c.place-name.ensures in
-    let second : from + 1 ≡ 4 + c.item_words-size.result * c.loop-k.k = omega arith in
-    let third : from + 2 ≡ 5 + c.item_words-size.result * c.loop-k.k = omega arith in
-    c.in_ok-push_item.ensures
-    ∙ ap (λ t. t ++ bytes_of c.args.to (take c.item_words-size.result (c.place-name.result ∷ slice_index f (from + 1) ∷ slice_index f (from + 2) ∷ []))) c.loop-k.invariant
-    ∙ named_item_more c.args.to c.args.out.now.items place strings f c.item_words-size.result c.vlen-vlen.result c.loop-k.k c.word.result c.place-name.result (slice_index f (from + 1)) (slice_index f (from + 2))
-    c.requires.reads.frame items c.word.ensures at (ap (slice_index f) second) (ap (slice_index f) third)
+    let name = c.place-name.result in
+    let b : ℕ = slice_index f (from + 1) in
+    let d : ℕ = slice_index f (from + 2) in
+    let second : from + 1 ≡ 4 + size * c.loop-k.k = omega arith in
+    let third : from + 2 ≡ 5 + size * c.loop-k.k = omega arith in
+    let pushed : c.if-size-eq2.out.items ≡ c.loop-k.out.items ++ bytes_of c.args.to (take size (name ∷ b ∷ d ∷ [])) = elim c.if-size-eq2.branch [
+      | then-size-eq2+in_ok-push_words w ↦
+          ap (λ v. v.items) w.out-is ∙ w.in_ok-push_words.ensures
+          ∙ ap (λ (t : List ℕ). c.loop-k.out.items ++ bytes_of c.args.to t) (ap (λ (n : ℕ). name ∷ n ∷ []) c.word-second.ensures ∙ sym (ap (λ (n : ℕ). take n (name ∷ b ∷ d ∷ [])) w.if-size-eq2.true))
+      | else-size-eq2+in_ok-push_words-2 w ↦
+          let three : size ≡ 3 = elim (item_size f size c.vlen-vlen.result c.requires.reads.frame items) [ inl e ↦ absurd (w.if-size-eq2.false e) | inr e ↦ e ] in
+          ap (λ v. v.items) w.out-is ∙ w.in_ok-push_words-2.ensures
+          ∙ ap (λ (t : List ℕ). c.loop-k.out.items ++ bytes_of c.args.to t) (ap (λ (n : ℕ). name ∷ n ∷ w.word-else-size-eq2.result ∷ []) c.word-second.ensures
+          ∙ ap (λ (n : ℕ). name ∷ b ∷ n ∷ []) w.word-else-size-eq2.ensures ∙ sym (ap (λ (n : ℕ). take n (name ∷ b ∷ d ∷ [])) three))
+    ] in
+    pushed
+    ∙ ap (λ t. t ++ bytes_of c.args.to (take size (name ∷ b ∷ d ∷ []))) c.loop-k.invariant
+    ∙ named_item_more c.args.to c.args.out.now.items place strings f size c.vlen-vlen.result c.loop-k.k c.word.result name b d
+    c.requires.reads.frame items c.word.ensures c.place-name.ensures (ap (slice_index f) second) (ap (slice_index f) third)
 
 pub returns : goal.returns
 returns g c =
