@@ -12,9 +12,7 @@ ghost use Rattle.btf_types.specs.Good as good;
 
 use crate::btf::names::{SharedNames, kept_names};
 use crate::btf::write::sections::write_sections;
-use crate::btf::write::words::{
-    component_word, head_vlen, int_word, kind_and_third, kind_flag, push_header, push_words,
-};
+use crate::btf::write::words::{head_vlen, kind_and_third, kind_flag, push_header, push_words};
 use bpf_words::Order;
 use btf_types::{Head, Item, TypeTable};
 use std::alloc::{AllocError, Allocator};
@@ -30,11 +28,15 @@ fn push_further_words<A: Allocator>(
         ≡ out.old.items ++ bytes_of order (head_tail (head_value head.entry))) }
 {
     match head {
-        Head::KInt { encoding, offset, bits, .. } =>
-            push_words(out, order, &[int_word(encoding, offset, bits)]),
+        Head::KInt { encoding, offset, bits, .. } => {
+            let word = u32::from(bits) + (u32::from(offset) << 16) + (encoding.number() << 24);
+            push_words(out, order, &[word])
+        }
         Head::KArray { target, index, count } => push_words(out, order, &[target, index, count]),
         Head::KVar { linkage, .. } => push_words(out, order, &[linkage.number()]),
-        Head::KDeclTag { component, .. } => push_words(out, order, &[component_word(component)]),
+        // -1 stands for the type itself.
+        Head::KDeclTag { component, .. } =>
+            push_words(out, order, &[component.map_or(u32::MAX, |index| u32::from(index))]),
         _ => Ok(()),
     }
 }

@@ -1,5 +1,5 @@
 //! The encoding of the header of a file and of the head of a record (btf.rst section 2).
-ghost use Rattle.std.specs.Prelude.{◌≡◌, ◌+◌, ◌*◌, ◌<◌, ◌≤◌, ◌^◌, ◌++◌, OnOk, length};
+ghost use Rattle.std.specs.Prelude.{◌≡◌, ◌<◌, ◌^◌, ◌≤◌, ◌++◌, OnOk, length};
 ghost use Rattle.btf_raw.specs.{Header.header, Frames.bytes_of};
 ghost use Rattle.btf_types.specs.Values.{head_value};
 ghost use Rattle.btf_types.specs.Spelling as spec;
@@ -11,7 +11,7 @@ use btf_raw::{
     ARRAY, CONST, DATASEC, DECL_TAG, ENUM, ENUM64, FLOAT, FUNC, FUNC_PROTO, FWD, INT, PTR,
     RESTRICT, STRUCT, TYPE_TAG, TYPEDEF, UNION, VAR, VOLATILE,
 };
-use btf_types::{Encoding, Head};
+use btf_types::Head;
 use byteorder::{BigEndian, ByteOrder, LittleEndian};
 use std::alloc::{AllocError, Allocator};
 
@@ -68,20 +68,6 @@ pub(crate) fn head_vlen(head: Head<'_>, count: u32) -> u32
         Head::KFunc { linkage, .. } => linkage.number(),
         _ => count,
     }
-}
-
-/// The fourth word of an INT: its bits, its offset and its encoding (btf.rst section 2.2.1).
-pub(crate) fn int_word(encoding: Encoding, offset: u8, bits: u8) -> u32
-    ensures { result ≡ bits + 2 ^ 16 * offset + 2 ^ 24 * spec.encoding_number encoding }
-{
-    u32::from(bits) + (u32::from(offset) << 16) + (encoding.number() << 24)
-}
-
-/// The component_idx of a DECL_TAG: -1 for the type itself.
-pub(crate) fn component_word(component: Option<u16>) -> u32
-    ensures { result ≡ spec.component_word component }
-{
-    component.map_or(u32::MAX, |index| u32::from(index))
 }
 
 /// Appends up to six `u32` values with one reservation.
