@@ -97,6 +97,7 @@ impl<A: Allocator> Model for UsedOffsets<A> {
         u.before.items };
 }
 
+#[tactic(auto, using(crate::proofs::BtfLemmas::Strings::MarkSteps::marks))]
 impl<A: Allocator> UsedOffsets<A> {
     /// Numbers the noted offsets of a section.
     #[tactic(auto, using(crate::proofs::BtfLemmas::Strings::MarkSteps::counts))]
@@ -136,7 +137,6 @@ impl<A: Allocator> UsedOffsets<A> {
     }
 
     /// Whether an offset is used.
-    #[tactic(auto, using(crate::proofs::BtfLemmas::Strings::MarkSteps::marks))]
     pub(crate) fn is_used(&self, off: usize) -> bool
         requires { off < length self.now.slots }
         ensures yes { result ≡ true → slice_index self.now.slots off ≢ 0 }
@@ -159,7 +159,6 @@ impl<A: Allocator> UsedOffsets<A> {
     }
 
     /// The number of used offsets before this one.
-    #[tactic(auto, using(crate::proofs::BtfLemmas::Strings::MarkSteps::marks))]
     fn used_before(&self, off: usize) -> usize
         requires { off ≤ length self.now.slots }
         ensures { result ≡ spec.number_of self.now off }
@@ -179,7 +178,6 @@ impl<A: Allocator> UsedOffsets<A> {
     }
 
     /// The number of used offsets.
-    #[tactic(auto, using(crate::proofs::BtfLemmas::Strings::MarkSteps::marks))]
     pub(crate) fn count(&self) -> usize
         ensures { result ≡ spec.used_count self.now }
     {
