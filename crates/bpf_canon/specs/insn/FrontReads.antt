@@ -2,7 +2,7 @@
 use Rattle.std.specs.Prelude.{◌≡◌, ◌≤◌, ◌+◌, ◌++◌, ℕ, List, [], Option, Some, None, length, drop}
 use Rattle.bpf_words.specs.declared.Order.{Order}
 use Rattle.bpf_insn.specs.declared.{insn.Insn.Insn, whole_insns.InsnFront.InsnFront, fault.SlotFault.SlotFault, fault.SlotCause.TheVariants.Truncated}
-use Rattle.bpf_insn.specs.{Table.IsInsn, Fronts.StopsAt, Spelling.file_of, Spelling.spelling, Faults.BeginsWith, Faults.IsFront, Faults.IsSlotFault}
+use Rattle.bpf_insn.specs.{Fronts.StopsAt, Spelling.file_of, Faults.BeginsWith, Faults.IsFront, Faults.IsSlotFault}
 use Rattle.bpf_canon.specs.insn.FeedState.{FeedState, IsCut}
 
 -- the bytes don't begin with an instruction
@@ -17,13 +17,6 @@ pub record ReadsFront (o to : Order) (bytes : List ℕ) (read : InsnFront) (old 
   pub counted : read.count ≡ length insns
   pub within : read.len ≤ length bytes
   pub grows : new ≡ old ++ file_of to insns
-
--- the held bytes and the first bytes of a piece encode the instruction
-pub record BeginsAcross (o : Order) (i : Insn) (held piece : List ℕ) (used : ℕ) : Type 0 where
-  pub insn : IsInsn i
-  pub within : used ≤ length piece
-  pub whole : held ++ piece ≡ spelling o i ++ drop used piece
-  pub size : length (spelling o i) ≡ length held + used
 
 -- what is held, and which fault is kept, by the rest of a stream after `fed` bytes
 abbrev pub Leaves : Order → ℕ → List ℕ → List ℕ → Option SlotFault → Type 0

@@ -5,9 +5,10 @@ ghost use Rattle.bpf_words.specs.declared.Order.{Order};
 ghost use Rattle.bpf_canon.specs.insn.FeedState.{FeedState, IsBetween};
 ghost use Rattle.bpf_canon.specs.insn.FeedStream.{AnswersFor, Feeds, Finishes, Represents};
 ghost use Rattle.bpf_canon.specs.insn.{FeedStream.end_of_feed, FrontReads.Advances};
+ghost use Rattle.bpf_canon.specs.insn.FrontReads.{ReadsFront};
 
-use crate::insn::front::read_front_across;
-use bpf_insn::{InsnError, Order, SlotCause, SlotFault};
+use crate::insn::front::read_front;
+use bpf_insn::{InsnError, InsnFront, Order, SlotCause, SlotFault};
 use std::alloc::{AllocError, Allocator};
 use std::marker::Model;
 
@@ -153,7 +154,7 @@ impl InsnFeed {
         }
     }
 
-    /// Reads the complete instructions of the held bytes and the piece. Their capacity is reserved.
+    /// Reads the held bytes and the piece, and holds what is left. The capacity is reserved.
     fn advance<A: Allocator>(&mut self, piece: &[u8], out: &mut Vec<u8, A>)
         requires fits { self.old.fed + length piece.now ≤ u64.MAX }
         requires sound { self.old.fault ≡ None }
@@ -161,8 +162,7 @@ impl InsnFeed {
             ≤ vec_capacity out.old }
         ensures { Advances self.old self.new piece.now out.old.items out.new.items }
     {
-        let held = &self.held[..self.held_len];
-        let read = read_front_across(self.order, self.to, held, piece, out);
+        let read = self.read_across(piece, out);
         let start = self.fed - self.held_len as u64;
         // An instruction consumes all held bytes, or none.
         let kept = self.held_len.saturating_sub(read.len);
@@ -180,6 +180,32 @@ impl InsnFeed {
                 }
             },
         }
+    }
+
+    /// Reads the complete instructions of the held bytes and the piece. Their capacity is reserved.
+    fn read_across<A: Allocator>(&self, piece: &[u8], out: &mut Vec<u8, A>) -> InsnFront
+        requires { vec_len out.old + length self.now.held + length piece.now
+            ≤ vec_capacity out.old }
+        ensures read { ReadsFront self.now.order self.now.to (self.now.held ++ piece.now) result
+            out.old.items out.new.items }
+        ensures held { 0 < result.count → length self.now.held ≤ result.len }
+    {
+        if self.held_len == 0 {
+            return read_front(self.order, self.to, piece, out);
+        }
+        // The instruction that begins in what is held ends within 16 bytes.
+        let mut joined = self.held;
+        let used = piece.len().min(16 - self.held_len);
+        let len = hold(&mut joined, self.held_len, &piece[..used]);
+        let first = read_front(self.order, self.to, &joined[..len], out);
+        if first.count == 0 {
+            return first;
+        }
+        let rest = &piece[first.len - self.held_len..];
+        let mut read = read_front(self.order, self.to, rest, out);
+        read.len += first.len;
+        read.count += first.count;
+        read
     }
 }
 

@@ -5,15 +5,14 @@
 //! immediate. In the second slot of a wide load the opcode, registers and offset are zero.
 //! Therefore every 8-byte slot is recoded in the same way.
 ghost use Rattle.std.specs.Prelude.{◌≡◌, ◌≢◌, ◌<◌, ◌≤◌, ◌+◌, ◌*◌, ◌/◌, ◌%◌, ◌++◌, List, Some, None};
-ghost use Rattle.std.specs.Prelude.{length, take, vec_len, vec_capacity, IfOk, IfErr};
+ghost use Rattle.std.specs.Prelude.{length, take, vec_len, vec_capacity};
 ghost use Rattle.bpf_words.specs.declared.Order.{Order};
 ghost use Rattle.bpf_words.specs.Slots.{AreFields, Fields, spelled};
 ghost use Rattle.bpf_insn.specs.{declared.fault.SlotFault.SlotFault, declared.insn.Insn.Insn};
-ghost use Rattle.bpf_insn.specs.{Spelling.InsnFile, Spelling.file_of, Spelling.spelling};
-ghost use Rattle.bpf_insn.specs.Faults.{IsInsnFault, IsSlotFault};
-ghost use Rattle.bpf_canon.specs.insn.FrontReads.{BeginsAcross, BeginsNone, ReadsFront};
+ghost use Rattle.bpf_insn.specs.{Spelling.InsnFile, Spelling.file_of, Faults.IsInsnFault};
+ghost use Rattle.bpf_canon.specs.insn.FrontReads.{ReadsFront};
 
-use bpf_insn::{Insn, InsnFront, Order, SlotFault, insn_bytes, insn_front, read_insn};
+use bpf_insn::{InsnFront, Order, SlotFault, insn_front};
 use std::alloc::Allocator;
 
 /// The first fault of an instruction file, with its offset in bytes from the start of the file, or
@@ -38,84 +37,13 @@ pub(crate) fn read_front<A: Allocator>(
     out: &mut Vec<u8, A>,
 ) -> InsnFront
     requires { vec_len out.old + length bytes.now ≤ vec_capacity out.old }
-    ensures { ReadsFront order to bytes.now result out.old.items out.new.items }
+    ensures read { ReadsFront order to bytes.now result out.old.items out.new.items }
+    ensures len { vec_len out.new ≡ vec_len out.old + result.len }
+    ensures capacity { vec_capacity out.old ≤ vec_capacity out.new }
 {
     let read = insn_front(order, bytes);
     append_recoded(order, to, &bytes[..read.len], out);
     read
-}
-
-/// Like `read_front`, for held bytes followed by a piece.
-#[tactic(auto, using(crate::proofs::InsnLemmas::ReadingLemmas::across_steps))]
-pub(crate) fn read_front_across<A: Allocator>(
-    order: Order,
-    to: Order,
-    held: &[u8],
-    piece: &[u8],
-    out: &mut Vec<u8, A>,
-) -> InsnFront
-    requires short { length held.now < 16 }
-    requires unspelled { BeginsNone order held.now }
-    requires room { vec_len out.old + length held.now + length piece.now ≤ vec_capacity out.old }
-    ensures read { ReadsFront order to (held.now ++ piece.now) result out.old.items out.new.items }
-    ensures held { 0 < result.count → length held.now ≤ result.len }
-{
-    if held.is_empty() {
-        return read_front(order, to, piece, out);
-    }
-    match complete(order, held, piece) {
-        Ok(found) => {
-            let (insn, used) = found;
-            append_insn(out, to, insn);
-            let mut read = read_front(order, to, &piece[used..], out);
-            read.len += held.len() + used;
-            read.count += 1;
-            read
-        }
-        Err(fault) => InsnFront {
-            len: 0,
-            count: 0,
-            stop: Some(fault),
-        },
-    }
-}
-
-/// The instruction that begins with the held bytes and ends in the piece, and how many bytes of the
-/// piece belong to it.
-fn complete(order: Order, held: &[u8], piece: &[u8]) -> Result<(Insn, usize), SlotFault>
-    requires short { length held.now < 16 }
-    requires unspelled { BeginsNone order held.now }
-    ensures found { IfOk result (λ r. BeginsAcross order r.0 held.now piece.now r.1) }
-    ensures fault { IfErr result (IsSlotFault order (held.now ++ piece.now)) }
-{
-    let used = piece.len().min(16 - held.len());
-    let joined = join(held, &piece[..used]);
-    let (insn, size) = read_insn(order, &joined[..held.len() + used])?;
-    Ok((insn, size - held.len()))
-}
-
-/// The concatenation of two slices, padded with zeros.
-#[tactic(auto, using(crate::proofs::InsnLemmas::ReadingLemmas::joined))]
-fn join(first: &[u8], second: &[u8]) -> [u8; 16]
-    requires { length first.now + length second.now ≤ 16 }
-    ensures { take (length first.now + length second.now) result ≡ first.now ++ second.now }
-{
-    let mut joined = [0; 16];
-    joined[..first.len()].copy_from_slice(first);
-    joined[first.len()..first.len() + second.len()].copy_from_slice(second);
-    joined
-}
-
-/// Appends the bytes of an instruction. Their capacity is reserved.
-fn append_insn<A: Allocator>(out: &mut Vec<u8, A>, order: Order, insn: Insn)
-    requires { vec_len out.old + length (spelling order insn) ≤ vec_capacity out.old }
-    ensures items { out.new.items ≡ out.old.items ++ spelling order insn }
-    ensures len { vec_len out.new ≡ vec_len out.old + length (spelling order insn) }
-    ensures capacity { vec_capacity out.old ≤ vec_capacity out.new }
-{
-    // The pair isn't destructured, since that would copy the bytes once more.
-    let spelled = insn_bytes(order, insn);
-    let _ = out.extend_from_slice(&spelled.0[..spelled.1]);
 }
 
 /// The low byte of each halfword except the lowest one.
@@ -126,8 +54,10 @@ const LOW_BYTES: u64 = 0x00ff_00ff_00ff_0000;
 /// place.
 fn append_recoded<A: Allocator>(order: Order, to: Order, bytes: &[u8], out: &mut Vec<u8, A>)
     requires { vec_len out.old + length bytes.now ≤ vec_capacity out.old }
-    ensures { (insns : List Insn) → InsnFile order bytes.now insns
+    ensures items { (insns : List Insn) → InsnFile order bytes.now insns
         → out.new.items ≡ out.old.items ++ file_of to insns }
+    ensures len { vec_len out.new ≡ vec_len out.old + length bytes.now }
+    ensures capacity { vec_capacity out.old ≤ vec_capacity out.new }
 {
     let start = out.len();
     let _ = out.extend_from_slice(bytes);
