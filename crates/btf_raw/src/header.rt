@@ -7,9 +7,7 @@
 //!
 //! The two offsets count from the end of the header, which is at hdr_len.
 
-ghost use Rattle.std.specs.Prelude.{◌≡◌, ◌+◌, ◌-◌, ◌<◌, ◌≤◌, length, take, drop, slice_index};
-ghost use Rattle.std.specs.Prelude.{slice_range, IfOk, IfErr, MatchResult, MatchOption, ◌≢◌, ℕ};
-ghost use Rattle.bpf_words.specs.{Words.word16_at, declared.Order.Order as OrderValue};
+ghost use Rattle.std.specs.Prelude.{◌≡◌, ◌<◌, length, IfErr, MatchResult};
 ghost use Rattle.btf_raw.specs.Header.{HeaderFault, StringFault, HasNulEnds};
 ghost use Rattle.btf_raw.specs.ReadHeader as spec;
 ghost use Rattle.btf_raw.specs.Cause.{LeastByCause, HasNone};
@@ -75,32 +73,21 @@ pub fn check_strings(strings: &[u8]) -> Result<(), BtfFault>
     Ok(())
 }
 
-/// The byte order in which the first two bytes are the magic number.
-fn order_of(bytes: &[u8]) -> Option<Order>
-    requires { 2 ≤ length bytes.now }
-    ensures { MatchOption result
-        ((o : OrderValue) → word16_at o bytes.now 0 ≢ 0xeb9f)
-        (λ o. word16_at o bytes.now 0 ≡ 0xeb9f) }
-{
-    if get16(Order::Little, bytes, 0) == MAGIC {
-        return Some(Order::Little);
-    }
-    if get16(Order::Big, bytes, 0) == MAGIC {
-        return Some(Order::Big);
-    }
-    None
-}
-
-/// Checks the file's length, the magic number, the version and the flags.
-fn start_of(bytes: &[u8]) -> Result<Order, BtfFault>
+/// Checks the file's length, the magic number, the version and the flags, then the header's length
+/// and its bytes after the first 24. Returns the byte order and the header's length.
+fn start_of(bytes: &[u8]) -> Result<(Order, usize), BtfFault>
     ensures { MatchResult result
-        (λ o. spec.StartIsRight bytes.now o)
+        (λ start. spec.LengthIsRight bytes.now start.0 start.1)
         (λ fault. LeastByCause (HeaderFault bytes.now) fault.pos fault.cause) }
 {
     if bytes.len() < 24 {
         return Err(fault(bytes.len(), BtfCause::ShortHeader));
     }
-    let Some(order) = order_of(bytes) else {
+    let order = if get16(Order::Little, bytes, 0) == MAGIC {
+        Order::Little
+    } else if get16(Order::Big, bytes, 0) == MAGIC {
+        Order::Big
+    } else {
         return Err(fault(0, BtfCause::Magic));
     };
     if bytes[2] != 1 {
@@ -109,41 +96,16 @@ fn start_of(bytes: &[u8]) -> Result<Order, BtfFault>
     if bytes[3] != 0 {
         return Err(fault(3, BtfCause::Flags));
     }
-    Ok(order)
-}
-
-/// The offset of the first byte from 24 up to `end` that isn't 0.
-fn tail_of(bytes: &[u8], end: usize) -> Option<usize>
-    requires low { 24 ≤ end }
-    requires high { end ≤ length bytes.now }
-    ensures { MatchOption result
-        ((q : ℕ) → 24 ≤ q → q < end → slice_index bytes.now q ≡ 0)
-        (λ p. (24 ≤ p) × (p < end) × (slice_index bytes.now p ≢ 0)
-        × ((q : ℕ) → 24 ≤ q → q < p → slice_index bytes.now q ≡ 0)) }
-{
-    for pos in 24..end {
-        if bytes[pos] != 0 {
-            return Some(pos);
-        }
-    }
-    None
-}
-
-/// Checks the header's length and its bytes after the first 24.
-fn length_of(order: Order, bytes: &[u8]) -> Result<usize, BtfFault>
-    requires { spec.StartIsRight bytes.now order }
-    ensures { MatchResult result
-        (λ n. spec.LengthIsRight bytes.now order n)
-        (λ fault. LeastByCause (HeaderFault bytes.now) fault.pos fault.cause) }
-{
     let len = get32(order, bytes, 4) as usize;
     if len < 24 || len > 4096 || len > bytes.len() {
         return Err(fault(4, BtfCause::HeaderLength));
     }
-    if let Some(pos) = tail_of(bytes, len) {
-        return Err(fault(pos, BtfCause::HeaderTail));
+    for pos in 24..len {
+        if bytes[pos] != 0 {
+            return Err(fault(pos, BtfCause::HeaderTail));
+        }
     }
-    Ok(len)
+    Ok((order, len))
 }
 
 /// Checks the lengths and the offsets of the two sections.
@@ -192,7 +154,6 @@ pub fn read_header(bytes: &[u8]) -> Result<Header, BtfFault>
         (λ h. spec.ReadsHeader bytes.now h × HasNone (HeaderFault bytes.now))
         (λ fault. LeastByCause (HeaderFault bytes.now) fault.pos fault.cause) }
 {
-    let order = start_of(bytes)?;
-    let header_len = length_of(order, bytes)?;
+    let (order, header_len) = start_of(bytes)?;
     sections_of(order, bytes, header_len)
 }
