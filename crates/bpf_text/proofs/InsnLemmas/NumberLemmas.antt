@@ -1,7 +1,7 @@
 -- The number that the digits of a token spell.
-use Rattle.std.proofs.Common.{◌≡◌, ℕ, zero, suc, ◌<◌, List, [], ◌∷◌, ◌++◌, ◌⊎◌, inl, inr, length, get_or, drop, refl, sym, ap, ◌∙◌, codes, arith, Bool, true, false, MatchBool, ℤ, pos, neg_ℤ, FitsSigned, subst, Result, Ok, Err, OkIff, MatchOption}
-use Rattle.std.specs.{Result.result_ok, Char.digit_value, Int.w16, Int.w32, Str.Parse.AllDigits, Str.Parse.IsNumeral, Str.Parse.digits_value}
-use Rattle.bpf_text.specs.insn.{Operands.SpellsMagnitude, Numbers.signed_by, Numbers.IsFar}
+use Rattle.std.proofs.Common.{◌≡◌, ℕ, zero, suc, ◌<◌, List, [], ◌∷◌, ◌++◌, ◌⊎◌, inl, inr, length, get_or, drop, refl, sym, ap, ◌∙◌, codes, ◌^◌, arith, ℤ, pos, neg_ℤ, ◌≤ℤ◌, Option, Some, None, IfNone}
+use Rattle.std.specs.{Char.digit_value, Str.Parse.AllDigits, Str.Parse.IsNumeral, Str.Parse.digits_value}
+use Rattle.bpf_text.specs.insn.{Operands.SpellsMagnitude, Operands.SpellsSigned, Numbers.IsNumber, Numbers.IsFar}
 use Rattle.std.proofs.lemmas.Int.{ints}
 
 pub digit_below : (radix : ℕ) (ds : List ℕ) (i : ℕ) → AllDigits radix ds → i < length ds → digit_value (get_or ds i 0) < radix
@@ -22,20 +22,19 @@ one_magnitude token m n (inr a) (inr b) =
     let same : a.0 ≡ b.0 = ap (drop 2) (sym a.1 ∙ b.1) in
     a.3 ∙ ap (digits_value 16) same ∙ sym b.3
 
-pub sign_spells : (b : Bool) (sign : List ℕ) (n : ℕ) → MatchBool b (sign ≡ codes "-") (sign ≡ codes "+")
-    → ((sign ≡ codes "+") × (signed_by b n ≡ pos n)) ⊎ ((sign ≡ codes "-") × (signed_by b n ≡ neg_ℤ (pos n)))
-sign_spells true sign n e = inr (e, refl)
-sign_spells false sign n e = inl (e, refl)
+-- a sign makes no number of a token that isn't a magnitude
+pub no_signed : (sign token : List ℕ) (r : Option ℤ) → IfNone r ((n : ℕ) → ¬ SpellsMagnitude token n) → IfNone r ((z : ℤ) → ¬ SpellsSigned sign token z)
+no_signed sign token (Some k) h = tt
+no_signed sign token None h = λ z s. h s.0 s.1
 
--- what a conversion to a narrower type returns, as an option
-pub narrowed : {E : Type 0} (P : ℤ → Type 0) (z u : ℤ) (r : Result ℤ E) → u ≡ z → OkIff r (P u) u → MatchOption (result_ok r) (¬ P z) (λ x. x ≡ z)
-narrowed P z u (Ok x) e h = h.1 ∙ e
-narrowed P z u (Err x) e h = λ f. h (subst P (sym e) f)
-
-pub far_not_32 : (z : ℤ) → IsFar z → ¬ FitsSigned w32 z
-far_not_32 z (inl h) = λ f. omega (arith, ints)
-far_not_32 z (inr h) = λ f. omega (arith, ints)
-
-pub far_not_16 : (z : ℤ) → IsFar z → ¬ FitsSigned w16 z
-far_not_16 z (inl h) = λ f. omega (arith, ints)
-far_not_16 z (inr h) = λ f. omega (arith, ints)
+-- a minus before the number k
+pub minus_spells : (sign token : List ℕ) (k v : ℤ) → sign ≡ codes "-" → (pos 0 ≤ℤ k) × (k ≤ℤ pos (2 ^ 64)) → v ≡ neg_ℤ k
+    → (n : ℕ) × SpellsMagnitude token n × IsNumber k (pos n) → (z : ℤ) × SpellsSigned sign token z × IsNumber v z
+minus_spells sign token k v e within minus m =
+    (neg_ℤ (pos m.0), (m.0, m.1, inr (e, refl)), (omega (arith, ints), negated m.2.1))
+  where
+    negated : (k ≡ pos m.0) ⊎ (IsFar k × IsFar (pos m.0)) → (v ≡ neg_ℤ (pos m.0)) ⊎ (IsFar v × IsFar (neg_ℤ (pos m.0)))
+    negated (inl same) = inl (minus ∙ ap neg_ℤ same)
+    negated (inr (inl a, inl b)) = inr (inr (omega (arith, ints)), inr (omega (arith, ints)))
+    negated (inr (inr a, b)) = absurd (omega (arith, ints))
+    negated (inr (a, inr b)) = absurd (omega (arith, ints))

@@ -1,8 +1,14 @@
 -- Which operands tokens spell, by the number of tokens.
-use Rattle.std.proofs.Common.{◌≡◌, ℕ, ◌<◌, ◌≤◌, List, [], ◌∷◌, ℤ, length, get_or, map, refl, arith}
-use Rattle.std.specs.Borrow.{Bor}
+use Rattle.std.proofs.Common.{◌≡◌, ℕ, ◌<◌, ◌≤◌, List, [], ◌∷◌, ℤ, length, get_or, map, refl, arith, to_z, of_z}
+use Rattle.std.specs.{Borrow.Bor, Int.w128}
+use Rattle.std.proofs.lemmas.Int.{to_z-of_z}
 use Rattle.bpf_insn.specs.declared.insn.Reg.{Reg}
 use Rattle.bpf_text.specs.insn.Operands.{LineOperand, register, number, signed, memory, SpellsMagnitude, SpellsSigned, SpellsRegister, SpellsOperand}
+use Rattle.bpf_text.specs.insn.Numbers.{IsNumber}
+
+-- a number as it is passed on
+pub passed : (n z : ℤ) → IsNumber n z → IsNumber (to_z w128 (of_z w128 n)) z
+passed n z h = rw (to_z-of_z w128 n h.0) h
 
 pub none_of_one : (token : List ℕ) → ((r : Reg) → ¬ SpellsRegister token r) → ((n : ℕ) → ¬ SpellsMagnitude token n) → (a : LineOperand) → ¬ SpellsOperand (token ∷ []) a
 none_of_one token registers magnitudes (register r) = λ h. registers r h

@@ -1,6 +1,6 @@
 -- The values that numbers and operands of the reader represent.
-use Rattle.std.specs.Prelude.{◌≡◌, ℕ, ◌^◌, ◌≤◌, ℤ, pos, neg_ℤ, ◌≤ℤ◌, Bool, true, false, ◌⊎◌, List, Option, Some, None}
-use Rattle.bpf_text.specs.declared.insn.number.Number.{Number}
+use Rattle.std.specs.Prelude.{◌≡◌, ℕ, ◌^◌, ◌≤◌, ℤ, pos, neg_ℤ, ◌≤ℤ◌, ◌⊎◌, List, Option, Some, None, FitsSigned}
+use Rattle.std.specs.Int.{w128}
 use Rattle.bpf_text.specs.declared.insn.read_operand.ReadOperand.{ReadOperand, TheVariants.Register, TheVariants.Literal, TheVariants.Memory}
 use Rattle.bpf_text.specs.insn.Operands.{LineOperand, register, number, signed, memory, SpellsOperand}
 
@@ -9,14 +9,13 @@ abbrev pub IsMagnitude : Option ℕ → ℕ → Type 0
 IsMagnitude (Some n) m = n ≡ m
 IsMagnitude None m = 2 ^ 64 ≤ m
 
--- a magnitude, with a minus if `true`
-abbrev pub signed_by : Bool → ℕ → ℤ
-signed_by false m = pos m
-signed_by true m = neg_ℤ (pos m)
+-- 2^64 or more, with either sign
+abbrev pub IsFar : ℤ → Type 0
+IsFar z = (pos (2 ^ 64) ≤ℤ z) ⊎ (z ≤ℤ neg_ℤ (pos (2 ^ 64)))
 
--- the value of a number that was read
-abbrev pub IsNumber : Number → ℤ → Type 0
-IsNumber n z = (m : ℕ) × IsMagnitude n.magnitude m × (z ≡ signed_by n.negative m)
+-- a number that was read: it is represented by itself, or if it is far, by any far number
+abbrev pub IsNumber : ℤ → ℤ → Type 0
+IsNumber n z = FitsSigned w128 n × ((n ≡ z) ⊎ (IsFar n × IsFar z))
 
 -- the operand that was read
 abbrev pub IsReadAs : ReadOperand → LineOperand → Type 0
@@ -30,7 +29,3 @@ IsReadAs _ _ = ⊥
 abbrev pub ReadsOperand : List (List ℕ) → Option ReadOperand → Type 0
 ReadsOperand tokens None = (a : LineOperand) → ¬ SpellsOperand tokens a
 ReadsOperand tokens (Some s) = (a : LineOperand) × SpellsOperand tokens a × IsReadAs s a
-
--- the magnitude is 2^64 or more
-abbrev pub IsFar : ℤ → Type 0
-IsFar z = (pos (2 ^ 64) ≤ℤ z) ⊎ (z ≤ℤ neg_ℤ (pos (2 ^ 64)))

@@ -1,21 +1,15 @@
 //! Numbers in a listing.
 
-ghost use Rattle.std.specs.Prelude.{◌≡◌, ◌≢◌, ℕ, ◌+◌, ◌*◌, ◌^◌, ◌<◌, ◌≤◌, ℤ, pos, codes, MatchBool};
-ghost use Rattle.std.specs.Prelude.{MatchOption, IfSome, IfNone, FitsSigned};
+ghost use Rattle.std.specs.Prelude.{ℕ, ◌+◌, ◌*◌, ◌<◌, ◌≤◌, ℤ, ◌≤ℤ◌, pos, IfSome, IfNone};
 ghost use Rattle.std.specs.Str.Parse.{IsNumeral, digits_value};
 ghost use Rattle.bpf_text.specs.insn.Operands.{SpellsMagnitude, SpellsSigned};
-ghost use Rattle.bpf_text.specs.insn.Numbers.{IsMagnitude, IsNumber, IsFar};
-ghost use Rattle.std.specs.Int.{w16, w32, w128};
+ghost use Rattle.bpf_text.specs.insn.Numbers.{IsMagnitude, IsNumber};
 
 /// A magnitude below 2^64, or `None` for all larger ones.
-pub(crate) type Magnitude = Option<u64>;
+type Magnitude = Option<u64>;
 
-/// A number with its sign.
-#[derive(Clone, Copy)]
-pub(crate) struct Number {
-    pub(crate) negative: bool,
-    pub(crate) magnitude: Magnitude,
-}
+/// What stands for a number of 2^64 or more, which is outside the range of every field.
+const FAR: i128 = 0x1_0000_0000_0000_0000;
 
 /// The number with one more digit appended.
 fn with_digit(number: Magnitude, radix: u32, digit: u32) -> Magnitude
@@ -48,7 +42,7 @@ fn digits_magnitude(radix: u32, digits: &[u8]) -> Option<Magnitude>
 
 /// The number that a token spells: decimal, or hexadecimal after `0x`.
 #[inline(always)]
-pub(crate) fn magnitude_of(token: &[u8]) -> Option<Magnitude>
+fn magnitude_of(token: &[u8]) -> Option<Magnitude>
     ensures none { IfNone result ((n : ℕ) → ¬ SpellsMagnitude token.now n) }
     ensures some { IfSome result (λ m. (n : ℕ) × SpellsMagnitude token.now n × IsMagnitude m n) }
 {
@@ -58,78 +52,23 @@ pub(crate) fn magnitude_of(token: &[u8]) -> Option<Magnitude>
     }
 }
 
-/// Whether a token is a minus. `None` if it isn't a sign.
-fn is_minus(sign: &[u8]) -> Option<bool>
-    ensures none { IfNone result ((sign.now ≢ codes "+") × (sign.now ≢ codes "-")) }
-    ensures some { IfSome result (λ b. MatchBool b (sign.now ≡ codes "-") (sign.now ≡ codes "+")) }
-{
-    match sign {
-        b"-" => Some(true),
-        b"+" => Some(false),
-        _ => None,
-    }
-}
-
-/// The number that a token spells without a sign.
-pub(crate) fn unsigned_number(token: &[u8]) -> Option<Number>
+/// The number that a token spells without a sign. [`FAR`] stands for all numbers of 2^64 or more.
+pub(crate) fn unsigned_number(token: &[u8]) -> Option<i128>
     ensures none { IfNone result ((n : ℕ) → ¬ SpellsMagnitude token.now n) }
     ensures some { IfSome result (λ k. (n : ℕ) × SpellsMagnitude token.now n × IsNumber k (pos n)) }
+    ensures within { IfSome result (λ k. (pos 0 ≤ℤ k) × (k ≤ℤ FAR)) }
 {
-    Some(Number {
-        negative: false,
-        magnitude: magnitude_of(token)?,
-    })
+    Some(magnitude_of(token)?.map_or(FAR, i128::from))
 }
 
 /// The number that a sign and a token spell.
-pub(crate) fn signed_number(sign: &[u8], token: &[u8]) -> Option<Number>
+pub(crate) fn signed_number(sign: &[u8], token: &[u8]) -> Option<i128>
     ensures none { IfNone result ((z : ℤ) → ¬ SpellsSigned sign.now token.now z) }
     ensures some { IfSome result (λ k. (z : ℤ) × SpellsSigned sign.now token.now z × IsNumber k z) }
 {
-    Some(Number {
-        negative: is_minus(sign)?,
-        magnitude: magnitude_of(token)?,
-    })
-}
-
-impl Number {
-    /// The value, if its magnitude is below 2^64.
-    fn value(self) -> Option<i128>
-        ensures cases { (z : ℤ) → IsNumber self z → MatchOption result (IsFar z) (λ v. v ≡ z) }
-        ensures fits { IfSome result (λ v. FitsSigned w128 v) }
-    {
-        let magnitude = i128::from(self.magnitude?);
-        Some(if self.negative { -magnitude } else { magnitude })
-    }
-
-    /// The value, if it fits into an i32.
-    pub(crate) fn as_i32(self) -> Option<i32>
-        ensures cases { (z : ℤ) → IsNumber self z
-            → MatchOption result (¬ FitsSigned w32 z) (λ v. v ≡ z) }
-        ensures fits { IfSome result (λ v. FitsSigned w32 v) }
-    {
-        i32::try_from(self.value()?).ok()
-    }
-
-    /// The value, if it fits into an i16.
-    pub(crate) fn as_i16(self) -> Option<i16>
-        ensures cases { (z : ℤ) → IsNumber self z
-            → MatchOption result (¬ FitsSigned w16 z) (λ v. v ≡ z) }
-        ensures fits { IfSome result (λ v. FitsSigned w16 v) }
-    {
-        i16::try_from(self.value()?).ok()
-    }
-
-    /// The value, if it fits into a u64.
-    pub(crate) fn as_u64(self) -> Option<u64>
-        ensures cases { (z : ℤ) → IsNumber self z →
-            MatchOption result ((m : ℕ) → m < 2 ^ 64 → z ≢ pos m) (λ n. z ≡ pos n) }
-        ensures fits { IfSome result (λ n. n < 2 ^ 64) }
-    {
-        let magnitude = self.magnitude?;
-        if self.negative && magnitude != 0 {
-            return None;
-        }
-        Some(magnitude)
+    match sign {
+        b"+" => unsigned_number(token),
+        b"-" => Some(-unsigned_number(token)?),
+        _ => None,
     }
 }

@@ -29,7 +29,7 @@ pub(crate) fn imm(operand: ReadOperand) -> Result<i32, LineCause>
     ensures { FieldIsRead imm_field operand result }
 {
     match operand {
-        ReadOperand::Literal(number) => number.as_i32().ok_or(LineCause::Range),
+        ReadOperand::Literal(number) => i32::try_from(number).or(Err(LineCause::Range)),
         _ => Err(LineCause::Shape),
     }
 }
@@ -39,7 +39,7 @@ pub(crate) fn offset(operand: ReadOperand) -> Result<i16, LineCause>
     ensures { FieldIsRead offset_field operand result }
 {
     match operand {
-        ReadOperand::Literal(number) => number.as_i16().ok_or(LineCause::Range),
+        ReadOperand::Literal(number) => i16::try_from(number).or(Err(LineCause::Range)),
         _ => Err(LineCause::Shape),
     }
 }
@@ -49,7 +49,7 @@ pub(crate) fn imm64(operand: ReadOperand) -> Result<u64, LineCause>
     ensures { FieldIsRead imm64_field operand result }
 {
     match operand {
-        ReadOperand::Literal(number) => number.as_u64().ok_or(LineCause::Range),
+        ReadOperand::Literal(number) => u64::try_from(number).or(Err(LineCause::Range)),
         _ => Err(LineCause::Shape),
     }
 }
@@ -60,10 +60,7 @@ pub(crate) fn source(operand: ReadOperand) -> Result<Operand, LineCause>
 {
     match operand {
         ReadOperand::Register(register) => Ok(Operand::Reg(register)),
-        ReadOperand::Literal(number) => match number.as_i32() {
-            Some(imm) => Ok(Operand::Imm(imm)),
-            None => Err(LineCause::Range),
-        },
+        ReadOperand::Literal(_) => Ok(Operand::Imm(imm(operand)?)),
         ReadOperand::Memory(_, _) => Err(LineCause::Shape),
     }
 }
@@ -73,10 +70,7 @@ pub(crate) fn address(operand: ReadOperand) -> Result<Address, LineCause>
     ensures { FieldIsRead address_field operand result }
 {
     match operand {
-        ReadOperand::Memory(base, number) => match number.as_i16() {
-            Some(offset) => Ok((base, offset)),
-            None => Err(LineCause::Range),
-        },
+        ReadOperand::Memory(base, number) => Ok((base, offset(ReadOperand::Literal(number))?)),
         _ => Err(LineCause::Shape),
     }
 }

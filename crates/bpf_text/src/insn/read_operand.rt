@@ -4,20 +4,19 @@ ghost use Rattle.std.specs.Prelude.{◌≡◌, ◌∷◌, [], ℕ, List, map, le
 ghost use Rattle.std.specs.Prelude.{IfSome, IfNone};
 ghost use Rattle.bpf_insn.specs.declared.insn.Reg.{Reg};
 ghost use Rattle.bpf_text.specs.insn.Operands.{LineOperand, SpellsOperands, SpellsRegister};
-ghost use Rattle.bpf_text.specs.insn.Operands.{is_comma};
-ghost use Rattle.bpf_text.specs.insn.Numbers.{IsReadAs, ReadsOperand};
+ghost use Rattle.bpf_text.specs.insn.{Operands.is_comma, Numbers.IsReadAs, Numbers.ReadsOperand};
 ghost use Rattle.std.specs.List.{AllZip, position_or_len};
 
-use crate::insn::number::{Number, signed_number, unsigned_number};
+use crate::insn::number::{signed_number, unsigned_number};
 use arrayvec::ArrayVec;
 use bpf_insn::Reg;
 
-/// An operand that tokens spell.
+/// An operand that tokens spell. Numbers of 2^64 or more are represented by 2^64 with their sign.
 #[derive(Clone, Copy)]
 pub(crate) enum ReadOperand {
     Register(Reg),
-    Literal(Number),
-    Memory(Reg, Number),
+    Literal(i128),
+    Memory(Reg, i128),
 }
 
 /// The largest number of operands that an instruction has.
@@ -28,7 +27,7 @@ pub(crate) type Operands = ArrayVec<ReadOperand, MOST_OPERANDS>;
 
 impl Default for ReadOperand {
     fn default() -> ReadOperand {
-        ReadOperand::Literal(ZERO)
+        ReadOperand::Literal(0)
     }
 }
 
@@ -64,12 +63,6 @@ fn of_one(token: &[u8]) -> Option<ReadOperand>
     Some(ReadOperand::Literal(unsigned_number(token)?))
 }
 
-/// The number 0.
-const ZERO: Number = Number {
-    negative: false,
-    magnitude: Some(0),
-};
-
 /// The operand that the tokens between two commas spell.
 pub(crate) fn operand_from_tokens(tokens: &[&[u8]]) -> Option<ReadOperand>
     ensures { ReadsOperand (map (λ t. t.now) tokens.now) result }
@@ -77,7 +70,7 @@ pub(crate) fn operand_from_tokens(tokens: &[&[u8]]) -> Option<ReadOperand>
     match tokens {
         [token] => of_one(token),
         [sign, token] => Some(ReadOperand::Literal(signed_number(sign, token)?)),
-        [b"[", base, b"]"] => Some(ReadOperand::Memory(register_of(base)?, ZERO)),
+        [b"[", base, b"]"] => Some(ReadOperand::Memory(register_of(base)?, 0)),
         [b"[", base, sign, token, b"]"] => Some(ReadOperand::Memory(
             register_of(base)?,
             signed_number(sign, token)?,

@@ -1,5 +1,7 @@
-use Rattle.bpf_text.proofs.InsnLemmas.FieldLemmas.{wide_read}
+use Rattle.std.proofs.lemmas.Int.{to_z-of_z}
+use Rattle.std.specs.Int.{w128}
+use Rattle.bpf_text.proofs.InsnLemmas.FieldLemmas.{imm64_read}
 use Rattle.bpf_text.proofs.insn.operand_fields.imm64.Goals as goal
 
 pub returns-in-Literal : goal.returns-in-Literal
-returns-in-Literal c = rw (c.in-Literal.is, c.ok_or.ensures.value) (wide_read c.in-Literal.number c.as_u64.result c.as_u64.ensures.fits c.as_u64.ensures.cases)
+returns-in-Literal c = rw (c.in-Literal.is, c.or.ensures) (imm64_read c.in-Literal.number _ c.try_from.result (to_z-of_z w128 c.in-Literal.number) c.try_from.ensures)

@@ -1,6 +1,6 @@
 use Rattle.std.proofs.Common.{pos, refl}
 use Rattle.bpf_text.specs.insn.Operands.{register, number}
-use Rattle.bpf_text.proofs.InsnLemmas.ReadOperandLemmas.{none_of_one}
+use Rattle.bpf_text.proofs.InsnLemmas.ReadOperandLemmas.{none_of_one, passed}
 use Rattle.bpf_text.proofs.insn.read_operand.of_one.Goals as goal
 
 pub returns-in-Some : goal.returns-in-Some
@@ -12,4 +12,4 @@ returns-in_err-unsigned_number c =
 
 pub returns : goal.returns
 returns c =
-    let m = c.in_ok-unsigned_number.ensures.some in (number (pos m.0), (m.0, m.1, refl), m.2)
+    let m = c.in_ok-unsigned_number.ensures.some in (number (pos m.0), (m.0, m.1, refl), passed _ _ m.2)
