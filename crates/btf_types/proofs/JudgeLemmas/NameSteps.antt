@@ -1,12 +1,18 @@
 -- The faults of a name field.
-use Rattle.std.proofs.Common.{◌≡◌, ℕ, ◌<◌, ◌≤◌, Bool, true, false, List, length, refl, ap, subst, inl, inr, arith}
-use Rattle.std.specs.Prelude.{◌↔◌, ◌==◌, IsFalse, IsUtf8, slice_index}
+use Rattle.std.proofs.Common.{◌≡◌, ℕ, ◌<◌, ◌≤◌, Bool, true, false, Option, List, length, refl, ap, subst, inl, inr, arith}
+use Rattle.std.specs.Prelude.{◌↔◌, ◌==◌, IsFalse, IsTrue, IsUtf8, slice_index}
 use Rattle.std.proofs.lemmas.Bool.{cases_lt, eqb-true, eqb-false}
-use Rattle.btf_raw.specs.{declared.cause.BtfCause.BtfCause, Cause.number_of, Names.TextAt, Header.HasNulEnds}
+use Rattle.btf_raw.specs.{declared.cause.BtfCause.BtfCause, Cause.number_of, Names.TextAt, Header.HasNulEnds, Kinds.needs_name, Kinds.has_no_name}
 use Rattle.btf_raw.specs.declared.cause.BtfCause.TheVariants.{NameRange, NameUtf8, NameMissing, NameUnwanted}
-use Rattle.btf_types.specs.judge.{Checks.NoCause, Checks.LeastCause, NameFaults.NameFault, NameFaults.OwnNameFault, NameFaults.ItemNameFault}
+use Rattle.btf_types.specs.judge.{Checks.NoCause, Checks.LeastCause, Checks.IsLeastOf, NameFaults.NameFault, NameFaults.ItemNameFault}
 use Rattle.btf_types.specs.Reading.{text_from}
-use Rattle.btf_types.proofs.{TableLemmas.TextSteps.text_there, JudgeLemmas.Utf8Steps.empty_byte, JudgeLemmas.Utf8Steps.empty_text}
+use Rattle.btf_types.proofs.{TableLemmas.TextSteps.text_there, JudgeLemmas.Judging.judged_same, JudgeLemmas.Utf8Steps.empty_byte, JudgeLemmas.Utf8Steps.empty_text}
+
+-- what a cause says of a record's own name if its offset is valid, given whether the name is empty
+abbrev pub OwnNameFault : ℕ → Bool → BtfCause → Type 0
+OwnNameFault kind empty NameMissing = IsTrue (needs_name kind) × IsTrue empty
+OwnNameFault kind empty NameUnwanted = IsTrue (has_no_name kind) × IsFalse empty
+OwnNameFault kind empty _ = ⊥
 
 -- the name of an item, if its string isn't UTF-8 and if it is
 pub utf8_fault : (strings : List ℕ) (offset : ℕ) → HasNulEnds strings → offset < length strings
@@ -52,7 +58,7 @@ item_to_name strings kind offset c least = record { holds = up c least.holds; le
     under e d here least fault = absurd fault
 
 module _ (strings : List ℕ) (kind offset : ℕ) (ends : HasNulEnds strings) (none : NoCause (ItemNameFault strings offset)) where
-  pub own_to_name : (c : BtfCause) → offset < length strings → OwnNameFault kind (slice_index strings offset == 0) c → NameFault strings kind offset c
+  own_to_name : (c : BtfCause) → offset < length strings → OwnNameFault kind (slice_index strings offset == 0) c → NameFault strings kind offset c
   own_to_name NameMissing low fault =
       let there = text_there strings offset ends low in
       (fault.0, subst (λ (x : List ℕ). TextAt strings offset x) (empty_text strings offset (text_from strings offset) there (eqb-true (slice_index strings offset) 0 fault.1)) there)
@@ -61,7 +67,7 @@ module _ (strings : List ℕ) (kind offset : ℕ) (ends : HasNulEnds strings) (n
       (fault.0, text_from strings offset, there, λ e. eqb-false (slice_index strings offset) 0 fault.1 (empty_byte strings offset (subst (λ (x : List ℕ). TextAt strings offset x) e there)))
   own_to_name c low fault = absurd fault
 
-  pub name_to_own : (c : BtfCause) → NameFault strings kind offset c → OwnNameFault kind (slice_index strings offset == 0) c
+  name_to_own : (c : BtfCause) → NameFault strings kind offset c → OwnNameFault kind (slice_index strings offset == 0) c
   name_to_own NameRange fault = absurd (none NameRange fault)
   name_to_own NameUtf8 fault = absurd (none NameUtf8 fault)
   name_to_own NameMissing fault = (fault.0, ap (λ (i : ℕ). i == 0) (empty_byte strings offset fault.1))
@@ -74,3 +80,10 @@ module _ (strings : List ℕ) (kind offset : ℕ) (ends : HasNulEnds strings) (n
 
 pub in_range : (strings : List ℕ) (offset : ℕ) → NoCause (ItemNameFault strings offset) → offset < length strings
 in_range strings offset none = elim (cases_lt offset (length strings)) [ inl lt ↦ lt | inr le ↦ absurd (none NameRange le) ]
+
+-- the answer for a record's own name, from that for whether it is empty
+pub name_judged : (strings : List ℕ) (kind offset : ℕ) (r : Option BtfCause) → HasNulEnds strings → NoCause (ItemNameFault strings offset)
+    → IsLeastOf (OwnNameFault kind (slice_index strings offset == 0)) r → IsLeastOf (NameFault strings kind offset) r
+name_judged strings kind offset r ends none own =
+    judged_same (OwnNameFault kind (slice_index strings offset == 0)) (NameFault strings kind offset) r
+    (λ d h. own_to_name strings kind offset ends none d (in_range strings offset none) h) (name_to_own strings kind offset ends none) own

@@ -12,12 +12,6 @@ NameFault strings kind offset NameMissing = IsTrue (needs_name kind) × TextAt s
 NameFault strings kind offset NameUnwanted = IsTrue (has_no_name kind) × (text : List ℕ) × TextAt strings offset text × (text ≢ [])
 NameFault strings kind offset _ = ⊥
 
--- what a cause says of a record's own name if its offset is valid, given whether the name is empty
-abbrev pub OwnNameFault : ℕ → Bool → BtfCause → Type 0
-OwnNameFault kind empty NameMissing = IsTrue (needs_name kind) × IsTrue empty
-OwnNameFault kind empty NameUnwanted = IsTrue (has_no_name kind) × IsFalse empty
-OwnNameFault kind empty _ = ⊥
-
 -- what a cause says of the data that follows an INT
 abbrev pub IntFault : ℕ → ℕ → BtfCause → Type 0
 IntFault size word IntWord =

@@ -31,30 +31,20 @@ pub fn item_name_fault(section: &Section, off: u32) -> Option<BtfCause>
     None
 }
 
-/// Checks whether a record of this kind needs a name, or must not have one. `empty` is whether its
-/// name is empty.
-fn own_name_fault(kind: u8, empty: bool) -> Option<BtfCause>
-    ensures { spec.IsLeastOf (faults.OwnNameFault kind empty) result }
-{
-    if needs_name(kind) && empty {
-        return Some(BtfCause::NameMissing);
-    }
-    if has_no_name(kind) && !empty {
-        return Some(BtfCause::NameUnwanted);
-    }
-    None
-}
-
 /// Checks a record's own name field: first like that of an item, then whether a name is missing or
 /// not allowed.
 #[tactic(auto, using(crate::proofs::JudgeLemmas::NameSteps::item_to_name))]
 pub fn name_fault(section: &Section, kind: u8, off: u32) -> Option<BtfCause>
     ensures { spec.IsLeastOf (faults.NameFault section.now.strings kind off) result }
 {
-    match item_name_fault(section, off) {
-        Some(cause) => Some(cause),
-        None => own_name_fault(kind, section.file.strings[off as usize] == 0),
+    if let Some(cause) = item_name_fault(section, off) {
+        return Some(cause);
     }
+    let empty = section.file.strings[off as usize] == 0;
+    if needs_name(kind) && empty {
+        return Some(BtfCause::NameMissing);
+    }
+    (has_no_name(kind) && !empty).then_some(BtfCause::NameUnwanted)
 }
 
 /// Whether a record of this kind may refer to the type with the ID `target`.
