@@ -29,11 +29,7 @@ impl<R: Read> ReaderSource<R> {
     pub fn into_inner(self) -> R
         ensures { R.remaining result ≡ ⟦<ReaderSource<R> as ByteSource>⟧.remaining self }
     {
-        let ReaderSource {
-            reader,
-            failed_reads: _,
-        } = self;
-        reader
+        self.reader
     }
 }
 
@@ -90,11 +86,7 @@ impl<W: Write> WriterSink<W> {
     pub fn into_inner(self) -> W
         ensures { W.contents result ≡ ⟦<WriterSink<W> as ByteSink>⟧.contents self }
     {
-        let WriterSink {
-            writer,
-            failed_writes: _,
-        } = self;
-        writer
+        self.writer
     }
 }
 

@@ -120,17 +120,9 @@ fn is_recoded(order_a: Order, a: &[u8], order_b: Order, b: &[u8]) -> bool
         → (IsTrue result ↔ (b.now ≡ file_of order_b insns)) }
 {
     if order_a == order_b {
-        a == b
-    } else {
-        is_swapped(a, b)
+        return a == b;
     }
-}
-
-/// Whether the slots of `b` are those of `a` in the other byte order.
-fn is_swapped(a: &[u8], b: &[u8]) -> bool
-    ensures { (order to : Order) (insns : List Insn) → order ≢ to → InsnFile order a.now insns
-        → (IsTrue result ↔ (b.now ≡ file_of to insns)) }
-{
+    // the slots of `b` have to be those of `a` in the other byte order
     let mut left = a;
     let mut right = b;
     'slots: while let Some((slot, following)) = left.split_first_chunk::<8>() {
