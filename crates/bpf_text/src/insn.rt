@@ -1,7 +1,6 @@
 //! Listings of instructions: writing and reading them.
 
 pub mod fault;
-pub(crate) mod insn_sink;
 pub mod laws;
 pub(crate) mod listing_bytes;
 pub(crate) mod make;

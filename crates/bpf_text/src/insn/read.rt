@@ -13,10 +13,9 @@ ghost use Rattle.bpf_insn.specs.declared.insn.Insn.{Insn};
 ghost use Rattle.bpf_text.specs.insn.Tokens.{is_stray, AreTokens};
 ghost use Rattle.bpf_text.specs.declared.insn.fault.{LineFault.LineFault, ListError.ListError};
 ghost use Rattle.bpf_text.specs.insn.Listing.{lines_of, Lists, IsListFault, IsCause, ListsLine};
-ghost use Rattle.bpf_text.specs.insn.Reading.{ReadsTokens, RefusesText, RefusesLine};
+ghost use Rattle.bpf_text.specs.insn.Reading.{ReadsTokens, RefusesText, RefusesLine, TakesAll};
 
 use crate::insn::fault::{LineCause, LineFault, ListError};
-use crate::insn::insn_sink::{InsnSink, take_found};
 use crate::insn::make::insn_from_operands;
 use crate::insn::mnemonic::Mnemonic;
 use crate::insn::read_operand::operands_from_tokens;
@@ -24,7 +23,7 @@ use crate::insn::token::{Tokens, known_code, next_token, read_tokens};
 use arrayvec::ArrayVec;
 use bpf_insn::Insn;
 use memchr::memchr;
-use std::alloc::Allocator;
+use std::alloc::{AllocError, Allocator};
 
 /// The instruction whose mnemonic is the first token, with the operands in the rest of the line.
 /// The caller passes the tokens of the previous line, whose buffer is reused: to make a new array
@@ -88,11 +87,14 @@ fn read_numbered<'a>(
     read_line(tokens, text).map_err(|cause| ListError::Fault(LineFault { line, cause }))
 }
 
-/// Passes the instructions of all lines to the sink, in order. On an error the sink may already
-/// have accepted those of the first lines.
-pub(crate) fn read_lines<S: InsnSink>(sink: &mut S, text: &[u8]) -> Result<(), ListError>
+/// Calls `take` with the sink and each instruction, in the order of the lines. On an error the sink
+/// may already have taken those of the first lines.
+pub(crate) fn read_lines<S, F>(sink: &mut S, text: &[u8], take: F) -> Result<(), ListError>
+where
+    F: Fn(&mut S, Insn) -> Result<(), AllocError>,
+    requires { F.IsAlwaysCallable take }
     ensures { MatchResult result
-        (λ _. (insns : List Insn) × Lists text.now insns × S.takes sink.old insns sink.new)
+        (λ _. (l : List Insn) × Lists text.now l × TakesAll (F.post take) sink.old l sink.new)
         (RefusesText text.now) }
 {
     let mut tokens = ArrayVec::new();
@@ -100,8 +102,9 @@ pub(crate) fn read_lines<S: InsnSink>(sink: &mut S, text: &[u8]) -> Result<(), L
     let mut number: u64 = 1;
     'lines: loop {
         let (line, following) = first_line(rest);
-        let found = read_numbered(&mut tokens, line, number)?;
-        take_found(sink, found)?;
+        if let Some(insn) = read_numbered(&mut tokens, line, number)? {
+            take(sink, insn)?;
+        }
         let Some(following) = following else {
             return Ok(());
         };
@@ -126,6 +129,6 @@ pub fn read_listing<A: Allocator>(alloc: A, text: &[u8]) -> Result<Vec<Insn, A>,
     ensures fault { (f : LineFault) → result ≡ Err (ListError.Fault f) → IsListFault text.now f }
 {
     let mut insns = Vec::new(alloc);
-    read_lines(&mut insns, text)?;
+    read_lines(&mut insns, text, |insns, insn| Ok(insns.push(insn)?))?;
     Ok(insns)
 }

@@ -4,7 +4,7 @@ use Rattle.bpf_text.proofs.insn.read.read_lines.Given as goal
 
 abbrev pub invariant-lines : goal.invariant-lines
 invariant-lines g l = record {
-  so_far : TakenSoFar g.S.InsnSink.takes l.text l.rest l.fn.sink l.sink l.number;
+  so_far : TakenSoFar (goal.F-post g l.take) l.text l.rest l.fn.sink l.sink l.number;
   bound : l.number + length l.rest ≤ length l.text + 1;
 }
 
