@@ -1,7 +1,7 @@
 -- How registers are written.
-use Rattle.std.proofs.Common.{◌≡◌, ◌≢◌, ℕ, ◌+◌, ◌<◌, ◌≤◌, Bool, true, false, List, [], ◌∷◌, ◌++◌, inl, inr, Option, Some, None, refl, sym, ap, ◌∙◌, subst, codes, arith, eqb, IfSome, MatchOption}
-use Rattle.std.specs.{Fmt.digits, Fmt.decimal, Cmp.Lexicographic.pointwise}
-use Rattle.std.proofs.lemmas.{Bool.cases_lt, Bool.false≢true, Bool.Decides.Decides-eqb, Slice.Eq.slice_eq-Decides}
+use Rattle.std.proofs.Common.{◌≡◌, ℕ, ◌+◌, ◌<◌, ◌≤◌, List, [], ◌∷◌, ◌++◌, length, get_or, inl, inr, Option, Some, None, refl, sym, ap, ◌∙◌, subst, codes, arith, IfSome, MatchOption}
+use Rattle.std.specs.Fmt.{digits, decimal}
+use Rattle.std.proofs.lemmas.Bool.{cases_lt}
 use Rattle.bpf_insn.specs.declared.insn.Reg.{Reg}
 use Rattle.bpf_text.specs.insn.Operands.{SpellsRegister}
 
@@ -26,20 +26,28 @@ pub spelled_by_new : (token : List ℕ) (n : ℕ) (r : Option Reg) → token ≡
 spelled_by_new token n None e h = tt
 spelled_by_new token n (Some k) e h = e ∙ ap (λ x. codes "r" ++ decimal x) (sym h)
 
+-- a token of two or three bytes that spells a register
+pub two_bytes_spell : (token : List ℕ) (n : ℕ) → 2 ≤ length token → length token < 3 → get_or token 0 0 ≡ 114 → get_or token 1 0 ≡ 48 + n → n ≤ 9 → token ≡ codes "r" ++ decimal n
+two_bytes_spell (a ∷ b ∷ []) n l m e f small = (let same : a ∷ b ∷ [] ≡ 114 ∷ (48 + n) ∷ [] = cc in same) ∙ sym (small_register_text n small)
+two_bytes_spell _ n l m e f small = absurd (omega arith)
+
+pub three_bytes_spell : (token : List ℕ) → 3 ≤ length token → length token < 4 → get_or token 0 0 ≡ 114 → get_or token 1 0 ≡ 49 → get_or token 2 0 ≡ 48 → token ≡ codes "r" ++ decimal 10
+three_bytes_spell (a ∷ b ∷ c ∷ []) l m e f g = (let same : a ∷ b ∷ c ∷ [] ≡ 114 ∷ 49 ∷ 48 ∷ [] = cc in same) ∙ sym last_register_text
+three_bytes_spell _ l m e f g = absurd (omega arith)
+
 -- no other token spells a register
-pub no_register : (token : List ℕ) (b : Bool) → ((d : ℕ) → d ≤ 9 → token ≢ 114 ∷ (48 + d) ∷ []) → b ≡ pointwise eqb token (codes "r10") → b ≡ false
-    → (r : Reg) → ¬ SpellsRegister token r
-no_register token b small e f r h =
+pub not_register : (token : List ℕ) → (length token ≡ 2 → get_or token 0 0 ≡ 114 → 48 ≤ get_or token 1 0 → get_or token 1 0 ≤ 57 → ⊥)
+    → (length token ≡ 3 → get_or token 0 0 ≡ 114 → get_or token 1 0 ≡ 49 → get_or token 2 0 ≡ 48 → ⊥) → (r : Reg) → ¬ SpellsRegister token r
+not_register token two three r h =
     elim (cases_lt r.number 10) [
-      | inl l ↦ small r.number (omega arith) (h ∙ small_register_text r.number (omega arith))
+      | inl l ↦
+          let text : token ≡ 114 ∷ (48 + r.number) ∷ [] = h ∙ small_register_text r.number (omega arith) in
+          two (ap length text) (ap (λ (t : List ℕ). get_or t 0 0) text) (rw text (omega arith)) (rw text (omega arith))
       | inr l ↦
           let ten : r.number ≡ 10 = omega (arith, r.in_range) in
           let text : token ≡ codes "r10" = h ∙ ap (λ x. codes "r" ++ decimal x) ten ∙ last_register_text in
-          false≢true (sym f ∙ (slice_eq-Decides Decides-eqb token (codes "r10") b e).1 text)
+          three (ap length text) (ap (λ (t : List ℕ). get_or t 0 0) text) (ap (λ (t : List ℕ). get_or t 1 0) text) (ap (λ (t : List ℕ). get_or t 2 0) text)
     ]
-
-pub last_spelled : (token : List ℕ) (b : Bool) (r : Option Reg) → b ≡ pointwise eqb token (codes "r10") → b ≡ true → MatchOption r (10 < 10) (λ k. k.number ≡ 10) → IfSome r (SpellsRegister token)
-last_spelled token b r e f h = spelled_by_new token 10 r ((slice_eq-Decides Decides-eqb token (codes "r10") b e).0 f ∙ sym last_register_text) h
 
 -- how a register with a known number is written
 pub small_register_is : (d n : ℕ) → d ≤ 9 → d ≡ n → 114 ∷ (48 + d) ∷ [] ≡ codes "r" ++ decimal n

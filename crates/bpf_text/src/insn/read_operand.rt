@@ -1,11 +1,10 @@
 //! Reading the operands of a line from its tokens.
 
-ghost use Rattle.std.specs.Prelude.{◌≡◌, ◌∷◌, [], ℕ, List, map, length, ◌+◌, ◌≤◌, drop};
-ghost use Rattle.std.specs.Prelude.{IfSome, IfNone};
+ghost use Rattle.std.specs.Prelude.{◌≡◌, ◌∷◌, [], List, map, length, ◌+◌, ◌≤◌, drop, IfSome};
 ghost use Rattle.bpf_insn.specs.declared.insn.Reg.{Reg};
 ghost use Rattle.bpf_text.specs.insn.Operands.{LineOperand, SpellsOperands, SpellsRegister};
 ghost use Rattle.bpf_text.specs.insn.{Operands.is_comma, Numbers.IsReadAs, Numbers.ReadsOperand};
-ghost use Rattle.std.specs.List.{AllZip, position_or_len};
+ghost use Rattle.std.specs.{Prelude.IfNone, List.AllZip, List.position_or_len};
 
 use crate::insn::number::{signed_number, unsigned_number};
 use arrayvec::ArrayVec;
@@ -31,26 +30,16 @@ impl Default for ReadOperand {
     }
 }
 
-/// The digit of a register from `r0` to `r9`.
-fn register_digit(token: &[u8]) -> Option<u8>
-    ensures none { IfNone result ((d : ℕ) → d ≤ 9 → ¬ (token.now ≡ 114 ∷ (48 + d) ∷ [])) }
-    ensures some { IfSome result (λ d. (d ≤ 9) × (token.now ≡ 114 ∷ (48 + d) ∷ [])) }
-{
-    match token {
-        [b'r', digit @ b'0'..=b'9'] => Some(*digit - b'0'),
-        _ => None,
-    }
-}
-
 /// The register that a token spells.
 fn register_of(token: &[u8]) -> Option<Reg>
     ensures none { IfNone result ((r : Reg) → ¬ SpellsRegister token.now r) }
     ensures some { IfSome result (λ r. SpellsRegister token.now r) }
 {
-    if token == b"r10".as_slice() {
-        return Reg::new(10);
+    match token {
+        b"r10" => Reg::new(10),
+        [b'r', digit @ b'0'..=b'9'] => Reg::new(*digit - b'0'),
+        _ => None,
     }
-    Reg::new(register_digit(token)?)
 }
 
 /// A register, or a number without a sign.
