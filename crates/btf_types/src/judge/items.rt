@@ -73,8 +73,7 @@ pub fn values_fault(section: &Section, this: &Record, step: usize) -> Option<(us
 {
     for k in 0..usize::from(this.vlen()) {
         let first = 3 + step * k;
-        let name = this.word(first);
-        if let Some(cause) = item_name_fault(section, name) {
+        if let Some(cause) = item_name_fault(section, this.word(first)) {
             return Some((first, cause));
         }
     }

@@ -6,7 +6,7 @@ ghost use Rattle.btf_types.specs.{judge.Checks.type_at, Sections.facts_in};
 ghost use Rattle.btf_types.specs.judge.NameFaults as faults;
 ghost use Rattle.btf_types.specs.judge.Checks as spec;
 
-use crate::judge::checks::{is_plain_int, size_fits, target_fits};
+use crate::judge::checks::size_fits;
 use crate::judge::utf8::is_utf8;
 use crate::tables::section::Section;
 use btf_raw::info::{has_no_name, has_target, needs_name};
@@ -53,8 +53,15 @@ pub fn name_fault(section: &Section, kind: u8, off: u32) -> Option<BtfCause>
 fn named_kind_fits(section: &Section, kind: u8, target: u32) -> bool
     ensures { result ≡ spec.target_fits kind (type_at (facts_in section.now) target).kind }
 {
-    !matches!(kind, FUNC | DATASEC | DECL_TAG)
-        || target_fits(kind, section.record(target).map_or(0, |this| this.kind()))
+    if !matches!(kind, FUNC | DATASEC | DECL_TAG) {
+        return true;
+    }
+    let target = section.record(target).map_or(0, |this| this.kind());
+    match kind {
+        FUNC => target == FUNC_PROTO,
+        DATASEC => matches!(target, VAR | FUNC),
+        _ => matches!(target, STRUCT | UNION | FUNC | VAR | TYPEDEF),
+    }
 }
 
 /// Checks the size or type field of a record: a size, a type ID, or 0.
@@ -90,12 +97,15 @@ pub fn named_type_fault(section: &Section, kind: u8, target: u32) -> Option<BtfC
 
 /// Whether a member may have this type if its record has bit-fields: it isn't an INT, or it is an
 /// INT with offset 0 and 8, 16, 32, 64 or 128 bits.
-#[tactic(auto, using(crate::proofs::TableLemmas::SectionSteps::int_has_word), unfolding(crate::specs::judge::Checks::member_int_fits))]
+#[tactic(auto, using(crate::proofs::TableLemmas::SectionSteps::int_has_word), unfolding(crate::specs::judge::Checks::member_int_fits, crate::specs::judge::Checks::is_plain_int))]
 fn member_int_fits(section: &Section, target: u32) -> bool
     ensures { result ≡ spec.member_int_fits (facts_in section.now) target }
 {
     match section.record(target) {
-        Some(this) if this.kind() == INT => is_plain_int(this.word(3)),
+        Some(this) if this.kind() == INT => {
+            let data = this.word(3);
+            data >> 16 & 0xff == 0 && matches!(data & 0xff, 8 | 16 | 32 | 64 | 128)
+        }
         _ => true,
     }
 }

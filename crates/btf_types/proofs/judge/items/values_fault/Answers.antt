@@ -40,8 +40,8 @@ overflow_add-first c =
     let value = value_of _ c.args.step c.loop-k.k c.requires.frame c.requires.kind c.requires.step (omega arith) in
     omega arith
 
-pub word-name-requires : goal.word-name-requires
-word-name-requires c =
+pub word-requires : goal.word-requires
+word-requires c =
     let value = value_of c.args.this.now c.args.step c.loop-k.k c.requires.frame c.requires.kind c.requires.step (omega arith) in
     omega arith
 
@@ -51,7 +51,7 @@ returns-in-Some c =
     let k = c.loop-k.k in
     let value = value_of c.args.this.now c.args.step k is c.requires.kind c.requires.step (omega arith) in
     first_at c.args.section.now is 3 _ (3 + c.args.step * k) ItemName _ (omega arith) (omega arith) (omega arith) c.loop-k.invariant
-    (rw c.requires.step (value_name_role _ k c.requires.kind)) (rw c.word-name.ensures at c.in-Some.ensures)
+    (rw c.requires.step (value_name_role _ k c.requires.kind)) (rw c.word.ensures at c.in-Some.ensures)
 
 pub loop-k-preserved : goal.loop-k-preserved
 loop-k-preserved c =
@@ -60,7 +60,7 @@ loop-k-preserved c =
     let k = c.loop-k.k in
     let value = value_of c.args.this.now step k is c.requires.kind c.requires.step (omega arith) in
     let named = none_at c.args.section.now is 3 (3 + step * k) (4 + step * k) ItemName (omega arith) (omega arith) c.loop-k.invariant
-    (rw c.requires.step (value_name_role _ k c.requires.kind)) (rw c.word-name.ensures at c.in_default.ensures) in
+    (rw c.requires.step (value_name_role _ k c.requires.kind)) (rw c.word.ensures at c.in_default.ensures) in
     none_through c.args.section.now c.args.this.now 3 (4 + step * k) (3 + step * (k + 1)) named
     (free_within c.args.section.now is (4 + step * k) (3 + step * (k + 1)) (omega arith) (rw c.requires.step (value_free_role _ k c.requires.kind)))
 
