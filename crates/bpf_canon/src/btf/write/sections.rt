@@ -92,8 +92,8 @@ fn push_rest<A: Allocator>(
     Ok(())
 }
 
-/// Appends everything after the third word of a record.
-fn push_tail<A: Allocator, B: Allocator + Copy>(
+/// Appends a record.
+fn push_record<A: Allocator, B: Allocator + Copy>(
     out: &mut Vec<u8, A>,
     to: Order,
     names: &SharedPlaces<'_, B>,
@@ -101,9 +101,11 @@ fn push_tail<A: Allocator, B: Allocator + Copy>(
 ) -> Result<(), AllocError>
     requires reads { ReadsRecord names.now.strings this.now }
     requires noted { HasNotedNames names.now this.now }
-    ensures { OnOk result (out.new.items ≡ out.old.items ++ bytes_of to
-        (spec.record_tail (placed names.now) (record_of names.now.strings this.now))) }
+    ensures { OnOk result (out.new.items ≡ out.old.items
+        ++ bytes_of to (record_words (placed names.now) (record_of names.now.strings this.now))) }
 {
+    let name = names.place(this.word(0));
+    push_words(out, to, &[name, canonical_info(this), this.word(2)])?;
     let kind = this.kind();
     let vlen = this.vlen();
     if !has_item_names(kind) {
@@ -121,23 +123,6 @@ fn push_tail<A: Allocator, B: Allocator + Copy>(
         }
     }
     Ok(())
-}
-
-/// Appends a record.
-fn push_record<A: Allocator, B: Allocator + Copy>(
-    out: &mut Vec<u8, A>,
-    to: Order,
-    names: &SharedPlaces<'_, B>,
-    this: &Record,
-) -> Result<(), AllocError>
-    requires reads { ReadsRecord names.now.strings this.now }
-    requires noted { HasNotedNames names.now this.now }
-    ensures { OnOk result (out.new.items ≡ out.old.items
-        ++ bytes_of to (record_words (placed names.now) (record_of names.now.strings this.now))) }
-{
-    let name = names.place(this.word(0));
-    push_words(out, to, &[name, canonical_info(this), this.word(2)])?;
-    push_tail(out, to, names, this)
 }
 
 /// Appends all records.
