@@ -45,19 +45,19 @@ pub one_mnemonic : (m n : Mnemonic) → text_of_mnemonic m ≡ text_of_mnemonic 
 one_mnemonic m n e = sym (stands m Exit) ∙ ap (λ w. entry w Exit) e ∙ stands n Exit
 
 -- a token isn't a mnemonic if it differs from the mnemonic at its hash
-pub none_of_hash : (token : List ℕ) (hash k : ℕ) (m d : Mnemonic) → hash ≡ hash_of token → k ≡ get_or INDEX_BY_HASH hash 0
+pub none_of_hash : (token : List ℕ) (k : ℕ) (m d : Mnemonic) → k ≡ get_or INDEX_BY_HASH (hash_of token) 0
     → token ≢ text_of_mnemonic (get_or ALL k d) → token ≢ text_of_mnemonic m
-none_of_hash token hash k m d h p other same =
-    let led : k ≡ get_or INDEX_BY_HASH (hash_of (text_of_mnemonic m)) 0 = p ∙ ap (λ n. get_or INDEX_BY_HASH n 0) (h ∙ ap hash_of same) in
+none_of_hash token k m d p other same =
+    let led : k ≡ get_or INDEX_BY_HASH (hash_of (text_of_mnemonic m)) 0 = p ∙ ap (λ t. get_or INDEX_BY_HASH (hash_of t) 0) same in
     other (same ∙ ap text_of_mnemonic (sym (ap (λ n. get_or ALL n d) led ∙ stands m d)))
 
 -- likewise for what is returned after the comparison of the token with the mnemonic at its hash
-pub none_but_entry : (token text : List ℕ) (hash k : ℕ) (same : Bool) (d : Mnemonic) (found : Option Mnemonic) → hash ≡ hash_of token → k ≡ get_or INDEX_BY_HASH hash 0
+pub none_but_entry : (token text : List ℕ) (k : ℕ) (same : Bool) (d : Mnemonic) (found : Option Mnemonic) → k ≡ get_or INDEX_BY_HASH (hash_of token) 0
     → text ≡ text_of_mnemonic (get_or ALL k d) → same ≡ pointwise eqb token text → found ≡ then_some same (get_or ALL k d) → IfNone found ((m : Mnemonic) → token ≢ text_of_mnemonic m)
-none_but_entry token text hash k true d found h p t e is = subst (λ x. IfNone x ((m : Mnemonic) → token ≢ text_of_mnemonic m)) (sym is) tt
-none_but_entry token text hash k false d found h p t e is =
+none_but_entry token text k true d found p t e is = subst (λ x. IfNone x ((m : Mnemonic) → token ≢ text_of_mnemonic m)) (sym is) tt
+none_but_entry token text k false d found p t e is =
     subst (λ x. IfNone x ((m : Mnemonic) → token ≢ text_of_mnemonic m)) (sym is)
-    (λ m. none_of_hash token hash k m d h p (λ equal. false≢true ((slice_eq-Decides Decides-eqb token text false e).1 (equal ∙ sym t))))
+    (λ m. none_of_hash token k m d p (λ equal. false≢true ((slice_eq-Decides Decides-eqb token text false e).1 (equal ∙ sym t))))
 
 at_entry : (test : Mnemonic → Bool) (ms : List Mnemonic) (k : ℕ) (d : Mnemonic) → list_all test ms ≡ true → test d ≡ true → test (get_or ms k d) ≡ true
 at_entry test [] k d h e = e

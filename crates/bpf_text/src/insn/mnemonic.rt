@@ -4,7 +4,7 @@ ghost use Rattle.std.specs.Prelude.{◌≡◌, ◌≢◌, ◌↔◌, IsTrue, IfS
 ghost use Rattle.bpf_text.specs.declared.insn.mnemonic.Mnemonic.{Mnemonic};
 ghost use Rattle.bpf_text.specs.insn.Mnemonics.{text_of_mnemonic, mnemonic_of};
 
-use crate::insn::mnemonic_hash::{hash_of, index_of};
+use crate::insn::mnemonic_hash::index_of;
 use bpf_insn::{
     AluOp, AtomicOp, BranchOp, Insn, MovsxForm, Size, SmallSize, SwapBits, SwapKind, WideOf, Width,
 };
@@ -185,7 +185,7 @@ impl Mnemonic {
         ensures none { IfNone result ((m : Mnemonic) → token.now ≢ text_of_mnemonic m) }
         ensures some { IfSome result (λ m. token.now ≡ text_of_mnemonic m) }
     {
-        let mnemonic = ALL[index_of(hash_of(token))];
+        let mnemonic = ALL[index_of(token)];
         (token == mnemonic.text().as_bytes()).then_some(mnemonic)
     }
 }

@@ -25,24 +25,15 @@ static INDEX_BY_HASH: [u8; 512] = [
     0, 44, 0, 0, 0, 0, 0, 0, 0, 0, 34, 0, 0, 0, 0, 0, 0, 47,
 ];
 
-/// The hash of a token, below 512. Mnemonics don't collide: the factor was found by trying numbers.
-pub(crate) fn hash_of(token: &[u8]) -> usize
-    ensures value { result ≡ hash_of token.now }
-    ensures within { result < 512 }
+/// The index in `ALL` of the mnemonic with the hash of a token, or of any other mnemonic if none has
+/// this hash. Mnemonics don't collide: the factor was found by trying numbers.
+pub(crate) fn index_of(token: &[u8]) -> usize
+    ensures value { result ≡ get_or INDEX_BY_HASH (hash_of token.now) 0 }
+    ensures within { result < 120 }
 {
     let mut hash: u64 = 0;
     for b in token {
         hash = (hash + u64::from(*b)) * 3727115 % 0x1_0000_0000;
     }
-    (hash / 0x80_0000) as usize
-}
-
-/// The index in `ALL` of the mnemonic with this hash, or of any other mnemonic if none has this
-/// hash.
-pub(crate) fn index_of(hash: usize) -> usize
-    requires { hash < 512 }
-    ensures value { result ≡ get_or INDEX_BY_HASH hash 0 }
-    ensures within { result < 120 }
-{
-    INDEX_BY_HASH[hash] as usize
+    INDEX_BY_HASH[(hash / 0x80_0000) as usize] as usize
 }

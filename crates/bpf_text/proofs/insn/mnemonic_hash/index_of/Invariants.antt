@@ -1,6 +1,6 @@
 use Rattle.std.proofs.Common.{◌≡◌, ◌<◌, drop}
 use Rattle.bpf_text.specs.insn.MnemonicHash.{hash_from}
-use Rattle.bpf_text.proofs.insn.mnemonic_hash.hash_of.Given as goal
+use Rattle.bpf_text.proofs.insn.mnemonic_hash.index_of.Given as goal
 
 abbrev pub invariant-loop-b : goal.invariant-loop-b
 invariant-loop-b l = record {
