@@ -12,4 +12,3 @@ pub(crate) mod read;
 pub(crate) mod read_operand;
 pub(crate) mod token;
 pub(crate) mod write;
-pub(crate) mod written_operand;

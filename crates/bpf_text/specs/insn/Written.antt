@@ -1,7 +1,7 @@
 -- The operands that the writer's values represent.
 use Rattle.std.specs.Prelude.{pos}
-use Rattle.bpf_text.specs.declared.insn.written_operand.WrittenOperand.{WrittenOperand as Written}
-use Rattle.bpf_text.specs.declared.insn.written_operand.WrittenOperand.TheVariants.{Register, Number, Unsigned, Signed, Memory}
+use Rattle.bpf_text.specs.declared.insn.write.WrittenOperand.{WrittenOperand as Written}
+use Rattle.bpf_text.specs.declared.insn.write.WrittenOperand.TheVariants.{Register, Number, Unsigned, Signed, Memory}
 use Rattle.bpf_text.specs.insn.Operands.{LineOperand, register, number, signed, memory}
 
 -- the operand that the writer writes

@@ -10,12 +10,22 @@ ghost use Rattle.bpf_text.specs.insn.Lines.{spaced, line_of, listing_of};
 ghost use Rattle.bpf_text.specs.insn.{Listing.Lists, Written.operand_written};
 
 use crate::insn::mnemonic::Mnemonic;
-use crate::insn::written_operand::WrittenOperand;
-use crate::insn::written_operand::WrittenOperand::{Memory, Number, Register, Signed, Unsigned};
+use crate::insn::write::WrittenOperand::{Memory, Number, Register, Signed, Unsigned};
 use bpf_insn::{Insn, Operand, Reg, WideOf};
 use itoa::write_digits;
 use std::alloc::{AllocError, Allocator};
 use std::marker::Model;
+
+/// An operand of a line. A `Number` is written with a sign only if it is negative, a `Signed`
+/// number always.
+#[derive(Clone, Copy)]
+enum WrittenOperand {
+    Register(Reg),
+    Number(i32),
+    Unsigned(u64),
+    Signed(i32),
+    Memory(Reg, i16),
+}
 
 /// The size of the buffer for a line, in bytes. A mnemonic has at most 14, the operands have at
 /// most 83 with their separators, and a newline follows.
