@@ -1,11 +1,10 @@
 -- A header that passes every test cuts the file.
-use Rattle.std.proofs.Common.{◌≡◌, ℕ, ◌+◌, ◌-◌, ◌<◌, ◌≤◌, List, [], ◌∷◌, ◌++◌, length, take, drop, replicate, refl, sym, ap, ◌∙◌, inl, inr, arith, Result, Ok, Err}
+use Rattle.std.proofs.Common.{◌≡◌, ℕ, ◌+◌, ◌-◌, ◌<◌, ◌≤◌, List, [], ◌∷◌, ◌++◌, length, take, drop, replicate, refl, sym, ap, ◌∙◌, inl, inr, arith}
 use Rattle.std.proofs.{lemmas.List.take_all, lemmas.List.get_or-drop, lemmas.List.length-drop, Math.Seq.drop-cons}
-use Rattle.std.specs.Prelude.{MatchResult}
-use Rattle.btf_raw.specs.{declared.cause.BtfFault.BtfFault, declared.header.Header.Header, Cause.HasNone}
+use Rattle.btf_raw.specs.declared.header.Header.{Header}
 use Rattle.bpf_words.specs.{declared.Order.Order, Words.IsBytes, Words.word16, Words.word32, Words.word32_at}
 use Rattle.bpf_words.proofs.WordLemmas.{word16-word16_at, word32-word32_at}
-use Rattle.btf_raw.specs.Header.{Cut, HeaderFault, part, header, TYPES_LIMIT, STRINGS_LIMIT}
+use Rattle.btf_raw.specs.Header.{Cut, part, header, TYPES_LIMIT, STRINGS_LIMIT}
 use Rattle.btf_raw.specs.ReadHeader.{LengthIsRight, SectionsAreRight, ReadsHeader}
 use Rattle.btf_raw.proofs.Parts.{front_more, length-part, zeros_are_part}
 
@@ -79,7 +78,3 @@ reads_header b h fits right = record {
   types_there = elim right.order_of_sections [ inl first ↦ omega arith | inr first ↦ omega arith ];
   strings_there = elim right.order_of_sections [ inl first ↦ omega arith | inr first ↦ omega arith ];
 }
-
-pub reads_or_not : (b : List ℕ) (Q : BtfFault → Type 0) (r : Result Header BtfFault) → IsBytes b → MatchResult r (λ h. SectionsAreRight b h × HasNone (HeaderFault b)) Q → MatchResult r (λ h. ReadsHeader b h × HasNone (HeaderFault b)) Q
-reads_or_not b Q (Ok h) fits right = (reads_header b h fits right.0, right.1)
-reads_or_not b Q (Err f) fits fault = fault

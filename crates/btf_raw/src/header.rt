@@ -108,13 +108,20 @@ fn start_of(bytes: &[u8]) -> Result<(Order, usize), BtfFault>
     Ok((order, len))
 }
 
-/// Checks the lengths and the offsets of the two sections.
-fn sections_of(order: Order, bytes: &[u8], header_len: usize) -> Result<Header, BtfFault>
-    requires { spec.LengthIsRight bytes.now order header_len }
+/// Reads the header of a file, and checks it against the entire file (btf.rst section 2).
+///
+/// Three rules are this project's own: the flags are 0; hdr_len is 24 to 4,096, with zeros after
+/// the first 24 bytes; and the two sections fill the rest of the file exactly, in either order.
+///
+/// # Errors
+///
+/// The first cause, from `ShortHeader` to `FileLength`, that applies, with its offset in the file.
+pub fn read_header(bytes: &[u8]) -> Result<Header, BtfFault>
     ensures { MatchResult result
-        (λ h. spec.SectionsAreRight bytes.now h × HasNone (HeaderFault bytes.now))
+        (λ h. spec.ReadsHeader bytes.now h × HasNone (HeaderFault bytes.now))
         (λ fault. LeastByCause (HeaderFault bytes.now) fault.pos fault.cause) }
 {
+    let (order, header_len) = start_of(bytes)?;
     let type_off = get32(order, bytes, 8) as usize;
     let types_len = get32(order, bytes, 12) as usize;
     let str_off = get32(order, bytes, 16) as usize;
@@ -139,21 +146,4 @@ fn sections_of(order: Order, bytes: &[u8], header_len: usize) -> Result<Header, 
         str_pos: header_len + str_off,
         str_len,
     })
-}
-
-/// Reads the header of a file, and checks it against the entire file (btf.rst section 2).
-///
-/// Three rules are this project's own: the flags are 0; hdr_len is 24 to 4,096, with zeros after
-/// the first 24 bytes; and the two sections fill the rest of the file exactly, in either order.
-///
-/// # Errors
-///
-/// The first cause, from `ShortHeader` to `FileLength`, that applies, with its offset in the file.
-pub fn read_header(bytes: &[u8]) -> Result<Header, BtfFault>
-    ensures { MatchResult result
-        (λ h. spec.ReadsHeader bytes.now h × HasNone (HeaderFault bytes.now))
-        (λ fault. LeastByCause (HeaderFault bytes.now) fault.pos fault.cause) }
-{
-    let (order, header_len) = start_of(bytes)?;
-    sections_of(order, bytes, header_len)
 }
