@@ -67,10 +67,7 @@ impl Clone for Groups {
     ghost is_infallible = { λ _. ⊤ };
 
     fn clone(&self) -> Result<Groups, AllocError> {
-        Ok(Groups {
-            set: self.set,
-            rest: self.rest,
-        })
+        Ok(Groups { ..*self })
     }
 }
 
@@ -79,10 +76,8 @@ impl GroupSet {
     pub fn iter(&self) -> Groups
         ensures { result ≡ groups_held self.now }
     {
-        Groups {
-            set: *self,
-            rest: &Group::ALL,
-        }
+        let rest = &Group::ALL;
+        Groups { set: *self, rest }
     }
 
     /// The number of groups in the set.
