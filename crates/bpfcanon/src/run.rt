@@ -8,8 +8,8 @@ use crate::commands::btf_show::put_btf_show;
 use crate::commands::input::read_input;
 use crate::commands::insn_show::put_insn_show;
 use crate::commands::one_file::{btf_check_reply, insn_groups_reply, insn_read_reply};
-use crate::commands::reply::put_reply;
-use crate::commands::two_files::{btf_same_reply, insn_same_reply};
+use crate::commands::reply::{put_reply, put_verdict};
+use crate::commands::two_files::{same_btf_files, same_insn_files};
 use crate::job::Job;
 use crate::outcome::Outcome;
 use crate::verb::Verb;
@@ -32,10 +32,10 @@ fn answer<A: Allocator + Copy, W: ByteSink>(
         Verb::InsnShow => put_insn_show(alloc, job, input, sink),
         Verb::InsnRead => put_reply(insn_read_reply(alloc, job.to, input), sink),
         Verb::InsnGroups => put_reply(insn_groups_reply(alloc, job.order, input), sink),
-        Verb::InsnSame => put_reply(insn_same_reply(alloc, job, input), sink),
+        Verb::InsnSame => put_verdict(same_insn_files(alloc, job, input), sink),
         Verb::BtfShow => put_btf_show(alloc, job, input, sink),
         Verb::BtfCheck => put_reply(btf_check_reply(alloc, input), sink),
-        Verb::BtfSame => put_reply(btf_same_reply(alloc, job.split, input), sink),
+        Verb::BtfSame => put_verdict(same_btf_files(alloc, job.split, input), sink),
         Verb::InsnCanon | Verb::BtfCanon => unreachable!(),
     }
 }

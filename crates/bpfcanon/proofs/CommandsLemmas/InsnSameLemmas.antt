@@ -1,19 +1,12 @@
 -- The reply of insn-same, by the result of the comparison.
 use Rattle.std.proofs.Common.{◌≡◌, ◌≤◌, ℕ, Bool, true, false, List, [], drop, length, take, refl}
-use Rattle.std.specs.{Prelude.IfOk, Prelude.Result, Prelude.Ok, Prelude.Err, declared.alloc.AllocError.AllocError}
 use Rattle.bpf_words.specs.declared.Order.{Order}
 use Rattle.bpf_insn.specs.declared.fault.SlotFault.{SlotFault}
 use Rattle.bpf_canon.specs.insn.Canonical.{Compares, NamesSide}
 use Rattle.bpf_canon.specs.declared.engine.SideError.TheVariants as side
-use Rattle.bpfcanon.specs.declared.{outcome.Outcome.Outcome, outcome.Outcome.TheVariants.Second, commands.reply.Reply.Reply}
+use Rattle.bpfcanon.specs.declared.outcome.Outcome.TheVariants.{Second}
 use Rattle.bpfcanon.specs.commands.Reply.{IsSameReply, different, same, second_at_fault}
 use Rattle.bpfcanon.specs.Outcome.{verdict_line, verdict_outcome}
-
--- a reply made from an outcome and its output
-pub reply_with : {A : Type 0} (P : Outcome → List ℕ → Type 0) (r : Result (Reply A) AllocError) (outcome : Outcome) (bytes : List ℕ)
-    → IfOk r (λ x. x.outcome ≡ outcome) → IfOk r (λ x. x.output.items ≡ bytes) → P outcome bytes → IfOk r (λ x. P x.outcome x.output.items)
-reply_with P (Ok x) outcome bytes e f p = rw (e, f) p
-reply_with P (Err x) outcome bytes e f p = tt
 
 -- the reply to two valid files
 pub compared : (limit : ℕ) (order other : Order) (split : ℕ) (input : List ℕ) → length input ≤ limit → split ≤ length input

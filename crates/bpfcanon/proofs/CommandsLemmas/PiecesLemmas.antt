@@ -1,12 +1,12 @@
 -- Output that is written in pieces.
-use Rattle.std.proofs.Common.{◌≡◌, ◌<◌, ◌+◌, ◌++◌, ◌∙◌, ℕ, List, [], Option, length, take, refl, sym, ap, subst, arith, append_assoc, length-append}
+use Rattle.std.proofs.Common.{◌≡◌, ◌<◌, ◌+◌, ◌++◌, ◌∙◌, ℕ, List, [], Option, inl, inr, length, take, refl, sym, ap, subst, arith, append_assoc, length-append}
 use Rattle.std.specs.{Prelude.Result, Prelude.Ok, Prelude.Err, Prelude.true, Result.IsErrAnd, Io.KnownBytes.Appends}
 use Rattle.std.proofs.{lemmas.List.append-nil, lemmas.List.take-append-le, KnownBytes.Appends-nil, KnownBytes.Appends-trans}
 use Rattle.std.proofs.Math.Seq.{take-append-add, take-append_seam}
-use Rattle.bpfcanon.specs.declared.{job.Job.Job, outcome.Outcome.TheVariants.Done}
+use Rattle.bpfcanon.specs.declared.{job.Job.Job, outcome.Outcome.Outcome, outcome.Outcome.TheVariants.Done}
 use Rattle.bpfcanon.specs.declared.commands.pieces.PutError.{PutError, TheVariants.WriteFailed, TheVariants.Memory}
 use Rattle.bpfcanon.specs.{Devices.Change, Devices.change, commands.Reply.IsReply, commands.Reply.in_pieces}
-use Rattle.bpfcanon.specs.commands.Pieces.{Answers, Gathered, Gathers, Stopped, TookText, answered, end_of_pieces, refused_amid, unwritten}
+use Rattle.bpfcanon.specs.commands.Pieces.{Answers, EndsEmpty, Gathered, Gathers, Stopped, TookText, answered, end_of_pieces, refused, refused_amid, unwritten}
 
 module _ (a b c : Option (List ℕ)) (f g h : ℕ) where
   -- more output, a part of which went to the sink
@@ -82,3 +82,9 @@ pub pieces_end : (j : Job) (input output : List ℕ) (sink : Change) (r : Result
 pieces_end j input output sink (Ok done) pieces reply put = answered Done output reply put.0 put.1
 pieces_end j input output sink (Err WriteFailed) pieces reply put = unwritten Done output reply put
 pieces_end j input output sink (Err Memory) pieces reply put = refused_amid Done output pieces reply put
+
+-- the job of a command ends without output
+pub empty_end : (j : Job) (input : List ℕ) (a : Option (List ℕ)) (f : ℕ) (outcome : Outcome) → EndsEmpty (IsReply j.verb j input) outcome
+    → Answers j input (change a a f f) outcome
+empty_end j input a f outcome (inl e) = rw e (refused (refl, refl))
+empty_end j input a f outcome (inr reply) = answered outcome [] reply (Appends-nil a) refl

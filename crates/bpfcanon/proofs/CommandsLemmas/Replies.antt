@@ -1,13 +1,22 @@
 -- What the searches cite of the replies of commands.
+use Rattle.std.proofs.Common.{◌≤◌, ℕ, List, inl, inr, length}
+use Rattle.bpf_words.specs.declared.Order.{Order}
+use Rattle.bpf_insn.specs.{declared.group.GroupSet.GroupSet, Groups.holds, Groups.AreGroupsOf}
+use Rattle.bpfcanon.specs.declared.outcome.Outcome.TheVariants.{Done}
 use Rattle.bpfcanon.specs.commands.Reply as insn
 use Rattle.bpfcanon.specs.commands.BtfReply as btf
 use Rattle.bpfcanon.proofs.CommandsLemmas.InsnSameLemmas as insn_same
 use Rattle.bpfcanon.proofs.CommandsLemmas.BtfSameLemmas as btf_same
 
-pub ruleset insn_replies = (insn.read_back, insn.unread, insn.ungrouped)
+-- the groups of a file, one per line
+pub groups_listed : (limit : ℕ) (order : Order) (input : List ℕ) (set : GroupSet) → length input ≤ limit → AreGroupsOf order input set
+    → insn.IsGroupsReply limit order input Done (insn.group_lines (holds set))
+groups_listed limit order input set within found = insn.grouped found.0 (holds set) within found.1 found.2
 
-pub ruleset btf_replies = (btf.checked, btf.unchecked)
+pub ruleset insn_replies = (inl, inr, insn.read_back, insn.unread, groups_listed, insn.ungrouped)
 
-pub ruleset insn_same_replies = (insn.split_beyond, insn.first_at_fault, insn_same.reply_with, insn_same.compared, insn_same.second_faulty)
+pub ruleset btf_replies = (inl, inr, btf.checked, btf.unchecked)
 
-pub ruleset btf_same_replies = (btf.split_beyond, btf.first_at_fault, insn_same.reply_with, btf_same.compared, btf_same.second_faulty)
+pub ruleset insn_same_replies = (inl, inr, insn.split_beyond, insn.first_at_fault, insn_same.compared, insn_same.second_faulty)
+
+pub ruleset btf_same_replies = (inl, inr, btf.split_beyond, btf.first_at_fault, btf_same.compared, btf_same.second_faulty)

@@ -1,10 +1,12 @@
 -- The reply to a complete input, with output that is written at once or in pieces. Only private contracts cite this.
-use Rattle.std.specs.Prelude.{◌≡◌, ◌<◌, ◌≤◌, ◌++◌, ℕ, List, Result, Ok, Err, true, length, take}
+use Rattle.std.specs.Prelude.{◌≡◌, ◌<◌, ◌≤◌, ◌++◌, ◌⊎◌, ℕ, Bool, List, [], Result, Ok, Err, MatchResult, true, length, take}
+use Rattle.std.specs.declared.vec.Vec.{Vec}
 use Rattle.std.specs.Io.KnownBytes.{Appends, Consumes, IsAtEnd}
 use Rattle.bpfcanon.specs.declared.{job.Job.Job, outcome.Outcome.Outcome}
 use Rattle.bpfcanon.specs.declared.outcome.Outcome.TheVariants as ends
 use Rattle.bpfcanon.specs.declared.commands.pieces.PutError.{PutError, TheVariants.WriteFailed, TheVariants.Memory}
 use Rattle.bpfcanon.specs.Devices.{Change, HasFailed, IsHealthy, IsUnused}
+use Rattle.bpfcanon.specs.Outcome.{verdict_line, verdict_outcome}
 use Rattle.bpfcanon.specs.commands.Reply.{IsReply, in_pieces, limit_of}
 
 -- the source was read to its end, and the input is all of its bytes
@@ -13,6 +15,18 @@ pub record IsInput (j : Job) (source : Change) (input : List ℕ) : Type 0 where
   pub ended : IsAtEnd source.new
   pub healthy : IsHealthy source
   pub within : length input ≤ limit_of j.verb
+
+-- the outcome of a command that ends without output: memory ran out, or the output is empty
+abbrev pub EndsEmpty : (Outcome → List ℕ → Type 0) → Outcome → Type 0
+EndsEmpty reply outcome = (outcome ≡ ends.Memory) ⊎ reply outcome []
+
+-- the output of a command that has found no fault, or the outcome of one that ends without output
+abbrev pub IsOutput : {A : Type 0} → (Outcome → List ℕ → Type 0) → Result (Vec ℕ A) Outcome → Type 0
+IsOutput reply result = MatchResult result (λ output. reply ends.Done output.items) (EndsEmpty reply)
+
+-- whether two valid files are the same, or the outcome of a command that ends without output
+abbrev pub IsVerdict : (Outcome → List ℕ → Type 0) → Result Bool Outcome → Type 0
+IsVerdict reply result = MatchResult result (λ same. reply (verdict_outcome same) (verdict_line same)) (EndsEmpty reply)
 
 -- the bytes that the sink received, followed by the held piece, are the output
 pub record Gathered (sink : Change) (held text : List ℕ) : Type 0 where

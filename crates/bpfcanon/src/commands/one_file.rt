@@ -3,10 +3,10 @@
 ghost use Rattle.std.specs.Prelude.{◌≡◌, ◌≤◌, length, IfOk};
 ghost use Rattle.bpf_insn.specs.Groups.{holds};
 ghost use Rattle.bpfcanon.specs.declared.verb.Verb.TheVariants.{BtfCheck, InsnGroups, InsnRead};
-ghost use Rattle.bpfcanon.specs.commands.BtfReply.{IsBtfCheckReply, count_line};
+ghost use Rattle.bpfcanon.specs.commands.{BtfReply.IsBtfCheckReply, BtfReply.count_line};
+ghost use Rattle.bpfcanon.specs.commands.Pieces.{IsOutput};
 ghost use Rattle.bpfcanon.specs.commands.Reply.{IsGroupsReply, IsReadReply, group_lines, limit_of};
 
-use crate::commands::reply::Reply;
 use crate::outcome::Outcome;
 use bpf_insn::{Group, GroupSet, Order, groups_in};
 use bpf_text::{ListError, read_listing_bytes};
@@ -16,22 +16,18 @@ use std::alloc::{AllocError, Allocator};
 
 /// The reply of `insn-read`: the instructions of a listing, encoded in the byte order `to`.
 #[tactic(auto, using(crate::proofs::CommandsLemmas::Replies::insn_replies))]
-pub fn insn_read_reply<A: Allocator + Copy>(
+pub fn insn_read_reply<A: Allocator>(
     alloc: A,
     to: Order,
     input: &[u8],
-) -> Result<Reply<A>, AllocError>
+) -> Result<Vec<u8, A>, Outcome>
     requires { length input.now ≤ limit_of InsnRead }
-    ensures { IfOk result (λ r.
-        IsReadReply (limit_of InsnRead) to input.now r.outcome r.output.items) }
+    ensures { IsOutput (IsReadReply (limit_of InsnRead) to input.now) result }
 {
     match read_listing_bytes(alloc, to, input) {
-        Ok(output) => Ok(Reply {
-            outcome: Outcome::Done,
-            output,
-        }),
-        Err(ListError::Fault(fault)) => Ok(Reply::bare(alloc, Outcome::FaultyLine(fault))),
-        Err(ListError::Memory) => Err(AllocError),
+        Ok(bytes) => Ok(bytes),
+        Err(ListError::Fault(fault)) => Err(Outcome::FaultyLine(fault)),
+        Err(ListError::Memory) => Err(Outcome::Memory),
     }
 }
 
@@ -51,21 +47,20 @@ fn group_lines<A: Allocator>(alloc: A, set: GroupSet) -> Result<Vec<u8, A>, Allo
 
 /// The reply of `insn-groups`.
 #[tactic(auto, using(crate::proofs::CommandsLemmas::Replies::insn_replies))]
-pub fn insn_groups_reply<A: Allocator + Copy>(
+pub fn insn_groups_reply<A: Allocator>(
     alloc: A,
     order: Order,
     input: &[u8],
-) -> Result<Reply<A>, AllocError>
+) -> Result<Vec<u8, A>, Outcome>
     requires { length input.now ≤ limit_of InsnGroups }
-    ensures { IfOk result (λ r.
-        IsGroupsReply (limit_of InsnGroups) order input.now r.outcome r.output.items) }
+    ensures { IsOutput (IsGroupsReply (limit_of InsnGroups) order input.now) result }
 {
     match groups_in(order, input) {
-        Ok(groups) => Ok(Reply {
-            outcome: Outcome::Done,
-            output: group_lines(alloc, groups)?,
-        }),
-        Err(fault) => Ok(Reply::bare(alloc, Outcome::Fault(fault))),
+        Ok(groups) => match group_lines(alloc, groups) {
+            Ok(lines) => Ok(lines),
+            Err(AllocError) => Err(Outcome::Memory),
+        },
+        Err(fault) => Err(Outcome::Fault(fault)),
     }
 }
 
@@ -82,17 +77,16 @@ fn count_line<A: Allocator>(alloc: A, count: u32) -> Result<Vec<u8, A>, AllocErr
 
 /// The reply of `btf-check`. `void` is not counted.
 #[tactic(auto, using(crate::proofs::CommandsLemmas::Replies::btf_replies))]
-pub fn btf_check_reply<A: Allocator + Copy>(alloc: A, input: &[u8]) -> Result<Reply<A>, AllocError>
+pub fn btf_check_reply<A: Allocator + Copy>(alloc: A, input: &[u8]) -> Result<Vec<u8, A>, Outcome>
     requires { length input.now ≤ limit_of BtfCheck }
-    ensures { IfOk result (λ r.
-        IsBtfCheckReply (limit_of BtfCheck) input.now r.outcome r.output.items) }
+    ensures { IsOutput (IsBtfCheckReply (limit_of BtfCheck) input.now) result }
 {
     match BtfView::parse(alloc, input) {
-        Ok(table) => Ok(Reply {
-            outcome: Outcome::Done,
-            output: count_line(alloc, table.count())?,
-        }),
-        Err(BtfError::Fault(fault)) => Ok(Reply::bare(alloc, Outcome::BtfFault(fault))),
-        Err(BtfError::Memory) => Err(AllocError),
+        Ok(table) => match count_line(alloc, table.count()) {
+            Ok(line) => Ok(line),
+            Err(AllocError) => Err(Outcome::Memory),
+        },
+        Err(BtfError::Fault(fault)) => Err(Outcome::BtfFault(fault)),
+        Err(BtfError::Memory) => Err(Outcome::Memory),
     }
 }

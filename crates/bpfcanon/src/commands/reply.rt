@@ -1,63 +1,50 @@
 //! Replies: output that is completed in memory before it is written.
 
-ghost use Rattle.std.specs.Prelude.{◌≡◌, ◌<◌, ℕ, List, [], IfOk};
+ghost use Rattle.std.specs.Prelude.{◌<◌, ℕ, List};
 ghost use Rattle.bpfcanon.specs.{declared.job.Job.Job, Devices.sink_change};
-ghost use Rattle.bpfcanon.specs.commands.{Pieces.Answers, Reply.IsReply};
-ghost use Rattle.bpfcanon.specs.{Outcome.verdict_line, Outcome.verdict_outcome};
+ghost use Rattle.bpfcanon.specs.commands.Pieces.{Answers, IsOutput, IsVerdict};
+ghost use Rattle.bpfcanon.specs.commands.Reply.{IsReply};
 
 use crate::outcome::Outcome;
 use bpf_canon::{ByteSink, put_all};
-use std::alloc::{AllocError, Allocator};
+use std::alloc::Allocator;
 
-/// How a command ends, and its output.
-#[derive(Drop)]
-pub struct Reply<A: Allocator> {
-    /// How the command ends.
-    pub outcome: Outcome,
-    /// The bytes for the output sink.
-    pub output: Vec<u8, A>,
-}
-
-impl<A: Allocator> Reply<A> {
-    /// A reply without output.
-    pub fn bare(alloc: A, outcome: Outcome) -> Reply<A>
-        ensures outcome { result.outcome ≡ outcome }
-        ensures output { result.output.items ≡ [] }
-    {
-        let output = Vec::new(alloc);
-        Reply { outcome, output }
-    }
-
-    /// The reply to two valid files, `same` or `different`. `AllocError` if memory runs out.
-    pub fn of_comparison(alloc: A, same: bool) -> Result<Reply<A>, AllocError>
-        ensures outcome { IfOk result (λ r. r.outcome ≡ verdict_outcome same) }
-        ensures output { IfOk result (λ r. r.output.items ≡ verdict_line same) }
-    {
-        let (outcome, line) = if same {
-            (Outcome::Done, "same\n")
-        } else {
-            (Outcome::Different, "different\n")
-        };
-        let output = Vec::from_slice(alloc, line.as_bytes())?;
-        Ok(Reply { outcome, output })
+/// Writes an output. The outcome is `outcome`, unless a write fails.
+fn put_output<W: ByteSink>(sink: &mut W, output: &[u8], outcome: Outcome) -> Outcome
+    requires { W.failures sink.old < u64.MAX }
+    ensures { (job : Job) (input : List ℕ) → IsReply job.verb job input outcome output.now
+        → Answers job input (sink_change W.ByteSink sink.old sink.new) result }
+{
+    match put_all(sink, output) {
+        Ok(()) => outcome,
+        Err(_) => Outcome::WriteFailed,
     }
 }
 
-/// Writes the output of a reply. If memory ran out while the reply was made, nothing is written.
+/// Writes the output of a command, or nothing if the command ends without output.
 pub fn put_reply<A: Allocator, W: ByteSink>(
-    reply: Result<Reply<A>, AllocError>,
+    reply: Result<Vec<u8, A>, Outcome>,
     sink: &mut W,
 ) -> Outcome
     requires { W.failures sink.old < u64.MAX }
-    ensures { (job : Job) (input : List ℕ)
-        → IfOk reply (λ r. IsReply job.verb job input r.outcome r.output.items)
+    ensures { (job : Job) (input : List ℕ) → IsOutput (IsReply job.verb job input) reply
         → Answers job input (sink_change W.ByteSink sink.old sink.new) result }
 {
     match reply {
-        Ok(reply) => match put_all(sink, reply.output.as_slice()) {
-            Ok(()) => reply.outcome,
-            Err(_) => Outcome::WriteFailed,
-        },
-        Err(AllocError) => Outcome::Memory,
+        Ok(output) => put_output(sink, output.as_slice(), Outcome::Done),
+        Err(outcome) => outcome,
+    }
+}
+
+/// Writes `same` or `different`, if two files are valid.
+pub fn put_verdict<W: ByteSink>(same: Result<bool, Outcome>, sink: &mut W) -> Outcome
+    requires { W.failures sink.old < u64.MAX }
+    ensures { (job : Job) (input : List ℕ) → IsVerdict (IsReply job.verb job input) same
+        → Answers job input (sink_change W.ByteSink sink.old sink.new) result }
+{
+    match same {
+        Ok(true) => put_output(sink, b"same\n", Outcome::Done),
+        Ok(false) => put_output(sink, b"different\n", Outcome::Different),
+        Err(outcome) => outcome,
     }
 }

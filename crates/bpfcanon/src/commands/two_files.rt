@@ -1,15 +1,14 @@
 //! `insn-same` and `btf-same`: whether two files have the same instructions or types.
 
-ghost use Rattle.std.specs.Prelude.{◌≡◌, ◌<◌, ◌≤◌, drop, length, take, IfOk, IfSome, IsNone};
+ghost use Rattle.std.specs.Prelude.{◌≡◌, ◌<◌, ◌≤◌, drop, length, take, IfSome, IsNone};
 ghost use Rattle.bpfcanon.specs.declared.verb.Verb.TheVariants.{BtfSame, InsnSame};
-ghost use Rattle.bpfcanon.specs.commands.{BtfReply.IsBtfSameReply, Reply.IsSameReply};
-ghost use Rattle.bpfcanon.specs.commands.Reply.{limit_of};
+ghost use Rattle.bpfcanon.specs.commands.{BtfReply.IsBtfSameReply, Pieces.IsVerdict};
+ghost use Rattle.bpfcanon.specs.commands.Reply.{IsSameReply, limit_of};
 
-use crate::commands::reply::Reply;
 use crate::job::Job;
 use crate::outcome::Outcome;
 use bpf_canon::{SideError, same_btf, same_insns};
-use std::alloc::{AllocError, Allocator};
+use std::alloc::Allocator;
 
 /// Splits an input after its first `split` bytes. `None` if the input is shorter.
 fn two_files(input: &[u8], split: u64) -> Option<(&[u8], &[u8])>
@@ -20,47 +19,41 @@ fn two_files(input: &[u8], split: u64) -> Option<(&[u8], &[u8])>
     input.split_at_checked(split as usize)
 }
 
-/// The reply of `insn-same`. The byte orders of the two files are independent.
+/// The answer of `insn-same`. The byte orders of the two files are independent.
 #[tactic(auto, using(crate::proofs::CommandsLemmas::Replies::insn_same_replies))]
-pub fn insn_same_reply<A: Allocator + Copy>(
+pub fn same_insn_files<A: Allocator + Copy>(
     alloc: A,
     job: Job,
     input: &[u8],
-) -> Result<Reply<A>, AllocError>
+) -> Result<bool, Outcome>
     requires { length input.now ≤ limit_of InsnSame }
-    ensures { IfOk result (λ r.
-        IsSameReply (limit_of InsnSame) job.order job.other job.split input.now r.outcome
-        r.output.items) }
+    ensures { IsVerdict
+        (IsSameReply (limit_of InsnSame) job.order job.other job.split input.now) result }
 {
-    let Some((first, second)) = two_files(input, job.split) else {
-        return Ok(Reply::bare(alloc, Outcome::SplitBeyond));
-    };
+    let (first, second) = two_files(input, job.split).ok_or(Outcome::SplitBeyond)?;
     match same_insns(alloc, job.order, first, job.other, second) {
-        Ok(same) => Reply::of_comparison(alloc, same),
-        Err(SideError::First(fault)) => Ok(Reply::bare(alloc, Outcome::First(fault))),
-        Err(SideError::Second(fault)) => Ok(Reply::bare(alloc, Outcome::Second(fault))),
-        Err(SideError::Memory) => Err(AllocError),
+        Ok(same) => Ok(same),
+        Err(SideError::First(fault)) => Err(Outcome::First(fault)),
+        Err(SideError::Second(fault)) => Err(Outcome::Second(fault)),
+        Err(SideError::Memory) => Err(Outcome::Memory),
     }
 }
 
-/// The reply of `btf-same`. The magic in each header shows the byte order of the file.
+/// The answer of `btf-same`. The magic in each header shows the byte order of the file.
 #[tactic(auto, using(crate::proofs::CommandsLemmas::Replies::btf_same_replies))]
-pub fn btf_same_reply<A: Allocator + Copy>(
+pub fn same_btf_files<A: Allocator + Copy>(
     alloc: A,
     split: u64,
     input: &[u8],
-) -> Result<Reply<A>, AllocError>
+) -> Result<bool, Outcome>
     requires { length input.now ≤ limit_of BtfSame }
-    ensures { IfOk result (λ r.
-        IsBtfSameReply (limit_of BtfSame) split input.now r.outcome r.output.items) }
+    ensures { IsVerdict (IsBtfSameReply (limit_of BtfSame) split input.now) result }
 {
-    let Some((first, second)) = two_files(input, split) else {
-        return Ok(Reply::bare(alloc, Outcome::SplitBeyond));
-    };
+    let (first, second) = two_files(input, split).ok_or(Outcome::SplitBeyond)?;
     match same_btf(alloc, first, second) {
-        Ok(same) => Reply::of_comparison(alloc, same),
-        Err(SideError::First(fault)) => Ok(Reply::bare(alloc, Outcome::FirstBtf(fault))),
-        Err(SideError::Second(fault)) => Ok(Reply::bare(alloc, Outcome::SecondBtf(fault))),
-        Err(SideError::Memory) => Err(AllocError),
+        Ok(same) => Ok(same),
+        Err(SideError::First(fault)) => Err(Outcome::FirstBtf(fault)),
+        Err(SideError::Second(fault)) => Err(Outcome::SecondBtf(fault)),
+        Err(SideError::Memory) => Err(Outcome::Memory),
     }
 }
