@@ -29,38 +29,19 @@ impl OrderNames<'static> {
     }
 }
 
-/// An option for a byte order, by default `little`.
-fn order_arg<'a>(alloc: Global, name: &'a str, orders: OrderNames<'a>) -> Arg<'a>
-    ensures rule { rule_of result ≡ spec.order_option orders.entry.words name.entry.now }
-    ensures local { result.global ≡ false }
-{
-    Arg::new(alloc, name)
-        .long(name)
-        .value_parser(orders.words)
-        .default_value("little")
-}
-
-/// The option `--split`: the length of the first file in bytes. It is required, and at most the
-/// length of the longest input.
-fn split_arg<'a>(alloc: Global) -> Arg<'a>
-    ensures rule { rule_of result ≡ spec.split_option }
-    ensures local { result.global ≡ false }
-{
-    Arg::new(alloc, "split")
-        .long("split")
-        .value_parser(value_parser!(u64).range(0..=Verb::InsnSame.limit() as i64))
-        .required(true)
-}
-
-/// The definition of an option for clap.
+/// The definition of an option for clap. A byte order is `little` by default. `--split` is required,
+/// and at most the length of the longest input.
 fn setting_arg<'a>(alloc: Global, setting: Setting, orders: OrderNames<'a>) -> Arg<'a>
     ensures rule { rule_of result ≡ spec.option_of orders.entry.words setting }
     ensures local { result.global ≡ false }
 {
-    if setting == Setting::Split {
-        return split_arg(alloc);
+    let arg = Arg::new(alloc, setting.name()).long(setting.name());
+    match setting {
+        Setting::Split => arg
+            .value_parser(value_parser!(u64).range(0..=Verb::InsnSame.limit() as i64))
+            .required(true),
+        _ => arg.value_parser(orders.words).default_value("little"),
     }
-    order_arg(alloc, setting.name(), orders)
 }
 
 /// The clap command of a verb, with its options.
