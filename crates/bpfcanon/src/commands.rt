@@ -1,7 +1,6 @@
 //! The commands, and the code that they share.
 
 pub(crate) mod btf_show;
-pub(crate) mod input;
 pub(crate) mod insn_show;
 pub(crate) mod one_file;
 pub(crate) mod pieces;

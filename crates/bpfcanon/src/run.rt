@@ -1,11 +1,11 @@
 //! Runs a job from a source to a sink.
 
-ghost use Rattle.std.specs.Prelude.{◌≡◌, ◌<◌, ◌≤◌, length, false};
-ghost use Rattle.bpfcanon.specs.{Devices.sink_change, Devices.source_change, JobEnds.EndsJob};
-ghost use Rattle.bpfcanon.specs.commands.{Pieces.Answers, Reply.has_engine, Reply.limit_of};
+ghost use Rattle.std.specs.Prelude.{◌≡◌, ◌<◌, ◌≤◌, length, false, IfErr, IfOk};
+ghost use Rattle.bpfcanon.specs.Devices.{Change, IsUnused, sink_change, source_change};
+ghost use Rattle.bpfcanon.specs.{JobEnds.EndsJob, commands.Pieces.Answers, commands.Pieces.IsInput};
+ghost use Rattle.bpfcanon.specs.commands.Reply.{has_engine, limit_of};
 
 use crate::commands::btf_show::put_btf_show;
-use crate::commands::input::read_input;
 use crate::commands::insn_show::put_insn_show;
 use crate::commands::one_file::{btf_check_reply, insn_groups_reply, insn_read_reply};
 use crate::commands::reply::{put_reply, put_verdict};
@@ -13,8 +13,34 @@ use crate::commands::two_files::{same_btf_files, same_insn_files};
 use crate::job::Job;
 use crate::outcome::Outcome;
 use crate::verb::Verb;
-use bpf_canon::{ByteSink, ByteSource, run_btf, run_insns};
+use bpf_canon::{ByteSink, ByteSource, ReadError, read_all, run_btf, run_insns};
 use std::alloc::Allocator;
+
+/// Reads the complete input of a command that has no engine.
+///
+/// # Errors
+///
+/// `TooLong` if the input is longer than the limit of the command, `ReadFailed` if a read fails,
+/// and `Memory` if memory runs out. The job then ends before anything is written.
+fn read_input<A: Allocator, S: ByteSource>(
+    alloc: A,
+    job: Job,
+    source: &mut S,
+) -> Result<Vec<u8, A>, Outcome>
+    requires whole { has_engine job.verb ≡ false }
+    requires source { S.failures source.old < u64.MAX }
+    ensures input { IfOk result (λ input.
+        IsInput job (source_change S.ByteSource source.old source.new) input.items) }
+    ensures stopped { IfErr result (λ outcome. (sink : Change) → IsUnused sink
+        → EndsJob job (source_change S.ByteSource source.old source.new) sink outcome) }
+{
+    match read_all(alloc, source, job.verb.limit()) {
+        Ok(input) => Ok(input),
+        Err(ReadError::TooLong) => Err(Outcome::TooLong),
+        Err(ReadError::ReadFailed) => Err(Outcome::ReadFailed),
+        Err(ReadError::Memory) => Err(Outcome::Memory),
+    }
+}
 
 /// Writes the reply to a complete input.
 fn answer<A: Allocator + Copy, W: ByteSink>(

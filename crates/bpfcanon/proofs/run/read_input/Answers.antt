@@ -1,7 +1,7 @@
 use Rattle.std.proofs.Common.{◌∙◌, add-zero, arith}
 use Rattle.bpfcanon.specs.JobEnds.{no_memory, read_failed}
 use Rattle.bpfcanon.proofs.JobLemmas.{ends_too_long, whole_input}
-use Rattle.bpfcanon.proofs.commands.input.read_input.Goals as goal
+use Rattle.bpfcanon.proofs.run.read_input.Goals as goal
 
 pub returns-in-Err-TooLong-clause-stopped : goal.returns-in-Err-TooLong-clause-stopped
 returns-in-Err-TooLong-clause-stopped g c = grind (arith, ends_too_long)
