@@ -78,13 +78,10 @@ pub fn third_fault(section: &Section, kind: u8, third: u32, vlen: u16) -> Option
     if !has_target(kind) {
         return None;
     }
-    if third > section.count() {
-        return Some(BtfCause::Reference);
-    }
-    (!named_kind_fits(section, kind, third)).then_some(BtfCause::TargetKind)
+    named_type_fault(section, kind, third)
 }
 
-/// Checks a type ID in any other field of the record.
+/// Checks a type ID: whether the type exists, and whether the record may refer to it.
 #[inline(always)]
 pub fn named_type_fault(section: &Section, kind: u8, target: u32) -> Option<BtfCause>
     ensures { spec.IsLeastOf (faults.NamedTypeFault (facts_in section.now) kind target) result }
