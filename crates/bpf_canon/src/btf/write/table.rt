@@ -1,6 +1,6 @@
 //! Canonical bytes of a type table (btf.rst section 2).
-ghost use Rattle.std.specs.Prelude.{◌≡◌, ◌<◌, ◌≤◌, ◌^◌, ◌++◌, IfOk, OnOk, length, map};
-ghost use Rattle.btf_raw.specs.Frames.{bytes_of, section_of};
+ghost use Rattle.std.specs.Prelude.{◌≡◌, ◌<◌, ◌≤◌, ◌^◌, ◌++◌, IfOk, OnOk, length};
+ghost use Rattle.btf_raw.specs.Frames.{bytes_of};
 ghost use Rattle.btf_types.specs.Values.{head_value, item_value};
 ghost use Rattle.btf_types.specs.{Names.kept, strings.SharedNames.shared_among, Spelling.head_tail};
 ghost use Rattle.btf_types.specs.{Good.IsGood, Denotes.Denotes, tables.TableWords.record_at};
