@@ -28,7 +28,7 @@ pub fn first_fault(order: Order, bytes: &[u8]) -> Option<SlotFault>
 }
 
 /// Reads the complete instructions at the start of `bytes`, and appends each in the byte order
-/// `to`.
+/// `to`. Their capacity is reserved.
 #[tactic(auto, using(crate::proofs::InsnLemmas::ReadingLemmas::front_recoded))]
 pub(crate) fn read_front<A: Allocator>(
     order: Order,
@@ -42,29 +42,17 @@ pub(crate) fn read_front<A: Allocator>(
     ensures capacity { vec_capacity out.old ≤ vec_capacity out.new }
 {
     let read = insn_front(order, bytes);
-    append_recoded(order, to, &bytes[..read.len], out);
+    let start = out.len();
+    // All slots are copied at once, and then rewritten in place.
+    let _ = out.extend_from_slice(&bytes[..read.len]);
+    if order != to {
+        swap_slots(&mut out[start..]);
+    }
     read
 }
 
 /// The low byte of each halfword except the lowest one.
 const LOW_BYTES: u64 = 0x00ff_00ff_00ff_0000;
-
-/// Appends the instructions of valid `bytes` in the byte order `order`, re-encoded in the byte
-/// order `to`. Their capacity is reserved. All slots are copied at once, and then rewritten in
-/// place.
-fn append_recoded<A: Allocator>(order: Order, to: Order, bytes: &[u8], out: &mut Vec<u8, A>)
-    requires { vec_len out.old + length bytes.now ≤ vec_capacity out.old }
-    ensures items { (insns : List Insn) → InsnFile order bytes.now insns
-        → out.new.items ≡ out.old.items ++ file_of to insns }
-    ensures len { vec_len out.new ≡ vec_len out.old + length bytes.now }
-    ensures capacity { vec_capacity out.old ≤ vec_capacity out.new }
-{
-    let start = out.len();
-    let _ = out.extend_from_slice(bytes);
-    if order != to {
-        swap_slots(&mut out[start..]);
-    }
-}
 
 /// Rewrites each slot in the other byte order.
 fn swap_slots(bytes: &mut [u8])
