@@ -1,33 +1,14 @@
 //! The listing of a table of BTF types.
 
-ghost use Rattle.std.specs.Prelude.{◌≡◌, ◌<◌, ◌≤◌, ◌++◌, length, IfOk};
-ghost use Rattle.std.specs.List.{flat_map};
+ghost use Rattle.std.specs.Prelude.{◌≡◌, ◌<◌, ◌≤◌, length, IfOk};
 ghost use Rattle.btf_types.specs.tables.TableWords.{record_at};
-ghost use Rattle.bpf_text.specs.btf.BtfText.{is_signed, item_line, record_text, text_of};
+ghost use Rattle.bpf_text.specs.btf.BtfText.{record_text, text_of};
 ghost use Rattle.bpf_text.specs.btf.Appending.{Appends};
 
 use crate::btf::head_lines::{append_head, is_signed};
 use crate::btf::item_lines::append_item;
 use btf_types::TypeTable;
 use std::alloc::{AllocError, Allocator};
-
-/// Appends the lines of a type's items.
-fn append_items<T: TypeTable, A: Allocator>(
-    text: &mut Vec<u8, A>,
-    table: &T,
-    id: u32,
-    signed: bool,
-) -> Result<(), AllocError>
-    requires first { 0 < id }
-    requires last { id ≤ length (T.meaning table.now) }
-    ensures { Appends result text.old
-        (flat_map (item_line signed) (record_at (T.meaning table.now) id).items) text.new }
-{
-    for k in 0..table.item_count(id) {
-        append_item(text, table.item(id, k), signed)?;
-    }
-    Ok(())
-}
 
 /// Appends the line of a type and those of its items.
 fn append_record<T: TypeTable, A: Allocator>(
@@ -41,8 +22,12 @@ fn append_record<T: TypeTable, A: Allocator>(
         (record_text id (record_at (T.meaning table.now) id)) text.new }
 {
     let head = table.head(id);
+    let signed = is_signed(head);
     append_head(text, id, head, table.item_count(id))?;
-    append_items(text, table, id, is_signed(head))
+    for k in 0..table.item_count(id) {
+        append_item(text, table.item(id, k), signed)?;
+    }
+    Ok(())
 }
 
 /// The listing of a table of types (docs/FORMATS.md, "Type listings"): a line for each type, which
