@@ -1,9 +1,15 @@
 -- Names that are appended by runs of unescaped bytes.
-use Rattle.std.proofs.Common.{◌≡◌, ℕ, suc, ◌+◌, ◌-◌, ◌<◌, ◌≤◌, List, [], ◌∷◌, ◌++◌, length, take, drop, get_or, sym, ap, ◌∙◌, arith, append_assoc, append-nil, length-take}
+use Rattle.std.proofs.Common.{◌≡◌, ℕ, suc, ◌+◌, ◌-◌, ◌<◌, ◌≤◌, List, [], ◌∷◌, ◌++◌, length, take, drop, get_or, Bool, false, refl, sym, ap, ◌∙◌, arith, append_assoc, append-nil, length-take}
 use Rattle.std.specs.List.{flat_map}
 use Rattle.std.proofs.{lemmas.List.drop-append-le, lemmas.List.drop-take, lemmas.List.drop_all, Math.Seq.take-suc}
-use Rattle.bpf_text.specs.btf.BtfText.{quoted_byte}
+use Rattle.bpf_text.specs.btf.BtfText.{needs_backslash, is_control, quoted_byte}
 use Rattle.bpf_text.proofs.BtfLemmas.AppendingLemmas.{one_more}
+
+-- what the tests of a byte say if both are false
+pub plain_byte : (b : ℕ) (r t : Bool) → r ≡ needs_backslash b → r ≡ false → t ≡ is_control b → t ≡ false → quoted_byte b ≡ b ∷ []
+plain_byte b r t e f g h =
+    let first : needs_backslash b ≡ false = sym e ∙ f in
+    let second : is_control b ≡ false = sym g ∙ h in rw (first, second) refl
 
 -- an unescaped byte makes the run longer
 pub run_longer : (base text bytes : List ℕ) (start at : ℕ) → start ≤ at → at < length bytes → quoted_byte (get_or bytes at 0) ≡ get_or bytes at 0 ∷ []

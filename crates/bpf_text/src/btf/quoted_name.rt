@@ -1,6 +1,6 @@
 //! Names in quotes. Quotes, backslashes and control characters in them are escaped.
 
-ghost use Rattle.std.specs.Prelude.{◌≡◌, ◌∷◌, [], ◌<◌, true};
+ghost use Rattle.std.specs.Prelude.{◌≡◌, ◌<◌};
 ghost use Rattle.std.specs.{Char.digit_char, List.flat_map};
 ghost use Rattle.bpf_text.specs.btf.Appending.{Appends};
 ghost use Rattle.bpf_text.specs.btf.BtfText as spec;
@@ -30,13 +30,6 @@ fn hex_digit(number: u8) -> u8
     ensures { result ≡ digit_char number }
 {
     HEX_DIGITS[usize::from(number)]
-}
-
-/// Whether a byte is written as it is between the quotes.
-fn is_unescaped(byte: u8) -> bool
-    ensures { result ≡ true → spec.quoted_byte byte ≡ byte ∷ [] }
-{
-    !needs_backslash(byte) && !is_control(byte)
 }
 
 /// Appends a byte of a name, escaped if necessary.
@@ -69,7 +62,7 @@ pub fn append_quoted_part<A: Allocator>(
     // A run of unescaped bytes is appended at once. The current run begins here.
     let mut start = 0;
     for (at, byte) in part.iter().enumerate() {
-        if !is_unescaped(*byte) {
+        if needs_backslash(*byte) || is_control(*byte) {
             text.extend_from_slice(&part[start..at])?;
             append_byte(text, *byte)?;
             start = at + 1;

@@ -1,23 +1,23 @@
 use Rattle.std.proofs.{Common.arith, Common.refl, Common.rules, lemmas.Grind.common_steps}
-use Rattle.bpf_text.proofs.BtfLemmas.QuotedNameLemmas.{run_ended, run_longer}
+use Rattle.bpf_text.proofs.BtfLemmas.QuotedNameLemmas.{plain_byte, run_ended, run_longer}
 use Rattle.bpf_text.proofs.BtfLemmas.AppendingLemmas.{appends, kept_extended, kept_more}
 use Rattle.bpf_text.proofs.btf.quoted_name.append_quoted_part.Goals as goal
-use Rattle.bpf_text.proofs.btf.quoted_name.append_quoted_part.Goals.{then-not-is_unescaped+in_ok-extend_from_slice+in_ok-append_byte, else-not-is_unescaped}
+use Rattle.bpf_text.proofs.btf.quoted_name.append_quoted_part.Goals.{then-needs_backslash+in_ok-extend_from_slice+in_ok-append_byte, else-needs_backslash+else-is_control}
 
 pub loop-at-preserved : goal.loop-at-preserved
 loop-at-preserved g c =
     let base = c.args.text.now.items in
     let bytes = c.args.part.now in
     let before = c.loop-at.invariant in
-    elim c.if-not-is_unescaped.branch [
-      | then-not-is_unescaped+in_ok-extend_from_slice+in_ok-append_byte w ↦ rw (w.text-is, w.start-is) (record {
+    elim c.if-needs_backslash.branch [
+      | then-needs_backslash+in_ok-extend_from_slice+in_ok-append_byte w ↦ rw (w.text-is, w.start-is) (record {
         within = omega arith;
         written = run_ended base c.loop-at.text.items _ _ _ bytes c.loop-at.start c.loop-at.at before.within c.loop-at-test.true before.written refl w.in_ok-extend_from_slice.ensures.items w.in_ok-append_byte.ensures;
         kept = kept_more base _ _ _ (kept_more base c.loop-at.text.items _ _ before.kept w.in_ok-extend_from_slice.ensures.items) w.in_ok-append_byte.ensures;
       })
-      | else-not-is_unescaped w ↦ rw (w.text-is, w.start-is) (record {
+      | else-needs_backslash+else-is_control w ↦ rw (w.text-is, w.start-is) (record {
         within = omega (arith, before.within);
-        written = run_longer base c.loop-at.text.items bytes c.loop-at.start c.loop-at.at before.within c.loop-at-test.true (c.is_unescaped.ensures w.if-not-is_unescaped.false) before.written;
+        written = run_longer base c.loop-at.text.items bytes c.loop-at.start c.loop-at.at before.within c.loop-at-test.true (plain_byte _ _ _ c.needs_backslash.ensures w.if-needs_backslash.false w.is_control.ensures w.if-is_control.false) before.written;
         kept = before.kept;
       })
     ]
