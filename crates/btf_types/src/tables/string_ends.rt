@@ -5,7 +5,7 @@
 //! stored, since any number of names may be suffixes of one long string; otherwise each of them
 //! would cost a search in proportion to its length.
 
-ghost use Rattle.std.specs.Prelude.{◌≡◌, ◌≢◌, ◌<◌, ◌^◌, ◌≤◌, ◌+◌, ◌++◌, ℕ, nat_lt, MatchOption};
+ghost use Rattle.std.specs.Prelude.{◌≡◌, ◌≢◌, ◌<◌, ◌^◌, ◌≤◌, ◌+◌, ℕ, MatchOption};
 ghost use Rattle.std.specs.Prelude.{OnOk, length, take, drop, slice_index};
 ghost use Rattle.btf_raw.specs.{Header.HasNulEnds, Names.IsEnd};
 ghost use Rattle.btf_types.specs.tables.StringEnds.{AreLongEnds};
@@ -65,10 +65,6 @@ pub fn text_end_with(strings: &[u8], ends: &[u32], off: usize) -> usize
     if let Some(end) = nul_between(strings, off, near) {
         return end;
     }
-    let passed = ends.partition_point(
-        |end: &u32| -> bool
-            ensures { result ≡ nat_lt end.now off }
-        { (*end as usize) < off },
-    );
+    let passed = ends.partition_point(|end| (*end as usize) < off);
     ends[passed] as usize
 }
