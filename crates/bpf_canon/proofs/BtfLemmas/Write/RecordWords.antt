@@ -17,8 +17,15 @@ use Rattle.btf_types.proofs.FaultlessLemmas.{FaultlessRecords.bit_fields_there, 
 use Rattle.btf_types.proofs.Spelled.{info_parts, InfoParts, kind_below, vlen_below, flag_below}
 use Rattle.btf_types.proofs.{TableLemmas.TableReads.count_there, TableLemmas.TextSteps.decided, TabulateSteps.All-tabulate}
 use Rattle.bpf_canon.specs.btf.CanonicalBtf.{canonical_flag, words_of_item as words_of, record_words}
-use Rattle.bpf_canon.specs.btf.write.{SectionRecords.record_info, SectionRecords.record_items, SectionRecords.record_tail}
+use Rattle.bpf_canon.specs.btf.write.SectionRecords.{record_info}
 use Rattle.bpf_canon.proofs.BtfLemmas.Write.{RecordNames.HasNamedItems, RecordNames.head_name_is, WriteSteps.pushed_two}
+
+-- the 32-bit words of a record's items, and all after the third
+abbrev record_items : (List ℕ → ℕ) → TypeRecord → List ℕ
+record_items place r = flat_map (words_of place) r.items
+
+abbrev pub record_tail : (List ℕ → ℕ) → TypeRecord → List ℕ
+record_tail place r = head_tail r.head ++ record_items place r
 
 -- ---- whether a record has bit-fields
 

@@ -1,10 +1,9 @@
 -- The frames of the sections that a table keeps, and the records that they read as. Contracts of private functions cite it.
-use Rattle.std.specs.Prelude.{ℕ, List, ◌++◌}
-use Rattle.std.specs.List.{flat_map}
+use Rattle.std.specs.Prelude.{ℕ, List}
 use Rattle.btf_types.specs.{declared.tables.table.FileSections.FileSections, Values.TypeRecord, Good.has_bit_fields}
-use Rattle.btf_types.specs.Spelling.{kind_number, head_tail, record_vlen, info}
+use Rattle.btf_types.specs.Spelling.{kind_number, record_vlen, info}
 use Rattle.btf_types.specs.{Reading.frames_at, Reading.records_at, tables.TableInvariant.IsTable}
-use Rattle.bpf_canon.specs.btf.CanonicalBtf.{canonical_flag, words_of_item}
+use Rattle.bpf_canon.specs.btf.CanonicalBtf.{canonical_flag}
 
 -- all frames and all records, of which the sections are a table
 abbrev pub frames_of : FileSections → List (List ℕ)
@@ -19,10 +18,3 @@ AreTable s = IsTable s.order s.types.now s.strings.now s.places.now
 -- info of a record, with its canonical kind_flag
 abbrev pub record_info : TypeRecord → ℕ
 record_info r = info (kind_number r.head) (record_vlen r) (canonical_flag r.head (has_bit_fields r))
-
--- the 32-bit words of a record's items, and all after the third
-abbrev pub record_items : (List ℕ → ℕ) → TypeRecord → List ℕ
-record_items place r = flat_map (words_of_item place) r.items
-
-abbrev pub record_tail : (List ℕ → ℕ) → TypeRecord → List ℕ
-record_tail place r = head_tail r.head ++ record_items place r

@@ -3,9 +3,9 @@ use Rattle.std.specs.{Prelude.slice_index, List.Contains}
 use Rattle.std.proofs.lemmas.Result.{on_ok_weaker}
 use Rattle.btf_raw.specs.{Kinds.has_item_names, Kinds.item_words, Frames.bytes_of, Frames.kind, Frames.name_word}
 use Rattle.btf_types.specs.Reading.{item_total, text_from, record_of}
-use Rattle.bpf_canon.specs.btf.{CanonicalBtf.record_words, write.SectionRecords.record_tail, write.NameOffsets.placed}
+use Rattle.bpf_canon.specs.btf.{CanonicalBtf.record_words, write.NameOffsets.placed}
 use Rattle.bpf_canon.proofs.BtfLemmas.Write.RecordNames.{HasNamedItems, item_is, named_total, own_offset}
-use Rattle.bpf_canon.proofs.BtfLemmas.Write.RecordWords.{item_begins, item_room, item_size, items_to, named_item_more, record_pushed, rest_words, items_are_tail}
+use Rattle.bpf_canon.proofs.BtfLemmas.Write.RecordWords.{item_begins, item_room, item_size, items_to, named_item_more, record_pushed, record_tail, rest_words, items_are_tail}
 use Rattle.bpf_canon.proofs.btf.write.sections.push_record.Given.{Over}
 use Rattle.bpf_canon.proofs.btf.write.sections.push_record.Goals.{After-kind-kind, After-item_words-size, then-size-eq2+in_ok-push_words-2, else-size-eq2+in_ok-push_words-3}
 use Rattle.bpf_canon.proofs.btf.write.sections.push_record.Goals as goal
