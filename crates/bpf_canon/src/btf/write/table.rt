@@ -11,8 +11,10 @@ ghost use Rattle.btf_types.specs.Names as spec;
 ghost use Rattle.btf_types.specs.Good as good;
 
 use crate::btf::names::{SharedNames, kept_names};
+use crate::btf::write::head_words::{
+    head_vlen, kind_and_third, kind_flag, push_header, push_words,
+};
 use crate::btf::write::sections::write_sections;
-use crate::btf::write::words::{head_vlen, kind_and_third, kind_flag, push_header, push_words};
 use bpf_words::Order;
 use btf_types::{Head, Item, TypeTable};
 use std::alloc::{AllocError, Allocator};
