@@ -14,7 +14,9 @@ use bpf_insn::{Order, read_insn};
 use bpf_text::push_line;
 use std::alloc::Allocator;
 
-/// Writes the listing of an instruction file in pieces.
+/// Writes the listing of an instruction file in pieces. It isn't inlined, so that its loop has all
+/// registers to itself.
+#[inline(never)]
 fn put_listing<A: Allocator, W: ByteSink>(
     alloc: A,
     order: Order,
