@@ -52,12 +52,12 @@ fn run_over(
     Ok(Ended { outcome, output })
 }
 
-/// The number of bytes that a job keeps at once, at least: an instruction, or its input and its output.
+/// The number of bytes that a job keeps at once, at least: an instruction, or its input and its output. A comparison stores no output.
 fn kept_at_least(sample: Sample) -> usize {
-    if sample.verb == Verb::InsnCanon {
-        8
-    } else {
-        sample.input.len().saturating_add(sample.output.len())
+    match sample.verb {
+        Verb::InsnCanon => 8,
+        Verb::InsnSame | Verb::BtfSame => sample.input.len(),
+        _ => sample.input.len().saturating_add(sample.output.len()),
     }
 }
 
