@@ -53,11 +53,6 @@ pub second_length : (order : Order) (m : ℤ) → length (second_slot order (Som
 second_length Little m = refl
 second_length Big m = refl
 
--- a second slot is a slot whose other fields are 0
-pub spelled_second : (order : Order) (k : ℤ) → spelled order (fields 0 0 0 (pos 0) k) ≡ second_slot order (Some k)
-spelled_second Little k = refl
-spelled_second Big k = refl
-
 -- the second slot of a wide load
 wide_words : (order : Order) (d : Reg) (what : WideOf)
     → (field_value order Reserved (spelling order (Wide d what)) ≡ word32 order 0) × (field_value order NextImm (spelling order (Wide d what)) ≡ word32 order (cast_unsigned w32 (wide_next_imm what)))
