@@ -89,5 +89,14 @@ module _ {f : List ℕ} (is : IsFrame f) where
       let end : length f ≡ 3 = is.size ∙ no_tail (kind f) (vlen f) int array struct union enum proto var datasec tag enum64 in
       absurd (omega arith)
 
+-- the size of a value of an enumeration
+pub value_words : (f : List ℕ) → kind f ≡ ENUM → 2 ≡ item_words (kind f)
+unfolding item_words
+value_words f enum = rw enum refl
+
+pub wide_value_words : (f : List ℕ) → kind f ≡ ENUM64 → 3 ≡ item_words (kind f)
+unfolding item_words
+wide_value_words f enum64 = rw enum64 refl
+
 -- what the search cites of the fields after the first three
-pub ruleset tails = (rest_faultless, array_end, fourth_end, none_yet)
+pub ruleset tails = (rest_faultless, array_end, fourth_end, none_yet, value_words, wide_value_words)

@@ -43,7 +43,7 @@ fn first_words_fault(section: &Section, this: &Record) -> Option<(usize, BtfCaus
 /// The index of the first faulty field after the first three, and its cause. The kind is matched
 /// once here, and not again for each field. The element type of an ARRAY is checked before its
 /// index type, and its number of elements may be any.
-#[tactic(auto, using(crate::proofs::JudgeLemmas::RecordSteps::tails), unfolding(btf_raw::specs::Kinds::item_words))]
+#[tactic(auto, using(crate::proofs::JudgeLemmas::RecordSteps::tails))]
 fn tail_fault(section: &Section, this: &Record) -> Option<(usize, BtfCause)>
     requires { IsFrame this.now }
     ensures { FirstWithin section.now this.now 3 (length this.now) result }

@@ -94,7 +94,7 @@ pub fn named_type_fault(section: &Section, kind: u8, target: u32) -> Option<BtfC
 
 /// Whether a member may have this type if its record has bit-fields: it isn't an INT, or it is an
 /// INT with offset 0 and 8, 16, 32, 64 or 128 bits.
-#[tactic(auto, using(crate::proofs::TableLemmas::SectionSteps::int_has_word), unfolding(crate::specs::judge::Checks::member_int_fits, crate::specs::judge::Checks::is_plain_int))]
+#[tactic(auto, using(crate::proofs::TableLemmas::SectionSteps::int_has_word))]
 fn member_int_fits(section: &Section, target: u32) -> bool
     ensures { result ≡ spec.member_int_fits (facts_in section.now) target }
 {
