@@ -120,7 +120,7 @@ def stage_source(documents, work):
 
 def stage_vectors(documents, work):
     root = work / f"bpfcanon-vectors-{VERSION}"
-    copy_files(work / "vectors", "testdata/", without=["testdata/to_rows"])
+    copy_files(work / "vectors", "testdata/")
     (work / "vectors" / "testdata").rename(root)
     add_documents(root, {})
     return root

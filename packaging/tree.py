@@ -55,8 +55,8 @@ def copy(source, target, mode=None):
     target.chmod(mode or mode_of(source))
 
 
-def copy_files(target, *folders, without=()):
+def copy_files(target, *folders):
     """Copies the files of some folders of the tree, or all, to a folder."""
     for name in files():
-        if (not folders or name.startswith(folders)) and not name.startswith(tuple(without)):
+        if not folders or name.startswith(folders):
             copy(TOP / name, target / name)

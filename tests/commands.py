@@ -1,9 +1,9 @@
 """The commands of the program, their options and limits, as crates/bpfcanon/src/verb.rt declares them."""
 
-import pathlib
 import re
 
-TOP = pathlib.Path(__file__).resolve().parent.parent
+from tests import TOP
+
 VERB = (TOP / "crates" / "bpfcanon" / "src" / "verb.rt").read_text()
 ENGINES = [TOP / "crates" / "bpf_canon" / "src" / name / "run.rt" for name in ("insn", "btf")]
 

@@ -3,7 +3,7 @@
 A piece is the fewest lines, or chunks of a long name, that make 8,192 bytes or more. A chunk of a name is 2,048 of its bytes.
 """
 
-from samples import EXIT, btf
+from tests.samples import EXIT, btf
 
 NEG = bytes.fromhex("87 0a 00 00 00 00 00 00")
 TYPEDEF, PTR, CONST = 0x0800_0000, 0x0200_0000, 0x0A00_0000

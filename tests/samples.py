@@ -3,8 +3,8 @@
 import struct
 from typing import NamedTuple
 
-import btf_page as page
-from program import Ran
+from tests.program import Ran
+from tests.reference import btf_page as page
 
 USAGE = Ran(
     2,

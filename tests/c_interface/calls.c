@@ -108,7 +108,7 @@ typedef const char *name_call(uint32_t number);
 
 /*
  * The numbers from the first to the last have names, each with a sentence, and neither have the numbers around them. They are compared
- * after all of them were asked for, since the strings are static. docs/from_causes writes the names and sentences; those of the first
+ * after all of them were asked for, since the strings are static. tools/from_causes writes the names and sentences; those of the first
  * and the last show that each call has its own.
  */
 static void has_names(name_call *name_of, name_call *text_of, uint32_t first, uint32_t last, const char *const right[3])

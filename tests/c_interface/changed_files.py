@@ -11,10 +11,10 @@ import pathlib
 import random
 import sys
 
-import btf_reference
-from program import Report
-from samples import NO_TYPES, btf, floats
-from vectors import data, rows
+from tests.program import Report
+from tests.reference import btf_reference
+from tests.samples import NO_TYPES, btf, floats
+from tests.vector_rows import data, rows
 
 TOP = pathlib.Path(__file__).resolve().parents[2]
 sys.path.insert(0, str(TOP / "bindings" / "python"))

@@ -13,7 +13,7 @@ import subprocess
 import sys
 import tempfile
 
-from program import SECONDS, Report
+from tests.program import SECONDS, Report
 
 TOP = pathlib.Path(__file__).resolve().parent.parent.parent
 CAPI = TOP / "capi"

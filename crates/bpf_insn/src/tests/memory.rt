@@ -115,7 +115,7 @@ fn each_growth_is_refused(rt: HostRuntime) -> Result<(), Fail> {
     Ok(())
 }
 
-/// The number of slots of the large files, which are 4 MiB. The program decodes the largest in `tests/limits.py`.
+/// The number of slots of the large files, which are 4 MiB. The program decodes the largest in `tests/process/limits.py`.
 const COUNT: usize = 524_288;
 
 /// A file of exits up to its last slot, and the number of its instructions or its fault.

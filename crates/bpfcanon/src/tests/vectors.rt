@@ -1,4 +1,4 @@
-//! Command lines with their inputs and answers: made by testdata/to_rows of testdata/vectors.tsv.
+//! Command lines with their inputs and answers: made by tools/to_rows of testdata/vectors.tsv.
 
 use super::runner::Row;
 

@@ -1,0 +1,15 @@
+"""The tests that aren't in a crate. Each folder has tests of one kind, and the modules that several of them share are in this one.
+
+    process/      run the built command as a process
+    pages/        compare the pages with the sources, and run what they show
+    sources/      read the sources
+    reference/    modules, and no tests: readers of the tables of docs/FORMATS.md and docs/FAULTS.md, and checkers made of them
+    of_tests/     tests of the tests: that they notice what is wrong
+    c_interface/  the C library
+
+A test is run as a module from the top of the repository: python3 -m tests.process.limits PROGRAM.
+"""
+
+import pathlib
+
+TOP = pathlib.Path(__file__).resolve().parent.parent

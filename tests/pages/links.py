@@ -1,0 +1,86 @@
+"""Checks what the pages refer to: each link leads to a file and a heading, each file and name in code exists, and README names each page.
+
+    python3 -m tests.pages.links
+"""
+
+import re
+import sys
+
+from tests import TOP
+from tests.program import Report
+
+PAGES = [TOP / name for name in ("README.md", "SECURITY.md", "CHANGELOG.md", "testdata/README.md", "bench/README.md")]
+PAGES += sorted([*TOP.glob("docs/*.md"), *TOP.glob("bindings/*/README.md")])
+BLOCK = re.compile(r"^```.*?^```$", re.MULTILINE | re.DOTALL)
+LINK = re.compile(r"\[[^\]]*\]\(([^)\s]+)\)")
+# A file in code: folders and a name with one of these endings. Capitals such as NAME stand for any name.
+FILE = re.compile(r"`([\w./*-]*\w\.(?:rt|antt|py|c|h|md|tsv|go|rs|map|toml|txt))`")
+NAME = re.compile(r"`([A-Za-z_][\w:]*)`")
+# The pages on the sources, what they may name, and a variable of the environment and prefixes, which no source contains.
+ON_SOURCES = ["CHANGING", "CONTRACTS", "DECISIONS", "LIBRARY", "PROMISES"]
+SOURCES = ["crates/**/*.rt", "crates/**/*.antt", "tests/**/*", "tools/*", "capi/*", "bindings/**/*.go", "bindings/**/*.py", "bindings/**/*.rs"]
+NO_NAMES = {"RT_JOBS", "proved_", "bpfcanon_proved_"}
+STANDS_FOR = re.compile(r"(?:^|/)(?:NAME|MODULE|FUNCTION)\b")
+# Files that a reader makes, those of other trees, and those that the repository must not contain.
+MADE = {"key.c", "main.go", "canonical.bin", "out/PROVED.txt", "Cargo.toml", "btf.rst", "PROVED.txt"}
+
+
+def slug(heading):
+    """The anchor of a heading."""
+    return re.sub(r"[^\w\- ]", "", heading.replace("`", "").lower()).replace(" ", "-")
+
+
+def headings(path):
+    return {slug(name) for name in re.findall(r"^#+ (.*)$", BLOCK.sub("", path.read_text()), re.MULTILINE)}
+
+
+def check_links(report, page):
+    for target in LINK.findall(BLOCK.sub("", page.read_text())):
+        if "://" in target:
+            continue
+        name, _, anchor = target.partition("#")
+        path = page.parent / name if name else page
+        report.expect_that(path.exists(), target, "there is no such file")
+        if anchor and path.exists():
+            report.expect_that(anchor in headings(path), target, "the page has no such heading")
+
+
+def check_files(report, page, names):
+    """A name may leave out the first folders."""
+    for name in FILE.findall(BLOCK.sub("", page.read_text())):
+        if name in MADE or STANDS_FOR.search(name):
+            continue
+        pattern = re.compile(r"(?:.*/)?" + re.escape(name).replace(r"\*", r"[^/]*"))
+        report.expect_that(any(map(pattern.fullmatch, names)), f"`{name}`", "there is no such file")
+
+
+def check_names(report):
+    """Each name in code on the pages about the sources is in the sources, or is that of a file."""
+    sources = [path for pattern in SOURCES for path in TOP.glob(pattern) if path.is_file() and "out" not in path.relative_to(TOP).parts]
+    known = {name for path in sources for name in re.findall(r"\w+", path.read_text(errors="replace"))}
+    known |= {path.stem for path in TOP.glob("crates/*/must-fail/*.edit")}
+    for page in ON_SOURCES:
+        text = BLOCK.sub("", (TOP / "docs" / f"{page}.md").read_text())
+        with report.group(f"names on docs/{page}.md"):
+            for name in sorted(set(NAME.findall(text)) - NO_NAMES):
+                report.expect_that(all(part in known for part in name.split("::")), f"`{name}`", "no source contains it")
+
+
+def main():
+    report = Report()
+    names = [str(path.relative_to(TOP)) for path in TOP.rglob("*") if path.is_file() and not {".git", "out"} & set(path.relative_to(TOP).parts)]
+    with report.group("the length of README, and the pages that it names"):
+        length = len(PAGES[0].read_text().splitlines())
+        report.expect_that(length <= 160, "README.md", f"it has {length} lines, and at most 160 are read")
+        for page in TOP.glob("docs/*.md"):
+            report.expect_that(f"`docs/{page.name}`" in PAGES[0].read_text(), page.name, "README doesn't name it")
+    for page in PAGES:
+        with report.group(f"links and files of {page.relative_to(TOP)}"):
+            check_links(report, page)
+            check_files(report, page, names)
+    check_names(report)
+    return report.end("links")
+
+
+if __name__ == "__main__":
+    sys.exit(main())

@@ -1,0 +1,362 @@
+"""Compares README.md, the manual pages, the limits of docs/FAULTS.md, the C header and the completions with the sources and with each
+other: commands, options, limits, statuses, the buffer sizes of calls, and the calls themselves.
+
+    python3 -m tests.pages.pages PROGRAM
+"""
+
+import os
+import pathlib
+import re
+import shlex
+import shutil
+import subprocess
+import sys
+
+from tests import TOP
+from tests.commands import ALL_OPTIONS, COMMANDS, LIMITS, OPTIONS, constants
+from tests.program import SECONDS, Program, Report
+from tests.reference import btf_page
+from tests.reference.formats_page import cells, said
+
+README = (TOP / "README.md").read_text()
+HEADER = (TOP / "capi" / "bpfcanon.h").read_text()
+SOURCE = (TOP / "capi" / "bpfcanon.c").read_text()
+COMMAND = TOP / "crates" / "bpfcanon"
+OUTCOME, MAIN, REPORTS = ((COMMAND / name).read_text() for name in ("src/outcome.rt", "src/main.rt", "specs/Outcome.antt"))
+# A value of each option. A byte order has two names.
+VALUES = {"--order": "little", "--to": "little", "--other": "little", "--split": "0"}
+ORDERS = ["big", "little"]
+
+
+def number(value):
+    return f"{value:,}"
+
+
+# ---- the commands and their options
+
+
+def readme_table(*columns):
+    """The rows of the table of README.md that has these columns."""
+    _, _, rest = README.partition("| " + " | ".join(columns) + " |\n")
+    return [cells(line) for line in rest.partition("\n\n")[0].splitlines()[1:]]
+
+
+def check_readme(report):
+    with report.group("the tables of README.md"):
+        commands = [row[0].strip("`") for row in readme_table("Command", "Writes")]
+        report.expect_that(commands == COMMANDS, "the commands", f"they are {commands}")
+        options = {row[0].strip("`").split(" ")[0]: row[1:] for row in readme_table("Option", "Of", "Meaning")}
+        report.expect_that(list(options) == ALL_OPTIONS, "the options", f"they are {list(options)}")
+        for option, (of, _) in options.items():
+            right = [command for command in COMMANDS if option in OPTIONS[command]]
+            report.expect_that(re.findall(r"`([\w-]+)`", of) == right, option, f"it is of {of}, and right is {right}")
+        most = re.search(r"at most ([\d,]+)", options.get("--split", ["", ""])[1])
+        report.expect_that(most and most[1] == number(LIMITS["insn-same"]), "--split", f"its limit isn't {LIMITS['insn-same']}")
+        rows = readme_table("Status", "When", "Message on standard error")
+        insns, btf = constants()["INSN_LIMIT"], constants()["BTF_LIMIT"]
+        right = f"more than {number(insns)} bytes, or {number(btf)} of BTF; twice that for two"
+        report.expect_that(right in [row[1] for row in rows], "too long", f"no row says {right!r}")
+        shown = {status: set() for status, *_ in rows}
+        for status, _, line in rows:
+            shown[status] |= {it for it in re.findall(r"`([^`]*)`", line) if re.fullmatch(r"[a-z ]+[a-z]", it)}
+        report.expect_that(shown == statuses(), "the lines of each status", f"they are {shown}, and right is {statuses()}")
+
+
+def statuses():
+    """The messages of each status, except faults and the usage. The definition of the status has a line for each outcome."""
+    line_of = dict(re.findall(r'Outcome::(\w+) => report_line\(faults, b"([a-z ]+)\\n"\)', OUTCOME))
+    found = {}
+    for outcome, status in re.findall(r"^status_of \(?(?:ends\.)?(\w+).* = (\d)$", REPORTS, re.MULTILINE):
+        found.setdefault(status, set()).update({line_of[outcome]} if outcome in line_of else set())
+    # the message about the argument vector is in the main function
+    before = re.findall(r'b"(no [a-z]+)\\n"', MAIN)
+    return found | {"3": found["3"] | set(before)}
+
+
+def check_manual(report):
+    """bpfcanon.1: the synopsis, the headings and the limits."""
+    page = (TOP / "man" / "bpfcanon.1").read_text()
+    with report.group("the commands of bpfcanon.1"):
+        synopsis = re.findall(r"^\\fBbpfcanon.*$", page, re.MULTILINE)
+        for line, command in zip(synopsis, COMMANDS):
+            words = re.sub(r"\\f[BIR]", "", line).replace(r"\-", "-")
+            required = "--split" if "--split" in OPTIONS[command] else ""
+            named = re.findall(r"(\[?)(--\w+) ([ON])", words)
+            others = [option for option in OPTIONS[command] if option != "--split"]
+            right = [("", required, "N")] * bool(required) + [("[", option, "O") for option in others]
+            is_right = command in words and named == right
+            report.expect_that(is_right, f"{command} in the synopsis", f"it has {named}, and right is {right}")
+        report.expect_that(len(synopsis) == len(COMMANDS), "the synopsis", f"it has {len(synopsis)} lines")
+        body = page.partition(".SH COMMANDS")[2].partition(".SH OPTIONS")[0]
+        commands = [name.replace(r"\-", "-") for name in re.findall(r"^\.TP\n\.B (.*)$", body, re.MULTILINE)]
+        report.expect_that(commands == COMMANDS, "the commands", f"they are {commands}")
+        body = page.partition(".SH OPTIONS")[2].partition(".SH EXIT")[0]
+        options = re.findall(r"^\.TP\n\.BI (\S+)\\~ ([ON])$", body, re.MULTILINE)
+        right = [(option, "N" if option == "--split" else "O") for option in ALL_OPTIONS]
+        report.expect_that([(it.replace(r"\-", "-"), value) for it, value in options] == right, "the options", f"they are {options}")
+    with report.group("the limits of bpfcanon.1"):
+        text = plain(page)
+        insns, btf = (number(LIMITS[it]) for it in ("insn-canon", "btf-canon"))
+        two_insns, two_btf = (number(LIMITS[it]) for it in ("insn-same", "btf-same"))
+        for right in [
+            f"The length of the first of two inputs in bytes, 0 to {two_insns}.",
+            f"The input is over the limit: {insns} bytes of instructions or of a listing, {two_insns} bytes for insn-same, "
+            f"{btf} bytes of BTF, {two_btf} bytes for btf-same.",
+        ]:
+            report.expect_that(right in text, right, "the page doesn't say so")
+        missing = [line for lines in statuses().values() for line in lines if line not in text]
+        report.expect_that(not missing, "lines on standard error", f"these are missing: {missing}")
+
+
+def check_limits(report):
+    with report.group("the limits of docs/FAULTS.md"):
+        pattern = r"More than ([\d,]+) bytes of instructions or of a listing, or ([\d,]+) bytes of BTF, are `too long`"
+        right = number(constants()["INSN_LIMIT"]), number(constants()["BTF_LIMIT"])
+        found = said("Limits", pattern)
+        report.expect_that(found == right, "the limits", f"they are {found}, and right is {right}")
+        said("Limits", "for two inputs together the limit is twice that")
+        for first, second in ("insn-same", "insn-canon"), ("btf-same", "btf-canon"):
+            report.expect_that(LIMITS[first] == 2 * LIMITS[second], first, f"its limit is {LIMITS[first]}")
+        (kernel,) = said("Limits", r"The kernel accepts no more than ([\d,]+) bytes of BTF from a loader")
+        report.expect_that(kernel == number(16 << 20), "the kernel's limit", f"it is {kernel}")
+        most = btf_page.LONGEST + btf_page.TYPES + btf_page.STRINGS[1]
+        report.expect_that(LIMITS["btf-canon"] == most, "BTF", f"the sections make {most}")
+        parts = said("Limits", r"([\d,]+) bytes of header, ([\d,]+) of types, ([\d,]+) of strings")
+        report.expect_that(parts == tuple(map(number, (btf_page.LONGEST, btf_page.TYPES, btf_page.STRINGS[1]))), "BTF", f"its parts are {parts}")
+
+
+# ---- the C library
+
+
+def plain(page):
+    """A manual page without its macros."""
+    lines = []
+    for line in page.replace(r"\-", "-").replace(r"\~", " ").splitlines():
+        name, _, rest = line.partition(" ")
+        if name in (".B", ".I"):
+            lines.append(rest.replace('"', ""))
+        elif name in (".BR", ".IR", ".BI"):
+            lines.append("".join(shlex.split(rest, posix=True)))
+        elif not line.startswith("."):
+            lines.append(line)
+    return " ".join(" ".join(lines).split())
+
+
+def fields_of(text, name):
+    """The types and names of the fields of a struct."""
+    body = re.search(rf"typedef struct {name} \{{(.*?)\}} {name};", text, re.DOTALL)
+    return re.findall(r"(\w+) (\w+);", body[1]) if body else []
+
+
+def rooms_of_header():
+    """How many times its input the buffer of a call has to be, if its comment says so."""
+    found = {}
+    for comment, calls in re.findall(r"^/\*\n((?: \*.*\n)*?) \*/\n((?:bpfcanon_(?:[^;]|\n)*?;\n)+)", HEADER, re.MULTILINE):
+        text = re.sub(r"\n \* ?", " ", "\n" + comment)
+        room = re.search(r"Room of (?:(\d) \* )?`len` bytes is always enough|Sets `written`, which is `len`", " ".join(text.split()))
+        if room:
+            found |= dict.fromkeys(re.findall(r"^\w+ (bpfcanon_\w+)\(", calls, re.MULTILINE), int(room[1] or 1))
+    return found
+
+
+def rooms_of_page(page):
+    found = {}
+    for item in page.partition(".SH DESCRIPTION")[2].partition(".SH RETURN")[0].split(".TP\n")[1:]:
+        head, _, body = item.partition("\n")
+        room = re.search(r"Room of (?:(four times|twice) )?len (?:bytes )?is always enough( for a listing)?", plain(body))
+        if room:
+            names = re.findall(r"bpfcanon_\w+", head)
+            times = {None: 1, "twice": 2, "four times": 4}[room[1]]
+            found |= dict.fromkeys(names[:1] if room[2] else names, times)
+    return found
+
+
+def rooms_of_source():
+    """How many times its input the first block of a call that allocates has. Type listings have no bound."""
+    calls = re.findall(r"^bpfcanon_answer (bpfcanon_\w+)_new\((?:.|\n)*?write_new\(&request, (\d), ", SOURCE, re.MULTILINE)
+    return {name: int(times) for name, times in calls if name != "bpfcanon_btf_show"}
+
+
+def check_library(report):
+    page = (TOP / "man" / "bpfcanon.3").read_text()
+    with report.group("the buffer sizes of the calls"):
+        allocating, header, manual = rooms_of_source(), rooms_of_header(), rooms_of_page(page)
+        report.expect_that(len(allocating) == 4, "capi/bpfcanon.c", f"its blocks are {allocating}")
+        for call, times in allocating.items():
+            for page_name, rooms in ("bpfcanon.h", header), ("bpfcanon.3", manual):
+                otherwise = f"it says {rooms.get(call)} times, and the block has {times}"
+                report.expect_that(rooms.get(call) == times, f"{call} in {page_name}", otherwise)
+        others = {call for call in [*header, *manual] if call not in allocating} - {"bpfcanon_insn_front"}
+        report.expect_that(not others, "other calls", f"a size is stated for {others}")
+    with report.group("the constants and fields of bpfcanon.3"):
+        for struct in re.findall(r"^typedef struct (\w+)", HEADER, re.MULTILINE):
+            if f"typedef struct {struct}" in page:
+                fields = fields_of(page, struct)
+                report.expect_that(fields == fields_of(HEADER, struct), struct, f"its fields are {fields}")
+        report.expect_that(fields_of(HEADER, "bpfcanon_answer"), "bpfcanon_answer in bpfcanon.h", "it isn't there")
+        report.expect_that(fields_of(page, "bpfcanon_answer"), "bpfcanon_answer in bpfcanon.3", "it isn't there")
+        enum = re.search(r"^enum bpfcanon_status \{(.*?)^\}", HEADER, re.MULTILINE | re.DOTALL)[1]
+        listed = page.partition(".SS Statuses")[2].partition(".SS")[0]
+        shown, right = re.findall(r"^\.TP\n\.B (\w+)$", listed, re.MULTILINE), re.findall(r"^\t(\w+) = \d", enum, re.MULTILINE)
+        report.expect_that(shown == right, "the statuses", f"they are {shown}, and right is {right}")
+        most = btf_page.LONGEST, btf_page.TYPES, btf_page.STRINGS[1]
+        text = "{} of header, {} of types and {} of strings".format(*map(number, most))
+        report.expect_that(text in plain(page), "BPFCANON_BTF_MAX in bpfcanon.3", f"it doesn't say {text!r}")
+        report.expect_that(f"\n#define BPFCANON_BTF_MAX {sum(most)}\n" in HEADER, "BPFCANON_BTF_MAX", f"it isn't {sum(most)}")
+        text = f"a {number(most[0])}-byte header, {most[1] >> 20} MiB of types, {most[2] >> 20} MiB of strings"
+        report.expect_that(text in HEADER, "BPFCANON_BTF_MAX in bpfcanon.h", f"its comment doesn't say {text!r}")
+
+
+def page_of(section):
+    return TOP / "man" / f"bpfcanon.{section}"
+
+
+def shown_page(page):
+    """What man prints of a page, and its warnings."""
+    how = {"stdout": subprocess.PIPE, "stderr": subprocess.PIPE, "timeout": SECONDS}
+    return subprocess.run(["man", "--warnings", "-l", page], env=os.environ | {"MANWIDTH": "100", "LC_ALL": "C"}, **how)
+
+
+def calls_of(text):
+    """The calls that a header or a page declares, with single blanks."""
+    calls = re.findall(r"^ *((?:bpfcanon_\w+|void|const char) \*?bpfcanon_\w+\([^;]*;)", text, re.MULTILINE)
+    return sorted(" ".join(call.split()) for call in calls)
+
+
+def check_library_page(report):
+    """The page of section 3 declares the calls of the header and shows the example of docs/LIBRARY.md."""
+    with report.group("the calls of bpfcanon.3"):
+        if not shutil.which("man"):
+            report.skip("bpfcanon.3", "man is missing")
+            return
+        shown = shown_page(page_of(3)).stdout.decode()
+        calls = calls_of(shown.partition("DESCRIPTION")[0])
+        report.expect_that(len(calls) > 20 and calls == calls_of(HEADER), "the calls", f"they are {calls}")
+        example = re.search(r"^```c\n(.*?)^```$", (TOP / "docs" / "LIBRARY.md").read_text(), re.MULTILINE | re.DOTALL)[1]
+        has_example = " ".join(example.split()) in " ".join(shown.split())
+        report.expect_that(has_example, "the example", "it isn't that of docs/LIBRARY.md")
+
+
+def check_pages(report):
+    """The pages are without warnings and name one another. causes.py compares bpfcanon.5 with the pages it is made from."""
+    pages = [page_of(section) for section in (1, 3, 5)]
+    with report.group("the manual pages"):
+        for page in pages:
+            version = re.search(r'^\.TH BPFCANON \d "" "bpfcanon (.*?)"', page.read_text(), re.MULTILINE)
+            is_right = version is not None and f'#define BPFCANON_VERSION "{version[1]}"\n' in HEADER
+            report.expect_that(is_right, page.name, "its version isn't that of capi/bpfcanon.h")
+            if not shutil.which("man"):
+                report.skip(page.name, "man is missing")
+                continue
+            shown = shown_page(page)
+            report.expect_that(shown.returncode == 0 and not shown.stderr, page.name, f"man prints {shown.stderr!r}")
+            _, _, last = shown.stdout.decode().partition("SEE ALSO")
+            others = [f"bpfcanon({other.suffix[1:]})" for other in pages if other != page]
+            report.expect_that(all(other in last for other in others), page.name, f"SEE ALSO lacks one of {others}")
+
+
+# ---- the program and the completions
+
+
+def check_program(program, report):
+    """An option that a command doesn't accept is refused with status 2."""
+    with report.group("the options that the program takes"):
+        for command in COMMANDS:
+            split = {"--split": "0"} if "--split" in OPTIONS[command] else {}
+            for option in ALL_OPTIONS:
+                words = [command, *(it for pair in (split | {option: VALUES[option]}).items() for it in pair)]
+                is_taken = program.run(" ".join(words)).status != 2
+                report.expect_that(is_taken == (option in OPTIONS[command]), " ".join(words), f"it is {'taken' if is_taken else 'refused'}")
+
+
+def completed(line):
+    """What bash completes a line to."""
+    script = f'. "$0"; COMP_WORDS=({line}); COMP_CWORD=$((${{#COMP_WORDS[@]}} - 1)); _bpfcanon; printf "%s\\n" "${{COMPREPLY[@]}}"'
+    words = ["bash", "-euc", script, TOP / "completions" / "bash" / "bpfcanon"]
+    done = subprocess.run(words, stdout=subprocess.PIPE, stderr=subprocess.STDOUT, text=True, timeout=SECONDS)
+    return sorted(done.stdout.split())
+
+
+def check_bash(report):
+    with report.group("the completion for bash"):
+        if not shutil.which("bash"):
+            report.skip("the completion for bash", "bash is missing")
+            return
+        script = '. "$0" && complete -p bpfcanon'
+        words = ["bash", "-c", script, TOP / "completions" / "bash" / "bpfcanon"]
+        done = subprocess.run(words, stdout=subprocess.PIPE, text=True, timeout=SECONDS)
+        report.expect_that(done.stdout == "complete -F _bpfcanon bpfcanon\n", "complete -p", f"it printed {done.stdout!r}")
+        rows = [("bpfcanon ''", sorted(COMMANDS)), ("bpfcanon insn-s", ["insn-same", "insn-show"]), ("bpfcanon x", [])]
+        rows += [(f"bpfcanon {command} ''", sorted(OPTIONS[command])) for command in COMMANDS]
+        words = {option: [] if option == "--split" else ORDERS for option in ALL_OPTIONS}
+        rows += [(f"bpfcanon {command} {option} ''", words[option]) for command in COMMANDS for option in OPTIONS[command]]
+        rows += [("bpfcanon btf-canon --to b", ["big"]), ("bpfcanon insn-same --split 8 --o", ["--order", "--other"])]
+        rows += [("bpfcanon insn-canon --order big ''", ["--to"])]
+        for line, words in rows:
+            report.expect_that(completed(line) == words, line, f"it is completed to {completed(line)}, and right is {words}")
+
+
+# Runs the completion for zsh as its shell does, at argument CURRENT of a line. What it passes to the shell is printed.
+IN_ZSH = """
+_arguments() { print -rl -- "$@" }
+_describe() { print -rl -- "${(@P)4}" }
+compdef() { }
+words=($=2) CURRENT=$3
+source $1
+"""
+
+
+def handed_to_zsh(file, line, current):
+    """What the completion passes to the shell, one line for each."""
+    words = ["zsh", "-fc", IN_ZSH, "zsh", file, line, str(current)]
+    done = subprocess.run(words, stdout=subprocess.PIPE, stderr=subprocess.STDOUT, text=True, timeout=SECONDS)
+    return done.stdout.splitlines() if done.returncode == 0 else [f"status {done.returncode}", *done.stdout.splitlines()]
+
+
+def check_zsh(report):
+    """The file is read, and run by zsh if that is installed."""
+    file = TOP / "completions" / "zsh" / "_bpfcanon"
+    text = file.read_text()
+    with report.group("the text of the completion for zsh"):
+        report.expect_that(text.startswith("#compdef bpfcanon\n"), "the first line", "it isn't #compdef bpfcanon")
+        rows = re.findall(r"^    ([\w|-]+)\) _arguments (.*) ;;$", text, re.MULTILINE)
+        options = {command: sorted(re.findall(r'"\$(\w+)"', words)) for commands, words in rows for command in commands.split("|")}
+        right = {command: sorted(it.lstrip("-") for it in OPTIONS[command]) for command in COMMANDS if OPTIONS[command]}
+        report.expect_that(options == right, "the options", f"they are {options}, and right is {right}")
+        values = dict(re.findall(r"^  local \w+='(--\w+)\[[^]']+\]:[^:']+:(.*)'$", text, re.MULTILINE))
+        right = {option: " " if option == "--split" else "(little big)" for option in ALL_OPTIONS}
+        report.expect_that(values == right, "the values", f"they are {values}, and right is {right}")
+    with report.group("the completion in zsh"):
+        if not shutil.which("zsh"):
+            report.skip("the completion in zsh", "zsh is missing")
+            return
+        commands = [it.partition(":")[0] for it in handed_to_zsh(file, "bpfcanon x", 2)]
+        report.expect_that(commands == COMMANDS, "the commands", f"they are {commands}")
+        for command in COMMANDS:
+            handed = handed_to_zsh(file, f"bpfcanon {command} x", 3)
+            found = {it.partition("[")[0]: it.rpartition(":")[2] for it in handed}
+            values = {option: right[option] for option in OPTIONS[command]}
+            report.expect_that(found == values, command, f"it is completed to {handed}, and right is {values}")
+
+
+def main():
+    if len(sys.argv) != 2:
+        sys.exit(__doc__)
+    program, report = Program(pathlib.Path(sys.argv[1]).resolve()), Report()
+    for check in [
+        check_readme,
+        check_manual,
+        check_limits,
+        check_library,
+        check_library_page,
+        check_pages,
+        check_bash,
+        check_zsh,
+    ]:
+        check(report)
+    check_program(program, report)
+    return report.end("pages")
+
+
+if __name__ == "__main__":
+    sys.exit(main())

@@ -1,0 +1,58 @@
+"""Checks the wording of the pages, phrases that readers stumble over, and the names of the edits that the prover has to refuse.
+
+    python3 -m tests.pages.wording
+
+The index of docs/CONTRACTS.md is left out, since comments of the sources are in it.
+"""
+
+import re
+import sys
+
+from tests import TOP
+from tests.program import Report
+
+PAGES = [TOP / name for name in ("README.md", "SECURITY.md", "CHANGELOG.md", "testdata/README.md", "bench/README.md")]
+PAGES += sorted([*TOP.glob("docs/*.md"), *TOP.glob("bindings/*/README.md"), *TOP.glob("man/*.[135]")])
+LEFT_OUT = re.compile(r"^```.*?^```$|`[^`\n]*`|^## Index$.*", re.MULTILINE | re.DOTALL)
+PHRASES = [
+    (r"exactly (?:where|if)\b", "if and only if"),
+    (r"(?:only|fewer|none|refused|accepted|reported|missing|fails?) where\b", "if, when"),
+    (r"\balone\b", "only"),
+    (r"\bbut for\b|\baside\b", "except"),
+    (r"\bmostly\b", "usually"),
+    (r"\bone after the other\b", "concatenated, in order"),
+    (r"\bsome (?:bytes|room|input)\b", "the input, a buffer"),
+    (r"\bthe word info\b|\bword component_idx\b", "the info word"),
+    (r"\b(?:an|its|invents?) out of memory\b|\black of memory\b", "running out of memory"),
+    (r"\b(?:bytes?|what|that|much) (?:came|come)\b|\b(?:comes?|came) (?:in|out|whole|at once)\b", "arrive, were read"),
+    (r"\bat an? (?:faults?|errors?)\b", "on a fault"),
+    (r"\balso (?:if|where|when)\b", "even if"),
+    (r"\bfor ever\b|\bat hand\b|\bamid\b|\bbeside\b|\bafterwards\b", "during, available, next to, then"),
+    (r"\bmend\b|\bjudged?\b|\blends?\b|\blent\b", "repair, check, borrow"),
+    (r"\b(?:mean|means) the same\b", "hold the same instructions, or the same types in the same order"),
+]
+
+
+def check_edits(report):
+    """The name of an edit says what the wrong program does, verb first."""
+    edits = sorted(TOP.glob("crates/*/must-fail/*.edit"))
+    with report.group(f"the names of {len(edits)} edits"):
+        for path in edits:
+            verb = path.stem.partition("_")[0]
+            report.expect_that(verb.endswith("s") and "_" in path.stem, path.stem, "its name doesn't begin with a verb")
+
+
+def main():
+    report = Report()
+    for page in PAGES:
+        text = " ".join(LEFT_OUT.sub("", page.read_text()).split())
+        with report.group(f"the wording of {page.relative_to(TOP)}"):
+            for pattern, instead in PHRASES:
+                found = re.search(rf".{{0,30}}(?:{pattern}).{{0,30}}", text, re.IGNORECASE)
+                report.expect_that(found is None, found and found[0], f"write: {instead}")
+    check_edits(report)
+    return report.end("wording")
+
+
+if __name__ == "__main__":
+    sys.exit(main())

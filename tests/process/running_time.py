@@ -1,0 +1,236 @@
+"""Limits the time and the memory of the BTF commands on large inputs that are hard for them, and the memory of two commands for
+instructions on the largest programs.
+
+    python3 -m tests.process.running_time PROGRAM
+
+Each BTF file goes through btf-check, btf-canon and btf-same. A run may need twenty times the processor time that was measured, and
+an address space of eight times its input; valid names in the longest string section may need four times. The margins are wide, so
+that a slower machine passes and another order of growth doesn't: a quadratic search needs hundreds of times as long here.
+insn-groups and insn-same store their input and nothing else that grows with it, so they may need 1.1 times its length.
+
+bench/hard_inputs measures the processor time and the least address space of each run, from which the constants below come.
+"""
+
+import os
+import resource
+import subprocess
+import sys
+import tempfile
+from typing import Callable, NamedTuple
+
+from tests.program import Report
+from tests.samples import EXIT, MOV, MOV_BIG, WIDE, WIDE_BIG, btf
+
+MEGABYTE = 1 << 20
+STRINGS = 16 * MEGABYTE
+TIMES_THE_TIME = 20
+TIMES_THE_INPUT = 8
+TIMES_THE_PROGRAM = 1.1
+LARGEST_PROGRAM = 64 * MEGABYTE
+ENUM_VALUES = MEMBERS = 65_535
+# This many structs and as many unions fill a file.
+RECORDS_OF_MEMBERS = 20
+# A longer run is ended.
+MOST_SECONDS = 100
+
+
+class Ran(NamedTuple):
+    """What a run gave: its status, what it wrote, and its processor time."""
+
+    status: int
+    output: bytes
+    seconds: float
+
+
+def run(program, line, given, memory):
+    """Runs the program on a file within an address space of these bytes."""
+
+    def limit():
+        resource.setrlimit(resource.RLIMIT_AS, (memory, memory))
+        resource.setrlimit(resource.RLIMIT_CPU, (MOST_SECONDS, MOST_SECONDS))
+
+    with tempfile.TemporaryFile() as source, tempfile.TemporaryFile() as sink:
+        source.write(given)
+        source.seek(0)
+        process = subprocess.Popen([program, *line.split()], stdin=source, stdout=sink, stderr=subprocess.STDOUT, preexec_fn=limit)
+        _, status, usage = os.wait4(process.pid, 0)
+        process.returncode = os.waitstatus_to_exitcode(status)
+        sink.seek(0)
+        return Ran(process.returncode, sink.read(), usage.ru_utime + usage.ru_stime)
+
+
+# ---- inputs
+
+
+def enums(offsets):
+    """ENUMs whose values have the names at these offsets, in order."""
+    words = []
+    for start in range(0, len(offsets), ENUM_VALUES):
+        names = offsets[start : start + ENUM_VALUES]
+        words += [0, 0x0600_0000 | len(names), 4]
+        for name in names:
+            words += [name, 0]
+    return words
+
+
+def named(names):
+    """A file of ENUM values with these names, each stored on its own."""
+    strings, offsets = b"\0" + b"\0".join(names) + b"\0", []
+    at = 1
+    for name in names:
+        offsets.append(at)
+        at += len(name) + 1
+    return file_of(offsets, strings)
+
+
+def file_of(offsets, strings):
+    words = enums(offsets)
+    assert len(strings) <= STRINGS and 4 * len(words) <= 2 * STRINGS
+    return btf("little", words, strings)
+
+
+def letters(number, width, alphabet=b"abcdefghijklmnopqrstuvwxyz"):
+    """The name for a number, in a fixed width."""
+    name = bytearray()
+    for _ in range(width):
+        number, digit = divmod(number, len(alphabet))
+        name.append(alphabet[digit])
+    return bytes(name)
+
+
+def common_suffix():
+    return named([letters(number, 4) + b"_" * 49 for number in range(300_000)])
+
+
+def different_names():
+    """Three million 4-letter names, from an alphabet of 94."""
+    alphabet = bytes(range(0x21, 0x7F))
+    names = [letters(number, 4, alphabet) for number in range(3_000_000)]
+    return named(names)
+
+
+def twin_strings():
+    """Each of 1,300,000 names is stored twice, and both copies are used."""
+    names = [letters(number, 5) for number in range(1_300_000)]
+    return named(names + names)
+
+
+def nested_suffixes():
+    """Strings of 2,000 letters, each used from each of its bytes on: every name ends all those before it."""
+    strings, offsets = bytearray(b"\0"), []
+    for number in range(500):
+        text = letters(number, 4) + b"a" * 1996
+        offsets += range(len(strings), len(strings) + len(text))
+        strings += text + b"\0"
+    return file_of(offsets, bytes(strings))
+
+
+def one_long_suffix():
+    """One string of a million letters, used from each of its bytes on."""
+    return file_of(list(range(1, 1_000_001)), b"\0" + b"a" * 1_000_000 + b"\0")
+
+
+def one_name():
+    """A name of a million bytes that is used two million times."""
+    return file_of([1] * 2_000_000, b"\0" + b"n" * 1_000_000 + b"\0")
+
+
+def valid_utf8():
+    """16 MB of characters of one to four bytes, and one name."""
+    text = "aé€😀".encode() * ((STRINGS - 2) // 10)
+    return file_of([1], b"\0" + text + b"a" * (STRINGS - 2 - len(text)) + b"\0")
+
+
+def members(flag, last_width):
+    """Structs and unions of as many members as a record can have. Only the last member of each has a width, if any has one."""
+    words = [0, 0x0100_0000, 4, 32]
+    for kind in [0x0400_0000, 0x0500_0000] * RECORDS_OF_MEMBERS:
+        words += [0, flag << 31 | kind | MEMBERS, 4]
+        words += [0, 1, 0] * (MEMBERS - 1) + [0, 1, last_width << 24]
+    return btf("little", words, b"\0")
+
+
+class Input(NamedTuple):
+    """A file, how many times its length its address space may be, and the seconds of each command (below)."""
+
+    make: Callable[[], bytes]
+    times: int
+    is_canonical: bool
+    seconds: tuple[float, float, float]
+
+
+# The processor times of btf-check, btf-canon and btf-same, the least of three runs each, on a processor of 2.5 GHz that other
+# work shared.
+INPUTS = {
+    "300,000 names with a common suffix": Input(common_suffix, TIMES_THE_INPUT, True, (0.03, 0.11, 0.05)),
+    "three million different names": Input(different_names, TIMES_THE_INPUT, True, (0.08, 0.49, 0.13)),
+    "1,300,000 strings that are there twice": Input(twin_strings, TIMES_THE_INPUT, False, (0.08, 0.62, 0.11)),
+    "a million nested suffixes of 500 strings": Input(nested_suffixes, TIMES_THE_INPUT, False, (0.02, 0.07, 0.04)),
+    "a million nested suffixes of one string": Input(one_long_suffix, TIMES_THE_INPUT, True, (0.03, 0.07, 0.04)),
+    "a name of a million bytes, used two million times": Input(one_name, TIMES_THE_INPUT, True, (0.04, 0.07, 0.06)),
+    "16 MB of valid UTF-8": Input(valid_utf8, 4, True, (0.05, 0.10, 0.06)),
+    "members without widths": Input(lambda: members(0, 0), TIMES_THE_INPUT, True, (0.04, 0.10, 0.08)),
+    "members whose widths are all 0": Input(lambda: members(1, 0), TIMES_THE_INPUT, False, (0.05, 0.11, 0.10)),
+    "members of which the last has a width": Input(lambda: members(1, 1), TIMES_THE_INPUT, True, (0.06, 0.12, 0.13)),
+}
+
+
+def lines_of(file):
+    """Each command with its input."""
+    return [("btf-check", file), ("btf-canon", file), (f"btf-same --split {len(file)}", file + file)]
+
+
+def largest_programs():
+    """The lines for the largest programs of moves, wide loads and exits: each with its input, output and measured processor time."""
+    little, big = (code * (LARGEST_PROGRAM // len(code)) for code in (MOV + WIDE + EXIT, MOV_BIG + WIDE_BIG + EXIT))
+    return [
+        ("insn-groups", little, b"base32\nbase64\n", 0.10),
+        ("insn-groups --order big", big, b"base32\nbase64\n", 0.10),
+        (f"insn-same --split {len(little)}", little + little, b"same\n", 0.15),
+        (f"insn-same --split {len(little)} --other big", little + big, b"same\n", 0.15),
+    ]
+
+
+# ---- checks
+
+
+def is_output(line, output, file, is_canonical):
+    """Whether a run wrote what is right. Canonical bytes are known of a file that is canonical."""
+    if line == "btf-canon":
+        return output == file if is_canonical else len(output) <= len(file)
+    return output.startswith(b"ok ") if line == "btf-check" else output == b"same\n"
+
+
+def check(program, report, name, input):
+    file = input.make()
+    for (line, given), seconds in zip(lines_of(file), input.seconds, strict=True):
+        ran = run(program, line, given, input.times * len(given))
+        is_right = ran.status == 0 and is_output(line, ran.output, file, input.is_canonical)
+        report.expect_that(is_right, f"{line}, {name}", f"within {input.times} times its input it gave {ran.status}, {ran.output[:40]}")
+        limit = TIMES_THE_TIME * seconds
+        report.expect_that(ran.seconds <= limit, f"{line}, {name}", f"it took {ran.seconds:.2f} s, and {limit:.2f} s are the limit")
+
+
+def check_programs(program, report):
+    with report.group("time and memory with the largest programs"):
+        for line, given, output, seconds in largest_programs():
+            ran = run(program, line, given, int(TIMES_THE_PROGRAM * len(given)))
+            is_right = (ran.status, ran.output) == (0, output)
+            report.expect_that(is_right, line, f"within {TIMES_THE_PROGRAM} times its input it gave {ran.status}, {ran.output[:40]}")
+            limit = TIMES_THE_TIME * seconds
+            report.expect_that(ran.seconds <= limit, line, f"it took {ran.seconds:.2f} s, and {limit:.2f} s are the limit")
+
+
+def main():
+    if len(sys.argv) != 2:
+        sys.exit(__doc__)
+    program, report = sys.argv[1], Report()
+    for name, input in INPUTS.items():
+        with report.group(f"time and memory with {name}"):
+            check(program, report, name, input)
+    check_programs(program, report)
+    return report.end("running time")
+
+
+if __name__ == "__main__":
+    sys.exit(main())

@@ -1,0 +1,216 @@
+"""Runs the built command as users do: its arguments, its streams, its exit status.
+
+    python3 -m tests.process.streams PROGRAM
+
+No contract says what the system passes to `main`, nor which stream a line goes to. These tests compare both: for
+worked examples of every command, the exit status, the output and the line on standard error.
+"""
+
+import contextlib
+import os
+import select
+import socket
+import subprocess
+import sys
+
+from tests.program import SECONDS, Program, Ran, Report
+from tests.samples import CALL_BY_REGISTER, EXIT, INT_BIG, LOOSE_INT, MOV, MOV_BIG, SOURCE_BESIDE_IMMEDIATE
+
+READ_FAILED = Ran(3, b"", b"read failed\n")
+WRITE_FAILED = Ran(3, b"", b"write failed\n")
+
+# A line of each command that writes something, with its input.
+EACH_COMMAND = [
+    ("", EXIT),
+    ("insn-canon --order big", MOV_BIG),
+    ("insn-show", EXIT),
+    ("insn-read", b"exit"),
+    ("insn-groups", EXIT),
+    ("insn-same --split 8 --order big", MOV_BIG + MOV),
+    ("btf-canon", INT_BIG),
+    ("btf-show", INT_BIG),
+    ("btf-check", INT_BIG),
+    ("btf-same --split 45", INT_BIG + LOOSE_INT),
+]
+
+
+
+
+# ---- streams that fail
+
+
+def check_failing_reads(program, report):
+    with report.group("standard input is a folder, is closed, or has nothing yet"), open_folder("/") as folder:
+        for line, _ in EACH_COMMAND:
+            report.expect(f"{line} on a folder", program.run(line, stdin=folder), READ_FAILED)
+            closed = program.run(line, preexec_fn=lambda: os.close(0))
+            report.expect(f"{line} on a closed input", closed, READ_FAILED)
+            with pipe() as (reader, _):
+                os.set_blocking(reader, False)
+                report.expect(f"{line} on a pipe that would block", program.run(line, stdin=reader), READ_FAILED)
+
+
+def check_failing_writes(program, report):
+    with report.group("standard output is full, is closed, or nobody reads it"), open("/dev/full", "wb") as full:
+        for line, given in EACH_COMMAND:
+            report.expect(f"{line} to a full device", program.run(line, given, stdout=full), WRITE_FAILED)
+            closed = program.run(line, given, preexec_fn=lambda: os.close(1))
+            report.expect(f"{line} to a closed output", closed, WRITE_FAILED)
+            with pipe() as (reader, writer):
+                os.close(reader)
+                report.expect(f"{line} to a cut pipe", program.run(line, given, stdout=writer), WRITE_FAILED)
+
+
+def check_failing_fault_lines(program, report):
+    """Where the line on standard error can't be written, the status and the output are as ever."""
+    faulty = EXIT + SOURCE_BESIDE_IMMEDIATE
+    with report.group("standard error is full or is closed"), open("/dev/full", "wb") as full:
+        for line, given, status, output in [
+            ("insn-canon", faulty, 1, EXIT),
+            ("insn-show", faulty, 1, b""),
+            ("insn-same", b"", 2, b""),
+            ("insn-show", EXIT, 0, b"exit\n"),
+        ]:
+            right = Ran(status, output, b"")
+            report.expect(f"{line}, full", program.run(line, given, stderr=full), right)
+            report.expect(f"{line}, closed", program.run(line, given, preexec_fn=lambda: os.close(2)), right)
+
+
+@contextlib.contextmanager
+def open_folder(path):
+    folder = os.open(path, os.O_RDONLY)
+    try:
+        yield folder
+    finally:
+        os.close(folder)
+
+
+@contextlib.contextmanager
+def pipe():
+    ends = os.pipe()
+    try:
+        yield ends
+    finally:
+        for end in ends:
+            with contextlib.suppress(OSError):
+                os.close(end)
+
+
+# ---- calls that fail once
+
+
+def input_that_fails_once(first):
+    """A socket that delivers these bytes, then one error, and then its end."""
+    ours, theirs = socket.socketpair()
+    theirs.send(b"unread")
+    ours.send(first)
+    ours.close()  # with bytes that nobody read: the other side learns once that the connection was reset
+    return theirs
+
+
+def output_that_fails_once():
+    """A socket whose next write fails, and which accepts all that follow."""
+    with socket.socket(socket.AF_INET, socket.SOCK_DGRAM) as taken:
+        taken.bind(("127.0.0.1", 0))
+        port = taken.getsockname()[1]
+    output = socket.socket(socket.AF_INET, socket.SOCK_DGRAM)
+    output.connect(("127.0.0.1", port))
+    output.send(b"nobody listens")
+    waiting = select.poll()
+    waiting.register(output, select.POLLERR)
+    if not waiting.poll(5_000):
+        raise OSError("a datagram that nobody takes isn't answered by an error")
+    return output
+
+
+def fails_once(call, following):
+    """Whether the first call fails and the next one doesn't."""
+    try:
+        call()
+        return False
+    except OSError:
+        pass
+    try:
+        return following()
+    except OSError:
+        return False
+
+
+def check_reads_are_not_tried_again(program, report):
+    with input_that_fails_once(b"") as trial:
+        if not fails_once(lambda: trial.recv(1), lambda: trial.recv(1) == b""):
+            return report.skip("a read that fails once", "this system's sockets have no such read")
+    with report.group("a read that fails once is not tried again"):
+        for line, given in EACH_COMMAND:
+            writes_as_it_reads = line == "" or line.startswith("insn-canon")
+            output = program.run(line, given).output if writes_as_it_reads else b""
+            with input_that_fails_once(given) as failing:
+                right = Ran(3, output, b"read failed\n")
+                report.expect(f"{line}, then a failed read", program.run(line, stdin=failing), right)
+
+
+def check_writes_are_not_tried_again(program, report):
+    try:
+        with output_that_fails_once() as trial:
+            if not fails_once(lambda: trial.send(b"1"), lambda: trial.send(b"2") == 1):
+                raise OSError("a datagram socket has no such write")
+    except OSError as why:
+        return report.skip("a write that fails once", str(why))
+    with report.group("a write that fails once is not tried again"):
+        for line, given in EACH_COMMAND:
+            with output_that_fails_once() as failing:
+                report.expect(f"{line}, to a failed write", program.run(line, given, stdout=failing), WRITE_FAILED)
+
+
+# ---- answers before the input's end
+
+
+def start(program, line):
+    words = [program.path, *line.split()]
+    return subprocess.Popen(words, bufsize=0, stdin=subprocess.PIPE, stdout=subprocess.PIPE, stderr=subprocess.PIPE)
+
+
+def read_within(stream, count):
+    """The next bytes of a stream, fewer if they are late or if it ends."""
+    read = b""
+    while len(read) < count and select.select([stream], [], [], SECONDS)[0]:
+        more = os.read(stream.fileno(), count - len(read))
+        if not more:
+            break
+        read += more
+    return read
+
+
+def check_answers_amid_the_input(program, report):
+    with report.group("insn-canon answers before its input ends"):
+        for line, given, output in [("", EXIT, EXIT), ("insn-canon --order big", MOV_BIG, MOV)]:
+            with start(program, line) as running:
+                for turn in range(3):
+                    for at in range(len(given)):
+                        running.stdin.write(given[at : at + 1])
+                    read = read_within(running.stdout, len(output))
+                    report.expect_that(read == output, f"{line}, instruction {turn}", f"it gave {read}")
+                running.stdin.write(CALL_BY_REGISTER)
+                message = read_within(running.stderr, len(b"fault 24 Opcode\n"))
+                report.expect_that(message == b"fault 24 Opcode\n", line, f"it wrote {message}")
+                report.expect_that(running.wait(SECONDS) == 1, line, f"status {running.returncode}")
+
+
+def main():
+    if len(sys.argv) != 2:
+        sys.exit(__doc__)
+    program, report = Program(sys.argv[1]), Report()
+    for check in [
+        check_failing_reads,
+        check_failing_writes,
+        check_failing_fault_lines,
+        check_reads_are_not_tried_again,
+        check_writes_are_not_tried_again,
+        check_answers_amid_the_input,
+    ]:
+        check(program, report)
+    return report.end("streams")
+
+
+if __name__ == "__main__":
+    sys.exit(main())

@@ -1,0 +1,174 @@
+"""Runs the built program on testdata/vectors.tsv: each row by every command that reads it, in both byte orders.
+
+    python3 -m tests.process.vectors PROGRAM
+
+testdata/README.md describes the columns. Expected results are in the file, or are those of a row for a part of the input.
+"""
+
+import collections
+import re
+import subprocess
+import sys
+
+from tests import TOP
+from tests.program import SECONDS, Program, Ran, Report
+from tests.reference import insn_reference
+from tests.vector_rows import TESTDATA, data, is_bytes, rows, text
+
+TABLE = TOP / "crates" / "bpfcanon" / "src" / "tests" / "vectors.rt"
+EXIT = bytes.fromhex("9500000000000000")
+NO_TYPES = bytes.fromhex("9feb01001800000000000000000000000000000001000000" "00")
+# The groups in the order in which they are listed.
+GROUPS = ["base32", "base64", "atomic32", "atomic64", "divmul32", "divmul64", "packet"]
+# The number of rows of each kind, so that none is omitted or misspelt unnoticed.
+ROWS = {"insn": 182, "insn-fault": 100, "listing": 24, "listing-fault": 75, "btf": 56, "btf-fault": 117, "run": 263}
+
+
+def done(output):
+    return Ran(0, output, b"")
+
+
+def refused(message, output=b""):
+    return Ran(1, output, message.encode() + b"\n")
+
+
+def runs_of_insns():
+    included = insn_reference.included()
+    for line, little, big, group in rows("insn"):
+        shown, little, big = line.encode() + b"\n", data(little), data(big)
+        groups = "".join(f"{it}\n" for it in included[group]).encode()
+        yield line, "insn-canon", little, done(little)
+        yield line, "insn-canon --order big", big, done(little)
+        yield line, "insn-canon --to big", little, done(big)
+        yield line, "insn-show", little, done(shown)
+        yield line, "insn-show --order big", big, done(shown)
+        yield line, "insn-read", shown, done(little)
+        yield line, "insn-read --to big", shown, done(big)
+        yield line, "insn-groups --order big", big, done(groups)
+        yield line, f"insn-same --split {len(little)} --other big", little + big, done(b"same\n")
+        yield line, f"insn-same --split {len(little)}", little + little + EXIT, Ran(1, b"different\n", b"")
+
+
+def runs_of_all_insns():
+    all_rows = rows("insn")
+    shown = "".join(f"{line}\n" for line, *_ in all_rows).encode()
+    little, big = (b"".join(data(row[at]) for row in all_rows) for at in (1, 2))
+    yield "all", "insn-canon --order big", big, done(little)
+    yield "all", "insn-canon --to big", little, done(big)
+    yield "all", "insn-show --order big", big, done(shown)
+    yield "all", "insn-read", shown, done(little)
+    yield "all", "insn-groups", little, done("".join(f"{group}\n" for group in GROUPS).encode())
+
+
+def runs_of_faulty_insns():
+    for name, little, big, pos, cause in rows("insn-fault"):
+        little, big, message, later = data(little), data(big), f"fault {pos} {cause}", f"fault {int(pos) + 8} {cause}"
+        yield name, "insn-canon", little, refused(message)
+        yield name, "insn-canon --order big", big, refused(message)
+        yield name, "insn-canon --to big", EXIT + little, refused(later, EXIT)
+        yield name, "insn-show --order big", big, refused(message)
+        yield name, "insn-show", EXIT + little, refused(later)
+        yield name, "insn-groups", little, refused(message)
+        yield name, f"insn-same --split {len(big)} --order big", big + little, refused(f"first: {message}")
+        yield name, "insn-same --split 8 --other big", EXIT + big, refused(f"second: {message}")
+
+
+def runs_of_listings(program):
+    for name, given, shown in rows("listing"):
+        read = program.run("insn-read", text(given))
+        yield name, "insn-read", text(given), done(read.output)
+        yield name, "insn-show", read.output, done(text(shown))
+        yield name, "insn-read", text(shown), done(read.output)
+    for name, given, line, cause in rows("listing-fault"):
+        yield name, "insn-read", text(given), refused(f"fault line {line} {cause}")
+        later = f"fault line {int(line) + 2} {cause}"
+        yield name, "insn-read --to big", b"exit\n; none\n" + text(given) + b"\n", refused(later)
+
+
+def runs_of_btf():
+    for name, file, little, big, count, shown in rows("btf"):
+        little, big = data(little), data(big)
+        for given in {data(file), little, big}:
+            yield name, "btf-canon", given, done(little)
+            yield name, "btf-canon --to big", given, done(big)
+            yield name, "btf-show", given, done(text(shown))
+            yield name, "btf-check", given, done(f"ok {count} types\n".encode())
+            yield name, f"btf-same --split {len(given)}", given + little, done(b"same\n")
+        if little != NO_TYPES:
+            yield name, f"btf-same --split {len(big)}", big + NO_TYPES, Ran(1, b"different\n", b"")
+
+
+def runs_of_faulty_btf():
+    for name, *files, pos, cause in rows("btf-fault"):
+        for given in map(data, files):
+            for command in "btf-check", "btf-canon", "btf-show":
+                yield name, command, given, refused(f"fault {pos} {cause}")
+            first, second = f"btf-same --split {len(given)}", f"btf-same --split {len(NO_TYPES)}"
+            yield name, first, given + NO_TYPES[:20], refused(f"first: fault {pos} {cause}")
+            yield name, second, NO_TYPES + given, refused(f"second: fault {pos} {cause}")
+
+
+def runs_of_lines():
+    for name, line, given, status, output, message in rows("run"):
+        output = data(output) if is_bytes(line) else text(output)
+        given = text(given) if line.startswith("insn-read") else data(given)
+        yield name, line.lstrip("-") if line == "-" else line, given, Ran(int(status), output, text(message) + b"\n" * (message != "-"))
+
+
+def runs_of_compiled_files():
+    """What clang made of the same source for both orders."""
+    for name in "packet_filter", "hash_words":
+        little, big = ((TESTDATA / f"{name}.{order}.bin").read_bytes() for order in ("little", "big"))
+        yield name, "insn-canon --order big", big, done(little)
+        yield name, "insn-canon", little, done(little)
+        yield name, f"insn-same --split {len(big)} --order big", big + little, done(b"same\n")
+
+
+def check_rows(report):
+    with report.group("the rows of each kind"):
+        lines = (TESTDATA / "vectors.tsv").read_text().splitlines()
+        kinds = collections.Counter(line.split("\t")[0] for line in lines if line and not line.startswith("#"))
+        report.expect_that(kinds == ROWS, "the file", f"its rows are {dict(kinds)}")
+        for kind, count in ROWS.items():
+            report.expect_that(len(rows(kind)) == count, kind, f"{len(rows(kind))} rows are read, and {count} are there")
+
+
+def check_table(report):
+    """The tests of the crate bpfcanon have the rows `run` as tools/to_rows makes them."""
+    with report.group("the rows of the crate's tests"):
+        made = subprocess.run([TOP / "tools" / "to_rows"], stdout=subprocess.PIPE, timeout=SECONDS)
+        report.expect_that(made.returncode == 0 and made.stdout == TABLE.read_bytes(), TABLE.name, "tools/to_rows makes another one")
+        count = TABLE.read_text().count("\n    Row {")
+        report.expect_that(count == ROWS["run"], TABLE.name, f"it has {count} rows, and {ROWS['run']} belong there")
+        tables = re.findall(r"static (RUNS_\d+)", TABLE.read_text())
+        tried = re.findall(r"&(RUNS_\d+)", (TABLE.parent / "rows.rt").read_text())
+        report.expect_that(tables == tried, "rows.rt", f"it tries {tried}, and the tables are {tables}")
+
+
+def main():
+    if len(sys.argv) != 2:
+        sys.exit(__doc__)
+    program, report = Program(sys.argv[1]), Report()
+    check_rows(report)
+    check_table(report)
+    for name, runs, count in [
+        ("instructions", runs_of_insns(), 10 * ROWS["insn"]),
+        ("these instructions in one file", runs_of_all_insns(), 5),
+        ("faulty instructions", runs_of_faulty_insns(), 8 * ROWS["insn-fault"]),
+        ("listings", runs_of_listings(program), 3 * ROWS["listing"] + 2 * ROWS["listing-fault"]),
+        ("BTF", runs_of_btf(), 788),
+        ("faulty BTF", runs_of_faulty_btf(), 10 * ROWS["btf-fault"]),
+        ("command lines", runs_of_lines(), ROWS["run"]),
+        ("compiled programs", runs_of_compiled_files(), 6),
+    ]:
+        with report.group(name):
+            before = report.runs
+            for what, line, given, right in runs:
+                report.expect(f"{what} ({line})", program.run(line, given), right)
+            made = report.runs - before
+            report.expect_that(made == count, name, f"these are {made} runs, and {count} belong here")
+    return report.end("vectors")
+
+
+if __name__ == "__main__":
+    sys.exit(main())

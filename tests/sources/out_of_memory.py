@@ -1,0 +1,63 @@
+"""Shows by the form of the sources that out of memory is only passed on, never invented.
+
+    python3 -m tests.sources.out_of_memory [FILE..]
+
+No contract can say that an allocator failed, so a body that returns this error for an input would be proved. It would have to name the error
+somewhere, though. rt ci refuses a file in another layout than rt fmt's, so each line of crates/*/src that names `AllocError`, or a
+variant whose name ends in `Memory`, has to be one of these lines: anything else is refused, right or not.
+"""
+
+import re
+import sys
+
+from tests import TOP
+from tests.program import Report
+
+CRATES = TOP / "crates"
+NAME = re.compile(r"\bAllocError\b|\bAllocFailed\b|\b\w*Memory\b(?!\()")
+ANSWER = r"(?:\w+::)*\w*Memory(?:, 0)?|AllocError"
+IN_ARM = rf"(?:Err\()?(?:{ANSWER})\)?"
+LINES = [
+    # what isn't an expression: comments, imports, strings, definitions, types, and lone patterns
+    r" *(?://|ghost |use |#\[error).*",
+    r" *\w+(?:, \w+)*,",
+    r".*(?:\) -> |: )Result<.*, AllocError>(?: \{|,)?",
+    rf" *(?:\| )?(?:\w+::\w+ \| )*\w+::Memory => (?:3|4|\"[\w ]+\"|\w+\(.*\)),",
+    r".*(?:≡|≢|→|λ).*",
+    # the conversions, whose body is the next line
+    r"impl.* From<Alloc(?:Error|Failed<T>)> for \w+(?:<.*>)? \{",
+    r" *fn from\(\w+: Alloc(?:Error|Failed<T>)\) -> \w+(?:<.*>)? \{",
+    # an answer that is passed on as one
+    rf" *{IN_ARM} => (?:return )?(?:Err\()?(?:\w+\()?(?:{ANSWER})\)*,",
+]
+# `Err(_)` of a call whose only error is `AllocError` is that one: the number of such arms in each file.
+ONLY_ERROR = re.compile(r" *Err\(_\) => \w+::Memory,")
+ARMS = {"bpfcanon_c/src/listing.rt": 1, "bpfcanon_c/src/types_text.rt": 1}
+
+
+def wrong_lines(source):
+    """Each line that isn't one of the above, with its number."""
+    lines = source.splitlines()
+    for number, line in enumerate(lines):
+        is_conversion = number and re.fullmatch(LINES[6], lines[number - 1])
+        if NAME.search(re.sub(r'"[^"]*"', '""', line)) and not is_conversion and not any(re.fullmatch(it, line) for it in LINES):
+            yield number + 1, line
+
+
+def main():
+    report = Report()
+    with report.group("out of memory in the sources"):
+        for path in sorted(CRATES.glob("*/src/**/*.rt")):
+            name = str(path.relative_to(CRATES))
+            if "/tests" in name:
+                continue
+            wrong = list(wrong_lines(path.read_text()))
+            arms = [it for it in wrong if ONLY_ERROR.fullmatch(it[1])]
+            others = [it for it in wrong if it not in arms]
+            is_right = not others and len(arms) == ARMS.get(name, 0)
+            report.expect_that(is_right, name, f"out of memory isn't passed on in {others or arms}")
+    return report.end("out of memory")
+
+
+if __name__ == "__main__":
+    sys.exit(main())

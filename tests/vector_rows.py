@@ -1,0 +1,26 @@
+"""Reads testdata/vectors.tsv, whose README describes the columns."""
+
+from tests import TOP
+
+TESTDATA = TOP / "testdata"
+
+
+def rows(kind):
+    """The fields of each row of a kind, without the kind."""
+    lines = (TESTDATA / "vectors.tsv").read_text().splitlines()
+    return [line.split("\t")[1:] for line in lines if line.startswith(f"{kind}\t")]
+
+
+def text(field):
+    """The bytes of a field that is a string."""
+    return b"" if field == "-" else field.encode().decode("unicode_escape").encode("latin-1")
+
+
+def data(field):
+    """The bytes of a field of hexadecimal digits."""
+    return b"" if field == "-" else bytes.fromhex(field)
+
+
+def is_bytes(line):
+    """Whether the output of a command is bytes, and not a string."""
+    return line == "-" or line.startswith(("insn-canon", "insn-read", "btf-canon"))
