@@ -1,5 +1,5 @@
+-- Only private contracts cite this file.
 -- The instructions before an offset of a file, and at it an instruction, whose group is added to a set, or a fault.
--- No contract of a public function cites this file.
 use Rattle.std.specs.Prelude.{◌≡◌, ◌↔◌, ◌⊎◌, ◌≤◌, ℕ, ◌+◌, ◌++◌, Bool, true, false, List, length, drop, slice_range, slice_index_or, All, IsTrue}
 use Rattle.bpf_words.specs.declared.Order.{Order}
 use Rattle.bpf_insn.specs.declared.{insn.Insn.Insn, insn.Insn.TheVariants.Swap, fault.SlotFault.SlotFault, group.Group.Group, group.GroupSet.GroupSet}

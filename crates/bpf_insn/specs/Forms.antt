@@ -1,5 +1,5 @@
+-- Only private contracts cite this file.
 -- Forms: what an opcode determines without the other fields, and which values each form allows in the fields after it.
--- No contract of a public function cites this file.
 use Rattle.std.specs.Prelude.{◌≡◌, ◌≢◌, ◌==◌, List, length, slice_range, ℕ, ◌/◌, ◌%◌, ◌<◌, ◌≤◌, ℤ, pos, Option, Some, None, if◌then◌else◌, ◌⊎◌, option_and_then}
 use Rattle.bpf_words.specs.{declared.Order.Order, Words.word32, Slots.Fields, Slots.fields}
 use Rattle.bpf_insn.specs.{Spelling.second_slot, Faults.place, declared.insn.WideOf.WideOf}

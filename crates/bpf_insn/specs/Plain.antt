@@ -1,5 +1,5 @@
+-- Only private contracts cite this file.
 -- Plain instructions, in which each field after the opcode can be checked by itself, and these checks as bits of a number.
--- No contract of a public function cites this file.
 use Rattle.std.specs.Prelude.{◌≡◌, ℕ, ◌+◌, ◌*◌, ◌/◌, ◌%◌, ◌≤◌, pos, Bool, true, false, Option, Some, None, IsSomeAnd, option_and_then}
 use Rattle.std.specs.Bool.{OnFalse}
 use Rattle.bpf_words.specs.{declared.Order.Order, Slots.Fields, Slots.register_byte}

@@ -1,4 +1,5 @@
--- The result of reading the complete instructions at the start of a buffer. Only private contracts cite it.
+-- Only private contracts cite this file.
+-- The result of reading the complete instructions at the start of a buffer.
 use Rattle.std.specs.Prelude.{◌≡◌, ◌≤◌, ◌+◌, ◌++◌, ℕ, List, [], Option, Some, None, length, drop}
 use Rattle.bpf_words.specs.declared.Order.{Order}
 use Rattle.bpf_insn.specs.declared.{insn.Insn.Insn, whole_insns.InsnFront.InsnFront, fault.SlotFault.SlotFault, fault.SlotCause.TheVariants.Truncated}

@@ -1,4 +1,5 @@
--- What one piece of the input does. Only private contracts cite it.
+-- Only private contracts cite this file.
+-- What one piece of the input does.
 use Rattle.std.specs.Prelude.{◌≡◌, ◌≤◌, ℕ, List, [], Option, Some, None, length, take}
 use Rattle.std.specs.Io.KnownBytes.{Appends}
 use Rattle.bpf_insn.specs.declared.fault.SlotFault.{SlotFault}

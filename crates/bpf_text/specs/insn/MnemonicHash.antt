@@ -1,4 +1,5 @@
--- The hash by which the reader finds a mnemonic. No public clause cites it.
+-- Only private contracts cite this file.
+-- The hash by which the reader finds a mnemonic.
 use Rattle.std.specs.Prelude.{ℕ, ◌+◌, ◌*◌, ◌/◌, ◌%◌, List, [], ◌∷◌}
 
 -- a hash, continued over more bytes

@@ -1,4 +1,5 @@
--- The parts of a section whose framing is valid. The invariant of `Section` and contracts of private functions cite them.
+-- Only private contracts cite this file.
+-- The parts of a section whose framing is valid.
 use Rattle.std.specs.Prelude.{◌^◌, ◌≤◌, length}
 use Rattle.btf_raw.specs.Header.{HasNulEnds}
 use Rattle.btf_types.specs.declared.tables.section.Section.TheInside.{Inside}

@@ -1,4 +1,4 @@
--- The ends of the strings in a string section (btf.rst section 2.1). Contracts of private functions cite this.
+-- The ends of the strings in a string section (btf.rst section 2.1).
 use Rattle.std.specs.Prelude.{◌≡◌, ℕ, ◌+◌, ◌<◌, ◌≤◌, List, length, slice_index}
 use Rattle.btf_raw.specs.Names.{IsEnd}
 

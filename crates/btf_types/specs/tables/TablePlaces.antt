@@ -1,4 +1,4 @@
--- The offsets into its two sections that a table keeps. The invariants of the tables and contracts of private functions cite them.
+-- The offsets into its two sections that a table keeps. The invariants of the tables cite them.
 use Rattle.std.specs.Prelude.{ℕ, List}
 use Rattle.bpf_words.specs.declared.Order.{Order}
 use Rattle.btf_types.specs.{Values.TypeRecord, Reading.records_at, tables.StringEnds.AreLongEnds, tables.TableInvariant.IsTable}

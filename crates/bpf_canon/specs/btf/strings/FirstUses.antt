@@ -1,3 +1,4 @@
+-- Only private contracts cite this file.
 -- The distinct offsets of a string section at which names begin, in the order of first use.
 use Rattle.std.specs.Prelude.{◌≡◌, ◌≢◌, ℕ, zero, suc, ◌+◌, ◌/◌, ◌%◌, nat_eq, List, [], ◌∷◌, ◌++◌, length, slice_index, if◌then◌else◌}
 use Rattle.std.specs.{Int.bit_at, List.list_any, List.Contains}

@@ -1,3 +1,4 @@
+-- Only private contracts cite this file.
 -- The names at offsets of a string section.
 use Rattle.std.specs.Prelude.{ℕ, List, map}
 use Rattle.btf_types.specs.Reading.{text_from}

@@ -1,4 +1,5 @@
--- The 32-bit words that encode the parts of a record. Contracts of private functions cite it.
+-- Only private contracts cite this file.
+-- The 32-bit words that encode the parts of a record.
 use Rattle.std.specs.Prelude.{◌≡◌, ◌⊎◌, ℕ, ◌^◌, ◌<◌, Bool, List, ◌∷◌, ⊤}
 use Rattle.btf_types.specs.{Values.TypeHead, Values.KFunc, Values.TypeItem, Values.Member, Names.head_name}
 use Rattle.btf_types.specs.Spelling.{kind_number, head_third, linkage_number, head_tail, info}

@@ -1,4 +1,5 @@
--- The offsets of names in the frames of a section. Contracts of private functions cite it.
+-- Only private contracts cite this file.
+-- The offsets of names in the frames of a section.
 use Rattle.std.specs.Prelude.{ℕ, ◌+◌, ◌*◌, ◌<◌, List, [], ◌∷◌, slice_index, if◌then◌else◌}
 use Rattle.std.specs.List.{All, Contains, flat_map}
 use Rattle.btf_raw.specs.{Kinds.item_words, Kinds.has_item_names, Frames.name_word, Frames.kind, Frames.vlen}

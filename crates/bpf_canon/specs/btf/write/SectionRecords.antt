@@ -1,4 +1,5 @@
--- The frames of the sections that a table keeps, and the records that they read as. Contracts of private functions cite it.
+-- Only private contracts cite this file.
+-- The frames of the sections that a table keeps, and the records that they read as.
 use Rattle.std.specs.Prelude.{ℕ, List}
 use Rattle.btf_types.specs.{declared.tables.table.FileSections.FileSections, Values.TypeRecord, Good.has_bit_fields}
 use Rattle.btf_types.specs.Spelling.{kind_number, record_vlen, info}
