@@ -21,7 +21,7 @@ CLAUSE = re.compile(r"^ *ensures\*? (\w+)(?: \{|$)", re.MULTILINE)
 BLOCK = re.compile(r"^(?:pub )?(?:impl|trait)\b.*", re.MULTILINE)
 CALL = re.compile(r"^( *)(?:pub |extern \"C\" )*fn (\w+).*?(?:^\1[{}]|;$)", re.MULTILINE | re.DOTALL)
 # What a comment of a definition says of private contracts, other than the line of tools/from_specs.
-OTHERWISE = re.compile(r"^ *--.*\b(?:private|public) (?:contracts?|functions?|clauses?)\b.*$", re.MULTILINE)
+OTHERWISE = re.compile(r"^ *--.*\b(?:private|public) (?:contracts?|functions?|clauses?)\b.*$", re.MULTILINE | re.IGNORECASE)
 DECLARED = re.compile(r"^ *(?:abbrev |unfoldable )?(?:pub )?(?:record |data )?(\w+)(?: [^:\n]*)? :", re.MULTILINE)
 
 
