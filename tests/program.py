@@ -1,6 +1,7 @@
 """Runs the built command as a process, and counts what was right and wrong."""
 
 import contextlib
+import shutil
 import subprocess
 from typing import NamedTuple
 
@@ -79,6 +80,13 @@ class Report:
     def skip(self, what, why):
         self.skipped += 1
         print(f"skipped: {what}: {why}", flush=True)
+
+    def lacks(self, what, *tools):
+        """Whether one of these tools isn't there, whose packages are in tests/packages.txt. Then what needs it is skipped."""
+        missing = [tool for tool in tools if not shutil.which(tool)]
+        if missing:
+            self.skip(what, f"there is no {' and no '.join(missing)}")
+        return bool(missing)
 
     def end(self, name):
         """Prints the last line, and returns the exit status."""

@@ -3,6 +3,8 @@
 from tests import TOP
 
 TESTDATA = TOP / "testdata"
+# The number of rows of each kind, so that none is omitted or misspelt unnoticed.
+ROWS = {"insn": 182, "insn-fault": 100, "listing": 24, "listing-fault": 75, "btf": 56, "btf-fault": 117, "run": 263}
 
 
 def rows(kind):

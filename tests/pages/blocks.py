@@ -1,10 +1,11 @@
 """Runs the blocks of the pages that no other test runs, and checks that every other block has a test.
 
-    python3 -m tests.pages.blocks PROGRAM
+    python3 -m tests.pages.blocks [PROGRAM]
 
 The shell blocks of README, docs/BUILDING.md, docs/CHANGING.md, bench/ and bindings/ call scripts that need up to an hour, or that
 install something. They run in a folder where a stand-in notes each call. That of rt runs PROGRAM, and the install script is real.
-The examples of bpfcanon.1 run with PROGRAM. The blocks of testdata/README.md compile the files of that folder again.
+The examples of bpfcanon.1 run with PROGRAM. The blocks of testdata/README.md compile the files of that folder again. Without PROGRAM
+none is run.
 """
 
 import hashlib
@@ -26,10 +27,10 @@ BLOCK = re.compile(r"^```(\w+)\n(.*?)^```$", re.MULTILINE | re.DOTALL)
 # The test that runs the blocks of a page in a language, and how many it finds if it wouldn't notice another one.
 TESTS = {
     ("README.md", "console"): ("tests/pages/readme.py", 2),
-    ("README.md", "rust"): ("tests/run", 1),
+    ("README.md", "rust"): ("tests/quick", 1),
     ("docs/LIBRARY.md", "c"): ("tests/c_interface/library_key.py", 1),
     ("docs/LIBRARY.md", "sh"): ("tests/c_interface/library_key.py", 1),
-    ("docs/LIBRARY.md", "rust"): ("tests/run", 1),
+    ("docs/LIBRARY.md", "rust"): ("tests/quick", 1),
     ("docs/RECIPES.md", "sh"): ("tests/recipes", None),
     ("docs/RECIPES.md", "text"): ("tests/recipes", None),
     ("bindings/go/README.md", "go"): ("tests/bindings", 1),
@@ -43,7 +44,7 @@ NOT_RUN = {("docs/CHANGING.md", "text"), ("docs/FORMATS.md", "text"), ("bindings
 BUILD = "capi/build HOME/.local"
 REQUIRE = f"go mod edit -require=bpfcanon@v{VERSION} -replace=bpfcanon="
 CALLS = {
-    "README.md": [["rt run -- insn-canon --order big"], ["verify"]],
+    "README.md": [["rt run -- insn-canon --order big"], ["verify --with-tools"]],
     "bench/README.md": [["bench/run"]],
     "docs/BUILDING.md": [["rt run"], ["capi/archive", BUILD], ["capi/archive aarch64", "capi/build PREFIX"], ["verify"], ["release"]],
     "docs/CHANGING.md": [["rt try --test", "rt check --only form::allows_src", "rt check", "rt fmt", "rt tidy"]],
@@ -133,13 +134,6 @@ def check_calls(report, program, folder):
         report.expect_that((outline.home / ".local" / "bin" / "bpfcanon").is_file(), "docs/BUILDING.md", "nothing is installed")
 
 
-def missing(report, what, tools):
-    lacking = [tool for tool in tools if not shutil.which(tool)]
-    if lacking:
-        report.skip(what, f"{' and '.join(lacking)} missing")
-    return lacking
-
-
 def check_manual(report, program, folder):
     """The examples of bpfcanon.1: canonical bytes, a digest, a difference."""
     examples = (TOP / "man" / "bpfcanon.1").read_text().partition(".SH EXAMPLES\n")[2].partition(".SH ")[0]
@@ -152,7 +146,7 @@ def check_manual(report, program, folder):
         report.expect_that(len(scripts) == 3, "the page", f"it has {len(scripts)} examples")
         for number, script in enumerate(scripts):
             if "llvm-objcopy" in script:
-                if missing(report, "an example of bpfcanon.1", ["clang", "llvm-objcopy"]):
+                if report.lacks("an example of bpfcanon.1", "clang", "llvm-objcopy"):
                     continue
                 shutil.copy(TOP / "testdata" / "flow_table.c", folder)
                 subprocess.run(COMPILE, check=True, **how)
@@ -172,7 +166,7 @@ def check_manual(report, program, folder):
 def check_compiled(report, folder):
     """With the version of clang that the page names, the files are made again as they are."""
     page = TOP / "testdata" / "README.md"
-    if missing(report, "the blocks of testdata/README.md", ["clang", "llvm-objcopy"]):
+    if report.lacks("the blocks of testdata/README.md", "clang", "llvm-objcopy"):
         return
     for source in (TOP / "testdata").glob("*.c"):
         shutil.copy(source, folder)
@@ -190,16 +184,21 @@ def check_compiled(report, folder):
             report.expect_that(made.exists() and made.read_bytes() == file.read_bytes(), file.name, "the page makes another file")
 
 
-def main():
-    if len(sys.argv) != 2:
-        sys.exit(__doc__)
-    program, report = pathlib.Path(sys.argv[1]).resolve(), Report()
-    check_tests(report)
+def run_blocks(report, program):
     for check in lambda folder: check_calls(report, program, folder), lambda folder: check_manual(report, program, folder):
         with tempfile.TemporaryDirectory() as folder:
             check(pathlib.Path(folder).resolve())
     with tempfile.TemporaryDirectory() as folder:
         check_compiled(report, pathlib.Path(folder))
+
+
+def main():
+    if len(sys.argv) > 2:
+        sys.exit(__doc__)
+    report = Report()
+    check_tests(report)
+    if sys.argv[1:]:
+        run_blocks(report, pathlib.Path(sys.argv[1]).resolve())
     return report.end("blocks")
 
 

@@ -1,20 +1,16 @@
-"""Compares README.md, the manual pages, the limits of docs/FAULTS.md, the C header and the completions with the sources and with each
-other: commands, options, limits, statuses, the buffer sizes of calls, and the calls themselves.
-
-    python3 -m tests.pages.pages PROGRAM
+"""Compares README.md, the manual pages, the limits of docs/FAULTS.md and the C header with the sources and with each other: commands,
+options, limits, statuses, the buffer sizes of calls, and the calls themselves.
 """
 
 import os
-import pathlib
 import re
 import shlex
-import shutil
 import subprocess
 import sys
 
 from tests import TOP
 from tests.commands import ALL_OPTIONS, COMMANDS, LIMITS, OPTIONS, constants
-from tests.program import SECONDS, Program, Report
+from tests.program import SECONDS, Report
 from tests.reference import btf_page
 from tests.reference.formats_page import cells, said
 
@@ -23,9 +19,6 @@ HEADER = (TOP / "capi" / "bpfcanon.h").read_text()
 SOURCE = (TOP / "capi" / "bpfcanon.c").read_text()
 COMMAND = TOP / "crates" / "bpfcanon"
 OUTCOME, MAIN, REPORTS = ((COMMAND / name).read_text() for name in ("src/outcome.rt", "src/main.rt", "specs/Outcome.antt"))
-# A value of each option. A byte order has two names.
-VALUES = {"--order": "little", "--to": "little", "--other": "little", "--split": "0"}
-ORDERS = ["big", "little"]
 
 
 def number(value):
@@ -226,8 +219,7 @@ def calls_of(text):
 def check_library_page(report):
     """The page of section 3 declares the calls of the header and shows the example of docs/LIBRARY.md."""
     with report.group("the calls of bpfcanon.3"):
-        if not shutil.which("man"):
-            report.skip("bpfcanon.3", "man is missing")
+        if report.lacks("bpfcanon.3", "man"):
             return
         shown = shown_page(page_of(3)).stdout.decode()
         calls = calls_of(shown.partition("DESCRIPTION")[0])
@@ -245,8 +237,7 @@ def check_pages(report):
             version = re.search(r'^\.TH BPFCANON \d "" "bpfcanon (.*?)"', page.read_text(), re.MULTILINE)
             is_right = version is not None and f'#define BPFCANON_VERSION "{version[1]}"\n' in HEADER
             report.expect_that(is_right, page.name, "its version isn't that of capi/bpfcanon.h")
-            if not shutil.which("man"):
-                report.skip(page.name, "man is missing")
+            if report.lacks(page.name, "man"):
                 continue
             shown = shown_page(page)
             report.expect_that(shown.returncode == 0 and not shown.stderr, page.name, f"man prints {shown.stderr!r}")
@@ -255,106 +246,10 @@ def check_pages(report):
             report.expect_that(all(other in last for other in others), page.name, f"SEE ALSO lacks one of {others}")
 
 
-# ---- the program and the completions
-
-
-def check_program(program, report):
-    """An option that a command doesn't accept is refused with status 2."""
-    with report.group("the options that the program takes"):
-        for command in COMMANDS:
-            split = {"--split": "0"} if "--split" in OPTIONS[command] else {}
-            for option in ALL_OPTIONS:
-                words = [command, *(it for pair in (split | {option: VALUES[option]}).items() for it in pair)]
-                is_taken = program.run(" ".join(words)).status != 2
-                report.expect_that(is_taken == (option in OPTIONS[command]), " ".join(words), f"it is {'taken' if is_taken else 'refused'}")
-
-
-def completed(line):
-    """What bash completes a line to."""
-    script = f'. "$0"; COMP_WORDS=({line}); COMP_CWORD=$((${{#COMP_WORDS[@]}} - 1)); _bpfcanon; printf "%s\\n" "${{COMPREPLY[@]}}"'
-    words = ["bash", "-euc", script, TOP / "completions" / "bash" / "bpfcanon"]
-    done = subprocess.run(words, stdout=subprocess.PIPE, stderr=subprocess.STDOUT, text=True, timeout=SECONDS)
-    return sorted(done.stdout.split())
-
-
-def check_bash(report):
-    with report.group("the completion for bash"):
-        if not shutil.which("bash"):
-            report.skip("the completion for bash", "bash is missing")
-            return
-        script = '. "$0" && complete -p bpfcanon'
-        words = ["bash", "-c", script, TOP / "completions" / "bash" / "bpfcanon"]
-        done = subprocess.run(words, stdout=subprocess.PIPE, text=True, timeout=SECONDS)
-        report.expect_that(done.stdout == "complete -F _bpfcanon bpfcanon\n", "complete -p", f"it printed {done.stdout!r}")
-        rows = [("bpfcanon ''", sorted(COMMANDS)), ("bpfcanon insn-s", ["insn-same", "insn-show"]), ("bpfcanon x", [])]
-        rows += [(f"bpfcanon {command} ''", sorted(OPTIONS[command])) for command in COMMANDS]
-        words = {option: [] if option == "--split" else ORDERS for option in ALL_OPTIONS}
-        rows += [(f"bpfcanon {command} {option} ''", words[option]) for command in COMMANDS for option in OPTIONS[command]]
-        rows += [("bpfcanon btf-canon --to b", ["big"]), ("bpfcanon insn-same --split 8 --o", ["--order", "--other"])]
-        rows += [("bpfcanon insn-canon --order big ''", ["--to"])]
-        for line, words in rows:
-            report.expect_that(completed(line) == words, line, f"it is completed to {completed(line)}, and right is {words}")
-
-
-# Runs the completion for zsh as its shell does, at argument CURRENT of a line. What it passes to the shell is printed.
-IN_ZSH = """
-_arguments() { print -rl -- "$@" }
-_describe() { print -rl -- "${(@P)4}" }
-compdef() { }
-words=($=2) CURRENT=$3
-source $1
-"""
-
-
-def handed_to_zsh(file, line, current):
-    """What the completion passes to the shell, one line for each."""
-    words = ["zsh", "-fc", IN_ZSH, "zsh", file, line, str(current)]
-    done = subprocess.run(words, stdout=subprocess.PIPE, stderr=subprocess.STDOUT, text=True, timeout=SECONDS)
-    return done.stdout.splitlines() if done.returncode == 0 else [f"status {done.returncode}", *done.stdout.splitlines()]
-
-
-def check_zsh(report):
-    """The file is read, and run by zsh if that is installed."""
-    file = TOP / "completions" / "zsh" / "_bpfcanon"
-    text = file.read_text()
-    with report.group("the text of the completion for zsh"):
-        report.expect_that(text.startswith("#compdef bpfcanon\n"), "the first line", "it isn't #compdef bpfcanon")
-        rows = re.findall(r"^    ([\w|-]+)\) _arguments (.*) ;;$", text, re.MULTILINE)
-        options = {command: sorted(re.findall(r'"\$(\w+)"', words)) for commands, words in rows for command in commands.split("|")}
-        right = {command: sorted(it.lstrip("-") for it in OPTIONS[command]) for command in COMMANDS if OPTIONS[command]}
-        report.expect_that(options == right, "the options", f"they are {options}, and right is {right}")
-        values = dict(re.findall(r"^  local \w+='(--\w+)\[[^]']+\]:[^:']+:(.*)'$", text, re.MULTILINE))
-        right = {option: " " if option == "--split" else "(little big)" for option in ALL_OPTIONS}
-        report.expect_that(values == right, "the values", f"they are {values}, and right is {right}")
-    with report.group("the completion in zsh"):
-        if not shutil.which("zsh"):
-            report.skip("the completion in zsh", "zsh is missing")
-            return
-        commands = [it.partition(":")[0] for it in handed_to_zsh(file, "bpfcanon x", 2)]
-        report.expect_that(commands == COMMANDS, "the commands", f"they are {commands}")
-        for command in COMMANDS:
-            handed = handed_to_zsh(file, f"bpfcanon {command} x", 3)
-            found = {it.partition("[")[0]: it.rpartition(":")[2] for it in handed}
-            values = {option: right[option] for option in OPTIONS[command]}
-            report.expect_that(found == values, command, f"it is completed to {handed}, and right is {values}")
-
-
 def main():
-    if len(sys.argv) != 2:
-        sys.exit(__doc__)
-    program, report = Program(pathlib.Path(sys.argv[1]).resolve()), Report()
-    for check in [
-        check_readme,
-        check_manual,
-        check_limits,
-        check_library,
-        check_library_page,
-        check_pages,
-        check_bash,
-        check_zsh,
-    ]:
+    report = Report()
+    for check in check_readme, check_manual, check_limits, check_library, check_library_page, check_pages:
         check(report)
-    check_program(program, report)
     return report.end("pages")
 
 

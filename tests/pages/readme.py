@@ -48,9 +48,7 @@ def check_blocks(program, report, folder):
     report.expect_that(count == (BLOCKS, LINES), "the blocks and lines of the README", f"they are {count}")
     os.symlink(program.path, folder / "bpfcanon")
     for block in blocks:
-        missing = [tool for tool in [*(block["needs"] or "").split(), "xxd"] if not shutil.which(tool)]
-        if missing:
-            report.skip("a console block of the README", f"{' and '.join(missing)} missing")
+        if report.lacks("a console block of the README", *(block["needs"] or "").split(), "xxd"):
             continue
         for shell in filter(shutil.which, SHELLS):
             check_block(report, shell, folder, block["lines"])

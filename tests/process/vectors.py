@@ -5,23 +5,16 @@
 testdata/README.md describes the columns. Expected results are in the file, or are those of a row for a part of the input.
 """
 
-import collections
-import re
-import subprocess
 import sys
 
-from tests import TOP
-from tests.program import SECONDS, Program, Ran, Report
+from tests.program import Program, Ran, Report
 from tests.reference import insn_reference
-from tests.vector_rows import TESTDATA, data, is_bytes, rows, text
+from tests.vector_rows import ROWS, TESTDATA, data, is_bytes, rows, text
 
-TABLE = TOP / "crates" / "bpfcanon" / "src" / "tests" / "vectors.rt"
 EXIT = bytes.fromhex("9500000000000000")
 NO_TYPES = bytes.fromhex("9feb01001800000000000000000000000000000001000000" "00")
 # The groups in the order in which they are listed.
 GROUPS = ["base32", "base64", "atomic32", "atomic64", "divmul32", "divmul64", "packet"]
-# The number of rows of each kind, so that none is omitted or misspelt unnoticed.
-ROWS = {"insn": 182, "insn-fault": 100, "listing": 24, "listing-fault": 75, "btf": 56, "btf-fault": 117, "run": 263}
 
 
 def done(output):
@@ -124,33 +117,10 @@ def runs_of_compiled_files():
         yield name, f"insn-same --split {len(big)} --order big", big + little, done(b"same\n")
 
 
-def check_rows(report):
-    with report.group("the rows of each kind"):
-        lines = (TESTDATA / "vectors.tsv").read_text().splitlines()
-        kinds = collections.Counter(line.split("\t")[0] for line in lines if line and not line.startswith("#"))
-        report.expect_that(kinds == ROWS, "the file", f"its rows are {dict(kinds)}")
-        for kind, count in ROWS.items():
-            report.expect_that(len(rows(kind)) == count, kind, f"{len(rows(kind))} rows are read, and {count} are there")
-
-
-def check_table(report):
-    """The tests of the crate bpfcanon have the rows `run` as tools/to_rows makes them."""
-    with report.group("the rows of the crate's tests"):
-        made = subprocess.run([TOP / "tools" / "to_rows"], stdout=subprocess.PIPE, timeout=SECONDS)
-        report.expect_that(made.returncode == 0 and made.stdout == TABLE.read_bytes(), TABLE.name, "tools/to_rows makes another one")
-        count = TABLE.read_text().count("\n    Row {")
-        report.expect_that(count == ROWS["run"], TABLE.name, f"it has {count} rows, and {ROWS['run']} belong there")
-        tables = re.findall(r"static (RUNS_\d+)", TABLE.read_text())
-        tried = re.findall(r"&(RUNS_\d+)", (TABLE.parent / "rows.rt").read_text())
-        report.expect_that(tables == tried, "rows.rt", f"it tries {tried}, and the tables are {tables}")
-
-
 def main():
     if len(sys.argv) != 2:
         sys.exit(__doc__)
     program, report = Program(sys.argv[1]), Report()
-    check_rows(report)
-    check_table(report)
     for name, runs, count in [
         ("instructions", runs_of_insns(), 10 * ROWS["insn"]),
         ("these instructions in one file", runs_of_all_insns(), 5),
