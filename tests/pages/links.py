@@ -18,9 +18,12 @@ FILE = re.compile(r"`([\w./*-]*\w\.(?:rt|antt|py|c|h|md|tsv|go|rs|map|toml|txt))
 NAME = re.compile(r"`([A-Za-z_][\w:]*)`")
 # The pages on the sources, what they may name, and a variable of the environment and prefixes, which no source contains.
 ON_SOURCES = ["CHANGING", "CONTRACTS", "DECISIONS", "LIBRARY", "PROMISES"]
-SOURCES = ["crates/**/*.rt", "crates/**/*.antt", "tests/**/*", "tools/*", "capi/*", "bindings/**/*.go", "bindings/**/*.py", "bindings/**/*.rs"]
+SOURCES = ["crates/**/*.rt", "crates/**/*.antt", "tests/**/*", "tools/*", "capi/*"]
+SOURCES += ["bindings/**/*.go", "bindings/**/*.py", "bindings/**/*.rs"]
 NO_NAMES = {"RT_JOBS", "proved_", "bpfcanon_proved_"}
 STANDS_FOR = re.compile(r"(?:^|/)(?:NAME|MODULE|FUNCTION)\b")
+# Folders that tools write.
+MADE_IN = {".git", "out", "__pycache__"}
 # Files that a reader makes, those of other trees, and those that the repository must not contain.
 MADE = {"key.c", "main.go", "canonical.bin", "out/PROVED.txt", "Cargo.toml", "btf.rst", "PROVED.txt"}
 
@@ -54,10 +57,15 @@ def check_files(report, page, names):
         report.expect_that(any(map(pattern.fullmatch, names)), f"`{name}`", "there is no such file")
 
 
+def files_of(*patterns):
+    """The files that match, except what tools write."""
+    found = [path for pattern in patterns for path in TOP.glob(pattern) if path.is_file()]
+    return [path for path in found if not MADE_IN & set(path.relative_to(TOP).parts)]
+
+
 def check_names(report):
     """Each name in code on the pages about the sources is in the sources, or is that of a file."""
-    sources = [path for pattern in SOURCES for path in TOP.glob(pattern) if path.is_file() and "out" not in path.relative_to(TOP).parts]
-    known = {name for path in sources for name in re.findall(r"\w+", path.read_text(errors="replace"))}
+    known = {name for path in files_of(*SOURCES) for name in re.findall(r"\w+", path.read_text(errors="replace"))}
     known |= {path.stem for path in TOP.glob("crates/*/must-fail/*.edit")}
     for page in ON_SOURCES:
         text = BLOCK.sub("", (TOP / "docs" / f"{page}.md").read_text())
@@ -68,7 +76,7 @@ def check_names(report):
 
 def main():
     report = Report()
-    names = [str(path.relative_to(TOP)) for path in TOP.rglob("*") if path.is_file() and not {".git", "out"} & set(path.relative_to(TOP).parts)]
+    names = [str(path.relative_to(TOP)) for path in files_of("**/*")]
     with report.group("the length of README, and the pages that it names"):
         length = len(PAGES[0].read_text().splitlines())
         report.expect_that(length <= 160, "README.md", f"it has {length} lines, and at most 160 are read")
