@@ -23,6 +23,8 @@ def formatted(report, words, folder, files):
 
 
 def check_crates(report, copy):
+    if report.lacks("the layout of the crates", "rt"):
+        return
     for name in "crates.txt", "HANDLES":
         shutil.copy(TOP / name, copy)
     for crate in sorted(path.parent for path in TOP.glob("crates/*/src")):
