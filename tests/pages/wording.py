@@ -48,8 +48,9 @@ def main():
         text = " ".join(LEFT_OUT.sub("", page.read_text()).split())
         with report.group(f"the wording of {page.relative_to(TOP)}"):
             for pattern, instead in PHRASES:
-                found = re.search(rf".{{0,30}}(?:{pattern}).{{0,30}}", text, re.IGNORECASE)
-                report.expect_that(found is None, found and found[0], f"write: {instead}")
+                found = re.search(pattern, text, re.IGNORECASE)
+                where = text[max(found.start() - 30, 0) : found.end() + 30] if found else ""
+                report.expect_that(not found, where, f"write: {instead}")
     check_edits(report)
     return report.end("wording")
 
