@@ -2,7 +2,7 @@
 
     python3 -m tests.process.pipes PROGRAM
 
-process.py has streams that fail from the start, and failing_calls.py reads and writes that move single bytes. Here a reader goes away
+streams.py has streams that fail from the start, and failing_calls.py reads and writes that move single bytes. Here a reader goes away
 in the middle of the output, and a writer that never ends or pauses.
 """
 
