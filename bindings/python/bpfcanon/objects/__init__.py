@@ -1,0 +1,24 @@
+"""BPF object files: a key, a manifest and what is in them.
+
+Equal keys mean that a loader which reads objects as libbpf does sees the same. docs/OBJECTS.md defines the lines of a manifest,
+of which the key is the SHA-256. Only the canonical bytes of code and types are proved; which bytes a line is made of is tested.
+"""
+
+from .errors import Place, Refused
+from .keys import Key
+from .manifest import Manifest, ManifestError, manifests_text, read_manifests
+from .model import Function, Map, ObjectFile, Variable
+
+__all__ = [
+    "Function",
+    "Key",
+    "Manifest",
+    "ManifestError",
+    "Map",
+    "ObjectFile",
+    "Place",
+    "Refused",
+    "Variable",
+    "manifests_text",
+    "read_manifests",
+]
