@@ -2,21 +2,19 @@
 
 from __future__ import annotations
 
-import struct
 from dataclasses import dataclass
 from functools import cached_property
-from typing import Iterator
 
 import bpfcanon
 from bpfcanon import BpfcanonError, Fault, Group, Order, UnknownCause
 
-from .btf import ARRAY, ENUM, ENUM64, PTR, STRUCT, Types
-from .elf import Elf, Section, read_elf, sign
+from .btf import Types
+from .elf import Elf, Section, read_elf
 from .errors import Place, Refused, printable
 from .ext import Extension, Reader
 from .keys import Key, parts
 from .manifest import Manifest
-from .names import MAP_TYPES
+from .maps import legacy_fields, map_fields
 from .relocations import Relocation, read_relocations
 from .symbols import BINDINGS, STB_LOCAL, STT_FUNC, STT_NOTYPE, STT_OBJECT, Symbol, read_symbols
 
@@ -244,44 +242,21 @@ class ObjectFile:
         types = self.types
         section = types.datasec(".maps") if types else None
         if types and section:
-            found += [Map(it.name, dict(map_fields(types, it.type))) for it in types.items(section)]
+            variables = [types.records[it.type] for it in types.entries(section)]
+            found += [Map(it.name, dict(map_fields(types, it.id))) for it in variables]
         elif (plain := self.elf.named(".maps")) is not None:
             found += [Map(it.name, {"bytes": str(it.size)}) for it in self.symbols_in(plain, STT_OBJECT)]
         return sorted(found, key=lambda it: it.name)
 
     def legacy_maps(self) -> list[Map]:
-        """Definitions by numbers in sections named maps, which libbpf 1.0 refuses and other loaders read."""
-        words = ("type", "key_size", "value_size", "max_entries", "map_flags")
+        """Definitions by numbers in sections named maps."""
         found = []
         for section in self.elf.sections:
             for symbol in self.symbols_of.get(section.index, ()) if is_legacy_maps(section.name) else ():
-                content = section.content[symbol.value :]
-                if symbol.binding != STB_LOCAL and symbol.type in (STT_OBJECT, STT_NOTYPE) and len(content) >= 20:
-                    numbers = struct.unpack_from(sign(self.order) + "5I", content)
-                    fields = dict(zip(words, map(str, numbers)))
-                    fields["type"] = MAP_TYPES.get(numbers[0], fields["type"])
+                fields = legacy_fields(section.content[symbol.value :], self.order)
+                if fields and symbol.binding != STB_LOCAL and symbol.type in (STT_OBJECT, STT_NOTYPE):
                     found.append(Map(symbol.name, fields))
         return found
-
-
-def map_fields(types: Types, variable: int) -> Iterator[tuple[str, str]]:
-    """The fields of a definition in .maps: numbers are lengths of arrays behind pointers, types what pointers refer to."""
-    record = types.skip(types.records[variable].target)
-    for item in types.items(record) if record.kind == STRUCT else ():
-        target = types.skip(item.type)
-        if target.kind == PTR:
-            behind = types.skip(target.target)
-            if behind.kind == ARRAY:
-                number = behind.tail[2]
-                yield item.name, MAP_TYPES.get(number, str(number)) if item.name == "type" else str(number)
-            else:
-                yield item.name, types.reference(target.target)
-        elif target.kind in (ENUM, ENUM64) and target.vlen:
-            yield item.name, str(types.item(target, 0).value)
-        elif target.kind == ARRAY:
-            yield item.name, f"[{types.reference(target.tail[0])}]"
-        else:
-            yield item.name, types.reference(item.type)
 
 
 def is_legacy_maps(name: str) -> bool:
