@@ -5,9 +5,10 @@ of which the key is the SHA-256. Only the canonical bytes of code and types are 
 """
 
 from .errors import Place, Refused
+from .functions import Function
 from .keys import Key
 from .manifest import Manifest, ManifestError, manifests_text, read_manifests
-from .model import Function, Map, ObjectFile, Variable
+from .model import Map, ObjectFile, Variable
 
 __all__ = [
     "Function",

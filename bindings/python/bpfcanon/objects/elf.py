@@ -3,34 +3,59 @@
 The header and the rows of the tables are fixed records, which are unpacked here from the bytes of the file. Libraries for all ELF files
 replace bytes of names that aren't UTF-8 (two names would become one), read names and contents past their ends, inflate compressed sections
 and make as many zeros as a section without bits claims to have.
+
+The records are described in the System V ABI, chapters "ELF Header", "Sections" and "String Table".
 """
 
 from __future__ import annotations
 
+import re
 import struct
 from dataclasses import dataclass
 from functools import cached_property
-from typing import Optional
+from typing import Iterator, NamedTuple, Optional
 
 from ..causes import Order
 from .errors import Place, Refused
+from .sections import SHT_NOBITS, SHT_NULL, SHT_STRTAB, SectionKind, kind_of
 
-MAX_FILE = 64 << 20
+MAX_FILE = 64 << 20  # bytes
 MAX_SECTIONS = 16_384
-MAX_NAME = 1_024
+MAX_NAME = 1_024  # bytes
 
 EM_BPF = 247
 ET_REL = 1
-SHT_NULL, SHT_PROGBITS, SHT_SYMTAB, SHT_STRTAB, SHT_RELA, SHT_NOBITS, SHT_REL = 0, 1, 2, 3, 4, 8, 9
-SHF_WRITE, SHF_ALLOC, SHF_EXECINSTR, SHF_COMPRESSED = 1, 2, 4, 0x800
+HEADER_SIZE = ROW_SIZE = 64
+NAME = re.compile(rb"[ -~]{0,%d}\0" % MAX_NAME)
+
+
+class Row(NamedTuple):
+    """A row of the table of sections, as it is in the file."""
+
+    name_offset: int
+    type: int
+    flags: int
+    address: int
+    offset: int
+    size: int
+    link: int
+    info: int
+    alignment: int
+    entry_size: int
+
+    @property
+    def file_size(self) -> int:
+        """The number of its bytes in the file."""
+        return 0 if self.type in (SHT_NOBITS, SHT_NULL) else self.size
 
 
 @dataclass(frozen=True)
 class Section:
-    """A section: its header, and its bytes in the file (none for SHT_NOBITS)."""
+    """A section: its kind, the fields of its row that matter, and its bytes in the file, of which SHT_NOBITS has none."""
 
     index: int
     name: str
+    kind: SectionKind
     type: int
     flags: int
     size: int
@@ -40,22 +65,24 @@ class Section:
     content: bytes
 
     @property
-    def is_loaded(self) -> bool:
-        return bool(self.flags & SHF_ALLOC) and self.size > 0
+    def is_code(self) -> bool:
+        """Whether it has instructions."""
+        return self.kind is SectionKind.CODE and self.size > 0
 
     @property
-    def is_code(self) -> bool:
-        return self.is_loaded and bool(self.flags & SHF_EXECINSTR) and self.type == SHT_PROGBITS
+    def is_data(self) -> bool:
+        """Whether it has data, known to libbpf or not."""
+        return self.kind in (SectionKind.DATA, SectionKind.OTHER) and self.size > 0
 
 
 @dataclass(frozen=True)
 class Header:
-    """The fields of the ELF header that say where the table of sections is."""
+    """The byte order, and where the table of sections is."""
 
     order: Order
     table: int  # offset in the file
-    count: int
-    names: int  # index of the section that has their names
+    count: int  # of its rows
+    names: int  # index of the section with the names of sections
 
 
 @dataclass(frozen=True)
@@ -67,27 +94,34 @@ class Elf:
 
     @cached_property
     def by_name(self) -> dict[str, Section]:
-        return {it.name: it for it in reversed(self.sections)} | {it.name: it for it in self.sections if it.is_loaded}
+        """The sections by name, without those that are left out: their names may occur twice."""
+        return {it.name: it for it in self.sections if it.kind is not SectionKind.LEFT_OUT}
+
+    @cached_property
+    def symbol_table(self) -> Section:
+        """The section with the symbols, without which libbpf reads nothing. Raises Refused."""
+        found = next((it for it in self.sections if it.kind is SectionKind.SYMBOLS), None)
+        if found is None:
+            raise Refused("SymbolTableMissing")
+        return found
 
     def named(self, name: str) -> Optional[Section]:
+        """Return the section with a name, if there is one that isn't left out."""
         return self.by_name.get(name)
 
 
 def sign(order: Order) -> str:
-    """The character that stands for a byte order in the formats of struct."""
+    """Return the character that stands for a byte order in the formats of struct."""
     return "<" if order == Order.LITTLE else ">"
 
 
 def name_at(strings: bytes, offset: int) -> Optional[str]:
-    """The printable UTF-8 name at an offset, or None."""
-    end = strings.find(b"\0", offset, offset + MAX_NAME + 1)
-    if end < 0:
-        return None
-    try:
-        name = strings[offset:end].decode()
-    except UnicodeDecodeError:
-        return None
-    return name if name.isprintable() else None
+    """Return the name at an offset of a string table, or None if it has no end, over 1,024 bytes or others than printable ASCII.
+
+    Which other characters are printable depends on the version of Unicode. The kernel refuses them in names of programs and maps.
+    """
+    found = NAME.match(strings, offset) if offset < len(strings) else None
+    return found[0][:-1].decode("ascii") if found else None
 
 
 def read_header(data: bytes) -> Header:
@@ -100,18 +134,17 @@ def read_header(data: bytes) -> Header:
         raise Refused("Class", Place(offset=4))
     if data[5:6] not in (b"\1", b"\2"):
         raise Refused("ByteOrder", Place(offset=5))
-    if len(data) < 64:
-        raise Refused("Header", Place(offset=len(data)))
+    if len(data) < HEADER_SIZE or data[6] != 1:
+        raise Refused("Header", Place(offset=6))
     order = Order.LITTLE if data[5] == 1 else Order.BIG
-    fields = struct.unpack_from(sign(order) + "HHIQQQIHHHHHH", data, 16)
-    kind, machine, version, _, _, table, _, size, _, _, row, count, names = fields
-    if machine != EM_BPF:
-        raise Refused("NotBpf", Place(offset=18))
+    kind, machine, version, _, _, table, _, size, _, segments, row, count, names = struct.unpack_from(sign(order) + "HHIQQQIHHHHHH", data, 16)
     if kind != ET_REL:
         raise Refused("FileType", Place(offset=16))
-    if data[6] != 1 or version != 1 or size != 64:
+    if machine != EM_BPF:
+        raise Refused("NotBpf", Place(offset=18))
+    if version != 1 or size != HEADER_SIZE or segments:
         raise Refused("Header", Place(offset=20))
-    if row != 64 or not 0 < count <= MAX_SECTIONS or names >= count or table + 64 * count > len(data):
+    if row != ROW_SIZE or not 0 < count <= MAX_SECTIONS or names >= count or table + ROW_SIZE * count > len(data):
         raise Refused("SectionTable", Place(offset=40))
     return Header(order, table, count, names)
 
@@ -119,43 +152,49 @@ def read_header(data: bytes) -> Header:
 def read_elf(data: bytes) -> Elf:
     """Read the sections of an object file. Raises Refused."""
     header = read_header(data)
-    row = struct.Struct(sign(header.order) + "IIQQQQIIQQ")
-    rows = list(row.iter_unpack(data[header.table : header.table + 64 * header.count]))
-    # Sections of an object file don't overlap. If they did, a short file could take any time.
-    if sum(it[5] for it in rows if it[1] not in (SHT_NULL, SHT_NOBITS)) > len(data):
-        raise Refused("SectionOverlap")
-    strings = content_of(data, rows[header.names]) or b""
-    sections = tuple(section_of(data, index, fields, strings) for index, fields in enumerate(rows))
+    form = struct.Struct(sign(header.order) + "IIQQQQIIQQ")
+    rows = [Row(*it) for it in form.iter_unpack(data[header.table : header.table + ROW_SIZE * header.count])]
+    if any(rows[0]):
+        raise Refused("SectionTable", Place(offset=header.table))
+    if rows[header.names].type != SHT_STRTAB:
+        raise Refused("SectionTable", Place(offset=62))
+    sections = tuple(read_sections(data, rows, header.names))
+    refuse_overlaps(header, rows, sections)
     refuse_doubles(sections)
     return Elf(header.order, sections)
 
 
-def section_of(data: bytes, index: int, fields: tuple[int, ...], strings: bytes) -> Section:
-    name_offset, kind, flags, _, _, size, link, info, _, entry_size = fields
-    name, content = name_at(strings, name_offset), content_of(data, fields)
-    if name is None:
-        raise Refused("SectionName", text=f"section {index}: its name is missing, too long, not UTF-8 or not printable")
-    if content is None:
-        raise Refused("SectionCut", Place(name))
-    if flags & SHF_COMPRESSED:
-        raise Refused("Compressed", Place(name))
-    return Section(index, name, kind, flags, size, link, info, entry_size, content)
+def read_sections(data: bytes, rows: list[Row], names: int) -> Iterator[Section]:
+    strings = content_of(data, rows[names])
+    for index, row in enumerate(rows):
+        name, content = name_at(strings or b"", row.name_offset), content_of(data, row)
+        if name is None or index and not name:
+            raise Refused("SectionName", text=f"section {index}: its name is missing, too long or not printable ASCII")
+        if content is None:
+            raise Refused("SectionCut", Place(name))
+        kind = kind_of(name, row.type, row.flags) if index else SectionKind.LEFT_OUT
+        yield Section(index, name, kind, row.type, row.flags, row.size, row.link, row.info, row.entry_size, content)
 
 
-def content_of(data: bytes, fields: tuple[int, ...]) -> Optional[bytes]:
-    """The bytes of a section, or None if they extend past the end of the file."""
-    _, kind, _, _, offset, size, *_ = fields
-    if kind in (SHT_NULL, SHT_NOBITS):
-        return b""
-    content = data[offset : offset + size]
-    return content if len(content) == size else None
+def content_of(data: bytes, row: Row) -> Optional[bytes]:
+    """Return the bytes of a section, or None if they extend past the end of the file."""
+    return data[row.offset : row.offset + row.file_size] if not row.file_size or row.offset + row.file_size <= len(data) else None
+
+
+def refuse_overlaps(header: Header, rows: list[Row], sections: tuple[Section, ...]) -> None:
+    """Sections have no bytes in common, nor with the header and the table. If they had, a short file could take any time."""
+    spans = [(row.offset, row.offset + row.file_size, it.name) for row, it in zip(rows, sections) if row.file_size]
+    spans += [(0, HEADER_SIZE, ""), (header.table, header.table + ROW_SIZE * header.count, "")]
+    spans.sort()
+    for (_, end, _), (start, _, name) in zip(spans, spans[1:]):
+        if start < end:
+            raise Refused("SectionOverlap", Place(name) if name else Place("", start))
 
 
 def refuse_doubles(sections: tuple[Section, ...]) -> None:
-    """A section is known by its name, so no two that a loader uses may share one."""
-    seen = set()
-    for section in sections:
-        if section.is_loaded or section.name in (".BTF", ".BTF.ext"):
-            if section.name in seen:
-                raise Refused("SectionTwice", Place(section.name))
-            seen.add(section.name)
+    """A section that is covered is known by its name, so no other one may share it. Symbol tables get a cause of their own."""
+    seen: dict[str, Section] = {}
+    for section in sections[1:]:
+        other = seen.setdefault(section.name, section)
+        if other is not section and not other.kind is section.kind is SectionKind.LEFT_OUT:
+            raise Refused("SectionTwice", Place(section.name))

@@ -1,15 +1,21 @@
-"""The records of .BTF.ext: which type each function has, the source lines and the CO-RE relocations."""
+"""The records of .BTF.ext: which type each function has, the source lines and the CO-RE relocations.
+
+libbpf drops a whole .BTF.ext if one part of it is malformed (btf_ext__new in its btf.c), and the kernel refuses programs with malformed
+lines. So all parts are read as strictly as both do, although the lines are no part of a key.
+"""
 
 from __future__ import annotations
 
+import array
 import bisect
+import operator
 import struct
+import sys
 from dataclasses import dataclass
 from functools import cached_property
-from typing import Iterator, NamedTuple
+from typing import Iterator, NamedTuple, Optional
 
 from ..causes import Order
-
 from .elf import name_at, sign
 from .errors import Place, Refused
 
@@ -18,17 +24,23 @@ CORE_KINDS = (
     "local_type_id", "target_type_id", "type_exists", "type_size", "enumval_exists", "enumval", "type_matches",
 )  # fmt: skip
 
-
-MAX_ROWS = 1 << 20
+MAGIC = 0xEB9F
+MAX_RECORDS = 1 << 20
+# The sizes of a header without the part of CO-RE relocations, with it, and with one more part, which clang 9 leaves empty.
+HEADERS = (24, 32, 40)
 
 
 class FunctionType(NamedTuple):
+    """The type of the function at an offset of a section."""
+
     section: str
     offset: int
-    type: int
+    type: int  # type ID
 
 
 class Line(NamedTuple):
+    """The source line of the instruction at an offset of a section."""
+
     section: str
     offset: int
     file: str
@@ -38,98 +50,146 @@ class Line(NamedTuple):
 
 
 class Core(NamedTuple):
+    """A CO-RE relocation of the instruction at an offset of a section."""
+
     section: str
     offset: int
-    type: int
+    type: int  # type ID
     access: str
-    kind: int
+    kind: int  # a number of enum bpf_core_relo_kind in linux/bpf.h
 
     @property
     def word(self) -> str:
+        """The name of its kind, or the number if it has none here."""
         return CORE_KINDS[self.kind] if self.kind < len(CORE_KINDS) else str(self.kind)
 
 
 @dataclass(frozen=True)
+class Run:
+    """The records of one section in one part, in bytes of .BTF.ext."""
+
+    section: str
+    start: int
+    end: int
+
+
+@dataclass(frozen=True)
 class Extension:
-    functions: list[FunctionType]
-    core: list[Core]
-    reader: Reader | None = None
+    """What .BTF.ext holds, in the sequence of its records."""
+
+    functions: tuple[FunctionType, ...] = ()
+    core: tuple[Core, ...] = ()
+    line_runs: tuple[Run, ...] = ()
+    reader: Optional[Reader] = None
+
+    @cached_property
+    def line_offsets(self) -> dict[str, array.array[int]]:
+        """The offsets of the instructions of each section that have a source line, ascending."""
+        return {it.section: self.reader.words(it)[0::4] for it in self.line_runs} if self.reader else {}
 
     @cached_property
     def lines(self) -> list[Line]:
-        """The source lines, sorted. They are no part of a key, so that they are only read where they are shown."""
-        return sorted(self.reader.lines()) if self.reader else []
+        """The source lines, sorted by section and offset. They are no part of a key."""
+        return sorted(self.reader.lines(self.line_runs)) if self.reader else []
 
-    def source(self, section: str, offset: int) -> Line | None:
-        """The last line that begins at or before an offset."""
+    def source(self, section: str, offset: int) -> Optional[Line]:
+        """Return the last line that begins at or before an offset."""
         found = bisect.bisect_right(self.lines, (section, offset, "\U0010ffff")) - 1
         return self.lines[found] if found >= 0 and self.lines[found].section == section else None
 
 
 class Reader:
-    """Reads one .BTF.ext with the strings of its .BTF."""
+    """Reads one .BTF.ext with the string section of its .BTF."""
 
-    def __init__(self, content: bytes, types: bytes, order: Order) -> None:
-        self.content, self.sign = content, sign(order)
-        header, _, _, string_offset, string_length = struct.unpack_from(self.sign + "IIIII", types, 4)
-        self.strings = types[header + string_offset :][:string_length]
-        self.cache: dict[int, str] = {}
-        self.left = MAX_ROWS
-
-    def text(self, offset: int, place: int, is_source: bool = False) -> str:
-        """A string of .BTF. A source line may be long or have tabs, and isn't part of a key."""
-        if is_source:
-            end = self.strings.find(b"\0", offset, offset + 256)
-            return self.strings[offset : end if end >= 0 else offset + 256].decode(errors="replace")
-        if offset not in self.cache:
-            found = name_at(self.strings, offset)
-            if found is None:
-                raise Refused("ExtensionString", Place(".BTF.ext", place))
-            self.cache[offset] = found
-        return self.cache[offset]
+    def __init__(self, content: bytes, strings: bytes, order: Order) -> None:
+        self.content, self.strings, self.order, self.sign = content, strings, order, sign(order)
+        self.names: dict[int, str] = {}
+        self.left = MAX_RECORDS
 
     def read(self) -> Extension:
-        if len(self.content) < 24:
+        """Read all parts. Raises Refused."""
+        if len(self.content) < HEADERS[0]:
             raise Refused("Extension", Place(".BTF.ext"))
-        magic, version, _, header = struct.unpack_from(self.sign + "HBBI", self.content)
-        if magic != 0xEB9F or version != 1 or not 24 <= header <= len(self.content):
+        magic, version, flags, header, *places = struct.unpack_from(self.sign + "HBBI4I", self.content)
+        if magic != MAGIC or version != 1 or flags or header not in HEADERS or header >= len(self.content):
             raise Refused("Extension", Place(".BTF.ext"))
-        places = struct.unpack_from(self.sign + "IIII", self.content, 8)
-        core = struct.unpack_from(self.sign + "II", self.content, 24) if header >= 32 else (0, 0)
-        functions = [FunctionType(section, *row) for section, row in self.rows("II", header, *places[:2])]
-        rows = self.rows("IIII", header, *core)
-        self.line_place = (header, *places[2:])
-        return Extension(functions, [Core(it, row[0], row[1], self.text(row[2], 0), row[3]) for it, row in rows], self)
+        core = (self.word(24), self.word(28)) if header > HEADERS[0] else (0, 0)
+        if header > HEADERS[1] and self.word(36):
+            raise Refused("Extension", Place(".BTF.ext", 36))
+        functions = list(self.runs(8, header + places[0], places[1]))
+        lines = tuple(self.runs(16, header + places[2], places[3]))
+        relocations = list(self.runs(16, header + core[0], core[1]))
+        for run in lines:
+            self.check_lines(run)
+        return Extension(
+            tuple(FunctionType(run.section, *row) for run in functions for row in self.rows("2I", run)),
+            tuple(self.core(run.section, row) for run in relocations for row in self.rows("4I", run)),
+            lines,
+            self,
+        )
 
-    def lines(self) -> Iterator[Line]:
-        """The source lines; none from where they are malformed, because nothing depends on them."""
-        try:
-            for section, (offset, file, line, number) in self.rows("IIII", *self.line_place):
-                yield Line(section, offset, self.text(file, 0, True), number >> 10, number & 1023, self.text(line, 0, True))
-        except Refused:
-            return
-
-    def rows(self, form: str, header: int, offset: int, length: int) -> Iterator[tuple[str, tuple[int, ...]]]:
-        """The name of its section and the fields of each record of one part."""
+    def runs(self, size: int, start: int, length: int) -> Iterator[Run]:
+        """Yield the records of each section in a part, whose records have `size` bytes. A part without bytes has none."""
         if not length:
             return
-        start, end = header + offset, header + offset + length
-        if end > len(self.content) or length < 4:
+        end, place, seen = start + length, start + 4, set()
+        if start % 4 or end > len(self.content) or length <= 4 or self.word(start) != size:
             raise Refused("Extension", Place(".BTF.ext", min(start, len(self.content))))
-        (size,) = struct.unpack_from(self.sign + "I", self.content, start)
-        record = struct.Struct(self.sign + form)
-        if size < record.size:
-            raise Refused("Extension", Place(".BTF.ext", start))
-        place = start + 4
         while place < end:
             if place + 8 > end:
                 raise Refused("Extension", Place(".BTF.ext", place))
-            name, count = struct.unpack_from(self.sign + "II", self.content, place)
-            section = self.text(name, place)
-            place += 8
+            section, count = self.name(self.word(place), place), self.word(place + 4)
+            run = Run(section, place + 8, place + 8 + count * size)
             self.left -= count
-            if count * size > end - place or self.left < 0:
+            if not count or run.end > end or self.left < 0:
                 raise Refused("Extension", Place(".BTF.ext", place))
-            for _ in range(count):
-                yield section, record.unpack_from(self.content, place)
-                place += size
+            if not section or section in seen:
+                raise Refused("ExtensionSection", Place(".BTF.ext", place))
+            seen.add(section)
+            yield run
+            place = run.end
+
+    def word(self, place: int) -> int:
+        word: int = struct.unpack_from(self.sign + "I", self.content, place)[0]
+        return word
+
+    def words(self, run: Run) -> array.array[int]:
+        """Return the 32-bit words of the records."""
+        found = array.array("I", self.content[run.start : run.end])
+        if (self.order == Order.LITTLE) != (sys.byteorder == "little"):
+            found.byteswap()
+        return found
+
+    def rows(self, form: str, run: Run) -> Iterator[tuple[int, ...]]:
+        return struct.iter_unpack(self.sign + form, self.content[run.start : run.end])
+
+    def name(self, offset: int, place: int) -> str:
+        """Return a string of .BTF, to which a record at `place` refers."""
+        if offset not in self.names:
+            found = name_at(self.strings, offset)
+            if found is None:
+                raise Refused("ExtensionString", Place(".BTF.ext", place))
+            self.names[offset] = found
+        return self.names[offset]
+
+    def core(self, section: str, row: tuple[int, ...]) -> Core:
+        offset, type, access, kind = row
+        return Core(section, offset, type, self.name(access, 0), kind)
+
+    def check_lines(self, run: Run) -> None:
+        """Refuse lines that aren't in the sequence of the instructions, and those whose strings the kernel refuses."""
+        words = self.words(run)
+        offsets = words[0::4]
+        if any(it % 8 for it in offsets) or not all(map(operator.lt, offsets, offsets[1:])):
+            raise Refused("ExtensionLines", Place(".BTF.ext", run.start))
+        if max(max(words[1::4]), max(words[2::4])) >= len(self.strings):
+            raise Refused("ExtensionString", Place(".BTF.ext", run.start))
+
+    def lines(self, runs: tuple[Run, ...]) -> Iterator[Line]:
+        for run in runs:
+            for offset, file, text, number in self.rows("4I", run):
+                yield Line(run.section, offset, self.source(file), number >> 10, number & 1023, self.source(text))
+
+    def source(self, offset: int) -> str:
+        """Return the first 256 bytes of a string that isn't part of a key and may have any bytes."""
+        return self.strings[offset : offset + 256].split(b"\0")[0].decode(errors="replace")

@@ -1,14 +1,20 @@
-"""Manifests: the parts of object files with the name of each file, to be signed and verified later."""
+"""Manifests: the lines of object files with the name of each file, to be signed and verified later."""
 
 from __future__ import annotations
 
 import json
+import re
 from dataclasses import dataclass
 from typing import Iterable
 
-from .keys import FORM, Key, quoted
+from .keys import FIRST, PLAIN_WORD, Key
 
-FIRST = f"bpfcanon-object {FORM}"
+DIGEST = "[0-9a-f]{64}"
+WORD = r'(?:[!#-\[\]-~]+|"(?:[ !#-\[\]-~]|\\["\\])*")'
+LINE = re.compile(
+    rf"(?:code|data|other|raw|relocations) {WORD} {DIGEST}|zeros {WORD} [1-9][0-9]*|symbols {DIGEST}|sections {DIGEST}|order (?:little|big)"
+    rf"|types \.BTF {DIGEST}|(?:functions|core|lines) \.BTF\.ext {DIGEST}"
+)
 
 
 class ManifestError(Exception):
@@ -24,6 +30,7 @@ class Manifest:
 
     @property
     def key(self) -> Key:
+        """The key of the object file."""
         return Key.of(self.lines)
 
     @property
@@ -33,44 +40,58 @@ class Manifest:
 
     @property
     def any_order(self) -> bool:
+        """Whether the byte order is left out."""
         return not any(it.startswith("order ") for it in self.lines)
 
     @property
     def text(self) -> str:
-        """The manifest of one file, as it is signed."""
-        return "".join(f"{it}\n" for it in (self.lines[0], f"file {quoted(self.file)}", f"key {self.key}", *self.lines[1:]))
+        """The manifest as it is written and signed; it ends with a newline."""
+        return "".join(f"{it}\n" for it in (self.lines[0], f"file {file_word(self.file)}", f"key {self.key}", *self.lines[1:]))
 
     def differing(self, other: Manifest) -> list[str]:
-        """The parts that differ, each by its line without the digest or value."""
+        """Return the parts that differ, each by its line without the digest or value, sorted."""
         return sorted({it.rpartition(" ")[0] for it in set(self.lines) ^ set(other.lines)})
 
 
+def file_word(name: str) -> str:
+    """Return the name of a file as one word: as it is, or as a JSON string in ASCII."""
+    return name if PLAIN_WORD.fullmatch(name) else json.dumps(name)
+
+
 def manifests_text(manifests: Iterable[Manifest]) -> str:
-    """The manifests of several files in one text, with an empty line between two."""
+    """Return the manifests of several files as one text, with an empty line between two."""
     return "\n".join(it.text for it in manifests)
 
 
 def read_manifests(text: str) -> list[Manifest]:
-    """The manifests of a text that `manifests_text` can make; any other raises ManifestError, so that nothing in a signed one is ignored."""
-    found = []
-    for number, block in enumerate(text.split("\n\n"), 1):
-        lines = block.removesuffix("\n").split("\n")
-        if len(lines) < 4 or lines[0] != FIRST or not lines[1].startswith("file ") or not lines[2].startswith("key "):
-            raise ManifestError(f"entry {number}: not of the form {FIRST}")
-        found.append(Manifest(unquoted(lines[1][5:]), (FIRST, *lines[3:])))
-        if lines[2] != f"key {found[-1].key}":
-            raise ManifestError(f"entry {number}: its key isn't that of its lines")
-    if len({it.file for it in found}) < len(found):
-        raise ManifestError("a file has two entries")
+    """Return the manifests of a text that `manifests_text` makes.
+
+    Raises ManifestError for any other text, so that nothing in a signed manifest is ignored, and if two have the same file.
+    """
+    found = [read_manifest(number, block) for number, block in enumerate(text.split("\n\n"), 1)]
     if manifests_text(found) != text:
         raise ManifestError("it has other spaces, names or newlines than a manifest is written with")
+    if len({it.file for it in found}) < len(found):
+        raise ManifestError("a file has two entries")
     return found
 
 
-def unquoted(word: str) -> str:
-    if not word.startswith('"'):
-        return word
+def read_manifest(number: int, block: str) -> Manifest:
+    """Read one entry. The caller checks that it is written as `text` writes it."""
+    first, file, key, *others = [*block.split("\n"), "", ""]
+    lines = tuple(it for it in others if it)
+    if first != FIRST or not file.startswith("file ") or list(lines) != sorted(set(lines)) or not all(map(LINE.fullmatch, lines)):
+        raise ManifestError(f"entry {number}: not of the form {FIRST}")
+    manifest = Manifest(unquoted(file[len("file ") :]), (FIRST, *lines))
+    if key != f"key {manifest.key}":
+        raise ManifestError(f"entry {number}: its key isn't that of its lines")
+    return manifest
+
+
+def unquoted(name: str) -> str:
+    if not name.startswith('"'):
+        return name
     try:
-        return str(json.loads(word))
+        return str(json.loads(name))
     except ValueError:
-        raise ManifestError(f"{word} isn't a name") from None
+        raise ManifestError(f"{name} isn't a name") from None

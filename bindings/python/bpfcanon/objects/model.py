@@ -12,36 +12,15 @@ from .btf import Types
 from .elf import Elf, Section, read_elf
 from .errors import Place, Refused, printable
 from .ext import Extension, Reader
+from .functions import Function, read_functions, with_unnamed
 from .keys import Key, parts
 from .manifest import Manifest
 from .maps import legacy_fields, map_fields
 from .relocations import Relocation, read_relocations
-from .symbols import BINDINGS, STB_LOCAL, STT_FUNC, STT_NOTYPE, STT_OBJECT, Symbol, read_symbols
+from .symbols import STB_LOCAL, STT_NOTYPE, STT_OBJECT, Symbol, read_symbols
+from .types import check_layout, strings_of
 
 MAX_TYPE_BYTES = 16 << 20  # what the kernel accepts
-MAX_ALIASES = 16
-
-
-@dataclass(frozen=True)
-class Function:
-    """Instructions with a name: a program, or a function that programs call."""
-
-    name: str
-    section: Section
-    start: int
-    size: int
-    binding: str
-    visibility: str
-    is_named: bool = True
-
-    @property
-    def is_program(self) -> bool:
-        """Whether a loader can load it by itself: libbpf counts .text as functions to call if there are other sections of code."""
-        return self.binding == "global" and self.section.name != ".text"
-
-    @property
-    def end(self) -> int:
-        return self.start + self.size
 
 
 @dataclass(frozen=True)
@@ -81,33 +60,42 @@ class ObjectFile:
 
     data: bytes
     elf: Elf
-    symbols: tuple[Symbol, ...]
-    relocations: dict[int, list[Relocation]]  # by the index of the section that they change
+    symbols: tuple[Symbol, ...]  # by their index
+    relocations: dict[int, list[Relocation]]  # by the index of the section that they change, in the sequence of their table
+    named_functions: list[Function]  # those that a symbol names, by section and offset
 
     @classmethod
     def read(cls, data: bytes) -> ObjectFile:
-        """Read an object file, which is refused unless all that a loader uses is inside its bounds. Raises Refused."""
+        """Read the sections, symbols and relocations of an object file. Raises Refused."""
         elf = read_elf(data)
         symbols = read_symbols(elf)
-        return cls(data, elf, symbols, read_relocations(elf, symbols))
+        return cls(data, elf, symbols, read_relocations(elf, symbols), read_functions(elf, symbols))
 
     def key(self, *, any_order: bool = False, raw: bool = False) -> Key:
-        """The key: equal keys mean that a loader sees the same. Raises Refused."""
+        """Return the key: equal keys mean that libbpf sees the same.
+
+        any_order  leaves the byte order out
+        raw        covers the bytes of a section that bpfcanon refuses, instead of raising its fault
+
+        Raises Refused, and the errors of bpfcanon that aren't faults.
+        """
         return self.manifest(any_order=any_order, raw=raw).key
 
     def manifest(self, file: str = "", *, any_order: bool = False, raw: bool = False) -> Manifest:
-        """The lines that the key is the digest of, with the name `file`. Raises Refused."""
+        """Return the lines of which the key is the digest, with the name `file`. Raises the same as `key`."""
         return Manifest(file, tuple(parts(self, any_order, raw)))
 
     @property
     def order(self) -> Order:
+        """The byte order of the file."""
         return self.elf.order
 
     @property
     def order_word(self) -> str:
+        """The byte order as a word: little or big."""
         return "little" if self.order == Order.LITTLE else "big"
 
-    # Code and types in canonical form, or the fault that bpfcanon found.
+    # Code and types in canonical form, or why they are refused.
 
     @cached_property
     def code(self) -> dict[str, bytes | Refused]:
@@ -123,38 +111,57 @@ class ObjectFile:
 
     @cached_property
     def canonical_types(self) -> bytes | Refused | None:
+        """The canonical bytes of .BTF; None if there is none."""
         section = self.elf.named(".BTF")
         if section is None:
             return None
         try:
-            return bpfcanon.btf_canon(section.content)
+            canonical = bpfcanon.btf_canon(section.content)
+            check_layout(section.content, self.order)
         except BpfcanonError as error:
             return refusal(error, ".BTF")
+        except Refused as error:
+            return error
+        return canonical
 
     @cached_property
     def types(self) -> Types | None:
-        """The types, if there are any without a fault."""
+        """The types, if there are any that aren't refused. Raises Refused if there are too many."""
         if isinstance(self.canonical_types, bytes) and len(self.canonical_types) > MAX_TYPE_BYTES:
             raise Refused("TooMany", Place(".BTF"))
         return Types(self.canonical_types) if isinstance(self.canonical_types, bytes) else None
 
     @cached_property
     def extension(self) -> Extension | Refused:
-        """The records of .BTF.ext."""
+        """The records of .BTF.ext; none if there is no such section."""
         section, types = self.elf.named(".BTF.ext"), self.elf.named(".BTF")
         if section is None:
-            return Extension([], [])
+            return Extension()
         if types is None:
             return Refused("ExtensionTypes", Place(".BTF.ext"))
         if isinstance(self.canonical_types, Refused):
             return self.canonical_types
         try:
-            return Reader(section.content, types.content, self.order).read()
+            extension = Reader(section.content, strings_of(types.content, self.order), self.order).read()
+            self.check_lines(extension)
         except Refused as error:
             return error
+        return extension
+
+    def check_lines(self, extension: Extension) -> None:
+        """Refuse a line of the second slot of a wide instruction, as the kernel does."""
+        for name, offsets in extension.line_offsets.items():
+            content = self.code_content.get(name, b"")
+            if not all(content[it] for it in offsets if it < len(content)):
+                raise Refused("ExtensionLines", Place(name))
+
+    @cached_property
+    def code_content(self) -> dict[str, bytes]:
+        """The bytes of each section of code."""
+        return {it.name: it.content for it in self.elf.sections if it.is_code}
 
     def faults(self) -> list[Refused]:
-        """The first fault of each section of code, of the types and of .BTF.ext."""
+        """Return the first fault of each section of code, of the types and of .BTF.ext."""
         found = [it for it in (*self.code.values(), self.canonical_types, self.extension) if isinstance(it, Refused)]
         return list(dict.fromkeys(found))
 
@@ -162,37 +169,19 @@ class ObjectFile:
 
     @cached_property
     def functions(self) -> list[Function]:
-        """All functions, in the sequence of sections and offsets. Code that no symbol has is a function without a name."""
-        found: list[Function] = []
-        for section in self.elf.sections:
-            if not section.is_code:
-                continue
-            place = aliases = 0
-            for symbol in sorted(self.symbols_in(section, STT_FUNC), key=lambda it: (it.value, it.size, it.name)):
-                is_alias = bool(found) and (section, symbol.value, symbol.size) == (found[-1].section, found[-1].start, found[-1].size)
-                aliases = aliases + 1 if is_alias else 0
-                if symbol.value < place and not is_alias or aliases > MAX_ALIASES:
-                    raise Refused("FunctionOverlap", Place(section.name, symbol.value))
-                if symbol.value > place:
-                    found.append(self.unnamed(section, place, symbol.value))
-                binding = BINDINGS.get(symbol.binding, str(symbol.binding))
-                found.append(Function(symbol.name, section, symbol.value, symbol.size, binding, symbol.visibility))
-                place = max(place, symbol.value + symbol.size)
-            if place < section.size:
-                found.append(self.unnamed(section, place, section.size))
-        return found
+        """All functions, in the sequence of sections and offsets. Code that no symbol names is a function without a name."""
+        return list(with_unnamed(self.elf, self.named_functions))
 
-    def unnamed(self, section: Section, start: int, end: int) -> Function:
-        return Function(f"{section.name}+{start:#x}", section, start, end - start, "static", "default", False)
-
-    def symbols_in(self, section: Section, kind: int) -> list[Symbol]:
-        return [it for it in self.symbols_of.get(section.index, ()) if it.type == kind]
+    def symbols_in(self, section: Section, type: int) -> list[Symbol]:
+        """Return the symbols of a type in a section."""
+        return [it for it in self.symbols_of.get(section.index, ()) if it.type == type]
 
     @cached_property
     def symbols_of(self) -> dict[int, list[Symbol]]:
+        """The symbols by the index of their section, 0 for none."""
         found: dict[int, list[Symbol]] = {}
         for symbol in self.symbols:
-            found.setdefault(symbol.index, []).append(symbol)
+            found.setdefault(symbol.section_index, []).append(symbol)
         return found
 
     @cached_property
@@ -204,7 +193,7 @@ class ObjectFile:
         """The variables of sections of data, in sequence."""
         found = []
         for section in self.elf.sections:
-            if section.is_loaded and not section.is_code and section.name != ".maps" and not is_legacy_maps(section.name):
+            if section.is_data and section.name != ".maps" and not is_legacy_maps(section.name):
                 symbols = sorted(self.symbols_in(section, STT_OBJECT), key=lambda it: (it.value, it.size, it.name))
                 found += [Variable(it.name, section, it.value, it.size) for it in symbols]
         return found

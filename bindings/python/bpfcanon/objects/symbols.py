@@ -1,69 +1,104 @@
-"""The symbol table of an object file."""
+"""The symbol table of an object file (System V ABI, chapter "Symbol Table")."""
 
 from __future__ import annotations
 
 import struct
-from dataclasses import dataclass
+from typing import NamedTuple
 
-from .elf import SHT_SYMTAB, Elf, Section, name_at, sign
+from .elf import Elf, Section, name_at, sign
 from .errors import Place, Refused
+from .sections import SHT_STRTAB, SectionKind
 
 MAX_SYMBOLS = 1 << 18
+ENTRY_SIZE = 24
 
 STB_LOCAL, STB_GLOBAL, STB_WEAK = 0, 1, 2
-STT_NOTYPE, STT_OBJECT, STT_FUNC, STT_SECTION = 0, 1, 2, 3
+STT_NOTYPE, STT_OBJECT, STT_FUNC, STT_SECTION, STT_FILE = 0, 1, 2, 3, 4
 BINDINGS = {STB_LOCAL: "static", STB_GLOBAL: "global", STB_WEAK: "weak"}
 VISIBILITIES = ("default", "internal", "hidden", "protected")
 SPECIAL = {0: "undefined", 0xFFF1: "absolute", 0xFFF2: "common"}
+SPECIAL_NUMBERS = {word: number for number, word in SPECIAL.items()}
 
 
-@dataclass(frozen=True)
-class Symbol:
+class Symbol(NamedTuple):
     """A row of the symbol table."""
 
+    position: int  # its index in the table
     name: str
     type: int
     binding: int
-    visibility: str
+    visibility: int
     section: str  # "undefined", "absolute" or "common" if it has none
-    index: int  # of the section; 0 if it has none
-    value: int
+    section_index: int  # 0 if it has none
+    value: int  # the offset in the section
     size: int
+    is_readable: bool = True  # whether the name can be read; it is "" if it can't, which is refused in rows that are covered
 
     @property
     def is_definition(self) -> bool:
-        """Whether other files or a loader may look it up."""
-        return self.binding != STB_LOCAL or self.type in (STT_OBJECT, STT_FUNC)
+        """Whether a loader may look it up. Labels, sections and names of source files matter only where relocations refer to them."""
+        return self.binding != STB_LOCAL or self.type not in (STT_NOTYPE, STT_SECTION, STT_FILE)
 
 
 def read_symbols(elf: Elf) -> tuple[Symbol, ...]:
     """Read the symbols. Raises Refused."""
-    tables = [it for it in elf.sections if it.type == SHT_SYMTAB]
-    if not tables:
-        return ()
-    table = tables[0]
-    if len(tables) > 1 or len(table.content) % 24 or table.link >= len(elf.sections) or len(table.content) // 24 > MAX_SYMBOLS:
-        raise Refused("SymbolTable", Place(table.name))
+    table = symbol_table(elf)
     strings = elf.sections[table.link].content
     found = []
-    for number, (offset, info, other, index, value, size) in enumerate(struct.iter_unpack(sign(elf.order) + "IBBHQQ", table.content)):
-        place = Place(table.name, 24 * number)
-        name = name_at(strings, offset)
-        if name is None:
-            raise Refused("SymbolName", place)
-        if index in SPECIAL:
-            section, index = SPECIAL[index], 0
-        elif index < len(elf.sections):
-            section = elf.sections[index].name
-        else:
-            raise Refused("SymbolTable", place, "a symbol is in a section that doesn't exist")
-        symbol = Symbol(name, info & 15, info >> 4, VISIBILITIES[other & 3], section, index, value, size)
-        if index and symbol.type in (STT_OBJECT, STT_FUNC) and not is_inside(symbol, elf.sections[index]):
-            raise Refused("SymbolPlace", place, f"{name} isn't inside {section}, or isn't whole instructions")
+    for number, fields in enumerate(struct.iter_unpack(sign(elf.order) + "IBBHQQ", table.content)):
+        symbol = symbol_of(elf, strings, number, fields)
+        if symbol.is_definition:
+            check_definition(elf, symbol, Place(table.name, ENTRY_SIZE * number))
         found.append(symbol)
+    refuse_doubles(found, table)
     return tuple(found)
 
 
-def is_inside(symbol: Symbol, section: Section) -> bool:
-    is_whole = symbol.type != STT_FUNC or symbol.value % 8 == symbol.size % 8 == 0
-    return symbol.value + symbol.size <= section.size and is_whole
+def symbol_table(elf: Elf) -> Section:
+    """Return the section with the symbols, if it has the form of a table of them. Raises Refused."""
+    table = elf.symbol_table
+    count, rest = divmod(table.size, ENTRY_SIZE)
+    if rest or table.entry_size != ENTRY_SIZE or not 0 < count <= MAX_SYMBOLS or any(table.content[:ENTRY_SIZE]):
+        raise Refused("SymbolTable", Place(table.name))
+    if table.link >= len(elf.sections) or elf.sections[table.link].type != SHT_STRTAB:
+        raise Refused("SymbolTable", Place(table.name))
+    return table
+
+
+def symbol_of(elf: Elf, strings: bytes, number: int, fields: tuple[int, ...]) -> Symbol:
+    name_offset, info, other, index, value, size = fields
+    place = Place(".symtab", ENTRY_SIZE * number)
+    if index in SPECIAL:
+        section, index = SPECIAL[index], 0
+    elif index < len(elf.sections):
+        section = elf.sections[index].name
+    else:
+        raise Refused("SymbolSection", place)
+    if info >> 4 not in BINDINGS or other > 3:
+        raise Refused("SymbolTable", place, "a symbol has an unknown binding or visibility")
+    name = name_at(strings, name_offset)
+    return Symbol(number, name or "", info & 15, info >> 4, other, section, index, value, size, name is not None)
+
+
+def check_definition(elf: Elf, symbol: Symbol, place: Place) -> None:
+    """Refuse a symbol that a loader may look up and whose name or place it can't have."""
+    if not symbol.is_readable:
+        raise Refused("SymbolName", place)
+    if not symbol.section_index:
+        return
+    section = elf.sections[symbol.section_index]
+    if not section.kind.has_content:
+        raise Refused("SymbolSection", place, f"{symbol.name} is in {section.name}, which has neither code nor data")
+    is_whole = symbol.type != STT_FUNC or section.kind is not SectionKind.CODE or symbol.value % 8 == symbol.size % 8 == 0
+    if symbol.type in (STT_OBJECT, STT_FUNC) and (symbol.value + symbol.size > section.size or not is_whole):
+        raise Refused("SymbolPlace", place, f"{symbol.name} isn't inside {section.name}, or isn't whole instructions")
+
+
+def refuse_doubles(symbols: list[Symbol], table: Section) -> None:
+    """Loaders look up global and weak symbols by name."""
+    seen = set()
+    for symbol in symbols:
+        if symbol.binding != STB_LOCAL:
+            if symbol.name in seen:
+                raise Refused("SymbolTwice", Place(table.name, ENTRY_SIZE * symbol.position))
+            seen.add(symbol.name)
