@@ -34,8 +34,8 @@ def read_relocations(elf: Elf, symbols: tuple[Symbol, ...]) -> dict[int, list[Re
     for table in elf.sections:
         if target := target_of(elf, table):
             left -= table.size // 16
-            if left < 0:
-                raise Refused("RelocationTable", Place(table.name), "there are too many relocations")
+            if left < 0 or target.index in found:
+                raise Refused("RelocationTable", Place(table.name), "there are too many relocations, or two tables for a section")
             found[target.index] = list(read_table(elf, table, target, symbols))
             if target.is_code:
                 refuse_doubles(found[target.index], table)
