@@ -95,7 +95,7 @@ class Refusals(unittest.TestCase):
             ("over 16 MiB", "TypesLayout", with_types(types(names=NAMES + b"a" * (16 << 20) + b"\0"))),
             ("a section named as code", "", with_types(types(words=section, names=b"\0xdp\0"))),
             ("a section named as strings", "TypesSection", with_types(types(words=section, names=b"\0.strtab\0"))),
-            ("a section named as the end of a string", "TypesSection", with_types(types(words=[3, *section[1:]], names=b"\0x.symtab\0"))),
+            ("a section named as the end of a string", "TypesSection", with_types(types(words=[2, *section[1:]], names=b"\0x.symtab\0"))),
             ("a section named as .BTF", "TypesSection", with_types(types(words=section, names=b"\0.BTF\0"))),
             ("a type with such a name", "", with_types(types(words=WORDS, names=b"\0.BTF\0"))),
         ]
