@@ -18,12 +18,17 @@ def manifest(file: str = "a.o", name: str = "main") -> Manifest:
 
 class Manifests(unittest.TestCase):
     def test_round_trip(self) -> None:
-        names = ["a.o", "a b.o", 'a"b.o', "a\\b.o", "\u00e9.o", "a\nb.o", "\x1b[2J.o", "", "key", "\udcff.o", "'~!#[]"]
+        names = ["a.o", "a b.o", 'a"b.o', "a\\b.o", "\u00e9.o", "a\nb.o", "\x1b[2J.o", "", "key", "\udcff.o", "'~!#[]", "\U0001f600", "\x7f"]
         manifests = [manifest(it) for it in names]
         text = manifests_text(manifests)
         self.assertTrue(text.isascii() and text.replace("\n", "").isprintable())
         self.assertEqual(read_manifests(text), manifests)
         self.assertEqual(read_manifests(manifests[0].text), manifests[:1])
+
+    def test_names_of_files(self) -> None:
+        rows = {"a.o": "a.o", "a b": '"a b"', '"': '"\\""', "\\": '"\\\\"', "": '""', "\n": '"\\u000a"', "\x7f": '"\\u007f"'}
+        rows.update({"\u00e9": '"\\u00e9"', "\U0001f600": '"\\ud83d\\ude00"', "\udcff": '"\\udcff"'})
+        self.assertEqual({it: manifest(it).text.split("\n")[1] for it in rows}, {it: f"file {word}" for it, word in rows.items()})
 
     def test_key(self) -> None:
         one = manifest()
@@ -57,7 +62,8 @@ class Manifests(unittest.TestCase):
             "other newlines": text.replace("\n", "\r\n"),
             "a quoted name": text.replace("file a.o", 'file "a.o"'),
             "a name with a blank": text.replace("file a.o", "file a .o"),
-            "another escape": manifest("\n").text.replace("\\n", "\\u000a"),
+            "another escape": manifest("\n").text.replace("\\u000a", "\\n"),
+            "capital digits": manifest("\n").text.replace("\\u000a", "\\u000A"),
             "no name": text.replace("file a.o\n", ""),
             "another key": text.replace("key ", "key 0"),
         }

@@ -10,6 +10,7 @@ from typing import Iterable
 from .keys import FIRST, PLAIN_WORD, Key
 
 DIGEST = "[0-9a-f]{64}"
+ESCAPED = re.compile(r'[^ -~]|["\\]')
 WORD = r'(?:[!#-\[\]-~]+|"(?:[ !#-\[\]-~]|\\["\\])*")'
 LINE = re.compile(
     rf"(?:code|data|other|raw|relocations) {WORD} {DIGEST}|zeros {WORD} [1-9][0-9]*|symbols {DIGEST}|sections {DIGEST}|order (?:little|big)"
@@ -54,8 +55,16 @@ class Manifest:
 
 
 def file_word(name: str) -> str:
-    """Return the name of a file as one word: as it is, or as a JSON string in ASCII."""
-    return name if PLAIN_WORD.fullmatch(name) else json.dumps(name)
+    """Return the name of a file as one word: as it is, or as a JSON string of printable ASCII."""
+    return name if PLAIN_WORD.fullmatch(name) else f'"{ESCAPED.sub(escape, name)}"'
+
+
+def escape(found: re.Match[str]) -> str:
+    """Return the escape of a character: \\uXXXX for each of its UTF-16 units, or a backslash before a quote or a backslash."""
+    if found[0] in '"\\':
+        return f"\\{found[0]}"
+    units = found[0].encode("utf-16-be", "surrogatepass")
+    return "".join(f"\\u{units[it : it + 2].hex()}" for it in range(0, len(units), 2))
 
 
 def manifests_text(manifests: Iterable[Manifest]) -> str:
