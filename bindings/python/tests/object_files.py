@@ -129,9 +129,9 @@ def extension(functions: Records = (), lines: Records = (), core: Records = (), 
     for it in parts:
         places += [end, len(it)]
         end += len(it)
-    words = places if header >= 32 else places[:4]
+    words = [*places, end, 0][: (header - 8) // 4]
     head = struct.pack(order + "HBBI", 0xEB9F, 1, 0, header) + struct.pack(f"{order}{len(words)}I", *words)
-    return head + bytes(header - len(head)) + b"".join(parts)
+    return head + b"".join(parts)
 
 
 def part(sections: Records, order: str) -> bytes:

@@ -110,15 +110,12 @@ class Reader:
         """Read all parts. Raises Refused."""
         if len(self.content) < HEADERS[0]:
             raise Refused("Extension", Place(".BTF.ext"))
-        magic, version, flags, header, *places = struct.unpack_from(self.sign + "HBBI4I", self.content)
+        magic, version, flags, header = struct.unpack_from(self.sign + "HBBI", self.content)
         if magic != MAGIC or version != 1 or flags or header not in HEADERS or header >= len(self.content):
             raise Refused("Extension", Place(".BTF.ext"))
-        core = (self.word(24), self.word(28)) if header > HEADERS[0] else (0, 0)
-        if header > HEADERS[1] and self.word(36):
-            raise Refused("Extension", Place(".BTF.ext", 36))
-        functions = list(self.runs(8, header + places[0], places[1]))
-        lines = tuple(self.runs(16, header + places[2], places[3]))
-        relocations = list(self.runs(16, header + core[0], core[1]))
+        parts = self.parts(header)
+        functions, lines = list(self.runs(8, *parts[0])), tuple(self.runs(16, *parts[1]))
+        relocations = list(self.runs(16, *parts[2])) if len(parts) > 2 else []
         for run in lines:
             self.check_lines(run)
         return Extension(
@@ -128,13 +125,27 @@ class Reader:
             self,
         )
 
-    def runs(self, size: int, start: int, length: int) -> Iterator[Run]:
+    def parts(self, header: int) -> list[tuple[int, int]]:
+        """Return where each part starts and ends. They follow the header in sequence, up to the end; the fourth one is empty."""
+        place = header
+        found: list[tuple[int, int]] = []
+        for field in range(8, header, 8):
+            start, end = header + self.word(field), header + self.word(field) + self.word(field + 4)
+            if start != place or end > len(self.content) or len(found) == 3 and start < end:
+                raise Refused("Extension", Place(".BTF.ext", field))
+            found.append((start, end))
+            place = end
+        if place != len(self.content):
+            raise Refused("Extension", Place(".BTF.ext", place))
+        return found
+
+    def runs(self, size: int, start: int, end: int) -> Iterator[Run]:
         """Yield the records of each section in a part, whose records have `size` bytes. A part without bytes has none."""
-        if not length:
+        if start == end:
             return
-        end, place, seen = start + length, start + 4, set()
-        if start % 4 or end > len(self.content) or length <= 4 or self.word(start) != size:
-            raise Refused("Extension", Place(".BTF.ext", min(start, len(self.content))))
+        place, seen = start + 4, set()
+        if start % 4 or end - start <= 4 or self.word(start) != size:
+            raise Refused("Extension", Place(".BTF.ext", start))
         while place < end:
             if place + 8 > end:
                 raise Refused("Extension", Place(".BTF.ext", place))
