@@ -114,7 +114,7 @@ class Refusals(unittest.TestCase):
             Part(".debug_line", b"", type=REL),
             Part(".rel.debug_line", EXIT, EXECINSTR),
             Part(".rel.BTF", EXIT),
-            Part(".rela.BTF.ext", EXIT),
+            Part(".rel.BTF", b"", type=made.RELA),
             Part(".rel.data", b"", ALLOC, REL),
             Part("data", b"", type=REL),
             Part(".llvm_addrsig", b"", EXECINSTR, 0x6FFF4C03),
@@ -187,6 +187,12 @@ class Refusals(unittest.TestCase):
             ("one without addends", "RelocationTable", ".relaxdp+0x0", made.file(relocations=[(1, [Rel(0, 1)]), (1, [Rel(0, 1, addend=0)])])),
         ]
         self.expect(rows)
+
+    def test_a_table_for_a_section_whose_name_begins_with_a(self) -> None:
+        """The name of its table is that of a table with addends for another section."""
+        for name in "a.BTF", "a.BTF.ext", "a.debug_info":
+            files = [made.file([CODE._replace(name=name)], relocations=[(1, [Rel(0, 1, it)])]) for it in (1, 2)]
+            self.assertNotEqual(*(made.key(it) for it in files))
 
     def test_names_that_no_part_of_a_key_has_may_be_any(self) -> None:
         self.assertEqual(made.refusal(made.file(symbols=[Sym("main"), Sym(b"pr\xfcfung.c", made.FILE, 0xFFF1, size=0, binding=0)])), ("", ""))

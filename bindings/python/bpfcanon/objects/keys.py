@@ -27,6 +27,9 @@ FIRST = f"bpfcanon-object {FORM}"
 PLAIN_WORD = re.compile(r"[!#-\[\]-~]+")  # printable ASCII without blanks, quotes and backslashes
 IN_SEQUENCE = (SectionKind.CODE, SectionKind.DATA, SectionKind.OTHER, SectionKind.TYPES, SectionKind.EXTENSION)
 
+# Kinds of sections whose size no line has.
+WITHOUT_SIZE = (SectionKind.TYPES, SectionKind.EXTENSION, SectionKind.SYMBOLS, SectionKind.LEFT_OUT)
+
 
 @dataclass(frozen=True)
 class Key:
@@ -117,7 +120,7 @@ def type_lines(object: ObjectFile, raw: bool) -> Iterator[str]:
     types, extended = object.elf.named(".BTF"), object.elf.named(".BTF.ext")
     canonical, extension = object.canonical_types, object.extension
     if types:
-        uncovered = (it.name for it in object.elf.sections if not it.kind.has_content)
+        uncovered = (it.name for it in object.elf.sections if it.kind in WITHOUT_SIZE)
         check_names(types.content, canonical if isinstance(canonical, bytes) else b"", uncovered)
     refused = next((it for it in (canonical, extension) if isinstance(it, Refused)), None)
     if refused and not raw:

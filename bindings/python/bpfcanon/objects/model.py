@@ -18,7 +18,7 @@ from .manifest import Manifest
 from .maps import legacy_fields, map_fields
 from .relocations import Relocation, read_relocations
 from .symbols import STB_LOCAL, STT_NOTYPE, STT_OBJECT, Symbol, read_symbols
-from .types import check_layout, strings_of
+from .types import check_empty_names, check_layout, strings_of
 
 MAX_TYPE_BYTES = 16 << 20  # what the kernel accepts
 
@@ -118,6 +118,7 @@ class ObjectFile:
         try:
             canonical = bpfcanon.btf_canon(section.content)
             check_layout(section.content, self.order)
+            check_empty_names(section.content, canonical, self.order)
         except BpfcanonError as error:
             return refusal(error, ".BTF")
         except Refused as error:

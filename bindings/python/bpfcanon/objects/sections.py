@@ -71,7 +71,9 @@ ROWS = (
     Row(SectionKind.LEFT_OUT, by_type=(SHT_STRTAB,), name=r"\.strtab|\.shstrtab", without=NOT_LOADED),
     Row(SectionKind.LEFT_OUT, by_type=(SHT_LLVM_ADDRSIG,), name=r"\.llvm_addrsig", without=NOT_LOADED),
     Row(SectionKind.LEFT_OUT, by_name=r"\.debug_.*", types=(SHT_PROGBITS,), without=NOT_LOADED),
-    Row(SectionKind.LEFT_OUT, by_name=r"\.rela?(\.debug_.*|\.BTF|\.BTF\.ext)", types=TABLES, without=NOT_LOADED),
+    Row(SectionKind.LEFT_OUT, by_name=r"\.rel(\.debug_.*|\.BTF|\.BTF\.ext)", types=(SHT_REL,), without=NOT_LOADED),
+    # libbpf takes .rel off a name, so .rela.BTF of type SHT_REL is for a section named a.BTF.
+    Row(SectionKind.LEFT_OUT, by_type=(SHT_RELA,), by_name=r"\.rela(\.debug_.*|\.BTF|\.BTF\.ext)", without=NOT_LOADED),
     Row(SectionKind.RELOCATIONS, by_type=TABLES, name=r"\.rela?.+", without=NOT_LOADED),
     Row(SectionKind.TYPES, by_name=r"\.BTF", types=(SHT_PROGBITS,), without=SHF_EXECINSTR),
     Row(SectionKind.EXTENSION, by_name=r"\.BTF\.ext", types=(SHT_PROGBITS,), without=SHF_EXECINSTR),

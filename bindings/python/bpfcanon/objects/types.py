@@ -9,7 +9,7 @@ from ..causes import Order
 from .elf import MAX_NAME, sign
 from .errors import Place, Refused
 
-MAX_SIZE = 16 << 20  # bytes that the kernel reads (BTF_MAX_SIZE)
+MAX_SIZE = 15 << 20  # bytes; the kernel reads 16 MiB (BTF_MAX_SIZE), and libbpf may add types
 DATASEC = 15
 # The words of an item of each kind that has items, and of what follows the head of the others.
 ITEM_WORDS = {4: 3, 5: 3, 6: 2, 13: 2, 15: 3, 19: 3}
@@ -28,6 +28,20 @@ def check_layout(content: bytes, order: Order) -> None:
     type_offset, type_length, string_offset = struct.unpack_from(sign(order) + "3I", content, 8)
     if type_offset % 4 or type_offset + type_length > string_offset or len(content) > MAX_SIZE:
         raise Refused("TypesLayout", Place(".BTF", 8))
+
+
+def check_empty_names(content: bytes, canonical: bytes, order: Order) -> None:
+    """Refuse a name_off that isn't 0 and leads to an empty string. libbpf and the kernel compare it with 0.
+
+    The words of both are the same except those of names, which are 0 in canonical bytes if they are empty.
+    """
+    header, type_offset, type_length = struct.unpack_from(sign(order) + "3I", content, 4)
+    types = header + type_offset
+    form = f"{type_length // 4}I"
+    words = zip(struct.unpack_from(sign(order) + form, content, types), struct.unpack_from("<" + form, canonical, 24))
+    place = next((number for number, (word, other) in enumerate(words) if word and not other), None)
+    if place is not None:
+        raise Refused("TypesName", Place(".BTF", types + 4 * place))
 
 
 def strings_of(content: bytes, order: Order) -> bytes:
