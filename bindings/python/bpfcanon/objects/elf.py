@@ -158,37 +158,48 @@ def read_elf(data: bytes) -> Elf:
         raise Refused("SectionTable", Place(offset=header.table))
     if rows[header.names].type != SHT_STRTAB:
         raise Refused("SectionTable", Place(offset=62))
-    sections = tuple(read_sections(data, rows, header.names))
-    refuse_overlaps(header, rows, sections)
+    names = list(read_names(data, rows, header.names))
+    refuse_overlaps(header, rows, names, len(data))
+    sections = tuple(section_of(data, *it) for it in zip(range(len(rows)), names, rows))
     refuse_doubles(sections)
     return Elf(header.order, sections)
 
 
-def read_sections(data: bytes, rows: list[Row], names: int) -> Iterator[Section]:
-    strings = content_of(data, rows[names])
-    for index, row in enumerate(rows):
-        name, content = name_at(strings or b"", row.name_offset), content_of(data, row)
-        if name is None or index and not name:
-            raise Refused("SectionName", text=f"section {index}: its name is missing, too long or not printable ASCII")
-        if content is None:
-            raise Refused("SectionCut", Place(name))
-        kind = kind_of(name, row.type, row.flags) if index else SectionKind.LEFT_OUT
-        yield Section(index, name, kind, row.type, row.flags, row.size, row.link, row.info, row.entry_size, content)
+def read_names(data: bytes, rows: list[Row], index: int) -> Iterator[str]:
+    """Yield the name of each section; only the first one, which is no section, may have none."""
+    strings = content_of(data, rows[index])
+    for number, row in enumerate(rows):
+        name = name_at(strings, row.name_offset)
+        if name is None or number and not name:
+            raise Refused("SectionName", text=f"section {number}: its name is missing, too long or not printable ASCII")
+        yield name
 
 
-def content_of(data: bytes, row: Row) -> Optional[bytes]:
-    """Return the bytes of a section, or None if they extend past the end of the file."""
-    return data[row.offset : row.offset + row.file_size] if not row.file_size or row.offset + row.file_size <= len(data) else None
+def refuse_overlaps(header: Header, rows: list[Row], names: list[str], length: int) -> None:
+    """Sections are inside the file, and have no bytes in common, nor with the header and the table.
 
-
-def refuse_overlaps(header: Header, rows: list[Row], sections: tuple[Section, ...]) -> None:
-    """Sections have no bytes in common, nor with the header and the table. If they had, a short file could take any time."""
-    spans = [(row.offset, row.offset + row.file_size, it.name) for row, it in zip(rows, sections) if row.file_size]
+    If they had, the contents of a short file could be of any size. So this comes before they are read.
+    """
+    spans = [(row.offset, row.offset + row.file_size, name) for row, name in zip(rows, names) if row.file_size]
+    cut = next((name for _, end, name in spans if end > length), None)
+    if cut is not None:
+        raise Refused("SectionCut", Place(cut))
     spans += [(0, HEADER_SIZE, ""), (header.table, header.table + ROW_SIZE * header.count, "")]
     spans.sort()
     for (_, end, _), (start, _, name) in zip(spans, spans[1:]):
         if start < end:
             raise Refused("SectionOverlap", Place(name) if name else Place("", start))
+
+
+def section_of(data: bytes, index: int, name: str, row: Row) -> Section:
+    kind = kind_of(name, row.type, row.flags) if index else SectionKind.LEFT_OUT
+    content = content_of(data, row)
+    return Section(index, name, kind, row.type, row.flags, row.size, row.link, row.info, row.entry_size, content)
+
+
+def content_of(data: bytes, row: Row) -> bytes:
+    """Return the bytes of a section in the file."""
+    return data[row.offset : row.offset + row.file_size] if row.file_size else b""
 
 
 def refuse_doubles(sections: tuple[Section, ...]) -> None:

@@ -63,15 +63,17 @@ def target_of(elf: Elf, table: Section) -> Optional[Section]:
 def read_table(elf: Elf, table: Section, target: Section, symbols: tuple[Symbol, ...]) -> Iterator[Relocation]:
     form = struct.Struct(sign(elf.order) + ("QQq" if table.type == SHT_RELA else "QQ"))
     for number, (offset, info, *addend) in enumerate(form.iter_unpack(table.content)):
-        place = Place(table.name, form.size * number)
-        if info >> 32 >= len(symbols):
-            raise Refused("RelocationSymbol", place)
-        symbol = symbols[info >> 32]
-        if not symbol.is_readable or symbol.section_index and not elf.sections[symbol.section_index].kind.has_content:
-            raise Refused("RelocationSymbol", place)
+        position = info >> 32
+        if position >= len(symbols) or not may_be_referred_to(elf, symbols[position]):
+            raise Refused("RelocationSymbol", Place(table.name, form.size * number))
         if offset >= target.size or target.is_code and offset % 8:
-            raise Refused("RelocationPlace", place)
-        yield Relocation(offset, info & 0xFFFFFFFF, addend[0] if addend else None, symbol)
+            raise Refused("RelocationPlace", Place(table.name, form.size * number))
+        yield Relocation(offset, info & 0xFFFFFFFF, addend[0] if addend else None, symbols[position])
+
+
+def may_be_referred_to(elf: Elf, symbol: Symbol) -> bool:
+    """Whether the name of a symbol can be read, and its section is covered if it has one."""
+    return symbol.is_readable and (not symbol.section_index or elf.sections[symbol.section_index].kind.has_content)
 
 
 def refuse_doubles(relocations: list[Relocation], table: Section) -> None:

@@ -48,9 +48,9 @@ def read_symbols(elf: Elf) -> tuple[Symbol, ...]:
     for number, fields in enumerate(struct.iter_unpack(sign(elf.order) + "IBBHQQ", table.content)):
         symbol = symbol_of(elf, strings, number, fields)
         if symbol.is_definition:
-            check_definition(elf, symbol, Place(table.name, ENTRY_SIZE * number))
+            check_definition(elf, symbol)
         found.append(symbol)
-    refuse_doubles(found, table)
+    refuse_doubles(found)
     return tuple(found)
 
 
@@ -67,38 +67,42 @@ def symbol_table(elf: Elf) -> Section:
 
 def symbol_of(elf: Elf, strings: bytes, number: int, fields: tuple[int, ...]) -> Symbol:
     name_offset, info, other, index, value, size = fields
-    place = Place(".symtab", ENTRY_SIZE * number)
     if index in SPECIAL:
         section, index = SPECIAL[index], 0
     elif index < len(elf.sections):
         section = elf.sections[index].name
     else:
-        raise Refused("SymbolSection", place)
+        raise Refused("SymbolSection", place_of(number))
     if info >> 4 not in BINDINGS or other > 3:
-        raise Refused("SymbolTable", place, "a symbol has an unknown binding or visibility")
+        raise Refused("SymbolTable", place_of(number), "a symbol has an unknown binding or visibility")
     name = name_at(strings, name_offset)
     return Symbol(number, name or "", info & 15, info >> 4, other, section, index, value, size, name is not None)
 
 
-def check_definition(elf: Elf, symbol: Symbol, place: Place) -> None:
+def place_of(number: int) -> Place:
+    """Return the place of a row of the symbol table."""
+    return Place(".symtab", ENTRY_SIZE * number)
+
+
+def check_definition(elf: Elf, symbol: Symbol) -> None:
     """Refuse a symbol that a loader may look up and whose name or place it can't have."""
     if not symbol.is_readable:
-        raise Refused("SymbolName", place)
+        raise Refused("SymbolName", place_of(symbol.position))
     if not symbol.section_index:
         return
     section = elf.sections[symbol.section_index]
     if not section.kind.has_content:
-        raise Refused("SymbolSection", place, f"{symbol.name} is in {section.name}, which has neither code nor data")
+        raise Refused("SymbolSection", place_of(symbol.position), f"{symbol.name} is in {section.name}, which has neither code nor data")
     is_whole = symbol.type != STT_FUNC or section.kind is not SectionKind.CODE or symbol.value % 8 == symbol.size % 8 == 0
     if symbol.type in (STT_OBJECT, STT_FUNC) and (symbol.value + symbol.size > section.size or not is_whole):
-        raise Refused("SymbolPlace", place, f"{symbol.name} isn't inside {section.name}, or isn't whole instructions")
+        raise Refused("SymbolPlace", place_of(symbol.position), f"{symbol.name} isn't inside {section.name}, or isn't whole instructions")
 
 
-def refuse_doubles(symbols: list[Symbol], table: Section) -> None:
+def refuse_doubles(symbols: list[Symbol]) -> None:
     """Loaders look up global and weak symbols by name."""
     seen = set()
     for symbol in symbols:
         if symbol.binding != STB_LOCAL:
             if symbol.name in seen:
-                raise Refused("SymbolTwice", Place(table.name, ENTRY_SIZE * symbol.position))
+                raise Refused("SymbolTwice", place_of(symbol.position))
             seen.add(symbol.name)
