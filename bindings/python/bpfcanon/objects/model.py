@@ -4,29 +4,34 @@ from __future__ import annotations
 
 from dataclasses import dataclass
 from functools import cached_property
+from typing import TYPE_CHECKING
 
 import bpfcanon
 from bpfcanon import BpfcanonError, Fault, Group, Order, UnknownCause
 
-from .btf import Types
 from .elf import Elf, Section, read_elf
 from .errors import Place, Refused, printable
 from .ext import Extension, Reader
 from .functions import Function, read_functions, with_unnamed
 from .keys import Key, parts
 from .manifest import Manifest
-from .maps import legacy_fields, map_fields
 from .relocations import Relocation, read_relocations
 from .symbols import STB_LOCAL, STT_NOTYPE, STT_OBJECT, Symbol, read_symbols
 from .types import check_empty_names, check_layout, strings_of
 
+if TYPE_CHECKING:
+    from .btf import Types
+
 MAX_TYPE_BYTES = 16 << 20  # what the kernel accepts
+LEGACY_SIZE = 64  # bytes in which the fields of a map are that is defined by words
 
 
 @dataclass(frozen=True)
 class Map:
+    """A map that programs use."""
+
     name: str
-    fields: dict[str, str]
+    fields: dict[str, str]  # of its definition, by their names in C
 
     def __str__(self) -> str:
         return " ".join(f"{name}={value}" for name, value in self.fields.items())
@@ -34,10 +39,12 @@ class Map:
 
 @dataclass(frozen=True)
 class Variable:
+    """Data with a name."""
+
     name: str
     section: Section
-    start: int
-    size: int
+    start: int  # bytes from the start of the section
+    size: int  # bytes
 
     @property
     def content(self) -> bytes:
@@ -128,6 +135,8 @@ class ObjectFile:
     @cached_property
     def types(self) -> Types | None:
         """The types, if there are any that aren't refused. Raises Refused if there are too many."""
+        from .btf import Types  # a key doesn't need them
+
         if isinstance(self.canonical_types, bytes) and len(self.canonical_types) > MAX_TYPE_BYTES:
             raise Refused("TooMany", Place(".BTF"))
         return Types(self.canonical_types) if isinstance(self.canonical_types, bytes) else None
@@ -186,10 +195,6 @@ class ObjectFile:
         return found
 
     @cached_property
-    def function_at(self) -> dict[tuple[str, int], Function]:
-        return {(it.section.name, it.start): it for it in self.functions if it.is_named}
-
-    @cached_property
     def variables(self) -> list[Variable]:
         """The variables of sections of data, in sequence."""
         found = []
@@ -201,25 +206,25 @@ class ObjectFile:
 
     @cached_property
     def variables_of(self) -> dict[int, list[Variable]]:
+        """The variables by the index of their section."""
         found: dict[int, list[Variable]] = {}
         for variable in self.variables:
             found.setdefault(variable.section.index, []).append(variable)
         return found
 
     @cached_property
-    def variable_at(self) -> dict[tuple[str, int], Variable]:
-        return {(it.section.name, it.start): it for it in reversed(self.variables)}
-
-    @cached_property
     def license(self) -> str:
+        """The license, printable; "" if there is none."""
         section = self.elf.named("license")
         return printable(section.content.split(b"\0")[0][:64].decode("ascii", "backslashreplace")) if section else ""
 
     @property
     def externs(self) -> list[str]:
-        return sorted({it.name for it in self.symbols if it.section == "undefined" and it.name})
+        """The names of the symbols that aren't defined in the file, sorted."""
+        return sorted({it.name for it in self.symbols_of.get(0, ()) if it.section == "undefined" and it.name})
 
     def groups(self, function: Function) -> Group | None:
+        """Return the conformance groups that a function needs, or None if bpfcanon refuses its instructions."""
         content = function.section.content[function.start : function.end]
         try:
             return bpfcanon.insn_groups(content, order=self.order)
@@ -228,6 +233,9 @@ class ObjectFile:
 
     @cached_property
     def maps(self) -> list[Map]:
+        """The maps, sorted by name."""
+        from .maps import map_fields
+
         found = self.legacy_maps()
         types = self.types
         section = types.datasec(".maps") if types else None
@@ -240,10 +248,12 @@ class ObjectFile:
 
     def legacy_maps(self) -> list[Map]:
         """Definitions by numbers in sections named maps."""
+        from .maps import legacy_fields
+
         found = []
         for section in self.elf.sections:
             for symbol in self.symbols_of.get(section.index, ()) if is_legacy_maps(section.name) else ():
-                fields = legacy_fields(section.content[symbol.value :], self.order)
+                fields = legacy_fields(section.content[symbol.value : symbol.value + LEGACY_SIZE], self.order)
                 if fields and symbol.binding != STB_LOCAL and symbol.type in (STT_OBJECT, STT_NOTYPE):
                     found.append(Map(symbol.name, fields))
         return found
