@@ -34,8 +34,8 @@ class Compiler:
     def compiled(self, name: str, *flags: str, source: Optional[pathlib.Path] = None, order: str = "el") -> Optional[pathlib.Path]:
         """Compile into an object with this name; None if that fails."""
         path = self.folder / f"{name}.o"
-        words = ["clang", f"--target=bpf{order}", *FLAGS, "-g", *flags, *self.includes, *SYSTEM, "-c", str(source or self.source), "-o", str(path)]
-        return path if self.run(*words, cwd=self.folder) else None
+        words = ["clang", f"--target=bpf{order}", *FLAGS, "-g", *flags, *self.includes, *SYSTEM]
+        return path if self.run(*words, "-c", str(source or self.source), "-o", str(path), cwd=self.folder) else None
 
     def moved(self, base: pathlib.Path) -> Optional[pathlib.Path]:
         """The source in another folder, with its lines moved by a comment."""

@@ -167,7 +167,8 @@ def main() -> int:
             text, seconds = answer(data, *words)
             failed += text.startswith("status")
             peak = resource.getrusage(resource.RUSAGE_CHILDREN).ru_maxrss >> 10
-            print(f"{what:28} {len(data) >> 10:6} KiB {' '.join(words):3} {seconds:5.1f} s ({time.monotonic() - start:.1f}) {peak} MiB {text}", flush=True)
+            times = f"{seconds:5.1f} s ({time.monotonic() - start:.1f})"
+            print(f"{what:28} {len(data) >> 10:6} KiB {' '.join(words):3} {times} {peak} MiB {text}", flush=True)
     return 1 if failed else 0
 
 

@@ -79,7 +79,8 @@ def names_of(data: bytes) -> list[str]:
     found[:64] = ["magic"] * 4 + [*HEADER[1:]] + spread(FIELDS)
     for section in file.elf.sections:
         row = table + 64 * section.index
-        found[row : row + 64] = [row_name(it, section.name, section.type, len(section.content)) if section.index else "first row" for it in spread(ROW)]
+        fields = [row_name(it, section.name, section.type, len(section.content)) for it in spread(ROW)]
+        found[row : row + 64] = fields if section.index else ["first row"] * 64
         offset = struct.unpack_from(sign + "Q", data, row + 24)[0]
         if section.content:
             found[offset : offset + section.size] = list(content_names(file, section.name, section.content))
@@ -128,7 +129,8 @@ def covered_names(file: ObjectFile, table: str) -> Iterator[int]:
         yield from (symbols.unpack_from(headers, 64 * it.index)[0] for it in file.elf.sections[1:] if not is_left_out(it.name))
         return
     content = file.elf.symbol_table.content
-    yield from (symbols.unpack_from(content, 24 * it.position)[0] for it in file.symbols if it.is_definition or it.position in referred(file))
+    covered = (it for it in file.symbols if it.is_definition or it.position in referred(file))
+    yield from (symbols.unpack_from(content, 24 * it.position)[0] for it in covered)
 
 
 def referred(file: ObjectFile) -> set[int]:
@@ -181,22 +183,26 @@ def kept(data: bytes) -> Iterator[int]:
 SHORT = NAMES[: NAMES.index(b"nnn")]
 MAPS = [CODE, Part(".maps", bytes(16), 3), Part(".BTF", types(names=SHORT))]
 OPERATIONS = [Part("struct_ops/init", EXIT, 6), Part(".struct_ops", bytes(16), 3)]
-LABELS = [Sym("LBB0_1", made.NOTYPE, 1, 8, 0, made.LOCAL), Sym("a.c", made.FILE, 0xFFF1, 0, 0, made.LOCAL), Sym("", made.SECTION, 2, 0, 0, made.LOCAL)]
+LABELS = [Sym("LBB0_1", made.NOTYPE, 1, 8, 0, made.LOCAL), Sym("a.c", made.FILE, 0xFFF1, 0, 0, made.LOCAL)]
+SECTION = Sym("", made.SECTION, 2, 0, 0, made.LOCAL)
 # The offsets of the first and the last of these names differ in one bit.
 DEBUG = [Part(".debug_info"), Part(".llvm_addrsig", b"\1\2", type=0x6FFF4C03), Part(".data", b"1"), Part(".debug_line", b"/home/user")]
 LINES = made.extension([(XDP, [(0, 1)])], [(XDP, [(0, FILE, TEXT, 1), (8, FILE, TEXT, 2), (16, 0, TEXT, 3)])], [(XDP, [(0, 1, ACCESS, 0)])])
 BIG = made.extension([(XDP, [(0, 1)])], [(XDP, [(0, FILE, TEXT, 1), (8, 0, 0, 2)])], order=">")
+WITH_LINES = [Part("xdp", EXIT * 3, 6), Part(".BTF", types(names=SHORT)), Part(".BTF.ext", LINES)]
+BIG_ENDIAN = [Part("xdp", MOV_BIG + EXIT, 6), Part(".BTF", types(">", names=SHORT)), Part(".BTF.ext", BIG)]
+CALLED = [Sym("a", binding=made.LOCAL), Sym("b", value=8, other=made.HIDDEN)]
 FILES = {
     "all kinds of sections": made.file([*PARTS[:4], Part(".BTF", types(names=SHORT)), *PARTS[5:]], SYMBOLS, RELOCATIONS),
-    "debugging information": made.file([CODE, *DEBUG], [MAIN, *LABELS[:2]], [(5, [Rel(0, 1)])]),
-    "source lines": made.file([Part("xdp", EXIT * 3, 6), Part(".BTF", types(names=SHORT)), Part(".BTF.ext", LINES)], [MAIN], [(2, [Rel(0, 1)]), (3, [Rel(8, 1)])]),
-    "big-endian": made.file([Part("xdp", MOV_BIG + EXIT, 6), Part(".BTF", types(">", names=SHORT)), Part(".BTF.ext", BIG)], [Sym("main", size=16)], order=">"),
-    "no types": made.file([CODE, Part(".rodata", b"text\0", ALLOC)], [MAIN, LABELS[2]], [(1, [Rel(0, 2)])]),
+    "debugging information": made.file([CODE, *DEBUG], [MAIN, *LABELS], [(5, [Rel(0, 1)])]),
+    "source lines": made.file(WITH_LINES, [MAIN], [(2, [Rel(0, 1)]), (3, [Rel(8, 1)])]),
+    "big-endian": made.file(BIG_ENDIAN, [Sym("main", size=16)], order=">"),
+    "no types": made.file([CODE, Part(".rodata", b"text\0", ALLOC)], [MAIN, SECTION], [(1, [Rel(0, 2)])]),
     "addends": made.file([CODE, Part(".data", bytes(8), ALLOC | WRITE)], [MAIN, Sym("v", made.OBJECT, 2)], [(1, [Rel(0, 2, addend=4)])]),
     "maps": made.file(MAPS, [MAIN, Sym("map", made.OBJECT, 2, 0, 16)], [(1, [Rel(0, 2)]), (2, [Rel(8, 2)])]),
     "operations": made.file(OPERATIONS, [Sym("init"), Sym("operations", made.OBJECT, 2, 0, 16)], [(2, [Rel(8, 1, 2)])]),
     "names of one function": made.file([CODE], [MAIN, MAIN._replace(name="alias"), MAIN._replace(name="third", binding=made.WEAK)]),
-    "functions to call": made.file([Part(".text", EXIT * 2, 6), CODE], [Sym("a", binding=made.LOCAL), Sym("b", value=8, other=made.HIDDEN), MAIN._replace(section=2)]),
+    "functions to call": made.file([Part(".text", EXIT * 2, 6), CODE], [*CALLED, MAIN._replace(section=2)]),
     "special sections": made.file([CODE], [MAIN, Sym("a", 0, 0xFFF1, 7, 0), Sym("c", 0, 0xFFF2, 8, 0), Sym("u", 0, 0, 0, 0, made.WEAK)]),
     "unused strings": made.file([CODE, Part(".BTF", btf("<", ([6, 1 << 24, 4, 32], b"\0path\0int\0unused\0")))], [MAIN]),
 }

@@ -141,6 +141,7 @@ class Refusals(unittest.TestCase):
     def test_symbols(self) -> None:
         place = ".symtab+0x18"
         parts = (CODE, DATA, Part(".debug_info"))
+        longer = Part("x", EXIT * 3, 4)
         rows = [
             ("a name that isn't ASCII", "SymbolName", place, made.file(symbols=[Sym(b"\xff\xfe")])),
             ("a name with an escape", "SymbolName", place, made.file(symbols=[Sym("\x1b[2J")])),
@@ -158,7 +159,7 @@ class Refusals(unittest.TestCase):
             ("half an instruction", "SymbolPlace", place, made.file(symbols=[Sym("m", size=4)])),
             ("a variable past the end", "SymbolPlace", place, made.file(parts, [Sym("v", 1, section=2, size=9)])),
             ("two global symbols", "SymbolTwice", ".symtab+0x30", made.file(symbols=[Sym("m"), Sym("m", binding=2)])),
-            ("overlapping functions", "FunctionOverlap", "x+0x8", made.file([Part("x", EXIT * 3, 4)], [Sym("a", size=16), Sym("b", value=8)])),
+            ("overlapping functions", "FunctionOverlap", "x+0x8", made.file([longer], [Sym("a", size=16), Sym("b", value=8)])),
             ("17 names of a function", "FunctionOverlap", "xdp+0x0", made.file(symbols=[Sym(f"m{it}") for it in range(17)])),
         ]
         self.expect(rows)
@@ -167,7 +168,7 @@ class Refusals(unittest.TestCase):
         whole = relocations()
         self.assertEqual(made.refusal(whole), ("", ""))
         table = ".relxdp+0x0"
-        parts = (CODE, Part(".debug_info"))
+        parts, one = (CODE, Part(".debug_info")), [(1, [Rel(0, 1)])]
         rows = [
             ("entries of 24 bytes", "RelocationTable", table, relocations(entry_size=24)),
             ("an incomplete entry", "RelocationTable", table, relocations(content=bytes(15))),
@@ -178,13 +179,13 @@ class Refusals(unittest.TestCase):
             ("a name of another section", "RelocationTable", ".rel.maps+0x0", relocations(name=".rel.maps")),
             ("a name that is left out", "RelocationTable", ".rel.BTF+0x0", relocations(name=".rel.BTF")),
             ("no such symbol", "RelocationSymbol", table, relocations(content=struct.pack("<QQ", 0, 2 << 32))),
-            ("a symbol that is left out", "RelocationSymbol", table, made.file(parts, [Sym("", 3, 2, size=0, binding=0)], [(1, [Rel(0, 1)])])),
-            ("a symbol without a name", "RelocationSymbol", table, made.file(symbols=[Sym(9, 0, binding=0)], relocations=[(1, [Rel(0, 1)])])),
+            ("a symbol that is left out", "RelocationSymbol", table, made.file(parts, [Sym("", 3, 2, 0, 0, 0)], one)),
+            ("a symbol without a name", "RelocationSymbol", table, made.file(symbols=[Sym(9, 0, binding=0)], relocations=one)),
             ("past the end", "RelocationPlace", table, relocations(content=struct.pack("<QQ", 8, 1 << 32))),
             ("in an instruction", "RelocationPlace", table, relocations(content=struct.pack("<QQ", 4, 1 << 32))),
             ("two for one instruction", "RelocationTwice", table, relocations(content=struct.pack("<QQ", 0, 1 << 32) * 2)),
-            ("two tables", "SectionTwice", table, made.file(relocations=[(1, [Rel(0, 1)]), (1, [Rel(0, 1)])])),
-            ("one without addends", "RelocationTable", ".relaxdp+0x0", made.file(relocations=[(1, [Rel(0, 1)]), (1, [Rel(0, 1, addend=0)])])),
+            ("two tables", "SectionTwice", table, made.file(relocations=[*one, *one])),
+            ("one without addends", "RelocationTable", ".relaxdp+0x0", made.file(relocations=[*one, (1, [Rel(0, 1, addend=0)])])),
         ]
         self.expect(rows)
 
@@ -195,7 +196,8 @@ class Refusals(unittest.TestCase):
             self.assertNotEqual(*(made.key(it) for it in files))
 
     def test_names_that_no_part_of_a_key_has_may_be_any(self) -> None:
-        self.assertEqual(made.refusal(made.file(symbols=[Sym("main"), Sym(b"pr\xfcfung.c", made.FILE, 0xFFF1, size=0, binding=0)])), ("", ""))
+        source = Sym(b"pr\xfcfung.c", made.FILE, 0xFFF1, size=0, binding=0)
+        self.assertEqual(made.refusal(made.file(symbols=[Sym("main"), source])), ("", ""))
 
 
 if __name__ == "__main__":

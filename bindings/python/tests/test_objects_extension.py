@@ -114,7 +114,7 @@ class Refusals(unittest.TestCase):
             ("flags", "Extension", with_extension(GOOD[:3] + b"\1" + GOOD[4:])),
             ("a header of 28 bytes", "Extension", with_extension(header(GOOD, 4, 28))),
             ("a header and nothing else", "Extension", with_extension(made.extension())),
-            ("a header of 40 bytes and a fifth part", "Extension", with_extension(header(made.extension([(XDP, [(0, 1)])], header=40), 36, 4))),
+            ("a fourth part", "Extension", with_extension(header(made.extension([(XDP, [(0, 1)])], header=40), 36, 4))),
         ]
         self.expect(rows)
 

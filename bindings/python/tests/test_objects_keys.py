@@ -21,7 +21,8 @@ OTHER = Part("my data", b"\\", ALLOC)
 EXTENSION = made.extension([(XDP, [(0, 1)])], [(XDP, [(0, FILE, TEXT, 1 << 10)])], [(XDP, [(0, 1, ACCESS, 2)])])
 PARTS = [CODE, DATA, BSS, OTHER, Part(".BTF", types()), Part(".BTF.ext", EXTENSION), Part("license", b"GPL\0", ALLOC | WRITE)]
 MAIN = Sym("main", size=24)
-SYMBOLS = [Sym("", made.SECTION, 2, 0, 0, made.LOCAL), MAIN, Sym('v"', made.OBJECT, 2, 4, 4), Sym("outside", made.NOTYPE, 0, 0, 0, made.WEAK)]
+OUTSIDE = Sym("outside", made.NOTYPE, 0, 0, 0, made.WEAK)
+SYMBOLS = [Sym("", made.SECTION, 2, 0, 0, made.LOCAL), MAIN, Sym('v"', made.OBJECT, 2, 4, 4), OUTSIDE]
 RELOCATIONS = [(1, [Rel(0, 1)])]
 
 
@@ -202,15 +203,17 @@ class Changes(unittest.TestCase):
         ext = made.extension(
             [(XDP + shift, [(0, 1)])], [(XDP + shift, [(0, 0, TEXT, 5 << 10), (16, 0, 0, 0)])], [(XDP + shift, [(0, 1, ACCESS + shift, 2)])]
         )
+        with_strings = [Part(".BTF", moved), Part(".BTF.ext", ext)]
         label, source = Sym("LBB0_1", made.NOTYPE, 1, 8, 0, made.LOCAL), Sym("b.c", made.FILE, 0xFFF1, 0, 0, made.LOCAL)
         debug = [Part(".debug_info", b"/home"), Part(".debug_info", b"/tmp"), Part(".llvm_addrsig", b"\1", type=0x6FFF4C03)]
         files = {
-            "strings of the types and source lines": made.file([*PARTS[:4], Part(".BTF", moved), Part(".BTF.ext", ext), PARTS[6]], SYMBOLS, RELOCATIONS),
+            "strings of the types and source lines": made.file([*PARTS[:4], *with_strings, PARTS[6]], SYMBOLS, RELOCATIONS),
             "labels and source files": made.file(PARTS, [*SYMBOLS, label, source], RELOCATIONS),
             "debugging information": made.file([*PARTS, *debug], SYMBOLS, RELOCATIONS),
             "its relocations": made.file([*PARTS, debug[0]], SYMBOLS, [*RELOCATIONS, (len(PARTS) + 1, [Rel(0, 1)])]),
             "relocations of types": made.file(PARTS, SYMBOLS, [*RELOCATIONS, (5, [Rel(0, 1)]), (6, [Rel(0, 1)])]),
-            "addresses and alignments": with_part(0, fields=[("address", 64), ("alignment", 1), ("link", 1), ("info", 1), ("entry_size", 1)]),
+            "addresses and alignments": with_part(0, fields=[("address", 64), ("alignment", 1)]),
+            "links and sizes of entries": with_part(0, fields=[("link", 1), ("info", 1), ("entry_size", 1)]),
             "bytes after the sections": BASE + b"more",
         }
         self.assertEqual({it: made.key_or_cause(data) for it, data in files.items()}, dict.fromkeys(files, made.key(BASE)))

@@ -45,7 +45,8 @@ class Model(unittest.TestCase):
         self.assertEqual([(it.order, it.order_word) for it in files], [(Order.LITTLE, "little"), (Order.BIG, "big")])
 
     def test_faults_of_all_sections(self) -> None:
-        parts = [Part("a", b"\xff" * 8, 4), Part("b", EXIT, 4), Part("c", EXIT + b"\1", 4), Part(".BTF", b"\0" * 24), Part(".BTF.ext", b"x")]
+        parts = [Part("a", b"\xff" * 8, 4), Part("b", EXIT, 4), Part("c", EXIT + b"\1", 4)]
+        parts += [Part(".BTF", b"\0" * 24), Part(".BTF.ext", b"x")]
         found = ObjectFile.read(made.file(parts, ())).faults()
         self.assertEqual([str(it.place) for it in found], ["a+0x0", "c+0x8", ".BTF+0x0"])
 

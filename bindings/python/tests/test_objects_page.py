@@ -26,7 +26,8 @@ def table(heading: str) -> list[list[str]]:
 
 class Page(unittest.TestCase):
     def test_causes(self) -> None:
-        self.assertEqual({cause: text for cause, text in table("Cause")}, {it: text for it, text in CAUSES.items() if it not in OF_LISTINGS})
+        expected = {it: text for it, text in CAUSES.items() if it not in OF_LISTINGS}
+        self.assertEqual({cause: text for cause, text in table("Cause")}, expected)
 
     def test_kinds_of_sections(self) -> None:
         words = {"symbols": "symbol table"}

@@ -42,8 +42,9 @@ def relocations(file: Any, left_out: tuple[str, ...]) -> dict[int, list[tuple[ob
     found: dict[int, list[tuple[object, ...]]] = {}
     for table in file.iter_sections():
         if table["sh_type"] in ("SHT_REL", "SHT_RELA") and not table.name.startswith(left_out):
-            rows = table.iter_relocations()
-            found[table["sh_info"]] = [(it["r_offset"], it["r_info_type"], it["r_info_sym"], it["r_addend"] if it.is_RELA() else None) for it in rows]
+            has_addends, rows = table["sh_type"] == "SHT_RELA", table.iter_relocations()
+            addends = ((it, it["r_addend"] if has_addends else None) for it in rows)
+            found[table["sh_info"]] = [(it["r_offset"], it["r_info_type"], it["r_info_sym"], addend) for it, addend in addends]
     return found
 
 
@@ -60,8 +61,9 @@ class Comparisons(unittest.TestCase):
             # pyelftools gives a symbol of a section that has no name the name of its section.
             expected = [("", *it[1:]) if it[1] == TYPES["STT_SECTION"] else it for it in symbols(theirs)]
             self.assertEqual(table, expected, what)
-            found = {index: [(it.offset, it.type, it.symbol.position, it.addend) for it in rows] for index, rows in ours.relocations.items()}
-            self.assertEqual(found, relocations(theirs, (".rel.debug_", ".rel.BTF")), what)
+            found = ours.relocations.items()
+            tables = {index: [(it.offset, it.type, it.symbol.position, it.addend) for it in rows] for index, rows in found}
+            self.assertEqual(tables, relocations(theirs, (".rel.debug_", ".rel.BTF")), what)
 
 
 if __name__ == "__main__":

@@ -137,7 +137,8 @@ def read_header(data: bytes) -> Header:
     if len(data) < HEADER_SIZE or data[6] != 1:
         raise Refused("Header", Place(offset=6))
     order = Order.LITTLE if data[5] == 1 else Order.BIG
-    kind, machine, version, _, _, table, _, size, _, segments, row, count, names = struct.unpack_from(sign(order) + "HHIQQQIHHHHHH", data, 16)
+    fields = struct.unpack_from(sign(order) + "HHIQQQIHHHHHH", data, 16)
+    kind, machine, version, _, _, table, _, size, _, segments, row, count, names = fields
     if kind != ET_REL:
         raise Refused("FileType", Place(offset=16))
     if machine != EM_BPF:

@@ -55,7 +55,9 @@ def check_names(content: bytes, canonical: bytes, uncovered: Iterable[str]) -> N
 
     `canonical` is empty if `content` has no canonical bytes. Then no string may be such a name.
     """
-    if any(it in content for it in UNCOVERED) and (not canonical or {it.encode() for it in uncovered}.intersection(datasec_names(canonical))):
+    if not any(it in content for it in UNCOVERED):
+        return
+    if not canonical or {it.encode() for it in uncovered}.intersection(datasec_names(canonical)):
         raise Refused("TypesSection", Place(".BTF"))
 
 
