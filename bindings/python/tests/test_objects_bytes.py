@@ -113,8 +113,12 @@ def content_names(file: ObjectFile, name: str, content: bytes) -> Iterator[str]:
     elif name == ".symtab":
         yield from symbol_names(file)
     elif name == ".BTF":
-        start = content.index(b"int\0")
-        yield from [*["types"] * start, *["name of a type"] * 4, *["strings of .BTF that no type has"] * (len(content) - start - 4)]
+        (size,) = struct.unpack_from("<I" if file.order == Order.LITTLE else ">I", content, 20)
+        named = ["types"] * (len(content) - size) + ["strings of .BTF that no type has"] * size
+        place = content.index(b"int\0", len(content) - size)
+        named[place : place + 4] = ["the name of the type"] * 4
+        named[-1] = "the end of the strings"
+        yield from named
     elif name == ".BTF.ext":
         yield from extension_names(file, content)
     else:
