@@ -14,6 +14,7 @@ import sys
 import unittest
 from typing import Iterator
 
+import bpfcanon
 from bpfcanon import Order
 from bpfcanon.objects import ObjectFile
 
@@ -113,12 +114,7 @@ def content_names(file: ObjectFile, name: str, content: bytes) -> Iterator[str]:
     elif name == ".symtab":
         yield from symbol_names(file)
     elif name == ".BTF":
-        (size,) = struct.unpack_from("<I" if file.order == Order.LITTLE else ">I", content, 20)
-        named = ["types"] * (len(content) - size) + ["strings of .BTF that no type has"] * size
-        place = content.index(b"int\0", len(content) - size)
-        named[place : place + 4] = ["the name of the type"] * 4
-        named[-1] = "the end of the strings"
-        yield from named
+        yield from type_names(content, "<I" if file.order == Order.LITTLE else ">I")
     elif name == ".BTF.ext":
         yield from extension_names(file, content)
     else:
@@ -157,6 +153,18 @@ def symbol_names(file: ObjectFile) -> Iterator[str]:
             kept = {"st_other", "st_size"} if symbol.position in referred(file) else set(SYMBOL)
             names = ["local symbols without a row in .symtab" if it in kept else it for it in names]
         yield from names
+
+
+def type_names(content: bytes, form: str) -> Iterator[str]:
+    """The bytes of .BTF. A string is used if it is the end of a canonical one, or if one of these is its own end."""
+    canonical = bpfcanon.btf_canon(content)
+    used = canonical[24 + struct.unpack_from("<I", canonical, 16)[0] :].split(b"\0")[1:-1]
+    strings = content[-struct.unpack_from(form, content, 20)[0] :]
+    yield from ["types"] * (len(content) - len(strings)) + ["the first string"]
+    for text in strings.split(b"\0")[1:-1]:
+        shared = max((min(len(it), len(text)) for it in used if it.endswith(text) or text.endswith(it)), default=-1)
+        yield from ["strings of .BTF that no type has"] * (len(text) - shared if shared >= 0 else len(text) + 1)
+        yield from ["the name of a type"] * (shared + 1)
 
 
 def extension_names(file: ObjectFile, content: bytes) -> Iterator[str]:
