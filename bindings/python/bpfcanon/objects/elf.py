@@ -9,7 +9,6 @@ The records are described in the System V ABI, chapters "ELF Header", "Sections"
 
 from __future__ import annotations
 
-import re
 import struct
 from dataclasses import dataclass
 from functools import cached_property
@@ -26,7 +25,6 @@ MAX_NAME = 1_024  # bytes
 EM_BPF = 247
 ET_REL = 1
 HEADER_SIZE = ROW_SIZE = 64
-NAME = re.compile(rb"[ -~]{0,%d}\0" % MAX_NAME)
 
 
 class Row(NamedTuple):
@@ -120,8 +118,14 @@ def name_at(strings: bytes, offset: int) -> Optional[str]:
 
     Which other characters are printable depends on the version of Unicode. The kernel refuses them in names of programs and maps.
     """
-    found = NAME.match(strings, offset) if offset < len(strings) else None
-    return found[0][:-1].decode("ascii") if found else None
+    end = strings.find(b"\0", offset, offset + MAX_NAME + 1)
+    if end < 0:
+        return None
+    try:
+        name = strings[offset:end].decode("ascii")
+    except UnicodeDecodeError:
+        return None
+    return name if name.isprintable() else None
 
 
 def read_header(data: bytes) -> Header:
