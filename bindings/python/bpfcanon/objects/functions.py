@@ -2,8 +2,7 @@
 
 from __future__ import annotations
 
-from dataclasses import dataclass
-from typing import Iterator
+from typing import Iterator, NamedTuple
 
 from .elf import Elf, Section
 from .errors import Place, Refused
@@ -12,8 +11,7 @@ from .symbols import BINDINGS, STT_FUNC, VISIBILITIES, Symbol
 MAX_ALIASES = 16  # names of the same instructions
 
 
-@dataclass(frozen=True)
-class Function:
+class Function(NamedTuple):
     """Instructions with a name: a program, or a function that programs call."""
 
     name: str
