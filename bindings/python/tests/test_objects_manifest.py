@@ -65,6 +65,9 @@ class Manifests(unittest.TestCase):
             "a name with a blank": text.replace("file a.o", "file a .o"),
             "another escape": manifest("\n").text.replace("\\u000a", "\\n"),
             "capital digits": manifest("\n").text.replace("\\u000a", "\\u000A"),
+            "half a character": text.replace("file a.o", 'file "\\ud83d"'),
+            "a byte of ASCII": text.replace("file a.o", 'file "\\udc41"'),
+            "bytes of a character": text.replace("file a.o", 'file "\\udcc3\\udca9"'),
             "no name": text.replace("file a.o\n", ""),
             "another key": text.replace("key ", "key 0"),
         }

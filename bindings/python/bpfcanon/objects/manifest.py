@@ -97,10 +97,13 @@ def read_manifest(number: int, block: str) -> Manifest:
     return manifest
 
 
-def unquoted(name: str) -> str:
-    if not name.startswith('"'):
-        return name
+def unquoted(word: str) -> str:
+    """Return the name of a file, whose bytes are UTF-8 or are surrogates of bytes that aren't."""
     try:
-        return str(json.loads(name))
+        name = str(json.loads(word)) if word.startswith('"') else word
+        is_name = name.encode(errors="surrogateescape").decode(errors="surrogateescape") == name
     except ValueError:
-        raise ManifestError(f"{name} isn't a name") from None
+        is_name = False
+    if not is_name:
+        raise ManifestError(f"{word} isn't a name")
+    return name

@@ -33,7 +33,7 @@ def read_relocations(elf: Elf, symbols: tuple[Symbol, ...]) -> dict[int, list[Re
     left = MAX_RELOCATIONS
     for table in elf.sections:
         if target := target_of(elf, table):
-            left -= table.size // 16
+            left -= table.size // table.entry_size
             if left < 0 or target.index in found:
                 raise Refused("RelocationTable", Place(table.name), "there are too many relocations, or two tables for a section")
             found[target.index] = list(read_table(elf, table, target, symbols))
