@@ -110,7 +110,7 @@ def main(words: list[str]) -> int:
                     refused[f"{way}: {error.cause}"] += 1
     print(f"{count} of {len(arguments.sources)} sources compile; refused: {dict(refused)}")
     for way, row in rows.items():
-        parts = ", ".join(f"{it} {number}" for it, number in row.parts.most_common())
+        parts = ", ".join(f"{it} {number}" for it, number in sorted(row.parts.items(), key=lambda it: (-it[1], it[0])))
         print(f"| {way} | {row.objects} | {row.bytes} | {row.keys} | {parts} |")
     return 0
 
