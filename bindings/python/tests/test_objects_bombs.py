@@ -1,6 +1,6 @@
 """Files that are made to take time or memory: `key` needs at most 10 s and 1 GB for each, and ends with an answer.
 
-    python3 -m tests.test_objects_bombs
+    python3 -m tests.test_objects_bombs [NAME]..
 
 tries files of up to 64 MiB, each in a process with limits; the test tries smaller ones, which take less.
 """
@@ -55,6 +55,15 @@ def relocations(count: int) -> bytes:
     return made.elf([*tables(NULL + symbol, b"\0main\0"), Part("x", EXIT * count, 6), table])
 
 
+def named_relocations(count: int) -> bytes:
+    """A file whose relocations refer to symbols with long names, each at another offset."""
+    symbols = (struct.pack("<IBBHQQ", 1 + it, 0, 0, 3, 0, 0) for it in range(count // 4))
+    rows = b"".join(struct.pack("<QQ", 8 * it, (1 + it // 4) << 32) for it in range(count // 4 * 4))
+    table = Part(".relx", rows, type=made.REL, link=1, info=3)
+    names = b"\0" + (b"a" * 1_023 + b"\0") * (count // 4 // 1_024 + 2)
+    return made.elf([*tables(NULL + b"".join(symbols), names), Part("x", EXIT * count, 6), table])
+
+
 def sections(count: int) -> bytes:
     return made.elf([*tables(), *(Part(f"s{it}", EXIT, 6) for it in range(count))])
 
@@ -99,6 +108,13 @@ def records(count: int, part: str) -> bytes:
     return with_types(INT[:0], b"\0int\x000:1\0", Part(".BTF.ext", made.extension(functions, lines, core)))
 
 
+def accesses(count: int) -> bytes:
+    """A .BTF.ext with CO-RE relocations whose access strings are long, each at another offset."""
+    names = b"\0x\0" + (b"0" * 1_023 + b"\0") * (count // 1_024 + 2)
+    rows = [(0, 0, 3 + it, 0) for it in range(count)]
+    return with_types(b"", names, Part(".BTF.ext", made.extension(core=[(1, rows)])))
+
+
 def empty_records(count: int) -> bytes:
     """A .BTF.ext with many sections of one record."""
     names = b"\0" + b"".join(f"s{it}".encode() + b"\0" for it in range(count))
@@ -119,6 +135,7 @@ FILES: dict[str, Callable[[int], bytes]] = {
     "functions of long names": lambda part: functions(262_143 * part // 100, (b"a" * 999 + b"\0") * 300, 1),
     "names of a function": lambda part: aliases(20_000 * part // 100),
     "relocations": lambda part: relocations(1_048_576 * part // 100),
+    "relocations of long names": lambda part: named_relocations(1_000_000 * part // 100),
     "sections": lambda part: sections(16_380 * part // 100),
     "sections that overlap": lambda part: overlapping(10_000 * part // 100, MB),
     "pointers": lambda part: pointers(1_300_000 * part // 100),
@@ -126,6 +143,7 @@ FILES: dict[str, Callable[[int], bytes]] = {
     "functions of .BTF.ext": lambda part: records(1_048_576 * part // 100, "functions"),
     "lines of .BTF.ext": lambda part: records(1_048_576 * part // 100, "lines"),
     "CO-RE relocations": lambda part: records(1_048_576 * part // 100, "core"),
+    "CO-RE accesses": lambda part: accesses(1_000_000 * part // 100),
     "sections of .BTF.ext": lambda part: empty_records(1_000_000 * part // 100),
 }
 
@@ -158,9 +176,11 @@ class Bombs(unittest.TestCase):
         self.assertRegex(found, "^[0-9a-f]{64}$")
 
 
-def main() -> int:
+def main(names: list[str]) -> int:
     failed = 0
     for what, build in FILES.items():
+        if names and what not in names:
+            continue
         data = build(100)
         for words in ((), ("raw",)):
             start = time.monotonic()
@@ -173,4 +193,4 @@ def main() -> int:
 
 
 if __name__ == "__main__":
-    sys.exit(main())
+    sys.exit(main(sys.argv[1:]))

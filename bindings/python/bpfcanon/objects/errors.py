@@ -39,6 +39,7 @@ CAUSES = {
     "ExtensionString": "a record of .BTF.ext refers to a string outside the strings of .BTF, too long or not printable ASCII",
     "ExtensionLines": "the source lines of .BTF.ext aren't in the sequence of the instructions, or not at an instruction",
     "ExtensionTypes": "there is a .BTF.ext and no .BTF",
+    "RowsTooLong": "the rows of a line have more than 134,217,728 bytes",
     "TooMany": "there are too many instructions, types or calls for a listing",
 }
 

@@ -26,6 +26,7 @@ CORE_KINDS = (
 
 MAGIC = 0xEB9F
 MAX_RECORDS = 1 << 20
+MAX_TEXT = 64 << 20  # bytes of the distinct strings of its records
 # The sizes of a header without the part of CO-RE relocations, with it, and with one more part, which clang 9 leaves empty.
 HEADERS = (24, 32, 40)
 
@@ -104,7 +105,7 @@ class Reader:
     def __init__(self, content: bytes, strings: bytes, order: Order) -> None:
         self.content, self.strings, self.order, self.sign = content, strings, order, sign(order)
         self.names: dict[int, str] = {}
-        self.left = MAX_RECORDS
+        self.left, self.text_left = MAX_RECORDS, MAX_TEXT
 
     def read(self) -> Extension:
         """Read all parts. Raises Refused."""
@@ -180,6 +181,9 @@ class Reader:
             found = name_at(self.strings, offset)
             if found is None:
                 raise Refused("ExtensionString", Place(".BTF.ext", place))
+            self.text_left -= len(found)
+            if self.text_left < 0:
+                raise Refused("ExtensionString", Place(".BTF.ext", place), "the strings of its records are too long together")
             self.names[offset] = found
         return self.names[offset]
 

@@ -12,7 +12,7 @@ from dataclasses import dataclass
 from typing import TYPE_CHECKING, Iterable, Iterator, Optional
 
 from .elf import Section
-from .errors import Refused
+from .errors import Place, Refused
 from .ext import Extension
 from .relocations import Relocation
 from .sections import SHT_NOBITS, SectionKind
@@ -23,6 +23,7 @@ if TYPE_CHECKING:
     from .model import ObjectFile
 
 FORM = 1  # of the lines; it is in the first one, so that keys of two forms are never equal
+MAX_ROWS = 128 << 20  # bytes of the rows of one line
 FIRST = f"bpfcanon-object {FORM}"
 PLAIN_WORD = re.compile(r"[!#-\[\]-~]+")  # printable ASCII without blanks, quotes and backslashes
 IN_SEQUENCE = (SectionKind.CODE, SectionKind.DATA, SectionKind.OTHER, SectionKind.TYPES, SectionKind.EXTENSION)
@@ -51,10 +52,13 @@ def digest(content: bytes) -> str:
     return hashlib.sha256(content).hexdigest()
 
 
-def digest_of_rows(rows: Iterable[str]) -> str:
-    """Return the digest of rows, each of which ends with a newline."""
-    hashed = hashlib.sha256()
+def digest_of_rows(rows: Iterable[str], section: str = "") -> str:
+    """Return the digest of the rows of a section, each of which ends with a newline. Raises Refused if they are too long together."""
+    hashed, left = hashlib.sha256(), MAX_ROWS
     for row in rows:
+        left -= len(row) + 1
+        if left < 0:
+            raise Refused("RowsTooLong", Place(section))
         hashed.update(f"{row}\n".encode("ascii"))
     return hashed.hexdigest()
 
@@ -75,10 +79,11 @@ def parts(object: ObjectFile, any_order: bool = False, raw: bool = False) -> lis
     lines = [line for section in object.elf.sections if (line := section_line(object, section, raw))]
     lines += relocation_lines(object)
     lines += type_lines(object, raw)
-    lines.append(f"symbols {digest_of_rows(symbol_row(it) for it in object.symbols if it.is_definition)}")
+    symbols = (symbol_row(it) for it in object.symbols if it.is_definition)
+    lines.append(f"symbols {digest_of_rows(symbols, '.symtab')}")
     # libbpf loads and attaches programs and maps in the sequence of their sections.
-    sections = (it for it in object.elf.sections if it.kind in IN_SEQUENCE)
-    lines.append(f"sections {digest_of_rows(f'[{string(it.name)},{it.type},{it.flags}]' for it in sections)}")
+    sections = (f"[{string(it.name)},{it.type},{it.flags}]" for it in object.elf.sections if it.kind in IN_SEQUENCE)
+    lines.append(f"sections {digest_of_rows(sections)}")
     if not any_order or any(it.startswith("raw ") for it in lines):
         lines.append(f"order {object.order_word}")
     return [FIRST, *sorted(lines)]
@@ -111,8 +116,8 @@ def relocation_lines(object: ObjectFile) -> Iterator[str]:
     symbols: dict[int, str] = {}
     for index, relocations in object.relocations.items():
         if relocations:
-            rows = (relocation_row(it, symbols) for it in relocations)
-            yield f"relocations {word(object.elf.sections[index].name)} {digest_of_rows(rows)}"
+            name, rows = object.elf.sections[index].name, (relocation_row(it, symbols) for it in relocations)
+            yield f"relocations {word(name)} {digest_of_rows(rows, name)}"
 
 
 def type_lines(object: ObjectFile, raw: bool) -> Iterator[str]:
@@ -131,10 +136,11 @@ def type_lines(object: ObjectFile, raw: bool) -> Iterator[str]:
     if canonical is not None:
         yield f"types .BTF {digest(canonical)}"
     if extended:
-        yield f"functions .BTF.ext {digest_of_rows(f'[{string(it.section)},{it.offset},{it.type}]' for it in extension.functions)}"
+        functions = (f"[{string(it.section)},{it.offset},{it.type}]" for it in extension.functions)
         core = (f"[{string(it.section)},{it.offset},{it.type},{string(it.access)},{it.kind}]" for it in extension.core)
-        yield f"core .BTF.ext {digest_of_rows(core)}"
-        yield f"lines .BTF.ext {digest_of_rows(line_rows(object, extension))}"
+        yield f"functions .BTF.ext {digest_of_rows(functions, '.BTF.ext')}"
+        yield f"core .BTF.ext {digest_of_rows(core, '.BTF.ext')}"
+        yield f"lines .BTF.ext {digest_of_rows(line_rows(object, extension), '.BTF.ext')}"
 
 
 def line_rows(object: ObjectFile, extension: Extension) -> Iterator[str]:
