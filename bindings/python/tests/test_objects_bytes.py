@@ -14,9 +14,9 @@ import sys
 import unittest
 from typing import Iterator
 
-import bpfcanon
 from bpfcanon import Order
 from bpfcanon.objects import ObjectFile
+from bpfcanon.objects.types import ITEM_WORDS, TAIL_WORDS
 
 from . import object_files as made
 from .object_files import ALLOC, EXECINSTR, EXIT, LDDW, MOV_BIG, WRITE, Part, Rel, Sym
@@ -55,6 +55,8 @@ LEFT_OUT = {
     "names that no covered row has",
     "local symbols without a row in .symtab",
     "strings of .BTF that no type has",
+    "an offset of a name",
+    "kind_flag of a struct or union without bit-fields",
     "insn_off of a line that isn't the first one of a function",
     "file_name_off of a line",
     "line_off of a line",
@@ -110,7 +112,7 @@ def row_name(field: str, name: str, type: int, size: int) -> str:
 def content_names(file: ObjectFile, name: str, content: bytes) -> Iterator[str]:
     """What each byte of a section is."""
     if name in (".strtab", ".shstrtab"):
-        yield from string_names(content, covered_names(file, name))
+        yield from string_names(content, covered_names(file, name), "names that no covered row has")
     elif name == ".symtab":
         yield from symbol_names(file)
     elif name == ".BTF":
@@ -138,12 +140,13 @@ def referred(file: ObjectFile) -> set[int]:
     return {row.symbol.position for rows in file.relocations.values() for row in rows}
 
 
-def string_names(content: bytes, offsets: Iterator[int]) -> Iterator[str]:
-    found = ["names that no covered row has"] * len(content)
+def string_names(content: bytes, offsets: Iterator[int], unused: str) -> list[str]:
+    """The bytes of a string table: those of the names at these offsets, and the others."""
+    found = [unused] * len(content)
     for offset in offsets:
         end = content.index(b"\0", offset) + 1
         found[offset:end] = ["names"] * (end - offset)
-    yield from found
+    return found
 
 
 def symbol_names(file: ObjectFile) -> Iterator[str]:
@@ -156,15 +159,36 @@ def symbol_names(file: ObjectFile) -> Iterator[str]:
 
 
 def type_names(content: bytes, form: str) -> Iterator[str]:
-    """The bytes of .BTF. A string is used if it is the end of a canonical one, or if one of these is its own end."""
-    canonical = bpfcanon.btf_canon(content)
-    used = canonical[24 + struct.unpack_from("<I", canonical, 16)[0] :].split(b"\0")[1:-1]
-    strings = content[-struct.unpack_from(form, content, 20)[0] :]
-    yield from ["types"] * (len(content) - len(strings)) + ["the first string"]
-    for text in strings.split(b"\0")[1:-1]:
-        shared = max((min(len(it), len(text)) for it in used if it.endswith(text) or text.endswith(it)), default=-1)
-        yield from ["strings of .BTF that no type has"] * (len(text) - shared if shared >= 0 else len(text) + 1)
-        yield from ["the name of a type"] * (shared + 1)
+    """The bytes of .BTF, in which the strings follow the types."""
+    (size,) = struct.unpack_from(form, content, 20)
+    records, strings = content[24:-size], content[-size:]
+    names = list(record_names(records, form))
+    places = [it for it in range(0, len(records), 4) if names[it] == "an offset of a name"]
+    yield from ["header of .BTF"] * 24 + names
+    yield "the first string"
+    offsets = (struct.unpack_from(form, records, it)[0] for it in places)
+    yield from string_names(strings, offsets, "strings of .BTF that no type has")[1:]
+
+
+def record_names(records: bytes, form: str) -> Iterator[str]:
+    """The bytes of the records of types, of which kind_flag is in the byte with the kind."""
+    words = [it[0] for it in struct.iter_unpack(form, records)]
+    place = 0
+    while place < len(words):
+        kind, count = words[place + 1] >> 24 & 31, words[place + 1] & 0xFFFF
+        items = ITEM_WORDS.get(kind, 0) * count
+        is_free = kind in (4, 5) and not any(words[it] >> 24 for it in range(place + 5, place + 3 + items, 3))
+        info = ["kind_flag of a struct or union without bit-fields" if is_free else "kind", *["info"] * 3]
+        yield from ["an offset of a name"] * 4 + (info if form == ">I" else info[::-1]) + ["size or type"] * 4
+        yield from item_names(kind, items, TAIL_WORDS.get(kind, 0))
+        place += 3 + items + TAIL_WORDS.get(kind, 0)
+
+
+def item_names(kind: int, items: int, tail: int) -> Iterator[str]:
+    has_names = kind not in (0, 15)
+    for number in range(items):
+        yield from ["an offset of a name" if has_names and number % ITEM_WORDS[kind] == 0 else "items"] * 4
+    yield from ["items"] * (4 * tail)
 
 
 def extension_names(file: ObjectFile, content: bytes) -> Iterator[str]:
@@ -204,6 +228,8 @@ BIG = made.extension([(XDP, [(0, 1)])], [(XDP, [(0, FILE, TEXT, 1), (8, 0, 0, 2)
 WITH_LINES = [Part("xdp", EXIT * 3, 6), Part(".BTF", types(names=SHORT)), Part(".BTF.ext", LINES)]
 BIG_ENDIAN = [Part("xdp", MOV_BIG + EXIT, 6), Part(".BTF", types(">", names=SHORT)), Part(".BTF.ext", BIG)]
 CALLED = [Sym("a", binding=made.LOCAL), Sym("b", value=8, other=made.HIDDEN)]
+# An int, a struct with an int, and another one whose int has three bits. The offsets of both names differ in one bit.
+STRUCTS = [6, 1 << 24, 4, 32, 0, 4 << 24 | 1, 4, 6, 1, 0, 0, 1 << 31 | 4 << 24 | 1, 4, 6, 1, 3 << 24]
 FILES = {
     "all kinds of sections": made.file([*PARTS[:4], Part(".BTF", types(names=SHORT)), *PARTS[5:]], SYMBOLS, RELOCATIONS),
     "debugging information": made.file([CODE, *DEBUG], [MAIN, *LABELS], [(5, [Rel(0, 1)])]),
@@ -216,7 +242,7 @@ FILES = {
     "names of one function": made.file([CODE], [MAIN, MAIN._replace(name="alias"), MAIN._replace(name="third", binding=made.WEAK)]),
     "functions to call": made.file([Part(".text", EXIT * 2, 6), CODE], [*CALLED, MAIN._replace(section=2)]),
     "special sections": made.file([CODE], [MAIN, Sym("a", 0, 0xFFF1, 7, 0), Sym("c", 0, 0xFFF2, 8, 0), Sym("u", 0, 0, 0, 0, made.WEAK)]),
-    "unused strings": made.file([CODE, Part(".BTF", btf("<", ([6, 1 << 24, 4, 32], b"\0path\0int\0unused\0")))], [MAIN]),
+    "unused strings": made.file([CODE, Part(".BTF", btf("<", (STRUCTS, b"\0path\0int\0" + b"u" * 27 + b"\0int\0")))], [MAIN]),
 }
 
 
