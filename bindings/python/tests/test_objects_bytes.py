@@ -56,7 +56,6 @@ LEFT_OUT = {
     "local symbols without a row in .symtab",
     "strings of .BTF that no type has",
     "an offset of a name",
-    "kind_flag of a struct or union without bit-fields",
     "insn_off of a line that isn't the first one of a function",
     "file_name_off of a line",
     "line_off of a line",
@@ -171,15 +170,13 @@ def type_names(content: bytes, form: str) -> Iterator[str]:
 
 
 def record_names(records: bytes, form: str) -> Iterator[str]:
-    """The bytes of the records of types, of which kind_flag is in the byte with the kind."""
+    """The bytes of the records of types."""
     words = [it[0] for it in struct.iter_unpack(form, records)]
     place = 0
     while place < len(words):
         kind, count = words[place + 1] >> 24 & 31, words[place + 1] & 0xFFFF
         items = ITEM_WORDS.get(kind, 0) * count
-        is_free = kind in (4, 5) and not any(words[it] >> 24 for it in range(place + 5, place + 3 + items, 3))
-        info = ["kind_flag of a struct or union without bit-fields" if is_free else "kind", *["info"] * 3]
-        yield from ["an offset of a name"] * 4 + (info if form == ">I" else info[::-1]) + ["size or type"] * 4
+        yield from ["an offset of a name"] * 4 + ["info"] * 4 + ["size or type"] * 4
         yield from item_names(kind, items, TAIL_WORDS.get(kind, 0))
         place += 3 + items + TAIL_WORDS.get(kind, 0)
 

@@ -17,6 +17,7 @@ from .samples import btf
 NAMES = b"\0int\0xdp\0" + b"0:1\0" + b"a.c\0" + b"return 0;\t// \xff\0" + b"n" * 1_025 + b"\0"
 INT, XDP, ACCESS, FILE, TEXT, LONG = map(NAMES.index, (b"int", b"xdp", b"0:1", b"a.c", b"return", b"nnn"))
 WORDS = [INT, 1 << 24, 4, 32]
+BIT_FIELDS = 1 << 31 | 4 << 24  # the info word of a struct with kind_flag
 
 
 def types(order: str = "<", words: Sequence[int] = WORDS, names: bytes = NAMES) -> bytes:
@@ -94,6 +95,9 @@ class Refusals(unittest.TestCase):
             ("strings before types", "TypesLayout", with_types(moved)),
             ("over 15 MiB", "TypesLayout", with_types(types(names=NAMES + b"a" * (15 << 20) + b"\0"))),
             ("no name", "", with_types(types(words=[0, 2 << 24, 0]))),
+            ("kind_flag with a bit-field", "", with_types(types(words=[*WORDS, 0, BIT_FIELDS | 1, 4, INT, 1, 3 << 24]))),
+            ("kind_flag without one", "TypesFlag", with_types(types(words=[*WORDS, 0, BIT_FIELDS | 1, 4, INT, 1, 0]))),
+            ("kind_flag without members", "TypesFlag", with_types(types(words=[0, BIT_FIELDS, 0]))),
             ("the end of a name as no name", "TypesName", with_types(types(words=[INT + 3, 2 << 24, 0]))),
             ("a section named as code", "", with_types(types(words=section, names=b"\0xdp\0"))),
             ("a section named as strings", "TypesSection", with_types(types(words=section, names=b"\0.strtab\0"))),

@@ -33,6 +33,7 @@ CAUSES = {
     "TypesOrder": ".BTF has another byte order than the file",
     "TypesLayout": "libbpf or the kernel doesn't read .BTF with this layout or size",
     "TypesName": "a name_off of .BTF that isn't 0 leads to an empty string",
+    "TypesFlag": "the kind_flag of a struct or union without bit-fields is 1",
     "TypesSection": "a DATASEC has the name of a section whose size isn't covered",
     "Extension": ".BTF.ext doesn't have the form that its header states",
     "ExtensionSection": "a part of .BTF.ext has a section twice, or one without a name",

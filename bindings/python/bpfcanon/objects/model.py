@@ -17,7 +17,7 @@ from .keys import Key, parts
 from .manifest import Manifest
 from .relocations import Relocation, read_relocations
 from .symbols import STB_LOCAL, STT_NOTYPE, STT_OBJECT, Symbol, read_symbols
-from .types import check_empty_names, check_layout, strings_of
+from .types import check_layout, check_words, strings_of
 
 if TYPE_CHECKING:
     from .btf import Types
@@ -125,7 +125,7 @@ class ObjectFile:
         try:
             canonical = bpfcanon.btf_canon(section.content)
             check_layout(section.content, self.order)
-            check_empty_names(section.content, canonical, self.order)
+            check_words(section.content, canonical, self.order)
         except BpfcanonError as error:
             return refusal(error, ".BTF")
         except Refused as error:

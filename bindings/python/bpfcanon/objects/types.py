@@ -11,6 +11,7 @@ from .errors import Place, Refused
 
 MAX_SIZE = 15 << 20  # bytes; the kernel reads 16 MiB (BTF_MAX_SIZE), and libbpf may add types
 DATASEC = 15
+KIND_FLAG = 1 << 31  # of the info word; no offset of a name has this bit
 # The words of an item of each kind that has items, and of what follows the head of the others.
 ITEM_WORDS = {4: 3, 5: 3, 6: 2, 13: 2, 15: 3, 19: 3}
 TAIL_WORDS = {1: 1, 3: 3, 14: 1, 17: 1}
@@ -30,18 +31,20 @@ def check_layout(content: bytes, order: Order) -> None:
         raise Refused("TypesLayout", Place(".BTF", 8))
 
 
-def check_empty_names(content: bytes, canonical: bytes, order: Order) -> None:
-    """Refuse a name_off that isn't 0 and leads to an empty string. libbpf and the kernel compare it with 0.
+def check_words(content: bytes, canonical: bytes, order: Order) -> None:
+    """Refuse types whose words differ from the canonical ones in more than where names are.
 
-    The words of both are the same except those of names, which are 0 in canonical bytes if they are empty.
+    libbpf and the kernel compare name_off with 0, so an absent name has to have this offset, as in canonical bytes. The kernel checks
+    members in another way if kind_flag is 1, even if none is a bit-field; canonical bytes have 0 then. All other words are the same.
     """
     header, type_offset, type_length = struct.unpack_from(sign(order) + "3I", content, 4)
     types = header + type_offset
     form = f"{type_length // 4}I"
     words = zip(struct.unpack_from(sign(order) + form, content, types), struct.unpack_from("<" + form, canonical, 24))
-    place = next((number for number, (word, other) in enumerate(words) if word and not other), None)
-    if place is not None:
-        raise Refused("TypesName", Place(".BTF", types + 4 * place))
+    found = next(((it, word) for it, (word, other) in enumerate(words) if word and not other or (word ^ other) & KIND_FLAG), None)
+    if found is not None:
+        place, word = found
+        raise Refused("TypesFlag" if word & KIND_FLAG else "TypesName", Place(".BTF", types + 4 * place))
 
 
 def strings_of(content: bytes, order: Order) -> bytes:
