@@ -137,11 +137,11 @@ def extension(functions: Records = (), lines: Records = (), core: Records = (), 
 def part(sections: Records, order: str) -> bytes:
     if not sections:
         return b""
-    content = struct.pack(order + "I", 4 * len(sections[0][1][0]))
+    content = [struct.pack(order + "I", 4 * len(sections[0][1][0]))]
     for name, records in sections:
-        content += struct.pack(order + "II", name, len(records))
-        content += b"".join(struct.pack(f"{order}{len(it)}I", *it) for it in records)
-    return content
+        content.append(struct.pack(order + "II", name, len(records)))
+        content += (struct.pack(f"{order}{len(it)}I", *it) for it in records)
+    return b"".join(content)
 
 
 def key(data: bytes, any_order: bool = False, raw: bool = False) -> str:
