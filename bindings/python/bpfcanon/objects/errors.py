@@ -36,7 +36,7 @@ CAUSES = {
     "TypesFlag": "the kind_flag of a struct or union without bit-fields is 1",
     "TypesSection": "a DATASEC has the name of a section whose size isn't covered",
     "Extension": ".BTF.ext doesn't have the form that its header states",
-    "ExtensionSection": "a part of .BTF.ext has a section twice, or one without a name",
+    "ExtensionSection": "a part of .BTF.ext has a section twice, one without a name, or too many",
     "ExtensionString": "a record of .BTF.ext refers to a string outside the strings of .BTF, too long or not printable ASCII",
     "ExtensionLines": "the source lines of .BTF.ext aren't in the sequence of the instructions, or not at an instruction",
     "ExtensionTypes": "there is a .BTF.ext and no .BTF",

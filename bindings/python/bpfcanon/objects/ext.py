@@ -16,7 +16,7 @@ from functools import cached_property
 from typing import Iterator, NamedTuple, Optional
 
 from ..causes import Order
-from .elf import name_at, sign
+from .elf import MAX_SECTIONS, name_at, sign
 from .errors import Place, Refused
 
 CORE_KINDS = (
@@ -155,7 +155,7 @@ class Reader:
             self.left -= count
             if not count or run.end > end or self.left < 0:
                 raise Refused("Extension", Place(".BTF.ext", place))
-            if not section or section in seen:
+            if not section or section in seen or len(seen) == MAX_SECTIONS:
                 raise Refused("ExtensionSection", Place(".BTF.ext", place))
             seen.add(section)
             yield run
