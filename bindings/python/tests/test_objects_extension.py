@@ -34,6 +34,13 @@ def with_extension(ext: bytes, code: bytes = EXIT * 4, order: str = "<") -> byte
     return with_types(types(order), ext, code, order)
 
 
+def many_sections(count: int) -> bytes:
+    """A file with a .BTF.ext in which each of many sections has a function."""
+    names = b"\0int\0" + b"".join(b"s%05d\0" % it for it in range(count))
+    ext = made.extension([(5 + 7 * it, [(0, 1)]) for it in range(count)])
+    return with_types(types(names=names), ext)
+
+
 def lines(*records: Sequence[int], section: int = XDP) -> bytes:
     """A .BTF.ext with these source lines of a section."""
     return made.extension(lines=[(section, records)])
@@ -135,6 +142,8 @@ class Refusals(unittest.TestCase):
             ("relocations of 20 bytes", "Extension", with_extension(made.extension(core=[(XDP, [(0, 1, ACCESS, 0, 0)])]))),
             ("too many records", "Extension", with_extension(header(made.extension(records), 32 + 8, 1 << 30))),
             ("a section twice", "ExtensionSection", with_extension(made.extension([*records, *records]))),
+            ("16,385 sections", "ExtensionSection", many_sections(16_385)),
+            ("16,384 sections", "", many_sections(16_384)),
             ("a section without a name", "ExtensionSection", with_extension(made.extension([(0, [(0, 1)])]))),
             ("a section past the strings", "ExtensionString", with_extension(made.extension([(len(NAMES), [(0, 1)])]))),
             ("a section with a long name", "ExtensionString", with_extension(made.extension([(LONG, [(0, 1)])]))),

@@ -144,7 +144,8 @@ class Reader:
         """Yield the records of each section in a part, whose records have `size` bytes. A part without bytes has none."""
         if start == end:
             return
-        place, seen = start + 4, set()
+        place = start + 4
+        seen: set[str] = set()
         if start % 4 or end - start <= 4 or self.word(start) != size:
             raise Refused("Extension", Place(".BTF.ext", start))
         while place < end:
