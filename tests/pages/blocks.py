@@ -33,8 +33,8 @@ TESTS = {
     ("docs/LIBRARY.md", "rust"): ("tests/quick", 1),
     ("docs/RECIPES.md", "sh"): ("tests/recipes", None),
     ("docs/RECIPES.md", "text"): ("tests/recipes", None),
-    ("bindings/go/README.md", "go"): ("tests/bindings", 1),
-    ("bindings/go/README.md", "console"): ("tests/bindings", 1),
+    ("bindings/go/README.md", "go"): ("tests/bindings", 2),
+    ("bindings/go/README.md", "console"): ("tests/bindings", 2),
     ("bindings/python/README.md", "python"): ("bindings/python/tests/test_package.py", None),
     ("bindings/rust/README.md", "rust"): ("bindings/rust/src/lib.rs", None),
 }
