@@ -12,6 +12,7 @@ from typing import Iterator
 from ..causes import Order
 from .btf import Kind, Member, Types
 from .elf import sign
+from .errors import Place, Refused
 from .names import MAP_TYPES
 from .notation import Notation
 
@@ -19,10 +20,15 @@ from .notation import Notation
 WORDS = ("type", "key_size", "value_size", "max_entries", "map_flags")
 
 
-def map_fields(types: Types, variable: int) -> Iterator[tuple[str, str]]:
-    """Yield the name and value of each field of a map, whose variable in .maps is the type with this ID."""
-    notation = Notation(types)
+def map_fields(notation: Notation, variable: int) -> Iterator[tuple[str, str]]:
+    """Yield the name and value of each field of a map, whose variable in .maps is the type with this ID.
+
+    Raises Refused if all maps together have too many fields.
+    """
+    types = notation.types
     for member in types.members(types.skip(variable)):
+        if not notation.spend():
+            raise Refused("TooMany", Place(".maps"))
         yield member.name, field_text(types, notation, member)
 
 

@@ -235,13 +235,14 @@ class ObjectFile:
     def maps(self) -> list[Map]:
         """The maps, sorted by name."""
         from .maps import map_fields
+        from .notation import Notation
 
         found = self.legacy_maps()
         types = self.types
         section = types.datasec(".maps") if types else None
         if types and section:
-            variables = [types.records[it.type] for it in types.entries(section)]
-            found += [Map(it.name, dict(map_fields(types, it.id))) for it in variables]
+            notation, variables = Notation(types), [types.records[it.type] for it in types.entries(section)]
+            found += [Map(it.name, dict(map_fields(notation, it.id))) for it in variables]
         elif (plain := self.elf.named(".maps")) is not None:
             found += [Map(it.name, {"bytes": str(it.size)}) for it in self.symbols_in(plain, STT_OBJECT)]
         return sorted(found, key=lambda it: it.name)

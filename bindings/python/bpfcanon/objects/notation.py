@@ -76,6 +76,7 @@ class Text:
         return f"{word} {inner}".rstrip()
 
     def parameters(self, prototype: Type, depth: int) -> str:
+        """Return what is in the parentheses of a function."""
         found = []
         for parameter in self.types.parameters(prototype):
             is_open = not parameter.type and not parameter.name
@@ -115,6 +116,10 @@ class Notation:
     def __init__(self, types: Types) -> None:
         self.types = types
         self._whole = Budget(MAX_ALL_STEPS)
+
+    def spend(self) -> bool:
+        """Take a step of those for all texts; return whether it was there to be taken."""
+        return self._whole.spend()
 
     def _text(self) -> Text:
         return Text(self.types, Budget(MAX_STEPS, self._whole))

@@ -1,0 +1,1 @@
+"""The commands of bpfcanon-object, a module for each."""
