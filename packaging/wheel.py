@@ -7,9 +7,15 @@ import time
 import zipfile
 
 from notices import licence_files
-from tree import SONAME, TOP, VERSION, epoch, run
+from tree import SONAME, TOP, VERSION, epoch, files, run
 
 PACKAGE = TOP / "bindings" / "python"
+# Where the files of the command bpfcanon-object are installed, below the prefix of Python.
+SHARED = {
+    "share/man/man1/bpfcanon-object.1": "man/bpfcanon-object.1",
+    "share/bash-completion/completions/bpfcanon-object": "completions/bash/bpfcanon-object",
+    "share/zsh/site-functions/_bpfcanon-object": "completions/zsh/_bpfcanon-object",
+}
 # The glibc of the tag manylinux2014, which older versions of pip know too.
 OLDEST = (2, 17)
 
@@ -27,22 +33,39 @@ def platforms(library, machine, objdump):
     return [f"manylinux_{need[0]}_{need[1]}_{machine}"]
 
 
+def project():
+    return (PACKAGE / "pyproject.toml").read_text()
+
+
 def metadata():
-    project = (PACKAGE / "pyproject.toml").read_text()
-    value = {key: re.search(f'^{key} = "(.*)"$', project, re.MULTILINE)[1] for key in ("version", "description", "requires-python")}
+    value = {key: re.search(f'^{key} = "(.*)"$', project(), re.MULTILINE)[1] for key in ("version", "description", "requires-python")}
     head = f"Metadata-Version: 2.1\nName: bpfcanon\nVersion: {value['version']}\nSummary: {value['description']}\n"
     head += f"Requires-Python: {value['requires-python']}\nDescription-Content-Type: text/markdown\n"
     return f"{head}\n{(PACKAGE / 'README.md').read_text()}"
 
 
+def modules():
+    """The files of the package that git knows."""
+    prefix = f"{PACKAGE.relative_to(TOP)}/bpfcanon/"
+    return [TOP / name for name in files() if name.startswith(prefix)]
+
+
+def entry_points():
+    """The commands that an installer makes."""
+    scripts = re.search(r"^\[project\.scripts\]\n((?:.+\n)+)", project(), re.MULTILINE)[1]
+    return "[console_scripts]\n" + scripts.replace('"', "")
+
+
 def contents(library, documents, tags):
     """What each file of the wheel has, but its list."""
     info = f"bpfcanon-{VERSION}.dist-info"
-    found = {f"bpfcanon/{it.name}": it.read_bytes() for it in sorted((PACKAGE / "bpfcanon").iterdir()) if it.is_file()}
+    found = {it.relative_to(PACKAGE).as_posix(): it.read_bytes() for it in modules()}
     found[f"bpfcanon/{SONAME}"] = library.read_bytes()
+    found |= {f"bpfcanon-{VERSION}.data/data/{place}": (TOP / name).read_bytes() for place, name in SHARED.items()}
     found |= {f"{info}/licenses/{name}": text.encode() for name, text in documents.items()}
     found |= {f"{info}/licenses/{it.name}": it.read_bytes() for it in licence_files()}
     found[f"{info}/METADATA"] = metadata().encode()
+    found[f"{info}/entry_points.txt"] = entry_points().encode()
     tags = "".join(f"Tag: py3-none-{it}\n" for it in tags)
     found[f"{info}/WHEEL"] = f"Wheel-Version: 1.0\nGenerator: bpfcanon release\nRoot-Is-Purelib: false\n{tags}".encode()
     return found

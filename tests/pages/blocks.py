@@ -31,6 +31,7 @@ TESTS = {
     ("docs/LIBRARY.md", "c"): ("tests/c_interface/library_key.py", 1),
     ("docs/LIBRARY.md", "sh"): ("tests/c_interface/library_key.py", 1),
     ("docs/LIBRARY.md", "rust"): ("tests/quick", 1),
+    ("docs/OBJECTS.md", "text"): ("bindings/python/tests/test_objects_page.py", None),
     ("docs/RECIPES.md", "sh"): ("tests/recipes", None),
     ("docs/RECIPES.md", "text"): ("tests/recipes", None),
     ("bindings/go/README.md", "go"): ("tests/bindings", 2),

@@ -28,14 +28,13 @@ FILES = {
     "share/bash-completion/completions/bpfcanon": TOP / "completions" / "bash" / "bpfcanon",
     "share/zsh/site-functions/_bpfcanon": TOP / "completions" / "zsh" / "_bpfcanon",
     "share/doc/bpfcanon/README.md": TOP / "README.md",
-    "share/doc/bpfcanon/recipes/object-key": TOP / "recipes" / "object-key",
     "share/doc/bpfcanon/recipes/count.c": TOP / "recipes" / "count.c",
 }
 # The pages for users, and the programs that the recipes compile.
-PAGES = ["FAULTS", "FORMATS", "LIBRARY", "RECIPES", "STABILITY"]
+PAGES = ["FAULTS", "FORMATS", "LIBRARY", "OBJECTS", "RECIPES", "STABILITY"]
 FILES |= {f"share/doc/bpfcanon/docs/{page}.md": TOP / "docs" / f"{page}.md" for page in PAGES}
 FILES |= {f"share/doc/bpfcanon/testdata/{name}.c": TOP / "testdata" / f"{name}.c" for name in ("flow_table", "packet_filter")}
-EXECUTABLE = {"bin/bpfcanon", "share/doc/bpfcanon/recipes/object-key"}
+EXECUTABLE = {"bin/bpfcanon"}
 
 # A command line, its status, and a part of the message on standard error.
 REFUSED = [
