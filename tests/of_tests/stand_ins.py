@@ -17,7 +17,7 @@ EXAMPLE = "crates/bpfcanon/src/tests/library_example.rt"
 RUNNERS = ["tests/quick", "tests/run", "tests/c_interface/run", "tests/bindings"]
 COPIED = ["verify", "README.md", "docs/LIBRARY.md", EXAMPLE, "tests/parts.sh", "tests/runner.sh", "tests/python_with", *RUNNERS]
 REPLACED = ["bin/rt", "capi/archive", "capi/build", "capi/sources", "crates/bpfcanon/out/bpfcanon", "packaging/program.py"]
-REPLACED += ["tests/packages", "tests/objects/run", "tests/recipes", "tests/release"]
+REPLACED += ["tests/packages", "tests/objects/run", "tests/objects/both.py", "tests/recipes", "tests/release"]
 
 # A stand-in. It fails if its call has the number FAIL_AT, or if its name is FAIL.
 STAND_IN = r"""#!/bin/sh
@@ -47,7 +47,7 @@ packages)
     exit "${APT:-0}"
     ;;
 recipes) echo "recipes: 1 passed, 0 failed, 1 skipped (no bpftool)" ;;
-quick | run | bindings | release) echo "stand-in: passed" ;;
+quick | run | both.py | bindings | release) echo "stand-in: passed" ;;
 rt) printf '%b' "$RT_CI" ;;
 esac
 before=

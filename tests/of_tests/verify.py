@@ -14,13 +14,14 @@ PARTS = {
     "tests/c_interface/run": "C interface",
     "tests/bindings": "bindings",
     "tests/objects/run": "objects",
+    "tests/objects/both.py": "objects in Go",
     "tests/recipes": "recipes",
     "packaging/program.py": "release objects",
     "tests/release": "release",
 }
 ONLY = "; nothing else was run"
 FIRST = "verify: quick checks passed, rt ci passed, process tests passed, C archive passed, C interface passed, bindings passed, "
-PASSED = FIRST + "objects passed, recipes passed, skipped (no bpftool), release objects passed, release passed"
+PASSED = FIRST + "objects passed, objects in Go passed, recipes passed, skipped (no bpftool), release objects passed, release passed"
 LOG = "rt: crates/bpf_words/must-fail/reads_twice.edit: {}\\n12 passed, 0 failed\\n"
 # What rt ci prints with status 0, and whether verify passes.
 LOGS = [
@@ -45,21 +46,22 @@ SKIPPED = [
         "without any tool",
         [],
         "verify: quick checks skipped (no python3), rt ci passed, process tests skipped (no python3), C archive skipped (no python3), "
-        "C interface skipped (no archive), bindings skipped (no cc), objects passed, recipes skipped (no python3), "
+        "C interface skipped (no archive), bindings skipped (no cc), objects passed, objects in Go passed, recipes skipped (no python3), "
         "release skipped (no archive)",
     ),
     (
         "without cc",
         ["python3", "zsh"],
         "verify: quick checks passed, rt ci passed, process tests passed, skipped (no cc), C archive passed, C interface skipped (no cc), "
-        "bindings skipped (no cc), objects passed, recipes passed, skipped (no bpftool), release objects passed, release passed",
+        "bindings skipped (no cc), objects passed, objects in Go passed, recipes passed, skipped (no bpftool), "
+        "release objects passed, release passed",
     ),
     (
         "with cc and python3",
         ["python3", "cc"],
         "verify: quick checks passed, rt ci passed, process tests passed, C archive passed, "
         "C interface passed, skipped (no valgrind, no pkg-config), bindings passed, skipped (no go, no cargo, no mypy), "
-        "objects passed, recipes passed, skipped (no bpftool), release objects passed, release passed",
+        "objects passed, objects in Go passed, recipes passed, skipped (no bpftool), release objects passed, release passed",
     ),
 ]
 

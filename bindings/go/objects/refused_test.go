@@ -188,8 +188,8 @@ func TestRefusedSymbols(t *testing.T) {
 
 // Offsets of functions count from the start of their sections.
 func TestFunctionsOfTwoSections(t *testing.T) {
-	file := withParts(part{name: "tc", content: exit, flags: loaded})
-	file.symbols = append(file.symbols, sym{name: "second", kind: elf.STT_FUNC, section: 2, size: 8, bind: elf.STB_GLOBAL})
+	file := withParts(part{name: "tc", content: exit + exit, flags: loaded})
+	file.symbols = append(file.symbols, sym{name: "second", kind: elf.STT_FUNC, section: 2, size: 16, bind: elf.STB_GLOBAL})
 	if _, err := keyOf(file.bytes()); err != nil {
 		t.Error(err)
 	}
