@@ -1,7 +1,14 @@
 pub mod Answers
+pub mod BtfDecoding
+pub mod BtfRest
+pub mod BtfRows
 pub mod Endings
 pub mod Fronts
 pub mod GroupMasks
+pub mod InsnDecoding
+pub mod InsnEncoding
+pub mod InsnRows
+pub mod InsnSteps
 pub mod Listings
 pub mod Outputs
 pub mod TypesText

@@ -8,10 +8,18 @@
 
 mod answer;
 mod btf;
+mod btf_decode;
+mod btf_rows;
 mod front;
 mod insn;
+mod insn_decode;
+mod insn_encode;
+mod insn_rows;
 mod listing;
 mod types_text;
 
 pub use answer::{Answer, Ending, FaultCode};
+pub use btf_decode::RowsEnding;
+pub use btf_rows::{ItemRow, TypeRow};
 pub use front::FrontEnding;
+pub use insn_rows::InsnRow;

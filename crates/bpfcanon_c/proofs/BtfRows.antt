@@ -1,0 +1,93 @@
+-- The records of types and items: one more of them.
+use Rattle.std.proofs.Common.{◌≡◌, ◌<◌, ◌≤◌, ◌+◌, ◌-◌, ◌++◌, ◌∙◌, ℕ, suc, Some, List, [], ◌∷◌, length, take, drop, get_or, refl, sym, ap, arith, length-append, subst, add-one, zero-add}
+use Rattle.std.specs.Prelude.{slice_get, unwrap_or}
+use Rattle.std.specs.List.{AllZip}
+use Rattle.std.proofs.Math.ListN.{set}
+use Rattle.std.proofs.Math.Seq.{drop-cons}
+use Rattle.std.proofs.lemmas.List.{take_more, take_more_set, append-nil}
+use Rattle.std.proofs.lemmas.List.Concat.{flat_map-append}
+use Rattle.std.proofs.lemmas.List.Folds.{length-flat_map-take}
+use Rattle.std.proofs.lemmas.Option.{slice_get-get_or, get_or_from_slice_get}
+use Rattle.bpf_text.proofs.InsnLemmas.ZipLemmas.{zip_push}
+use Rattle.btf_raw.specs.Names.{NameAt}
+use Rattle.btf_types.specs.Values.{TypeHead, TypeItem, TypeRecord}
+use Rattle.btf_types.specs.{Names.head_name, Names.item_name, tables.TableWords.record_at, tables.TableWords.no_record}
+use Rattle.bpfcanon_c.specs.declared.btf_rows.{TypeRow.TypeRow, ItemRow.ItemRow}
+use Rattle.bpfcanon_c.specs.BtfRows.{SaysItem, SaysType, item_row, type_row, items_of, with_firsts}
+
+-- ---- one element more
+
+pub cut_at : {X : Type 0} (xs : List X) (k : ℕ) (x : X) → k < length xs → slice_get xs k ≡ Some x → drop k xs ≡ x ∷ drop (k + 1) xs
+cut_at xs k x h e = drop-cons xs k x h ∙ ap (λ y. y ∷ drop (suc k) xs) (get_or_from_slice_get xs k x x e) ∙ ap (λ (n : ℕ). x ∷ drop n xs) (sym (add-one k))
+
+pub more_at : {X : Type 0} (xs : List X) (k : ℕ) (x : X) → k < length xs → slice_get xs k ≡ Some x → take (k + 1) xs ≡ take k xs ++ x ∷ []
+more_at xs k x h e = take_more xs k x h ∙ ap (λ y. take k xs ++ y ∷ []) (get_or_from_slice_get xs k x x e)
+
+pub zip_append : {A B : Type 0} (R : A → B → Type 0) (xs xs' : List A) (ys ys' : List B) → AllZip R xs ys → AllZip R xs' ys' → AllZip R (xs ++ xs') (ys ++ ys')
+zip_append R [] xs' [] ys' h h' = h'
+zip_append R [] xs' (y ∷ ys) ys' h h' = absurd h
+zip_append R (x ∷ xs) xs' [] ys' h h' = absurd h
+zip_append R (x ∷ xs) xs' (y ∷ ys) ys' h h' = (h.0, zip_append R xs xs' ys ys' h.1 h')
+
+-- a buffer says one value more
+pub zip_more : {Row Value : Type 0} (R : Row → Value → Type 0) (out : List Row) (k : ℕ) (row : Row) (said more : List Value) (x : Value) → k < length out
+    → AllZip R (take k out) said → more ≡ said ++ x ∷ [] → R row x → AllZip R (take (k + 1) (set out k row)) more
+zip_more R out k row said more x h zip e says =
+    subst (λ (xs : List _). AllZip R xs more) (sym (take_more_set out k row h)) (subst (λ (ys : List _). AllZip R (take k out ++ row ∷ []) ys) (sym e) (zip_push R (take k out) said row x zip says))
+
+-- ---- records of a table
+
+pub record_is : (v : List TypeRecord) (k : ℕ) → k < length v → slice_get v k ≡ Some (record_at v (k + 1))
+record_is v k h =
+    let same : k + 1 - 1 ≡ k = omega arith in
+    let e = slice_get-get_or v k no_record h in
+    let is : record_at v (k + 1) ≡ get_or v k no_record =
+    ap (λ (n : ℕ). unwrap_or (slice_get v n) no_record) same ∙ ap (λ o. unwrap_or o no_record) e
+    in
+    e ∙ ap (λ (r : TypeRecord). Some r) (sym is)
+
+pub items_more : (v : List TypeRecord) (k : ℕ) → k < length v → items_of (take (k + 1) v) ≡ items_of (take k v) ++ (record_at v (k + 1)).items
+items_more v k h =
+    let r = record_at v (k + 1) in
+    ap items_of (more_at v k r h (record_is v k h))
+    ∙ flat_map-append (λ (r : TypeRecord). r.items) (take k v) (r ∷ [])
+    ∙ ap (λ (is : List TypeItem). items_of (take k v) ++ is) (append-nil r.items)
+
+-- the items of the first types and of the next one are among all
+pub items_within : (v : List TypeRecord) (k : ℕ) → k < length v → length (items_of (take k v)) + length (record_at v (k + 1)).items ≤ length (items_of v)
+items_within v k h =
+    let r = record_at v (k + 1) in
+    let e : get_or v k r ≡ r = get_or_from_slice_get v k r r (record_is v k h) in
+    subst (λ (x : TypeRecord). length (items_of (take k v)) + length x.items ≤ length (items_of v)) e (length-flat_map-take (λ (r : TypeRecord). r.items) v k r h)
+
+firsts_push : (at : ℕ) (v : List TypeRecord) (r : TypeRecord) → with_firsts at (v ++ r ∷ []) ≡ with_firsts at v ++ (at + length (items_of v), r) ∷ []
+firsts_push at [] r = ap (λ (n : ℕ). (n, r) ∷ []) (omega arith)
+firsts_push at (x ∷ v) r =
+    ap (λ (rest : List (ℕ × TypeRecord)). (at, x) ∷ rest) (firsts_push (at + length x.items) v r ∙ ap (λ (n : ℕ). with_firsts (at + length x.items) v ++ (n, r) ∷ []) (omega (arith, length-append x.items (items_of v))))
+
+pub firsts_more : (v : List TypeRecord) (k : ℕ) → k < length v
+    → with_firsts 0 (take (k + 1) v) ≡ with_firsts 0 (take k v) ++ (length (items_of (take k v)), record_at v (k + 1)) ∷ []
+firsts_more v k h =
+    let r = record_at v (k + 1) in
+    ap (with_firsts 0) (more_at v k r h (record_is v k h)) ∙ firsts_push 0 (take k v) r
+    ∙ ap (λ (n : ℕ). with_firsts 0 (take k v) ++ (n, r) ∷ []) (zero-add (length (items_of (take k v))))
+
+pub length-firsts : (at : ℕ) (v : List TypeRecord) → length (with_firsts at v) ≡ length v
+length-firsts at [] = refl
+length-firsts at (r ∷ v) = ap suc (length-firsts (at + length r.items) v)
+
+-- ---- what a record says
+
+pub says_item : (bytes : List ℕ) (row : ItemRow) (name : ℕ) (i : TypeItem) → row ≡ item_row name i → NameAt bytes name (item_name i) → SaysItem bytes row i
+says_item bytes row name i e t =
+    let same : row.name ≡ name = ap (λ (x : ItemRow). x.name) e in
+    record { form = e ∙ ap (λ (n : ℕ). item_row n i) (sym same); named = subst (λ (n : ℕ). NameAt bytes n (item_name i)) (sym same) t }
+
+pub says_type : (bytes : List ℕ) (row : TypeRow) (name first count : ℕ) (head : TypeHead) (r : TypeRecord) → row ≡ type_row name first count head
+    → head ≡ r.head → count ≡ length r.items → NameAt bytes name (head_name r.head) → SaysType bytes row (first, r)
+says_type bytes row name first count head r e h c t =
+    let same : row.name ≡ name = ap (λ (x : TypeRow). x.name) e in
+    record {
+      form = e ∙ ap (λ (x : TypeHead). type_row name first count x) h ∙ ap (λ (n : ℕ). type_row name first n r.head) c ∙ ap (λ (n : ℕ). type_row n first (length r.items) r.head) (sym same);
+      named = subst (λ (n : ℕ). NameAt bytes n (head_name r.head)) (sym same) t;
+    }

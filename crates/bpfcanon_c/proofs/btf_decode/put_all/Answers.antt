@@ -1,0 +1,118 @@
+use Rattle.std.proofs.Common.{◌≡◌, ◌<◌, ◌≤◌, ◌+◌, ◌-◌, ◌++◌, ◌^◌, ◌∷◌, [], ℕ, List, length, take, drop, sym, ap, arith, subst, ◌∙◌, length-append}
+use Rattle.std.specs.List.{AllZip}
+use Rattle.std.proofs.lemmas.List.{drop-drop, drop-set-lt, take_all}
+use Rattle.std.proofs.lemmas.Grind.{drop_more_same}
+use Rattle.std.proofs.lemmas.Slice.{take-put_mid, drop-put_mid}
+use Rattle.std.proofs.lemmas.Slice.Zip.{AllZip-long}
+use Rattle.btf_raw.specs.Names.{NameAt}
+use Rattle.btf_types.specs.Values.{TypeRecord, TypeItem}
+use Rattle.btf_types.specs.{Names.head_name, tables.TableWords.record_at}
+use Rattle.bpfcanon_c.specs.declared.btf_rows.{ItemRow.ItemRow}
+use Rattle.bpfcanon_c.specs.{BtfRest.Rest, BtfRest.head_bytes}
+use Rattle.bpfcanon_c.specs.BtfRows.{SaysItem, SaysType, items_of, with_firsts}
+use Rattle.bpfcanon_c.proofs.BtfRest.{take_head, TakesHead}
+use Rattle.bpfcanon_c.proofs.BtfRows.{cut_at, zip_more, zip_append, record_is, items_more, items_within, firsts_more, says_type, length-firsts}
+use Rattle.bpfcanon_c.proofs.btf_decode.put_all.Goals as goal
+
+takes : (o : _) (bytes : List ℕ) (at strings_at : ℕ) (v : List TypeRecord) (k : ℕ) → k < length v
+    → Rest o bytes at strings_at [] (drop k v) → TakesHead o bytes at strings_at (record_at v (k + 1)) (drop (k + 1) v)
+takes o bytes at strings_at v k h r =
+    take_head o bytes at strings_at (record_at v (k + 1)) (drop (k + 1) v) (subst (λ (xs : List TypeRecord). Rest o bytes at strings_at [] xs) (cut_at v k (record_at v (k + 1)) h (record_is v k h)) r)
+
+pub get32-requires : goal.get32-requires
+get32-requires c =
+    (takes c.args.order c.args.bytes.now c.loop-k.at c.args.strings_at c.args.table.now c.loop-k.k (omega (arith, c.count-k-end.ensures.count)) c.loop-k.invariant.rest).inside
+
+pub overflow_add-name : goal.overflow_add-name
+overflow_add-name c =
+    let t = takes c.args.order c.args.bytes.now c.loop-k.at c.args.strings_at c.args.table.now c.loop-k.k (omega (arith, c.count-k-end.ensures.count)) c.loop-k.invariant.rest in
+    let fits : c.args.strings_at + c.get32.result < 2 ^ 32 = subst (λ (n : ℕ). c.args.strings_at + n < 2 ^ 32) (sym c.get32.ensures.value) t.fits in
+    omega (arith, fits)
+
+pub overflow_cast-first : goal.overflow_cast-first
+overflow_cast-first c =
+    let within = items_within c.args.table.now c.loop-k.k (omega (arith, c.count-k-end.ensures.count)) in
+    omega (arith, c.loop-k.invariant.count, c.requires.few)
+
+pub overflow_cast-count : goal.overflow_cast-count
+overflow_cast-count c =
+    let t = takes c.args.order c.args.bytes.now c.loop-k.at c.args.strings_at c.args.table.now c.loop-k.k (omega (arith, c.count-k-end.ensures.count)) c.loop-k.invariant.rest in
+    omega (arith, t.few, c.item_count-count.ensures)
+
+pub type_row-requires : goal.type_row-requires
+type_row-requires c =
+    let t = takes c.args.order c.args.bytes.now c.loop-k.at c.args.strings_at c.args.table.now c.loop-k.k (omega (arith, c.count-k-end.ensures.count)) c.loop-k.invariant.rest in
+    subst (λ x. length (head_name x) < 2 ^ 32) (sym c.file_head-head.ensures) t.long
+
+pub slice_bounds-put_items-end : goal.slice_bounds-put_items-end
+slice_bounds-put_items-end c =
+    let within = items_within c.args.table.now c.loop-k.k (omega (arith, c.count-k-end.ensures.count)) in
+    omega (arith, c.loop-k.invariant.count, c.item_count-count.ensures, c.requires.items_room)
+
+pub put_items-at-requires-clause-rest : goal.put_items-at-requires-clause-rest
+put_items-at-requires-clause-rest c =
+    let v = c.args.table.now in
+    let t = takes c.args.order c.args.bytes.now c.loop-k.at c.args.strings_at v c.loop-k.k (omega (arith, c.count-k-end.ensures.count)) c.loop-k.invariant.rest in
+    let same : head_bytes (record_at v (c.loop-k.k + 1)).head ≡ c.head_len.result = sym (c.head_len.ensures ∙ ap head_bytes c.file_head-head.ensures) in
+    subst (λ (n : ℕ). Rest c.args.order c.args.bytes.now (c.loop-k.at + n) c.args.strings_at (record_at v (c.loop-k.k + 1)).items (drop (c.loop-k.k + 1) v)) same t.rest
+
+pub loop-k-preserved : goal.loop-k-preserved
+loop-k-preserved c =
+    let o = c.args.order in
+    let bytes = c.args.bytes.now in
+    let v = c.args.table.now in
+    let k = c.loop-k.k in
+    let r = record_at v (k + 1) in
+    let inside : k < length v = omega (arith, c.count-k-end.ensures.count) in
+    let within = items_within v k inside in
+    let t = takes o bytes c.loop-k.at c.args.strings_at v k inside c.loop-k.invariant.rest in
+    let more = items_more v k inside in
+    let first = c.loop-k.first in
+    let count = c.item_count-count.result in
+    let written = c.put_items-at.new.out in
+    let counted : count ≡ length r.items = c.item_count-count.ensures in
+    let begins : first ≤ length c.loop-k.items = omega (arith, c.loop-k.invariant.count, c.requires.items_room) in
+    let middle : first + count - first ≡ count = omega arith in
+    let said_long : length written ≡ count = omega (arith, AllZip-long (SaysItem bytes) written r.items c.put_items-at.ensures.said) in
+    let name = subst (λ (n : ℕ). NameAt bytes (c.args.strings_at + n) (head_name r.head)) (sym c.get32.ensures.value) t.named in
+    let says : SaysType bytes c.type_row.result (first, r) = says_type bytes c.type_row.result (c.args.strings_at + c.get32.result) first count _ r c.type_row.ensures c.file_head-head.ensures counted name in
+    record {
+      rest = c.put_items-at.ensures.rest;
+      count = omega (arith, c.loop-k.invariant.count, ap length more, length-append (items_of (take k v)) r.items, counted);
+      types_said =
+          zip_more (SaysType bytes) c.loop-k.types k c.type_row.result (with_firsts 0 (take k v)) (with_firsts 0 (take (k + 1) v)) (first, r) (omega (arith, c.requires.types_room)) c.loop-k.invariant.types_said
+          (firsts_more v k inside ∙ ap (λ (n : ℕ). with_firsts 0 (take k v) ++ (n, r) ∷ []) (sym c.loop-k.invariant.count)) says;
+      types_kept = drop-set-lt (k + 1) c.loop-k.types k c.type_row.result (omega arith) ∙ drop_more_same c.loop-k.types c.args.types.now k c.loop-k.invariant.types_kept;
+      items_said =
+          subst (λ (xs : List ItemRow). AllZip (SaysItem bytes) xs (items_of (take (k + 1) v)))
+          (sym (take-put_mid first (first + count - first) c.loop-k.items written (first + count) (omega arith) begins))
+          (subst (λ (is : List TypeItem). AllZip (SaysItem bytes) (take first c.loop-k.items ++ written) is) (sym more)
+          (zip_append (SaysItem bytes) (take first c.loop-k.items) written (items_of (take k v)) r.items c.loop-k.invariant.items_said c.put_items-at.ensures.said));
+      items_kept =
+          drop-put_mid first (first + count - first) c.loop-k.items written (first + count) (omega arith) begins (omega arith)
+          ∙ sym (drop-drop count first c.loop-k.items) ∙ ap (λ (xs : List ItemRow). drop count xs) c.loop-k.invariant.items_kept ∙ drop-drop count first c.args.items.now;
+    }
+
+pub returns-clause-types : goal.returns-clause-types
+returns-clause-types c =
+    let v = c.args.table.now in
+    let all : c.loop-k.k ≡ length v = omega (arith, c.count-k-end.ensures.count) in
+    let whole : take c.loop-k.k v ≡ v = take_all c.loop-k.k v (omega arith) in
+    let same : c.loop-k.k ≡ length (with_firsts 0 v) = all ∙ sym (length-firsts 0 v) in
+    let R = SaysType c.args.bytes.now in
+    record {
+      said = subst (λ (n : ℕ). AllZip R (take n c.loop-k.types) (with_firsts 0 v)) same (subst (λ (x : List TypeRecord). AllZip R (take c.loop-k.k c.loop-k.types) (with_firsts 0 x)) whole c.loop-k.invariant.types_said);
+      kept = subst (λ (n : ℕ). drop n c.loop-k.types ≡ drop n c.args.types.now) same c.loop-k.invariant.types_kept;
+    }
+
+pub returns-clause-items : goal.returns-clause-items
+returns-clause-items c =
+    let v = c.args.table.now in
+    let all : c.loop-k.k ≡ length v = omega (arith, c.count-k-end.ensures.count) in
+    let whole : take c.loop-k.k v ≡ v = take_all c.loop-k.k v (omega arith) in
+    let same : c.loop-k.first ≡ length (items_of v) = c.loop-k.invariant.count ∙ ap (λ (x : List TypeRecord). length (items_of x)) whole in
+    let R = SaysItem c.args.bytes.now in
+    record {
+      said = subst (λ (n : ℕ). AllZip R (take n c.loop-k.items) (items_of v)) same (subst (λ (x : List TypeRecord). AllZip R (take c.loop-k.first c.loop-k.items) (items_of x)) whole c.loop-k.invariant.items_said);
+      kept = subst (λ (n : ℕ). drop n c.loop-k.items ≡ drop n c.args.items.now) same c.loop-k.invariant.items_kept;
+    }
