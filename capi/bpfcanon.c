@@ -5,6 +5,7 @@
 #include "bpfcanon.h"
 #include "proved.h"
 
+#include <stddef.h>
 #include <stdlib.h>
 
 /* --- Calls on the caller's memory --- */
@@ -83,6 +84,75 @@ bpfcanon_answer bpfcanon_insn_front(uint32_t order, uint32_t to, const uint8_t *
 	return bpfcanon_proved_insn_front(order, to, input(bytes, len), len, output(out, room), room);
 }
 
+/* --- Records --- */
+
+/* crates/bpfcanon_c declares the same records. */
+#define IS_AT(record, field, offset) \
+	_Static_assert(offsetof(record, field) == (offset), #record "." #field)
+_Static_assert(sizeof(bpfcanon_insn) == 32, "bpfcanon_insn");
+IS_AT(bpfcanon_insn, len, 7);
+IS_AT(bpfcanon_insn, off, 8);
+IS_AT(bpfcanon_insn, group, 10);
+IS_AT(bpfcanon_insn, imm, 12);
+IS_AT(bpfcanon_insn, next_imm, 16);
+IS_AT(bpfcanon_insn, zero, 20);
+IS_AT(bpfcanon_insn, pos, 24);
+_Static_assert(sizeof(bpfcanon_btf_type) == 40, "bpfcanon_btf_type");
+IS_AT(bpfcanon_btf_type, items, 6);
+IS_AT(bpfcanon_btf_type, name, 8);
+IS_AT(bpfcanon_btf_type, first, 36);
+_Static_assert(sizeof(bpfcanon_btf_item) == 40, "bpfcanon_btf_item");
+IS_AT(bpfcanon_btf_item, kind, 28);
+IS_AT(bpfcanon_btf_item, value, 32);
+
+/* Records in place of a null pointer whose room is 0. */
+static bpfcanon_insn no_insn;
+static bpfcanon_btf_type no_type;
+static bpfcanon_btf_item no_item;
+
+/* Whether an array of records is aligned as bpfcanon.h demands. A null pointer is. */
+static int is_aligned(const void *records)
+{
+	return (uintptr_t)records % 8 == 0;
+}
+
+static bpfcanon_answer ended(uint32_t status)
+{
+	bpfcanon_answer answer = { 0, 0, 0, 0, 0, 0, 0, 0, 0 };
+
+	answer.status = status;
+	return answer;
+}
+
+bpfcanon_answer bpfcanon_insn_decode(uint32_t order, const uint8_t *bytes, size_t len,
+                                     bpfcanon_insn *out, size_t room)
+{
+	if (!is_aligned(out))
+		return ended(BPFCANON_ALIGNMENT);
+	return bpfcanon_proved_insn_decode(order, input(bytes, len), len, out || room ? out : &no_insn,
+	                                   room);
+}
+
+bpfcanon_answer bpfcanon_insn_encode(uint32_t to, const bpfcanon_insn *insns, size_t count,
+                                     uint8_t *out, size_t room)
+{
+	if (!is_aligned(insns))
+		return ended(BPFCANON_ALIGNMENT);
+	return bpfcanon_proved_insn_encode(to, insns || count ? insns : &no_insn, count,
+	                                   output(out, room), room);
+}
+
+bpfcanon_answer bpfcanon_btf_decode(const uint8_t *bytes, size_t len, bpfcanon_btf_type *types,
+                                    size_t types_room, bpfcanon_btf_item *items,
+                                    size_t items_room)
+{
+	if (!is_aligned(types) || !is_aligned(items))
+		return ended(BPFCANON_ALIGNMENT);
+	return bpfcanon_proved_btf_decode(input(bytes, len), len,
+	                                  types || types_room ? types : &no_type, types_room,
+	                                  items || items_room ? items : &no_item, items_room);
+}
+
 /* --- Calls that allocate --- */
 
 /* A call that writes, in a shape that fits all five, with what it is given besides its output. */
@@ -122,12 +192,12 @@ static bpfcanon_answer write_types(const struct request *request, uint8_t *out, 
 /* Writes into a block of this capacity, with one byte more for a NUL. */
 static bpfcanon_answer write_block(const struct request *request, size_t room, uint8_t **out)
 {
-	bpfcanon_answer answer = { BPFCANON_MEMORY, 0, 0, 0, 0, 0, 0, 0, 0 };
 	uint8_t *block = (uint8_t *)malloc(room + 1), *smaller;
+	bpfcanon_answer answer;
 
 	*out = NULL;
 	if (!block)
-		return answer;
+		return ended(BPFCANON_MEMORY);
 	answer = request->write(request, block, room);
 	if (answer.status != BPFCANON_DONE) {
 		free(block);
@@ -199,6 +269,64 @@ bpfcanon_answer bpfcanon_btf_show_new(const uint8_t *bytes, size_t len, char **o
 	return answer;
 }
 
+/* A block for a number of records, at least for one, or NULL. */
+static void *records_block(size_t count, size_t size)
+{
+	if (count > SIZE_MAX / size)
+		return NULL;
+	return malloc(count ? count * size : size);
+}
+
+/* Makes a block smaller, to a number of records. It stays as it is if that fails. */
+static void *shrunk(void *block, size_t count, size_t size)
+{
+	void *smaller = realloc(block, count ? count * size : size);
+
+	return smaller ? smaller : block;
+}
+
+/* An instruction has at least 8 bytes. */
+bpfcanon_answer bpfcanon_insn_decode_new(uint32_t order, const uint8_t *bytes, size_t len,
+                                         bpfcanon_insn **out)
+{
+	const size_t room = len / 8;
+	bpfcanon_insn *block = (bpfcanon_insn *)records_block(room, sizeof *block);
+	bpfcanon_answer answer;
+
+	*out = NULL;
+	if (!block)
+		return ended(BPFCANON_MEMORY);
+	answer = bpfcanon_insn_decode(order, bytes, len, block, room);
+	if (answer.status != BPFCANON_DONE) {
+		free(block);
+		return answer;
+	}
+	*out = (bpfcanon_insn *)shrunk(block, answer.written, sizeof *block);
+	return answer;
+}
+
+/* A type has at least 12 bytes, and an item 8. */
+bpfcanon_answer bpfcanon_btf_decode_new(const uint8_t *bytes, size_t len,
+                                        bpfcanon_btf_type **types, bpfcanon_btf_item **items)
+{
+	bpfcanon_btf_type *all = (bpfcanon_btf_type *)records_block(len / 12, sizeof *all);
+	bpfcanon_btf_item *all_items = (bpfcanon_btf_item *)records_block(len / 8, sizeof *all_items);
+	bpfcanon_answer answer = ended(BPFCANON_MEMORY);
+
+	*types = NULL;
+	*items = NULL;
+	if (all && all_items)
+		answer = bpfcanon_btf_decode(bytes, len, all, len / 12, all_items, len / 8);
+	if (answer.status != BPFCANON_DONE) {
+		free(all);
+		free(all_items);
+		return answer;
+	}
+	*types = (bpfcanon_btf_type *)shrunk(all, answer.types, sizeof *all);
+	*items = (bpfcanon_btf_item *)shrunk(all_items, answer.written, sizeof *all_items);
+	return answer;
+}
+
 void bpfcanon_free(void *block)
 {
 	free(block);
@@ -224,6 +352,7 @@ static const struct meaning statuses[] = {
 	{ "Memory", "out of memory" },
 	{ "Room", "the output is longer than its room" },
 	{ "Order", "a number is not that of a byte order" },
+	{ "Alignment", "an array of records is not aligned to 8 bytes" },
 };
 
 static const struct meaning insn_causes[] = {

@@ -4,15 +4,15 @@
  *
  * What is proved. Each call under "Calls on the caller's memory" is a few lines of C (bpfcanon.c)
  * around a call that is written in Rattle and proved to meet its contract (crates/bpfcanon_c). The
- * C replaces a null pointer whose length is 0 by an address of its own, and passes everything else
- * on. The C is tested and not proved; so are the calls that allocate, the names and the
- * version.
+ * C replaces a null pointer whose length is 0 by an address of its own, refuses arrays of records
+ * that aren't aligned, and passes everything else on. The C is tested and not proved; so are the
+ * calls that allocate, the inline functions and macros, the names and the version.
  *
  * Obligations of the caller, which no call checks:
  *   - An input points to `len` readable bytes and `out` to `room` writable ones, for as long as
  *     the call runs. Either may be NULL if its length is 0. NULL with a length is an access to
  *     address 0. The bytes of `out` may be uninitialised: no call reads one before it writes it.
- *   - The output overlaps no input.
+ *   - No output overlaps an input or another output.
  *   - While a call runs, no other thread writes to its inputs, and none reads or writes its `out`.
  *   - malloc, realloc and free belong to one allocator, any thread may call them, and malloc aligns
  *     to 16 bytes.
@@ -24,7 +24,12 @@
  * Limits. No call limits the length of instructions or of a listing: the limits of the command
  * bpfcanon(1) are its own. BTF has the limits of its format, see BPFCANON_BTF_MAX.
  *
- * All lengths, offsets and room are in bytes. An offset counts from the first byte of its input.
+ * All lengths, offsets and room are in bytes, except that arrays of records have their room, and
+ * what was written or is needed, in records. An offset counts from the first byte of its input.
+ *
+ * Records. bpfcanon_insn, bpfcanon_btf_type and bpfcanon_btf_item have integers as fields and no
+ * padding, so that they can be compared and hashed as bytes. They will not grow: a new field would
+ * be in a new struct. Arrays of them are aligned to 8 bytes, as malloc's blocks are.
  *
  * Encodings. Listings that are written, and the names and sentences of causes and statuses, are
  * ASCII. A listing that is read is ASCII too, except in its comments, which may have any bytes: any
@@ -79,7 +84,9 @@ enum bpfcanon_status {
 	/* the output is longer than `room`, and nothing was written: `needed` */
 	BPFCANON_ROOM = 5,
 	/* an argument is not a valid byte order */
-	BPFCANON_ORDER = 6
+	BPFCANON_ORDER = 6,
+	/* an array of records is not aligned to 8 bytes, and nothing was read or written */
+	BPFCANON_ALIGNMENT = 7
 };
 
 /*
@@ -168,9 +175,215 @@ typedef struct bpfcanon_answer {
 	size_t read;     /* bpfcanon_insn_front: the length of the complete instructions */
 	size_t written;  /* for a call that writes: the length of the output */
 	size_t needed;   /* with BPFCANON_ROOM: the buffer size that the output needs */
-	uint32_t types;  /* bpfcanon_btf_check: the number of types, not counting void */
+	uint32_t types;  /* bpfcanon_btf_check and _decode: the number of types, not counting void */
 	uint32_t groups; /* bpfcanon_insn_groups: a mask of enum bpfcanon_group */
 } bpfcanon_answer;
+
+/* --- Instructions and types as records --- */
+
+/*
+ * The form of an instruction (RFC 9669 sections 4 and 5), with the fields of bpfcanon_insn that it
+ * has besides form, len, group and pos. The other fields are 0.
+ */
+enum bpfcanon_form {
+	BPFCANON_ALU = 1,          /* bits, op: bpfcanon_alu; dst; by_reg; src or imm */
+	BPFCANON_MOVSX = 2,        /* bits, from, dst, src */
+	BPFCANON_NEG = 3,          /* bits, dst */
+	BPFCANON_SWAP = 4,         /* bits, op: bpfcanon_swap; dst */
+	BPFCANON_JUMP = 5,         /* off: how many slots after the next instruction */
+	BPFCANON_JUMP_LONG = 6,    /* imm: likewise */
+	BPFCANON_BRANCH = 7,       /* bits, op: bpfcanon_branch; dst; by_reg; src or imm; off: as JUMP */
+	BPFCANON_CALL_HELPER = 8,  /* imm: the ID of the helper */
+	BPFCANON_CALL_LOCAL = 9,   /* imm: how many slots after the next instruction */
+	BPFCANON_CALL_BTF = 10,    /* imm: the BTF ID of the function; off */
+	BPFCANON_EXIT = 11,
+	BPFCANON_LOAD = 12,        /* bits, dst, src, off: dst = memory at src + off */
+	BPFCANON_LOAD_SIGNED = 13, /* bits, dst, src, off: likewise */
+	BPFCANON_STORE_IMM = 14,   /* bits, dst, off, imm: memory at dst + off = imm */
+	BPFCANON_STORE_REG = 15,   /* bits, dst, src, off: memory at dst + off = src */
+	BPFCANON_ATOMIC = 16,      /* bits, op: bpfcanon_atomic; dst, src, off: on memory at dst + off */
+	BPFCANON_WIDE = 17,        /* bits: 64; op: bpfcanon_wide; dst, imm, next_imm */
+	BPFCANON_PACKET_ABS = 18,  /* bits, imm */
+	BPFCANON_PACKET_IND = 19   /* bits, src, imm */
+};
+
+/* An arithmetic operation: its code in the standard, and 16 more for the signed divisions. */
+enum bpfcanon_alu {
+	BPFCANON_ADD = 0,
+	BPFCANON_SUB = 1,
+	BPFCANON_MUL = 2,
+	BPFCANON_DIV = 3,
+	BPFCANON_OR = 4,
+	BPFCANON_AND = 5,
+	BPFCANON_LSH = 6,
+	BPFCANON_RSH = 7,
+	BPFCANON_MOD = 9,
+	BPFCANON_XOR = 10,
+	BPFCANON_MOV = 11,
+	BPFCANON_ARSH = 12,
+	BPFCANON_SDIV = 19,
+	BPFCANON_SMOD = 25
+};
+
+/* The comparison of a branch: its code in the standard. */
+enum bpfcanon_branch {
+	BPFCANON_EQ = 1,
+	BPFCANON_GT = 2,
+	BPFCANON_GE = 3,
+	BPFCANON_SET = 4,
+	BPFCANON_NE = 5,
+	BPFCANON_SGT = 6,
+	BPFCANON_SGE = 7,
+	BPFCANON_LT = 10,
+	BPFCANON_LE = 11,
+	BPFCANON_SLT = 12,
+	BPFCANON_SLE = 13
+};
+
+/* A byte swap: its opcode. */
+enum bpfcanon_swap {
+	BPFCANON_SWAP_LE = 0xd4,
+	BPFCANON_SWAP_BE = 0xdc,
+	BPFCANON_SWAP_BYTES = 0xd7
+};
+
+/* An atomic operation: its immediate. */
+enum bpfcanon_atomic {
+	BPFCANON_ATOMIC_ADD = 0x00,
+	BPFCANON_ATOMIC_OR = 0x40,
+	BPFCANON_ATOMIC_AND = 0x50,
+	BPFCANON_ATOMIC_XOR = 0xa0,
+	BPFCANON_FETCH_ADD = 0x01,
+	BPFCANON_FETCH_OR = 0x41,
+	BPFCANON_FETCH_AND = 0x51,
+	BPFCANON_FETCH_XOR = 0xa1,
+	BPFCANON_XCHG = 0xe1,
+	BPFCANON_CMPXCHG = 0xf1
+};
+
+/* What a wide load loads: its src field. The immediates that it doesn't have are 0. */
+enum bpfcanon_wide {
+	BPFCANON_NUMBER = 0,       /* imm: the low 32 bits; next_imm: the high ones */
+	BPFCANON_MAP_FD = 1,       /* imm */
+	BPFCANON_MAP_VALUE_FD = 2, /* imm; next_imm: the offset in bytes */
+	BPFCANON_VAR_ADDR = 3,     /* imm, next_imm */
+	BPFCANON_CODE_ADDR = 4,    /* imm: how many slots after the next instruction */
+	BPFCANON_MAP_IDX = 5,      /* imm */
+	BPFCANON_MAP_VALUE_IDX = 6 /* imm; next_imm: the offset in bytes */
+};
+
+/* An instruction: 32 bytes. */
+typedef struct bpfcanon_insn {
+	uint8_t form;     /* enum bpfcanon_form */
+	uint8_t op;       /* the operation, as the form says */
+	uint8_t bits;     /* 8, 16, 32 or 64: of the operation, or of the memory that is read or written */
+	uint8_t from;     /* BPFCANON_MOVSX: how many bits it reads, 8, 16 or 32 */
+	uint8_t dst;      /* a register, 0 to 10 */
+	uint8_t src;      /* a register, 0 to 10 */
+	uint8_t by_reg;   /* 1 if the second operand is src, 0 if it is imm */
+	uint8_t len;      /* the length of the encoding in bytes: 16 for BPFCANON_WIDE, otherwise 8 */
+	int16_t off;      /* the offset field */
+	uint16_t group;   /* one bit of enum bpfcanon_group, without the groups that it includes */
+	int32_t imm;      /* the immediate */
+	int32_t next_imm; /* the immediate of the second slot */
+	uint32_t zero;    /* 0 */
+	uint64_t pos;     /* the offset of the encoding */
+} bpfcanon_insn;
+
+/* The number that a wide load with the operation BPFCANON_NUMBER loads. `insn` is a pointer. */
+#define bpfcanon_insn_number(insn) \
+	((uint64_t)(uint32_t)(insn)->next_imm << 32 | (uint32_t)(insn)->imm)
+
+/*
+ * The kind of a type (btf.rst section 2.2), with the fields of bpfcanon_btf_type that it has
+ * besides kind. The other fields are 0, except that name and first always have a value.
+ */
+enum bpfcanon_kind {
+	BPFCANON_KIND_INT = 1,         /* name, size, encoding, bit_offset, bits */
+	BPFCANON_KIND_PTR = 2,         /* target */
+	BPFCANON_KIND_ARRAY = 3,       /* target: of its elements; index, count */
+	BPFCANON_KIND_STRUCT = 4,      /* name, size, items: members */
+	BPFCANON_KIND_UNION = 5,       /* name, size, items: members */
+	BPFCANON_KIND_ENUM = 6,        /* name, size, flag: signed; items: values */
+	BPFCANON_KIND_FWD = 7,         /* name, flag: a union */
+	BPFCANON_KIND_TYPEDEF = 8,     /* name, target */
+	BPFCANON_KIND_VOLATILE = 9,    /* target */
+	BPFCANON_KIND_CONST = 10,      /* target */
+	BPFCANON_KIND_RESTRICT = 11,   /* target */
+	BPFCANON_KIND_FUNC = 12,       /* name, target: its FUNC_PROTO; linkage */
+	BPFCANON_KIND_FUNC_PROTO = 13, /* target: what it returns; items: parameters */
+	BPFCANON_KIND_VAR = 14,        /* name, target, linkage */
+	BPFCANON_KIND_DATASEC = 15,    /* name, size, items: entries */
+	BPFCANON_KIND_FLOAT = 16,      /* name, size */
+	BPFCANON_KIND_DECL_TAG = 17,   /* name, target, component, flag: the kind_flag */
+	BPFCANON_KIND_TYPE_TAG = 18,   /* name, target, flag: the kind_flag */
+	BPFCANON_KIND_ENUM64 = 19      /* name, size, flag: signed; items: values */
+};
+
+/*
+ * A type: 40 bytes. IDs count from 1: that of types[i] is i + 1. Void, with ID 0, has no record.
+ *
+ * Each `target` and `index` that was decoded is 0 or the ID of a type of the same file, of a kind
+ * that docs/FAULTS.md allows there. Types may form a circle: `const` of itself is accepted, so a
+ * loop that follows `target` needs a limit or has to note where it was.
+ */
+typedef struct bpfcanon_btf_type {
+	uint8_t kind;       /* enum bpfcanon_kind */
+	uint8_t flag;       /* 0 or 1 */
+	uint8_t encoding;   /* INT: 0 plain, 1 signed, 2 char, 4 bool */
+	uint8_t linkage;    /* FUNC, VAR: 0 static, 1 global, 2 extern */
+	uint8_t bit_offset; /* INT: where its value begins */
+	uint8_t bits;       /* INT: the length of its value */
+	uint16_t items;     /* the number of its items */
+	uint32_t name;      /* the offset of the name in the input, where a NUL follows it */
+	uint32_t name_len;  /* the length of the name in bytes, 0 if there is none */
+	uint32_t size;      /* in bytes */
+	uint32_t target;    /* the ID of the type that it refers to */
+	uint32_t index;     /* ARRAY: the ID of the type of its index */
+	uint32_t count;     /* ARRAY: the number of its elements */
+	int32_t component;  /* DECL_TAG: the index of a member or parameter, -1 for the entire type */
+	uint32_t first;     /* the index of its first item in the array of items */
+} bpfcanon_btf_type;
+
+/*
+ * The kind of an item, with the fields of bpfcanon_btf_item that it has besides kind. The other
+ * fields are 0, except that name always has a value.
+ */
+enum bpfcanon_item {
+	BPFCANON_MEMBER = 1,  /* name, target, bit_offset, width */
+	BPFCANON_VALUE = 2,   /* of an ENUM: name, value */
+	BPFCANON_VALUE64 = 3, /* of an ENUM64: name, value */
+	BPFCANON_PARAM = 4,   /* name, target; the last one has neither if it is `...` */
+	BPFCANON_ENTRY = 5    /* of a DATASEC: target, offset, size */
+};
+
+/* An item of a type, which is a member, value, parameter or entry: 40 bytes. */
+typedef struct bpfcanon_btf_item {
+	uint32_t name;       /* the offset of the name in the input, where a NUL follows it */
+	uint32_t name_len;   /* the length of the name in bytes, 0 if there is none */
+	uint32_t target;     /* the ID of its type */
+	uint32_t bit_offset; /* MEMBER: from the start of the struct or union */
+	uint32_t width;      /* MEMBER: the bits of a bit-field, 0 if it is none */
+	uint32_t offset;     /* ENTRY: in bytes */
+	uint32_t size;       /* ENTRY: in bytes */
+	uint32_t kind;       /* enum bpfcanon_item */
+	uint64_t value;      /* VALUE: 32 bits, VALUE64: 64; signed if the flag of the type is 1 */
+} bpfcanon_btf_item;
+
+/*
+ * The name of a type or an item of the input `bytes`, from its field `name`: UTF-8 that ends with a
+ * NUL.
+ */
+#define bpfcanon_btf_name(bytes, name) ((const char *)(bytes) + (name))
+
+/*
+ * Loops over `count` types, and over the items of a type: `type` and `item` are variables that
+ * point to a record, and `all` is the array of all items.
+ */
+#define bpfcanon_each_type(type, types, count) \
+	for ((type) = (types); (type) < (types) + (count); (type)++)
+#define bpfcanon_each_item(item, type, all) \
+	for ((item) = (all) + (type)->first; (item) < (all) + (type)->first + (type)->items; (item)++)
 
 /* --- Calls on the caller's memory --- */
 
@@ -268,6 +481,39 @@ bpfcanon_answer bpfcanon_btf_show(const uint8_t *bytes, size_t len, char *out, s
 bpfcanon_answer bpfcanon_insn_front(uint32_t order, uint32_t to, const uint8_t *bytes, size_t len,
                                     uint8_t *out, size_t room);
 
+/*
+ * Decodes instructions into records at the start of `out`, in order. Sets `written`; it, `needed`
+ * and `room` count records. Room of `len` / 8 records is always enough. Allocates nothing.
+ *
+ * Statuses: BPFCANON_DONE, BPFCANON_FAULT, BPFCANON_ROOM, BPFCANON_ORDER, BPFCANON_ALIGNMENT.
+ */
+bpfcanon_answer bpfcanon_insn_decode(uint32_t order, const uint8_t *bytes, size_t len,
+                                     bpfcanon_insn *out, size_t room);
+
+/*
+ * Encodes the instructions that records say in the byte order `to`. The fields `len`, `group`,
+ * `zero` and `pos` aren't read; the other fields that a form doesn't have have to be 0. Sets
+ * `written`, in bytes. Room of 16 * `count` bytes is always enough. With BPFCANON_FAULT `pos` is
+ * the index of the first record that says no instruction, and `cause` is 0. Allocates nothing.
+ *
+ * Statuses: BPFCANON_DONE, BPFCANON_FAULT, BPFCANON_ROOM, BPFCANON_ORDER, BPFCANON_ALIGNMENT.
+ */
+bpfcanon_answer bpfcanon_insn_encode(uint32_t to, const bpfcanon_insn *insns, size_t count,
+                                     uint8_t *out, size_t room);
+
+/*
+ * Decodes the types of BTF into records at the start of `types`, in order, and the items of all of
+ * them into records at the start of `items`. Sets `types`, and `written` to the number of items.
+ * With BPFCANON_ROOM, if either array is too short, `types` and `needed` are the numbers of types
+ * and of items. Room of `len` / 12 types and `len` / 8 items is always enough. Names stay in
+ * `bytes`.
+ *
+ * Statuses: BPFCANON_DONE, BPFCANON_FAULT, BPFCANON_MEMORY, BPFCANON_ROOM, BPFCANON_ALIGNMENT.
+ */
+bpfcanon_answer bpfcanon_btf_decode(const uint8_t *bytes, size_t len, bpfcanon_btf_type *types,
+                                    size_t types_room, bpfcanon_btf_item *items,
+                                    size_t items_room);
+
 /* --- Calls that allocate --- */
 
 /*
@@ -284,6 +530,15 @@ bpfcanon_answer bpfcanon_insn_show_new(uint32_t order, const uint8_t *bytes, siz
                                        char **out);
 bpfcanon_answer bpfcanon_insn_read_new(uint32_t to, const char *text, size_t len, uint8_t **out);
 bpfcanon_answer bpfcanon_btf_show_new(const uint8_t *bytes, size_t len, char **out);
+
+/*
+ * Likewise with records in place of bytes, which `written` counts, and for BTF with two blocks. The
+ * status of both may be BPFCANON_MEMORY.
+ */
+bpfcanon_answer bpfcanon_insn_decode_new(uint32_t order, const uint8_t *bytes, size_t len,
+                                         bpfcanon_insn **out);
+bpfcanon_answer bpfcanon_btf_decode_new(const uint8_t *bytes, size_t len,
+                                        bpfcanon_btf_type **types, bpfcanon_btf_item **items);
 
 /* Frees a block of the calls above. NULL is allowed. */
 void bpfcanon_free(void *block);

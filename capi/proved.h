@@ -1,7 +1,8 @@
 /*
  * The calls that are written in Rattle (crates/bpfcanon_c), for bpfcanon.c only: this header is
  * not installed, and the library doesn't export them. They are those of bpfcanon.h with proved_ in
- * their names and uint8_t for characters. No pointer may be null, even if its length is 0.
+ * their names and uint8_t for characters. No pointer may be null, even if its length is 0, and
+ * arrays of records are aligned to 8 bytes.
  */
 #ifndef BPFCANON_PROVED_H
 #define BPFCANON_PROVED_H
@@ -11,6 +12,9 @@
 bpfcanon_answer bpfcanon_proved_btf_canon(uint32_t to, const uint8_t *bytes, size_t len,
                                           uint8_t *out, size_t room);
 bpfcanon_answer bpfcanon_proved_btf_check(const uint8_t *bytes, size_t len);
+bpfcanon_answer bpfcanon_proved_btf_decode(const uint8_t *bytes, size_t len,
+                                           bpfcanon_btf_type *types, size_t types_room,
+                                           bpfcanon_btf_item *items, size_t items_room);
 bpfcanon_answer bpfcanon_proved_btf_same(const uint8_t *first, size_t first_len,
                                          const uint8_t *second, size_t second_len);
 bpfcanon_answer bpfcanon_proved_btf_show(const uint8_t *bytes, size_t len, uint8_t *out,
@@ -18,6 +22,10 @@ bpfcanon_answer bpfcanon_proved_btf_show(const uint8_t *bytes, size_t len, uint8
 
 bpfcanon_answer bpfcanon_proved_insn_canon(uint32_t order, uint32_t to, const uint8_t *bytes,
                                            size_t len, uint8_t *out, size_t room);
+bpfcanon_answer bpfcanon_proved_insn_decode(uint32_t order, const uint8_t *bytes, size_t len,
+                                            bpfcanon_insn *out, size_t room);
+bpfcanon_answer bpfcanon_proved_insn_encode(uint32_t to, const bpfcanon_insn *insns, size_t count,
+                                            uint8_t *out, size_t room);
 bpfcanon_answer bpfcanon_proved_insn_front(uint32_t order, uint32_t to, const uint8_t *bytes,
                                            size_t len, uint8_t *out, size_t room);
 bpfcanon_answer bpfcanon_proved_insn_groups(uint32_t order, const uint8_t *bytes, size_t len);

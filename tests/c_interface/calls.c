@@ -135,12 +135,12 @@ static void has_names(name_call *name_of, name_call *text_of, uint32_t first, ui
 
 static void numbers_have_names(void)
 {
-	static const char *const status[] = { "Done", "Order", "the call is done, or the two inputs are the same" };
+	static const char *const status[] = { "Done", "Alignment", "the call is done, or the two inputs are the same" };
 	static const char *const insn[] = { "Truncated", "NextImm", "the input ends inside an instruction" };
 	static const char *const line[] = { "Char", "Range", "a character that is neither blank nor part of a token" };
 	static const char *const btf[] = { "ShortHeader", "Component", "the file has fewer than 24 bytes" };
 
-	has_names(bpfcanon_status_name, bpfcanon_status_text, BPFCANON_DONE, BPFCANON_ORDER, status);
+	has_names(bpfcanon_status_name, bpfcanon_status_text, BPFCANON_DONE, BPFCANON_ALIGNMENT, status);
 	has_names(bpfcanon_insn_cause_name, bpfcanon_insn_cause_text, BPFCANON_INSN_TRUNCATED, BPFCANON_INSN_CAUSES, insn);
 	has_names(bpfcanon_line_cause_name, bpfcanon_line_cause_text, BPFCANON_LINE_CHAR, BPFCANON_LINE_CAUSES, line);
 	has_names(bpfcanon_btf_cause_name, bpfcanon_btf_cause_text, BPFCANON_BTF_SHORT_HEADER, BPFCANON_BTF_CAUSES, btf);
@@ -169,6 +169,9 @@ static void null_is_an_empty_input_or_output(void)
 	CHECK(is(bpfcanon_insn_show(0, NULL, 0, NULL, 0), written(0)));
 	CHECK(is(bpfcanon_insn_read(0, NULL, 0, NULL, 0), written(0)));
 	CHECK(is(bpfcanon_insn_front(0, 0, NULL, 0, NULL, 0), front_of(0)));
+	CHECK(is(bpfcanon_insn_decode(0, NULL, 0, NULL, 0), written(0)));
+	CHECK(is(bpfcanon_insn_encode(1, NULL, 0, NULL, 0), written(0)));
+	CHECK(is(bpfcanon_btf_decode(NULL, 0, NULL, 0, NULL, 0), fault(BPFCANON_BTF_SHORT_HEADER, 0)));
 
 	CHECK(is(bpfcanon_btf_canon(BPFCANON_LITTLE, BYTES(INT_LOOSE), NULL, 0), needs(sizeof INT - 1)));
 	CHECK(is(bpfcanon_insn_canon(0, 1, BYTES(EXIT), NULL, 0), needs(8)));
@@ -176,6 +179,9 @@ static void null_is_an_empty_input_or_output(void)
 	CHECK(is(bpfcanon_insn_read(0, TEXT("exit"), NULL, 0), needs(8)));
 	CHECK(is(bpfcanon_btf_show(BYTES(INT), NULL, 0), needs(strlen("[1] int \"int\" size=4 encoding=signed offset=0 bits=32\n"))));
 	CHECK(is(bpfcanon_insn_front(0, 0, BYTES(EXIT_AND_FAULT), NULL, 0), needs(8)));
+	CHECK(is(bpfcanon_insn_decode(0, BYTES(EXIT), NULL, 0), needs(1)));
+	CHECK(is(bpfcanon_insn_encode(0, &(bpfcanon_insn){ .form = BPFCANON_EXIT }, 1, NULL, 0), needs(8)));
+	CHECK(is(bpfcanon_btf_decode(BYTES(INT), NULL, 0, NULL, 0), (bpfcanon_answer){ .status = BPFCANON_ROOM, .types = 1 }));
 	CHECK(is(bpfcanon_insn_front(0, 0, (const uint8_t *)EXIT_AND_FAULT + 8, 8, NULL, 0), front_before(0, 4, 1)));
 	bpfcanon_free(NULL);
 }

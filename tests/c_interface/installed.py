@@ -43,8 +43,9 @@ def printed(words, **variables):
 
 
 def declared():
-    """The calls that the header declares."""
-    return sorted(set(re.findall(r"\b(bpfcanon_\w+)\(", re.sub(r"/\*.*?\*/", "", HEADER, flags=re.DOTALL))))
+    """The calls that the header declares, without its macros."""
+    text = re.sub(r"^#define (?:.*\\\n)*.*$", "", re.sub(r"/\*.*?\*/", "", HEADER, flags=re.DOTALL), flags=re.MULTILINE)
+    return sorted(set(re.findall(r"\b(bpfcanon_\w+)\(", text)))
 
 
 def built(report, archive, root, **variables):

@@ -14,18 +14,27 @@
 #define LONG 4096
 
 static const uint8_t exits[] = "\x95\0\0\0\0\0\0\0\x95\0\0\0\0\0\0";
+static const bpfcanon_insn exit_insn = { .form = BPFCANON_EXIT };
 static const uint8_t no_types[] = "\x9f\xeb\x01\0\x18\0\0\0" "\0\0\0\0\0\0\0\0\0\0\0\0" "\1\0\0\0";
 static uint8_t out[LONG], *block;
 static char shown[LONG], *text;
+static bpfcanon_insn insns[LONG], *new_insns;
+static bpfcanon_btf_type types[LONG], *new_types;
+static bpfcanon_btf_item items[LONG], *new_items;
 
 static void btf_canon(void) { bpfcanon_btf_canon(0, NULL, LONG, out, sizeof out); }
 static void btf_canon_out(void) { bpfcanon_btf_canon(0, no_types, sizeof no_types, NULL, LONG); }
 static void btf_check(void) { bpfcanon_btf_check(NULL, LONG); }
+static void btf_decode(void) { bpfcanon_btf_decode(NULL, LONG, types, LONG, items, LONG); }
 static void btf_same_first(void) { bpfcanon_btf_same(NULL, LONG, no_types, sizeof no_types); }
 static void btf_same_second(void) { bpfcanon_btf_same(no_types, sizeof no_types, NULL, LONG); }
 static void btf_show(void) { bpfcanon_btf_show(NULL, LONG, shown, sizeof shown); }
 static void insn_canon(void) { bpfcanon_insn_canon(0, 1, NULL, LONG, out, sizeof out); }
 static void insn_canon_out(void) { bpfcanon_insn_canon(0, 1, exits, sizeof exits, NULL, LONG); }
+static void insn_decode(void) { bpfcanon_insn_decode(0, NULL, LONG, insns, LONG); }
+static void insn_decode_out(void) { bpfcanon_insn_decode(0, exits, sizeof exits, NULL, LONG); }
+static void insn_encode(void) { bpfcanon_insn_encode(0, NULL, LONG, out, sizeof out); }
+static void insn_encode_out(void) { bpfcanon_insn_encode(0, &exit_insn, 1, NULL, LONG); }
 static void insn_front(void) { bpfcanon_insn_front(0, 1, NULL, LONG, out, sizeof out); }
 static void insn_front_out(void) { bpfcanon_insn_front(0, 1, exits, sizeof exits, NULL, LONG); }
 static void insn_groups(void) { bpfcanon_insn_groups(0, NULL, LONG); }
@@ -37,18 +46,20 @@ static void insn_show(void) { bpfcanon_insn_show(0, NULL, LONG, shown, sizeof sh
 static void insn_show_out(void) { bpfcanon_insn_show(0, exits, sizeof exits, NULL, LONG); }
 static void btf_canon_new(void) { bpfcanon_btf_canon_new(0, NULL, LONG, &block); }
 static void btf_show_new(void) { bpfcanon_btf_show_new(NULL, LONG, &text); }
+static void btf_decode_new(void) { bpfcanon_btf_decode_new(NULL, LONG, &new_types, &new_items); }
 static void insn_canon_new(void) { bpfcanon_insn_canon_new(0, 1, NULL, LONG, &block); }
+static void insn_decode_new(void) { bpfcanon_insn_decode_new(0, NULL, LONG, &new_insns); }
 static void insn_read_new(void) { bpfcanon_insn_read_new(0, NULL, LONG, &block); }
 static void insn_show_new(void) { bpfcanon_insn_show_new(0, NULL, LONG, &text); }
 
-/* The listing of a FLOAT is written to NULL. */
-static void btf_show_out(void)
-{
-	static const uint8_t types[] =
-		"\x9f\xeb\x01\0\x18\0\0\0\0\0\0\0\x0c\0\0\0\x0c\0\0\0\3\0\0\0\1\0\0\0\0\0\0\x10\x08\0\0\0\0f";
+/* An enum with a value: what is written to NULL are its listing, its record and the record of its value. */
+static const uint8_t one_enum[] =
+	"\x9f\xeb\x01\0\x18\0\0\0\0\0\0\0\x14\0\0\0\x14\0\0\0\3\0\0\0"
+	"\1\0\0\0\1\0\0\6\4\0\0\0" "\1\0\0\0\7\0\0\0" "\0e";
 
-	bpfcanon_btf_show(types, sizeof types, NULL, LONG);
-}
+static void btf_show_out(void) { bpfcanon_btf_show(one_enum, sizeof one_enum, NULL, LONG); }
+static void btf_decode_types(void) { bpfcanon_btf_decode(one_enum, sizeof one_enum, NULL, LONG, items, LONG); }
+static void btf_decode_items(void) { bpfcanon_btf_decode(one_enum, sizeof one_enum, types, LONG, NULL, LONG); }
 
 static const struct {
 	const char *name;
@@ -57,12 +68,19 @@ static const struct {
 	{ "btf_canon", btf_canon },
 	{ "btf_canon, out", btf_canon_out },
 	{ "btf_check", btf_check },
+	{ "btf_decode", btf_decode },
+	{ "btf_decode, types", btf_decode_types },
+	{ "btf_decode, items", btf_decode_items },
 	{ "btf_same, first", btf_same_first },
 	{ "btf_same, second", btf_same_second },
 	{ "btf_show", btf_show },
 	{ "btf_show, out", btf_show_out },
 	{ "insn_canon", insn_canon },
 	{ "insn_canon, out", insn_canon_out },
+	{ "insn_decode", insn_decode },
+	{ "insn_decode, out", insn_decode_out },
+	{ "insn_encode", insn_encode },
+	{ "insn_encode, out", insn_encode_out },
 	{ "insn_front", insn_front },
 	{ "insn_front, out", insn_front_out },
 	{ "insn_groups", insn_groups },
@@ -73,8 +91,10 @@ static const struct {
 	{ "insn_show", insn_show },
 	{ "insn_show, out", insn_show_out },
 	{ "btf_canon_new", btf_canon_new },
+	{ "btf_decode_new", btf_decode_new },
 	{ "btf_show_new", btf_show_new },
 	{ "insn_canon_new", insn_canon_new },
+	{ "insn_decode_new", insn_decode_new },
 	{ "insn_read_new", insn_read_new },
 	{ "insn_show_new", insn_show_new },
 };

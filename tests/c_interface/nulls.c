@@ -5,18 +5,24 @@ int main(void)
 {
 	uint8_t *block;
 	char *text;
+	bpfcanon_insn *insns;
+	bpfcanon_btf_type *types;
+	bpfcanon_btf_item *items;
 
 	bpfcanon_btf_canon(BPFCANON_LITTLE, NULL, 0, NULL, 0);
 	bpfcanon_btf_check(NULL, 0);
+	bpfcanon_btf_decode(NULL, 0, NULL, 0, NULL, 0);
 	bpfcanon_btf_same(NULL, 0, NULL, 0);
 	bpfcanon_btf_show(NULL, 0, NULL, 0);
 	bpfcanon_insn_canon(BPFCANON_LITTLE, BPFCANON_BIG, NULL, 0, NULL, 0);
+	bpfcanon_insn_decode(BPFCANON_LITTLE, NULL, 0, NULL, 0);
+	bpfcanon_insn_encode(BPFCANON_BIG, NULL, 0, NULL, 0);
 	bpfcanon_insn_front(BPFCANON_LITTLE, BPFCANON_BIG, NULL, 0, NULL, 0);
 	bpfcanon_insn_groups(BPFCANON_LITTLE, NULL, 0);
 	bpfcanon_insn_read(BPFCANON_LITTLE, NULL, 0, NULL, 0);
 	bpfcanon_insn_same(BPFCANON_LITTLE, NULL, 0, BPFCANON_BIG, NULL, 0);
 	bpfcanon_insn_show(BPFCANON_LITTLE, NULL, 0, NULL, 0);
-	CHECK(proved_calls == 10);
+	CHECK(proved_calls == 13);
 
 	CHECK(is(bpfcanon_btf_canon_new(BPFCANON_LITTLE, NULL, 0, &block), fault(BPFCANON_BTF_SHORT_HEADER, 0)));
 	CHECK(is(bpfcanon_insn_canon_new(BPFCANON_LITTLE, BPFCANON_BIG, NULL, 0, &block), written(0)));
@@ -26,6 +32,9 @@ int main(void)
 	CHECK(is(bpfcanon_insn_read_new(BPFCANON_LITTLE, NULL, 0, &block), written(0)));
 	bpfcanon_free(block);
 	CHECK(is(bpfcanon_btf_show_new(NULL, 0, &text), fault(BPFCANON_BTF_SHORT_HEADER, 0)));
-	CHECK(proved_calls == 15);
+	CHECK(is(bpfcanon_insn_decode_new(BPFCANON_LITTLE, NULL, 0, &insns), written(0)));
+	bpfcanon_free(insns);
+	CHECK(is(bpfcanon_btf_decode_new(NULL, 0, &types, &items), fault(BPFCANON_BTF_SHORT_HEADER, 0)));
+	CHECK(proved_calls == 20);
 	return end("null pointers");
 }

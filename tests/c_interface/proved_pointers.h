@@ -1,6 +1,6 @@
 /*
- * Checks that no proved call gets a null pointer. A test that includes this is linked with the sources of the C part and with
- * -Wl,--wrap for each proved call.
+ * Checks that no proved call gets a null pointer, or an array of records that isn't aligned. A test that includes this is linked with
+ * the sources of the C part and with -Wl,--wrap for each proved call.
  */
 #ifndef PROVED_POINTERS_H
 #define PROVED_POINTERS_H
@@ -9,6 +9,8 @@
 #include "proved.h"
 
 static long proved_calls;
+
+#define IS_ALIGNED(records) ((records) && (uintptr_t)(records) % 8 == 0)
 
 /* Defines a proved call that checks its pointers first. */
 #define NO_NULL(answer, call, parameters, arguments, pointers) \
@@ -24,11 +26,18 @@ static long proved_calls;
 NO_NULL(bpfcanon_answer, btf_canon, (uint32_t to, const uint8_t *bytes, size_t len, uint8_t *out, size_t room),
         (to, bytes, len, out, room), bytes && out)
 NO_NULL(bpfcanon_answer, btf_check, (const uint8_t *bytes, size_t len), (bytes, len), bytes)
+NO_NULL(bpfcanon_answer, btf_decode,
+        (const uint8_t *bytes, size_t len, bpfcanon_btf_type *types, size_t room, bpfcanon_btf_item *items, size_t items_room),
+        (bytes, len, types, room, items, items_room), bytes && IS_ALIGNED(types) && IS_ALIGNED(items))
 NO_NULL(bpfcanon_answer, btf_same, (const uint8_t *a, size_t a_len, const uint8_t *b, size_t b_len), (a, a_len, b, b_len), a && b)
 NO_NULL(bpfcanon_answer, btf_show, (const uint8_t *bytes, size_t len, uint8_t *out, size_t room), (bytes, len, out, room),
         bytes && out)
 NO_NULL(bpfcanon_answer, insn_canon, (uint32_t order, uint32_t to, const uint8_t *bytes, size_t len, uint8_t *out, size_t room),
         (order, to, bytes, len, out, room), bytes && out)
+NO_NULL(bpfcanon_answer, insn_decode, (uint32_t order, const uint8_t *bytes, size_t len, bpfcanon_insn *out, size_t room),
+        (order, bytes, len, out, room), bytes && IS_ALIGNED(out))
+NO_NULL(bpfcanon_answer, insn_encode, (uint32_t to, const bpfcanon_insn *insns, size_t count, uint8_t *out, size_t room),
+        (to, insns, count, out, room), IS_ALIGNED(insns) && out)
 NO_NULL(bpfcanon_answer, insn_front, (uint32_t order, uint32_t to, const uint8_t *bytes, size_t len, uint8_t *out, size_t room),
         (order, to, bytes, len, out, room), bytes && out)
 NO_NULL(bpfcanon_answer, insn_groups, (uint32_t order, const uint8_t *bytes, size_t len), (order, bytes, len), bytes)

@@ -1,11 +1,12 @@
 /*
  * Refuses each allocation of each proved call in turn: the call then reports that it ran out of memory and leaves its buffer as it was,
- * and it frees what it allocated. The comparison of instructions allocates nothing. usage: refused FILE, a BTF file
+ * and it frees what it allocated. Some calls on instructions allocate nothing. usage: refused FILE, a BTF file
  */
 #include "checks.h"
 #include "allocations.h"
 
-static uint8_t input[4096], out[4096], before[4096];
+static uint8_t input[4096], before[4096];
+static _Alignas(8) uint8_t out[4096];
 static size_t len;
 
 static bpfcanon_answer btf_canon(void) { return bpfcanon_btf_canon(BPFCANON_BIG, input, len, out, sizeof out); }
@@ -25,6 +26,31 @@ static bpfcanon_answer insn_read(void)
 }
 
 static bpfcanon_answer btf_show(void) { return bpfcanon_btf_show(input, len, (char *)out, sizeof out); }
+
+/* Records of types, and of items behind them. */
+static bpfcanon_answer btf_decode(void)
+{
+	const size_t half = sizeof out / 2;
+
+	return bpfcanon_btf_decode(input, len, (void *)out, half / sizeof(bpfcanon_btf_type), (void *)(out + half),
+	                           half / sizeof(bpfcanon_btf_item));
+}
+
+static bpfcanon_answer insn_decode(void)
+{
+	return bpfcanon_insn_decode(BPFCANON_LITTLE, before, 80, (void *)out, sizeof out / sizeof(bpfcanon_insn));
+}
+
+static bpfcanon_answer insn_encode(void)
+{
+	static const bpfcanon_insn exits[10] = {
+		{ .form = BPFCANON_EXIT }, { .form = BPFCANON_EXIT }, { .form = BPFCANON_EXIT }, { .form = BPFCANON_EXIT },
+		{ .form = BPFCANON_EXIT }, { .form = BPFCANON_EXIT }, { .form = BPFCANON_EXIT }, { .form = BPFCANON_EXIT },
+		{ .form = BPFCANON_EXIT }, { .form = BPFCANON_EXIT },
+	};
+
+	return bpfcanon_insn_encode(BPFCANON_LITTLE, exits, 10, out, sizeof out);
+}
 
 static bpfcanon_answer insn_groups(void) { return bpfcanon_insn_groups(BPFCANON_LITTLE, before, 80); }
 
@@ -50,13 +76,15 @@ static const struct {
 	const char *name;
 	bpfcanon_answer (*call)(void);
 	uint32_t status; /* with ample memory */
+	int allocates;
 } calls[] = {
-	{ "btf_canon", btf_canon, BPFCANON_DONE },     { "btf_check", btf_check, BPFCANON_DONE },
-	{ "btf_same", btf_same, BPFCANON_DONE },       { "insn_canon", insn_canon, BPFCANON_DONE },
-	{ "insn_groups", insn_groups, BPFCANON_DONE }, { "insn_show", insn_show, BPFCANON_DONE },
-	{ "insn_read", insn_read, BPFCANON_DONE },     { "btf_show", btf_show, BPFCANON_DONE },
-	{ "insn_same", insn_same, BPFCANON_DONE },     { "insn_front", insn_front, BPFCANON_DONE },
-	{ "faulty_front", faulty_front, BPFCANON_FAULT },
+	{ "btf_canon", btf_canon, BPFCANON_DONE, 1 },       { "btf_check", btf_check, BPFCANON_DONE, 1 },
+	{ "btf_decode", btf_decode, BPFCANON_DONE, 1 },     { "btf_same", btf_same, BPFCANON_DONE, 1 },
+	{ "btf_show", btf_show, BPFCANON_DONE, 1 },         { "insn_canon", insn_canon, BPFCANON_DONE, 1 },
+	{ "insn_decode", insn_decode, BPFCANON_DONE, 0 },   { "insn_encode", insn_encode, BPFCANON_DONE, 0 },
+	{ "insn_groups", insn_groups, BPFCANON_DONE, 0 },   { "insn_read", insn_read, BPFCANON_DONE, 1 },
+	{ "insn_same", insn_same, BPFCANON_DONE, 0 },       { "insn_show", insn_show, BPFCANON_DONE, 1 },
+	{ "insn_front", insn_front, BPFCANON_DONE, 1 },     { "faulty_front", faulty_front, BPFCANON_FAULT, 1 },
 };
 
 /* The call with 0, 1, 2 .. allocations, until that is enough. */
@@ -74,8 +102,7 @@ static void refuse_each(size_t call)
 		CHECK(live == blocks);
 		if (!refused) {
 			CHECK(answer.status == calls[call].status);
-			/* these two allocate nothing */
-			CHECK((n > 0) == (calls[call].call != insn_same && calls[call].call != insn_groups));
+			CHECK((n > 0) == calls[call].allocates);
 			return;
 		}
 		if (!is(answer, ended(BPFCANON_MEMORY)) || memcmp(out, before, sizeof out)) {

@@ -19,11 +19,13 @@ struct made {
 	size_t len;
 };
 
-/* A file, and what each call makes of it. */
+/* A file, and what each call makes of it. The first array of records is of instructions or types, the second of items. */
 struct file {
 	uint8_t *bytes, *canon;
 	char *text;
 	size_t len, canon_len, text_len;
+	void *records, *items;
+	bpfcanon_answer decoded;
 };
 
 static struct file types[2], insns[2];
@@ -46,11 +48,10 @@ static void free_made(struct made *made)
 }
 
 /* Passes a block to the next thread, and frees the one that was passed before. */
-static void pass_on(int thread, bpfcanon_answer answer, void *block, const void *wanted, size_t len)
+static void pass_on(int thread, void *block, const void *wanted, size_t len)
 {
 	struct made *made = (struct made *)allocate(sizeof *made), *taken;
 
-	expect(is(answer, written(len)));
 	made->block = block;
 	made->wanted = wanted;
 	made->len = len;
@@ -66,27 +67,48 @@ static void make_all(int thread, int order)
 	bpfcanon_answer answer;
 
 	answer = bpfcanon_btf_canon_new(BPFCANON_LITTLE, types[order].bytes, types[order].len, &block);
-	pass_on(thread, answer, block, types[0].canon, types[0].canon_len);
+	expect(is(answer, written(types[0].canon_len)));
+	pass_on(thread, block, types[0].canon, types[0].canon_len);
 	answer = bpfcanon_btf_show_new(types[order].bytes, types[order].len, &text);
-	pass_on(thread, answer, text, types[0].text, types[0].text_len);
+	expect(is(answer, written(types[0].text_len)));
+	pass_on(thread, text, types[0].text, types[0].text_len);
 	answer = bpfcanon_insn_canon_new(order, BPFCANON_BIG, insns[order].bytes, insns[order].len, &block);
-	pass_on(thread, answer, block, insns[1].bytes, insns[1].len);
+	expect(is(answer, written(insns[1].len)));
+	pass_on(thread, block, insns[1].bytes, insns[1].len);
 	answer = bpfcanon_insn_show_new(order, insns[order].bytes, insns[order].len, &text);
-	pass_on(thread, answer, text, insns[0].text, insns[0].text_len);
+	expect(is(answer, written(insns[0].text_len)));
+	pass_on(thread, text, insns[0].text, insns[0].text_len);
 	answer = bpfcanon_insn_read_new(order, insns[0].text, insns[0].text_len, &block);
-	pass_on(thread, answer, block, insns[order].bytes, insns[order].len);
+	expect(is(answer, written(insns[order].len)));
+	pass_on(thread, block, insns[order].bytes, insns[order].len);
+}
+
+static void make_records(int thread, int order)
+{
+	const struct file *of_types = &types[order], *of_insns = &insns[order];
+	bpfcanon_insn *all;
+	bpfcanon_btf_type *records;
+	bpfcanon_btf_item *items;
+
+	expect(is(bpfcanon_insn_decode_new(order, of_insns->bytes, of_insns->len, &all), of_insns->decoded));
+	pass_on(thread, all, of_insns->records, of_insns->decoded.written * sizeof *all);
+	expect(is(bpfcanon_btf_decode_new(of_types->bytes, of_types->len, &records, &items), of_types->decoded));
+	pass_on(thread, records, of_types->records, of_types->decoded.types * sizeof *records);
+	pass_on(thread, items, of_types->items, of_types->decoded.written * sizeof *items);
 }
 
 static void fail_all(void)
 {
 	uint8_t *block;
 	char *text;
+	bpfcanon_insn *all;
 
 	expect(is(bpfcanon_btf_canon_new(BPFCANON_BIG, types[0].bytes, 23, &block), fault(1, 23)) && !block);
 	expect(is(bpfcanon_btf_show_new(types[1].bytes, 0, &text), fault(1, 0)) && !text);
 	expect(is(bpfcanon_insn_show_new(0, insns[0].bytes, 7, &text), fault(1, 0)) && !text);
 	expect(is(bpfcanon_insn_canon_new(0, 2, insns[0].bytes, 8, &block), ended(BPFCANON_ORDER)) && !block);
 	expect(is(bpfcanon_insn_read_new(2, insns[0].text, 8, &block), ended(BPFCANON_ORDER)) && !block);
+	expect(is(bpfcanon_insn_decode_new(2, insns[0].bytes, 8, &all), ended(BPFCANON_ORDER)) && !all);
 }
 
 /* A call that returns strings, and copies of what it returned to one thread. */
@@ -118,6 +140,7 @@ static void *work(void *number)
 
 	for (int round = 0; round < ROUNDS; round++) {
 		make_all(thread, (thread + round) % 2);
+		make_records(thread, (thread + round) % 2);
 		ask_names();
 		if (thread % 2)
 			fail_all();
@@ -140,11 +163,13 @@ static void prepare(const char *folder)
 		if (k < 2) {
 			canon = bpfcanon_btf_canon_new(BPFCANON_LITTLE, file->bytes, file->len, &file->canon);
 			text = bpfcanon_btf_show_new(file->bytes, file->len, &file->text);
+			file->decoded = bpfcanon_btf_decode_new(file->bytes, file->len, (bpfcanon_btf_type **)&file->records, (bpfcanon_btf_item **)&file->items);
 		} else {
 			canon = bpfcanon_insn_canon_new(k - 2, BPFCANON_LITTLE, file->bytes, file->len, &file->canon);
 			text = bpfcanon_insn_show_new(k - 2, file->bytes, file->len, &file->text);
+			file->decoded = bpfcanon_insn_decode_new(k - 2, file->bytes, file->len, (bpfcanon_insn **)&file->records);
 		}
-		CHECK(canon.status == BPFCANON_DONE && text.status == BPFCANON_DONE);
+		CHECK(canon.status == BPFCANON_DONE && text.status == BPFCANON_DONE && file->decoded.status == BPFCANON_DONE);
 		file->canon_len = canon.written;
 		file->text_len = text.written;
 	}
@@ -175,6 +200,8 @@ int main(int argc, char **argv)
 		free(file->bytes);
 		bpfcanon_free(file->canon);
 		bpfcanon_free(file->text);
+		bpfcanon_free(file->records);
+		bpfcanon_free(file->items);
 	}
 	checks += compared;
 	failed += wrong;

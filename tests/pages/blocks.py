@@ -28,7 +28,7 @@ BLOCK = re.compile(r"^```(\w+)\n(.*?)^```$", re.MULTILINE | re.DOTALL)
 TESTS = {
     ("README.md", "console"): ("tests/pages/readme.py", 2),
     ("README.md", "rust"): ("tests/quick", 1),
-    ("docs/LIBRARY.md", "c"): ("tests/c_interface/library_key.py", 1),
+    ("docs/LIBRARY.md", "c"): ("tests/c_interface/run", 2),
     ("docs/LIBRARY.md", "sh"): ("tests/c_interface/library_key.py", 1),
     ("docs/LIBRARY.md", "rust"): ("tests/quick", 1),
     ("docs/OBJECTS.md", "text"): ("bindings/python/tests/test_objects_page.py", None),

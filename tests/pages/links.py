@@ -25,7 +25,7 @@ STANDS_FOR = re.compile(r"(?:^|/)(?:NAME|MODULE|FUNCTION)\b")
 # Folders that tools write.
 MADE_IN = {".git", "out", "__pycache__"}
 # Files that a reader makes, those of other trees, and those that the repository must not contain.
-MADE = {"key.c", "main.go", "canonical.bin", "out/PROVED.txt", "Cargo.toml", "btf.rst", "PROVED.txt"}
+MADE = {"key.c", "members.c", "main.go", "canonical.bin", "out/PROVED.txt", "Cargo.toml", "btf.rst", "PROVED.txt"}
 
 
 def slug(heading):

@@ -1,0 +1,212 @@
+/*
+ * The calls on records: worked instructions and types, arrays that are too short or aren't aligned, records that are no instruction, and
+ * compiled files that are decoded, encoded and decoded again. usage: records TESTDATA
+ */
+#include "checks.h"
+
+/* lddw r1, 0x1122334455667788; jsgt r1, r2, -3; call 6; sth [r10-8], -2; exit */
+static const uint8_t program[] =
+	"\x18\x01\0\0\x88\x77\x66\x55\0\0\0\0\x44\x33\x22\x11" "\x6d\x21\xfd\xff\0\0\0\0" "\x85\0\0\0\x06\0\0\0"
+	"\x6a\x0a\xf8\xff\xfe\xff\xff\xff" "\x95\0\0\0\0\0\0";
+#define INSNS 5
+
+static const bpfcanon_insn insns[INSNS] = {
+	{ .form = BPFCANON_WIDE, .op = BPFCANON_NUMBER, .bits = 64, .dst = 1, .len = 16, .group = BPFCANON_BASE64, .imm = 0x55667788,
+	  .next_imm = 0x11223344 },
+	{ .form = BPFCANON_BRANCH, .op = BPFCANON_SGT, .bits = 64, .dst = 1, .src = 2, .by_reg = 1, .len = 8, .off = -3,
+	  .group = BPFCANON_BASE64, .pos = 16 },
+	{ .form = BPFCANON_CALL_HELPER, .len = 8, .group = BPFCANON_BASE32, .imm = 6, .pos = 24 },
+	{ .form = BPFCANON_STORE_IMM, .bits = 16, .dst = 10, .len = 8, .off = -8, .group = BPFCANON_BASE32, .imm = -2, .pos = 32 },
+	{ .form = BPFCANON_EXIT, .len = 8, .group = BPFCANON_BASE32, .pos = 40 },
+};
+
+/* INT "int" of 32 bits, signed; STRUCT "s" of 4 bytes with the bit-field "int" of 3 bits at 5 */
+static const uint8_t file[] =
+	"\x9f\xeb\1\0\x18\0\0\0" "\0\0\0\0\x28\0\0\0\x28\0\0\0\7\0\0\0" "\1\0\0\0\0\0\0\1\4\0\0\0\x20\0\0\1"
+	"\5\0\0\0\1\0\0\x84\4\0\0\0" "\1\0\0\0\1\0\0\0\5\0\0\3" "\0int\0s";
+
+static const bpfcanon_btf_type types[] = {
+	{ .kind = BPFCANON_KIND_INT, .encoding = 1, .bits = 32, .name = 65, .name_len = 3, .size = 4 },
+	{ .kind = BPFCANON_KIND_STRUCT, .items = 1, .name = 69, .name_len = 1, .size = 4 },
+};
+static const bpfcanon_btf_item items[] = {
+	{ .name = 65, .name_len = 3, .target = 1, .bit_offset = 5, .width = 3, .kind = BPFCANON_MEMBER },
+};
+
+static bpfcanon_answer decoded(uint32_t types_count, size_t items_count)
+{
+	return (bpfcanon_answer){ .status = BPFCANON_DONE, .types = types_count, .written = items_count };
+}
+
+static bpfcanon_answer needs_records(uint32_t types_count, size_t items_count)
+{
+	return (bpfcanon_answer){ .status = BPFCANON_ROOM, .types = types_count, .needed = items_count };
+}
+
+static void instructions_are_decoded(void)
+{
+	bpfcanon_insn out[INSNS + 1];
+
+	memset(out, 0xaa, sizeof out);
+	CHECK(is(bpfcanon_insn_decode(BPFCANON_LITTLE, program, sizeof program, out, INSNS - 1), needs(INSNS)));
+	CHECK(is(bpfcanon_insn_decode(BPFCANON_LITTLE, program, sizeof program - 1, out, INSNS), fault(BPFCANON_INSN_TRUNCATED, 40)));
+	CHECK(is(bpfcanon_insn_decode(2, program, sizeof program, out, INSNS), ended(BPFCANON_ORDER)));
+	CHECK(is_filled(out, out + INSNS + 1));
+	CHECK(is(bpfcanon_insn_decode(BPFCANON_LITTLE, program, sizeof program, out, INSNS + 1), written(INSNS)));
+	CHECK(!memcmp(out, insns, sizeof insns) && is_filled(out + INSNS, out + INSNS + 1));
+	CHECK(bpfcanon_insn_number(&out[0]) == UINT64_C(0x1122334455667788));
+}
+
+/* The fields that aren't read have other values here. */
+static void instructions_are_encoded(void)
+{
+	bpfcanon_insn given[INSNS], other[INSNS];
+	uint8_t out[sizeof program + 1];
+
+	memcpy(given, insns, sizeof insns);
+	for (size_t k = 0; k < INSNS; k++) {
+		given[k].len = given[k].zero = k;
+		given[k].group = 0xffff;
+		given[k].pos = UINT64_MAX;
+	}
+	memset(out, 0xaa, sizeof out);
+	CHECK(is(bpfcanon_insn_encode(BPFCANON_LITTLE, given, INSNS, out, sizeof program - 1), needs(sizeof program)));
+	CHECK(is(bpfcanon_insn_encode(2, given, INSNS, out, sizeof out), ended(BPFCANON_ORDER)));
+	CHECK(is_filled(out, out + sizeof out));
+	CHECK(is(bpfcanon_insn_encode(BPFCANON_LITTLE, given, INSNS, out, sizeof out), written(sizeof program)));
+	CHECK(!memcmp(out, program, sizeof program) && is_filled(out + sizeof program, out + sizeof out));
+	CHECK(is(bpfcanon_insn_encode(BPFCANON_BIG, given, INSNS, out, sizeof out), written(sizeof program)));
+	CHECK(is(bpfcanon_insn_decode(BPFCANON_BIG, out, sizeof program, other, INSNS), written(INSNS)));
+	CHECK(!memcmp(other, insns, sizeof insns));
+}
+
+/* A change of a record, after which it is no instruction: a value that the field can't have, or a field that the form doesn't have. */
+static const struct {
+	size_t index;
+	bpfcanon_insn insn;
+} wrong[] = {
+	{ 0, { .form = 0 } },
+	{ 1, { .form = 20 } },
+	{ 2, { .form = BPFCANON_CALL_HELPER, .imm = 6, .dst = 1 } },
+	{ 2, { .form = BPFCANON_CALL_HELPER, .imm = 6, .next_imm = 1 } },
+	{ 1, { .form = BPFCANON_BRANCH, .op = 14, .bits = 64, .dst = 1, .src = 2, .by_reg = 1 } },
+	{ 1, { .form = BPFCANON_BRANCH, .op = BPFCANON_SGT, .bits = 16, .dst = 1, .src = 2, .by_reg = 1 } },
+	{ 1, { .form = BPFCANON_BRANCH, .op = BPFCANON_SGT, .bits = 64, .dst = 11, .src = 2, .by_reg = 1 } },
+	{ 1, { .form = BPFCANON_BRANCH, .op = BPFCANON_SGT, .bits = 64, .dst = 1, .src = 2, .by_reg = 2 } },
+	{ 1, { .form = BPFCANON_BRANCH, .op = BPFCANON_SGT, .bits = 64, .dst = 1, .src = 2, .by_reg = 0 } },
+	{ 1, { .form = BPFCANON_BRANCH, .op = BPFCANON_SGT, .bits = 64, .dst = 1, .src = 2, .by_reg = 1, .imm = 1 } },
+	{ 3, { .form = BPFCANON_STORE_IMM, .bits = 24, .dst = 10, .off = -8 } },
+	{ 3, { .form = BPFCANON_ATOMIC, .op = 2, .bits = 64, .dst = 10 } },
+	{ 3, { .form = BPFCANON_ATOMIC, .op = BPFCANON_XCHG, .bits = 16, .dst = 10 } },
+	{ 3, { .form = BPFCANON_ALU, .op = BPFCANON_SDIV + 16, .bits = 64 } },
+	{ 3, { .form = BPFCANON_MOVSX, .bits = 32, .from = 32 } },
+	{ 4, { .form = BPFCANON_EXIT, .off = 1 } },
+	{ 0, { .form = BPFCANON_WIDE, .op = 7, .bits = 64, .dst = 1 } },
+	{ 0, { .form = BPFCANON_WIDE, .op = BPFCANON_MAP_FD, .bits = 64, .dst = 1, .next_imm = 1 } },
+};
+
+static void the_first_record_that_is_no_instruction_is_reported(void)
+{
+	bpfcanon_insn given[INSNS];
+	uint8_t out[sizeof program];
+
+	for (size_t k = 0; k < COUNT(wrong); k++) {
+		memcpy(given, insns, sizeof insns);
+		given[wrong[k].index] = wrong[k].insn;
+		given[INSNS - 1].form = 20;
+		memset(out, 0xaa, sizeof out);
+		CHECK(is(bpfcanon_insn_encode(BPFCANON_LITTLE, given, INSNS, out, sizeof out), fault(0, wrong[k].index)));
+		CHECK(is_filled(out, out + sizeof out));
+	}
+}
+
+static void types_are_decoded(void)
+{
+	bpfcanon_btf_type out[3];
+	bpfcanon_btf_item out_items[2];
+
+	memset(out, 0xaa, sizeof out);
+	memset(out_items, 0xaa, sizeof out_items);
+	CHECK(is(bpfcanon_btf_decode(file, sizeof file, out, 1, out_items, 2), needs_records(2, 1)));
+	CHECK(is(bpfcanon_btf_decode(file, sizeof file, out, 3, out_items, 0), needs_records(2, 1)));
+	CHECK(is(bpfcanon_btf_decode(file, sizeof file - 1, out, 3, out_items, 2), fault(BPFCANON_BTF_FILE_LENGTH, sizeof file - 1)));
+	CHECK(is_filled(out, out + 3) && is_filled(out_items, out_items + 2));
+	CHECK(is(bpfcanon_btf_decode(file, sizeof file, out, 3, out_items, 2), decoded(2, 1)));
+	CHECK(!memcmp(out, types, sizeof types) && is_filled(out + 2, out + 3));
+	CHECK(!memcmp(out_items, items, sizeof items) && is_filled(out_items + 1, out_items + 2));
+}
+
+static void loops_go_over_types_and_items(void)
+{
+	const bpfcanon_btf_type *type;
+	const bpfcanon_btf_item *item;
+	char names[64] = "";
+
+	bpfcanon_each_type(type, types, COUNT(types)) {
+		strcat(names, bpfcanon_btf_name(file, type->name));
+		strcat(names, " ");
+		bpfcanon_each_item(item, type, items)
+			strcat(names, bpfcanon_btf_name(file, item->name));
+	}
+	CHECK(!strcmp(names, "int s int"));
+}
+
+/* Any other address than a multiple of 8 is refused before anything else, even with no room. */
+static void arrays_are_aligned(void)
+{
+	_Alignas(8) uint8_t bytes[4 * sizeof(bpfcanon_btf_type)];
+	bpfcanon_btf_item few[1];
+	uint8_t out[8];
+
+	memset(bytes, 0xaa, sizeof bytes);
+	memset(out, 0xaa, sizeof out);
+	for (size_t k = 1; k < 8; k++) {
+		void *odd = bytes + k;
+
+		CHECK(is(bpfcanon_insn_decode(2, program, sizeof program, odd, 1), ended(BPFCANON_ALIGNMENT)));
+		CHECK(is(bpfcanon_insn_encode(2, odd, 1, out, sizeof out), ended(BPFCANON_ALIGNMENT)));
+		CHECK(is(bpfcanon_btf_decode(file, 0, odd, 2, few, 1), ended(BPFCANON_ALIGNMENT)));
+		CHECK(is(bpfcanon_btf_decode(file, sizeof file, NULL, 0, odd, 0), ended(BPFCANON_ALIGNMENT)));
+	}
+	CHECK(is_filled(bytes, bytes + sizeof bytes) && is_filled(out, out + sizeof out));
+}
+
+/* Compiled programs in both byte orders: the same records, from which the same bytes are made. */
+static void programs_are_decoded_and_encoded(const char *folder, const char *little, const char *big)
+{
+	size_t len[2];
+	uint8_t *files[2] = { load(folder, little, &len[0]), load(folder, big, &len[1]) };
+	bpfcanon_insn *made[2];
+	bpfcanon_answer answers[2];
+
+	for (uint32_t order = 0; order < 2; order++) {
+		uint8_t *out = allocate(len[order]);
+
+		answers[order] = bpfcanon_insn_decode_new(order, files[order], len[order], &made[order]);
+		CHECK(answers[order].status == BPFCANON_DONE && answers[order].written > 10);
+		CHECK(is(bpfcanon_insn_encode(order, made[order], answers[order].written, out, len[order]), written(len[order])));
+		CHECK(!memcmp(out, files[order], len[order]));
+		free(out);
+		free(files[order]);
+	}
+	CHECK(is(answers[0], answers[1]) && !memcmp(made[0], made[1], answers[0].written * sizeof *made[0]));
+	bpfcanon_free(made[0]);
+	bpfcanon_free(made[1]);
+}
+
+_Static_assert(sizeof(bpfcanon_insn) == 32 && sizeof(bpfcanon_btf_type) == 40 && sizeof(bpfcanon_btf_item) == 40, "the sizes of records");
+
+int main(int argc, char **argv)
+{
+	if (argc != 2)
+		return 2;
+	instructions_are_decoded();
+	instructions_are_encoded();
+	the_first_record_that_is_no_instruction_is_reported();
+	types_are_decoded();
+	loops_go_over_types_and_items();
+	arrays_are_aligned();
+	programs_are_decoded_and_encoded(argv[1], "packet_filter.little.bin", "packet_filter.big.bin");
+	programs_are_decoded_and_encoded(argv[1], "hash_words.little.bin", "hash_words.big.bin");
+	return end("records");
+}
