@@ -174,10 +174,11 @@ class Library(unittest.TestCase):
 
     def test_numbers_are_those_of_the_header(self) -> None:
         header = (TOP / "capi" / "bpfcanon.h").read_text()
-        numbers = {name: int(number) for name, number in re.findall(r"^\tBPFCANON_(\w+) = (\d+)", header, re.MULTILINE)}
+        enums = re.findall(r"^enum bpfcanon_(?:order|status|\w+_cause|group) \{\n(.*?)^\};", header, re.MULTILINE | re.DOTALL)
+        numbers = {name: int(number) for name, number in re.findall(r"^\tBPFCANON_(\w+) = (\d+)", "".join(enums), re.MULTILINE)}
         kinds: list[tuple[str, Any]] = [("", Order), ("", bpfcanon.Group), ("INSN_", InsnCause), ("LINE_", LineCause), ("BTF_", BtfCause)]
         ours = {prefix + member.name: member.value for prefix, kind in kinds for member in kind}
-        statuses = ["DONE", "DIFFERENT", "FAULT", "FAULT_SECOND", "MEMORY", "ROOM", "ORDER"]
+        statuses = ["DONE", "DIFFERENT", "FAULT", "FAULT_SECOND", "MEMORY", "ROOM", "ORDER", "ALIGNMENT"]
         self.assertEqual(ours | {name: k for k, name in enumerate(statuses)}, numbers)
 
 
