@@ -2,8 +2,8 @@
 
     records.py LIBRARY
 
-The record of an instruction is made of the bytes in its row, by the tables of docs/FORMATS.md (tests/insn_reference.py), and those of
-types are made of the type listing in their row. Encoded again, instructions have the bytes of the row in each byte order.
+The record of an instruction is made of the bytes in its row, by the tables of docs/FORMATS.md (tests/reference/insn_reference.py), and
+those of types are made of the type listing in their row. Encoded again, instructions have the bytes of the row in each byte order.
 """
 
 import ctypes
@@ -11,9 +11,10 @@ import re
 import sys
 from typing import NamedTuple
 
-import insn_reference
-from program import Report
-from vectors import GROUPS, data, rows, text
+from tests.process.vectors import GROUPS
+from tests.program import Report
+from tests.reference import insn_reference
+from tests.vector_rows import data, rows, text
 
 FORMS = ["Alu", "Movsx", "Neg", "Swap", "Jump", "JumpLong", "Branch", "CallHelper", "CallLocal", "CallBtf", "Exit", "Load", "LoadSigned"]
 FORMS += ["StoreImm", "StoreReg", "Atomic", "Wide", "PacketAbs", "PacketInd"]
