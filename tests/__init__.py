@@ -6,6 +6,7 @@
     reference/    modules, and no tests: readers of the tables of docs/FORMATS.md and docs/FAULTS.md, and checkers made of them
     of_tests/     tests of the tests: that they notice what is wrong
     c_interface/  the C library
+    objects/      compare keys of object files with what libbpf loads, and those of Go with those of Python
 
 A test is run as a module from the top of the repository: python3 -m tests.process.limits PROGRAM.
 """

@@ -1,4 +1,5 @@
--- What is left of a type section while its records are decoded. Only private contracts cite this file.
+-- Only private contracts cite this file.
+-- What is left of a type section while its records are decoded.
 use Rattle.std.specs.Prelude.{◌≡◌, ◌<◌, ◌+◌, ◌*◌, ◌^◌, ◌++◌, ℕ, List, length, take, drop, slice_index}
 use Rattle.std.specs.List.{AllZip, concat}
 use Rattle.bpf_words.specs.{declared.Order.Order}

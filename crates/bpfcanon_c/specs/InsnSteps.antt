@@ -1,4 +1,5 @@
--- What is known of instructions and their records while they are decoded or encoded. Only private contracts cite this file.
+-- Only private contracts cite this file.
+-- What is known of instructions and their records while they are decoded or encoded.
 use Rattle.std.specs.Prelude.{◌≡◌, ℕ, List, All, length, take}
 use Rattle.std.specs.List.{AllZip}
 use Rattle.bpf_words.specs.declared.Order.{Order, TheVariants.Little}
