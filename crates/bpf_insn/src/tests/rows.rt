@@ -69,11 +69,11 @@ fn is_right(alloc: Global, order: Order, row: &InsnRow) -> Result<bool, Fail> {
 
 #[test]
 fn instructions_are_read_and_written_in_both_orders(rt: HostRuntime) -> Result<(), Fail> {
-    let rows = arithmetic::ARITHMETIC
-        .iter()
-        .chain(jumps::JUMPS)
-        .chain(load_store::LOAD_STORE);
-    for row in rows {
+    let rows = arithmetic::arithmetic()
+        .into_iter()
+        .chain(jumps::jumps())
+        .chain(load_store::load_store());
+    for row in rows.flatten() {
         for order in [Order::Little, Order::Big] {
             let is_right = is_right(rt.alloc(), order, row)?;
             equal(&rt, &is_right, &true, &(order, row));
@@ -132,11 +132,11 @@ fn has_fault(alloc: Global, order: Order, row: &FaultRow) -> Result<bool, AllocE
 
 #[test]
 fn first_faults_are_found_in_both_orders(rt: HostRuntime) -> Result<(), Fail> {
-    let rows = faults::FIRST_FIELDS
-        .iter()
-        .chain(faults::MIDDLE_FIELDS)
-        .chain(faults::LAST_FIELDS);
-    for row in rows {
+    let rows = faults::first_fields()
+        .into_iter()
+        .chain(faults::middle_fields())
+        .chain(faults::last_fields());
+    for row in rows.flatten() {
         for order in [Order::Little, Order::Big] {
             let has_fault = has_fault(rt.alloc(), order, row)?;
             equal(&rt, &has_fault, &true, &(order, row));
@@ -259,14 +259,10 @@ const CAUSES: [(SlotCause, &str, &str); 8] = [
 #[test]
 fn causes_and_errors_have_these_strings(rt: HostRuntime) -> Result<(), Fail> {
     for (index, (cause, name, sentence)) in CAUSES.iter().enumerate() {
-        let shown = format!(in rt.alloc();
-            "{} {} {cause} {}",
-            *cause as usize,
-            cause.name(),
-            cause.describe()
-        )?;
-        let wanted = format!(in rt.alloc(); "{} {name} {name} {sentence}", index + 1)?;
-        equal(&rt, &shown, &wanted, cause);
+        let shown = format!(in rt.alloc(); "{cause}")?;
+        let found = (*cause as usize, cause.name(), cause.describe());
+        equal(&rt, &found, &(index + 1, *name, *sentence), cause);
+        equal(&rt, &shown.as_str(), name, cause);
     }
     let fault = InsnError::Fault(SlotFault {
         pos: 0,

@@ -3,7 +3,8 @@
 use super::InsnRow;
 use crate::Group;
 
-pub(super) static ARITHMETIC: &[InsnRow] = &[
+#[rattlefmt::skip]
+pub(super) fn arithmetic() -> [&'static [InsnRow]; 8] {[&[
     row!(b"\x07\x01\0\0\xfe\xff\xff\xff" => "Alu { width: W64, op: Add, dst: Reg { number: 1 }, arg: Imm(-2) }", Base64),
     row!(b"\x0f\x72\0\0\0\0\0\0" => "Alu { width: W64, op: Add, dst: Reg { number: 2 }, arg: Reg(Reg { number: 7 }) }", Base64),
     row!(b"\x04\x03\0\0\0\0\0\x80" => "Alu { width: W32, op: Add, dst: Reg { number: 3 }, arg: Imm(-2147483648) }", Base32),
@@ -14,6 +15,7 @@ pub(super) static ARITHMETIC: &[InsnRow] = &[
     row!(b"\x1c\x38\0\0\0\0\0\0" => "Alu { width: W32, op: Sub, dst: Reg { number: 8 }, arg: Reg(Reg { number: 3 }) }", Base32),
     row!(b"\x27\x09\0\0\xff\xff\xff\x7f" => "Alu { width: W64, op: Mul, dst: Reg { number: 9 }, arg: Imm(2147483647) }", Divmul64),
     row!(b"\x2f\x9a\0\0\0\0\0\0" => "Alu { width: W64, op: Mul, dst: Reg { number: 10 }, arg: Reg(Reg { number: 9 }) }", Divmul64),
+], &[
     row!(b"\x24\0\0\0\x03\x02\x01\0" => "Alu { width: W32, op: Mul, dst: Reg { number: 0 }, arg: Imm(66051) }", Divmul32),
     row!(b"\x2c\x41\0\0\0\0\0\0" => "Alu { width: W32, op: Mul, dst: Reg { number: 1 }, arg: Reg(Reg { number: 4 }) }", Divmul32),
     row!(b"\x37\x02\0\0\xff\xff\xff\xff" => "Alu { width: W64, op: Div, dst: Reg { number: 2 }, arg: Imm(-1) }", Divmul64),
@@ -23,6 +25,7 @@ pub(super) static ARITHMETIC: &[InsnRow] = &[
     row!(b"\x37\x06\x01\0\0\0\0\x80" => "Alu { width: W64, op: Sdiv, dst: Reg { number: 6 }, arg: Imm(-2147483648) }", Divmul64),
     row!(b"\x3f\x07\x01\0\0\0\0\0" => "Alu { width: W64, op: Sdiv, dst: Reg { number: 7 }, arg: Reg(Reg { number: 0 }) }", Divmul64),
     row!(b"\x34\x08\x01\0\0\0\0\0" => "Alu { width: W32, op: Sdiv, dst: Reg { number: 8 }, arg: Imm(0) }", Divmul32),
+], &[
     row!(b"\x3c\x69\x01\0\0\0\0\0" => "Alu { width: W32, op: Sdiv, dst: Reg { number: 9 }, arg: Reg(Reg { number: 6 }) }", Divmul32),
     row!(b"\x47\x0a\0\0\x05\0\0\0" => "Alu { width: W64, op: Or, dst: Reg { number: 10 }, arg: Imm(5) }", Base64),
     row!(b"\x4f\x10\0\0\0\0\0\0" => "Alu { width: W64, op: Or, dst: Reg { number: 0 }, arg: Reg(Reg { number: 1 }) }", Base64),
@@ -33,6 +36,7 @@ pub(super) static ARITHMETIC: &[InsnRow] = &[
     row!(b"\x54\x05\0\0\xff\xff\xff\xff" => "Alu { width: W32, op: And, dst: Reg { number: 5 }, arg: Imm(-1) }", Base32),
     row!(b"\x5c\x86\0\0\0\0\0\0" => "Alu { width: W32, op: And, dst: Reg { number: 6 }, arg: Reg(Reg { number: 8 }) }", Base32),
     row!(b"\x67\x07\0\0\xfe\xff\xff\xff" => "Alu { width: W64, op: Lsh, dst: Reg { number: 7 }, arg: Imm(-2) }", Base64),
+], &[
     row!(b"\x6f\x38\0\0\0\0\0\0" => "Alu { width: W64, op: Lsh, dst: Reg { number: 8 }, arg: Reg(Reg { number: 3 }) }", Base64),
     row!(b"\x64\x09\0\0\0\0\0\x80" => "Alu { width: W32, op: Lsh, dst: Reg { number: 9 }, arg: Imm(-2147483648) }", Base32),
     row!(b"\x6c\x9a\0\0\0\0\0\0" => "Alu { width: W32, op: Lsh, dst: Reg { number: 10 }, arg: Reg(Reg { number: 9 }) }", Base32),
@@ -43,6 +47,7 @@ pub(super) static ARITHMETIC: &[InsnRow] = &[
     row!(b"\x97\x04\0\0\xff\xff\xff\x7f" => "Alu { width: W64, op: Mod, dst: Reg { number: 4 }, arg: Imm(2147483647) }", Divmul64),
     row!(b"\x9f\x55\0\0\0\0\0\0" => "Alu { width: W64, op: Mod, dst: Reg { number: 5 }, arg: Reg(Reg { number: 5 }) }", Divmul64),
     row!(b"\x94\x06\0\0\x03\x02\x01\0" => "Alu { width: W32, op: Mod, dst: Reg { number: 6 }, arg: Imm(66051) }", Divmul32),
+], &[
     row!(b"\x9c\x07\0\0\0\0\0\0" => "Alu { width: W32, op: Mod, dst: Reg { number: 7 }, arg: Reg(Reg { number: 0 }) }", Divmul32),
     row!(b"\x97\x08\x01\0\xff\xff\xff\xff" => "Alu { width: W64, op: Smod, dst: Reg { number: 8 }, arg: Imm(-1) }", Divmul64),
     row!(b"\x9f\x69\x01\0\0\0\0\0" => "Alu { width: W64, op: Smod, dst: Reg { number: 9 }, arg: Reg(Reg { number: 6 }) }", Divmul64),
@@ -52,6 +57,7 @@ pub(super) static ARITHMETIC: &[InsnRow] = &[
     row!(b"\xaf\x72\0\0\0\0\0\0" => "Alu { width: W64, op: Xor, dst: Reg { number: 2 }, arg: Reg(Reg { number: 7 }) }", Base64),
     row!(b"\xa4\x03\0\0\0\0\0\0" => "Alu { width: W32, op: Xor, dst: Reg { number: 3 }, arg: Imm(0) }", Base32),
     row!(b"\xac\x24\0\0\0\0\0\0" => "Alu { width: W32, op: Xor, dst: Reg { number: 4 }, arg: Reg(Reg { number: 2 }) }", Base32),
+], &[
     row!(b"\xb7\x05\0\0\x05\0\0\0" => "Alu { width: W64, op: Mov, dst: Reg { number: 5 }, arg: Imm(5) }", Base64),
     row!(b"\xb7\0\0\0\xfe\xff\xff\xff" => "Alu { width: W64, op: Mov, dst: Reg { number: 0 }, arg: Imm(-2) }", Base64),
     row!(b"\xb4\x03\0\0\0\0\0\x80" => "Alu { width: W32, op: Mov, dst: Reg { number: 3 }, arg: Imm(-2147483648) }", Base32),
@@ -62,6 +68,7 @@ pub(super) static ARITHMETIC: &[InsnRow] = &[
     row!(b"\xcf\x9a\0\0\0\0\0\0" => "Alu { width: W64, op: Arsh, dst: Reg { number: 10 }, arg: Reg(Reg { number: 9 }) }", Base64),
     row!(b"\xc4\0\0\0\xff\xff\xff\xff" => "Alu { width: W32, op: Arsh, dst: Reg { number: 0 }, arg: Imm(-1) }", Base32),
     row!(b"\xcc\x41\0\0\0\0\0\0" => "Alu { width: W32, op: Arsh, dst: Reg { number: 1 }, arg: Reg(Reg { number: 4 }) }", Base32),
+], &[
     row!(b"\xbc\x72\x08\0\0\0\0\0" => "Movsx { form: W32From8, dst: Reg { number: 2 }, src: Reg { number: 7 } }", Base32),
     row!(b"\xbc\xa3\x10\0\0\0\0\0" => "Movsx { form: W32From16, dst: Reg { number: 3 }, src: Reg { number: 10 } }", Base32),
     row!(b"\xbf\x24\x08\0\0\0\0\0" => "Movsx { form: W64From8, dst: Reg { number: 4 }, src: Reg { number: 2 } }", Base64),
@@ -71,6 +78,7 @@ pub(super) static ARITHMETIC: &[InsnRow] = &[
     row!(b"\x87\x07\0\0\0\0\0\0" => "Neg { width: W64, dst: Reg { number: 7 } }", Base64),
     row!(b"\x84\x08\0\0\0\0\0\0" => "Neg { width: W32, dst: Reg { number: 8 } }", Base32),
     row!(b"\xd4\x09\0\0\x10\0\0\0" => "Swap { kind: Le, bits: B16, dst: Reg { number: 9 } }", Base32),
+], &[
     row!(b"\xd4\x0a\0\0\x20\0\0\0" => "Swap { kind: Le, bits: B32, dst: Reg { number: 10 } }", Base32),
     row!(b"\xd4\0\0\0\x40\0\0\0" => "Swap { kind: Le, bits: B64, dst: Reg { number: 0 } }", Base64),
     row!(b"\xdc\x01\0\0\x10\0\0\0" => "Swap { kind: Be, bits: B16, dst: Reg { number: 1 } }", Base32),
@@ -81,4 +89,4 @@ pub(super) static ARITHMETIC: &[InsnRow] = &[
     row!(b"\xd7\x06\0\0\x40\0\0\0" => "Swap { kind: Swap, bits: B64, dst: Reg { number: 6 } }", Base64),
     row!(b"\xd7\x01\0\0\x20\0\0\0" => "Swap { kind: Swap, bits: B32, dst: Reg { number: 1 } }", Base32),
     row!(b"\xd7\x01\0\0\x40\0\0\0" => "Swap { kind: Swap, bits: B64, dst: Reg { number: 1 } }", Base64),
-];
+]]}
