@@ -7,6 +7,7 @@ use crate::{
     Group, GroupSet, InsnError, Order, SlotCause, SlotFault, decode_insns, groups_in, groups_of,
 };
 use std::alloc::{AllocError, Global};
+use std::process::Abort;
 use std::test::Fail;
 
 /// The little-endian bytes of the instructions of a file, and the groups of the file (RFC 9669 section
@@ -132,16 +133,23 @@ fn groups_of_list(
     }
 }
 
+/// Checks the groups of files in both orders.
+fn check_files(rt: &impl Abort, alloc: Global, rows: &[FileRow]) -> Result<(), Fail> {
+    for row in rows {
+        for order in [Order::Little, Order::Big] {
+            let bytes = file_of(alloc, order, row)?;
+            let is_found = is_answer(groups_in(order, &bytes), row);
+            let is_listed = is_answer(groups_of_list(alloc, order, &bytes)?, row);
+            equal(rt, &(is_found, is_listed), &(true, true), &(order, row));
+        }
+    }
+    Ok(())
+}
+
 #[test]
 fn groups_of_files_are_found_in_both_orders(rt: HostRuntime) -> Result<(), Fail> {
-    let rows = [BASE32, BASE64, OTHER_GROUPS, MIXED, FAULTY];
-    for row in rows.into_iter().flatten() {
-        for order in [Order::Little, Order::Big] {
-            let bytes = file_of(rt.alloc(), order, row)?;
-            let is_found = is_answer(groups_in(order, &bytes), row);
-            let is_listed = is_answer(groups_of_list(rt.alloc(), order, &bytes)?, row);
-            equal(&rt, &(is_found, is_listed), &(true, true), &(order, row));
-        }
+    for rows in [BASE32, BASE64, OTHER_GROUPS, MIXED, FAULTY] {
+        check_files(&rt, rt.alloc(), rows)?;
     }
     Ok(())
 }

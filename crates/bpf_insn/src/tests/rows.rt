@@ -6,6 +6,7 @@ use crate::{
     insn_bytes, insn_front, insn_len, read_insn,
 };
 use std::alloc::{AllocError, Global};
+use std::process::Abort;
 use std::test::Fail;
 
 /// The little-endian bytes of an instruction, the instruction by its `Debug` text, and its group. A static can't hold
@@ -67,17 +68,27 @@ fn is_right(alloc: Global, order: Order, row: &InsnRow) -> Result<bool, Fail> {
     Ok(is_read && is_spelled && is_filled && has_len && group_of(insn) == row.group)
 }
 
+/// Checks rows in both orders.
+fn check_rows(rt: &impl Abort, alloc: Global, rows: &[InsnRow]) -> Result<(), Fail> {
+    for row in rows {
+        for order in [Order::Little, Order::Big] {
+            let is_right = is_right(alloc, order, row)?;
+            equal(rt, &is_right, &true, &(order, row));
+        }
+    }
+    Ok(())
+}
+
 #[test]
 fn instructions_are_read_and_written_in_both_orders(rt: HostRuntime) -> Result<(), Fail> {
-    let rows = arithmetic::arithmetic()
-        .into_iter()
-        .chain(jumps::jumps())
-        .chain(load_store::load_store());
-    for row in rows.flatten() {
-        for order in [Order::Little, Order::Big] {
-            let is_right = is_right(rt.alloc(), order, row)?;
-            equal(&rt, &is_right, &true, &(order, row));
-        }
+    for rows in arithmetic::arithmetic() {
+        check_rows(&rt, rt.alloc(), rows)?;
+    }
+    for rows in jumps::jumps() {
+        check_rows(&rt, rt.alloc(), rows)?;
+    }
+    for rows in load_store::load_store() {
+        check_rows(&rt, rt.alloc(), rows)?;
     }
     Ok(())
 }
@@ -130,17 +141,27 @@ fn has_fault(alloc: Global, order: Order, row: &FaultRow) -> Result<bool, AllocE
     Ok(read_insn(order, &bytes) == Err(fault) && insn_len(order, &bytes) == Err(fault))
 }
 
+/// Checks the faults of rows in both orders.
+fn check_faults(rt: &impl Abort, alloc: Global, rows: &[FaultRow]) -> Result<(), Fail> {
+    for row in rows {
+        for order in [Order::Little, Order::Big] {
+            let has_fault = has_fault(alloc, order, row)?;
+            equal(rt, &has_fault, &true, &(order, row));
+        }
+    }
+    Ok(())
+}
+
 #[test]
 fn first_faults_are_found_in_both_orders(rt: HostRuntime) -> Result<(), Fail> {
-    let rows = faults::first_fields()
-        .into_iter()
-        .chain(faults::middle_fields())
-        .chain(faults::last_fields());
-    for row in rows.flatten() {
-        for order in [Order::Little, Order::Big] {
-            let has_fault = has_fault(rt.alloc(), order, row)?;
-            equal(&rt, &has_fault, &true, &(order, row));
-        }
+    for rows in faults::first_fields() {
+        check_faults(&rt, rt.alloc(), rows)?;
+    }
+    for rows in faults::middle_fields() {
+        check_faults(&rt, rt.alloc(), rows)?;
+    }
+    for rows in faults::last_fields() {
+        check_faults(&rt, rt.alloc(), rows)?;
     }
     Ok(())
 }
