@@ -17,20 +17,21 @@ pub struct Sample {
 
 /// A line of each command, and another with the other byte order if the command accepts `--to`.
 #[rattlefmt::skip]
-pub static SAMPLES: [Sample; 12] = [
+pub fn samples() -> [&'static [Sample]; 2] {[&[
     Sample { line: "insn-canon", input: b"\x37\x01\x01\0\x03\0\0\0\xdb\x21\xf8\xff\xf1\0\0\0\x95\0\0\0\0\0\0\0", output: b"\x37\x01\x01\0\x03\0\0\0\xdb\x21\xf8\xff\xf1\0\0\0\x95\0\0\0\0\0\0\0" },
     Sample { line: "insn-canon --order big", input: b"\xbf\x12\0\0\0\0\0\0", output: b"\xbf\x21\0\0\0\0\0\0" },
     Sample { line: "insn-show", input: b"\x37\x01\x01\0\x03\0\0\0\xdb\x21\xf8\xff\xf1\0\0\0\x95\0\0\0\0\0\0\0", output: b"sdiv r1, 3\ncmpxchg [r1-8], r2\nexit\n" },
     Sample { line: "insn-show --order big", input: b"\xbf\x12\0\0\0\0\0\0", output: b"mov r1, r2\n" },
     Sample { line: "insn-read", input: b"sdiv r1, 3\ncmpxchg [r1-8], r2\nexit\n", output: b"\x37\x01\x01\0\x03\0\0\0\xdb\x21\xf8\xff\xf1\0\0\0\x95\0\0\0\0\0\0\0" },
     Sample { line: "insn-groups", input: b"\x37\x01\x01\0\x03\0\0\0\xdb\x21\xf8\xff\xf1\0\0\0\x95\0\0\0\0\0\0\0", output: b"base32\natomic32\natomic64\ndivmul32\ndivmul64\n" },
+], &[
     Sample { line: "insn-same --split 0", input: b"", output: b"same\n" },
     Sample { line: "btf-canon", input: BIG_INT, output: INT },
     Sample { line: "btf-canon --to big", input: INT, output: BIG_INT },
     Sample { line: "btf-show", input: STRUCT, output: STRUCT_TEXT },
     Sample { line: "btf-check", input: NO_TYPES, output: b"ok 0 types\n" },
     Sample { line: "btf-same --split 25", input: b"\x9f\xeb\x01\0\x18\0\0\0\0\0\0\0\0\0\0\0\0\0\0\0\x01\0\0\0\0\x9f\xeb\x01\0\x18\0\0\0\0\0\0\0\0\0\0\0\0\0\0\0\x01\0\0\0\0", output: b"same\n" },
-];
+]]}
 
 /// How much of the output is written before read number `fuse` fails, if each read returns one byte.
 fn written_before(sample: Sample, fuse: u64) -> usize {
@@ -86,9 +87,9 @@ fn check_failed_writes(rt: &impl Abort, alloc: Global, sample: Sample) -> Result
 
 #[test]
 fn each_read_and_each_write_fails(rt: HostRuntime) -> Result<(), Fail> {
-    for sample in SAMPLES {
-        check_failed_reads(&rt, rt.alloc(), sample)?;
-        check_failed_writes(&rt, rt.alloc(), sample)?;
+    for sample in samples().into_iter().flatten() {
+        check_failed_reads(&rt, rt.alloc(), *sample)?;
+        check_failed_writes(&rt, rt.alloc(), *sample)?;
     }
     Ok(())
 }

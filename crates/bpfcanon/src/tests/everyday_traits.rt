@@ -1,5 +1,6 @@
 //! The traits and conversions that a Rust program expects of the libraries, each used once.
 
+use super::expect::{equal, equal_bytes, holds};
 use bpf_canon::{
     ByteSource, InsnFeed, MemSink, ReadError, ReaderSource, RunCause, SideError, WriterSink,
     put_all,
@@ -11,6 +12,8 @@ use btf_types::{Btf, BtfError, BtfView, Head, Item, TypeTable};
 use std::alloc::{AllocError, AllocFailed, Global};
 use std::collections::{BTreeSet, HashSet};
 use std::error::Error;
+use std::fmt::Debug;
+use std::process::Abort;
 use std::test::Fail;
 
 /// struct point { int x; int y; }, in a big-endian file.
@@ -93,16 +96,25 @@ fn last_of(alloc: Global, file: &[u8]) -> Result<Option<(Head<'_>, Item<'_>)>, B
 
 #[test]
 fn errors_are_made_by_the_question_mark(rt: HostRuntime) -> Result<(), Fail> {
-    assert!(rt; failed(SLOT) == Err(InsnError::Fault(SLOT)));
-    assert!(rt; failed(BTF) == Err(BtfError::Fault(BTF)));
-    assert!(rt; failed(LINE) == Err(ListError::Fault(LINE)));
-    assert!(rt; failed(NameCause::Utf8) == Err(BtfCause::NameUtf8));
-    assert!(rt; byte_on_heap::<InsnError>(rt.alloc()).is_ok());
-    assert!(rt; byte_on_heap::<BtfError>(rt.alloc()).is_ok());
-    assert!(rt; byte_on_heap::<ListError>(rt.alloc()).is_ok());
-    assert!(rt; byte_on_heap::<ReadError>(rt.alloc()).is_ok());
-    assert!(rt; byte_on_heap::<RunCause<SlotFault>>(rt.alloc()).is_ok());
-    assert!(rt; byte_on_heap::<SideError<SlotFault>>(rt.alloc()).is_ok());
+    let insn = failed(SLOT) == Err(InsnError::Fault(SLOT));
+    let btf = failed(BTF) == Err(BtfError::Fault(BTF));
+    let line = failed(LINE) == Err(ListError::Fault(LINE));
+    let name = failed(NameCause::Utf8) == Err(BtfCause::NameUtf8);
+    equal(
+        &rt,
+        &(insn, btf, line, name),
+        &(true, true, true, true),
+        &"faults",
+    );
+    let made = [
+        byte_on_heap::<InsnError>(rt.alloc()).is_ok(),
+        byte_on_heap::<BtfError>(rt.alloc()).is_ok(),
+        byte_on_heap::<ListError>(rt.alloc()).is_ok(),
+        byte_on_heap::<ReadError>(rt.alloc()).is_ok(),
+        byte_on_heap::<RunCause<SlotFault>>(rt.alloc()).is_ok(),
+        byte_on_heap::<SideError<SlotFault>>(rt.alloc()).is_ok(),
+    ];
+    equal(&rt, &made, &[true; 6], &"errors of the allocator");
     Ok(())
 }
 
@@ -113,8 +125,14 @@ fn faults_are_errors_with_a_text(rt: HostRuntime) -> Result<(), Fail> {
     push_error(rt.alloc(), &mut text, &BTF)?;
     push_error(rt.alloc(), &mut text, &LINE)?;
     push_error(rt.alloc(), &mut text, &NameCause::Utf8)?;
-    assert_eq!(rt; text.as_str(), "9 Src, 36 Magic, line 2 Word, Utf8, ");
-    assert_eq!(rt; NameCause::Utf8.describe(), BtfCause::NameUtf8.describe());
+    equal(
+        &rt,
+        &text.as_str(),
+        &"9 Src, 36 Magic, line 2 Word, Utf8, ",
+        &"faults",
+    );
+    let (name, btf) = (NameCause::Utf8.describe(), BtfCause::NameUtf8.describe());
+    equal(&rt, &name, &btf, &"sentences");
     Ok(())
 }
 
@@ -123,14 +141,19 @@ fn values_have_names_and_an_order(rt: HostRuntime) -> Result<(), Fail> {
     let order: Order = "big".parse()?;
     let reg = Reg::try_from(3)?;
     let text = format!(in rt.alloc(); "{order} {reg} {}", Group::Packet)?;
-    assert_eq!(rt; text.as_str(), "big r3 packet");
+    equal(&rt, &text.as_str(), &"big r3 packet", &"names");
     let mut ordered = BTreeSet::new(rt.alloc());
     ordered.insert(SlotCause::Src)?;
     ordered.insert(SlotCause::Opcode)?;
-    assert!(rt; ordered.first() == Some(&SlotCause::Opcode));
+    equal(
+        &rt,
+        &ordered.first(),
+        &Some(&SlotCause::Opcode),
+        &"the first cause",
+    );
     let mut hashed = HashSet::new(rt.alloc());
     hashed.insert(BtfCause::Magic)?;
-    assert!(rt; hashed.contains(&BtfCause::Magic));
+    holds(&rt, hashed.contains(&BtfCause::Magic), &"a cause in a set");
     Ok(())
 }
 
@@ -141,26 +164,61 @@ fn sets_of_groups_are_collections(rt: HostRuntime) -> Result<(), Fail> {
     for group in GroupSet::from(groups) {
         names.push_str(&format!(in rt.alloc(); "{group} ")?)?;
     }
-    assert_eq!(rt; names.as_str(), "atomic32 atomic64 packet ");
-    assert!(rt; GroupSet::default().is_empty());
+    equal(
+        &rt,
+        &names.as_str(),
+        &"atomic32 atomic64 packet ",
+        &"groups",
+    );
+    holds(&rt, GroupSet::default().is_empty(), &"no groups");
+    Ok(())
+}
+
+/// How many items each type of a view has.
+fn lens_of_view(alloc: Global, view: &BtfView<'_>) -> Result<Vec<usize>, AllocError> {
+    let mut lens = Vec::new(alloc);
+    for (id, _) in view {
+        lens.push(view.items(id).len())?;
+    }
+    Ok(lens)
+}
+
+/// Likewise of an owned table.
+fn lens_of_types(alloc: Global, types: &Btf) -> Result<Vec<usize>, AllocError> {
+    let mut lens = Vec::new(alloc);
+    for (id, _) in types {
+        lens.push(types.items(id).len())?;
+    }
+    Ok(lens)
+}
+
+#[test]
+fn views_are_collections(rt: HostRuntime) -> Result<(), Fail> {
+    let view = BtfView::parse(rt.alloc(), POINT)?;
+    let lens = lens_of_view(rt.alloc(), &view)?;
+    equal(&rt, &lens.as_slice(), &&[0, 2][..], &"numbers of items");
+    equal(&rt, &count_of(&&view), &2, &"the number of types");
     Ok(())
 }
 
 #[test]
-fn tables_are_collections(rt: HostRuntime) -> Result<(), Fail> {
-    let view = BtfView::parse(rt.alloc(), POINT)?;
+fn owned_tables_are_collections(rt: HostRuntime) -> Result<(), Fail> {
     let types = Btf::parse(rt.alloc(), POINT)?;
-    let mut lens = Vec::new(rt.alloc());
-    for (id, _) in &view {
-        lens.push(view.items(id).len())?;
-    }
-    for (id, _) in &types {
-        lens.push(types.items(id).len())?;
-    }
-    assert_eq!(rt; lens.as_slice(), &[0, 2, 0, 2][..]);
-    assert!(rt; types.items(2).next_back() == Some(POINT_Y));
-    assert!(rt; count_of(&&view) == 2);
-    assert!(rt; last_of(rt.alloc(), POINT)? == Some((POINT_HEAD, POINT_Y)));
+    let lens = lens_of_types(rt.alloc(), &types)?;
+    equal(&rt, &lens.as_slice(), &&[0, 2][..], &"numbers of items");
+    equal(
+        &rt,
+        &types.items(2).next_back(),
+        &Some(POINT_Y),
+        &"the last item",
+    );
+    Ok(())
+}
+
+#[test]
+fn heads_and_items_outlive_their_view(rt: HostRuntime) -> Result<(), Fail> {
+    let last = last_of(rt.alloc(), POINT)?;
+    equal(&rt, &last, &Some((POINT_HEAD, POINT_Y)), &"the last type");
     Ok(())
 }
 
@@ -168,34 +226,61 @@ fn tables_are_collections(rt: HostRuntime) -> Result<(), Fail> {
 fn records_are_read_from_both_ends(rt: HostRuntime) -> Result<(), Fail> {
     let types = BtfView::parse(rt.alloc(), POINT)?;
     let mut records = types.records();
-    assert!(rt; records.len() == 2);
-    assert!(rt; records.next_back() == Some((2, POINT_HEAD)));
-    assert!(rt; records.next().is_some());
-    for _ in 0..2 {
-        assert!(rt; records.next().is_none());
+    equal(&rt, &records.len(), &2, &"the number of records");
+    equal(
+        &rt,
+        &records.next_back(),
+        &Some((2, POINT_HEAD)),
+        &"the last record",
+    );
+    for is_left in [true, false, false] {
+        equal(&rt, &records.next().is_some(), &is_left, &"the next record");
     }
     Ok(())
 }
 
+/// Compares the text of a value by `Debug`.
+fn check_shown(
+    rt: &impl Abort,
+    alloc: Global,
+    value: &impl Debug,
+    shown: &str,
+) -> Result<(), Fail> {
+    let text = format!(in alloc; "{value:?}")?;
+    equal(rt, &text.as_str(), &shown, &"a value by Debug");
+    Ok(())
+}
+
 #[test]
-fn tables_and_devices_are_shown(rt: HostRuntime) -> Result<(), Fail> {
+fn views_are_shown(rt: HostRuntime) -> Result<(), Fail> {
     let view = BtfView::parse(rt.alloc(), POINT)?;
+    check_shown(&rt, rt.alloc(), &view, "BtfView { count: 2, .. }")?;
+    check_shown(&rt, rt.alloc(), &view.records(), "Records { left: 2 }")
+}
+
+#[test]
+fn owned_tables_are_shown(rt: HostRuntime) -> Result<(), Fail> {
     let types = Btf::parse(rt.alloc(), POINT)?;
-    let (records, items) = (view.records(), types.items(2));
-    let text = format!(in rt.alloc(); "{view:?} {types:?} {records:?} {items:?}")?;
-    let shown =
-        "BtfView { count: 2, .. } Btf { count: 2, .. } Records { left: 2 } Items { left: 2 }";
-    assert_eq!(rt; text.as_str(), shown);
+    check_shown(&rt, rt.alloc(), &types, "Btf { count: 2, .. }")?;
+    check_shown(&rt, rt.alloc(), &types.items(2), "Items { left: 2 }")
+}
+
+#[test]
+fn devices_are_shown(rt: HostRuntime) -> Result<(), Fail> {
     let mut out = Vec::new(rt.alloc());
     let sink = MemSink::new(&mut out, 1, None);
+    let shown = "MemSink { len: 0, failed_writes: 0, .. }";
+    check_shown(&rt, rt.alloc(), &sink, shown)?;
     let source = ReaderSource::new(&b"a"[..]);
-    let text = format!(in rt.alloc(); "{sink:?} {source:?}")?;
-    let shown =
-        "MemSink { len: 0, failed_writes: 0, .. } ReaderSource { reader: [97], failed_reads: 0 }";
-    assert_eq!(rt; text.as_str(), shown);
+    let shown = "ReaderSource { reader: [97], failed_reads: 0 }";
+    check_shown(&rt, rt.alloc(), &source, shown)?;
     let feed = InsnFeed::new(Order::Little, Order::Big);
     let text = format!(in rt.alloc(); "{feed:?}")?;
-    assert!(rt; text.starts_with("InsnFeed { order: Little, to: Big, "));
+    holds(
+        &rt,
+        text.starts_with("InsnFeed { order: Little, to: Big, "),
+        &"a feed",
+    );
     Ok(())
 }
 
@@ -206,13 +291,10 @@ fn a_feed_goes_back(rt: HostRuntime) -> Result<(), Fail> {
     let mut feed = InsnFeed::new(Order::Little, Order::Little);
     feed.feed(&MOV_EXIT[..5], &mut out)?;
     let mut tried = feed.clone()?;
-    assert!(rt;
-        tried
-            .feed(b"\0\0\0\xff\0\0\0\0\0\0\0", &mut Vec::new(rt.alloc()))
-            .is_err()
-    );
+    let faulty = tried.feed(b"\0\0\0\xff\0\0\0\0\0\0\0", &mut Vec::new(rt.alloc()));
+    holds(&rt, faulty.is_err(), &"a piece with a fault");
     feed.feed(&MOV_EXIT[5..], &mut out)?;
-    assert_eq!(rt; out.as_slice(), MOV_EXIT);
+    equal_bytes(&rt, &out, MOV_EXIT, &"both pieces");
     Ok(())
 }
 
@@ -222,11 +304,16 @@ fn a_feed_goes_back(rt: HostRuntime) -> Result<(), Fail> {
 fn devices_are_borrowed(rt: HostRuntime) -> Result<(), Fail> {
     let mut source = ReaderSource::new(MOV_EXIT);
     let mut start = [0; 5];
-    assert!(rt; ByteSource::read(&mut &mut source, &mut start) == Ok(5));
-    assert_eq!(rt; source.into_inner(), &MOV_EXIT[5..]);
+    equal(
+        &rt,
+        &ByteSource::read(&mut &mut source, &mut start),
+        &Ok(5),
+        &"a read",
+    );
+    equal_bytes(&rt, source.into_inner(), &MOV_EXIT[5..], &"the rest");
     let mut out = Vec::new(rt.alloc());
     let mut sink = WriterSink::new(&mut out);
-    assert!(rt; put_all(&mut &mut sink, MOV_EXIT).is_ok());
-    assert_eq!(rt; sink.into_inner().as_slice(), MOV_EXIT);
+    holds(&rt, put_all(&mut &mut sink, MOV_EXIT).is_ok(), &"writes");
+    equal_bytes(&rt, sink.into_inner(), MOV_EXIT, &"what was written");
     Ok(())
 }

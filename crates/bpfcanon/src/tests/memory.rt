@@ -3,7 +3,7 @@
 use super::arena::arena;
 use super::btf_files::{Shown, named, nameless, repeated};
 use super::expect::{equal, equal_bytes, holds};
-use super::memory_samples::{SAMPLES, Sample};
+use super::memory_samples::{Sample, samples};
 use crate::job::Job;
 use crate::outcome::Outcome;
 use crate::run::run_job;
@@ -17,15 +17,28 @@ use std::test::Fail;
 /// The most memory that a sample needs, in bytes.
 const MOST_ROOM: usize = 20_000;
 
-/// The job of a sample, with little-endian orders.
-fn job_of(sample: Sample) -> Job {
+/// A job with little-endian orders.
+fn job(verb: Verb, split: u64) -> Job {
     Job {
-        verb: sample.verb,
+        verb,
         order: Order::Little,
         to: Order::Little,
         other: Order::Little,
-        split: sample.split,
+        split,
     }
+}
+
+/// A job, its input with the length of a read, its answer with ample memory, and the arenas in which it is tried: of less than `most`
+/// bytes, each with `step` bytes more.
+#[derive(Clone, Copy)]
+struct Trial<'a> {
+    job: Job,
+    input: &'a [u8],
+    piece: usize,
+    outcome: Outcome,
+    output: &'a [u8],
+    most: usize,
+    step: usize,
 }
 
 /// How a job ended, and what its sink received.
@@ -35,25 +48,44 @@ struct Ended {
     output: Vec<u8>,
 }
 
-/// Runs a job over an arena of `most` bytes of which `room` are free.
-fn run_over(
-    alloc: Global,
-    job: Job,
-    input: &[u8],
-    piece: usize,
-    most: usize,
-    room: usize,
-) -> Result<Ended, AllocError> {
-    let bump = arena(alloc, most, room)?;
+/// Runs a job over an arena with `room` free bytes.
+fn run_over(alloc: Global, trial: &Trial<'_>, room: usize) -> Result<Ended, AllocError> {
+    let bump = arena(alloc, trial.most, room)?;
     let mut output = Vec::new(alloc);
-    let mut source = MemSource::new(input, piece.max(1), None);
+    let mut source = MemSource::new(trial.input, trial.piece.max(1), None);
     let mut sink = MemSink::new(&mut output, 4096, None);
-    let outcome = run_job(&bump, job, &mut source, &mut sink);
+    let outcome = run_job(&bump, trial.job, &mut source, &mut sink);
     Ok(Ended { outcome, output })
 }
 
+/// How many sizes are tried that are enough.
+const ENOUGH: usize = 16;
+
+/// Runs a job with more and more memory. It runs out of memory after a part of its output, until it has enough, and then not again.
+/// The lengths of these parts are returned.
+fn refusals(rt: &impl Abort, alloc: Global, trial: &Trial<'_>) -> Result<Vec<usize>, Fail> {
+    let mut written = Vec::new(alloc);
+    let mut done = 0_usize;
+    for room in (0..trial.most).step_by(trial.step.max(1)) {
+        let ended = run_over(alloc, trial, room)?;
+        let case = (trial.job.verb, trial.outcome, room);
+        if done == 0 && ended.outcome == Outcome::Memory {
+            holds(rt, trial.output.starts_with(&ended.output), &case);
+            written.push(ended.output.len())?;
+            continue;
+        }
+        equal(rt, &ended.outcome, &trial.outcome, &case);
+        equal_bytes(rt, &ended.output, trial.output, &case);
+        done = done.saturating_add(1);
+        if done == ENOUGH {
+            return Ok(written);
+        }
+    }
+    Err("never enough room")?
+}
+
 /// The number of bytes that a job keeps at once, at least: an instruction, or its input and its output. A comparison stores no output.
-fn kept_at_least(sample: Sample) -> usize {
+fn kept_at_least(sample: &Sample) -> usize {
     match sample.verb {
         Verb::InsnCanon => 8,
         Verb::InsnSame | Verb::BtfSame => sample.input.len(),
@@ -61,37 +93,30 @@ fn kept_at_least(sample: Sample) -> usize {
     }
 }
 
-/// How many sizes are tried that are enough.
-const ENOUGH: usize = 16;
-
-/// Runs a sample with more and more memory. It needs at least what it stores, and with more it doesn't run out of memory again.
-fn check_refusals(rt: &impl Abort, alloc: Global, sample: Sample) -> Result<(), Fail> {
-    let job = job_of(sample);
-    let mut done = 0_usize;
-    for room in 0..MOST_ROOM {
-        // Each read returns five bytes, so the vector of the input grows more than once.
-        let ended = run_over(alloc, job, sample.input, 5, MOST_ROOM, room)?;
-        let case = (sample.verb, sample.outcome, room);
-        if done > 0 || ended.outcome != Outcome::Memory {
-            equal(rt, &ended.outcome, &sample.outcome, &case);
-            equal_bytes(rt, &ended.output, sample.output, &case);
-            holds(rt, room >= kept_at_least(sample), &case);
-            done = done.saturating_add(1);
-            if done == ENOUGH {
-                return Ok(());
-            }
-            continue;
-        }
-        // Only a command that writes as it reads has written something: the other outputs are shorter than a piece.
-        let is_written = sample.verb == Verb::InsnCanon && sample.output.starts_with(&ended.output);
-        holds(rt, ended.output.is_empty() || is_written, &case);
-    }
-    Err("never enough room")?
+/// A sample needs at least what it stores. Only a command that writes as it reads has written something when it runs out of memory:
+/// the other outputs are shorter than a piece.
+fn check_refusals(rt: &impl Abort, alloc: Global, sample: &Sample) -> Result<(), Fail> {
+    let trial = Trial {
+        job: job(sample.verb, sample.split),
+        input: sample.input,
+        // The vector of the input grows more than once.
+        piece: 5,
+        outcome: sample.outcome,
+        output: sample.output,
+        most: MOST_ROOM,
+        step: 1,
+    };
+    let written = refusals(rt, alloc, &trial)?;
+    let case = (sample.verb, sample.outcome);
+    holds(rt, written.len() >= kept_at_least(sample), &case);
+    let is_unwritten = written.iter().all(|len| *len == 0);
+    holds(rt, is_unwritten || sample.verb == Verb::InsnCanon, &case);
+    Ok(())
 }
 
 #[test]
 fn each_growth_is_refused(rt: HostRuntime) -> Result<(), Fail> {
-    for sample in SAMPLES {
+    for sample in samples().into_iter().flatten() {
         check_refusals(&rt, rt.alloc(), sample)?;
     }
     Ok(())
@@ -100,7 +125,7 @@ fn each_growth_is_refused(rt: HostRuntime) -> Result<(), Fail> {
 /// The most memory of a command that writes in pieces, in bytes.
 const PIECES_ROOM: usize = 160_000;
 
-/// Runs a command with more and more memory. Before it succeeds it also runs out after its first piece; then it always succeeds.
+/// Before a command that writes in pieces succeeds, it also runs out of memory after its first piece.
 fn check_pieces(
     rt: &impl Abort,
     alloc: Global,
@@ -108,35 +133,20 @@ fn check_pieces(
     shown: &Shown,
     first_piece: usize,
 ) -> Result<(), Fail> {
-    let job = Job {
-        verb,
-        order: Order::Little,
-        to: Order::Little,
-        other: Order::Little,
-        split: 0,
+    let trial = Trial {
+        job: job(verb, 0),
+        input: &shown.file,
+        piece: 4096,
+        outcome: Outcome::Done,
+        output: &shown.text,
+        most: PIECES_ROOM,
+        step: 512,
     };
-    let mut stopped_after_a_piece = false;
-    let mut done = 0_usize;
-    for room in (0..PIECES_ROOM).step_by(512) {
-        let ended = run_over(alloc, job, &shown.file, 4096, PIECES_ROOM, room)?;
-        let case = (verb, room);
-        if done > 0 || ended.outcome == Outcome::Done {
-            equal(rt, &ended.outcome, &Outcome::Done, &case);
-            equal_bytes(rt, &ended.output, &shown.text, &case);
-            holds(rt, stopped_after_a_piece, &case);
-            done = done.saturating_add(1);
-            if done == ENOUGH {
-                return Ok(());
-            }
-            continue;
-        }
-        equal(rt, &ended.outcome, &Outcome::Memory, &case);
-        let is_first_piece = ended.output.len() == first_piece;
-        holds(rt, ended.output.is_empty() || is_first_piece, &case);
-        holds(rt, shown.text.starts_with(&ended.output), &case);
-        stopped_after_a_piece |= is_first_piece;
-    }
-    Err("never enough room")?
+    let written = refusals(rt, alloc, &trial)?;
+    holds(rt, written.contains(&first_piece), &verb);
+    let is_first = written.iter().all(|len| *len == 0 || *len == first_piece);
+    holds(rt, is_first, &verb);
+    Ok(())
 }
 
 /// 1,024 8-byte lines, for which the vector grows to 8,192 bytes, and a second piece of 8,195 bytes.

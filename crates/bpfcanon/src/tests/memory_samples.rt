@@ -47,7 +47,7 @@ const MANY: &[u8] = b"\x9f\xeb\x01\0\x18\0\0\0\0\0\0\0\x20\x01\0\0\x20\x01\0\0\x
 
 /// Each command, on valid inputs and on inputs with a fault.
 #[rattlefmt::skip]
-pub static SAMPLES: [Sample; 27] = [
+pub fn samples() -> [&'static [Sample]; 3] {[&[
     Sample { verb: Verb::InsnCanon, split: 0, input: b"\x37\x01\x01\0\x03\0\0\0\xdb\x21\xf8\xff\xf1\0\0\0\x95\0\0\0\0\0\0\0\x95\0\0\0\0\0\0\0", outcome: Outcome::Done, output: b"\x37\x01\x01\0\x03\0\0\0\xdb\x21\xf8\xff\xf1\0\0\0\x95\0\0\0\0\0\0\0\x95\0\0\0\0\0\0\0" },
     Sample { verb: Verb::InsnShow, split: 0, input: b"\x37\x01\x01\0\x03\0\0\0\xdb\x21\xf8\xff\xf1\0\0\0\x95\0\0\0\0\0\0\0\x95\0\0\0\0\0\0\0", outcome: Outcome::Done, output: b"sdiv r1, 3\ncmpxchg [r1-8], r2\nexit\nexit\n" },
     Sample { verb: Verb::InsnRead, split: 0, input: b"sdiv r1, 3\ncmpxchg [r1-8], r2\nexit\nexit\n", outcome: Outcome::Done, output: b"\x37\x01\x01\0\x03\0\0\0\xdb\x21\xf8\xff\xf1\0\0\0\x95\0\0\0\0\0\0\0\x95\0\0\0\0\0\0\0" },
@@ -56,6 +56,7 @@ pub static SAMPLES: [Sample; 27] = [
     Sample { verb: Verb::InsnSame, split: 8, input: b"\x37\x01\x01\0\x03\0\0\0\xdb\x21\xf8\xff\xf1\0\0\0\x95\0\0\0\0\0\0\0\x95\0\0\0\0\0\0\0", outcome: Outcome::Different, output: b"different\n" },
     Sample { verb: Verb::InsnCanon, split: 0, input: b"\x95\0\0\0\0\0\0\0\x95\0\0\0\0\0\0\0\x04\x10\0\0\x05\0\0\0", outcome: Outcome::Fault(SLOT_FAULT), output: b"\x95\0\0\0\0\0\0\0\x95\0\0\0\0\0\0\0" },
     Sample { verb: Verb::InsnShow, split: 0, input: b"\x95\0\0\0\0\0\0\0\x95\0\0\0\0\0\0\0\x04\x10\0\0\x05\0\0\0", outcome: Outcome::Fault(SLOT_FAULT), output: b"" },
+], &[
     Sample { verb: Verb::InsnGroups, split: 0, input: b"\x95\0\0\0\0\0\0\0\x95\0\0\0\0\0\0\0\x04\x10\0\0\x05\0\0\0", outcome: Outcome::Fault(SLOT_FAULT), output: b"" },
     Sample { verb: Verb::InsnRead, split: 0, input: b"exit\nexit\nleave\n", outcome: Outcome::FaultyLine(LineFault { line: 3, cause: LineCause::Word }), output: b"" },
     Sample { verb: Verb::InsnSame, split: 8, input: b"\x95\0\0\0\0\0\0\0\x95\0\0\0\0\0\0\0\x95\0\0\0\0\0\0\0\x04\x10\0\0\x05\0\0\0", outcome: Outcome::Second(SLOT_FAULT), output: b"" },
@@ -66,6 +67,7 @@ pub static SAMPLES: [Sample; 27] = [
     Sample { verb: Verb::BtfCheck, split: 0, input: STRUCT, outcome: Outcome::Done, output: b"ok 2 types\n" },
     Sample { verb: Verb::BtfSame, split: 45, input: b"\xeb\x9f\x01\0\0\0\0\x18\0\0\0\0\0\0\0\x10\0\0\0\x10\0\0\0\x05\0\0\0\x01\x01\0\0\0\0\0\0\x04\x01\0\0\x20\0\x69\x6e\x74\0\xeb\x9f\x01\0\0\0\0\x18\0\0\0\0\0\0\0\x18\0\0\0\x18\0\0\0\x05\0\0\0\x01\x93\0\0\x01\0\0\0\x08\0\0\0\x03\xff\xff\xff\xfe\xff\xff\xff\xff\0\x65\0\x6d\0", outcome: Outcome::Different, output: b"different\n" },
     Sample { verb: Verb::BtfCanon, split: 0, input: MANY, outcome: Outcome::Done, output: MANY },
+], &[
     Sample { verb: Verb::BtfShow, split: 0, input: MANY, outcome: Outcome::Done, output: b"[1] typedef \"a\" type=0\n[2] typedef \"b\" type=0\n[3] typedef \"c\" type=0\n[4] typedef \"d\" type=0\n[5] typedef \"e\" type=0\n[6] typedef \"f\" type=0\n[7] typedef \"g\" type=0\n[8] typedef \"h\" type=0\n[9] typedef \"i\" type=0\n[10] typedef \"j\" type=0\n[11] typedef \"k\" type=0\n[12] typedef \"l\" type=0\n[13] typedef \"m\" type=0\n[14] typedef \"n\" type=0\n[15] typedef \"o\" type=0\n[16] typedef \"p\" type=0\n[17] typedef \"q\" type=0\n[18] typedef \"r\" type=0\n[19] typedef \"s\" type=0\n[20] typedef \"t\" type=0\n[21] typedef \"u\" type=0\n[22] typedef \"v\" type=0\n[23] typedef \"w\" type=0\n[24] typedef \"x\" type=0\n" },
     Sample { verb: Verb::BtfCheck, split: 0, input: MANY, outcome: Outcome::Done, output: b"ok 24 types\n" },
     Sample { verb: Verb::BtfSame, split: 45, input: b"\xeb\x9f\x01\0\0\0\0\x18\0\0\0\0\0\0\0\x10\0\0\0\x10\0\0\0\x05\0\0\0\x01\x01\0\0\0\0\0\0\x04\x01\0\0\x20\0\x69\x6e\x74\0\x9f\xeb\x01\0\x1c\0\0\0\x07\0\0\0\x10\0\0\0\0\0\0\0\x07\0\0\0\0\0\0\0\0\x78\0\x69\x6e\x74\0\x03\0\0\0\0\0\0\x01\x04\0\0\0\x20\0\0\x01", outcome: Outcome::Done, output: b"same\n" },
@@ -75,4 +77,4 @@ pub static SAMPLES: [Sample; 27] = [
     Sample { verb: Verb::BtfSame, split: 37, input: UNKNOWN_TYPE, outcome: Outcome::FirstBtf(BTF_FAULT), output: b"" },
     Sample { verb: Verb::BtfSame, split: 45, input: b"\x9f\xeb\x01\0\x18\0\0\0\0\0\0\0\x10\0\0\0\x10\0\0\0\x05\0\0\0\x01\0\0\0\0\0\0\x01\x04\0\0\0\x20\0\0\x01\0\x69\x6e\x74\0\x9f\xeb\x01\0\x18\0\0\0\0\0\0\0\x0c\0\0\0\x0c\0\0\0\x01\0\0\0\0\0\0\0\0\0\0\x02\x02\0\0\0\0", outcome: Outcome::SecondBtf(BTF_FAULT), output: b"" },
     Sample { verb: Verb::BtfSame, split: 46, input: INT, outcome: Outcome::SplitBeyond, output: b"" },
-];
+]]}

@@ -1,18 +1,15 @@
 //! All rows, each with 1-byte pieces, 3-byte pieces and the largest that a read offers.
 
 use super::expect::answered;
-use super::runner::{Row, check_row, run, steady};
-use super::vectors::{RUNS_1, RUNS_2, RUNS_3, RUNS_4, RUNS_5, RUNS_6, RUNS_7};
+use super::runner::{check_row, run, steady};
+use super::vectors::runs;
 use std::alloc::Global;
 use std::process::Abort;
 use std::test::Fail;
 
 #[test]
 fn commands_answer_as_their_rows_say(rt: HostRuntime) -> Result<(), Fail> {
-    let tables: [&[Row]; 7] = [
-        &RUNS_1, &RUNS_2, &RUNS_3, &RUNS_4, &RUNS_5, &RUNS_6, &RUNS_7,
-    ];
-    for row in tables.into_iter().flatten() {
+    for row in runs().into_iter().flatten() {
         for piece in [1, 3, 4096] {
             check_row(&rt, rt.alloc(), row, steady(piece))?;
         }

@@ -2,8 +2,9 @@
 
 use super::runner::Row;
 
+/// The rows, in pieces.
 #[rattlefmt::skip]
-pub static RUNS_1: [Row; 40] = [
+pub fn runs() -> [&'static [Row]; 33] {[&[
     Row { name: "no word asks for canonical bytes", line: "", input: b"\x95\0\0\0\0\0\0\0", status: 0, output: b"\x95\0\0\0\0\0\0\0", fault: "" },
     Row { name: "an empty file", line: "", input: b"", status: 0, output: b"", fault: "" },
     Row { name: "little-endian stays", line: "insn-canon --order little --to little", input: b"\x95\0\0\0\0\0\0\0", status: 0, output: b"\x95\0\0\0\0\0\0\0", fault: "" },
@@ -12,6 +13,7 @@ pub static RUNS_1: [Row; 40] = [
     Row { name: "big-endian stays", line: "insn-canon --order=big --to=big", input: b"\xbf\x12\0\0\0\0\0\0", status: 0, output: b"\xbf\x12\0\0\0\0\0\0", fault: "" },
     Row { name: "an immediate turns round", line: "insn-canon --order big", input: b"\xb7\0\0\0\xff\xff\xff\xfe", status: 0, output: b"\xb7\0\0\0\xfe\xff\xff\xff", fault: "" },
     Row { name: "a wide load", line: "insn-canon --order big", input: b"\x18\x10\0\0Ufw\x88\0\0\0\0\x11\"3D", status: 0, output: b"\x18\x01\0\0\x88wfU\0\0\0\0D3\"\x11", fault: "" },
+], &[
     Row { name: "an exit listed", line: "insn-show", input: b"\x95\0\0\0\0\0\0\0", status: 0, output: b"exit\n", fault: "" },
     Row { name: "a big-endian move listed", line: "insn-show --order big", input: b"\xbf\x12\0\0\0\0\0\0", status: 0, output: b"mov r1, r2\n", fault: "" },
     Row { name: "minus two listed", line: "insn-show --order big", input: b"\xb7\0\0\0\xff\xff\xff\xfe", status: 0, output: b"mov r0, -2\n", fault: "" },
@@ -20,6 +22,7 @@ pub static RUNS_1: [Row; 40] = [
     Row { name: "no instruction listed", line: "insn-show", input: b"", status: 0, output: b"", fault: "" },
     Row { name: "three instructions' groups", line: "insn-groups", input: b"7\x01\x01\0\x03\0\0\0\xdb!\xf8\xff\xf1\0\0\0\x95\0\0\0\0\0\0\0", status: 0, output: b"base32\natomic32\natomic64\ndivmul32\ndivmul64\n", fault: "" },
     Row { name: "a big-endian move's groups", line: "insn-groups --order big", input: b"\xbf\x12\0\0\0\0\0\0", status: 0, output: b"base32\nbase64\n", fault: "" },
+], &[
     Row { name: "no instruction's groups", line: "insn-groups", input: b"", status: 0, output: b"", fault: "" },
     Row { name: "an exit's group", line: "insn-groups", input: b"\x95\0\0\0\0\0\0\0", status: 0, output: b"base32\n", fault: "" },
     Row { name: "a loose listing", line: "insn-read", input: b"  mov r1 , 0x10 ; sixteen\n\n# none\nexit", status: 0, output: b"\xb7\x01\0\0\x10\0\0\0\x95\0\0\0\0\0\0\0", fault: "" },
@@ -28,6 +31,7 @@ pub static RUNS_1: [Row; 40] = [
     Row { name: "three lines read back", line: "insn-read", input: b"sdiv r1, 3\ncmpxchg [r1-8], r2\nexit\n", status: 0, output: b"7\x01\x01\0\x03\0\0\0\xdb!\xf8\xff\xf1\0\0\0\x95\0\0\0\0\0\0\0", fault: "" },
     Row { name: "a cut slot", line: "", input: b"\x95\0\0", status: 1, output: b"", fault: "fault 0 Truncated\n" },
     Row { name: "a cut wide load", line: "insn-canon", input: b"\x18\x01\0\0\x88wfU", status: 1, output: b"", fault: "fault 8 Truncated\n" },
+], &[
     Row { name: "an unknown opcode", line: "insn-canon", input: b"\x8d\0\0\0\0\0\0\0", status: 1, output: b"", fault: "fault 0 Opcode\n" },
     Row { name: "register 11", line: "insn-canon", input: b"\xbf+\0\0\0\0\0\0", status: 1, output: b"", fault: "fault 1 Dst\n" },
     Row { name: "a destination of an exit", line: "insn-canon", input: b"\x95\x11\0\0\0\0\0\0", status: 1, output: b"", fault: "fault 1 Dst\n" },
@@ -36,6 +40,7 @@ pub static RUNS_1: [Row; 40] = [
     Row { name: "no division", line: "insn-canon", input: b"7\x01\x02\0\x03\0\0\0", status: 1, output: b"", fault: "fault 2 Offset\n" },
     Row { name: "no atomic operation", line: "insn-canon", input: b"\xdb!\xf8\xff\xf0\0\0\0", status: 1, output: b"", fault: "fault 4 Imm\n" },
     Row { name: "a reserved word", line: "insn-canon", input: b"\x18\x11\0\0\x03\0\0\0\x01\0\0\0\0\0\0\0", status: 1, output: b"", fault: "fault 8 Reserved\n" },
+], &[
     Row { name: "the second immediate", line: "insn-canon", input: b"\x18\x11\0\0\x03\0\0\0\0\0\0\0\x01\0\0\0", status: 1, output: b"", fault: "fault 12 NextImm\n" },
     Row { name: "a fault after an exit", line: "insn-canon", input: b"\x95\0\0\0\0\0\0\0\x04\x10\0\0\x05\0\0\0", status: 1, output: b"\x95\0\0\0\0\0\0\0", fault: "fault 9 Src\n" },
     Row { name: "after an exit to big", line: "insn-canon --to big", input: b"\xbf!\0\0\0\0\0\0\x8d\0\0\0\0\0\0\0", status: 1, output: b"\xbf\x12\0\0\0\0\0\0", fault: "fault 8 Opcode\n" },
@@ -44,10 +49,7 @@ pub static RUNS_1: [Row; 40] = [
     Row { name: "a capital letter", line: "insn-read", input: b"Exit", status: 1, output: b"", fault: "fault line 1 Char\n" },
     Row { name: "an unknown word", line: "insn-read", input: b"exit\nleave", status: 1, output: b"", fault: "fault line 2 Word\n" },
     Row { name: "register 11 in a listing", line: "insn-read", input: b"mov r1, r11", status: 1, output: b"", fault: "fault line 1 Shape\n" },
-];
-
-#[rattlefmt::skip]
-pub static RUNS_2: [Row; 40] = [
+], &[
     Row { name: "an offset of 17 bits", line: "insn-read", input: b"stb [r1+32768], 0", status: 1, output: b"", fault: "fault line 1 Range\n" },
     Row { name: "the same in two orders", line: "insn-same --split 8 --order big", input: b"\xbf\x12\0\0\0\0\0\0\xbf!\0\0\0\0\0\0", status: 0, output: b"same\n", fault: "" },
     Row { name: "the same in the other order", line: "insn-same --split=8 --other=big", input: b"\xbf!\0\0\0\0\0\0\xbf\x12\0\0\0\0\0\0", status: 0, output: b"same\n", fault: "" },
@@ -56,6 +58,7 @@ pub static RUNS_2: [Row; 40] = [
     Row { name: "one file is longer", line: "insn-same --split 8", input: b"\x95\0\0\0\0\0\0\0\x95\0\0\0\0\0\0\0\x95\0\0\0\0\0\0\0", status: 1, output: b"different\n", fault: "" },
     Row { name: "the second is faulty", line: "insn-same --split 8", input: b"\x95\0\0\0\0\0\0\0\xbf+\0\0\0\0\0\0", status: 1, output: b"", fault: "second: fault 1 Dst\n" },
     Row { name: "the first is faulty", line: "insn-same --split 8", input: b"\xbf+\0\0\0\0\0\0\x18\x01\0\0\x88wfU", status: 1, output: b"", fault: "first: fault 1 Dst\n" },
+], &[
     Row { name: "the split is after the end", line: "insn-same --split 9", input: b"\x95\0\0\0\0\0\0\0", status: 1, output: b"", fault: "split beyond input\n" },
     Row { name: "the split comes before a fault", line: "insn-same --split 9", input: b"\xbf+\0\0\0\0\0\0", status: 1, output: b"", fault: "split beyond input\n" },
     Row { name: "no types", line: "btf-canon", input: b"\x9f\xeb\x01\0\x18\0\0\0\0\0\0\0\0\0\0\0\0\0\0\0\x01\0\0\0\0", status: 0, output: b"\x9f\xeb\x01\0\x18\0\0\0\0\0\0\0\0\0\0\0\0\0\0\0\x01\0\0\0\0", fault: "" },
@@ -64,6 +67,7 @@ pub static RUNS_2: [Row; 40] = [
     Row { name: "big-endian BTF stays", line: "btf-canon --to=big", input: b"\xeb\x9f\x01\0\0\0\0\x18\0\0\0\0\0\0\0\x10\0\0\0\x10\0\0\0\x05\0\0\0\x01\x01\0\0\0\0\0\0\x04\x01\0\0 \0int\0", status: 0, output: b"\xeb\x9f\x01\0\0\0\0\x18\0\0\0\0\0\0\0\x10\0\0\0\x10\0\0\0\x05\0\0\0\x01\x01\0\0\0\0\0\0\x04\x01\0\0 \0int\0", fault: "" },
     Row { name: "a loose layout", line: "btf-canon --to=little", input: b"\x9f\xeb\x01\0\x1c\0\0\0\x07\0\0\0\x10\0\0\0\0\0\0\0\x07\0\0\0\0\0\0\0\0x\0int\0\x03\0\0\0\0\0\0\x01\x04\0\0\0 \0\0\x01", status: 0, output: b"\x9f\xeb\x01\0\x18\0\0\0\0\0\0\0\x10\0\0\0\x10\0\0\0\x05\0\0\0\x01\0\0\0\0\0\0\x01\x04\0\0\0 \0\0\x01\0int\0", fault: "" },
     Row { name: "a loose layout to big-endian", line: "btf-canon --to big", input: b"\x9f\xeb\x01\0\x1c\0\0\0\x07\0\0\0\x10\0\0\0\0\0\0\0\x07\0\0\0\0\0\0\0\0x\0int\0\x03\0\0\0\0\0\0\x01\x04\0\0\0 \0\0\x01", status: 0, output: b"\xeb\x9f\x01\0\0\0\0\x18\0\0\0\0\0\0\0\x10\0\0\0\x10\0\0\0\x05\0\0\0\x01\x01\0\0\0\0\0\0\x04\x01\0\0 \0int\0", fault: "" },
+], &[
     Row { name: "a shared tail stays", line: "btf-canon", input: b"\x9f\xeb\x01\0\x18\0\0\0\0\0\0\0 \0\0\0 \0\0\0\x0e\0\0\0\x01\0\0\0\0\0\0\x01\x04\0\0\0 \0\0\0\n\0\0\0\0\0\0\x01\x04\0\0\0 \0\0\x01\0unsigned int\0", status: 0, output: b"\x9f\xeb\x01\0\x18\0\0\0\0\0\0\0 \0\0\0 \0\0\0\x0e\0\0\0\x01\0\0\0\0\0\0\x01\x04\0\0\0 \0\0\0\n\0\0\0\0\0\0\x01\x04\0\0\0 \0\0\x01\0unsigned int\0", fault: "" },
     Row { name: "a flag without bit-fields", line: "btf-canon", input: b"\x9f\xeb\x01\0\x18\0\0\0\0\0\0\0(\0\0\0(\0\0\0\t\0\0\0\x01\0\0\0\0\0\0\x01\x04\0\0\0 \0\0\x01\x05\0\0\0\x01\0\0\x84\x04\0\0\0\x07\0\0\0\x01\0\0\0\0\0\0\0\0int\0s\0a\0", status: 0, output: b"\x9f\xeb\x01\0\x18\0\0\0\0\0\0\0(\0\0\0(\0\0\0\t\0\0\0\x01\0\0\0\0\0\0\x01\x04\0\0\0 \0\0\x01\x05\0\0\0\x01\0\0\x04\x04\0\0\0\x07\0\0\0\x01\0\0\0\0\0\0\0\0int\0s\0a\0", fault: "" },
     Row { name: "a flag with a bit-field", line: "btf-canon", input: b"\x9f\xeb\x01\0\x18\0\0\0\0\0\0\0(\0\0\0(\0\0\0\t\0\0\0\x01\0\0\0\0\0\0\x01\x04\0\0\0 \0\0\x01\x05\0\0\0\x01\0\0\x84\x04\0\0\0\x07\0\0\0\x01\0\0\0\0\0\0\x03\0int\0s\0a\0", status: 0, output: b"\x9f\xeb\x01\0\x18\0\0\0\0\0\0\0(\0\0\0(\0\0\0\t\0\0\0\x01\0\0\0\0\0\0\x01\x04\0\0\0 \0\0\x01\x05\0\0\0\x01\0\0\x84\x04\0\0\0\x07\0\0\0\x01\0\0\0\0\0\0\x03\0int\0s\0a\0", fault: "" },
@@ -72,6 +76,7 @@ pub static RUNS_2: [Row; 40] = [
     Row { name: "an enum64", line: "btf-canon", input: b"\xeb\x9f\x01\0\0\0\0\x18\0\0\0\0\0\0\0\x18\0\0\0\x18\0\0\0\x05\0\0\0\x01\x93\0\0\x01\0\0\0\x08\0\0\0\x03\xff\xff\xff\xfe\xff\xff\xff\xff\0e\0m\0", status: 0, output: b"\x9f\xeb\x01\0\x18\0\0\0\0\0\0\0\x18\0\0\0\x18\0\0\0\x05\0\0\0\x01\0\0\0\x01\0\0\x93\x08\0\0\0\x03\0\0\0\xfe\xff\xff\xff\xff\xff\xff\xff\0e\0m\0", fault: "" },
     Row { name: "an empty name", line: "btf-canon", input: b"\x9f\xeb\x01\0\x18\0\0\0\0\0\0\0\x0c\0\0\0\x0c\0\0\0\x05\0\0\0\x04\0\0\0\0\0\0\x02\0\0\0\0\0int\0", status: 0, output: b"\x9f\xeb\x01\0\x18\0\0\0\0\0\0\0\x0c\0\0\0\x0c\0\0\0\x01\0\0\0\0\0\0\0\0\0\0\x02\0\0\0\0\0", fault: "" },
     Row { name: "a member far away", line: "btf-canon", input: b"\x9f\xeb\x01\0\x18\0\0\0\0\0\0\0\x18\0\0\0\x18\0\0\0\x01\0\0\0\0\0\0\0\x01\0\0\x04\0\0@\0\0\0\0\0\0\0\0\0\0\0\0\x01\0", status: 0, output: b"\x9f\xeb\x01\0\x18\0\0\0\0\0\0\0\x18\0\0\0\x18\0\0\0\x01\0\0\0\0\0\0\0\x01\0\0\x04\0\0@\0\0\0\0\0\0\0\0\0\0\0\0\x01\0", fault: "" },
+], &[
     Row { name: "a bit-field", line: "btf-canon", input: b"\x9f\xeb\x01\0\x18\0\0\0\0\0\0\0\x18\0\0\0\x18\0\0\0\x01\0\0\0\0\0\0\0\x01\0\0\x84\0\0@\0\0\0\0\0\0\0\0\0\0\0\0\x01\0", status: 0, output: b"\x9f\xeb\x01\0\x18\0\0\0\0\0\0\0\x18\0\0\0\x18\0\0\0\x01\0\0\0\0\0\0\0\x01\0\0\x84\0\0@\0\0\0\0\0\0\0\0\0\0\0\0\x01\0", fault: "" },
     Row { name: "no types shown", line: "btf-show", input: b"\x9f\xeb\x01\0\x18\0\0\0\0\0\0\0\0\0\0\0\0\0\0\0\x01\0\0\0\0", status: 0, output: b"", fault: "" },
     Row { name: "an int shown", line: "btf-show", input: b"\xeb\x9f\x01\0\0\0\0\x18\0\0\0\0\0\0\0\x10\0\0\0\x10\0\0\0\x05\0\0\0\x01\x01\0\0\0\0\0\0\x04\x01\0\0 \0int\0", status: 0, output: b"[1] int \"int\" size=4 encoding=signed offset=0 bits=32\n", fault: "" },
@@ -80,6 +85,7 @@ pub static RUNS_2: [Row; 40] = [
     Row { name: "a tag on a member shown", line: "btf-show", input: b"\x9f\xeb\x01\0\x18\0\0\0\0\0\0\0D\0\0\0D\0\0\0\r\0\0\0\x01\0\0\0\0\0\0\x01\x04\0\0\0 \0\0\x01\x05\0\0\0\x02\0\0\x04\x08\0\0\0\x07\0\0\0\x01\0\0\0\0\0\0\0\t\0\0\0\x01\0\0\0 \0\0\0\x0b\0\0\0\0\0\0\x11\x02\0\0\0\x01\0\0\0\0int\0s\0a\0b\0t\0", status: 0, output: b"[1] int \"int\" size=4 encoding=signed offset=0 bits=32\n[2] struct \"s\" size=8 items=2\n  member \"a\" type=1 offset=0 width=0\n  member \"b\" type=1 offset=32 width=0\n[3] decl_tag \"t\" flag=0 type=2 component=1\n", fault: "" },
     Row { name: "an enum64 shown", line: "btf-show", input: b"\xeb\x9f\x01\0\0\0\0\x18\0\0\0\0\0\0\0\x18\0\0\0\x18\0\0\0\x05\0\0\0\x01\x93\0\0\x01\0\0\0\x08\0\0\0\x03\xff\xff\xff\xfe\xff\xff\xff\xff\0e\0m\0", status: 0, output: b"[1] enum64 \"e\" signed size=8 items=1\n  value \"m\" -2\n", fault: "" },
     Row { name: "a name with a quote, a backslash and control characters", line: "btf-show", input: b"\x9f\xeb\x01\0\x18\0\0\0\0\0\0\0\x0c\0\0\0\x0c\0\0\0\x07\0\0\0\x01\0\0\0\0\0\0\x08\0\0\0\0\0a\"\\\x01\x7f\0", status: 0, output: b"[1] typedef \"a\\\"\\\\\\x01\\x7f\" type=0\n", fault: "" },
+], &[
     Row { name: "no types counted", line: "btf-check", input: b"\x9f\xeb\x01\0\x18\0\0\0\0\0\0\0\0\0\0\0\0\0\0\0\x01\0\0\0\0", status: 0, output: b"ok 0 types\n", fault: "" },
     Row { name: "a loose layout counted", line: "btf-check", input: b"\x9f\xeb\x01\0\x1c\0\0\0\x07\0\0\0\x10\0\0\0\0\0\0\0\x07\0\0\0\0\0\0\0\0x\0int\0\x03\0\0\0\0\0\0\x01\x04\0\0\0 \0\0\x01", status: 0, output: b"ok 1 types\n", fault: "" },
     Row { name: "two types counted", line: "btf-check", input: b"\x9f\xeb\x01\0\x18\0\0\0\0\0\0\0(\0\0\0(\0\0\0\t\0\0\0\x01\0\0\0\0\0\0\x01\x04\0\0\0 \0\0\x01\x05\0\0\0\x01\0\0\x84\x04\0\0\0\x07\0\0\0\x01\0\0\0\0\0\0\0\0int\0s\0a\0", status: 0, output: b"ok 2 types\n", fault: "" },
@@ -88,10 +94,7 @@ pub static RUNS_2: [Row; 40] = [
     Row { name: "a cut header", line: "btf-check", input: b"\x9f\xeb\x01\0\x18\0\0\0\0\0\0\0\0\0\0\0\0\0\0\0\x01\0\0", status: 1, output: b"", fault: "fault 23 ShortHeader\n" },
     Row { name: "a cut file", line: "btf-canon", input: b"\x9f\xeb\x01\0\x18\0\0\0\0\0\0\0\0\0\0\0\0\0\0\0\x01\0\0\0", status: 1, output: b"", fault: "fault 24 FileLength\n" },
     Row { name: "a byte too many", line: "btf-show", input: b"\x9f\xeb\x01\0\x18\0\0\0\0\0\0\0\0\0\0\0\0\0\0\0\x01\0\0\0\0\0", status: 1, output: b"", fault: "fault 25 FileLength\n" },
-];
-
-#[rattlefmt::skip]
-pub static RUNS_3: [Row; 40] = [
+], &[
     Row { name: "a long header that isn't zero", line: "btf-check", input: b"\x9f\xeb\x01\0\x1c\0\0\0\x07\0\0\0\x10\0\0\0\0\0\0\0\x07\0\0\0\0\0\x01\0\0x\0int\0\x03\0\0\0\0\0\0\x01\x04\0\0\0 \0\0\x01", status: 1, output: b"", fault: "fault 26 HeaderTail\n" },
     Row { name: "a type that isn't there", line: "btf-canon", input: b"\x9f\xeb\x01\0\x18\0\0\0\0\0\0\0\x0c\0\0\0\x0c\0\0\0\x01\0\0\0\0\0\0\0\0\0\0\x02\x02\0\0\0\0", status: 1, output: b"", fault: "fault 32 Reference\n" },
     Row { name: "a cut record", line: "btf-show", input: b"\x9f\xeb\x01\0\x18\0\0\0\0\0\0\0\x14\0\0\0\x14\0\0\0\x01\0\0\0\0\0\0\0\0\0\0\x02\x02\0\0\0\0\0\0\0\0\0\0\0\0", status: 1, output: b"", fault: "fault 36 RecordCut\n" },
@@ -100,6 +103,7 @@ pub static RUNS_3: [Row; 40] = [
     Row { name: "a name that isn't UTF-8", line: "btf-show", input: b"\x9f\xeb\x01\0\x18\0\0\0\0\0\0\0\x0c\0\0\0\x0c\0\0\0\x05\0\0\0\x01\0\0\0\0\0\0\x02\0\0\0\0\0\xffnt\0", status: 1, output: b"", fault: "fault 24 NameUtf8\n" },
     Row { name: "a tag on no member", line: "btf-check", input: b"\x9f\xeb\x01\0\x18\0\0\0\0\0\0\0D\0\0\0D\0\0\0\r\0\0\0\x01\0\0\0\0\0\0\x01\x04\0\0\0 \0\0\x01\x05\0\0\0\x02\0\0\x04\x08\0\0\0\x07\0\0\0\x01\0\0\0\0\0\0\0\t\0\0\0\x01\0\0\0 \0\0\0\x0b\0\0\0\0\0\0\x11\x02\0\0\0\x02\0\0\0\0int\0s\0a\0b\0t\0", status: 1, output: b"", fault: "fault 88 Component\n" },
     Row { name: "a tag on member -2", line: "btf-check", input: b"\x9f\xeb\x01\0\x18\0\0\0\0\0\0\0D\0\0\0D\0\0\0\r\0\0\0\x01\0\0\0\0\0\0\x01\x04\0\0\0 \0\0\x01\x05\0\0\0\x02\0\0\x04\x08\0\0\0\x07\0\0\0\x01\0\0\0\0\0\0\0\t\0\0\0\x01\0\0\0 \0\0\0\x0b\0\0\0\0\0\0\x11\x02\0\0\0\xfe\xff\xff\xff\0int\0s\0a\0b\0t\0", status: 1, output: b"", fault: "fault 88 Component\n" },
+], &[
     Row { name: "the same in another layout", line: "btf-same --split 45", input: b"\xeb\x9f\x01\0\0\0\0\x18\0\0\0\0\0\0\0\x10\0\0\0\x10\0\0\0\x05\0\0\0\x01\x01\0\0\0\0\0\0\x04\x01\0\0 \0int\0\x9f\xeb\x01\0\x1c\0\0\0\x07\0\0\0\x10\0\0\0\0\0\0\0\x07\0\0\0\0\0\0\0\0x\0int\0\x03\0\0\0\0\0\0\x01\x04\0\0\0 \0\0\x01", status: 0, output: b"same\n", fault: "" },
     Row { name: "the same twice", line: "btf-same --split=25", input: b"\x9f\xeb\x01\0\x18\0\0\0\0\0\0\0\0\0\0\0\0\0\0\0\x01\0\0\0\0\x9f\xeb\x01\0\x18\0\0\0\0\0\0\0\0\0\0\0\0\0\0\0\x01\0\0\0\0", status: 0, output: b"same\n", fault: "" },
     Row { name: "other types", line: "btf-same --split 45", input: b"\xeb\x9f\x01\0\0\0\0\x18\0\0\0\0\0\0\0\x10\0\0\0\x10\0\0\0\x05\0\0\0\x01\x01\0\0\0\0\0\0\x04\x01\0\0 \0int\0\xeb\x9f\x01\0\0\0\0\x18\0\0\0\0\0\0\0\x18\0\0\0\x18\0\0\0\x05\0\0\0\x01\x93\0\0\x01\0\0\0\x08\0\0\0\x03\xff\xff\xff\xfe\xff\xff\xff\xff\0e\0m\0", status: 1, output: b"different\n", fault: "" },
@@ -108,6 +112,7 @@ pub static RUNS_3: [Row; 40] = [
     Row { name: "the second is faulty", line: "btf-same --split 25", input: b"\x9f\xeb\x01\0\x18\0\0\0\0\0\0\0\0\0\0\0\0\0\0\0\x01\0\0\0\0\x9f\xeb\x01\0\x18\0\0\0\0\0\0\0\x0c\0\0\0\x0c\0\0\0\x01\0\0\0\0\0\0\0\0\0\0\x02\x02\0\0\0\0", status: 1, output: b"", fault: "second: fault 32 Reference\n" },
     Row { name: "the second is empty", line: "btf-same --split 25", input: b"\x9f\xeb\x01\0\x18\0\0\0\0\0\0\0\0\0\0\0\0\0\0\0\x01\0\0\0\0", status: 1, output: b"", fault: "second: fault 0 ShortHeader\n" },
     Row { name: "both are empty", line: "btf-same --split 0", input: b"", status: 1, output: b"", fault: "first: fault 0 ShortHeader\n" },
+], &[
     Row { name: "the split is after the end", line: "btf-same --split 26", input: b"\x9f\xeb\x01\0\x18\0\0\0\0\0\0\0\0\0\0\0\0\0\0\0\x01\0\0\0\0", status: 1, output: b"", fault: "split beyond input\n" },
     Row { name: "the split comes before a fault", line: "btf-same --split 38", input: b"\x9f\xeb\x01\0\x18\0\0\0\0\0\0\0\x0c\0\0\0\x0c\0\0\0\x01\0\0\0\0\0\0\0\0\0\0\x02\x02\0\0\0\0", status: 1, output: b"", fault: "split beyond input\n" },
     Row { name: "a refused line", line: "insn-same", input: b"\x95\0\0\0\0\0\0\0", status: 2, output: b"", fault: "usage: bpfcanon COMMAND [--order little|big] [--to little|big] [--other little|big] [--split N]\n" },
@@ -116,6 +121,7 @@ pub static RUNS_3: [Row; 40] = [
     Row { name: "a refused line", line: "insn-canon --order middle", input: b"\x95\0\0\0\0\0\0\0", status: 2, output: b"", fault: "usage: bpfcanon COMMAND [--order little|big] [--to little|big] [--other little|big] [--split N]\n" },
     Row { name: "a refused line", line: "insn-canon --order", input: b"\x95\0\0\0\0\0\0\0", status: 2, output: b"", fault: "usage: bpfcanon COMMAND [--order little|big] [--to little|big] [--other little|big] [--split N]\n" },
     Row { name: "a refused line", line: "insn-canon --order little --order big", input: b"\x95\0\0\0\0\0\0\0", status: 2, output: b"", fault: "usage: bpfcanon COMMAND [--order little|big] [--to little|big] [--other little|big] [--split N]\n" },
+], &[
     Row { name: "a refused line", line: "--order big", input: b"\x95\0\0\0\0\0\0\0", status: 2, output: b"", fault: "usage: bpfcanon COMMAND [--order little|big] [--to little|big] [--other little|big] [--split N]\n" },
     Row { name: "a refused line", line: "leave", input: b"\x95\0\0\0\0\0\0\0", status: 2, output: b"", fault: "usage: bpfcanon COMMAND [--order little|big] [--to little|big] [--other little|big] [--split N]\n" },
     Row { name: "a refused line", line: "insn-canon insn-canon", input: b"\x95\0\0\0\0\0\0\0", status: 2, output: b"", fault: "usage: bpfcanon COMMAND [--order little|big] [--to little|big] [--other little|big] [--split N]\n" },
@@ -124,6 +130,7 @@ pub static RUNS_3: [Row; 40] = [
     Row { name: "a refused line", line: "insn-groups --split 8", input: b"\x95\0\0\0\0\0\0\0", status: 2, output: b"", fault: "usage: bpfcanon COMMAND [--order little|big] [--to little|big] [--other little|big] [--split N]\n" },
     Row { name: "a refused line", line: "insn-groups --to big", input: b"\x95\0\0\0\0\0\0\0", status: 2, output: b"", fault: "usage: bpfcanon COMMAND [--order little|big] [--to little|big] [--other little|big] [--split N]\n" },
     Row { name: "a refused line", line: "insn-nothing", input: b"\x95\0\0\0\0\0\0\0", status: 2, output: b"", fault: "usage: bpfcanon COMMAND [--order little|big] [--to little|big] [--other little|big] [--split N]\n" },
+], &[
     Row { name: "a refused line", line: "insn-same --split 134217729", input: b"\x95\0\0\0\0\0\0\0", status: 2, output: b"", fault: "usage: bpfcanon COMMAND [--order little|big] [--to little|big] [--other little|big] [--split N]\n" },
     Row { name: "a refused line", line: "insn-same --split x", input: b"\x95\0\0\0\0\0\0\0", status: 2, output: b"", fault: "usage: bpfcanon COMMAND [--order little|big] [--to little|big] [--other little|big] [--split N]\n" },
     Row { name: "a refused line", line: "insn-same --split -1", input: b"\x95\0\0\0\0\0\0\0", status: 2, output: b"", fault: "usage: bpfcanon COMMAND [--order little|big] [--to little|big] [--other little|big] [--split N]\n" },
@@ -132,10 +139,7 @@ pub static RUNS_3: [Row; 40] = [
     Row { name: "a refused line", line: "btf-nothing", input: b"\x95\0\0\0\0\0\0\0", status: 2, output: b"", fault: "usage: bpfcanon COMMAND [--order little|big] [--to little|big] [--other little|big] [--split N]\n" },
     Row { name: "a refused line", line: "btf-show --to big", input: b"\x95\0\0\0\0\0\0\0", status: 2, output: b"", fault: "usage: bpfcanon COMMAND [--order little|big] [--to little|big] [--other little|big] [--split N]\n" },
     Row { name: "a refused line", line: "btf-check --split 1", input: b"\x95\0\0\0\0\0\0\0", status: 2, output: b"", fault: "usage: bpfcanon COMMAND [--order little|big] [--to little|big] [--other little|big] [--split N]\n" },
-];
-
-#[rattlefmt::skip]
-pub static RUNS_4: [Row; 40] = [
+], &[
     Row { name: "a refused line", line: "btf-check --order little", input: b"\x95\0\0\0\0\0\0\0", status: 2, output: b"", fault: "usage: bpfcanon COMMAND [--order little|big] [--to little|big] [--other little|big] [--split N]\n" },
     Row { name: "a refused line", line: "btf-same --split 134217729", input: b"\x95\0\0\0\0\0\0\0", status: 2, output: b"", fault: "usage: bpfcanon COMMAND [--order little|big] [--to little|big] [--other little|big] [--split N]\n" },
     Row { name: "a refused line", line: "btf-same --split 45 --order big", input: b"\x95\0\0\0\0\0\0\0", status: 2, output: b"", fault: "usage: bpfcanon COMMAND [--order little|big] [--to little|big] [--other little|big] [--split N]\n" },
@@ -144,6 +148,7 @@ pub static RUNS_4: [Row; 40] = [
     Row { name: "a refused line", line: "-h", input: b"\x95\0\0\0\0\0\0\0", status: 2, output: b"", fault: "usage: bpfcanon COMMAND [--order little|big] [--to little|big] [--other little|big] [--split N]\n" },
     Row { name: "a refused line", line: "help", input: b"\x95\0\0\0\0\0\0\0", status: 2, output: b"", fault: "usage: bpfcanon COMMAND [--order little|big] [--to little|big] [--other little|big] [--split N]\n" },
     Row { name: "a refused line", line: "help insn-canon", input: b"\x95\0\0\0\0\0\0\0", status: 2, output: b"", fault: "usage: bpfcanon COMMAND [--order little|big] [--to little|big] [--other little|big] [--split N]\n" },
+], &[
     Row { name: "a refused line", line: "insn-canon --help", input: b"\x95\0\0\0\0\0\0\0", status: 2, output: b"", fault: "usage: bpfcanon COMMAND [--order little|big] [--to little|big] [--other little|big] [--split N]\n" },
     Row { name: "a refused line", line: "insn-canon -h", input: b"\x95\0\0\0\0\0\0\0", status: 2, output: b"", fault: "usage: bpfcanon COMMAND [--order little|big] [--to little|big] [--other little|big] [--split N]\n" },
     Row { name: "a refused line", line: "insn-canon help", input: b"\x95\0\0\0\0\0\0\0", status: 2, output: b"", fault: "usage: bpfcanon COMMAND [--order little|big] [--to little|big] [--other little|big] [--split N]\n" },
@@ -152,6 +157,7 @@ pub static RUNS_4: [Row; 40] = [
     Row { name: "the sections overlap", line: "btf-check", input: b"\x9f\xeb\x01\0\x18\0\0\0\0\0\0\0\0\0\0\0\x01\0\0\0\x01\0\0\0\0", status: 1, output: b"", fault: "fault 8 Sections\n" },
     Row { name: "a header longer than the file", line: "btf-check", input: b"\x9f\xeb\x01\0\x1a\0\0\0\0\0\0\0\0\0\0\0\0\0\0\0\x01\0\0\0\0", status: 1, output: b"", fault: "fault 4 HeaderLength\n" },
     Row { name: "a header that takes the strings", line: "btf-check", input: b"\x9f\xeb\x01\0\x19\0\0\0\0\0\0\0\0\0\0\0\0\0\0\0\x01\0\0\0\0", status: 1, output: b"", fault: "fault 25 FileLength\n" },
+], &[
     Row { name: "version 2, and a flag", line: "btf-check", input: b"\x9f\xeb\x02\x01\x18\0\0\0\0\0\0\0\0\0\0\0\0\0\0\0\x01\0\0\0\0", status: 1, output: b"", fault: "fault 2 Version\n" },
     Row { name: "a flag", line: "btf-check", input: b"\x9f\xeb\x01\x01\x18\0\0\0\0\0\0\0\0\0\0\0\0\0\0\0\x01\0\0\0\0", status: 1, output: b"", fault: "fault 3 Flags\n" },
     Row { name: "no magic", line: "btf-check", input: b"\0\xeb\x01\0\x18\0\0\0\0\0\0\0\0\0\0\0\0\0\0\0\x01\0\0\0\0", status: 1, output: b"", fault: "fault 0 Magic\n" },
@@ -160,6 +166,7 @@ pub static RUNS_4: [Row; 40] = [
     Row { name: "strings that begin with a letter", line: "btf-check", input: b"\x9f\xeb\x01\0\x18\0\0\0\0\0\0\0\0\0\0\0\0\0\0\0\x03\0\0\0\x01a\0", status: 1, output: b"", fault: "fault 24 FirstString\n" },
     Row { name: "strings that end with a letter", line: "btf-check", input: b"\x9f\xeb\x01\0\x18\0\0\0\0\0\0\0\0\0\0\0\0\0\0\0\x02\0\0\0\0a", status: 1, output: b"", fault: "fault 25 LastString\n" },
     Row { name: "one letter for all strings", line: "btf-check", input: b"\x9f\xeb\x01\0\x18\0\0\0\0\0\0\0\0\0\0\0\0\0\0\0\x01\0\0\0\x01", status: 1, output: b"", fault: "fault 24 FirstString\n" },
+], &[
     Row { name: "a FLOAT of 3 bytes", line: "btf-check", input: b"\x9f\xeb\x01\0\x18\0\0\0\0\0\0\0\x0c\0\0\0\x0c\0\0\0\x01\0\0\0\0\0\0\0\0\0\0\x10\x03\0\0\0\0", status: 1, output: b"", fault: "fault 32 Size\n" },
     Row { name: "an INT of more bits than its size", line: "btf-check", input: b"\x9f\xeb\x01\0\x18\0\0\0\0\0\0\0\x10\0\0\0\x10\0\0\0\x01\0\0\0\0\0\0\0\0\0\0\x01\x01\0\0\0\t\0\0\0\0", status: 1, output: b"", fault: "fault 36 IntWord\n" },
     Row { name: "an INT of two encodings", line: "btf-check", input: b"\x9f\xeb\x01\0\x18\0\0\0\0\0\0\0\x10\0\0\0\x10\0\0\0\x01\0\0\0\0\0\0\0\0\0\0\x01\x01\0\0\0\x08\0\0\x03\0", status: 1, output: b"", fault: "fault 36 IntWord\n" },
@@ -168,6 +175,7 @@ pub static RUNS_4: [Row; 40] = [
     Row { name: "an unused bit of info", line: "btf-check", input: b"\x9f\xeb\x01\0\x18\0\0\0\0\0\0\0\x0c\0\0\0\x0c\0\0\0\x01\0\0\0\0\0\0\0\0\0\04\0\0\0\0\0", status: 1, output: b"", fault: "fault 28 InfoBits\n" },
     Row { name: "a flag of a PTR", line: "btf-check", input: b"\x9f\xeb\x01\0\x18\0\0\0\0\0\0\0\x0c\0\0\0\x0c\0\0\0\x01\0\0\0\0\0\0\0\0\0\0\x82\0\0\0\0\0", status: 1, output: b"", fault: "fault 28 FlagSet\n" },
     Row { name: "an item of a PTR", line: "btf-check", input: b"\x9f\xeb\x01\0\x18\0\0\0\0\0\0\0\x0c\0\0\0\x0c\0\0\0\x01\0\0\0\0\0\0\0\x01\0\0\x02\0\0\0\0\0", status: 1, output: b"", fault: "fault 28 Vlen\n" },
+], &[
     Row { name: "one of two members", line: "btf-check", input: b"\x9f\xeb\x01\0\x18\0\0\0\0\0\0\0\x18\0\0\0\x18\0\0\0\x01\0\0\0\0\0\0\0\x02\0\0\x04\x04\0\0\0\0\0\0\0\0\0\0\0\0\0\0\0\0", status: 1, output: b"", fault: "fault 36 TailCut\n" },
     Row { name: "a FWD without a name", line: "btf-check", input: b"\x9f\xeb\x01\0\x18\0\0\0\0\0\0\0\x0c\0\0\0\x0c\0\0\0\x01\0\0\0\0\0\0\0\0\0\0\x07\0\0\0\0\0", status: 1, output: b"", fault: "fault 24 NameMissing\n" },
     Row { name: "a third word of a FWD", line: "btf-check", input: b"\x9f\xeb\x01\0\x18\0\0\0\0\0\0\0\x0c\0\0\0\x0c\0\0\0\x03\0\0\0\x01\0\0\0\0\0\0\x07\x01\0\0\0\0f\0", status: 1, output: b"", fault: "fault 32 NotZero\n" },
@@ -176,10 +184,7 @@ pub static RUNS_4: [Row; 40] = [
     Row { name: "a tag on item 0 of a variable", line: "btf-check", input: b"\x9f\xeb\x01\0\x18\0\0\0\0\0\0\0 \0\0\0 \0\0\0\x05\0\0\0\x01\0\0\0\0\0\0\x0e\0\0\0\0\0\0\0\0\x03\0\0\0\0\0\0\x11\x01\0\0\0\0\0\0\0\0f\0t\0", status: 1, output: b"", fault: "fault 52 Component\n" },
     Row { name: "a tag on item 65,536 of a variable", line: "btf-check", input: b"\x9f\xeb\x01\0\x18\0\0\0\0\0\0\0 \0\0\0 \0\0\0\x05\0\0\0\x01\0\0\0\0\0\0\x0e\0\0\0\0\0\0\0\0\x03\0\0\0\0\0\0\x11\x01\0\0\0\0\0\x01\0\0f\0t\0", status: 1, output: b"", fault: "fault 52 Component\n" },
     Row { name: "a bit-field of an INT of 31 bits", line: "btf-check", input: b"\x9f\xeb\x01\0\x18\0\0\0\0\0\0\0(\0\0\0(\0\0\0\t\0\0\0\x01\0\0\0\0\0\0\x01\x04\0\0\0\x1f\0\0\x01\x05\0\0\0\x01\0\0\x84\x04\0\0\0\x07\0\0\0\x01\0\0\0\0\0\0\x03\0int\0s\0a\0", status: 1, output: b"", fault: "fault 56 MemberInt\n" },
-];
-
-#[rattlefmt::skip]
-pub static RUNS_5: [Row; 40] = [
+], &[
     Row { name: "a bit-field of an INT with an offset", line: "btf-check", input: b"\x9f\xeb\x01\0\x18\0\0\0\0\0\0\0(\0\0\0(\0\0\0\t\0\0\0\x01\0\0\0\0\0\0\x01\x04\0\0\0 \0\x01\x01\x05\0\0\0\x01\0\0\x84\x04\0\0\0\x07\0\0\0\x01\0\0\0\0\0\0\x03\0int\0s\0a\0", status: 1, output: b"", fault: "fault 56 MemberInt\n" },
     Row { name: "a bit-field past the end of its struct", line: "btf-check", input: b"\x9f\xeb\x01\0\x18\0\0\0\0\0\0\0(\0\0\0(\0\0\0\t\0\0\0\x01\0\0\0\0\0\0\x01\x04\0\0\0 \0\0\x01\x05\0\0\0\x01\0\0\x84\x04\0\0\0\x07\0\0\0\x01\0\0\0\x1e\0\0\x03\0int\0s\0a\0", status: 1, output: b"", fault: "fault 60 MemberPlace\n" },
     Row { name: "a section of a prototype", line: "btf-check", input: b"\x9f\xeb\x01\0\x18\0\0\0\0\0\0\00\0\0\00\0\0\0\n\0\0\0\0\0\0\0\0\0\0\r\0\0\0\0\x01\0\0\0\x02\0\0\x0c\x01\0\0\0\x03\0\0\0\x01\0\0\x0f\0\0\0\0\x01\0\0\0\0\0\0\0\0\0\0\0\0f\0.ksyms\0", status: 1, output: b"", fault: "fault 60 TargetKind\n" },
@@ -188,6 +193,7 @@ pub static RUNS_5: [Row; 40] = [
     Row { name: "an unknown type, checked", line: "btf-check", input: b"\x9f\xeb\x01\0\x18\0\0\0\0\0\0\0\x0c\0\0\0\x0c\0\0\0\x01\0\0\0\0\0\0\0\0\0\0\x02\x02\0\0\0\0", status: 1, output: b"", fault: "fault 32 Reference\n" },
     Row { name: "no types with the strings after a gap of one string", line: "btf-canon", input: b"\x9f\xeb\x01\0\x18\0\0\0\x01\0\0\0\0\0\0\0\0\0\0\0\x01\0\0\0\0", status: 0, output: b"\x9f\xeb\x01\0\x18\0\0\0\0\0\0\0\0\0\0\0\0\0\0\0\x01\0\0\0\0", fault: "" },
     Row { name: "two names with a shared tail, each with a string of its own", line: "btf-canon", input: b"\x9f\xeb\x01\0\x18\0\0\0\0\0\0\0 \0\0\0 \0\0\0\x12\0\0\0\x01\0\0\0\0\0\0\x01\x04\0\0\0 \0\0\0\x0e\0\0\0\0\0\0\x01\x04\0\0\0 \0\0\x01\0unsigned int\0int\0", status: 0, output: b"\x9f\xeb\x01\0\x18\0\0\0\0\0\0\0 \0\0\0 \0\0\0\x0e\0\0\0\x01\0\0\0\0\0\0\x01\x04\0\0\0 \0\0\0\n\0\0\0\0\0\0\x01\x04\0\0\0 \0\0\x01\0unsigned int\0", fault: "" },
+], &[
     Row { name: "the shorter of two names first", line: "btf-canon", input: b"\x9f\xeb\x01\0\x18\0\0\0\0\0\0\0 \0\0\0 \0\0\0\x0e\0\0\0\n\0\0\0\0\0\0\x01\x04\0\0\0 \0\0\0\x01\0\0\0\0\0\0\x01\x04\0\0\0 \0\0\x01\0unsigned int\0", status: 0, output: b"\x9f\xeb\x01\0\x18\0\0\0\0\0\0\0 \0\0\0 \0\0\0\x0e\0\0\0\n\0\0\0\0\0\0\x01\x04\0\0\0 \0\0\0\x01\0\0\0\0\0\0\x01\x04\0\0\0 \0\0\x01\0unsigned int\0", fault: "" },
     Row { name: "the host is the later of two names", line: "btf-canon", input: b"\x9f\xeb\x01\0\x18\0\0\0\0\0\0\0$\0\0\0$\0\0\0\x0e\0\0\0\n\0\0\0\0\0\0\x08\0\0\0\0\x01\0\0\0\0\0\0\x08\0\0\0\0\x06\0\0\0\0\0\0\x08\0\0\0\0\0c\0bc\0abc\0dbc\0", status: 0, output: b"\x9f\xeb\x01\0\x18\0\0\0\0\0\0\0$\0\0\0$\0\0\0\t\0\0\0\x01\0\0\0\0\0\0\x08\0\0\0\0\x07\0\0\0\0\0\0\x08\0\0\0\0\x05\0\0\0\0\0\0\x08\0\0\0\0\0dbc\0abc\0", fault: "" },
     Row { name: "a flag of an empty struct", line: "btf-canon", input: b"\x9f\xeb\x01\0\x18\0\0\0\0\0\0\0\x0c\0\0\0\x0c\0\0\0\x01\0\0\0\0\0\0\0\0\0\0\x84\0\0\0\0\0", status: 0, output: b"\x9f\xeb\x01\0\x18\0\0\0\0\0\0\0\x0c\0\0\0\x0c\0\0\0\x01\0\0\0\0\0\0\0\0\0\0\x04\0\0\0\0\0", fault: "" },
@@ -196,6 +202,7 @@ pub static RUNS_5: [Row; 40] = [
     Row { name: "an exchange of two names", line: "btf-same --split 70", input: b"\x9f\xeb\x01\0\x18\0\0\0\0\0\0\0 \0\0\0 \0\0\0\x0e\0\0\0\x01\0\0\0\0\0\0\x01\x04\0\0\0 \0\0\0\n\0\0\0\0\0\0\x01\x04\0\0\0 \0\0\x01\0unsigned int\0\x9f\xeb\x01\0\x18\0\0\0\0\0\0\0 \0\0\0 \0\0\0\x0e\0\0\0\n\0\0\0\0\0\0\x01\x04\0\0\0 \0\0\0\x01\0\0\0\0\0\0\x01\x04\0\0\0 \0\0\x01\0unsigned int\0", status: 1, output: b"different\n", fault: "" },
     Row { name: "an enum without values", line: "btf-check", input: b"\x9f\xeb\x01\0\x18\0\0\0\0\0\0\0\x0c\0\0\0\x0c\0\0\0\x01\0\0\0\0\0\0\0\0\0\0\x06\0\0\0\0\0", status: 0, output: b"ok 1 types\n", fault: "" },
     Row { name: "a float of 12 bytes", line: "btf-check", input: b"\x9f\xeb\x01\0\x18\0\0\0\0\0\0\0\x0c\0\0\0\x0c\0\0\0\x01\0\0\0\0\0\0\0\0\0\0\x10\x0c\0\0\0\0", status: 0, output: b"ok 1 types\n", fault: "" },
+], &[
     Row { name: "an INT of no bits", line: "btf-check", input: b"\x9f\xeb\x01\0\x18\0\0\0\0\0\0\0\x10\0\0\0\x10\0\0\0\x01\0\0\0\0\0\0\0\0\0\0\x01\x01\0\0\0\0\0\0\0\0", status: 0, output: b"ok 1 types\n", fault: "" },
     Row { name: "a member of an INT of 31 bits", line: "btf-check", input: b"\x9f\xeb\x01\0\x18\0\0\0\0\0\0\0(\0\0\0(\0\0\0\t\0\0\0\x01\0\0\0\0\0\0\x01\x04\0\0\0\x1f\0\0\x01\x05\0\0\0\x01\0\0\x84\x04\0\0\0\x07\0\0\0\x01\0\0\0\0\0\0\0\0int\0s\0a\0", status: 0, output: b"ok 2 types\n", fault: "" },
     Row { name: "a bit-field that ends at the end of its struct", line: "btf-check", input: b"\x9f\xeb\x01\0\x18\0\0\0\0\0\0\0(\0\0\0(\0\0\0\t\0\0\0\x01\0\0\0\0\0\0\x01\x04\0\0\0 \0\0\x01\x05\0\0\0\x01\0\0\x84\x04\0\0\0\x07\0\0\0\x01\0\0\0\x1d\0\0\x03\0int\0s\0a\0", status: 0, output: b"ok 2 types\n", fault: "" },
@@ -204,6 +211,7 @@ pub static RUNS_5: [Row; 40] = [
     Row { name: "an offset of 32 for a move of 32 bits", line: "insn-canon", input: b"\xbc\x12 \0\0\0\0\0", status: 1, output: b"", fault: "fault 2 Offset\n" },
     Row { name: "a swap of 8 bits", line: "insn-canon", input: b"\xd7\x01\0\0\x08\0\0\0", status: 1, output: b"", fault: "fault 4 Imm\n" },
     Row { name: "may_goto", line: "insn-canon", input: b"\xe5\0\0\0\0\0\0\0", status: 1, output: b"", fault: "fault 0 Opcode\n" },
+], &[
     Row { name: "an atomic operation of 1 byte", line: "insn-canon", input: b"\xd3\0\0\0\0\0\0\0", status: 1, output: b"", fault: "fault 0 Opcode\n" },
     Row { name: "a signed load of 8 bytes", line: "insn-canon", input: b"\x99\0\0\0\0\0\0\0", status: 1, output: b"", fault: "fault 0 Opcode\n" },
     Row { name: "a local call with an offset", line: "insn-canon", input: b"\x85\x10\x05\0\x07\0\0\0", status: 1, output: b"", fault: "fault 2 Offset\n" },
@@ -212,6 +220,7 @@ pub static RUNS_5: [Row; 40] = [
     Row { name: "no group of a file with a fault", line: "insn-groups", input: b"\x95\0\0\0\0\0\0\0\x04\x10\0\0\x05\0\0\0", status: 1, output: b"", fault: "fault 9 Src\n" },
     Row { name: "a move of 32 bits", line: "insn-canon", input: b"\xb4\x01\0\0\x07\0\0\0", status: 0, output: b"\xb4\x01\0\0\x07\0\0\0", fault: "" },
     Row { name: "a move of 32 bits to big-endian", line: "insn-canon --to big", input: b"\xb4\x01\0\0\x07\0\0\0", status: 0, output: b"\xb4\x10\0\0\0\0\0\x07", fault: "" },
+], &[
     Row { name: "a jump to the next instruction", line: "insn-canon", input: b"\x05\0\0\0\0\0\0\0", status: 0, output: b"\x05\0\0\0\0\0\0\0", fault: "" },
     Row { name: "a jump to the next instruction listed", line: "insn-show", input: b"\x05\0\0\0\0\0\0\0", status: 0, output: b"ja +0\n", fault: "" },
     Row { name: "a move that extends the sign", line: "insn-canon", input: b"\xbf\x12\x08\0\0\0\0\0", status: 0, output: b"\xbf\x12\x08\0\0\0\0\0", fault: "" },
@@ -220,10 +229,7 @@ pub static RUNS_5: [Row; 40] = [
     Row { name: "a signed division's groups", line: "insn-groups", input: b"7\x01\x01\0\x03\0\0\0", status: 0, output: b"divmul32\ndivmul64\n", fault: "" },
     Row { name: "a compare and exchange listed", line: "insn-show", input: b"\xdb!\xf8\xff\xf1\0\0\0", status: 0, output: b"cmpxchg [r1-8], r2\n", fault: "" },
     Row { name: "a compare and exchange's groups", line: "insn-groups", input: b"\xdb!\xf8\xff\xf1\0\0\0", status: 0, output: b"atomic32\natomic64\n", fault: "" },
-];
-
-#[rattlefmt::skip]
-pub static RUNS_6: [Row; 40] = [
+], &[
     Row { name: "an indirect packet load listed", line: "insn-show", input: b"H0\0\0\x04\0\0\0", status: 0, output: b"ldindh r3, 4\n", fault: "" },
     Row { name: "an indirect packet load's group", line: "insn-groups", input: b"H0\0\0\x04\0\0\0", status: 0, output: b"packet\n", fault: "" },
     Row { name: "a swap of 32 bits listed", line: "insn-show", input: b"\xd7\x01\0\0 \0\0\0", status: 0, output: b"swap32 r1\n", fault: "" },
@@ -232,6 +238,7 @@ pub static RUNS_6: [Row; 40] = [
     Row { name: "a swap of 64 bits' groups", line: "insn-groups", input: b"\xd7\x01\0\0@\0\0\0", status: 0, output: b"base32\nbase64\n", fault: "" },
     Row { name: "a call by BTF id with an offset listed", line: "insn-show", input: b"\x85 \x05\0\x07\0\0\0", status: 0, output: b"call_btf 7, 5\n", fault: "" },
     Row { name: "the address of a variable", line: "insn-canon --order big", input: b"\x18\x13\0\0\0\0\0\x03\0\0\0\0\0\0\0\x01", status: 0, output: b"\x181\0\0\x03\0\0\0\0\0\0\0\x01\0\0\0", fault: "" },
+], &[
     Row { name: "the address of a variable listed", line: "insn-show --order big", input: b"\x18\x13\0\0\0\0\0\x03\0\0\0\0\0\0\0\x01", status: 0, output: b"lddw_var r1, 3, 1\n", fault: "" },
     Row { name: "a signed load listed", line: "insn-show", input: b"\x91\x12\x04\0\0\0\0\0", status: 0, output: b"ldxsb r2, [r1+4]\n", fault: "" },
     Row { name: "a signed load's groups", line: "insn-groups", input: b"\x91\x12\x04\0\0\0\0\0", status: 0, output: b"base32\nbase64\n", fault: "" },
@@ -240,6 +247,7 @@ pub static RUNS_6: [Row; 40] = [
     Row { name: "a jump without a sign", line: "insn-read", input: b"ja 5", status: 0, output: b"\x05\0\x05\0\0\0\0\0", fault: "" },
     Row { name: "a jump without a sign, shown", line: "insn-show", input: b"\x05\0\x05\0\0\0\0\0", status: 0, output: b"ja +5\n", fault: "" },
     Row { name: "a hexadecimal number", line: "insn-read", input: b"mov32 r3, -0x80000000", status: 0, output: b"\xb4\x03\0\0\0\0\0\x80", fault: "" },
+], &[
     Row { name: "a hexadecimal number, shown", line: "insn-show", input: b"\xb4\x03\0\0\0\0\0\x80", status: 0, output: b"mov32 r3, -2147483648\n", fault: "" },
     Row { name: "a hexadecimal number of 64 bits", line: "insn-read", input: b"lddw r1, 0xffffffffffffffff", status: 0, output: b"\x18\x01\0\0\xff\xff\xff\xff\0\0\0\0\xff\xff\xff\xff", fault: "" },
     Row { name: "a hexadecimal number of 64 bits, shown", line: "insn-show", input: b"\x18\x01\0\0\xff\xff\xff\xff\0\0\0\0\xff\xff\xff\xff", status: 0, output: b"lddw r1, 18446744073709551615\n", fault: "" },
@@ -248,6 +256,7 @@ pub static RUNS_6: [Row; 40] = [
     Row { name: "a number of 32 bits without a sign", line: "insn-read", input: b"mov r1, 2147483648", status: 1, output: b"", fault: "fault line 1 Range\n" },
     Row { name: "a number of 60 digits", line: "insn-read", input: b"mov r1, 999999999999999999999999999999999999999999999999999999999999", status: 1, output: b"", fault: "fault line 1 Range\n" },
     Row { name: "an operand of an exit", line: "insn-read", input: b"exit r0", status: 1, output: b"", fault: "fault line 1 Shape\n" },
+], &[
     Row { name: "a comma is missing", line: "insn-read", input: b"mov r1 r2", status: 1, output: b"", fault: "fault line 1 Shape\n" },
     Row { name: "no hexadecimal digit", line: "insn-read", input: b"mov r1, 0x", status: 1, output: b"", fault: "fault line 1 Shape\n" },
     Row { name: "a register with a zero before its number", line: "insn-read", input: b"mov r1, r01", status: 1, output: b"", fault: "fault line 1 Shape\n" },
@@ -256,6 +265,7 @@ pub static RUNS_6: [Row; 40] = [
     Row { name: "a comma before the mnemonic", line: "insn-read", input: b", exit", status: 1, output: b"", fault: "fault line 1 Word\n" },
     Row { name: "a character after a number that is too large", line: "insn-read", input: b"mov r1, 99999999999 @", status: 1, output: b"", fault: "fault line 1 Char\n" },
     Row { name: "a character alone", line: "insn-read", input: b"@", status: 1, output: b"", fault: "fault line 1 Char\n" },
+], &[
     Row { name: "a refused line", line: "insn-canon --to little --to little", input: b"\x95\0\0\0\0\0\0\0", status: 2, output: b"", fault: "usage: bpfcanon COMMAND [--order little|big] [--to little|big] [--other little|big] [--split N]\n" },
     Row { name: "a refused line", line: "insn-show --order big --order big", input: b"\x95\0\0\0\0\0\0\0", status: 2, output: b"", fault: "usage: bpfcanon COMMAND [--order little|big] [--to little|big] [--other little|big] [--split N]\n" },
     Row { name: "a refused line", line: "insn-same --split 8 --split 8", input: b"\x95\0\0\0\0\0\0\0", status: 2, output: b"", fault: "usage: bpfcanon COMMAND [--order little|big] [--to little|big] [--other little|big] [--split N]\n" },
@@ -264,10 +274,7 @@ pub static RUNS_6: [Row; 40] = [
     Row { name: "a refused line", line: "insn-canon --other big", input: b"\x95\0\0\0\0\0\0\0", status: 2, output: b"", fault: "usage: bpfcanon COMMAND [--order little|big] [--to little|big] [--other little|big] [--split N]\n" },
     Row { name: "a refused line", line: "insn-show --other big", input: b"\x95\0\0\0\0\0\0\0", status: 2, output: b"", fault: "usage: bpfcanon COMMAND [--order little|big] [--to little|big] [--other little|big] [--split N]\n" },
     Row { name: "a refused line", line: "insn-show --split 8", input: b"\x95\0\0\0\0\0\0\0", status: 2, output: b"", fault: "usage: bpfcanon COMMAND [--order little|big] [--to little|big] [--other little|big] [--split N]\n" },
-];
-
-#[rattlefmt::skip]
-pub static RUNS_7: [Row; 23] = [
+], &[
     Row { name: "a refused line", line: "insn-read --split 8", input: b"\x95\0\0\0\0\0\0\0", status: 2, output: b"", fault: "usage: bpfcanon COMMAND [--order little|big] [--to little|big] [--other little|big] [--split N]\n" },
     Row { name: "a refused line", line: "insn-read --other big", input: b"\x95\0\0\0\0\0\0\0", status: 2, output: b"", fault: "usage: bpfcanon COMMAND [--order little|big] [--to little|big] [--other little|big] [--split N]\n" },
     Row { name: "a refused line", line: "insn-groups --other big", input: b"\x95\0\0\0\0\0\0\0", status: 2, output: b"", fault: "usage: bpfcanon COMMAND [--order little|big] [--to little|big] [--other little|big] [--split N]\n" },
@@ -276,6 +283,7 @@ pub static RUNS_7: [Row; 23] = [
     Row { name: "a refused line", line: "insn-same --split 8 8", input: b"\x95\0\0\0\0\0\0\0", status: 2, output: b"", fault: "usage: bpfcanon COMMAND [--order little|big] [--to little|big] [--other little|big] [--split N]\n" },
     Row { name: "a refused line", line: "btf-canon --other big", input: b"\x95\0\0\0\0\0\0\0", status: 2, output: b"", fault: "usage: bpfcanon COMMAND [--order little|big] [--to little|big] [--other little|big] [--split N]\n" },
     Row { name: "a refused line", line: "btf-canon --split 8", input: b"\x95\0\0\0\0\0\0\0", status: 2, output: b"", fault: "usage: bpfcanon COMMAND [--order little|big] [--to little|big] [--other little|big] [--split N]\n" },
+], &[
     Row { name: "a refused line", line: "btf-show --order big", input: b"\x95\0\0\0\0\0\0\0", status: 2, output: b"", fault: "usage: bpfcanon COMMAND [--order little|big] [--to little|big] [--other little|big] [--split N]\n" },
     Row { name: "a refused line", line: "btf-show --split 8", input: b"\x95\0\0\0\0\0\0\0", status: 2, output: b"", fault: "usage: bpfcanon COMMAND [--order little|big] [--to little|big] [--other little|big] [--split N]\n" },
     Row { name: "a refused line", line: "btf-check --to big", input: b"\x95\0\0\0\0\0\0\0", status: 2, output: b"", fault: "usage: bpfcanon COMMAND [--order little|big] [--to little|big] [--other little|big] [--split N]\n" },
@@ -284,6 +292,7 @@ pub static RUNS_7: [Row; 23] = [
     Row { name: "a refused line", line: "insn-canon --order bi", input: b"\x95\0\0\0\0\0\0\0", status: 2, output: b"", fault: "usage: bpfcanon COMMAND [--order little|big] [--to little|big] [--other little|big] [--split N]\n" },
     Row { name: "a refused line", line: "insn-canon --orde big", input: b"\x95\0\0\0\0\0\0\0", status: 2, output: b"", fault: "usage: bpfcanon COMMAND [--order little|big] [--to little|big] [--other little|big] [--split N]\n" },
     Row { name: "a refused line", line: "insn-canon -o big", input: b"\x95\0\0\0\0\0\0\0", status: 2, output: b"", fault: "usage: bpfcanon COMMAND [--order little|big] [--to little|big] [--other little|big] [--split N]\n" },
+], &[
     Row { name: "a refused line", line: "insn-canon big", input: b"\x95\0\0\0\0\0\0\0", status: 2, output: b"", fault: "usage: bpfcanon COMMAND [--order little|big] [--to little|big] [--other little|big] [--split N]\n" },
     Row { name: "a refused line", line: "--to big", input: b"\x95\0\0\0\0\0\0\0", status: 2, output: b"", fault: "usage: bpfcanon COMMAND [--order little|big] [--to little|big] [--other little|big] [--split N]\n" },
     Row { name: "a refused line", line: "--split 8", input: b"\x95\0\0\0\0\0\0\0", status: 2, output: b"", fault: "usage: bpfcanon COMMAND [--order little|big] [--to little|big] [--other little|big] [--split N]\n" },
@@ -291,4 +300,4 @@ pub static RUNS_7: [Row; 23] = [
     Row { name: "a refused line", line: "INSN-CANON", input: b"\x95\0\0\0\0\0\0\0", status: 2, output: b"", fault: "usage: bpfcanon COMMAND [--order little|big] [--to little|big] [--other little|big] [--split N]\n" },
     Row { name: "a refused line", line: "insn-same --split 0x8", input: b"\x95\0\0\0\0\0\0\0", status: 2, output: b"", fault: "usage: bpfcanon COMMAND [--order little|big] [--to little|big] [--other little|big] [--split N]\n" },
     Row { name: "a refused line", line: "insn-same --split 18446744073709551616", input: b"\x95\0\0\0\0\0\0\0", status: 2, output: b"", fault: "usage: bpfcanon COMMAND [--order little|big] [--to little|big] [--other little|big] [--split N]\n" },
-];
+]]}
