@@ -6,6 +6,7 @@ use crate::{
 };
 use bpf_insn::{Insn, Order, decode_insns, insn_bytes};
 use std::alloc::{AllocError, Global};
+use std::process::Abort;
 use std::test::Fail;
 
 mod faults;
@@ -56,36 +57,53 @@ fn pushed(alloc: Global, insns: &[Insn]) -> Result<Vec<u8>, AllocError> {
 
 const COMMENT: &[u8] = b"; lines\n";
 
+/// Whether these instructions have these lines.
+fn is_written(alloc: Global, insns: &[Insn], lines: &[u8]) -> Result<bool, Fail> {
+    let appended = pushed(alloc, insns)?;
+    Ok(listing(alloc, insns)?.as_slice() == lines && appended.strip_prefix(COMMENT) == Some(lines))
+}
+
+/// Whether a listing is read as the bytes of these instructions.
+fn has_bytes(alloc: Global, order: Order, text: &[u8], insns: &[Insn]) -> Result<bool, Fail> {
+    Ok(read_listing_bytes(alloc, order, text)? == bytes_of(alloc, order, insns)?)
+}
+
 /// Whether every call returns these lines and bytes for a listing.
 fn is_listed(alloc: Global, text: &[u8], lines: &[u8], bytes: &[u8]) -> Result<bool, Fail> {
     let insns = read_listing(alloc, text)?;
-    let appended = pushed(alloc, &insns)?;
-    let big = bytes_of(alloc, Order::Big, &insns)?;
-    let is_read = decode_insns(alloc, Order::Little, bytes)? == insns
-        && bytes_of(alloc, Order::Little, &insns)?.as_slice() == bytes
-        && read_listing_bytes(alloc, Order::Little, text)?.as_slice() == bytes
-        && read_listing_bytes(alloc, Order::Big, text)? == big;
-    let is_written = listing(alloc, &insns)?.as_slice() == lines
-        && appended.strip_prefix(COMMENT) == Some(lines);
-    Ok(is_read && is_written)
+    let is_decoded = decode_insns(alloc, Order::Little, bytes)? == insns;
+    let is_spelled = bytes_of(alloc, Order::Little, &insns)?.as_slice() == bytes;
+    let is_read = has_bytes(alloc, Order::Little, text, &insns)?
+        && has_bytes(alloc, Order::Big, text, &insns)?;
+    Ok(is_decoded && is_spelled && is_read && is_written(alloc, &insns, lines)?)
+}
+
+/// Checks that each line is read and written.
+fn check_lines(rt: &impl Abort, alloc: Global, rows: &[WrittenRow]) -> Result<(), Fail> {
+    for row in rows {
+        let is_listed = is_listed(alloc, row.line, row.line, row.bytes)?;
+        equal(rt, &is_listed, &true, row);
+    }
+    Ok(())
 }
 
 #[test]
 fn each_mnemonic_is_read_and_written(rt: HostRuntime) -> Result<(), Fail> {
-    let rows = mnemonics::ARITHMETIC
-        .iter()
-        .chain(mnemonics::JUMPS)
-        .chain(mnemonics::LOAD_STORE);
-    for row in rows {
-        let is_listed = is_listed(rt.alloc(), row.line, row.line, row.bytes)?;
-        equal(&rt, &is_listed, &true, row);
+    for rows in mnemonics::arithmetic() {
+        check_lines(&rt, rt.alloc(), rows)?;
+    }
+    for rows in mnemonics::jumps() {
+        check_lines(&rt, rt.alloc(), rows)?;
+    }
+    for rows in mnemonics::load_store() {
+        check_lines(&rt, rt.alloc(), rows)?;
     }
     Ok(())
 }
 
 #[test]
 fn other_spellings_are_read(rt: HostRuntime) -> Result<(), Fail> {
-    for row in forms::FORMS.iter() {
+    for row in forms::forms().into_iter().flatten() {
         let is_listed = is_listed(rt.alloc(), row.text, row.lines, row.bytes)?;
         equal(&rt, &is_listed, &true, row);
     }
@@ -122,7 +140,7 @@ fn both_faults(alloc: Global, text: &[u8]) -> (Option<ListError>, Option<ListErr
 
 #[test]
 fn the_first_fault_is_found(rt: HostRuntime) {
-    for row in faults::FAULTS.iter() {
+    for row in faults::faults().into_iter().flatten() {
         let fault = Some(ListError::Fault(LineFault {
             line: row.line,
             cause: row.cause,
@@ -178,14 +196,10 @@ const CAUSES: [(LineCause, &str, &str); 4] = [
 #[test]
 fn causes_and_errors_have_these_strings(rt: HostRuntime) -> Result<(), Fail> {
     for (index, (cause, name, sentence)) in CAUSES.iter().enumerate() {
-        let shown = format!(in rt.alloc();
-            "{} {} {cause} {}",
-            *cause as usize,
-            cause.name(),
-            cause.describe()
-        )?;
-        let wanted = format!(in rt.alloc(); "{} {name} {name} {sentence}", index + 1)?;
-        equal(&rt, &shown, &wanted, cause);
+        let shown = format!(in rt.alloc(); "{cause}")?;
+        let found = (*cause as usize, cause.name(), cause.describe());
+        equal(&rt, &found, &(index + 1, *name, *sentence), cause);
+        equal(&rt, &shown.as_str(), name, cause);
     }
     let fault = ListError::Fault(LineFault {
         line: 1,

@@ -116,14 +116,15 @@ fn outcome_of(bump: &Bump<Global>, call: Call, lines: usize) -> Outcome {
 }
 
 /// The smallest arena that a call needs, or that of its first wrong result.
-fn least_room(
+fn least_room<Over: FnMut(&Bump<Global>) -> Outcome>(
     alloc: Global,
-    call: Call,
-    lines: usize,
-) -> Result<Result<Option<usize>, usize>, AllocError> {
+    mut call: Over,
+) -> Result<Result<Option<usize>, usize>, AllocError>
+    requires { (f : _) (x : _) → Over.pre f x }
+{
     let mut least = Ok(None);
     for room in 0..=ROOM {
-        let outcome = outcome_of(&arena(alloc, room)?, call, lines);
+        let outcome = call(&arena(alloc, room)?);
         least = after(least, room, outcome);
     }
     Ok(least)
@@ -167,7 +168,7 @@ fn each_growth_is_refused(rt: HostRuntime) -> Result<(), Fail> {
         if row.lines == 0 {
             before = 0;
         }
-        let least = least_room(rt.alloc(), row.call, row.lines)?;
+        let least = least_room(rt.alloc(), |bump| outcome_of(bump, row.call, row.lines))?;
         let right = match least {
             Ok(Some(room)) => row.bytes <= room && before <= room && row.grows == (before < room),
             _ => false,
@@ -187,19 +188,20 @@ const TYPES: KindRow = KindRow {
         \x20 member \"a\" type=1 offset=0 width=0\n",
 };
 
+/// What the call that lists types returns in an arena.
+fn shown_in(bump: &Bump<Global>, table: &BtfView<'_>) -> Outcome {
+    match show_btf(bump, table) {
+        Ok(text) if text.as_slice() == TYPES.text => Outcome::Whole,
+        Ok(_) => Outcome::Wrong,
+        Err(AllocError) => Outcome::Refused,
+    }
+}
+
 #[test]
 fn each_growth_of_a_type_listing_is_refused(rt: HostRuntime) -> Result<(), Fail> {
     let bytes = file(rt.alloc(), Order::Little, &TYPES)?;
     let table = BtfView::parse(rt.alloc(), &bytes)?;
-    let mut least = Ok(None);
-    for room in 0..=ROOM {
-        let outcome = match show_btf(&arena(rt.alloc(), room)?, &table) {
-            Ok(text) if text.as_slice() == TYPES.text => Outcome::Whole,
-            Ok(_) => Outcome::Wrong,
-            Err(AllocError) => Outcome::Refused,
-        };
-        least = after(least, room, outcome);
-    }
+    let least = least_room(rt.alloc(), |bump| shown_in(bump, &table))?;
     let right = matches!(least, Ok(Some(room)) if TYPES.text.len() <= room);
     equal(&rt, &right, &true, &least);
     Ok(())
@@ -273,11 +275,7 @@ fn keeps_the_text(bump: &Bump<Global>, held: &[u8], call: Append, wanted: &[u8])
 fn running_out_of_memory_keeps_the_text(rt: HostRuntime) -> Result<(), Fail> {
     let held = b"; text\n";
     for (call, wanted) in APPENDS {
-        let mut least = Ok(None);
-        for room in 0..=256 {
-            let outcome = keeps_the_text(&arena(rt.alloc(), room)?, held, call, wanted);
-            least = after(least, room, outcome);
-        }
+        let least = least_room(rt.alloc(), |bump| keeps_the_text(bump, held, call, wanted))?;
         let right = matches!(least, Ok(Some(room)) if held.len() + wanted.len() <= room);
         equal(&rt, &right, &true, &(call, least));
     }

@@ -9,7 +9,8 @@ macro_rules! row {
     };
 }
 
-pub(super) static FAULTS: &[FaultRow] = &[
+#[rattlefmt::skip]
+pub(super) fn faults() -> [&'static [FaultRow]; 5] {[&[
     row!(b"exit!" => 1, Char),
     row!(b"@" => 1, Char),
     row!(b"mov r1, 0X10" => 1, Char),
@@ -26,6 +27,7 @@ pub(super) static FAULTS: &[FaultRow] = &[
     row!(b"0" => 1, Word),
     row!(b"exit32" => 1, Word),
     row!(b"; none\next\n" => 2, Word),
+], &[
     row!(b"mov_r1" => 1, Word),
     row!(b"leave 5" => 1, Word),
     row!(b"movs r1 r2" => 1, Word),
@@ -42,6 +44,7 @@ pub(super) static FAULTS: &[FaultRow] = &[
     row!(b"mov r01, 1" => 1, Shape),
     row!(b"mov r1, r01" => 1, Shape),
     row!(b"mov r1, 0x" => 1, Shape),
+], &[
     row!(b"mov r1, 1e3" => 1, Shape),
     row!(b"mov r1, 0xfg" => 1, Shape),
     row!(b"mov r1, ff" => 1, Shape),
@@ -59,6 +62,7 @@ pub(super) static FAULTS: &[FaultRow] = &[
     row!(b"ldxb r1, [r2+]" => 1, Shape),
     row!(b"ldxb r1, [r2+-1]" => 1, Shape),
     row!(b"cmpxchg r2, [r1-8]" => 1, Shape),
+], &[
     row!(b"lddw_map r1, 2, 3" => 1, Shape),
     row!(b"lddw_map_value r1, 2" => 1, Shape),
     row!(b"mov r1, 99999999999, 1" => 1, Shape),
@@ -75,6 +79,7 @@ pub(super) static FAULTS: &[FaultRow] = &[
     row!(b"ja -32769" => 1, Range),
     row!(b"ja32 2147483648" => 1, Range),
     row!(b"jeq r1, r2, +32768" => 1, Range),
+], &[
     row!(b"ldxb r1, [r2+32768]" => 1, Range),
     row!(b"exit\nstxb [r2-32769], r1" => 2, Range),
     row!(b"call 4294967295" => 1, Range),
@@ -91,4 +96,4 @@ pub(super) static FAULTS: &[FaultRow] = &[
     row!(b"mov r1, r11" => 1, Shape),
     row!(b"stb [r1+32768], 0" => 1, Range),
     row!(b"exit r0" => 1, Shape),
-];
+]]}

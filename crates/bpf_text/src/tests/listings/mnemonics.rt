@@ -9,7 +9,8 @@ macro_rules! row {
 }
 
 /// Arithmetic and byte swaps.
-pub(super) static ARITHMETIC: &[WrittenRow] = &[
+#[rattlefmt::skip]
+pub(super) fn arithmetic() -> [&'static [WrittenRow]; 8] {[&[
     row!(b"add r1, -2\n" => b"\x07\x01\0\0\xfe\xff\xff\xff"),
     row!(b"add r2, r7\n" => b"\x0f\x72\0\0\0\0\0\0"),
     row!(b"add32 r3, -2147483648\n" => b"\x04\x03\0\0\0\0\0\x80"),
@@ -19,6 +20,7 @@ pub(super) static ARITHMETIC: &[WrittenRow] = &[
     row!(b"sub32 r7, 5\n" => b"\x14\x07\0\0\x05\0\0\0"),
     row!(b"sub32 r8, r3\n" => b"\x1c\x38\0\0\0\0\0\0"),
     row!(b"mul r9, 2147483647\n" => b"\x27\x09\0\0\xff\xff\xff\x7f"),
+], &[
     row!(b"mul r10, r9\n" => b"\x2f\x9a\0\0\0\0\0\0"),
     row!(b"mul32 r0, 66051\n" => b"\x24\0\0\0\x03\x02\x01\0"),
     row!(b"mul32 r1, r4\n" => b"\x2c\x41\0\0\0\0\0\0"),
@@ -28,6 +30,7 @@ pub(super) static ARITHMETIC: &[WrittenRow] = &[
     row!(b"div32 r5, r5\n" => b"\x3c\x55\0\0\0\0\0\0"),
     row!(b"sdiv r6, -2147483648\n" => b"\x37\x06\x01\0\0\0\0\x80"),
     row!(b"sdiv r7, r0\n" => b"\x3f\x07\x01\0\0\0\0\0"),
+], &[
     row!(b"sdiv32 r8, 0\n" => b"\x34\x08\x01\0\0\0\0\0"),
     row!(b"sdiv32 r9, r6\n" => b"\x3c\x69\x01\0\0\0\0\0"),
     row!(b"or r10, 5\n" => b"\x47\x0a\0\0\x05\0\0\0"),
@@ -37,6 +40,7 @@ pub(super) static ARITHMETIC: &[WrittenRow] = &[
     row!(b"and r3, 66051\n" => b"\x57\x03\0\0\x03\x02\x01\0"),
     row!(b"and r4, r2\n" => b"\x5f\x24\0\0\0\0\0\0"),
     row!(b"and32 r5, -1\n" => b"\x54\x05\0\0\xff\xff\xff\xff"),
+], &[
     row!(b"and32 r6, r8\n" => b"\x5c\x86\0\0\0\0\0\0"),
     row!(b"lsh r7, -2\n" => b"\x67\x07\0\0\xfe\xff\xff\xff"),
     row!(b"lsh r8, r3\n" => b"\x6f\x38\0\0\0\0\0\0"),
@@ -47,6 +51,7 @@ pub(super) static ARITHMETIC: &[WrittenRow] = &[
     row!(b"rsh32 r2, 5\n" => b"\x74\x02\0\0\x05\0\0\0"),
     row!(b"rsh32 r3, r10\n" => b"\x7c\xa3\0\0\0\0\0\0"),
     row!(b"mod r4, 2147483647\n" => b"\x97\x04\0\0\xff\xff\xff\x7f"),
+], &[
     row!(b"mod r5, r5\n" => b"\x9f\x55\0\0\0\0\0\0"),
     row!(b"mod32 r6, 66051\n" => b"\x94\x06\0\0\x03\x02\x01\0"),
     row!(b"mod32 r7, r0\n" => b"\x9c\x07\0\0\0\0\0\0"),
@@ -56,6 +61,7 @@ pub(super) static ARITHMETIC: &[WrittenRow] = &[
     row!(b"smod32 r0, r1\n" => b"\x9c\x10\x01\0\0\0\0\0"),
     row!(b"xor r1, -2147483648\n" => b"\xa7\x01\0\0\0\0\0\x80"),
     row!(b"xor r2, r7\n" => b"\xaf\x72\0\0\0\0\0\0"),
+], &[
     row!(b"xor32 r3, 0\n" => b"\xa4\x03\0\0\0\0\0\0"),
     row!(b"xor32 r4, r2\n" => b"\xac\x24\0\0\0\0\0\0"),
     row!(b"mov r5, 5\n" => b"\xb7\x05\0\0\x05\0\0\0"),
@@ -65,6 +71,7 @@ pub(super) static ARITHMETIC: &[WrittenRow] = &[
     row!(b"mov32 r8, r3\n" => b"\xbc\x38\0\0\0\0\0\0"),
     row!(b"arsh r9, 66051\n" => b"\xc7\x09\0\0\x03\x02\x01\0"),
     row!(b"arsh r10, r9\n" => b"\xcf\x9a\0\0\0\0\0\0"),
+], &[
     row!(b"arsh32 r0, -1\n" => b"\xc4\0\0\0\xff\xff\xff\xff"),
     row!(b"arsh32 r1, r4\n" => b"\xcc\x41\0\0\0\0\0\0"),
     row!(b"movsx8_32 r2, r7\n" => b"\xbc\x72\x08\0\0\0\0\0"),
@@ -74,6 +81,7 @@ pub(super) static ARITHMETIC: &[WrittenRow] = &[
     row!(b"movsx32 r6, r8\n" => b"\xbf\x86\x20\0\0\0\0\0"),
     row!(b"neg r7\n" => b"\x87\x07\0\0\0\0\0\0"),
     row!(b"neg32 r8\n" => b"\x84\x08\0\0\0\0\0\0"),
+], &[
     row!(b"le16 r9\n" => b"\xd4\x09\0\0\x10\0\0\0"),
     row!(b"le32 r10\n" => b"\xd4\x0a\0\0\x20\0\0\0"),
     row!(b"le64 r0\n" => b"\xd4\0\0\0\x40\0\0\0"),
@@ -83,10 +91,11 @@ pub(super) static ARITHMETIC: &[WrittenRow] = &[
     row!(b"swap16 r4\n" => b"\xd7\x04\0\0\x10\0\0\0"),
     row!(b"swap32 r5\n" => b"\xd7\x05\0\0\x20\0\0\0"),
     row!(b"swap64 r6\n" => b"\xd7\x06\0\0\x40\0\0\0"),
-];
+]]}
 
 /// Jumps, branches, calls and the exit.
-pub(super) static JUMPS: &[WrittenRow] = &[
+#[rattlefmt::skip]
+pub(super) fn jumps() -> [&'static [WrittenRow]; 6] {[&[
     row!(b"ja +32767\n" => b"\x05\0\xff\x7f\0\0\0\0"),
     row!(b"ja -32768\n" => b"\x05\0\0\x80\0\0\0\0"),
     row!(b"ja +0\n" => b"\x05\0\0\0\0\0\0\0"),
@@ -97,6 +106,7 @@ pub(super) static JUMPS: &[WrittenRow] = &[
     row!(b"jeq32 r9, 0, +0\n" => b"\x16\x09\0\0\0\0\0\0"),
     row!(b"jeq32 r10, r9, -1\n" => b"\x1e\x9a\xff\xff\0\0\0\0"),
     row!(b"jgt r0, 5, -1\n" => b"\x25\0\xff\xff\x05\0\0\0"),
+], &[
     row!(b"jgt r1, r4, -32768\n" => b"\x2d\x41\0\x80\0\0\0\0"),
     row!(b"jgt32 r2, 2147483647, -32768\n" => b"\x26\x02\0\x80\xff\xff\xff\x7f"),
     row!(b"jgt32 r3, r10, -2\n" => b"\x2e\xa3\xfe\xff\0\0\0\0"),
@@ -106,6 +116,7 @@ pub(super) static JUMPS: &[WrittenRow] = &[
     row!(b"jge32 r7, r0, +32767\n" => b"\x3e\x07\xff\x7f\0\0\0\0"),
     row!(b"jset r8, -2, +0\n" => b"\x45\x08\0\0\xfe\xff\xff\xff"),
     row!(b"jset r9, r6, +258\n" => b"\x4d\x69\x02\x01\0\0\0\0"),
+], &[
     row!(b"jset32 r10, -2147483648, -1\n" => b"\x46\x0a\xff\xff\0\0\0\x80"),
     row!(b"jset32 r0, r1, +0\n" => b"\x4e\x10\0\0\0\0\0\0"),
     row!(b"jne r1, 0, -32768\n" => b"\x55\x01\0\x80\0\0\0\0"),
@@ -116,6 +127,7 @@ pub(super) static JUMPS: &[WrittenRow] = &[
     row!(b"jsgt r6, r8, -2\n" => b"\x6d\x86\xfe\xff\0\0\0\0"),
     row!(b"jsgt32 r7, 66051, +0\n" => b"\x66\x07\0\0\x03\x02\x01\0"),
     row!(b"jsgt32 r8, r3, +1\n" => b"\x6e\x38\x01\0\0\0\0\0"),
+], &[
     row!(b"jsge r9, -1, -1\n" => b"\x75\x09\xff\xff\xff\xff\xff\xff"),
     row!(b"jsge r10, r9, +32767\n" => b"\x7d\x9a\xff\x7f\0\0\0\0"),
     row!(b"jsge32 r0, -2, -32768\n" => b"\x76\0\0\x80\xfe\xff\xff\xff"),
@@ -125,6 +137,7 @@ pub(super) static JUMPS: &[WrittenRow] = &[
     row!(b"jlt32 r4, 0, +32767\n" => b"\xa6\x04\xff\x7f\0\0\0\0"),
     row!(b"jlt32 r5, r5, -1\n" => b"\xae\x55\xff\xff\0\0\0\0"),
     row!(b"jle r6, 5, +0\n" => b"\xb5\x06\0\0\x05\0\0\0"),
+], &[
     row!(b"jle r7, r0, -32768\n" => b"\xbd\x07\0\x80\0\0\0\0"),
     row!(b"jle32 r8, 2147483647, -1\n" => b"\xb6\x08\xff\xff\xff\xff\xff\x7f"),
     row!(b"jle32 r9, r6, -2\n" => b"\xbe\x69\xfe\xff\0\0\0\0"),
@@ -135,6 +148,7 @@ pub(super) static JUMPS: &[WrittenRow] = &[
     row!(b"jsle r3, -2, +32767\n" => b"\xd5\x03\xff\x7f\xfe\xff\xff\xff"),
     row!(b"jsle r4, r2, +258\n" => b"\xdd\x24\x02\x01\0\0\0\0"),
     row!(b"jsle32 r5, -2147483648, +0\n" => b"\xd6\x05\0\0\0\0\0\x80"),
+], &[
     row!(b"jsle32 r6, r8, +0\n" => b"\xde\x86\0\0\0\0\0\0"),
     row!(b"call 25\n" => b"\x85\0\0\0\x19\0\0\0"),
     row!(b"call -1\n" => b"\x85\0\0\0\xff\xff\xff\xff"),
@@ -144,10 +158,11 @@ pub(super) static JUMPS: &[WrittenRow] = &[
     row!(b"call_btf 7, 5\n" => b"\x85\x20\x05\0\x07\0\0\0"),
     row!(b"call_btf -2147483648, -32768\n" => b"\x85\x20\0\x80\0\0\0\x80"),
     row!(b"exit\n" => b"\x95\0\0\0\0\0\0\0"),
-];
+]]}
 
 /// Loads, stores and atomic operations.
-pub(super) static LOAD_STORE: &[WrittenRow] = &[
+#[rattlefmt::skip]
+pub(super) fn load_store() -> [&'static [WrittenRow]; 6] {[&[
     row!(b"ldxb r7, [r0+258]\n" => b"\x71\x07\x02\x01\0\0\0\0"),
     row!(b"ldxh r8, [r3-2]\n" => b"\x69\x38\xfe\xff\0\0\0\0"),
     row!(b"ldxw r9, [r6+0]\n" => b"\x61\x69\0\0\0\0\0\0"),
@@ -157,6 +172,7 @@ pub(super) static LOAD_STORE: &[WrittenRow] = &[
     row!(b"ldxsw r2, [r7-32768]\n" => b"\x81\x72\0\x80\0\0\0\0"),
     row!(b"stb [r3+258], 5\n" => b"\x72\x03\x02\x01\x05\0\0\0"),
     row!(b"sth [r4-2], -2\n" => b"\x6a\x04\xfe\xff\xfe\xff\xff\xff"),
+], &[
     row!(b"stw [r5+0], 2147483647\n" => b"\x62\x05\0\0\xff\xff\xff\x7f"),
     row!(b"stdw [r6+1], -2147483648\n" => b"\x7a\x06\x01\0\0\0\0\x80"),
     row!(b"stxb [r7-1], r0\n" => b"\x73\x07\xff\xff\0\0\0\0"),
@@ -165,6 +181,7 @@ pub(super) static LOAD_STORE: &[WrittenRow] = &[
     row!(b"stxdw [r10+258], r9\n" => b"\x7b\x9a\x02\x01\0\0\0\0"),
     row!(b"atomic_add [r0-2], r1\n" => b"\xdb\x10\xfe\xff\0\0\0\0"),
     row!(b"atomic_add32 [r1+0], r4\n" => b"\xc3\x41\0\0\0\0\0\0"),
+], &[
     row!(b"atomic_or [r2+1], r7\n" => b"\xdb\x72\x01\0\x40\0\0\0"),
     row!(b"atomic_or32 [r3-1], r10\n" => b"\xc3\xa3\xff\xff\x40\0\0\0"),
     row!(b"atomic_and [r4+32767], r2\n" => b"\xdb\x24\xff\x7f\x50\0\0\0"),
@@ -174,6 +191,7 @@ pub(super) static LOAD_STORE: &[WrittenRow] = &[
     row!(b"fetch_add [r8+0], r3\n" => b"\xdb\x38\0\0\x01\0\0\0"),
     row!(b"fetch_add32 [r9+1], r6\n" => b"\xc3\x69\x01\0\x01\0\0\0"),
     row!(b"fetch_or [r10-1], r9\n" => b"\xdb\x9a\xff\xff\x41\0\0\0"),
+], &[
     row!(b"fetch_or32 [r0+32767], r1\n" => b"\xc3\x10\xff\x7f\x41\0\0\0"),
     row!(b"fetch_and [r1-32768], r4\n" => b"\xdb\x41\0\x80\x51\0\0\0"),
     row!(b"fetch_and32 [r2+258], r7\n" => b"\xc3\x72\x02\x01\x51\0\0\0"),
@@ -183,6 +201,7 @@ pub(super) static LOAD_STORE: &[WrittenRow] = &[
     row!(b"xchg32 [r6-1], r8\n" => b"\xc3\x86\xff\xff\xe1\0\0\0"),
     row!(b"cmpxchg [r7+32767], r0\n" => b"\xdb\x07\xff\x7f\xf1\0\0\0"),
     row!(b"cmpxchg32 [r8-32768], r3\n" => b"\xc3\x38\0\x80\xf1\0\0\0"),
+], &[
     row!(b"lddw r0, 0\n" => b"\x18\0\0\0\0\0\0\0\0\0\0\0\0\0\0\0"),
     row!(b"lddw r10, 18446744073709551615\n" => b"\x18\x0a\0\0\xff\xff\xff\xff\0\0\0\0\xff\xff\xff\xff"),
     row!(b"lddw r3, 4294967296\n" => b"\x18\x03\0\0\0\0\0\0\0\0\0\0\x01\0\0\0"),
@@ -191,6 +210,7 @@ pub(super) static LOAD_STORE: &[WrittenRow] = &[
     row!(b"lddw_map r1, 7\n" => b"\x18\x11\0\0\x07\0\0\0\0\0\0\0\0\0\0\0"),
     row!(b"lddw_map_value r2, 8, -9\n" => b"\x18\x22\0\0\x08\0\0\0\0\0\0\0\xf7\xff\xff\xff"),
     row!(b"lddw_var r3, -1, 2147483647\n" => b"\x18\x33\0\0\xff\xff\xff\xff\0\0\0\0\xff\xff\xff\x7f"),
+], &[
     row!(b"lddw_code r4, -2147483648\n" => b"\x18\x44\0\0\0\0\0\x80\0\0\0\0\0\0\0\0"),
     row!(b"lddw_idx r5, 0\n" => b"\x18\x55\0\0\0\0\0\0\0\0\0\0\0\0\0\0"),
     row!(b"lddw_idx_value r6, 1, -2147483648\n" => b"\x18\x66\0\0\x01\0\0\0\0\0\0\0\0\0\0\x80"),
@@ -200,4 +220,4 @@ pub(super) static LOAD_STORE: &[WrittenRow] = &[
     row!(b"ldindb r1, 2147483647\n" => b"\x50\x10\0\0\xff\xff\xff\x7f"),
     row!(b"ldindh r2, -2147483648\n" => b"\x48\x20\0\0\0\0\0\x80"),
     row!(b"ldindw r3, 66051\n" => b"\x40\x30\0\0\x03\x02\x01\0"),
-];
+]]}

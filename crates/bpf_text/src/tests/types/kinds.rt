@@ -8,7 +8,8 @@ macro_rules! row {
     };
 }
 
-pub(super) static KINDS: &[KindRow] = &[
+#[rattlefmt::skip]
+pub(super) fn kinds() -> [&'static [KindRow]; 2] {[&[
     // integers
     row!([
         1, 0x0100_0000, 4, 0x0100_0020, 1, 0x0100_0000, 1, 8, 1, 0x0100_0000, 1, 0x0200_0008, 1,
@@ -103,6 +104,7 @@ pub(super) static KINDS: &[KindRow] = &[
         \x20 entry type=1 offset=0 size=8\n\
         \x20 entry type=3 offset=4294967295 size=0\n\
         [5] datasec \".bss\" size=0 items=0\n"),
+], &[
     // floating point
     row!([
         1, 0x1000_0000, 2, 1, 0x1000_0000, 4, 1, 0x1000_0000, 8, 1, 0x1000_0000, 0x0000_000c, 0,
@@ -188,4 +190,4 @@ pub(super) static KINDS: &[KindRow] = &[
         \x20 member \"\" type=0 offset=32 width=0\n\
         [4] decl_tag \"g\" flag=0 type=3 component=-1\n\
         [5] decl_tag \"g\" flag=1 type=3 component=1\n"),
-];
+]]}
