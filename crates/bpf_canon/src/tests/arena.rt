@@ -1,6 +1,7 @@
 //! Arenas of one chunk with a given number of free bytes, and what calls over them returned.
 //!
 //! A test gives a call 0 bytes, 1 byte, and so on. Each growth that needs more than the ones before it therefore fails once.
+use super::expect::holds;
 use bumpalo::Bump;
 use std::alloc::Global;
 use std::process::Abort;
@@ -66,6 +67,12 @@ impl Tally {
             }
         }
         Err("no room is enough")?
+    }
+
+    /// Checks that at least this many rooms were too small, at this many points or more.
+    pub(crate) fn has_at_least(&self, rt: &impl Abort, refused: usize, places: usize) {
+        let found = (self.refused, self.places);
+        holds(rt, refused <= found.0 && places <= found.1, &found);
     }
 
     /// Counts a call that had enough memory. Each later one has, too.

@@ -8,7 +8,7 @@ pub(crate) struct FaultyBtf {
 }
 
 #[rattlefmt::skip]
-pub(crate) static FAULTY_BTF: [FaultyBtf; 37] = [
+pub(crate) fn faulty_files() -> [&'static [FaultyBtf]; 2] {[&[
     FaultyBtf { bytes: b"", fault: BtfFault { pos: 0, cause: BtfCause::ShortHeader } },
     FaultyBtf { bytes: b"\x9f\xeb\x01\0\x18\0\0\0\0\0\0\0\0\0\0\0\0\0\0\0\x01\0\0", fault: BtfFault { pos: 23, cause: BtfCause::ShortHeader } },
     FaultyBtf { bytes: b"\0\xeb\x01\0\x18\0\0\0\0\0\0\0\0\0\0\0\0\0\0\0\x01\0\0\0\0", fault: BtfFault { pos: 0, cause: BtfCause::Magic } },
@@ -28,6 +28,7 @@ pub(crate) static FAULTY_BTF: [FaultyBtf; 37] = [
     FaultyBtf { bytes: b"\x9f\xeb\x01\0\x18\0\0\0\0\0\0\0\x0c\0\0\0\x0c\0\0\0\x01\0\0\0\0\0\0\0\0\0\04\0\0\0\0\0", fault: BtfFault { pos: 28, cause: BtfCause::InfoBits } },
     FaultyBtf { bytes: b"\x9f\xeb\x01\0\x18\0\0\0\0\0\0\0\x0c\0\0\0\x0c\0\0\0\x01\0\0\0\0\0\0\0\0\0\0\x14\0\0\0\0\0", fault: BtfFault { pos: 28, cause: BtfCause::KindNumber } },
     FaultyBtf { bytes: b"\x9f\xeb\x01\0\x18\0\0\0\0\0\0\0\x0c\0\0\0\x0c\0\0\0\x01\0\0\0\0\0\0\0\0\0\0\x82\0\0\0\0\0", fault: BtfFault { pos: 28, cause: BtfCause::FlagSet } },
+], &[
     FaultyBtf { bytes: b"\x9f\xeb\x01\0\x18\0\0\0\0\0\0\0\x0c\0\0\0\x0c\0\0\0\x01\0\0\0\0\0\0\0\x01\0\0\x02\0\0\0\0\0", fault: BtfFault { pos: 28, cause: BtfCause::Vlen } },
     FaultyBtf { bytes: b"\x9f\xeb\x01\0\x18\0\0\0\0\0\0\0\x18\0\0\0\x18\0\0\0\x01\0\0\0\0\0\0\0\x02\0\0\x04\x04\0\0\0\0\0\0\0\0\0\0\0\0\0\0\0\0", fault: BtfFault { pos: 36, cause: BtfCause::TailCut } },
     FaultyBtf { bytes: b"\x9f\xeb\x01\0\x18\0\0\0\0\0\0\0\x0c\0\0\0\x0c\0\0\0\x05\0\0\0\x05\0\0\0\0\0\0\x02\0\0\0\0\0int\0", fault: BtfFault { pos: 24, cause: BtfCause::NameRange } },
@@ -46,4 +47,4 @@ pub(crate) static FAULTY_BTF: [FaultyBtf; 37] = [
     FaultyBtf { bytes: b"\x9f\xeb\x01\0\x18\0\0\0\0\0\0\0D\0\0\0D\0\0\0\x0d\0\0\0\x01\0\0\0\0\0\0\x01\x04\0\0\0 \0\0\x01\x05\0\0\0\x02\0\0\x04\x08\0\0\0\x07\0\0\0\x01\0\0\0\0\0\0\0\x09\0\0\0\x01\0\0\0 \0\0\0\x0b\0\0\0\0\0\0\x11\x02\0\0\0\x02\0\0\0\0int\0s\0a\0b\0t\0", fault: BtfFault { pos: 88, cause: BtfCause::Component } },
     FaultyBtf { bytes: b"\x9f\xeb\x01\0\x18\0\0\0\0\0\0\0D\0\0\0D\0\0\0\x0d\0\0\0\x01\0\0\0\0\0\0\x01\x04\0\0\0 \0\0\x01\x05\0\0\0\x02\0\0\x04\x08\0\0\0\x07\0\0\0\x01\0\0\0\0\0\0\0\x09\0\0\0\x01\0\0\0 \0\0\0\x0b\0\0\0\0\0\0\x11\x02\0\0\0\xfe\xff\xff\xff\0int\0s\0a\0b\0t\0", fault: BtfFault { pos: 88, cause: BtfCause::Component } },
     FaultyBtf { bytes: b"\x9f\xeb\x01\0\x18\0\0\0\0\0\0\0 \0\0\0 \0\0\0\x05\0\0\0\x01\0\0\0\0\0\0\x0e\0\0\0\0\0\0\0\0\x03\0\0\0\0\0\0\x11\x01\0\0\0\0\0\0\0\0f\0t\0", fault: BtfFault { pos: 52, cause: BtfCause::Component } },
-];
+]]}

@@ -1,6 +1,6 @@
 //! Instructions in pieces.
 use super::expect::{equal, equal_bytes, holds};
-use super::samples::{EXIT, FAULT_OF_FAULTY, FAULTY, INSN_FILES, InsnFile, WIDE};
+use super::samples::{EXIT, FAULT_OF_FAULTY, FAULTY, InsnFile, WIDE, insn_files};
 use crate::InsnFeed;
 use bpf_insn::{InsnError, Order, SlotCause, SlotFault};
 use std::alloc::Global;
@@ -47,13 +47,21 @@ const FAULTY_WIDE: SlotFault = SlotFault {
 };
 
 #[rattlefmt::skip]
-static STREAMS: [Stream; 10] = [
+static IN_TWO_PIECES: &[Stream] = &[
     Stream { name: "a wide load in two pieces", to: Order::Little, pieces: &[Piece { bytes: b"\x18\x01\0\0\x88\x77\x66\x55\0", fault: None, written: b"", held: 9, fed: 9, count: 0 }, Piece { bytes: b"\0\0\0\x44\x33\x22\x11", fault: None, written: WIDE, held: 0, fed: 16, count: 1 }], end: Ok(1) },
     Stream { name: "two instructions in the other order", to: Order::Big, pieces: &[Piece { bytes: b"\xbf\x21\0\0\0\0\0\0", fault: None, written: b"\xbf\x12\0\0\0\0\0\0", held: 0, fed: 8, count: 1 }, Piece { bytes: b"\xb4\x01\0\0\x07\0\0\0", fault: None, written: BIG_MOVES, held: 0, fed: 16, count: 2 }], end: Ok(2) },
     Stream { name: "a fault in the second piece, which every later piece reports", to: Order::Little, pieces: &[Piece { bytes: b"\x95\0\0\0\0\0\0\0\x04\x10\0\0\x05\0\0", fault: None, written: EXIT, held: 7, fed: 15, count: 1 }, Piece { bytes: b"\0", fault: Some(FAULT_OF_FAULTY), written: EXIT, held: 0, fed: 16, count: 1 }, Piece { bytes: EXIT, fault: Some(FAULT_OF_FAULTY), written: EXIT, held: 0, fed: 16, count: 1 }, Piece { bytes: b"", fault: Some(FAULT_OF_FAULTY), written: EXIT, held: 0, fed: 16, count: 1 }], end: Err(FAULT_OF_FAULTY) },
+];
+
+#[rattlefmt::skip]
+static IN_ONE_PIECE: &[Stream] = &[
     Stream { name: "an instruction before a fault in the same piece", to: Order::Little, pieces: &[Piece { bytes: FAULTY, fault: Some(FAULT_OF_FAULTY), written: EXIT, held: 0, fed: 16, count: 1 }], end: Err(FAULT_OF_FAULTY) },
     Stream { name: "a faulty first slot, which does not wait for the second", to: Order::Little, pieces: &[Piece { bytes: b"\x18\x71\0\0\0\0\0\0", fault: Some(FAULTY_WIDE), written: b"", held: 0, fed: 8, count: 0 }], end: Err(FAULTY_WIDE) },
     Stream { name: "an empty piece", to: Order::Little, pieces: &[Piece { bytes: b"", fault: None, written: b"", held: 0, fed: 0, count: 0 }], end: Ok(0) },
+];
+
+#[rattlefmt::skip]
+static WIDE_LOADS: &[Stream] = &[
     Stream { name: "a wide load cut in its first slot", to: Order::Little, pieces: &[Piece { bytes: b"\x18\x01\0\0\x88\x77\x66", fault: None, written: b"", held: 7, fed: 7, count: 0 }], end: Err(SlotFault { pos: 0, cause: SlotCause::Truncated }) },
     Stream { name: "a wide load cut after its first slot", to: Order::Little, pieces: &[Piece { bytes: b"\x18\x01\0\0\x88\x77\x66\x55", fault: None, written: b"", held: 8, fed: 8, count: 0 }], end: Err(SlotFault { pos: 8, cause: SlotCause::Truncated }) },
     Stream { name: "a wide load cut in its second slot", to: Order::Little, pieces: &[Piece { bytes: b"\x18\x01\0\0\x88\x77\x66\x55\0\0\0\0", fault: None, written: b"", held: 12, fed: 12, count: 0 }], end: Err(SlotFault { pos: 8, cause: SlotCause::Truncated }) },
@@ -81,7 +89,8 @@ fn check_stream(rt: &impl Abort, alloc: Global, stream: &Stream) {
 
 #[test]
 fn complete_instructions_are_written_at_once_and_faults_stay(rt: HostRuntime) {
-    for stream in &STREAMS {
+    let pieces = [IN_TWO_PIECES, IN_ONE_PIECE, WIDE_LOADS];
+    for stream in pieces.into_iter().flatten() {
         check_stream(&rt, rt.alloc(), stream);
     }
 }
@@ -105,7 +114,7 @@ fn cut_in_two(rt: &impl Abort, alloc: Global, file: &InsnFile, at: usize) {
 
 #[test]
 fn any_cut_in_two_gives_the_same_output(rt: HostRuntime) {
-    for file in &INSN_FILES {
+    for file in insn_files().into_iter().flatten() {
         for at in 0..file.bytes.len() {
             cut_in_two(&rt, rt.alloc(), file, at);
         }

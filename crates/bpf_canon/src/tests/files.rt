@@ -1,6 +1,6 @@
 //! Canonical bytes and comparison of instruction files.
 use super::expect::{equal, equal_bytes, holds};
-use super::samples::{EXIT, INSN_FILES, InsnFile};
+use super::samples::{EXIT, InsnFile, insn_files};
 use crate::{SideError, canon_insns, recode_insns, same_insns, write_insns};
 use bpf_insn::{Insn, InsnError, Order, SlotCause, SlotFault, decode_insns};
 use std::alloc::Global;
@@ -58,7 +58,7 @@ fn check_written(rt: &impl Abort, alloc: Global, file: &InsnFile) -> Result<(), 
 
 #[test]
 fn files_have_their_canonical_bytes_or_their_first_fault(rt: HostRuntime) -> Result<(), Fail> {
-    for file in &INSN_FILES {
+    for file in insn_files().into_iter().flatten() {
         check_canonical(&rt, rt.alloc(), file);
         check_recoded_file(&rt, rt.alloc(), file);
         if file.fault.is_none() {

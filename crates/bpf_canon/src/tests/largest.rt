@@ -1,5 +1,5 @@
 //! Calls with ample memory on the largest files that the limits allow.
-use super::expect::equal;
+use super::expect::{equal, holds};
 use crate::{
     BTF_LIMIT, INSN_LIMIT, InsnFeed, MemSink, MemSource, RunCause, RunError, SideError, canon_btf,
     canon_insns, read_all, run_btf, run_insns, same_btf, same_insns, write_btf, write_insns,
@@ -39,7 +39,7 @@ fn instructions_are_canonicalised(rt: HostRuntime) -> Result<(), Fail> {
     let mut little = moves(rt.alloc(), LITTLE_MOVE)?;
     equal(&rt, &(big.len() as u64), &INSN_LIMIT, &"the length");
     let canon = canon_insns(rt.alloc(), Order::Big, &big)?;
-    assert!(rt; canon == little);
+    holds(&rt, canon == little, &"canonical bytes");
     let same = same_insns(rt.alloc(), Order::Big, &big, Order::Little, &little);
     equal(&rt, &same, &Ok(true), &"a comparison");
     if let Some(registers) = little.get_mut(67_108_857) {
@@ -66,7 +66,11 @@ fn instructions_are_fed_at_once(rt: HostRuntime) -> Result<(), Fail> {
     let mut out = Vec::new(rt.alloc());
     assert!(rt; big.len() <= 67_108_864);
     feed.feed(&big, &mut out)?;
-    assert!(rt; out == moves(rt.alloc(), LITTLE_MOVE)?);
+    holds(
+        &rt,
+        out == moves(rt.alloc(), LITTLE_MOVE)?,
+        &"what was written",
+    );
     equal(&rt, &feed.finish(), &Ok(MOVES as u64), &"the end");
     Ok(())
 }
@@ -76,12 +80,16 @@ fn instructions_are_written(rt: HostRuntime) -> Result<(), Fail> {
     let big = moves(rt.alloc(), BIG_MOVE)?;
     let insns = decode_insns(rt.alloc(), Order::Big, &big)?;
     let little = write_insns(rt.alloc(), Order::Little, &insns)?;
-    assert!(rt; little == moves(rt.alloc(), LITTLE_MOVE)?);
+    holds(
+        &rt,
+        little == moves(rt.alloc(), LITTLE_MOVE)?,
+        &"what was written",
+    );
     Ok(())
 }
 
 #[test]
-fn the_largest_file_is_run_and_read(rt: HostRuntime) -> Result<(), Fail> {
+fn the_largest_file_is_run(rt: HostRuntime) -> Result<(), Fail> {
     let big = moves(rt.alloc(), BIG_MOVE)?;
     let mut source = MemSource::new(&big, 10_000, None);
     let mut out = Vec::new(rt.alloc());
@@ -94,10 +102,20 @@ fn the_largest_file_is_run_and_read(rt: HostRuntime) -> Result<(), Fail> {
         Order::Little,
     );
     equal(&rt, &ran, &Ok(INSN_LIMIT), &"a run");
-    assert!(rt; out == moves(rt.alloc(), LITTLE_MOVE)?);
+    holds(
+        &rt,
+        out == moves(rt.alloc(), LITTLE_MOVE)?,
+        &"what was written",
+    );
+    Ok(())
+}
+
+#[test]
+fn the_largest_file_is_read(rt: HostRuntime) -> Result<(), Fail> {
+    let big = moves(rt.alloc(), BIG_MOVE)?;
     let mut source = MemSource::new(&big, 10_000, None);
     let read = read_all(rt.alloc(), &mut source, INSN_LIMIT)?;
-    assert!(rt; read == big);
+    holds(&rt, read == big, &"what was read");
     Ok(())
 }
 
@@ -128,8 +146,8 @@ fn longest_file(alloc: Global) -> Result<Vec<u8>, AllocError> {
 fn is_canonical(rt: &impl Abort, canon: &[u8], file: &[u8]) {
     equal(rt, &canon.len(), &50_331_672, &"the length");
     let header = b"\x9f\xeb\x01\0\x18\0\0\0\0\0\0\0\0\0\0\x02\0\0\0\x02\0\0\0\x01";
-    assert!(rt; canon.starts_with(header));
-    assert!(rt; canon.get(24..) == file.get(4096..));
+    holds(rt, canon.starts_with(header), &"the header");
+    holds(rt, canon.get(24..) == file.get(4096..), &"the sections");
 }
 
 #[test]

@@ -1,6 +1,6 @@
 //! Each growth of the calls on instructions fails in turn.
 use super::arena::{ROOM, Tally, leave};
-use super::expect::{equal, equal_bytes};
+use super::expect::{equal, equal_bytes, holds};
 use crate::{
     InsnFeed, MemSink, MemSource, ReadError, RunCause, RunError, SideError, canon_insns, read_all,
     recode_insns, run_insns, same_insns, write_insns,
@@ -45,7 +45,7 @@ fn read_all_runs_out_of_memory(rt: HostRuntime) -> Result<(), Fail> {
             }
         }
     })?;
-    assert!(rt; tally.refused >= 64 && tally.places >= 3);
+    tally.has_at_least(&rt, 64, 3);
     Ok(())
 }
 
@@ -61,7 +61,7 @@ fn write_insns_runs_out_of_memory(rt: HostRuntime) -> Result<(), Fail> {
             Err(_) => Some(0),
         }
     })?;
-    assert!(rt; tally.refused >= 56);
+    tally.has_at_least(&rt, 56, 1);
     Ok(())
 }
 
@@ -77,7 +77,7 @@ fn canon_insns_runs_out_of_memory(rt: HostRuntime) -> Result<(), Fail> {
             Err(InsnError::Fault(_)) => panic!(rt; "a fault of a good file"),
         }
     })?;
-    assert!(rt; tally.refused >= 56);
+    tally.has_at_least(&rt, 56, 1);
     Ok(())
 }
 
@@ -93,7 +93,7 @@ fn recode_insns_runs_out_of_memory(rt: HostRuntime) -> Result<(), Fail> {
             Err(InsnError::Fault(_)) => panic!(rt; "a fault of a good file"),
         }
     })?;
-    assert!(rt; tally.refused >= 56);
+    tally.has_at_least(&rt, 56, 1);
     Ok(())
 }
 
@@ -110,7 +110,7 @@ fn canon_insns_of_a_faulty_file_runs_out_of_memory(rt: HostRuntime) -> Result<()
             }
         }
     })?;
-    assert!(rt; tally.refused > 0);
+    tally.has_at_least(&rt, 1, 1);
     Ok(())
 }
 
@@ -164,10 +164,10 @@ fn a_feed_runs_out_of_memory(rt: HostRuntime) -> Result<(), Fail> {
         let mut out = Vec::new(bump);
         let at = feed_pieces(&rt, &mut out);
         equal(&rt, &out.len(), &(at / 8 * 8), &"written");
-        assert!(rt; FILE.starts_with(&out));
+        holds(&rt, FILE.starts_with(&out), &"a prefix");
         (at < 56).then_some(at)
     })?;
-    assert!(rt; tally.refused >= 56 && tally.places >= 3);
+    tally.has_at_least(&rt, 56, 3);
     Ok(())
 }
 
@@ -188,7 +188,7 @@ fn run_insns_runs_out_of_memory(rt: HostRuntime) -> Result<(), Fail> {
             panic!(rt; "a faulty file is accepted");
         };
         equal(&rt, &(out.len() as u64), &stop.written, &"written");
-        assert!(rt; FILE.starts_with(&out));
+        holds(&rt, FILE.starts_with(&out), &"a prefix");
         if stop.cause == RunCause::Memory {
             let rest = read_all(rt.alloc(), &mut source, 100).expect(&rt, "the rest");
             return Some(FILE.len().saturating_sub(rest.len()));
@@ -196,7 +196,7 @@ fn run_insns_runs_out_of_memory(rt: HostRuntime) -> Result<(), Fail> {
         equal(&rt, &stop, &faulty, &"the stop");
         None
     })?;
-    assert!(rt; tally.places >= 2);
+    tally.has_at_least(&rt, 2, 2);
     Ok(())
 }
 
@@ -209,7 +209,7 @@ fn a_sink_runs_out_of_memory(rt: HostRuntime) -> Result<(), Fail> {
         let mut sink = MemSink::new(&mut out, 5, None);
         let order = Order::Little;
         let ran = run_insns(rt.alloc(), &mut source, &mut sink, order, order);
-        assert!(rt; FILE.starts_with(&out));
+        holds(&rt, FILE.starts_with(&out), &"a prefix");
         let Err(stop) = ran else {
             equal(&rt, &ran, &Ok(56), &"a run");
             return None;
@@ -222,6 +222,6 @@ fn a_sink_runs_out_of_memory(rt: HostRuntime) -> Result<(), Fail> {
         );
         Some(out.len())
     })?;
-    assert!(rt; tally.refused >= 56 && tally.places >= 3);
+    tally.has_at_least(&rt, 56, 3);
     Ok(())
 }

@@ -2,7 +2,7 @@
 use super::arena::Tally;
 use super::btf_files::{BIG_INT, LOOSE_INT};
 use super::compiled_types::{FLOW_TABLE_BIG, FLOW_TABLE_LITTLE};
-use super::expect::{equal, equal_bytes};
+use super::expect::{equal, equal_bytes, holds};
 use super::own_table::Counting;
 use crate::{
     MemSink, MemSource, RunCause, SideError, canon_btf, read_all, run_btf, same_btf, write_btf,
@@ -33,7 +33,7 @@ fn write_btf_runs_out_of_memory(rt: HostRuntime) -> Result<(), Fail> {
             Err(_) => Some(table.calls()),
         }
     })?;
-    assert!(rt; tally.refused >= CANONICAL_LEN && tally.places >= 4);
+    tally.has_at_least(&rt, CANONICAL_LEN, 4);
     Ok(())
 }
 
@@ -72,7 +72,8 @@ fn canon_btf_runs_out_of_memory(rt: HostRuntime) -> Result<(), Fail> {
     })?;
     // Some rooms are enough to read the file, but not to write it.
     let reading = refused_reading(&rt, rt.alloc(), FLOW_TABLE_BIG, ample.as_slice())?;
-    assert!(rt; tally.refused >= CANONICAL_LEN && tally.refused > reading);
+    tally.has_at_least(&rt, CANONICAL_LEN, 1);
+    holds(&rt, tally.refused > reading, &(tally.refused, reading));
     Ok(())
 }
 
@@ -115,8 +116,8 @@ fn same_btf_runs_out_of_memory(rt: HostRuntime) -> Result<(), Fail> {
     )?;
     let both = refused_comparing(&rt, rt.alloc(), FLOW_TABLE_BIG, Ok(true))?;
     let unlike = refused_comparing(&rt, rt.alloc(), BIG_INT, Ok(false))?;
-    assert!(rt; 0 < first && first == first_again);
-    assert!(rt; first < unlike && unlike < both);
+    let is_ordered = 0 < first && first == first_again && first < unlike && unlike < both;
+    holds(&rt, is_ordered, &(first, first_again, unlike, both));
     Ok(())
 }
 
@@ -145,7 +146,8 @@ fn run_btf_runs_out_of_memory(rt: HostRuntime) -> Result<(), Fail> {
         Some(849_usize.saturating_sub(rest.len()))
     })?;
     // The vector that keeps the input grows at least for the first, the second and the last piece.
-    assert!(rt; tally.places >= 3 && after_reading > 0);
+    tally.has_at_least(&rt, 3, 3);
+    holds(&rt, after_reading > 0, &"refused after reading");
     Ok(())
 }
 
@@ -157,7 +159,7 @@ fn a_sink_of_btf_runs_out_of_memory(rt: HostRuntime) -> Result<(), Fail> {
         let mut out = Vec::new(bump);
         let mut sink = MemSink::new(&mut out, 5, None);
         let ran = run_btf(rt.alloc(), &mut source, &mut sink, Order::Big);
-        assert!(rt; BIG_INT.starts_with(&out));
+        holds(&rt, BIG_INT.starts_with(&out), &"a prefix");
         let Err(stop) = ran else {
             equal_bytes(&rt, out.as_slice(), BIG_INT, &"canonical bytes");
             return None;
@@ -168,9 +170,9 @@ fn a_sink_of_btf_runs_out_of_memory(rt: HostRuntime) -> Result<(), Fail> {
             &(RunCause::WriteFailed, out.len() as u64),
             &"the stop",
         );
-        assert!(rt; out.len() < 45);
+        holds(&rt, out.len() < 45, &"a failed write");
         Some(out.len())
     })?;
-    assert!(rt; tally.refused >= 45 && tally.places >= 3);
+    tally.has_at_least(&rt, 45, 3);
     Ok(())
 }

@@ -1,7 +1,7 @@
 //! The engine on instructions over devices that move pieces, and fail.
 use super::expect::{equal, equal_bytes};
 use super::fused_devices::FusedDevices;
-use super::samples::{EXIT, FAULT_OF_FAULTY, FAULTY, INSN_FILES, InsnFile};
+use super::samples::{EXIT, FAULT_OF_FAULTY, FAULTY, InsnFile, insn_files};
 use crate::{ReaderSource, RunCause, RunError, WriterSink, run_insns};
 use bpf_insn::{Order, SlotFault};
 use std::alloc::Global;
@@ -33,7 +33,7 @@ fn run_file(rt: &impl Abort, alloc: Global, file: &InsnFile, piece: usize) {
 
 #[test]
 fn runs_files_in_pieces(rt: HostRuntime) {
-    for file in &INSN_FILES {
+    for file in insn_files().into_iter().flatten() {
         for piece in [1usize, 3, 8, 5000] {
             run_file(&rt, rt.alloc(), file, piece);
         }

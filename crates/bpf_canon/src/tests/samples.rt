@@ -38,7 +38,7 @@ pub(crate) const FAULT_OF_FAULTY: SlotFault = SlotFault {
 
 /// Files without a fault, and then files with one.
 #[rattlefmt::skip]
-pub(crate) static INSN_FILES: [InsnFile; 54] = [
+pub(crate) fn insn_files() -> [&'static [InsnFile]; 5] {[&[
     InsnFile { order: Order::Little, bytes: b"", canonical: b"", fault: None },
     InsnFile { order: Order::Little, bytes: EXIT, canonical: EXIT, fault: None },
     InsnFile { order: Order::Big, bytes: b"\xbf\x12\0\0\0\0\0\0", canonical: b"\xbf\x21\0\0\0\0\0\0", fault: None },
@@ -49,6 +49,7 @@ pub(crate) static INSN_FILES: [InsnFile; 54] = [
     InsnFile { order: Order::Little, bytes: b"\xb4\x01\0\0\x07\0\0\0", canonical: b"\xb4\x01\0\0\x07\0\0\0", fault: None },
     InsnFile { order: Order::Little, bytes: b"\x48\x30\0\0\x04\0\0\0", canonical: b"\x48\x30\0\0\x04\0\0\0", fault: None },
     InsnFile { order: Order::Little, bytes: b"\xd7\x01\0\0\x20\0\0\0", canonical: b"\xd7\x01\0\0\x20\0\0\0", fault: None },
+], &[
     InsnFile { order: Order::Little, bytes: b"\xd7\x01\0\0\x40\0\0\0", canonical: b"\xd7\x01\0\0\x40\0\0\0", fault: None },
     InsnFile { order: Order::Little, bytes: b"\x85\x20\x05\0\x07\0\0\0", canonical: b"\x85\x20\x05\0\x07\0\0\0", fault: None },
     InsnFile { order: Order::Big, bytes: b"\x18\x13\0\0\0\0\0\x03\0\0\0\0\0\0\0\x01", canonical: b"\x18\x31\0\0\x03\0\0\0\0\0\0\0\x01\0\0\0", fault: None },
@@ -57,6 +58,7 @@ pub(crate) static INSN_FILES: [InsnFile; 54] = [
     InsnFile { order: Order::Little, bytes: b"\xbf\x21\0\0\0\0\0\0", canonical: b"\xbf\x21\0\0\0\0\0\0", fault: None },
     InsnFile { order: Order::Little, bytes: b"\xb7\0\0\0\xfe\xff\xff\xff", canonical: b"\xb7\0\0\0\xfe\xff\xff\xff", fault: None },
     InsnFile { order: Order::Big, bytes: b"\xb4\x10\0\0\0\0\0\x07", canonical: b"\xb4\x01\0\0\x07\0\0\0", fault: None },
+], &[
     InsnFile { order: Order::Little, bytes: b"\x05\0\0\0\0\0\0\0", canonical: b"\x05\0\0\0\0\0\0\0", fault: None },
     InsnFile { order: Order::Little, bytes: b"\xbf\x12\x08\0\0\0\0\0", canonical: b"\xbf\x12\x08\0\0\0\0\0", fault: None },
     InsnFile { order: Order::Little, bytes: b"\x18\x31\0\0\x03\0\0\0\0\0\0\0\x01\0\0\0", canonical: b"\x18\x31\0\0\x03\0\0\0\0\0\0\0\x01\0\0\0", fault: None },
@@ -66,6 +68,7 @@ pub(crate) static INSN_FILES: [InsnFile; 54] = [
     InsnFile { order: Order::Little, bytes: b"\x05\0\x05\0\0\0\0\0", canonical: b"\x05\0\x05\0\0\0\0\0", fault: None },
     InsnFile { order: Order::Little, bytes: b"\xb4\x03\0\0\0\0\0\x80", canonical: b"\xb4\x03\0\0\0\0\0\x80", fault: None },
     InsnFile { order: Order::Little, bytes: b"\x18\x01\0\0\xff\xff\xff\xff\0\0\0\0\xff\xff\xff\xff", canonical: b"\x18\x01\0\0\xff\xff\xff\xff\0\0\0\0\xff\xff\xff\xff", fault: None },
+], &[
     InsnFile { order: Order::Little, bytes: b"\x95\0\0\0\0\0\0\0\x95\0\0\0\0\0\0\0", canonical: b"\x95\0\0\0\0\0\0\0\x95\0\0\0\0\0\0\0", fault: None },
     InsnFile { order: Order::Big, bytes: PACKET_FILTER_BIG, canonical: PACKET_FILTER_LITTLE, fault: None },
     InsnFile { order: Order::Little, bytes: PACKET_FILTER_LITTLE, canonical: PACKET_FILTER_LITTLE, fault: None },
@@ -77,6 +80,7 @@ pub(crate) static INSN_FILES: [InsnFile; 54] = [
     InsnFile { order: Order::Little, bytes: b"\x37\x01\x02\0\x03\0\0\0", canonical: b"", fault: Some((2, SlotCause::Offset)) },
     InsnFile { order: Order::Little, bytes: b"\xdb\x21\xf8\xff\xf0\0\0\0", canonical: b"", fault: Some((4, SlotCause::Imm)) },
     InsnFile { order: Order::Little, bytes: b"\x95\x11\0\0\0\0\0\0", canonical: b"", fault: Some((1, SlotCause::Dst)) },
+], &[
     InsnFile { order: Order::Little, bytes: b"\x95\0\0", canonical: b"", fault: Some((0, SlotCause::Truncated)) },
     InsnFile { order: Order::Little, bytes: b"\xbc\x12\x20\0\0\0\0\0", canonical: b"", fault: Some((2, SlotCause::Offset)) },
     InsnFile { order: Order::Little, bytes: b"\xd7\x01\0\0\x08\0\0\0", canonical: b"", fault: Some((4, SlotCause::Imm)) },
@@ -93,4 +97,4 @@ pub(crate) static INSN_FILES: [InsnFile; 54] = [
     InsnFile { order: Order::Little, bytes: b"\x18\x11\0\0\x03\0\0\0\x01\0\0\0\x01\0\0\0", canonical: b"", fault: Some((8, SlotCause::Reserved)) },
     InsnFile { order: Order::Little, bytes: b"\x18\x71\0\0\0\0\0\0", canonical: b"", fault: Some((1, SlotCause::Src)) },
     InsnFile { order: Order::Little, bytes: FAULTY, canonical: EXIT, fault: Some((9, SlotCause::Src)) },
-];
+]]}
