@@ -21,7 +21,7 @@ struct Refused(
 );
 
 #[rattlefmt::skip]
-const REFUSED: &[Refused] = &[
+static LENGTHS: &[Refused] = &[
     Refused("no file", b"", &[], 0, Cause::ShortHeader),
     Refused("23 bytes", b"\x9f\xeb\x01\0\x18\0\0\0\0\0\0\0\0\0\0\0\0\0\0\0\x01\0\0", &[], 23, Cause::ShortHeader),
     Refused("without the last byte", b"\x9f\xeb\x01\0\x18\0\0\0\0\0\0\0\0\0\0\0\0\0\0\0\x01\0\0\0", &[], 24, Cause::FileLength),
@@ -29,6 +29,10 @@ const REFUSED: &[Refused] = &[
     Refused("a gap", EMPTY, &[(16, 1)], 8, Cause::Sections),
     Refused("a header past the file", EMPTY, &[(4, 0x1a)], 4, Cause::HeaderLength),
     Refused("a header that takes the strings", EMPTY, &[(4, 0x19)], 25, Cause::FileLength),
+];
+
+#[rattlefmt::skip]
+static HEADERS: &[Refused] = &[
     Refused("version before flags", EMPTY, &[(2, 2), (3, 1)], 2, Cause::Version),
     Refused("another magic", EMPTY, &[(0, 0)], 0, Cause::Magic),
     Refused("no strings", EMPTY, &[(20, 0)], 20, Cause::StringLength),
@@ -37,12 +41,20 @@ const REFUSED: &[Refused] = &[
     Refused("types at the limit", EMPTY, &[(15, 2)], 8, Cause::Sections),
     Refused("strings past the limit", EMPTY, &[(23, 1)], 20, Cause::StringLength),
     Refused("strings at the limit", EMPTY, &[(20, 0), (23, 1)], 25, Cause::FileLength),
+];
+
+#[rattlefmt::skip]
+static SECTIONS_AND_MEMBERS: &[Refused] = &[
     Refused("a first letter", BIG_INT, &[(40, 1)], 40, Cause::FirstString),
     Refused("a last letter", BIG_INT, &[(44, 1)], 44, Cause::LastString),
     Refused("a tail that isn't zero", STRINGS_FIRST, &[(26, 1)], 26, Cause::HeaderTail),
     Refused("a bit-field of an INT of 31 bits", MEMBER, &[(36, 0x1f), (63, 3)], 56, Cause::MemberInt),
     Refused("a bit-field of an INT with an offset", MEMBER, &[(38, 1), (63, 3)], 56, Cause::MemberInt),
     Refused("a bit-field past the end", MEMBER, &[(60, 0x1e), (63, 3)], 60, Cause::MemberPlace),
+];
+
+#[rattlefmt::skip]
+static REFERENCES_AND_NAMES: &[Refused] = &[
     Refused("a type too far", BEYOND, &[], 32, Cause::Reference),
     Refused("framing before fields", b"\x9f\xeb\x01\0\x18\0\0\0\0\0\0\0\x14\0\0\0\x14\0\0\0\x01\0\0\0\0\0\0\0\0\0\0\x02\x02\0\0\0\0\0\0\0\0\0\0\0\0", &[], 36, Cause::RecordCut),
     Refused("component 2 of two members", TAGGED, &[(88, 2)], 88, Cause::Component),
@@ -50,6 +62,10 @@ const REFUSED: &[Refused] = &[
     Refused("a name past the strings", EMPTY_NAME, &[(24, 5)], 24, Cause::NameRange),
     Refused("a name of a PTR", EMPTY_NAME, &[(24, 1)], 24, Cause::NameUnwanted),
     Refused("a name that isn't UTF-8", EMPTY_NAME, &[(24, 1), (37, 0xff)], 24, Cause::NameUtf8),
+];
+
+#[rattlefmt::skip]
+static WORDS: &[Refused] = &[
     Refused("a FLOAT of 3 bytes", ODD_FLOAT, &[], 32, Cause::Size),
     Refused("9 bits of a byte", SMALL_INT, &[], 36, Cause::IntWord),
     Refused("encoding 3", SMALL_INT, &[(36, 8), (39, 3)], 36, Cause::IntWord),
@@ -58,6 +74,10 @@ const REFUSED: &[Refused] = &[
     Refused("bit 29 of info", BARE, &[(31, 0x34)], 28, Cause::InfoBits),
     Refused("kind_flag of a PTR", BARE, &[(31, 0x82)], 28, Cause::FlagSet),
     Refused("vlen of a PTR", BARE, &[(28, 1), (31, 2)], 28, Cause::Vlen),
+];
+
+#[rattlefmt::skip]
+static KINDS: &[Refused] = &[
     Refused("one of two members", b"\x9f\xeb\x01\0\x18\0\0\0\0\0\0\0\x18\0\0\0\x18\0\0\0\x01\0\0\0\0\0\0\0\x02\0\0\x04\x04\0\0\0\0\0\0\0\0\0\0\0\0\0\0\0\0", &[], 36, Cause::TailCut),
     Refused("a nameless FWD", b"\x9f\xeb\x01\0\x18\0\0\0\0\0\0\0\x0c\0\0\0\x0c\0\0\0\x01\0\0\0\0\0\0\0\0\0\0\x07\0\0\0\0\0", &[], 24, Cause::NameMissing),
     Refused("a FWD with a third word", NAMED_FWD, &[], 32, Cause::NotZero),
@@ -72,7 +92,15 @@ const REFUSED: &[Refused] = &[
 
 #[test]
 fn worked_files_with_a_fault_are_refused(rt: HostRuntime) -> Result<(), Fail> {
-    for Refused(name, file, edits, pos, cause) in REFUSED {
+    let pieces = [
+        LENGTHS,
+        HEADERS,
+        SECTIONS_AND_MEMBERS,
+        REFERENCES_AND_NAMES,
+        WORDS,
+        KINDS,
+    ];
+    for Refused(name, file, edits, pos, cause) in pieces.into_iter().flatten() {
         let bytes = edited(rt.alloc(), file, edits)?;
         let wanted = Some(fault(*pos, *cause));
         equal(
