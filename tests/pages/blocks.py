@@ -48,7 +48,10 @@ CALLS = {
     "README.md": [["rt run -- insn-canon --order big"], ["verify --with-tools"]],
     "bench/README.md": [["bench/run"]],
     "docs/BUILDING.md": [["rt run"], ["capi/archive", BUILD], ["capi/archive aarch64", "capi/build PREFIX"], ["verify"], ["release"]],
-    "docs/CHANGING.md": [["rt try --test", "rt check --only form::allows_src", "rt check", "rt fmt", "rt tidy"]],
+    "docs/CHANGING.md": [
+        ["rt try --test", "rt check --only form::allows_src", "rt check", "rt fmt", "rt tidy"],
+        ["rt check --test --jobs 1"],
+    ],
     "bindings/go/README.md": [
         [f"tar xf bpfcanon-go-{VERSION}.tar.xz", f"{REQUIRE}./bpfcanon-go-{VERSION}"],
         [BUILD],
