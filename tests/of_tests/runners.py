@@ -21,7 +21,7 @@ from tests.program import Report
 
 # Calls that look for a tool: what needs it is skipped, or done in another way.
 PROBES = ["go version", "cargo fmt --version", "cargo clippy --version", r"python3 -c import importlib\.util.*"]
-PROBES += [r"cc -fsanitize=\S+ .*/empty\.c .*", "empty"]
+PROBES += [r"cc -fsanitize=\S+ .*/empty\.c .*", "empty", "cc -x c -fsyntax-only -"]
 
 
 def is_probe(call):

@@ -11,13 +11,18 @@ import tempfile
 from tests import TOP
 
 # The real tools that the runners and the stand-ins need.
-BASE = "bash cat cmp cp cut diff dirname env grep ln ls mkdir mktemp nproc realpath rm sed sh sleep sort tail tee test touch true uname wc".split()
-TOOLS = "cargo cc gofmt go mypy pkg-config python3 valgrind".split()
+BASE = "awk bash cat cmp cp cut diff dirname env grep ln ls mkdir mktemp nproc realpath rm sed sh sleep sort tail tee test touch".split()
+BASE += "true uname wc".split()
+TOOLS = "cargo cc clang gofmt go mypy pkg-config python3 valgrind".split()
 EXAMPLE = "crates/bpfcanon/src/tests/library_example.rt"
 RUNNERS = ["tests/quick", "tests/run", "tests/c_interface/run", "tests/bindings"]
-COPIED = ["verify", "README.md", "docs/LIBRARY.md", EXAMPLE, "tests/parts.sh", "tests/runner.sh", "tests/python_with", *RUNNERS]
+MEMBERS = "tests/c_interface/members.txt"
+COPIED = ["verify", "README.md", "docs/LIBRARY.md", EXAMPLE, MEMBERS, "tests/parts.sh", "tests/runner.sh", "tests/python_with", *RUNNERS]
 REPLACED = ["bin/rt", "capi/archive", "capi/build", "capi/sources", "crates/bpfcanon/out/bpfcanon", "packaging/program.py"]
 REPLACED += ["tests/packages", "tests/objects/run", "tests/objects/both.py", "tests/recipes", "tests/release"]
+
+EMPTY = ["testdata/flow_table.little.btf", "testdata/flow_table.big.btf", "proved"]
+EMPTY += ["bindings/python/pyproject.toml", "bindings/rust/Cargo.toml"]
 
 # A stand-in. It fails if its call has the number FAIL_AT, or if its name is FAIL.
 STAND_IN = r"""#!/bin/sh
@@ -29,12 +34,16 @@ case /$0 in */"$FAIL") exit 1 ;; esac
 case $name in
 archive) touch crates/bpfcanon_c/out/libbpfcanon_c.a ;;
 build) mkdir -p "$1/include" "$1/lib/pkgconfig" && touch "$1/lib/pkgconfig/bpfcanon.pc" ;;
-key)
+key | objectkey)
     case $KEY in
     none) ;;
     other) wc -l <"$CALLS" ;;
     *) echo "$KEY" ;;
     esac
+    exit 0
+    ;;
+members)
+    cat "$MEMBERS"
     exit 0
     ;;
 cargo)
@@ -57,7 +66,7 @@ for word; do
     before=$word
 done
 """
-KEY_README = "```go\nprogram\n```\n```console\n$ ./key\nmade\n```\n"
+KEY_README = "".join(f"```go\nprogram\n```\n```console\n$ ./{name}\nmade\n```\n" for name in ("key", "objectkey"))
 
 
 def write(path, text):
@@ -76,7 +85,7 @@ class Tree:
             shutil.copy(TOP / name, folder / name)
         for name in [*REPLACED, *replaced]:
             write(folder / name, STAND_IN)
-        for name in ["testdata/flow_table.little.btf", "testdata/flow_table.big.btf", "bindings/python/pyproject.toml", "bindings/rust/Cargo.toml", "proved"]:
+        for name in EMPTY:
             write(folder / name, "")
         write(folder / "bindings" / "go" / "README.md", KEY_README)
         write(folder / "crates" / "bpfcanon_c" / "out" / "libbpfcanon_c.a", "")
@@ -91,7 +100,8 @@ class Tree:
             calls = pathlib.Path(folder, "calls")
             calls.touch()
             own = {"PATH": str(self.folder / "bin"), "HOME": "/", "TMPDIR": folder, "CALLS": str(calls), "FAIL_AT": str(number)}
-            own |= {"KEY": "made", "FAIL": "none", "UNFORMATTED": "", "RT_CI": "1 passed, 0 failed\\n"} | environment
+            own |= {"KEY": "made", "FAIL": "none", "UNFORMATTED": "", "RT_CI": "1 passed, 0 failed\\n"}
+            own |= {"MEMBERS": str(self.folder / MEMBERS)} | environment
             done = subprocess.run(["bash", self.folder / runner, *options], env=own, capture_output=True, text=True, timeout=120)
             lines = done.stdout.splitlines() or [done.stderr]
             return done.returncode, re.sub(r" in \d+ s", "", lines[-1]), calls.read_text().splitlines()
