@@ -52,6 +52,7 @@ CALLS = {
         ["rt try --test", "rt check --only form::allows_src", "rt check", "rt fmt", "rt tidy"],
         ["rt check --test --jobs 1"],
     ],
+    "docs/COMPARED.md": [["tools/compared --print"]],
     "bindings/go/README.md": [
         [f"tar xf bpfcanon-go-{VERSION}.tar.xz", f"{REQUIRE}./bpfcanon-go-{VERSION}"],
         [BUILD],
@@ -60,7 +61,7 @@ CALLS = {
     "bindings/python/README.md": [[f"pip install bpfcanon-{VERSION}-*_x86_64.whl"], [BUILD]],
     "bindings/rust/README.md": [[BUILD]],
 }
-SCRIPTS = ["verify", "release", "capi/archive", "capi/build", "bench/run"]
+SCRIPTS = ["verify", "release", "capi/archive", "capi/build", "bench/run", "tools/compared"]
 TOOLS = ["rt", "go", "tar", "pip"]
 STAND_IN = """#!/bin/sh
 echo "NAME${*:+ }$*" >>"$CALLS"

@@ -12,8 +12,8 @@ from tests import TOP
 from tests.program import SECONDS, Report
 
 FOLDERS = [".ci", "bench", "bindings/python", "capi", "packaging", "recipes", "tests", "tools"]
-# A folder whose Python has types throughout.
-TYPED = TOP / "bindings" / "python"
+# The folders whose Python has types throughout, and what mypy is given there.
+TYPED = {"bindings/python": [], "tools": ["peers", "compared"]}
 
 
 def language(path):
@@ -65,12 +65,13 @@ def check_faults(report):
 
 
 def check_types(report):
-    with report.group("the types of bindings/python"), tempfile.TemporaryDirectory() as cache:
-        if report.lacks("the types of bindings/python", "mypy"):
+    how = {"stdout": subprocess.PIPE, "stderr": subprocess.STDOUT, "text": True, "timeout": 10 * SECONDS}
+    with report.group("the types of Python"), tempfile.TemporaryDirectory() as cache:
+        if report.lacks("the types of Python", "mypy"):
             return
-        how = {"stdout": subprocess.PIPE, "stderr": subprocess.STDOUT, "text": True, "timeout": 10 * SECONDS}
-        done = subprocess.run(["mypy", "--strict", f"--cache-dir={cache}"], cwd=TYPED, **how)
-        report.expect_that(done.returncode == 0, "mypy --strict", done.stdout)
+        for folder, files in TYPED.items():
+            done = subprocess.run(["mypy", "--strict", f"--cache-dir={cache}", *files], cwd=TOP / folder, **how)
+            report.expect_that(done.returncode == 0, f"mypy --strict in {folder}", done.stdout)
 
 
 def main():
