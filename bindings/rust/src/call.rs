@@ -21,12 +21,12 @@ pub(crate) fn text(string: *const c_char) -> Option<&'static str> {
     unsafe { CStr::from_ptr(string) }.to_str().ok()
 }
 
-/// Makes a call with a buffer of this many bytes, and once more if the output is longer.
-pub(crate) fn output<C: CauseNumber>(
+/// Makes a call with a buffer for this many bytes or records, and once more if the output is longer.
+pub(crate) fn output<T, C: CauseNumber>(
     capacity: usize,
     position: impl Fn(&sys::Answer) -> u64,
-    call: impl Fn(*mut u8, usize) -> sys::Answer,
-) -> Result<Vec<u8>, Error<C>> {
+    call: impl Fn(*mut T, usize) -> sys::Answer,
+) -> Result<Vec<T>, Error<C>> {
     let mut out = Vec::new();
     let mut capacity = capacity;
     loop {
@@ -35,7 +35,7 @@ pub(crate) fn output<C: CauseNumber>(
         match answer.status {
             sys::DONE => {
                 assert!(answer.written <= out.capacity());
-                // SAFETY: the call has written so many bytes.
+                // SAFETY: the call has written so many bytes or records.
                 unsafe { out.set_len(answer.written) };
                 return Ok(out);
             }

@@ -48,6 +48,9 @@ pub enum Error<C> {
     OutOfMemory,
     /// The library returned a status that this crate doesn't know.
     Status(u32),
+    /// The library and this crate are of different versions, and only one of them knows a form of
+    /// instruction or a kind of type or item: that with this index, counted from 0.
+    UnknownRecord(usize),
 }
 
 impl<C> Error<C> {
@@ -80,6 +83,7 @@ impl<C: CauseNumber> fmt::Display for Error<C> {
             Error::Fault(fault) => fault.fmt(f),
             Error::OutOfMemory => f.write_str("out of memory"),
             Error::Status(status) => write!(f, "unknown status {status} of libbpfcanon"),
+            Error::UnknownRecord(index) => write!(f, "unknown record {index} of libbpfcanon"),
         }
     }
 }
@@ -92,7 +96,7 @@ impl<C: CauseNumber> From<Error<C>> for io::Error {
         let kind = match error {
             Error::Fault(_) => io::ErrorKind::InvalidData,
             Error::OutOfMemory => io::ErrorKind::OutOfMemory,
-            Error::Status(_) => io::ErrorKind::Other,
+            Error::Status(_) | Error::UnknownRecord(_) => io::ErrorKind::Other,
         };
         io::Error::new(kind, error)
     }

@@ -1,9 +1,19 @@
 //! BPF instructions ([RFC 9669](https://www.rfc-editor.org/rfc/rfc9669)) and their listings.
 
 mod groups;
+mod instruction;
+mod operations;
+mod program;
+mod record;
 mod writer;
 
 pub use groups::Groups;
+pub use instruction::Insn;
+pub use operations::{
+    AluOp, AtomicOp, BranchOp, MovsxForm, NoSuchReg, Operand, Reg, Size, SmallSize, SwapBits,
+    SwapKind, WideOf, Width,
+};
+pub use program::{encode, Insns, Program};
 pub use writer::InsnWriter;
 
 use crate::{call, sys, Order};
@@ -95,7 +105,7 @@ pub fn show(order: Order, program: &[u8]) -> Result<String, Error> {
     let listing = call::output(
         program.len().saturating_mul(4),
         |it| it.pos,
-        |out, capacity| {
+        |out: *mut u8, capacity| {
             // SAFETY: the slice and the buffer are valid for the call, and don't overlap.
             unsafe {
                 sys::bpfcanon_insn_show(

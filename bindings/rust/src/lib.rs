@@ -38,6 +38,7 @@ pub mod btf;
 mod call;
 mod error;
 pub mod insn;
+mod records;
 mod sys;
 
 pub use error::{Error, Fault};

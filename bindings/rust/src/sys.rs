@@ -1,5 +1,6 @@
 //! The calls of `bpfcanon.h` that this crate makes, and the structs that they return.
 
+use crate::records::{InsnRecord, ItemRecord, TypeRecord};
 use std::ffi::c_char;
 
 pub(crate) const DONE: u32 = 0;
@@ -31,12 +32,19 @@ extern "C" {
     pub(crate) fn bpfcanon_btf_canon(
         to: u32, bytes: *const u8, len: usize, out: *mut u8, room: usize) -> Answer;
     pub(crate) fn bpfcanon_btf_check(bytes: *const u8, len: usize) -> Answer;
+    pub(crate) fn bpfcanon_btf_decode(
+        bytes: *const u8, len: usize, types: *mut TypeRecord, types_room: usize,
+        items: *mut ItemRecord, items_room: usize) -> Answer;
     pub(crate) fn bpfcanon_btf_same(
         first: *const u8, first_len: usize, second: *const u8, second_len: usize) -> Answer;
     pub(crate) fn bpfcanon_btf_show(
         bytes: *const u8, len: usize, out: *mut c_char, room: usize) -> Answer;
     pub(crate) fn bpfcanon_insn_canon(
         order: u32, to: u32, bytes: *const u8, len: usize, out: *mut u8, room: usize) -> Answer;
+    pub(crate) fn bpfcanon_insn_decode(
+        order: u32, bytes: *const u8, len: usize, out: *mut InsnRecord, room: usize) -> Answer;
+    pub(crate) fn bpfcanon_insn_encode(
+        to: u32, insns: *const InsnRecord, count: usize, out: *mut u8, room: usize) -> Answer;
     pub(crate) fn bpfcanon_insn_front(
         order: u32, to: u32, bytes: *const u8, len: usize, out: *mut u8, room: usize) -> Answer;
     pub(crate) fn bpfcanon_insn_groups(order: u32, bytes: *const u8, len: usize) -> Answer;
