@@ -1,6 +1,16 @@
 //! BTF, the types of BPF programs ([btf.rst](https://docs.kernel.org/bpf/btf.html)), as the bytes
 //! of the section `.BTF` of an object file.
 
+mod file;
+mod items;
+mod resolve;
+mod types;
+
+pub use file::{Btf, Types};
+pub use items::{Item, Items};
+pub use resolve::ResolveError;
+pub use types::{Encoding, Linkage, Type, TypeId};
+
 use crate::{call, sys, Order};
 
 /// The error of a call on BTF.
@@ -126,7 +136,7 @@ pub fn show(types: &[u8]) -> Result<String, Error> {
     let text = call::output(
         types.len().saturating_mul(3),
         |it| it.pos,
-        |out, capacity| {
+        |out: *mut u8, capacity| {
             // SAFETY: the slice and the buffer are valid for the call, and don't overlap.
             unsafe { sys::bpfcanon_btf_show(types.as_ptr(), types.len(), out.cast(), capacity) }
         },
