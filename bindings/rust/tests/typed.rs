@@ -1,0 +1,215 @@
+//! Typed values, where the vectors don't show it: lookups, iterators, resolved types and encoding.
+
+mod rows;
+
+use bpfcanon::btf::{Btf, Item, ResolveError, Type, TypeId};
+use bpfcanon::insn::{self, AluOp, Insn, Operand, Program, Reg, WideOf, Width};
+use bpfcanon::Order;
+use rows::load;
+
+/// The kinds of btf.rst section 2.2, as they are in bits 24 to 28 of the info word.
+const INT: u32 = 1 << 24;
+const STRUCT: u32 = 4 << 24;
+const ENUM: u32 = 6 << 24;
+const TYPEDEF: u32 = 8 << 24;
+const VOLATILE: u32 = 9 << 24;
+const CONST: u32 = 10 << 24;
+const RESTRICT: u32 = 11 << 24;
+const TYPE_TAG: u32 = 18 << 24;
+const ENUM64: u32 = 19 << 24;
+const KIND_FLAG: u32 = 1 << 31;
+
+/// Little-endian BTF of these words of the type section, with the names `a` at 1 and `bc` at 3.
+fn file(words: &[u32]) -> Vec<u8> {
+    let types = words.iter().flat_map(|it| it.to_le_bytes()).collect::<Vec<_>>();
+    let strings = b"\0a\0bc\0";
+    let lengths = [24, 0, types.len(), types.len(), strings.len()];
+    let lengths = lengths.map(|it| (it as u32).to_le_bytes()).concat();
+    [&[0x9f, 0xeb, 1, 0], &lengths[..], &types, strings].concat()
+}
+
+const A: u32 = 1;
+const BC: u32 = 3;
+
+#[test]
+fn resolve_follows_qualifiers_tags_and_typedefs() {
+    #[rustfmt::skip]
+    let file = file(&[
+        BC, INT, 4, 32,
+        A, TYPEDEF, 1,
+        0, VOLATILE, 2,
+        0, CONST, 3,
+        0, RESTRICT, 4,
+        BC, TYPE_TAG, 5,
+        0, CONST, 0,
+    ]);
+    let btf = Btf::decode(&file).unwrap();
+    assert_eq!(btf.len(), 7);
+    let int = btf.get(TypeId(1)).unwrap();
+    assert!(matches!(int, Type::Int { name: "bc", .. }));
+    for id in [1, 2, 3, 4, 5, 6] {
+        assert_eq!(btf.resolve(TypeId(id)), Ok((TypeId(1), int)), "{id}");
+    }
+    assert_eq!(btf.resolve(TypeId(7)), Ok((TypeId::VOID, Type::Void)));
+    assert_eq!(btf.resolve(TypeId::VOID), Ok((TypeId::VOID, Type::Void)));
+    assert_eq!(btf.resolve(TypeId(8)), Err(ResolveError::NoSuchType(TypeId(8))));
+    let most = TypeId(u32::MAX);
+    assert_eq!(btf.resolve(most), Err(ResolveError::NoSuchType(most)));
+}
+
+/// Circles of 1 to 9 types, with 0 to 9 types that lead to them.
+#[test]
+fn resolve_ends_on_a_circle() {
+    for (before, length) in (0..10).flat_map(|it| (1..10).map(move |length| (it, length))) {
+        let last = before + length;
+        let target = |id| if id == last { before + 1 } else { id + 1 };
+        let words: Vec<_> = (1..=last).flat_map(|id| [0, CONST, target(id)]).collect();
+        let file = file(&words);
+        let btf = Btf::decode(&file).unwrap();
+        for id in (1..=last).map(TypeId) {
+            assert_eq!(btf.resolve(id), Err(ResolveError::Circle(id)), "{before} {length}");
+        }
+    }
+    let error = ResolveError::Circle(TypeId(3));
+    assert_eq!(error.to_string(), "type 3 leads round a circle");
+    assert_eq!(ResolveError::NoSuchType(TypeId(9)).to_string(), "there is no type 9");
+}
+
+#[test]
+fn types_are_found_by_id_and_by_name() {
+    let words = [[A, STRUCT, 0], [A, TYPEDEF, 1], [BC, TYPEDEF, 2], [0, CONST, 3]].concat();
+    let file = file(&words);
+    let btf = Btf::decode(&file).unwrap();
+    let a = Type::Struct { name: "a", size: 0 };
+    let typedef = Type::Typedef { name: "a", target: TypeId(1) };
+    let found: Vec<_> = btf.by_name("a").collect();
+    assert_eq!(found, [(TypeId(1), a), (TypeId(2), typedef)]);
+    assert_eq!(btf.by_name("c").count(), 0);
+    assert_eq!(btf.by_name("").map(|(id, _)| id.0).collect::<Vec<_>>(), [4]);
+    assert_eq!([0, 1, 3, 4].map(|id| btf.name(TypeId(id))), ["", "a", "bc", ""].map(Some));
+    assert_eq!(btf.get(TypeId(1)), Some(a));
+    assert_eq!(btf.get(TypeId::VOID), Some(Type::Void));
+    for id in [5, u32::MAX].map(TypeId) {
+        assert_eq!((btf.get(id), btf.name(id), btf.items(id).len()), (None, None, 0));
+    }
+}
+
+#[test]
+fn names_live_as_long_as_the_file() {
+    let file = file(&[A, STRUCT, 0]);
+    let name = Btf::decode(&file).unwrap().name(TypeId(1)).unwrap();
+    let types: Vec<_> = Btf::decode(&file).unwrap().iter().collect();
+    assert_eq!((name, types[0].1.name()), ("a", "a"));
+    assert!(file.as_ptr_range().contains(&name.as_ptr()));
+}
+
+#[test]
+fn values_are_signed_if_their_enum_is() {
+    let most = u32::MAX;
+    let words = [A, ENUM | 1, 4, A, most, A, KIND_FLAG | ENUM | 1, 4, A, most];
+    let words64 = [A, ENUM64 | 1, 8, A, 0, 1 << 31, A, KIND_FLAG | ENUM64 | 1, 8, A, 0, 1 << 31];
+    let file = file(&[&words[..], &words64].concat());
+    let btf = Btf::decode(&file).unwrap();
+    let found: Vec<_> = btf.iter().flat_map(|(id, _)| btf.items(id)).collect();
+    let value = |value| Item::EnumValue { name: "a", value };
+    let value64 = |value| Item::Value64 { name: "a", value };
+    assert_eq!(found, [value(4_294_967_295), value(-1), value64(1 << 63), value64(-(1 << 63))]);
+}
+
+/// What an iterator returns is the same from each end, by `nth`, and as long as it says.
+fn is_exact<I>(iter: I)
+where
+    I: DoubleEndedIterator + ExactSizeIterator + Clone,
+    I::Item: PartialEq + std::fmt::Debug,
+{
+    let all: Vec<_> = iter.clone().collect();
+    let mut reversed: Vec<_> = iter.clone().rev().collect();
+    reversed.reverse();
+    assert_eq!(all, reversed);
+    for (at, it) in all.iter().enumerate() {
+        let mut rest = iter.clone();
+        assert_eq!(rest.nth(at).as_ref(), Some(it));
+        assert_eq!(rest.len(), all.len() - at - 1);
+    }
+    assert_eq!((iter.len(), iter.clone().nth(all.len())), (all.len(), None));
+}
+
+#[test]
+fn iterators_know_their_length() {
+    let (file, bytes) = (load("flow_table.big.btf"), load("packet_filter.big.bin"));
+    let btf = Btf::decode(&file).unwrap();
+    is_exact(btf.iter());
+    for (id, it) in &btf {
+        assert_eq!(btf.get(id), Some(it));
+        is_exact(btf.items(id));
+    }
+    let program = Program::decode(Order::Big, &bytes).unwrap();
+    is_exact(program.iter());
+    for (index, (offset, insn)) in program.iter().enumerate() {
+        assert_eq!(program.get(index), Some(insn));
+        assert_eq!(program.offset(index), Some(offset));
+        assert_eq!(program.index_at(offset), Some(index));
+        assert_eq!(program.index_at(offset + 1), None);
+    }
+    let len = program.len();
+    assert_eq!((program.get(len), program.offset(len), program.group(len)), (None, None, None));
+    assert_eq!(program.bytes(len), None);
+    let encodings: Vec<_> = (0..len).flat_map(|it| program.bytes(it).unwrap()).copied().collect();
+    assert_eq!(encodings, bytes);
+}
+
+#[test]
+fn empty_inputs_have_no_values() {
+    let program = Program::decode(Order::Big, &[]).unwrap();
+    assert_eq!((program.is_empty(), program.len(), program.iter().next()), (true, 0, None));
+    assert_eq!(insn::encode::<[Insn; 0]>(Order::Big, []), Ok(Vec::new()));
+    let file = file(&[]);
+    let btf = Btf::decode(&file).unwrap();
+    assert_eq!((btf.is_empty(), btf.len(), btf.iter().next()), (true, 0, None));
+    assert_eq!(btf.get(TypeId::VOID), Some(Type::Void));
+    assert_eq!(Btf::decode(&[]).unwrap_err().fault().unwrap().position(), 0);
+}
+
+/// The bytes are worked out by RFC 9669 sections 3.1, 4.1 and 5.4.
+#[test]
+fn instructions_are_encoded_in_both_orders() {
+    let [r1, r10] = [1, 10].map(|it| Reg::new(it).unwrap());
+    let insns = [
+        Insn::Alu { width: Width::W64, op: AluOp::Sdiv, dst: r1, arg: Operand::Reg(r10) },
+        Insn::Wide { dst: r10, what: WideOf::Number(0x0102_0304_0506_0708) },
+        Insn::Exit,
+    ];
+    let little = [
+        [0x3f, 0xa1, 1, 0, 0, 0, 0, 0],
+        [0x18, 0x0a, 0, 0, 8, 7, 6, 5],
+        [0, 0, 0, 0, 4, 3, 2, 1],
+        [0x95, 0, 0, 0, 0, 0, 0, 0],
+    ];
+    let big = [
+        [0x3f, 0x1a, 0, 1, 0, 0, 0, 0],
+        [0x18, 0xa0, 0, 0, 5, 6, 7, 8],
+        [0, 0, 0, 0, 1, 2, 3, 4],
+        [0x95, 0, 0, 0, 0, 0, 0, 0],
+    ];
+    assert_eq!(insn::encode(Order::Little, insns), Ok(little.concat()));
+    assert_eq!(insn::encode(Order::Big, insns.iter()), Ok(big.concat()));
+}
+
+#[test]
+fn values_print_themselves() {
+    let file = file(&[A, STRUCT, 0]);
+    let btf = Btf::decode(&file).unwrap();
+    assert_eq!(format!("{btf:?}"), "Btf { len: 1, .. }");
+    let types = r#"{TypeId(1): Struct { name: "a", size: 0 }}"#;
+    assert_eq!(format!("{:?} {:?}", btf.iter(), btf.items(TypeId(1))), format!("{types} []"));
+    let bytes = [0x95, 0, 0, 0, 0, 0, 0, 0];
+    let program = Program::decode(Order::Little, &bytes).unwrap();
+    assert_eq!(format!("{program:?} {:?}", program.iter()), "{0: Exit} {0: Exit}");
+}
+
+#[test]
+fn threads_may_read_the_same_values() {
+    fn is_thread_safe<T: Send + Sync>() {}
+    is_thread_safe::<Btf<'_>>();
+    is_thread_safe::<Program<'_>>();
+}
