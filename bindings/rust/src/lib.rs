@@ -1,10 +1,15 @@
-//! Canonical bytes of BPF instructions ([RFC 9669]) and of [BTF], the types of BPF programs.
+//! Canonical bytes and typed values of BPF instructions ([RFC 9669]) and of [BTF], the types of BPF
+//! programs.
 //!
 //! The same instructions can be encoded in either byte order, and the same types can also lay out
 //! their strings in many ways. [`insn::canon`] and [`btf::canon`] return canonical bytes: two
 //! inputs without a fault have the same instructions or types if and only if their canonical bytes
 //! are equal. For every other input the error is an [`Error::Fault`] with the position and the
 //! cause of its first fault.
+//!
+//! [`insn::Program`] and [`btf::Btf`] decode an input into values, for programs that inspect or
+//! compare it: [`insn::Insn`], [`btf::Type`] and [`btf::Item`]. [`insn::encode`] is the way back
+//! for instructions.
 //!
 //! The crate calls the C library `libbpfcanon`, whose calls are proved to meet their contracts. The
 //! few lines of C around them and this crate are tested. The build script finds the library by
@@ -28,8 +33,8 @@
 //! # Ok::<(), insn::Error>(())
 //! ```
 //!
-//! Inputs are not copied, and nothing is kept of them after a call. Calls may run in any number of
-//! threads.
+//! Inputs are not copied, and nothing is kept of them after a call, except that decoded values
+//! borrow theirs. Calls may run in any number of threads.
 //!
 //! [RFC 9669]: https://www.rfc-editor.org/rfc/rfc9669
 //! [BTF]: https://docs.kernel.org/bpf/btf.html
