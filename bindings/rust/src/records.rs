@@ -1,4 +1,5 @@
-//! The records of `bpfcanon.h`: structs of integers without padding, and the numbers in them.
+//! The records of `bpfcanon.h`: structs of integers without padding, whose arrays the calls want
+//! aligned to 8 bytes; and the numbers in them.
 
 /// Declares an enum by its variants and their numbers in records.
 macro_rules! numbered {
@@ -23,7 +24,7 @@ macro_rules! numbered {
 pub(crate) use numbered;
 
 /// `bpfcanon_insn`.
-#[repr(C)]
+#[repr(C, align(8))]
 #[derive(Clone, Copy, Debug, Default, PartialEq, Eq)]
 pub(crate) struct InsnRecord {
     pub(crate) form: u8,
@@ -42,9 +43,9 @@ pub(crate) struct InsnRecord {
     pub(crate) pos: u64,
 }
 
-/// `bpfcanon_btf_type`, aligned as arrays of it have to be.
+/// `bpfcanon_btf_type`.
 #[repr(C, align(8))]
-#[derive(Clone, Copy, Debug)]
+#[derive(Clone, Copy, Debug, Default, PartialEq, Eq)]
 pub(crate) struct TypeRecord {
     pub(crate) kind: u8,
     pub(crate) flag: u8,
@@ -64,8 +65,8 @@ pub(crate) struct TypeRecord {
 }
 
 /// `bpfcanon_btf_item`.
-#[repr(C)]
-#[derive(Clone, Copy, Debug)]
+#[repr(C, align(8))]
+#[derive(Clone, Copy, Debug, Default, PartialEq, Eq)]
 pub(crate) struct ItemRecord {
     pub(crate) name: u32,
     pub(crate) name_len: u32,
@@ -81,3 +82,29 @@ pub(crate) struct ItemRecord {
 const _: () = assert!(std::mem::size_of::<InsnRecord>() == 32);
 const _: () = assert!(std::mem::size_of::<TypeRecord>() == 40);
 const _: () = assert!(std::mem::size_of::<ItemRecord>() == 40);
+
+#[cfg(test)]
+mod tests {
+    use super::*;
+
+    /// A newer library may return such records.
+    #[test]
+    fn records_with_unknown_numbers_have_no_value() {
+        let insn = |form, bits, op| InsnRecord { form, bits, op, ..Default::default() }.insn();
+        // A width, two operations and two forms that there aren't.
+        assert!(insn(1, 64, 12).is_some());
+        for (form, bits, op) in [(1, 16, 12), (1, 64, 8), (17, 64, 7), (0, 0, 0), (20, 0, 0)] {
+            assert_eq!(insn(form, bits, op), None, "{form} {bits} {op}");
+        }
+        let unknown = TypeRecord { kind: 1, encoding: 3, ..Default::default() };
+        assert_eq!(unknown.typed(""), None);
+        let unknown = TypeRecord { kind: 14, linkage: 3, ..Default::default() };
+        assert_eq!(unknown.typed(""), None);
+        for kind in [0, 20] {
+            assert_eq!(TypeRecord { kind, ..Default::default() }.typed(""), None);
+        }
+        for kind in [0, 6] {
+            assert_eq!(ItemRecord { kind, ..Default::default() }.typed("", true), None);
+        }
+    }
+}

@@ -38,11 +38,11 @@ impl<'a> Btf<'a> {
     ///
     /// # Errors
     ///
-    /// The first fault of the input, or out of memory.
+    /// The first fault of the input, or out of memory, or [`Error::UnknownRecord`] if the library is
+    /// newer and decodes a kind of type that this crate doesn't know.
     pub fn decode(file: &'a [u8]) -> Result<Btf<'a>, Error> {
         let (types, items) = decode_records(file)?;
-        let is_unknown = |it: &TypeRecord| it.typed("").is_none();
-        let unknown = types.iter().position(is_unknown);
+        let unknown = types.iter().position(|it| it.typed("").is_none());
         let unknown_item = items.iter().position(|it| it.typed("", false).is_none());
         match unknown.or(unknown_item) {
             Some(index) => Err(Error::UnknownRecord(index)),
@@ -190,7 +190,8 @@ impl<'a> Names<'a> {
     pub(super) fn get(self, offset: u32, len: u32) -> &'a str {
         let name = &self.file[offset as usize..][..len as usize];
         debug_assert!(std::str::from_utf8(name).is_ok());
-        // SAFETY: the library's contract says that the name of each record is UTF-8.
+        // SAFETY: the library's contract says that the name of each record that it decodes is valid
+        // UTF-8 in the file, and the caller passes those of such a record.
         unsafe { std::str::from_utf8_unchecked(name) }
     }
 }

@@ -46,7 +46,7 @@ impl ItemRecord {
     /// The item of a record with its name; none if its kind is unknown. `is_signed` says how the
     /// bits of a value are read. The kinds are those of `enum bpfcanon_item`.
     #[rustfmt::skip]
-    pub(super) fn typed<'a>(&self, name: &'a str, is_signed: bool) -> Option<Item<'a>> {
+    pub(crate) fn typed<'a>(&self, name: &'a str, is_signed: bool) -> Option<Item<'a>> {
         let (bits, target) = (self.value, TypeId(self.target));
         Some(match self.kind {
             1 => Item::Member { name, target, bit_offset: self.bit_offset, width: u8::try_from(self.width).ok()? },

@@ -39,7 +39,8 @@ impl<'a> Program<'a> {
     ///
     /// # Errors
     ///
-    /// The first fault of the program, or out of memory.
+    /// The first fault of the program, or out of memory, or [`Error::UnknownRecord`] if the library
+    /// is newer and decodes an instruction that this crate doesn't know.
     pub fn decode(order: Order, bytes: &'a [u8]) -> Result<Program<'a>, Error> {
         let mut records: Vec<InsnRecord> = call::output(
             bytes.len() / 8,
@@ -169,7 +170,8 @@ impl fmt::Debug for Insns<'_> {
 ///
 /// # Errors
 ///
-/// Out of memory.
+/// Out of memory, or [`Error::UnknownRecord`] with the index of the first instruction that an older
+/// library doesn't know.
 ///
 /// ```
 /// use bpfcanon::insn::{self, AluOp, Insn, Operand, Reg, Width};
@@ -208,7 +210,6 @@ where
         },
     );
     encoded.map_err(|error| match error {
-        // An older library might not know an instruction.
         Error::Fault(fault) => Error::UnknownRecord(fault.position as usize),
         other => other,
     })
