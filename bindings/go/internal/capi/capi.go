@@ -30,6 +30,7 @@ const (
 	Memory      Status = C.BPFCANON_MEMORY
 	Room        Status = C.BPFCANON_ROOM
 	BadOrder    Status = C.BPFCANON_ORDER
+	Alignment   Status = C.BPFCANON_ALIGNMENT
 )
 
 // Conformance groups, as bits of a mask.
