@@ -84,6 +84,31 @@ var brings = map[string]bpfcanon.Groups{
 	"divmul64": bpfcanon.Divmul64 | bpfcanon.Divmul32, "packet": bpfcanon.Packet,
 }
 
+// The group of an instruction, without those that it includes.
+var groupOf = map[string]bpfcanon.Groups{
+	"base32": bpfcanon.Base32, "base64": bpfcanon.Base64, "atomic32": bpfcanon.Atomic32, "atomic64": bpfcanon.Atomic64,
+	"divmul32": bpfcanon.Divmul32, "divmul64": bpfcanon.Divmul64, "packet": bpfcanon.Packet,
+}
+
+// Checks that a program in each byte order is decoded to the instruction of a line, and that this is
+// encoded to the program in each byte order.
+func wantDecoded(t *testing.T, line string, order bpfcanon.Order, programs [][]byte, group bpfcanon.Groups) {
+	t.Helper()
+	decoded, err := bpfcanon.DecodeInsns(order, programs[order])
+	if err != nil || listingOf(decoded) != line+"\n" {
+		t.Errorf("%s: decoded %v, %v", line, decoded, err)
+		return
+	}
+	insn := decoded.At(0)
+	if decoded.Pos(0) != 0 || decoded.Group(0) != group || decoded.Form(0) != bpfcanon.FormOf(insn) {
+		t.Errorf("%s: at %d, %v, %v", line, decoded.Pos(0), decoded.Group(0), decoded.Form(0))
+	}
+	for _, to := range orders {
+		got, err := bpfcanon.EncodeInsns(to, []bpfcanon.Insn{insn})
+		wantBytes(t, line+", encoded", got, err, programs[to])
+	}
+}
+
 func TestInstructions(t *testing.T) {
 	for _, row := range vectors(t, "insn") {
 		line, programs := row[0], [][]byte{data(t, row[1]), data(t, row[2])}
@@ -102,6 +127,7 @@ func TestInstructions(t *testing.T) {
 			if groups, err := bpfcanon.InsnGroups(order, programs[order]); groups != brings[row[3]] || err != nil {
 				t.Errorf("%s: groups %v, %v", line, groups, err)
 			}
+			wantDecoded(t, line, order, programs, groupOf[row[3]])
 		}
 	}
 }
@@ -116,6 +142,8 @@ func TestFaultyInstructions(t *testing.T) {
 			_, err = bpfcanon.InsnShow(order, program)
 			wantFault(t, row[0], err, want)
 			_, err = bpfcanon.InsnGroups(order, program)
+			wantFault(t, row[0], err, want)
+			_, err = bpfcanon.DecodeInsns(order, program)
 			wantFault(t, row[0], err, want)
 			_, err = bpfcanon.InsnSame(order, program, order, nil)
 			wantFault(t, row[0], err, want)
