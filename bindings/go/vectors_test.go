@@ -188,6 +188,12 @@ func TestTypes(t *testing.T) {
 			if same, err := bpfcanon.BTFSame(given, canonical[0]); !same || err != nil {
 				t.Errorf("%s, compared: %v, %v", row[0], same, err)
 			}
+			decoded, err := bpfcanon.DecodeBTF(given)
+			if err != nil {
+				t.Errorf("%s, decoded: %v", row[0], err)
+				continue
+			}
+			wantBytes(t, row[0]+", decoded", []byte(typeListingOf(decoded)), nil, text(t, row[5]))
 		}
 	}
 }
@@ -202,6 +208,8 @@ func TestFaultyTypes(t *testing.T) {
 			_, err = bpfcanon.BTFShow(given)
 			wantFault(t, row[0], err, want)
 			_, err = bpfcanon.BTFCheck(given)
+			wantFault(t, row[0], err, want)
+			_, err = bpfcanon.DecodeBTF(given)
 			wantFault(t, row[0], err, want)
 			_, err = bpfcanon.BTFSame(given, good)
 			wantFault(t, row[0], err, want)

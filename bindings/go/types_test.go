@@ -1,0 +1,180 @@
+package bpfcanon_test
+
+import (
+	"encoding/binary"
+	"math"
+	"reflect"
+	"sync"
+	"testing"
+
+	"bpfcanon"
+)
+
+// The third word of a record of a kind: its kind, its number of items and its kind_flag (btf.rst section 2.2).
+func info(kind bpfcanon.Kind, items int, flag uint32) uint32 {
+	return flag<<31 | uint32(kind)<<24 | uint32(items)
+}
+
+// Decodes BTF, or fails.
+func decode(t testing.TB, file []byte) *bpfcanon.BTF {
+	t.Helper()
+	b, err := bpfcanon.DecodeBTF(file)
+	if err != nil {
+		t.Fatal(err)
+	}
+	return b
+}
+
+const ownStrings = "\x00int\x00s\x00"
+
+// An INT "int", a STRUCT "s" with a bit-field "int", and a FUNC_PROTO with a parameter "s" and variable arguments.
+var words = []uint32{
+	1, info(bpfcanon.KindInt, 0, 0), 4, 0x01000020,
+	5, info(bpfcanon.KindStruct, 1, 1), 4, 1, 1, 0x03000005,
+	0, info(bpfcanon.KindFuncProto, 2, 0), 1, 5, 2, 0, 0,
+}
+
+func TestTypesByHand(t *testing.T) {
+	for _, order := range []binary.ByteOrder{binary.LittleEndian, binary.BigEndian} {
+		b := decode(t, btf(order, words, ownStrings))
+		if b.Len() != 3 || b.Type(0) != (bpfcanon.Void{}) || b.Kind(0) != bpfcanon.KindVoid || b.Name(0) != "" {
+			t.Errorf("%d types, void %v", b.Len(), b.Type(0))
+		}
+		if got, want := b.Type(1), (bpfcanon.Int{Name: "int", Size: 4, Encoding: bpfcanon.EncodingSigned, Bits: 32}); got != want {
+			t.Errorf("%v, want %v", got, want)
+		}
+		it, ok := b.Type(2).(bpfcanon.Struct)
+		if !ok || it.Name != "s" || it.Size != 4 || it.Members.Len() != 1 {
+			t.Fatalf("%v", b.Type(2))
+		}
+		if got, want := it.Members.At(0), (bpfcanon.Member{Name: "int", Target: 1, BitOffset: 5, Width: 3}); got != want {
+			t.Errorf("%v, want %v", got, want)
+		}
+		proto, ok := b.Type(3).(bpfcanon.FuncProto)
+		if !ok || proto.Target != 1 || proto.Params.Len() != 2 {
+			t.Fatalf("%v", b.Type(3))
+		}
+		if proto.Params.At(0) != (bpfcanon.Param{Name: "s", Target: 2}) || proto.Params.At(1) != (bpfcanon.Param{}) {
+			t.Errorf("%v, %v", proto.Params.At(0), proto.Params.At(1))
+		}
+	}
+}
+
+// The compiled types, whose listing is written by the library.
+func TestCompiledTypesAreDecoded(t *testing.T) {
+	for _, name := range []string{"flow_table.little.btf", "flow_table.big.btf"} {
+		want, err := bpfcanon.BTFShow(load(t, name))
+		wantBytes(t, name, []byte(typeListingOf(decode(t, load(t, name)))), err, want)
+	}
+}
+
+func TestValuesHaveTheSignOfTheirEnum(t *testing.T) {
+	b := decode(t, btf(binary.LittleEndian, []uint32{
+		0, info(bpfcanon.KindEnum, 1, 1), 4, 1, math.MaxUint32,
+		0, info(bpfcanon.KindEnum, 1, 0), 4, 1, math.MaxUint32,
+		0, info(bpfcanon.KindEnum64, 1, 1), 8, 1, 0xfffffffe, math.MaxUint32,
+		0, info(bpfcanon.KindEnum64, 1, 0), 8, 1, 1, 0x80000000,
+	}, ownStrings))
+	for id, want := range map[bpfcanon.ID]int64{1: -1, 2: math.MaxUint32} {
+		if got := b.Type(id).(bpfcanon.Enum).Values.At(0); got != (bpfcanon.EnumValue{Name: "int", Value: want}) {
+			t.Errorf("type %d: %v, want %d", id, got, want)
+		}
+	}
+	signed, unsigned := b.Type(3).(bpfcanon.Enum64), b.Type(4).(bpfcanon.Enum64)
+	if !signed.Signed || int64(signed.Values.At(0).Value) != -2 || unsigned.Signed || unsigned.Values.At(0).Value != 1<<63+1 {
+		t.Errorf("%v, %v", signed.Values.At(0), unsigned.Values.At(0))
+	}
+}
+
+func TestIDsThatNoTypeHas(t *testing.T) {
+	for _, b := range []*bpfcanon.BTF{decode(t, btf(binary.LittleEndian, words, ownStrings)), decode(t, btf(binary.LittleEndian, nil, "\x00"))} {
+		for _, id := range []bpfcanon.ID{bpfcanon.ID(b.Len() + 1), math.MaxInt32, math.MaxInt32 + 1, math.MaxUint32} {
+			_, err := b.Resolve(id)
+			if b.Type(id) != nil || b.Name(id) != "" || b.Kind(id) != bpfcanon.KindVoid || err != bpfcanon.ErrID {
+				t.Errorf("type %d: %v, %q, %v, %v", id, b.Type(id), b.Name(id), b.Kind(id), err)
+			}
+		}
+	}
+}
+
+func TestIndicesThatNoItemHasPanic(t *testing.T) {
+	it := decode(t, btf(binary.LittleEndian, words, ownStrings)).Type(2).(bpfcanon.Struct)
+	for _, i := range []int{-1, 1, 2} {
+		func() {
+			defer func() {
+				if recover() == nil {
+					t.Errorf("there is a member %d", i)
+				}
+			}()
+			it.Members.At(i)
+		}()
+	}
+}
+
+// The types by name: a struct and its typedef have one.
+func TestTypesByName(t *testing.T) {
+	b := decode(t, btf(binary.LittleEndian, append(words[:len(words):len(words)], 5, info(bpfcanon.KindTypedef, 0, 0), 2), ownStrings))
+	for name, want := range map[string][]bpfcanon.ID{"int": {1}, "s": {2, 4}, "": nil, "in": nil, "nt": nil} {
+		if got := b.ByName(name); !reflect.DeepEqual(got, want) {
+			t.Errorf("%q: %v, want %v", name, got, want)
+		}
+	}
+}
+
+// Names are of a copy: a later change of the input doesn't change them.
+func TestTypesDoNotKeepTheirInput(t *testing.T) {
+	file := btf(binary.LittleEndian, words, ownStrings)
+	b := decode(t, file)
+	for i := range file {
+		file[i] = 0xff
+	}
+	if b.Name(1) != "int" || b.Type(2).(bpfcanon.Struct).Members.At(0).Name != "int" {
+		t.Errorf("%q", b.Name(1))
+	}
+}
+
+// Only the value that Type returns is allocated.
+func TestAllocationsOfTypes(t *testing.T) {
+	b := decode(t, load(t, "flow_table.little.btf"))
+	length := 0
+	if count := testing.AllocsPerRun(100, func() {
+		for id := bpfcanon.ID(0); int(id) <= b.Len(); id++ {
+			target, _ := b.Resolve(id)
+			length += len(b.Name(id)) + int(b.Kind(id)) + int(target)
+		}
+	}); count != 0 {
+		t.Errorf("%v allocations for names", count)
+	}
+	it := b.Type(b.ByName("flow")[0]).(bpfcanon.Struct)
+	if count := testing.AllocsPerRun(100, func() {
+		for i := 0; i < it.Members.Len(); i++ {
+			length += len(it.Members.At(i).Name)
+		}
+	}); count != 0 || it.Members.Len() == 0 {
+		t.Errorf("%v allocations for %d members", count, it.Members.Len())
+	}
+	if count := testing.AllocsPerRun(100, func() { length += int(b.Type(1).Kind()) }); count > 1 {
+		t.Errorf("%v allocations for a type", count)
+	}
+}
+
+func TestGoroutinesReadTheSameTypes(t *testing.T) {
+	b, want := decode(t, load(t, "flow_table.little.btf")), decode(t, load(t, "flow_table.big.btf"))
+	listing := typeListingOf(want)
+	var running sync.WaitGroup
+	for thread := 0; thread < 8; thread++ {
+		running.Add(1)
+		go func() {
+			defer running.Done()
+			if typeListingOf(b) != listing {
+				t.Error("the types differ")
+			}
+			for id := bpfcanon.ID(1); int(id) <= b.Len(); id++ {
+				if name := want.Name(id); !reflect.DeepEqual(b.ByName(name), want.ByName(name)) {
+					t.Errorf("%q: %v", name, b.ByName(name))
+				}
+			}
+		}()
+	}
+	running.Wait()
+}
