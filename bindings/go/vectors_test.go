@@ -18,7 +18,7 @@ var least = map[string]int{
 
 // The fields of each row of a kind in testdata/vectors.tsv, without the kind. testdata/README.md
 // describes the columns.
-func vectors(t *testing.T, kind string) (rows [][]string) {
+func vectors(t testing.TB, kind string) (rows [][]string) {
 	t.Helper()
 	file, err := os.ReadFile(filepath.Join("..", "..", "testdata", "vectors.tsv"))
 	if err != nil {
@@ -36,7 +36,7 @@ func vectors(t *testing.T, kind string) (rows [][]string) {
 }
 
 // The bytes of a field of hexadecimal digits.
-func data(t *testing.T, field string) []byte {
+func data(t testing.TB, field string) []byte {
 	t.Helper()
 	b, err := hex.DecodeString(strings.TrimSuffix(field, "-"))
 	if err != nil {

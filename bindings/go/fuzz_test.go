@@ -1,0 +1,246 @@
+package bpfcanon_test
+
+import (
+	"encoding/binary"
+	"errors"
+	"flag"
+	"math/rand"
+	"reflect"
+	"testing"
+	"unicode/utf8"
+
+	"bpfcanon"
+)
+
+// `go test -run Changed -args -changes=1000000` tries more.
+var changes = flag.Int("changes", 20_000, "how many changed inputs a test tries")
+
+// Checks the types that any bytes are decoded to: the answer is that of BTFCheck, the values are those of the listing that BTFShow
+// writes, and everything that they refer to is there. Returns whether they are decoded.
+func checkTypes(t *testing.T, file []byte) bool {
+	t.Helper()
+	count, want := bpfcanon.BTFCheck(file)
+	b, err := bpfcanon.DecodeBTF(file)
+	if !reflect.DeepEqual(err, want) {
+		t.Errorf("%v, want %v", err, want)
+	}
+	if err != nil {
+		return false
+	}
+	if b.Len() != count {
+		t.Errorf("%d types, want %d", b.Len(), count)
+	}
+	listing, err := bpfcanon.BTFShow(file)
+	wantBytes(t, "decoded types", []byte(typeListingOf(b)), err, listing)
+	for id := bpfcanon.ID(1); int(id) <= b.Len(); id++ {
+		checkReferences(t, b, id)
+	}
+	return true
+}
+
+// Checks the name of a type, and what it is without its qualifiers.
+func checkReferences(t *testing.T, b *bpfcanon.BTF, id bpfcanon.ID) {
+	t.Helper()
+	name := b.Name(id)
+	if !utf8.ValidString(name) {
+		t.Errorf("the name of %d is %q", id, name)
+	}
+	found := name == ""
+	for _, other := range b.ByName(name) {
+		found = found || other == id
+	}
+	if !found {
+		t.Errorf("%q has the types %v, without %d", name, b.ByName(name), id)
+	}
+	target, err := b.Resolve(id)
+	if err == nil {
+		again, err := b.Resolve(target)
+		if again != target || err != nil || b.Type(target) == nil {
+			t.Errorf("%d is %d, which is %d, %v", id, target, again, err)
+		}
+	} else if err != bpfcanon.ErrCircle {
+		t.Errorf("%d: %v", id, err)
+	}
+}
+
+// Checks the instructions that any bytes are decoded to: the answer is that of InsnCanon, the values are those of the listing that
+// InsnShow writes, and encoded they are the bytes of InsnCanon. Returns whether they are decoded.
+func checkInsns(t *testing.T, order bpfcanon.Order, program []byte) bool {
+	t.Helper()
+	_, want := bpfcanon.InsnCanon(order, bpfcanon.Little, program)
+	decoded, err := bpfcanon.DecodeInsns(order, program)
+	if !reflect.DeepEqual(err, want) {
+		t.Errorf("%v, want %v", err, want)
+	}
+	if err != nil {
+		return false
+	}
+	listing, err := bpfcanon.InsnShow(order, program)
+	wantBytes(t, "decoded instructions", []byte(listingOf(decoded)), err, listing)
+	for _, to := range orders {
+		want, err := bpfcanon.InsnCanon(order, to, program)
+		if err != nil {
+			t.Error(err)
+		}
+		got, err := bpfcanon.EncodeInsns(to, decoded.Insns())
+		wantBytes(t, "encoded instructions", got, err, want)
+	}
+	return true
+}
+
+// An instruction of a form with these numbers in its fields, which may be any.
+func insnOf(form, op, bits, dst, src uint8, off int16, imm, next int32) bpfcanon.Insn {
+	width, size, to, from := bpfcanon.Width(bits), bpfcanon.Size(bits), bpfcanon.Reg(dst), bpfcanon.Reg(src)
+	arg := []bpfcanon.Operand{from, bpfcanon.Imm(imm)}[form>>7]
+	whats := []bpfcanon.WideOf{
+		bpfcanon.Number(uint64(imm)<<32 ^ uint64(next)), bpfcanon.MapFD{FD: imm}, bpfcanon.MapValueFD{FD: imm, Offset: next},
+		bpfcanon.VarAddr{ID: imm, Next: next}, bpfcanon.CodeAddr{Offset: imm}, bpfcanon.MapIdx{Index: imm},
+		bpfcanon.MapValueIdx{Index: imm, Offset: next},
+	}
+	all := []bpfcanon.Insn{
+		bpfcanon.Alu{Width: width, Op: bpfcanon.AluOp(op), Dst: to, Arg: arg}, bpfcanon.Movsx{Form: bpfcanon.MovsxForm(op), Dst: to, Src: from},
+		bpfcanon.Neg{Width: width, Dst: to}, bpfcanon.Swap{Kind: bpfcanon.SwapKind(op), Bits: bpfcanon.SwapBits(bits), Dst: to},
+		bpfcanon.Jump{Off: off}, bpfcanon.JumpLong{Imm: imm},
+		bpfcanon.Branch{Width: width, Op: bpfcanon.BranchOp(op), Dst: to, Arg: arg, Off: off},
+		bpfcanon.CallHelper{ID: imm}, bpfcanon.CallLocal{Imm: imm}, bpfcanon.CallBTF{ID: imm, Off: off}, bpfcanon.Exit{},
+		bpfcanon.Load{Size: size, Dst: to, Src: from, Off: off}, bpfcanon.LoadSigned{Size: size, Dst: to, Src: from, Off: off},
+		bpfcanon.StoreImm{Size: size, Dst: to, Off: off, Imm: imm}, bpfcanon.StoreReg{Size: size, Dst: to, Src: from, Off: off},
+		bpfcanon.Atomic{Width: width, Op: bpfcanon.AtomicOp(op), Dst: to, Src: from, Off: off},
+		bpfcanon.Wide{Dst: to, What: whats[int(op)%len(whats)]}, bpfcanon.PacketAbs{Size: size, Imm: imm},
+		bpfcanon.PacketInd{Size: size, Src: from, Imm: imm},
+	}
+	return all[int(form&0x7f)%len(all)]
+}
+
+// Checks that an instruction is decoded from its encoding in each byte order, or has none. Returns whether it has one.
+func checkEncoding(t *testing.T, insn bpfcanon.Insn) bool {
+	t.Helper()
+	encodings := 0
+	for _, to := range orders {
+		program, err := bpfcanon.EncodeInsns(to, []bpfcanon.Insn{insn})
+		var refused *bpfcanon.EncodeError
+		if errors.As(err, &refused) {
+			continue
+		}
+		encodings++
+		decoded, other := bpfcanon.DecodeInsns(to, program)
+		if err != nil || other != nil || decoded.Len() != 1 || decoded.At(0) != insn {
+			t.Errorf("%#v is encoded as %x, %v, and decoded as %v, %v", insn, program, err, decoded, other)
+		}
+	}
+	if encodings == 1 {
+		t.Errorf("%#v has an encoding in one byte order", insn)
+	}
+	return encodings > 0
+}
+
+func FuzzDecodeBTF(f *testing.F) {
+	for _, seed := range typeSeeds(f) {
+		f.Add(seed)
+	}
+	f.Fuzz(func(t *testing.T, file []byte) { checkTypes(t, file) })
+}
+
+func FuzzDecodeInsns(f *testing.F) {
+	for order, seed := range insnSeeds(f) {
+		f.Add(order == int(bpfcanon.Big), seed)
+	}
+	f.Fuzz(func(t *testing.T, isBig bool, program []byte) {
+		order := bpfcanon.Little
+		if isBig {
+			order = bpfcanon.Big
+		}
+		checkInsns(t, order, program)
+	})
+}
+
+func FuzzEncodeInsns(f *testing.F) {
+	f.Add(uint8(0), uint8(0), uint8(64), uint8(1), uint8(2), int16(0), int32(0), int32(0))
+	f.Fuzz(func(t *testing.T, form, op, bits, dst, src uint8, off int16, imm, next int32) {
+		checkEncoding(t, insnOf(form, op, bits, dst, src, off, imm, next))
+	})
+}
+
+// Files with each kind of type.
+func typeSeeds(t testing.TB) (seeds [][]byte) {
+	seeds = [][]byte{load(t, "flow_table.little.btf"), load(t, "flow_table.big.btf")}
+	for _, row := range vectors(t, "btf") {
+		seeds = append(seeds, data(t, row[1]))
+	}
+	return seeds
+}
+
+// A program with each instruction, in each byte order.
+func insnSeeds(t testing.TB) (seeds [2][]byte) {
+	for _, row := range vectors(t, "insn") {
+		for order := range seeds {
+			seeds[order] = append(seeds[order], data(t, row[1+order])...)
+		}
+	}
+	return seeds
+}
+
+// A copy of a file in which a few bytes or words have other values.
+func changed(random *rand.Rand, file []byte) []byte {
+	bounds := []uint32{0, 1, 2, 3, 7, 8, 16, 24, 64, 0xff, 0xffff, 0x7fffffff, 0x80000000, 0xffffffff}
+	file = append([]byte{}, file...)
+	for left := 1 + random.Intn(3); left > 0; left-- {
+		place := random.Intn(len(file))
+		if word := place &^ 3; random.Intn(2) == 0 && word+4 <= len(file) {
+			binary.LittleEndian.PutUint32(file[word:], bounds[random.Intn(len(bounds))])
+		} else {
+			file[place] ^= byte(1 << random.Intn(8))
+		}
+	}
+	return file
+}
+
+// Checks that enough of the changed inputs were accepted.
+func wantSome(t *testing.T, count int) {
+	t.Helper()
+	t.Logf("%d of %d are accepted", count, *changes)
+	if count < *changes/20 {
+		t.Error("they are too few")
+	}
+}
+
+func TestChangedTypes(t *testing.T) {
+	random, seeds, decoded := rand.New(rand.NewSource(1)), typeSeeds(t), 0
+	for i := 0; i < *changes; i++ {
+		if checkTypes(t, changed(random, seeds[i%len(seeds)])) {
+			decoded++
+		}
+	}
+	wantSome(t, decoded)
+}
+
+func TestChangedInstructions(t *testing.T) {
+	random, seeds, decoded := rand.New(rand.NewSource(1)), insnSeeds(t), 0
+	for i := 0; i < *changes; i++ {
+		seed := seeds[i%2]
+		start := 8 * random.Intn(len(seed)/8-4)
+		if checkInsns(t, bpfcanon.Order(i%2), changed(random, seed[start:start+32])) {
+			decoded++
+		}
+	}
+	wantSome(t, decoded)
+}
+
+// Instructions with any numbers in their fields, most of them near those that are allowed.
+func TestRandomInstructions(t *testing.T) {
+	random, encoded := rand.New(rand.NewSource(1)), 0
+	for i := 0; i < *changes; i++ {
+		op, bits := uint8(random.Intn(256)), uint8(8<<random.Intn(4))
+		if random.Intn(2) == 0 {
+			op = uint8(random.Intn(26))
+		}
+		if random.Intn(8) == 0 {
+			bits = uint8(random.Intn(256))
+		}
+		form, dst, src := uint8(random.Intn(256)), uint8(random.Intn(12)), uint8(random.Intn(12))
+		if checkEncoding(t, insnOf(form, op, bits, dst, src, int16(random.Uint32()), int32(random.Uint32()), int32(random.Uint32()))) {
+			encoded++
+		}
+	}
+	wantSome(t, encoded)
+}
