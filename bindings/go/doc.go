@@ -7,10 +7,15 @@
 // if and only if their canonical bytes are equal. Every other input is refused with a *FaultError,
 // which holds the offset and the cause of its first fault.
 //
+// DecodeInsns and DecodeBTF return the instructions and types themselves, as values of Go, and
+// EncodeInsns writes instructions. They refuse the same inputs. A type is made when it is asked for,
+// and its names are substrings of one copy of the input. Types can form a circle: a program that
+// follows the targets of types by itself, and not by Resolve, needs a limit.
+//
 // The work is done by the C library libbpfcanon, whose core is proved to meet its contracts. The few
 // lines of C around that core and this package are tested. cgo finds the library with pkg-config.
-// Inputs are not copied, and no call keeps a reference to its input. Calls may run at the same time,
-// but no goroutine may write to an input during a call.
+// Inputs are not copied, except by DecodeBTF, and no call keeps a reference to its input. Calls may
+// run at the same time, but no goroutine may write to an input during a call.
 package bpfcanon
 
 import (

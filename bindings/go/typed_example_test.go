@@ -1,0 +1,127 @@
+package bpfcanon_test
+
+import (
+	"errors"
+	"fmt"
+	"log"
+	"os"
+
+	"bpfcanon"
+)
+
+// The members of all structs, with the kinds of their types.
+func ExampleDecodeBTF() {
+	file, err := os.ReadFile("../../testdata/flow_table.little.btf")
+	if err != nil {
+		log.Fatal(err)
+	}
+	types, err := bpfcanon.DecodeBTF(file)
+	if err != nil {
+		log.Fatal(err)
+	}
+	for id := bpfcanon.ID(1); int(id) <= types.Len(); id++ {
+		it, ok := types.Type(id).(bpfcanon.Struct)
+		if !ok {
+			continue
+		}
+		for i := 0; i < it.Members.Len(); i++ {
+			member := it.Members.At(i)
+			fmt.Printf("%s.%s: %v, %d bytes from the start\n", it.Name, member.Name, types.Kind(member.Target), member.BitOffset/8)
+		}
+	}
+	// Output:
+	// flow.source: union, 0 bytes from the start
+	// flow.direction: enum, 16 bytes from the start
+	// flow.closed: int, 20 bytes from the start
+	// flow.retries: int, 20 bytes from the start
+	// flow.load: float, 24 bytes from the start
+	// flow.host: ptr, 32 bytes from the start
+	// flow.name: ptr, 40 bytes from the start
+}
+
+// The values of an enum that has a name.
+func ExampleBTF_ByName() {
+	file, err := os.ReadFile("../../testdata/flow_table.little.btf")
+	if err != nil {
+		log.Fatal(err)
+	}
+	types, err := bpfcanon.DecodeBTF(file)
+	if err != nil {
+		log.Fatal(err)
+	}
+	for _, id := range types.ByName("direction") {
+		if it, ok := types.Type(id).(bpfcanon.Enum); ok {
+			for i := 0; i < it.Values.Len(); i++ {
+				fmt.Println(it.Values.At(i).Name, it.Values.At(i).Value)
+			}
+		}
+	}
+	// Output:
+	// OUTBOUND 4294967295
+	// INBOUND 1
+}
+
+// The type of a variable without its qualifiers.
+func ExampleBTF_Resolve() {
+	file, err := os.ReadFile("../../testdata/flow_table.little.btf")
+	if err != nil {
+		log.Fatal(err)
+	}
+	types, err := bpfcanon.DecodeBTF(file)
+	if err != nil {
+		log.Fatal(err)
+	}
+	misses := types.Type(types.ByName("misses")[0]).(bpfcanon.Var)
+	id, err := types.Resolve(misses.Target)
+	if err != nil {
+		log.Fatal(err)
+	}
+	fmt.Println(types.Kind(misses.Target), types.Name(id))
+	// Output: volatile int
+}
+
+// The helper functions that a program calls, and where.
+func ExampleDecodeInsns() {
+	bytes, err := bpfcanon.InsnRead(bpfcanon.Little, []byte("lddw r1, 5000000000\ncall 6\ncall 14\nexit\n"))
+	if err != nil {
+		log.Fatal(err)
+	}
+	program, err := bpfcanon.DecodeInsns(bpfcanon.Little, bytes)
+	if err != nil {
+		log.Fatal(err)
+	}
+	for i := 0; i < program.Len(); i++ {
+		if call, ok := program.At(i).(bpfcanon.CallHelper); ok {
+			fmt.Printf("helper %d at byte %d\n", call.ID, program.Pos(i))
+		}
+	}
+	// Output:
+	// helper 6 at byte 16
+	// helper 14 at byte 24
+}
+
+// A program that returns 2, for a big-endian target.
+func ExampleEncodeInsns() {
+	program, err := bpfcanon.EncodeInsns(bpfcanon.Big, []bpfcanon.Insn{
+		bpfcanon.Alu{Width: bpfcanon.W64, Op: bpfcanon.AluMov, Dst: 0, Arg: bpfcanon.Imm(2)},
+		bpfcanon.Exit{},
+	})
+	if err != nil {
+		log.Fatal(err)
+	}
+	fmt.Printf("% x\n", program)
+	// Output: b7 00 00 00 00 00 00 02 95 00 00 00 00 00 00 00
+}
+
+// There is no register 11.
+func ExampleEncodeError() {
+	_, err := bpfcanon.EncodeInsns(bpfcanon.Little, []bpfcanon.Insn{
+		bpfcanon.Exit{},
+		bpfcanon.Load{Size: bpfcanon.SizeW, Dst: 11, Src: 1},
+	})
+	var refused *bpfcanon.EncodeError
+	if errors.As(err, &refused) {
+		fmt.Println(refused.Index, refused.Insn.(bpfcanon.Load).Dst)
+	}
+	// Output: 1 r11
+}
