@@ -34,8 +34,8 @@ TESTS = {
     ("docs/OBJECTS.md", "text"): ("bindings/python/tests/test_objects_page.py", None),
     ("docs/RECIPES.md", "sh"): ("tests/recipes", None),
     ("docs/RECIPES.md", "text"): ("tests/recipes", None),
-    ("bindings/go/README.md", "go"): ("tests/bindings", 2),
-    ("bindings/go/README.md", "console"): ("tests/bindings", 2),
+    ("bindings/go/README.md", "go"): ("tests/bindings", 3),
+    ("bindings/go/README.md", "console"): ("tests/bindings", 3),
     ("bindings/python/README.md", "python"): ("bindings/python/tests/test_package.py", None),
     ("bindings/rust/README.md", "rust"): ("bindings/rust/src/lib.rs", None),
 }
