@@ -15,42 +15,64 @@ interpreter lock, so several threads can run them at the same time. No thread ma
 during a call.
 """
 
+import importlib
+from typing import TYPE_CHECKING, Any
+
 from . import _library
 from ._library import Buffer
 from .btf import btf_canon, btf_check, btf_same, btf_show
 from .causes import BtfCause, Cause, Group, InsnCause, LineCause, Order
-from .errors import BpfcanonError, Fault, OrderError, OutOfMemory, UnknownCause
+from .errors import BpfcanonError, EncodeError, Fault, NoSuchType, OrderError, OutOfMemory, UnknownCause
 from .insn import Front, insn_canon, insn_front, insn_groups, insn_read, insn_same, insn_show, insn_stream
+
+if TYPE_CHECKING:
+    from .program import Program, insn_encode, insns
+    from .type_table import Btf
 
 __version__ = "0.1.0"
 
 __all__ = [
     "BpfcanonError",
+    "Btf",
     "BtfCause",
     "Buffer",
     "Cause",
+    "EncodeError",
     "Fault",
     "Front",
     "Group",
     "InsnCause",
     "LineCause",
+    "NoSuchType",
     "Order",
     "OrderError",
     "OutOfMemory",
+    "Program",
     "UnknownCause",
     "btf_canon",
     "btf_check",
     "btf_same",
     "btf_show",
     "insn_canon",
+    "insn_encode",
     "insn_front",
     "insn_groups",
     "insn_read",
     "insn_same",
     "insn_show",
     "insn_stream",
+    "insns",
     "library_version",
 ]
+
+# Typed values are loaded when they are first used: their classes take longer to make than the rest of the package.
+_TYPED = {"Btf": "type_table", "Program": "program", "insn_encode": "program", "insns": "program"}
+
+
+def __getattr__(name: str) -> Any:
+    if name not in _TYPED:
+        raise AttributeError(f"module {__name__!r} has no attribute {name!r}")
+    return getattr(importlib.import_module(f"{__name__}.{_TYPED[name]}"), name)
 
 
 def library_version() -> str:

@@ -16,7 +16,7 @@ NAME = "libbpfcanon.so.0"
 OLDEST = (0, 1)
 
 # How a call ended (enum bpfcanon_status).
-DONE, DIFFERENT, FAULT, FAULT_SECOND, MEMORY, ROOM, ORDER = range(7)
+DONE, DIFFERENT, FAULT, FAULT_SECOND, MEMORY, ROOM, ORDER, ALIGNMENT = range(8)
 
 
 class Answer(ctypes.Structure):
@@ -46,12 +46,16 @@ class Answer(ctypes.Structure):
 
 _ORDER = [ctypes.c_uint32]
 _BYTES = [ctypes.c_void_p, ctypes.c_size_t]
-_CALLS = {
+_BLOCK: list[Any] = [ctypes.POINTER(ctypes.c_void_p)]
+_CALLS: dict[str, list[Any]] = {
     "btf_canon": [*_ORDER, *_BYTES, *_BYTES],
     "btf_check": _BYTES,
+    "btf_decode_new": [*_BYTES, *_BLOCK, *_BLOCK],
     "btf_same": [*_BYTES, *_BYTES],
     "btf_show": [*_BYTES, *_BYTES],
     "insn_canon": [*_ORDER, *_ORDER, *_BYTES, *_BYTES],
+    "insn_decode_new": [*_ORDER, *_BYTES, *_BLOCK],
+    "insn_encode": [*_ORDER, *_BYTES, *_BYTES],
     "insn_front": [*_ORDER, *_ORDER, *_BYTES, *_BYTES],
     "insn_groups": [*_ORDER, *_BYTES],
     "insn_read": [*_ORDER, *_BYTES, *_BYTES],
@@ -82,6 +86,7 @@ def library() -> ctypes.CDLL:
         _declare(loaded, name, arguments, Answer)
     for name in _NAMES:
         _declare(loaded, name, _ORDER, ctypes.c_char_p)
+    _declare(loaded, "free", [ctypes.c_void_p], None)
     return loaded
 
 
@@ -128,15 +133,15 @@ def size_of(data: Buffer) -> int:
     return len(data) if isinstance(data, bytes) else memoryview(data).nbytes
 
 
-def ask(name: str, *arguments: Union[int, Buffer]) -> Any:
-    """Make a call, passing each buffer as a pointer and a length.
+def ask(name: str, *arguments: Union[int, ctypes.c_void_p, Buffer]) -> Any:
+    """Make a call, passing each buffer as a pointer and a length, and a c_void_p as the place of a pointer that the call sets.
 
     The pointers live only in this frame. One that an exception kept alive would lock its bytearray
     or mapping.
     """
     passed: list[Any] = []
     for argument in arguments:
-        if isinstance(argument, int):
+        if isinstance(argument, (int, ctypes.c_void_p)):
             passed.append(argument)
         else:
             passed += [pointer_to(argument), size_of(argument)]

@@ -59,6 +59,38 @@ class OrderError(BpfcanonError, ValueError):
     """An argument is not a valid byte order."""
 
 
+class NoSuchType(BpfcanonError, KeyError):
+    """A type ID that a BTF file doesn't have.
+
+    id     the ID
+    count  the number of types of the file, whose IDs are 1 to this number; 0 is void
+    """
+
+    def __init__(self, id: object, count: int) -> None:
+        super().__init__(id, count)
+        self.id = id
+        self.count = count
+
+    def __str__(self) -> str:
+        return f"there is no type {self.id!r}: the file has {self.count} types"
+
+
+class EncodeError(BpfcanonError, ValueError):
+    """A value that is no instruction: a register over 10, an operation of another form, a number that its field can't hold.
+
+    index  the index of the value among those that were to be encoded, from 0
+    insn   the value
+    """
+
+    def __init__(self, index: int, insn: object) -> None:
+        super().__init__(index, insn)
+        self.index = index
+        self.insn = insn
+
+    def __str__(self) -> str:
+        return f"instruction {self.index} can't be encoded: {self.insn!r}"
+
+
 def position_of(error: Union[Fault, UnknownCause]) -> str:
     """Return where a fault is, as the texts of errors begin."""
     position = f"line {error.line}" if error.line else f"byte {error.pos}"
