@@ -4,6 +4,7 @@ from __future__ import annotations
 
 import operator
 import struct
+from itertools import takewhile
 from typing import Iterable, Iterator, Sequence, Union, overload
 
 from . import _library
@@ -81,16 +82,21 @@ def insn_encode(values: Iterable[Insn], *, to: Order = Order.LITTLE) -> bytes:
     Raises EncodeError for the first value that is no instruction, OrderError.
     """
     given = list(values)
-    answer, out = encode_insns(b"".join(map(packed, range(len(given)), given)), to)
-    if answer.status == _library.FAULT:
-        raise EncodeError(answer.pos, given[answer.pos])
-    check(answer, InsnCause)
+    # The records before the first value that has none: the library may refuse one of them.
+    records = list(takewhile(bool, map(packed, given)))
+    answer, out = encode_insns(b"".join(records), to)
+    is_fault = answer.status == _library.FAULT
+    if not is_fault:
+        check(answer, InsnCause)
+    index = answer.pos if is_fault else len(records)
+    if index < len(given):
+        raise EncodeError(index, given[index])
     return bytes(out)
 
 
-def packed(index: int, value: Insn) -> bytes:
-    """Return the record of an instruction. Raises EncodeError with this index."""
+def packed(value: Insn) -> bytes:
+    """Return the record of an instruction, or b"" for a value that has none."""
     try:
         return record_of(value)
     except (KeyError, TypeError, struct.error):
-        raise EncodeError(index, value) from None
+        return b""

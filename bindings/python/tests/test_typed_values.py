@@ -1,0 +1,214 @@
+"""Programs and type tables: lookup, resolution, equality, and values that are refused."""
+
+from __future__ import annotations
+
+import copy
+import pickle
+import subprocess
+import sys
+import unittest
+from typing import Any, Callable
+
+import bpfcanon
+from bpfcanon import Btf, EncodeError, NoSuchType, Order, OrderError, Program, insn_encode, insns
+from bpfcanon.insn_types import Alu, AluOp, AtomicOp, Atomic, Branch, BranchOp, CallBtf, CallHelper, Exit, Imm, Insn, Jump, Load, LoadSigned
+from bpfcanon.insn_types import MapFd, MapValueFd, Number, Reg, Size, SmallSize, StoreImm, Wide, Width
+from bpfcanon.types import Const, Enum, EnumValue, Int, Member, Struct, Typedef, Void
+
+from .samples import INSNS, btf, load, unhex
+
+# The instructions of INSNS, by hand.
+VALUES: list[Insn] = [
+    Alu(Width.W64, AluOp.MOV, Reg.R1, Reg.R2),
+    Wide(Reg.R1, Number(0x1122334455667788)),
+    Branch(Width.W32, BranchOp.EQ, Reg.R3, Imm(-2), 5),
+    bpfcanon.insn_types.StoreReg(Size.D, Reg.R10, Reg.R1, -8),
+    Atomic(Width.W64, AtomicOp.CMPXCHG, Reg.R1, Reg.R2, -8),
+    Exit(),
+]
+# Values with a field that no instruction has, in a good field of its type or not.
+WRONG: list[Any] = [
+    Alu(Width.W64, AluOp.MOV, 11, Imm(0)),  # type: ignore[arg-type]
+    Alu(Width.W64, AluOp.MOV, Reg.R1, 5),  # type: ignore[arg-type]
+    Alu(Width.W64, BranchOp.EQ, Reg.R1, Imm(0)),  # type: ignore[arg-type]
+    Alu(Width.W64, AluOp.MOV, Reg.R1, Imm(1 << 31)),
+    Alu(None, AluOp.MOV, Reg.R1, Imm(0)),  # type: ignore[arg-type]
+    Load(Size.B, Reg.R1, -1, 0),  # type: ignore[arg-type]
+    Load(Size.B, Reg.R1, 256, 0),  # type: ignore[arg-type]
+    LoadSigned(Size.D, Reg.R1, Reg.R2, 0),  # type: ignore[arg-type]
+    StoreImm(Size.B, Reg.R1, 0, "1"),  # type: ignore[arg-type]
+    Jump(1 << 15),
+    Jump(-(1 << 15) - 1),
+    CallBtf(1, 1 << 15),
+    Wide(Reg.R1, Number(-1)),
+    Wide(Reg.R1, Number(1 << 64)),
+    Wide(Reg.R1, MapValueFd(1, 1 << 31)),
+    Wide(Reg.R1, 7),  # type: ignore[arg-type]
+    "exit",
+    None,
+    Imm(1),
+    Exit,
+]
+
+
+def table(*records: list[int]) -> Btf:
+    """Types without names but "a" at offset 1 and "b" at offset 3."""
+    return Btf(btf("<", ([word for record in records for word in record], b"\0a\0b\0")))
+
+
+def info(kind: int, vlen: int = 0, flag: int = 0) -> int:
+    return flag << 31 | kind << 24 | vlen
+
+
+class Programs(unittest.TestCase):
+    def test_worked_instructions(self) -> None:
+        for order, column in (Order.LITTLE, 1), (Order.BIG, 2):
+            code = b"".join(unhex(it[column]) for it in INSNS)
+            program = Program(code, order=order)
+            self.assertEqual(list(program), VALUES)
+            self.assertEqual(list(insns(code, order=order)), list(zip([0, 8, 24, 32, 40, 48], VALUES)))
+            self.assertEqual(insn_encode(VALUES, to=order), code)
+
+    def test_a_program_is_a_sequence(self) -> None:
+        program = Program(b"".join(unhex(it[1]) for it in INSNS))
+        self.assertEqual((program[0], program[-1], program[1:3]), (VALUES[0], VALUES[5], tuple(VALUES[1:3])))
+        self.assertEqual((len(program), program.index(Exit()), VALUES[2] in program), (6, 5, True))
+        self.assertEqual([program.offset(it) for it in (1, 2, -1)], [8, 24, 48])
+        self.assertEqual(program.group(4), bpfcanon.Group.ATOMIC64)
+        calls: list[Callable[[int], object]] = [program.__getitem__, program.offset, program.group]
+        for index in 6, -7:
+            for call in calls:
+                with self.assertRaises(IndexError):
+                    call(index)
+
+    def test_a_value_that_is_no_instruction_is_named(self) -> None:
+        for count, wrong in enumerate(WRONG):
+            with self.assertRaises(EncodeError) as raised:
+                insn_encode([*VALUES[: count % 4], wrong, Exit()])
+            self.assertEqual(raised.exception.args, (count % 4, wrong))
+        self.assertIn("instruction 0 can't be encoded: Jump(off=32768)", str(EncodeError(0, Jump(1 << 15))))
+
+    def test_the_first_of_two_is_named(self) -> None:
+        late, early = Jump(1 << 15), Load(Size.B, 11, Reg.R1, 0)  # type: ignore[arg-type]
+        orders: list[list[Insn]] = [[Exit(), early, late], [Exit(), late, early]]
+        for values in orders:
+            with self.assertRaises(EncodeError) as raised:
+                insn_encode(values)
+            self.assertEqual(raised.exception.index, 1)
+
+    def test_a_number_that_is_no_order_is_refused(self) -> None:
+        number: Any = 2
+        calls: list[Callable[[], object]] = [lambda: Program(b"", order=number), lambda: insn_encode([], to=number)]
+        calls.append(lambda: insns(b"", order=number))
+        for call in calls:
+            with self.assertRaises(OrderError):
+                call()
+
+    def test_nothing_is_encoded_as_nothing(self) -> None:
+        self.assertEqual(insn_encode([]), b"")
+        self.assertEqual(insn_encode(iter(VALUES)), insn_encode(tuple(VALUES)))
+
+    def test_what_is_no_buffer_is_refused(self) -> None:
+        for value in "exit", None, 8, [1, 2]:
+            for call in Program, Btf, insns:
+                with self.assertRaises(TypeError):
+                    call(value)  # type: ignore[operator]
+
+
+class Types(unittest.TestCase):
+    def test_types_are_found_by_id_and_by_name(self) -> None:
+        found = Btf(load("flow_table.little.btf"))
+        (id,) = found.by_name("flow")
+        self.assertEqual((id, found.name(id)), (3, "flow"))
+        self.assertEqual(found.types[5], Int("unsigned int", 4, bpfcanon.types.Encoding.PLAIN, 0, 32))
+        self.assertEqual((found.type(0), found.name(0), found.name(2)), (Void(), "", ""))
+        self.assertEqual([found.by_name(it) for it in ("", "none")], [(), ()])
+        two = table([1, info(8), 0], [1, info(8), 1], [3, info(8), 0])
+        self.assertEqual([two.by_name("a"), two.by_name("b")], [(1, 2), (3,)])
+
+    def test_an_id_that_isnt_there_is_named(self) -> None:
+        found = table([1, info(8), 0])
+        wrong: list[Any] = [2, -1, 1 << 40, "a", 0.5]
+        for id in wrong:
+            for call in found.type, found.name, found.resolve, found.types.__getitem__:
+                with self.assertRaises(NoSuchType) as raised:
+                    call(id)
+                self.assertEqual(raised.exception.args, (id, 1))
+            self.assertNotIn(id, found.types)
+            self.assertIsNone(found.types.get(id))
+        self.assertIsInstance(raised.exception, KeyError)
+        self.assertEqual(str(raised.exception), "there is no type 0.5: the file has 1 types")
+        self.assertNotIn(0, found.types)
+
+    def test_modifiers_and_typedefs_are_followed(self) -> None:
+        tag, pointer = [1, info(18), 6], [0, info(2), 5]
+        found = table([1, info(8), 2], [0, info(10), 3], [0, info(9), 4], [0, info(11), 5], tag, pointer, [0, info(10), 0])
+        self.assertEqual([found.resolve(id) for id in range(8)], [0, 6, 6, 6, 6, 6, 6, 0])
+
+    def test_a_circle_has_no_end(self) -> None:
+        found = table([0, info(10), 1], [0, info(10), 3], [1, info(8), 2], [0, info(9), 2], [0, info(2), 5])
+        self.assertEqual([found.resolve(id) for id in range(1, 6)], [None, None, None, None, 5])
+        self.assertEqual(found.types[1], Const(1))
+
+    def test_signed_values_have_a_sign(self) -> None:
+        values = [1, 0xFFFFFFFE, 3, 5]
+        for flag, first in (0, 0xFFFFFFFE), (1, -2):
+            found = table([0, info(6, 2, flag), 4, *values])
+            self.assertEqual(found.types[1], Enum("", bool(flag), 4, (EnumValue("a", first), EnumValue("b", 5))))
+
+    def test_equal_types_have_equal_hashes(self) -> None:
+        record = [1, info(4, 1), 4, 3, 0, 0]
+        first, second = table(record).types[1], table([1, info(8), 0], record).types[2]
+        value = Struct("a", 4, (Member("b", 0, 0, 0),))
+        self.assertEqual({first, second, value}, {value})
+        self.assertNotEqual(first, table([1, info(4, 1), 4, 3, 0, 1]).types[1])
+        self.assertEqual(repr(first), repr(value))
+
+    def test_values_can_be_pickled(self) -> None:
+        for value in *VALUES, *Btf(load("flow_table.little.btf")).types.values():
+            self.assertEqual(pickle.loads(pickle.dumps(value)), value)
+            self.assertEqual(copy.deepcopy(value), value)
+
+    def test_items_are_a_sequence(self) -> None:
+        flow = Btf(load("flow_table.little.btf")).types[3]
+        assert isinstance(flow, Struct)
+        self.assertEqual([it.name for it in flow.members[-2:]], ["host", "name"])
+        self.assertEqual((len(flow.members), flow.members[0].name, flow.members[-1].name), (7, "source", "name"))
+        for index in 7, -8:
+            with self.assertRaises(IndexError):
+                flow.members[index]
+
+    def test_values_are_frozen(self) -> None:
+        value: Any = Typedef("t", 1)
+        for name in "target", "other":
+            with self.assertRaises(AttributeError):
+                setattr(value, name, 2)
+
+
+class Statements(unittest.TestCase):
+    @unittest.skipIf(sys.version_info < (3, 10), "there is no match statement")
+    def test_values_are_matched_by_position(self) -> None:
+        from .match_statement import described
+
+        right = [(Exit(), "exit"), (CallHelper(5), "helper 5"), (Alu(Width.W32, AluOp.ADD, Reg.R1, Imm(2)), "r1 += 2"), (Jump(1), "")]
+        right += [(Wide(Reg.R2, MapFd(3)), "map 3")]
+        for value, text in right:
+            self.assertEqual(described(value), text)
+        self.assertEqual(described(Struct("s", 4, (Member("m", 1, 0, 0),))), "s.m")
+        self.assertEqual(described(LoadSigned(SmallSize.B, Reg.R0, Reg.R1, 4)), "b at 4")
+
+
+class Package(unittest.TestCase):
+    def test_typed_values_are_loaded_when_they_are_used(self) -> None:
+        script = "import sys, bpfcanon; loaded = [it for it in sys.modules if it.startswith('bpfcanon.')]; "
+        script += "print('dataclasses' in sys.modules, *sorted(it[9:] for it in loaded)); bpfcanon.Btf; bpfcanon.insns"
+        done = subprocess.run([sys.executable, "-c", script], capture_output=True, text=True, check=True)
+        self.assertEqual(done.stdout.split(), ["False", "_library", "btf", "causes", "errors", "insn"])
+
+    def test_no_other_name_is_found(self) -> None:
+        with self.assertRaisesRegex(AttributeError, "module 'bpfcanon' has no attribute 'Insns'"):
+            getattr(bpfcanon, "Insns")
+
+
+if __name__ == "__main__":
+    unittest.main()
