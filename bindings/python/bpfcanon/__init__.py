@@ -5,6 +5,9 @@ way. Two inputs that are accepted hold the same instructions, or the same types 
 if and only if their canonical bytes are equal. Every other input raises a Fault with the offset and
 the cause of its first fault.
 
+Instructions and types can also be looked at as values: Program and Btf decode them into the frozen
+dataclasses of bpfcanon.insn_types and bpfcanon.types.
+
 The work is done by the C library libbpfcanon, whose core is proved to meet its contracts. The few
 lines of C around that core and this package are tested. The library is loaded at the first call:
 libbpfcanon.so.0, or the file that BPFCANON_LIBRARY names.
@@ -16,18 +19,14 @@ during a call.
 """
 
 import importlib
-from typing import TYPE_CHECKING, Any
+from typing import TYPE_CHECKING
 
 from . import _library
 from ._library import Buffer
 from .btf import btf_canon, btf_check, btf_same, btf_show
 from .causes import BtfCause, Cause, Group, InsnCause, LineCause, Order
-from .errors import BpfcanonError, EncodeError, Fault, NoSuchType, OrderError, OutOfMemory, UnknownCause
+from .errors import BpfcanonError, EncodeError, Fault, NoSuchType, OrderError, OutOfMemory, UnknownCause, UnknownRecord
 from .insn import Front, insn_canon, insn_front, insn_groups, insn_read, insn_same, insn_show, insn_stream
-
-if TYPE_CHECKING:
-    from .program import Program, insn_encode, insns
-    from .type_table import Btf
 
 __version__ = "0.1.0"
 
@@ -49,6 +48,7 @@ __all__ = [
     "OutOfMemory",
     "Program",
     "UnknownCause",
+    "UnknownRecord",
     "btf_canon",
     "btf_check",
     "btf_same",
@@ -66,13 +66,20 @@ __all__ = [
 ]
 
 # Typed values are loaded when they are first used: their classes take longer to make than the rest of the package.
-_TYPED = {"Btf": "type_table", "Program": "program", "insn_encode": "program", "insns": "program"}
+if TYPE_CHECKING:
+    from .program import Program, insn_encode, insns
+    from .type_table import Btf
+else:
+    _TYPED = {"Btf": "type_table", "Program": "program", "insn_encode": "program", "insns": "program"}
 
+    def __getattr__(name):
+        if name not in _TYPED:
+            raise AttributeError(f"module {__name__!r} has no attribute {name!r}")
+        return getattr(importlib.import_module(f"{__name__}.{_TYPED[name]}"), name)
 
-def __getattr__(name: str) -> Any:
-    if name not in _TYPED:
-        raise AttributeError(f"module {__name__!r} has no attribute {name!r}")
-    return getattr(importlib.import_module(f"{__name__}.{_TYPED[name]}"), name)
+    def __dir__():
+        return sorted({*globals(), *_TYPED})
+
 
 
 def library_version() -> str:

@@ -51,6 +51,20 @@ class UnknownCause(BpfcanonError):
         return f"{position_of(self)}: cause {self.number}, which this version of the package doesn't know"
 
 
+class UnknownRecord(BpfcanonError):
+    """A record with a form, a kind or an operation that only a newer library has.
+
+    record  the record, as in bpfcanon.records
+    """
+
+    def __init__(self, record: tuple[int, ...]) -> None:
+        super().__init__(record)
+        self.record = record
+
+    def __str__(self) -> str:
+        return f"this version of the package doesn't know {self.record}"
+
+
 class OutOfMemory(BpfcanonError, MemoryError):
     """The library ran out of memory."""
 

@@ -6,6 +6,7 @@ import struct
 from typing import Callable
 
 from . import insn_types as insn
+from .errors import UnknownRecord
 from .insn_types import Imm, Insn, MovsxForm, Operand, Reg, Size, SmallSize, SwapBits, WideOf, Width
 from .records import InsnRecord
 
@@ -58,5 +59,8 @@ BY_FORM: dict[int, Callable[[InsnRecord], Insn]] = {
 
 
 def insn_of(record: InsnRecord) -> Insn:
-    """Return the instruction that a record of the library says."""
-    return BY_FORM[record.form](record)
+    """Return the instruction that a record of the library says. Raises UnknownRecord."""
+    try:
+        return BY_FORM[record.form](record)
+    except (LookupError, ValueError):
+        raise UnknownRecord(record) from None

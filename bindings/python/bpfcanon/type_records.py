@@ -6,6 +6,7 @@ import operator
 from typing import Callable, Iterator, Sequence, TypeVar, Union, overload
 
 from . import types as btf
+from .errors import UnknownRecord
 from .records import ITEM, ItemRecord, TypeRecord
 from .types import Encoding, Entry, EnumValue, Item, Linkage, Member, Param, Type, Value64
 
@@ -139,5 +140,8 @@ FOLLOWED = frozenset({8, 9, 10, 11, 18})
 
 
 def type_of(file: File, record: TypeRecord) -> Type:
-    """Return the type that a record of the library says."""
-    return BY_KIND[record.kind](file, record)
+    """Return the type that a record of the library says. Raises UnknownRecord."""
+    try:
+        return BY_KIND[record.kind](file, record)
+    except (LookupError, ValueError):
+        raise UnknownRecord(record) from None

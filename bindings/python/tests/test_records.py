@@ -10,7 +10,7 @@ import unittest
 from typing import Any, Callable
 from unittest import mock
 
-from bpfcanon import Btf, Fault, Program, insn_encode, records
+from bpfcanon import Btf, Fault, Program, UnknownRecord, insn_encode, records
 from bpfcanon import insn_encoding, insn_records, insn_types, type_records, types
 from bpfcanon.types import Member, Struct
 
@@ -75,6 +75,19 @@ class Layout(unittest.TestCase):
             self.assertEqual(type(made).__name__, names[name])
         followed = ["VOLATILE", "CONST", "RESTRICT", "TYPEDEF", "TYPE_TAG"]
         self.assertEqual(type_records.FOLLOWED, {kinds[f"KIND_{it}"] for it in followed})
+
+
+class Newer(unittest.TestCase):
+    def test_a_record_of_a_newer_library_is_named(self) -> None:
+        insn = records.InsnRecord._make([0] * len(records.INSN_FIELDS))._replace(form=1, bits=64, len=8)
+        for change in {"form": 20}, {"form": 0}, {"op": 8}, {"bits": 128}, {"form": 17, "op": 7}:
+            with self.assertRaises(UnknownRecord) as raised:
+                insn_records.insn_of(insn._replace(**change))
+            self.assertEqual(raised.exception.args, (insn._replace(**change),))
+        blank = records.TypeRecord._make([0] * len(records.TYPE_FIELDS))
+        for change in {"kind": 20}, {"kind": 1, "encoding": 3}, {"kind": 12, "linkage": 3}:
+            with self.assertRaises(UnknownRecord):
+                type_records.type_of(type_records.File(b"", memoryview(b"")), blank._replace(**change))
 
 
 class Memory(unittest.TestCase):

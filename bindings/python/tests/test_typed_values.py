@@ -205,6 +205,9 @@ class Package(unittest.TestCase):
         done = subprocess.run([sys.executable, "-c", script], capture_output=True, text=True, check=True)
         self.assertEqual(done.stdout.split(), ["False", "_library", "btf", "causes", "errors", "insn"])
 
+    def test_typed_values_are_listed(self) -> None:
+        self.assertEqual(set(bpfcanon.__all__) - set(dir(bpfcanon)), set())
+
     def test_no_other_name_is_found(self) -> None:
         with self.assertRaisesRegex(AttributeError, "module 'bpfcanon' has no attribute 'Insns'"):
             getattr(bpfcanon, "Insns")
