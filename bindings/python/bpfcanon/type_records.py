@@ -37,7 +37,8 @@ class Items(Sequence[T]):
         return self._make(self._names, ItemRecord._make(ITEM.unpack_from(self._records, place)))
 
     def __iter__(self) -> Iterator[T]:
-        return (self._make(self._names, ItemRecord._make(it)) for it in ITEM.iter_unpack(self._records))
+        make, names = self._make, self._names
+        return (make(names, ItemRecord._make(it)) for it in ITEM.iter_unpack(self._records))
 
     def __eq__(self, other: object) -> bool:
         if not isinstance(other, (Items, tuple)):

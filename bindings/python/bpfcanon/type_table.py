@@ -18,25 +18,25 @@ class Types(Mapping[int, Type]):
     """The types of a file by their IDs, from 1 on, each made when it is asked for."""
 
     def __init__(self, file: File, records: memoryview) -> None:
-        self._file, self._records = file, records
+        self._file, self._records, self._count = file, records, len(records) // TYPE.size
 
     def __len__(self) -> int:
-        return len(self._records) // TYPE.size
+        return self._count
 
     def __iter__(self) -> Iterator[int]:
-        return iter(range(1, len(self) + 1))
+        return iter(range(1, self._count + 1))
 
     def __getitem__(self, id: int) -> Type:
         return type_of(self._file, self.record(id))
 
     def record(self, id: int) -> TypeRecord:
         """Return the record of a type. Raises NoSuchType, also for void."""
-        if not isinstance(id, int) or not 0 < id <= len(self):
-            raise NoSuchType(id, len(self))
+        if not isinstance(id, int) or not 0 < id <= self._count:
+            raise NoSuchType(id, self._count)
         return TypeRecord._make(TYPE.unpack_from(self._records, TYPE.size * (id - 1)))
 
     def __repr__(self) -> str:
-        return f"<{len(self)} types>"
+        return f"<{self._count} types>"
 
 
 class Btf:
