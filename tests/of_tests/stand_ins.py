@@ -66,7 +66,7 @@ for word; do
     before=$word
 done
 """
-KEY_README = "".join(f"```go\nprogram\n```\n```console\n$ ./{name}\nmade\n```\n" for name in ("key", "objectkey"))
+BLOCKS = "```go\nprogram\n```\n```console\n$ ./{}\n{}```\n"
 
 
 def write(path, text):
@@ -87,7 +87,8 @@ class Tree:
             write(folder / name, STAND_IN)
         for name in EMPTY:
             write(folder / name, "")
-        write(folder / "bindings" / "go" / "README.md", KEY_README)
+        programs = {"members": (TOP / MEMBERS).read_text(), "key": "made\n", "objectkey": "made\n"}
+        write(folder / "bindings" / "go" / "README.md", "".join(BLOCKS.format(*it) for it in programs.items()))
         write(folder / "crates" / "bpfcanon_c" / "out" / "libbpfcanon_c.a", "")
         for tool in BASE:
             (folder / "bin" / tool).symlink_to(shutil.which(tool))
