@@ -30,35 +30,35 @@ class Listings(unittest.TestCase):
 
     def test_show(self) -> None:
         for order in ORDERS:
-            data = load(f"flows.{order}.o")
+            data = load(f"flows.{order}.elf")
             self.assertEqual(list(show(ObjectFile.read(data))), wanted("flows.show", order), order)
             self.assertEqual(list(textconv(data)), wanted("flows.show", order), order)
 
     def test_show_with_offsets_and_source(self) -> None:
         for order in ORDERS:
-            lines = list(show(ObjectFile.read(load(f"flows.{order}.o")), offsets=True, source=True))
+            lines = list(show(ObjectFile.read(load(f"flows.{order}.elf")), offsets=True, source=True))
             first = lines.index("program count_flows section=xdp global groups=base32,base64,atomic32,atomic64")
             last = first + lines[first:].index("")
             self.assertEqual(lines[first:last], wanted("flows.source", order), order)
 
     def test_diff(self) -> None:
         for order in ORDERS:
-            old, new = (ObjectFile.read(load(f"{name}.{order}.o")) for name in ("flows", "changed"))
+            old, new = (ObjectFile.read(load(f"{name}.{order}.elf")) for name in ("flows", "changed"))
             lines = [line for it in compare(old, new) for line in (str(it), *(f"  {row}" for row in it.lines))]
             self.assertEqual(lines, wanted("flows.diff", order), order)
-            self.assertEqual(list(compare(old, ObjectFile.read(load(f"flows.{order}.o")))), [])
+            self.assertEqual(list(compare(old, ObjectFile.read(load(f"flows.{order}.elf")))), [])
 
     def test_byte_orders_differ(self) -> None:
-        old, new = (ObjectFile.read(load(f"flows.{order}.o")) for order in ORDERS)
+        old, new = (ObjectFile.read(load(f"flows.{order}.elf")) for order in ORDERS)
         self.assertEqual([(str(it), it.lines[1:]) for it in compare(old, new)], [("changed file order", ("-little", "+big"))])
 
     def test_check_names_the_source(self) -> None:
         for order in ORDERS:
-            found = [(str(it.place), it.text, it.source) for it in check(load(f"flows.{order}.o"), group_set("base64"))]
+            found = [(str(it.place), it.text, it.source) for it in check(load(f"flows.{order}.elf"), group_set("base64"))]
             self.assertEqual([it[:2] for it in found], [("xdp+0x58", "count_flows needs atomic32,atomic64")])
             line = found[0][2]
             self.assertEqual((line.file, line.number, line.text) if line else (), ("./flows.c", 45, "\t\t__sync_fetch_and_add(value, 1);"))
-            self.assertEqual(list(check(load(f"flows.{order}.o"), group_set("atomic64,base64"))), [])
+            self.assertEqual(list(check(load(f"flows.{order}.elf"), group_set("atomic64,base64"))), [])
 
 
 if __name__ == "__main__":
