@@ -75,7 +75,7 @@ named_in b pos len strings e within offset name t =
     }
 
 pub record Starts (b : List ℕ) (h : Header) (v : List TypeRecord) : Type 0 where
-  pub rest : Rest h.order b h.types_pos h.str_pos [] v
+  pub rest : Rest h.order b h.types_pos h.str_pos 0 [] v
   pub fits : 12 * length v + 8 * length (items_of v) ≤ length b
   pub short : length b ≤ 50335744
   pub strings_short : h.str_pos < 2 ^ 32
@@ -88,7 +88,6 @@ starts b h v reads d =
     record {
       rest = record {
         strings = d.strings;
-        flag = 0;
         words = [];
         spellings = d.spellings;
         tail = drop h.types_len (drop h.types_pos b);

@@ -1,20 +1,22 @@
 //! The call that decodes the types of BTF into records of a fixed size.
 
-ghost use Rattle.std.specs.Prelude.{◌≡◌, ◌<◌, ◌≤◌, ◌+◌, ◌^◌, [], length};
-ghost use Rattle.std.specs.Prelude.{drop};
+ghost use Rattle.std.specs.Prelude.{◌≡◌, ◌<◌, ◌≤◌, ◌+◌, ◌^◌, [], All, IfSome, length, drop};
 ghost use Rattle.std.specs.List.{AllZip};
-ghost use Rattle.btf_raw.specs.{ReadHeader.ReadsHeader};
-ghost use Rattle.btf_types.specs.{Denotes.Denotes, Values.head_value, Values.item_value};
+ghost use Rattle.bpf_words.specs.Words.{word32_at};
+ghost use Rattle.btf_raw.specs.{Names.IsEnd, ReadHeader.ReadsHeader};
+ghost use Rattle.btf_types.specs.{Denotes.Denotes, Values.head_value};
 ghost use Rattle.btf_types.specs.tables.TableWords.{record_at};
-ghost use Rattle.bpfcanon_c.specs.BtfRows.{SaysItem, SaysType, items_of, with_firsts};
+ghost use Rattle.bpfcanon_c.specs.BtfRows.{SaysItem, SaysType, items_of, item_parts, with_firsts};
 ghost use Rattle.bpfcanon_c.specs.BtfDecoding.{AnswersBtfDecode, EndsBtfRows, rows_answer_of};
-ghost use Rattle.bpfcanon_c.specs.BtfRest.{Rest, Writes, head_bytes, item_bytes, item_name_at};
+ghost use Rattle.bpfcanon_c.specs.BtfRest as rest;
 
 use crate::answer::{Answer, FaultCode, btf_code, with_fault, with_status};
-use crate::btf_rows::{ItemRow, TypeRow, item_row, type_row};
+use crate::btf_rows::{ItemRow, TypeRow, bare_item, type_row};
 use bpf_words::{Order, get32};
+use btf_raw::info::flag_of;
 use btf_raw::{Header, read_header};
-use btf_types::{BtfError, BtfView, Head, Item, TypeTable};
+use btf_types::{BtfError, BtfView, Head, TypeTable};
+use memchr::memchr;
 use std::alloc::Global;
 
 /// How the call ended.
@@ -32,7 +34,7 @@ pub enum RowsEnding {
 
 /// The length in bytes of the fields of a record before its items.
 fn head_len(head: Head<'_>) -> usize
-    ensures { result ≡ head_bytes (head_value head.entry) }
+    ensures { result ≡ rest.head_bytes (head_value head.entry) }
 {
     match head {
         Head::KInt { .. } | Head::KVar { .. } | Head::KDeclTag { .. } => 16,
@@ -41,36 +43,142 @@ fn head_len(head: Head<'_>) -> usize
     }
 }
 
-/// The length in bytes of an item.
-fn item_len(item: Item<'_>) -> usize
-    ensures { result ≡ item_bytes (item_value item.entry) }
+/// What the items of a type are: the [`ItemRow::kind`] of their records, 0 if it has none.
+fn item_kind(head: Head<'_>) -> u32
+    ensures { result ≡ rest.item_kind (head_value head.entry) }
 {
-    match item {
-        Item::EnumValue { .. } | Item::Param { .. } => 8,
+    match head {
+        Head::KStruct { .. } | Head::KUnion { .. } => 1,
+        Head::KEnum { .. } => 2,
+        Head::KEnum64 { .. } => 3,
+        Head::KFuncProto { .. } => 4,
+        Head::KDatasec { .. } => 5,
+        _ => 0,
+    }
+}
+
+/// The length in bytes of an item of this kind.
+fn item_len(kind: u32) -> usize
+    ensures { result ≡ rest.item_bytes kind }
+{
+    match kind {
+        2 | 4 => 8,
         _ => 12,
     }
 }
 
-/// The offset in the file of the name of an item whose first field is this word.
-#[tactic(auto, using(crate::proofs::BtfRest::take_item))]
-fn item_name_at(item: Item<'_>, strings_at: u32, word: u32) -> u32
-    requires { item_name_at (item_value item) strings_at word < 2 ^ 32 }
-    ensures { result ≡ item_name_at (item_value item.entry) strings_at word }
+/// The bit offset and the width in the offset field of a member (btf.rst section 2.2.4).
+fn member_parts(flag: u32, word: u32) -> (u32, u32)
+    ensures low { result.0 ≡ rest.low_part flag word }
+    ensures high { result.1 ≡ rest.high_part flag word }
 {
-    match item {
-        Item::Member { .. } | Item::EnumValue { .. } | Item::Value64 { .. } | Item::Param { .. } =>
-            strings_at + word,
-        Item::Entry { .. } => strings_at,
+    if flag == 0 {
+        (word, 0)
+    } else {
+        (word % 0x100_0000, word / 0x100_0000)
     }
 }
 
-/// Writes the records of the items of a type, which begin at an offset of the file. Returns where
-/// they end.
+/// The record of the item at an offset of the file, without its name. `kind` is what the item is,
+/// and `flag` the kind_flag of its type.
+#[inline(always)]
+fn item_at(order: Order, bytes: &[u8], at: usize, kind: u32, flag: u32) -> ItemRow
+    requires { at + rest.item_bytes kind ≤ length bytes.now }
+    ensures { result ≡ rest.words_row kind flag (word32_at order bytes.now at)
+        (word32_at order bytes.now (at + 4)) (word32_at order bytes.now (at + 8)) }
+{
+    let second = get32(order, bytes, at + 4);
+    match kind {
+        1 => {
+            let (bit_offset, width) = member_parts(flag, get32(order, bytes, at + 8));
+            ItemRow {
+                target: second,
+                bit_offset,
+                width,
+                ..bare_item(1)
+            }
+        }
+        2 => ItemRow {
+            value: u64::from(second),
+            ..bare_item(2)
+        },
+        3 => {
+            let third = get32(order, bytes, at + 8);
+            ItemRow {
+                value: u64::from(second) + 0x1_0000_0000 * u64::from(third),
+                ..bare_item(3)
+            }
+        }
+        4 => ItemRow {
+            target: second,
+            ..bare_item(4)
+        },
+        _ => ItemRow {
+            target: get32(order, bytes, at),
+            offset: second,
+            size: get32(order, bytes, at + 8),
+            ..bare_item(5)
+        },
+    }
+}
+
+/// The offset in the file of the name of an item of this kind whose first field is `word`. An entry
+/// has no name, and gets the empty string at the start of the string section.
+fn item_name_at(kind: u32, strings_at: u32, word: u32) -> u32
+    requires { rest.item_name_at kind strings_at word < 2 ^ 32 }
+    ensures { result ≡ rest.item_name_at kind strings_at word }
+{
+    if kind == 5 {
+        strings_at
+    } else {
+        strings_at + word
+    }
+}
+
+/// The number of bytes after the start of a name in which its end is looked for.
+const NEAR: usize = 64;
+
+/// The offset of the end of the string at an offset of the file, if it is near.
+fn near_end(bytes: &[u8], at: usize) -> Option<usize>
+    requires { at ≤ length bytes.now }
+    ensures { IfSome result (IsEnd bytes.now at) }
+{
+    let near = bytes.len().min(at + NEAR);
+    memchr(0, &bytes[at..near]).map(|len| at + len)
+}
+
+/// The length in bytes of the name of item `k` of a type, which is at an offset of the file. The
+/// table is asked only for a long name: it keeps the ends of long strings, since any number of
+/// names may end in one of them.
+fn item_name_len(bytes: &[u8], at: u32, table: &BtfView<'_>, id: u32, k: u32) -> u32
+    requires first { 0 < id }
+    requires last { id ≤ length table.now }
+    requires named { rest.IsNamedAt bytes.now at (record_at table.now id).items k }
+    ensures { rest.IsNameLen (record_at table.now id).items k result }
+{
+    match near_end(bytes, at as usize) {
+        Some(end) => (end - at as usize) as u32,
+        None => table.file_item(id, k).name().len() as u32,
+    }
+}
+
+/// Where the items of a type begin in the file, and how they are encoded.
+#[derive(Clone, Copy)]
+struct ItemsAt {
+    /// The offset of the first one.
+    start: usize,
+    /// What they are, as in [`ItemRow::kind`].
+    kind: u32,
+    /// The kind_flag of their type.
+    flag: u32,
+}
+
+/// Writes the records of the items of a type. Returns the offset of their end in the file.
 fn put_items(
     order: Order,
     bytes: &[u8],
     strings_at: u32,
-    start: usize,
+    place: ItemsAt,
     table: &BtfView<'_>,
     id: u32,
     out: &mut [ItemRow],
@@ -79,17 +187,22 @@ fn put_items(
     requires last { id ≤ length table.now }
     requires count { length out.old ≡ length (record_at table.now id).items }
     requires few { length out.old < 2 ^ 16 }
-    requires rest { Rest order bytes.now start strings_at (record_at table.now id).items
-        (drop id table.now) }
-    ensures rest { Rest order bytes.now result strings_at [] (drop id table.now) }
+    requires kinds { All (λ i. (item_parts i).kind ≡ place.kind) (record_at table.now id).items }
+    requires left { rest.Rest order bytes.now place.start strings_at place.flag
+        (record_at table.now id).items (drop id table.now) }
+    ensures left { rest.Rest order bytes.now result strings_at 0 [] (drop id table.now) }
     ensures said { AllZip (SaysItem bytes.now) out.new (record_at table.now id).items }
 {
-    let mut at = start;
+    let mut at = place.start;
     for k in 0..out.len() {
-        let item = table.file_item(id, k as u32);
-        let name = item_name_at(item, strings_at, get32(order, bytes, at));
-        out[k] = item_row(name, item);
-        at += item_len(item);
+        let name = item_name_at(place.kind, strings_at, get32(order, bytes, at));
+        let name_len = item_name_len(bytes, name, table, id, k as u32);
+        out[k] = ItemRow {
+            name,
+            name_len,
+            ..item_at(order, bytes, at, place.kind, place.flag)
+        };
+        at += item_len(place.kind);
     }
     at
 }
@@ -119,9 +232,9 @@ fn put_all(
     requires types_room { length table.now ≤ length types.old }
     requires items_room { length (items_of table.now) ≤ length items.old }
     requires few { length (items_of table.now) < 2 ^ 32 }
-    requires rest { Rest order bytes.now start strings_at [] table.now }
-    ensures types { Writes (SaysType bytes.now) (with_firsts 0 table.now) types.old types.new }
-    ensures items { Writes (SaysItem bytes.now) (items_of table.now) items.old items.new }
+    requires left { rest.Rest order bytes.now start strings_at 0 [] table.now }
+    ensures types { rest.Writes (SaysType bytes.now) (with_firsts 0 table.now) types.old types.new }
+    ensures items { rest.Writes (SaysItem bytes.now) (items_of table.now) items.old items.new }
 {
     let mut at = start;
     let mut first = 0;
@@ -131,16 +244,14 @@ fn put_all(
         let count = table.item_count(id);
         let name = strings_at + get32(order, bytes, at);
         types[k as usize] = type_row(name, first as u32, count as u16, head);
+        let place = ItemsAt {
+            start: at + head_len(head),
+            kind: item_kind(head),
+            flag: flag_of(get32(order, bytes, at + 4)),
+        };
         let after = first + count as usize;
-        at = put_items(
-            order,
-            bytes,
-            strings_at,
-            at + head_len(head),
-            table,
-            id,
-            &mut items[first..after],
-        );
+        let part = &mut items[first..after];
+        at = put_items(order, bytes, strings_at, place, table, id, part);
         first = after;
     }
 }

@@ -1,11 +1,10 @@
 //! The types of BTF and their items as records of a fixed size.
 
 ghost use Rattle.std.specs.Prelude.{◌≡◌, ◌<◌, ◌^◌, length};
-ghost use Rattle.btf_types.specs.{Names.head_name, Names.item_name};
-ghost use Rattle.btf_types.specs.{Values.head_value, Values.item_value};
+ghost use Rattle.btf_types.specs.{Names.head_name, Values.head_value};
 ghost use Rattle.bpfcanon_c.specs.BtfRows as spec;
 
-use btf_types::{Head, Item};
+use btf_types::Head;
 
 /// A type: `bpfcanon_btf_type` of `capi/bpfcanon.h`, field by field. A field that its kind does not
 /// have is 0.
@@ -70,6 +69,7 @@ pub struct ItemRow {
 }
 
 /// A record with this kind, and 0 in each other field.
+#[inline(always)]
 fn bare_type(kind: u8) -> TypeRow
     ensures { result ≡ spec.bare_type kind }
 {
@@ -93,7 +93,8 @@ fn bare_type(kind: u8) -> TypeRow
 }
 
 /// A record with this kind of item, and 0 in each other field.
-fn bare_item(kind: u32) -> ItemRow
+#[inline(always)]
+pub fn bare_item(kind: u32) -> ItemRow
     ensures { result ≡ spec.bare_item kind }
 {
     ItemRow {
@@ -110,6 +111,7 @@ fn bare_item(kind: u32) -> ItemRow
 }
 
 /// The component of a DECL_TAG, or -1 for the complete type.
+#[inline(always)]
 fn component_number(component: Option<u16>) -> i32
     ensures { result ≡ spec.component_number component }
 {
@@ -121,6 +123,7 @@ fn component_number(component: Option<u16>) -> i32
 
 /// The record of a type, without its name and its items.
 #[rattlefmt::skip]
+#[inline(always)]
 fn head_row(head: Head<'_>) -> TypeRow
     ensures { result ≡ spec.head_row (head_value head.entry) }
 {
@@ -158,22 +161,8 @@ fn head_row(head: Head<'_>) -> TypeRow
     }
 }
 
-/// The record of an item, without its name.
-#[rattlefmt::skip]
-fn item_parts(item: Item<'_>) -> ItemRow
-    ensures { result ≡ spec.item_parts (item_value item.entry) }
-{
-    match item {
-        Item::Member { target, bit_offset, width, .. } =>
-            ItemRow { target, bit_offset, width: u32::from(width), ..bare_item(1) },
-        Item::EnumValue { value, .. } => ItemRow { value: u64::from(value), ..bare_item(2) },
-        Item::Value64 { value, .. } => ItemRow { value, ..bare_item(3) },
-        Item::Param { target, .. } => ItemRow { target, ..bare_item(4) },
-        Item::Entry { target, offset, size } => ItemRow { target, offset, size, ..bare_item(5) },
-    }
-}
-
 /// The record of a type whose name is at this offset of the file.
+#[inline(always)]
 pub fn type_row(name: u32, first: u32, items: u16, head: Head<'_>) -> TypeRow
     requires { length (head_name (head_value head)) < 2 ^ 32 }
     ensures { result ≡ spec.type_row name first items (head_value head.entry) }
@@ -184,17 +173,5 @@ pub fn type_row(name: u32, first: u32, items: u16, head: Head<'_>) -> TypeRow
         items,
         first,
         ..head_row(head)
-    }
-}
-
-/// The record of an item whose name is at this offset of the file.
-pub fn item_row(name: u32, item: Item<'_>) -> ItemRow
-    requires { length (item_name (item_value item)) < 2 ^ 32 }
-    ensures { result ≡ spec.item_row name (item_value item.entry) }
-{
-    ItemRow {
-        name,
-        name_len: item.name().len() as u32,
-        ..item_parts(item)
     }
 }

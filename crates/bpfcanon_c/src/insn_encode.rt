@@ -12,8 +12,8 @@ use crate::insn_rows::{InsnRow, form_row};
 use bpf_insn::{Insn, Order, Slot, read_insn};
 use bpf_words::slot_bytes;
 
-/// The size field of an opcode (RFC 9669 section 5) for this number of bits: 3, for 64, if it is not
-/// 8, 16 or 32.
+/// The size field of an opcode (RFC 9669 section 5) for this number of bits. It is that of 64 bits,
+/// 3, for any other number than 8, 16 and 32.
 fn size_code(bits: u8) -> u8
     ensures is { result ≡ enc.size_code bits }
     ensures few { result < 4 }

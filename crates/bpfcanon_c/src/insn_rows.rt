@@ -47,6 +47,7 @@ pub struct InsnRow {
 }
 
 /// A record with this form, a length of 8 bytes, and 0 in each other field.
+#[inline(always)]
 fn bare_row(form: u8) -> InsnRow
     ensures { result ≡ spec.bare_row form }
 {
@@ -69,6 +70,7 @@ fn bare_row(form: u8) -> InsnRow
 }
 
 /// The number of bits of a width.
+#[inline(always)]
 fn width_bits(width: Width) -> u8
     ensures { result ≡ spec.width_bits width }
 {
@@ -79,6 +81,7 @@ fn width_bits(width: Width) -> u8
 }
 
 /// The number of bits of a size.
+#[inline(always)]
 fn size_bits(size: Size) -> u8
     ensures { result ≡ spec.size_bits size }
 {
@@ -91,6 +94,7 @@ fn size_bits(size: Size) -> u8
 }
 
 /// Likewise for a size of at most 4 bytes.
+#[inline(always)]
 fn small_size_bits(size: SmallSize) -> u8
     ensures { result ≡ spec.small_size_bits size }
 {
@@ -102,6 +106,7 @@ fn small_size_bits(size: SmallSize) -> u8
 }
 
 /// The number of bits that a sign-extending move reads.
+#[inline(always)]
 fn movsx_from(form: MovsxForm) -> u8
     ensures { result ≡ movsx_bits form }
 {
@@ -113,6 +118,7 @@ fn movsx_from(form: MovsxForm) -> u8
 }
 
 /// The number of bits that a sign-extending move writes.
+#[inline(always)]
 fn movsx_to(form: MovsxForm) -> u8
     ensures { result ≡ spec.movsx_to form }
 {
@@ -123,6 +129,7 @@ fn movsx_to(form: MovsxForm) -> u8
 }
 
 /// The source bit, the src field and the immediate of a second operand.
+#[inline(always)]
 fn operand_parts(arg: Operand) -> (u8, u8, i32)
     ensures bit { result.0 ≡ source_bit arg }
     ensures source { result.1 ≡ source arg }
@@ -135,6 +142,7 @@ fn operand_parts(arg: Operand) -> (u8, u8, i32)
 }
 
 /// The src field, imm and next_imm of a wide load.
+#[inline(always)]
 fn wide_parts(what: WideOf) -> (u8, i32, i32)
     ensures source { result.0 ≡ wide_source what }
     ensures imm { result.1 ≡ wide_imm what }
@@ -156,6 +164,7 @@ fn wide_parts(what: WideOf) -> (u8, i32, i32)
 }
 
 /// The bit of a group.
+#[inline(always)]
 fn group_bit(group: Group) -> u16
     ensures { result ≡ spec.group_bit group }
 {
@@ -171,6 +180,7 @@ fn group_bit(group: Group) -> u16
 }
 
 /// The number of an arithmetic operation: its code in the standard, plus 16 if it is signed.
+#[inline(always)]
 fn alu_number(op: AluOp) -> u8
     ensures { result ≡ spec.alu_number op }
 {
@@ -178,6 +188,7 @@ fn alu_number(op: AluOp) -> u8
 }
 
 /// The record of an instruction with two registers, a width or size, and an offset.
+#[inline(always)]
 fn two_registers(form: u8, bits: u8, dst: Reg, src: Reg, off: i16) -> InsnRow
     ensures { result
         ≡ spec.two_registers form bits (register_number dst) (register_number src) off }
@@ -193,6 +204,7 @@ fn two_registers(form: u8, bits: u8, dst: Reg, src: Reg, off: i16) -> InsnRow
 
 /// The record of an instruction, without its group and its offset in the file.
 #[rattlefmt::skip]
+#[inline(always)]
 pub fn form_row(insn: Insn) -> InsnRow
     ensures { result ≡ spec.form_row insn }
 {
@@ -239,6 +251,7 @@ pub fn form_row(insn: Insn) -> InsnRow
 }
 
 /// The record of an instruction at this offset of its file.
+#[inline(always)]
 pub fn row_at(pos: u64, insn: Insn) -> InsnRow
     ensures { result ≡ spec.row_at pos insn }
 {

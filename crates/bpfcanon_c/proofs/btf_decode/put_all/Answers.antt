@@ -4,28 +4,35 @@ use Rattle.std.proofs.lemmas.List.{drop-drop, drop-set-lt, take_all}
 use Rattle.std.proofs.lemmas.Grind.{drop_more_same}
 use Rattle.std.proofs.lemmas.Slice.{take-put_mid, drop-put_mid}
 use Rattle.std.proofs.lemmas.Slice.Zip.{AllZip-long}
-use Rattle.btf_raw.specs.Names.{NameAt}
+use Rattle.bpf_words.specs.Words.{word32_at}
+use Rattle.btf_raw.specs.{Kinds.flag_of, Names.NameAt}
 use Rattle.btf_types.specs.Values.{TypeRecord, TypeItem}
 use Rattle.btf_types.specs.{Names.head_name, tables.TableWords.record_at}
 use Rattle.bpfcanon_c.specs.declared.btf_rows.{ItemRow.ItemRow}
-use Rattle.bpfcanon_c.specs.{BtfRest.Rest, BtfRest.head_bytes}
+use Rattle.bpfcanon_c.specs.{BtfRest.Rest, BtfRest.head_bytes, BtfRest.item_kind}
 use Rattle.bpfcanon_c.specs.BtfRows.{SaysItem, SaysType, items_of, with_firsts}
-use Rattle.bpfcanon_c.proofs.BtfRest.{take_head, TakesHead}
+use Rattle.bpfcanon_c.proofs.BtfRest.{take_head, kinds_fit, TakesHead}
 use Rattle.bpfcanon_c.proofs.BtfRows.{cut_at, zip_more, zip_append, record_is, items_more, items_within, firsts_more, says_type, length-firsts}
 use Rattle.bpfcanon_c.proofs.btf_decode.put_all.Goals as goal
 
 takes : (o : _) (bytes : List ℕ) (at strings_at : ℕ) (v : List TypeRecord) (k : ℕ) → k < length v
-    → Rest o bytes at strings_at [] (drop k v) → TakesHead o bytes at strings_at (record_at v (k + 1)) (drop (k + 1) v)
+    → Rest o bytes at strings_at 0 [] (drop k v) → TakesHead o bytes at strings_at (record_at v (k + 1)) (drop (k + 1) v)
 takes o bytes at strings_at v k h r =
-    take_head o bytes at strings_at (record_at v (k + 1)) (drop (k + 1) v) (subst (λ (xs : List TypeRecord). Rest o bytes at strings_at [] xs) (cut_at v k (record_at v (k + 1)) h (record_is v k h)) r)
+    take_head o bytes at strings_at (record_at v (k + 1)) (drop (k + 1) v) (subst (λ (xs : List TypeRecord). Rest o bytes at strings_at 0 [] xs) (cut_at v k (record_at v (k + 1)) h (record_is v k h)) r)
 
 pub get32-requires : goal.get32-requires
 get32-requires c =
-    (takes c.args.order c.args.bytes.now c.loop-k.at c.args.strings_at c.args.table.now c.loop-k.k (omega (arith, c.count-k-end.ensures.count)) c.loop-k.invariant.rest).inside
+    let t = takes c.args.order c.args.bytes.now c.loop-k.at c.args.strings_at c.args.table.now c.loop-k.k (omega (arith, c.count-k-end.ensures.count)) c.loop-k.invariant.left in
+    omega (arith, t.room)
+
+pub get32-requires-in-loop-k : goal.get32-requires-in-loop-k
+get32-requires-in-loop-k c =
+    let t = takes c.args.order c.args.bytes.now c.loop-k.at c.args.strings_at c.args.table.now c.loop-k.k (omega (arith, c.count-k-end.ensures.count)) c.loop-k.invariant.left in
+    omega (arith, t.room)
 
 pub overflow_add-name : goal.overflow_add-name
 overflow_add-name c =
-    let t = takes c.args.order c.args.bytes.now c.loop-k.at c.args.strings_at c.args.table.now c.loop-k.k (omega (arith, c.count-k-end.ensures.count)) c.loop-k.invariant.rest in
+    let t = takes c.args.order c.args.bytes.now c.loop-k.at c.args.strings_at c.args.table.now c.loop-k.k (omega (arith, c.count-k-end.ensures.count)) c.loop-k.invariant.left in
     let fits : c.args.strings_at + c.get32.result < 2 ^ 32 = subst (λ (n : ℕ). c.args.strings_at + n < 2 ^ 32) (sym c.get32.ensures.value) t.fits in
     omega (arith, fits)
 
@@ -36,25 +43,39 @@ overflow_cast-first c =
 
 pub overflow_cast-count : goal.overflow_cast-count
 overflow_cast-count c =
-    let t = takes c.args.order c.args.bytes.now c.loop-k.at c.args.strings_at c.args.table.now c.loop-k.k (omega (arith, c.count-k-end.ensures.count)) c.loop-k.invariant.rest in
+    let t = takes c.args.order c.args.bytes.now c.loop-k.at c.args.strings_at c.args.table.now c.loop-k.k (omega (arith, c.count-k-end.ensures.count)) c.loop-k.invariant.left in
     omega (arith, t.few, c.item_count-count.ensures)
 
 pub type_row-requires : goal.type_row-requires
 type_row-requires c =
-    let t = takes c.args.order c.args.bytes.now c.loop-k.at c.args.strings_at c.args.table.now c.loop-k.k (omega (arith, c.count-k-end.ensures.count)) c.loop-k.invariant.rest in
+    let t = takes c.args.order c.args.bytes.now c.loop-k.at c.args.strings_at c.args.table.now c.loop-k.k (omega (arith, c.count-k-end.ensures.count)) c.loop-k.invariant.left in
     subst (λ x. length (head_name x) < 2 ^ 32) (sym c.file_head-head.ensures) t.long
 
-pub slice_bounds-put_items-end : goal.slice_bounds-put_items-end
-slice_bounds-put_items-end c =
+pub slice_bounds-part-end : goal.slice_bounds-part-end
+slice_bounds-part-end c =
     let within = items_within c.args.table.now c.loop-k.k (omega (arith, c.count-k-end.ensures.count)) in
     omega (arith, c.loop-k.invariant.count, c.item_count-count.ensures, c.requires.items_room)
 
-pub put_items-at-requires-clause-rest : goal.put_items-at-requires-clause-rest
-put_items-at-requires-clause-rest c =
+pub put_items-at-requires-clause-left : goal.put_items-at-requires-clause-left
+put_items-at-requires-clause-left c =
+    let o = c.args.order in
+    let bytes = c.args.bytes.now in
     let v = c.args.table.now in
-    let t = takes c.args.order c.args.bytes.now c.loop-k.at c.args.strings_at v c.loop-k.k (omega (arith, c.count-k-end.ensures.count)) c.loop-k.invariant.rest in
-    let same : head_bytes (record_at v (c.loop-k.k + 1)).head ≡ c.head_len.result = sym (c.head_len.ensures ∙ ap head_bytes c.file_head-head.ensures) in
-    subst (λ (n : ℕ). Rest c.args.order c.args.bytes.now (c.loop-k.at + n) c.args.strings_at (record_at v (c.loop-k.k + 1)).items (drop (c.loop-k.k + 1) v)) same t.rest
+    let k = c.loop-k.k in
+    let r = record_at v (k + 1) in
+    let t = takes o bytes c.loop-k.at c.args.strings_at v k (omega (arith, c.count-k-end.ensures.count)) c.loop-k.invariant.left in
+    let same : head_bytes r.head ≡ c.head_len.result = sym (c.head_len.ensures ∙ ap head_bytes c.file_head-head.ensures) in
+    let flag : flag_of (word32_at o bytes (c.loop-k.at + 4)) ≡ c.flag_of.result = sym (c.flag_of.ensures ∙ ap flag_of c.get32-in-loop-k.ensures.value) in
+    subst (λ (n : ℕ). Rest o bytes (c.loop-k.at + n) c.args.strings_at c.flag_of.result r.items (drop (k + 1) v)) same
+    (subst (λ (f : ℕ). Rest o bytes (c.loop-k.at + head_bytes r.head) c.args.strings_at f r.items (drop (k + 1) v)) flag t.rest)
+
+pub put_items-at-requires-clause-kinds : goal.put_items-at-requires-clause-kinds
+put_items-at-requires-clause-kinds c =
+    let v = c.args.table.now in
+    let k = c.loop-k.k in
+    let fits = kinds_fit v k c.count-k-end.ensures.good (omega (arith, c.count-k-end.ensures.count)) in
+    let is : c.item_kind.result ≡ item_kind (record_at v (k + 1)).head = c.item_kind.ensures ∙ ap item_kind c.file_head-head.ensures in
+    λ n d h. fits n d h ∙ sym is
 
 pub loop-k-preserved : goal.loop-k-preserved
 loop-k-preserved c =
@@ -65,7 +86,7 @@ loop-k-preserved c =
     let r = record_at v (k + 1) in
     let inside : k < length v = omega (arith, c.count-k-end.ensures.count) in
     let within = items_within v k inside in
-    let t = takes o bytes c.loop-k.at c.args.strings_at v k inside c.loop-k.invariant.rest in
+    let t = takes o bytes c.loop-k.at c.args.strings_at v k inside c.loop-k.invariant.left in
     let more = items_more v k inside in
     let first = c.loop-k.first in
     let count = c.item_count-count.result in
@@ -77,7 +98,7 @@ loop-k-preserved c =
     let name = subst (λ (n : ℕ). NameAt bytes (c.args.strings_at + n) (head_name r.head)) (sym c.get32.ensures.value) t.named in
     let says : SaysType bytes c.type_row.result (first, r) = says_type bytes c.type_row.result (c.args.strings_at + c.get32.result) first count _ r c.type_row.ensures c.file_head-head.ensures counted name in
     record {
-      rest = c.put_items-at.ensures.rest;
+      left = c.put_items-at.ensures.left;
       count = omega (arith, c.loop-k.invariant.count, ap length more, length-append (items_of (take k v)) r.items, counted);
       types_said =
           zip_more (SaysType bytes) c.loop-k.types k c.type_row.result (with_firsts 0 (take k v)) (with_firsts 0 (take (k + 1) v)) (first, r) (omega (arith, c.requires.types_room)) c.loop-k.invariant.types_said

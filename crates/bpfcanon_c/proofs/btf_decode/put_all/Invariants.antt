@@ -5,7 +5,7 @@ use Rattle.bpfcanon_c.proofs.btf_decode.put_all.Given as goal
 
 abbrev pub invariant-loop-k : goal.invariant-loop-k
 invariant-loop-k l = record {
-  rest : Rest l.order l.bytes l.at l.strings_at [] (drop l.k l.table);
+  left : Rest l.order l.bytes l.at l.strings_at 0 [] (drop l.k l.table);
   count : l.first ≡ length (items_of (take l.k l.table));
   types_said : AllZip (SaysType l.bytes) (take l.k l.types) (with_firsts 0 (take l.k l.table));
   types_kept : drop l.k l.types ≡ drop l.k l.initial.types;

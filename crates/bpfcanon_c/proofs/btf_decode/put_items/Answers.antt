@@ -1,51 +1,80 @@
-use Rattle.std.proofs.Common.{◌≡◌, ◌<◌, ◌+◌, ◌∷◌, ℕ, List, length, take, drop, sym, ap, arith, subst, ◌∙◌, ◌^◌}
-use Rattle.btf_types.specs.Values.{TypeItem, item_value}
-use Rattle.btf_types.specs.tables.TableWords.{record_at}
-use Rattle.bpfcanon_c.specs.{BtfRest.Rest, BtfRows.SaysItem, BtfRows.item_row, BtfRest.item_name_at}
-use Rattle.bpfcanon_c.proofs.BtfRest.{take_item, TakesItem}
-use Rattle.bpfcanon_c.proofs.BtfRows.{cut_at, more_at, zip_more, says_item}
+-- The next item, its name and what is left after it.
+use Rattle.std.proofs.Common.{◌≡◌, ◌<◌, ◌+◌, ◌^◌, ◌∙◌, ℕ, length, take, drop, sym, ap, arith, subst}
+use Rattle.btf_raw.specs.Names.{NameAt}
+use Rattle.btf_types.specs.{Names.item_name, tables.TableWords.record_at}
+use Rattle.bpfcanon_c.specs.declared.btf_rows.ItemRow.{ItemRow}
+use Rattle.bpfcanon_c.specs.{BtfRest.Rest, BtfRest.item_name_at, BtfRows.SaysItem, BtfRows.item_row}
+use Rattle.bpfcanon_c.proofs.BtfRest.{next_item, ended}
+use Rattle.bpfcanon_c.proofs.BtfRows.{more_at, zip_more, says_item}
 use Rattle.bpfcanon_c.proofs.btf_decode.put_items.Goals as goal
-
-takes : (o : _) (bytes : List ℕ) (at strings_at : ℕ) (is : List TypeItem) (v : List _) (k : ℕ) (i : TypeItem) → drop k is ≡ i ∷ drop (k + 1) is
-    → Rest o bytes at strings_at (drop k is) v → TakesItem o bytes at strings_at i (drop (k + 1) is) v
-takes o bytes at strings_at is v k i e r = take_item o bytes at strings_at i (drop (k + 1) is) v (subst (λ (xs : List TypeItem). Rest o bytes at strings_at xs v) e r)
 
 pub get32-requires : goal.get32-requires
 get32-requires c =
     let is = (record_at c.args.table.now c.args.id).items in
-    let cut = cut_at is c.loop-k.k (item_value c.file_item-item.result) (omega (arith, c.requires.count)) c.file_item-item.ensures in
-    let t = takes c.args.order c.args.bytes.now c.loop-k.at c.args.strings_at is (drop c.args.id c.args.table.now) c.loop-k.k (item_value c.file_item-item.result) cut c.loop-k.invariant.rest in
-    t.inside
+    let v = drop c.args.id c.args.table.now in
+    let k = c.loop-k.k in
+    let inside : k < length is = omega (arith, c.requires.count, c.loop-k-test.true) in
+    let next = next_item c.args.order c.args.bytes.now c.loop-k.at c.args.strings_at c.args.place.kind c.args.place.flag is k v c.requires.kinds inside c.loop-k.invariant.left in
+    next.first
 
 pub item_name_at-name-requires : goal.item_name_at-name-requires
 item_name_at-name-requires c =
-    let i = item_value c.file_item-item.result in
     let is = (record_at c.args.table.now c.args.id).items in
-    let cut = cut_at is c.loop-k.k i (omega (arith, c.requires.count)) c.file_item-item.ensures in
-    let t = takes c.args.order c.args.bytes.now c.loop-k.at c.args.strings_at is (drop c.args.id c.args.table.now) c.loop-k.k i cut c.loop-k.invariant.rest in
-    subst (λ (n : ℕ). item_name_at i c.args.strings_at n < 2 ^ 32) (sym c.get32.ensures.value) t.fits
+    let v = drop c.args.id c.args.table.now in
+    let k = c.loop-k.k in
+    let inside : k < length is = omega (arith, c.requires.count, c.loop-k-test.true) in
+    let next = next_item c.args.order c.args.bytes.now c.loop-k.at c.args.strings_at c.args.place.kind c.args.place.flag is k v c.requires.kinds inside c.loop-k.invariant.left in
+    subst (λ (n : ℕ). item_name_at c.args.place.kind c.args.strings_at n < 2 ^ 32) (sym c.get32.ensures.value) next.fits
 
-pub item_row-requires : goal.item_row-requires
-item_row-requires c =
-    let i = item_value c.file_item-item.result in
+pub item_name_len-name_len-requires-clause-named : goal.item_name_len-name_len-requires-clause-named
+item_name_len-name_len-requires-clause-named c =
     let is = (record_at c.args.table.now c.args.id).items in
-    let cut = cut_at is c.loop-k.k i (omega (arith, c.requires.count)) c.file_item-item.ensures in
-    let t = takes c.args.order c.args.bytes.now c.loop-k.at c.args.strings_at is (drop c.args.id c.args.table.now) c.loop-k.k i cut c.loop-k.invariant.rest in
-    t.long
+    let v = drop c.args.id c.args.table.now in
+    let k = c.loop-k.k in
+    let inside : k < length is = omega (arith, c.requires.count, c.loop-k-test.true) in
+    let next = next_item c.args.order c.args.bytes.now c.loop-k.at c.args.strings_at c.args.place.kind c.args.place.flag is k v c.requires.kinds inside c.loop-k.invariant.left in
+    let at : c.item_name_at-name.result ≡ item_name_at c.args.place.kind c.args.strings_at _ = c.item_name_at-name.ensures ∙ ap (λ (n : ℕ). item_name_at c.args.place.kind c.args.strings_at n) c.get32.ensures.value in
+    record {
+      item = next.item;
+      is_there = next.is_there;
+      named = subst (λ (n : ℕ). NameAt c.args.bytes.now n (item_name next.item)) (sym at) next.named;
+      short = next.long;
+    }
+
+pub item_at-requires : goal.item_at-requires
+item_at-requires c =
+    let is = (record_at c.args.table.now c.args.id).items in
+    let v = drop c.args.id c.args.table.now in
+    let k = c.loop-k.k in
+    let inside : k < length is = omega (arith, c.requires.count, c.loop-k-test.true) in
+    let next = next_item c.args.order c.args.bytes.now c.loop-k.at c.args.strings_at c.args.place.kind c.args.place.flag is k v c.requires.kinds inside c.loop-k.invariant.left in
+    next.room
 
 pub loop-k-preserved : goal.loop-k-preserved
 loop-k-preserved c =
-    let i = item_value c.file_item-item.result in
-    let k = c.loop-k.k in
     let is = (record_at c.args.table.now c.args.id).items in
     let v = drop c.args.id c.args.table.now in
-    let inside : k < length is = omega (arith, c.requires.count) in
-    let cut = cut_at is k i inside c.file_item-item.ensures in
-    let t = takes c.args.order c.args.bytes.now c.loop-k.at c.args.strings_at is v k i cut c.loop-k.invariant.rest in
-    let name_is : c.item_name_at-name.result ≡ item_name_at i c.args.strings_at _ = c.item_name_at-name.ensures ∙ ap (λ (n : ℕ). item_name_at i c.args.strings_at n) c.get32.ensures.value in
+    let k = c.loop-k.k in
+    let inside : k < length is = omega (arith, c.requires.count, c.loop-k-test.true) in
+    let next = next_item c.args.order c.args.bytes.now c.loop-k.at c.args.strings_at c.args.place.kind c.args.place.flag is k v c.requires.kinds inside c.loop-k.invariant.left in
+    let i = next.item in
+    let bytes = c.args.bytes.now in
+    let name = c.item_name_at-name.result in
+    let at : name ≡ item_name_at c.args.place.kind c.args.strings_at _ = c.item_name_at-name.ensures ∙ ap (λ (n : ℕ). item_name_at c.args.place.kind c.args.strings_at n) c.get32.ensures.value in
+    let len : c.item_name_len-name_len.result ≡ length (item_name i) = c.item_name_len-name_len.ensures i next.is_there in
+    let parts = c.item_at.ensures ∙ sym next.fields in
+    let row : ItemRow = record c.item_at.result { name = name; name_len = c.item_name_len-name_len.result } in
+    let is_row : row ≡ item_row name i = ap (λ (p : ItemRow). record p { name = name; name_len = c.item_name_len-name_len.result }) parts ∙ ap (λ (n : ℕ). record (item_row name i) { name_len = n }) len in
+    let named : NameAt bytes name (item_name i) = subst (λ (n : ℕ). NameAt bytes n (item_name i)) (sym at) next.named in
     record {
-      rest = subst (λ (n : ℕ). Rest c.args.order c.args.bytes.now (c.loop-k.at + n) c.args.strings_at (drop (k + 1) is) v) (sym c.item_len-at.ensures) t.rest;
+      left = subst (λ (n : ℕ). Rest c.args.order bytes (c.loop-k.at + n) c.args.strings_at c.args.place.flag (drop (k + 1) is) v) (sym c.item_len-at.ensures) next.rest;
       said =
-          zip_more (SaysItem c.args.bytes.now) c.loop-k.out k c.item_row.result (take k is) (take (k + 1) is) i (omega arith) c.loop-k.invariant.said (more_at is k i inside c.file_item-item.ensures)
-          (says_item c.args.bytes.now c.item_row.result _ i (c.item_row.ensures ∙ ap (λ (n : ℕ). item_row n i) name_is) t.named);
+          zip_more (SaysItem bytes) c.loop-k.out k row (take k is) (take (k + 1) is) i (omega arith) c.loop-k.invariant.said (more_at is k i inside next.is_there)
+          (says_item bytes row name i is_row named);
     }
+
+pub returns-clause-left : goal.returns-clause-left
+returns-clause-left c =
+    let is = (record_at c.args.table.now c.args.id).items in
+    let v = drop c.args.id c.args.table.now in
+    ended c.args.order c.args.bytes.now c.loop-k.at c.args.strings_at c.args.place.flag is c.loop-k.k v (omega (arith, c.requires.count, c.loop-k-test.false)) c.loop-k.invariant.left

@@ -6,6 +6,6 @@ use Rattle.bpfcanon_c.proofs.btf_decode.put_items.Given as goal
 
 abbrev pub invariant-loop-k : goal.invariant-loop-k
 invariant-loop-k l = record {
-  rest : Rest l.order l.bytes l.at l.strings_at (drop l.k (record_at l.table l.id).items) (drop l.id l.table);
+  left : Rest l.order l.bytes l.at l.strings_at l.place.flag (drop l.k (record_at l.table l.id).items) (drop l.id l.table);
   said : AllZip (SaysItem l.bytes) (take l.k l.out) (take l.k (record_at l.table l.id).items);
 }

@@ -34,8 +34,8 @@ put_all-requires-clause-few c =
     let s = starts c.args.bytes.now c.args.header c.args.table.now c.requires.header c.requires.denotes in
     omega (arith, s.fits, s.short)
 
-pub put_all-requires-clause-rest : goal.put_all-requires-clause-rest
-put_all-requires-clause-rest c =
+pub put_all-requires-clause-left : goal.put_all-requires-clause-left
+put_all-requires-clause-left c =
     (starts c.args.bytes.now c.args.header c.args.table.now c.requires.header c.requires.denotes).rest
 
 pub returns : goal.returns
