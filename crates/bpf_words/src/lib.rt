@@ -1,5 +1,6 @@
 //! 16- and 32-bit words in both byte orders, and the 8-byte slots that eBPF instructions consist
 //! of (RFC 9669 section 3; btf.rst section 2).
+
 #![tactic(auto)]
 
 pub mod laws;

@@ -1,4 +1,30 @@
-//! The fields of a basic instruction, and their bytes.
+//! The slot of an instruction: its five fields, and their 8 bytes in either byte order (RFC 9669
+//! section 3).
+//!
+//! The byte orders differ in three places: the registers change sides in their byte, and the bytes
+//! of the offset and those of the immediate are reversed. This is `jeq r1, 241, -8`, whose dst is 1
+//! and whose src is 0, and below it the same slot swapped, as a big-endian file has it:
+//!
+//! ```text
+//! byte            0        1           2        4             8
+//!                 | opcode | registers | offset | imm         |
+//! little-endian   | 15     | 01        | f8 ff  | f1 00 00 00 |
+//! big-endian      | 15     | 10        | ff f8  | 00 00 00 f1 |
+//! ```
+//!
+//! A wide load has two slots. Its number is in their two immediates, the low half first in both
+//! byte orders; the other fields of the second slot are 0. This is `lddw r1, 0x1122334455667788`:
+//!
+//! ```text
+//! byte            0    1    2       4             8    9    10      12            16
+//!                 | op | r. | off.  | imm         | op | r. | off.  | next_imm    |
+//! little-endian   | 18 | 01 | 00 00 | 88 77 66 55 | 00 | 00 | 00 00 | 44 33 22 11 |
+//! big-endian      | 18 | 10 | 00 00 | 55 66 77 88 | 00 | 00 | 00 00 | 11 22 33 44 |
+//! ```
+//!
+//! Any 8 bytes are a slot, so reading one can't fail. Which values the fields of an instruction may
+//! have is checked in `bpf_insn`, which calls an instruction like the first one plain: each of its
+//! fields is either 0 or free.
 
 ghost use Rattle.std.specs.Prelude.{◌≡◌};
 ghost use Rattle.bpf_words.specs.Slots.{AreFields, spelled};

@@ -1,4 +1,11 @@
 //! 16- and 32-bit words, read from a slice and appended to a vector.
+//!
+//! They are in the lowest crate because BTF consists of them, and because the second slot of a wide
+//! load is read as two of them. There are none of 64 bits: both formats store the halves of such a
+//! number as two words.
+//!
+//! That a word is inside the slice is a premise of the call. Readers check the length of a header
+//! or of a record once, and need no result for each word that they then read.
 
 ghost use Rattle.std.specs.Prelude.{◌≡◌, ◌+◌, ◌≤◌, ◌++◌, length, slice_range, OnOk, OnErr};
 ghost use Rattle.bpf_words.specs.Words.{word16, word16_at, word32, word32_at};
