@@ -1,4 +1,8 @@
 //! Iterating over a set of groups, and making a set from groups.
+//!
+//! These are the traits that users expect of a collection. They use the calls of `group.rt`, which
+//! is the part that follows the standard. The order of iteration is that of [`Group::ALL`], in
+//! which listings name groups, whatever the order in which they were added.
 
 ghost use Rattle.std.specs.Prelude.{◌≡◌, ◌↔◌, IsTrue, [], Some, length, filter, ⊤};
 ghost use Rattle.std.specs.Iterator.{YieldsFirst, item_count};
@@ -14,7 +18,7 @@ use std::marker::Model;
 #[derive(Debug, Drop)]
 pub struct Groups {
     set: GroupSet,
-    // the groups that were not yet looked up in the set
+    /// The groups that were not yet looked up in the set.
     rest: &'static [Group],
 }
 

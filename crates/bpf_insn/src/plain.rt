@@ -5,6 +5,10 @@
 //! the bits that must be 0 for each opcode, another one the number of registers above r10 for each
 //! register byte. Not plain are wide loads, byte swaps, atomic operations, arithmetic operations
 //! with an offset, and calls other than those of helpers by static ID.
+//!
+//! Most instructions are plain, and this check makes no value and has no branch for each field. The
+//! prover compares both tables with their definitions. A slot that isn't plain may still be an
+//! instruction, which `read.rt` finds out.
 
 ghost use Rattle.std.specs.Prelude.{◌≡◌, IsTrue};
 ghost use Rattle.bpf_words.specs.Slots.{AreFields, Fields, spelled};
@@ -79,12 +83,14 @@ macro_rules! by_opcode {
     };
 }
 
+/// The table of little-endian files, whose register byte has dst in its low half.
 #[rattlefmt::skip]
 static ZERO_LITTLE: [u64; 256] = by_opcode!(
     imm: 0x0000_0000_ffff_f000, imm_off: 0x0000_0000_0000_f000,
     dst: 0xffff_ffff_ffff_f000, src_imm: 0x0000_0000_ffff_0f00
 );
 
+/// The table of big-endian files, whose register byte has dst in its high half.
 #[rattlefmt::skip]
 static ZERO_BIG: [u64; 256] = by_opcode!(
     imm: 0x0000_0000_ffff_0f00, imm_off: 0x0000_0000_0000_0f00,

@@ -1,7 +1,8 @@
 //! Validating the complete instructions at the start of a buffer, without making a list of them.
 //!
 //! Most instructions are plain, so runs of plain instructions are validated in a separate loop that
-//! does nothing else.
+//! does nothing else. Nothing is written here: a caller that recodes or decodes the instructions
+//! does so in a second pass, in which none of them can be faulty.
 
 ghost use Rattle.std.specs.Prelude.{◌<◌, ◌/◌, length, IfSome};
 ghost use Rattle.bpf_insn.specs.{FileSteps.ReadsTo, Fronts.IsInsnFront};
