@@ -1,4 +1,7 @@
 //! The line of a BTF type: its ID, its kind, its name, and its fields.
+//!
+//! A line is appended at once, or in two parts around its name. A name can be as long as the string
+//! section, so `btf-show` writes it in pieces between the two parts and holds no complete line.
 
 ghost use Rattle.std.specs.Prelude.{◌≡◌, ◌++◌, codes};
 ghost use Rattle.btf_types.specs.Values.{head_value};
@@ -23,7 +26,9 @@ fn encoding_field(encoding: Encoding) -> &'static str
     }
 }
 
-/// The linkage of a FUNC or VAR (btf.rst sections 2.2.12 and 2.2.14), and the label of its type.
+/// The linkage of a FUNC or VAR (btf.rst sections 2.2.12 and 2.2.14), followed by the label of its
+/// type. The linkage isn't a number, so it is part of the label that [`append_number`] writes
+/// before the next number, which is the type.
 fn linkage_and_label(linkage: Linkage) -> &'static str
     ensures { result.now ≡ codes " " ++ spec.linkage_name linkage ++ codes " type=" }
 {
@@ -34,7 +39,8 @@ fn linkage_and_label(linkage: Linkage) -> &'static str
     }
 }
 
-/// The flag of a tag (btf.rst sections 2.2.17 and 2.2.18), and the label of its type.
+/// The flag of a tag (btf.rst sections 2.2.17 and 2.2.18), followed by the label of its type, as in
+/// [`linkage_and_label`]. With only two values the flag needs no conversion to digits.
 fn flag_and_label(flag: bool) -> &'static str
     ensures { result.now ≡ codes " flag=" ++ spec.flag_text flag ++ codes " type=" }
 {

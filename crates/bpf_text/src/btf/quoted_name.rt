@@ -1,4 +1,8 @@
 //! Names in quotes. Quotes, backslashes and control characters in them are escaped.
+//!
+//! Names are UTF-8 and may contain any character except NUL. Escaping looks at single bytes, since
+//! the bytes of a longer character are all above those that are escaped, and so a name can be cut
+//! anywhere.
 
 ghost use Rattle.std.specs.Prelude.{◌≡◌, ◌<◌};
 ghost use Rattle.std.specs.{Char.digit_char, List.flat_map};

@@ -1,4 +1,9 @@
 //! The listing of a table of BTF types.
+//!
+//! It is in this crate, which therefore uses `btf_types`, because no crate can call the functions
+//! of an executable. The listing is returned as a whole, and names are written out each time they
+//! are used, so it may be many times as long as the file. `btf-show` appends the same lines in
+//! pieces.
 
 ghost use Rattle.std.specs.Prelude.{◌≡◌, ◌<◌, ◌≤◌, length, IfOk};
 ghost use Rattle.btf_types.specs.tables.TableWords.{record_at};

@@ -1,4 +1,9 @@
 //! Faults: why an input isn't a listing.
+//!
+//! The fault of an input is the number of its first faulty line and one of four causes. Neither the
+//! column nor the faulty token is reported. The faults of instructions in bytes are those of
+//! `bpf_insn`. A test compares the names and sentences here with docs/causes.tsv, from which the
+//! pages and other languages have theirs.
 
 ghost use Rattle.std.specs.Prelude.{◌≡◌, Some};
 ghost use Rattle.bpf_text.specs.declared.insn.fault.ListError.TheVariants.{Fault, Memory};

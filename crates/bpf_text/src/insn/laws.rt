@@ -1,4 +1,9 @@
-//! Laws of listings.
+//! Laws of listings: what no single call states, such as that an input lists at most one list of
+//! instructions.
+//!
+//! Each function does nothing: its contract is the law, and cites definitions only. The functions
+//! are public, so that other crates can build on them. They are about listings of instructions,
+//! since type listings are only written.
 
 ghost use Rattle.std.specs.Prelude.{◌≡◌, ℕ, List, All};
 ghost use Rattle.bpf_insn.specs.{declared.insn.Insn.Insn, Table.IsInsn};

@@ -10,7 +10,8 @@ use crate::insn::operand_fields::{address, both, imm, imm64, offset, register, s
 use crate::insn::read_operand::ReadOperand;
 use bpf_insn::{Insn, WideOf};
 
-/// The number of operands that follow a mnemonic.
+/// The number of operands that follow a mnemonic. In the contract, `operand_count` is the
+/// definition in `specs/`, and not this function.
 #[rattlefmt::skip]
 fn operand_count(mnemonic: Mnemonic) -> usize
     ensures { result ≡ operand_count mnemonic }

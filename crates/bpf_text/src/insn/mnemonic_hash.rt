@@ -1,4 +1,8 @@
 //! A perfect hash of the mnemonics, so that the reader finds a mnemonic by one comparison.
+//!
+//! A `match` on 120 strings compiles to a jump table, whose indirect branch is often mispredicted.
+//! All mnemonics have different hashes below 512, so one load and one comparison are enough, and
+//! the table needs 512 bytes. The prover compares it with the definitions of all 120.
 
 ghost use Rattle.std.specs.Prelude.{◌≡◌, ◌<◌, get_or};
 ghost use Rattle.bpf_text.specs.insn.MnemonicHash.{hash_of};
@@ -25,8 +29,8 @@ static INDEX_BY_HASH: [u8; 512] = [
     0, 44, 0, 0, 0, 0, 0, 0, 0, 0, 34, 0, 0, 0, 0, 0, 0, 47,
 ];
 
-/// The index in `ALL` of the mnemonic with the hash of a token, or of any other mnemonic if none has
-/// this hash. Mnemonics don't collide: the factor was found by trying numbers.
+/// The index in `ALL` of the mnemonic with the hash of a token, or of any other mnemonic if none
+/// has this hash. Mnemonics don't collide: the factor was found by trying numbers.
 pub(crate) fn index_of(token: &[u8]) -> usize
     ensures value { result ≡ get_or INDEX_BY_HASH (hash_of token.now) 0 }
     ensures within { result < 120 }

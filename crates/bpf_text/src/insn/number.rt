@@ -1,4 +1,8 @@
 //! Numbers in a listing.
+//!
+//! A numeral is read to its end, however long it is, because whether it is too large depends on the
+//! field that it goes to (`operand_fields.rt`). No field holds 2^64, so from there on the value
+//! doesn't matter: 2^64 stands for all larger numbers, with their sign.
 
 ghost use Rattle.std.specs.Prelude.{ℕ, ◌+◌, ◌*◌, ◌<◌, ◌≤◌, ℤ, ◌≤ℤ◌, pos, IfSome, IfNone};
 ghost use Rattle.std.specs.Str.Parse.{IsNumeral, digits_value};

@@ -2,6 +2,13 @@
 //!
 //! There is one function for each kind of field. It returns `Shape` if the operand is of another
 //! kind, otherwise `Range` if its number is outside the range of the field.
+//!
+//! `Shape` says that no instruction with the mnemonic accepts operands of these kinds, whatever
+//! their numbers. So it is reported even if a number before it is out of range. And `lddw r1, -1`
+//! is `Range`: `lddw` accepts a register and a number, but no negative one.
+//!
+//! Which field an operand goes to is decided in `make.rt`. Numbers have no limit until they get
+//! here (`number.rt`).
 
 ghost use Rattle.bpf_text.specs.insn.OperandFields.{register_field, imm_field, offset_field};
 ghost use Rattle.bpf_text.specs.insn.OperandFields.{imm64_field, source_field, address_field};

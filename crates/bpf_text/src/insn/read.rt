@@ -5,6 +5,11 @@
 //! token is a maximal run of `a` to `z`, `0` to `9` and `_`, or one of `, [ ] + -`. A number is
 //! decimal, or hexadecimal after `0x`. Outside brackets it may follow one `+` or `-`; inside, the
 //! offset is omitted or follows one.
+//!
+//! Lines are found by memchr, and read one at a time: a line becomes its code without a comment
+//! (`token.rt`), a mnemonic (`mnemonic.rt`) with operands (`read_operand.rt`), and an instruction
+//! (`make.rt`). What is done with each instruction is the caller's, so the list and the bytes of a
+//! listing have one reader.
 
 ghost use Rattle.std.specs.Prelude.{◌≡◌, ℕ, ◌<◌, [], ◌∷◌, List, length, false, Err, IfOk, IfSome};
 ghost use Rattle.std.specs.Prelude.{MatchOption, MatchResult};

@@ -1,4 +1,10 @@
 //! The tokens of a line.
+//!
+//! The class of a byte is looked up, which is one load in place of several comparisons. A line is
+//! passed over once to find its first byte that is neither blank nor part of a token. Comments
+//! begin with such a byte, so this is the end of the line's code, or its fault. No line of an
+//! instruction has more than 17 tokens after its mnemonic, so they fit on the stack and reading a
+//! line allocates nothing.
 
 ghost use Rattle.std.specs.Prelude.{◌≡◌, ℕ, ◌<◌, ◌≤◌, false, List, length, map, IsTrue, IfSome};
 ghost use Rattle.std.specs.Prelude.{IfNone, MatchBool};

@@ -33,6 +33,9 @@ const LINE_SIZE: usize = 112;
 
 /// The end of a line: the bytes of the buffer from `start` on. The line is written from its last
 /// byte to its first, since the digits of a number are found in this order.
+///
+/// So each method writes in front of what is already there. What it requires of the length leaves
+/// room for the longest string that it writes: 109 is `LINE_SIZE` less the 3 bytes of `r10`.
 #[derive(Drop)]
 struct Line {
     bytes: [u8; LINE_SIZE],
