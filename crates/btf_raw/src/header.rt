@@ -40,7 +40,8 @@ const TYPES_LIMIT: usize = 33_554_432;
 /// The maximum length of the string section in bytes.
 const STRINGS_LIMIT: usize = 16_777_216;
 
-/// A fault at an offset.
+/// A fault at an offset: of the file, of the string section or, in `records.rt`, of the type
+/// section.
 pub(crate) fn fault(pos: usize, cause: BtfCause) -> BtfFault
     ensures pos { result.pos ≡ pos }
     ensures cause { result.cause ≡ cause }
