@@ -1,4 +1,5 @@
-//! Finds the first fault of a BTF file.
+//! Finds the first fault in the fields of a BTF file, once its header, the ends of its string
+//! section and its framing have none.
 
 pub(crate) mod checks;
 pub(crate) mod fields;

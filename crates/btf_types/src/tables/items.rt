@@ -1,4 +1,5 @@
 //! An iterator over the items of a record.
+
 #![tactic(auto, using(crate::proofs::TableLemmas::WindowSteps::item_windows))]
 
 ghost use Rattle.std.specs.Prelude.{◌≡◌, IfSome, Some, length};

@@ -1,4 +1,8 @@
 //! A table that owns its bytes.
+//!
+//! It is a copy of the two sections, and not of decoded values. So it reads records by the same
+//! code as a view, its names need no allocations of their own, and names that share their bytes in
+//! the file still share them.
 
 ghost use Rattle.std.specs.Prelude.{◌≡◌, MatchResult};
 ghost use Rattle.btf_types.specs.{Denotes.Denotes, tables.Tables.Fails};

@@ -1,5 +1,10 @@
 //! The offsets of a table's records (btf.rst section 2.2), and those of the ends of its long
-//! strings. Both are in one vector, since a table uses only one allocator.
+//! strings. Both are in one vector, since a table uses only one allocator: a vector owns its
+//! allocator, and that of a view need not be `Clone`.
+//!
+//! Records have different lengths and are asked for by ID, so the offset of each is kept, and
+//! nothing else of it. 4 bytes are enough: the type section has at most 2^25 bytes, and the string
+//! section 2^24.
 
 ghost use Rattle.std.specs.Prelude.{◌≡◌, ◌<◌, ◌≤◌, ◌^◌, IfOk, MatchResult, length};
 ghost use Rattle.btf_raw.specs.Header.{HasNulEnds};

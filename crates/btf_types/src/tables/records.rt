@@ -1,4 +1,5 @@
 //! An iterator over the records of a table.
+
 #![tactic(auto, using(crate::proofs::TableLemmas::WindowSteps::record_windows))]
 
 ghost use Rattle.std.specs.Prelude.{◌≡◌, IfSome, Some, length};

@@ -1,5 +1,8 @@
 //! The sections of a file whose framing is valid, and what the checks of one record need of
 //! another. This is read at the other record's offset, so a reference may point forward.
+//!
+//! Only the checks of fields use it (`judge/`). A table, whose fields have been checked, reads its
+//! records by `FileSections`.
 
 ghost use Rattle.std.specs.Prelude.{◌≡◌, length, MatchOption};
 ghost use Rattle.btf_raw.specs.Frames.{IsFrame};

@@ -1,6 +1,11 @@
 //! A table of types that borrows the two sections of a file (btf.rst section 2). Records are
 //! decoded from the sections when they are asked for. A table that keeps its sections implements
 //! [`crate::TypeTable`] by it.
+//!
+//! So a view, an owned table and references to them have one implementation, and the iterators over
+//! records and items need no type parameter. Nothing that was decoded is kept: asking twice decodes
+//! twice. But no call depends on the length of a name, since its end is found by `string_ends.rt`
+//! and its UTF-8 was checked before.
 
 ghost use Rattle.std.specs.Prelude.{◌≡◌, ◌<◌, ◌≤◌, Some, length, slice_get, List, IfSome, IsSome};
 ghost use Rattle.btf_types.specs.Values.{head_value, item_value, TypeRecord};

@@ -1,9 +1,11 @@
 //! Finds the end of a string in the string section (btf.rst section 2.1). A string runs from any
 //! offset, even inside another string, to the next NUL.
 //!
-//! Most strings are short, so the next few bytes are searched first. The ends of long strings are
-//! stored, since any number of names may be suffixes of one long string; otherwise each of them
-//! would cost a search in proportion to its length.
+//! Most strings are short, so the next 128 bytes are searched first, by memchr, which compares many
+//! bytes at once. If the end isn't there, the string is long. Any number of names may be suffixes
+//! of one long string, and each would cost a search in proportion to its length. Therefore the ends
+//! of long strings are stored in ascending order, and found by a binary search. To store those of
+//! short strings too would cost four bytes for each, and a binary search for each name.
 
 ghost use Rattle.std.specs.Prelude.{◌≡◌, ◌≢◌, ◌<◌, ◌^◌, ◌≤◌, ◌+◌, ℕ, MatchOption};
 ghost use Rattle.std.specs.Prelude.{OnOk, length, take, drop, slice_index};

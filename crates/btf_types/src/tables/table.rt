@@ -1,4 +1,9 @@
 //! The interface of all tables of types.
+//!
+//! A user may implement it for types of any origin; `bpf_canon` writes them and `bpf_text` lists
+//! them. Such a table has only values, and its names are strings. A table that was read from a file
+//! also returns its sections, by `sections`, so that `bpf_canon` can tell names by their offsets
+//! and copy records without decoding them. For this, string offsets are visible above this crate.
 
 ghost use Rattle.std.specs.Prelude.{◌≡◌, ◌<◌, ◌≤◌, List, Some, IfSome, length, slice_get};
 ghost use Rattle.btf_types.specs.{Good.IsGood, Reading.record_of, Reading.records_at};

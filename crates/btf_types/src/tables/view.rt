@@ -1,4 +1,9 @@
-//! A table that borrows the file it was read from.
+//! A table that borrows the file it was read from, and the call that reads the file, which the
+//! owned table uses too.
+//!
+//! Each phase of the checks relies on those before it: the header says where the sections are,
+//! framing finds the records, and the checks of fields read other records. Checks below this file
+//! know only their own section, so the offset of a fault is moved to the file here.
 
 ghost use Rattle.std.specs.Prelude.{◌≡◌, ◌<◌, ◌≤◌, Some, MatchResult, length, slice_get};
 ghost use Rattle.btf_types.specs.{Denotes.Denotes, tables.Windows.items_of};
@@ -23,6 +28,27 @@ use std::marker::Model;
 /// asked for.
 ///
 /// It borrows the file and keeps the offset of each record. No name is copied.
+///
+/// ```text
+/// byte    0        hdr_len                hdr_len + type_len       length of the file
+///         | header | type section         | string section         |
+///         |        | record | record | .. | NUL | string NUL | ..  |
+///
+/// word    0          1      2      3          4            5        6          7      8
+/// STRUCT  | name_off | info | size | name_off | type       | offset | name_off | type | offset |
+///         | as in each record      | item 0                         | item 1                   |
+/// ARRAY   | name_off | info | 0    | type     | index_type | nelems |
+/// INT     | name_off | info | size | encoding |
+/// ```
+///
+/// Either section may be the first one. A record consists of 32-bit words. The first three are
+/// those of each kind, and the third one is a size, a type or 0. The kind and vlen, which are in
+/// info, determine what follows: more fields of the record, or its items.
+///
+/// Offsets have different starts. type_off and str_off of the header count from hdr_len. The
+/// offsets of records that are kept here count from the start of the type section, and name_off
+/// counts from the start of the string section. The offset of a fault counts from the start of the
+/// file.
 #[derive(Drop)]
 pub struct BtfView<'a, A: Allocator = Global> {
     pub(crate) order: Order,
