@@ -1,4 +1,4 @@
-//! BTF from a source to a sink, and two BTF files compared.
+//! Canonical bytes of BTF: of a file, of a table of types, from a source to a sink, and comparison.
 
 pub mod btf_laws;
 pub(crate) mod canon;

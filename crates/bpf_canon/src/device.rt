@@ -1,4 +1,10 @@
-//! Sources and sinks of bytes.
+//! Sources and sinks of bytes, which an engine reads and writes.
+//!
+//! They have traits of their own, whose contracts count the calls that failed; those of `Read` and
+//! `Write` in `std` don't say when a call fails. So the contracts of the engines can say that each
+//! failure is reported, and nothing else as one. `standard.rt` makes devices of readers and
+//! writers, and `memory.rt` of slices and vectors.
+
 ghost use Rattle.std.specs.Prelude.{◌≡◌, ◌<◌, ◌≤◌, ◌+◌, ℕ, List, Option, length, take, IfOk, OnOk};
 ghost use Rattle.std.specs.{Prelude.IfErr, Io.ReadsAtMost, Io.WritesAtMost};
 ghost use Rattle.std.specs.Io.KnownBytes.{Consumes, IsAtEnd, ReadConsumes, Appends, WriteAppends};

@@ -1,4 +1,10 @@
 //! The errors and writes that the engines for instructions and for BTF share.
+//!
+//! An engine, [`run_insns`](crate::run_insns) or [`run_btf`](crate::run_btf), reads a source to its
+//! end and writes to a sink. Both stop for the same causes, and only the type of a fault differs,
+//! which is a parameter here. The error of a comparison also says which of its two inputs has the
+//! fault. Why a device failed isn't kept.
+
 ghost use Rattle.std.specs.Prelude.{◌≡◌, ◌<◌, ◌+◌, length, IfOk, IfErr, OnOk};
 ghost use Rattle.std.specs.Io.KnownBytes.{Appends};
 ghost use Rattle.bpf_canon.specs.declared.engine.RunCause.TheVariants as run;

@@ -1,4 +1,5 @@
 //! Canonical bytes of eBPF instructions and of BTF, for byte slices and from a source to a sink.
+
 #![tactic(auto)]
 
 mod btf;

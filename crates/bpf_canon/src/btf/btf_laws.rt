@@ -2,6 +2,7 @@
 //!
 //! Each function does nothing. Its contract is the law, for all byte sequences and all lists of
 //! records.
+
 ghost use Rattle.std.specs.Prelude.{ℕ, List};
 ghost use Rattle.btf_types.specs.strings.TableLaws.{SectionsAreCut, NamesEndStrings, HostsEndApart};
 ghost use Rattle.bpf_canon.specs.btf.BtfLaws as spec;

@@ -1,4 +1,9 @@
 //! Canonical bytes of BTF files, and their comparison.
+//!
+//! Files are compared by their canonical bytes. Comparing records one by one would need less
+//! memory, but each use of a name would be compared, and a file may use one long name so often that
+//! this lasted hours.
+
 ghost use Rattle.std.specs.Prelude.{◌≡◌, List, IfOk, IfErr, MatchResult};
 ghost use Rattle.bpf_words.specs.declared.Order.TheVariants.{Little};
 ghost use Rattle.btf_types.specs.{Values.TypeRecord, Denotes.Denotes, tables.Tables.Fails};

@@ -2,8 +2,15 @@
 //! Names share suffixes there: each name is a suffix of its host.
 //!
 //! If the distinct names are sorted by their reversed bytes, a name that is a suffix of any other
-//! name is a suffix of the next one, and both have the same host. Therefore each name is compared
-//! only with the next one.
+//! name is a suffix of the next one, and both have the same host (law `next_tells_host`). Therefore
+//! each name is compared only with the next one.
+//!
+//! Such a table, which a user implements, has only strings. So they are hashed, in a set that keeps
+//! the order of first use. Copying them into a section, for which `strings.rt` finds hosts without
+//! hashing, isn't possible: they may share their bytes in memory, and their copies could need 10^13
+//! bytes. The seed of the hash is fixed, so whoever chooses the names of such a table can make them
+//! collide and look-ups slow. The names of `BtfView` and `Btf` are never hashed.
+
 ghost use Rattle.std.specs.Prelude.{◌≡◌, ◌<◌, ◌≤◌, ◌^◌, ◌++◌, IfOk, OnOk, length};
 ghost use Rattle.btf_types.specs.Names.{kept, names, record_names, table_of};
 ghost use Rattle.btf_types.specs.strings.SharedNames.{hosts_of, shared_among};
@@ -132,8 +139,9 @@ fn placed_hosts<A: Allocator>(
 #[derive(Drop)]
 pub(crate) struct SharedNames<'a, A: Allocator> {
     names: NameSet<'a, A>,
-    // the index of each name's host, and the offset of each host
+    /// The index of each name's host.
     host_indices: Vec<usize, A>,
+    /// The offset of each host in the string table.
     places: Vec<u32, A>,
     table_len: u32,
 }

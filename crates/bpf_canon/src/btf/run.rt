@@ -1,4 +1,8 @@
 //! BTF from a source to a sink.
+//!
+//! Unlike instructions, BTF can't be written while it is read: whether it is valid, and the new
+//! offset of its first name, may depend on its last byte. So the entire input is kept.
+
 ghost use Rattle.std.specs.Prelude.{◌≡◌, ◌<◌, ◌+◌, IfOk, IfErr, OnOk};
 ghost use Rattle.bpf_canon.specs.Engine.{devices, counts_read, counts_write};
 ghost use Rattle.bpf_canon.specs.btf.RunBtf.{RanBtf, StopsBtf};

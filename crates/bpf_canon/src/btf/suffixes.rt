@@ -1,4 +1,11 @@
-//! Order of strings by their reversed bytes.
+//! Order of strings by their reversed bytes, which both algorithms for the string table use. In
+//! this order a string comes directly before those that end with it.
+//!
+//! Eight bytes are compared at once, as one number. The last byte of a string is the most
+//! significant one of its key, so the order of keys is that of reversed strings. The missing bytes
+//! of a shorter string count as 0. No byte is less, so a string never comes after one that ends
+//! with it; if the keys are equal too, the lengths decide.
+
 ghost use Rattle.std.specs.Prelude.{◌≡◌, ◌<◌, ℕ, slice_index_or};
 ghost use Rattle.btf_types.specs.strings.SharedNames.{tail_cmp};
 ghost use Rattle.bpf_canon.specs.btf.strings.SuffixKeys as spec;

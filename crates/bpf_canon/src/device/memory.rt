@@ -1,4 +1,5 @@
 //! In-memory devices, which read and write in pieces and fail from a chosen call on.
+
 ghost use Rattle.std.specs.Prelude.{◌≡◌, ◌≢◌, ◌<◌, ◌↔◌, Some, length, min, IsErr, IsOk, IfOk};
 ghost use Rattle.std.specs.Io.{ReadsAtMost, WritesAtMost};
 ghost use Rattle.std.specs.Io.KnownBytes.{ReadConsumes, WriteAppends};
@@ -13,7 +14,7 @@ use std::fmt;
 pub struct MemSource<'a> {
     rest: &'a [u8],
     piece: usize,
-    // the number of reads that still succeed, if not all do
+    /// The number of reads that still succeed, if not all do.
     good_reads: Option<u64>,
     failed_reads: u64,
     ghost positive: { 0 < piece },
@@ -79,7 +80,7 @@ impl ByteSource for MemSource<'_> {
 pub struct MemSink<'a, A: Allocator = Global> {
     out: &'a mut Vec<u8, A>,
     piece: usize,
-    // the number of writes that still succeed, if not all do
+    /// The number of writes that still succeed, if not all do.
     good_writes: Option<u64>,
     failed_writes: u64,
     ghost positive: { 0 < piece },

@@ -1,4 +1,9 @@
 //! Devices over any reader or writer, for example the standard streams.
+//!
+//! The contracts of `Read` and `Write` don't say when a call fails, so a device passes the result
+//! of the call to `answer_read` or `answer_write`, whose contract says what is returned and counted
+//! for each result. No call is repeated, even if it was interrupted, and nothing is buffered.
+
 ghost use Rattle.std.specs.Prelude.{◌≡◌, ◌<◌};
 ghost use Rattle.bpf_canon.specs.device.Device.{AnswersRead, AnswersWrite};
 

@@ -1,4 +1,5 @@
 //! Canonical bytes of instruction files, their comparison, and the encoding of instructions.
+
 ghost use Rattle.std.specs.Prelude.{◌≡◌, List, IfOk, IfErr, MatchResult, ◌≢◌, ◌↔◌, Err, IsTrue};
 ghost use Rattle.bpf_words.specs.declared.Order.{Order, TheVariants.Little};
 ghost use Rattle.bpf_insn.specs.{declared.insn.Insn.Insn, Spelling.InsnFile, Spelling.file_of};
@@ -103,7 +104,7 @@ pub fn same_insns<A: Allocator>(
     if let Some(fault) = first_fault(order_a, a) {
         return Err(SideError::First(fault));
     }
-    // a file with the same instructions as a valid one is valid, and isn't checked again
+    // A file with the same instructions as a valid one is valid, and isn't checked again.
     if is_recoded(order_a, a, order_b, b) {
         return Ok(true);
     }
@@ -115,6 +116,9 @@ pub fn same_insns<A: Allocator>(
 
 /// Whether `b`, in the byte order `order_b`, has the instructions of `a` in the byte order
 /// `order_a`.
+///
+/// The bytes are compared, and neither file is decoded or copied: an instruction has only one
+/// encoding in each byte order.
 fn is_recoded(order_a: Order, a: &[u8], order_b: Order, b: &[u8]) -> bool
     ensures { (insns : List Insn) → InsnFile order_a a.now insns
         → (IsTrue result ↔ (b.now ≡ file_of order_b insns)) }
@@ -122,7 +126,7 @@ fn is_recoded(order_a: Order, a: &[u8], order_b: Order, b: &[u8]) -> bool
     if order_a == order_b {
         return a == b;
     }
-    // the slots of `b` have to be those of `a` in the other byte order
+    // The slots of `b` have to be those of `a` in the other byte order.
     let mut left = a;
     let mut right = b;
     'slots: while let Some((slot, following)) = left.split_first_chunk::<8>() {

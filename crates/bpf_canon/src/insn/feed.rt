@@ -1,4 +1,10 @@
 //! Instructions from a stream in pieces.
+//!
+//! A piece may end inside an instruction, whose bytes, fewer than 16, are held until the next
+//! piece. The rest of a piece isn't copied before it is read: only the instruction that began in an
+//! earlier piece is put together first. The capacity for all that may be written is reserved at the
+//! start, so if memory is refused, nothing has changed and the piece can be fed again.
+
 ghost use Rattle.std.specs.Prelude.{◌≡◌, ◌<◌, ◌≤◌, ◌+◌, ◌++◌, ℕ, List, [], None, length, take};
 ghost use Rattle.std.specs.Prelude.{vec_len, vec_capacity, IsErrOf, IsOk, IfSome, IsNone, ⊤};
 ghost use Rattle.bpf_words.specs.declared.Order.{Order};
@@ -16,13 +22,19 @@ use std::marker::Model;
 /// soon as it is complete. It holds fewer than 16 bytes of the stream.
 #[derive(Debug, Drop)]
 pub struct InsnFeed {
+    /// The byte order of the stream.
     order: Order,
+    /// The byte order of what is written.
     to: Order,
-    // begins with the bytes of the last, incomplete instruction
+    /// Begins with the bytes of the last, incomplete instruction.
     held: [u8; 16],
+    /// The number of these bytes.
     held_len: usize,
+    /// The length of the stream so far in bytes.
     fed: u64,
+    /// The number of complete instructions so far.
     count: u64,
+    /// The fault of the stream, if there is one so far.
     fault: Option<SlotFault>,
 }
 

@@ -4,6 +4,12 @@
 //! The two byte orders differ in the register byte and in the bytes of the offset and the
 //! immediate. In the second slot of a wide load the opcode, registers and offset are zero.
 //! Therefore every 8-byte slot is recoded in the same way.
+//!
+//! Checking and recoding are two passes. The first finds where the complete instructions end, and
+//! makes no values (`insn_front`). Then all their bytes are copied at once and, if the byte orders
+//! differ, rewritten in place by masks and shifts. That loop has no branch for what an instruction
+//! is, so compilers vectorise it.
+
 ghost use Rattle.std.specs.Prelude.{◌≡◌, ◌≢◌, ◌<◌, ◌≤◌, ◌+◌, ◌*◌, ◌/◌, ◌%◌, ◌++◌, List, Some, None};
 ghost use Rattle.std.specs.Prelude.{length, take, vec_len, vec_capacity};
 ghost use Rattle.bpf_words.specs.declared.Order.{Order};

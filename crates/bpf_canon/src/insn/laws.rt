@@ -1,4 +1,5 @@
-//! Laws of canonical bytes.
+//! Laws of canonical bytes of instructions. Those of BTF are in `btf_laws.rt`.
+
 ghost use Rattle.bpf_canon.specs.insn.Canonical as spec;
 
 /// The canonical bytes of instructions are a valid file with these instructions.

@@ -1,4 +1,5 @@
 //! Instructions from a source to a sink.
+
 ghost use Rattle.std.specs.Prelude.{◌≡◌, ◌<◌, ◌≤◌, ◌+◌, length, IfOk, IfErr, IsNone, OnOk};
 ghost use Rattle.bpf_canon.specs.Engine.{devices, counts_read, counts_write};
 ghost use Rattle.bpf_canon.specs.insn.{Run.RanWhole, Run.Stops, Passed.Passed, Passed.PassStops};

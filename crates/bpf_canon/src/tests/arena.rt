@@ -1,6 +1,7 @@
 //! Arenas of one chunk with a given number of free bytes, and what calls over them returned.
 //!
 //! A test gives a call 0 bytes, 1 byte, and so on. Each growth that needs more than the ones before it therefore fails once.
+
 use super::expect::holds;
 use bumpalo::Bump;
 use std::alloc::Global;

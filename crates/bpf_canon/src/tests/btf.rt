@@ -1,4 +1,5 @@
 //! Canonical bytes and comparison of BTF files.
+
 use super::btf_files::{
     BIG_INT, BIT_FIELD, BtfFile, EMPTY, ENUM, FAULTY, INT, LOOSE_INT, STRINGS_FIRST, WIDE_OFFSET,
     worked_files,

@@ -1,4 +1,5 @@
 //! The engine on BTF over devices that move pieces, are about as long as the limit, and fail.
+
 ghost use Rattle.std.specs.Prelude.{None, ℕ, List};
 
 use super::btf_files::{BIG_INT, BtfFile, FAULTY, INT, worked_files};

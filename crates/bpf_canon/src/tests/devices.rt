@@ -1,4 +1,5 @@
 //! Devices over memory and over readers and writers, and the texts of the errors.
+
 use super::expect::{equal, equal_bytes};
 use crate::{
     ByteSink, ByteSource, DeviceFailed, MemSink, MemSource, ReadError, ReaderSource, RunCause,

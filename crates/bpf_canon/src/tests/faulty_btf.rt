@@ -1,4 +1,5 @@
 //! BTF files with their first faults: at least one for each cause that a file can have.
+
 use btf_raw::{BtfCause, BtfFault};
 
 /// A BTF file, and its first fault.

@@ -1,4 +1,5 @@
 //! Instructions in pieces.
+
 use super::expect::{equal, equal_bytes, holds};
 use super::samples::{EXIT, FAULT_OF_FAULTY, FAULTY, InsnFile, WIDE, insn_files};
 use crate::InsnFeed;

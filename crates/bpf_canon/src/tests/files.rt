@@ -1,4 +1,5 @@
 //! Canonical bytes and comparison of instruction files.
+
 use super::expect::{equal, equal_bytes, holds};
 use super::samples::{EXIT, InsnFile, insn_files};
 use crate::{SideError, canon_insns, recode_insns, same_insns, write_insns};

@@ -1,4 +1,5 @@
 //! The devices of a run of an engine, over memory.
+
 use crate::{MemSink, MemSource, RunError, run_btf, run_insns};
 use bpf_insn::{Order, SlotFault};
 use btf_raw::BtfFault;

@@ -1,4 +1,5 @@
 //! Calls with ample memory on the largest files that the limits allow.
+
 use super::expect::{equal, holds};
 use crate::{
     BTF_LIMIT, INSN_LIMIT, InsnFeed, MemSink, MemSource, RunCause, RunError, SideError, canon_btf,

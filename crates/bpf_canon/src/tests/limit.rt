@@ -1,4 +1,5 @@
 //! Inputs about as long as the limit, and endless ones, over devices without known bytes.
+
 ghost use Rattle.std.specs.Prelude.{None, ℕ, List};
 
 use super::expect::equal;

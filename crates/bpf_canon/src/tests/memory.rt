@@ -1,4 +1,5 @@
 //! Each growth of the calls on instructions fails in turn.
+
 use super::arena::{ROOM, Tally, leave};
 use super::expect::{equal, equal_bytes, holds};
 use crate::{

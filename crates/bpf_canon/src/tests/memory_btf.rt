@@ -1,4 +1,5 @@
 //! Each growth of the calls on BTF fails in turn. The files have 26 types with 28 names, more than are sorted in place.
+
 use super::arena::Tally;
 use super::btf_files::{BIG_INT, LOOSE_INT};
 use super::compiled_types::{FLOW_TABLE_BIG, FLOW_TABLE_LITTLE};

@@ -1,4 +1,5 @@
 //! A table of types as a user may write one, which counts its calls.
+
 use btf_types::{Head, Item, TypeTable};
 use std::cell::Cell;
 

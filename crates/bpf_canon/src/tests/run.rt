@@ -1,4 +1,5 @@
 //! The engine on instructions over devices that move pieces, and fail.
+
 use super::expect::{equal, equal_bytes};
 use super::fused_devices::FusedDevices;
 use super::samples::{EXIT, FAULT_OF_FAULTY, FAULTY, InsnFile, insn_files};

@@ -1,4 +1,5 @@
 //! Instruction files with their canonical bytes or their faults (RFC 9669 sections 3 to 5).
+
 use super::compiled_programs::{
     HASH_WORDS_BIG, HASH_WORDS_LITTLE, PACKET_FILTER_BIG, PACKET_FILTER_LITTLE,
 };

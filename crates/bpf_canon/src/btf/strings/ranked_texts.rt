@@ -1,5 +1,16 @@
 //! The longest used strings of a section, sorted by their reversed bytes, and what their ranks
 //! determine: common suffixes and hosts.
+//!
+//! Strings that end with the same bytes have consecutive ranks. So which strings end with a name,
+//! and which is its host, follows from the lengths of the suffixes that adjacent strings have in
+//! common (law `common_tails_tell_hosts`), and no others are compared.
+//!
+//! A string is kept with its last 16 bytes as two numbers, its keys. They usually decide a
+//! comparison, and then the section isn't read, in which strings with adjacent ranks may be far
+//! apart. So the length of a common suffix is found at three levels: `common_bytes` compares two
+//! keys, `common_suffix` the bytes of two strings, and `common_of` the keys of two strings and, if
+//! these are equal, the bytes. In contracts the length is `common_tail`.
+
 ghost use Rattle.std.specs.Prelude.{◌≡◌, ◌+◌, ◌*◌, ◌^◌, ◌<◌, ◌≤◌, ◌-◌, ℕ, IfOk, length};
 ghost use Rattle.std.specs.{Prelude.slice_index, Ordering.on, List.All};
 ghost use Rattle.std.specs.List.Sorted.{IsPermutation, IsSorted};
@@ -16,13 +27,16 @@ use btf_raw::text_end;
 use std::alloc::{AllocError, Allocator};
 use std::cmp::Ordering;
 
-/// A string of a section, with the keys of its last 16 bytes.
+/// A string of a section, with the keys of its last 16 bytes (`suffix_key`).
 #[derive(Clone, Copy)]
 pub(crate) struct SectionText {
+    /// The key of the string.
     pub(crate) key: u64,
     /// The key of the string without its last eight bytes.
     pub(crate) before: u64,
+    /// Its offset in the section.
     pub(crate) start: u32,
+    /// The offset of its NUL.
     pub(crate) end: u32,
 }
 
@@ -73,7 +87,8 @@ fn compare(section: &[u8], a: &SectionText, b: &SectionText) -> Ordering
     compare_texts(section, a, b)
 }
 
-/// Sorts strings by their reversed bytes.
+/// Sorts strings by their reversed bytes. Equal strings at different offsets may be in either
+/// order: they have the same host.
 pub(crate) fn sort_texts<A: Allocator>(section: &[u8], list: &mut Vec<SectionText, A>)
     requires { All (HasKey section.now) list.old.items }
     ensures permutation { IsPermutation list.old.items list.new.items }
@@ -120,9 +135,9 @@ pub(crate) fn longest_texts<A: Allocator>(
 pub(crate) struct RankedTexts<'a, A: Allocator> {
     pub(crate) section: &'a [u8],
     pub(crate) texts: Vec<SectionText, A>,
-    // the length of the common suffix of each string and the one before it
+    /// The length of the common suffix of each string and the one before it.
     pub(crate) common: Vec<u32, A>,
-    // for each rank, the first rank from it on whose string isn't a suffix of the next one
+    /// For each rank, the first rank from it on whose string isn't a suffix of the next one.
     pub(crate) host_ranks: Vec<u32, A>,
 }
 
@@ -181,6 +196,10 @@ fn common_bytes(a: u64, b: u64) -> usize
 
 /// The length of the longest common suffix of two strings of a section. Usually it follows from
 /// their keys, and the section isn't read.
+///
+/// A key has 0 in place of the bytes that its string lacks, and these may be counted as equal too.
+/// But bytes that both strings have are compared as they are, so the common suffix is the smallest
+/// of the count and the two lengths.
 fn common_of(section: &[u8], a: &SectionText, b: &SectionText) -> usize
     requires first { HasKey section.now a.now }
     requires second { HasKey section.now b.now }
@@ -220,7 +239,8 @@ fn common_suffixes<A: Allocator>(
     Ok(common)
 }
 
-/// The next host of each rank.
+/// The next host of each rank: the first one from it on whose string isn't a suffix of the next. It
+/// is a suffix if their common suffix is as long as the string itself, so no bytes are compared.
 fn next_hosts<A: Allocator>(
     alloc: A,
     section: &[u8],
@@ -244,7 +264,7 @@ fn next_hosts<A: Allocator>(
 }
 
 /// For each rank the last rank before it with a shorter common suffix, or the rank itself if its
-/// common suffix is empty.
+/// common suffix is empty. [`first_rank`] follows these.
 pub(crate) fn lower_ranks<A: Allocator>(alloc: A, common: &[u32]) -> Result<Vec<u32, A>, AllocError>
     requires first { slice_index common.now 0 ≡ 0 }
     requires few { length common.now < 2 ^ 32 }
@@ -263,6 +283,9 @@ pub(crate) fn lower_ranks<A: Allocator>(alloc: A, common: &[u32]) -> Result<Vec<
 }
 
 /// The first rank `r` such that the strings of the ranks `r..=from` share a suffix of `len` bytes.
+///
+/// It goes back over lower ranks only, whose common suffixes are shorter and shorter, so it takes
+/// at most as many steps as the string of `from` has bytes.
 pub(crate) fn first_rank(common: &[u32], lower: &[u32], from: usize, len: u32) -> usize
     requires lower { AreLower common.now lower.now }
     requires inside { from < length lower.now }

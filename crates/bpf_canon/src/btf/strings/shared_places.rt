@@ -1,6 +1,11 @@
 //! The offsets of names in the string table in which they share suffixes (btf.rst section 2.1): the
 //! host of each name, found by the ranks of the longest strings, and the offsets of hosts in the
 //! table, in the order of first use.
+//!
+//! All offsets are computed before the first record is written, because the host of its name may be
+//! used last. The table is never longer than the section (law `spelled_table_fits` of `btf_types`),
+//! so an offset in it fits into a name_off.
+
 ghost use Rattle.std.specs.Prelude.{◌≡◌, ◌<◌, ◌≤◌, ◌^◌, ◌++◌, length, map, IfOk, OnOk};
 ghost use Rattle.std.specs.{List.All, List.Contains};
 ghost use Rattle.btf_raw.specs.Header.{HasNulEnds};
@@ -17,6 +22,9 @@ use std::alloc::{AllocError, Allocator};
 use std::marker::Model;
 
 /// The position of a name in its host. All is 0 if it isn't found yet, or the name is empty.
+///
+/// The number of the host among the used offsets would be simpler to read than its rank, but
+/// finding that number takes a second count of bits for each name.
 #[derive(Clone, Copy, Default)]
 struct InHost {
     /// The rank of the host.
@@ -27,9 +35,12 @@ struct InHost {
     len: u32,
 }
 
-/// Finds the hosts of the used offsets within the string of a rank. The strings at later offsets
-/// are shorter, so each search for the first rank with such a suffix begins at the rank found for
-/// the previous offset.
+/// Finds the hosts of the used offsets within the string of a rank.
+///
+/// The host of a name needn't be that of the string in which the file has it: it is the first host
+/// in sorted order that ends with the name. So the first rank whose string ends with it is searched
+/// for. The names at later offsets are shorter, so each search begins at the rank found for the
+/// previous offset, and all searches within a string together take no more steps than it has bytes.
 fn find_within<A: Allocator>(
     uses: &UsedOffsets<A>,
     ranked: &RankedTexts<'_, A>,
@@ -57,9 +68,14 @@ fn find_within<A: Allocator>(
     }
 }
 
-/// Finds the hosts of the ranks before the first one whose string is equal to that of the previous
-/// rank, or has a name that begins inside it; most files have no such rank. The host of a string in
-/// these ranks is the next host from its rank on. Returns the number of these ranks.
+/// Finds the hosts of the first ranks without a search, and returns the number of these ranks.
+///
+/// In most files each string is used from its start only, and no two strings are equal. The first
+/// rank whose string ends with such a string is its own, so its host is the next host from there
+/// on. The loop stops at the first string that is equal to the one before it, since then its own
+/// rank isn't the first, or that has another name inside it, whose first rank has to be searched
+/// for. From there on [`find_within`] is needed, and for it the lower ranks of all strings, which
+/// most files do without.
 fn find_alone<A: Allocator>(
     uses: &UsedOffsets<A>,
     ranked: &RankedTexts<'_, A>,
@@ -107,7 +123,8 @@ fn find_hosts<A: Allocator + Copy>(
 }
 
 /// Consecutive strings of a section, each with its NUL: the offset of the first string, and that of
-/// the NUL of the last.
+/// the NUL of the last. If all strings of a file are hosts, in the order of first use, the table is
+/// one span and is copied at once.
 #[derive(Clone, Copy)]
 struct Span {
     start: u32,
@@ -117,11 +134,11 @@ struct Span {
 /// The table of hosts: a NUL, then each host with its NUL.
 #[derive(Drop)]
 struct HostPlaces<A: Allocator> {
-    // the offset in the table of the string with each rank, or 0 if not assigned yet
+    /// The offset in the table of the string with each rank, or 0 if not assigned yet.
     by_rank: Vec<u32, A>,
-    // the hosts as spans of the section, in the order of the table
+    /// The hosts as spans of the section, in the order of the table.
     spans: Vec<Span, A>,
-    // the length of the table in bytes
+    /// The length of the table in bytes.
     len: u32,
 }
 
@@ -183,9 +200,9 @@ fn place_hosts<A: Allocator + Copy>(
 pub(crate) struct SharedPlaces<'a, A: Allocator> {
     strings: &'a [u8],
     used: UsedOffsets<A>,
-    // the new offset of the name at each used offset, by the offset's number
+    /// The new offset of the name at each used offset, by the offset's number.
     places: Vec<u32, A>,
-    // the hosts in the order of the table
+    /// The hosts in the order of the table.
     spans: Vec<Span, A>,
     table_len: u32,
 }
@@ -202,7 +219,8 @@ impl<'a, A: Allocator> Model for SharedPlaces<'a, A> {
 }
 
 /// The new offset for each used offset: that of its host plus the number of bytes of the host
-/// before the name, or 0 for the empty name.
+/// before the name, or 0 for the empty name. It is computed once for each name and not at each use,
+/// and kept in 4 bytes, where `InHost` has 12.
 fn name_places<A: Allocator>(
     alloc: A,
     in_hosts: &[InHost],
@@ -256,7 +274,8 @@ impl<'a, A: Allocator + Copy> SharedPlaces<'a, A> {
 }
 
 impl<A: Allocator> SharedPlaces<'_, A> {
-    /// The new offset of the name at a used offset.
+    /// The new offset of the name at a used offset. The index is the number of that offset, which
+    /// needs two loads and a count of bits, and no search.
     pub(crate) fn place(&self, off: u32) -> u32
         requires { Contains self.now.offsets off }
         ensures { result ≡ shared_place (placed_texts self.now) (text_from self.now.strings off) }

@@ -1,5 +1,13 @@
 //! The used offsets of a string section: the distinct offsets at which names begin, in the order of
 //! first use, and their numbers in ascending order.
+//!
+//! Names are told apart by their offsets, so their bytes aren't looked at here; equal strings at
+//! two offsets are found later, by their ranks. A bit for each byte of the section marks the
+//! offsets in use. The number of an offset is a stored count for its 64-bit element plus a count of
+//! bits. So what is known of a name is kept in a vector with an element for each used offset, which
+//! is found without a search or a hash, and is shorter than one with an element for each byte of
+//! the section.
+
 ghost use Rattle.std.specs.Prelude.{◌≡◌, ◌≢◌, ◌/◌, ◌<◌, ◌≤◌, ◌^◌, ℕ, true, false, length};
 ghost use Rattle.std.specs.Prelude.{slice_index, IfOk, OnOk};
 ghost use Rattle.bpf_canon.specs.btf.strings.FirstUses.{AreMarked, mark_of, noted, nothing_noted};
@@ -78,7 +86,7 @@ pub(crate) struct UsedOffsets<A: Allocator> {
     section_len: usize,
     marks: Vec<u64, A>,
     offsets: Vec<u32, A>,
-    // for each 64-bit element of the bit set, the number of used offsets before it
+    /// For each 64-bit element of the bit set, the number of used offsets before it.
     before: Vec<u32, A>,
 }
 

@@ -1,4 +1,5 @@
 //! The encoding of the header of a file and of the head of a record (btf.rst section 2).
+
 ghost use Rattle.std.specs.Prelude.{◌≡◌, ◌<◌, ◌^◌, ◌≤◌, ◌++◌, OnOk, length};
 ghost use Rattle.btf_raw.specs.{Header.header, Frames.bytes_of};
 ghost use Rattle.btf_types.specs.Values.{head_value};
@@ -15,7 +16,11 @@ use btf_types::Head;
 use byteorder::{BigEndian, ByteOrder, LittleEndian};
 use std::alloc::{AllocError, Allocator};
 
-/// The number of a record's kind, and its third word: a size, a type or 0 (btf.rst section 2.2).
+/// The number of a record's kind, and its third word (btf.rst section 2.2).
+///
+/// The standard declares this word as a union of size and type. It is named by its position here,
+/// since for an ARRAY or FWD it is neither and has to be 0. Both numbers are found by one match, so
+/// that it has a row for each kind.
 pub(crate) fn kind_and_third(head: Head<'_>) -> (u8, u32)
     ensures kind { result.0 ≡ spec.kind_number (head_value head.entry) }
     ensures third { result.1 ≡ spec.head_third (head_value head.entry) }

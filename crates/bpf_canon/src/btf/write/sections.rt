@@ -1,5 +1,11 @@
 //! Canonical bytes from the sections that a type table keeps (btf.rst section 2): the names are
 //! noted by their offsets only, and the records are copied with new offsets of their names.
+//!
+//! The records are read twice, since a new offset depends on all names: first the names are noted,
+//! then the words are written. No value is made of a record: its words are read in the byte order
+//! of the file, and written in the byte order `to`. Apart from the offsets of names, only the
+//! kind_flag of a STRUCT or UNION may change.
+
 ghost use Rattle.std.specs.Prelude.{◌≡◌, ◌+◌, ◌^◌, ◌<◌, ◌++◌, [], ℕ, List, IfOk, OnOk, length};
 ghost use Rattle.std.specs.{Prelude.drop, Prelude.map, List.All, List.Contains};
 ghost use Rattle.btf_raw.specs.Frames.{IsFrame, bytes_of, section_of};
@@ -61,7 +67,7 @@ fn noted_names<A: Allocator + Copy>(
 }
 
 /// The canonical info word of a record: the kind_flag of a STRUCT or UNION is 0 if no member has a
-/// width.
+/// width, since then the same members can be encoded with either.
 fn canonical_info(this: &Record) -> u32
     requires { IsFrame this.now }
     ensures { (strings : List ℕ) → ReadsRecord strings this.now

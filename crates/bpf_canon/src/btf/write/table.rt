@@ -1,4 +1,10 @@
 //! Canonical bytes of a type table (btf.rst section 2).
+//!
+//! A table that exposes its sections is written from them (`sections.rt`). Any other is written
+//! here, from its heads and items, whose names are strings. Both write the bytes of the definition
+//! `canonical`. Only an allocation can fail: by its contract, a table has valid records, which fit
+//! into a file.
+
 ghost use Rattle.std.specs.Prelude.{◌≡◌, ◌<◌, ◌≤◌, ◌^◌, ◌++◌, IfOk, OnOk, length};
 ghost use Rattle.btf_raw.specs.Frames.{bytes_of};
 ghost use Rattle.btf_types.specs.Values.{head_value, item_value};
