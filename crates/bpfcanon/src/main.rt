@@ -1,4 +1,5 @@
 //! Reads, lists and normalises eBPF instructions and BTF, from standard input to standard output.
+
 #![tactic(auto)]
 
 ghost use Rattle.std.specs.Prelude.{◌≡◌, ◌<◌, ◌++◌, codes, length, map, string_bytes};

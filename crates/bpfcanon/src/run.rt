@@ -1,4 +1,8 @@
 //! Runs a job from a source to a sink.
+//!
+//! `insn-canon` and `btf-canon` are engines of `bpf_canon`, which read the source and write to the
+//! sink themselves. For each other command the complete input is read here first, so a fault, or an
+//! input that is too long, leaves the output empty.
 
 ghost use Rattle.std.specs.Prelude.{◌≡◌, ◌<◌, ◌≤◌, length, false, IfErr, IfOk};
 ghost use Rattle.bpfcanon.specs.Devices.{Change, IsUnused, sink_change, source_change};

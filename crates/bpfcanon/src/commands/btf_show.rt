@@ -1,7 +1,8 @@
 //! `btf-show`: validates the input, and then writes the listing of its types in pieces.
 //!
 //! A name can be as long as the string section, and quoting makes it longer, so it is quoted and
-//! written in chunks.
+//! written in chunks. A byte becomes at most four, so a chunk of 2,048 bytes adds no more than the
+//! length of a piece to the buffer.
 
 ghost use Rattle.std.specs.Prelude.{◌≡◌, ◌<◌, ◌≤◌, ◌++◌, length, OnOk};
 ghost use Rattle.std.specs.List.{flat_map};

@@ -1,4 +1,7 @@
 //! `insn-show`: validates the input, and then writes its listing in pieces.
+//!
+//! Each instruction is decoded when it is listed. A list of them would take more memory than the
+//! input, and the check of the input makes no values (`whole_insns.rt` of `bpf_insn`).
 
 ghost use Rattle.std.specs.Prelude.{◌≡◌, ◌<◌, ◌≤◌, List, length};
 ghost use Rattle.bpf_insn.specs.{declared.insn.Insn.Insn, Spelling.InsnFile};

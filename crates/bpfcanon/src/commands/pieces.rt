@@ -1,4 +1,10 @@
 //! Output that is written in pieces, so that only one piece is held in memory.
+//!
+//! Only listings are: names may share their bytes in a file, but not in its listing, so a BTF file
+//! of a few megabytes can have one that is larger than memory. `insn-show` and `btf-show` check the
+//! entire input first, so that a fault leaves the output empty. Then they append a line, or part of
+//! one, to a buffer, which is written as soon as it has [`PIECE`] bytes. `listing` and `show_btf`
+//! of `bpf_text` return everything. Other output is completed before it is written (`reply.rt`).
 
 ghost use Rattle.std.specs.Prelude.{◌≡◌, ◌<◌, [], length, IfErr, OnOk};
 ghost use Rattle.bpfcanon.specs.declared.commands.pieces.PutError.TheVariants.{Memory, WriteFailed};

@@ -1,4 +1,9 @@
 //! `insn-same` and `btf-same`: whether two files have the same instructions or types.
+//!
+//! The command has one input, which contains both files; `--split` is the length of the first. The
+//! limit of the input is twice that of one file, and the two may divide it in any way. `same_insns`
+//! and `same_btf` of `bpf_canon` compare them; here the side that a fault is on becomes an outcome,
+//! for the line that reports it.
 
 ghost use Rattle.std.specs.Prelude.{◌≡◌, ◌<◌, ◌≤◌, drop, length, take, IfSome, IsNone};
 ghost use Rattle.bpfcanon.specs.declared.verb.Verb.TheVariants.{BtfSame, InsnSame};
