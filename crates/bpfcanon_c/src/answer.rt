@@ -1,4 +1,5 @@
 //! How a call ends, and the answer to C of each ending.
+
 ghost use Rattle.std.specs.Prelude.{◌≡◌};
 ghost use Rattle.bpfcanon_c.specs.Answers as spec;
 

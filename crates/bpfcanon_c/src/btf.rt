@@ -1,4 +1,5 @@
 //! The calls on BTF.
+
 ghost use Rattle.std.specs.Prelude.{◌≡◌};
 ghost use Rattle.bpfcanon_c.specs.Endings.{IsCanonicalBtf, AnswersBtf, AnswersBtfCheck};
 ghost use Rattle.bpfcanon_c.specs.{Endings.AnswersSameBtf, Outputs.IsBtfCode, Outputs.EndsOutput};

@@ -1,4 +1,11 @@
 //! The call that decodes the types of BTF into records of a fixed size.
+//!
+//! One call decodes a file. A call for each type would need a handle, and would cost a binding more
+//! than reading the record.
+//!
+//! The types are walked through in the file, and the fields of items are read from its words on the
+//! way. Asked for an item, the table would find and decode the record of its type anew, so it is
+//! asked only for what needs it: the heads, and the lengths of long names.
 
 ghost use Rattle.std.specs.Prelude.{◌≡◌, ◌<◌, ◌≤◌, ◌+◌, ◌^◌, [], All, IfSome, length, drop};
 ghost use Rattle.std.specs.List.{AllZip};
@@ -138,7 +145,8 @@ fn item_name_at(kind: u32, strings_at: u32, word: u32) -> u32
 /// The number of bytes after the start of a name in which its end is looked for.
 const NEAR: usize = 64;
 
-/// The offset of the end of the string at an offset of the file, if it is near.
+/// The offset of the end of the string at an offset of the file, if it is near. Most names are
+/// short, and a search that stops after [`NEAR`] bytes costs little for a long name, too.
 fn near_end(bytes: &[u8], at: usize) -> Option<usize>
     requires { at ≤ length bytes.now }
     ensures { IfSome result (IsEnd bytes.now at) }

@@ -1,4 +1,7 @@
 //! The types of BTF and their items as records of a fixed size.
+//!
+//! What `insn_rows.rt` says of records holds for these too. A name is its offset and length in the
+//! input, where it stays: a copy would have to be owned.
 
 ghost use Rattle.std.specs.Prelude.{◌≡◌, ◌<◌, ◌^◌, length};
 ghost use Rattle.btf_types.specs.{Names.head_name, Values.head_value};

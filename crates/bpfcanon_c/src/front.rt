@@ -1,4 +1,5 @@
 //! The call on instructions in pieces: the complete instructions at the start of a buffer.
+
 ghost use Rattle.std.specs.Prelude.{◌≡◌};
 ghost use Rattle.bpfcanon_c.specs.Fronts.{AnswersFront, EndsFront, EndsFrontIn, front_answer_of};
 

@@ -1,4 +1,5 @@
 //! The calls on instruction files.
+
 ghost use Rattle.std.specs.Prelude.{◌≡◌};
 ghost use Rattle.bpf_insn.specs.Groups.{holds};
 ghost use Rattle.bpfcanon_c.specs.Endings.{IsRecoded, AnswersInsns, EndsSameInsnsIn};

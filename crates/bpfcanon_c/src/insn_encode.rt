@@ -1,4 +1,9 @@
 //! The call that encodes records of a fixed size as instructions.
+//!
+//! A record is encoded before it is checked. Any record has an encoding of some kind, and
+//! `read_insn` of `bpf_insn` decides whether these bytes are an instruction, whose record has to be
+//! the given one. So no rule for a field is stated twice. Which field of a record is wrong isn't
+//! reported: the standard gives records no order of fields.
 
 ghost use Rattle.std.specs.Prelude.{◌≡◌, ◌<◌, ◌-◌, ◌++◌, length, replicate};
 ghost use Rattle.std.specs.Prelude.{Decides, MatchOption, MatchResult};

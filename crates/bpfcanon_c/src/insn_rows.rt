@@ -1,4 +1,9 @@
 //! Instructions as records of a fixed size.
+//!
+//! The memory of a record is the caller's and may be uninitialised, so its fields are integers, of
+//! which any bytes are a value. A field that a form doesn't use is 0, so equal instructions have
+//! equal records, except for `pos`. Whether an array is aligned is checked in C, because a
+//! reference in Rattle always is.
 
 ghost use Rattle.std.specs.Prelude.{◌≡◌};
 ghost use Rattle.bpf_insn.specs.{Table.movsx_bits, Table.source, Table.source_bit};

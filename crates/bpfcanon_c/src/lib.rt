@@ -4,6 +4,10 @@
 //!
 //! No call keeps or returns memory: output goes into a buffer of the caller. Offsets are in bytes
 //! from the start of the input, and statuses and causes are numbers.
+//!
+//! The calls are a crate of their own. In `bpf_canon` every executable that links it would export
+//! them, and it would depend on `bpf_text`.
+
 #![tactic(auto)]
 
 mod answer;

@@ -1,4 +1,5 @@
 //! The calls on listings of instructions.
+
 ghost use Rattle.std.specs.Prelude.{◌≡◌};
 ghost use Rattle.bpfcanon_c.specs.Listings.{code_of_line, IsLineCode, IsListing, EndsListing};
 ghost use Rattle.bpfcanon_c.specs.Listings.{AnswersListing, IsListed, EndsListed, AnswersListed};

@@ -1,4 +1,5 @@
 //! The call on type listings.
+
 ghost use Rattle.bpfcanon_c.specs.TypesText.{AnswersBtfShow};
 
 use crate::answer::{Answer, Ending, btf_code, put, report};
