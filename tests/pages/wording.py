@@ -1,4 +1,4 @@
-"""Checks the wording of the pages, phrases that readers stumble over, and the names of the edits that the prover has to refuse.
+"""Checks the wording of the pages, phrases that readers stumble over, and the names of the mutations.
 
     python3 -m tests.pages.wording
 
@@ -33,11 +33,11 @@ PHRASES = [
 ]
 
 
-def check_edits(report):
-    """The name of an edit says what the wrong program does, verb first."""
-    edits = sorted(TOP.glob("crates/*/must-fail/*.edit"))
-    with report.group(f"the names of {len(edits)} edits"):
-        for path in edits:
+def check_mutations(report):
+    """The name of a mutation says what the wrong program does, verb first."""
+    mutations = sorted(TOP.glob("crates/*/must-fail/*.edit"))
+    with report.group(f"the names of {len(mutations)} mutations"):
+        for path in mutations:
             verb = path.stem.partition("_")[0]
             report.expect_that(verb.endswith("s") and "_" in path.stem, path.stem, "its name doesn't begin with a verb")
 
@@ -51,7 +51,7 @@ def main():
                 found = re.search(pattern, text, re.IGNORECASE)
                 where = text[max(found.start() - 30, 0) : found.end() + 30] if found else ""
                 report.expect_that(not found, where, f"write: {instead}")
-    check_edits(report)
+    check_mutations(report)
     return report.end("wording")
 
 
