@@ -1,4 +1,4 @@
-"""Checks the wording of the pages, phrases that readers stumble over, and the names of the mutations.
+"""Checks the wording of the pages, phrases that readers stumble over, the table of terms, and the names of the mutations.
 
     python3 -m tests.pages.wording
 
@@ -10,6 +10,7 @@ import sys
 
 from tests import TOP
 from tests.program import Report
+from tests.reference.formats_page import table
 
 PAGES = [TOP / name for name in ("README.md", "SECURITY.md", "CHANGELOG.md", "testdata/README.md", "bench/README.md")]
 PAGES += sorted([*TOP.glob("docs/*.md"), *TOP.glob("bindings/*/README.md"), *TOP.glob("man/*.[135]")])
@@ -30,7 +31,18 @@ PHRASES = [
     (r"\bfor ever\b|\bat hand\b|\bamid\b|\bbeside\b|\bafterwards\b", "during, available, next to, then"),
     (r"\bmend\b|\bjudged?\b|\blends?\b|\blent\b", "repair, check, borrow"),
     (r"\b(?:mean|means) the same\b", "hold the same instructions, or the same types in the same order"),
+    (r"\b(?:either|both|the other|little-endian|big-endian) orders?\b", "byte order"),
 ]
+
+
+def check_terms(report):
+    """Each row of the table of terms has one term, and no term has two rows."""
+    rows = table("Formats", "Term", "Meaning on all pages")
+    with report.group(f"{len(rows)} terms of FORMATS"):
+        terms = [term for term, _ in rows]
+        report.expect_that(len(terms) > 30, "the table", f"it has {len(terms)} terms")
+        for term in terms:
+            report.expect_that("," not in term and terms.count(term) == 1, term, "it isn't one term with one row")
 
 
 def check_mutations(report):
@@ -51,6 +63,7 @@ def main():
                 found = re.search(pattern, text, re.IGNORECASE)
                 where = text[max(found.start() - 30, 0) : found.end() + 30] if found else ""
                 report.expect_that(not found, where, f"write: {instead}")
+    check_terms(report)
     check_mutations(report)
     return report.end("wording")
 

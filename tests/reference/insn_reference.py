@@ -103,7 +103,7 @@ PARTS = re.compile(r"((?:`[^`]*` ?)+)(\(32\))? ?(.*)")
 def templates():
     """The row and the operands of each mnemonic, from the table of lines."""
     found = {}
-    narrow, wide = said("Listings", r'- "\(32\)" is the suffix `32` for (\d+) bits and nothing for (\d+)\.')
+    narrow, wide = said("Listings", r'- "\(32\)" stands for the suffix `32` in (\d+)-bit forms, and for nothing in (\d+)-bit forms\.')
     for name, line in table("Listings", "Instruction", "Line"):
         for part in line.split("; "):
             words, both, operands = PARTS.fullmatch(part).groups()
