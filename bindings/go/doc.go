@@ -1,6 +1,6 @@
 // Package bpfcanon returns canonical bytes of BPF instructions (RFC 9669) and of BTF, the types of
-// BPF programs (Linux Documentation/bpf/btf.rst). It also compares them, lists them, reads listings
-// and finds the conformance groups that a program needs.
+// BPF programs (Linux Documentation/bpf/btf.rst). It also compares them, disassembles and assembles
+// instructions, validates BTF, dumps its types, and finds the conformance groups that a program needs.
 //
 // Instructions and BTF can be encoded in either byte order, and BTF can lay out its strings in any
 // way. Two inputs that are accepted hold the same instructions, or the same types in the same order,
