@@ -165,7 +165,7 @@ enum bpfcanon_group {
 /*
  * What a call returns. Fields that the call or its status doesn't set are 0. `pos` is the offset
  * that docs/FAULTS.md states for the cause. For BPFCANON_INSN_TRUNCATED that is the first byte of
- * the 8-byte slot in which the input ends, and not the end of the input.
+ * the incomplete slot, which is the end of the input only if a wide load lacks its second slot.
  */
 typedef struct bpfcanon_answer {
 	uint32_t status; /* enum bpfcanon_status */
