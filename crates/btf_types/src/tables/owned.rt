@@ -18,8 +18,8 @@ use std::marker::Model;
 
 /// The types of a BTF file (btf.rst section 2), independent of the file's lifetime.
 ///
-/// It keeps a copy of the two sections and the offset of each record. Each name is stored once, and
-/// names share suffixes as in the file.
+/// It keeps a copy of the two sections and the offset of each record. Names are therefore stored as
+/// often as in the file, and share the bytes that they share there.
 #[derive(Drop)]
 pub struct Btf<A: Allocator = Global> {
     order: Order,
