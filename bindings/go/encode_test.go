@@ -8,7 +8,7 @@ import (
 	"bpfcanon"
 )
 
-// Values that are no instruction: a field has a value that no encoding has, or no value.
+// Values that aren't instructions: a field has a value that no encoding has, or no value.
 var unencodable = []bpfcanon.Insn{
 	nil,
 	&bpfcanon.Exit{},

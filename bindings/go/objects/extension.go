@@ -52,8 +52,8 @@ type run struct {
 }
 
 // An extensionReader reads a .BTF.ext. libbpf drops the whole section if one part of it is malformed
-// (btf_ext__new in its btf.c), and the kernel refuses programs with malformed lines. So all parts are
-// read as strictly as both do, although the lines are no part of a key.
+// (btf_ext__new in its btf.c), and the kernel refuses programs with malformed lines. All parts are
+// therefore read as strictly as both do, although the lines aren't part of a key.
 type extensionReader struct {
 	content []byte
 	strings stringTable // of .BTF

@@ -52,7 +52,7 @@ func readRelocations(file *elfFile, symbols []symbol) ([]relocations, error) {
 	return found, nil
 }
 
-// targetOf returns the section that a table changes, or nil if it is no table or changes a section
+// targetOf returns the section that a table changes, or nil if it isn't a table or changes a section
 // that is left out.
 func targetOf(file *elfFile, table *section) (*section, error) {
 	prefix, size := ".rel", uint64(16)

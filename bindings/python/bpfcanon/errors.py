@@ -90,7 +90,7 @@ class NoSuchType(BpfcanonError, KeyError):
 
 
 class EncodeError(BpfcanonError, ValueError):
-    """A value that is no instruction: a register over 10, an operation of another form, a number that its field can't hold.
+    """A value that isn't an instruction: a register over 10, an operation of another form, a number that its field can't hold.
 
     index  the index of the value among those that were to be encoded, from 0
     insn   the value

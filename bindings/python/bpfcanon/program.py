@@ -79,7 +79,7 @@ def insns(program: Buffer, *, order: Order = Order.LITTLE) -> Iterator[tuple[int
 def insn_encode(values: Iterable[Insn], *, to: Order = Order.LITTLE) -> bytes:
     """Return instructions as bytes in the byte order `to`; little-endian is canonical.
 
-    Raises EncodeError for the first value that is no instruction, OrderError.
+    Raises EncodeError for the first value that isn't an instruction, OrderError.
     """
     given = list(values)
     # The records before the first value that has none: the library may refuse one of them.

@@ -86,7 +86,7 @@ class Btf:
         return found
 
     def resolve(self, id: int) -> Optional[int]:
-        """Return the ID of the first type that is no const, volatile, restrict, typedef or type tag, following targets from an ID.
+        """Return the ID of the first type that isn't a const, volatile, restrict, typedef or type tag, following targets from an ID.
 
         Returns None if they form a circle.
         """

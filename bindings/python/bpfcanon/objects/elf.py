@@ -171,7 +171,7 @@ def read_elf(data: bytes) -> Elf:
 
 
 def read_names(data: bytes, rows: list[Row], index: int) -> Iterator[str]:
-    """Yield the name of each section; only the first one, which is no section, may have none."""
+    """Yield the name of each section; only the first one, which isn't a section, may have none."""
     strings = content_of(data, rows[index])
     for number, row in enumerate(rows):
         name = name_at(strings, row.name_offset)
@@ -183,7 +183,7 @@ def read_names(data: bytes, rows: list[Row], index: int) -> Iterator[str]:
 def refuse_overlaps(header: Header, rows: list[Row], names: list[str], length: int) -> None:
     """Sections are inside the file, and have no bytes in common, nor with the header and the table.
 
-    If they had, the contents of a short file could be of any size. So this comes before they are read.
+    If they had, the contents of a short file could be of any size, so this is checked before they are read.
     """
     spans = [(row.offset, row.offset + row.file_size, name) for row, name in zip(rows, names) if row.file_size]
     cut = next((name for _, end, name in spans if end > length), None)

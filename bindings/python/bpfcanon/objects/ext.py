@@ -1,7 +1,7 @@
 """The records of .BTF.ext: which type each function has, the source lines and the CO-RE relocations.
 
 libbpf drops a whole .BTF.ext if one part of it is malformed (btf_ext__new in its btf.c), and the kernel refuses programs with malformed
-lines. So all parts are read as strictly as both do, although the lines are no part of a key.
+lines. All parts are therefore read as strictly as both do, although the lines aren't part of a key.
 """
 
 from __future__ import annotations
@@ -90,7 +90,7 @@ class Extension:
 
     @cached_property
     def lines(self) -> list[Line]:
-        """The source lines, sorted by section and offset. They are no part of a key."""
+        """The source lines, sorted by section and offset. They aren't part of a key."""
         return sorted(self.reader.lines(self.line_runs)) if self.reader else []
 
     def source(self, section: str, offset: int) -> Optional[Line]:

@@ -43,7 +43,7 @@ def read_relocations(elf: Elf, symbols: tuple[Symbol, ...]) -> dict[int, list[Re
 
 
 def target_of(elf: Elf, table: Section) -> Optional[Section]:
-    """Return the section that a table changes, or None if it is no table or changes a section that is left out."""
+    """Return the section that a table changes, or None if it isn't a table or changes a section that is left out."""
     if table.type not in TABLES:
         return None
     prefix, size = TABLES[table.type]
