@@ -1,8 +1,9 @@
 //! A perfect hash of the mnemonics, so that the reader finds a mnemonic by one comparison.
 //!
-//! A `match` on 120 strings compiles to a jump table, whose indirect branch is often mispredicted.
-//! All mnemonics have different hashes below 512, so one load and one comparison are enough, and
-//! the table needs 512 bytes. The prover compares it with the definitions of all 120.
+//! A `match` on so many strings compiles to a jump table, whose indirect branch is often
+//! mispredicted. All mnemonics have different hashes below 512, so one load and one comparison are
+//! enough, and the table needs 512 bytes. The prover compares it with the definitions of all of
+//! them. `tools/from_mnemonics` writes it.
 
 ghost use Rattle.std.specs.Prelude.{◌≡◌, ◌<◌, get_or};
 ghost use Rattle.bpf_text.specs.insn.MnemonicHash.{hash_of};
