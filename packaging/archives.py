@@ -102,7 +102,7 @@ def stage_arm(documents, work):
     copy_files(tree)
     build_library(tree, root, ARM_ARCHIVE, CFLAGS=ARM_CFLAGS, **ARM_TOOLS)
     copy(TOP / "man" / "bpfcanon.5", root / "share" / "man" / "man5" / "bpfcanon.5", 0o644)
-    for page in "FAULTS.md", "FORMATS.md", "STABILITY.md":
+    for page in "FAULTS.md", "FORMATS.md", "SCOPE.md", "STABILITY.md":
         copy(TOP / "docs" / page, root / "share" / "doc" / "bpfcanon" / "docs" / page, 0o644)
     complete(root, documents, "README.arm", "aarch64")
     return root

@@ -97,9 +97,9 @@ def check_groups(program, report):
 
 
 def check_not_covered(program, report):
-    """The rows of "Not covered" on instructions: their opcodes, immediates and offsets are in brackets."""
+    """The rows of docs/SCOPE.md on instructions: their opcodes, immediates and offsets are in brackets."""
     with report.group("instructions that aren't covered"):
-        for what, refusal in table("Not covered", "Input", "Refusal"):
+        for what, refusal in table("Unsupported inputs", "Input", "Refusal"):
             found = re.search(r"\((?:(imm) )?((?:[0-9a-f]{2,3}(?:, )?)+)(?: with offset (\d+))?\)", what)
             codes = found[2].split(", ") if found else re.findall(r"\(([0-9a-f]{2})\)", what)
             codes = re.findall(r"\(([0-9a-f]{2})\)", what) if found and not found[1] and not found[3] and ", " not in found[2] else codes

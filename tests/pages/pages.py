@@ -1,4 +1,4 @@
-"""Compares README.md, the manual pages, the limits of docs/FAULTS.md and the C header with the sources and with each other: commands,
+"""Compares README.md, the manual pages, the limits of docs/SCOPE.md and the C header with the sources and with each other: commands,
 options, limits, statuses, the buffer sizes of calls, and the calls themselves.
 """
 
@@ -102,19 +102,19 @@ def check_manual(report):
 
 
 def check_limits(report):
-    with report.group("the limits of docs/FAULTS.md"):
+    with report.group("the limits of docs/SCOPE.md"):
         pattern = r"More than ([\d,]+) bytes of instructions or of a listing, or ([\d,]+) bytes of BTF, are `too long`"
         right = number(constants()["INSN_LIMIT"]), number(constants()["BTF_LIMIT"])
-        found = said("Limits", pattern)
+        found = said("Sizes", pattern)
         report.expect_that(found == right, "the limits", f"they are {found}, and right is {right}")
-        said("Limits", "for two inputs together the limit is twice that")
+        said("Sizes", "for two inputs together the limit is twice that")
         for first, second in ("insn-same", "insn-canon"), ("btf-same", "btf-canon"):
             report.expect_that(LIMITS[first] == 2 * LIMITS[second], first, f"its limit is {LIMITS[first]}")
-        (kernel,) = said("Limits", r"The kernel accepts no more than ([\d,]+) bytes of BTF from a loader")
+        (kernel,) = said("Sizes", r"The kernel accepts no more than ([\d,]+) bytes of BTF from a loader")
         report.expect_that(kernel == number(16 << 20), "the kernel's limit", f"it is {kernel}")
         most = btf_page.LONGEST + btf_page.TYPES + btf_page.STRINGS[1]
         report.expect_that(LIMITS["btf-canon"] == most, "BTF", f"the sections make {most}")
-        parts = said("Limits", r"([\d,]+) bytes of header, ([\d,]+) of types, ([\d,]+) of strings")
+        parts = said("Sizes", r"([\d,]+) bytes of header, ([\d,]+) of types, ([\d,]+) of strings")
         report.expect_that(parts == tuple(map(number, (btf_page.LONGEST, btf_page.TYPES, btf_page.STRINGS[1]))), "BTF", f"its parts are {parts}")
 
 

@@ -1,4 +1,4 @@
-"""Reads docs/FORMATS.md and docs/FAULTS.md: their tables, and the sentences whose numbers other tests need.
+"""Reads docs/FORMATS.md, docs/FAULTS.md and docs/SCOPE.md: their tables, and the sentences whose numbers other tests need.
 
 The pages are read strictly. If a table or a sentence has another wording than expected, the reader fails, so that a page that was
 changed is never read in part.
@@ -9,7 +9,7 @@ import re
 from tests import TOP
 
 DOCS = TOP / "docs"
-PAGES = [DOCS / "FORMATS.md", DOCS / "FAULTS.md"]
+PAGES = [DOCS / "FORMATS.md", DOCS / "FAULTS.md", DOCS / "SCOPE.md"]
 
 
 class PageError(Exception):
