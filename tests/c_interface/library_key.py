@@ -18,7 +18,7 @@ from tests.program import SECONDS, Report
 
 TOP = pathlib.Path(__file__).resolve().parent.parent.parent
 TESTDATA = TOP / "testdata"
-BLOCK = re.compile(r"```c\n(?P<program>.*?)```\n\n```sh\n(?P<lines>.*?)```", re.DOTALL)
+BLOCK = re.compile(r"```c\n(?P<program>#include.*?)```\n\n```sh\n(?P<lines>.*?)```", re.DOTALL)
 
 
 def copy_prefix(prefix, target):

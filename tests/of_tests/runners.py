@@ -20,7 +20,7 @@ from tests.of_tests.stand_ins import BASE, tree, write
 from tests.program import Report
 
 # Calls that look for a tool: what needs it is skipped, or done in another way.
-PROBES = ["go version", "cargo fmt --version", "cargo clippy --version", r"python3 -c import importlib\.util.*"]
+PROBES = ["go version", "cargo fmt --version", "cargo clippy --version", r"python3 -c import importlib\.util.*", "python3 -c import glob.*"]
 PROBES += [r"cc -fsanitize=\S+ .*/empty\.c .*", "empty", "cc -x c -fsyntax-only -"]
 
 
@@ -54,12 +54,11 @@ def check_answers(report):
             for runner, name, value in WRONG_ANSWERS:
                 status, last, _ = made.run(runner, **{name: value})
                 report.expect_that(status != 0 and "FAILED" in last, f"{runner}, {name}={value}", f"it ended with {status}: {last}")
-        for page in "README.md", "docs/LIBRARY.md":
-            with tree() as made:
-                text = (made.folder / page).read_text()
-                (made.folder / page).write_text(text.replace("String::new(alloc)", "String::new(other)"))
-                status, last, _ = made.run("tests/quick")
-                report.expect_that(status != 0 and page in last, f"another example in {page}", f"it ended with {status}: {last}")
+        with tree() as made:
+            page = made.folder / "docs/LIBRARY.md"
+            page.write_text(page.read_text().replace("String::new(alloc)", "String::new(other)"))
+            status, last, _ = made.run("tests/quick")
+            report.expect_that(status != 0 and page.name in last, f"another example in {page.name}", f"it ended with {status}: {last}")
         with tree() as made:
             (made.folder / "crates/bpfcanon/out/bpfcanon").unlink()
             status, last, _ = made.run("tests/run")
@@ -71,9 +70,9 @@ def check_answers(report):
 # What a runner says if tools are missing.
 MISSING = [
     ("tests/c_interface/run", ["cc"], "C interface: passed, skipped (no valgrind, no python3)"),
-    ("tests/c_interface/run", ["cc", "python3"], "C interface: passed, skipped (no valgrind, no pkg-config)"),
+    ("tests/c_interface/run", ["cc", "python3"], "C interface: passed, skipped (no valgrind, no pkg-config, no clang)"),
     ("tests/bindings", ["cc"], "bindings: skipped (no go, no cargo, no python3)"),
-    ("tests/bindings", ["cc", "python3", "go", "gofmt"], "bindings: passed, skipped (no pkg-config, no cargo, no mypy)"),
+    ("tests/bindings", ["cc", "python3", "go", "gofmt"], "bindings: passed, skipped (no pkg-config, no cargo, no mypy, no clang)"),
     ("tests/run", ["python3"], "process tests: passed, skipped (no cc)"),
     ("tests/run", ["cc"], "process tests: skipped (no python3)"),
     ("tests/quick", ["cc"], "quick checks: skipped (no python3)"),
@@ -98,7 +97,13 @@ RECIPES = [
     ("a recipe that prints something else", RECIPE.replace("echo same", "echo other"), "cat", False),
     ("a recipe that fails after it printed", RECIPE.replace("echo same", "echo same; false"), "cat", False),
     ("a listing that comes back otherwise", RECIPE, "echo other", False),
+    ("a README whose blocks fail", f"{RECIPE}The README fails.\n", "cat", False),
 ]
+# A stand-in of the test of the README, which fails if a page says so. The last line of the runner names what it lacks.
+README = """import pathlib
+print("skipped: a block of the README: there is no xxd and no zsh")
+raise SystemExit(any("The README fails." in page.read_text() for page in pathlib.Path("docs").glob("*.md")))
+"""
 
 
 def check_recipes(report):
@@ -115,8 +120,11 @@ def check_recipes(report):
                 (root / "testdata").mkdir()
                 (root / "tests").mkdir()
                 shutil.copy(TOP / "tests" / "recipes", root / "tests" / "recipes")
+                write(root / "tests" / "pages" / "readme.py", README)
+                write(root / "tests" / "pages" / "covered.py", "")
                 words = [sys.executable, root / "tests" / "recipes", root / "bin" / "bpfcanon"]
                 done = subprocess.run(words, env={"PATH": str(root / "bin")}, capture_output=True, text=True, timeout=60)
+                report.expect_that("no xxd, no zsh" in done.stdout, name, f"it doesn't say what the test of the README lacks: {done.stdout}")
                 ended = f"it ended with {done.returncode}: {done.stdout[-200:]}{done.stderr[-200:]}"
                 report.expect_that((done.returncode == 0) == passes and "passed" in done.stdout, name, ended)
 

@@ -17,7 +17,7 @@ TOOLS = "cargo cc clang gofmt go mypy pkg-config python3 valgrind".split()
 EXAMPLE = "crates/bpfcanon/src/tests/library_example.rt"
 RUNNERS = ["tests/quick", "tests/run", "tests/c_interface/run", "tests/bindings"]
 MEMBERS = "tests/c_interface/members.txt"
-COPIED = ["verify", "README.md", "docs/LIBRARY.md", EXAMPLE, MEMBERS, "tests/parts.sh", "tests/runner.sh", "tests/python_with", *RUNNERS]
+COPIED = ["verify", "docs/LIBRARY.md", EXAMPLE, MEMBERS, "tests/parts.sh", "tests/runner.sh", "tests/python_with", *RUNNERS]
 REPLACED = ["bin/rt", "capi/archive", "capi/build", "capi/sources", "crates/bpfcanon/out/bpfcanon", "packaging/program.py"]
 REPLACED += ["tests/packages", "tests/objects/run", "tests/objects/both.py", "tests/recipes", "tests/release"]
 

@@ -60,7 +60,7 @@ SKIPPED = [
         "with cc and python3",
         ["python3", "cc"],
         "verify: quick checks passed, rt ci passed, process tests passed, C archive passed, "
-        "C interface passed, skipped (no valgrind, no pkg-config), bindings passed, skipped (no go, no cargo, no mypy), "
+        "C interface passed, skipped (no valgrind, no pkg-config, no clang), bindings passed, skipped (no go, no cargo, no mypy, no clang), "
         "objects passed, objects in Go passed, recipes passed, skipped (no bpftool), release objects passed, release passed",
     ),
 ]

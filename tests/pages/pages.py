@@ -28,31 +28,11 @@ def number(value):
 # ---- the commands and their options
 
 
-def readme_table(*columns):
-    """The rows of the table of README.md that has these columns."""
-    _, _, rest = README.partition("| " + " | ".join(columns) + " |\n")
-    return [cells(line) for line in rest.partition("\n\n")[0].splitlines()[1:]]
-
-
 def check_readme(report):
-    with report.group("the tables of README.md"):
-        commands = [row[0].strip("`") for row in readme_table("Command", "Writes")]
-        report.expect_that(commands == COMMANDS, "the commands", f"they are {commands}")
-        options = {row[0].strip("`").split(" ")[0]: row[1:] for row in readme_table("Option", "Of", "Meaning")}
-        report.expect_that(list(options) == ALL_OPTIONS, "the options", f"they are {list(options)}")
-        for option, (of, _) in options.items():
-            right = [command for command in COMMANDS if option in OPTIONS[command]]
-            report.expect_that(re.findall(r"`([\w-]+)`", of) == right, option, f"it is of {of}, and right is {right}")
-        most = re.search(r"at most ([\d,]+)", options.get("--split", ["", ""])[1])
-        report.expect_that(most and most[1] == number(LIMITS["insn-same"]), "--split", f"its limit isn't {LIMITS['insn-same']}")
-        rows = readme_table("Status", "When", "Message on standard error")
-        insns, btf = constants()["INSN_LIMIT"], constants()["BTF_LIMIT"]
-        right = f"more than {number(insns)} bytes, or {number(btf)} of BTF; twice that for two"
-        report.expect_that(right in [row[1] for row in rows], "too long", f"no row says {right!r}")
-        shown = {status: set() for status, *_ in rows}
-        for status, _, line in rows:
-            shown[status] |= {it for it in re.findall(r"`([^`]*)`", line) if re.fullmatch(r"[a-z ]+[a-z]", it)}
-        report.expect_that(shown == statuses(), "the lines of each status", f"they are {shown}, and right is {statuses()}")
+    with report.group("the commands of README.md"):
+        table = README.partition("| Command | Writes |\n")[2].partition("\n\n")[0]
+        commands = [name for line in table.splitlines() for name in re.findall(r"`([\w-]+)`", cells(line)[0])]
+        report.expect_that(sorted(commands) == sorted(COMMANDS), "the commands", f"they are {commands}")
 
 
 def statuses():
@@ -97,8 +77,19 @@ def check_manual(report):
             f"{btf} bytes of BTF, {two_btf} bytes for btf-same.",
         ]:
             report.expect_that(right in text, right, "the page doesn't say so")
-        missing = [line for lines in statuses().values() for line in lines if line not in text]
-        report.expect_that(not missing, "lines on standard error", f"these are missing: {missing}")
+
+
+def check_messages(report):
+    """bpfcanon.1: the messages of each status, and an explanation of each."""
+    page = (TOP / "man" / "bpfcanon.1").read_text()
+    with report.group("the messages of bpfcanon.1"):
+        part = page.partition(".SH EXIT STATUS")[2].partition(".SH ")[0]
+        listed = re.findall(r"^\.TP\n\.B (\d)\n((?:(?!\.TP).*\n)*)", part, re.MULTILINE)
+        shown = {status: set(re.findall(r'"([a-z ]+[a-z])"', lines)) for status, lines in listed}
+        report.expect_that(shown == statuses(), "the messages of each status", f"they are {shown}, and right is {statuses()}")
+        explained = page.partition(".SH DIAGNOSTICS")[2].partition(".SS ")[0]
+        missing = [line for lines in shown.values() for line in lines if line not in explained]
+        report.expect_that(not missing, "DIAGNOSTICS", f"these messages are missing: {missing}")
 
 
 def check_limits(report):
@@ -224,7 +215,7 @@ def check_library_page(report):
         shown = shown_page(page_of(3)).stdout.decode()
         calls = calls_of(shown.partition("DESCRIPTION")[0])
         report.expect_that(len(calls) > 20 and calls == calls_of(HEADER), "the calls", f"they are {calls}")
-        example = re.search(r"^```c\n(.*?)^```$", (TOP / "docs" / "LIBRARY.md").read_text(), re.MULTILINE | re.DOTALL)[1]
+        example = re.search(r"^```c\n(#include.*?)^```$", (TOP / "docs" / "LIBRARY.md").read_text(), re.MULTILINE | re.DOTALL)[1]
         has_example = " ".join(example.split()) in " ".join(shown.split())
         report.expect_that(has_example, "the example", "it isn't that of docs/LIBRARY.md")
 
@@ -248,7 +239,7 @@ def check_pages(report):
 
 def main():
     report = Report()
-    for check in check_readme, check_manual, check_limits, check_library, check_library_page, check_pages:
+    for check in check_readme, check_manual, check_messages, check_limits, check_library, check_library_page, check_pages:
         check(report)
     return report.end("pages")
 

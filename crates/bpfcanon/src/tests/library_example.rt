@@ -1,4 +1,4 @@
-//! The libraries as a program calls them. `docs/LIBRARY.md` shows this file, and `README.md` a part of it.
+//! The libraries as a program calls them. `docs/LIBRARY.md` shows this file.
 
 use bpf_canon::{INSN_LIMIT, InsnFeed, Order, write_btf};
 use bpf_insn::InsnError;

@@ -1,0 +1,85 @@
+"""Tries the rows of README.md's table that says why not something else, except the one about the kernel, which needs root.
+
+    python3 -m tests.pages.alternatives
+"""
+
+import pathlib
+import re
+import subprocess
+import sys
+import tempfile
+
+from tests import TOP
+from tests.program import SECONDS, Report
+from tests.reference.formats_page import cells
+
+SOURCE = '__attribute__((section("xdp"))) int pass(void *ctx)\n{\n\treturn %s\n}\n'
+# What pass.c returns in each version of it that is compared.
+VERSIONS = {"before": "2;", "after": "2; // a note", "other": "1;"}
+CLANG = "clang -target bpf -O2"
+TYPES = "llvm-objcopy --dump-section .BTF=out object.o /dev/null"
+# The rows of the table, with commands that make the file `out` of pass.c. The row says whether it is equal before and after.
+COMMANDS = {
+    "`-ffile-prefix-map`, `-fdebug-compilation-dir`": [
+        f'{CLANG} -g -ffile-prefix-map="$PWD"=. -c pass.c -o object.o; {TYPES}',
+        f"{CLANG} -g -fdebug-compilation-dir=. -c pass.c -o object.o; {TYPES}",
+    ],
+    "no `-g`": [f"{CLANG} -c pass.c -o out"],
+    "`clang -E -P`, and compile what it prints": [f"clang -E -P pass.c | {CLANG} -g -x c -c -o out -"],
+    "`llvm-strip -g`": [f"{CLANG} -g -c pass.c -o object.o; llvm-strip -g object.o; {TYPES}"],
+    "`bpftool gen object`": [f"{CLANG} -g -c pass.c -o first.o; bpftool gen object object.o first.o; {TYPES}"],
+    "`bpftool btf dump file after.o format raw`": [f"{CLANG} -g -c pass.c -o after.o; bpftool btf dump file after.o format raw > out"],
+    "the tag that the kernel gives a program": [],
+}
+# The rows that quote libbpf, with commands after which it refuses the object file.
+REFUSED = {
+    "no `-g`": f"{CLANG} -mcpu=v3 -DMAP=packets -c {TOP}/recipes/count.c -o object.o",
+    "`llvm-strip -g`": f"{CLANG} -g -c pass.c -o object.o; llvm-strip object.o",
+}
+
+
+def rows():
+    """The rows of the table, by their first cells, without the head."""
+    part = (TOP / "README.md").read_text().partition("\n## Why not something else?\n")[2].partition("\n## ")[0]
+    return dict(cells(line) for line in [it for it in part.splitlines() if it.startswith("|")][2:])
+
+
+def made(command, version, folder):
+    """What a command makes of pass.c in a version."""
+    (folder / "pass.c").write_text(SOURCE % VERSIONS[version])
+    (folder / "out").unlink(missing_ok=True)
+    subprocess.run(["bash", "-euo", "pipefail", "-c", command], cwd=folder, check=True, timeout=SECONDS)
+    return (folder / "out").read_bytes()
+
+
+def check_commands(report, table, folder):
+    for row, commands in COMMANDS.items():
+        for command in commands:
+            is_equal = made(command, "before", folder) == made(command, "after", folder)
+            is_right = table[row].startswith("equal") if is_equal else "`.BTF` differs" in table[row]
+            report.expect_that(is_right, command, f"that the file is equal is {is_equal}, and the page says {table[row]!r}")
+    (dump,) = COMMANDS["`bpftool btf dump file after.o format raw`"]
+    report.expect_that(made(dump, "after", folder) == made(dump, "other", folder), dump, "it is another one for `return 1;`")
+
+
+def check_refused(report, table, folder):
+    for row, command in REFUSED.items():
+        subprocess.run(["bash", "-euc", command], cwd=folder, check=True, timeout=SECONDS)
+        words = ["bpftool", "gen", "skeleton", "object.o"]
+        done = subprocess.run(words, cwd=folder, capture_output=True, text=True, timeout=SECONDS)
+        message = re.search(r'"(.*)"', table[row])[1]
+        report.expect_that(done.returncode != 0 and message in done.stderr, row, f"libbpf says {done.stderr!r}")
+
+
+def main():
+    report, table = Report(), rows()
+    with report.group("why not something else, by README.md"), tempfile.TemporaryDirectory() as folder:
+        report.expect_that(list(table) == list(COMMANDS), "the rows", f"they are {list(table)}")
+        if not report.lacks("the table of README.md", "clang", "llvm-objcopy", "llvm-strip", "bpftool"):
+            check_commands(report, table, pathlib.Path(folder))
+            check_refused(report, table, pathlib.Path(folder))
+    return report.end("alternatives")
+
+
+if __name__ == "__main__":
+    sys.exit(main())
