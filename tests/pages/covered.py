@@ -1,0 +1,100 @@
+"""Compares the table of docs/RECIPES.md on what a signature covers with object files that differ in the change of a row.
+
+    python3 -m tests.pages.covered [PREFIX]
+
+PREFIX has the C library, as capi/build installs it. Without it, or without clang, nothing is compared. The lines `code`, `types` and
+`key` of manifests say what is covered: the first two are digests of the canonical bytes.
+"""
+
+import os
+import pathlib
+import re
+import subprocess
+import sys
+import tempfile
+
+from tests import TOP
+from tests.program import SECONDS, Report
+from tests.reference.formats_page import cells
+
+# A field that is read by CO-RE, variables, a map, a license, a function, and a program. A macro chooses each.
+SOURCE = """
+struct host { union { int first; int second; }; SHAPE third; } __attribute__((preserve_access_index));
+int one = INITIAL, two = 1;
+struct { int (*type)[1]; int (*max_entries)[ENTRIES]; int *key; long *value; } table __attribute__((section(".maps"), used));
+char _license[] __attribute__((section("license"), used)) = LICENSE;
+LINKAGE __attribute__((noinline)) int helper(PARAMETER number) { return number + 1; }
+__attribute__((section(PLACE), used)) int program(struct host *host)
+{
+	return host->FIELD + VARIABLE + CONSTANT;
+}
+"""
+WORDS = {"SHAPE": "int", "INITIAL": "1", "ENTRIES": "16", "LICENSE": '"GPL"', "LINKAGE": "", "PARAMETER": "int", "PLACE": '"socket"'}
+WORDS |= {"FIELD": "first", "VARIABLE": "one", "CONSTANT": "1"}
+HIDDEN = '__attribute__((visibility("hidden")))'
+COMMENTED = SOURCE.replace("CONSTANT;", "CONSTANT; /* a note */").replace("int one", "/* another\n line */ int one")
+FLAGS = ["-target", "bpfel", "-g"]
+# The rows of the table, each with changes: of macros, of flags, or the source. What changes has to be the same for each.
+ROWS = {
+    "an instruction, or a constant in one": [{"CONSTANT": "2"}, {"VARIABLE": "two - 1"}],
+    "which variable, map or function an instruction refers to": [{"VARIABLE": "two"}],
+    "the section of a program, the license, initial data, `__hidden`": [
+        {"PLACE": '"socket/other"'},
+        {"LICENSE": '"MIT"'},
+        {"INITIAL": "2"},
+        {"LINKAGE": HIDDEN},
+    ],
+    "the field that CO-RE reads": [{"FIELD": "second"}],
+    "the definition of a map": [{"ENTRIES": "32"}],
+    "the members of a struct, the parameters of a function": [{"SHAPE": "unsigned"}, {"PARAMETER": "unsigned"}],
+    "the byte order": [["-target", "bpfeb", "-g"]],
+    "comments, source lines, DWARF, the folder": [COMMENTED, [*FLAGS, "-gdwarf-5", "-fdebug-compilation-dir=/elsewhere"]],
+}
+
+
+def rows():
+    """The rows of the table by their first cells."""
+    part = (TOP / "docs" / "RECIPES.md").read_text().partition("### What a signature covers\n")[2].partition("\n### ")[0]
+    lines = [cells(line) for line in part.splitlines() if line.startswith("|")]
+    return {first: others for first, *others in lines[2:]}
+
+
+def manifest_of(change, folder, environment):
+    """The digests of the instructions, of the types, and of all, of the object file with a change."""
+    words = WORDS | (change if isinstance(change, dict) else {})
+    flags = change if isinstance(change, list) else FLAGS
+    (folder / "program.c").write_text(change if isinstance(change, str) else SOURCE)
+    macros = [f"-D{name}={word}" for name, word in words.items()]
+    how = {"cwd": folder, "env": environment, "check": True, "timeout": SECONDS, "stdout": subprocess.PIPE, "text": True}
+    subprocess.run(["clang", "-mcpu=v3", "-O2", *flags, *macros, "-c", "program.c", "-o", "program.o"], **how)
+    text = subprocess.run([sys.executable, "-m", "bpfcanon.objects", "manifest", "program.o"], **how).stdout
+    return [re.findall(rf"^{kind}(?: .*)? (\w+)$", text, re.MULTILINE) for kind in ("code", "types", "key")]
+
+
+def check_rows(report, table, folder, environment):
+    first = manifest_of({}, folder, environment)
+    report.expect_that([len(it) for it in first] == [2, 1, 1], "the first object file", f"its digests are {first}")
+    for row, changes in ROWS.items():
+        for change in changes:
+            second = manifest_of(change, folder, environment)
+            found = ["no" if before == after else "yes" for before, after in zip(first, second)]
+            report.expect_that(found == table[row], f"{row}: {change}", f"it is {found}, and the page says {table[row]}")
+
+
+def main():
+    if len(sys.argv) > 2:
+        sys.exit(__doc__)
+    report, table = Report(), rows()
+    with report.group("what a signature covers, by docs/RECIPES.md"), tempfile.TemporaryDirectory() as folder:
+        report.expect_that(list(table) == list(ROWS), "the rows", f"they are {list(table)}")
+        if not sys.argv[1:]:
+            report.skip("what a signature covers", "there is no bpfcanon-object")
+        elif not report.lacks("what a signature covers", "clang"):
+            library = str(pathlib.Path(sys.argv[1]).resolve() / "lib" / "libbpfcanon.so.0")
+            path = str(TOP / "bindings" / "python")
+            check_rows(report, table, pathlib.Path(folder), os.environ | {"BPFCANON_LIBRARY": library, "PYTHONPATH": path})
+    return report.end("what a signature covers")
+
+
+if __name__ == "__main__":
+    sys.exit(main())
