@@ -17,10 +17,12 @@ LINK = re.compile(r"\[[^\]]*\]\(([^)\s]+)\)")
 FILE = re.compile(r"`([\w./*-]*\w\.(?:rt|antt|py|c|h|md|tsv|go|rs|map|toml|txt))`")
 NAME = re.compile(r"`([A-Za-z_][\w:]*)`")
 # The pages on the sources, what they may name, and a variable of the environment and prefixes, which no source contains.
-ON_SOURCES = ["CHANGING", "CONTRACTS", "DECISIONS", "LIBRARY", "PROMISES"]
+ON_SOURCES = ["CHANGING", "CONTRACTS", "DECISIONS", "LIBRARY", "PROMISES", "TRUST"]
 SOURCES = ["crates/**/*.rt", "crates/**/*.antt", "tests/**/*", "tools/*", "capi/*"]
 SOURCES += ["bindings/**/*.go", "bindings/**/*.py", "bindings/**/*.rs"]
 NO_NAMES = {"RT_JOBS", "proved_", "bpfcanon_proved_"}
+# How functions of C begin that only the kit names.
+OF_KIT = ("libc::", "os::c::", "__")
 STANDS_FOR = re.compile(r"(?:^|/)(?:NAME|MODULE|FUNCTION)\b")
 # Folders that tools write.
 MADE_IN = {".git", "out", "__pycache__"}
@@ -70,7 +72,7 @@ def check_names(report):
     for page in ON_SOURCES:
         text = BLOCK.sub("", (TOP / "docs" / f"{page}.md").read_text())
         with report.group(f"names on docs/{page}.md"):
-            for name in sorted(set(NAME.findall(text)) - NO_NAMES):
+            for name in sorted(it for it in set(NAME.findall(text)) - NO_NAMES if not it.startswith(OF_KIT)):
                 report.expect_that(all(part in known for part in name.split("::")), f"`{name}`", "no source contains it")
 
 

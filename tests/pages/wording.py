@@ -14,7 +14,7 @@ from tests.reference.formats_page import table
 
 PAGES = [TOP / name for name in ("README.md", "SECURITY.md", "CHANGELOG.md", "testdata/README.md", "bench/README.md")]
 PAGES += sorted([*TOP.glob("docs/*.md"), *TOP.glob("bindings/*/README.md"), *TOP.glob("man/*.[135]")])
-LEFT_OUT = re.compile(r"^```.*?^```$|`[^`\n]*`|^## Index$.*", re.MULTILINE | re.DOTALL)
+LEFT_OUT = re.compile(r"^```.*?^```$|`[^`\n]*`|\]\([^)\n]*\)|^## Index$.*", re.MULTILINE | re.DOTALL)
 PHRASES = [
     (r"exactly (?:where|if)\b", "if and only if"),
     (r"(?:only|fewer|none|refused|accepted|reported|missing|fails?) where\b", "if, when"),

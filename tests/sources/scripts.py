@@ -13,7 +13,7 @@ from tests.program import SECONDS, Report
 
 FOLDERS = [".ci", "bench", "bindings/python", "capi", "packaging", "recipes", "tests", "tools"]
 # The folders whose Python has types throughout, and what mypy is given there.
-TYPED = {"bindings/python": [], "tools": ["peers", "compared"]}
+TYPED = {"bindings/python": [], "tools": ["peers", "compared", "figures"]}
 
 
 def language(path):
@@ -70,7 +70,7 @@ def check_types(report):
         if report.lacks("the types of Python", "mypy"):
             return
         for folder, files in TYPED.items():
-            done = subprocess.run(["mypy", "--strict", f"--cache-dir={cache}", *files], cwd=TOP / folder, **how)
+            done = subprocess.run(["mypy", "--strict", "--scripts-are-modules", f"--cache-dir={cache}", *files], cwd=TOP / folder, **how)
             report.expect_that(done.returncode == 0, f"mypy --strict in {folder}", done.stdout)
 
 
