@@ -84,7 +84,7 @@ def compile_crate(crate, processor, target):
     for folder in [kit / "rlibs", *(library(it).parent for it in below(crate, uses))]:
         words += ["-L", f"dependency={folder}"]
     words += ["--antt-project", kit / "rattle" / "logic" / "antt-project.json", "--logic-built", kit / "logic_built"]
-    words += ["--links", f"{crate}=", "--toolchain", kit / "toolchain", "--backend", "llvm", *PROCESSORS[processor]]
+    words += ["--list-axioms", "--links", f"{crate}=", "--toolchain", kit / "toolchain", "--backend", "llvm", *PROCESSORS[processor]]
     words += [] if is_program else ["--crate-type", "staticlib"]
     if subprocess.run([*words, "-o", target], cwd=TOP / "crates" / crate).returncode != 0:
         raise Failed(f"{crate} isn't built for {processor}")

@@ -18,12 +18,13 @@ BUILT = [PROGRAM, OBJECT, ARCHIVE, ARM_ARCHIVE]
 UNVERIFIED = "Not verified: these files were made from a tree that ./verify has not passed.\n"
 MEANING = """\
 Passed by ./verify. A line with logic=proved is a verdict of the prover: each function of the crate
-meets its contract. The program and the archives of a release are compiled from these sources for
-x86-64 (target=x86_64-unknown-linux-gnu), and the C library for 64-bit ARM from the same ones
-(target=aarch64-unknown-linux-gnu); a verdict with a target is that of such a build. What is compiled is the
-code that was proved. The compiler, LLVM, isn't proved, for either processor, and neither is the C
-around the calls of the library. All tests run on x86-64. For 64-bit ARM those of the C library run
-under an emulator (tests/release, with qemu).
+meets its contract. The lines above it that end in "reached" name the functions of C whose contracts
+it assumes (docs/TRUST.md of the sources). The program and the archives of a release are compiled
+from these sources for x86-64 (target=x86_64-unknown-linux-gnu), and the C library for 64-bit ARM
+from the same ones (target=aarch64-unknown-linux-gnu); a verdict with a target is that of such a
+build. What is compiled is the code that was proved. The compiler, LLVM, isn't proved, for either
+processor, and neither is the C around the calls of the library. All tests run on x86-64. For 64-bit
+ARM those of the C library run under an emulator (tests/release, with qemu).
 """
 
 
@@ -43,7 +44,7 @@ def sources():
 
 def record(logs):
     lines = [line for log in logs for line in log.read_text(errors="replace").splitlines()]
-    verdicts = [line for line in lines if re.search(r"logic=proved|\d+ passed, \d+ failed", line)]
+    verdicts = [line for line in lines if re.search(r"logic=proved|\sreached$|\d+ passed, \d+ failed", line)]
     return "\n".join([MEANING, *sources(), *sums(), f"kit {run(['rt', 'version']).strip()}", *verdicts, ""])
 
 
