@@ -43,7 +43,7 @@ def check_list(report):
             files = {path: re.findall(named, path.read_text()) for path in TOP.glob(pattern) if path.is_file()}
             report.expect_that(any(files.values()), pattern, "no file names a tool as this test looks for it")
             for path, words in files.items():
-                lacking = set(re.findall(r"[\w/-]+", " ".join(words))) - NOT_LISTED - set(tools)
+                lacking = set(re.findall(r"[\w./-]+", " ".join(words))) - NOT_LISTED - set(tools)
                 report.expect_that(not lacking, str(path.relative_to(TOP)), f"no package has {sorted(lacking)}")
 
 

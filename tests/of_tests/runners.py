@@ -91,9 +91,14 @@ def check_missing(report):
 
 RECIPE = "```sh\necho same\n```\n```text\nsame\n```\n"
 NOTATION = "### Notation of llvm-objdump\n\n| `exit` | `exit` |\n\nllvm-objdump therefore\n\n### Reading a listing\n"
-# The page of recipes, what the program answers to a listing, and whether the runner passes.
+FILE = "`made`:\n\n<!-- file: made -->\n```text\nsame\n```\n\n```sh\ncat made\n```\n```text\nsame\n```\n"
+# One of the two pages, what the program answers to a listing, and whether the runner passes.
 RECIPES = [
     ("a recipe that passes", RECIPE, "cat", True),
+    ("a file that a recipe reads", FILE, "cat", True),
+    ("a file with another content", FILE.replace("same\n```\n\n", "other\n```\n\n"), "cat", False),
+    ("a file that the page doesn't name", FILE.replace("`made`", "`other`"), "cat", False),
+    ("a block that no test uses", RECIPE + "\n```c\nint number;\n```\n", "cat", False),
     ("a recipe that prints something else", RECIPE.replace("echo same", "echo other"), "cat", False),
     ("a recipe that fails after it printed", RECIPE.replace("echo same", "echo same; false"), "cat", False),
     ("a listing that comes back otherwise", RECIPE, "echo other", False),
@@ -108,13 +113,15 @@ raise SystemExit(any("The README fails." in page.read_text() for page in pathlib
 
 def check_recipes(report):
     with report.group("tests/recipes"):
-        for name, page, answer, passes in RECIPES:
+        cases = [(*case, page) for case in RECIPES for page in ("RECIPES.md", "INTEGRATIONS.md")]
+        for name, text, answer, passes, page in cases:
             with tempfile.TemporaryDirectory() as folder:
                 root = pathlib.Path(folder)
                 for tool in [*BASE, "python3"]:
                     (root / "bin").mkdir(exist_ok=True)
                     (root / "bin" / tool).symlink_to(sys.executable if tool == "python3" else shutil.which(tool))
-                write(root / "docs" / "RECIPES.md", page)
+                for other in "RECIPES.md", "INTEGRATIONS.md":
+                    write(root / "docs" / other, text if other == page else RECIPE)
                 write(root / "docs" / "FORMATS.md", NOTATION)
                 write(root / "bin" / "bpfcanon", f"#!/bin/sh\n{answer}\n")
                 (root / "testdata").mkdir()
@@ -126,7 +133,7 @@ def check_recipes(report):
                 done = subprocess.run(words, env={"PATH": str(root / "bin")}, capture_output=True, text=True, timeout=60)
                 report.expect_that("no xxd, no zsh" in done.stdout, name, f"it doesn't say what the test of the README lacks: {done.stdout}")
                 ended = f"it ended with {done.returncode}: {done.stdout[-200:]}{done.stderr[-200:]}"
-                report.expect_that((done.returncode == 0) == passes and "passed" in done.stdout, name, ended)
+                report.expect_that((done.returncode == 0) == passes and "passed" in done.stdout, f"{page}, {name}", ended)
 
 
 def main():

@@ -25,6 +25,8 @@ PAGES = [TOP / name for name in ("README.md", "SECURITY.md", "CHANGELOG.md", "te
 PAGES += sorted([*TOP.glob("docs/*.md"), *TOP.glob("bindings/*/README.md")])
 VERSION = re.search(r'^#define BPFCANON_VERSION "(.*)"$', (TOP / "capi" / "bpfcanon.h").read_text(), re.MULTILINE)[1]
 BLOCK = re.compile(r"^```(\w+)\n(.*?)^```$", re.MULTILINE | re.DOTALL)
+# The languages of the files and blocks of docs/INTEGRATIONS.md.
+INTEGRATED = ["c", "cmake", "go", "python", "rust", "sh", "text", "yaml"]
 # The test that runs the blocks of a page in a language, and how many it finds if it wouldn't notice another one.
 TESTS = {
     ("README.md", "console"): ("tests/pages/readme.py", 1),
@@ -42,6 +44,7 @@ TESTS = {
     ("docs/TRUST.md", "console"): ("tests/pages/trust.py", 1),
     ("docs/TRUST.md", "rattle"): ("tests/pages/trust.py", 3),
     ("docs/TRUST.md", "text"): ("tests/pages/trust.py", 2),
+    **{("docs/INTEGRATIONS.md", language): ("tests/recipes", None) for language in INTEGRATED},
     ("bindings/go/README.md", "go"): ("tests/bindings", 3),
     ("bindings/go/README.md", "console"): ("tests/bindings", 3),
     ("bindings/python/README.md", "python"): ("bindings/python/tests/test_package.py", None),
