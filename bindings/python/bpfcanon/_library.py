@@ -148,16 +148,16 @@ def ask(name: str, *arguments: Union[int, ctypes.c_void_p, Buffer]) -> Any:
     return function(name)(*passed)
 
 
-def write(name: str, capacity: int, *arguments: Union[int, Buffer]) -> tuple[Any, bytearray]:
+def write(name: str, capacity: int, *arguments: Union[int, Buffer]) -> tuple[Any, memoryview]:
     """Make a call that writes into a buffer of `capacity` bytes.
 
     If the output is longer, the call is made again with a larger buffer. Returns the answer and the
-    output.
+    output. The buffer isn't cut to its length: it can't be while a profiler in another thread keeps
+    the frame of `ask`, and with it the pointer.
     """
     out = bytearray(capacity)
     answer = ask(name, *arguments, out)
     if answer.status == ROOM:
         out = bytearray(answer.needed)
         answer = ask(name, *arguments, out)
-    del out[answer.written :]
-    return answer, out
+    return answer, memoryview(out)[: answer.written]

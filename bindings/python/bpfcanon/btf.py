@@ -25,7 +25,7 @@ def btf_show(types: Buffer) -> str:
     # The listing of a kernel's types is about twice as long as they are.
     answer, out = _library.write("btf_show", 3 * _library.size_of(types), types)
     check(answer, BtfCause)
-    return out.decode()
+    return str(out, "utf-8")
 
 
 def btf_check(types: Buffer) -> int:

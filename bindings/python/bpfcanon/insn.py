@@ -27,7 +27,7 @@ def insn_show(program: Buffer, *, order: Order = Order.LITTLE) -> str:
     # The longest line is 4 times as long as its instruction.
     answer, out = _library.write("insn_show", 4 * _library.size_of(program), order, program)
     check(answer, InsnCause)
-    return out.decode("ascii")
+    return str(out, "ascii")
 
 
 def insn_read(listing: Union[str, Buffer], *, to: Order = Order.LITTLE) -> bytes:

@@ -1,9 +1,11 @@
 """Calls by many threads, and what other threads do while a call runs."""
 
+import sys
 import threading
 import time
 import unittest
 from concurrent.futures import ThreadPoolExecutor
+from types import FrameType
 from typing import Any, Callable
 
 import bpfcanon
@@ -48,6 +50,26 @@ class Threads(unittest.TestCase):
         with ThreadPoolExecutor(8) as threads:
             for _ in range(20):
                 self.assertEqual(list(threads.map(lambda cause: (cause.label, cause.text), causes)), want)
+
+    def test_frames_of_calls_may_be_kept(self) -> None:
+        """A profiler of another thread keeps frames as `sys._current_frames` returns them, and Dask has one on each worker."""
+        types, program = load("flow_table.little.btf"), load("packet_filter.little.bin")
+        calls: list[Callable[[], object]] = [
+            lambda: bpfcanon.btf_canon(types),
+            lambda: bpfcanon.btf_show(types),
+            lambda: bpfcanon.insn_canon(program),
+            lambda: bpfcanon.insn_front(program + b"\x95"),
+            lambda: bpfcanon.insn_read("mov r0, 1 ; a comment\nexit\n"),
+            lambda: bpfcanon.insn_show(program),
+        ]
+        want = [call() for call in calls]
+        frames: list[FrameType] = []
+        sys.setprofile(lambda frame, *_: frames.append(frame))
+        try:
+            got = [call() for call in calls]
+        finally:
+            sys.setprofile(None)
+        self.assertEqual(got, want)
 
     def test_other_threads_run_during_a_call(self) -> None:
         program = EXIT * 4_000_000
