@@ -71,6 +71,7 @@ func TestAnOrderThatIsNoneIsRefused(t *testing.T) {
 	exit := unhex(t, "95 00 0000 00000000")
 	for name, call := range map[string]func() error{
 		"BTFCanon":        func() error { _, err := bpfcanon.BTFCanon(none, btf(binary.LittleEndian, nil, "\x00")); return err },
+		"EncodeBTF":       func() error { _, err := bpfcanon.EncodeBTF(none, nil); return err },
 		"InsnCanon":       func() error { _, err := bpfcanon.InsnCanon(none, bpfcanon.Little, exit); return err },
 		"InsnCanon to":    func() error { _, err := bpfcanon.InsnCanon(bpfcanon.Little, none, exit); return err },
 		"InsnShow":        func() error { _, err := bpfcanon.InsnShow(none, exit); return err },

@@ -16,7 +16,7 @@ import (
 var changes = flag.Int("changes", 20_000, "how many changed inputs a test tries")
 
 // Checks the types that any bytes are decoded to: the answer is that of BTFCheck, the values are those of the listing that BTFShow
-// writes, and everything that they refer to is there. Returns whether they are decoded.
+// writes, everything that they refer to is there, and encoded they are the bytes of BTFCanon. Returns whether they are decoded.
 func checkTypes(t *testing.T, file []byte) bool {
 	t.Helper()
 	count, want := bpfcanon.BTFCheck(file)
@@ -35,6 +35,12 @@ func checkTypes(t *testing.T, file []byte) bool {
 	for id := bpfcanon.ID(1); int(id) <= b.Len(); id++ {
 		checkReferences(t, b, id)
 	}
+	canonical, err := bpfcanon.BTFCanon(bpfcanon.Little, file)
+	if err != nil {
+		t.Error(err)
+	}
+	encoded, err := bpfcanon.EncodeBTF(bpfcanon.Little, b.Types())
+	wantBytes(t, "encoded types", encoded, err, canonical)
 	return true
 }
 

@@ -90,3 +90,12 @@ func (b *BTF) Type(id ID) Type {
 	}
 	return nil
 }
+
+// Types returns the types with the IDs 1 to Len, for example to change some of them and encode all.
+func (b *BTF) Types() []Type {
+	types := make([]Type, len(b.types))
+	for i := range types {
+		types[i] = b.typeOf(&b.types[i])
+	}
+	return types
+}

@@ -194,6 +194,10 @@ func TestTypes(t *testing.T) {
 				continue
 			}
 			wantBytes(t, row[0]+", decoded", []byte(typeListingOf(decoded)), nil, text(t, row[5]))
+			for _, to := range orders {
+				got, err := bpfcanon.EncodeBTF(to, decoded.Types())
+				wantBytes(t, row[0]+", encoded", got, err, canonical[to])
+			}
 		}
 	}
 }
