@@ -6,7 +6,7 @@ if and only if their canonical bytes are equal. Every other input raises a Fault
 the cause of its first fault.
 
 Instructions and types can also be looked at as values: Program and Btf decode them into the frozen
-dataclasses of bpfcanon.insn_types and bpfcanon.types.
+dataclasses of bpfcanon.insn_types and bpfcanon.types, and insn_encode and btf_encode encode these.
 
 The work is done by the C library libbpfcanon, whose core is proved to meet its contracts. The few
 lines of C around that core and this package are tested. The library is loaded at the first call:
@@ -25,7 +25,7 @@ from . import _library
 from ._library import Buffer
 from .btf import btf_canon, btf_check, btf_same, btf_show
 from .causes import BtfCause, Cause, Group, InsnCause, LineCause, Order
-from .errors import BpfcanonError, EncodeError, Fault, NoSuchType, OrderError, OutOfMemory, UnknownCause, UnknownRecord
+from .errors import BpfcanonError, EncodeError, EncodeTypeError, Fault, NoSuchType, OrderError, OutOfMemory, UnknownCause, UnknownRecord
 from .insn import Front, insn_canon, insn_front, insn_groups, insn_read, insn_same, insn_show, insn_stream
 
 __version__ = "0.1.0"
@@ -37,6 +37,7 @@ __all__ = [
     "Buffer",
     "Cause",
     "EncodeError",
+    "EncodeTypeError",
     "Fault",
     "Front",
     "Group",
@@ -51,6 +52,7 @@ __all__ = [
     "UnknownRecord",
     "btf_canon",
     "btf_check",
+    "btf_encode",
     "btf_same",
     "btf_show",
     "insn_canon",
@@ -68,9 +70,10 @@ __all__ = [
 # Typed values are loaded when they are first used: their classes take longer to make than the rest of the package.
 if TYPE_CHECKING:
     from .program import Program, insn_encode, insns
+    from .type_encoding import btf_encode
     from .type_table import Btf
 else:
-    _TYPED = {"Btf": "type_table", "Program": "program", "insn_encode": "program", "insns": "program"}
+    _TYPED = {"Btf": "type_table", "Program": "program", "btf_encode": "type_encoding", "insn_encode": "program", "insns": "program"}
 
     def __getattr__(name):
         if name not in _TYPED:

@@ -3,7 +3,7 @@
 from typing import Any, Callable, Optional, Union
 
 from . import _library
-from .causes import Cause
+from .causes import BtfCause, Cause
 
 
 class BpfcanonError(Exception):
@@ -103,6 +103,26 @@ class EncodeError(BpfcanonError, ValueError):
 
     def __str__(self) -> str:
         return f"instruction {self.index} can't be encoded: {self.insn!r}"
+
+
+class EncodeTypeError(BpfcanonError, ValueError):
+    """A value that can't be encoded as a type of BTF.
+
+    index  the index of the value among those that were to be encoded, from 0; its ID is 1 more
+    type   the value
+    cause  what is wrong, such as BtfCause.REFERENCE if an ID is over the number of types; None for a value that no BTF holds: of
+           another class, with a field of another type, a number that its field can't hold, or a name with a NUL
+    """
+
+    def __init__(self, index: int, type: object, cause: Optional[BtfCause]) -> None:
+        super().__init__(index, type, cause)
+        self.index = index
+        self.type = type
+        self.cause = cause
+
+    def __str__(self) -> str:
+        reason = f"{self.cause.label}: {self.cause.text}" if self.cause else repr(self.type)
+        return f"the type with index {self.index} can't be encoded: {reason}"
 
 
 def position_of(error: Union[Fault, UnknownCause]) -> str:

@@ -41,7 +41,7 @@ def fault_of(call: Callable[[], object]) -> Optional[tuple[object, ...]]:
 
 
 def walk_types(file: bytes) -> bool:
-    """Whether a file is accepted. Then each type is looked up, resolved and compared with the listing."""
+    """Whether a file is accepted. Then each type is looked up, resolved and compared with the listing, and all are encoded again."""
     fault = fault_of(lambda: bpfcanon.btf_check(file))
     assert fault_of(lambda: Btf(file)) == fault, file.hex()
     if fault:
@@ -49,6 +49,7 @@ def walk_types(file: bytes) -> bool:
     btf = Btf(file)
     listing = "".join(f"{line}\n" for id, it in btf.types.items() for line in type_lines(id, it))
     assert listing == bpfcanon.btf_show(file), file.hex()
+    assert bpfcanon.btf_encode(btf.types.values()) == bpfcanon.btf_canon(file), file.hex()
     for id in btf.types:
         end = btf.resolve(id)
         assert end is None or end == 0 or end in btf.types, file.hex()

@@ -40,8 +40,11 @@ class Typed(unittest.TestCase):
 
     def test_types(self) -> None:
         for name, *files, count, shown in rows("btf"):
+            canonical = dict(zip(ORDERS, map(data, files[1:])))
             for file in {*map(data, files)}:
                 btf = Btf(file)
+                for to in ORDERS:
+                    self.assertEqual(bpfcanon.btf_encode(btf.types.values(), to=to), canonical[to], name)
                 self.assertEqual(type_listing(btf).encode(), text(shown), name)
                 self.assertEqual((len(btf.types), list(btf.types)), (int(count), list(range(1, int(count) + 1))), name)
 
