@@ -1,11 +1,14 @@
 //! BTF, the types of BPF programs ([btf.rst](https://docs.kernel.org/bpf/btf.html)), as the bytes
 //! of the section `.BTF` of an object file.
 
+mod encode;
 mod file;
 mod items;
 mod resolve;
 mod types;
+mod writer;
 
+pub use encode::{encode, EncodeError};
 pub use file::{Btf, Types};
 pub use items::{Item, Items};
 pub use resolve::ResolveError;

@@ -8,8 +8,8 @@
 //! cause of its first fault.
 //!
 //! [`insn::Program`] and [`btf::Btf`] decode an input into values, for programs that inspect or
-//! compare it: [`insn::Insn`], [`btf::Type`] and [`btf::Item`]. [`insn::encode`] is the way back
-//! for instructions.
+//! compare it: [`insn::Insn`], [`btf::Type`] and [`btf::Item`]. [`insn::encode`] and
+//! [`btf::encode`] are the way back.
 //!
 //! The crate calls the C library `libbpfcanon`, whose calls are proved to meet their contracts. The
 //! few lines of C around them and this crate are tested. The build script finds the library by

@@ -64,6 +64,8 @@ fn read_types(file: &[u8]) -> bool {
         }
         assert!(btf.by_name(it.name()).any(|(found, _)| found == id));
     }
+    let types = btf.iter().map(|(id, it)| (it, btf.items(id)));
+    assert_eq!(btf::encode(Order::Big, types).ok(), btf::canon(Order::Big, file).ok());
     assert_eq!(btf.iter().count(), btf.len());
     assert_eq!(btf.get(TypeId(btf.len() as u32 + 1)), None);
     true

@@ -209,6 +209,10 @@ fn types_have_the_fields_of_their_lines() {
             let btf = Btf::decode(&file).unwrap();
             assert_eq!(listing(&btf).as_bytes(), text(&row[5]), "{}", row[0]);
             assert_eq!(btf.len().to_string(), row[4], "{}", row[0]);
+            for (to, canonical) in ORDERS.into_iter().zip(&row[2..4]) {
+                let types = btf.iter().map(|(id, it)| (it, btf.items(id)));
+                assert_eq!(btf::encode(to, types), Ok(data(canonical)), "{}", row[0]);
+            }
         }
     }
 }
