@@ -7,8 +7,8 @@
 // if and only if their canonical bytes are equal. Every other input is refused with a *FaultError,
 // which holds the offset and the cause of its first fault.
 //
-// DecodeInsns and DecodeBTF return the instructions and types themselves, as values of Go, and
-// EncodeInsns writes instructions. They refuse the same inputs. A type is made when it is asked for,
+// DecodeInsns and DecodeBTF return the instructions and types themselves, as values of Go, and refuse
+// the same inputs; EncodeInsns and EncodeBTF are the way back. A type is made when it is asked for,
 // and its names are substrings of one copy of the input. Types can form a circle: a program that
 // follows the targets of types by itself, and not by Resolve, needs a limit.
 //

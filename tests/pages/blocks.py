@@ -45,8 +45,8 @@ TESTS = {
     ("docs/TRUST.md", "rattle"): ("tests/pages/trust.py", 3),
     ("docs/TRUST.md", "text"): ("tests/pages/trust.py", 2),
     **{("docs/INTEGRATIONS.md", language): ("tests/recipes", None) for language in INTEGRATED},
-    ("bindings/go/README.md", "go"): ("tests/bindings", 3),
-    ("bindings/go/README.md", "console"): ("tests/bindings", 3),
+    ("bindings/go/README.md", "go"): ("tests/bindings", 4),
+    ("bindings/go/README.md", "console"): ("tests/bindings", 4),
     ("bindings/python/README.md", "python"): ("bindings/python/tests/test_package.py", None),
     ("bindings/rust/README.md", "rust"): ("bindings/rust/src/lib.rs", None),
 }
