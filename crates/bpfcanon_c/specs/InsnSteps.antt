@@ -3,9 +3,9 @@
 use Rattle.std.specs.Prelude.{◌≡◌, ℕ, List, All, length, take}
 use Rattle.std.specs.List.{AllZip}
 use Rattle.bpf_words.specs.declared.Order.{Order, TheVariants.Little}
-use Rattle.bpf_insn.specs.{declared.insn.Insn.Insn, Table.IsInsn, Spelling.InsnFile, Spelling.file_of}
+use Rattle.bpf_insn.specs.{declared.insn.Insn.Insn, Table.IsInsn, Spelling.InsnFile, Spelling.file_of, Spelling.spelling, Faults.BeginsWith}
 use Rattle.bpfcanon_c.specs.declared.insn_rows.InsnRow.{InsnRow}
-use Rattle.bpfcanon_c.specs.{InsnRows.rows_from, InsnEncoding.SaysInsn}
+use Rattle.bpfcanon_c.specs.{InsnRows.row_at, InsnRows.rows_from, InsnEncoding.SaysInsn}
 
 -- ---- decoding
 
@@ -22,6 +22,10 @@ pub record DecodesTo (o : Order) (bytes : List ℕ) (k at : ℕ) (out : List Ins
   pub counted : length out ≡ length insns
   pub place : at ≡ length (file_of o (take k insns))
   pub rows : take k out ≡ rows_from o 0 (take k insns)
+
+-- this is the record, at an offset of its file, of the instruction that the bytes begin with, and the length of its encoding
+abbrev pub HasPut : Order → List ℕ → ℕ → InsnRow → ℕ → Type 0
+HasPut o bytes at row len = (i : Insn) → BeginsWith o i bytes → (row ≡ row_at at i) × (len ≡ length (spelling o i))
 
 -- ---- encoding
 

@@ -10,5 +10,6 @@ pub mod InsnEncoding
 pub mod InsnRows
 pub mod InsnSteps
 pub mod Listings
+pub mod OpcodeRows
 pub mod Outputs
 pub mod TypesText

@@ -53,7 +53,7 @@ pub struct InsnRow {
 
 /// A record with this form, a length of 8 bytes, and 0 in each other field.
 #[inline(always)]
-fn bare_row(form: u8) -> InsnRow
+pub fn bare_row(form: u8) -> InsnRow
     ensures { result ≡ spec.bare_row form }
 {
     InsnRow {
