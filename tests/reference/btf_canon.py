@@ -2,7 +2,7 @@
 
     python3 -m tests.reference.btf_canon < FILE
 
-It shares no code with bpfcanon, and takes minutes for a file with many thousands of names.
+It shares no code with bpfcanon. Its time grows with the square of the number of names: 10,000 need a quarter of a minute.
 """
 
 import sys
