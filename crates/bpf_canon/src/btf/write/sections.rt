@@ -152,6 +152,28 @@ fn push_records<A: Allocator, B: Allocator + Copy>(
     Ok(())
 }
 
+/// The canonical bytes of the records, with these names.
+#[tactic(auto, using(crate::proofs::BtfLemmas::Write::SectionFiles::section_steps))]
+fn write_placed<A: Allocator + Copy>(
+    alloc: A,
+    to: Order,
+    names: &SharedPlaces<'_, A>,
+    sections: &FileSections<'_>,
+) -> Result<Vec<u8, A>, AllocError>
+    requires table { spec.AreTable sections.now }
+    requires strings { names.now.strings ≡ sections.now.strings.now }
+    requires offsets { names.now.offsets ≡ noted_all [] (all_offsets (spec.frames_of sections.now)) }
+    ensures { IfOk result (λ bytes. bytes.items ≡ canonical to (spec.records_of sections.now)) }
+{
+    let types_len = sections.types.len();
+    let table_len = names.table_len();
+    let mut bytes = Vec::with_capacity(alloc, 24 + types_len + table_len as usize)?;
+    push_header(&mut bytes, to, types_len as u32, table_len)?;
+    push_records(&mut bytes, to, names, sections)?;
+    names.push_table(&mut bytes)?;
+    Ok(bytes)
+}
+
 /// The canonical bytes of the records that these sections encode.
 #[tactic(auto, using(crate::proofs::BtfLemmas::Write::SectionFiles::section_steps))]
 pub(crate) fn write_sections<A: Allocator + Copy>(
@@ -164,11 +186,5 @@ pub(crate) fn write_sections<A: Allocator + Copy>(
 {
     let uses = noted_names(alloc, sections)?;
     let names = SharedPlaces::find(alloc, sections.strings, uses)?;
-    let types_len = sections.types.len();
-    let table_len = names.table_len();
-    let mut bytes = Vec::with_capacity(alloc, 24 + types_len + table_len as usize)?;
-    push_header(&mut bytes, to, types_len as u32, table_len)?;
-    push_records(&mut bytes, to, &names, sections)?;
-    names.push_table(&mut bytes)?;
-    Ok(bytes)
+    write_placed(alloc, to, &names, sections)
 }

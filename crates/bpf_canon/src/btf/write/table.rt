@@ -143,8 +143,30 @@ fn push_table_record<T: TypeTable, A: Allocator, B: Allocator + Copy>(
     Ok(())
 }
 
-/// The canonical bytes of a table that exposes no sections: its names are read as strings.
+/// The canonical bytes of a table with these names.
 #[tactic(auto, using(crate::proofs::BtfLemmas::Write::WriteSteps::record_steps))]
+fn write_named<T: TypeTable, A: Allocator + Copy>(
+    alloc: A,
+    order: Order,
+    names: &SharedNames<'_, A>,
+    table: &T,
+) -> Result<Vec<u8, A>, AllocError>
+    requires good { IsGood (T.meaning table.now) }
+    requires kept { names.now ≡ kept (spec.names (T.meaning table.now)) }
+    ensures { IfOk result (λ bytes. bytes.items ≡ canonical order (T.meaning table.now)) }
+{
+    let mut types = Vec::new(alloc);
+    for index in 0..table.count() {
+        push_table_record(&mut types, order, names, table, index + 1)?;
+    }
+    let mut bytes = Vec::new(alloc);
+    push_header(&mut bytes, order, types.len() as u32, names.table_len())?;
+    bytes.extend_from_slice(types.as_slice())?;
+    names.push_table(&mut bytes)?;
+    Ok(bytes)
+}
+
+/// The canonical bytes of a table that exposes no sections: its names are read as strings.
 fn write_table<T: TypeTable, A: Allocator + Copy>(
     alloc: A,
     order: Order,
@@ -155,15 +177,7 @@ fn write_table<T: TypeTable, A: Allocator + Copy>(
 {
     let kept = kept_names(alloc, table)?;
     let names = SharedNames::new(alloc, kept)?;
-    let mut types = Vec::new(alloc);
-    for index in 0..table.count() {
-        push_table_record(&mut types, order, &names, table, index + 1)?;
-    }
-    let mut bytes = Vec::new(alloc);
-    push_header(&mut bytes, order, types.len() as u32, names.table_len())?;
-    bytes.extend_from_slice(types.as_slice())?;
-    names.push_table(&mut bytes)?;
-    Ok(bytes)
+    write_named(alloc, order, &names, table)
 }
 
 /// The canonical bytes of a type table in the given byte order (btf.rst section 2): a 24-byte
