@@ -2,96 +2,138 @@
 //!
 //! A test gives a call 0 bytes, 1 byte, and so on. Each growth that needs more than the ones before it therefore fails once.
 
-use super::expect::holds;
+ghost use Rattle.std.specs.Prelude.{◌<◌};
+ghost use Rattle.bpf_canon.specs.device.Memory.{source_failures};
+
+use crate::{MemSource, RunCause, RunError, read_all};
 use bumpalo::Bump;
-use std::alloc::Global;
-use std::process::Abort;
-use std::test::Fail;
+use std::alloc::{AllocError, Global};
 
 /// How many bytes an arena has at least, before any are given away.
-pub(crate) const ROOM: usize = 16_384;
+const ROOM: usize = 16_384;
 
 /// A test ends after this number of calls with enough memory, and one more with all of the arena.
 const ENOUGH: usize = 16;
 
-/// Allocates all of the arena except `room` bytes. It gets no other chunk.
-pub(crate) fn leave(rt: &impl Abort, bump: &Bump<Global>, room: usize) {
-    let taken = [0u8; 2 * ROOM];
-    let bytes = bump.chunk_capacity().saturating_sub(room);
-    assert!(rt; bytes <= taken.len());
-    assert!(rt; bump.try_alloc_slice_copy(&taken[..bytes]).is_ok());
-    assert_eq!(rt; bump.chunk_capacity(), room);
+/// An arena with `room` free bytes: the others are allocated first. It gets no other chunk.
+pub(crate) fn arena(alloc: Global, room: usize) -> Result<Bump<Global>, AllocError> {
+    let bump = Bump::try_with_capacity(alloc, ROOM)?;
+    let taken = bump.chunk_capacity().saturating_sub(room);
+    bump.try_alloc_slice_fill_clone(taken, 0u8)?;
     bump.set_allocation_limit(Some(bump.allocated_bytes()));
+    if bump.chunk_capacity() != room {
+        return Err(AllocError);
+    }
+    Ok(bump)
+}
+
+/// What a call returned in an arena.
+#[derive(Clone, Copy)]
+pub(crate) enum Outcome {
+    /// What it returns with ample memory.
+    Whole,
+    /// Out of memory at this point of the call, as far as the call distinguishes them.
+    Refused(usize),
+    /// Another answer.
+    Wrong,
+}
+
+/// The outcome of a call that had enough memory, by whether its answer is right.
+pub(crate) fn whole_if(is_right: bool) -> Outcome {
+    if is_right {
+        Outcome::Whole
+    } else {
+        Outcome::Wrong
+    }
+}
+
+/// The outcome of a call that ran out of memory while it read a source of `len` bytes.
+pub(crate) fn refused_reading(alloc: Global, source: &mut MemSource<'_>, len: usize) -> Outcome
+    requires { source_failures source.old < u64.MAX }
+{
+    match read_all(alloc, source, len as u64) {
+        Ok(rest) => Outcome::Refused(len.saturating_sub(rest.len())),
+        Err(_) => Outcome::Wrong,
+    }
+}
+
+/// The outcome of a run that has these bytes to write, by those that its sink has stored. A growth of the sink that fails is a failed
+/// write.
+pub(crate) fn sunk<F: Drop>(ran: &Result<u64, RunError<F>>, out: &[u8], whole: &[u8]) -> Outcome {
+    let (cause, written) = match ran {
+        Ok(written) => return whole_if(out == whole && *written == out.len() as u64),
+        Err(stop) => (&stop.cause, stop.written),
+    };
+    let is_front = whole.starts_with(out) && out.len() < whole.len();
+    if is_front && written == out.len() as u64 && matches!(cause, RunCause::WriteFailed) {
+        return Outcome::Refused(out.len());
+    }
+    Outcome::Wrong
 }
 
 /// What a call returned with ever more memory.
-#[derive(Drop)]
+#[derive(Clone, Copy, Debug)]
 pub(crate) struct Tally {
     /// How many rooms were too small, from 0 bytes on.
     pub(crate) refused: usize,
-    /// The number of points of the call at which growths failed, as far as the call distinguishes them.
+    /// The number of points of the call at which growths failed, and the last of them.
     pub(crate) places: usize,
+    pub(crate) last_place: Option<usize>,
     /// How many rooms were enough.
     pub(crate) done: usize,
-    last_place: Option<usize>,
+    /// The first room in which the call returned something else, came less far than in a smaller one, or ran out of memory although a
+    /// smaller one was enough.
+    pub(crate) wrong: Option<usize>,
 }
 
 impl Tally {
-    pub(crate) fn new() -> Tally {
-        Tally {
-            refused: 0,
-            places: 0,
-            done: 0,
-            last_place: None,
-        }
-    }
-
-    /// Makes a call with ever more memory. The call returns the point at which it ran out of memory.
-    pub(crate) fn of<Call: FnMut(&Bump<Global>) -> Option<usize>>(
-        rt: &impl Abort,
+    /// Makes a call with ever more memory.
+    pub(crate) fn of<Call: FnMut(&Bump<Global>) -> Outcome>(
         alloc: Global,
         mut call: Call,
-    ) -> Result<Tally, Fail>
+    ) -> Result<Tally, AllocError>
         requires { (f : _) (x : _) → Call.pre f x }
     {
-        let mut tally = Tally::new();
+        let mut tally = Tally {
+            refused: 0,
+            places: 0,
+            last_place: None,
+            done: 0,
+            wrong: None,
+        };
         for more in 0..=ROOM {
             let room = if tally.done == ENOUGH { ROOM } else { more };
-            let bump = Bump::try_with_capacity(alloc, ROOM)?;
-            leave(rt, &bump, room);
-            match call(&bump) {
-                None => tally.succeed(),
-                Some(place) => tally.refuse(rt, place),
-            }
-            if tally.done > ENOUGH {
+            tally.count(room, call(&arena(alloc, room)?));
+            if tally.done > ENOUGH || tally.wrong.is_some() {
                 return Ok(tally);
             }
         }
-        Err("no room is enough")?
+        Ok(tally)
     }
 
-    /// Checks that at least this many rooms were too small, at this many points or more.
-    pub(crate) fn has_at_least(&self, rt: &impl Abort, refused: usize, places: usize) {
-        let found = (self.refused, self.places);
-        holds(rt, refused <= found.0 && places <= found.1, &found);
+    /// Counts what the call returned in a room. With more memory it gets at least as far.
+    fn count(&mut self, room: usize, outcome: Outcome) {
+        match outcome {
+            Outcome::Whole => self.done = self.done.saturating_add(1),
+            Outcome::Refused(place) if self.done == 0 && self.last_place <= Some(place) => {
+                self.refuse(place);
+            }
+            _ => self.wrong = Some(room),
+        }
     }
 
-    /// Counts a call that had enough memory. Each later one has, too.
-    pub(crate) fn succeed(&mut self) {
-        self.done = self.done.saturating_add(1);
-    }
-
-    /// Counts a call that ran out of memory at a point. With more memory it gets at least as far.
-    pub(crate) fn refuse(&mut self, rt: &impl Abort, place: usize) {
-        assert!(rt; self.done == 0, "a call with more room runs out of memory");
-        assert!(rt;
-            self.last_place <= Some(place),
-            "a call with more room comes less far"
-        );
+    /// Counts a call that ran out of memory at a point.
+    fn refuse(&mut self, place: usize) {
         self.refused = self.refused.saturating_add(1);
         if self.last_place != Some(place) {
             self.places = self.places.saturating_add(1);
             self.last_place = Some(place);
         }
+    }
+
+    /// Whether no answer was wrong, and at least this many rooms were too small, at this many points or more.
+    pub(crate) fn is_right(&self, refused: usize, places: usize) -> bool {
+        let is_whole = self.done > ENOUGH && self.wrong.is_none();
+        is_whole && refused <= self.refused && places <= self.places
     }
 }

@@ -1,65 +1,95 @@
 //! Canonical bytes and comparison of BTF files.
 
 use super::btf_files::{
-    BIG_INT, BIT_FIELD, BtfFile, EMPTY, ENUM, FAULTY, INT, LOOSE_INT, STRINGS_FIRST, WIDE_OFFSET,
+    BIG_INT, BIT_FIELD, EMPTY, ENUM, FAULTY, INT, LOOSE_INT, STRINGS_FIRST, WIDE_OFFSET,
     worked_files,
 };
-use super::compiled_types::{FLOW_TABLE_BIG, FLOW_TABLE_LITTLE};
+use super::btf_run::run_in_pieces;
+use super::compiled_types::{flow_table_big, flow_table_little};
 use super::expect::{equal, equal_bytes, holds};
 use super::faulty_btf::{FaultyBtf, faulty_files};
+use super::fused_devices::FusedDevices;
 use super::own_table::Counting;
-use crate::{
-    MemSink, MemSource, RunCause, RunError, SideError, canon_btf, canonical_in, run_btf, same_btf,
-    write_btf,
-};
+use crate::{RunCause, RunError, SideError, canon_btf, canonical_in, same_btf, write_btf};
 use bpf_words::Order;
 use btf_raw::{BtfCause, BtfFault};
-use btf_types::{Btf, BtfError, BtfView};
-use std::alloc::Global;
+use btf_types::{Btf, BtfError, BtfView, TypeTable};
+use std::alloc::{AllocError, Global};
 use std::process::Abort;
 use std::test::Fail;
 
-/// The canonical bytes of a file in a byte order, written from an owned table, a borrowed one and one of a user, and
-/// by `canonical_in`. They agree.
-pub(crate) fn written(
+/// Whether a table is written as these bytes.
+pub(crate) fn writes<T: TypeTable>(
+    alloc: Global,
+    order: Order,
+    table: &T,
+    bytes: &[u8],
+) -> Result<bool, AllocError> {
+    Ok(write_btf(alloc, order, table)?.as_slice() == bytes)
+}
+
+/// Whether an owned table of a file is written as these bytes.
+fn is_owned(alloc: Global, order: Order, file: &[u8], bytes: &[u8]) -> Result<bool, BtfError> {
+    let table = Btf::parse(alloc, file)?;
+    Ok(writes(alloc, order, &table, bytes)?)
+}
+
+/// Whether a borrowed table of a file is written as these bytes, and one of a user.
+fn is_lent(alloc: Global, order: Order, file: &[u8], bytes: &[u8]) -> Result<bool, BtfError> {
+    let table = BtfView::parse(alloc, file)?;
+    let is_lent = writes(alloc, order, &table, bytes)?;
+    Ok(is_lent && writes(alloc, order, &Counting::new(&table), bytes)?)
+}
+
+/// The canonical bytes of a file in a byte order, by `canonical_in`. An owned table, a borrowed one and one of a user give the same.
+fn written(rt: &impl Abort, alloc: Global, order: Order, file: &[u8]) -> Result<Vec<u8>, BtfError> {
+    let whole = canonical_in(alloc, order, file)?;
+    let is_same = is_owned(alloc, order, file, &whole)? && is_lent(alloc, order, file, &whole)?;
+    holds(rt, is_same, &"the ways to write a file");
+    Ok(whole)
+}
+
+/// Checks what is written for a file in an order.
+fn check_written(
     rt: &impl Abort,
     alloc: Global,
     order: Order,
+    file: &[u8],
     bytes: &[u8],
-) -> Result<Vec<u8>, Fail> {
-    let owned = write_btf(alloc, order, &Btf::parse(alloc, bytes)?)?;
-    let view = BtfView::parse(alloc, bytes)?;
-    let lent = write_btf(alloc, order, &view)?;
-    let own = write_btf(alloc, order, &Counting::new(&view))?;
-    let whole = canonical_in(alloc, order, bytes)?;
-    holds(
-        rt,
-        owned == lent && owned == own && owned == whole,
-        &"four ways to write a file",
-    );
-    Ok(owned)
+) -> Result<(), BtfError> {
+    let found = written(rt, alloc, order, file)?;
+    equal_bytes(rt, found.as_slice(), bytes, &order);
+    Ok(())
+}
+
+/// Checks the canonical bytes of a file, by each call.
+fn check_canonical(
+    rt: &impl Abort,
+    alloc: Global,
+    file: &[u8],
+    canonical: &[u8],
+) -> Result<(), BtfError> {
+    let canon = canon_btf(alloc, file)?;
+    equal_bytes(rt, canon.as_slice(), canonical, &"canonical bytes");
+    check_written(rt, alloc, Order::Little, file, canonical)
 }
 
 /// Writes a file in both orders. The canonical bytes are no longer than the file, have the same records, and are their own canonical
 /// bytes.
-fn check_file(rt: &impl Abort, alloc: Global, file: &BtfFile) -> Result<(), Fail> {
-    let canon = canon_btf(alloc, file.bytes)?;
-    equal_bytes(rt, canon.as_slice(), file.canonical, &file.name);
-    let little = written(rt, alloc, Order::Little, file.bytes)?;
-    equal_bytes(rt, little.as_slice(), file.canonical, &file.name);
-    let big = written(rt, alloc, Order::Big, file.bytes)?;
-    let is_short = little.len() <= file.bytes.len() && big.len() == little.len();
-    holds(rt, is_short, &file.name);
-    let again = written(rt, alloc, Order::Little, &big)?;
-    equal_bytes(rt, again.as_slice(), file.canonical, &file.name);
-    let twice = canon_btf(alloc, file.canonical)?;
-    equal_bytes(rt, twice.as_slice(), file.canonical, &file.name);
-    equal(
-        rt,
-        &same_btf(alloc, file.bytes, &big),
-        &Ok(true),
-        &file.name,
-    );
+pub(crate) fn check_file(
+    rt: &impl Abort,
+    alloc: Global,
+    file: &[u8],
+    canonical: &[u8],
+) -> Result<(), BtfError> {
+    check_canonical(rt, alloc, file, canonical)?;
+    check_canonical(rt, alloc, canonical, canonical)?;
+    let big = written(rt, alloc, Order::Big, file)?;
+    check_canonical(rt, alloc, &big, canonical)?;
+    let lens = (canonical.len() <= file.len(), big.len());
+    equal(rt, &lens, &(true, canonical.len()), &"the lengths");
+    let same = same_btf(alloc, file, &big);
+    equal(rt, &same, &Ok(true), &"a file in the other order");
     Ok(())
 }
 
@@ -68,11 +98,20 @@ fn files_have_one_canonical_form_from_every_table_in_both_orders(
     rt: HostRuntime,
 ) -> Result<(), Fail> {
     for file in worked_files().into_iter().flatten() {
-        check_file(&rt, rt.alloc(), file)?;
+        check_file(&rt, rt.alloc(), file.bytes, file.canonical)?;
+        run_in_pieces(&rt, rt.alloc(), file);
     }
-    for (file, big) in [(BIG_INT, BIG_INT), (INT, BIG_INT), (ENUM, ENUM)] {
-        let own = written(&rt, rt.alloc(), Order::Big, file)?;
-        equal_bytes(&rt, own.as_slice(), big, &file);
+    Ok(())
+}
+
+/// Files, and what is written for them in big-endian order.
+#[rattlefmt::skip]
+static BIG: [(&[u8], &[u8]); 3] = [(BIG_INT, BIG_INT), (INT, BIG_INT), (ENUM, ENUM)];
+
+#[test]
+fn files_are_written_in_big_endian_order(rt: HostRuntime) -> Result<(), Fail> {
+    for (file, big) in &BIG {
+        check_written(&rt, rt.alloc(), Order::Big, file, big)?;
     }
     Ok(())
 }
@@ -90,8 +129,7 @@ const FAULT_OF_FAULTY: BtfFault = BtfFault {
 };
 
 #[rattlefmt::skip]
-static COMPARISONS: [Comparison; 10] = [
-    Comparison { first: FLOW_TABLE_BIG, second: FLOW_TABLE_LITTLE, answer: Ok(true) },
+static COMPARISONS: [Comparison; 9] = [
     Comparison { first: EMPTY, second: STRINGS_FIRST, answer: Ok(true) },
     Comparison { first: WIDE_OFFSET, second: BIT_FIELD, answer: Ok(false) },
     Comparison { first: WIDE_OFFSET, second: WIDE_OFFSET, answer: Ok(true) },
@@ -104,6 +142,12 @@ static COMPARISONS: [Comparison; 10] = [
 ];
 
 #[test]
+fn a_compiled_file_is_the_same_in_both_orders(rt: HostRuntime) {
+    let same = same_btf(rt.alloc(), flow_table_big(), flow_table_little());
+    equal(&rt, &same, &Ok(true), &"the compiled files");
+}
+
+#[test]
 fn btf_files_are_the_same_if_their_types_are(rt: HostRuntime) {
     for row in &COMPARISONS {
         let same = same_btf(rt.alloc(), row.first, row.second);
@@ -114,26 +158,22 @@ fn btf_files_are_the_same_if_their_types_are(rt: HostRuntime) {
 /// Canonical bytes, comparison on both sides, and the engine report the first fault.
 fn check_refused(rt: &impl Abort, alloc: Global, file: &FaultyBtf) {
     let (bytes, fault) = (file.bytes, file.fault);
-    match canon_btf(alloc, bytes) {
-        Err(BtfError::Fault(found)) => equal(rt, &found, &fault, &bytes),
-        _ => holds(rt, false, &bytes),
-    }
-    let first = same_btf(alloc, bytes, INT);
-    equal(rt, &first, &Err(SideError::First(fault)), &bytes);
-    let second = same_btf(alloc, INT, bytes);
-    equal(rt, &second, &Err(SideError::Second(fault)), &bytes);
-    let itself = same_btf(alloc, bytes, bytes);
-    equal(rt, &itself, &Err(SideError::First(fault)), &bytes);
-    let mut source = MemSource::new(bytes, 7, None);
-    let mut out = Vec::new(alloc);
-    let mut sink = MemSink::new(&mut out, 7, None);
-    let ran = run_btf(alloc, &mut source, &mut sink, Order::Little);
+    let found = canon_btf(alloc, bytes).err();
+    equal(rt, &found, &Some(BtfError::Fault(fault)), &bytes);
+    let compared = [
+        same_btf(alloc, bytes, INT),
+        same_btf(alloc, INT, bytes),
+        same_btf(alloc, bytes, bytes),
+    ];
+    let (first, second) = (Err(SideError::First(fault)), Err(SideError::Second(fault)));
+    equal(rt, &compared, &[first, second, first], &bytes);
+    let run = FusedDevices::sound(bytes, 7).run_btf(rt, alloc, Order::Little);
     let stop = RunError {
         cause: RunCause::Fault(fault),
         written: 0,
     };
-    equal(rt, &ran, &Err(stop), &bytes);
-    equal(rt, &out.len(), &0, &bytes);
+    equal(rt, &run.ended, &Err(stop), &bytes);
+    equal(rt, &run.taken.len(), &0, &bytes);
 }
 
 #[test]

@@ -2,7 +2,7 @@
 
 ghost use Rattle.std.specs.Prelude.{None, ℕ, List};
 
-use super::btf_files::{BIG_INT, BtfFile, FAULTY, INT, worked_files};
+use super::btf_files::{BIG_INT, BtfFile, FAULTY, INT};
 use super::expect::{equal, equal_bytes};
 use super::fused_devices::FusedDevices;
 use crate::{
@@ -50,12 +50,10 @@ fn run_file(rt: &impl Abort, alloc: Global, file: &BtfFile, piece: usize) {
     );
 }
 
-#[test]
-fn runs_btf_files_in_pieces(rt: HostRuntime) {
-    for file in worked_files().into_iter().flatten() {
-        for piece in [1usize, 3, 8, 5000] {
-            run_file(&rt, rt.alloc(), file, piece);
-        }
+/// Runs a file in pieces of several lengths.
+pub(crate) fn run_in_pieces(rt: &impl Abort, alloc: Global, file: &BtfFile) {
+    for piece in [1usize, 3, 8, 5000] {
+        run_file(rt, alloc, file, piece);
     }
 }
 
@@ -120,10 +118,10 @@ fn each_failed_read_or_write_stops_the_engine_on_btf(rt: HostRuntime) {
     run_fused(&rt, rt.alloc(), (Some(11), Some(46)), Ok(45));
 }
 
-/// Gives this number of zero bytes, or zero bytes without end.
+/// Gives this number of zero bytes, of which `u64::MAX` never end.
 #[derive(Drop)]
 struct Zeros {
-    left: Option<u64>,
+    left: u64,
 }
 
 impl ByteSource for Zeros {
@@ -132,9 +130,8 @@ impl ByteSource for Zeros {
     ghost failures = { λ _. 0 };
 
     fn read(&mut self, buffer: &mut [u8]) -> Result<usize, DeviceFailed> {
-        let room = buffer.len() as u64;
-        let given = self.left.map_or(room, |left| room.min(left));
-        self.left = self.left.map(|left| left.saturating_sub(given));
+        let given = self.left.min(buffer.len() as u64);
+        self.left = self.left.saturating_sub(given);
         buffer.fill(0);
         Ok(buffer.len().min(given as usize))
     }
@@ -143,9 +140,9 @@ impl ByteSource for Zeros {
 #[test]
 fn inputs_longer_than_any_btf_are_too_long(rt: HostRuntime) {
     for (left, cause) in [
-        (Some(50_335_744), RunCause::Fault(MAGIC)),
-        (Some(50_335_745), RunCause::TooLong),
-        (None, RunCause::TooLong),
+        (50_335_744, RunCause::Fault(MAGIC)),
+        (50_335_745, RunCause::TooLong),
+        (u64::MAX, RunCause::TooLong),
     ] {
         let mut source = Zeros { left };
         let mut out = Vec::new(rt.alloc());

@@ -1,7 +1,17 @@
 //! BTF that clang compiled for both byte orders (`testdata/README.md` says how).
 
+/// The little-endian file. A test that called the constant by its name would be proved with all its bytes.
+pub(crate) fn flow_table_little() -> &'static [u8] {
+    FLOW_TABLE_LITTLE
+}
+
+/// The big-endian file.
+pub(crate) fn flow_table_big() -> &'static [u8] {
+    FLOW_TABLE_BIG
+}
+
 /// The bytes of `testdata/flow_table.little.btf`.
-pub(crate) const FLOW_TABLE_LITTLE: &[u8; 849] = b"\
+const FLOW_TABLE_LITTLE: &[u8; 849] = b"\
     \x9f\xeb\x01\x00\x18\x00\x00\x00\x00\x00\x00\x00\x1c\x02\x00\x00\
     \x1c\x02\x00\x00\x1d\x01\x00\x00\x00\x00\x00\x00\x00\x00\x00\x0b\
     \x02\x00\x00\x00\x00\x00\x00\x00\x00\x00\x00\x02\x03\x00\x00\x00\
@@ -58,7 +68,7 @@ pub(crate) const FLOW_TABLE_LITTLE: &[u8; 849] = b"\
     \x00";
 
 /// The bytes of `testdata/flow_table.big.btf`.
-pub(crate) const FLOW_TABLE_BIG: &[u8; 849] = b"\
+const FLOW_TABLE_BIG: &[u8; 849] = b"\
     \xeb\x9f\x01\x00\x00\x00\x00\x18\x00\x00\x00\x00\x00\x00\x02\x1c\
     \x00\x00\x02\x1c\x00\x00\x01\x1d\x00\x00\x00\x00\x0b\x00\x00\x00\
     \x00\x00\x00\x02\x00\x00\x00\x00\x02\x00\x00\x00\x00\x00\x00\x03\

@@ -1,5 +1,8 @@
 //! Devices over memory and over readers and writers, and the texts of the errors.
 
+ghost use Rattle.std.specs.Prelude.{◌<◌};
+ghost use Rattle.bpf_canon.specs.device.Memory.{source_failures};
+
 use super::expect::{equal, equal_bytes};
 use crate::{
     ByteSink, ByteSource, DeviceFailed, MemSink, MemSource, ReadError, ReaderSource, RunCause,
@@ -17,23 +20,29 @@ fn shows(rt: &impl Abort, alloc: Global, error: &impl Display, name: &str) -> Re
     Ok(())
 }
 
-#[test]
-fn errors_show_their_names(rt: HostRuntime) -> Result<(), Fail> {
-    shows(&rt, rt.alloc(), &DeviceFailed, "DeviceFailed")?;
-    for (error, name) in [
+fn show_read_errors(rt: &impl Abort, alloc: Global) -> Result<(), Fail> {
+    for (error, name) in &[
         (ReadError::TooLong, "TooLong"),
         (ReadError::ReadFailed, "ReadFailed"),
         (ReadError::Memory, "Memory"),
     ] {
-        shows(&rt, rt.alloc(), &error, name)?;
+        shows(rt, alloc, error, name)?;
     }
-    for (error, name) in [
+    Ok(())
+}
+
+fn show_side_errors(rt: &impl Abort, alloc: Global) -> Result<(), Fail> {
+    for (error, name) in &[
         (SideError::First(0), "First"),
         (SideError::Second(0), "Second"),
         (SideError::Memory, "Memory"),
     ] {
-        shows(&rt, rt.alloc(), &error, name)?;
+        shows(rt, alloc, error, name)?;
     }
+    Ok(())
+}
+
+fn show_run_errors(rt: &impl Abort, alloc: Global) -> Result<(), Fail> {
     for (cause, name) in [
         (RunCause::Fault(0), "Fault"),
         (RunCause::TooLong, "TooLong"),
@@ -41,11 +50,18 @@ fn errors_show_their_names(rt: HostRuntime) -> Result<(), Fail> {
         (RunCause::WriteFailed, "WriteFailed"),
         (RunCause::Memory, "Memory"),
     ] {
-        shows(&rt, rt.alloc(), &cause, name)?;
-        let error = RunError { cause, written: 8 };
-        shows(&rt, rt.alloc(), &error, name)?;
+        shows(rt, alloc, &cause, name)?;
+        shows(rt, alloc, &RunError { cause, written: 8 }, name)?;
     }
     Ok(())
+}
+
+#[test]
+fn errors_show_their_names(rt: HostRuntime) -> Result<(), Fail> {
+    shows(&rt, rt.alloc(), &DeviceFailed, "DeviceFailed")?;
+    show_read_errors(&rt, rt.alloc())?;
+    show_side_errors(&rt, rt.alloc())?;
+    show_run_errors(&rt, rt.alloc())
 }
 
 /// An input, the piece and the fuse of its source, the limit, and why reading stops if it does.
@@ -89,15 +105,18 @@ fn inputs_within_the_limit_are_read_to_their_end(rt: HostRuntime) {
 #[test]
 fn a_source_returns_pieces_until_its_fuse(rt: HostRuntime) {
     let mut source = MemSource::new(b"abcdefgh", 3, Some(3));
-    let mut buffer = [0u8; 2];
-    equal(&rt, &source.read(&mut buffer), &Ok(2), &"a short buffer");
-    equal_bytes(&rt, &buffer, b"ab", &"a short buffer");
-    let mut buffer = [0u8; 16];
-    equal(&rt, &source.read(&mut buffer), &Ok(3), &"a piece");
-    equal_bytes(&rt, &buffer[..3], b"cde", &"a piece");
+    let (mut short, mut long) = ([0u8; 2], [0u8; 16]);
+    let reads = [
+        source.read(&mut short),
+        source.read(&mut long),
+        source.read(&mut long),
+        source.read(&mut long),
+    ];
     let failed = Err(DeviceFailed);
-    equal(&rt, &source.read(&mut buffer), &failed, &"the fuse");
-    equal(&rt, &source.read(&mut buffer), &failed, &"after the fuse");
+    let wanted = [Ok(2), Ok(3), failed, failed];
+    equal(&rt, &reads, &wanted, &"a piece a read, until the fuse");
+    equal_bytes(&rt, &short, b"ab", &"a short buffer");
+    equal_bytes(&rt, &long[..3], b"cde", &"a piece");
 }
 
 /// The piece and the fuse of a sink, how writing three bytes ends, and what the sink received.
@@ -130,29 +149,47 @@ fn a_sink_accepts_a_prefix_until_its_fuse(rt: HostRuntime) {
 }
 
 #[test]
-fn readers_and_writers_are_devices(rt: HostRuntime) -> Result<(), Fail> {
+fn readers_are_sources(rt: HostRuntime) {
     let mut source = ReaderSource::new(b"abc".as_slice());
-    let read = read_all(rt.alloc(), &mut source, 3)?;
-    equal_bytes(&rt, read.as_slice(), b"abc".as_slice(), &"a reader");
-    let mut out = Vec::new(rt.alloc());
-    let mut sink = WriterSink::new(&mut out);
-    equal(&rt, &sink.write(b""), &Ok(0), &"an empty write");
-    equal(&rt, &put_all(&mut sink, b"abc"), &Ok(()), &"a writer");
-    equal_bytes(&rt, out.as_slice(), b"abc".as_slice(), &"a writer");
-    Ok(())
+    match read_all(rt.alloc(), &mut source, 3) {
+        Ok(read) => equal_bytes(&rt, read.as_slice(), b"abc".as_slice(), &"a reader"),
+        Err(error) => equal(&rt, &Some(error), &None, &"a reader"),
+    }
 }
 
 #[test]
-fn each_read_offers_4096_bytes(rt: HostRuntime) -> Result<(), Fail> {
-    let bytes = [0u8; 5000];
-    let mut source = MemSource::new(bytes.as_slice(), 5000, None);
-    let read = read_all(rt.alloc(), &mut source, 0).err();
-    equal(&rt, &read, &Some(ReadError::TooLong), &"a limit of 0");
-    let rest = read_all(rt.alloc(), &mut source, 5000)?;
-    equal(&rt, &rest.len(), &904, &"what is left");
+fn writers_are_sinks(rt: HostRuntime) {
+    let mut out = Vec::new(rt.alloc());
+    let mut sink = WriterSink::new(&mut out);
+    let ended = (sink.write(b""), put_all(&mut sink, b"abc"));
+    equal(
+        &rt,
+        &ended,
+        &(Ok(0), Ok(())),
+        &"an empty write, and another",
+    );
+    equal_bytes(&rt, out.as_slice(), b"abc".as_slice(), &"a writer");
+}
 
-    // No instruction has the opcode 0, so the engine stops after its first read.
-    let mut source = MemSource::new(bytes.as_slice(), 5000, None);
+/// How many of 5,000 bytes are left in a source.
+fn left_in(alloc: Global, source: &mut MemSource<'_>) -> Result<usize, ReadError>
+    requires { source_failures source.old < u64.MAX }
+{
+    Ok(read_all(alloc, source, 5000)?.len())
+}
+
+#[test]
+fn each_read_offers_4096_bytes(rt: HostRuntime) {
+    let mut source = MemSource::new(&[0; 5000], 5000, None);
+    let read = read_all(rt.alloc(), &mut source, 0).err();
+    let found = (read, left_in(rt.alloc(), &mut source));
+    equal(&rt, &found, &(Some(ReadError::TooLong), Ok(904)), &"a read");
+}
+
+/// No instruction has the opcode 0, so the engine stops after its first read.
+#[test]
+fn an_engine_offers_4096_bytes(rt: HostRuntime) {
+    let mut source = MemSource::new(&[0; 5000], 5000, None);
     let mut out = Vec::new(rt.alloc());
     let mut sink = MemSink::new(&mut out, 1, None);
     let order = Order::Little;
@@ -165,8 +202,6 @@ fn each_read_offers_4096_bytes(rt: HostRuntime) -> Result<(), Fail> {
         cause: RunCause::Fault(opcode),
         written: 0,
     };
-    equal(&rt, &ran, &Err(stop), &"a faulty front");
-    let rest = read_all(rt.alloc(), &mut source, 5000)?;
-    equal(&rt, &rest.len(), &904, &"what is left");
-    Ok(())
+    let found = (ran, left_in(rt.alloc(), &mut source));
+    equal(&rt, &found, &(Err(stop), Ok(904)), &"a run");
 }

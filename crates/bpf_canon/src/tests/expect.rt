@@ -4,22 +4,22 @@
 use std::fmt::Debug;
 use std::process::Abort;
 
-/// Ends the test if a value isn't the expected one, and names the case.
+/// Ends the test if something isn't so, and names the case.
+pub(crate) fn holds(rt: &impl Abort, is_so: bool, case: &impl Debug) {
+    assert!(rt; is_so, "{case:?}");
+}
+
+/// Ends the test if a value isn't the expected one, and names both and the case.
 pub(crate) fn equal<T: PartialEq + Debug>(
     rt: &impl Abort,
     value: &T,
     wanted: &T,
     case: &impl Debug,
 ) {
-    assert_eq!(rt; value, wanted, "{case:?}");
+    holds(rt, *value == *wanted, &(value, wanted, case));
 }
 
 /// Likewise for bytes.
 pub(crate) fn equal_bytes(rt: &impl Abort, bytes: &[u8], wanted: &[u8], case: &impl Debug) {
-    assert_eq!(rt; bytes, wanted, "{case:?}");
-}
-
-/// Ends the test if something isn't so, and names the case.
-pub(crate) fn holds(rt: &impl Abort, is_so: bool, case: &impl Debug) {
-    assert!(rt; is_so, "{case:?}");
+    holds(rt, bytes == wanted, &(bytes, wanted, case));
 }

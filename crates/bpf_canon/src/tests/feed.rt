@@ -1,7 +1,7 @@
 //! Instructions in pieces.
 
-use super::expect::{equal, equal_bytes, holds};
-use super::samples::{EXIT, FAULT_OF_FAULTY, FAULTY, InsnFile, WIDE, insn_files};
+use super::expect::{equal, equal_bytes};
+use super::samples::{EXIT, FAULT_OF_FAULTY, FAULTY, InsnFile, WIDE};
 use crate::InsnFeed;
 use bpf_insn::{InsnError, Order, SlotCause, SlotFault};
 use std::alloc::Global;
@@ -107,18 +107,15 @@ fn cut_in_two(rt: &impl Abort, alloc: Global, file: &InsnFile, at: usize) {
     let early = feed_piece(rt, &mut feed, first, &mut out);
     let late = feed_piece(rt, &mut feed, second, &mut out);
     let fault = feed.finish().err();
-    holds(rt, early.is_none() || early == late, &(file.bytes, at));
-    holds(rt, late.is_none() || late == fault, &(file.bytes, at));
-    equal(rt, &fault, &file.slot_fault(), &(file.bytes, at));
+    let stays = (early.is_none() || early == late) && (late.is_none() || late == fault);
+    let found = (stays, fault);
+    equal(rt, &found, &(true, file.slot_fault()), &(file.bytes, at));
     equal_bytes(rt, out.as_slice(), file.canonical, &(file.bytes, at));
 }
 
-#[test]
-fn any_cut_in_two_gives_the_same_output(rt: HostRuntime) {
-    for file in insn_files().into_iter().flatten() {
-        for at in 0..file.bytes.len() {
-            cut_in_two(&rt, rt.alloc(), file, at);
-        }
-        cut_in_two(&rt, rt.alloc(), file, file.bytes.len());
+/// Feeds a file in two pieces, cut anywhere. The output is the same.
+pub(crate) fn cut_anywhere(rt: &impl Abort, alloc: Global, file: &InsnFile) {
+    for at in 0..=file.bytes.len() {
+        cut_in_two(rt, alloc, file, at);
     }
 }

@@ -1,6 +1,8 @@
 //! Canonical bytes and comparison of instruction files.
 
 use super::expect::{equal, equal_bytes, holds};
+use super::feed::cut_anywhere;
+use super::run::run_in_pieces;
 use super::samples::{EXIT, InsnFile, insn_files};
 use crate::{SideError, canon_insns, recode_insns, same_insns, write_insns};
 use bpf_insn::{Insn, InsnError, Order, SlotCause, SlotFault, decode_insns};
@@ -44,32 +46,60 @@ fn check_recoded_file(rt: &impl Abort, alloc: Global, file: &InsnFile) {
     }
 }
 
+/// Writes instructions in an order.
+fn check_spelled(
+    rt: &impl Abort,
+    alloc: Global,
+    order: Order,
+    insns: &[Insn],
+    bytes: &[u8],
+) -> Result<(), Fail> {
+    let written = write_insns(alloc, order, insns)?;
+    equal_bytes(rt, written.as_slice(), bytes, &order);
+    Ok(())
+}
+
 /// Writes the instructions of the file in both orders, and compares each with the file.
 fn check_written(rt: &impl Abort, alloc: Global, file: &InsnFile) -> Result<(), Fail> {
     let insns = decode_insns(alloc, file.order, file.bytes)?;
-    let own = write_insns(alloc, file.order, &insns)?;
-    equal_bytes(rt, own.as_slice(), file.bytes, &file.bytes);
-    let little = write_insns(alloc, Order::Little, &insns)?;
-    equal_bytes(rt, little.as_slice(), file.canonical, &file.bytes);
+    check_spelled(rt, alloc, file.order, &insns, file.bytes)?;
+    check_spelled(rt, alloc, Order::Little, &insns, file.canonical)?;
     let big = write_insns(alloc, Order::Big, &insns)?;
     let same = same_insns(alloc, Order::Big, &big, file.order, file.bytes);
     equal(rt, &same, &Ok(true), &file.bytes);
-    check_recoded(rt, alloc, &little, &big)
+    check_recoded(rt, alloc, file.canonical, &big)
+}
+
+/// Checks a file, as a whole and in pieces.
+fn check_file(rt: &impl Abort, alloc: Global, file: &InsnFile) -> Result<(), Fail> {
+    check_canonical(rt, alloc, file);
+    check_recoded_file(rt, alloc, file);
+    cut_anywhere(rt, alloc, file);
+    run_in_pieces(rt, alloc, file);
+    if file.fault.is_none() {
+        check_written(rt, alloc, file)?;
+    }
+    Ok(())
 }
 
 #[test]
 fn files_have_their_canonical_bytes_or_their_first_fault(rt: HostRuntime) -> Result<(), Fail> {
     for file in insn_files().into_iter().flatten() {
-        check_canonical(&rt, rt.alloc(), file);
-        check_recoded_file(&rt, rt.alloc(), file);
-        if file.fault.is_none() {
-            check_written(&rt, rt.alloc(), file)?;
-        }
+        check_file(&rt, rt.alloc(), file)?;
     }
-    let exits = write_insns(rt.alloc(), Order::Big, &[Insn::Exit, Insn::Exit])?;
-    let wanted = b"\x95\0\0\0\0\0\0\0\x95\0\0\0\0\0\0\0";
-    equal_bytes(&rt, exits.as_slice(), wanted.as_slice(), &"two exits");
     Ok(())
+}
+
+#[test]
+fn instructions_are_written_at_once(rt: HostRuntime) -> Result<(), Fail> {
+    let wanted = b"\x95\0\0\0\0\0\0\0\x95\0\0\0\0\0\0\0";
+    check_spelled(
+        &rt,
+        rt.alloc(),
+        Order::Big,
+        &[Insn::Exit, Insn::Exit],
+        wanted,
+    )
 }
 
 /// Two files, the first in this order and the second in little-endian order, and whether their instructions are equal.

@@ -1,5 +1,6 @@
 //! The devices of a run of an engine, over memory.
 
+use super::expect::holds;
 use crate::{MemSink, MemSource, RunError, run_btf, run_insns};
 use bpf_insn::{Order, SlotFault};
 use btf_raw::BtfFault;
@@ -63,14 +64,19 @@ impl<'a> FusedDevices<'a> {
     }
 }
 
+/// How many bytes a run wrote, by how it ended.
+pub(crate) fn written_by<F>(ended: &Result<u64, RunError<F>>) -> u64 {
+    match ended {
+        Ok(written) => *written,
+        Err(stop) => stop.written,
+    }
+}
+
 impl<F: Drop> Run<F> {
     /// The sink received the number of bytes that the engine counted, and they are a prefix of these.
     pub(crate) fn took_front_of(&self, rt: &impl Abort, bytes: &[u8]) {
-        let written = match &self.ended {
-            Ok(written) => *written,
-            Err(stop) => stop.written,
-        };
-        assert_eq!(rt; self.taken.len() as u64, written);
-        assert!(rt; bytes.starts_with(&self.taken));
+        let (len, written) = (self.taken.len(), written_by(&self.ended));
+        let is_front = len as u64 == written && bytes.starts_with(&self.taken);
+        holds(rt, is_front, &(len, written));
     }
 }

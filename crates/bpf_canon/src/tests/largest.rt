@@ -5,7 +5,7 @@ use crate::{
     BTF_LIMIT, INSN_LIMIT, InsnFeed, MemSink, MemSource, RunCause, RunError, SideError, canon_btf,
     canon_insns, read_all, run_btf, run_insns, same_btf, same_insns, write_btf, write_insns,
 };
-use bpf_insn::{Insn, InsnError, Order, SlotCause, SlotFault, decode_insns};
+use bpf_insn::{InsnError, Order, SlotCause, SlotFault, decode_insns};
 use btf_raw::{BtfCause, BtfFault};
 use btf_types::{Btf, BtfError, TypeTable};
 use std::alloc::{AllocError, Global};
@@ -34,89 +34,77 @@ const LAST_DST: SlotFault = SlotFault {
     cause: SlotCause::Dst,
 };
 
+/// Whether the canonical bytes of a file are those of another, which is the same program.
+fn is_canonicalised(alloc: Global, big: &[u8], little: &[u8]) -> bool {
+    let is_equal = match canon_insns(alloc, Order::Big, big) {
+        Ok(canon) => canon.as_slice() == little,
+        Err(_) => false,
+    };
+    is_equal && same_insns(alloc, Order::Big, big, Order::Little, little) == Ok(true)
+}
+
+/// Whether the second file is refused for its last instruction.
+fn is_refused(alloc: Global, good: &[u8], faulty: &[u8]) -> bool {
+    let fault = canon_insns(alloc, Order::Little, faulty).err();
+    let same = same_insns(alloc, Order::Big, good, Order::Little, faulty);
+    fault == Some(InsnError::Fault(LAST_DST)) && same == Err(SideError::Second(LAST_DST))
+}
+
+/// Whether a file that is fed at once gives the other one.
+fn is_fed(alloc: Global, big: &[u8], little: &[u8]) -> bool {
+    let mut feed = InsnFeed::new(Order::Big, Order::Little);
+    let mut out = Vec::new(alloc);
+    if big.len() as u64 > INSN_LIMIT || feed.feed(big, &mut out).is_err() {
+        return false;
+    }
+    out.as_slice() == little && feed.finish() == Ok(MOVES as u64)
+}
+
+/// Whether the instructions of a file are written as the other one.
+fn is_written(alloc: Global, big: &[u8], little: &[u8]) -> Result<bool, InsnError> {
+    let insns = decode_insns(alloc, Order::Big, big)?;
+    let written = write_insns(alloc, Order::Little, &insns)?;
+    Ok(written.as_slice() == little)
+}
+
+/// Whether the run of a file gives the other one.
+fn is_run(alloc: Global, big: &[u8], little: &[u8]) -> bool {
+    let mut source = MemSource::new(big, 10_000, None);
+    let mut out = Vec::new(alloc);
+    let mut sink = MemSink::new(&mut out, 10_000, None);
+    let ran = run_insns(alloc, &mut source, &mut sink, Order::Big, Order::Little);
+    ran == Ok(INSN_LIMIT) && out.as_slice() == little
+}
+
+/// Whether a file is read to its end.
+fn is_read(alloc: Global, bytes: &[u8]) -> bool {
+    let mut source = MemSource::new(bytes, 10_000, None);
+    match read_all(alloc, &mut source, INSN_LIMIT) {
+        Ok(read) => read.as_slice() == bytes,
+        Err(_) => false,
+    }
+}
+
+/// Each call on the same program in both orders.
+fn check_program(rt: &impl Abort, alloc: Global, big: &[u8], little: &[u8]) -> Result<(), Fail> {
+    equal(rt, &(big.len() as u64), &INSN_LIMIT, &"the length");
+    holds(rt, is_canonicalised(alloc, big, little), &"canonicalised");
+    holds(rt, is_fed(alloc, big, little), &"fed at once");
+    holds(rt, is_written(alloc, big, little)?, &"written");
+    holds(rt, is_run(alloc, big, little), &"run");
+    holds(rt, is_read(alloc, big), &"read");
+    Ok(())
+}
+
 #[test]
-fn instructions_are_canonicalised(rt: HostRuntime) -> Result<(), Fail> {
+fn the_largest_program_is_accepted(rt: HostRuntime) -> Result<(), Fail> {
     let big = moves(rt.alloc(), BIG_MOVE)?;
     let mut little = moves(rt.alloc(), LITTLE_MOVE)?;
-    equal(&rt, &(big.len() as u64), &INSN_LIMIT, &"the length");
-    let canon = canon_insns(rt.alloc(), Order::Big, &big)?;
-    holds(&rt, canon == little, &"canonical bytes");
-    let same = same_insns(rt.alloc(), Order::Big, &big, Order::Little, &little);
-    equal(&rt, &same, &Ok(true), &"a comparison");
+    check_program(&rt, rt.alloc(), &big, &little)?;
     if let Some(registers) = little.get_mut(67_108_857) {
         *registers = 0x2b;
     }
-    match canon_insns(rt.alloc(), Order::Little, &little) {
-        Err(InsnError::Fault(fault)) => equal(&rt, &fault, &LAST_DST, &"the fault"),
-        _ => panic!(rt; "a faulty file is accepted"),
-    }
-    let same = same_insns(rt.alloc(), Order::Big, &big, Order::Little, &little);
-    equal(
-        &rt,
-        &same,
-        &Err(SideError::Second(LAST_DST)),
-        &"a comparison",
-    );
-    Ok(())
-}
-
-#[test]
-fn instructions_are_fed_at_once(rt: HostRuntime) -> Result<(), Fail> {
-    let big = moves(rt.alloc(), BIG_MOVE)?;
-    let mut feed = InsnFeed::new(Order::Big, Order::Little);
-    let mut out = Vec::new(rt.alloc());
-    assert!(rt; big.len() <= 67_108_864);
-    feed.feed(&big, &mut out)?;
-    holds(
-        &rt,
-        out == moves(rt.alloc(), LITTLE_MOVE)?,
-        &"what was written",
-    );
-    equal(&rt, &feed.finish(), &Ok(MOVES as u64), &"the end");
-    Ok(())
-}
-
-#[test]
-fn instructions_are_written(rt: HostRuntime) -> Result<(), Fail> {
-    let big = moves(rt.alloc(), BIG_MOVE)?;
-    let insns = decode_insns(rt.alloc(), Order::Big, &big)?;
-    let little = write_insns(rt.alloc(), Order::Little, &insns)?;
-    holds(
-        &rt,
-        little == moves(rt.alloc(), LITTLE_MOVE)?,
-        &"what was written",
-    );
-    Ok(())
-}
-
-#[test]
-fn the_largest_file_is_run(rt: HostRuntime) -> Result<(), Fail> {
-    let big = moves(rt.alloc(), BIG_MOVE)?;
-    let mut source = MemSource::new(&big, 10_000, None);
-    let mut out = Vec::new(rt.alloc());
-    let mut sink = MemSink::new(&mut out, 10_000, None);
-    let ran = run_insns(
-        rt.alloc(),
-        &mut source,
-        &mut sink,
-        Order::Big,
-        Order::Little,
-    );
-    equal(&rt, &ran, &Ok(INSN_LIMIT), &"a run");
-    holds(
-        &rt,
-        out == moves(rt.alloc(), LITTLE_MOVE)?,
-        &"what was written",
-    );
-    Ok(())
-}
-
-#[test]
-fn the_largest_file_is_read(rt: HostRuntime) -> Result<(), Fail> {
-    let big = moves(rt.alloc(), BIG_MOVE)?;
-    let mut source = MemSource::new(&big, 10_000, None);
-    let read = read_all(rt.alloc(), &mut source, INSN_LIMIT)?;
-    holds(&rt, read == big, &"what was read");
+    holds(&rt, is_refused(rt.alloc(), &big, &little), &"refused");
     Ok(())
 }
 
@@ -144,85 +132,87 @@ fn longest_file(alloc: Global) -> Result<Vec<u8>, AllocError> {
 }
 
 /// Whether these are the bytes of the longest file with a 24-byte header.
-fn is_canonical(rt: &impl Abort, canon: &[u8], file: &[u8]) {
-    equal(rt, &canon.len(), &50_331_672, &"the length");
+fn is_canonical(canon: &[u8], file: &[u8]) -> bool {
     let header = b"\x9f\xeb\x01\0\x18\0\0\0\0\0\0\0\0\0\0\x02\0\0\0\x02\0\0\0\x01";
-    holds(rt, canon.starts_with(header), &"the header");
-    holds(rt, canon.get(24..) == file.get(4096..), &"the sections");
+    canon.len() == 50_331_672 && canon.starts_with(header) && canon.get(24..) == file.get(4096..)
 }
 
-#[test]
-fn types_are_canonicalised(rt: HostRuntime) -> Result<(), Fail> {
-    let file = longest_file(rt.alloc())?;
-    equal(&rt, &(file.len() as u64), &BTF_LIMIT, &"the length");
-    let canon = canon_btf(rt.alloc(), &file)?;
-    is_canonical(&rt, &canon, &file);
-    equal(
-        &rt,
-        &same_btf(rt.alloc(), &file, &canon),
-        &Ok(true),
-        &"a comparison",
-    );
-    Ok(())
+/// Whether a file has its canonical bytes.
+fn types_are_canonicalised(alloc: Global, file: &[u8]) -> Result<bool, BtfError> {
+    let canon = canon_btf(alloc, file)?;
+    Ok(is_canonical(&canon, file) && same_btf(alloc, file, &canon) == Ok(true))
 }
 
-#[test]
-fn types_are_written(rt: HostRuntime) -> Result<(), Fail> {
-    let file = longest_file(rt.alloc())?;
-    let table = Btf::parse(rt.alloc(), &file)?;
-    equal(&rt, &table.count(), &2_796_202, &"the count");
-    let little = write_btf(rt.alloc(), Order::Little, &table)?;
-    is_canonical(&rt, &little, &file);
-    let big = write_btf(rt.alloc(), Order::Big, &table)?;
-    equal(&rt, &big.len(), &little.len(), &"the length");
-    equal(
-        &rt,
-        &same_btf(rt.alloc(), &big, &file),
-        &Ok(true),
-        &"a comparison",
-    );
-    Ok(())
+/// Whether a table is written as the canonical bytes of the file.
+fn is_little<T: TypeTable>(alloc: Global, table: &T, file: &[u8]) -> Result<bool, AllocError> {
+    Ok(is_canonical(&write_btf(alloc, Order::Little, table)?, file))
 }
 
-#[test]
-fn run_btf_accepts_the_largest_file(rt: HostRuntime) -> Result<(), Fail> {
-    let file = longest_file(rt.alloc())?;
-    let mut source = MemSource::new(&file, 10_000, None);
-    let mut out = Vec::new(rt.alloc());
+/// Whether it is written as a file of the same length in the other order, which is the same.
+fn is_big<T: TypeTable>(alloc: Global, table: &T, file: &[u8]) -> Result<bool, AllocError> {
+    let big = write_btf(alloc, Order::Big, table)?;
+    Ok(big.len() == 50_331_672 && same_btf(alloc, &big, file) == Ok(true))
+}
+
+/// Whether the table of a file is written in both orders.
+fn is_table(alloc: Global, file: &[u8]) -> Result<bool, BtfError> {
+    let table = Btf::parse(alloc, file)?;
+    let is_written = is_little(alloc, &table, file)? && is_big(alloc, &table, file)?;
+    Ok(table.count() == 2_796_202 && is_written)
+}
+
+/// How a run of a file ends, and whether it gives the canonical bytes.
+fn run_types(alloc: Global, file: &[u8]) -> (Result<u64, RunError<BtfFault>>, bool) {
+    let mut source = MemSource::new(file, 10_000, None);
+    let mut out = Vec::new(alloc);
     let mut sink = MemSink::new(&mut out, 1_000_000, None);
-    let ran = run_btf(rt.alloc(), &mut source, &mut sink, Order::Little);
-    equal(&rt, &ran, &Ok(50_331_672), &"a run");
-    is_canonical(&rt, &out, &file);
+    let ran = run_btf(alloc, &mut source, &mut sink, Order::Little);
+    (ran, is_canonical(&out, file))
+}
+
+/// Each call on the longest file.
+fn check_types(rt: &impl Abort, alloc: Global, file: &[u8]) -> Result<(), Fail> {
+    equal(rt, &(file.len() as u64), &BTF_LIMIT, &"the length");
+    holds(rt, is_table(alloc, file)?, &"written");
+    holds(rt, types_are_canonicalised(alloc, file)?, &"canonicalised");
+    let ran = run_types(alloc, file);
+    equal(rt, &ran, &(Ok(50_331_672), true), &"run");
     Ok(())
 }
 
-/// The last PTR names a type too far.
+/// A type too far in the last PTR.
+const BEYOND: BtfFault = BtfFault {
+    pos: 33_558_524,
+    cause: BtfCause::Reference,
+};
+
+/// Each call on the longest file with this fault.
+fn check_refused(rt: &impl Abort, alloc: Global, file: &[u8]) {
+    let stopped = RunError {
+        cause: RunCause::Fault(BEYOND),
+        written: 0,
+    };
+    let fault = canon_btf(alloc, file).err();
+    equal(rt, &fault, &Some(BtfError::Fault(BEYOND)), &"the fault");
+    let same = same_btf(alloc, file, file);
+    equal(rt, &same, &Err(SideError::First(BEYOND)), &"a comparison");
+    equal(
+        rt,
+        &run_types(alloc, file),
+        &(Err(stopped), false),
+        &"a run",
+    );
+}
+
 #[test]
-fn faulty_types_are_refused(rt: HostRuntime) -> Result<(), Fail> {
+fn the_longest_btf_is_accepted(rt: HostRuntime) -> Result<(), Fail> {
     let mut file = longest_file(rt.alloc())?;
+    check_types(&rt, rt.alloc(), &file)?;
     for (pos, byte) in [(33_558_524, 0xab), (33_558_525, 0xaa), (33_558_526, 0x2a)] {
         if let Some(old) = file.get_mut(pos) {
             *old = byte;
         }
     }
-    let beyond = BtfFault {
-        pos: 33_558_524,
-        cause: BtfCause::Reference,
-    };
-    match canon_btf(rt.alloc(), &file) {
-        Err(BtfError::Fault(fault)) => equal(&rt, &fault, &beyond, &"the fault"),
-        _ => panic!(rt; "a faulty file is accepted"),
-    }
-    let same = same_btf(rt.alloc(), &file, &file);
-    equal(&rt, &same, &Err(SideError::First(beyond)), &"a comparison");
-    let mut source = MemSource::new(&file, 10_000, None);
-    let mut out = Vec::new(rt.alloc());
-    let mut sink = MemSink::new(&mut out, 1_000_000, None);
-    let ran = run_btf(rt.alloc(), &mut source, &mut sink, Order::Little);
-    let stopped = RunError {
-        cause: RunCause::Fault(beyond),
-        written: 0,
-    };
-    equal(&rt, &ran, &Err(stopped), &"a run");
+    check_refused(&rt, rt.alloc(), &file);
     Ok(())
 }

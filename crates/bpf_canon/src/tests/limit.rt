@@ -3,6 +3,7 @@
 ghost use Rattle.std.specs.Prelude.{None, ℕ, List};
 
 use super::expect::equal;
+use super::fused_devices::written_by;
 use super::samples::EXIT;
 use crate::{
     ByteSink, ByteSource, DeviceFailed, INSN_LIMIT, ReadError, RunCause, RunError, read_all,
@@ -10,10 +11,10 @@ use crate::{
 };
 use bpf_insn::{Order, SlotCause, SlotFault};
 
-/// Gives this number of exits, or exits without end, and then some last bytes.
+/// Gives this number of exits, of which `u64::MAX` never end, and then some last bytes.
 #[derive(Drop)]
 struct Exits {
-    left: Option<u64>,
+    left: u64,
     last: &'static [u8],
 }
 
@@ -24,9 +25,9 @@ impl ByteSource for Exits {
 
     fn read(&mut self, buffer: &mut [u8]) -> Result<usize, DeviceFailed> {
         let room = (buffer.len() / 8) as u64;
-        let slots = self.left.map_or(room, |left| room.min(left));
+        let slots = room.min(self.left);
         if slots > 0 {
-            self.left = self.left.map(|left| left.saturating_sub(slots));
+            self.left = self.left.saturating_sub(slots);
             for slot in buffer.chunks_exact_mut(8) {
                 slot.copy_from_slice(EXIT);
             }
@@ -56,60 +57,68 @@ impl ByteSink for Counter {
     }
 }
 
-#[test]
-fn inputs_over_the_limit_are_too_long(rt: HostRuntime) {
-    let most = INSN_LIMIT / 8;
-    let too_long = |written| {
-        Err(RunError {
-            cause: RunCause::TooLong,
-            written,
-        })
-    };
-    let fault = SlotFault {
+type Ran = Result<u64, RunError<SlotFault>>;
+
+/// How many exits there are, the bytes after them, and how the run ends.
+struct LimitRow {
+    left: u64,
+    last: &'static [u8],
+    ended: Ran,
+}
+
+/// How many exits are within the limit.
+const MOST: u64 = INSN_LIMIT / 8;
+
+const TOO_LONG: Ran = Err(RunError {
+    cause: RunCause::TooLong,
+    written: INSN_LIMIT,
+});
+
+const TOO_LONG_WIDE: Ran = Err(RunError {
+    cause: RunCause::TooLong,
+    written: INSN_LIMIT - 8,
+});
+
+const FAULTY: Ran = Err(RunError {
+    cause: RunCause::Fault(SlotFault {
         pos: INSN_LIMIT - 7,
         cause: SlotCause::Src,
-    };
-    let faulty = RunError {
-        cause: RunCause::Fault(fault),
-        written: INSN_LIMIT - 8,
-    };
-    let cases: [(Option<u64>, &'static [u8], Result<u64, RunError<SlotFault>>); 6] = [
-        (Some(most), b"", Ok(INSN_LIMIT)),
-        (Some(most), b"\x95", too_long(INSN_LIMIT)),
-        (None, b"", too_long(INSN_LIMIT)),
-        // A wide load whose second slot would begin at the limit.
-        (
-            Some(most - 1),
-            b"\x18\x01\0\0\0\0\0\0\0\0\0\0\0\0\0\0",
-            too_long(INSN_LIMIT - 8),
-        ),
-        // A fault in the last slot before the limit, and beyond it.
-        (Some(most - 1), b"\x04\x10\0\0\x05\0\0\0\x95", Err(faulty)),
-        (Some(most), b"\x04\x10\0\0\x05\0\0\0", too_long(INSN_LIMIT)),
-    ];
-    for (left, last, wanted) in cases {
-        let mut source = Exits { left, last };
-        let mut sink = Counter { taken: 0 };
-        let ran = run_insns(
-            rt.alloc(),
-            &mut source,
-            &mut sink,
-            Order::Little,
-            Order::Little,
-        );
-        equal(&rt, &ran, &wanted, &(left, last));
-        let written = match wanted {
-            Ok(written) => written,
-            Err(stop) => stop.written,
+    }),
+    written: INSN_LIMIT - 8,
+});
+
+#[rattlefmt::skip]
+static LIMITS: [LimitRow; 6] = [
+    LimitRow { left: MOST, last: b"", ended: Ok(INSN_LIMIT) },
+    LimitRow { left: MOST, last: b"\x95", ended: TOO_LONG },
+    LimitRow { left: u64::MAX, last: b"", ended: TOO_LONG },
+    // a wide load whose second slot would begin at the limit
+    LimitRow { left: MOST - 1, last: b"\x18\x01\0\0\0\0\0\0\0\0\0\0\0\0\0\0", ended: TOO_LONG_WIDE },
+    // a fault in the last slot before the limit, and beyond it
+    LimitRow { left: MOST - 1, last: b"\x04\x10\0\0\x05\0\0\0\x95", ended: FAULTY },
+    LimitRow { left: MOST, last: b"\x04\x10\0\0\x05\0\0\0", ended: TOO_LONG },
+];
+
+#[test]
+fn inputs_over_the_limit_are_too_long(rt: HostRuntime) {
+    for row in &LIMITS {
+        let mut source = Exits {
+            left: row.left,
+            last: row.last,
         };
-        equal(&rt, &sink.taken, &written, &(left, last));
+        let mut sink = Counter { taken: 0 };
+        let order = Order::Little;
+        let ran = run_insns(rt.alloc(), &mut source, &mut sink, order, order);
+        let found = (ran, sink.taken);
+        let wanted = (row.ended, written_by(&row.ended));
+        equal(&rt, &found, &wanted, &(row.left, row.last));
     }
 }
 
 #[test]
 fn an_endless_source_is_too_long_to_be_read(rt: HostRuntime) {
     let mut source = Exits {
-        left: None,
+        left: u64::MAX,
         last: b"",
     };
     assert!(rt;

@@ -1,29 +1,27 @@
 //! Files of TYPEDEFs whose names all end in one string, which are their own canonical bytes.
 
-use super::btf::written;
-use super::expect::{equal, holds};
-use crate::canon_btf;
+use super::btf::check_file;
+use super::expect::equal;
+use super::nested_names::file;
 use bpf_words::Order;
 use std::alloc::{AllocError, Global};
 use std::test::Fail;
 
-/// A file of `count` TYPEDEFs of type 0, named at 1, 2 and so on, over a string of `letters` times `a`.
-fn typedefs(alloc: Global, count: u32, letters: u32) -> Result<Vec<u8>, AllocError> {
-    let types_len = count.wrapping_mul(12).to_le_bytes();
-    let strings_len = letters.wrapping_add(2).to_le_bytes();
-    let mut file = Vec::from_slice(alloc, b"\x9f\xeb\x01\0\x18\0\0\0\0\0\0\0")?;
-    file.extend_from_slice(&types_len)?;
-    file.extend_from_slice(&types_len)?;
-    file.extend_from_slice(&strings_len)?;
+/// The words of `count` TYPEDEFs of type 0, named at 1, 2 and so on.
+fn words(alloc: Global, count: u32) -> Result<Vec<u32>, AllocError> {
+    let mut words = Vec::new(alloc);
     for index in 0..count {
-        file.extend_from_slice(&index.wrapping_add(1).to_le_bytes())?;
-        file.extend_from_slice(b"\0\0\0\x08\0\0\0\0")?;
+        words.extend_from_slice(&[index.wrapping_add(1), 0x0800_0000, 0])?;
     }
-    file.push(0)?;
-    let len = file.len();
-    file.resize(len.saturating_add(letters as usize), b'a')?;
-    file.push(0)?;
-    Ok(file)
+    Ok(words)
+}
+
+/// A string of `letters` times `a`.
+fn strings(alloc: Global, letters: u32) -> Result<Vec<u8>, AllocError> {
+    let mut strings = Vec::from_slice(alloc, b"\0")?;
+    strings.resize(letters.wrapping_add(1) as usize, b'a')?;
+    strings.push(0)?;
+    Ok(strings)
 }
 
 /// How many TYPEDEFs, how many letters, and the length of the file.
@@ -45,14 +43,11 @@ static CHAINS: [Chain; 4] = [
 #[test]
 fn names_in_one_string_stay_there(rt: HostRuntime) -> Result<(), Fail> {
     for row in &CHAINS {
-        let file = typedefs(rt.alloc(), row.count, row.letters)?;
+        let words = words(rt.alloc(), row.count)?;
+        let strings = strings(rt.alloc(), row.letters)?;
+        let file = file(rt.alloc(), Order::Little, &words, &strings)?;
         equal(&rt, &file.len(), &row.len, &row.count);
-        let canon = canon_btf(rt.alloc(), &file)?;
-        let little = written(&rt, rt.alloc(), Order::Little, &file)?;
-        holds(&rt, canon == file && little == file, &row.count);
-        let big = written(&rt, rt.alloc(), Order::Big, &file)?;
-        let again = canon_btf(rt.alloc(), &big)?;
-        holds(&rt, big.len() == file.len() && again == file, &row.count);
+        check_file(&rt, rt.alloc(), &file, &file)?;
     }
     Ok(())
 }

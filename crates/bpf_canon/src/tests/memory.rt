@@ -1,20 +1,23 @@
 //! Each growth of the calls on instructions fails in turn.
 
-use super::arena::{ROOM, Tally, leave};
-use super::expect::{equal, equal_bytes, holds};
+use super::arena::{Outcome, Tally, arena, refused_reading, sunk, whole_if};
+use super::expect::{equal, holds};
 use crate::{
     InsnFeed, MemSink, MemSource, ReadError, RunCause, RunError, SideError, canon_insns, read_all,
     recode_insns, run_insns, same_insns, write_insns,
 };
 use bpf_insn::{Insn, InsnError, Order, SlotCause, SlotFault};
 use bumpalo::Bump;
-use std::alloc::Allocator;
-use std::process::Abort;
+use std::alloc::{AllocError, Allocator, Global};
 use std::test::Fail;
 
 /// An exit seven times, and a faulty instruction.
 const FILE: &[u8; 64] =
     b"\x95\0\0\0\0\0\0\0\x95\0\0\0\0\0\0\0\x95\0\0\0\0\0\0\0\x95\0\0\0\0\0\0\0\x95\0\0\0\0\0\0\0\x95\0\0\0\0\0\0\0\x95\0\0\0\0\0\0\0\x04\x10\0\0\x05\0\0\0";
+
+/// The exits alone.
+const EXITS: &[u8; 56] =
+    b"\x95\0\0\0\0\0\0\0\x95\0\0\0\0\0\0\0\x95\0\0\0\0\0\0\0\x95\0\0\0\0\0\0\0\x95\0\0\0\0\0\0\0\x95\0\0\0\0\0\0\0\x95\0\0\0\0\0\0\0";
 
 /// `mov r1, r2` seven times, and the same in big-endian order.
 const MOVES: &[u8; 56] =
@@ -30,199 +33,192 @@ const FAULT: SlotFault = SlotFault {
 };
 
 /// The vector grows for the first piece, and more than once after it.
-#[test]
-fn read_all_runs_out_of_memory(rt: HostRuntime) -> Result<(), Fail> {
-    let tally = Tally::of(&rt, rt.alloc(), |bump| {
-        let mut source = MemSource::new(FILE, 5, None);
-        match read_all(bump, &mut source, 100) {
-            Ok(read) => {
-                equal_bytes(&rt, read.as_slice(), FILE.as_slice(), &"what was read");
-                None
-            }
-            Err(error) => {
-                equal(&rt, &error, &ReadError::Memory, &"the cause");
-                let rest = read_all(rt.alloc(), &mut source, 100).expect(&rt, "the rest");
-                Some(FILE.len().saturating_sub(rest.len()))
-            }
-        }
-    })?;
-    tally.has_at_least(&rt, 64, 3);
-    Ok(())
+fn read(alloc: Global, bump: &Bump<Global>) -> Outcome {
+    let mut source = MemSource::new(FILE, 5, None);
+    match read_all(bump, &mut source, 100) {
+        Ok(read) => whole_if(read.as_slice() == FILE.as_slice()),
+        Err(ReadError::Memory) => refused_reading(alloc, &mut source, FILE.len()),
+        Err(_) => Outcome::Wrong,
+    }
 }
 
-#[test]
-fn write_insns_runs_out_of_memory(rt: HostRuntime) -> Result<(), Fail> {
-    let insns = [Insn::Exit; 7];
-    let tally = Tally::of(&rt, rt.alloc(), |bump| {
-        match write_insns(bump, Order::Little, &insns) {
-            Ok(written) => {
-                equal_bytes(&rt, written.as_slice(), &FILE[..56], &"what was written");
-                None
-            }
-            Err(_) => Some(0),
-        }
-    })?;
-    tally.has_at_least(&rt, 56, 1);
-    Ok(())
+fn write(bump: &Bump<Global>) -> Outcome {
+    match write_insns(bump, Order::Little, &[Insn::Exit; 7]) {
+        Ok(written) => whole_if(written.as_slice() == EXITS.as_slice()),
+        Err(AllocError) => Outcome::Refused(0),
+    }
 }
 
-#[test]
-fn canon_insns_runs_out_of_memory(rt: HostRuntime) -> Result<(), Fail> {
-    let tally = Tally::of(&rt, rt.alloc(), |bump| {
-        match canon_insns(bump, Order::Big, MOVES_BIG) {
-            Ok(canon) => {
-                equal_bytes(&rt, canon.as_slice(), MOVES, &"canonical bytes");
-                None
-            }
-            Err(InsnError::Memory) => Some(0),
-            Err(InsnError::Fault(_)) => panic!(rt; "a fault of a good file"),
-        }
-    })?;
-    tally.has_at_least(&rt, 56, 1);
-    Ok(())
+/// The outcome of a call that returns these bytes or this fault.
+fn written<A: Allocator>(
+    answer: &Result<Vec<u8, A>, InsnError>,
+    wanted: Result<&[u8], SlotFault>,
+) -> Outcome {
+    match (answer, wanted) {
+        (Err(InsnError::Memory), _) => Outcome::Refused(0),
+        (Ok(bytes), Ok(whole)) => whole_if(bytes.as_slice() == whole),
+        (Err(InsnError::Fault(found)), Err(fault)) => whole_if(*found == fault),
+        _ => Outcome::Wrong,
+    }
 }
 
-#[test]
-fn recode_insns_runs_out_of_memory(rt: HostRuntime) -> Result<(), Fail> {
-    let tally = Tally::of(&rt, rt.alloc(), |bump| {
-        match recode_insns(bump, Order::Little, Order::Big, MOVES) {
-            Ok(written) => {
-                equal_bytes(&rt, written.as_slice(), MOVES_BIG, &"recoded");
-                None
-            }
-            Err(InsnError::Memory) => Some(0),
-            Err(InsnError::Fault(_)) => panic!(rt; "a fault of a good file"),
-        }
-    })?;
-    tally.has_at_least(&rt, 56, 1);
-    Ok(())
+fn canonicalise(bump: &Bump<Global>) -> Outcome {
+    written(&canon_insns(bump, Order::Big, MOVES_BIG), Ok(MOVES))
 }
 
 /// The fault of a faulty file is never another.
-#[test]
-fn canon_insns_of_a_faulty_file_runs_out_of_memory(rt: HostRuntime) -> Result<(), Fail> {
-    let tally = Tally::of(&rt, rt.alloc(), |bump| {
-        match canon_insns(bump, Order::Little, FILE) {
-            Ok(_) => panic!(rt; "a faulty file is accepted"),
-            Err(InsnError::Memory) => Some(0),
-            Err(InsnError::Fault(fault)) => {
-                equal(&rt, &fault, &FAULT, &"the fault");
-                None
-            }
-        }
-    })?;
-    tally.has_at_least(&rt, 1, 1);
-    Ok(())
+fn canonicalise_faulty(bump: &Bump<Global>) -> Outcome {
+    written(&canon_insns(bump, Order::Little, FILE), Err(FAULT))
 }
 
-/// Files are compared in place, so an empty arena is enough.
-#[test]
-fn same_insns_allocates_nothing(rt: HostRuntime) -> Result<(), Fail> {
-    let bump = Bump::try_with_capacity(rt.alloc(), ROOM)?;
-    leave(&rt, &bump, 0);
-    let order = Order::Little;
-    let good = &FILE[..56];
-    let same = same_insns(&bump, order, MOVES, Order::Big, MOVES_BIG);
-    equal(&rt, &same, &Ok(true), &"the file in the other order");
-    let same = same_insns(&bump, order, good, order, b"");
-    equal(&rt, &same, &Ok(false), &"an empty file");
-    let same = same_insns(&bump, order, good, order, FILE);
-    let faulty = Err(SideError::Second(FAULT));
-    equal(&rt, &same, &faulty, &"a faulty file");
-    Ok(())
+fn recode(bump: &Bump<Global>) -> Outcome {
+    let recoded = recode_insns(bump, Order::Little, Order::Big, MOVES);
+    written(&recoded, Ok(MOVES_BIG))
 }
 
 /// Feeds exits in 14-byte pieces. It returns the number of bytes that were fed before a growth failed.
-fn feed_pieces<A: Allocator>(rt: &impl Abort, out: &mut Vec<u8, A>) -> usize {
+fn feed_pieces<A: Allocator>(out: &mut Vec<u8, A>) -> Option<usize> {
     let mut feed = InsnFeed::new(Order::Little, Order::Little);
-    let mut at = 0;
-    for piece in FILE[..56].chunks(14) {
-        assert!(rt; at <= 1000 && feed.fed() <= 1000 && piece.len() <= 14);
+    let mut at = 0_usize;
+    for piece in EXITS.chunks(14) {
         let had = out.len();
+        if feed.fed() != at as u64 || at > 56 || piece.len() > 14 {
+            return None;
+        }
         match feed.feed(piece, out) {
             Ok(()) => at += piece.len(),
             Err(InsnError::Memory) => {
                 // Nothing has changed, and an empty piece needs no memory.
-                equal(
-                    rt,
-                    &(out.len(), feed.held()),
-                    &(had, at % 8),
-                    &"written and held",
-                );
-                assert!(rt; feed.fed() == at as u64 && feed.feed(b"", out).is_ok());
-                return at;
+                let is_same = (out.len(), feed.held(), feed.fed()) == (had, at % 8, at as u64);
+                return (is_same && feed.feed(b"", out).is_ok()).then_some(at);
             }
-            Err(InsnError::Fault(_)) => panic!(rt; "a fault of a good file"),
+            Err(InsnError::Fault(_)) => return None,
         }
     }
-    at
+    Some(at)
 }
 
 /// The vector grows for the first piece, and for later ones.
-#[test]
-fn a_feed_runs_out_of_memory(rt: HostRuntime) -> Result<(), Fail> {
-    let tally = Tally::of(&rt, rt.alloc(), |bump| {
-        let mut out = Vec::new(bump);
-        let at = feed_pieces(&rt, &mut out);
-        equal(&rt, &out.len(), &(at / 8 * 8), &"written");
-        holds(&rt, FILE.starts_with(&out), &"a prefix");
-        (at < 56).then_some(at)
-    })?;
-    tally.has_at_least(&rt, 56, 3);
-    Ok(())
+fn fed(bump: &Bump<Global>) -> Outcome {
+    let mut out = Vec::new(bump);
+    match feed_pieces(&mut out) {
+        Some(at) if out.len() == at / 8 * 8 && EXITS.starts_with(&out) => {
+            if at < 56 {
+                Outcome::Refused(at)
+            } else {
+                Outcome::Whole
+            }
+        }
+        _ => Outcome::Wrong,
+    }
 }
 
 /// An engine without memory for a piece has written the instructions before it.
-#[test]
-fn run_insns_runs_out_of_memory(rt: HostRuntime) -> Result<(), Fail> {
+fn run(alloc: Global, bump: &Bump<Global>) -> Outcome {
+    // Pieces of five bytes make the engine's vector grow more than once.
+    let mut source = MemSource::new(FILE, 5, None);
+    let mut out = Vec::new(alloc);
+    let mut sink = MemSink::new(&mut out, 5, None);
+    let ran = run_insns(bump, &mut source, &mut sink, Order::Little, Order::Little);
     let faulty = RunError {
         cause: RunCause::Fault(FAULT),
         written: 56,
     };
-    let tally = Tally::of(&rt, rt.alloc(), |bump| {
-        // Pieces of five bytes make the engine's vector grow more than once.
-        let mut source = MemSource::new(FILE, 5, None);
-        let mut out = Vec::new(rt.alloc());
-        let mut sink = MemSink::new(&mut out, 5, None);
-        let ran = run_insns(bump, &mut source, &mut sink, Order::Little, Order::Little);
-        let Err(stop) = ran else {
-            panic!(rt; "a faulty file is accepted");
-        };
-        equal(&rt, &(out.len() as u64), &stop.written, &"written");
-        holds(&rt, FILE.starts_with(&out), &"a prefix");
-        if stop.cause == RunCause::Memory {
-            let rest = read_all(rt.alloc(), &mut source, 100).expect(&rt, "the rest");
-            return Some(FILE.len().saturating_sub(rest.len()));
+    match ran {
+        Err(stop) if stop.written != out.len() as u64 || !FILE.starts_with(&out) => Outcome::Wrong,
+        Err(stop) if stop.cause == RunCause::Memory => {
+            refused_reading(alloc, &mut source, FILE.len())
         }
-        equal(&rt, &stop, &faulty, &"the stop");
-        None
-    })?;
-    tally.has_at_least(&rt, 2, 2);
-    Ok(())
+        _ => whole_if(ran == Err(faulty)),
+    }
 }
 
 /// A growth of the sink's vector that fails is a failed write, the first growth and each later one.
+fn sink(alloc: Global, bump: &Bump<Global>) -> Outcome {
+    let mut source = MemSource::new(EXITS, 24, None);
+    let mut out = Vec::new(bump);
+    let mut sink = MemSink::new(&mut out, 5, None);
+    let ran = run_insns(alloc, &mut source, &mut sink, Order::Little, Order::Little);
+    sunk(&ran, &out, EXITS)
+}
+
+#[derive(Clone, Copy, Debug)]
+enum Call {
+    Read,
+    Write,
+    Canonicalise,
+    CanonicaliseFaulty,
+    Recode,
+    Feed,
+    Run,
+    Sink,
+}
+
+/// Makes a call in an arena.
+fn outcome_of(alloc: Global, bump: &Bump<Global>, call: Call) -> Outcome {
+    match call {
+        Call::Read => read(alloc, bump),
+        Call::Write => write(bump),
+        Call::Canonicalise => canonicalise(bump),
+        Call::CanonicaliseFaulty => canonicalise_faulty(bump),
+        Call::Recode => recode(bump),
+        Call::Feed => fed(bump),
+        Call::Run => run(alloc, bump),
+        Call::Sink => sink(alloc, bump),
+    }
+}
+
+/// A call, how many rooms are too small for it, and at how many points growths fail, each at least.
+#[derive(Clone, Copy, Debug)]
+struct MemoryRow {
+    call: Call,
+    refused: usize,
+    places: usize,
+}
+
+#[rattlefmt::skip]
+static ROWS: [MemoryRow; 8] = [
+    MemoryRow { call: Call::Read, refused: 64, places: 3 },
+    MemoryRow { call: Call::Write, refused: 56, places: 1 },
+    MemoryRow { call: Call::Canonicalise, refused: 56, places: 1 },
+    MemoryRow { call: Call::CanonicaliseFaulty, refused: 1, places: 1 },
+    MemoryRow { call: Call::Recode, refused: 56, places: 1 },
+    MemoryRow { call: Call::Feed, refused: 56, places: 3 },
+    MemoryRow { call: Call::Run, refused: 2, places: 2 },
+    MemoryRow { call: Call::Sink, refused: 56, places: 3 },
+];
+
 #[test]
-fn a_sink_runs_out_of_memory(rt: HostRuntime) -> Result<(), Fail> {
-    let tally = Tally::of(&rt, rt.alloc(), |bump| {
-        let mut source = MemSource::new(&FILE[..56], 24, None);
-        let mut out = Vec::new(bump);
-        let mut sink = MemSink::new(&mut out, 5, None);
-        let order = Order::Little;
-        let ran = run_insns(rt.alloc(), &mut source, &mut sink, order, order);
-        holds(&rt, FILE.starts_with(&out), &"a prefix");
-        let Err(stop) = ran else {
-            equal(&rt, &ran, &Ok(56), &"a run");
-            return None;
-        };
-        equal(
-            &rt,
-            &(stop.cause, stop.written),
-            &(RunCause::WriteFailed, out.len() as u64),
-            &"the stop",
-        );
-        Some(out.len())
-    })?;
-    tally.has_at_least(&rt, 56, 3);
+fn each_growth_is_refused(rt: HostRuntime) -> Result<(), Fail> {
+    for row in &ROWS {
+        let tally = Tally::of(rt.alloc(), |bump| outcome_of(rt.alloc(), bump, row.call))?;
+        holds(&rt, tally.is_right(row.refused, row.places), &(row, tally));
+    }
+    Ok(())
+}
+
+/// A file in little-endian order, another one in an order of its own, and the answer of a comparison.
+struct Comparison {
+    first: &'static [u8],
+    order: Order,
+    second: &'static [u8],
+    answer: Result<bool, SideError<SlotFault>>,
+}
+
+#[rattlefmt::skip]
+static COMPARISONS: [Comparison; 3] = [
+    Comparison { first: MOVES, order: Order::Big, second: MOVES_BIG, answer: Ok(true) },
+    Comparison { first: EXITS, order: Order::Little, second: b"", answer: Ok(false) },
+    Comparison { first: EXITS, order: Order::Little, second: FILE, answer: Err(SideError::Second(FAULT)) },
+];
+
+/// Files are compared in place, so an empty arena is enough.
+#[test]
+fn same_insns_allocates_nothing(rt: HostRuntime) -> Result<(), Fail> {
+    let bump = arena(rt.alloc(), 0)?;
+    for row in &COMPARISONS {
+        let same = same_insns(&bump, Order::Little, row.first, row.order, row.second);
+        equal(&rt, &same, &row.answer, &(row.order, row.second));
+    }
     Ok(())
 }

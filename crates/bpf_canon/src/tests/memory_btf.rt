@@ -1,179 +1,222 @@
 //! Each growth of the calls on BTF fails in turn. The files have 26 types with 28 names, more than are sorted in place.
 
-use super::arena::Tally;
+use super::arena::{Outcome, Tally, refused_reading, sunk, whole_if};
+use super::btf::writes;
 use super::btf_files::{BIG_INT, LOOSE_INT};
-use super::compiled_types::{FLOW_TABLE_BIG, FLOW_TABLE_LITTLE};
-use super::expect::{equal, equal_bytes, holds};
+use super::compiled_types::{flow_table_big, flow_table_little};
+use super::expect::{equal, holds};
 use super::own_table::Counting;
-use crate::{
-    MemSink, MemSource, RunCause, SideError, canon_btf, read_all, run_btf, same_btf, write_btf,
-};
+use crate::{MemSink, MemSource, RunCause, SideError, canon_btf, run_btf, same_btf, write_btf};
 use bpf_words::Order;
 use btf_raw::{BtfCause, BtfFault};
 use btf_types::{BtfError, BtfView};
-use std::alloc::Global;
+use bumpalo::Bump;
+use std::alloc::{AllocError, Allocator, Global};
 use std::process::Abort;
 use std::test::Fail;
 
 /// How many bytes the canonical bytes of the files have: a header of 24, records of 540, and names of 187.
 const CANONICAL_LEN: usize = 751;
 
-#[test]
-fn write_btf_runs_out_of_memory(rt: HostRuntime) -> Result<(), Fail> {
-    let view = BtfView::parse(rt.alloc(), FLOW_TABLE_LITTLE)?;
-    let ample = write_btf(rt.alloc(), Order::Big, &view)?;
-    equal(&rt, &ample.len(), &CANONICAL_LEN, &"the length");
-    let tally = Tally::of(&rt, rt.alloc(), |bump| {
-        let table = Counting::new(&view);
-        match write_btf(bump, Order::Big, &table) {
-            Ok(bytes) => {
-                equal_bytes(&rt, bytes.as_slice(), ample.as_slice(), &"canonical bytes");
-                None
-            }
-            // The calls of the table that were made show how far the writer came.
-            Err(_) => Some(table.calls()),
-        }
-    })?;
-    tally.has_at_least(&rt, CANONICAL_LEN, 4);
-    Ok(())
+/// The table of the files with ample memory, and what is written for it in both orders.
+#[derive(Clone, Copy)]
+struct Ample<'a> {
+    view: &'a BtfView<'a>,
+    little: &'a [u8],
+    big: &'a [u8],
 }
 
-/// How many rooms are too small to read a file with these canonical bytes.
-fn refused_reading(
-    rt: &impl Abort,
-    alloc: Global,
-    file: &[u8],
-    canonical: &[u8],
-) -> Result<usize, Fail> {
-    let tally = Tally::of(rt, alloc, |bump| match BtfView::parse(bump, file) {
-        Ok(table) => {
-            let written = write_btf(alloc, Order::Little, &table).expect(rt, "the bytes");
-            equal_bytes(rt, written.as_slice(), canonical, &"the table");
-            None
-        }
-        Err(BtfError::Memory) => Some(0),
-        Err(BtfError::Fault(_)) => panic!(rt; "a fault of a good file"),
-    })?;
-    Ok(tally.refused)
+fn write(bump: &Bump<Global>, view: &BtfView<'_>, big: &[u8]) -> Outcome {
+    let table = Counting::new(view);
+    match write_btf(bump, Order::Big, &table) {
+        Ok(bytes) => whole_if(bytes.as_slice() == big),
+        // The calls of the table that were made show how far the writer came.
+        Err(AllocError) => Outcome::Refused(table.calls()),
+    }
 }
 
-#[test]
-fn canon_btf_runs_out_of_memory(rt: HostRuntime) -> Result<(), Fail> {
-    let ample = canon_btf(rt.alloc(), FLOW_TABLE_BIG)?;
-    equal(&rt, &ample.len(), &CANONICAL_LEN, &"the length");
-    let tally = Tally::of(&rt, rt.alloc(), |bump| {
-        match canon_btf(bump, FLOW_TABLE_BIG) {
-            Ok(canon) => {
-                equal_bytes(&rt, canon.as_slice(), ample.as_slice(), &"canonical bytes");
-                None
-            }
-            Err(BtfError::Memory) => Some(0),
-            Err(BtfError::Fault(_)) => panic!(rt; "a fault of a good file"),
-        }
-    })?;
-    // Some rooms are enough to read the file, but not to write it.
-    let reading = refused_reading(&rt, rt.alloc(), FLOW_TABLE_BIG, ample.as_slice())?;
-    tally.has_at_least(&rt, CANONICAL_LEN, 1);
-    holds(&rt, tally.refused > reading, &(tally.refused, reading));
-    Ok(())
+/// The outcome of a call that writes these bytes.
+fn written<A: Allocator>(answer: &Result<Vec<u8, A>, BtfError>, whole: &[u8]) -> Outcome {
+    match answer {
+        Ok(bytes) => whole_if(bytes.as_slice() == whole),
+        Err(BtfError::Memory) => Outcome::Refused(0),
+        Err(BtfError::Fault(_)) => Outcome::Wrong,
+    }
 }
 
-/// How many rooms are too small to compare a file with another one, with this answer.
-fn refused_comparing(
-    rt: &impl Abort,
-    alloc: Global,
-    second: &[u8],
-    answer: Result<bool, SideError<BtfFault>>,
-) -> Result<usize, Fail> {
-    let tally = Tally::of(rt, alloc, |bump| {
-        match same_btf(bump, FLOW_TABLE_LITTLE, second) {
-            Err(SideError::Memory) => Some(0),
-            reported => {
-                equal(rt, &reported, &answer, &"a comparison");
-                None
-            }
-        }
-    })?;
-    Ok(tally.refused)
+fn parse(alloc: Global, bump: &Bump<Global>, canonical: &[u8]) -> Outcome {
+    match BtfView::parse(bump, flow_table_big()) {
+        Ok(table) => whole_if(writes(alloc, Order::Little, &table, canonical) == Ok(true)),
+        Err(BtfError::Memory) => Outcome::Refused(0),
+        Err(BtfError::Fault(_)) => Outcome::Wrong,
+    }
 }
 
-/// A faulty header needs no memory, so an arena that is too small only for two good files is exhausted by the second.
-#[test]
-fn same_btf_runs_out_of_memory(rt: HostRuntime) -> Result<(), Fail> {
-    let short = BtfFault {
-        pos: 0,
-        cause: BtfCause::ShortHeader,
-    };
-    let cut = BtfFault {
-        pos: 848,
-        cause: BtfCause::FileLength,
-    };
-    let first = refused_comparing(&rt, rt.alloc(), b"", Err(SideError::Second(short)))?;
-    let first_again = refused_comparing(
-        &rt,
-        rt.alloc(),
-        &FLOW_TABLE_BIG[..848],
-        Err(SideError::Second(cut)),
-    )?;
-    let both = refused_comparing(&rt, rt.alloc(), FLOW_TABLE_BIG, Ok(true))?;
-    let unlike = refused_comparing(&rt, rt.alloc(), BIG_INT, Ok(false))?;
-    let is_ordered = 0 < first && first == first_again && first < unlike && unlike < both;
-    holds(&rt, is_ordered, &(first, first_again, unlike, both));
-    Ok(())
-}
-
-#[test]
-fn run_btf_runs_out_of_memory(rt: HostRuntime) -> Result<(), Fail> {
-    let ample = canon_btf(rt.alloc(), FLOW_TABLE_BIG)?;
-    let mut after_reading = 0_usize;
-    let tally = Tally::of(&rt, rt.alloc(), |bump| {
-        let mut source = MemSource::new(FLOW_TABLE_BIG, 100, None);
-        let mut out = Vec::new(rt.alloc());
-        let mut sink = MemSink::new(&mut out, 100, None);
-        let Err(stop) = run_btf(bump, &mut source, &mut sink, Order::Little) else {
-            equal_bytes(&rt, out.as_slice(), ample.as_slice(), &"canonical bytes");
-            return None;
-        };
-        equal(
-            &rt,
-            &(stop.cause, stop.written, out.len()),
-            &(RunCause::Memory, 0, 0),
-            &"the stop",
-        );
-        let rest = read_all(rt.alloc(), &mut source, 849).expect(&rt, "the rest of the file");
-        if rest.is_empty() {
-            after_reading = after_reading.saturating_add(1);
+fn run(alloc: Global, bump: &Bump<Global>, canonical: &[u8]) -> Outcome {
+    let file = flow_table_big();
+    let mut source = MemSource::new(file, 100, None);
+    let mut out = Vec::new(alloc);
+    let mut sink = MemSink::new(&mut out, 100, None);
+    let ran = run_btf(bump, &mut source, &mut sink, Order::Little);
+    match ran {
+        Ok(_) => whole_if(out.as_slice() == canonical),
+        Err(stop) if stop.cause == RunCause::Memory && stop.written == 0 && out.is_empty() => {
+            refused_reading(alloc, &mut source, file.len())
         }
-        Some(849_usize.saturating_sub(rest.len()))
-    })?;
-    // The vector that keeps the input grows at least for the first, the second and the last piece.
-    tally.has_at_least(&rt, 3, 3);
-    holds(&rt, after_reading > 0, &"refused after reading");
-    Ok(())
+        Err(_) => Outcome::Wrong,
+    }
 }
 
 /// A growth of the sink's vector that fails is a failed write, the first growth and each later one.
+fn sink(alloc: Global, bump: &Bump<Global>) -> Outcome {
+    let mut source = MemSource::new(LOOSE_INT, 5, None);
+    let mut out = Vec::new(bump);
+    let mut sink = MemSink::new(&mut out, 5, None);
+    let ran = run_btf(alloc, &mut source, &mut sink, Order::Big);
+    sunk(&ran, &out, BIG_INT)
+}
+
+#[derive(Clone, Copy, Debug)]
+enum Call {
+    Write,
+    Parse,
+    Canonicalise,
+    Run,
+    Sink,
+}
+
+/// Makes a call in an arena.
+fn outcome_of(alloc: Global, bump: &Bump<Global>, call: Call, ample: Ample) -> Outcome {
+    match call {
+        Call::Write => write(bump, ample.view, ample.big),
+        Call::Parse => parse(alloc, bump, ample.little),
+        Call::Canonicalise => written(&canon_btf(bump, flow_table_big()), ample.little),
+        Call::Run => run(alloc, bump, ample.little),
+        Call::Sink => sink(alloc, bump),
+    }
+}
+
+/// How many rooms are too small for a call, next to how many were for the call of the row before.
+#[derive(Clone, Copy, Debug)]
+enum Rooms {
+    Any,
+    AsMany,
+    More,
+}
+
+impl Rooms {
+    fn are_right(self, before: usize, refused: usize) -> bool {
+        match self {
+            Rooms::Any => true,
+            Rooms::AsMany => refused == before,
+            Rooms::More => refused > before,
+        }
+    }
+}
+
+/// A call, how many rooms are too small for it, at how many points growths fail, and the last of these, each at least.
+#[derive(Clone, Copy, Debug)]
+struct MemoryRow {
+    call: Call,
+    rooms: Rooms,
+    refused: usize,
+    places: usize,
+    last_place: usize,
+}
+
+#[rattlefmt::skip]
+static ROWS: [MemoryRow; 5] = [
+    MemoryRow { call: Call::Write, rooms: Rooms::Any, refused: CANONICAL_LEN, places: 4, last_place: 0 },
+    MemoryRow { call: Call::Parse, rooms: Rooms::Any, refused: 0, places: 0, last_place: 0 },
+    // Some rooms are enough to read the file, but not to write it.
+    MemoryRow { call: Call::Canonicalise, rooms: Rooms::More, refused: CANONICAL_LEN, places: 1, last_place: 0 },
+    // The vector that keeps the input grows at least for the first, the second and the last piece. Some rooms are enough for it alone.
+    MemoryRow { call: Call::Run, rooms: Rooms::Any, refused: 3, places: 3, last_place: 849 },
+    MemoryRow { call: Call::Sink, rooms: Rooms::Any, refused: 45, places: 3, last_place: 0 },
+];
+
+fn check_calls(rt: &impl Abort, alloc: Global, ample: Ample) -> Result<(), Fail> {
+    let mut before = 0;
+    for row in &ROWS {
+        let tally = Tally::of(alloc, |bump| outcome_of(alloc, bump, row.call, ample))?;
+        let is_right = tally.is_right(row.refused, row.places)
+            && tally.last_place.unwrap_or(0) >= row.last_place
+            && row.rooms.are_right(before, tally.refused);
+        holds(rt, is_right, &(row, tally, before));
+        before = tally.refused;
+    }
+    Ok(())
+}
+
 #[test]
-fn a_sink_of_btf_runs_out_of_memory(rt: HostRuntime) -> Result<(), Fail> {
-    let tally = Tally::of(&rt, rt.alloc(), |bump| {
-        let mut source = MemSource::new(LOOSE_INT, 5, None);
-        let mut out = Vec::new(bump);
-        let mut sink = MemSink::new(&mut out, 5, None);
-        let ran = run_btf(rt.alloc(), &mut source, &mut sink, Order::Big);
-        holds(&rt, BIG_INT.starts_with(&out), &"a prefix");
-        let Err(stop) = ran else {
-            equal_bytes(&rt, out.as_slice(), BIG_INT, &"canonical bytes");
-            return None;
-        };
-        equal(
-            &rt,
-            &(stop.cause, stop.written),
-            &(RunCause::WriteFailed, out.len() as u64),
-            &"the stop",
-        );
-        holds(&rt, out.len() < 45, &"a failed write");
-        Some(out.len())
-    })?;
-    tally.has_at_least(&rt, 45, 3);
+fn each_growth_is_refused(rt: HostRuntime) -> Result<(), Fail> {
+    let little = canon_btf(rt.alloc(), flow_table_big())?;
+    let view = BtfView::parse(rt.alloc(), flow_table_little())?;
+    let big = write_btf(rt.alloc(), Order::Big, &view)?;
+    let lens = (little.len(), big.len());
+    equal(&rt, &lens, &(CANONICAL_LEN, CANONICAL_LEN), &"the lengths");
+    let ample = Ample {
+        view: &view,
+        little: &little,
+        big: &big,
+    };
+    check_calls(&rt, rt.alloc(), ample)
+}
+
+/// What the compiled file is compared with: another file, or the first bytes of the compiled one in big-endian order.
+#[derive(Clone, Copy)]
+enum Other {
+    File(&'static [u8]),
+    Front(usize),
+}
+
+/// A comparison, its answer, and how many rooms are too small for it.
+struct Comparison {
+    second: Other,
+    answer: Result<bool, SideError<BtfFault>>,
+    rooms: Rooms,
+}
+
+const SHORT: BtfFault = BtfFault {
+    pos: 0,
+    cause: BtfCause::ShortHeader,
+};
+
+const CUT: BtfFault = BtfFault {
+    pos: 848,
+    cause: BtfCause::FileLength,
+};
+
+/// A faulty header needs no memory, so an arena that is too small only for two good files is exhausted by the second.
+#[rattlefmt::skip]
+static COMPARISONS: [Comparison; 4] = [
+    Comparison { second: Other::File(b""), answer: Err(SideError::Second(SHORT)), rooms: Rooms::More },
+    Comparison { second: Other::Front(848), answer: Err(SideError::Second(CUT)), rooms: Rooms::AsMany },
+    Comparison { second: Other::File(BIG_INT), answer: Ok(false), rooms: Rooms::More },
+    Comparison { second: Other::Front(849), answer: Ok(true), rooms: Rooms::More },
+];
+
+/// Compares two files in an arena.
+fn compared(bump: &Bump<Global>, row: &Comparison) -> Outcome {
+    let second = match row.second {
+        Other::File(file) => file,
+        Other::Front(len) => flow_table_big().get(..len).unwrap_or(&[]),
+    };
+    let same = same_btf(bump, flow_table_little(), second);
+    match same {
+        Err(SideError::Memory) => Outcome::Refused(0),
+        _ => whole_if(same == row.answer),
+    }
+}
+
+#[test]
+fn each_growth_of_a_comparison_is_refused(rt: HostRuntime) -> Result<(), Fail> {
+    let mut before = 0;
+    for row in &COMPARISONS {
+        let tally = Tally::of(rt.alloc(), |bump| compared(bump, row))?;
+        let is_right = tally.is_right(1, 1) && row.rooms.are_right(before, tally.refused);
+        holds(&rt, is_right, &(row.answer, tally, before));
+        before = tally.refused;
+    }
     Ok(())
 }

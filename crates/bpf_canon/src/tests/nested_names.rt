@@ -1,10 +1,11 @@
 //! Names that overlap, equal and nest in all ways, against a plain computation of the string table.
 
+use super::expect::holds;
 use super::own_table::Counting;
 use super::plain_table::{PlainTable, length_of, text_at};
 use crate::write_btf;
 use bpf_words::{Order, push16, push32};
-use btf_types::{Btf, BtfView, TypeTable};
+use btf_types::{Btf, BtfError, BtfView, TypeTable};
 use std::alloc::{AllocError, Global};
 use std::process::Abort;
 use std::test::Fail;
@@ -32,7 +33,7 @@ fn words(names: [u32; 3]) -> [u32; 14] {
 }
 
 /// A file with these words and strings.
-fn file(
+pub(crate) fn file(
     alloc: Global,
     order: Order,
     words: &[u32],
@@ -59,9 +60,12 @@ fn plain_file(
     strings: &[u8],
     offsets: [u32; 3],
 ) -> Result<Vec<u8, Global>, AllocError> {
-    let texts = offsets.map(|off| text_at(strings, off as usize));
-    let table = PlainTable::of(alloc, &texts)?;
-    let places = texts.map(|text| table.place(text));
+    let [first, second, third] = offsets;
+    let first = text_at(strings, first as usize);
+    let second = text_at(strings, second as usize);
+    let third = text_at(strings, third as usize);
+    let table = PlainTable::of(alloc, &[first, second, third])?;
+    let places = [table.place(first), table.place(second), table.place(third)];
     file(alloc, order, &words(places), &table.bytes(alloc)?)
 }
 
@@ -76,7 +80,7 @@ fn compare<T: TypeTable>(
     for order in [Order::Little, Order::Big] {
         let canon = write_btf(alloc, order, table)?;
         let plain = plain_file(alloc, order, strings, offsets)?;
-        assert!(rt; canon == plain, "names at {offsets:?} of {strings:?}");
+        holds(rt, canon == plain, &(offsets, strings));
     }
     Ok(())
 }
@@ -97,25 +101,52 @@ fn section(alloc: Global, len: u32, number: u32) -> Result<Vec<u8, Global>, Allo
     Ok(strings)
 }
 
-/// Three names at all offsets of a section: tables of both kinds, of files in both orders.
-fn compare_names(rt: &impl Abort, alloc: Global, strings: &[u8]) -> Result<(), Fail> {
+/// Three names at these offsets of a section, in an owned table.
+fn compare_owned(
+    rt: &impl Abort,
+    alloc: Global,
+    strings: &[u8],
+    offsets: [u32; 3],
+) -> Result<(), BtfError> {
+    let big = file(alloc, Order::Big, &words(offsets), strings)?;
+    let table = Btf::parse(alloc, &big)?;
+    Ok(compare(rt, alloc, &table, strings, offsets)?)
+}
+
+/// In a borrowed one.
+fn compare_lent(
+    rt: &impl Abort,
+    alloc: Global,
+    strings: &[u8],
+    offsets: [u32; 3],
+) -> Result<(), BtfError> {
+    let little = file(alloc, Order::Little, &words(offsets), strings)?;
+    let table = BtfView::parse(alloc, &little)?;
+    Ok(compare(rt, alloc, &table, strings, offsets)?)
+}
+
+/// In one of a user.
+fn compare_own(
+    rt: &impl Abort,
+    alloc: Global,
+    strings: &[u8],
+    offsets: [u32; 3],
+) -> Result<(), BtfError> {
+    let big = file(alloc, Order::Big, &words(offsets), strings)?;
+    let view = BtfView::parse(alloc, &big)?;
+    Ok(compare(rt, alloc, &Counting::new(&view), strings, offsets)?)
+}
+
+/// Three names at all offsets of a section.
+fn compare_names(rt: &impl Abort, alloc: Global, strings: &[u8]) -> Result<(), BtfError> {
     let len = length_of(strings.len());
     for first in 0..len {
         for second in 0..len {
             for third in 0..len {
                 let offsets = [first, second, third];
-                let little = file(alloc, Order::Little, &words(offsets), strings)?;
-                let big = file(alloc, Order::Big, &words(offsets), strings)?;
-                compare(
-                    rt,
-                    alloc,
-                    &BtfView::parse(alloc, &little)?,
-                    strings,
-                    offsets,
-                )?;
-                compare(rt, alloc, &Btf::parse(alloc, &big)?, strings, offsets)?;
-                let view = BtfView::parse(alloc, &big)?;
-                compare(rt, alloc, &Counting::new(&view), strings, offsets)?;
+                compare_owned(rt, alloc, strings, offsets)?;
+                compare_lent(rt, alloc, strings, offsets)?;
+                compare_own(rt, alloc, strings, offsets)?;
             }
         }
     }

@@ -21,11 +21,8 @@ impl<'a> PlainTable<'a> {
         let mut hosts = Vec::new(alloc);
         for (index, name) in names.iter().enumerate() {
             let before = names.get(..index).unwrap_or(&[]);
-            let is_new = !name.is_empty() && !before.iter().any(|other| *other == *name);
-            let ends_none = !names
-                .iter()
-                .any(|other| other.len() > name.len() && other.ends_with(name));
-            if is_new && ends_none {
+            let is_new = !name.is_empty() && !before.contains(name);
+            if is_new && !ends_another(name, names) {
                 hosts.push(*name)?;
             }
         }
@@ -60,6 +57,16 @@ impl<'a> PlainTable<'a> {
         }
         Ok(bytes)
     }
+}
+
+/// Whether a name is a suffix of a longer one.
+fn ends_another(name: &[u8], names: &[&[u8]]) -> bool {
+    for other in names {
+        if other.len() > name.len() && other.ends_with(name) {
+            return true;
+        }
+    }
+    false
 }
 
 /// A length of a small list as a word.

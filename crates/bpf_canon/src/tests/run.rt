@@ -2,7 +2,7 @@
 
 use super::expect::{equal, equal_bytes};
 use super::fused_devices::FusedDevices;
-use super::samples::{EXIT, FAULT_OF_FAULTY, FAULTY, InsnFile, insn_files};
+use super::samples::{EXIT, FAULT_OF_FAULTY, FAULTY, InsnFile};
 use crate::{ReaderSource, RunCause, RunError, WriterSink, run_insns};
 use bpf_insn::{Order, SlotFault};
 use std::alloc::Global;
@@ -32,12 +32,10 @@ fn run_file(rt: &impl Abort, alloc: Global, file: &InsnFile, piece: usize) {
     equal_bytes(rt, run.taken.as_slice(), file.canonical, &case);
 }
 
-#[test]
-fn runs_files_in_pieces(rt: HostRuntime) {
-    for file in insn_files().into_iter().flatten() {
-        for piece in [1usize, 3, 8, 5000] {
-            run_file(&rt, rt.alloc(), file, piece);
-        }
+/// Runs a file in pieces of several lengths.
+pub(crate) fn run_in_pieces(rt: &impl Abort, alloc: Global, file: &InsnFile) {
+    for piece in [1usize, 3, 8, 5000] {
+        run_file(rt, alloc, file, piece);
     }
 }
 
