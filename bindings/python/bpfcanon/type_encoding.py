@@ -49,7 +49,7 @@ class Strings:
         if found is not None:
             return found
         if not isinstance(name, str):
-            raise TypeError(f"{name!r} is no name")
+            raise TypeError(f"the name {name!r} isn't a str")
         if "\0" in name:
             raise ValueError(f"{name!r} contains a NUL")
         offset = len(self.section)
@@ -63,7 +63,7 @@ class Strings:
 def flag_of(flag: object) -> int:
     """Return the number of a bool. Raises TypeError for anything else."""
     if not isinstance(flag, bool):
-        raise TypeError(f"{flag!r} is no bool")
+        raise TypeError(f"the flag {flag!r} isn't a bool")
     return int(flag)
 
 
@@ -77,7 +77,7 @@ def items(kind: type[T], given: Sequence[T]) -> tuple[T, ...]:
     found = tuple(given)
     for it in found:
         if type(it) is not kind:
-            raise TypeError(f"{it!r} is no {kind.__name__}")
+            raise TypeError(f"{it!r} isn't of the class {kind.__name__}")
     return found
 
 

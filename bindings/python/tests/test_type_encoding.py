@@ -145,7 +145,7 @@ class Refused(unittest.TestCase):
 
     def test_the_first_is_named(self) -> None:
         self.refused([Ptr(0), Ptr(9), Typedef("", 0)], 1, BtfCause.REFERENCE)
-        self.refused([Ptr(9), Void(), Void()], 1, None)  # what is no type comes before a fault
+        self.refused([Ptr(9), Void(), Void()], 1, None)  # a value that no BTF holds comes before a fault
 
     def test_sections_have_a_limit(self) -> None:
         types: list[Any] = [Fwd(chr(97 + it) * ((1 << 20) - 1), False) for it in range(16)]
