@@ -15,8 +15,12 @@ mod tables;
 
 use crate::{Btf, BtfError, BtfView};
 use btf_raw::{BtfCause, BtfFault};
+use expect::equal;
+use judge::first_fault;
 use std::alloc::{AllocError, Global};
+use std::process::Abort;
 use std::test::Fail;
+use tables::{both_shown, equal_walk};
 
 const fn fault(pos: u64, cause: BtfCause) -> BtfFault {
     BtfFault { pos, cause }
@@ -94,4 +98,33 @@ fn first_fault_of_both(alloc: Global, bytes: &[u8]) -> Result<Option<BtfFault>, 
         return Err("the two parsers differ")?;
     }
     Ok(owned)
+}
+
+/// Checks that both parsers and the reference checker find this fault first.
+fn is_refused(
+    rt: &impl Abort,
+    alloc: Global,
+    bytes: &[u8],
+    fault: BtfFault,
+    name: &str,
+) -> Result<(), Fail> {
+    let found = (
+        first_fault_of_both(alloc, bytes)?,
+        first_fault(alloc, bytes)?,
+    );
+    equal(rt, &found, &(Some(fault), Some(fault)), &name);
+    Ok(())
+}
+
+/// Checks that the reference checker finds no fault, and that both tables have these heads and items.
+fn is_accepted(
+    rt: &impl Abort,
+    alloc: Global,
+    bytes: &[u8],
+    walk: &[&str],
+    name: &str,
+) -> Result<(), Fail> {
+    equal(rt, &first_fault(alloc, bytes)?, &None, &name);
+    equal_walk(rt, &both_shown(alloc, bytes)?, walk, &name);
+    Ok(())
 }

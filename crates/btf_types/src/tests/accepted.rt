@@ -1,13 +1,10 @@
 //! Worked files that both parsers accept, and the heads and items of both tables.
 
-use crate::tests::edited;
 use crate::tests::examples::{
     BIG_ENUM64, BIG_INT, EMPTY, EMPTY_NAME, FUNC_ENTRY, LITTLE_ENUM64, LITTLE_INT, MEMBER,
     ODD_FLOAT, SHARED_NAME, SMALL_INT, STRINGS_FIRST, TAG_OF_VAR, TAGGED, TAILS, WIDE_OFFSET,
 };
-use crate::tests::expect::equal;
-use crate::tests::judge::first_fault;
-use crate::tests::tables::{both_shown, equal_walk};
+use crate::tests::{edited, is_accepted};
 use std::test::Fail;
 
 /// A file, bytes that are changed in it, and the heads and items of its tables, each as a line.
@@ -74,13 +71,15 @@ static SHARED_ENDS: &[Accepted] = &[
     Accepted { name: "three names in the order of first use", file: b"\x9f\xeb\x01\0\x18\0\0\0\0\0\0\0$\0\0\0$\0\0\0\x09\0\0\0\x01\0\0\0\0\0\0\x08\0\0\0\0\x07\0\0\0\0\0\0\x08\0\0\0\0\x05\0\0\0\0\0\0\x08\0\0\0\0\0dbc\0abc\0", edits: &[], walk: &["1 KTypedef { name: \"dbc\", target: 0 }", "2 KTypedef { name: \"c\", target: 0 }", "3 KTypedef { name: \"abc\", target: 0 }"] },
 ];
 
+fn rows() -> [&'static [Accepted]; 7] {
+    [FILES, NAMES, MEMBERS, TAGS, ENUMS, NUMBERS, SHARED_ENDS]
+}
+
 #[test]
 fn worked_files_are_accepted(rt: HostRuntime) -> Result<(), Fail> {
-    let pieces = [FILES, NAMES, MEMBERS, TAGS, ENUMS, NUMBERS, SHARED_ENDS];
-    for row in pieces.into_iter().flatten() {
+    for row in rows().into_iter().flatten() {
         let bytes = edited(rt.alloc(), row.file, row.edits)?;
-        equal(&rt, &first_fault(rt.alloc(), &bytes)?, &None, &row.name);
-        equal_walk(&rt, &both_shown(rt.alloc(), &bytes)?, row.walk, &row.name);
+        is_accepted(&rt, rt.alloc(), &bytes, row.walk, row.name)?;
     }
     Ok(())
 }

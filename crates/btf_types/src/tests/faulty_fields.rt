@@ -1,13 +1,27 @@
 //! Faulty references and fields after the third, with the first fault of both parsers and of the reference checker.
 
-use crate::tests::expect::equal;
-use crate::tests::judge::first_fault;
-use crate::tests::{fault, file, first_fault_of_both, words};
+use crate::tests::{fault, file, is_refused, words};
 use btf_raw::BtfCause as Cause;
+use std::alloc::Global;
+use std::process::Abort;
 use std::test::Fail;
 
 /// The fields of records in hexadecimal, their strings, and the offset and cause of the first fault. The records begin at byte 24.
-struct Faulty(&'static str, &'static str, &'static [u8], u64, Cause);
+pub(super) struct Faulty(
+    pub(super) &'static str,
+    pub(super) &'static str,
+    pub(super) &'static [u8],
+    pub(super) u64,
+    pub(super) Cause,
+);
+
+impl Faulty {
+    pub(super) fn check(&self, rt: &impl Abort, alloc: Global) -> Result<(), Fail> {
+        let Faulty(name, text, strings, pos, cause) = self;
+        let bytes = file(alloc, &words(alloc, text)?, strings)?;
+        is_refused(rt, alloc, &bytes, fault(*pos, *cause), name)
+    }
+}
 
 #[rattlefmt::skip]
 fn rows() -> [&'static [Faulty]; 7] {[&[
@@ -62,16 +76,8 @@ fn rows() -> [&'static [Faulty]; 7] {[&[
 
 #[test]
 fn faulty_references_and_words_are_refused(rt: HostRuntime) -> Result<(), Fail> {
-    for Faulty(name, text, strings, pos, cause) in rows().into_iter().flatten() {
-        let bytes = file(rt.alloc(), &words(rt.alloc(), text)?, strings)?;
-        let wanted = Some(fault(*pos, *cause));
-        equal(
-            &rt,
-            &first_fault_of_both(rt.alloc(), &bytes)?,
-            &wanted,
-            name,
-        );
-        equal(&rt, &first_fault(rt.alloc(), &bytes)?, &wanted, name);
+    for row in rows().into_iter().flatten() {
+        row.check(&rt, rt.alloc())?;
     }
     Ok(())
 }

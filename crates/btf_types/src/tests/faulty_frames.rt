@@ -1,13 +1,8 @@
 //! Faulty frames, names, type fields and sizes, with the first fault of both parsers and of the reference checker.
 
-use crate::tests::expect::equal;
-use crate::tests::judge::first_fault;
-use crate::tests::{fault, file, first_fault_of_both, words};
+use crate::tests::faulty_fields::Faulty;
 use btf_raw::BtfCause as Cause;
 use std::test::Fail;
-
-/// The fields of records in hexadecimal, their strings, and the offset and cause of the first fault. The records begin at byte 24.
-struct Faulty(&'static str, &'static str, &'static [u8], u64, Cause);
 
 #[rattlefmt::skip]
 fn rows() -> [&'static [Faulty]; 8] {[&[
@@ -69,16 +64,8 @@ fn rows() -> [&'static [Faulty]; 8] {[&[
 
 #[test]
 fn faulty_frames_and_names_are_refused(rt: HostRuntime) -> Result<(), Fail> {
-    for Faulty(name, text, strings, pos, cause) in rows().into_iter().flatten() {
-        let bytes = file(rt.alloc(), &words(rt.alloc(), text)?, strings)?;
-        let wanted = Some(fault(*pos, *cause));
-        equal(
-            &rt,
-            &first_fault_of_both(rt.alloc(), &bytes)?,
-            &wanted,
-            name,
-        );
-        equal(&rt, &first_fault(rt.alloc(), &bytes)?, &wanted, name);
+    for row in rows().into_iter().flatten() {
+        row.check(&rt, rt.alloc())?;
     }
     Ok(())
 }

@@ -78,6 +78,14 @@ impl Faults {
         Ok(())
     }
 
+    /// Notes those of these faults that hold.
+    fn note_each(&mut self, faults: &[(bool, u64, BtfCause)]) -> Result<(), AllocError> {
+        for (holds, pos, cause) in faults {
+            self.note(*holds, *pos, *cause)?;
+        }
+        Ok(())
+    }
+
     /// The least fault by its cause.
     fn by_cause(&self) -> Option<BtfFault> {
         let mut least: Option<BtfFault> = None;
@@ -226,18 +234,20 @@ fn number_faults(faults: &mut Faults, bytes: &[u8], big: bool) -> Result<(), All
     let types_first = type_off == 0 && str_off == types;
     let strings_first = str_off == 0 && type_off == strings;
     let header_fits = 24 <= header && header <= 4096 && header <= len;
-    faults.note(bytes.get(2) != Some(&1), 2, BtfCause::Version)?;
-    faults.note(bytes.get(3) != Some(&0), 3, BtfCause::Flags)?;
-    faults.note(!header_fits, 4, BtfCause::HeaderLength)?;
-    faults.note(tail.is_some(), tail.unwrap_or(0), BtfCause::HeaderTail)?;
-    faults.note(types > 33_554_432, 12, BtfCause::TypeLength)?;
-    faults.note(
-        strings == 0 || strings > 16_777_216,
-        20,
-        BtfCause::StringLength,
-    )?;
-    faults.note(!types_first && !strings_first, 8, BtfCause::Sections)?;
-    faults.note(end != len, end.min(len), BtfCause::FileLength)
+    faults.note_each(&[
+        (bytes.get(2) != Some(&1), 2, BtfCause::Version),
+        (bytes.get(3) != Some(&0), 3, BtfCause::Flags),
+        (!header_fits, 4, BtfCause::HeaderLength),
+        (tail.is_some(), tail.unwrap_or(0), BtfCause::HeaderTail),
+        (types > 33_554_432, 12, BtfCause::TypeLength),
+        (
+            strings == 0 || strings > 16_777_216,
+            20,
+            BtfCause::StringLength,
+        ),
+        (!types_first && !strings_first, 8, BtfCause::Sections),
+        (end != len, end.min(len), BtfCause::FileLength),
+    ])
 }
 
 fn header_faults(faults: &mut Faults, bytes: &[u8]) -> Result<(), AllocError> {
@@ -294,9 +304,11 @@ fn frame_faults(faults: &mut Faults, record: Record) -> Result<(), AllocError> {
     };
     let has_vlen = !item.is_empty() || record.kind() == 12;
     let is_cut = len >= 12 && len < record.len().saturating_mul(4);
-    faults.note(record.flag() && !*has_flag, at, BtfCause::FlagSet)?;
-    faults.note(record.vlen() != 0 && !has_vlen, at, BtfCause::Vlen)?;
-    faults.note(is_cut, record.place(3), BtfCause::TailCut)
+    faults.note_each(&[
+        (record.flag() && !*has_flag, at, BtfCause::FlagSet),
+        (record.vlen() != 0 && !has_vlen, at, BtfCause::Vlen),
+        (is_cut, record.place(3), BtfCause::TailCut),
+    ])
 }
 
 /// The records up to the first whose frame has a fault; these faults are noted.

@@ -1,9 +1,6 @@
 //! Records of each kind, through both tables.
 
-use crate::tests::expect::equal;
-use crate::tests::judge::first_fault;
-use crate::tests::tables::{both_shown, equal_walk};
-use crate::tests::{file, words};
+use crate::tests::{file, is_accepted, words};
 use std::test::Fail;
 
 /// Records, their strings, and the heads and items of their tables.
@@ -68,9 +65,8 @@ static SECTIONS_AND_TAGS: &[Kind] = &[
     Kind { name: "tags of a variable, of a struct and of its last member", words: "00000001 0e000000 00000000 00000000 00000003 11000000 00000001 ffffffff 00000000 04000002 00000008 00000000 00000000 00000000 00000000 00000000 00000020 00000003 11000000 00000003 ffffffff 00000003 91000000 00000003 00000001", strings: b"\0v\0g\0", walk: &["1 KVar { name: \"v\", target: 0, linkage: LStatic }", "2 KDeclTag { name: \"g\", flag: false, target: 1, component: None }", "3 KStruct { name: \"\", size: 8 }", "  Member { name: \"\", target: 0, bit_offset: 0, width: 0 }", "  Member { name: \"\", target: 0, bit_offset: 32, width: 0 }", "4 KDeclTag { name: \"g\", flag: false, target: 3, component: None }", "5 KDeclTag { name: \"g\", flag: true, target: 3, component: Some(1) }"] },
 ];
 
-#[test]
-fn records_of_each_kind_are_read(rt: HostRuntime) -> Result<(), Fail> {
-    let pieces = [
+fn kinds() -> [&'static [Kind]; 9] {
+    [
         NUMBERS_AND_ARRAYS,
         RECORDS,
         ENUMS,
@@ -80,11 +76,14 @@ fn records_of_each_kind_are_read(rt: HostRuntime) -> Result<(), Fail> {
         LARGE_ENUMS,
         MEMBERS,
         SECTIONS_AND_TAGS,
-    ];
-    for kind in pieces.into_iter().flatten() {
+    ]
+}
+
+#[test]
+fn records_of_each_kind_are_read(rt: HostRuntime) -> Result<(), Fail> {
+    for kind in kinds().into_iter().flatten() {
         let bytes = file(rt.alloc(), &words(rt.alloc(), kind.words)?, kind.strings)?;
-        equal(&rt, &first_fault(rt.alloc(), &bytes)?, &None, &kind.name);
-        equal_walk(&rt, &both_shown(rt.alloc(), &bytes)?, kind.walk, &kind.name);
+        is_accepted(&rt, rt.alloc(), &bytes, kind.walk, kind.name)?;
     }
     Ok(())
 }

@@ -6,8 +6,7 @@ use crate::tests::examples::{
     ODD_FLOAT, SMALL_INT, STRINGS_FIRST, TAG_OF_VAR, TAGGED,
 };
 use crate::tests::expect::equal;
-use crate::tests::judge::first_fault;
-use crate::tests::{edited, fault, first_fault_of_both};
+use crate::tests::{edited, fault, is_refused};
 use btf_raw::BtfCause as Cause;
 use std::test::Fail;
 
@@ -90,26 +89,22 @@ static KINDS: &[Refused] = &[
     Refused("an entry for a type too far", FUNC_ENTRY, &[(60, 4)], 60, Cause::Reference),
 ];
 
-#[test]
-fn worked_files_with_a_fault_are_refused(rt: HostRuntime) -> Result<(), Fail> {
-    let pieces = [
+fn rows() -> [&'static [Refused]; 6] {
+    [
         LENGTHS,
         HEADERS,
         SECTIONS_AND_MEMBERS,
         REFERENCES_AND_NAMES,
         WORDS,
         KINDS,
-    ];
-    for Refused(name, file, edits, pos, cause) in pieces.into_iter().flatten() {
+    ]
+}
+
+#[test]
+fn worked_files_with_a_fault_are_refused(rt: HostRuntime) -> Result<(), Fail> {
+    for Refused(name, file, edits, pos, cause) in rows().into_iter().flatten() {
         let bytes = edited(rt.alloc(), file, edits)?;
-        let wanted = Some(fault(*pos, *cause));
-        equal(
-            &rt,
-            &first_fault_of_both(rt.alloc(), &bytes)?,
-            &wanted,
-            name,
-        );
-        equal(&rt, &first_fault(rt.alloc(), &bytes)?, &wanted, name);
+        is_refused(&rt, rt.alloc(), &bytes, fault(*pos, *cause), name)?;
     }
     Ok(())
 }

@@ -81,9 +81,11 @@ fn type_faults(
     };
     let is_member = matches!(record.kind(), 4 | 5);
     let is_odd = is_member && record.has_bit_fields() && is_odd_int(types, id);
-    faults.note(is_beyond, at, BtfCause::Reference)?;
-    faults.note(!is_beyond && is_wrong, at, BtfCause::TargetKind)?;
-    faults.note(is_odd, at, BtfCause::MemberInt)
+    faults.note_each(&[
+        (is_beyond, at, BtfCause::Reference),
+        (!is_beyond && is_wrong, at, BtfCause::TargetKind),
+        (is_odd, at, BtfCause::MemberInt),
+    ])
 }
 
 fn size_is_wrong(record: Record) -> bool {
