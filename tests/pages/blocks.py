@@ -29,6 +29,7 @@ BLOCK = re.compile(r"^```(\w+)\n(.*?)^```$", re.MULTILINE | re.DOTALL)
 INTEGRATED = ["c", "cmake", "go", "python", "rust", "sh", "text", "yaml"]
 # The test that runs the blocks of a page in a language, and how many it finds if it wouldn't notice another one.
 TESTS = {
+    ("docs/ADDING.md", "diff"): ("tests/pages/adding.py", None),
     ("README.md", "console"): ("tests/pages/readme.py", 1),
     ("README.md", "python"): ("tests/pages/readme.py", 1),
     ("docs/LIBRARY.md", "c"): ("tests/c_interface/run", 3),

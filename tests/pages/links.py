@@ -16,11 +16,11 @@ LINK = re.compile(r"\[[^\]]*\]\(([^)\s]+)\)")
 # A file in code: folders and a name with one of these endings. Capitals such as NAME stand for any name.
 FILE = re.compile(r"`([\w./*-]*\w\.(?:rt|antt|py|c|h|md|tsv|go|rs|map|toml|txt))`")
 NAME = re.compile(r"`([A-Za-z_][\w:]*)`")
-# The pages on the sources, what they may name, and a variable of the environment and prefixes, which no source contains.
-ON_SOURCES = ["CHANGING", "CONTRACTS", "DECISIONS", "LIBRARY", "PROMISES", "TRUST"]
+# The pages on the sources, what they may name, and what no source contains: a variable of the environment, prefixes, a new instruction.
+ON_SOURCES = ["ADDING", "CHANGING", "CONTRACTS", "DECISIONS", "LIBRARY", "PROMISES", "TRUST"]
 SOURCES = ["crates/**/*.rt", "crates/**/*.antt", "tests/**/*", "tools/*", "capi/*"]
 SOURCES += ["bindings/**/*.go", "bindings/**/*.py", "bindings/**/*.rs"]
-NO_NAMES = {"RT_JOBS", "proved_", "bpfcanon_proved_"}
+NO_NAMES = {"RT_JOBS", "proved_", "bpfcanon_proved_", "MayGoto"}
 # How functions of C begin that only the kit names.
 OF_KIT = ("libc::", "os::c::", "__")
 STANDS_FOR = re.compile(r"(?:^|/)(?:NAME|MODULE|FUNCTION)\b")
