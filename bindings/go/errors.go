@@ -16,6 +16,18 @@ var ErrOrder = errors.New("bpfcanon: no such byte order")
 // ErrClosed is returned by a write to an InsnWriter that was closed.
 var ErrClosed = errors.New("bpfcanon: the writer is closed")
 
+// An UnknownRecordError is returned if the library is newer than this package, and decodes an
+// instruction of a form, or a type of a kind, that the package doesn't know.
+type UnknownRecordError struct {
+	// Index is the index of the instruction or of the type, counted from 0.
+	Index int
+}
+
+// Error returns the index of the record.
+func (e *UnknownRecordError) Error() string {
+	return fmt.Sprintf("bpfcanon: unknown record %d of a newer library", e.Index)
+}
+
 // A FaultError is the first fault of an input. errors.Is compares it with a cause, and errors.As
 // finds its offset or line.
 type FaultError struct {

@@ -21,6 +21,23 @@ func TestErrorsOfStatuses(t *testing.T) {
 	}
 }
 
+// The library with this version has 19 forms and 19 kinds.
+func TestRecordsOfANewerLibrary(t *testing.T) {
+	for _, number := range []uint8{1, 19, 0, 20, 255} {
+		insns := checkForms([]capi.Insn{{Form: 11}, {Form: number}})
+		types := checkKinds([]capi.BTFType{{Kind: 2}, {Kind: number}})
+		for _, err := range []error{insns, types} {
+			var unknown *UnknownRecordError
+			switch isKnown := number == 1 || number == 19; {
+			case isKnown && err != nil:
+				t.Errorf("%d: %v", number, err)
+			case !isKnown && (!errors.As(err, &unknown) || unknown.Index != 1):
+				t.Errorf("%d: %v, want record 1", number, err)
+			}
+		}
+	}
+}
+
 func TestTheLibraryHasTheVersionOfItsHeader(t *testing.T) {
 	if capi.Version() != capi.HeaderVersion {
 		t.Errorf("version %q, and the header has %q", capi.Version(), capi.HeaderVersion)

@@ -10,7 +10,17 @@ func operandOf(r *capi.Insn) Operand {
 	return Imm(r.Imm)
 }
 
-// insnOf returns the instruction that a decoded record says.
+// checkForms returns an error for the first record of a form that this package doesn't know.
+func checkForms(records []capi.Insn) error {
+	for i := range records {
+		if form := records[i].Form; form < capi.FormAlu || form > capi.FormPacketInd {
+			return &UnknownRecordError{i}
+		}
+	}
+	return nil
+}
+
+// insnOf returns the instruction that a decoded record says. Its form is a known one.
 func insnOf(r *capi.Insn) Insn {
 	width, size, dst, src := Width(r.Bits), Size(r.Bits), Reg(r.Dst), Reg(r.Src)
 	switch r.Form {

@@ -14,11 +14,14 @@ type Program struct {
 // DecodeInsns decodes the instructions of a program in the byte order `order`. It stores records of
 // 32 bytes; no Insn is made before At is called.
 //
-// Errors: a *FaultError with an InsnCause, ErrOrder.
+// Errors: a *FaultError with an InsnCause, ErrOrder, an *UnknownRecordError.
 func DecodeInsns(order Order, program []byte) (*Program, error) {
 	records := make([]capi.Insn, len(program)/slotSize)
 	got := capi.InsnDecode(capi.Order(order), program, records)
 	if err := errorOf(got, insnCause); err != nil {
+		return nil, err
+	}
+	if err := checkForms(records[:got.Written]); err != nil {
 		return nil, err
 	}
 	return &Program{records[:got.Written]}, nil

@@ -2,7 +2,17 @@ package bpfcanon
 
 import "bpfcanon/internal/capi"
 
-// typeOf returns the type that a decoded record says.
+// checkKinds returns an error for the first record of a kind that this package doesn't know.
+func checkKinds(records []capi.BTFType) error {
+	for i := range records {
+		if kind := records[i].Kind; kind < capi.KindInt || kind > capi.KindEnum64 {
+			return &UnknownRecordError{i}
+		}
+	}
+	return nil
+}
+
+// typeOf returns the type that a decoded record says. Its kind is a known one.
 func (b *BTF) typeOf(r *capi.BTFType) Type {
 	target := ID(r.Target)
 	switch r.Kind {

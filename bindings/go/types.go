@@ -21,7 +21,7 @@ type BTF struct {
 // DecodeBTF decodes the types of BTF. It stores a copy of the input and records of 40 bytes for each
 // type and item; no Type is made before a call asks for it.
 //
-// Errors: a *FaultError with a BTFCause, ErrMemory.
+// Errors: a *FaultError with a BTFCause, ErrMemory, an *UnknownRecordError.
 func DecodeBTF(types []byte) (*BTF, error) {
 	// The names have to stay as they were decoded, so the copy is decoded.
 	file := append([]byte(nil), types...)
@@ -29,6 +29,9 @@ func DecodeBTF(types []byte) (*BTF, error) {
 	typeRoom, itemRoom := make([]capi.BTFType, len(file)/12), make([]capi.BTFItem, len(file)/8)
 	got := capi.BTFDecode(file, typeRoom, itemRoom)
 	if err := errorOf(got, btfCause); err != nil {
+		return nil, err
+	}
+	if err := checkKinds(typeRoom[:got.Types]); err != nil {
 		return nil, err
 	}
 	return &BTF{
