@@ -92,7 +92,8 @@ def check_missing(report):
 RECIPE = "```sh\necho same\n```\n```text\nsame\n```\n"
 NOTATION = "### Notation of llvm-objdump\n\n| `exit` | `exit` |\n\nllvm-objdump therefore\n\n### Reading a listing\n"
 FILE = "`made`:\n\n<!-- file: made -->\n```text\nsame\n```\n\n```sh\ncat made\n```\n```text\nsame\n```\n"
-# One of the two pages, what the program answers to a listing, and whether the runner passes.
+PAGES = ["RECIPES.md", "SECTIONS.md", "INTEGRATIONS.md"]
+# One of the pages, what the program answers to a listing, and whether the runner passes.
 RECIPES = [
     ("a recipe that passes", RECIPE, "cat", True),
     ("a file that a recipe reads", FILE, "cat", True),
@@ -113,14 +114,14 @@ raise SystemExit(any("The README fails." in page.read_text() for page in pathlib
 
 def check_recipes(report):
     with report.group("tests/recipes"):
-        cases = [(*case, page) for case in RECIPES for page in ("RECIPES.md", "INTEGRATIONS.md")]
+        cases = [(*case, page) for case in RECIPES for page in PAGES]
         for name, text, answer, passes, page in cases:
             with tempfile.TemporaryDirectory() as folder:
                 root = pathlib.Path(folder)
                 for tool in [*BASE, "python3"]:
                     (root / "bin").mkdir(exist_ok=True)
                     (root / "bin" / tool).symlink_to(sys.executable if tool == "python3" else shutil.which(tool))
-                for other in "RECIPES.md", "INTEGRATIONS.md":
+                for other in PAGES:
                     write(root / "docs" / other, text if other == page else RECIPE)
                 write(root / "docs" / "FORMATS.md", NOTATION)
                 write(root / "bin" / "bpfcanon", f"#!/bin/sh\n{answer}\n")

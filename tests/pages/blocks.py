@@ -41,6 +41,8 @@ TESTS = {
     ("docs/OBJECTS.md", "text"): ("bindings/python/tests/test_objects_page.py", None),
     ("docs/RECIPES.md", "sh"): ("tests/recipes", None),
     ("docs/RECIPES.md", "text"): ("tests/recipes", None),
+    ("docs/SECTIONS.md", "sh"): ("tests/recipes", None),
+    ("docs/SECTIONS.md", "text"): ("tests/recipes", None),
     ("docs/TRUST.md", "antt"): ("tests/pages/trust.py", 3),
     ("docs/TRUST.md", "console"): ("tests/pages/trust.py", 1),
     ("docs/TRUST.md", "rattle"): ("tests/pages/trust.py", 3),

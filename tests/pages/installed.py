@@ -4,7 +4,8 @@
 
 A reader of share/doc/bpfcanon has no other file of the repository. Each link has to lead to an installed file. A path in code has to be
 that of one, unless its paragraph, its item of a list or its row of a table says "repository". Blocks of code are left out: tests/recipes
-runs those of RECIPES in a folder of an installation. What ./install installs is compared with the list by tests/process/install.py.
+runs those of RECIPES and SECTIONS in a folder of an installation. What ./install installs is compared with the list by
+tests/process/install.py.
 """
 
 import pathlib

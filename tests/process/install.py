@@ -31,7 +31,7 @@ FILES = {
     "share/doc/bpfcanon/recipes/count.c": TOP / "recipes" / "count.c",
 }
 # The pages for users, and the programs that the recipes compile.
-PAGES = ["FAULTS", "FORMATS", "INTEGRATIONS", "LIBRARY", "OBJECTS", "RECIPES", "SCOPE", "STABILITY"]
+PAGES = ["FAULTS", "FORMATS", "INTEGRATIONS", "LIBRARY", "OBJECTS", "RECIPES", "SCOPE", "SECTIONS", "STABILITY"]
 FILES |= {f"share/doc/bpfcanon/docs/{page}.md": TOP / "docs" / f"{page}.md" for page in PAGES}
 FILES |= {f"share/doc/bpfcanon/testdata/{name}.c": TOP / "testdata" / f"{name}.c" for name in ("flow_table", "packet_filter")}
 EXECUTABLE = {"bin/bpfcanon"}
