@@ -34,7 +34,7 @@ case /$0 in */"$FAIL") exit 1 ;; esac
 case $name in
 archive) touch crates/bpfcanon_c/out/libbpfcanon_c.a ;;
 build) mkdir -p "$1/include" "$1/lib/pkgconfig" && touch "$1/lib/pkgconfig/bpfcanon.pc" ;;
-key | objectkey)
+key | objectkey | pair)
     case $KEY in
     none) ;;
     other) wc -l <"$CALLS" ;;
@@ -87,7 +87,7 @@ class Tree:
             write(folder / name, STAND_IN)
         for name in EMPTY:
             write(folder / name, "")
-        programs = {"members": (TOP / MEMBERS).read_text(), "key": "made\n", "objectkey": "made\n"}
+        programs = {"members": (TOP / MEMBERS).read_text(), "pair": "made\n", "key": "made\n", "objectkey": "made\n"}
         write(folder / "bindings" / "go" / "README.md", "".join(BLOCKS.format(*it) for it in programs.items()))
         write(folder / "crates" / "bpfcanon_c" / "out" / "libbpfcanon_c.a", "")
         for tool in BASE:
