@@ -16,26 +16,35 @@ from tests.reference.formats_page import cells
 SOURCE = '__attribute__((section("xdp"))) int pass(void *ctx)\n{\n\treturn %s\n}\n'
 # What pass.c returns in each version of it that is compared.
 VERSIONS = {"before": "2;", "after": "2; // a note", "other": "1;"}
+# The same as before, after a comment on a line of its own.
+MOVED = SOURCE.replace("\treturn", "\t/* a note */\n\treturn") % "2;"
 CLANG = "clang -target bpf -O2"
 TYPES = "llvm-objcopy --dump-section .BTF=out object.o /dev/null"
+# The source is somewhere else than clang is told, in a folder that doesn't exist.
+HIDDEN = f'[ ! -e /src ]; {CLANG} -g -ffile-prefix-map="$PWD"=/src -c pass.c -o object.o'
 # The rows of the table, with commands that make the file `out` of pass.c. The row says whether it is equal before and after.
 COMMANDS = {
-    "`-ffile-prefix-map`, `-fdebug-compilation-dir`": [
+    '`-ffile-prefix-map="$PWD"=.`, `-fdebug-compilation-dir=.`': [
         f'{CLANG} -g -ffile-prefix-map="$PWD"=. -c pass.c -o object.o; {TYPES}',
         f"{CLANG} -g -fdebug-compilation-dir=. -c pass.c -o object.o; {TYPES}",
     ],
+    '`-ffile-prefix-map="$PWD"=/src`, and there is no `/src`': [f"{HIDDEN}; {TYPES}"],
     "no `-g`": [f"{CLANG} -c pass.c -o out"],
     "`clang -E -P`, and compile what it prints": [f"clang -E -P pass.c | {CLANG} -g -x c -c -o out -"],
-    "`llvm-strip -g`": [f"{CLANG} -g -c pass.c -o object.o; llvm-strip -g object.o; {TYPES}"],
-    "`bpftool gen object`": [f"{CLANG} -g -c pass.c -o first.o; bpftool gen object object.o first.o; {TYPES}"],
+    "`llvm-strip -g`, `bpftool gen object`": [
+        f"{CLANG} -g -c pass.c -o object.o; llvm-strip -g object.o; {TYPES}",
+        f"{CLANG} -g -c pass.c -o first.o; bpftool gen object object.o first.o; {TYPES}",
+    ],
     "`bpftool btf dump file after.o format raw`": [f"{CLANG} -g -c pass.c -o after.o; bpftool btf dump file after.o format raw > out"],
     "the tag that the kernel gives a program": [],
 }
 # The rows that quote libbpf, with commands after which it refuses the object file.
 REFUSED = {
     "no `-g`": f"{CLANG} -mcpu=v3 -DMAP=packets -c {TOP}/recipes/count.c -o object.o",
-    "`llvm-strip -g`": f"{CLANG} -g -c pass.c -o object.o; llvm-strip object.o",
+    "`llvm-strip -g`, `bpftool gen object`": f"{CLANG} -g -c pass.c -o object.o; llvm-strip object.o",
 }
+# A command whose file is another one after a comment on a line of its own.
+MOVING = f"{HIDDEN}; {TYPES.replace('.BTF=', '.BTF.ext=')}"
 
 
 def rows():
@@ -44,22 +53,24 @@ def rows():
     return dict(cells(line) for line in [it for it in part.splitlines() if it.startswith("|")][2:])
 
 
-def made(command, version, folder):
-    """What a command makes of pass.c in a version."""
-    (folder / "pass.c").write_text(SOURCE % VERSIONS[version])
+def made(command, source, folder):
+    """What a command makes of pass.c with this source."""
+    (folder / "pass.c").write_text(source)
     (folder / "out").unlink(missing_ok=True)
     subprocess.run(["bash", "-euo", "pipefail", "-c", command], cwd=folder, check=True, timeout=SECONDS)
     return (folder / "out").read_bytes()
 
 
 def check_commands(report, table, folder):
+    before, after, other = (SOURCE % value for value in VERSIONS.values())
     for row, commands in COMMANDS.items():
         for command in commands:
-            is_equal = made(command, "before", folder) == made(command, "after", folder)
+            is_equal = made(command, before, folder) == made(command, after, folder)
             is_right = table[row].startswith("equal") if is_equal else "`.BTF` differs" in table[row]
             report.expect_that(is_right, command, f"that the file is equal is {is_equal}, and the page says {table[row]!r}")
     (dump,) = COMMANDS["`bpftool btf dump file after.o format raw`"]
-    report.expect_that(made(dump, "after", folder) == made(dump, "other", folder), dump, "it is another one for `return 1;`")
+    report.expect_that(made(dump, after, folder) == made(dump, other, folder), dump, "it is another one for `return 1;`")
+    report.expect_that(made(MOVING, before, folder) != made(MOVING, MOVED, folder), MOVING, "it is equal after a line was moved")
 
 
 def check_refused(report, table, folder):
