@@ -162,7 +162,8 @@ fn write_placed<A: Allocator + Copy>(
 ) -> Result<Vec<u8, A>, AllocError>
     requires table { spec.AreTable sections.now }
     requires strings { names.now.strings ≡ sections.now.strings.now }
-    requires offsets { names.now.offsets ≡ noted_all [] (all_offsets (spec.frames_of sections.now)) }
+    requires offsets { names.now.offsets
+        ≡ noted_all [] (all_offsets (spec.frames_of sections.now)) }
     ensures { IfOk result (λ bytes. bytes.items ≡ canonical to (spec.records_of sections.now)) }
 {
     let types_len = sections.types.len();
