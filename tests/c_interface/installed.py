@@ -13,6 +13,7 @@ import subprocess
 import sys
 import tempfile
 
+from tests.installing import RECORD, Installer, check_contract, check_loader, check_nothing, check_older, check_others
 from tests.program import SECONDS, Report
 
 TOP = pathlib.Path(__file__).resolve().parent.parent.parent
@@ -70,6 +71,7 @@ def check_files(report, root, prefix=PREFIX):
         f"lib/libbpfcanon.so.{VERSION}": 0o755,
         "lib/pkgconfig/bpfcanon.pc": 0o644,
         "share/man/man3/bpfcanon.3": 0o644,
+        RECORD: 0o644,
     }
     links = {f"lib/libbpfcanon.so.{MAJOR}": f"libbpfcanon.so.{VERSION}", "lib/libbpfcanon.so": f"libbpfcanon.so.{MAJOR}"}
     paths = {str(path.relative_to(root)): path for path in root.rglob("*") if path.is_symlink() or path.is_file()}
@@ -158,11 +160,12 @@ def check_relative(report, archive, folder):
     shutil.copy(archive, folder / "given" / "proved.a")
     for stage in "", "stage", "a stage/of two":
         done = ran([CAPI / "build", "own", "given/proved.a"], folder, DESTDIR=stage)
-        hint = "" if stage else (
-            f"capi/build: the loader does not look in {folder}/own/lib: link programs with -Wl,-rpath,{folder}/own/lib, "
-            "or set LD_LIBRARY_PATH to it\n"
-        )
-        is_right = done.returncode == 0 and done.stdout == hint and not done.stderr
+        hint = [] if stage else [
+            f'capi/build: pkg-config does not look in {folder}/own/lib/pkgconfig: export PKG_CONFIG_PATH="{folder}/own/lib/pkgconfig"',
+            f'capi/build: the loader does not look in {folder}/own/lib: link programs with -Wl,-rpath,"{folder}/own/lib", '
+            "or set LD_LIBRARY_PATH to it",
+        ]
+        is_right = done.returncode == 0 and sorted(done.stdout.splitlines()) == hint and not done.stderr
         report.expect_that(is_right, f"DESTDIR={stage}", f"it gave {done}")
         root = pathlib.Path(f"{folder}/{stage}{folder}/own" if stage else f"{folder}/own")
         check_files(report, root, prefix=f"{folder}/own")
@@ -210,6 +213,16 @@ def check_flags(report, archive, root):
     report.expect_that(given in ([f"{PREFIX}/lib/some-target"], []), "LIBDIR", f"bpfcanon.pc has {given}")
 
 
+def check_removal(report, archive, folder):
+    """Over an older version, beside what ./install has there, and removed again."""
+    folder.mkdir()
+    places = ["include/bpfcanon.h", "lib/libbpfcanon.a", f"lib/libbpfcanon.so.{VERSION}", "lib/pkgconfig/bpfcanon.pc", "share/man/man3/bpfcanon.3"]
+    links = {f"lib/libbpfcanon.so.{MAJOR}": f"libbpfcanon.so.{VERSION}", "lib/libbpfcanon.so": f"libbpfcanon.so.{MAJOR}"}
+    executable = frozenset([f"lib/libbpfcanon.so.{VERSION}"])
+    script = Installer(CAPI / "build", "capi/build", dict.fromkeys(places), executable, links, f"'{archive}'")
+    check_contract(report, script, folder, [check_older, check_others, check_nothing, check_loader])
+
+
 def check_failures(report, archive, folder):
     """Each failure has a message and a status, and leaves nothing that is half written."""
     folder.mkdir()
@@ -226,6 +239,9 @@ def check_failures(report, archive, folder):
         ([], {}, 2, "no prefix"),
         (["--prefix"], {}, 2, "unknown option --prefix"),
         (["/a", "b", "c"], {}, 2, "too many words"),
+        (["--uninstall", "/a", "b"], {}, 2, "too many words"),
+        (["--uninstall"], {}, 2, "no prefix"),
+        (["--uninstall", "/nothing"], {}, 1, "nothing of bpfcanon is installed"),
         (['/a"b', archive], {}, 2, "PREFIX or LIBDIR has a character"),
         (["/usr", folder / "none.a"], {}, 1, "there is no archive"),
         (["/usr", folder / "text.a"], {}, 1, "cannot read"),
@@ -282,6 +298,7 @@ def main():
         with report.group("relative paths, and files in use"):
             check_relative(report, archive, folder / "relative")
             check_replaced(report, archive, folder / "replaced")
+        check_removal(report, archive, folder / "removal")
         with report.group("variables, and failures"):
             check_flags(report, archive, folder / "flags")
             check_failures(report, archive, folder / "failures")

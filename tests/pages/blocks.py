@@ -126,12 +126,15 @@ class Outline:
         built = folder / "crates" / "bpfcanon" / "out"
         built.mkdir(parents=True)
         (built / "bpfcanon").symlink_to(program)
-        for name in "README.md", "completions", "docs", "install", "man", "recipes", "testdata":
+        (folder / "packaging").mkdir()
+        for name in "README.md", "CHANGELOG.md", "SECURITY.md", "completions", "docs", "man", "recipes", "testdata":
             (folder / name).symlink_to(TOP / name)
+        for name in "installed.txt", "installing.sh", "NO-LICENSE":
+            (folder / "packaging" / name).symlink_to(TOP / "packaging" / name)
         # a link would lead to the files of this tree
-        (folder / "install").unlink()
         shutil.copy(TOP / "install", folder)
-        self.environment = os.environ | {"PATH": f"{folder / 'bin'}:{os.environ['PATH']}", "HOME": str(self.home)}
+        path = f"{folder / 'bin'}:{self.home}/.local/bin:{os.environ['PATH']}"
+        self.environment = os.environ | {"PATH": path, "HOME": str(self.home)}
         self.environment |= {"PROGRAM": str(program), "CALLS": str(self.calls)}
 
     def run(self, script):

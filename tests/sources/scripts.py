@@ -1,6 +1,7 @@
 """Reads each Python file and shell script of the tree as its interpreter does before it runs it, and checks the types of what is typed.
 
-A file without an ending is read by the interpreter that its first line names.
+A file without an ending is read by the interpreter that its first line names, and one that scripts source by the shell that it names for
+shellcheck.
 """
 
 import pathlib
@@ -22,6 +23,8 @@ def language(path):
         return "python3"
     with path.open("rb") as file:
         words = file.readline().split()
+    if words[:2] == [b"#", b"shellcheck"]:
+        return words[2].decode().removeprefix("shell=")
     if not words or not words[0].startswith(b"#!/"):
         return None
     return pathlib.PurePath((words[1] if words[0].endswith(b"/env") else words[0]).decode()).name
