@@ -1,4 +1,5 @@
-"""Runs the lines after key.c in docs/LIBRARY.md: they print a digest, and none for a file with a fault or without the library.
+"""Runs the lines after key.c in docs/LIBRARY.md: they print a digest, and none for a file with a fault or without the library. The program
+that is linked with -static needs no library. With `eval`, the library can be in a folder whose path has a blank.
 
     library_key.py PREFIX
 
@@ -18,7 +19,9 @@ from tests.program import SECONDS, Report
 
 TOP = pathlib.Path(__file__).resolve().parent.parent.parent
 TESTDATA = TOP / "testdata"
-BLOCK = re.compile(r"```c\n(?P<program>#include.*?)```\n\n```sh\n(?P<lines>.*?)```", re.DOTALL)
+BLOCK = re.compile(r"```c\n(?P<program>#include.*?)```\n\n```sh\n(?P<lines>.*?)```.*?```sh\n(?P<static>.*?)```.*?`(?P<blank>eval .*?)`", re.DOTALL)
+# The digest of no bytes.
+NOTHING = hashlib.sha256(b"").hexdigest()
 
 
 def copy_prefix(prefix, target):
@@ -37,11 +40,15 @@ def printed(lines, folder):
     return done.returncode, done.stdout
 
 
+def found():
+    """The program and the lines of the page."""
+    return BLOCK.search((TOP / "docs" / "LIBRARY.md").read_text())
+
+
 def check(report, prefix, folder):
     copy_prefix(prefix, folder)
-    found = BLOCK.search((TOP / "docs" / "LIBRARY.md").read_text())
-    lines = found["lines"]
-    (folder / "key.c").write_text(found["program"])
+    lines = found()["lines"]
+    (folder / "key.c").write_text(found()["program"])
     types, canonical = folder / "types.btf", folder / "canonical.btf"
     little, big = ((TESTDATA / f"flow_table.{order}.btf").read_bytes() for order in ("little", "big"))
 
@@ -66,12 +73,30 @@ def check(report, prefix, folder):
     report.expect_that(status != 0 and output == "", "no library", f"they ended with {status} and printed {output!r}")
 
 
+def check_variants(report, prefix, folder):
+    """A static program, after the library is removed, and a path with a blank."""
+    copy_prefix(prefix, folder / "plain")
+    copy_prefix(prefix, folder / "a prefix")
+    for place, lines in ("plain", found()["static"]), ("a prefix", found()["blank"]):
+        (folder / place / "key.c").write_text(found()["program"])
+        status, output = printed(lines, folder / place)
+        report.expect_that((status, output) == (0, ""), lines, f"it ended with {status} and printed {output!r}")
+    for library in (folder / "plain" / "lib").glob("libbpfcanon.so*"):
+        library.unlink()
+    for place, loads in ("plain", ""), ("a prefix", "LD_LIBRARY_PATH='a prefix/lib' "):
+        files = [f"{TESTDATA}/flow_table.{order}.btf" for order in ("little", "big")]
+        ended = [printed(f"{loads}'{place}/key' < '{file}' | sha256sum", folder) for file in files]
+        is_right = ended[0] == ended[1] and ended[0][0] == 0 and not ended[0][1].startswith(NOTHING)
+        report.expect_that(is_right, place, f"it printed {ended}")
+
+
 def main():
     if len(sys.argv) != 2:
         sys.exit(__doc__)
     report = Report()
     with report.group("the key of docs/LIBRARY.md"), tempfile.TemporaryDirectory() as folder:
-        check(report, pathlib.Path(sys.argv[1]).resolve(), pathlib.Path(folder).resolve())
+        for number, check_lines in enumerate([check, check_variants]):
+            check_lines(report, pathlib.Path(sys.argv[1]).resolve(), pathlib.Path(folder).resolve() / f"{number}")
     return report.end("the key of docs/LIBRARY.md")
 
 

@@ -36,7 +36,7 @@ TESTS = {
     ("docs/LIBRARY.md", "go"): ("tests/pages/object_examples.py", 1),
     ("docs/LIBRARY.md", "python"): ("tests/pages/object_examples.py", 1),
     ("docs/LIBRARY.md", "rust"): ("tests/pages/object_examples.py", 1),
-    ("docs/LIBRARY.md", "sh"): ("tests/c_interface/library_key.py", 1),
+    ("docs/LIBRARY.md", "sh"): ("tests/c_interface/library_key.py", 2),
     ("docs/LIBRARY.md", "text"): ("tests/quick", 1),
     ("docs/OBJECTS.md", "text"): ("bindings/python/tests/test_objects_page.py", None),
     ("docs/RECIPES.md", "sh"): ("tests/recipes", None),
