@@ -4,17 +4,15 @@ import gzip
 import os
 import tarfile
 
-from notices import licence_files
-from tree import VERSION, copy, copy_files, epoch, run
+from tree import VERSION, copy_files, epoch, run
 
 
-def make_crate(out, work):
+def make_crate(documents, out, work):
     """Packs what Cargo packs, since Cargo's own archive has the time of the build."""
     folder = work / "crate" / "bindings" / "rust"
     copy_files(work / "crate", "bindings/rust/")
     environment = os.environ | {"CARGO_TARGET_DIR": str(work / "target"), "CARGO_NET_OFFLINE": "true", "CARGO_HOME": str(work / "cargo")}
-    for licence in licence_files():
-        copy(licence, folder / licence.name, 0o644)
+    (folder / "LICENSE").write_text(documents["LICENSE"])
     run(["cargo", "package", "--no-verify", "--allow-dirty", "--quiet"], cwd=folder, env=environment)
     made = work / "target" / "package" / f"bpfcanon-{VERSION}.crate"
     with tarfile.open(made) as found, (out / made.name).open("wb") as target:

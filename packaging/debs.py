@@ -6,9 +6,9 @@ import re
 import shutil
 import time
 
-from archives import link_program
-from notices import licence_files
-from tree import PROGRAM, SONAME, TOP, VERSION, copy, epoch, run
+from notices import licence
+from tree import PROGRAM, SONAME, TOP, VERSION, copy, copy_files, epoch, run, standing_alone
+from wheel import entry_points, metadata
 
 
 def changelog(control):
@@ -19,9 +19,8 @@ def changelog(control):
 
 
 def copyright_page():
-    """debian/copyright: the project's own licence, or that there is none."""
-    text = "\n".join(it.read_text().strip() for it in licence_files()) or "No licence has been chosen for bpfcanon yet."
-    lines = "".join(f" {line.rstrip() or '.'}\n" for line in text.splitlines())
+    """debian/copyright: the licence of bpfcanon, or what it means that there is none."""
+    lines = "".join(f" {line.rstrip() or '.'}\n" for line in licence().strip().splitlines())
     head = "Format: https://www.debian.org/doc/packaging-manuals/copyright-format/1.0/\nUpstream-Name: bpfcanon\n\n"
     return f"{head}Files: *\nCopyright: {time.gmtime(epoch()).tm_year} the developers of bpfcanon\nLicense: bpfcanon\n{lines}"
 
@@ -36,17 +35,29 @@ def symbols():
     return "\n".join(lines) + "\n"
 
 
-def make_debs(kit, source, out, work):
-    """Makes the packages from the folder of the sources. The program is linked with the C library of the system."""
+def add_metadata(folder):
+    """What pip and importlib.metadata read of the Python package. There is no list of its files, so that pip leaves them to dpkg."""
+    folder.mkdir()
+    (folder / "METADATA").write_text(metadata("/usr/share/doc/python3-bpfcanon/copyright"))
+    (folder / "INSTALLER").write_text("debian\n")
+    (folder / "WHEEL").write_text("Wheel-Version: 1.0\nGenerator: bpfcanon release\nRoot-Is-Purelib: true\nTag: py3-none-any\n")
+    (folder / "entry_points.txt").write_text(entry_points())
+
+
+def make_debs(program, source, out, work):
+    """Makes the packages from the folder of the sources, with the program that the archive for x86-64 has."""
     tree = work / "deb" / f"bpfcanon-{VERSION}"
     shutil.copytree(source, tree)
-    shutil.copytree(TOP / "packaging" / "debian", tree / "debian")
-    (tree / PROGRAM.relative_to(TOP)).parent.mkdir()
-    link_program(kit, tree / PROGRAM.relative_to(TOP), "-pie")
+    copy_files(work / "debian", "packaging/debian/")
+    (work / "debian" / "packaging" / "debian").rename(tree / "debian")
+    copy(program, tree / PROGRAM.relative_to(TOP))
+    page = tree / "bindings" / "python" / "README.md"
+    page.write_text(standing_alone(page.read_text()))
     (tree / "debian" / "rules").chmod(0o755)
     (tree / "debian" / "changelog").write_text(changelog((tree / "debian" / "control").read_text()))
     (tree / "debian" / "copyright").write_text(copyright_page())
     (tree / "debian" / "libbpfcanon0.symbols").write_text(symbols())
+    add_metadata(tree / "debian" / f"bpfcanon-{VERSION}.dist-info")
     variables = {"SOURCE_DATE_EPOCH": str(epoch()), "DEB_BUILD_OPTIONS": "nocheck noautodbgsym", "LC_ALL": "C.UTF-8"}
     run(["dpkg-buildpackage", "-b", "-us", "-uc", "-d"], cwd=tree, env=os.environ | variables)
     for deb in sorted(tree.parent.glob("*.deb")):

@@ -1,4 +1,6 @@
-"""The licences of the crates of Rattle's kit whose code is in the program and in the library."""
+"""The licence of bpfcanon, or what it means that there is none, and those of the crates of Rattle's kit whose code is in the program and in
+the library.
+"""
 
 import pathlib
 import re
@@ -26,6 +28,7 @@ def third_party(kit, objects):
     return "Code of these crates, ported to Rattle, is in the program and in the library.\n\n" + "\n".join(texts)
 
 
-def licence_files():
-    """The project's own licence, if it has one."""
-    return [it for it in sorted(TOP.glob("LICEN[CS]E*")) if it.is_file()]
+def licence():
+    """The licence in the file LICENSE at the top. Until that is there, the text that says what nobody may do without one."""
+    file = TOP / "LICENSE"
+    return (file if file.is_file() else TOP / "packaging" / "NO-LICENSE").read_text()

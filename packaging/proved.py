@@ -11,9 +11,8 @@ import pathlib
 import re
 import sys
 
-from tree import ARCHIVE, ARM_ARCHIVE, MADE_BY, OBJECT, PROGRAM, TOP, Refused, run
+from tree import ARCHIVE, ARM_ARCHIVE, MADE_BY, OBJECT, PROGRAM, RECORD, TOP, Refused, run
 
-RECORD = TOP / "out" / "PROVED.txt"
 BUILT = [PROGRAM, OBJECT, ARCHIVE, ARM_ARCHIVE]
 UNVERIFIED = "Not verified: these files were made from a tree that ./verify has not passed.\n"
 MEANING = """\
@@ -32,9 +31,9 @@ def digest(path):
     return hashlib.sha256(path.read_bytes()).hexdigest()
 
 
-def sums():
+def sums(built):
     """A line for each file that was built."""
-    return [f"{digest(it)}  {it.relative_to(TOP)}" for it in BUILT]
+    return [f"{digest(it)}  {it.relative_to(TOP)}" for it in built]
 
 
 def sources():
@@ -45,27 +44,22 @@ def sources():
 def record(logs):
     lines = [line for log in logs for line in log.read_text(errors="replace").splitlines()]
     verdicts = [line for line in lines if re.search(r"logic=proved|\sreached$|\d+ passed, \d+ failed", line)]
-    return "\n".join([MEANING, *sources(), *sums(), f"kit {run(['rt', 'version']).strip()}", *verdicts, ""])
+    return "\n".join([MEANING, *sources(), *sums(BUILT), f"kit {run(['rt', 'version']).strip()}", *verdicts, ""])
 
 
-def check_built():
-    """Raises if something isn't built, or from other sources. The archives have the hash of theirs, which capi/build compares."""
-    for file, maker in MADE_BY.items():
-        if not file.is_file():
-            raise Refused(f"{file.relative_to(TOP)} is not built; run ./verify, or {maker} first")
+def check_object():
+    """Raises if the program's object is made from other sources. The archives have the hash of theirs, which capi/build compares."""
     if OBJECT.with_name("sources.sha256").read_text() != run([TOP / "capi" / "sources", "bpfcanon"]):
         raise Refused(f"{OBJECT.relative_to(TOP)} is made from other sources; {MADE_BY[OBJECT]} makes it again")
 
 
 def check():
     """Raises if what is built isn't what ./verify passed. Returns the record."""
-    if not RECORD.is_file():
-        raise Refused("out/PROVED.txt is missing; run ./verify first")
     text = RECORD.read_text()
     lines = text.splitlines()
     if not set(sources()) <= set(lines):
         raise Refused("the sources are not those that ./verify passed; run it again")
-    for line in sums():
+    for line in sums(it for it in BUILT if it.is_file()):
         if line not in lines:
             raise Refused(f"{line.split()[1]} is not the one that ./verify passed; run it again")
     return text

@@ -1,4 +1,4 @@
-"""The tree that is released: its files, what is built of it, its version and its time. Also how other programs are run."""
+"""The tree that is released: its files, what is built of it and installed, its version and its time. Also how other programs are run."""
 
 import functools
 import os
@@ -6,6 +6,7 @@ import pathlib
 import re
 import shutil
 import subprocess
+from typing import NamedTuple
 
 TOP = pathlib.Path(__file__).resolve().parent.parent
 PROGRAM = TOP / "crates" / "bpfcanon" / "out" / "bpfcanon"
@@ -13,7 +14,14 @@ PROGRAM = TOP / "crates" / "bpfcanon" / "out" / "bpfcanon"
 OBJECT = TOP / "crates" / "bpfcanon" / "out" / "release" / "bpfcanon.o"
 ARCHIVE = TOP / "crates" / "bpfcanon_c" / "out" / "libbpfcanon_c.a"
 ARM_ARCHIVE = ARCHIVE.with_name("libbpfcanon_c.aarch64.a")
-MADE_BY = {OBJECT: "packaging/program.py", ARCHIVE: "capi/archive", ARM_ARCHIVE: "capi/archive aarch64"}
+# What ./verify passed (packaging/proved.py).
+RECORD = TOP / "out" / "PROVED.txt"
+MADE_BY = {
+    OBJECT: "./verify or packaging/program.py",
+    ARCHIVE: "./verify or capi/archive",
+    ARM_ARCHIVE: "./verify or capi/archive aarch64",
+    RECORD: "./verify",
+}
 HEADER = (TOP / "capi" / "bpfcanon.h").read_text()
 VERSION = re.search(r'^#define BPFCANON_VERSION "(.*)"$', HEADER, re.MULTILINE)[1]
 SONAME = f"libbpfcanon.so.{VERSION.partition('.')[0]}"
@@ -43,6 +51,32 @@ def files():
 def epoch():
     """The time of all that is made, in seconds: SOURCE_DATE_EPOCH, or that of the last commit."""
     return int(os.environ.get("SOURCE_DATE_EPOCH") or run(["git", "-C", TOP, "log", "-1", "--format=%ct"]))
+
+
+class Installed(NamedTuple):
+    """A line of packaging/installed.txt."""
+
+    part: str
+    mode: int
+    place: str  # below the prefix
+    file: str  # of the tree from which a release is made, where none is missing
+
+
+def installed(*parts):
+    """What ./install installs of some parts."""
+    lines = [line.split() for line in (TOP / "packaging" / "installed.txt").read_text().splitlines() if not line.startswith("#")]
+    rows = [Installed(part, int(mode, 8), place, file.partition("?")[0]) for part, mode, place, file in lines]
+    return [row for row in rows if row.part in parts]
+
+
+def filled(text):
+    """A page of packaging/ with the version in it."""
+    return text.replace("@VERSION@", VERSION)
+
+
+def standing_alone(page):
+    """A README of bindings/ without links to other pages of the tree."""
+    return re.sub(r"\[([^\]]*)\]\(\.\./\.\./[^)]*\)", r"`\1` of the sources", page)
 
 
 def mode_of(path):

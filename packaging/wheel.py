@@ -6,8 +6,7 @@ import re
 import time
 import zipfile
 
-from notices import licence_files
-from tree import SONAME, TOP, VERSION, epoch, files, run
+from tree import SONAME, TOP, VERSION, epoch, files, run, standing_alone
 
 PACKAGE = TOP / "bindings" / "python"
 # Where the files of the command bpfcanon-object are installed, below the prefix of Python.
@@ -37,11 +36,12 @@ def project():
     return (PACKAGE / "pyproject.toml").read_text()
 
 
-def metadata():
+def metadata(licence):
+    """What pip shows of the package. Its licence is in the named file."""
     value = {key: re.search(f'^{key} = "(.*)"$', project(), re.MULTILINE)[1] for key in ("version", "description", "requires-python")}
     head = f"Metadata-Version: 2.1\nName: bpfcanon\nVersion: {value['version']}\nSummary: {value['description']}\n"
-    head += f"Requires-Python: {value['requires-python']}\nDescription-Content-Type: text/markdown\n"
-    return f"{head}\n{(PACKAGE / 'README.md').read_text()}"
+    head += f"License: see {licence}\nRequires-Python: {value['requires-python']}\n"
+    return f"{head}Description-Content-Type: text/markdown\n\n{standing_alone((PACKAGE / 'README.md').read_text())}"
 
 
 def modules():
@@ -63,8 +63,7 @@ def contents(library, documents, tags):
     found[f"bpfcanon/{SONAME}"] = library.read_bytes()
     found |= {f"bpfcanon-{VERSION}.data/data/{place}": (TOP / name).read_bytes() for place, name in SHARED.items()}
     found |= {f"{info}/licenses/{name}": text.encode() for name, text in documents.items()}
-    found |= {f"{info}/licenses/{it.name}": it.read_bytes() for it in licence_files()}
-    found[f"{info}/METADATA"] = metadata().encode()
+    found[f"{info}/METADATA"] = metadata("the file LICENSE").encode()
     found[f"{info}/entry_points.txt"] = entry_points().encode()
     tags = "".join(f"Tag: py3-none-{it}\n" for it in tags)
     found[f"{info}/WHEEL"] = f"Wheel-Version: 1.0\nGenerator: bpfcanon release\nRoot-Is-Purelib: false\n{tags}".encode()

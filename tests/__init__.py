@@ -7,6 +7,7 @@
     of_tests/     tests of the tests: that they notice what is wrong
     c_interface/  the C library
     objects/      compare keys of object files with what libbpf loads, and those of Go with those of Python
+    released/     the parts of tests/release, which uses the files of a release
 
 A test is run as a module from the top of the repository: python3 -m tests.process.limits PROGRAM.
 """

@@ -14,10 +14,11 @@ from tests.program import SECONDS, Report
 LIST = TOP / "tests" / "packages.txt"
 PARTS = {"all", "quick checks", "process tests", "C interface", "bindings", "objects", "recipes", "release"}
 # What the tests skip something for and no package of Debian 12 has: Rattle, a newer Cargo, our own command, and what is no tool.
-NOT_LISTED = {"rt", "cargo", "clippy", "rustfmt", "bpfcanon-object", "right", "mirror", "bullseye", "bookworm", "/sys/kernel/btf/vmlinux"}
+NOT_LISTED = {"rt", "cargo", "clippy", "rustfmt", "bpfcanon-object", "right", "mirror", "/sys/kernel/btf/vmlinux"}
 # Where the tests name a tool that they can lack: a call of a script or of Report, or the comment above a block of a page.
 NAMED = [
     ("tests/*", r"""\bskip "[^"]*" "?([\w/-]+)"""),
+    ("tests/released/*.sh", r"""\bskip "[^"]*" "?([\w/-]+)"""),
     ("tests/*/*.py", r"""\.lacks\([^,\n]*((?:, "[\w-]+")+)"""),
     ("tests/recipes", r"""\.misses\([^(\n]*, \[((?:"[\w-]+"(?:, )?)+)\]\)"""),
     ("*.md", r"<!-- needs: (.*?) -->"),

@@ -52,32 +52,40 @@ TESTS = {
     ("bindings/go/README.md", "console"): ("tests/bindings", 4),
     ("bindings/python/README.md", "python"): ("bindings/python/tests/test_package.py", None),
     ("bindings/rust/README.md", "rust"): ("bindings/rust/src/lib.rs", None),
+    ("bindings/rust/README.md", "toml"): ("tests/released/languages.sh", 1),
 }
-# Pictures, and a part of a file that a reader writes.
-NOT_RUN = {("docs/CHANGING.md", "text"), ("docs/FORMATS.md", "text"), ("bindings/rust/README.md", "toml")}
+# Pictures.
+NOT_RUN = {("docs/CHANGING.md", "text"), ("docs/FORMATS.md", "text")}
 # What each shell block of a page calls. HOME is the user's folder.
 BUILD = "capi/build HOME/.local"
 REQUIRE = f"go mod edit -require=bpfcanon@v{VERSION} -replace=bpfcanon="
 CALLS = {
     "README.md": [["rt try -- insn-canon --order big", "rt run -- insn-canon --order big"], ["verify --with-tools"]],
     "bench/README.md": [["bench/run"]],
-    "docs/BUILDING.md": [["rt run"], ["capi/archive", BUILD], ["capi/archive aarch64", "capi/build PREFIX"], ["verify"], ["release"]],
+    "docs/BUILDING.md": [
+        ["rt run"],
+        ["capi/archive", BUILD],
+        ["capi/archive aarch64", "capi/build PREFIX"],
+        ["verify"],
+        ["release"],
+        ["packaging/program.py", "capi/archive", "capi/archive aarch64", "release --unverified"],
+    ],
     "docs/CHANGING.md": [
         ["rt try --test", "rt check --only form::allows_src", "rt check", "rt fmt", "rt tidy"],
         ["rt check --test --jobs 1"],
     ],
     "docs/COMPARED.md": [["tools/compared --print"]],
     "bindings/go/README.md": [
-        [f"tar xf bpfcanon-go-{VERSION}.tar.xz", f"{REQUIRE}./bpfcanon-go-{VERSION}"],
+        [f"tar xf bpfcanon-go-{VERSION}.tar.xz", "go mod init example.org/program", f"{REQUIRE}./bpfcanon-go-{VERSION}"],
         [BUILD],
         [f"{REQUIRE}/path/to/bpfcanon/bindings/go"],
     ],
     "bindings/python/README.md": [[f"pip install bpfcanon-{VERSION}-*_x86_64.whl"], [BUILD]],
-    "bindings/rust/README.md": [[BUILD]],
+    "bindings/rust/README.md": [[f"tar xf bpfcanon-{VERSION}.crate", f"tar xf bpfcanon-{VERSION}-x86_64-linux.tar.xz"], [BUILD]],
 }
 # What a block of a page with so many calls prints.
 PRINTS = {("README.md", 2): "right\nright\n"}
-SCRIPTS = ["verify", "release", "capi/archive", "capi/build", "bench/run", "tools/compared"]
+SCRIPTS = ["verify", "release", "capi/archive", "capi/build", "packaging/program.py", "bench/run", "tools/compared"]
 TOOLS = ["rt", "go", "tar", "pip"]
 STAND_IN = """#!/bin/sh
 echo "NAME${*:+ }$*" >>"$CALLS"
@@ -126,7 +134,6 @@ class Outline:
         built = folder / "crates" / "bpfcanon" / "out"
         built.mkdir(parents=True)
         (built / "bpfcanon").symlink_to(program)
-        (folder / "packaging").mkdir()
         for name in "README.md", "CHANGELOG.md", "SECURITY.md", "completions", "docs", "man", "recipes", "testdata":
             (folder / name).symlink_to(TOP / name)
         for name in "installed.txt", "installing.sh", "NO-LICENSE":

@@ -1,0 +1,70 @@
+# shellcheck shell=bash
+# tests/release: ./release itself, in another clone, and what it refuses.
+
+# What ./verify has recorded allows a release; otherwise the built files are used as they are.
+if [ -f "$top/out/PROVED.txt" ]; then how=(--partial); else how=(--partial --unverified); fi
+clone="$work/other place/tree"
+built=(crates/bpfcanon/out/bpfcanon crates/bpfcanon/out/release/{bpfcanon.o,sources.sha256})
+built+=(crates/bpfcanon_c/out/libbpfcanon_c{,.aarch64}.a)
+
+copy_built() {
+    local file
+    for file in "${built[@]}" out/PROVED.txt; do
+        if [ -f "$top/$file" ]; then mkdir -p "$clone/${file%/*}" && cp "$top/$file" "$clone/$file" || return 1; fi
+    done
+}
+
+# Another clone at a path with a blank, with another umask, time zone and locale.
+same_bytes() (
+    git clone --quiet "$top" "$clone" && copy_built || exit 1
+    umask 077
+    TZ=Asia/Tokyo LC_ALL=C "$clone/release" "${how[@]}" "$work/again" && diff -r "$out" "$work/again"
+)
+
+# docs/TRUST.md has the verdict and the functions of C that are in the record.
+trust_is_recorded() { python pages.trust --record "$out/PROVED.txt"; }
+
+sums_are_right() ( cd "$out" && sha256sum -c --quiet SHA256SUMS && [ "$(wc -l <SHA256SUMS)" -eq "$(($(ls | wc -l) - 1))" ] )
+
+# Calls ./release of the clone, which has to end with one sentence that contains each of these texts, and make nothing.
+refuses() {
+    local words=$1 text
+    ! "$clone/release" $words "$work/none" >"$work/out" 2>"$work/said" && [ ! -e "$work/none" ] && [ ! -s "$work/out" ] || return 1
+    cat "$work/said"
+    [ "$(wc -l <"$work/said")" -eq 1 ] && grep -q '^release: ' "$work/said" || return 1
+    for text in "${@:2}"; do grep -qF "$text" "$work/said" || return 1; done
+}
+
+# All that is missing is said at once. A changed tree, another record and built files of other sources are refused.
+refuses_to_release() (
+    sources() { "$clone/capi/sources" $1 | sed "s/\$/  sources of $1/"; }
+    cd "$clone" || exit 1
+    rm -rf crates/*/out out
+    without_cargo=$(tr : '\n' <<<"$PATH" | while read -r folder; do [ -x "$folder/cargo" ] || printf '%s:' "$folder"; done)
+    PATH=$without_cargo refuses "" cargo bpfcanon.o libbpfcanon_c.a libbpfcanon_c.aarch64.a out/PROVED.txt packaging/program.py || exit 1
+    refuses --partial bpfcanon.o libbpfcanon_c.a out/PROVED.txt || exit 1
+    copy_built && mkdir -p out || exit 1
+    echo "another record" >out/PROVED.txt
+    refuses --partial "the sources are not those that ./verify passed" || exit 1
+    { sources bpfcanon && sources bpfcanon_c; } >out/PROVED.txt
+    refuses --partial "is not the one that ./verify passed" || exit 1
+    echo >>README.md
+    refuses "--partial --unverified" "README.md is not as it was committed" || exit 1
+    git checkout --quiet README.md
+    echo "of other sources" >crates/bpfcanon/out/release/sources.sha256
+    refuses "--partial --unverified" "is made from other sources" || exit 1
+    copy_built
+    refuses --sign "unknown words" || exit 1
+    mkdir "$work/full" && touch "$work/full/file"
+    ! "$clone/release" --partial "$work/full" 2>"$work/said" && [ "$(ls "$work/full")" = file ] && grep -q 'not an empty folder' "$work/said"
+)
+
+# Once there is a file LICENSE, each file has it. Without the archive for 64-bit ARM the others are made.
+licence_and_no_arm() (
+    cd "$clone" || exit 1
+    echo "A licence that a test has made." >LICENSE
+    git add LICENSE && git -c user.name=tests -c user.email=tests@example.org commit --quiet -m "Add a licence" || exit 1
+    rm crates/bpfcanon_c/out/libbpfcanon_c.aarch64.a
+    ./release --partial --unverified "$work/licensed" >made || exit 1
+    grep '^left out: what is for 64-bit ARM' made && python released.contents "$work/licensed" "$clone"
+)
