@@ -168,21 +168,25 @@ same("the kinds with a kind_flag", frozenset(MEANT | FREE), frozenset(it.word fo
 
 # ---- the fields of records
 
-SIZE = r"ENUM, ENUM64 not ([\d, ]+), nor 0 without values; FLOAT not ([\d, ]+)"
+SIZE = r"the size of an ENUM or ENUM64 isn't ([\d, or]+) \(0 is allowed if it has no values\); that of a FLOAT isn't ([\d, or]+)"
 ENUM_SIZES, FLOAT_SIZES = (set(numbers(it)) for it in fitted(WHEN["Size"], SIZE))
 SIZES = {"ENUM": ENUM_SIZES, "ENUM64": ENUM_SIZES, "FLOAT": FLOAT_SIZES}
 TARGET = (
     r"the ID is in range, but the type of a FUNC isn't a (.*); that of a DATASEC's entry isn't a (.*); that of a DECL_TAG isn't a (.*)"
 )
 TARGETS = {kind: set(re.split(", | or ", it)) for kind, it in zip(["FUNC", "DATASEC", "DECL_TAG"], fitted(WHEN["TargetKind"], TARGET))}
-INT_MOST, INT_TIMES = when("IntWord", "a bit that must be zero is set; an undefined encoding; bits over N or over N times the size")
-MEMBER_INT = r"some width in this record isn't 0, the member's type is itself an INT \(typedefs are not followed\), and its offset isn't 0 or its bits aren't ([\d, ]+)"
+INT_SIZES = r"a bit that must be zero is set; an undefined encoding; bits over N or over N times the size \(the offset isn't added\)"
+INT_MOST, INT_TIMES = when("IntWord", INT_SIZES)
+MEMBER_INT = (
+    r"some width in the record isn't 0, and the member's type is itself an INT \(typedefs are not followed\) whose offset isn't 0 or whose "
+    r"bits aren't ([\d, or]+)"
+)
 MEMBER_BITS = set(numbers(fitted(WHEN["MemberInt"], MEMBER_INT)[0]))
 (MOST_LINKAGE,) = when("Linkage", "over N")
 same("linkages", tuple(LINKAGES), tuple(range(MOST_LINKAGE + 1)))
 COMPONENT = (
-    r"the target is in range and component_idx, read unsigned, isn't 0x([0-9a-f]+), which means none: the target is a (\w+) or (\w+); or a "
-    r"(\w+) or (\w+) with no such member; or a FUNC whose FUNC_PROTO has no such parameter"
+    r"component_idx isn't 0x([0-9a-f]+), which means none, and the target is in range and is a (\w+) or (\w+), a (\w+) or (\w+) "
+    r"without a member of that index, or a FUNC whose FUNC_PROTO has no parameter of that index"
 )
 NONE, *PARTS = fitted(WHEN["Component"], COMPONENT)
 NO_COMPONENT, WITHOUT_PARTS, WITH_PARTS = int(NONE, 16), set(PARTS[:2]), set(PARTS[2:])
