@@ -12,6 +12,8 @@
  *   - An input points to `len` readable bytes and `out` to `room` writable ones, for as long as
  *     the call runs. Either may be NULL if its length is 0. NULL with a length is an access to
  *     address 0. The bytes of `out` may be uninitialised: no call reads one before it writes it.
+ *   - The `out`, `types` and `items` of a call with `_new` in its name are not NULL: the call
+ *     sets each of them, even if you need only one.
  *   - No output overlaps an input or another output.
  *   - While a call runs, no other thread writes to its inputs, and none reads or writes its `out`.
  *   - malloc, realloc and free belong to one allocator, any thread may call them, and malloc aligns
@@ -482,8 +484,9 @@ bpfcanon_answer bpfcanon_insn_front(uint32_t order, uint32_t to, const uint8_t *
                                     uint8_t *out, size_t room);
 
 /*
- * Decodes instructions into records at the start of `out`, in order. Sets `written`; it, `needed`
- * and `room` count records. Room of `len` / 8 records is always enough. Allocates nothing.
+ * Decodes instructions into records at the start of `out`, in order. Sets `written`. `written`,
+ * `needed` and `room` are numbers of records. Room of `len` / 8 records is always enough. Allocates
+ * nothing.
  *
  * Statuses: BPFCANON_DONE, BPFCANON_FAULT, BPFCANON_ROOM, BPFCANON_ORDER, BPFCANON_ALIGNMENT.
  */
