@@ -16,11 +16,12 @@ LINK = re.compile(r"\[[^\]]*\]\(([^)\s]+)\)")
 # A file in code: folders and a name with one of these endings. Capitals such as NAME stand for any name.
 FILE = re.compile(r"`([\w./*-]*\w\.(?:rt|antt|py|c|h|md|tsv|go|rs|map|toml|txt))`")
 NAME = re.compile(r"`([A-Za-z_][\w:]*)`")
-# The pages on the sources, what they may name, and what no source contains: a variable of the environment, prefixes, a new instruction.
+# The pages on the sources, what they may name, and what no source contains: a variable of the environment, prefixes, a new instruction,
+# and calls of libbpf.
 ON_SOURCES = ["ADDING", "CHANGING", "CONTRACTS", "DECISIONS", "LIBRARY", "PROMISES", "TRUST"]
 SOURCES = ["crates/**/*.rt", "crates/**/*.antt", "tests/**/*", "tools/*", "capi/*"]
 SOURCES += ["bindings/**/*.go", "bindings/**/*.py", "bindings/**/*.rs"]
-NO_NAMES = {"RT_JOBS", "proved_", "bpfcanon_proved_", "MayGoto"}
+NO_NAMES = {"RT_JOBS", "proved_", "bpfcanon_proved_", "MayGoto", "bpf_object__open_file", "btf__parse"}
 # How functions of C begin that only the kit names.
 OF_KIT = ("libc::", "os::c::", "__")
 STANDS_FOR = re.compile(r"(?:^|/)(?:NAME|MODULE|FUNCTION)\b")
