@@ -32,6 +32,10 @@ CODE = re.compile(r"`([^`]+)`")
 WORD = re.compile(r"[^\W\d_]\w*|[^\w\s(){}.,:]+")
 # What binds names: a function, a type of some names, a field, a parameter of Rust, a clause.
 BOUND = re.compile(r"λ (\w+)\.|\(((?:\w+ )+):|pub (\w+) :|(\w+): [&A]|ensures (\w+) \{")
+# What a file imports from std, and the words of it that mean what they do elsewhere.
+STD_IMPORT = re.compile(r"^(?:pub )?use Rattle\.std\.[^{]*\{([^}]*)\}", re.MULTILINE)
+STD_COUNT = re.compile(r"import (\d+) words of Rattle's standard library")
+PLAIN = set("ℕ zero suc + * < min Bool true false not && || if then else Ordering Option Some None Result Ok Err List map filter reverse".split())
 # A table of one figure, and whether it is right.
 FIGURE = FIGURES.Figure(20_000, 100, "lines", "`src`")
 TABLES = [
@@ -111,6 +115,28 @@ def check_files(report):
             report.expect_that(shown.count(path) == 1 and path in right, str(path.relative_to(TOP)), "it is missing, or isn't one of them")
 
 
+def std_words():
+    """The words of std that the files to read import, without the modules that they are in."""
+    files = [(PAGE.parent / link).resolve() for row in rows("They say") for link in LINK.findall(row[1])]
+    imported = [found for path in files for found in STD_IMPORT.findall(path.read_text())]
+    return {it.strip().rpartition(".")[2] for names in imported for it in names.split(",")}
+
+
+def check_std(report):
+    """Each word of std that these files import is explained, or means what it does elsewhere, and the table has no other."""
+    words, shown = std_words(), rows("Word of std")
+    explained = {word for row in rows("Word") + shown for code in CODE.findall(row[0]) for word in WORD.findall(code)}
+    found = STD_COUNT.search(TEXT)
+    with report.group("the words of std in these files"):
+        report.expect_that(found and int(found[1]) == len(words), "how many", f"there are {len(words)}")
+        for word in sorted(words):
+            parts = {part for part in word.split("◌") if part}
+            report.expect_that(parts <= explained | PLAIN, word, "the page doesn't explain it")
+        for row in shown:
+            names = {name for name in re.findall(r"\w{4,}", row[0])}
+            report.expect_that(names <= words, row[0], f"{sorted(names - words)} isn't imported")
+
+
 def check_figures(report):
     with report.group("the figures of docs/TRUST.md"):
         shown = FIGURES.TABLE.search(TEXT)
@@ -171,7 +197,7 @@ def main():
     parser.add_argument("--program", type=pathlib.Path, help="the built command")
     parser.add_argument("--record", type=pathlib.Path, help="out/PROVED.txt")
     given, report = parser.parse_args(), Report()
-    for check in check_contracts, check_words, check_files, check_figures, check_verdict:
+    for check in check_contracts, check_words, check_files, check_std, check_figures, check_verdict:
         check(report)
     if given.program:
         check_console(report, given.program.resolve())
