@@ -63,7 +63,7 @@ def check_answers(report):
             report.expect_that(got == right, script, f"the tool {got}")
         report.expect_that(fails("exit 4"), "exit 4", "a driver that fails has an answer")
         files = tuple(vectors.File(form, b"") for form in tables.CANONICAL)
-        vector = vectors.Vector(vectors.BTF_FAULT, "a vector", "Magic", "", files)
+        vector = vectors.Vector(vectors.BTF_FAULT, "a vector", "Magic", (), files)
         for answers, right in CELLS:
             table = tables.Table("t", ("Input",), ("libbpf",), (tables.Row(("a",), (vector,)),), tables.verdict)
             given = {(vector, form): answer for form, answer in zip(tables.CANONICAL, answers)}

@@ -83,11 +83,11 @@ def libbpf(folder: pathlib.Path, _: list[Vector]) -> Ask:
 
 
 def bpftool(folder: pathlib.Path, _: list[Vector]) -> Ask:
-    """Of what it prints of the types it accepts, the first line is compared."""
+    """It prints a line for each type and item that it accepts, as bpfcanon does."""
 
     def answer(_: Vector, file: File) -> Answer:
         got = ask("bpftool", "btf", "dump", "file", written(folder, file.data))
-        return Answer(got.verdict, got.text.partition("\n")[0] if got.verdict == "accepts" else "")
+        return Answer(got.verdict, got.text if got.verdict == "accepts" else "")
 
     return answer
 

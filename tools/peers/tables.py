@@ -19,18 +19,26 @@ ALL = ("as given", *CANONICAL)
 FORMS = {"as given": "other layouts", "little": "canonical, little-endian", "big": "canonical, big-endian"}
 
 
+def line_of(text: str, number: int) -> str:
+    """A line without the blanks that items begin with; empty if there are fewer."""
+    return next(iter(text.splitlines()[number:]), "").strip()
+
+
 @dataclass(frozen=True)
 class Row:
-    """A row: its first cells, and the files that the cell of a peer is about: those of these forms of these vectors."""
+    """A row: its first cells, and the files that the cell of a peer is about: those of these forms of these vectors. If the cell is what
+    the peer prints, it is of this line."""
 
     cells: tuple[str, ...]
     vectors: tuple[Vector, ...]
     forms: tuple[str, ...] = ALL
+    line: int = 0
 
     def answers(self, answers: Answers) -> list[tuple[str, Answer]]:
         """The form of each file of the row that the peer was asked about, with the answer."""
         files = [(vector, file.form) for vector in self.vectors for file in vector.files if file.form in self.forms]
-        return [(form, answers[vector, form]) for vector, form in files if answers[vector, form].verdict != "not asked"]
+        found = [(form, answers[vector, form]) for vector, form in files]
+        return [(form, Answer(it.verdict, line_of(it.text, self.line))) for form, it in found if it.verdict != "not asked"]
 
 
 @dataclass(frozen=True)
@@ -129,6 +137,7 @@ ACCEPTED = [
     ("ENUM64", ["enums of 64 bits"], CANONICAL),
     ("DECL_TAG and TYPE_TAG", ["tags"], CANONICAL),
     ("a FUNC in a DATASEC", ["a function in a section of data"], CANONICAL),
+    ("an INT whose offset and bits are over its size", ["integers"], CANONICAL),
     ("no types", ["no types, types first"], CANONICAL),
     ("a pointer to itself", ["pointers, one to itself and one to the next"], CANONICAL),
     ("a name that isn't an identifier of C", ["a name with tabs, and one that is quoted text"], CANONICAL),
@@ -148,14 +157,28 @@ NOTATION = [
     "fetch_add [r8+0], r3",
     "lddw r3, 4294967296",
 ]
-# Each has another kind first.
-TYPE_NOTATION = ["integers", "arrays", "unions, one empty", "enums", "forward declarations", "a typedef and qualifiers", "floating point"]
-TYPE_NOTATION += ["variables and a section of data", "functions and their prototypes"]
+# The lines of a vector: each kind of type and of item once.
+TYPE_NOTATION = {
+    "integers": [0],
+    "pointers, one to itself and one to the next": [0],
+    "arrays": [0],
+    "a struct with bit-fields": [1, 2],
+    "unions, one empty": [0],
+    "enums": [0, 1],
+    "forward declarations": [0],
+    "a typedef and qualifiers": [0, 1, 2, 3],
+    "functions and their prototypes": [0, 2, 6],
+    "variables and a section of data": [0, 3, 4],
+    "floating point": [0],
+    "tags": [1, 3],
+    "enums of 64 bits": [0],
+}
 
 
-def shown(by_name: dict[str, Vector], names: list[str]) -> tuple[Row, ...]:
-    """A row with the line of each of these vectors."""
-    return tuple(Row((f"`{by_name[name].line}`",), (by_name[name],), ("little",)) for name in names)
+def shown(by_name: dict[str, Vector], lines: dict[str, list[int]]) -> tuple[Row, ...]:
+    """A row with each of these lines of these vectors."""
+    asked = [(by_name[name], number) for name, numbers in lines.items() for number in numbers]
+    return tuple(Row((f"`{vector.lines[number].strip()}`",), (vector,), ("little",), number) for vector, number in asked)
 
 
 def refused(vectors: list[Vector]) -> Table:
@@ -193,7 +216,7 @@ def code_counts(vectors: list[Vector]) -> Table:
 
 def notation(vectors: list[Vector]) -> Table:
     by_name = {vector.name: vector for vector in vectors if vector.kind == INSN}
-    return Table("notation", ("bpfcanon",), ("llvm-objdump", "cilium/ebpf", "Linux"), shown(by_name, NOTATION), printed)
+    return Table("notation", ("bpfcanon",), ("llvm-objdump", "cilium/ebpf", "Linux"), shown(by_name, dict.fromkeys(NOTATION, [0])), printed)
 
 
 def type_notation(vectors: list[Vector]) -> Table:

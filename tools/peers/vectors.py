@@ -28,12 +28,12 @@ class File:
 
 @dataclass(frozen=True)
 class Vector:
-    """A row. The cause is empty if bpfcanon accepts the files. `line` is the first line that bpfcanon shows them by, if it does."""
+    """A row. The cause is empty if bpfcanon accepts the files. `lines` are those that bpfcanon shows them by, if it does."""
 
     kind: str
     name: str
     cause: str
-    line: str
+    lines: tuple[str, ...]
     files: tuple[File, ...]
 
 
@@ -49,5 +49,5 @@ def vector(kind: str, *fields: str) -> Vector:
     if kind == BTF and files[0].data in [file.data for file in files[1:]]:
         del files[0]
     cause = fields[CAUSE] if kind in (BTF_FAULT, INSN_FAULT) else ""
-    line = {INSN: fields[0], BTF: fields[-1].partition(r"\n")[0].replace(r"\"", '"')}.get(kind, "")
-    return Vector(kind, fields[0], cause, line, tuple(files))
+    listing = {INSN: fields[0], BTF: fields[-1].replace(r"\"", '"')}.get(kind, "")
+    return Vector(kind, fields[0], cause, tuple(listing.split(r"\n")), tuple(files))
