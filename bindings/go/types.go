@@ -25,21 +25,26 @@ type BTF struct {
 func DecodeBTF(types []byte) (*BTF, error) {
 	// The names have to stay as they were decoded, so the copy is decoded.
 	file := append([]byte(nil), types...)
-	// A type has at least 12 bytes and an item 8, so this is always enough.
-	typeRoom, itemRoom := make([]capi.BTFType, len(file)/12), make([]capi.BTFItem, len(file)/8)
-	got := capi.BTFDecode(file, typeRoom, itemRoom)
-	if err := errorOf(got, btfCause); err != nil {
+	typeRecords, itemRecords, err := decodeRecords(file)
+	if err != nil {
 		return nil, err
 	}
-	if err := checkKinds(typeRoom[:got.Types]); err != nil {
+	if err := checkKinds(typeRecords); err != nil {
 		return nil, err
 	}
-	return &BTF{
-		text: textOf(file),
-		// Copies without the room that isn't needed, which is most of it.
-		types: append([]capi.BTFType(nil), typeRoom[:got.Types]...),
-		items: append([]capi.BTFItem(nil), itemRoom[:got.Written]...),
-	}, nil
+	return &BTF{text: textOf(file), types: typeRecords, items: itemRecords}, nil
+}
+
+// decodeRecords returns the records of all types and of their items. The first call only counts
+// them. Arrays that are always large enough would be twice as large, and to clear and to copy them
+// takes longer than this call.
+func decodeRecords(file []byte) ([]capi.BTFType, []capi.BTFItem, error) {
+	counts := capi.BTFDecode(file, nil, nil)
+	if counts.Status != capi.Room {
+		return nil, nil, errorOf(counts, btfCause)
+	}
+	types, items := make([]capi.BTFType, counts.Types), make([]capi.BTFItem, counts.Needed)
+	return types, items, errorOf(capi.BTFDecode(file, types, items), btfCause)
 }
 
 // textOf returns bytes that nobody changes as a string, without another copy, as strings.Builder
