@@ -1,4 +1,19 @@
 //! Canonical bytes of eBPF instructions and of BTF, for byte slices and from a source to a sink.
+//!
+//! The files that a file of types goes through, and what happens to the offset of a name in each:
+//!
+//! ```text
+//! btf/run.rt                  reads the source to its end
+//! btf_types                   checks the file: that name_off is in the string section, for example
+//! btf/canon.rt                asks for the canonical bytes of the checked types
+//! btf/write/table.rt          chooses the algorithm: by sections, or by texts (btf/names.rt)
+//! btf/write/sections.rt       reads the records, and passes each name_off in use, in order, to
+//! btf/strings/used_offsets.rt   which notes it, and numbers the offsets in use
+//! btf/strings/ranked_texts.rt   sorts the longest names from their ends, which ranks them
+//! btf/strings/shared_places.rt  finds the host of a name by its rank, and the place in the table
+//! btf/write/sections.rt       reads the records again, and writes each with its new name_off
+//! btf/write/head_words.rt       the header before them, and the words of a record
+//! ```
 
 #![tactic(auto)]
 
