@@ -35,7 +35,7 @@ const LINE_SIZE: usize = 112;
 /// byte to its first, since the digits of a number are found in this order.
 ///
 /// So each method writes in front of what is already there. What it requires of the length leaves
-/// room for the longest string that it writes: 109 is `LINE_SIZE` less the 3 bytes of `r10`.
+/// room for the longest string that it writes, such as the 3 bytes of `r10`.
 #[derive(Drop)]
 struct Line {
     bytes: [u8; LINE_SIZE],
@@ -43,11 +43,14 @@ struct Line {
 }
 
 impl Model for Line {
+    ghost use Rattle.std.specs.Prelude.{◌≤◌, ℕ, List, drop};
+    ghost use Rattle.bpf_text.specs.declared.insn.write.TheConstants.{LINE_SIZE};
+
     ghost Value = { List ℕ };
 
     ghost view = { λ line. drop line.start line.bytes };
 
-    ghost invariant = { λ line. line.start ≤ 112 };
+    ghost invariant = { λ line. line.start ≤ LINE_SIZE };
 }
 
 impl Line {
@@ -97,7 +100,7 @@ impl Line {
 
     /// Writes the decimal digits of a number.
     fn digits(&mut self, number: u64)
-        requires { length self.old ≤ 92 }
+        requires { length self.old + 20 ≤ LINE_SIZE }
         ensures text { self.new ≡ decimal number ++ self.old }
         ensures len { length self.new ≤ length self.old + 20 }
     {
@@ -107,7 +110,7 @@ impl Line {
     /// Writes a register.
     #[inline(always)]
     fn register(&mut self, register: Reg)
-        requires { length self.old ≤ 109 }
+        requires { length self.old + 3 ≤ LINE_SIZE }
         ensures text { self.new ≡ register_text register ++ self.old }
         ensures len { length self.new ≤ length self.old + 3 }
     {
@@ -122,7 +125,7 @@ impl Line {
     /// Writes a number, with a sign if it is negative.
     #[inline(always)]
     fn number(&mut self, number: i32)
-        requires { length self.old ≤ 91 }
+        requires { length self.old + 21 ≤ LINE_SIZE }
         ensures text { self.new ≡ signed_decimal number ++ self.old }
         ensures len { length self.new ≤ length self.old + 21 }
     {
@@ -135,7 +138,7 @@ impl Line {
     /// Writes a number, always with a sign.
     #[inline(always)]
     fn signed(&mut self, number: i32)
-        requires { length self.old ≤ 91 }
+        requires { length self.old + 21 ≤ LINE_SIZE }
         ensures text { self.new ≡ signed_text number ++ self.old }
         ensures len { length self.new ≤ length self.old + 21 }
     {
@@ -146,7 +149,7 @@ impl Line {
     /// Writes a base register and an offset in brackets.
     #[inline(always)]
     fn memory(&mut self, base: Reg, offset: i16)
-        requires { length self.old ≤ 86 }
+        requires { length self.old + 26 ≤ LINE_SIZE }
         ensures text { self.new
             ≡ codes "[" ++ register_text base ++ signed_text offset ++ codes "]" ++ self.old }
         ensures len { length self.new ≤ length self.old + 26 }
@@ -160,7 +163,7 @@ impl Line {
     /// Writes an operand.
     #[inline(always)]
     fn operand(&mut self, operand: WrittenOperand)
-        requires { length self.old ≤ 86 }
+        requires { length self.old + 26 ≤ LINE_SIZE }
         ensures text { self.new ≡ operand_text (operand_written operand) ++ self.old }
         ensures len { length self.new ≤ length self.old + 26 }
     {
@@ -176,7 +179,7 @@ impl Line {
     /// Writes a space and an operand.
     #[inline(always)]
     fn one(&mut self, first: WrittenOperand)
-        requires { length self.old ≤ 85 }
+        requires { length self.old + 27 ≤ LINE_SIZE }
         ensures text { self.new ≡ spaced (operand_written first ∷ []) ++ self.old }
         ensures len { length self.new ≤ length self.old + 27 }
     {
@@ -187,7 +190,7 @@ impl Line {
     /// Writes a space and two operands.
     #[inline(always)]
     fn two(&mut self, first: WrittenOperand, second: WrittenOperand)
-        requires { length self.old ≤ 57 }
+        requires { length self.old + 55 ≤ LINE_SIZE }
         ensures text { self.new
             ≡ spaced (operand_written first ∷ operand_written second ∷ []) ++ self.old }
         ensures len { length self.new ≤ length self.old + 55 }
@@ -200,7 +203,7 @@ impl Line {
     /// Writes a space and three operands.
     #[inline(always)]
     fn three(&mut self, first: WrittenOperand, second: WrittenOperand, third: WrittenOperand)
-        requires { length self.old ≤ 29 }
+        requires { length self.old + 83 ≤ LINE_SIZE }
         ensures text { self.new
             ≡ spaced (map operand_written (first ∷ second ∷ third ∷ [])) ++ self.old }
         ensures len { length self.new ≤ length self.old + 83 }
@@ -214,7 +217,7 @@ impl Line {
     #[inline(always)]
     #[rattlefmt::skip]
     fn operands(&mut self, insn: &Insn)
-        requires { length self.old ≤ 29 }
+        requires { length self.old + 83 ≤ LINE_SIZE }
         ensures text { self.new ≡ spaced (operands_of insn.now) ++ self.old }
         ensures len { length self.new ≤ length self.old + 83 }
     {
