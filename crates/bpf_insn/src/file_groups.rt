@@ -8,7 +8,7 @@ ghost use Rattle.std.specs.Prelude.{◌≡◌, ◌<◌, ◌≤◌, List, length,
 ghost use Rattle.bpf_insn.specs.declared.{group.Group.Group, insn.Insn.Insn};
 ghost use Rattle.bpf_insn.specs.{Faults.IsInsnFault, Groups.AreGroupsOf, Spelling.InsnFile};
 ghost use Rattle.bpf_insn.specs.FileSteps.{AddsInsnAt, AreSettled, HasGroupsBefore, IsFaultAt};
-ghost use Rattle.bpf_insn.specs.FileSteps.{opcode_has_group};
+ghost use Rattle.bpf_insn.specs.FileSteps as spec;
 
 use crate::decode::{len_at, read_at};
 use crate::read::begins_plainly;
@@ -17,7 +17,7 @@ use crate::{GroupSet, Insn, Order, SlotFault, group_of};
 /// Whether all instructions with the opcode of this one are in its group. That is so except for
 /// byte swaps, whose group also depends on the immediate.
 fn opcode_has_group(insn: Insn) -> bool
-    ensures { result ≡ opcode_has_group insn }
+    ensures { result ≡ spec.opcode_has_group insn }
 {
     !matches!(insn, Insn::Swap { .. })
 }

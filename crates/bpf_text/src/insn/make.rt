@@ -1,7 +1,8 @@
 //! Making an instruction from its mnemonic and operands.
 
 ghost use Rattle.std.specs.Prelude.{◌≡◌, length};
-ghost use Rattle.bpf_text.specs.insn.OperandFields.{InsnIsRead, operand_count};
+ghost use Rattle.bpf_text.specs.insn.OperandFields as spec;
+ghost use Rattle.bpf_text.specs.insn.OperandFields.{InsnIsRead};
 ghost use Rattle.bpf_text.specs.declared.insn.mnemonic.Mnemonic.{Mnemonic};
 
 use crate::insn::fault::LineCause;
@@ -10,11 +11,10 @@ use crate::insn::operand_fields::{address, both, imm, imm64, offset, register, s
 use crate::insn::read_operand::ReadOperand;
 use bpf_insn::{Insn, WideOf};
 
-/// The number of operands that follow a mnemonic. In the contract, `operand_count` is the
-/// definition in `specs/`, and not this function.
+/// The number of operands that follow a mnemonic.
 #[rattlefmt::skip]
 fn operand_count(mnemonic: Mnemonic) -> usize
-    ensures { result ≡ operand_count mnemonic }
+    ensures { result ≡ spec.operand_count mnemonic }
 {
     match mnemonic {
         Mnemonic::Exit => 0,
@@ -29,7 +29,7 @@ fn operand_count(mnemonic: Mnemonic) -> usize
 /// The wide load of this kind with these operands.
 #[rattlefmt::skip]
 fn wide_from_operands(kind: WideKind, operands: &[ReadOperand]) -> Result<Insn, LineCause>
-    requires { length operands.now ≡ operand_count (Mnemonic.Wide kind) }
+    requires { length operands.now ≡ spec.operand_count (Mnemonic.Wide kind) }
     ensures { InsnIsRead (Mnemonic.Wide kind) operands.now result }
 {
     match kind {
@@ -56,7 +56,7 @@ fn wide_from_operands(kind: WideKind, operands: &[ReadOperand]) -> Result<Insn, 
 /// The instruction with this mnemonic and these operands, whose number is that of the mnemonic.
 #[rattlefmt::skip]
 fn insn_of_form(mnemonic: Mnemonic, operands: &[ReadOperand]) -> Result<Insn, LineCause>
-    requires { length operands.now ≡ operand_count mnemonic }
+    requires { length operands.now ≡ spec.operand_count mnemonic }
     ensures { InsnIsRead mnemonic operands.now result }
 {
     match mnemonic {

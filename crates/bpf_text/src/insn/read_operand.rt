@@ -3,7 +3,8 @@
 ghost use Rattle.std.specs.Prelude.{◌≡◌, ◌∷◌, [], List, map, length, ◌+◌, ◌≤◌, drop, IfSome};
 ghost use Rattle.bpf_insn.specs.declared.insn.Reg.{Reg};
 ghost use Rattle.bpf_text.specs.insn.Operands.{LineOperand, SpellsOperands, SpellsRegister};
-ghost use Rattle.bpf_text.specs.insn.{Operands.is_comma, Numbers.IsReadAs, Numbers.ReadsOperand};
+ghost use Rattle.bpf_text.specs.insn.Operands as spec;
+ghost use Rattle.bpf_text.specs.insn.Numbers.{IsReadAs, ReadsOperand};
 ghost use Rattle.std.specs.{Prelude.IfNone, List.AllZip, List.position_or_len};
 
 use crate::insn::number::{signed_number, unsigned_number};
@@ -70,7 +71,7 @@ pub(crate) fn operand_from_tokens(tokens: &[&[u8]]) -> Option<ReadOperand>
 
 /// Whether a token is a comma.
 fn is_comma(token: &[u8]) -> bool
-    ensures { result ≡ is_comma token.now }
+    ensures { result ≡ spec.is_comma token.now }
 {
     token == b",".as_slice()
 }
@@ -78,7 +79,8 @@ fn is_comma(token: &[u8]) -> bool
 /// The end of the operand that starts at an index: the next comma, or the end of the tokens.
 fn part_end(tokens: &[&[u8]], start: usize) -> usize
     requires { start ≤ length tokens.now }
-    ensures value { result ≡ start + position_or_len (λ t. is_comma t.now) (drop start tokens.now) }
+    ensures value { result
+        ≡ start + position_or_len (λ t. spec.is_comma t.now) (drop start tokens.now) }
     ensures within { result ≤ length tokens.now }
     ensures from { start ≤ result }
 {

@@ -9,8 +9,8 @@
 ghost use Rattle.std.specs.Prelude.{◌≡◌, ℕ, ◌<◌, ◌≤◌, false, List, length, map, IsTrue, IfSome};
 ghost use Rattle.std.specs.Prelude.{IfNone, MatchBool};
 ghost use Rattle.std.specs.List.{list_any, list_all, prefix_len, position_or_len};
-ghost use Rattle.bpf_text.specs.insn.Tokens.{is_comment_mark, is_blank, is_word_byte, is_stray};
 ghost use Rattle.bpf_text.specs.insn.Tokens.{code_of, StartsWithToken, AreTokens};
+ghost use Rattle.bpf_text.specs.insn.Tokens as spec;
 
 use arrayvec::ArrayVec;
 
@@ -34,14 +34,14 @@ static CLASSES: [u8; 256] = *b"\
 
 /// Whether a byte begins a comment.
 fn is_comment_mark(b: u8) -> bool
-    ensures { result ≡ is_comment_mark b }
+    ensures { result ≡ spec.is_comment_mark b }
 {
     b == b';' || b == b'#'
 }
 
 /// Whether a byte is a space, a tab or a carriage return.
 fn is_blank(b: u8) -> bool
-    ensures { result ≡ is_blank b }
+    ensures { result ≡ spec.is_blank b }
 {
     b == b' ' || b == b'\t' || b == b'\r'
 }
@@ -49,7 +49,7 @@ fn is_blank(b: u8) -> bool
 /// Whether a byte is `a` to `z`, `0` to `9` or `_`.
 #[inline(always)]
 fn is_word_byte(b: u8) -> bool
-    ensures { result ≡ is_word_byte b }
+    ensures { result ≡ spec.is_word_byte b }
 {
     CLASSES[b as usize] == b'w'
 }
@@ -57,7 +57,7 @@ fn is_word_byte(b: u8) -> bool
 /// Whether a byte is neither blank nor part of a token.
 #[inline(always)]
 fn is_stray(b: u8) -> bool
-    ensures { result ≡ is_stray b }
+    ensures { result ≡ spec.is_stray b }
 {
     CLASSES[b as usize] == b'.'
 }
@@ -65,7 +65,7 @@ fn is_stray(b: u8) -> bool
 /// The number of bytes before the first stray byte.
 #[tactic(auto, using(crate::proofs::InsnLemmas::TokenLemmas::length_of_run))]
 fn known_len(bytes: &[u8]) -> usize
-    ensures value { result ≡ position_or_len is_stray bytes.now }
+    ensures value { result ≡ position_or_len spec.is_stray bytes.now }
     ensures within { result ≤ length bytes.now }
 {
     bytes.iter().take_while(|b| !is_stray(**b)).count()
@@ -74,9 +74,9 @@ fn known_len(bytes: &[u8]) -> usize
 /// A line without its comment, if each byte before the comment is blank or part of a token. The
 /// characters that begin a comment are stray bytes too, so the first stray byte is the end.
 pub(crate) fn known_code(line: &[u8]) -> Option<&[u8]>
-    ensures none { IfNone result (IsTrue (list_any is_stray (code_of line.now))) }
+    ensures none { IfNone result (IsTrue (list_any spec.is_stray (code_of line.now))) }
     ensures some { IfSome result (λ code. (code.now ≡ code_of line.now)
-        × (list_any is_stray code.now ≡ false)) }
+        × (list_any spec.is_stray code.now ≡ false)) }
 {
     let end = known_len(line);
     if end < line.len() && !is_comment_mark(line[end]) {
@@ -88,7 +88,7 @@ pub(crate) fn known_code(line: &[u8]) -> Option<&[u8]>
 /// The number of blanks at the start.
 #[tactic(auto, using(crate::proofs::InsnLemmas::TokenLemmas::length_of_run))]
 fn blank_len(bytes: &[u8]) -> usize
-    ensures value { result ≡ prefix_len is_blank bytes.now }
+    ensures value { result ≡ prefix_len spec.is_blank bytes.now }
     ensures within { result ≤ length bytes.now }
 {
     bytes.iter().take_while(|b| is_blank(**b)).count()
@@ -97,7 +97,7 @@ fn blank_len(bytes: &[u8]) -> usize
 /// The number of letters, digits and `_` at the start.
 #[tactic(auto, using(crate::proofs::InsnLemmas::TokenLemmas::length_of_run))]
 fn word_len(bytes: &[u8]) -> usize
-    ensures value { result ≡ prefix_len is_word_byte bytes.now }
+    ensures value { result ≡ prefix_len spec.is_word_byte bytes.now }
     ensures within { result ≤ length bytes.now }
 {
     bytes.iter().take_while(|b| is_word_byte(**b)).count()
@@ -105,8 +105,8 @@ fn word_len(bytes: &[u8]) -> usize
 
 /// The first token and the bytes after it, or `None` if all bytes are blank.
 pub(crate) fn next_token(bytes: &[u8]) -> Option<(&[u8], &[u8])>
-    requires { list_any is_stray bytes.now ≡ false }
-    ensures none { IfNone result (IsTrue (list_all is_blank bytes.now)) }
+    requires { list_any spec.is_stray bytes.now ≡ false }
+    ensures none { IfNone result (IsTrue (list_all spec.is_blank bytes.now)) }
     ensures some { IfSome result (λ x. StartsWithToken bytes.now x.0.now x.1.now) }
 {
     let (_, rest) = bytes.split_at(blank_len(bytes));
@@ -120,7 +120,7 @@ pub(crate) fn next_token(bytes: &[u8]) -> Option<(&[u8], &[u8])>
 /// Replaces the tokens by those of a line without its comment. Returns `false` if there are more
 /// than [`MOST_TOKENS`].
 pub(crate) fn read_tokens<'a>(tokens: &mut Tokens<'a>, code: &'a [u8]) -> bool
-    requires { list_any is_stray code.now ≡ false }
+    requires { list_any spec.is_stray code.now ≡ false }
     ensures { MatchBool result (AreTokens code.now (map (λ t. t.now) tokens.new.items))
         ((tokens : List (List ℕ)) → AreTokens code.now tokens → MOST_TOKENS < length tokens) }
 {

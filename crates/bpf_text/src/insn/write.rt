@@ -5,7 +5,8 @@ ghost use Rattle.std.specs.Prelude.{codes, decimal, OnOk, OnErr, IfOk};
 ghost use Rattle.std.specs.Fmt.{signed_decimal};
 ghost use Rattle.bpf_insn.specs.Table.{IsInsn};
 ghost use Rattle.bpf_text.specs.insn.Operands.{signed_text, register_text, operand_text};
-ghost use Rattle.bpf_text.specs.insn.Table.{source_operand, operands_of};
+ghost use Rattle.bpf_text.specs.insn.Table.{operands_of};
+ghost use Rattle.bpf_text.specs.insn.Table as spec;
 ghost use Rattle.bpf_text.specs.insn.Lines.{spaced, line_of, listing_of};
 ghost use Rattle.bpf_text.specs.insn.{Listing.Lists, Written.operand_written};
 
@@ -256,7 +257,7 @@ impl Line {
 /// The second operand of arithmetic and branches, as it is written.
 #[inline(always)]
 fn source_operand(operand: Operand) -> WrittenOperand
-    ensures { operand_written result ≡ source_operand operand }
+    ensures { operand_written result ≡ spec.source_operand operand }
 {
     match operand {
         Operand::Imm(number) => Number(number),
