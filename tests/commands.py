@@ -5,7 +5,8 @@ import re
 from tests import TOP
 
 VERB = (TOP / "crates" / "bpfcanon" / "src" / "verb.rt").read_text()
-ENGINES = [TOP / "crates" / "bpf_canon" / "src" / name / "run.rt" for name in ("insn", "btf")]
+# The files that declare limits, each after those whose limits it adds up.
+LIMIT_FILES = [TOP / "crates" / name for name in ("btf_raw/src/header.rt", "bpf_canon/src/insn/run.rt", "bpf_canon/src/btf/run.rt")]
 
 
 def arms(call, kind):
@@ -19,9 +20,12 @@ def arms(call, kind):
 
 
 def constants():
-    """The limits of the engines in bytes."""
-    text = "".join(path.read_text() for path in ENGINES)
-    return {name: int(value) for name, value in re.findall(r"^pub const (\w+_LIMIT): u64 = ([\d_]+);$", text, re.MULTILINE)}
+    """The limits in bytes of a header, of sections and of the engines. Each is a number, or a sum of others."""
+    text = "".join(path.read_text() for path in LIMIT_FILES)
+    found = {}
+    for name, value in re.findall(r"^pub const (\w+_LIMIT): \w+ = \(?([\w +]+?)(?:\) as u64)?;$", text, re.MULTILINE):
+        found[name] = sum(found.get(part) or int(part) for part in value.split(" + "))
+    return found
 
 
 def limit(text):

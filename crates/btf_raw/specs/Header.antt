@@ -4,7 +4,10 @@ use Rattle.bpf_words.specs.{declared.Order.Order, Words.word16, Words.word32, Wo
 use Rattle.btf_raw.specs.declared.cause.BtfCause.{BtfCause}
 use Rattle.btf_raw.specs.declared.cause.BtfCause.TheVariants.{ShortHeader, Magic, Version, Flags, HeaderLength, HeaderTail, TypeLength, StringLength, Sections, FileLength, FirstString, LastString}
 
--- the limits of the two sections
+-- the limits of the header and of the two sections
+abbrev pub HEADER_LIMIT : ℕ
+HEADER_LIMIT = 4096
+
 abbrev pub TYPES_LIMIT : ℕ
 TYPES_LIMIT = 33554432
 
@@ -21,7 +24,7 @@ header o header_len type_off type_len str_off str_len =
 pub record Cut (b : List ℕ) (o : Order) (types strings : List ℕ) : Type 0 where
   pub header_len : ℕ
   pub at_least : 24 ≤ header_len
-  pub at_most : header_len ≤ 4096
+  pub at_most : header_len ≤ HEADER_LIMIT
   pub types_fit : length types ≤ TYPES_LIMIT
   pub some_strings : 0 < length strings
   pub strings_fit : length strings ≤ STRINGS_LIMIT
@@ -43,7 +46,7 @@ HeaderFault b p ShortHeader = (length b < 24) × (p ≡ length b)
 HeaderFault b p Magic = (2 ≤ length b) × ((o : Order) → ¬ HasOrder b o) × (p ≡ 0)
 HeaderFault b p Version = (2 < length b) × (slice_index b 2 ≢ 1) × (p ≡ 2)
 HeaderFault b p Flags = (3 < length b) × (slice_index b 3 ≢ 0) × (p ≡ 3)
-HeaderFault b p HeaderLength = (o : Order) × (n : ℕ) × HasWord b o 4 n × ((n < 24) ⊎ (4096 < n) ⊎ (length b < n)) × (p ≡ 4)
+HeaderFault b p HeaderLength = (o : Order) × (n : ℕ) × HasWord b o 4 n × ((n < 24) ⊎ (HEADER_LIMIT < n) ⊎ (length b < n)) × (p ≡ 4)
 HeaderFault b p HeaderTail =
     (o : Order) × (n : ℕ) × HasWord b o 4 n × (24 ≤ p) × (p < n) × (p < length b) × (slice_index b p ≢ 0)
     × ((q : ℕ) → 24 ≤ q → q < p → slice_index b q ≡ 0)

@@ -2,7 +2,7 @@
 use Rattle.std.specs.Prelude.{◌≡◌, ◌⊎◌, ℕ, ◌+◌, ◌<◌, ◌≤◌, List, length, slice_index}
 use Rattle.bpf_words.specs.{declared.Order.Order, Words.word16_at, Words.word32_at}
 use Rattle.btf_raw.specs.declared.header.Header.{Header}
-use Rattle.btf_raw.specs.Header.{Cut, part, types_at, strings_at, TYPES_LIMIT, STRINGS_LIMIT}
+use Rattle.btf_raw.specs.Header.{Cut, part, types_at, strings_at, HEADER_LIMIT, TYPES_LIMIT, STRINGS_LIMIT}
 
 -- what the numbers of a header mean (btf.rst section 2)
 pub record ReadsHeader (b : List ℕ) (h : Header) : Type 0 where
@@ -24,7 +24,7 @@ pub record LengthIsRight (b : List ℕ) (o : Order) (n : ℕ) : Type 0 where
   pub start : StartIsRight b o
   pub word : n ≡ word32_at o b 4
   pub at_least : 24 ≤ n
-  pub at_most : n ≤ 4096
+  pub at_most : n ≤ HEADER_LIMIT
   pub inside : n ≤ length b
   pub zeros : (q : ℕ) → 24 ≤ q → q < n → slice_index b q ≡ 0
 

@@ -34,11 +34,14 @@ pub struct Header {
 /// The magic number: the first two bytes, in the file's byte order.
 const MAGIC: u16 = 0xeb9f;
 
+/// The maximum length of the header in bytes.
+pub const HEADER_LIMIT: usize = 4096;
+
 /// The maximum length of the type section in bytes.
-const TYPES_LIMIT: usize = 33_554_432;
+pub const TYPES_LIMIT: usize = 33_554_432;
 
 /// The maximum length of the string section in bytes.
-const STRINGS_LIMIT: usize = 16_777_216;
+pub const STRINGS_LIMIT: usize = 16_777_216;
 
 /// A fault at an offset: of the file, of the string section or, in `records.rt`, of the type
 /// section.
@@ -98,7 +101,7 @@ fn start_of(bytes: &[u8]) -> Result<(Order, usize), BtfFault>
         return Err(fault(3, BtfCause::Flags));
     }
     let len = get32(order, bytes, 4) as usize;
-    if len < 24 || len > 4096 || len > bytes.len() {
+    if len < 24 || len > HEADER_LIMIT || len > bytes.len() {
         return Err(fault(4, BtfCause::HeaderLength));
     }
     for pos in 24..len {

@@ -2,14 +2,14 @@
 use Rattle.std.specs.Prelude.{◌≡◌, ◌<◌, ◌≤◌, ◌+◌, ℕ, List, length, take}
 use Rattle.std.specs.Io.KnownBytes.{Appends, Consumes, IsAtEnd}
 use Rattle.bpf_words.specs.declared.Order.{Order}
-use Rattle.btf_raw.specs.declared.cause.BtfFault.{BtfFault}
+use Rattle.btf_raw.specs.{declared.cause.BtfFault.BtfFault, Header.HEADER_LIMIT, Header.TYPES_LIMIT, Header.STRINGS_LIMIT}
 use Rattle.btf_types.specs.{Values.TypeRecord, Denotes.Denotes, Faults.IsFirst}
 use Rattle.bpf_canon.specs.{btf.CanonicalBtf.canonical, declared.engine.RunCause.RunCause, device.Reads.read_room, Engine.Devices}
 use Rattle.bpf_canon.specs.declared.engine.RunCause.TheVariants as cause
 
--- the largest number of bytes that the engine accepts
+-- the largest number of bytes that the engine accepts: the largest header and sections of a file
 abbrev pub btf_limit : ℕ
-btf_limit = 50335744
+btf_limit = HEADER_LIMIT + TYPES_LIMIT + STRINGS_LIMIT
 
 -- these bytes were read, not more than the limit, and then the source ended
 pub record CameWhole (d : Devices) (read : List ℕ) : Type 0 where

@@ -11,13 +11,13 @@ use crate::btf::canon::canonical_in;
 use crate::device::{ByteSink, ByteSource, ReadError, read_all};
 use crate::engine::{RunCause, RunError, put_whole, stopped};
 use bpf_words::Order;
-use btf_raw::BtfFault;
+use btf_raw::{BtfFault, HEADER_LIMIT, STRINGS_LIMIT, TYPES_LIMIT};
 use btf_types::BtfError;
 use std::alloc::Allocator;
 
 /// The largest BTF input, in bytes, that [`run_btf`] accepts: the largest header, type section and
 /// string section that a valid file can contain.
-pub const BTF_LIMIT: u64 = 50_335_744;
+pub const BTF_LIMIT: u64 = (HEADER_LIMIT + TYPES_LIMIT + STRINGS_LIMIT) as u64;
 
 /// Reads a BTF file until the source ends, writes its canonical bytes in the byte order `to`
 /// (btf.rst section 2), and returns the number of bytes written. Each read has a buffer of 4,096
