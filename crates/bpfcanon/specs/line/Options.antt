@@ -3,6 +3,7 @@ use Rattle.std.specs.Prelude.{◌≡◌, true, false, List, [], ◌∷◌, Some,
 use Rattle.std.specs.Borrow.{Bor}
 use Rattle.clap.specs.{Words.App, Words.Rule, Words.Shape, Words.Text, Words.new_rule, Simple.new_shape, Walk.texts}
 use Rattle.clap.specs.declared.builder.value_parser.ValueParser.TheVariants as parser
+use Rattle.bpf_words.specs.{OrderName.order_name, declared.Order.TheVariants.Little, declared.Order.TheVariants.Big}
 use Rattle.bpfcanon.specs.{declared.verb.Verb.Verb, declared.verb.Verb.TheVariants.InsnSame, commands.Reply.limit_of}
 use Rattle.bpfcanon.specs.declared.verb.Setting.{Setting, TheVariants.Order, TheVariants.To, TheVariants.Other, TheVariants.Split}
 use Rattle.bpfcanon.specs.Verbs.{all_verbs, name_of, setting_name, settings_of}
@@ -11,16 +12,20 @@ use Rattle.bpfcanon.specs.Verbs.{all_verbs, name_of, setting_name, settings_of}
 abbrev pub Names : Type 0
 Names = Bor (List (Bor Text))
 
+-- these words are the names of the byte orders
+abbrev pub AreOrderNames : List (Bor Text) → Type 0
+AreOrderNames words = texts words ≡ order_name Little ∷ order_name Big ∷ []
+
 -- the values that an option for a byte order accepts
 abbrev pub IsOrderNames : Names → Type 0
-IsOrderNames names = texts names.now ≡ codes "little" ∷ codes "big" ∷ []
+IsOrderNames names = AreOrderNames names.now
 
 -- an option for a byte order; the default is `little`
 abbrev pub order_option : Names → Text → Rule
 order_option names name = record (new_rule name) {
   long = Some name;
   parser = Some (parser.Names names);
-  defaults = codes "little" ∷ [];
+  defaults = order_name Little ∷ [];
 }
 
 -- the required option for the length of the first file in bytes, at most the length of the longest input

@@ -3,7 +3,7 @@ use Rattle.std.specs.Prelude.{◌≡◌, ◌-◌, ◌^◌, ℕ, false, List, [],
 use Rattle.std.specs.{Option.option_map_or, Str.bytes_eq, Str.Parse.digits_value, Str.Parse.without_leading_plus}
 use Rattle.clap.specs.Words.{Row, Text, first_of, one_of, subcommand_of, takes, fault_of}
 use Rattle.clap.specs.ValueTests.{is_unsigned_in}
-use Rattle.bpf_words.specs.declared.Order.{Order, TheVariants.Little, TheVariants.Big}
+use Rattle.bpf_words.specs.{OrderName.order_name, declared.Order.Order, declared.Order.TheVariants.Little, declared.Order.TheVariants.Big}
 use Rattle.bpfcanon.specs.declared.{job.Job.Job, verb.Verb.Verb, verb.Verb.TheVariants.InsnCanon, verb.Setting.Setting}
 use Rattle.bpfcanon.specs.declared.verb.Setting.TheVariants as setting
 use Rattle.bpfcanon.specs.Verbs.{name_of, setting_name, takes_setting}
@@ -11,7 +11,7 @@ use Rattle.bpfcanon.specs.line.Options.{IsOrderNames, Names, program}
 
 -- the byte order with this name
 abbrev pub order_named : Text → Order
-order_named name = if bytes_eq name (codes "big") then Big else Little
+order_named name = if bytes_eq name (order_name Big) then Big else Little
 
 -- the byte order that clap reports for an option, or Little if the command doesn't accept the option
 abbrev pub order_at : Verb → Setting → List Row → Order

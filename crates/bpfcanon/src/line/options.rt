@@ -6,25 +6,23 @@ ghost use Rattle.clap.specs.declared.builder.command.Command.TheViews.{out-Comma
 ghost use Rattle.bpfcanon.specs.line.Options as spec;
 
 use crate::verb::{Setting, Verb};
+use bpf_words::Order;
 use clap::{Arg, Command, value_parser};
 use std::alloc::{AllocError, Global};
 
-/// The names of the byte orders.
-static ORDERS: [&str; 2] = ["little", "big"];
-
-/// The values of an option for a byte order. They are static because clap keeps a reference to
-/// them.
+/// The values of an option for a byte order. clap keeps a reference to them, so whoever parses the
+/// arguments owns them.
 #[derive(Clone, Copy)]
 pub struct OrderNames<'a> {
     words: &'a [&'a str],
 }
 
-impl OrderNames<'static> {
-    /// `little` and `big`.
-    pub fn new() -> OrderNames<'static>
+impl<'a> OrderNames<'a> {
+    /// The names of the byte orders, which are `words`.
+    pub fn new(words: &'a [&'a str]) -> OrderNames<'a>
+        requires { spec.AreOrderNames words.now }
         ensures { spec.IsOrderNames result.words }
     {
-        let words = ORDERS.as_slice();
         OrderNames { words }
     }
 }
@@ -40,7 +38,9 @@ fn setting_arg<'a>(alloc: Global, setting: Setting, orders: OrderNames<'a>) -> A
         Setting::Split => arg
             .value_parser(value_parser!(u64).range(0..=Verb::InsnSame.limit() as i64))
             .required(true),
-        _ => arg.value_parser(orders.words).default_value("little"),
+        _ => arg
+            .value_parser(orders.words)
+            .default_value(Order::Little.name()),
     }
 }
 

@@ -38,11 +38,7 @@ impl From<AllocError> for LineError {
 fn order_named(name: &str) -> Order
     ensures { result ≡ spec.order_named name.now }
 {
-    if name == "big" {
-        Order::Big
-    } else {
-        Order::Little
-    }
+    name.parse().unwrap_or(Order::Little)
 }
 
 /// The byte order that an option names, or `Little` if the command doesn't accept the option.
@@ -123,7 +119,8 @@ pub fn parse_line(alloc: Global, words: &[String]) -> Result<Job, LineError>
     ensures asks { IfOk result (spec.Asks (map string_bytes words.now)) }
     ensures refused { IsErrOf result LineError.Usage → spec.IsRefused (map string_bytes words.now) }
 {
-    let command = program_command(alloc, OrderNames::new())?;
+    let orders = [Order::Little.name(), Order::Big.name()];
+    let command = program_command(alloc, OrderNames::new(&orders))?;
     match command.try_get_matches_from(words) {
         Ok(matches) => Ok(job_of(&matches)),
         Err(error) => Err(line_error(error.kind())),
