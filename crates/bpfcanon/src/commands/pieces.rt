@@ -9,7 +9,8 @@
 ghost use Rattle.std.specs.Prelude.{◌≡◌, ◌<◌, [], length, IfErr, OnOk};
 ghost use Rattle.bpfcanon.specs.declared.commands.pieces.PutError.TheVariants.{Memory, WriteFailed};
 ghost use Rattle.bpfcanon.specs.Devices.{sink_change};
-ghost use Rattle.bpfcanon.specs.commands.Pieces.{Gathers, TookText, end_of_pieces};
+ghost use Rattle.bpfcanon.specs.commands.Pieces.{Gathers, TookText};
+ghost use Rattle.bpfcanon.specs.commands.Pieces as spec;
 
 use crate::outcome::Outcome;
 use bpf_canon::{ByteSink, put_all};
@@ -34,7 +35,7 @@ impl From<AllocError> for PutError {
 
 /// The outcome of a command that wrote its output in pieces.
 pub fn end_of_pieces(put: Result<(), PutError>) -> Outcome
-    ensures { result ≡ end_of_pieces put }
+    ensures { result ≡ spec.end_of_pieces put }
 {
     match put {
         Ok(()) => Outcome::Done,
