@@ -3,9 +3,11 @@
 ghost use Rattle.std.specs.Prelude.{◌≡◌, ◌≤◌, length, IfOk};
 ghost use Rattle.bpf_insn.specs.Groups.{holds};
 ghost use Rattle.bpfcanon.specs.declared.verb.Verb.TheVariants.{BtfCheck, InsnGroups, InsnRead};
-ghost use Rattle.bpfcanon.specs.commands.{BtfReply.IsBtfCheckReply, BtfReply.count_line};
+ghost use Rattle.bpfcanon.specs.commands.BtfReply as btf_spec;
+ghost use Rattle.bpfcanon.specs.commands.BtfReply.{IsBtfCheckReply};
 ghost use Rattle.bpfcanon.specs.commands.Pieces.{IsOutput};
-ghost use Rattle.bpfcanon.specs.commands.Reply.{IsGroupsReply, IsReadReply, group_lines, limit_of};
+ghost use Rattle.bpfcanon.specs.commands.Reply as spec;
+ghost use Rattle.bpfcanon.specs.commands.Reply.{IsGroupsReply, IsReadReply, limit_of};
 
 use crate::outcome::Outcome;
 use bpf_insn::{Group, GroupSet, Order, groups_in};
@@ -33,7 +35,7 @@ pub fn insn_read_reply<A: Allocator>(
 
 /// The names of the groups in a set, one per line.
 fn group_lines<A: Allocator>(alloc: A, set: GroupSet) -> Result<Vec<u8, A>, AllocError>
-    ensures { IfOk result (λ lines. lines.items ≡ group_lines (holds set)) }
+    ensures { IfOk result (λ lines. lines.items ≡ spec.group_lines (holds set)) }
 {
     let mut lines = Vec::new(alloc);
     for group in Group::ALL {
@@ -66,7 +68,7 @@ pub fn insn_groups_reply<A: Allocator>(
 
 /// The line for a valid file, with its number of types.
 fn count_line<A: Allocator>(alloc: A, count: u32) -> Result<Vec<u8, A>, AllocError>
-    ensures { IfOk result (λ line. line.items ≡ count_line count) }
+    ensures { IfOk result (λ line. line.items ≡ btf_spec.count_line count) }
 {
     let mut buffer = Buffer::new();
     let mut line = Vec::from_slice(alloc, b"ok ")?;
