@@ -2,7 +2,6 @@
 pub mod FrontLaws
 pub mod ReadingLemmas
 pub mod FeedLemmas
-pub mod SwappedBytes
 pub mod Recoding
 pub mod Comparing
 pub mod RunLemmas

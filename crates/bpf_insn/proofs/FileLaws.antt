@@ -10,7 +10,8 @@ use Rattle.bpf_insn.specs.Spelling.{spelling, second_slot, file_of, InsnFile}
 use Rattle.bpf_insn.specs.Faults.{BeginsWith, IsSlotFault, IsInsnFault}
 use Rattle.bpf_insn.proofs.FormLemmas.{insn_form, same_form, opcode_of_form}
 use Rattle.bpf_insn.proofs.FieldLemmas as field
-use Rattle.bpf_insn.proofs.{FaultLemmas.begins_agrees, FaultLemmas.slot_length, InsnLaws.same_insn}
+use Rattle.bpf_words.proofs.SlotLemmas.{slot_length}
+use Rattle.bpf_insn.proofs.{FaultLemmas.begins_agrees, InsnLaws.same_insn}
 use Rattle.bpf_insn.proofs.WideLemmas.{second_next, second_length}
 use Rattle.bpf_insn.specs.declared.{fault.SlotCause.SlotCause, fault.SlotFault.SlotFault, insn.Insn.Insn, insn.Insn.TheVariants.Wide}
 use Rattle.bpf_insn.specs.declared.fault.SlotCause.TheVariants.{Truncated, Opcode}

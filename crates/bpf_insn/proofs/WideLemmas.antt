@@ -10,7 +10,8 @@ use Rattle.bpf_insn.specs.Faults.{field_value, Agrees, AgreesThrough, SomeAgrees
 use Rattle.bpf_insn.proofs.FormLemmas.{insn_form, same_form}
 use Rattle.bpf_insn.proofs.WitnessLemmas.{wide_load}
 use Rattle.bpf_insn.proofs.FieldLemmas as field
-use Rattle.bpf_insn.proofs.FaultLemmas.{begins_agrees, slot_length}
+use Rattle.bpf_words.proofs.SlotLemmas.{slot_length}
+use Rattle.bpf_insn.proofs.FaultLemmas.{begins_agrees}
 use Rattle.bpf_insn.specs.declared.{fault.SlotCause.SlotCause, insn.Reg.Reg, insn.WideOf.WideOf, insn.Insn.Insn, insn.Insn.TheVariants.Wide}
 use Rattle.bpf_insn.specs.declared.fault.SlotCause.TheVariants.{Truncated, Opcode, Imm, Reserved, NextImm}
 use Rattle.bpf_insn.specs.declared.insn.WideOf.TheVariants.{MapFd, CodeAddr, MapIdx}

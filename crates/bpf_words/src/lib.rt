@@ -11,7 +11,7 @@ mod tests;
 mod words;
 
 pub use order_name::ParseOrderError;
-pub use slot::{Slot, slot_bytes, slot_of};
+pub use slot::{Slot, slot_bytes, slot_of, swap_slots, swapped};
 pub use words::{get16, get32, push16, push32};
 
 /// The byte order of a file: whether the least significant byte of a word is its first or its last.

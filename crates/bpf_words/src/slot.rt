@@ -26,8 +26,9 @@
 //! have is checked in `bpf_insn`, which calls an instruction like the first one plain: each of its
 //! fields is either 0 or free.
 
-ghost use Rattle.std.specs.Prelude.{◌≡◌};
-ghost use Rattle.bpf_words.specs.Slots.{AreFields, spelled};
+ghost use Rattle.std.specs.Prelude.{◌≡◌, ◌≢◌, ◌+◌, ◌*◌, ◌/◌, ◌%◌, ℕ, List};
+ghost use Rattle.bpf_words.specs.declared.Order.{Order};
+ghost use Rattle.bpf_words.specs.Slots.{AreFields, AreSlots, Fields, spelled};
 
 use crate::Order;
 use byteorder::{BigEndian, ByteOrder, LittleEndian};
@@ -114,4 +115,66 @@ pub fn slot_bytes(order: Order, slot: Slot) -> [u8; 8]
         }
     }
     bytes
+}
+
+/// The low byte of each halfword except the lowest one.
+const LOW_BYTES: u64 = 0x00ff_00ff_00ff_0000;
+
+/// Rewrites the slots in the other byte order, in place. If fewer than 8 bytes are left after the
+/// last slot, these stay as they are.
+///
+/// The loop has no branch for what a slot contains, so compilers vectorise it.
+pub fn swap_slots(bytes: &mut [u8])
+    ensures { (order to : Order) (slots : List Fields) (rest : List ℕ) → order ≢ to
+        → AreSlots order bytes.old slots rest → AreSlots to bytes.new slots rest }
+{
+    let mut pos = 0;
+    'slots: while let Some(slot) = bytes[pos..].first_chunk::<8>() {
+        let other = swapped(slot);
+        bytes[pos..pos + 8].copy_from_slice(&other);
+        pos += 8;
+    }
+}
+
+/// Returns the 8 bytes of a slot in the other byte order (RFC 9669 section 3). The halves of the
+/// register byte, the two bytes of the offset and the four bytes of the immediate are reversed.
+///
+/// The slot is loaded as one 64-bit number, and its parts are moved by masks and shifts:
+///
+/// ```text
+/// bit  0        8          12         16       32                   64
+///      | opcode | register | register | offset | imm                |
+///                                     | half-  | half-    | half-   |
+///                                     | word   | word     | word    |
+/// ```
+///
+/// This lets the compiler vectorise a loop over slots; byte-by-byte code is not vectorised.
+#[inline(always)]
+pub fn swapped(slot: &[u8; 8]) -> [u8; 8]
+    ensures { (order to : Order) → order ≢ to → (slot_fields : Fields) × (AreFields slot_fields
+        × ((slot.now ≡ spelled order slot_fields) × (result ≡ spelled to slot_fields))) }
+{
+    let word = u64::from_le_bytes(*slot);
+    let opcode = word % 0x100;
+    let registers = word / 0x100 % 0x10 * 0x1000 + word / 0x1000 % 0x10 * 0x100;
+    let halfwords = swap_halfwords(word);
+    let offset = halfwords % 0x1_0000_0000;
+    let imm = halfwords / 0x1_0000_0000 % 0x1_0000 * 0x1_0000_0000_0000
+        + halfwords / 0x1_0000_0000_0000 * 0x1_0000_0000;
+    (opcode + registers + offset + imm).to_le_bytes()
+}
+
+/// The three upper halfwords, each with its two bytes exchanged, and 0 for the lowest one.
+#[inline(always)]
+#[tactic(auto, using(crate::proofs::SwappedBytes::halfwords_swapped))]
+fn swap_halfwords(word: u64) -> u64
+    ensures { result ≡ word / 0x1_0000 % 0x100 * 0x100_0000 + word / 0x100_0000 % 0x100 * 0x1_0000
+        + word / 0x1_0000_0000 % 0x100 * 0x100_0000_0000
+        + word / 0x100_0000_0000 % 0x100 * 0x1_0000_0000
+        + word / 0x1_0000_0000_0000 % 0x100 * 0x100_0000_0000_0000
+        + word / 0x100_0000_0000_0000 % 0x100 * 0x1_0000_0000_0000 }
+{
+    let low_bytes = word & LOW_BYTES;
+    let high_bytes = word / 0x100 & LOW_BYTES;
+    low_bytes * 0x100 + high_bytes
 }

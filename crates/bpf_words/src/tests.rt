@@ -1,6 +1,9 @@
 //! Words and slots in both orders, and growths that are refused.
 
-use crate::{Order, ParseOrderError, Slot, get16, get32, push16, push32, slot_bytes, slot_of};
+use crate::{
+    Order, ParseOrderError, Slot, get16, get32, push16, push32, slot_bytes, slot_of, swap_slots,
+    swapped,
+};
 use bumpalo::Bump;
 use std::alloc::{AllocError, Allocator, Global};
 use std::fmt::Debug;
@@ -116,7 +119,18 @@ fn slots_are_read_and_written_in_both_orders(rt: HostRuntime) {
             let found = (slot_of(order, &bytes), slot_bytes(order, row.slot));
             equal(&rt, &found, &(row.slot, bytes), &(order, row));
         }
+        let found = (swapped(&row.big), swapped(&row.little));
+        equal(&rt, &found, &(row.little, row.big), row);
     }
+}
+
+/// `lddw r1, 0x1122334455667788`, and the first bytes of a slot.
+#[test]
+fn slots_are_swapped_in_place(rt: HostRuntime) {
+    let mut bytes = *b"\x18\x01\0\0\x88\x77\x66\x55\0\0\0\0\x44\x33\x22\x11\xbf\x21\x01";
+    let wanted = *b"\x18\x10\0\0\x55\x66\x77\x88\0\0\0\0\x11\x22\x33\x44\xbf\x21\x01";
+    swap_slots(&mut bytes);
+    equal(&rt, &bytes, &wanted, &"a wide load");
 }
 
 #[test]

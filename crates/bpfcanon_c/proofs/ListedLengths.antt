@@ -21,7 +21,8 @@ use Rattle.bpf_insn.specs.{declared.insn.WideOf.WideOf, declared.insn.Insn.Insn,
 use Rattle.bpf_insn.specs.declared.insn.WideOf.TheVariants.{Number, MapFd, MapValueFd, VarAddr, CodeAddr, MapIdx, MapValueIdx}
 use Rattle.bpf_insn.specs.declared.insn.Insn.TheVariants.{Alu, Movsx, Neg, Swap, Jump, JumpLong, Branch, CallHelper, CallLocal, CallBtf, Exit, Load, LoadSigned, StoreImm, StoreReg, Atomic, Wide, PacketAbs, PacketInd}
 use Rattle.bpf_insn.specs.Spelling.{file_of, second_slot, spelling}
-use Rattle.bpf_insn.proofs.{FaultLemmas.slot_length, FileLaws.at_most_two}
+use Rattle.bpf_words.proofs.SlotLemmas.{slot_length}
+use Rattle.bpf_insn.proofs.FileLaws.{at_most_two}
 use Rattle.bpf_text.specs.insn.Operands.{LineOperand, register, number, signed, memory, register_text, SpellsMagnitude, SpellsOperand, SpellsOperands, is_comma}
 use Rattle.bpf_text.specs.insn.Table.{width_suffix, alu_mnemonic, branch_mnemonic, movsx_mnemonic, swap_mnemonic, bits_suffix, size_suffix, small_size_suffix, atomic_mnemonic, wide_mnemonic, mnemonic_text, source_operand, operands_of, wide_operands}
 use Rattle.bpf_text.specs.insn.Tokens.{is_newline, is_comment_mark, is_word_byte, code_of, BeginsWithWordByte, IsTokenBefore, AreTokens}

@@ -25,7 +25,8 @@ use Rattle.bpf_insn.specs.declared.insn.WideOf.TheVariants.{Number, MapFd, MapVa
 use Rattle.bpf_insn.specs.declared.insn.Insn.TheVariants.{Alu, Movsx, Neg, Swap, Jump, JumpLong, Branch, CallHelper, CallLocal, CallBtf, Exit, Load, LoadSigned, StoreImm, StoreReg, Atomic, Wide, PacketAbs, PacketInd}
 use Rattle.bpf_insn.specs.Table.{IsInsn, IsOperand, fields_of, next_imm_of, wide_next_imm}
 use Rattle.bpf_insn.specs.Spelling.{InsnFile, file_of, second_slot, spelling}
-use Rattle.bpf_insn.proofs.{FaultLemmas.slot_length, FileLaws.at_least_a_slot, WideLemmas.second_length}
+use Rattle.bpf_words.proofs.SlotLemmas.{slot_length}
+use Rattle.bpf_insn.proofs.{FileLaws.at_least_a_slot, WideLemmas.second_length}
 use Rattle.bpf_text.specs.insn.Operands.{LineOperand, register, number, signed, memory, register_text, signed_text, operand_text}
 use Rattle.bpf_text.specs.insn.Table.{width_suffix, alu_mnemonic, branch_mnemonic, movsx_mnemonic, swap_mnemonic, bits_suffix, size_suffix, small_size_suffix, atomic_mnemonic, mnemonic_text, source_operand}
 use Rattle.bpf_text.specs.insn.Lines.{spaced, line_of, listing_of}

@@ -16,7 +16,8 @@ use Rattle.bpf_insn.specs.declared.form.Form.{Form}
 use Rattle.bpf_insn.specs.declared.form.Form.TheVariants as form
 use Rattle.bpf_insn.specs.{Table.fields_of, Table.next_imm_of, Table.branch_code, Table.wide_next_imm, Groups.base, Groups.divmul, Groups.size_group, Spelling.spelling, Spelling.second_slot, Faults.BeginsWith}
 use Rattle.bpf_insn.specs.Forms.{alu_code_number, source_number, form_at, alu32_form_at, alu64_form_at, jump32_form_at, jump64_form_at, load_form_at, alu_code_at, branch_op_at, size_at, small_size_at}
-use Rattle.bpf_insn.proofs.{FormLemmas.insn_form, FormLemmas.opcode_of_form, OpcodeLemmas.form_at-form_opcode, TableLemmas.same_table, FieldLemmas.fields_in_range, FieldLemmas.wide_next_fits, FaultLemmas.slot_length, WideLemmas.wide_of_opcode, WideLemmas.second_length}
+use Rattle.bpf_words.proofs.SlotLemmas.{slot_length}
+use Rattle.bpf_insn.proofs.{FormLemmas.insn_form, FormLemmas.opcode_of_form, OpcodeLemmas.form_at-form_opcode, TableLemmas.same_table, FieldLemmas.fields_in_range, FieldLemmas.wide_next_fits, WideLemmas.wide_of_opcode, WideLemmas.second_length}
 use Rattle.bpfcanon_c.specs.declared.{opcode_rows.OpcodeRow.OpcodeRow, opcode_rows.TheConstants.ROWS}
 use Rattle.bpfcanon_c.specs.{InsnRows.width_bits, InsnRows.size_bits, InsnRows.small_size_bits, InsnRows.group_bit, InsnRows.row_at, InsnSteps.HasPut, OpcodeRows.Allows, OpcodeRows.HasRow, OpcodeRows.MakesRows, OpcodeRows.slot_row, OpcodeRows.wide_row}
 

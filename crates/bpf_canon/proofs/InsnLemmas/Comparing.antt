@@ -4,8 +4,9 @@ use Rattle.std.proofs.lemmas.Grind.{common_steps}
 use Rattle.std.specs.{List.flat_map, Cmp.Lexicographic.other_text, Cmp.Lexicographic.pointwise}
 use Rattle.std.proofs.{lemmas.List.append_cancel_left, Math.Seq.take-append_seam}
 use Rattle.bpf_words.specs.{declared.Order.Order, Slots.AreFields, Slots.Fields, Slots.spelled}
+use Rattle.bpf_words.proofs.SwappedSlots.{Rewrites, all_rewritten, one_rewritten, rewritten_rest}
 use Rattle.bpf_insn.specs.{declared.insn.Insn.Insn, Spelling.InsnFile, Spelling.file_of}
-use Rattle.bpf_canon.proofs.InsnLemmas.Recoding.{Rewrites, file_rewritten, one_rewritten, rewritten_rest}
+use Rattle.bpf_canon.proofs.InsnLemmas.Recoding.{file_slots, file_spelled, slots_of_file}
 
 -- the slots of `a` before `left` are, in the other order, at the start of `b`, and `right` follows them
 pub record SwappedFront (order to : Order) (a left b right : List ℕ) : Type 0 where
@@ -28,8 +29,10 @@ module _ (order to : Order) (a left following b right : List ℕ) (slot : Fields
   -- the next slots differ
   pub swapped_apart : (bytes : List ℕ) → bytes ≡ spelled to slot → pointwise nat_eq (take (length bytes) right) bytes ≡ false → (insns : List Insn) → InsnFile order a insns → b ≢ file_of to insns
   swapped_apart bytes is differ insns file same =
-      let left_over = rewritten_rest order to a following [] (so_far.written ++ spelled to slot) longer insns file in
+      let left_over = rewritten_rest order to a following [] (so_far.written ++ spelled to slot) longer (slots_of_file insns) [] (file_slots order a insns file) in
       let tail = flat_map (spelled to) left_over.0 in
+      let whole : so_far.written ++ right ≡ (so_far.written ++ spelled to slot) ++ tail =
+      sym so_far.front ∙ same ∙ file_spelled to insns ∙ left_over.1.1 in
       let next : right ≡ spelled to slot ++ tail = grind (arith, append_cancel_left, append_assoc) in
       let found : right ≡ bytes ++ tail = next ∙ ap (λ xs. xs ++ tail) (sym is) in
       other_text (take (length bytes) right) bytes (sym differ) (ap (take (length bytes)) found ∙ take-append_seam bytes tail)
@@ -42,5 +45,6 @@ none_left is_empty xs e = grind (arith, common_steps)
 pub swapped_end : (order to : Order) (a left b right : List ℕ) (is_empty : Bool) → SwappedFront order to a left b right → length left < 8 → is_empty ≡ nat_eq (length right) 0
     → (insns : List Insn) → InsnFile order a insns → IsTrue is_empty ↔ (b ≡ file_of to insns)
 swapped_end order to a left b right is_empty so_far short empty insns file =
-    let whole : so_far.written ≡ file_of to insns = file_rewritten order to a left [] so_far.written so_far.rewrites short insns file in
+    let whole : so_far.written ≡ file_of to insns =
+    (all_rewritten order to a left [] so_far.written so_far.rewrites short (slots_of_file insns) [] (file_slots order a insns file)).0 ∙ sym (file_spelled to insns) in
     grind (arith, common_steps, append_cancel_left)

@@ -3,11 +3,12 @@ use Rattle.std.proofs.Common.{◌≡◌, ◌<◌, ◌≤◌, ◌+◌, ◌*◌, �
 use Rattle.std.proofs.lemmas.List.{append-nil, Elements.All-append, Elements.All-head, Elements.All-nil, Elements.All-push, Elements.All-tail}
 use Rattle.std.proofs.lemmas.List.Concat.{flat_map-append}
 use Rattle.bpf_words.specs.{declared.Order.Order}
+use Rattle.bpf_words.proofs.SlotLemmas.{slot_length}
 use Rattle.bpf_insn.specs.declared.{insn.Insn.Insn, fault.SlotFault.SlotFault, fault.SlotCause.SlotCause}
 use Rattle.bpf_insn.specs.declared.fault.SlotCause.TheVariants.{Truncated}
 use Rattle.bpf_insn.specs.{Table.IsInsn, Faults.IsFront, Faults.IsInsnFault, Faults.IsSlotFault}
 use Rattle.bpf_insn.specs.Spelling.{InsnFile, file_of, spelling}
-use Rattle.bpf_insn.proofs.{FaultLemmas.slot_length, UniqueLemmas.one_fault}
+use Rattle.bpf_insn.proofs.UniqueLemmas.{one_fault}
 use Rattle.bpf_insn.proofs.FileLaws.{begins_once, file_fault, rests_same}
 use Rattle.bpf_insn.proofs.FrontLemmas.{empty_begins_none, front_of, length-at_most_file, one_front}
 use Rattle.bpf_canon.specs.insn.{FrontReads.BeginsNone, FeedStream.IsSound}

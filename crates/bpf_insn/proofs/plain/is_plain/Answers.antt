@@ -1,6 +1,7 @@
 use Rattle.std.proofs.Common.{◌≡◌, ◌∙◌, ℕ, List, ap, slice_index}
 use Rattle.bpf_insn.specs.Plain.{zero_bits_at}
-use Rattle.bpf_insn.proofs.{SlotLemmas.any_slot, ZeroBits.plain_by_bits}
+use Rattle.bpf_words.proofs.SlotLemmas.{any_slot}
+use Rattle.bpf_insn.proofs.ZeroBits.{plain_by_bits}
 use Rattle.bpf_insn.proofs.plain.is_plain.Goals as goal
 
 pub returns : goal.returns

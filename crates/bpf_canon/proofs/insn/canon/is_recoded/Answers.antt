@@ -1,6 +1,6 @@
 use Rattle.std.proofs.Common.{rules, ◌∙◌, ◌++◌, List, ℕ, ap}
+use Rattle.bpf_words.proofs.SwappedSlots.{slot_first}
 use Rattle.bpf_canon.proofs.InsnLemmas.Comparing.{prefix_found, swapped_apart, swapped_end, swapped_more}
-use Rattle.bpf_canon.proofs.InsnLemmas.Recoding.{slot_first}
 use Rattle.bpf_canon.proofs.insn.canon.is_recoded.Goals as goal
 
 pub slots-preserved : goal.slots-preserved

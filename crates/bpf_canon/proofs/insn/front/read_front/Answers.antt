@@ -1,9 +1,9 @@
-use Rattle.std.proofs.Common.{rules, arith, ◌≡◌, ◌≢◌, ◌∙◌, ◌++◌, ℕ, List, length, take, ap, sym, subst}
+use Rattle.std.proofs.Common.{rules, arith, ◌≡◌, ◌≢◌, ◌∙◌, ◌++◌, ℕ, List, [], length, take, ap, sym, subst}
 use Rattle.std.proofs.lemmas.List.{length-take}
 use Rattle.bpf_insn.specs.Spelling.{InsnFile, file_of}
 use Rattle.bpf_canon.proofs.InsnLemmas.FrontLaws.{length-file_same}
 use Rattle.bpf_canon.proofs.InsnLemmas.ReadingLemmas.{front_recoded}
-use Rattle.bpf_canon.proofs.InsnLemmas.Recoding.{appended_part, appended_in_place}
+use Rattle.bpf_canon.proofs.InsnLemmas.Recoding.{appended_part, appended_in_place, file_slots, slots_file, slots_of_file}
 use Rattle.bpf_canon.proofs.insn.front.read_front.Goals as goal
 
 pub returns-then-ne-clause-read : goal.returns-then-ne-clause-read
@@ -18,7 +18,7 @@ returns-then-ne-clause-read g c =
     let other : c.args.order ≢ c.args.to = search rules in
     front_recoded _ _ _ _ _ _ c.insn_front-read.ensures.front (λ insns file.
     let P : List ℕ → Type 0 = λ s. InsnFile c.args.order s insns in
-    let swapped = c.swap_slots.ensures c.args.order c.args.to insns other (subst P (sym part) file) in
+    let swapped = slots_file c.args.to c.swap_slots.new.bytes insns (c.swap_slots.ensures c.args.order c.args.to (slots_of_file insns) [] other (file_slots c.args.order _ insns (subst P (sym part) file))) in
     let size : length c.swap_slots.new.bytes ≡ length bytes = omega (arith, ap length swapped, length-file_same c.args.to c.args.order insns, ap length file.1) in
     appended_in_place old bytes c.deref_mut.result.now c.swap_slots.new.bytes _ c.len-start.result c.extend_from_slice.new.self.len all start (sym c.deref_mut.ensures.len) size
     ∙ ap (λ (s : List ℕ). old ++ s) swapped)

@@ -1,8 +1,8 @@
 use Rattle.std.proofs.Common.{◌≤◌, ◌+◌, ◌-◌, ◌∙◌, [], length, drop, refl, arith, length-drop}
 use Rattle.std.proofs.lemmas.List.{length-take}
 use borrow.Rule.Slice.PartMut.{same_len_mid}
-use Rattle.bpf_canon.proofs.InsnLemmas.Recoding.{none_left, none_rewritten, one_swapped}
-use Rattle.bpf_canon.proofs.insn.front.swap_slots.Goals as goal
+use Rattle.bpf_words.proofs.SwappedSlots.{all_swapped, none_rewritten, one_swapped}
+use Rattle.bpf_words.proofs.slot.swap_slots.Goals as goal
 
 pub slots-init : goal.slots-init
 slots-init c = (λ order to other. none_rewritten order to c.args.bytes.now [], omega arith, refl)
@@ -21,5 +21,5 @@ slots-preserved c =
     )
 
 pub returns : goal.returns
-returns c = λ order to insns other file.
-    none_left order to c.args.bytes.now c.slots.bytes c.slots.pos (c.slots.invariant.0 order to other) c.in_default.ensures.cases insns file
+returns c = λ order to slots rest other are.
+    all_swapped order to c.args.bytes.now c.slots.bytes c.slots.pos (c.slots.invariant.0 order to other) c.in_default.ensures.cases slots rest are

@@ -1,7 +1,7 @@
 use Rattle.std.proofs.Common.{◌≡◌, ◌≢◌, ◌≤◌, ◌-◌, [], length, take, drop}
 use Rattle.bpf_words.specs.declared.Order.{Order}
-use Rattle.bpf_canon.proofs.InsnLemmas.Recoding.{Rewrites}
-use Rattle.bpf_canon.proofs.insn.front.swap_slots.Given as goal
+use Rattle.bpf_words.proofs.SwappedSlots.{Rewrites}
+use Rattle.bpf_words.proofs.slot.swap_slots.Given as goal
 
 abbrev pub invariant-slots : goal.invariant-slots
 invariant-slots l =

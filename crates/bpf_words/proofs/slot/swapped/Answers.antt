@@ -1,7 +1,7 @@
 use Rattle.std.proofs.Common.{◌∙◌, refl}
-use Rattle.bpf_insn.proofs.SlotLemmas.{any_slot}
-use Rattle.bpf_canon.proofs.InsnLemmas.SwappedBytes.{slot_swapped}
-use Rattle.bpf_canon.proofs.insn.front.swapped.Goals as goal
+use Rattle.bpf_words.proofs.SlotLemmas.{any_slot}
+use Rattle.bpf_words.proofs.SwappedBytes.{slot_swapped}
+use Rattle.bpf_words.proofs.slot.swapped.Goals as goal
 
 pub returns : goal.returns
 returns c = λ order to other.

@@ -1,12 +1,15 @@
--- Any 8 bytes are the spelling of a slot.
-use Rattle.std.proofs.Common.{◌≡◌, ℕ, ◌^◌, ◌<◌, List, [], ◌∷◌, ◌++◌, length, ap, sym, ◌∙◌, arith}
+-- Any 8 bytes are the spelling of a slot, and a spelling has 8 bytes.
+use Rattle.std.proofs.Common.{◌≡◌, ℕ, ◌^◌, ◌<◌, List, [], ◌∷◌, ◌++◌, length, refl, ap, sym, ◌∙◌, arith}
 use Rattle.std.specs.Int.{w16, w32, cast_unsigned, cast_signed}
 use Rattle.std.proofs.lemmas.Int.{ints, of_z-to_z}
 use Rattle.bpf_words.specs.declared.Order.{Order, TheVariants.Little, TheVariants.Big}
 use Rattle.bpf_words.specs.Words.{IsBytes, word16, word32, word16_at, word32_at}
-use Rattle.bpf_words.specs.Slots.{Fields, AreFields, fields, register_byte, spelled}
+use Rattle.bpf_words.specs.Slots.{Fields, AreFields, dst_half, fields, register_byte, spelled, src_half}
 use Rattle.bpf_words.proofs.WordLemmas.{IsBytes-take, IsBytes-drop, word16-word16_at, word32-word32_at, word32_at-below}
-use Rattle.bpf_insn.specs.Faults.{dst_half, src_half}
+
+pub slot_length : (order : Order) (f : Fields) → length (spelled order f) ≡ 8
+slot_length Little f = refl
+slot_length Big f = refl
 
 halves : (order : Order) (b : ℕ) → register_byte order (dst_half order b) (src_half order b) ≡ b
 halves Little b = omega arith
