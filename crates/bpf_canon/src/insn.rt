@@ -3,6 +3,5 @@
 
 pub(crate) mod canon;
 pub(crate) mod feed;
-pub(crate) mod front;
 pub mod laws;
 pub(crate) mod run;

@@ -24,7 +24,7 @@ mod insn;
 #[cfg(test)]
 mod tests;
 
-pub use bpf_insn::{InsnError, Order};
+pub use bpf_insn::{InsnError, Order, first_fault};
 pub use btf::btf_laws;
 pub use btf::canon::{canon_btf, canonical_in, same_btf};
 pub use btf::run::{BTF_LIMIT, run_btf};
@@ -36,6 +36,5 @@ pub use device::{
 pub use engine::{RunCause, RunError, SideError};
 pub use insn::canon::{canon_insns, recode_insns, same_insns, write_insns};
 pub use insn::feed::InsnFeed;
-pub use insn::front::first_fault;
 pub use insn::laws;
 pub use insn::run::{INSN_LIMIT, run_insns};

@@ -1,10 +1,10 @@
 -- Reading the complete instructions at the start of the bytes in turn.
-use Rattle.std.proofs.Common.{◌≡◌, ◌≤◌, ◌+◌, ◌-◌, ◌*◌, ◌/◌, ◌++◌, ◌∙◌, ℕ, List, [], ◌∷◌, Some, None, length, take, drop, refl, sym, ap, subst, arith, append_assoc, length-append, length-drop}
+use Rattle.std.proofs.Common.{◌≡◌, ◌<◌, ◌≤◌, ◌+◌, ◌-◌, ◌*◌, ◌/◌, ◌++◌, ◌∙◌, ℕ, List, [], ◌∷◌, Option, Some, None, length, take, drop, refl, sym, ap, subst, arith, append_assoc, length-append, length-drop}
 use Rattle.std.proofs.lemmas.List.{drop_all, drop-drop, take_all, Concat.flat_map-append, Elements.All-append, Elements.All-nil}
 use Rattle.bpf_words.specs.declared.Order.{Order}
-use Rattle.bpf_insn.specs.{declared.fault.SlotFault.SlotFault, declared.insn.Insn.Insn, Table.IsInsn, FileSteps.ReadsTo, Fronts.IsInsnFront}
-use Rattle.bpf_insn.specs.{Spelling.file_of, Spelling.spelling, Faults.BeginsWith, Faults.IsSlotFault}
-use Rattle.bpf_insn.proofs.{DecodeLemmas.step, FrontLemmas.empty_begins_none, FrontLemmas.front_of, FrontLemmas.length-at_most_file}
+use Rattle.bpf_insn.specs.{declared.fault.SlotFault.SlotFault, declared.whole_insns.InsnFront.InsnFront, declared.insn.Insn.Insn, Table.IsInsn, FileSteps.ReadsTo, Fronts.IsInsnFront, Fronts.StopsAt}
+use Rattle.bpf_insn.specs.{Spelling.file_of, Spelling.spelling, Faults.BeginsWith, Faults.IsInsnFault, Faults.IsSlotFault}
+use Rattle.bpf_insn.proofs.{DecodeLemmas.step, FrontLemmas.empty_begins_none, FrontLemmas.front_fault, FrontLemmas.front_of, FrontLemmas.length-at_most_file}
 
 pub reads_none : (order : Order) (bytes : List ℕ) → ReadsTo order bytes 0 0
 reads_none order bytes = record { insns = []; spelled = (omega arith, All-nil IsInsn, refl, refl); counted = refl }
@@ -93,3 +93,13 @@ reads_other_and_plain order bytes at n i len plain read one run =
 
 -- how insn_front ends
 pub ruleset front_ends = (stops_at_end, stops_at_fault)
+
+-- the fault that stopped the reading, at its offset in the bytes
+pub read_fault : (o : Order) (bytes : List ℕ) (read : InsnFront) (f : SlotFault) → IsInsnFront o bytes read → read.stop ≡ Some f
+    → read.len < length bytes → IsInsnFault o bytes (record { pos = read.len + f.pos; cause = f.cause })
+read_fault o bytes read f r e some =
+    let P : Option SlotFault → Type 0 = λ x. StopsAt o (drop read.len bytes) x in
+    let slot : IsSlotFault o (drop read.len bytes) f = subst P e r.stops in
+    let size = length-drop read.len bytes in
+    front_fault o bytes r.insns (drop read.len bytes) f (record { pos = read.len + f.pos; cause = f.cause }) r.is
+    (omega (arith, size, some)) slot (omega (arith, size, r.within)) refl

@@ -4,8 +4,10 @@
 //! does nothing else. Nothing is written here: a caller that recodes or decodes the instructions
 //! does so in a second pass, in which none of them can be faulty.
 
-ghost use Rattle.std.specs.Prelude.{◌<◌, ◌/◌, length, IfSome};
-ghost use Rattle.bpf_insn.specs.{FileSteps.ReadsTo, Fronts.IsInsnFront};
+ghost use Rattle.std.specs.Prelude.{◌≡◌, ◌<◌, ◌/◌, List, Some, None, length, IfSome};
+ghost use Rattle.bpf_insn.specs.{declared.fault.SlotFault.SlotFault, declared.insn.Insn.Insn};
+ghost use Rattle.bpf_insn.specs.{FileSteps.ReadsTo, Fronts.IsInsnFront, Faults.IsInsnFault};
+ghost use Rattle.bpf_insn.specs.Spelling.{InsnFile};
 
 use crate::read::{begins_plainly, other_len};
 use crate::{Order, SlotFault};
@@ -59,4 +61,16 @@ pub fn insn_front(order: Order, bytes: &[u8]) -> InsnFront
     }
     let stop = None;
     InsnFront { len, count, stop }
+}
+
+/// The first fault of an instruction file, with its offset in bytes from the start of the file, or
+/// `None` if the file is valid (RFC 9669 section 3).
+pub fn first_fault(order: Order, bytes: &[u8]) -> Option<SlotFault>
+    ensures file { result ≡ None → (l : List Insn) × InsnFile order bytes.now l }
+    ensures fault { (f : SlotFault) → result ≡ Some f → IsInsnFault order bytes.now f }
+{
+    let front = insn_front(order, bytes);
+    let fault = front.stop?;
+    let pos = front.len as u64 + fault.pos;
+    Some(SlotFault { pos, ..fault })
 }

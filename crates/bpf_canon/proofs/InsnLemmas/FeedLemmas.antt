@@ -8,11 +8,11 @@ use Rattle.bpf_insn.specs.declared.fault.{SlotFault.SlotFault, SlotCause.SlotCau
 use Rattle.bpf_insn.specs.declared.decode.InsnError.TheVariants as error
 use Rattle.bpf_insn.specs.{Spelling.InsnFile, Spelling.file_of, Fronts.StopsAt}
 use Rattle.bpf_insn.specs.Faults.{IsFront, IsInsnFault, IsSlotFault}
-use Rattle.bpf_insn.proofs.{FileLaws.fault_within, FrontLemmas.empty_begins_none}
+use Rattle.bpf_insn.proofs.{FileLaws.fault_within, FrontLemmas.empty_begins_none, FrontLemmas.front_fault}
 use Rattle.bpf_canon.specs.insn.FeedState.{FeedState, IsCut, missing_place}
 use Rattle.bpf_canon.specs.insn.FrontReads.{Advances, BeginsNone, Leaves, ReadsFront}
 use Rattle.bpf_canon.specs.insn.FeedStream.{AnswersFor, Feeds, Finishes, Gains, HasFault, IsSound, Keeps, Moves, Represents, end_after, end_of_feed}
-use Rattle.bpf_canon.proofs.InsnLemmas.FrontLaws.{cut_length, front-nil, front_counts, front_fits, front_fault, front_joins, lasting_length, sound_cut, sound_file}
+use Rattle.bpf_canon.proofs.InsnLemmas.FrontLaws.{cut_length, front-nil, front_counts, front_fits, front_joins, lasting_length, sound_cut, sound_file}
 
 -- ---- what is held
 

@@ -6,10 +6,10 @@ use Rattle.bpf_words.specs.{declared.Order.Order}
 use Rattle.bpf_words.proofs.SlotLemmas.{slot_length}
 use Rattle.bpf_insn.specs.declared.{insn.Insn.Insn, fault.SlotFault.SlotFault, fault.SlotCause.SlotCause}
 use Rattle.bpf_insn.specs.declared.fault.SlotCause.TheVariants.{Truncated}
-use Rattle.bpf_insn.specs.{Table.IsInsn, Faults.IsFront, Faults.IsInsnFault, Faults.IsSlotFault}
+use Rattle.bpf_insn.specs.{Table.IsInsn, Faults.IsFront, Faults.IsSlotFault}
 use Rattle.bpf_insn.specs.Spelling.{InsnFile, file_of, spelling}
 use Rattle.bpf_insn.proofs.UniqueLemmas.{one_fault}
-use Rattle.bpf_insn.proofs.FileLaws.{begins_once, file_fault, rests_same}
+use Rattle.bpf_insn.proofs.FileLaws.{begins_once, rests_same}
 use Rattle.bpf_insn.proofs.FrontLemmas.{empty_begins_none, front_of, length-at_most_file, one_front}
 use Rattle.bpf_canon.specs.insn.{FrontReads.BeginsNone, FeedStream.IsSound}
 
@@ -102,10 +102,3 @@ sound_cut o b l rest e front slot same f fault =
     let P : List ℕ → Type 0 = λ r. IsSlotFault o r fault.slot in
     let one = one_fault o rest fault.slot e (subst P once.1 fault.slot_fault) slot in
     fault.cause ∙ ap (λ (x : SlotFault). x.cause) one ∙ same
-
--- the fault of the rest after the complete instructions is that of the bytes
-pub front_fault : (o : Order) (b : List ℕ) (l : List Insn) (rest : List ℕ) (e f : SlotFault) → IsFront o b l rest → 0 < length rest → IsSlotFault o rest e
-    → f.pos + length rest ≡ length b + e.pos → f.cause ≡ e.cause → IsInsnFault o b f
-front_fault o b l rest e f front some slot place cause =
-    file_fault o b l rest e f front.each front.front (λ h. omega (arith, some, ap length h)) slot
-    (omega (arith, place, ap length front.front, length-append (file_of o l) rest)) cause

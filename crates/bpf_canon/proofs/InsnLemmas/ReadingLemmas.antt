@@ -8,20 +8,10 @@ use Rattle.std.proofs.Math.Seq.{drop-append-add, take-append_seam}
 use Rattle.bpf_words.specs.declared.Order.{Order}
 use Rattle.bpf_insn.specs.declared.{insn.Insn.Insn, whole_insns.InsnFront.InsnFront, fault.SlotCause.SlotCause, fault.SlotFault.SlotFault}
 use Rattle.bpf_insn.specs.{Table.IsInsn, Fronts.IsInsnFront, Fronts.StopsAt, Spelling.file_of, Spelling.spelling, Spelling.InsnFile}
-use Rattle.bpf_insn.specs.Faults.{BeginsWith, IsFront, IsInsnFault, IsSlotFault}
+use Rattle.bpf_insn.specs.Faults.{BeginsWith, IsFront, IsSlotFault}
 use Rattle.bpf_insn.proofs.{FrontLemmas.front_of, StayLemmas.slot_fault_stays}
 use Rattle.bpf_canon.specs.insn.FrontReads.{BeginsNone, ReadsFront}
-use Rattle.bpf_canon.proofs.InsnLemmas.FrontLaws.{front_fault, front_fits, front_joins, truncated_or_not}
-
--- the fault that stopped the reading, at its offset in the bytes
-pub read_fault : (o : Order) (bytes : List ℕ) (read : InsnFront) (f : SlotFault) → IsInsnFront o bytes read → read.stop ≡ Some f
-    → read.len < length bytes → IsInsnFault o bytes (record { pos = read.len + f.pos; cause = f.cause })
-read_fault o bytes read f r e some =
-    let P : Option SlotFault → Type 0 = λ x. StopsAt o (drop read.len bytes) x in
-    let slot : IsSlotFault o (drop read.len bytes) f = subst P e r.stops in
-    let size = length-drop read.len bytes in
-    front_fault o bytes r.insns (drop read.len bytes) f (record { pos = read.len + f.pos; cause = f.cause }) r.is
-    (omega (arith, size, some)) slot (omega (arith, size, r.within)) refl
+use Rattle.bpf_canon.proofs.InsnLemmas.FrontLaws.{front_fits, front_joins, truncated_or_not}
 
 -- ---- an instruction that begins in what is held
 

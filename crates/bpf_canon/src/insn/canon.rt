@@ -7,8 +7,7 @@ ghost use Rattle.bpf_canon.specs.insn.Canonical.{IsCanonical, NamesFault, Compar
 
 use crate::engine::SideError;
 use crate::insn::feed::InsnFeed;
-use crate::insn::front::first_fault;
-use bpf_insn::{Insn, InsnError, Order, SlotFault, insn_bytes};
+use bpf_insn::{Insn, InsnError, Order, SlotFault, first_fault, insn_bytes};
 use bpf_words::swapped;
 use std::alloc::{AllocError, Allocator};
 

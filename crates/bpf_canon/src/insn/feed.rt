@@ -1,9 +1,15 @@
-//! Instructions from a stream in pieces.
+//! Instructions from a stream in pieces, read in one byte order and written in another without
+//! decoding (RFC 9669 sections 3 and 4).
 //!
 //! A piece may end inside an instruction, whose bytes, fewer than 16, are held until the next
 //! piece. The rest of a piece isn't copied before it is read: only the instruction that began in an
 //! earlier piece is put together first. The capacity for all that may be written is reserved at the
 //! start, so if memory is refused, nothing has changed and the piece can be fed again.
+//!
+//! Checking and recoding are two passes. The first finds where the complete instructions end, and
+//! makes no values (`insn_front`). Then all their bytes are copied at once and, if the byte orders
+//! differ, rewritten in place (`swap_slots`). In the second slot of a wide load the opcode,
+//! registers and offset are zero, so each slot is rewritten in the same way.
 
 ghost use Rattle.std.specs.Prelude.{◌≡◌, ◌<◌, ◌≤◌, ◌+◌, ◌++◌, ℕ, List, [], None, length, take};
 ghost use Rattle.std.specs.Prelude.{vec_len, vec_capacity, IsErrOf, IsOk, IfSome, IsNone, ⊤};
@@ -13,8 +19,8 @@ ghost use Rattle.bpf_canon.specs.insn.FeedStream.{AnswersFor, Feeds, Finishes, R
 ghost use Rattle.bpf_canon.specs.insn.{FeedStream.end_of_feed, FrontReads.Advances};
 ghost use Rattle.bpf_canon.specs.insn.FrontReads.{ReadsFront};
 
-use crate::insn::front::read_front;
-use bpf_insn::{InsnError, InsnFront, Order, SlotCause, SlotFault};
+use bpf_insn::{InsnError, InsnFront, Order, SlotCause, SlotFault, insn_front};
+use bpf_words::swap_slots;
 use std::alloc::{AllocError, Allocator};
 use std::marker::Model;
 
@@ -230,6 +236,30 @@ impl Clone for InsnFeed {
     fn clone(&self) -> Result<InsnFeed, AllocError> {
         Ok(InsnFeed { ..*self })
     }
+}
+
+/// Reads the complete instructions at the start of `bytes`, and appends each in the byte order
+/// `to`. Their capacity is reserved.
+#[tactic(auto, using(crate::proofs::InsnLemmas::ReadingLemmas::front_recoded))]
+fn read_front<A: Allocator>(
+    order: Order,
+    to: Order,
+    bytes: &[u8],
+    out: &mut Vec<u8, A>,
+) -> InsnFront
+    requires { vec_len out.old + length bytes.now ≤ vec_capacity out.old }
+    ensures read { ReadsFront order to bytes.now result out.old.items out.new.items }
+    ensures len { vec_len out.new ≡ vec_len out.old + result.len }
+    ensures capacity { vec_capacity out.old ≤ vec_capacity out.new }
+{
+    let read = insn_front(order, bytes);
+    let start = out.len();
+    // All slots are copied at once, and then rewritten in place.
+    let _ = out.extend_from_slice(&bytes[..read.len]);
+    if order != to {
+        swap_slots(&mut out[start..]);
+    }
+    read
 }
 
 /// Copies bytes into an array after its first `kept` ones, and returns the new number of bytes.

@@ -4,7 +4,7 @@ use Rattle.bpf_insn.specs.Spelling.{InsnFile, file_of}
 use Rattle.bpf_canon.proofs.InsnLemmas.FrontLaws.{length-file_same}
 use Rattle.bpf_canon.proofs.InsnLemmas.ReadingLemmas.{front_recoded}
 use Rattle.bpf_canon.proofs.InsnLemmas.Recoding.{appended_part, appended_in_place, file_slots, slots_file, slots_of_file}
-use Rattle.bpf_canon.proofs.insn.front.read_front.Goals as goal
+use Rattle.bpf_canon.proofs.insn.feed.read_front.Goals as goal
 
 pub returns-then-ne-clause-read : goal.returns-then-ne-clause-read
 returns-then-ne-clause-read g c =

@@ -1,7 +1,7 @@
 use Rattle.std.proofs.Common.{◌≡◌, ◌<◌, ◌+◌, Option, Some, IfSome, length, subst}
 use Rattle.bpf_insn.specs.{declared.fault.SlotFault.SlotFault, Faults.IsInsnFault}
-use Rattle.bpf_canon.proofs.InsnLemmas.ReadingLemmas.{read_fault}
-use Rattle.bpf_canon.proofs.insn.front.first_fault.Goals as goal
+use Rattle.bpf_insn.proofs.FrontSteps.{read_fault}
+use Rattle.bpf_insn.proofs.whole_insns.first_fault.Goals as goal
 
 pub returns-clause-fault : goal.returns-clause-fault
 returns-clause-fault c = λ f e.
