@@ -7,7 +7,7 @@
 //!
 //! The two offsets count from the end of the header, which is at hdr_len.
 
-ghost use Rattle.std.specs.Prelude.{◌≡◌, ◌<◌, length, IfErr, MatchResult};
+ghost use Rattle.std.specs.Prelude.{◌<◌, length, IfErr, MatchResult};
 ghost use Rattle.btf_raw.specs.Header.{HeaderFault, StringFault, HasNulEnds};
 ghost use Rattle.btf_raw.specs.ReadHeader as spec;
 ghost use Rattle.btf_raw.specs.Cause.{LeastByCause, HasNone};
@@ -43,16 +43,6 @@ pub const TYPES_LIMIT: usize = 33_554_432;
 /// The maximum length of the string section in bytes.
 pub const STRINGS_LIMIT: usize = 16_777_216;
 
-/// A fault at an offset: of the file, of the string section or, in `records.rt`, of the type
-/// section.
-pub(crate) fn fault(pos: usize, cause: BtfCause) -> BtfFault
-    ensures pos { result.pos ≡ pos }
-    ensures cause { result.cause ≡ cause }
-{
-    let pos = pos as u64;
-    BtfFault { pos, cause }
-}
-
 /// Checks the first and the last byte of a string section, which must not be empty (btf.rst section
 /// 2.1).
 ///
@@ -68,11 +58,11 @@ pub fn check_strings(strings: &[u8]) -> Result<(), BtfFault>
     ensures inside { IfErr result (λ fault. fault.pos < length strings.now) }
 {
     if strings[0] != 0 {
-        return Err(fault(0, BtfCause::FirstString));
+        return Err(BtfFault::at(0, BtfCause::FirstString));
     }
     let last = strings.len() - 1;
     if strings[last] != 0 {
-        return Err(fault(last, BtfCause::LastString));
+        return Err(BtfFault::at(last, BtfCause::LastString));
     }
     Ok(())
 }
@@ -85,28 +75,28 @@ fn start_of(bytes: &[u8]) -> Result<(Order, usize), BtfFault>
         (λ fault. LeastByCause (HeaderFault bytes.now) fault.pos fault.cause) }
 {
     if bytes.len() < 24 {
-        return Err(fault(bytes.len(), BtfCause::ShortHeader));
+        return Err(BtfFault::at(bytes.len(), BtfCause::ShortHeader));
     }
     let order = if get16(Order::Little, bytes, 0) == MAGIC {
         Order::Little
     } else if get16(Order::Big, bytes, 0) == MAGIC {
         Order::Big
     } else {
-        return Err(fault(0, BtfCause::Magic));
+        return Err(BtfFault::at(0, BtfCause::Magic));
     };
     if bytes[2] != 1 {
-        return Err(fault(2, BtfCause::Version));
+        return Err(BtfFault::at(2, BtfCause::Version));
     }
     if bytes[3] != 0 {
-        return Err(fault(3, BtfCause::Flags));
+        return Err(BtfFault::at(3, BtfCause::Flags));
     }
     let len = get32(order, bytes, 4) as usize;
     if len < 24 || len > HEADER_LIMIT || len > bytes.len() {
-        return Err(fault(4, BtfCause::HeaderLength));
+        return Err(BtfFault::at(4, BtfCause::HeaderLength));
     }
     for pos in 24..len {
         if bytes[pos] != 0 {
-            return Err(fault(pos, BtfCause::HeaderTail));
+            return Err(BtfFault::at(pos, BtfCause::HeaderTail));
         }
     }
     Ok((order, len))
@@ -131,17 +121,17 @@ pub fn read_header(bytes: &[u8]) -> Result<Header, BtfFault>
     let str_off = get32(order, bytes, 16) as usize;
     let str_len = get32(order, bytes, 20) as usize;
     if types_len > TYPES_LIMIT {
-        return Err(fault(12, BtfCause::TypeLength));
+        return Err(BtfFault::at(12, BtfCause::TypeLength));
     }
     if str_len == 0 || str_len > STRINGS_LIMIT {
-        return Err(fault(20, BtfCause::StringLength));
+        return Err(BtfFault::at(20, BtfCause::StringLength));
     }
     if !(type_off == 0 && str_off == types_len) && !(str_off == 0 && type_off == str_len) {
-        return Err(fault(8, BtfCause::Sections));
+        return Err(BtfFault::at(8, BtfCause::Sections));
     }
     let whole = header_len + types_len + str_len;
     if whole != bytes.len() {
-        return Err(fault(whole.min(bytes.len()), BtfCause::FileLength));
+        return Err(BtfFault::at(whole.min(bytes.len()), BtfCause::FileLength));
     }
     Ok(Header {
         order,

@@ -5,14 +5,14 @@ use Rattle.btf_raw.proofs.records.next_head.Goals as goal
 
 pub returns-in-Some-clause-cases : goal.returns-in-Some-clause-cases
 returns-in-Some-clause-cases c =
-    rw c.fault-in-Some.ensures.cause
-    (least_of_info c.args.order c.args.types.now c.args.pos _ c.in-Some.cause (omega arith) c.fault-in-Some.ensures.pos
+    rw c.at-in-Some.ensures.cause
+    (least_of_info c.args.order c.args.types.now c.args.pos _ c.in-Some.cause (omega arith) c.at-in-Some.ensures.pos
     (rw c.get32-info.ensures.value at c.in-Some.ensures))
 
 pub returns-then-left-tail_len-clause-cases : goal.returns-then-left-tail_len-clause-cases
 returns-then-left-tail_len-clause-cases c =
     let info = info_at c.args.order c.args.types.now c.args.pos in
     let words : c.tail_words-tail_len.result ≡ tail_words (kind_of info) (vlen_of info) = cc in
-    rw c.fault-then-left-tail_len.ensures.cause
-    (tail_cut c.args.order c.args.types.now c.args.pos _ (omega arith) c.fault-then-left-tail_len.ensures.pos
+    rw c.at-then-left-tail_len.ensures.cause
+    (tail_cut c.args.order c.args.types.now c.args.pos _ (omega arith) c.at-then-left-tail_len.ensures.pos
     (rw c.get32-info.ensures.value at c.in_default.ensures) (omega arith))
