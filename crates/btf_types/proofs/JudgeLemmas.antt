@@ -8,6 +8,7 @@ pub mod Judging
 pub mod NameSteps
 pub mod PhaseSteps
 pub mod Roles
+pub mod SectionSteps
 pub mod RoleSteps
 pub mod WordSteps
 pub mod Utf8Steps

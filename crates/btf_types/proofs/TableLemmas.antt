@@ -1,5 +1,4 @@
 -- Lemmas on tables.
-pub mod SectionSteps
 pub mod TableReads
 pub mod TableSteps
 pub mod TableWalk

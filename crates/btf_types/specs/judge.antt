@@ -3,4 +3,5 @@ pub mod Checks
 pub mod FieldFaults
 pub mod NameFaults
 pub mod RecordFaults
+pub mod SectionParts
 pub mod Texts

@@ -7,4 +7,3 @@ pub mod PlaceWords
 pub mod TableSections
 pub mod StringEnds
 pub mod Windows
-pub mod SectionParts

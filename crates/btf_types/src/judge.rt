@@ -5,4 +5,5 @@ pub(crate) mod checks;
 pub(crate) mod fields;
 pub(crate) mod items;
 pub(crate) mod references;
+pub(crate) mod section;
 pub(crate) mod utf8;

@@ -4,7 +4,6 @@ mod items;
 mod owned;
 mod places;
 mod records;
-pub(crate) mod section;
 mod section_table;
 mod string_ends;
 pub(crate) mod table;

@@ -3,11 +3,11 @@ use Rattle.std.proofs.Common.{◌≡◌, ◌⊎◌, ℕ, zero, suc, ◌+◌, ◌
 use Rattle.std.specs.{Prelude.slice_get, Prelude.slice_index, List.concat}
 use Rattle.std.proofs.lemmas.{Bool.cases_lt, List.length-map, Option.slice_get_within}
 use Rattle.btf_raw.specs.{declared.cause.BtfCause.BtfCause, Cause.number_of, Cause.HasNone, Cause.LeastByPlace}
-use Rattle.btf_types.specs.{declared.tables.section.Section.TheInside.Inside, Reading.frame_at, Sections.facts_in}
+use Rattle.btf_types.specs.{declared.judge.section.Section.TheInside.Inside, Reading.frame_at, Sections.facts_in}
 use Rattle.btf_types.specs.judge.FieldFaults.{WordFault, FieldFault, frame_facts}
 use Rattle.btf_types.specs.judge.RecordFaults.{IsFaultless, LeastOfRecord}
-use Rattle.btf_types.specs.tables.SectionParts.{IsSection, words_in}
-use Rattle.btf_types.proofs.TableLemmas.SectionSteps.{nth_frame, frame_get, starts_in}
+use Rattle.btf_types.specs.judge.SectionParts.{IsSection, words_in}
+use Rattle.btf_types.proofs.JudgeLemmas.SectionSteps.{nth_frame, frame_get, starts_in}
 
 -- the offsets at which the i-th list begins and ends in the concatenation
 abbrev start : List (List ℕ) → ℕ → ℕ

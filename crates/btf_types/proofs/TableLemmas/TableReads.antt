@@ -10,7 +10,7 @@ use Rattle.btf_types.specs.{Values.TypeRecord, judge.FieldFaults.frame_facts}
 use Rattle.btf_types.specs.{Spelling.Spells, Spelling.HeadInRange}
 use Rattle.btf_types.specs.tables.{TableInvariant.IsTable, PlaceWords.HasRecordAt}
 use Rattle.btf_types.proofs.Lists.{length-tabulate, get-map, zip_at}
-use Rattle.btf_types.proofs.TableLemmas.{SectionSteps.ends_inside, TextSteps.text_there}
+use Rattle.btf_types.proofs.{JudgeLemmas.SectionSteps.ends_inside, TableLemmas.TextSteps.text_there}
 use Rattle.btf_types.specs.Reading.{text_from, frame_at, frames_at, record_of, records_at, item_of, item_total, head_from, head_of, component_of}
 use Rattle.btf_types.proofs.FaultlessLemmas.{Faultless.faultless, ItemReads.item_names_there}
 

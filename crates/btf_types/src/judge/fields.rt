@@ -15,9 +15,9 @@ use crate::error::BtfError;
 use crate::judge::checks::{int_fault, linkage_fault, second_fault};
 use crate::judge::items::{entries_fault, members_fault, params_fault, values_fault};
 use crate::judge::references::{component_fault, name_fault, named_type_fault, third_fault};
+use crate::judge::section::Section;
 use crate::judge::utf8::marks_unless_utf8;
 use crate::record_words::Record;
-use crate::tables::section::Section;
 use crate::tables::table::FileSections;
 use btf_raw::{
     ARRAY, BtfCause, BtfFault, DATASEC, DECL_TAG, ENUM, ENUM64, FUNC_PROTO, INT, STRUCT, UNION, VAR,

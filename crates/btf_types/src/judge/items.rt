@@ -10,8 +10,8 @@ ghost use Rattle.btf_types.specs.judge.RecordFaults.{FirstWithin};
 
 use crate::judge::checks::{bit_offset_of, member_place_fault, width_of};
 use crate::judge::references::{item_name_fault, member_type_fault, named_type_fault};
+use crate::judge::section::Section;
 use crate::record_words::Record;
-use crate::tables::section::Section;
 use btf_raw::{BtfCause, DATASEC, FUNC_PROTO};
 
 /// The index of the first faulty field in the members of a STRUCT or UNION, and its cause. The size

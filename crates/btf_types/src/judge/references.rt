@@ -7,8 +7,8 @@ ghost use Rattle.btf_types.specs.judge.NameFaults as faults;
 ghost use Rattle.btf_types.specs.judge.Checks as spec;
 
 use crate::judge::checks::size_fits;
+use crate::judge::section::Section;
 use crate::judge::utf8::is_utf8;
-use crate::tables::section::Section;
 use btf_raw::info::{has_no_name, has_target, needs_name};
 use btf_raw::{
     ARRAY, BtfCause, DATASEC, DECL_TAG, FUNC, FUNC_PROTO, FWD, INT, STRUCT, TYPEDEF, UNION, VAR,
@@ -94,7 +94,7 @@ pub fn named_type_fault(section: &Section, kind: u8, target: u32) -> Option<BtfC
 
 /// Whether a member may have this type if its record has bit-fields: it isn't an INT, or it is an
 /// INT with offset 0 and 8, 16, 32, 64 or 128 bits.
-#[tactic(auto, using(crate::proofs::TableLemmas::SectionSteps::int_has_word))]
+#[tactic(auto, using(crate::proofs::JudgeLemmas::SectionSteps::int_has_word))]
 fn member_int_fits(section: &Section, target: u32) -> bool
     ensures { result ≡ spec.member_int_fits (facts_in section.now) target }
 {

@@ -1,6 +1,6 @@
 use Rattle.std.proofs.Common.{arith}
 use Rattle.btf_types.proofs.JudgeLemmas.FieldSteps.{no_field_fault, first_in_section, faultless_more}
-use Rattle.btf_types.proofs.TableLemmas.SectionSteps.{has_frame}
+use Rattle.btf_types.proofs.JudgeLemmas.SectionSteps.{has_frame}
 use Rattle.btf_types.proofs.judge.fields.first_field_fault.Goals as goal
 
 pub record_at-this-requires : goal.record_at-this-requires

@@ -1,6 +1,6 @@
 use Rattle.std.proofs.Common.{ℕ, ◌<◌}
-use Rattle.btf_types.specs.{judge.RecordFaults.IsFaultlessIn, tables.SectionParts.words_in}
-use Rattle.btf_types.proofs.TableLemmas.SectionSteps.{nth_frame}
+use Rattle.btf_types.specs.{judge.RecordFaults.IsFaultlessIn, judge.SectionParts.words_in}
+use Rattle.btf_types.proofs.JudgeLemmas.SectionSteps.{nth_frame}
 use Rattle.btf_types.proofs.judge.fields.first_field_fault.Given as goal
 
 abbrev pub invariant-loop-i : goal.invariant-loop-i

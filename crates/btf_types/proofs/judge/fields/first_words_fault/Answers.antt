@@ -5,7 +5,7 @@ use Rattle.btf_types.specs.judge.{Checks.NoCause, Checks.SecondFault, NameFaults
 use Rattle.btf_types.proofs.JudgeLemmas.Roles.{OwnName, Info, Third}
 use Rattle.btf_types.proofs.JudgeLemmas.RecordSteps.{none_yet, first_at, none_at, field_answer}
 use Rattle.btf_types.proofs.JudgeLemmas.WordRoles.{name_has_role, info_has_role, third_has_role}
-use Rattle.btf_types.proofs.TableLemmas.SectionSteps.{three_words}
+use Rattle.btf_types.proofs.JudgeLemmas.SectionSteps.{three_words}
 use Rattle.btf_types.proofs.judge.fields.first_words_fault.Goals as goal
 
 -- a name without a fault, and info after it

@@ -1,8 +1,7 @@
 //! The sections of a file whose framing is valid, and what the checks of one record need of
 //! another. This is read at the other record's offset, so a reference may point forward.
 //!
-//! Only the checks of fields use it (`judge/`). A table, whose fields have been checked, reads its
-//! records by `FileSections`.
+//! A table, whose fields have been checked, reads its records by `FileSections`.
 
 ghost use Rattle.std.specs.Prelude.{◌≡◌, length, MatchOption};
 ghost use Rattle.btf_raw.specs.Frames.{IsFrame};
@@ -27,7 +26,7 @@ impl<'a> Model for Section<'a> {
 
     ghost Value = { SectionWords };
 
-    ghost use Rattle.btf_types.specs.tables.SectionParts.{words_in, IsSection};
+    ghost use Rattle.btf_types.specs.judge.SectionParts.{words_in, IsSection};
 
     ghost view = { words_in };
 
@@ -36,7 +35,7 @@ impl<'a> Model for Section<'a> {
 
 impl<'a> Section<'a> {
     /// The record of the type with this ID, or `None` for void and for a type that doesn't exist.
-    #[tactic(auto, using(crate::proofs::TableLemmas::SectionSteps::types_of_section))]
+    #[tactic(auto, using(crate::proofs::JudgeLemmas::SectionSteps::types_of_section))]
     pub fn record(&self, id: u32) -> Option<Record<'a>>
         ensures { MatchOption result (type_at (facts_in self.now) id ≡ no_type)
             (λ this. IsFrame this × (type_at (facts_in self.now) id ≡ frame_facts this)) }

@@ -2,7 +2,7 @@
 -- The parts of a section whose framing is valid.
 use Rattle.std.specs.Prelude.{◌^◌, ◌≤◌, length}
 use Rattle.btf_raw.specs.Header.{HasNulEnds}
-use Rattle.btf_types.specs.declared.tables.section.Section.TheInside.{Inside}
+use Rattle.btf_types.specs.declared.judge.section.Section.TheInside.{Inside}
 use Rattle.btf_types.specs.{judge.Texts.HasMarks, Sections.SectionWords, Reading.frames_at, tables.TableInvariant.IsFramed}
 
 -- the strings, and the frames at the kept offsets

@@ -7,9 +7,9 @@ use Rattle.btf_raw.specs.{KindNumbers.INT, Kinds.tail_words, Kinds.fixed_words, 
 use Rattle.btf_raw.specs.Frames.{IsFrame, bytes_of, section_of, kind}
 use Rattle.btf_raw.proofs.Frames.{length-bytes_of}
 use Rattle.btf_types.proofs.Lists.{get-map}
-use Rattle.btf_types.specs.{declared.tables.section.Section.TheInside.Inside, Reading.frame_at}
+use Rattle.btf_types.specs.{declared.judge.section.Section.TheInside.Inside, Reading.frame_at}
 use Rattle.btf_types.specs.{judge.Checks.type_at, judge.FieldFaults.frame_facts, Sections.HasFrame, Sections.frame_of, Sections.facts_in}
-use Rattle.btf_types.specs.tables.SectionParts.{IsSection, words_in}
+use Rattle.btf_types.specs.judge.SectionParts.{IsSection, words_in}
 
 -- the frame of the i-th record, from 0
 abbrev pub nth_frame : Inside → ℕ → List ℕ
