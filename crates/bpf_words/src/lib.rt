@@ -12,7 +12,7 @@ mod words;
 
 pub use order_name::ParseOrderError;
 pub use slot::{Slot, slot_bytes, slot_of, swap_slots, swapped};
-pub use words::{get16, get32, push16, push32};
+pub use words::{get16, get32, push_words, push16, push32};
 
 /// The byte order of a file: whether the least significant byte of a word is its first or its last.
 ///

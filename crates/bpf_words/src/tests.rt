@@ -1,8 +1,8 @@
 //! Words and slots in both orders, and growths that are refused.
 
 use crate::{
-    Order, ParseOrderError, Slot, get16, get32, push16, push32, slot_bytes, slot_of, swap_slots,
-    swapped,
+    Order, ParseOrderError, Slot, get16, get32, push_words, push16, push32, slot_bytes, slot_of,
+    swap_slots, swapped,
 };
 use bumpalo::Bump;
 use std::alloc::{AllocError, Allocator, Global};
@@ -15,14 +15,15 @@ fn equal<T: PartialEq + Debug>(rt: &impl Abort, value: &T, wanted: &T, case: &im
     assert_eq!(rt; value, wanted, "{case:?}");
 }
 
-/// A 16- or 32-bit value with its bytes.
+/// A 16- or 32-bit value, or two of the latter.
 #[derive(Clone, Copy, Debug, PartialEq, Eq)]
 enum Word {
     Half(u16),
     Whole(u32),
+    Pair([u32; 2]),
 }
 
-/// A value of either size, and its bytes in one of the byte orders.
+/// A value, and its bytes in one of the byte orders.
 #[derive(Clone, Copy, Debug)]
 struct WordRow {
     order: Order,
@@ -31,7 +32,7 @@ struct WordRow {
 }
 
 #[rattlefmt::skip]
-const WORDS: [WordRow; 12] = [
+const WORDS: [WordRow; 14] = [
     WordRow { order: Order::Big, word: Word::Half(0x0203), bytes: b"\x02\x03" },
     WordRow { order: Order::Little, word: Word::Half(0x0203), bytes: b"\x03\x02" },
     WordRow { order: Order::Big, word: Word::Half(0xeb9f), bytes: b"\xeb\x9f" },
@@ -44,6 +45,8 @@ const WORDS: [WordRow; 12] = [
     WordRow { order: Order::Big, word: Word::Whole(0x8000_0001), bytes: b"\x80\0\0\x01" },
     WordRow { order: Order::Little, word: Word::Whole(0), bytes: b"\0\0\0\0" },
     WordRow { order: Order::Big, word: Word::Whole(0xffff_ffff), bytes: b"\xff\xff\xff\xff" },
+    WordRow { order: Order::Little, word: Word::Pair([0x0405_0607, 24]), bytes: b"\x07\x06\x05\x04\x18\0\0\0" },
+    WordRow { order: Order::Big, word: Word::Pair([0x0405_0607, 24]), bytes: b"\x04\x05\x06\x07\0\0\0\x18" },
 ];
 
 /// Where values are appended, and where they are read.
@@ -53,6 +56,7 @@ fn push<A: Allocator>(out: &mut Vec<u8, A>, order: Order, word: Word) -> Result<
     match word {
         Word::Half(value) => push16(out, order, value),
         Word::Whole(value) => push32(out, order, value),
+        Word::Pair(values) => push_words(out, order, &values),
     }
 }
 
@@ -62,6 +66,10 @@ fn read(order: Order, bytes: &[u8], pos: usize, like: Word) -> Option<Word> {
     match like {
         Word::Half(_) if left >= 2 => Some(Word::Half(get16(order, bytes, pos))),
         Word::Whole(_) if left >= 4 => Some(Word::Whole(get32(order, bytes, pos))),
+        Word::Pair(_) if left >= 8 => {
+            let second = get32(order, bytes, pos + 4);
+            Some(Word::Pair([get32(order, bytes, pos), second]))
+        }
         _ => None,
     }
 }

@@ -8,6 +8,7 @@
 //! or of a record once, and need no result for each word that they then read.
 
 ghost use Rattle.std.specs.Prelude.{◌≡◌, ◌+◌, ◌≤◌, ◌++◌, length, slice_range, OnOk, OnErr};
+ghost use Rattle.std.specs.List.{flat_map};
 ghost use Rattle.bpf_words.specs.Words.{word16, word16_at, word32, word32_at};
 
 use crate::Order;
@@ -84,4 +85,29 @@ pub fn push32<A: Allocator>(
         Order::Big => BigEndian::write_u32(&mut word, value),
     }
     out.extend_from_slice(&word)
+}
+
+/// Appends the bytes of up to six 32-bit words in the byte order `order`, with one reservation
+/// (btf.rst section 2).
+///
+/// # Errors
+///
+/// `AllocError` if the vector couldn't grow; it is then unchanged.
+#[inline(always)]
+pub fn push_words<A: Allocator>(
+    out: &mut Vec<u8, A>,
+    order: Order,
+    words: &[u32],
+) -> Result<(), AllocError>
+    requires { length words.now ≤ 6 }
+    ensures ok { OnOk result (out.new.items ≡ out.old.items ++ flat_map (word32 order) words.now) }
+    ensures err { OnErr result (out.new.items ≡ out.old.items) }
+{
+    let mut room = [0; 24];
+    let bytes = &mut room[..4 * words.len()];
+    match order {
+        Order::Little => LittleEndian::write_u32_into(words, bytes),
+        Order::Big => BigEndian::write_u32_into(words, bytes),
+    }
+    out.extend_from_slice(bytes)
 }

@@ -1,19 +1,18 @@
 //! The encoding of the header of a file and of the head of a record (btf.rst section 2).
 
-ghost use Rattle.std.specs.Prelude.{◌≡◌, ◌<◌, ◌^◌, ◌≤◌, ◌++◌, OnOk, length};
-ghost use Rattle.btf_raw.specs.{Header.header, Frames.bytes_of};
+ghost use Rattle.std.specs.Prelude.{◌≡◌, ◌<◌, ◌^◌, ◌++◌, OnOk};
+ghost use Rattle.btf_raw.specs.Header.{header};
 ghost use Rattle.btf_types.specs.Values.{head_value};
 ghost use Rattle.btf_types.specs.Spelling as spec;
 ghost use Rattle.bpf_canon.specs.btf.CanonicalBtf.{canonical_flag};
 ghost use Rattle.bpf_canon.specs.btf.write.BtfWords as heads;
 
-use bpf_words::{Order, push16};
+use bpf_words::{Order, push_words, push16};
 use btf_raw::{
     ARRAY, CONST, DATASEC, DECL_TAG, ENUM, ENUM64, FLOAT, FUNC, FUNC_PROTO, FWD, INT, PTR,
     RESTRICT, STRUCT, TYPE_TAG, TYPEDEF, UNION, VAR, VOLATILE,
 };
 use btf_types::Head;
-use byteorder::{BigEndian, ByteOrder, LittleEndian};
 use std::alloc::{AllocError, Allocator};
 
 /// The number of a record's kind, and its third word (btf.rst section 2.2).
@@ -73,25 +72,6 @@ pub(crate) fn head_vlen(head: Head<'_>, count: u32) -> u32
         Head::KFunc { linkage, .. } => linkage.number(),
         _ => count,
     }
-}
-
-/// Appends up to six `u32` values with one reservation.
-#[inline(always)]
-pub(crate) fn push_words<A: Allocator>(
-    out: &mut Vec<u8, A>,
-    order: Order,
-    words: &[u32],
-) -> Result<(), AllocError>
-    requires { length words.now ≤ 6 }
-    ensures { OnOk result (out.new.items ≡ out.old.items ++ bytes_of order words.now) }
-{
-    let mut room = [0; 24];
-    let bytes = &mut room[..4 * words.len()];
-    match order {
-        Order::Little => LittleEndian::write_u32_into(words, bytes),
-        Order::Big => BigEndian::write_u32_into(words, bytes),
-    }
-    out.extend_from_slice(bytes)
 }
 
 /// Appends the 24-byte header (btf.rst section 2): magic, version 1, flags 0, hdr_len, type_off 0,

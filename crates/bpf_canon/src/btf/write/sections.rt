@@ -18,8 +18,8 @@ ghost use Rattle.bpf_canon.specs.btf.write.SectionRecords as spec;
 
 use crate::btf::strings::shared_places::SharedPlaces;
 use crate::btf::strings::used_offsets::FirstUses;
-use crate::btf::write::head_words::{push_header, push_words};
-use bpf_words::{Order, push32};
+use crate::btf::write::head_words::push_header;
+use bpf_words::{Order, push_words, push32};
 use btf_raw::info::{flag_of, has_item_names, is_struct, item_words, tail_words};
 use btf_types::{FileSections, Record};
 use std::alloc::{AllocError, Allocator};

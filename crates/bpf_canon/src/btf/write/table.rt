@@ -17,11 +17,9 @@ ghost use Rattle.btf_types.specs.Names as spec;
 ghost use Rattle.btf_types.specs.Good as good;
 
 use crate::btf::names::{SharedNames, kept_names};
-use crate::btf::write::head_words::{
-    head_vlen, kind_and_third, kind_flag, push_header, push_words,
-};
+use crate::btf::write::head_words::{head_vlen, kind_and_third, kind_flag, push_header};
 use crate::btf::write::sections::write_sections;
-use bpf_words::Order;
+use bpf_words::{Order, push_words};
 use btf_types::{Head, Item, TypeTable};
 use std::alloc::{AllocError, Allocator};
 

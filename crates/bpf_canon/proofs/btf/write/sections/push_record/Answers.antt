@@ -23,7 +23,7 @@ front g c =
     let f = c.args.this.now in
     let place : List ℕ → ℕ = placed c.args.names.now in
     let at : c.place-name.result ≡ place (text_from strings (name_word f)) = c.place-name.ensures ∙ ap (λ (w : ℕ). place (text_from strings w)) c.word.ensures in
-    ap (λ (t : List ℕ). t ++ bytes_of c.args.to (record_tail place (record_of strings f))) c.in_ok-push_words.ensures
+    ap (λ (t : List ℕ). t ++ bytes_of c.args.to (record_tail place (record_of strings f))) c.in_ok-push_words.ensures.ok
     ∙ record_pushed c.args.to c.args.out.now.items place strings f c.place-name.result c.canonical_info.result c.word-2.result
     c.requires.reads.ends c.requires.reads.spelled at (c.canonical_info.ensures strings c.requires.reads) c.word-2.ensures
 
@@ -100,11 +100,11 @@ loop-k-preserved g c =
     let third : from + 2 ≡ 5 + size * c.loop-k.k = omega arith in
     let pushed : c.if-size-eq2.out.items ≡ c.loop-k.out.items ++ bytes_of c.args.to (take size (name ∷ b ∷ d ∷ [])) = elim c.if-size-eq2.branch [
       | then-size-eq2+in_ok-push_words-2 w ↦
-          ap (λ v. v.items) w.out-is ∙ w.in_ok-push_words-2.ensures
+          ap (λ v. v.items) w.out-is ∙ w.in_ok-push_words-2.ensures.ok
           ∙ ap (λ (t : List ℕ). c.loop-k.out.items ++ bytes_of c.args.to t) (ap (λ (n : ℕ). name ∷ n ∷ []) c.word-second.ensures ∙ sym (ap (λ (n : ℕ). take n (name ∷ b ∷ d ∷ [])) w.if-size-eq2.true))
       | else-size-eq2+in_ok-push_words-3 w ↦
           let three : size ≡ 3 = elim (item_size f size c.vlen-vlen.result c.requires.reads.frame items) [ inl e ↦ absurd (w.if-size-eq2.false e) | inr e ↦ e ] in
-          ap (λ v. v.items) w.out-is ∙ w.in_ok-push_words-3.ensures
+          ap (λ v. v.items) w.out-is ∙ w.in_ok-push_words-3.ensures.ok
           ∙ ap (λ (t : List ℕ). c.loop-k.out.items ++ bytes_of c.args.to t) (ap (λ (n : ℕ). name ∷ n ∷ w.word-else-size-eq2.result ∷ []) c.word-second.ensures
           ∙ ap (λ (n : ℕ). name ∷ b ∷ n ∷ []) w.word-else-size-eq2.ensures ∙ sym (ap (λ (n : ℕ). take n (name ∷ b ∷ d ∷ [])) three))
     ] in
