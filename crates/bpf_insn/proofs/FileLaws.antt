@@ -7,7 +7,7 @@ use Rattle.bpf_words.specs.{declared.Order.Order, Words.word32, Slots.Fields, Sl
 use Rattle.bpf_words.proofs.OneSpelling.{same_fields, word-injective_32, signed_32, pattern_fits_32}
 use Rattle.bpf_insn.specs.Table.{fields_of, next_imm_of, IsInsn}
 use Rattle.bpf_insn.specs.Spelling.{spelling, second_slot, file_of, InsnFile}
-use Rattle.bpf_insn.specs.Faults.{BeginsWith, IsSlotFault, IsInsnFault}
+use Rattle.bpf_insn.specs.Faults.{BeginsWith, IsSlotFault, IsInsnFault, moved_by}
 use Rattle.bpf_insn.proofs.FormLemmas.{insn_form, same_form, opcode_of_form}
 use Rattle.bpf_insn.proofs.FieldLemmas as field
 use Rattle.bpf_words.proofs.SlotLemmas.{slot_length}
@@ -138,8 +138,8 @@ one_list order bytes xs ys a b = (whole_front order xs ys [] a.0 b.0 (append-nil
 
 -- if the bytes after a sequence of spellings don't begin with a spelling and aren't empty, their fault is that of the file
 pub file_fault : (order : Order) (bytes : List ℕ) (xs : List Insn) (rest : List ℕ) (fault reported : SlotFault) → All IsInsn xs → bytes ≡ file_of order xs ++ rest → rest ≢ []
-    → IsSlotFault order rest fault → reported.pos ≡ length (file_of order xs) + fault.pos → reported.cause ≡ fault.cause → IsInsnFault order bytes reported
-file_fault order bytes xs rest fault reported h e ne f p c =
+    → IsSlotFault order rest fault → reported ≡ moved_by (length (file_of order xs)) fault → IsInsnFault order bytes reported
+file_fault order bytes xs rest fault reported h e ne f m =
     let longest : (others : List Insn) (more : List ℕ) → All IsInsn others → bytes ≡ file_of order others ++ more → length others ≤ length xs =
     λ others more ho eo. longest_front order xs others rest more h ho (sym e ∙ eo) f.unspelled in
     record {
@@ -149,8 +149,7 @@ file_fault order bytes xs rest fault reported h e ne f p c =
       front = record { each = h; front = e; longest = longest };
       slot = fault;
       slot_fault = f;
-      pos = p;
-      cause = c;
+      moved = m;
     }
 
 -- the offset of a fault is within the bytes

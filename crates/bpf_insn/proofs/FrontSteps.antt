@@ -3,7 +3,7 @@ use Rattle.std.proofs.Common.{◌≡◌, ◌<◌, ◌≤◌, ◌+◌, ◌-◌, �
 use Rattle.std.proofs.lemmas.List.{drop_all, drop-drop, take_all, Concat.flat_map-append, Elements.All-append, Elements.All-nil}
 use Rattle.bpf_words.specs.declared.Order.{Order}
 use Rattle.bpf_insn.specs.{declared.fault.SlotFault.SlotFault, declared.whole_insns.InsnFront.InsnFront, declared.insn.Insn.Insn, Table.IsInsn, FileSteps.ReadsTo, Fronts.IsInsnFront, Fronts.StopsAt}
-use Rattle.bpf_insn.specs.{Spelling.file_of, Spelling.spelling, Faults.BeginsWith, Faults.IsInsnFault, Faults.IsSlotFault}
+use Rattle.bpf_insn.specs.{Spelling.file_of, Spelling.spelling, Faults.BeginsWith, Faults.IsInsnFault, Faults.IsSlotFault, Faults.moved_by}
 use Rattle.bpf_insn.proofs.{DecodeLemmas.step, FrontLemmas.empty_begins_none, FrontLemmas.front_fault, FrontLemmas.front_of, FrontLemmas.length-at_most_file}
 
 pub reads_none : (order : Order) (bytes : List ℕ) → ReadsTo order bytes 0 0
@@ -96,10 +96,9 @@ pub ruleset front_ends = (stops_at_end, stops_at_fault)
 
 -- the fault that stopped the reading, at its offset in the bytes
 pub read_fault : (o : Order) (bytes : List ℕ) (read : InsnFront) (f : SlotFault) → IsInsnFront o bytes read → read.stop ≡ Some f
-    → read.len < length bytes → IsInsnFault o bytes (record { pos = read.len + f.pos; cause = f.cause })
+    → read.len < length bytes → IsInsnFault o bytes (moved_by read.len f)
 read_fault o bytes read f r e some =
     let P : Option SlotFault → Type 0 = λ x. StopsAt o (drop read.len bytes) x in
     let slot : IsSlotFault o (drop read.len bytes) f = subst P e r.stops in
     let size = length-drop read.len bytes in
-    front_fault o bytes r.insns (drop read.len bytes) f (record { pos = read.len + f.pos; cause = f.cause }) r.is
-    (omega (arith, size, some)) slot (omega (arith, size, r.within)) refl
+    front_fault o bytes r.insns (drop read.len bytes) f read.len r.is (omega (arith, size, some)) slot (omega (arith, size, r.within))

@@ -4,7 +4,7 @@ use Rattle.std.specs.Prelude.{◌≡◌, ◌↔◌, ◌⊎◌, ◌≤◌, ℕ, �
 use Rattle.bpf_words.specs.declared.Order.{Order}
 use Rattle.bpf_insn.specs.declared.{insn.Insn.Insn, insn.Insn.TheVariants.Swap, fault.SlotFault.SlotFault, group.Group.Group, group.GroupSet.GroupSet}
 use Rattle.bpf_insn.specs.{Table.IsInsn, Table.fields_of, Spelling.file_of, Spelling.spelling}
-use Rattle.bpf_insn.specs.{Faults.BeginsWith, Faults.IsSlotFault, Groups.Brings, Groups.InGroups, Groups.group_of, Groups.holds}
+use Rattle.bpf_insn.specs.{Faults.BeginsWith, Faults.IsSlotFault, Faults.moved_by, Groups.Brings, Groups.InGroups, Groups.group_of, Groups.holds}
 
 -- the bytes from an offset on begin with the spelling of an instruction
 abbrev pub BeginsAt : Order → List ℕ → ℕ → Insn → Type 0
@@ -13,7 +13,7 @@ BeginsAt order bytes at i = BeginsWith order i (slice_range bytes at (length byt
 -- the bytes from an offset on don't begin with a spelling, and this is their fault, with its offset from the start of the file
 abbrev pub IsFaultAt : Order → List ℕ → ℕ → SlotFault → Type 0
 IsFaultAt order bytes at fault =
-    (slot : SlotFault) × IsSlotFault order (slice_range bytes at (length bytes)) slot × (fault ≡ record { pos = at + slot.pos; cause = slot.cause })
+    (slot : SlotFault) × IsSlotFault order (slice_range bytes at (length bytes)) slot × (fault ≡ moved_by at slot)
 
 -- the bytes before an offset are the spellings of these instructions
 abbrev pub SpellsBefore : Order → List ℕ → List Insn → ℕ → Type 0

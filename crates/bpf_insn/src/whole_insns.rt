@@ -70,7 +70,5 @@ pub fn first_fault(order: Order, bytes: &[u8]) -> Option<SlotFault>
     ensures fault { (f : SlotFault) → result ≡ Some f → IsInsnFault order bytes.now f }
 {
     let front = insn_front(order, bytes);
-    let fault = front.stop?;
-    let pos = front.len as u64 + fault.pos;
-    Some(SlotFault { pos, ..fault })
+    Some(front.stop?.moved_by(front.len as u64))
 }

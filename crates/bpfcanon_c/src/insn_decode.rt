@@ -61,10 +61,7 @@ fn insn_count(order: Order, bytes: &[u8]) -> Result<usize, SlotFault>
     let front = insn_front(order, bytes);
     match front.stop {
         None => Ok(front.count as usize),
-        Some(fault) => Err(SlotFault {
-            pos: front.len as u64 + fault.pos,
-            ..fault
-        }),
+        Some(fault) => Err(fault.moved_by(front.len as u64)),
     }
 }
 

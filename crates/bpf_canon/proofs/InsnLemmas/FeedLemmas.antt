@@ -7,7 +7,7 @@ use Rattle.bpf_insn.specs.declared.{insn.Insn.Insn, decode.InsnError.InsnError, 
 use Rattle.bpf_insn.specs.declared.fault.{SlotFault.SlotFault, SlotCause.SlotCause, SlotCause.TheVariants.Truncated}
 use Rattle.bpf_insn.specs.declared.decode.InsnError.TheVariants as error
 use Rattle.bpf_insn.specs.{Spelling.InsnFile, Spelling.file_of, Fronts.StopsAt}
-use Rattle.bpf_insn.specs.Faults.{IsFront, IsInsnFault, IsSlotFault}
+use Rattle.bpf_insn.specs.Faults.{IsFront, IsInsnFault, IsSlotFault, moved_by}
 use Rattle.bpf_insn.proofs.{FileLaws.fault_within, FrontLemmas.empty_begins_none, FrontLemmas.front_fault}
 use Rattle.bpf_canon.specs.insn.FeedState.{FeedState, IsCut, missing_place}
 use Rattle.bpf_canon.specs.insn.FrontReads.{Advances, BeginsNone, Leaves, ReadsFront}
@@ -87,9 +87,21 @@ module _ (s : FeedState) (piece old new : List ℕ) (read : InsnFront) (reads : 
         held = [];
         fed = s.fed + length piece;
         count = s.count + read.count;
-        fault = Some (record { pos = start + read.len + f.pos; cause = f.cause });
+        fault = Some (moved_by (start + read.len) f);
       }) piece old new
-  advance_faulty f start e t at = grind (arith, left_size)
+  advance_faulty f start e t at =
+      let base : start + read.len ≡ s.fed + length piece - length (drop read.len (s.held ++ piece)) = omega (arith, at, left_size) in
+      record {
+        reads = refl;
+        writes = refl;
+        fed = refl;
+        gained = reads.insns;
+        left = drop read.len (s.held ++ piece);
+        front = reads.front;
+        counted = ap (λ (n : ℕ). s.count + n) reads.counted;
+        grows = reads.grows;
+        leaves = (refl, (f, (stopped f e, (t, ap (λ (n : ℕ). moved_by n f) base))));
+      }
 
 -- ---- a feed moves on
 
@@ -117,10 +129,11 @@ keeps_of o b l left held fed None f e k = (cut_sound o b l left f k.1, k.0)
 keeps_of o b l left held fed (Some g) f e k =
     let s = k.1.0 in
     let x = k.1.1 in
-    let some = lasting_length o left s.pos s.cause x.1.0 x.0 in (
+    let some = lasting_length o left s.pos s.cause x.1.0 x.0 in
+    let P : SlotFault → Type 0 = λ y. IsInsnFault o b y in (
       record {
-        fault = front_fault o b l left s g f (omega (arith, some)) x.0 (omega (arith, e, x.1.1.0)) x.1.1.1;
-        lasting = λ c. x.1.0 (sym x.1.1.1 ∙ c);
+        fault = subst P (sym x.1.1) (front_fault o b l left s (fed - length left) f (omega (arith, some)) x.0 (omega (arith, e, front_fits o o b l left f)));
+        lasting = λ c. x.1.0 (ap (λ (y : SlotFault). y.cause) (sym x.1.1) ∙ c);
       },
       k.0,
     )
@@ -241,8 +254,7 @@ ends_cut s o to b e some small cut h =
     let F : SlotFault = record { pos = missing_place (length s.held); cause = Truncated } in
     let Q : List ℕ → Type 0 = λ x. IsSlotFault o x F in
     let f : IsSlotFault o s.held F = elim here [ inl none ↦ absurd (omega (arith, some, ap length none)) | inr g ↦ g ] in
-    front_fault o b h.insns h.rest F (record { pos = s.fed - length s.held + missing_place (length s.held); cause = Truncated }) h.front
-    (omega (arith, some, ap length k.1)) (subst Q k.1 f) (omega (arith, h.fed, small, ap length k.1)) refl
+    front_fault o b h.insns h.rest F (s.fed - length s.held) h.front (omega (arith, some, ap length k.1)) (subst Q k.1 f) (omega (arith, h.fed, small, ap length k.1))
 
 pub ends : (s : FeedState) (o to : Order) (b : List ℕ) → length s.held ≤ s.fed → IsCut s.order s.held → Represents s o to b → Finishes o b (end_of_feed s)
 ends s o to b small cut h = by_cases s.fault s.held refl refl

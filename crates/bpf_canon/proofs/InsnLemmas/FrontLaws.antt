@@ -101,4 +101,4 @@ sound_cut o b l rest e front slot same f fault =
     let once = one_front o b fault.insns l fault.rest rest fault.front front in
     let P : List ℕ → Type 0 = λ r. IsSlotFault o r fault.slot in
     let one = one_fault o rest fault.slot e (subst P once.1 fault.slot_fault) slot in
-    fault.cause ∙ ap (λ (x : SlotFault). x.cause) one ∙ same
+    ap (λ (x : SlotFault). x.cause) fault.moved ∙ ap (λ (x : SlotFault). x.cause) one ∙ same

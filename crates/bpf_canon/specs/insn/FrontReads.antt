@@ -1,9 +1,9 @@
 -- Only private contracts cite this file.
 -- The result of reading the complete instructions at the start of a buffer.
-use Rattle.std.specs.Prelude.{◌≡◌, ◌≤◌, ◌+◌, ◌++◌, ℕ, List, [], Option, Some, None, length, drop}
+use Rattle.std.specs.Prelude.{◌≡◌, ◌≤◌, ◌+◌, ◌-◌, ◌++◌, ℕ, List, [], Option, Some, None, length, drop}
 use Rattle.bpf_words.specs.declared.Order.{Order}
 use Rattle.bpf_insn.specs.declared.{insn.Insn.Insn, whole_insns.InsnFront.InsnFront, fault.SlotFault.SlotFault, fault.SlotCause.TheVariants.Truncated}
-use Rattle.bpf_insn.specs.{Fronts.StopsAt, Spelling.file_of, Faults.BeginsWith, Faults.IsFront, Faults.IsSlotFault}
+use Rattle.bpf_insn.specs.{Fronts.StopsAt, Spelling.file_of, Faults.BeginsWith, Faults.IsFront, Faults.IsSlotFault, Faults.moved_by}
 use Rattle.bpf_canon.specs.insn.FeedState.{FeedState, IsCut}
 
 -- the bytes don't begin with an instruction
@@ -22,7 +22,7 @@ pub record ReadsFront (o to : Order) (bytes : List ℕ) (read : InsnFront) (old 
 -- what is held, and which fault is kept, by the rest of a stream after `fed` bytes
 abbrev pub Leaves : Order → ℕ → List ℕ → List ℕ → Option SlotFault → Type 0
 Leaves o fed left held None = (held ≡ left) × IsCut o left
-Leaves o fed left held (Some f) = (held ≡ []) × ((e : SlotFault) × (IsSlotFault o left e × ((e.cause ≡ Truncated → ⊥) × ((f.pos + length left ≡ fed + e.pos) × (f.cause ≡ e.cause)))))
+Leaves o fed left held (Some f) = (held ≡ []) × ((e : SlotFault) × (IsSlotFault o left e × ((e.cause ≡ Truncated → ⊥) × (f ≡ moved_by (fed - length left) e))))
 
 -- a feed without a fault has read the complete instructions of its held bytes and the piece
 pub record Advances (s t : FeedState) (piece old new : List ℕ) : Type 0 where

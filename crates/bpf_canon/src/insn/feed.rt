@@ -192,10 +192,7 @@ impl InsnFeed {
             None => {}
             Some(fault) => match fault.cause {
                 SlotCause::Truncated => self.held_len = hold(&mut self.held, kept, left),
-                cause => {
-                    let pos = start + read.len as u64 + fault.pos;
-                    self.fault = Some(SlotFault { pos, cause });
-                }
+                _ => self.fault = Some(fault.moved_by(start + read.len as u64)),
             },
         }
     }

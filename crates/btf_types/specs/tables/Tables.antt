@@ -3,7 +3,7 @@ use Rattle.std.specs.Prelude.{ℕ, ◌+◌, ◌^◌, ◌<◌, ◌≤◌, List, R
 use Rattle.btf_types.specs.declared.error.BtfError.{BtfError}
 use Rattle.btf_types.specs.declared.error.BtfError.TheVariants as errors
 use Rattle.bpf_words.specs.declared.Order.{Order}
-use Rattle.btf_raw.specs.{Cause.LeastByPlace, Frames.FramingFault}
+use Rattle.btf_raw.specs.{Cause.LeastByPlace, Cause.moved_by, Frames.FramingFault}
 use Rattle.btf_types.specs.{Faults.IsFirst, Reading.frames_at, judge.FieldFaults.FieldFault}
 
 -- what an error of a parser says: its fault is the first of the file; nothing if memory ran out
@@ -23,7 +23,7 @@ FailsFields o types strings places errors.Memory = ⊤
 
 -- the error, with the offset of its fault increased by base
 abbrev pub moved : ℕ → BtfError → BtfError
-moved base (errors.Fault fault) = errors.Fault (record { pos = base + fault.pos; cause = fault.cause })
+moved base (errors.Fault fault) = errors.Fault (moved_by base fault)
 moved base errors.Memory = errors.Memory
 
 -- the offset of a fault, so increased, is below 2 ^ 64

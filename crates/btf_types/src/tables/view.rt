@@ -19,7 +19,7 @@ use crate::tables::{
 };
 use crate::values::{Head, Item};
 use bpf_words::Order;
-use btf_raw::{BtfFault, check_strings, read_header};
+use btf_raw::{check_strings, read_header};
 use std::alloc::{Allocator, Global};
 use std::fmt;
 use std::marker::Model;
@@ -72,11 +72,10 @@ fn moved(base: usize, error: BtfError) -> BtfError
     requires { tables.MayMove base error }
     ensures { result ≡ tables.moved base error }
 {
-    let BtfError::Fault(BtfFault { pos, cause }) = error else {
-        return error;
-    };
-    let pos = base as u64 + pos;
-    BtfError::Fault(BtfFault { pos, cause })
+    match error {
+        BtfError::Fault(fault) => BtfError::Fault(fault.moved_by(base as u64)),
+        BtfError::Memory => BtfError::Memory,
+    }
 }
 
 #[tactic(auto, using(crate::proofs::TableLemmas::TableReads::placed))]

@@ -56,8 +56,8 @@ invariant_of-self-in_default g c =
     let counts = advance_counts (the_view c.self.inside) c.args.piece.now _ _ _ (rw (← c.self.view_is) at c.read_across-read.ensures.read) in
     record { short = omega arith; cut = inl refl; counted = omega (arith, size, counts, c.self.invariant.counted) }
 
-pub overflow_add-pos-in_default : goal.overflow_add-pos-in_default
-overflow_add-pos-in_default g c =
+pub moved_by-requires : goal.moved_by-requires
+moved_by-requires g c =
     let size = length-take-le c.self.inside.held_len c.self.inside.held (omega (arith, c.self.invariant.short)) in
     let within = advance_within (the_view c.self.inside) c.args.piece.now _ _ _ (rw (← c.self.view_is) at c.read_across-read.ensures.read) c.in-Some.fault c.in-Some.is in
     omega (arith, size, within, c.self.invariant.counted, c.requires.fits, ap (λ (s : FeedState). s.fed) c.self.view_is)
@@ -83,6 +83,6 @@ returns-in-Truncated g c =
 pub returns-in_default : goal.returns-in_default
 returns-in_default g c =
     let size = length-take-le c.self.inside.held_len c.self.inside.held (omega (arith, c.self.invariant.short)) in
-    from_view (the_view c.self.inside) c.args.self.now _ c.args.piece.now _ _ c.self.view_is
+    rw c.moved_by.ensures (from_view (the_view c.self.inside) c.args.self.now _ c.args.piece.now _ _ c.self.view_is
     (advance_faulty (the_view c.self.inside) c.args.piece.now _ _ _ (rw (← c.self.view_is) at c.read_across-read.ensures.read) c.in-Some.fault (c.self.inside.fed - c.self.inside.held_len)
-    c.in-Some.is c.in_default.not-Truncated (omega (arith, size, c.self.invariant.counted)))
+    c.in-Some.is c.in_default.not-Truncated (omega (arith, size, c.self.invariant.counted))))
