@@ -36,63 +36,90 @@ const ID: u64 = 0x0000_0000_ffff_ff00;
 /// None of the fields after the opcode.
 const EXIT: u64 = 0xffff_ffff_ffff_ff00;
 
-/// The bits that must be 0 for each opcode: a row for each value of its five high bits, with an
-/// entry for each class: LD, LDX, ST, STX, ALU, JMP, JMP32 and ALU64. The arguments depend on the
-/// byte order, since they leave dst or src free: `imm` dst and the immediate, `imm_off` these and
-/// the offset, `dst` only dst, and `src_imm` src and the immediate.
+/// The entries of a table by opcode, from those of each class in order of the five high bits. Both
+/// arithmetic classes have the same.
 macro_rules! by_opcode {
+    (
+        ld: [$($ld:expr),*], ldx: [$($ldx:expr),*], st: [$($st:expr),*], stx: [$($stx:expr),*],
+        alu: [$($alu:expr),*], jmp: [$($jmp:expr),*], jmp32: [$($jmp32:expr),*]
+    ) => {
+        [$($ld, $ldx, $st, $stx, $alu, $jmp, $jmp32, $alu),*]
+    };
+}
+
+/// The bits that must be 0 for each opcode: a list for each class, in the order of `FORMS` in
+/// `form.rt`. The arguments depend on the byte order, since they leave dst or src free: `imm` dst
+/// and the immediate, `imm_off` these and the offset, `dst` only dst, and `src_imm` src and the
+/// immediate.
+macro_rules! zeros_by_class {
     (imm: $imm:expr, imm_off: $imm_off:expr, dst: $dst:expr, src_imm: $src_imm:expr) => {
-        [
-            // 0x00
-            NONE, NONE, NONE, NONE, $imm, OFF, ID, $imm,
-            NONE, NONE, NONE, NONE, REG, NONE, NONE, REG,
-            NONE, NONE, NONE, NONE, $imm, $imm_off, $imm_off, $imm,
-            NONE, NONE, NONE, NONE, REG, REG_OFF, REG_OFF, REG,
-            ID, NONE, NONE, NONE, $imm, $imm_off, $imm_off, $imm,
-            ID, NONE, NONE, NONE, REG, REG_OFF, REG_OFF, REG,
-            ID, NONE, NONE, NONE, $imm, $imm_off, $imm_off, $imm,
-            NONE, NONE, NONE, NONE, REG, REG_OFF, REG_OFF, REG,
-            // 0x40
-            $src_imm, NONE, NONE, NONE, $imm, $imm_off, $imm_off, $imm,
-            $src_imm, NONE, NONE, NONE, REG, REG_OFF, REG_OFF, REG,
-            $src_imm, NONE, NONE, NONE, $imm, $imm_off, $imm_off, $imm,
-            NONE, NONE, NONE, NONE, REG, REG_OFF, REG_OFF, REG,
-            NONE, REG_OFF, $imm_off, REG_OFF, $imm, $imm_off, $imm_off, $imm,
-            NONE, REG_OFF, $imm_off, REG_OFF, REG, REG_OFF, REG_OFF, REG,
-            NONE, REG_OFF, $imm_off, REG_OFF, $imm, $imm_off, $imm_off, $imm,
-            NONE, REG_OFF, $imm_off, REG_OFF, REG, REG_OFF, REG_OFF, REG,
-            // 0x80
-            NONE, REG_OFF, NONE, NONE, $dst, ID, NONE, $dst,
-            NONE, REG_OFF, NONE, NONE, NONE, NONE, NONE, NONE,
-            NONE, REG_OFF, NONE, NONE, $imm, EXIT, NONE, $imm,
-            NONE, NONE, NONE, NONE, REG, NONE, NONE, REG,
-            NONE, NONE, NONE, NONE, $imm, $imm_off, $imm_off, $imm,
-            NONE, NONE, NONE, NONE, REG, REG_OFF, REG_OFF, REG,
-            NONE, NONE, NONE, NONE, $imm, $imm_off, $imm_off, $imm,
-            NONE, NONE, NONE, NONE, REG, REG_OFF, REG_OFF, REG,
-            // 0xc0
-            NONE, NONE, NONE, NONE, $imm, $imm_off, $imm_off, $imm,
-            NONE, NONE, NONE, NONE, REG, REG_OFF, REG_OFF, REG,
-            NONE, NONE, NONE, NONE, NONE, $imm_off, $imm_off, NONE,
-            NONE, NONE, NONE, NONE, NONE, REG_OFF, REG_OFF, NONE,
-            NONE, NONE, NONE, NONE, NONE, NONE, NONE, NONE,
-            NONE, NONE, NONE, NONE, NONE, NONE, NONE, NONE,
-            NONE, NONE, NONE, NONE, NONE, NONE, NONE, NONE,
-            NONE, NONE, NONE, NONE, NONE, NONE, NONE, NONE,
-        ]
+        by_opcode!(
+            // Wide loads, and loads from packet data.
+            ld: [
+                NONE, NONE, NONE, NONE, ID, ID, ID, NONE, $src_imm, $src_imm, $src_imm, NONE,
+                NONE, NONE, NONE, NONE, NONE, NONE, NONE, NONE, NONE, NONE, NONE, NONE,
+                NONE, NONE, NONE, NONE, NONE, NONE, NONE, NONE
+            ],
+            // Loads, zero-extending and sign-extending.
+            ldx: [
+                NONE, NONE, NONE, NONE, NONE, NONE, NONE, NONE, NONE, NONE, NONE, NONE,
+                REG_OFF, REG_OFF, REG_OFF, REG_OFF, REG_OFF, REG_OFF, REG_OFF, NONE,
+                NONE, NONE, NONE, NONE, NONE, NONE, NONE, NONE, NONE, NONE, NONE, NONE
+            ],
+            // Stores of immediates.
+            st: [
+                NONE, NONE, NONE, NONE, NONE, NONE, NONE, NONE, NONE, NONE, NONE, NONE,
+                $imm_off, $imm_off, $imm_off, $imm_off,
+                NONE, NONE, NONE, NONE, NONE, NONE, NONE, NONE, NONE, NONE, NONE, NONE,
+                NONE, NONE, NONE, NONE
+            ],
+            // Stores of registers, and atomic operations.
+            stx: [
+                NONE, NONE, NONE, NONE, NONE, NONE, NONE, NONE, NONE, NONE, NONE, NONE,
+                REG_OFF, REG_OFF, REG_OFF, REG_OFF,
+                NONE, NONE, NONE, NONE, NONE, NONE, NONE, NONE, NONE, NONE, NONE, NONE,
+                NONE, NONE, NONE, NONE
+            ],
+            // Eight codes with an immediate and with a register, NEG, four more, and byte swaps.
+            alu: [
+                $imm, REG, $imm, REG, $imm, REG, $imm, REG,
+                $imm, REG, $imm, REG, $imm, REG, $imm, REG,
+                $dst, NONE,
+                $imm, REG, $imm, REG, $imm, REG, $imm, REG,
+                NONE, NONE, NONE, NONE, NONE, NONE
+            ],
+            // JA, seven codes with an immediate and with a register, CALL, EXIT, and four more.
+            jmp: [
+                OFF, NONE,
+                $imm_off, REG_OFF, $imm_off, REG_OFF, $imm_off, REG_OFF, $imm_off, REG_OFF,
+                $imm_off, REG_OFF, $imm_off, REG_OFF, $imm_off, REG_OFF,
+                ID, NONE, EXIT, NONE,
+                $imm_off, REG_OFF, $imm_off, REG_OFF, $imm_off, REG_OFF, $imm_off, REG_OFF,
+                NONE, NONE, NONE, NONE
+            ],
+            // Likewise with 32-bit operands, and without CALL and EXIT.
+            jmp32: [
+                ID, NONE,
+                $imm_off, REG_OFF, $imm_off, REG_OFF, $imm_off, REG_OFF, $imm_off, REG_OFF,
+                $imm_off, REG_OFF, $imm_off, REG_OFF, $imm_off, REG_OFF,
+                NONE, NONE, NONE, NONE,
+                $imm_off, REG_OFF, $imm_off, REG_OFF, $imm_off, REG_OFF, $imm_off, REG_OFF,
+                NONE, NONE, NONE, NONE
+            ]
+        )
     };
 }
 
 /// The table of little-endian files, whose register byte has dst in its low half.
 #[rattlefmt::skip]
-static ZERO_LITTLE: [u64; 256] = by_opcode!(
+static ZERO_LITTLE: [u64; 256] = zeros_by_class!(
     imm: 0x0000_0000_ffff_f000, imm_off: 0x0000_0000_0000_f000,
     dst: 0xffff_ffff_ffff_f000, src_imm: 0x0000_0000_ffff_0f00
 );
 
 /// The table of big-endian files, whose register byte has dst in its high half.
 #[rattlefmt::skip]
-static ZERO_BIG: [u64; 256] = by_opcode!(
+static ZERO_BIG: [u64; 256] = zeros_by_class!(
     imm: 0x0000_0000_ffff_0f00, imm_off: 0x0000_0000_0000_0f00,
     dst: 0xffff_ffff_ffff_0f00, src_imm: 0x0000_0000_ffff_f000
 );
