@@ -3,7 +3,8 @@ use Rattle.std.proofs.Common.{◌≡◌, ℕ, true, List, [], ◌∷◌, inl, in
 use Rattle.std.specs.Prelude.{IsTrue, ◌==◌, ⊤}
 use Rattle.std.proofs.lemmas.Bool.{or_cases, eqb-true}
 use Rattle.btf_raw.specs.KindNumbers.{INT, PTR, ARRAY, STRUCT, UNION, ENUM, FWD, TYPEDEF, VOLATILE, CONST, RESTRICT, FUNC, FUNC_PROTO, VAR, DATASEC, FLOAT, DECL_TAG, TYPE_TAG, ENUM64}
-use Rattle.btf_raw.specs.Kinds.{one_of, is_kind}
+use Rattle.btf_raw.specs.Kinds.{one_of, is_kind, has_item_names, layouts}
+use Rattle.btf_raw.proofs.KindRows.{OfEachRow, kind_numbers, named_row}
 
 pub data KindIs : ℕ → Type 0 where
   IsInt : KindIs INT
@@ -38,11 +39,14 @@ one_among P (n ∷ ns) k each h = elim (or_cases (k == n) (one_of ns k) h) [
   | inr r ↦ one_among P ns k each.1 r
 ]
 
+each_kind : OfEachRow KindIs layouts
+each_kind =
+    (IsInt, (IsPtr, (IsArray, (IsStruct, (IsUnion, (IsEnum, (IsFwd, (IsTypedef, (IsVolatile, (IsConst, (IsRestrict, (IsFunc, (IsFuncProto, (IsVar, (IsDatasec, (IsFloat, (IsDeclTag, (IsTypeTag, (IsEnum64, tt)))))))))))))))))))
+
 pub kind_is : (k : ℕ) → IsTrue (is_kind k) → KindIs k
 unfolding is_kind
-kind_is k h =
-    one_among KindIs
-    (INT ∷ PTR ∷ ARRAY ∷ STRUCT ∷ UNION ∷ ENUM ∷ FWD ∷ TYPEDEF ∷ VOLATILE ∷ CONST ∷ RESTRICT ∷ FUNC ∷ FUNC_PROTO ∷ VAR ∷ DATASEC ∷ FLOAT ∷ DECL_TAG ∷ TYPE_TAG ∷ ENUM64 ∷ [])
-    k
-    (IsInt, (IsPtr, (IsArray, (IsStruct, (IsUnion, (IsEnum, (IsFwd, (IsTypedef, (IsVolatile, (IsConst, (IsRestrict, (IsFunc, (IsFuncProto, (IsVar, (IsDatasec, (IsFloat, (IsDeclTag, (IsTypeTag, (IsEnum64, tt)))))))))))))))))))
-    h
+kind_is k h = one_among KindIs kind_numbers k each_kind h
+
+-- only kinds have items with names
+pub named_kind : (k : ℕ) → IsTrue (has_item_names k) → KindIs k
+named_kind k h = named_row KindIs k each_kind h

@@ -5,7 +5,7 @@ use Rattle.std.specs.List.{All}
 use Rattle.std.proofs.lemmas.List.Elements.{All-head, All-tail}
 use Rattle.btf_raw.specs.{declared.cause.BtfCause.BtfCause, Names.TextAt, Names.NameAt}
 use Rattle.btf_raw.specs.declared.cause.BtfCause.TheVariants.{NameRange, NameUtf8, NameMissing, NameUnwanted, NotZero, Size, Reference, TargetKind, IntWord, MemberInt, MemberPlace, Linkage, Component}
-use Rattle.btf_raw.specs.KindNumbers.{INT, ARRAY, STRUCT, UNION, ENUM, ENUM64, FWD, FUNC, FUNC_PROTO, VAR, DATASEC, DECL_TAG}
+use Rattle.btf_raw.specs.KindNumbers.{INT, ARRAY, STRUCT, UNION, FWD, FUNC, FUNC_PROTO, VAR, DATASEC, DECL_TAG}
 use Rattle.btf_raw.specs.Kinds.{one_of, item_words, has_no_name, has_target, has_item_names, is_struct}
 use Rattle.btf_raw.specs.Frames.{kind, vlen, flag, name_word, third_word}
 use Rattle.btf_raw.proofs.Texts.{TextAt-unique, TextAt-inside}
@@ -181,7 +181,7 @@ member_says types size bit_fields strings its_flag h x ws of spells has right = 
 -- kinds whose records have items
 words_of_typed : (k : ℕ) → IsTrue (one_of (STRUCT ∷ UNION ∷ FUNC_PROTO ∷ []) k) → 1 < item_words k
 unfolding item_words
-words_of_typed k has = one_among (λ m. 1 < (if one_of (STRUCT ∷ UNION ∷ DATASEC ∷ ENUM64 ∷ []) m then 3 else if one_of (ENUM ∷ FUNC_PROTO ∷ []) m then 2 else 0)) (STRUCT ∷ UNION ∷ FUNC_PROTO ∷ []) k (lit< tt, (lit< tt, (lit< tt, tt))) has
+words_of_typed k has = one_among (λ m. 1 < item_words m) (STRUCT ∷ UNION ∷ FUNC_PROTO ∷ []) k (lit< tt, (lit< tt, (lit< tt, tt))) has
 
 -- a name at an offset has neither NameRange nor NameUtf8
 name_inside : (strings : List ℕ) (offset : ℕ) (x : List ℕ) → NameAt strings offset x → ¬ (length strings ≤ offset)

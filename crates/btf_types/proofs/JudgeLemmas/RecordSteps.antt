@@ -1,22 +1,31 @@
 -- The fields of a record by their roles: the first with a fault, and where the record ends.
 use Rattle.std.proofs.Common.{◌≡◌, ◌≢◌, ◌⊎◌, ℕ, ◌+◌, ◌*◌, ◌<◌, ◌≤◌, Option, None, Some, MatchOption, IsSomeAnd, refl, inl, inr, List, length, sym, ◌∙◌, subst, arith}
 use Rattle.std.specs.Prelude.{IsTrue}
-use Rattle.std.proofs.lemmas.Bool.{cases_lt, ne_eqb}
+use Rattle.std.proofs.lemmas.Bool.{cases_lt}
 use Rattle.btf_raw.specs.{declared.cause.BtfCause.BtfCause, Frames.IsFrame, Frames.kind, Frames.vlen}
 use Rattle.btf_raw.specs.KindNumbers.{INT, ARRAY, STRUCT, UNION, ENUM, FUNC_PROTO, VAR, DATASEC, DECL_TAG, ENUM64}
 use Rattle.btf_raw.specs.Kinds.{is_struct, tail_words, fixed_words, item_words}
 use Rattle.btf_types.specs.{Sections.SectionWords, judge.RecordFaults.FaultInWord, judge.RecordFaults.NoneWithin, judge.RecordFaults.IsFirstWithin, judge.RecordFaults.FirstWithin}
 use Rattle.btf_types.specs.judge.{Checks.TypeFacts, Checks.LeastCause, Checks.NoCause, Checks.IsLeastOf, NameFaults.NamedTypeFault}
+use Rattle.btf_types.proofs.KindCases.{kind_is, KindIs, IsInt, IsArray, IsStruct, IsUnion, IsEnum, IsFuncProto, IsVar, IsDatasec, IsDeclTag, IsEnum64}
 use Rattle.btf_types.proofs.JudgeLemmas.Roles.{Role, Free, HasRole}
 use Rattle.btf_types.proofs.JudgeLemmas.WordSteps.{none_through}
 use Rattle.btf_types.proofs.JudgeLemmas.RoleSteps.{FaultInRole, judged, one_word, struct_size, struct_fixed}
 
-no_tail : (κ v : ℕ) → κ ≢ INT → κ ≢ ARRAY → κ ≢ STRUCT → κ ≢ UNION → κ ≢ ENUM → κ ≢ FUNC_PROTO → κ ≢ VAR → κ ≢ DATASEC → κ ≢ DECL_TAG → κ ≢ ENUM64
+no_tail : {κ : ℕ} → KindIs κ → (v : ℕ) → κ ≢ INT → κ ≢ ARRAY → κ ≢ STRUCT → κ ≢ UNION → κ ≢ ENUM → κ ≢ FUNC_PROTO → κ ≢ VAR → κ ≢ DATASEC → κ ≢ DECL_TAG → κ ≢ ENUM64
     → 3 + tail_words κ v ≡ 3
 unfolding tail_words fixed_words item_words
-no_tail κ v int array struct union enum proto var datasec tag enum64 =
-    rw (ne_eqb κ INT int, ne_eqb κ ARRAY array, ne_eqb κ STRUCT struct, ne_eqb κ UNION union, ne_eqb κ ENUM enum, ne_eqb κ FUNC_PROTO proto, ne_eqb κ VAR var, ne_eqb κ DATASEC datasec, ne_eqb κ DECL_TAG tag, ne_eqb κ ENUM64 enum64)
-    (omega arith)
+no_tail IsInt v int array struct union enum proto var datasec tag enum64 = absurd (int refl)
+no_tail IsArray v int array struct union enum proto var datasec tag enum64 = absurd (array refl)
+no_tail IsStruct v int array struct union enum proto var datasec tag enum64 = absurd (struct refl)
+no_tail IsUnion v int array struct union enum proto var datasec tag enum64 = absurd (union refl)
+no_tail IsEnum v int array struct union enum proto var datasec tag enum64 = absurd (enum refl)
+no_tail IsFuncProto v int array struct union enum proto var datasec tag enum64 = absurd (proto refl)
+no_tail IsVar v int array struct union enum proto var datasec tag enum64 = absurd (var refl)
+no_tail IsDatasec v int array struct union enum proto var datasec tag enum64 = absurd (datasec refl)
+no_tail IsDeclTag v int array struct union enum proto var datasec tag enum64 = absurd (tag refl)
+no_tail IsEnum64 v int array struct union enum proto var datasec tag enum64 = absurd (enum64 refl)
+no_tail known v int array struct union enum proto var datasec tag enum64 = omega arith
 
 module _ (s : SectionWords) {f : List ℕ} (is : IsFrame f) where
   -- no fields have no fault
@@ -86,7 +95,7 @@ module _ {f : List ℕ} (is : IsFrame f) where
   pub rest_faultless : (s : SectionWords) → kind f ≢ INT → kind f ≢ ARRAY → kind f ≢ STRUCT → kind f ≢ UNION → kind f ≢ ENUM → kind f ≢ FUNC_PROTO
       → kind f ≢ VAR → kind f ≢ DATASEC → kind f ≢ DECL_TAG → kind f ≢ ENUM64 → NoneWithin s f 3 (length f)
   rest_faultless s int array struct union enum proto var datasec tag enum64 j d past low fault =
-      let end : length f ≡ 3 = is.size ∙ no_tail (kind f) (vlen f) int array struct union enum proto var datasec tag enum64 in
+      let end : length f ≡ 3 = is.size ∙ no_tail (kind_is (kind f) is.info.kind) (vlen f) int array struct union enum proto var datasec tag enum64 in
       absurd (omega arith)
 
 -- the size of a value of an enumeration

@@ -4,14 +4,15 @@ use Rattle.std.specs.Prelude.{IsTrue, slice_index}
 use Rattle.std.proofs.lemmas.Bool.{cases_lt}
 use Rattle.btf_raw.specs.declared.cause.BtfCause.{BtfCause}
 use Rattle.btf_raw.specs.declared.cause.BtfCause.TheVariants.{NameRange, NameUtf8, NameMissing, NameUnwanted, NotZero, Size, Reference, TargetKind, IntWord, MemberInt, MemberPlace, Linkage, Component}
-use Rattle.btf_raw.specs.KindNumbers.{INT, ARRAY, STRUCT, UNION, ENUM, FUNC_PROTO, VAR, DATASEC, DECL_TAG, ENUM64}
+use Rattle.btf_raw.specs.KindNumbers.{INT, ARRAY, STRUCT, UNION, FUNC_PROTO, VAR, DATASEC, DECL_TAG}
 use Rattle.btf_raw.specs.Kinds.{one_of, tail_words, fixed_words, item_words, has_target, has_item_names, is_struct}
 use Rattle.btf_raw.specs.Frames.{IsFrame, third_word, kind, vlen, flag}
 use Rattle.btf_types.specs.judge.Checks.{target_fits, TypeFacts, type_at, IsLeastOf}
 use Rattle.btf_types.specs.judge.FieldFaults.{WordFault, IsTypeField, IsNameField, IsMemberWord, IsItemWord}
 use Rattle.btf_types.specs.Sections.{SectionWords, facts_in}
 use Rattle.btf_types.specs.judge.{RecordFaults.FaultInWord, RecordFaults.BitFieldsAre, NameFaults.MemberTypeFault}
-use Rattle.btf_types.proofs.{KindCases.one_among, JudgeLemmas.Judging.judged_same}
+use Rattle.btf_types.proofs.JudgeLemmas.Judging.{judged_same}
+use Rattle.btf_types.proofs.KindCases.{one_among, named_kind, KindIs, IsInt, IsArray, IsStruct, IsUnion, IsEnum, IsFuncProto, IsVar, IsDeclTag, IsEnum64}
 use Rattle.btf_types.proofs.JudgeLemmas.Roles as roles
 use Rattle.btf_types.proofs.JudgeLemmas.Roles.{Role, word_in_item, PartIs, RoleIs, HasRole, TypeOfMemberFault, RoleFault}
 
@@ -24,11 +25,17 @@ pub struct_size : (κ : ℕ) → IsTrue (is_struct κ) → item_words κ ≡ 3
 unfolding item_words
 struct_size κ h = one_among (λ k. item_words k ≡ 3) (STRUCT ∷ UNION ∷ []) κ (refl, (refl, tt)) h
 
-item_size : (κ : ℕ) → IsTrue (has_item_names κ) → TwoOrThree (item_words κ)
+size_of_named : {κ : ℕ} → KindIs κ → IsTrue (has_item_names κ) → TwoOrThree (item_words κ)
 unfolding has_item_names item_words
-item_size κ h =
-    one_among (λ k. TwoOrThree (item_words k)) (STRUCT ∷ UNION ∷ ENUM ∷ FUNC_PROTO ∷ ENUM64 ∷ []) κ
-    (inr refl, (inr refl, (inl refl, (inl refl, (inr refl, tt))))) h
+size_of_named IsStruct h = inr refl
+size_of_named IsUnion h = inr refl
+size_of_named IsEnum h = inl refl
+size_of_named IsFuncProto h = inl refl
+size_of_named IsEnum64 h = inr refl
+size_of_named known h = absurd cc
+
+item_size : (κ : ℕ) → IsTrue (has_item_names κ) → TwoOrThree (item_words κ)
+item_size κ h = size_of_named (named_kind κ h) h
 
 pub named_words : (κ : ℕ) → IsTrue (has_item_names κ) → 0 < item_words κ
 named_words κ h = elim (item_size κ h) [ inl two ↦ omega arith | inr three ↦ omega arith ]
@@ -37,11 +44,16 @@ pub struct_fixed : (κ : ℕ) → IsTrue (is_struct κ) → fixed_words κ ≡ 0
 unfolding fixed_words
 struct_fixed κ h = one_among (λ k. fixed_words k ≡ 0) (STRUCT ∷ UNION ∷ []) κ (refl, (refl, tt)) h
 
-named_fixed : (κ : ℕ) → IsTrue (has_item_names κ) → fixed_words κ ≡ 0
+fixed_of_named : {κ : ℕ} → KindIs κ → IsTrue (has_item_names κ) → fixed_words κ ≡ 0
 unfolding has_item_names fixed_words
-named_fixed κ h =
-    one_among (λ k. fixed_words k ≡ 0) (STRUCT ∷ UNION ∷ ENUM ∷ FUNC_PROTO ∷ ENUM64 ∷ []) κ
-    (refl, (refl, (refl, (refl, (refl, tt))))) h
+fixed_of_named IsInt h = absurd cc
+fixed_of_named IsArray h = absurd cc
+fixed_of_named IsVar h = absurd cc
+fixed_of_named IsDeclTag h = absurd cc
+fixed_of_named known h = refl
+
+named_fixed : (κ : ℕ) → IsTrue (has_item_names κ) → fixed_words κ ≡ 0
+named_fixed κ h = fixed_of_named (named_kind κ h) h
 
 -- a member's type may be any
 struct_fits_any : (κ target : ℕ) → IsTrue (is_struct κ) → target_fits κ target ≡ true

@@ -10,7 +10,7 @@ use Rattle.btf_raw.proofs.Texts.{TextAt-unique, TextAt-inside}
 use Rattle.btf_types.specs.{Values.TypeRecord, Spelling.Spells}
 use Rattle.btf_types.specs.Names.{head_name, item_name, record_names, names, is_other, distinct, is_some_text, kept}
 use Rattle.btf_types.specs.Reading.{text_from, item_from, item_total, record_of, frame_at, frames_at, tabulate}
-use Rattle.btf_types.proofs.KindCases.{KindIs}
+use Rattle.btf_types.proofs.KindCases.{KindIs, IsStruct, IsUnion, IsEnum, IsFuncProto, IsEnum64}
 use Rattle.btf_types.proofs.{FaultlessLemmas.FaultlessWords.known, Lists.length-tabulate, Lists.get_or-tabulate}
 use Rattle.btf_types.proofs.TableLemmas.TextSteps.{text_there}
 use Rattle.bpf_canon.specs.btf.write.NameOffsets.{item_word, name_offsets, all_offsets}
@@ -49,7 +49,12 @@ item_named kind_is name flag a b c has = grind arith
 
 item_nameless : {k : ℕ} → KindIs k → (name : List ℕ) (flag a b c : ℕ) → has_item_names k ≡ false → item_name (item_from name k flag a b c) ≡ []
 unfolding has_item_names item_from
-item_nameless kind_is name flag a b c none = grind arith
+item_nameless IsStruct name flag a b c none = absurd cc
+item_nameless IsUnion name flag a b c none = absurd cc
+item_nameless IsEnum name flag a b c none = absurd cc
+item_nameless IsFuncProto name flag a b c none = absurd cc
+item_nameless IsEnum64 name flag a b c none = absurd cc
+item_nameless known name flag a b c none = refl
 
 named_words : {k : ℕ} → KindIs k → has_item_names k ≡ true → (item_words k == 0) ≡ false
 unfolding has_item_names item_words

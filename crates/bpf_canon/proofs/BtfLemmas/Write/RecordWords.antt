@@ -12,7 +12,7 @@ use Rattle.btf_types.specs.Values.{TypeHead, TypeItem, Entry, TypeRecord}
 use Rattle.btf_types.specs.{Names.head_name, judge.RecordFaults.BitFieldsAre, Good.has_width, Good.has_bit_fields}
 use Rattle.btf_types.specs.Spelling.{kind_number, head_third, head_tail, FlagSpells, record_vlen, info, ItemSpells, Spells}
 use Rattle.btf_types.specs.Reading.{text_from, head_from, item_from, item_of, item_total, record_of, frame_at, frames_at, records_at, tabulate}
-use Rattle.btf_types.proofs.KindCases.{KindIs}
+use Rattle.btf_types.proofs.KindCases.{KindIs, IsStruct, IsUnion, IsEnum, IsFuncProto, IsEnum64}
 use Rattle.btf_types.proofs.FaultlessLemmas.{FaultlessRecords.bit_fields_there, FaultlessWords.known, FaultlessWords.room}
 use Rattle.btf_types.proofs.Spelled.{info_parts, InfoParts, kind_below, vlen_below, flag_below}
 use Rattle.btf_types.proofs.{TableLemmas.TableReads.count_there, TableLemmas.TextSteps.decided, TabulateSteps.All-tabulate}
@@ -163,7 +163,12 @@ IsEntry _ = ⊥
 
 entry_read : {k : ℕ} → KindIs k → (name : List ℕ) (flag a b c : ℕ) → has_item_names k ≡ false → IsEntry (item_from name k flag a b c)
 unfolding has_item_names item_from
-entry_read kind_is name flag a b c none = grind arith
+entry_read IsStruct name flag a b c none = absurd cc
+entry_read IsUnion name flag a b c none = absurd cc
+entry_read IsEnum name flag a b c none = absurd cc
+entry_read IsFuncProto name flag a b c none = absurd cc
+entry_read IsEnum64 name flag a b c none = absurd cc
+entry_read known name flag a b c none = tt
 
 entries_words : (place : List ℕ → ℕ) (strings : List ℕ) (flag : ℕ) (xs : List TypeItem) (wss : List (List ℕ)) → All IsEntry xs → AllZip (ItemSpells strings flag) xs wss
     → concat wss ≡ flat_map (words_of place) xs
