@@ -3,8 +3,9 @@ use Rattle.std.proofs.Common.{◌≡◌, ℕ, Bool, List, ◌++◌, refl, ap, su
 use Rattle.std.specs.Prelude.{Result, [], codes, decimal, if◌then◌else◌}
 use Rattle.std.specs.List.{flat_map}
 use Rattle.btf_types.specs.Values.{TypeHead, KPtr, KArray, KVolatile, KConst, KRestrict, KFuncProto, TypeItem, Member, EnumValue, Value64, Param, Entry}
-use Rattle.btf_types.specs.Names.{head_name, item_name}
-use Rattle.bpf_text.specs.btf.BtfText.{fields_text, has_name, head_line, item_line, item_text, kind_word, name_text, quoted_byte}
+use Rattle.btf_raw.specs.Kinds.{has_no_name}
+use Rattle.btf_types.specs.{Names.head_name, Names.item_name, Spelling.kind_number}
+use Rattle.bpf_text.specs.btf.BtfText.{fields_text, head_line, item_line, item_text, kind_word, name_text, quoted_byte}
 use Rattle.bpf_text.specs.btf.LineParts.{head_end, head_fields, head_start, item_end, item_fields, item_start}
 use Rattle.bpf_text.proofs.BtfLemmas.AppendingLemmas.{Extends, appended_after}
 
@@ -16,7 +17,8 @@ quoted_before n x = search (rules, append_assoc)
 
 -- what follows the kind of a type
 head_text : (head : TypeHead) (items : ℕ)
-    → (if has_name head then codes " \"" else []) ++ flat_map quoted_byte (head_name head) ++ head_fields head items ≡ name_text head ++ fields_text head items
+    → (if has_no_name (kind_number head) then [] else codes " \"") ++ flat_map quoted_byte (head_name head) ++ head_fields head items ≡ name_text head ++ fields_text head items
+unfolding has_no_name
 head_text (KPtr t) items = refl
 head_text (KArray t i c) items = refl
 head_text (KVolatile t) items = refl

@@ -1,12 +1,13 @@
 -- Listings of BTF types: a line for each type, followed by a line for each of its items. They are meant for values in the
 -- ranges of their types: std writes numbers of up to 64 digits.
-use Rattle.std.specs.Prelude.{ℕ, ◌/◌, ◌%◌, Bool, true, false, List, [], ◌∷◌, ◌++◌, Option, Some, None, codes, decimal, length, nat_lt, if◌then◌else◌, ◌==◌, ◌||◌}
+use Rattle.std.specs.Prelude.{ℕ, ◌/◌, ◌%◌, Bool, false, List, [], ◌∷◌, ◌++◌, Option, Some, None, codes, decimal, length, nat_lt, if◌then◌else◌, ◌==◌, ◌||◌}
 use Rattle.std.specs.{Char.digit_char, Fmt.signed_decimal, List.flat_map, List.enumerate_from, Int.Width, Int.w32, Int.w64, Int.cast_signed}
 use Rattle.btf_types.specs.declared.values.Encoding.{Encoding}
 use Rattle.btf_types.specs.declared.values.Encoding.TheVariants as encoding
 use Rattle.btf_types.specs.declared.values.Linkage.{Linkage}
 use Rattle.btf_types.specs.declared.values.Linkage.TheVariants as linkage
-use Rattle.btf_types.specs.Names.{head_name}
+use Rattle.btf_raw.specs.Kinds.{has_no_name}
+use Rattle.btf_types.specs.{Names.head_name, Spelling.kind_number}
 use Rattle.btf_types.specs.Values.{TypeHead, KInt, KPtr, KArray, KStruct, KUnion, KEnum, KFwd, KTypedef, KVolatile, KConst, KRestrict, KFunc, KFuncProto, KVar, KDatasec, KFloat, KDeclTag, KTypeTag, KEnum64, TypeItem, Member, EnumValue, Value64, Param, Entry, TypeRecord}
 
 -- ---- names
@@ -78,19 +79,9 @@ kind_word (KDeclTag name flag target component) = codes "decl_tag"
 kind_word (KTypeTag name flag target) = codes "type_tag"
 kind_word (KEnum64 name signed size) = codes "enum64"
 
--- whether the kind of a type has a name, which may be empty
-abbrev pub has_name : TypeHead → Bool
-has_name (KPtr target) = false
-has_name (KArray target index count) = false
-has_name (KVolatile target) = false
-has_name (KConst target) = false
-has_name (KRestrict target) = false
-has_name (KFuncProto target) = false
-has_name head = true
-
--- what is between the kind and the fields: a space and the name, if the kind has one
+-- what is between the kind and the fields: a space and the name, which may be empty, unless the kind has none
 abbrev pub name_text : TypeHead → List ℕ
-name_text head = if has_name head then codes " " ++ quoted (head_name head) else []
+name_text head = if has_no_name (kind_number head) then [] else codes " " ++ quoted (head_name head)
 
 -- the fields of a type with this number of items
 abbrev pub fields_text : TypeHead → ℕ → List ℕ

@@ -2,18 +2,20 @@
 -- without a name is split after its kind.
 use Rattle.std.specs.Prelude.{ℕ, Bool, List, [], ◌++◌, codes, decimal, if◌then◌else◌}
 use Rattle.std.specs.Int.{w32, w64}
+use Rattle.btf_raw.specs.Kinds.{has_no_name}
 use Rattle.btf_types.specs.Values.{TypeHead, TypeItem, Member, EnumValue, Value64, Param, Entry}
-use Rattle.bpf_text.specs.btf.BtfText.{fields_text, has_name, kind_word, value_text}
+use Rattle.btf_types.specs.Spelling.{kind_number}
+use Rattle.bpf_text.specs.btf.BtfText.{fields_text, kind_word, value_text}
 
 -- ---- types
 
 -- the line of the type with this ID, up to its name
 abbrev pub head_start : ℕ → TypeHead → List ℕ
-head_start id head = codes "[" ++ decimal id ++ codes "] " ++ kind_word head ++ (if has_name head then codes " \"" else [])
+head_start id head = codes "[" ++ decimal id ++ codes "] " ++ kind_word head ++ (if has_no_name (kind_number head) then [] else codes " \"")
 
 -- what follows the name of a type with this number of items
 abbrev pub head_fields : TypeHead → ℕ → List ℕ
-head_fields head items = (if has_name head then codes "\"" else []) ++ fields_text head items
+head_fields head items = (if has_no_name (kind_number head) then [] else codes "\"") ++ fields_text head items
 
 -- the line of a type with this number of items, from the end of its name
 abbrev pub head_end : TypeHead → ℕ → List ℕ

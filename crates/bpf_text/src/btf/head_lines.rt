@@ -11,6 +11,7 @@ ghost use Rattle.bpf_text.specs.btf.Appending.{Appends};
 
 use crate::btf::quoted_name::append_quoted_part;
 use crate::btf::text_parts::{append, append_number, append_numbers};
+use btf_raw::info::has_no_name;
 use btf_types::{Encoding, Head, Linkage};
 use std::alloc::{AllocError, Allocator};
 
@@ -132,18 +133,6 @@ fn append_fields<A: Allocator>(
     }
 }
 
-/// Whether the kind of a type has a name, which may be empty.
-#[rattlefmt::skip]
-fn has_name(head: Head<'_>) -> bool
-    ensures { result ≡ spec.has_name (head_value head.entry) }
-{
-    match head {
-        Head::KPtr { .. } | Head::KArray { .. } | Head::KVolatile { .. } | Head::KConst { .. }
-        | Head::KRestrict { .. } | Head::KFuncProto { .. } => false,
-        _ => true,
-    }
-}
-
 /// Appends the line of a type up to the first byte of its name: `id` in brackets, the kind, and a
 /// quote if the kind has a name. To complete the line, append the name by [`append_quoted_part`]
 /// and the rest by [`append_head_end`].
@@ -161,7 +150,7 @@ pub fn append_head_start<A: Allocator>(
     append_number(text, "[", id)?;
     append(text, "] ")?;
     append(text, kind_word(head))?;
-    append(text, if has_name(head) { " \"" } else { "" })
+    append(text, if has_no_name(head.kind()) { "" } else { " \"" })
 }
 
 /// Appends the line of a type from the end of its name: the closing quote if the kind has a name,
@@ -177,7 +166,7 @@ pub fn append_head_end<A: Allocator>(
 ) -> Result<(), AllocError>
     ensures { Appends result text.old (parts.head_end (head_value head.entry) items) text.new }
 {
-    if has_name(head) {
+    if !has_no_name(head.kind()) {
         append(text, "\"")?;
     }
     append_fields(text, head, items)?;

@@ -8,42 +8,35 @@ ghost use Rattle.bpf_canon.specs.btf.CanonicalBtf.{canonical_flag};
 ghost use Rattle.bpf_canon.specs.btf.write.BtfWords as heads;
 
 use bpf_words::{Order, push_words, push16};
-use btf_raw::{
-    ARRAY, CONST, DATASEC, DECL_TAG, ENUM, ENUM64, FLOAT, FUNC, FUNC_PROTO, FWD, INT, PTR,
-    RESTRICT, STRUCT, TYPE_TAG, TYPEDEF, UNION, VAR, VOLATILE,
-};
 use btf_types::Head;
 use std::alloc::{AllocError, Allocator};
 
-/// The number of a record's kind, and its third word (btf.rst section 2.2).
+/// The third word of a record (btf.rst section 2.2).
 ///
 /// The standard declares this word as a union of size and type. It is named by its position here,
-/// since for an ARRAY or FWD it is neither and has to be 0. Both numbers are found by one match, so
-/// that it has a row for each kind.
-pub(crate) fn kind_and_third(head: Head<'_>) -> (u8, u32)
-    ensures kind { result.0 ≡ spec.kind_number (head_value head.entry) }
-    ensures third { result.1 ≡ spec.head_third (head_value head.entry) }
+/// since for an ARRAY or FWD it is neither and has to be 0.
+pub(crate) fn head_third(head: Head<'_>) -> u32
+    ensures { result ≡ spec.head_third (head_value head.entry) }
 {
     match head {
-        Head::KInt { size, .. } => (INT, size),
-        Head::KPtr { target } => (PTR, target),
-        Head::KArray { .. } => (ARRAY, 0),
-        Head::KStruct { size, .. } => (STRUCT, size),
-        Head::KUnion { size, .. } => (UNION, size),
-        Head::KEnum { size, .. } => (ENUM, size),
-        Head::KFwd { .. } => (FWD, 0),
-        Head::KTypedef { target, .. } => (TYPEDEF, target),
-        Head::KVolatile { target } => (VOLATILE, target),
-        Head::KConst { target } => (CONST, target),
-        Head::KRestrict { target } => (RESTRICT, target),
-        Head::KFunc { target, .. } => (FUNC, target),
-        Head::KFuncProto { target } => (FUNC_PROTO, target),
-        Head::KVar { target, .. } => (VAR, target),
-        Head::KDatasec { size, .. } => (DATASEC, size),
-        Head::KFloat { size, .. } => (FLOAT, size),
-        Head::KDeclTag { target, .. } => (DECL_TAG, target),
-        Head::KTypeTag { target, .. } => (TYPE_TAG, target),
-        Head::KEnum64 { size, .. } => (ENUM64, size),
+        Head::KInt { size, .. }
+        | Head::KStruct { size, .. }
+        | Head::KUnion { size, .. }
+        | Head::KEnum { size, .. }
+        | Head::KDatasec { size, .. }
+        | Head::KFloat { size, .. }
+        | Head::KEnum64 { size, .. } => size,
+        Head::KPtr { target }
+        | Head::KTypedef { target, .. }
+        | Head::KVolatile { target }
+        | Head::KConst { target }
+        | Head::KRestrict { target }
+        | Head::KFunc { target, .. }
+        | Head::KFuncProto { target }
+        | Head::KVar { target, .. }
+        | Head::KDeclTag { target, .. }
+        | Head::KTypeTag { target, .. } => target,
+        Head::KArray { .. } | Head::KFwd { .. } => 0,
     }
 }
 

@@ -17,7 +17,7 @@ ghost use Rattle.btf_types.specs.Names as spec;
 ghost use Rattle.btf_types.specs.Good as good;
 
 use crate::btf::names::{SharedNames, kept_names};
-use crate::btf::write::head_words::{head_vlen, kind_and_third, kind_flag, push_header};
+use crate::btf::write::head_words::{head_third, head_vlen, kind_flag, push_header};
 use crate::btf::write::sections::write_sections;
 use bpf_words::{Order, push_words};
 use btf_types::{Head, Item, TypeTable};
@@ -62,11 +62,14 @@ fn push_head<A: Allocator, B: Allocator + Copy>(
         ≡ out.old.items ++ bytes_of order (head_words (shared_among names.now)
         (head_value head.entry) count bit_fields)) }
 {
-    let (kind, third) = kind_and_third(head);
     let info = head_vlen(head, count)
-        + (u32::from(kind) << 24)
+        + (u32::from(head.kind()) << 24)
         + (kind_flag(head, bit_fields) << 31);
-    push_words(out, order, &[names.place(head.name()), info, third])?;
+    push_words(
+        out,
+        order,
+        &[names.place(head.name()), info, head_third(head)],
+    )?;
     push_further_words(out, order, head)
 }
 

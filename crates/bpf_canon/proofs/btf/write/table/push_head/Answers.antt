@@ -18,8 +18,8 @@ returns g c =
     let old = c.args.out.now.items in
     let name : c.place.result ≡ shared_among c.args.names.now (head_name h) = grind arith in
     let word = info (kind_number h) (head_vlen h c.args.count) (canonical_flag h c.args.bit_fields) in
-    let sum : c.head_vlen.result + (c.from.result * 2 ^ 24) % 2 ^ 32 + (c.kind_flag.result * 2 ^ 31) % 2 ^ 32 ≡ word = omega (arith, c.from.ensures, c.kind_and_third-kind.ensures.kind, c.head_vlen.ensures.is, c.kind_flag.ensures.is, c.kind_flag.ensures.bit) in
-    let words = words_are c.place.result _ c.kind_and_third-kind.result.1 (shared_among c.args.names.now (head_name h)) word (head_third h) name sum c.kind_and_third-kind.ensures.third in
+    let sum : c.head_vlen.result + (c.from.result * 2 ^ 24) % 2 ^ 32 + (c.kind_flag.result * 2 ^ 31) % 2 ^ 32 ≡ word = omega (arith, c.from.ensures, c.kind.ensures, c.head_vlen.ensures.is, c.kind_flag.ensures.is, c.kind_flag.ensures.bit) in
+    let words = words_are c.place.result _ c.head_third.result (shared_among c.args.names.now (head_name h)) word (head_third h) name sum c.head_third.ensures in
     on_ok_weaker c.push_further_words.result
     (λ e. e ∙ ap (λ (t : List ℕ). t ++ bytes_of o (head_tail h)) (c.in_ok-push_words.ensures.ok ∙ ap (λ (ws : List ℕ). old ++ bytes_of o ws) words)
     ∙ pushed_two o old (shared_among c.args.names.now (head_name h) ∷ word ∷ head_third h ∷ []) (head_tail h))
