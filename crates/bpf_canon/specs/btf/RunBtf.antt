@@ -4,6 +4,10 @@ use Rattle.std.specs.Io.KnownBytes.{Appends, Consumes, IsAtEnd}
 use Rattle.bpf_words.specs.declared.Order.{Order}
 use Rattle.btf_raw.specs.{declared.cause.BtfFault.BtfFault, Header.HEADER_LIMIT, Header.TYPES_LIMIT, Header.STRINGS_LIMIT}
 use Rattle.btf_types.specs.{Values.TypeRecord, Denotes.Denotes, Faults.IsFirst}
+use Rattle.btf_types.specs.declared.error.BtfError.{BtfError}
+use Rattle.btf_types.specs.declared.error.BtfError.TheVariants as errors
+use Rattle.bpf_canon.specs.declared.device.ReadError.{ReadError}
+use Rattle.bpf_canon.specs.declared.device.ReadError.TheVariants as unread
 use Rattle.bpf_canon.specs.{btf.CanonicalBtf.canonical, declared.engine.RunCause.RunCause, device.Reads.read_room, Engine.Devices}
 use Rattle.bpf_canon.specs.declared.engine.RunCause.TheVariants as cause
 
@@ -76,3 +80,13 @@ StopsBtf d to written cause.TooLong = StopsBtfTooLong d written
 StopsBtf d to written cause.ReadFailed = StopsBtfUnread d written
 StopsBtf d to written cause.WriteFailed = StopsBtfUnwritten d to written
 StopsBtf d to written cause.Memory = StopsBtfRefused d written
+
+-- the cause for an error of reading, and for an error of the file
+abbrev pub cause_of_read : ReadError → RunCause BtfFault
+cause_of_read unread.TooLong = cause.TooLong
+cause_of_read unread.ReadFailed = cause.ReadFailed
+cause_of_read unread.Memory = cause.Memory
+
+abbrev pub cause_of_btf : BtfError → RunCause BtfFault
+cause_of_btf (errors.Fault f) = cause.Fault f
+cause_of_btf errors.Memory = cause.Memory

@@ -8,7 +8,7 @@ ghost use Rattle.std.specs.Prelude.{◌≡◌, List, IfOk, IfErr, MatchResult};
 ghost use Rattle.bpf_words.specs.declared.Order.TheVariants.{Little};
 ghost use Rattle.btf_types.specs.{Values.TypeRecord, Denotes.Denotes, tables.Tables.Fails};
 ghost use Rattle.bpf_canon.specs.btf.{CanonicalBtf.canonical, BtfLaws.IsCanonicalBtf};
-ghost use Rattle.bpf_canon.specs.btf.SameBtf.{ComparesBtf, NamesBtfSide};
+ghost use Rattle.bpf_canon.specs.btf.SameBtf.{ComparesBtf, IsOnSide, NamesBtfSide};
 
 use crate::btf::write::table::write_btf;
 use crate::engine::SideError;
@@ -73,21 +73,30 @@ pub fn same_btf<A: Allocator>(alloc: A, a: &[u8], b: &[u8]) -> Result<bool, Side
     ensures fault { IfErr result (NamesBtfSide a.now b.now) }
 {
     if a == b {
-        return match BtfView::parse(alloc, a) {
-            Ok(_) => Ok(true),
-            Err(BtfError::Fault(fault)) => Err(SideError::First(fault)),
-            Err(BtfError::Memory) => Err(SideError::Memory),
-        };
+        BtfView::parse(alloc, a).map_err(|error| on_side(error, SideError::First))?;
+        return Ok(true);
     }
-    let first = match canonical_in(&alloc, Order::Little, a) {
-        Ok(canon) => canon,
-        Err(BtfError::Fault(fault)) => return Err(SideError::First(fault)),
-        Err(BtfError::Memory) => return Err(SideError::Memory),
-    };
-    let second = match canonical_in(&alloc, Order::Little, b) {
-        Ok(canon) => canon,
-        Err(BtfError::Fault(fault)) => return Err(SideError::Second(fault)),
-        Err(BtfError::Memory) => return Err(SideError::Memory),
-    };
+    let first = canonical_in(&alloc, Order::Little, a).map_err(|error| on_side(
+        error,
+        SideError::First,
+    ))?;
+    let second = canonical_in(&alloc, Order::Little, b).map_err(|error| on_side(
+        error,
+        SideError::Second,
+    ))?;
     Ok(first.as_slice() == second.as_slice())
+}
+
+/// The error of a comparison for the error of one of its files. `side` wraps the fault of the file.
+fn on_side<S: FnOnce(BtfFault) -> SideError<BtfFault> + Drop>(
+    error: BtfError,
+    side: S,
+) -> SideError<BtfFault>
+    requires { S.IsAlwaysCallable side }
+    ensures { IsOnSide (S.post side) error result }
+{
+    match error {
+        BtfError::Fault(fault) => side(fault),
+        BtfError::Memory => SideError::Memory,
+    }
 }

@@ -5,7 +5,7 @@
 
 ghost use Rattle.std.specs.Prelude.{◌≡◌, ◌<◌, ◌+◌, IfOk, IfErr, OnOk};
 ghost use Rattle.bpf_canon.specs.Engine.{devices, counts_read, counts_write};
-ghost use Rattle.bpf_canon.specs.btf.RunBtf.{RanBtf, StopsBtf};
+ghost use Rattle.bpf_canon.specs.btf.RunBtf.{RanBtf, StopsBtf, cause_of_btf, cause_of_read};
 
 use crate::btf::canon::canonical_in;
 use crate::device::{ByteSink, ByteSource, ReadError, read_all};
@@ -60,15 +60,32 @@ pub fn run_btf<A: Allocator + Copy, S: ByteSource, W: ByteSink>(
     ensures writes { IfErr result (λ e. W.failures sink.new
         ≡ W.failures sink.old + counts_write e.cause) }
 {
-    let bytes = match read_all(alloc, source, BTF_LIMIT) {
-        Ok(bytes) => bytes,
-        Err(ReadError::TooLong) => return Err(stopped(RunCause::TooLong, 0)),
-        Err(ReadError::ReadFailed) => return Err(stopped(RunCause::ReadFailed, 0)),
-        Err(ReadError::Memory) => return Err(stopped(RunCause::Memory, 0)),
+    let bytes = read_all(alloc, source, BTF_LIMIT).map_err(stopped_reading)?;
+    let canon = canonical_in(alloc, to, &bytes).map_err(stopped_checking)?;
+    put_whole(sink, canon.as_slice())
+}
+
+/// The error if the source couldn't be read to its end. Nothing has been written.
+fn stopped_reading(error: ReadError) -> RunError<BtfFault>
+    ensures cause { result.cause ≡ cause_of_read error }
+    ensures written { result.written ≡ 0 }
+{
+    let cause = match error {
+        ReadError::TooLong => RunCause::TooLong,
+        ReadError::ReadFailed => RunCause::ReadFailed,
+        ReadError::Memory => RunCause::Memory,
     };
-    match canonical_in(alloc, to, &bytes) {
-        Ok(canon) => put_whole(sink, canon.as_slice()),
-        Err(BtfError::Fault(fault)) => Err(stopped(RunCause::Fault(fault), 0)),
-        Err(BtfError::Memory) => Err(stopped(RunCause::Memory, 0)),
-    }
+    stopped(cause, 0)
+}
+
+/// The error if the input isn't valid BTF. Nothing has been written.
+fn stopped_checking(error: BtfError) -> RunError<BtfFault>
+    ensures cause { result.cause ≡ cause_of_btf error }
+    ensures written { result.written ≡ 0 }
+{
+    let cause = match error {
+        BtfError::Fault(fault) => RunCause::Fault(fault),
+        BtfError::Memory => RunCause::Memory,
+    };
+    stopped(cause, 0)
 }
