@@ -1,12 +1,16 @@
 -- The outcomes of a command that reads its complete input first.
-use Rattle.std.proofs.Common.{◌≡◌, ◌<◌, false, List, [], ℕ, inl, inr, length, refl}
+use Rattle.std.proofs.Common.{◌≡◌, ◌<◌, ◌+◌, ◌∙◌, false, List, [], ℕ, add-zero, inl, inr, length, refl}
 use Rattle.std.specs.Io.KnownBytes.{Consumes}
 use Rattle.std.proofs.KnownBytes.{Appends-nil}
 use Rattle.bpfcanon.specs.declared.{job.Job.Job, verb.Verb.Verb, outcome.Outcome.Outcome, outcome.Outcome.TheVariants.TooLong}
 use Rattle.bpfcanon.specs.declared.verb.Verb.TheVariants.{InsnCanon, InsnShow, InsnRead, InsnGroups, InsnSame, BtfCanon, BtfShow, BtfCheck, BtfSame}
 use Rattle.bpfcanon.specs.commands.BtfReply as btf
 use Rattle.bpfcanon.specs.commands.Reply.{IsReply, files_too_long, groups_too_long, has_engine, limit_of, show_too_long, streams, text_too_long}
-use Rattle.bpfcanon.specs.{Devices.Change, JobEnds.EndsJob, JobEnds.no_memory, JobEnds.no_memory_in_pieces, JobEnds.replied, JobEnds.write_failed}
+use Rattle.bpf_canon.specs.declared.device.ReadError.{ReadError}
+use Rattle.bpf_canon.specs.declared.device.ReadError.TheVariants as unread
+use Rattle.bpf_canon.specs.device.Reads.{EndsAmid, failed_reads}
+use Rattle.bpfcanon.specs.{Devices.Change, Devices.IsUnused, commands.Errors.read_end}
+use Rattle.bpfcanon.specs.JobEnds.{EndsJob, no_memory, no_memory_in_pieces, read_failed, replied, write_failed}
 use Rattle.bpfcanon.specs.commands.Pieces.{Answers, IsInput, answered, refused, refused_amid, unwritten}
 
 -- only a command with an engine writes while it reads
@@ -26,12 +30,18 @@ too_long_reply BtfShow j input whole beyond = btf.show_too_long beyond
 too_long_reply BtfCheck j input whole beyond = btf.check_too_long beyond
 too_long_reply BtfSame j input whole beyond = btf.files_too_long beyond
 
--- the input is longer than the limit of the command
-pub ends_too_long : (j : Job) (source sink : Change) → has_engine j.verb ≡ false
-    → (bytes : List ℕ) × (Consumes source.old source.new bytes × (limit_of j.verb < length bytes))
-    → source.failed_after ≡ source.failed → sink.new ≡ sink.old → sink.failed_after ≡ sink.failed → EndsJob j source sink TooLong
-ends_too_long j source sink whole came healthy same unused =
-    replied came.0 TooLong [] healthy unused came.1.0 (inr (inr came.1.1)) (too_long_reply j.verb j came.0 whole came.1.1) (rw same (Appends-nil sink.old))
+-- the input couldn't be read to its end
+pub ends_unread : (j : Job) (source sink : Change) (e : ReadError) → has_engine j.verb ≡ false
+    → (bytes : List ℕ) × (Consumes source.old source.new bytes × EndsAmid (limit_of j.verb) bytes e)
+    → source.failed_after ≡ source.failed + failed_reads e → IsUnused sink → EndsJob j source sink (read_end e)
+ends_unread j source sink unread.TooLong whole came failed unused =
+    let beyond = came.1.1.0 in
+    replied came.0 TooLong [] (failed ∙ add-zero _) unused.1 came.1.0 (inr (inr beyond)) (too_long_reply j.verb j came.0 whole beyond)
+    (rw unused.0 (Appends-nil sink.old))
+ends_unread j source sink unread.ReadFailed whole came failed unused =
+    read_failed came.0 (whole_input _ whole) failed unused came.1.0 came.1.1
+ends_unread j source sink unread.Memory whole came failed unused =
+    no_memory came.0 (whole_input _ whole) (failed ∙ add-zero _) unused came.1.0
 
 -- the input was read to its end, and the reply was written
 pub ends_answered : (j : Job) (source sink : Change) (input : List ℕ) (outcome : Outcome) → has_engine j.verb ≡ false

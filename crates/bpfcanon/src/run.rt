@@ -17,7 +17,7 @@ use crate::commands::two_files::{same_btf_files, same_insn_files};
 use crate::job::Job;
 use crate::outcome::Outcome;
 use crate::verb::Verb;
-use bpf_canon::{ByteSink, ByteSource, ReadError, read_all, run_btf, run_insns};
+use bpf_canon::{ByteSink, ByteSource, read_all, run_btf, run_insns};
 use std::alloc::Allocator;
 
 /// Reads the complete input of a command that has no engine.
@@ -38,12 +38,7 @@ fn read_input<A: Allocator, S: ByteSource>(
     ensures stopped { IfErr result (λ outcome. (sink : Change) → IsUnused sink
         → EndsJob job (source_change S.ByteSource source.old source.new) sink outcome) }
 {
-    match read_all(alloc, source, job.verb.limit()) {
-        Ok(input) => Ok(input),
-        Err(ReadError::TooLong) => Err(Outcome::TooLong),
-        Err(ReadError::ReadFailed) => Err(Outcome::ReadFailed),
-        Err(ReadError::Memory) => Err(Outcome::Memory),
-    }
+    Ok(read_all(alloc, source, job.verb.limit())?)
 }
 
 /// Writes the reply to a complete input.

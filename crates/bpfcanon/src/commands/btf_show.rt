@@ -23,7 +23,7 @@ use bpf_text::{
     append_head_end, append_head_start, append_item_end, append_item_start, append_quoted_part,
     is_signed,
 };
-use btf_types::{BtfError, BtfView, Head, Item, TypeTable};
+use btf_types::{BtfView, Head, Item, TypeTable};
 use std::alloc::Allocator;
 
 /// The longest chunk of a name that is quoted at once, in bytes.
@@ -173,7 +173,6 @@ pub fn put_btf_show<A: Allocator + Copy, W: ByteSink>(
 {
     match BtfView::parse(alloc, input) {
         Ok(table) => end_of_pieces(put_types(alloc, &table, sink)),
-        Err(BtfError::Fault(fault)) => Outcome::BtfFault(fault),
-        Err(BtfError::Memory) => Outcome::Memory,
+        Err(error) => Outcome::from(error),
     }
 }

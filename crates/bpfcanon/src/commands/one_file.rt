@@ -11,8 +11,8 @@ ghost use Rattle.bpfcanon.specs.commands.Reply.{IsGroupsReply, IsReadReply, limi
 
 use crate::outcome::Outcome;
 use bpf_insn::{Group, GroupSet, Order, groups_in};
-use bpf_text::{ListError, read_listing_bytes};
-use btf_types::{BtfError, BtfView, TypeTable};
+use bpf_text::read_listing_bytes;
+use btf_types::{BtfView, TypeTable};
 use itoa::Buffer;
 use std::alloc::{AllocError, Allocator};
 
@@ -26,11 +26,7 @@ pub fn insn_read_reply<A: Allocator>(
     requires { length input.now ≤ limit_of InsnRead }
     ensures { IsOutput (IsReadReply (limit_of InsnRead) to input.now) result }
 {
-    match read_listing_bytes(alloc, to, input) {
-        Ok(bytes) => Ok(bytes),
-        Err(ListError::Fault(fault)) => Err(Outcome::FaultyLine(fault)),
-        Err(ListError::Memory) => Err(Outcome::Memory),
-    }
+    Ok(read_listing_bytes(alloc, to, input)?)
 }
 
 /// The names of the groups in a set, one per line.
@@ -57,13 +53,8 @@ pub fn insn_groups_reply<A: Allocator>(
     requires { length input.now ≤ limit_of InsnGroups }
     ensures { IsOutput (IsGroupsReply (limit_of InsnGroups) order input.now) result }
 {
-    match groups_in(order, input) {
-        Ok(groups) => match group_lines(alloc, groups) {
-            Ok(lines) => Ok(lines),
-            Err(AllocError) => Err(Outcome::Memory),
-        },
-        Err(fault) => Err(Outcome::Fault(fault)),
-    }
+    let groups = groups_in(order, input)?;
+    Ok(group_lines(alloc, groups)?)
 }
 
 /// The line for a valid file, with its number of types.
@@ -83,12 +74,6 @@ pub fn btf_check_reply<A: Allocator + Copy>(alloc: A, input: &[u8]) -> Result<Ve
     requires { length input.now ≤ limit_of BtfCheck }
     ensures { IsOutput (IsBtfCheckReply (limit_of BtfCheck) input.now) result }
 {
-    match BtfView::parse(alloc, input) {
-        Ok(table) => match count_line(alloc, table.count()) {
-            Ok(line) => Ok(line),
-            Err(AllocError) => Err(Outcome::Memory),
-        },
-        Err(BtfError::Fault(fault)) => Err(Outcome::BtfFault(fault)),
-        Err(BtfError::Memory) => Err(Outcome::Memory),
-    }
+    let table = BtfView::parse(alloc, input)?;
+    Ok(count_line(alloc, table.count())?)
 }

@@ -12,7 +12,7 @@ ghost use Rattle.bpfcanon.specs.commands.Reply.{IsSameReply, limit_of};
 
 use crate::job::Job;
 use crate::outcome::Outcome;
-use bpf_canon::{SideError, same_btf, same_insns};
+use bpf_canon::{same_btf, same_insns};
 use std::alloc::Allocator;
 
 /// Splits an input after its first `split` bytes. `None` if the input is shorter.
@@ -36,12 +36,7 @@ pub fn same_insn_files<A: Allocator + Copy>(
         (IsSameReply (limit_of InsnSame) job.order job.other job.split input.now) result }
 {
     let (first, second) = two_files(input, job.split).ok_or(Outcome::SplitBeyond)?;
-    match same_insns(alloc, job.order, first, job.other, second) {
-        Ok(same) => Ok(same),
-        Err(SideError::First(fault)) => Err(Outcome::First(fault)),
-        Err(SideError::Second(fault)) => Err(Outcome::Second(fault)),
-        Err(SideError::Memory) => Err(Outcome::Memory),
-    }
+    Ok(same_insns(alloc, job.order, first, job.other, second)?)
 }
 
 /// The answer of `btf-same`. The magic in each header shows the byte order of the file.
@@ -55,10 +50,5 @@ pub fn same_btf_files<A: Allocator + Copy>(
     ensures { IsVerdict (IsBtfSameReply (limit_of BtfSame) split input.now) result }
 {
     let (first, second) = two_files(input, split).ok_or(Outcome::SplitBeyond)?;
-    match same_btf(alloc, first, second) {
-        Ok(same) => Ok(same),
-        Err(SideError::First(fault)) => Err(Outcome::FirstBtf(fault)),
-        Err(SideError::Second(fault)) => Err(Outcome::SecondBtf(fault)),
-        Err(SideError::Memory) => Err(Outcome::Memory),
-    }
+    Ok(same_btf(alloc, first, second)?)
 }

@@ -1,19 +1,9 @@
-use Rattle.std.proofs.Common.{◌∙◌, add-zero, arith}
-use Rattle.bpfcanon.specs.JobEnds.{no_memory, read_failed}
-use Rattle.bpfcanon.proofs.JobLemmas.{ends_too_long, whole_input}
+use Rattle.std.proofs.lemmas.Result.{err_from_is_err_and}
+use Rattle.bpfcanon.proofs.JobLemmas.{ends_unread}
 use Rattle.bpfcanon.proofs.run.read_input.Goals as goal
 
-pub returns-in-Err-TooLong-clause-stopped : goal.returns-in-Err-TooLong-clause-stopped
-returns-in-Err-TooLong-clause-stopped g c = grind (arith, ends_too_long)
-
-pub returns-in-Err-ReadFailed-clause-stopped : goal.returns-in-Err-ReadFailed-clause-stopped
-returns-in-Err-ReadFailed-clause-stopped g c = λ sink unused.
-    let failed = rw c.in-Err-ReadFailed.field-0-is at c.in-Err-ReadFailed.ensures.count in
-    let came = rw (c.in-Err-ReadFailed.field-0-is, c.limit.ensures) at c.in-Err-ReadFailed.ensures.amid in
-    read_failed came.0 (whole_input _ c.requires.whole) failed unused came.1.0 came.1.1
-
-pub returns-in-Err-Memory-clause-stopped : goal.returns-in-Err-Memory-clause-stopped
-returns-in-Err-Memory-clause-stopped g c = λ sink unused.
-    let healthy = rw c.in-Err-Memory.field-0-is at c.in-Err-Memory.ensures.count in
-    let came = c.in-Err-Memory.ensures.amid in
-    no_memory came.0 (whole_input _ c.requires.whole) (healthy ∙ add-zero _) unused came.1.0
+pub returns-in_err-read_all-clause-stopped : goal.returns-in_err-read_all-clause-stopped
+returns-in_err-read_all-clause-stopped g c =
+    let p = err_from_is_err_and c.from_residual.result c.from_residual.ensures.1 in
+    rw (p.1, p.2) (λ sink unused.
+    ends_unread c.args.job _ sink c.in_err-read_all.field-0.0 c.requires.whole (rw c.limit.ensures at c.in_err-read_all.ensures.amid) c.in_err-read_all.ensures.count unused)
