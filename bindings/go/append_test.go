@@ -82,24 +82,28 @@ func TestResultsAreAppended(t *testing.T) {
 	}
 }
 
-// The input may be anywhere in the array of dst: the library never writes where it reads.
+// The input may be anywhere in the array of dst, which may end anywhere in the input: the library never writes where it reads.
 func TestTheInputMayBeBehindDst(t *testing.T) {
 	for _, it := range appendingCalls(t) {
 		size := len(before) + 5*len(it.input) + len(it.want)
-		for _, start := range []int{len(before), len(before) + 7, len(before) + len(it.want), size - len(it.input)} {
+		last := len(before) + len(it.want) - 1 // where the last byte of the output would be
+		for _, row := range []struct{ start, end int }{
+			{len(before), size}, {len(before) + 7, size}, {last, size}, {last, last + 1}, {last + 1, size}, {size - len(it.input), size},
+		} {
 			array := make([]byte, size)
 			copy(array, before)
-			input := array[start : start+copy(array[start:], it.input)]
-			got, err := it.call(array[:len(before)], input)
-			wantAppended(t, fmt.Sprintf("%s of byte %d", it.name, start), it, array[:len(before)], input, got, err)
+			dst, input := array[:len(before):row.end], array[row.start:row.start+len(it.input)]
+			copy(input, it.input)
+			got, err := it.call(dst, input)
+			wantAppended(t, fmt.Sprintf("%s of byte %d, up to %d", it.name, row.start, row.end), it, dst, input, got, err)
 		}
 	}
 }
 
-// An input that overlaps dst itself is as before, and so is dst.
+// An input that overlaps dst itself is as before, and so is dst. Its last byte may be the first one of the spare capacity.
 func TestOutputMayReplaceTheInput(t *testing.T) {
 	for _, it := range appendingCalls(t) {
-		for _, kept := range []int{0, 4, len(it.input)} {
+		for _, kept := range []int{0, 4, len(it.input) - 1, len(it.input)} {
 			input := append(make([]byte, 0, 5*len(it.input)+len(it.want)), it.input...)
 			got, err := it.call(input[:kept], input)
 			wantBytes(t, it.name, got, err, append(append([]byte(nil), it.input[:kept]...), it.want...))

@@ -51,3 +51,14 @@ func TestResolve(t *testing.T) {
 		}
 	}
 }
+
+// Each type of a file may be in the chain: a const of the type before it, and the first one of void.
+func TestAChainOfAllTypes(t *testing.T) {
+	var file []uint32
+	for length := uint32(1); length < 5; length++ {
+		file = append(file, 0, info(bpfcanon.KindConst, 0, 0), length-1)
+		if got, err := decode(t, btf(binary.LittleEndian, file, "\x00")).Resolve(bpfcanon.ID(length)); got != 0 || err != nil {
+			t.Errorf("%d is %d, %v, want 0", length, got, err)
+		}
+	}
+}

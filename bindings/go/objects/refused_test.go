@@ -163,6 +163,7 @@ func TestRefusedSymbols(t *testing.T) {
 	debug.symbols = []sym{{name: "m", kind: elf.STT_OBJECT, section: 2, bind: elf.STB_GLOBAL}}
 	three := made{parts: []part{{name: "x", content: exit + exit + exit, flags: loaded}}}
 	three.symbols = []sym{{"a", elf.STT_FUNC, 1, 0, 16, elf.STB_GLOBAL, 0}, {"b", elf.STT_FUNC, 1, 8, 8, elf.STB_GLOBAL, 0}}
+	weak := sym{name: "outside", bind: elf.STB_WEAK}
 	var aliases []sym
 	for i := 0; i < 17; i++ {
 		aliases = append(aliases, function)
@@ -181,6 +182,7 @@ func TestRefusedSymbols(t *testing.T) {
 		{"past the end, modulo 2^64", objects.SymbolPlace, ".symtab+24", with(func(it *sym) { it.value, it.size = 1<<64-8, 16 })},
 		{"half an instruction", objects.SymbolPlace, ".symtab+24", with(func(it *sym) { it.size = 4 })},
 		{"two global symbols", objects.SymbolTwice, ".symtab+48", withSymbols(function, function).bytes()},
+		{"two weak symbols", objects.SymbolTwice, ".symtab+72", withSymbols(function, weak, weak).bytes()},
 		{"overlapping functions", objects.FunctionOverlap, "x+8", three.bytes()},
 		{"17 names of a function", objects.FunctionOverlap, "xdp+0", withSymbols(aliases...).bytes()},
 	})
