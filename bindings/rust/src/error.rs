@@ -101,3 +101,22 @@ impl<C: CauseNumber> From<Error<C>> for io::Error {
         io::Error::new(kind, error)
     }
 }
+
+#[cfg(test)]
+mod tests {
+    use super::*;
+    use crate::insn;
+
+    /// Each status of `bpfcanon.h` that isn't one of success, and one of a newer library.
+    #[test]
+    fn each_status_has_its_error() {
+        let cause = insn::Cause::Dst;
+        let fault = |is_in_second| Error::Fault(Fault { position: 9, cause, is_in_second });
+        let unknown = [5, 6, 7, 8, 99].map(|status| (status, Error::Status(status)));
+        let known = [(2, fault(false)), (3, fault(true)), (4, Error::OutOfMemory)];
+        for (status, error) in known.into_iter().chain(unknown) {
+            let answer = sys::Answer { status, cause: cause.number(), ..Default::default() };
+            assert_eq!(Error::of(&answer, 9), error, "{status}");
+        }
+    }
+}

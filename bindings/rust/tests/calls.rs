@@ -1,5 +1,7 @@
-//! What the vectors don't show: compiled files, empty inputs, long output, errors and threads.
+//! What the vectors don't show: compiled files, empty inputs, long output, errors, numbers of the
+//! header and threads.
 
+use bpfcanon::insn::Groups;
 use bpfcanon::{btf, insn, Order};
 use std::{error, fs, io};
 
@@ -41,16 +43,74 @@ fn empty_inputs_are_inputs() {
     assert_eq!((fault.position(), fault.cause()), (0, btf::Cause::ShortHeader));
 }
 
-/// 300 FWDs with one name of 2,000 letters: their text is many times as long as the file.
-#[test]
-fn a_name_that_types_share_is_written_for_each() {
-    let name = "a".repeat(2000);
-    let types = [1u32, 7 << 24, 0].map(u32::to_le_bytes).concat().repeat(300);
+/// Little-endian BTF of some FWDs with one name.
+fn forwards(count: usize, name: &str) -> Vec<u8> {
+    let types = [1u32, 7 << 24, 0].map(u32::to_le_bytes).concat().repeat(count);
     let strings = format!("\0{name}\0");
     let lengths = [24, 0, types.len(), types.len(), strings.len()];
     let lengths = lengths.map(|it| (it as u32).to_le_bytes()).concat();
-    let file = [&[0x9f, 0xeb, 1, 0], &lengths[..], &types, strings.as_bytes()].concat();
-    assert_eq!(btf::show(&file).unwrap().matches(&name).count(), 300);
+    [&[0x9f, 0xeb, 1, 0], &lengths[..], &types, strings.as_bytes()].concat()
+}
+
+/// 300 types with one name of 2,000 letters: their text is many times as long as the file.
+#[test]
+fn a_name_that_types_share_is_written_for_each() {
+    let name = "a".repeat(2000);
+    assert_eq!(btf::show(&forwards(300, &name)).unwrap().matches(&name).count(), 300);
+}
+
+/// Both inputs are read, also if they have one length.
+#[test]
+fn comparisons_read_both_inputs() {
+    let (a, b) = (forwards(1, "a"), forwards(1, "b"));
+    for (first, second, is_same) in [(&a, &a, true), (&a, &b, false), (&b, &a, false)] {
+        assert_eq!(btf::same(first, second), Ok(is_same));
+    }
+    let (mov, mov_big) = ([0xbf, 0x21, 0, 0, 0, 0, 0, 0], [0xbf, 0x12, 0, 0, 0, 0, 0, 0]);
+    for (first, order, second, is_same) in [
+        (mov, Order::Big, mov_big, true),
+        (mov, Order::Big, mov, false),
+        (mov, Order::Big, EXIT, false),
+        (mov, Order::Little, EXIT, false),
+        (EXIT, Order::Little, mov, false),
+    ] {
+        assert_eq!(insn::same(Order::Little, &first, order, &second), Ok(is_same));
+    }
+}
+
+#[test]
+fn byte_orders_have_one_word_each() {
+    let words = ["little", "big", "LITTLE", "Big", "le", "", " little", "big\n"];
+    let orders = words.map(|word| word.parse::<Order>().ok());
+    assert_eq!(orders[..2], [Some(Order::Little), Some(Order::Big)]);
+    assert_eq!(orders[2..], [None; 6]);
+}
+
+/// The groups in the sequence of RFC 9669 section 2.4, which is that of their bits in the header.
+const GROUPS: [(Groups, &str); 7] = [
+    (Groups::BASE32, "base32"),
+    (Groups::BASE64, "base64"),
+    (Groups::ATOMIC32, "atomic32"),
+    (Groups::ATOMIC64, "atomic64"),
+    (Groups::DIVMUL32, "divmul32"),
+    (Groups::DIVMUL64, "divmul64"),
+    (Groups::PACKET, "packet"),
+];
+
+#[test]
+fn a_set_has_the_groups_that_are_in_it() {
+    let none = Groups::empty();
+    assert_eq!((none.is_empty(), none.bits(), none.to_string()), (true, 0, String::new()));
+    for (at, (group, name)) in GROUPS.into_iter().enumerate() {
+        assert_eq!((group.bits(), &*group.to_string(), group.is_empty()), (1 << at, name, false));
+        assert_eq!((group.contains(none), none.contains(group)), (true, false));
+        for (other, _) in GROUPS {
+            let (both, is_one) = (group | other, group == other);
+            assert_eq!((both.contains(group), both.contains(both)), (true, true), "{both}");
+            assert_eq!((group.contains(other), group.contains(both)), (is_one, is_one), "{both}");
+            assert_eq!((both & group, (group & other).is_empty()), (group, !is_one), "{both}");
+        }
+    }
 }
 
 #[test]
@@ -86,20 +146,25 @@ fn errors_go_through_dyn_error_and_io_error() {
     assert_eq!(error.kind(), io::ErrorKind::OutOfMemory);
 }
 
-/// How many causes of a kind the header has.
-fn count_in_header(kind: &str) -> usize {
+/// A number that the header defines.
+fn number_in_header(name: &str) -> usize {
     let path = concat!(env!("CARGO_MANIFEST_DIR"), "/../../capi/bpfcanon.h");
     let header = fs::read_to_string(path).unwrap_or_else(|error| panic!("{path}: {error}"));
-    let start = format!("#define BPFCANON_{kind}_CAUSES ");
-    let mut counts = header.lines().filter_map(|line| line.strip_prefix(&start));
-    counts.next().unwrap().parse().unwrap()
+    let start = format!("#define BPFCANON_{name} ");
+    let mut numbers = header.lines().filter_map(|line| line.strip_prefix(&start));
+    numbers.next().unwrap().parse().unwrap()
+}
+
+#[test]
+fn the_longest_btf_is_that_of_the_header() {
+    assert_eq!(btf::MAX, number_in_header("BTF_MAX"));
 }
 
 /// The variants are spelled as the library's names, and neither the header nor the library has
 /// another cause.
 #[test]
 fn the_crate_has_every_cause_of_the_library() {
-    let counts = ["INSN", "LINE", "BTF"].map(count_in_header);
+    let counts = ["INSN_CAUSES", "LINE_CAUSES", "BTF_CAUSES"].map(number_in_header);
     let own = [insn::Cause::ALL.len(), insn::ListingCause::ALL.len(), btf::Cause::ALL.len()];
     assert_eq!(own, counts);
     for (at, it) in insn::Cause::ALL.iter().enumerate() {

@@ -6,6 +6,9 @@ use bpfcanon::btf::{Btf, Item, ResolveError, Type, TypeId};
 use bpfcanon::insn::{self, AluOp, Insn, Operand, Program, Reg, WideOf, Width};
 use bpfcanon::Order;
 use rows::load;
+use std::sync::mpsc;
+use std::thread;
+use std::time::Duration;
 
 /// The kinds of btf.rst section 2.2, as they are in bits 24 to 28 of the info word.
 const INT: u32 = 1 << 24;
@@ -58,8 +61,7 @@ fn resolve_follows_qualifiers_tags_and_typedefs() {
 }
 
 /// Circles of 1 to 9 types, with 0 to 9 types that lead to them.
-#[test]
-fn resolve_ends_on_a_circle() {
+fn resolve_circles() {
     for (before, length) in (0..10).flat_map(|it| (1..10).map(move |length| (it, length))) {
         let last = before + length;
         let target = |id| if id == last { before + 1 } else { id + 1 };
@@ -70,6 +72,17 @@ fn resolve_ends_on_a_circle() {
             assert_eq!(btf.resolve(id), Err(ResolveError::Circle(id)), "{before} {length}");
         }
     }
+}
+
+/// The test fails, and doesn't wait, if one of them is followed without end.
+#[test]
+fn resolve_ends_on_a_circle() {
+    let (ended, end) = mpsc::channel();
+    thread::spawn(move || {
+        resolve_circles();
+        ended.send(()).unwrap();
+    });
+    end.recv_timeout(Duration::from_secs(20)).unwrap();
     let error = ResolveError::Circle(TypeId(3));
     assert_eq!(error.to_string(), "type 3 leads round a circle");
     assert_eq!(ResolveError::NoSuchType(TypeId(9)).to_string(), "there is no type 9");

@@ -1,8 +1,10 @@
-//! Streams in pieces of any length, their faults, and an underlying writer that fails.
+//! Streams in pieces of any length, their faults, and an underlying writer that holds back what it
+//! gets, fails or panics.
 
 use bpfcanon::insn::{self, InsnWriter};
 use bpfcanon::Order;
-use std::io::{self, Write};
+use std::io::{self, BufWriter, Write};
+use std::panic::{catch_unwind, AssertUnwindSafe};
 
 const WIDE: [u8; 16] = [0x18, 0x10, 0, 0, 0, 0, 0, 5, 0, 0, 0, 0, 0, 0, 0, 1];
 const EXIT: [u8; 8] = [0x95, 0, 0, 0, 0, 0, 0, 0];
@@ -91,5 +93,55 @@ fn no_write_succeeds_after_the_underlying_writer_failed() {
     writer.get_mut().0 = 100;
     assert!(writer.write(&EXIT).is_err());
     assert_eq!(writer.get_ref().0, 100);
+    assert!(writer.finish().is_err());
+}
+
+#[test]
+fn flush_and_finish_flush_the_underlying_writer() {
+    let mut writer = InsnWriter::new(BufWriter::new(Vec::new()), Order::Big, Order::Little);
+    writer.write_all(&EXIT).unwrap();
+    assert_eq!((writer.get_ref().buffer(), writer.get_ref().get_ref().len()), (&EXIT[..], 0));
+    writer.flush().unwrap();
+    assert_eq!((writer.get_ref().buffer(), &writer.get_ref().get_ref()[..]), (&[][..], &EXIT[..]));
+    writer.write_all(&EXIT).unwrap();
+    let below = writer.finish().unwrap();
+    assert_eq!((below.buffer(), below.get_ref()), (&[][..], &EXIT.repeat(2)));
+}
+
+#[test]
+fn finish_returns_the_error_of_the_flush() {
+    let below = BufWriter::new(Full(12));
+    let mut writer = InsnWriter::new(below, Order::Little, Order::Little);
+    writer.write_all(&EXIT.repeat(2)).unwrap();
+    assert_eq!(writer.finish().err().unwrap().kind(), io::ErrorKind::WriteZero);
+}
+
+/// A writer that panics the first time, and counts what it accepts after that.
+#[derive(Default)]
+struct Panicking {
+    has_panicked: bool,
+    taken: usize,
+}
+
+impl Write for Panicking {
+    fn write(&mut self, bytes: &[u8]) -> io::Result<usize> {
+        if !std::mem::replace(&mut self.has_panicked, true) {
+            panic!("the first write");
+        }
+        self.taken += bytes.len();
+        Ok(bytes.len())
+    }
+
+    fn flush(&mut self) -> io::Result<()> {
+        Ok(())
+    }
+}
+
+#[test]
+fn no_write_succeeds_after_the_underlying_writer_panicked() {
+    let mut writer = InsnWriter::new(Panicking::default(), Order::Little, Order::Little);
+    assert!(catch_unwind(AssertUnwindSafe(|| writer.write(&EXIT))).is_err());
+    assert!(writer.write(&EXIT).is_err() && writer.flush().is_err());
+    assert_eq!(writer.get_ref().taken, 0);
     assert!(writer.finish().is_err());
 }
