@@ -76,9 +76,9 @@ def library() -> ctypes.CDLL:
     path = os.environ.get("BPFCANON_LIBRARY") or (str(beside) if beside.is_file() else NAME)
     try:
         loaded = ctypes.CDLL(path)
-    except OSError as error:
+        _declare(loaded, "version", [], ctypes.c_char_p)
+    except (OSError, AttributeError) as error:  # AttributeError: it is another library
         raise OSError(f"bpfcanon's C library can't be loaded ({error}); BPFCANON_LIBRARY can name its file") from error
-    _declare(loaded, "version", [], ctypes.c_char_p)
     version: bytes = loaded.bpfcanon_version()
     if not has_all_calls(version.decode()):
         raise OSError(f"{path} has version {version.decode()}, and this package needs {OLDEST[0]}.{OLDEST[1]} or a later {OLDEST[0]}.x")

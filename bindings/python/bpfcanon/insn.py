@@ -90,11 +90,11 @@ def insn_stream(pieces: Iterable[Buffer], *, order: Order = Order.LITTLE, to: Or
 
     Yields the instructions that each piece completes, and holds fewer than 16 bytes between pieces.
     A fault is raised after the instructions before it, with its offset in the stream.
-    Raises Fault with an InsnCause, OutOfMemory.
+    Raises Fault with an InsnCause, OutOfMemory; TypeError for a piece that is no buffer, as each byte of a single one.
     """
     held, done = b"", 0
     for piece in pieces:
-        given = held + bytes(piece)
+        given = held + memoryview(piece).tobytes()
         front = insn_front(given, order=order, to=to)
         if front.output:
             yield front.output

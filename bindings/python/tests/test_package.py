@@ -1,6 +1,7 @@
 """Inputs of each kind, exceptions, names of causes and the library that is loaded."""
 
 import array
+import ctypes
 import doctest
 import mmap
 import os
@@ -11,7 +12,7 @@ import subprocess
 import sys
 import tempfile
 import unittest
-from typing import Any
+from typing import Any, Optional
 from unittest import mock
 
 import bpfcanon
@@ -55,6 +56,10 @@ class Inputs(unittest.TestCase):
             for call in bpfcanon.insn_canon, bpfcanon.insn_groups, bpfcanon.btf_check, bpfcanon.btf_canon:
                 with self.assertRaises(TypeError):
                     call(value)  # type: ignore[operator]
+        # The pieces of a single buffer are numbers.
+        for pieces in [["exit"], [None], [8], b"\x95", bytearray(8)]:
+            with self.assertRaises(TypeError):
+                list(bpfcanon.insn_stream(pieces))  # type: ignore[arg-type]
 
     def test_a_number_that_is_no_order_is_refused(self) -> None:
         for order in 2, -1, 1 << 31:
@@ -156,6 +161,13 @@ class Library(unittest.TestCase):
         self.assertIn("none.so", done.stderr)
         self.assertIn("BPFCANON_LIBRARY", done.stderr)
 
+    def test_another_library_is_refused(self) -> None:
+        self.addCleanup(_library.library.cache_clear)
+        _library.library.cache_clear()
+        program = ctypes.CDLL(None)  # this interpreter, which has none of the calls
+        with mock.patch("ctypes.CDLL", return_value=program), self.assertRaisesRegex(OSError, "can't be loaded .*bpfcanon_version"):
+            bpfcanon.library_version()
+
     def test_a_library_of_another_version_is_refused(self) -> None:
         self.addCleanup(_library.library.cache_clear)
         taken = [("0.0.9", False), ("0.1.0", True), ("0.1.12", True), ("0.2.0", True), ("0.10.0", True), ("1.0.0", False), ("1.1.0", False)]
@@ -167,6 +179,26 @@ class Library(unittest.TestCase):
                 else:
                     with self.assertRaisesRegex(OSError, f"version {version}, .* needs 0.1 or a later 0.x"):
                         bpfcanon.library_version()
+
+    def test_the_library_that_is_loaded(self) -> None:
+        """The one that BPFCANON_LIBRARY names, or else the one beside the package, or else the one that the loader finds."""
+        self.addCleanup(_library.library.cache_clear)
+        with tempfile.TemporaryDirectory() as name:
+            folder = pathlib.Path(name)
+            (folder / "wheel").mkdir()
+            (folder / "tree").mkdir()
+            beside = folder / "wheel" / _library.NAME
+            beside.touch()
+            rows: list[tuple[str, Optional[str], str]] = [("wheel", "/own.so", "/own.so"), ("tree", "/own.so", "/own.so")]
+            rows += [("wheel", "", str(beside)), ("wheel", None, str(beside)), ("tree", "", _library.NAME), ("tree", None, _library.NAME)]
+            for place, named, path in rows:
+                _library.library.cache_clear()
+                package = mock.patch.object(_library, "__file__", str(folder / place / "_library.py"))
+                with package, mock.patch.dict(os.environ), mock.patch("ctypes.CDLL", return_value=Calls("0.1.0")) as loaded:
+                    os.environ.pop("BPFCANON_LIBRARY", None)
+                    os.environ.update({} if named is None else {"BPFCANON_LIBRARY": named})
+                    _library.library()
+                self.assertEqual(loaded.call_args.args, (path,), (place, named))
 
     def test_each_exported_name_is_there(self) -> None:
         for name in bpfcanon.__all__:
