@@ -15,6 +15,11 @@ class Types(unittest.TestCase):
             self.assertEqual(bpfcanon.btf_canon(little, to=to), bpfcanon.btf_canon(big, to=to))
         self.assertTrue(bpfcanon.btf_same(little, big))
 
+    def test_types_of_one_length_may_be_different(self) -> None:
+        little, big, other = (btf(order, ([1, 0x10000000, 8], name)) for order, name in [("<", b"\0a\0"), (">", b"\0a\0"), ("<", b"\0b\0")])
+        for first, second, is_same in (little, big, True), (little, other, False), (other, little, False):
+            self.assertIs(bpfcanon.btf_same(first, second), is_same)
+
     def test_the_text_may_be_much_longer_than_the_types(self) -> None:
         name = "x" * 500
         words = [0, 0x04000000 + 100, 0] + [1, 0, 0] * 100

@@ -235,8 +235,10 @@ class Outputs(CommandTest):
         self.assertEqual(keys.stat().st_mtime, 1)
         self.assertEqual(self.run_line("key -o keys other.o bad.o").status, 2)
         self.assertEqual(keys.stat().st_mtime, 1)
-        self.assertEqual(self.run_line("key -o keys other.o").status, 0)
-        self.assertEqual(keys.read_text(), self.run_line("key other.o").output)
+        # Another content, a longer one, and one with which that begins.
+        for files in "other.o", "other.o one.o", "other.o":
+            self.assertEqual(self.run_line(f"key -o keys {files}").status, 0)
+            self.assertEqual(keys.read_text(), self.run_line(f"key {files}").output)
         self.assertEqual(sorted(it.name for it in self.folder.glob("keys*")), ["keys"])
 
     def test_outputs_that_fail(self) -> None:
@@ -299,6 +301,10 @@ class Manifests(CommandTest):
         self.assertEqual(self.verify(self.manifest("one.o"), "-C folder"), Ran(0, "folder/one.o: ok\n", ""))
         self.assertEqual(self.verify(self.manifest("one.o other.o"), "same.o").status, 2)
         self.assertEqual(self.verify(self.manifest("one.o other.o"), "folder/one.o"), Ran(0, "folder/one.o: ok\n", ""))
+        # The path comes before its last part, which two files have here.
+        two = self.manifest("one.o folder/one.o")
+        self.assertEqual(self.verify(two, "one.o folder/one.o"), Ran(0, "one.o: ok\nfolder/one.o: ok\n", ""))
+        self.assertEqual(self.verify(two, "mixed/one.o").message, "bpfcanon-object: mixed/one.o: the manifest has several entries for it\n")
         self.assertEqual(self.verify(self.manifest("--raw bad.o")), Ran(0, "bad.o: ok\n", ""))
         self.assertEqual(self.verify(self.manifest("--any-order other.o").replace(b"other.o", b"big.o")), Ran(0, "big.o: ok\n", ""))
 

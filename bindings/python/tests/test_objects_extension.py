@@ -75,6 +75,15 @@ class Readings(unittest.TestCase):
             self.assertEqual(found.lines, [line])
             self.assertEqual([found.source("xdp", 8), found.source("tc", 8)], [line, None])
 
+    def test_source_lines(self) -> None:
+        """The line of a place begins at or before it in its section. Of the others, "tc" is sorted between the two, and "yyy" after them."""
+        ext = made.extension(lines=[(XDP, [(8, FILE, TEXT, 1 << 10), (24, FILE, TEXT, 2 << 10)]), (INT, [(0, FILE, TEXT, 3 << 10)])])
+        found = read(with_extension(ext))
+        rows = [("xdp", 0, None), ("xdp", 8, 1), ("xdp", 16, 1), ("xdp", 24, 2), ("xdp", 800, 2), ("int", 0, 3), ("int", 8, 3)]
+        for section, offset, number in [*rows, ("abc", 0, None), ("tc", 800, None), ("yyy", 0, None)]:
+            line = found.source(section, offset)
+            self.assertEqual(line.number if line else None, number, (section, offset))
+
     def test_headers(self) -> None:
         records = [(XDP, [(0, 1)])]
         for size in (24, 32, 40):
