@@ -15,6 +15,7 @@ from tests.program import SECONDS, Report
 
 TOP = pathlib.Path(__file__).resolve().parent.parent.parent
 HASH = "sources.sha256"
+HEAP = "heap.pic.o"
 OTHER = "0" * 64 + "\n"
 # A file, and whether the archive is made from it.
 FILES = [
@@ -48,8 +49,15 @@ def copy_tree(folder, archive):
     return out / "libbpfcanon_c.a"
 
 
-def ran(folder, *words):
-    environment = os.environ | {"PATH": f"{folder / 'bin'}:{os.environ['PATH']}", "DESTDIR": ""}
+# A kit whose compiler makes an empty archive, its last word, after it has added a line to the file CHANGED.
+KIT = {
+    "rt": """[ "$1" != doc ] || echo "$KIT/guide.md"\n""",
+    "rattle": """[ -z "$CHANGED" ] || echo >>"$CHANGED"\nfor word; do target=$word; done\nar rcs "$target"\n""",
+}
+
+
+def ran(folder, *words, **variables):
+    environment = os.environ | {"PATH": f"{folder / 'bin'}:{os.environ['PATH']}", "DESTDIR": ""} | variables
     return subprocess.run([folder / "capi" / words[0], *words[1:]], env=environment, capture_output=True, text=True, timeout=SECONDS)
 
 
@@ -101,6 +109,35 @@ def check_changes(report, folder, archive):
         report.expect_that(ran(folder, "sources").stdout == sources, f"{name} as before", "the hash is another")
 
 
+def make_kit(folder):
+    for name, text in KIT.items():
+        (folder / "bin").mkdir(parents=True, exist_ok=True)
+        (folder / "bin" / name).write_text(f"#!/bin/sh\n{text}")
+        (folder / "bin" / name).chmod(0o755)
+    (folder / "c").mkdir()
+    (folder / HEAP).write_text("a heap")
+    subprocess.run(["ar", "rcs", folder / "c" / "liblibc_c.a", HEAP], cwd=folder, check=True)
+
+
+def check_making(report, folder, archive):
+    """What capi/archive makes has the hash of its sources and the heap. If they change meanwhile, nothing is made."""
+    kit, file = folder.parent / "kit", folder / "crates" / "bpf_words" / "src" / "lib.rt"
+    make_kit(kit)
+    how = {"PATH": f"{kit / 'bin'}:{os.environ['PATH']}", "KIT": str(kit)}
+    text, parts = file.read_bytes(), sorted(archive.parent.iterdir())
+    made = ran(folder, "archive", **how, CHANGED="")
+    members = {it: subprocess.run(["ar", "p", archive, it], capture_output=True, text=True).stdout for it in (HEAP, HASH)}
+    right = {HEAP: "a heap", HASH: ran(folder, "sources").stdout}
+    report.expect_that(made.returncode == 0 and members == right, "the archive that is made", f"it gave {made}, and has {members}")
+    archive.unlink()
+    changed = ran(folder, "archive", **how, CHANGED=str(file))
+    sentence = "capi/archive: the sources were changed while the archive was made\n"
+    report.expect_that((changed.returncode, changed.stderr) == (1, sentence), "a source that changes", f"it gave {changed}")
+    left = sorted(archive.parent.iterdir())
+    report.expect_that(left == [it for it in parts if it != archive], "a source that changes", f"these are there: {left}")
+    file.write_bytes(text)
+
+
 def check_sentences(report, folder):
     """If rt is missing or fails, or a folder can't be written to, a script prints one sentence and makes nothing."""
     folder.parent.chmod(0o755)
@@ -141,6 +178,8 @@ def main():
             check_archives(report, folder, archive)
         with report.group("sources that are changed"):
             check_changes(report, folder, kept)
+        with report.group("sources that change while the archive is made"):
+            check_making(report, folder, archive)
         with report.group("no rt, and nowhere to write"):
             check_sentences(report, folder)
     return report.end("archives and their sources")

@@ -146,6 +146,30 @@ static void numbers_have_names(void)
 	has_names(bpfcanon_btf_cause_name, bpfcanon_btf_cause_text, BPFCANON_BTF_SHORT_HEADER, BPFCANON_BTF_CAUSES, btf);
 }
 
+/* Causes have a table of their own, docs/causes.tsv. */
+static void statuses_have_these_names(void)
+{
+	static const struct {
+		uint32_t status;
+		const char *name, *text;
+	} rows[] = {
+		{ BPFCANON_DONE, "Done", "the call is done, or the two inputs are the same" },
+		{ BPFCANON_DIFFERENT, "Different", "the two inputs are different" },
+		{ BPFCANON_FAULT, "Fault", "the input, or the first of two, has a fault" },
+		{ BPFCANON_FAULT_SECOND, "FaultSecond", "the second of two inputs has a fault, and the first has none" },
+		{ BPFCANON_MEMORY, "Memory", "out of memory" },
+		{ BPFCANON_ROOM, "Room", "the output is longer than its room" },
+		{ BPFCANON_ORDER, "Order", "a number is not that of a byte order" },
+		{ BPFCANON_ALIGNMENT, "Alignment", "an array of records is not aligned to 8 bytes" },
+	};
+
+	_Static_assert(COUNT(rows) == BPFCANON_ALIGNMENT + 1, "a row for each status");
+	for (size_t k = 0; k < COUNT(rows); k++) {
+		CHECK(rows[k].status == k && !strcmp(bpfcanon_status_name(rows[k].status), rows[k].name));
+		CHECK(!strcmp(bpfcanon_status_text(rows[k].status), rows[k].text));
+	}
+}
+
 static void versions_agree(void)
 {
 	char version[64];
@@ -203,8 +227,18 @@ int main(int argc, char **argv)
 	instructions_change_order();
 	streams_may_be_cut_anywhere(argv[1]);
 	numbers_have_names();
+	statuses_have_these_names();
 	versions_agree();
 	null_is_an_empty_input_or_output();
 	rooms_of_texts_are_tight();
 	return end("worked files");
 }
+
+/* The number of version 1.2.3, which the header states as an example. That of this version may have parts that are 0. */
+#undef BPFCANON_VERSION_MAJOR
+#undef BPFCANON_VERSION_MINOR
+#undef BPFCANON_VERSION_PATCH
+#define BPFCANON_VERSION_MAJOR 1
+#define BPFCANON_VERSION_MINOR 2
+#define BPFCANON_VERSION_PATCH 3
+_Static_assert(BPFCANON_VERSION_NUMBER == 1002003, "the number of 1.2.3");

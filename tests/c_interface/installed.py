@@ -19,6 +19,7 @@ from tests.program import SECONDS, Report
 TOP = pathlib.Path(__file__).resolve().parent.parent.parent
 CAPI = TOP / "capi"
 HEADER = (CAPI / "bpfcanon.h").read_text()
+SYMBOLS = TOP / "tests" / "c_interface" / "symbols.txt"
 PREFIX = "/opt/two words"
 VERSION = re.search(r'^#define BPFCANON_VERSION "(.*)"$', HEADER, re.MULTILINE)[1]
 MAJOR = VERSION.partition(".")[0]
@@ -97,6 +98,9 @@ def check_symbols(report, root):
     rows = [line.split()[1:] for line in printed(["nm", "-D", "--defined-only", "--with-symbol-versions", shared])]
     wanted = sorted([["A", node], *(["T", f"{name}@@{node}"] for name in listed)])
     report.expect_that(sorted(rows) == wanted, "the shared library", f"it exports {rows}")
+    kept = [line.split() for line in SYMBOLS.read_text().splitlines() if not line.startswith("#")]
+    differing = {f"{name}@@{version}" for version, name in kept} ^ {row[1] for row in rows if row[0] == "T"}
+    report.expect_that(not differing, SYMBOLS.name, f"these are only there, or only in the library: {sorted(differing)}")
     rows = [line.split()[1:] for line in printed(["nm", "-g", "--defined-only", static]) if len(line.split()) == 3]
     report.expect_that(sorted(rows) == [["T", name] for name in listed], "the static library", f"its global symbols are {rows}")
     needed = {line.split()[1] for line in printed(["nm", "-u", static]) if len(line.split()) == 2}
@@ -231,7 +235,9 @@ def check_failures(report, archive, folder):
     (folder / "sources.sha256").write_text(ran([CAPI / "sources"]).stdout)
     (folder / "ar").write_text('#!/bin/sh\n[ "$1" != rcsD ] && exec ar "$@"\n')
     (folder / "ar").chmod(0o755)
-    (folder / "taken" / "lib" / f"libbpfcanon.so.{VERSION}").mkdir(parents=True)
+    taken = [f"lib/libbpfcanon.so.{VERSION}", f"lib/libbpfcanon.so.{MAJOR}", "lib/libbpfcanon.so"]
+    for place in taken:
+        (folder / "taken" / place.replace("/", " ") / place).mkdir(parents=True)
     (folder / "cut.o").write_bytes(b"\x7fELF\2\1\1")
     for name, members in ("empty.a", []), ("lacking.a", ["sources.sha256"]), ("cut.a", ["sources.sha256", "cut.o"]):
         ran(["ar", "rcs", name, *members], folder)
@@ -256,7 +262,7 @@ def check_failures(report, archive, folder):
         (["/usr", archive], {"AR": folder / "ar"}, 1, "cannot make libbpfcanon.a"),
         (["/usr", archive], {"LDFLAGS": "-lno-such-library"}, 1, "cannot link libbpfcanon.so"),
         (["/usr", archive], {"DESTDIR": folder / "file"}, 1, "cannot make the folder"),
-        ([folder / "taken", archive], {"DESTDIR": ""}, 1, "is a folder"),
+        *(([folder / "taken" / place.replace("/", " "), archive], {"DESTDIR": ""}, 1, "is a folder") for place in taken),
         ([folder / "half", archive], {"DESTDIR": ""}, 1, "cannot make the folder"),
     ]
     # Nothing is written into a prefix in which one folder can't be made.
@@ -269,6 +275,8 @@ def check_failures(report, archive, folder):
         report.expect_that(is_right, message, f"status {done.returncode}, and {done.stderr!r}")
     report.expect_that(not (folder / "stage").exists(), "failures", "something is installed")
     report.expect_that([it.name for it in (folder / "half").iterdir()] == ["share"], "half a prefix", "something is installed")
+    files = [str(path) for path in (folder / "taken").rglob("*") if not path.is_dir()]
+    report.expect_that(not files, "a folder in place of a file or a link", f"these are there: {files}")
     helped = ran([CAPI / "build", "--help"])
     is_help = helped.returncode == 0 and helped.stdout.startswith("usage: capi/build") and not helped.stderr
     report.expect_that(is_help, "--help", f"it gave {helped}")

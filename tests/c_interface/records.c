@@ -54,7 +54,25 @@ static void instructions_are_decoded(void)
 	CHECK(is_filled(out, out + INSNS + 1));
 	CHECK(is(bpfcanon_insn_decode(BPFCANON_LITTLE, program, sizeof program, out, INSNS + 1), written(INSNS)));
 	CHECK(!memcmp(out, insns, sizeof insns) && is_filled(out + INSNS, out + INSNS + 1));
-	CHECK(bpfcanon_insn_number(&out[0]) == UINT64_C(0x1122334455667788));
+}
+
+/* The number of a wide load has the bits of both immediates, whose signs don't matter. */
+static void wide_loads_have_numbers(void)
+{
+	static const uint64_t numbers[] = { 0, 1, 0x7fffffff, 0x80000000, 0xffffffff, UINT64_C(1) << 32, UINT64_C(0x1122334455667788),
+					    UINT64_C(0x7fffffff80000000), UINT64_C(1) << 63, UINT64_MAX };
+
+	for (size_t k = 0; k < COUNT(numbers); k++) {
+		uint8_t code[16] = { 0x18 };
+		bpfcanon_insn insn;
+
+		for (size_t byte = 0; byte < 4; byte++) {
+			code[4 + byte] = numbers[k] >> 8 * byte;
+			code[12 + byte] = numbers[k] >> (32 + 8 * byte);
+		}
+		CHECK(is(bpfcanon_insn_decode(BPFCANON_LITTLE, code, sizeof code, &insn, 1), written(1)));
+		CHECK(bpfcanon_insn_number(&insn) == numbers[k]);
+	}
 }
 
 /* The fields that aren't read have other values here. */
@@ -201,6 +219,7 @@ int main(int argc, char **argv)
 	if (argc != 2)
 		return 2;
 	instructions_are_decoded();
+	wide_loads_have_numbers();
 	instructions_are_encoded();
 	the_first_record_that_is_no_instruction_is_reported();
 	types_are_decoded();
