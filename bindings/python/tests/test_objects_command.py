@@ -6,17 +6,20 @@ import contextlib
 import hashlib
 import io
 import json
+import multiprocessing
 import os
 import pathlib
 import pty
 import subprocess
 import sys
 import tempfile
+import threading
 import unittest
 from typing import NamedTuple, Sequence
 from unittest import mock
 
 from bpfcanon.objects import cli
+from bpfcanon.objects.commands.answers import answers
 
 from . import object_files as made
 from .object_files import EXIT, HIDDEN, MOV_BIG, MOV_LITTLE, Part, Sym
@@ -59,6 +62,11 @@ def start(words: Sequence[str], **how: object) -> "subprocess.Popen[bytes]":
     """Start the command as a process."""
     line = [sys.executable, "-B", "-m", "bpfcanon.objects", *words]
     return subprocess.Popen(line, env=os.environ | {"PYTHONPATH": str(PACKAGE)}, **how)  # type: ignore[call-overload, no-any-return]
+
+
+def length_of(path: str, data: bytes) -> tuple[list[str], int]:
+    """The work of a command that prints how long a file is."""
+    return [str(len(data))], 0
 
 
 class CommandTest(unittest.TestCase):
@@ -264,6 +272,14 @@ class Outputs(CommandTest):
             os.close(write)
             _, message = process.communicate(timeout=60)
             self.assertEqual((process.returncode, message), (141, b""), line)
+
+    def test_no_process_is_left_if_the_output_fails(self) -> None:
+        """A pool that is ending while the interpreter ends writes a traceback now and then."""
+        threads = threading.active_count()
+        found = answers(length_of, ["one.o", "other.o"] * 20, 2)
+        self.assertEqual(next(found).lines, (str(len(FILES["one.o"])),))
+        del found
+        self.assertEqual((threading.active_count(), multiprocessing.active_children()), (threads, []))
 
     def test_progress_on_a_terminal(self) -> None:
         """It is written there only if the output goes elsewhere, and is removed at the end."""

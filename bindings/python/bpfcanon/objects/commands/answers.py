@@ -70,7 +70,8 @@ def in_processes(work: Work, paths: list[str], jobs: int) -> Iterator[Answer]:
     except BrokenExecutor:
         raise OSError("a process was ended from outside, probably for its memory; try a smaller -j") from None
     finally:
-        pool.shutdown(wait=False, cancel_futures=True)
+        # The interpreter waits for the processes in any case. If it ends while the pool does, it may write a traceback.
+        pool.shutdown(wait=True, cancel_futures=True)
 
 
 def ignore_interrupts() -> None:
