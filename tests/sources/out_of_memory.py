@@ -24,15 +24,12 @@ LINES = [
     r".*(?:\) -> |: )Result<.*, AllocError>(?: \{|,)?",
     rf" *(?:\| )?(?:\w+::\w+ \| )*\w+::Memory => (?:3|4|\"[\w ]+\"|\w+\(.*\)),",
     r".*(?:≡|≢|→|λ).*",
-    # the conversions, whose body is the next line
+    # the conversions of an allocator's errors, whose body is the next line
     r"impl.* From<Alloc(?:Error|Failed<T>)> for \w+(?:<.*>)? \{",
     r" *fn from\(\w+: Alloc(?:Error|Failed<T>)\) -> \w+(?:<.*>)? \{",
-    # an answer that is passed on as one
+    # an answer that is passed on as one, also by a conversion of another error
     rf" *{IN_ARM} => (?:return )?(?:Err\()?(?:\w+\()?(?:{ANSWER})\)*,",
 ]
-# `Err(_)` of a call whose only error is `AllocError` is that one: the number of such arms in each file.
-ONLY_ERROR = re.compile(r" *Err\(_\) => \w+::Memory,")
-ARMS = {"bpfcanon_c/src/listing.rt": 1, "bpfcanon_c/src/types_text.rt": 1}
 
 
 def wrong_lines(source):
@@ -52,10 +49,7 @@ def main():
             if "/tests" in name:
                 continue
             wrong = list(wrong_lines(path.read_text()))
-            arms = [it for it in wrong if ONLY_ERROR.fullmatch(it[1])]
-            others = [it for it in wrong if it not in arms]
-            is_right = not others and len(arms) == ARMS.get(name, 0)
-            report.expect_that(is_right, name, f"out of memory isn't passed on in {others or arms}")
+            report.expect_that(not wrong, name, f"out of memory isn't passed on in {wrong}")
     return report.end("out of memory")
 
 

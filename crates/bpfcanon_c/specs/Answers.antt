@@ -1,10 +1,16 @@
 -- The answers to C, and the numbers in them.
-use Rattle.std.specs.Prelude.{◌≡◌, ◌<◌, ◌++◌, ℕ, List, Option, Some, None, length, drop}
+use Rattle.std.specs.Prelude.{◌≡◌, ◌<◌, ◌++◌, ℕ, Bool, true, false, List, Option, Some, None, Result, Ok, Err, length, drop}
 use Rattle.bpf_words.specs.declared.Order.{Order, TheVariants.Little, TheVariants.Big}
+use Rattle.bpf_insn.specs.declared.decode.InsnError.{InsnError}
+use Rattle.bpf_insn.specs.declared.decode.InsnError.TheVariants as insn
 use Rattle.bpf_insn.specs.declared.fault.SlotCause.{SlotCause}
 use Rattle.bpf_insn.specs.declared.fault.SlotCause.TheVariants as slot
 use Rattle.bpf_insn.specs.declared.fault.SlotFault.{SlotFault}
 use Rattle.btf_raw.specs.{declared.cause.BtfFault.BtfFault, Cause.number_of}
+use Rattle.btf_types.specs.declared.error.BtfError.{BtfError}
+use Rattle.btf_types.specs.declared.error.BtfError.TheVariants as btf
+use Rattle.bpf_canon.specs.declared.engine.SideError.{SideError}
+use Rattle.bpf_canon.specs.declared.engine.SideError.TheVariants as side
 use Rattle.bpfcanon_c.specs.declared.answer.{Answer.Answer, Ending.Ending, FaultCode.FaultCode}
 use Rattle.bpfcanon_c.specs.declared.answer.Ending.TheVariants.{Written, Types, Groups, Same, Different, First, Second, Memory, Room}
 use Rattle.bpfcanon_c.specs.declared.answer.Ending.TheVariants as ending
@@ -43,6 +49,23 @@ code_of_slot f = record { cause = slot_number f.cause; pos = f.pos; line = 0 }
 
 abbrev pub code_of_btf : BtfFault → FaultCode
 code_of_btf f = record { cause = number_of f.cause; pos = f.pos; line = 0 }
+
+-- how a call ends with an error of one of the libraries: its fault is in the input
+abbrev pub btf_end : BtfError → Ending
+btf_end (btf.Fault f) = First (code_of_btf f)
+btf_end btf.Memory = Memory
+
+abbrev pub insn_end : InsnError → Ending
+insn_end (insn.Fault f) = First (code_of_slot f)
+insn_end insn.Memory = Memory
+
+-- how a call ends by the result of a comparison; `Numbers` relates a fault to its numbers
+abbrev pub EndsCompared : {F : Type 0} → (F → FaultCode → Type 0) → Result Bool (SideError F) → Ending → Type 0
+EndsCompared Numbers (Ok true) ending = ending ≡ Same
+EndsCompared Numbers (Ok false) ending = ending ≡ Different
+EndsCompared Numbers (Err (side.First f)) ending = (code : FaultCode) × (Numbers f code × (ending ≡ First code))
+EndsCompared Numbers (Err (side.Second f)) ending = (code : FaultCode) × (Numbers f code × (ending ≡ Second code))
+EndsCompared Numbers (Err side.Memory) ending = ending ≡ Memory
 
 abbrev pub order_number : Order → ℕ
 order_number Little = 0

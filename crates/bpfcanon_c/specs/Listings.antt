@@ -2,10 +2,13 @@
 use Rattle.std.specs.Prelude.{◌≡◌, ◌≤◌, ◌*◌, ℕ, List, length}
 use Rattle.bpf_words.specs.declared.Order.{Order}
 use Rattle.bpf_insn.specs.{declared.insn.Insn.Insn, Spelling.InsnFile, Spelling.file_of}
+use Rattle.bpf_text.specs.declared.insn.fault.ListError.{ListError}
+use Rattle.bpf_text.specs.declared.insn.fault.ListError.TheVariants as list
 use Rattle.bpf_text.specs.declared.insn.fault.LineCause.{LineCause}
 use Rattle.bpf_text.specs.declared.insn.fault.LineCause.TheVariants as line
 use Rattle.bpf_text.specs.{declared.insn.fault.LineFault.LineFault, insn.Lines.listing_of, insn.Listing.Lists, insn.Listing.IsListFault}
 use Rattle.bpfcanon_c.specs.declared.answer.{Answer.Answer, Ending.Ending, FaultCode.FaultCode}
+use Rattle.bpfcanon_c.specs.declared.answer.Ending.TheVariants.{First, Memory}
 use Rattle.bpfcanon_c.specs.Outputs.{IsAnswerOf, IsInsnCode, EndsOutput, EndsInOrder}
 
 abbrev pub line_number : LineCause → ℕ
@@ -17,6 +20,11 @@ line_number line.Range = 4
 -- the position of a fault in a listing is its line
 abbrev pub code_of_line : LineFault → FaultCode
 code_of_line f = record { cause = line_number f.cause; pos = 0; line = f.line }
+
+-- how the call that reads a listing ends with an error
+abbrev pub listing_end : ListError → Ending
+listing_end (list.Fault f) = First (code_of_line f)
+listing_end list.Memory = Memory
 
 -- the listing of the instructions of a file: a buffer of four times its length is long enough
 pub record IsListing (o : Order) (bytes out : List ℕ) : Type 0 where

@@ -1,10 +1,14 @@
 //! How a call ends, and the answer to C of each ending.
 
 ghost use Rattle.std.specs.Prelude.{◌≡◌};
+ghost use Rattle.bpfcanon_c.specs.declared.answer.Ending.TheVariants as ends;
 ghost use Rattle.bpfcanon_c.specs.Answers as spec;
 
-use bpf_insn::{Order, SlotFault};
+use bpf_canon::SideError;
+use bpf_insn::{InsnError, Order, SlotFault};
 use btf_raw::BtfFault;
+use btf_types::BtfError;
+use std::alloc::AllocError;
 
 /// A fault by its numbers: its position is an offset in bytes, or a line if the input is a listing.
 #[derive(Clone, Copy, Debug, PartialEq, Eq)]
@@ -40,6 +44,54 @@ pub enum Ending {
     Room(usize),
     /// The number of a byte order is neither 0, for little, nor 1, for big.
     Order,
+}
+
+impl From<AllocError> for Ending {
+    ghost from_gives = { λ _ ending. ending ≡ ends.Memory };
+
+    fn from(_error: AllocError) -> Ending {
+        Ending::Memory
+    }
+}
+
+/// The fault is in the only input.
+impl From<BtfError> for Ending {
+    ghost from_gives = { λ error ending. ending ≡ spec.btf_end error };
+
+    fn from(error: BtfError) -> Ending {
+        match error {
+            BtfError::Fault(fault) => Ending::First(btf_code(fault)),
+            BtfError::Memory => Ending::Memory,
+        }
+    }
+}
+
+impl From<InsnError> for Ending {
+    ghost from_gives = { λ error ending. ending ≡ spec.insn_end error };
+
+    fn from(error: InsnError) -> Ending {
+        match error {
+            InsnError::Fault(fault) => Ending::First(slot_code(fault)),
+            InsnError::Memory => Ending::Memory,
+        }
+    }
+}
+
+/// How a comparison ended. `code` makes the numbers of a fault.
+pub fn compared<F, C: FnOnce(F) -> FaultCode + Drop>(
+    same: Result<bool, SideError<F>>,
+    code: C,
+) -> Ending
+    requires { C.IsAlwaysCallable code }
+    ensures { spec.EndsCompared (C.post code) same result }
+{
+    match same {
+        Ok(true) => Ending::Same,
+        Ok(false) => Ending::Different,
+        Err(SideError::First(fault)) => Ending::First(code(fault)),
+        Err(SideError::Second(fault)) => Ending::Second(code(fault)),
+        Err(SideError::Memory) => Ending::Memory,
+    }
 }
 
 /// What a call returns to C: `bpfcanon_answer` of `capi/bpfcanon.h`, field by field. A field that

@@ -4,10 +4,10 @@ ghost use Rattle.std.specs.Prelude.{◌≡◌};
 ghost use Rattle.bpfcanon_c.specs.Endings.{IsCanonicalBtf, AnswersBtf, AnswersBtfCheck};
 ghost use Rattle.bpfcanon_c.specs.{Endings.AnswersSameBtf, Outputs.IsBtfCode, Outputs.EndsOutput};
 
-use crate::answer::{Answer, Ending, btf_code, order_from, put, report};
-use bpf_canon::{SideError, canonical_in, same_btf};
+use crate::answer::{Answer, Ending, btf_code, compared, order_from, put, report};
+use bpf_canon::{canonical_in, same_btf};
 use bpf_insn::Order;
-use btf_types::{BtfError, BtfView, TypeTable};
+use btf_types::{BtfView, TypeTable};
 use std::alloc::Global;
 
 /// Writes the canonical form of a BTF file (btf.rst section 2) in the byte order `to` at the start
@@ -40,8 +40,7 @@ fn btf_in(alloc: Global, to: Order, bytes: &[u8], out: &mut [u8]) -> Ending
 {
     match canonical_in(alloc, to, bytes) {
         Ok(canon) => put(&canon, out),
-        Err(BtfError::Fault(fault)) => Ending::First(btf_code(fault)),
-        Err(BtfError::Memory) => Ending::Memory,
+        Err(error) => Ending::from(error),
     }
 }
 
@@ -57,8 +56,7 @@ pub extern "C" fn bpfcanon_proved_btf_check(alloc: Global, bytes: &[u8]) -> Answ
 {
     report(match BtfView::parse(alloc, bytes) {
         Ok(table) => Ending::Types(table.count()),
-        Err(BtfError::Fault(fault)) => Ending::First(btf_code(fault)),
-        Err(BtfError::Memory) => Ending::Memory,
+        Err(error) => Ending::from(error),
     })
 }
 
@@ -73,11 +71,5 @@ pub extern "C" fn bpfcanon_proved_btf_check(alloc: Global, bytes: &[u8]) -> Answ
 pub extern "C" fn bpfcanon_proved_btf_same(alloc: Global, first: &[u8], second: &[u8]) -> Answer
     ensures { AnswersSameBtf first.now second.now result }
 {
-    report(match same_btf(alloc, first, second) {
-        Ok(true) => Ending::Same,
-        Ok(false) => Ending::Different,
-        Err(SideError::First(fault)) => Ending::First(btf_code(fault)),
-        Err(SideError::Second(fault)) => Ending::Second(btf_code(fault)),
-        Err(SideError::Memory) => Ending::Memory,
-    })
+    report(compared(same_btf(alloc, first, second), btf_code))
 }

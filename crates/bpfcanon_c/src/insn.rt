@@ -7,9 +7,9 @@ ghost use Rattle.bpfcanon_c.specs.Endings.{AnswersSameInsns};
 ghost use Rattle.bpfcanon_c.specs.GroupMasks.{weighed, mask, EndsGroupsIn, AnswersGroups};
 ghost use Rattle.bpfcanon_c.specs.Outputs.{IsInsnCode, EndsOutput};
 
-use crate::answer::{Answer, Ending, order_from, put, report, slot_code};
-use bpf_canon::{SideError, recode_insns, same_insns};
-use bpf_insn::{Group, GroupSet, InsnError, Order, groups_in};
+use crate::answer::{Answer, Ending, compared, order_from, put, report, slot_code};
+use bpf_canon::{recode_insns, same_insns};
+use bpf_insn::{Group, GroupSet, Order, groups_in};
 use std::alloc::Global;
 
 /// Writes the instructions of a file, which is in the byte order `order`, in the byte order `to` at
@@ -44,8 +44,7 @@ fn insns_in(alloc: Global, order: Order, to: Order, bytes: &[u8], out: &mut [u8]
 {
     match recode_insns(alloc, order, to, bytes) {
         Ok(written) => put(&written, out),
-        Err(InsnError::Fault(fault)) => Ending::First(slot_code(fault)),
-        Err(InsnError::Memory) => Ending::Memory,
+        Err(error) => Ending::from(error),
     }
 }
 
@@ -121,11 +120,5 @@ pub extern "C" fn bpfcanon_proved_insn_same(
 fn compare(alloc: Global, a: Order, first: &[u8], b: Order, second: &[u8]) -> Ending
     ensures { EndsSameInsnsIn a first.now b second.now result }
 {
-    match same_insns(alloc, a, first, b, second) {
-        Ok(true) => Ending::Same,
-        Ok(false) => Ending::Different,
-        Err(SideError::First(fault)) => Ending::First(slot_code(fault)),
-        Err(SideError::Second(fault)) => Ending::Second(slot_code(fault)),
-        Err(SideError::Memory) => Ending::Memory,
-    }
+    compared(same_insns(alloc, a, first, b, second), slot_code)
 }

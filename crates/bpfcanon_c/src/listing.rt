@@ -1,12 +1,13 @@
 //! The calls on listings of instructions.
 
 ghost use Rattle.std.specs.Prelude.{◌≡◌};
-ghost use Rattle.bpfcanon_c.specs.Listings.{code_of_line, IsLineCode, IsListing, EndsListing};
+ghost use Rattle.bpfcanon_c.specs.Listings.{code_of_line, listing_end};
+ghost use Rattle.bpfcanon_c.specs.Listings.{IsLineCode, IsListing, EndsListing};
 ghost use Rattle.bpfcanon_c.specs.Listings.{AnswersListing, IsListed, EndsListed, AnswersListed};
 ghost use Rattle.bpfcanon_c.specs.Outputs.{IsInsnCode, EndsOutput};
 
-use crate::answer::{Answer, Ending, FaultCode, order_from, put, report, slot_code};
-use bpf_insn::{InsnError, Order, decode_insns};
+use crate::answer::{Answer, Ending, FaultCode, order_from, put, report};
+use bpf_insn::{Order, decode_insns};
 use bpf_text::{LineFault, ListError, listing, read_listing_bytes};
 use std::alloc::Global;
 
@@ -42,10 +43,9 @@ fn listing_in(alloc: Global, order: Order, bytes: &[u8], out: &mut [u8]) -> Endi
     match decode_insns(alloc, order, bytes) {
         Ok(insns) => match listing(alloc, &insns) {
             Ok(text) => put(&text, out),
-            Err(_) => Ending::Memory,
+            Err(error) => Ending::from(error),
         },
-        Err(InsnError::Fault(fault)) => Ending::First(slot_code(fault)),
-        Err(InsnError::Memory) => Ending::Memory,
+        Err(error) => Ending::from(error),
     }
 }
 
@@ -78,8 +78,18 @@ fn listed_in(alloc: Global, to: Order, text: &[u8], out: &mut [u8]) -> Ending
 {
     match read_listing_bytes(alloc, to, text) {
         Ok(written) => put(&written, out),
-        Err(ListError::Fault(fault)) => Ending::First(line_code(fault)),
-        Err(ListError::Memory) => Ending::Memory,
+        Err(error) => Ending::from(error),
+    }
+}
+
+impl From<ListError> for Ending {
+    ghost from_gives = { λ error ending. ending ≡ listing_end error };
+
+    fn from(error: ListError) -> Ending {
+        match error {
+            ListError::Fault(fault) => Ending::First(line_code(fault)),
+            ListError::Memory => Ending::Memory,
+        }
     }
 }
 

@@ -2,9 +2,9 @@
 
 ghost use Rattle.bpfcanon_c.specs.TypesText.{AnswersBtfShow};
 
-use crate::answer::{Answer, Ending, btf_code, put, report};
+use crate::answer::{Answer, Ending, put, report};
 use bpf_text::show_btf;
-use btf_types::{BtfError, BtfView};
+use btf_types::BtfView;
 use std::alloc::Global;
 
 /// Writes the listing of the types of a BTF file at the start of `out`: a line for each, followed
@@ -22,9 +22,8 @@ pub extern "C" fn bpfcanon_proved_btf_show(alloc: Global, bytes: &[u8], out: &mu
     report(match BtfView::parse(alloc, bytes) {
         Ok(table) => match show_btf(alloc, &table) {
             Ok(text) => put(&text, out),
-            Err(_) => Ending::Memory,
+            Err(error) => Ending::from(error),
         },
-        Err(BtfError::Fault(fault)) => Ending::First(btf_code(fault)),
-        Err(BtfError::Memory) => Ending::Memory,
+        Err(error) => Ending::from(error),
     })
 }
