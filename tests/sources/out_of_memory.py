@@ -22,7 +22,8 @@ LINES = [
     r" *(?://|ghost |use |#\[error).*",
     r" *\w+(?:, \w+)*,",
     r".*(?:\) -> |: )Result<.*, AllocError>(?: \{|,)?",
-    rf" *(?:\| )?(?:\w+::\w+ \| )*\w+::Memory => (?:3|4|\"[\w ]+\"|\w+\(.*\)),",
+    # what is reported of it: the statuses and the message
+    r" *(?:\w+::\w+ \| )*\w+::Memory => (?:3|with_status\(4\)|report_line\(faults, b\"no memory\\n\"\)),",
     r".*(?:≡|≢|→|λ).*",
     # the conversions of an allocator's errors, whose body is the next line
     r"impl.* From<Alloc(?:Error|Failed<T>)> for \w+(?:<.*>)? \{",
