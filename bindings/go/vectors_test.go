@@ -2,6 +2,7 @@ package bpfcanon_test
 
 import (
 	"encoding/hex"
+	"fmt"
 	"os"
 	"path/filepath"
 	"strconv"
@@ -11,28 +12,53 @@ import (
 	"bpfcanon"
 )
 
-// The least number of rows of each kind, so that a reader that skips rows is noticed.
-var least = map[string]int{
-	"insn": 182, "insn-fault": 100, "listing": 24, "listing-fault": 75, "btf": 56, "btf-fault": 117,
+// A row of testdata/vectors.tsv: its line in the file, and its fields without the kind.
+// testdata/README.md describes the columns.
+type vector struct {
+	line   int
+	fields []string
 }
 
-// The fields of each row of a kind in testdata/vectors.tsv, without the kind. testdata/README.md
-// describes the columns.
-func vectors(t testing.TB, kind string) (rows [][]string) {
+// The file with the vectors, or the one that BPFCANON_VECTORS names.
+func vectorsFile() string {
+	if path := os.Getenv("BPFCANON_VECTORS"); path != "" {
+		return path
+	}
+	return filepath.Join("..", "..", "testdata", "vectors.tsv")
+}
+
+func numberedVectors(t testing.TB, kind string) (rows []vector) {
 	t.Helper()
-	file, err := os.ReadFile(filepath.Join("..", "..", "testdata", "vectors.tsv"))
+	file, err := os.ReadFile(vectorsFile())
 	if err != nil {
 		t.Fatal(err)
 	}
-	for _, line := range strings.Split(string(file), "\n") {
+	for i, line := range strings.Split(string(file), "\n") {
 		if fields := strings.Split(line, "\t"); fields[0] == kind {
-			rows = append(rows, fields[1:])
+			rows = append(rows, vector{line: i + 1, fields: fields[1:]})
 		}
 	}
-	if len(rows) < least[kind] || len(rows) == 0 {
-		t.Fatalf("%d rows of %s", len(rows), kind)
+	if len(rows) == 0 {
+		t.Fatalf("no row of %s", kind)
 	}
 	return rows
+}
+
+// The fields of each row of a kind.
+func vectors(t testing.TB, kind string) (rows [][]string) {
+	t.Helper()
+	for _, row := range numberedVectors(t, kind) {
+		rows = append(rows, row.fields)
+	}
+	return rows
+}
+
+// Checks each row of a kind in a subtest, which has the name of its line.
+func eachVector(t *testing.T, kind string, check func(t *testing.T, row []string)) {
+	t.Helper()
+	for _, row := range numberedVectors(t, kind) {
+		t.Run(fmt.Sprintf("line_%d", row.line), func(t *testing.T) { check(t, row.fields) })
+	}
 }
 
 // The bytes of a field of hexadecimal digits.
@@ -110,7 +136,7 @@ func wantDecoded(t *testing.T, line string, order bpfcanon.Order, programs [][]b
 }
 
 func TestInstructions(t *testing.T) {
-	for _, row := range vectors(t, "insn") {
+	eachVector(t, "insn", func(t *testing.T, row []string) {
 		line, programs := row[0], [][]byte{data(t, row[1]), data(t, row[2])}
 		for _, order := range orders {
 			for _, to := range orders {
@@ -129,11 +155,11 @@ func TestInstructions(t *testing.T) {
 			}
 			wantDecoded(t, line, order, programs, groupOf[row[3]])
 		}
-	}
+	})
 }
 
 func TestFaultyInstructions(t *testing.T) {
-	for _, row := range vectors(t, "insn-fault") {
+	eachVector(t, "insn-fault", func(t *testing.T, row []string) {
 		want := fault(t, insnCause, row[3], row[4])
 		for _, order := range orders {
 			program := data(t, row[1+order])
@@ -152,28 +178,28 @@ func TestFaultyInstructions(t *testing.T) {
 			_, err = bpfcanon.InsnSame(order, nil, order, program)
 			wantFault(t, row[0], err, second)
 		}
-	}
+	})
 }
 
 func TestListings(t *testing.T) {
-	for _, row := range vectors(t, "listing") {
+	eachVector(t, "listing", func(t *testing.T, row []string) {
 		program, err := bpfcanon.InsnRead(bpfcanon.Little, text(t, row[1]))
 		if err != nil {
 			t.Errorf("%s: %v", row[0], err)
 		}
 		got, err := bpfcanon.InsnShow(bpfcanon.Little, program)
 		wantBytes(t, row[0], got, err, text(t, row[2]))
-	}
-	for _, row := range vectors(t, "listing-fault") {
+	})
+	eachVector(t, "listing-fault", func(t *testing.T, row []string) {
 		want := fault(t, lineCause, row[2], row[3])
 		want.Line, want.Pos = want.Pos, 0
 		_, err := bpfcanon.InsnRead(bpfcanon.Little, text(t, row[1]))
 		wantFault(t, row[0], err, want)
-	}
+	})
 }
 
 func TestTypes(t *testing.T) {
-	for _, row := range vectors(t, "btf") {
+	eachVector(t, "btf", func(t *testing.T, row []string) {
 		canonical := [][]byte{data(t, row[2]), data(t, row[3])}
 		for _, given := range [][]byte{data(t, row[1]), canonical[0], canonical[1]} {
 			for _, to := range orders {
@@ -199,12 +225,12 @@ func TestTypes(t *testing.T) {
 				wantBytes(t, row[0]+", encoded", got, err, canonical[to])
 			}
 		}
-	}
+	})
 }
 
 func TestFaultyTypes(t *testing.T) {
 	good := data(t, vectors(t, "btf")[0][1])
-	for _, row := range vectors(t, "btf-fault") {
+	eachVector(t, "btf-fault", func(t *testing.T, row []string) {
 		want := fault(t, btfCause, row[3], row[4])
 		for _, given := range [][]byte{data(t, row[1]), data(t, row[2])} {
 			_, err := bpfcanon.BTFCanon(bpfcanon.Little, given)
@@ -222,5 +248,5 @@ func TestFaultyTypes(t *testing.T) {
 			_, err = bpfcanon.BTFSame(good, given)
 			wantFault(t, row[0], err, second)
 		}
-	}
+	})
 }

@@ -1,5 +1,7 @@
 """Tests each call against its rows of testdata/vectors.tsv. testdata/README.md describes the columns."""
 
+import os
+import pathlib
 import unittest
 from typing import Callable
 
@@ -12,16 +14,20 @@ ORDERS = [Order.LITTLE, Order.BIG]
 EXIT = bytes.fromhex("9500000000000000")
 BRINGS = {Group.BASE64: Group.BASE32, Group.ATOMIC64: Group.ATOMIC32, Group.DIVMUL64: Group.DIVMUL32}
 
+# The file with the vectors, or the one that BPFCANON_VECTORS names.
+VECTORS = pathlib.Path(os.environ.get("BPFCANON_VECTORS", TESTDATA / "vectors.tsv"))
 
-# The least number of rows of each kind, so that a reader that skips rows is noticed.
-LEAST = {"insn": 182, "insn-fault": 100, "listing": 24, "listing-fault": 75, "btf": 56, "btf-fault": 117}
+
+def numbered(kind: str) -> list[tuple[int, list[str]]]:
+    """The fields of each row of a kind, without the kind, after the row's line in the file."""
+    lines = enumerate(VECTORS.read_text().splitlines(), 1)
+    found = [(number, line.split("\t")[1:]) for number, line in lines if line.startswith(f"{kind}\t")]
+    assert found, f"no row of {kind}"
+    return found
 
 
 def rows(kind: str) -> list[list[str]]:
-    lines = (TESTDATA / "vectors.tsv").read_text().splitlines()
-    found = [line.split("\t")[1:] for line in lines if line.startswith(f"{kind}\t")]
-    assert len(found) >= LEAST[kind], f"{len(found)} rows of {kind}"
-    return found
+    return [fields for _, fields in numbered(kind)]
 
 
 def text(field: str) -> bytes:
@@ -40,59 +46,65 @@ class Vectors(unittest.TestCase):
             self.assertEqual(raised.exception.args, args)
 
     def test_instructions(self) -> None:
-        for line, *files, group in rows("insn"):
-            programs, needed = dict(zip(ORDERS, map(data, files))), Group[group.upper()]
-            for order, program in programs.items():
-                for to in ORDERS:
-                    self.assertEqual(bpfcanon.insn_canon(program, order=order, to=to), programs[to], line)
-                    self.assertTrue(bpfcanon.insn_same(program, programs[to], first_order=order, second_order=to), line)
-                self.assertFalse(bpfcanon.insn_same(program, program + EXIT, first_order=order, second_order=order), line)
-                self.assertEqual(bpfcanon.insn_show(program, order=order), f"{line}\n")
-                self.assertEqual(bpfcanon.insn_read(line, to=order), program, line)
-                self.assertEqual(bpfcanon.insn_groups(program, order=order), needed | BRINGS.get(needed, needed), line)
+        for number, (line, *files, group) in numbered("insn"):
+            with self.subTest(line=number):
+                programs, needed = dict(zip(ORDERS, map(data, files))), Group[group.upper()]
+                for order, program in programs.items():
+                    for to in ORDERS:
+                        self.assertEqual(bpfcanon.insn_canon(program, order=order, to=to), programs[to], line)
+                        self.assertTrue(bpfcanon.insn_same(program, programs[to], first_order=order, second_order=to), line)
+                    self.assertFalse(bpfcanon.insn_same(program, program + EXIT, first_order=order, second_order=order), line)
+                    self.assertEqual(bpfcanon.insn_show(program, order=order), f"{line}\n")
+                    self.assertEqual(bpfcanon.insn_read(line, to=order), program, line)
+                    self.assertEqual(bpfcanon.insn_groups(program, order=order), needed | BRINGS.get(needed, needed), line)
 
     def test_faulty_instructions(self) -> None:
-        for name, *files, pos, cause in rows("insn-fault"):
-            found = next(it for it in InsnCause if it.label == cause)
-            for order, program in zip(ORDERS, map(data, files)):
-                calls: list[Callable[[], object]] = [
-                    lambda: bpfcanon.insn_canon(program, order=order),
-                    lambda: bpfcanon.insn_show(program, order=order),
-                    lambda: bpfcanon.insn_groups(program, order=order),
-                    lambda: bpfcanon.insn_same(program, EXIT, first_order=order),
-                ]
-                self.faults(calls, found, int(pos), 0, False)
-                self.faults([lambda: bpfcanon.insn_same(EXIT, program, second_order=order)], found, int(pos), 0, True)
+        for number, (name, *files, pos, cause) in numbered("insn-fault"):
+            with self.subTest(line=number):
+                found = next(it for it in InsnCause if it.label == cause)
+                for order, program in zip(ORDERS, map(data, files)):
+                    calls: list[Callable[[], object]] = [
+                        lambda: bpfcanon.insn_canon(program, order=order),
+                        lambda: bpfcanon.insn_show(program, order=order),
+                        lambda: bpfcanon.insn_groups(program, order=order),
+                        lambda: bpfcanon.insn_same(program, EXIT, first_order=order),
+                    ]
+                    self.faults(calls, found, int(pos), 0, False)
+                    self.faults([lambda: bpfcanon.insn_same(EXIT, program, second_order=order)], found, int(pos), 0, True)
 
     def test_listings(self) -> None:
-        for name, given, shown in rows("listing"):
-            self.assertEqual(bpfcanon.insn_show(bpfcanon.insn_read(text(given))).encode(), text(shown), name)
-        for name, given, line, cause in rows("listing-fault"):
-            found = next(it for it in LineCause if it.label == cause)
-            self.faults([lambda: bpfcanon.insn_read(text(given))], found, 0, int(line), False)
+        for number, (name, given, shown) in numbered("listing"):
+            with self.subTest(line=number):
+                self.assertEqual(bpfcanon.insn_show(bpfcanon.insn_read(text(given))).encode(), text(shown), name)
+        for number, (name, given, line, cause) in numbered("listing-fault"):
+            with self.subTest(line=number):
+                found = next(it for it in LineCause if it.label == cause)
+                self.faults([lambda: bpfcanon.insn_read(text(given))], found, 0, int(line), False)
 
     def test_types(self) -> None:
-        for name, file, little, big, count, shown in rows("btf"):
-            for given in {data(file), data(little), data(big)}:
-                self.assertEqual(bpfcanon.btf_canon(given), data(little), name)
-                self.assertEqual(bpfcanon.btf_canon(given, to=Order.BIG), data(big), name)
-                self.assertEqual(bpfcanon.btf_check(given), int(count), name)
-                self.assertEqual(bpfcanon.btf_show(given).encode(), text(shown), name)
-                self.assertTrue(bpfcanon.btf_same(given, data(little)), name)
+        for number, (name, file, little, big, count, shown) in numbered("btf"):
+            with self.subTest(line=number):
+                for given in {data(file), data(little), data(big)}:
+                    self.assertEqual(bpfcanon.btf_canon(given), data(little), name)
+                    self.assertEqual(bpfcanon.btf_canon(given, to=Order.BIG), data(big), name)
+                    self.assertEqual(bpfcanon.btf_check(given), int(count), name)
+                    self.assertEqual(bpfcanon.btf_show(given).encode(), text(shown), name)
+                    self.assertTrue(bpfcanon.btf_same(given, data(little)), name)
 
     def test_faulty_types(self) -> None:
         good = data(rows("btf")[0][1])
-        for name, *files, pos, cause in rows("btf-fault"):
-            found = next(it for it in BtfCause if it.label == cause)
-            for given in map(data, files):
-                calls: list[Callable[[], object]] = [
-                    lambda: bpfcanon.btf_canon(given),
-                    lambda: bpfcanon.btf_show(given),
-                    lambda: bpfcanon.btf_check(given),
-                    lambda: bpfcanon.btf_same(given, good),
-                ]
-                self.faults(calls, found, int(pos), 0, False)
-                self.faults([lambda: bpfcanon.btf_same(good, given)], found, int(pos), 0, True)
+        for number, (name, *files, pos, cause) in numbered("btf-fault"):
+            with self.subTest(line=number):
+                found = next(it for it in BtfCause if it.label == cause)
+                for given in map(data, files):
+                    calls: list[Callable[[], object]] = [
+                        lambda: bpfcanon.btf_canon(given),
+                        lambda: bpfcanon.btf_show(given),
+                        lambda: bpfcanon.btf_check(given),
+                        lambda: bpfcanon.btf_same(given, good),
+                    ]
+                    self.faults(calls, found, int(pos), 0, False)
+                    self.faults([lambda: bpfcanon.btf_same(good, given)], found, int(pos), 0, True)
 
 
 if __name__ == "__main__":

@@ -4,7 +4,7 @@ mod rows;
 
 use bpfcanon::insn::Groups;
 use bpfcanon::{btf, insn, Error, Order};
-use rows::{data, rows, text, ORDERS};
+use rows::{data, each_row, rows, text, ORDERS};
 use std::fmt::Debug;
 
 fn groups_of(name: &str) -> Groups {
@@ -31,7 +31,7 @@ fn fault<T: Debug, C: Copy + Debug>(result: Result<T, Error<C>>) -> (bool, Strin
 
 #[test]
 fn instructions() {
-    for row in rows("insn") {
+    each_row("insn", |row| {
         let (line, programs) = (&row[0], [data(&row[1]), data(&row[2])]);
         for (from, program) in ORDERS.into_iter().zip(&programs) {
             for (to, written) in ORDERS.into_iter().zip(&programs) {
@@ -42,12 +42,12 @@ fn instructions() {
             assert_eq!(insn::read(from, line).as_ref(), Ok(program), "{line}");
             assert_eq!(insn::groups(from, program), Ok(groups_of(&row[3])), "{line}");
         }
-    }
+    });
 }
 
 #[test]
 fn faulty_instructions() {
-    for row in rows("insn-fault") {
+    each_row("insn-fault", |row| {
         let first = (false, row[3].clone(), row[4].clone());
         let second = (true, row[3].clone(), row[4].clone());
         for (order, field) in ORDERS.into_iter().zip(&row[1..3]) {
@@ -58,29 +58,29 @@ fn faulty_instructions() {
             assert_eq!(fault(insn::same(order, &program, order, &[])), first, "{}", row[0]);
             assert_eq!(fault(insn::same(order, &[], order, &program)), second, "{}", row[0]);
         }
-    }
+    });
 }
 
 #[test]
 fn listings() {
-    for row in rows("listing") {
+    each_row("listing", |row| {
         let program = insn::read(Order::Little, text(&row[1])).unwrap();
         let listing = insn::show(Order::Little, &program).unwrap();
         assert_eq!(listing.as_bytes(), text(&row[2]), "{}", row[0]);
-    }
+    });
 }
 
 #[test]
 fn faulty_listings() {
-    for row in rows("listing-fault") {
+    each_row("listing-fault", |row| {
         let expected = (false, row[2].clone(), row[3].clone());
         assert_eq!(fault(insn::read(Order::Big, text(&row[1]))), expected, "{}", row[0]);
-    }
+    });
 }
 
 #[test]
 fn types() {
-    for row in rows("btf") {
+    each_row("btf", |row| {
         let (name, canonical) = (&row[0], [data(&row[2]), data(&row[3])]);
         for file in [&data(&row[1]), &canonical[0], &canonical[1]] {
             for (to, written) in ORDERS.into_iter().zip(&canonical) {
@@ -90,13 +90,13 @@ fn types() {
             assert_eq!(btf::check(file).unwrap().to_string(), row[4], "{name}");
             assert_eq!(btf::same(file, &canonical[0]), Ok(true), "{name}");
         }
-    }
+    });
 }
 
 #[test]
 fn faulty_types() {
     let good = data(&rows("btf")[0][1]);
-    for row in rows("btf-fault") {
+    each_row("btf-fault", |row| {
         let first = (false, row[3].clone(), row[4].clone());
         let second = (true, row[3].clone(), row[4].clone());
         for file in [data(&row[1]), data(&row[2])] {
@@ -106,5 +106,5 @@ fn faulty_types() {
             assert_eq!(fault(btf::same(&file, &good)), first, "{}", row[0]);
             assert_eq!(fault(btf::same(&good, &file)), second, "{}", row[0]);
         }
-    }
+    });
 }

@@ -4,31 +4,35 @@
 #![allow(dead_code)]
 
 use bpfcanon::Order;
-use std::fs;
+use std::panic::{catch_unwind, AssertUnwindSafe};
+use std::{env, fs};
 
 pub const ORDERS: [Order; 2] = [Order::Little, Order::Big];
 
-/// How many rows of a kind were there once.
-fn least(kind: &str) -> usize {
-    match kind {
-        "insn" => 182,
-        "insn-fault" => 100,
-        "listing" => 24,
-        "listing-fault" => 75,
-        "btf" => 56,
-        "btf-fault" => 117,
-        other => panic!("no kind {other}"),
-    }
+/// The fields of each row of a kind, without the kind, after the row's line in the file. Another
+/// file than testdata/vectors.tsv is read if BPFCANON_VECTORS names it.
+fn numbered(kind: &str) -> Vec<(usize, Vec<String>)> {
+    let own = concat!(env!("CARGO_MANIFEST_DIR"), "/../../testdata/vectors.tsv");
+    let path = env::var("BPFCANON_VECTORS").unwrap_or_else(|_| own.to_string());
+    let file = fs::read_to_string(&path).unwrap_or_else(|error| panic!("{path}: {error}"));
+    let lines = file.lines().map(|line| line.split('\t').map(String::from).collect::<Vec<_>>());
+    let of_kind = lines.enumerate().filter(|(_, row)| row[0] == kind);
+    let found: Vec<_> = of_kind.map(|(at, row)| (at + 1, row[1..].to_vec())).collect();
+    assert!(!found.is_empty(), "no row of {kind}");
+    found
 }
 
 /// The fields of each row of a kind, without the kind.
 pub fn rows(kind: &str) -> Vec<Vec<String>> {
-    let path = concat!(env!("CARGO_MANIFEST_DIR"), "/../../testdata/vectors.tsv");
-    let file = fs::read_to_string(path).unwrap_or_else(|error| panic!("{path}: {error}"));
-    let lines = file.lines().map(|line| line.split('\t').map(String::from).collect::<Vec<_>>());
-    let found: Vec<_> = lines.filter(|row| row[0] == kind).map(|row| row[1..].to_vec()).collect();
-    assert!(found.len() >= least(kind), "{} rows of {kind}", found.len());
-    found
+    numbered(kind).into_iter().map(|(_, row)| row).collect()
+}
+
+/// Checks each row of a kind, and panics with the lines of those whose check has panicked.
+pub fn each_row(kind: &str, check: impl Fn(&[String])) {
+    let is_wrong = |row: &[String]| catch_unwind(AssertUnwindSafe(|| check(row))).is_err();
+    let wrong = numbered(kind).into_iter().filter(|(_, row)| is_wrong(row));
+    let lines: Vec<_> = wrong.map(|(line, _)| line).collect();
+    assert!(lines.is_empty(), "wrong lines: {lines:?}");
 }
 
 /// The bytes of a field of hexadecimal digits.
