@@ -3,13 +3,25 @@
 from tests import TOP
 
 TESTDATA = TOP / "testdata"
+# The file that is read. Tests of its readers assign another one.
+VECTORS = TESTDATA / "vectors.tsv"
+# The fields of each kind of row after the kind, as the README names them.
+COLUMNS = {
+    "insn": ["line", "little", "big", "group"],
+    "insn-fault": ["name", "little", "big", "offset", "cause"],
+    "listing": ["name", "listing", "lines"],
+    "listing-fault": ["name", "listing", "line", "cause"],
+    "btf": ["name", "file", "little", "big", "count", "listing"],
+    "btf-fault": ["name", "little", "big", "offset", "cause"],
+    "run": ["name", "arguments", "input", "status", "output", "error"],
+}
 # The number of rows of each kind, so that none is omitted or misspelt unnoticed.
 ROWS = {"insn": 182, "insn-fault": 100, "listing": 24, "listing-fault": 75, "btf": 56, "btf-fault": 117, "run": 263}
 
 
 def rows(kind):
     """The fields of each row of a kind, without the kind."""
-    lines = (TESTDATA / "vectors.tsv").read_text().splitlines()
+    lines = VECTORS.read_text().splitlines()
     return [line.split("\t")[1:] for line in lines if line.startswith(f"{kind}\t")]
 
 
