@@ -1,96 +1,237 @@
-"""Shows that the readers of testdata/vectors.tsv compare what they read: each of their tests fails if one call of the library
-returns a wrong answer.
+"""Shows that the readers of testdata/vectors.tsv over the C library compare what they read.
 
     python3 -m tests.of_tests.readers PREFIX FOLDER
 
-PREFIX has the C library. FOLDER contains the readers that could be built over it: c_vectors (C), go_vectors and
-rust_vectors. The reader in Python is always tried. tests/of_tests/wrong_answers.c changes the answers.
+Each test of a reader fails if one call of the library returns a wrong answer (wrong_answers.c). It also fails if a field of a row is wrong
+(wrong_vectors.py): with a wrong field in the first row or the last it fails, and if each row has one it names the line of each. A row that
+is left out, doubled or replaced by another is no mistake of a reader: tests/sources/vector_file.py refuses such a file.
+
+PREFIX has the C library. FOLDER contains the readers that could be built over it: c_vectors (C), go_vectors and rust_vectors. The reader
+in Python is always tried.
 """
 
+from __future__ import annotations
+
 import concurrent.futures
+import dataclasses
+import json
 import os
 import pathlib
+import re
 import subprocess
 import sys
 import tempfile
 
 from tests import TOP
+from tests.of_tests.wrong_vectors import Copy, copies
 from tests.program import SECONDS, Report
+from tests.vector_rows import VECTORS
 
-DONE, DIFFERENT, FAULT, FAULT_SECOND = range(4)
-# The tests of each reader. That in C accepts a kind of row.
-KINDS = ["insn", "insn-fault", "listing", "listing-fault", "btf", "btf-fault"]
-GO = ["TestInstructions", "TestFaultyInstructions", "TestListings", "TestTypes", "TestFaultyTypes"]
-PYTHON = ["test_instructions", "test_faulty_instructions", "test_listings", "test_types", "test_faulty_types"]
-RUST = ["instructions", "faulty_instructions", "listings", "faulty_listings", "types", "faulty_types"]
+DONE, DIFFERENT, FAULT, FAULT_SECOND, _, ROOM = range(6)
+# The answers that each kind of row is about: the calls that read it, each with its status.
+ANSWERS = {
+    "insn": [(call, DONE) for call in ("insn_canon", "insn_groups", "insn_read", "insn_same", "insn_show")],
+    "insn-fault": [(call, FAULT) for call in ("insn_canon", "insn_groups", "insn_same", "insn_show")] + [("insn_same", FAULT_SECOND)],
+    "listing": [("insn_read", DONE), ("insn_show", DONE)],
+    "listing-fault": [("insn_read", FAULT)],
+    "btf": [(call, DONE) for call in ("btf_canon", "btf_check", "btf_same", "btf_show")],
+    "btf-fault": [(call, FAULT) for call in ("btf_canon", "btf_check", "btf_same", "btf_show")] + [("btf_same", FAULT_SECOND)],
+}
+# The test of each kind of row. That in C accepts a kind.
+GO = {"insn": "TestInstructions", "insn-fault": "TestFaultyInstructions", "listing": "TestListings", "listing-fault": "TestListings"}
+GO |= {"btf": "TestTypes", "btf-fault": "TestFaultyTypes"}
+PYTHON = {"insn": "test_instructions", "insn-fault": "test_faulty_instructions", "btf": "test_types", "btf-fault": "test_faulty_types"}
+PYTHON |= {"listing": "test_listings", "listing-fault": "test_listings"}
+RUST = {"insn": "instructions", "insn-fault": "faulty_instructions", "listing": "listings", "listing-fault": "faulty_listings"}
+RUST |= {"btf": "types", "btf-fault": "faulty_types"}
 
 
-def changes_of(call, status):
-    """The changes of an answer that a reader has to notice."""
-    if status == DONE:
-        return {"btf_check": ["count"], "insn_groups": ["count"], "btf_same": ["status"], "insn_same": ["status"]}.get(call, ["output"])
-    return {DIFFERENT: ["status"], FAULT: ["cause", "pos"], FAULT_SECOND: ["status", "cause", "pos"]}.get(status, [])
+@dataclasses.dataclass(frozen=True)
+class Reader:
+    """The tests of a reader, by the kind of their rows, and its folder."""
+
+    name: str
+    folder: pathlib.Path
+    tests: dict[str, str]
+
+    def words(self, test: str, path: pathlib.Path = VECTORS) -> list[str]:
+        """The command of a test."""
+        raise NotImplementedError
+
+    def wrong_lines(self, output: str, path: pathlib.Path) -> frozenset[int]:
+        """The lines of the wrong rows in what a test printed about a file."""
+        raise NotImplementedError
+
+    def library(self, path: pathlib.Path) -> dict[str, str]:
+        """The environment in which the reader uses a shared library."""
+        return {"LD_PRELOAD": str(path), "LD_LIBRARY_PATH": str(path.parent)}
+
+    def judge(self, library: pathlib.Path, kind: str, path: pathlib.Path) -> tuple[bool, frozenset[int]]:
+        """Whether the test of a kind passes with a file, and the lines that it calls wrong."""
+        words, own = self.words(self.tests[kind], path), {**self.library(library), "BPFCANON_VECTORS": str(path)}
+        how = {"stdout": subprocess.PIPE, "stderr": subprocess.STDOUT, "text": True, "errors": "replace", "timeout": SECONDS}
+        done = subprocess.run(words, cwd=self.folder, env=os.environ | own, **how)
+        return done.returncode == 0, self.wrong_lines(done.stdout, path)
+
+    def judge_all(self, library, given, pool):
+        """What `judge` returns for each kind and file."""
+        return pool.map(lambda it: self.judge(library, *it), given)
 
 
-def readers(folder):
-    """The commands of the tests of each reader, by their names, with their folder."""
-    vectors = TOP / "testdata" / "vectors.tsv"
-    found = {"Python": (TOP / "bindings" / "python", {it: [sys.executable, "-m", "unittest", f"tests.test_vectors.Vectors.{it}"] for it in PYTHON})}
+class C(Reader):
+    def words(self, test, path=VECTORS):
+        return [str(self.folder / "c_vectors"), str(path), test]
+
+    def wrong_lines(self, output, path):
+        return frozenset(map(int, re.findall(rf"^{re.escape(str(path))}:(\d+): ", output, re.MULTILINE)))
+
+
+@dataclasses.dataclass(frozen=True)
+class Go(Reader):
+    binary: pathlib.Path
+
+    def words(self, test, path=VECTORS):
+        return [str(self.binary), f"-test.run=^{test}$"]
+
+    def wrong_lines(self, output, path):
+        return frozenset(map(int, re.findall(r"--- FAIL: \w+/line_(\d+) ", output)))
+
+
+@dataclasses.dataclass(frozen=True)
+class Rust(Reader):
+    binary: pathlib.Path
+
+    def words(self, test, path=VECTORS):
+        return [str(self.binary), "--exact", test]
+
+    def library(self, path):
+        return super().library(path) | {"RUST_BACKTRACE": "0"}
+
+    def wrong_lines(self, output, path):
+        found = re.search(r"^wrong lines: \[(.*)\]$", output, re.MULTILINE)
+        return frozenset(map(int, found[1].split(", "))) if found else frozenset()
+
+
+class Python(Reader):
+    def words(self, test, path=VECTORS):
+        return [sys.executable, "-m", "unittest", f"tests.test_vectors.Vectors.{test}"]
+
+    def library(self, path):
+        return {"BPFCANON_LIBRARY": str(path), "LD_LIBRARY_PATH": str(path.parent), "PYTHONDONTWRITEBYTECODE": "1"}
+
+    def judge_all(self, library, given, pool):
+        """All files in one process, each with a result of its own, since a start of Python takes longer than a test."""
+        words = [sys.executable, str(TOP / "tests" / "of_tests" / "python_vectors.py")]
+        lines = "".join(f"{self.tests[kind]}\t{path}\n" for kind, path in given)
+        environment = os.environ | self.library(library)
+        done = subprocess.run(words, input=lines, stdout=subprocess.PIPE, text=True, cwd=self.folder, env=environment, check=True)
+        return [(passes, frozenset(wrong)) for passes, wrong in map(json.loads, done.stdout.splitlines())]
+
+
+def readers(folder: pathlib.Path) -> list[Reader]:
+    found = [Python("Python", TOP / "bindings" / "python", PYTHON)]
     if (folder / "c_vectors").exists():
-        found["C"] = (TOP, {it: [folder / "c_vectors", vectors, it] for it in KINDS})
+        found.append(C("C", folder, {kind: kind for kind in ANSWERS}))
     if (folder / "go_vectors").exists():
-        found["Go"] = (TOP / "bindings" / "go", {it: [folder / "go_vectors", f"-test.run=^{it}$"] for it in GO})
+        found.append(Go("Go", TOP / "bindings" / "go", GO, folder / "go_vectors"))
     if (folder / "rust_vectors").exists():
-        found["Rust"] = (TOP / "bindings" / "rust", {it: [folder / "rust_vectors", "--exact", it] for it in RUST})
+        found.append(Rust("Rust", TOP / "bindings" / "rust", RUST, folder / "rust_vectors"))
     return found
+
+
+# ---- wrong answers of the library
+
+
+def changes_of(call: str, status: int, is_c: bool) -> list[str]:
+    """The changes of an answer that a reader has to notice. That in C sees the buffer too."""
+    if status == DONE:
+        if call in ("btf_check", "insn_groups"):
+            return ["count"]
+        if call in ("btf_same", "insn_same"):
+            return ["status"]
+        return ["output", *(["exact", "behind"] if is_c else [])]
+    in_c = {FAULT: ["writes"] if call not in ("btf_check", "insn_groups", "btf_same", "insn_same") else [], ROOM: ["needed", "writes"]}
+    found = {DIFFERENT: ["status"], FAULT: ["cause", "pos"], FAULT_SECOND: ["status", "cause", "pos"]}.get(status, [])
+    return found + (in_c.get(status, []) if is_c else [])
 
 
 class Library:
     """The library with the stand-in in front of it."""
 
-    def __init__(self, prefix, folder):
-        self.object = folder / "wrong_answers.so"
-        words = ["cc", "-O1", "-Wall", "-Wextra", "-Werror", "-shared", "-fPIC", f"-I{prefix / 'include'}", TOP / "tests" / "of_tests" / "wrong_answers.c"]
-        words += ["-o", self.object, f"-L{prefix / 'lib'}", "-Wl,--no-as-needed", "-lbpfcanon", f"-Wl,-rpath,{prefix / 'lib'}", "-ldl"]
+    def __init__(self, prefix: pathlib.Path, folder: pathlib.Path) -> None:
+        self.right, self.wrong = prefix / "lib" / "libbpfcanon.so.0", folder / "wrong_answers.so"
+        words = ["cc", "-O1", "-Wall", "-Wextra", "-Werror", "-shared", "-fPIC", f"-I{prefix / 'include'}"]
+        words += [TOP / "tests" / "of_tests" / "wrong_answers.c", "-o", self.wrong]
+        words += [f"-L{prefix / 'lib'}", "-Wl,--no-as-needed", "-lbpfcanon", f"-Wl,-rpath,{prefix / 'lib'}", "-ldl"]
         subprocess.run(words, check=True)
-        self.folder = prefix / "lib"
 
-    def run(self, is_python, folder, words, **variables):
-        """The status of a test over the library."""
-        own = {"BPFCANON_LIBRARY": self.object} if is_python else {"LD_PRELOAD": self.object}
-        own |= {"LD_LIBRARY_PATH": self.folder, "PYTHONDONTWRITEBYTECODE": "1", **variables}
+    def passes(self, reader: Reader, test: str, **variables: str) -> bool:
+        """Whether a test passes over the stand-in."""
+        own = reader.library(self.wrong) | {"LD_LIBRARY_PATH": str(self.right.parent)} | variables
         how = {"stdout": subprocess.DEVNULL, "stderr": subprocess.DEVNULL, "timeout": SECONDS}
-        environment = os.environ | {name: str(value) for name, value in own.items()}
-        return subprocess.run(words, cwd=folder, env=environment, **how).returncode
+        return subprocess.run(reader.words(test), cwd=reader.folder, env=os.environ | own, **how).returncode == 0
 
 
-def answers(library, is_python, folder, words):
-    """Which calls a test makes, each with the statuses that they end with, and whether the test passes."""
+def answers(library: Library, reader: Reader, test: str) -> tuple[bool, list[tuple[str, int]]]:
+    """Whether a test passes, and which calls it makes, each with the statuses that they end with."""
     with tempfile.NamedTemporaryFile() as file:
-        status = library.run(is_python, folder, words, ANSWERS=file.name)
+        passes = library.passes(reader, test, ANSWERS=file.name)
         lines = sorted(set(pathlib.Path(file.name).read_text().split("\n")) - {""})
-    return status == 0, [(call, int(ended)) for call, ended in map(str.split, lines)]
+    return passes, [(call, int(ended)) for call, ended in map(str.split, lines)]
 
 
-def check_reader(report, library, name, folder, tests, pool):
-    is_python = name == "Python"
-    with report.group(f"the reader in {name}"):
-        for test, (passes, made) in zip(tests, pool.map(lambda words: answers(library, is_python, folder, words), tests.values())):
-            report.expect_that(passes and made, test, f"it {'makes no call' if passes else 'fails over the right library'}")
-            wrong = [f"{call} {status} {change}" for call, status in made for change in changes_of(call, status)]
-            ended = pool.map(lambda it: library.run(is_python, folder, tests[test], WRONG=it), wrong)
-            for what, status in zip(wrong, ended):
-                report.expect_that(status != 0, f"{test}, {what}", "it passes")
+def check_answers(report: Report, library: Library, reader: Reader, pool) -> None:
+    """Each test makes the calls of its rows, and fails if one of them has a wrong answer."""
+    kinds: dict[str, list[str]] = {}
+    for kind, test in reader.tests.items():
+        kinds.setdefault(test, []).append(kind)
+    with report.group(f"the reader in {reader.name}, over wrong answers"):
+        for test, (passes, made) in zip(kinds, pool.map(lambda it: answers(library, reader, it), kinds)):
+            report.expect_that(passes, test, "it fails over the right library")
+            lacking = {answer for kind in kinds[test] for answer in ANSWERS[kind]} - set(made)
+            report.expect_that(not lacking, test, f"it makes no call with the answers {sorted(lacking)}")
+            is_c = isinstance(reader, C)
+            wrong = [f"{call} {status} {change}" for call, status in made for change in changes_of(call, status, is_c)]
+            ended = pool.map(lambda it: library.passes(reader, test, WRONG=it), wrong)
+            for what, passes in zip(wrong, ended):
+                report.expect_that(not passes, f"{test}, {what}", "it passes")
 
 
-def main():
+# ---- wrong vectors
+
+
+def check_vectors(report: Report, library: pathlib.Path, reader: Reader, wrong: list[tuple[Copy, pathlib.Path]], pool) -> None:
+    """Each test passes with the file as it is, and names the lines of exactly the rows that are wrong."""
+    with report.group(f"the reader in {reader.name}, with wrong vectors"):
+        for kind, (passes, lines) in zip(ANSWERS, reader.judge_all(library, [(kind, VECTORS) for kind in ANSWERS], pool)):
+            report.expect_that(passes and not lines, kind, f"it names the lines {sorted(lines)} of the right file")
+        given = [(copy.change.kind, path) for copy, path in wrong]
+        for (copy, _), (passes, lines) in zip(wrong, reader.judge_all(library, given, pool)):
+            report.expect_that(not passes, str(copy), "it passes")
+            missing, others = sorted(copy.lines - lines), sorted(lines - copy.lines)
+            report.expect_that(lines == copy.lines, str(copy), f"it doesn't name the lines {missing}, but {others}")
+
+
+def written(folder: pathlib.Path) -> list[tuple[Copy, pathlib.Path]]:
+    """The copies that these readers read, in files. The rows `run` are for the program."""
+    found = []
+    for number, copy in enumerate(copies()):
+        if copy.change.kind in ANSWERS:
+            found.append((copy, folder / f"{number}.tsv"))
+            found[-1][1].write_text(copy.text)
+    return found
+
+
+def main() -> int:
     if len(sys.argv) != 3:
         sys.exit(__doc__)
     prefix, folder = (pathlib.Path(it).resolve() for it in sys.argv[1:])
     report, library = Report(), Library(prefix, folder)
-    with concurrent.futures.ThreadPoolExecutor(os.cpu_count()) as pool:
-        for name, (where, tests) in readers(folder).items():
-            check_reader(report, library, name, where, tests, pool)
+    with concurrent.futures.ThreadPoolExecutor(os.cpu_count()) as pool, tempfile.TemporaryDirectory() as name:
+        wrong = written(pathlib.Path(name))
+        for reader in readers(folder):
+            check_answers(report, library, reader, pool)
+            check_vectors(report, library.right, reader, wrong, pool)
     return report.end("readers of vectors")
 
 
