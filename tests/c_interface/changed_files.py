@@ -71,8 +71,9 @@ def check_reference(report):
                 fault = btf_reference.first_fault(file)
                 report.expect_that(fault == (int(pos), cause), name, f"it gave {fault}")
         for name, file, little, big, _, _ in rows("btf"):
-            made = [btf_reference.canonical(data(file), mark) for mark in "<>"]
-            report.expect_that(made == [data(little), data(big)], name, "it gave other bytes")
+            fault = btf_reference.first_fault(data(file))
+            made = fault or tuple(btf_reference.canonical(data(file), mark) for mark in "<>")
+            report.expect_that(made == (data(little), data(big)), name, f"it gave {fault or 'other bytes'}")
 
 
 def check_changed_bytes(report):

@@ -117,26 +117,38 @@ def runs_of_compiled_files():
         yield name, f"insn-same --split {len(big)} --order big", big + little, done(b"same\n")
 
 
-def main():
-    if len(sys.argv) != 2:
-        sys.exit(__doc__)
-    program, report = Program(sys.argv[1]), Report()
-    for name, runs, count in [
-        ("instructions", runs_of_insns(), 10 * ROWS["insn"]),
-        ("these instructions in one file", runs_of_all_insns(), 5),
-        ("faulty instructions", runs_of_faulty_insns(), 8 * ROWS["insn-fault"]),
-        ("listings", runs_of_listings(program), 3 * ROWS["listing"] + 2 * ROWS["listing-fault"]),
-        ("BTF", runs_of_btf(), 788),
-        ("faulty BTF", runs_of_faulty_btf(), 10 * ROWS["btf-fault"]),
-        ("command lines", runs_of_lines(), ROWS["run"]),
-        ("compiled programs", runs_of_compiled_files(), 6),
-    ]:
+def groups_of(program):
+    """The runs of each group, and how many belong there."""
+    return {
+        "instructions": (runs_of_insns(), 10 * ROWS["insn"]),
+        "these instructions in one file": (runs_of_all_insns(), 5),
+        "faulty instructions": (runs_of_faulty_insns(), 8 * ROWS["insn-fault"]),
+        "listings": (runs_of_listings(program), 3 * ROWS["listing"] + 2 * ROWS["listing-fault"]),
+        "BTF": (runs_of_btf(), 788),
+        "faulty BTF": (runs_of_faulty_btf(), 10 * ROWS["btf-fault"]),
+        "command lines": (runs_of_lines(), ROWS["run"]),
+        "compiled programs": (runs_of_compiled_files(), 6),
+    }
+
+
+def check(program, report, names=None):
+    """Compares the runs of these groups, or of all."""
+    for name, (runs, count) in groups_of(program).items():
+        if names and name not in names:
+            continue
         with report.group(name):
             before = report.runs
             for what, line, given, right in runs:
                 report.expect(f"{what} ({line})", program.run(line, given), right)
             made = report.runs - before
             report.expect_that(made == count, name, f"these are {made} runs, and {count} belong here")
+
+
+def main():
+    if len(sys.argv) != 2:
+        sys.exit(__doc__)
+    report = Report()
+    check(Program(sys.argv[1]), report)
     return report.end("vectors")
 
 

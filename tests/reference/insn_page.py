@@ -78,6 +78,7 @@ def widths():
     return {32: narrow.split(" and "), 64: wide.split(" and ")}
 
 
+@functools.cache
 def registers():
     low, high = said(INSNS, r'"reg" is (\d+) to (\d+), "any" is every value of the field')
     return range(int(low), int(high) + 1)
