@@ -4,7 +4,8 @@
 
 `tests/quick`, `tests/run`, `tests/c_interface/run` and `tests/bindings` are copied and run with a PATH on which stand-ins replace the
 prover, the compilers and the other tools. A stand-in notes its call and passes. Then each call that was noted fails, one at a time: the
-runner has to fail each time, unless the call only looks for a tool. `tests/recipes` is tried with pages for which it has to fail.
+runner has to fail each time, unless the call only looks for a tool. The calls are compared with the files of tests/, so that no test is left
+out. `tests/recipes` is tried with pages for which it has to fail.
 """
 
 import concurrent.futures
@@ -33,18 +34,82 @@ def is_probe(call):
 # What the README's example prints: nothing, or something else for each input. A file that gofmt would change.
 WRONG_ANSWERS = [("tests/c_interface/run", "KEY", "none"), ("tests/c_interface/run", "KEY", "other")]
 WRONG_ANSWERS += [("tests/bindings", "KEY", "other"), ("tests/bindings", "UNFORMATTED", "insn.go")]
+RUNNERS = ["tests/quick", "tests/run", "tests/c_interface/run", "tests/bindings"]
 
 
-def check_calls(report, runner, least):
-    """Each call of a runner fails once. A runner has at least so many calls."""
+def check_calls(report, runner):
+    """Each call of a runner fails once. Returns the calls."""
     with report.group(f"{runner}: each call fails once"), tree() as made, concurrent.futures.ThreadPoolExecutor() as pool:
         status, last, calls = made.run(runner)
         report.expect_that(status == 0 and last.endswith("passed"), "no call fails", f"it ended with {status}: {last}")
-        report.expect_that(len(calls) >= least, "the calls", f"they are {len(calls)}, and {least} were there once")
         ended = pool.map(lambda number: made.run(runner, number=number), range(1, len(calls) + 1))
         for call, (status, last, _) in zip(calls, ended):
             if not is_probe(call):
                 report.expect_that(status != 0 and "FAILED" in last, call, f"it failed, and the runner ended with {status}: {last}")
+    return calls
+
+
+# ---- which tests are called
+
+# The tests of a folder that another runner calls, and the one that needs the prover.
+ELSEWHERE = {"of_tests.readers": "tests/bindings", "pages.readme": "tests/recipes", "pages.covered": "tests/recipes"}
+ELSEWHERE |= {"pages.object_examples": "tests/bindings", "sources.outlived_names": "tests/run"}
+# The runners of the tests of a folder.
+CALLED_BY = {"process": ["tests/run"], "of_tests": ["tests/run", "tests/quick"], "pages": ["tests/quick", "tests/run"]}
+CALLED_BY |= {"sources": ["tests/quick"]}
+# The C tests that one folder has. The others are compiled twice, once with sanitizers.
+ONCE = ["libbpf_fields"]
+VALGRIND = ["calls", "refused", "records", "prefixes", "large"]
+# How the calls of tests/bindings begin.
+BINDINGS = [r"gofmt -l \.", r"go vet \./\.\.\.", r"go test -count=1 \./\.\.\.", r"go test -count=1 -gcflags=-d=checkptr \./\.\.\."]
+BINDINGS += ["go test -race", "pair", "key", "members", "objectkey"]
+BINDINGS += ["cargo test --quiet", "cargo doc", "cargo fmt --check", "cargo clippy", "cargo build --quiet --example"]
+BINDINGS += ["python3 -m unittest", "python3 -m pip install", "mypy --strict"]
+BINDINGS += [r"python3 -m tests\.of_tests\.readers", r"python3 -m tests\.typed_lines"]
+BINDINGS += [rf"python3 -m tests\.pages\.object_examples \S+ {language}" for language in ("python", "go", "rust")]
+
+
+def is_test(path):
+    """Whether a file is a test, and not a module of several."""
+    return re.search(r"^def main\(", path.read_text(), re.MULTILINE) is not None
+
+
+def check_modules(report, calls):
+    """Each test of these folders is called by its runner."""
+    with report.group("the tests that are called"):
+        for folder, runners in CALLED_BY.items():
+            names = [f"{folder}.{path.stem}" for path in sorted((TOP / "tests" / folder).glob("*.py")) if is_test(path)]
+            report.expect_that(names, folder, "it has no test")
+            for name in names:
+                if ELSEWHERE.get(name) == "tests/recipes":
+                    is_called = f'"{name.partition(".")[2]}"' in (TOP / "tests" / "recipes").read_text()
+                else:
+                    made = [call for runner in ([ELSEWHERE[name]] if name in ELSEWHERE else runners) for call in calls[runner]]
+                    is_called = any(call.split()[:3] == ["python3", "-m", f"tests.{name}"] for call in made)
+                report.expect_that(is_called, name, "no runner calls it")
+
+
+def check_c_tests(report, calls):
+    """What is compiled of each C test is run, and some again by valgrind. Each test in Python is called."""
+    with report.group("the tests of the C interface that are called"):
+        folder = TOP / "tests" / "c_interface"
+        for name in sorted(path.stem for path in folder.glob("*.c")):
+            compiled = sum(call.startswith("cc ") and f"/{name}.c " in call and call.endswith(f"/{name}") for call in calls)
+            run = sum(call.split()[0] == name for call in calls)
+            wanted = 1 if name in ONCE else 2
+            report.expect_that(wanted <= compiled <= run, name, f"it is compiled {compiled} times and run {run} times")
+        for name in VALGRIND:
+            is_called = any(re.match(rf"valgrind .*/plain/{name}( |$)", call) for call in calls)
+            report.expect_that(is_called, f"{name} under valgrind", "it isn't called")
+        for path in filter(is_test, sorted(folder.glob("*.py"))):
+            is_called = any(call.startswith("python3 ") and path.name in call for call in calls)
+            report.expect_that(is_called, path.name, "it isn't called")
+
+
+def check_bindings(report, calls):
+    with report.group("the tests of the bindings that are called"):
+        for words in BINDINGS:
+            report.expect_that(any(re.match(rf"{words}( |$)", call) for call in calls), words, "it isn't called")
 
 
 def check_answers(report):
@@ -139,8 +204,10 @@ def check_recipes(report):
 
 def main():
     report = Report()
-    for runner, least in ("tests/quick", 12), ("tests/run", 18), ("tests/c_interface/run", 53), ("tests/bindings", 18):
-        check_calls(report, runner, least)
+    calls = {runner: check_calls(report, runner) for runner in RUNNERS}
+    check_modules(report, calls)
+    check_c_tests(report, calls["tests/c_interface/run"])
+    check_bindings(report, calls["tests/bindings"])
     for check in check_answers, check_missing, check_recipes:
         check(report)
     return report.end("runners")
