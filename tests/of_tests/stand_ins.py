@@ -24,13 +24,14 @@ REPLACED += ["tests/packages", "tests/objects/run", "tests/objects/both.py", "te
 EMPTY = ["testdata/flow_table.little.btf", "testdata/flow_table.big.btf", "proved"]
 EMPTY += ["bindings/python/pyproject.toml", "bindings/rust/Cargo.toml"]
 
-# A stand-in. It fails if its call has the number FAIL_AT, or if its name is FAIL.
+# A stand-in. It fails if its call has the number FAIL_AT or matches FAIL_CALL, or if its name is FAIL.
 STAND_IN = r"""#!/bin/sh
 set -f
 name=${0##*/}
 echo "$name" $* >>"$CALLS"
 if [ "$(wc -l <"$CALLS")" -eq "$FAIL_AT" ]; then exit 1; fi
 case /$0 in */"$FAIL") exit 1 ;; esac
+case "$name $*" in $FAIL_CALL) exit 1 ;; esac
 case $name in
 archive) touch crates/bpfcanon_c/out/libbpfcanon_c.a ;;
 build) mkdir -p "$1/include" "$1/lib/pkgconfig" && touch "$1/lib/pkgconfig/bpfcanon.pc" ;;
@@ -50,6 +51,7 @@ cargo)
     deps=${CARGO_TARGET_DIR:-/none}/debug/deps
     if [ "$1" = test ]; then mkdir -p "$deps" && touch "$deps/vectors-0"; fi
     ;;
+sources) if [ -n "$CHANGING" ]; then wc -l <"$CALLS"; fi ;;
 gofmt) if [ -n "$UNFORMATTED" ]; then echo insn.go; fi ;;
 packages)
     if [ "$1" = offered ]; then echo "$OFFERED"; fi
@@ -101,7 +103,7 @@ class Tree:
             calls = pathlib.Path(folder, "calls")
             calls.touch()
             own = {"PATH": str(self.folder / "bin"), "HOME": "/", "TMPDIR": folder, "CALLS": str(calls), "FAIL_AT": str(number)}
-            own |= {"KEY": "made", "FAIL": "none", "UNFORMATTED": "", "RT_CI": "1 passed, 0 failed\\n"}
+            own |= {"KEY": "made", "FAIL": "none", "FAIL_CALL": "none", "UNFORMATTED": "", "RT_CI": "1 passed, 0 failed\\n", "CHANGING": ""}
             own |= {"MEMBERS": str(self.folder / MEMBERS)} | environment
             done = subprocess.run(["bash", self.folder / runner, *options], env=own, capture_output=True, text=True, timeout=120)
             lines = done.stdout.splitlines() or [done.stderr]

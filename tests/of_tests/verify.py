@@ -6,6 +6,7 @@ from tests.of_tests.stand_ins import RUNNERS, tree
 from tests.program import Report
 
 RECORD = "out/PROVED.txt"
+EARLIER = "an earlier record"
 ARCHIVE = "crates/bpfcanon_c/out/libbpfcanon_c.a"
 PARTS = {
     "bin/rt": "rt ci",
@@ -66,20 +67,47 @@ SKIPPED = [
 ]
 
 
+# What keeps a release from being recorded: the variables of the stand-ins, the status, and how the last line ends.
+UNRECORDED = [
+    ("sources that change during the tests", {"CHANGING": "yes"}, 0, "release skipped (the sources changed)"),
+    ("a record that can't be made", {"FAIL_CALL": "python3 -B packaging/proved.py *"}, 1, "release FAILED (no record)"),
+    ("no archive for 64-bit ARM", {"FAIL_CALL": "archive aarch64"}, 1, "release objects FAILED, release skipped (not all passed)"),
+]
+
+
+def record(made):
+    """What is recorded, or None if nothing is."""
+    path = made.folder / RECORD
+    return path.read_text() if path.exists() else None
+
+
 def check_parts(report):
     with report.group("verify: each part fails once"), tree(replaced=RUNNERS) as made:
         status, last, _ = made.run("verify")
         report.expect_that((status, last) == (0, PASSED), "no part fails", f"it ended with {status}: {last}")
         for part, name in PARTS.items():
             (made.folder / ARCHIVE).touch()
+            (made.folder / RECORD).write_text(EARLIER)
             status, last, _ = made.run("verify", FAIL=part)
             is_named = f" {name} FAILED" in last and last.count("FAILED") == 1
             report.expect_that(status != 0 and is_named, name, f"it failed, and verify ended with {status}: {last}")
-            is_made = (made.folder / RECORD).exists()
-            report.expect_that(is_made == (name == "release"), name, f"it failed, and there is {'a' if is_made else 'no'} record")
+            right = "" if name == "release" else None
+            report.expect_that(record(made) == right, name, f"it failed, and the record is {record(made)!r}")
         status, last, calls = made.run("verify", FAIL="tests/quick")
         right = (1, f"verify: quick checks FAILED{ONLY}", ["quick"])
         report.expect_that((status, last, calls) == right, "quick checks", f"they failed, and verify ended with {status}: {last}")
+
+
+def check_record(report):
+    """An earlier record is gone if verify can't make another one."""
+    with report.group("verify: what isn't recorded"), tree(replaced=RUNNERS) as made:
+        for name, variables, wanted, right in UNRECORDED:
+            (made.folder / ARCHIVE).touch()
+            (made.folder / RECORD).parent.mkdir(exist_ok=True)
+            (made.folder / RECORD).write_text(EARLIER)
+            status, last, _ = made.run("verify", **variables)
+            report.expect_that(status == wanted and last.endswith(right), name, f"verify ended with {status}: {last}")
+            report.expect_that(record(made) is None, name, f"the record is {record(made)!r}")
 
 
 def check_logs(report):
@@ -95,7 +123,7 @@ def check_options(report):
         for name, options, variables, wanted, right, runs_all in OPTIONS:
             with tree(replaced=RUNNERS) as made:
                 (made.folder / RECORD).parent.mkdir()
-                (made.folder / RECORD).write_text("an earlier record")
+                (made.folder / RECORD).write_text(EARLIER)
                 status, last, calls = made.run("verify", *options, **variables)
                 is_right = "recipes FAILED" in last if right is None else right in last
                 report.expect_that(status == wanted and is_right, name, f"verify ended with {status}: {last}")
@@ -103,8 +131,7 @@ def check_options(report):
                 is_first = calls[:1] == ["packages install"]
                 report.expect_that(is_first == ("--with-tools" in options), name, f"the calls are {calls}")
                 if "--quick" in options:
-                    record = (made.folder / RECORD).read_text()
-                    report.expect_that(record == "an earlier record", name, f"the record is {record!r}")
+                    report.expect_that(record(made) == EARLIER, name, f"the record is {record(made)!r}")
 
 
 def check_missing(report):
@@ -118,7 +145,7 @@ def check_missing(report):
 
 def main():
     report = Report()
-    for check in check_parts, check_logs, check_options, check_missing:
+    for check in check_parts, check_record, check_logs, check_options, check_missing:
         check(report)
     return report.end("verify")
 
