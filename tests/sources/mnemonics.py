@@ -20,14 +20,16 @@ HASHES = {"": 0, "a": 43}
 SAME, OTHER = "addr_space_cast", "may_goto"
 
 
-def main():
-    report = Report()
-    tool = loaded("from_mnemonics")
-    tokens = tool.mnemonics(tool.MNEMONICS.read_text())
+def check_made(report):
     with report.group("what tools/from_mnemonics makes"):
         how = {"stdout": subprocess.PIPE, "stderr": subprocess.STDOUT, "text": True, "timeout": SECONDS}
         done = subprocess.run([TOP / "tools" / "from_mnemonics", "--check"], **how)
         report.expect_that(done.returncode == 0 and not done.stdout, "tools/from_mnemonics --check", done.stdout)
+
+
+def check_hashes(report):
+    tool = loaded("from_mnemonics")
+    tokens = tool.mnemonics(tool.MNEMONICS.read_text())
     with report.group(f"{len(tokens)} mnemonics and their hashes"):
         named = sorted(insn_reference.templates())
         report.expect_that(sorted(tokens) == named, "the mnemonics", f"those of FORMATS differ in {set(tokens) ^ set(named)}")
@@ -39,6 +41,12 @@ def main():
         for token, is_apart in (SAME, False), (OTHER, True):
             said = tool.are_apart(tool.steps_of([*tokens, token]), FACTOR)
             report.expect_that(said == is_apart, token, f"it is apart from the others: {said}")
+
+
+def main():
+    report = Report()
+    for check in check_made, check_hashes:
+        check(report)
     return report.end("mnemonics")
 
 
