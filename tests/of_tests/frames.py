@@ -135,8 +135,14 @@ class Blind(Reader):
     lines, passes = frozenset(), True
 
 
+class Passes(Reader):
+    """It names the line and passes."""
+
+    passes = True
+
+
 class Names(Reader):
-    """It names a row more, or none."""
+    """It names a line more."""
 
     lines = frozenset([4, 5])
 
@@ -159,7 +165,12 @@ INSN_CALLS = [f"{call} 0" for call, _ in readers.ANSWERS["insn"]]
 def check_readers(report: Report) -> None:
     folder, none = pathlib.Path("/none"), pathlib.Path("/none/none")
     with report.group("readers.py"), concurrent.futures.ThreadPoolExecutor(1) as pool:
-        for name, reader, passes in ("right", Reader, True), ("blind", Blind, False), ("a row more", Names, False):
+        for name, reader, passes in [
+            ("right", Reader, True),
+            ("blind", Blind, False),
+            ("passes", Passes, False),
+            ("a line more", Names, False),
+        ]:
             made = reader("C", folder, {kind: kind for kind in readers.ANSWERS})
             wrong = wrong_of(lambda it: readers.check_vectors(it, none, made, [(COPY, none)], pool))
             report.expect_that((wrong == 0) == passes, f"{name}, with a wrong vector", f"{wrong} were wrong")

@@ -145,11 +145,9 @@ def readers(folder: pathlib.Path) -> list[Reader]:
 def changes_of(call: str, status: int, is_c: bool) -> list[str]:
     """The changes of an answer that a reader has to notice. That in C sees the buffer too."""
     if status == DONE:
-        if call in ("btf_check", "insn_groups"):
-            return ["count"]
-        if call in ("btf_same", "insn_same"):
-            return ["status"]
-        return ["output", *(["exact", "behind"] if is_c else [])]
+        counts = {"btf_check": ["more types", "fewer types"], "insn_groups": ["more groups", "fewer groups"]}
+        counts |= dict.fromkeys(["btf_same", "insn_same"], ["status"])
+        return counts.get(call, ["output", *(["exact", "behind"] if is_c else [])])
     in_c = {FAULT: ["writes"] if call not in ("btf_check", "insn_groups", "btf_same", "insn_same") else [], ROOM: ["needed", "writes"]}
     found = {DIFFERENT: ["status"], FAULT: ["cause", "pos"], FAULT_SECOND: ["status", "cause", "pos"]}.get(status, [])
     return found + (in_c.get(status, []) if is_c else [])

@@ -51,10 +51,14 @@ static bpfcanon_answer changed(const char *call, bpfcanon_answer answer, void *o
 		answer.line += answer.line != 0;
 		answer.pos += answer.line == 0;
 	}
-	if (!strcmp(change, "count")) {
+	if (!strcmp(change, "more types"))
 		answer.types++;
-		answer.groups ^= BPFCANON_PACKET;
-	}
+	if (!strcmp(change, "fewer types"))
+		answer.types -= answer.types != 0;
+	if (!strcmp(change, "more groups"))
+		answer.groups |= BPFCANON_PACKET;
+	if (!strcmp(change, "fewer groups"))
+		answer.groups &= answer.groups - 1;
 	if (!strcmp(change, "needed"))
 		answer.needed++;
 	overwrite(change, out, room, answer.written);
