@@ -1,13 +1,12 @@
 """Shows that the readers of testdata/vectors.tsv over the C library compare what they read.
 
-    python3 -m tests.of_tests.readers PREFIX FOLDER
+    python3 -m tests.of_tests.readers PREFIX FOLDER READER..
 
 Each test of a reader fails if one call of the library returns a wrong answer (wrong_answers.c). It also fails if a field of a row is wrong
 (wrong_vectors.py): with a wrong field in the first row or the last it fails, and if each row has one it names the line of each. A row that
 is left out, doubled or replaced by another is no mistake of a reader: tests/sources/vector_file.py refuses such a file.
 
-PREFIX has the C library. FOLDER contains the readers that could be built over it: c_vectors (C), go_vectors and rust_vectors. The reader
-in Python is always tried.
+PREFIX has the C library. A READER is c, go, python or rust: FOLDER contains c_vectors, go_vectors and rust_vectors, built over the library.
 """
 
 from __future__ import annotations
@@ -128,15 +127,13 @@ class Python(Reader):
         return [(passes, frozenset(wrong)) for passes, wrong in map(json.loads, done.stdout.splitlines())]
 
 
-def readers(folder: pathlib.Path) -> list[Reader]:
-    found = [Python("Python", TOP / "bindings" / "python", PYTHON)]
-    if (folder / "c_vectors").exists():
-        found.append(C("C", folder, {kind: kind for kind in ANSWERS}))
-    if (folder / "go_vectors").exists():
-        found.append(Go("Go", TOP / "bindings" / "go", GO, folder / "go_vectors"))
-    if (folder / "rust_vectors").exists():
-        found.append(Rust("Rust", TOP / "bindings" / "rust", RUST, folder / "rust_vectors"))
-    return found
+def readers(folder: pathlib.Path) -> dict[str, Reader]:
+    return {
+        "c": C("C", folder, {kind: kind for kind in ANSWERS}),
+        "go": Go("Go", TOP / "bindings" / "go", GO, folder / "go_vectors"),
+        "python": Python("Python", TOP / "bindings" / "python", PYTHON),
+        "rust": Rust("Rust", TOP / "bindings" / "rust", RUST, folder / "rust_vectors"),
+    }
 
 
 # ---- wrong answers of the library
@@ -221,15 +218,15 @@ def written(folder: pathlib.Path) -> list[tuple[Copy, pathlib.Path]]:
 
 
 def main() -> int:
-    if len(sys.argv) != 3:
+    if len(sys.argv) < 4:
         sys.exit(__doc__)
-    prefix, folder = (pathlib.Path(it).resolve() for it in sys.argv[1:])
-    report, library = Report(), Library(prefix, folder)
+    prefix, folder = (pathlib.Path(it).resolve() for it in sys.argv[1:3])
+    report, library, known = Report(), Library(prefix, folder), readers(folder)
     with concurrent.futures.ThreadPoolExecutor(os.cpu_count()) as pool, tempfile.TemporaryDirectory() as name:
         wrong = written(pathlib.Path(name))
-        for reader in readers(folder):
-            check_answers(report, library, reader, pool)
-            check_vectors(report, library.right, reader, wrong, pool)
+        for reader in sys.argv[3:]:
+            check_answers(report, library, known[reader], pool)
+            check_vectors(report, library.right, known[reader], wrong, pool)
     return report.end("readers of vectors")
 
 

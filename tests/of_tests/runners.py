@@ -65,7 +65,7 @@ BINDINGS = [r"gofmt -l \.", r"go vet \./\.\.\.", r"go test -count=1 \./\.\.\.", 
 BINDINGS += ["go test -race", "pair", "key", "members", "objectkey"]
 BINDINGS += ["cargo test --quiet", "cargo doc", "cargo fmt --check", "cargo clippy", "cargo build --quiet --example"]
 BINDINGS += ["python3 -m unittest", "python3 -m pip install", "mypy --strict"]
-BINDINGS += [r"python3 -m tests\.of_tests\.readers", r"python3 -m tests\.typed_lines"]
+BINDINGS += [r"python3 -m tests\.of_tests\.readers \S+ \S+ python c go rust", r"python3 -m tests\.typed_lines"]
 BINDINGS += [rf"python3 -m tests\.pages\.object_examples \S+ {language}" for language in ("python", "go", "rust")]
 
 
