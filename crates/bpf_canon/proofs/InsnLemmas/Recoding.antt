@@ -1,8 +1,7 @@
 -- A file in either order has the same slots, and what follows some bytes is rewritten in place.
-use Rattle.std.proofs.Common.{◌≡◌, ℕ, ◌-◌, ◌+◌, ℤ, pos, List, [], ◌∷◌, ◌++◌, Option, Some, None, length, take, drop, All, refl, sym, ap, ◌∙◌, append-nil, arith, length-append, rules}
+use Rattle.std.proofs.Common.{◌≡◌, ℕ, ◌-◌, ◌+◌, ℤ, pos, List, [], ◌∷◌, ◌++◌, Option, Some, None, length, take, All, refl, sym, ap, ◌∙◌, append-nil, arith, length-append, rules}
 use Rattle.std.specs.List.{flat_map}
 use Rattle.std.proofs.lemmas.List.{take_all, Elements.All-head, Elements.All-nil, Elements.All-tail, Elements.All-cons, Elements.All-append}
-use Rattle.std.proofs.lemmas.{Grind.flat_map-append}
 use Rattle.std.proofs.Math.Seq.{drop-append_seam, drop-length, take-append_seam}
 use borrow.Rule.Slice.PartMut.{Post-is, mid_of, post_of, put_mid}
 use Rattle.bpf_words.specs.declared.Order.{Order}
