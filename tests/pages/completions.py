@@ -1,11 +1,12 @@
-"""Compares the completions for bash and zsh with the commands and options of the sources, and runs them in their shells."""
+"""Compares what bash and zsh complete lines to with the commands and options of the sources, and with the manual page."""
 
 import re
 import subprocess
 import sys
 
-from tests import TOP
+from tests import TOP, zsh
 from tests.commands import ALL_OPTIONS, COMMANDS, OPTIONS
+from tests.pages.pages import plain
 from tests.program import SECONDS, Report
 
 ORDERS = ["big", "little"]
@@ -37,46 +38,31 @@ def check_bash(report):
             report.expect_that(completed(line) == words, line, f"it is completed to {completed(line)}, and right is {words}")
 
 
-# Runs the completion for zsh as its shell does, at argument CURRENT of a line. What it passes to the shell is printed.
-IN_ZSH = """
-_arguments() { print -rl -- "$@" }
-_describe() { print -rl -- "${(@P)4}" }
-compdef() { }
-words=($=2) CURRENT=$3
-source $1
-"""
-
-
-def handed_to_zsh(file, line, current):
-    """What the completion passes to the shell, one line for each."""
-    words = ["zsh", "-fc", IN_ZSH, "zsh", file, line, str(current)]
-    done = subprocess.run(words, stdout=subprocess.PIPE, stderr=subprocess.STDOUT, text=True, timeout=SECONDS)
-    return done.stdout.splitlines() if done.returncode == 0 else [f"status {done.returncode}", *done.stdout.splitlines()]
+def clauses():
+    """The first clause of what bpfcanon.1 says of each command and of each option, as a completion has it: "disassemble a program"."""
+    body = (TOP / "man" / "bpfcanon.1").read_text().partition(".SH COMMANDS\n")[2].partition(".SH EXIT")[0]
+    found = {}
+    for name, text in re.findall(r"^\.TP\n\.BI? (\S+?)(?:\\~ [ON])?\n((?:(?!\.TP|\.PP|\.SH).*\n)+)", body, re.MULTILINE):
+        first, _, rest = re.split(r"[,:.(]", plain(text))[0].strip().partition(" ")
+        found[name.replace(r"\-", "-")] = rest if first == "The" else f"{first.lower().removesuffix('s')} {rest}"
+    return found
 
 
 def check_zsh(report):
-    """The file is read, and run by zsh if that is installed."""
-    file = TOP / "completions" / "zsh" / "_bpfcanon"
-    text = file.read_text()
-    with report.group("the text of the completion for zsh"):
-        report.expect_that(text.startswith("#compdef bpfcanon\n"), "the first line", "it isn't #compdef bpfcanon")
-        rows = re.findall(r"^    ([\w|-]+)\) _arguments (.*) ;;$", text, re.MULTILINE)
-        options = {command: sorted(re.findall(r'"\$(\w+)"', words)) for commands, words in rows for command in commands.split("|")}
-        right = {command: sorted(it.lstrip("-") for it in OPTIONS[command]) for command in COMMANDS if OPTIONS[command]}
-        report.expect_that(options == right, "the options", f"they are {options}, and right is {right}")
-        values = dict(re.findall(r"^  local \w+='(--\w+)\[[^]']+\]:[^:']+:(.*)'$", text, re.MULTILINE))
-        right = {option: " " if option == "--split" else "(little big)" for option in ALL_OPTIONS}
-        report.expect_that(values == right, "the values", f"they are {values}, and right is {right}")
-    with report.group("the completion in zsh"):
-        if report.lacks("the completion in zsh", "zsh"):
+    """Each command and option is offered with what the manual page says of it."""
+    with report.group("the completion for zsh"):
+        if report.lacks("the completion for zsh", "zsh"):
             return
-        commands = [it.partition(":")[0] for it in handed_to_zsh(file, "bpfcanon x", 2)]
-        report.expect_that(commands == COMMANDS, "the commands", f"they are {commands}")
-        for command in COMMANDS:
-            handed = handed_to_zsh(file, f"bpfcanon {command} x", 3)
-            found = {it.partition("[")[0]: it.rpartition(":")[2] for it in handed}
-            values = {option: right[option] for option in OPTIONS[command]}
-            report.expect_that(found == values, command, f"it is completed to {handed}, and right is {values}")
+        texts = clauses()
+        rows = [("bpfcanon ", {it: texts[it] for it in COMMANDS}), ("bpfcanon insn-s", {it: texts[it] for it in ("insn-show", "insn-same")})]
+        rows += [(f"bpfcanon {command} --", {it: texts[it] for it in OPTIONS[command]}) for command in COMMANDS]
+        orders = dict.fromkeys(ORDERS, "")
+        words = {option: {} if option == "--split" else orders for option in ALL_OPTIONS}
+        rows += [(f"bpfcanon {command} {option} ", words[option]) for command in COMMANDS for option in OPTIONS[command]]
+        rows += [("bpfcanon btf-canon --to b", {"big": ""}), ("bpfcanon insn-canon --order big --", {"--to": texts["--to"]})]
+        rows += [("bpfcanon insn-same --split 8 --o", {it: texts[it] for it in ("--order", "--other")})]
+        for (line, right), found in zip(rows, zsh.completed(TOP, [line for line, _ in rows])):
+            report.expect_that(found == right, repr(line), f"it is completed to {found}, and right is {right}")
 
 
 def main():
