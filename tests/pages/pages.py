@@ -9,7 +9,7 @@ import subprocess
 import sys
 
 from tests import TOP
-from tests.commands import ALL_OPTIONS, COMMANDS, LIMITS, OPTIONS, constants
+from tests.commands import ALL_OPTIONS, COMMANDS, ENGINES, LIMITS, OPTIONS, constants
 from tests.program import SECONDS, Report
 from tests.reference import btf_page
 from tests.reference.formats_page import cells, said
@@ -71,7 +71,9 @@ def check_manual(report):
         text = plain(page)
         insns, btf = (number(LIMITS[it]) for it in ("insn-canon", "btf-canon"))
         two_insns, two_btf = (number(LIMITS[it]) for it in ("insn-same", "btf-same"))
+        (piece,) = re.findall(r"let mut buffer = \[0u8; (\d+)\];", ENGINES[0].read_text())
         for right in [
+            f"The input is read in pieces of up to {number(int(piece))} bytes.",
             f"The length of the first of two inputs in bytes, 0 to {two_insns}.",
             f"The input is over the limit: {insns} bytes of instructions or of a listing, {two_insns} bytes for insn-same, "
             f"{btf} bytes of BTF, {two_btf} bytes for btf-same.",
@@ -237,9 +239,26 @@ def check_pages(report):
             report.expect_that(all(other in last for other in others), page.name, f"SEE ALSO lacks one of {others}")
 
 
+def headings(name):
+    text = re.sub(r"^```.*?^```$", "", (TOP / "docs" / name).read_text(), flags=re.MULTILINE | re.DOTALL)
+    return re.findall(r"^##+ (.*)$", text, re.MULTILINE)
+
+
+def check_formats_page(report):
+    """bpfcanon.5 has all parts of FORMATS and FAULTS, and those of SCOPE on inputs in place of "Not covered"."""
+    with report.group("the parts of bpfcanon.5"):
+        *faults, last = headings("FAULTS.md")
+        report.expect_that(last == "Not covered", "docs/FAULTS.md", f"its last part is {last!r}")
+        inputs = ["Unsupported inputs", "What isn't checked", "Sizes"]
+        right = ["Name", "Description", *headings("FORMATS.md"), "Faults", *faults, *inputs, "See also"]
+        found = re.findall(r"^\.S[HS] (.*)$", page_of(5).read_text(), re.MULTILINE)
+        report.expect_that([it.lower() for it in found] == [it.lower() for it in right], "the parts", f"they are {found}")
+
+
 def main():
     report = Report()
-    for check in check_readme, check_manual, check_messages, check_limits, check_library, check_library_page, check_pages:
+    checks = [check_readme, check_manual, check_messages, check_limits, check_library, check_library_page, check_pages, check_formats_page]
+    for check in checks:
         check(report)
     return report.end("pages")
 
