@@ -41,6 +41,7 @@ arm_wheel_is_whole() (
 
 check_arm() {
     check needs_what_it_says "$arm" aarch64-linux-gnu-objdump
+    check python released.installer "$arm"
     check arm_wheel_is_whole
     if [ -z "$qemu" ]; then return; fi
     if there pkg-config; then

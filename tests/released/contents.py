@@ -16,13 +16,11 @@ import zipfile
 from tests.installing import RECORD
 from tests.process.install import FILES
 from tests.program import SECONDS, Report
-from tests.released.installer import DOCUMENTS, LIBRARY
+from tests.released.installer import DOCUMENTS, LIBRARY, OF_THE_COMMAND
 
 # What is at the top of the archives for a processor. All but the first two are links.
 TOP_FILES = {"README": 0o644, "install.sh": 0o755}
 TOP_LINKS = ["CHANGELOG.md", "LICENSE", "PROVED.txt", "SECURITY.md", "THIRD-PARTY"]
-OF_THE_COMMAND = ["bin/bpfcanon", "share/man/man1/bpfcanon.1", "share/bash-completion/completions/bpfcanon"]
-OF_THE_COMMAND += ["share/zsh/site-functions/_bpfcanon"]
 VECTORS = ["LICENSE", "README.md", "vectors.tsv", "flow_table.c", "flow_table.big.btf", "flow_table.little.btf"]
 VECTORS += [f"{name}{end}" for name in ("hash_words", "packet_filter") for end in (".c", ".big.bin", ".little.bin")]
 # The crates of the kit whose code can be in the program or in the library: those that crates.txt names, and strsim, which clap uses.

@@ -2,36 +2,74 @@
 
     python3 -m tests.released.installer FOLDER
 
-FOLDER is the archive for x86-64, unpacked. The files that it has to install are listed here.
+FOLDER is the archive for a processor, unpacked. The files that it has to install are listed here. If this machine has another processor,
+a stand-in for uname names that one, and only what depends on the files is tried.
 """
 
+import os
 import pathlib
+import platform
 import shutil
 import sys
 import tempfile
 
-from tests.installing import CHECKS, RECORD, Installer, check_contract, check_loader, places, refused
+from tests.installing import CHECKS, RECORD, Installer, check_contract, check_files, check_loader, check_older, check_stage, places, refused
 from tests.process.install import FILES
-from tests.program import Report
+from tests.program import Ran, Report
 
 LIBRARY = ["include/bpfcanon.h", "lib/libbpfcanon.a", "lib/pkgconfig/bpfcanon.pc", "share/man/man3/bpfcanon.3"]
 DOCUMENTS = ["share/doc/bpfcanon/PROVED.txt", "share/doc/bpfcanon/THIRD-PARTY"]
+# What the archives for each processor but x86-64 lack.
+OF_THE_COMMAND = ["bin/bpfcanon", "share/man/man1/bpfcanon.1", "share/bash-completion/completions/bpfcanon"]
+OF_THE_COMMAND += ["share/zsh/site-functions/_bpfcanon"]
+
+
+def machine_of(folder):
+    """The processor that an archive is for, by its name, bpfcanon-VERSION-PROCESSOR-linux."""
+    return folder.name.split("-")[-2]
 
 
 def installer(folder):
     """The installer with what it has to install: the files of ./install, the library, and what ./release makes."""
     shared = next((folder / "lib").glob("libbpfcanon.so.*.*.*")).relative_to(folder).as_posix()
     soname = shared.rsplit(".", 2)[0]
-    files = {place: (folder / place).read_bytes() for place in [*FILES, *LIBRARY, *DOCUMENTS, shared]}
+    left_out = [] if machine_of(folder) == "x86_64" else OF_THE_COMMAND
+    places = [place for place in [*FILES, *LIBRARY, *DOCUMENTS, shared] if place not in left_out]
+    files = {place: (folder / place).read_bytes() for place in places}
     # It has the prefix in it.
     files["lib/pkgconfig/bpfcanon.pc"] = None
     links = {soname: pathlib.Path(shared).name, "lib/libbpfcanon.so": pathlib.Path(soname).name}
     return Installer(folder / "install.sh", "install.sh", files, frozenset(["bin/bpfcanon", shared]), links)
 
 
+# uname as on another machine: SYSTEM is what it prints.
+UNAME = """#!/bin/sh
+[ "$*" = -sm ] && echo "$SYSTEM"
+"""
+
+
+def path_of_another(folder):
+    """A PATH with this uname."""
+    folder.mkdir(exist_ok=True)
+    (folder / "uname").write_text(UNAME)
+    (folder / "uname").chmod(0o755)
+    return f"{folder}:{os.environ['PATH']}"
+
+
+def check_processor(report, install, folder):
+    """On another processor or system the files are installed only into a stage, which another machine gets."""
+    machine, path = machine_of(install.script.parent), path_of_another(folder / "tools")
+    for system in f"Linux {'aarch64' if machine == 'x86_64' else 'x86_64'}", f"FreeBSD {machine}":
+        ran = install.install(folder / "none", PATH=path, SYSTEM=system)
+        refused(report, install, system, ran, 1, f"these files are for Linux on {machine}, and this is {system}")
+        report.expect_that(not (folder / "none").exists(), system, "something is installed")
+    report.expect(f"{system}, with DESTDIR", install.install("/opt", folder / "stage", PATH=path, SYSTEM=system), Ran(0, b"", b""))
+    check_files(report, install, folder / "stage" / "opt")
+
+
 def check_cut(report, install, folder):
     """An archive that isn't complete is refused, and nothing is installed."""
-    files = [f"{place} is missing" for place in ("bin/bpfcanon", "share/doc/bpfcanon/LICENSE")]
+    files = [f"{place} is missing" for place in (next(iter(install.files)), "share/doc/bpfcanon/LICENSE")]
     for gone, message in [(RECORD, f"there is no {RECORD}"), *((it.partition(" ")[0], it) for it in files)]:
         copy = folder / gone.replace("/", "-")
         shutil.copytree(install.script.parent, copy, symlinks=True)
@@ -74,7 +112,11 @@ def main():
         sys.exit(__doc__)
     folder, report = pathlib.Path(sys.argv[1]).resolve(), Report()
     with tempfile.TemporaryDirectory() as name:
-        check_contract(report, installer(folder), pathlib.Path(name), [*CHECKS, check_loader, check_cut, check_strict, check_config])
+        checks = [*CHECKS, check_loader, check_cut, check_strict, check_config, check_processor]
+        if platform.machine() != machine_of(folder):
+            os.environ |= {"PATH": path_of_another(pathlib.Path(name, "tools")), "SYSTEM": f"Linux {machine_of(folder)}"}
+            checks = [check_stage, check_older, check_processor]
+        check_contract(report, installer(folder), pathlib.Path(name), checks)
     return report.end("install.sh")
 
 
