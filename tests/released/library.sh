@@ -12,7 +12,7 @@ old_processor() (
     programs=("$binary/bin/bpfcanon insn-canon --order big" "$work/shared" "$work/static")
     for program in "${programs[@]}"; do
         qemu-x86_64 -cpu Nehalem $program <"$big" | is_canonical || exit 1
-        for lacking in qemu64,-sse3,-cx16,-svm Nehalem,-{popcnt,ssse3,cx16,sse4.1,sse4.2}; do
+        for lacking in qemu64,-sse3,-cx16,-svm Nehalem,-{popcnt,sse3,ssse3,cx16,sse4.1,sse4.2}; do
             qemu-x86_64 -cpu $lacking $program <"$big" >"$work/written" 2>"$work/said"
             [ $? -eq 3 ] && [ ! -s "$work/written" ] && grep -qx 'bpfcanon: needs an x86-64-v2 processor (SSE4.2 and POPCNT)' "$work/said" ||
                 { echo "$lacking"; exit 1; }
