@@ -14,10 +14,12 @@ copy_built() {
     done
 }
 
-# Another clone at a path with a blank, with another umask, time zone and locale.
+# Another clone at a path with a blank, with another umask, time zone and locale, and with what compilers, packagers and xz read.
 same_bytes() (
     git clone --quiet "$top" "$clone" && copy_built || exit 1
     umask 077
+    export CC=false AR=false OBJCOPY=false CPPFLAGS=-DOTHER CFLAGS=-O0 LDFLAGS=-Wl,--strip-all LIBDIR=other DESTDIR=$work/none
+    export DEB_BUILD_OPTIONS=noopt DEB_LDFLAGS_APPEND=-Wl,--strip-all XZ_OPT=--check=none CARGO_HOME=$work/none PYTHONPATH=$work/none
     TZ=Asia/Tokyo LC_ALL=C "$clone/release" "${how[@]}" "$work/again" && diff -r "$out" "$work/again"
 )
 
@@ -46,8 +48,11 @@ refuses_to_release() (
     copy_built && mkdir -p out || exit 1
     echo "another record" >out/PROVED.txt
     refuses --partial "the sources are not those that ./verify passed" || exit 1
-    { sources bpfcanon && sources bpfcanon_c; } >out/PROVED.txt
-    refuses --partial "is not the one that ./verify passed" || exit 1
+    mapfile -t files < <(ls "${built[@]}" 2>"$work/found" | grep -v 'sources\.sha256')
+    for file in "${files[@]}"; do
+        { sources bpfcanon && sources bpfcanon_c && sha256sum "${files[@]}" | grep -v "  $file\$"; } >out/PROVED.txt
+        refuses --partial "$file is not the one that ./verify passed" || exit 1
+    done
     echo >>README.md
     refuses "--partial --unverified" "README.md is not as it was committed" || exit 1
     git checkout --quiet README.md
