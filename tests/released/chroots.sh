@@ -15,7 +15,7 @@ can_bootstrap() {
     if [ -z "$mirror" ]; then skip "the chroots" "mirror of Debian"; return 1; fi
 }
 
-# Makes a chroot, beside the other tests, or unpacks the one that was kept.
+# Makes a chroot, beside the other tests, or unpacks the one that was kept: 95 seconds of processor time, or 6.
 bootstrap() {
     local root=$work/$1 kept
     kept=$cache/$1-$(echo "$packages" | sha256sum | cut -c 1-8).tar
@@ -129,20 +129,27 @@ debs_in() (
     as_root "dpkg --purge $names" && everything | diff "$work/before" -
 )
 
-# The C library from the sources, in the user's own folder.
+# The C library from the sources, in the user's own folder, over the older archive, whose other files stay until that is removed.
 source_in() (
-    root=$work/$1
-    as_user "$(lines_of "$out/README" "bpfcanon-source-$version.tar.xz")" || exit 1
+    root=$work/$1 older=older/bpfcanon-0.0.9-x86_64-linux/install.sh own="$work/$1/home/some user/.local"
+    as_user "$older \"\$HOME/.local\"" && [ -f "$own/lib/libbpfcanon.so.0.0.9" ] || exit 1
+    as_user "$(lines_of "$out/README" "bpfcanon-source-$version.tar.xz")" && [ ! -e "$own/lib/libbpfcanon.so.0.0.9" ] || exit 1
     as_user "PKG_CONFIG_PATH=\$HOME/.local/lib/pkgconfig; export PKG_CONFIG_PATH
         eval \"cc canon.c -static \$(pkg-config --cflags --libs bpfcanon) -o built\"" && as_user ./built <"$big" | is_canonical || exit 1
-    as_user "bpfcanon-source-$version/capi/build --uninstall \"\$HOME/.local\"" && [ ! -e "$root/home/some user/.local" ]
+    as_user "bpfcanon-source-$version/capi/build --uninstall \"\$HOME/.local\"" && [ -x "$own/bin/bpfcanon" ] && [ ! -e "$own/lib" ] || exit 1
+    as_user "$older --uninstall \"\$HOME/.local\"" && [ ! -e "$own" ]
 )
 
 wheel_in() (
     root=$work/$1
     export PIP_NO_INDEX=1 PIP_DISABLE_PIP_VERSION_CHECK=1
-    follow '*.whl' && as_user "bpfcanon-venv/bin/bpfcanon-object --version" | grep -x "bpfcanon-object $version, .* library $version" || exit 1
-    as_user "bpfcanon-venv/bin/bpfcanon-object key -" <"$object" | is_key
+    venv=$root$place/bpfcanon-venv
+    as_user "$(lines_of "$out/README" '*.whl' | head -n 1)" && list_below "$venv" >"$work/before" || exit 1
+    as_user "bpfcanon-venv/bin/pip install older/*.whl && bpfcanon-venv/bin/python -c 'import bpfcanon.old'" || exit 1
+    as_user "$(lines_of "$out/README" '*.whl' | tail -n +2)" && is_older_gone "$venv" || exit 1
+    as_user "bpfcanon-venv/bin/bpfcanon-object --version" | grep -x "bpfcanon-object $version, .* library $version" || exit 1
+    as_user "bpfcanon-venv/bin/bpfcanon-object key -" <"$object" | is_key || exit 1
+    as_user "bpfcanon-venv/bin/pip uninstall --yes bpfcanon" && list_below "$venv" | diff "$work/before" -
 )
 
 lintian_is_quiet() (

@@ -11,13 +11,27 @@ import sys, bpfcanon
 sys.stdout.buffer.write(bpfcanon.insn_canon(sys.stdin.buffer.read(), order=bpfcanon.Order.BIG))' <"$big" | is_canonical
 }
 
+# The wheel as 0.0.9, for any processor, with a further module.
+older_wheel() (
+    mkdir -p "$work/older/wheel" && cd "$work/older/wheel" && python3 -m zipfile -e "$out"/*_x86_64.whl . && echo >bpfcanon/old.py || exit 1
+    mv "bpfcanon-$version.dist-info" bpfcanon-0.0.9.dist-info && mv "bpfcanon-$version.data" bpfcanon-0.0.9.data || exit 1
+    sed -i "s/$version/0.0.9/g" bpfcanon-0.0.9.dist-info/METADATA && sed -i 's/^Tag: .*/Tag: py3-none-any/' bpfcanon-0.0.9.dist-info/WHEEL
+    sed -i "s/$version/0.0.9/g; \$abpfcanon/old.py,," bpfcanon-0.0.9.dist-info/RECORD || exit 1
+    python3 -m zipfile -c ../bpfcanon-0.0.9-py3-none-any.whl * && rm -r ../wheel
+)
+
+# No file of that is left.
+is_older_gone() { [ -z "$(find "$1" -name '*0.0.9*' -o -name old.py)" ]; }
+
 wheel_runs() (
+    umask 077
     mkdir -p "$work/two words/python" && cd "$work/two words/python" && cp "$out"/*.whl . || exit 1
     unset BPFCANON_LIBRARY PYTHONPATH LD_LIBRARY_PATH
     export PIP_NO_INDEX=1 PIP_DISABLE_PIP_VERSION_CHECK=1
     mkdir tools && ln -s "$1" tools/python3
     PATH=$PWD/tools:$PATH sh -euc "$(lines_of "$out/README" '*.whl' | head -n 1)" && list_below bpfcanon-venv >before || exit 1
-    sh -euc "$(block_of sh "$top/bindings/python/README.md" | sed 's|^pip|bpfcanon-venv/bin/pip|')" || exit 1
+    bpfcanon-venv/bin/pip install "$work"/older/*.whl && bpfcanon-venv/bin/python -c 'import bpfcanon.old' || exit 1
+    sh -euc "$(block_of sh "$top/bindings/python/README.md" | sed 's|^pip|bpfcanon-venv/bin/pip|')" && is_older_gone bpfcanon-venv || exit 1
     python_is_canonical bpfcanon-venv/bin/python || exit 1
     bpfcanon-venv/bin/bpfcanon-object key - <"$object" | is_key && [ -f bpfcanon-venv/share/man/man1/bpfcanon-object.1 ] || exit 1
     bpfcanon-venv/bin/bpfcanon-object --version | grep -x "bpfcanon-object $version, .* library $version" || exit 1
@@ -26,6 +40,7 @@ wheel_runs() (
 
 # With the static library, as README says. With the shared one the loader has to find it.
 crate_runs() (
+    umask 077
     mkdir -p "$work/two words/rust/src" && cd "$work/two words/rust" && cp "$out"/*.crate "$out"/*x86_64-linux.tar.xz . || exit 1
     printf '[package]\nname = "canon"\nversion = "0.1.0"\nedition = "2021"\n' >Cargo.toml
     block_of toml "$top/bindings/rust/README.md" >>Cargo.toml
@@ -49,6 +64,7 @@ RUST
 )
 
 go_module_runs() (
+    umask 077
     mkdir -p "$work/two words/go" && cd "$work/two words/go" && cp "$out"/bpfcanon-go-*.tar.xz . || exit 1
     export GOENV=off GOFLAGS="" GOWORK=off GOPROXY=off GOTOOLCHAIN=local GOCACHE="$work/go-cache" GOPATH="$work/go-path" CGO_ENABLED=1
     export PKG_CONFIG=false
@@ -88,6 +104,7 @@ GO
 
 check_languages() {
     local python
+    check older_wheel
     if python=$("$top/tests/python_with" ensurepip); then check wheel_runs "$python"; else skip "the wheel" ensurepip; fi
     if [ ! -f "$out/bpfcanon-$version.crate" ]; then skip "the Rust crate" cargo; else check crate_runs; fi
     if there go; then check go_module_runs; else skip "the Go module" go; fi
