@@ -96,6 +96,12 @@ def check_processor(report, release, machine, left_out):
     report.expect_that(named == CRATES, f"THIRD-PARTY of {name}", f"it has the licences of {named}")
 
 
+def check_copies(report, name, read, folder, places):
+    """These files of an archive are those of a folder of the tree."""
+    changed = [place for place in places if read(place) != (folder / place).read_bytes()]
+    report.expect_that(not changed, name, f"these are others than in the tree: {changed}")
+
+
 def check_sources(report, release):
     """The files that git knows, with their modes, and what is built."""
     name = f"bpfcanon-source-{release.version}.tar.xz"
@@ -104,6 +110,7 @@ def check_sources(report, release):
     modes = {line.split("\t")[1]: int(line.split()[0][3:], 8) for line in listed.splitlines()}
     archives = ["libbpfcanon_c.a", "libbpfcanon_c.aarch64.a"] if release.has("*-aarch64-linux.tar.xz") else ["libbpfcanon_c.a"]
     modes |= {f"crates/bpfcanon_c/out/{it}": 0o644 for it in archives}
+    check_copies(report, name, read, release.tree, sorted(modes.keys() & members.keys()))
     modes |= dict.fromkeys(["LICENSE", "THIRD-PARTY", "PROVED.txt"], 0o644)
     check_members(report, name, members, modes, {})
     check_licence(report, release, name, read("LICENSE"))
@@ -122,6 +129,7 @@ def check_others(report, release):
         report.expect_that("](../" not in page and "@" not in page.replace("bpfcanon@v", ""), f"README.md of {name}", "it names another tree")
         if "-vectors-" in name:
             report.expect_that(sorted(filter(None, members)) == sorted(VECTORS), name, f"it has {sorted(members)}")
+            check_copies(report, name, read, release.tree / "testdata", sorted({*VECTORS} - {"LICENSE", "README.md"}))
             is_right = page.startswith("# Test vectors") and all(it.partition(".")[0] in page for it in VECTORS if it != "README.md") and "pass.c" not in page
             report.expect_that(is_right, f"README.md of {name}", "it doesn't name its files")
 
