@@ -5,8 +5,10 @@ import re
 from tests import TOP
 
 VERB = (TOP / "crates" / "bpfcanon" / "src" / "verb.rt").read_text()
+# What reads instructions from a source.
+INSN_ENGINE = TOP / "crates" / "bpf_canon" / "src" / "insn" / "run.rt"
 # The files that declare limits, each after those whose limits it adds up.
-LIMIT_FILES = [TOP / "crates" / name for name in ("btf_raw/src/header.rt", "bpf_canon/src/insn/run.rt", "bpf_canon/src/btf/run.rt")]
+LIMIT_FILES = [TOP / "crates" / "btf_raw" / "src" / "header.rt", INSN_ENGINE, TOP / "crates" / "bpf_canon" / "src" / "btf" / "run.rt"]
 
 
 def arms(call, kind):

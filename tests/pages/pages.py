@@ -9,7 +9,7 @@ import subprocess
 import sys
 
 from tests import TOP
-from tests.commands import ALL_OPTIONS, COMMANDS, ENGINES, LIMITS, OPTIONS, constants
+from tests.commands import ALL_OPTIONS, COMMANDS, INSN_ENGINE, LIMITS, OPTIONS, constants
 from tests.program import SECONDS, Report
 from tests.reference import btf_page
 from tests.reference.formats_page import cells, said
@@ -71,7 +71,7 @@ def check_manual(report):
         text = plain(page)
         insns, btf = (number(LIMITS[it]) for it in ("insn-canon", "btf-canon"))
         two_insns, two_btf = (number(LIMITS[it]) for it in ("insn-same", "btf-same"))
-        (piece,) = re.findall(r"let mut buffer = \[0u8; (\d+)\];", ENGINES[0].read_text())
+        (piece,) = re.findall(r"let mut buffer = \[0u8; (\d+)\];", INSN_ENGINE.read_text())
         for right in [
             f"The input is read in pieces of up to {number(int(piece))} bytes.",
             f"The length of the first of two inputs in bytes, 0 to {two_insns}.",
