@@ -90,7 +90,8 @@ def insn_stream(pieces: Iterable[Buffer], *, order: Order = Order.LITTLE, to: Or
 
     Yields the instructions that each piece completes, and holds fewer than 16 bytes between pieces.
     A fault is raised after the instructions before it, with its offset in the stream.
-    Raises Fault with an InsnCause, OutOfMemory; TypeError for a piece that is no buffer, as each byte of a single one.
+    Raises Fault with an InsnCause, OutOfMemory, and TypeError if a piece isn't a buffer. A single buffer is no iterable of
+    buffers: its pieces would be integers.
     """
     held, done = b"", 0
     for piece in pieces:
