@@ -1,7 +1,18 @@
--- The names of the causes of instruction faults, and a sentence for each.
+-- The numbers and names of the causes of instruction faults, and a sentence for each.
 use Rattle.std.specs.Prelude.{ℕ, List, codes}
 use Rattle.bpf_insn.specs.declared.fault.SlotCause.{SlotCause}
 use Rattle.bpf_insn.specs.declared.fault.SlotCause.TheVariants as cause
+
+-- the number of each cause: the place of its field in the order of checking, after Truncated
+abbrev pub slot_cause_number : SlotCause → ℕ
+slot_cause_number cause.Truncated = 1
+slot_cause_number cause.Opcode = 2
+slot_cause_number cause.Dst = 3
+slot_cause_number cause.Src = 4
+slot_cause_number cause.Offset = 5
+slot_cause_number cause.Imm = 6
+slot_cause_number cause.Reserved = 7
+slot_cause_number cause.NextImm = 8
 
 -- the name of each cause
 abbrev pub cause_name : SlotCause → List ℕ

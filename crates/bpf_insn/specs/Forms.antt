@@ -215,6 +215,10 @@ AllowsOff (StoreReg z) s o = Unit {0}
 AllowsOff (Atomic width) s o = Unit {0}
 AllowsOff _ s o = o ≡ pos 0
 
+-- the fields before the immediate
+abbrev pub AllowsFields : Form → Fields → Type 0
+AllowsFields f slot = AllowsDst f slot.dst × AllowsSrc f slot.src × AllowsOff f slot.src slot.off
+
 abbrev pub AllowsSourceImm : Source → ℤ → Type 0
 AllowsSourceImm K k = Unit {0}
 AllowsSourceImm X k = k ≡ pos 0
@@ -273,7 +277,7 @@ IsFieldFault slot cause = IsFaultOf (form_at slot.opcode) slot cause
 -- a complete instruction, or the first slot of a wide load
 abbrev pub IsFirstSlot : Fields → FirstSlot → Type 0
 IsFirstSlot slot (Whole i) = IsInsn i × (fields_of i ≡ slot) × (next_imm_of i ≡ None)
-IsFirstSlot slot (OfWideLoad d s k) = (s.number ≤ 6) × IsImm k × (slot ≡ fields 0x18 d.number s.number (pos 0) k)
+IsFirstSlot slot (OfWideLoad d s k) = (s ≤ 6) × IsImm k × (slot ≡ fields 0x18 d.number s (pos 0) k)
 
 -- ---- the second slot of a wide load
 

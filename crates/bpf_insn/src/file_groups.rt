@@ -11,7 +11,7 @@ ghost use Rattle.bpf_insn.specs.FileSteps.{AddsInsnAt, AreSettled, HasGroupsBefo
 ghost use Rattle.bpf_insn.specs.FileSteps as spec;
 
 use crate::decode::{len_at, read_at};
-use crate::read::begins_plainly;
+use crate::whole_insns::begins_plainly;
 use crate::{GroupSet, Insn, Order, SlotFault, group_of};
 
 /// Whether all instructions with the opcode of this one are in its group. That is so except for

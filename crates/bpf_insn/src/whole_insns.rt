@@ -4,12 +4,13 @@
 //! does nothing else. Nothing is written here: a caller that recodes or decodes the instructions
 //! does so in a second pass, in which none of them can be faulty.
 
-ghost use Rattle.std.specs.Prelude.{◌≡◌, ◌<◌, ◌/◌, List, Some, None, length, IfSome};
+ghost use Rattle.std.specs.Prelude.{◌≡◌, ◌<◌, ◌/◌, List, Some, None, length, IfSome, IsTrue};
 ghost use Rattle.bpf_insn.specs.{declared.fault.SlotFault.SlotFault, declared.insn.Insn.Insn};
 ghost use Rattle.bpf_insn.specs.{FileSteps.ReadsTo, Fronts.IsInsnFront, Faults.IsInsnFault};
-ghost use Rattle.bpf_insn.specs.Spelling.{InsnFile};
+ghost use Rattle.bpf_insn.specs.{Faults.BeginsWith, Spelling.InsnFile, Spelling.spelling};
 
-use crate::read::{begins_plainly, other_len};
+use crate::plain::is_plain;
+use crate::read::other_len;
 use crate::{Order, SlotFault};
 
 /// The complete instructions at the start of a buffer, and why they end there.
@@ -22,6 +23,18 @@ pub struct InsnFront {
     /// The fault of the bytes after them, with an offset relative to `len`. `None` if there are no
     /// such bytes.
     pub stop: Option<SlotFault>,
+}
+
+/// Whether the bytes begin with a plain instruction, which has a single slot.
+#[inline(always)]
+pub(crate) fn begins_plainly(order: Order, bytes: &[u8]) -> bool
+    ensures { IsTrue result
+        → (i : Insn) × (BeginsWith order i bytes.now × (length (spelling order i) ≡ 8)) }
+{
+    match bytes.split_first_chunk::<8>() {
+        Some((first, _)) => is_plain(order, first),
+        None => false,
+    }
 }
 
 /// The length in bytes of the plain instructions at the start of a buffer; each has 8 bytes.

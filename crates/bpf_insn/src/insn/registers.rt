@@ -1,6 +1,6 @@
 //! Registers and their numbers.
 
-ghost use Rattle.std.specs.Prelude.{◌≡◌, ◌<◌, ◌++◌, Some, codes, MatchOption, MatchResult};
+ghost use Rattle.std.specs.Prelude.{◌≡◌, ◌<◌, ◌≤◌, ◌++◌, Some, codes, MatchOption, MatchResult};
 ghost use Rattle.std.specs.Fmt.{decimal};
 ghost use Rattle.bpf_insn.specs.Table.{register_number};
 
@@ -18,6 +18,14 @@ impl Reg {
         } else {
             None
         }
+    }
+
+    /// The register with this number.
+    pub(crate) fn numbered(number: u8) -> Reg
+        requires { number ≤ 10 }
+        ensures { register_number result ≡ number }
+    {
+        Reg { number }
     }
 
     /// The register's number, 0 to 10.

@@ -1,7 +1,14 @@
--- The causes of a listing's faults: their names, and a sentence for each.
+-- The causes of a listing's faults: their numbers and names, and a sentence for each.
 use Rattle.std.specs.Prelude.{ℕ, List, codes}
 use Rattle.bpf_text.specs.declared.insn.fault.LineCause.{LineCause}
 use Rattle.bpf_text.specs.declared.insn.fault.LineCause.TheVariants as line_cause
+
+-- the number of each cause of listings, in the order in which they apply
+abbrev pub line_cause_number : LineCause → ℕ
+line_cause_number line_cause.Char = 1
+line_cause_number line_cause.Word = 2
+line_cause_number line_cause.Shape = 3
+line_cause_number line_cause.Range = 4
 
 -- the name of each cause of listings
 abbrev pub line_cause_name : LineCause → List ℕ

@@ -7,7 +7,8 @@
 
 ghost use Rattle.std.specs.Prelude.{◌≡◌, Some};
 ghost use Rattle.bpf_text.specs.declared.insn.fault.ListError.TheVariants.{Fault, Memory};
-ghost use Rattle.bpf_text.specs.insn.LineCauseNames.{line_cause_name, line_cause_sentence};
+ghost use Rattle.bpf_text.specs.insn.LineCauseNames.{line_cause_name, line_cause_number};
+ghost use Rattle.bpf_text.specs.insn.LineCauseNames.{line_cause_sentence};
 
 use std::alloc::{AllocError, AllocFailed};
 use std::fmt;
@@ -27,6 +28,14 @@ pub enum LineCause {
 }
 
 impl LineCause {
+    /// The number of the cause, 1 to 4. Of the causes that apply to a line, the smallest number is
+    /// reported.
+    pub fn number(self) -> u8
+        ensures { result ≡ line_cause_number self }
+    {
+        self as u8
+    }
+
     /// The name of the variant, which is how `bpfcanon` reports the cause.
     pub fn name(self) -> &'static str
         ensures { result.now ≡ line_cause_name self }

@@ -1,5 +1,5 @@
 use Rattle.bpf_insn.proofs.PlainLemmas.{plain_begins}
-use Rattle.bpf_insn.proofs.read.begins_plainly.Goals as goal
+use Rattle.bpf_insn.proofs.whole_insns.begins_plainly.Goals as goal
 
 pub returns-in-Some : goal.returns-in-Some
 returns-in-Some c = λ h.
