@@ -3,5 +3,5 @@
 
 pub(crate) mod canon;
 pub(crate) mod feed;
-pub mod laws;
+pub mod insn_laws;
 pub(crate) mod run;

@@ -26,7 +26,7 @@ mod tests;
 
 pub use bpf_insn::{InsnError, Order, first_fault};
 pub use btf::btf_laws;
-pub use btf::canon::{canon_btf, canonical_in, same_btf};
+pub use btf::canon::{canon_btf, recode_btf, same_btf};
 pub use btf::run::{BTF_LIMIT, run_btf};
 pub use btf::write::table::write_btf;
 pub use device::{
@@ -36,5 +36,5 @@ pub use device::{
 pub use engine::{RunCause, RunError, SideError};
 pub use insn::canon::{canon_insns, recode_insns, same_insns, write_insns};
 pub use insn::feed::InsnFeed;
-pub use insn::laws;
+pub use insn::insn_laws;
 pub use insn::run::{INSN_LIMIT, run_insns};

@@ -6,8 +6,8 @@ use Rattle.bpfcanon.specs.declared.{job.Job.Job, verb.Verb.Verb, outcome.Outcome
 use Rattle.bpfcanon.specs.declared.verb.Verb.TheVariants.{InsnCanon, InsnShow, InsnRead, InsnGroups, InsnSame, BtfCanon, BtfShow, BtfCheck, BtfSame}
 use Rattle.bpfcanon.specs.commands.BtfReply as btf
 use Rattle.bpfcanon.specs.commands.Reply.{IsReply, files_too_long, groups_too_long, has_engine, limit_of, show_too_long, streams, text_too_long}
-use Rattle.bpf_canon.specs.declared.device.ReadError.{ReadError}
-use Rattle.bpf_canon.specs.declared.device.ReadError.TheVariants as unread
+use Rattle.bpf_canon.specs.declared.device.source.ReadError.{ReadError}
+use Rattle.bpf_canon.specs.declared.device.source.ReadError.TheVariants as unread
 use Rattle.bpf_canon.specs.device.Reads.{EndsAmid, failed_reads}
 use Rattle.bpfcanon.specs.{Devices.Change, Devices.IsUnused, commands.Errors.read_end}
 use Rattle.bpfcanon.specs.JobEnds.{EndsJob, no_memory, no_memory_in_pieces, read_failed, replied, write_failed}

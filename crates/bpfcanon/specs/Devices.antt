@@ -1,7 +1,7 @@
 -- The effect of a call on a source or a sink.
 use Rattle.std.specs.Prelude.{◌≡◌, ◌+◌, ℕ, List, Option}
-use Rattle.bpf_canon.specs.declared.device.ByteSource as source
-use Rattle.bpf_canon.specs.declared.device.ByteSink as sink
+use Rattle.bpf_canon.specs.declared.device.source.ByteSource as source
+use Rattle.bpf_canon.specs.declared.device.sink.ByteSink as sink
 
 -- the state of a device before and after a call: its bytes, if they are known, and how many of its calls have failed
 pub record Change : Type 0 where

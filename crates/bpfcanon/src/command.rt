@@ -65,6 +65,7 @@ pub fn command<S: ByteSource, W: ByteSink, E: ByteSink>(
         (sink_change E.ByteSink faults.old faults.new) result }
 {
     let outcome = run_line(alloc, words, source, sink);
+    let status = outcome.status();
     report_outcome(faults, outcome);
-    outcome.status()
+    status
 }

@@ -110,6 +110,8 @@ fn report_fault<E: ByteSink>(faults: &mut E, start: &'static [u8], place: u64, c
 
 /// Writes the line of an outcome, if it has one. It allocates nothing, so that it can report that
 /// memory ran out. If a write fails, the rest of the line is left out.
+#[cold]
+#[inline(never)]
 pub fn report_outcome<E: ByteSink>(faults: &mut E, outcome: Outcome)
     requires { E.failures faults.old < u64.MAX }
     ensures { TookLine (sink_change E.ByteSink faults.old faults.new) (report_of outcome) }

@@ -3,9 +3,7 @@ use Rattle.std.specs.Prelude.{◌≡◌, ◌<◌, ◌++◌, ℕ, Bool, true, fal
 use Rattle.bpf_words.specs.declared.Order.{Order, TheVariants.Little, TheVariants.Big}
 use Rattle.bpf_insn.specs.declared.decode.InsnError.{InsnError}
 use Rattle.bpf_insn.specs.declared.decode.InsnError.TheVariants as insn
-use Rattle.bpf_insn.specs.declared.fault.SlotCause.{SlotCause}
-use Rattle.bpf_insn.specs.declared.fault.SlotCause.TheVariants as slot
-use Rattle.bpf_insn.specs.declared.fault.SlotFault.{SlotFault}
+use Rattle.bpf_insn.specs.{declared.fault.SlotFault.SlotFault, CauseNames.slot_cause_number}
 use Rattle.btf_raw.specs.{declared.cause.BtfFault.BtfFault, Cause.number_of}
 use Rattle.btf_types.specs.declared.error.BtfError.{BtfError}
 use Rattle.btf_types.specs.declared.error.BtfError.TheVariants as btf
@@ -34,18 +32,8 @@ answer_of Memory = bare_answer 4
 answer_of (Room n) = record { status = 5; cause = 0; pos = 0; line = 0; read = 0; written = 0; needed = n; types = 0; groups = 0 }
 answer_of ending.Order = bare_answer 6
 
-abbrev pub slot_number : SlotCause → ℕ
-slot_number slot.Truncated = 1
-slot_number slot.Opcode = 2
-slot_number slot.Dst = 3
-slot_number slot.Src = 4
-slot_number slot.Offset = 5
-slot_number slot.Imm = 6
-slot_number slot.Reserved = 7
-slot_number slot.NextImm = 8
-
 abbrev pub code_of_slot : SlotFault → FaultCode
-code_of_slot f = record { cause = slot_number f.cause; pos = f.pos; line = 0 }
+code_of_slot f = record { cause = slot_cause_number f.cause; pos = f.pos; line = 0 }
 
 abbrev pub code_of_btf : BtfFault → FaultCode
 code_of_btf f = record { cause = number_of f.cause; pos = f.pos; line = 0 }

@@ -4,22 +4,15 @@ use Rattle.bpf_words.specs.declared.Order.{Order}
 use Rattle.bpf_insn.specs.{declared.insn.Insn.Insn, Spelling.InsnFile, Spelling.file_of}
 use Rattle.bpf_text.specs.declared.insn.fault.ListError.{ListError}
 use Rattle.bpf_text.specs.declared.insn.fault.ListError.TheVariants as list
-use Rattle.bpf_text.specs.declared.insn.fault.LineCause.{LineCause}
-use Rattle.bpf_text.specs.declared.insn.fault.LineCause.TheVariants as line
-use Rattle.bpf_text.specs.{declared.insn.fault.LineFault.LineFault, insn.Lines.listing_of, insn.Listing.Lists, insn.Listing.IsListFault}
+use Rattle.bpf_text.specs.{declared.insn.fault.LineFault.LineFault, insn.LineCauseNames.line_cause_number}
+use Rattle.bpf_text.specs.insn.{Lines.listing_of, Listing.Lists, Listing.IsListFault}
 use Rattle.bpfcanon_c.specs.declared.answer.{Answer.Answer, Ending.Ending, FaultCode.FaultCode}
 use Rattle.bpfcanon_c.specs.declared.answer.Ending.TheVariants.{First, Memory}
 use Rattle.bpfcanon_c.specs.Outputs.{IsAnswerOf, IsInsnCode, EndsOutput, EndsInOrder}
 
-abbrev pub line_number : LineCause → ℕ
-line_number line.Char = 1
-line_number line.Word = 2
-line_number line.Shape = 3
-line_number line.Range = 4
-
 -- the position of a fault in a listing is its line
 abbrev pub code_of_line : LineFault → FaultCode
-code_of_line f = record { cause = line_number f.cause; pos = 0; line = f.line }
+code_of_line f = record { cause = line_cause_number f.cause; pos = 0; line = f.line }
 
 -- how the call that reads a listing ends with an error
 abbrev pub listing_end : ListError → Ending

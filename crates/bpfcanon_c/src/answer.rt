@@ -188,7 +188,7 @@ pub fn slot_code(fault: SlotFault) -> FaultCode
     ensures { result ≡ spec.code_of_slot fault }
 {
     FaultCode {
-        cause: fault.cause as u32,
+        cause: u32::from(fault.cause.number()),
         pos: fault.pos,
         line: 0,
     }

@@ -5,9 +5,9 @@ ghost use Rattle.bpfcanon_c.specs.Endings.{IsCanonicalBtf, AnswersBtf, AnswersBt
 ghost use Rattle.bpfcanon_c.specs.{Endings.AnswersSameBtf, Outputs.IsBtfCode, Outputs.EndsOutput};
 
 use crate::answer::{Answer, Ending, btf_code, compared, order_from, put, report};
-use bpf_canon::{canonical_in, same_btf};
+use bpf_canon::{recode_btf, same_btf};
 use bpf_insn::Order;
-use btf_types::{BtfView, TypeTable};
+use btf_types::CheckedFile;
 use std::alloc::Global;
 
 /// Writes the canonical form of a BTF file (btf.rst section 2) in the byte order `to` at the start
@@ -38,7 +38,7 @@ fn btf_in(alloc: Global, to: Order, bytes: &[u8], out: &mut [u8]) -> Ending
     ensures { EndsOutput (IsCanonicalBtf to bytes.now) (IsBtfCode bytes.now)
         out.old out.new result }
 {
-    match canonical_in(alloc, to, bytes) {
+    match recode_btf(alloc, to, bytes) {
         Ok(canon) => put(&canon, out),
         Err(error) => Ending::from(error),
     }
@@ -54,8 +54,8 @@ fn btf_in(alloc: Global, to: Order, bytes: &[u8], out: &mut [u8]) -> Ending
 pub extern "C" fn bpfcanon_proved_btf_check(alloc: Global, bytes: &[u8]) -> Answer
     ensures { AnswersBtfCheck bytes.now result }
 {
-    report(match BtfView::parse(alloc, bytes) {
-        Ok(table) => Ending::Types(table.count()),
+    report(match CheckedFile::check(alloc, bytes) {
+        Ok(file) => Ending::Types(file.count()),
         Err(error) => Ending::from(error),
     })
 }

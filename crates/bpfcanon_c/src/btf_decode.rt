@@ -64,7 +64,8 @@ fn item_kind(head: Head<'_>) -> u32
     }
 }
 
-/// The length in bytes of an item of this kind.
+/// The length in bytes of an item of this kind: a value of an ENUM (2) and a parameter (4) have two
+/// 32-bit fields, a member (1), a value of an ENUM64 (3) and an entry of a DATASEC (5) three.
 fn item_len(kind: u32) -> usize
     ensures { result ≡ rest.item_bytes kind }
 {

@@ -98,7 +98,7 @@ fn line_code(fault: LineFault) -> FaultCode
     ensures { result ≡ code_of_line fault }
 {
     FaultCode {
-        cause: fault.cause as u32,
+        cause: u32::from(fault.cause.number()),
         pos: 0,
         line: fault.line,
     }

@@ -41,10 +41,11 @@ pub record IsFrame (frame : List ℕ) : Type 0 where
   pub info : IsAllowed (info_word frame)
   pub size : length frame ≡ 3 + tail_words (kind frame) (vlen frame)
 
--- the bytes of a list of words, and of a list of frames
+-- the bytes of a list of words
 abbrev pub bytes_of : Order → List ℕ → List ℕ
 bytes_of o words = flat_map (word32 o) words
 
+-- the bytes of a list of frames
 abbrev pub section_of : Order → List (List ℕ) → List ℕ
 section_of o frames = flat_map (bytes_of o) frames
 

@@ -6,7 +6,7 @@ use Rattle.std.proofs.lemmas.List.{get_or-drop, drop_at, Elements.All-head, Elem
 use Rattle.btf_raw.specs.{Kinds.item_words, Frames.kind, Frames.vlen, Frames.flag}
 use Rattle.btf_types.specs.Values.{TypeHead, KInt, KArray, KFunc, KVar, KDeclTag, TypeItem, Entry, TypeRecord}
 use Rattle.btf_types.specs.Spelling.{kind_number, head_tail, ItemSpells, Spells}
-use Rattle.btf_types.specs.{judge.Checks.TypeFacts, Good.ItemOf, Good.IsGoodRecord}
+use Rattle.btf_types.specs.{checks.Numbers.TypeFacts, Good.ItemOf, Good.IsGoodRecord}
 use Rattle.btf_types.proofs.{Lists.zip_at, Spelled.vlen_from, Spelled.item_size, Spelled.numbers}
 
 pub nothing : TypeItem

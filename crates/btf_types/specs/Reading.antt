@@ -7,7 +7,7 @@ use Rattle.btf_raw.specs.Frames.{name_word, third_word, kind, vlen, flag}
 use Rattle.btf_types.specs.declared.values.Encoding.{Encoding, TheVariants.Plain, TheVariants.Signed, TheVariants.Char, TheVariants.Bool as Boolean}
 use Rattle.btf_types.specs.declared.values.Linkage.{Linkage, TheVariants.LStatic, TheVariants.LGlobal, TheVariants.LExtern}
 use Rattle.btf_types.specs.Values.{TypeHead, KInt, KPtr, KArray, KStruct, KUnion, KEnum, KFwd, KTypedef, KVolatile, KConst, KRestrict, KFunc, KFuncProto, KVar, KDatasec, KFloat, KDeclTag, KTypeTag, KEnum64, TypeItem, Member, EnumValue, Value64, Param, Entry, TypeRecord}
-use Rattle.btf_types.specs.judge.FieldFaults.{int_encoding, int_offset, int_bits, offset_in, width_in}
+use Rattle.btf_types.specs.checks.FieldFaults.{int_encoding, int_offset, int_bits, offset_in, width_in}
 
 -- the bytes before the first NUL
 abbrev pub before_nul : List ℕ → List ℕ
@@ -81,6 +81,7 @@ tabulate f (suc n) = tabulate f n ++ f n ∷ []
 abbrev pub item_total : List ℕ → ℕ
 item_total frame = if item_words (kind frame) == 0 then 0 else vlen frame
 
+-- the record that a frame decodes to, with its names in these strings
 abbrev pub record_of : List ℕ → List ℕ → TypeRecord
 record_of strings frame = record {
   head = head_of frame (text_from strings (name_word frame));
@@ -98,5 +99,6 @@ frame_at o types pos = tabulate (λ j. word32_at o types (pos + 4 * j)) (3 + tai
 abbrev pub frames_at : Order → List ℕ → List ℕ → List (List ℕ)
 frames_at o types places = map (frame_at o types) places
 
+-- the records at these offsets of a type section
 abbrev pub records_at : Order → List ℕ → List ℕ → List ℕ → List TypeRecord
 records_at o types strings places = map (record_of strings) (frames_at o types places)

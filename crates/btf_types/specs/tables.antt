@@ -4,6 +4,5 @@ pub mod TableWords
 pub mod TableInvariant
 pub mod TablePlaces
 pub mod PlaceWords
-pub mod TableSections
 pub mod StringEnds
 pub mod Windows

@@ -1,8 +1,9 @@
 //! The 32-bit words of a record in the type section (btf.rst section 2.2).
 
-ghost use Rattle.std.specs.Prelude.{◌≡◌, ◌+◌, ◌*◌, ◌<◌, ◌≤◌, length, slice_index};
-ghost use Rattle.btf_types.specs.{Reading.frame_at, judge.RecordFaults.BitFieldsAre};
+ghost use Rattle.std.specs.Prelude.{◌≡◌, ◌+◌, ◌*◌, ◌<◌, ◌≤◌, IsTrue, length, slice_index};
+ghost use Rattle.btf_types.specs.{Reading.frame_at, checks.RecordFaults.BitFieldsAre};
 ghost use Rattle.btf_raw.specs.Frames as frames;
+ghost use Rattle.btf_raw.specs.Kinds as kinds;
 
 use bpf_words::{Order, get32};
 use btf_raw::info::{flag_of, is_struct, kind_of, tail_words, vlen_of};
@@ -31,7 +32,7 @@ impl<'a> Model for Record<'a> {
     ghost invariant = { λ r. AreWordsAt r.order r.types.now r.pos r.info };
 }
 
-#[tactic(auto, using(crate::proofs::JudgeLemmas::FramingSteps::words_of_frame))]
+#[tactic(auto, using(crate::proofs::CheckLemmas::FramingSteps::words_of_frame))]
 impl<'a> Record<'a> {
     /// The record at the offset `pos` of the types.
     pub(crate) fn at(order: Order, types: &'a [u8], pos: usize) -> Record<'a>
@@ -97,12 +98,25 @@ impl<'a> Record<'a> {
 
     /// Whether the record has a bit-field (btf.rst section 2.2.4): it is a STRUCT or UNION, its
     /// kind_flag is 1, and the width of some member, the high 8 bits of its offset field, isn't 0.
-    #[tactic(auto, using(crate::proofs::JudgeLemmas::BitSteps::widths))]
+    #[tactic(auto, using(crate::proofs::CheckLemmas::BitSteps::widths))]
     pub fn has_bit_fields(&self) -> bool
         requires { frames.IsFrame self.now }
         ensures { BitFieldsAre self.now result }
     {
-        if !is_struct(self.kind()) || self.kind_flag() == 0 {
+        if !is_struct(self.kind()) {
+            return false;
+        }
+        self.has_widths()
+    }
+
+    /// Likewise for a record that is a STRUCT or UNION.
+    #[tactic(auto, using(crate::proofs::CheckLemmas::BitSteps::widths))]
+    pub(crate) fn has_widths(&self) -> bool
+        requires frame { frames.IsFrame self.now }
+        requires kind { IsTrue (kinds.is_struct (frames.kind self.now)) }
+        ensures { BitFieldsAre self.now result }
+    {
+        if self.kind_flag() == 0 {
             return false;
         }
         for k in 0..usize::from(self.vlen()) {

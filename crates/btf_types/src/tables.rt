@@ -1,5 +1,8 @@
-//! The two tables of types, which own or borrow their bytes, and what they consist of.
+//! A checked file, the two tables of types, which own or borrow their bytes, and what they consist
+//! of.
 
+mod checked_file;
+mod file_sections;
 mod items;
 mod owned;
 mod places;
@@ -9,11 +12,13 @@ mod string_ends;
 pub(crate) mod table;
 mod view;
 
+pub use checked_file::CheckedFile;
+pub use file_sections::FileSections;
 pub use items::Items;
 pub use owned::Btf;
 pub(crate) use places::{Places, record_places};
 pub use records::Records;
 pub(crate) use section_table::{KeepsSections, SectionTable};
 pub(crate) use string_ends::{push_long_ends, text_end_with};
-pub use table::{FileSections, TypeTable};
+pub use table::TypeTable;
 pub use view::BtfView;

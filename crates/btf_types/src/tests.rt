@@ -1,12 +1,12 @@
 //! Files that both parsers accept or refuse, and the tables of the accepted ones.
 
 mod accepted;
+mod checks;
 mod examples;
 mod expect;
 mod faulty_fields;
 mod faulty_frames;
 mod files;
-mod judge;
 mod kinds;
 mod largest;
 mod memory;
@@ -15,12 +15,11 @@ mod tables;
 
 use crate::{Btf, BtfError, BtfView};
 use btf_raw::{BtfCause, BtfFault};
+use checks::first_fault;
 use expect::equal;
-use judge::first_fault;
 use std::alloc::{AllocError, Global};
 use std::process::Abort;
-use std::test::Fail;
-use tables::{both_shown, equal_walk};
+use tables::is_shown;
 
 const fn fault(pos: u64, cause: BtfCause) -> BtfFault {
     BtfFault { pos, cause }
@@ -81,23 +80,23 @@ fn words(alloc: Global, text: &str) -> Result<Vec<u8>, AllocError> {
     Ok(bytes)
 }
 
-/// What a parser answers: no fault, or the first.
-fn fault_of<T>(parsed: &Result<T, BtfError>) -> Result<Option<BtfFault>, Fail> {
+/// What a parser returns: no fault, or the first.
+fn fault_of<T: Drop>(parsed: Result<T, BtfError>) -> Result<Option<BtfFault>, AllocError> {
     match parsed {
         Ok(_) => Ok(None),
-        Err(BtfError::Fault(fault)) => Ok(Some(*fault)),
-        Err(BtfError::Memory) => Err("out of memory")?,
+        Err(BtfError::Fault(fault)) => Ok(Some(fault)),
+        Err(BtfError::Memory) => Err(AllocError),
     }
 }
 
-/// What both parsers answer to a file: no fault, or the first.
-fn first_fault_of_both(alloc: Global, bytes: &[u8]) -> Result<Option<BtfFault>, Fail> {
-    let owned = fault_of(&Btf::parse(alloc, bytes))?;
-    let lent = fault_of(&BtfView::parse(alloc, bytes))?;
-    if owned != lent {
-        return Err("the two parsers differ")?;
-    }
-    Ok(owned)
+/// What both parsers return.
+fn both_faults(
+    alloc: Global,
+    bytes: &[u8],
+) -> Result<(Option<BtfFault>, Option<BtfFault>), AllocError> {
+    let owned = fault_of(Btf::parse(alloc, bytes))?;
+    let borrowed = fault_of(BtfView::parse(alloc, bytes))?;
+    Ok((owned, borrowed))
 }
 
 /// Checks that both parsers and the reference checker find this fault first.
@@ -107,12 +106,10 @@ fn is_refused(
     bytes: &[u8],
     fault: BtfFault,
     name: &str,
-) -> Result<(), Fail> {
-    let found = (
-        first_fault_of_both(alloc, bytes)?,
-        first_fault(alloc, bytes)?,
-    );
-    equal(rt, &found, &(Some(fault), Some(fault)), &name);
+) -> Result<(), AllocError> {
+    let found = (both_faults(alloc, bytes)?, first_fault(alloc, bytes)?);
+    let wanted = Some(fault);
+    equal(rt, &found, &((wanted, wanted), wanted), &name);
     Ok(())
 }
 
@@ -121,10 +118,10 @@ fn is_accepted(
     rt: &impl Abort,
     alloc: Global,
     bytes: &[u8],
-    walk: &[&str],
+    walk: &str,
     name: &str,
-) -> Result<(), Fail> {
+) -> Result<(), BtfError> {
     equal(rt, &first_fault(alloc, bytes)?, &None, &name);
-    equal_walk(rt, &both_shown(alloc, bytes)?, walk, &name);
-    Ok(())
+    is_shown(rt, alloc, Btf::parse(alloc, bytes), walk, name)?;
+    is_shown(rt, alloc, BtfView::parse(alloc, bytes), walk, name)
 }

@@ -5,7 +5,7 @@ use Rattle.bpf_words.specs.{declared.Order.Order, declared.Order.TheVariants.Lit
 use Rattle.btf_types.specs.declared.error.BtfError.{BtfError}
 use Rattle.btf_types.specs.declared.error.BtfError.TheVariants as error
 use Rattle.btf_types.specs.{Values.TypeRecord, tables.Tables.Fails, Good.IsGood, Denotes.Denotes}
-use Rattle.btf_types.proofs.{Denoting.denotes_unique, JudgeLemmas.FaultLaws.no_fault_is_accepted}
+use Rattle.btf_types.proofs.{Denoting.denotes_unique, CheckLemmas.FaultLaws.no_fault_is_accepted}
 use Rattle.bpf_canon.specs.btf.{CanonicalBtf.canonical, BtfLaws.IsCanonicalBtf}
 use Rattle.bpf_canon.proofs.BtfLemmas.CanonicalFiles.{canonical_denotes}
 

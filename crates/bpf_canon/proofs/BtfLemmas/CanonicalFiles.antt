@@ -5,7 +5,7 @@ use Rattle.std.proofs.{lemmas.List.Elements.All-head, lemmas.List.Elements.All-t
 use Rattle.bpf_words.specs.declared.Order.{Order}
 use Rattle.btf_raw.specs.{Header.Cut, Header.HasNulEnds, Frames.bytes_of, Frames.section_of}
 use Rattle.btf_raw.proofs.{Frames.length-bytes_of}
-use Rattle.btf_types.specs.{Values.TypeRecord, Denotes.Denotes, judge.Checks.TypeFacts, strings.SharedNames.hosts, strings.StringTable.string_table}
+use Rattle.btf_types.specs.{Values.TypeRecord, Denotes.Denotes, checks.Numbers.TypeFacts, strings.SharedNames.hosts, strings.StringTable.string_table}
 use Rattle.btf_types.specs.{Names.names, Names.with_nul, Names.table_of, Spelling.head_tail, Spelling.Spells}
 use Rattle.btf_types.specs.Good.{IsGoodRecord, IsGood, record_size, facts}
 use Rattle.btf_types.proofs.{Spelled.fixed_is, Spelled.items_size, Denoting.frames_of, Denoting.denotes_unique}

@@ -8,7 +8,7 @@ use Rattle.btf_raw.specs.{Header.STRINGS_LIMIT, Names.NameAt}
 use Rattle.btf_raw.proofs.{Texts.TextAt-inside, Frames.IsWords}
 use Rattle.btf_types.specs.Values.{TypeHead, KStruct, TypeItem, Member, TypeRecord}
 use Rattle.btf_types.specs.Names.{IsName, head_name, item_name, record_names}
-use Rattle.btf_types.specs.{strings.StringTable.string_table, judge.Checks.TypeFacts}
+use Rattle.btf_types.specs.{strings.StringTable.string_table, checks.Numbers.TypeFacts}
 use Rattle.btf_types.specs.Spelling.{kind_number, head_third, FlagSpells, record_vlen, info, head_tail, ItemSpells, Spells, HeadInRange, ItemInRange}
 use Rattle.btf_types.specs.Good.{ItemOf, has_width, has_bit_fields, MemberIsGood, IsGoodRecord, IsGood}
 use Rattle.btf_types.proofs.{Spelled.kind_below, Spelled.vlen_below, Spelled.flag_below, StringLemmas.TableLaws.shared_places}

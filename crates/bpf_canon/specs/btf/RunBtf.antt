@@ -6,8 +6,8 @@ use Rattle.btf_raw.specs.{declared.cause.BtfFault.BtfFault, Header.HEADER_LIMIT,
 use Rattle.btf_types.specs.{Values.TypeRecord, Denotes.Denotes, Faults.IsFirst}
 use Rattle.btf_types.specs.declared.error.BtfError.{BtfError}
 use Rattle.btf_types.specs.declared.error.BtfError.TheVariants as errors
-use Rattle.bpf_canon.specs.declared.device.ReadError.{ReadError}
-use Rattle.bpf_canon.specs.declared.device.ReadError.TheVariants as unread
+use Rattle.bpf_canon.specs.declared.device.source.ReadError.{ReadError}
+use Rattle.bpf_canon.specs.declared.device.source.ReadError.TheVariants as unread
 use Rattle.bpf_canon.specs.{btf.CanonicalBtf.canonical, declared.engine.RunCause.RunCause, device.Reads.read_room, Engine.Devices}
 use Rattle.bpf_canon.specs.declared.engine.RunCause.TheVariants as cause
 

@@ -1,4 +1,3 @@
 -- The records of a file that exposes its sections, as they are copied.
 pub mod BtfWords
-pub mod SectionRecords
 pub mod NameOffsets

@@ -1,6 +1,6 @@
 -- How reading an entire input fails.
 use Rattle.std.specs.Prelude.{◌<◌, ◌≤◌, ◌+◌, ℕ, List, length}
-use Rattle.bpf_canon.specs.declared.device.ReadError.{ReadError, TheVariants.TooLong, TheVariants.ReadFailed, TheVariants.Memory}
+use Rattle.bpf_canon.specs.declared.device.source.ReadError.{ReadError, TheVariants.TooLong, TheVariants.ReadFailed, TheVariants.Memory}
 
 -- the size in bytes of the buffer of each read
 abbrev pub read_room : ℕ

@@ -10,11 +10,11 @@ ghost use Rattle.btf_types.specs.{Values.TypeRecord, Denotes.Denotes, tables.Tab
 ghost use Rattle.bpf_canon.specs.btf.{CanonicalBtf.canonical, BtfLaws.IsCanonicalBtf};
 ghost use Rattle.bpf_canon.specs.btf.SameBtf.{ComparesBtf, IsOnSide, NamesBtfSide};
 
-use crate::btf::write::table::write_btf;
+use crate::btf::write::sections::write_sections;
 use crate::engine::SideError;
 use bpf_words::Order;
 use btf_raw::BtfFault;
-use btf_types::{BtfError, BtfView};
+use btf_types::{BtfError, CheckedFile};
 use std::alloc::Allocator;
 
 /// The canonical bytes of a BTF file (btf.rst section 2), in little-endian byte order.
@@ -32,18 +32,18 @@ pub fn canon_btf<A: Allocator + Copy>(alloc: A, bytes: &[u8]) -> Result<Vec<u8, 
         (λ e. e ≡ BtfError.Memory) }
     ensures fault { IfErr result (Fails bytes.now) }
 {
-    canonical_in(alloc, Order::Little, bytes)
+    recode_btf(alloc, Order::Little, bytes)
 }
 
 /// The canonical bytes of a BTF file (btf.rst section 2) in the byte order `to`.
 ///
 /// In little-endian order they are the result of [`canon_btf`]. In either order they are what
-/// [`write_btf`] writes for the records of the file.
+/// [`write_btf`](crate::write_btf) writes for the records of the file.
 ///
 /// # Errors
 ///
 /// Those of [`canon_btf`].
-pub fn canonical_in<A: Allocator + Copy>(
+pub fn recode_btf<A: Allocator + Copy>(
     alloc: A,
     to: Order,
     bytes: &[u8],
@@ -52,8 +52,8 @@ pub fn canonical_in<A: Allocator + Copy>(
         × (Denotes bytes.now v × (canon.items ≡ canonical to v))) }
     ensures fault { IfErr result (Fails bytes.now) }
 {
-    let table = BtfView::parse(alloc, bytes)?;
-    Ok(write_btf(alloc, to, &table)?)
+    let file = CheckedFile::check(alloc, bytes)?;
+    Ok(write_sections(alloc, to, &file.sections())?)
 }
 
 /// Whether two BTF files (btf.rst section 2) denote the same records, which is the case if and only
@@ -73,14 +73,14 @@ pub fn same_btf<A: Allocator>(alloc: A, a: &[u8], b: &[u8]) -> Result<bool, Side
     ensures fault { IfErr result (NamesBtfSide a.now b.now) }
 {
     if a == b {
-        BtfView::parse(alloc, a).map_err(|error| on_side(error, SideError::First))?;
+        CheckedFile::check(alloc, a).map_err(|error| on_side(error, SideError::First))?;
         return Ok(true);
     }
-    let first = canonical_in(&alloc, Order::Little, a).map_err(|error| on_side(
+    let first = recode_btf(&alloc, Order::Little, a).map_err(|error| on_side(
         error,
         SideError::First,
     ))?;
-    let second = canonical_in(&alloc, Order::Little, b).map_err(|error| on_side(
+    let second = recode_btf(&alloc, Order::Little, b).map_err(|error| on_side(
         error,
         SideError::Second,
     ))?;

@@ -14,7 +14,7 @@
 ghost use Rattle.std.specs.Prelude.{◌≡◌, ◌<◌, ◌≤◌, ◌^◌, ◌++◌, IfOk, OnOk, length};
 ghost use Rattle.btf_types.specs.Names.{kept, names, record_names, table_of};
 ghost use Rattle.btf_types.specs.strings.SharedNames.{hosts_of, shared_among};
-ghost use Rattle.btf_types.specs.tables.TableWords.{record_at};
+ghost use Rattle.btf_types.specs.{Good.IsGood, tables.TableWords.record_at};
 ghost use Rattle.bpf_canon.specs.btf.names.Interned as spec;
 
 use crate::btf::suffixes::compare_from_end;
@@ -32,8 +32,8 @@ fn add_name<'a, A: Allocator + Copy>(
     names: &mut NameSet<'a, A>,
     name: &'a str,
 ) -> Result<(), AllocError>
-    ensures { OnOk result (spec.AddsName (spec.lent_texts names.old.keys)
-        (spec.lent_texts names.new.keys) name.now) }
+    ensures { OnOk result (spec.AddsName (spec.borrowed_texts names.old.keys)
+        (spec.borrowed_texts names.new.keys) name.now) }
 {
     if !name.is_empty() {
         names.insert(name)?;
@@ -50,8 +50,8 @@ fn add_record_names<'t, T: TypeTable, A: Allocator + Copy>(
 ) -> Result<(), AllocError>
     requires first { 0 < id }
     requires last { id ≤ length (T.meaning table.now) }
-    ensures { OnOk result (spec.AddsNames (spec.lent_texts names.old.keys)
-        (spec.lent_texts names.new.keys) (record_names (record_at (T.meaning table.now) id))) }
+    ensures { OnOk result (spec.AddsNames (spec.borrowed_texts names.old.keys)
+        (spec.borrowed_texts names.new.keys) (record_names (record_at (T.meaning table.now) id))) }
 {
     add_name(names, table.head(id).name())?;
     for k in 0..table.item_count(id) {
@@ -66,8 +66,9 @@ pub(crate) fn kept_names<'t, T: TypeTable, A: Allocator + Copy>(
     alloc: A,
     table: &'t T,
 ) -> Result<NameSet<'t, A>, AllocError>
-    ensures { IfOk result (λ found.
-        spec.lent_texts found.keys ≡ kept (names (T.meaning table.now))) }
+    ensures names { IfOk result (λ found.
+        spec.borrowed_texts found.keys ≡ kept (names (T.meaning table.now))) }
+    ensures good { IfOk result (λ _. IsGood (T.meaning table.now)) }
 {
     let mut found = IndexSet::new(alloc);
     for index in 0..table.count() {
@@ -81,7 +82,7 @@ fn sorted_from_end<'a, A: Allocator>(
     alloc: A,
     names: &[&'a str],
 ) -> Result<Vec<(&'a str, usize), A>, AllocError>
-    ensures { IfOk result (λ sorted. spec.AreIndexed (spec.lent_texts names.now) sorted.items) }
+    ensures { IfOk result (λ sorted. spec.AreIndexed (spec.borrowed_texts names.now) sorted.items) }
 {
     let mut sorted = Vec::with_capacity(alloc, names.len())?;
     for index in 0..names.len() {
@@ -96,8 +97,8 @@ fn found_hosts<'a, A: Allocator + Copy>(
     alloc: A,
     names: &[&'a str],
 ) -> Result<Vec<usize, A>, AllocError>
-    requires { kept (spec.lent_texts names.now) ≡ spec.lent_texts names.now }
-    ensures { IfOk result (λ found. spec.HaveHosts (spec.lent_texts names.now) found.items) }
+    requires { kept (spec.borrowed_texts names.now) ≡ spec.borrowed_texts names.now }
+    ensures { IfOk result (λ found. spec.HaveHosts (spec.borrowed_texts names.now) found.items) }
 {
     let sorted = sorted_from_end(alloc, names)?;
     let mut host_indices = vec![in alloc; 0; names.len()]?;
@@ -118,11 +119,11 @@ fn placed_hosts<A: Allocator>(
     names: &[&str],
     host_indices: &[usize],
 ) -> Result<(Vec<u32, A>, u32), AllocError>
-    requires own { kept (spec.lent_texts names.now) ≡ spec.lent_texts names.now }
-    requires host_indices { spec.HaveHosts (spec.lent_texts names.now) host_indices.now }
-    requires room { length (table_of (hosts_of (spec.lent_texts names.now))) < 2 ^ 32 }
+    requires own { kept (spec.borrowed_texts names.now) ≡ spec.borrowed_texts names.now }
+    requires host_indices { spec.HaveHosts (spec.borrowed_texts names.now) host_indices.now }
+    requires room { length (table_of (hosts_of (spec.borrowed_texts names.now))) < 2 ^ 32 }
     ensures { IfOk result (λ (places, len).
-        spec.ArePlacedHosts (spec.lent_texts names.now) host_indices.now places.items len) }
+        spec.ArePlacedHosts (spec.borrowed_texts names.now) host_indices.now places.items len) }
 {
     let mut places = vec![in alloc; 0; names.len()]?;
     let mut len = 1;
@@ -148,22 +149,22 @@ pub(crate) struct SharedNames<'a, A: Allocator> {
 
 impl<'a, A: Allocator> Model for SharedNames<'a, A> {
     ghost use Rattle.std.specs.Prelude.{ℕ, List};
-    ghost use Rattle.bpf_canon.specs.btf.names.Interned.{lent_texts, AreShared};
+    ghost use Rattle.bpf_canon.specs.btf.names.Interned.{borrowed_texts, AreShared};
 
     ghost Value = { List (List ℕ) };
 
-    ghost view = { λ n. lent_texts n.names.keys };
+    ghost view = { λ n. borrowed_texts n.names.keys };
 
-    ghost invariant = { λ n. AreShared (lent_texts n.names.keys) n.host_indices.items n.places.items
+    ghost invariant = { λ n. AreShared (borrowed_texts n.names.keys) n.host_indices.items n.places.items
         n.table_len };
 }
 
 impl<'a, A: Allocator + Copy> SharedNames<'a, A> {
     /// Computes the offsets of the names.
     pub(crate) fn new(alloc: A, names: NameSet<'a, A>) -> Result<Self, AllocError>
-        requires own { kept (spec.lent_texts names.keys) ≡ spec.lent_texts names.keys }
-        requires room { length (table_of (hosts_of (spec.lent_texts names.keys))) < 2 ^ 32 }
-        ensures { IfOk result (λ n. n ≡ spec.lent_texts names.entry.keys) }
+        requires own { kept (spec.borrowed_texts names.keys) ≡ spec.borrowed_texts names.keys }
+        requires room { length (table_of (hosts_of (spec.borrowed_texts names.keys))) < 2 ^ 32 }
+        ensures { IfOk result (λ n. n ≡ spec.borrowed_texts names.entry.keys) }
     {
         let host_indices = found_hosts(alloc, names.as_slice())?;
         let (places, table_len) = placed_hosts(alloc, names.as_slice(), &host_indices)?;

@@ -7,7 +7,7 @@ ghost use Rattle.std.specs.Prelude.{◌≡◌, ◌<◌, ◌+◌, IfOk, IfErr, On
 ghost use Rattle.bpf_canon.specs.Engine.{devices, counts_read, counts_write};
 ghost use Rattle.bpf_canon.specs.btf.RunBtf.{RanBtf, StopsBtf, cause_of_btf, cause_of_read};
 
-use crate::btf::canon::canonical_in;
+use crate::btf::canon::recode_btf;
 use crate::device::{ByteSink, ByteSource, ReadError, read_all};
 use crate::engine::{RunCause, RunError, put_whole, stopped};
 use bpf_words::Order;
@@ -61,7 +61,7 @@ pub fn run_btf<A: Allocator + Copy, S: ByteSource, W: ByteSink>(
         ≡ W.failures sink.old + counts_write e.cause) }
 {
     let bytes = read_all(alloc, source, BTF_LIMIT).map_err(stopped_reading)?;
-    let canon = canonical_in(alloc, to, &bytes).map_err(stopped_checking)?;
+    let canon = recode_btf(alloc, to, &bytes).map_err(stopped_checking)?;
     put_whole(sink, canon.as_slice())
 }
 

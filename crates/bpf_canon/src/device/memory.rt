@@ -1,6 +1,7 @@
 //! In-memory devices, which read and write in pieces and fail from a chosen call on.
 
-ghost use Rattle.std.specs.Prelude.{◌≡◌, ◌≢◌, ◌<◌, ◌↔◌, Some, length, min, IsErr, IsOk, IfOk};
+ghost use Rattle.std.specs.Prelude.{◌≡◌, ◌≢◌, ◌<◌, ◌-◌, ◌↔◌, Some, length, min, option_map};
+ghost use Rattle.std.specs.Prelude.{IsErr, IsOk, IfOk};
 ghost use Rattle.std.specs.Io.{ReadsAtMost, WritesAtMost};
 ghost use Rattle.std.specs.Io.KnownBytes.{ReadConsumes, WriteAppends};
 ghost use Rattle.bpf_canon.specs.device.Device.{CountsFailure};
@@ -8,6 +9,13 @@ ghost use Rattle.bpf_canon.specs.device.Device.{CountsFailure};
 use crate::device::{ByteSink, ByteSource, DeviceFailed};
 use std::alloc::{Allocator, Global};
 use std::fmt;
+
+/// One call fewer that still succeeds, if not all do.
+fn one_fewer(good_calls: Option<u64>) -> Option<u64>
+    ensures { result ≡ option_map (λ n. n - 1) good_calls }
+{
+    good_calls.map(|n| n.saturating_sub(1))
+}
 
 /// A source over a slice, which returns at most one piece per read.
 #[derive(Debug, Drop)]
@@ -36,7 +44,7 @@ impl<'a> MemSource<'a> {
         MemSource {
             rest: bytes,
             piece,
-            good_reads: fuse.map(|n| n.saturating_sub(1)),
+            good_reads: one_fewer(fuse),
             failed_reads: 0,
         }
     }
@@ -67,7 +75,7 @@ impl ByteSource for MemSource<'_> {
             self.failed_reads += 1;
             return Err(DeviceFailed);
         }
-        self.good_reads = self.good_reads.map(|n| n.saturating_sub(1));
+        self.good_reads = one_fewer(self.good_reads);
         let n = self.piece.min(buffer.len()).min(self.rest.len());
         buffer[..n].copy_from_slice(&self.rest[..n]);
         self.rest = &self.rest[n..];
@@ -101,7 +109,7 @@ impl<'a, A: Allocator> MemSink<'a, A> {
         MemSink {
             out,
             piece,
-            good_writes: fuse.map(|n| n.saturating_sub(1)),
+            good_writes: one_fewer(fuse),
             failed_writes: 0,
         }
     }
@@ -131,7 +139,7 @@ impl<A: Allocator> ByteSink for MemSink<'_, A> {
         ensures pace { sink_pace self.new ≡ next_pace (sink_pace self.old) }
     {
         let is_good = self.good_writes != Some(0);
-        self.good_writes = self.good_writes.map(|n| n.saturating_sub(1));
+        self.good_writes = one_fewer(self.good_writes);
         let n = self.piece.min(bytes.len());
         if is_good && self.out.extend_from_slice(&bytes[..n]).is_ok() {
             return Ok(n);

@@ -71,6 +71,12 @@ pub(crate) fn sunk<F: Drop>(ran: &Result<u64, RunError<F>>, out: &[u8], whole: &
     Outcome::Wrong
 }
 
+/// A call that allocates in an arena.
+pub(crate) trait ArenaCall {
+    /// Makes the call.
+    fn outcome(&self, alloc: Global, bump: &Bump<Global>) -> Outcome;
+}
+
 /// What a call returned with ever more memory.
 #[derive(Clone, Copy, Debug)]
 pub(crate) struct Tally {
@@ -88,12 +94,7 @@ pub(crate) struct Tally {
 
 impl Tally {
     /// Makes a call with ever more memory.
-    pub(crate) fn of<Call: FnMut(&Bump<Global>) -> Outcome>(
-        alloc: Global,
-        mut call: Call,
-    ) -> Result<Tally, AllocError>
-        requires { (f : _) (x : _) → Call.pre f x }
-    {
+    pub(crate) fn of<C: ArenaCall>(alloc: Global, call: &C) -> Result<Tally, AllocError> {
         let mut tally = Tally {
             refused: 0,
             places: 0,
@@ -103,7 +104,7 @@ impl Tally {
         };
         for more in 0..=ROOM {
             let room = if tally.done == ENOUGH { ROOM } else { more };
-            tally.count(room, call(&arena(alloc, room)?));
+            tally.count(room, call.outcome(alloc, &arena(alloc, room)?));
             if tally.done > ENOUGH || tally.wrong.is_some() {
                 return Ok(tally);
             }

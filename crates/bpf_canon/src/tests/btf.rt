@@ -1,7 +1,7 @@
 //! Canonical bytes and comparison of BTF files.
 
 use super::btf_files::{
-    BIG_INT, BIT_FIELD, EMPTY, ENUM, FAULTY, INT, LOOSE_INT, STRINGS_FIRST, WIDE_OFFSET,
+    BIG_INT, BIT_FIELD, BtfFile, EMPTY, ENUM, FAULTY, INT, LOOSE_INT, STRINGS_FIRST, WIDE_OFFSET,
     worked_files,
 };
 use super::btf_run::run_in_pieces;
@@ -10,7 +10,7 @@ use super::expect::{equal, equal_bytes, holds};
 use super::faulty_btf::{FaultyBtf, faulty_files};
 use super::fused_devices::FusedDevices;
 use super::own_table::Counting;
-use crate::{RunCause, RunError, SideError, canon_btf, canonical_in, same_btf, write_btf};
+use crate::{RunCause, RunError, SideError, canon_btf, recode_btf, same_btf, write_btf};
 use bpf_words::Order;
 use btf_raw::{BtfCause, BtfFault};
 use btf_types::{Btf, BtfError, BtfView, TypeTable};
@@ -35,16 +35,16 @@ fn is_owned(alloc: Global, order: Order, file: &[u8], bytes: &[u8]) -> Result<bo
 }
 
 /// Whether a borrowed table of a file is written as these bytes, and one of a user.
-fn is_lent(alloc: Global, order: Order, file: &[u8], bytes: &[u8]) -> Result<bool, BtfError> {
+fn is_borrowed(alloc: Global, order: Order, file: &[u8], bytes: &[u8]) -> Result<bool, BtfError> {
     let table = BtfView::parse(alloc, file)?;
-    let is_lent = writes(alloc, order, &table, bytes)?;
-    Ok(is_lent && writes(alloc, order, &Counting::new(&table), bytes)?)
+    let is_borrowed = writes(alloc, order, &table, bytes)?;
+    Ok(is_borrowed && writes(alloc, order, &Counting::new(&table), bytes)?)
 }
 
-/// The canonical bytes of a file in a byte order, by `canonical_in`. An owned table, a borrowed one and one of a user give the same.
+/// The canonical bytes of a file in a byte order, by `recode_btf`. An owned table, a borrowed one and one of a user give the same.
 fn written(rt: &impl Abort, alloc: Global, order: Order, file: &[u8]) -> Result<Vec<u8>, BtfError> {
-    let whole = canonical_in(alloc, order, file)?;
-    let is_same = is_owned(alloc, order, file, &whole)? && is_lent(alloc, order, file, &whole)?;
+    let whole = recode_btf(alloc, order, file)?;
+    let is_same = is_owned(alloc, order, file, &whole)? && is_borrowed(alloc, order, file, &whole)?;
     holds(rt, is_same, &"the ways to write a file");
     Ok(whole)
 }
@@ -93,13 +93,21 @@ pub(crate) fn check_file(
     Ok(())
 }
 
+/// Writes files in both orders, and runs the engine on them.
+fn check_files(rt: &impl Abort, alloc: Global, files: &[BtfFile]) -> Result<(), BtfError> {
+    for file in files {
+        check_file(rt, alloc, file.bytes, file.canonical)?;
+        run_in_pieces(rt, alloc, file);
+    }
+    Ok(())
+}
+
 #[test]
 fn files_have_one_canonical_form_from_every_table_in_both_orders(
     rt: HostRuntime,
 ) -> Result<(), Fail> {
-    for file in worked_files().into_iter().flatten() {
-        check_file(&rt, rt.alloc(), file.bytes, file.canonical)?;
-        run_in_pieces(&rt, rt.alloc(), file);
+    for files in worked_files() {
+        check_files(&rt, rt.alloc(), files)?;
     }
     Ok(())
 }
@@ -141,6 +149,10 @@ static COMPARISONS: [Comparison; 9] = [
     Comparison { first: FAULTY, second: b"", answer: Err(SideError::First(FAULT_OF_FAULTY)) },
 ];
 
+fn comparisons() -> &'static [Comparison] {
+    &COMPARISONS
+}
+
 #[test]
 fn a_compiled_file_is_the_same_in_both_orders(rt: HostRuntime) {
     let same = same_btf(rt.alloc(), flow_table_big(), flow_table_little());
@@ -149,7 +161,7 @@ fn a_compiled_file_is_the_same_in_both_orders(rt: HostRuntime) {
 
 #[test]
 fn btf_files_are_the_same_if_their_types_are(rt: HostRuntime) {
-    for row in &COMPARISONS {
+    for row in comparisons() {
         let same = same_btf(rt.alloc(), row.first, row.second);
         equal(&rt, &same, &row.answer, &(row.first, row.second));
     }
@@ -176,9 +188,15 @@ fn check_refused(rt: &impl Abort, alloc: Global, file: &FaultyBtf) {
     equal(rt, &run.taken.len(), &0, &bytes);
 }
 
+fn check_all_refused(rt: &impl Abort, alloc: Global, files: &[FaultyBtf]) {
+    for file in files {
+        check_refused(rt, alloc, file);
+    }
+}
+
 #[test]
 fn faulty_files_are_refused_with_their_first_fault(rt: HostRuntime) {
-    for file in faulty_files().into_iter().flatten() {
-        check_refused(&rt, rt.alloc(), file);
+    for files in faulty_files() {
+        check_all_refused(&rt, rt.alloc(), files);
     }
 }

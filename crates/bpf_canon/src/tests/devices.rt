@@ -3,7 +3,7 @@
 ghost use Rattle.std.specs.Prelude.{◌<◌};
 ghost use Rattle.bpf_canon.specs.device.Memory.{source_failures};
 
-use super::expect::{equal, equal_bytes};
+use super::expect::{equal, equal_bytes, holds};
 use crate::{
     ByteSink, ByteSource, DeviceFailed, MemSink, MemSource, ReadError, ReaderSource, RunCause,
     RunError, SideError, WriterSink, put_all, read_all, run_insns,
@@ -14,54 +14,57 @@ use std::fmt::Display;
 use std::process::Abort;
 use std::test::Fail;
 
-fn shows(rt: &impl Abort, alloc: Global, error: &impl Display, name: &str) -> Result<(), Fail> {
-    let text = format!(in alloc; "{error}")?;
-    equal_bytes(rt, text.as_bytes(), name.as_bytes(), &name);
-    Ok(())
-}
-
-fn show_read_errors(rt: &impl Abort, alloc: Global) -> Result<(), Fail> {
-    for (error, name) in &[
-        (ReadError::TooLong, "TooLong"),
-        (ReadError::ReadFailed, "ReadFailed"),
-        (ReadError::Memory, "Memory"),
-    ] {
-        shows(rt, alloc, error, name)?;
+/// Compares the texts of errors with these names.
+fn show<E: Display>(
+    rt: &impl Abort,
+    alloc: Global,
+    rows: &[(E, &'static str)],
+) -> Result<(), Fail> {
+    for (error, name) in rows {
+        let text = format!(in alloc; "{error}")?;
+        equal_bytes(rt, text.as_bytes(), name.as_bytes(), name);
     }
     Ok(())
 }
 
-fn show_side_errors(rt: &impl Abort, alloc: Global) -> Result<(), Fail> {
-    for (error, name) in &[
-        (SideError::First(0), "First"),
-        (SideError::Second(0), "Second"),
-        (SideError::Memory, "Memory"),
-    ] {
-        shows(rt, alloc, error, name)?;
-    }
-    Ok(())
-}
+static READ_ERRORS: [(ReadError, &str); 3] = [
+    (ReadError::TooLong, "TooLong"),
+    (ReadError::ReadFailed, "ReadFailed"),
+    (ReadError::Memory, "Memory"),
+];
 
-fn show_run_errors(rt: &impl Abort, alloc: Global) -> Result<(), Fail> {
-    for (cause, name) in [
-        (RunCause::Fault(0), "Fault"),
-        (RunCause::TooLong, "TooLong"),
-        (RunCause::ReadFailed, "ReadFailed"),
-        (RunCause::WriteFailed, "WriteFailed"),
-        (RunCause::Memory, "Memory"),
-    ] {
-        shows(rt, alloc, &cause, name)?;
-        shows(rt, alloc, &RunError { cause, written: 8 }, name)?;
-    }
-    Ok(())
-}
+static SIDE_ERRORS: [(SideError<u8>, &str); 3] = [
+    (SideError::First(0), "First"),
+    (SideError::Second(0), "Second"),
+    (SideError::Memory, "Memory"),
+];
+
+static CAUSES: [(RunCause<u8>, &str); 5] = [
+    (RunCause::Fault(0), "Fault"),
+    (RunCause::TooLong, "TooLong"),
+    (RunCause::ReadFailed, "ReadFailed"),
+    (RunCause::WriteFailed, "WriteFailed"),
+    (RunCause::Memory, "Memory"),
+];
 
 #[test]
 fn errors_show_their_names(rt: HostRuntime) -> Result<(), Fail> {
-    shows(&rt, rt.alloc(), &DeviceFailed, "DeviceFailed")?;
-    show_read_errors(&rt, rt.alloc())?;
-    show_side_errors(&rt, rt.alloc())?;
-    show_run_errors(&rt, rt.alloc())
+    show(&rt, rt.alloc(), &[(DeviceFailed, "DeviceFailed")])?;
+    show(&rt, rt.alloc(), &READ_ERRORS)?;
+    show(&rt, rt.alloc(), &SIDE_ERRORS)?;
+    show(&rt, rt.alloc(), &CAUSES)
+}
+
+#[test]
+fn errors_of_runs_show_their_causes(rt: HostRuntime) -> Result<(), Fail> {
+    for (cause, name) in &CAUSES {
+        let error = RunError {
+            cause: *cause,
+            written: 8,
+        };
+        show(&rt, rt.alloc(), &[(error, *name)])?;
+    }
+    Ok(())
 }
 
 /// An input, the piece and the fuse of its source, the limit, and why reading stops if it does.
@@ -86,19 +89,39 @@ static READINGS: [Reading; 9] = [
     Reading { bytes: b"abcdefgh", piece: 3, fuse: Some(5), limit: 8, stop: None },
 ];
 
+/// Whether a source is read to its end, with these bytes, or reading stops for this reason.
+fn is_read<S: ByteSource>(
+    alloc: Global,
+    source: &mut S,
+    limit: u64,
+    wanted: Result<&[u8], ReadError>,
+) -> bool
+    requires { S.failures source.old < u64.MAX }
+{
+    match read_all(alloc, source, limit) {
+        Ok(read) => wanted == Ok(read.as_slice()),
+        Err(error) => wanted == Err(error),
+    }
+}
+
+/// Whether an input is read as the row says.
+fn is_row_read(alloc: Global, row: &Reading) -> bool {
+    if row.piece == 0 {
+        return false;
+    }
+    let mut source = MemSource::new(row.bytes, row.piece, row.fuse);
+    let wanted = match row.stop {
+        Some(stop) => Err(stop),
+        None => Ok(row.bytes),
+    };
+    is_read(alloc, &mut source, row.limit, wanted)
+}
+
 #[test]
 fn inputs_within_the_limit_are_read_to_their_end(rt: HostRuntime) {
     for row in &READINGS {
-        assert!(rt; row.piece > 0);
-        let mut source = MemSource::new(row.bytes, row.piece, row.fuse);
-        let case = (row.piece, row.fuse, row.limit);
-        match read_all(rt.alloc(), &mut source, row.limit) {
-            Ok(read) => {
-                equal(&rt, &row.stop, &None, &case);
-                equal_bytes(&rt, read.as_slice(), row.bytes, &case);
-            }
-            Err(error) => equal(&rt, &Some(error), &row.stop, &case),
-        }
+        let is_right = is_row_read(rt.alloc(), row);
+        holds(&rt, is_right, &(row.piece, row.fuse, row.limit));
     }
 }
 
@@ -136,25 +159,30 @@ static WRITINGS: [Writing; 5] = [
     Writing { piece: 9, fuse: None, ended: Ok(()), taken: b"abc" },
 ];
 
+/// Whether three bytes are written as the row says.
+fn is_written(alloc: Global, row: &Writing) -> bool {
+    if row.piece == 0 {
+        return false;
+    }
+    let mut out = Vec::new(alloc);
+    let mut sink = MemSink::new(&mut out, row.piece, row.fuse);
+    let ended = put_all(&mut sink, b"abc");
+    ended == row.ended && out.as_slice() == row.taken
+}
+
 #[test]
 fn a_sink_accepts_a_prefix_until_its_fuse(rt: HostRuntime) {
     for row in &WRITINGS {
-        assert!(rt; row.piece > 0);
-        let mut out = Vec::new(rt.alloc());
-        let mut sink = MemSink::new(&mut out, row.piece, row.fuse);
-        let ended = put_all(&mut sink, b"abc");
-        equal(&rt, &ended, &row.ended, &(row.piece, row.fuse));
-        equal_bytes(&rt, out.as_slice(), row.taken, &(row.piece, row.fuse));
+        let is_right = is_written(rt.alloc(), row);
+        holds(&rt, is_right, &(row.piece, row.fuse));
     }
 }
 
 #[test]
 fn readers_are_sources(rt: HostRuntime) {
     let mut source = ReaderSource::new(b"abc".as_slice());
-    match read_all(rt.alloc(), &mut source, 3) {
-        Ok(read) => equal_bytes(&rt, read.as_slice(), b"abc".as_slice(), &"a reader"),
-        Err(error) => equal(&rt, &Some(error), &None, &"a reader"),
-    }
+    let is_right = is_read(rt.alloc(), &mut source, 3, Ok(b"abc"));
+    holds(&rt, is_right, &"a reader");
 }
 
 #[test]
@@ -162,13 +190,8 @@ fn writers_are_sinks(rt: HostRuntime) {
     let mut out = Vec::new(rt.alloc());
     let mut sink = WriterSink::new(&mut out);
     let ended = (sink.write(b""), put_all(&mut sink, b"abc"));
-    equal(
-        &rt,
-        &ended,
-        &(Ok(0), Ok(())),
-        &"an empty write, and another",
-    );
-    equal_bytes(&rt, out.as_slice(), b"abc".as_slice(), &"a writer");
+    let is_right = ended == (Ok(0), Ok(())) && out.as_slice() == b"abc".as_slice();
+    holds(&rt, is_right, &"an empty write, and another");
 }
 
 /// How many of 5,000 bytes are left in a source.
@@ -182,8 +205,8 @@ fn left_in(alloc: Global, source: &mut MemSource<'_>) -> Result<usize, ReadError
 fn each_read_offers_4096_bytes(rt: HostRuntime) {
     let mut source = MemSource::new(&[0; 5000], 5000, None);
     let read = read_all(rt.alloc(), &mut source, 0).err();
-    let found = (read, left_in(rt.alloc(), &mut source));
-    equal(&rt, &found, &(Some(ReadError::TooLong), Ok(904)), &"a read");
+    let is_right = read == Some(ReadError::TooLong) && left_in(rt.alloc(), &mut source) == Ok(904);
+    holds(&rt, is_right, &"a read");
 }
 
 /// No instruction has the opcode 0, so the engine stops after its first read.
@@ -202,6 +225,6 @@ fn an_engine_offers_4096_bytes(rt: HostRuntime) {
         cause: RunCause::Fault(opcode),
         written: 0,
     };
-    let found = (ran, left_in(rt.alloc(), &mut source));
-    equal(&rt, &found, &(Err(stop), Ok(904)), &"a run");
+    let is_right = ran == Err(stop) && left_in(rt.alloc(), &mut source) == Ok(904);
+    holds(&rt, is_right, &"a run");
 }

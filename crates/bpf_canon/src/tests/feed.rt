@@ -69,6 +69,10 @@ static WIDE_LOADS: &[Stream] = &[
     Stream { name: "a whole wide load", to: Order::Little, pieces: &[Piece { bytes: WIDE, fault: None, written: WIDE, held: 0, fed: 16, count: 1 }], end: Ok(1) },
 ];
 
+fn streams() -> [&'static [Stream]; 3] {
+    [IN_TWO_PIECES, IN_ONE_PIECE, WIDE_LOADS]
+}
+
 /// Feeds the pieces of a stream, and compares after each.
 fn check_stream(rt: &impl Abort, alloc: Global, stream: &Stream) {
     let mut feed = InsnFeed::new(Order::Little, stream.to);
@@ -88,11 +92,16 @@ fn check_stream(rt: &impl Abort, alloc: Global, stream: &Stream) {
     equal(rt, &feed.finish(), &stream.end, &stream.name);
 }
 
+fn check_streams(rt: &impl Abort, alloc: Global, streams: &[Stream]) {
+    for stream in streams {
+        check_stream(rt, alloc, stream);
+    }
+}
+
 #[test]
 fn complete_instructions_are_written_at_once_and_faults_stay(rt: HostRuntime) {
-    let pieces = [IN_TWO_PIECES, IN_ONE_PIECE, WIDE_LOADS];
-    for stream in pieces.into_iter().flatten() {
-        check_stream(&rt, rt.alloc(), stream);
+    for streams in streams() {
+        check_streams(&rt, rt.alloc(), streams);
     }
 }
 

@@ -1,9 +1,10 @@
 //! Calls with ample memory on the largest files that the limits allow.
 
 use super::expect::{equal, holds};
+use super::fused_devices::FusedDevices;
 use crate::{
-    BTF_LIMIT, INSN_LIMIT, InsnFeed, MemSink, MemSource, RunCause, RunError, SideError, canon_btf,
-    canon_insns, read_all, run_btf, run_insns, same_btf, same_insns, write_btf, write_insns,
+    BTF_LIMIT, INSN_LIMIT, InsnFeed, MemSource, RunCause, RunError, SideError, canon_btf,
+    canon_insns, read_all, same_btf, same_insns, write_btf, write_insns,
 };
 use bpf_insn::{InsnError, Order, SlotCause, SlotFault, decode_insns};
 use btf_raw::{BtfCause, BtfFault};
@@ -14,6 +15,13 @@ use std::test::Fail;
 
 /// How many instructions of 8 bytes are within the limit.
 const MOVES: usize = 8_388_608;
+
+/// Changes a byte.
+fn spoil(bytes: &mut [u8], pos: usize, byte: u8) {
+    if let Some(old) = bytes.get_mut(pos) {
+        *old = byte;
+    }
+}
 
 /// As many moves of r2 to r1 as are within the limit, in one order.
 fn moves(alloc: Global, slot: &[u8; 8]) -> Result<Vec<u8>, AllocError> {
@@ -68,12 +76,10 @@ fn is_written(alloc: Global, big: &[u8], little: &[u8]) -> Result<bool, InsnErro
 }
 
 /// Whether the run of a file gives the other one.
-fn is_run(alloc: Global, big: &[u8], little: &[u8]) -> bool {
-    let mut source = MemSource::new(big, 10_000, None);
-    let mut out = Vec::new(alloc);
-    let mut sink = MemSink::new(&mut out, 10_000, None);
-    let ran = run_insns(alloc, &mut source, &mut sink, Order::Big, Order::Little);
-    ran == Ok(INSN_LIMIT) && out.as_slice() == little
+fn is_run(rt: &impl Abort, alloc: Global, big: &[u8], little: &[u8]) -> bool {
+    let devices = FusedDevices::sound(big, 10_000);
+    let run = devices.run_insns(rt, alloc, Order::Big, Order::Little);
+    run.ended == Ok(INSN_LIMIT) && run.taken.as_slice() == little
 }
 
 /// Whether a file is read to its end.
@@ -91,7 +97,7 @@ fn check_program(rt: &impl Abort, alloc: Global, big: &[u8], little: &[u8]) -> R
     holds(rt, is_canonicalised(alloc, big, little), &"canonicalised");
     holds(rt, is_fed(alloc, big, little), &"fed at once");
     holds(rt, is_written(alloc, big, little)?, &"written");
-    holds(rt, is_run(alloc, big, little), &"run");
+    holds(rt, is_run(rt, alloc, big, little), &"run");
     holds(rt, is_read(alloc, big), &"read");
     Ok(())
 }
@@ -101,9 +107,7 @@ fn the_largest_program_is_accepted(rt: HostRuntime) -> Result<(), Fail> {
     let big = moves(rt.alloc(), BIG_MOVE)?;
     let mut little = moves(rt.alloc(), LITTLE_MOVE)?;
     check_program(&rt, rt.alloc(), &big, &little)?;
-    if let Some(registers) = little.get_mut(67_108_857) {
-        *registers = 0x2b;
-    }
+    spoil(&mut little, 67_108_857, 0x2b);
     holds(&rt, is_refused(rt.alloc(), &big, &little), &"refused");
     Ok(())
 }
@@ -161,13 +165,22 @@ fn is_table(alloc: Global, file: &[u8]) -> Result<bool, BtfError> {
     Ok(table.count() == 2_796_202 && is_written)
 }
 
-/// How a run of a file ends, and whether it gives the canonical bytes.
-fn run_types(alloc: Global, file: &[u8]) -> (Result<u64, RunError<BtfFault>>, bool) {
-    let mut source = MemSource::new(file, 10_000, None);
-    let mut out = Vec::new(alloc);
-    let mut sink = MemSink::new(&mut out, 1_000_000, None);
-    let ran = run_btf(alloc, &mut source, &mut sink, Order::Little);
-    (ran, is_canonical(&out, file))
+/// Whether a run of a file ends so, with the canonical bytes if and only if it succeeds.
+fn types_run(
+    rt: &impl Abort,
+    alloc: Global,
+    file: &[u8],
+    ended: Result<u64, RunError<BtfFault>>,
+) -> bool {
+    let devices = FusedDevices {
+        bytes: file,
+        read_piece: 10_000,
+        read_fuse: None,
+        write_piece: 1_000_000,
+        write_fuse: None,
+    };
+    let run = devices.run_btf(rt, alloc, Order::Little);
+    run.ended == ended && is_canonical(&run.taken, file) == ended.is_ok()
 }
 
 /// Each call on the longest file.
@@ -175,8 +188,7 @@ fn check_types(rt: &impl Abort, alloc: Global, file: &[u8]) -> Result<(), Fail> 
     equal(rt, &(file.len() as u64), &BTF_LIMIT, &"the length");
     holds(rt, is_table(alloc, file)?, &"written");
     holds(rt, types_are_canonicalised(alloc, file)?, &"canonicalised");
-    let ran = run_types(alloc, file);
-    equal(rt, &ran, &(Ok(50_331_672), true), &"run");
+    holds(rt, types_run(rt, alloc, file, Ok(50_331_672)), &"run");
     Ok(())
 }
 
@@ -196,23 +208,16 @@ fn check_refused(rt: &impl Abort, alloc: Global, file: &[u8]) {
     equal(rt, &fault, &Some(BtfError::Fault(BEYOND)), &"the fault");
     let same = same_btf(alloc, file, file);
     equal(rt, &same, &Err(SideError::First(BEYOND)), &"a comparison");
-    equal(
-        rt,
-        &run_types(alloc, file),
-        &(Err(stopped), false),
-        &"a run",
-    );
+    holds(rt, types_run(rt, alloc, file, Err(stopped)), &"a run");
 }
 
 #[test]
 fn the_longest_btf_is_accepted(rt: HostRuntime) -> Result<(), Fail> {
     let mut file = longest_file(rt.alloc())?;
     check_types(&rt, rt.alloc(), &file)?;
-    for (pos, byte) in [(33_558_524, 0xab), (33_558_525, 0xaa), (33_558_526, 0x2a)] {
-        if let Some(old) = file.get_mut(pos) {
-            *old = byte;
-        }
-    }
+    spoil(&mut file, 33_558_524, 0xab);
+    spoil(&mut file, 33_558_525, 0xaa);
+    spoil(&mut file, 33_558_526, 0x2a);
     check_refused(&rt, rt.alloc(), &file);
     Ok(())
 }

@@ -1,6 +1,6 @@
 //! Each growth of the calls on instructions fails in turn.
 
-use super::arena::{Outcome, Tally, arena, refused_reading, sunk, whole_if};
+use super::arena::{ArenaCall, Outcome, Tally, arena, refused_reading, sunk, whole_if};
 use super::expect::{equal, holds};
 use crate::{
     InsnFeed, MemSink, MemSource, ReadError, RunCause, RunError, SideError, canon_insns, read_all,
@@ -154,22 +154,22 @@ enum Call {
     Sink,
 }
 
-/// Makes a call in an arena.
-fn outcome_of(alloc: Global, bump: &Bump<Global>, call: Call) -> Outcome {
-    match call {
-        Call::Read => read(alloc, bump),
-        Call::Write => write(bump),
-        Call::Canonicalise => canonicalise(bump),
-        Call::CanonicaliseFaulty => canonicalise_faulty(bump),
-        Call::Recode => recode(bump),
-        Call::Feed => fed(bump),
-        Call::Run => run(alloc, bump),
-        Call::Sink => sink(alloc, bump),
+impl ArenaCall for Call {
+    fn outcome(&self, alloc: Global, bump: &Bump<Global>) -> Outcome {
+        match self {
+            Call::Read => read(alloc, bump),
+            Call::Write => write(bump),
+            Call::Canonicalise => canonicalise(bump),
+            Call::CanonicaliseFaulty => canonicalise_faulty(bump),
+            Call::Recode => recode(bump),
+            Call::Feed => fed(bump),
+            Call::Run => run(alloc, bump),
+            Call::Sink => sink(alloc, bump),
+        }
     }
 }
 
 /// A call, how many rooms are too small for it, and at how many points growths fail, each at least.
-#[derive(Clone, Copy, Debug)]
 struct MemoryRow {
     call: Call,
     refused: usize,
@@ -191,8 +191,9 @@ static ROWS: [MemoryRow; 8] = [
 #[test]
 fn each_growth_is_refused(rt: HostRuntime) -> Result<(), Fail> {
     for row in &ROWS {
-        let tally = Tally::of(rt.alloc(), |bump| outcome_of(rt.alloc(), bump, row.call))?;
-        holds(&rt, tally.is_right(row.refused, row.places), &(row, tally));
+        let tally = Tally::of(rt.alloc(), &row.call)?;
+        let is_right = tally.is_right(row.refused, row.places);
+        holds(&rt, is_right, &(row.call, tally));
     }
     Ok(())
 }

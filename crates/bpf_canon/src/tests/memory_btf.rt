@@ -1,6 +1,6 @@
 //! Each growth of the calls on BTF fails in turn. The files have 26 types with 28 names, more than are sorted in place.
 
-use super::arena::{Outcome, Tally, refused_reading, sunk, whole_if};
+use super::arena::{ArenaCall, Outcome, Tally, refused_reading, sunk, whole_if};
 use super::btf::writes;
 use super::btf_files::{BIG_INT, LOOSE_INT};
 use super::compiled_types::{flow_table_big, flow_table_little};
@@ -44,6 +44,10 @@ fn written<A: Allocator>(answer: &Result<Vec<u8, A>, BtfError>, whole: &[u8]) ->
     }
 }
 
+fn canonicalise(bump: &Bump<Global>, canonical: &[u8]) -> Outcome {
+    written(&canon_btf(bump, flow_table_big()), canonical)
+}
+
 fn parse(alloc: Global, bump: &Bump<Global>, canonical: &[u8]) -> Outcome {
     match BtfView::parse(bump, flow_table_big()) {
         Ok(table) => whole_if(writes(alloc, Order::Little, &table, canonical) == Ok(true)),
@@ -85,19 +89,28 @@ enum Call {
     Sink,
 }
 
-/// Makes a call in an arena.
-fn outcome_of(alloc: Global, bump: &Bump<Global>, call: Call, ample: Ample) -> Outcome {
-    match call {
-        Call::Write => write(bump, ample.view, ample.big),
-        Call::Parse => parse(alloc, bump, ample.little),
-        Call::Canonicalise => written(&canon_btf(bump, flow_table_big()), ample.little),
-        Call::Run => run(alloc, bump, ample.little),
-        Call::Sink => sink(alloc, bump),
+/// A call, with what is returned with ample memory.
+#[derive(Drop)]
+struct AmpleCall<'a> {
+    call: Call,
+    ample: Ample<'a>,
+}
+
+impl ArenaCall for AmpleCall<'_> {
+    fn outcome(&self, alloc: Global, bump: &Bump<Global>) -> Outcome {
+        let ample = self.ample;
+        match self.call {
+            Call::Write => write(bump, ample.view, ample.big),
+            Call::Parse => parse(alloc, bump, ample.little),
+            Call::Canonicalise => canonicalise(bump, ample.little),
+            Call::Run => run(alloc, bump, ample.little),
+            Call::Sink => sink(alloc, bump),
+        }
     }
 }
 
 /// How many rooms are too small for a call, next to how many were for the call of the row before.
-#[derive(Clone, Copy, Debug)]
+#[derive(Clone, Copy)]
 enum Rooms {
     Any,
     AsMany,
@@ -115,7 +128,6 @@ impl Rooms {
 }
 
 /// A call, how many rooms are too small for it, at how many points growths fail, and the last of these, each at least.
-#[derive(Clone, Copy, Debug)]
 struct MemoryRow {
     call: Call,
     rooms: Rooms,
@@ -138,11 +150,12 @@ static ROWS: [MemoryRow; 5] = [
 fn check_calls(rt: &impl Abort, alloc: Global, ample: Ample) -> Result<(), Fail> {
     let mut before = 0;
     for row in &ROWS {
-        let tally = Tally::of(alloc, |bump| outcome_of(alloc, bump, row.call, ample))?;
+        let call = row.call;
+        let tally = Tally::of(alloc, &AmpleCall { call, ample })?;
         let is_right = tally.is_right(row.refused, row.places)
             && tally.last_place.unwrap_or(0) >= row.last_place
             && row.rooms.are_right(before, tally.refused);
-        holds(rt, is_right, &(row, tally, before));
+        holds(rt, is_right, &(row.call, tally, before));
         before = tally.refused;
     }
     Ok(())
@@ -196,16 +209,17 @@ static COMPARISONS: [Comparison; 4] = [
     Comparison { second: Other::Front(849), answer: Ok(true), rooms: Rooms::More },
 ];
 
-/// Compares two files in an arena.
-fn compared(bump: &Bump<Global>, row: &Comparison) -> Outcome {
-    let second = match row.second {
-        Other::File(file) => file,
-        Other::Front(len) => flow_table_big().get(..len).unwrap_or(&[]),
-    };
-    let same = same_btf(bump, flow_table_little(), second);
-    match same {
-        Err(SideError::Memory) => Outcome::Refused(0),
-        _ => whole_if(same == row.answer),
+impl ArenaCall for Comparison {
+    fn outcome(&self, _alloc: Global, bump: &Bump<Global>) -> Outcome {
+        let second = match self.second {
+            Other::File(file) => file,
+            Other::Front(len) => flow_table_big().get(..len).unwrap_or(&[]),
+        };
+        let same = same_btf(bump, flow_table_little(), second);
+        match same {
+            Err(SideError::Memory) => Outcome::Refused(0),
+            _ => whole_if(same == self.answer),
+        }
     }
 }
 
@@ -213,7 +227,7 @@ fn compared(bump: &Bump<Global>, row: &Comparison) -> Outcome {
 fn each_growth_of_a_comparison_is_refused(rt: HostRuntime) -> Result<(), Fail> {
     let mut before = 0;
     for row in &COMPARISONS {
-        let tally = Tally::of(rt.alloc(), |bump| compared(bump, row))?;
+        let tally = Tally::of(rt.alloc(), row)?;
         let is_right = tally.is_right(1, 1) && row.rooms.are_right(before, tally.refused);
         holds(&rt, is_right, &(row.answer, tally, before));
         before = tally.refused;

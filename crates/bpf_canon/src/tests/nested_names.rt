@@ -113,28 +113,21 @@ fn compare_owned(
     Ok(compare(rt, alloc, &table, strings, offsets)?)
 }
 
-/// In a borrowed one.
-fn compare_lent(
+/// In a borrowed one of a little-endian file, or in one of a user over a big-endian file.
+fn compare_view(
     rt: &impl Abort,
     alloc: Global,
+    order: Order,
     strings: &[u8],
     offsets: [u32; 3],
 ) -> Result<(), BtfError> {
-    let little = file(alloc, Order::Little, &words(offsets), strings)?;
-    let table = BtfView::parse(alloc, &little)?;
-    Ok(compare(rt, alloc, &table, strings, offsets)?)
-}
-
-/// In one of a user.
-fn compare_own(
-    rt: &impl Abort,
-    alloc: Global,
-    strings: &[u8],
-    offsets: [u32; 3],
-) -> Result<(), BtfError> {
-    let big = file(alloc, Order::Big, &words(offsets), strings)?;
-    let view = BtfView::parse(alloc, &big)?;
-    Ok(compare(rt, alloc, &Counting::new(&view), strings, offsets)?)
+    let file = file(alloc, order, &words(offsets), strings)?;
+    let view = BtfView::parse(alloc, &file)?;
+    match order {
+        Order::Little => compare(rt, alloc, &view, strings, offsets)?,
+        Order::Big => compare(rt, alloc, &Counting::new(&view), strings, offsets)?,
+    }
+    Ok(())
 }
 
 /// Three names at all offsets of a section.
@@ -145,8 +138,8 @@ fn compare_names(rt: &impl Abort, alloc: Global, strings: &[u8]) -> Result<(), B
             for third in 0..len {
                 let offsets = [first, second, third];
                 compare_owned(rt, alloc, strings, offsets)?;
-                compare_lent(rt, alloc, strings, offsets)?;
-                compare_own(rt, alloc, strings, offsets)?;
+                compare_view(rt, alloc, Order::Little, strings, offsets)?;
+                compare_view(rt, alloc, Order::Big, strings, offsets)?;
             }
         }
     }

@@ -1,6 +1,6 @@
 -- The listing of BTF types, which is written in pieces, line by line.
 use Rattle.std.proofs.Common.{◌≡◌, ◌<◌, ◌≤◌, ◌+◌, ◌++◌, ◌∙◌, ℕ, Bool, List, [], ◌∷◌, Option, Some, length, take, drop, refl, sym, ap, subst, arith, append_assoc, rules}
-use Rattle.std.specs.{Prelude.Result, Prelude.Err, Prelude.slice_get, List.flat_map, List.enumerate_from}
+use Rattle.std.specs.{Io.KnownBytes.Appends, Prelude.Result, Prelude.Err, Prelude.slice_get, List.flat_map, List.enumerate_from}
 use Rattle.std.proofs.{lemmas.List.take-append-drop, lemmas.List.take_all, lemmas.List.Concat.flat_map-append, KnownBytes.Appends-nil}
 use Rattle.btf_raw.specs.declared.cause.BtfFault.{BtfFault}
 use Rattle.btf_types.specs.{Values.TypeHead, Values.TypeItem, Values.TypeRecord, Denotes.Denotes, Faults.IsFirst, tables.TableWords.record_at}
@@ -9,9 +9,9 @@ use Rattle.bpf_text.proofs.BtfLemmas.BtfTextLemmas.{item_shown, type_shown}
 use Rattle.bpfcanon.specs.declared.job.Job.{Job}
 use Rattle.bpfcanon.specs.declared.outcome.Outcome.TheVariants as ends
 use Rattle.bpfcanon.specs.declared.{commands.pieces.PutError.PutError, verb.Verb.TheVariants.BtfShow}
-use Rattle.bpfcanon.specs.{Devices.Change, Devices.change, commands.BtfReply.shown, commands.BtfReply.unshown, commands.Reply.limit_of}
-use Rattle.bpfcanon.specs.commands.Pieces.{Answers, Gathered, Gathers, TookText, answered, end_of_pieces, refused}
-use Rattle.bpfcanon.proofs.CommandsLemmas.PiecesLemmas.{gathered_more, gathers_front, gathers_handed, gathers_then, pieces_end, puts_then}
+use Rattle.bpfcanon.specs.{Devices.Change, Devices.IsHealthy, Devices.change, commands.Errors.put_end, commands.BtfReply.shown, commands.BtfReply.unshown, commands.Reply.limit_of}
+use Rattle.bpfcanon.specs.commands.Pieces.{Answers, Gathered, Gathers, Stopped, TookText, answered, refused}
+use Rattle.bpfcanon.proofs.CommandsLemmas.PiecesLemmas.{gathered_more, gathers_front, gathers_handed, gathers_then, pieces_stopped, puts_then}
 
 -- ---- the items of a type
 
@@ -102,16 +102,20 @@ types_put a b c f g h held v i r done p q =
 
 -- ---- how btf-show ends
 
-pub btf_ended : (j : Job) (input : List ℕ) (sink : Change) (v : List TypeRecord) (r : Result (Unit {0}) PutError) → j.verb ≡ BtfShow → length input ≤ limit_of BtfShow
-    → Denotes input v → TookText sink (text_of v) r → Answers j input sink (end_of_pieces r)
-btf_ended j input sink v r show within types put = pieces_end j input (text_of v) sink r (rw show refl) (rw show (shown v within types)) put
+pub btf_done : (j : Job) (input : List ℕ) (sink : Change) (v : List TypeRecord) → j.verb ≡ BtfShow → length input ≤ limit_of BtfShow
+    → Denotes input v → Appends sink.old sink.new (text_of v) × IsHealthy sink → Answers j input sink ends.Done
+btf_done j input sink v show within types put = answered ends.Done (text_of v) (rw show (shown v within types)) put.0 put.1
+
+pub btf_stopped : (j : Job) (input : List ℕ) (sink : Change) (v : List TypeRecord) (e : PutError) → j.verb ≡ BtfShow → length input ≤ limit_of BtfShow
+    → Denotes input v → Stopped sink (text_of v) e → Answers j input sink (put_end e)
+btf_stopped j input sink v e show within types put = pieces_stopped j input (text_of v) sink e (rw show refl) (rw show (shown v within types)) put
 
 pub btf_fault : (j : Job) (input : List ℕ) (a : Option (List ℕ)) (f : ℕ) (fault : BtfFault) → j.verb ≡ BtfShow → length input ≤ limit_of BtfShow
     → IsFirst input fault → Answers j input (change a a f f) (ends.BtfFault fault)
 btf_fault j input a f fault show within first = answered (ends.BtfFault fault) [] (rw show (unshown fault within first)) (Appends-nil a) refl
 
 -- what the search cites of the ends of btf-show
-pub ruleset show_ends = (btf_fault, btf_ended, refused)
+pub ruleset show_ends = (btf_fault, btf_done, btf_stopped, refused)
 
 -- and of the lines of a type
 pub ruleset record_lines = (record_stopped, record_put, gathers_handed)

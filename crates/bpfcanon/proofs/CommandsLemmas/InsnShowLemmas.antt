@@ -1,6 +1,6 @@
 -- The listing of instructions, which is written in pieces, line by line.
 use Rattle.std.proofs.Common.{◌≡◌, ◌<◌, ◌≤◌, ◌+◌, ◌-◌, ◌++◌, ◌∙◌, ℕ, List, [], ◌∷◌, Option, length, take, drop, codes, refl, sym, ap, subst, arith, append_assoc, length-append, length-drop, All}
-use Rattle.std.specs.{Prelude.Result, Prelude.Err, Result.IsErrAnd}
+use Rattle.std.specs.{Prelude.Result, Prelude.Err, Result.IsErrAnd, Io.KnownBytes.Appends}
 use Rattle.std.proofs.lemmas.List.{append-nil, drop-drop, flat_map_more, take_all, Concat.flat_map-append, Elements.All-head, Elements.All-tail}
 use Rattle.std.proofs.{Math.Seq.drop-append_seam, KnownBytes.Appends-nil}
 use Rattle.bpf_words.specs.declared.Order.{Order}
@@ -8,11 +8,11 @@ use Rattle.bpf_insn.specs.{declared.insn.Insn.Insn, declared.fault.SlotFault.Slo
 use Rattle.bpf_insn.specs.{Table.IsInsn, Spelling.InsnFile, Spelling.file_of, Spelling.spelling}
 use Rattle.bpf_insn.proofs.FileLaws.{at_least_a_slot, begins_once}
 use Rattle.bpf_text.specs.insn.Lines.{line_of, listing_of}
-use Rattle.bpfcanon.specs.declared.{job.Job.Job, verb.Verb.TheVariants.InsnShow, outcome.Outcome.TheVariants.Fault}
+use Rattle.bpfcanon.specs.declared.{job.Job.Job, verb.Verb.TheVariants.InsnShow, outcome.Outcome.TheVariants.Done, outcome.Outcome.TheVariants.Fault}
 use Rattle.bpfcanon.specs.declared.commands.pieces.PutError.{PutError, TheVariants.Memory}
-use Rattle.bpfcanon.specs.{Devices.Change, Devices.change, commands.Reply.limit_of, commands.Reply.shown, commands.Reply.unshown}
-use Rattle.bpfcanon.specs.commands.Pieces.{Answers, Gathered, Gathers, Stopped, TookText, answered, end_of_pieces}
-use Rattle.bpfcanon.proofs.CommandsLemmas.PiecesLemmas.{front_more, gathered_more, gathered_none, gathers_front, gathers_then, pieces_end, puts_handed, puts_then}
+use Rattle.bpfcanon.specs.{Devices.Change, Devices.IsHealthy, Devices.change, commands.Errors.put_end, commands.Reply.limit_of, commands.Reply.shown, commands.Reply.unshown}
+use Rattle.bpfcanon.specs.commands.Pieces.{Answers, Gathered, Gathers, Stopped, TookText, answered}
+use Rattle.bpfcanon.proofs.CommandsLemmas.PiecesLemmas.{front_more, gathered_more, gathered_none, gathers_front, gathers_then, pieces_stopped, puts_handed, puts_then}
 
 -- the lines of the instructions before an offset are gathered, and those of the others follow
 pub record Listed (order : Order) (input : List ℕ) (at : ℕ) (sink : Change) (piece : List ℕ) : Type 0 where
@@ -138,10 +138,14 @@ pub show_fault : (j : Job) (input : List ℕ) (a : Option (List ℕ)) (f : ℕ) 
     → IsInsnFault j.order input fault → Answers j input (change a a f f) (Fault fault)
 show_fault j input a f fault show within at_fault = answered (Fault fault) [] (rw show (unshown fault within at_fault)) (Appends-nil a) refl
 
-pub show_ended : (j : Job) (input : List ℕ) (sink : Change) (r : Result (Unit {0}) PutError) → j.verb ≡ InsnShow → length input ≤ limit_of InsnShow
-    → (l : List Insn) × (InsnFile j.order input l × TookText sink (listing_of l) r) → Answers j input sink (end_of_pieces r)
-show_ended j input sink r show within put =
-    pieces_end j input (listing_of put.0) sink r (rw show refl) (rw show (shown put.0 within put.1.0)) put.1.1
+pub show_done : (j : Job) (input : List ℕ) (sink : Change) → j.verb ≡ InsnShow → length input ≤ limit_of InsnShow
+    → (l : List Insn) × (InsnFile j.order input l × (Appends sink.old sink.new (listing_of l) × IsHealthy sink)) → Answers j input sink Done
+show_done j input sink show within put = answered Done (listing_of put.0) (rw show (shown put.0 within put.1.0)) put.1.1.0 put.1.1.1
+
+pub show_stopped : (j : Job) (input : List ℕ) (sink : Change) (e : PutError) → j.verb ≡ InsnShow → length input ≤ limit_of InsnShow
+    → (l : List Insn) × (InsnFile j.order input l × Stopped sink (listing_of l) e) → Answers j input sink (put_end e)
+show_stopped j input sink e show within put =
+    pieces_stopped j input (listing_of put.0) sink e (rw show refl) (rw show (shown put.0 within put.1.0)) put.1.1
 
 -- what the search cites of the ends of insn-show
-pub ruleset show_ends = (show_fault, show_ended)
+pub ruleset show_ends = (show_fault, show_done, show_stopped)

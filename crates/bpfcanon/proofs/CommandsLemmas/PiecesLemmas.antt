@@ -6,7 +6,8 @@ use Rattle.std.proofs.Math.Seq.{take-append-add, take-append_seam}
 use Rattle.bpfcanon.specs.declared.{job.Job.Job, outcome.Outcome.Outcome, outcome.Outcome.TheVariants.Done}
 use Rattle.bpfcanon.specs.declared.commands.pieces.PutError.{PutError, TheVariants.WriteFailed, TheVariants.Memory}
 use Rattle.bpfcanon.specs.{Devices.Change, Devices.change, commands.Reply.IsReply, commands.Reply.in_pieces}
-use Rattle.bpfcanon.specs.commands.Pieces.{Answers, EndsEmpty, Gathered, Gathers, Stopped, TookText, answered, end_of_pieces, refused, refused_amid, unwritten}
+use Rattle.bpfcanon.specs.commands.{Errors.put_end}
+use Rattle.bpfcanon.specs.commands.Pieces.{Answers, EndsEmpty, Gathered, Gathers, Stopped, TookText, answered, refused, refused_amid, unwritten}
 
 module _ (a b c : Option (List ℕ)) (f g h : ℕ) where
   -- more output, a part of which went to the sink
@@ -76,12 +77,11 @@ front_more a b f g held text more some p =
     let front : take (length p.taken) (text ++ more) ≡ p.taken = ap (take (length p.taken)) whole ∙ take-append_seam p.taken (held ++ more) in
     grind (arith, length-append)
 
--- the job of a command that wrote its output in pieces ends with it
-pub pieces_end : (j : Job) (input output : List ℕ) (sink : Change) (r : Result (Unit {0}) PutError) → in_pieces j.verb ≡ true → IsReply j.verb j input Done output
-    → TookText sink output r → Answers j input sink (end_of_pieces r)
-pieces_end j input output sink (Ok done) pieces reply put = answered Done output reply put.0 put.1
-pieces_end j input output sink (Err WriteFailed) pieces reply put = unwritten Done output reply put
-pieces_end j input output sink (Err Memory) pieces reply put = refused_amid Done output pieces reply put
+-- the job of a command that couldn't write all pieces of its output
+pub pieces_stopped : (j : Job) (input output : List ℕ) (sink : Change) (e : PutError) → in_pieces j.verb ≡ true → IsReply j.verb j input Done output
+    → Stopped sink output e → Answers j input sink (put_end e)
+pieces_stopped j input output sink WriteFailed pieces reply put = unwritten Done output reply put
+pieces_stopped j input output sink Memory pieces reply put = refused_amid Done output pieces reply put
 
 -- the job of a command ends without output
 pub empty_end : (j : Job) (input : List ℕ) (a : Option (List ℕ)) (f : ℕ) (outcome : Outcome) → EndsEmpty (IsReply j.verb j input) outcome

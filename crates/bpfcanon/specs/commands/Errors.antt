@@ -6,9 +6,11 @@ use Rattle.bpf_text.specs.declared.insn.fault.ListError.TheVariants as list
 use Rattle.btf_raw.specs.declared.cause.BtfFault.{BtfFault}
 use Rattle.btf_types.specs.declared.error.BtfError.{BtfError}
 use Rattle.btf_types.specs.declared.error.BtfError.TheVariants as btf
-use Rattle.bpf_canon.specs.declared.{device.ReadError.ReadError, engine.SideError.SideError}
-use Rattle.bpf_canon.specs.declared.device.ReadError.TheVariants as read
+use Rattle.bpf_canon.specs.declared.{device.source.ReadError.ReadError, engine.SideError.SideError}
+use Rattle.bpf_canon.specs.declared.device.source.ReadError.TheVariants as read
 use Rattle.bpf_canon.specs.declared.engine.SideError.TheVariants as side
+use Rattle.bpfcanon.specs.declared.commands.pieces.PutError.{PutError}
+use Rattle.bpfcanon.specs.declared.commands.pieces.PutError.TheVariants as put
 use Rattle.bpfcanon.specs.declared.outcome.Outcome.{Outcome}
 use Rattle.bpfcanon.specs.declared.outcome.Outcome.TheVariants as ends
 
@@ -17,6 +19,11 @@ abbrev pub read_end : ReadError → Outcome
 read_end read.TooLong = ends.TooLong
 read_end read.ReadFailed = ends.ReadFailed
 read_end read.Memory = ends.Memory
+
+-- the output couldn't be written to its end
+abbrev pub put_end : PutError → Outcome
+put_end put.WriteFailed = ends.WriteFailed
+put_end put.Memory = ends.Memory
 
 -- the listing couldn't be read
 abbrev pub listing_end : ListError → Outcome

@@ -58,12 +58,6 @@ abbrev pub Gathers : Change → List ℕ → List ℕ → Result (Unit {0}) PutE
 Gathers sink held text (Ok done) = Gathered sink held text
 Gathers sink held text (Err e) = Stopped sink text e
 
--- the outcome of a command that wrote its output in pieces
-abbrev pub end_of_pieces : Result (Unit {0}) PutError → Outcome
-end_of_pieces (Ok done) = ends.Done
-end_of_pieces (Err WriteFailed) = ends.WriteFailed
-end_of_pieces (Err Memory) = ends.Memory
-
 -- the outcome of a job with a complete input, by the part of the reply that the sink received
 pub data Answers (j : Job) (input : List ℕ) (sink : Change) : Outcome → Type 0 where
   -- the sink received the output

@@ -15,7 +15,7 @@ ghost use Rattle.bpfcanon.specs.{declared.verb.Verb.TheVariants.BtfShow, Devices
 ghost use Rattle.bpfcanon.specs.commands.{Pieces.Answers, Pieces.Gathers, Pieces.TookText};
 ghost use Rattle.bpfcanon.specs.commands.Reply.{limit_of};
 
-use crate::commands::pieces::{PutError, end_of_pieces, put_long_piece, put_piece};
+use crate::commands::pieces::{PutError, put_long_piece, put_piece};
 use crate::job::Job;
 use crate::outcome::Outcome;
 use bpf_canon::ByteSink;
@@ -171,8 +171,12 @@ pub fn put_btf_show<A: Allocator + Copy, W: ByteSink>(
     requires sink { W.failures sink.old < u64.MAX }
     ensures { Answers job input.now (sink_change W.ByteSink sink.old sink.new) result }
 {
-    match BtfView::parse(alloc, input) {
-        Ok(table) => end_of_pieces(put_types(alloc, &table, sink)),
+    let table = match BtfView::parse(alloc, input) {
+        Ok(table) => table,
+        Err(error) => return Outcome::from(error),
+    };
+    match put_types(alloc, &table, sink) {
+        Ok(()) => Outcome::Done,
         Err(error) => Outcome::from(error),
     }
 }

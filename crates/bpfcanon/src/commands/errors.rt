@@ -6,8 +6,9 @@
 ghost use Rattle.std.specs.Prelude.{◌≡◌};
 ghost use Rattle.bpfcanon.specs.declared.outcome.Outcome.TheVariants.{Fault, Memory};
 ghost use Rattle.bpfcanon.specs.commands.Errors.{btf_end, btf_side_end, insn_side_end};
-ghost use Rattle.bpfcanon.specs.commands.Errors.{listing_end, read_end};
+ghost use Rattle.bpfcanon.specs.commands.Errors.{listing_end, put_end, read_end};
 
+use crate::commands::pieces::PutError;
 use crate::outcome::Outcome;
 use bpf_canon::{ReadError, SideError};
 use bpf_insn::SlotFault;
@@ -21,6 +22,18 @@ impl From<AllocError> for Outcome {
 
     fn from(_error: AllocError) -> Outcome {
         Outcome::Memory
+    }
+}
+
+/// The output was written in pieces, and is incomplete.
+impl From<PutError> for Outcome {
+    ghost from_gives = { λ error outcome. outcome ≡ put_end error };
+
+    fn from(error: PutError) -> Outcome {
+        match error {
+            PutError::WriteFailed => Outcome::WriteFailed,
+            PutError::Memory => Outcome::Memory,
+        }
     }
 }
 

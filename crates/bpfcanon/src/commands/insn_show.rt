@@ -9,7 +9,7 @@ ghost use Rattle.bpf_text.specs.insn.Lines.{listing_of};
 ghost use Rattle.bpfcanon.specs.{declared.verb.Verb.TheVariants.InsnShow, Devices.sink_change};
 ghost use Rattle.bpfcanon.specs.commands.{Pieces.Answers, Pieces.TookText, Reply.limit_of};
 
-use crate::commands::pieces::{PutError, end_of_pieces, put_long_piece, put_piece};
+use crate::commands::pieces::{PutError, put_long_piece, put_piece};
 use crate::job::Job;
 use crate::outcome::Outcome;
 use bpf_canon::{ByteSink, first_fault};
@@ -60,8 +60,11 @@ pub fn put_insn_show<A: Allocator, W: ByteSink>(
     requires sink { W.failures sink.old < u64.MAX }
     ensures { Answers job input.now (sink_change W.ByteSink sink.old sink.new) result }
 {
-    match first_fault(job.order, input) {
-        Some(fault) => Outcome::Fault(fault),
-        None => end_of_pieces(put_listing(alloc, job.order, input, sink)),
+    if let Some(fault) = first_fault(job.order, input) {
+        return Outcome::from(fault);
+    }
+    match put_listing(alloc, job.order, input, sink) {
+        Ok(()) => Outcome::Done,
+        Err(error) => Outcome::from(error),
     }
 }

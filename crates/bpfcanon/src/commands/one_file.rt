@@ -12,7 +12,7 @@ ghost use Rattle.bpfcanon.specs.commands.Reply.{IsGroupsReply, IsReadReply, limi
 use crate::outcome::Outcome;
 use bpf_insn::{Group, GroupSet, Order, groups_in};
 use bpf_text::read_listing_bytes;
-use btf_types::{BtfView, TypeTable};
+use btf_types::CheckedFile;
 use itoa::Buffer;
 use std::alloc::{AllocError, Allocator};
 
@@ -74,6 +74,6 @@ pub fn btf_check_reply<A: Allocator + Copy>(alloc: A, input: &[u8]) -> Result<Ve
     requires { length input.now ≤ limit_of BtfCheck }
     ensures { IsOutput (IsBtfCheckReply (limit_of BtfCheck) input.now) result }
 {
-    let table = BtfView::parse(alloc, input)?;
-    Ok(count_line(alloc, table.count())?)
+    let file = CheckedFile::check(alloc, input)?;
+    Ok(count_line(alloc, file.count())?)
 }

@@ -10,9 +10,7 @@ ghost use Rattle.std.specs.Prelude.{◌≡◌, ◌<◌, [], length, IfErr, OnOk}
 ghost use Rattle.bpfcanon.specs.declared.commands.pieces.PutError.TheVariants.{Memory, WriteFailed};
 ghost use Rattle.bpfcanon.specs.Devices.{sink_change};
 ghost use Rattle.bpfcanon.specs.commands.Pieces.{Gathers, TookText};
-ghost use Rattle.bpfcanon.specs.commands.Pieces as spec;
 
-use crate::outcome::Outcome;
 use bpf_canon::{ByteSink, put_all};
 use std::alloc::{AllocError, Allocator};
 
@@ -30,17 +28,6 @@ impl From<AllocError> for PutError {
 
     fn from(_error: AllocError) -> PutError {
         PutError::Memory
-    }
-}
-
-/// The outcome of a command that wrote its output in pieces.
-pub fn end_of_pieces(put: Result<(), PutError>) -> Outcome
-    ensures { result ≡ spec.end_of_pieces put }
-{
-    match put {
-        Ok(()) => Outcome::Done,
-        Err(PutError::WriteFailed) => Outcome::WriteFailed,
-        Err(PutError::Memory) => Outcome::Memory,
     }
 }
 

@@ -26,6 +26,15 @@ pub const STRUCT_TEXT: &[u8] = b"[1] int \"int\" size=4 encoding=signed offset=0
 pub const UNKNOWN_TYPE: &[u8] =
     b"\x9f\xeb\x01\0\x18\0\0\0\0\0\0\0\x0c\0\0\0\x0c\0\0\0\x01\0\0\0\0\0\0\0\0\0\0\x02\x02\0\0\0\0";
 
+/// struct point { int x; int y; }, in a big-endian file.
+pub fn point() -> &'static [u8] {
+    b"\xeb\x9f\x01\0\0\0\0\x18\0\0\0\0\0\0\0\x34\0\0\0\x34\0\0\0\x0f\
+    \0\0\0\x01\x01\0\0\0\0\0\0\x04\x01\0\0\x20\
+    \0\0\0\x05\x04\0\0\x02\0\0\0\x08\
+    \0\0\0\x0b\0\0\0\x01\0\0\0\0\0\0\0\x0d\0\0\0\x01\0\0\0\x20\
+    \0int\0point\0x\0y\0"
+}
+
 /// A file and its listing.
 #[derive(Drop)]
 pub struct Shown {
@@ -80,11 +89,13 @@ pub fn named(alloc: Global, words: &[u32], name: &[u8]) -> Result<Vec<u8>, Alloc
     Ok(file)
 }
 
-/// These bytes, `count` times one after another.
-pub fn repeated(alloc: Global, bytes: &[u8], count: usize) -> Result<Vec<u8>, AllocError> {
+/// Parts one after another, each as often as its number says.
+pub fn joined(alloc: Global, parts: &[(&[u8], usize)]) -> Result<Vec<u8>, AllocError> {
     let mut all = Vec::new(alloc);
-    for _ in 0..count {
-        all.extend_from_slice(bytes)?;
+    for (part, count) in parts {
+        for _ in 0..*count {
+            all.extend_from_slice(part)?;
+        }
     }
     Ok(all)
 }

@@ -1,5 +1,6 @@
 //! The traits and conversions that a Rust program expects of the libraries, each used once.
 
+use super::btf_files::point;
 use super::expect::{equal, equal_bytes, holds};
 use bpf_canon::{
     ByteSource, InsnFeed, MemSink, ReadError, ReaderSource, RunCause, SideError, WriterSink,
@@ -16,14 +17,7 @@ use std::fmt::Debug;
 use std::process::Abort;
 use std::test::Fail;
 
-/// struct point { int x; int y; }, in a big-endian file.
-const POINT: &[u8] = b"\xeb\x9f\x01\0\0\0\0\x18\0\0\0\0\0\0\0\x34\0\0\0\x34\0\0\0\x0f\
-    \0\0\0\x01\x01\0\0\0\0\0\0\x04\x01\0\0\x20\
-    \0\0\0\x05\x04\0\0\x02\0\0\0\x08\
-    \0\0\0\x0b\0\0\0\x01\0\0\0\0\0\0\0\x0d\0\0\0\x01\0\0\0\x20\
-    \0int\0point\0x\0y\0";
-
-/// Its second type, and the last member of that.
+/// The second type of [`point`], and the last member of that.
 const POINT_HEAD: Head<'static> = Head::KStruct {
     name: "point",
     size: 8,
@@ -106,6 +100,11 @@ fn errors_are_made_by_the_question_mark(rt: HostRuntime) -> Result<(), Fail> {
         &(true, true, true, true),
         &"faults",
     );
+    Ok(())
+}
+
+#[test]
+fn errors_of_the_allocator_are_made_by_the_question_mark(rt: HostRuntime) -> Result<(), Fail> {
     let made = [
         byte_on_heap::<InsnError>(rt.alloc()).is_ok(),
         byte_on_heap::<BtfError>(rt.alloc()).is_ok(),
@@ -137,11 +136,16 @@ fn faults_are_errors_with_a_text(rt: HostRuntime) -> Result<(), Fail> {
 }
 
 #[test]
-fn values_have_names_and_an_order(rt: HostRuntime) -> Result<(), Fail> {
+fn values_have_names(rt: HostRuntime) -> Result<(), Fail> {
     let order: Order = "big".parse()?;
     let reg = Reg::try_from(3)?;
     let text = format!(in rt.alloc(); "{order} {reg} {}", Group::Packet)?;
     equal(&rt, &text.as_str(), &"big r3 packet", &"names");
+    Ok(())
+}
+
+#[test]
+fn causes_are_ordered(rt: HostRuntime) -> Result<(), Fail> {
     let mut ordered = BTreeSet::new(rt.alloc());
     ordered.insert(SlotCause::Src)?;
     ordered.insert(SlotCause::Opcode)?;
@@ -151,6 +155,11 @@ fn values_have_names_and_an_order(rt: HostRuntime) -> Result<(), Fail> {
         &Some(&SlotCause::Opcode),
         &"the first cause",
     );
+    Ok(())
+}
+
+#[test]
+fn causes_are_hashed(rt: HostRuntime) -> Result<(), Fail> {
     let mut hashed = HashSet::new(rt.alloc());
     hashed.insert(BtfCause::Magic)?;
     holds(&rt, hashed.contains(&BtfCause::Magic), &"a cause in a set");
@@ -194,7 +203,7 @@ fn lens_of_types(alloc: Global, types: &Btf) -> Result<Vec<usize>, AllocError> {
 
 #[test]
 fn views_are_collections(rt: HostRuntime) -> Result<(), Fail> {
-    let view = BtfView::parse(rt.alloc(), POINT)?;
+    let view = BtfView::parse(rt.alloc(), point())?;
     let lens = lens_of_view(rt.alloc(), &view)?;
     equal(&rt, &lens.as_slice(), &&[0, 2][..], &"numbers of items");
     equal(&rt, &count_of(&&view), &2, &"the number of types");
@@ -203,7 +212,7 @@ fn views_are_collections(rt: HostRuntime) -> Result<(), Fail> {
 
 #[test]
 fn owned_tables_are_collections(rt: HostRuntime) -> Result<(), Fail> {
-    let types = Btf::parse(rt.alloc(), POINT)?;
+    let types = Btf::parse(rt.alloc(), point())?;
     let lens = lens_of_types(rt.alloc(), &types)?;
     equal(&rt, &lens.as_slice(), &&[0, 2][..], &"numbers of items");
     equal(
@@ -217,14 +226,14 @@ fn owned_tables_are_collections(rt: HostRuntime) -> Result<(), Fail> {
 
 #[test]
 fn heads_and_items_outlive_their_view(rt: HostRuntime) -> Result<(), Fail> {
-    let last = last_of(rt.alloc(), POINT)?;
+    let last = last_of(rt.alloc(), point())?;
     equal(&rt, &last, &Some((POINT_HEAD, POINT_Y)), &"the last type");
     Ok(())
 }
 
 #[test]
 fn records_are_read_from_both_ends(rt: HostRuntime) -> Result<(), Fail> {
-    let types = BtfView::parse(rt.alloc(), POINT)?;
+    let types = BtfView::parse(rt.alloc(), point())?;
     let mut records = types.records();
     equal(&rt, &records.len(), &2, &"the number of records");
     equal(
@@ -253,14 +262,14 @@ fn check_shown(
 
 #[test]
 fn views_are_shown(rt: HostRuntime) -> Result<(), Fail> {
-    let view = BtfView::parse(rt.alloc(), POINT)?;
+    let view = BtfView::parse(rt.alloc(), point())?;
     check_shown(&rt, rt.alloc(), &view, "BtfView { count: 2, .. }")?;
     check_shown(&rt, rt.alloc(), &view.records(), "Records { left: 2 }")
 }
 
 #[test]
 fn owned_tables_are_shown(rt: HostRuntime) -> Result<(), Fail> {
-    let types = Btf::parse(rt.alloc(), POINT)?;
+    let types = Btf::parse(rt.alloc(), point())?;
     check_shown(&rt, rt.alloc(), &types, "Btf { count: 2, .. }")?;
     check_shown(&rt, rt.alloc(), &types.items(2), "Items { left: 2 }")
 }
@@ -273,7 +282,11 @@ fn devices_are_shown(rt: HostRuntime) -> Result<(), Fail> {
     check_shown(&rt, rt.alloc(), &sink, shown)?;
     let source = ReaderSource::new(&b"a"[..]);
     let shown = "ReaderSource { reader: [97], failed_reads: 0 }";
-    check_shown(&rt, rt.alloc(), &source, shown)?;
+    check_shown(&rt, rt.alloc(), &source, shown)
+}
+
+#[test]
+fn feeds_are_shown(rt: HostRuntime) -> Result<(), Fail> {
     let feed = InsnFeed::new(Order::Little, Order::Big);
     let text = format!(in rt.alloc(); "{feed:?}")?;
     holds(
@@ -298,10 +311,9 @@ fn a_feed_goes_back(rt: HostRuntime) -> Result<(), Fail> {
     Ok(())
 }
 
-/// A source and a sink are used through a borrow. Then their owner returns the reader and the
-/// writer.
+/// A source is used through a borrow. Then its owner returns the reader.
 #[test]
-fn devices_are_borrowed(rt: HostRuntime) -> Result<(), Fail> {
+fn sources_are_borrowed(rt: HostRuntime) {
     let mut source = ReaderSource::new(MOV_EXIT);
     let mut start = [0; 5];
     equal(
@@ -311,9 +323,13 @@ fn devices_are_borrowed(rt: HostRuntime) -> Result<(), Fail> {
         &"a read",
     );
     equal_bytes(&rt, source.into_inner(), &MOV_EXIT[5..], &"the rest");
+}
+
+/// Likewise a sink, whose owner returns the writer.
+#[test]
+fn sinks_are_borrowed(rt: HostRuntime) {
     let mut out = Vec::new(rt.alloc());
     let mut sink = WriterSink::new(&mut out);
     holds(&rt, put_all(&mut &mut sink, MOV_EXIT).is_ok(), &"writes");
     equal_bytes(&rt, sink.into_inner(), MOV_EXIT, &"what was written");
-    Ok(())
 }

@@ -1,6 +1,7 @@
 //! What the example of the libraries returns.
 
-use super::expect::equal_bytes;
+use super::btf_files::point;
+use super::expect::{equal_bytes, holds};
 use super::library_example::{
     StreamError, canonical_for_big_endian, canonical_stream, member_names, tidy_listing,
 };
@@ -14,14 +15,7 @@ struct Members {
     names: &'static [u8],
 }
 
-/// struct point { int x; int y; }, in a big-endian file.
-const POINT: &[u8] = b"\xeb\x9f\x01\0\0\0\0\x18\0\0\0\0\0\0\0\x34\0\0\0\x34\0\0\0\x0f\
-    \0\0\0\x01\x01\0\0\0\0\0\0\x04\x01\0\0\x20\
-    \0\0\0\x05\x04\0\0\x02\0\0\0\x08\
-    \0\0\0\x0b\0\0\0\x01\0\0\0\0\0\0\0\x0d\0\0\0\x01\0\0\0\x20\
-    \0int\0point\0x\0y\0";
-
-/// Its canonical bytes: "int" ends "point", so it needs no string of its own.
+/// The canonical bytes of [`point`]: "int" ends "point", so it needs no string of its own.
 const CANONICAL_POINT: &[u8] = b"\xeb\x9f\x01\0\0\0\0\x18\0\0\0\0\0\0\0\x34\0\0\0\x34\0\0\0\x0b\
     \0\0\0\x03\x01\0\0\0\0\0\0\x04\x01\0\0\x20\
     \0\0\0\x01\x04\0\0\x02\0\0\0\x08\
@@ -30,18 +24,23 @@ const CANONICAL_POINT: &[u8] = b"\xeb\x9f\x01\0\0\0\0\x18\0\0\0\0\0\0\0\x34\0\0\
 
 /// The second file is little-endian and contains union { int a; }, enum e { one = 1 } and typedef int t.
 #[rattlefmt::skip]
-static MEMBERS: [Members; 2] = [
-    Members { file: POINT, names: b"x\ny\n" },
+fn member_rows() -> [Members; 2] {[
+    Members { file: point(), names: b"x\ny\n" },
     Members { file: b"\x9f\xeb\x01\0\x18\0\0\0\0\0\0\0\x48\0\0\0\x48\0\0\0\x0f\0\0\0\x01\0\0\0\0\0\0\x01\x04\0\0\0\x20\0\0\x01\0\0\0\0\x01\0\0\x05\x04\0\0\0\x05\0\0\0\x01\0\0\0\0\0\0\0\x07\0\0\0\x01\0\0\x06\x04\0\0\0\x09\0\0\0\x01\0\0\0\x0d\0\0\0\0\0\0\x08\x01\0\0\0\0int\0a\0e\0one\0t\0", names: b"a\n" },
-];
+]}
 
 #[test]
 fn the_example_reads_types(rt: HostRuntime) -> Result<(), Fail> {
-    for members in MEMBERS {
+    for members in member_rows() {
         let names = member_names(rt.alloc(), members.file)?;
         equal_bytes(&rt, names.as_bytes(), members.names, &"names");
     }
-    let canonical = canonical_for_big_endian(rt.alloc(), POINT)?;
+    Ok(())
+}
+
+#[test]
+fn the_example_writes_types(rt: HostRuntime) -> Result<(), Fail> {
+    let canonical = canonical_for_big_endian(rt.alloc(), point())?;
     equal_bytes(&rt, &canonical, CANONICAL_POINT, &"canonical bytes");
     Ok(())
 }
@@ -50,20 +49,28 @@ fn the_example_reads_types(rt: HostRuntime) -> Result<(), Fail> {
 fn the_example_reads_instructions(rt: HostRuntime) -> Result<(), Fail> {
     let listing = tidy_listing(rt.alloc(), b"mov r1, 0x10 ; sixteen\n\n  exit")?;
     equal_bytes(&rt, &listing, b"mov r1, 16\nexit\n", &"listing");
+    Ok(())
+}
 
+#[test]
+fn the_example_reads_streams(rt: HostRuntime) -> Result<(), Fail> {
     // mov r1, r2 and exit, cut inside an instruction
     let pieces: [&[u8]; 2] = [b"\xbf\x12\0\0\0", b"\0\0\0\x95\0\0\0\0\0\0\0"];
     let canonical = canonical_stream(rt.alloc(), &pieces)?;
     let expected = b"\xbf\x21\0\0\0\0\0\0\x95\0\0\0\0\0\0\0";
     equal_bytes(&rt, &canonical, expected, &"canonical bytes");
-
-    // exit, and an unknown opcode in the second piece
-    let pieces: [&[u8]; 2] = [b"\x95\0\0\0\0\0\0\0", b"\xff\0\0\0\0\0\0\0"];
-    match canonical_stream(rt.alloc(), &pieces) {
-        Err(StreamError::Insns(InsnError::Fault(fault))) => {
-            assert!(rt; fault.pos == 8 && fault.cause == SlotCause::Opcode);
-        }
-        _ => assert!(rt; false),
-    }
     Ok(())
+}
+
+/// Exit, and an unknown opcode in the second piece.
+#[test]
+fn the_example_reports_faults(rt: HostRuntime) {
+    let pieces: [&[u8]; 2] = [b"\x95\0\0\0\0\0\0\0", b"\xff\0\0\0\0\0\0\0"];
+    let is_found = match canonical_stream(rt.alloc(), &pieces) {
+        Err(StreamError::Insns(InsnError::Fault(fault))) => {
+            fault.pos == 8 && fault.cause == SlotCause::Opcode
+        }
+        _ => false,
+    };
+    holds(&rt, is_found, &"a fault");
 }

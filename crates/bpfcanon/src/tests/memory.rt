@@ -1,7 +1,7 @@
 //! Each allocation of each command is refused in turn: an arena has one free byte more each time.
 
 use super::arena::arena;
-use super::btf_files::{Shown, named, nameless, repeated};
+use super::btf_files::{Shown, joined, named, nameless};
 use super::expect::{equal, equal_bytes, holds};
 use super::memory_samples::{Sample, samples};
 use crate::job::Job;
@@ -151,26 +151,30 @@ fn check_pieces(
 
 /// 1,024 8-byte lines, for which the vector grows to 8,192 bytes, and a second piece of 8,195 bytes.
 fn two_listing_pieces(alloc: Global) -> Result<Shown, AllocError> {
-    let mut file = repeated(alloc, b"\x87\x0a\0\0\0\0\0\0", 1024)?;
-    let mut text = repeated(alloc, b"neg r10\n", 1024)?;
-    file.extend_from_slice(&repeated(alloc, b"\x95\0\0\0\0\0\0\0", 1639)?)?;
-    text.extend_from_slice(&repeated(alloc, b"exit\n", 1639)?)?;
-    Ok(Shown { file, text })
+    let file: [(&[u8], usize); 2] = [
+        (b"\x87\x0a\0\0\0\0\0\0", 1024),
+        (b"\x95\0\0\0\0\0\0\0", 1639),
+    ];
+    let text: [(&[u8], usize); 2] = [(b"neg r10\n", 1024), (b"exit\n", 1639)];
+    Ok(Shown {
+        file: joined(alloc, &file)?,
+        text: joined(alloc, &text)?,
+    })
 }
 
 /// A TYPEDEF of void whose name is 7 chunks of letters and one of control characters. The first piece is 13 bytes before the name and
 /// four chunks of letters. The second one has 14,336 bytes, for which the vector grows again.
 fn letters_and_controls(alloc: Global) -> Result<Shown, AllocError> {
-    let letters = repeated(alloc, b"n", 14_336)?;
-    let mut name = Vec::from_slice(alloc, &letters)?;
-    name.extend_from_slice(&repeated(alloc, b"\x01", 2048)?)?;
-    let mut text = Vec::from_slice(alloc, b"[1] typedef \"")?;
-    text.extend_from_slice(&letters)?;
-    text.extend_from_slice(&repeated(alloc, b"\\x01", 2048)?)?;
-    text.extend_from_slice(b"\" type=0\n")?;
+    let name: [(&[u8], usize); 2] = [(b"n", 14_336), (b"\x01", 2048)];
+    let text: [(&[u8], usize); 4] = [
+        (b"[1] typedef \"", 1),
+        (b"n", 14_336),
+        (b"\\x01", 2048),
+        (b"\" type=0\n", 1),
+    ];
     Ok(Shown {
-        file: named(alloc, &[1, 0x0800_0000, 0], &name)?,
-        text,
+        file: named(alloc, &[1, 0x0800_0000, 0], &joined(alloc, &name)?)?,
+        text: joined(alloc, &text)?,
     })
 }
 

@@ -3,7 +3,7 @@
 use super::expect::answered;
 use super::runner::{check_row, run, steady};
 use super::vectors::runs;
-use std::alloc::Global;
+use std::alloc::{AllocError, Global};
 use std::process::Abort;
 use std::test::Fail;
 
@@ -31,16 +31,22 @@ static CUT_FILES: [CutFile; 2] = [
     CutFile { file: b"\x9f\xeb\x01\0\x1c\0\0\0\x07\0\0\0\x10\0\0\0\0\0\0\0\x07\0\0\0\0\0\0\0\0x\0int\0\x03\0\0\0\0\0\0\x01\x04\0\0\0\x20\0\0\x01", shorter_than_its_header: 28 },
 ];
 
+/// What is reported of a file that is cut off at this length.
+fn cut_fault(alloc: Global, cut: CutFile, len: usize) -> Result<String, AllocError> {
+    let (pos, cause) = if len < 24 {
+        (len, "ShortHeader")
+    } else if len < cut.shorter_than_its_header {
+        (4, "HeaderLength")
+    } else {
+        (len, "FileLength")
+    };
+    Ok(format!(in alloc; "fault {pos} {cause}\n")?)
+}
+
 /// Cuts a file off after each of its bytes but the last.
 fn check_cut_file(rt: &impl Abort, alloc: Global, cut: CutFile) -> Result<(), Fail> {
     for len in 0..cut.file.len() {
-        let fault = if len < 24 {
-            format!(in alloc; "fault {len} ShortHeader\n")?
-        } else if len < cut.shorter_than_its_header {
-            String::from_str(alloc, "fault 4 HeaderLength\n")?
-        } else {
-            format!(in alloc; "fault {len} FileLength\n")?
-        };
+        let fault = cut_fault(alloc, cut, len)?;
         let ran = run(alloc, "btf-check", &cut.file[..len], steady(4096))?;
         answered(rt, &ran, 1, b"", fault.as_bytes(), &len);
     }

@@ -9,11 +9,11 @@ use Rattle.btf_raw.specs.KindNumbers.{STRUCT, UNION, FUNC, FUNC_PROTO, VAR, TYPE
 use Rattle.btf_raw.specs.{Cause.HasNone, Kinds.one_of, Kinds.has_target, Kinds.is_struct, Header.HasNulEnds, Header.TYPES_LIMIT, Header.STRINGS_LIMIT}
 use Rattle.btf_raw.specs.Frames.{IsFrame, bytes_of, section_of, kind, vlen, third_word}
 use Rattle.btf_raw.proofs.Frames.{length-bytes_of}
-use Rattle.btf_types.specs.{Spelling.Spells, Reading.component_of, Reading.record_of, Reading.frames_at}
-use Rattle.btf_types.specs.judge.Checks.{TypeFacts, type_at, no_type, target_fits, component_fits}
+use Rattle.btf_types.specs.{Spelling.Spells, Reading.component_of, Reading.record_of, Reading.frames_at, Sections.words_at}
+use Rattle.btf_types.specs.checks.Numbers.{TypeFacts, type_at, no_type, target_fits, component_fits}
 use Rattle.btf_types.specs.Good.{facts, IsGoodRecord, IsGood, record_size}
-use Rattle.btf_types.specs.judge.{FieldFaults.FieldFault, FieldFaults.frame_facts, RecordFaults.IsFaultless}
-use Rattle.btf_types.specs.tables.TableInvariant.{IsFramed, FieldsAreRight}
+use Rattle.btf_types.specs.checks.{FieldFaults.FieldFault, FieldFaults.frame_facts, RecordFaults.IsFaultless}
+use Rattle.btf_types.specs.tables.TableInvariant.{IsFramed, IsTable}
 use Rattle.btf_types.proofs.{KindCases.one_among, StringLemmas.SpelledNames.spelled_table}
 use Rattle.btf_types.proofs.FaultlessLemmas.FaultlessWords.{type_is, component_is}
 use Rattle.btf_types.proofs.FaultlessLemmas.FaultlessRecords.{frame_spells, frame_good, facts_same, size_same}
@@ -156,13 +156,16 @@ module _ (strings : List ℕ) (frames : List (List ℕ)) (ends : HasNulEnds stri
     texts = spelled_table STRINGS_LIMIT strings (map (record_of strings) frames) frames ends short frames_spell;
   }
 
--- If no field of the frames at these offsets has a fault, they spell the records that they decode to, and these are good.
+-- If no field of the frames at these offsets has a fault, they are a table.
 pub fields_are_right : (o : Order) (types strings places : List ℕ) → IsFramed o types places → HasNulEnds strings → length strings ≤ STRINGS_LIMIT → length types ≤ TYPES_LIMIT
-    → HasNone (FieldFault strings (frames_at o types places)) → FieldsAreRight o types strings places
+    → HasNone (FieldFault strings (frames_at o types places)) → IsTable (words_at o types strings places)
 fields_are_right o types strings places framed ends short few none =
     let frames = frames_at o types places in
     let whole = framed.frames.whole in
     record {
+      short = short;
+      ends = ends;
+      each = framed.frames.each;
       none = none;
       spelled = frames_spell strings frames ends framed.frames.each none;
       good = frames_good strings frames ends framed.frames.each none o short (subst (λ (t : List ℕ). length t ≤ TYPES_LIMIT) whole few);

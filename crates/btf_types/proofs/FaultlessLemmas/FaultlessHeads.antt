@@ -7,9 +7,9 @@ use Rattle.btf_raw.specs.{KindNumbers.INT, KindNumbers.ARRAY, KindNumbers.FUNC, 
 use Rattle.btf_raw.specs.Kinds.{one_of, has_flag, has_vlen, fixed_words, item_words, has_target, has_no_name}
 use Rattle.btf_types.specs.{Values.TypeItem, Names.head_name, Good.HeadIsGood, Good.head_targets}
 use Rattle.btf_types.specs.Spelling.{kind_number, head_third, FlagSpells, linkage_number, encoding_number, component_word, record_vlen, head_tail, HeadInRange}
-use Rattle.btf_types.specs.judge.Checks.{TypeFacts, size_fits, bits_fit, component_fits}
+use Rattle.btf_types.specs.checks.Numbers.{TypeFacts, size_fits, bits_fit, component_fits}
 use Rattle.btf_types.specs.Good as good
-use Rattle.btf_types.specs.judge.FieldFaults.{int_unused, int_encoding, int_offset, int_bits}
+use Rattle.btf_types.specs.checks.FieldFaults.{int_unused, int_encoding, int_offset, int_bits}
 use Rattle.btf_types.specs.Reading.{head_from, linkage_of, encoding_of, component_of, is_set}
 use Rattle.btf_types.proofs.KindCases.{one_among, KindIs, IsInt, IsPtr, IsArray, IsStruct, IsUnion, IsEnum, IsFwd, IsTypedef, IsVolatile, IsConst, IsRestrict, IsFunc, IsFuncProto, IsVar, IsDatasec, IsDeclTag, IsTypeTag, IsEnum64}
 

@@ -7,9 +7,9 @@ use Rattle.btf_raw.specs.KindNumbers.{STRUCT, UNION, ENUM, FUNC_PROTO, DATASEC, 
 use Rattle.btf_raw.specs.{Header.HasNulEnds, Names.NameAt, Kinds.item_words, Kinds.is_struct, Kinds.has_item_names}
 use Rattle.btf_raw.specs.Frames.{IsFrame, third_word, kind, vlen, flag}
 use Rattle.btf_types.specs.Values.{TypeHead, TypeItem, Member, EnumValue, Value64, Param, Entry}
-use Rattle.btf_types.specs.{Spelling.MemberWord, Spelling.ItemSpells, Spelling.ItemInRange, judge.Checks.TypeFacts, judge.RecordFaults.IsFaultless}
+use Rattle.btf_types.specs.{Spelling.MemberWord, Spelling.ItemSpells, Spelling.ItemInRange, checks.Numbers.TypeFacts, checks.RecordFaults.IsFaultless}
 use Rattle.btf_types.specs.Good.{ItemOf, item_targets, TargetIsGood, MemberIsGood}
-use Rattle.btf_types.specs.judge.FieldFaults.{IsTypeField, HasBitFields, bit_offset, width}
+use Rattle.btf_types.specs.checks.FieldFaults.{IsTypeField, HasBitFields, bit_offset, width}
 use Rattle.btf_types.specs.Reading.{text_from, head_from, head_of, item_from, item_of}
 use Rattle.btf_types.proofs.KindCases.{KindIs, IsStruct, IsUnion, IsEnum, IsFuncProto, IsDatasec, IsEnum64}
 use Rattle.btf_types.proofs.{FaultlessLemmas.FaultlessHeads.count_of, TabulateSteps.two_at, TabulateSteps.three_at}

@@ -8,11 +8,11 @@ use Rattle.btf_raw.specs.{Header.HasNulEnds, Names.NameAt, Kinds.fixed_words, Ki
 use Rattle.btf_raw.specs.Frames.{IsFrame, name_word, info_word, third_word, kind, vlen, flag}
 use Rattle.btf_types.specs.{Values.TypeItem, Names.IsName, Names.head_name, Names.record_names}
 use Rattle.btf_types.specs.Spelling.{kind_number, head_third, record_vlen, head_tail, info, ItemSpells, Spells, HeadInRange, ItemInRange}
-use Rattle.btf_types.specs.judge.{Checks.TypeFacts, Checks.size_fits, RecordFaults.IsFaultless}
+use Rattle.btf_types.specs.checks.{Numbers.TypeFacts, Numbers.size_fits, RecordFaults.IsFaultless}
 use Rattle.btf_types.specs.Good.{TargetIsGood, MemberIsGood, ItemOf, item_targets, head_targets, has_bit_fields, has_width, facts_of, IsGoodRecord, record_size}
-use Rattle.btf_types.specs.judge.FieldFaults.{HasBitFields, frame_facts, width}
+use Rattle.btf_types.specs.checks.FieldFaults.{HasBitFields, frame_facts, width}
 use Rattle.btf_types.specs.Reading.{text_from, component_of, head_of, item_from, item_of, item_total, record_of, tabulate}
-use Rattle.btf_types.proofs.{Lists.length-tabulate, StringLemmas.SpelledNames.record_names_there, JudgeLemmas.RecordSteps.array_end}
+use Rattle.btf_types.proofs.{Lists.length-tabulate, StringLemmas.SpelledNames.record_names_there, CheckLemmas.RecordSteps.array_end}
 use Rattle.btf_types.proofs.KindCases.{KindIs, IsInt, IsArray, IsVar, IsDeclTag, IsStruct, IsUnion, IsEnum, IsFuncProto, IsDatasec, IsEnum64}
 use Rattle.btf_types.proofs.FaultlessLemmas.FaultlessHeads.{words_after, count_of, kind_of_head, name_of_head, third_of_head, flag_of_head, tail_of_head, vlen_of_head, range_of_head, targets_of_head, good_head, size_of_count, offset_of_head, bits_of_head, count_is, room_of_items}
 use Rattle.btf_types.proofs.FaultlessLemmas.FaultlessWords.{known, room, info_is, flag_low, vlen_low, name_is, needed, unwanted, zeroed, size_is, type_is, int_is, func_linkage, var_linkage, component_is}

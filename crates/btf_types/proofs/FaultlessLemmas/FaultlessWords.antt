@@ -7,10 +7,10 @@ use Rattle.btf_raw.specs.KindNumbers.{INT, ARRAY, FWD, FUNC, VAR, DECL_TAG}
 use Rattle.btf_raw.specs.{Header.HasNulEnds, Names.TextAt, Names.NameAt}
 use Rattle.btf_raw.specs.Kinds.{one_of, kind_of, vlen_of, flag_of, unused_of, fixed_words, item_words, tail_words, needs_name, has_no_name, has_item_names}
 use Rattle.btf_raw.specs.Frames.{IsFrame, name_word, info_word, third_word, kind, vlen, flag}
-use Rattle.btf_types.specs.{Spelling.info, Good.TargetIsGood, judge.RecordFaults.IsFaultless, Reading.text_from, Reading.component_of}
-use Rattle.btf_types.specs.judge.Checks.{TypeFacts, type_at, size_fits, bits_fit, target_fits, component_fits, member_fits, member_int_fits}
-use Rattle.btf_types.specs.judge.FieldFaults.{IsTypeField, IsMemberWord, HasBitFields, bit_offset, width, int_unused, int_encoding, int_bits}
-use Rattle.btf_types.proofs.{KindCases.KindIs, KindCases.kind_is, FaultlessLemmas.FaultlessHeads.IntIsRight, JudgeLemmas.RecordSteps.fourth_end}
+use Rattle.btf_types.specs.{Spelling.info, Good.TargetIsGood, checks.RecordFaults.IsFaultless, Reading.text_from, Reading.component_of}
+use Rattle.btf_types.specs.checks.Numbers.{TypeFacts, type_at, size_fits, bits_fit, target_fits, component_fits, member_fits, member_int_fits}
+use Rattle.btf_types.specs.checks.FieldFaults.{IsTypeField, IsMemberWord, HasBitFields, bit_offset, width, int_unused, int_encoding, int_bits}
+use Rattle.btf_types.proofs.{KindCases.KindIs, KindCases.kind_is, FaultlessLemmas.FaultlessHeads.IntIsRight, CheckLemmas.RecordSteps.fourth_end}
 use Rattle.btf_types.proofs.TableLemmas.TextSteps.{decided, empty_or_not, name_there}
 
 -- the parts of info determine it

@@ -3,11 +3,11 @@ use Rattle.std.proofs.Common.{◌≡◌, ℕ, ◌+◌, ◌*◌, ◌<◌, true, f
 use Rattle.std.specs.Prelude.{IsTrue, slice_index, slice_get}
 use Rattle.btf_raw.specs.{Header.HasNulEnds, Names.NameAt, Kinds.item_words, Kinds.has_item_names}
 use Rattle.btf_raw.specs.Frames.{IsFrame, kind, vlen, flag}
-use Rattle.btf_types.specs.{judge.Checks.TypeFacts, judge.RecordFaults.IsFaultless, Values.TypeItem}
+use Rattle.btf_types.specs.{checks.Numbers.TypeFacts, checks.RecordFaults.IsFaultless, Values.TypeItem}
 use Rattle.btf_types.specs.Reading.{text_from, item_from, item_of, item_total, record_of}
 use Rattle.btf_types.proofs.KindCases.{KindIs, IsStruct, IsUnion, IsEnum, IsFuncProto, IsEnum64}
 use Rattle.btf_types.proofs.FaultlessLemmas.FaultlessWords.{known, room, item_ends, item_name_is}
-use Rattle.btf_types.proofs.{JudgeLemmas.RoleSteps.named_words, TableLemmas.TextSteps.decided, Lists.get-tabulate, FaultlessLemmas.FaultlessItems.listed}
+use Rattle.btf_types.proofs.{CheckLemmas.RoleSteps.named_words, TableLemmas.TextSteps.decided, Lists.get-tabulate, FaultlessLemmas.FaultlessItems.listed}
 
 pub item_names_there : (strings : List ℕ) (types : List TypeFacts) (frame : List ℕ) → HasNulEnds strings → IsFrame frame → IsFaultless strings types frame
     → (k : ℕ) → k < item_total frame → IsTrue (has_item_names (kind frame))

@@ -14,13 +14,13 @@ use Rattle.btf_types.specs.declared.values.Linkage.{Linkage as ItsLinkage, TheVa
 use Rattle.btf_types.specs.Values.{TypeHead, KInt, KPtr, KArray, KStruct, KUnion, KEnum, KFwd, KFunc, KFuncProto, KVar, KDatasec, KDeclTag, KEnum64, TypeItem, Member, EnumValue, Value64, Param, Entry, TypeRecord}
 use Rattle.btf_types.specs.Names.{head_name, item_name}
 use Rattle.btf_types.specs.Spelling.{kind_number, head_third, head_tail, linkage_number, encoding_number, MemberWord, ItemSpells, Spells, HeadInRange}
-use Rattle.btf_types.specs.judge.Checks.{TypeFacts, size_fits, bits_fit, component_fits, member_fits, member_int_fits}
+use Rattle.btf_types.specs.checks.Numbers.{TypeFacts, size_fits, bits_fit, component_fits, member_fits, member_int_fits}
 use Rattle.btf_types.specs.Good as good
 use Rattle.btf_types.specs.Good.{HeadIsGood, ItemOf, head_targets, item_targets, has_width, has_bit_fields, TargetIsGood, MemberIsGood, IsGoodRecord, facts_of}
-use Rattle.btf_types.specs.judge.FieldFaults.{IsNameField, IsTypeField, IsMemberWord, HasBitFields, int_unused, int_encoding, int_offset, int_bits, frame_facts, WordFault}
+use Rattle.btf_types.specs.checks.FieldFaults.{IsNameField, IsTypeField, IsMemberWord, HasBitFields, int_unused, int_encoding, int_offset, int_bits, frame_facts, WordFault}
 use Rattle.std.proofs.lemmas.Bool.{ne_eqb}
 use Rattle.btf_types.proofs.{KindCases.one_among, Spelled.vlen_from, Spelled.no_items, Members.Has-get_or, Members.any_from_Has}
-use Rattle.btf_types.proofs.JudgeLemmas.RoleSteps.{named_words, struct_size, datasec_size}
+use Rattle.btf_types.proofs.CheckLemmas.RoleSteps.{named_words, struct_size, datasec_size}
 use Rattle.btf_types.proofs.{Spelled.IsNumbers, Spelled.numbers, Denoting.tail_word}
 use Rattle.btf_types.proofs.SpelledItems.{nothing, ItemFits, item_fits}
 

@@ -8,7 +8,7 @@ use Rattle.std.proofs.Math.{ListN.get_or-append, Seq.get_or-append_seam}
 use Rattle.btf_raw.specs.{Header.HasNulEnds, Names.IsEnd, Names.NameAt}
 use Rattle.btf_raw.proofs.Texts.{TextAt-end, TextAt-unique}
 use Rattle.btf_types.specs.Reading.{text_from}
-use Rattle.btf_types.proofs.{TableLemmas.TextSteps.text_there, JudgeLemmas.Utf8Steps.text_end, JudgeLemmas.Utf8Steps.end_of_text, JudgeLemmas.Utf8Steps.byte_of_text}
+use Rattle.btf_types.proofs.{TableLemmas.TextSteps.text_there, CheckLemmas.Utf8Steps.text_end, CheckLemmas.Utf8Steps.end_of_text, CheckLemmas.Utf8Steps.byte_of_text}
 use Rattle.btf_types.specs.tables.StringEnds.{IsAmong, AreLongEndsTo, AreLongEnds}
 
 -- at most 64 bytes before an offset is a NUL, or the first byte of the section

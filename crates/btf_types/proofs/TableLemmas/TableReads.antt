@@ -1,16 +1,16 @@
 -- What a table's invariant says of one record.
-use Rattle.std.proofs.Common.{◌≡◌, ◌⊎◌, ℕ, ◌+◌, ◌*◌, ◌^◌, ◌<◌, ◌≤◌, Bool, true, false, Some, List, [], length, get_or, take, map, refl, ap, subst, ◌∙◌, inl, inr, arith}
-use Rattle.std.specs.Prelude.{slice_index, slice_get, IfSome, ◌==◌}
+use Rattle.std.proofs.Common.{◌≡◌, ◌⊎◌, ℕ, ◌+◌, ◌-◌, ◌*◌, ◌^◌, ◌<◌, ◌≤◌, Bool, true, false, Some, List, [], length, get_or, take, map, refl, ap, subst, ◌∙◌, inl, inr, arith}
+use Rattle.std.specs.Prelude.{slice_index, slice_get, unwrap_or, IfSome, ◌==◌}
 use Rattle.std.proofs.{lemmas.List.length-map, lemmas.List.get_or-map, lemmas.Bool.eqb-true, lemmas.Option.slice_get-get_or}
 use Rattle.bpf_words.specs.declared.Order.{Order}
 use Rattle.btf_raw.specs.{KindNumbers.DECL_TAG, Header.HasNulEnds, Names.NameAt, Kinds.item_words}
 use Rattle.btf_raw.specs.Frames.{IsFrame, section_of, kind, name_word}
 use Rattle.btf_raw.proofs.Texts.{TextAt-unique, TextAt-inside}
-use Rattle.btf_types.specs.{Values.TypeRecord, judge.FieldFaults.frame_facts}
+use Rattle.btf_types.specs.{Values.TypeRecord, checks.FieldFaults.frame_facts}
 use Rattle.btf_types.specs.{Spelling.Spells, Spelling.HeadInRange}
-use Rattle.btf_types.specs.tables.{TableInvariant.IsTable, PlaceWords.HasRecordAt}
+use Rattle.btf_types.specs.tables.{TableInvariant.IsChecked, PlaceWords.HasRecordAt, TableWords.record_at, TableWords.no_record}
 use Rattle.btf_types.proofs.Lists.{length-tabulate, get-map, zip_at}
-use Rattle.btf_types.proofs.{JudgeLemmas.SectionSteps.ends_inside, TableLemmas.TextSteps.text_there}
+use Rattle.btf_types.proofs.{CheckLemmas.SectionSteps.ends_inside, TableLemmas.TextSteps.text_there}
 use Rattle.btf_types.specs.Reading.{text_from, frame_at, frames_at, record_of, records_at, item_of, item_total, head_from, head_of, component_of}
 use Rattle.btf_types.proofs.FaultlessLemmas.{Faultless.faultless, ItemReads.item_names_there}
 
@@ -32,19 +32,20 @@ tag_in_range : (name frame : List ℕ) → kind frame ≡ DECL_TAG → HeadInRan
 unfolding head_from
 tag_in_range name frame tag range = let opened = rw tag at range in opened.1
 
-pub has_record_at : (o : Order) (types strings places : List ℕ) (i : ℕ) → IsTable o types strings places → i < length places → HasRecordAt o types strings (get_or places i 0)
-has_record_at o types strings places i table h =
+pub has_record_at : (o : Order) (types strings places : List ℕ) (i : ℕ) → IsChecked o types strings places → i < length places → HasRecordAt o types strings (get_or places i 0)
+has_record_at o types strings places i checked h =
+    let table = checked.table in
     let frames = frames_at o types places in
     let pos = get_or places i 0 in
     let f = frame_at o types pos in
     let inside : i < length frames = omega (arith, length-map places (frame_at o types)) in
     let frame-is : get_or frames i [] ≡ f = get_or-map (frame_at o types) places i 0 [] h in
-    let start = table.framed.starts i h in
-    let whole : length types ≡ length (section_of o frames) = ap length table.framed.frames.whole in
+    let start = checked.framed.starts i h in
+    let whole : length types ≡ length (section_of o frames) = ap length checked.framed.frames.whole in
     let room : length (section_of o (take i frames)) + 4 * length f ≤ length (section_of o frames) = rw frame-is at (ends_inside o frames i inside) in
     let spelled : Spells strings (record_of strings f) f =
     rw (get_or-map (record_of strings) frames i [] (record_of strings []) inside, frame-is) at (zip_at (Spells strings) (map (record_of strings) frames) frames i (record_of strings []) [] table.spelled (omega (arith, inside, length-map frames (record_of strings)))) in
-    let is : IsFrame f = subst (λ (g : List ℕ). IsFrame g) frame-is (table.framed.frames.each i [] inside) in
+    let is : IsFrame f = subst (λ (g : List ℕ). IsFrame g) frame-is (checked.framed.frames.each i [] inside) in
     record {
       inside = omega arith;
       reads = record {
@@ -54,15 +55,31 @@ has_record_at o types strings places i table h =
         name = name_at_word strings (record_of strings f) f table.ends spelled;
         item_names =
             let frame_there : slice_get frames i ≡ Some f = slice_get-get_or frames i [] inside ∙ ap (λ (g : List ℕ). Some g) frame-is in
-            item_names_there strings (map frame_facts frames) f table.ends is (faultless strings frames table.ends table.framed.frames.each table.none i f frame_there);
+            item_names_there strings (map frame_facts frames) f table.ends is (faultless strings frames table.ends checked.framed.frames.each table.none i f frame_there);
         component = λ tag. component_fits_word (slice_index f 3) (tag_in_range (text_from strings (name_word f)) f tag spelled.head_in_range);
       };
     }
 
-pub record_is : (o : Order) (types strings places : List ℕ) (i : ℕ) → i < length places → slice_get (records_at o types strings places) i ≡ Some (record_of strings (frame_at o types (get_or places i 0)))
-record_is o types strings places i h =
-    get-map (record_of strings) (frames_at o types places) i [] (omega (arith, length-map places (frame_at o types)))
-    ∙ ap (λ (f : List ℕ). Some (record_of strings f)) (get_or-map (frame_at o types) places i 0 [] h)
+-- what is read at the offset of the record with an ID
+pub record ReadsRecordOf (o : Order) (types strings places : List ℕ) (id : ℕ) : Type 0 where
+  pub place : id - 1 < length places
+  pub here : HasRecordAt o types strings (get_or places (id - 1) 0)
+  pub frame : slice_get (frames_at o types places) (id - 1) ≡ Some (frame_at o types (get_or places (id - 1) 0))
+  pub is : record_at (records_at o types strings places) id ≡ record_of strings (frame_at o types (get_or places (id - 1) 0))
+
+pub record_read : (o : Order) (types strings places : List ℕ) (id : ℕ) → IsChecked o types strings places → 0 < id → id ≤ length (frames_at o types places) → ReadsRecordOf o types strings places id
+record_read o types strings places id checked some low =
+    let place : id - 1 < length places = omega (arith, length-map places (frame_at o types)) in
+    let frame : slice_get (frames_at o types places) (id - 1) ≡ Some (frame_at o types (get_or places (id - 1) 0)) = get-map (frame_at o types) places (id - 1) 0 place in
+    let got : slice_get (records_at o types strings places) (id - 1) ≡ Some (record_of strings (frame_at o types (get_or places (id - 1) 0))) =
+    get-map (record_of strings) (frames_at o types places) (id - 1) [] (omega arith)
+    ∙ ap (λ (f : List ℕ). Some (record_of strings f)) (get_or-map (frame_at o types) places (id - 1) 0 [] place) in
+    record {
+      place = place;
+      here = has_record_at o types strings places (id - 1) checked place;
+      frame = frame;
+      is = ap (λ r. unwrap_or r no_record) got;
+    }
 
 pub length_records_at : (o : Order) (types strings places : List ℕ) → length (records_at o types strings places) ≡ length places
 length_records_at o types strings places = length-map (frames_at o types places) (record_of strings) ∙ length-map places (frame_at o types)

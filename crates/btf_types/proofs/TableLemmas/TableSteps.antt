@@ -4,8 +4,8 @@ use Rattle.std.specs.List.{AllZip, concat}
 use Rattle.bpf_words.specs.declared.Order.{Order}
 use Rattle.btf_raw.specs.{declared.header.Header.Header, Header.Cut, Header.HasNulEnds, Frames.Frames, Frames.bytes_of, Frames.section_of}
 use Rattle.btf_types.specs.{Values.TypeRecord, Denotes.Denotes, Good.IsGood, Spelling.Spells, Spelling.IsRecord}
-use Rattle.btf_types.specs.{Reading.frames_at, Reading.records_at, tables.TableInvariant.FieldsAreRight, tables.TableInvariant.IsTable}
-use Rattle.btf_types.proofs.JudgeLemmas.PhaseSteps.{HasFrames, types_of, strings_of, fails_strings, fails_framing, fails_fields, strings_judged, framing_judged}
+use Rattle.btf_types.specs.{Reading.frames_at, Reading.records_at, Sections.words_at, tables.TableInvariant.IsTable, tables.TableInvariant.IsChecked}
+use Rattle.btf_types.proofs.CheckLemmas.PhaseSteps.{HasFrames, types_of, strings_of, fails_strings, fails_framing, fails_fields, strings_checked, framing_checked}
 
 pub concat-map : (o : Order) (frames : List (List ℕ)) → concat (map (bytes_of o) frames) ≡ section_of o frames
 concat-map o [] = refl
@@ -31,20 +31,16 @@ frames_denote b o types strings v frames cut ends framed spelled good = record {
   good = good;
 }
 
-pub table_denotes : (b : List ℕ) (h : Header) (places : List ℕ) → HasFrames b h places → FieldsAreRight h.order (types_of b h) (strings_of b h) places → Denotes b (records_at h.order (types_of b h) (strings_of b h) places)
+pub table_denotes : (b : List ℕ) (h : Header) (places : List ℕ) → HasFrames b h places → IsTable (words_at h.order (types_of b h) (strings_of b h) places) → Denotes b (records_at h.order (types_of b h) (strings_of b h) places)
 table_denotes b h places has right =
     frames_denote b h.order (types_of b h) (strings_of b h) _ (frames_at h.order (types_of b h) places) has.has_strings.header.reads.cut has.has_strings.ends has.framed.frames right.spelled right.good
 
-pub is_table : (b : List ℕ) (h : Header) (places : List ℕ) → HasFrames b h places → FieldsAreRight h.order (types_of b h) (strings_of b h) places → IsTable h.order (types_of b h) (strings_of b h) places
-is_table b h places has right = record {
+pub is_checked : (b : List ℕ) (h : Header) (places : List ℕ) → HasFrames b h places → IsTable (words_at h.order (types_of b h) (strings_of b h) places) → IsChecked h.order (types_of b h) (strings_of b h) places
+is_checked b h places has right = record {
   few = omega (arith, has.framed.count, has.has_strings.header.reads.cut.types_fit);
-  short = has.has_strings.header.reads.cut.strings_fit;
-  ends = has.has_strings.ends;
   framed = has.framed;
-  none = right.none;
-  spelled = right.spelled;
-  good = right.good;
+  table = right;
 }
 
 -- what the search cites of the phases of a parser
-pub ruleset phases = (fails_strings, fails_framing, fails_fields, strings_judged, framing_judged, table_denotes, is_table)
+pub ruleset phases = (fails_strings, fails_framing, fails_fields, strings_checked, framing_checked, table_denotes, is_checked)

@@ -1,4 +1,3 @@
--- Only private contracts cite this file.
 -- A record at an offset of a section.
 use Rattle.std.specs.Prelude.{◌≡◌, ◌⊎◌, ℕ, ◌+◌, ◌*◌, ◌^◌, ◌<◌, ◌≤◌, IsTrue, List, length, slice_index}
 use Rattle.bpf_words.specs.declared.Order.{Order}

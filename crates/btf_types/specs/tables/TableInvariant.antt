@@ -1,9 +1,9 @@
 -- When a section with the offsets of its records is a table.
 use Rattle.std.specs.Prelude.{◌≡◌, ℕ, ◌^◌, ◌<◌, ◌≤◌, List, length, take, slice_index}
-use Rattle.std.specs.List.{AllZip}
+use Rattle.std.specs.List.{All, AllZip}
 use Rattle.bpf_words.specs.declared.Order.{Order}
-use Rattle.btf_raw.specs.{Header.HasNulEnds, Header.STRINGS_LIMIT, Frames.Frames, Frames.section_of, Cause.HasNone}
-use Rattle.btf_types.specs.{Spelling.Spells, Good.IsGood, judge.FieldFaults.FieldFault, Reading.frames_at, Reading.records_at}
+use Rattle.btf_raw.specs.{Header.HasNulEnds, Header.STRINGS_LIMIT, Frames.IsFrame, Frames.Frames, Frames.section_of, Cause.HasNone}
+use Rattle.btf_types.specs.{Spelling.Spells, Good.IsGood, checks.FieldFaults.FieldFault, Reading.frames_at, Sections.SectionWords, Sections.words_at, Sections.records_in}
 
 -- The offsets are those of the frames of the section, in order.
 pub record IsFramed (o : Order) (types places : List ℕ) : Type 0 where
@@ -11,18 +11,17 @@ pub record IsFramed (o : Order) (types places : List ℕ) : Type 0 where
   pub count : length places ≤ length types
   pub starts : (i : ℕ) → i < length places → slice_index places i ≡ length (section_of o (take i (frames_at o types places)))
 
--- The records are spelled at these offsets without a fault, and are good.
-pub record IsTable (o : Order) (types strings places : List ℕ) : Type 0 where
-  pub few : length places < 2 ^ 32
-  pub short : length strings ≤ STRINGS_LIMIT
-  pub ends : HasNulEnds strings
-  pub framed : IsFramed o types places
-  pub none : HasNone (FieldFault strings (frames_at o types places))
-  pub spelled : AllZip (Spells strings) (records_at o types strings places) (frames_at o types places)
-  pub good : IsGood (records_at o types strings places)
+-- The frames are complete, and no field of them has a fault. So they spell the records that they decode to, and these are good.
+pub record IsTable (s : SectionWords) : Type 0 where
+  pub short : length s.strings ≤ STRINGS_LIMIT
+  pub ends : HasNulEnds s.strings
+  pub each : All IsFrame s.frames
+  pub none : HasNone (FieldFault s.strings s.frames)
+  pub spelled : AllZip (Spells s.strings) (records_in s) s.frames
+  pub good : IsGood (records_in s)
 
--- No field of the records at these offsets has a fault, so they are spelled there, and are good.
-pub record FieldsAreRight (o : Order) (types strings places : List ℕ) : Type 0 where
-  pub none : HasNone (FieldFault strings (frames_at o types places))
-  pub spelled : AllZip (Spells strings) (records_at o types strings places) (frames_at o types places)
-  pub good : IsGood (records_at o types strings places)
+-- The offsets are those of the frames of a type section, and these are a table.
+pub record IsChecked (o : Order) (types strings places : List ℕ) : Type 0 where
+  pub few : length places < 2 ^ 32
+  pub framed : IsFramed o types places
+  pub table : IsTable (words_at o types strings places)

@@ -1,7 +1,7 @@
 -- The offsets into its two sections that a table keeps. The invariants of the tables cite them.
 use Rattle.std.specs.Prelude.{ℕ, List}
 use Rattle.bpf_words.specs.declared.Order.{Order}
-use Rattle.btf_types.specs.{Values.TypeRecord, Reading.records_at, tables.StringEnds.AreLongEnds, tables.TableInvariant.IsTable}
+use Rattle.btf_types.specs.{Values.TypeRecord, Reading.records_at, tables.StringEnds.AreLongEnds, tables.TableInvariant.IsChecked}
 
 -- the offsets of the records in the types, and those of the ends of the long strings
 pub record TablePlaces : Type 0 where
@@ -18,5 +18,5 @@ placed_records o types strings places = records_at o types strings places.record
 
 -- the records at the offsets that a table keeps are framed, without fault, spelled there and good
 pub record IsPlacedTable (o : Order) (types strings : List ℕ) (places : TablePlaces) : Type 0 where
-  pub table : IsTable o types strings places.records
+  pub table : IsChecked o types strings places.records
   pub ends : AreLongEnds strings places.ends

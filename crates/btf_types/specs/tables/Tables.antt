@@ -4,7 +4,7 @@ use Rattle.btf_types.specs.declared.error.BtfError.{BtfError}
 use Rattle.btf_types.specs.declared.error.BtfError.TheVariants as errors
 use Rattle.bpf_words.specs.declared.Order.{Order}
 use Rattle.btf_raw.specs.{Cause.LeastByPlace, Cause.moved_by, Frames.FramingFault}
-use Rattle.btf_types.specs.{Faults.IsFirst, Reading.frames_at, judge.FieldFaults.FieldFault}
+use Rattle.btf_types.specs.{Faults.IsFirst, Reading.frames_at, checks.FieldFaults.FieldFault}
 
 -- what an error of a parser says: its fault is the first of the file; nothing if memory ran out
 abbrev pub Fails : List ℕ → BtfError → Type 0

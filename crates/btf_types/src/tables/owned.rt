@@ -9,7 +9,9 @@ ghost use Rattle.btf_types.specs.{Denotes.Denotes, tables.Tables.Fails};
 ghost use Rattle.btf_types.specs.tables.{TableWords.numbered, Windows.items_of};
 
 use crate::error::BtfError;
-use crate::tables::{BtfView, Items, KeepsSections, Places, Records, SectionTable, TypeTable};
+use crate::tables::{
+    BtfView, FileSections, Items, KeepsSections, Places, Records, SectionTable, TypeTable,
+};
 use crate::values::Head;
 use bpf_words::Order;
 use std::alloc::{Allocator, Global};
@@ -80,7 +82,13 @@ impl<A: Allocator> KeepsSections for Btf<A> {
     ghost denoted = { λ t. t };
 
     fn table(&self) -> SectionTable<'_> {
-        SectionTable::new(self.order, &self.types, &self.strings, &self.places)
+        let file = FileSections::new(
+            self.order,
+            &self.types,
+            &self.strings,
+            self.places.records(),
+        );
+        SectionTable::new(file, self.places.ends())
     }
 }
 

@@ -24,7 +24,7 @@ use std::marker::Model;
 ///
 /// `Fault` with the first fault of the framing, whose offset counts bytes from the start of the
 /// section. `Memory` if memory can't be allocated.
-#[tactic(auto, using(crate::proofs::JudgeLemmas::FramingSteps::first_framing_fault))]
+#[tactic(auto, using(crate::proofs::CheckLemmas::FramingSteps::first_framing_fault))]
 pub fn record_places<A: Allocator>(
     alloc: A,
     order: Order,

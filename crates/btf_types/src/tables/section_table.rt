@@ -9,15 +9,13 @@
 
 ghost use Rattle.std.specs.Prelude.{◌≡◌, ◌<◌, ◌≤◌, Some, length, slice_get, List, IfSome, IsSome};
 ghost use Rattle.btf_types.specs.Values.{head_value, item_value, TypeRecord};
-ghost use Rattle.btf_types.specs.{Good.IsGood, Reading.records_at, tables.Windows.items_of};
-ghost use Rattle.btf_types.specs.tables.TableWords.{record_at, numbered};
-ghost use Rattle.btf_types.specs.tables.{TablePlaces.IsPlacedTable, TableSections.AreSections};
+ghost use Rattle.btf_types.specs.{Good.IsGood, Sections.records_in, tables.Windows.items_of};
+ghost use Rattle.btf_types.specs.tables.{TableWords.record_at, TableWords.numbered};
+ghost use Rattle.btf_types.specs.tables.StringEnds.{AreLongEnds};
 
 use crate::reading::{head_of, item_count_of, item_of};
-use crate::tables::{FileSections, Items, Places, Records, TypeTable};
+use crate::tables::{FileSections, Items, Records, TypeTable};
 use crate::values::{Head, Item};
-use bpf_words::Order;
-use std::alloc::Allocator;
 use std::marker::Model;
 
 /// The types in two borrowed sections.
@@ -31,38 +29,23 @@ pub struct SectionTable<'a> {
 impl<'a> Model for SectionTable<'a> {
     ghost use Rattle.std.specs.Prelude.{List};
     ghost use Rattle.btf_types.specs.Values.{TypeRecord};
-    ghost use Rattle.btf_types.specs.{Reading.records_at, tables.TablePlaces.IsPlacedTable};
+    ghost use Rattle.btf_types.specs.{Sections.records_in, tables.StringEnds.AreLongEnds};
 
     ghost Value = { List TypeRecord };
 
-    ghost view = { λ t.
-        records_at t.file.order t.file.types.now t.file.strings.now t.file.places.now };
+    ghost view = { λ t. records_in t.file };
 
-    ghost invariant = { λ t. IsPlacedTable t.file.order t.file.types.now t.file.strings.now
-        (record { records = t.file.places.now; ends = t.ends.now }) };
+    ghost invariant = { λ t. AreLongEnds t.file.strings t.ends.now };
 }
 
 #[tactic(auto, using(crate::proofs::TableLemmas::TableReads::placed))]
 impl<'a> SectionTable<'a> {
-    /// The table of these sections, whose records begin at these offsets.
-    pub fn new<A: Allocator>(
-        order: Order,
-        types: &'a [u8],
-        strings: &'a [u8],
-        places: &'a Places<A>,
-    ) -> SectionTable<'a>
-        requires { IsPlacedTable order types.now strings.now places.now }
-        ensures { result ≡ records_at order types.now strings.now places.now.records }
+    /// The table of these sections. `ends` are the ends of their long strings.
+    pub fn new(file: FileSections<'a>, ends: &'a [u32]) -> SectionTable<'a>
+        requires { AreLongEnds file.strings ends.now }
+        ensures { result ≡ records_in file.entry }
     {
-        SectionTable {
-            file: FileSections {
-                order,
-                types,
-                strings,
-                places: places.records(),
-            },
-            ends: places.ends(),
-        }
+        SectionTable { file, ends }
     }
 
     /// The number of records.
@@ -70,7 +53,7 @@ impl<'a> SectionTable<'a> {
         ensures count { result ≡ length self.now }
         ensures good { IsGood self.now }
     {
-        self.file.places.len() as u32
+        self.file.count()
     }
 
     /// The head of the record with the ID `id`, counted from 1.
@@ -79,7 +62,7 @@ impl<'a> SectionTable<'a> {
         requires last { id ≤ length self.now }
         ensures { head_value result ≡ (record_at self.now id).head }
     {
-        head_of(self.file.strings, self.ends, &self.file.record(id))
+        head_of(self.file.strings(), self.ends, &self.file.record(id))
     }
 
     /// The number of items of the record with the ID `id`, counted from 1.
@@ -99,13 +82,12 @@ impl<'a> SectionTable<'a> {
         ensures { slice_get (record_at self.now id).items k ≡ Some (item_value result) }
     {
         let this = self.file.record(id);
-        item_of(self.file.strings, self.ends, &this, k as usize)
+        item_of(self.file.strings(), self.ends, &this, k as usize)
     }
 
     /// The borrowed sections.
-    pub fn sections(&self) -> FileSections<'a>
-        ensures { AreSections self.now result.order result.types.now result.strings.now
-            result.places.now }
+    pub fn into_sections(self) -> FileSections<'a>
+        ensures { self.entry ≡ records_in result }
     {
         self.file
     }
@@ -177,9 +159,8 @@ impl<T: KeepsSections> TypeTable for T {
 
     fn sections(&self) -> Option<FileSections<'_>>
         ensures kept { IsSome result }
-        ensures sections { IfSome result (λ s.
-            AreSections (T.denoted self.now) s.order s.types.now s.strings.now s.places.now) }
+        ensures sections { IfSome result (λ kept. T.denoted self.now ≡ records_in kept) }
     {
-        Some(self.table().sections())
+        Some(self.table().into_sections())
     }
 }

@@ -6,15 +6,11 @@
 //! and copy records without decoding them. For this, string offsets are visible above this crate.
 
 ghost use Rattle.std.specs.Prelude.{◌≡◌, ◌<◌, ◌≤◌, List, Some, IfSome, length, slice_get};
-ghost use Rattle.btf_types.specs.{Good.IsGood, Reading.record_of, Reading.records_at};
-ghost use Rattle.btf_types.specs.{tables.TableWords.record_at, tables.TableInvariant.IsTable};
-ghost use Rattle.btf_types.specs.{tables.PlaceWords.ReadsRecord, tables.TableSections.AreSections};
-ghost use Rattle.btf_types.specs.{Sections.HasFrame, Sections.frame_of};
+ghost use Rattle.btf_types.specs.{Good.IsGood, Sections.records_in, tables.TableWords.record_at};
 ghost use Rattle.btf_types.specs.Values.{TypeRecord, head_value, item_value};
 
-use crate::record_words::Record;
+use crate::tables::FileSections;
 use crate::values::{Head, Item};
-use bpf_words::Order;
 
 /// A list of records, each a head with its items. Record IDs count from 1, like the type IDs of
 /// btf.rst section 2.2.
@@ -52,48 +48,8 @@ pub trait TypeTable {
 
     /// The sections of the file that the table keeps, or `None` if it keeps none.
     fn sections(&self) -> Option<FileSections<'_>>
-        ensures { IfSome result (λ s.
-            AreSections (meaning self.now) s.order s.types.now s.strings.now s.places.now) }
+        ensures { IfSome result (λ sections. meaning self.now ≡ records_in sections) }
     {
         None
-    }
-}
-
-/// The two sections of a BTF file, and the offsets of its records.
-#[derive(Clone, Copy, Debug, PartialEq, Eq)]
-pub struct FileSections<'a> {
-    /// The byte order of the file.
-    pub order: Order,
-    /// The bytes of the type section.
-    pub types: &'a [u8],
-    /// The bytes of the string section.
-    pub strings: &'a [u8],
-    /// The offset of each record, in bytes from the start of `types`, in order of IDs from 1.
-    pub places: &'a [u32],
-}
-
-impl<'a> FileSections<'a> {
-    /// The record at `pos`, an offset in bytes from the start of `types`, which must be that of a
-    /// record: one of `places` if a table returned the sections.
-    pub fn record_at(&self, pos: usize) -> Record<'a>
-        requires { HasFrame self.now pos }
-        ensures { result ≡ frame_of self.now pos }
-    {
-        Record::at(self.order, self.types, pos)
-    }
-
-    /// The record with the ID `id`, counted from 1.
-    #[inline(always)]
-    pub(crate) fn record(&self, id: u32) -> Record<'a>
-        requires table { let s = self.now in
-            IsTable s.order s.types.now s.strings.now s.places.now }
-        requires first { 0 < id }
-        requires last { id ≤ length self.now.places.now }
-        ensures reads { ReadsRecord self.now.strings.now result }
-        ensures is { let s = self.now in
-            record_at (records_at s.order s.types.now s.strings.now s.places.now) id
-            ≡ record_of s.strings.now result }
-    {
-        self.record_at(self.places[id as usize - 1] as usize)
     }
 }

@@ -1,25 +1,19 @@
-//! A table that borrows the file it was read from, and the call that reads the file, which the
-//! owned table uses too.
-//!
-//! Each phase of the checks relies on those before it: the header says where the sections are,
-//! framing finds the records, and the checks of fields read other records. Checks below this file
-//! know only their own section, so the offset of a fault is moved to the file here.
+//! A table that borrows the file it was read from: a checked file (`checked_file.rt`) with the ends
+//! of its long strings, by which names are read. The owned table is a copy of it.
 
 ghost use Rattle.std.specs.Prelude.{◌≡◌, ◌<◌, ◌≤◌, Some, MatchResult, length, slice_get};
 ghost use Rattle.btf_types.specs.{Denotes.Denotes, tables.Windows.items_of};
 ghost use Rattle.btf_types.specs.Values.{head_value, item_value};
 ghost use Rattle.btf_types.specs.tables.TableWords.{numbered, record_at};
-ghost use Rattle.btf_types.specs.tables.Tables as tables;
+ghost use Rattle.btf_types.specs.tables.Tables.{Fails};
 
 use crate::error::BtfError;
-use crate::judge::fields::check_fields;
 use crate::reading::{head_of, item_of};
 use crate::tables::{
-    FileSections, Items, KeepsSections, Places, Records, SectionTable, TypeTable, record_places,
+    CheckedFile, FileSections, Items, KeepsSections, Places, Records, SectionTable, TypeTable,
 };
 use crate::values::{Head, Item};
 use bpf_words::Order;
-use btf_raw::{check_strings, read_header};
 use std::alloc::{Allocator, Global};
 use std::fmt;
 use std::marker::Model;
@@ -67,17 +61,6 @@ impl<'a, A: Allocator> Model for BtfView<'a, A> {
     ghost invariant = { λ t. placed.IsPlacedTable t.order t.types.now t.strings.now t.places };
 }
 
-/// Converts the offset of an error from a section that begins at `base` to an offset in the file.
-fn moved(base: usize, error: BtfError) -> BtfError
-    requires { tables.MayMove base error }
-    ensures { result ≡ tables.moved base error }
-{
-    match error {
-        BtfError::Fault(fault) => BtfError::Fault(fault.moved_by(base as u64)),
-        BtfError::Memory => BtfError::Memory,
-    }
-}
-
 #[tactic(auto, using(crate::proofs::TableLemmas::TableReads::placed))]
 impl<'a, A: Allocator> BtfView<'a, A> {
     /// Reads and checks a complete BTF file (btf.rst section 2). No name is copied: the table
@@ -85,33 +68,16 @@ impl<'a, A: Allocator> BtfView<'a, A> {
     ///
     /// # Errors
     ///
-    /// `Fault` with the first fault of the file. Faults of the header come first, then those of the
-    /// ends of the string section, each by cause; then those of the framing, then those of the
-    /// fields, each by offset and then by cause. `Memory` if memory can't be allocated.
-    #[tactic(auto, using(crate::proofs::TableLemmas::TableSteps::phases))]
+    /// Those of [`CheckedFile::check`].
     pub fn parse(alloc: A, bytes: &'a [u8]) -> Result<BtfView<'a, A>, BtfError>
-        ensures { MatchResult result (λ v. Denotes bytes.now v) (λ e. tables.Fails bytes.now e) }
+        ensures { MatchResult result (λ v. Denotes bytes.now v) (λ e. Fails bytes.now e) }
     {
-        let header = read_header(bytes)?;
-        let order = header.order;
-        let types = &bytes[header.types_pos..header.types_pos + header.types_len];
-        let strings = &bytes[header.str_pos..header.str_pos + header.str_len];
-        if let Err(fault) = check_strings(strings) {
-            return Err(moved(header.str_pos, BtfError::Fault(fault)));
-        }
-        let places = match record_places(alloc, order, types) {
-            Ok(places) => places,
-            Err(error) => return Err(moved(header.types_pos, error)),
-        };
-        let file = FileSections {
+        let CheckedFile {
             order,
             types,
             strings,
-            places: &places,
-        };
-        if let Err(error) = check_fields(places.allocator(), file) {
-            return Err(moved(header.types_pos, error));
-        }
+            places,
+        } = CheckedFile::check(alloc, bytes)?;
         Ok(BtfView {
             order,
             types,
@@ -143,12 +109,7 @@ impl<'a, A: Allocator> BtfView<'a, A> {
         requires last { id ≤ length self.now }
         ensures { head_value result ≡ (record_at self.now id).head }
     {
-        let file = FileSections {
-            order: self.order,
-            types: self.types,
-            strings: self.strings,
-            places: self.places.records(),
-        };
+        let file = FileSections::new(self.order, self.types, self.strings, self.places.records());
         let this = file.record(id);
         head_of(self.strings, self.places.ends(), &this)
     }
@@ -162,12 +123,7 @@ impl<'a, A: Allocator> BtfView<'a, A> {
         requires inside { k < length (record_at self.now id).items }
         ensures { slice_get (record_at self.now id).items k ≡ Some (item_value result) }
     {
-        let file = FileSections {
-            order: self.order,
-            types: self.types,
-            strings: self.strings,
-            places: self.places.records(),
-        };
+        let file = FileSections::new(self.order, self.types, self.strings, self.places.records());
         let this = file.record(id);
         item_of(self.strings, self.places.ends(), &this, k as usize)
     }
@@ -177,7 +133,8 @@ impl<'a, A: Allocator> KeepsSections for BtfView<'a, A> {
     ghost denoted = { λ t. t };
 
     fn table(&self) -> SectionTable<'_> {
-        SectionTable::new(self.order, self.types, self.strings, &self.places)
+        let file = FileSections::new(self.order, self.types, self.strings, self.places.records());
+        SectionTable::new(file, self.places.ends())
     }
 }
 

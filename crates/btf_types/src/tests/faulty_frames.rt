@@ -1,6 +1,6 @@
 //! Faulty frames, names, type fields and sizes, with the first fault of both parsers and of the reference checker.
 
-use crate::tests::faulty_fields::Faulty;
+use crate::tests::faulty_fields::{Faulty, check_all};
 use btf_raw::BtfCause as Cause;
 use std::test::Fail;
 
@@ -64,8 +64,8 @@ fn rows() -> [&'static [Faulty]; 8] {[&[
 
 #[test]
 fn faulty_frames_and_names_are_refused(rt: HostRuntime) -> Result<(), Fail> {
-    for row in rows().into_iter().flatten() {
-        row.check(&rt, rt.alloc())?;
+    for rows in rows() {
+        check_all(&rt, rt.alloc(), rows)?;
     }
     Ok(())
 }

@@ -1,9 +1,9 @@
 //! Files with each byte changed to every other value, cut at every length, or with names at every offset, against the reference.
 
+use crate::tests::checks::first_fault;
 use crate::tests::examples::{BIG_ENUM64, BIG_INT, EMPTY, MEMBER, STRINGS_FIRST, TAGGED};
 use crate::tests::expect::equal;
-use crate::tests::judge::first_fault;
-use crate::tests::{change, fault, file, first_fault_of_both};
+use crate::tests::{both_faults, change, fault, file};
 use btf_raw::{BtfCause, BtfFault};
 use std::alloc::{AllocError, Global};
 use std::fmt::Debug;
@@ -11,19 +11,24 @@ use std::process::Abort;
 use std::test::Fail;
 
 /// Checks that both parsers return what the reference does.
-fn is_judged(rt: &impl Abort, alloc: Global, bytes: &[u8], case: &impl Debug) -> Result<(), Fail> {
+fn is_checked(
+    rt: &impl Abort,
+    alloc: Global,
+    bytes: &[u8],
+    case: &impl Debug,
+) -> Result<(), AllocError> {
     let wanted = first_fault(alloc, bytes)?;
-    equal(rt, &first_fault_of_both(alloc, bytes)?, &wanted, case);
+    equal(rt, &both_faults(alloc, bytes)?, &(wanted, wanted), case);
     Ok(())
 }
 
 /// Checks it for a file with each byte changed to every value.
-fn changes_are_judged(rt: &impl Abort, alloc: Global, file: &[u8]) -> Result<(), Fail> {
+fn changes_are_checked(rt: &impl Abort, alloc: Global, file: &[u8]) -> Result<(), AllocError> {
     let mut bytes = Vec::from_slice(alloc, file)?;
     for (pos, old) in file.iter().enumerate() {
         for value in 0..=u8::MAX {
             change(&mut bytes, &[(pos, value)]);
-            is_judged(rt, alloc, &bytes, &("byte", pos, "as", value))?;
+            is_checked(rt, alloc, &bytes, &("byte", pos, "as", value))?;
         }
         change(&mut bytes, &[(pos, *old)]);
     }
@@ -33,7 +38,7 @@ fn changes_are_judged(rt: &impl Abort, alloc: Global, file: &[u8]) -> Result<(),
 #[test]
 fn files_with_a_changed_byte_have_the_reference_result(rt: HostRuntime) -> Result<(), Fail> {
     for file in [BIG_INT, STRINGS_FIRST, MEMBER, TAGGED, BIG_ENUM64] {
-        changes_are_judged(&rt, rt.alloc(), file)?;
+        changes_are_checked(&rt, rt.alloc(), file)?;
     }
     Ok(())
 }
@@ -62,7 +67,7 @@ fn files_with_names_at_every_offset_have_the_reference_result(rt: HostRuntime) -
     for strings in STRINGS {
         for off in 0..120_u32 {
             let bytes = named_int(rt.alloc(), off, strings)?;
-            is_judged(&rt, rt.alloc(), &bytes, &(strings, off))?;
+            is_checked(&rt, rt.alloc(), &bytes, &(strings, off))?;
         }
     }
     Ok(())
@@ -94,8 +99,8 @@ fn files_cut_at_every_length_have_the_reference_result(rt: HostRuntime) -> Resul
         equal(&rt, &file.len(), file_len, &"the length");
         for len in 0..file.len() {
             let wanted = Some(fault_of_cut(len, *header_len));
-            let answered = first_fault_of_both(rt.alloc(), &file[..len])?;
-            equal(&rt, &answered, &wanted, &(file_len, "cut to", len));
+            let found = both_faults(rt.alloc(), &file[..len])?;
+            equal(&rt, &found, &(wanted, wanted), &(file_len, "cut to", len));
         }
     }
     Ok(())

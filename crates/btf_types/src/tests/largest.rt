@@ -1,8 +1,8 @@
 //! Names and sections as long as the limits allow, and files of several thousand names in each other.
 
 use crate::tests::expect::equal;
-use crate::tests::{change, file, first_fault_of_both};
-use crate::{Btf, BtfView, Head, TypeTable};
+use crate::tests::{both_faults, change, file};
+use crate::{Btf, BtfError, BtfView, Head, TypeTable};
 use btf_raw::{BtfCause, BtfFault};
 use std::alloc::{AllocError, Global};
 use std::process::Abort;
@@ -49,38 +49,46 @@ fn name_len<T: TypeTable>(table: &T, id: u32) -> usize {
     }
 }
 
-/// The number of records in a table, and the lengths of the first name and of the last.
-fn ends<T: TypeTable>(table: &T) -> (u32, usize, usize) {
+/// The number of records in a table, and the lengths of the names of the first TYPEDEF and of the last.
+type Ends = (u32, usize, usize);
+
+fn ends<T: TypeTable + Drop>(parsed: Result<T, BtfError>) -> Result<Ends, BtfError> {
+    let table = parsed?;
     let count = table.count();
-    (count, name_len(table, 1), name_len(table, count))
+    Ok((count, name_len(&table, 1), name_len(&table, count)))
 }
 
 /// Checks these of both tables of a file.
-fn has_names(rt: &impl Abort, alloc: Global, bytes: &[u8], row: &Nested) -> Result<(), Fail> {
-    let Nested(count, len, _, _) = row;
-    let last = len.saturating_sub(*count as usize).saturating_add(1);
-    let wanted = (*count, *len, last);
-    equal(rt, &ends(&Btf::parse(alloc, bytes)?), &wanted, &"owned");
-    equal(rt, &ends(&BtfView::parse(alloc, bytes)?), &wanted, &"lent");
+fn has_ends(rt: &impl Abort, alloc: Global, bytes: &[u8], wanted: Ends) -> Result<(), BtfError> {
+    let owned = ends(Btf::parse(alloc, bytes))?;
+    let borrowed = ends(BtfView::parse(alloc, bytes))?;
+    equal(rt, &(owned, borrowed), &(wanted, wanted), &"the records");
     Ok(())
+}
+
+impl Nested {
+    fn file(&self, alloc: Global) -> Result<Vec<u8>, AllocError> {
+        let strings = letters(alloc, self.1, b"\0")?;
+        file(alloc, &typedefs(alloc, self.0)?, &strings)
+    }
+
+    fn check(&self, rt: &impl Abort, alloc: Global) -> Result<(), BtfError> {
+        let Nested(count, len, file_len, fault) = self;
+        let bytes = self.file(alloc)?;
+        let found = (bytes.len(), both_faults(alloc, &bytes)?);
+        equal(rt, &found, &(*file_len, (*fault, *fault)), &count);
+        if fault.is_some() {
+            return Ok(());
+        }
+        let last = len.saturating_sub(*count as usize).saturating_add(1);
+        has_ends(rt, alloc, &bytes, (*count, *len, last))
+    }
 }
 
 #[test]
 fn nested_names_are_accepted(rt: HostRuntime) -> Result<(), Fail> {
     for row in NESTED {
-        let Nested(count, len, file_len, wanted) = row;
-        let strings = letters(rt.alloc(), *len, b"\0")?;
-        let bytes = file(rt.alloc(), &typedefs(rt.alloc(), *count)?, &strings)?;
-        equal(&rt, &bytes.len(), file_len, &("names", count));
-        equal(
-            &rt,
-            &first_fault_of_both(rt.alloc(), &bytes)?,
-            wanted,
-            &("names", count),
-        );
-        if wanted.is_none() {
-            has_names(&rt, rt.alloc(), &bytes, row)?;
-        }
+        row.check(&rt, rt.alloc())?;
     }
     Ok(())
 }
@@ -110,23 +118,15 @@ const LONGEST: &[Longest] = &[
     Longest(&[(12, 1)], Some(BtfFault { pos: 12, cause: BtfCause::TypeLength })),
 ];
 
-/// The number of records in both tables of a file.
-fn counts(alloc: Global, bytes: &[u8]) -> Result<(u32, u32), Fail> {
-    let owned = Btf::parse(alloc, bytes)?;
-    let lent = BtfView::parse(alloc, bytes)?;
-    Ok((owned.count(), lent.count()))
-}
-
 #[test]
 fn type_sections_up_to_the_limit_are_accepted(rt: HostRuntime) -> Result<(), Fail> {
     let mut bytes = most_records(rt.alloc())?;
     equal(&rt, &bytes.len(), &33_554_457, &"the file");
-    let counts = counts(rt.alloc(), &bytes)?;
-    equal(&rt, &counts, &(2_796_202, 2_796_202), &"counts");
-    for Longest(edits, wanted) in LONGEST {
+    has_ends(&rt, rt.alloc(), &bytes, (2_796_202, 0, 0))?;
+    for Longest(edits, fault) in LONGEST {
         change(&mut bytes, edits);
-        let found = first_fault_of_both(rt.alloc(), &bytes)?;
-        equal(&rt, &found, wanted, edits);
+        let found = both_faults(rt.alloc(), &bytes)?;
+        equal(&rt, &found, &(*fault, *fault), edits);
     }
     Ok(())
 }
@@ -148,11 +148,7 @@ fn full_enums(alloc: Global, count: u32) -> Result<Vec<u8>, AllocError> {
 fn many_uses_of_a_long_name_are_accepted(rt: HostRuntime) -> Result<(), Fail> {
     let strings = letters(rt.alloc(), 1_000_000, b"\0\xff\0")?;
     let bytes = file(rt.alloc(), &full_enums(rt.alloc(), 8)?, &strings)?;
-    equal(
-        &rt,
-        &first_fault_of_both(rt.alloc(), &bytes)?,
-        &None,
-        &"the file",
-    );
+    let found = both_faults(rt.alloc(), &bytes)?;
+    equal(&rt, &found, &(None, None), &"the file");
     Ok(())
 }

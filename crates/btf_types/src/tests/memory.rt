@@ -1,12 +1,11 @@
 //! Each allocation refused in turn: an arena of one chunk that has one more free byte in each round.
 
-use crate::tests::expect::{equal, holds};
-use crate::tests::{edited, file};
+use crate::tests::expect::holds;
+use crate::tests::{edited, fault, file};
 use crate::{Btf, BtfError, BtfView, Head, Item, TypeTable};
 use btf_raw::BtfCause;
 use bumpalo::Bump;
 use std::alloc::{AllocError, Global};
-use std::fmt::Debug;
 use std::process::Abort;
 use std::test::Fail;
 
@@ -14,58 +13,37 @@ use std::test::Fail;
 const ROOM: usize = 2048;
 
 /// How many bytes the offsets of nine records need at least, the marks of five bytes of strings, and nine records of three fields.
-const PLACES: u32 = 36;
+const PLACES: usize = 36;
 
-const MARKS: u32 = 5;
+const MARKS: usize = 5;
 
-const TYPES: u32 = 108;
+const TYPES: usize = 108;
 
 /// How many bytes the offset of one record and the ends of nine long strings need at least, the fields of an ENUM with nine values, and
 /// nine 128-byte strings.
-const PLACE_AND_ENDS: u32 = 40;
+const PLACE_AND_ENDS: usize = 40;
 
-const ENUM_WORDS: u32 = 84;
+const ENUM_WORDS: usize = 84;
 
-const LONG_STRINGS: u32 = 1162;
+const LONG_STRINGS: usize = 1162;
 
 /// What a file is read as.
-#[derive(Clone, Copy, Debug, PartialEq, Eq)]
+#[derive(Clone, Copy)]
 enum Wanted {
     Typedefs,
     LongNames,
     Fault(u64, BtfCause),
 }
 
-/// How many answers were out of memory, and how many weren't.
-#[derive(Drop)]
-struct Tally {
-    refused: u32,
-    done: u32,
-}
-
-impl Tally {
-    fn new() -> Tally {
-        Tally {
-            refused: 0,
-            done: 0,
-        }
-    }
-
-    /// Counts a result. If less memory was enough, more is too.
-    fn count(&mut self, rt: &impl Abort, was_refused: bool) {
-        if was_refused {
-            equal(rt, &self.done, &0, &"answers with less room");
-            self.refused = self.refused.saturating_add(1);
-        } else {
-            self.done = self.done.saturating_add(1);
-        }
-    }
-
-    /// Checks how many answers were out of memory: this many or more, or none.
-    fn is_right(&self, rt: &impl Abort, least: u32, case: &impl Debug) {
-        let is_right = self.done > 0 && self.refused >= least && (least > 0 || self.refused == 0);
-        holds(rt, is_right, &(case, self.done, self.refused));
-    }
+/// What a parser returns in an arena.
+#[derive(Clone, Copy)]
+enum Outcome {
+    /// What is wanted.
+    Whole,
+    /// Out of memory.
+    Refused,
+    /// Another answer.
+    Wrong,
 }
 
 /// An arena with this many free bytes: the others are allocated first.
@@ -100,18 +78,41 @@ fn has_typedefs<T: TypeTable>(table: &T) -> bool {
     table.count() == 9
 }
 
-/// An ENUM of four bytes without a name. Its values are 0 to 8, and the names of these are 128 times `a`, 128 times `b`, and so on.
-fn long_names(alloc: Global) -> Result<Vec<u8>, AllocError> {
-    let mut records = Vec::from_slice(alloc, b"\0\0\0\0\x09\0\0\x06\x04\0\0\0")?;
+/// The fields of an ENUM of four bytes without a name. Its values are 0 to 8, with the names that are next to each other from
+/// offset 1.
+fn enum_words(alloc: Global) -> Result<Vec<u8>, AllocError> {
+    let mut words = Vec::from_slice(alloc, b"\0\0\0\0\x09\0\0\x06\x04\0\0\0")?;
+    for value in 0..9_u32 {
+        words.extend_from_slice(&(value * 129 + 1).to_le_bytes())?;
+        words.extend_from_slice(&value.to_le_bytes())?;
+    }
+    Ok(words)
+}
+
+/// The names of these: 128 times `a`, 128 times `b`, and so on.
+fn long_strings(alloc: Global) -> Result<Vec<u8>, AllocError> {
     let mut strings = Vec::from_slice(alloc, b"\0")?;
-    for (value, letter) in (0_u32..9).zip(b'a'..=b'i') {
-        let name_off = value.wrapping_mul(129).wrapping_add(1);
-        records.extend_from_slice(&name_off.to_le_bytes())?;
-        records.extend_from_slice(&value.to_le_bytes())?;
+    for letter in b'a'..=b'i' {
         strings.extend_from_slice(&[letter; 128])?;
         strings.push(0)?;
     }
-    file(alloc, &records, &strings)
+    Ok(strings)
+}
+
+fn long_names(alloc: Global) -> Result<Vec<u8>, AllocError> {
+    let words = enum_words(alloc)?;
+    file(alloc, &words, &long_strings(alloc)?)
+}
+
+/// Whether an item is the value of this number in that ENUM.
+fn is_long_name(item: Item, k: u32) -> bool {
+    let letter = b'a'.wrapping_add((k & 0xff) as u8);
+    match item {
+        Item::EnumValue { name, value } => {
+            name.as_bytes() == [letter; 128].as_slice() && value == k
+        }
+        _ => false,
+    }
 }
 
 /// Whether a table contains this ENUM.
@@ -120,14 +121,7 @@ fn has_long_names<T: TypeTable>(table: &T) -> bool {
         return false;
     }
     for k in 0..table.item_count(1) {
-        let letter = b'a'.wrapping_add((k & 0xff) as u8);
-        let is_right = match table.item(1, k) {
-            Item::EnumValue { name, value } => {
-                name.as_bytes() == [letter; 128].as_slice() && value == k
-            }
-            _ => false,
-        };
-        if !is_right {
+        if !is_long_name(table.item(1, k), k) {
             return false;
         }
     }
@@ -138,74 +132,96 @@ fn has_long_names<T: TypeTable>(table: &T) -> bool {
     is_enum && table.item_count(1) == 9
 }
 
-/// Whether a table is the one that is wanted.
-fn is_wanted<T: TypeTable>(table: &T, wanted: Wanted) -> bool {
-    match wanted {
-        Wanted::Typedefs => has_typedefs(table),
-        Wanted::LongNames => has_long_names(table),
-        Wanted::Fault(..) => false,
+/// The outcome of a parser that returned this.
+fn returned<T: TypeTable>(parsed: &Result<T, BtfError>, wanted: Wanted) -> Outcome {
+    match (parsed, wanted) {
+        (Ok(table), Wanted::Typedefs) if has_typedefs(table) => Outcome::Whole,
+        (Ok(table), Wanted::LongNames) if has_long_names(table) => Outcome::Whole,
+        (Err(BtfError::Fault(first)), Wanted::Fault(pos, cause)) if *first == fault(pos, cause) => {
+            Outcome::Whole
+        }
+        (Err(BtfError::Memory), _) => Outcome::Refused,
+        _ => Outcome::Wrong,
     }
 }
 
-/// Counts the answer of a parser: the right table, the right fault, or out of memory.
-fn count_answer<T: TypeTable>(
-    rt: &impl Abort,
-    tally: &mut Tally,
-    parsed: &Result<T, BtfError>,
-    wanted: Wanted,
-) {
-    match parsed {
-        Ok(table) => {
-            holds(rt, is_wanted(table, wanted), &("a table", wanted));
-            tally.count(rt, false);
-        }
-        Err(BtfError::Memory) => tally.count(rt, true),
-        Err(BtfError::Fault(fault)) => {
-            let found = Wanted::Fault(fault.pos, fault.cause);
-            equal(rt, &found, &wanted, &"the fault");
-            tally.count(rt, false);
-        }
+/// The outcome of `Btf::parse` or of `BtfView::parse`.
+fn outcome_of(bump: &Bump<Global>, owned: bool, bytes: &[u8], wanted: Wanted) -> Outcome {
+    if owned {
+        returned(&Btf::parse(bump, bytes), wanted)
+    } else {
+        returned(&BtfView::parse(bump, bytes), wanted)
     }
+}
+
+/// Adds an outcome to those in all smaller arenas: the smallest in which the parser succeeded, if any, or that of the first wrong
+/// outcome. It is wrong to run out of memory in a larger one.
+fn after(
+    before: Result<Option<usize>, usize>,
+    room: usize,
+    outcome: Outcome,
+) -> Result<Option<usize>, usize> {
+    match (before, outcome) {
+        (Err(_), _) | (Ok(None), Outcome::Refused) | (Ok(Some(_)), Outcome::Whole) => before,
+        (Ok(None), Outcome::Whole) => Ok(Some(room)),
+        _ => Err(room),
+    }
+}
+
+/// The smallest arena that a parser needs, or that of its first wrong outcome.
+fn least_room(
+    alloc: Global,
+    owned: bool,
+    bytes: &[u8],
+    wanted: Wanted,
+) -> Result<Result<Option<usize>, usize>, AllocError> {
+    let mut least = Ok(None);
+    for room in 0..=ROOM {
+        let bump = arena(alloc, room)?;
+        least = after(least, room, outcome_of(&bump, owned, bytes, wanted));
+    }
+    Ok(least)
 }
 
 /// Bytes that are changed in a file, what it is read as then, and how many bytes `BtfView` and `Btf` allocate at least before they return.
-#[derive(Clone, Copy, Debug)]
 struct Row {
     edits: &'static [(usize, u8)],
     wanted: Wanted,
-    lent: u32,
-    owned: u32,
+    borrowed: usize,
+    owned: usize,
 }
 
 #[rattlefmt::skip]
 const OF_TYPEDEFS: &[Row] = &[
-    Row { edits: &[], wanted: Wanted::Typedefs, lent: PLACES + MARKS, owned: PLACES + MARKS + TYPES },
-    Row { edits: &[(2, 2)], wanted: Wanted::Fault(2, BtfCause::Version), lent: 0, owned: 0 },
-    Row { edits: &[(136, 1)], wanted: Wanted::Fault(136, BtfCause::LastString), lent: 0, owned: 0 },
-    Row { edits: &[(127, 20)], wanted: Wanted::Fault(124, BtfCause::KindNumber), lent: PLACES - 4, owned: PLACES - 4 },
-    Row { edits: &[(128, 10)], wanted: Wanted::Fault(128, BtfCause::Reference), lent: PLACES + MARKS, owned: PLACES + MARKS },
+    Row { edits: &[], wanted: Wanted::Typedefs, borrowed: PLACES + MARKS, owned: PLACES + MARKS + TYPES },
+    Row { edits: &[(2, 2)], wanted: Wanted::Fault(2, BtfCause::Version), borrowed: 0, owned: 0 },
+    Row { edits: &[(136, 1)], wanted: Wanted::Fault(136, BtfCause::LastString), borrowed: 0, owned: 0 },
+    Row { edits: &[(127, 20)], wanted: Wanted::Fault(124, BtfCause::KindNumber), borrowed: PLACES - 4, owned: PLACES - 4 },
+    Row { edits: &[(128, 10)], wanted: Wanted::Fault(128, BtfCause::Reference), borrowed: PLACES + MARKS, owned: PLACES + MARKS },
 ];
 
 /// The ends of the long strings are found last, and only in a file without a fault.
 #[rattlefmt::skip]
 const OF_LONG_NAMES: &[Row] = &[
-    Row { edits: &[], wanted: Wanted::LongNames, lent: PLACE_AND_ENDS, owned: PLACE_AND_ENDS + ENUM_WORDS + LONG_STRINGS },
-    Row { edits: &[(32, 3)], wanted: Wanted::Fault(32, BtfCause::Size), lent: 4, owned: 4 },
+    Row { edits: &[], wanted: Wanted::LongNames, borrowed: PLACE_AND_ENDS, owned: PLACE_AND_ENDS + ENUM_WORDS + LONG_STRINGS },
+    Row { edits: &[(32, 3)], wanted: Wanted::Fault(32, BtfCause::Size), borrowed: 4, owned: 4 },
 ];
 
-/// Gives both parsers ever more memory.
-fn check_rooms(rt: &impl Abort, alloc: Global, file: &[u8], row: &Row) -> Result<(), Fail> {
-    let bytes = edited(alloc, file, row.edits)?;
-    let mut lent = Tally::new();
-    let mut owned = Tally::new();
-    for room in 0..=ROOM {
-        let bump = arena(alloc, room)?;
-        count_answer(rt, &mut lent, &BtfView::parse(&bump, &bytes), row.wanted);
-        let bump = arena(alloc, room)?;
-        count_answer(rt, &mut owned, &Btf::parse(&bump, &bytes), row.wanted);
+/// Whether an arena of `least` bytes or more is the smallest that suffices. If a parser allocates nothing, none is too small.
+fn is_right(found: Result<Option<usize>, usize>, least: usize) -> bool {
+    match found {
+        Ok(Some(room)) => least <= room && (least > 0 || room == 0),
+        _ => false,
     }
-    lent.is_right(rt, row.lent, row);
-    owned.is_right(rt, row.owned, row);
+}
+
+/// Gives both parsers ever more memory.
+fn check_rooms(rt: &impl Abort, alloc: Global, file: &[u8], row: &Row) -> Result<(), AllocError> {
+    let bytes = edited(alloc, file, row.edits)?;
+    let borrowed = least_room(alloc, false, &bytes, row.wanted)?;
+    let owned = least_room(alloc, true, &bytes, row.wanted)?;
+    let right = is_right(borrowed, row.borrowed) && is_right(owned, row.owned);
+    holds(rt, right, &(row.edits, borrowed, owned));
     Ok(())
 }
 

@@ -8,6 +8,8 @@ use crate::tests::examples::{
 use crate::tests::expect::equal;
 use crate::tests::{edited, fault, is_refused};
 use btf_raw::BtfCause as Cause;
+use std::alloc::{AllocError, Global};
+use std::process::Abort;
 use std::test::Fail;
 
 /// A file, bytes that are changed in it, and the offset and cause of its first fault.
@@ -18,6 +20,21 @@ struct Refused(
     u64,
     Cause,
 );
+
+impl Refused {
+    fn check(&self, rt: &impl Abort, alloc: Global) -> Result<(), AllocError> {
+        let Refused(name, file, edits, pos, cause) = self;
+        let bytes = edited(alloc, file, edits)?;
+        is_refused(rt, alloc, &bytes, fault(*pos, *cause), name)
+    }
+}
+
+fn check_all(rt: &impl Abort, alloc: Global, rows: &[Refused]) -> Result<(), AllocError> {
+    for row in rows {
+        row.check(rt, alloc)?;
+    }
+    Ok(())
+}
 
 #[rattlefmt::skip]
 static LENGTHS: &[Refused] = &[
@@ -102,9 +119,8 @@ fn rows() -> [&'static [Refused]; 6] {
 
 #[test]
 fn worked_files_with_a_fault_are_refused(rt: HostRuntime) -> Result<(), Fail> {
-    for Refused(name, file, edits, pos, cause) in rows().into_iter().flatten() {
-        let bytes = edited(rt.alloc(), file, edits)?;
-        is_refused(&rt, rt.alloc(), &bytes, fault(*pos, *cause), name)?;
+    for rows in rows() {
+        check_all(&rt, rt.alloc(), rows)?;
     }
     Ok(())
 }

@@ -8,7 +8,7 @@ use Rattle.std.proofs.lemmas.List.Elements.{filter-append}
 use Rattle.indexmap.specs.IndexSet.{insert_key}
 use Rattle.btf_types.specs.Names.{distinct, kept, with_nul, table_of}
 use Rattle.btf_types.specs.strings.SharedNames.{is_proper_suffix, hosts_of, host_in}
-use Rattle.bpf_canon.specs.btf.names.Interned.{lent_texts, AddsName}
+use Rattle.bpf_canon.specs.btf.names.Interned.{borrowed_texts, AddsName}
 use Rattle.btf_types.proofs.Members.{Has, Has-from_filter, Has-from_Contains}
 use Rattle.btf_types.proofs.StringLemmas.{Texts.same_text, Texts.bytes_eq-same, Hosts.own_host_of, Hosts.host_differs}
 use Rattle.btf_types.proofs.StringLemmas.Distinct.{NoRepeats, NoRepeats-kept}
@@ -16,35 +16,35 @@ use Rattle.bpf_canon.proofs.BtfLemmas.Names.KeptSteps.{Has_from_test, test_from_
 use Rattle.bpf_canon.proofs.BtfLemmas.Names.{PlaceSteps.text_eq, HostSearch.text_at, HostSearch.texts_length}
 
 -- whether a set of borrowed strings contains a string
-set_iff_any : (k : Bor (List ℕ)) (ks : List (Bor (List ℕ))) → list_any (text_eq k) ks ≡ list_any (bytes_eq k.now) (lent_texts ks)
+set_iff_any : (k : Bor (List ℕ)) (ks : List (Bor (List ℕ))) → list_any (text_eq k) ks ≡ list_any (bytes_eq k.now) (borrowed_texts ks)
 set_iff_any k [] = refl
 set_iff_any k (y ∷ ys) = ap (λ (b : Bool). bytes_eq k.now y.now || b) (set_iff_any k ys)
 
 -- the index of a string among the strings
-pub index_found : (ks : List (Bor (List ℕ))) (x : Bor (List ℕ)) (r : Option ℕ) → Contains (lent_texts ks) x.now → is_some r ≡ list_any (text_eq x) ks → IsSome r
-index_found ks x r c is_in = is_in ∙ set_iff_any x ks ∙ test_from_Has (lent_texts ks) x.now (Has-from_Contains (lent_texts ks) x.now c)
+pub index_found : (ks : List (Bor (List ℕ))) (x : Bor (List ℕ)) (r : Option ℕ) → Contains (borrowed_texts ks) x.now → is_some r ≡ list_any (text_eq x) ks → IsSome r
+index_found ks x r c is_in = is_in ∙ set_iff_any x ks ∙ test_from_Has (borrowed_texts ks) x.now (Has-from_Contains (borrowed_texts ks) x.now c)
 
-pub index_text : (ks : List (Bor (List ℕ))) (x : Bor (List ℕ)) (i : ℕ) (d : List ℕ) → position (text_eq x) ks ≡ Some i → (i < length (lent_texts ks)) × (get_or (lent_texts ks) i d ≡ x.now)
+pub index_text : (ks : List (Bor (List ℕ))) (x : Bor (List ℕ)) (i : ℕ) (d : List ℕ) → position (text_eq x) ks ≡ Some i → (i < length (borrowed_texts ks)) × (get_or (borrowed_texts ks) i d ≡ x.now)
 index_text ks x i d found =
     let e : Bor (List ℕ) = record { ref_ptr = (0, 0); now = d } in
     let at = position-Some (text_eq x) ks i e found in
     (omega (arith, at.0, texts_length ks), text_at ks i e at.0 ∙ sym (same_text x.now ((get_or ks i e).now) at.1))
 
-texts_push : (ks : List (Bor (List ℕ))) (k : Bor (List ℕ)) → lent_texts (ks ++ k ∷ []) ≡ lent_texts ks ++ k.now ∷ []
+texts_push : (ks : List (Bor (List ℕ))) (k : Bor (List ℕ)) → borrowed_texts (ks ++ k ∷ []) ≡ borrowed_texts ks ++ k.now ∷ []
 texts_push ks k = map-append (λ (n : Bor (List ℕ)). n.now) ks (k ∷ [])
 
 -- the strings after an insert
-pub set_known : (ks : List (Bor (List ℕ))) (k : Bor (List ℕ)) → Has (lent_texts ks) k.now → insert_key text_eq ks k ≡ ks
-set_known ks k h = cond-true (list_any (text_eq k) ks) ks (ks ++ k ∷ []) (set_iff_any k ks ∙ test_from_Has (lent_texts ks) k.now h)
+pub set_known : (ks : List (Bor (List ℕ))) (k : Bor (List ℕ)) → Has (borrowed_texts ks) k.now → insert_key text_eq ks k ≡ ks
+set_known ks k h = cond-true (list_any (text_eq k) ks) ks (ks ++ k ∷ []) (set_iff_any k ks ∙ test_from_Has (borrowed_texts ks) k.now h)
 
-pub set_new : (ks : List (Bor (List ℕ))) (k : Bor (List ℕ)) → ¬ Has (lent_texts ks) k.now → lent_texts (insert_key text_eq ks k) ≡ lent_texts ks ++ k.now ∷ []
+pub set_new : (ks : List (Bor (List ℕ))) (k : Bor (List ℕ)) → ¬ Has (borrowed_texts ks) k.now → borrowed_texts (insert_key text_eq ks k) ≡ borrowed_texts ks ++ k.now ∷ []
 set_new ks k n = grind (arith, Has_from_test, set_iff_any, texts_push)
 
 some_text : (x : List ℕ) → eqb (length x) 0 ≡ false → x ≢ []
 some_text x f e = eqb-false (length x) 0 f (ap (λ (t : List ℕ). length t) e)
 
-pub set_adds : (ks fs : List (Bor (List ℕ))) (k : Bor (List ℕ)) → eqb (length k.now) 0 ≡ false → fs ≡ insert_key text_eq ks k → AddsName (lent_texts ks) (lent_texts fs) k.now
-set_adds ks fs k some f xs e = grind (arith, set_known, kept_known, set_new, kept_new, some_text, (Has_cases (lent_texts ks) k.now))
+pub set_adds : (ks fs : List (Bor (List ℕ))) (k : Bor (List ℕ)) → eqb (length k.now) 0 ≡ false → fs ≡ insert_key text_eq ks k → AddsName (borrowed_texts ks) (borrowed_texts fs) k.now
+set_adds ks fs k some f xs e = grind (arith, set_known, kept_known, set_new, kept_new, some_text, (Has_cases (borrowed_texts ks) k.now))
 
 pub filter_all : (p : List ℕ → Bool) (xs : List (List ℕ)) → ((y : List ℕ) → Has xs y → p y ≡ true) → filter p xs ≡ xs
 filter_all p [] h = refl

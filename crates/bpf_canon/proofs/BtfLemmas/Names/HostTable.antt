@@ -10,7 +10,7 @@ use Rattle.btf_types.specs.strings.SharedNames.{hosts_of, host_in, shared_among}
 use Rattle.btf_types.proofs.Members.{Has, Has-get_or, Has-from_filter}
 use Rattle.btf_types.proofs.StringLemmas.{Texts.same_text, Texts.bytes_eq-same, Distinct.NoRepeats, Distinct.apart_after}
 use Rattle.btf_types.proofs.StringLemmas.{Suffixes.Ends-length, Hosts.host_is, Hosts.own_host_of}
-use Rattle.bpf_canon.specs.btf.names.Interned.{lent_texts, HaveHosts, ArePlacedHosts, AreShared, name_at}
+use Rattle.bpf_canon.specs.btf.names.Interned.{borrowed_texts, HaveHosts, ArePlacedHosts, AreShared, name_at}
 use Rattle.bpf_canon.proofs.BtfLemmas.Names.KeptSteps.{place_stays, place_last, length-table_push}
 use Rattle.bpf_canon.proofs.BtfLemmas.Names.HostSearch.{text_at, texts_length}
 use Rattle.bpf_canon.proofs.BtfLemmas.Names.{KeptSteps.place_room, Gathering.Has-front, Gathering.Has-back}
@@ -123,7 +123,7 @@ pub record ReadsPlace (ks : List (List ℕ)) (names : List (Bor (List ℕ))) (x 
   pub fits : n + length ((get_or names h d).now) < 2 ^ 32
   pub place : n + (length ((get_or names h d).now) - length x) ≡ shared_among ks x
 
-pub reads_place : (ks : List (List ℕ)) (names : List (Bor (List ℕ))) (host_indices places : List ℕ) (table_len i h n : ℕ) (x : List ℕ) (d : Bor (List ℕ)) → d.now ≡ [] → lent_texts names ≡ ks → NoRepeats ks → AreShared ks host_indices places table_len
+pub reads_place : (ks : List (List ℕ)) (names : List (Bor (List ℕ))) (host_indices places : List ℕ) (table_len i h n : ℕ) (x : List ℕ) (d : Bor (List ℕ)) → d.now ≡ [] → borrowed_texts names ≡ ks → NoRepeats ks → AreShared ks host_indices places table_len
     → i < length ks → name_at ks i ≡ x → 0 < length x → h ≡ get_or host_indices i h → n ≡ get_or places h n → ReadsPlace ks names x h n d
 reads_place ks names host_indices places table_len i h n x d none same apart are low is some h_is n_is =
     let p = has_place ks host_indices places table_len apart are x i low is some in

@@ -1,25 +1,32 @@
 -- The names of one item and of one record more.
-use Rattle.std.proofs.Common.{◌≡◌, ℕ, ◌+◌, ◌<◌, List, [], inl, inr, length, take, get_or, arith}
-use Rattle.std.proofs.lemmas.Grind.{common_steps}
-use Rattle.std.proofs.lemmas.List.{Elements.All-nil, Elements.All-cons}
-use Rattle.std.specs.Prelude.{if◌then◌else◌}
+use Rattle.std.proofs.Common.{◌≡◌, ◌∙◌, ℕ, suc, ◌+◌, ◌-◌, ◌<◌, Some, List, [], ◌∷◌, ◌++◌, inl, inr, length, take, sym, ap, append-nil, arith}
+use Rattle.std.proofs.lemmas.List.{Concat.flat_map-append, Elements.All-nil, Elements.All-cons}
+use Rattle.std.specs.Prelude.{if◌then◌else◌, slice_get}
 use Rattle.std.specs.List.{All}
-use Rattle.btf_types.proofs.{TabulateSteps.All-tabulate, TableLemmas.TextSteps.decided}
-use Rattle.bpf_words.specs.declared.Order.{Order}
+use Rattle.btf_types.proofs.{TabulateSteps.All-tabulate, TableLemmas.TableWalk.take_more, TableLemmas.TextSteps.decided}
 use Rattle.btf_raw.specs.{Frames.name_word, Frames.kind, Frames.vlen, Kinds.has_item_names}
 use Rattle.btf_raw.proofs.Texts.{TextAt-inside}
 use Rattle.btf_types.specs.tables.PlaceWords.{ReadsRecord}
-use Rattle.btf_types.specs.Reading.{text_from, frame_at, frames_at, item_total, tabulate}
+use Rattle.btf_types.specs.Reading.{text_from, item_total, tabulate}
 use Rattle.bpf_canon.specs.btf.strings.FirstUses.{noted, noted_all}
 use Rattle.bpf_canon.specs.btf.write.NameOffsets.{item_word, name_offsets, all_offsets, IsBelow}
 use Rattle.bpf_canon.proofs.BtfLemmas.{Strings.FirstUseSteps.noted_all-append, Write.RecordNames.named_total}
 
+-- one more of the frames, that of the next ID
+pub one_more : (frames : List (List ℕ)) (i : ℕ) (f : List ℕ) → slice_get frames (i + 1 - 1) ≡ Some f → take (i + 1) frames ≡ take i frames ++ f ∷ []
+one_more frames i f is =
+    let at : i + 1 - 1 ≡ i = omega arith in
+    let next : i + 1 ≡ suc i = omega arith in
+    rw next (take_more frames i f (rw at at is))
+
 pub item_noted : (offs : List ℕ) (f : ℕ → ℕ) (k : ℕ) → noted (noted_all offs (tabulate f k)) (f k) ≡ noted_all offs (tabulate f (k + 1))
 item_noted offs f k = grind (arith, noted_all-append)
 
-pub record_noted : (o : Order) (types places : List ℕ) (i : ℕ) → i < length places
-    → noted_all (noted_all [] (all_offsets (frames_at o types (take i places)))) (name_offsets (frame_at o types (get_or places i 0))) ≡ noted_all [] (all_offsets (frames_at o types (take (i + 1) places)))
-record_noted o types places i low = grind (arith, common_steps, noted_all-append)
+pub record_noted : (frames : List (List ℕ)) (i : ℕ) (f : List ℕ) → slice_get frames (i + 1 - 1) ≡ Some f
+    → noted_all (noted_all [] (all_offsets (take i frames))) (name_offsets f) ≡ noted_all [] (all_offsets (take (i + 1) frames))
+record_noted frames i f is =
+    rw (one_more frames i f is)
+    (sym (ap (noted_all []) (flat_map-append name_offsets (take i frames) (f ∷ []) ∙ ap (λ (t : List ℕ). all_offsets (take i frames) ++ t) (append-nil (name_offsets f))) ∙ noted_all-append [] (all_offsets (take i frames)) (name_offsets f)))
 
 -- the names of a record are inside the strings
 pub names_inside : (strings f : List ℕ) → ReadsRecord strings f → All (IsBelow (length strings)) (name_offsets f)

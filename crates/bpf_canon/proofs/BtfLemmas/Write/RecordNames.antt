@@ -1,15 +1,14 @@
 -- The names of records are the strings at the offsets in their frames.
-use Rattle.std.proofs.Common.{◌≡◌, ℕ, zero, suc, ◌+◌, ◌*◌, ◌<◌, Bool, true, false, List, [], ◌∷◌, ◌++◌, length, map, get_or, refl, sym, ap, ◌∙◌, subst, arith, rules}
-use Rattle.std.specs.Prelude.{slice_index, ◌==◌, if◌then◌else◌}
+use Rattle.std.proofs.Common.{◌≡◌, ℕ, zero, suc, ◌+◌, ◌*◌, ◌<◌, Bool, true, false, Some, List, [], ◌∷◌, ◌++◌, length, map, get_or, refl, sym, ap, ◌∙◌, subst, arith, rules}
+use Rattle.std.specs.Prelude.{slice_index, slice_get, ◌==◌, if◌then◌else◌}
 use Rattle.std.specs.List.{All, AllZip, filter}
 use Rattle.std.proofs.lemmas.List.{map-append, Elements.All-head, Elements.All-tail, Elements.filter-append}
-use Rattle.bpf_words.specs.declared.Order.{Order}
 use Rattle.btf_raw.specs.{Header.HasNulEnds, Kinds.item_words, Kinds.has_item_names}
 use Rattle.btf_raw.specs.Frames.{IsFrame, name_word, kind, vlen, flag}
 use Rattle.btf_raw.proofs.Texts.{TextAt-unique, TextAt-inside}
 use Rattle.btf_types.specs.{Values.TypeRecord, Spelling.Spells}
 use Rattle.btf_types.specs.Names.{head_name, item_name, record_names, names, is_other, distinct, is_some_text, kept}
-use Rattle.btf_types.specs.Reading.{text_from, item_from, item_total, record_of, frame_at, frames_at, tabulate}
+use Rattle.btf_types.specs.Reading.{text_from, item_from, item_total, record_of, tabulate}
 use Rattle.btf_types.proofs.KindCases.{KindIs, IsStruct, IsUnion, IsEnum, IsFuncProto, IsEnum64}
 use Rattle.btf_types.proofs.{FaultlessLemmas.FaultlessWords.known, Lists.length-tabulate, Lists.get_or-tabulate}
 use Rattle.btf_types.proofs.TableLemmas.TextSteps.{text_there}
@@ -132,7 +131,9 @@ item_is P f size count k offset each items low is =
     let at : item_word f k ≡ offset = ap (λ (w : ℕ). slice_index f (3 + w * k)) items.words ∙ sym is in
     subst P at (item_offset P f k items.named each (omega arith))
 
-pub record_offsets : (P : ℕ → Type 0) (o : Order) (types places : List ℕ) (i : ℕ) → i < length places → All P (all_offsets (frames_at o types places)) → All P (name_offsets (frame_at o types (get_or places i 0)))
-record_offsets P o types [] i low all = absurd (omega arith)
-record_offsets P o types (pos ∷ places) zero low all = All-front P (name_offsets (frame_at o types pos)) (all_offsets (frames_at o types places)) all
-record_offsets P o types (pos ∷ places) (suc i) low all = omega (arith, (record_offsets P o types places i (omega arith) (All-back P (name_offsets (frame_at o types pos)) (all_offsets (frames_at o types places)) all)))
+pub record_offsets : (P : ℕ → Type 0) (frames : List (List ℕ)) (i : ℕ) (f : List ℕ) → slice_get frames i ≡ Some f → All P (all_offsets frames) → All P (name_offsets f)
+record_offsets P [] i f is all = absurd cc
+record_offsets P (g ∷ frames) zero f is all =
+    let same : g ≡ f = cc in
+    subst (λ (x : List ℕ). All P (name_offsets x)) same (All-front P (name_offsets g) (all_offsets frames) all)
+record_offsets P (g ∷ frames) (suc i) f is all = record_offsets P frames i f is (All-back P (name_offsets g) (all_offsets frames) all)

@@ -1,23 +1,24 @@
 -- The 32-bit words of a record, from those of its frame.
-use Rattle.std.proofs.Common.{◌≡◌, ◌≢◌, ◌⊎◌, ℕ, zero, suc, ◌+◌, ◌*◌, ◌/◌, ◌%◌, ◌^◌, ◌<◌, ◌≤◌, Bool, true, false, not, List, [], ◌∷◌, ◌++◌, length, map, take, drop, get_or, refl, sym, ap, ◌∙◌, inl, inr, append-nil, arith, rules}
+use Rattle.std.proofs.Common.{◌≡◌, ◌≢◌, ◌⊎◌, ℕ, zero, suc, ◌+◌, ◌-◌, ◌*◌, ◌/◌, ◌%◌, ◌^◌, ◌<◌, ◌≤◌, Bool, true, false, not, Some, List, [], ◌∷◌, ◌++◌, length, map, take, drop, get_or, refl, sym, ap, ◌∙◌, inl, inr, append-nil, arith, rules}
 use Rattle.std.proofs.lemmas.Grind.{common_steps}
-use Rattle.std.specs.Prelude.{slice_index, ◌==◌, ◌||◌, ⊤}
+use Rattle.std.specs.Prelude.{slice_index, slice_get, ◌==◌, ◌||◌, ⊤}
 use Rattle.std.specs.List.{All, AllZip, concat, flat_map, list_any}
 use Rattle.std.proofs.{lemmas.Bool.cases_eq, lemmas.Bool.ne_eqb, lemmas.Bool.or_left, lemmas.Bool.or_right}
-use Rattle.std.proofs.lemmas.List.{get_or-drop, length-drop, map-append, map_more, Concat.flat_map-append, Elements.All-head, Elements.All-tail, Folds.list_any-append}
+use Rattle.std.proofs.lemmas.List.{get_or-drop, length-drop, map-append, Concat.flat_map-append, Elements.All-head, Elements.All-tail, Folds.list_any-append}
 use Rattle.bpf_words.specs.{declared.Order.Order, Words.word32}
 use Rattle.btf_raw.specs.{Header.HasNulEnds, Kinds.item_words, Kinds.kind_of, Kinds.has_item_names, Kinds.is_struct}
 use Rattle.btf_raw.specs.Frames.{IsFrame, info_word, third_word, name_word, kind, vlen, flag, bytes_of, section_of}
 use Rattle.btf_types.specs.Values.{TypeHead, TypeItem, Entry, TypeRecord}
-use Rattle.btf_types.specs.{Names.head_name, judge.RecordFaults.BitFieldsAre, Good.has_width, Good.has_bit_fields}
+use Rattle.btf_types.specs.{Names.head_name, checks.RecordFaults.BitFieldsAre, Good.has_width, Good.has_bit_fields}
 use Rattle.btf_types.specs.Spelling.{kind_number, head_third, head_tail, FlagSpells, record_vlen, info, ItemSpells, Spells}
-use Rattle.btf_types.specs.Reading.{text_from, head_from, item_from, item_of, item_total, record_of, frame_at, frames_at, records_at, tabulate}
+use Rattle.btf_types.specs.Reading.{text_from, head_from, item_from, item_of, item_total, record_of, tabulate}
 use Rattle.btf_types.proofs.KindCases.{KindIs, IsStruct, IsUnion, IsEnum, IsFuncProto, IsEnum64}
 use Rattle.btf_types.proofs.FaultlessLemmas.{FaultlessRecords.bit_fields_there, FaultlessWords.known, FaultlessWords.room}
 use Rattle.btf_types.proofs.Spelled.{info_parts, InfoParts, kind_below, vlen_below, flag_below}
 use Rattle.btf_types.proofs.{TableLemmas.TableReads.count_there, TableLemmas.TextSteps.decided, TabulateSteps.All-tabulate}
 use Rattle.bpf_canon.specs.btf.CanonicalBtf.{canonical_flag, words_of_item as words_of, record_words}
-use Rattle.bpf_canon.specs.btf.write.SectionRecords.{record_info}
+use Rattle.bpf_canon.specs.btf.write.BtfWords.{record_info}
+use Rattle.bpf_canon.proofs.BtfLemmas.Names.NoteSteps.{one_more}
 use Rattle.bpf_canon.proofs.BtfLemmas.Write.{RecordNames.HasNamedItems, RecordNames.head_name_is, WriteSteps.pushed_two}
 
 -- the 32-bit words of a record's items, and all after the third
@@ -214,15 +215,14 @@ record_pushed o old place strings f at info third ends s ate ie te =
 
 -- ---- all records
 
-pub record_more : (from to : Order) (place : List ℕ → ℕ) (types strings places : List ℕ) (i : ℕ) → i < length places
-    → section_of to (map (record_words place) (records_at from types strings (take i places))) ++ bytes_of to (record_words place (record_of strings (frame_at from types (get_or places i 0))))
-    ≡ section_of to (map (record_words place) (records_at from types strings (take (i + 1) places)))
-record_more from to place types strings places i low =
-    let words : List (List ℕ) → List (List ℕ) = λ frames. map (record_words place) (map (record_of strings) frames) in
-    let before = frames_at from types (take i places) in
-    let frame = frame_at from types (get_or places i 0) in
+pub record_more : (to : Order) (place : List ℕ → ℕ) (strings : List ℕ) (frames : List (List ℕ)) (i : ℕ) (frame : List ℕ) → slice_get frames (i + 1 - 1) ≡ Some frame
+    → section_of to (map (record_words place) (map (record_of strings) (take i frames))) ++ bytes_of to (record_words place (record_of strings frame))
+    ≡ section_of to (map (record_words place) (map (record_of strings) (take (i + 1) frames)))
+record_more to place strings frames i frame is =
+    let words : List (List ℕ) → List (List ℕ) = λ fs. map (record_words place) (map (record_of strings) fs) in
+    let before = take i frames in
     let more : words (before ++ frame ∷ []) ≡ words before ++ record_words place (record_of strings frame) ∷ [] = grind (arith, map-append) in
-    sym (ap (λ (frames : List (List ℕ)). section_of to (words frames)) (map_more (frame_at from types) places i 0 low) ∙ ap (section_of to) more
+    sym (ap (λ (fs : List (List ℕ)). section_of to (words fs)) (one_more frames i frame is) ∙ ap (section_of to) more
     ∙ flat_map-append (bytes_of to) (words before) (record_words place (record_of strings frame) ∷ [])
     ∙ ap (λ (t : List ℕ). section_of to (words before) ++ t) (append-nil (bytes_of to (record_words place (record_of strings frame)))))
 

@@ -6,8 +6,8 @@ use Rattle.btf_types.specs.Names.{kept, table_of, place_in}
 use Rattle.btf_types.specs.strings.SharedNames.{tail_cmp, hosts_of, host_in}
 
 -- the borrowed strings
-abbrev pub lent_texts : List (Bor (List ℕ)) → List (List ℕ)
-lent_texts names = map (λ name. name.now) names
+abbrev pub borrowed_texts : List (Bor (List ℕ)) → List (List ℕ)
+borrowed_texts names = map (λ name. name.now) names
 
 -- new contains the kept names of old and of one more name
 abbrev pub AddsName : List (List ℕ) → List (List ℕ) → List ℕ → Type 0

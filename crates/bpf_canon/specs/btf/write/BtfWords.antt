@@ -2,7 +2,8 @@
 -- The 32-bit words that encode the parts of a record.
 use Rattle.std.specs.Prelude.{◌≡◌, ◌⊎◌, ℕ, ◌^◌, ◌<◌, Bool, List, ◌∷◌, ⊤}
 use Rattle.btf_types.specs.{Values.TypeHead, Values.KFunc, Values.TypeItem, Values.Member, Names.head_name}
-use Rattle.btf_types.specs.Spelling.{kind_number, head_third, linkage_number, head_tail, info}
+use Rattle.btf_types.specs.{Values.TypeRecord, Good.has_bit_fields}
+use Rattle.btf_types.specs.Spelling.{kind_number, head_third, linkage_number, head_tail, record_vlen, info}
 use Rattle.bpf_canon.specs.btf.CanonicalBtf.{canonical_flag}
 
 -- vlen of the header of a record with n items
@@ -18,3 +19,7 @@ head_words place head count bit_fields =
 abbrev pub MemberFits : TypeItem → Type 0
 MemberFits (Member name target bit_offset width) = (width ≡ 0) ⊎ (bit_offset < 2 ^ 24)
 MemberFits _ = ⊤
+
+-- info of a record, with its canonical kind_flag
+abbrev pub record_info : TypeRecord → ℕ
+record_info r = info (kind_number r.head) (record_vlen r) (canonical_flag r.head (has_bit_fields r))

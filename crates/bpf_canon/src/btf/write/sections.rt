@@ -1,5 +1,5 @@
-//! Canonical bytes from the sections that a type table keeps (btf.rst section 2): the names are
-//! noted by their offsets only, and the records are copied with new offsets of their names.
+//! Canonical bytes from the sections of a checked file (btf.rst section 2): the names are noted by
+//! their offsets only, and the records are copied with new offsets of their names.
 //!
 //! The records are read twice, since a new offset depends on all names: first the names are noted,
 //! then the words are written. No value is made of a record: its words are read in the byte order
@@ -10,11 +10,12 @@ ghost use Rattle.std.specs.Prelude.{◌≡◌, ◌+◌, ◌^◌, ◌<◌, ◌++�
 ghost use Rattle.std.specs.{Prelude.drop, Prelude.map, List.All, List.Contains};
 ghost use Rattle.btf_raw.specs.Frames.{IsFrame, bytes_of, section_of};
 ghost use Rattle.btf_types.specs.{Reading.record_of, tables.PlaceWords.ReadsRecord};
+ghost use Rattle.btf_types.specs.{Sections.records_in, Denotes.Denotes};
 ghost use Rattle.bpf_canon.specs.btf.CanonicalBtf.{record_words, canonical};
 ghost use Rattle.bpf_canon.specs.btf.strings.FirstUses.{noted_all};
 ghost use Rattle.bpf_canon.specs.btf.write.NameOffsets.{IsBelow, HasNotedNames, name_offsets};
 ghost use Rattle.bpf_canon.specs.btf.write.NameOffsets.{all_offsets, placed};
-ghost use Rattle.bpf_canon.specs.btf.write.SectionRecords as spec;
+ghost use Rattle.bpf_canon.specs.btf.write.BtfWords.{record_info};
 
 use crate::btf::strings::shared_places::SharedPlaces;
 use crate::btf::strings::used_offsets::FirstUses;
@@ -53,14 +54,13 @@ fn noted_names<A: Allocator + Copy>(
     alloc: A,
     sections: &FileSections<'_>,
 ) -> Result<FirstUses<A>, AllocError>
-    requires { spec.AreTable sections.now }
-    ensures section { IfOk result (λ uses. uses.section_len ≡ length sections.now.strings.now) }
+    ensures section { IfOk result (λ uses. uses.section_len ≡ length sections.now.strings) }
     ensures offsets { IfOk result (λ uses. uses.offsets
-        ≡ noted_all [] (all_offsets (spec.frames_of sections.now))) }
+        ≡ noted_all [] (all_offsets sections.now.frames)) }
 {
-    let mut uses = FirstUses::new(alloc, sections.strings.len())?;
-    for pos in sections.places {
-        let this = sections.record_at(*pos as usize);
+    let mut uses = FirstUses::new(alloc, sections.strings().len())?;
+    for index in 0..sections.count() {
+        let this = sections.record(index + 1);
         note_record(&mut uses, &this)?;
     }
     Ok(uses)
@@ -71,7 +71,7 @@ fn noted_names<A: Allocator + Copy>(
 fn canonical_info(this: &Record) -> u32
     requires { IsFrame this.now }
     ensures { (strings : List ℕ) → ReadsRecord strings this.now
-        → result ≡ spec.record_info (record_of strings this.now) }
+        → result ≡ record_info (record_of strings this.now) }
 {
     let info = this.word(1);
     if flag_of(info) == 0 || !is_struct(this.kind()) || this.has_bit_fields() {
@@ -110,8 +110,9 @@ fn push_record<A: Allocator, B: Allocator + Copy>(
     ensures { OnOk result (out.new.items ≡ out.old.items
         ++ bytes_of to (record_words (placed names.now) (record_of names.now.strings this.now))) }
 {
+    let info = canonical_info(this);
     let name = names.place(this.word(0));
-    push_words(out, to, &[name, canonical_info(this), this.word(2)])?;
+    push_words(out, to, &[name, info, this.word(2)])?;
     let kind = this.kind();
     let vlen = this.vlen();
     if !has_item_names(kind) {
@@ -132,21 +133,19 @@ fn push_record<A: Allocator, B: Allocator + Copy>(
 }
 
 /// Appends all records.
-#[tactic(auto, using(crate::proofs::BtfLemmas::Write::RecordWords::record_more))]
 fn push_records<A: Allocator, B: Allocator + Copy>(
     out: &mut Vec<u8, A>,
     to: Order,
     names: &SharedPlaces<'_, B>,
     sections: &FileSections<'_>,
 ) -> Result<(), AllocError>
-    requires table { spec.AreTable sections.now }
-    requires strings { names.now.strings ≡ sections.now.strings.now }
-    requires noted { All (Contains names.now.offsets) (all_offsets (spec.frames_of sections.now)) }
+    requires strings { names.now.strings ≡ sections.now.strings }
+    requires noted { All (Contains names.now.offsets) (all_offsets sections.now.frames) }
     ensures { OnOk result (out.new.items ≡ out.old.items
-        ++ section_of to (map (record_words (placed names.now)) (spec.records_of sections.now))) }
+        ++ section_of to (map (record_words (placed names.now)) (records_in sections.now))) }
 {
-    for pos in sections.places {
-        let this = sections.record_at(*pos as usize);
+    for index in 0..sections.count() {
+        let this = sections.record(index + 1);
         push_record(out, to, names, &this)?;
     }
     Ok(())
@@ -160,13 +159,11 @@ fn write_placed<A: Allocator + Copy>(
     names: &SharedPlaces<'_, A>,
     sections: &FileSections<'_>,
 ) -> Result<Vec<u8, A>, AllocError>
-    requires table { spec.AreTable sections.now }
-    requires strings { names.now.strings ≡ sections.now.strings.now }
-    requires offsets { names.now.offsets
-        ≡ noted_all [] (all_offsets (spec.frames_of sections.now)) }
-    ensures { IfOk result (λ bytes. bytes.items ≡ canonical to (spec.records_of sections.now)) }
+    requires strings { names.now.strings ≡ sections.now.strings }
+    requires offsets { names.now.offsets ≡ noted_all [] (all_offsets sections.now.frames) }
+    ensures { IfOk result (λ bytes. bytes.items ≡ canonical to (records_in sections.now)) }
 {
-    let types_len = sections.types.len();
+    let types_len = sections.types().len();
     let table_len = names.table_len();
     let mut bytes = Vec::with_capacity(alloc, 24 + types_len + table_len as usize)?;
     push_header(&mut bytes, to, types_len as u32, table_len)?;
@@ -182,10 +179,10 @@ pub(crate) fn write_sections<A: Allocator + Copy>(
     to: Order,
     sections: &FileSections<'_>,
 ) -> Result<Vec<u8, A>, AllocError>
-    requires { spec.AreTable sections.now }
-    ensures { IfOk result (λ bytes. bytes.items ≡ canonical to (spec.records_of sections.now)) }
+    ensures form { IfOk result (λ bytes. bytes.items ≡ canonical to (records_in sections.now)) }
+    ensures accepted { IfOk result (λ bytes. Denotes bytes.items (records_in sections.now)) }
 {
     let uses = noted_names(alloc, sections)?;
-    let names = SharedPlaces::find(alloc, sections.strings, uses)?;
+    let names = SharedPlaces::find(alloc, sections.strings(), uses)?;
     write_placed(alloc, to, &names, sections)
 }

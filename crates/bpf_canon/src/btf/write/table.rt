@@ -173,8 +173,8 @@ fn write_table<T: TypeTable, A: Allocator + Copy>(
     order: Order,
     table: &T,
 ) -> Result<Vec<u8, A>, AllocError>
-    requires { IsGood (T.meaning table.now) }
-    ensures { IfOk result (λ bytes. bytes.items ≡ canonical order (T.meaning table.now)) }
+    ensures form { IfOk result (λ bytes. bytes.items ≡ canonical order (T.meaning table.now)) }
+    ensures accepted { IfOk result (λ bytes. Denotes bytes.items (T.meaning table.now)) }
 {
     let kept = kept_names(alloc, table)?;
     let names = SharedNames::new(alloc, kept)?;
@@ -200,8 +200,6 @@ pub fn write_btf<T: TypeTable, A: Allocator + Copy>(
     ensures form { IfOk result (λ bytes. bytes.items ≡ canonical order (T.meaning table.now)) }
     ensures accepted { IfOk result (λ bytes. Denotes bytes.items (T.meaning table.now)) }
 {
-    // The contract of this call guarantees that the records are valid.
-    let _count = table.count();
     match table.sections() {
         Some(sections) => write_sections(alloc, order, &sections),
         None => write_table(alloc, order, table),

@@ -1,5 +1,5 @@
-use Rattle.btf_types.proofs.JudgeLemmas.FaultLaws.{cut_is_judged, framing_is_judged, fields_are_judged, no_fault_is_accepted}
+use Rattle.btf_types.proofs.CheckLemmas.FaultLaws.{cut_is_checked, framing_is_checked, fields_are_checked, no_fault_is_accepted}
 use Rattle.btf_types.proofs.laws.no_fault_is_accepted.Goals as goal
 
 pub returns : goal.returns
-returns c = record { whole = no_fault_is_accepted; cut = cut_is_judged; framing = framing_is_judged; fields = fields_are_judged }
+returns c = record { whole = no_fault_is_accepted; cut = cut_is_checked; framing = framing_is_checked; fields = fields_are_checked }

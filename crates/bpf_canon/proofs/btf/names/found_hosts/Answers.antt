@@ -1,7 +1,7 @@
 use Rattle.std.proofs.Common.{◌≡◌, ℕ, ◌+◌, ◌-◌, ◌<◌, length, get_or, set, sym, ap, ◌∙◌, subst, arith, true}
 use Rattle.std.proofs.lemmas.List.{get_or_default}
 use Rattle.btf_types.specs.strings.SharedNames.{is_suffix}
-use Rattle.bpf_canon.specs.btf.names.Interned.{lent_texts}
+use Rattle.bpf_canon.specs.btf.names.Interned.{borrowed_texts}
 use Rattle.bpf_canon.proofs.BtfLemmas.Names.HostSteps.{kept_apart}
 use Rattle.bpf_canon.proofs.BtfLemmas.Names.HostIndices.{Named, HostsFrom, host_next_read, host_own_read, host_there, hosts_all}
 use Rattle.bpf_canon.proofs.btf.names.found_hosts.Goals as goal
@@ -9,7 +9,7 @@ use Rattle.bpf_canon.proofs.btf.names.found_hosts.Goals.{then-rank-len, then-ran
 
 pub loop-rank-preserved : goal.loop-rank-preserved
 loop-rank-preserved g c =
-    let ks = lent_texts c.args.names.now in
+    let ks = borrowed_texts c.args.names.now in
     let apart = kept_apart ks c.requires in
     let sorted = c.in_ok-sorted.sorted.items in
     let are = c.in_ok-sorted.ensures in
@@ -42,6 +42,6 @@ loop-rank-preserved g c =
 
 pub returns : goal.returns
 returns g c =
-    let ks = lent_texts c.args.names.now in
+    let ks = borrowed_texts c.args.names.now in
     let none : c.loop-rank.rank ≡ 0 = omega arith in
     hosts_all ks c.in_ok-sorted.sorted.items (kept_apart ks c.requires) c.in_ok-sorted.ensures c.loop-rank.host_indices.items (subst (HostsFrom ks c.in_ok-sorted.sorted.items c.loop-rank.host_indices.items) none c.loop-rank.invariant.0)

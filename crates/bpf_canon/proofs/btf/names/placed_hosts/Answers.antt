@@ -1,5 +1,5 @@
 use Rattle.std.proofs.Common.{◌≡◌, ℕ, ◌+◌, ◌^◌, ◌<◌, List, [], length, get_or, set, sym, ap, ◌∙◌, subst, arith}
-use Rattle.bpf_canon.specs.btf.names.Interned.{lent_texts}
+use Rattle.bpf_canon.specs.btf.names.Interned.{borrowed_texts}
 use Rattle.bpf_canon.proofs.BtfLemmas.Names.{HostSearch.no_name, HostSearch.text_at, HostSearch.texts_length, HostSteps.kept_apart}
 use Rattle.bpf_canon.proofs.BtfLemmas.Names.HostTable.{PlacedTo, placed_own, placed_other, placed_room, placed_all}
 use Rattle.bpf_canon.proofs.btf.names.placed_hosts.Given.{Over}
@@ -10,7 +10,7 @@ use Rattle.bpf_canon.proofs.btf.names.placed_hosts.Goals.{Then-host_indices-inde
 fits : (g : Over) (c : Then-host_indices-index g) → c.loop-index.len + (length ((get_or c.args.names.now c.loop-index.index no_name).now) + 1) < 2 ^ 32
 fits g c =
     let names = c.args.names.now in
-    let ks = lent_texts names in
+    let ks = borrowed_texts names in
     let low : c.loop-index.index < length names = omega arith in
     let room = placed_room ks c.args.host_indices.now (kept_apart ks c.requires.own) c.requires.host_indices c.loop-index.places.items c.loop-index.len c.loop-index.index c.loop-index.invariant (omega (arith, low, texts_length names)) c.if-host_indices-index.true in
     omega (arith, room, ap (λ (t : List ℕ). length t) (text_at names c.loop-index.index no_name low), c.requires.room)
@@ -27,7 +27,7 @@ overflow_cast-len g c = omega (arith, fits g (goal.at.overflow_cast-len g c).The
 pub loop-index-preserved : goal.loop-index-preserved
 loop-index-preserved g c =
     let names = c.args.names.now in
-    let ks = lent_texts names in
+    let ks = borrowed_texts names in
     let host_indices = c.args.host_indices.now in
     let k = c.loop-index.index in
     let low : k < length ks = omega (arith, texts_length names) in
@@ -45,6 +45,6 @@ loop-index-preserved g c =
 pub returns : goal.returns
 returns g c =
     let names = c.args.names.now in
-    let ks = lent_texts names in
+    let ks = borrowed_texts names in
     let all : c.loop-index.index ≡ length ks = omega (arith, texts_length names) in
     placed_all ks c.args.host_indices.now (kept_apart ks c.requires.own) c.requires.host_indices c.loop-index.places.items c.loop-index.len (subst (PlacedTo ks c.args.host_indices.now c.loop-index.places.items c.loop-index.len) all c.loop-index.invariant)

@@ -45,7 +45,18 @@ returns-then-within-n-clause-err g c =
     (run_too_long _ _ _ _ _ _ _ _ _ _ _ _ _ _ run c.in-Ok.ensures.bytes.0 c.in-Ok-pass_on.ensures.ok cut (omega (arith, inside, c.if-within-n.true, size)) (omega (arith, size, room)))
 
 pub reads-preserved : goal.reads-preserved
-reads-preserved g c = grind (arith, length-take-le, run_more, running_within)
+reads-preserved g c =
+    let run = c.reads.invariant.running in
+    let inside : c.min-within.result ≡ min c.in-Ok.n (limit - c.reads.feed.fed) = rw c.fed.ensures at c.min-within.ensures in
+    let all : c.min-within.result ≡ c.in-Ok.n = omega (arith, inside, c.if-within-n.false) in
+    let room : c.in-Ok.n ≤ length c.read.new.buffer = search rules in
+    let size = length-take-le c.min-within.result c.read.new.buffer (omega (arith, all, room)) in
+    let came = rw (← all) at c.in-Ok.ensures.bytes.0 in
+    record {
+      running = run_more _ _ _ _ _ _ _ _ _ _ _ _ _ run came c.in-Ok-pass_on.ensures.ok (omega (arith, inside, size, running_within _ _ _ _ _ run));
+      reads = search rules;
+      writes = search rules;
+    }
 
 pub returns-in-Ok-finish-clause-ok : goal.returns-in-Ok-finish-clause-ok
 returns-in-Ok-finish-clause-ok g c =

@@ -1,5 +1,5 @@
 use Rattle.std.proofs.{Common.arith}
-use Rattle.btf_types.proofs.JudgeLemmas.FramingSteps.{framed_more}
+use Rattle.btf_types.proofs.CheckLemmas.FramingSteps.{framed_more}
 use Rattle.btf_types.proofs.tables.places.record_places.Goals as goal
 
 pub loop-pos-preserved : goal.loop-pos-preserved

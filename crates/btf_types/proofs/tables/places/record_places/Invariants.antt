@@ -1,5 +1,5 @@
 use Rattle.std.proofs.Common.{◌-◌, length}
-use Rattle.btf_types.proofs.JudgeLemmas.FramingSteps.{IsFramedTo}
+use Rattle.btf_types.proofs.CheckLemmas.FramingSteps.{IsFramedTo}
 use Rattle.btf_types.proofs.tables.places.record_places.Given as goal
 
 abbrev pub invariant-loop-pos : goal.invariant-loop-pos

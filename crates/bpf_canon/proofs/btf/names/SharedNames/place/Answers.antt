@@ -2,7 +2,7 @@ use Rattle.std.proofs.Common.{ℕ, inl, inr, subst, List, [], length, sym, ap, �
 use Rattle.std.specs.List.{Contains}
 use Rattle.std.proofs.lemmas.Bool.{eqb-false}
 use Rattle.btf_types.specs.strings.SharedNames.{shared_among}
-use Rattle.bpf_canon.specs.btf.names.Interned.{lent_texts}
+use Rattle.bpf_canon.specs.btf.names.Interned.{borrowed_texts}
 use Rattle.bpf_canon.proofs.BtfLemmas.Names.{HostSearch.no_name, HostSteps.index_found, HostSteps.index_text, HostSteps.kept_apart, HostTable.ReadsPlace, HostTable.reads_place}
 use Rattle.bpf_canon.proofs.btf.names.SharedNames.place.Given.{Over}
 use Rattle.bpf_canon.proofs.btf.names.SharedNames.place.Goals.{After-as_slice}
@@ -18,14 +18,14 @@ unwrap-index-requires g c =
     index_found c.self.inside.names.keys c.args.name c.get_index_of.result (subst (λ (l : List (List ℕ)). Contains l c.args.name.now) (sym c.self.view_is) has) c.get_index_of.ensures.found
 
 -- what was read of the hosts and of their offsets
-read : (g : Over) (c : After-as_slice g) → ReadsPlace (lent_texts c.self.inside.names.keys) c.as_slice.result.now c.args.name.now c.index-host.result.now c.index.result.now no_name
+read : (g : Over) (c : After-as_slice g) → ReadsPlace (borrowed_texts c.self.inside.names.keys) c.as_slice.result.now c.args.name.now c.index-host.result.now c.index.result.now no_name
 read g c =
     let keys = c.self.inside.names.keys in
     let x = c.args.name.now in
     let empty = eqb-false (length x) 0 (sym c.if-is_empty.ensures) in
     let at = index_text keys c.args.name c.unwrap-index.result [] (sym c.get_index_of.ensures.index ∙ c.unwrap-index.ensures) in
-    reads_place (lent_texts keys) c.as_slice.result.now c.self.inside.host_indices.items c.self.inside.places.items c.self.inside.table_len c.unwrap-index.result c.index-host.result.now c.index.result.now x no_name refl
-    (ap lent_texts c.as_slice.ensures.keys) (kept_apart (lent_texts keys) c.self.invariant.own) c.self.invariant at.0 at.1 (omega (arith, empty)) c.index-host.ensures c.index.ensures
+    reads_place (borrowed_texts keys) c.as_slice.result.now c.self.inside.host_indices.items c.self.inside.places.items c.self.inside.table_len c.unwrap-index.result c.index-host.result.now c.index.result.now x no_name refl
+    (ap borrowed_texts c.as_slice.ensures.keys) (kept_apart (borrowed_texts keys) c.self.invariant.own) c.self.invariant at.0 at.1 (omega (arith, empty)) c.index-host.ensures c.index.ensures
 
 pub overflow_sub-result : goal.overflow_sub-result
 overflow_sub-result g c = omega (arith, (read g (goal.at.overflow_sub-result g c).After-as_slice).shorter)

@@ -1,7 +1,7 @@
 use Rattle.std.proofs.Common.{◌≡◌, ℕ, ◌<◌, List, [], ◌∷◌, ◌++◌, length, get_or, sym, ap, ◌∙◌, subst, arith}
 use Rattle.std.proofs.lemmas.List.{get_or_read}
 use Rattle.btf_types.specs.Names.{kept, table_of}
-use Rattle.bpf_canon.specs.btf.names.Interned.{lent_texts, HaveHosts}
+use Rattle.bpf_canon.specs.btf.names.Interned.{borrowed_texts, HaveHosts}
 use Rattle.bpf_canon.proofs.BtfLemmas.Names.HostSearch.{no_name, text_at, texts_length}
 use Rattle.bpf_canon.proofs.BtfLemmas.Names.HostSteps.{kept_apart, hosts_among, hosts_among_more, hosts_among_same}
 use Rattle.bpf_canon.proofs.BtfLemmas.Names.HostTable.{keeps_own, keeps_other, table_more}
@@ -11,11 +11,11 @@ use Rattle.bpf_canon.proofs.btf.names.SharedNames.push_table.Goals.{then-index+i
 pub loop-index-preserved : goal.loop-index-preserved
 loop-index-preserved g c =
     let names = c.as_slice-names.result.now in
-    let ks = lent_texts names in
+    let ks = borrowed_texts names in
     let host_indices = c.self.inside.host_indices.items in
     let k = c.loop-index.index in
     let old = c.args.out.now.items in
-    let same : ks ≡ lent_texts c.self.inside.names.keys = ap lent_texts c.as_slice-names.ensures.keys in
+    let same : ks ≡ borrowed_texts c.self.inside.names.keys = ap borrowed_texts c.as_slice-names.ensures.keys in
     let low : k < length names = omega arith in
     let in_ks : k < length ks = omega (arith, low, texts_length names) in
     let have = subst (λ (l : List (List ℕ)). HaveHosts l host_indices) (sym same) c.self.invariant.have_hosts in

@@ -24,8 +24,8 @@ front g c =
     let place : List ℕ → ℕ = placed c.args.names.now in
     let at : c.place-name.result ≡ place (text_from strings (name_word f)) = c.place-name.ensures ∙ ap (λ (w : ℕ). place (text_from strings w)) c.word.ensures in
     ap (λ (t : List ℕ). t ++ bytes_of c.args.to (record_tail place (record_of strings f))) c.in_ok-push_words.ensures.ok
-    ∙ record_pushed c.args.to c.args.out.now.items place strings f c.place-name.result c.canonical_info.result c.word-2.result
-    c.requires.reads.ends c.requires.reads.spelled at (c.canonical_info.ensures strings c.requires.reads) c.word-2.ensures
+    ∙ record_pushed c.args.to c.args.out.now.items place strings f c.place-name.result c.canonical_info-info.result c.word-2.result
+    c.requires.reads.ends c.requires.reads.spelled at (c.canonical_info-info.ensures strings c.requires.reads) c.word-2.ensures
 
 named : (g : Over) (c : After-item_words-size g) → HasNamedItems c.args.this.now c.item_words-size.result c.vlen-vlen.result
 named g c = record {

@@ -1,24 +1,24 @@
-use Rattle.std.proofs.Common.{ℕ, List, sym, subst, arith}
-use Rattle.std.specs.List.{All, Contains}
-use Rattle.btf_types.proofs.TableLemmas.TableReads.{has_record_at}
-use Rattle.bpf_canon.specs.btf.{write.NameOffsets.name_offsets}
-use Rattle.bpf_canon.proofs.BtfLemmas.Write.{RecordNames.record_offsets}
+use Rattle.std.proofs.Common.{◌++◌, ◌∙◌, ℕ, List, map, take, ap, append_assoc}
+use Rattle.std.specs.List.{Contains}
+use Rattle.btf_raw.specs.Frames.{bytes_of, section_of}
+use Rattle.btf_types.specs.Reading.{record_of}
+use Rattle.bpf_canon.specs.btf.{CanonicalBtf.record_words, write.NameOffsets.placed}
+use Rattle.bpf_canon.proofs.BtfLemmas.Write.{RecordNames.record_offsets, RecordWords.record_more}
 use Rattle.bpf_canon.proofs.btf.write.sections.push_records.Goals as goal
-
-pub record_at-this-requires : goal.record_at-this-requires
-record_at-this-requires g c =
-    let s = c.args.sections.now in
-    let has = has_record_at s.order s.types.now s.strings.now s.places.now c.loop-pos.pos-index c.requires.table (omega arith) in
-    record { inside = has.inside; frame = has.reads.frame }
-
-pub push_record-requires-clause-reads : goal.push_record-requires-clause-reads
-push_record-requires-clause-reads g c =
-    let s = c.args.sections.now in
-    let has = has_record_at s.order s.types.now s.strings.now s.places.now c.loop-pos.pos-index c.requires.table (omega arith) in
-    rw (c.requires.strings, c.record_at-this.ensures) has.reads
 
 pub push_record-requires-clause-noted : goal.push_record-requires-clause-noted
 push_record-requires-clause-noted g c =
+    record_offsets (Contains c.args.names.now.offsets) c.args.sections.now.frames _ c.record-this.result c.record-this.ensures.frame c.requires.noted
+
+pub loop-index-preserved : goal.loop-index-preserved
+loop-index-preserved g c =
+    let place : List ℕ → ℕ = placed c.args.names.now in
     let s = c.args.sections.now in
-    let noted = Contains c.args.names.now.offsets in
-    subst (λ (f : List ℕ). All noted (name_offsets f)) (sym c.record_at-this.ensures) (record_offsets noted s.order s.types.now s.places.now c.loop-pos.pos-index (omega arith) c.requires.noted)
+    let out = c.args.out.now.items in
+    let words : List ℕ → List ℕ = λ strings. bytes_of c.args.to (record_words place (record_of strings c.record-this.result)) in
+    let before = section_of c.args.to (map (record_words place) (map (record_of s.strings) (take c.loop-index.index s.frames))) in
+    c.in_ok-push_record.ensures
+    ∙ ap (λ (strings : List ℕ). c.loop-index.out.items ++ words strings) c.requires.strings
+    ∙ ap (λ (t : List ℕ). t ++ words s.strings) c.loop-index.invariant
+    ∙ append_assoc out before (words s.strings)
+    ∙ ap (λ (t : List ℕ). out ++ t) (record_more c.args.to place s.strings s.frames c.loop-index.index c.record-this.result c.record-this.ensures.frame)

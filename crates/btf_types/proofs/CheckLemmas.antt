@@ -1,0 +1,19 @@
+-- Lemmas on faults.
+pub mod FieldSteps
+pub mod FieldsLaw
+pub mod Firsts
+pub mod FramesLaw
+pub mod FramingSteps
+pub mod Checking
+pub mod NameSteps
+pub mod PhaseSteps
+pub mod Roles
+pub mod SectionSteps
+pub mod RoleSteps
+pub mod WordSteps
+pub mod Utf8Steps
+pub mod Marks
+pub mod FaultLaws
+pub mod BitSteps
+pub mod WordRoles
+pub mod RecordSteps

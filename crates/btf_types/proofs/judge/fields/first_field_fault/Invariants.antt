@@ -1,7 +1,0 @@
-use Rattle.std.proofs.Common.{ℕ, ◌<◌}
-use Rattle.btf_types.specs.{judge.RecordFaults.IsFaultlessIn, judge.SectionParts.words_in}
-use Rattle.btf_types.proofs.JudgeLemmas.SectionSteps.{nth_frame}
-use Rattle.btf_types.proofs.judge.fields.first_field_fault.Given as goal
-
-abbrev pub invariant-loop-i : goal.invariant-loop-i
-invariant-loop-i l = (k : ℕ) → k < l.i → IsFaultlessIn (words_in l.section-inside) (nth_frame l.section-inside k)

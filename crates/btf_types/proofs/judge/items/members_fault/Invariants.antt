@@ -1,6 +1,0 @@
-use Rattle.std.proofs.Common.{◌+◌, ◌*◌}
-use Rattle.btf_types.specs.judge.RecordFaults.{NoneWithin}
-use Rattle.btf_types.proofs.judge.items.members_fault.Given as goal
-
-abbrev pub invariant-loop-k : goal.invariant-loop-k
-invariant-loop-k l = NoneWithin l.section l.this 3 (3 + 3 * l.k)

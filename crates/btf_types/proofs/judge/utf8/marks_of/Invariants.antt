@@ -1,8 +1,0 @@
-use Rattle.btf_types.proofs.JudgeLemmas.Marks.{AreMarksFrom}
-use Rattle.btf_types.proofs.judge.utf8.marks_of.Given as goal
-
-abbrev pub invariant-loop-at : goal.invariant-loop-at
-invariant-loop-at g l = AreMarksFrom l.strings l.at l.next l.rest l.marks.items
-
-abbrev pub decreases-loop-at : goal.decreases-loop-at
-decreases-loop-at g l = l.at
