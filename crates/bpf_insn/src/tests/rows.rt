@@ -1,8 +1,9 @@
 //! What each call returns: for the bytes of every form of instruction, for faulty bytes, and for files.
 
 use super::equal;
+use super::texts::shows;
 use crate::{
-    Group, InsnError, InsnFront, Order, Reg, SlotCause, SlotFault, decode_insns, group_of,
+    Group, Insn, InsnError, InsnFront, Order, Reg, SlotCause, SlotFault, decode_insns, group_of,
     insn_bytes, insn_front, insn_len, read_insn,
 };
 use std::alloc::{AllocError, Global};
@@ -55,41 +56,55 @@ pub(super) fn in_order(alloc: Global, order: Order, little: &[u8]) -> Result<Vec
     Ok(bytes)
 }
 
-/// Whether each call returns what the row says of its bytes.
-fn is_right(alloc: Global, order: Order, row: &InsnRow) -> Result<bool, Fail> {
-    let bytes = in_order(alloc, order, row.little)?;
-    let (insn, len) = read_insn(order, &bytes).map_err(InsnError::Fault)?;
+/// Whether `Debug` shows an instruction as this text.
+fn is_shown(alloc: Global, insn: Insn, text: &str) -> Result<bool, AllocError> {
     let shown = format!(in alloc; "{insn:?}")?;
-    let (spelled, spelled_len) = insn_bytes(order, insn);
-    let is_read = shown.as_str() == row.insn && len == bytes.len();
-    let is_spelled = spelled_len == len && &spelled[..spelled_len] == bytes.as_slice();
-    let is_filled = spelled[spelled_len..].iter().all(|byte| *byte == 0);
-    let has_len = insn_len(order, &bytes) == Ok(len);
-    Ok(is_read && is_spelled && is_filled && has_len && group_of(insn) == row.group)
+    Ok(shown.as_str() == text)
+}
+
+/// Whether an instruction has these bytes, and only zeros after them.
+fn is_spelled(order: Order, insn: Insn, bytes: &[u8]) -> bool {
+    let (spelled, len) = insn_bytes(order, insn);
+    let is_filled = spelled[len..].iter().all(|byte| *byte == 0);
+    &spelled[..len] == bytes && is_filled
+}
+
+/// Whether each call returns what the row says of these bytes.
+fn is_right(alloc: Global, order: Order, bytes: &[u8], row: &InsnRow) -> Result<bool, AllocError> {
+    let Ok(found) = read_insn(order, bytes) else {
+        return Ok(false);
+    };
+    let (insn, len) = found;
+    let has_len = len == bytes.len() && insn_len(order, bytes) == Ok(len);
+    let is_spelled = is_spelled(order, insn, bytes) && group_of(insn) == row.group;
+    Ok(has_len && is_spelled && is_shown(alloc, insn, row.insn)?)
 }
 
 /// Checks rows in both orders.
-fn check_rows(rt: &impl Abort, alloc: Global, rows: &[InsnRow]) -> Result<(), Fail> {
+fn check_rows(rt: &impl Abort, alloc: Global, rows: &[InsnRow]) -> Result<(), AllocError> {
     for row in rows {
         for order in [Order::Little, Order::Big] {
-            let is_right = is_right(alloc, order, row)?;
+            let bytes = in_order(alloc, order, row.little)?;
+            let is_right = is_right(alloc, order, &bytes, row)?;
             equal(rt, &is_right, &true, &(order, row));
         }
     }
     Ok(())
 }
 
+/// Checks the rows of several tables in both orders.
+fn check_insns(rt: &impl Abort, alloc: Global, tables: &[&[InsnRow]]) -> Result<(), AllocError> {
+    for rows in tables {
+        check_rows(rt, alloc, rows)?;
+    }
+    Ok(())
+}
+
 #[test]
 fn instructions_are_read_and_written_in_both_orders(rt: HostRuntime) -> Result<(), Fail> {
-    for rows in arithmetic::arithmetic() {
-        check_rows(&rt, rt.alloc(), rows)?;
-    }
-    for rows in jumps::jumps() {
-        check_rows(&rt, rt.alloc(), rows)?;
-    }
-    for rows in load_store::load_store() {
-        check_rows(&rt, rt.alloc(), rows)?;
-    }
+    check_insns(&rt, rt.alloc(), &arithmetic::arithmetic())?;
+    check_insns(&rt, rt.alloc(), &jumps::jumps())?;
+    check_insns(&rt, rt.alloc(), &load_store::load_store())?;
     Ok(())
 }
 
@@ -112,57 +127,62 @@ static ORDERS: [OrderRow; 7] = [
     OrderRow { little: b"\x18\x31\0\0\x03\0\0\0\0\0\0\0\x01\0\0\0", big: b"\x18\x13\0\0\0\0\0\x03\0\0\0\0\0\0\0\x01", insn: "Wide { dst: Reg { number: 1 }, what: VarAddr(3, 1) }" },
 ];
 
+/// Whether a file is decoded to one instruction, which `Debug` shows as this text.
+fn has_one_insn(alloc: Global, order: Order, bytes: &[u8], text: &str) -> Result<bool, AllocError> {
+    let Ok(insns) = decode_insns(alloc, order, bytes) else {
+        return Ok(false);
+    };
+    match insns.first() {
+        Some(insn) if insns.len() == 1 => is_shown(alloc, *insn, text),
+        _ => Ok(false),
+    }
+}
+
 #[test]
 fn files_of_one_instruction_are_decoded_in_both_orders(rt: HostRuntime) -> Result<(), Fail> {
     for row in &ORDERS {
-        let shown = format!(in rt.alloc(); "[{}]", row.insn)?;
         for (order, bytes) in [(Order::Little, row.little), (Order::Big, row.big)] {
-            let insns = decode_insns(rt.alloc(), order, bytes)?;
-            let found = format!(in rt.alloc(); "{:?}", insns.as_slice())?;
             let is_turned = in_order(rt.alloc(), order, row.little)?.as_slice() == bytes;
-            equal(
-                &rt,
-                &(found == shown, is_turned),
-                &(true, true),
-                &(order, row),
-            );
+            let is_right = has_one_insn(rt.alloc(), order, bytes, row.insn)?;
+            equal(&rt, &(is_right, is_turned), &(true, true), &(order, row));
         }
     }
     Ok(())
 }
 
-/// Whether both calls find the fault of a row.
-fn has_fault(alloc: Global, order: Order, row: &FaultRow) -> Result<bool, AllocError> {
-    let fault = SlotFault {
+/// Whether both calls find the fault of a row in these bytes.
+fn has_fault(order: Order, bytes: &[u8], row: &FaultRow) -> bool {
+    let fault = Some(SlotFault {
         pos: row.pos,
         cause: row.cause,
-    };
-    let bytes = in_order(alloc, order, row.little)?;
-    Ok(read_insn(order, &bytes) == Err(fault) && insn_len(order, &bytes) == Err(fault))
+    });
+    read_insn(order, bytes).err() == fault && insn_len(order, bytes).err() == fault
 }
 
 /// Checks the faults of rows in both orders.
-fn check_faults(rt: &impl Abort, alloc: Global, rows: &[FaultRow]) -> Result<(), Fail> {
+fn check_faults(rt: &impl Abort, alloc: Global, rows: &[FaultRow]) -> Result<(), AllocError> {
     for row in rows {
         for order in [Order::Little, Order::Big] {
-            let has_fault = has_fault(alloc, order, row)?;
-            equal(rt, &has_fault, &true, &(order, row));
+            let bytes = in_order(alloc, order, row.little)?;
+            equal(rt, &has_fault(order, &bytes, row), &true, &(order, row));
         }
+    }
+    Ok(())
+}
+
+/// Checks the faults of the rows of several tables in both orders.
+fn check_tables(rt: &impl Abort, alloc: Global, tables: &[&[FaultRow]]) -> Result<(), AllocError> {
+    for rows in tables {
+        check_faults(rt, alloc, rows)?;
     }
     Ok(())
 }
 
 #[test]
 fn first_faults_are_found_in_both_orders(rt: HostRuntime) -> Result<(), Fail> {
-    for rows in faults::first_fields() {
-        check_faults(&rt, rt.alloc(), rows)?;
-    }
-    for rows in faults::middle_fields() {
-        check_faults(&rt, rt.alloc(), rows)?;
-    }
-    for rows in faults::last_fields() {
-        check_faults(&rt, rt.alloc(), rows)?;
-    }
+    check_tables(&rt, rt.alloc(), &faults::first_fields())?;
+    check_tables(&rt, rt.alloc(), &faults::middle_fields())?;
+    check_tables(&rt, rt.alloc(), &faults::last_fields())?;
     Ok(())
 }
 
@@ -214,21 +234,29 @@ fn complete_instructions_of_a_cut_file_are_found(rt: HostRuntime) {
     }
 }
 
+/// Whether the instructions of a file are those that `Debug` shows as this text.
+fn are_shown(alloc: Global, insns: &[Insn], text: Option<&str>) -> Result<bool, AllocError> {
+    let shown = format!(in alloc; "{insns:?}")?;
+    Ok(text == Some(shown.as_str()))
+}
+
+/// Whether the first bytes of the file are decoded, or refused as truncated in their last slot.
+fn is_cut_right(alloc: Global, len: usize) -> Result<bool, AllocError> {
+    let text = whole_insns(len);
+    match decode_insns(alloc, Order::Little, FILE.get(..len).unwrap_or(FILE)) {
+        Ok(insns) => are_shown(alloc, &insns, text),
+        Err(InsnError::Fault(fault)) => {
+            let is_last = fault.pos == (len - len % 8) as u64;
+            Ok(text.is_none() && is_last && fault.cause == SlotCause::Truncated)
+        }
+        Err(InsnError::Memory) => Ok(false),
+    }
+}
+
 #[test]
 fn a_file_that_is_cut_anywhere_is_decoded_or_refused(rt: HostRuntime) -> Result<(), Fail> {
     for len in 0..=FILE.len() {
-        let truncated = SlotFault {
-            pos: (len - len % 8) as u64,
-            cause: SlotCause::Truncated,
-        };
-        let right = match decode_insns(rt.alloc(), Order::Little, &FILE[..len]) {
-            Ok(insns) => {
-                let shown = format!(in rt.alloc(); "{:?}", insns.as_slice())?;
-                whole_insns(len) == Some(shown.as_str())
-            }
-            Err(error) => whole_insns(len).is_none() && error == InsnError::Fault(truncated),
-        };
-        equal(&rt, &right, &true, &len);
+        equal(&rt, &is_cut_right(rt.alloc(), len)?, &true, &len);
     }
     Ok(())
 }
@@ -278,18 +306,21 @@ const CAUSES: [(SlotCause, &str, &str); 8] = [
 ];
 
 #[test]
-fn causes_and_errors_have_these_strings(rt: HostRuntime) -> Result<(), Fail> {
+fn causes_have_these_strings(rt: HostRuntime) -> Result<(), Fail> {
     for (index, (cause, name, sentence)) in CAUSES.iter().enumerate() {
-        let shown = format!(in rt.alloc(); "{cause}")?;
-        let found = (*cause as usize, cause.name(), cause.describe());
+        let found = (usize::from(cause.number()), cause.name(), cause.describe());
         equal(&rt, &found, &(index + 1, *name, *sentence), cause);
-        equal(&rt, &shown.as_str(), name, cause);
+        shows(&rt, rt.alloc(), cause, name)?;
     }
-    let fault = InsnError::Fault(SlotFault {
+    Ok(())
+}
+
+#[test]
+fn errors_have_the_names_of_their_variants(rt: HostRuntime) -> Result<(), Fail> {
+    let fault = SlotFault {
         pos: 0,
         cause: SlotCause::Opcode,
-    });
-    let shown = format!(in rt.alloc(); "{fault} {}", InsnError::Memory)?;
-    equal(&rt, &shown.as_str(), &"Fault Memory", &"errors");
-    Ok(())
+    };
+    shows(&rt, rt.alloc(), &InsnError::Fault(fault), "Fault")?;
+    shows(&rt, rt.alloc(), &InsnError::Memory, "Memory")
 }

@@ -11,6 +11,7 @@ use bpf_insn::{Insn, Order};
 use btf_types::{BtfView, Head, Item};
 use bumpalo::Bump;
 use std::alloc::{AllocError, Allocator, Global};
+use std::process::Abort;
 use std::test::Fail;
 
 /// Nine lines of jumps, and a faulty one, each of 6 bytes. A list of instructions grows for its first, its fifth and its
@@ -50,7 +51,7 @@ fn arena(alloc: Global, room: usize) -> Result<Bump<Global>, AllocError> {
 }
 
 /// What a call returns in an arena.
-#[derive(Clone, Copy, Debug, PartialEq, Eq)]
+#[derive(Clone, Copy)]
 enum Outcome {
     /// What it returns with ample memory.
     Whole,
@@ -60,12 +61,24 @@ enum Outcome {
     Wrong,
 }
 
-/// A call on the first of the lines.
-#[derive(Clone, Copy, Debug)]
+/// A call.
+#[derive(Clone, Copy)]
 enum Call {
+    /// Calls on the first of the lines.
     Listing,
     Read,
     ReadBytes,
+    /// The call that lists types.
+    Types,
+    /// Calls that append to a listing.
+    Line,
+    Head,
+    HeadStart,
+    HeadEnd,
+    Item,
+    ItemStart,
+    ItemEnd,
+    QuotedPart,
 }
 
 /// Adds what a call returns in an arena to what it returned in all smaller ones: the smallest in which it succeeded, if
@@ -82,56 +95,147 @@ fn after(
     }
 }
 
-/// The outcome of a call that writes or reads `lines` lines, by what it returned and what is right.
-fn found<T: PartialEq>(returned: Result<&[T], ListError>, lines: usize, right: &[T]) -> Outcome {
+/// The text of the first `lines` lines.
+fn text_of(lines: usize) -> &'static [u8] {
+    &LINES[..6 * lines.min(10)]
+}
+
+/// The bytes of their instructions.
+fn bytes_of(lines: usize) -> &'static [u8] {
+    &JUMP_BYTES[..8 * lines.min(9)]
+}
+
+/// The outcome of a call that reads `lines` lines, by what it returned and what is right.
+fn read<T: PartialEq + Drop>(
+    returned: Result<Vec<T, &Bump<Global>>, ListError>,
+    lines: usize,
+    right: &[T],
+) -> Outcome {
     let fault = LineFault {
         line: 10,
         cause: LineCause::Word,
     };
     match returned {
-        Ok(items) if lines <= 9 && items == right => Outcome::Whole,
+        Ok(items) if lines <= 9 && items.as_slice() == right => Outcome::Whole,
         Err(ListError::Fault(first)) if lines == 10 && first == fault => Outcome::Whole,
         Err(ListError::Memory) => Outcome::Refused,
         _ => Outcome::Wrong,
     }
 }
 
-fn outcome_of(bump: &Bump<Global>, call: Call, lines: usize) -> Outcome {
-    let count = lines.min(9);
-    let text = &LINES[..6 * lines.min(10)];
+/// The outcome of a call that writes a text.
+fn written(returned: Result<Vec<u8, &Bump<Global>>, AllocError>, right: &[u8]) -> Outcome {
+    match returned {
+        Ok(text) if text.as_slice() == right => Outcome::Whole,
+        Ok(_) => Outcome::Wrong,
+        Err(AllocError) => Outcome::Refused,
+    }
+}
+
+/// A STRUCT of an INT, with its listing.
+const TYPES: KindRow = KindRow {
+    words: &[1, 0x0100_0000, 4, 0x0100_0020, 5, 0x8400_0001, 4, 7, 1, 0],
+    strings: b"\0int\0s\0a\0",
+    text: b"[1] int \"int\" size=4 encoding=signed offset=0 bits=32\n\
+        [2] struct \"s\" size=4 items=1\n\
+        \x20 member \"a\" type=1 offset=0 width=0\n",
+};
+
+/// What a call appends.
+fn wanted(call: Call) -> &'static [u8] {
     match call {
-        Call::Listing => match listing(bump, &JUMPS[..count]) {
-            Ok(written) => found(Ok(written.as_slice()), lines, text),
-            Err(AllocError) => Outcome::Refused,
-        },
-        Call::Read => match read_listing(bump, text) {
-            Ok(insns) => found(Ok(insns.as_slice()), lines, &JUMPS[..count]),
-            Err(error) => found(Err(error), lines, &JUMPS),
-        },
-        Call::ReadBytes => match read_listing_bytes(bump, Order::Little, text) {
-            Ok(bytes) => found(Ok(bytes.as_slice()), lines, &JUMP_BYTES[..8 * count]),
-            Err(error) => found(Err(error), lines, JUMP_BYTES),
-        },
+        Call::Line => b"exit\n",
+        Call::Head => b"[1] struct \"a\\\"b\" size=4 items=2\n",
+        Call::HeadStart => b"[1] struct \"",
+        Call::HeadEnd => b"\" size=4 items=2\n",
+        Call::Item => b"  param \"\\\\\" type=7\n",
+        Call::ItemStart => b"  param \"",
+        Call::ItemEnd => b"\" type=7\n",
+        Call::QuotedPart => b"a\\\"b\\x01c",
+        _ => b"",
+    }
+}
+
+fn append_by<A: Allocator>(text: &mut Vec<u8, A>, call: Call) -> Result<(), AllocError> {
+    let head = Head::KStruct {
+        name: "a\"b",
+        size: 4,
+    };
+    let item = Item::Param {
+        name: "\\",
+        target: 7,
+    };
+    match call {
+        Call::Line => push_line(text, Insn::Exit),
+        Call::Head => append_head(text, 1, head, 2),
+        Call::HeadStart => append_head_start(text, 1, head),
+        Call::HeadEnd => append_head_end(text, head, 2),
+        Call::Item => append_item(text, item, false),
+        Call::ItemStart => append_item_start(text, item),
+        Call::ItemEnd => append_item_end(text, item, false),
+        Call::QuotedPart => append_quoted_part(text, b"a\"b\x01c"),
+        _ => Ok(()),
+    }
+}
+
+/// The earlier contents of the listing to which a call appends.
+const HELD: &[u8] = b"; text\n";
+
+/// Whether a call that runs out of memory may append this: the first bytes of what it appends, but none of the line of an
+/// instruction.
+fn is_start(wanted: &[u8], more: &[u8], call: Call) -> bool {
+    wanted.starts_with(more) && (more.is_empty() || !matches!(call, Call::Line))
+}
+
+/// Whether a text keeps the earlier contents, and more is appended as expected.
+fn kept(text: &[u8], call: Call, is_done: bool) -> Outcome {
+    let wanted = wanted(call);
+    match text.strip_prefix(HELD) {
+        Some(more) if is_done && more == wanted => Outcome::Whole,
+        Some(more) if !is_done && is_start(wanted, more, call) => Outcome::Refused,
+        _ => Outcome::Wrong,
+    }
+}
+
+fn appended(bump: &Bump<Global>, call: Call) -> Outcome {
+    let Ok(mut text) = Vec::from_slice(bump, HELD) else {
+        return Outcome::Refused;
+    };
+    let is_done = append_by(&mut text, call).is_ok();
+    kept(&text, call, is_done)
+}
+
+fn outcome_of(bump: &Bump<Global>, row: &RoomRow, table: &BtfView<'_>) -> Outcome {
+    let lines = row.lines;
+    let insns = &JUMPS[..lines.min(9)];
+    match row.call {
+        Call::Listing => written(listing(bump, insns), text_of(lines)),
+        Call::Read => read(read_listing(bump, text_of(lines)), lines, insns),
+        Call::ReadBytes => {
+            let returned = read_listing_bytes(bump, Order::Little, text_of(lines));
+            read(returned, lines, bytes_of(lines))
+        }
+        Call::Types => written(show_btf(bump, table), TYPES.text),
+        call => appended(bump, call),
     }
 }
 
 /// The smallest arena that a call needs, or that of its first wrong result.
-fn least_room<Over: FnMut(&Bump<Global>) -> Outcome>(
+fn least_room(
     alloc: Global,
-    mut call: Over,
-) -> Result<Result<Option<usize>, usize>, AllocError>
-    requires { (f : _) (x : _) → Over.pre f x }
-{
+    row: &RoomRow,
+    table: &BtfView<'_>,
+) -> Result<Result<Option<usize>, usize>, AllocError> {
     let mut least = Ok(None);
     for room in 0..=ROOM {
-        let outcome = call(&arena(alloc, room)?);
-        least = after(least, room, outcome);
+        let bump = arena(alloc, room)?;
+        least = after(least, room, outcome_of(&bump, row, table));
     }
     Ok(least)
 }
 
-/// A call on the first of the lines, what it needs at least, and whether that is more than in the row before.
-#[derive(Clone, Copy, Debug)]
+/// A call, the number of lines if it is on these, what it needs at least, and whether that is more than in the row before. The
+/// rows of a call begin with none of the lines.
 struct RoomRow {
     call: Call,
     lines: usize,
@@ -145,7 +249,7 @@ macro_rules! row {
     };
 }
 
-static ROOMS: [RoomRow; 13] = [
+static ROOMS: [RoomRow; 22] = [
     row!(Listing of 0 => 0, false),
     row!(Listing of 1 => 6, true),
     row!(Listing of 9 => 54, true),
@@ -159,125 +263,43 @@ static ROOMS: [RoomRow; 13] = [
     row!(Read of 5 => 5, true),
     row!(Read of 9 => 9, true),
     row!(Read of 10 => 9, false),
+    row!(Types of 0 => 121, true),
+    row!(Line of 0 => 12, true),
+    row!(Head of 0 => 40, true),
+    row!(HeadStart of 0 => 19, true),
+    row!(HeadEnd of 0 => 24, true),
+    row!(Item of 0 => 27, true),
+    row!(ItemStart of 0 => 16, true),
+    row!(ItemEnd of 0 => 16, true),
+    row!(QuotedPart of 0 => 16, true),
 ];
 
-#[test]
-fn each_growth_is_refused(rt: HostRuntime) -> Result<(), Fail> {
-    let mut before = 0;
-    for row in &ROOMS {
-        if row.lines == 0 {
-            before = 0;
-        }
-        let least = least_room(rt.alloc(), |bump| outcome_of(bump, row.call, row.lines))?;
-        let right = match least {
-            Ok(Some(room)) => row.bytes <= room && before <= room && row.grows == (before < room),
-            _ => false,
-        };
-        equal(&rt, &right, &true, &(row, least, before));
-        before = least.ok().flatten().unwrap_or(before);
-    }
-    Ok(())
-}
-
-/// A STRUCT of an INT, with its listing.
-const TYPES: KindRow = KindRow {
-    words: &[1, 0x0100_0000, 4, 0x0100_0020, 5, 0x8400_0001, 4, 7, 1, 0],
-    strings: b"\0int\0s\0a\0",
-    text: b"[1] int \"int\" size=4 encoding=signed offset=0 bits=32\n\
-        [2] struct \"s\" size=4 items=1\n\
-        \x20 member \"a\" type=1 offset=0 width=0\n",
-};
-
-/// What the call that lists types returns in an arena.
-fn shown_in(bump: &Bump<Global>, table: &BtfView<'_>) -> Outcome {
-    match show_btf(bump, table) {
-        Ok(text) if text.as_slice() == TYPES.text => Outcome::Whole,
-        Ok(_) => Outcome::Wrong,
-        Err(AllocError) => Outcome::Refused,
-    }
+/// Checks a row after one that needed `before` bytes, and returns how many it needs.
+fn check(
+    rt: &impl Abort,
+    alloc: Global,
+    table: &BtfView<'_>,
+    row: &RoomRow,
+    before: usize,
+) -> Result<usize, AllocError> {
+    let before = if row.lines == 0 { 0 } else { before };
+    let least = least_room(alloc, row, table)?;
+    let right = match least {
+        Ok(Some(room)) => row.bytes <= room && before <= room && row.grows == (before < room),
+        _ => false,
+    };
+    let case = (row.call as usize, row.lines, least, before);
+    equal(rt, &right, &true, &case);
+    Ok(least.ok().flatten().unwrap_or(before))
 }
 
 #[test]
-fn each_growth_of_a_type_listing_is_refused(rt: HostRuntime) -> Result<(), Fail> {
+fn each_refused_allocation_is_reported(rt: HostRuntime) -> Result<(), Fail> {
     let bytes = file(rt.alloc(), Order::Little, &TYPES)?;
     let table = BtfView::parse(rt.alloc(), &bytes)?;
-    let least = least_room(rt.alloc(), |bump| shown_in(bump, &table))?;
-    let right = matches!(least, Ok(Some(room)) if TYPES.text.len() <= room);
-    equal(&rt, &right, &true, &least);
-    Ok(())
-}
-
-/// A call that appends to a listing.
-#[derive(Clone, Copy, Debug)]
-enum Append {
-    Line,
-    Head,
-    HeadStart,
-    HeadEnd,
-    Item,
-    ItemStart,
-    ItemEnd,
-    QuotedPart,
-}
-
-/// The calls, and what each appends.
-static APPENDS: [(Append, &[u8]); 8] = [
-    (Append::Line, b"exit\n"),
-    (Append::Head, b"[1] struct \"a\\\"b\" size=4 items=2\n"),
-    (Append::HeadStart, b"[1] struct \""),
-    (Append::HeadEnd, b"\" size=4 items=2\n"),
-    (Append::Item, b"  param \"\\\\\" type=7\n"),
-    (Append::ItemStart, b"  param \""),
-    (Append::ItemEnd, b"\" type=7\n"),
-    (Append::QuotedPart, b"a\\\"b\\x01c"),
-];
-
-fn append_by<A: Allocator>(text: &mut Vec<u8, A>, call: Append) -> Result<(), AllocError> {
-    let head = Head::KStruct {
-        name: "a\"b",
-        size: 4,
-    };
-    let item = Item::Param {
-        name: "\\",
-        target: 7,
-    };
-    match call {
-        Append::Line => push_line(text, Insn::Exit),
-        Append::Head => append_head(text, 1, head, 2),
-        Append::HeadStart => append_head_start(text, 1, head),
-        Append::HeadEnd => append_head_end(text, head, 2),
-        Append::Item => append_item(text, item, false),
-        Append::ItemStart => append_item_start(text, item),
-        Append::ItemEnd => append_item_end(text, item, false),
-        Append::QuotedPart => append_quoted_part(text, b"a\"b\x01c"),
-    }
-}
-
-/// Whether a call in an arena keeps the earlier contents, and appends what is expected. If it runs out of memory, it may append
-/// the first bytes of that, but none of the line of an instruction.
-fn keeps_the_text(bump: &Bump<Global>, held: &[u8], call: Append, wanted: &[u8]) -> Outcome {
-    let Ok(mut text) = Vec::from_slice(bump, held) else {
-        return Outcome::Refused;
-    };
-    let done = append_by(&mut text, call).is_ok();
-    let Some(more) = text.strip_prefix(held) else {
-        return Outcome::Wrong;
-    };
-    let is_partial = wanted.starts_with(more) && !matches!(call, Append::Line);
-    match done {
-        true if more == wanted => Outcome::Whole,
-        false if more.is_empty() || is_partial => Outcome::Refused,
-        _ => Outcome::Wrong,
-    }
-}
-
-#[test]
-fn running_out_of_memory_keeps_the_text(rt: HostRuntime) -> Result<(), Fail> {
-    let held = b"; text\n";
-    for (call, wanted) in APPENDS {
-        let least = least_room(rt.alloc(), |bump| keeps_the_text(bump, held, call, wanted))?;
-        let right = matches!(least, Ok(Some(room)) if held.len() + wanted.len() <= room);
-        equal(&rt, &right, &true, &(call, least));
+    let mut before = 0;
+    for row in &ROOMS {
+        before = check(&rt, rt.alloc(), &table, row, before)?;
     }
     Ok(())
 }

@@ -5,19 +5,28 @@ use crate::{
     append_head, append_head_end, append_head_start, append_item, append_item_end,
     append_item_start, append_quoted_part, is_signed, show_btf,
 };
-use bpf_words::{Order, push16, push32};
-use btf_types::{Btf, BtfView, TypeTable};
+use bpf_words::{Order, push32};
+use btf_types::{Btf, BtfError, BtfView, Head, Item, TypeTable};
 use std::alloc::{AllocError, Global};
+use std::process::Abort;
 use std::test::Fail;
 
 mod kinds;
 
 /// The 32-bit fields of a file's records, its string section and its listing.
-#[derive(Clone, Copy, Debug)]
+#[derive(Clone, Copy)]
 pub(super) struct KindRow {
     pub(super) words: &'static [u32],
     pub(super) strings: &'static [u8],
     pub(super) text: &'static [u8],
+}
+
+/// Appends 32-bit numbers.
+fn push_words(bytes: &mut Vec<u8>, order: Order, words: &[u32]) -> Result<(), AllocError> {
+    for word in words {
+        push32(bytes, order, *word)?;
+    }
+    Ok(())
 }
 
 /// The file of a row.
@@ -26,15 +35,14 @@ pub(super) fn file(alloc: Global, order: Order, row: &KindRow) -> Result<Vec<u8>
         .unwrap_or_default()
         .saturating_mul(4);
     let strings_len = u32::try_from(row.strings.len()).unwrap_or_default();
-    let mut bytes = Vec::new(alloc);
-    push16(&mut bytes, order, 0xeb9f)?;
-    bytes.extend_from_slice(&[1, 0])?;
-    for number in [24, 0, types_len, types_len, strings_len] {
-        push32(&mut bytes, order, number)?;
-    }
-    for word in row.words {
-        push32(&mut bytes, order, *word)?;
-    }
+    let magic = match order {
+        Order::Little => b"\x9f\xeb\x01\0",
+        Order::Big => b"\xeb\x9f\x01\0",
+    };
+    let mut bytes = Vec::from_slice(alloc, magic)?;
+    let header = [24, 0, types_len, types_len, strings_len];
+    push_words(&mut bytes, order, &header)?;
+    push_words(&mut bytes, order, row.words)?;
     bytes.extend_from_slice(row.strings)?;
     Ok(bytes)
 }
@@ -46,60 +54,104 @@ fn append_name(text: &mut Vec<u8>, name: &str) -> Result<(), AllocError> {
     append_quoted_part(text, rest)
 }
 
-/// The listing of a table, each line in its parts and each line at once.
-fn texts(alloc: Global, table: &BtfView<'_>) -> Result<(Vec<u8>, Vec<u8>), AllocError> {
-    let (mut parts, mut whole) = (Vec::new(alloc), Vec::new(alloc));
+/// Appends the line of a head, at once or in its parts.
+fn push_head(
+    text: &mut Vec<u8>,
+    (id, head): (u32, Head<'_>),
+    count: u32,
+    in_parts: bool,
+) -> Result<(), AllocError> {
+    if !in_parts {
+        return append_head(text, id, head, count);
+    }
+    append_head_start(text, id, head)?;
+    append_name(text, head.name())?;
+    append_head_end(text, head, count)
+}
+
+/// Appends the line of an item, at once or in its parts.
+fn push_item(
+    text: &mut Vec<u8>,
+    item: Item<'_>,
+    signed: bool,
+    in_parts: bool,
+) -> Result<(), AllocError> {
+    if !in_parts {
+        return append_item(text, item, signed);
+    }
+    append_item_start(text, item)?;
+    append_name(text, item.name())?;
+    append_item_end(text, item, signed)
+}
+
+/// The listing of a table, each line at once or in its parts.
+fn lines<T: TypeTable>(alloc: Global, table: &T, in_parts: bool) -> Result<Vec<u8>, AllocError> {
+    let mut text = Vec::new(alloc);
     for index in 0..table.count() {
         let id = index + 1;
         let (head, count) = (table.head(id), table.item_count(id));
-        append_head(&mut whole, id, head, count)?;
-        append_head_start(&mut parts, id, head)?;
-        append_name(&mut parts, head.name())?;
-        append_head_end(&mut parts, head, count)?;
+        push_head(&mut text, (id, head), count, in_parts)?;
         for k in 0..count {
-            let item = table.item(id, k);
-            append_item(&mut whole, item, is_signed(head))?;
-            append_item_start(&mut parts, item)?;
-            append_name(&mut parts, item.name())?;
-            append_item_end(&mut parts, item, is_signed(head))?;
+            push_item(&mut text, table.item(id, k), is_signed(head), in_parts)?;
         }
     }
-    Ok((parts, whole))
+    Ok(text)
 }
 
-/// Whether a table has this listing.
-fn has_listing<T: TypeTable>(alloc: Global, table: &T, text: &[u8]) -> Result<bool, AllocError> {
-    Ok(show_btf(alloc, table)?.as_slice() == text)
+/// Whether a listing is this text.
+fn is_text(text: Vec<u8>, wanted: &[u8]) -> bool {
+    text.as_slice() == wanted
 }
 
-/// Whether the lines of a table, each in its parts and each at once, are this listing.
-fn has_lines(alloc: Global, table: &BtfView<'_>, text: &[u8]) -> Result<bool, AllocError> {
-    let (parts, whole) = texts(alloc, table)?;
-    Ok(parts.as_slice() == text && whole.as_slice() == text)
+/// Whether every call shows a table by this listing.
+fn has_listing<T: TypeTable + Drop>(
+    alloc: Global,
+    parsed: Result<T, BtfError>,
+    text: &[u8],
+) -> Result<bool, BtfError> {
+    let table = parsed?;
+    Ok(
+        is_text(show_btf(alloc, &table)?, text)
+            && is_text(lines(alloc, &table, false)?, text)
+            && is_text(lines(alloc, &table, true)?, text),
+    )
 }
 
-/// Whether every call shows a file by this listing.
-fn is_shown(alloc: Global, bytes: &[u8], text: &[u8]) -> Result<bool, Fail> {
-    let owned = has_listing(alloc, &Btf::parse(alloc, bytes)?, text)?;
-    let view = BtfView::parse(alloc, bytes)?;
-    let lent = has_listing(alloc, &view, text)?;
-    Ok(owned && lent && has_lines(alloc, &view, text)?)
+/// Whether both tables of a file have this listing.
+fn is_shown(alloc: Global, bytes: &[u8], text: &[u8]) -> Result<bool, BtfError> {
+    Ok(
+        has_listing(alloc, Btf::parse(alloc, bytes), text)?
+            && has_listing(alloc, BtfView::parse(alloc, bytes), text)?,
+    )
+}
+
+impl KindRow {
+    fn check(&self, rt: &impl Abort, alloc: Global, order: Order) -> Result<(), BtfError> {
+        let bytes = file(alloc, order, self)?;
+        let is_shown = is_shown(alloc, &bytes, self.text)?;
+        equal(rt, &is_shown, &true, &self.words);
+        Ok(())
+    }
+}
+
+/// Checks that each row is shown, in both byte orders.
+fn check_kinds(rt: &impl Abort, alloc: Global, rows: &[KindRow]) -> Result<(), BtfError> {
+    for row in rows {
+        row.check(rt, alloc, Order::Little)?;
+        row.check(rt, alloc, Order::Big)?;
+    }
+    Ok(())
 }
 
 #[test]
 fn each_kind_is_shown(rt: HostRuntime) -> Result<(), Fail> {
-    for row in kinds::kinds().into_iter().flatten() {
-        for order in [Order::Little, Order::Big] {
-            let bytes = file(rt.alloc(), order, row)?;
-            let is_shown = is_shown(rt.alloc(), &bytes, row.text)?;
-            equal(&rt, &is_shown, &true, &(order, row));
-        }
+    for rows in kinds::kinds() {
+        check_kinds(&rt, rt.alloc(), rows)?;
     }
     Ok(())
 }
 
 /// A file and its listing.
-#[derive(Clone, Copy, Debug)]
 struct FileRow {
     bytes: &'static [u8],
     text: &'static [u8],
@@ -123,7 +175,7 @@ static FILES: [FileRow; 5] = [
 fn worked_files_are_shown(rt: HostRuntime) -> Result<(), Fail> {
     for row in &FILES {
         let is_shown = is_shown(rt.alloc(), row.bytes, row.text)?;
-        equal(&rt, &is_shown, &true, row);
+        equal(&rt, &is_shown, &true, &row.bytes);
     }
     Ok(())
 }

@@ -17,7 +17,7 @@ pub(super) fn first_fields() -> [&'static [FaultRow]; 5] {[&[
     row!("seven bytes that no instruction begins with": b"\xff\xff\xff\xff\xff\xff\xff" => 0, Truncated),
     row!("a wide load's second slot is missing": b"\x18\x01\0\0\0\0\0\0" => 8, Truncated),
     row!("a wide load's second slot has seven bytes": b"\x18\x01\0\0\0\0\0\0\0\0\0\0\0\0\0" => 8, Truncated),
-    row!("a cut second slot isn't judged": b"\x18\x01\0\0\0\0\0\0\x01\0\0\0\x01" => 8, Truncated),
+    row!("a cut second slot isn't checked": b"\x18\x01\0\0\0\0\0\0\x01\0\0\0\x01" => 8, Truncated),
     row!("immediate mode with another size": b"\0\0\0\0\0\0\0\0" => 0, Opcode),
     row!("a packet load of 8 bytes": b"\x38\0\0\0\0\0\0\0" => 0, Opcode),
     row!("an indirect packet load of 8 bytes": b"\x58\0\0\0\0\0\0\0" => 0, Opcode),
