@@ -19,8 +19,12 @@ DECLARED = {
     "line": ("LineCause", "bpf_text/src/insn/fault.rt", "bpf_text/specs/insn/LineCauseNames.antt"),
     "btf": ("BtfCause", "btf_raw/src/cause.rt", "btf_raw/specs/BtfCauseNames.antt"),
 }
-# The definition of the numbers by which faults at one offset are ordered.
-NUMBERS = "btf_raw/specs/Cause.antt"
+# The definition of the numbers of each kind, by which faults at one place are ordered, and its file.
+NUMBERS = {
+    "insn": ("slot_cause_number", "bpf_insn/specs/CauseNames.antt"),
+    "line": ("line_cause_number", "bpf_text/specs/insn/LineCauseNames.antt"),
+    "btf": ("number_of", "btf_raw/specs/Cause.antt"),
+}
 # The kind of vector for the faults of each kind, the column of its cause, and the cause that no input has.
 VECTORS = {"insn": ("insn-fault", 4), "line": ("listing-fault", 3), "btf": ("btf-fault", 4)}
 NEVER = "TextsTooLong"
@@ -70,10 +74,11 @@ def check_sources(report):
                 (f"the sentences of {definitions}", in_definition(source(definitions), "cause_sentence"), sentences),
             ]:
                 report.expect_that(found == right, what, f"they aren't those of docs/causes.tsv: {sorted({*found} ^ {*right})}")
-    numbers = re.findall(r"^number_of (\w+) = (\d+)$", source(NUMBERS), re.MULTILINE)
-    with report.group(NUMBERS):
-        right = [(name, str(number)) for number, name, _ in table()["btf"]]
-        report.expect_that(numbers == right, "number_of", "they aren't those of docs/causes.tsv")
+    for kind, (definition, file) in NUMBERS.items():
+        numbers = re.findall(rf"^{definition} (?:\w+\.)?(\w+) = (\d+)$", source(file), re.MULTILINE)
+        with report.group(file):
+            right = [(name, str(number)) for number, name, _ in table()[kind]]
+            report.expect_that(numbers == right, definition, "they aren't those of docs/causes.tsv")
 
 
 def check_made(report):

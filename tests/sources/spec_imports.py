@@ -76,7 +76,7 @@ def check_forms(report):
         for forms, wanted in ((REFUSED, True), (ALLOWED, False)):
             for name, text in forms:
                 with tempfile.TemporaryDirectory() as folder:
-                    file = pathlib.Path(folder) / "crates" / "planted" / "specs" / "judge" / "Planted.antt"
+                    file = pathlib.Path(folder) / "crates" / "planted" / "specs" / "checks" / "Planted.antt"
                     file.parent.mkdir(parents=True)
                     file.write_text(f"-- A definition.\n{text}\n")
                     is_refused = [found for found, _ in refused(pathlib.Path(folder))] == [file]

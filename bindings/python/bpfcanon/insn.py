@@ -90,8 +90,8 @@ def insn_stream(pieces: Iterable[Buffer], *, order: Order = Order.LITTLE, to: Or
 
     Yields the instructions that each piece completes, and holds fewer than 16 bytes between pieces.
     A fault is raised after the instructions before it, with its offset in the stream.
-    Raises Fault with an InsnCause, OutOfMemory, and TypeError if a piece isn't a buffer. A single buffer is no iterable of
-    buffers: its pieces would be integers.
+    Raises Fault with an InsnCause, OutOfMemory, and TypeError if a piece isn't a buffer. Put a single buffer into a list:
+    iterating over the buffer itself yields integers.
     """
     held, done = b"", 0
     for piece in pieces:
