@@ -2,7 +2,8 @@
 use Rattle.std.proofs.Common.{◌≡◌, ℕ, ◌<◌, ◌≤◌, Bool, true, false, Option, List, length, refl, ap, subst, inl, inr, arith}
 use Rattle.std.specs.Prelude.{◌↔◌, ◌==◌, IsFalse, IsTrue, IsUtf8, slice_index}
 use Rattle.std.proofs.lemmas.Bool.{cases_lt, eqb-true, eqb-false}
-use Rattle.btf_raw.specs.{declared.cause.BtfCause.BtfCause, Cause.number_of, Names.TextAt, Header.HasNulEnds, Kinds.needs_name, Kinds.has_no_name}
+use Rattle.btf_raw.specs.{declared.cause.BtfCause.BtfCause, Cause.number_of, Names.TextAt, Header.HasNulEnds, Kinds.needs_name, Kinds.has_no_name, Kinds.layout_of}
+use Rattle.btf_raw.specs.declared.info.Naming.{Naming, TheVariants.Free, TheVariants.Needed, TheVariants.Unnamed}
 use Rattle.btf_raw.specs.declared.cause.BtfCause.TheVariants.{NameRange, NameUtf8, NameMissing, NameUnwanted}
 use Rattle.btf_types.specs.checks.{Numbers.NoCause, Numbers.LeastCause, Numbers.IsLeastOf, NameFaults.NameFault, NameFaults.ItemNameFault}
 use Rattle.btf_types.specs.Reading.{text_from}
@@ -13,6 +14,32 @@ abbrev pub OwnNameFault : ℕ → Bool → BtfCause → Type 0
 OwnNameFault kind empty NameMissing = IsTrue (needs_name kind) × IsTrue empty
 OwnNameFault kind empty NameUnwanted = IsTrue (has_no_name kind) × IsFalse empty
 OwnNameFault kind empty _ = ⊥
+
+-- the same, given what the row of the kind says of names
+abbrev pub NamingFault : Naming → Bool → BtfCause → Type 0
+NamingFault Needed empty NameMissing = IsTrue empty
+NamingFault Unnamed empty NameUnwanted = IsFalse empty
+NamingFault naming empty _ = ⊥
+
+needs_by_row : (kind : ℕ) (naming : Naming) → (layout_of kind).name ≡ naming → needs_name kind ≡ elim naming [ Needed ↦ true | _ ↦ false ]
+unfolding needs_name
+needs_by_row kind naming row = ap (λ (n : Naming). elim n [ Needed ↦ true | _ ↦ false ]) row
+
+lacks_by_row : (kind : ℕ) (naming : Naming) → (layout_of kind).name ≡ naming → has_no_name kind ≡ elim naming [ Unnamed ↦ true | _ ↦ false ]
+unfolding has_no_name
+lacks_by_row kind naming row = ap (λ (n : Naming). elim n [ Unnamed ↦ true | _ ↦ false ]) row
+
+naming_to_own : (kind : ℕ) (naming : Naming) (empty : Bool) → (layout_of kind).name ≡ naming → (c : BtfCause) → NamingFault naming empty c → OwnNameFault kind empty c
+naming_to_own kind Needed empty row NameMissing fault = (needs_by_row kind Needed row, fault)
+naming_to_own kind Unnamed empty row NameUnwanted fault = (lacks_by_row kind Unnamed row, fault)
+naming_to_own kind naming empty row c fault = absurd fault
+
+own_to_naming : (kind : ℕ) (naming : Naming) (empty : Bool) → (layout_of kind).name ≡ naming → (c : BtfCause) → OwnNameFault kind empty c → NamingFault naming empty c
+own_to_naming kind Needed empty row NameMissing fault = fault.1
+own_to_naming kind Unnamed empty row NameUnwanted fault = fault.1
+own_to_naming kind naming empty row NameMissing fault = let no = needs_by_row kind naming row in absurd cc
+own_to_naming kind naming empty row NameUnwanted fault = let no = lacks_by_row kind naming row in absurd cc
+own_to_naming kind naming empty row c fault = absurd fault
 
 -- the name of an item, if its string isn't UTF-8 and if it is
 pub utf8_fault : (strings : List ℕ) (offset : ℕ) → HasNulEnds strings → offset < length strings
@@ -82,8 +109,10 @@ pub in_range : (strings : List ℕ) (offset : ℕ) → NoCause (ItemNameFault st
 in_range strings offset none = elim (cases_lt offset (length strings)) [ inl lt ↦ lt | inr le ↦ absurd (none NameRange le) ]
 
 -- the answer for a record's own name, from that for whether it is empty
-pub name_checked : (strings : List ℕ) (kind offset : ℕ) (r : Option BtfCause) → HasNulEnds strings → NoCause (ItemNameFault strings offset)
-    → IsLeastOf (OwnNameFault kind (slice_index strings offset == 0)) r → IsLeastOf (NameFault strings kind offset) r
-name_checked strings kind offset r ends none own =
-    checked_same (OwnNameFault kind (slice_index strings offset == 0)) (NameFault strings kind offset) r
-    (λ d h. own_to_name strings kind offset ends none d (in_range strings offset none) h) (name_to_own strings kind offset ends none) own
+pub name_checked : (strings : List ℕ) (kind : ℕ) (naming : Naming) (offset : ℕ) (r : Option BtfCause) → (layout_of kind).name ≡ naming → HasNulEnds strings
+    → NoCause (ItemNameFault strings offset) → IsLeastOf (NamingFault naming (slice_index strings offset == 0)) r → IsLeastOf (NameFault strings kind offset) r
+name_checked strings kind naming offset r row ends none own =
+    let empty : Bool = slice_index strings offset == 0 in
+    checked_same (NamingFault naming empty) (NameFault strings kind offset) r
+    (λ d h. own_to_name strings kind offset ends none d (in_range strings offset none) (naming_to_own kind naming empty row d h))
+    (λ d h. own_to_naming kind naming empty row d (name_to_own strings kind offset ends none d h)) own

@@ -25,14 +25,19 @@ use btf_raw::{
 };
 use std::alloc::Allocator;
 
-/// The index of the first faulty field after the first three, and its cause. The kind is matched
-/// once here, and not again for each field. The element type of an ARRAY is checked before its
-/// index type, and its number of elements may be any.
-#[tactic(auto, using(crate::proofs::CheckLemmas::RecordSteps::tails))]
-fn tail_fault(section: &Section, this: &Record) -> Option<(usize, BtfCause)>
+/// The index of the first faulty field of a record, and its cause. The kind is matched once for
+/// what follows the first three fields, and not again for each field. The element type of an ARRAY
+/// is checked before its index type, and its number of elements may be any.
+#[tactic(auto, using(crate::proofs::CheckLemmas::WordSteps::first_of_words, crate::proofs::CheckLemmas::RecordSteps::tails))]
+fn record_fault(section: &Section, this: &Record) -> Option<(usize, BtfCause)>
     requires { IsFrame this.now }
-    ensures { FirstWithin section.now this.now 3 (length this.now) result }
+    ensures { MatchOption result
+        (IsFaultlessIn section.now this.now)
+        (λ found. IsLeastIn section.now this.now found.0 found.1) }
 {
+    if let Some(found) = first_words_fault(section, this) {
+        return Some(found);
+    }
     match this.kind() {
         INT => int_fault(this.word(2), this.word(3)).map(|cause| (3, cause)),
         VAR => linkage_fault(this.word(3)).map(|cause| (3, cause)),
@@ -49,20 +54,6 @@ fn tail_fault(section: &Section, this: &Record) -> Option<(usize, BtfCause)>
         ENUM64 => values_fault(section, this, 3),
         DATASEC => entries_fault(section, this),
         _ => None,
-    }
-}
-
-/// The index of the first faulty field of a record, and its cause.
-#[tactic(auto, using(crate::proofs::CheckLemmas::WordSteps::first_of_words))]
-fn record_fault(section: &Section, this: &Record) -> Option<(usize, BtfCause)>
-    requires { IsFrame this.now }
-    ensures { MatchOption result
-        (IsFaultlessIn section.now this.now)
-        (λ found. IsLeastIn section.now this.now found.0 found.1) }
-{
-    match first_words_fault(section, this) {
-        Some(found) => Some(found),
-        None => tail_fault(section, this),
     }
 }
 

@@ -23,9 +23,9 @@ pub fn members_fault(section: &Section, this: &Record) -> Option<(usize, BtfCaus
     requires kind { IsTrue (is_struct (kind this.now)) }
     ensures { FirstWithin section.now this.now 3 (length this.now) result }
 {
-    let size = this.word(2);
     let bit_fields = this.has_widths();
     let flag = this.kind_flag();
+    let size = this.word(2);
     for k in 0..usize::from(this.vlen()) {
         let j = 3 + 3 * k;
         if let Some(cause) = item_name_fault(section, this.word(j)) {

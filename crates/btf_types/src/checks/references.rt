@@ -4,6 +4,7 @@
 
 ghost use Rattle.std.specs.Prelude.{◌≡◌, ◌↔◌, ◌<◌, ℕ, List, IsTrue, IsUtf8, length};
 ghost use Rattle.btf_raw.specs.{Frames.IsFrame, Names.TextAt};
+ghost use Rattle.btf_raw.specs.Kinds as kinds;
 ghost use Rattle.btf_types.specs.{checks.Numbers.type_at, Sections.facts_in};
 ghost use Rattle.btf_types.specs.checks.NameFaults as faults;
 ghost use Rattle.btf_types.specs.checks.Numbers as spec;
@@ -13,10 +14,10 @@ use crate::checks::section::Section;
 use crate::checks::utf8::begins_char;
 use crate::record_words::Record;
 use crate::values::Linkage;
-use btf_raw::info::{has_no_name, has_target, needs_name};
+use btf_raw::info::{Naming, Third, layout_of};
 use btf_raw::{
-    ARRAY, BtfCause, DATASEC, DECL_TAG, ENUM, ENUM64, FLOAT, FUNC, FUNC_PROTO, FWD, INT, STRUCT,
-    TYPEDEF, UNION, VAR,
+    BtfCause, DATASEC, DECL_TAG, ENUM, ENUM64, FLOAT, FUNC, FUNC_PROTO, INT, STRUCT, TYPEDEF,
+    UNION, VAR,
 };
 
 /// Whether the string at offset `off` of a section is UTF-8. `marks` are those of the section.
@@ -51,17 +52,19 @@ pub fn item_name_fault(section: &Section, off: u32) -> Option<BtfCause>
 /// Checks a record's own name field: first like that of an item, then whether a name is missing or
 /// not allowed.
 #[tactic(auto, using(crate::proofs::CheckLemmas::NameSteps::item_to_name))]
-fn name_fault(section: &Section, kind: u8, off: u32) -> Option<BtfCause>
-    ensures { spec.IsLeastOf (faults.NameFault section.now.strings kind off) result }
+fn name_fault(section: &Section, name: Naming, off: u32) -> Option<BtfCause>
+    ensures { (kind : ℕ) → (kinds.layout_of kind).name ≡ name
+        → spec.IsLeastOf (faults.NameFault section.now.strings kind off) result }
 {
     if let Some(cause) = item_name_fault(section, off) {
         return Some(cause);
     }
     let empty = section.strings[off as usize] == 0;
-    if needs_name(kind) && empty {
-        return Some(BtfCause::NameMissing);
+    match name {
+        Naming::Needed => empty.then_some(BtfCause::NameMissing),
+        Naming::Unnamed => (!empty).then_some(BtfCause::NameUnwanted),
+        Naming::Free => None,
     }
-    (has_no_name(kind) && !empty).then_some(BtfCause::NameUnwanted)
 }
 
 /// Checks the linkage of a FUNC, which is stored in its vlen.
@@ -102,20 +105,17 @@ fn named_kind_fits(section: &Section, kind: u8, target: u32) -> bool
 }
 
 /// Checks the size or type field of a record: a size, a type ID, or 0.
-fn third_fault(section: &Section, kind: u8, third: u32, vlen: u16) -> Option<BtfCause>
+fn third_fault(section: &Section, kind: u8, field: Third, third: u32, vlen: u16) -> Option<BtfCause>
+    requires kind { IsTrue (kinds.is_kind kind) }
+    requires field { field ≡ (kinds.layout_of kind).third }
     ensures { spec.IsLeastOf (spec.ThirdFault kind third vlen (length (facts_in section.now))
         (type_at (facts_in section.now) third).kind) result }
 {
-    if matches!(kind, ARRAY | FWD) && third != 0 {
-        return Some(BtfCause::NotZero);
+    match field {
+        Third::Zero => (third != 0).then_some(BtfCause::NotZero),
+        Third::Size => (!size_fits(kind, third, vlen)).then_some(BtfCause::Size),
+        Third::TypeId => named_type_fault(section, kind, third),
     }
-    if !size_fits(kind, third, vlen) {
-        return Some(BtfCause::Size);
-    }
-    if !has_target(kind) {
-        return None;
-    }
-    named_type_fault(section, kind, third)
 }
 
 /// The index of the first faulty field among a record's first three, and its cause.
@@ -125,13 +125,14 @@ pub fn first_words_fault(section: &Section, this: &Record) -> Option<(usize, Btf
 {
     let kind = this.kind();
     let vlen = this.vlen();
-    if let Some(cause) = name_fault(section, kind, this.word(0)) {
+    let layout = layout_of(kind);
+    if let Some(cause) = name_fault(section, layout.name, this.word(0)) {
         return Some((0, cause));
     }
     if let Some(cause) = second_fault(kind, vlen) {
         return Some((1, cause));
     }
-    third_fault(section, kind, this.word(2), vlen).map(|cause| (2, cause))
+    third_fault(section, kind, layout.third, this.word(2), vlen).map(|cause| (2, cause))
 }
 
 /// Checks a type ID: whether the type exists, and whether the record may refer to it.
