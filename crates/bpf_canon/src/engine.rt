@@ -1,17 +1,14 @@
-//! The errors and writes that the engines for instructions and for BTF share.
+//! The errors that the engines for instructions and for BTF share.
 //!
 //! An engine, [`run_insns`](crate::run_insns) or [`run_btf`](crate::run_btf), reads a source to its
 //! end and writes to a sink. Both stop for the same causes, and only the type of a fault differs,
 //! which is a parameter here. The error of a comparison also says which of its two inputs has the
 //! fault. Why a device failed isn't kept.
 
-ghost use Rattle.std.specs.Prelude.{◌≡◌, ◌<◌, ◌+◌, length, IfOk, IfErr, OnOk};
-ghost use Rattle.std.specs.Io.KnownBytes.{Appends};
+ghost use Rattle.std.specs.Prelude.{◌≡◌};
 ghost use Rattle.bpf_canon.specs.declared.engine.RunCause.TheVariants as run;
 ghost use Rattle.bpf_canon.specs.declared.engine.SideError.TheVariants as side;
-ghost use Rattle.bpf_canon.specs.Engine.{PutStops};
 
-use crate::device::{ByteSink, put_all};
 use std::alloc::{AllocError, AllocFailed};
 use thiserror::Error;
 
@@ -100,15 +97,10 @@ pub(crate) fn stopped<F>(cause: RunCause<F>, written: u64) -> RunError<F>
     RunError { cause, written }
 }
 
-/// Writes all the bytes, and returns their number.
-pub(crate) fn put_whole<F, W: ByteSink>(sink: &mut W, bytes: &[u8]) -> Result<u64, RunError<F>>
-    requires { W.failures sink.old < u64.MAX }
-    ensures ok { IfOk result (λ n. (n ≡ length bytes.now)
-        × Appends (W.contents sink.old) (W.contents sink.new) bytes.now) }
-    ensures err { IfErr result (PutStops (W.contents sink.old) (W.contents sink.new) bytes.now) }
-    ensures healthy { OnOk result (W.failures sink.new ≡ W.failures sink.old) }
-    ensures count { IfErr result (λ e. W.failures sink.new ≡ W.failures sink.old + 1) }
+/// The error if the sink accepted `written` bytes and then failed.
+pub(crate) fn stopped_writing<F>(written: u64) -> RunError<F>
+    ensures cause { result.cause ≡ run.WriteFailed }
+    ensures written { result.written ≡ written }
 {
-    put_all(sink, bytes).map_err(|written| stopped(RunCause::WriteFailed, written))?;
-    Ok(bytes.len() as u64)
+    stopped(RunCause::WriteFailed, written)
 }

@@ -8,8 +8,8 @@ ghost use Rattle.bpf_canon.specs.Engine.{devices, counts_read, counts_write};
 ghost use Rattle.bpf_canon.specs.btf.RunBtf.{RanBtf, StopsBtf, cause_of_btf, cause_of_read};
 
 use crate::btf::canon::recode_btf;
-use crate::device::{ByteSink, ByteSource, ReadError, read_all};
-use crate::engine::{RunCause, RunError, put_whole, stopped};
+use crate::device::{ByteSink, ByteSource, ReadError, put_all, read_all};
+use crate::engine::{RunCause, RunError, stopped, stopped_writing};
 use bpf_words::Order;
 use btf_raw::{BtfFault, HEADER_LIMIT, STRINGS_LIMIT, TYPES_LIMIT};
 use btf_types::BtfError;
@@ -62,7 +62,8 @@ pub fn run_btf<A: Allocator + Copy, S: ByteSource, W: ByteSink>(
 {
     let bytes = read_all(alloc, source, BTF_LIMIT).map_err(stopped_reading)?;
     let canon = recode_btf(alloc, to, &bytes).map_err(stopped_checking)?;
-    put_whole(sink, canon.as_slice())
+    put_all(sink, canon.as_slice()).map_err(stopped_writing)?;
+    Ok(canon.len() as u64)
 }
 
 /// The error if the source couldn't be read to its end. Nothing has been written.

@@ -1,11 +1,12 @@
 //! Instructions from a source to a sink.
 
 ghost use Rattle.std.specs.Prelude.{◌≡◌, ◌<◌, ◌≤◌, ◌+◌, length, IfOk, IfErr, IsNone, OnOk};
-ghost use Rattle.bpf_canon.specs.Engine.{devices, counts_read, counts_write};
+ghost use Rattle.std.specs.Io.KnownBytes.{Appends};
+ghost use Rattle.bpf_canon.specs.Engine.{PutStops, devices, counts_read, counts_write};
 ghost use Rattle.bpf_canon.specs.insn.{Run.RanWhole, Run.Stops, Passed.Passed, Passed.PassStops};
 
-use crate::device::{ByteSink, ByteSource, DeviceFailed};
-use crate::engine::{RunCause, RunError, put_whole, stopped};
+use crate::device::{ByteSink, ByteSource, DeviceFailed, put_all};
+use crate::engine::{RunCause, RunError, stopped, stopped_writing};
 use crate::insn::feed::InsnFeed;
 use bpf_insn::{InsnError, Order, SlotFault};
 use std::alloc::Allocator;
@@ -79,6 +80,19 @@ pub fn run_insns<A: Allocator, S: ByteSource, W: ByteSink>(
         Ok(_) => Ok(written),
         Err(fault) => Err(stopped(RunCause::Fault(fault), written)),
     }
+}
+
+/// Writes all the bytes, and returns their number.
+fn put_whole<W: ByteSink>(sink: &mut W, bytes: &[u8]) -> Result<u64, RunError<SlotFault>>
+    requires { W.failures sink.old < u64.MAX }
+    ensures ok { IfOk result (λ n. (n ≡ length bytes.now)
+        × Appends (W.contents sink.old) (W.contents sink.new) bytes.now) }
+    ensures err { IfErr result (PutStops (W.contents sink.old) (W.contents sink.new) bytes.now) }
+    ensures healthy { OnOk result (W.failures sink.new ≡ W.failures sink.old) }
+    ensures count { IfErr result (λ e. W.failures sink.new ≡ W.failures sink.old + 1) }
+{
+    put_all(sink, bytes).map_err(stopped_writing)?;
+    Ok(bytes.len() as u64)
 }
 
 /// Feeds a piece, and writes the instructions that are now complete. The vector is reused for each

@@ -3,7 +3,7 @@ use Rattle.std.proofs.Common.{◌≡◌, ℕ, zero, suc, ◌+◌, ◌*◌, ◌<�
 use Rattle.std.specs.Prelude.{slice_index, slice_get, ◌==◌, if◌then◌else◌}
 use Rattle.std.specs.List.{All, AllZip, filter}
 use Rattle.std.proofs.lemmas.List.{map-append, Elements.All-head, Elements.All-tail, Elements.filter-append}
-use Rattle.btf_raw.specs.{Header.HasNulEnds, Kinds.item_words, Kinds.has_item_names}
+use Rattle.btf_raw.specs.{Header.HasNulEnds, Kinds.layout_of, Kinds.item_words, Kinds.has_item_names, declared.info.Layout.Layout}
 use Rattle.btf_raw.specs.Frames.{IsFrame, name_word, kind, vlen, flag}
 use Rattle.btf_raw.proofs.Texts.{TextAt-unique, TextAt-inside}
 use Rattle.btf_types.specs.{Values.TypeRecord, Spelling.Spells}
@@ -117,6 +117,15 @@ item_offset P f k has all low =
     let same : (if has_item_names (kind f) then offsets else []) ≡ offsets = rw has refl in
     let each : All P offsets = subst (All P) same (All-tail P (name_word f) (if has_item_names (kind f) then offsets else []) all) in
     subst P (get_or-tabulate (item_word f) (vlen f) k 0 low) (each k 0 (omega (arith, length-tabulate (item_word f) (vlen f))))
+
+-- the row of a record's kind
+pub named_by_row : (f : List ℕ) (κ : ℕ) (row : Layout) → row ≡ layout_of κ → κ ≡ kind f → has_item_names (kind f) ≡ row.item.named
+unfolding has_item_names
+named_by_row f κ row is same = sym (ap (λ (l : Layout). l.item.named) (is ∙ ap layout_of same))
+
+pub words_by_row : (f : List ℕ) (κ : ℕ) (row : Layout) → row ≡ layout_of κ → κ ≡ kind f → item_words (kind f) ≡ row.item.words
+unfolding item_words
+words_by_row f κ row is same = sym (ap (λ (l : Layout). l.item.words) (is ∙ ap layout_of same))
 
 -- the record has `count` items of `size` 32-bit words, each with a name
 pub record HasNamedItems (frame : List ℕ) (size count : ℕ) : Type 0 where

@@ -12,13 +12,13 @@ abbrev pub noted_all : List ℕ → List ℕ → List ℕ
 noted_all offsets [] = offsets
 noted_all offsets (off ∷ offs) = noted_all (noted offsets off) offs
 
--- the noted offsets of a section of this length
+-- a string section, and the offsets in it that have been noted
 pub record Noted : Type 0 where
-  pub section_len : ℕ
+  pub strings : List ℕ
   pub offsets : List ℕ
 
-abbrev pub nothing_noted : ℕ → Noted
-nothing_noted section_len = record { section_len = section_len; offsets = [] }
+abbrev pub nothing_noted : List ℕ → Noted
+nothing_noted strings = record { strings = strings; offsets = [] }
 
 -- the bit of an offset in 64-bit elements
 abbrev pub mark_of : List ℕ → ℕ → ℕ

@@ -67,14 +67,6 @@ pub(crate) fn text_of<'a>(section: &'a [u8], text: &SectionText) -> &'a [u8]
     &section[start..end]
 }
 
-/// Compares the bytes. This is a separate function, so that the comparison of keys is inlined.
-#[inline(never)]
-fn compare_texts(section: &[u8], a: &SectionText, b: &SectionText) -> Ordering
-    ensures { result ≡ on (text_in section.now) tail_cmp a.now b.now }
-{
-    compare_from_end(text_of(section, a), text_of(section, b))
-}
-
 /// Compares by keys, then by bytes.
 #[tactic(auto, using(crate::proofs::BtfLemmas::Strings::SortedTexts::key_cases))]
 fn compare(section: &[u8], a: &SectionText, b: &SectionText) -> Ordering
@@ -84,7 +76,7 @@ fn compare(section: &[u8], a: &SectionText, b: &SectionText) -> Ordering
     if first != second {
         return first.cmp(&second);
     }
-    compare_texts(section, a, b)
+    compare_from_end(text_of(section, a), text_of(section, b))
 }
 
 /// Sorts strings by their reversed bytes. Equal strings at different offsets may be in either

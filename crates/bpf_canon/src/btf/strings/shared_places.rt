@@ -243,18 +243,14 @@ fn name_places<A: Allocator>(
 
 impl<'a, A: Allocator + Copy> SharedPlaces<'a, A> {
     /// Computes the new offsets of the names that are used in this section.
-    pub(crate) fn find(
-        alloc: A,
-        strings: &'a [u8],
-        uses: FirstUses<A>,
-    ) -> Result<SharedPlaces<'a, A>, AllocError>
-        requires ends { HasNulEnds strings.now }
-        requires few { length strings.now < 2 ^ 32 }
-        requires whole { uses.section_len ≡ length strings.now }
-        requires room { length (shared_table (map (text_from strings.now) uses.offsets)) < 2 ^ 32 }
-        ensures strings { IfOk result (λ p. p.strings ≡ strings.entry.now) }
-        ensures offsets { IfOk result (λ p. p.offsets ≡ uses.offsets) }
+    pub(crate) fn find(alloc: A, uses: FirstUses<'a, A>) -> Result<SharedPlaces<'a, A>, AllocError>
+        requires ends { HasNulEnds uses.strings }
+        requires few { length uses.strings < 2 ^ 32 }
+        requires room { length (shared_table (map (text_from uses.strings) uses.offsets)) < 2 ^ 32 }
+        ensures strings { IfOk result (λ p. p.strings ≡ uses.entry.strings) }
+        ensures offsets { IfOk result (λ p. p.offsets ≡ uses.entry.offsets) }
     {
+        let strings = uses.strings;
         let used = UsedOffsets::new(alloc, uses)?;
         let texts = longest_texts(alloc, strings, &used)?;
         let ranked = RankedTexts::new(alloc, strings, texts)?;

@@ -21,20 +21,21 @@ use std::marker::Model;
 /// A bit set with one bit for each byte of the section, in `u64` elements, lowest bit first, so
 /// that little memory is cleared and touched.
 #[derive(Drop)]
-pub(crate) struct FirstUses<A: Allocator> {
-    pub(crate) section_len: usize,
+pub(crate) struct FirstUses<'a, A: Allocator> {
+    pub(crate) strings: &'a [u8],
     pub(crate) marks: Vec<u64, A>,
     pub(crate) offsets: Vec<u32, A>,
 }
 
-impl<A: Allocator> Model for FirstUses<A> {
+impl<'a, A: Allocator> Model for FirstUses<'a, A> {
+    ghost use Rattle.std.specs.Prelude.{length};
     ghost use Rattle.bpf_canon.specs.btf.strings.FirstUses.{Noted, HaveMarks};
 
     ghost Value = { Noted };
 
-    ghost view = { λ f. record { section_len = f.section_len; offsets = f.offsets.items } };
+    ghost view = { λ f. record { strings = f.strings.now; offsets = f.offsets.items } };
 
-    ghost invariant = { λ f. HaveMarks f.section_len f.marks.items f.offsets.items };
+    ghost invariant = { λ f. HaveMarks (length f.strings.now) f.marks.items f.offsets.items };
 }
 
 /// Whether the bit of an offset is set.
@@ -47,15 +48,15 @@ fn is_marked(marks: &[u64], off: usize) -> bool
     (marks[off / 64] >> (off % 64)) & 1 != 0
 }
 
-impl<A: Allocator + Copy> FirstUses<A> {
-    /// Creates an empty set of offsets for a section of `section_len` bytes.
+impl<'a, A: Allocator + Copy> FirstUses<'a, A> {
+    /// Creates an empty set of offsets of this section.
     #[tactic(auto, using(crate::proofs::BtfLemmas::Strings::MarkSteps::none_marked))]
-    pub(crate) fn new(alloc: A, section_len: usize) -> Result<FirstUses<A>, AllocError>
-        ensures { IfOk result (λ f. f ≡ nothing_noted section_len) }
+    pub(crate) fn new(alloc: A, strings: &'a [u8]) -> Result<FirstUses<'a, A>, AllocError>
+        ensures { IfOk result (λ f. f ≡ nothing_noted strings.now) }
     {
         Ok(FirstUses {
-            section_len,
-            marks: vec![in alloc; 0; section_len / 64 + 1]?,
+            strings,
+            marks: vec![in alloc; 0; strings.len() / 64 + 1]?,
             offsets: Vec::new(alloc),
         })
     }
@@ -63,8 +64,8 @@ impl<A: Allocator + Copy> FirstUses<A> {
     /// Notes the offset of a name. On an error the set of noted offsets is unspecified.
     #[tactic(auto, using(crate::proofs::BtfLemmas::Strings::MarkSteps::note_cases))]
     pub(crate) fn note(&mut self, off: u32) -> Result<(), AllocError>
-        requires { off < self.old.section_len }
-        ensures section { self.new.section_len ≡ self.old.section_len }
+        requires { off < length self.old.strings }
+        ensures strings { self.new.strings ≡ self.old.strings }
         ensures offsets { OnOk result (self.new.offsets ≡ noted self.old.offsets off) }
     {
         let at = off as usize;
@@ -109,17 +110,19 @@ impl<A: Allocator> Model for UsedOffsets<A> {
 impl<A: Allocator> UsedOffsets<A> {
     /// Numbers the noted offsets of a section.
     #[tactic(auto, using(crate::proofs::BtfLemmas::Strings::MarkSteps::counts))]
-    pub(crate) fn new(alloc: A, uses: FirstUses<A>) -> Result<UsedOffsets<A>, AllocError>
-        requires { uses.section_len < 2 ^ 32 }
-        ensures offsets { IfOk result (λ u. u.offsets ≡ uses.offsets) }
-        ensures section { IfOk result (λ u. length u.slots ≡ uses.section_len) }
+    pub(crate) fn new(alloc: A, uses: FirstUses<'_, A>) -> Result<UsedOffsets<A>, AllocError>
+        requires { length uses.strings < 2 ^ 32 }
+        ensures offsets { IfOk result (λ u. u.offsets ≡ uses.entry.offsets) }
+        ensures section { IfOk result (λ u. length u.slots
+            ≡ length uses.entry.strings) }
         ensures marked { IfOk result (λ u. AreMarked u.offsets u.slots) }
     {
         let FirstUses {
-            section_len,
+            strings,
             marks,
             offsets,
         } = uses;
+        let section_len = strings.len();
         let words = section_len / 64;
         let mut before = Vec::with_capacity(alloc, words + 1)?;
         let mut count = 0u32;

@@ -7,7 +7,7 @@ ghost use Rattle.btf_types.specs.Spelling as spec;
 ghost use Rattle.bpf_canon.specs.btf.CanonicalBtf.{canonical_flag};
 ghost use Rattle.bpf_canon.specs.btf.write.BtfWords as heads;
 
-use bpf_words::{Order, push_words, push16};
+use bpf_words::{Order, push_words};
 use btf_types::Head;
 use std::alloc::{AllocError, Allocator};
 
@@ -68,7 +68,7 @@ pub(crate) fn head_vlen(head: Head<'_>, count: u32) -> u32
 }
 
 /// Appends the 24-byte header (btf.rst section 2): magic, version 1, flags 0, hdr_len, type_off 0,
-/// type_len, str_off = type_len and str_len.
+/// type_len, str_off = type_len and str_len. The first three are written as one word.
 pub(crate) fn push_header<A: Allocator>(
     out: &mut Vec<u8, A>,
     order: Order,
@@ -78,7 +78,13 @@ pub(crate) fn push_header<A: Allocator>(
     ensures { OnOk result (out.new.items
         ≡ out.old.items ++ header order 24 0 types_len types_len strings_len) }
 {
-    push16(out, order, 0xeb9f)?;
-    out.extend_from_slice(&[1, 0])?;
-    push_words(out, order, &[24, 0, types_len, types_len, strings_len])
+    let start = match order {
+        Order::Little => 0x0001_eb9f,
+        Order::Big => 0xeb9f_0100,
+    };
+    push_words(
+        out,
+        order,
+        &[start, 24, 0, types_len, types_len, strings_len],
+    )
 }

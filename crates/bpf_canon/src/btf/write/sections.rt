@@ -21,28 +21,27 @@ use crate::btf::strings::shared_places::SharedPlaces;
 use crate::btf::strings::used_offsets::FirstUses;
 use crate::btf::write::head_words::push_header;
 use bpf_words::{Order, push_words, push32};
-use btf_raw::info::{flag_of, has_item_names, is_struct, item_words, tail_words};
+use btf_raw::info::{flag_of, is_struct, layout_of, tail_words};
 use btf_types::{FileSections, Record};
 use std::alloc::{AllocError, Allocator};
 
 /// Notes the names of a record: its own, then those of its items.
 #[tactic(auto, using(crate::proofs::BtfLemmas::Write::RecordNames::own_offset))]
 fn note_record<A: Allocator + Copy>(
-    uses: &mut FirstUses<A>,
+    uses: &mut FirstUses<'_, A>,
     this: &Record,
 ) -> Result<(), AllocError>
     requires frame { IsFrame this.now }
-    requires inside { All (IsBelow uses.old.section_len) (name_offsets this.now) }
-    ensures section { uses.new.section_len ≡ uses.old.section_len }
+    requires inside { All (IsBelow (length uses.old.strings)) (name_offsets this.now) }
+    ensures strings { uses.new.strings ≡ uses.old.strings }
     ensures offsets { OnOk result (uses.new.offsets
         ≡ noted_all uses.old.offsets (name_offsets this.now)) }
 {
     uses.note(this.word(0))?;
-    let kind = this.kind();
-    if has_item_names(kind) {
-        let size = item_words(kind);
+    let item = layout_of(this.kind()).item;
+    if item.named {
         for k in 0..usize::from(this.vlen()) {
-            uses.note(this.word(3 + size * k))?;
+            uses.note(this.word(3 + item.words * k))?;
         }
     }
     Ok(())
@@ -50,15 +49,15 @@ fn note_record<A: Allocator + Copy>(
 
 /// The offsets of the names of all records, in the order of first use.
 #[tactic(auto, using(crate::proofs::BtfLemmas::Names::NoteSteps::record_noted))]
-fn noted_names<A: Allocator + Copy>(
+fn noted_names<'t, A: Allocator + Copy>(
     alloc: A,
-    sections: &FileSections<'_>,
-) -> Result<FirstUses<A>, AllocError>
-    ensures section { IfOk result (λ uses. uses.section_len ≡ length sections.now.strings) }
+    sections: &FileSections<'t>,
+) -> Result<FirstUses<'t, A>, AllocError>
+    ensures strings { IfOk result (λ uses. uses.strings ≡ sections.now.strings) }
     ensures offsets { IfOk result (λ uses. uses.offsets
         ≡ noted_all [] (all_offsets sections.now.frames)) }
 {
-    let mut uses = FirstUses::new(alloc, sections.strings().len())?;
+    let mut uses = FirstUses::new(alloc, sections.strings())?;
     for index in 0..sections.count() {
         let this = sections.record(index + 1);
         note_record(&mut uses, &this)?;
@@ -115,10 +114,11 @@ fn push_record<A: Allocator, B: Allocator + Copy>(
     push_words(out, to, &[name, info, this.word(2)])?;
     let kind = this.kind();
     let vlen = this.vlen();
-    if !has_item_names(kind) {
+    let item = layout_of(kind).item;
+    if !item.named {
         return push_rest(out, to, this, tail_words(kind, vlen));
     }
-    let size = item_words(kind);
+    let size = item.words;
     for k in 0..usize::from(vlen) {
         let at = 3 + size * k;
         let name = names.place(this.word(at));
@@ -151,27 +151,6 @@ fn push_records<A: Allocator, B: Allocator + Copy>(
     Ok(())
 }
 
-/// The canonical bytes of the records, with these names.
-#[tactic(auto, using(crate::proofs::BtfLemmas::Write::SectionFiles::section_steps))]
-fn write_placed<A: Allocator + Copy>(
-    alloc: A,
-    to: Order,
-    names: &SharedPlaces<'_, A>,
-    sections: &FileSections<'_>,
-) -> Result<Vec<u8, A>, AllocError>
-    requires strings { names.now.strings ≡ sections.now.strings }
-    requires offsets { names.now.offsets ≡ noted_all [] (all_offsets sections.now.frames) }
-    ensures { IfOk result (λ bytes. bytes.items ≡ canonical to (records_in sections.now)) }
-{
-    let types_len = sections.types().len();
-    let table_len = names.table_len();
-    let mut bytes = Vec::with_capacity(alloc, 24 + types_len + table_len as usize)?;
-    push_header(&mut bytes, to, types_len as u32, table_len)?;
-    push_records(&mut bytes, to, names, sections)?;
-    names.push_table(&mut bytes)?;
-    Ok(bytes)
-}
-
 /// The canonical bytes of the records that these sections encode.
 #[tactic(auto, using(crate::proofs::BtfLemmas::Write::SectionFiles::section_steps))]
 pub(crate) fn write_sections<A: Allocator + Copy>(
@@ -182,7 +161,13 @@ pub(crate) fn write_sections<A: Allocator + Copy>(
     ensures form { IfOk result (λ bytes. bytes.items ≡ canonical to (records_in sections.now)) }
     ensures accepted { IfOk result (λ bytes. Denotes bytes.items (records_in sections.now)) }
 {
+    let types_len = sections.types().len();
     let uses = noted_names(alloc, sections)?;
-    let names = SharedPlaces::find(alloc, sections.strings(), uses)?;
-    write_placed(alloc, to, &names, sections)
+    let names = SharedPlaces::find(alloc, uses)?;
+    let table_len = names.table_len();
+    let mut bytes = Vec::with_capacity(alloc, 24 + types_len + table_len as usize)?;
+    push_header(&mut bytes, to, types_len as u32, table_len)?;
+    push_records(&mut bytes, to, &names, sections)?;
+    names.push_table(&mut bytes)?;
+    Ok(bytes)
 }

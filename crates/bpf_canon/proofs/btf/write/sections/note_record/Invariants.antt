@@ -6,6 +6,6 @@ use Rattle.bpf_canon.proofs.btf.write.sections.note_record.Given as goal
 -- the items so far
 abbrev pub invariant-loop-k : goal.invariant-loop-k
 invariant-loop-k g l = record {
-  section : l.uses.section_len ≡ l.initial.uses.section_len;
+  strings : l.uses.strings ≡ l.initial.uses.strings;
   offsets : l.uses.offsets ≡ noted_all l.initial.uses.offsets (tabulate (item_word l.this) l.k);
 }

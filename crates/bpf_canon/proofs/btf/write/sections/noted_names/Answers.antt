@@ -6,4 +6,4 @@ use Rattle.bpf_canon.proofs.btf.write.sections.noted_names.Goals as goal
 
 pub note_record-requires-clause-inside : goal.note_record-requires-clause-inside
 note_record-requires-clause-inside g c =
-    subst (λ (n : ℕ). All (IsBelow n) (name_offsets c.record-this.result)) (sym c.loop-index.invariant.section) (names_inside c.args.sections.now.strings _ c.record-this.ensures.reads)
+    subst (λ (strings : List ℕ). All (IsBelow (length strings)) (name_offsets c.record-this.result)) (sym c.loop-index.invariant.strings) (names_inside c.args.sections.now.strings _ c.record-this.ensures.reads)

@@ -1,13 +1,13 @@
-use Rattle.std.proofs.Common.{◌≡◌, ℕ, ◌*◌, ◌+◌, ◌^◌, ◌<◌, ◌≤◌, inl, inr, length, List, false, [], ◌∷◌, ◌++◌, sym, ap, ◌∙◌, arith, take, subst}
-use Rattle.std.specs.{Prelude.slice_index, List.Contains}
+use Rattle.std.proofs.Common.{◌≡◌, ℕ, ◌*◌, ◌+◌, ◌^◌, ◌<◌, ◌≤◌, inl, inr, length, List, Bool, true, false, [], ◌∷◌, ◌++◌, refl, sym, ap, ◌∙◌, arith, take, subst}
+use Rattle.std.specs.{Prelude.not, Prelude.slice_index, List.Contains}
 use Rattle.std.proofs.lemmas.Result.{on_ok_weaker}
 use Rattle.btf_raw.specs.{Kinds.has_item_names, Kinds.item_words, Frames.bytes_of, Frames.kind, Frames.name_word}
 use Rattle.btf_types.specs.Reading.{item_total, text_from, record_of}
 use Rattle.bpf_canon.specs.btf.{CanonicalBtf.record_words, write.NameOffsets.placed}
-use Rattle.bpf_canon.proofs.BtfLemmas.Write.RecordNames.{HasNamedItems, item_is, named_total, own_offset}
+use Rattle.bpf_canon.proofs.BtfLemmas.Write.RecordNames.{HasNamedItems, named_by_row, words_by_row, item_is, named_total, own_offset}
 use Rattle.bpf_canon.proofs.BtfLemmas.Write.RecordWords.{item_begins, item_room, item_size, items_to, named_item_more, record_pushed, record_tail, rest_words, items_are_tail}
 use Rattle.bpf_canon.proofs.btf.write.sections.push_record.Given.{Over}
-use Rattle.bpf_canon.proofs.btf.write.sections.push_record.Goals.{After-kind-kind, After-item_words-size, then-size-eq2+in_ok-push_words-2, else-size-eq2+in_ok-push_words-3}
+use Rattle.bpf_canon.proofs.btf.write.sections.push_record.Goals.{After-kind-kind, Else-not-item, then-size-eq2+in_ok-push_words-2, else-size-eq2+in_ok-push_words-3}
 use Rattle.bpf_canon.proofs.btf.write.sections.push_record.Goals as goal
 
 pub place-name-requires : goal.place-name-requires
@@ -27,70 +27,77 @@ front g c =
     ∙ record_pushed c.args.to c.args.out.now.items place strings f c.place-name.result c.canonical_info-info.result c.word-2.result
     c.requires.reads.ends c.requires.reads.spelled at (c.canonical_info-info.ensures strings c.requires.reads) c.word-2.ensures
 
-named : (g : Over) (c : After-item_words-size g) → HasNamedItems c.args.this.now c.item_words-size.result c.vlen-vlen.result
+named_is : (b : Bool) → not b ≡ false → b ≡ true
+named_is true e = refl
+named_is false e = absurd cc
+
+nameless_is : (b : Bool) → not b ≡ true → b ≡ false
+nameless_is true e = absurd cc
+nameless_is false e = refl
+
+named : (g : Over) (c : Else-not-item g) → HasNamedItems c.args.this.now c.layout_of.result.item.words c.vlen-vlen.result
 named g c = record {
-  named = sym (c.has_item_names.ensures ∙ ap has_item_names c.kind-kind.ensures) ∙ c.if-not-has_item_names.false;
-  words = sym (c.item_words-size.ensures.words ∙ ap item_words c.kind-kind.ensures);
+  named = named_by_row c.args.this.now c.kind-kind.result c.layout_of.result c.layout_of.ensures.row c.kind-kind.ensures ∙ named_is _ c.if-not-item.false;
+  words = words_by_row c.args.this.now c.kind-kind.result c.layout_of.result c.layout_of.ensures.row c.kind-kind.ensures;
   all = c.vlen-vlen.ensures;
 }
 
 -- an item has two or three words, all inside the record
-room : (g : Over) (c : After-item_words-size g) (k : ℕ) → k < c.vlen-vlen.result → (2 ≤ c.item_words-size.result) × ((3 + c.item_words-size.result * k + c.item_words-size.result ≤ length c.args.this.now) × (3 + c.item_words-size.result * k < 2 ^ 20))
+room : (g : Over) (c : Else-not-item g) (k : ℕ) → k < c.vlen-vlen.result → (2 ≤ c.layout_of.result.item.words) × ((3 + c.layout_of.result.item.words * k + c.layout_of.result.item.words ≤ length c.args.this.now) × (3 + c.layout_of.result.item.words * k < 2 ^ 20))
 room g c k low =
     let items = named g c in
-    let within = item_room c.args.this.now c.item_words-size.result c.vlen-vlen.result k c.requires.reads.frame items low in
-    (within.0, (within.1, item_begins c.item_words-size.result k (item_size c.args.this.now c.item_words-size.result c.vlen-vlen.result c.requires.reads.frame items) (omega arith)))
+    let within = item_room c.args.this.now c.layout_of.result.item.words c.vlen-vlen.result k c.requires.reads.frame items low in
+    (within.0, (within.1, item_begins c.layout_of.result.item.words k (item_size c.args.this.now c.layout_of.result.item.words c.vlen-vlen.result c.requires.reads.frame items) (omega arith)))
 
-pub returns-then-not-has_item_names : goal.returns-then-not-has_item_names
-returns-then-not-has_item_names g c =
+pub returns-then-not-item : goal.returns-then-not-item
+returns-then-not-item g c =
     let strings = c.args.names.now.strings in
     let f = c.args.this.now in
     let place = placed c.args.names.now in
-    let kind_is : c.kind-kind.result ≡ kind f = c.kind-kind.ensures in
-    let none : has_item_names (kind f) ≡ false = sym (c.has_item_names.ensures ∙ ap has_item_names kind_is) ∙ c.if-not-has_item_names.true in
+    let none : has_item_names (kind f) ≡ false = named_by_row c.args.this.now c.kind-kind.result c.layout_of.result c.layout_of.ensures.row c.kind-kind.ensures ∙ nameless_is _ c.if-not-item.true in
     on_ok_weaker c.push_rest.result
     (λ e. e ∙ ap (λ (t : List ℕ). c.push_words.new.out.items ++ bytes_of c.args.to t) (rest_words place strings f c.requires.reads.frame c.requires.reads.spelled none)
-    ∙ front g (goal.at.returns-then-not-has_item_names g c).After-kind-kind)
+    ∙ front g (goal.at.returns-then-not-item g c).After-kind-kind)
     c.push_rest.ensures
 
 pub overflow_mul-at : goal.overflow_mul-at
-overflow_mul-at g c = omega (arith, (room g (goal.at.overflow_mul-at g c).After-item_words-size c.loop-k.k (omega arith)).1.1)
+overflow_mul-at g c = omega (arith, (room g (goal.at.overflow_mul-at g c).Else-not-item c.loop-k.k (omega arith)).1.1)
 
 pub overflow_add-at : goal.overflow_add-at
-overflow_add-at g c = omega (arith, (room g (goal.at.overflow_add-at g c).After-item_words-size c.loop-k.k (omega arith)).1.1)
+overflow_add-at g c = omega (arith, (room g (goal.at.overflow_add-at g c).Else-not-item c.loop-k.k (omega arith)).1.1)
 
 pub word-requires-in-loop-k : goal.word-requires-in-loop-k
 word-requires-in-loop-k g c =
-    let r = room g (goal.at.word-requires-in-loop-k g c).After-item_words-size c.loop-k.k (omega arith) in
+    let r = room g (goal.at.word-requires-in-loop-k g c).Else-not-item c.loop-k.k (omega arith) in
     omega (arith, r.0, r.1.0)
 
 pub place-name-requires-in-loop-k : goal.place-name-requires-in-loop-k
 place-name-requires-in-loop-k g c =
-    let items = named g (goal.at.place-name-requires-in-loop-k g c).After-item_words-size in
-    item_is (Contains c.args.names.now.offsets) c.args.this.now c.item_words-size.result c.vlen-vlen.result c.loop-k.k c.word-in-loop-k.result c.requires.noted items (omega arith) c.word-in-loop-k.ensures
+    let items = named g (goal.at.place-name-requires-in-loop-k g c).Else-not-item in
+    item_is (Contains c.args.names.now.offsets) c.args.this.now c.layout_of.result.item.words c.vlen-vlen.result c.loop-k.k c.word-in-loop-k.result c.requires.noted items (omega arith) c.word-in-loop-k.ensures
 
 pub overflow_add-at-in-loop-k : goal.overflow_add-at-in-loop-k
-overflow_add-at-in-loop-k g c = omega (arith, (room g (goal.at.overflow_add-at-in-loop-k g c).After-item_words-size c.loop-k.k (omega arith)).1.1)
+overflow_add-at-in-loop-k g c = omega (arith, (room g (goal.at.overflow_add-at-in-loop-k g c).Else-not-item c.loop-k.k (omega arith)).1.1)
 
 pub word-second-requires : goal.word-second-requires
 word-second-requires g c =
-    let r = room g (goal.at.word-second-requires g c).After-item_words-size c.loop-k.k (omega arith) in
+    let r = room g (goal.at.word-second-requires g c).Else-not-item c.loop-k.k (omega arith) in
     omega (arith, r.0, r.1.0)
 
 pub overflow_add-at-else-size-eq2 : goal.overflow_add-at-else-size-eq2
-overflow_add-at-else-size-eq2 g c = omega (arith, (room g (goal.at.overflow_add-at-else-size-eq2 g c).After-item_words-size c.loop-k.k (omega arith)).1.1)
+overflow_add-at-else-size-eq2 g c = omega (arith, (room g (goal.at.overflow_add-at-else-size-eq2 g c).Else-not-item c.loop-k.k (omega arith)).1.1)
 
 pub word-requires-else-size-eq2 : goal.word-requires-else-size-eq2
 word-requires-else-size-eq2 g c =
-    let r = room g (goal.at.word-requires-else-size-eq2 g c).After-item_words-size c.loop-k.k (omega arith) in
+    let r = room g (goal.at.word-requires-else-size-eq2 g c).Else-not-item c.loop-k.k (omega arith) in
     omega (arith, r.0, r.1.0, c.if-size-eq2.false)
 
 pub loop-k-preserved : goal.loop-k-preserved
 loop-k-preserved g c =
-    let items = named g (goal.at.loop-k-preserved g c).After-item_words-size in
+    let items = named g (goal.at.loop-k-preserved g c).Else-not-item in
     let strings = c.args.names.now.strings in
     let f = c.args.this.now in
-    let size = c.item_words-size.result in
+    let size = c.layout_of.result.item.words in
     let from = 3 + size * c.loop-k.k in
     let place = placed c.args.names.now in
     let name = c.place-name-in-loop-k.result in
@@ -118,7 +125,7 @@ returns g c =
     let strings = c.args.names.now.strings in
     let f = c.args.this.now in
     let place = placed c.args.names.now in
-    let items = named g (goal.at.returns g c).After-item_words-size in
+    let items = named g (goal.at.returns g c).Else-not-item in
     let all : c.loop-k.k ≡ item_total f = omega (arith, items.all, named_total f c.requires.reads.frame items.named) in
     c.loop-k.invariant ∙ ap (λ (n : ℕ). c.push_words.new.out.items ++ bytes_of c.args.to (items_to place strings f n)) all
     ∙ ap (λ (t : List ℕ). c.push_words.new.out.items ++ bytes_of c.args.to t) (items_are_tail place strings f c.requires.reads.frame items.named)

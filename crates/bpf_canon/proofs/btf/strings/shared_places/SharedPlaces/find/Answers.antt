@@ -1,6 +1,6 @@
 use Rattle.std.proofs.Common.{◌≡◌, ◌<◌, ◌^◌, ℕ, List, length, map, subst, sym, ap, ◌∙◌}
 use Rattle.btf_types.specs.{Reading.text_from, strings.SharedNames.shared_table}
-use Rattle.bpf_canon.specs.btf.strings.{InHost.IsRankedFor, Longest.AreLongestOf, HostPlaces.HaveTheirHosts, HostPlaces.ArePlaced, HostPlaces.names_in, HostPlaces.name_place}
+use Rattle.bpf_canon.specs.btf.strings.{FirstUses.Noted, InHost.IsRankedFor, Longest.AreLongestOf, HostPlaces.HaveTheirHosts, HostPlaces.ArePlaced, HostPlaces.names_in, HostPlaces.name_place}
 use Rattle.bpf_canon.proofs.BtfLemmas.Strings.FoundPlaces.{longest_permuted, all_found, all_ranked, all_fit, all_placed}
 use Rattle.bpf_canon.proofs.btf.strings.shared_places.SharedPlaces.find.Given.{Over}
 use Rattle.bpf_canon.proofs.btf.strings.shared_places.SharedPlaces.find.Goals.{In_ok-ranked}
@@ -10,18 +10,19 @@ ranked : (g : Over) (c : In_ok-ranked g) → IsRankedFor c.in_ok-used.used c.in_
 ranked g c =
     let used = c.in_ok-used.used in
     let same = c.in_ok-ranked.ensures.section in
+    let own = sym (ap (λ (n : Noted). n.strings) c.uses.view_is) ∙ sym same in
     let longest = subst (λ (s : List ℕ). AreLongestOf s used.slots c.in_ok-texts.texts.items) (sym same) c.in_ok-texts.ensures in
     record {
       ranked = c.in_ok-ranked.ensures.ranked;
       longest = longest_permuted c.in_ok-ranked.ranked.section.now used.slots c.in_ok-texts.texts.items c.in_ok-ranked.ranked.texts.items longest c.in_ok-ranked.ensures.permutation;
-      whole = c.in_ok-used.ensures.section ∙ c.requires.whole ∙ ap (λ (l : List ℕ). length l) (sym same);
-      few = subst (λ (s : List ℕ). length s < 2 ^ 32) (sym same) c.requires.few;
+      whole = c.in_ok-used.ensures.section ∙ ap (λ (l : List ℕ). length l) own;
+      few = subst (λ (s : List ℕ). length s < 2 ^ 32) own c.requires.few;
     }
 
 room : (g : Over) (c : In_ok-ranked g) → length (shared_table (names_in c.in_ok-ranked.ranked c.in_ok-used.used)) < 2 ^ 32
 room g c =
-    subst (λ (s : List ℕ). length (shared_table (map (text_from s) c.in_ok-used.used.offsets)) < 2 ^ 32) (sym c.in_ok-ranked.ensures.section)
-    (subst (λ (l : List ℕ). length (shared_table (map (text_from c.args.strings.now) l)) < 2 ^ 32) (sym c.in_ok-used.ensures.offsets) c.requires.room)
+    subst (λ (s : List ℕ). length (shared_table (map (text_from s) c.in_ok-used.used.offsets)) < 2 ^ 32) (sym (ap (λ (n : Noted). n.strings) c.uses.view_is) ∙ sym c.in_ok-ranked.ensures.section)
+    (subst (λ (l : List ℕ). length (shared_table (map (text_from c.args.uses.strings) l)) < 2 ^ 32) (sym c.in_ok-used.ensures.offsets) c.requires.room)
 
 pub find_hosts-requires : goal.find_hosts-requires
 find_hosts-requires g c = ranked g (goal.at.find_hosts-requires g c).In_ok-ranked
