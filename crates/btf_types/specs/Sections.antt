@@ -9,14 +9,15 @@ pub record HasFrame (o : Order) (types : List ℕ) (pos : ℕ) : Type 0 where
   pub inside : pos + 4 * length (frame_at o types pos) ≤ length types
   pub frame : IsFrame (frame_at o types pos)
 
--- the string section, and the frames of all records
+-- the byte order, the string section, and the frames of all records
 pub record SectionWords : Type 0 where
+  pub order : Order
   pub strings : List ℕ
   pub frames : List (List ℕ)
 
 -- those of a file whose records begin at these offsets of its type section
 abbrev pub words_at : Order → List ℕ → List ℕ → List ℕ → SectionWords
-words_at o types strings places = record { strings = strings; frames = frames_at o types places }
+words_at o types strings places = record { order = o; strings = strings; frames = frames_at o types places }
 
 -- the records that the frames decode to
 abbrev pub records_in : SectionWords → List TypeRecord

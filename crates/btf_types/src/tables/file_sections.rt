@@ -5,7 +5,6 @@
 //! the shortest of theirs (docs/DECISIONS.md).
 
 ghost use Rattle.std.specs.Prelude.{◌≡◌, ◌-◌, ◌<◌, ◌≤◌, Some, length, slice_get};
-ghost use Rattle.bpf_words.specs.declared.Order.{Order as ByteOrder};
 ghost use Rattle.btf_raw.specs.Frames.{section_of};
 ghost use Rattle.btf_types.specs.{Reading.record_of, Sections.words_at, Sections.records_in};
 ghost use Rattle.btf_types.specs.tables.{TableInvariant.IsTable, TableInvariant.IsChecked};
@@ -79,7 +78,7 @@ impl<'t> FileSections<'t> {
 
     /// The bytes of the type section: those of its records, in the byte order of the file.
     pub fn types(&self) -> &'t [u8]
-        ensures section { (order : ByteOrder) × (result.now ≡ section_of order self.now.frames) }
+        ensures section { result.now ≡ section_of self.now.order self.now.frames }
         ensures table { IsTable self.now }
     {
         self.types

@@ -20,16 +20,15 @@ canonical_bytes g c =
     let s = c.args.sections.now in
     let n = c.in_ok-names.names in
     let front = c.push_header.new.out.items in
-    let section = c.types-types_len.ensures.section in
     let types_len = length c.types-types_len.result.now in
     let len = c.table_len-table_len.result in
     let same : kept (placed_texts n) ≡ kept (names (records_in s)) =
     ap (λ (t : List ℕ). kept (map (text_from t) n.offsets)) (c.in_ok-names.ensures.strings ∙ c.in_ok-uses.ensures.strings)
     ∙ ap (λ (l : List ℕ). kept (map (text_from s.strings) l)) (c.in_ok-names.ensures.offsets ∙ c.in_ok-uses.ensures.offsets)
     ∙ kept_uses s c.types-types_len.ensures.table in
-    sections_written s c.types-types_len.ensures.table section.0 c.args.to c.types-types_len.result.now (placed_texts n)
+    sections_written s c.types-types_len.ensures.table s.order c.args.to c.types-types_len.result.now (placed_texts n)
     front c.push_records.new.out.items c.push_table.new.out.items types_len len
-    section.1 same refl c.table_len-table_len.ensures
+    c.types-types_len.ensures.section same refl c.table_len-table_len.ensures
     (c.in_ok-push_header.ensures ∙ ap (λ (b : List ℕ). b ++ header c.args.to 24 0 types_len types_len len) c.in_ok-bytes.ensures.items)
     c.in_ok-push_records.ensures
     c.in_ok-push_table.ensures

@@ -1,4 +1,4 @@
 use Rattle.btf_types.proofs.tables.file_sections.FileSections.types.Goals as goal
 
 pub returns-clause-section : goal.returns-clause-section
-returns-clause-section c = (c.self.inside.order, rw (← c.self.view_is) c.self.invariant.framed.frames.whole)
+returns-clause-section c = rw (← c.self.view_is) c.self.invariant.framed.frames.whole
