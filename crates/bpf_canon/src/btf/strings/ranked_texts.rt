@@ -67,6 +67,14 @@ pub(crate) fn text_of<'a>(section: &'a [u8], text: &SectionText) -> &'a [u8]
     &section[start..end]
 }
 
+/// Compares the bytes. This is a separate function, so that the comparison of keys is inlined.
+#[inline(never)]
+fn compare_texts(section: &[u8], a: &SectionText, b: &SectionText) -> Ordering
+    ensures { result ≡ on (text_in section.now) tail_cmp a.now b.now }
+{
+    compare_from_end(text_of(section, a), text_of(section, b))
+}
+
 /// Compares by keys, then by bytes.
 #[tactic(auto, using(crate::proofs::BtfLemmas::Strings::SortedTexts::key_cases))]
 fn compare(section: &[u8], a: &SectionText, b: &SectionText) -> Ordering
@@ -76,17 +84,7 @@ fn compare(section: &[u8], a: &SectionText, b: &SectionText) -> Ordering
     if first != second {
         return first.cmp(&second);
     }
-    compare_from_end(text_of(section, a), text_of(section, b))
-}
-
-/// Sorts strings by their reversed bytes. Equal strings at different offsets may be in either
-/// order: they have the same host.
-pub(crate) fn sort_texts<A: Allocator>(section: &[u8], list: &mut Vec<SectionText, A>)
-    requires { All (HasKey section.now) list.old.items }
-    ensures permutation { IsPermutation list.old.items list.new.items }
-    ensures sorted { IsSorted tail_cmp (texts_in section.now list.new.items) }
-{
-    list.sort_unstable_by(|a, b| compare(section, a, b));
+    compare_texts(section, a, b)
 }
 
 /// The longest used suffix of each string of the section. The names at later offsets of the same
@@ -134,7 +132,8 @@ pub(crate) struct RankedTexts<'a, A: Allocator> {
 }
 
 impl<'a, A: Allocator + Copy> RankedTexts<'a, A> {
-    /// Sorts the strings, and finds their common suffixes and hosts.
+    /// Sorts the strings by their reversed bytes, and finds their common suffixes and hosts. Equal
+    /// strings at different offsets may be in either order: they have the same host.
     pub(crate) fn new(
         alloc: A,
         section: &'a [u8],
@@ -149,7 +148,7 @@ impl<'a, A: Allocator + Copy> RankedTexts<'a, A> {
             AreRanked (texts_in r.section.now r.texts.items) r.common.items r.host_ranks.items) }
     {
         let mut texts = texts;
-        sort_texts(section, &mut texts);
+        texts.sort_unstable_by(|a, b| compare(section, a, b));
         let common = common_suffixes(alloc, section, &texts)?;
         let host_ranks = next_hosts(alloc, section, &texts, &common)?;
         Ok(RankedTexts {
