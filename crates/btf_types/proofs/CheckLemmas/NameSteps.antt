@@ -3,7 +3,7 @@ use Rattle.std.proofs.Common.{◌≡◌, ℕ, ◌<◌, ◌≤◌, Bool, true, fa
 use Rattle.std.specs.Prelude.{◌↔◌, ◌==◌, IsFalse, IsTrue, IsUtf8, slice_index}
 use Rattle.std.proofs.lemmas.Bool.{cases_lt, eqb-true, eqb-false}
 use Rattle.btf_raw.specs.{declared.cause.BtfCause.BtfCause, Cause.number_of, Names.TextAt, Header.HasNulEnds, Kinds.needs_name, Kinds.has_no_name, Kinds.layout_of}
-use Rattle.btf_raw.specs.declared.info.Naming.{Naming, TheVariants.Free, TheVariants.Needed, TheVariants.Unnamed}
+use Rattle.btf_raw.specs.declared.info.Naming.{Naming, TheVariants.Needed, TheVariants.Unnamed}
 use Rattle.btf_raw.specs.declared.cause.BtfCause.TheVariants.{NameRange, NameUtf8, NameMissing, NameUnwanted}
 use Rattle.btf_types.specs.checks.{Numbers.NoCause, Numbers.LeastCause, Numbers.IsLeastOf, NameFaults.NameFault, NameFaults.ItemNameFault}
 use Rattle.btf_types.specs.Reading.{text_from}

@@ -1,4 +1,4 @@
-use Rattle.std.proofs.Common.{rules, of_calls, ◌≡◌, ◌≢◌, ℕ, Bool, true, false, Option, List, [], ◌∷◌, length, refl, sym, subst, ◌∙◌}
+use Rattle.std.proofs.Common.{rules, of_calls, ◌≡◌, ◌≢◌, ℕ, true, false, Option, List, [], ◌∷◌, length, refl, sym, subst, ◌∙◌}
 use Rattle.std.specs.Prelude.{IsTrue, IsFalse}
 use Rattle.btf_raw.specs.{KindNumbers.ARRAY, KindNumbers.FWD, Kinds.one_of, Kinds.has_target, Kinds.is_kind, Kinds.layout_of, declared.cause.BtfCause.BtfCause}
 use Rattle.btf_raw.specs.declared.info.Third.{Third, TheVariants.Zero, TheVariants.TypeId, TheVariants.Size as OfSize}
@@ -6,7 +6,7 @@ use Rattle.btf_raw.specs.declared.cause.BtfCause.TheVariants.{NotZero, Size, Ref
 use Rattle.btf_types.specs.{Sections.facts_in, checks.NameFaults.NamedTypeFault}
 use Rattle.btf_types.specs.checks.Numbers.{TypeFacts, type_at, size_fits, ThirdFault, IsLeastOf}
 use Rattle.btf_types.proofs.{CheckLemmas.Checking.checked_same, KindCases.KindIs, KindCases.kind_is}
-use Rattle.btf_types.proofs.KindCases.KindIs.{IsInt, IsArray, IsStruct, IsUnion, IsEnum, IsFwd, IsDatasec, IsFloat, IsEnum64}
+use Rattle.btf_types.proofs.KindCases.KindIs.{IsInt, IsStruct, IsUnion, IsEnum, IsDatasec, IsFloat, IsEnum64}
 use Rattle.btf_types.proofs.checks.references.third_fault.Goals as goal
 
 -- what the row of a kind says of its third field

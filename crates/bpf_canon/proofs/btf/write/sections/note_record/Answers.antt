@@ -1,6 +1,6 @@
 use Rattle.std.proofs.Common.{◌≡◌, ◌*◌, ◌+◌, ℕ, List, true, false, length, sym, ap, ◌∙◌, arith}
 use Rattle.std.specs.Prelude.{slice_index}
-use Rattle.btf_raw.specs.{Frames.kind, Frames.name_word, Frames.vlen, Kinds.has_item_names}
+use Rattle.btf_raw.specs.{Frames.kind, Frames.vlen, Kinds.has_item_names}
 use Rattle.btf_types.specs.Reading.{tabulate}
 use Rattle.bpf_canon.specs.btf.strings.FirstUses.{noted, noted_all}
 use Rattle.bpf_canon.specs.btf.write.NameOffsets.{item_word, IsBelow}

@@ -1,7 +1,7 @@
 use Rattle.std.proofs.Common.{◌≡◌, ℕ, ◌*◌, ◌+◌, ◌^◌, ◌<◌, ◌≤◌, inl, inr, length, List, Bool, true, false, [], ◌∷◌, ◌++◌, refl, sym, ap, ◌∙◌, arith, take, subst}
 use Rattle.std.specs.{Prelude.not, Prelude.slice_index, List.Contains}
 use Rattle.std.proofs.lemmas.Result.{on_ok_weaker}
-use Rattle.btf_raw.specs.{Kinds.has_item_names, Kinds.item_words, Frames.bytes_of, Frames.kind, Frames.name_word}
+use Rattle.btf_raw.specs.{Kinds.has_item_names, Frames.bytes_of, Frames.kind, Frames.name_word}
 use Rattle.btf_types.specs.Reading.{item_total, text_from, record_of}
 use Rattle.bpf_canon.specs.btf.{CanonicalBtf.record_words, write.NameOffsets.placed}
 use Rattle.bpf_canon.proofs.BtfLemmas.Write.RecordNames.{HasNamedItems, named_by_row, words_by_row, item_is, named_total, own_offset}

@@ -1,4 +1,4 @@
-use Rattle.std.proofs.Common.{◌≡◌, length, map, subst, ◌+◌, sym, ap, ◌∙◌, ◌++◌, arith, List, ℕ, refl}
+use Rattle.std.proofs.Common.{◌≡◌, length, map, ◌+◌, ap, ◌∙◌, ◌++◌, arith, List, ℕ, refl}
 use Rattle.std.proofs.lemmas.List.{take_all}
 use Rattle.btf_raw.specs.{Header.header, Frames.bytes_of, Frames.section_of}
 use Rattle.btf_types.specs.{Names.kept, Names.names, Names.table_of, Values.TypeRecord, tables.TableWords.record_at}

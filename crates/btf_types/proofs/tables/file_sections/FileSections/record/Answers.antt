@@ -1,5 +1,4 @@
-use Rattle.std.proofs.Common.{ℕ, List, ◌≤◌, length, refl, subst, sym, ◌∙◌}
-use Rattle.btf_types.specs.Sections.{SectionWords}
+use Rattle.std.proofs.Common.{ℕ, List, subst, sym}
 use Rattle.btf_types.specs.tables.PlaceWords.{ReadsRecord}
 use Rattle.btf_types.proofs.TableLemmas.TableReads.{record_read}
 use Rattle.btf_types.proofs.tables.file_sections.FileSections.record.Goals as goal
