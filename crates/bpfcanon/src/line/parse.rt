@@ -114,6 +114,7 @@ fn line_error(kind: ErrorKind) -> LineError
 /// # Errors
 ///
 /// `Usage` if clap rejects the arguments, and `Memory` if memory ran out.
+#[inline(never)]
 pub fn parse_line(alloc: Global, words: &[String]) -> Result<Job, LineError>
     requires { 0 < length words.now }
     ensures asks { IfOk result (spec.Asks (map string_bytes words.now)) }
