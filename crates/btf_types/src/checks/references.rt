@@ -50,7 +50,7 @@ pub fn item_name_fault(section: &Section, off: u32) -> Option<BtfCause>
 }
 
 /// Checks a record's own name field: first like that of an item, then whether a name is missing or
-/// not allowed.
+/// not allowed. `name` is what the row of the record's kind says.
 #[tactic(auto, using(crate::proofs::CheckLemmas::NameSteps::item_to_name))]
 fn name_fault(section: &Section, name: Naming, off: u32) -> Option<BtfCause>
     ensures { (kind : ℕ) → (kinds.layout_of kind).name ≡ name
@@ -104,7 +104,8 @@ fn named_kind_fits(section: &Section, kind: u8, target: u32) -> bool
     }
 }
 
-/// Checks the size or type field of a record: a size, a type ID, or 0.
+/// Checks the size or type field of a record. `field` is what the row of its kind says of it: a
+/// size, a type ID, or 0.
 fn third_fault(section: &Section, kind: u8, field: Third, third: u32, vlen: u16) -> Option<BtfCause>
     requires kind { IsTrue (kinds.is_kind kind) }
     requires field { field ≡ (kinds.layout_of kind).third }

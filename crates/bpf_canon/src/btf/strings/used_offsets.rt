@@ -22,8 +22,11 @@ use std::marker::Model;
 /// that little memory is cleared and touched.
 #[derive(Drop)]
 pub(crate) struct FirstUses<'a, A: Allocator> {
+    /// The bytes of the string section.
     pub(crate) strings: &'a [u8],
+    /// The bit set.
     pub(crate) marks: Vec<u64, A>,
+    /// The offsets whose bits are set, in the order of first use.
     pub(crate) offsets: Vec<u32, A>,
 }
 
