@@ -1,6 +1,7 @@
 # shellcheck shell=bash
 # ./verify sources this at the top of the repository: it runs parts of the tests, and says at the end how each ended. What it keeps is in the
 # folder $work, and $log there is what the last part printed.
+declare -A started
 ended=()
 failed=0
 apt=''
@@ -43,12 +44,21 @@ part() {
     report "$1" "${PIPESTATUS[0]}" $((SECONDS - began))
 }
 
-# Waits for what is made in parallel with the tests: its name, its process and the file that it prints into.
-made() {
+# Starts a part in parallel with others, as many as there are processors: its name and its command.
+start() {
+    while [ "$(jobs -pr | wc -l)" -ge "$(nproc)" ]; do wait -n; done
+    "${@:2}" >"$work/$1" 2>&1 &
+    started[$1]=$!
+}
+
+has_started() { [ -n "${started[$1]:-}" ]; }
+
+# Waits for a part that was started, and shows what it printed.
+finish() {
     local began=$SECONDS status
-    wait "$2"
+    wait "${started[$1]}"
     status=$?
-    tee "$log" <"$3"
+    tee "$log" <"$work/$1"
     report "$1" $status $((SECONDS - began))
     return $status
 }

@@ -21,8 +21,8 @@ PARTS = {
     "tests/release": "release",
 }
 ONLY = "; nothing else was run"
-FIRST = "verify: quick checks passed, rt ci passed, process tests passed, C archive passed, C interface passed, bindings passed, "
-PASSED = FIRST + "objects passed, objects in Go passed, recipes passed, skipped (no bpftool), release objects passed, release passed"
+FIRST = "verify: quick checks passed, rt ci passed, C archive passed, process tests passed, C interface passed, bindings passed, "
+PASSED = FIRST + "recipes passed, skipped (no bpftool), objects in Go passed, objects passed, release objects passed, release passed"
 LOG = "rt: crates/bpf_words/must-fail/reads_twice.edit: {}\\n12 passed, 0 failed\\n"
 # What rt ci prints with status 0, and whether verify passes.
 LOGS = [
@@ -46,23 +46,23 @@ SKIPPED = [
     (
         "without any tool",
         [],
-        "verify: quick checks skipped (no python3), rt ci passed, process tests skipped (no python3), C archive skipped (no python3), "
-        "C interface skipped (no archive), bindings skipped (no cc), objects passed, objects in Go passed, recipes skipped (no python3), "
+        "verify: quick checks skipped (no python3), rt ci passed, C archive skipped (no python3), C interface skipped (no archive), "
+        "recipes skipped (no python3), process tests skipped (no python3), bindings skipped (no cc), objects in Go passed, objects passed, "
         "release skipped (no archive)",
     ),
     (
         "without cc",
         ["python3", "zsh"],
-        "verify: quick checks passed, rt ci passed, process tests passed, skipped (no cc), C archive passed, C interface skipped (no cc), "
-        "bindings skipped (no cc), objects passed, objects in Go passed, recipes passed, skipped (no bpftool), "
+        "verify: quick checks passed, rt ci passed, C archive passed, process tests passed, skipped (no cc), C interface skipped (no cc), "
+        "bindings skipped (no cc), recipes passed, skipped (no bpftool), objects in Go passed, objects passed, "
         "release objects passed, release passed",
     ),
     (
         "with cc and python3",
         ["python3", "cc"],
-        "verify: quick checks passed, rt ci passed, process tests passed, C archive passed, "
+        "verify: quick checks passed, rt ci passed, C archive passed, process tests passed, "
         "C interface passed, skipped (no valgrind, no pkg-config, no clang), bindings passed, skipped (no go, no cargo, no mypy, no clang), "
-        "objects passed, objects in Go passed, recipes passed, skipped (no bpftool), release objects passed, release passed",
+        "recipes passed, skipped (no bpftool), objects in Go passed, objects passed, release objects passed, release passed",
     ),
 ]
 
