@@ -16,7 +16,7 @@ const ROOM: usize = 16_384;
 const ENOUGH: usize = 16;
 
 /// An arena with `room` free bytes: the others are allocated first. It gets no other chunk.
-pub(crate) fn arena(alloc: Global, room: usize) -> Result<Bump<Global>, AllocError> {
+fn arena(alloc: Global, room: usize) -> Result<Bump<Global>, AllocError> {
     let bump = Bump::try_with_capacity(alloc, ROOM)?;
     let taken = bump.chunk_capacity().saturating_sub(room);
     bump.try_alloc_slice_fill_clone(taken, 0u8)?;

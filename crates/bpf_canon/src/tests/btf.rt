@@ -6,110 +6,89 @@ use super::btf_files::{
 };
 use super::btf_run::run_in_pieces;
 use super::compiled_types::{flow_table_big, flow_table_little};
-use super::expect::{equal, equal_bytes, holds};
+use super::expect::{equal, holds, is_bytes, returns};
 use super::faulty_btf::{FaultyBtf, faulty_files};
-use super::fused_devices::FusedDevices;
+use super::fused_devices::{FusedDevices, stopped};
 use super::own_table::Counting;
-use crate::{RunCause, RunError, SideError, canon_btf, recode_btf, same_btf, write_btf};
+use crate::{RunCause, SideError, canon_btf, recode_btf, same_btf, write_btf};
 use bpf_words::Order;
 use btf_raw::{BtfCause, BtfFault};
-use btf_types::{Btf, BtfError, BtfView, TypeTable};
-use std::alloc::{AllocError, Global};
+use btf_types::{Btf, BtfError, BtfView};
+use std::alloc::Global;
 use std::process::Abort;
-use std::test::Fail;
-
-/// Whether a table is written as these bytes.
-pub(crate) fn writes<T: TypeTable>(
-    alloc: Global,
-    order: Order,
-    table: &T,
-    bytes: &[u8],
-) -> Result<bool, AllocError> {
-    Ok(write_btf(alloc, order, table)?.as_slice() == bytes)
-}
 
 /// Whether an owned table of a file is written as these bytes.
-fn is_owned(alloc: Global, order: Order, file: &[u8], bytes: &[u8]) -> Result<bool, BtfError> {
-    let table = Btf::parse(alloc, file)?;
-    Ok(writes(alloc, order, &table, bytes)?)
+fn is_owned(alloc: Global, order: Order, file: &[u8], bytes: &[u8]) -> bool {
+    match Btf::parse(alloc, file) {
+        Ok(table) => is_bytes(write_btf(alloc, order, &table), bytes),
+        Err(_) => false,
+    }
 }
 
 /// Whether a borrowed table of a file is written as these bytes, and one of a user.
-fn is_borrowed(alloc: Global, order: Order, file: &[u8], bytes: &[u8]) -> Result<bool, BtfError> {
-    let table = BtfView::parse(alloc, file)?;
-    let is_borrowed = writes(alloc, order, &table, bytes)?;
-    Ok(is_borrowed && writes(alloc, order, &Counting::new(&table), bytes)?)
+fn is_borrowed(alloc: Global, order: Order, file: &[u8], bytes: &[u8]) -> bool {
+    match BtfView::parse(alloc, file) {
+        Ok(table) => {
+            is_bytes(write_btf(alloc, order, &table), bytes)
+                && is_bytes(write_btf(alloc, order, &Counting::new(&table)), bytes)
+        }
+        Err(_) => false,
+    }
 }
 
-/// The canonical bytes of a file in a byte order, by `recode_btf`. An owned table, a borrowed one and one of a user give the same.
-fn written(rt: &impl Abort, alloc: Global, order: Order, file: &[u8]) -> Result<Vec<u8>, BtfError> {
-    let whole = recode_btf(alloc, order, file)?;
-    let is_same = is_owned(alloc, order, file, &whole)? && is_borrowed(alloc, order, file, &whole)?;
-    holds(rt, is_same, &"the ways to write a file");
-    Ok(whole)
-}
-
-/// Checks what is written for a file in an order.
-fn check_written(
+/// Checks what is written for a file in an order: by `recode_btf`, and from an owned table, a borrowed one and one of a user.
+pub(crate) fn check_written(
     rt: &impl Abort,
     alloc: Global,
     order: Order,
     file: &[u8],
     bytes: &[u8],
-) -> Result<(), BtfError> {
-    let found = written(rt, alloc, order, file)?;
-    equal_bytes(rt, found.as_slice(), bytes, &order);
-    Ok(())
+) {
+    returns(rt, recode_btf(alloc, order, file), Ok(bytes), &order);
+    let is_same = is_owned(alloc, order, file, bytes) && is_borrowed(alloc, order, file, bytes);
+    holds(rt, is_same, &("the ways to write a file", order, bytes));
 }
 
 /// Checks the canonical bytes of a file, by each call.
-fn check_canonical(
-    rt: &impl Abort,
-    alloc: Global,
-    file: &[u8],
-    canonical: &[u8],
-) -> Result<(), BtfError> {
-    let canon = canon_btf(alloc, file)?;
-    equal_bytes(rt, canon.as_slice(), canonical, &"canonical bytes");
-    check_written(rt, alloc, Order::Little, file, canonical)
+fn check_canonical(rt: &impl Abort, alloc: Global, file: &[u8], canonical: &[u8]) {
+    let canon = canon_btf(alloc, file);
+    returns(rt, canon, Ok(canonical), &"canonical bytes");
+    check_written(rt, alloc, Order::Little, file, canonical);
 }
 
-/// Writes a file in both orders. The canonical bytes are no longer than the file, have the same records, and are their own canonical
-/// bytes.
-pub(crate) fn check_file(
-    rt: &impl Abort,
-    alloc: Global,
-    file: &[u8],
-    canonical: &[u8],
-) -> Result<(), BtfError> {
-    check_canonical(rt, alloc, file, canonical)?;
-    check_canonical(rt, alloc, canonical, canonical)?;
-    let big = written(rt, alloc, Order::Big, file)?;
-    check_canonical(rt, alloc, &big, canonical)?;
-    let lens = (canonical.len() <= file.len(), big.len());
-    equal(rt, &lens, &(true, canonical.len()), &"the lengths");
-    let same = same_btf(alloc, file, &big);
+/// Checks what is written for a file in big-endian order. It is as long as the canonical bytes, and holds the same records.
+fn check_big(rt: &impl Abort, alloc: Global, file: &[u8], big: &[u8], canonical: &[u8]) {
+    check_written(rt, alloc, Order::Big, file, big);
+    check_canonical(rt, alloc, big, canonical);
+    equal(rt, &big.len(), &canonical.len(), &"the length");
+    let same = same_btf(alloc, file, big);
     equal(rt, &same, &Ok(true), &"a file in the other order");
-    Ok(())
+}
+
+/// Writes a file in both orders. The canonical bytes are no longer than the file, and are their own canonical bytes.
+pub(crate) fn check_file(rt: &impl Abort, alloc: Global, file: &[u8], canonical: &[u8]) {
+    holds(rt, canonical.len() <= file.len(), &"the length");
+    check_canonical(rt, alloc, file, canonical);
+    check_canonical(rt, alloc, canonical, canonical);
+    match recode_btf(alloc, Order::Big, file) {
+        Ok(big) => check_big(rt, alloc, file, &big, canonical),
+        Err(error) => holds(rt, false, &error),
+    }
 }
 
 /// Writes files in both orders, and runs the engine on them.
-fn check_files(rt: &impl Abort, alloc: Global, files: &[BtfFile]) -> Result<(), BtfError> {
+fn check_files(rt: &impl Abort, alloc: Global, files: &[BtfFile]) {
     for file in files {
-        check_file(rt, alloc, file.bytes, file.canonical)?;
+        check_file(rt, alloc, file.bytes, file.canonical);
         run_in_pieces(rt, alloc, file);
     }
-    Ok(())
 }
 
 #[test]
-fn files_have_one_canonical_form_from_every_table_in_both_orders(
-    rt: HostRuntime,
-) -> Result<(), Fail> {
+fn files_have_one_canonical_form_from_every_table_in_both_orders(rt: HostRuntime) {
     for files in worked_files() {
-        check_files(&rt, rt.alloc(), files)?;
+        check_files(&rt, rt.alloc(), files);
     }
-    Ok(())
 }
 
 /// Files, and what is written for them in big-endian order.
@@ -117,11 +96,10 @@ fn files_have_one_canonical_form_from_every_table_in_both_orders(
 static BIG: [(&[u8], &[u8]); 3] = [(BIG_INT, BIG_INT), (INT, BIG_INT), (ENUM, ENUM)];
 
 #[test]
-fn files_are_written_in_big_endian_order(rt: HostRuntime) -> Result<(), Fail> {
+fn files_are_written_in_big_endian_order(rt: HostRuntime) {
     for (file, big) in &BIG {
-        check_written(&rt, rt.alloc(), Order::Big, file, big)?;
+        check_written(&rt, rt.alloc(), Order::Big, file, big);
     }
-    Ok(())
 }
 
 /// Two files, and whether their records are equal.
@@ -167,30 +145,31 @@ fn btf_files_are_the_same_if_their_types_are(rt: HostRuntime) {
     }
 }
 
-/// Canonical bytes, comparison on both sides, and the engine report the first fault.
-fn check_refused(rt: &impl Abort, alloc: Global, file: &FaultyBtf) {
-    let (bytes, fault) = (file.bytes, file.fault);
-    let found = canon_btf(alloc, bytes).err();
-    equal(rt, &found, &Some(BtfError::Fault(fault)), &bytes);
-    let compared = [
-        same_btf(alloc, bytes, INT),
-        same_btf(alloc, INT, bytes),
-        same_btf(alloc, bytes, bytes),
-    ];
-    let (first, second) = (Err(SideError::First(fault)), Err(SideError::Second(fault)));
-    equal(rt, &compared, &[first, second, first], &bytes);
-    let run = FusedDevices::sound(bytes, 7).run_btf(rt, alloc, Order::Little);
-    let stop = RunError {
-        cause: RunCause::Fault(fault),
-        written: 0,
-    };
-    equal(rt, &run.ended, &Err(stop), &bytes);
-    equal(rt, &run.taken.len(), &0, &bytes);
+/// A comparison reports the fault of a faulty file on either side.
+fn check_compared(rt: &impl Abort, alloc: Global, bytes: &[u8], fault: BtfFault) {
+    for (first, second, side) in [
+        (bytes, INT, SideError::First(fault)),
+        (INT, bytes, SideError::Second(fault)),
+        (bytes, bytes, SideError::First(fault)),
+    ] {
+        let same = same_btf(alloc, first, second);
+        equal(rt, &same, &Err(side), &"a comparison");
+    }
+}
+
+/// Canonical bytes, comparison, and the engine report the first fault.
+pub(crate) fn check_refused(rt: &impl Abort, alloc: Global, bytes: &[u8], fault: BtfFault) {
+    let error = BtfError::Fault(fault);
+    returns(rt, canon_btf(alloc, bytes), Err(error), &"canonical bytes");
+    check_compared(rt, alloc, bytes, fault);
+    let ended = stopped(RunCause::Fault(fault), 0);
+    let devices = FusedDevices::sound(bytes, 7);
+    devices.check_btf(rt, alloc, Order::Little, ended, b"", &"a run");
 }
 
 fn check_all_refused(rt: &impl Abort, alloc: Global, files: &[FaultyBtf]) {
     for file in files {
-        check_refused(rt, alloc, file);
+        check_refused(rt, alloc, file.bytes, file.fault);
     }
 }
 

@@ -4,16 +4,13 @@ ghost use Rattle.std.specs.Prelude.{None, ℕ, List};
 
 use super::btf_files::{BIG_INT, BtfFile, FAULTY, INT};
 use super::expect::{equal, equal_bytes};
-use super::fused_devices::FusedDevices;
-use crate::{
-    ByteSource, DeviceFailed, MemSink, ReaderSource, RunCause, RunError, WriterSink, run_btf,
-};
+use super::fused_devices::{FusedDevices, Ran, front_of, stopped};
+use super::limit::Counter;
+use crate::{ByteSource, DeviceFailed, ReaderSource, RunCause, RunError, WriterSink, run_btf};
 use bpf_words::Order;
 use btf_raw::{BtfCause, BtfFault};
 use std::alloc::Global;
 use std::process::Abort;
-
-type Ran = Result<u64, RunError<BtfFault>>;
 
 const FAULT_OF_FAULTY: BtfFault = BtfFault {
     pos: 32,
@@ -33,21 +30,11 @@ const MAGIC: BtfFault = BtfFault {
 /// The first 20 bytes of `INT`.
 const INT_FRONT: &[u8] = b"\x9f\xeb\x01\0\x18\0\0\0\0\0\0\0\x10\0\0\0\x10\0\0\0";
 
-fn stopped(cause: RunCause<BtfFault>, written: u64) -> Ran {
-    Err(RunError { cause, written })
-}
-
 /// Runs a file in pieces, and compares.
 fn run_file(rt: &impl Abort, alloc: Global, file: &BtfFile, piece: usize) {
-    let run = FusedDevices::sound(file.bytes, piece).run_btf(rt, alloc, Order::Little);
-    let written = file.canonical.len() as u64;
-    equal(rt, &run.ended, &Ok(written), &(file.name, piece));
-    equal_bytes(
-        rt,
-        run.taken.as_slice(),
-        file.canonical,
-        &(file.name, piece),
-    );
+    let ended = Ok(file.canonical.len() as u64);
+    let devices = FusedDevices::sound(file.bytes, piece);
+    devices.check_btf(rt, alloc, Order::Little, ended, file.canonical, &file.name);
 }
 
 /// Runs a file in pieces of several lengths.
@@ -62,7 +49,7 @@ struct RunRow {
     name: &'static str,
     to: Order,
     devices: FusedDevices<'static>,
-    ended: Ran,
+    ended: Ran<BtfFault>,
     taken: &'static [u8],
 }
 
@@ -84,14 +71,19 @@ static RUNS: [RunRow; 11] = [
 #[test]
 fn devices_that_fail_stop_the_engine_on_btf(rt: HostRuntime) {
     for row in &RUNS {
-        let run = row.devices.run_btf(&rt, rt.alloc(), row.to);
-        equal(&rt, &run.ended, &row.ended, &row.name);
-        equal_bytes(&rt, run.taken.as_slice(), row.taken, &row.name);
+        let devices = row.devices;
+        devices.check_btf(&rt, rt.alloc(), row.to, row.ended, row.taken, &row.name);
     }
 }
 
-/// Runs a file of 45 bytes with these fuses of the source and the sink, and compares.
-fn run_fused(rt: &impl Abort, alloc: Global, fuses: (Option<u64>, Option<u64>), wanted: Ran) {
+/// Runs a file of 45 bytes with these fuses of the source and the sink, and compares. What is written before the end is the front of
+/// the canonical bytes.
+fn run_fused(
+    rt: &impl Abort,
+    alloc: Global,
+    fuses: (Option<u64>, Option<u64>),
+    ended: Ran<BtfFault>,
+) {
     let devices = FusedDevices {
         bytes: BIG_INT,
         read_piece: 5,
@@ -99,9 +91,8 @@ fn run_fused(rt: &impl Abort, alloc: Global, fuses: (Option<u64>, Option<u64>), 
         write_piece: 1,
         write_fuse: fuses.1,
     };
-    let run = devices.run_btf(rt, alloc, Order::Little);
-    equal(rt, &run.ended, &wanted, &fuses);
-    run.took_front_of(rt, INT);
+    let taken = front_of(INT, &ended);
+    devices.check_btf(rt, alloc, Order::Little, ended, taken, &fuses);
 }
 
 #[test]
@@ -145,11 +136,10 @@ fn inputs_longer_than_any_btf_are_too_long(rt: HostRuntime) {
         (u64::MAX, RunCause::TooLong),
     ] {
         let mut source = Zeros { left };
-        let mut out = Vec::new(rt.alloc());
-        let mut sink = MemSink::new(&mut out, 1, None);
+        let mut sink = Counter { taken: 0 };
         let ran = run_btf(rt.alloc(), &mut source, &mut sink, Order::Little);
         equal(&rt, &ran, &stopped(cause, 0), &left);
-        equal(&rt, &out.len(), &0, &left);
+        equal(&rt, &sink.taken, &0, &left);
     }
 }
 

@@ -23,3 +23,24 @@ pub(crate) fn equal<T: PartialEq + Debug>(
 pub(crate) fn equal_bytes(rt: &impl Abort, bytes: &[u8], wanted: &[u8], case: &impl Debug) {
     holds(rt, bytes == wanted, &(bytes, wanted, case));
 }
+
+/// Whether a call returned these bytes.
+pub(crate) fn is_bytes<E: Drop>(answer: Result<Vec<u8>, E>, wanted: &[u8]) -> bool {
+    match answer {
+        Ok(bytes) => bytes.as_slice() == wanted,
+        Err(_) => false,
+    }
+}
+
+/// Ends the test if a call didn't return these bytes, or this error.
+pub(crate) fn returns<E: PartialEq + Debug + Drop>(
+    rt: &impl Abort,
+    answer: Result<Vec<u8>, E>,
+    wanted: Result<&[u8], E>,
+    case: &impl Debug,
+) {
+    match answer {
+        Ok(bytes) => equal(rt, &Ok(bytes.as_slice()), &wanted, case),
+        Err(error) => equal(rt, &Err(error), &wanted, case),
+    }
+}

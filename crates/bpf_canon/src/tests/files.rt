@@ -1,6 +1,6 @@
 //! Canonical bytes and comparison of instruction files.
 
-use super::expect::{equal, equal_bytes, holds};
+use super::expect::{equal, holds, returns};
 use super::feed::cut_anywhere;
 use super::run::run_in_pieces;
 use super::samples::{EXIT, InsnFile, insn_files};
@@ -8,105 +8,73 @@ use crate::{SideError, canon_insns, recode_insns, same_insns, write_insns};
 use bpf_insn::{Insn, InsnError, Order, SlotCause, SlotFault, decode_insns};
 use std::alloc::Global;
 use std::process::Abort;
-use std::test::Fail;
 
-/// What `canon_insns` returns for the file, without the reason of an error other than its fault.
-fn check_canonical(rt: &impl Abort, alloc: Global, file: &InsnFile) {
-    match canon_insns(alloc, file.order, file.bytes) {
-        Ok(canon) => {
-            equal(rt, &file.fault, &None, &file.bytes);
-            equal_bytes(rt, canon.as_slice(), file.canonical, &file.bytes);
-        }
-        Err(InsnError::Fault(fault)) => equal(rt, &Some(fault), &file.slot_fault(), &file.bytes),
-        Err(InsnError::Memory) => holds(rt, false, &"memory is ample"),
-    }
+/// Recodes a file, given with its order, into another order.
+fn check_recoded(rt: &impl Abort, alloc: Global, file: (Order, &[u8]), to: Order, wanted: &[u8]) {
+    let recoded = recode_insns(alloc, file.0, to, file.1);
+    returns(rt, recoded, Ok(wanted), &(file, to));
 }
 
-/// Recodes a file of each order into each order.
-fn check_recoded(rt: &impl Abort, alloc: Global, little: &[u8], big: &[u8]) -> Result<(), Fail> {
-    let files = [(Order::Little, little), (Order::Big, big)];
-    for read in &files {
-        for wanted in &files {
-            let written = recode_insns(alloc, read.0, wanted.0, read.1)?;
-            equal_bytes(rt, written.as_slice(), wanted.1, &(read, wanted.0));
-        }
-    }
-    Ok(())
-}
-
-/// A file is recoded, or its fault is reported, in either order.
-fn check_recoded_file(rt: &impl Abort, alloc: Global, file: &InsnFile) {
-    for to in &[Order::Little, Order::Big] {
-        let fault = match recode_insns(alloc, file.order, *to, file.bytes) {
-            Ok(_) => None,
-            Err(InsnError::Fault(fault)) => Some(fault),
-            Err(InsnError::Memory) => None,
-        };
-        equal(rt, &fault, &file.slot_fault(), &file.bytes);
-    }
-}
-
-/// Writes instructions in an order.
-fn check_spelled(
-    rt: &impl Abort,
-    alloc: Global,
-    order: Order,
-    insns: &[Insn],
-    bytes: &[u8],
-) -> Result<(), Fail> {
-    let written = write_insns(alloc, order, insns)?;
-    equal_bytes(rt, written.as_slice(), bytes, &order);
-    Ok(())
-}
-
-/// Writes the instructions of the file in both orders, and compares each with the file.
-fn check_written(rt: &impl Abort, alloc: Global, file: &InsnFile) -> Result<(), Fail> {
-    let insns = decode_insns(alloc, file.order, file.bytes)?;
-    check_spelled(rt, alloc, file.order, &insns, file.bytes)?;
-    check_spelled(rt, alloc, Order::Little, &insns, file.canonical)?;
-    let big = write_insns(alloc, Order::Big, &insns)?;
-    let same = same_insns(alloc, Order::Big, &big, file.order, file.bytes);
+/// Recodes a file without a fault from each order into each, given what is written for it in big-endian order.
+fn check_orders(rt: &impl Abort, alloc: Global, file: &InsnFile, big: &[u8]) {
+    let same = same_insns(alloc, Order::Big, big, file.order, file.bytes);
     equal(rt, &same, &Ok(true), &file.bytes);
-    check_recoded(rt, alloc, file.canonical, &big)
+    let little = file.canonical;
+    check_recoded(rt, alloc, (Order::Little, little), Order::Little, little);
+    check_recoded(rt, alloc, (Order::Little, little), Order::Big, big);
+    check_recoded(rt, alloc, (Order::Big, big), Order::Little, little);
+    check_recoded(rt, alloc, (Order::Big, big), Order::Big, big);
 }
 
-/// Checks a file, as a whole and in pieces.
-fn check_file(rt: &impl Abort, alloc: Global, file: &InsnFile) -> Result<(), Fail> {
-    check_canonical(rt, alloc, file);
-    check_recoded_file(rt, alloc, file);
-    cut_anywhere(rt, alloc, file);
-    run_in_pieces(rt, alloc, file);
-    if file.fault.is_none() {
-        check_written(rt, alloc, file)?;
+/// Writes the instructions of a file in its own order and in both, and recodes what is written.
+fn check_written(rt: &impl Abort, alloc: Global, file: &InsnFile, insns: &[Insn]) {
+    let own = write_insns(alloc, file.order, insns);
+    returns(rt, own, Ok(file.bytes), &file.bytes);
+    let little = write_insns(alloc, Order::Little, insns);
+    returns(rt, little, Ok(file.canonical), &file.bytes);
+    match write_insns(alloc, Order::Big, insns) {
+        Ok(big) => check_orders(rt, alloc, file, &big),
+        Err(error) => holds(rt, false, &error),
     }
-    Ok(())
 }
 
-fn check_files(rt: &impl Abort, alloc: Global, files: &[InsnFile]) -> Result<(), Fail> {
+/// The canonical bytes of a file are returned, or its fault is.
+fn check_answers(rt: &impl Abort, alloc: Global, file: &InsnFile) {
+    let canon = canon_insns(alloc, file.order, file.bytes);
+    returns(rt, canon, file.answer(), &file.bytes);
+    let recoded = recode_insns(alloc, file.order, Order::Little, file.bytes);
+    returns(rt, recoded, file.answer(), &file.bytes);
+    match decode_insns(alloc, file.order, file.bytes) {
+        Ok(insns) => check_written(rt, alloc, file, &insns),
+        Err(error) => {
+            equal(rt, &Err(error), &file.answer(), &file.bytes);
+            let big = recode_insns(alloc, file.order, Order::Big, file.bytes);
+            returns(rt, big, file.answer(), &file.bytes);
+        }
+    }
+}
+
+/// Checks files, as a whole and in pieces.
+fn check_files(rt: &impl Abort, alloc: Global, files: &[InsnFile]) {
     for file in files {
-        check_file(rt, alloc, file)?;
+        check_answers(rt, alloc, file);
+        cut_anywhere(rt, alloc, file);
+        run_in_pieces(rt, alloc, file);
     }
-    Ok(())
 }
 
 #[test]
-fn files_have_their_canonical_bytes_or_their_first_fault(rt: HostRuntime) -> Result<(), Fail> {
+fn files_have_their_canonical_bytes_or_their_first_fault(rt: HostRuntime) {
     for files in insn_files() {
-        check_files(&rt, rt.alloc(), files)?;
+        check_files(&rt, rt.alloc(), files);
     }
-    Ok(())
 }
 
 #[test]
-fn instructions_are_written_at_once(rt: HostRuntime) -> Result<(), Fail> {
+fn instructions_are_written_at_once(rt: HostRuntime) {
+    let written = write_insns(rt.alloc(), Order::Big, &[Insn::Exit; 2]);
     let wanted = b"\x95\0\0\0\0\0\0\0\x95\0\0\0\0\0\0\0";
-    check_spelled(
-        &rt,
-        rt.alloc(),
-        Order::Big,
-        &[Insn::Exit, Insn::Exit],
-        wanted,
-    )
+    returns(&rt, written, Ok(wanted), &"two exits");
 }
 
 /// Two files, the first in this order and the second in little-endian order, and whether their instructions are equal.

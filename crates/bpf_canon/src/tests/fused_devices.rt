@@ -1,14 +1,36 @@
 //! The devices of a run of an engine, over memory.
 
-use super::expect::holds;
-use crate::{MemSink, MemSource, RunError, run_btf, run_insns};
+use super::expect::{equal, equal_bytes};
+use crate::{MemSink, MemSource, RunCause, RunError, run_btf, run_insns};
 use bpf_insn::{Order, SlotFault};
 use btf_raw::BtfFault;
 use std::alloc::Global;
+use std::fmt::Debug;
 use std::process::Abort;
 
+/// How a run ends: with the number of bytes that it has written, or with why it stopped.
+pub(crate) type Ran<F> = Result<u64, RunError<F>>;
+
+/// A run that stops.
+pub(crate) fn stopped<F>(cause: RunCause<F>, written: u64) -> Ran<F> {
+    Err(RunError { cause, written })
+}
+
+/// How many bytes a run wrote, by how it ended.
+pub(crate) fn written_by<F>(ended: &Ran<F>) -> u64 {
+    match ended {
+        Ok(written) => *written,
+        Err(stop) => stop.written,
+    }
+}
+
+/// The front of these bytes that a run wrote.
+pub(crate) fn front_of<'a, F>(bytes: &'a [u8], ended: &Ran<F>) -> &'a [u8] {
+    bytes.get(..written_by(ended) as usize).unwrap_or(&[])
+}
+
 /// A source over bytes, and a sink that stores all, each in pieces. The call of either that its fuse
-/// counts, from 1, fails.
+/// counts, from 1, fails. Each piece has a byte at least.
 #[derive(Clone, Copy)]
 pub(crate) struct FusedDevices<'a> {
     pub(crate) bytes: &'a [u8],
@@ -16,13 +38,6 @@ pub(crate) struct FusedDevices<'a> {
     pub(crate) read_fuse: Option<u64>,
     pub(crate) write_piece: usize,
     pub(crate) write_fuse: Option<u64>,
-}
-
-/// How a run ended, and what its sink received.
-#[derive(Drop)]
-pub(crate) struct Run<F: Drop> {
-    pub(crate) ended: Result<u64, RunError<F>>,
-    pub(crate) taken: Vec<u8>,
 }
 
 impl<'a> FusedDevices<'a> {
@@ -37,46 +52,39 @@ impl<'a> FusedDevices<'a> {
         }
     }
 
-    /// Runs the engine on instructions.
-    pub(crate) fn run_insns(
+    /// Runs the engine on instructions, and compares how it ends and what the sink has received by then.
+    pub(crate) fn check_insns(
         self,
         rt: &impl Abort,
         alloc: Global,
-        order: Order,
+        (order, to): (Order, Order),
+        ended: Ran<SlotFault>,
+        taken: &[u8],
+        case: &impl Debug,
+    ) {
+        let mut source = MemSource::new(self.bytes, self.read_piece.max(1), self.read_fuse);
+        let mut out = Vec::new(alloc);
+        let mut sink = MemSink::new(&mut out, self.write_piece.max(1), self.write_fuse);
+        let ran = run_insns(alloc, &mut source, &mut sink, order, to);
+        equal(rt, &ran, &ended, case);
+        equal_bytes(rt, out.as_slice(), taken, case);
+    }
+
+    /// Runs the engine on BTF, and compares likewise.
+    pub(crate) fn check_btf(
+        self,
+        rt: &impl Abort,
+        alloc: Global,
         to: Order,
-    ) -> Run<SlotFault> {
-        assert!(rt; self.read_piece > 0 && self.write_piece > 0);
-        let mut source = MemSource::new(self.bytes, self.read_piece, self.read_fuse);
-        let mut taken = Vec::new(alloc);
-        let mut sink = MemSink::new(&mut taken, self.write_piece, self.write_fuse);
-        let ended = run_insns(alloc, &mut source, &mut sink, order, to);
-        Run { ended, taken }
-    }
-
-    /// Runs the engine on BTF.
-    pub(crate) fn run_btf(self, rt: &impl Abort, alloc: Global, to: Order) -> Run<BtfFault> {
-        assert!(rt; self.read_piece > 0 && self.write_piece > 0);
-        let mut source = MemSource::new(self.bytes, self.read_piece, self.read_fuse);
-        let mut taken = Vec::new(alloc);
-        let mut sink = MemSink::new(&mut taken, self.write_piece, self.write_fuse);
-        let ended = run_btf(alloc, &mut source, &mut sink, to);
-        Run { ended, taken }
-    }
-}
-
-/// How many bytes a run wrote, by how it ended.
-pub(crate) fn written_by<F>(ended: &Result<u64, RunError<F>>) -> u64 {
-    match ended {
-        Ok(written) => *written,
-        Err(stop) => stop.written,
-    }
-}
-
-impl<F: Drop> Run<F> {
-    /// The sink received the number of bytes that the engine counted, and they are a prefix of these.
-    pub(crate) fn took_front_of(&self, rt: &impl Abort, bytes: &[u8]) {
-        let (len, written) = (self.taken.len(), written_by(&self.ended));
-        let is_front = len as u64 == written && bytes.starts_with(&self.taken);
-        holds(rt, is_front, &(len, written));
+        ended: Ran<BtfFault>,
+        taken: &[u8],
+        case: &impl Debug,
+    ) {
+        let mut source = MemSource::new(self.bytes, self.read_piece.max(1), self.read_fuse);
+        let mut out = Vec::new(alloc);
+        let mut sink = MemSink::new(&mut out, self.write_piece.max(1), self.write_fuse);
+        let ran = run_btf(alloc, &mut source, &mut sink, to);
+        equal(rt, &ran, &ended, case);
+        equal_bytes(rt, out.as_slice(), taken, case);
     }
 }

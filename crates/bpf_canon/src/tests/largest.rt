@@ -1,14 +1,15 @@
 //! Calls with ample memory on the largest files that the limits allow.
 
-use super::expect::{equal, holds};
+use super::btf::{check_file, check_refused};
+use super::expect::{equal, holds, is_bytes};
 use super::fused_devices::FusedDevices;
 use crate::{
-    BTF_LIMIT, INSN_LIMIT, InsnFeed, MemSource, RunCause, RunError, SideError, canon_btf,
-    canon_insns, read_all, same_btf, same_insns, write_btf, write_insns,
+    BTF_LIMIT, INSN_LIMIT, InsnFeed, MemSource, SideError, canon_insns, read_all, same_insns,
+    write_insns,
 };
 use bpf_insn::{InsnError, Order, SlotCause, SlotFault, decode_insns};
 use btf_raw::{BtfCause, BtfFault};
-use btf_types::{Btf, BtfError, TypeTable};
+use btf_types::{Btf, TypeTable};
 use std::alloc::{AllocError, Global};
 use std::process::Abort;
 use std::test::Fail;
@@ -44,11 +45,8 @@ const LAST_DST: SlotFault = SlotFault {
 
 /// Whether the canonical bytes of a file are those of another, which is the same program.
 fn is_canonicalised(alloc: Global, big: &[u8], little: &[u8]) -> bool {
-    let is_equal = match canon_insns(alloc, Order::Big, big) {
-        Ok(canon) => canon.as_slice() == little,
-        Err(_) => false,
-    };
-    is_equal && same_insns(alloc, Order::Big, big, Order::Little, little) == Ok(true)
+    is_bytes(canon_insns(alloc, Order::Big, big), little)
+        && same_insns(alloc, Order::Big, big, Order::Little, little) == Ok(true)
 }
 
 /// Whether the second file is refused for its last instruction.
@@ -69,47 +67,44 @@ fn is_fed(alloc: Global, big: &[u8], little: &[u8]) -> bool {
 }
 
 /// Whether the instructions of a file are written as the other one.
-fn is_written(alloc: Global, big: &[u8], little: &[u8]) -> Result<bool, InsnError> {
-    let insns = decode_insns(alloc, Order::Big, big)?;
-    let written = write_insns(alloc, Order::Little, &insns)?;
-    Ok(written.as_slice() == little)
-}
-
-/// Whether the run of a file gives the other one.
-fn is_run(rt: &impl Abort, alloc: Global, big: &[u8], little: &[u8]) -> bool {
-    let devices = FusedDevices::sound(big, 10_000);
-    let run = devices.run_insns(rt, alloc, Order::Big, Order::Little);
-    run.ended == Ok(INSN_LIMIT) && run.taken.as_slice() == little
+fn is_written(alloc: Global, big: &[u8], little: &[u8]) -> bool {
+    match decode_insns(alloc, Order::Big, big) {
+        Ok(insns) => is_bytes(write_insns(alloc, Order::Little, &insns), little),
+        Err(_) => false,
+    }
 }
 
 /// Whether a file is read to its end.
 fn is_read(alloc: Global, bytes: &[u8]) -> bool {
     let mut source = MemSource::new(bytes, 10_000, None);
-    match read_all(alloc, &mut source, INSN_LIMIT) {
-        Ok(read) => read.as_slice() == bytes,
-        Err(_) => false,
-    }
+    is_bytes(read_all(alloc, &mut source, INSN_LIMIT), bytes)
 }
 
 /// Each call on the same program in both orders.
-fn check_program(rt: &impl Abort, alloc: Global, big: &[u8], little: &[u8]) -> Result<(), Fail> {
+fn check_program(rt: &impl Abort, alloc: Global, big: &[u8], little: &[u8]) {
     equal(rt, &(big.len() as u64), &INSN_LIMIT, &"the length");
     holds(rt, is_canonicalised(alloc, big, little), &"canonicalised");
     holds(rt, is_fed(alloc, big, little), &"fed at once");
-    holds(rt, is_written(alloc, big, little)?, &"written");
-    holds(rt, is_run(rt, alloc, big, little), &"run");
+    holds(rt, is_written(alloc, big, little), &"written");
     holds(rt, is_read(alloc, big), &"read");
+    let devices = FusedDevices::sound(big, 10_000);
+    let orders = (Order::Big, Order::Little);
+    devices.check_insns(rt, alloc, orders, Ok(INSN_LIMIT), little, &"run");
+}
+
+/// The same on a little-endian copy of a program, and then on one whose last instruction is faulty.
+fn check_copy(rt: &impl Abort, alloc: Global, big: &[u8]) -> Result<(), Fail> {
+    let mut little = moves(alloc, LITTLE_MOVE)?;
+    check_program(rt, alloc, big, &little);
+    spoil(&mut little, 67_108_857, 0x2b);
+    holds(rt, is_refused(alloc, big, &little), &"refused");
     Ok(())
 }
 
 #[test]
 fn the_largest_program_is_accepted(rt: HostRuntime) -> Result<(), Fail> {
     let big = moves(rt.alloc(), BIG_MOVE)?;
-    let mut little = moves(rt.alloc(), LITTLE_MOVE)?;
-    check_program(&rt, rt.alloc(), &big, &little)?;
-    spoil(&mut little, 67_108_857, 0x2b);
-    holds(&rt, is_refused(rt.alloc(), &big, &little), &"refused");
-    Ok(())
+    check_copy(&rt, rt.alloc(), &big)
 }
 
 /// A TYPEDEF with the longest name there is, an ENUM with a value, and PTRs to the ENUM up to the limit.
@@ -135,43 +130,29 @@ fn longest_file(alloc: Global) -> Result<Vec<u8>, AllocError> {
     Ok(file)
 }
 
-/// Whether these are the bytes of the longest file with a 24-byte header.
-fn is_canonical(canon: &[u8], file: &[u8]) -> bool {
+/// The canonical bytes of the longest file: a 24-byte header, and the same records and strings.
+fn canonical_file(alloc: Global, file: &[u8]) -> Result<Vec<u8>, AllocError> {
     let header = b"\x9f\xeb\x01\0\x18\0\0\0\0\0\0\0\0\0\0\x02\0\0\0\x02\0\0\0\x01";
-    canon.len() == 50_331_672 && canon.starts_with(header) && canon.get(24..) == file.get(4096..)
+    let mut canonical = Vec::from_slice(alloc, header)?;
+    canonical.extend_from_slice(file.get(4096..).unwrap_or(&[]))?;
+    Ok(canonical)
 }
 
-/// Whether a file has its canonical bytes.
-fn types_are_canonicalised(alloc: Global, file: &[u8]) -> Result<bool, BtfError> {
-    let canon = canon_btf(alloc, file)?;
-    Ok(is_canonical(&canon, file) && same_btf(alloc, file, &canon) == Ok(true))
+/// How many types a file has.
+fn count_of(alloc: Global, file: &[u8]) -> u32 {
+    match Btf::parse(alloc, file) {
+        Ok(table) => table.count(),
+        Err(_) => 0,
+    }
 }
 
-/// Whether a table is written as the canonical bytes of the file.
-fn is_little<T: TypeTable>(alloc: Global, table: &T, file: &[u8]) -> Result<bool, AllocError> {
-    Ok(is_canonical(&write_btf(alloc, Order::Little, table)?, file))
-}
-
-/// Whether it is written as a file of the same length in the other order, which is the same.
-fn is_big<T: TypeTable>(alloc: Global, table: &T, file: &[u8]) -> Result<bool, AllocError> {
-    let big = write_btf(alloc, Order::Big, table)?;
-    Ok(big.len() == 50_331_672 && same_btf(alloc, &big, file) == Ok(true))
-}
-
-/// Whether the table of a file is written in both orders.
-fn is_table(alloc: Global, file: &[u8]) -> Result<bool, BtfError> {
-    let table = Btf::parse(alloc, file)?;
-    let is_written = is_little(alloc, &table, file)? && is_big(alloc, &table, file)?;
-    Ok(table.count() == 2_796_202 && is_written)
-}
-
-/// Whether a run of a file ends so, with the canonical bytes if and only if it succeeds.
-fn types_run(
-    rt: &impl Abort,
-    alloc: Global,
-    file: &[u8],
-    ended: Result<u64, RunError<BtfFault>>,
-) -> bool {
+/// Each call on the longest file.
+fn check_types(rt: &impl Abort, alloc: Global, file: &[u8]) -> Result<(), Fail> {
+    let canonical = canonical_file(alloc, file)?;
+    let lens = (file.len() as u64, canonical.len());
+    equal(rt, &lens, &(BTF_LIMIT, 50_331_672), &"the lengths");
+    equal(rt, &count_of(alloc, file), &2_796_202, &"the types");
+    check_file(rt, alloc, file, &canonical);
     let devices = FusedDevices {
         bytes: file,
         read_piece: 10_000,
@@ -179,16 +160,8 @@ fn types_run(
         write_piece: 1_000_000,
         write_fuse: None,
     };
-    let run = devices.run_btf(rt, alloc, Order::Little);
-    run.ended == ended && is_canonical(&run.taken, file) == ended.is_ok()
-}
-
-/// Each call on the longest file.
-fn check_types(rt: &impl Abort, alloc: Global, file: &[u8]) -> Result<(), Fail> {
-    equal(rt, &(file.len() as u64), &BTF_LIMIT, &"the length");
-    holds(rt, is_table(alloc, file)?, &"written");
-    holds(rt, types_are_canonicalised(alloc, file)?, &"canonicalised");
-    holds(rt, types_run(rt, alloc, file, Ok(50_331_672)), &"run");
+    let ended = Ok(50_331_672);
+    devices.check_btf(rt, alloc, Order::Little, ended, &canonical, &"run");
     Ok(())
 }
 
@@ -198,19 +171,6 @@ const BEYOND: BtfFault = BtfFault {
     cause: BtfCause::Reference,
 };
 
-/// Each call on the longest file with this fault.
-fn check_refused(rt: &impl Abort, alloc: Global, file: &[u8]) {
-    let stopped = RunError {
-        cause: RunCause::Fault(BEYOND),
-        written: 0,
-    };
-    let fault = canon_btf(alloc, file).err();
-    equal(rt, &fault, &Some(BtfError::Fault(BEYOND)), &"the fault");
-    let same = same_btf(alloc, file, file);
-    equal(rt, &same, &Err(SideError::First(BEYOND)), &"a comparison");
-    holds(rt, types_run(rt, alloc, file, Err(stopped)), &"a run");
-}
-
 #[test]
 fn the_longest_btf_is_accepted(rt: HostRuntime) -> Result<(), Fail> {
     let mut file = longest_file(rt.alloc())?;
@@ -218,6 +178,6 @@ fn the_longest_btf_is_accepted(rt: HostRuntime) -> Result<(), Fail> {
     spoil(&mut file, 33_558_524, 0xab);
     spoil(&mut file, 33_558_525, 0xaa);
     spoil(&mut file, 33_558_526, 0x2a);
-    check_refused(&rt, rt.alloc(), &file);
+    check_refused(&rt, rt.alloc(), &file, BEYOND);
     Ok(())
 }

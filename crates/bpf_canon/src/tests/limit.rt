@@ -2,9 +2,8 @@
 
 ghost use Rattle.std.specs.Prelude.{None, ℕ, List};
 
-use super::expect::equal;
+use super::expect::{equal, holds};
 use super::fused_devices::written_by;
-use super::samples::EXIT;
 use crate::{
     ByteSink, ByteSource, DeviceFailed, INSN_LIMIT, ReadError, RunCause, RunError, read_all,
     run_insns,
@@ -28,8 +27,8 @@ impl ByteSource for Exits {
         let slots = room.min(self.left);
         if slots > 0 {
             self.left = self.left.saturating_sub(slots);
-            for slot in buffer.chunks_exact_mut(8) {
-                slot.copy_from_slice(EXIT);
+            for (pos, byte) in buffer.iter_mut().enumerate() {
+                *byte = if pos % 8 == 0 { 0x95 } else { 0 };
             }
             return Ok(buffer.len().min((slots * 8) as usize));
         }
@@ -42,8 +41,8 @@ impl ByteSource for Exits {
 
 /// Takes all bytes, and counts them.
 #[derive(Drop)]
-struct Counter {
-    taken: u64,
+pub(crate) struct Counter {
+    pub(crate) taken: u64,
 }
 
 impl ByteSink for Counter {
@@ -109,9 +108,8 @@ fn inputs_over_the_limit_are_too_long(rt: HostRuntime) {
         let mut sink = Counter { taken: 0 };
         let order = Order::Little;
         let ran = run_insns(rt.alloc(), &mut source, &mut sink, order, order);
-        let found = (ran, sink.taken);
-        let wanted = (row.ended, written_by(&row.ended));
-        equal(&rt, &found, &wanted, &(row.left, row.last));
+        equal(&rt, &ran, &row.ended, &row.left);
+        equal(&rt, &sink.taken, &written_by(&row.ended), &row.last);
     }
 }
 
@@ -121,10 +119,7 @@ fn an_endless_source_is_too_long_to_be_read(rt: HostRuntime) {
         left: u64::MAX,
         last: b"",
     };
-    assert!(rt;
-        matches!(
-            read_all(rt.alloc(), &mut source, 10_000),
-            Err(ReadError::TooLong)
-        )
-    );
+    let read = read_all(rt.alloc(), &mut source, 10_000);
+    let is_too_long = matches!(read, Err(ReadError::TooLong));
+    holds(&rt, is_too_long, &"an endless source");
 }

@@ -47,7 +47,7 @@ fn names_in_one_string_stay_there(rt: HostRuntime) -> Result<(), Fail> {
         let strings = strings(rt.alloc(), row.letters)?;
         let file = file(rt.alloc(), Order::Little, &words, &strings)?;
         equal(&rt, &file.len(), &row.len, &row.count);
-        check_file(&rt, rt.alloc(), &file, &file)?;
+        check_file(&rt, rt.alloc(), &file, &file);
     }
     Ok(())
 }

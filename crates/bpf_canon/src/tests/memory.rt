@@ -1,7 +1,7 @@
 //! Each growth of the calls on instructions fails in turn.
 
-use super::arena::{ArenaCall, Outcome, Tally, arena, refused_reading, sunk, whole_if};
-use super::expect::{equal, holds};
+use super::arena::{ArenaCall, Outcome, Tally, refused_reading, sunk, whole_if};
+use super::expect::holds;
 use crate::{
     InsnFeed, MemSink, MemSource, ReadError, RunCause, RunError, SideError, canon_insns, read_all,
     recode_insns, run_insns, same_insns, write_insns,
@@ -60,20 +60,6 @@ fn written<A: Allocator>(
         (Err(InsnError::Fault(found)), Err(fault)) => whole_if(*found == fault),
         _ => Outcome::Wrong,
     }
-}
-
-fn canonicalise(bump: &Bump<Global>) -> Outcome {
-    written(&canon_insns(bump, Order::Big, MOVES_BIG), Ok(MOVES))
-}
-
-/// The fault of a faulty file is never another.
-fn canonicalise_faulty(bump: &Bump<Global>) -> Outcome {
-    written(&canon_insns(bump, Order::Little, FILE), Err(FAULT))
-}
-
-fn recode(bump: &Bump<Global>) -> Outcome {
-    let recoded = recode_insns(bump, Order::Little, Order::Big, MOVES);
-    written(&recoded, Ok(MOVES_BIG))
 }
 
 /// Feeds exits in 14-byte pieces. It returns the number of bytes that were fed before a growth failed.
@@ -142,13 +128,13 @@ fn sink(alloc: Global, bump: &Bump<Global>) -> Outcome {
     sunk(&ran, &out, EXITS)
 }
 
-#[derive(Clone, Copy, Debug)]
+/// A call, with its arguments and what it returns.
 enum Call {
     Read,
     Write,
-    Canonicalise,
-    CanonicaliseFaulty,
-    Recode,
+    Canonicalise(Order, &'static [u8], Result<&'static [u8], SlotFault>),
+    Recode(Order, &'static [u8], Order, &'static [u8]),
+    Compare(Order, &'static [u8], &'static [u8], Result<bool, SideError<SlotFault>>),
     Feed,
     Run,
     Sink,
@@ -159,9 +145,16 @@ impl ArenaCall for Call {
         match self {
             Call::Read => read(alloc, bump),
             Call::Write => write(bump),
-            Call::Canonicalise => canonicalise(bump),
-            Call::CanonicaliseFaulty => canonicalise_faulty(bump),
-            Call::Recode => recode(bump),
+            Call::Canonicalise(order, file, wanted) => {
+                written(&canon_insns(bump, *order, file), *wanted)
+            }
+            Call::Recode(order, file, to, wanted) => {
+                written(&recode_insns(bump, *order, *to, file), Ok(wanted))
+            }
+            // Files are compared in place: running out of memory is wrong.
+            Call::Compare(order, first, second, answer) => {
+                whole_if(same_insns(bump, Order::Little, first, *order, second) == *answer)
+            }
             Call::Feed => fed(bump),
             Call::Run => run(alloc, bump),
             Call::Sink => sink(alloc, bump),
@@ -171,21 +164,26 @@ impl ArenaCall for Call {
 
 /// A call, how many rooms are too small for it, and at how many points growths fail, each at least.
 struct MemoryRow {
+    name: &'static str,
     call: Call,
     refused: usize,
     places: usize,
 }
 
 #[rattlefmt::skip]
-static ROWS: [MemoryRow; 8] = [
-    MemoryRow { call: Call::Read, refused: 64, places: 3 },
-    MemoryRow { call: Call::Write, refused: 56, places: 1 },
-    MemoryRow { call: Call::Canonicalise, refused: 56, places: 1 },
-    MemoryRow { call: Call::CanonicaliseFaulty, refused: 1, places: 1 },
-    MemoryRow { call: Call::Recode, refused: 56, places: 1 },
-    MemoryRow { call: Call::Feed, refused: 56, places: 3 },
-    MemoryRow { call: Call::Run, refused: 2, places: 2 },
-    MemoryRow { call: Call::Sink, refused: 56, places: 3 },
+static ROWS: [MemoryRow; 11] = [
+    MemoryRow { name: "read", call: Call::Read, refused: 64, places: 3 },
+    MemoryRow { name: "write", call: Call::Write, refused: 56, places: 1 },
+    MemoryRow { name: "canonicalise", call: Call::Canonicalise(Order::Big, MOVES_BIG, Ok(MOVES)), refused: 56, places: 1 },
+    // The fault of a faulty file is never another.
+    MemoryRow { name: "canonicalise a faulty file", call: Call::Canonicalise(Order::Little, FILE, Err(FAULT)), refused: 1, places: 1 },
+    MemoryRow { name: "recode", call: Call::Recode(Order::Little, MOVES, Order::Big, MOVES_BIG), refused: 56, places: 1 },
+    MemoryRow { name: "compare equal files", call: Call::Compare(Order::Big, MOVES, MOVES_BIG, Ok(true)), refused: 0, places: 0 },
+    MemoryRow { name: "compare other files", call: Call::Compare(Order::Little, EXITS, b"", Ok(false)), refused: 0, places: 0 },
+    MemoryRow { name: "compare with a faulty file", call: Call::Compare(Order::Little, EXITS, FILE, Err(SideError::Second(FAULT))), refused: 0, places: 0 },
+    MemoryRow { name: "feed", call: Call::Feed, refused: 56, places: 3 },
+    MemoryRow { name: "run", call: Call::Run, refused: 2, places: 2 },
+    MemoryRow { name: "run into a sink", call: Call::Sink, refused: 56, places: 3 },
 ];
 
 #[test]
@@ -193,33 +191,7 @@ fn each_growth_is_refused(rt: HostRuntime) -> Result<(), Fail> {
     for row in &ROWS {
         let tally = Tally::of(rt.alloc(), &row.call)?;
         let is_right = tally.is_right(row.refused, row.places);
-        holds(&rt, is_right, &(row.call, tally));
-    }
-    Ok(())
-}
-
-/// A file in little-endian order, another one in an order of its own, and the answer of a comparison.
-struct Comparison {
-    first: &'static [u8],
-    order: Order,
-    second: &'static [u8],
-    answer: Result<bool, SideError<SlotFault>>,
-}
-
-#[rattlefmt::skip]
-static COMPARISONS: [Comparison; 3] = [
-    Comparison { first: MOVES, order: Order::Big, second: MOVES_BIG, answer: Ok(true) },
-    Comparison { first: EXITS, order: Order::Little, second: b"", answer: Ok(false) },
-    Comparison { first: EXITS, order: Order::Little, second: FILE, answer: Err(SideError::Second(FAULT)) },
-];
-
-/// Files are compared in place, so an empty arena is enough.
-#[test]
-fn same_insns_allocates_nothing(rt: HostRuntime) -> Result<(), Fail> {
-    let bump = arena(rt.alloc(), 0)?;
-    for row in &COMPARISONS {
-        let same = same_insns(&bump, Order::Little, row.first, row.order, row.second);
-        equal(&rt, &same, &row.answer, &(row.order, row.second));
+        holds(&rt, is_right, &(row.name, tally));
     }
     Ok(())
 }

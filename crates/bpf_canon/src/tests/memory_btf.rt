@@ -1,10 +1,9 @@
 //! Each growth of the calls on BTF fails in turn. The files have 26 types with 28 names, more than are sorted in place.
 
 use super::arena::{ArenaCall, Outcome, Tally, refused_reading, sunk, whole_if};
-use super::btf::writes;
 use super::btf_files::{BIG_INT, LOOSE_INT};
 use super::compiled_types::{flow_table_big, flow_table_little};
-use super::expect::{equal, holds};
+use super::expect::{equal, holds, is_bytes};
 use super::own_table::Counting;
 use crate::{MemSink, MemSource, RunCause, SideError, canon_btf, run_btf, same_btf, write_btf};
 use bpf_words::Order;
@@ -44,13 +43,9 @@ fn written<A: Allocator>(answer: &Result<Vec<u8, A>, BtfError>, whole: &[u8]) ->
     }
 }
 
-fn canonicalise(bump: &Bump<Global>, canonical: &[u8]) -> Outcome {
-    written(&canon_btf(bump, flow_table_big()), canonical)
-}
-
 fn parse(alloc: Global, bump: &Bump<Global>, canonical: &[u8]) -> Outcome {
     match BtfView::parse(bump, flow_table_big()) {
-        Ok(table) => whole_if(writes(alloc, Order::Little, &table, canonical) == Ok(true)),
+        Ok(table) => whole_if(is_bytes(write_btf(alloc, Order::Little, &table), canonical)),
         Err(BtfError::Memory) => Outcome::Refused(0),
         Err(BtfError::Fault(_)) => Outcome::Wrong,
     }
@@ -102,7 +97,7 @@ impl ArenaCall for AmpleCall<'_> {
         match self.call {
             Call::Write => write(bump, ample.view, ample.big),
             Call::Parse => parse(alloc, bump, ample.little),
-            Call::Canonicalise => canonicalise(bump, ample.little),
+            Call::Canonicalise => written(&canon_btf(bump, flow_table_big()), ample.little),
             Call::Run => run(alloc, bump, ample.little),
             Call::Sink => sink(alloc, bump),
         }

@@ -1,11 +1,8 @@
 //! Names that overlap, equal and nest in all ways, against a plain computation of the string table.
 
-use super::expect::holds;
-use super::own_table::Counting;
+use super::btf::check_written;
 use super::plain_table::{PlainTable, length_of, text_at};
-use crate::write_btf;
 use bpf_words::{Order, push16, push32};
-use btf_types::{Btf, BtfError, BtfView, TypeTable};
 use std::alloc::{AllocError, Global};
 use std::process::Abort;
 use std::test::Fail;
@@ -69,22 +66,6 @@ fn plain_file(
     file(alloc, order, &words(places), &table.bytes(alloc)?)
 }
 
-/// Writes a table in both orders, and compares each with the plain file.
-fn compare<T: TypeTable>(
-    rt: &impl Abort,
-    alloc: Global,
-    table: &T,
-    strings: &[u8],
-    offsets: [u32; 3],
-) -> Result<(), AllocError> {
-    for order in [Order::Little, Order::Big] {
-        let canon = write_btf(alloc, order, table)?;
-        let plain = plain_file(alloc, order, strings, offsets)?;
-        holds(rt, canon == plain, &(offsets, strings));
-    }
-    Ok(())
-}
-
 /// All string sections of NUL, `a` and `b` with `len` bytes between their first and last NUL, by a number below 3 to the power of `len`.
 fn section(alloc: Global, len: u32, number: u32) -> Result<Vec<u8, Global>, AllocError> {
     let mut strings = Vec::from_slice(alloc, b"\0")?;
@@ -101,45 +82,48 @@ fn section(alloc: Global, len: u32, number: u32) -> Result<Vec<u8, Global>, Allo
     Ok(strings)
 }
 
-/// Three names at these offsets of a section, in an owned table.
-fn compare_owned(
+/// The order of a file, and the order in which its types are written.
+static ORDERS: [(Order, Order); 4] = [
+    (Order::Little, Order::Little),
+    (Order::Little, Order::Big),
+    (Order::Big, Order::Little),
+    (Order::Big, Order::Big),
+];
+
+/// Writes a file of three names at these offsets of a section, from each kind of table.
+fn compare(
     rt: &impl Abort,
     alloc: Global,
+    (from, to): (Order, Order),
     strings: &[u8],
     offsets: [u32; 3],
-) -> Result<(), BtfError> {
-    let big = file(alloc, Order::Big, &words(offsets), strings)?;
-    let table = Btf::parse(alloc, &big)?;
-    Ok(compare(rt, alloc, &table, strings, offsets)?)
+) -> Result<(), AllocError> {
+    let file = file(alloc, from, &words(offsets), strings)?;
+    let plain = plain_file(alloc, to, strings, offsets)?;
+    check_written(rt, alloc, to, &file, &plain);
+    Ok(())
 }
 
-/// In a borrowed one of a little-endian file, or in one of a user over a big-endian file.
-fn compare_view(
+/// Does so for each two orders.
+fn compare_orders(
     rt: &impl Abort,
     alloc: Global,
-    order: Order,
     strings: &[u8],
     offsets: [u32; 3],
-) -> Result<(), BtfError> {
-    let file = file(alloc, order, &words(offsets), strings)?;
-    let view = BtfView::parse(alloc, &file)?;
-    match order {
-        Order::Little => compare(rt, alloc, &view, strings, offsets)?,
-        Order::Big => compare(rt, alloc, &Counting::new(&view), strings, offsets)?,
+) -> Result<(), AllocError> {
+    for orders in &ORDERS {
+        compare(rt, alloc, *orders, strings, offsets)?;
     }
     Ok(())
 }
 
 /// Three names at all offsets of a section.
-fn compare_names(rt: &impl Abort, alloc: Global, strings: &[u8]) -> Result<(), BtfError> {
+fn compare_names(rt: &impl Abort, alloc: Global, strings: &[u8]) -> Result<(), AllocError> {
     let len = length_of(strings.len());
     for first in 0..len {
         for second in 0..len {
             for third in 0..len {
-                let offsets = [first, second, third];
-                compare_owned(rt, alloc, strings, offsets)?;
-                compare_view(rt, alloc, Order::Little, strings, offsets)?;
-                compare_view(rt, alloc, Order::Big, strings, offsets)?;
+                compare_orders(rt, alloc, strings, [first, second, third])?;
             }
         }
     }

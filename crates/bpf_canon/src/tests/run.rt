@@ -1,35 +1,23 @@
 //! The engine on instructions over devices that move pieces, and fail.
 
 use super::expect::{equal, equal_bytes};
-use super::fused_devices::FusedDevices;
+use super::fused_devices::{FusedDevices, Ran, front_of, stopped};
 use super::samples::{EXIT, FAULT_OF_FAULTY, FAULTY, InsnFile};
 use crate::{ReaderSource, RunCause, RunError, WriterSink, run_insns};
 use bpf_insn::{Order, SlotFault};
 use std::alloc::Global;
 use std::process::Abort;
 
-type Ran = Result<u64, RunError<SlotFault>>;
-
-fn stopped(cause: RunCause<SlotFault>, written: u64) -> Ran {
-    Err(RunError { cause, written })
-}
-
 /// Runs a file in pieces, and compares.
 fn run_file(rt: &impl Abort, alloc: Global, file: &InsnFile, piece: usize) {
-    let run = FusedDevices::sound(file.bytes, piece).run_insns(
-        rt,
-        alloc,
-        file.order,
-        Order::Little,
-    );
     let written = file.canonical.len() as u64;
-    let wanted = match file.slot_fault() {
+    let ended = match file.fault {
         None => Ok(written),
-        Some(fault) => stopped(RunCause::Fault(fault), written),
+        Some((pos, cause)) => stopped(RunCause::Fault(SlotFault { pos, cause }), written),
     };
-    let case = (file.bytes, piece);
-    equal(rt, &run.ended, &wanted, &case);
-    equal_bytes(rt, run.taken.as_slice(), file.canonical, &case);
+    let devices = FusedDevices::sound(file.bytes, piece);
+    let orders = (file.order, Order::Little);
+    devices.check_insns(rt, alloc, orders, ended, file.canonical, &file.bytes);
 }
 
 /// Runs a file in pieces of several lengths.
@@ -53,7 +41,7 @@ struct RunRow {
     name: &'static str,
     to: Order,
     devices: FusedDevices<'static>,
-    ended: Ran,
+    ended: Ran<SlotFault>,
     taken: &'static [u8],
 }
 
@@ -74,11 +62,9 @@ static RUNS: [RunRow; 10] = [
 #[test]
 fn devices_that_fail_stop_the_engine(rt: HostRuntime) {
     for row in &RUNS {
-        let run = row
-            .devices
-            .run_insns(&rt, rt.alloc(), Order::Little, row.to);
-        equal(&rt, &run.ended, &row.ended, &row.name);
-        equal_bytes(&rt, run.taken.as_slice(), row.taken, &row.name);
+        let orders = (Order::Little, row.to);
+        let devices = row.devices;
+        devices.check_insns(&rt, rt.alloc(), orders, row.ended, row.taken, &row.name);
     }
 }
 
@@ -99,13 +85,14 @@ static CALLS: [Calls; 2] = [
     Calls { bytes: b"\xbf\x12\0\0\0\0\0\0", canonical: b"\xbf\x21\0\0\0\0\0\0", order: Order::Big, read_piece: 1, reads: 9, write_piece: 1, writes: 8 },
 ];
 
-/// Runs the file with these fuses of the source and the sink, and compares.
+/// Runs the file with these fuses of the source and the sink, and compares. What is written before the end is the front of the
+/// canonical bytes.
 fn run_fused(
     rt: &impl Abort,
     alloc: Global,
     row: &Calls,
     (read_fuse, write_fuse): (Option<u64>, Option<u64>),
-    wanted: Ran,
+    ended: Ran<SlotFault>,
 ) {
     let devices = FusedDevices {
         bytes: row.bytes,
@@ -114,9 +101,9 @@ fn run_fused(
         write_piece: row.write_piece,
         write_fuse,
     };
-    let run = devices.run_insns(rt, alloc, row.order, Order::Little);
-    equal(rt, &run.ended, &wanted, &(row.bytes, read_fuse, write_fuse));
-    run.took_front_of(rt, row.canonical);
+    let orders = (row.order, Order::Little);
+    let taken = front_of(row.canonical, &ended);
+    devices.check_insns(rt, alloc, orders, ended, taken, &(read_fuse, write_fuse));
 }
 
 #[test]
@@ -148,11 +135,7 @@ fn runs_over_readers_and_writers(rt: HostRuntime) {
     let mut sink = WriterSink::new(&mut out);
     let order = Order::Little;
     let ran = run_insns(rt.alloc(), &mut source, &mut sink, order, order);
-    equal(
-        &rt,
-        &ran,
-        &stopped(RunCause::Fault(FAULT_OF_FAULTY), 8),
-        &"a run",
-    );
+    let faulty = stopped(RunCause::Fault(FAULT_OF_FAULTY), 8);
+    equal(&rt, &ran, &faulty, &"a run");
     equal_bytes(&rt, out.as_slice(), EXIT, &"a run");
 }

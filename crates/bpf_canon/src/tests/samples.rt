@@ -3,7 +3,7 @@
 use super::compiled_programs::{
     HASH_WORDS_BIG, HASH_WORDS_LITTLE, PACKET_FILTER_BIG, PACKET_FILTER_LITTLE,
 };
-use bpf_insn::{Order, SlotCause, SlotFault};
+use bpf_insn::{InsnError, Order, SlotCause, SlotFault};
 
 /// An instruction file, the canonical bytes of the instructions before its fault, and the offset and cause of the fault if
 /// it has one.
@@ -15,6 +15,14 @@ pub(crate) struct InsnFile {
 }
 
 impl InsnFile {
+    /// The canonical bytes of the file, or its fault.
+    pub(crate) fn answer(&self) -> Result<&'static [u8], InsnError> {
+        match self.fault {
+            Some((pos, cause)) => Err(InsnError::Fault(SlotFault { pos, cause })),
+            None => Ok(self.canonical),
+        }
+    }
+
     /// The fault of the file.
     pub(crate) fn slot_fault(&self) -> Option<SlotFault> {
         match self.fault {
