@@ -5,9 +5,11 @@
 ghost use Rattle.std.specs.Prelude.{◌<◌};
 ghost use Rattle.bpf_canon.specs.device.Memory.{source_failures};
 
+use super::expect::holds;
 use crate::{MemSource, RunCause, RunError, read_all};
 use bumpalo::Bump;
-use std::alloc::{AllocError, Global};
+use std::alloc::Global;
+use std::process::Abort;
 
 /// How many bytes an arena has at least, before any are given away.
 const ROOM: usize = 16_384;
@@ -16,15 +18,14 @@ const ROOM: usize = 16_384;
 const ENOUGH: usize = 16;
 
 /// An arena with `room` free bytes: the others are allocated first. It gets no other chunk.
-fn arena(alloc: Global, room: usize) -> Result<Bump<Global>, AllocError> {
-    let bump = Bump::try_with_capacity(alloc, ROOM)?;
+fn arena(rt: &impl Abort, alloc: Global, room: usize) -> Bump<Global> {
+    let bump = Bump::try_with_capacity(alloc, ROOM).expect(rt, "ample memory");
     let taken = bump.chunk_capacity().saturating_sub(room);
-    bump.try_alloc_slice_fill_clone(taken, 0u8)?;
+    bump.try_alloc_slice_fill_clone(taken, 0u8)
+        .expect(rt, "ample memory");
     bump.set_allocation_limit(Some(bump.allocated_bytes()));
-    if bump.chunk_capacity() != room {
-        return Err(AllocError);
-    }
-    Ok(bump)
+    holds(rt, bump.chunk_capacity() == room, &room);
+    bump
 }
 
 /// What a call returned in an arena.
@@ -94,7 +95,7 @@ pub(crate) struct Tally {
 
 impl Tally {
     /// Makes a call with ever more memory.
-    pub(crate) fn of<C: ArenaCall>(alloc: Global, call: &C) -> Result<Tally, AllocError> {
+    pub(crate) fn of<C: ArenaCall>(rt: &impl Abort, alloc: Global, call: &C) -> Tally {
         let mut tally = Tally {
             refused: 0,
             places: 0,
@@ -104,12 +105,12 @@ impl Tally {
         };
         for more in 0..=ROOM {
             let room = if tally.done == ENOUGH { ROOM } else { more };
-            tally.count(room, call.outcome(alloc, &arena(alloc, room)?));
+            tally.count(room, call.outcome(alloc, &arena(rt, alloc, room)));
             if tally.done > ENOUGH || tally.wrong.is_some() {
-                return Ok(tally);
+                break;
             }
         }
-        Ok(tally)
+        tally
     }
 
     /// Counts what the call returned in a room. With more memory it gets at least as far.

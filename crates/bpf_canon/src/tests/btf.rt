@@ -70,10 +70,8 @@ pub(crate) fn check_file(rt: &impl Abort, alloc: Global, file: &[u8], canonical:
     holds(rt, canonical.len() <= file.len(), &"the length");
     check_canonical(rt, alloc, file, canonical);
     check_canonical(rt, alloc, canonical, canonical);
-    match recode_btf(alloc, Order::Big, file) {
-        Ok(big) => check_big(rt, alloc, file, &big, canonical),
-        Err(error) => holds(rt, false, &error),
-    }
+    let big = recode_btf(alloc, Order::Big, file).expect(rt, "the other order");
+    check_big(rt, alloc, file, &big, canonical);
 }
 
 /// Writes files in both orders, and runs the engine on them.

@@ -9,17 +9,15 @@ use crate::{
     RunError, SideError, WriterSink, put_all, read_all, run_insns,
 };
 use bpf_insn::{Order, SlotCause, SlotFault};
-use std::alloc::{AllocError, Global};
+use std::alloc::Global;
 use std::fmt::Display;
 use std::process::Abort;
 
 /// Compares the texts of errors with these names.
 fn show<E: Display>(rt: &impl Abort, alloc: Global, rows: &[(E, &'static str)]) {
     for (error, name) in rows {
-        match format!(in alloc; "{error}") {
-            Ok(text) => equal_bytes(rt, text.as_bytes(), name.as_bytes(), name),
-            Err(AllocError) => holds(rt, false, &"memory is ample"),
-        }
+        let text = format!(in alloc; "{error}").expect(rt, "ample memory");
+        equal_bytes(rt, text.as_bytes(), name.as_bytes(), name);
     }
 }
 

@@ -1,6 +1,6 @@
 //! Canonical bytes and comparison of instruction files.
 
-use super::expect::{equal, holds, returns};
+use super::expect::{equal, returns};
 use super::feed::cut_anywhere;
 use super::run::run_in_pieces;
 use super::samples::{EXIT, InsnFile, insn_files};
@@ -32,10 +32,8 @@ fn check_written(rt: &impl Abort, alloc: Global, file: &InsnFile, insns: &[Insn]
     returns(rt, own, Ok(file.bytes), &file.bytes);
     let little = write_insns(alloc, Order::Little, insns);
     returns(rt, little, Ok(file.canonical), &file.bytes);
-    match write_insns(alloc, Order::Big, insns) {
-        Ok(big) => check_orders(rt, alloc, file, &big),
-        Err(error) => holds(rt, false, &error),
-    }
+    let big = write_insns(alloc, Order::Big, insns).expect(rt, "ample memory");
+    check_orders(rt, alloc, file, &big);
 }
 
 /// The canonical bytes of a file are returned, or its fault is.

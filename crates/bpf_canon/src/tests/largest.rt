@@ -10,9 +10,8 @@ use crate::{
 use bpf_insn::{InsnError, Order, SlotCause, SlotFault, decode_insns};
 use btf_raw::{BtfCause, BtfFault};
 use btf_types::{Btf, TypeTable};
-use std::alloc::{AllocError, Global};
+use std::alloc::Global;
 use std::process::Abort;
-use std::test::Fail;
 
 /// How many instructions of 8 bytes are within the limit.
 const MOVES: usize = 8_388_608;
@@ -25,12 +24,12 @@ fn spoil(bytes: &mut [u8], pos: usize, byte: u8) {
 }
 
 /// As many moves of r2 to r1 as are within the limit, in one order.
-fn moves(alloc: Global, slot: &[u8; 8]) -> Result<Vec<u8>, AllocError> {
-    let mut bytes = Vec::with_capacity(alloc, 67_108_864)?;
+fn moves(rt: &impl Abort, alloc: Global, slot: &[u8; 8]) -> Vec<u8> {
+    let mut bytes = Vec::with_capacity(alloc, 67_108_864).expect(rt, "ample memory");
     for _ in 0..MOVES {
-        bytes.extend_from_slice(slot)?;
+        bytes.extend_from_slice(slot).expect(rt, "ample memory");
     }
-    Ok(bytes)
+    bytes
 }
 
 const BIG_MOVE: &[u8; 8] = b"\xbf\x12\0\0\0\0\0\0";
@@ -92,50 +91,43 @@ fn check_program(rt: &impl Abort, alloc: Global, big: &[u8], little: &[u8]) {
     devices.check_insns(rt, alloc, orders, Ok(INSN_LIMIT), little, &"run");
 }
 
-/// The same on a little-endian copy of a program, and then on one whose last instruction is faulty.
-fn check_copy(rt: &impl Abort, alloc: Global, big: &[u8]) -> Result<(), Fail> {
-    let mut little = moves(alloc, LITTLE_MOVE)?;
-    check_program(rt, alloc, big, &little);
-    spoil(&mut little, 67_108_857, 0x2b);
-    holds(rt, is_refused(alloc, big, &little), &"refused");
-    Ok(())
-}
-
 #[test]
-fn the_largest_program_is_accepted(rt: HostRuntime) -> Result<(), Fail> {
-    let big = moves(rt.alloc(), BIG_MOVE)?;
-    check_copy(&rt, rt.alloc(), &big)
+fn the_largest_program_is_accepted(rt: HostRuntime) {
+    let big = moves(&rt, rt.alloc(), BIG_MOVE);
+    let mut little = moves(&rt, rt.alloc(), LITTLE_MOVE);
+    check_program(&rt, rt.alloc(), &big, &little);
+    spoil(&mut little, 67_108_857, 0x2b);
+    holds(&rt, is_refused(rt.alloc(), &big, &little), &"refused");
 }
 
 /// A TYPEDEF with the longest name there is, an ENUM with a value, and PTRs to the ENUM up to the limit.
-fn records(alloc: Global) -> Result<Vec<u8>, AllocError> {
-    let mut records = Vec::with_capacity(alloc, 33_554_432)?;
-    records.extend_from_slice(b"\x01\0\0\0\0\0\0\x08\0\0\0\0")?;
-    records.extend_from_slice(b"\0\0\0\0\x01\0\0\x06\x04\0\0\0\0\0\0\0\0\0\0\0")?;
+fn push_records(rt: &impl Abort, file: &mut Vec<u8>) {
+    file.extend_from_slice(b"\x01\0\0\0\0\0\0\x08\0\0\0\0")
+        .expect(rt, "ample memory");
+    file.extend_from_slice(b"\0\0\0\0\x01\0\0\x06\x04\0\0\0\0\0\0\0\0\0\0\0")
+        .expect(rt, "ample memory");
     for _ in 0..2_796_200 {
-        records.extend_from_slice(b"\0\0\0\0\0\0\0\x02\x02\0\0\0")?;
+        file.extend_from_slice(b"\0\0\0\0\0\0\0\x02\x02\0\0\0")
+            .expect(rt, "ample memory");
     }
-    Ok(records)
 }
 
-/// The longest file: a 4,096-byte header, these records and their strings.
-fn longest_file(alloc: Global) -> Result<Vec<u8>, AllocError> {
-    let mut file = Vec::with_capacity(alloc, 50_335_744)?;
-    file.extend_from_slice(b"\x9f\xeb\x01\0\0\x10\0\0\0\0\0\0\0\0\0\x02\0\0\0\x02\0\0\0\x01")?;
-    file.resize(4096, 0)?;
-    file.extend_from_slice(&records(alloc)?)?;
-    file.push(0)?;
-    file.resize(50_335_743, b'a')?;
-    file.push(0)?;
-    Ok(file)
-}
+/// The header of the longest file with its own length, 4,096.
+const LONG_HEADER: &[u8] = b"\x9f\xeb\x01\0\0\x10\0\0\0\0\0\0\0\0\0\x02\0\0\0\x02\0\0\0\x01";
 
-/// The canonical bytes of the longest file: a 24-byte header, and the same records and strings.
-fn canonical_file(alloc: Global, file: &[u8]) -> Result<Vec<u8>, AllocError> {
-    let header = b"\x9f\xeb\x01\0\x18\0\0\0\0\0\0\0\0\0\0\x02\0\0\0\x02\0\0\0\x01";
-    let mut canonical = Vec::from_slice(alloc, header)?;
-    canonical.extend_from_slice(file.get(4096..).unwrap_or(&[]))?;
-    Ok(canonical)
+/// The same with 24.
+const HEADER: &[u8] = b"\x9f\xeb\x01\0\x18\0\0\0\0\0\0\0\0\0\0\x02\0\0\0\x02\0\0\0\x01";
+
+/// The longest file, with a header of this length: it, these records, and their strings.
+fn longest_file(rt: &impl Abort, alloc: Global, header: &[u8], header_len: usize) -> Vec<u8> {
+    let mut file = Vec::from_slice(alloc, header).expect(rt, "ample memory");
+    file.resize(header_len, 0).expect(rt, "ample memory");
+    push_records(rt, &mut file);
+    let end = header_len.saturating_add(50_331_647);
+    file.push(0).expect(rt, "ample memory");
+    file.resize(end, b'a').expect(rt, "ample memory");
+    file.push(0).expect(rt, "ample memory");
+    file
 }
 
 /// How many types a file has.
@@ -147,8 +139,8 @@ fn count_of(alloc: Global, file: &[u8]) -> u32 {
 }
 
 /// Each call on the longest file.
-fn check_types(rt: &impl Abort, alloc: Global, file: &[u8]) -> Result<(), Fail> {
-    let canonical = canonical_file(alloc, file)?;
+fn check_types(rt: &impl Abort, alloc: Global, file: &[u8]) {
+    let canonical = longest_file(rt, alloc, HEADER, 24);
     let lens = (file.len() as u64, canonical.len());
     equal(rt, &lens, &(BTF_LIMIT, 50_331_672), &"the lengths");
     equal(rt, &count_of(alloc, file), &2_796_202, &"the types");
@@ -162,7 +154,6 @@ fn check_types(rt: &impl Abort, alloc: Global, file: &[u8]) -> Result<(), Fail> 
     };
     let ended = Ok(50_331_672);
     devices.check_btf(rt, alloc, Order::Little, ended, &canonical, &"run");
-    Ok(())
 }
 
 /// A type too far in the last PTR.
@@ -172,12 +163,11 @@ const BEYOND: BtfFault = BtfFault {
 };
 
 #[test]
-fn the_longest_btf_is_accepted(rt: HostRuntime) -> Result<(), Fail> {
-    let mut file = longest_file(rt.alloc())?;
-    check_types(&rt, rt.alloc(), &file)?;
+fn the_longest_btf_is_accepted(rt: HostRuntime) {
+    let mut file = longest_file(&rt, rt.alloc(), LONG_HEADER, 4096);
+    check_types(&rt, rt.alloc(), &file);
     spoil(&mut file, 33_558_524, 0xab);
     spoil(&mut file, 33_558_525, 0xaa);
     spoil(&mut file, 33_558_526, 0x2a);
     check_refused(&rt, rt.alloc(), &file, BEYOND);
-    Ok(())
 }

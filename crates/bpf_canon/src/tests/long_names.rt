@@ -4,24 +4,26 @@ use super::btf::check_file;
 use super::expect::equal;
 use super::nested_names::file;
 use bpf_words::Order;
-use std::alloc::{AllocError, Global};
-use std::test::Fail;
+use std::alloc::Global;
+use std::process::Abort;
 
 /// The words of `count` TYPEDEFs of type 0, named at 1, 2 and so on.
-fn words(alloc: Global, count: u32) -> Result<Vec<u32>, AllocError> {
+fn words(rt: &impl Abort, alloc: Global, count: u32) -> Vec<u32> {
     let mut words = Vec::new(alloc);
     for index in 0..count {
-        words.extend_from_slice(&[index.wrapping_add(1), 0x0800_0000, 0])?;
+        let record = [index.wrapping_add(1), 0x0800_0000, 0];
+        words.extend_from_slice(&record).expect(rt, "ample memory");
     }
-    Ok(words)
+    words
 }
 
 /// A string of `letters` times `a`.
-fn strings(alloc: Global, letters: u32) -> Result<Vec<u8>, AllocError> {
-    let mut strings = Vec::from_slice(alloc, b"\0")?;
-    strings.resize(letters.wrapping_add(1) as usize, b'a')?;
-    strings.push(0)?;
-    Ok(strings)
+fn strings(rt: &impl Abort, alloc: Global, letters: u32) -> Vec<u8> {
+    let mut strings = Vec::from_slice(alloc, b"\0").expect(rt, "ample memory");
+    let end = letters.wrapping_add(1) as usize;
+    strings.resize(end, b'a').expect(rt, "ample memory");
+    strings.push(0).expect(rt, "ample memory");
+    strings
 }
 
 /// How many TYPEDEFs, how many letters, and the length of the file.
@@ -41,13 +43,12 @@ static CHAINS: [Chain; 4] = [
 ];
 
 #[test]
-fn names_in_one_string_stay_there(rt: HostRuntime) -> Result<(), Fail> {
+fn names_in_one_string_stay_there(rt: HostRuntime) {
     for row in &CHAINS {
-        let words = words(rt.alloc(), row.count)?;
-        let strings = strings(rt.alloc(), row.letters)?;
-        let file = file(rt.alloc(), Order::Little, &words, &strings)?;
+        let words = words(&rt, rt.alloc(), row.count);
+        let strings = strings(&rt, rt.alloc(), row.letters);
+        let file = file(&rt, rt.alloc(), Order::Little, &words, &strings);
         equal(&rt, &file.len(), &row.len, &row.count);
         check_file(&rt, rt.alloc(), &file, &file);
     }
-    Ok(())
 }

@@ -9,7 +9,6 @@ use crate::{
 use bpf_insn::{Insn, InsnError, Order, SlotCause, SlotFault};
 use bumpalo::Bump;
 use std::alloc::{AllocError, Allocator, Global};
-use std::test::Fail;
 
 /// An exit seven times, and a faulty instruction.
 const FILE: &[u8; 64] =
@@ -187,11 +186,10 @@ static ROWS: [MemoryRow; 11] = [
 ];
 
 #[test]
-fn each_growth_is_refused(rt: HostRuntime) -> Result<(), Fail> {
+fn each_growth_is_refused(rt: HostRuntime) {
     for row in &ROWS {
-        let tally = Tally::of(rt.alloc(), &row.call)?;
+        let tally = Tally::of(&rt, rt.alloc(), &row.call);
         let is_right = tally.is_right(row.refused, row.places);
         holds(&rt, is_right, &(row.name, tally));
     }
-    Ok(())
 }

@@ -12,7 +12,6 @@ use btf_types::{BtfError, BtfView};
 use bumpalo::Bump;
 use std::alloc::{AllocError, Allocator, Global};
 use std::process::Abort;
-use std::test::Fail;
 
 /// How many bytes the canonical bytes of the files have: a header of 24, records of 540, and names of 187.
 const CANONICAL_LEN: usize = 751;
@@ -142,25 +141,24 @@ static ROWS: [MemoryRow; 5] = [
     MemoryRow { call: Call::Sink, rooms: Rooms::Any, refused: 45, places: 3, last_place: 0 },
 ];
 
-fn check_calls(rt: &impl Abort, alloc: Global, ample: Ample) -> Result<(), Fail> {
+fn check_calls(rt: &impl Abort, alloc: Global, ample: Ample) {
     let mut before = 0;
     for row in &ROWS {
         let call = row.call;
-        let tally = Tally::of(alloc, &AmpleCall { call, ample })?;
+        let tally = Tally::of(rt, alloc, &AmpleCall { call, ample });
         let is_right = tally.is_right(row.refused, row.places)
             && tally.last_place.unwrap_or(0) >= row.last_place
             && row.rooms.are_right(before, tally.refused);
         holds(rt, is_right, &(row.call, tally, before));
         before = tally.refused;
     }
-    Ok(())
 }
 
 #[test]
-fn each_growth_is_refused(rt: HostRuntime) -> Result<(), Fail> {
-    let little = canon_btf(rt.alloc(), flow_table_big())?;
-    let view = BtfView::parse(rt.alloc(), flow_table_little())?;
-    let big = write_btf(rt.alloc(), Order::Big, &view)?;
+fn each_growth_is_refused(rt: HostRuntime) {
+    let little = canon_btf(rt.alloc(), flow_table_big()).expect(&rt, "canonical bytes");
+    let view = BtfView::parse(rt.alloc(), flow_table_little()).expect(&rt, "a table");
+    let big = write_btf(rt.alloc(), Order::Big, &view).expect(&rt, "ample memory");
     let lens = (little.len(), big.len());
     equal(&rt, &lens, &(CANONICAL_LEN, CANONICAL_LEN), &"the lengths");
     let ample = Ample {
@@ -168,7 +166,7 @@ fn each_growth_is_refused(rt: HostRuntime) -> Result<(), Fail> {
         little: &little,
         big: &big,
     };
-    check_calls(&rt, rt.alloc(), ample)
+    check_calls(&rt, rt.alloc(), ample);
 }
 
 /// What the compiled file is compared with: another file, or the first bytes of the compiled one in big-endian order.
@@ -219,13 +217,12 @@ impl ArenaCall for Comparison {
 }
 
 #[test]
-fn each_growth_of_a_comparison_is_refused(rt: HostRuntime) -> Result<(), Fail> {
+fn each_growth_of_a_comparison_is_refused(rt: HostRuntime) {
     let mut before = 0;
     for row in &COMPARISONS {
-        let tally = Tally::of(rt.alloc(), row)?;
+        let tally = Tally::of(&rt, rt.alloc(), row);
         let is_right = tally.is_right(1, 1) && row.rooms.are_right(before, tally.refused);
         holds(&rt, is_right, &(row.answer, tally, before));
         before = tally.refused;
     }
-    Ok(())
 }

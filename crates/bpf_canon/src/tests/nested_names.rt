@@ -3,9 +3,8 @@
 use super::btf::check_written;
 use super::plain_table::{PlainTable, length_of, text_at};
 use bpf_words::{Order, push16, push32};
-use std::alloc::{AllocError, Global};
+use std::alloc::Global;
 use std::process::Abort;
-use std::test::Fail;
 
 /// The words of a STRUCT with two members and an ENUM with one value. The STRUCT's name and the value's are the first of three, and the
 /// last member's is that of the ENUM.
@@ -31,55 +30,61 @@ fn words(names: [u32; 3]) -> [u32; 14] {
 
 /// A file with these words and strings.
 pub(crate) fn file(
+    rt: &impl Abort,
     alloc: Global,
     order: Order,
     words: &[u32],
     strings: &[u8],
-) -> Result<Vec<u8, Global>, AllocError> {
+) -> Vec<u8, Global> {
     let mut file = Vec::new(alloc);
-    push16(&mut file, order, 0xeb9f)?;
-    file.extend_from_slice(b"\x01\0")?;
+    push16(&mut file, order, 0xeb9f).expect(rt, "ample memory");
+    file.extend_from_slice(b"\x01\0").expect(rt, "ample memory");
     let types_len = length_of(words.len()).wrapping_mul(4);
-    for word in [24, 0, types_len, types_len, length_of(strings.len())] {
-        push32(&mut file, order, word)?;
-    }
+    let header = [24, 0, types_len, types_len, length_of(strings.len())];
+    push_words(rt, &mut file, order, &header);
+    push_words(rt, &mut file, order, words);
+    file.extend_from_slice(strings).expect(rt, "ample memory");
+    file
+}
+
+fn push_words(rt: &impl Abort, file: &mut Vec<u8>, order: Order, words: &[u32]) {
     for word in words {
-        push32(&mut file, order, *word)?;
+        push32(file, order, *word).expect(rt, "ample memory");
     }
-    file.extend_from_slice(strings)?;
-    Ok(file)
 }
 
 /// The canonical file, computed plainly.
 fn plain_file(
+    rt: &impl Abort,
     alloc: Global,
     order: Order,
     strings: &[u8],
     offsets: [u32; 3],
-) -> Result<Vec<u8, Global>, AllocError> {
+) -> Vec<u8, Global> {
     let [first, second, third] = offsets;
     let first = text_at(strings, first as usize);
     let second = text_at(strings, second as usize);
     let third = text_at(strings, third as usize);
-    let table = PlainTable::of(alloc, &[first, second, third])?;
+    let table = PlainTable::of(rt, alloc, &[first, second, third]);
     let places = [table.place(first), table.place(second), table.place(third)];
-    file(alloc, order, &words(places), &table.bytes(alloc)?)
+    file(rt, alloc, order, &words(places), &table.bytes(rt, alloc))
 }
 
 /// All string sections of NUL, `a` and `b` with `len` bytes between their first and last NUL, by a number below 3 to the power of `len`.
-fn section(alloc: Global, len: u32, number: u32) -> Result<Vec<u8, Global>, AllocError> {
-    let mut strings = Vec::from_slice(alloc, b"\0")?;
+fn section(rt: &impl Abort, alloc: Global, len: u32, number: u32) -> Vec<u8, Global> {
+    let mut strings = Vec::from_slice(alloc, b"\0").expect(rt, "ample memory");
     let mut rest = number;
     for _ in 0..len {
-        strings.push(match rest % 3 {
+        let byte = match rest % 3 {
             0 => 0,
             1 => b'a',
             _ => b'b',
-        })?;
+        };
+        strings.push(byte).expect(rt, "ample memory");
         rest /= 3;
     }
-    strings.push(0)?;
-    Ok(strings)
+    strings.push(0).expect(rt, "ample memory");
+    strings
 }
 
 /// The order of a file, and the order in which its types are written.
@@ -97,46 +102,37 @@ fn compare(
     (from, to): (Order, Order),
     strings: &[u8],
     offsets: [u32; 3],
-) -> Result<(), AllocError> {
-    let file = file(alloc, from, &words(offsets), strings)?;
-    let plain = plain_file(alloc, to, strings, offsets)?;
+) {
+    let file = file(rt, alloc, from, &words(offsets), strings);
+    let plain = plain_file(rt, alloc, to, strings, offsets);
     check_written(rt, alloc, to, &file, &plain);
-    Ok(())
 }
 
 /// Does so for each two orders.
-fn compare_orders(
-    rt: &impl Abort,
-    alloc: Global,
-    strings: &[u8],
-    offsets: [u32; 3],
-) -> Result<(), AllocError> {
+fn compare_orders(rt: &impl Abort, alloc: Global, strings: &[u8], offsets: [u32; 3]) {
     for orders in &ORDERS {
-        compare(rt, alloc, *orders, strings, offsets)?;
+        compare(rt, alloc, *orders, strings, offsets);
     }
-    Ok(())
 }
 
 /// Three names at all offsets of a section.
-fn compare_names(rt: &impl Abort, alloc: Global, strings: &[u8]) -> Result<(), AllocError> {
+fn compare_names(rt: &impl Abort, alloc: Global, strings: &[u8]) {
     let len = length_of(strings.len());
     for first in 0..len {
         for second in 0..len {
             for third in 0..len {
-                compare_orders(rt, alloc, strings, [first, second, third])?;
+                compare_orders(rt, alloc, strings, [first, second, third]);
             }
         }
     }
-    Ok(())
 }
 
 #[test]
-fn names_share_suffixes_as_computed_plainly(rt: HostRuntime) -> Result<(), Fail> {
+fn names_share_suffixes_as_computed_plainly(rt: HostRuntime) {
     for (len, count) in [(0, 1), (1, 3), (2, 9), (3, 27), (4, 81)] {
         for number in 0..count {
-            let strings = section(rt.alloc(), len, number)?;
-            compare_names(&rt, rt.alloc(), &strings)?;
+            let strings = section(&rt, rt.alloc(), len, number);
+            compare_names(&rt, rt.alloc(), &strings);
         }
     }
-    Ok(())
 }

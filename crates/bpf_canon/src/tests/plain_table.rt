@@ -1,7 +1,8 @@
 //! The string table in which names share suffixes, computed plainly: each name is tested against all others.
 
-use std::alloc::{AllocError, Global};
+use std::alloc::Global;
 use std::cmp::Ordering;
+use std::process::Abort;
 
 /// The text from an offset of a string section to the next NUL.
 pub(crate) fn text_at(strings: &[u8], off: usize) -> &[u8] {
@@ -17,16 +18,16 @@ pub(crate) struct PlainTable<'a> {
 
 impl<'a> PlainTable<'a> {
     /// Finds the hosts: the names that end no other, each once, in the order of first use.
-    pub(crate) fn of(alloc: Global, names: &[&'a [u8]]) -> Result<PlainTable<'a>, AllocError> {
+    pub(crate) fn of(rt: &impl Abort, alloc: Global, names: &[&'a [u8]]) -> PlainTable<'a> {
         let mut hosts = Vec::new(alloc);
         for (index, name) in names.iter().enumerate() {
             let before = names.get(..index).unwrap_or(&[]);
             let is_new = !name.is_empty() && !before.contains(name);
             if is_new && !ends_another(name, names) {
-                hosts.push(*name)?;
+                hosts.push(*name).expect(rt, "ample memory");
             }
         }
-        Ok(PlainTable { hosts })
+        PlainTable { hosts }
     }
 
     /// Where a name begins: at the end of the host that comes first by its bytes from the end.
@@ -49,13 +50,13 @@ impl<'a> PlainTable<'a> {
     }
 
     /// The table's bytes: a NUL, then each host with its NUL.
-    pub(crate) fn bytes(&self, alloc: Global) -> Result<Vec<u8, Global>, AllocError> {
-        let mut bytes = Vec::from_slice(alloc, b"\0")?;
+    pub(crate) fn bytes(&self, rt: &impl Abort, alloc: Global) -> Vec<u8, Global> {
+        let mut bytes = Vec::from_slice(alloc, b"\0").expect(rt, "ample memory");
         for host in &self.hosts {
-            bytes.extend_from_slice(host)?;
-            bytes.push(0)?;
+            bytes.extend_from_slice(host).expect(rt, "ample memory");
+            bytes.push(0).expect(rt, "ample memory");
         }
-        Ok(bytes)
+        bytes
     }
 }
 
